@@ -1,0 +1,12 @@
+pub mod Lists
+pub mod Bytes
+pub mod Sums
+pub mod Offsets
+pub mod Rules
+pub mod Sizes
+pub mod SubsetLaws
+pub mod Geometry
+pub mod LayoutLaws
+pub mod Inverse
+pub mod RestLaws
+pub mod Over

@@ -1,0 +1,86 @@
+-- Lists: a rule for every element, map, pieces laid end to end and taken apart again.
+-- Assumes nothing.
+use mathlib.Core.Path.{_≡_, refl, sym, ap, ap₂, _∙_}
+use Prim.Native.Nat.{ℕ, zero, suc, _+_, _*_}
+use native.Mathlib.Nat.{zero-mul, suc-mul, add-comm}
+use native.Mathlib.Omega.{arith}
+use mathlib.Core.List.{List, [], _∷_, _++_, map}
+use lib.ListN.{length, take, drop, getD, length-append, length-drop, take-append-drop}
+use lib.Seq.{take-at, drop-at, length-take-le}
+use Rattle.array.specs.Lists.{from, joined, pieces, All}
+
+module _ {A : Type 0} where
+  pub All-map : (P Q : A → Type 0) → ((a : A) → P a → Q a) → (xs : List A) → All P xs → All Q xs
+  All-map P Q f [] p = tt
+  All-map P Q f (x ∷ xs) p = (f x (p .0), All-map P Q f xs (p .1))
+
+  pub All-append : (P : A → Type 0) (xs ys : List A) → All P xs → All P ys → All P (xs ++ ys)
+  All-append P [] ys p q = q
+  All-append P (x ∷ xs) ys p q = (p .0, All-append P xs ys (p .1) q)
+
+  pub All-getD : (P : A → Type 0) (z : A) → P z → (xs : List A) → All P xs → (i : ℕ) → P (getD xs i z)
+  All-getD P z q [] p i = q
+  All-getD P z q (x ∷ xs) p zero = p .0
+  All-getD P z q (x ∷ xs) p (suc i) = All-getD P z q xs (p .1) i
+
+  pub All-of : (P : A → Type 0) → ((a : A) → P a) → (xs : List A) → All P xs
+  All-of P f [] = tt
+  All-of P f (x ∷ xs) = (f x, All-of P f xs)
+
+module _ {A B : Type 0} where
+  pub All-image : (P : B → Type 0) (f : A → B) (xs : List A) → All (λ a. P (f a)) xs → All P (map f xs)
+  All-image P f [] p = tt
+  All-image P f (x ∷ xs) p = (p .0, All-image P f xs (p .1))
+
+  pub map-append : (f : A → B) (xs ys : List A) → map f (xs ++ ys) ≡ map f xs ++ map f ys
+  map-append f [] ys = refl
+  map-append f (x ∷ xs) ys = ap (λ (r : List B). f x ∷ r) (map-append f xs ys)
+
+  pub map-cong : (f g : A → B) → ((a : A) → f a ≡ g a) → (xs : List A) → map f xs ≡ map g xs
+  map-cong f g e [] = refl
+  map-cong f g e (x ∷ xs) = ap₂ (λ (y : B) (r : List B). y ∷ r) (e x) (map-cong f g e xs)
+
+  pub map-joined : (f : A → B) (xss : List (List A)) → map f (joined xss) ≡ joined (map (map f) xss)
+  map-joined f [] = refl
+  map-joined f (xs ∷ xss) = map-append f xs (joined xss) ∙ ap (λ (r : List B). map f xs ++ r) (map-joined f xss)
+
+pub map-map : {A B C : Type 0} (f : A → B) (g : B → C) (xs : List A) → map g (map f xs) ≡ map (λ x. g (f x)) xs
+map-map f g [] = refl
+map-map {C = C} f g (x ∷ xs) = ap (λ (r : List C). g (f x) ∷ r) (map-map f g xs)
+
+-- pieces of one size, laid end to end and taken apart again
+abbrev pub Sized : {A : Type 0} → ℕ → List (List A) → Type 0
+Sized k vs = All (λ v. length v ≡ k) vs
+
+module _ {A : Type 0} (k : ℕ) where
+  pub length-joined : (vs : List (List A)) → Sized k vs → length (joined vs) ≡ length vs * k
+  length-joined [] p = sym (zero-mul k)
+  length-joined (v ∷ vs) p = length-append v (joined vs) ∙ ap₂ (λ (a b : ℕ). a + b) (p .0) (length-joined vs (p .1)) ∙ add-comm k (length vs * k) ∙ sym (suc-mul (length vs) k)
+
+  pub pieces-joined : (vs : List (List A)) → Sized k vs → pieces k (length vs) (joined vs) ≡ vs
+  pieces-joined [] p = refl
+  pieces-joined (v ∷ vs) p =
+      ap₂ (λ (a : List A) (r : List A). a ∷ pieces k (length vs) r) (take-at v (joined vs) k (p .0)) (drop-at v (joined vs) k (p .0))
+      ∙ ap (λ (r : List (List A)). v ∷ r) (pieces-joined vs (p .1))
+
+pub length-pieces : {A : Type 0} (k n : ℕ) (s : List A) → length (pieces k n s) ≡ n
+length-pieces k zero s = refl
+length-pieces k (suc n) s = ap suc (length-pieces k n (drop k s))
+
+pub sized-pieces : {A : Type 0} (k n : ℕ) (s : List A) → length s ≡ n * k → Sized k (pieces k n s)
+sized-pieces k zero s e = tt
+sized-pieces k (suc n) s e = (length-take-le k s (omega (arith, suc-mul n k)), sized-pieces k n (drop k s) (omega (arith, suc-mul n k, length-drop k s)))
+
+pub joined-pieces : {A : Type 0} (k n : ℕ) (s : List A) → length s ≡ n * k → joined (pieces k n s) ≡ s
+joined-pieces k zero [] e = refl
+joined-pieces k zero (x ∷ s) e = absurd (omega (arith, zero-mul k))
+joined-pieces {A} k (suc n) s e =
+    ap (λ (r : List A). take k s ++ r) (joined-pieces k n (drop k s) (omega (arith, suc-mul n k, length-drop k s))) ∙ take-append-drop k s
+
+pub map-id : {A : Type 0} (xs : List A) → map (λ x. x) xs ≡ xs
+map-id [] = refl
+map-id {A} (x ∷ xs) = ap (λ (r : List A). x ∷ r) (map-id xs)
+
+pub length-from : (a n : ℕ) → length (from a n) ≡ n
+length-from a zero = refl
+length-from a (suc n) = ap suc (length-from (suc a) n)

@@ -1,0 +1,53 @@
+-- Cells, and their rest form (document 01, The array). A cell of depth d is its mask bytes, outermost first, and its value: by
+-- recursion on the depth, so that a cell of depth d + 1 is a mask byte and a cell of depth d.
+-- Assumes nothing.
+use Prim.Native.Nat.{ℕ, zero, suc}
+use mathlib.Core.List.{List, [], _∷_, map}
+
+abbrev pub Value : Type 0
+Value = List ℕ
+
+abbrev pub Cell : ℕ → Type 0
+Cell zero = Value
+Cell (suc d) = ℕ × Cell d
+
+-- what a mask byte says: 0 is null, any other byte is set
+pub data Mark : Type 0 where
+  isNull isSet : Mark
+
+abbrev pub markOf : ℕ → Mark
+markOf zero = isNull
+markOf (suc m) = isSet
+
+-- the mask bytes of the outermost level, and what stands below it
+abbrev pub maskOf : {A : Type 0} → List (ℕ × A) → List ℕ
+maskOf [] = []
+maskOf (c ∷ cs) = c .0 ∷ maskOf cs
+
+abbrev pub inners : {A : Type 0} → List (ℕ × A) → List A
+inners cs = map (λ c. c .1) cs
+
+-- the value of a cell
+abbrev pub leaf : (d : ℕ) → Cell d → Value
+leaf zero v = v
+leaf (suc d) c = leaf d (c .1)
+
+-- z is the value of a null cell
+module _ (z : Value) where
+  -- the cell below a null
+  abbrev pub blank : (d : ℕ) → Cell d
+  blank zero = z
+  blank (suc d) = (zero, blank d)
+
+  -- a set mask byte stays and f goes on below it; below a null stands b
+  abbrev pub restBy : {A : Type 0} → Mark → A → (A → A) → ℕ → A → ℕ × A
+  restBy isNull b f m a = (zero, b)
+  restBy isSet b f m a = (m, f a)
+
+  abbrev pub restOne : {A : Type 0} → A → (A → A) → ℕ → A → ℕ × A
+  restOne b f m a = restBy (markOf m) b f m a
+
+  -- document 01: rest form. A mask byte stays if all outer ones are set, else it is 0; the value stays if all masks are set
+  abbrev pub rest : (d : ℕ) → Cell d → Cell d
+  rest zero v = v
+  rest (suc d) c = restOne (blank d) (rest d) (c .0) (c .1)

@@ -1,0 +1,13 @@
+pub mod Answer
+pub mod Limits
+pub mod Lists
+pub mod Bytes
+pub mod Kind
+pub mod Shape
+pub mod Subset
+pub mod Offsets
+pub mod Cells
+pub mod Content
+pub mod Buffers
+pub mod Calls
+pub mod Meaning

@@ -1,0 +1,52 @@
+-- What the declared types of the code mean: the kind, and the answers, each case with document 01's number or lengths.
+-- Assumes nothing.
+use Prim.Native.Nat.{ℕ}
+use Rattle.array.specs.declared.kind.ByteOrder.{ByteOrder}
+use Rattle.array.specs.declared.kind.ByteOrder.the-variants.{Little, Big}
+use Rattle.array.specs.declared.kind.IndexWidth.{IndexWidth}
+use Rattle.array.specs.declared.kind.IndexWidth.the-variants.{Four, Eight}
+use Rattle.array.specs.declared.kind.IndexPlace.{IndexPlace}
+use Rattle.array.specs.declared.kind.IndexPlace.the-variants.{Start, End}
+use Rattle.array.specs.declared.kind.Values.{Values}
+use Rattle.array.specs.declared.kind.Values.the-variants.{Fixed, Ragged}
+use Rattle.array.specs.declared.kind.Kind as declared
+use Rattle.array.specs.declared.answer.Written as one
+use Rattle.array.specs.declared.answer.WrittenRagged as two
+use Rattle.array.specs.declared.answer.WrittenArray as three
+use Rattle.array.specs.Answer.{Answer, gives, refuses}
+use Rattle.array.specs.Kind.{Kind, Form, fixed, ragged, Order, little, big, Place, atStart, atEnd}
+use Rattle.array.specs.Buffers.{Lengths, RaggedLengths}
+
+abbrev pub orderOf : ByteOrder → Order
+orderOf Little = little
+orderOf Big = big
+
+abbrev pub widthOf : IndexWidth → ℕ
+widthOf Four = 4
+widthOf Eight = 8
+
+abbrev pub placeOf : IndexPlace → Place
+placeOf Start = atStart
+placeOf End = atEnd
+
+abbrev pub formOf : Values → Form
+formOf (Fixed s o) = fixed s (orderOf o)
+formOf (Ragged w p) = ragged (widthOf w) (placeOf p)
+
+abbrev pub kindOf : declared.Kind → Kind
+kindOf k = record { depth = k .depth; form = formOf (k .values) }
+
+-- one length: encode, reverse_endianness, subset_cells
+abbrev pub told : one.Written → Answer ℕ
+told (one.Written.Length n) = gives n
+told (one.Written.Refused e) = refuses e
+
+-- two lengths: decode_interleaved, partial_decode
+abbrev pub toldRagged : two.WrittenRagged → Answer RaggedLengths
+toldRagged (two.WrittenRagged.Lengths v o) = gives (record { values = v; offsets = o })
+toldRagged (two.WrittenRagged.Refused e) = refuses e
+
+-- three lengths: decode, extract, merge
+abbrev pub toldArray : three.WrittenArray → Answer Lengths
+toldArray (three.WrittenArray.Lengths m v o) = gives (record { masks = m; values = v; offsets = o })
+toldArray (three.WrittenArray.Refused e) = refuses e

@@ -1,0 +1,3 @@
+// Layer 1: bytes and boxes. What an array is, how numbers lie in bytes, which cells a subset has.
+pub mod answer;
+pub mod kind;

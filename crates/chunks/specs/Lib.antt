@@ -1,0 +1,4 @@
+pub mod Gather
+pub mod Cut
+pub mod Chunks
+pub mod Calls

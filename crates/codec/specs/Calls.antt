@@ -1,0 +1,82 @@
+-- The public calls of this layer: what each answers, with the refusals in document 01's order, and what it leaves in the outputs.
+-- Assumes nothing.
+use Prim.Native.Nat.{ℕ, zero, suc, _*_}
+use mathlib.Core.List.{List}
+use lib.ListN.{length, take, drop}
+use lib.Dec.{leb, eqb}
+use Rattle.array.specs.Answer.{Answer, gives, unless, andThen, Outcome}
+use Rattle.array.specs.Limits.{mostCells}
+use Rattle.array.specs.Lists.{joined}
+use Rattle.array.specs.Bytes.{unle}
+use Rattle.array.specs.Kind.{Kind, Form, fixed, ragged, nullOf, kindTest}
+use Rattle.array.specs.Shape.{volume, shapeTest}
+use Rattle.array.specs.Offsets.{offsetsOf}
+use Rattle.array.specs.Cells.{Cell}
+use Rattle.array.specs.Content.{Content, RaggedContent, unmasked, layout, cellsOf, contentTest, sizeTest}
+use Rattle.array.specs.Buffers.{Lengths, RaggedLengths, lengthsOf, raggedLengthsOf, enoughTest, raggedEnoughTest, listOutcome, raggedOutcome, contentOutcome}
+use Rattle.codec.specs.Mask.{MaskForm, byteMask}
+use Rattle.codec.specs.Frame.{frame, readFrame}
+use Rattle.codec.specs.Ragged.{putRagged, getRagged}
+use Rattle.codec.specs.Values.{putValues, getValues}
+use Rattle.codec.specs.Interleaved.{interleavedCells}
+
+-- ---- encode
+
+-- at depth 0 ragged values are written just as they are, bytes before the first offset included
+unfoldable pub written : MaskForm → Form → (d : ℕ) → List (Cell d) → Content → List ℕ
+written mf (fixed k o) d cs c = frame mf (putValues (fixed k o)) d cs
+written mf (ragged w p) zero cs c = putRagged w p (record { values = c .values; offsets = c .offsets })
+written mf (ragged w p) (suc d) cs c = frame mf (putValues (ragged w p)) (suc d) cs
+
+-- the stored form of an array of n cells
+abbrev pub storedForm : Kind → ℕ → Content → List ℕ
+storedForm k n c = written byteMask (k .form) (k .depth) (cellsOf k n c) c
+
+unfoldable pub encodeAnswer : Kind → List ℕ → Content → ℕ → Answer (List ℕ)
+encodeAnswer k shape c room =
+    let stored = storedForm k (volume shape) c in
+    unless (kindTest k) 1
+    (unless (shapeTest shape) 2
+    (unless (contentTest k (volume shape) c) 4
+    (unless (sizeTest (length (c .values))) 5
+    (unless (leb (length stored) room) 6 (gives stored)))))
+
+unfoldable pub encoded : Kind → List ℕ → Content → List ℕ → Outcome ℕ (List ℕ)
+unfolding encodeAnswer
+encoded k shape c out = listOutcome (encodeAnswer k shape c (length out)) out
+
+-- ---- decode
+
+-- at depth 0 ragged values are handed out just as they are; at depth 1 to 4 end to end from offset 0
+unfoldable pub readIn : MaskForm → Form → (d n : ℕ) → List ℕ → Answer Content
+readIn mf (fixed k o) d n s = andThen (readFrame mf (nullOf (fixed k o)) (getValues (fixed k o)) d s n) (λ cs. gives (layout (fixed k o) d cs))
+readIn mf (ragged w p) zero n s = andThen (getRagged w p s n) (λ x. gives (unmasked x))
+readIn mf (ragged w p) (suc d) n s = andThen (readFrame mf (nullOf (ragged w p)) (getValues (ragged w p)) (suc d) s n) (λ cs. gives (layout (ragged w p) (suc d) cs))
+
+unfoldable pub decodeAnswer : Kind → List ℕ → List ℕ → Lengths → Answer Content
+decodeAnswer k shape s room =
+    unless (kindTest k) 1
+    (unless (shapeTest shape) 2
+    (andThen (readIn byteMask (k .form) (k .depth) (volume shape) s) (λ c.
+    unless (enoughTest c room) 6 (gives c))))
+
+unfoldable pub decoded : Kind → List ℕ → List ℕ → Content → Outcome Lengths Content
+unfolding decodeAnswer
+decoded k shape s out = contentOutcome (decodeAnswer k shape s (lengthsOf out)) out
+
+-- ---- decode_interleaved: n cells of the older form
+
+unfoldable pub interleavedAnswer : ℕ → List ℕ → RaggedLengths → Answer RaggedContent
+unfolding unle interleavedCells
+interleavedAnswer n s room =
+    unless (leb n mostCells) 2
+    (unless (leb (4 * suc n) (length s)) 7
+    (unless (eqb (unle (take 4 s)) n) 9
+    (andThen (interleavedCells n (drop 4 s)) (λ vs.
+    let c : RaggedContent = record { values = joined vs; offsets = offsetsOf vs } in
+    unless (sizeTest (length (joined vs))) 5
+    (unless (raggedEnoughTest c room) 6 (gives c))))))
+
+unfoldable pub interleavedDecoded : ℕ → List ℕ → RaggedContent → Outcome RaggedLengths RaggedContent
+unfolding interleavedAnswer
+interleavedDecoded n s out = raggedOutcome (interleavedAnswer n s (raggedLengthsOf out)) out

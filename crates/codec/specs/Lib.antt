@@ -1,0 +1,7 @@
+pub mod Mask
+pub mod Frame
+pub mod Ragged
+pub mod Values
+pub mod Length
+pub mod Interleaved
+pub mod Calls

@@ -1,0 +1,1 @@
+// Layer 2: the stored forms, written and read.
