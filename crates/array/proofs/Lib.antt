@@ -10,3 +10,4 @@ pub mod LayoutLaws
 pub mod Inverse
 pub mod RestLaws
 pub mod Over
+pub mod Laying

@@ -76,4 +76,3 @@ module _ (f : ℕ → ℕ) where
   -- places that stand at most once in the list come to no more than all places
   pub sum-once : (n : ℕ) (js : List ℕ) → All (λ j. j < n) js → ((i : ℕ) → i < n → count i js ≤ 1) → sumOf f js ≤ sumOf f (from 0 n)
   sum-once n js p h = omega (arith, sum-count n js p, at-most js 0 n (λ i l. h i (omega arith)))
-

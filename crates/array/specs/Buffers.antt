@@ -47,6 +47,10 @@ raggedEnoughTest c r = leb (length (c .values)) (r .values) && leb (length (c .o
 abbrev pub over : List ℕ → List ℕ → List ℕ
 over s old = s ++ drop (length s) old
 
+-- xs over what stands from `at` on
+abbrev pub overAt : ℕ → List ℕ → List ℕ → List ℕ
+overAt at xs old = over (take at old ++ xs) old
+
 abbrev pub listAfter : Answer (List ℕ) → List ℕ → List ℕ
 listAfter (gives s) old = over s old
 listAfter (refuses k) old = old
