@@ -126,6 +126,13 @@ values-total (ragged w q) n c p = go (c .offsets) (p .1) (p .2)
     go [] r e = omega arith
     go (a ∷ bs) r e = omega (arith, total-slicesFrom a bs (c .values) r)
 
+-- the values of valid content have the form's size
+pub cells-sized : (k : Kind) (n : ℕ) (c : Content) → ContentOk k n c → SizedAs (k .form) (leaves (k .depth) (cellsOf k n c))
+cells-sized k n c ok =
+    let vs : List Value = valuesIn (k .form) n c in
+    subst (SizedAs (k .form)) (sym (leaves-attach n vs (values-length (k .form) n c (ok .values-fit)) (k .depth) (c .masks) (ok .masks-fit)))
+    (values-sized (k .form) n c (ok .values-fit))
+
 -- what the laws ask of a list of cells
 pub record Good (k : Kind) (n : ℕ) (cs : List (Cell (k .depth))) : Type 0 where
   pub counted : length cs ≡ n
@@ -139,6 +146,6 @@ good-cells k n c ok h =
     let el : leaves (k .depth) (cellsOf k n c) ≡ vs = leaves-attach n vs ev (k .depth) (c .masks) (ok .masks-fit) in
     record {
       counted = length-attach n vs ev (k .depth) (c .masks) (ok .masks-fit);
-      sized = subst (SizedAs (k .form)) (sym el) (values-sized (k .form) n c (ok .values-fit));
+      sized = cells-sized k n c ok;
       small = subst (λ (us : List Value). length (joined us) ≤ mostBytes) (sym el) (le-trans (values-total (k .form) n c (ok .values-fit)) h);
     }

@@ -1,0 +1,4 @@
+pub mod Frames
+pub mod Ragged
+pub mod Values
+pub mod Lengths
