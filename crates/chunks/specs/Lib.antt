@@ -2,3 +2,5 @@ pub mod Gather
 pub mod Cut
 pub mod Chunks
 pub mod Calls
+pub mod Demand
+pub mod Lines

@@ -2,3 +2,4 @@ pub mod Frames
 pub mod Ragged
 pub mod Values
 pub mod Lengths
+pub mod RoundTrip

@@ -1,0 +1,6 @@
+pub mod Gather
+pub mod GoodCells
+pub mod Chunks
+pub mod Calls
+pub mod Demand
+pub mod Lines

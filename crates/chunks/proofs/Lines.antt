@@ -1,0 +1,38 @@
+-- Document 01's marked lines hold: the whole table, by computation.
+-- Assumes nothing.
+use mathlib.Core.Path.{refl}
+use Rattle.array.specs.Limits.{mostBytes, mostCells}
+use Rattle.array.specs.Bytes.{le, unle}
+use Rattle.array.specs.Calls.{reverseAnswer, endiannessReversed, cellsAnswer, subsetCells}
+use Rattle.codec.specs.Frame.{wrap, frame, readFrame}
+use Rattle.codec.specs.Ragged.{putRagged, getRagged}
+use Rattle.codec.specs.Values.{putValues, getValues}
+use Rattle.codec.specs.Interleaved.{interleavedCells}
+use Rattle.codec.specs.Calls.{written, encodeAnswer, encoded, readIn, decodeAnswer, decoded, interleavedAnswer, interleavedDecoded}
+use Rattle.chunks.specs.Calls.{extractAnswer, extracted}
+use Rattle.chunks.specs.Lines.{Lines}
+
+pub lines : Lines
+unfolding mostBytes mostCells le unle reverseAnswer endiannessReversed cellsAnswer subsetCells wrap frame readFrame putRagged getRagged putValues getValues interleavedCells written encodeAnswer encoded readIn decodeAnswer decoded interleavedAnswer interleavedDecoded extractAnswer extracted
+lines = record {
+  writes-23 = refl;
+  reads-23 = refl;
+  writes-19 = refl;
+  reads-19 = refl;
+  reads-alike = refl;
+  writes-38 = refl;
+  reads-38 = refl;
+  writes-22 = refl;
+  writes-34 = refl;
+  one-cell = refl;
+  cut-packs = refl;
+  older-form = refl;
+  older-tail = refl;
+  older-short = refl;
+  older-past = refl;
+  four-cells = refl;
+  past-shape = refl;
+  index-FF-start = refl;
+  index-FF-end = refl;
+  reversed-3 = refl;
+}

@@ -1,0 +1,125 @@
+-- The lines of document 01 that are marked (T), over the calls and the buffers lent to them: one table. Every lent output is longer
+-- than its result by a byte or a number, so that what lies beyond is seen to stay.
+-- Assumes nothing.
+use Prim.Native.Nat.{ℕ}
+use mathlib.Core.Path.{_≡_}
+use mathlib.Core.List.{List, [], _∷_, _++_}
+use lib.ListN.{replicate, take}
+use Rattle.array.specs.Answer.{Answer, gives, refuses, Outcome}
+use Rattle.array.specs.Kind.{Kind, fixed, ragged, little, atStart, atEnd}
+use Rattle.array.specs.Content.{Content, RaggedContent, cellsOf}
+use Rattle.array.specs.Buffers.{Lengths, RaggedLengths}
+use Rattle.array.specs.Calls.{endiannessReversed, subsetCells}
+use Rattle.codec.specs.Calls.{encoded, decoded, interleavedDecoded}
+use Rattle.chunks.specs.Calls.{extracted}
+
+-- ---- lent outputs, and what is left in them
+
+abbrev pub old : ℕ → List ℕ
+old n = replicate n 0xEE
+
+abbrev pub lent : ℕ → ℕ → ℕ → Content
+lent m v o = record { masks = old m; values = old v; offsets = old o }
+
+abbrev pub lentRagged : ℕ → ℕ → RaggedContent
+lentRagged v o = record { values = old v; offsets = old o }
+
+-- bytes were written, one fewer than the output holds
+abbrev pub wrote : ℕ → List ℕ → Outcome ℕ (List ℕ)
+wrote n s = record { answer = gives n; buffers = s ++ old 1 }
+
+abbrev pub gave : ℕ → ℕ → ℕ → List ℕ → List ℕ → List ℕ → Outcome Lengths Content
+gave m v o ms vs os = record { answer = gives (record { masks = m; values = v; offsets = o }); buffers = record { masks = ms ++ old 1; values = vs ++ old 1; offsets = os ++ old 1 } }
+
+abbrev pub gaveRagged : ℕ → ℕ → List ℕ → List ℕ → Outcome RaggedLengths RaggedContent
+gaveRagged v o vs os = record { answer = gives (record { values = v; offsets = o }); buffers = record { values = vs ++ old 1; offsets = os ++ old 1 } }
+
+abbrev pub array : List ℕ → List ℕ → List ℕ → Content
+array ms vs os = record { masks = ms; values = vs; offsets = os }
+
+-- ---- the inputs
+
+-- 8-byte little-endian numbers below 256
+abbrev pub u64 : ℕ → List ℕ
+u64 n = n ∷ replicate 7 0
+
+abbrev pub u32 : ℕ → List ℕ
+u32 n = n ∷ replicate 3 0
+
+abbrev pub depth1 : Kind
+depth1 = record { depth = 1; form = fixed 2 little }
+
+abbrev pub six : List ℕ
+six = 0x0A ∷ 0x0B ∷ 0x0C ∷ 0x0D ∷ 0x0E ∷ 0x0F ∷ []
+
+abbrev pub bytes23 : List ℕ
+bytes23 = u64 3 ++ (u64 4 ++ (1 ∷ 0 ∷ 1 ∷ 0x0A ∷ 0x0B ∷ 0x0E ∷ 0x0F ∷ []))
+
+abbrev pub bytes19 : List ℕ
+bytes19 = u64 3 ++ (u64 0 ++ (0 ∷ 0 ∷ 0 ∷ []))
+
+abbrev pub bytes24 : List ℕ
+bytes24 = u64 3 ++ (u64 5 ++ (0 ∷ 0 ∷ 0 ∷ 9 ∷ 8 ∷ 7 ∷ 6 ∷ 5 ∷ []))
+
+abbrev pub depth2 : Kind
+depth2 = record { depth = 2; form = fixed 1 little }
+
+abbrev pub bytes38 : List ℕ
+bytes38 = u64 3 ++ (u64 19 ++ (1 ∷ 1 ∷ 0 ∷ (u64 2 ++ (u64 1 ++ (1 ∷ 0 ∷ 7 ∷ [])))))
+
+abbrev pub raggedEnd : Kind
+raggedEnd = record { depth = 0; form = ragged 4 atEnd }
+
+abbrev pub raggedStart : Kind
+raggedStart = record { depth = 0; form = ragged 8 atStart }
+
+abbrev pub ab : Content
+ab = array [] (0x41 ∷ 0x42 ∷ []) (0 ∷ 2 ∷ 2 ∷ [])
+
+abbrev pub bytes22 : List ℕ
+bytes22 = 0x41 ∷ 0x42 ∷ (u32 0 ++ (u32 2 ++ (u32 2 ++ u64 12)))
+
+abbrev pub bytes34 : List ℕ
+bytes34 = u64 24 ++ (u64 0 ++ (u64 2 ++ (u64 2 ++ (0x41 ∷ 0x42 ∷ []))))
+
+abbrev pub late : Content
+late = array [] (0x41 ∷ 0x42 ∷ []) (1 ∷ 2 ∷ [])
+
+abbrev pub older : List ℕ
+older = u32 2 ++ (u32 1 ++ (0x41 ∷ u32 0))
+
+abbrev pub indexFF : List ℕ
+indexFF = replicate 8 0xFF
+
+-- ---- the table
+
+pub record Lines : Type 0 where
+  -- depth 1, size 2, little order, mask 01 00 01, values 0A0B 0C0D 0E0F: 23 bytes; reads back with the middle value 00 00
+  pub writes-23 : encoded depth1 (3 ∷ []) (array (1 ∷ 0 ∷ 1 ∷ []) six []) (old 24) ≡ wrote 23 bytes23
+  pub reads-23 : decoded depth1 (3 ∷ []) bytes23 (lent 4 7 1) ≡ gave 3 6 0 (1 ∷ 0 ∷ 1 ∷ []) (0x0A ∷ 0x0B ∷ 0 ∷ 0 ∷ 0x0E ∷ 0x0F ∷ []) []
+  -- the same with mask 00 00 00: 19 bytes; with content length 5 and five more bytes it reads alike
+  pub writes-19 : encoded depth1 (3 ∷ []) (array (0 ∷ 0 ∷ 0 ∷ []) six []) (old 20) ≡ wrote 19 bytes19
+  pub reads-19 : decoded depth1 (3 ∷ []) bytes19 (lent 4 7 1) ≡ gave 3 6 0 (0 ∷ 0 ∷ 0 ∷ []) (replicate 6 0) []
+  pub reads-alike : decoded depth1 (3 ∷ []) bytes24 (lent 4 7 1) ≡ decoded depth1 (3 ∷ []) bytes19 (lent 4 7 1)
+  -- depth 2, size 1, masks 01 01 00 and 01 00 01, values 07 08 09: 38 bytes; reads as 01 01 00, 01 00 00, 07 00 00
+  pub writes-38 : encoded depth2 (3 ∷ []) (array (1 ∷ 1 ∷ 0 ∷ 1 ∷ 0 ∷ 1 ∷ []) (7 ∷ 8 ∷ 9 ∷ []) []) (old 39) ≡ wrote 38 bytes38
+  pub reads-38 : decoded depth2 (3 ∷ []) bytes38 (lent 7 4 1) ≡ gave 6 3 0 (1 ∷ 1 ∷ 0 ∷ 1 ∷ 0 ∷ 0 ∷ []) (7 ∷ 0 ∷ 0 ∷ []) []
+  -- ragged "AB", "", width 4, end: 22 bytes; width 8, start: 34 bytes
+  pub writes-22 : encoded raggedEnd (2 ∷ []) ab (old 23) ≡ wrote 22 bytes22
+  pub writes-34 : encoded raggedStart (2 ∷ []) ab (old 35) ≡ wrote 34 bytes34
+  -- offsets 1, 2 over 41 42: one cell 42; a cut gives offsets 0, 1
+  pub one-cell : cellsOf raggedEnd 1 late ≡ (0x42 ∷ []) ∷ []
+  pub cut-packs : extracted raggedEnd (1 ∷ []) (0 ∷ 1 ∷ []) late (lent 1 2 3) ≡ gave 0 1 2 [] (0x42 ∷ []) (0 ∷ 1 ∷ [])
+  -- older form, 2 cells: "A" and "", also with a byte appended; its first 11 bytes: 7; a first length of 05: 11
+  pub older-form : interleavedDecoded 2 older (lentRagged 2 4) ≡ gaveRagged 1 3 (0x41 ∷ []) (0 ∷ 1 ∷ 1 ∷ [])
+  pub older-tail : interleavedDecoded 2 (older ++ (0x4D ∷ [])) (lentRagged 2 4) ≡ gaveRagged 1 3 (0x41 ∷ []) (0 ∷ 1 ∷ 1 ∷ [])
+  pub older-short : interleavedDecoded 2 (take 11 older) (lentRagged 2 4) ≡ record { answer = refuses 7; buffers = lentRagged 2 4 }
+  pub older-past : interleavedDecoded 2 (u32 2 ++ (u32 5 ++ (0x41 ∷ u32 0))) (lentRagged 2 4) ≡ record { answer = refuses 11; buffers = lentRagged 2 4 }
+  -- shape 2 × 3, start (0, 1), lengths (2, 2): cells 1, 2, 4, 5; start (0, 2): refusal 3
+  pub four-cells : subsetCells (2 ∷ 3 ∷ []) (0 ∷ 1 ∷ 2 ∷ 2 ∷ []) (old 5) ≡ wrote 4 (1 ∷ 2 ∷ 4 ∷ 5 ∷ [])
+  pub past-shape : subsetCells (2 ∷ 3 ∷ []) (0 ∷ 2 ∷ 2 ∷ 2 ∷ []) (old 5) ≡ record { answer = refuses 3; buffers = old 5 }
+  -- index length of eight FF: 8, at the start and at the end
+  pub index-FF-start : decoded raggedStart (1 ∷ []) (indexFF ++ replicate 16 0) (lent 1 1 3) ≡ record { answer = refuses 8; buffers = lent 1 1 3 }
+  pub index-FF-end : decoded raggedEnd (1 ∷ []) (replicate 8 0 ++ indexFF) (lent 1 1 3) ≡ record { answer = refuses 8; buffers = lent 1 1 3 }
+  -- size 3 on 01 02 03 04 05 06 07 gives 03 02 01 06 05 04 07 (item 1, not marked)
+  pub reversed-3 : endiannessReversed 3 (1 ∷ 2 ∷ 3 ∷ 4 ∷ 5 ∷ 6 ∷ 7 ∷ []) ≡ record { answer = gives 6; buffers = 3 ∷ 2 ∷ 1 ∷ 6 ∷ 5 ∷ 4 ∷ 7 ∷ [] }

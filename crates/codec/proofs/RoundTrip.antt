@@ -1,0 +1,53 @@
+-- What is read of what was written: cells that were laid out come back in rest form.
+-- Assumes nothing.
+use mathlib.Core.Path.{_≡_, refl, sym, ap, _∙_, subst}
+use Prim.Native.Nat.{ℕ, zero, suc, _^_, _<_, _≤_}
+use native.Mathlib.Nat.{le-trans}
+use mathlib.Core.List.{List, map}
+use lib.ListN.{length}
+use Rattle.array.specs.Answer.{Answer, gives, andThen}
+use Rattle.array.specs.Limits.{mostBytes}
+use Rattle.array.specs.Lists.{joined}
+use Rattle.array.specs.Kind.{Kind, Form, fixed, ragged, FormOk, nullOf}
+use Rattle.array.specs.Cells.{Value, Cell, rest}
+use Rattle.array.specs.Content.{Content, RaggedContent, unmasked, leaves, layout}
+use Rattle.array.proofs.Lists.{map-id}
+use Rattle.array.proofs.Sizes.{SizedAs}
+use Rattle.array.proofs.LayoutLaws.{cells-layout, Good}
+use Rattle.codec.specs.Mask.{byteMask}
+use Rattle.codec.specs.Frame.{frame, readFrame}
+use Rattle.codec.specs.Ragged.{putRagged}
+use Rattle.codec.specs.Values.{putValues, getValues}
+use Rattle.codec.specs.Calls.{written, storedForm, readIn}
+use Rattle.codec.proofs.Frames.{back}
+use Rattle.codec.proofs.Values.{endToEnd, back-offsets, back-values}
+use Rattle.codec.proofs.Lengths.{bytes-live, sized-live}
+
+written-layout : (f : Form) (d : ℕ) (xs : List (Cell d)) → written byteMask f d xs (layout f d xs) ≡ frame byteMask (putValues f) d xs
+unfolding written frame putValues
+written-layout (fixed k o) d xs = refl
+written-layout (ragged w p) zero xs = ap (λ (vs : List Value). putRagged w p (endToEnd vs)) (map-id xs)
+written-layout (ragged w p) (suc d) xs = refl
+
+pub stored-layout : (k : Kind) (n : ℕ) (xs : List (Cell (k .depth))) → Good k n xs → storedForm k n (layout (k .form) (k .depth) xs) ≡ frame byteMask (putValues (k .form)) (k .depth) xs
+stored-layout k n xs g =
+    ap (λ (ys : List (Cell (k .depth))). written byteMask (k .form) (k .depth) ys (layout (k .form) (k .depth) xs)) (cells-layout k n xs (g .counted) (g .sized))
+    ∙ written-layout (k .form) (k .depth) xs
+
+pub read-framed : (f : Form) (d : ℕ) (xs : List (Cell d)) → FormOk f → SizedAs f (leaves d xs) → length (joined (leaves d xs)) ≤ mostBytes → length (frame byteMask (putValues f) d xs) < 256 ^ 8
+    → readFrame byteMask (nullOf f) (getValues f) d (frame byteMask (putValues f) d xs) (length xs) ≡ gives (map (rest (nullOf f) d) xs)
+read-framed f d xs ok s b h =
+    back (nullOf f) (getValues f) (putValues f) (λ vs. SizedAs f vs × (length (joined vs) ≤ mostBytes)) (back-values f ok) d xs
+    (sized-live f d xs s, le-trans (bytes-live d xs) b) h
+
+pub read-layout : (f : Form) (d : ℕ) (xs : List (Cell d)) → FormOk f → SizedAs f (leaves d xs) → length (joined (leaves d xs)) ≤ mostBytes → length (frame byteMask (putValues f) d xs) < 256 ^ 8
+    → readIn byteMask f d (length xs) (frame byteMask (putValues f) d xs) ≡ gives (layout f d (map (rest (nullOf f) d) xs))
+unfolding readIn frame putValues
+read-layout (fixed k o) d xs ok s b h =
+    ap (λ (a : Answer (List (Cell d))). andThen a (λ cs. gives (layout (fixed k o) d cs))) (read-framed (fixed k o) d xs ok s b h)
+read-layout (ragged w p) zero xs ok s b h =
+    ap (λ (a : Answer RaggedContent). andThen a (λ x. gives (unmasked x)))
+    (back-offsets w p ok xs (subst (λ (vs : List Value). length (joined vs) ≤ mostBytes) (map-id xs) b) h)
+    ∙ ap (λ (vs : List Value). gives (unmasked (endToEnd vs))) (sym (map-id xs) ∙ ap (map (λ v. v)) (sym (map-id xs)))
+read-layout (ragged w p) (suc d) xs ok s b h =
+    ap (λ (a : Answer (List (Cell (suc d)))). andThen a (λ cs. gives (layout (ragged w p) (suc d) cs))) (read-framed (ragged w p) (suc d) xs ok s b h)
