@@ -12,3 +12,4 @@ pub mod Inverse
 pub mod RestLaws
 pub mod Over
 pub mod Laying
+pub mod Limits
