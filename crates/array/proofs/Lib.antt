@@ -11,3 +11,5 @@ pub mod Inverse
 pub mod RestLaws
 pub mod Over
 pub mod Laying
+pub mod Copying
+pub mod CheckLaws
