@@ -13,3 +13,5 @@ pub mod RestLaws
 pub mod Over
 pub mod Laying
 pub mod Limits
+pub mod Copying
+pub mod CheckLaws

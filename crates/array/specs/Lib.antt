@@ -11,3 +11,4 @@ pub mod Content
 pub mod Buffers
 pub mod Calls
 pub mod Meaning
+pub mod Check
