@@ -11,3 +11,6 @@ pub mod Inverse
 pub mod RestLaws
 pub mod Over
 pub mod Laying
+pub mod Numbers
+pub mod Unrolled
+pub mod Fields

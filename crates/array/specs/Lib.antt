@@ -11,3 +11,5 @@ pub mod Content
 pub mod Buffers
 pub mod Calls
 pub mod Meaning
+pub mod Numbers
+pub mod Field
