@@ -15,3 +15,6 @@ pub mod Laying
 pub mod Limits
 pub mod Copying
 pub mod CheckLaws
+pub mod Numbers
+pub mod Unrolled
+pub mod Fields

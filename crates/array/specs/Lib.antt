@@ -12,3 +12,5 @@ pub mod Buffers
 pub mod Calls
 pub mod Meaning
 pub mod Check
+pub mod Numbers
+pub mod Field

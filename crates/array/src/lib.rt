@@ -2,4 +2,6 @@
 pub mod answer;
 pub mod array_bytes;
 pub mod copy;
+pub mod field;
 pub mod kind;
+pub mod refusal;
