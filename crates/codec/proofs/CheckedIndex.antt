@@ -71,6 +71,7 @@ fits-at w k q p f l h = go (ltb (length q) 8) refl
         by : (t : Bool) → getRagged w p q k ≡ unless t 8 (checkedAt w p q k) → spanIn (unless t 8 (checkedAt w p q k)) ≡ gives (f, l) → w + k * w ≤ length q - 8 → Fits w k q p f l
         by true a b m = record { long = g; index-fits = m; span = b; by-position = a }
         by false a b m = let z : _≡_ {A = ℕ} 0 1 = cc in absurd (omega arith)
+
     go : (t : Bool) → ltb (length q) 8 ≡ t → Fits w k q p f l
     go true e =
         let r : refuses 7 ≡ spanIn (getRagged w p q k) = ragged-none w k q p (ltb-true (length q) 8 e) in
@@ -112,11 +113,11 @@ index-checked w k s at p f l ha h =
     let dt = data-taken (last os) d (c .fits) in
     let ll : l ≤ length q - 8 - i = omega (arith, dt .1, c .last-is, ld) in
     let rs : RisingFrom f (offsetsIn w k (drop (at + indexAt p m i + w) s)) =
-        subst (λ (x : ℕ). RisingFrom x (offsetsIn w k (drop (at + indexAt p m i + w) s))) (sym ff)
-        (subst (λ (x : List ℕ). RisingFrom (unle (take w (drop (at + indexAt p m i) s))) (offsetsIn w k x)) ew
-        (rising-ok (offsetsIn w (suc k) (drop (at + indexAt p m i) s)) (sym (ap risingTest ei) ∙ c .rising))) in
+    subst (λ (x : ℕ). RisingFrom x (offsetsIn w k (drop (at + indexAt p m i + w) s))) (sym ff)
+    (subst (λ (x : List ℕ). RisingFrom (unle (take w (drop (at + indexAt p m i) s))) (offsetsIn w k x)) ew
+    (rising-ok (offsetsIn w (suc k) (drop (at + indexAt p m i) s)) (sym (ap risingTest ei) ∙ c .rising))) in
     let la : l ≡ lastFrom f (offsetsIn w k (drop (at + indexAt p m i + w) s)) =
-        c .last-is ∙ ap last ei ∙ ap₂ (λ (x : ℕ) (y : List ℕ). lastFrom x (offsetsIn w k y)) (sym ff) ew in
+    c .last-is ∙ ap last ei ∙ ap₂ (λ (x : ℕ) (y : List ℕ). lastFrom x (offsetsIn w k y)) (sym ff) ew in
     record {
       long = omega (arith, a .long);
       fits = omega (arith, a .index-fits);

@@ -17,10 +17,17 @@ use Rattle.array.specs.Limits.{mostBytes}
 use Rattle.array.specs.Lists.{pieces}
 use Rattle.array.specs.Bytes.{unle}
 use Rattle.array.specs.Kind.{Place, atStart, atEnd}
+use Rattle.array.specs.declared.kind.IndexWidth.{IndexWidth}
+use Rattle.array.specs.declared.kind.IndexWidth.the-variants.{Four, Eight}
+use Rattle.array.specs.Meaning.{widthOf}
 use Rattle.array.specs.Offsets.{last, risingTest, risingFromTest}
 use Rattle.array.specs.Content.{RaggedContent, sizeTest}
 use Rattle.codec.specs.Ragged.{dataTest, dataFor, checkRagged, openRagged, getRagged, partOf, leftOf}
 use Rattle.codec.specs.Index.{offsetsIn, first, spanOf, indexedBy, spanIn, lengthAt, indexAt, dataAt}
+
+pub width-most : (w : IndexWidth) → widthOf w ≤ 8
+width-most Four = omega arith
+width-most Eight = omega arith
 
 pub times-less : (k w : ℕ) → 0 < k → k * w ≡ (k - 1) * w + w
 times-less zero w h = absurd (omega arith)
@@ -148,6 +155,7 @@ module _ (w n : ℕ) (q : List ℕ) (h : 8 ≤ length q) where
           by false c eb ec = refl
           by true false eb ec = refl
           by true true eb ec = absurd (omega (arith, leb-true l k eb, eqb-true l (w * suc n) ec, index-size w n))
+
       go : (p : Place) → spanIn (openRagged w p (unle (partOf p 8 q)) (leftOf p 8 q) n) ≡ refuses 8
       go atStart = no _ (length (drop 8 q)) _ (omega (arith, length-drop 8 q))
       go atEnd = no _ (length (take (length q - 8) q)) _ (omega (arith, length-take (length q - 8) q))
@@ -159,9 +167,11 @@ module _ (w n : ℕ) (q : List ℕ) (h : 8 ≤ length q) where
       where
         same : eqb l (w + n * w) ≡ eqb l (w * suc n)
         same = ap (eqb l) (sym (index-size w n))
+
         no : (c : Bool) → _≡_ {A = Answer RaggedContent} (unless c 8 (refuses 8)) (refuses 8)
         no true = refl
         no false = refl
+
         go : (c : Bool) → eqb l (w * suc n) ≡ c → unless (leb l k) 8 (unless (eqb l (w * suc n)) 8 a) ≡ unless (eqb l (w + n * w)) 8 b
         go true e =
             let el : l ≡ w * suc n = eqb-true l (w * suc n) e in

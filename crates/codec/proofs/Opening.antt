@@ -62,17 +62,19 @@ module _ (s : List ℕ) (at n : ℕ) (l : at ≤ length s) where
     second : c ≡ unle (take 8 (drop 8 (drop at s)))
     second = field-value 8 7 s (at + 8) c ec .1 ∙ ap (λ (q : List ℕ). unle (take 8 q)) (sym (drop-drop 8 at s))
 
-    pub by-mask : (m ≡ n → ⊥) → refuses 8 ≡ opened (drop at s) n
-    by-mask f = open-mask (drop at s) n long (λ e. f (first ∙ e))
+    -- z is the mask's length
+    module _ (z : ℕ) (ez : z ≡ n) where
+      pub by-mask : (m ≡ z → ⊥) → refuses 8 ≡ opened (drop at s) n
+      by-mask f = open-mask (drop at s) n long (λ e. f (first ∙ e ∙ sym ez))
 
-    pub by-total : m ≡ n → (length s - (at + 16) ≡ n + c → ⊥) → refuses 8 ≡ opened (drop at s) n
-    by-total e f = open-total (drop at s) n long (λ h. f (omega (arith, length-drop at s, first, second, room-for)))
+      pub by-total : m ≡ z → (length s - (at + 16) ≡ z + c → ⊥) → refuses 8 ≡ opened (drop at s) n
+      by-total e f = open-total (drop at s) n long (λ h. f (omega (arith, length-drop at s, first, second, room-for)))
 
-    pub by-count : m ≡ n → length s - (at + 16) ≡ n + c → (k : ℕ) → k ≡ countSet (take (at + 16 + n - (at + 16)) (drop (at + 16) s)) → gives k ≡ opened (drop at s) n
-    by-count e f k h =
-        let a : at + 16 + n - (at + 16) ≡ n = omega arith in
-        ap gives (h ∙ ap₂ (λ (x : ℕ) (q : List ℕ). countSet (take x q)) a (sym (drop-drop 16 at s)))
-        ∙ open-count (drop at s) n long (sym first ∙ e) (omega (arith, length-drop at s, first, second, room-for))
+      pub by-count : m ≡ z → length s - (at + 16) ≡ z + c → (k : ℕ) → k ≡ countSet (take (at + 16 + z - (at + 16)) (drop (at + 16) s)) → gives k ≡ opened (drop at s) n
+      by-count e f k h =
+          let a : at + 16 + z - (at + 16) ≡ n = omega arith in
+          ap gives (h ∙ ap₂ (λ (x : ℕ) (q : List ℕ). countSet (take x q)) a (sym (drop-drop 16 at s)))
+          ∙ open-count (drop at s) n long (sym first ∙ e ∙ ez) (omega (arith, length-drop at s, first, second, room-for))
 
 -- ---- what the count says
 

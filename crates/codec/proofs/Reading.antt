@@ -51,12 +51,15 @@ module _ (z : Value) (r : List ℕ → ℕ → Answer (List Value)) where
         where
           em : take n (drop 16 q) ≡ maskIn s at n
           em = ap (λ (l : List ℕ). take n (drop 16 l)) eq ∙ ap (take n) (drop-drop 16 at s)
+
           er : drop n (drop 16 q) ≡ drop (at + (16 + n)) s
           er =
               let e : at + 16 + n ≡ at + (16 + n) = omega arith in
               ap (λ (l : List ℕ). drop n (drop 16 l)) eq ∙ ap (drop n) (drop-drop 16 at s) ∙ drop-drop n (at + 16) s ∙ ap (λ (k : ℕ). drop k s) e
+
           body : List ℕ → List ℕ → Answer (List (Cell (suc d)))
           body mask rest = andThen (contentOf (countSet mask) (readFrame byteMask z r d rest)) (λ xs. gives (expand (blank z d) mask xs))
+
           go : (a b c : Bool) → eqb (unle (take 8 q)) n ≡ c
               → unless a 7 (unless b 8 (unless c 8 (body (take (unle (take 8 q)) (drop 16 q)) (drop (unle (take 8 q)) (drop 16 q)))))
               ≡ andThen (andThen (unless a 7 (unless b 8 (unless c 8 (gives (countSet (take n (drop 16 q))))))) (λ k. entering k (walked d s (at + (16 + n))))) (answerBy z r (suc d) s at n)

@@ -108,6 +108,7 @@ passed-count (suc d) s n k l p f =
     count-ones : (n : ℕ) → countSet (replicate n 1) ≡ n
     count-ones zero = refl
     count-ones (suc n) = ap suc (count-ones n)
+
     spread-ones : (n : ℕ) (m : List ℕ) → length m ≡ n → spread 0 (replicate n 1) m ≡ m
     spread-ones zero [] e = refl
     spread-ones zero (x ∷ m) e = absurd (omega arith)
