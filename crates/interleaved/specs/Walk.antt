@@ -1,0 +1,54 @@
+-- What the steps of decode_interleaved answer (document 01, item 3): the walk over the stored cells, and what is done with the cells that it found.
+-- Assumes nothing.
+use Prim.Native.Nat.{ℕ}
+use mathlib.Core.Path.{_≡_}
+use mathlib.Core.List.{List, []}
+use lib.ListN.{length, drop}
+use Rattle.array.specs.declared.answer.WrittenRagged.{WrittenRagged}
+use Rattle.array.specs.Answer.{Answer, gives, refuses, unless, mapAnswer, Outcome}
+use Rattle.array.specs.Lists.{joined}
+use Rattle.array.specs.Offsets.{offsetsOf}
+use Rattle.array.specs.Cells.{Value}
+use Rattle.array.specs.Content.{RaggedContent, sizeTest}
+use Rattle.array.specs.Buffers.{RaggedLengths, raggedEnoughTest}
+use Rattle.array.specs.Meaning.{toldRagged}
+use Rattle.codec.specs.Interleaved.{interleavedCells}
+use Rattle.interleaved.specs.declared.vlen_v2.Walk.{Walk}
+
+-- what the call leaves behind: its answer, and the outputs as they are then
+abbrev pub outcomeRagged : WrittenRagged → List ℕ → List ℕ → Outcome RaggedLengths RaggedContent
+outcomeRagged r values offsets = record { answer = toldRagged r; buffers = record { values = values; offsets = offsets } }
+
+-- the cells behind the count field
+abbrev pub storedCells : ℕ → List ℕ → Answer (List Value)
+storedCells n s = interleavedCells n (drop 4 s)
+
+-- how many value bytes the cells have
+abbrev pub totalOf : List Value → ℕ
+totalOf vs = length (joined vs)
+
+-- the walk finds their sum, or the refusal
+abbrev pub toldWalk : Walk → Answer ℕ
+toldWalk (Walk.Sum n) = gives n
+toldWalk (Walk.Refused e) = refuses e
+
+abbrev pub walkAnswer : ℕ → List ℕ → Answer ℕ
+walkAnswer n s = mapAnswer totalOf (storedCells n s)
+
+-- the cells that a walk found which refused nothing
+abbrev pub given : Answer (List Value) → List Value
+given (gives vs) = vs
+given (refuses e) = []
+
+abbrev pub found : ℕ → List ℕ → List Value
+found n s = given (storedCells n s)
+
+abbrev pub Found : ℕ → List ℕ → Type 0
+Found n s = storedCells n s ≡ gives (found n s)
+
+-- cells that were found: 5, and last 6
+abbrev pub cellsContent : List Value → RaggedContent
+cellsContent vs = record { values = joined vs; offsets = offsetsOf vs }
+
+abbrev pub cellsAnswer : List Value → RaggedLengths → Answer RaggedContent
+cellsAnswer vs room = unless (sizeTest (totalOf vs)) 5 (unless (raggedEnoughTest (cellsContent vs) room) 6 (gives (cellsContent vs)))
