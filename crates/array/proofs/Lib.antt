@@ -12,3 +12,9 @@ pub mod Inverse
 pub mod RestLaws
 pub mod Over
 pub mod Laying
+pub mod Limits
+pub mod Copying
+pub mod CheckLaws
+pub mod Numbers
+pub mod Unrolled
+pub mod Fields

@@ -4,3 +4,4 @@ pub mod Chunks
 pub mod Calls
 pub mod Demand
 pub mod Lines
+pub mod Instance

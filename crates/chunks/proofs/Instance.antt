@@ -1,0 +1,110 @@
+-- Demand 3's hypotheses can be met: a ragged array of depth 2 in a shape of 2 × 3, cut into two subsets, with an empty Q.
+-- Assumes nothing.
+use mathlib.Core.Path.{_≡_, refl, sym, _∙_}
+use mathlib.Core.Logic.{inl}
+use Prim.Native.Nat.{ℕ, zero, suc, _+_, _≤_, _<_}
+use native.Mathlib.Omega.{arith}
+use mathlib.Core.List.{List, [], _∷_}
+use lib.ListN.{length, replicate}
+use lib.Dec.{lit≤}
+use Rattle.array.specs.Answer.{gives, andThen}
+use Rattle.array.specs.Limits.{mostBytes, mostCells}
+use Rattle.array.specs.Lists.{All}
+use Rattle.array.specs.Bytes.{le}
+use Rattle.array.specs.Kind.{Kind, ragged, atEnd}
+use Rattle.array.specs.Shape.{volume}
+use Rattle.array.specs.Content.{Content, Valid}
+use Rattle.array.specs.Buffers.{lengthsOf, Enough}
+use Rattle.codec.specs.Frame.{wrap, frame}
+use Rattle.codec.specs.Ragged.{putRagged}
+use Rattle.codec.specs.Values.{putValues}
+use Rattle.codec.specs.Calls.{written}
+use Rattle.chunks.specs.Calls.{extracted}
+use Rattle.chunks.specs.Demand.{Taken, taken, whole, Entry, EntryOk, Covers, subsetsIn, wholeWay}
+use Rattle.chunks.specs.Lines.{lent, old}
+use Rattle.chunks.proofs.Demand.{demand3}
+
+abbrev kind : Kind
+kind = record { depth = 2; form = ragged 4 atEnd }
+
+abbrev shape : List ℕ
+shape = 2 ∷ 3 ∷ []
+
+-- cell 1 is null at the outer level, cell 2 at the inner one; one byte lies before the first offset
+abbrev table : Content
+table = record {
+  masks = 1 ∷ 0 ∷ 7 ∷ 1 ∷ 1 ∷ 255 ∷ 1 ∷ 1 ∷ 0 ∷ 1 ∷ 9 ∷ 1 ∷ [];
+  values = 99 ∷ 1 ∷ 2 ∷ 3 ∷ 4 ∷ 5 ∷ 6 ∷ [];
+  offsets = 1 ∷ 2 ∷ 3 ∷ 4 ∷ 4 ∷ 6 ∷ 7 ∷ [];
+}
+
+-- the columns 1 and 2, and the column 0, each with the outputs lent on its way
+abbrev wide : Entry
+wide = record { subset = 0 ∷ 1 ∷ 2 ∷ 2 ∷ []; cut = lent 8 5 5; stored = old 70; back = lent 12 9 9 }
+
+abbrev narrow : Entry
+narrow = record { subset = 0 ∷ 0 ∷ 2 ∷ 1 ∷ []; cut = lent 4 2 3; stored = old 60; back = lent 4 2 3 }
+
+abbrev entries : List Entry
+entries = wide ∷ narrow ∷ []
+
+-- the rest form: the cells 1 and 2 have lost their values, and cell 1 its inner mask
+abbrev resting : Content
+resting = record {
+  masks = 1 ∷ 0 ∷ 7 ∷ 1 ∷ 1 ∷ 255 ∷ 1 ∷ 0 ∷ 0 ∷ 1 ∷ 9 ∷ 1 ∷ [];
+  values = 1 ∷ 4 ∷ 5 ∷ 6 ∷ [];
+  offsets = 0 ∷ 1 ∷ 1 ∷ 1 ∷ 1 ∷ 3 ∷ 4 ∷ [];
+}
+
+valid : Valid kind shape table
+unfolding mostBytes mostCells
+valid = record {
+  kind = record { shallow = lit≤ tt; sound = inl refl };
+  shaped = record { some-sides = lit≤ tt; few-sides = lit≤ tt; sides = omega arith; few-cells = lit≤ tt };
+  content = record { masks-fit = refl; values-fit = (refl, omega arith, refl) };
+  small = lit≤ tt;
+}
+
+wide-ok : EntryOk kind shape table wide
+unfolding written frame putValues putRagged wrap le
+wide-ok = record {
+  numbers = record { counted = refl; fits = omega arith };
+  full = omega arith;
+  cut-enough = record { for-masks = lit≤ tt; for-values = lit≤ tt; for-offsets = lit≤ tt };
+  stored-enough = lit≤ tt;
+  back-enough = record { for-masks = lit≤ tt; for-values = lit≤ tt; for-offsets = lit≤ tt };
+}
+
+narrow-ok : EntryOk kind shape table narrow
+unfolding written frame putValues putRagged wrap le
+narrow-ok = record {
+  numbers = record { counted = refl; fits = omega arith };
+  full = omega arith;
+  cut-enough = record { for-masks = lit≤ tt; for-values = lit≤ tt; for-offsets = lit≤ tt };
+  stored-enough = lit≤ tt;
+  back-enough = record { for-masks = lit≤ tt; for-values = lit≤ tt; for-offsets = lit≤ tt };
+}
+
+covers : Covers shape (subsetsIn shape entries)
+covers zero h = refl
+covers (suc zero) h = refl
+covers (suc (suc zero)) h = refl
+covers (suc (suc (suc zero))) h = refl
+covers (suc (suc (suc (suc zero)))) h = refl
+covers (suc (suc (suc (suc (suc zero))))) h = refl
+covers (suc (suc (suc (suc (suc (suc i)))))) h = absurd (omega arith)
+
+enough : Enough resting (lengthsOf (lent 12 4 7))
+enough = record { for-masks = lit≤ tt; for-values = lit≤ tt; for-offsets = lit≤ tt }
+
+-- the outcome of the merge
+pub outcome : wholeWay kind shape table entries (lent 12 4 7) ≡ gives (whole resting)
+outcome = demand3 kind shape table valid entries (wide-ok, (narrow-ok, tt)) covers (lent 12 4 7) enough .0
+
+-- an empty Q past the last column: no masks, no values, the one offset 0
+pub empty-cut : andThen (wholeWay kind shape table entries (lent 12 4 7)) (λ m. taken (extracted kind shape (0 ∷ 3 ∷ 2 ∷ 0 ∷ []) (m .content) (lent 0 0 1)))
+    ≡ gives (whole (record { masks = []; values = []; offsets = 0 ∷ [] }))
+empty-cut =
+    demand3 kind shape table valid entries (wide-ok, (narrow-ok, tt)) covers (lent 12 4 7) enough .1
+    (0 ∷ 3 ∷ 2 ∷ 0 ∷ []) (record { counted = refl; fits = omega arith }) (lent 0 0 1)
+    (record { for-masks = lit≤ tt; for-values = lit≤ tt; for-offsets = lit≤ tt })
