@@ -1,11 +1,12 @@
 -- What the steps of decode_interleaved answer (document 01, item 3): the walk over the stored cells, and what is done with the cells that it found.
 -- Assumes nothing.
-use Prim.Native.Nat.{ℕ}
+use Prim.Native.Nat.{ℕ, _≤_}
 use mathlib.Core.Path.{_≡_}
 use mathlib.Core.List.{List, []}
 use lib.ListN.{length, drop}
 use Rattle.array.specs.declared.answer.WrittenRagged.{WrittenRagged}
 use Rattle.array.specs.Answer.{Answer, gives, refuses, unless, mapAnswer, Outcome}
+use Rattle.array.specs.Limits.{mostCells}
 use Rattle.array.specs.Lists.{joined}
 use Rattle.array.specs.Offsets.{offsetsOf}
 use Rattle.array.specs.Cells.{Value}
@@ -15,9 +16,13 @@ use Rattle.array.specs.Meaning.{toldRagged}
 use Rattle.codec.specs.Interleaved.{interleavedCells}
 use Rattle.interleaved.specs.declared.vlen_v2.Walk.{Walk}
 
+-- the outputs that are lent
+abbrev pub lent : List ℕ → List ℕ → RaggedContent
+lent values offsets = record { values = values; offsets = offsets }
+
 -- what the call leaves behind: its answer, and the outputs as they are then
 abbrev pub outcomeRagged : WrittenRagged → List ℕ → List ℕ → Outcome RaggedLengths RaggedContent
-outcomeRagged r values offsets = record { answer = toldRagged r; buffers = record { values = values; offsets = offsets } }
+outcomeRagged r values offsets = record { answer = toldRagged r; buffers = lent values offsets }
 
 -- the cells behind the count field
 abbrev pub storedCells : ℕ → List ℕ → Answer (List Value)
@@ -45,6 +50,12 @@ found n s = given (storedCells n s)
 
 abbrev pub Found : ℕ → List ℕ → Type 0
 Found n s = storedCells n s ≡ gives (found n s)
+
+-- few cells, and so many value bytes
+pub record Walked (n : ℕ) (s : List ℕ) (sum : ℕ) : Type 0 where
+  pub few : n ≤ mostCells
+  pub all : Found n s
+  pub total : sum ≡ totalOf (found n s)
 
 -- cells that were found: 5, and last 6
 abbrev pub cellsContent : List Value → RaggedContent
