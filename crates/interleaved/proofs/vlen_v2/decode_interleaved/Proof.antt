@@ -1,0 +1,98 @@
+-- `interleaved::vlen_v2::decode_interleaved` meets its contract, by the laws of Outcomes: one for each refusal, and one for the cells that the walk found.
+-- Assumes nothing.
+use mathlib.Core.Path.{_≡_, sym, ap, _∙_}
+use Prim.Native.Nat.{_+_, _*_, _≤_}
+use native.Mathlib.Omega.{arith}
+use lib.ListN.{length, take}
+use borrow.Author.Needs.{needs}
+use Rattle.array.specs.Limits.{mostCells}
+use Rattle.array.specs.Bytes.{unle}
+use Rattle.interleaved.specs.Walk.{lent, toldWalk, Walked}
+use Rattle.interleaved.proofs.Outcomes.{many-cells, few-bytes, other-count, past-end, walk-found, all-found}
+use Rattle.interleaved.proofs.vlen_v2.decode_interleaved.Statement.{statement}
+use Rattle.interleaved.proofs.vlen_v2.decode_interleaved.Tie as tie
+use Rattle.interleaved.proofs.vlen_v2.decode_interleaved.Reads as reads
+use Rattle.interleaved.proofs.vlen_v2.decode_interleaved.Lts as lts
+use Rattle.array.proofs.field.le4_at.Reads as le4-at-reads
+use Rattle.interleaved.proofs.vlen_v2.walk_cells.Reads as walk-cells-reads
+use Rattle.interleaved.proofs.vlen_v2.write_cells.Reads as write-cells-reads
+
+returns : tie.Need-returns
+unfolding mostCells
+returns c = many-cells _ _ _ (c .if1 .taken)
+
+add-if2 : tie.Need-add-if2
+add-if2 c = search needs
+
+mul-if2 : tie.Need-mul-if2
+mul-if2 c = search needs
+
+returns-2 : tie.Need-returns-2
+unfolding mostCells
+returns-2 c = few-bytes _ _ _ (c .before .if1 .left) (c .if2 .taken)
+
+le4-at-requires : tie.Need-le4-at-requires
+le4-at-requires c κs = search needs
+
+returns-3 : tie.Need-returns-3
+unfolding mostCells
+returns-3 c = other-count _ _ _ (c .before .before .before .if1 .left) (c .before .before .if2 .left) (λ e. c .if3 .taken (c .before .le4-at .ensures ∙ e))
+
+walk-cells-requires : tie.Need-walk-cells-requires
+walk-cells-requires c κs = search needs
+
+enum-known-walk : tie.Need-enum-known-walk
+enum-known-walk c = search needs
+
+enum-known-walk-2 : tie.Need-enum-known-walk-2
+enum-known-walk-2 c = search needs
+
+-- the count field is the count, and the walk found the cells
+count : (c : tie.Else3) → unle (take 4 (c .before .before .before .before .before .before .before .args .bytes .now)) ≡ c .before .before .before .before .before .before .before .args .cells
+count c = sym (c .before .le4-at .ensures) ∙ c .if3 .left
+
+cells : (c : tie.After-known-told2) → Walked (c .before .before .before .before .before .before .before .before .before .before .before .args .cells) (c .before .before .before .before .before .before .before .before .before .before .before .args .bytes .now) (c .before .walk2 .given .0 .0)
+unfolding mostCells
+cells c = walk-found _ _ _ (c .before .before .before .before .before .before .before .if1 .left) (sym (ap toldWalk (c .before .walk2 .given .1)) ∙ c .before .before .before .walk-cells .ensures)
+
+write-cells-requires : tie.Need-write-cells-requires
+write-cells-requires c κs = cells (c .before .before)
+
+returns-4 : tie.Need-returns-4
+unfolding mostCells
+returns-4 c =
+    past-end _ _ _ (c .before .before .before .before .before .before .before .if1 .left) (c .before .before .before .before .before .before .if2 .left)
+    (count (c .before .before .before .before)) _ (sym (ap toldWalk (c .before .walk .given .1)) ∙ c .before .before .before .walk-cells .ensures)
+
+same-length : tie.Need-same-length
+same-length c = search needs
+
+same-length-2 : tie.Need-same-length-2
+same-length-2 c = search needs
+
+returns-5 : tie.Need-returns-5
+unfolding mostCells
+returns-5 c =
+    let told = c .before .before .before .before .before .before .before in
+    let same = told .before .before .before .before in
+    c .before .before .before .before .write-cells .ensures
+    ∙ all-found _ _ _ (same .before .before .before .if1 .left) (same .before .before .if2 .left) (count same) (cells told .all)
+
+pub decode-interleaved-spec : {M : Type 1} → statement M
+decode-interleaved-spec =
+    tie.close
+    (tie.spec
+    returns
+    add-if2
+    mul-if2
+    returns-2
+    le4-at-requires
+    returns-3
+    walk-cells-requires
+    enum-known-walk
+    enum-known-walk-2
+    write-cells-requires
+    returns-4
+    same-length
+    same-length-2
+    returns-5)
