@@ -14,3 +14,4 @@ pub mod Laying
 pub mod Numbers
 pub mod Unrolled
 pub mod Fields
+pub mod Reversing

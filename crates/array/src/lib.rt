@@ -1,5 +1,6 @@
 // Layer 1: bytes and boxes. What an array is, how numbers lie in bytes, which cells a subset has.
 pub mod answer;
+pub mod endian;
 pub mod field;
 pub mod kind;
 pub mod refusal;
