@@ -18,3 +18,4 @@ pub mod CheckLaws
 pub mod Numbers
 pub mod Unrolled
 pub mod Fields
+pub mod Reversing
