@@ -11,3 +11,4 @@ pub mod Inverse
 pub mod RestLaws
 pub mod Over
 pub mod Laying
+pub mod ShapeLaws

@@ -11,3 +11,6 @@ pub mod Content
 pub mod Buffers
 pub mod Calls
 pub mod Meaning
+pub mod ShapeCells
+pub mod Outcome
+pub mod Rows
