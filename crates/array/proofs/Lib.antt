@@ -12,3 +12,9 @@ pub mod RestLaws
 pub mod Over
 pub mod Laying
 pub mod ShapeLaws
+pub mod Runs
+pub mod Index
+pub mod Rows
+pub mod SubsetLists
+pub mod Fitting
+pub mod StoringCells

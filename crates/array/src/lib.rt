@@ -2,3 +2,4 @@
 pub mod answer;
 pub mod kind;
 pub mod shape;
+pub mod subset;
