@@ -2,11 +2,11 @@
 -- Assumes nothing.
 use mathlib.Core.Path.{_≡_, refl, sym, ap, ap₂, _∙_}
 use Prim.Native.Nat.{ℕ, zero, suc, _+_, _-_, _*_, _/_, _≤_}
-use native.Mathlib.Nat.{mul-div-cancel}
+use native.Mathlib.Nat.{mul-div-cancel, sub-zero}
 use native.Mathlib.Omega.{arith}
 use mathlib.Core.List.{List, [], _∷_, map}
 use lib.ListN.{length, take, drop, length-drop}
-use lib.Seq.{take-nil, length-take-le, drop-drop}
+use lib.Seq.{take-nil, take-all, length-take-le, drop-drop}
 use Rattle.array.specs.Lists.{pieces}
 use Rattle.array.specs.Subset.{Subset, pairs, subsetOf, subsetsOf, SubsetOk, NumbersOk}
 use Rattle.array.specs.Rows.{Within, nextSubsets}
@@ -77,3 +77,16 @@ within-numbers sh ns p = record {
   as-many-lengths = omega (arith, p .counted, length-drop (length sh) ns);
   inside = p .fits;
 }
+
+-- as the parts [0, d) and [d, ..) that a call is lent
+pub starts-part : (d : ℕ) (ns : List ℕ) → take (d - 0) (drop 0 ns) ≡ take d ns
+starts-part d ns = ap (λ (k : ℕ). take k ns) (sub-zero d)
+
+pub lengths-part : (d : ℕ) (ns : List ℕ) → take (length ns - d) (drop d ns) ≡ drop d ns
+lengths-part d ns = take-all (length ns - d) (drop d ns) (omega (arith, length-drop d ns))
+
+pub subset-parts : (d : ℕ) (ns : List ℕ) → pairs (take (d - 0) (drop 0 ns)) (take (length ns - d) (drop d ns)) ≡ subsetOf d ns
+subset-parts d ns = ap₂ pairs (starts-part d ns) (lengths-part d ns)
+
+pub within-parts : (sh ns : List ℕ) → NumbersOk sh ns → Within sh (take (length sh - 0) (drop 0 ns)) (take (length ns - length sh) (drop (length sh) ns))
+within-parts sh ns p = rw (starts-part, lengths-part) (within-numbers sh ns p)
