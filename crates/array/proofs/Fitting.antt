@@ -4,19 +4,19 @@ use mathlib.Core.Path.{_≡_, refl, sym, ap, ap₂, _∙_}
 use mathlib.Core.Logic.{_≢_}
 use mathlib.Core.Bool.{Bool, true, false, _&&_}
 use Prim.Native.Nat.{ℕ, zero, suc, _+_, _-_, _*_, _/_, _%_, _<_, _≤_}
-use native.Mathlib.Nat.{suc-mul, zero-mul, div-add-mod'}
+use native.Mathlib.Nat.{suc-mul, zero-mul}
 use native.Mathlib.Numerals.{add-one}
 use native.Mathlib.Omega.{arith}
 use mathlib.Core.List.{List, [], _∷_}
 use lib.ListN.{length, take, drop, getD, drop-of-length-le}
 use lib.Seq.{drop-cons}
 use lib.Dec.{leb, eqb}
-use borrow.Author.Tests.{le-leb, lt-leb, eq-eqb, ne-eqb}
+use borrow.Author.Tests.{le-leb, lt-leb, leb-true, leb-false, eq-eqb, ne-eqb}
 use Rattle.array.specs.Lists.{every}
 use Rattle.array.specs.Subset.{Subset, lengths, pairs, subsetOf, subsetsOf, subsetTest, fullTest, numbersTest, manyTest}
 use Rattle.array.specs.Rows.{nextSubsets}
 use Rattle.array.proofs.SubsetLaws.{lengths-pairs}
-use Rattle.array.proofs.SubsetLists.{subsets-are, subsets-next, startsAt, lengthsAt}
+use Rattle.array.proofs.SubsetLists.{subsets-long, subsets-are, subsets-next, startsAt, lengthsAt}
 
 -- ---- one side after another
 
@@ -35,11 +35,20 @@ module _ (sh st ls : List ℕ) (d : length st ≡ length sh) (e : length ls ≡ 
     side : fitsFrom sh st ls i ≡ (leb (getD st i 0 + getD ls i 0) (getD sh i 0) && fitsFrom sh st ls (i + 1))
     side = rw (next-of sh i h, next-of st i (omega arith), next-of ls i (omega arith)) refl
 
-    pub fits-more : getD st i 0 + getD ls i 0 ≤ getD sh i 0 → fitsFrom sh st ls i ≡ fitsFrom sh st ls (i + 1)
-    fits-more f = side ∙ ap (λ (b : Bool). b && fitsFrom sh st ls (i + 1)) (le-leb (getD st i 0 + getD ls i 0) (getD sh i 0) f)
-
     pub fits-over : getD sh i 0 < getD st i 0 + getD ls i 0 → fitsFrom sh st ls i ≡ false
     fits-over f = side ∙ ap (λ (b : Bool). b && fitsFrom sh st ls (i + 1)) (lt-leb (getD st i 0 + getD ls i 0) (getD sh i 0) f)
+
+    -- a length that lies within its side is taken off it
+    module _ (g : getD ls i 0 ≤ getD sh i 0) where
+      pub fits-more : leb (getD st i 0) (getD sh i 0 - getD ls i 0) ≡ true → fitsFrom sh st ls i ≡ fitsFrom sh st ls (i + 1)
+      fits-more f =
+          let h : getD st i 0 ≤ getD sh i 0 - getD ls i 0 = leb-true (getD st i 0) (getD sh i 0 - getD ls i 0) f in
+          side ∙ ap (λ (b : Bool). b && fitsFrom sh st ls (i + 1)) (le-leb (getD st i 0 + getD ls i 0) (getD sh i 0) (omega arith))
+
+      pub fits-no-room : leb (getD st i 0) (getD sh i 0 - getD ls i 0) ≡ false → fitsFrom sh st ls i ≡ false
+      fits-no-room f =
+          let h : getD sh i 0 - getD ls i 0 < getD st i 0 = leb-false (getD st i 0) (getD sh i 0 - getD ls i 0) f in
+          fits-over (omega arith)
 
 -- the same of a rule for each length: no length is 0
 module _ (ls : List ℕ) (i : ℕ) where
@@ -85,12 +94,10 @@ module _ (sh ns : List ℕ) where
   fitting-begins h e =
       let d : ℕ = length sh in
       let k : ℕ = length ns / (2 * d) in
-      let q : 2 * d ≡ d + d = omega arith in
-      let l : length ns ≡ k * (d + d) = sym (div-add-mod' (length ns) (2 * d)) ∙ ap (λ (r : ℕ). k * (2 * d) + r) e ∙ omega (arith, ap (λ (x : ℕ). k * x) q) in
       record {
         subsets = k;
-        long = omega arith;
-        same = ap₂ (λ (b : Bool) (bs : List Subset). b && every (fullTest sh) bs) (eq-eqb (length ns % (2 * d)) 0 e) (subsets-are d k ns h l);
+        long = omega (arith, subsets-long d ns e);
+        same = ap₂ (λ (b : Bool) (bs : List Subset). b && every (fullTest sh) bs) (eq-eqb (length ns % (2 * d)) 0 e) (subsets-are d k ns h (subsets-long d ns e));
       }
 
   module _ (at : ℕ) (f : Fitting sh ns at) where

@@ -1,14 +1,14 @@
 -- Subsets laid end to end as numbers: those that the definitions speak of, taken one after another.
 -- Assumes nothing.
-use mathlib.Core.Path.{_≡_, refl, sym, ap, ap₂, _∙_}
-use Prim.Native.Nat.{ℕ, zero, suc, _+_, _-_, _*_, _/_, _≤_}
-use native.Mathlib.Nat.{mul-div-cancel, sub-zero}
+use mathlib.Core.Path.{_≡_, refl, sym, ap, ap₂, _∙_, subst}
+use Prim.Native.Nat.{ℕ, zero, suc, _+_, _-_, _*_, _/_, _%_, _≤_}
+use native.Mathlib.Nat.{mul-div-cancel, div-add-mod', sub-zero}
 use native.Mathlib.Omega.{arith}
 use mathlib.Core.List.{List, [], _∷_, map}
 use lib.ListN.{length, take, drop, length-drop}
 use lib.Seq.{take-nil, take-all, length-take-le, drop-drop}
-use Rattle.array.specs.Lists.{pieces}
-use Rattle.array.specs.Subset.{Subset, pairs, subsetOf, subsetsOf, SubsetOk, NumbersOk}
+use Rattle.array.specs.Lists.{pieces, All}
+use Rattle.array.specs.Subset.{Subset, pairs, subsetOf, subsetsOf, SubsetOk, FullOk, NumbersOk, ManyOk}
 use Rattle.array.specs.Rows.{Within, nextSubsets}
 
 take-front : (d e : ℕ) (xs : List ℕ) → take d (take (d + e) xs) ≡ take d xs
@@ -34,6 +34,18 @@ subsets-are d k flat h e =
     let q : 2 * d ≡ d + d = omega arith in
     let c : length flat / (2 * d) ≡ k = ap₂ (λ (x y : ℕ). x / y) e q ∙ mul-div-cancel k (omega arith) in
     ap₂ (λ (w n : ℕ). map (subsetOf d) (pieces w n flat)) q c ∙ pieces-next d k flat
+
+-- as many as fill it
+pub subsets-long : (d : ℕ) (flat : List ℕ) → length flat % (2 * d) ≡ 0 → length flat ≡ length flat / (2 * d) * (d + d)
+subsets-long d flat e =
+    let k : ℕ = length flat / (2 * d) in
+    let q : 2 * d ≡ d + d = omega arith in
+    sym (div-add-mod' (length flat) (2 * d)) ∙ ap (λ (r : ℕ). k * (2 * d) + r) e ∙ omega (arith, ap (λ (x : ℕ). k * x) q)
+
+-- so the rule for a list of subsets is one for the next of it
+pub many-next : (sh ns : List ℕ) → 1 ≤ length sh → ManyOk sh ns → All (FullOk sh) (nextSubsets (length sh) (length ns / (2 * length sh)) ns)
+many-next sh ns h p =
+    subst (All (FullOk sh)) (subsets-are (length sh) (length ns / (2 * length sh)) ns h (subsets-long (length sh) ns (p .counted))) (p .each)
 
 -- the first of them, as the parts [at, at + d) and [at + d, at + d + d) that a call is lent, and the others
 module _ (d at : ℕ) (flat : List ℕ) where

@@ -2,7 +2,7 @@
 use crate::answer::Written;
 use crate::shape::Cells;
 ghost use mathlib.Core.Path.{_≡_};
-ghost use Prim.Native.Nat.{_+_, _≤_, _<_};
+ghost use Prim.Native.Nat.{_+_, _-_, _≤_, _<_};
 ghost use lib.ListN.{length, getD};
 ghost use lib.Dec.{leb};
 ghost use Rattle.array.specs.Lists.{from, every};
@@ -13,7 +13,15 @@ ghost use Rattle.array.specs.Rows.{Within, FewCells};
 ghost use Rattle.array.specs.Outcome.{outcome};
 ghost use Rattle.array.specs.Calls.{subsetCells};
 
-// Whether each start and length lies within its side. The length comes first, so that no sum wraps.
+// Whether a start leaves room for the length in its side. The length is taken off the side, since a sum could wrap.
+fn leaves_room(side: u64, start: u64, len: u64) -> bool
+    requires { ⌜ len ≤ side ⌝ }
+    ensures { λ r. ⌜ r ≡ leb start (side - len) ⌝ }
+{
+    start <= side - len
+}
+
+// Whether each start and length lies within its side.
 fn lies_within(shape: &[u64], starts: &[u64], lens: &[u64]) -> bool
     requires { ⌜ (length (now starts) ≡ length (now shape)) × (length (now lens) ≡ length (now shape)) ⌝ }
     ensures { λ r. ⌜ r ≡ subsetTest (now (shape .entry)) (pairs (now (starts .entry)) (now (lens .entry))) ⌝ }
@@ -25,7 +33,7 @@ fn lies_within(shape: &[u64], starts: &[u64], lens: &[u64]) -> bool
         if side < len {
             return false;
         }
-        if side - len < starts[i] {
+        if !leaves_room(side, starts[i], len) {
             return false;
         }
         i += 1;
