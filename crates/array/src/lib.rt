@@ -6,3 +6,5 @@ pub mod endian;
 pub mod field;
 pub mod kind;
 pub mod refusal;
+pub mod shape;
+pub mod subset;
