@@ -106,11 +106,11 @@ module _ {n : ℕ} {s d out : List ℕ} {left at to : ℕ} (j : Joining n s d ou
     cell = next-cell s left at (j .cells) (j .stored) h
 
     pub joining-field : at + 4 ≤ length s
-    joining-field = cell .field-fits
+    joining-field = omega (arith, cell .fits)
 
     module _ (v : ℕ) (e : v ≡ lengthAt s at) where
       pub joining-cell : at + 4 + v ≤ length s
-      joining-cell = omega (arith, cell .cell-fits)
+      joining-cell = omega (arith, cell .fits)
 
       abbrev part : List ℕ
       part = take v (drop (at + 4) s)
@@ -175,16 +175,16 @@ module _ {n : ℕ} {s d out : List ℕ} {i at end : ℕ} (c : Ending n s d out i
     coming = next-cell s (n - i) at (c .cells) (c .stored) (omega arith)
 
     pub ending-field : at + 4 ≤ length s
-    ending-field = coming .field-fits
+    ending-field = omega (arith, coming .fits)
 
     module _ (v : ℕ) (e : v ≡ lengthAt s at) where
       pub ending-cell : at + 4 + v ≤ length s
-      ending-cell = omega (arith, coming .cell-fits)
+      ending-cell = omega (arith, coming .fits)
 
       pub ending-more : Ending n s d (set out i end) (i + 1) (at + 4 + v) (end + v)
       ending-more =
           let long : length (take (lengthAt s at) (drop (at + 4) s)) ≡ v =
-          length-take-le (lengthAt s at) (drop (at + 4) s) (omega (arith, length-drop (at + 4) s, coming .cell-fits)) ∙ sym e in
+          length-take-le (lengthAt s at) (drop (at + 4) s) (omega (arith, length-drop (at + 4) s, coming .fits)) ∙ sym e in
           let one : n - i - 1 ≡ n - (i + 1) = omega arith in
           record {
             cells = coming .others;

@@ -1,28 +1,22 @@
--- What the steps of decode_interleaved answer (document 01, item 3): the walk over the stored cells, and what is done with the cells that it found.
+-- What the steps of decode_interleaved answer (document 01, item 3): the walk over the stored cells, and what becomes of the cells that it found.
 -- Assumes nothing.
 use Prim.Native.Nat.{ℕ, _≤_}
 use mathlib.Core.Path.{_≡_}
 use mathlib.Core.List.{List, []}
 use lib.ListN.{length, drop}
-use Rattle.array.specs.declared.answer.WrittenRagged.{WrittenRagged}
-use Rattle.array.specs.Answer.{Answer, gives, refuses, unless, mapAnswer, Outcome}
+use Rattle.array.specs.Answer.{Answer, gives, refuses, unless, mapAnswer}
 use Rattle.array.specs.Limits.{mostCells}
 use Rattle.array.specs.Lists.{joined}
 use Rattle.array.specs.Offsets.{offsetsOf}
 use Rattle.array.specs.Cells.{Value}
 use Rattle.array.specs.Content.{RaggedContent, sizeTest}
 use Rattle.array.specs.Buffers.{RaggedLengths, raggedEnoughTest}
-use Rattle.array.specs.Meaning.{toldRagged}
 use Rattle.codec.specs.Interleaved.{interleavedCells}
 use Rattle.interleaved.specs.declared.vlen_v2.Walk.{Walk}
 
 -- the outputs that are lent
 abbrev pub lent : List ℕ → List ℕ → RaggedContent
 lent values offsets = record { values = values; offsets = offsets }
-
--- what the call leaves behind: its answer, and the outputs as they are then
-abbrev pub outcomeRagged : WrittenRagged → List ℕ → List ℕ → Outcome RaggedLengths RaggedContent
-outcomeRagged r values offsets = record { answer = toldRagged r; buffers = lent values offsets }
 
 -- the cells behind the count field
 abbrev pub storedCells : ℕ → List ℕ → Answer (List Value)
@@ -32,15 +26,15 @@ storedCells n s = interleavedCells n (drop 4 s)
 abbrev pub totalOf : List Value → ℕ
 totalOf vs = length (joined vs)
 
--- the walk finds their sum, or the refusal
+-- the walk tells so much of them, or the refusal
+abbrev pub walkAnswer : ℕ → List ℕ → Answer ℕ
+walkAnswer n s = mapAnswer totalOf (storedCells n s)
+
 abbrev pub toldWalk : Walk → Answer ℕ
 toldWalk (Walk.Sum n) = gives n
 toldWalk (Walk.Refused e) = refuses e
 
-abbrev pub walkAnswer : ℕ → List ℕ → Answer ℕ
-walkAnswer n s = mapAnswer totalOf (storedCells n s)
-
--- the cells that a walk found which refused nothing
+-- the cells, where the walk refused nothing
 abbrev pub given : Answer (List Value) → List Value
 given (gives vs) = vs
 given (refuses e) = []
@@ -57,7 +51,7 @@ pub record Walked (n : ℕ) (s : List ℕ) (sum : ℕ) : Type 0 where
   pub all : Found n s
   pub total : sum ≡ totalOf (found n s)
 
--- cells that were found: 5, and last 6
+-- what becomes of the cells: 5, and last 6
 abbrev pub cellsContent : List Value → RaggedContent
 cellsContent vs = record { values = joined vs; offsets = offsetsOf vs }
 

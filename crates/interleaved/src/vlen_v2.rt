@@ -13,8 +13,9 @@ ghost use lib.ListN.{length};
 ghost use Rattle.array.specs.Lists.{joined};
 ghost use Rattle.array.specs.Offsets.{offsetsOf};
 ghost use Rattle.array.specs.Buffers.{over, raggedOutcome, raggedLengthsOf};
+ghost use Rattle.array.specs.Outcome.{outcomeRagged};
 ghost use Rattle.codec.specs.Calls.{interleavedDecoded};
-ghost use Rattle.interleaved.specs.Walk.{outcomeRagged, lent, toldWalk, walkAnswer, totalOf, found, Found, Walked, cellsAnswer};
+ghost use Rattle.interleaved.specs.Walk.{lent, toldWalk, walkAnswer, totalOf, found, Found, Walked, cellsAnswer};
 
 // Cells at most.
 const MOST_CELLS: u64 = 65536;
