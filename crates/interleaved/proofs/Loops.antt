@@ -1,7 +1,7 @@
 -- The three loops over the stored cells, by what is left of the string: the sum so far, the value bytes and the offsets laid so far.
 -- Assumes nothing.
 use mathlib.Core.Path.{_≡_, refl, sym, ap, ap₂, _∙_, subst}
-use Prim.Native.Nat.{ℕ, zero, suc, _+_, _-_, _<_, _≤_}
+use Prim.Native.Nat.{ℕ, suc, _+_, _-_, _<_, _≤_}
 use native.Mathlib.Omega.{arith}
 use native.Mathlib.Nat.{zero-add, sub-zero}
 use mathlib.Core.List.{List, [], _∷_, _++_}
@@ -55,7 +55,13 @@ module _ {n : ℕ} {s : List ℕ} {left at sum : ℕ} (w : Walking n s left at s
       walk-cell-past g = past (cell-past s at (left - 1) (omega arith) (omega arith))
 
       pub walk-more : v ≤ length s - (at + 4) → Walking n s (left - 1) (at + 4 + v) (sum + v)
-      walk-more g = record { small = omega (arith, w .small); whole = w .whole ∙ ap (λ (k : ℕ). mapAnswer (λ vs. sum + totalOf vs) (interleavedCells k (drop at s))) one ∙ ap (mapAnswer (λ vs. sum + totalOf vs)) (cell-next s at (left - 1) (omega arith) (omega arith)) ∙ go (interleavedCells (left - 1) (drop (at + 4 + lengthAt s at) s)) ∙ ap (λ (k : ℕ). mapAnswer (λ vs. (sum + v) + totalOf vs) (interleavedCells (left - 1) (drop (at + 4 + k) s))) (sym e) }
+      walk-more g = record {
+        small = omega (arith, w .small);
+        whole =
+            w .whole ∙ ap (mapAnswer (λ vs. sum + totalOf vs)) (ap (λ (k : ℕ). interleavedCells k (drop at s)) one ∙ cell-next s at (left - 1) (omega arith) (omega arith))
+            ∙ go (interleavedCells (left - 1) (drop (at + 4 + lengthAt s at) s))
+            ∙ ap (λ (k : ℕ). mapAnswer (λ vs. (sum + v) + totalOf vs) (interleavedCells (left - 1) (drop (at + 4 + k) s))) (sym e);
+      }
         where
           cell : List ℕ
           cell = take (lengthAt s at) (drop (at + 4) s)

@@ -1,14 +1,14 @@
 -- What decode_interleaved leaves behind, case by case: a refusal and the outputs as they were, or the cells.
 -- Assumes nothing.
-use mathlib.Core.Path.{_≡_, refl, sym, ap, ap₂, _∙_}
+use mathlib.Core.Path.{_≡_, refl, sym, ap, _∙_}
 use Prim.Native.Nat.{ℕ, suc, _+_, _*_, _<_, _≤_}
 use native.Mathlib.Omega.{arith}
 use mathlib.Core.Bool.{true}
 use mathlib.Core.List.{List}
 use lib.ListN.{length, take, drop}
-use lib.Dec.{leb, eqb}
+use lib.Dec.{leb}
 use borrow.Author.Tests.{le-leb, lt-leb, eq-eqb, ne-eqb}
-use Rattle.array.specs.Answer.{Answer, gives, refuses, andThen, mapAnswer, Outcome}
+use Rattle.array.specs.Answer.{Answer, gives, refuses, mapAnswer, Outcome}
 use Rattle.array.specs.Limits.{mostCells, mostBytes}
 use Rattle.array.specs.Lists.{joined}
 use Rattle.array.specs.Bytes.{unle}
@@ -17,10 +17,9 @@ use Rattle.array.specs.Cells.{Value}
 use Rattle.array.specs.Content.{RaggedContent}
 use Rattle.array.specs.Buffers.{RaggedLengths, raggedLengthsOf, over, raggedOutcome}
 use Rattle.array.proofs.Offsets.{length-ends}
-use Rattle.codec.specs.Interleaved.{interleavedCells}
 use Rattle.codec.specs.Calls.{interleavedAnswer, interleavedDecoded}
 use Rattle.interleaved.specs.Walk.{lent, totalOf, storedCells, walkAnswer, given, found, Found, Walked, cellsAnswer}
-use Rattle.interleaved.proofs.Steps.{length-cells}
+use Rattle.interleaved.proofs.Steps.{never, length-cells}
 
 -- a refusal leaves the outputs as they were
 abbrev pub refused : ℕ → RaggedContent → Outcome RaggedLengths RaggedContent
@@ -69,14 +68,16 @@ walk-found n s sum h e = go (storedCells n s) refl
     go : (a : Answer (List Value)) → storedCells n s ≡ a → Walked n s sum
     go (gives vs) p =
         let q : found n s ≡ vs = ap given p in
-        record { few = h; all = p ∙ ap gives (sym q); total = (let r : gives sum ≡ gives (totalOf vs) = e ∙ ap (λ (a : Answer (List Value)). mapAnswer totalOf a) p in let t : sum ≡ totalOf vs = cc in t ∙ ap totalOf (sym q)) }
-    go (refuses k) p = let r : gives sum ≡ refuses k = e ∙ ap (λ (a : Answer (List Value)). mapAnswer totalOf a) p in let z : _≡_ {A = ℕ} 0 1 = cc in absurd (omega arith)
+        let r : gives sum ≡ gives (totalOf vs) = e ∙ ap (mapAnswer totalOf) p in
+        let t : sum ≡ totalOf vs = cc in
+        record { few = h; all = p ∙ ap gives (sym q); total = t ∙ ap totalOf (sym q) }
+    go (refuses k) p = absurd (never (ap (mapAnswer totalOf) p) (sym e))
 
 walk-refused : (n : ℕ) (s : List ℕ) (k : ℕ) → refuses k ≡ walkAnswer n s → storedCells n s ≡ refuses k
 walk-refused n s k e = go (storedCells n s) e
   where
     go : (a : Answer (List Value)) → refuses k ≡ mapAnswer totalOf a → a ≡ refuses k
-    go (gives vs) p = let z : _≡_ {A = ℕ} 0 1 = cc in absurd (omega arith)
+    go (gives vs) p = absurd (never (sym p) refl)
     go (refuses j) p = cc
 
 module _ (n : ℕ) (s : List ℕ) (old : RaggedContent) where
@@ -102,6 +103,7 @@ module _ (n : ℕ) (s : List ℕ) (old : RaggedContent) where
         unfolding interleavedDecoded interleavedAnswer
         past-end e w = rw (le-leb n mostCells h, room, eq-eqb (unle (take 4 s)) n f, walk-refused n s e w)
 
-        pub all-found : Found n s → raggedOutcome (cellsAnswer (found n s) (raggedLengthsOf old)) old ≡ interleavedDecoded n s old
+        pub all-found : Found n s → {o : Outcome RaggedLengths RaggedContent} → o ≡ raggedOutcome (cellsAnswer (found n s) (raggedLengthsOf old)) old
+            → o ≡ interleavedDecoded n s old
         unfolding interleavedDecoded interleavedAnswer
-        all-found w = rw (le-leb n mostCells h, room, eq-eqb (unle (take 4 s)) n f) (ap (λ (a : Answer (List Value)). raggedOutcome (andThen a (λ vs. cellsAnswer vs (raggedLengthsOf old))) old) (sym w))
+        all-found w e = rw (le-leb n mostCells h, room, eq-eqb (unle (take 4 s)) n f, w) e

@@ -6,7 +6,6 @@ use array::copy;
 use array::field;
 use array::field::Field;
 use array::refusal;
-
 ghost use mathlib.Core.Path.{_≡_};
 ghost use Prim.Native.Nat.{_+_, _≤_};
 ghost use lib.ListN.{length};

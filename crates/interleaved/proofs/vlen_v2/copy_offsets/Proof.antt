@@ -1,16 +1,12 @@
 -- `interleaved::vlen_v2::copy_offsets` meets its contract, by the laws of Ending.
 -- Assumes nothing.
-use mathlib.Core.Path.{_≡_, ap, _∙_}
+use mathlib.Core.Path.{_∙_}
 use Prim.Native.Nat.{_+_, _-_, _≤_, _<_}
 use native.Mathlib.Omega.{arith}
 use lib.ListN.{length, length-set}
-use borrow.Author.Needs.{needs}
 use Rattle.interleaved.proofs.Loops.{Ending, ending-begins, ending-same, ending-room, ending-ends, ending-field, ending-cell, ending-more}
 use Rattle.interleaved.proofs.vlen_v2.copy_offsets.Statement.{statement}
 use Rattle.interleaved.proofs.vlen_v2.copy_offsets.Tie as tie
-use Rattle.interleaved.proofs.vlen_v2.copy_offsets.Reads as reads
-use Rattle.interleaved.proofs.vlen_v2.copy_offsets.Lts as lts
-use Rattle.array.proofs.field.le4_at.Reads as le4-at-reads
 
 abbrev Inv-loop : tie.InvT-loop
 Inv-loop offsets₀ bytes cells i₀ at₀ end₀ offsets i at end = Ending cells bytes offsets₀ offsets i at end

@@ -7,10 +7,6 @@ use borrow.Author.Needs.{needs}
 use Rattle.interleaved.proofs.Loops.{Joining, joining-begins, joining-same, joining-ends, joining-field, joining-cell, joining-room, joining-more}
 use Rattle.interleaved.proofs.vlen_v2.copy_values.Statement.{statement}
 use Rattle.interleaved.proofs.vlen_v2.copy_values.Tie as tie
-use Rattle.interleaved.proofs.vlen_v2.copy_values.Reads as reads
-use Rattle.interleaved.proofs.vlen_v2.copy_values.Lts as lts
-use Rattle.array.proofs.copy.copy_bytes.Reads as copy-bytes-reads
-use Rattle.array.proofs.field.le4_at.Reads as le4-at-reads
 
 abbrev Inv-loop : tie.InvT-loop
 Inv-loop values₀ bytes cells left₀ at₀ to₀ values left at to = Joining cells bytes values₀ values left at to

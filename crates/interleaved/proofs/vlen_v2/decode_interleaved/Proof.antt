@@ -1,21 +1,14 @@
 -- `interleaved::vlen_v2::decode_interleaved` meets its contract, by the laws of Outcomes: one for each refusal, and one for the cells that the walk found.
 -- Assumes nothing.
 use mathlib.Core.Path.{_≡_, sym, ap, _∙_}
-use Prim.Native.Nat.{_+_, _*_, _≤_}
-use native.Mathlib.Omega.{arith}
-use lib.ListN.{length, take}
+use lib.ListN.{take}
 use borrow.Author.Needs.{needs}
 use Rattle.array.specs.Limits.{mostCells}
 use Rattle.array.specs.Bytes.{unle}
-use Rattle.interleaved.specs.Walk.{lent, toldWalk, Walked}
+use Rattle.interleaved.specs.Walk.{toldWalk, Walked}
 use Rattle.interleaved.proofs.Outcomes.{many-cells, few-bytes, other-count, past-end, walk-found, all-found}
 use Rattle.interleaved.proofs.vlen_v2.decode_interleaved.Statement.{statement}
 use Rattle.interleaved.proofs.vlen_v2.decode_interleaved.Tie as tie
-use Rattle.interleaved.proofs.vlen_v2.decode_interleaved.Reads as reads
-use Rattle.interleaved.proofs.vlen_v2.decode_interleaved.Lts as lts
-use Rattle.array.proofs.field.le4_at.Reads as le4-at-reads
-use Rattle.interleaved.proofs.vlen_v2.walk_cells.Reads as walk-cells-reads
-use Rattle.interleaved.proofs.vlen_v2.write_cells.Reads as write-cells-reads
 
 returns : tie.Need-returns
 unfolding mostCells
@@ -75,8 +68,7 @@ unfolding mostCells
 returns-5 c =
     let told = c .before .before .before .before .before .before .before in
     let same = told .before .before .before .before in
-    c .before .before .before .before .write-cells .ensures
-    ∙ all-found _ _ _ (same .before .before .before .if1 .left) (same .before .before .if2 .left) (count same) (cells told .all)
+    all-found _ _ _ (same .before .before .before .if1 .left) (same .before .before .if2 .left) (count same) (cells told .all) (c .before .before .before .before .write-cells .ensures)
 
 pub decode-interleaved-spec : {M : Type 1} → statement M
 decode-interleaved-spec =

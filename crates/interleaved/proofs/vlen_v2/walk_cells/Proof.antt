@@ -11,9 +11,6 @@ use Rattle.interleaved.proofs.Steps.{lengthAt}
 use Rattle.interleaved.proofs.Loops.{Walking, walk-begins, walk-ends, walk-field-past, walk-cell-past, walk-more}
 use Rattle.interleaved.proofs.vlen_v2.walk_cells.Statement.{statement}
 use Rattle.interleaved.proofs.vlen_v2.walk_cells.Tie as tie
-use Rattle.interleaved.proofs.vlen_v2.walk_cells.Reads as reads
-use Rattle.interleaved.proofs.vlen_v2.walk_cells.Lts as lts
-use Rattle.array.proofs.field.read_u32.Reads as read-u32-reads
 
 abbrev Inv-loop : tie.InvT-loop
 Inv-loop bytes cells left₀ at₀ sum₀ left at sum = Walking cells bytes left at sum

@@ -7,10 +7,6 @@ use Rattle.interleaved.specs.Walk.{lent}
 use Rattle.interleaved.proofs.Outcomes.{too-large, values-short, offsets-short, all-written}
 use Rattle.interleaved.proofs.vlen_v2.write_cells.Statement.{statement}
 use Rattle.interleaved.proofs.vlen_v2.write_cells.Tie as tie
-use Rattle.interleaved.proofs.vlen_v2.write_cells.Reads as reads
-use Rattle.interleaved.proofs.vlen_v2.write_cells.Lts as lts
-use Rattle.interleaved.proofs.vlen_v2.copy_offsets.Reads as copy-offsets-reads
-use Rattle.interleaved.proofs.vlen_v2.copy_values.Reads as copy-values-reads
 
 returns : tie.Need-returns
 unfolding mostBytes
