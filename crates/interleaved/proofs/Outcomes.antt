@@ -18,7 +18,7 @@ use Rattle.array.specs.Content.{RaggedContent}
 use Rattle.array.specs.Buffers.{RaggedLengths, raggedLengthsOf, over, raggedOutcome}
 use Rattle.array.proofs.Offsets.{length-ends}
 use Rattle.codec.specs.Calls.{interleavedAnswer, interleavedDecoded}
-use Rattle.interleaved.specs.Walk.{lent, totalOf, storedCells, walkAnswer, given, found, Found, Walked, cellsAnswer}
+use Rattle.interleaved.specs.Walk.{lent, totalOf, storedCells, walkAnswer, given, found, Walked, cellsAnswer}
 use Rattle.interleaved.proofs.Steps.{never, length-cells}
 
 -- a refusal leaves the outputs as they were
@@ -103,7 +103,7 @@ module _ (n : ℕ) (s : List ℕ) (old : RaggedContent) where
         unfolding interleavedDecoded interleavedAnswer
         past-end e w = rw (le-leb n mostCells h, room, eq-eqb (unle (take 4 s)) n f, walk-refused n s e w)
 
-        pub all-found : Found n s → {o : Outcome RaggedLengths RaggedContent} → o ≡ raggedOutcome (cellsAnswer (found n s) (raggedLengthsOf old)) old
-            → o ≡ interleavedDecoded n s old
+        pub all-found : (sum : ℕ) → gives sum ≡ walkAnswer n s → {o : Outcome RaggedLengths RaggedContent}
+            → o ≡ raggedOutcome (cellsAnswer (found n s) (raggedLengthsOf old)) old → o ≡ interleavedDecoded n s old
         unfolding interleavedDecoded interleavedAnswer
-        all-found w e = rw (le-leb n mostCells h, room, eq-eqb (unle (take 4 s)) n f, w) e
+        all-found sum w e = rw (le-leb n mostCells h, room, eq-eqb (unle (take 4 s)) n f, walk-found n s sum h w .all) e

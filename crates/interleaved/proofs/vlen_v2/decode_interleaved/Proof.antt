@@ -1,11 +1,9 @@
 -- `interleaved::vlen_v2::decode_interleaved` meets its contract, by the laws of Outcomes: one for each refusal, and one for the cells that the walk found.
 -- Assumes nothing.
-use mathlib.Core.Path.{_≡_, sym, ap, _∙_}
-use lib.ListN.{take}
+use mathlib.Core.Path.{sym, ap, _∙_}
 use borrow.Author.Needs.{needs}
 use Rattle.array.specs.Limits.{mostCells}
-use Rattle.array.specs.Bytes.{unle}
-use Rattle.interleaved.specs.Walk.{toldWalk, Walked}
+use Rattle.interleaved.specs.Walk.{toldWalk}
 use Rattle.interleaved.proofs.Outcomes.{many-cells, few-bytes, other-count, past-end, walk-found, all-found}
 use Rattle.interleaved.proofs.vlen_v2.decode_interleaved.Statement.{statement}
 use Rattle.interleaved.proofs.vlen_v2.decode_interleaved.Tie as tie
@@ -40,22 +38,18 @@ enum-known-walk c = search needs
 enum-known-walk-2 : tie.Need-enum-known-walk-2
 enum-known-walk-2 c = search needs
 
--- the count field is the count, and the walk found the cells
-count : (c : tie.Else3) → unle (take 4 (c .before .before .before .before .before .before .before .args .bytes .now)) ≡ c .before .before .before .before .before .before .before .args .cells
-count c = sym (c .before .le4-at .ensures) ∙ c .if3 .left
-
-cells : (c : tie.After-known-told2) → Walked (c .before .before .before .before .before .before .before .before .before .before .before .args .cells) (c .before .before .before .before .before .before .before .before .before .before .before .args .bytes .now) (c .before .walk2 .given .0 .0)
-unfolding mostCells
-cells c = walk-found _ _ _ (c .before .before .before .before .before .before .before .if1 .left) (sym (ap toldWalk (c .before .walk2 .given .1)) ∙ c .before .before .before .walk-cells .ensures)
-
 write-cells-requires : tie.Need-write-cells-requires
-write-cells-requires c κs = cells (c .before .before)
+unfolding mostCells
+write-cells-requires c κs =
+    let walk = c .before .before .before in
+    walk-found _ _ _ (walk .before .before .before .before .before .before .if1 .left) (sym (ap toldWalk (walk .walk2 .given .1)) ∙ walk .before .before .walk-cells .ensures)
 
 returns-4 : tie.Need-returns-4
 unfolding mostCells
 returns-4 c =
-    past-end _ _ _ (c .before .before .before .before .before .before .before .if1 .left) (c .before .before .before .before .before .before .if2 .left)
-    (count (c .before .before .before .before)) _ (sym (ap toldWalk (c .before .walk .given .1)) ∙ c .before .before .before .walk-cells .ensures)
+    let same = c .before .before .before .before in
+    past-end _ _ _ (same .before .before .before .if1 .left) (same .before .before .if2 .left) (sym (same .before .le4-at .ensures) ∙ same .if3 .left) _
+    (sym (ap toldWalk (c .before .walk .given .1)) ∙ c .before .before .before .walk-cells .ensures)
 
 same-length : tie.Need-same-length
 same-length c = search needs
@@ -66,9 +60,10 @@ same-length-2 c = search needs
 returns-5 : tie.Need-returns-5
 unfolding mostCells
 returns-5 c =
-    let told = c .before .before .before .before .before .before .before in
-    let same = told .before .before .before .before in
-    all-found _ _ _ (same .before .before .before .if1 .left) (same .before .before .if2 .left) (count same) (cells told .all) (c .before .before .before .before .write-cells .ensures)
+    let walk = c .before .before .before .before .before .before .before .before in
+    let same = walk .before .before .before in
+    all-found _ _ _ (same .before .before .before .if1 .left) (same .before .before .if2 .left) (sym (same .before .le4-at .ensures) ∙ same .if3 .left) _
+    (sym (ap toldWalk (walk .walk2 .given .1)) ∙ walk .before .before .walk-cells .ensures) (c .before .before .before .before .write-cells .ensures)
 
 pub decode-interleaved-spec : {M : Type 1} → statement M
 decode-interleaved-spec =
