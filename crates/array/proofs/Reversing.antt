@@ -213,6 +213,7 @@ module _ (at k : ℕ) (d : List ℕ) where
         short [] q = refl
         short (x ∷ []) q = refl
         short (x ∷ (y ∷ s)) q = absurd (omega arith)
+
         kept : overAt low (take left (drop low out)) out ≡ out
         kept =
             let e : take low out ++ take left (drop low out) ≡ take (low + left) out = sym (take-add low left out) in
