@@ -6,9 +6,13 @@ ghost use Rattle.array.specs.Answer.{andThen};
 ghost use Rattle.array.specs.Meaning.{kindOf, orderOf, widthOf, placeOf};
 ghost use Rattle.array.specs.Numbers.{fixedOf, raggedOf, kindWith, toldKind, numberedKind};
 
-// Mask levels that a kind may have, and bytes of a fixed cell.
+// Most mask levels.
 pub const MOST_DEPTH: u8 = 4;
 
+<<<<<<< HEAD
+=======
+// Most bytes of a fixed cell.
+>>>>>>> a1
 pub const MOST_SIZE: u8 = 64;
 
 // Byte order of a stored fixed cell.
