@@ -9,10 +9,7 @@ ghost use Rattle.array.specs.Numbers.{fixedOf, raggedOf, kindWith, toldK
 // Most mask levels.
 pub const MOST_DEPTH: u8 = 4;
 
-<<<<<<< HEAD
-=======
 // Most bytes of a fixed cell.
->>>>>>> a1
 pub const MOST_SIZE: u8 = 64;
 
 // Byte order of a stored fixed cell.
