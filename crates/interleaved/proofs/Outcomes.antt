@@ -16,9 +16,10 @@ use Rattle.array.specs.Offsets.{offsetsOf}
 use Rattle.array.specs.Cells.{Value}
 use Rattle.array.specs.Content.{RaggedContent}
 use Rattle.array.specs.Buffers.{RaggedLengths, raggedLengthsOf, over, raggedOutcome}
+use Rattle.array.specs.Outcome.{contentRagged}
 use Rattle.array.proofs.Offsets.{length-ends}
 use Rattle.codec.specs.Calls.{interleavedAnswer, interleavedDecoded}
-use Rattle.interleaved.specs.Walk.{lent, totalOf, storedCells, walkAnswer, given, found, Walked, cellsAnswer}
+use Rattle.interleaved.specs.Walk.{totalOf, storedCells, walkAnswer, given, found, Walked, cellsAnswer}
 use Rattle.interleaved.proofs.Steps.{never, length-cells}
 
 -- a refusal leaves the outputs as they were
@@ -55,7 +56,7 @@ module _ {n : ℕ} {s : List ℕ} {sum : ℕ} (w : Walked n s sum) (old : Ragged
       -- both outputs are long enough
       pub all-written : n + 1 ≤ length (old .offsets) → {values offsets : List ℕ} → values ≡ over (joined (found n s)) (old .values)
           → offsets ≡ over (offsetsOf (found n s)) (old .offsets)
-          → _≡_ {A = Outcome RaggedLengths RaggedContent} (record { answer = gives (record { values = sum; offsets = n + 1 }); buffers = lent values offsets }) cellsOutcome
+          → _≡_ {A = Outcome RaggedLengths RaggedContent} (record { answer = gives (record { values = sum; offsets = n + 1 }); buffers = contentRagged values offsets }) cellsOutcome
       all-written f ev eo =
           rw (few, for-values, le-leb (length (offsetsOf (found n s))) (length (old .offsets)) (omega (arith, count)), w .total, sym count, ev, eo)
 

@@ -14,10 +14,6 @@ use Rattle.array.specs.Buffers.{RaggedLengths, raggedEnoughTest}
 use Rattle.codec.specs.Interleaved.{interleavedCells}
 use Rattle.interleaved.specs.declared.vlen_v2.Walk.{Walk}
 
--- the outputs that are lent
-abbrev pub lent : List ℕ → List ℕ → RaggedContent
-lent values offsets = record { values = values; offsets = offsets }
-
 -- the cells behind the count field
 abbrev pub storedCells : ℕ → List ℕ → Answer (List Value)
 storedCells n s = interleavedCells n (drop 4 s)

@@ -6,18 +6,16 @@ use array::copy;
 use array::field;
 use array::field::Field;
 use array::refusal;
+use array::shape;
 ghost use mathlib.Core.Path.{_≡_};
 ghost use Prim.Native.Nat.{_+_, _≤_};
 ghost use lib.ListN.{length};
 ghost use Rattle.array.specs.Lists.{joined};
 ghost use Rattle.array.specs.Offsets.{offsetsOf};
 ghost use Rattle.array.specs.Buffers.{over, raggedOutcome, raggedLengthsOf};
-ghost use Rattle.array.specs.Outcome.{outcomeRagged};
+ghost use Rattle.array.specs.Outcome.{contentRagged, outcomeRagged};
 ghost use Rattle.codec.specs.Calls.{interleavedDecoded};
-ghost use Rattle.interleaved.specs.Walk.{lent, toldWalk, walkAnswer, totalOf, found, Found, Walked, cellsAnswer};
-
-// Cells at most.
-const MOST_CELLS: u64 = 65536;
+ghost use Rattle.interleaved.specs.Walk.{toldWalk, walkAnswer, totalOf, found, Found, Walked, cellsAnswer};
 
 // What the checking walk over the stored cells finds: how many value bytes they have, or the refusal.
 pub enum Walk {
@@ -94,8 +92,8 @@ fn write_cells(
 ) -> WrittenRagged
     requires { ⌜ Walked cells (now bytes) sum ⌝ }
     ensures { λ r. ⌜ outcomeRagged r (now (values .exit)) (now (offsets .exit))
-        ≡ raggedOutcome (cellsAnswer (found cells (now (bytes .entry))) (raggedLengthsOf (lent (now (values .entry)) (now (offsets .entry)))))
-        (lent (now (values .entry)) (now (offsets .entry))) ⌝ }
+        ≡ raggedOutcome (cellsAnswer (found cells (now (bytes .entry))) (raggedLengthsOf (contentRagged (now (values .entry)) (now (offsets .entry)))))
+        (contentRagged (now (values .entry)) (now (offsets .entry))) ⌝ }
 {
     if sum > array_bytes::MOST_BYTES {
         return WrittenRagged::Refused(refusal::SIZE);
@@ -120,9 +118,9 @@ pub fn decode_interleaved(
     offsets: &mut [u64],
 ) -> WrittenRagged
     ensures { λ r. ⌜ outcomeRagged r (now (values .exit)) (now (offsets .exit))
-        ≡ interleavedDecoded cells (now (bytes .entry)) (lent (now (values .entry)) (now (offsets .entry))) ⌝ }
+        ≡ interleavedDecoded cells (now (bytes .entry)) (contentRagged (now (values .entry)) (now (offsets .entry))) ⌝ }
 {
-    if cells > MOST_CELLS {
+    if cells > shape::MOST_CELLS {
         return WrittenRagged::Refused(refusal::SHAPE);
     }
     let n = cells as usize;

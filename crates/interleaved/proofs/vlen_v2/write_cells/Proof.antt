@@ -3,7 +3,7 @@
 use native.Mathlib.Omega.{arith}
 use borrow.Author.Needs.{needs}
 use Rattle.array.specs.Limits.{mostBytes, mostCells}
-use Rattle.interleaved.specs.Walk.{lent}
+use Rattle.array.specs.Outcome.{contentRagged}
 use Rattle.interleaved.proofs.Outcomes.{too-large, values-short, offsets-short, all-written}
 use Rattle.interleaved.proofs.vlen_v2.write_cells.Statement.{statement}
 use Rattle.interleaved.proofs.vlen_v2.write_cells.Tie as tie
@@ -40,7 +40,7 @@ returns-4 : tie.Need-returns-4
 unfolding mostBytes
 returns-4 c =
     let start = c .before .before .before .before .before .before .before .before .before .before .before .before .before .before in
-    all-written (start .pre) (lent (start .args .values .now) (start .args .offsets .now))
+    all-written (start .pre) (contentRagged (start .args .values .now) (start .args .offsets .now))
     (c .before .before .before .before .before .before .before .before .before .before .if1 .left)
     (c .before .before .before .before .before .before .before .before .before .if2 .left)
     (c .before .before .before .before .before .before .before .before .if3 .left)
