@@ -1,6 +1,7 @@
 -- `interleaved::vlen_v2::decode_interleaved` meets its contract, by the laws of Outcomes: one for each refusal, and one for the cells that the walk found.
 -- Assumes nothing.
 use mathlib.Core.Path.{sym, ap, _∙_}
+use native.Mathlib.Omega.{arith}
 use borrow.Author.Needs.{needs}
 use Rattle.array.specs.Limits.{mostCells}
 use Rattle.interleaved.specs.Walk.{toldWalk}
@@ -20,7 +21,7 @@ mul-if2 c = search needs
 
 returns-2 : tie.Need-returns-2
 unfolding mostCells
-returns-2 c = few-bytes _ _ _ (c .before .if1 .left) (c .if2 .taken)
+returns-2 c = few-bytes _ _ _ (c .before .if1 .left) (omega arith)
 
 le4-at-requires : tie.Need-le4-at-requires
 le4-at-requires c κs = search needs
