@@ -10,3 +10,4 @@ pub mod Reading
 pub mod Walks
 pub mod IndexLaws
 pub mod CheckedIndex
+pub mod Returns
