@@ -1,0 +1,1 @@
+// Layer 3: a subset cut from an array.
