@@ -2,7 +2,7 @@
 -- Assumes nothing.
 use mathlib.Core.Path.{_≡_, refl, sym, ap, ap₂, _∙_}
 use Prim.Native.Nat.{ℕ, zero, suc, _+_, _-_, _*_, _≤_, _<_}
-use native.Mathlib.Nat.{suc-mul, add-zero, sub-self, le-refl}
+use native.Mathlib.Nat.{zero-mul, suc-mul, add-zero, sub-self, le-refl}
 use native.Mathlib.Omega.{arith}
 use mathlib.Core.List.{List, [], _∷_, _++_, map, append-assoc}
 use lib.ListN.{length, take, drop, getD, length-append, length-drop}
@@ -10,9 +10,7 @@ use lib.Seq.{take-add, drop-drop, length-take-le}
 use Rattle.array.specs.Lists.{from, joined, All}
 use Rattle.array.specs.Cells.{Value}
 use Rattle.array.specs.Offsets.{ends}
-use Rattle.array.proofs.Lists.{map-append}
-use Rattle.array.proofs.Sums.{sumOf, length-joined-map}
-use Rattle.extract.specs.Places.{fixedAt, Rises, stepAt, valueAt, valuesAt}
+use Rattle.extract.specs.Places.{fixedAt, Rises, stepAt, valueAt, bytesAt, valuesAt}
 
 -- ---- lists of values, one part after another
 
@@ -20,9 +18,9 @@ pub joined-append : {A : Type 0} (xs ys : List (List A)) → joined (xs ++ ys) �
 joined-append [] ys = refl
 joined-append (x ∷ xs) ys = ap (λ (r : List _). x ++ r) (joined-append xs ys) ∙ sym (append-assoc x (joined xs) (joined ys))
 
-pub sum-append : {A : Type 0} (f : A → ℕ) (xs ys : List A) → sumOf f (xs ++ ys) ≡ sumOf f xs + sumOf f ys
-sum-append f [] ys = omega arith
-sum-append f (x ∷ xs) ys = omega (arith, sum-append f xs ys)
+pub bytes-append : (off : ℕ → ℕ) (xs ys : List ℕ) → bytesAt off (xs ++ ys) ≡ bytesAt off xs + bytesAt off ys
+bytes-append off [] ys = omega arith
+bytes-append off (x ∷ xs) ys = omega (arith, bytes-append off xs ys)
 
 pub ends-append : (a : ℕ) (xs ys : List Value) → ends a (xs ++ ys) ≡ ends a xs ++ ends (a + length (joined xs)) ys
 ends-append a [] ys = ap (λ (k : ℕ). ends k ys) (sym (add-zero a))
@@ -37,6 +35,10 @@ fixed-step base k j = omega (arith, suc-mul j k)
 
 pub fixed-rises : (base k v : ℕ) → Rises (fixedAt base k) v
 fixed-rises base k v j h = omega (arith, suc-mul j k)
+
+pub fixed-total : (base k : ℕ) (js : List ℕ) → bytesAt (fixedAt base k) js ≡ length js * k
+fixed-total base k [] = sym (zero-mul k)
+fixed-total base k (j ∷ js) = omega (arith, fixed-step base k j, fixed-total base k js, suc-mul (length js) k)
 
 -- ---- a run of cells
 
@@ -66,11 +68,11 @@ module _ (off : ℕ → ℕ) (v : ℕ) (r : Rises off v) where
   pub run-long : (s : List ℕ) (a n : ℕ) → a + n ≤ v → off (a + n) ≤ length s → length (take (off (a + n) - off a) (drop (off a) s)) ≡ off (a + n) - off a
   run-long s a n h l = length-take-le (off (a + n) - off a) (drop (off a) s) (omega (arith, length-drop (off a) s))
 
-  pub run-sum : (a n : ℕ) → a + n ≤ v → sumOf (stepAt off) (from a n) ≡ off (a + n) - off a
-  run-sum a zero h = sym (sub-self (off a)) ∙ ap (λ (k : ℕ). off k - off a) (sym (add-zero a))
-  run-sum a (suc n) h =
+  pub run-total : (a n : ℕ) → a + n ≤ v → bytesAt off (from a n) ≡ off (a + n) - off a
+  run-total a zero h = sym (sub-self (off a)) ∙ ap (λ (k : ℕ). off k - off a) (sym (add-zero a))
+  run-total a (suc n) h =
       let q : suc a + n ≡ a + suc n = omega arith in
-      omega (arith, run-sum (suc a) n (omega arith), r a (omega arith), run-rises (suc a) n (omega arith), ap off q)
+      omega (arith, run-total (suc a) n (omega arith), r a (omega arith), run-rises (suc a) n (omega arith), ap off q)
 
   -- where its cells end, from t on
   run-ends-from : (s : List ℕ) (t a b n : ℕ) → a ≤ b → b + n ≤ v → off (b + n) ≤ length s → off a ≤ off b
@@ -92,11 +94,11 @@ module _ (off : ℕ → ℕ) (v : ℕ) (r : Rises off v) where
 
   -- ---- any cells
 
-  -- the bytes of cells number the sum of their steps
-  pub bytes-sum : (s : List ℕ) → off v ≤ length s → (js : List ℕ) → All (λ j. j < v) js → length (joined (valuesAt off s js)) ≡ sumOf (stepAt off) js
-  bytes-sum s l [] p = refl
-  bytes-sum s l (j ∷ js) p =
+  -- as many bytes as their steps say
+  pub bytes-long : (s : List ℕ) → off v ≤ length s → (js : List ℕ) → All (λ j. j < v) js → length (joined (valuesAt off s js)) ≡ bytesAt off js
+  bytes-long s l [] p = refl
+  bytes-long s l (j ∷ js) p =
       let top : off (suc j) ≤ off v = let q : suc j + (v - suc j) ≡ v = omega (arith, p .0) in omega (arith, run-rises (suc j) (v - suc j) (omega (arith, p .0)), ap off q) in
       let up : off j ≤ off (suc j) = r j (p .0) in
       let len : length (valueAt off s j) ≡ stepAt off j = length-take-le (stepAt off j) (drop (off j) s) (omega (arith, length-drop (off j) s)) in
-      omega (arith, length-append (valueAt off s j) (joined (valuesAt off s js)), bytes-sum s l js (p .1))
+      omega (arith, length-append (valueAt off s j) (joined (valuesAt off s js)), bytes-long s l js (p .1))

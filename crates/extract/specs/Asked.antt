@@ -1,7 +1,7 @@
 -- What the functions that walk over the rows of a subset ask of their callers.
 -- Assumes nothing.
 use mathlib.Core.Path.{_≡_}
-use Prim.Native.Nat.{ℕ, suc, _+_, _*_, _≤_}
+use Prim.Native.Nat.{ℕ, suc, _+_, _-_, _*_, _^_, _≤_, _<_}
 use mathlib.Core.List.{List}
 use lib.ListN.{length}
 use Rattle.array.specs.Limits.{mostBytes}
@@ -34,6 +34,12 @@ pub record OffsetsAsked (os shape : List ℕ) : Type 0 where
   pub many : length os ≡ suc (volume shape)
   pub rises : Rises (offsetAt os) (volume shape)
   pub small : offsetAt os (volume shape) ≤ mostBytes
+
+-- the offsets of n neighbours from the cell a on, with so many bytes before them
+pub record RowAsked (os : List ℕ) (a n total : ℕ) : Type 0 where
+  pub many : a + n < length os
+  pub rises : Rises (offsetAt os) (a + n)
+  pub few : total + (offsetAt os (a + n) - offsetAt os a) < 2 ^ 64
 
 -- ragged values: the array's lie between their offsets, the subset's have room in the outputs
 pub record RaggedAsked (outv outo values os shape cells : List ℕ) : Type 0 where

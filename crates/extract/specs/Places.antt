@@ -2,7 +2,7 @@
 -- fixed values lie at equal steps, ragged values between their offsets.
 -- Assumes nothing.
 use Prim.Native.Nat.{ℕ, zero, suc, _+_, _-_, _*_, _≤_, _<_}
-use mathlib.Core.List.{List, [], _++_, map}
+use mathlib.Core.List.{List, [], _∷_, _++_, map}
 use lib.ListN.{take, drop, getD}
 use Rattle.array.specs.Lists.{joined}
 use Rattle.array.specs.Kind.{Form, fixed, ragged}
@@ -30,7 +30,11 @@ stepAt off j = off (suc j) - off j
 abbrev pub valueAt : (ℕ → ℕ) → List ℕ → ℕ → Value
 valueAt off s j = take (stepAt off j) (drop (off j) s)
 
--- the values of the cells js
+-- how many bytes the cells js have, and their values
+abbrev pub bytesAt : (ℕ → ℕ) → List ℕ → ℕ
+bytesAt off [] = 0
+bytesAt off (j ∷ js) = stepAt off j + bytesAt off js
+
 abbrev pub valuesAt : (ℕ → ℕ) → List ℕ → List ℕ → List Value
 valuesAt off s js = map (valueAt off s) js
 
