@@ -3,6 +3,7 @@
 use mathlib.Core.Path.{_≡_, refl, sym, ap, ap₂, _∙_}
 use Prim.Native.Nat.{ℕ, zero, suc, _+_, _-_, _*_, _≤_, _<_}
 use native.Mathlib.Nat.{zero-mul, suc-mul, add-zero, sub-self, le-refl}
+use native.Mathlib.Numerals.{add-one}
 use native.Mathlib.Omega.{arith}
 use mathlib.Core.List.{List, [], _∷_, _++_, map, append-assoc}
 use lib.ListN.{length, take, drop, getD, length-append, length-drop}
@@ -48,6 +49,9 @@ module _ (off : ℕ → ℕ) (v : ℕ) (r : Rises off v) where
   run-rises a (suc n) h =
       let e : off (suc a + n) ≡ off (a + suc n) = let q : suc a + n ≡ a + suc n = omega arith in ap off q in
       omega (arith, r a (omega arith), run-rises (suc a) n (omega arith), e)
+
+  pub run-below : (a n : ℕ) → a + n ≤ v → off (a + n) ≤ off v
+  run-below a n h = let q : a + n + (v - (a + n)) ≡ v = omega arith in omega (arith, run-rises (a + n) (v - (a + n)) (omega arith), ap off q)
 
   -- its bytes are those from where it begins up to where it ends
   pub run-bytes : (s : List ℕ) (a n : ℕ) → a + n ≤ v → joined (valuesAt off s (from a n)) ≡ take (off (a + n) - off a) (drop (off a) s)
@@ -98,7 +102,7 @@ module _ (off : ℕ → ℕ) (v : ℕ) (r : Rises off v) where
   pub bytes-long : (s : List ℕ) → off v ≤ length s → (js : List ℕ) → All (λ j. j < v) js → length (joined (valuesAt off s js)) ≡ bytesAt off js
   bytes-long s l [] p = refl
   bytes-long s l (j ∷ js) p =
-      let top : off (suc j) ≤ off v = let q : suc j + (v - suc j) ≡ v = omega (arith, p .0) in omega (arith, run-rises (suc j) (v - suc j) (omega (arith, p .0)), ap off q) in
+      let top : off (suc j) ≤ off v = let q : j + 1 ≡ suc j = add-one j in omega (arith, run-below j 1 (omega (arith, p .0)), ap off q) in
       let up : off j ≤ off (suc j) = r j (p .0) in
       let len : length (valueAt off s j) ≡ stepAt off j = length-take-le (stepAt off j) (drop (off j) s) (omega (arith, length-drop (off j) s)) in
       omega (arith, length-append (valueAt off s j) (joined (valuesAt off s js)), bytes-long s l js (p .1))

@@ -21,7 +21,7 @@ use Rattle.array.proofs.Index.{few-drop, few-within}
 use Rattle.array.proofs.Rows.{within-cells, within-below, Left, left-begins, left-next, left-more, left-ends, left-room, left-within}
 use Rattle.extract.specs.Places.{fixedAt, Rises, stepAt, bytesAt, valuesAt, planesAt}
 use Rattle.extract.specs.Asked.{SubsetAsked}
-use Rattle.extract.proofs.Places.{joined-append, ends-append, bytes-append, fixed-rises, fixed-total, run-rises, run-bytes, run-long, run-total, run-ends, bytes-long}
+use Rattle.extract.proofs.Places.{joined-append, ends-append, bytes-append, fixed-rises, fixed-total, run-rises, run-below, run-bytes, run-long, run-total, run-ends, bytes-long}
 
 -- ---- what a subset that is asked for has
 
@@ -79,7 +79,7 @@ module _ (off : ℕ → ℕ) (v : ℕ) (r : Rises off v) (s cs : List ℕ) (p : 
   row-rises = run-rises off v r a n row-within
 
   pub row-below : off (a + n) ≤ off v
-  row-below = let q : a + n + (v - (a + n)) ≡ v = omega (arith, row-within) in omega (arith, run-rises off v r (a + n) (v - (a + n)) (omega (arith, row-within)), ap off q)
+  row-below = run-below off v r a n row-within
 
   pub row-source : off (a + n) ≤ length s
   row-source = omega (arith, row-below)
@@ -187,8 +187,7 @@ summed-more off v r cs p l cells n at total c h k e =
     let t : bytesAt off (drop at cs) ≡ k + bytesAt off (drop (at + n) cs) =
     ap (bytesAt off) (left-next cs cells n at (c .geo) h) ∙ bytes-append off (from a n) (drop (at + n) cs)
     ∙ ap (λ (x : ℕ). x + bytesAt off (drop (at + n) cs)) (run-total off v r a n w ∙ sym e) in
-    let q : a + n + (v - (a + n)) ≡ v = omega arith in
-    let top : off (a + n) ≤ off v = omega (arith, run-rises off v r (a + n) (v - (a + n)) (omega arith), ap off q) in
+    let top : off (a + n) ≤ off v = run-below off v r a n w in
     record {
       geo = left-more cs cells n at (c .geo) h;
       same = omega (arith, c .same, t);
