@@ -16,6 +16,7 @@ use Rattle.array.specs.Offsets.{ends}
 use Rattle.array.specs.Buffers.{over, overAt}
 use Rattle.array.proofs.Lists.{map-append, length-from}
 use Rattle.array.proofs.Offsets.{length-ends}
+use Rattle.array.proofs.Over.{over-store, over-again}
 use Rattle.array.proofs.Laying.{Laying, laying-begins, laying-same, laying-ends, laying-left, laying-part, laying-store, laying-is, laying-room}
 use Rattle.array.proofs.Index.{few-drop, few-within}
 use Rattle.array.proofs.Rows.{within-cells, within-below, Left, left-begins, left-next, left-more, left-ends, left-room, left-within}
@@ -143,6 +144,74 @@ module _ (off : ℕ → ℕ) (v : ℕ) (r : Rises off v) (s cs : List ℕ) (p : 
           length-ends 0 (valuesAt off s cs),
           length-map cs (λ j. take (stepAt off j) (drop (off j) s)),
         )
+
+-- ---- ragged values and where they end, in one loop
+
+pub record Ragged (off : ℕ → ℕ) (s cs oldv oldo ov oo : List ℕ) (cells n at total : ℕ) : Type 0 where
+  pub copied : Copied off s cs oldv 0 ov cells n at total
+  pub ended : Laying (ends 0 (valuesAt off s cs)) oldo 1 oo at (ends total (valuesAt off s (drop at cs)))
+
+module _ (off : ℕ → ℕ) (s cs : List ℕ) where
+  values-many : length (ends 0 (valuesAt off s cs)) ≡ length cs
+  values-many = length-ends 0 (valuesAt off s cs) ∙ length-map cs (λ j. take (stepAt off j) (drop (off j) s))
+
+  pub ragged-begins : (oldv oldo : List ℕ) (cells n : ℕ) → Left cs cells n 0 → length (joined (valuesAt off s cs)) ≤ length oldv → suc (length cs) ≤ length oldo
+      → Ragged off s cs oldv oldo oldv oldo cells n 0 0
+  ragged-begins oldv oldo cells n g h m = record {
+    copied = copied-begins off s cs oldv 0 cells n g (omega arith);
+    ended = laying-begins (ends 0 (valuesAt off s cs)) oldo 1 (omega (arith, values-many));
+  }
+
+  module _ (oldv oldo ov oo : List ℕ) (cells n at total : ℕ) (c : Ragged off s cs oldv oldo ov oo cells n at total) where
+    pub ragged-same : length ov ≡ length oldv
+    ragged-same = copied-same off s cs oldv 0 ov cells n at total (c .copied)
+
+    pub ragged-same-offsets : length oo ≡ length oldo
+    ragged-same-offsets = laying-same (ends 0 (valuesAt off s cs)) oldo 1 oo at (ends total (valuesAt off s (drop at cs))) (c .ended)
+
+    module _ (h : cells ≤ at) where
+      pub ragged-values : ov ≡ over (joined (valuesAt off s cs)) oldv
+      ragged-values = copied-ends off s cs oldv 0 ov cells n at total (c .copied) h
+
+      pub ragged-offsets : oo ≡ overAt 1 (ends 0 (valuesAt off s cs)) oldo
+      ragged-offsets =
+          laying-ends (ends 0 (valuesAt off s cs)) oldo 1 oo at
+          (laying-is (c .ended) (ap (λ (js : List ℕ). ends total (valuesAt off s js)) (left-ends cs cells n at (c .copied .geo) h)))
+
+    -- the next row, from the cell b on
+    module _ (v : ℕ) (r : Rises off v) (p : All (λ j. j < v) cs) (l : off v ≤ length s) (h : at < cells) (b : ℕ) (e : b ≡ getD cs at 0) where
+      abbrev step : ℕ
+      step = off (b + n) - off b
+
+      step-is : step ≡ off (getD cs at 0 + n) - off (getD cs at 0)
+      step-is = ap (λ (x : ℕ). off (x + n) - off x) e
+
+      pub ragged-within : b + n ≤ v
+      ragged-within = omega (arith, row-within off v r s cs p l cells n at (c .copied .geo) h)
+
+      pub ragged-rises : off b ≤ off (b + n)
+      ragged-rises = run-rises off v r b n ragged-within
+
+      pub ragged-source : off b + step ≤ length s
+      ragged-source = omega (arith, ragged-rises, run-below off v r b n ragged-within)
+
+      pub ragged-room : total + step ≤ length ov
+      ragged-room = omega (arith, step-is, row-room off v r s cs p l cells n at (c .copied .geo) h oldv 0 ov total (c .copied .laid))
+
+      pub ragged-room-offsets : at + 1 + n ≤ length oo
+      ragged-room-offsets = row-ends-room off v r s cs p l cells n at (c .copied .geo) h oldo oo total (c .ended)
+
+      pub ragged-more : (ov′ oo′ : List ℕ) → ov′ ≡ overAt total (take step (drop (off b) s)) ov → oo′ ≡ overAt (at + 1) (map (λ j. total + (off (suc j) - off b)) (from b n)) oo
+          → Ragged off s cs oldv oldo ov′ oo′ cells n (at + n) (total + step)
+      ragged-more ov′ oo′ q w = record {
+        copied = row-copied off v r s cs p l cells n at (c .copied .geo) h oldv 0 ov total (c .copied .laid) (off b) step (ap off e) step-is ov′
+            (q ∙ ap (λ (x : ℕ). overAt x (take step (drop (off b) s)) ov) (sym (zero-add total)));
+        ended = row-ended off v r s cs p l cells n at (c .copied .geo) h oldo oo total (c .ended) b step e step-is oo′ w;
+      }
+
+-- one element stored at the front, and what is laid behind it
+pub first-then : (d : List ℕ) (x : ℕ) (g : List ℕ) → 1 ≤ length d → overAt 1 g (set d 0 x) ≡ over (x ∷ g) d
+first-then d x g h = ap (overAt 1 g) (over-store [] d 0 x refl (omega arith)) ∙ over-again (x ∷ []) g d 1 refl
 
 -- the next row of cells at equal steps
 module _ (base k v : ℕ) (s cs : List ℕ) (p : All (λ j. j < v) cs) (l : base + v * k ≤ length s) (cells n at : ℕ) (g : Left cs cells n at) (h : at < cells) (b : ℕ) (e : b ≡ getD cs at 0) where

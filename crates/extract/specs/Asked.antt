@@ -6,10 +6,11 @@ use mathlib.Core.List.{List}
 use lib.ListN.{length}
 use Rattle.array.specs.Limits.{mostBytes}
 use Rattle.array.specs.Lists.{joined}
+use Rattle.array.specs.Kind.{Kind, Form, fixed, ragged}
 use Rattle.array.specs.Shape.{volume, ShapeOk}
-use Rattle.array.specs.Subset.{pairs, cellsIn}
 use Rattle.array.specs.Rows.{Within}
-use Rattle.extract.specs.Places.{offsetAt, Rises, valuesAt}
+use Rattle.array.specs.Content.{Content, ContentOk, offsetsFor}
+use Rattle.extract.specs.Places.{beginsAt, offsetAt, Rises, valuesAt}
 
 -- a subset of so many cells, within its shape
 pub record SubsetAsked (shape starts lens : List ℕ) (count : ℕ) : Type 0 where
@@ -47,3 +48,21 @@ pub record RaggedAsked (outv outo values os shape cells : List ℕ) : Type 0 whe
   pub source : offsetAt os (volume shape) ≤ length values
   pub room : length (joined (valuesAt (offsetAt os) values cells)) ≤ length outv
   pub room-offsets : suc (length cells) ≤ length outo
+
+-- ---- for values of either form
+
+abbrev pub OffsetsFor : Form → List ℕ → List ℕ → Type 0
+OffsetsFor (fixed k o) os shape = Unit {0}
+OffsetsFor (ragged w p) os shape = OffsetsAsked os shape
+
+pub record ValuesAsked (form : Form) (outv outo values os shape cells : List ℕ) : Type 0 where
+  pub offsets : OffsetsFor form os shape
+  pub source : beginsAt form os (volume shape) ≤ length values
+  pub room : length (joined (valuesAt (beginsAt form os) values cells)) ≤ length outv
+  pub room-offsets : length (offsetsFor form (valuesAt (beginsAt form os) values cells)) ≤ length outo
+
+-- an array that keeps the rules, of so many cells
+pub record ArrayAsked (k : Kind) (cells : ℕ) (shape : List ℕ) (c : Content) : Type 0 where
+  pub whole : cells ≡ volume shape
+  pub content : ContentOk k (volume shape) c
+  pub small : length (c .values) ≤ mostBytes
