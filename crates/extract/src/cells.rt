@@ -1,7 +1,6 @@
 // Masks and fixed values of the cells of a subset, copied row by row: a row of neighbours is one run of bytes.
 use array::copy;
 use array::subset;
-
 ghost use mathlib.Core.Path.{_≡_};
 ghost use Prim.Native.Nat.{ℕ, _*_};
 ghost use Rattle.array.specs.Lists.{joined};
@@ -56,7 +55,17 @@ pub fn copy_masks(
 {
     let mut level: usize = 0;
     while level < depth {
-        copy_cells(out, level * count, src, level * cells, 1, shape, starts, lens, count);
+        copy_cells(
+            out,
+            level * count,
+            src,
+            level * cells,
+            1,
+            shape,
+            starts,
+            lens,
+            count,
+        );
         level += 1;
     }
 }

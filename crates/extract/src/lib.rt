@@ -5,7 +5,6 @@ use array::kind::Kind;
 use array::kind::Values;
 use array::refusal;
 use array::shape::Cells;
-
 ghost use mathlib.Core.Path.{_≡_};
 ghost use Prim.Native.Nat.{ℕ, _≤_};
 ghost use Rattle.array.specs.Lists.{joined};
@@ -73,8 +72,27 @@ fn copy_values(
         (cellsIn (now (shape .entry)) (pairs (now (starts .entry)) (now (lens .entry)))))) (now («out_offsets» .entry)) ⌝ }
 {
     match form {
-        Values::Fixed(size, _) => cells::copy_cells(out_values, 0, values, 0, size as usize, shape, starts, lens, count),
-        Values::Ragged(_, _) => ragged::copy_ragged(out_values, out_offsets, values, offsets, shape, starts, lens, count),
+        Values::Fixed(size, _) => cells::copy_cells(
+            out_values,
+            0,
+            values,
+            0,
+            size as usize,
+            shape,
+            starts,
+            lens,
+            count,
+        ),
+        Values::Ragged(_, _) => ragged::copy_ragged(
+            out_values,
+            out_offsets,
+            values,
+            offsets,
+            shape,
+            starts,
+            lens,
+            count,
+        ),
     }
 }
 
@@ -114,7 +132,17 @@ fn cut_valid(
         return WrittenArray::Refused(refusal::OUTPUT);
     }
     cells::copy_masks(out_masks, masks, depth, cells, shape, starts, lens, count);
-    copy_values(form, out_values, out_offsets, values, offsets, shape, starts, lens, count);
+    copy_values(
+        form,
+        out_values,
+        out_offsets,
+        values,
+        offsets,
+        shape,
+        starts,
+        lens,
+        count,
+    );
     WrittenArray::Lengths(mask_bytes, bytes, numbers)
 }
 

@@ -1,7 +1,6 @@
 // Ragged values and offsets of the cells of a subset: the bytes of a row are one run, its offsets are counted anew.
 use array::copy;
 use array::subset;
-
 ghost use mathlib.Core.Path.{_≡_};
 ghost use mathlib.Core.List.{map};
 ghost use Prim.Native.Nat.{ℕ, suc, _+_, _-_, _<_, _≤_};
@@ -15,7 +14,13 @@ ghost use Rattle.extract.specs.Places.{offsetAt, Rises, bytesAt, valuesA
 ghost use Rattle.extract.specs.Asked.{SubsetAsked, OffsetsAsked, RowAsked, RaggedAsked};
 
 // How many bytes the cells of a subset have.
-pub fn count_bytes(offsets: &[u64], shape: &[u64], starts: &[u64], lens: &[u64], count: usize) -> usize
+pub fn count_bytes(
+    offsets: &[u64],
+    shape: &[u64],
+    starts: &[u64],
+    lens: &[u64],
+    count: usize,
+) -> usize
     requires { ⌜ SubsetAsked (now shape) (now starts) (now lens) count × OffsetsAsked (now offsets) (now shape) ⌝ }
     ensures { λ r. ⌜ r ≡ bytesAt (offsetAt (now (offsets .entry))) (cellsIn (now (shape .entry)) (pairs (now (starts .entry)) (now (lens .entry)))) ⌝ }
 {
@@ -101,5 +106,14 @@ pub fn copy_ragged(
         (cellsIn (now (shape .entry)) (pairs (now (starts .entry)) (now (lens .entry)))))) (now («out_offsets» .entry)) ⌝ }
 {
     out_offsets[0] = 0;
-    copy_rows(out_values, out_offsets, values, offsets, shape, starts, lens, count);
+    copy_rows(
+        out_values,
+        out_offsets,
+        values,
+        offsets,
+        shape,
+        starts,
+        lens,
+        count,
+    );
 }

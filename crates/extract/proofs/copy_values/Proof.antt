@@ -19,10 +19,11 @@ copy-cells-requires : tie.Need-copy-cells-requires
 copy-cells-requires c κs =
     let f = c .before .before .form .given in
     let s = c .before .before .before .before .before .before .before .before .before .before .before in
-    let a = s .args in
-    (s .pre .0,
-    cells-asked (a .out-values .now) (a .out-offsets .now) (a .values .now) (a .offsets .now) (a .shape .now) (cellsIn (a .shape .now) (pairs (a .starts .now) (a .lens .now))) (f .0 .0) (orderOf (f .0 .1 .0))
-    (asked-below _ _ _ _ (s .pre .0)) (a .count) (asked-count _ _ _ _ (s .pre .0)) (rw (f .1) at (s .pre .1)))
+    let a = s .args in (
+      s .pre .0,
+      cells-asked (a .out-values .now) (a .out-offsets .now) (a .values .now) (a .offsets .now) (a .shape .now) (cellsIn (a .shape .now) (pairs (a .starts .now) (a .lens .now))) (f .0 .0) (orderOf (f .0 .1 .0))
+          (asked-below _ _ _ _ (s .pre .0)) (a .count) (asked-count _ _ _ _ (s .pre .0)) (rw (f .1) at (s .pre .1)),
+    )
 
 enum-told : tie.Need-enum-told
 enum-told c = search needs
@@ -31,10 +32,11 @@ copy-ragged-requires : tie.Need-copy-ragged-requires
 copy-ragged-requires c κs =
     let f = c .before .before .enum-told .given in
     let s = c .before .before .before .before .before .before .before .before .before .before .before in
-    let a = s .args in
-    (s .pre .0,
-    ragged-asked (a .out-values .now) (a .out-offsets .now) (a .values .now) (a .offsets .now) (a .shape .now) (cellsIn (a .shape .now) (pairs (a .starts .now) (a .lens .now)))
-    (widthOf (f .0 .0)) (placeOf (f .0 .1 .0)) (rw (f .1) at (s .pre .1)))
+    let a = s .args in (
+      s .pre .0,
+      ragged-asked (a .out-values .now) (a .out-offsets .now) (a .values .now) (a .offsets .now) (a .shape .now) (cellsIn (a .shape .now) (pairs (a .starts .now) (a .lens .now)))
+          (widthOf (f .0 .0)) (placeOf (f .0 .1 .0)) (rw (f .1) at (s .pre .1)),
+    )
 
 same-length : tie.Need-same-length
 same-length c = search needs

@@ -120,9 +120,11 @@ copy-values-requires c κs =
     let f = c .before .before .before .before .before .before in
     let o = f .before in
     let b = o .before .before in
-    let v = b .before .before in
-    (asked v, cut-values-asked (kind v) (start v .args .cells) (shape v) (starts v) (lens v) (array v) (count v) (asked v) (kept v) (start v .args .out-values .now) (start v .args .out-offsets .now)
-    (omega (arith, values-need b, o .before .if2 .left)) (omega (arith, offsets-need o, f .if3 .left)))
+    let v = b .before .before in (
+      asked v,
+      cut-values-asked (kind v) (start v .args .cells) (shape v) (starts v) (lens v) (array v) (count v) (asked v) (kept v) (start v .args .out-values .now) (start v .args .out-offsets .now)
+          (omega (arith, values-need b, o .before .if2 .left)) (omega (arith, offsets-need o, f .if3 .left)),
+    )
 
 same-length : tie.Need-same-length
 same-length c = search needs

@@ -19,13 +19,15 @@ slice-write-out-offsets c = let a = c .before .before .before .before .before .b
 copy-rows-requires : tie.Need-copy-rows-requires
 copy-rows-requires c κs =
     let a = c .before .before .before .before .before .before .before .before .before in
-    let p = a .pre .1 in
-    (a .pre .0, record {
-      offsets = p .offsets;
-      source = p .source;
-      room = p .room;
-      room-offsets = omega (arith, p .room-offsets, length-set (a .args .out-offsets .now) 0 0);
-    })
+    let p = a .pre .1 in (
+      a .pre .0,
+      record {
+        offsets = p .offsets;
+        source = p .source;
+        room = p .room;
+        room-offsets = omega (arith, p .room-offsets, length-set (a .args .out-offsets .now) 0 0);
+      },
+    )
 
 same-length : tie.Need-same-length
 same-length c = search needs
@@ -37,10 +39,11 @@ returns : tie.Need-returns
 returns c =
     let r = c .before .before .before .before in
     let a = r .before .before .before .before .before .before .before .before .before .before in
-    let cells = cellsIn (a .args .shape .now) (pairs (a .args .starts .now) (a .args .lens .now)) in
-    (r .copy-rows .ensures .0,
-    r .copy-rows .ensures .1
-    ∙ first-then (a .args .out-offsets .now) 0 (ends 0 (valuesAt (offsetAt (a .args .offsets .now)) (a .args .values .now) cells)) (omega (arith, a .pre .1 .room-offsets)))
+    let cells = cellsIn (a .args .shape .now) (pairs (a .args .starts .now) (a .args .lens .now)) in (
+      r .copy-rows .ensures .0,
+      r .copy-rows .ensures .1
+          ∙ first-then (a .args .out-offsets .now) 0 (ends 0 (valuesAt (offsetAt (a .args .offsets .now)) (a .args .values .now) cells)) (omega (arith, a .pre .1 .room-offsets)),
+    )
 
 pub copy-ragged-spec : {M : Type 1} → statement M
 copy-ragged-spec =

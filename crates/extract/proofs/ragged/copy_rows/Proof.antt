@@ -165,12 +165,14 @@ add-store-ends c =
 store-ends-requires : tie.Need-store-ends-requires Inv-loop μ-loop
 store-ends-requires c κs =
     let k = c .before .before .before .before .before .before .before in
-    let a = start k in
-    (room-offsets k, record {
-      many = omega (arith, inside k, a .pre .1 .offsets .many);
-      rises = λ j h. a .pre .1 .offsets .rises j (omega (arith, inside k));
-      few = omega (arith, room k, same (head k), short-values a);
-    })
+    let a = start k in (
+      room-offsets k,
+      record {
+        many = omega (arith, inside k, a .pre .1 .offsets .many);
+        rises = λ j h. a .pre .1 .offsets .rises j (omega (arith, inside k));
+        few = omega (arith, room k, same (head k), short-values a);
+      },
+    )
 
 add-total : tie.Need-add-total Inv-loop μ-loop
 add-total c =
@@ -208,11 +210,12 @@ same-length-2 c = same-offsets (c .before)
 returns : tie.Need-returns Inv-loop μ-loop
 returns c =
     let l = c .before in
-    let a = begun l in
-    (ragged-values (off a) (a .args .values .now) (cells a) (a .args .out-values .now) (a .args .out-offsets .now) (l .loop .out-values) (l .loop .out-offsets) (a .args .count) (row a) (l .loop .at)
-    (l .loop .total) (l .loop .inv) (c .loop-test .left),
-    ragged-offsets (off a) (a .args .values .now) (cells a) (a .args .out-values .now) (a .args .out-offsets .now) (l .loop .out-values) (l .loop .out-offsets) (a .args .count) (row a) (l .loop .at)
-    (l .loop .total) (l .loop .inv) (c .loop-test .left))
+    let a = begun l in (
+      ragged-values (off a) (a .args .values .now) (cells a) (a .args .out-values .now) (a .args .out-offsets .now) (l .loop .out-values) (l .loop .out-offsets) (a .args .count) (row a) (l .loop .at)
+          (l .loop .total) (l .loop .inv) (c .loop-test .left),
+      ragged-offsets (off a) (a .args .values .now) (cells a) (a .args .out-values .now) (a .args .out-offsets .now) (l .loop .out-values) (l .loop .out-offsets) (a .args .count) (row a) (l .loop .at)
+          (l .loop .total) (l .loop .inv) (c .loop-test .left),
+    )
 
 pub copy-rows-spec : {M : Type 1} → statement M
 copy-rows-spec =

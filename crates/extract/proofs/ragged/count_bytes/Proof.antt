@@ -47,8 +47,11 @@ start k = k .before .before .before .before .before .before .before .before
 inside : (k : Known) → k .cell-at .result + row (start k) ≤ volume (start k .args .shape .now)
 inside k =
     let a = start k in
-    omega (arith, k .cell-at .ensures,
-    left-room (cells a) (a .args .count) (row a) (k .before .before .loop .at) (k .before .before .loop .inv .geo) (k .before .loop-test .taken) (volume (a .args .shape .now)) (asked-below _ _ _ _ (a .pre .0)))
+    omega (
+      arith,
+      k .cell-at .ensures,
+      left-room (cells a) (a .args .count) (row a) (k .before .before .loop .at) (k .before .before .loop .inv .geo) (k .before .loop-test .taken) (volume (a .args .shape .now)) (asked-below _ _ _ _ (a .pre .0)),
+    )
 
 rises : (k : Known) → off (start k) (k .cell-at .result) ≤ off (start k) (k .cell-at .result + row (start k))
 rises k = let a = start k in run-rises (off a) (volume (a .args .shape .now)) (a .pre .1 .rises) (k .cell-at .result) (row a) (inside k)
