@@ -1,18 +1,41 @@
--- The loop that copies the rows of a subset out of the stored bytes: a turn of it. The data begins at `source`.
+-- The values of a subset's cells in the stored bytes, whose data begins at `source`: how many bytes and offsets they need, and a turn of
+-- the loop that copies them row by row.
 -- Assumes nothing.
 use mathlib.Core.Path.{_≡_, sym, ap, ap₂, _∙_, subst}
 use Prim.Native.Nat.{ℕ, suc, _+_, _-_, _≤_, _<_}
 use native.Mathlib.Omega.{arith}
 use mathlib.Core.List.{List, map}
-use lib.ListN.{length, take, drop, getD, length-drop}
+use lib.ListN.{length, take, drop, getD, length-drop, length-map}
 use lib.Seq.{drop-drop}
-use Rattle.array.specs.Lists.{from, All}
+use Rattle.array.specs.Lists.{from, joined, All}
+use Rattle.array.specs.Shape.{volume}
+use Rattle.array.specs.Subset.{pairs, cellsIn}
+use Rattle.array.specs.Offsets.{offsetsOf}
 use Rattle.array.specs.Buffers.{overAt}
+use Rattle.array.proofs.Offsets.{length-ends}
 use Rattle.array.proofs.Rows.{left-some, left-within}
-use Rattle.extract.specs.Places.{Rises}
-use Rattle.extract.proofs.Walk.{Ragged, ragged-within, ragged-rises, ragged-source, ragged-room, ragged-room-offsets, ragged-more}
+use Rattle.extract.specs.Places.{Rises, bytesAt, valueAt, valuesAt}
+use Rattle.extract.specs.Asked.{SubsetAsked}
+use Rattle.extract.proofs.Places.{bytes-long}
+use Rattle.extract.proofs.Walk.{asked-below, asked-count, Ragged, ragged-within, ragged-rises, ragged-source, ragged-room, ragged-room-offsets, ragged-more}
+use Rattle.partial.specs.Stored.{storedAt, DataAsked}
 
--- the next row: n neighbours from the cell b on, of v cells
+-- ---- what they need
+
+module _ (shape starts lens : List ℕ) (count : ℕ) (a : SubsetAsked shape starts lens count) where
+  abbrev cells : List ℕ
+  cells = cellsIn shape (pairs starts lens)
+
+  pub need-values : (w : ℕ) (s : List ℕ) (index source : ℕ) → DataAsked w s index source (volume shape)
+      → length (joined (valuesAt (storedAt w s index) (drop source s) (cellsIn shape (pairs starts lens)))) ≡ bytesAt (storedAt w s index) (cellsIn shape (pairs starts lens))
+  need-values w s index source d =
+      bytes-long (storedAt w s index) (volume shape) (d .index-asked .rises) (drop source s) (omega (arith, length-drop source s, d .data-room)) cells (asked-below shape starts lens count a)
+
+  pub need-offsets : (off : ℕ → ℕ) (s : List ℕ) → length (offsetsOf (valuesAt off s (cellsIn shape (pairs starts lens)))) ≡ count + 1
+  need-offsets off s =
+      omega (arith, length-ends 0 (valuesAt off s cells), length-map cells (valueAt off s), asked-count shape starts lens count a)
+
+-- ---- the next row: n neighbours from the cell b on, of v cells
 pub record NextRow (off : ℕ → ℕ) (s : List ℕ) (source v : ℕ) (ov oo : List ℕ) (cells n at total b : ℕ) : Type 0 where
   pub some : 1 ≤ n
   pub left : at + n ≤ cells
