@@ -46,7 +46,7 @@ pub record NextRow (off : ℕ → ℕ) (s : List ℕ) (source v : ℕ) (ov oo : 
   pub room-offsets : at + 1 + n ≤ length oo
 
 module _ (off : ℕ → ℕ) (s : List ℕ) (source : ℕ) (cs oldv oldo ov oo : List ℕ) (cells n at total : ℕ) (c : Ragged off (drop source s) cs oldv oldo ov oo cells n at total)
-  (v : ℕ) (r : Rises off v) (p : All (λ j. j < v) cs) (l : source + off v ≤ length s) (h : at < cells) (b : ℕ) (e : b ≡ getD cs at 0) where
+    (v : ℕ) (r : Rises off v) (p : All (λ j. j < v) cs) (l : source + off v ≤ length s) (h : at < cells) (b : ℕ) (e : b ≡ getD cs at 0) where
   within-data : off v ≤ length (drop source s)
   within-data = omega (arith, length-drop source s)
 
