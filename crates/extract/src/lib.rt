@@ -6,7 +6,7 @@ use array::kind::Values;
 use array::refusal;
 use array::shape::Cells;
 ghost use mathlib.Core.Path.{_≡_};
-ghost use Prim.Native.Nat.{ℕ, _≤_};
+ghost use Prim.Native.Nat.{_≤_};
 ghost use Rattle.array.specs.Lists.{joined};
 ghost use Rattle.array.specs.Shape.{volume};
 ghost use Rattle.array.specs.Subset.{pairs, cellsIn};

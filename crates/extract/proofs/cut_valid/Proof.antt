@@ -8,8 +8,7 @@ use borrow.Author.Needs.{needs}
 use lib.ListN.{length}
 use Rattle.array.specs.Limits.{mostCells}
 use Rattle.array.specs.Kind.{Kind}
-use Rattle.array.specs.Shape.{volume}
-use Rattle.array.specs.Subset.{pairs, cellsIn}
+use Rattle.array.specs.Subset.{pairs}
 use Rattle.array.specs.Content.{Content}
 use Rattle.array.specs.Buffers.{over}
 use Rattle.array.specs.Meaning.{kindOf}

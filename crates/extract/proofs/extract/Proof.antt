@@ -1,6 +1,6 @@
 -- `extract` meets its contract: each refusal in its order (proofs/Outcomes), then the cut of an array that keeps the rules.
 -- Assumes nothing.
-use Prim.Native.Nat.{ℕ, _≤_}
+use Prim.Native.Nat.{ℕ}
 use mathlib.Core.Path.{_≡_, refl, sym, ap, _∙_}
 use mathlib.Core.Bool.{true}
 use mathlib.Core.List.{List}
