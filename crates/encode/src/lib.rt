@@ -1,0 +1,1 @@
+// Layer 2, writing: an array into its stored form.
