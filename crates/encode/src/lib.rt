@@ -1,1 +1,2 @@
 // Layer 2, writing: an array into its stored form.
+mod live;
