@@ -14,3 +14,6 @@ pub mod Meaning
 pub mod Check
 pub mod Numbers
 pub mod Field
+pub mod ShapeCells
+pub mod Outcome
+pub mod Rows

@@ -2,6 +2,9 @@
 pub mod answer;
 pub mod array_bytes;
 pub mod copy;
+pub mod endian;
 pub mod field;
 pub mod kind;
 pub mod refusal;
+pub mod shape;
+pub mod subset;
