@@ -17,11 +17,10 @@ use Rattle.array.proofs.Lists.{All-of}
 use Rattle.array.proofs.Geometry.{passing-all}
 use Rattle.codec.specs.Mask.{byteMask}
 use Rattle.codec.specs.Frame.{keepOne, keep, wrap, unlessNone, frame}
-use Rattle.codec.specs.Ragged.{putRagged}
 use Rattle.codec.specs.Values.{putValues}
 use Rattle.codec.specs.Calls.{written, storedForm}
-use Rattle.encode.specs.Live.{setBy, maskAt, liveTest, liveAt, valueAt}
-use Rattle.encode.specs.Stored.{storedFrom}
+use Rattle.encode.specs.Live.{setBy, maskAt, liveTest, liveAt, pieceAt, sliceAt, valueAt}
+use Rattle.encode.specs.Stored.{storedFrom, storedBy}
 
 -- ---- lists by their elements
 
@@ -71,30 +70,29 @@ module _ (n : ℕ) (masks : List ℕ) (val : ℕ → Value) where
 
 -- ---- values
 
-pieces-at : (k n a : ℕ) (s : List ℕ) → pieces k n (drop (a * k) s) ≡ map (λ i. take k (drop (i * k) s)) (from a n)
-pieces-at k zero a s = refl
-pieces-at k (suc n) a s =
-    ap (λ (r : List Value). take k (drop (a * k) s) ∷ r)
-    (ap (pieces k n) (drop-drop k (a * k) s ∙ ap (λ (m : ℕ). drop m s) (sym (suc-mul a k))) ∙ pieces-at k n (suc a) s)
+pub pieces-at : (at k n a : ℕ) (s : List ℕ) → pieces k n (drop (at + a * k) s) ≡ map (pieceAt at k s) (from a n)
+pieces-at at k zero a s = refl
+pieces-at at k (suc n) a s =
+    let q : at + a * k + k ≡ at + suc a * k = omega (arith, suc-mul a k) in
+    ap (λ (r : List Value). take k (drop (at + a * k) s) ∷ r)
+    (ap (pieces k n) (drop-drop k (at + a * k) s ∙ ap (λ (m : ℕ). drop m s) q) ∙ pieces-at at k n (suc a) s)
 
-slices-at : (a : ℕ) (os s : List ℕ)
-    → slicesFrom a os s ≡ map (λ i. take (getD (a ∷ os) (suc i) 0 - getD (a ∷ os) i 0) (drop (getD (a ∷ os) i 0) s)) (from 0 (length os))
+slices-at : (a : ℕ) (os s : List ℕ) → slicesFrom a os s ≡ map (sliceAt (a ∷ os) s) (from 0 (length os))
 slices-at a [] s = refl
 slices-at a (b ∷ bs) s =
-    ap (λ (r : List Value). take (b - a) (drop a s) ∷ r)
-    (slices-at b bs s ∙ sym (from-suc (λ i. take (getD (a ∷ b ∷ bs) (suc i) 0 - getD (a ∷ b ∷ bs) i 0) (drop (getD (a ∷ b ∷ bs) i 0) s)) 0 (length bs)))
+    ap (λ (r : List Value). take (b - a) (drop a s) ∷ r) (slices-at b bs s ∙ sym (from-suc (sliceAt (a ∷ b ∷ bs) s) 0 (length bs)))
 
 pub values-at : (f : Form) (n : ℕ) (c : Content) → ValuesOk f n c → valuesIn f n c ≡ map (valueAt f c) (from 0 n)
-values-at (fixed k o) n c p = ap (pieces k n) (ap (λ (m : ℕ). drop m (c .values)) (sym (zero-mul k))) ∙ pieces-at k n 0 (c .values)
+values-at (fixed k o) n c p =
+    let q : 0 ≡ 0 + 0 * k = omega (arith, zero-mul k) in
+    ap (λ (m : ℕ). pieces k n (drop m (c .values))) q ∙ pieces-at 0 k n 0 (c .values)
 values-at (ragged w q) n c p = go (c .offsets) (p .0)
   where
-    go : (os : List ℕ) → length os ≡ suc n
-        → slices os (c .values) ≡ map (λ i. take (getD os (suc i) 0 - getD os i 0) (drop (getD os i 0) (c .values))) (from 0 n)
+    go : (os : List ℕ) → length os ≡ suc n → slices os (c .values) ≡ map (sliceAt os (c .values)) (from 0 n)
     go [] e = absurd (omega arith)
     go (a ∷ bs) e =
         let e′ : length bs ≡ n = omega arith in
-        slices-at a bs (c .values)
-        ∙ ap (λ (m : ℕ). map (λ i. take (getD (a ∷ bs) (suc i) 0 - getD (a ∷ bs) i 0) (drop (getD (a ∷ bs) i 0) (c .values))) (from 0 m)) e′
+        slices-at a bs (c .values) ∙ ap (λ (m : ℕ). map (sliceAt (a ∷ bs) (c .values)) (from 0 m)) e′
 
 -- the cells of valid content, each by its number
 cells-at : (k : Kind) (n : ℕ) (c : Content) → ContentOk k n c
@@ -142,12 +140,6 @@ from-frame f n c (suc d) l =
     (λ is. wrap (map (maskAt n (c .masks) l) is) (storedFrom f n c d (suc l))) (liveAt n (c .masks) l)
     (ap₂ wrap (masks-at n (c .masks) (valueAt f c) d l (liveAt n (c .masks) l))
     (ap (unlessNone (frame byteMask (putValues f) d)) (keep-at n (c .masks) (valueAt f c) d l (from 0 n)) ∙ from-frame f n c d (suc l)))
-
--- at depth 0 ragged values are written as they are, and all else is written from level 0
-abbrev pub storedBy : Form → ℕ → Content → (d : ℕ) → List ℕ
-storedBy (fixed k o) n c d = storedFrom (fixed k o) n c d 0
-storedBy (ragged w p) n c zero = putRagged w p (record { values = c .values; offsets = c .offsets })
-storedBy (ragged w p) n c (suc d) = storedFrom (ragged w p) n c (suc d) 0
 
 unless-some : {A : Type 0} (f : List A → List ℕ) (g : ℕ → A) (n : ℕ) → 1 ≤ n → unlessNone f (map g (from 0 n)) ≡ f (map g (from 0 n))
 unless-some f g zero h = absurd (omega arith)

@@ -32,7 +32,27 @@ abbrev pub runOf : (ℕ → Bool) → ℕ → ℕ → ℕ
 runOf t i zero = zero
 runOf t i (suc m) = pick (t i) (suc (runOf t (suc i) m)) zero
 
+-- piece i of size k, of those that begin at `at`
+abbrev pub pieceAt : ℕ → ℕ → List ℕ → ℕ → List ℕ
+pieceAt at k s i = take k (drop (at + i * k) s)
+
+-- how long the value between offsets i and i + 1 is, and the value
+abbrev pub spanAt : List ℕ → ℕ → ℕ
+spanAt os i = getD os (suc i) 0 - getD os i 0
+
+abbrev pub sliceAt : List ℕ → List ℕ → ℕ → Value
+sliceAt os s i = take (spanAt os i) (drop (getD os i 0) s)
+
 -- the value of cell i
 abbrev pub valueAt : Form → Content → ℕ → Value
-valueAt (fixed k o) c i = take k (drop (i * k) (c .values))
-valueAt (ragged w p) c i = take (getD (c .offsets) (suc i) 0 - getD (c .offsets) i 0) (drop (getD (c .offsets) i 0) (c .values))
+valueAt (fixed k o) c i = pieceAt 0 k (c .values) i
+valueAt (ragged w p) c i = sliceAt (c .offsets) (c .values) i
+
+-- of the cells in the list: how many value bytes they have, and where each ends when they lie end to end from a
+abbrev pub spansOf : List ℕ → List ℕ → ℕ
+spansOf os [] = 0
+spansOf os (i ∷ is) = spanAt os i + spansOf os is
+
+abbrev pub endsAt : List ℕ → ℕ → List ℕ → List ℕ
+endsAt os a [] = []
+endsAt os a (i ∷ is) = (a + spanAt os i) ∷ endsAt os (a + spanAt os i) is
