@@ -1,2 +1,3 @@
 // Layer 2, writing: an array into its stored form.
 mod live;
+mod cells;
