@@ -1,3 +1,5 @@
 pub mod Walk
 pub mod Runs
 pub mod Gathering
+pub mod Spans
+pub mod Placing

@@ -1,2 +1,3 @@
 pub mod Live
+pub mod Place
 pub mod Stored
