@@ -3,3 +3,5 @@ pub mod Runs
 pub mod Gathering
 pub mod Spans
 pub mod Placing
+pub mod RaggedLaws
+pub mod Levels

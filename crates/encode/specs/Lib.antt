@@ -1,3 +1,4 @@
 pub mod Live
 pub mod Place
+pub mod Ready
 pub mod Stored

@@ -7,16 +7,18 @@ use array::kind::IndexWidth;
 use crate::live;
 
 ghost use mathlib.Core.Path.{_≡_};
-ghost use mathlib.Core.List.{map};
+ghost use mathlib.Core.List.{_∷_, map};
 ghost use Prim.Native.Nat.{suc, _+_, _*_, _<_, _≤_};
 ghost use lib.ListN.{length, getD};
-ghost use Rattle.array.specs.Buffers.{overAt};
+ghost use Rattle.array.specs.Buffers.{over, overAt};
 ghost use Rattle.array.specs.Bytes.{le};
+ghost use Rattle.array.specs.Kind.{ragged};
 ghost use Rattle.array.specs.Limits.{mostCells};
 ghost use Rattle.array.specs.Lists.{from, joined};
 ghost use Rattle.array.specs.Meaning.{widthOf, placeOf};
-ghost use Rattle.array.specs.Offsets.{last, offsetsOf, Rising};
+ghost use Rattle.array.specs.Offsets.{last, Rising};
 ghost use Rattle.codec.specs.Ragged.{indexOf, putRagged};
+ghost use Rattle.codec.specs.Values.{putValues};
 ghost use Rattle.encode.specs.Live.{liveAt, sliceAt, spansOf, endsAt};
 ghost use Rattle.encode.specs.Place.{dataAt, indexAt, lengthAt};
 
@@ -169,4 +171,74 @@ fn put_index(out: &mut [u8], to: usize, width: IndexWidth, offsets: &[u64])
         done += kind::width_bytes(width);
         j += 1;
     }
+}
+
+// The index of the cells that the level counts, from offset 0.
+fn put_live_index(
+    out: &mut [u8],
+    to: usize,
+    width: IndexWidth,
+    offsets: &[u64],
+    masks: &[u8],
+    cells: usize,
+    level: usize,
+)
+    requires { ⌜ (cells ≤ mostCells) × (level * cells ≤ length (now masks)) × (length (now offsets) ≡ suc cells) × Rising (now offsets)
+      × (to + length (indexOf (widthOf width) (0 ∷ endsAt (now offsets) 0 (liveAt cells (now masks) level))) ≤ length (now out)) ⌝ }
+    ensures { λ _. ⌜ now (out .exit) ≡ overAt to (indexOf (widthOf width) (0 ∷ endsAt (now (offsets .entry)) 0 (liveAt cells (now (masks .entry)) level))) (now (out .entry)) ⌝ }
+{
+    put_offset(out, to, width, 0);
+    let behind = to + kind::width_bytes(width);
+    put_live_ends(out, behind, width, offsets, masks, cells, level);
+}
+
+// Ragged values of the `count` cells that the level counts, end to end from offset 0; says how many bytes it wrote.
+pub fn put_ragged(
+    out: &mut [u8],
+    at: usize,
+    width: IndexWidth,
+    place: IndexPlace,
+    values: &[u8],
+    offsets: &[u64],
+    masks: &[u8],
+    cells: usize,
+    level: usize,
+    count: usize,
+) -> usize
+    requires { ⌜ (cells ≤ mostCells) × (level * cells ≤ length (now masks)) × (count ≡ length (liveAt cells (now masks) level))
+      × (length (now offsets) ≡ suc cells) × Rising (now offsets) × (last (now offsets) ≡ length (now values))
+      × (at + length (putValues (ragged (widthOf width) (placeOf place)) (map (sliceAt (now offsets) (now values)) (liveAt cells (now masks) level))) ≤ length (now out)) ⌝ }
+    ensures wrote { λ r. ⌜ r ≡ length (putValues (ragged (widthOf width) (placeOf place)) (map (sliceAt (now (offsets .entry)) (now (values .entry))) (liveAt cells (now (masks .entry)) level))) ⌝ }
+    ensures bytes { λ _. ⌜ now (out .exit) ≡ overAt at (putValues (ragged (widthOf width) (placeOf place)) (map (sliceAt (now (offsets .entry)) (now (values .entry))) (liveAt cells (now (masks .entry)) level))) (now (out .entry)) ⌝ }
+{
+    let bytes = live_bytes(offsets, masks, cells, level);
+    let index = kind::width_bytes(width) * (count + 1);
+    let data = data_at(place, at, index);
+    put_live_data(out, data, values, offsets, masks, cells, level);
+    let start = index_at(place, at, bytes);
+    put_live_index(out, start, width, offsets, masks, cells, level);
+    let field = length_at(place, at, bytes, index);
+    field::put_u64(out, field, index as u64);
+    8 + index + bytes
+}
+
+// Ragged values just as they are, those before the first offset too.
+pub fn put_plain(
+    out: &mut [u8],
+    width: IndexWidth,
+    place: IndexPlace,
+    values: &[u8],
+    offsets: &[u64],
+)
+    requires { ⌜ length (putRagged (widthOf width) (placeOf place) (record { values = now values; offsets = now offsets })) ≤ length (now out) ⌝ }
+    ensures { λ _. ⌜ now (out .exit) ≡ over (putRagged (widthOf width) (placeOf place) (record { values = now (values .entry); offsets = now (offsets .entry) })) (now (out .entry)) ⌝ }
+{
+    let bytes = values.len();
+    let index = kind::width_bytes(width) * offsets.len();
+    let data = data_at(place, 0, index);
+    copy::copy_bytes(out, data, values, 0, bytes);
+    let start = index_at(place, 0, bytes);
+    put_index(out, start, width, offsets);
+    let field = length_at(place, 0, bytes, index);
+    field::put_u64(out, field, index as u64);
 }
