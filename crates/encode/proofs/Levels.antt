@@ -25,7 +25,7 @@ use Rattle.codec.proofs.Frames.{length-wrap}
 use Rattle.codec.proofs.Values.{ragged-length, length-joined-ordered}
 use Rattle.encode.specs.Live.{maskAt, liveTest, liveAt, pieceAt, sliceAt, valueAt, spansOf}
 use Rattle.encode.specs.Ready.{OffsetsOk, Measured, Ready}
-use Rattle.encode.specs.Stored.{storedFrom, storedBy, orNothing, valuesLengthAt, lengthFrom, lengthBy}
+use Rattle.encode.specs.Stored.{storedFrom, frameFrom, storedBy, orNothing, valuesLengthAt, lengthFrom, lengthBy}
 use Rattle.encode.proofs.Runs.{All-passing, live-le}
 use Rattle.encode.proofs.Gathering.{orderedAt, sized-ordered}
 use Rattle.encode.proofs.Spans.{spans-le, last-le}
@@ -40,10 +40,6 @@ unless-none f (i ∷ is) e = absurd (omega arith)
 unless-some : {A : Type 0} (f : List A → List ℕ) (is : List A) → length is ≢ 0 → unlessNone f is ≡ f is
 unless-some f [] e = absurd (e refl)
 unless-some f (i ∷ is) e = refl
-
--- the frame of the cells that level l counts, d levels being left below it
-abbrev pub frameFrom : Form → ℕ → Content → (d l : ℕ) → List ℕ
-frameFrom f n c d l = wrap (map (maskAt n (c .masks) l) (liveAt n (c .masks) l)) (storedFrom f n c d (l + 1))
 
 module _ (f : Form) (n : ℕ) (c : Content) (l : ℕ) where
   pub stored-none : (d : ℕ) → length (liveAt n (c .masks) l) ≡ 0 → storedFrom f n c d l ≡ []

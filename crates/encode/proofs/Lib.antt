@@ -5,3 +5,4 @@ pub mod Spans
 pub mod Placing
 pub mod RaggedLaws
 pub mod Levels
+pub mod Forms

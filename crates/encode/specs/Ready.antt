@@ -4,7 +4,7 @@ use Prim.Native.Nat.{ℕ, suc, _*_, _≤_}
 use mathlib.Core.Path.{_≡_}
 use mathlib.Core.List.{List}
 use lib.ListN.{length}
-use Rattle.array.specs.Limits.{mostBytes, mostCells, mostSize}
+use Rattle.array.specs.Limits.{mostBytes, mostCells, mostDepth, mostSize}
 use Rattle.array.specs.Kind.{Form, fixed, ragged, FormOk}
 use Rattle.array.specs.Offsets.{last, Rising}
 use Rattle.array.specs.Content.{Content, ValuesOk}
@@ -15,6 +15,7 @@ OffsetsOk (fixed k o) n os = k ≤ mostSize
 OffsetsOk (ragged w p) n os = (length os ≡ suc n) × Rising os × (last os ≤ mostBytes)
 
 pub record Measured (f : Form) (n : ℕ) (masks os : List ℕ) (levels : ℕ) : Type 0 where
+  pub shallow : levels ≤ mostDepth
   pub few : n ≤ mostCells
   pub planes : levels * n ≤ length masks
   pub offsets : OffsetsOk f n os
@@ -22,6 +23,7 @@ pub record Measured (f : Form) (n : ℕ) (masks os : List ℕ) (levels : ℕ) : 
 -- to write them: the values too
 pub record Ready (f : Form) (n : ℕ) (c : Content) (levels : ℕ) : Type 0 where
   pub sound : FormOk f
+  pub shallow : levels ≤ mostDepth
   pub few : n ≤ mostCells
   pub planes : levels * n ≤ length (c .masks)
   pub fit : ValuesOk f n c

@@ -18,6 +18,10 @@ storedFrom f n c zero l = unlessNone (λ is. putValues f (map (valueAt f c) is))
 storedFrom f n c (suc d) l =
     unlessNone (λ is. wrap (map (maskAt n (c .masks) l) is) (storedFrom f n c d (suc l))) (liveAt n (c .masks) l)
 
+-- the frame of the cells that level l counts, d levels being left below it
+abbrev pub frameFrom : Form → ℕ → Content → (d l : ℕ) → List ℕ
+frameFrom f n c d l = wrap (map (maskAt n (c .masks) l) (liveAt n (c .masks) l)) (storedFrom f n c d (l + 1))
+
 -- at depth 0 ragged values are written as they are, and all else is written from level 0
 abbrev pub storedBy : Form → ℕ → Content → (d : ℕ) → List ℕ
 storedBy (fixed k o) n c d = storedFrom (fixed k o) n c d 0

@@ -2,3 +2,6 @@
 mod live;
 mod cells;
 mod ragged;
+mod values;
+mod length;
+mod write;
