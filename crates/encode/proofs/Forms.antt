@@ -3,7 +3,7 @@
 use mathlib.Core.Path.{_≡_, refl, sym, ap, ap₂, _∙_, subst}
 use mathlib.Core.Logic.{_≢_}
 use Prim.Native.Nat.{ℕ, zero, suc, _+_, _-_, _*_, _≤_}
-use native.Mathlib.Nat.{mul-le-mul-right, le-trans}
+use native.Mathlib.Nat.{mul-le-mul-right, le-trans, zero-add}
 use native.Mathlib.Numerals.{add-one}
 use native.Mathlib.Omega.{arith}
 use mathlib.Core.List.{List, map}
@@ -23,7 +23,7 @@ use Rattle.array.specs.Content.{Content, ValuesOk}
 use Rattle.codec.specs.Values.{putValues}
 use Rattle.encode.specs.Live.{liveAt, sliceAt, valueAt, spansOf}
 use Rattle.encode.specs.Ready.{OffsetsOk, Measured, Ready}
-use Rattle.encode.specs.Stored.{valuesLengthAt}
+use Rattle.encode.specs.Stored.{valuesLengthAt, lengthFrom, lengthBy}
 use Rattle.encode.proofs.Gathering.{orderedAt}
 use Rattle.encode.proofs.Levels.{NarrowOk, values-small, fixed-put, fixed-long}
 
@@ -110,3 +110,30 @@ module _ (v : Values) (n : ℕ) (c : Content) (l : ℕ) (r : Ready (formOf v) n 
 
     pub ragged-writes : putValues (ragged (widthOf w) (placeOf p)) (map (sliceAt (c .offsets) (c .values)) (liveAt n (c .masks) l)) ≡ putAt v
     ragged-writes = ap putAt (sym e)
+
+-- ---- by the kind
+
+pub measured-all : (f : Form) (n : ℕ) (masks os : List ℕ) (d : ℕ) → Measured f n masks os d → Measured f n masks os (0 + d)
+measured-all f n masks os d m = subst (λ (k : ℕ). Measured f n masks os k) (sym (zero-add d)) m
+
+pub width-small : (w : IndexWidth) (k n : ℕ) → k ≡ widthOf w → n ≤ mostCells → k * (n + 1) ≤ 524296
+unfolding mostCells
+width-small Four k n e h = omega (arith, ap (λ (x : ℕ). x * (n + 1)) e)
+width-small Eight k n e h = omega (arith, ap (λ (x : ℕ). x * (n + 1)) e)
+
+pub measured-as : (v u : Values) (n : ℕ) (masks os : List ℕ) (d : ℕ) → v ≡ u → Measured (formOf v) n masks os d → Measured (formOf u) n masks os (0 + d)
+measured-as v u n masks os d e m = measured-all (formOf u) n masks os d (subst (λ (x : Values). Measured (formOf x) n masks os d) e m)
+
+module _ (v : Values) (n : ℕ) (masks os : List ℕ) (bytes d : ℕ) where
+  pub levels-fixed : (s : ℕ) (o : ByteOrder) → v ≡ Fixed s o → lengthFrom (formOf v) n masks os d 0 ≡ lengthBy (formOf v) n masks bytes os d
+  levels-fixed s o e = rw e
+
+  pub levels-ragged : (w : IndexWidth) (p : IndexPlace) → v ≡ Ragged w p → d ≢ 0 → lengthFrom (formOf (Ragged w p)) n masks os d 0 ≡ lengthBy (formOf v) n masks bytes os d
+  levels-ragged w p e z = rw e (go d z)
+    where
+      go : (d : ℕ) → d ≢ 0 → lengthFrom (formOf (Ragged w p)) n masks os d 0 ≡ lengthBy (formOf (Ragged w p)) n masks bytes os d
+      go zero z = absurd (z refl)
+      go (suc d) z = refl
+
+  pub levels-plain : (w : IndexWidth) (p : IndexPlace) → v ≡ Ragged w p → d ≡ 0 → (k : ℕ) → k ≡ widthOf w → 8 + k * (n + 1) + bytes ≡ lengthBy (formOf v) n masks bytes os d
+  levels-plain w p e z k ek = rw (e, z) (ap₂ (λ (a b : ℕ). 8 + a * b + bytes) ek (add-one n))
