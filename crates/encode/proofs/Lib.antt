@@ -6,3 +6,4 @@ pub mod Placing
 pub mod RaggedLaws
 pub mod Levels
 pub mod Forms
+pub mod Encodes

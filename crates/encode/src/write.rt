@@ -1,19 +1,21 @@
 // The stored form, written by position: a frame holds a content, and a content may be a frame again.
 use array::field;
 use array::kind::ByteOrder;
+use array::kind::Kind;
 use array::kind::Values;
 use crate::cells;
 use crate::live;
+use crate::ragged;
 use crate::values;
 
 ghost use mathlib.Core.Path.{_≡_};
 ghost use Prim.Native.Nat.{_+_, _≤_};
 ghost use lib.ListN.{length};
-ghost use Rattle.array.specs.Buffers.{overAt};
+ghost use Rattle.array.specs.Buffers.{over, overAt};
 ghost use Rattle.array.specs.Meaning.{formOf};
 ghost use Rattle.encode.specs.Live.{liveAt};
 ghost use Rattle.encode.specs.Ready.{Ready};
-ghost use Rattle.encode.specs.Stored.{storedFrom, frameFrom};
+ghost use Rattle.encode.specs.Stored.{storedFrom, frameFrom, storedBy};
 
 // Writes the content of the cells that the level counts, `left` levels being left; says how many bytes it wrote.
 pub fn write_content(
@@ -108,4 +110,33 @@ fn write_frame(
     field::put_u64(out, at + 8, length as u64);
     field::put_u64(out, at, count as u64);
     16 + count + length
+}
+
+// Writes the whole stored form. At depth 0 ragged values go just as they are.
+pub fn write_stored(
+    out: &mut [u8],
+    kind: Kind,
+    values: &[u8],
+    offsets: &[u64],
+    masks: &[u8],
+    cells: usize,
+)
+    requires ready { ⌜ Ready (formOf (kind .values)) cells (record { masks = now masks; values = now values; offsets = now offsets }) (kind .depth) ⌝ }
+    requires room { ⌜ length (storedBy (formOf (kind .values)) cells (record { masks = now masks; values = now values; offsets = now offsets }) (kind .depth)) ≤ length (now out) ⌝ }
+    ensures { λ _. ⌜ now (out .exit) ≡ over (storedBy (formOf (kind .values)) cells (record { masks = now (masks .entry); values = now (values .entry); offsets = now (offsets .entry) }) (kind .depth)) (now (out .entry)) ⌝ }
+{
+    let form = kind.values;
+    let depth = kind.depth as usize;
+    match form {
+        Values::Fixed(_, _) => {
+            write_content(out, 0, form, values, offsets, masks, cells, 0, depth);
+        }
+        Values::Ragged(width, place) => {
+            if depth == 0 {
+                ragged::put_plain(out, width, place, values, offsets);
+            } else {
+                write_content(out, 0, form, values, offsets, masks, cells, 0, depth);
+            }
+        }
+    }
 }
