@@ -36,12 +36,12 @@ same-length c = omega arith
 returns : tie.Need-returns Inv-loop μ-loop
 returns c =
     let l = c .before .before .before .before in
-    sym (l .loop .inv .4 ∙ marking-stop (marksOf (l .loop .words)) (l .loop .i) (l .before .before .args .start + l .before .before .args .len) (omega arith) (λ e. c .if1 .taken (c .before .mark-at .ensures ∙ e)))
+    sym (l .loop .inv .4 ∙ marking-stop (marksOf (l .loop .words)) (l .loop .i) (l .before .before .args .start + l .before .before .args .len) (omega arith) (λ e. omega (arith, e, c .before .mark-at .ensures, c .if1 .taken)))
 
 set-mark-requires : tie.Need-set-mark-requires Inv-loop μ-loop
 set-mark-requires c κs =
     let l = c .before .before .before .before .before in
-    (l .loop .inv .3, omega arith, sym (c .before .before .mark-at .ensures) ∙ c .before .if1 .left)
+    (l .loop .inv .3, omega arith, omega (arith, c .before .before .mark-at .ensures, c .before .if1 .left))
 
 add-i : tie.Need-add-i Inv-loop μ-loop
 add-i c = omega arith
@@ -56,7 +56,7 @@ loop-again c =
       omega arith,
       l .loop .inv .2,
       c .before .before .set-mark .kept .0 ∙ l .loop .inv .3,
-      l .loop .inv .4 ∙ marking-more (marksOf (l .loop .words)) (l .loop .i) (l .before .before .args .start + l .before .before .args .len) (omega arith) (sym (c .before .before .before .before .before .mark-at .ensures) ∙ c .before .before .before .before .if1 .left)
+      l .loop .inv .4 ∙ marking-more (marksOf (l .loop .words)) (l .loop .i) (l .before .before .args .start + l .before .before .args .len) (omega arith) (omega (arith, c .before .before .before .before .before .mark-at .ensures, c .before .before .before .before .if1 .left))
           ∙ ap (λ (x : List ℕ). marking x (from (l .loop .i + 1) (l .before .before .args .start + l .before .before .args .len - (l .loop .i + 1)))) (sym (c .before .before .set-mark .ensures)),
     )
 
