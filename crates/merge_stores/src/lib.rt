@@ -1,0 +1,1 @@
+// Storing the chunks of a merge.
