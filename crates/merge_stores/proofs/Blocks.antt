@@ -2,11 +2,11 @@
 -- Assumes nothing.
 use mathlib.Core.Path.{_≡_, refl, sym, ap, ap₂, _∙_, subst}
 use Prim.Native.Nat.{ℕ, zero, suc, _+_, _-_, _*_, _<_, _≤_}
-use native.Mathlib.Nat.{suc-mul, zero-mul, add-zero, add-assoc}
+use native.Mathlib.Nat.{suc-mul, zero-mul}
 use native.Mathlib.Omega.{arith}
-use mathlib.Core.List.{List, [], _∷_, _++_, map, append-assoc, append-nil}
+use mathlib.Core.List.{List, [], _∷_, _++_, map, append-assoc}
 use lib.ListN.{length, getD, take, drop, set, length-drop, length-append, length-map, take-append-drop, List·getD-map, replicate, length-replicate}
-use lib.Seq.{paste, take-at, drop-at, take-all, take-length, drop-append-add, split-at, set-split, map-set-same, length-take-le, drop-drop, take-suc, length-paste}
+use lib.Seq.{take-at, drop-at, take-all, take-length, split-at, set-split, map-set-same, length-take-le, drop-drop, take-suc}
 use Rattle.array.specs.Cells.{Value}
 use Rattle.array.specs.Lists.{All, joined, from}
 use Rattle.array.proofs.Lists.{length-from}

@@ -2,22 +2,21 @@
 -- Assumes nothing.
 use mathlib.Core.Path.{_≡_, refl, sym, ap, ap₂, _∙_, subst}
 use Prim.Native.Nat.{ℕ, zero, suc, _+_, _-_, _*_, _<_, _≤_}
-use native.Mathlib.Nat.{zero-add, add-zero, mul-zero, mul-comm, one-mul, suc-mul, zero-mul}
+use native.Mathlib.Nat.{zero-add, mul-zero, one-mul, suc-mul, zero-mul}
 use native.Mathlib.Omega.{arith}
 use mathlib.Core.Bool.{Bool, true, false}
-use mathlib.Core.List.{List, [], _∷_, _++_, map, append-nil}
+use mathlib.Core.List.{List, [], _∷_, _++_, map}
 use lib.ListN.{length, getD, take, drop, length-drop, length-append, length-map, take-append-drop}
-use lib.Seq.{length-take-le, take-all}
-use Rattle.array.specs.Answer.{Answer, gives, refuses, andThen, unless}
+use Rattle.array.specs.Answer.{gives, unless}
 use Rattle.array.specs.Cells.{Value, Cell, leaf, blank}
-use Rattle.array.specs.Content.{Content, ContentOk, leaves, valuesIn, cellsOf, masksOf}
+use Rattle.array.specs.Content.{Content, leaves, valuesIn, cellsOf, masksOf}
 use Rattle.array.specs.Kind.{Kind, Form, fixed, ragged, Order, Place}
 use Rattle.array.specs.Lists.{All, joined, pieces, from, count}
 use Rattle.array.specs.Offsets.{offsetsOf}
 use Rattle.array.specs.Shape.{volume}
-use Rattle.array.specs.Subset.{Subset, lengths, cellsIn, cellsOfAll, SubsetOk}
+use Rattle.array.specs.Subset.{Subset, lengths, cellsOfAll, SubsetOk}
 use Rattle.array.proofs.LayoutLaws.{leaves-attach, length-attach, values-length, values-sized}
-use Rattle.array.proofs.Lists.{map-append, map-map, Sized, All-append}
+use Rattle.array.proofs.Lists.{map-append, All-append}
 use Rattle.array.proofs.SubsetLaws.{all-below}
 use Rattle.array.proofs.Sums.{sumOf, sum-count}
 use Rattle.chunks.specs.Chunks.{firstChunk, laterChunks, chunkCells, nothingTest}
@@ -27,7 +26,7 @@ use Rattle.merge_stores.specs.Ragged.{offsetAt, sums, sum, raggedParts, 
 use Rattle.merge_stores.specs.Scatter.{scatter, places, fixedAt}
 use Rattle.merge_stores.specs.Store.{parts, levelAt, masksMerged, cellsTotal}
 use Rattle.merge_stores.proofs.Blocks.{joined-append, fixed-block}
-use Rattle.merge_stores.proofs.FirstChunk.{First, first-of}
+use Rattle.merge_stores.proofs.FirstChunk.{first-of}
 use Rattle.merge_stores.proofs.Levels.{putBack-map, masks-putBack, chunk-levels, length-all}
 use Rattle.merge_stores.proofs.RaggedMerge.{offsets-merged, lookup-at, All-at, ragged-block}
 use Rattle.merge_stores.proofs.RaggedTies.{ragged-joined, ragged-lengths}

@@ -1,30 +1,19 @@
 -- The cells of a chunk list: those of the first chunk, and of the others.
 -- Assumes nothing.
-use mathlib.Core.Path.{_≡_, refl, sym, ap, ap₂, _∙_, subst}
-use mathlib.Core.Logic.{_≢_}
-use Prim.Native.Nat.{ℕ, zero, suc, _+_, _-_, _*_, _<_, _≤_}
-use native.Mathlib.Nat.{add-assoc, zero-add, add-zero, mul-zero, mul-suc, mul-comm, mul-one, suc-mul, zero-mul, mul-le-mul-right, add-comm}
+use mathlib.Core.Path.{_≡_, refl}
+use Prim.Native.Nat.{ℕ, _+_, _-_}
 use native.Mathlib.Omega.{arith}
-use mathlib.Core.Bool.{Bool, true, false, _&&_, false≢true}
-use mathlib.Core.List.{List, [], _∷_, _++_, map, append-nil}
-use lib.ListN.{length, getD, take, drop, length-drop, length-append, length-take, length-map, take-append-drop}
-use lib.Dec.{leb, eqb}
-use lib.Seq.{drop-drop, take-all, length-take-le, take-take}
-use borrow.Author.Tests.{eq-eqb, ne-eqb, le-leb, lt-leb, leb-true, leb-false}
+use mathlib.Core.Bool.{Bool, true, false}
+use mathlib.Core.List.{List, _∷_, _++_}
 use Rattle.array.specs.Answer.{Answer, gives, refuses, andThen, unless}
-use Rattle.array.specs.Cells.{Value, Cell, maskOf, leaf, inners}
-use Rattle.array.specs.Content.{Content, ContentOk, ValuesOk, contentTest, valuesTest, attach, pairUp, leaves, valuesIn, cellsOf}
-use Rattle.array.specs.Kind.{Kind, Form, fixed, ragged}
-use Rattle.array.specs.Lists.{All, joined, pieces}
-use Rattle.array.specs.Offsets.{last, lastFrom, Rising, RisingFrom, risingTest, slices, slicesFrom}
+use Rattle.array.specs.Cells.{Cell}
+use Rattle.array.specs.Content.{Content, ContentOk, contentTest, leaves, valuesIn, cellsOf}
+use Rattle.array.specs.Kind.{Kind, Form}
 use Rattle.array.specs.Shape.{volume}
 use Rattle.array.specs.Subset.{Subset, lengths}
-use Rattle.array.proofs.LayoutLaws.{inners-pairUp, length-attach, leaves-attach, values-length, values-sized}
-use Rattle.array.proofs.Lists.{map-append, Sized}
+use Rattle.array.proofs.LayoutLaws.{leaves-attach, values-length}
 use Rattle.array.proofs.Rules.{content-ok}
-use Rattle.chunks.specs.Chunks.{offsetCount, valueCount, firstChunk, laterChunks, chunkCells, nothingTest}
-use Rattle.merge_stores.specs.Store.{parts, levelAt}
-use Rattle.merge_stores.proofs.Blocks.{joined-append}
+use Rattle.chunks.specs.Chunks.{firstChunk, laterChunks, chunkCells}
 
 module _ (f : Form) (d : ℕ) where
   abbrev k : Kind

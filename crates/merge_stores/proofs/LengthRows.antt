@@ -1,18 +1,18 @@
 -- Storing the lengths of ragged values at their cells' places.
 -- Assumes nothing.
-use mathlib.Core.Path.{_≡_, refl, sym, ap, ap₂, _∙_, subst}
-use Prim.Native.Nat.{ℕ, zero, suc, _+_, _-_, _*_, _<_, _≤_}
-use native.Mathlib.Nat.{mul-one, add-zero}
+use mathlib.Core.Path.{_≡_, refl, sym, ap, _∙_, subst}
+use Prim.Native.Nat.{ℕ, suc, _+_, _-_, _<_, _≤_}
+use native.Mathlib.Nat.{mul-one}
 use native.Mathlib.Numerals.{add-one}
 use native.Mathlib.Omega.{arith}
-use mathlib.Core.List.{List, [], _∷_, _++_}
+use mathlib.Core.List.{List}
 use lib.ListN.{length, getD, take, drop, set, length-drop}
-use lib.Seq.{paste, drop-drop}
+use lib.Seq.{drop-drop}
 use Rattle.array.specs.Buffers.{overAt}
 use Rattle.array.proofs.Copying.{Copying, copy-more}
-use Rattle.merge_stores.specs.Ragged.{offsetAt, RisesFor, steps}
-use Rattle.merge_stores.specs.Scatter.{places, fixedAt}
-use Rattle.merge_stores.proofs.RaggedTies.{steps-at, length-steps}
+use Rattle.merge_stores.specs.Ragged.{steps}
+use Rattle.merge_stores.specs.Scatter.{fixedAt}
+use Rattle.merge_stores.proofs.RaggedTies.{steps-at}
 use Rattle.merge_stores.proofs.RowsStored.{Store, store-more}
 
 -- one more length of n, from the offsets on both its sides

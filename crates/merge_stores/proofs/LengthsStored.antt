@@ -1,11 +1,11 @@
 -- Storing the lengths of all chunks' ragged values: the loop over the subsets.
 -- Assumes nothing.
 use mathlib.Core.Path.{_≡_, refl, sym, ap, ap₂, _∙_, subst}
-use Prim.Native.Nat.{ℕ, zero, suc, _+_, _-_, _*_, _<_, _≤_}
+use Prim.Native.Nat.{ℕ, zero, suc, _+_, _-_, _<_, _≤_}
 use native.Mathlib.Nat.{mul-one}
 use native.Mathlib.Omega.{arith}
 use mathlib.Core.List.{List, [], _∷_, _++_}
-use lib.ListN.{length, getD, take, drop, length-drop}
+use lib.ListN.{length, take, drop, length-drop}
 use lib.Seq.{length-take-le, drop-drop, getD-drop}
 use Rattle.array.specs.Rows.{nextSubsets}
 use Rattle.array.specs.Shape.{volume}
@@ -13,7 +13,7 @@ use Rattle.array.specs.Subset.{Subset, lengths, cellsIn, cellsOfAll, pairs}
 use Rattle.array.proofs.SubsetLaws.{length-cellsIn}
 use Rattle.array.proofs.SubsetLists.{startsAt, lengthsAt}
 use Rattle.cover.proofs.SubsetWalk.{SubsetsLeft, rest, rest-begins, rest-ends, subsets-begin, subsets-more, subset-now, now-within, now-lengths}
-use Rattle.merge_stores.specs.Ragged.{offsetAt, RisesFor, steps, stepParts, LengthsAsked, LengthChunks, LengthsAllAsked}
+use Rattle.merge_stores.specs.Ragged.{offsetAt, steps, stepParts, LengthsAsked, LengthChunks, LengthsAllAsked}
 use Rattle.merge_stores.specs.Scatter.{scatter, places, fixedAt}
 use Rattle.merge_stores.proofs.PartsStored.{scatter-enough, length-places}
 use Rattle.merge_stores.proofs.RaggedTies.{length-steps}

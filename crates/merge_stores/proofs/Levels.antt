@@ -1,32 +1,31 @@
 -- What the stores leave in the outputs is the layout of the merged cells: masks, and values of one width.
 -- Assumes nothing.
-use mathlib.Core.Path.{_≡_, refl, sym, ap, ap₂, _∙_, subst}
+use mathlib.Core.Path.{_≡_, refl, sym, ap, ap₂, _∙_}
 use Prim.Native.Nat.{ℕ, zero, suc, _+_, _-_, _*_, _<_, _≤_}
-use native.Mathlib.Nat.{zero-add, add-zero, mul-zero, mul-suc, mul-comm, mul-one, suc-mul, zero-mul, mul-add, add-mul, mul-le-mul-right, mul-le-mul-left}
+use native.Mathlib.Nat.{mul-zero, mul-suc, mul-comm, mul-one, suc-mul, zero-mul, mul-add, add-mul, mul-le-mul-right, mul-le-mul-left}
 use native.Mathlib.Omega.{arith}
 use mathlib.Core.Bool.{Bool, true, false}
-use mathlib.Core.List.{List, [], _∷_, _++_, map, append-nil, append-assoc}
-use lib.ListN.{length, getD, take, drop, length-drop, length-append, length-map, take-append-drop}
+use mathlib.Core.List.{List, [], _∷_, _++_, map}
+use lib.ListN.{length, take, drop, length-drop, length-append, length-map}
 use lib.Dec.{eqb}
-use lib.Seq.{drop-drop, take-all, length-take-le, take-take, take-add, take-at, drop-at}
-use Rattle.array.specs.Answer.{Answer, gives, refuses, andThen, unless}
-use Rattle.array.specs.Buffers.{over}
-use Rattle.array.specs.Cells.{Value, Cell, maskOf, leaf, blank, inners}
-use Rattle.array.specs.Content.{Content, ContentOk, attach, pairUp, leaves, valuesIn, cellsOf, masksOf}
-use Rattle.array.specs.Kind.{Kind, Form, fixed, ragged}
-use Rattle.array.specs.Lists.{All, joined, pieces, from, pick}
+use lib.Seq.{drop-drop, length-take-le, take-take}
+use Rattle.array.specs.Answer.{gives, unless}
+use Rattle.array.specs.Cells.{Value, Cell, maskOf, blank, inners}
+use Rattle.array.specs.Content.{Content, attach, pairUp, valuesIn, cellsOf, masksOf}
+use Rattle.array.specs.Kind.{Kind, Form}
+use Rattle.array.specs.Lists.{All, joined, from, pick}
 use Rattle.array.specs.Shape.{volume}
 use Rattle.array.specs.Subset.{Subset, lengths, cellsIn, cellsOfAll, SubsetOk}
-use Rattle.array.proofs.LayoutLaws.{inners-pairUp, length-attach, leaves-attach, values-length, values-sized}
-use Rattle.array.proofs.Lists.{map-append, map-map, map-cong, Sized, All-append}
+use Rattle.array.proofs.LayoutLaws.{inners-pairUp, length-attach, values-length}
+use Rattle.array.proofs.Lists.{map-append, map-map, map-cong}
 use Rattle.array.proofs.SubsetLaws.{length-cellsIn}
 use Rattle.chunks.specs.Chunks.{firstChunk, laterChunks, chunkCells, nothingTest}
 use Rattle.chunks.specs.Gather.{lookup, putBack, Once}
 use Rattle.chunks.proofs.Gather.{from-suc}
 use Rattle.merge_stores.specs.Scatter.{scatter, places, fixedAt}
 use Rattle.merge_stores.specs.Store.{parts, levelAt, cellsTotal}
-use Rattle.merge_stores.proofs.Blocks.{joined-append, fixed-block}
-use Rattle.merge_stores.proofs.FirstChunk.{First, first-of}
+use Rattle.merge_stores.proofs.Blocks.{fixed-block}
+use Rattle.merge_stores.proofs.FirstChunk.{first-of}
 
 -- ---- merging and what is done to each element
 

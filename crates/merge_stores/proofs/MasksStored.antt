@@ -1,18 +1,18 @@
 -- Storing level after level: what holds at the head of the loop, and a turn of it.
 -- Assumes nothing.
-use mathlib.Core.Path.{_≡_, refl, sym, ap, ap₂, _∙_, subst}
+use mathlib.Core.Path.{_≡_, refl, sym, ap, ap₂, _∙_}
 use Prim.Native.Nat.{ℕ, zero, suc, _+_, _-_, _*_, _<_, _≤_}
-use native.Mathlib.Nat.{zero-mul, suc-mul, mul-one, add-zero, mul-le-mul-right}
+use native.Mathlib.Nat.{zero-mul, suc-mul, mul-one, mul-le-mul-right}
 use native.Mathlib.Numerals.{add-one}
 use native.Mathlib.Omega.{arith}
-use mathlib.Core.List.{List, [], _∷_, _++_, map, append-nil, append-assoc}
-use lib.ListN.{length, take, drop, length-drop, length-append, length-map}
+use mathlib.Core.List.{List, [], _++_, map, append-nil}
+use lib.ListN.{length, take, drop, length-append, length-map}
 use lib.Seq.{drop-drop, take-at, drop-at}
 use Rattle.array.specs.Lists.{All, joined, from}
 use Rattle.array.specs.Rows.{nextSubsets}
 use Rattle.array.specs.Shape.{volume}
-use Rattle.array.specs.Subset.{Subset, cellsOfAll, SubsetOk, FullOk}
-use Rattle.array.proofs.Lists.{map-append, All-map, length-from}
+use Rattle.array.specs.Subset.{Subset, cellsOfAll, SubsetOk}
+use Rattle.array.proofs.Lists.{map-append, length-from}
 use Rattle.array.proofs.SubsetLaws.{all-below}
 use Rattle.chunks.specs.Gather.{putBack}
 use Rattle.cover.proofs.SubsetWalk.{all-inside}

@@ -1,21 +1,19 @@
 -- Storing one part of each chunk of a list: the loop over the subsets.
 -- Assumes nothing.
-use mathlib.Core.Path.{_≡_, refl, sym, ap, ap₂, _∙_, subst}
-use Prim.Native.Nat.{ℕ, zero, suc, _+_, _-_, _*_, _<_, _≤_}
+use mathlib.Core.Path.{_≡_, refl, sym, ap, ap₂, _∙_}
+use Prim.Native.Nat.{ℕ, suc, _+_, _-_, _*_, _<_, _≤_}
 use native.Mathlib.Nat.{suc-mul, zero-mul, add-mul, mul-add, mul-le-mul-left}
 use native.Mathlib.Omega.{arith}
 use mathlib.Core.List.{List, [], _∷_, _++_, append-nil}
 use lib.ListN.{length, take, drop, length-drop, length-append, take-append-drop}
 use lib.Seq.{length-take-le, drop-drop}
 use Rattle.array.specs.Lists.{from}
-use Rattle.array.specs.Rows.{nextSubsets, Within}
-use Rattle.array.specs.Shape.{volume, ShapeOk}
+use Rattle.array.specs.Rows.{nextSubsets}
+use Rattle.array.specs.Shape.{volume}
 use Rattle.array.specs.Subset.{Subset, lengths, cellsIn, cellsOfAll, pairs}
-use Rattle.array.proofs.Index.{few-within}
 use Rattle.array.proofs.Lists.{length-from}
 use Rattle.array.proofs.SubsetLaws.{length-cellsIn}
 use Rattle.array.proofs.SubsetLists.{startsAt, lengthsAt}
-use Rattle.cover.specs.Asked.{SubsetsOk}
 use Rattle.cover.proofs.SubsetWalk.{SubsetsLeft, rest, rest-begins, rest-ends, subsets-begin, subsets-more, subset-now, now-within, now-lengths}
 use Rattle.merge_stores.specs.Scatter.{scatter, places, fixedAt}
 use Rattle.merge_stores.specs.Store.{parts, cellsTotal, StoreAsked, PartsAsked}

@@ -1,20 +1,19 @@
 -- What a ragged putBack asks follows from the checks: a chunk list that gives cells, subsets that cover, and room for the cell sum.
 -- Assumes nothing.
-use mathlib.Core.Path.{_≡_, refl, sym, ap, _∙_, subst}
+use mathlib.Core.Path.{_≡_, sym, ap, _∙_}
 use Prim.Native.Nat.{ℕ, _+_, _<_, _≤_}
 use native.Mathlib.Omega.{arith}
-use mathlib.Core.List.{List, [], _∷_, _++_, map}
-use lib.ListN.{length, drop, length-map}
+use mathlib.Core.List.{List, [], _∷_, _++_}
+use lib.ListN.{length, length-map}
 use Rattle.array.specs.Answer.{gives}
 use Rattle.array.specs.Cells.{Cell, leaf}
 use Rattle.array.specs.Content.{Content, leaves}
 use Rattle.array.specs.Limits.{mostBytes}
-use Rattle.array.specs.Kind.{Kind, ragged, Place}
+use Rattle.array.specs.Kind.{ragged, Place}
 use Rattle.array.specs.Lists.{All, joined}
 use Rattle.array.specs.Rows.{nextSubsets}
 use Rattle.array.specs.Shape.{volume}
-use Rattle.array.specs.Subset.{Subset, cellsOfAll, SubsetOk, FullOk}
-use Rattle.array.proofs.Lists.{All-map}
+use Rattle.array.specs.Subset.{Subset, cellsOfAll, SubsetOk}
 use Rattle.array.proofs.SubsetLaws.{all-below}
 use Rattle.chunks.specs.Chunks.{chunkCells}
 use Rattle.chunks.specs.Gather.{Once}

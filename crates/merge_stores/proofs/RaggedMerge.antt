@@ -1,15 +1,15 @@
 -- Ragged values merged: the offsets that are summed from merged lengths are those of the merged values, and values stored by them are laid end to end.
 -- Assumes nothing.
 use mathlib.Core.Path.{_≡_, refl, sym, ap, ap₂, _∙_, subst}
-use Prim.Native.Nat.{ℕ, zero, suc, _+_, _-_, _*_, _<_, _≤_}
+use Prim.Native.Nat.{ℕ, zero, suc, _+_, _-_, _<_, _≤_}
 use native.Mathlib.Nat.{add-zero, zero-add, add-assoc}
 use native.Mathlib.Omega.{arith}
 use mathlib.Core.Bool.{Bool, true, false}
 use mathlib.Core.List.{List, [], _∷_, _++_, map}
 use lib.ListN.{length, getD, take, drop, length-map, List·getD-append, List·getD-map}
 use lib.Dec.{eqb}
-use lib.Seq.{take-suc, take-all, length-take-le}
-use borrow.Author.Tests.{eq-eqb, eqb-true, eqb-false}
+use lib.Seq.{take-suc}
+use borrow.Author.Tests.{eq-eqb}
 use Rattle.array.specs.Cells.{Value}
 use Rattle.array.specs.Lists.{All, joined, from, pick, count}
 use Rattle.array.specs.Offsets.{ends, offsetsOf}

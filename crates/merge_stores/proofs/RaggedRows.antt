@@ -1,23 +1,21 @@
--- Storing the ragged values of a box run by run.
+-- Storing the ragged values of a subset row by row.
 -- Assumes nothing.
-use mathlib.Core.Path.{_≡_, refl, sym, ap, ap₂, _∙_, subst}
-use Prim.Native.Nat.{ℕ, zero, suc, _+_, _-_, _*_, _<_, _≤_}
-use native.Mathlib.Nat.{add-zero, add-suc, le-refl}
+use mathlib.Core.Path.{_≡_, refl, sym, ap, _∙_, subst}
+use Prim.Native.Nat.{ℕ, zero, suc, _+_, _-_, _<_, _≤_}
+use native.Mathlib.Nat.{add-zero, le-refl}
 use native.Mathlib.Omega.{arith}
-use mathlib.Core.List.{List, [], _∷_, _++_}
+use mathlib.Core.List.{List, _++_}
 use lib.ListN.{length, getD, take, drop, length-drop, List·getD-append}
-use lib.Seq.{paste, drop-drop, getD-drop}
+use lib.Seq.{drop-drop, getD-drop}
 use Rattle.array.specs.Buffers.{overAt}
 use Rattle.array.specs.Lists.{from}
-use Rattle.array.specs.Rows.{Within}
 use Rattle.array.specs.Shape.{volume}
 use Rattle.array.specs.Subset.{cellsIn, pairs}
 use Rattle.array.proofs.Lists.{length-from}
 use Rattle.array.proofs.Rows.{Left, left-next, left-within, left-room, within-below}
 use Rattle.array.proofs.SubsetLaws.{length-cellsIn, lengths-pairs}
-use Rattle.merge_stores.specs.Ragged.{offsetAt, Agrees, RisesFor, RaggedAsked}
-use Rattle.merge_stores.specs.Scatter.{scatter, places}
-use Rattle.merge_stores.proofs.RowsStored.{Store, store-begins, store-ends, store-more}
+use Rattle.merge_stores.specs.Ragged.{offsetAt, RisesFor, RaggedAsked}
+use Rattle.merge_stores.proofs.RowsStored.{Store, store-begins, store-more}
 use Rattle.merge_stores.proofs.Scattering.{Steps}
 
 getD-from : (n a r : ℕ) → r < n → getD (from a n) r 0 ≡ a + r

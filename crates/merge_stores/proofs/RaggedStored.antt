@@ -1,22 +1,21 @@
 -- Storing the ragged values of all chunks: the loop over the subsets.
 -- Assumes nothing.
 use mathlib.Core.Path.{_≡_, refl, sym, ap, ap₂, _∙_, subst}
-use Prim.Native.Nat.{ℕ, zero, suc, _+_, _-_, _*_, _<_, _≤_}
-use native.Mathlib.Nat.{add-zero, zero-add, add-assoc}
+use Prim.Native.Nat.{ℕ, suc, _+_, _-_, _<_, _≤_}
+use native.Mathlib.Nat.{add-zero, zero-add}
 use native.Mathlib.Omega.{arith}
 use mathlib.Core.List.{List, [], _∷_, _++_}
 use lib.ListN.{length, getD, take, drop, length-drop, length-append}
 use lib.Seq.{length-take-le, drop-drop, getD-drop}
-use Rattle.array.specs.Lists.{All, from}
-use Rattle.array.specs.Rows.{nextSubsets, Within}
+use Rattle.array.specs.Lists.{from}
+use Rattle.array.specs.Rows.{nextSubsets}
 use Rattle.array.specs.Shape.{volume}
 use Rattle.array.specs.Subset.{Subset, lengths, cellsIn, cellsOfAll, pairs}
 use Rattle.array.proofs.Lists.{length-from}
 use Rattle.array.proofs.SubsetLaws.{length-cellsIn}
 use Rattle.array.proofs.SubsetLists.{startsAt, lengthsAt}
-use Rattle.cover.specs.Asked.{SubsetsOk}
 use Rattle.cover.proofs.SubsetWalk.{SubsetsLeft, rest, rest-begins, rest-ends, subsets-begin, subsets-more, subset-now, now-within, now-lengths}
-use Rattle.merge_stores.specs.Ragged.{offsetAt, Agrees, RisesFor, RaggedAsked, RaggedChunk, RaggedChunks, RaggedAllAsked, raggedParts}
+use Rattle.merge_stores.specs.Ragged.{offsetAt, Agrees, RisesFor, RaggedAsked, RaggedChunks, RaggedAllAsked, raggedParts}
 use Rattle.merge_stores.specs.Scatter.{scatter, places}
 use Rattle.merge_stores.proofs.PartsStored.{scatter-enough}
 use Rattle.merge_stores.proofs.RaggedRows.{rises-le}

@@ -2,16 +2,16 @@
 -- Assumes nothing.
 use mathlib.Core.Path.{_≡_, refl, sym, ap, ap₂, _∙_, subst}
 use Prim.Native.Nat.{ℕ, zero, suc, _+_, _-_, _*_, _<_, _≤_}
-use native.Mathlib.Nat.{zero-add, add-zero, sub-self}
+use native.Mathlib.Nat.{sub-self}
 use native.Mathlib.Omega.{arith}
 use mathlib.Core.Bool.{Bool, true, false}
 use mathlib.Core.List.{List, [], _∷_, _++_, map}
 use lib.ListN.{length, getD, take, drop, length-drop, length-append, List·getD-append}
-use lib.Seq.{drop-drop, length-take-le, take-add, getD-append-add, getD-take, take-all}
-use Rattle.array.specs.Answer.{Answer, gives, refuses, andThen, unless}
-use Rattle.array.specs.Cells.{Value, Cell, leaf}
+use lib.Seq.{drop-drop, length-take-le, take-add, getD-append-add, getD-take}
+use Rattle.array.specs.Answer.{gives, unless}
+use Rattle.array.specs.Cells.{Cell, leaf}
 use Rattle.array.specs.Content.{Content, ContentOk, leaves, valuesIn, cellsOf}
-use Rattle.array.specs.Kind.{Kind, Form, fixed, ragged, Place}
+use Rattle.array.specs.Kind.{Kind, ragged, Place}
 use Rattle.array.specs.Lists.{All, joined}
 use Rattle.array.specs.Offsets.{last, lastFrom, Rising, RisingFrom, slices, slicesFrom}
 use Rattle.array.specs.Shape.{volume}
@@ -21,9 +21,9 @@ use Rattle.array.proofs.Lists.{map-append}
 use Rattle.array.proofs.Offsets.{rising-le}
 use Rattle.array.proofs.SubsetLaws.{length-cellsIn}
 use Rattle.chunks.specs.Chunks.{firstChunk, laterChunks, chunkCells, nothingTest}
-use Rattle.merge_stores.specs.Ragged.{offsetAt, Agrees, RisesFor, RaggedChunk, RaggedChunks, raggedParts, stepsFrom, steps, stepParts}
+use Rattle.merge_stores.specs.Ragged.{offsetAt, RisesFor, RaggedChunks, raggedParts, stepsFrom, steps, stepParts}
 use Rattle.merge_stores.proofs.Blocks.{joined-append}
-use Rattle.merge_stores.proofs.FirstChunk.{First, first-of}
+use Rattle.merge_stores.proofs.FirstChunk.{first-of}
 use Rattle.merge_stores.proofs.Levels.{take-within}
 
 -- ---- values between offsets that never fall

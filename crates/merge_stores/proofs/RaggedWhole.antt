@@ -1,17 +1,17 @@
 -- Lengths, offsets, values: the three steps of a ragged putBack one after another.
 -- Assumes nothing.
-use mathlib.Core.Path.{_≡_, refl, sym, ap, ap₂, _∙_, subst}
-use Prim.Native.Nat.{ℕ, zero, suc, _+_, _-_, _*_, _<_, _≤_}
+use mathlib.Core.Path.{_≡_, sym, ap, ap₂, _∙_, subst}
+use Prim.Native.Nat.{ℕ, _+_, _-_, _<_, _≤_}
 use native.Mathlib.Omega.{arith}
-use mathlib.Core.List.{List, [], _∷_, _++_, append-assoc}
-use lib.ListN.{length, getD, take, drop, length-drop, length-append, length-map, take-append-drop}
+use mathlib.Core.List.{List, _∷_, _++_, append-assoc}
+use lib.ListN.{length, take, drop, length-append, length-map, take-append-drop}
 use lib.Seq.{length-take-le, take-at, drop-at}
 use Rattle.array.specs.Limits.{mostBytes}
 use Rattle.array.specs.Lists.{All, from}
 use Rattle.array.specs.Rows.{nextSubsets}
 use Rattle.array.specs.Shape.{volume}
-use Rattle.array.specs.Subset.{Subset, cellsOfAll, SubsetOk, FullOk}
-use Rattle.array.proofs.Lists.{All-map, length-from}
+use Rattle.array.specs.Subset.{Subset, cellsOfAll, SubsetOk}
+use Rattle.array.proofs.Lists.{length-from}
 use Rattle.array.proofs.SubsetLaws.{all-below}
 use Rattle.chunks.specs.Gather.{lookup, putBack}
 use Rattle.cover.proofs.SubsetWalk.{all-inside}
