@@ -1,4 +1,4 @@
--- A scatter of the bytes of values is the scatter, and so the putBack, of the values: for values of any lengths, all over one block of an output.
+-- A scatter of the bytes of values is the scatter, and so the merge, of the values: for values of any lengths, all over one block of an output.
 -- Assumes nothing.
 use mathlib.Core.Path.{_≡_, refl, sym, ap, ap₂, _∙_, subst}
 use Prim.Native.Nat.{ℕ, zero, suc, _+_, _-_, _*_, _<_, _≤_}

@@ -55,7 +55,7 @@ masks-putBack v (suc d) n js cs =
     (ap (masksOf d) (sym (putBack-map (λ (c : Cell (suc d)). c .1) z n js cs)) ∙ masks-putBack v d n js (inners cs)
     ∙ ap joined (sym (from-suc (λ l. putBack 0 n js (levelAt (suc d) l cs)) 0 d)))
 
--- ---- where a chunk list has its maskOf
+-- ---- where a chunk list has its masks
 
 maskOf-append : {A : Type 0} (xs ys : List (ℕ × A)) → maskOf (xs ++ ys) ≡ maskOf xs ++ maskOf ys
 maskOf-append [] ys = refl

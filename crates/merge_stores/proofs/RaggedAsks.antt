@@ -1,4 +1,4 @@
--- What a ragged putBack asks follows from the checks: a chunk list that gives cells, subsets that cover, and room for the cell sum.
+-- What a ragged merge asks follows from the checks: a chunk list that gives cells, subsets that cover, and room for the cell sum.
 -- Assumes nothing.
 use mathlib.Core.Path.{_≡_, sym, ap, _∙_}
 use Prim.Native.Nat.{ℕ, _+_, _<_, _≤_}

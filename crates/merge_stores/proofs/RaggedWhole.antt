@@ -1,4 +1,4 @@
--- Lengths, offsets, values: the three steps of a ragged putBack one after another.
+-- Lengths, offsets, values: the three steps of a ragged merge one after another.
 -- Assumes nothing.
 use mathlib.Core.Path.{_≡_, sym, ap, ap₂, _∙_, subst}
 use Prim.Native.Nat.{ℕ, _+_, _-_, _<_, _≤_}
