@@ -8,7 +8,7 @@ use native.Mathlib.Omega.{arith}
 use lib.Dec.{leb}
 use lib.ListN.{length, take, drop}
 use borrow.Author.Tests.{le-leb, lt-leb, leb-true, leb-false}
-use Rattle.array.specs.Answer.{Answer, gives, refuses, unless}
+use Rattle.array.specs.Answer.{gives, refuses, unless}
 use Rattle.array.specs.Bytes.{unle}
 use Rattle.array.specs.Field.{fieldAt}
 

@@ -2,14 +2,14 @@
 -- Assumes nothing.
 use mathlib.Core.Path.{_≡_, refl, sym, ap, ap₂, _∙_, subst}
 use Prim.Native.Nat.{ℕ, zero, suc, _+_, _-_, _*_, _/_, _%_, _<_, _≤_}
-use native.Mathlib.Nat.{zero-mul, mul-zero, suc-mul, mul-one, add-mul, mul-assoc, le-refl, le-trans, mul-le-mul, mul-le-mul-right, mul-le-mul-left, div-add-mod', mod-lt}
+use native.Mathlib.Nat.{zero-mul, mul-zero, suc-mul, mul-one, add-mul, mul-assoc, le-refl, le-trans, mul-le-mul-right, mul-le-mul-left, div-add-mod', mod-lt}
 use native.Mathlib.Omega.{arith}
 use mathlib.Core.List.{List, [], _∷_}
 use lib.ListN.{length, getD, drop, length-drop, drop-of-length-le}
 use Rattle.array.specs.Limits.{mostCells}
 use Rattle.array.specs.Lists.{from, All}
 use Rattle.array.specs.Shape.{volume, ShapeOk}
-use Rattle.array.specs.Subset.{Subset, pairs, SubsetOk, rows, cellsIn}
+use Rattle.array.specs.Subset.{pairs, SubsetOk, rows, cellsIn}
 use Rattle.array.specs.Rows.{Within, FewCells}
 use Rattle.array.proofs.SubsetLaws.{length-cellsIn, lengths-pairs, volume-le}
 use Rattle.array.proofs.ShapeLaws.{next-side, volume-drop}

@@ -2,10 +2,9 @@
 -- Assumes nothing.
 use mathlib.Core.Path.{_≡_, refl, sym, ap, _∙_}
 use mathlib.Core.Logic.{_≢_}
-use mathlib.Core.Bool.{Bool, true, false, _&&_}
+use mathlib.Core.Bool.{true, false}
 use Prim.Native.Nat.{ℕ, zero, suc, _≤_, _<_}
 use native.Mathlib.Omega.{arith}
-use lib.Dec.{leb, eqb}
 use borrow.Author.Tests.{le-leb, lt-leb, ne-eqb}
 use Rattle.array.specs.Answer.{Answer, gives, refuses, andThen, mapAnswer}
 use Rattle.array.specs.Kind.{Kind, Form, fixed, ragged, Order, Place, formTest}

@@ -4,7 +4,7 @@ use mathlib.Core.Path.{_≡_, refl, sym, ap, ap₂, _∙_}
 use mathlib.Core.Bool.{true, false}
 use mathlib.Core.List.{List, [], _∷_, _++_, map, reverse, append-assoc, append-nil, reverse-cons, reverse-append, reverseAux-append}
 use Prim.Native.Nat.{ℕ, zero, suc, _+_, _-_, _*_, _/_, _≤_, _<_}
-use native.Mathlib.Nat.{zero-mul, suc-mul, mul-one, add-comm, mul-le-mul-right, div-mul-le-self, div-one}
+use native.Mathlib.Nat.{zero-mul, suc-mul, mul-one, mul-le-mul-right, div-mul-le-self, div-one}
 use native.Mathlib.Omega.{arith}
 use native.Mathlib.Numerals.{add-one}
 use lib.ListN.{length, take, drop, getD, set, length-append, length-take, length-drop, length-set, length-reverse, take-append-drop}
@@ -16,7 +16,7 @@ use Rattle.array.specs.Answer.{gives, refuses}
 use Rattle.array.specs.Kind.{fixed, little, formTest}
 use Rattle.array.specs.Calls.{reverseAnswer, endiannessReversed}
 use Rattle.array.proofs.Lists.{map-append}
-use Rattle.array.proofs.Over.{over-length, over-again, over-at-length}
+use Rattle.array.proofs.Over.{over-length, over-again}
 use Rattle.array.proofs.Laying.{Laying, laying-begins, laying-same, laying-ends, laying-store, laying-is, laying-room}
 use Rattle.array.proofs.Unrolled.{reads, reads-take, stores, stores-over}
 
@@ -213,6 +213,7 @@ module _ (at k : ℕ) (d : List ℕ) where
         short [] q = refl
         short (x ∷ []) q = refl
         short (x ∷ (y ∷ s)) q = absurd (omega arith)
+
         kept : overAt low (take left (drop low out)) out ≡ out
         kept =
             let e : take low out ++ take left (drop low out) ≡ take (low + left) out = sym (take-add low left out) in

@@ -1,18 +1,16 @@
 -- The cells of a shape, side by side from the last: what holds at the head of the loop that counts them, and a turn of it.
 -- Assumes nothing.
-use mathlib.Core.Path.{_≡_, refl, sym, ap, ap₂, _∙_, subst}
+use mathlib.Core.Path.{_≡_, refl, sym, ap, _∙_, subst}
 use mathlib.Core.List.{List, [], _∷_}
-use mathlib.Core.Bool.{Bool, true, false, _&&_}
-use Prim.Native.Nat.{ℕ, zero, suc, _+_, _-_, _*_, _≤_, _<_}
+use mathlib.Core.Bool.{Bool, true, false}
+use Prim.Native.Nat.{ℕ, zero, suc, _-_, _*_, _≤_, _<_}
 use native.Mathlib.Omega.{arith}
 use native.Mathlib.Nat.{mul-le-mul, one-mul, le-refl}
-use lib.Dec.{leb}
 use lib.ListN.{length, drop, getD}
 use lib.Seq.{drop-cons, drop-length}
-use borrow.Author.Tests.{le-leb, leb-true}
-use Rattle.array.specs.Answer.{Answer, gives, refuses, unless}
+use Rattle.array.specs.Answer.{gives, refuses, unless}
 use Rattle.array.specs.Limits.{mostCells}
-use Rattle.array.specs.Lists.{All, every}
+use Rattle.array.specs.Lists.{All}
 use Rattle.array.specs.Shape.{volume, ShapeOk, shapeTest}
 use Rattle.array.specs.ShapeCells.{shapeAnswer}
 use Rattle.array.proofs.Rules.{shape-ok, shape-test}

@@ -5,14 +5,14 @@ use mathlib.Core.Bool.{Bool, true, false}
 use Prim.Native.Nat.{ℕ, suc, _+_, _-_, _<_, _≤_}
 use native.Mathlib.Nat.{add-zero, sub-zero, zero-add}
 use native.Mathlib.Omega.{arith}
-use mathlib.Core.List.{List, [], _∷_, _++_}
-use lib.ListN.{length, take, drop, getD, set}
+use mathlib.Core.List.{List, _∷_, _++_}
+use lib.ListN.{length, drop, getD, set}
 use lib.Dec.{leb}
 use borrow.Author.Tests.{le-leb, lt-leb}
 use Rattle.array.specs.Answer.{Answer, gives, refuses, unless, Outcome}
 use Rattle.array.specs.Lists.{from}
 use Rattle.array.specs.Shape.{shapeTest}
-use Rattle.array.specs.Subset.{subsetOf, numbersTest, cellsIn}
+use Rattle.array.specs.Subset.{Subset, subsetOf, numbersTest, cellsIn}
 use Rattle.array.specs.Buffers.{over, overAt, listOutcome}
 use Rattle.array.specs.Calls.{cellsAnswer, subsetCells}
 use Rattle.array.proofs.Lists.{length-from}
@@ -94,7 +94,7 @@ module _ (sh ns out : List ℕ) where
       pub cells-no-room : length out < n → after (refuses 6) out ≡ subsetCells sh ns out
       cells-no-room h = sym (answered true true false p q (lt-leb (length (cellsIn sh (subsetOf (length sh) ns))) (length out) (omega arith)))
 
-      pub cells-stored : n ≤ length out → (out′ : List ℕ) → out′ ≡ over (cellsIn sh (subsetOf (length sh) ns)) out → after (gives n) out′ ≡ subsetCells sh ns out
-      cells-stored h out′ r =
-          ap₂ (λ (k : ℕ) (o : List ℕ). after (gives k) o) e r
+      pub cells-stored : n ≤ length out → (b : Subset) → b ≡ subsetOf (length sh) ns → (out′ : List ℕ) → out′ ≡ over (cellsIn sh b) out → after (gives n) out′ ≡ subsetCells sh ns out
+      cells-stored h b g out′ r =
+          ap₂ (λ (k : ℕ) (o : List ℕ). after (gives k) o) e (r ∙ ap (λ (c : Subset). over (cellsIn sh c) out) g)
           ∙ sym (answered true true true p q (le-leb (length (cellsIn sh (subsetOf (length sh) ns))) (length out) (omega arith)))

@@ -8,7 +8,7 @@ use native.Mathlib.Omega.{arith}
 use native.Mathlib.Numerals.{add-one}
 use lib.ListN.{length, take, drop, getD, set, length-append}
 use lib.Seq.{drop-cons, length-take-le, sets, sets-eq}
-use Rattle.array.specs.Buffers.{over, overAt}
+use Rattle.array.specs.Buffers.{overAt}
 
 -- ---- w elements read at `at`, `at + 1`, ..
 

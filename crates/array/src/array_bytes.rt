@@ -8,6 +8,7 @@ ghost use Rattle.array.specs.Meaning.{kindOf};
 ghost use Rattle.array.specs.Check.{contentTestBy, checkAnswer, toldChecked};
 use crate::kind::Kind;
 use crate::kind::Values;
+use crate::refusal;
 
 // Value bytes of an array at most.
 pub const MOST_BYTES: usize = 16777216;
@@ -76,10 +77,10 @@ pub fn check_array(
     ensures { λ r. ⌜ toldChecked r ≡ checkAnswer (kindOf kind) cells masks values (now (offsets .entry)) ⌝ }
 {
     if !content_fits(kind, cells, masks, values, offsets) {
-        return Checked::Refused(4);
+        return Checked::Refused(refusal::CONTENT);
     }
     if values > MOST_BYTES {
-        return Checked::Refused(5);
+        return Checked::Refused(refusal::SIZE);
     }
     Checked::Valid
 }

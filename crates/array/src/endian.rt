@@ -2,7 +2,6 @@
 use crate::answer::Written;
 use crate::kind::MOST_SIZE;
 use crate::refusal;
-
 ghost use mathlib.Core.Path.{_≡_};
 ghost use mathlib.Core.List.{reverse};
 ghost use Prim.Native.Nat.{_+_, _≤_};

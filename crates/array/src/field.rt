@@ -1,7 +1,6 @@
 // Little-endian numbers in bytes: read with a test, read where the room is known, and written.
 use crate::kind::IndexWidth;
 use crate::refusal;
-
 ghost use mathlib.Core.Path.{_≡_};
 ghost use Prim.Native.Nat.{_+_, _≤_};
 ghost use lib.ListN.{length, take, drop};

@@ -1,14 +1,15 @@
 // The kind of an array: its depth, and whether values are fixed or ragged. Kinds are made here, tested, and read from numbers.
 use crate::refusal;
-
 ghost use mathlib.Core.Path.{_≡_};
 ghost use Rattle.array.specs.Kind.{fixed, ragged, kindTest};
 ghost use Rattle.array.specs.Answer.{andThen};
 ghost use Rattle.array.specs.Meaning.{kindOf, orderOf, widthOf, placeOf};
 ghost use Rattle.array.specs.Numbers.{fixedOf, raggedOf, kindWith, toldKind, numberedKind};
 
-// Mask levels that a kind may have, and bytes of a fixed cell.
+// Most mask levels.
 pub const MOST_DEPTH: u8 = 4;
+
+// Most bytes of a fixed cell.
 pub const MOST_SIZE: u8 = 64;
 
 // Byte order of a stored fixed cell.

@@ -1,6 +1,13 @@
 // How many cells a shape has, and whether it is one.
+use crate::refusal;
 ghost use mathlib.Core.Path.{_≡_};
 ghost use Rattle.array.specs.ShapeCells.{toldCells, shapeAnswer};
+
+// Sides of a shape at most.
+pub const MOST_SIDES: usize = 4;
+
+// Cells of a shape at most.
+pub const MOST_CELLS: u64 = 65536;
 
 pub enum Cells {
     Count(usize),
@@ -12,10 +19,10 @@ pub fn shape_cells(shape: &[u64]) -> Cells
     ensures { λ r. ⌜ toldCells r ≡ shapeAnswer (now (shape .entry)) ⌝ }
 {
     if shape.len() < 1 {
-        return Cells::Refused(2);
+        return Cells::Refused(refusal::SHAPE);
     }
-    if 4 < shape.len() {
-        return Cells::Refused(2);
+    if MOST_SIDES < shape.len() {
+        return Cells::Refused(refusal::SHAPE);
     }
     let mut cells: u64 = 1;
     let mut k = shape.len();
@@ -23,13 +30,13 @@ pub fn shape_cells(shape: &[u64]) -> Cells
         k -= 1;
         let side = shape[k];
         if side < 1 {
-            return Cells::Refused(2);
+            return Cells::Refused(refusal::SHAPE);
         }
-        if 65536 < side {
-            return Cells::Refused(2);
+        if MOST_CELLS < side {
+            return Cells::Refused(refusal::SHAPE);
         }
-        if 65536 < side * cells {
-            return Cells::Refused(2);
+        if MOST_CELLS < side * cells {
+            return Cells::Refused(refusal::SHAPE);
         }
         cells = side * cells;
     }

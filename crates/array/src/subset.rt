@@ -1,5 +1,6 @@
 // Subsets of a shape: whether numbers are some, and which cells they have, row by row.
 use crate::answer::Written;
+use crate::refusal;
 use crate::shape::Cells;
 ghost use mathlib.Core.Path.{_≡_};
 ghost use Prim.Native.Nat.{_+_, _-_, _≤_, _<_};
@@ -164,15 +165,15 @@ pub fn subset_cells(shape: &[u64], numbers: &[u64], cells: &mut [u64]) -> Writte
     ensures { λ r. ⌜ outcome r (now (cells .exit)) ≡ subsetCells (now (shape .entry)) (now (numbers .entry)) (now (cells .entry)) ⌝ }
 {
     let Cells::Count(_) = crate::shape::shape_cells(shape) else {
-        return Written::Refused(2);
+        return Written::Refused(refusal::SHAPE);
     };
     if !subset_fits(shape, numbers) {
-        return Written::Refused(3);
+        return Written::Refused(refusal::SUBSET);
     }
     let sides = shape.len();
     let count = volume_of(&numbers[sides..]) as usize;
     if cells.len() < count {
-        return Written::Refused(6);
+        return Written::Refused(refusal::OUTPUT);
     }
     store_rows(cells, shape, &numbers[0..sides], &numbers[sides..], count);
     Written::Length(count)

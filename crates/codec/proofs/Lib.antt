@@ -3,3 +3,4 @@ pub mod Ragged
 pub mod Values
 pub mod Lengths
 pub mod RoundTrip
+pub mod Returns

@@ -90,7 +90,7 @@ unfolding putValues
 values-length (fixed k o) vs s = length-joined-ordered o vs ∙ length-joined k vs s
 values-length (ragged w p) vs s = ragged-length w p (endToEnd vs) (length vs) (ap suc (length-ends 0 vs))
 
-width-le : (w m : ℕ) → (w ≡ 4) ⊎ (w ≡ 8) → w * m ≤ 8 * m
+pub width-le : (w m : ℕ) → (w ≡ 4) ⊎ (w ≡ 8) → w * m ≤ 8 * m
 width-le w m (inl e) = rw e (omega arith)
 width-le w m (inr e) = rw e (omega arith)
 

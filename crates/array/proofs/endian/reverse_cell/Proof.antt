@@ -1,11 +1,10 @@
-use borrow.Author.Needs.{needs}
+-- `endian::reverse_cell`: the invariant says that reversing what is left reverses the cell (Reversing, Swapping).
+-- Assumes nothing.
 use native.Mathlib.Omega.{arith}
 use lib.ListN.{length-set}
 use Rattle.array.proofs.Reversing.{Swapping, swapping-begins, swapping-more, swapping-ends}
 use Rattle.array.proofs.endian.reverse_cell.Statement.{statement}
 use Rattle.array.proofs.endian.reverse_cell.Tie as tie
-use Rattle.array.proofs.endian.reverse_cell.Reads as reads
-use Rattle.array.proofs.endian.reverse_cell.Lts as lts
 
 abbrev Inv-loop : tie.InvT-loop
 Inv-loop bytes₀ at size low₀ left₀ bytes low left = Swapping at size bytes₀ bytes low left
@@ -13,55 +12,42 @@ Inv-loop bytes₀ at size low₀ left₀ bytes low left = Swapping at size bytes
 abbrev μ-loop : tie.MeasureT-loop
 μ-loop bytes₀ at size low₀ left₀ bytes low left = left
 
--- src/endian.rt:144:5
 loop-holds : tie.Need-loop-holds Inv-loop μ-loop
 loop-holds c = let a = c .args in swapping-begins (a .at) (a .size) (a .bytes .now) (c .pre)
 
--- src/endian.rt:145:27
 sub-high : tie.Need-sub-high Inv-loop μ-loop
 sub-high c = omega arith
 
--- src/endian.rt:145:20
 add-high : tie.Need-add-high Inv-loop μ-loop
 add-high c = omega arith
 
--- src/endian.rt:146:17
 slice-read-a : tie.Need-slice-read-a Inv-loop μ-loop
 slice-read-a c = omega arith
 
--- src/endian.rt:147:17
 slice-read-b : tie.Need-slice-read-b Inv-loop μ-loop
 slice-read-b c = omega arith
 
--- src/endian.rt:148:9
 slice-write-bytes : tie.Need-slice-write-bytes Inv-loop μ-loop
 slice-write-bytes c = omega arith
 
--- src/endian.rt:149:9
 slice-write-bytes-2 : tie.Need-slice-write-bytes-2 Inv-loop μ-loop
 slice-write-bytes-2 c = simp length-set (omega arith)
 
--- src/endian.rt:150:9
 add-low : tie.Need-add-low Inv-loop μ-loop
 add-low c = omega arith
 
--- src/endian.rt:151:9
 sub-left : tie.Need-sub-left Inv-loop μ-loop
 sub-left c = omega arith
 
--- src/endian.rt:144:5
 loop-less : tie.Need-loop-less Inv-loop μ-loop
 loop-less c = omega arith
 
--- src/endian.rt:144:5
 loop-again : tie.Need-loop-again Inv-loop μ-loop
 loop-again c = let a = c .before .before .before .before .args in let l = c .before .before .before .loop in swapping-more (a .at) (a .size) (a .bytes .now) (l .bytes) (l .low) (l .left) (l .inv) (c .before .before .loop-test .taken)
 
--- src/endian.rt:138:1
 same-length : tie.Need-same-length Inv-loop μ-loop
 same-length c = c .before .loop .inv .same
 
--- src/endian.rt:138:1
 returns : tie.Need-returns Inv-loop μ-loop
 returns c = let a = c .before .before .args in let l = c .before .loop in swapping-ends (a .at) (a .size) (a .bytes .now) (l .bytes) (l .low) (l .left) (l .inv) (c .loop-test .left)
 

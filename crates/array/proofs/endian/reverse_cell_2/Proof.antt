@@ -1,41 +1,33 @@
+-- `endian::reverse_cell_2`: two reads and two stores, by the law for any size (Reversing).
+-- Assumes nothing.
 use native.Mathlib.Omega.{arith}
 use lib.ListN.{length-set}
-use Rattle.array.proofs.Reversing.{reversed-at-once}
 use borrow.Author.Needs.{needs}
+use Rattle.array.proofs.Reversing.{reversed-at-once}
 use Rattle.array.proofs.endian.reverse_cell_2.Statement.{statement}
 use Rattle.array.proofs.endian.reverse_cell_2.Tie as tie
-use Rattle.array.proofs.endian.reverse_cell_2.Reads as reads
-use Rattle.array.proofs.endian.reverse_cell_2.Lts as lts
 
--- src/endian.rt:95:14
 slice-read-b0 : tie.Need-slice-read-b0
 slice-read-b0 c = search needs
 
--- src/endian.rt:96:20
 add-b1 : tie.Need-add-b1
 add-b1 c = search needs
 
--- src/endian.rt:96:14
 slice-read-b1 : tie.Need-slice-read-b1
 slice-read-b1 c = search needs
 
--- src/endian.rt:97:5
 slice-write-bytes : tie.Need-slice-write-bytes
 slice-write-bytes c = search needs
 
--- src/endian.rt:98:11
 add-bytes : tie.Need-add-bytes
 add-bytes c = search needs
 
--- src/endian.rt:98:5
 slice-write-bytes-2 : tie.Need-slice-write-bytes-2
 slice-write-bytes-2 c = simp length-set (omega arith)
 
--- src/endian.rt:91:1
 same-length : tie.Need-same-length
 same-length c = simp length-set
 
--- src/endian.rt:91:1
 returns : tie.Need-returns
 returns c = let a = c .before .before .args in reversed-at-once (a .at) 2 (a .bytes .now) (c .before .before .pre)
 

@@ -1,137 +1,105 @@
+-- `endian::reverse_cell_8`: eight reads and eight stores, by the law for any size (Reversing).
+-- Assumes nothing.
 use native.Mathlib.Omega.{arith}
 use lib.ListN.{length-set}
-use Rattle.array.proofs.Reversing.{reversed-at-once}
 use borrow.Author.Needs.{needs}
+use Rattle.array.proofs.Reversing.{reversed-at-once}
 use Rattle.array.proofs.endian.reverse_cell_8.Statement.{statement}
 use Rattle.array.proofs.endian.reverse_cell_8.Tie as tie
-use Rattle.array.proofs.endian.reverse_cell_8.Reads as reads
-use Rattle.array.proofs.endian.reverse_cell_8.Lts as lts
 
--- src/endian.rt:119:14
 slice-read-b0 : tie.Need-slice-read-b0
 slice-read-b0 c = search needs
 
--- src/endian.rt:120:20
 add-b1 : tie.Need-add-b1
 add-b1 c = search needs
 
--- src/endian.rt:120:14
 slice-read-b1 : tie.Need-slice-read-b1
 slice-read-b1 c = search needs
 
--- src/endian.rt:121:20
 add-b2 : tie.Need-add-b2
 add-b2 c = search needs
 
--- src/endian.rt:121:14
 slice-read-b2 : tie.Need-slice-read-b2
 slice-read-b2 c = search needs
 
--- src/endian.rt:122:20
 add-b3 : tie.Need-add-b3
 add-b3 c = search needs
 
--- src/endian.rt:122:14
 slice-read-b3 : tie.Need-slice-read-b3
 slice-read-b3 c = search needs
 
--- src/endian.rt:123:20
 add-b4 : tie.Need-add-b4
 add-b4 c = search needs
 
--- src/endian.rt:123:14
 slice-read-b4 : tie.Need-slice-read-b4
 slice-read-b4 c = search needs
 
--- src/endian.rt:124:20
 add-b5 : tie.Need-add-b5
 add-b5 c = search needs
 
--- src/endian.rt:124:14
 slice-read-b5 : tie.Need-slice-read-b5
 slice-read-b5 c = search needs
 
--- src/endian.rt:125:20
 add-b6 : tie.Need-add-b6
 add-b6 c = search needs
 
--- src/endian.rt:125:14
 slice-read-b6 : tie.Need-slice-read-b6
 slice-read-b6 c = search needs
 
--- src/endian.rt:126:20
 add-b7 : tie.Need-add-b7
 add-b7 c = search needs
 
--- src/endian.rt:126:14
 slice-read-b7 : tie.Need-slice-read-b7
 slice-read-b7 c = search needs
 
--- src/endian.rt:127:5
 slice-write-bytes : tie.Need-slice-write-bytes
 slice-write-bytes c = search needs
 
--- src/endian.rt:128:11
 add-bytes : tie.Need-add-bytes
 add-bytes c = search needs
 
--- src/endian.rt:128:5
 slice-write-bytes-2 : tie.Need-slice-write-bytes-2
 slice-write-bytes-2 c = simp length-set (omega arith)
 
--- src/endian.rt:129:11
 add-bytes-2 : tie.Need-add-bytes-2
 add-bytes-2 c = search needs
 
--- src/endian.rt:129:5
 slice-write-bytes-3 : tie.Need-slice-write-bytes-3
 slice-write-bytes-3 c = simp length-set (omega arith)
 
--- src/endian.rt:130:11
 add-bytes-3 : tie.Need-add-bytes-3
 add-bytes-3 c = search needs
 
--- src/endian.rt:130:5
 slice-write-bytes-4 : tie.Need-slice-write-bytes-4
 slice-write-bytes-4 c = simp length-set (omega arith)
 
--- src/endian.rt:131:11
 add-bytes-4 : tie.Need-add-bytes-4
 add-bytes-4 c = search needs
 
--- src/endian.rt:131:5
 slice-write-bytes-5 : tie.Need-slice-write-bytes-5
 slice-write-bytes-5 c = simp length-set (omega arith)
 
--- src/endian.rt:132:11
 add-bytes-5 : tie.Need-add-bytes-5
 add-bytes-5 c = search needs
 
--- src/endian.rt:132:5
 slice-write-bytes-6 : tie.Need-slice-write-bytes-6
 slice-write-bytes-6 c = simp length-set (omega arith)
 
--- src/endian.rt:133:11
 add-bytes-6 : tie.Need-add-bytes-6
 add-bytes-6 c = search needs
 
--- src/endian.rt:133:5
 slice-write-bytes-7 : tie.Need-slice-write-bytes-7
 slice-write-bytes-7 c = simp length-set (omega arith)
 
--- src/endian.rt:134:11
 add-bytes-7 : tie.Need-add-bytes-7
 add-bytes-7 c = search needs
 
--- src/endian.rt:134:5
 slice-write-bytes-8 : tie.Need-slice-write-bytes-8
 slice-write-bytes-8 c = simp length-set (omega arith)
 
--- src/endian.rt:115:1
 same-length : tie.Need-same-length
 same-length c = simp length-set
 
--- src/endian.rt:115:1
 returns : tie.Need-returns
 returns c = let a = c .before .before .before .before .before .before .before .before .args in reversed-at-once (a .at) 8 (a .bytes .now) (c .before .before .before .before .before .before .before .before .pre)
 

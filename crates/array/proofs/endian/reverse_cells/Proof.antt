@@ -1,15 +1,14 @@
-use borrow.Author.Needs.{needs}
-use native.Mathlib.Omega.{arith}
-use Prim.Native.Nat.{_+_, _-_, _*_, _≤_}
+-- `endian::reverse_cells`: the first i cells are reversed, for any size (Reversing).
+-- Assumes nothing.
 use mathlib.Core.Path.{_≡_}
+use Prim.Native.Nat.{_+_, _-_, _*_, _≤_}
 use native.Mathlib.Nat.{div-le-self}
+use native.Mathlib.Omega.{arith}
 use lib.ListN.{length}
+use borrow.Author.Needs.{needs}
 use Rattle.array.proofs.Reversing.{Reversing, reversing-begins, reversing-same, reversing-room, reversing-more, reversing-ends}
 use Rattle.array.proofs.endian.reverse_cells.Statement.{statement}
 use Rattle.array.proofs.endian.reverse_cells.Tie as tie
-use Rattle.array.proofs.endian.reverse_cells.Reads as reads
-use Rattle.array.proofs.endian.reverse_cells.Lts as lts
-use Rattle.array.proofs.endian.reverse_cell.Reads as reverse-cell-reads
 
 abbrev Inv-loop : tie.InvT-loop
 Inv-loop size bytes₀ cells i₀ bytes i = Reversing size bytes₀ bytes i
@@ -23,39 +22,30 @@ same c = let a = c .before .before .args in let l = c .loop in reversing-same (a
 room : (c : tie.In-loop Inv-loop μ-loop) → c .before .loop .i * c .before .before .before .args .size + c .before .before .before .args .size ≤ length (c .before .loop .bytes)
 room c = let a = c .before .before .before .args in let l = c .before .loop in reversing-room (a .size) (a .bytes .now) (l .bytes) (l .i) (l .inv) (c .loop-test .taken)
 
--- src/endian.rt:82:17
 div-cells : tie.Need-div-cells Inv-loop μ-loop
 div-cells c = search needs
 
--- src/endian.rt:84:5
 loop-holds : tie.Need-loop-holds Inv-loop μ-loop
 loop-holds c = let a = c .before .args in reversing-begins (a .size) (a .bytes .now)
 
--- src/endian.rt:85:29
 mul-reverse-cell : tie.Need-mul-reverse-cell Inv-loop μ-loop
 mul-reverse-cell c = omega (arith, room (c .before), same (c .before .before))
 
--- src/endian.rt:85:9
 reverse-cell-requires : tie.Need-reverse-cell-requires Inv-loop μ-loop
-reverse-cell-requires c κs = (room (c .before))
+reverse-cell-requires c κs = room (c .before)
 
--- src/endian.rt:86:9
 add-i : tie.Need-add-i Inv-loop μ-loop
 add-i c = omega (arith, div-le-self (length (c .before .before .before .before .before .before .before .args .bytes .now)) (c .before .before .before .before .before .before .before .args .size))
 
--- src/endian.rt:84:5
 loop-less : tie.Need-loop-less Inv-loop μ-loop
 loop-less c = omega arith
 
--- src/endian.rt:84:5
 loop-again : tie.Need-loop-again Inv-loop μ-loop
 loop-again c = let a = c .before .before .before .before .before .before .before .args in let l = c .before .before .before .before .before .loop in reversing-more (a .size) (a .bytes .now) (l .bytes) (l .i) (l .inv) (c .before .before .before .before .loop-test .taken) _ (c .before .before .reverse-cell .ensures)
 
--- src/endian.rt:78:1
 same-length : tie.Need-same-length Inv-loop μ-loop
 same-length c = same (c .before)
 
--- src/endian.rt:78:1
 returns : tie.Need-returns Inv-loop μ-loop
 returns c = let a = c .before .before .before .args in let l = c .before .loop in reversing-ends (a .size) (a .bytes .now) (l .bytes) (l .i) (l .inv) (c .loop-test .left)
 

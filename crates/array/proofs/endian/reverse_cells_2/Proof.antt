@@ -1,13 +1,12 @@
-use borrow.Author.Needs.{needs}
-use native.Mathlib.Omega.{arith}
+-- `endian::reverse_cells_2`: the first i cells are reversed, by the laws for any size (Reversing).
+-- Assumes nothing.
 use Prim.Native.Nat.{_+_, _-_, _*_, _≤_}
+use native.Mathlib.Omega.{arith}
 use lib.ListN.{length}
+use borrow.Author.Needs.{needs}
 use Rattle.array.proofs.Reversing.{Reversing, reversing-begins, reversing-same, reversing-room, reversing-more, reversing-ends}
 use Rattle.array.proofs.endian.reverse_cells_2.Statement.{statement}
 use Rattle.array.proofs.endian.reverse_cells_2.Tie as tie
-use Rattle.array.proofs.endian.reverse_cells_2.Reads as reads
-use Rattle.array.proofs.endian.reverse_cells_2.Lts as lts
-use Rattle.array.proofs.endian.reverse_cell_2.Reads as reverse-cell-2-reads
 
 abbrev Inv-loop : tie.InvT-loop
 Inv-loop bytes₀ cells i₀ bytes i = Reversing 2 bytes₀ bytes i
@@ -18,35 +17,27 @@ abbrev μ-loop : tie.MeasureT-loop
 room : (c : tie.In-loop Inv-loop μ-loop) → c .before .loop .i * 2 + 2 ≤ length (c .before .loop .bytes)
 room c = let l = c .before .loop in reversing-room 2 (c .before .before .before .args .bytes .now) (l .bytes) (l .i) (l .inv) (c .loop-test .taken)
 
--- src/endian.rt:50:5
 loop-holds : tie.Need-loop-holds Inv-loop μ-loop
 loop-holds c = reversing-begins 2 (c .before .args .bytes .now)
 
--- src/endian.rt:51:31
 mul-reverse-cell-2 : tie.Need-mul-reverse-cell-2 Inv-loop μ-loop
-mul-reverse-cell-2 c = omega (arith, (room (c .before)))
+mul-reverse-cell-2 c = omega (arith, room (c .before))
 
--- src/endian.rt:51:9
 reverse-cell-2-requires : tie.Need-reverse-cell-2-requires Inv-loop μ-loop
-reverse-cell-2-requires c κs = (room (c .before))
+reverse-cell-2-requires c κs = room (c .before)
 
--- src/endian.rt:52:9
 add-i : tie.Need-add-i Inv-loop μ-loop
 add-i c = search needs
 
--- src/endian.rt:50:5
 loop-less : tie.Need-loop-less Inv-loop μ-loop
 loop-less c = omega arith
 
--- src/endian.rt:50:5
 loop-again : tie.Need-loop-again Inv-loop μ-loop
 loop-again c = let l = c .before .before .before .before .before .loop in reversing-more 2 (c .before .before .before .before .before .before .before .args .bytes .now) (l .bytes) (l .i) (l .inv) (c .before .before .before .before .loop-test .taken) _ (c .before .before .reverse-cell-2 .ensures)
 
--- src/endian.rt:45:1
 same-length : tie.Need-same-length Inv-loop μ-loop
 same-length c = let l = c .before .loop in reversing-same 2 (c .before .before .before .args .bytes .now) (l .bytes) (l .i) (l .inv)
 
--- src/endian.rt:45:1
 returns : tie.Need-returns Inv-loop μ-loop
 returns c = let l = c .before .loop in reversing-ends 2 (c .before .before .before .args .bytes .now) (l .bytes) (l .i) (l .inv) (c .loop-test .left)
 

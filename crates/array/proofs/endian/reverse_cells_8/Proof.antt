@@ -1,13 +1,12 @@
-use borrow.Author.Needs.{needs}
-use native.Mathlib.Omega.{arith}
+-- `endian::reverse_cells_8`: the first i cells are reversed, by the laws for any size (Reversing).
+-- Assumes nothing.
 use Prim.Native.Nat.{_+_, _-_, _*_, _≤_}
+use native.Mathlib.Omega.{arith}
 use lib.ListN.{length}
+use borrow.Author.Needs.{needs}
 use Rattle.array.proofs.Reversing.{Reversing, reversing-begins, reversing-same, reversing-room, reversing-more, reversing-ends}
 use Rattle.array.proofs.endian.reverse_cells_8.Statement.{statement}
 use Rattle.array.proofs.endian.reverse_cells_8.Tie as tie
-use Rattle.array.proofs.endian.reverse_cells_8.Reads as reads
-use Rattle.array.proofs.endian.reverse_cells_8.Lts as lts
-use Rattle.array.proofs.endian.reverse_cell_8.Reads as reverse-cell-8-reads
 
 abbrev Inv-loop : tie.InvT-loop
 Inv-loop bytes₀ cells i₀ bytes i = Reversing 8 bytes₀ bytes i
@@ -18,35 +17,27 @@ abbrev μ-loop : tie.MeasureT-loop
 room : (c : tie.In-loop Inv-loop μ-loop) → c .before .loop .i * 8 + 8 ≤ length (c .before .loop .bytes)
 room c = let l = c .before .loop in reversing-room 8 (c .before .before .before .args .bytes .now) (l .bytes) (l .i) (l .inv) (c .loop-test .taken)
 
--- src/endian.rt:72:5
 loop-holds : tie.Need-loop-holds Inv-loop μ-loop
 loop-holds c = reversing-begins 8 (c .before .args .bytes .now)
 
--- src/endian.rt:73:31
 mul-reverse-cell-8 : tie.Need-mul-reverse-cell-8 Inv-loop μ-loop
-mul-reverse-cell-8 c = omega (arith, (room (c .before)))
+mul-reverse-cell-8 c = omega (arith, room (c .before))
 
--- src/endian.rt:73:9
 reverse-cell-8-requires : tie.Need-reverse-cell-8-requires Inv-loop μ-loop
-reverse-cell-8-requires c κs = (room (c .before))
+reverse-cell-8-requires c κs = room (c .before)
 
--- src/endian.rt:74:9
 add-i : tie.Need-add-i Inv-loop μ-loop
 add-i c = search needs
 
--- src/endian.rt:72:5
 loop-less : tie.Need-loop-less Inv-loop μ-loop
 loop-less c = omega arith
 
--- src/endian.rt:72:5
 loop-again : tie.Need-loop-again Inv-loop μ-loop
 loop-again c = let l = c .before .before .before .before .before .loop in reversing-more 8 (c .before .before .before .before .before .before .before .args .bytes .now) (l .bytes) (l .i) (l .inv) (c .before .before .before .before .loop-test .taken) _ (c .before .before .reverse-cell-8 .ensures)
 
--- src/endian.rt:67:1
 same-length : tie.Need-same-length Inv-loop μ-loop
 same-length c = let l = c .before .loop in reversing-same 8 (c .before .before .before .args .bytes .now) (l .bytes) (l .i) (l .inv)
 
--- src/endian.rt:67:1
 returns : tie.Need-returns Inv-loop μ-loop
 returns c = let l = c .before .loop in reversing-ends 8 (c .before .before .before .args .bytes .now) (l .bytes) (l .i) (l .inv) (c .loop-test .left)
 

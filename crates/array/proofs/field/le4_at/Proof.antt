@@ -1,83 +1,64 @@
+-- `field::le4_at`: four reads are the four bytes (Unrolled), and the sum is their number.
+-- Assumes nothing.
 use mathlib.Core.Path.{ap}
 use native.Mathlib.Omega.{arith}
+use borrow.Author.Needs.{needs}
 use Rattle.array.specs.Bytes.{unle}
 use Rattle.array.proofs.Unrolled.{reads-take}
-use borrow.Author.Needs.{needs}
 use Rattle.array.proofs.field.le4_at.Statement.{statement}
 use Rattle.array.proofs.field.le4_at.Tie as tie
-use Rattle.array.proofs.field.le4_at.Reads as reads
-use Rattle.array.proofs.field.le4_at.Lts as lts
-use Rattle.array.proofs.field.wide.Reads as wide-reads
 
--- src/field.rt:57:19
 shared-slice-read-wide : tie.Need-shared-slice-read-wide
 shared-slice-read-wide c = search needs
 
--- src/field.rt:57:9
 wide-requires : tie.Need-wide-requires
 wide-requires c κs = search needs
 
--- src/field.rt:58:21
 add-wide : tie.Need-add-wide
 add-wide c = search needs
 
--- src/field.rt:58:19
 shared-slice-read-wide-2 : tie.Need-shared-slice-read-wide-2
 shared-slice-read-wide-2 c = search needs
 
--- src/field.rt:58:9
 wide-requires-2 : tie.Need-wide-requires-2
 wide-requires-2 c κs = search needs
 
--- src/field.rt:59:21
 add-wide-2 : tie.Need-add-wide-2
 add-wide-2 c = search needs
 
--- src/field.rt:59:19
 shared-slice-read-wide-3 : tie.Need-shared-slice-read-wide-3
 shared-slice-read-wide-3 c = search needs
 
--- src/field.rt:59:9
 wide-requires-3 : tie.Need-wide-requires-3
 wide-requires-3 c κs = search needs
 
--- src/field.rt:60:21
 add-wide-3 : tie.Need-add-wide-3
 add-wide-3 c = search needs
 
--- src/field.rt:60:19
 shared-slice-read-wide-4 : tie.Need-shared-slice-read-wide-4
 shared-slice-read-wide-4 c = search needs
 
--- src/field.rt:60:9
 wide-requires-4 : tie.Need-wide-requires-4
 wide-requires-4 c κs = search needs
 
--- src/field.rt:61:34
 mul-result : tie.Need-mul-result
 mul-result c = search needs
 
--- src/field.rt:61:29
 add-result : tie.Need-add-result
 add-result c = search needs
 
--- src/field.rt:61:22
 mul-result-2 : tie.Need-mul-result-2
 mul-result-2 c = search needs
 
--- src/field.rt:61:17
 add-result-2 : tie.Need-add-result-2
 add-result-2 c = search needs
 
--- src/field.rt:61:10
 mul-result-3 : tie.Need-mul-result-3
 mul-result-3 c = search needs
 
--- src/field.rt:61:5
 add-result-3 : tie.Need-add-result-3
 add-result-3 c = search needs
 
--- src/field.rt:53:1
 returns : tie.Need-returns
 unfolding unle
 returns c = let a = c .before .before .before .before .before .before .before .before .before .args in omega (arith, ap unle (reads-take (a .s .now) (a .at) 4 (c .before .before .before .before .before .before .before .before .before .pre)))

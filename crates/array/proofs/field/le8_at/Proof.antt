@@ -1,163 +1,124 @@
+-- `field::le8_at`: eight reads are the eight bytes (Unrolled), and the sum is their number.
+-- Assumes nothing.
 use mathlib.Core.Path.{ap}
 use native.Mathlib.Omega.{arith}
+use borrow.Author.Needs.{needs}
 use Rattle.array.specs.Bytes.{unle}
 use Rattle.array.proofs.Unrolled.{reads-take}
-use borrow.Author.Needs.{needs}
 use Rattle.array.proofs.field.le8_at.Statement.{statement}
 use Rattle.array.proofs.field.le8_at.Tie as tie
-use Rattle.array.proofs.field.le8_at.Reads as reads
-use Rattle.array.proofs.field.le8_at.Lts as lts
-use Rattle.array.proofs.field.wide.Reads as wide-reads
 
--- src/field.rt:68:19
 shared-slice-read-wide : tie.Need-shared-slice-read-wide
 shared-slice-read-wide c = search needs
 
--- src/field.rt:68:9
 wide-requires : tie.Need-wide-requires
 wide-requires c κs = search needs
 
--- src/field.rt:69:21
 add-wide : tie.Need-add-wide
 add-wide c = search needs
 
--- src/field.rt:69:19
 shared-slice-read-wide-2 : tie.Need-shared-slice-read-wide-2
 shared-slice-read-wide-2 c = search needs
 
--- src/field.rt:69:9
 wide-requires-2 : tie.Need-wide-requires-2
 wide-requires-2 c κs = search needs
 
--- src/field.rt:70:21
 add-wide-2 : tie.Need-add-wide-2
 add-wide-2 c = search needs
 
--- src/field.rt:70:19
 shared-slice-read-wide-3 : tie.Need-shared-slice-read-wide-3
 shared-slice-read-wide-3 c = search needs
 
--- src/field.rt:70:9
 wide-requires-3 : tie.Need-wide-requires-3
 wide-requires-3 c κs = search needs
 
--- src/field.rt:71:21
 add-wide-3 : tie.Need-add-wide-3
 add-wide-3 c = search needs
 
--- src/field.rt:71:19
 shared-slice-read-wide-4 : tie.Need-shared-slice-read-wide-4
 shared-slice-read-wide-4 c = search needs
 
--- src/field.rt:71:9
 wide-requires-4 : tie.Need-wide-requires-4
 wide-requires-4 c κs = search needs
 
--- src/field.rt:72:21
 add-wide-4 : tie.Need-add-wide-4
 add-wide-4 c = search needs
 
--- src/field.rt:72:19
 shared-slice-read-wide-5 : tie.Need-shared-slice-read-wide-5
 shared-slice-read-wide-5 c = search needs
 
--- src/field.rt:72:9
 wide-requires-5 : tie.Need-wide-requires-5
 wide-requires-5 c κs = search needs
 
--- src/field.rt:73:21
 add-wide-5 : tie.Need-add-wide-5
 add-wide-5 c = search needs
 
--- src/field.rt:73:19
 shared-slice-read-wide-6 : tie.Need-shared-slice-read-wide-6
 shared-slice-read-wide-6 c = search needs
 
--- src/field.rt:73:9
 wide-requires-6 : tie.Need-wide-requires-6
 wide-requires-6 c κs = search needs
 
--- src/field.rt:74:21
 add-wide-6 : tie.Need-add-wide-6
 add-wide-6 c = search needs
 
--- src/field.rt:74:19
 shared-slice-read-wide-7 : tie.Need-shared-slice-read-wide-7
 shared-slice-read-wide-7 c = search needs
 
--- src/field.rt:74:9
 wide-requires-7 : tie.Need-wide-requires-7
 wide-requires-7 c κs = search needs
 
--- src/field.rt:75:21
 add-wide-7 : tie.Need-add-wide-7
 add-wide-7 c = search needs
 
--- src/field.rt:75:19
 shared-slice-read-wide-8 : tie.Need-shared-slice-read-wide-8
 shared-slice-read-wide-8 c = search needs
 
--- src/field.rt:75:9
 wide-requires-8 : tie.Need-wide-requires-8
 wide-requires-8 c κs = search needs
 
--- src/field.rt:76:82
 mul-result : tie.Need-mul-result
 mul-result c = search needs
 
--- src/field.rt:76:77
 add-result : tie.Need-add-result
 add-result c = search needs
 
--- src/field.rt:76:70
 mul-result-2 : tie.Need-mul-result-2
 mul-result-2 c = search needs
 
--- src/field.rt:76:65
 add-result-2 : tie.Need-add-result-2
 add-result-2 c = search needs
 
--- src/field.rt:76:58
 mul-result-3 : tie.Need-mul-result-3
 mul-result-3 c = search needs
 
--- src/field.rt:76:53
 add-result-3 : tie.Need-add-result-3
 add-result-3 c = search needs
 
--- src/field.rt:76:46
 mul-result-4 : tie.Need-mul-result-4
 mul-result-4 c = search needs
 
--- src/field.rt:76:41
 add-result-4 : tie.Need-add-result-4
 add-result-4 c = search needs
 
--- src/field.rt:76:34
 mul-result-5 : tie.Need-mul-result-5
 mul-result-5 c = search needs
 
--- src/field.rt:76:29
 add-result-5 : tie.Need-add-result-5
 add-result-5 c = search needs
 
--- src/field.rt:76:22
 mul-result-6 : tie.Need-mul-result-6
 mul-result-6 c = search needs
 
--- src/field.rt:76:17
 add-result-6 : tie.Need-add-result-6
 add-result-6 c = search needs
 
--- src/field.rt:76:10
 mul-result-7 : tie.Need-mul-result-7
 mul-result-7 c = search needs
 
--- src/field.rt:76:5
 add-result-7 : tie.Need-add-result-7
 add-result-7 c = search needs
 
--- src/field.rt:64:1
 returns : tie.Need-returns
 unfolding unle
 returns c = let a = c .before .before .before .before .before .before .before .before .before .before .before .before .before .before .before .before .before .args in omega (arith, ap unle (reads-take (a .s .now) (a .at) 8 (c .before .before .before .before .before .before .before .before .before .before .before .before .before .before .before .before .before .pre)))

@@ -1,39 +1,30 @@
+-- `field::le_at`: by cases on the width.
+-- Assumes nothing.
 use mathlib.Core.Path.{sym, ap, _∙_}
-use Prim.Native.Nat.{ℕ}
 use native.Mathlib.Omega.{arith}
 use lib.ListN.{take, drop}
+use borrow.Author.Needs.{needs}
 use Rattle.array.specs.declared.kind.IndexWidth.{IndexWidth}
 use Rattle.array.specs.Bytes.{unle}
 use Rattle.array.specs.Meaning.{widthOf}
-use borrow.Author.Needs.{needs}
 use Rattle.array.proofs.field.le_at.Statement.{statement}
 use Rattle.array.proofs.field.le_at.Tie as tie
-use Rattle.array.proofs.field.le_at.Reads as reads
-use Rattle.array.proofs.field.le_at.Lts as lts
-use Rattle.array.proofs.field.le4_at.Reads as le4-at-reads
-use Rattle.array.proofs.field.le8_at.Reads as le8-at-reads
 
--- src/field.rt:85:29
 enum-told : tie.Need-enum-told
 enum-told c = search needs
 
--- src/field.rt:85:29
 le4-at-requires : tie.Need-le4-at-requires
 le4-at-requires c κs = omega (arith, ap widthOf (c .enum-told .given .1))
 
--- src/field.rt:86:30
 enum-told-2 : tie.Need-enum-told-2
 enum-told-2 c = search needs
 
--- src/field.rt:86:30
 le8-at-requires : tie.Need-le8-at-requires
 le8-at-requires c κs = omega (arith, ap widthOf (c .enum-told2 .given .1))
 
--- src/field.rt:80:1
 returns : tie.Need-returns
 returns c = let a = c .before .before .before .before .args in c .le4-at .ensures ∙ ap (λ (w : IndexWidth). unle (take (widthOf w) (drop (a .at) (a .s .now)))) (sym (c .before .enum-told .given .1))
 
--- src/field.rt:80:1
 returns-2 : tie.Need-returns-2
 returns-2 c = let a = c .before .before .before .before .args in c .le8-at .ensures ∙ ap (λ (w : IndexWidth). unle (take (widthOf w) (drop (a .at) (a .s .now)))) (sym (c .before .enum-told2 .given .1))
 

@@ -1,110 +1,85 @@
+-- `field::put_u64`: eight stores are the eight bytes laid over the output (Unrolled).
+-- Assumes nothing.
 use native.Mathlib.Omega.{arith}
 use lib.ListN.{length-set}
+use borrow.Author.Needs.{needs}
 use Rattle.array.specs.Bytes.{le}
 use Rattle.array.proofs.Unrolled.{stores-over}
-use borrow.Author.Needs.{needs}
 use Rattle.array.proofs.field.put_u64.Statement.{statement}
 use Rattle.array.proofs.field.put_u64.Tie as tie
-use Rattle.array.proofs.field.put_u64.Reads as reads
-use Rattle.array.proofs.field.put_u64.Lts as lts
 
--- src/field.rt:119:14
 cast-b0 : tie.Need-cast-b0
 cast-b0 c = search needs
 
--- src/field.rt:120:14
 cast-b1 : tie.Need-cast-b1
 cast-b1 c = search needs
 
--- src/field.rt:121:14
 cast-b2 : tie.Need-cast-b2
 cast-b2 c = search needs
 
--- src/field.rt:122:14
 cast-b3 : tie.Need-cast-b3
 cast-b3 c = search needs
 
--- src/field.rt:123:14
 cast-b4 : tie.Need-cast-b4
 cast-b4 c = search needs
 
--- src/field.rt:124:14
 cast-b5 : tie.Need-cast-b5
 cast-b5 c = search needs
 
--- src/field.rt:125:14
 cast-b6 : tie.Need-cast-b6
 cast-b6 c = search needs
 
--- src/field.rt:126:14
 cast-b7 : tie.Need-cast-b7
 cast-b7 c = search needs
 
--- src/field.rt:127:5
 slice-write-out : tie.Need-slice-write-out
 slice-write-out c = search needs
 
--- src/field.rt:128:9
 add-out : tie.Need-add-out
 add-out c = search needs
 
--- src/field.rt:128:5
 slice-write-out-2 : tie.Need-slice-write-out-2
 slice-write-out-2 c = simp length-set (omega arith)
 
--- src/field.rt:129:9
 add-out-2 : tie.Need-add-out-2
 add-out-2 c = search needs
 
--- src/field.rt:129:5
 slice-write-out-3 : tie.Need-slice-write-out-3
 slice-write-out-3 c = simp length-set (omega arith)
 
--- src/field.rt:130:9
 add-out-3 : tie.Need-add-out-3
 add-out-3 c = search needs
 
--- src/field.rt:130:5
 slice-write-out-4 : tie.Need-slice-write-out-4
 slice-write-out-4 c = simp length-set (omega arith)
 
--- src/field.rt:131:9
 add-out-4 : tie.Need-add-out-4
 add-out-4 c = search needs
 
--- src/field.rt:131:5
 slice-write-out-5 : tie.Need-slice-write-out-5
 slice-write-out-5 c = simp length-set (omega arith)
 
--- src/field.rt:132:9
 add-out-5 : tie.Need-add-out-5
 add-out-5 c = search needs
 
--- src/field.rt:132:5
 slice-write-out-6 : tie.Need-slice-write-out-6
 slice-write-out-6 c = simp length-set (omega arith)
 
--- src/field.rt:133:9
 add-out-6 : tie.Need-add-out-6
 add-out-6 c = search needs
 
--- src/field.rt:133:5
 slice-write-out-7 : tie.Need-slice-write-out-7
 slice-write-out-7 c = simp length-set (omega arith)
 
--- src/field.rt:134:9
 add-out-7 : tie.Need-add-out-7
 add-out-7 c = search needs
 
--- src/field.rt:134:5
 slice-write-out-8 : tie.Need-slice-write-out-8
 slice-write-out-8 c = simp length-set (omega arith)
 
--- src/field.rt:108:1
 same-length : tie.Need-same-length
 same-length c = simp length-set
 
--- src/field.rt:108:1
 returns : tie.Need-returns
 unfolding le
 returns c = let a = c .args in stores-over (a .at) (le 8 (a .v)) (a .out .now) (c .pre)

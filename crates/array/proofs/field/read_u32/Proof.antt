@@ -1,29 +1,23 @@
+-- `field::read_u32`, by the laws on a field of any width and refusal.
+-- Assumes nothing.
 use native.Mathlib.Omega.{arith}
-use Rattle.array.proofs.Fields.{field-short, field-full}
 use borrow.Author.Needs.{needs}
+use Rattle.array.proofs.Fields.{field-short, field-full}
 use Rattle.array.proofs.field.read_u32.Statement.{statement}
 use Rattle.array.proofs.field.read_u32.Tie as tie
-use Rattle.array.proofs.field.read_u32.Reads as reads
-use Rattle.array.proofs.field.read_u32.Lts as lts
-use Rattle.array.proofs.field.le4_at.Reads as le4-at-reads
 
--- src/field.rt:37:9
 returns : tie.Need-returns
 returns c = let a = c .before .before .args in field-short 4 11 (a .s .now) (a .at) (omega arith)
 
--- src/field.rt:39:8
 sub-if2 : tie.Need-sub-if2
 sub-if2 c = search needs
 
--- src/field.rt:40:9
 returns-2 : tie.Need-returns-2
 returns-2 c = let a = c .before .before .before .args in field-short 4 11 (a .s .now) (a .at) (omega arith)
 
--- src/field.rt:42:18
 le4-at-requires : tie.Need-le4-at-requires
 le4-at-requires c κs = search needs
 
--- src/field.rt:33:1
 returns-3 : tie.Need-returns-3
 returns-3 c = let a = c .before .before .before .before .args in field-full 4 11 (a .s .now) (a .at) (c .le4-at .result) (omega arith) (c .le4-at .ensures)
 

@@ -1,29 +1,23 @@
+-- `field::read_u64`, by the laws on a field of any width and refusal.
+-- Assumes nothing.
 use native.Mathlib.Omega.{arith}
-use Rattle.array.proofs.Fields.{field-short, field-full}
 use borrow.Author.Needs.{needs}
+use Rattle.array.proofs.Fields.{field-short, field-full}
 use Rattle.array.proofs.field.read_u64.Statement.{statement}
 use Rattle.array.proofs.field.read_u64.Tie as tie
-use Rattle.array.proofs.field.read_u64.Reads as reads
-use Rattle.array.proofs.field.read_u64.Lts as lts
-use Rattle.array.proofs.field.le8_at.Reads as le8-at-reads
 
--- src/field.rt:24:9
 returns : tie.Need-returns
 returns c = let a = c .before .before .args in field-short 8 7 (a .s .now) (a .at) (omega arith)
 
--- src/field.rt:26:8
 sub-if2 : tie.Need-sub-if2
 sub-if2 c = search needs
 
--- src/field.rt:27:9
 returns-2 : tie.Need-returns-2
 returns-2 c = let a = c .before .before .before .args in field-short 8 7 (a .s .now) (a .at) (omega arith)
 
--- src/field.rt:29:18
 le8-at-requires : tie.Need-le8-at-requires
 le8-at-requires c κs = search needs
 
--- src/field.rt:20:1
 returns-3 : tie.Need-returns-3
 returns-3 c = let a = c .before .before .before .before .args in field-full 8 7 (a .s .now) (a .at) (c .le8-at .result) (omega arith) (c .le8-at .ensures)
 

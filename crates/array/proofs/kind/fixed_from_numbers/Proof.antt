@@ -1,52 +1,41 @@
+-- `kind::fixed_from_numbers`: a size outside its range, or one of two orders, by the laws on a form chosen by its number.
+-- Assumes nothing.
 use mathlib.Core.Path.{ap, _∙_}
+use native.Mathlib.Omega.{arith}
+use borrow.Author.Needs.{needs}
 use Rattle.array.specs.Answer.{gives}
 use Rattle.array.specs.Kind.{fixed, little, big}
 use Rattle.array.proofs.Numbers.{first, second, other, outside, size-fits, size-none, size-over}
-use native.Mathlib.Omega.{arith}
-use borrow.Author.Needs.{needs}
 use Rattle.array.proofs.kind.fixed_from_numbers.Statement.{statement}
 use Rattle.array.proofs.kind.fixed_from_numbers.Tie as tie
-use Rattle.array.proofs.kind.fixed_from_numbers.Reads as reads
-use Rattle.array.proofs.kind.fixed_from_numbers.Lts as lts
-use Rattle.array.proofs.kind.fixed.Reads as fixed-reads
 
--- src/kind.rt:114:9
 returns : tie.Need-returns
 returns c = let a = c .before .args in outside (fixed (a .size)) little big (a .depth) (a .order) (size-none (a .size) little (c .if1 .taken)) (size-none (a .size) big (c .if1 .taken))
 
--- src/kind.rt:116:15
 cast-if2 : tie.Need-cast-if2
 cast-if2 c = search needs
 
--- src/kind.rt:117:9
 returns-2 : tie.Need-returns-2
 returns-2 c = let a = c .before .before .args in outside (fixed (a .size)) little big (a .depth) (a .order) (size-over (a .size) little (c .if2 .taken)) (size-over (a .size) big (c .if2 .taken))
 
--- src/kind.rt:120:42
 cast-fixed : tie.Need-cast-fixed
 cast-fixed c = search needs
 
--- src/kind.rt:120:29
 fixed-requires : tie.Need-fixed-requires
 fixed-requires c κs = search needs
 
--- src/kind.rt:121:42
 cast-fixed-2 : tie.Need-cast-fixed-2
 cast-fixed-2 c = search needs
 
--- src/kind.rt:121:29
 fixed-requires-2 : tie.Need-fixed-requires-2
 fixed-requires-2 c κs = search needs
 
--- src/kind.rt:110:1
 returns-3 : tie.Need-returns-3
 returns-3 c = let a = c .before .before .before .before .args in ap gives (c .fixed .ensures) ∙ first (fixed (a .size)) little big (a .depth) (a .order) (c .before .match .keys1) (size-fits (a .size) little (omega arith) (omega arith))
 
--- src/kind.rt:110:1
 returns-4 : tie.Need-returns-4
 returns-4 c = let a = c .before .before .before .before .args in ap gives (c .fixed2 .ensures) ∙ second (fixed (a .size)) little big (a .depth) (a .order) (c .before .match .keys2) (size-fits (a .size) big (omega arith) (omega arith))
 
--- src/kind.rt:110:1
 returns-5 : tie.Need-returns-5
 returns-5 c = let a = c .before .before .before .args in other (fixed (a .size)) little big (a .depth) (a .order) (c .match .rest .0 .1) (c .match .rest .1)
 

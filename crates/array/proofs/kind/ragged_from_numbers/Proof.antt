@@ -1,33 +1,27 @@
+-- `kind::ragged_from_numbers`: the two widths, each by the callee, and any other width refused.
+-- Assumes nothing.
 use mathlib.Core.Path.{sym, ap, _∙_}
 use Prim.Native.Nat.{ℕ}
+use borrow.Author.Needs.{needs}
 use Rattle.array.specs.Answer.{andThen}
 use Rattle.array.specs.Kind.{ragged, atStart, atEnd}
 use Rattle.array.specs.Numbers.{raggedOf, kindWith}
 use Rattle.array.proofs.Numbers.{outside, width-unknown}
-use borrow.Author.Needs.{needs}
 use Rattle.array.proofs.kind.ragged_from_numbers.Statement.{statement}
 use Rattle.array.proofs.kind.ragged_from_numbers.Tie as tie
-use Rattle.array.proofs.kind.ragged_from_numbers.Reads as reads
-use Rattle.array.proofs.kind.ragged_from_numbers.Lts as lts
-use Rattle.array.proofs.kind.ragged_of_width.Reads as ragged-of-width-reads
 
--- src/kind.rt:130:14
 ragged-of-width-requires : tie.Need-ragged-of-width-requires
 ragged-of-width-requires c κs = search needs
 
--- src/kind.rt:131:14
 ragged-of-width-requires-2 : tie.Need-ragged-of-width-requires-2
 ragged-of-width-requires-2 c κs = search needs
 
--- src/kind.rt:126:1
 returns : tie.Need-returns
 returns c = let a = c .before .before .args in c .ragged-of-width .ensures ∙ ap (λ (w : ℕ). andThen (raggedOf w (a .place)) (kindWith (a .depth))) (sym (c .before .match .keys1))
 
--- src/kind.rt:126:1
 returns-2 : tie.Need-returns-2
 returns-2 c = let a = c .before .before .args in c .ragged-of-width2 .ensures ∙ ap (λ (w : ℕ). andThen (raggedOf w (a .place)) (kindWith (a .depth))) (sym (c .before .match .keys2))
 
--- src/kind.rt:126:1
 returns-3 : tie.Need-returns-3
 returns-3 c = let a = c .before .args in outside (ragged (a .width)) atStart atEnd (a .depth) (a .place) (width-unknown (a .width) atStart (c .match .rest .0 .1) (c .match .rest .1)) (width-unknown (a .width) atEnd (c .match .rest .0 .1) (c .match .rest .1))
 

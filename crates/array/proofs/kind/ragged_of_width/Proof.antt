@@ -1,32 +1,26 @@
+-- `kind::ragged_of_width`: one of two places, by the laws on a form chosen by its number.
+-- Assumes nothing.
 use mathlib.Core.Path.{ap, _∙_}
+use borrow.Author.Needs.{needs}
 use Rattle.array.specs.Answer.{gives}
 use Rattle.array.specs.Kind.{ragged, atStart, atEnd}
 use Rattle.array.specs.Meaning.{widthOf}
 use Rattle.array.proofs.Numbers.{first, second, other, width-fits}
-use borrow.Author.Needs.{needs}
 use Rattle.array.proofs.kind.ragged_of_width.Statement.{statement}
 use Rattle.array.proofs.kind.ragged_of_width.Tie as tie
-use Rattle.array.proofs.kind.ragged_of_width.Reads as reads
-use Rattle.array.proofs.kind.ragged_of_width.Lts as lts
-use Rattle.array.proofs.kind.ragged.Reads as ragged-reads
 
--- src/kind.rt:140:29
 ragged-requires : tie.Need-ragged-requires
 ragged-requires c κs = search needs
 
--- src/kind.rt:141:29
 ragged-requires-2 : tie.Need-ragged-requires-2
 ragged-requires-2 c κs = search needs
 
--- src/kind.rt:136:1
 returns : tie.Need-returns
 returns c = let a = c .before .before .args in ap gives (c .ragged .ensures) ∙ first (ragged (widthOf (a .width))) atStart atEnd (a .depth) (a .place) (c .before .match .keys1) (width-fits (a .width) atStart)
 
--- src/kind.rt:136:1
 returns-2 : tie.Need-returns-2
 returns-2 c = let a = c .before .before .args in ap gives (c .ragged2 .ensures) ∙ second (ragged (widthOf (a .width))) atStart atEnd (a .depth) (a .place) (c .before .match .keys2) (width-fits (a .width) atEnd)
 
--- src/kind.rt:136:1
 returns-3 : tie.Need-returns-3
 returns-3 c = let a = c .before .args in other (ragged (widthOf (a .width))) atStart atEnd (a .depth) (a .place) (c .match .rest .0 .1) (c .match .rest .1)
 

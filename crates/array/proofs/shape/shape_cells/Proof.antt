@@ -1,9 +1,8 @@
 -- `shape_cells` meets its contract: the sides from k on are counted, and each is limited before it is multiplied (proofs/ShapeLaws).
 -- Assumes nothing.
-use Prim.Native.Nat.{ℕ, _*_, _<_, _≤_}
+use Prim.Native.Nat.{ℕ}
 use mathlib.Core.List.{List}
 use native.Mathlib.Omega.{arith}
-use lib.ListN.{getD}
 use Rattle.array.proofs.ShapeLaws.{Sides, sides-begin, sides-more, sides-end, no-sides, many-sides, no-side, long-side, many-cells, side-fits}
 use Rattle.array.proofs.shape.shape_cells.Statement.{statement}
 use Rattle.array.proofs.shape.shape_cells.Tie as tie
@@ -44,12 +43,12 @@ returns-3 c = let l = c .before .before .before in no-side (shape l) (l .loop .c
 returns-4 : tie.Need-returns-4 Inv-loop μ-loop
 returns-4 c =
     let l = c .before .before .before .before in
-    long-side (shape l) (l .loop .cells) (l .loop .k) (l .loop .inv) (c .before .before .before .loop-test .taken) (c .if4 .taken)
+    long-side (shape l) (l .loop .cells) (l .loop .k) (l .loop .inv) (c .before .before .before .loop-test .taken) (omega arith)
 
 mul-if5 : tie.Need-mul-if5 Inv-loop μ-loop
 mul-if5 c =
     let l = c .before .before .before .before in
-    omega (arith, side-fits (shape l) (l .loop .cells) (l .loop .k) (l .loop .inv) (c .before .before .before .loop-test .taken) (c .if4 .left))
+    omega (arith, side-fits (shape l) (l .loop .cells) (l .loop .k) (l .loop .inv) (c .before .before .before .loop-test .taken) (omega arith))
 
 returns-5 : tie.Need-returns-5 Inv-loop μ-loop
 returns-5 c =
@@ -59,7 +58,7 @@ returns-5 c =
 mul-cells : tie.Need-mul-cells Inv-loop μ-loop
 mul-cells c =
     let l = c .before .before .before .before .before in
-    omega (arith, side-fits (shape l) (l .loop .cells) (l .loop .k) (l .loop .inv) (c .before .before .before .before .loop-test .taken) (c .before .if4 .left))
+    omega (arith, side-fits (shape l) (l .loop .cells) (l .loop .k) (l .loop .inv) (c .before .before .before .before .loop-test .taken) (omega arith))
 
 loop-less : tie.Need-loop-less Inv-loop μ-loop
 loop-less c = omega arith

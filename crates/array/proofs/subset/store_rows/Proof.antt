@@ -73,25 +73,25 @@ store-run-requires : tie.Need-store-run-requires Inv-loop μ-loop
 store-run-requires c κs =
     let i = c .before .before in
     let l = i .before in
-    (omega (arith, within l (i .loop-test .taken), same l, start l .pre .3), omega (arith, c .before .cell-at .ensures, room l (i .loop-test .taken)))
+    (omega (arith, within l (omega arith), same l, start l .pre .3), omega (arith, c .before .cell-at .ensures, room l (omega arith)))
 
 add-at : tie.Need-add-at Inv-loop μ-loop
 add-at c =
     let i = c .before .before .before .before .before in
-    omega (arith, within (i .before) (i .loop-test .taken), start (i .before) .fits .count)
+    omega (arith, within (i .before) (omega arith), start (i .before) .fits .count)
 
 loop-less : tie.Need-loop-less Inv-loop μ-loop
 loop-less c =
     let i = c .before .before .before .before .before in
     let l = i .before in
-    omega (arith, within l (i .loop-test .taken), left-some (listed l) (start l .args .count) (row l) (l .loop .at) (l .loop .inv .geo) (i .loop-test .taken))
+    omega (arith, within l (omega arith), left-some (listed l) (start l .args .count) (row l) (l .loop .at) (l .loop .inv .geo) (omega arith))
 
 loop-again : tie.Need-loop-again Inv-loop μ-loop
 loop-again c =
     let r = c .before .before in
     let i = r .before .before .before in
     let l = i .before in
-    stored-more (listed l) (start l .args .cells .now) (l .loop .cells) (start l .args .count) (row l) (l .loop .at) (l .loop .inv) (i .loop-test .taken)
+    stored-more (listed l) (start l .args .cells .now) (l .loop .cells) (start l .args .count) (row l) (l .loop .at) (l .loop .inv) (omega arith)
     (r .before .before .cell-at .result) (r .store-run .last .0) (r .before .before .cell-at .ensures) (r .store-run .ensures)
 
 same-length : tie.Need-same-length Inv-loop μ-loop
@@ -100,7 +100,7 @@ same-length c = same (c .before)
 returns : tie.Need-returns Inv-loop μ-loop
 returns c =
     let l = c .before in
-    stored-ends (listed l) (start l .args .cells .now) (l .loop .cells) (start l .args .count) (row l) (l .loop .at) (l .loop .inv) (c .loop-test .left)
+    stored-ends (listed l) (start l .args .cells .now) (l .loop .cells) (start l .args .count) (row l) (l .loop .at) (l .loop .inv) (omega arith)
 
 pub store-rows-spec : {M : Type 1} → statement M
 store-rows-spec =

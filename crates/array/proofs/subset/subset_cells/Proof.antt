@@ -8,10 +8,8 @@ use native.Mathlib.Omega.{arith}
 use borrow.Author.Needs.{needs}
 use borrow.Author.Tests.{not-true, not-false}
 use lib.ListN.{length}
-use Rattle.array.specs.Shape.{shapeTest, ShapeOk}
 use Rattle.array.specs.ShapeCells.{toldCells}
 use Rattle.array.specs.Subset.{Subset, subsetOf, numbersTest, NumbersOk, cellsIn}
-use Rattle.array.specs.Buffers.{over}
 use Rattle.array.proofs.Rules.{numbers-ok}
 use Rattle.array.proofs.ShapeLaws.{Counted, counted, not-counted}
 use Rattle.array.proofs.SubsetLists.{subset-parts, within-parts}
@@ -138,8 +136,8 @@ returns-4 c =
     let v = r .before in
     let e = v .before .before in
     let m = e .before .before in
-    cells-stored (shape m) (numbers m) (lent m) (shaped m .passes) (passed e) (v .volume-of .result) (total v) (r .if2 .left) (s .store-rows .last .0)
-    (s .store-rows .ensures ∙ ap (λ (b : Subset). over (cellsIn (shape m) b) (lent m)) (subset-parts (length (shape m)) (numbers m)))
+    cells-stored (shape m) (numbers m) (lent m) (shaped m .passes) (passed e) (v .volume-of .result) (total v) (r .if2 .left)
+    _ (subset-parts (length (shape m)) (numbers m)) (s .store-rows .last .0) (s .store-rows .ensures)
 
 pub subset-cells-spec : {M : Type 1} → statement M
 subset-cells-spec =

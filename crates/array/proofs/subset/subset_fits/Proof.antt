@@ -2,7 +2,7 @@
 -- Assumes nothing.
 use mathlib.Core.Path.{sym, ap, _∙_}
 use borrow.Author.Needs.{needs}
-use Rattle.array.specs.Subset.{Subset, subsetTest}
+use Rattle.array.specs.Subset.{subsetTest}
 use lib.ListN.{length}
 use Rattle.array.proofs.Fitting.{numbers-miscounted, numbers-counted}
 use Rattle.array.proofs.SubsetLists.{subset-parts}
