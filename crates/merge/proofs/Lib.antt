@@ -1,0 +1,4 @@
+pub mod OneChunk
+pub mod ChunkWalk
+pub mod ChunkSums
+pub mod Totals

@@ -1,0 +1,2 @@
+// Merging chunks: everything is checked before the first byte is stored.
+pub mod check;
