@@ -1,15 +1,19 @@
 // Whether chunks may be merged, by lengths and offsets alone.
+use array::array_bytes::MOST_BYTES;
 use array::kind::Kind;
 use array::kind::Values;
+use array::refusal;
+use array::shape::Cells;
 
 ghost use mathlib.Core.Path.{_≡_};
 ghost use Prim.Native.Nat.{_≤_};
 ghost use lib.ListN.{length};
 ghost use Rattle.array.specs.Limits.{mostCells};
-ghost use Rattle.array.specs.Meaning.{formOf};
+ghost use Rattle.array.specs.Meaning.{formOf, kindOf};
 ghost use Rattle.array.specs.Rows.{nextSubsets};
 ghost use Rattle.cover.specs.Asked.{SubsetsOk};
 ghost use Rattle.merge.specs.Chunks.{chunkAnswer, chunkSum, toldTotal};
+ghost use Rattle.merge.specs.Merge.{checkAnswer, toldChecks};
 
 // What a chunk takes: its value bytes, those of them that are in cells, its offsets.
 pub enum Chunk {
@@ -103,4 +107,43 @@ pub fn check_chunks(
         return Total::Refused;
     }
     Total::Bytes(sum)
+}
+
+// What the stores of a merge go by: the cells of the shape, how many subsets there are, the bytes in cells of all chunks.
+pub enum Checks {
+    Passed(usize, usize, usize),
+    Refused(u8),
+}
+
+// All checks of a merge but that of its outputs.
+pub fn check_merge(
+    kind: Kind,
+    shape: &[u64],
+    subsets: &[u64],
+    masks: usize,
+    values: usize,
+    offsets: &[u64],
+) -> Checks
+    ensures { λ r. ⌜ toldChecks r ≡ checkAnswer (kindOf kind) (now (shape .entry)) (now (subsets .entry)) masks values (now (offsets .entry)) ⌝ }
+{
+    if !array::kind::check_kind(kind) {
+        return Checks::Refused(refusal::KIND);
+    }
+    let Cells::Count(cells) = array::shape::shape_cells(shape) else {
+        return Checks::Refused(refusal::SHAPE);
+    };
+    if !array::subset::subsets_fit(shape, subsets) {
+        return Checks::Refused(refusal::SUBSET);
+    }
+    let count = subsets.len() / (2 * shape.len());
+    let Total::Bytes(bytes) = check_chunks(kind, shape, subsets, count, masks, values, offsets) else {
+        return Checks::Refused(refusal::CONTENT);
+    };
+    if bytes > MOST_BYTES {
+        return Checks::Refused(refusal::SIZE);
+    }
+    if !cover::covers(shape, subsets, count) {
+        return Checks::Refused(refusal::COVER);
+    }
+    Checks::Passed(cells, count, bytes)
 }
