@@ -1,30 +1,27 @@
 -- The walk by lengths gives the refusals of the chunks' cells, and the sum of their bytes.
 -- Assumes nothing.
-use mathlib.Core.Path.{_≡_, refl, sym, ap, ap₂, _∙_, subst}
-use mathlib.Core.Logic.{_≢_}
-use Prim.Native.Nat.{ℕ, zero, suc, _+_, _-_, _*_, _<_, _≤_}
-use native.Mathlib.Nat.{add-assoc, zero-add, add-zero, mul-zero, mul-suc, mul-comm, mul-one, suc-mul, zero-mul, mul-le-mul-right, add-comm}
+use mathlib.Core.Path.{_≡_, refl, sym, ap, ap₂, _∙_}
+use Prim.Native.Nat.{ℕ, suc, _+_, _-_, _*_, _<_, _≤_}
 use native.Mathlib.Omega.{arith}
-use mathlib.Core.Bool.{Bool, true, false, _&&_, false≢true}
-use mathlib.Core.List.{List, [], _∷_, _++_, map, append-nil}
-use lib.ListN.{length, getD, take, drop, length-drop, length-append, length-take, length-map, take-append-drop}
+use mathlib.Core.Bool.{Bool, true, false, _&&_}
+use mathlib.Core.List.{List, [], _∷_, _++_}
+use lib.ListN.{length, getD, take, drop, length-drop, length-append}
 use lib.Dec.{leb, eqb}
-use lib.Seq.{drop-drop, take-all, length-take-le, take-take}
-use borrow.Author.Tests.{eq-eqb, ne-eqb, le-leb, lt-leb, leb-true, leb-false}
+use lib.Seq.{take-all, length-take-le}
+use borrow.Author.Tests.{eq-eqb, ne-eqb, leb-true, leb-false}
 use Rattle.array.specs.Answer.{Answer, gives, refuses, andThen, unless}
-use Rattle.array.specs.Cells.{Value, Cell, maskOf, leaf, inners}
-use Rattle.array.specs.Content.{Content, ContentOk, ValuesOk, contentTest, valuesTest, attach, pairUp, leaves, valuesIn, cellsOf}
+use Rattle.array.specs.Cells.{Value, Cell, leaf}
+use Rattle.array.specs.Content.{Content, ContentOk, ValuesOk, contentTest, valuesTest, leaves, valuesIn, cellsOf}
 use Rattle.array.specs.Kind.{Kind, Form, fixed, ragged}
-use Rattle.array.specs.Lists.{All, joined, pieces}
+use Rattle.array.specs.Lists.{joined, pieces}
 use Rattle.array.specs.Offsets.{last, lastFrom, Rising, RisingFrom, risingTest, slices, slicesFrom}
 use Rattle.array.specs.Shape.{volume}
 use Rattle.array.specs.Subset.{Subset, lengths}
-use Rattle.array.proofs.LayoutLaws.{inners-pairUp, length-attach, leaves-attach, values-length, values-sized}
-use Rattle.array.proofs.Lists.{length-joined, map-append, Sized}
+use Rattle.array.proofs.LayoutLaws.{values-length, values-sized}
+use Rattle.array.proofs.Lists.{length-joined, map-append}
 use Rattle.array.proofs.Offsets.{rising-le}
 use Rattle.array.proofs.Rules.{content-ok}
-use Rattle.chunks.specs.Chunks.{offsetCount, valueCount, firstChunk, laterChunks, chunkCells, nothingTest}
-use Rattle.merge_stores.specs.Store.{parts, levelAt}
+use Rattle.chunks.specs.Chunks.{offsetCount, firstChunk, laterChunks, chunkCells, nothingTest}
 use Rattle.merge_stores.proofs.Blocks.{joined-append}
 use Rattle.merge_stores.proofs.FirstChunk.{leaves-first}
 use Rattle.merge.specs.Chunks.{partTest, chunkTest, chunkBytes, chunkTaken, chunkSum}
@@ -101,7 +98,7 @@ module _ (f : Form) (d : ℕ) where
       (sum-is bs (laterChunks k (volume (lengths b)) c)
       ∙ ap₂ (λ (x y : ℕ). chunkSum f d bs x y (drop (offsetCount f (volume (lengths b))) (c .offsets))) (length-drop (d * volume (lengths b)) (c .masks)) (length-drop (chunkTaken f (volume (lengths b)) (c .offsets)) (c .values)))
       ∙ ap (λ (t : Bool). unless t 4 (andThen (chunkSum f d bs (length (c .masks) - d * volume (lengths b)) (length (c .values) - chunkTaken f (volume (lengths b)) (c .offsets)) (drop (offsetCount f (volume (lengths b))) (c .offsets))) (λ s. gives (chunkBytes f (volume (lengths b)) (c .offsets) + s))))
-          (tests-agree f d (volume (lengths b)) c)
+      (tests-agree f d (volume (lengths b)) c)
     where
       go : (t : Bool) → contentTest k (volume (lengths b)) (firstChunk k (volume (lengths b)) c) ≡ t → (r : Answer (List (Cell d))) {x : Answer ℕ} → andThen r (λ cs. gives (length (joined (leaves d cs)))) ≡ x
           → andThen (unless t 4 (andThen r (λ cs. gives (cellsOf k (volume (lengths b)) (firstChunk k (volume (lengths b)) c) ++ cs)))) (λ cs. gives (length (joined (leaves d cs))))

@@ -1,21 +1,21 @@
 -- The checking walk over all chunks of a list: what holds at the head of the loop, a turn of it, and its ends.
 -- Assumes nothing.
-use mathlib.Core.Path.{_≡_, refl, sym, ap, ap₂, _∙_, subst}
+use mathlib.Core.Path.{_≡_, refl, sym, ap, ap₂, _∙_}
 use mathlib.Core.Logic.{_≢_}
-use Prim.Native.Nat.{ℕ, zero, suc, _+_, _-_, _*_, _<_, _≤_}
+use Prim.Native.Nat.{ℕ, _+_, _-_, _*_, _<_, _≤_}
 use native.Mathlib.Nat.{add-assoc, zero-add, add-zero}
 use native.Mathlib.Omega.{arith}
 use mathlib.Core.Bool.{Bool, true, false, _&&_}
-use mathlib.Core.List.{List, [], _∷_, _++_}
-use lib.ListN.{length, getD, take, drop, length-drop, drop-of-length-le}
-use lib.Dec.{leb, eqb}
+use mathlib.Core.List.{List}
+use lib.ListN.{length, take, drop, length-drop}
+use lib.Dec.{eqb}
 use lib.Seq.{drop-drop, take-all}
 use borrow.Author.Tests.{eq-eqb, ne-eqb}
 use Rattle.array.specs.Answer.{Answer, gives, refuses, andThen, unless}
 use Rattle.array.specs.Kind.{Form}
 use Rattle.array.specs.Rows.{nextSubsets}
 use Rattle.array.specs.Shape.{volume}
-use Rattle.array.specs.Subset.{Subset, lengths, pairs}
+use Rattle.array.specs.Subset.{Subset, pairs}
 use Rattle.array.proofs.SubsetLists.{startsAt, lengthsAt}
 use Rattle.chunks.specs.Chunks.{offsetCount}
 use Rattle.cover.specs.Asked.{SubsetsOk}
@@ -98,7 +98,7 @@ module _ (f : Form) (d : ℕ) (sh flat : List ℕ) (count pl vl : ℕ) (os : Lis
         turn t et =
             c .same ∙ ap (λ (bs : List Subset). plus sum (chunkSum f d bs p v (drop o os))) (subset-now sh flat count i at (c .geo) h)
             ∙ ap (λ (k : ℕ). plus sum (unless (chunkTest f d k p v (drop o os)) 4 (plus (chunkBytes f k (drop o os)) (chunkSum f d later (p - d * k) (v - chunkTaken f k (drop o os)) (drop (offsetCount f k) (drop o os))))))
-                (ap volume (now-lengths sh flat count i at (c .geo) h) ∙ sym e)
+            (ap volume (now-lengths sh flat count i at (c .geo) h) ∙ sym e)
             ∙ ap (λ (x : Bool). plus sum (unless x 4 (plus (chunkBytes f m (drop o os)) (chunkSum f d later (p - d * m) (v - chunkTaken f m (drop o os)) (drop (offsetCount f m) (drop o os)))))) et
 
         pub walked-bad : Bad ≡ chunkAnswer f d m p v (drop o os) → refuses 4 ≡ chunkSum f d (nextSubsets (length sh) count flat) pl vl os

@@ -2,24 +2,21 @@
 -- ragged values.
 -- Assumes nothing.
 use mathlib.Core.Path.{_≡_, refl, sym, ap, ap₂, _∙_, subst}
-use Prim.Native.Nat.{ℕ, zero, suc, _+_, _*_, _<_, _≤_}
-use native.Mathlib.Nat.{zero-add}
+use Prim.Native.Nat.{ℕ, _+_, _*_, _<_, _≤_}
 use native.Mathlib.Omega.{arith}
-use mathlib.Core.List.{List, [], _∷_, _++_}
-use lib.ListN.{length, take, drop}
-use Rattle.array.specs.Limits.{mostBytes}
+use mathlib.Core.List.{List, [], _++_}
+use lib.ListN.{length, drop}
 use Rattle.array.specs.Answer.{Answer, gives, refuses, andThen, unless, Outcome}
 use Rattle.array.specs.Lists.{All, joined}
-use Rattle.array.specs.Kind.{Kind, Form, fixed, ragged, Order, Place, nullOf}
+use Rattle.array.specs.Kind.{Form, fixed, ragged, Order, Place, nullOf}
 use Rattle.array.specs.Shape.{volume}
 use Rattle.array.specs.Subset.{Subset, SubsetOk, cellsOfAll}
 use Rattle.array.specs.Rows.{nextSubsets}
 use Rattle.array.specs.Cells.{Cell, blank}
-use Rattle.array.specs.Content.{Content, leaves, masksOf}
+use Rattle.array.specs.Content.{Content, leaves}
 use Rattle.array.specs.Buffers.{Lengths, lengthsOf, enoughTest, over, contentOutcome}
 use Rattle.array.specs.Outcome.{contentArray}
-use Rattle.chunks.specs.Gather.{putBack}
-use Rattle.chunks.specs.Chunks.{chunkCells, mergeOf}
+use Rattle.chunks.specs.Chunks.{mergeOf}
 use Rattle.cover.proofs.SubsetWalk.{all-inside}
 use Rattle.merge_stores.specs.Scatter.{scatter, places, fixedAt}
 use Rattle.merge_stores.specs.Store.{parts, masksMerged, MasksAsked, PartsAsked}
@@ -60,7 +57,7 @@ module _ (d : ℕ) (sh flat : List ℕ) (c old : Content) (z : Sizes) where
     unfolding storeAnswer
     left-is =
         ap (λ (a : Answer (List (Cell d))). contentOutcome (andThen a (λ cs. unless (enoughTest (mergeOf (record { depth = d; form = f }) sh bs cs) (lengthsOf old)) 6
-            (gives (mergeOf (record { depth = d; form = f }) sh bs cs)))) old) (sym (cells .are))
+        (gives (mergeOf (record { depth = d; form = f }) sh bs cs)))) old) (sym (cells .are))
 
     mask-bytes : length (merged .masks) ≡ d * z .cells
     mask-bytes = merged-masks f d sh bs inside (q .once) c (cells .cells) (cells .are) ∙ ap (λ (n : ℕ). d * n) (sym (q .counted))
@@ -165,7 +162,7 @@ module _ (d : ℕ) (sh flat : List ℕ) (c old : Content) (z : Sizes) where
         ∙ values-close w d p sh bs (inside (ragged w p) q) (q .once) c (x .cells) (x .are) t (old .values) (omega (arith, x .sum-of))
         ∙ over-is (m .values) (m .values) (old .values) (length (joined (leaves d (x .cells)))) refl (value-bytes (ragged w p) q ∙ x .sum-of))
         (eo ∙ over-is (m .offsets) (offsetsMerged sh bs (c .offsets)) (old .offsets) (z .cells + 1)
-            (sym (offsets-close w d p sh bs (inside (ragged w p) q) (q .once) c (x .cells) (x .are))) offset-count)
+        (sym (offsets-close w d p sh bs (inside (ragged w p) q) (q .once) c (x .cells) (x .are))) offset-count)
         ∙ left-is (ragged w p) q
 
   module _ (f : Form) (w : ℕ) (p : Place) (e : f ≡ ragged w p) (q : Asked f) where

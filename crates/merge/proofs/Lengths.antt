@@ -1,7 +1,7 @@
 -- How long the merged content is: what the outputs' test asks.
 -- Assumes nothing.
-use mathlib.Core.Path.{_≡_, refl, sym, ap, ap₂, _∙_, subst}
-use Prim.Native.Nat.{ℕ, zero, suc, _+_, _*_, _<_, _≤_}
+use mathlib.Core.Path.{_≡_, refl, sym, ap, _∙_}
+use Prim.Native.Nat.{ℕ, suc, _+_, _*_, _<_}
 use native.Mathlib.Omega.{arith}
 use mathlib.Core.Bool.{Bool, true, false}
 use mathlib.Core.List.{List, [], _∷_, map}
@@ -9,12 +9,12 @@ use lib.ListN.{length, length-map}
 use lib.Dec.{eqb}
 use Rattle.array.specs.Answer.{gives}
 use Rattle.array.specs.Lists.{from, pick, count, joined, All}
-use Rattle.array.specs.Kind.{Form, fixed, ragged, Order, Place, nullOf}
+use Rattle.array.specs.Kind.{Form, fixed, Order, nullOf}
 use Rattle.array.specs.Offsets.{offsetsOf}
 use Rattle.array.specs.Shape.{volume}
 use Rattle.array.specs.Subset.{Subset, SubsetOk, cellsOfAll}
 use Rattle.array.specs.Cells.{Value, Cell, leaf, blank}
-use Rattle.array.specs.Content.{Content, masksOf, leaves, offsetsFor}
+use Rattle.array.specs.Content.{Content, masksOf, leaves}
 use Rattle.array.proofs.Lists.{All-of, All-image, length-from, length-joined}
 use Rattle.array.proofs.Sizes.{null-sized}
 use Rattle.array.proofs.Offsets.{length-ends}
@@ -80,9 +80,6 @@ module _ (f : Form) (d : ℕ) (sh : List ℕ) (bs : List Subset) (inside : All (
   -- the merged values have the bytes of the chunks' values
   pub merged-bytes : length (joined (leaves d (putBack (blank (nullOf f) d) (volume sh) (cellsOfAll sh bs) cs))) ≡ length (joined (leaves d cs))
   merged-bytes =
-      let vs : List Value = leaves d cs in
-      let z : Value = leaf d null in
-      let ls : List ℕ = map length (leaves d cs) in
       let el : length js ≡ length (map length (leaves d cs)) = as-many ∙ sym (length-map cs (leaf d)) ∙ sym (length-map (leaves d cs) length) in
       ap (λ (x : List Value). length (joined x)) (sym (putBack-map (leaf d) null (volume sh) js cs))
       ∙ blocks.length-joined (putBack (leaf d null) (volume sh) js (leaves d cs))

@@ -1,26 +1,20 @@
 -- The check of one chunk: what a chunk that fits says, and one law for each answer.
 -- Assumes nothing.
-use mathlib.Core.Path.{_≡_, refl, sym, ap, ap₂, _∙_, subst}
-use Prim.Native.Nat.{ℕ, zero, suc, _+_, _-_, _*_, _<_, _≤_}
-use native.Mathlib.Nat.{suc-mul, zero-mul, sub-zero, mul-le-mul}
+use mathlib.Core.Path.{_≡_, refl, sym, ap, ap₂, _∙_}
+use Prim.Native.Nat.{ℕ, suc, _+_, _-_, _*_, _<_, _≤_}
 use native.Mathlib.Numerals.{add-one}
 use native.Mathlib.Omega.{arith}
-use mathlib.Core.Bool.{Bool, true, false, _&&_, false≢true}
-use mathlib.Core.List.{List, [], _∷_, _++_}
-use lib.ListN.{length, getD, take, drop, length-drop}
-use lib.Dec.{leb, eqb}
-use lib.Seq.{drop-cons, getD-drop, drop-drop, take-suc}
-use borrow.Author.Tests.{leb-true, eqb-true, le-leb, lt-leb, eq-eqb, ne-eqb}
-use Rattle.array.specs.Answer.{Answer, gives, refuses, andThen, unless}
+use mathlib.Core.Bool.{Bool, true, false, _&&_}
+use mathlib.Core.List.{List, [], _∷_}
+use lib.ListN.{length, getD, take}
+use lib.Dec.{leb}
+use borrow.Author.Tests.{leb-true, le-leb, lt-leb}
 use Rattle.array.specs.Kind.{Form, fixed, ragged, Order, Place}
 use Rattle.array.specs.Offsets.{last, lastFrom, risingTest, risingFromTest}
-use Rattle.array.specs.Shape.{volume}
-use Rattle.array.specs.Subset.{Subset, lengths}
 use Rattle.array.proofs.Rules.{left-of, right-of}
-use Rattle.chunks.specs.Chunks.{offsetCount, valueCount}
+use Rattle.chunks.specs.Chunks.{offsetCount}
 use Rattle.merge_stores.proofs.RaggedTies.{last-take}
-use Rattle.merge.specs.Chunks.{partTest, chunkTest, chunkBytes, chunkTaken, chunkSum, pickChunk, chunkAnswer, toldTotal}
-use Rattle.merge.specs.declared.check.Chunk.{Chunk}
+use Rattle.merge.specs.Chunks.{chunkTest, chunkBytes, chunkTaken, pickChunk, chunkAnswer}
 use Rattle.merge.specs.declared.check.Chunk.the-variants.{Fits, Bad}
 
 rising-last : (a : ℕ) (bs : List ℕ) → risingFromTest a bs ≡ true → a ≤ lastFrom a bs

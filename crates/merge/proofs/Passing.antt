@@ -1,6 +1,6 @@
 -- The checks of a merge: one law for each answer, and what is known where they pass.
 -- Assumes nothing.
-use mathlib.Core.Path.{_≡_, refl, sym, ap, ap₂, _∙_, subst}
+use mathlib.Core.Path.{_≡_, refl, sym, ap, _∙_, subst}
 use Prim.Native.Nat.{ℕ, _*_, _/_, _<_, _≤_}
 use native.Mathlib.Omega.{arith}
 use mathlib.Core.Bool.{Bool, true, false}
@@ -99,8 +99,6 @@ unfolding checkAnswer
 passed k sh ns c z e =
     go (kindTest k) (shapeTest sh) (manyTest sh ns) (chunkSum (k .form) (k .depth) (subsetsOf (length sh) ns) (length (c .masks)) (length (c .values)) (c .offsets)) refl refl refl refl e
   where
-    covers : Bool
-    covers = onceTest (volume sh) (cellsOfAll sh (subsetsOf (length sh) ns))
     last : (x y : Bool) (s : ℕ) → kindTest k ≡ true → shapeTest sh ≡ true → manyTest sh ns ≡ true
         → chunkSum (k .form) (k .depth) (subsetsOf (length sh) ns) (length (c .masks)) (length (c .values)) (c .offsets) ≡ gives s
         → sizeTest s ≡ x → onceTest (volume sh) (cellsOfAll sh (subsetsOf (length sh) ns)) ≡ y
@@ -123,10 +121,11 @@ passed k sh ns c z e =
         )
     last true false s p q r u v w e = let z : _≡_ {A = ℕ} 0 1 = cc in absurd (omega arith)
     last false y s p q r u v w e = let z : _≡_ {A = ℕ} 0 1 = cc in absurd (omega arith)
+
     go : (a b m : Bool) (t : Answer ℕ) → kindTest k ≡ a → shapeTest sh ≡ b → manyTest sh ns ≡ m
         → chunkSum (k .form) (k .depth) (subsetsOf (length sh) ns) (length (c .masks)) (length (c .values)) (c .offsets) ≡ t
         → gives z ≡ unless a 1 (unless b 2 (unless m 3 (andThen t (λ s. unless (sizeTest s) 5
-            (unless (onceTest (volume sh) (cellsOfAll sh (subsetsOf (length sh) ns))) 12 (gives (record { cells = volume sh; count = length ns / (2 * length sh); bytes = s })))))))
+        (unless (onceTest (volume sh) (cellsOfAll sh (subsetsOf (length sh) ns))) 12 (gives (record { cells = volume sh; count = length ns / (2 * length sh); bytes = s })))))))
         → MergeAsked k sh ns c z × (subsetsOf (length sh) ns ≡ nextSubsets (length sh) (z .count) ns)
     go true true true (gives s) p q r u e = last (sizeTest s) (onceTest (volume sh) (cellsOfAll sh (subsetsOf (length sh) ns))) s p q r u refl refl e
     go true true true (refuses n) p q r u e = let z : _≡_ {A = ℕ} 0 1 = cc in absurd (omega arith)

@@ -1,6 +1,6 @@
 -- The call is its two steps: the checks, and then the outputs' test and the stores.
 -- Assumes nothing.
-use mathlib.Core.Path.{_≡_, refl, sym, ap, ap₂, _∙_}
+use mathlib.Core.Path.{_≡_, refl, sym, ap, _∙_}
 use Prim.Native.Nat.{ℕ, _*_, _/_}
 use mathlib.Core.Bool.{Bool, true, false}
 use mathlib.Core.List.{List}
@@ -17,7 +17,6 @@ use Rattle.array.specs.Buffers.{Lengths, lengthsOf, enoughTest, contentOutcome}
 use Rattle.chunks.specs.Gather.{onceTest}
 use Rattle.chunks.specs.Chunks.{chunkCells, mergeOf}
 use Rattle.chunks.specs.Calls.{mergeAnswer, merged}
-use Rattle.merge.specs.Chunks.{chunkSum}
 use Rattle.merge.specs.Merge.{Sizes, checkAnswer, storeAnswer, MergeAsked}
 use Rattle.merge.proofs.ChunkSums.{sum-is}
 use Rattle.merge.proofs.Passing.{passed}
@@ -43,11 +42,12 @@ module _ (f : Form) (d : ℕ) (sh ns : List ℕ) (c : Content) where
       last cs true true a = refl
       last cs true false a = refl
       last cs false y a = refl
+
       go : (a b m : Bool) (r : Answer (List (Cell d))) {t : Answer ℕ} → andThen r (λ cs. gives (length (joined (leaves d cs)))) ≡ t
           → unless a 1 (unless b 2 (unless m 3 (andThen r (λ cs. unless (sizeTest (length (joined (leaves d cs)))) 5
-              (unless (onceTest (volume sh) (cellsOfAll sh bs)) 12 (unless (enoughTest (mergeOf k sh bs cs) room) 6 (gives (mergeOf k sh bs cs))))))))
+          (unless (onceTest (volume sh) (cellsOfAll sh bs)) 12 (unless (enoughTest (mergeOf k sh bs cs) room) 6 (gives (mergeOf k sh bs cs))))))))
           ≡ andThen (unless a 1 (unless b 2 (unless m 3 (andThen t (λ s. unless (sizeTest s) 5 (unless (onceTest (volume sh) (cellsOfAll sh bs)) 12 (gives (sizes s))))))))
-              (λ z. andThen r (λ cs. unless (enoughTest (mergeOf k sh bs cs) room) 6 (gives (mergeOf k sh bs cs))))
+          (λ z. andThen r (λ cs. unless (enoughTest (mergeOf k sh bs cs) room) 6 (gives (mergeOf k sh bs cs))))
       go false b m r e = refl
       go true false m r e = refl
       go true true false r e = refl
@@ -56,7 +56,7 @@ module _ (f : Form) (d : ℕ) (sh ns : List ℕ) (c : Content) where
       go true true true (gives cs) e =
           last cs (sizeTest (length (joined (leaves d cs)))) (onceTest (volume sh) (cellsOfAll sh bs)) (unless (enoughTest (mergeOf k sh bs cs) room) 6 (gives (mergeOf k sh bs cs)))
           ∙ ap (λ (x : Answer ℕ). andThen (andThen x (λ s. unless (sizeTest s) 5 (unless (onceTest (volume sh) (cellsOfAll sh bs)) 12 (gives (sizes s)))))
-              (λ z. unless (enoughTest (mergeOf k sh bs cs) room) 6 (gives (mergeOf k sh bs cs)))) e
+          (λ z. unless (enoughTest (mergeOf k sh bs cs) room) 6 (gives (mergeOf k sh bs cs)))) e
 
   module _ (old : Content) where
     whole : merged k sh ns c old ≡ contentOutcome (mergeAnswer k sh ns c (lengthsOf old)) old

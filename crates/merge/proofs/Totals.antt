@@ -1,21 +1,21 @@
--- What a chunk list that passes the check has: its cells, and enough level and value bytes for the stores.
+-- What a chunk list that passes the check has: its cells, and enough mask and value bytes for the stores.
 -- Assumes nothing.
-use mathlib.Core.Path.{_≡_, refl, sym, ap, _∙_, subst}
-use Prim.Native.Nat.{ℕ, zero, suc, _+_, _-_, _*_, _<_, _≤_}
+use mathlib.Core.Path.{_≡_, refl, sym, _∙_}
+use Prim.Native.Nat.{ℕ, _-_, _*_, _≤_}
 use native.Mathlib.Nat.{zero-mul, add-mul, mul-comm, min-le-right}
 use native.Mathlib.Omega.{arith}
-use mathlib.Core.List.{List, [], _∷_, _++_}
-use lib.ListN.{length, take, drop, length-drop, length-take}
+use mathlib.Core.List.{List, [], _∷_}
+use lib.ListN.{length, take, length-drop, length-take}
 use Rattle.array.specs.Answer.{Answer, gives, refuses, andThen}
 use Rattle.array.specs.Cells.{Cell}
 use Rattle.array.specs.Content.{Content, leaves}
-use Rattle.array.specs.Kind.{Kind, Form, fixed, Order}
+use Rattle.array.specs.Kind.{Form, fixed, Order}
 use Rattle.array.specs.Lists.{joined}
 use Rattle.array.specs.Shape.{volume}
 use Rattle.array.specs.Subset.{Subset, lengths}
 use Rattle.chunks.specs.Chunks.{chunkCells, laterChunks}
 use Rattle.merge_stores.specs.Store.{cellsTotal}
-use Rattle.merge_stores.proofs.FirstChunk.{First, first-of}
+use Rattle.merge_stores.proofs.FirstChunk.{first-of}
 use Rattle.merge.specs.Chunks.{chunkSum}
 use Rattle.merge.proofs.ChunkSums.{sum-is}
 

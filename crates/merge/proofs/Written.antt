@@ -58,7 +58,7 @@ module _ (m old : Content) (a b e : ℕ) (ea : length (m .masks) ≡ a) (eb : le
       let named : _≡_ {A = Lengths} (record { masks = a; values = b; offsets = e }) (lengthsOf m) = lengths-path (sym ea) (sym eb) (sym ee) in
       ap₂ (λ (l : Lengths) (c : Content). record { answer = gives l; buffers = c }) named (content-path em ev eo)
       ∙ sym (tested true true true (le-leb (length (m .masks)) (length (old .masks)) (omega arith)) (le-leb (length (m .values)) (length (old .values)) (omega arith))
-          (le-leb (length (m .offsets)) (length (old .offsets)) (omega arith)))
+      (le-leb (length (m .offsets)) (length (old .offsets)) (omega arith)))
     where
       lengths-path : {p p′ q q′ r r′ : ℕ} → p ≡ p′ → q ≡ q′ → r ≡ r′ → _≡_ {A = Lengths} (record { masks = p; values = q; offsets = r }) (record { masks = p′; values = q′; offsets = r′ })
       lengths-path {p} {p′} {q} {q′} {r} {r′} x y z = rw (x, y, z)

@@ -4,7 +4,6 @@ use array::kind::Kind;
 use array::kind::Values;
 use array::refusal;
 use array::shape::Cells;
-
 ghost use mathlib.Core.Path.{_≡_};
 ghost use Prim.Native.Nat.{_≤_};
 ghost use lib.ListN.{length};
@@ -136,7 +135,8 @@ pub fn check_merge(
         return Checks::Refused(refusal::SUBSET);
     }
     let count = subsets.len() / (2 * shape.len());
-    let Total::Bytes(bytes) = check_chunks(kind, shape, subsets, count, masks, values, offsets) else {
+    let Total::Bytes(bytes) = check_chunks(kind, shape, subsets, count, masks, values, offsets)
+    else {
         return Checks::Refused(refusal::CONTENT);
     };
     if bytes > MOST_BYTES {

@@ -4,7 +4,6 @@ use array::kind::Kind;
 use array::kind::Values;
 use array::refusal;
 use check::Checks;
-
 ghost use mathlib.Core.Path.{_≡_};
 ghost use lib.ListN.{length};
 ghost use Rattle.array.specs.Meaning.{kindOf};
@@ -34,9 +33,9 @@ fn store_chunks(
     requires { ⌜ MergeAsked (kindOf kind) (now shape) (now subsets) (contentArray (now masks) (now values) (now offsets)) (record { cells = cells; count = count; bytes = bytes }) ⌝ }
     ensures { λ r. ⌜ outcomeArray r (now («out_masks» .exit)) (now («out_values» .exit)) (now («out_offsets» .exit))
         ≡ contentOutcome (storeAnswer (kindOf kind) (now (shape .entry)) (nextSubsets (length (now (shape .entry))) count (now (subsets .entry)))
-          (contentArray (now (masks .entry)) (now (values .entry)) (now (offsets .entry)))
-          (lengthsOf (contentArray (now («out_masks» .entry)) (now («out_values» .entry)) (now («out_offsets» .entry)))))
-          (contentArray (now («out_masks» .entry)) (now («out_values» .entry)) (now («out_offsets» .entry))) ⌝ }
+        (contentArray (now (masks .entry)) (now (values .entry)) (now (offsets .entry)))
+        (lengthsOf (contentArray (now («out_masks» .entry)) (now («out_values» .entry)) (now («out_offsets» .entry)))))
+        (contentArray (now («out_masks» .entry)) (now («out_values» .entry)) (now («out_offsets» .entry))) ⌝ }
 {
     let depth = kind.depth as usize;
     let mask_bytes = depth * cells;
@@ -51,7 +50,17 @@ fn store_chunks(
         Values::Fixed(size, _) => {
             let wide = size as usize;
             merge_stores::cells::store_masks(out_masks, masks, depth, cells, shape, subsets, count);
-            merge_stores::cells::store_parts(out_values, 0, wide, values, 0, wide, shape, subsets, count);
+            merge_stores::cells::store_parts(
+                out_values,
+                0,
+                wide,
+                values,
+                0,
+                wide,
+                shape,
+                subsets,
+                count,
+            );
             WrittenArray::Lengths(mask_bytes, bytes, 0)
         }
         Values::Ragged(_, _) => {
@@ -59,7 +68,16 @@ fn store_chunks(
                 return WrittenArray::Refused(refusal::OUTPUT);
             }
             merge_stores::cells::store_masks(out_masks, masks, depth, cells, shape, subsets, count);
-            merge_stores::ragged::merge_ragged(out_values, out_offsets, values, offsets, shape, subsets, count, cells);
+            merge_stores::ragged::merge_ragged(
+                out_values,
+                out_offsets,
+                values,
+                offsets,
+                shape,
+                subsets,
+                count,
+                cells,
+            );
             WrittenArray::Lengths(mask_bytes, bytes, cells + 1)
         }
     }
@@ -80,12 +98,23 @@ pub fn merge(
 ) -> WrittenArray
     ensures { λ r. ⌜ outcomeArray r (now («out_masks» .exit)) (now («out_values» .exit)) (now («out_offsets» .exit))
         ≡ merged (kindOf kind) (now (shape .entry)) (now (subsets .entry)) (contentArray (now (masks .entry)) (now (values .entry)) (now (offsets .entry)))
-          (contentArray (now («out_masks» .entry)) (now («out_values» .entry)) (now («out_offsets» .entry))) ⌝ }
+        (contentArray (now («out_masks» .entry)) (now («out_values» .entry)) (now («out_offsets» .entry))) ⌝ }
 {
     match check::check_merge(kind, shape, subsets, masks.len(), values.len(), offsets) {
         Checks::Refused(e) => WrittenArray::Refused(e),
         Checks::Passed(cells, count, bytes) => store_chunks(
-            kind, cells, count, bytes, shape, subsets, masks, values, offsets, out_masks, out_values, out_offsets,
+            kind,
+            cells,
+            count,
+            bytes,
+            shape,
+            subsets,
+            masks,
+            values,
+            offsets,
+            out_masks,
+            out_values,
+            out_offsets,
         ),
     }
 }

@@ -79,7 +79,7 @@ cells-counted f d (b ∷ bs) c cs e =
     let first : Content = firstChunk (record { depth = d; form = f }) m c in
     ap length (q .whole) ∙ length-append (cellsOf (record { depth = d; form = f }) m first) (q .later)
     ∙ ap₂ (λ (x y : ℕ). x + y) (length-attach m (valuesIn f m first) (values-length f m first (q .ok .values-fit)) d (first .masks) (q .ok .masks-fit))
-        (cells-counted f d bs (laterChunks (record { depth = d; form = f }) m c) (q .later) (q .is-later))
+    (cells-counted f d bs (laterChunks (record { depth = d; form = f }) m c) (q .later) (q .is-later))
 
 -- ---- ragged values
 

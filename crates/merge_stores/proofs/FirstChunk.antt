@@ -35,6 +35,7 @@ module _ (f : Form) (d : ℕ) where
     where
       m : ℕ
       m = volume (lengths b)
+
       go : (t : Bool) → contentTest k (volume (lengths b)) (firstChunk k (volume (lengths b)) c) ≡ t → (r : Answer (List (Cell d))) → chunkCells k bs (laterChunks k (volume (lengths b)) c) ≡ r
           → unless t 4 (andThen r (λ xs. gives (cellsOf k (volume (lengths b)) (firstChunk k (volume (lengths b)) c) ++ xs))) ≡ gives cs → First b bs c cs
       go true et (gives xs) er e = record { ok = content-ok k (volume (lengths b)) (firstChunk k (volume (lengths b)) c) et; later = xs; is-later = er; whole = cc }

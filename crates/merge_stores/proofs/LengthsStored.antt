@@ -98,6 +98,6 @@ module _ (sh flat : List ℕ) (count : ℕ) (d src : List ℕ) (q : LengthsAllAs
                   c .same ∙ ap (λ (bs : List Subset). scatter o (places (fixedAt 1 1) (cellsOfAll sh bs)) (stepParts bs (drop first src))) (subset-now sh flat count i at (c .geo) h)
                   ∙ ap (λ (r : List ℕ). scatter o r (take m (steps (drop first src)) ++ stepParts later (drop (suc m) (drop first src)))) (places-append (fixedAt 1 1) cs (cellsOfAll sh later))
                   ∙ scatter-then o (places (fixedAt 1 1) cs) (places (fixedAt 1 1) (cellsOfAll sh later)) (take m (steps (drop first src))) (stepParts later (drop (suc m) (drop first src)))
-                      (lp ∙ sym (length-take-le m (steps (drop first src)) lx))
+                  (lp ∙ sym (length-take-le m (steps (drop first src)) lx))
                   ∙ ap₂ (λ (x y : List ℕ). scatter x (places (fixedAt 1 1) (cellsOfAll sh later)) (stepParts later y)) stored e₁;
             }

@@ -103,6 +103,7 @@ module _ (f : Form) (d : ℕ) where
       none zero l = refl
       none (suc d) zero = refl
       none (suc d) (suc l) = none d l
+
       go : (t : Bool) → unless t 4 (gives []) ≡ gives cs → levelAt d l cs ≡ []
       go true e = let q : cs ≡ [] = cc in ap (levelAt d l) q ∙ none d l
       go false e = let z : _≡_ {A = ℕ} 0 1 = cc in absurd (omega arith)
@@ -113,9 +114,9 @@ module _ (f : Form) (d : ℕ) where
       let room : m * l + m ≤ d * m = omega (arith, mul-suc m l, mul-comm m (suc l), mul-le-mul-right {m = suc l} {n = d} m h) in
       ap (levelAt d l) (p .whole) ∙ level-append d l (cellsOf k m first) (p .later)
       ∙ ap₂ (λ (x y : List ℕ). x ++ y)
-          (level-attach m (valuesIn f m first) (values-length f m first (p .ok .values-fit)) d l (first .masks) h (p .ok .masks-fit)
-          ∙ take-within (m * l) m (d * m) (c .masks) room ∙ ap (λ (n : ℕ). take n (drop (m * l) (c .masks))) (sym (mul-one m)))
-          (chunk-levels l h bs (laterChunks k m c) (p .later) (p .is-later) ∙ ap (λ (n : ℕ). parts l d 1 bs (drop n (c .masks))) (mul-comm d m))
+      (level-attach m (valuesIn f m first) (values-length f m first (p .ok .values-fit)) d l (first .masks) h (p .ok .masks-fit)
+      ∙ take-within (m * l) m (d * m) (c .masks) room ∙ ap (λ (n : ℕ). take n (drop (m * l) (c .masks))) (sym (mul-one m)))
+      (chunk-levels l h bs (laterChunks k m c) (p .later) (p .is-later) ∙ ap (λ (n : ℕ). parts l d 1 bs (drop n (c .masks))) (mul-comm d m))
 
 -- ---- how long the parts are
 

@@ -128,7 +128,7 @@ module _ (sh flat : List ℕ) (count : ℕ) (d : List ℕ) (base size : ℕ) (sr
                   c .same ∙ ap (λ (bs : List Subset). scatter o (places (fixedAt base size) (cellsOfAll sh bs)) (parts lead step size bs (drop pos src))) now
                   ∙ ap (λ (r : List ℕ). scatter o r (part ++ parts lead step size later (drop (m * step) (drop pos src)))) (places-append (fixedAt base size) cs (cellsOfAll sh later))
                   ∙ scatter-then o (places (fixedAt base size) cs) (places (fixedAt base size) (cellsOfAll sh later)) part (parts lead step size later (drop (m * step) (drop pos src)))
-                      (long-places ∙ sym (length-take-le (m * size) (drop (m * lead) (drop pos src)) fits-part))
+                  (long-places ∙ sym (length-take-le (m * size) (drop (m * lead) (drop pos src)) fits-part))
                   ∙ ap₂ (λ (x r : List ℕ). scatter x (places (fixedAt base size) (cellsOfAll sh later)) (parts lead step size later r)) stored
-                      (drop-drop (m * step) pos src ∙ ap (λ (x : ℕ). drop (pos + x) src) em);
+                  (drop-drop (m * step) pos src ∙ ap (λ (x : ℕ). drop (pos + x) src) em);
             }

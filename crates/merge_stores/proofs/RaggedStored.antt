@@ -156,7 +156,7 @@ module _ (sh flat : List ℕ) (count : ℕ) (d begins values src : List ℕ) (q 
                   c .same ∙ ap (λ (bs : List Subset). scatter o (places (offsetAt begins) (cellsOfAll sh bs)) (raggedParts bs (drop first src) (drop base values))) (subset-now sh flat count i at (c .geo) h)
                   ∙ ap (λ (r : List ℕ). scatter o r (part ++ raggedParts later (drop (suc m) (drop first src)) (drop (offsetAt (drop first src) m) (drop base values)))) (places-append (offsetAt begins) cs (cellsOfAll sh later))
                   ∙ scatter-then o (places (offsetAt begins) cs) (places (offsetAt begins) (cellsOfAll sh later)) part (raggedParts later (drop (suc m) (drop first src)) (drop (offsetAt (drop first src) m) (drop base values)))
-                      (long-places ∙ sym (length-take-le w (drop (offsetAt (drop first src) 0) (drop base values)) fits-part))
+                  (long-places ∙ sym (length-take-le w (drop (offsetAt (drop first src) 0) (drop base values)) fits-part))
                   ∙ ap (λ (x : List ℕ). scatter x (places (offsetAt begins) (cellsOfAll sh later)) (raggedParts later (drop (suc m) (drop first src)) (drop (offsetAt (drop first src) m) (drop base values)))) stored
                   ∙ ap₂ (λ (x y : List ℕ). scatter o′ (places (offsetAt begins) (cellsOfAll sh later)) (raggedParts later x y)) e₁ e₂;
             }

@@ -152,7 +152,7 @@ module _ (w d : ℕ) (p : Place) where
       let q = first-of (ragged w p) d b bs c cs e in
       ap (λ (x : List (Cell d)). joined (leaves d x)) (q .whole) ∙ ap joined (map-append (leaf d) (cellsOf k m (firstChunk k m c)) (q .later)) ∙ joined-append (leaves d (cellsOf k m (firstChunk k m c))) (leaves d (q .later))
       ∙ ap₂ (λ (x y : List ℕ). x ++ y) (chunk-joined m c (q .ok))
-          (ragged-joined bs (laterChunks k m c) (q .later) (q .is-later) ∙ ap (λ (n : ℕ). raggedParts bs (drop (suc m) (c .offsets)) (drop n (c .values))) (last-is m c (q .ok)))
+      (ragged-joined bs (laterChunks k m c) (q .later) (q .is-later) ∙ ap (λ (n : ℕ). raggedParts bs (drop (suc m) (c .offsets)) (drop n (c .values))) (last-is m c (q .ok)))
 
   -- and the lengths that are summed are those of the cells
   pub ragged-lengths : (bs : List Subset) (c : Content) (cs : List (Cell d)) → chunkCells k bs c ≡ gives cs → map length (leaves d cs) ≡ stepParts bs (c .offsets)
@@ -193,10 +193,10 @@ module _ (w d : ℕ) (p : Place) where
           enough = within-values m c (q .ok);
         },
         subst (λ (n : ℕ). RaggedChunks begins sh bs (drop (suc m) (c .offsets)) (drop n (c .values))) (last-is m c (q .ok))
-        (ragged-chunks begins sh bs (inside .1) (laterChunks k m c) (q .later) (q .is-later)
-        (λ i h.
-        let ej : getD (cellsOfAll sh (b ∷ bs)) (length (cellsIn sh b) + i) 0 ≡ getD (cellsOfAll sh bs) i 0 = getD-append-add (cellsIn sh b) (cellsOfAll sh bs) i 0 in
-        let el : getD (stepParts (b ∷ bs) (c .offsets)) (length (cellsIn sh b) + i) 0 ≡ getD (stepParts bs (drop (suc m) (c .offsets))) i 0 =
-        ap (λ (n : ℕ). getD (stepParts (b ∷ bs) (c .offsets)) (n + i) 0) (lc ∙ sym ls) ∙ getD-append-add (take m (steps (c .offsets))) (stepParts bs (drop (suc m) (c .offsets))) i 0 in
-        ap (λ (j : ℕ). offsetAt begins (suc j)) (sym ej) ∙ a (length (cellsIn sh b) + i) (omega arith) ∙ ap₂ (λ (x y : ℕ). offsetAt begins x + y) ej el)),
+            (ragged-chunks begins sh bs (inside .1) (laterChunks k m c) (q .later) (q .is-later)
+            (λ i h.
+            let ej : getD (cellsOfAll sh (b ∷ bs)) (length (cellsIn sh b) + i) 0 ≡ getD (cellsOfAll sh bs) i 0 = getD-append-add (cellsIn sh b) (cellsOfAll sh bs) i 0 in
+            let el : getD (stepParts (b ∷ bs) (c .offsets)) (length (cellsIn sh b) + i) 0 ≡ getD (stepParts bs (drop (suc m) (c .offsets))) i 0 =
+            ap (λ (n : ℕ). getD (stepParts (b ∷ bs) (c .offsets)) (n + i) 0) (lc ∙ sym ls) ∙ getD-append-add (take m (steps (c .offsets))) (stepParts bs (drop (suc m) (c .offsets))) i 0 in
+            ap (λ (j : ℕ). offsetAt begins (suc j)) (sym ej) ∙ a (length (cellsIn sh b) + i) (omega arith) ∙ ap₂ (λ (x y : ℕ). offsetAt begins x + y) ej el)),
       )

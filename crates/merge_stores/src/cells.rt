@@ -62,7 +62,16 @@ pub fn store_parts(
         let end = mid + d;
         let m = array::subset::volume_of(&subsets[mid..end]) as usize;
         let first = pos + m * lead;
-        store_subset(out, base, size, src, first, shape, &subsets[at..mid], &subsets[mid..end]);
+        store_subset(
+            out,
+            base,
+            size,
+            src,
+            first,
+            shape,
+            &subsets[at..mid],
+            &subsets[mid..end],
+        );
         pos += m * step;
         at = end;
         i += 1;

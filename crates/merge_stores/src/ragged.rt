@@ -50,13 +50,7 @@ fn store_lengths(
 }
 
 // Stores the lengths of the values of all chunks.
-fn store_lengths_all(
-    out: &mut [u64],
-    src: &[u64],
-    shape: &[u64],
-    subsets: &[u64],
-    count: usize,
-)
+fn store_lengths_all(out: &mut [u64], src: &[u64], shape: &[u64], subsets: &[u64], count: usize)
     requires { ⌜ LengthsAllAsked (now shape) (now subsets) count (now out) (now src) ⌝ }
     ensures { λ _. ⌜ now (out .exit) ≡ scatter (now (out .entry)) (places (fixedAt 1 1) (cellsOfAll (now (shape .entry)) (nextSubsets (length (now (shape .entry))) count (now (subsets .entry)))))
         (stepParts (nextSubsets (length (now (shape .entry))) count (now (subsets .entry))) (now (src .entry))) ⌝ }
@@ -69,7 +63,14 @@ fn store_lengths_all(
         let mid = at + d;
         let end = mid + d;
         let m = array::subset::volume_of(&subsets[mid..end]) as usize;
-        store_lengths(out, src, first, shape, &subsets[at..mid], &subsets[mid..end]);
+        store_lengths(
+            out,
+            src,
+            first,
+            shape,
+            &subsets[at..mid],
+            &subsets[mid..end],
+        );
         first += m + 1;
         at = end;
         i += 1;
@@ -147,7 +148,17 @@ fn store_ragged_all(
         let mid = at + d;
         let end = mid + d;
         let m = array::subset::volume_of(&subsets[mid..end]) as usize;
-        store_ragged(out, begins, values, base, src, first, shape, &subsets[at..mid], &subsets[mid..end]);
+        store_ragged(
+            out,
+            begins,
+            values,
+            base,
+            src,
+            first,
+            shape,
+            &subsets[at..mid],
+            &subsets[mid..end],
+        );
         let last = first + m;
         base += src[last] as usize;
         first = last + 1;

@@ -1,12 +1,10 @@
--- `merge0::check_chunk` meets its contract.
+-- `check_chunk` meets its contract: one law for each answer (proofs/OneChunk).
 -- Assumes nothing.
-use Prim.Native.Nat.{ℕ, _+_, _-_, _*_, _<_, _≤_}
+use Prim.Native.Nat.{ℕ, _-_}
 use mathlib.Core.Path.{_≡_, sym, ap, _∙_}
-use mathlib.Core.Bool.{Bool}
 use mathlib.Core.List.{List}
 use native.Mathlib.Omega.{arith}
 use borrow.Author.Tests.{not-true, not-false}
-use lib.ListN.{length, getD}
 use Rattle.array.specs.Meaning.{formOf, orderOf, widthOf, placeOf}
 use Rattle.array.proofs.CheckLaws.{small-product}
 use Rattle.merge.specs.Chunks.{chunkAnswer}

@@ -1,12 +1,11 @@
--- `merge0::check_chunks` meets its contract.
+-- `check_chunks` meets its contract: what is left to check gives what the whole gives (proofs/ChunkWalk).
 -- Assumes nothing.
-use Prim.Native.Nat.{ℕ, _+_, _-_, _*_, _<_, _≤_}
-use mathlib.Core.Path.{_≡_, refl, sym, ap, subst, _∙_}
+use Prim.Native.Nat.{ℕ, _+_, _-_, _<_, _≤_}
+use mathlib.Core.Path.{_≡_, sym, ap, _∙_}
 use mathlib.Core.List.{List}
 use native.Mathlib.Omega.{arith}
 use borrow.Author.Needs.{needs}
-use lib.ListN.{length, getD, drop, length-drop}
-use Rattle.array.specs.Kind.{Form}
+use lib.ListN.{length, drop, length-drop}
 use Rattle.array.specs.Limits.{mostCells}
 use Rattle.array.specs.Meaning.{formOf}
 use Rattle.array.specs.Shape.{volume}
@@ -15,9 +14,9 @@ use Rattle.array.proofs.Index.{few-within, few-drop}
 use Rattle.array.proofs.SubsetLists.{startsAt, lengthsAt}
 use Rattle.cover.proofs.SubsetWalk.{next-room, now-within}
 use Rattle.merge.specs.Chunks.{chunkAnswer}
-use Rattle.merge.proofs.ChunkWalk.{Walked, walked-begins, masks-left, values-left, offsets-left, none-left, walked-bad, fitting, walked-offsets, walked-more, rest-part}
+use Rattle.merge.proofs.ChunkWalk.{Walked, walked-begins, masks-left, values-left, offsets-left, none-left, walked-bad, walked-more, rest-part}
 use Rattle.merge.proofs.OneChunk.{Fitting, chunk-fits}
-use Rattle.merge.specs.declared.check.Chunk.the-variants.{Fits, Bad}
+use Rattle.merge.specs.declared.check.Chunk.the-variants.{Fits}
 use Rattle.merge.proofs.check.check_chunks.Statement.{statement}
 use Rattle.merge.proofs.check.check_chunks.Tie as tie
 
@@ -33,7 +32,7 @@ Head = tie.At-loop Inv-loop μ-loop
 abbrev start : Head → tie.Start Inv-loop μ-loop
 start l = l .before .before .before .before .before
 
--- the next box lies in the list
+-- the next subset lies in the list
 seen : (l : Head) → l .loop .i < start l .args .count → l .loop .at + length (start l .args .shape .now) + length (start l .args .shape .now) ≤ length (start l .args .subsets .now)
 seen l h = next-room (start l .args .shape .now) (start l .args .subsets .now) (start l .args .count) (l .loop .i) (l .loop .at) (l .loop .inv .geo) h
 

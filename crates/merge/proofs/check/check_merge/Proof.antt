@@ -3,7 +3,6 @@
 use Prim.Native.Nat.{ℕ, _*_, _/_}
 use mathlib.Core.Path.{_≡_, sym, ap, _∙_}
 use mathlib.Core.Bool.{true}
-use mathlib.Core.List.{List}
 use native.Mathlib.Omega.{arith}
 use borrow.Author.Needs.{needs}
 use borrow.Author.Tests.{not-true, not-false}
@@ -55,8 +54,8 @@ sum t = t .before .bytes .given .0 .0
 
 summed : (t : tie.After-known-told2)
     → gives (sum t) ≡ chunkSum (formOf (start (from (first (earlier t))) .args .kind .values)) (start (from (first (earlier t))) .args .kind .depth)
-        (nextSubsets (length (start (from (first (earlier t))) .args .shape .now)) (count (earlier t)) (start (from (first (earlier t))) .args .subsets .now))
-        (start (from (first (earlier t))) .args .masks) (start (from (first (earlier t))) .args .values) (start (from (first (earlier t))) .args .offsets .now)
+    (nextSubsets (length (start (from (first (earlier t))) .args .shape .now)) (count (earlier t)) (start (from (first (earlier t))) .args .subsets .now))
+    (start (from (first (earlier t))) .args .masks) (start (from (first (earlier t))) .args .values) (start (from (first (earlier t))) .args .offsets .now)
 summed t = sym (ap toldTotal (t .before .bytes .given .1)) ∙ t .before .before .before .check-chunks .ensures
 
 abbrev sized : ℕ → tie.Else2 → tie.After-known-told2 → Sizes
@@ -161,7 +160,7 @@ returns-7 c =
     let a = start (from m) .args in
     ap (λ (n : ℕ). gives (sized n e t)) (shape-counted m .is)
     ∙ passes (kindOf (a .kind)) (a .shape .now) (a .subsets .now) (a .masks) (a .values) (a .offsets .now) (kind-passed (from m)) (shape-counted m .passes) (subsets-passed e)
-        (sum t) (summed t) (v .before .if3 .left) (sym (v .covers .ensures) ∙ not-false (v .covers .result) (c .if4 .left))
+    (sum t) (summed t) (v .before .if3 .left) (sym (v .covers .ensures) ∙ not-false (v .covers .result) (c .if4 .left))
 
 pub check-merge-spec : {M : Type 1} → statement M
 check-merge-spec =

@@ -105,9 +105,9 @@ mul-len : tie.Need-mul-len Inv-loop μ-loop
 mul-len c = let r = enough (c .before .before) (omega arith) in omega (arith, r)
 
 copy-bytes-requires : tie.Need-copy-bytes-requires Inv-loop μ-loop
-copy-bytes-requires c κs = 
+copy-bytes-requires c κs =
     let l = c .before .before .before in
-    (omega (arith, l .loop .inv .long, room l (omega arith) (c .before .cell-at .result) (c .before .cell-at .ensures)), enough l (omega arith))
+    (omega (arith, l .loop .inv .long, room l (omega arith) (c .before .cell-at .result) (c .before .cell-at .ensures)), omega (arith, enough l (omega arith)))
 
 add-at : tie.Need-add-at Inv-loop μ-loop
 add-at c = let l = c .before .before .before .before .before .before in omega (arith, within l (omega arith), few-cells l)
@@ -119,7 +119,7 @@ loop-less c =
     omega (arith, within l h, left-some (cells l) (total l) (run l) (l .loop .at) (l .loop .inv .geo) h)
 
 loop-again : tie.Need-loop-again Inv-loop μ-loop
-loop-again c = 
+loop-again c =
     let l = c .before .before .before .before .before .before in
     let k = c .before .before .before .before in
     fixed-more (start l .args .base) (start l .args .size) (cells l) (start l .args .src .now) (start l .args .first) (start l .args .out .now) (l .loop .out) (total l) (run l) (l .loop .at) (l .loop .inv) (omega arith)
