@@ -1,23 +1,23 @@
 -- What the loops lay is the cut: masks and values by their places are those of the cells that the definition gathers.
 -- Assumes nothing.
 use mathlib.Core.Path.{_≡_, refl, sym, ap, ap₂, _∙_}
-use Prim.Native.Nat.{ℕ, zero, suc, _+_, _-_, _*_, _≤_, _<_}
+use Prim.Native.Nat.{ℕ, zero, suc, _+_, _*_, _≤_, _<_}
 use native.Mathlib.Nat.{zero-mul, suc-mul, mul-one, zero-add}
 use native.Mathlib.Omega.{arith}
 use mathlib.Core.List.{List, [], _∷_, _++_, map}
-use lib.ListN.{length, take, drop, getD, length-drop, length-map}
+use lib.ListN.{length, take, drop, getD, length-drop}
 use lib.Seq.{drop-drop, drop-cons, getD-take, getD-drop}
 use Rattle.array.specs.Lists.{joined, pieces, All}
 use Rattle.array.specs.Kind.{Kind, Form, fixed, ragged, nullOf}
 use Rattle.array.specs.Shape.{volume}
 use Rattle.array.specs.Subset.{Subset, SubsetOk, cellsIn}
-use Rattle.array.specs.Cells.{Value, Cell, maskOf, inners, leaf, blank}
+use Rattle.array.specs.Cells.{Value, Cell, maskOf, leaf, blank}
 use Rattle.array.specs.Offsets.{slices, slicesFrom}
 use Rattle.array.specs.Content.{Content, ContentOk, ValuesOk, masksOf, leaves, offsetsFor, pairUp, attach, valuesIn, cellsOf, nullCell}
 use Rattle.array.proofs.SubsetLaws.{cellsIn-below}
 use Rattle.array.proofs.LayoutLaws.{content-path, inners-pairUp, first-plane, later-planes, length-attach, leaves-attach, values-length}
 use Rattle.chunks.specs.Gather.{gather}
-use Rattle.chunks.specs.Cut.{cellsAt, cutOf}
+use Rattle.chunks.specs.Cut.{cutOf}
 use Rattle.chunks.proofs.Gather.{gather-map}
 use Rattle.extract.specs.Places.{fixedAt, offsetAt, beginsAt, valueAt, valuesAt, planesAt}
 use Rattle.extract.proofs.Places.{fixed-step}

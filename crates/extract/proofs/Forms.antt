@@ -1,11 +1,11 @@
 -- Values of either form: what an array that keeps the rules says of their places, and how long their cut is.
 -- Assumes nothing.
 use mathlib.Core.Path.{_≡_, refl, sym, ap, _∙_}
-use Prim.Native.Nat.{ℕ, zero, suc, _+_, _*_, _≤_, _<_}
-use native.Mathlib.Nat.{zero-add, le-of-eq}
+use Prim.Native.Nat.{ℕ, zero, suc, _*_, _≤_, _<_}
+use native.Mathlib.Nat.{le-of-eq}
 use native.Mathlib.Omega.{arith}
 use mathlib.Core.List.{List, [], _∷_}
-use lib.ListN.{length, getD, take, drop, length-map}
+use lib.ListN.{length, getD, length-map}
 use Rattle.array.specs.Limits.{mostBytes}
 use Rattle.array.specs.Lists.{joined, All}
 use Rattle.array.specs.Kind.{Form, fixed, ragged, Order, Place}
@@ -15,9 +15,9 @@ use Rattle.array.specs.Content.{Content, ValuesOk, offsetsFor}
 use Rattle.array.proofs.CheckLaws.{last-at}
 use Rattle.array.proofs.Offsets.{length-ends}
 use Rattle.chunks.specs.Chunks.{offsetCount}
-use Rattle.extract.specs.Places.{fixedAt, offsetAt, beginsAt, Rises, bytesAt, valueAt, valuesAt}
-use Rattle.extract.specs.Asked.{CellsAsked, OffsetsAsked, RaggedAsked, OffsetsFor, ValuesAsked}
-use Rattle.extract.proofs.Places.{fixed-rises, fixed-total, bytes-long}
+use Rattle.extract.specs.Places.{offsetAt, beginsAt, Rises, bytesAt, valueAt, valuesAt}
+use Rattle.extract.specs.Asked.{CellsAsked, RaggedAsked, OffsetsFor, ValuesAsked}
+use Rattle.extract.proofs.Places.{fixed-rises, bytes-long}
 use Rattle.extract.proofs.Walk.{fixed-long}
 
 -- ---- by form

@@ -6,7 +6,7 @@ use native.Mathlib.Nat.{zero-mul, suc-mul, add-zero, sub-self, le-refl}
 use native.Mathlib.Numerals.{add-one}
 use native.Mathlib.Omega.{arith}
 use mathlib.Core.List.{List, [], _∷_, _++_, map, append-assoc}
-use lib.ListN.{length, take, drop, getD, length-append, length-drop}
+use lib.ListN.{length, take, drop, length-append, length-drop}
 use lib.Seq.{take-add, drop-drop, length-take-le}
 use Rattle.array.specs.Lists.{from, joined, All}
 use Rattle.array.specs.Cells.{Value}

@@ -2,7 +2,7 @@
 use array::copy;
 use array::subset;
 ghost use mathlib.Core.Path.{_≡_};
-ghost use Prim.Native.Nat.{ℕ, _*_};
+ghost use Prim.Native.Nat.{_*_};
 ghost use Rattle.array.specs.Lists.{joined};
 ghost use Rattle.array.specs.Subset.{pairs, cellsIn};
 ghost use Rattle.array.specs.Buffers.{over, overAt};

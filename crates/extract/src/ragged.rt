@@ -5,12 +5,11 @@ ghost use mathlib.Core.Path.{_≡_};
 ghost use mathlib.Core.List.{map};
 ghost use Prim.Native.Nat.{ℕ, suc, _+_, _-_, _<_, _≤_};
 ghost use lib.ListN.{length};
-ghost use Rattle.array.specs.Limits.{mostBytes};
 ghost use Rattle.array.specs.Lists.{from, joined};
 ghost use Rattle.array.specs.Offsets.{ends, offsetsOf};
 ghost use Rattle.array.specs.Subset.{pairs, cellsIn};
 ghost use Rattle.array.specs.Buffers.{over, overAt};
-ghost use Rattle.extract.specs.Places.{offsetAt, Rises, bytesAt, valuesAt};
+ghost use Rattle.extract.specs.Places.{offsetAt, bytesAt, valuesAt};
 ghost use Rattle.extract.specs.Asked.{SubsetAsked, OffsetsAsked, RowAsked, RaggedAsked};
 
 // How many bytes the cells of a subset have.

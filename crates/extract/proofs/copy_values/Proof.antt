@@ -1,6 +1,6 @@
 -- `copy_values` meets its contract, by the form: cells of one size, or ragged ones with their offsets.
 -- Assumes nothing.
-use mathlib.Core.Path.{_≡_, refl}
+use mathlib.Core.Path.{refl}
 use borrow.Author.Needs.{needs}
 use Rattle.array.specs.Subset.{pairs, cellsIn}
 use Rattle.array.specs.Meaning.{orderOf, widthOf, placeOf}

@@ -1,11 +1,9 @@
 -- `copy_ragged` meets its contract: the first offset, and behind it where the values end (proofs/Walk).
 -- Assumes nothing.
-use Prim.Native.Nat.{ℕ, _≤_}
-use mathlib.Core.Path.{_≡_, sym, _∙_}
-use mathlib.Core.List.{List}
+use mathlib.Core.Path.{_∙_}
 use native.Mathlib.Omega.{arith}
 use borrow.Author.Needs.{needs}
-use lib.ListN.{length, length-set}
+use lib.ListN.{length-set}
 use Rattle.array.specs.Subset.{pairs, cellsIn}
 use Rattle.array.specs.Offsets.{ends}
 use Rattle.extract.specs.Places.{offsetAt, valuesAt}
