@@ -1,6 +1,6 @@
 -- What the call answers: each refusal in its order, and success.
 -- Assumes nothing.
-use mathlib.Core.Path.{_≡_, refl, sym, ap, ap₂, _∙_}
+use mathlib.Core.Path.{_≡_, refl, sym, ap, _∙_}
 use mathlib.Core.Bool.{Bool, true, false}
 use Prim.Native.Nat.{ℕ, _≤_, _<_}
 use native.Mathlib.Omega.{arith}
@@ -10,7 +10,7 @@ use Rattle.array.specs.Answer.{Answer, gives, refuses, unless, andThen, Outcome
 use Rattle.array.specs.Lists.{joined}
 use Rattle.array.specs.Kind.{Place}
 use Rattle.array.specs.Shape.{volume, shapeTest}
-use Rattle.array.specs.Subset.{subsetOf, numbersTest, NumbersOk, cellsIn}
+use Rattle.array.specs.Subset.{subsetOf, numbersTest, cellsIn}
 use Rattle.array.specs.Cells.{Value}
 use Rattle.array.specs.Offsets.{offsetsOf}
 use Rattle.array.specs.Content.{RaggedContent}

@@ -6,20 +6,20 @@ use mathlib.Core.Bool.{Bool, true, false}
 use Prim.Native.Nat.{ℕ, zero, suc, _+_, _-_, _*_, _≤_, _<_}
 use native.Mathlib.Nat.{zero-mul, suc-mul, zero-add, sub-zero, mul-le-mul-right}
 use native.Mathlib.Omega.{arith}
-use mathlib.Core.List.{List, [], _∷_, map}
+use mathlib.Core.List.{List, [], _∷_}
 use lib.ListN.{length, take, drop, getD, length-drop, length-map}
 use lib.Seq.{drop-drop, take-take, length-take-le}
 use lib.Dec.{leb, eqb}
 use Rattle.array.specs.Answer.{Answer, gives, unless}
 use Rattle.array.specs.Limits.{mostBytes}
-use Rattle.array.specs.Lists.{pieces, joined, All}
+use Rattle.array.specs.Lists.{pieces, All}
 use Rattle.array.specs.Bytes.{unle}
-use Rattle.array.specs.Kind.{Kind, Place, ragged}
+use Rattle.array.specs.Kind.{Place, ragged}
 use Rattle.array.specs.Shape.{volume}
-use Rattle.array.specs.Subset.{Subset, SubsetOk, subsetOf, cellsIn}
+use Rattle.array.specs.Subset.{SubsetOk, subsetOf, cellsIn}
 use Rattle.array.specs.Cells.{Value}
 use Rattle.array.specs.Offsets.{last, lastFrom, Rising, risingTest}
-use Rattle.array.specs.Content.{Content, RaggedContent, unmasked, ValuesOk, ContentOk, sizeTest}
+use Rattle.array.specs.Content.{Content, RaggedContent, unmasked, ValuesOk, sizeTest}
 use Rattle.array.proofs.Lists.{length-pieces}
 use Rattle.array.proofs.Rules.{rising-ok, size-ok}
 use Rattle.array.proofs.CheckLaws as check
@@ -29,11 +29,11 @@ use Rattle.codec.specs.Index.{offsetsIn, spanIn, indexAt, dataAt}
 use Rattle.codec.proofs.IndexLaws.{drop-take}
 use Rattle.codec.proofs.CheckedIndex.{IndexChecked, index-checked}
 use Rattle.chunks.specs.Calls.{raggedCut}
-use Rattle.extract.specs.Places.{offsetAt, Rises, valueAt, valuesAt}
+use Rattle.extract.specs.Places.{offsetAt, Rises, valuesAt}
 use Rattle.extract.proofs.Places.{run-below}
 use Rattle.extract.proofs.Forms.{begins-rise}
 use Rattle.extract.proofs.Closing.{cut-is}
-use Rattle.partial.specs.Stored.{storedAt, endToEnd, IndexAsked, DataAsked}
+use Rattle.partial.specs.Stored.{storedAt, endToEnd, DataAsked}
 
 -- ---- offset j of an index
 

@@ -1,6 +1,5 @@
 -- The index of stored ragged values, read where it lies (document 01, item 4), and what the walks over a subset's cells ask of it.
 -- Assumes nothing.
-use mathlib.Core.Path.{_≡_}
 use Prim.Native.Nat.{ℕ, suc, _+_, _-_, _*_, _^_, _≤_, _<_}
 use mathlib.Core.List.{List}
 use lib.ListN.{length, take, drop}

@@ -3,7 +3,7 @@
 use mathlib.Core.Path.{_∙_}
 use native.Mathlib.Omega.{arith}
 use borrow.Author.Needs.{needs}
-use lib.ListN.{length, drop, length-set}
+use lib.ListN.{drop, length-set}
 use Rattle.array.specs.Subset.{pairs, cellsIn}
 use Rattle.array.specs.Meaning.{widthOf}
 use Rattle.array.specs.Offsets.{ends}
@@ -17,10 +17,7 @@ slice-write-offsets : tie.Need-slice-write-offsets
 slice-write-offsets c = let a = c .before .before .before .before .before .before in omega (arith, a .pre .1 .room-offsets)
 
 copy-rows-requires : tie.Need-copy-rows-requires
-copy-rows-requires c κs =
-    let a = c .before .before .before .before .before .before .before .before in
-    let p = a .pre .1 in
-    (a .pre .0, record { stored = p .stored; room = p .room; room-offsets = omega (arith, p .room-offsets, length-set (a .args .offsets .now) 0 0) })
+copy-rows-requires c κs = search needs
 
 same-length : tie.Need-same-length
 same-length c = search needs

@@ -1,7 +1,7 @@
 -- `count_bytes` meets its contract: the rows before `at` are counted (the laws of the loop are extract's).
 -- Assumes nothing.
-use Prim.Native.Nat.{ℕ, _+_, _-_, _*_, _≤_, _<_}
-use mathlib.Core.Path.{_≡_, ap, ap₂, _∙_}
+use Prim.Native.Nat.{ℕ, _+_, _-_, _≤_}
+use mathlib.Core.Path.{ap, ap₂, _∙_}
 use mathlib.Core.List.{List}
 use native.Mathlib.Omega.{arith}
 use lib.ListN.{length, getD}

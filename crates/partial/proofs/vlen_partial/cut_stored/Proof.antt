@@ -1,6 +1,6 @@
 -- `cut_stored` meets its contract: what the cut needs (proofs/Rows), and the laws of its answer (proofs/Outcomes).
 -- Assumes nothing.
-use Prim.Native.Nat.{ℕ, _+_, _≤_}
+use Prim.Native.Nat.{ℕ, _+_}
 use mathlib.Core.Path.{_≡_, sym, _∙_}
 use mathlib.Core.List.{List}
 use native.Mathlib.Omega.{arith}

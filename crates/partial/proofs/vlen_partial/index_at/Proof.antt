@@ -1,11 +1,6 @@
 -- `index_at` meets its contract, place by place.
 -- Assumes nothing.
-use Prim.Native.Nat.{_-_}
-use mathlib.Core.Path.{sym, ap}
 use borrow.Author.Needs.{needs}
-use Rattle.array.specs.declared.kind.IndexPlace.{IndexPlace}
-use Rattle.array.specs.Meaning.{placeOf}
-use Rattle.codec.specs.Index.{indexAt}
 use Rattle.partial.proofs.vlen_partial.index_at.Statement.{statement}
 use Rattle.partial.proofs.vlen_partial.index_at.Tie as tie
 

@@ -8,7 +8,7 @@ use native.Mathlib.Omega.{arith}
 use borrow.Author.Needs.{needs}
 use borrow.Author.Tests.{not-true, not-false}
 use lib.ListN.{length, drop}
-use Rattle.array.specs.Answer.{Answer, gives}
+use Rattle.array.specs.Answer.{gives}
 use Rattle.array.specs.Limits.{mostCells}
 use Rattle.array.specs.Kind.{Place}
 use Rattle.array.specs.Shape.{volume}
