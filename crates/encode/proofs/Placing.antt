@@ -48,11 +48,11 @@ at-none at out h =
     sym (ap (λ (x : List ℕ). over x out) (append-nil (take at out)) ∙ ap (λ (m : ℕ). take at out ++ drop m out) (length-take-le at out h) ∙ take-append-drop at out)
 
 -- a frame: the content, then its mask, then the two lengths
-pub frame-laid : (at n m : ℕ) (out o1 o2 o3 o4 mask content : List ℕ) → length mask ≡ n → length content ≡ m → at + (16 + n + m) ≤ length out
+pub frame-laid : (at : ℕ) (mask content out : List ℕ) {n m : ℕ} {o1 o2 o3 o4 : List ℕ} → length mask ≡ n → length content ≡ m → at + (16 + n + m) ≤ length out
     → o1 ≡ overAt (at + 16 + n) content out → o2 ≡ overAt (at + 16) mask o1 → o3 ≡ overAt (at + 8) (le 8 m) o2 → o4 ≡ overAt at (le 8 n) o3
     → o4 ≡ overAt at (wrap mask content) out
 unfolding wrap
-frame-laid at n m out o1 o2 o3 o4 mask content en em h e1 e2 e3 e4 =
+frame-laid at mask content out {n} {m} {o1} {o2} {o3} {o4} en em h e1 e2 e3 e4 =
     let q2 : o2 ≡ overAt (at + 16) (mask ++ content) out = e2 ∙ ap (overAt (at + 16) mask) e1 ∙ at-front (at + 16) mask content out (at + 16 + n) (omega arith) (omega arith) in
     let q3 : o3 ≡ overAt (at + 8) (le 8 m ++ (mask ++ content)) out =
     e3 ∙ ap (overAt (at + 8) (le 8 m)) q2 ∙ at-front (at + 8) (le 8 m) (mask ++ content) out (at + 16) (omega (arith, length-le 8 m)) (omega arith) in

@@ -1,18 +1,17 @@
 -- Runs of cells that a level counts, and the loops that go by them.
 -- Assumes nothing.
 use mathlib.Core.Path.{_≡_, refl, sym, ap, ap₂, _∙_}
-use mathlib.Core.Logic.{_≢_}
 use Prim.Native.Nat.{ℕ, zero, suc, _+_, _-_, _*_, _<_, _≤_}
-use native.Mathlib.Nat.{add-zero, sub-zero, zero-sub, le-refl}
+use native.Mathlib.Nat.{sub-zero, zero-sub, suc-mul, le-refl}
 use native.Mathlib.Numerals.{add-one, sub-one}
 use native.Mathlib.Omega.{arith}
 use mathlib.Core.Bool.{Bool, true, false, not, _&&_}
-use mathlib.Core.List.{List, [], _∷_, _++_, map}
+use mathlib.Core.List.{List, [], _∷_, _++_}
 use lib.ListN.{length, length-append}
 use lib.Dec.{eqb, eqb·suc-zero}
-use Rattle.array.specs.Lists.{pick, from, joined, passing, All}
+use Rattle.array.specs.Lists.{pick, from, passing, All}
 use Rattle.array.specs.Cells.{markOf}
-use Rattle.array.proofs.Lists.{map-append, length-from}
+use Rattle.array.proofs.Lists.{length-from}
 use Rattle.encode.specs.Live.{setBy, maskAt, liveTest, liveAt, runOf}
 
 -- ---- one cell
@@ -47,7 +46,7 @@ module _ (n : ℕ) (masks : List ℕ) (i : ℕ) where
 -- the place of a mask byte
 pub row-le : (l n i m : ℕ) → 0 < l → i < n → l * n ≤ m → (l - 1) * n + i < m
 row-le zero n i m p h k = absurd (omega arith)
-row-le (suc l) n i m p h k = rw sub-one (omega (arith, native.Mathlib.Nat.suc-mul l n))
+row-le (suc l) n i m p h k = rw sub-one (omega (arith, suc-mul l n))
 
 -- ---- runs
 
@@ -132,19 +131,32 @@ live-le n masks l = omega (arith, passing-le (liveTest n masks l) (from 0 n), le
 
 -- ---- a count that goes by runs
 
-module _ (t : ℕ → Bool) (n : ℕ) where
-  abbrev pub Counting : ℕ → ℕ → Type 0
-  Counting count i = count + length (passing t (from i (n - i))) ≡ length (passing t (from 0 n))
+-- the cells counted so far, and those from i on
+pub record Counting (t : ℕ → Bool) (n count i : ℕ) : Type 0 where
+  pub sum : count + length (passing t (from i (n - i))) ≡ length (passing t (from 0 n))
 
-  pub counting-begins : Counting 0 0
-  counting-begins = omega (arith, ap length (passing-start t n))
+pub counting-begins : {t : ℕ → Bool} {n : ℕ} → Counting t n 0 0
+counting-begins {t} {n} = record { sum = omega (arith, ap length (passing-start t n)) }
 
-  pub counting-more : (count i r : ℕ) → r ≡ runOf t i (n - i) → Counting count i → Counting (count + r) (i + (r + 1))
-  counting-more count i r e h =
-      omega (arith, ap length (passing-run t i n r e), length-append (from i r) (passing t (from (i + (r + 1)) (n - (i + (r + 1))))), length-from i r)
+module _ {t : ℕ → Bool} {n count i : ℕ} (l : Counting t n count i) where
+  pub counting-ends : n ≤ i → count ≡ length (passing t (from 0 n))
+  counting-ends h = omega (arith, l .sum, ap length (passing-end t i n h))
 
-  pub counting-ends : (count i : ℕ) → n ≤ i → Counting count i → count ≡ length (passing t (from 0 n))
-  counting-ends count i h e = omega (arith, ap length (passing-end t i n h))
+  module _ {r : ℕ} (e : r ≡ runOf t i (n - i)) where
+    pub counting-more : Counting t n (count + r) (i + (r + 1))
+    counting-more = record {
+      sum =
+          omega (
+            arith,
+            l .sum,
+            ap length (passing-run t i n r e),
+            length-append (from i r) (passing t (from (i + (r + 1)) (n - (i + (r + 1))))),
+            length-from i r,
+          );
+    }
 
-  pub counting-fits : (count i r : ℕ) → r ≡ runOf t i (n - i) → Counting count i → count + r ≤ n
-  counting-fits count i r e h = omega (arith, counting-more count i r e h, passing-le t (from 0 n), length-from 0 n)
+    pub counting-within : i < n → i + r ≤ n
+    counting-within h = omega (arith, run-le t i (n - i))
+
+    pub counting-fits : count + r ≤ n
+    counting-fits = omega (arith, counting-more .sum, passing-le t (from 0 n), length-from 0 n)

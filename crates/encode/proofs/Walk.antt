@@ -19,7 +19,8 @@ use Rattle.codec.specs.Mask.{byteMask}
 use Rattle.codec.specs.Frame.{keepOne, keep, wrap, unlessNone, frame}
 use Rattle.codec.specs.Values.{putValues}
 use Rattle.codec.specs.Calls.{written, storedForm}
-use Rattle.encode.specs.Live.{setBy, maskAt, liveTest, liveAt, pieceAt, sliceAt, valueAt}
+use Rattle.encode.specs.Live.{setBy, maskAt, liveTest, liveAt}
+use Rattle.encode.specs.Pieces.{pieceAt, sliceAt, valueAt}
 use Rattle.encode.specs.Stored.{storedFrom, storedBy}
 
 -- ---- lists by their elements

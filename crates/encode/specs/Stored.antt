@@ -4,13 +4,25 @@
 use Prim.Native.Nat.{ℕ, zero, suc, _+_, _*_}
 use mathlib.Core.List.{List, map}
 use lib.ListN.{length}
+use lib.Dec.{leb}
+use Rattle.array.specs.Answer.{gives, unless, Outcome}
+use Rattle.array.specs.Buffers.{listOutcome}
 use Rattle.array.specs.Kind.{Form, fixed, ragged}
 use Rattle.array.specs.Content.{Content}
 use Rattle.codec.specs.Frame.{unlessNone, wrap}
 use Rattle.codec.specs.Ragged.{putRagged}
 use Rattle.codec.specs.Values.{putValues}
 use Rattle.codec.specs.Length.{raggedLength}
-use Rattle.encode.specs.Live.{maskAt, liveAt, valueAt, spansOf}
+use Rattle.encode.specs.Live.{maskAt, liveAt}
+use Rattle.encode.specs.Pieces.{valueAt, spansOf}
+
+-- the content that three slices hold
+abbrev pub contentIn : List ℕ → List ℕ → List ℕ → Content
+contentIn masks values offsets = record { masks = masks; values = values; offsets = offsets }
+
+-- the values of the cells that level l counts
+abbrev pub valuesFrom : Form → ℕ → Content → ℕ → List ℕ
+valuesFrom f n c l = putValues f (map (valueAt f c) (liveAt n (c .masks) l))
 
 -- a content of the cells that level l counts, d levels being left: a frame, or the values; nothing where none is left
 unfoldable pub storedFrom : Form → ℕ → Content → (d l : ℕ) → List ℕ
@@ -27,6 +39,10 @@ abbrev pub storedBy : Form → ℕ → Content → (d : ℕ) → List ℕ
 storedBy (fixed k o) n c d = storedFrom (fixed k o) n c d 0
 storedBy (ragged w p) n c zero = putRagged w p (record { values = c .values; offsets = c .offsets })
 storedBy (ragged w p) n c (suc d) = storedFrom (ragged w p) n c (suc d) 0
+
+-- bytes over an output: refusal 6 where it is too short
+abbrev pub storedOver : List ℕ → List ℕ → Outcome ℕ (List ℕ)
+storedOver s out = listOutcome (unless (leb (length s) (length out)) 6 (gives s)) out
 
 -- ---- the written length: the sum over the levels, outermost first
 

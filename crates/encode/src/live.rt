@@ -2,9 +2,9 @@
 ghost use mathlib.Core.Path.{_≡_};
 ghost use Prim.Native.Nat.{_-_, _*_, _<_, _≤_};
 ghost use lib.ListN.{length};
-ghost use Rattle.array.specs.Limits.{mostCells};
 ghost use Rattle.array.specs.Cells.{markOf};
 ghost use Rattle.encode.specs.Live.{setBy, liveTest, liveAt, runOf};
+ghost use Rattle.encode.specs.Ready.{Planes};
 
 // Any mask byte but 0 is set.
 fn is_set(b: u8) -> bool
@@ -48,7 +48,7 @@ pub fn live_run(masks: &[u8], cells: usize, level: usize, i: usize) -> usize
 
 // How many cells the level counts.
 pub fn count_live(masks: &[u8], cells: usize, level: usize) -> usize
-    requires { ⌜ (cells ≤ mostCells) × (level * cells ≤ length (now masks)) ⌝ }
+    requires { ⌜ Planes cells (now masks) level ⌝ }
     ensures { λ r. ⌜ r ≡ length (liveAt cells (now (masks .entry)) level) ⌝ }
 {
     let mut count: usize = 0;

@@ -1,11 +1,9 @@
-use borrow.Author.Needs.{needs}
+-- `encode::live::is_set` meets its contract: a byte is set where it is not 0.
+-- Assumes nothing.
 use Rattle.encode.proofs.Runs.{set-byte}
 use Rattle.encode.proofs.live.is_set.Statement.{statement}
 use Rattle.encode.proofs.live.is_set.Tie as tie
-use Rattle.encode.proofs.live.is_set.Reads as reads
-use Rattle.encode.proofs.live.is_set.Lts as lts
 
--- src/live.rt:10:1
 returns : tie.Need-returns
 returns c = set-byte (c .args .b)
 
