@@ -1,9 +1,8 @@
 // What belongs to the cells that a level counts, end to end: mask bytes, and values of one size.
+use crate::live;
 use array::copy;
 use array::endian;
 use array::kind::ByteOrder;
-use crate::live;
-
 ghost use mathlib.Core.Path.{_≡_};
 ghost use mathlib.Core.List.{map};
 ghost use Prim.Native.Nat.{_+_, _*_, _≤_};
@@ -62,7 +61,7 @@ pub fn put_live(
     level: usize,
 )
     requires { ⌜ Planes cells (now masks) level × (at + cells * size ≤ length (now s))
-      × (to + length (piecesAt (orderOf order) at size (now s) (liveAt cells (now masks) level)) ≤ length (now out)) ⌝ }
+        × (to + length (piecesAt (orderOf order) at size (now s) (liveAt cells (now masks) level)) ≤ length (now out)) ⌝ }
     ensures { λ _. ⌜ now (out .exit) ≡ overAt to (piecesAt (orderOf order) at size (now (s .entry)) (liveAt cells (now (masks .entry)) level)) (now (out .entry)) ⌝ }
 {
     let mut i = 0;
@@ -81,5 +80,15 @@ pub fn put_mask(out: &mut [u8], to: usize, masks: &[u8], cells: usize, level: us
     ensures { λ _. ⌜ now (out .exit) ≡ overAt to (byteMask .put (map (maskAt cells (now (masks .entry)) level) (liveAt cells (now (masks .entry)) level))) (now (out .entry)) ⌝ }
 {
     let at = level * cells;
-    put_live(out, to, masks, at, 1, ByteOrder::Little, masks, cells, level);
+    put_live(
+        out,
+        to,
+        masks,
+        at,
+        1,
+        ByteOrder::Little,
+        masks,
+        cells,
+        level,
+    );
 }

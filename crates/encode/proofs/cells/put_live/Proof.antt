@@ -36,30 +36,30 @@ live-run-requires : tie.Need-live-run-requires Inv-loop μ-loop
 live-run-requires c κs = omega (arith, c .before .before .before .before .before .pre .0 .planes)
 
 add-put-run : tie.Need-add-put-run Inv-loop μ-loop
-add-put-run c = omega (arith, (room (c .before)), (same (c .before .before .before)))
+add-put-run c = omega (arith, room (c .before), same (c .before .before .before))
 
 mul-put-run : tie.Need-mul-put-run Inv-loop μ-loop
-mul-put-run c = omega (arith, (source (c .before)))
+mul-put-run c = omega (arith, source (c .before))
 
 add-put-run-2 : tie.Need-add-put-run-2 Inv-loop μ-loop
-add-put-run-2 c = omega (arith, (source (c .before)))
+add-put-run-2 c = omega (arith, source (c .before))
 
 put-run-requires : tie.Need-put-run-requires Inv-loop μ-loop
-put-run-requires c κs = omega (arith, (source (c .before)), (room (c .before)), (same (c .before .before .before)))
+put-run-requires c κs = omega (arith, source (c .before), room (c .before), same (c .before .before .before))
 
 mul-done : tie.Need-mul-done Inv-loop μ-loop
-mul-done c = omega (arith, (source (c .before .before .before .before)))
+mul-done c = omega (arith, source (c .before .before .before .before))
 
 add-done : tie.Need-add-done Inv-loop μ-loop
-add-done c = omega (arith, (room (c .before .before .before .before)), (same (c .before .before .before .before .before .before)))
+add-done c = omega (arith, room (c .before .before .before .before), same (c .before .before .before .before .before .before))
 
 add-i : tie.Need-add-i Inv-loop μ-loop
 unfolding mostCells
-add-i c = omega (arith, (within (c .before .before .before .before)), c .before .before .before .before .before .before .before .before .before .before .pre .0 .few)
+add-i c = omega (arith, within (c .before .before .before .before), c .before .before .before .before .before .before .before .before .before .before .pre .0 .few)
 
 add-i-2 : tie.Need-add-i-2 Inv-loop μ-loop
 unfolding mostCells
-add-i-2 c = omega (arith, (within (c .before .before .before .before)), c .before .before .before .before .before .before .before .before .before .before .pre .0 .few)
+add-i-2 c = omega (arith, within (c .before .before .before .before), c .before .before .before .before .before .before .before .before .before .before .pre .0 .few)
 
 loop-less : tie.Need-loop-less Inv-loop μ-loop
 loop-less c = omega arith
@@ -68,7 +68,7 @@ loop-again : tie.Need-loop-again Inv-loop μ-loop
 loop-again c = storing-more (c .before .before .before .before .before .before .loop .inv) (c .before .before .before .before .live-run .ensures) (c .before .before .before .before .before .loop-test .taken) (c .before .before .put-run .ensures)
 
 same-length : tie.Need-same-length Inv-loop μ-loop
-same-length c = (same (c .before))
+same-length c = same (c .before)
 
 returns : tie.Need-returns Inv-loop μ-loop
 returns c = storing-ends (c .before .loop .inv) (c .loop-test .left)

@@ -24,16 +24,16 @@ loop-holds : tie.Need-loop-holds Inv-loop μ-loop
 loop-holds c = reversing-begins (c .before .before .pre .0) (c .before .before .pre .1)
 
 mul-k : tie.Need-mul-k Inv-loop μ-loop
-mul-k c = omega (arith, (fits c))
+mul-k c = omega (arith, fits c)
 
 add-copy-reversed : tie.Need-add-copy-reversed Inv-loop μ-loop
-add-copy-reversed c = omega (arith, (fits (c .before)))
+add-copy-reversed c = omega (arith, fits (c .before))
 
 add-copy-reversed-2 : tie.Need-add-copy-reversed-2 Inv-loop μ-loop
-add-copy-reversed-2 c = omega (arith, (fits (c .before)))
+add-copy-reversed-2 c = omega (arith, fits (c .before))
 
 copy-reversed-requires : tie.Need-copy-reversed-requires Inv-loop μ-loop
-copy-reversed-requires c κs = omega (arith, (fits (c .before)), (same (c .before .before)))
+copy-reversed-requires c κs = omega (arith, fits (c .before), same (c .before .before))
 
 add-j : tie.Need-add-j Inv-loop μ-loop
 add-j c = omega arith
@@ -45,7 +45,7 @@ loop-again : tie.Need-loop-again Inv-loop μ-loop
 loop-again c = reversing-more (c .before .before .before .before .before .loop .inv) (c .before .before .before .before .loop-test .taken) (c .before .before .copy-reversed .ensures)
 
 same-length : tie.Need-same-length Inv-loop μ-loop
-same-length c = (same (c .before))
+same-length c = same (c .before)
 
 returns : tie.Need-returns Inv-loop μ-loop
 returns c = reversing-ends (c .before .loop .inv) (c .loop-test .left)

@@ -66,7 +66,7 @@ content-length-returns-2 : (t : ℕ) → content-length-lts.Need-returns-2 (clai
 content-length-returns-2 t c = let a = c .before .before .before .before .before .before .args in c .values-length .ensures ∙ length-values (formOf (a .form)) (a .cells) (a .masks .now) (a .offsets .now) (a .level) (a .left) (c .before .if2 .taken) (some t (c .before .before))
 
 content-length-add-result : (t : ℕ) → content-length-lts.Need-add-result (claims-content-length t) (content-length-at t) content-length.Post
-content-length-add-result t c = omega (arith, (few t (c .before .before)))
+content-length-add-result t c = omega (arith, few t (c .before .before))
 
 content-length-add-content-length : (t : ℕ) → content-length-lts.Need-add-content-length (claims-content-length t) (content-length-at t) content-length.Post
 content-length-add-content-length t c = omega (arith, c .before .before .before .before .before .pre .1 .shallow)
@@ -81,7 +81,7 @@ content-length-content-length-requires t c κs =
     (omega (arith, c .before .before .before .before .before .pre .0), measured-next (a .level) (a .left) (c .before .before .before .before .before .pre .1) (c .if2 .left))
 
 content-length-add-result-2 : (t : ℕ) → content-length-lts.Need-add-result-2 (claims-content-length t) (content-length-at t) content-length.Post
-content-length-add-result-2 t c = omega (arith, (small t c), (few t (c .before .before .before)), c .before .before .before .before .before .before .pre .1 .shallow)
+content-length-add-result-2 t c = omega (arith, small t c, few t (c .before .before .before), c .before .before .before .before .before .before .pre .1 .shallow)
 
 content-length-returns-3 : (t : ℕ) → content-length-lts.Need-returns-3 (claims-content-length t) (content-length-at t) content-length.Post
 content-length-returns-3 t c =

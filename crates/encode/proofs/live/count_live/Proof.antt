@@ -28,11 +28,11 @@ add-count c = omega (arith, counting-fits (c .before .before .loop .inv) (c .liv
 
 add-i : tie.Need-add-i Inv-loop μ-loop
 unfolding mostCells
-add-i c = omega (arith, (within c), c .before .before .before .before .pre .few)
+add-i c = omega (arith, within c, c .before .before .before .before .pre .few)
 
 add-i-2 : tie.Need-add-i-2 Inv-loop μ-loop
 unfolding mostCells
-add-i-2 c = omega (arith, (within c), c .before .before .before .before .pre .few)
+add-i-2 c = omega (arith, within c, c .before .before .before .before .pre .few)
 
 loop-less : tie.Need-loop-less Inv-loop μ-loop
 loop-less c = omega arith

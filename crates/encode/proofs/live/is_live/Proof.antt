@@ -27,13 +27,13 @@ sub-l : tie.Need-sub-l Inv-loop μ-loop
 sub-l c = omega arith
 
 mul-is-set : tie.Need-mul-is-set Inv-loop μ-loop
-mul-is-set c = omega (arith, (place c))
+mul-is-set c = omega (arith, place c)
 
 add-is-set : tie.Need-add-is-set Inv-loop μ-loop
-add-is-set c = omega (arith, (place c))
+add-is-set c = omega (arith, place c)
 
 shared-slice-read-is-set : tie.Need-shared-slice-read-is-set Inv-loop μ-loop
-shared-slice-read-is-set c = (place (c .before))
+shared-slice-read-is-set c = place (c .before)
 
 is-set-requires : tie.Need-is-set-requires Inv-loop μ-loop
 is-set-requires c κs = search needs
@@ -49,7 +49,7 @@ loop-less c = omega arith
 loop-again : tie.Need-loop-again Inv-loop μ-loop
 loop-again c =
     let a = c .before .before .before .before .before .before .args in
-    (omega (arith, (place (c .before .before .before))), c .before .before .before .before .loop .inv .1 ∙ live-set (a .cells) (a .masks .now) (a .i) (c .before .before .before .before .loop .l) (c .before .before .before .loop-test .taken) (sym (c .before .is-set .ensures) ∙ not-false (c .before .is-set .result) (c .if1 .left)))
+    (omega (arith, place (c .before .before .before)), c .before .before .before .before .loop .inv .1 ∙ live-set (a .cells) (a .masks .now) (a .i) (c .before .before .before .before .loop .l) (c .before .before .before .loop-test .taken) (sym (c .before .is-set .ensures) ∙ not-false (c .before .is-set .result) (c .if1 .left)))
 
 returns-2 : tie.Need-returns-2 Inv-loop μ-loop
 returns-2 c = let a = c .before .before .before .args in sym (c .before .loop .inv .1 ∙ live-none (a .cells) (a .masks .now) (a .i) (c .before .loop .l) (omega arith))

@@ -46,8 +46,7 @@ loop-less c = omega arith
 
 loop-again : tie.Need-loop-again Inv-loop μ-loop
 loop-again c =
-    let a = c .before .before .before .before .before .before .args in
-    (
+    let a = c .before .before .before .before .before .before .args in (
       omega arith,
       omega arith,
       omega (arith, c .before .before .before .loop .inv .2, run-goes (liveTest (a .cells) (a .masks .now) (a .level)) (c .before .before .before .loop .j) (a .cells) (c .before .before .loop-test .taken) (sym (c .before .is-live .ensures) ∙ not-false (c .before .is-live .result) (c .if2 .left))),

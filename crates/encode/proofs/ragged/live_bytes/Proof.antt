@@ -29,17 +29,17 @@ mul-start : tie.Need-mul-start Inv-loop μ-loop
 mul-start c = search needs
 
 shared-slice-read-start : tie.Need-shared-slice-read-start Inv-loop μ-loop
-shared-slice-read-start c = omega (arith, (inside (c .before)))
+shared-slice-read-start c = omega (arith, inside (c .before))
 
 add-end : tie.Need-add-end Inv-loop μ-loop
-add-end c = omega (arith, (inside (c .before)))
+add-end c = omega (arith, inside (c .before))
 
 mul-end : tie.Need-mul-end Inv-loop μ-loop
 unfolding mostCells
-mul-end c = omega (arith, (inside (c .before)), c .before .before .before .before .before .before .pre .0 .few, c .before .before .before .before .before .before .pre .1 .counted)
+mul-end c = omega (arith, inside (c .before), c .before .before .before .before .before .before .pre .0 .few, c .before .before .before .before .before .before .pre .1 .counted)
 
 shared-slice-read-end : tie.Need-shared-slice-read-end Inv-loop μ-loop
-shared-slice-read-end c = (inside (c .before .before))
+shared-slice-read-end c = inside (c .before .before)
 
 sub-total : tie.Need-sub-total Inv-loop μ-loop
 sub-total c = summing-rises (c .before .before .before .before .loop .inv) (c .before .before .live-run .ensures) (c .before .before .before .loop-test .taken)
@@ -49,11 +49,11 @@ add-total c = omega (arith, summing-fits (c .before .before .before .before .loo
 
 add-i : tie.Need-add-i Inv-loop μ-loop
 unfolding mostCells
-add-i c = omega (arith, (inside (c .before .before)), c .before .before .before .before .before .before .before .pre .0 .few, c .before .before .before .before .before .before .before .pre .1 .counted)
+add-i c = omega (arith, inside (c .before .before), c .before .before .before .before .before .before .before .pre .0 .few, c .before .before .before .before .before .before .before .pre .1 .counted)
 
 add-i-2 : tie.Need-add-i-2 Inv-loop μ-loop
 unfolding mostCells
-add-i-2 c = omega (arith, (inside (c .before .before)), c .before .before .before .before .before .before .before .pre .0 .few, c .before .before .before .before .before .before .before .pre .1 .counted)
+add-i-2 c = omega (arith, inside (c .before .before), c .before .before .before .before .before .before .before .pre .0 .few, c .before .before .before .before .before .before .before .pre .1 .counted)
 
 loop-less : tie.Need-loop-less Inv-loop μ-loop
 loop-less c = omega arith

@@ -26,7 +26,7 @@ loop-holds : tie.Need-loop-holds Inv-loop μ-loop
 loop-holds c = listing-begins (c .before .before .pre)
 
 add-put-offset : tie.Need-add-put-offset Inv-loop μ-loop
-add-put-offset c = omega (arith, (room (c .before)), (same (c .before .before)))
+add-put-offset c = omega (arith, room (c .before), same (c .before .before))
 
 mul-put-offset : tie.Need-mul-put-offset Inv-loop μ-loop
 mul-put-offset c = search needs
@@ -35,13 +35,13 @@ shared-slice-read-put-offset : tie.Need-shared-slice-read-put-offset Inv-loop μ
 shared-slice-read-put-offset c = omega arith
 
 put-offset-requires : tie.Need-put-offset-requires Inv-loop μ-loop
-put-offset-requires c κs = omega (arith, (room (c .before .before)), (same (c .before .before .before)))
+put-offset-requires c κs = omega (arith, room (c .before .before), same (c .before .before .before))
 
 width-bytes-requires : tie.Need-width-bytes-requires Inv-loop μ-loop
 width-bytes-requires c κs = search needs
 
 add-done : tie.Need-add-done Inv-loop μ-loop
-add-done c = omega (arith, (room (c .before .before .before .before .before .before)), (same (c .before .before .before .before .before .before .before)), c .width-bytes .ensures)
+add-done c = omega (arith, room (c .before .before .before .before .before .before), same (c .before .before .before .before .before .before .before), c .width-bytes .ensures)
 
 add-j : tie.Need-add-j Inv-loop μ-loop
 add-j c = omega arith
@@ -53,7 +53,7 @@ loop-again : tie.Need-loop-again Inv-loop μ-loop
 loop-again c = listing-more (c .before .before .before .before .before .before .before .loop .inv) (c .before .before .before .before .before .before .loop-test .taken) (c .before .before .before .put-offset .ensures) (c .width-bytes .ensures)
 
 same-length : tie.Need-same-length Inv-loop μ-loop
-same-length c = (same (c .before))
+same-length c = same (c .before)
 
 returns : tie.Need-returns Inv-loop μ-loop
 returns c = listing-ends (c .before .loop .inv) (c .loop-test .left)

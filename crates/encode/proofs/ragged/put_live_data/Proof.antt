@@ -39,40 +39,40 @@ mul-start : tie.Need-mul-start Inv-loop μ-loop
 mul-start c = search needs
 
 shared-slice-read-start : tie.Need-shared-slice-read-start Inv-loop μ-loop
-shared-slice-read-start c = omega (arith, (inside (c .before)))
+shared-slice-read-start c = omega (arith, inside (c .before))
 
 add-end : tie.Need-add-end Inv-loop μ-loop
-add-end c = omega (arith, (inside (c .before)))
+add-end c = omega (arith, inside (c .before))
 
 mul-end : tie.Need-mul-end Inv-loop μ-loop
 unfolding mostCells
-mul-end c = omega (arith, (inside (c .before)), c .before .before .before .before .before .before .before .before .pre .0 .few, c .before .before .before .before .before .before .before .before .pre .1 .counted)
+mul-end c = omega (arith, inside (c .before), c .before .before .before .before .before .before .before .before .pre .0 .few, c .before .before .before .before .before .before .before .before .pre .1 .counted)
 
 shared-slice-read-end : tie.Need-shared-slice-read-end Inv-loop μ-loop
-shared-slice-read-end c = (inside (c .before .before))
+shared-slice-read-end c = inside (c .before .before)
 
 add-copy-bytes : tie.Need-add-copy-bytes Inv-loop μ-loop
-add-copy-bytes c = omega (arith, (room (c .before .before .before)), (same (c .before .before .before .before .before)))
+add-copy-bytes c = omega (arith, room (c .before .before .before), same (c .before .before .before .before .before))
 
 sub-copy-bytes : tie.Need-sub-copy-bytes Inv-loop μ-loop
-sub-copy-bytes c = (rises (c .before .before .before))
+sub-copy-bytes c = rises (c .before .before .before)
 
 copy-bytes-requires : tie.Need-copy-bytes-requires Inv-loop μ-loop
-copy-bytes-requires c κs = omega (arith, (room (c .before .before .before)), (same (c .before .before .before .before .before)), (rises (c .before .before .before)), slicing-source (c .before .before .before .before .before .loop .inv) (c .before .before .before .live-run .ensures) (c .before .before .before .before .loop-test .taken))
+copy-bytes-requires c κs = omega (arith, room (c .before .before .before), same (c .before .before .before .before .before), rises (c .before .before .before), slicing-source (c .before .before .before .before .before .loop .inv) (c .before .before .before .live-run .ensures) (c .before .before .before .before .loop-test .taken))
 
 sub-done : tie.Need-sub-done Inv-loop μ-loop
-sub-done c = (rises (c .before .before .before .before .before .before))
+sub-done c = rises (c .before .before .before .before .before .before)
 
 add-done : tie.Need-add-done Inv-loop μ-loop
-add-done c = omega (arith, (room (c .before .before .before .before .before .before)), (same (c .before .before .before .before .before .before .before .before)))
+add-done c = omega (arith, room (c .before .before .before .before .before .before), same (c .before .before .before .before .before .before .before .before))
 
 add-i : tie.Need-add-i Inv-loop μ-loop
 unfolding mostCells
-add-i c = omega (arith, (inside (c .before .before .before .before .before .before)), c .before .before .before .before .before .before .before .before .before .before .before .before .before .pre .0 .few, c .before .before .before .before .before .before .before .before .before .before .before .before .before .pre .1 .counted)
+add-i c = omega (arith, inside (c .before .before .before .before .before .before), c .before .before .before .before .before .before .before .before .before .before .before .before .before .pre .0 .few, c .before .before .before .before .before .before .before .before .before .before .before .before .before .pre .1 .counted)
 
 add-i-2 : tie.Need-add-i-2 Inv-loop μ-loop
 unfolding mostCells
-add-i-2 c = omega (arith, (inside (c .before .before .before .before .before .before)), c .before .before .before .before .before .before .before .before .before .before .before .before .before .pre .0 .few, c .before .before .before .before .before .before .before .before .before .before .before .before .before .pre .1 .counted)
+add-i-2 c = omega (arith, inside (c .before .before .before .before .before .before), c .before .before .before .before .before .before .before .before .before .before .before .before .before .pre .0 .few, c .before .before .before .before .before .before .before .before .before .before .before .before .before .pre .1 .counted)
 
 loop-less : tie.Need-loop-less Inv-loop μ-loop
 loop-less c = omega arith
@@ -81,7 +81,7 @@ loop-again : tie.Need-loop-again Inv-loop μ-loop
 loop-again c = slicing-more (c .before .before .before .before .before .before .before .before .loop .inv) (c .before .before .before .before .before .before .live-run .ensures) (c .before .before .before .before .before .before .before .loop-test .taken) (c .before .before .copy-bytes .ensures)
 
 same-length : tie.Need-same-length Inv-loop μ-loop
-same-length c = (same (c .before))
+same-length c = same (c .before)
 
 returns : tie.Need-returns Inv-loop μ-loop
 returns c = slicing-ends (c .before .loop .inv) (c .loop-test .left)

@@ -37,32 +37,31 @@ live-run-requires : tie.Need-live-run-requires Inv-loop μ-loop
 live-run-requires c κs = omega (arith, c .before .before .before .before .before .pre .0 .planes)
 
 add-put-run-ends : tie.Need-add-put-run-ends Inv-loop μ-loop
-add-put-run-ends c = omega (arith, (room (c .before)), (same (c .before .before .before)))
+add-put-run-ends c = omega (arith, room (c .before), same (c .before .before .before))
 
 put-run-ends-requires : tie.Need-put-run-ends-requires Inv-loop μ-loop
-put-run-ends-requires c κs =
-    (
-      (inside (c .before)),
-      c .before .before .before .before .before .before .before .pre .1 .rising,
-      c .before .before .before .loop .inv .sums .below (omega arith),
-      omega (arith, (room (c .before)), indexing-long (c .before .before .before .loop .inv) (c .before .live-run .ensures) (c .before .before .loop-test .taken)),
-    )
+put-run-ends-requires c κs = (
+  (inside (c .before)),
+  c .before .before .before .before .before .before .before .pre .1 .rising,
+  c .before .before .before .loop .inv .sums .below (omega arith),
+  omega (arith, room (c .before), indexing-long (c .before .before .before .loop .inv) (c .before .live-run .ensures) (c .before .before .loop-test .taken)),
+)
 
 mul-start : tie.Need-mul-start Inv-loop μ-loop
 mul-start c = search needs
 
 shared-slice-read-start : tie.Need-shared-slice-read-start Inv-loop μ-loop
-shared-slice-read-start c = omega (arith, (inside (c .before .before .before .before .before)))
+shared-slice-read-start c = omega (arith, inside (c .before .before .before .before .before))
 
 add-end : tie.Need-add-end Inv-loop μ-loop
-add-end c = omega (arith, (inside (c .before .before .before .before .before)))
+add-end c = omega (arith, inside (c .before .before .before .before .before))
 
 mul-end : tie.Need-mul-end Inv-loop μ-loop
 unfolding mostCells
-mul-end c = omega (arith, (inside (c .before .before .before .before .before)), c .before .before .before .before .before .before .before .before .before .before .before .pre .0 .few, c .before .before .before .before .before .before .before .before .before .before .before .pre .1 .counted)
+mul-end c = omega (arith, inside (c .before .before .before .before .before), c .before .before .before .before .before .before .before .before .before .before .before .pre .0 .few, c .before .before .before .before .before .before .before .before .before .before .before .pre .1 .counted)
 
 shared-slice-read-end : tie.Need-shared-slice-read-end Inv-loop μ-loop
-shared-slice-read-end c = (inside (c .before .before .before .before .before .before))
+shared-slice-read-end c = inside (c .before .before .before .before .before .before)
 
 sub-total : tie.Need-sub-total Inv-loop μ-loop
 sub-total c = summing-rises (c .before .before .before .before .before .before .before .before .loop .inv .sums) (c .before .before .before .before .before .before .live-run .ensures) (c .before .before .before .before .before .before .before .loop-test .taken)
@@ -74,18 +73,18 @@ width-bytes-requires : tie.Need-width-bytes-requires Inv-loop μ-loop
 width-bytes-requires c κs = search needs
 
 mul-done : tie.Need-mul-done Inv-loop μ-loop
-mul-done c = omega (arith, (room (c .before .before .before .before .before .before .before)), (same (c .before .before .before .before .before .before .before .before .before)), (wide c))
+mul-done c = omega (arith, room (c .before .before .before .before .before .before .before), same (c .before .before .before .before .before .before .before .before .before), wide c)
 
 add-done : tie.Need-add-done Inv-loop μ-loop
-add-done c = omega (arith, (room (c .before .before .before .before .before .before .before)), (same (c .before .before .before .before .before .before .before .before .before)), (wide c))
+add-done c = omega (arith, room (c .before .before .before .before .before .before .before), same (c .before .before .before .before .before .before .before .before .before), wide c)
 
 add-i : tie.Need-add-i Inv-loop μ-loop
 unfolding mostCells
-add-i c = omega (arith, (inside (c .before .before .before .before .before .before .before)), c .before .before .before .before .before .before .before .before .before .before .before .before .before .pre .0 .few, c .before .before .before .before .before .before .before .before .before .before .before .before .before .pre .1 .counted)
+add-i c = omega (arith, inside (c .before .before .before .before .before .before .before), c .before .before .before .before .before .before .before .before .before .before .before .before .before .pre .0 .few, c .before .before .before .before .before .before .before .before .before .before .before .before .before .pre .1 .counted)
 
 add-i-2 : tie.Need-add-i-2 Inv-loop μ-loop
 unfolding mostCells
-add-i-2 c = omega (arith, (inside (c .before .before .before .before .before .before .before)), c .before .before .before .before .before .before .before .before .before .before .before .before .before .pre .0 .few, c .before .before .before .before .before .before .before .before .before .before .before .before .before .pre .1 .counted)
+add-i-2 c = omega (arith, inside (c .before .before .before .before .before .before .before), c .before .before .before .before .before .before .before .before .before .before .before .before .before .pre .0 .few, c .before .before .before .before .before .before .before .before .before .before .before .before .before .pre .1 .counted)
 
 loop-less : tie.Need-loop-less Inv-loop μ-loop
 loop-less c = omega arith
@@ -94,7 +93,7 @@ loop-again : tie.Need-loop-again Inv-loop μ-loop
 loop-again c = indexing-more (c .before .before .before .before .before .before .before .before .before .loop .inv) (c .before .before .before .before .before .before .before .live-run .ensures) (c .before .before .before .before .before .before .before .before .loop-test .taken) (c .before .before .before .before .before .put-run-ends .ensures) (c .width-bytes .ensures)
 
 same-length : tie.Need-same-length Inv-loop μ-loop
-same-length c = (same (c .before))
+same-length c = same (c .before)
 
 returns : tie.Need-returns Inv-loop μ-loop
 returns c = indexing-ends (c .before .loop .inv) (c .loop-test .left)

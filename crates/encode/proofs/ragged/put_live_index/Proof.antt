@@ -16,16 +16,16 @@ room : (c : tie.Start) → c .args .to + (widthOf (c .args .width) + length (ind
 room c = let a = c .args in omega (arith, c .pre .2, index-head (widthOf (a .width)) (endsAt (a .offsets .now) 0 (liveAt (a .cells) (a .masks .now) (a .level))))
 
 put-offset-requires : tie.Need-put-offset-requires
-put-offset-requires c κs = omega (arith, (room (c .before .before .before .before)))
+put-offset-requires c κs = omega (arith, room (c .before .before .before .before))
 
 width-bytes-requires : tie.Need-width-bytes-requires
 width-bytes-requires c κs = search needs
 
 add-behind : tie.Need-add-behind
-add-behind c = omega (arith, (room (c .before .before .before .before .before .before .before .before)), c .width-bytes .ensures)
+add-behind c = omega (arith, room (c .before .before .before .before .before .before .before .before), c .width-bytes .ensures)
 
 put-live-ends-requires : tie.Need-put-live-ends-requires
-put-live-ends-requires c κs = (c .before .before .before .before .before .before .before .before .before .pre .0, c .before .before .before .before .before .before .before .before .before .pre .1, omega (arith, (room (c .before .before .before .before .before .before .before .before .before)), c .before .width-bytes .ensures, c .before .before .before .before .put-offset .kept .0))
+put-live-ends-requires c κs = (c .before .before .before .before .before .before .before .before .before .pre .0, c .before .before .before .before .before .before .before .before .before .pre .1, omega (arith, room (c .before .before .before .before .before .before .before .before .before), c .before .width-bytes .ensures, c .before .before .before .before .put-offset .kept .0))
 
 same-length : tie.Need-same-length
 same-length c = search needs

@@ -16,16 +16,16 @@ width-bytes-requires : tie.Need-width-bytes-requires
 width-bytes-requires c κs = search needs
 
 mul-index : tie.Need-mul-index
-mul-index c = omega (arith, (room c))
+mul-index c = omega (arith, room c)
 
 data-at-requires : tie.Need-data-at-requires
-data-at-requires c κs = omega (arith, (room c))
+data-at-requires c κs = omega (arith, room c)
 
 copy-bytes-requires : tie.Need-copy-bytes-requires
 copy-bytes-requires c κs = let a = c .before .before .before .before .before .before .args in omega (arith, data-room (placeOf (a .place)) 0 (c .before .before .width-bytes .result * length (a .offsets .now)) (length (a .values .now)) (room (c .before .before)) (c .before .data-at .ensures))
 
 index-at-requires : tie.Need-index-at-requires
-index-at-requires c κs = omega (arith, (room (c .before .before .before .before .before)))
+index-at-requires c κs = omega (arith, room (c .before .before .before .before .before))
 
 put-index-requires : tie.Need-put-index-requires
 put-index-requires c κs =
@@ -38,7 +38,7 @@ put-index-requires c κs =
     )
 
 length-at-requires : tie.Need-length-at-requires
-length-at-requires c κs = omega (arith, (room (c .before .before .before .before .before .before .before .before .before .before)))
+length-at-requires c κs = omega (arith, room (c .before .before .before .before .before .before .before .before .before .before))
 
 put-u64-requires : tie.Need-put-u64-requires
 put-u64-requires c κs =

@@ -21,7 +21,7 @@ long : (c : tie.After-width-bytes) → length (putValues (ragged (widthOf (c .be
 long c = let a = c .before .before .before .before .before .before .args in ragged-long (widthOf (a .width)) (placeOf (a .place)) (a .masks .now) (a .level) (c .before .before .before .before .before .before .pre .2) (a .values .now) (c .before .before .before .before .before .before .pre .3) (c .before .before .before .before .before .before .pre .1) (c .width-bytes .ensures) (c .before .live-bytes .ensures)
 
 room : (c : tie.After-width-bytes) → c .before .before .before .before .before .before .args .at + (8 + c .width-bytes .result * (c .before .before .before .before .before .before .args .count + 1) + c .before .live-bytes .result) ≤ length (c .before .before .before .before .before .before .args .out .now)
-room c = omega (arith, c .before .before .before .before .before .before .pre .4, (long c))
+room c = omega (arith, c .before .before .before .before .before .before .pre .4, long c)
 
 live-bytes-requires : tie.Need-live-bytes-requires
 live-bytes-requires c κs = search needs
@@ -34,15 +34,14 @@ unfolding mostCells
 add-index c = let a = c .before .before .before .before .before .before .args in omega (arith, c .before .before .before .before .before .before .pre .0 .few, c .before .before .before .before .before .before .pre .1, live-le (a .cells) (a .masks .now) (a .level))
 
 mul-index : tie.Need-mul-index
-mul-index c = omega (arith, (room c))
+mul-index c = omega (arith, room c)
 
 data-at-requires : tie.Need-data-at-requires
-data-at-requires c κs = omega (arith, (room c))
+data-at-requires c κs = omega (arith, room c)
 
 put-live-data-requires : tie.Need-put-live-data-requires
 put-live-data-requires c κs =
-    let a = c .before .before .before .before .before .before .before .before .args in
-    (
+    let a = c .before .before .before .before .before .before .before .before .args in (
       c .before .before .before .before .before .before .before .before .pre .0,
       c .before .before .before .before .before .before .before .before .pre .2,
       c .before .before .before .before .before .before .before .before .pre .3,
@@ -55,12 +54,11 @@ put-live-data-requires c κs =
     )
 
 index-at-requires : tie.Need-index-at-requires
-index-at-requires c κs = omega (arith, (room (c .before .before .before .before .before)))
+index-at-requires c κs = omega (arith, room (c .before .before .before .before .before))
 
 put-live-index-requires : tie.Need-put-live-index-requires
 put-live-index-requires c κs =
-    let a = c .before .before .before .before .before .before .before .before .before .before .before .before .before .args in
-    (
+    let a = c .before .before .before .before .before .before .before .before .before .before .before .before .before .args in (
       c .before .before .before .before .before .before .before .before .before .before .before .before .before .pre .0,
       c .before .before .before .before .before .before .before .before .before .before .before .before .before .pre .2,
       omega (
@@ -72,7 +70,7 @@ put-live-index-requires c κs =
     )
 
 length-at-requires : tie.Need-length-at-requires
-length-at-requires c κs = omega (arith, (room (c .before .before .before .before .before .before .before .before .before .before)))
+length-at-requires c κs = omega (arith, room (c .before .before .before .before .before .before .before .before .before .before))
 
 put-u64-requires : tie.Need-put-u64-requires
 put-u64-requires c κs =
@@ -85,21 +83,20 @@ put-u64-requires c κs =
     )
 
 add-result : tie.Need-add-result
-add-result c = omega (arith, (room (c .before .before .before .before .before .before .before .before .before .before .before .before .before .before .before)))
+add-result c = omega (arith, room (c .before .before .before .before .before .before .before .before .before .before .before .before .before .before .before))
 
 add-result-2 : tie.Need-add-result-2
-add-result-2 c = omega (arith, (room (c .before .before .before .before .before .before .before .before .before .before .before .before .before .before .before)))
+add-result-2 c = omega (arith, room (c .before .before .before .before .before .before .before .before .before .before .before .before .before .before .before))
 
 same-length : tie.Need-same-length
 same-length c = search needs
 
 returns : tie.Need-returns
 returns c =
-    let a = c .before .before .before .before .before .before .before .before .before .before .before .before .before .before .before .before .before .before .before .before .before .args in
-    (
+    let a = c .before .before .before .before .before .before .before .before .before .before .before .before .before .before .before .before .before .before .before .before .before .args in (
       sym (long (c .before .before .before .before .before .before .before .before .before .before .before .before .before .before .before)),
       ragged-put (widthOf (a .width)) (placeOf (a .place)) (a .masks .now) (a .level) (c .before .before .before .before .before .before .before .before .before .before .before .before .before .before .before .before .before .before .before .before .before .pre .2) (a .values .now) (c .before .before .before .before .before .before .before .before .before .before .before .before .before .before .before .before .before .before .before .before .before .pre .3) (c .before .before .before .before .before .before .before .before .before .before .before .before .before .before .before .before .before .before .before .before .before .pre .1) (c .before .before .before .before .before .before .before .before .before .before .before .before .before .before .before .width-bytes .ensures) (a .at) (a .out .now) (c .before .before .before .before .before .before .before .before .before .before .before .before .before .before .before .before .live-bytes .ensures) (c .before .before .before .before .before .before .before .before .before .before .before .before .before .before .before .before .before .before .before .before .before .pre .4)
-      (c .before .before .before .before .before .before .before .before .before .before .before .before .before .before .data-at .ensures) (c .before .before .before .before .before .before .before .before .before .before .before .before .put-live-data .ensures) (c .before .before .before .before .before .before .before .before .before .index-at .ensures) (c .before .before .before .before .before .before .before .put-live-index .ensures) (c .before .before .before .before .length-at .ensures) (c .before .before .put-u64 .ensures),
+          (c .before .before .before .before .before .before .before .before .before .before .before .before .before .before .data-at .ensures) (c .before .before .before .before .before .before .before .before .before .before .before .before .put-live-data .ensures) (c .before .before .before .before .before .before .before .before .before .index-at .ensures) (c .before .before .before .before .before .before .before .put-live-index .ensures) (c .before .before .before .before .length-at .ensures) (c .before .before .put-u64 .ensures),
     )
 
 pub put-ragged-spec : {M : Type 1} → statement M

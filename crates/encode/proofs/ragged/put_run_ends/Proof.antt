@@ -35,37 +35,37 @@ mul-start : tie.Need-mul-start Inv-loop μ-loop
 mul-start c = search needs
 
 shared-slice-read-start : tie.Need-shared-slice-read-start Inv-loop μ-loop
-shared-slice-read-start c = omega (arith, (inside (c .before)))
+shared-slice-read-start c = omega (arith, inside (c .before))
 
 add-end : tie.Need-add-end Inv-loop μ-loop
-add-end c = omega (arith, (inside (c .before)))
+add-end c = omega (arith, inside (c .before))
 
 add-end-2 : tie.Need-add-end-2 Inv-loop μ-loop
-add-end-2 c = omega (arith, (inside (c .before)))
+add-end-2 c = omega (arith, inside (c .before))
 
 mul-end : tie.Need-mul-end Inv-loop μ-loop
 mul-end c = search needs
 
 shared-slice-read-end : tie.Need-shared-slice-read-end Inv-loop μ-loop
-shared-slice-read-end c = (inside (c .before .before))
+shared-slice-read-end c = inside (c .before .before)
 
 add-put-offset : tie.Need-add-put-offset Inv-loop μ-loop
-add-put-offset c = omega (arith, (room (c .before .before .before)), (same (c .before .before .before .before)))
+add-put-offset c = omega (arith, room (c .before .before .before), same (c .before .before .before .before))
 
 sub-put-offset : tie.Need-sub-put-offset Inv-loop μ-loop
-sub-put-offset c = (rises (c .before .before .before))
+sub-put-offset c = rises (c .before .before .before)
 
 add-put-offset-2 : tie.Need-add-put-offset-2 Inv-loop μ-loop
-add-put-offset-2 c = omega (arith, (rises (c .before .before .before)), c .before .before .before .before .before .before .before .pre .2, c .before .shared-slice-known3 .given (c .before .before .before .before .before .before .before .args .i + c .before .before .before .before .loop .j + 1))
+add-put-offset-2 c = omega (arith, rises (c .before .before .before), c .before .before .before .before .before .before .before .pre .2, c .before .shared-slice-known3 .given (c .before .before .before .before .before .before .before .args .i + c .before .before .before .before .loop .j + 1))
 
 put-offset-requires : tie.Need-put-offset-requires Inv-loop μ-loop
-put-offset-requires c κs = omega (arith, (room (c .before .before .before)), (same (c .before .before .before .before)))
+put-offset-requires c κs = omega (arith, room (c .before .before .before), same (c .before .before .before .before))
 
 width-bytes-requires : tie.Need-width-bytes-requires Inv-loop μ-loop
 width-bytes-requires c κs = search needs
 
 add-done : tie.Need-add-done Inv-loop μ-loop
-add-done c = omega (arith, (room (c .before .before .before .before .before .before .before)), (same (c .before .before .before .before .before .before .before .before)), c .width-bytes .ensures)
+add-done c = omega (arith, room (c .before .before .before .before .before .before .before), same (c .before .before .before .before .before .before .before .before), c .width-bytes .ensures)
 
 add-j : tie.Need-add-j Inv-loop μ-loop
 add-j c = omega arith
@@ -77,7 +77,7 @@ loop-again : tie.Need-loop-again Inv-loop μ-loop
 loop-again c = ending-more (c .before .before .before .before .before .before .before .before .loop .inv) (c .before .before .before .before .before .before .before .loop-test .taken) (c .before .before .before .put-offset .ensures) (c .width-bytes .ensures)
 
 same-length : tie.Need-same-length Inv-loop μ-loop
-same-length c = (same (c .before))
+same-length c = same (c .before)
 
 returns : tie.Need-returns Inv-loop μ-loop
 returns c = ending-ends (c .before .loop .inv) (c .loop-test .left)

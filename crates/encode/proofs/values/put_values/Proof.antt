@@ -32,8 +32,7 @@ enum-known-form-2 c = search needs
 put-ragged-requires : tie.Need-put-ragged-requires
 put-ragged-requires c κs =
     let a = c .before .before .before .before .before .before .before .before .args in
-    let r = c .before .before .before .before .before .before .before .before .pre .1 .0 in
-    (
+    let r = c .before .before .before .before .before .before .before .before .pre .1 .0 in (
       ready-planes r,
       c .before .before .before .before .before .before .before .before .pre .0,
       offsets-fit (a .form) r (c .before .before .form2 .given .1),
@@ -46,8 +45,7 @@ same-length c = search needs
 
 returns : tie.Need-returns
 returns c =
-    let a = c .before .before .before .before .before .before .before .before .before .before .before .args in
-    (
+    let a = c .before .before .before .before .before .before .before .before .before .before .before .args in (
       fixed-wrote (a .form) (c .before .before .before .before .before .before .before .before .before .before .before .pre .1 .0) (c .before .before .before .before .before .form .given .1) (c .before .before .before .before .before .before .before .before .before .before .before .pre .0),
       c .before .before .put-live .ensures ∙ ap (λ (x : List ℕ). overAt (a .at) x (a .out .now)) (fixed-writes (a .form) (c .before .before .before .before .before .before .before .before .before .before .before .pre .1 .0) (c .before .before .before .before .before .form .given .1)),
     )

@@ -122,34 +122,34 @@ write-content-returns-3 t c =
     (c .before .before .write-frame .ensures .0 ∙ ap length (sym e), c .before .before .write-frame .ensures .1 ∙ ap (λ (x : List ℕ). overAt (a .at) x (a .out .now)) (sym e))
 
 write-frame-add-start : (t : ℕ) → write-frame-lts.Need-add-start (claims-write-frame t) (write-frame-at t) write-frame.Post
-write-frame-add-start t c = omega (arith, (long t (c .before .before .before .before)))
+write-frame-add-start t c = omega (arith, long t (c .before .before .before .before))
 
 write-frame-add-write-content : (t : ℕ) → write-frame-lts.Need-add-write-content (claims-write-frame t) (write-frame-at t) write-frame.Post
-write-frame-add-write-content t c = omega (arith, (long t (c .before .before .before .before .before)))
+write-frame-add-write-content t c = omega (arith, long t (c .before .before .before .before .before))
 
 write-frame-add-write-content-2 : (t : ℕ) → write-frame-lts.Need-add-write-content-2 (claims-write-frame t) (write-frame-at t) write-frame.Post
 write-frame-add-write-content-2 t c = omega (arith, (next t (c .before .before .before .before .before)) .shallow)
 
 write-frame-write-content-requires : (t : ℕ) → write-frame-lts.Need-write-content-requires (claims-write-frame t) (write-frame-at t) write-frame.Post
-write-frame-write-content-requires t c κs = (omega (arith, c .before .before .before .before .before .pre .0), (c .before .before .before .before .before .pre .1 .1 .0, omega (arith, (long t (c .before .before .before .before .before)))))
+write-frame-write-content-requires t c κs = (omega (arith, c .before .before .before .before .before .pre .0), (c .before .before .before .before .before .pre .1 .1 .0, omega (arith, long t (c .before .before .before .before .before))))
 
 write-frame-put-mask-requires : (t : ℕ) → write-frame-lts.Need-put-mask-requires (claims-write-frame t) (write-frame-at t) write-frame.Post
-write-frame-put-mask-requires t c κs = (ready-planes (next t (c .before .before .before .before .before .before .before .before .before)), omega (arith, (long t (c .before .before .before .before .before .before .before .before .before)), c .before .before .before .write-content .kept .0, c .before .before .before .before .before .before .before .before .before .pre .1 .0))
+write-frame-put-mask-requires t c κs = (ready-planes (next t (c .before .before .before .before .before .before .before .before .before)), omega (arith, long t (c .before .before .before .before .before .before .before .before .before), c .before .before .before .write-content .kept .0, c .before .before .before .before .before .before .before .before .before .pre .1 .0))
 
 write-frame-add-put-u64 : (t : ℕ) → write-frame-lts.Need-add-put-u64 (claims-write-frame t) (write-frame-at t) write-frame.Post
-write-frame-add-put-u64 t c = omega (arith, (long t (c .before .before .before .before .before .before .before .before .before .before .before .before .before)))
+write-frame-add-put-u64 t c = omega (arith, long t (c .before .before .before .before .before .before .before .before .before .before .before .before .before))
 
 write-frame-put-u64-requires : (t : ℕ) → write-frame-lts.Need-put-u64-requires (claims-write-frame t) (write-frame-at t) write-frame.Post
-write-frame-put-u64-requires t c κs = omega (arith, (long t (c .before .before .before .before .before .before .before .before .before .before .before .before .before)), c .before .before .before .before .before .before .before .write-content .kept .0, c .before .before .before .put-mask .kept .0)
+write-frame-put-u64-requires t c κs = omega (arith, long t (c .before .before .before .before .before .before .before .before .before .before .before .before .before), c .before .before .before .before .before .before .before .write-content .kept .0, c .before .before .before .put-mask .kept .0)
 
 write-frame-put-u64-requires-2 : (t : ℕ) → write-frame-lts.Need-put-u64-requires-2 (claims-write-frame t) (write-frame-at t) write-frame.Post
-write-frame-put-u64-requires-2 t c κs = omega (arith, (long t (c .before .before .before .before .before .before .before .before .before .before .before .before .before .before .before .before .before)), c .before .before .before .before .before .before .before .before .before .before .before .write-content .kept .0, c .before .before .before .before .before .before .before .put-mask .kept .0, c .before .before .before .put-u64 .kept .0)
+write-frame-put-u64-requires-2 t c κs = omega (arith, long t (c .before .before .before .before .before .before .before .before .before .before .before .before .before .before .before .before .before), c .before .before .before .before .before .before .before .before .before .before .before .write-content .kept .0, c .before .before .before .before .before .before .before .put-mask .kept .0, c .before .before .before .put-u64 .kept .0)
 
 write-frame-add-result : (t : ℕ) → write-frame-lts.Need-add-result (claims-write-frame t) (write-frame-at t) write-frame.Post
-write-frame-add-result t c = omega (arith, (long t (c .before .before .before .before .before .before .before .before .before .before .before .before .before .before .before .before .before .before .before .before)))
+write-frame-add-result t c = omega (arith, long t (c .before .before .before .before .before .before .before .before .before .before .before .before .before .before .before .before .before .before .before .before))
 
 write-frame-add-result-2 : (t : ℕ) → write-frame-lts.Need-add-result-2 (claims-write-frame t) (write-frame-at t) write-frame.Post
-write-frame-add-result-2 t c = omega (arith, (long t (c .before .before .before .before .before .before .before .before .before .before .before .before .before .before .before .before .before .before .before .before)), c .before .before .before .before .before .before .before .before .before .before .before .before .before .before .write-content .ensures .0)
+write-frame-add-result-2 t c = omega (arith, long t (c .before .before .before .before .before .before .before .before .before .before .before .before .before .before .before .before .before .before .before .before), c .before .before .before .before .before .before .before .before .before .before .before .before .before .before .write-content .ensures .0)
 
 write-frame-same-length : (t : ℕ) → write-frame-lts.Need-same-length (claims-write-frame t) (write-frame-at t) write-frame.Post
 write-frame-same-length t c = search needs
@@ -157,12 +157,11 @@ write-frame-same-length t c = search needs
 write-frame-returns : (t : ℕ) → write-frame-lts.Need-returns (claims-write-frame t) (write-frame-at t) write-frame.Post
 write-frame-returns t c =
     let a = c .before .before .before .before .before .before .before .before .before .before .before .before .before .before .before .before .before .before .before .before .args in
-    let v : Content = contentIn (a .masks .now) (a .values .now) (a .offsets .now) in
-    (
+    let v : Content = contentIn (a .masks .now) (a .values .now) (a .offsets .now) in (
       sym (frame-long (formOf (a .form)) (a .cells) v (a .level) (a .below) ∙ ap₂ (λ (x y : ℕ). 16 + x + y) (sym (c .before .before .before .before .before .before .before .before .before .before .before .before .before .before .before .before .before .before .before .before .pre .1 .0)) (sym (c .before .before .before .before .before .before .before .before .before .before .before .before .before .before .write-content .ensures .0))),
       frame-laid (a .at) (map (maskAt (a .cells) (a .masks .now) (a .level)) (liveAt (a .cells) (a .masks .now) (a .level))) (storedFrom (formOf (a .form)) (a .cells) v (a .below) (a .level + 1)) (a .out .now)
-      (length-map (liveAt (a .cells) (a .masks .now) (a .level)) (maskAt (a .cells) (a .masks .now) (a .level)) ∙ sym (c .before .before .before .before .before .before .before .before .before .before .before .before .before .before .before .before .before .before .before .before .pre .1 .0)) (sym (c .before .before .before .before .before .before .before .before .before .before .before .before .before .before .write-content .ensures .0))
-      (omega (arith, (long t (c .before .before .before .before .before .before .before .before .before .before .before .before .before .before .before .before .before .before .before .before)), c .before .before .before .before .before .before .before .before .before .before .before .before .before .before .write-content .ensures .0)) (c .before .before .before .before .before .before .before .before .before .before .before .before .before .before .write-content .ensures .1) (c .before .before .before .before .before .before .before .before .before .before .put-mask .ensures) (c .before .before .before .before .before .before .put-u64 .ensures) (c .before .before .put-u642 .ensures),
+          (length-map (liveAt (a .cells) (a .masks .now) (a .level)) (maskAt (a .cells) (a .masks .now) (a .level)) ∙ sym (c .before .before .before .before .before .before .before .before .before .before .before .before .before .before .before .before .before .before .before .before .pre .1 .0)) (sym (c .before .before .before .before .before .before .before .before .before .before .before .before .before .before .write-content .ensures .0))
+          (omega (arith, long t (c .before .before .before .before .before .before .before .before .before .before .before .before .before .before .before .before .before .before .before .before), c .before .before .before .before .before .before .before .before .before .before .before .before .before .before .write-content .ensures .0)) (c .before .before .before .before .before .before .before .before .before .before .before .before .before .before .write-content .ensures .1) (c .before .before .before .before .before .before .before .before .before .before .put-mask .ensures) (c .before .before .before .before .before .before .put-u64 .ensures) (c .before .before .put-u642 .ensures),
     )
 
 pub +write-content+write-frame-spec : {M : Type 1} → statement M
