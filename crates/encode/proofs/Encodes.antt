@@ -1,9 +1,8 @@
 -- What encode answers, one law for each way it ends.
 -- Assumes nothing.
-use mathlib.Core.Path.{_≡_, refl, sym, ap, ap₂, _∙_, subst}
-use Prim.Native.Nat.{ℕ, zero, suc, _+_, _*_, _<_, _≤_}
-use native.Mathlib.Nat.{le-of-eq, zero-add}
-use native.Mathlib.Omega.{arith}
+use mathlib.Core.Path.{_≡_, sym, ap, ap₂, _∙_, subst}
+use Prim.Native.Nat.{ℕ, _<_, _≤_}
+use native.Mathlib.Nat.{le-of-eq}
 use mathlib.Core.Bool.{Bool, true, false}
 use mathlib.Core.List.{List}
 use lib.ListN.{length}
@@ -14,8 +13,7 @@ use Rattle.array.specs.Answer.{Answer, gives, refuses, unless, Outcome}
 use Rattle.array.specs.Buffers.{over, listOutcome}
 use Rattle.array.specs.Check.{toldChecked}
 use Rattle.array.specs.Kind.{Kind, kindTest}
-use Rattle.array.specs.Limits.{mostBytes, mostCells}
-use Rattle.array.specs.Shape.{volume, shapeTest}
+use Rattle.array.specs.Limits.{mostCells}
 use Rattle.array.specs.ShapeCells.{shapeAnswer}
 use Rattle.array.specs.Content.{Content}
 use Rattle.array.proofs.CheckLaws.{checkOf, unlessKept, KeepsRules, check-refused, check-valid}

@@ -14,8 +14,7 @@ use Rattle.array.specs.declared.kind.IndexWidth.the-variants.{Four, Eight}
 use Rattle.array.specs.declared.kind.IndexPlace.{IndexPlace}
 use Rattle.array.specs.declared.kind.Values.{Values}
 use Rattle.array.specs.declared.kind.Values.the-variants.{Fixed, Ragged}
-use Rattle.array.specs.Limits.{mostBytes, mostCells, mostSize}
-use Rattle.array.specs.Lists.{joined}
+use Rattle.array.specs.Limits.{mostBytes, mostCells}
 use Rattle.array.specs.Kind.{Form, fixed, ragged}
 use Rattle.array.specs.Meaning.{orderOf, widthOf, placeOf, formOf}
 use Rattle.array.specs.Offsets.{last, Rising}
@@ -23,7 +22,7 @@ use Rattle.array.specs.Content.{Content, ValuesOk}
 use Rattle.codec.specs.Ragged.{putRagged}
 use Rattle.codec.specs.Values.{putValues}
 use Rattle.encode.specs.Live.{liveAt}
-use Rattle.encode.specs.Pieces.{sliceAt, valueAt, piecesAt, spansOf}
+use Rattle.encode.specs.Pieces.{sliceAt, piecesAt, spansOf}
 use Rattle.encode.specs.Ready.{Planes, Offsets, MeasuresOk, Measured, Ready}
 use Rattle.encode.specs.Stored.{valuesFrom, storedFrom, storedBy, valuesLengthAt, lengthFrom, lengthBy}
 use Rattle.encode.proofs.Runs.{live-le}

@@ -1,26 +1,24 @@
 -- A content from a level inwards: what it is where no cell is left, at the innermost, and as a frame; and how long it is.
 -- Assumes nothing.
 use mathlib.Core.Path.{_≡_, refl, sym, ap, ap₂, _∙_}
-use mathlib.Core.Logic.{_≢_, _⊎_, inl, inr}
+use mathlib.Core.Logic.{_≢_, inl, inr}
 use Prim.Native.Nat.{ℕ, zero, suc, _+_, _-_, _*_, _<_, _≤_}
-use native.Mathlib.Nat.{add-zero, suc-mul, mul-le-mul, mul-le-mul-right, mul-one, le-trans, le-refl}
+use native.Mathlib.Nat.{suc-mul, mul-le-mul, mul-le-mul-right, mul-one, le-trans}
 use native.Mathlib.Numerals.{add-one, sub-one}
 use native.Mathlib.Omega.{arith}
 use mathlib.Core.List.{List, [], _∷_, _++_, map}
 use lib.ListN.{length, take, drop, getD, length-drop, length-map}
 use lib.Seq.{drop-cons, length-take-le}
 use Rattle.array.specs.Limits.{mostBytes, mostCells}
-use Rattle.array.specs.Lists.{from, joined, passing, All}
-use Rattle.array.specs.Kind.{Kind, Form, fixed, ragged, FormOk, Order, little, ordered}
+use Rattle.array.specs.Lists.{from, joined, All}
+use Rattle.array.specs.Kind.{Form, fixed, ragged, FormOk, Order, little, ordered}
 use Rattle.array.specs.Cells.{Value}
 use Rattle.array.specs.Offsets.{last}
 use Rattle.array.specs.Content.{Content, ValuesOk}
-use Rattle.array.proofs.Lists.{Sized, map-map, length-joined, length-from, All-image, All-map}
+use Rattle.array.proofs.Lists.{map-map, length-joined, All-image}
 use Rattle.array.proofs.Geometry.{All-from}
 use Rattle.codec.specs.Frame.{wrap, unlessNone}
-use Rattle.codec.specs.Ragged.{putRagged}
 use Rattle.codec.specs.Values.{putValues}
-use Rattle.codec.specs.Length.{raggedLength}
 use Rattle.codec.proofs.Frames.{length-wrap}
 use Rattle.codec.proofs.Values.{ragged-length, length-joined-ordered}
 use Rattle.encode.specs.Live.{maskAt, liveTest, liveAt}

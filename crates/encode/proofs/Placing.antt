@@ -1,20 +1,19 @@
 -- Parts laid over an output one after the other, and where they come to lie.
 -- Assumes nothing.
-use mathlib.Core.Path.{_≡_, refl, sym, ap, ap₂, _∙_}
-use Prim.Native.Nat.{ℕ, suc, _+_, _*_, _≤_}
-use native.Mathlib.Nat.{zero-add}
+use mathlib.Core.Path.{_≡_, sym, ap, ap₂, _∙_}
+use Prim.Native.Nat.{ℕ, _+_, _≤_}
 use native.Mathlib.Omega.{arith}
-use mathlib.Core.List.{List, [], _∷_, _++_, append-assoc, append-nil}
+use mathlib.Core.List.{List, [], _++_, append-assoc, append-nil}
 use lib.ListN.{length, take, drop, length-append, take-append-drop}
-use lib.Seq.{take-at, drop-at, take-take, length-take-le, take-append-le, drop-drop}
+use lib.Seq.{drop-at, take-take, length-take-le, take-append-le}
 use Rattle.array.specs.Buffers.{over, overAt}
 use Rattle.array.specs.Bytes.{le}
 use Rattle.array.specs.Kind.{Place, atStart, atEnd}
 use Rattle.array.specs.Content.{RaggedContent}
 use Rattle.array.proofs.Bytes.{length-le}
-use Rattle.array.proofs.Over.{over-again, over-at-length}
+use Rattle.array.proofs.Over.{over-again}
 use Rattle.codec.specs.Frame.{wrap}
-use Rattle.codec.specs.Ragged.{put, indexOf, putRagged}
+use Rattle.codec.specs.Ragged.{indexOf, putRagged}
 use Rattle.encode.specs.Place.{dataAt, indexAt, lengthAt}
 
 -- what is laid behind
@@ -46,6 +45,10 @@ at-front at f g out b e h =
 pub at-none : (at : ℕ) (out : List ℕ) → at ≤ length out → out ≡ overAt at [] out
 at-none at out h =
     sym (ap (λ (x : List ℕ). over x out) (append-nil (take at out)) ∙ ap (λ (m : ℕ). take at out ++ drop m out) (length-take-le at out h) ∙ take-append-drop at out)
+
+-- the same bytes under another name
+pub laid-as : {o x y : List ℕ} (at : ℕ) (out : List ℕ) → o ≡ overAt at x out → x ≡ y → o ≡ overAt at y out
+laid-as at out e f = e ∙ ap (λ (s : List ℕ). overAt at s out) f
 
 -- a frame: the content, then its mask, then the two lengths
 pub frame-laid : (at : ℕ) (mask content out : List ℕ) {n m : ℕ} {o1 o2 o3 o4 : List ℕ} → length mask ≡ n → length content ≡ m → at + (16 + n + m) ≤ length out

@@ -1,18 +1,17 @@
 -- Ragged values of the cells that a level counts: how long they are when written, and where their parts lie.
 -- Assumes nothing.
 use mathlib.Core.Path.{_≡_, refl, sym, ap, ap₂, _∙_}
-use Prim.Native.Nat.{ℕ, suc, _+_, _*_, _<_, _≤_}
+use Prim.Native.Nat.{ℕ, suc, _+_, _*_, _≤_}
 use native.Mathlib.Numerals.{add-one}
 use native.Mathlib.Omega.{arith}
-use mathlib.Core.List.{List, [], _∷_, _++_, map}
-use lib.ListN.{length, take, drop, length-append, length-map}
+use mathlib.Core.List.{List, _∷_, map}
+use lib.ListN.{length, take, drop, length-append}
 use lib.Seq.{take-all}
-use Rattle.array.specs.Lists.{from, joined, passing, All}
+use Rattle.array.specs.Lists.{from, All}
 use Rattle.array.specs.Buffers.{over, overAt}
 use Rattle.array.specs.Bytes.{le}
 use Rattle.array.specs.Kind.{Place, atStart, atEnd, ragged}
 use Rattle.array.specs.Offsets.{last, offsetsOf}
-use Rattle.array.specs.Content.{RaggedContent}
 use Rattle.array.proofs.Bytes.{length-le}
 use Rattle.array.proofs.Geometry.{All-from}
 use Rattle.codec.specs.Ragged.{put, indexOf, putRagged}

@@ -13,7 +13,6 @@ use Rattle.array.specs.Lists.{pick, from, joined, passing, All}
 use Rattle.array.specs.Buffers.{overAt}
 use Rattle.array.specs.Bytes.{le}
 use Rattle.array.specs.Offsets.{last, Rising, RisingFrom, ends}
-use Rattle.array.specs.Cells.{Value}
 use Rattle.array.proofs.Bytes.{length-le}
 use Rattle.array.proofs.Lists.{map-append, length-from}
 use Rattle.array.proofs.CheckLaws.{last-at}

@@ -2,15 +2,11 @@
 -- goes by places speaks of. proofs/Walk has that these are the cells of the definitions.
 -- Assumes nothing.
 use Prim.Native.Nat.{ℕ, zero, suc, _+_, _*_}
-use mathlib.Core.Bool.{Bool, true, false, _&&_}
+use mathlib.Core.Bool.{Bool, true, _&&_}
 use mathlib.Core.List.{List}
 use lib.ListN.{getD}
 use Rattle.array.specs.Lists.{pick, from, passing}
-use Rattle.array.specs.Cells.{Mark, isNull, isSet, markOf}
-
-abbrev pub setBy : Mark → Bool
-setBy isNull = false
-setBy isSet = true
+use Rattle.codec.specs.Marks.{setTest}
 
 -- the mask byte of cell i at level l, of n cells
 abbrev pub maskAt : ℕ → List ℕ → ℕ → ℕ → ℕ
@@ -19,7 +15,7 @@ maskAt n masks l i = getD masks (l * n + i) 0
 -- cell i is set at each of the first l levels
 abbrev pub liveTest : ℕ → List ℕ → ℕ → ℕ → Bool
 liveTest n masks zero i = true
-liveTest n masks (suc l) i = liveTest n masks l i && setBy (markOf (maskAt n masks l i))
+liveTest n masks (suc l) i = liveTest n masks l i && setTest (maskAt n masks l i)
 
 -- the cells that level l counts
 abbrev pub liveAt : ℕ → List ℕ → ℕ → List ℕ

@@ -4,6 +4,7 @@ use crate::values;
 use array::kind;
 use array::kind::Kind;
 use array::kind::Values;
+use codec::mask;
 ghost use mathlib.Core.Path.{_≡_};
 ghost use Prim.Native.Nat.{_+_, _≤_};
 ghost use Rattle.array.specs.Limits.{mostBytes};
@@ -30,7 +31,7 @@ pub fn content_length(
     if left == 0 {
         return values::values_length(form, offsets, masks, cells, level, count);
     }
-    16 + count + content_length(form, offsets, masks, cells, level + 1, left - 1)
+    16 + mask::mask_length(count) + content_length(form, offsets, masks, cells, level + 1, left - 1)
 }
 
 // The written length of valid content of `cells` cells with so many value bytes.

@@ -6,6 +6,7 @@ use crate::values;
 use array::field;
 use array::kind::Kind;
 use array::kind::Values;
+use codec::mask;
 ghost use mathlib.Core.Path.{_≡_};
 ghost use Prim.Native.Nat.{_+_, _≤_};
 ghost use lib.ListN.{length};
@@ -73,9 +74,10 @@ fn write_frame(
     ensures bytes { λ _. ⌜ now (out .exit) ≡ overAt at (frameFrom (formOf form) cells (contentIn (now (masks .entry)) (now (values .entry)) (now (offsets .entry))) below level) (now (out .entry)) ⌝ }
 {
     let start = at + 16;
+    let mask = mask::mask_length(count);
     let length = write_content(
         out,
-        start + count,
+        start + mask,
         form,
         values,
         offsets,
@@ -86,8 +88,8 @@ fn write_frame(
     );
     cells::put_mask(out, start, masks, cells, level);
     field::put_u64(out, at + 8, length as u64);
-    field::put_u64(out, at, count as u64);
-    16 + count + length
+    field::put_u64(out, at, mask as u64);
+    16 + mask + length
 }
 
 // Writes the whole stored form. At depth 0 ragged values go just as they are.

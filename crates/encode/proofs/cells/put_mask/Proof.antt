@@ -1,10 +1,7 @@
 -- `encode::cells::put_mask` meets its contract: mask bytes are pieces of size 1.
 -- Assumes nothing.
-use mathlib.Core.Path.{ap, _∙_}
-use mathlib.Core.List.{List}
-use Prim.Native.Nat.{ℕ}
 use native.Mathlib.Omega.{arith}
-use Rattle.array.specs.Buffers.{overAt}
+use Rattle.encode.proofs.Placing.{laid-as}
 use Rattle.encode.proofs.Levels.{mask-planes, mask-source, mask-pieces, mask-long}
 use borrow.Author.Needs.{needs}
 use Rattle.encode.proofs.cells.put_mask.Statement.{statement}
@@ -20,7 +17,7 @@ same-length : tie.Need-same-length
 same-length c = search needs
 
 returns : tie.Need-returns
-returns c = let a = c .before .before .before .before .before .before .args in c .before .before .put-live .ensures ∙ ap (λ (x : List ℕ). overAt (a .to) x (a .out .now)) (mask-pieces (a .level) (c .before .before .before .before .before .before .pre .0))
+returns c = let a = c .before .before .before .before .before .before .args in laid-as (a .to) (a .out .now) (c .before .before .put-live .ensures) (mask-pieces (a .level) (c .before .before .before .before .before .before .pre .0))
 
 pub put-mask-spec : {M : Type 1} → statement M
 put-mask-spec = tie.close (tie.spec mul-at put-live-requires same-length returns)

@@ -7,7 +7,6 @@ use borrow.Author.Tests.{not-true, not-false}
 use lib.ListN.{length}
 use Rattle.encode.specs.Live.{liveTest}
 use Rattle.encode.proofs.Runs.{live-none, live-null, live-set, row-le}
-use borrow.Author.Needs.{needs}
 use Rattle.encode.proofs.live.is_live.Statement.{statement}
 use Rattle.encode.proofs.live.is_live.Tie as tie
 
@@ -32,24 +31,21 @@ mul-is-set c = omega (arith, place c)
 add-is-set : tie.Need-add-is-set Inv-loop μ-loop
 add-is-set c = omega (arith, place c)
 
-shared-slice-read-is-set : tie.Need-shared-slice-read-is-set Inv-loop μ-loop
-shared-slice-read-is-set c = place (c .before)
-
 is-set-requires : tie.Need-is-set-requires Inv-loop μ-loop
-is-set-requires c κs = search needs
+is-set-requires c κs = place c
 
 returns : tie.Need-returns Inv-loop μ-loop
 returns c =
-    let a = c .before .before .before .before .before .before .args in
-    sym (c .before .before .before .before .loop .inv .1 ∙ live-null (a .cells) (a .masks .now) (a .i) (c .before .before .before .before .loop .l) (c .before .before .before .loop-test .taken) (sym (c .before .is-set .ensures) ∙ not-true (c .before .is-set .result) (c .if1 .taken)))
+    let a = c .before .before .before .before .before .args in
+    sym (c .before .before .before .loop .inv .1 ∙ live-null (a .cells) (a .masks .now) (a .i) (c .before .before .before .loop .l) (c .before .before .loop-test .taken) (sym (c .before .is-set .ensures) ∙ not-true (c .before .is-set .result) (c .if1 .taken)))
 
 loop-less : tie.Need-loop-less Inv-loop μ-loop
 loop-less c = omega arith
 
 loop-again : tie.Need-loop-again Inv-loop μ-loop
 loop-again c =
-    let a = c .before .before .before .before .before .before .args in
-    (omega (arith, place (c .before .before .before)), c .before .before .before .before .loop .inv .1 ∙ live-set (a .cells) (a .masks .now) (a .i) (c .before .before .before .before .loop .l) (c .before .before .before .loop-test .taken) (sym (c .before .is-set .ensures) ∙ not-false (c .before .is-set .result) (c .if1 .left)))
+    let a = c .before .before .before .before .before .args in
+    (omega (arith, place (c .before .before)), c .before .before .before .loop .inv .1 ∙ live-set (a .cells) (a .masks .now) (a .i) (c .before .before .before .loop .l) (c .before .before .loop-test .taken) (sym (c .before .is-set .ensures) ∙ not-false (c .before .is-set .result) (c .if1 .left)))
 
 returns-2 : tie.Need-returns-2 Inv-loop μ-loop
 returns-2 c = let a = c .before .before .before .args in sym (c .before .loop .inv .1 ∙ live-none (a .cells) (a .masks .now) (a .i) (c .before .loop .l) (omega arith))
@@ -64,7 +60,6 @@ is-live-spec =
     sub-l
     mul-is-set
     add-is-set
-    shared-slice-read-is-set
     is-set-requires
     returns
     loop-less

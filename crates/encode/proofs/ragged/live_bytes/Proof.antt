@@ -1,6 +1,6 @@
 -- `encode::ragged::live_bytes` meets its contract: by the laws of Summing.
 -- Assumes nothing.
-use Prim.Native.Nat.{_≤_, _<_, _+_, _-_}
+use Prim.Native.Nat.{_<_, _+_, _-_}
 use native.Mathlib.Omega.{arith}
 use lib.ListN.{length}
 use Rattle.array.specs.Limits.{mostCells}

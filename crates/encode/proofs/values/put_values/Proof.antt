@@ -1,11 +1,9 @@
 -- `encode::values::put_values` meets its contract: a case for each form.
 -- Assumes nothing.
 use mathlib.Core.Path.{ap, _∙_}
-use mathlib.Core.List.{List}
-use Prim.Native.Nat.{ℕ}
 use native.Mathlib.Omega.{arith}
 use lib.ListN.{length}
-use Rattle.array.specs.Buffers.{overAt}
+use Rattle.encode.proofs.Placing.{laid-as}
 use Rattle.encode.proofs.Forms.{ready-planes, fixed-source, fixed-writes, fixed-wrote, offsets-fit, offsets-end, ragged-writes}
 use borrow.Author.Needs.{needs}
 use Rattle.encode.proofs.values.put_values.Statement.{statement}
@@ -47,7 +45,7 @@ returns : tie.Need-returns
 returns c =
     let a = c .before .before .before .before .before .before .before .before .before .before .before .args in (
       fixed-wrote (a .form) (c .before .before .before .before .before .before .before .before .before .before .before .pre .1 .0) (c .before .before .before .before .before .form .given .1) (c .before .before .before .before .before .before .before .before .before .before .before .pre .0),
-      c .before .before .put-live .ensures ∙ ap (λ (x : List ℕ). overAt (a .at) x (a .out .now)) (fixed-writes (a .form) (c .before .before .before .before .before .before .before .before .before .before .before .pre .1 .0) (c .before .before .before .before .before .form .given .1)),
+      laid-as (a .at) (a .out .now) (c .before .before .put-live .ensures) (fixed-writes (a .form) (c .before .before .before .before .before .before .before .before .before .before .before .pre .1 .0) (c .before .before .before .before .before .form .given .1)),
     )
 
 same-length-2 : tie.Need-same-length-2
@@ -57,7 +55,7 @@ returns-2 : tie.Need-returns-2
 returns-2 c =
     let a = c .before .before .before .before .before .before .before .before .before .before .before .args in
     let e = ragged-writes (a .form) (c .before .before .before .before .before .before .before .before .before .before .before .pre .1 .0) (c .before .before .before .before .before .form2 .given .1) in
-    (c .before .before .put-ragged .ensures .0 ∙ ap length e, c .before .before .put-ragged .ensures .1 ∙ ap (λ (x : List ℕ). overAt (a .at) x (a .out .now)) e)
+    (c .before .before .put-ragged .ensures .0 ∙ ap length e, laid-as (a .at) (a .out .now) (c .before .before .put-ragged .ensures .1) e)
 
 pub put-values-spec : {M : Type 1} → statement M
 put-values-spec =

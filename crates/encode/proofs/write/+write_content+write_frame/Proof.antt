@@ -2,18 +2,17 @@
 -- Assumes nothing.
 use mathlib.Core.Path.{_≡_, ap, ap₂, sym, _∙_}
 use mathlib.Core.Logic.{_≢_}
-use mathlib.Core.List.{List, [], map}
-use Prim.Native.Nat.{_≤_, _+_, _-_, _*_}
+use mathlib.Core.List.{[], map}
+use Prim.Native.Nat.{_≤_, _+_, _*_}
 use native.Mathlib.Nat.{pos-of-ne-zero}
 use native.Mathlib.Omega.{arith}
 use lib.ListN.{length, length-map}
-use Rattle.array.specs.Buffers.{overAt}
 use Rattle.array.specs.Meaning.{formOf}
 use Rattle.array.specs.Content.{Content}
 use Rattle.encode.specs.Live.{maskAt, liveAt}
 use Rattle.encode.specs.Ready.{Ready}
 use Rattle.encode.specs.Stored.{contentIn, storedFrom}
-use Rattle.encode.proofs.Placing.{at-none, frame-laid}
+use Rattle.encode.proofs.Placing.{at-none, laid-as, frame-laid}
 use Rattle.encode.proofs.Levels.{stored-none, stored-values, stored-frame, frame-long}
 use Rattle.encode.proofs.Forms.{ready-here, ready-next, ready-planes}
 use borrow.Author.Needs.{needs}
@@ -27,6 +26,7 @@ use Rattle.encode.proofs.write.write_frame.Reads as write-frame
 use Rattle.encode.proofs.write.write_frame.Kinds as write-frame-kinds
 use Rattle.encode.proofs.write.+write_content+write_frame.Lts-write_frame as write-frame-lts
 use Rattle.array.proofs.field.put_u64.Reads as put-u64-reads
+use Rattle.codec.proofs.mask.mask_length.Reads as mask-length-reads
 use Rattle.encode.proofs.cells.put_mask.Reads as put-mask-reads
 use Rattle.encode.proofs.live.count_live.Reads as count-live-reads
 use Rattle.encode.proofs.values.put_values.Reads as put-values-reads
@@ -64,7 +64,7 @@ abbrev claims-write-content : ℕ → write-content-lts.Claims
 claims-write-content t = (count-live-reads.Asked, count-live-reads.Learnt, put-values-reads.Asked, put-values-reads.Learnt, write-frame-below t, write-frame.Post)
 
 abbrev claims-write-frame : ℕ → write-frame-lts.Claims
-claims-write-frame t = (write-content-below t, write-content.Post, put-mask-reads.Asked, put-mask-reads.Learnt, put-u64-reads.Asked, put-u64-reads.Learnt)
+claims-write-frame t = (mask-length-reads.Asked, mask-length-reads.Learnt, write-content-below t, write-content.Post, put-mask-reads.Asked, put-mask-reads.Learnt, put-u64-reads.Asked, put-u64-reads.Learnt)
 
 some : (t : ℕ) (c : write-content-lts.Else1 (claims-write-content t) (write-content-at t) write-content.Post) → length (liveAt (c .before .before .before .before .before .before .args .cells) (c .before .before .before .before .before .before .args .masks .now) (c .before .before .before .before .before .before .args .level)) ≢ 0
 some t c = λ z. c .if1 .left (c .before .count-live .ensures ∙ z)
@@ -83,7 +83,7 @@ write-content-returns t c =
     let a = c .before .before .before .before .before .before .args in
     let v : Content = contentIn (a .masks .now) (a .values .now) (a .offsets .now) in
     let e : storedFrom (formOf (a .form)) (a .cells) v (a .left) (a .level) ≡ [] = stored-none (formOf (a .form)) (a .cells) v (a .level) (a .left) (sym (c .before .count-live .ensures) ∙ c .if1 .taken) in
-    (ap length (sym e), at-none (a .at) (a .out .now) (omega (arith, c .before .before .before .before .before .before .pre .1 .1)) ∙ ap (λ (x : List ℕ). overAt (a .at) x (a .out .now)) (sym e))
+    (ap length (sym e), laid-as (a .at) (a .out .now) (at-none (a .at) (a .out .now) (omega (arith, c .before .before .before .before .before .before .pre .1 .1))) (sym e))
 
 write-content-put-values-requires : (t : ℕ) → write-content-lts.Need-put-values-requires (claims-write-content t) (write-content-at t) write-content.Post
 write-content-put-values-requires t c κs =
@@ -99,7 +99,7 @@ write-content-returns-2 t c =
     let a = c .before .before .before .before .before .before .before .before .before .before .before .args in
     let v : Content = contentIn (a .masks .now) (a .values .now) (a .offsets .now) in
     let e = stored-values (formOf (a .form)) (a .cells) v (a .level) (a .left) (c .before .before .before .before .if2 .taken) (some t (c .before .before .before .before .before)) in
-    (c .before .before .put-values .ensures .0 ∙ ap length (sym e), c .before .before .put-values .ensures .1 ∙ ap (λ (x : List ℕ). overAt (a .at) x (a .out .now)) (sym e))
+    (c .before .before .put-values .ensures .0 ∙ ap length (sym e), laid-as (a .at) (a .out .now) (c .before .before .put-values .ensures .1) (sym e))
 
 write-content-sub-write-frame : (t : ℕ) → write-content-lts.Need-sub-write-frame (claims-write-content t) (write-content-at t) write-content.Post
 write-content-sub-write-frame t c = pos-of-ne-zero (c .before .if2 .left)
@@ -119,49 +119,52 @@ write-content-returns-3 t c =
     let a = c .before .before .before .before .before .before .before .before .before .before .before .args in
     let v : Content = contentIn (a .masks .now) (a .values .now) (a .offsets .now) in
     let e = stored-frame (formOf (a .form)) (a .cells) v (a .level) (a .left) (c .before .before .before .before .if2 .left) (some t (c .before .before .before .before .before)) in
-    (c .before .before .write-frame .ensures .0 ∙ ap length (sym e), c .before .before .write-frame .ensures .1 ∙ ap (λ (x : List ℕ). overAt (a .at) x (a .out .now)) (sym e))
+    (c .before .before .write-frame .ensures .0 ∙ ap length (sym e), laid-as (a .at) (a .out .now) (c .before .before .write-frame .ensures .1) (sym e))
 
 write-frame-add-start : (t : ℕ) → write-frame-lts.Need-add-start (claims-write-frame t) (write-frame-at t) write-frame.Post
 write-frame-add-start t c = omega (arith, long t (c .before .before .before .before))
 
+write-frame-mask-length-requires : (t : ℕ) → write-frame-lts.Need-mask-length-requires (claims-write-frame t) (write-frame-at t) write-frame.Post
+write-frame-mask-length-requires t c κs = search needs
+
 write-frame-add-write-content : (t : ℕ) → write-frame-lts.Need-add-write-content (claims-write-frame t) (write-frame-at t) write-frame.Post
-write-frame-add-write-content t c = omega (arith, long t (c .before .before .before .before .before))
+write-frame-add-write-content t c = omega (arith, long t (c .before .before .before .before .before .before), c .before .mask-length .ensures)
 
 write-frame-add-write-content-2 : (t : ℕ) → write-frame-lts.Need-add-write-content-2 (claims-write-frame t) (write-frame-at t) write-frame.Post
-write-frame-add-write-content-2 t c = omega (arith, (next t (c .before .before .before .before .before)) .shallow)
+write-frame-add-write-content-2 t c = omega (arith, (next t (c .before .before .before .before .before .before)) .shallow)
 
 write-frame-write-content-requires : (t : ℕ) → write-frame-lts.Need-write-content-requires (claims-write-frame t) (write-frame-at t) write-frame.Post
-write-frame-write-content-requires t c κs = (omega (arith, c .before .before .before .before .before .pre .0), (c .before .before .before .before .before .pre .1 .1 .0, omega (arith, long t (c .before .before .before .before .before))))
+write-frame-write-content-requires t c κs = (omega (arith, c .before .before .before .before .before .before .pre .0), (c .before .before .before .before .before .before .pre .1 .1 .0, omega (arith, long t (c .before .before .before .before .before .before), c .before .mask-length .ensures)))
 
 write-frame-put-mask-requires : (t : ℕ) → write-frame-lts.Need-put-mask-requires (claims-write-frame t) (write-frame-at t) write-frame.Post
-write-frame-put-mask-requires t c κs = (ready-planes (next t (c .before .before .before .before .before .before .before .before .before)), omega (arith, long t (c .before .before .before .before .before .before .before .before .before), c .before .before .before .write-content .kept .0, c .before .before .before .before .before .before .before .before .before .pre .1 .0))
+write-frame-put-mask-requires t c κs = (ready-planes (next t (c .before .before .before .before .before .before .before .before .before .before)), omega (arith, long t (c .before .before .before .before .before .before .before .before .before .before), c .before .before .before .write-content .kept .0, c .before .before .before .before .before .before .before .before .before .before .pre .1 .0))
 
 write-frame-add-put-u64 : (t : ℕ) → write-frame-lts.Need-add-put-u64 (claims-write-frame t) (write-frame-at t) write-frame.Post
-write-frame-add-put-u64 t c = omega (arith, long t (c .before .before .before .before .before .before .before .before .before .before .before .before .before))
+write-frame-add-put-u64 t c = omega (arith, long t (c .before .before .before .before .before .before .before .before .before .before .before .before .before .before))
 
 write-frame-put-u64-requires : (t : ℕ) → write-frame-lts.Need-put-u64-requires (claims-write-frame t) (write-frame-at t) write-frame.Post
-write-frame-put-u64-requires t c κs = omega (arith, long t (c .before .before .before .before .before .before .before .before .before .before .before .before .before), c .before .before .before .before .before .before .before .write-content .kept .0, c .before .before .before .put-mask .kept .0)
+write-frame-put-u64-requires t c κs = omega (arith, long t (c .before .before .before .before .before .before .before .before .before .before .before .before .before .before), c .before .before .before .before .before .before .before .write-content .kept .0, c .before .before .before .put-mask .kept .0)
 
 write-frame-put-u64-requires-2 : (t : ℕ) → write-frame-lts.Need-put-u64-requires-2 (claims-write-frame t) (write-frame-at t) write-frame.Post
-write-frame-put-u64-requires-2 t c κs = omega (arith, long t (c .before .before .before .before .before .before .before .before .before .before .before .before .before .before .before .before .before), c .before .before .before .before .before .before .before .before .before .before .before .write-content .kept .0, c .before .before .before .before .before .before .before .put-mask .kept .0, c .before .before .before .put-u64 .kept .0)
+write-frame-put-u64-requires-2 t c κs = omega (arith, long t (c .before .before .before .before .before .before .before .before .before .before .before .before .before .before .before .before .before .before), c .before .before .before .before .before .before .before .before .before .before .before .write-content .kept .0, c .before .before .before .before .before .before .before .put-mask .kept .0, c .before .before .before .put-u64 .kept .0)
 
 write-frame-add-result : (t : ℕ) → write-frame-lts.Need-add-result (claims-write-frame t) (write-frame-at t) write-frame.Post
-write-frame-add-result t c = omega (arith, long t (c .before .before .before .before .before .before .before .before .before .before .before .before .before .before .before .before .before .before .before .before))
+write-frame-add-result t c = omega (arith, long t (c .before .before .before .before .before .before .before .before .before .before .before .before .before .before .before .before .before .before .before .before .before), c .before .before .before .before .before .before .before .before .before .before .before .before .before .before .before .before .mask-length .ensures)
 
 write-frame-add-result-2 : (t : ℕ) → write-frame-lts.Need-add-result-2 (claims-write-frame t) (write-frame-at t) write-frame.Post
-write-frame-add-result-2 t c = omega (arith, long t (c .before .before .before .before .before .before .before .before .before .before .before .before .before .before .before .before .before .before .before .before), c .before .before .before .before .before .before .before .before .before .before .before .before .before .before .write-content .ensures .0)
+write-frame-add-result-2 t c = omega (arith, long t (c .before .before .before .before .before .before .before .before .before .before .before .before .before .before .before .before .before .before .before .before .before), c .before .before .before .before .before .before .before .before .before .before .before .before .before .before .before .before .mask-length .ensures, c .before .before .before .before .before .before .before .before .before .before .before .before .before .before .write-content .ensures .0)
 
 write-frame-same-length : (t : ℕ) → write-frame-lts.Need-same-length (claims-write-frame t) (write-frame-at t) write-frame.Post
 write-frame-same-length t c = search needs
 
 write-frame-returns : (t : ℕ) → write-frame-lts.Need-returns (claims-write-frame t) (write-frame-at t) write-frame.Post
 write-frame-returns t c =
-    let a = c .before .before .before .before .before .before .before .before .before .before .before .before .before .before .before .before .before .before .before .before .args in
+    let a = c .before .before .before .before .before .before .before .before .before .before .before .before .before .before .before .before .before .before .before .before .before .args in
     let v : Content = contentIn (a .masks .now) (a .values .now) (a .offsets .now) in (
-      sym (frame-long (formOf (a .form)) (a .cells) v (a .level) (a .below) ∙ ap₂ (λ (x y : ℕ). 16 + x + y) (sym (c .before .before .before .before .before .before .before .before .before .before .before .before .before .before .before .before .before .before .before .before .pre .1 .0)) (sym (c .before .before .before .before .before .before .before .before .before .before .before .before .before .before .write-content .ensures .0))),
+      sym (frame-long (formOf (a .form)) (a .cells) v (a .level) (a .below) ∙ ap₂ (λ (x y : ℕ). 16 + x + y) (sym (c .before .before .before .before .before .before .before .before .before .before .before .before .before .before .before .before .mask-length .ensures ∙ c .before .before .before .before .before .before .before .before .before .before .before .before .before .before .before .before .before .before .before .before .before .pre .1 .0)) (sym (c .before .before .before .before .before .before .before .before .before .before .before .before .before .before .write-content .ensures .0))),
       frame-laid (a .at) (map (maskAt (a .cells) (a .masks .now) (a .level)) (liveAt (a .cells) (a .masks .now) (a .level))) (storedFrom (formOf (a .form)) (a .cells) v (a .below) (a .level + 1)) (a .out .now)
-          (length-map (liveAt (a .cells) (a .masks .now) (a .level)) (maskAt (a .cells) (a .masks .now) (a .level)) ∙ sym (c .before .before .before .before .before .before .before .before .before .before .before .before .before .before .before .before .before .before .before .before .pre .1 .0)) (sym (c .before .before .before .before .before .before .before .before .before .before .before .before .before .before .write-content .ensures .0))
-          (omega (arith, long t (c .before .before .before .before .before .before .before .before .before .before .before .before .before .before .before .before .before .before .before .before), c .before .before .before .before .before .before .before .before .before .before .before .before .before .before .write-content .ensures .0)) (c .before .before .before .before .before .before .before .before .before .before .before .before .before .before .write-content .ensures .1) (c .before .before .before .before .before .before .before .before .before .before .put-mask .ensures) (c .before .before .before .before .before .before .put-u64 .ensures) (c .before .before .put-u642 .ensures),
+          (length-map (liveAt (a .cells) (a .masks .now) (a .level)) (maskAt (a .cells) (a .masks .now) (a .level)) ∙ sym (c .before .before .before .before .before .before .before .before .before .before .before .before .before .before .before .before .mask-length .ensures ∙ c .before .before .before .before .before .before .before .before .before .before .before .before .before .before .before .before .before .before .before .before .before .pre .1 .0)) (sym (c .before .before .before .before .before .before .before .before .before .before .before .before .before .before .write-content .ensures .0))
+          (omega (arith, long t (c .before .before .before .before .before .before .before .before .before .before .before .before .before .before .before .before .before .before .before .before .before), c .before .before .before .before .before .before .before .before .before .before .before .before .before .before .before .before .mask-length .ensures, c .before .before .before .before .before .before .before .before .before .before .before .before .before .before .write-content .ensures .0)) (c .before .before .before .before .before .before .before .before .before .before .before .before .before .before .write-content .ensures .1) (c .before .before .before .before .before .before .before .before .before .before .put-mask .ensures) (c .before .before .before .before .before .before .put-u64 .ensures) (c .before .before .put-u642 .ensures),
     )
 
 pub +write-content+write-frame-spec : {M : Type 1} → statement M
@@ -177,6 +180,7 @@ pub +write-content+write-frame-spec : {M : Type 1} → statement M
     (write-content-returns-3 t))
     λ t. write-frame-lts.spec (claims-write-frame t) (write-frame-at t) write-frame.Post
     (write-frame-add-start t)
+    (write-frame-mask-length-requires t)
     (write-frame-add-write-content t)
     (write-frame-add-write-content-2 t)
     (write-frame-write-content-requires t)

@@ -1,13 +1,11 @@
 -- `encode::write::write_stored` meets its contract: a case for each form, and for depth 0.
 -- Assumes nothing.
-use mathlib.Core.Path.{refl, ap, _∙_}
-use Prim.Native.Nat.{ℕ}
+use mathlib.Core.Path.{refl, ap}
 use native.Mathlib.Omega.{arith}
-use mathlib.Core.List.{List}
 use lib.ListN.{length}
-use Rattle.array.specs.Buffers.{over}
 use Rattle.array.specs.Content.{Content}
 use Rattle.encode.specs.Stored.{contentIn}
+use Rattle.encode.proofs.Placing.{laid-as}
 use Rattle.encode.proofs.Forms.{ready-all, stored-fixed, stored-ragged, stored-plain}
 use borrow.Author.Needs.{needs}
 use Rattle.encode.proofs.write.write_stored.Statement.{statement}
@@ -47,7 +45,7 @@ returns : tie.Need-returns
 returns c =
     let a = c .before .before .before .before .before .before .before .before .before .before .before .args in
     let v : Content = contentIn (a .masks .now) (a .values .now) (a .offsets .now) in
-    c .before .before .write-content .ensures .1 ∙ ap (λ (x : List ℕ). over x (a .out .now)) (stored-fixed (c .before .before .before .before .enum-told .given .1) (a .cells) v (a .kind .depth))
+    laid-as 0 (a .out .now) (c .before .before .write-content .ensures .1) (stored-fixed (c .before .before .before .before .enum-told .given .1) (a .cells) v (a .kind .depth))
 
 same-length-2 : tie.Need-same-length-2
 same-length-2 c = search needs
@@ -56,7 +54,7 @@ returns-2 : tie.Need-returns-2
 returns-2 c =
     let a = c .before .before .before .before .before .before .before .before .before .before .before .before .before .args in
     let v : Content = contentIn (a .masks .now) (a .values .now) (a .offsets .now) in
-    c .before .before .put-plain .ensures ∙ ap (λ (x : List ℕ). over x (a .out .now)) (stored-plain (c .before .before .before .before .before .before .form .given .1) (a .cells) v (c .before .before .before .before .if1 .taken))
+    laid-as 0 (a .out .now) (c .before .before .put-plain .ensures) (stored-plain (c .before .before .before .before .before .before .form .given .1) (a .cells) v (c .before .before .before .before .if1 .taken))
 
 same-length-3 : tie.Need-same-length-3
 same-length-3 c = search needs
@@ -65,7 +63,7 @@ returns-3 : tie.Need-returns-3
 returns-3 c =
     let a = c .before .before .before .before .before .before .before .before .before .before .before .before .before .args in
     let v : Content = contentIn (a .masks .now) (a .values .now) (a .offsets .now) in
-    c .before .before .write-content2 .ensures .1 ∙ ap (λ (x : List ℕ). over x (a .out .now)) (stored-ragged (c .before .before .before .before .before .before .form .given .1) (a .cells) v (c .before .before .before .before .if1 .left))
+    laid-as 0 (a .out .now) (c .before .before .write-content2 .ensures .1) (stored-ragged (c .before .before .before .before .before .before .form .given .1) (a .cells) v (c .before .before .before .before .if1 .left))
 
 pub write-stored-spec : {M : Type 1} → statement M
 write-stored-spec =
