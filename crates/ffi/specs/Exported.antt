@@ -1,0 +1,49 @@
+-- What an exported call hands to its C caller: a status, the lengths, and the buffers. The status is 0 for success, else the refusal
+-- number; the lengths are written on success only, masks before values before offsets.
+-- Assumes nothing.
+use Prim.Native.Nat.{ℕ}
+use mathlib.Core.List.{List}
+use lib.ListN.{set}
+use Rattle.array.specs.Answer.{Answer, gives, refuses, Outcome}
+use Rattle.array.specs.Kind.{Kind}
+use Rattle.array.specs.Content.{Content, RaggedContent}
+use Rattle.array.specs.Buffers.{Lengths, RaggedLengths}
+
+pub record Exported (B : Type 0) : Type 0 where
+  pub status : ℕ
+  pub lengths : List ℕ
+  pub buffers : B
+
+abbrev pub statusOf : {L : Type 0} → Answer L → ℕ
+statusOf (gives n) = 0
+statusOf (refuses k) = k
+
+abbrev pub oneLength : Answer ℕ → List ℕ → List ℕ
+oneLength (gives n) old = set old 0 n
+oneLength (refuses k) old = old
+
+abbrev pub twoLengths : Answer RaggedLengths → List ℕ → List ℕ
+twoLengths (gives n) old = set (set old 0 (n .values)) 1 (n .offsets)
+twoLengths (refuses k) old = old
+
+abbrev pub threeLengths : Answer Lengths → List ℕ → List ℕ
+threeLengths (gives n) old = set (set (set old 0 (n .masks)) 1 (n .values)) 2 (n .offsets)
+threeLengths (refuses k) old = old
+
+abbrev pub exportOne : Outcome ℕ (List ℕ) → List ℕ → Exported (List ℕ)
+exportOne o old = record { status = statusOf (o .answer); lengths = oneLength (o .answer) old; buffers = o .buffers }
+
+abbrev pub exportTwo : Outcome RaggedLengths RaggedContent → List ℕ → Exported RaggedContent
+exportTwo o old = record { status = statusOf (o .answer); lengths = twoLengths (o .answer) old; buffers = o .buffers }
+
+abbrev pub exportThree : Outcome Lengths Content → List ℕ → Exported Content
+exportThree o old = record { status = statusOf (o .answer); lengths = threeLengths (o .answer) old; buffers = o .buffers }
+
+-- a kind that came as numbers, and what is done with it; a refused kind leaves the buffers as they were
+abbrev pub withKind : {L B : Type 0} → Answer Kind → B → (Kind → Outcome L B) → Outcome L B
+withKind (gives k) old f = f k
+withKind (refuses e) old f = record { answer = refuses e; buffers = old }
+
+-- what was handed out, as the left side of a promise
+abbrev pub handed : {B : Type 0} → ℕ → List ℕ → B → Exported B
+handed status lengths buffers = record { status = status; lengths = lengths; buffers = buffers }
