@@ -1,9 +1,8 @@
 // What belongs to the cells that a level counts, end to end: mask bytes, and values of one size.
+use crate::live;
 use array::copy;
 use array::endian;
 use array::kind::ByteOrder;
-use crate::live;
-
 ghost use mathlib.Core.Path.{_≡_};
 ghost use mathlib.Core.List.{map};
 ghost use Prim.Native.Nat.{_+_, _*_, _≤_};
@@ -60,7 +59,7 @@ pub fn put_live(
     level: usize,
 )
     requires { ⌜ (cells ≤ mostCells) × (level * cells ≤ length (now masks)) × (at + cells * size ≤ length (now s))
-      × (to + length (joined (map (λ i. ordered (orderOf order) (pieceAt at size (now s) i)) (liveAt cells (now masks) level))) ≤ length (now out)) ⌝ }
+        × (to + length (joined (map (λ i. ordered (orderOf order) (pieceAt at size (now s) i)) (liveAt cells (now masks) level))) ≤ length (now out)) ⌝ }
     ensures { λ _. ⌜ now (out .exit) ≡ overAt to (joined (map (λ i. ordered (orderOf order) (pieceAt at size (now (s .entry)) i)) (liveAt cells (now (masks .entry)) level))) (now (out .entry)) ⌝ }
 {
     let mut i = 0;

@@ -1,10 +1,9 @@
 // The written length: the sum over the levels, outermost first.
+use crate::live;
+use crate::values;
 use array::kind;
 use array::kind::Kind;
 use array::kind::Values;
-use crate::live;
-use crate::values;
-
 ghost use mathlib.Core.Path.{_≡_};
 ghost use Prim.Native.Nat.{_+_, _≤_};
 ghost use Rattle.array.specs.Limits.{mostBytes};
@@ -35,13 +34,7 @@ pub fn content_length(
 }
 
 // The written length of valid content of `cells` cells with so many value bytes.
-pub fn stored_length(
-    kind: Kind,
-    cells: usize,
-    masks: &[u8],
-    bytes: usize,
-    offsets: &[u64],
-) -> usize
+pub fn stored_length(kind: Kind, cells: usize, masks: &[u8], bytes: usize, offsets: &[u64]) -> usize
     requires ready { ⌜ Measured (formOf (kind .values)) cells (now masks) (now offsets) (kind .depth) ⌝ }
     requires small { ⌜ bytes ≤ mostBytes ⌝ }
     ensures { λ r. ⌜ r ≡ lengthBy (formOf (kind .values)) cells (now (masks .entry)) bytes (now (offsets .entry)) (kind .depth) ⌝ }

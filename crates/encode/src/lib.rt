@@ -60,8 +60,8 @@ fn encode_valid(
 ) -> Written
     requires { ⌜ Encodable (kindOf kind) cells (record { masks = now masks; values = now values; offsets = now offsets }) ⌝ }
     ensures { λ r. ⌜ outcome r (now (out .exit))
-      ≡ listOutcome (unless (leb (length (storedForm (kindOf kind) cells (record { masks = now (masks .entry); values = now (values .entry); offsets = now (offsets .entry) }))) (length (now (out .entry)))) 6
-          (gives (storedForm (kindOf kind) cells (record { masks = now (masks .entry); values = now (values .entry); offsets = now (offsets .entry) })))) (now (out .entry)) ⌝ }
+        ≡ listOutcome (unless (leb (length (storedForm (kindOf kind) cells (record { masks = now (masks .entry); values = now (values .entry); offsets = now (offsets .entry) }))) (length (now (out .entry)))) 6
+        (gives (storedForm (kindOf kind) cells (record { masks = now (masks .entry); values = now (values .entry); offsets = now (offsets .entry) })))) (now (out .entry)) ⌝ }
 {
     let need = length::stored_length(kind, cells, masks, values.len(), offsets);
     if out.len() < need {

@@ -1,11 +1,10 @@
 // Ragged values: their bytes, their index and the index's length, each at its place.
+use crate::live;
 use array::copy;
 use array::field;
 use array::kind;
 use array::kind::IndexPlace;
 use array::kind::IndexWidth;
-use crate::live;
-
 ghost use mathlib.Core.Path.{_≡_};
 ghost use mathlib.Core.List.{_∷_, map};
 ghost use Prim.Native.Nat.{suc, _+_, _*_, _<_, _≤_};
@@ -80,8 +79,8 @@ fn put_live_data(
     level: usize,
 )
     requires { ⌜ (cells ≤ mostCells) × (level * cells ≤ length (now masks))
-      × (length (now offsets) ≡ suc cells) × Rising (now offsets) × (last (now offsets) ≡ length (now values))
-      × (to + length (joined (map (sliceAt (now offsets) (now values)) (liveAt cells (now masks) level))) ≤ length (now out)) ⌝ }
+        × (length (now offsets) ≡ suc cells) × Rising (now offsets) × (last (now offsets) ≡ length (now values))
+        × (to + length (joined (map (sliceAt (now offsets) (now values)) (liveAt cells (now masks) level))) ≤ length (now out)) ⌝ }
     ensures { λ _. ⌜ now (out .exit) ≡ overAt to (joined (map (sliceAt (now (offsets .entry)) (now (values .entry))) (liveAt cells (now (masks .entry)) level))) (now (out .entry)) ⌝ }
 {
     let mut i = 0;
@@ -117,7 +116,7 @@ fn put_run_ends(
     total: u64,
 )
     requires { ⌜ (i + run < length (now offsets)) × Rising (now offsets) × (total ≤ getD (now offsets) i 0)
-      × (to + length (indexOf (widthOf width) (endsAt (now offsets) total (from i run))) ≤ length (now out)) ⌝ }
+        × (to + length (indexOf (widthOf width) (endsAt (now offsets) total (from i run))) ≤ length (now out)) ⌝ }
     ensures { λ _. ⌜ now (out .exit) ≡ overAt to (indexOf (widthOf width) (endsAt (now (offsets .entry)) total (from i run))) (now (out .entry)) ⌝ }
 {
     let mut j = 0;
@@ -142,7 +141,7 @@ fn put_live_ends(
     level: usize,
 )
     requires { ⌜ (cells ≤ mostCells) × (level * cells ≤ length (now masks)) × (length (now offsets) ≡ suc cells) × Rising (now offsets)
-      × (to + length (indexOf (widthOf width) (endsAt (now offsets) 0 (liveAt cells (now masks) level))) ≤ length (now out)) ⌝ }
+        × (to + length (indexOf (widthOf width) (endsAt (now offsets) 0 (liveAt cells (now masks) level))) ≤ length (now out)) ⌝ }
     ensures { λ _. ⌜ now (out .exit) ≡ overAt to (indexOf (widthOf width) (endsAt (now (offsets .entry)) 0 (liveAt cells (now (masks .entry)) level))) (now (out .entry)) ⌝ }
 {
     let mut i = 0;
@@ -184,7 +183,7 @@ fn put_live_index(
     level: usize,
 )
     requires { ⌜ (cells ≤ mostCells) × (level * cells ≤ length (now masks)) × (length (now offsets) ≡ suc cells) × Rising (now offsets)
-      × (to + length (indexOf (widthOf width) (0 ∷ endsAt (now offsets) 0 (liveAt cells (now masks) level))) ≤ length (now out)) ⌝ }
+        × (to + length (indexOf (widthOf width) (0 ∷ endsAt (now offsets) 0 (liveAt cells (now masks) level))) ≤ length (now out)) ⌝ }
     ensures { λ _. ⌜ now (out .exit) ≡ overAt to (indexOf (widthOf width) (0 ∷ endsAt (now (offsets .entry)) 0 (liveAt cells (now (masks .entry)) level))) (now (out .entry)) ⌝ }
 {
     put_offset(out, to, width, 0);
@@ -206,8 +205,8 @@ pub fn put_ragged(
     count: usize,
 ) -> usize
     requires { ⌜ (cells ≤ mostCells) × (level * cells ≤ length (now masks)) × (count ≡ length (liveAt cells (now masks) level))
-      × (length (now offsets) ≡ suc cells) × Rising (now offsets) × (last (now offsets) ≡ length (now values))
-      × (at + length (putValues (ragged (widthOf width) (placeOf place)) (map (sliceAt (now offsets) (now values)) (liveAt cells (now masks) level))) ≤ length (now out)) ⌝ }
+        × (length (now offsets) ≡ suc cells) × Rising (now offsets) × (last (now offsets) ≡ length (now values))
+        × (at + length (putValues (ragged (widthOf width) (placeOf place)) (map (sliceAt (now offsets) (now values)) (liveAt cells (now masks) level))) ≤ length (now out)) ⌝ }
     ensures wrote { λ r. ⌜ r ≡ length (putValues (ragged (widthOf width) (placeOf place)) (map (sliceAt (now (offsets .entry)) (now (values .entry))) (liveAt cells (now (masks .entry)) level))) ⌝ }
     ensures bytes { λ _. ⌜ now (out .exit) ≡ overAt at (putValues (ragged (widthOf width) (placeOf place)) (map (sliceAt (now (offsets .entry)) (now (values .entry))) (liveAt cells (now (masks .entry)) level))) (now (out .entry)) ⌝ }
 {

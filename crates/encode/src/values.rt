@@ -1,9 +1,8 @@
 // The innermost content: values of one size, or ragged values.
-use array::kind;
-use array::kind::Values;
 use crate::cells;
 use crate::ragged;
-
+use array::kind;
+use array::kind::Values;
 ghost use mathlib.Core.Path.{_≡_};
 ghost use mathlib.Core.List.{map};
 ghost use Prim.Native.Nat.{_+_, _≤_};

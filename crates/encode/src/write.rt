@@ -1,13 +1,12 @@
 // The stored form, written by position: a frame holds a content, and a content may be a frame again.
-use array::field;
-use array::kind::ByteOrder;
-use array::kind::Kind;
-use array::kind::Values;
 use crate::cells;
 use crate::live;
 use crate::ragged;
 use crate::values;
-
+use array::field;
+use array::kind::ByteOrder;
+use array::kind::Kind;
+use array::kind::Values;
 ghost use mathlib.Core.Path.{_≡_};
 ghost use Prim.Native.Nat.{_+_, _≤_};
 ghost use lib.ListN.{length};
@@ -39,17 +38,7 @@ pub fn write_content(
         return 0;
     }
     if left == 0 {
-        return values::put_values(
-            out,
-            at,
-            form,
-            values,
-            offsets,
-            masks,
-            cells,
-            level,
-            count,
-        );
+        return values::put_values(out, at, form, values, offsets, masks, cells, level, count);
     }
     write_frame(
         out,

@@ -30,14 +30,18 @@ abbrev pub threeLengths : Answer Lengths → List ℕ → List ℕ
 threeLengths (gives n) old = set (set (set old 0 (n .masks)) 1 (n .values)) 2 (n .offsets)
 threeLengths (refuses k) old = old
 
+-- an outcome handed over, its lengths put as `put` says
+abbrev pub exportBy : {L B : Type 0} → (Answer L → List ℕ → List ℕ) → Outcome L B → List ℕ → Exported B
+exportBy put o old = record { status = statusOf (o .answer); lengths = put (o .answer) old; buffers = o .buffers }
+
 abbrev pub exportOne : Outcome ℕ (List ℕ) → List ℕ → Exported (List ℕ)
-exportOne o old = record { status = statusOf (o .answer); lengths = oneLength (o .answer) old; buffers = o .buffers }
+exportOne o old = exportBy oneLength o old
 
 abbrev pub exportTwo : Outcome RaggedLengths RaggedContent → List ℕ → Exported RaggedContent
-exportTwo o old = record { status = statusOf (o .answer); lengths = twoLengths (o .answer) old; buffers = o .buffers }
+exportTwo o old = exportBy twoLengths o old
 
 abbrev pub exportThree : Outcome Lengths Content → List ℕ → Exported Content
-exportThree o old = record { status = statusOf (o .answer); lengths = threeLengths (o .answer) old; buffers = o .buffers }
+exportThree o old = exportBy threeLengths o old
 
 -- a kind that came as numbers, and what is done with it; a refused kind leaves the buffers as they were
 abbrev pub withKind : {L B : Type 0} → Answer Kind → B → (Kind → Outcome L B) → Outcome L B

@@ -1,36 +1,23 @@
 -- `ffi::dpx_reverse_endianness` meets its contract, by what `reverse_endianness` promises.
 -- Assumes nothing.
+use Rattle.ffi.specs.Exported.{oneLength}
+use Rattle.ffi.proofs.Exporting.{exported}
 use borrow.Author.Needs.{needs}
-use Rattle.ffi.proofs.Exporting.{one-length, one-refused}
 use Rattle.ffi.proofs.dpx_reverse_endianness.Statement.{statement}
 use Rattle.ffi.proofs.dpx_reverse_endianness.Tie as tie
 
 reverse-endianness-requires : tie.Need-reverse-endianness-requires
 reverse-endianness-requires c κs = search needs
 
-enum-known-answer : tie.Need-enum-known-answer
-enum-known-answer c = search needs
-
-cast-result : tie.Need-cast-result
-cast-result c = search needs
-
-enum-known-answer-2 : tie.Need-enum-known-answer-2
-enum-known-answer-2 c = search needs
-
-element-write-lengths : tie.Need-element-write-lengths
-element-write-lengths c = search needs
+put-length-requires : tie.Need-put-length-requires
+put-length-requires c κs = search needs
 
 same-length : tie.Need-same-length
 same-length c = search needs
 
 returns : tie.Need-returns
-returns c = one-refused (c .before .before .before .before .before .reverse-endianness .ensures) (c .before .answer .given .1)
-
-same-length-2 : tie.Need-same-length-2
-same-length-2 c = search needs
-
-returns-2 : tie.Need-returns-2
-returns-2 c = one-length (c .before .before .before .before .before .reverse-endianness .ensures) _ (c .before .answer2 .given .1)
+returns c = exported oneLength _ _ _ (c .before .before .before .before .reverse-endianness .ensures) _ _ (c .put-length .ensures .0) _ (c .put-length .ensures .1)
 
 pub dpx-reverse-endianness-spec : {M : Type 1} → statement M
-dpx-reverse-endianness-spec = tie.close (tie.spec reverse-endianness-requires enum-known-answer cast-result enum-known-answer-2 element-write-lengths same-length returns same-length-2 returns-2)
+dpx-reverse-endianness-spec =
+    tie.close (tie.spec reverse-endianness-requires put-length-requires same-length returns)
