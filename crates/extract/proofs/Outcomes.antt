@@ -13,12 +13,13 @@ use Rattle.array.specs.Shape.{volume, shapeTest}
 use Rattle.array.specs.Subset.{subsetOf, numbersTest}
 use Rattle.array.specs.Content.{Content}
 use Rattle.array.specs.Buffers.{Lengths, lengthsOf, Enough, enoughTest, over, contentOutcome}
+use Rattle.array.specs.Outcome.{contentArray}
 use Rattle.array.specs.Check.{toldChecked}
 use Rattle.array.proofs.Rules.{enough-test, enough-ok}
 use Rattle.array.proofs.CheckLaws.{checkOf, unlessKept, check-refused, check-valid}
 use Rattle.chunks.specs.Cut.{cutOf}
 use Rattle.chunks.specs.Calls.{extracted, extractAnswer}
-use Rattle.extract.specs.Outcome.{contentOf, putInto}
+use Rattle.extract.specs.Outcome.{putInto}
 
 -- nothing is stored
 abbrev pub refused : ℕ → Content → Outcome Lengths Content
@@ -46,11 +47,11 @@ module _ (c out : Content) where
   pub put : (m v o : ℕ) → length (c .masks) ≡ m → length (c .values) ≡ v → length (c .offsets) ≡ o
       → m ≤ length (out .masks) → v ≤ length (out .values) → o ≤ length (out .offsets)
       → (ms vs os : List ℕ) → ms ≡ over (c .masks) (out .masks) → vs ≡ over (c .values) (out .values) → os ≡ over (c .offsets) (out .offsets)
-      → _≡_ {A = Outcome Lengths Content} (record { answer = gives (record { masks = m; values = v; offsets = o }); buffers = contentOf ms vs os }) (putInto c out)
+      → _≡_ {A = Outcome Lengths Content} (record { answer = gives (record { masks = m; values = v; offsets = o }); buffers = contentArray ms vs os }) (putInto c out)
   put m v o em ev eo hm hv ho ms vs os rm rv ro =
       let t : enoughTest c (lengthsOf out) ≡ true =
       enough-test c (lengthsOf out) (record { for-masks = omega arith; for-values = omega arith; for-offsets = omega arith }) in
-      (λ i. record { answer = gives (record { masks = sym em i; values = sym ev i; offsets = sym eo i }); buffers = contentOf (rm i) (rv i) (ro i) })
+      (λ i. record { answer = gives (record { masks = sym em i; values = sym ev i; offsets = sym eo i }); buffers = contentArray (rm i) (rv i) (ro i) })
       ∙ ap (λ (b : Bool). contentOutcome (unless b 6 (gives c)) out) (sym t)
 
 -- ---- the call

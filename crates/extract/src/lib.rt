@@ -12,11 +12,12 @@ ghost use Rattle.array.specs.Shape.{volume};
 ghost use Rattle.array.specs.Subset.{pairs, cellsIn};
 ghost use Rattle.array.specs.Content.{offsetsFor};
 ghost use Rattle.array.specs.Buffers.{over};
+ghost use Rattle.array.specs.Outcome.{contentArray, outcomeArray};
 ghost use Rattle.array.specs.Meaning.{formOf, kindOf};
 ghost use Rattle.chunks.specs.Chunks.{offsetCount};
 ghost use Rattle.chunks.specs.Cut.{cutOf};
 ghost use Rattle.chunks.specs.Calls.{extracted};
-ghost use Rattle.extract.specs.Outcome.{contentOf, outcomeArray, putInto};
+ghost use Rattle.extract.specs.Outcome.{putInto};
 ghost use Rattle.extract.specs.Places.{beginsAt, bytesAt, valuesAt};
 ghost use Rattle.extract.specs.Asked.{SubsetAsked, OffsetsFor, ValuesAsked, ArrayAsked};
 
@@ -111,10 +112,10 @@ fn cut_valid(
     out_offsets: &mut [u64],
 ) -> WrittenArray
     requires { ⌜ SubsetAsked (now shape) (now starts) (now lens) (volume (now lens))
-        × ArrayAsked (kindOf kind) cells (now shape) (contentOf (now masks) (now values) (now offsets)) ⌝ }
+        × ArrayAsked (kindOf kind) cells (now shape) (contentArray (now masks) (now values) (now offsets)) ⌝ }
     ensures { λ r. ⌜ outcomeArray r (now («out_masks» .exit)) (now («out_values» .exit)) (now («out_offsets» .exit))
-        ≡ putInto (cutOf (kindOf kind) (now (shape .entry)) (contentOf (now (masks .entry)) (now (values .entry)) (now (offsets .entry)))
-        (pairs (now (starts .entry)) (now (lens .entry)))) (contentOf (now («out_masks» .entry)) (now («out_values» .entry)) (now («out_offsets» .entry))) ⌝ }
+        ≡ putInto (cutOf (kindOf kind) (now (shape .entry)) (contentArray (now (masks .entry)) (now (values .entry)) (now (offsets .entry)))
+        (pairs (now (starts .entry)) (now (lens .entry)))) (contentArray (now («out_masks» .entry)) (now («out_values» .entry)) (now («out_offsets» .entry))) ⌝ }
 {
     let depth = kind.depth as usize;
     let form = kind.values;
@@ -159,8 +160,8 @@ pub fn extract(
     out_offsets: &mut [u64],
 ) -> WrittenArray
     ensures { λ r. ⌜ outcomeArray r (now («out_masks» .exit)) (now («out_values» .exit)) (now («out_offsets» .exit))
-        ≡ extracted (kindOf kind) (now (shape .entry)) (now (subset .entry)) (contentOf (now (masks .entry)) (now (values .entry)) (now (offsets .entry)))
-        (contentOf (now («out_masks» .entry)) (now («out_values» .entry)) (now («out_offsets» .entry))) ⌝ }
+        ≡ extracted (kindOf kind) (now (shape .entry)) (now (subset .entry)) (contentArray (now (masks .entry)) (now (values .entry)) (now (offsets .entry)))
+        (contentArray (now («out_masks» .entry)) (now («out_values» .entry)) (now («out_offsets» .entry))) ⌝ }
 {
     if !array::kind::check_kind(kind) {
         return WrittenArray::Refused(refusal::KIND);

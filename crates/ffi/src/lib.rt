@@ -10,7 +10,7 @@ ghost use Rattle.array.specs.Numbers.{numberedKind};
 ghost use Rattle.array.specs.Outcome.{contentArray, contentRagged};
 ghost use Rattle.array.specs.Calls.{endiannessReversed, subsetCells};
 ghost use Rattle.codec.specs.Calls.{encoded, interleavedDecoded};
-ghost use Rattle.chunks.specs.Calls.{extracted};
+ghost use Rattle.chunks.specs.Calls.{extracted, merged};
 ghost use Rattle.ffi.specs.Exported.{handed, withKind, statusOf, oneLength, twoLengths, threeLengths, exportOne, exportTwo, exportThree};
 
 // A kind as numbers: form 0 fixed, 1 ragged; size is the cell size or the index width; order 0 little or start, 1 big or end; mask 0.
@@ -147,6 +147,51 @@ pub extern "C" fn dpx_extract(
                 k,
                 shape,
                 subset,
+                masks,
+                values,
+                offsets,
+                out_masks,
+                out_values,
+                out_offsets,
+            );
+            put_three_lengths(answer, lengths)
+        }
+    }
+}
+
+#[no_mangle]
+pub extern "C" fn dpx_merge(
+    kind: DpxKind,
+    shape: &[u64],
+    subsets: &[u64],
+    masks: &[u8],
+    values: &[u8],
+    offsets: &[u64],
+    out_masks: &mut [u8],
+    out_values: &mut [u8],
+    out_offsets: &mut [u64],
+    lengths: &mut [u64; 3],
+) -> u32
+    ensures { λ r. ⌜ handed r (now (lengths .exit)) (contentArray (now («out_masks» .exit)) (now («out_values» .exit)) (now («out_offsets» .exit)))
+        ≡ exportThree (withKind (numberedKind (kind .depth) (kind .form) (kind .size) (kind .order) (kind .mask))
+        (contentArray (now («out_masks» .entry)) (now («out_values» .entry)) (now («out_offsets» .entry)))
+        (λ k. merged k (now (shape .entry)) (now (subsets .entry)) (contentArray (now (masks .entry)) (now (values .entry)) (now (offsets .entry)))
+        (contentArray (now («out_masks» .entry)) (now («out_values» .entry)) (now («out_offsets» .entry))))) (now (lengths .entry)) ⌝ }
+{
+    let read = array::kind::kind_from_numbers(
+        kind.depth,
+        kind.form,
+        kind.size,
+        kind.order,
+        kind.mask,
+    );
+    match read {
+        KindRead::Refused(e) => e as u32,
+        KindRead::Kind(k) => {
+            let answer = merge::merge(
+                k,
+                shape,
+                subsets,
                 masks,
                 values,
                 offsets,

@@ -11,11 +11,11 @@ use Rattle.array.specs.Kind.{Kind}
 use Rattle.array.specs.Subset.{pairs}
 use Rattle.array.specs.Content.{Content}
 use Rattle.array.specs.Buffers.{over}
+use Rattle.array.specs.Outcome.{contentArray}
 use Rattle.array.specs.Meaning.{kindOf}
 use Rattle.array.proofs.CheckLaws.{small-product}
 use Rattle.array.proofs.Index.{few-within}
 use Rattle.chunks.specs.Cut.{cutOf}
-use Rattle.extract.specs.Outcome.{contentOf}
 use Rattle.extract.specs.Asked.{SubsetAsked, ArrayAsked}
 use Rattle.extract.proofs.Walk.{asked-few}
 use Rattle.extract.proofs.Cutting.{cut-masks, cut-values, cut-offsets, cut-masks-long, cut-values-long, cut-offsets-long, cut-planes-asked, cut-offsets-for, cut-values-asked}
@@ -43,10 +43,10 @@ abbrev lens : Counted → List ℕ
 lens v = start v .args .lens .now
 
 abbrev array : Counted → Content
-array v = let a = start v .args in contentOf (a .masks .now) (a .values .now) (a .offsets .now)
+array v = let a = start v .args in contentArray (a .masks .now) (a .values .now) (a .offsets .now)
 
 abbrev outputs : Counted → Content
-outputs v = let a = start v .args in contentOf (a .out-masks .now) (a .out-values .now) (a .out-offsets .now)
+outputs v = let a = start v .args in contentArray (a .out-masks .now) (a .out-values .now) (a .out-offsets .now)
 
 abbrev cut : Counted → Content
 cut v = cutOf (kind v) (shape v) (array v) (pairs (starts v) (lens v))

@@ -15,13 +15,14 @@ use Rattle.array.specs.ShapeCells.{toldCells}
 use Rattle.array.specs.Subset.{Subset, numbersTest, NumbersOk}
 use Rattle.array.specs.Content.{Content}
 use Rattle.array.specs.Check.{toldChecked}
+use Rattle.array.specs.Outcome.{contentArray}
 use Rattle.array.specs.Meaning.{kindOf}
 use Rattle.array.proofs.Rules.{numbers-ok}
 use Rattle.array.proofs.ShapeLaws.{Counted, counted, not-counted}
 use Rattle.array.proofs.SubsetLists.{subset-parts, within-parts}
 use Rattle.array.proofs.CheckLaws.{checkOf, KeepsRules, check-valid}
 use Rattle.chunks.specs.Cut.{cutOf}
-use Rattle.extract.specs.Outcome.{contentOf, putInto}
+use Rattle.extract.specs.Outcome.{putInto}
 use Rattle.extract.proofs.Outcomes.{no-kind, no-shape, no-subset, not-kept, kept}
 use Rattle.extract.proofs.extract.Statement.{statement}
 use Rattle.extract.proofs.extract.Tie as tie
@@ -37,10 +38,10 @@ abbrev numbers : tie.Start → List ℕ
 numbers s = s .args .subset .now
 
 abbrev array : tie.Start → Content
-array s = contentOf (s .args .masks .now) (s .args .values .now) (s .args .offsets .now)
+array s = contentArray (s .args .masks .now) (s .args .values .now) (s .args .offsets .now)
 
 abbrev outputs : tie.Start → Content
-outputs s = contentOf (s .args .out-masks .now) (s .args .out-values .now) (s .args .out-offsets .now)
+outputs s = contentArray (s .args .out-masks .now) (s .args .out-values .now) (s .args .out-offsets .now)
 
 -- what each check that passed says
 abbrev start : tie.Else1 → tie.Start
