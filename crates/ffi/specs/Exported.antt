@@ -5,7 +5,7 @@ use Prim.Native.Nat.{ℕ}
 use mathlib.Core.List.{List}
 use lib.ListN.{set}
 use Rattle.array.specs.Answer.{Answer, gives, refuses, Outcome}
-use Rattle.array.specs.Kind.{Kind}
+use Rattle.array.specs.Kind.{Form, fixed, ragged, Place}
 use Rattle.array.specs.Content.{Content, RaggedContent}
 use Rattle.array.specs.Buffers.{Lengths, RaggedLengths}
 
@@ -43,10 +43,15 @@ exportTwo o old = exportBy twoLengths o old
 abbrev pub exportThree : Outcome Lengths Content → List ℕ → Exported Content
 exportThree o old = exportBy threeLengths o old
 
--- a kind that came as numbers, and what is done with it; a refused kind leaves the buffers as they were
-abbrev pub withKind : {L B : Type 0} → Answer Kind → B → (Kind → Outcome L B) → Outcome L B
-withKind (gives k) old f = f k
-withKind (refuses e) old f = record { answer = refuses e; buffers = old }
+-- what came as numbers, and what is done with it; numbers that are refused leave the buffers as they were
+abbrev pub withGiven : {K L B : Type 0} → Answer K → B → (K → Outcome L B) → Outcome L B
+withGiven (gives k) old f = f k
+withGiven (refuses e) old f = record { answer = refuses e; buffers = old }
+
+-- of a ragged form its index width and place; numberedIndex gives no other
+abbrev pub byIndex : {L B : Type 0} → B → (ℕ → Place → Outcome L B) → Form → Outcome L B
+byIndex old f (ragged w p) = f w p
+byIndex old f (fixed k o) = record { answer = refuses 1; buffers = old }
 
 -- what was handed out, as the left side of a promise
 abbrev pub handed : {B : Type 0} → ℕ → List ℕ → B → Exported B

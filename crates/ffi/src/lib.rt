@@ -3,15 +3,16 @@
 use array::answer::Written;
 use array::answer::WrittenArray;
 use array::answer::WrittenRagged;
+use array::kind::IndexRead;
 use array::kind::KindRead;
 ghost use mathlib.Core.Path.{_≡_};
 ghost use Rattle.array.specs.Meaning.{told, toldRagged, toldArray};
-ghost use Rattle.array.specs.Numbers.{numberedKind};
+ghost use Rattle.array.specs.Numbers.{numberedKind, numberedIndex};
 ghost use Rattle.array.specs.Outcome.{contentArray, contentRagged};
 ghost use Rattle.array.specs.Calls.{endiannessReversed, subsetCells};
 ghost use Rattle.codec.specs.Calls.{encoded, interleavedDecoded};
-ghost use Rattle.chunks.specs.Calls.{extracted, merged};
-ghost use Rattle.ffi.specs.Exported.{handed, withKind, statusOf, oneLength, twoLengths, threeLengths, exportOne, exportTwo, exportThree};
+ghost use Rattle.chunks.specs.Calls.{extracted, merged, partiallyDecoded};
+ghost use Rattle.ffi.specs.Exported.{handed, withGiven, byIndex, statusOf, oneLength, twoLengths, threeLengths, exportOne, exportTwo, exportThree};
 
 // A kind as numbers: form 0 fixed, 1 ragged; size is the cell size or the index width; order 0 little or start, 1 big or end; mask 0.
 #[repr(C)]
@@ -80,7 +81,7 @@ pub extern "C" fn dpx_encode(
     lengths: &mut [u64; 1],
 ) -> u32
     ensures { λ r. ⌜ handed r (now (lengths .exit)) (now (out .exit))
-        ≡ exportOne (withKind (numberedKind (kind .depth) (kind .form) (kind .size) (kind .order) (kind .mask)) (now (out .entry))
+        ≡ exportOne (withGiven (numberedKind (kind .depth) (kind .form) (kind .size) (kind .order) (kind .mask)) (now (out .entry))
         (λ k. encoded k (now (shape .entry)) (contentArray (now (masks .entry)) (now (values .entry)) (now (offsets .entry))) (now (out .entry)))) (now (lengths .entry)) ⌝ }
 {
     let read = array::kind::kind_from_numbers(
@@ -128,7 +129,7 @@ pub extern "C" fn dpx_extract(
     lengths: &mut [u64; 3],
 ) -> u32
     ensures { λ r. ⌜ handed r (now (lengths .exit)) (contentArray (now («out_masks» .exit)) (now («out_values» .exit)) (now («out_offsets» .exit)))
-        ≡ exportThree (withKind (numberedKind (kind .depth) (kind .form) (kind .size) (kind .order) (kind .mask))
+        ≡ exportThree (withGiven (numberedKind (kind .depth) (kind .form) (kind .size) (kind .order) (kind .mask))
         (contentArray (now («out_masks» .entry)) (now («out_values» .entry)) (now («out_offsets» .entry)))
         (λ k. extracted k (now (shape .entry)) (now (subset .entry)) (contentArray (now (masks .entry)) (now (values .entry)) (now (offsets .entry)))
         (contentArray (now («out_masks» .entry)) (now («out_values» .entry)) (now («out_offsets» .entry))))) (now (lengths .entry)) ⌝ }
@@ -173,7 +174,7 @@ pub extern "C" fn dpx_merge(
     lengths: &mut [u64; 3],
 ) -> u32
     ensures { λ r. ⌜ handed r (now (lengths .exit)) (contentArray (now («out_masks» .exit)) (now («out_values» .exit)) (now («out_offsets» .exit)))
-        ≡ exportThree (withKind (numberedKind (kind .depth) (kind .form) (kind .size) (kind .order) (kind .mask))
+        ≡ exportThree (withGiven (numberedKind (kind .depth) (kind .form) (kind .size) (kind .order) (kind .mask))
         (contentArray (now («out_masks» .entry)) (now («out_values» .entry)) (now («out_offsets» .entry)))
         (λ k. merged k (now (shape .entry)) (now (subsets .entry)) (contentArray (now (masks .entry)) (now (values .entry)) (now (offsets .entry)))
         (contentArray (now («out_masks» .entry)) (now («out_values» .entry)) (now («out_offsets» .entry))))) (now (lengths .entry)) ⌝ }
@@ -200,6 +201,39 @@ pub extern "C" fn dpx_merge(
                 out_offsets,
             );
             put_three_lengths(answer, lengths)
+        }
+    }
+}
+
+#[no_mangle]
+pub extern "C" fn dpx_partial_decode(
+    width: u64,
+    place: u64,
+    shape: &[u64],
+    subset: &[u64],
+    bytes: &[u8],
+    values: &mut [u8],
+    offsets: &mut [u64],
+    lengths: &mut [u64; 2],
+) -> u32
+    ensures { λ r. ⌜ handed r (now (lengths .exit)) (contentRagged (now (values .exit)) (now (offsets .exit)))
+        ≡ exportTwo (withGiven (numberedIndex width place) (contentRagged (now (values .entry)) (now (offsets .entry)))
+        (byIndex (contentRagged (now (values .entry)) (now (offsets .entry))) (λ w p. partiallyDecoded w p (now (shape .entry)) (now (subset .entry)) (now (bytes .entry)) (contentRagged (now (values .entry)) (now (offsets .entry)))))) (now (lengths .entry)) ⌝ }
+{
+    let read = array::kind::index_from_numbers(width, place);
+    match read {
+        IndexRead::Refused(e) => e as u32,
+        IndexRead::Index(w, p) => {
+            let answer = partial::vlen_partial::partial_decode(
+                w,
+                p,
+                shape,
+                subset,
+                bytes,
+                values,
+                offsets,
+            );
+            put_two_lengths(answer, lengths)
         }
     }
 }

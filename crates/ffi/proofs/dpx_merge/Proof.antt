@@ -1,8 +1,9 @@
 -- `ffi::dpx_merge` meets its contract, by what `merge` promises of a kind that came as numbers.
 -- Assumes nothing.
-use mathlib.Core.Path.{refl}
+use mathlib.Core.Path.{refl, ap}
+use Rattle.array.specs.Numbers.{toldKind}
 use Rattle.ffi.specs.Exported.{threeLengths}
-use Rattle.ffi.proofs.Exporting.{exported, no-kind, some-kind}
+use Rattle.ffi.proofs.Exporting.{exported, not-given, given}
 use borrow.Author.Needs.{needs}
 use Rattle.ffi.proofs.dpx_merge.Statement.{statement}
 use Rattle.ffi.proofs.dpx_merge.Tie as tie
@@ -26,7 +27,7 @@ put-three-lengths-requires : tie.Need-put-three-lengths-requires
 put-three-lengths-requires c κs = search needs
 
 returns : tie.Need-returns
-returns c = no-kind _ _ _ _ (c .before .before .before .kind-from-numbers .ensures) threeLengths _ (c .before .read .given .1) _ refl
+returns c = not-given toldKind _ _ (c .before .before .before .kind-from-numbers .result) _ (c .before .before .before .kind-from-numbers .ensures) threeLengths _ (ap toldKind (c .before .read .given .1)) _ refl
 
 same-length : tie.Need-same-length
 same-length c = search needs
@@ -38,7 +39,10 @@ same-length-3 : tie.Need-same-length-3
 same-length-3 c = search needs
 
 returns-2 : tie.Need-returns-2
-returns-2 c = exported threeLengths _ _ _ (some-kind _ _ _ _ (c .before .before .before .before .before .before .before .before .before .before .before .before .before .before .before .kind-from-numbers .ensures) _ (c .before .before .before .before .before .before .before .before .before .before .before .before .before .read2 .given .1) _ (c .before .before .before .before .before .before .before .before .merge .ensures)) _ _ (c .put-three-lengths .ensures .0) _ (c .put-three-lengths .ensures .1)
+returns-2 c =
+    exported threeLengths _ _ _
+    (given toldKind _ _ (c .before .before .before .before .before .before .before .before .before .before .before .before .before .before .before .kind-from-numbers .result) _ (c .before .before .before .before .before .before .before .before .before .before .before .before .before .before .before .kind-from-numbers .ensures) _ (ap toldKind (c .before .before .before .before .before .before .before .before .before .before .before .before .before .read2 .given .1)) _ (c .before .before .before .before .before .before .before .before .merge .ensures))
+    _ _ (c .put-three-lengths .ensures .0) _ (c .put-three-lengths .ensures .1)
 
 pub dpx-merge-spec : {M : Type 1} → statement M
 dpx-merge-spec =
