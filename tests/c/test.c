@@ -564,6 +564,7 @@ static void test_merge(void)
     REFUSED(dpx_merge(r8, NUMBERS(1), NUMBERS(0, 1), NONE, TEXT("ab"), NUMBERS(0, 1), OUT3), DPX_CONTENT);
     REFUSED(dpx_merge(f1, NUMBERS(2), NUMBERS(0, 1, 0, 1), NONE, TEXT("ab"), NONE, OUT3), DPX_COVER);
     REFUSED(dpx_merge(f1, NUMBERS(2), NUMBERS(0, 1), NONE, TEXT("a"), NONE, OUT3), DPX_COVER);
+    REFUSED(dpx_merge(f1, NUMBERS(2), NUMBERS(0, 2, 1, 1), NONE, TEXT("abb"), NONE, OUT3), DPX_COVER);
     REFUSED(dpx_merge(dpx_ragged(1, 4, DPX_START), NUMBERS(1), NONE, NONE, NONE, NONE, OUT3), DPX_COVER);
     REFUSED(dpx_merge(f1, NUMBERS(1), NUMBERS(0, 1), NONE, TEXT("a"), NONE, OUT3), DPX_OUTPUT);
     release();
@@ -677,12 +678,21 @@ static void test_subset_cells(void)
 
 /* -------------------------------------------------------------------------------------------------------- limits */
 
-static void test_limits(void)
+/* A field of eight bytes, and one of four. */
+static void put(uint8_t *at, uint64_t number, size_t width)
 {
-    const size_t most = DPX_MAX_VALUE_BYTES, cells = DPX_MAX_CELLS;
-    const uint64_t one[1] = {1}, all[1] = {DPX_MAX_CELLS};
-    uint8_t *values = block(most + 1), *stored = block(most + 1 + 24), *back = block(most + 1), *masks, *masks_back;
-    uint64_t offsets[2] = {0, DPX_MAX_VALUE_BYTES}, offsets_back[2], lengths[3];
+    size_t i;
+    for (i = 0; i < width; i++)
+        at[i] = (uint8_t)(number >> (8 * i));
+}
+
+static void test_byte_limit(void)
+{
+    const size_t most = DPX_MAX_VALUE_BYTES;
+    const dpx_kind kind = dpx_ragged(0, 8, DPX_START);
+    const uint64_t one[1] = {1}, two[1] = {2}, whole[2] = {0, 1}, twice[4] = {0, 1, 0, 1};
+    uint8_t *values = block(most + 1), *stored = block(most + 25), *back = block(most + 1);
+    uint64_t offsets[2] = {0, DPX_MAX_VALUE_BYTES}, chunks[4] = {0, 8388608, 0, 8388608}, got[3] = {7, 7, 7}, lengths[3] = {7, 7, 7};
     size_t i;
 
     for (i = 0; i < most + 1; i++)
@@ -690,35 +700,75 @@ static void test_limits(void)
     memset(stored, FILL, most + 25);
     memset(back, FILL, most + 1);
 
-    /* 16,777,216 value bytes pass, and come back. */
-    ANSWERS(dpx_encode(dpx_ragged(0, 8, DPX_START), one, 1, NONE, values, most, offsets, 2, stored, most + 24, lengths), DPX_OK);
-    CHECK(lengths[0] == most + 24 && stored[most + 24] == FILL);
-    ANSWERS(dpx_decode(dpx_ragged(0, 8, DPX_START), one, 1, stored, most + 24, NONE, back, most, offsets_back, 2, lengths), DPX_OK);
-    CHECK(lengths[0] == 0 && lengths[1] == most && lengths[2] == 2);
-    CHECK(memcmp(values, back, most) == 0 && back[most] == FILL && offsets_back[0] == 0 && offsets_back[1] == most);
-    /* One more does not. */
-    offsets[1] = most + 1;
-    memset(stored, FILL, most + 25);
-    lengths[0] = 77;
-    ANSWERS(dpx_encode(dpx_ragged(0, 8, DPX_START), one, 1, NONE, values, most + 1, offsets, 2, stored, most + 25, lengths), DPX_SIZE);
-    CHECK(filled(stored, most + 25) && lengths[0] == 77);
-    release();
+    /* 16,777,216 value bytes pass. */
+    ANSWERS(dpx_encode(kind, one, 1, NONE, values, most, offsets, 2, stored, most + 24, lengths), DPX_OK);
+    CHECK(lengths[0] == most + 24 && lengths[1] == 7 && stored[most + 24] == FILL);
+    ANSWERS(dpx_decode(kind, one, 1, stored, most + 24, NONE, back, most, got, 2, lengths), DPX_OK);
+    CHECK(lengths[0] == 0 && lengths[1] == most && lengths[2] == 2 && got[0] == 0 && got[1] == most && got[2] == 7);
+    CHECK(memcmp(values, back, most) == 0 && back[most] == FILL);
+    memset(back, FILL, most);
+    ANSWERS(dpx_partial_decode(8, DPX_START, one, 1, whole, 2, stored, most + 24, back, most, got, 2, lengths), DPX_OK);
+    CHECK(lengths[0] == most && lengths[1] == 2 && memcmp(values, back, most) == 0 && back[most] == FILL);
+    memset(back, FILL, most);
+    ANSWERS(dpx_extract(kind, one, 1, whole, 2, NONE, values, most, offsets, 2, NONE, back, most, got, 2, lengths), DPX_OK);
+    CHECK(lengths[1] == most && lengths[2] == 2 && memcmp(values, back, most) == 0 && back[most] == FILL);
+    memset(back, FILL, most);
+    ANSWERS(dpx_merge(kind, one, 1, whole, 2, NONE, values, most, offsets, 2, NONE, back, most, got, 2, lengths), DPX_OK);
+    CHECK(lengths[1] == most && lengths[2] == 2 && memcmp(values, back, most) == 0 && back[most] == FILL);
+    put(stored, 1, 4);
+    put(stored + 4, most, 4);
+    memcpy(stored + 8, values, most + 1);
+    memset(back, FILL, most);
+    ANSWERS(dpx_decode_interleaved(1, stored, most + 9, back, most, got, 2, lengths), DPX_OK);
+    CHECK(lengths[0] == most && lengths[1] == 2 && memcmp(values, back, most) == 0 && back[most] == FILL);
 
-    /* Depth 4, size 64, 65,536 cells. */
-    masks = block(4 * cells);
-    values = block(64 * cells);
-    stored = block(4 * (16 + cells) + 64 * cells);
-    masks_back = block(4 * cells);
-    back = block(64 * cells);
+    /* One more is 5, and no lent byte changes. */
+    memset(back, FILL, most + 1);
+    got[0] = got[1] = lengths[0] = lengths[1] = lengths[2] = 7;
+    put(stored + 4, most + 1, 4);
+    ANSWERS(dpx_decode_interleaved(1, stored, most + 9, back, most + 1, got, 2, lengths), DPX_SIZE);
+    put(stored, 16, 8);
+    put(stored + 8, 0, 8);
+    put(stored + 16, most + 1, 8);
+    memcpy(stored + 24, values, most + 1);
+    ANSWERS(dpx_decode(kind, one, 1, stored, most + 25, NONE, back, most + 1, got, 2, lengths), DPX_SIZE);
+    ANSWERS(dpx_partial_decode(8, DPX_START, one, 1, whole, 2, stored, most + 25, back, most + 1, got, 2, lengths), DPX_SIZE);
+    offsets[1] = most + 1;
+    ANSWERS(dpx_encode(kind, one, 1, NONE, values, most + 1, offsets, 2, back, most + 1, lengths), DPX_SIZE);
+    ANSWERS(dpx_extract(kind, one, 1, whole, 2, NONE, values, most + 1, offsets, 2, NONE, back, most + 1, got, 2, lengths), DPX_SIZE);
+    ANSWERS(dpx_merge(kind, one, 1, whole, 2, NONE, values, most + 1, offsets, 2, NONE, back, most + 1, got, 2, lengths), DPX_SIZE);
+    /* 5 comes before 12. */
+    ANSWERS(dpx_merge(kind, two, 1, twice, 4, NONE, values, most, chunks, 4, NONE, back, most + 1, got, 2, lengths), DPX_COVER);
+    chunks[3]++;
+    ANSWERS(dpx_merge(kind, two, 1, twice, 4, NONE, values, most + 1, chunks, 4, NONE, back, most + 1, got, 2, lengths), DPX_SIZE);
+    CHECK(filled(back, most + 1) && got[0] == 7 && got[1] == 7 && lengths[0] == 7 && lengths[1] == 7 && lengths[2] == 7);
+    /* By the last offset, also where the cell is empty. A merge goes by the sum of its cells. */
+    offsets[0] = most + 1;
+    ANSWERS(dpx_encode(kind, one, 1, NONE, values, most + 1, offsets, 2, back, most + 1, lengths), DPX_SIZE);
+    offsets[0] = most;
+    ANSWERS(dpx_merge(kind, one, 1, whole, 2, NONE, values, most + 1, offsets, 2, NONE, back, 1, got, 2, lengths), DPX_OK);
+    CHECK(lengths[1] == 1 && back[0] == values[most] && got[0] == 0 && got[1] == 1);
+    release();
+}
+
+/* Depth 4, size 64, 65,536 cells. */
+static void test_limits(void)
+{
+    const size_t cells = DPX_MAX_CELLS, room = 4 * (16 + cells) + 64 * cells;
+    const uint64_t all[1] = {DPX_MAX_CELLS};
+    uint8_t *masks = block(4 * cells), *values = block(64 * cells), *stored = block(room);
+    uint8_t *masks_back = block(4 * cells), *back = block(64 * cells);
+    uint64_t lengths[3];
+    size_t i;
+
     for (i = 0; i < 4 * cells; i++)
         masks[i] = (uint8_t)(1 + i % 255);
     for (i = 0; i < 64 * cells; i++)
         values[i] = (uint8_t)(i * 31 + (i >> 9));
-    ANSWERS(dpx_encode(dpx_fixed(4, 64, DPX_BIG), all, 1, masks, 4 * cells, values, 64 * cells, NONE, stored, 4 * (16 + cells) + 64 * cells,
-                       lengths),
-            DPX_OK);
-    CHECK(lengths[0] == 4 * (16 + cells) + 64 * cells);
-    ANSWERS(dpx_decode(dpx_fixed(4, 64, DPX_BIG), all, 1, stored, lengths[0], masks_back, 4 * cells, back, 64 * cells, NONE, lengths), DPX_OK);
+    ANSWERS(dpx_encode(dpx_fixed(4, 64, DPX_BIG), all, 1, masks, 4 * cells, values, 64 * cells, NONE, stored, room, lengths), DPX_OK);
+    CHECK(lengths[0] == room);
+    ANSWERS(dpx_decode(dpx_fixed(4, 64, DPX_BIG), all, 1, stored, room, masks_back, 4 * cells, back, 64 * cells, NONE, lengths), DPX_OK);
+    CHECK(lengths[0] == 4 * cells && lengths[1] == 64 * cells && lengths[2] == 0);
     CHECK(memcmp(masks, masks_back, 4 * cells) == 0 && memcmp(values, back, 64 * cells) == 0);
     release();
 }
@@ -735,6 +785,7 @@ int main(void)
     test_partial();
     test_reverse();
     test_subset_cells();
+    test_byte_limit();
     test_limits();
     release();
     printf("C interface: %lu checks, %lu failed\n", checks, failures);
