@@ -193,6 +193,9 @@ fn show(arguments: &Arguments, watch: &Watch) -> Result<u8, Failure> {
 }
 
 fn write(arguments: &Arguments, watch: &Watch) -> Result<u8, Failure> {
+    if arguments.files[0] == arguments.files[1] && arguments.files[0] != "-" {
+        return Err(Failure::usage("the table would be written over its worksheet; give OUT another name"));
+    }
     let (name, bytes) = input(arguments, 0, watch)?;
     let array = worksheet::read(&name, &bytes)?;
     files::write(&arguments.files[1], &store(&array, &name)?, watch)?;

@@ -157,7 +157,8 @@ impl Reader<'_> {
     }
 
     fn line(&mut self, line: &str) -> Result<(), Failure> {
-        if let Some(words) = line.strip_prefix("kind:") {
+        let uncommented = line.split('#').next().unwrap_or("");
+        if let Some(words) = uncommented.strip_prefix("kind:") {
             if self.kind.is_some() {
                 return Err(self.wrong("the kind was given before"));
             }
@@ -168,7 +169,7 @@ impl Reader<'_> {
             self.kind = Some(kind);
             return Ok(());
         }
-        if let Some(words) = line.strip_prefix("shape:") {
+        if let Some(words) = uncommented.strip_prefix("shape:") {
             if self.shape.is_some() {
                 return Err(self.wrong("the shape was given before"));
             }
@@ -522,7 +523,7 @@ mod tests {
     #[test]
     fn any_order_line_ends_and_comments() {
         let text = format!(
-            "\u{FEFF}# first\r\n\r\n{TITLE}\r\nshape: 2\r\nkind: {FIXED}\r\n  1 | FF | value hex 0a0B # b\r\n# between\r\n0 | 00 | null at level 1\r\n"
+            "\u{FEFF}# first\r\n\r\n{TITLE}\r\nshape: 2 # two\r\nkind: {FIXED}\r\n  1 | FF | value hex 0a0B # b\r\n# between\r\n0 | 00 | null at level 1\r\n"
         );
         let array = read("sheet", text.as_bytes()).unwrap();
         assert_eq!((&array.masks[..], &array.values[..]), (&[0, 255][..], &[0, 0, 0x0A, 0x0B][..]));
@@ -566,5 +567,52 @@ mod tests {
         let text = write(&flat, false, &[]);
         assert!(text.contains("before: \"A\"\n0 | - | value \"B\"\n"));
         assert_eq!(read("sheet", text.as_bytes()).unwrap(), flat);
+    }
+
+    /// Whatever is damaged: an array that the library can judge, or a failure; never a panic.
+    #[test]
+    fn damaged_sheets() {
+        let mut seed: u64 = 99;
+        let mut draw = |limit: usize| {
+            seed ^= seed << 13;
+            seed ^= seed >> 7;
+            seed ^= seed << 17;
+            (seed >> 11) as usize % limit
+        };
+        let sheets = [
+            include_str!("../../demo/guests.txt").to_string(),
+            sheet(FLAT, "2", &["before: hex 00 01", "0 | - | value \"a\\\"\\x41é\"", "1 | - | value hex 0A0b"]),
+            sheet(FIXED, "1x2", &["0,0 | 7F | value hex 0A 0B # x", "0,1 | 00 | null at level 1"]),
+        ];
+        let (mut good, mut bad) = (0, 0);
+        for round in 0..30_000 {
+            let mut bytes = sheets[round % sheets.len()].clone().into_bytes();
+            for _ in 0..1 + draw(3) {
+                let at = draw(bytes.len());
+                match draw(4) {
+                    0 => bytes[at] = b" \n|\"\\#,x0129-"[draw(13)],
+                    1 => bytes[at] ^= 1 << draw(8),
+                    2 => {
+                        bytes.remove(at);
+                    }
+                    _ => bytes.insert(at, draw(256) as u8),
+                }
+            }
+            match read("sheet", &bytes) {
+                Ok(array) => {
+                    good += 1;
+                    let stored = durpaxeta::encode(&array).unwrap();
+                    let shown =
+                        write(&durpaxeta::decode(array.kind, &array.shape, &stored).unwrap(), round % 2 == 0, &[]);
+                    let again = read("shown", shown.as_bytes()).unwrap();
+                    assert_eq!(durpaxeta::encode(&again).unwrap(), stored, "{shown}");
+                }
+                Err(failure) => {
+                    bad += 1;
+                    assert!([1, 2, 4, 65].contains(&failure.status()), "{failure}");
+                }
+            }
+        }
+        assert!(good > 1000 && bad > 1000, "{good} and {bad}");
     }
 }

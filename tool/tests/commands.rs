@@ -389,6 +389,7 @@ fn wrong_command_lines() {
         &["show", "--kind", KIND, "--shape", "2x2", "a", "b"],
         &["show", "--kind", KIND, "--shape", "2x2", "--subset", "0..1", "a"],
         &["write", "a"],
+        &["write", "a", "a"],
         &["cut", "--kind", KIND, "--shape", "2x2", "a", "b"],
         &["merge", "--kind", KIND, "--shape", "2x2", "out"],
         &["merge", "--kind", KIND, "--shape", "2x2", "--part", "0..1,0..2", "-", "--part", "1..2,0..2", "-", "out"],
