@@ -288,6 +288,13 @@ fn check_names_the_byte() {
         assert_eq!(said.err, "");
     }
     assert_eq!(run(&folder, &check, b"").status, 7);
+
+    // The example of docs/FORMAT.md.
+    let page = include_str!("../../docs/FORMAT.md");
+    fs::write(folder.join("damaged.bin"), &stored[..63]).unwrap();
+    let said = run(&folder, &["check", "--kind", KIND, "--shape", "2x2", "damaged.bin"], b"");
+    assert_eq!(said.status, 8);
+    assert!(page.contains(said.text().replace('\n', "\n    ").trim_end()), "{}", said.text());
 }
 
 /// Every shorter file, and every flipped bit: an answer from 0 to 12, and never anything else.
