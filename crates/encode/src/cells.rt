@@ -60,15 +60,9 @@ pub fn put_live(
     cells: usize,
     level: usize,
 )
-<<<<<<< HEAD
     requires { ⌜ Planes cells (now masks) level × (at + cells * size ≤ length (now s))
         × (to + length (piecesAt (orderOf order) at size (now s) (liveAt cells (now masks) level)) ≤ length (now out)) ⌝ }
     ensures { λ _. ⌜ now (out .exit) ≡ overAt to (piecesAt (orderOf order) at size (now (s .entry)) (liveAt cells (now (masks .entry)) level)) (now (out .entry)) ⌝ }
-=======
-    requires { ⌜ (cells ≤ mostCells) × (level * cells ≤ length (now masks)) × (at + cells * size ≤ length (now s))
-        × (to + length (joined (map (λ i. ordered (orderOf order) (pieceAt at size (now s) i)) (liveAt cells (now masks) level))) ≤ length (now out)) ⌝ }
-    ensures { λ _. ⌜ now (out .exit) ≡ overAt to (joined (map (λ i. ordered (orderOf order) (pieceAt at size (now (s .entry)) i)) (liveAt cells (now (masks .entry)) level))) (now (out .entry)) ⌝ }
->>>>>>> f1
 {
     let mut i = 0;
     let mut done = 0;

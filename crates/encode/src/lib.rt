@@ -55,15 +55,8 @@ fn encode_valid(
     offsets: &[u64],
     out: &mut [u8],
 ) -> Written
-<<<<<<< HEAD
     requires { ⌜ Encodable (kindOf kind) cells (contentIn (now masks) (now values) (now offsets)) ⌝ }
     ensures { λ r. ⌜ outcome r (now (out .exit)) ≡ storedOver (storedForm (kindOf kind) cells (contentIn (now (masks .entry)) (now (values .entry)) (now (offsets .entry)))) (now (out .entry)) ⌝ }
-=======
-    requires { ⌜ Encodable (kindOf kind) cells (record { masks = now masks; values = now values; offsets = now offsets }) ⌝ }
-    ensures { λ r. ⌜ outcome r (now (out .exit))
-        ≡ listOutcome (unless (leb (length (storedForm (kindOf kind) cells (record { masks = now (masks .entry); values = now (values .entry); offsets = now (offsets .entry) }))) (length (now (out .entry)))) 6
-        (gives (storedForm (kindOf kind) cells (record { masks = now (masks .entry); values = now (values .entry); offsets = now (offsets .entry) })))) (now (out .entry)) ⌝ }
->>>>>>> f1
 {
     let need = length::stored_length(kind, cells, masks, values.len(), offsets);
     if out.len() < need {

@@ -79,17 +79,10 @@ fn put_live_data(
     cells: usize,
     level: usize,
 )
-<<<<<<< HEAD
     requires { ⌜ Planes cells (now masks) level
         × Offsets cells (now offsets) × (last (now offsets) ≡ length (now values))
         × (to + length (slicesAt (now offsets) (now values) (liveAt cells (now masks) level)) ≤ length (now out)) ⌝ }
     ensures { λ _. ⌜ now (out .exit) ≡ overAt to (slicesAt (now (offsets .entry)) (now (values .entry)) (liveAt cells (now (masks .entry)) level)) (now (out .entry)) ⌝ }
-=======
-    requires { ⌜ (cells ≤ mostCells) × (level * cells ≤ length (now masks))
-        × (length (now offsets) ≡ suc cells) × Rising (now offsets) × (last (now offsets) ≡ length (now values))
-        × (to + length (joined (map (sliceAt (now offsets) (now values)) (liveAt cells (now masks) level))) ≤ length (now out)) ⌝ }
-    ensures { λ _. ⌜ now (out .exit) ≡ overAt to (joined (map (sliceAt (now (offsets .entry)) (now (values .entry))) (liveAt cells (now (masks .entry)) level))) (now (out .entry)) ⌝ }
->>>>>>> f1
 {
     let mut i = 0;
     let mut done = 0;
@@ -148,11 +141,7 @@ fn put_live_ends(
     cells: usize,
     level: usize,
 )
-<<<<<<< HEAD
     requires { ⌜ Planes cells (now masks) level × Offsets cells (now offsets)
-=======
-    requires { ⌜ (cells ≤ mostCells) × (level * cells ≤ length (now masks)) × (length (now offsets) ≡ suc cells) × Rising (now offsets)
->>>>>>> f1
         × (to + length (indexOf (widthOf width) (endsAt (now offsets) 0 (liveAt cells (now masks) level))) ≤ length (now out)) ⌝ }
     ensures { λ _. ⌜ now (out .exit) ≡ overAt to (indexOf (widthOf width) (endsAt (now (offsets .entry)) 0 (liveAt cells (now (masks .entry)) level))) (now (out .entry)) ⌝ }
 {
@@ -194,11 +183,7 @@ fn put_live_index(
     cells: usize,
     level: usize,
 )
-<<<<<<< HEAD
     requires { ⌜ Planes cells (now masks) level × Offsets cells (now offsets)
-=======
-    requires { ⌜ (cells ≤ mostCells) × (level * cells ≤ length (now masks)) × (length (now offsets) ≡ suc cells) × Rising (now offsets)
->>>>>>> f1
         × (to + length (indexOf (widthOf width) (0 ∷ endsAt (now offsets) 0 (liveAt cells (now masks) level))) ≤ length (now out)) ⌝ }
     ensures { λ _. ⌜ now (out .exit) ≡ overAt to (indexOf (widthOf width) (0 ∷ endsAt (now (offsets .entry)) 0 (liveAt cells (now (masks .entry)) level))) (now (out .entry)) ⌝ }
 {
@@ -220,13 +205,8 @@ pub fn put_ragged(
     level: usize,
     count: usize,
 ) -> usize
-<<<<<<< HEAD
     requires { ⌜ Planes cells (now masks) level × (count ≡ length (liveAt cells (now masks) level))
         × Offsets cells (now offsets) × (last (now offsets) ≡ length (now values))
-=======
-    requires { ⌜ (cells ≤ mostCells) × (level * cells ≤ length (now masks)) × (count ≡ length (liveAt cells (now masks) level))
-        × (length (now offsets) ≡ suc cells) × Rising (now offsets) × (last (now offsets) ≡ length (now values))
->>>>>>> f1
         × (at + length (putValues (ragged (widthOf width) (placeOf place)) (map (sliceAt (now offsets) (now values)) (liveAt cells (now masks) level))) ≤ length (now out)) ⌝ }
     ensures wrote { λ r. ⌜ r ≡ length (putValues (ragged (widthOf width) (placeOf place)) (map (sliceAt (now (offsets .entry)) (now (values .entry))) (liveAt cells (now (masks .entry)) level))) ⌝ }
     ensures bytes { λ _. ⌜ now (out .exit) ≡ overAt at (putValues (ragged (widthOf width) (placeOf place)) (map (sliceAt (now (offsets .entry)) (now (values .entry))) (liveAt cells (now (masks .entry)) level))) (now (out .entry)) ⌝ }

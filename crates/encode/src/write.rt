@@ -4,15 +4,9 @@ use crate::live;
 use crate::ragged;
 use crate::values;
 use array::field;
-<<<<<<< HEAD
 use array::kind::Kind;
 use array::kind::Values;
 use codec::mask;
-=======
-use array::kind::ByteOrder;
-use array::kind::Kind;
-use array::kind::Values;
->>>>>>> f1
 ghost use mathlib.Core.Path.{_≡_};
 ghost use Prim.Native.Nat.{_+_, _≤_};
 ghost use lib.ListN.{length};
