@@ -9,12 +9,13 @@ use codec::mask::mask_length;
 
 ghost use mathlib.Core.Path.{_≡_};
 ghost use mathlib.Core.List.{_++_};
-ghost use Prim.Native.Nat.{_+_, _*_, _-_, _≤_};
+ghost use Prim.Native.Nat.{_+_, _-_, _≤_};
 ghost use lib.ListN.{length, take, drop};
 ghost use Rattle.array.specs.Buffers.{over, overAt};
 ghost use Rattle.codec.specs.Frame.{countSet};
 ghost use Rattle.codec.specs.Spread.{spread};
-ghost use Rattle.codec.specs.Stored.{maskIn, planesBelow, MasksWithin};
+ghost use Rattle.codec.specs.Stored.{maskIn, planesBelow};
+ghost use Rattle.decode.specs.Reads.{LevelsWithin, PlanesWithin};
 
 // Spreads the stored mask at `at` over the plane of n cells at `from`, into the plane at `to` behind it.
 pub fn place_plane(masks: &mut [u8], from: usize, to: usize, n: usize, s: &[u8], at: usize)
@@ -33,7 +34,7 @@ pub fn place_plane(masks: &mut [u8], from: usize, to: usize, n: usize, s: &[u8],
 
 // Places the planes below the one that ends at `to`, in which `cells` are set: `left` levels, the next frame being at `at`.
 pub fn place_levels(masks: &mut [u8], n: usize, to: usize, left: usize, s: &[u8], at: usize, cells: usize)
-    requires { ⌜ (n ≤ to) × (to + left * n ≤ length (now masks)) × (cells ≡ countSet (take n (drop (to - n) (now masks)))) × MasksWithin left (now s) at cells ⌝ }
+    requires { ⌜ LevelsWithin (now masks) n to left (now s) at cells ⌝ }
     ensures { λ _. ⌜ now (masks .exit) ≡ overAt to (planesBelow (take n (drop (to - n) (now (masks .entry)))) left (now (s .entry)) at cells) (now (masks .entry)) ⌝ }
 {
     if left == 0 {
@@ -52,7 +53,7 @@ pub fn place_levels(masks: &mut [u8], n: usize, to: usize, left: usize, s: &[u8]
 
 // Places the planes of all levels.
 pub fn place_planes(masks: &mut [u8], n: usize, depth: usize, s: &[u8])
-    requires { ⌜ (1 ≤ n) × (1 ≤ depth) × (depth * n ≤ length (now masks)) × MasksWithin depth (now s) 0 n ⌝ }
+    requires { ⌜ PlanesWithin (now masks) n depth (now s) ⌝ }
     ensures { λ _. ⌜ now (masks .exit) ≡ over (maskIn (now (s .entry)) 0 n
         ++ planesBelow (maskIn (now (s .entry)) 0 n) (depth - 1) (now (s .entry)) (0 + (16 + n)) (countSet (maskIn (now (s .entry)) 0 n))) (now (masks .entry)) ⌝ }
 {
