@@ -12,7 +12,7 @@ use borrow.Author.Tests.{eqb-true, ltb-true, ltb-false}
 use Rattle.array.specs.Answer.{Answer, gives, refuses, unless}
 use Rattle.array.specs.Bytes.{unle}
 use Rattle.array.specs.Kind.{Place, atStart, atEnd}
-use Rattle.array.specs.Offsets.{last, lastFrom, RisingFrom, risingTest, risingFromTest}
+use Rattle.array.specs.Offsets.{last, lastFrom, RisingFrom, risingTest}
 use Rattle.array.specs.Content.{RaggedContent, sizeTest}
 use Rattle.array.proofs.Rules.{rising-ok}
 use Rattle.codec.specs.Ragged.{dataTest, dataFor, checkRagged, getRagged}

@@ -1,6 +1,6 @@
 -- The outcomes of the need and of the copying, by the parts of the content: which output is too short, or that all was written.
 -- Assumes nothing.
-use mathlib.Core.Path.{_≡_, refl, sym, ap, _∙_}
+use mathlib.Core.Path.{_≡_, refl, sym, ap}
 use mathlib.Core.Bool.{Bool, true, false, _&&_}
 use mathlib.Core.List.{List}
 use Prim.Native.Nat.{ℕ, _≤_, _<_}
@@ -11,7 +11,7 @@ use borrow.Author.Tests.{lt-leb}
 use Rattle.array.specs.declared.answer.WrittenArray.the-variants.{Lengths, Refused}
 use Rattle.array.specs.Answer.{Answer, gives, refuses, unless}
 use Rattle.array.specs.Content.{Content}
-use Rattle.array.specs.Buffers.{over, lengthsOf, contentOutcome, enoughTest}
+use Rattle.array.specs.Buffers.{over, lengthsOf, contentOutcome}
 use Rattle.array.proofs.Rules.{enough-test}
 use Rattle.codec.specs.Outcomes.{lent, outcomeArray, ifEnough, readOutcome}
 

@@ -13,7 +13,7 @@ use Rattle.array.specs.Answer.{Answer, gives, refuses, andThen, unless}
 use Rattle.array.specs.Limits.{mostCells, mostDepth, mostSize}
 use Rattle.array.specs.Lists.{joined, pieces}
 use Rattle.array.specs.Kind.{Order, fixed, ordered}
-use Rattle.array.specs.Cells.{Value, Cell}
+use Rattle.array.specs.Cells.{Cell}
 use Rattle.array.specs.Content.{layout}
 use Rattle.codec.specs.Mask.{byteMask}
 use Rattle.codec.specs.Frame.{countSet}
@@ -23,7 +23,7 @@ use Rattle.codec.specs.Walk.{Innermost, valuesAt, noneSet, walked}
 use Rattle.codec.specs.Stored.{cellsFrom, answerBy, innermostCount}
 use Rattle.codec.specs.Calls.{readIn}
 use Rattle.codec.proofs.Reading.{read-walked}
-use Rattle.codec.proofs.Walks.{WalkPassed, walk-values, walk-none, values-flat, none-deep, passed-count}
+use Rattle.codec.proofs.Walks.{walk-values, walk-none, values-flat, none-deep, passed-count}
 use Rattle.decode.specs.Reads.{fixedFrom, FixedWithin}
 use Rattle.decode.proofs.SpreadingValues.{valuesLeft, values-length}
 use Rattle.decode.proofs.CopyingCells.{cellsLeft, cells-length}

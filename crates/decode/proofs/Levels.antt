@@ -2,7 +2,7 @@
 -- Assumes nothing.
 use mathlib.Core.Path.{_≡_, refl, sym, ap, ap₂, _∙_, subst}
 use mathlib.Core.Logic.{_≢_}
-use mathlib.Core.List.{List, [], _∷_, _++_, append-assoc, append-nil}
+use mathlib.Core.List.{List, _++_, append-assoc, append-nil}
 use Prim.Native.Nat.{ℕ, zero, suc, _+_, _-_, _*_, _≤_}
 use native.Mathlib.Omega.{arith}
 use native.Mathlib.Nat.{suc-mul, zero-mul}
@@ -151,7 +151,7 @@ module _ {d : List ℕ} {n to left : ℕ} {s : List ℕ} {at cells : ℕ} (l : L
           let y : List ℕ = planesBelow q (left - 1) s (at + (16 + cells)) (countSet (maskIn s at cells)) in
           let ea : at + 16 + z ≡ at + (16 + cells) = omega arith in
           let ey : planesBelow (take n (drop (to + n - n) out)) (left - 1) s (at + 16 + z) set ≡ y =
-              ap₂ (λ (p : List ℕ) (k : ℕ). planesBelow p (left - 1) s k set) next-plane ea ∙ ap (planesBelow q (left - 1) s (at + (16 + cells))) set-is in
+          ap₂ (λ (p : List ℕ) (k : ℕ). planesBelow p (left - 1) s k set) next-plane ea ∙ ap (planesBelow q (left - 1) s (at + (16 + cells))) set-is in
           let lf : length (take to d ++ q) ≡ to + n = omega (arith, length-append (take to d) q, length-take-le to d (omega (arith, l .room)), long) in
           e ∙ ap₂ (overAt (to + n)) ey out-is ∙ over-again (take to d ++ q) y d (to + n) lf ∙ ap (λ (l : List ℕ). over l d) (append-assoc (take to d) q y)
           ∙ ap (λ (l : List ℕ). overAt to l d) (sym (below-step left (take n (drop (to - n) d)) s at cells f))

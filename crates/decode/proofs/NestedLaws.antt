@@ -2,7 +2,7 @@
 -- Assumes nothing.
 use mathlib.Core.Path.{_≡_, refl, sym, ap, ap₂, _∙_}
 use mathlib.Core.Logic.{_≢_}
-use mathlib.Core.List.{List, [], _∷_, _++_, map}
+use mathlib.Core.List.{List, [], _∷_, _++_}
 use Prim.Native.Nat.{ℕ, zero, suc, _+_, _-_, _*_, _≤_}
 use native.Mathlib.Omega.{arith}
 use native.Mathlib.Nat.{add-zero, zero-mul}
@@ -10,7 +10,7 @@ use lib.ListN.{length, take, drop, length-drop}
 use lib.Seq.{length-take-le, drop-drop, take-add, take-take}
 use Rattle.array.specs.Answer.{Answer, gives, refuses, andThen}
 use Rattle.array.specs.Limits.{mostCells, mostDepth}
-use Rattle.array.specs.Lists.{joined, pieces, All}
+use Rattle.array.specs.Lists.{joined, All}
 use Rattle.array.specs.Bytes.{unle}
 use Rattle.array.specs.Kind.{Place, ragged}
 use Rattle.array.specs.Offsets.{RisingFrom, lastFrom, slices, slicesFrom, ends, offsetsOf}
@@ -29,7 +29,7 @@ use Rattle.codec.specs.Outcomes.{lent}
 use Rattle.codec.specs.Calls.{readIn}
 use Rattle.codec.proofs.SpreadLaws.{length-spread}
 use Rattle.codec.proofs.Reading.{read-walked}
-use Rattle.codec.proofs.Walks.{WalkPassed, walk-none, none-deep, passed-count}
+use Rattle.codec.proofs.Walks.{walk-none, none-deep, passed-count}
 use Rattle.codec.proofs.IndexLaws.{drop-take}
 use Rattle.decode.specs.Ends.{endsBy}
 use Rattle.decode.specs.Reads.{nestedFrom, NestedWithin, raggedFrom}

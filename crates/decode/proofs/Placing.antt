@@ -72,10 +72,11 @@ module _ {d : List ℕ} {from to n : ℕ} {s : List ℕ} {at : ℕ} {out : List 
         (omega (arith, l .enough, count-null (planeAt from n d) i inside b), spread-null 0 (planeAt from n d) i (drop j s) inside b)
     next isSet e =
         let b = set-byte (getD (planeAt from n d) i 0) e in
-        let more : suc j + countSet (drop (i + 1) (planeAt from n d)) ≤ length s = omega (arith, l .enough, count-more (planeAt from n d) i inside b) in
-        (omega arith,
-        ap (spread 0 (drop i (planeAt from n d))) (drop-cons s j 0 (omega arith)) ∙ spread-set 0 (planeAt from n d) i (getD s j 0) (drop (suc j) s) inside b
-        ∙ ap (λ (k : ℕ). getD s j 0 ∷ spread 0 (drop (i + 1) (planeAt from n d)) (drop k s)) (sym (add-one j)))
+        let more : suc j + countSet (drop (i + 1) (planeAt from n d)) ≤ length s = omega (arith, l .enough, count-more (planeAt from n d) i inside b) in (
+          omega arith,
+          ap (spread 0 (drop i (planeAt from n d))) (drop-cons s j 0 (omega arith)) ∙ spread-set 0 (planeAt from n d) i (getD s j 0) (drop (suc j) s) inside b
+              ∙ ap (λ (k : ℕ). getD s j 0 ∷ spread 0 (drop (i + 1) (planeAt from n d)) (drop k s)) (sym (add-one j)),
+        )
 
     pub placing-source : nextAt m j 1 ≤ length s
     placing-source = omega (arith, next m mark-is .0)

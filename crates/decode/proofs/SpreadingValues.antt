@@ -1,6 +1,6 @@
 -- The loop that writes the values of a plane's cells: what is left to write, turn by turn.
 -- Assumes nothing.
-use mathlib.Core.Path.{_≡_, refl, sym, ap, _∙_}
+use mathlib.Core.Path.{_≡_, sym, ap, _∙_}
 use mathlib.Core.List.{List, [], _∷_, _++_, map}
 use Prim.Native.Nat.{ℕ, zero, suc, _+_, _*_, _≤_, _<_}
 use native.Mathlib.Omega.{arith}
@@ -76,18 +76,20 @@ module _ {size : ℕ} {o : Order} {p s d : List ℕ} {at : ℕ} {out : List ℕ}
         × (valuesLeft size o p s i j ≡ valueFor m size o (drop j s) ++ valuesLeft size o p s (i + 1) (nextAt m j size))
     next isNull e =
         let b : getD p i 0 ≡ 0 = null-byte (getD p i 0) (sym e) in
-        let c = count-null p i h b in
-        (omega (arith, v .enough, ap (λ (k : ℕ). k * size) c),
-        ap joined (spread-null (replicate size 0) p i (map (ordered o) (pieces size (countSet (drop i p)) (drop j s))) h b
-        ∙ ap (λ (k : ℕ). replicate size 0 ∷ spread (replicate size 0) (drop (i + 1) p) (map (ordered o) (pieces size k (drop j s)))) c))
+        let c = count-null p i h b in (
+          omega (arith, v .enough, ap (λ (k : ℕ). k * size) c),
+          ap joined (spread-null (replicate size 0) p i (map (ordered o) (pieces size (countSet (drop i p)) (drop j s))) h b
+              ∙ ap (λ (k : ℕ). replicate size 0 ∷ spread (replicate size 0) (drop (i + 1) p) (map (ordered o) (pieces size k (drop j s)))) c),
+        )
     next isSet e =
         let b = set-byte (getD p i 0) (sym e) in
         let c = count-more p i h b in
-        let k : ℕ = countSet (drop (i + 1) p) in
-        (omega (arith, v .enough, ap (λ (k : ℕ). k * size) c, suc-mul k size),
-        ap joined (ap (λ (k : ℕ). spread (replicate size 0) (drop i p) (map (ordered o) (pieces size k (drop j s)))) c
-        ∙ spread-set (replicate size 0) p i (ordered o (take size (drop j s))) (map (ordered o) (pieces size k (drop size (drop j s)))) h b
-        ∙ ap (λ (q : List ℕ). ordered o (take size (drop j s)) ∷ spread (replicate size 0) (drop (i + 1) p) (map (ordered o) (pieces size k q))) (drop-drop size j s)))
+        let k : ℕ = countSet (drop (i + 1) p) in (
+          omega (arith, v .enough, ap (λ (k : ℕ). k * size) c, suc-mul k size),
+          ap joined (ap (λ (k : ℕ). spread (replicate size 0) (drop i p) (map (ordered o) (pieces size k (drop j s)))) c
+              ∙ spread-set (replicate size 0) p i (ordered o (take size (drop j s))) (map (ordered o) (pieces size k (drop size (drop j s)))) h b
+              ∙ ap (λ (q : List ℕ). ordered o (take size (drop j s)) ∷ spread (replicate size 0) (drop (i + 1) p) (map (ordered o) (pieces size k q))) (drop-drop size j s)),
+        )
 
     module _ (m : Mark) (e : m ≡ markOf (getD p i 0)) where
       pub values-source : nextAt m j size ≤ length s

@@ -1,13 +1,13 @@
 -- The stages of the call: what it leaves behind where the kind or the shape is refused, and that else the reading decides.
 -- Assumes nothing.
-use mathlib.Core.Path.{_≡_, refl, sym, ap, ap₂, _∙_, subst}
+use mathlib.Core.Path.{_≡_, refl, sym, ap₂, _∙_, subst}
 use mathlib.Core.Bool.{Bool, true, false}
 use mathlib.Core.List.{List, [], _∷_}
-use Prim.Native.Nat.{ℕ, _*_, _≤_}
+use Prim.Native.Nat.{ℕ, _≤_}
 use native.Mathlib.Nat.{le-refl, mul-le-mul}
 use native.Mathlib.Omega.{arith}
 use Rattle.array.specs.declared.answer.WrittenArray.the-variants.{Refused}
-use Rattle.array.specs.Answer.{Answer, gives, refuses, andThen, unless}
+use Rattle.array.specs.Answer.{gives, refuses, andThen, unless}
 use Rattle.array.specs.Limits.{mostCells}
 use Rattle.array.specs.Lists.{All}
 use Rattle.array.specs.Kind.{Kind, Form, kindTest}

@@ -7,7 +7,6 @@ use array::kind::ByteOrder;
 use array::refusal;
 use codec::optional::Walked;
 use codec::optional::walk_content;
-
 ghost use mathlib.Core.Path.{_≡_};
 ghost use Prim.Native.Nat.{_≤_};
 ghost use Rattle.array.specs.Answer.{gives};
@@ -20,7 +19,18 @@ ghost use Rattle.codec.specs.Outcomes.{lent, outcomeArray, readOutcome};
 ghost use Rattle.decode.specs.Reads.{fixedFrom, FixedWithin};
 
 // Writes what the walk found: `cells` values from `at` on, for an array of n cells.
-pub fn write_fixed(s: &[u8], n: usize, depth: usize, size: usize, order: ByteOrder, at: usize, cells: usize, masks: &mut [u8], values: &mut [u8], offsets: &mut [u64]) -> WrittenArray
+pub fn write_fixed(
+    s: &[u8],
+    n: usize,
+    depth: usize,
+    size: usize,
+    order: ByteOrder,
+    at: usize,
+    cells: usize,
+    masks: &mut [u8],
+    values: &mut [u8],
+    offsets: &mut [u64],
+) -> WrittenArray
     requires { ⌜ FixedWithin depth (now s) n at cells size ⌝ }
     ensures { λ r. ⌜ outcomeArray r (now (masks .exit)) (now (values .exit)) (now (offsets .exit))
         ≡ readOutcome (lent (now (masks .entry)) (now (values .entry)) (now (offsets .entry))) (gives (fixedFrom size (orderOf order) depth (now (s .entry)) n at cells)) ⌝ }
@@ -43,7 +53,16 @@ pub fn write_fixed(s: &[u8], n: usize, depth: usize, size: usize, order: ByteOrd
 }
 
 // Reads an array of n cells of a fixed size.
-pub fn decode_fixed(s: &[u8], n: usize, depth: usize, size: usize, order: ByteOrder, masks: &mut [u8], values: &mut [u8], offsets: &mut [u64]) -> WrittenArray
+pub fn decode_fixed(
+    s: &[u8],
+    n: usize,
+    depth: usize,
+    size: usize,
+    order: ByteOrder,
+    masks: &mut [u8],
+    values: &mut [u8],
+    offsets: &mut [u64],
+) -> WrittenArray
     requires { ⌜ (1 ≤ n) × (n ≤ mostCells) × (depth ≤ mostDepth) × (size ≤ mostSize) ⌝ }
     ensures { λ r. ⌜ outcomeArray r (now (masks .exit)) (now (values .exit)) (now (offsets .exit))
         ≡ readOutcome (lent (now (masks .entry)) (now (values .entry)) (now (offsets .entry))) (readIn byteMask (fixed size (orderOf order)) depth n (now (s .entry))) ⌝ }

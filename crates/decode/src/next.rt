@@ -1,6 +1,5 @@
 // One cell of a plane, by its mark: a set cell takes the next stored one.
 use codec::mask::Mark;
-
 ghost use mathlib.Core.Path.{_≡_};
 ghost use Prim.Native.Nat.{_≤_, _<_};
 ghost use lib.ListN.{length, getD};

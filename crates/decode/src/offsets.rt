@@ -5,7 +5,6 @@ use array::kind::IndexWidth;
 use array::kind::width_bytes;
 use codec::mask::Mark;
 use codec::mask::mark_of;
-
 ghost use mathlib.Core.Path.{_≡_};
 ghost use mathlib.Core.List.{_∷_};
 ghost use Prim.Native.Nat.{suc, _+_, _*_, _-_, _≤_};
@@ -54,7 +53,16 @@ pub fn next_end(s: &[u8], at: usize, width: IndexWidth, first: u64, end: u64, ma
 }
 
 // Writes the offsets of the n cells of the plane at `from`: the ends of the set ones are stored from `at` on.
-pub fn spread_offsets(offsets: &mut [u64], masks: &[u8], from: usize, n: usize, s: &[u8], at: usize, width: IndexWidth, first: u64)
+pub fn spread_offsets(
+    offsets: &mut [u64],
+    masks: &[u8],
+    from: usize,
+    n: usize,
+    s: &[u8],
+    at: usize,
+    width: IndexWidth,
+    first: u64,
+)
     requires { ⌜ (from + n ≤ length (now masks)) × (n + 1 ≤ length (now offsets)) × (at + countSet (take n (drop from (now masks))) * widthOf width ≤ length (now s))
         × All (λ o. first ≤ o) (offsetsIn (widthOf width) (countSet (take n (drop from (now masks)))) (drop at (now s))) ⌝ }
     ensures { λ _. ⌜ now (offsets .exit) ≡ over (0 ∷ endsBy first 0 (take n (drop from (now (masks .entry))))

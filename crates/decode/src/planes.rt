@@ -6,7 +6,6 @@ use array::copy::fill_bytes;
 use codec::mask::count_set;
 use codec::mask::mark_of;
 use codec::mask::mask_length;
-
 ghost use mathlib.Core.Path.{_≡_};
 ghost use mathlib.Core.List.{_++_};
 ghost use Prim.Native.Nat.{_+_, _-_, _≤_};
@@ -33,7 +32,15 @@ pub fn place_plane(masks: &mut [u8], from: usize, to: usize, n: usize, s: &[u8],
 }
 
 // Places the planes below the one that ends at `to`, in which `cells` are set: `left` levels, the next frame being at `at`.
-pub fn place_levels(masks: &mut [u8], n: usize, to: usize, left: usize, s: &[u8], at: usize, cells: usize)
+pub fn place_levels(
+    masks: &mut [u8],
+    n: usize,
+    to: usize,
+    left: usize,
+    s: &[u8],
+    at: usize,
+    cells: usize,
+)
     requires { ⌜ LevelsWithin (now masks) n to left (now s) at cells ⌝ }
     ensures { λ _. ⌜ now (masks .exit) ≡ overAt to (planesBelow (take n (drop (to - n) (now (masks .entry)))) left (now (s .entry)) at cells) (now (masks .entry)) ⌝ }
 {

@@ -13,7 +13,6 @@ use codec::optional::walk_content;
 use codec::vlen::Indexed;
 use codec::vlen::check_ragged;
 use codec::vlen::index_length;
-
 ghost use mathlib.Core.Path.{_≡_};
 ghost use mathlib.Core.List.{[]};
 ghost use Prim.Native.Nat.{suc, _+_, _*_, _≤_};
@@ -30,7 +29,17 @@ ghost use Rattle.codec.specs.Outcomes.{lent, outcomeArray, readOutcome};
 ghost use Rattle.decode.specs.Reads.{nestedFrom, NestedWithin, raggedFrom};
 
 // Values with no mask: offsets and bytes just as they are, the index at `index` and the data at `from`.
-pub fn write_flat(s: &[u8], n: usize, width: IndexWidth, index: usize, from: usize, last: u64, masks: &mut [u8], values: &mut [u8], offsets: &mut [u64]) -> WrittenArray
+pub fn write_flat(
+    s: &[u8],
+    n: usize,
+    width: IndexWidth,
+    index: usize,
+    from: usize,
+    last: u64,
+    masks: &mut [u8],
+    values: &mut [u8],
+    offsets: &mut [u64],
+) -> WrittenArray
     requires { ⌜ (n ≤ mostCells) × (index + (widthOf width + n * widthOf width) ≤ length (now s)) × (from + last ≤ length (now s)) ⌝ }
     ensures { λ r. ⌜ outcomeArray r (now (masks .exit)) (now (values .exit)) (now (offsets .exit))
         ≡ readOutcome (lent (now (masks .entry)) (now (values .entry)) (now (offsets .entry)))
@@ -50,7 +59,20 @@ pub fn write_flat(s: &[u8], n: usize, width: IndexWidth, index: usize, from: usi
 }
 
 // Values below masks, end to end from 0: the ends of the set cells are stored at `ends`, their bytes lie from `from` + first to `from` + last.
-pub fn write_nested(s: &[u8], n: usize, depth: usize, width: IndexWidth, ends: usize, from: usize, cells: usize, first: u64, last: u64, masks: &mut [u8], values: &mut [u8], offsets: &mut [u64]) -> WrittenArray
+pub fn write_nested(
+    s: &[u8],
+    n: usize,
+    depth: usize,
+    width: IndexWidth,
+    ends: usize,
+    from: usize,
+    cells: usize,
+    first: u64,
+    last: u64,
+    masks: &mut [u8],
+    values: &mut [u8],
+    offsets: &mut [u64],
+) -> WrittenArray
     requires { ⌜ NestedWithin depth (widthOf width) (now s) n ends from cells first last ⌝ }
     ensures { λ r. ⌜ outcomeArray r (now (masks .exit)) (now (values .exit)) (now (offsets .exit))
         ≡ readOutcome (lent (now (masks .entry)) (now (values .entry)) (now (offsets .entry)))
@@ -76,7 +98,20 @@ pub fn write_nested(s: &[u8], n: usize, depth: usize, width: IndexWidth, ends: u
 }
 
 // Writes what the walk and the check found.
-pub fn write_ragged(s: &[u8], n: usize, depth: usize, width: IndexWidth, index: usize, from: usize, cells: usize, first: u64, last: u64, masks: &mut [u8], values: &mut [u8], offsets: &mut [u64]) -> WrittenArray
+pub fn write_ragged(
+    s: &[u8],
+    n: usize,
+    depth: usize,
+    width: IndexWidth,
+    index: usize,
+    from: usize,
+    cells: usize,
+    first: u64,
+    last: u64,
+    masks: &mut [u8],
+    values: &mut [u8],
+    offsets: &mut [u64],
+) -> WrittenArray
     requires { ⌜ (1 ≤ n) × (n ≤ mostCells) × (depth ≤ mostDepth) × MasksWithin depth (now s) 0 n × (cells ≡ innermostCount depth (now s) n)
         × IndexWithin (widthOf width) (now s) cells index from first last ⌝ }
     ensures { λ r. ⌜ outcomeArray r (now (masks .exit)) (now (values .exit)) (now (offsets .exit))
@@ -86,12 +121,34 @@ pub fn write_ragged(s: &[u8], n: usize, depth: usize, width: IndexWidth, index: 
     if depth == 0 {
         write_flat(s, cells, width, index, from, last, masks, values, offsets)
     } else {
-        write_nested(s, n, depth, width, index + width_bytes(width), from, cells, first, last, masks, values, offsets)
+        write_nested(
+            s,
+            n,
+            depth,
+            width,
+            index + width_bytes(width),
+            from,
+            cells,
+            first,
+            last,
+            masks,
+            values,
+            offsets,
+        )
     }
 }
 
 // Reads an array of n cells with ragged values.
-pub fn decode_ragged(s: &[u8], n: usize, depth: usize, width: IndexWidth, place: IndexPlace, masks: &mut [u8], values: &mut [u8], offsets: &mut [u64]) -> WrittenArray
+pub fn decode_ragged(
+    s: &[u8],
+    n: usize,
+    depth: usize,
+    width: IndexWidth,
+    place: IndexPlace,
+    masks: &mut [u8],
+    values: &mut [u8],
+    offsets: &mut [u64],
+) -> WrittenArray
     requires { ⌜ (1 ≤ n) × (n ≤ mostCells) × (depth ≤ mostDepth) ⌝ }
     ensures { λ r. ⌜ outcomeArray r (now (masks .exit)) (now (values .exit)) (now (offsets .exit))
         ≡ readOutcome (lent (now (masks .entry)) (now (values .entry)) (now (offsets .entry)))
@@ -108,8 +165,34 @@ pub fn decode_ragged(s: &[u8], n: usize, depth: usize, width: IndexWidth, place:
                 Indexed::Span(first, last) => {
                     let index = index_length(cells, width);
                     match place {
-                        IndexPlace::Start => write_ragged(s, n, depth, width, at + 8, at + (8 + index), cells, first, last, masks, values, offsets),
-                        IndexPlace::End => write_ragged(s, n, depth, width, at + (s.len() - at - 8 - index), at, cells, first, last, masks, values, offsets),
+                        IndexPlace::Start => write_ragged(
+                            s,
+                            n,
+                            depth,
+                            width,
+                            at + 8,
+                            at + (8 + index),
+                            cells,
+                            first,
+                            last,
+                            masks,
+                            values,
+                            offsets,
+                        ),
+                        IndexPlace::End => write_ragged(
+                            s,
+                            n,
+                            depth,
+                            width,
+                            at + (s.len() - at - 8 - index),
+                            at,
+                            cells,
+                            first,
+                            last,
+                            masks,
+                            values,
+                            offsets,
+                        ),
                     }
                 }
             }

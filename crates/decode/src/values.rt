@@ -5,7 +5,6 @@ use array::endian::copy_reversed;
 use array::kind::ByteOrder;
 use codec::mask::Mark;
 use codec::mask::mark_of;
-
 ghost use mathlib.Core.Path.{_≡_};
 ghost use mathlib.Core.List.{map};
 ghost use Prim.Native.Nat.{_+_, _*_, _≤_};
@@ -31,7 +30,15 @@ pub fn put_cell(out: &mut [u8], to: usize, s: &[u8], at: usize, size: usize, ord
 }
 
 // Writes the value of a cell with this mark, and says where the next stored value is.
-pub fn put_next(out: &mut [u8], to: usize, s: &[u8], at: usize, size: usize, order: ByteOrder, mark: Mark) -> usize
+pub fn put_next(
+    out: &mut [u8],
+    to: usize,
+    s: &[u8],
+    at: usize,
+    size: usize,
+    order: ByteOrder,
+    mark: Mark,
+) -> usize
     requires { ⌜ (to + size ≤ length (now «out»)) × (nextAt (toldMark mark) at size ≤ length (now s)) ⌝ }
     ensures { λ r. ⌜ r ≡ nextAt (toldMark mark) at size ⌝ }
     ensures { λ _. ⌜ now («out» .exit) ≡ overAt to (valueFor (toldMark mark) size (orderOf order) (drop at (now (s .entry)))) (now («out» .entry)) ⌝ }
@@ -49,7 +56,16 @@ pub fn put_next(out: &mut [u8], to: usize, s: &[u8], at: usize, size: usize, ord
 }
 
 // Writes the values of the n cells of the plane at `from`: the set ones from `at` on, the others as zero bytes.
-pub fn spread_values(values: &mut [u8], masks: &[u8], from: usize, n: usize, s: &[u8], at: usize, size: usize, order: ByteOrder)
+pub fn spread_values(
+    values: &mut [u8],
+    masks: &[u8],
+    from: usize,
+    n: usize,
+    s: &[u8],
+    at: usize,
+    size: usize,
+    order: ByteOrder,
+)
     requires { ⌜ (from + n ≤ length (now masks)) × (n * size ≤ length (now values)) × (at + countSet (take n (drop from (now masks))) * size ≤ length (now s)) ⌝ }
     ensures { λ _. ⌜ now (values .exit) ≡ over (joined (spread (replicate size 0) (take n (drop from (now (masks .entry))))
         (map (ordered (orderOf order)) (pieces size (countSet (take n (drop from (now (masks .entry))))) (drop at (now (s .entry))))))) (now (values .entry)) ⌝ }

@@ -1,8 +1,11 @@
+-- `write_fixed` meets its contract: masks, values and their lengths are those of the definition (FixedLaws), too short outputs by Outcomes.
+-- Assumes nothing.
 use mathlib.Core.Path.{_≡_, sym, ap, _∙_, subst}
 use mathlib.Core.List.{List, []}
 use Prim.Native.Nat.{ℕ, _+_, _-_, _*_, _≤_}
 use native.Mathlib.Omega.{arith}
 use lib.ListN.{length, take, drop}
+use borrow.Author.Needs.{needs}
 use Rattle.array.specs.Buffers.{over}
 use Rattle.array.specs.Content.{Content}
 use Rattle.array.specs.Meaning.{orderOf}
@@ -14,16 +17,9 @@ use Rattle.decode.proofs.SpreadingValues.{valuesLeft}
 use Rattle.decode.proofs.Levels.{times-first}
 use Rattle.decode.proofs.AllPlanes.{innermostIn, innermost-read}
 use Rattle.decode.proofs.FixedLaws.{fixed-masks, fixed-count, fixed-values, flat-count, flat-masks, flat-values, fixed-masks-long, fixed-values-long, fixed-offsets}
-use borrow.Author.Needs.{needs}
 use Rattle.decode.proofs.fixed.write_fixed.Statement.{statement}
 use Rattle.decode.proofs.fixed.write_fixed.Tie as tie
-use Rattle.decode.proofs.fixed.write_fixed.Reads as reads
-use Rattle.decode.proofs.fixed.write_fixed.Lts as lts
-use Rattle.decode.proofs.planes.place_planes.Reads as place-planes-reads
-use Rattle.decode.proofs.values.copy_cells.Reads as copy-cells-reads
-use Rattle.decode.proofs.values.spread_values.Reads as spread-values-reads
 
--- what is to be written
 abbrev given : tie.Start → Content
 given c =
     let a = c .args in
@@ -53,44 +49,37 @@ first-is c =
     let args = c .before .before .before .before .before .before .before .args in
     times-first (args .depth) (args .n) (c .if3 .left)
 
--- src/fixed.rt:28:18
 mul-planes : tie.Need-mul-planes
 mul-planes c =
     let args = c .before .before .before .before .args in
     let pre = c .before .before .before .before .pre in
     omega (arith, planes-small (args .depth) (args .n) (pre .shallow) (pre .few))
 
--- src/fixed.rt:29:17
 mul-bytes : tie.Need-mul-bytes
 mul-bytes c =
     let args = c .before .before .before .before .args in
     let pre = c .before .before .before .before .pre in
     omega (arith, bytes-small (args .n) (args .size) (pre .few) (pre .small))
 
--- src/fixed.rt:31:9
 returns : tie.Need-returns
 returns c =
     let args = c .before .before .before .before .before .args in
     short-masks (given (c .before .before .before .before .before)) (args .masks .now) (args .values .now) (args .offsets .now) (omega (arith, (masks-long (c .before))))
 
--- src/fixed.rt:34:9
 returns-2 : tie.Need-returns-2
 returns-2 c =
     let args = c .before .before .before .before .before .before .args in
     short-values (given (c .before .before .before .before .before .before)) (args .masks .now) (args .values .now) (args .offsets .now) (omega (arith, (values-long (c .before .before))))
 
--- src/fixed.rt:37:9
 copy-cells-requires : tie.Need-copy-cells-requires
 copy-cells-requires c κs =
     let args = c .before .before .before .before .before .before .before .before .args in
     let pre = c .before .before .before .before .before .before .before .before .pre in
     (omega (arith, ap (λ (j : ℕ). j * args .size) (flat-count (orderOf (args .order)) (pre) (c .before .if3 .taken))), pre .room)
 
--- src/fixed.rt:38:9
 same-length : tie.Need-same-length
 same-length c = search needs
 
--- src/fixed.rt:38:9
 returns-3 : tie.Need-returns-3
 returns-3 c =
     let args = c .before .before .before .before .before .before .before .before .before .before .before .args in
@@ -102,29 +91,23 @@ returns-3 c =
     (c .before .before .copy-cells .ensures ∙ sym (ap (λ (p : List ℕ). over p (args .values .now)) (flat-values (orderOf (args .order)) (pre) (if3 .taken))))
     (sym (ap (λ (p : List ℕ). over p (args .offsets .now)) (no-offsets (c .before .before .before .before .before .before .before))))
 
--- src/fixed.rt:40:5
 place-planes-requires : tie.Need-place-planes-requires
 place-planes-requires c κs = search needs
 
--- src/fixed.rt:41:34
 sub-spread-values : tie.Need-sub-spread-values
 sub-spread-values c = omega (arith, (first-is (c .before .before .before .before .before .before)))
 
--- src/fixed.rt:41:5
 spread-values-requires : tie.Need-spread-values-requires
 spread-values-requires c κs =
     let args = c .before .before .before .before .before .before .before .before .before .before .before .before .before .args in
     (omega (arith, (first-is (c .before .before .before .before .before .before)), c .before .before .before .before .place-planes .kept .0), omega arith, subst (λ (j : ℕ). args .at + j * args .size ≤ length (args .s .now)) (count-is (c .before .before .before .before)) (c .before .before .before .before .before .before .before .before .before .before .before .before .before .pre .room))
 
--- src/fixed.rt:23:1
 same-length-2 : tie.Need-same-length-2
 same-length-2 c = search needs
 
--- src/fixed.rt:23:1
 same-length-3 : tie.Need-same-length-3
 same-length-3 c = search needs
 
--- src/fixed.rt:23:1
 returns-4 : tie.Need-returns-4
 returns-4 c =
     let args = c .before .before .before .before .before .before .before .before .before .before .before .before .before .before .before .before .args in

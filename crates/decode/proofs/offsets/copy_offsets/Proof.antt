@@ -1,19 +1,16 @@
-use borrow.Author.Needs.{needs}
+-- `copy_offsets` meets its contract, by the laws of CopyingOffsets.
+-- Assumes nothing.
 use mathlib.Core.Path.{_≡_, sym, ap, _∙_, subst}
-use mathlib.Core.List.{List}
 use Prim.Native.Nat.{ℕ, suc, _+_, _*_, _-_, _≤_, _<_}
 use native.Mathlib.Omega.{arith}
 use lib.ListN.{length, take, drop}
+use borrow.Author.Needs.{needs}
 use Rattle.array.specs.Bytes.{unle}
 use Rattle.array.specs.Buffers.{over}
 use Rattle.codec.specs.Index.{offsetsIn}
 use Rattle.decode.proofs.CopyingOffsets.{CopyingOffsets, offsets-begin, offsets-same, offsets-end, offsets-source, offsets-room, offsets-more}
 use Rattle.decode.proofs.offsets.copy_offsets.Statement.{statement}
 use Rattle.decode.proofs.offsets.copy_offsets.Tie as tie
-use Rattle.decode.proofs.offsets.copy_offsets.Reads as reads
-use Rattle.decode.proofs.offsets.copy_offsets.Lts as lts
-use Rattle.array.proofs.field.le_at.Reads as le-at-reads
-use Rattle.array.proofs.kind.width_bytes.Reads as width-bytes-reads
 
 abbrev Inv-loop : tie.InvT-loop
 Inv-loop offsets₀ s at n width w left₀ i₀ j₀ offsets left i j = CopyingOffsets w n s offsets₀ at offsets left i j
@@ -30,15 +27,12 @@ room c = offsets-room (c .before .loop .inv) (c .loop-test .taken)
 source : (c : tie.In-loop Inv-loop μ-loop) → c .before .loop .j + c .before .before .width-bytes .result ≤ length (c .before .before .before .before .before .args .s .now)
 source c = omega (arith, offsets-source (c .before .loop .inv) (c .loop-test .taken))
 
--- src/offsets.rt:29:9
 width-bytes-requires : tie.Need-width-bytes-requires Inv-loop μ-loop
 width-bytes-requires c κs = search needs
 
--- src/offsets.rt:30:20
 add-left : tie.Need-add-left Inv-loop μ-loop
 add-left c = omega arith
 
--- src/offsets.rt:33:5
 loop-holds : tie.Need-loop-holds Inv-loop μ-loop
 loop-holds c =
     let width-bytes = c .width-bytes in
@@ -46,45 +40,35 @@ loop-holds c =
     let pre = c .before .before .before .pre in
     offsets-begin (width-bytes .result) (args .n) (args .s .now) (args .offsets .now) (args .at) (subst (λ (w : ℕ). args .at + (w + args .n * w) ≤ length (args .s .now)) (sym (width-bytes .ensures)) (pre .0)) (pre .1)
 
--- src/offsets.rt:34:13
 le-at-requires : tie.Need-le-at-requires Inv-loop μ-loop
 le-at-requires c κs = omega (arith, (source c), c .before .before .width-bytes .ensures)
 
--- src/offsets.rt:35:9
 mul-offsets : tie.Need-mul-offsets Inv-loop μ-loop
 mul-offsets c = omega (arith, (room (c .before)), (same (c .before .before)))
 
--- src/offsets.rt:35:9
 slice-write-offsets : tie.Need-slice-write-offsets Inv-loop μ-loop
 slice-write-offsets c = (room (c .before))
 
--- src/offsets.rt:36:9
 add-j : tie.Need-add-j Inv-loop μ-loop
 add-j c = omega (arith, (source (c .before)))
 
--- src/offsets.rt:37:9
 add-i : tie.Need-add-i Inv-loop μ-loop
 add-i c = omega (arith, (room (c .before)), (same (c .before .before)))
 
--- src/offsets.rt:38:9
 sub-left : tie.Need-sub-left Inv-loop μ-loop
 sub-left c = search needs
 
--- src/offsets.rt:33:5
 loop-less : tie.Need-loop-less Inv-loop μ-loop
 loop-less c = omega arith
 
--- src/offsets.rt:33:5
 loop-again : tie.Need-loop-again Inv-loop μ-loop
 loop-again c =
     let loop = c .before .before .loop in
     offsets-more (loop .inv) (c .before .loop-test .taken) (c .le-at .result) (c .le-at .ensures ∙ ap (λ (w : ℕ). unle (take w (drop (loop .j) (c .before .before .before .before .before .before .args .s .now)))) (sym (c .before .before .before .width-bytes .ensures)))
 
--- src/offsets.rt:25:1
 same-length : tie.Need-same-length Inv-loop μ-loop
 same-length c = (same (c .before))
 
--- src/offsets.rt:25:1
 returns : tie.Need-returns Inv-loop μ-loop
 returns c =
     let args = c .before .before .before .before .before .args in

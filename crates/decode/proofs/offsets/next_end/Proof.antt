@@ -1,41 +1,34 @@
-use mathlib.Core.Path.{_≡_, refl, ap}
+-- `next_end` meets its contract, by cases of the mark.
+-- Assumes nothing.
+use mathlib.Core.Path.{ap}
 use Prim.Native.Nat.{ℕ, _-_, _≤_}
 use native.Mathlib.Omega.{arith}
 use lib.ListN.{take, drop}
+use borrow.Author.Needs.{needs}
 use Rattle.array.specs.Bytes.{unle}
 use Rattle.array.specs.Meaning.{widthOf}
 use Rattle.codec.specs.Marks.{toldMark}
-use borrow.Author.Needs.{needs}
 use Rattle.decode.proofs.offsets.next_end.Statement.{statement}
 use Rattle.decode.proofs.offsets.next_end.Tie as tie
-use Rattle.decode.proofs.offsets.next_end.Reads as reads
-use Rattle.decode.proofs.offsets.next_end.Lts as lts
-use Rattle.array.proofs.field.le_at.Reads as le-at-reads
 
 from-first : (c : tie.After-enum-told2) → c .before .before .before .args .first ≤ unle (take (widthOf (c .before .before .before .args .width)) (drop (c .before .before .before .args .at) (c .before .before .before .args .s .now)))
 from-first c = c .before .before .before .pre .1 (ap toldMark (c .enum-told2 .given .1))
 
--- src/offsets.rt:48:23
 enum-told : tie.Need-enum-told
 enum-told c = search needs
 
--- src/offsets.rt:50:17
 enum-told-2 : tie.Need-enum-told-2
 enum-told-2 c = search needs
 
--- src/offsets.rt:50:17
 le-at-requires : tie.Need-le-at-requires
 le-at-requires c κs = omega (arith, rw (c .enum-told2 .given .1) at (c .before .before .before .pre .0))
 
--- src/offsets.rt:51:13
 sub-result : tie.Need-sub-result
 sub-result c = omega (arith, (from-first (c .before)), c .le-at .ensures)
 
--- src/offsets.rt:43:1
 returns : tie.Need-returns
 returns c = search needs
 
--- src/offsets.rt:43:1
 returns-2 : tie.Need-returns-2
 returns-2 c = rw (c .before .enum-told2 .given .1) (ap (λ (v : ℕ). v - c .before .before .before .before .args .first) (c .le-at .ensures))
 

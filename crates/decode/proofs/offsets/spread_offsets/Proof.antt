@@ -1,14 +1,14 @@
-use borrow.Author.Needs.{needs}
+-- `spread_offsets` meets its contract, by the laws of SpreadingOffsets.
+-- Assumes nothing.
 use mathlib.Core.Path.{_≡_, sym, ap, _∙_, subst}
-use mathlib.Core.List.{_∷_}
 use Prim.Native.Nat.{ℕ, _+_, _*_, _-_, _≤_, _<_}
 use native.Mathlib.Omega.{arith}
 use lib.ListN.{length, take, drop, getD, set, length-set}
+use borrow.Author.Needs.{needs}
 use Rattle.array.specs.Lists.{All}
 use Rattle.array.specs.Bytes.{unle}
 use Rattle.array.specs.Buffers.{over}
 use Rattle.array.specs.Cells.{markOf, isSet}
-use Rattle.array.specs.Meaning.{widthOf}
 use Rattle.codec.specs.Marks.{toldMark}
 use Rattle.codec.specs.Frame.{countSet}
 use Rattle.codec.specs.Index.{offsetsIn}
@@ -17,12 +17,6 @@ use Rattle.decode.proofs.Placing.{planeAt, plane-length, plane-byte}
 use Rattle.decode.proofs.SpreadingOffsets.{SpreadingOffsets, endsOf, ends-begin, ends-same, ends-room, ends-end, ends-source, ends-above, ends-more}
 use Rattle.decode.proofs.offsets.spread_offsets.Statement.{statement}
 use Rattle.decode.proofs.offsets.spread_offsets.Tie as tie
-use Rattle.decode.proofs.offsets.spread_offsets.Reads as reads
-use Rattle.decode.proofs.offsets.spread_offsets.Lts as lts
-use Rattle.array.proofs.kind.width_bytes.Reads as width-bytes-reads
-use Rattle.codec.proofs.mask.mark_of.Reads as mark-of-reads
-use Rattle.decode.proofs.next.skip.Reads as skip-reads
-use Rattle.decode.proofs.offsets.next_end.Reads as next-end-reads
 
 abbrev Inv-loop : tie.InvT-loop
 Inv-loop offsets₀ masks from n s at width first w end₀ i₀ j₀ offsets end i j = SpreadingOffsets w first (planeAt from n masks) s offsets₀ at offsets end i j
@@ -55,11 +49,9 @@ source c = ends-source (c .before .before .before .loop .inv) (inside (c .before
 ended : (c : tie.After-loop Inv-loop μ-loop) → c .before .before .before .before .before .before .args .n ≡ c .before .loop .i
 ended c = omega (arith, (long (c .before .before)), c .before .loop .inv .within)
 
--- src/offsets.rt:63:9
 width-bytes-requires : tie.Need-width-bytes-requires Inv-loop μ-loop
 width-bytes-requires c κs = search needs
 
--- src/offsets.rt:67:5
 loop-holds : tie.Need-loop-holds Inv-loop μ-loop
 loop-holds c =
     let width-bytes = c .width-bytes in
@@ -70,48 +62,39 @@ loop-holds c =
     (subst (λ (w : ℕ). All (λ o. args .first ≤ o) (offsetsIn w (countSet (planeAt (args .from) (args .n) (args .masks .now))) (drop (args .at) (args .s .now)))) (sym (width-bytes .ensures)) (pre .3))
     (omega (arith, (long c)))
 
--- src/offsets.rt:68:9
 mul-offsets : tie.Need-mul-offsets Inv-loop μ-loop
 mul-offsets c = omega (arith, (room (c .before)), (same (c .before)))
 
--- src/offsets.rt:68:9
 slice-write-offsets : tie.Need-slice-write-offsets Inv-loop μ-loop
 slice-write-offsets c = (room (c .before))
 
--- src/offsets.rt:69:34
 add-mark-of : tie.Need-add-mark-of Inv-loop μ-loop
 add-mark-of c = search needs
 
--- src/offsets.rt:69:28
 shared-slice-read-mark-of : tie.Need-shared-slice-read-mark-of Inv-loop μ-loop
 shared-slice-read-mark-of c = search needs
 
--- src/offsets.rt:69:13
 mark-of-requires : tie.Need-mark-of-requires Inv-loop μ-loop
 mark-of-requires c κs = search needs
 
--- src/offsets.rt:70:9
 next-end-requires : tie.Need-next-end-requires Inv-loop μ-loop
 next-end-requires c κs =
     let loop = c .before .before .before .loop in
     let args = c .before .before .before .before .before .before .before .before .args in
-    let width-bytes = c .before .before .before .before .width-bytes in
-    (subst (λ (w : ℕ). nextAt (toldMark (c .mark-of .result)) (loop .j) w ≤ length (args .s .now)) (width-bytes .ensures) (source c),
-    subst (λ (w : ℕ). toldMark (c .mark-of .result) ≡ isSet → args .first ≤ unle (take w (drop (loop .j) (args .s .now)))) (width-bytes .ensures) (ends-above (loop .inv) (inside (c .before .before)) _ (mark-is c)))
+    let width-bytes = c .before .before .before .before .width-bytes in (
+      subst (λ (w : ℕ). nextAt (toldMark (c .mark-of .result)) (loop .j) w ≤ length (args .s .now)) (width-bytes .ensures) (source c),
+      subst (λ (w : ℕ). toldMark (c .mark-of .result) ≡ isSet → args .first ≤ unle (take w (drop (loop .j) (args .s .now)))) (width-bytes .ensures) (ends-above (loop .inv) (inside (c .before .before)) _ (mark-is c)),
+    )
 
--- src/offsets.rt:71:9
 skip-requires : tie.Need-skip-requires Inv-loop μ-loop
 skip-requires c κs = omega (arith, (source (c .before)))
 
--- src/offsets.rt:72:9
 add-i : tie.Need-add-i Inv-loop μ-loop
 add-i c = omega (arith, (room (c .before .before .before .before .before)), (same (c .before .before .before .before .before)))
 
--- src/offsets.rt:67:5
 loop-less : tie.Need-loop-less Inv-loop μ-loop
 loop-less c = omega arith
 
--- src/offsets.rt:67:5
 loop-again : tie.Need-loop-again Inv-loop μ-loop
 loop-again c =
     let loop = c .before .before .before .before .before .loop in
@@ -120,21 +103,17 @@ loop-again c =
     rw (c .skip .ensures) (ends-more (loop .inv) (inside (c .before .before .before .before)) _ (mark-is (c .before .before)) (next-end .result)
     (next-end .ensures ∙ ap (λ (w : ℕ). ifSet (toldMark (c .before .before .mark-of .result)) (unle (take w (drop (loop .j) (args .s .now))) - args .first) (loop .end)) (sym (c .before .before .before .before .before .before .width-bytes .ensures))))
 
--- src/offsets.rt:74:5
 mul-offsets-2 : tie.Need-mul-offsets-2 Inv-loop μ-loop
 mul-offsets-2 c = omega arith
 
--- src/offsets.rt:74:5
 slice-write-offsets-2 : tie.Need-slice-write-offsets-2 Inv-loop μ-loop
 slice-write-offsets-2 c = omega (arith, (same (c .before)))
 
--- src/offsets.rt:57:1
 same-length : tie.Need-same-length Inv-loop μ-loop
 same-length c =
     let loop = c .before .loop in
     omega (arith, (same (c .before)), length-set (loop .offsets) (c .before .before .before .before .before .before .args .n) (loop .end))
 
--- src/offsets.rt:57:1
 returns : tie.Need-returns Inv-loop μ-loop
 returns c =
     let loop = c .before .loop in

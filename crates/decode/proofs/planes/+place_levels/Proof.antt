@@ -1,17 +1,16 @@
-use borrow.Author.Needs.{needs}
-use mathlib.Core.Path.{_≡_, ap, _∙_}
-use Prim.Native.Nat.{_+_, _-_, _*_, _≤_}
+-- `place_levels` meets its contract, by the laws of Levels. The levels that are left fall with each call.
+-- Assumes nothing.
+use Prim.Native.Nat.{_+_, _-_, _*_, _≤_, ℕ, _<_}
 use native.Mathlib.Omega.{arith}
 use lib.ListN.{length}
-use Rattle.decode.specs.Reads.{LevelsWithin}
-use Rattle.decode.proofs.Levels.{levels-none, levels-null, levels-room, levels-count, levels-fits, levels-next, levels-done}
-use Prim.Native.Nat.{ℕ, _<_}
+use borrow.Author.Needs.{needs}
 use borrow.Fn.Kinds.{In}
 use borrow.Fn.PlainCycle.{Measures, is, falls, and}
+use Rattle.array.proofs.copy.fill_bytes.Reads as fill-bytes-reads
+use Rattle.decode.proofs.Levels.{levels-none, levels-null, levels-room, levels-count, levels-fits, levels-next, levels-done}
 use Rattle.decode.proofs.planes.place_levels.Reads as place-levels
 use Rattle.decode.proofs.planes.place_levels.Kinds as place-levels-kinds
 use Rattle.decode.proofs.planes.+place_levels.Lts-place_levels as place-levels-lts
-use Rattle.array.proofs.copy.fill_bytes.Reads as fill-bytes-reads
 use Rattle.codec.proofs.mask.count_set.Reads as count-set-reads
 use Rattle.codec.proofs.mask.mask_length.Reads as mask-length-reads
 use Rattle.decode.proofs.planes.place_plane.Reads as place-plane-reads
@@ -43,73 +42,56 @@ fits t c = levels-fits (c .before .before .before .before .pre .1) (c .before .i
 room : (t : ℕ) (c : place-levels-lts.Else2 (claims-place-levels t) (place-levels-at t) place-levels.Post) → c .before .before .before .before .args .at + (16 + c .before .before .before .before .args .cells) ≤ length (c .before .before .before .before .args .s .now)
 room t c = levels-room (c .before .before .before .before .pre .1) (c .before .if1 .left) (c .if2 .left)
 
--- src/planes.rt:41:9
 place-levels-returns : (t : ℕ) → place-levels-lts.Need-returns (claims-place-levels t) (place-levels-at t) place-levels.Post
 place-levels-returns t c = levels-none (c .before .before .before .pre .1) (c .if1 .taken)
 
--- src/planes.rt:44:31
 place-levels-mul-fill-bytes : (t : ℕ) → place-levels-lts.Need-mul-fill-bytes (claims-place-levels t) (place-levels-at t) place-levels.Post
 place-levels-mul-fill-bytes t c = omega (arith, c .before .before .before .before .before .pre .1 .room)
 
--- src/planes.rt:44:9
 place-levels-fill-bytes-requires : (t : ℕ) → place-levels-lts.Need-fill-bytes-requires (claims-place-levels t) (place-levels-at t) place-levels.Post
 place-levels-fill-bytes-requires t c κs = omega (arith, c .before .before .before .before .before .pre .1 .room)
 
--- src/planes.rt:45:9
 place-levels-same-length : (t : ℕ) → place-levels-lts.Need-same-length (claims-place-levels t) (place-levels-at t) place-levels.Post
 place-levels-same-length t c = search needs
 
--- src/planes.rt:45:9
 place-levels-returns-2 : (t : ℕ) → place-levels-lts.Need-returns-2 (claims-place-levels t) (place-levels-at t) place-levels.Post
 place-levels-returns-2 t c = levels-null (c .before .before .before .before .before .before .before .before .pre .1) (c .before .before .before .before .if2 .taken) _ (c .before .before .fill-bytes .ensures)
 
--- src/planes.rt:47:16
 place-levels-add-mask : (t : ℕ) → place-levels-lts.Need-add-mask (claims-place-levels t) (place-levels-at t) place-levels.Post
 place-levels-add-mask t c = omega (arith, (room t c))
 
--- src/planes.rt:48:22
 place-levels-mask-length-requires : (t : ℕ) → place-levels-lts.Need-mask-length-requires (claims-place-levels t) (place-levels-at t) place-levels.Post
 place-levels-mask-length-requires t c κs = search needs
 
--- src/planes.rt:48:15
 place-levels-add-end : (t : ℕ) → place-levels-lts.Need-add-end (claims-place-levels t) (place-levels-at t) place-levels.Post
 place-levels-add-end t c = omega (arith, (room t (c .before)), c .mask-length .ensures)
 
--- src/planes.rt:49:24
 place-levels-sub-place-plane : (t : ℕ) → place-levels-lts.Need-sub-place-plane (claims-place-levels t) (place-levels-at t) place-levels.Post
 place-levels-sub-place-plane t c = omega (arith, c .before .before .before .before .before .before .pre .1 .above)
 
--- src/planes.rt:49:5
 place-levels-place-plane-requires : (t : ℕ) → place-levels-lts.Need-place-plane-requires (claims-place-levels t) (place-levels-at t) place-levels.Post
 place-levels-place-plane-requires t c κs =
     let pre = c .before .before .before .before .before .before .pre in
     (omega (arith, pre .1 .above), omega (arith, (fits t (c .before .before))), levels-count (pre .1) (c .before .before .before .if1 .left) (c .before .before .if2 .left))
 
--- src/planes.rt:50:25
 place-levels-sub-count-set : (t : ℕ) → place-levels-lts.Need-sub-count-set (claims-place-levels t) (place-levels-at t) place-levels.Post
 place-levels-sub-count-set t c = search needs
 
--- src/planes.rt:50:25
 place-levels-part-count-set-start : (t : ℕ) → place-levels-lts.Need-part-count-set-start (claims-place-levels t) (place-levels-at t) place-levels.Post
 place-levels-part-count-set-start t c = search needs
 
--- src/planes.rt:50:25
 place-levels-part-count-set-end : (t : ℕ) → place-levels-lts.Need-part-count-set-end (claims-place-levels t) (place-levels-at t) place-levels.Post
 place-levels-part-count-set-end t c = omega (arith, (room t (c .before .before .before .before .before)), c .before .before .before .before .mask-length .ensures)
 
--- src/planes.rt:50:9
 place-levels-count-set-requires : (t : ℕ) → place-levels-lts.Need-count-set-requires (claims-place-levels t) (place-levels-at t) place-levels.Post
 place-levels-count-set-requires t c κs = search needs
 
--- src/planes.rt:51:28
 place-levels-add-place-levels : (t : ℕ) → place-levels-lts.Need-add-place-levels (claims-place-levels t) (place-levels-at t) place-levels.Post
 place-levels-add-place-levels t c = omega (arith, (fits t (c .before .before .before .before .before .before .before .before)))
 
--- src/planes.rt:51:36
 place-levels-sub-place-levels : (t : ℕ) → place-levels-lts.Need-sub-place-levels (claims-place-levels t) (place-levels-at t) place-levels.Post
 place-levels-sub-place-levels t c = search needs
 
--- src/planes.rt:51:5
 place-levels-place-levels-requires : (t : ℕ) → place-levels-lts.Need-place-levels-requires (claims-place-levels t) (place-levels-at t) place-levels.Post
 place-levels-place-levels-requires t c κs =
     let mask-length = c .before .before .before .before .before .before .before .mask-length in
@@ -117,11 +99,9 @@ place-levels-place-levels-requires t c κs =
     let count-set = c .before .count-set in
     (omega arith, levels-next (c .before .before .before .before .before .before .before .before .before .before .before .before .pre .1) (c .before .before .before .before .before .before .before .before .before .if1 .left) (c .before .before .before .before .before .before .before .before .if2 .left) (mask-length .result) (mask-length .ensures) (place-plane .last .0) (place-plane .ensures) (count-set .result) (count-set .ensures))
 
--- src/planes.rt:36:1
 place-levels-same-length-2 : (t : ℕ) → place-levels-lts.Need-same-length-2 (claims-place-levels t) (place-levels-at t) place-levels.Post
 place-levels-same-length-2 t c = search needs
 
--- src/planes.rt:36:1
 place-levels-returns-3 : (t : ℕ) → place-levels-lts.Need-returns-3 (claims-place-levels t) (place-levels-at t) place-levels.Post
 place-levels-returns-3 t c =
     let mask-length = c .before .before .before .before .before .before .before .before .before .before .mask-length in

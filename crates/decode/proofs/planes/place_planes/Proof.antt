@@ -1,51 +1,37 @@
-use Prim.Native.Nat.{_+_}
+-- `place_planes` meets its contract: the first plane, and the others behind it (AllPlanes).
+-- Assumes nothing.
 use native.Mathlib.Omega.{arith}
-use Rattle.decode.proofs.AllPlanes.{first-room, first-fits, first-next, planes-done}
 use borrow.Author.Needs.{needs}
+use Rattle.decode.proofs.AllPlanes.{first-room, first-fits, first-next, planes-done}
 use Rattle.decode.proofs.planes.place_planes.Statement.{statement}
 use Rattle.decode.proofs.planes.place_planes.Tie as tie
-use Rattle.decode.proofs.planes.place_planes.Reads as reads
-use Rattle.decode.proofs.planes.place_planes.Lts as lts
-use Rattle.array.proofs.copy.copy_bytes.Reads as copy-bytes-reads
-use Rattle.codec.proofs.mask.count_set.Reads as count-set-reads
-use Rattle.codec.proofs.mask.mask_length.Reads as mask-length-reads
-use Rattle.decode.proofs.planes.place_levels.Reads as place-levels-reads
 
--- src/planes.rt:60:20
 mask-length-requires : tie.Need-mask-length-requires
 mask-length-requires c κs = search needs
 
--- src/planes.rt:60:15
 add-end : tie.Need-add-end
 add-end c = omega (arith, first-room (c .before .before .before .pre), c .mask-length .ensures)
 
--- src/planes.rt:61:5
 copy-bytes-requires : tie.Need-copy-bytes-requires
 copy-bytes-requires c κs =
     let pre = c .before .before .before .before .pre in
     omega (arith, first-room (pre), first-fits (pre))
 
--- src/planes.rt:62:25
 sub-count-set : tie.Need-sub-count-set
 sub-count-set c = search needs
 
--- src/planes.rt:62:25
 part-count-set-start : tie.Need-part-count-set-start
 part-count-set-start c = search needs
 
--- src/planes.rt:62:25
 part-count-set-end : tie.Need-part-count-set-end
 part-count-set-end c = omega (arith, first-room (c .before .before .before .before .before .before .before .pre), c .before .before .before .before .mask-length .ensures)
 
--- src/planes.rt:62:9
 count-set-requires : tie.Need-count-set-requires
 count-set-requires c κs = search needs
 
--- src/planes.rt:63:31
 sub-place-levels : tie.Need-sub-place-levels
 sub-place-levels c = search needs
 
--- src/planes.rt:63:5
 place-levels-requires : tie.Need-place-levels-requires
 place-levels-requires c κs =
     let mask-length = c .before .before .before .before .before .before .before .mask-length in
@@ -53,11 +39,9 @@ place-levels-requires c κs =
     let count-set = c .before .count-set in
     first-next (c .before .before .before .before .before .before .before .before .before .before .pre) (mask-length .result) (mask-length .ensures) (copy-bytes .last .0) (copy-bytes .ensures) (count-set .result) (count-set .ensures)
 
--- src/planes.rt:55:1
 same-length : tie.Need-same-length
 same-length c = search needs
 
--- src/planes.rt:55:1
 returns : tie.Need-returns
 returns c =
     let mask-length = c .before .before .before .before .before .before .before .before .before .before .mask-length in

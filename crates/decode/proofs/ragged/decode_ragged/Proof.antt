@@ -1,11 +1,13 @@
+-- `decode_ragged` meets its contract: the reader's answer by the walk and the check (NestedLaws), and what the copying rests on.
+-- Assumes nothing.
 use mathlib.Core.Path.{_≡_, refl, sym, ap, _∙_, subst}
-use Prim.Native.Nat.{ℕ, _+_, _-_, _*_, _≤_}
+use Prim.Native.Nat.{_+_, _-_, _≤_}
 use native.Mathlib.Nat.{le-trans}
 use native.Mathlib.Omega.{arith}
 use lib.ListN.{length}
-use Rattle.array.specs.Answer.{Answer, gives}
+use borrow.Author.Needs.{needs}
+use Rattle.array.specs.Answer.{gives}
 use Rattle.array.specs.Kind.{Place, atStart, atEnd, ragged}
-use Rattle.array.specs.Content.{Content}
 use Rattle.array.specs.Meaning.{widthOf, placeOf}
 use Rattle.codec.specs.Mask.{byteMask}
 use Rattle.codec.specs.Walk.{walked, valuesAt, toldWalk}
@@ -15,16 +17,8 @@ use Rattle.codec.specs.Outcomes.{lent, readOutcome}
 use Rattle.codec.proofs.Walks.{WalkPassed, walk-values, values-flat, passed-count}
 use Rattle.codec.proofs.CheckedIndex.{span-refused, IndexChecked, index-checked, IndexPlaced, index-placed}
 use Rattle.decode.proofs.NestedLaws.{none-within, ragged-refused, ragged-none-set, ragged-wrong, ragged-given}
-use borrow.Author.Needs.{needs}
 use Rattle.decode.proofs.ragged.decode_ragged.Statement.{statement}
 use Rattle.decode.proofs.ragged.decode_ragged.Tie as tie
-use Rattle.decode.proofs.ragged.decode_ragged.Reads as reads
-use Rattle.decode.proofs.ragged.decode_ragged.Lts as lts
-use Rattle.codec.proofs.optional.walk_content.Reads as walk-content-reads
-use Rattle.codec.proofs.vlen.check_ragged.Reads as check-ragged-reads
-use Rattle.codec.proofs.vlen.index_length.Reads as index-length-reads
-use Rattle.decode.proofs.ragged.write_nested.Reads as write-nested-reads
-use Rattle.decode.proofs.ragged.write_ragged.Reads as write-ragged-reads
 
 walk-is : (c : tie.After-known-told2) → walked (c .before .before .before .before .before .before .before .before .args .depth) (c .before .before .before .before .before .before .before .before .args .s .now) 0 (c .before .before .before .before .before .before .before .before .args .n) ≡ gives (valuesAt (c .before .walk2 .given .0 .0) (c .before .walk2 .given .0 .1 .0))
 walk-is c = sym (c .before .before .before .walk-content .ensures) ∙ ap toldWalk (c .before .walk2 .given .1)
@@ -60,62 +54,48 @@ end-is c =
     index-placed (subst (λ (p : Place). IndexChecked (widthOf (args .width)) (walk2 .given .0 .1 .0) (args .s .now) (walk2 .given .0 .0) p (checked2 .given .0 .0) (checked2 .given .0 .1 .0)) (ap placeOf (c .enum-told3 .given .1)) (checked-is (c .before .before .before)))
     (walk2 .given .0 .0 + (length (args .s .now) - walk2 .given .0 .0 - 8 - index-length .result)) (walk2 .given .0 .0) (omega (arith, index-length .ensures)) (omega arith)
 
--- src/ragged.rt:100:9
 walk-content-requires : tie.Need-walk-content-requires
 walk-content-requires c κs = search needs
 
--- src/ragged.rt:102:25
 enum-known-walk : tie.Need-enum-known-walk
 enum-known-walk c = search needs
 
--- src/ragged.rt:103:76
 enum-told : tie.Need-enum-told
 enum-told c = search needs
 
--- src/ragged.rt:103:28
 write-nested-requires : tie.Need-write-nested-requires
 write-nested-requires c κs =
     let args = c .before .before .before .before .before .before .before .before .before .before .args in
     let pre = c .before .before .before .before .before .before .before .before .before .before .pre in
     none-within (args .depth) (widthOf (args .width)) (args .s .now) (args .n) (pre .0) (pre .1) (pre .2) (sym (c .before .before .before .before .before .walk-content .ensures) ∙ ap toldWalk (c .before .before .before .enum-told .given .1))
 
--- src/ragged.rt:104:24
 enum-known-walk-2 : tie.Need-enum-known-walk-2
 enum-known-walk-2 c = search needs
 
--- src/ragged.rt:105:17
 check-ragged-requires : tie.Need-check-ragged-requires
 check-ragged-requires c κs = (le-trans ((passed c) .0 .few) (c .before .before .before .before .before .before .before .before .pre .1), (passed c) .1)
 
--- src/ragged.rt:107:34
 enum-known-checked : tie.Need-enum-known-checked
 enum-known-checked c = search needs
 
--- src/ragged.rt:108:31
 enum-known-checked-2 : tie.Need-enum-known-checked-2
 enum-known-checked-2 c = search needs
 
--- src/ragged.rt:109:25
 index-length-requires : tie.Need-index-length-requires
 index-length-requires c κs = le-trans ((passed (c .before .before .before .before)) .0 .few) (c .before .before .before .before .before .before .before .before .before .before .before .before .pre .1)
 
--- src/ragged.rt:111:79
 enum-told-2 : tie.Need-enum-told-2
 enum-told-2 c = search needs
 
--- src/ragged.rt:111:79
 add-write-ragged : tie.Need-add-write-ragged
 add-write-ragged c = omega (arith, (checked-is (c .before .before .before)) .long, (checked-is (c .before .before .before)) .fits)
 
--- src/ragged.rt:111:93
 add-write-ragged-2 : tie.Need-add-write-ragged-2
 add-write-ragged-2 c = omega (arith, (checked-is (c .before .before .before)) .long, (checked-is (c .before .before .before)) .fits, c .before .before .index-length .ensures)
 
--- src/ragged.rt:111:87
 add-write-ragged-3 : tie.Need-add-write-ragged-3
 add-write-ragged-3 c = omega (arith, (checked-is (c .before .before .before)) .long, (checked-is (c .before .before .before)) .fits, c .before .before .index-length .ensures)
 
--- src/ragged.rt:111:46
 write-ragged-requires : tie.Need-write-ragged-requires
 write-ragged-requires c κs =
     let pre = c .before .before .before .before .before .before .before .before .before .before .before .before .before .before .before .before .before .before .pre in
@@ -123,27 +103,21 @@ write-ragged-requires c κs =
     let walk2 = c .before .before .before .before .before .before .before .before .before .before .before .walk2 in
     (pre .0, pre .1, pre .2, (passed (c .before .before .before .before .before .before .before .before .before .before)) .0 .within, passed-count (args .depth) (args .s .now) (args .n) (walk2 .given .0 .1 .0) (pre .0) ((passed (c .before .before .before .before .before .before .before .before .before .before)) .0) (values-flat (args .depth) (args .s .now) 0 (args .n) (walk2 .given .0 .0) (walk2 .given .0 .1 .0) (walk-is (c .before .before .before .before .before .before .before .before .before .before))), (start-is (c .before .before .before)) .within)
 
--- src/ragged.rt:112:83
 enum-told-3 : tie.Need-enum-told-3
 enum-told-3 c = search needs
 
--- src/ragged.rt:112:83
 sub-write-ragged : tie.Need-sub-write-ragged
 sub-write-ragged c = omega (arith, (passed (c .before .before .before .before .before .before .before)) .1)
 
--- src/ragged.rt:112:83
 sub-write-ragged-2 : tie.Need-sub-write-ragged-2
 sub-write-ragged-2 c = omega (arith, (checked-is (c .before .before .before)) .long)
 
--- src/ragged.rt:112:83
 sub-write-ragged-3 : tie.Need-sub-write-ragged-3
 sub-write-ragged-3 c = omega (arith, (checked-is (c .before .before .before)) .fits, c .before .before .index-length .ensures)
 
--- src/ragged.rt:112:77
 add-write-ragged-4 : tie.Need-add-write-ragged-4
 add-write-ragged-4 c = search needs
 
--- src/ragged.rt:112:44
 write-ragged-requires-2 : tie.Need-write-ragged-requires-2
 write-ragged-requires-2 c κs =
     let pre = c .before .before .before .before .before .before .before .before .before .before .before .before .before .before .before .before .before .before .pre in
@@ -151,32 +125,26 @@ write-ragged-requires-2 c κs =
     let walk2 = c .before .before .before .before .before .before .before .before .before .before .before .walk2 in
     (pre .0, pre .1, pre .2, (passed (c .before .before .before .before .before .before .before .before .before .before)) .0 .within, passed-count (args .depth) (args .s .now) (args .n) (walk2 .given .0 .1 .0) (pre .0) ((passed (c .before .before .before .before .before .before .before .before .before .before)) .0) (values-flat (args .depth) (args .s .now) 0 (args .n) (walk2 .given .0 .0) (walk2 .given .0 .1 .0) (walk-is (c .before .before .before .before .before .before .before .before .before .before))), (end-is (c .before .before .before)) .within)
 
--- src/ragged.rt:94:1
 returns : tie.Need-returns
 returns c =
     let args = c .before .before .before .before .before .before .before .before .args in
     let walk = c .before .walk in
     ap (readOutcome (lent (args .masks .now) (args .values .now) (args .offsets .now))) (sym (ragged-refused (widthOf (args .width)) (placeOf (args .place)) (args .s .now) (args .n) (args .depth) (walk .given .0 .0) (sym (c .before .before .before .walk-content .ensures) ∙ ap toldWalk (walk .given .1))))
 
--- src/ragged.rt:94:1
 same-length : tie.Need-same-length
 same-length c = search needs
 
--- src/ragged.rt:94:1
 same-length-2 : tie.Need-same-length-2
 same-length-2 c = search needs
 
--- src/ragged.rt:94:1
 same-length-3 : tie.Need-same-length-3
 same-length-3 c = search needs
 
--- src/ragged.rt:94:1
 returns-2 : tie.Need-returns-2
 returns-2 c =
     let args = c .before .before .before .before .before .before .before .before .before .before .before .before .before .before .before .before .before .args in
     c .before .before .before .before .before .before .write-nested .ensures ∙ ap (readOutcome (lent (args .masks .now) (args .values .now) (args .offsets .now))) (sym (ragged-none-set (widthOf (args .width)) (placeOf (args .place)) (args .s .now) (args .n) (args .depth) (sym (c .before .before .before .before .before .before .before .before .before .before .before .before .walk-content .ensures) ∙ ap toldWalk (c .before .before .before .before .before .before .before .before .before .before .enum-told .given .1))))
 
--- src/ragged.rt:94:1
 returns-3 : tie.Need-returns-3
 returns-3 c =
     let args = c .before .before .before .before .before .before .before .before .before .before .before .before .args in
@@ -184,19 +152,15 @@ returns-3 c =
     let checked = c .before .checked in
     ap (readOutcome (lent (args .masks .now) (args .values .now) (args .offsets .now))) (sym (ragged-wrong (widthOf (args .width)) (placeOf (args .place)) (args .s .now) (args .n) (args .depth) (walk2 .given .0 .0) (walk2 .given .0 .1 .0) (checked .given .0 .0) (walk-is (c .before .before .before .before)) (span-refused _ _ (sym (c .before .before .before .check-ragged .ensures) ∙ ap toldIndex (checked .given .1)))))
 
--- src/ragged.rt:94:1
 same-length-4 : tie.Need-same-length-4
 same-length-4 c = search needs
 
--- src/ragged.rt:94:1
 same-length-5 : tie.Need-same-length-5
 same-length-5 c = search needs
 
--- src/ragged.rt:94:1
 same-length-6 : tie.Need-same-length-6
 same-length-6 c = search needs
 
--- src/ragged.rt:94:1
 returns-4 : tie.Need-returns-4
 returns-4 c =
     let args = c .before .before .before .before .before .before .before .before .before .before .before .before .before .before .before .before .before .before .before .before .before .before .before .before .before .args in
@@ -206,19 +170,15 @@ returns-4 c =
     (sym (ap (λ (p : Place). readIn byteMask (ragged (widthOf (args .width)) p) (args .depth) (args .n) (args .s .now)) (ap placeOf (c .before .before .before .before .before .before .before .before .before .before .enum-told2 .given .1))
     ∙ ragged-given (widthOf (args .width)) atStart (args .s .now) (args .n) (args .depth) (walk2 .given .0 .0) (walk2 .given .0 .1 .0) (checked2 .given .0 .0) (checked2 .given .0 .1 .0) _ _ (walk-is (c .before .before .before .before .before .before .before .before .before .before .before .before .before .before .before .before .before)) ((start-is (c .before .before .before .before .before .before .before .before .before .before)) .first-is) ((start-is (c .before .before .before .before .before .before .before .before .before .before)) .gave)))
 
--- src/ragged.rt:94:1
 same-length-7 : tie.Need-same-length-7
 same-length-7 c = search needs
 
--- src/ragged.rt:94:1
 same-length-8 : tie.Need-same-length-8
 same-length-8 c = search needs
 
--- src/ragged.rt:94:1
 same-length-9 : tie.Need-same-length-9
 same-length-9 c = search needs
 
--- src/ragged.rt:94:1
 returns-5 : tie.Need-returns-5
 returns-5 c =
     let args = c .before .before .before .before .before .before .before .before .before .before .before .before .before .before .before .before .before .before .before .before .before .before .before .before .before .args in

@@ -1,9 +1,12 @@
-use mathlib.Core.Path.{_≡_, refl, sym, ap, _∙_}
+-- `write_flat` meets its contract: offsets and bytes as they are stored, too short outputs by Outcomes.
+-- Assumes nothing.
+use mathlib.Core.Path.{_≡_, refl, sym}
 use mathlib.Core.List.{[]}
 use Prim.Native.Nat.{suc, _+_}
 use native.Mathlib.Omega.{arith}
 use lib.ListN.{length, take, drop, length-drop}
 use lib.Seq.{length-take-le}
+use borrow.Author.Needs.{needs}
 use Rattle.array.specs.Content.{Content}
 use Rattle.array.specs.Meaning.{widthOf}
 use Rattle.codec.specs.Index.{offsetsIn}
@@ -11,15 +14,9 @@ use Rattle.codec.specs.Outcomes.{lent}
 use Rattle.codec.proofs.Outcomes.{short-values, short-offsets, all-written}
 use Rattle.decode.proofs.Small.{few-cells}
 use Rattle.decode.proofs.CopyingOffsets.{length-offsets}
-use borrow.Author.Needs.{needs}
 use Rattle.decode.proofs.ragged.write_flat.Statement.{statement}
 use Rattle.decode.proofs.ragged.write_flat.Tie as tie
-use Rattle.decode.proofs.ragged.write_flat.Reads as reads
-use Rattle.decode.proofs.ragged.write_flat.Lts as lts
-use Rattle.array.proofs.copy.copy_bytes.Reads as copy-bytes-reads
-use Rattle.decode.proofs.offsets.copy_offsets.Reads as copy-offsets-reads
 
--- what is to be written
 abbrev given : tie.Start → Content
 given c =
     let a = c .args in
@@ -35,39 +32,31 @@ offsets-long c =
     let args = c .before .before .before .before .args in
     omega (arith, length-offsets (widthOf (args .width)) (suc (args .n)) (drop (args .index) (args .s .now)))
 
--- src/ragged.rt:40:17
 add-count : tie.Need-add-count
 add-count c = omega (arith, few-cells (c .before .before .before .before .args .n) (c .before .before .before .before .pre .0))
 
--- src/ragged.rt:42:9
 returns : tie.Need-returns
 returns c =
     let args = c .before .before .before .before .before .args in
     short-values (given (c .before .before .before .before .before)) (args .masks .now) (args .values .now) (args .offsets .now) (omega (arith, (values-long (c .before))))
 
--- src/ragged.rt:45:9
 returns-2 : tie.Need-returns-2
 returns-2 c =
     let args = c .before .before .before .before .before .before .args in
     short-offsets (given (c .before .before .before .before .before .before)) (args .masks .now) (args .values .now) (args .offsets .now) (omega (arith, (offsets-long (c .before .before))))
 
--- src/ragged.rt:47:5
 copy-offsets-requires : tie.Need-copy-offsets-requires
 copy-offsets-requires c κs = search needs
 
--- src/ragged.rt:48:5
 copy-bytes-requires : tie.Need-copy-bytes-requires
 copy-bytes-requires c κs = search needs
 
--- src/ragged.rt:33:1
 same-length : tie.Need-same-length
 same-length c = search needs
 
--- src/ragged.rt:33:1
 same-length-2 : tie.Need-same-length-2
 same-length-2 c = search needs
 
--- src/ragged.rt:33:1
 returns-3 : tie.Need-returns-3
 returns-3 c =
     let args = c .before .before .before .before .before .before .before .before .before .before .before .before .before .before .args in

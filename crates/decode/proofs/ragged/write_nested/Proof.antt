@@ -1,8 +1,11 @@
+-- `write_nested` meets its contract: masks, values and offsets are those of the definition (NestedLaws), too short outputs by Outcomes.
+-- Assumes nothing.
 use mathlib.Core.Path.{_≡_, sym, ap, _∙_, subst}
 use mathlib.Core.List.{List, _∷_}
 use Prim.Native.Nat.{ℕ, _+_, _-_, _*_, _≤_}
 use native.Mathlib.Omega.{arith}
 use lib.ListN.{length, take, drop}
+use borrow.Author.Needs.{needs}
 use Rattle.array.specs.Lists.{All}
 use Rattle.array.specs.Content.{Content}
 use Rattle.array.specs.Buffers.{over}
@@ -16,16 +19,9 @@ use Rattle.decode.proofs.Small.{few-cells, planes-small}
 use Rattle.decode.proofs.Levels.{times-first}
 use Rattle.decode.proofs.AllPlanes.{innermostIn, innermost-read}
 use Rattle.decode.proofs.NestedLaws.{rising-above, nested-first, nested-masks, nested-count, nested-values, nested-offsets, nested-masks-long, nested-values-long, nested-offsets-long}
-use borrow.Author.Needs.{needs}
 use Rattle.decode.proofs.ragged.write_nested.Statement.{statement}
 use Rattle.decode.proofs.ragged.write_nested.Tie as tie
-use Rattle.decode.proofs.ragged.write_nested.Reads as reads
-use Rattle.decode.proofs.ragged.write_nested.Lts as lts
-use Rattle.array.proofs.copy.copy_bytes.Reads as copy-bytes-reads
-use Rattle.decode.proofs.offsets.spread_offsets.Reads as spread-offsets-reads
-use Rattle.decode.proofs.planes.place_planes.Reads as place-planes-reads
 
--- what is to be written
 abbrev given : tie.Start → Content
 given c =
     let a = c .args in
@@ -61,77 +57,65 @@ innermost-is c =
 count-is : (c : tie.After-place-planes) → c .before .before .before .before .before .before .before .before .before .args .cells ≡ countSet (take (c .before .before .before .before .before .before .before .before .before .args .n) (drop (c .before .before .before .before .before .before .before .before .before .args .depth * c .before .before .before .before .before .before .before .before .before .args .n - c .before .before .before .before .before .before .before .before .before .args .n) (c .place-planes .last .0)))
 count-is c = nested-count (c .before .before .before .before .before .before .before .before .before .pre) ∙ sym (ap countSet (innermost-is c))
 
--- src/ragged.rt:59:18
 mul-planes : tie.Need-mul-planes
 mul-planes c =
     let args = c .before .before .before .before .args in
     let pre = c .before .before .before .before .pre in
     omega (arith, planes-small (args .depth) (args .n) (pre .shallow) (pre .few))
 
--- src/ragged.rt:60:18
 sub-bytes : tie.Need-sub-bytes
 sub-bytes c = omega (arith, (ordered c))
 
--- src/ragged.rt:61:17
 add-count : tie.Need-add-count
 add-count c = omega (arith, few-cells (c .before .before .before .before .args .n) (c .before .before .before .before .pre .few))
 
--- src/ragged.rt:63:9
 returns : tie.Need-returns
 returns c =
     let args = c .before .before .before .before .before .args in
     short-masks (given (c .before .before .before .before .before)) (args .masks .now) (args .values .now) (args .offsets .now) (omega (arith, (masks-long (c .before))))
 
--- src/ragged.rt:66:9
 returns-2 : tie.Need-returns-2
 returns-2 c =
     let args = c .before .before .before .before .before .before .args in
     short-values (given (c .before .before .before .before .before .before)) (args .masks .now) (args .values .now) (args .offsets .now) (omega (arith, (values-long (c .before .before))))
 
--- src/ragged.rt:69:9
 returns-3 : tie.Need-returns-3
 returns-3 c =
     let args = c .before .before .before .before .before .before .before .args in
     short-offsets (given (c .before .before .before .before .before .before .before)) (args .masks .now) (args .values .now) (args .offsets .now) (omega (arith, (offsets-long (c .before .before .before))))
 
--- src/ragged.rt:71:5
 place-planes-requires : tie.Need-place-planes-requires
 place-planes-requires c κs = search needs
 
--- src/ragged.rt:72:36
 sub-spread-offsets : tie.Need-sub-spread-offsets
 sub-spread-offsets c = omega (arith, (first-is (c .before .before .before .before .before .before .before .before .before)))
 
--- src/ragged.rt:72:5
 spread-offsets-requires : tie.Need-spread-offsets-requires
 spread-offsets-requires c κs =
     let args = c .before .before .before .before .before .before .before .before .before .before .before .before .before .args in
-    let pre = c .before .before .before .before .before .before .before .before .before .before .before .before .before .pre in
-    (omega (arith, (first-is (c .before .before .before .before .before .before .before .before .before)), c .before .before .before .before .place-planes .kept .0), omega arith, subst (λ (j : ℕ). args .ends + j * widthOf (args .width) ≤ length (args .s .now)) (count-is (c .before .before .before .before)) (pre .ends-room),
-    subst (λ (j : ℕ). All (λ o. args .first ≤ o) (offsetsIn (widthOf (args .width)) j (drop (args .ends) (args .s .now)))) (count-is (c .before .before .before .before))
-    (rising-above (args .first) (args .first) (offsetsIn (widthOf (args .width)) (args .cells) (drop (args .ends) (args .s .now))) (omega arith) (pre .rising)))
+    let pre = c .before .before .before .before .before .before .before .before .before .before .before .before .before .pre in (
+      omega (arith, (first-is (c .before .before .before .before .before .before .before .before .before)), c .before .before .before .before .place-planes .kept .0),
+      omega arith,
+      subst (λ (j : ℕ). args .ends + j * widthOf (args .width) ≤ length (args .s .now)) (count-is (c .before .before .before .before)) (pre .ends-room),
+      subst (λ (j : ℕ). All (λ o. args .first ≤ o) (offsetsIn (widthOf (args .width)) j (drop (args .ends) (args .s .now)))) (count-is (c .before .before .before .before))
+          (rising-above (args .first) (args .first) (offsetsIn (widthOf (args .width)) (args .cells) (drop (args .ends) (args .s .now))) (omega arith) (pre .rising)),
+    )
 
--- src/ragged.rt:73:17
 add-start : tie.Need-add-start
 add-start c = omega (arith, (ordered (c .before .before .before .before .before .before .before .before .before .before .before .before)), c .before .before .before .before .before .before .before .before .before .before .before .before .before .before .before .before .pre .room)
 
--- src/ragged.rt:74:5
 copy-bytes-requires : tie.Need-copy-bytes-requires
 copy-bytes-requires c κs = omega (arith, (ordered (c .before .before .before .before .before .before .before .before .before .before .before .before .before)), c .before .before .before .before .before .before .before .before .before .before .before .before .before .before .before .before .before .pre .room)
 
--- src/ragged.rt:53:1
 same-length : tie.Need-same-length
 same-length c = search needs
 
--- src/ragged.rt:53:1
 same-length-2 : tie.Need-same-length-2
 same-length-2 c = search needs
 
--- src/ragged.rt:53:1
 same-length-3 : tie.Need-same-length-3
 same-length-3 c = search needs
 
--- src/ragged.rt:53:1
 returns-4 : tie.Need-returns-4
 returns-4 c =
     let args = c .before .before .before .before .before .before .before .before .before .before .before .before .before .before .before .before .before .before .before .before .args in
