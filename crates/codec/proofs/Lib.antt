@@ -11,3 +11,4 @@ pub mod Walks
 pub mod IndexLaws
 pub mod CheckedIndex
 pub mod Returns
+pub mod Outcomes

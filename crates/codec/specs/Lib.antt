@@ -10,3 +10,4 @@ pub mod Spread
 pub mod Walk
 pub mod Stored
 pub mod Index
+pub mod Outcomes
