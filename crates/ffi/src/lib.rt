@@ -10,7 +10,7 @@ ghost use Rattle.array.specs.Meaning.{told, toldRagged, toldArray};
 ghost use Rattle.array.specs.Numbers.{numberedKind, numberedIndex};
 ghost use Rattle.array.specs.Outcome.{contentArray, contentRagged};
 ghost use Rattle.array.specs.Calls.{endiannessReversed, subsetCells};
-ghost use Rattle.codec.specs.Calls.{encoded, interleavedDecoded};
+ghost use Rattle.codec.specs.Calls.{encoded, decoded, interleavedDecoded};
 ghost use Rattle.chunks.specs.Calls.{extracted, merged, partiallyDecoded};
 ghost use Rattle.ffi.specs.Exported.{handed, withGiven, byIndex, statusOf, oneLength, twoLengths, threeLengths, exportOne, exportTwo, exportThree};
 
@@ -96,6 +96,37 @@ pub extern "C" fn dpx_encode(
         KindRead::Kind(k) => {
             let answer = encode::encode(k, shape, masks, values, offsets, out);
             put_length(answer, lengths)
+        }
+    }
+}
+
+#[no_mangle]
+pub extern "C" fn dpx_decode(
+    kind: DpxKind,
+    shape: &[u64],
+    bytes: &[u8],
+    masks: &mut [u8],
+    values: &mut [u8],
+    offsets: &mut [u64],
+    lengths: &mut [u64; 3],
+) -> u32
+    ensures { λ r. ⌜ handed r (now (lengths .exit)) (contentArray (now (masks .exit)) (now (values .exit)) (now (offsets .exit)))
+        ≡ exportThree (withGiven (numberedKind (kind .depth) (kind .form) (kind .size) (kind .order) (kind .mask))
+        (contentArray (now (masks .entry)) (now (values .entry)) (now (offsets .entry)))
+        (λ k. decoded k (now (shape .entry)) (now (bytes .entry)) (contentArray (now (masks .entry)) (now (values .entry)) (now (offsets .entry))))) (now (lengths .entry)) ⌝ }
+{
+    let read = array::kind::kind_from_numbers(
+        kind.depth,
+        kind.form,
+        kind.size,
+        kind.order,
+        kind.mask,
+    );
+    match read {
+        KindRead::Refused(e) => e as u32,
+        KindRead::Kind(k) => {
+            let answer = decode::decode(k, shape, bytes, masks, values, offsets);
+            put_three_lengths(answer, lengths)
         }
     }
 }
