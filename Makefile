@@ -3,3 +3,5 @@
 .PHONY: test
 test:
 	@rt ci
+
+include oracle/oracle.mk

@@ -1,0 +1,3 @@
+pub fn record(_args: &[String]) -> Result<bool, String> {
+    Ok(true)
+}
