@@ -36,3 +36,11 @@ $(OBJECT): $(ARCHIVE)
 compare: $(O)/driver $(OBJECT)
 	@$(O)/driver lines $(OBJECT) oracle/data/lines.txt
 	@$(O)/driver compare $(OBJECT) $(SEED) $(REQUESTS)
+
+$(O)/teeth_run: oracle/teeth/main.rs
+	@mkdir -p $(O)
+	@$(RUSTC) -O -o $@ $<
+
+.PHONY: teeth
+teeth: $(O)/driver $(O)/teeth_run
+	@$(O)/teeth_run $(O) $(SEED) $(REQUESTS)

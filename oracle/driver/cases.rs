@@ -147,13 +147,34 @@ fn mask_byte(rng: &mut Rng) -> u8 {
     }
 }
 fn plane(rng: &mut Rng, cells: usize) -> Vec<u8> {
+    if rng.once_in(4) {
+        // runs
+        let longest = rng.pick(&[3, 40, 600]);
+        let mut mask = vec![];
+        while mask.len() < cells {
+            let run = 1 + rng.below(longest);
+            let set = rng.below(2) == 1;
+            mask.extend((0..run).map(|_| if set { mask_byte(rng) } else { 0 }));
+        }
+        mask.truncate(cells);
+        return mask;
+    }
     let of_eight = rng.pick(&[0, 1, 4, 4, 4, 6, 7, 8, 8]);
     (0..cells).map(|_| if rng.below(8) < of_eight { mask_byte(rng) } else { 0 }).collect()
 }
 /// Lengths of ragged values: many empty, most short.
 fn value_lengths(rng: &mut Rng, cells: usize) -> Vec<usize> {
-    let most = rng.pick(&[0, 1, 2, 3, 3, 5, 9, 40]);
-    (0..cells).map(|_| if rng.once_in(3) { 0 } else { rng.below(most + 1) }).collect()
+    let most = if rng.once_in(100) { rng.pick(&[70, 300, 5000]) } else { rng.pick(&[0, 1, 2, 3, 3, 5, 9, 40]) };
+    let mut room = 40_000; // a few long ones are enough
+    (0..cells)
+        .map(|_| {
+            let length = if rng.once_in(3) { 0 } else { rng.below(most + 1) }.min(room);
+            if most > 9 {
+                room -= length;
+            }
+            length
+        })
+        .collect()
 }
 /// Values of these lengths after `lead` bytes that are in no cell.
 fn values_of(rng: &mut Rng, lead: usize, lengths: &[usize]) -> (Vec<u8>, Vec<u64>) {
@@ -419,6 +440,77 @@ fn damaged_content(rng: &mut Rng, c: &Content) -> Content {
         _ => copy.offsets = damaged_numbers(rng, &c.offsets),
     }
     copy
+}
+
+/// Several faults at once: each part is damaged once in three times.
+fn faulty(rng: &mut Rng, request: &Request) -> Request {
+    let mut r = request.clone();
+    match &mut r {
+        Encode { kind, shape, masks, values, offsets } => {
+            faulty_head(rng, kind, shape);
+            faulty_content(rng, masks, values, offsets);
+        }
+        Decode { kind, shape, bytes } => {
+            faulty_head(rng, kind, shape);
+            faulty_stored(rng, bytes);
+        }
+        DecodeInterleaved { cells, bytes } => {
+            if rng.once_in(3) {
+                *cells = a_number(rng);
+            }
+            faulty_stored(rng, bytes);
+        }
+        Extract { kind, shape, subset, masks, values, offsets }
+        | Merge { kind, shape, subsets: subset, masks, values, offsets } => {
+            faulty_head(rng, kind, shape);
+            if rng.once_in(3) {
+                *subset = damaged_numbers(rng, subset);
+            }
+            faulty_content(rng, masks, values, offsets);
+        }
+        PartialDecode { width, place, shape, subset, bytes } => {
+            let mut kind = [0, 1, *width, *place, 0];
+            faulty_head(rng, &mut kind, shape);
+            (*width, *place) = (kind[2], kind[3]);
+            if rng.once_in(3) {
+                *subset = damaged_numbers(rng, subset);
+            }
+            faulty_stored(rng, bytes);
+        }
+        ReverseEndianness { size, .. } => *size = a_number(rng),
+        SubsetCells { shape, subset } => {
+            if rng.once_in(2) {
+                *shape = damaged_numbers(rng, shape);
+            }
+            *subset = damaged_numbers(rng, subset);
+        }
+    }
+    r
+}
+fn faulty_head(rng: &mut Rng, kind: &mut [u64; 5], shape: &mut Vec<u64>) {
+    if rng.once_in(6) {
+        *kind = damaged_kind(rng, *kind);
+    }
+    if rng.once_in(3) {
+        *shape = damaged_numbers(rng, shape);
+    }
+}
+fn faulty_content(rng: &mut Rng, masks: &mut Vec<u8>, values: &mut Vec<u8>, offsets: &mut Vec<u64>) {
+    if rng.once_in(3) {
+        *masks = damaged_bytes(rng, masks);
+    }
+    if rng.once_in(3) {
+        *values = damaged_bytes(rng, values);
+    }
+    if rng.once_in(3) {
+        *offsets = damaged_numbers(rng, offsets);
+    }
+}
+fn faulty_stored(rng: &mut Rng, bytes: &mut Vec<u8>) {
+    if rng.once_in(2) {
+        let cells = 1 + rng.below(4);
+        *bytes = damaged(rng, bytes, cells);
+    }
 }
 
 // ---------------------------------------------------------------- requests over a content
@@ -809,6 +901,57 @@ fn limits(sink: &mut dyn Sink, rng: &mut Rng) {
     }
 }
 
+// ---------------------------------------------------------------- medium
+
+/// Each size, depth and order with cells around the blocks that a fast walk may have.
+fn blocks(sink: &mut dyn Sink, rng: &mut Rng) {
+    let counts = [31, 32, 33, 63, 64, 65, 127, 128, 129, 239, 240, 241, 255, 256, 257, 479, 480, 511, 512, 513, 700];
+    let mut kinds: Vec<[u64; 5]> = RAGGED.iter().map(|&(width, place)| ragged(0, width, place)).collect();
+    for size in 1..=64 {
+        kinds.extend([fixed(0, size, 0), fixed(0, size, 1)]);
+    }
+    for kind in kinds {
+        for depth in 0..=4 {
+            let kind = at_depth(kind, depth);
+            let cells = rng.pick(&counts);
+            let shape = shape_of(rng, cells);
+            let c = content(rng, kind, cells);
+            sink.ask(encode(kind, &shape, &c));
+            let cells = rng.pick(&counts);
+            let bytes = stored(rng, kind, cells);
+            let shape = shape_of(rng, cells);
+            sink.ask(decode(kind, &shape, &bytes));
+            let c = content(rng, kind, cells);
+            let subset = inside(rng, &shape);
+            sink.ask(extract(kind, &shape, &subset, &c));
+            if kind[1] == 1 && depth == 0 {
+                for _ in 0..10 {
+                    let bytes = stored(rng, kind, cells);
+                    let subset = inside(rng, &shape);
+                    sink.ask(partial_decode(kind, &shape, &subset, &bytes));
+                }
+            }
+            let list = partition(rng, &shape);
+            let list: Vec<(Vec<u64>, Content)> = list
+                .into_iter()
+                .map(|subset| {
+                    let cells = cells_of(&subset[shape.len()..]);
+                    (subset, content(rng, kind, cells))
+                })
+                .collect();
+            sink.ask(merge(kind, &shape, &list));
+            if kind[1] == 0 {
+                let bytes = rng.bytes(cells * kind[2] as usize + depth);
+                sink.ask(ReverseEndianness { size: kind[2], bytes });
+            }
+        }
+    }
+    for cells in counts {
+        let bytes = interleaved(rng, cells);
+        sink.ask(DecodeInterleaved { cells: cells as u64, bytes });
+    }
+}
+
 // ---------------------------------------------------------------- large
 
 const LIMIT: usize = 16_777_216;
@@ -918,6 +1061,14 @@ fn many_bytes(sink: &mut dyn Sink, rng: &mut Rng) {
 
 // ---------------------------------------------------------------- random, with damaged copies
 
+/// A request, and copies with several faults.
+fn ask_with_faults(sink: &mut dyn Sink, rng: &mut Rng, request: Request) {
+    for _ in 0..3 {
+        sink.ask(faulty(rng, &request));
+    }
+    sink.ask(request);
+}
+
 fn random_decode(sink: &mut dyn Sink, rng: &mut Rng) {
     let depth = rng.below(5);
     let kind = any_kind(rng, depth);
@@ -941,12 +1092,17 @@ fn random_decode(sink: &mut dyn Sink, rng: &mut Rng) {
         let shape = shape_of(rng, outer);
         if partial {
             let subset = inside(rng, &shape);
-            sink.ask(partial_decode(kind, &shape, &subset, &bytes));
+            if rng.once_in(4) {
+                ask_with_faults(sink, rng, partial_decode(kind, &shape, &subset, &bytes));
+            } else {
+                sink.ask(partial_decode(kind, &shape, &subset, &bytes));
+            }
         }
         if rng.once_in(10) {
             let (k, s) = (damaged_kind(rng, kind), damaged_numbers(rng, &shape));
             sink.ask(decode(k, &shape, &bytes));
             sink.ask(decode(kind, &s, &bytes));
+            sink.ask(faulty(rng, &decode(kind, &shape, &bytes)));
         }
         sink.ask(decode(kind, &shape, &bytes));
     }
@@ -965,9 +1121,9 @@ fn random_array(sink: &mut dyn Sink, rng: &mut Rng) {
             sink.ask(partial_decode(kind, &shape, &subset, &r.values));
         }
     }
-    sink.ask(request);
-    sink.ask(extract(kind, &shape, &subset, &c));
-    sink.ask(subset_cells(&shape, &subset));
+    ask_with_faults(sink, rng, request);
+    ask_with_faults(sink, rng, extract(kind, &shape, &subset, &c));
+    ask_with_faults(sink, rng, subset_cells(&shape, &subset));
     sink.ask(ReverseEndianness { size: 1 + rng.below(64) as u64, bytes: c.values.clone() });
     for _ in 0..3 {
         let bad = damaged_content(rng, &c);
@@ -997,7 +1153,7 @@ fn random_merge(sink: &mut dyn Sink, rng: &mut Rng) {
         })
         .collect();
     let request = merge(kind, &shape, &list);
-    sink.ask(request.clone());
+    ask_with_faults(sink, rng, request.clone());
     let Merge { subsets, masks, values, offsets, .. } = request else { unreachable!() };
     let all = Content { masks, values, offsets };
     for _ in 0..3 {
@@ -1045,7 +1201,8 @@ fn random_interleaved(sink: &mut dyn Sink, rng: &mut Rng) {
         sink.ask(DecodeInterleaved { cells: cells as u64, bytes });
     }
     sink.ask(DecodeInterleaved { cells: cells as u64 + 1, bytes: good.clone() });
-    sink.ask(DecodeInterleaved { cells: (cells as u64).wrapping_sub(1), bytes: good });
+    sink.ask(DecodeInterleaved { cells: (cells as u64).wrapping_sub(1), bytes: good.clone() });
+    ask_with_faults(sink, rng, DecodeInterleaved { cells: cells as u64, bytes: good });
 }
 
 pub fn random(sink: &mut dyn Sink, rng: &mut Rng) {
@@ -1062,12 +1219,13 @@ pub fn all(sink: &mut dyn Sink, seed: u64, requests: u64) {
         random(sink, rng);
     }
     limits(sink, rng);
+    blocks(sink, rng);
+    many_bytes(sink, rng);
+    many_cells(sink, rng);
     exhaustive_reversal(sink, rng);
     exhaustive_subsets(sink, rng);
     exhaustive_masks(sink, rng);
     exhaustive_strings(sink, rng);
-    many_cells(sink, rng);
-    many_bytes(sink, rng);
     while sink.asked() < requests {
         random(sink, rng);
     }
