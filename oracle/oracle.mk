@@ -34,7 +34,7 @@ $(OBJECT): $(ARCHIVE)
 
 .PHONY: compare
 compare: $(O)/driver $(OBJECT)
-	@$(O)/driver lines $(OBJECT) oracle/data/lines.txt
+	@$(O)/driver lines $(OBJECT) oracle/data/lines.txt oracle/data/answers.txt oracle/data/vectors.txt
 	@$(O)/driver compare $(OBJECT) $(SEED) $(REQUESTS)
 
 $(O)/teeth_run: oracle/teeth/main.rs
@@ -44,3 +44,15 @@ $(O)/teeth_run: oracle/teeth/main.rs
 .PHONY: teeth
 teeth: $(O)/driver $(O)/teeth_run
 	@$(O)/teeth_run $(O) $(SEED) $(REQUESTS)
+
+# The recorded answers, made anew. With the same seed the file does not change.
+.PHONY: record
+record: $(O)/driver
+	@$(O)/driver record 1 > oracle/data/answers.txt
+	@wc -lc oracle/data/answers.txt
+
+# The published vectors, made anew with the Debian package python3-numcodecs.
+.PHONY: vectors
+vectors:
+	@/usr/bin/python3 oracle/data/vectors.py > oracle/data/vectors.txt
+	@wc -lc oracle/data/vectors.txt
