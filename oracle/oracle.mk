@@ -56,3 +56,12 @@ record: $(O)/driver
 vectors:
 	@/usr/bin/python3 oracle/data/vectors.py > oracle/data/vectors.txt
 	@wc -lc oracle/data/vectors.txt
+
+$(O)/bench: oracle/bench/main.rs oracle/driver/archive.rs $(O)/.rust
+	@$(RUSTC) -C opt-level=3 -L $(O) --extern standin_release=$(O)/libstandin_release.rlib -o $@ oracle/bench/main.rs
+
+# ROUNDS  of which the best counts. Every row with its times goes to build/oracle/bench.txt.
+ROUNDS ?= 25
+.PHONY: bench
+bench: $(O)/bench $(OBJECT)
+	@$(O)/bench $(OBJECT) $(ROUNDS) $(O)/bench.txt

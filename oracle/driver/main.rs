@@ -2,6 +2,7 @@
 //!
 //!   driver compare OBJECT SEED REQUESTS [--first]   compare; --first: end at the first difference
 //!   driver lines OBJECT FILE...                     hold the archive and the judge to recorded lines, and the Rust in its domain
+//!   driver show SEED REQUEST                        the line of the request with this number
 //!   driver ask                                      lines with requests in, what the Rust and the judge answer out
 //!   driver record SEED                              recorded answers out
 //!
@@ -9,16 +10,44 @@
 
 mod archive;
 mod cases;
+mod guarded;
 mod lines;
 mod record;
 mod request;
 mod rust;
 
-use archive::{Archive, Guarded};
+use archive::Archive;
 use cases::{Rng, Sink};
+use guarded::Guarded;
 use request::{CALLS, Outcome, REFUSALS, Request};
 use rust::{BUILDS, Body, body};
+use std::sync::atomic::{AtomicU64, Ordering};
 use std::time::Instant;
+
+/// The number of the request at hand.
+static NOW: AtomicU64 = AtomicU64::new(0);
+
+unsafe extern "C" {
+    fn signal(number: i32, handler: usize) -> usize;
+    fn raise(number: i32) -> i32;
+    fn write(file: i32, text: *const u8, length: usize) -> isize;
+}
+/// Where the archive ends the process, say at which request.
+extern "C" fn ended(number: i32) {
+    let mut text = *b"the process ended at request                     \n";
+    let mut n = NOW.load(Ordering::Relaxed);
+    let mut at = 48;
+    while n > 0 {
+        text[at] = b'0' + (n % 10) as u8;
+        n /= 10;
+        at -= 1;
+    }
+    unsafe {
+        write(1, text.as_ptr(), text.len());
+        signal(number, 0);
+        raise(number);
+    }
+}
 
 /// The domain of the comparison: none of 1 to 6 and 12 holds.
 pub fn in_domain(judged: &Outcome) -> bool {
@@ -152,6 +181,7 @@ impl Compare {
     }
 
     fn hold(&mut self, request: &Request, judged: &Outcome) {
+        NOW.fetch_add(1, Ordering::Relaxed);
         self.requests[request.call()][judged.as_ref().err().copied().unwrap_or(0) as usize] += 1;
         let observed = self.lent_in_all_ways(request, judged);
         if in_domain(judged) {
@@ -282,6 +312,27 @@ fn hold_lines(args: &[String]) -> Result<bool, String> {
     Ok(bad == 0 && compare.differences == [0; 3])
 }
 
+/// Counts requests, and shows one.
+struct Show(u64, u64);
+impl Sink for Show {
+    fn ask(&mut self, request: Request) {
+        self.0 += 1;
+        if self.0 == self.1 {
+            println!("{}", lines::line(&request, &request.judged()));
+            std::process::exit(0);
+        }
+    }
+    fn asked(&self) -> u64 {
+        self.0
+    }
+}
+fn show(args: &[String]) -> Result<bool, String> {
+    let numbers: Result<Vec<u64>, _> = args.iter().map(|n| n.parse()).collect();
+    let Ok([seed, request]) = numbers.as_deref() else { return Err("show SEED REQUEST".into()) };
+    cases::all(&mut Show(0, *request), *seed, *request);
+    Ok(false)
+}
+
 fn ask() -> Result<bool, String> {
     for line in std::io::stdin().lines() {
         let line = line.map_err(|e| e.to_string())?;
@@ -311,13 +362,17 @@ fn main() {
             eprintln!("{info}");
         }
     }));
+    for number in [4, 6, 7, 8, 11] {
+        unsafe { signal(number, ended as *const () as usize) }; // SIGILL, SIGABRT, SIGBUS, SIGFPE, SIGSEGV
+    }
     let args: Vec<String> = std::env::args().skip(1).collect();
     let done = match args.first().map(String::as_str) {
         Some("compare") => compare(&args[1..]),
         Some("lines") => hold_lines(&args[1..]),
+        Some("show") => show(&args[1..]),
         Some("ask") => ask(),
         Some("record") => record::record(&args[1..]),
-        _ => Err("compare, lines, ask or record".into()),
+        _ => Err("compare, lines, show, ask or record".into()),
     };
     match done {
         Ok(good) => std::process::exit(i32::from(!good)),

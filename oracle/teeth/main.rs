@@ -1,6 +1,6 @@
 //! Puts each mistake of mistakes.txt into a copy of the judge, builds it in the archive's place and asks the driver whether it sees it.
 //!
-//!   teeth FOLDER     FOLDER holds the driver; the copies are made there
+//!   teeth FOLDER SEED REQUESTS     FOLDER holds the driver; the copies are made there
 
 use std::fs;
 use std::process::Command;
@@ -71,7 +71,7 @@ fn main() {
             Some(0) => None,
             Some(1) => out.lines().find_map(|l| l.strip_prefix("first difference at ")).map(str::to_string),
             Some(_) => None,
-            None => Some("the process ended".to_string()),
+            None => out.lines().find(|l| l.starts_with("the process ended")).map(|l| l.split_whitespace().collect::<Vec<_>>().join(" ")),
         };
         match how {
             Some(how) => {

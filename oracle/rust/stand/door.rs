@@ -184,25 +184,9 @@ pub fn merge(
 ) -> Outcome<Array> {
     caught(|| {
         let depth = depth as usize;
-        let list = chunks(depth, shape.len(), subsets, masks, values, offsets);
+        let list = list(depth, chunks(depth, shape.len(), subsets, masks, values, offsets));
         Ok(parts(&merged(depth, shape, list)?))
     })
-}
-pub fn merged(
-    depth: usize,
-    shape: &[u64],
-    list: Vec<(ArrayBytes<'_>, ArraySubset)>,
-) -> Result<ArrayBytes<'static>, CodecError> {
-    let list = list.into_iter();
-    if depth == 0 {
-        let list = list.map(|(b, s)| Ok((b.into_variable()?, s)));
-        let list = list.collect::<Result<Vec<_>, CodecError>>()?;
-        Ok(ArrayBytes::Variable(merge_chunks_vlen(list, shape)))
-    } else {
-        let list = list.map(|(b, s)| Ok((b.into_optional()?, s)));
-        let list = list.collect::<Result<Vec<_>, CodecError>>()?;
-        Ok(ArrayBytes::Optional(merge_chunks_vlen_optional(list, shape, depth)?))
-    }
 }
 pub fn partial_decode(
     width: u64,
@@ -231,7 +215,48 @@ pub fn reverse_endianness(size: u64, bytes: &[u8]) -> Outcome<Vec<u8>> {
     })
 }
 
-// ---------------------------------------------------------------- for the benchmark: no copies, nothing caught
+// ---------------------------------------------------------------- for the benchmark: nothing copied, nothing caught
 pub fn reverse(size: u64, bytes: &mut [u8]) {
     crate::array::reverse_endianness(bytes, &DataType::Plain(DataTypeSize::Fixed(size as usize)));
+}
+pub fn interleaved(cells: usize, bytes: &ArrayBytesRaw) -> (Vec<u8>, Vec<usize>) {
+    VlenV2Codec::interleaved(cells, bytes).unwrap()
+}
+pub fn extracted(
+    values: &[u8],
+    offsets: &[u64],
+    subset: &ArraySubset,
+    shape: &[NonZeroU64],
+) -> ArrayBytesVariableLength<'static> {
+    extract_decoded_regions_vlen(values, as_usize(offsets), subset, shape).unwrap()
+}
+pub fn partial_decoder(
+    width: u64,
+    place: u64,
+    shape: &[u64],
+    bytes: &[u8],
+) -> Arc<dyn ArrayPartialDecoderTraits> {
+    let handle = Arc::new(BytesPartialDecoderCache(Some(bytes.to_vec())));
+    let data_type = DataType::Plain(DataTypeSize::Variable);
+    let (shape, fill) = (sides(shape), FillValue::new(vec![]));
+    Arc::new(vlen(width, place)).partial_decoder(handle, &shape, &data_type, &fill, &CodecOptions).unwrap()
+}
+/// A chunk list as the merges take it.
+pub enum List<'a> {
+    Ragged(Vec<(ArrayBytesVariableLength<'a>, ArraySubset)>),
+    Optional(Vec<(ArrayBytesOptional<'a>, ArraySubset)>),
+}
+pub fn list<'a>(depth: usize, chunks: Vec<(ArrayBytes<'a>, ArraySubset)>) -> List<'a> {
+    let chunks = chunks.into_iter();
+    if depth == 0 {
+        List::Ragged(chunks.map(|(b, s)| (b.into_variable().unwrap(), s)).collect())
+    } else {
+        List::Optional(chunks.map(|(b, s)| (b.into_optional().unwrap(), s)).collect())
+    }
+}
+pub fn merged(depth: usize, shape: &[u64], list: List) -> Result<ArrayBytes<'static>, CodecError> {
+    Ok(match list {
+        List::Ragged(list) => ArrayBytes::Variable(merge_chunks_vlen(list, shape)),
+        List::Optional(list) => ArrayBytes::Optional(merge_chunks_vlen_optional(list, shape, depth)?),
+    })
 }
