@@ -34,7 +34,7 @@ $(OBJECT): $(ARCHIVE)
 
 .PHONY: compare
 compare: $(O)/driver $(OBJECT)
-	@$(O)/driver lines $(OBJECT) oracle/data/lines.txt oracle/data/answers.txt oracle/data/vectors.txt
+	@$(O)/driver lines $(OBJECT) oracle/data/lines.txt oracle/data/differences.txt oracle/data/answers.txt oracle/data/vectors.txt
 	@$(O)/driver compare $(OBJECT) $(SEED) $(REQUESTS)
 
 $(O)/teeth_run: oracle/teeth/main.rs
@@ -44,6 +44,11 @@ $(O)/teeth_run: oracle/teeth/main.rs
 .PHONY: teeth
 teeth: $(O)/driver $(O)/teeth_run
 	@$(O)/teeth_run $(O) $(SEED) $(REQUESTS)
+
+# The rows of docs/DIFFERENCES.md, put to the judge and to each build of the Rust.
+.PHONY: differences
+differences: $(O)/driver
+	@$(O)/driver ask < oracle/data/differences.txt
 
 # The recorded answers, made anew. With the same seed the file does not change.
 .PHONY: record

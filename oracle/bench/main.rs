@@ -193,8 +193,7 @@ enum Call<'a> {
     Memcpy(&'a [u8]),
 }
 use Call::*;
-const CALLS: [&str; 7] =
-    ["encode", "decode", "decode_interleaved", "extract", "merge", "partial_decode", "reverse_endianness"];
+const CALLS: [&str; 7] = ["encode", "decode", "decode_interleaved", "extract", "merge", "partial_decode", "reverse_endianness"];
 impl Call<'_> {
     fn name(&self) -> &'static str {
         match self {
@@ -546,7 +545,9 @@ fn main() {
         b.to_memcpy("partial_decode R(8, start), one cell", Partial(&one, &[0, 1], &one_stored), &one.values),
     ];
 
-    println!("\nHow our cost grows: nanoseconds a cell, half masks and short values; extract of a quarter of the cells, a cell of that quarter.\n");
+    println!(
+        "\nHow our cost grows: nanoseconds a cell, half masks and short values; extract of a quarter of the cells, a cell of that quarter.\n"
+    );
     let counts = [1024, 4096, 16_384, 65_536];
     println!("| cells | {} |\n|---|---|---|---|---|", counts.map(|n| n.to_string()).join(" | "));
     for depth in 0..=4 {
@@ -633,7 +634,11 @@ fn ratios(rows: &[Row]) {
             "reverse_endianness" => "bytes",
             _ => "cells",
         };
-        println!("\n`{call}`, by {unit}:\n\n| kind | with | {} |\n|---|---|{}", columns.join(" | "), "---|".repeat(columns.len()));
+        println!(
+            "\n`{call}`, by {unit}:\n\n| kind | with | {} |\n|---|---|{}",
+            columns.join(" | "),
+            "---|".repeat(columns.len())
+        );
         for (kind, what) in lines {
             let cells = columns.iter().map(|column| {
                 let row = rows.iter().find(|row| (&row.kind[..], &row.what[..], &row.column[..]) == (kind, what, *column));

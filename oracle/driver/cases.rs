@@ -516,13 +516,7 @@ fn faulty_stored(rng: &mut Rng, bytes: &mut Vec<u8>) {
 // ---------------------------------------------------------------- requests over a content
 
 fn encode(kind: [u64; 5], shape: &[u64], c: &Content) -> Request {
-    Encode {
-        kind,
-        shape: shape.to_vec(),
-        masks: c.masks.clone(),
-        values: c.values.clone(),
-        offsets: c.offsets.clone(),
-    }
+    Encode { kind, shape: shape.to_vec(), masks: c.masks.clone(), values: c.values.clone(), offsets: c.offsets.clone() }
 }
 fn decode(kind: [u64; 5], shape: &[u64], bytes: &[u8]) -> Request {
     Decode { kind, shape: shape.to_vec(), bytes: bytes.to_vec() }
@@ -548,13 +542,7 @@ fn merge(kind: [u64; 5], shape: &[u64], list: &[(Vec<u64>, Content)]) -> Request
     Merge { kind, shape: shape.to_vec(), subsets, masks, values, offsets }
 }
 fn partial_decode(kind: [u64; 5], shape: &[u64], subset: &[u64], bytes: &[u8]) -> Request {
-    PartialDecode {
-        width: kind[2],
-        place: kind[3],
-        shape: shape.to_vec(),
-        subset: subset.to_vec(),
-        bytes: bytes.to_vec(),
-    }
+    PartialDecode { width: kind[2], place: kind[3], shape: shape.to_vec(), subset: subset.to_vec(), bytes: bytes.to_vec() }
 }
 fn subset_cells(shape: &[u64], subset: &[u64]) -> Request {
     SubsetCells { shape: shape.to_vec(), subset: subset.to_vec() }
@@ -587,8 +575,7 @@ fn exhaustive_masks(sink: &mut dyn Sink, rng: &mut Rng) {
             }
             let lengths = if depth * cells > 6 || cells == 4 { 2 } else { 3 };
             for set in 0..1u64 << (depth * cells) {
-                let masks: Vec<u8> =
-                    (0..depth * cells).map(|i| if set >> i & 1 == 1 { mask_byte(rng) } else { 0 }).collect();
+                let masks: Vec<u8> = (0..depth * cells).map(|i| if set >> i & 1 == 1 { mask_byte(rng) } else { 0 }).collect();
                 let mut both = |kind, c: &Content| {
                     let shape = shape_of(rng, cells);
                     let request = encode(kind, &shape, c);

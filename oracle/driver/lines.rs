@@ -116,9 +116,7 @@ impl Words<'_> {
         if word.len() != 2 * count {
             return Err(format!("{count} bytes announced: {word}"));
         }
-        (0..count)
-            .map(|i| u8::from_str_radix(&word[2 * i..2 * i + 2], 16).map_err(|_| format!("not bytes: {word}")))
-            .collect()
+        (0..count).map(|i| u8::from_str_radix(&word[2 * i..2 * i + 2], 16).map_err(|_| format!("not bytes: {word}"))).collect()
     }
     fn kind(&mut self) -> Result<[u64; 5], String> {
         Ok([self.number()?, self.number()?, self.number()?, self.number()?, self.number()?])
@@ -148,13 +146,9 @@ pub fn parse(text: &str) -> Result<(Request, Option<Outcome>), String> {
             values: w.bytes()?,
             offsets: w.numbers()?,
         },
-        6 => PartialDecode {
-            width: w.number()?,
-            place: w.number()?,
-            shape: w.numbers()?,
-            subset: w.numbers()?,
-            bytes: w.bytes()?,
-        },
+        6 => {
+            PartialDecode { width: w.number()?, place: w.number()?, shape: w.numbers()?, subset: w.numbers()?, bytes: w.bytes()? }
+        }
         7 => ReverseEndianness { size: w.number()?, bytes: w.bytes()? },
         8 => SubsetCells { shape: w.numbers()?, subset: w.numbers()? },
         n => return Err(format!("no such call: {n}")),

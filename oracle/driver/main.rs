@@ -3,7 +3,7 @@
 //!   driver compare OBJECT SEED REQUESTS [--first]   compare; --first: end at the first difference
 //!   driver lines OBJECT FILE...                     hold the archive and the judge to recorded lines, and the Rust in its domain
 //!   driver show SEED REQUEST                        the line of the request with this number
-//!   driver ask                                      lines with requests in, what the Rust and the judge answer out
+//!   driver ask                                      lines with requests in, what the judge and the Rust answer out
 //!   driver record SEED                              recorded answers out
 //!
 //! OBJECT is the archive as a shared object. The exit status is 0 where no difference was found.
@@ -54,12 +54,15 @@ pub fn in_domain(judged: &Outcome) -> bool {
     !matches!(judged, Err(1..=6 | 12))
 }
 
+struct Compare {
+    guarded: Guarded,
+    rng: Rng,
+    stop_at_first: bool,
+    counts: Counts,
+}
 const ANSWERS: usize = 13;
 #[derive(Default)]
-struct Compare {
-    guarded: Option<Guarded>,
-    rng: Option<Rng>,
-    stop_at_first: bool,
+struct Counts {
     requests: [[u64; ANSWERS]; 8],
     calls: [[u64; ANSWERS]; 8],
     /// Requests that each build of the Rust answered: by its own function, as ragged cells.
@@ -84,16 +87,13 @@ fn shown(request: &Request) -> String {
 
 impl Compare {
     fn new(object: &str, seed: u64) -> Result<Compare, String> {
-        Ok(Compare {
-            guarded: Some(Guarded::new(Archive::load(object)?)),
-            rng: Some(Rng(!seed)),
-            ..Compare::default()
-        })
+        let guarded = Guarded::new(Archive::load(object)?);
+        Ok(Compare { guarded, rng: Rng(!seed), stop_at_first: false, counts: Counts::default() })
     }
 
     fn differ(&mut self, between: usize, request: &Request, what: &str) {
-        self.differences[between] += 1;
-        if self.differences[between] <= 10 {
+        self.counts.differences[between] += 1;
+        if self.counts.differences[between] <= 10 {
             println!("difference between {}: {}: {what}", BETWEEN[between], CALLS[request.call()]);
             println!("    {}", shown(request));
         }
@@ -106,12 +106,11 @@ impl Compare {
             (Ok(_), Err(refusal)) => &Err(refusal),
             _ => judged,
         };
-        let guarded = self.guarded.as_mut().unwrap();
-        let answer = guarded.call(request, lent);
+        let answer = self.guarded.call(request, lent);
         let number = expected.as_ref().err().copied().unwrap_or(0);
-        let fault = guarded.fault(request, expected);
+        let fault = self.guarded.fault(request, expected);
         if (answer as usize) < ANSWERS {
-            self.calls[request.call()][answer as usize] += 1;
+            self.counts.calls[request.call()][answer as usize] += 1;
         }
         if answer != number {
             self.differ(0, request, &format!("answer {answer}, not {number}, with outputs of {lent:?}"));
@@ -126,13 +125,13 @@ impl Compare {
         let slots = request.slots();
         let needs = needs(request, judged);
         let exact = match self.call(request, needs, judged) {
-            0 => self.guarded.as_ref().unwrap().results(request).ok_or(u32::MAX),
+            0 => self.guarded.results(request).ok_or(u32::MAX),
             refusal => Err(refusal),
         };
         if let Request::ReverseEndianness { .. } = request {
             return exact; // in place: no other lengths
         }
-        let rng = self.rng.as_mut().unwrap();
+        let rng = &mut self.rng;
         let more = [0, 1, 2].map(|i| if slots[i] { needs[i] + rng.below(9) } else { 0 });
         let some = [0, 1, 2].map(|i| if slots[i] { rng.below(40) } else { 0 });
         match judged {
@@ -161,11 +160,11 @@ impl Compare {
         if body == Body::None {
             return;
         }
-        self.compared[usize::from(body == Body::AsRagged)] += 1;
+        self.counts.compared[usize::from(body == Body::AsRagged)] += 1;
         for (at, build) in BUILDS.iter().enumerate() {
             let rust = build.answer(request);
             if let (Err(e), Err(refusal)) = (&rust, judged) {
-                self.refused[at][*refusal as usize][usize::from(e == "panic")] += 1;
+                self.counts.refused[at][*refusal as usize][usize::from(e == "panic")] += 1;
             }
             let short = match &rust {
                 Ok(_) => "ok".to_string(),
@@ -182,13 +181,13 @@ impl Compare {
 
     fn hold(&mut self, request: &Request, judged: &Outcome) {
         NOW.fetch_add(1, Ordering::Relaxed);
-        self.requests[request.call()][judged.as_ref().err().copied().unwrap_or(0) as usize] += 1;
+        self.counts.requests[request.call()][judged.as_ref().err().copied().unwrap_or(0) as usize] += 1;
         let observed = self.lent_in_all_ways(request, judged);
         if in_domain(judged) {
             self.with_the_rust(request, judged, &observed);
         }
-        if self.stop_at_first && self.differences != [0; 3] {
-            let seen: Vec<&str> = (0..3).filter(|&i| self.differences[i] > 0).map(|i| BETWEEN[i]).collect();
+        if self.stop_at_first && self.counts.differences != [0; 3] {
+            let seen: Vec<&str> = (0..3).filter(|&i| self.counts.differences[i] > 0).map(|i| BETWEEN[i]).collect();
             println!("first difference at request {}: {}", self.asked(), seen.join(", "));
             std::process::exit(1);
         }
@@ -196,7 +195,10 @@ impl Compare {
 
     fn report(&self, seconds: f64) -> bool {
         let head: String = (1..ANSWERS).map(|n| format!("{n:>8}")).collect();
-        for (what, table) in [("requests, by what they should give", &self.requests), ("calls of the archive, by answer", &self.calls)] {
+        for (what, table) in [
+            ("requests, by what they should give", &self.counts.requests),
+            ("calls of the archive, by answer", &self.counts.calls),
+        ] {
             println!("\n{what}:\n{:<20}{:>9}{head}{:>9}", "", "ok", "all");
             let mut sums = [0; ANSWERS];
             for (call, row) in table.iter().enumerate() {
@@ -211,20 +213,20 @@ impl Compare {
         println!("{:<26}{}", "", [7, 8, 9, 10, 11].map(|n| format!("{n:>17}")).concat());
         for (at, build) in BUILDS.iter().enumerate() {
             let cells = [7, 8, 9, 10, 11].map(|n| {
-                let [errors, panics] = self.refused[at][n];
+                let [errors, panics] = self.counts.refused[at][n];
                 format!("{:>17}", format!("{errors} / {panics}"))
             });
             println!("{:<26}{}", build.name, cells.concat());
         }
-        println!("\n{} requests, {} calls of the archive, {seconds:.0} s", self.asked(), self.guarded.as_ref().unwrap().calls);
+        println!("\n{} requests, {} calls of the archive, {seconds:.0} s", self.asked(), self.guarded.calls);
         println!(
             "in the domain and compared with each of {} builds of the Rust: {} by its own functions, {} as ragged cells of one size",
             BUILDS.len(),
-            self.compared[0],
-            self.compared[1]
+            self.counts.compared[0],
+            self.counts.compared[1]
         );
         let mut good = true;
-        for (between, n) in self.differences.iter().enumerate() {
+        for (between, n) in self.counts.differences.iter().enumerate() {
             println!("differences between {}: {n}", BETWEEN[between]);
             good &= *n == 0;
         }
@@ -236,7 +238,7 @@ impl Compare {
         let mut good = true;
         for (call, refusals) in REFUSALS.iter().enumerate() {
             for &refusal in refusals.iter().chain(&[0]) {
-                if self.calls[call][refusal as usize] == 0 {
+                if self.counts.calls[call][refusal as usize] == 0 {
                     println!("not met: {} with answer {refusal}", CALLS[call]);
                     good = false;
                 }
@@ -267,7 +269,7 @@ impl Sink for Compare {
         self.hold(&request, &request.judged());
     }
     fn asked(&self) -> u64 {
-        self.requests.iter().flatten().sum()
+        self.counts.requests.iter().flatten().sum()
     }
 }
 
@@ -306,10 +308,10 @@ fn hold_lines(args: &[String]) -> Result<bool, String> {
         println!("{file}: {count} lines");
     }
     println!("lines that the judge answers otherwise: {bad}");
-    for (between, n) in compare.differences.iter().enumerate() {
+    for (between, n) in compare.counts.differences.iter().enumerate() {
         println!("differences between {}: {n}", BETWEEN[between]);
     }
-    Ok(bad == 0 && compare.differences == [0; 3])
+    Ok(bad == 0 && compare.counts.differences == [0; 3])
 }
 
 /// Counts requests, and shows one.
@@ -333,23 +335,30 @@ fn show(args: &[String]) -> Result<bool, String> {
     Ok(false)
 }
 
+/// The requests of standard input with what the judge and the Rust answer. Outside the domain too: there the Rust may end the process.
 fn ask() -> Result<bool, String> {
     for line in std::io::stdin().lines() {
         let line = line.map_err(|e| e.to_string())?;
         if line.starts_with('#') || line.is_empty() {
+            println!("{line}");
             continue;
         }
         let (request, _) = lines::parse(&line)?;
-        let judged = request.judged();
-        println!("judge: {}", lines::line(&request, &judged));
+        let asked = lines::request_line(&request);
+        let said = |outcome: &Outcome| lines::line(&request, outcome)[asked.len() + 1..].to_string();
+        println!("{} {}", CALLS[request.call()], shown(&request));
+        println!("    judge: {}", said(&request.judged()));
         if body(&request) == Body::None {
             continue;
         }
-        for build in &BUILDS {
-            match build.answer(&request) {
-                Ok(r) => println!("{}: {}", build.name, lines::line(&request, &Ok(r))),
-                Err(e) => println!("{}: {e}", build.name),
-            }
+        let answers = BUILDS.map(|build| match build.answer(&request) {
+            Ok(r) => (build.name, said(&Ok(r))),
+            Err(e) => (build.name, e),
+        });
+        if answers.iter().all(|(_, answer)| *answer == answers[0].1) {
+            println!("    Rust: {}", answers[0].1);
+        } else {
+            answers.iter().for_each(|(name, answer)| println!("    Rust, {name}: {answer}"));
         }
     }
     Ok(true)

@@ -15,16 +15,8 @@ pub enum Request {
 }
 use Request::*;
 
-pub const CALLS: [&str; 8] = [
-    "encode",
-    "decode",
-    "decode_interleaved",
-    "extract",
-    "merge",
-    "partial_decode",
-    "reverse_endianness",
-    "subset_cells",
-];
+pub const CALLS: [&str; 8] =
+    ["encode", "decode", "decode_interleaved", "extract", "merge", "partial_decode", "reverse_endianness", "subset_cells"];
 
 /// The refusals that a call can give, by docs/DECISIONS.md, part 0. At the C boundary width and place come as numbers, so
 /// `partial_decode` has 1 as well.
@@ -87,8 +79,9 @@ impl Request {
 
     pub fn judged(&self) -> Outcome {
         match self {
-            Encode { kind, shape, masks, values, offsets } => judge::encode(*kind, shape, masks, values, offsets)
-                .map(|values| Results { values, ..Results::default() }),
+            Encode { kind, shape, masks, values, offsets } => {
+                judge::encode(*kind, shape, masks, values, offsets).map(|values| Results { values, ..Results::default() })
+            }
             Decode { kind, shape, bytes } => judge::decode(*kind, shape, bytes).map(Results::from),
             DecodeInterleaved { cells, bytes } => judge::decode_interleaved(*cells, bytes).map(Results::from),
             Extract { kind, shape, subset, masks, values, offsets } => {
@@ -100,8 +93,9 @@ impl Request {
             PartialDecode { width, place, shape, subset, bytes } => {
                 judge::partial_decode(*width, *place, shape, subset, bytes).map(Results::from)
             }
-            ReverseEndianness { size, bytes } => judge::reverse_endianness(*size, bytes)
-                .map(|(values, whole)| Results { values, whole, ..Results::default() }),
+            ReverseEndianness { size, bytes } => {
+                judge::reverse_endianness(*size, bytes).map(|(values, whole)| Results { values, whole, ..Results::default() })
+            }
             SubsetCells { shape, subset } => {
                 judge::subset_cells(shape, subset).map(|offsets| Results { offsets, ..Results::default() })
             }

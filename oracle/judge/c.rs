@@ -250,13 +250,7 @@ pub unsafe extern "C" fn dpx_partial_decode(
 ) -> u32 {
     unsafe {
         deliver_two(
-            partial_decode(
-                width,
-                place,
-                given(shape, shape_count),
-                given(subset, subset_count),
-                given(bytes, bytes_count),
-            ),
+            partial_decode(width, place, given(shape, shape_count), given(subset, subset_count), given(bytes, bytes_count)),
             (out_values, out_values_count),
             (out_offsets, out_offsets_count),
             lengths,

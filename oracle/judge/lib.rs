@@ -237,11 +237,7 @@ fn write_ragged(width: usize, end: bool, offsets: &[u64], values: &[u8]) -> Vec<
         index.extend(&offset.to_le_bytes()[..width]);
     }
     let length = (index.len() as u64).to_le_bytes();
-    if end {
-        [values, &index, &length].concat()
-    } else {
-        [&length, &index[..], values].concat()
-    }
+    if end { [values, &index, &length].concat() } else { [&length, &index[..], values].concat() }
 }
 
 // ---------------------------------------------------------------- decode

@@ -9,6 +9,7 @@
 set -eu
 listed=$1; out=$2
 here=$(CDPATH= cd -- "$(dirname -- "$0")" && pwd)
+[ -d "$listed" ] || { echo "no folder $listed: LISTED names the one with the listed files of zarrs" >&2; exit 1; }
 A2B=array--codec--array_to_bytes
 WHOLE="array--array_bytes_internal $A2B--bytes $A2B--optional--optional_codec
  $A2B--vlen $A2B--vlen--vlen_codec $A2B--vlen--vlen_partial_decoder $A2B--vlen_v2"

@@ -1,6 +1,6 @@
 //! Puts each mistake of mistakes.txt into a copy of the judge, builds it in the archive's place and asks the driver whether it sees it.
 //!
-//!   teeth FOLDER SEED REQUESTS     FOLDER holds the driver; the copies are made there
+//!   teeth FOLDER SEED REQUESTS [WORD]     FOLDER holds the driver; the copies are made there. WORD: only mistakes with it in their name
 
 use std::fs;
 use std::process::Command;
@@ -53,9 +53,10 @@ fn build(folder: &str, at: usize, m: &Mistake) -> Result<String, String> {
 
 fn main() {
     let args: Vec<String> = std::env::args().skip(1).collect();
-    let [folder, seed, requests] = &args[..] else { panic!("teeth FOLDER SEED REQUESTS") };
+    let [folder, seed, requests, words @ ..] = &args[..] else { panic!("teeth FOLDER SEED REQUESTS [WORD]") };
     let text = fs::read_to_string("oracle/teeth/mistakes.txt").unwrap();
-    let list = mistakes(&text);
+    let mut list = mistakes(&text);
+    list.retain(|m| words.iter().all(|word| m.name.contains(word)));
     let mut caught = 0;
     for (at, m) in list.iter().enumerate() {
         let object = match build(folder, at, m) {
@@ -65,13 +66,17 @@ fn main() {
                 continue;
             }
         };
-        let run = Command::new(format!("{folder}/driver")).args(["compare", &object, seed, requests, "--first"]).output().unwrap();
+        let run =
+            Command::new(format!("{folder}/driver")).args(["compare", &object, seed, requests, "--first"]).output().unwrap();
         let out = String::from_utf8_lossy(&run.stdout).into_owned();
         let how = match run.status.code() {
             Some(0) => None,
             Some(1) => out.lines().find_map(|l| l.strip_prefix("first difference at ")).map(str::to_string),
             Some(_) => None,
-            None => out.lines().find(|l| l.starts_with("the process ended")).map(|l| l.split_whitespace().collect::<Vec<_>>().join(" ")),
+            None => out
+                .lines()
+                .find(|l| l.starts_with("the process ended"))
+                .map(|l| l.split_whitespace().collect::<Vec<_>>().join(" ")),
         };
         match how {
             Some(how) => {
