@@ -10,7 +10,7 @@ use Rattle.array.specs.Buffers.{over}
 use Rattle.array.specs.Content.{Content}
 use Rattle.array.specs.Meaning.{orderOf}
 use Rattle.codec.specs.Frame.{countSet}
-use Rattle.codec.proofs.Outcomes.{short-masks, short-values, all-written}
+use Rattle.decode.proofs.Outcomes.{short-masks, short-values, all-written}
 use Rattle.decode.specs.Reads.{fixedFrom}
 use Rattle.decode.proofs.Small.{planes-small, bytes-small}
 use Rattle.decode.proofs.SpreadingValues.{valuesLeft}
