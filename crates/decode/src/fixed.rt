@@ -19,7 +19,7 @@ ghost use Rattle.array.specs.Outcome.{contentArray, outcomeArray};
 ghost use Rattle.decode.specs.Outcomes.{readOutcome};
 ghost use Rattle.decode.specs.Reads.{fixedFrom, FixedWithin};
 
-// Writes what the walk found: `cells` values from `at` on, for an array of n cells.
+// Writes what the walk found: `cells` values from `at` on, for an array of n cells. Where all cells are set no plane is looked at.
 pub fn write_fixed(
     s: &[u8],
     n: usize,
@@ -49,6 +49,10 @@ pub fn write_fixed(
         return WrittenArray::Lengths(planes, bytes, 0);
     }
     place_planes(masks, n, depth, s);
+    if cells == n {
+        copy_cells(values, cells, s, at, size, order);
+        return WrittenArray::Lengths(planes, bytes, 0);
+    }
     spread_values(values, masks, planes - n, n, s, at, size, order);
     WrittenArray::Lengths(planes, bytes, 0)
 }

@@ -8,10 +8,10 @@ use lib.ListN.{length}
 use borrow.Author.Needs.{needs}
 use Rattle.array.specs.Answer.{gives}
 use Rattle.array.specs.Meaning.{orderOf}
-use Rattle.codec.specs.Walk.{walked, valuesAt, toldWalk}
 use Rattle.array.specs.Outcome.{contentArray}
-use Rattle.decode.specs.Outcomes.{readOutcome}
+use Rattle.codec.specs.Walk.{walked, valuesAt, toldWalk}
 use Rattle.codec.proofs.Walks.{WalkPassed, walk-values}
+use Rattle.decode.specs.Outcomes.{readOutcome}
 use Rattle.decode.proofs.Small.{bytes-small}
 use Rattle.decode.proofs.FixedLaws.{values-within, none-within, fixed-refused, fixed-none, fixed-length, fixed-given}
 use Rattle.decode.proofs.fixed.decode_fixed.Statement.{statement}

@@ -9,14 +9,14 @@ use borrow.Author.Needs.{needs}
 use Rattle.array.specs.Answer.{gives}
 use Rattle.array.specs.Kind.{Place, atStart, atEnd, ragged}
 use Rattle.array.specs.Meaning.{widthOf, placeOf}
+use Rattle.array.specs.Outcome.{contentArray}
 use Rattle.codec.specs.Mask.{byteMask}
 use Rattle.codec.specs.Walk.{walked, valuesAt, toldWalk}
 use Rattle.codec.specs.Index.{toldIndex}
 use Rattle.codec.specs.Calls.{readIn}
-use Rattle.array.specs.Outcome.{contentArray}
-use Rattle.decode.specs.Outcomes.{readOutcome}
 use Rattle.codec.proofs.Walks.{WalkPassed, walk-values, values-flat, passed-count}
 use Rattle.codec.proofs.CheckedIndex.{span-refused, IndexChecked, index-checked, IndexPlaced, index-placed}
+use Rattle.decode.specs.Outcomes.{readOutcome}
 use Rattle.decode.proofs.NestedLaws.{none-within, ragged-refused, ragged-none-set, ragged-wrong, ragged-given}
 use Rattle.decode.proofs.ragged.decode_ragged.Statement.{statement}
 use Rattle.decode.proofs.ragged.decode_ragged.Tie as tie

@@ -9,8 +9,8 @@ use lib.Seq.{length-take-le}
 use borrow.Author.Needs.{needs}
 use Rattle.array.specs.Content.{Content}
 use Rattle.array.specs.Meaning.{widthOf}
-use Rattle.codec.specs.Index.{offsetsIn}
 use Rattle.array.specs.Outcome.{contentArray}
+use Rattle.codec.specs.Index.{offsetsIn}
 use Rattle.decode.proofs.Outcomes.{short-values, short-offsets, all-written}
 use Rattle.decode.proofs.Small.{few-cells}
 use Rattle.decode.proofs.CopyingOffsets.{length-offsets}
