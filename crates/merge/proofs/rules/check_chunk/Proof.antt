@@ -11,8 +11,8 @@ use Rattle.merge.specs.Chunks.{chunkAnswer}
 use Rattle.merge.proofs.OneChunk.{bad-masks, bad-fixed, fits-fixed, bad-short, bad-falls, bad-last, first-le, fits-ragged}
 use Rattle.array.specs.declared.kind.Values.{Values}
 use borrow.Author.Needs.{needs}
-use Rattle.merge.proofs.check.check_chunk.Statement.{statement}
-use Rattle.merge.proofs.check.check_chunk.Tie as tie
+use Rattle.merge.proofs.rules.check_chunk.Statement.{statement}
+use Rattle.merge.proofs.rules.check_chunk.Tie as tie
 
 -- what the form's cases say of the answer
 abbrev by : (x y : Values) (d m pl vl : ℕ) (os : List ℕ) → x ≡ y → chunkAnswer (formOf y) d m pl vl os ≡ chunkAnswer (formOf x) d m pl vl os

@@ -18,8 +18,8 @@ use Rattle.array.proofs.ShapeLaws.{Counted, counted, not-counted}
 use Rattle.merge.specs.Chunks.{toldTotal, chunkSum}
 use Rattle.merge.specs.Merge.{Sizes}
 use Rattle.merge.proofs.Passing.{tested-subsets, no-kind, no-shape, no-subsets, bad-chunks, too-many, no-cover, passes}
-use Rattle.merge.proofs.check.check_merge.Statement.{statement}
-use Rattle.merge.proofs.check.check_merge.Tie as tie
+use Rattle.merge.proofs.rules.check_merge.Statement.{statement}
+use Rattle.merge.proofs.rules.check_merge.Tie as tie
 
 abbrev start : tie.Else1 → tie.Start
 start e = e .before .before .before .before .before

@@ -16,9 +16,9 @@ use Rattle.cover.proofs.SubsetWalk.{next-room, now-within}
 use Rattle.merge.specs.Chunks.{chunkAnswer}
 use Rattle.merge.proofs.ChunkWalk.{Walked, walked-begins, masks-left, values-left, offsets-left, none-left, walked-bad, walked-more, rest-part}
 use Rattle.merge.proofs.OneChunk.{Fitting, chunk-fits}
-use Rattle.merge.specs.declared.check.Chunk.the-variants.{Fits}
-use Rattle.merge.proofs.check.check_chunks.Statement.{statement}
-use Rattle.merge.proofs.check.check_chunks.Tie as tie
+use Rattle.merge.specs.declared.rules.Chunk.the-variants.{Fits}
+use Rattle.merge.proofs.rules.check_chunks.Statement.{statement}
+use Rattle.merge.proofs.rules.check_chunks.Tie as tie
 
 abbrev Inv-loop : tie.InvT-loop
 Inv-loop kind shape subsets count masks values offsets d depth i₀ at₀ p₀ v₀ o₀ sum₀ i at p v o sum = Walked (formOf (kind .values)) (kind .depth) shape subsets count masks values offsets i at p v o sum
