@@ -11,4 +11,3 @@ pub mod Walks
 pub mod IndexLaws
 pub mod CheckedIndex
 pub mod Returns
-pub mod Outcomes

@@ -10,4 +10,3 @@ pub mod Spread
 pub mod Walk
 pub mod Stored
 pub mod Index
-pub mod Outcomes

@@ -1,6 +1,6 @@
 -- The loop that writes values that are all stored: what is left to write, turn by turn.
 -- Assumes nothing.
-use mathlib.Core.Path.{_≡_, sym, ap, ap₂, _∙_}
+use mathlib.Core.Path.{_≡_, refl, sym, ap, ap₂, _∙_}
 use mathlib.Core.List.{List, _++_, map}
 use Prim.Native.Nat.{ℕ, zero, suc, _+_, _-_, _*_, _≤_, _<_}
 use native.Mathlib.Omega.{arith}
@@ -9,12 +9,12 @@ use native.Mathlib.Numerals.{sub-one}
 use lib.ListN.{length, take, drop, length-append, length-drop, length-map}
 use lib.Seq.{length-take-le, drop-drop}
 use Rattle.array.specs.Lists.{joined, pieces}
-use Rattle.array.specs.Kind.{Order, ordered}
+use Rattle.array.specs.Kind.{Order, little, ordered}
 use Rattle.array.specs.Buffers.{over, overAt}
-use Rattle.array.proofs.Lists.{length-joined, length-pieces}
+use Rattle.array.proofs.Lists.{map-cong, map-id, length-joined, length-pieces, joined-pieces}
 use Rattle.array.proofs.Sizes.{length-ordered}
 use Rattle.array.proofs.Laying.{Laying, laying-begins, laying-same, laying-left, laying-ends, laying-part, laying-is}
-use Rattle.codec.proofs.IndexLaws.{times-less}
+use Rattle.codec.proofs.IndexLaws.{times-less, pieces-take}
 use Rattle.decode.proofs.SpreadingValues.{sized-ordered}
 
 -- `left` values, stored from j on
@@ -66,3 +66,10 @@ module _ {size : ℕ} {o : Order} {s d : List ℕ} {n at : ℕ} {out : List ℕ}
       laid = laying-part (cellsLeft size o s n at) d 0 out to (ordered o (take size (drop j s))) _ (laying-is (v .laid) next-cell) out′
           (eo ∙ ap (λ (k : ℕ). overAt k (ordered o (take size (drop j s))) out) (sym (zero-add to))) (to + size) (ap (λ (k : ℕ). to + k) (sym long));
     }
+
+-- in little order the stored values are one run
+pub little-run : (size : ℕ) (s : List ℕ) (n at : ℕ) → at + n * size ≤ length s → cellsLeft size little s n at ≡ take (n * size) (drop at s)
+little-run size s n at h =
+    let q : List ℕ = drop at s in
+    ap joined (map-cong (ordered little) (λ v. v) (λ v. refl) (pieces size n q) ∙ map-id (pieces size n q) ∙ sym (pieces-take size n q))
+    ∙ joined-pieces size n (take (n * size) q) (length-take-le (n * size) q (omega (arith, length-drop at s)))

@@ -7,14 +7,15 @@ use mathlib.Core.List.{List, [], map}
 use Prim.Native.Nat.{ℕ, zero, suc, _+_, _-_, _*_, _≤_}
 use native.Mathlib.Omega.{arith}
 use native.Mathlib.Nat.{zero-mul}
-use lib.ListN.{length, drop, replicate, length-drop}
+use lib.ListN.{length, drop, replicate, length-drop, length-map}
 use borrow.Author.Tests.{eq-eqb, ne-eqb}
 use Rattle.array.specs.Answer.{Answer, gives, refuses, andThen, unless}
 use Rattle.array.specs.Limits.{mostCells, mostDepth, mostSize}
 use Rattle.array.specs.Lists.{joined, pieces}
 use Rattle.array.specs.Kind.{Order, fixed, ordered}
-use Rattle.array.specs.Cells.{Cell}
+use Rattle.array.specs.Cells.{Value, Cell}
 use Rattle.array.specs.Content.{layout}
+use Rattle.array.proofs.Lists.{length-pieces}
 use Rattle.codec.specs.Mask.{byteMask}
 use Rattle.codec.specs.Frame.{countSet}
 use Rattle.codec.specs.Spread.{spread}
@@ -22,6 +23,7 @@ use Rattle.codec.specs.Values.{getValues}
 use Rattle.codec.specs.Walk.{Innermost, valuesAt, noneSet, walked}
 use Rattle.codec.specs.Stored.{cellsFrom, answerBy, innermostCount}
 use Rattle.codec.specs.Calls.{readIn}
+use Rattle.codec.proofs.SpreadLaws.{spread-all}
 use Rattle.codec.proofs.Reading.{read-walked}
 use Rattle.codec.proofs.Walks.{walk-values, walk-none, values-flat, none-deep, passed-count}
 use Rattle.decode.specs.Reads.{fixedFrom, FixedWithin}
@@ -45,6 +47,16 @@ module _ (o : Order) {d : ℕ} {s : List ℕ} {n at k size : ℕ} (r : FixedWith
   fixed-values f =
       ap joined (leaves-are (replicate size 0) s n d (map (ordered o) (pieces size k (drop at s))) f)
       ∙ ap (λ (c : ℕ). joined (spread (replicate size 0) (innermostIn s n (d - 1)) (map (ordered o) (pieces size c (drop at s))))) (fixed-count f)
+
+  -- where all cells are set the values are those that are stored
+  pub full-values : d ≢ 0 → k ≡ n → fixedFrom size o d s n at k .values ≡ cellsLeft size o s k at
+  unfolding fixedFrom
+  full-values f e =
+      let vs : List Value = map (ordered o) (pieces size k (drop at s)) in
+      let p : List ℕ = innermostIn s n (d - 1) in
+      let lp : length p ≡ n = innermost-long s n d (r .some) (r .masks) f in
+      let lv : length vs ≡ k = length-map (pieces size k (drop at s)) (ordered o) ∙ length-pieces size k (drop at s) in
+      ap joined (leaves-are (replicate size 0) s n d vs f ∙ spread-all (replicate size 0) p vs (sym (fixed-count f) ∙ e ∙ sym lp) (lv ∙ e ∙ sym lp))
 
   pub flat-count : d ≡ 0 → k ≡ n
   unfolding innermostCount

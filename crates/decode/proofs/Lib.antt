@@ -1,3 +1,4 @@
+pub mod Outcomes
 pub mod Placing
 pub mod SpreadingValues
 pub mod CopyingCells

@@ -25,7 +25,7 @@ use Rattle.codec.specs.Values.{getValues}
 use Rattle.codec.specs.Walk.{Innermost, valuesAt, noneSet, walked}
 use Rattle.codec.specs.Stored.{cellsFrom, answerBy, MasksWithin, innermostCount}
 use Rattle.codec.specs.Index.{offsetsIn, IndexWithin}
-use Rattle.codec.specs.Outcomes.{lent}
+use Rattle.array.specs.Outcome.{contentArray}
 use Rattle.codec.specs.Calls.{readIn}
 use Rattle.codec.proofs.SpreadLaws.{length-spread}
 use Rattle.codec.proofs.Reading.{read-walked}
@@ -135,7 +135,7 @@ module _ {d w : ℕ} {s : List ℕ} {n start from k first last : ℕ} (r : Neste
 -- ---- with masks or without
 
 module _ (d w : ℕ) (s : List ℕ) (n index from k first last : ℕ) where
-  pub given-flat : d ≡ 0 → raggedFrom d w s n index from k first last ≡ lent [] (take last (drop from s)) (offsetsIn w (suc k) (drop index s))
+  pub given-flat : d ≡ 0 → raggedFrom d w s n index from k first last ≡ contentArray [] (take last (drop from s)) (offsetsIn w (suc k) (drop index s))
   unfolding raggedFrom
   given-flat e = ap (λ (j : ℕ). raggedFrom j w s n index from k first last) e
 

@@ -17,7 +17,8 @@ use Rattle.array.specs.Buffers.{contentOutcome}
 use Rattle.array.proofs.Rules.{shape-ok}
 use Rattle.codec.specs.Mask.{byteMask}
 use Rattle.codec.specs.Calls.{readIn, decodeAnswer, decoded}
-use Rattle.codec.specs.Outcomes.{lent, outcomeArray, ifEnough, readOutcome}
+use Rattle.array.specs.Outcome.{contentArray, outcomeArray}
+use Rattle.decode.specs.Outcomes.{ifEnough, readOutcome}
 
 -- what the shape's count says
 pub record ShapeCounted (shape : List ℕ) (n : ℕ) : Type 0 where
@@ -52,17 +53,17 @@ shape-refused shape e h = go (shapeTest shape) refl h
 -- ---- the outcome, by the stages
 
 module _ (k : Kind) (shape s m v o : List ℕ) where
-  pub by-kind : kindTest k ≡ false → outcomeArray (Refused 1) m v o ≡ decoded k shape s (lent m v o)
+  pub by-kind : kindTest k ≡ false → outcomeArray (Refused 1) m v o ≡ decoded k shape s (contentArray m v o)
   unfolding decoded decodeAnswer
   by-kind e = rw e
 
   module _ (e : kindTest k ≡ true) where
-    pub by-shape : shapeTest shape ≡ false → outcomeArray (Refused 2) m v o ≡ decoded k shape s (lent m v o)
+    pub by-shape : shapeTest shape ≡ false → outcomeArray (Refused 2) m v o ≡ decoded k shape s (contentArray m v o)
     unfolding decoded decodeAnswer
     by-shape f = rw (e, f)
 
-    pub by-reading : (n : ℕ) → ShapeCounted shape n → (f : Form) → k .form ≡ f → readOutcome (lent m v o) (readIn byteMask f (k .depth) n s) ≡ decoded k shape s (lent m v o)
+    pub by-reading : (n : ℕ) → ShapeCounted shape n → (f : Form) → k .form ≡ f → readOutcome (contentArray m v o) (readIn byteMask f (k .depth) n s) ≡ decoded k shape s (contentArray m v o)
     unfolding decoded decodeAnswer
     by-reading n c f ef =
-        ap₂ (λ (g : Form) (j : ℕ). readOutcome (lent m v o) (readIn byteMask g (k .depth) j s)) (sym ef) (c .is)
-        ∙ ap₂ (λ (x y : Bool). contentOutcome (unless x 1 (unless y 2 (andThen (readIn byteMask (k .form) (k .depth) (volume shape) s) (ifEnough (lent m v o))))) (lent m v o)) (sym e) (sym (c .passes))
+        ap₂ (λ (g : Form) (j : ℕ). readOutcome (contentArray m v o) (readIn byteMask g (k .depth) j s)) (sym ef) (c .is)
+        ∙ ap₂ (λ (x y : Bool). contentOutcome (unless x 1 (unless y 2 (andThen (readIn byteMask (k .form) (k .depth) (volume shape) s) (ifEnough (contentArray m v o))))) (contentArray m v o)) (sym e) (sym (c .passes))

@@ -12,7 +12,7 @@ use Rattle.array.specs.Content.{Content, layout}
 use Rattle.codec.specs.Frame.{countSet}
 use Rattle.codec.specs.Stored.{cellsFrom, MasksWithin, innermostCount}
 use Rattle.codec.specs.Index.{offsetsIn}
-use Rattle.codec.specs.Outcomes.{lent}
+use Rattle.array.specs.Outcome.{contentArray}
 
 -- ---- planes: `left` levels below the plane that ends at `to`, in which `cells` are set, the next frame being at `at`
 
@@ -64,5 +64,5 @@ pub record NestedWithin (d w : ℕ) (s : List ℕ) (n ends from k first last : �
 -- ---- ragged values: at depth 0 the offsets and the bytes as they are, else end to end below the masks
 
 unfoldable pub raggedFrom : ℕ → ℕ → List ℕ → ℕ → ℕ → ℕ → ℕ → ℕ → ℕ → Content
-raggedFrom zero w s n index from k first last = lent [] (take last (drop from s)) (offsetsIn w (suc k) (drop index s))
+raggedFrom zero w s n index from k first last = contentArray [] (take last (drop from s)) (offsetsIn w (suc k) (drop index s))
 raggedFrom (suc d) w s n index from k first last = nestedFrom (suc d) w s n (index + w) from k first last

@@ -15,10 +15,11 @@ ghost use Rattle.array.specs.Kind.{fixed};
 ghost use Rattle.array.specs.Meaning.{orderOf};
 ghost use Rattle.codec.specs.Mask.{byteMask};
 ghost use Rattle.codec.specs.Calls.{readIn};
-ghost use Rattle.codec.specs.Outcomes.{lent, outcomeArray, readOutcome};
+ghost use Rattle.array.specs.Outcome.{contentArray, outcomeArray};
+ghost use Rattle.decode.specs.Outcomes.{readOutcome};
 ghost use Rattle.decode.specs.Reads.{fixedFrom, FixedWithin};
 
-// Writes what the walk found: `cells` values from `at` on, for an array of n cells.
+// Writes what the walk found: `cells` values from `at` on, for an array of n cells. Where all cells are set no plane is looked at.
 pub fn write_fixed(
     s: &[u8],
     n: usize,
@@ -33,7 +34,7 @@ pub fn write_fixed(
 ) -> WrittenArray
     requires { ⌜ FixedWithin depth (now s) n at cells size ⌝ }
     ensures { λ r. ⌜ outcomeArray r (now (masks .exit)) (now (values .exit)) (now (offsets .exit))
-        ≡ readOutcome (lent (now (masks .entry)) (now (values .entry)) (now (offsets .entry))) (gives (fixedFrom size (orderOf order) depth (now (s .entry)) n at cells)) ⌝ }
+        ≡ readOutcome (contentArray (now (masks .entry)) (now (values .entry)) (now (offsets .entry))) (gives (fixedFrom size (orderOf order) depth (now (s .entry)) n at cells)) ⌝ }
 {
     let planes = depth * n;
     let bytes = n * size;
@@ -48,6 +49,10 @@ pub fn write_fixed(
         return WrittenArray::Lengths(planes, bytes, 0);
     }
     place_planes(masks, n, depth, s);
+    if cells == n {
+        copy_cells(values, cells, s, at, size, order);
+        return WrittenArray::Lengths(planes, bytes, 0);
+    }
     spread_values(values, masks, planes - n, n, s, at, size, order);
     WrittenArray::Lengths(planes, bytes, 0)
 }
@@ -65,7 +70,7 @@ pub fn decode_fixed(
 ) -> WrittenArray
     requires { ⌜ (1 ≤ n) × (n ≤ mostCells) × (depth ≤ mostDepth) × (size ≤ mostSize) ⌝ }
     ensures { λ r. ⌜ outcomeArray r (now (masks .exit)) (now (values .exit)) (now (offsets .exit))
-        ≡ readOutcome (lent (now (masks .entry)) (now (values .entry)) (now (offsets .entry))) (readIn byteMask (fixed size (orderOf order)) depth n (now (s .entry))) ⌝ }
+        ≡ readOutcome (contentArray (now (masks .entry)) (now (values .entry)) (now (offsets .entry))) (readIn byteMask (fixed size (orderOf order)) depth n (now (s .entry))) ⌝ }
 {
     let walk = walk_content(s, 0, n, depth);
     match walk {

@@ -16,7 +16,7 @@ use array::shape::shape_cells;
 ghost use mathlib.Core.Path.{_≡_};
 ghost use Rattle.array.specs.Meaning.{kindOf};
 ghost use Rattle.codec.specs.Calls.{decoded};
-ghost use Rattle.codec.specs.Outcomes.{lent, outcomeArray};
+ghost use Rattle.array.specs.Outcome.{contentArray, outcomeArray};
 
 // Reads the stored array of a kind and shape. Nothing is stored before the last check; success names the three lengths.
 pub fn decode(
@@ -28,7 +28,7 @@ pub fn decode(
     offsets: &mut [u64],
 ) -> WrittenArray
     ensures { λ r. ⌜ outcomeArray r (now (masks .exit)) (now (values .exit)) (now (offsets .exit))
-        ≡ decoded (kindOf kind) (now (shape .entry)) (now (bytes .entry)) (lent (now (masks .entry)) (now (values .entry)) (now (offsets .entry))) ⌝ }
+        ≡ decoded (kindOf kind) (now (shape .entry)) (now (bytes .entry)) (contentArray (now (masks .entry)) (now (values .entry)) (now (offsets .entry))) ⌝ }
 {
     if !check_kind(kind) {
         return WrittenArray::Refused(refusal::KIND);

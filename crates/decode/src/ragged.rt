@@ -25,7 +25,8 @@ ghost use Rattle.codec.specs.Mask.{byteMask};
 ghost use Rattle.codec.specs.Stored.{MasksWithin, innermostCount};
 ghost use Rattle.codec.specs.Index.{offsetsIn, IndexWithin};
 ghost use Rattle.codec.specs.Calls.{readIn};
-ghost use Rattle.codec.specs.Outcomes.{lent, outcomeArray, readOutcome};
+ghost use Rattle.array.specs.Outcome.{contentArray, outcomeArray};
+ghost use Rattle.decode.specs.Outcomes.{readOutcome};
 ghost use Rattle.decode.specs.Reads.{nestedFrom, NestedWithin, raggedFrom};
 
 // Values with no mask: offsets and bytes just as they are, the index at `index` and the data at `from`.
@@ -42,8 +43,8 @@ pub fn write_flat(
 ) -> WrittenArray
     requires { ⌜ (n ≤ mostCells) × (index + (widthOf width + n * widthOf width) ≤ length (now s)) × (from + last ≤ length (now s)) ⌝ }
     ensures { λ r. ⌜ outcomeArray r (now (masks .exit)) (now (values .exit)) (now (offsets .exit))
-        ≡ readOutcome (lent (now (masks .entry)) (now (values .entry)) (now (offsets .entry)))
-        (gives (lent [] (take last (drop from (now (s .entry)))) (offsetsIn (widthOf width) (suc n) (drop index (now (s .entry)))))) ⌝ }
+        ≡ readOutcome (contentArray (now (masks .entry)) (now (values .entry)) (now (offsets .entry)))
+        (gives (contentArray [] (take last (drop from (now (s .entry)))) (offsetsIn (widthOf width) (suc n) (drop index (now (s .entry)))))) ⌝ }
 {
     let bytes = last as usize;
     let count = n + 1;
@@ -75,7 +76,7 @@ pub fn write_nested(
 ) -> WrittenArray
     requires { ⌜ NestedWithin depth (widthOf width) (now s) n ends from cells first last ⌝ }
     ensures { λ r. ⌜ outcomeArray r (now (masks .exit)) (now (values .exit)) (now (offsets .exit))
-        ≡ readOutcome (lent (now (masks .entry)) (now (values .entry)) (now (offsets .entry)))
+        ≡ readOutcome (contentArray (now (masks .entry)) (now (values .entry)) (now (offsets .entry)))
         (gives (nestedFrom depth (widthOf width) (now (s .entry)) n ends from cells first last)) ⌝ }
 {
     let planes = depth * n;
@@ -115,7 +116,7 @@ pub fn write_ragged(
     requires { ⌜ (1 ≤ n) × (n ≤ mostCells) × (depth ≤ mostDepth) × MasksWithin depth (now s) 0 n × (cells ≡ innermostCount depth (now s) n)
         × IndexWithin (widthOf width) (now s) cells index from first last ⌝ }
     ensures { λ r. ⌜ outcomeArray r (now (masks .exit)) (now (values .exit)) (now (offsets .exit))
-        ≡ readOutcome (lent (now (masks .entry)) (now (values .entry)) (now (offsets .entry)))
+        ≡ readOutcome (contentArray (now (masks .entry)) (now (values .entry)) (now (offsets .entry)))
         (gives (raggedFrom depth (widthOf width) (now (s .entry)) n index from cells first last)) ⌝ }
 {
     if depth == 0 {
@@ -151,7 +152,7 @@ pub fn decode_ragged(
 ) -> WrittenArray
     requires { ⌜ (1 ≤ n) × (n ≤ mostCells) × (depth ≤ mostDepth) ⌝ }
     ensures { λ r. ⌜ outcomeArray r (now (masks .exit)) (now (values .exit)) (now (offsets .exit))
-        ≡ readOutcome (lent (now (masks .entry)) (now (values .entry)) (now (offsets .entry)))
+        ≡ readOutcome (contentArray (now (masks .entry)) (now (values .entry)) (now (offsets .entry)))
         (readIn byteMask (ragged (widthOf width) (placeOf place)) depth n (now (s .entry))) ⌝ }
 {
     let walk = walk_content(s, 0, n, depth);

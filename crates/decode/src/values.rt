@@ -10,7 +10,7 @@ ghost use mathlib.Core.List.{map};
 ghost use Prim.Native.Nat.{_+_, _*_, _≤_};
 ghost use lib.ListN.{length, take, drop, replicate};
 ghost use Rattle.array.specs.Lists.{joined, pieces};
-ghost use Rattle.array.specs.Kind.{ordered};
+ghost use Rattle.array.specs.Kind.{big, ordered};
 ghost use Rattle.array.specs.Buffers.{over, overAt};
 ghost use Rattle.array.specs.Meaning.{orderOf};
 ghost use Rattle.codec.specs.Marks.{toldMark};
@@ -81,16 +81,26 @@ pub fn spread_values(
     }
 }
 
-// Writes the values of n cells that are all stored.
+// Writes the values of n cells that are all stored: in little order they are one run.
 pub fn copy_cells(values: &mut [u8], n: usize, s: &[u8], at: usize, size: usize, order: ByteOrder)
     requires { ⌜ (n * size ≤ length (now values)) × (at + n * size ≤ length (now s)) ⌝ }
     ensures { λ _. ⌜ now (values .exit) ≡ over (joined (map (ordered (orderOf order)) (pieces size n (drop at (now (s .entry)))))) (now (values .entry)) ⌝ }
+{
+    match order {
+        ByteOrder::Little => copy_bytes(values, 0, s, at, n * size),
+        ByteOrder::Big => copy_cells_reversed(values, n, s, at, size),
+    }
+}
+
+fn copy_cells_reversed(values: &mut [u8], n: usize, s: &[u8], at: usize, size: usize)
+    requires { ⌜ (n * size ≤ length (now values)) × (at + n * size ≤ length (now s)) ⌝ }
+    ensures { λ _. ⌜ now (values .exit) ≡ over (joined (map (ordered big) (pieces size n (drop at (now (s .entry)))))) (now (values .entry)) ⌝ }
 {
     let mut left = n;
     let mut j = at;
     let mut to = 0;
     while 0 < left {
-        put_cell(values, to, s, j, size, order);
+        copy_reversed(values, to, s, j, size);
         to += size;
         j += size;
         left -= 1;

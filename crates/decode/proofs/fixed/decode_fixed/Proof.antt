@@ -8,9 +8,10 @@ use lib.ListN.{length}
 use borrow.Author.Needs.{needs}
 use Rattle.array.specs.Answer.{gives}
 use Rattle.array.specs.Meaning.{orderOf}
+use Rattle.array.specs.Outcome.{contentArray}
 use Rattle.codec.specs.Walk.{walked, valuesAt, toldWalk}
-use Rattle.codec.specs.Outcomes.{lent, readOutcome}
 use Rattle.codec.proofs.Walks.{WalkPassed, walk-values}
+use Rattle.decode.specs.Outcomes.{readOutcome}
 use Rattle.decode.proofs.Small.{bytes-small}
 use Rattle.decode.proofs.FixedLaws.{values-within, none-within, fixed-refused, fixed-none, fixed-length, fixed-given}
 use Rattle.decode.proofs.fixed.decode_fixed.Statement.{statement}
@@ -55,7 +56,7 @@ returns : tie.Need-returns
 returns c =
     let args = c .before .before .before .before .before .before .before .before .before .args in
     let walk2 = c .before .before .walk2 in
-    ap (readOutcome (lent (args .masks .now) (args .values .now) (args .offsets .now))) (sym (fixed-length (args .size) (orderOf (args .order)) (args .depth) (args .s .now) (args .n) (walk2 .given .0 .0) (walk2 .given .0 .1 .0) (walk-is (c .before)) (c .if1 .taken)))
+    ap (readOutcome (contentArray (args .masks .now) (args .values .now) (args .offsets .now))) (sym (fixed-length (args .size) (orderOf (args .order)) (args .depth) (args .s .now) (args .n) (walk2 .given .0 .0) (walk2 .given .0 .1 .0) (walk-is (c .before)) (c .if1 .taken)))
 
 write-fixed-requires-2 : tie.Need-write-fixed-requires-2
 write-fixed-requires-2 c κs =
@@ -68,7 +69,7 @@ returns-2 : tie.Need-returns-2
 returns-2 c =
     let args = c .before .before .before .before .before .before .before .before .args in
     let walk = c .before .walk in
-    ap (readOutcome (lent (args .masks .now) (args .values .now) (args .offsets .now))) (sym (fixed-refused (args .size) (orderOf (args .order)) (args .depth) (args .s .now) (args .n) (walk .given .0 .0) (sym (c .before .before .before .walk-content .ensures) ∙ ap toldWalk (walk .given .1))))
+    ap (readOutcome (contentArray (args .masks .now) (args .values .now) (args .offsets .now))) (sym (fixed-refused (args .size) (orderOf (args .order)) (args .depth) (args .s .now) (args .n) (walk .given .0 .0) (sym (c .before .before .before .walk-content .ensures) ∙ ap toldWalk (walk .given .1))))
 
 same-length : tie.Need-same-length
 same-length c = search needs
@@ -82,7 +83,7 @@ same-length-3 c = search needs
 returns-3 : tie.Need-returns-3
 returns-3 c =
     let args = c .before .before .before .before .before .before .before .before .before .before .before .before .before .before .before .before .before .args in
-    c .before .before .before .before .before .before .write-fixed .ensures ∙ ap (readOutcome (lent (args .masks .now) (args .values .now) (args .offsets .now))) (sym (fixed-none (args .size) (orderOf (args .order)) (args .depth) (args .s .now) (args .n) (sym (c .before .before .before .before .before .before .before .before .before .before .before .before .walk-content .ensures) ∙ ap toldWalk (c .before .before .before .before .before .before .before .before .before .before .enum-told .given .1))))
+    c .before .before .before .before .before .before .write-fixed .ensures ∙ ap (readOutcome (contentArray (args .masks .now) (args .values .now) (args .offsets .now))) (sym (fixed-none (args .size) (orderOf (args .order)) (args .depth) (args .s .now) (args .n) (sym (c .before .before .before .before .before .before .before .before .before .before .before .before .walk-content .ensures) ∙ ap toldWalk (c .before .before .before .before .before .before .before .before .before .before .enum-told .given .1))))
 
 same-length-4 : tie.Need-same-length-4
 same-length-4 c = search needs
@@ -97,7 +98,7 @@ returns-4 : tie.Need-returns-4
 returns-4 c =
     let args = c .before .before .before .before .before .before .before .before .before .before .before .before .before .before .before .before .before .before .before .args in
     let walk2 = c .before .before .before .before .before .before .before .before .before .before .before .before .walk2 in
-    c .before .before .before .before .before .before .write-fixed2 .ensures ∙ ap (readOutcome (lent (args .masks .now) (args .values .now) (args .offsets .now))) (sym (fixed-given (args .size) (orderOf (args .order)) (args .depth) (args .s .now) (args .n) (walk2 .given .0 .0) (walk2 .given .0 .1 .0) (walk-is (c .before .before .before .before .before .before .before .before .before .before .before)) (c .before .before .before .before .before .before .before .before .before .before .if1 .left)))
+    c .before .before .before .before .before .before .write-fixed2 .ensures ∙ ap (readOutcome (contentArray (args .masks .now) (args .values .now) (args .offsets .now))) (sym (fixed-given (args .size) (orderOf (args .order)) (args .depth) (args .s .now) (args .n) (walk2 .given .0 .0) (walk2 .given .0 .1 .0) (walk-is (c .before .before .before .before .before .before .before .before .before .before .before)) (c .before .before .before .before .before .before .before .before .before .before .if1 .left)))
 
 pub decode-fixed-spec : {M : Type 1} → statement M
 decode-fixed-spec =

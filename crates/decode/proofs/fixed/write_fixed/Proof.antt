@@ -10,13 +10,13 @@ use Rattle.array.specs.Buffers.{over}
 use Rattle.array.specs.Content.{Content}
 use Rattle.array.specs.Meaning.{orderOf}
 use Rattle.codec.specs.Frame.{countSet}
-use Rattle.codec.proofs.Outcomes.{short-masks, short-values, all-written}
 use Rattle.decode.specs.Reads.{fixedFrom}
+use Rattle.decode.proofs.Outcomes.{short-masks, short-values, all-written}
 use Rattle.decode.proofs.Small.{planes-small, bytes-small}
 use Rattle.decode.proofs.SpreadingValues.{valuesLeft}
 use Rattle.decode.proofs.Levels.{times-first}
 use Rattle.decode.proofs.AllPlanes.{innermostIn, innermost-read}
-use Rattle.decode.proofs.FixedLaws.{fixed-masks, fixed-count, fixed-values, flat-count, flat-masks, flat-values, fixed-masks-long, fixed-values-long, fixed-offsets}
+use Rattle.decode.proofs.FixedLaws.{fixed-masks, fixed-count, fixed-values, flat-count, flat-masks, flat-values, full-values, fixed-masks-long, fixed-values-long, fixed-offsets}
 use Rattle.decode.proofs.fixed.write_fixed.Statement.{statement}
 use Rattle.decode.proofs.fixed.write_fixed.Tie as tie
 
@@ -94,13 +94,8 @@ returns-3 c =
 place-planes-requires : tie.Need-place-planes-requires
 place-planes-requires c κs = search needs
 
-sub-spread-values : tie.Need-sub-spread-values
-sub-spread-values c = omega (arith, (first-is (c .before .before .before .before .before .before)))
-
-spread-values-requires : tie.Need-spread-values-requires
-spread-values-requires c κs =
-    let args = c .before .before .before .before .before .before .before .before .before .before .before .before .before .args in
-    (omega (arith, (first-is (c .before .before .before .before .before .before)), c .before .before .before .before .place-planes .kept .0), omega arith, subst (λ (j : ℕ). args .at + j * args .size ≤ length (args .s .now)) (count-is (c .before .before .before .before)) (c .before .before .before .before .before .before .before .before .before .before .before .before .before .pre .room))
+copy-cells-requires-2 : tie.Need-copy-cells-requires-2
+copy-cells-requires-2 c κs = (omega (arith, ap (λ (j : ℕ). j * c .before .before .before .before .before .before .before .before .before .before .before .before .before .args .size) (c .before .if4 .taken)), c .before .before .before .before .before .before .before .before .before .before .before .before .before .pre .room)
 
 same-length-2 : tie.Need-same-length-2
 same-length-2 c = search needs
@@ -116,9 +111,34 @@ returns-4 c =
     all-written (given (c .before .before .before .before .before .before .before .before .before .before .before .before .before .before .before .before)) (args .masks .now) (args .values .now) (args .offsets .now)
     (omega (arith, (masks-long (c .before .before .before .before .before .before .before .before .before .before .before .before)))) (omega (arith, (values-long (c .before .before .before .before .before .before .before .before .before .before .before .before)))) (omega (arith, ap length (no-offsets (c .before .before .before .before .before .before .before .before .before .before .before .before)))) _ _ 0 _ _ _ (sym (masks-long (c .before .before .before .before .before .before .before .before .before .before .before .before))) (sym (values-long (c .before .before .before .before .before .before .before .before .before .before .before .before))) (sym (ap length (no-offsets (c .before .before .before .before .before .before .before .before .before .before .before .before))))
     (c .before .before .before .before .before .before .before .place-planes .ensures ∙ sym (ap (λ (p : List ℕ). over p (args .masks .now)) (fixed-masks (orderOf (args .order)) (pre) (if3 .left))))
-    (c .before .before .spread-values .ensures ∙ ap (λ (p : List ℕ). over (valuesLeft (args .size) (orderOf (args .order)) p (args .s .now) 0 (args .at)) (args .values .now)) (innermost-is (c .before .before .before .before .before .before .before))
-    ∙ sym (ap (λ (p : List ℕ). over p (args .values .now)) (fixed-values (orderOf (args .order)) (pre) (if3 .left))))
+    (c .before .before .copy-cells2 .ensures ∙ sym (ap (λ (p : List ℕ). over p (args .values .now)) (full-values (orderOf (args .order)) (pre) (if3 .left) (c .before .before .before .before .if4 .taken))))
     (sym (ap (λ (p : List ℕ). over p (args .offsets .now)) (no-offsets (c .before .before .before .before .before .before .before .before .before .before .before .before))))
+
+sub-spread-values : tie.Need-sub-spread-values
+sub-spread-values c = omega (arith, (first-is (c .before .before .before .before .before .before .before)))
+
+spread-values-requires : tie.Need-spread-values-requires
+spread-values-requires c κs =
+    let args = c .before .before .before .before .before .before .before .before .before .before .before .before .before .before .args in
+    (omega (arith, (first-is (c .before .before .before .before .before .before .before)), c .before .before .before .before .before .place-planes .kept .0), omega arith, subst (λ (j : ℕ). args .at + j * args .size ≤ length (args .s .now)) (count-is (c .before .before .before .before .before)) (c .before .before .before .before .before .before .before .before .before .before .before .before .before .before .pre .room))
+
+same-length-4 : tie.Need-same-length-4
+same-length-4 c = search needs
+
+same-length-5 : tie.Need-same-length-5
+same-length-5 c = search needs
+
+returns-5 : tie.Need-returns-5
+returns-5 c =
+    let args = c .before .before .before .before .before .before .before .before .before .before .before .before .before .before .before .before .before .args in
+    let pre = c .before .before .before .before .before .before .before .before .before .before .before .before .before .before .before .before .before .pre in
+    let if3 = c .before .before .before .before .before .before .before .before .before .before .if3 in
+    all-written (given (c .before .before .before .before .before .before .before .before .before .before .before .before .before .before .before .before .before)) (args .masks .now) (args .values .now) (args .offsets .now)
+    (omega (arith, (masks-long (c .before .before .before .before .before .before .before .before .before .before .before .before .before)))) (omega (arith, (values-long (c .before .before .before .before .before .before .before .before .before .before .before .before .before)))) (omega (arith, ap length (no-offsets (c .before .before .before .before .before .before .before .before .before .before .before .before .before)))) _ _ 0 _ _ _ (sym (masks-long (c .before .before .before .before .before .before .before .before .before .before .before .before .before))) (sym (values-long (c .before .before .before .before .before .before .before .before .before .before .before .before .before))) (sym (ap length (no-offsets (c .before .before .before .before .before .before .before .before .before .before .before .before .before))))
+    (c .before .before .before .before .before .before .before .before .place-planes .ensures ∙ sym (ap (λ (p : List ℕ). over p (args .masks .now)) (fixed-masks (orderOf (args .order)) (pre) (if3 .left))))
+    (c .before .before .spread-values .ensures ∙ ap (λ (p : List ℕ). over (valuesLeft (args .size) (orderOf (args .order)) p (args .s .now) 0 (args .at)) (args .values .now)) (innermost-is (c .before .before .before .before .before .before .before .before))
+    ∙ sym (ap (λ (p : List ℕ). over p (args .values .now)) (fixed-values (orderOf (args .order)) (pre) (if3 .left))))
+    (sym (ap (λ (p : List ℕ). over p (args .offsets .now)) (no-offsets (c .before .before .before .before .before .before .before .before .before .before .before .before .before))))
 
 pub write-fixed-spec : {M : Type 1} → statement M
 write-fixed-spec =
@@ -132,8 +152,12 @@ write-fixed-spec =
     same-length
     returns-3
     place-planes-requires
-    sub-spread-values
-    spread-values-requires
+    copy-cells-requires-2
     same-length-2
     same-length-3
-    returns-4)
+    returns-4
+    sub-spread-values
+    spread-values-requires
+    same-length-4
+    same-length-5
+    returns-5)

@@ -9,13 +9,14 @@ use borrow.Author.Needs.{needs}
 use Rattle.array.specs.Answer.{gives}
 use Rattle.array.specs.Kind.{Place, atStart, atEnd, ragged}
 use Rattle.array.specs.Meaning.{widthOf, placeOf}
+use Rattle.array.specs.Outcome.{contentArray}
 use Rattle.codec.specs.Mask.{byteMask}
 use Rattle.codec.specs.Walk.{walked, valuesAt, toldWalk}
 use Rattle.codec.specs.Index.{toldIndex}
 use Rattle.codec.specs.Calls.{readIn}
-use Rattle.codec.specs.Outcomes.{lent, readOutcome}
 use Rattle.codec.proofs.Walks.{WalkPassed, walk-values, values-flat, passed-count}
 use Rattle.codec.proofs.CheckedIndex.{span-refused, IndexChecked, index-checked, IndexPlaced, index-placed}
+use Rattle.decode.specs.Outcomes.{readOutcome}
 use Rattle.decode.proofs.NestedLaws.{none-within, ragged-refused, ragged-none-set, ragged-wrong, ragged-given}
 use Rattle.decode.proofs.ragged.decode_ragged.Statement.{statement}
 use Rattle.decode.proofs.ragged.decode_ragged.Tie as tie
@@ -129,7 +130,7 @@ returns : tie.Need-returns
 returns c =
     let args = c .before .before .before .before .before .before .before .before .args in
     let walk = c .before .walk in
-    ap (readOutcome (lent (args .masks .now) (args .values .now) (args .offsets .now))) (sym (ragged-refused (widthOf (args .width)) (placeOf (args .place)) (args .s .now) (args .n) (args .depth) (walk .given .0 .0) (sym (c .before .before .before .walk-content .ensures) ∙ ap toldWalk (walk .given .1))))
+    ap (readOutcome (contentArray (args .masks .now) (args .values .now) (args .offsets .now))) (sym (ragged-refused (widthOf (args .width)) (placeOf (args .place)) (args .s .now) (args .n) (args .depth) (walk .given .0 .0) (sym (c .before .before .before .walk-content .ensures) ∙ ap toldWalk (walk .given .1))))
 
 same-length : tie.Need-same-length
 same-length c = search needs
@@ -143,14 +144,14 @@ same-length-3 c = search needs
 returns-2 : tie.Need-returns-2
 returns-2 c =
     let args = c .before .before .before .before .before .before .before .before .before .before .before .before .before .before .before .before .before .args in
-    c .before .before .before .before .before .before .write-nested .ensures ∙ ap (readOutcome (lent (args .masks .now) (args .values .now) (args .offsets .now))) (sym (ragged-none-set (widthOf (args .width)) (placeOf (args .place)) (args .s .now) (args .n) (args .depth) (sym (c .before .before .before .before .before .before .before .before .before .before .before .before .walk-content .ensures) ∙ ap toldWalk (c .before .before .before .before .before .before .before .before .before .before .enum-told .given .1))))
+    c .before .before .before .before .before .before .write-nested .ensures ∙ ap (readOutcome (contentArray (args .masks .now) (args .values .now) (args .offsets .now))) (sym (ragged-none-set (widthOf (args .width)) (placeOf (args .place)) (args .s .now) (args .n) (args .depth) (sym (c .before .before .before .before .before .before .before .before .before .before .before .before .walk-content .ensures) ∙ ap toldWalk (c .before .before .before .before .before .before .before .before .before .before .enum-told .given .1))))
 
 returns-3 : tie.Need-returns-3
 returns-3 c =
     let args = c .before .before .before .before .before .before .before .before .before .before .before .before .args in
     let walk2 = c .before .before .before .before .before .walk2 in
     let checked = c .before .checked in
-    ap (readOutcome (lent (args .masks .now) (args .values .now) (args .offsets .now))) (sym (ragged-wrong (widthOf (args .width)) (placeOf (args .place)) (args .s .now) (args .n) (args .depth) (walk2 .given .0 .0) (walk2 .given .0 .1 .0) (checked .given .0 .0) (walk-is (c .before .before .before .before)) (span-refused _ _ (sym (c .before .before .before .check-ragged .ensures) ∙ ap toldIndex (checked .given .1)))))
+    ap (readOutcome (contentArray (args .masks .now) (args .values .now) (args .offsets .now))) (sym (ragged-wrong (widthOf (args .width)) (placeOf (args .place)) (args .s .now) (args .n) (args .depth) (walk2 .given .0 .0) (walk2 .given .0 .1 .0) (checked .given .0 .0) (walk-is (c .before .before .before .before)) (span-refused _ _ (sym (c .before .before .before .check-ragged .ensures) ∙ ap toldIndex (checked .given .1)))))
 
 same-length-4 : tie.Need-same-length-4
 same-length-4 c = search needs
@@ -166,7 +167,7 @@ returns-4 c =
     let args = c .before .before .before .before .before .before .before .before .before .before .before .before .before .before .before .before .before .before .before .before .before .before .before .before .before .args in
     let walk2 = c .before .before .before .before .before .before .before .before .before .before .before .before .before .before .before .before .before .before .walk2 in
     let checked2 = c .before .before .before .before .before .before .before .before .before .before .before .before .before .before .checked2 in
-    c .before .before .before .before .before .before .write-ragged .ensures ∙ ap (readOutcome (lent (args .masks .now) (args .values .now) (args .offsets .now)))
+    c .before .before .before .before .before .before .write-ragged .ensures ∙ ap (readOutcome (contentArray (args .masks .now) (args .values .now) (args .offsets .now)))
     (sym (ap (λ (p : Place). readIn byteMask (ragged (widthOf (args .width)) p) (args .depth) (args .n) (args .s .now)) (ap placeOf (c .before .before .before .before .before .before .before .before .before .before .enum-told2 .given .1))
     ∙ ragged-given (widthOf (args .width)) atStart (args .s .now) (args .n) (args .depth) (walk2 .given .0 .0) (walk2 .given .0 .1 .0) (checked2 .given .0 .0) (checked2 .given .0 .1 .0) _ _ (walk-is (c .before .before .before .before .before .before .before .before .before .before .before .before .before .before .before .before .before)) ((start-is (c .before .before .before .before .before .before .before .before .before .before)) .first-is) ((start-is (c .before .before .before .before .before .before .before .before .before .before)) .gave)))
 
@@ -184,7 +185,7 @@ returns-5 c =
     let args = c .before .before .before .before .before .before .before .before .before .before .before .before .before .before .before .before .before .before .before .before .before .before .before .before .before .args in
     let walk2 = c .before .before .before .before .before .before .before .before .before .before .before .before .before .before .before .before .before .before .walk2 in
     let checked2 = c .before .before .before .before .before .before .before .before .before .before .before .before .before .before .checked2 in
-    c .before .before .before .before .before .before .write-ragged2 .ensures ∙ ap (readOutcome (lent (args .masks .now) (args .values .now) (args .offsets .now)))
+    c .before .before .before .before .before .before .write-ragged2 .ensures ∙ ap (readOutcome (contentArray (args .masks .now) (args .values .now) (args .offsets .now)))
     (sym (ap (λ (p : Place). readIn byteMask (ragged (widthOf (args .width)) p) (args .depth) (args .n) (args .s .now)) (ap placeOf (c .before .before .before .before .before .before .before .before .before .before .enum-told3 .given .1))
     ∙ ragged-given (widthOf (args .width)) atEnd (args .s .now) (args .n) (args .depth) (walk2 .given .0 .0) (walk2 .given .0 .1 .0) (checked2 .given .0 .0) (checked2 .given .0 .1 .0) _ _ (walk-is (c .before .before .before .before .before .before .before .before .before .before .before .before .before .before .before .before .before)) ((end-is (c .before .before .before .before .before .before .before .before .before .before)) .first-is) ((end-is (c .before .before .before .before .before .before .before .before .before .before)) .gave)))
 

@@ -9,9 +9,9 @@ use lib.Seq.{length-take-le}
 use borrow.Author.Needs.{needs}
 use Rattle.array.specs.Content.{Content}
 use Rattle.array.specs.Meaning.{widthOf}
+use Rattle.array.specs.Outcome.{contentArray}
 use Rattle.codec.specs.Index.{offsetsIn}
-use Rattle.codec.specs.Outcomes.{lent}
-use Rattle.codec.proofs.Outcomes.{short-values, short-offsets, all-written}
+use Rattle.decode.proofs.Outcomes.{short-values, short-offsets, all-written}
 use Rattle.decode.proofs.Small.{few-cells}
 use Rattle.decode.proofs.CopyingOffsets.{length-offsets}
 use Rattle.decode.proofs.ragged.write_flat.Statement.{statement}
@@ -20,7 +20,7 @@ use Rattle.decode.proofs.ragged.write_flat.Tie as tie
 abbrev given : tie.Start → Content
 given c =
     let a = c .args in
-    lent [] (take (a .last) (drop (a .from) (a .s .now))) (offsetsIn (widthOf (a .width)) (suc (a .n)) (drop (a .index) (a .s .now)))
+    contentArray [] (take (a .last) (drop (a .from) (a .s .now))) (offsetsIn (widthOf (a .width)) (suc (a .n)) (drop (a .index) (a .s .now)))
 
 values-long : (c : tie.After-slice-known3) → length ((given (c .before .before .before .before)) .values) ≡ c .before .before .before .before .args .last
 values-long c =

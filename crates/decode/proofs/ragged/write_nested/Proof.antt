@@ -12,9 +12,9 @@ use Rattle.array.specs.Buffers.{over}
 use Rattle.array.specs.Meaning.{widthOf}
 use Rattle.codec.specs.Frame.{countSet}
 use Rattle.codec.specs.Index.{offsetsIn}
-use Rattle.codec.proofs.Outcomes.{short-masks, short-values, short-offsets, all-written}
 use Rattle.decode.specs.Ends.{endsBy}
 use Rattle.decode.specs.Reads.{nestedFrom}
+use Rattle.decode.proofs.Outcomes.{short-masks, short-values, short-offsets, all-written}
 use Rattle.decode.proofs.Small.{few-cells, planes-small}
 use Rattle.decode.proofs.Levels.{times-first}
 use Rattle.decode.proofs.AllPlanes.{innermostIn, innermost-read}

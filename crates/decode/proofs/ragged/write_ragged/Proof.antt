@@ -7,7 +7,8 @@ use Rattle.array.specs.Answer.{gives}
 use Rattle.array.specs.Limits.{mostCells}
 use Rattle.array.specs.Content.{Content}
 use Rattle.array.specs.Meaning.{widthOf}
-use Rattle.codec.specs.Outcomes.{lent, readOutcome}
+use Rattle.array.specs.Outcome.{contentArray}
+use Rattle.decode.specs.Outcomes.{readOutcome}
 use Rattle.decode.specs.Reads.{nestedFrom, NestedWithin}
 use Rattle.decode.proofs.NestedLaws.{given-flat, given-nested, flat-cells, nested-within}
 use Rattle.decode.proofs.ragged.write_ragged.Statement.{statement}
@@ -44,7 +45,7 @@ same-length-3 c = search needs
 returns : tie.Need-returns
 returns c =
     let args = c .before .before .before .before .before .before .before .before .before .before .before .before .before .before .before .args in
-    c .before .before .before .before .before .before .write-flat .ensures ∙ ap (λ (x : Content). readOutcome (lent (args .masks .now) (args .values .now) (args .offsets .now)) (gives x)) (sym (given-flat (args .depth) (widthOf (args .width)) (args .s .now) (args .n) (args .index) (args .from) (args .cells) (args .first) (args .last) (c .before .before .before .before .before .before .before .before .before .before .if1 .taken)))
+    c .before .before .before .before .before .before .write-flat .ensures ∙ ap (λ (x : Content). readOutcome (contentArray (args .masks .now) (args .values .now) (args .offsets .now)) (gives x)) (sym (given-flat (args .depth) (widthOf (args .width)) (args .s .now) (args .n) (args .index) (args .from) (args .cells) (args .first) (args .last) (c .before .before .before .before .before .before .before .before .before .before .if1 .taken)))
 
 same-length-4 : tie.Need-same-length-4
 same-length-4 c = search needs
@@ -59,8 +60,8 @@ returns-2 : tie.Need-returns-2
 returns-2 c =
     let args = c .before .before .before .before .before .before .before .before .before .before .before .before .before .before .before .before .args in
     c .before .before .before .before .before .before .write-nested .ensures
-    ∙ ap (λ (w : ℕ). readOutcome (lent (args .masks .now) (args .values .now) (args .offsets .now)) (gives (nestedFrom (args .depth) (widthOf (args .width)) (args .s .now) (args .n) (args .index + w) (args .from) (args .cells) (args .first) (args .last)))) (c .before .before .before .before .before .before .before .before .before .before .width-bytes .ensures)
-    ∙ ap (λ (x : Content). readOutcome (lent (args .masks .now) (args .values .now) (args .offsets .now)) (gives x)) (sym (given-nested (args .depth) (widthOf (args .width)) (args .s .now) (args .n) (args .index) (args .from) (args .cells) (args .first) (args .last) (c .before .before .before .before .before .before .before .before .before .before .before .if1 .left)))
+    ∙ ap (λ (w : ℕ). readOutcome (contentArray (args .masks .now) (args .values .now) (args .offsets .now)) (gives (nestedFrom (args .depth) (widthOf (args .width)) (args .s .now) (args .n) (args .index + w) (args .from) (args .cells) (args .first) (args .last)))) (c .before .before .before .before .before .before .before .before .before .before .width-bytes .ensures)
+    ∙ ap (λ (x : Content). readOutcome (contentArray (args .masks .now) (args .values .now) (args .offsets .now)) (gives x)) (sym (given-nested (args .depth) (widthOf (args .width)) (args .s .now) (args .n) (args .index) (args .from) (args .cells) (args .first) (args .last) (c .before .before .before .before .before .before .before .before .before .before .before .if1 .left)))
 
 pub write-ragged-spec : {M : Type 1} → statement M
 write-ragged-spec =

@@ -1,68 +1,53 @@
--- `copy_cells` meets its contract, by the laws of CopyingCells.
+-- `copy_cells` meets its contract: in little order the values are one run (CopyingCells).
 -- Assumes nothing.
-use Prim.Native.Nat.{_-_}
-use native.Mathlib.Omega.{arith}
+use mathlib.Core.Path.{sym, ap, _∙_}
+use mathlib.Core.List.{List}
+use Prim.Native.Nat.{ℕ}
 use borrow.Author.Needs.{needs}
-use Rattle.array.specs.Meaning.{orderOf}
-use Rattle.decode.proofs.CopyingCells.{CopyingCells, cells-begin, cells-same, cells-end, cells-source, cells-room, cells-more}
+use Rattle.array.specs.Buffers.{over}
+use Rattle.decode.proofs.CopyingCells.{little-run}
 use Rattle.decode.proofs.values.copy_cells.Statement.{statement}
 use Rattle.decode.proofs.values.copy_cells.Tie as tie
 
-abbrev Inv-loop : tie.InvT-loop
-Inv-loop values₀ n s at size order left₀ j₀ to₀ values left j to = CopyingCells size (orderOf order) s values₀ n at values left j to
+enum-told : tie.Need-enum-told
+enum-told c = search needs
 
-abbrev μ-loop : tie.MeasureT-loop
-μ-loop values₀ n s at size order left₀ j₀ to₀ values left j to = left
+mul-copy-bytes : tie.Need-mul-copy-bytes
+mul-copy-bytes c = search needs
 
-loop-holds : tie.Need-loop-holds Inv-loop μ-loop
-loop-holds c =
-    let args = c .before .before .args in
-    let pre = c .before .before .pre in
-    cells-begin (args .size) (orderOf (args .order)) (args .s .now) (args .values .now) (args .n) (args .at) (pre .1) (pre .0)
+copy-bytes-requires : tie.Need-copy-bytes-requires
+copy-bytes-requires c κs = search needs
 
-put-cell-requires : tie.Need-put-cell-requires Inv-loop μ-loop
-put-cell-requires c κs =
-    let loop = c .before .before .loop in
-    let loop-test = c .before .loop-test in
-    omega (arith, cells-room (loop .inv) (loop-test .taken), cells-source (loop .inv) (loop-test .taken))
+enum-told-2 : tie.Need-enum-told-2
+enum-told-2 c = search needs
 
-add-to : tie.Need-add-to Inv-loop μ-loop
-add-to c =
-    let loop = c .before .before .before .before .before .loop in
-    omega (arith, cells-room (loop .inv) (c .before .before .before .before .loop-test .taken), cells-same (loop .inv))
+copy-cells-reversed-requires : tie.Need-copy-cells-reversed-requires
+copy-cells-reversed-requires c κs = search needs
 
-add-j : tie.Need-add-j Inv-loop μ-loop
-add-j c = omega (arith, cells-source (c .before .before .before .before .before .loop .inv) (c .before .before .before .before .loop-test .taken))
+same-length : tie.Need-same-length
+same-length c = search needs
 
-sub-left : tie.Need-sub-left Inv-loop μ-loop
-sub-left c = search needs
+returns : tie.Need-returns
+returns c =
+    let args = c .before .before .before .before .before .before .before .before .args in
+    rw (c .before .before .before .before .enum-told .given .1) (c .before .before .copy-bytes .ensures ∙ sym (ap (λ (l : List ℕ). over l (args .values .now)) (little-run (args .size) (args .s .now) (args .n) (args .at) (c .before .before .before .before .before .before .before .before .pre .1))))
 
-loop-less : tie.Need-loop-less Inv-loop μ-loop
-loop-less c = omega arith
+same-length-2 : tie.Need-same-length-2
+same-length-2 c = search needs
 
-loop-again : tie.Need-loop-again Inv-loop μ-loop
-loop-again c =
-    let put-cell = c .before .before .put-cell in
-    cells-more (c .before .before .before .before .before .loop .inv) (c .before .before .before .before .loop-test .taken) (put-cell .last .0) (put-cell .ensures)
-
-same-length : tie.Need-same-length Inv-loop μ-loop
-same-length c = cells-same (c .before .loop .inv)
-
-returns : tie.Need-returns Inv-loop μ-loop
-returns c = cells-end (c .before .loop .inv) (omega arith)
+returns-2 : tie.Need-returns-2
+returns-2 c = rw (c .before .before .before .before .enum-told2 .given .1) (c .before .before .copy-cells-reversed .ensures)
 
 pub copy-cells-spec : {M : Type 1} → statement M
 copy-cells-spec =
     tie.close
     (tie.spec
-    Inv-loop
-    μ-loop
-    loop-holds
-    put-cell-requires
-    add-to
-    add-j
-    sub-left
-    loop-less
-    loop-again
+    enum-told
+    mul-copy-bytes
+    copy-bytes-requires
+    enum-told-2
+    copy-cells-reversed-requires
     same-length
-    returns)
+    returns
+    same-length-2
+    returns-2)

@@ -13,7 +13,8 @@ use Rattle.array.specs.Answer.{Answer, gives, refuses, unless}
 use Rattle.array.specs.Content.{Content}
 use Rattle.array.specs.Buffers.{over, lengthsOf, contentOutcome}
 use Rattle.array.proofs.Rules.{enough-test}
-use Rattle.codec.specs.Outcomes.{lent, outcomeArray, ifEnough, readOutcome}
+use Rattle.array.specs.Outcome.{contentArray, outcomeArray}
+use Rattle.decode.specs.Outcomes.{ifEnough, readOutcome}
 
 module _ (out c : Content) where
   masks-short : length (out .masks) < length (c .masks) → ifEnough out c ≡ refuses 6
@@ -50,17 +51,17 @@ module _ (out c : Content) where
   all-fit h i j = ap (λ (b : Bool). unless b 6 (gives c)) (enough-test c (lengthsOf out) (record { for-masks = h; for-values = i; for-offsets = j }))
 
 module _ (c : Content) (m v o : List ℕ) where
-  pub short-masks : length m < length (c .masks) → outcomeArray (Refused 6) m v o ≡ readOutcome (lent m v o) (gives c)
-  short-masks h = ap (λ (a : Answer Content). contentOutcome a (lent m v o)) (sym (masks-short (lent m v o) c h))
+  pub short-masks : length m < length (c .masks) → outcomeArray (Refused 6) m v o ≡ readOutcome (contentArray m v o) (gives c)
+  short-masks h = ap (λ (a : Answer Content). contentOutcome a (contentArray m v o)) (sym (masks-short (contentArray m v o) c h))
 
-  pub short-values : length v < length (c .values) → outcomeArray (Refused 6) m v o ≡ readOutcome (lent m v o) (gives c)
-  short-values h = ap (λ (a : Answer Content). contentOutcome a (lent m v o)) (sym (values-short (lent m v o) c h))
+  pub short-values : length v < length (c .values) → outcomeArray (Refused 6) m v o ≡ readOutcome (contentArray m v o) (gives c)
+  short-values h = ap (λ (a : Answer Content). contentOutcome a (contentArray m v o)) (sym (values-short (contentArray m v o) c h))
 
-  pub short-offsets : length o < length (c .offsets) → outcomeArray (Refused 6) m v o ≡ readOutcome (lent m v o) (gives c)
-  short-offsets h = ap (λ (a : Answer Content). contentOutcome a (lent m v o)) (sym (offsets-short (lent m v o) c h))
+  pub short-offsets : length o < length (c .offsets) → outcomeArray (Refused 6) m v o ≡ readOutcome (contentArray m v o) (gives c)
+  short-offsets h = ap (λ (a : Answer Content). contentOutcome a (contentArray m v o)) (sym (offsets-short (contentArray m v o) c h))
 
   pub all-written : length (c .masks) ≤ length m → length (c .values) ≤ length v → length (c .offsets) ≤ length o → (a b e : ℕ) (m′ v′ o′ : List ℕ)
       → a ≡ length (c .masks) → b ≡ length (c .values) → e ≡ length (c .offsets) → m′ ≡ over (c .masks) m → v′ ≡ over (c .values) v → o′ ≡ over (c .offsets) o
-      → outcomeArray (Lengths a b e) m′ v′ o′ ≡ readOutcome (lent m v o) (gives c)
+      → outcomeArray (Lengths a b e) m′ v′ o′ ≡ readOutcome (contentArray m v o) (gives c)
   all-written h i j a b e m′ v′ o′ ea eb ee em ev eo =
-      rw (ea, eb, ee, em, ev, eo) (ap (λ (x : Answer Content). contentOutcome x (lent m v o)) (sym (all-fit (lent m v o) c h i j)))
+      rw (ea, eb, ee, em, ev, eo) (ap (λ (x : Answer Content). contentOutcome x (contentArray m v o)) (sym (all-fit (contentArray m v o) c h i j)))
