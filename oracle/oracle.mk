@@ -53,13 +53,16 @@ differences: $(O)/driver
 # The recorded answers, made anew. With the same seed the file does not change.
 .PHONY: record
 record: $(O)/driver
-	@$(O)/driver record 1 > oracle/data/answers.txt
+	@$(O)/driver record 1 > $(O)/answers.txt
+	@mv $(O)/answers.txt oracle/data/answers.txt
 	@wc -lc oracle/data/answers.txt
 
 # The published vectors, made anew with the Debian package python3-numcodecs.
 .PHONY: vectors
 vectors:
-	@/usr/bin/python3 oracle/data/vectors.py > oracle/data/vectors.txt
+	@mkdir -p $(O)
+	@/usr/bin/python3 oracle/data/vectors.py > $(O)/vectors.txt
+	@mv $(O)/vectors.txt oracle/data/vectors.txt
 	@wc -lc oracle/data/vectors.txt
 
 $(O)/bench: oracle/bench/main.rs oracle/driver/archive.rs $(O)/.rust
