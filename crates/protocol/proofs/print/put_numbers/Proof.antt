@@ -1,0 +1,109 @@
+use borrow.Author.Needs.{needs}
+use Prim.Native.Nat.{_≤_, _-_, _+_}
+use mathlib.Core.Path.{_≡_}
+use lib.ListN.{length}
+use native.Mathlib.Omega.{arith}
+use Rattle.protocol.proofs.Showing.{part-some, part-within}
+use Rattle.protocol.proofs.print.put_numbers.Statement.{statement}
+use Rattle.protocol.proofs.print.put_numbers.Tie as tie
+use Rattle.protocol.proofs.print.put_numbers.Reads as reads
+use Rattle.protocol.proofs.print.put_numbers.Lts as lts
+use Rattle.protocol.proofs.print.put_byte.Reads as put-byte-reads
+use Rattle.protocol.proofs.print.put_count.Reads as put-count-reads
+use Rattle.protocol.proofs.print.put_join.Reads as put-join-reads
+use Rattle.protocol.proofs.print.put_number.Reads as put-number-reads
+use Rattle.protocol.proofs.print.run_of_numbers.Reads as run-of-numbers-reads
+
+abbrev Inv-loop : tie.InvT-loop
+Inv-loop text₀ at s to₀ i₀ plain₀ text to i plain = (i ≤ length s) × (length text ≡ length text₀) × (at ≤ to) × (to ≤ length text₀)
+
+abbrev μ-loop : tie.MeasureT-loop
+μ-loop text₀ at s to₀ i₀ plain₀ text to i plain = length s - i
+
+some : (c : tie.After-run-of-numbers Inv-loop μ-loop) → 1 ≤ c .run-of-numbers .result
+some c = omega (arith, part-some (c .before .before .before .before .before .before .args .s .now) (c .before .before .loop .i) (c .before .loop-test .taken), c .run-of-numbers .ensures)
+
+within : (c : tie.After-run-of-numbers Inv-loop μ-loop) → c .before .before .loop .i + c .run-of-numbers .result ≤ length (c .before .before .before .before .before .before .args .s .now)
+within c = omega (arith, part-within (c .before .before .before .before .before .before .args .s .now) (c .before .before .loop .i) (c .before .loop-test .taken), c .run-of-numbers .ensures)
+
+-- src/print.rt:164:9
+put-byte-requires : tie.Need-put-byte-requires Inv-loop μ-loop
+put-byte-requires c κs = search needs
+
+-- src/print.rt:164:9
+same-length : tie.Need-same-length Inv-loop μ-loop
+same-length c = search needs
+
+-- src/print.rt:164:9
+returns : tie.Need-returns Inv-loop μ-loop
+returns c = search needs
+
+-- src/print.rt:169:5
+loop-holds : tie.Need-loop-holds Inv-loop μ-loop
+loop-holds c = search needs
+
+-- src/print.rt:170:13
+run-of-numbers-requires : tie.Need-run-of-numbers-requires Inv-loop μ-loop
+run-of-numbers-requires c κs = search needs
+
+-- src/print.rt:171:9
+put-join-requires : tie.Need-put-join-requires Inv-loop μ-loop
+put-join-requires c κs = search needs
+
+-- src/print.rt:172:9
+put-count-requires : tie.Need-put-count-requires Inv-loop μ-loop
+put-count-requires c κs = search needs
+
+-- src/print.rt:173:35
+mul-put-number : tie.Need-mul-put-number Inv-loop μ-loop
+mul-put-number c = search needs
+
+-- src/print.rt:173:35
+shared-slice-read-put-number : tie.Need-shared-slice-read-put-number Inv-loop μ-loop
+shared-slice-read-put-number c = search needs
+
+-- src/print.rt:173:9
+put-number-requires : tie.Need-put-number-requires Inv-loop μ-loop
+put-number-requires c κs = search needs
+
+-- src/print.rt:175:9
+add-i : tie.Need-add-i Inv-loop μ-loop
+add-i c = omega (arith, (within (c .before .before .before .before .before .before .before .before .before .before .before .before .before)))
+
+-- src/print.rt:169:5
+loop-less : tie.Need-loop-less Inv-loop μ-loop
+loop-less c = omega (arith, (within (c .before .before .before .before .before .before .before .before .before .before .before .before .before)), (some (c .before .before .before .before .before .before .before .before .before .before .before .before .before)))
+
+-- src/print.rt:169:5
+loop-again : tie.Need-loop-again Inv-loop μ-loop
+loop-again c = (omega (arith, (within (c .before .before .before .before .before .before .before .before .before .before .before .before .before))), search needs, search needs, search needs)
+
+-- src/print.rt:159:1
+same-length-2 : tie.Need-same-length-2 Inv-loop μ-loop
+same-length-2 c = search needs
+
+-- src/print.rt:159:1
+returns-2 : tie.Need-returns-2 Inv-loop μ-loop
+returns-2 c = search needs
+
+pub put-numbers-spec : {M : Type 1} → statement M
+put-numbers-spec =
+    tie.close
+    (tie.spec
+    Inv-loop
+    μ-loop
+    put-byte-requires
+    same-length
+    returns
+    loop-holds
+    run-of-numbers-requires
+    put-join-requires
+    put-count-requires
+    mul-put-number
+    shared-slice-read-put-number
+    put-number-requires
+    add-i
+    loop-less
+    loop-again
+    same-length-2
+    returns-2)

@@ -1,0 +1,3 @@
+pub mod Scan
+pub mod Print
+pub mod Told
