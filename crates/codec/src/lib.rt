@@ -1,1 +1,4 @@
 // Layer 2: the stored forms, written and read.
+pub mod mask;
+pub mod optional;
+pub mod vlen;

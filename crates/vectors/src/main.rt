@@ -25,6 +25,21 @@ fn number_space() -> [u64; 66560]
     [0; 66560]
 }
 
+// The answer to one line, and a line end.
+fn answer_line(
+    line: &[u8],
+    numbers: &mut [u64],
+    bytes: &mut [u8],
+    masks: &mut [u8],
+    values: &mut [u8],
+    offsets: &mut [u64],
+    text: &mut [u8],
+) {
+    let n = protocol::answer(line, numbers, bytes, masks, values, offsets, text);
+    io::write_all(STDOUT_FILENO, &text[0..n]);
+    io::write_all(STDOUT_FILENO, b"\n");
+}
+
 fn answer_all(
     input: &[u8],
     numbers: &mut [u64],
@@ -37,9 +52,7 @@ fn answer_all(
     let mut at = 0;
     while at < input.len() {
         let end = protocol::scan::find(input, at, b'\n', b'\n');
-        let n = protocol::answer(&input[at..end], numbers, bytes, masks, values, offsets, text);
-        io::write_all(STDOUT_FILENO, &text[0..n]);
-        io::write_all(STDOUT_FILENO, b"\n");
+        answer_line(&input[at..end], numbers, bytes, masks, values, offsets, text);
         at = end + 1;
     }
 }

@@ -1,0 +1,19 @@
+-- Marks as the bits of 64-bit words.
+-- Assumes nothing.
+use Prim.Native.Nat.{ℕ, zero, suc, _/_, _%_}
+use mathlib.Core.List.{List, [], _∷_, _++_}
+use lib.ListN.{replicate}
+
+-- k bits of a number, the lowest first
+unfoldable pub bitsOf : ℕ → ℕ → List ℕ
+bitsOf zero w = []
+bitsOf (suc k) w = w % 2 ∷ bitsOf k (w / 2)
+
+-- the marks that words hold
+unfoldable pub marksOf : List ℕ → List ℕ
+marksOf [] = []
+marksOf (w ∷ ws) = bitsOf 64 w ++ marksOf ws
+
+-- 65,536 bits, none of them set
+unfoldable pub noWords : List ℕ
+noWords = replicate 1024 0

@@ -1,0 +1,114 @@
+// Whether each cell of a shape lies in exactly one subset of a list. Marks are bits, so that those of all cells take 8 KiB.
+ghost use mathlib.Core.Path.{_≡_};
+ghost use Prim.Native.Nat.{_+_, _≤_, _<_};
+ghost use lib.ListN.{length, getD, set};
+ghost use Rattle.array.specs.Lists.{from};
+ghost use Rattle.array.specs.Shape.{volume, ShapeOk};
+ghost use Rattle.array.specs.Subset.{pairs, cellsIn, cellsOfAll};
+ghost use Rattle.array.specs.Rows.{Within, nextSubsets};
+ghost use Rattle.chunks.specs.Gather.{onceTest};
+ghost use Rattle.cover.specs.Marks.{marking, allMarked};
+ghost use Rattle.cover.specs.Bits.{marksOf, noWords};
+ghost use Rattle.cover.specs.Asked.{SubsetsOk};
+
+// No cell is marked.
+fn no_marks() -> [u64; 1024]
+    ensures { λ r. ⌜ r ≡ noWords ⌝ }
+{
+    [0u64; 1024]
+}
+
+// The mark of cell i.
+fn mark_at(words: &[u64], i: usize) -> u64
+    requires { ⌜ (length (now words) ≡ 1024) × (i < 65536) ⌝ }
+    ensures { λ r. ⌜ r ≡ getD (marksOf (now (words .entry))) i 0 ⌝ }
+{
+    let k = i / 64;
+    let b = (i % 64) as u64;
+    let w = words[k];
+    (w >> b) % 2
+}
+
+// Marks cell i, which is not marked: so its bit is added.
+fn set_mark(words: &mut [u64], i: usize)
+    requires { ⌜ (length (now words) ≡ 1024) × (i < 65536) × (getD (marksOf (now words)) i 0 ≡ 0) ⌝ }
+    ensures { λ _. ⌜ marksOf (now (words .exit)) ≡ set (marksOf (now (words .entry))) i 1 ⌝ }
+{
+    let k = i / 64;
+    let b = (i % 64) as u64;
+    let w = words[k];
+    words[k] = w + (1u64 << b);
+}
+
+// Marks cells that are neighbours, up to the first that is marked already; whether there was none.
+fn mark_run(words: &mut [u64], start: usize, len: usize) -> bool
+    requires { ⌜ (length (now words) ≡ 1024) × (start + len ≤ 65536) ⌝ }
+    ensures { λ r. ⌜ (r, marksOf (now (words .exit))) ≡ marking (marksOf (now (words .entry))) (from start len) ⌝ }
+{
+    let mut i = start;
+    let end = start + len;
+    while i < end {
+        if mark_at(words, i) != 0 {
+            return false;
+        }
+        set_mark(words, i);
+        i += 1;
+    }
+    true
+}
+
+// Whether each of the first n cells is marked.
+fn all_marked(words: &[u64], n: usize) -> bool
+    requires { ⌜ (length (now words) ≡ 1024) × (n ≤ 65536) ⌝ }
+    ensures { λ r. ⌜ r ≡ allMarked (marksOf (now (words .entry))) n ⌝ }
+{
+    let mut i = 0;
+    while i < n {
+        if mark_at(words, i) != 1 {
+            return false;
+        }
+        i += 1;
+    }
+    true
+}
+
+// Marks the cells of a subset, row by row, up to the first that is marked already; whether there was none.
+fn mark_subset(words: &mut [u64], shape: &[u64], starts: &[u64], lens: &[u64]) -> bool
+    requires { ⌜ ShapeOk (now shape) × Within (now shape) (now starts) (now lens) × (length (now words) ≡ 1024) ⌝ }
+    ensures { λ r. ⌜ (r, marksOf (now (words .exit))) ≡ marking (marksOf (now (words .entry))) (cellsIn (now (shape .entry)) (pairs (now (starts .entry)) (now (lens .entry)))) ⌝ }
+{
+    let cells = array::subset::volume_of(lens);
+    let last = lens.len() - 1;
+    let n = lens[last];
+    let mut at: u64 = 0;
+    while at < cells {
+        let a = array::subset::cell_at(shape, starts, lens, at);
+        if !mark_run(words, a as usize, n as usize) {
+            return false;
+        }
+        at += n;
+    }
+    true
+}
+
+// Whether each cell of the shape lies in exactly one of the subsets, whose numbers lie end to end.
+pub fn covers(shape: &[u64], subsets: &[u64], count: usize) -> bool
+    requires { ⌜ SubsetsOk (now shape) (now subsets) count ⌝ }
+    ensures { λ r. ⌜ r ≡ onceTest (volume (now (shape .entry))) (cellsOfAll (now (shape .entry)) (nextSubsets (length (now (shape .entry))) count (now (subsets .entry)))) ⌝ }
+{
+    let d = shape.len();
+    let n = array::subset::volume_of(shape);
+    let mut words = no_marks();
+    let mut i: usize = 0;
+    let mut at: usize = 0;
+    while i < count {
+        let mid = at + d;
+        let end = mid + d;
+        if !mark_subset(&mut words, shape, &subsets[at..mid], &subsets[mid..end]) {
+            return false;
+        }
+        at = end;
+        i += 1;
+    }
+    all_marked(&words, n as usize)
+}

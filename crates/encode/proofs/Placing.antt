@@ -1,0 +1,78 @@
+-- Parts laid over an output one after the other, and where they come to lie.
+-- Assumes nothing.
+use mathlib.Core.Path.{_≡_, refl, sym, ap, ap₂, _∙_}
+use Prim.Native.Nat.{ℕ, suc, _+_, _*_, _≤_}
+use native.Mathlib.Nat.{zero-add}
+use native.Mathlib.Omega.{arith}
+use mathlib.Core.List.{List, [], _∷_, _++_, append-assoc, append-nil}
+use lib.ListN.{length, take, drop, length-append, take-append-drop}
+use lib.Seq.{take-at, drop-at, take-take, length-take-le, take-append-le, drop-drop}
+use Rattle.array.specs.Buffers.{over, overAt}
+use Rattle.array.specs.Bytes.{le}
+use Rattle.array.specs.Kind.{Place, atStart, atEnd}
+use Rattle.array.specs.Content.{RaggedContent}
+use Rattle.array.proofs.Bytes.{length-le}
+use Rattle.array.proofs.Over.{over-again, over-at-length}
+use Rattle.codec.specs.Frame.{wrap}
+use Rattle.codec.specs.Ragged.{put, indexOf, putRagged}
+use Rattle.encode.specs.Place.{dataAt, indexAt, lengthAt}
+
+-- what is laid behind
+pub at-behind : (at : ℕ) (f g out : List ℕ) (b : ℕ) → at + length f ≡ b → at ≤ length out → overAt b g (overAt at f out) ≡ overAt at (f ++ g) out
+at-behind at f g out b e h =
+    over-again (take at out ++ f) g out b (length-append (take at out) f ∙ ap (λ (m : ℕ). m + length f) (length-take-le at out h) ∙ e)
+    ∙ ap (λ (x : List ℕ). over x out) (append-assoc (take at out) f g)
+
+-- what is laid in front
+pub at-front : (at : ℕ) (f g out : List ℕ) (b : ℕ) → at + length f ≡ b → b ≤ length out → overAt at f (overAt b g out) ≡ overAt at (f ++ g) out
+at-front at f g out b e h =
+    let lt : length (take b out) ≡ b = length-take-le b out h in
+    let la : length (take at out) ≡ at = length-take-le at out (omega arith) in
+    let rest : List ℕ = drop (length (take b out ++ g)) out in
+    let whole : List ℕ = (take b out ++ g) ++ rest in
+    let ew : whole ≡ take b out ++ (g ++ rest) = append-assoc (take b out) g rest in
+    let e1 : take at whole ≡ take at out =
+    ap (take at) ew ∙ take-append-le at (take b out) (g ++ rest) (omega arith) ∙ take-take at b out (omega arith) in
+    let lf : length (take at whole ++ f) ≡ b = length-append (take at whole) f ∙ ap (λ (m : ℕ). m + length f) (ap length e1 ∙ la) ∙ e in
+    let e2 : drop (length (take at whole ++ f)) whole ≡ g ++ rest = ap₂ drop lf ew ∙ drop-at (take b out) (g ++ rest) b lt in
+    let e3 : length (take b out ++ g) ≡ length (take at out ++ (f ++ g)) =
+    omega (arith, length-append (take b out) g, length-append (take at out) (f ++ g), length-append f g) in
+    ap₂ _++_ (ap (λ (x : List ℕ). x ++ f) e1) e2
+    ∙ append-assoc (take at out) f (g ++ rest)
+    ∙ ap (λ (x : List ℕ). take at out ++ x) (sym (append-assoc f g rest))
+    ∙ sym (append-assoc (take at out) (f ++ g) rest)
+    ∙ ap (λ (m : ℕ). (take at out ++ (f ++ g)) ++ drop m out) e3
+
+pub at-none : (at : ℕ) (out : List ℕ) → at ≤ length out → out ≡ overAt at [] out
+at-none at out h =
+    sym (ap (λ (x : List ℕ). over x out) (append-nil (take at out)) ∙ ap (λ (m : ℕ). take at out ++ drop m out) (length-take-le at out h) ∙ take-append-drop at out)
+
+-- a frame: the content, then its mask, then the two lengths
+pub frame-laid : (at n m : ℕ) (out o1 o2 o3 o4 mask content : List ℕ) → length mask ≡ n → length content ≡ m → at + (16 + n + m) ≤ length out
+    → o1 ≡ overAt (at + 16 + n) content out → o2 ≡ overAt (at + 16) mask o1 → o3 ≡ overAt (at + 8) (le 8 m) o2 → o4 ≡ overAt at (le 8 n) o3
+    → o4 ≡ overAt at (wrap mask content) out
+unfolding wrap
+frame-laid at n m out o1 o2 o3 o4 mask content en em h e1 e2 e3 e4 =
+    let q2 : o2 ≡ overAt (at + 16) (mask ++ content) out = e2 ∙ ap (overAt (at + 16) mask) e1 ∙ at-front (at + 16) mask content out (at + 16 + n) (omega arith) (omega arith) in
+    let q3 : o3 ≡ overAt (at + 8) (le 8 m ++ (mask ++ content)) out =
+    e3 ∙ ap (overAt (at + 8) (le 8 m)) q2 ∙ at-front (at + 8) (le 8 m) (mask ++ content) out (at + 16) (omega (arith, length-le 8 m)) (omega arith) in
+    e4 ∙ ap (overAt at (le 8 n)) q3 ∙ at-front at (le 8 n) (le 8 m ++ (mask ++ content)) out (at + 8) (omega (arith, length-le 8 n)) (omega arith)
+    ∙ ap₂ (λ (a b : ℕ). overAt at (le 8 a ++ (le 8 b ++ (mask ++ content))) out) (sym en) (sym em)
+
+-- ragged values: the data, then the index, then its length
+pub ragged-laid : (p : Place) (w at index bytes : ℕ) (out o1 o2 o3 : List ℕ) (c : RaggedContent) → length (indexOf w (c .offsets)) ≡ index → length (c .values) ≡ bytes
+    → at + (8 + index + bytes) ≤ length out
+    → o1 ≡ overAt (dataAt p at index) (c .values) out → o2 ≡ overAt (indexAt p at bytes) (indexOf w (c .offsets)) o1 → o3 ≡ overAt (lengthAt p at bytes index) (le 8 index) o2
+    → o3 ≡ overAt at (putRagged w p c) out
+unfolding putRagged
+ragged-laid atStart w at index bytes out o1 o2 o3 c ei eb h e1 e2 e3 =
+    let i : List ℕ = indexOf w (c .offsets) in
+    let q2 : o2 ≡ overAt (at + 8) (i ++ c .values) out = e2 ∙ ap (overAt (at + 8) i) e1 ∙ at-front (at + 8) i (c .values) out (at + 8 + index) (omega arith) (omega arith) in
+    e3 ∙ ap (overAt at (le 8 index)) q2 ∙ at-front at (le 8 index) (i ++ c .values) out (at + 8) (omega (arith, length-le 8 index)) (omega arith)
+    ∙ ap (λ (m : ℕ). overAt at (le 8 m ++ (i ++ c .values)) out) (sym ei)
+ragged-laid atEnd w at index bytes out o1 o2 o3 c ei eb h e1 e2 e3 =
+    let i : List ℕ = indexOf w (c .offsets) in
+    let q2 : o2 ≡ overAt at (c .values ++ i) out = e2 ∙ ap (overAt (at + bytes) i) e1 ∙ at-behind at (c .values) i out (at + bytes) (omega arith) (omega arith) in
+    e3 ∙ ap (overAt (at + bytes + index) (le 8 index)) q2
+    ∙ at-behind at (c .values ++ i) (le 8 index) out (at + bytes + index) (omega (arith, length-append (c .values) i)) (omega arith)
+    ∙ ap (λ (m : ℕ). overAt at ((c .values ++ i) ++ le 8 m) out) (sym ei)

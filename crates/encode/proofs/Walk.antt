@@ -1,0 +1,164 @@
+-- The cells of an array by their numbers, and the stored form by them.
+-- Assumes nothing.
+use mathlib.Core.Path.{_≡_, refl, sym, ap, ap₂, _∙_}
+use Prim.Native.Nat.{ℕ, zero, suc, _+_, _-_, _*_, _<_, _≤_}
+use native.Mathlib.Nat.{zero-mul, suc-mul, zero-add}
+use native.Mathlib.Omega.{arith}
+use mathlib.Core.Bool.{Bool, true, false, _&&_}
+use mathlib.Core.List.{List, [], _∷_, _++_, map}
+use lib.ListN.{length, getD, take, drop, length-drop}
+use lib.Seq.{getD-drop, getD-take, drop-drop, length-take-le}
+use Rattle.array.specs.Lists.{pick, from, pieces, passing}
+use Rattle.array.specs.Kind.{Kind, Form, fixed, ragged}
+use Rattle.array.specs.Offsets.{slices, slicesFrom}
+use Rattle.array.specs.Cells.{Value, Cell, markOf, maskOf}
+use Rattle.array.specs.Content.{Content, ContentOk, ValuesOk, pairUp, attach, valuesIn, cellsOf}
+use Rattle.array.proofs.Lists.{All-of}
+use Rattle.array.proofs.Geometry.{passing-all}
+use Rattle.codec.specs.Mask.{byteMask}
+use Rattle.codec.specs.Frame.{keepOne, keep, wrap, unlessNone, frame}
+use Rattle.codec.specs.Values.{putValues}
+use Rattle.codec.specs.Calls.{written, storedForm}
+use Rattle.encode.specs.Live.{setBy, maskAt, liveTest, liveAt, pieceAt, sliceAt, valueAt}
+use Rattle.encode.specs.Stored.{storedFrom, storedBy}
+
+-- ---- lists by their elements
+
+module _ {A : Type 0} where
+  pub map-from : (f g : ℕ → A) (a n : ℕ) → ((i : ℕ) → i < a + n → f i ≡ g i) → map f (from a n) ≡ map g (from a n)
+  map-from f g a zero e = refl
+  map-from f g a (suc n) e =
+      ap₂ (λ (x : A) (r : List A). x ∷ r) (e a (omega arith)) (map-from f g (suc a) n (λ i h. e i (omega arith)))
+
+  from-suc : (f : ℕ → A) (a n : ℕ) → map f (from (suc a) n) ≡ map (λ i. f (suc i)) (from a n)
+  from-suc f a zero = refl
+  from-suc f a (suc n) = ap (λ (r : List A). f (suc a) ∷ r) (from-suc f (suc a) n)
+
+  in-place : (z : A) (xs : List A) → map (λ i. getD xs i z) (from 0 (length xs)) ≡ xs
+  in-place z [] = refl
+  in-place z (x ∷ xs) = ap (λ (r : List A). x ∷ r) (from-suc (λ i. getD (x ∷ xs) i z) 0 (length xs) ∙ in-place z xs)
+
+  by-index : (z : A) (xs : List A) (n : ℕ) → length xs ≡ n → xs ≡ map (λ i. getD xs i z) (from 0 n)
+  by-index z xs n e = sym (in-place z xs) ∙ ap (λ (m : ℕ). map (λ i. getD xs i z) (from 0 m)) e
+
+  pairUp-map : (f : ℕ → ℕ) (g : ℕ → A) (is : List ℕ) → pairUp (map f is) (map g is) ≡ map (λ i. (f i, g i)) is
+  pairUp-map f g [] = refl
+  pairUp-map f g (i ∷ is) = ap (λ (r : List (ℕ × A)). (f i, g i) ∷ r) (pairUp-map f g is)
+
+-- ---- cells
+
+-- cell i from level l inwards, d levels being left
+abbrev cellAt : ℕ → List ℕ → (ℕ → Value) → (d l : ℕ) → ℕ → Cell d
+cellAt n masks val zero l i = val i
+cellAt n masks val (suc d) l i = (maskAt n masks l i, cellAt n masks val d (suc l) i)
+
+module _ (n : ℕ) (masks : List ℕ) (val : ℕ → Value) where
+  plane-at : (d l : ℕ) → length masks ≡ (l + suc d) * n → take n (drop (l * n) masks) ≡ map (maskAt n masks l) (from 0 n)
+  plane-at d l e =
+      let ps : List ℕ = drop (l * n) masks in
+      let le : n ≤ length ps = omega (arith, length-drop (l * n) masks) in
+      by-index 0 (take n ps) n (length-take-le n ps le)
+      ∙ map-from (λ i. getD (take n ps) i 0) (maskAt n masks l) 0 n (λ i h. getD-take n ps i 0 (omega arith) ∙ getD-drop (l * n) masks i 0)
+
+  attach-at : (d l : ℕ) → length masks ≡ (l + d) * n → attach d n (drop (l * n) masks) (map val (from 0 n)) ≡ map (cellAt n masks val d l) (from 0 n)
+  attach-at zero l e = refl
+  attach-at (suc d) l e =
+      ap₂ (λ (ms : List ℕ) (ps : List ℕ). pairUp ms (attach d n ps (map val (from 0 n)))) (plane-at d l e)
+      (drop-drop n (l * n) masks ∙ ap (λ (m : ℕ). drop m masks) (sym (suc-mul l n)))
+      ∙ ap (pairUp (map (maskAt n masks l) (from 0 n))) (attach-at d (suc l) (omega arith))
+      ∙ pairUp-map (maskAt n masks l) (cellAt n masks val d (suc l)) (from 0 n)
+
+-- ---- values
+
+pub pieces-at : (at k n a : ℕ) (s : List ℕ) → pieces k n (drop (at + a * k) s) ≡ map (pieceAt at k s) (from a n)
+pieces-at at k zero a s = refl
+pieces-at at k (suc n) a s =
+    let q : at + a * k + k ≡ at + suc a * k = omega (arith, suc-mul a k) in
+    ap (λ (r : List Value). take k (drop (at + a * k) s) ∷ r)
+    (ap (pieces k n) (drop-drop k (at + a * k) s ∙ ap (λ (m : ℕ). drop m s) q) ∙ pieces-at at k n (suc a) s)
+
+slices-at : (a : ℕ) (os s : List ℕ) → slicesFrom a os s ≡ map (sliceAt (a ∷ os) s) (from 0 (length os))
+slices-at a [] s = refl
+slices-at a (b ∷ bs) s =
+    ap (λ (r : List Value). take (b - a) (drop a s) ∷ r) (slices-at b bs s ∙ sym (from-suc (sliceAt (a ∷ b ∷ bs) s) 0 (length bs)))
+
+pub values-at : (f : Form) (n : ℕ) (c : Content) → ValuesOk f n c → valuesIn f n c ≡ map (valueAt f c) (from 0 n)
+values-at (fixed k o) n c p =
+    let q : 0 ≡ 0 + 0 * k = omega (arith, zero-mul k) in
+    ap (λ (m : ℕ). pieces k n (drop m (c .values))) q ∙ pieces-at 0 k n 0 (c .values)
+values-at (ragged w q) n c p = go (c .offsets) (p .0)
+  where
+    go : (os : List ℕ) → length os ≡ suc n → slices os (c .values) ≡ map (sliceAt os (c .values)) (from 0 n)
+    go [] e = absurd (omega arith)
+    go (a ∷ bs) e =
+        let e′ : length bs ≡ n = omega arith in
+        slices-at a bs (c .values) ∙ ap (λ (m : ℕ). map (sliceAt (a ∷ bs) (c .values)) (from 0 m)) e′
+
+-- the cells of valid content, each by its number
+cells-at : (k : Kind) (n : ℕ) (c : Content) → ContentOk k n c
+    → cellsOf k n c ≡ map (cellAt n (c .masks) (valueAt (k .form) c) (k .depth) 0) (from 0 n)
+cells-at k n c p =
+    ap₂ (λ (ps : List ℕ) (vs : List Value). attach (k .depth) n ps vs) (ap (λ (m : ℕ). drop m (c .masks)) (sym (zero-mul n))) (values-at (k .form) n c (p .values-fit))
+    ∙ attach-at n (c .masks) (valueAt (k .form) c) (k .depth) 0 (p .masks-fit ∙ ap (λ (m : ℕ). m * n) (sym (zero-add (k .depth))))
+
+-- ---- frames
+
+-- level 0 counts every cell
+pub live-all : (n : ℕ) (masks : List ℕ) → liveAt n masks 0 ≡ from 0 n
+live-all n masks = passing-all (λ i. true) (from 0 n) (All-of (λ i. true ≡ true) (λ i. refl) (from 0 n))
+
+unless-map : {A : Type 0} (g : ℕ → A) (f : List A → List ℕ) (h : List ℕ → List ℕ) (is : List ℕ) → f (map g is) ≡ h is → unlessNone f (map g is) ≡ unlessNone h is
+unless-map g f h [] e = refl
+unless-map g f h (i ∷ is) e = e
+
+module _ (n : ℕ) (masks : List ℕ) (val : ℕ → Value) where
+  masks-at : (d l : ℕ) (is : List ℕ) → maskOf (map (cellAt n masks val (suc d) l) is) ≡ map (maskAt n masks l) is
+  masks-at d l [] = refl
+  masks-at d l (i ∷ is) = ap (λ (r : List ℕ). maskAt n masks l i ∷ r) (masks-at d l is)
+
+  -- of the cells that level l counts, those that are set there are what the next level counts
+  keep-at : (d l : ℕ) (js : List ℕ)
+      → keep (map (cellAt n masks val (suc d) l) (passing (liveTest n masks l) js)) ≡ map (cellAt n masks val d (suc l)) (passing (liveTest n masks (suc l)) js)
+  keep-at d l [] = refl
+  keep-at d l (j ∷ js) = go (liveTest n masks l j) (maskAt n masks l j) refl (keep-at d l js)
+    where
+      go : (b : Bool) (m : ℕ) → maskAt n masks l j ≡ m
+          → keep (map (cellAt n masks val (suc d) l) (passing (liveTest n masks l) js)) ≡ map (cellAt n masks val d (suc l)) (passing (liveTest n masks (suc l)) js)
+          → keep (map (cellAt n masks val (suc d) l) (pick b (j ∷ passing (liveTest n masks l) js) (passing (liveTest n masks l) js)))
+          ≡ map (cellAt n masks val d (suc l)) (pick (b && setBy (markOf m)) (j ∷ passing (liveTest n masks (suc l)) js) (passing (liveTest n masks (suc l)) js))
+      go true zero q e = rw q e
+      go true (suc m) q e = rw q (ap (λ (r : List (Cell d)). cellAt n masks val d (suc l) j ∷ r) e)
+      go false m q e = e
+
+-- a content from level l inwards is the frame of the cells that the level counts
+from-frame : (f : Form) (n : ℕ) (c : Content) (d l : ℕ)
+    → unlessNone (frame byteMask (putValues f) d) (map (cellAt n (c .masks) (valueAt f c) d l) (liveAt n (c .masks) l)) ≡ storedFrom f n c d l
+unfolding storedFrom frame
+from-frame f n c zero l = unless-map (valueAt f c) (putValues f) (λ is. putValues f (map (valueAt f c) is)) (liveAt n (c .masks) l) refl
+from-frame f n c (suc d) l =
+    unless-map (cellAt n (c .masks) (valueAt f c) (suc d) l) (frame byteMask (putValues f) (suc d))
+    (λ is. wrap (map (maskAt n (c .masks) l) is) (storedFrom f n c d (suc l))) (liveAt n (c .masks) l)
+    (ap₂ wrap (masks-at n (c .masks) (valueAt f c) d l (liveAt n (c .masks) l))
+    (ap (unlessNone (frame byteMask (putValues f) d)) (keep-at n (c .masks) (valueAt f c) d l (from 0 n)) ∙ from-frame f n c d (suc l)))
+
+unless-some : {A : Type 0} (f : List A → List ℕ) (g : ℕ → A) (n : ℕ) → 1 ≤ n → unlessNone f (map g (from 0 n)) ≡ f (map g (from 0 n))
+unless-some f g zero h = absurd (omega arith)
+unless-some f g (suc n) h = refl
+
+pub stored-by : (k : Kind) (n : ℕ) (c : Content) → ContentOk k n c → 1 ≤ n → storedForm k n c ≡ storedBy (k .form) n c (k .depth)
+unfolding written
+stored-by k n c ok some = go (k .form) (k .depth) (cellsOf k n c) (cells-at k n c ok)
+  where
+    whole : (f : Form) (d : ℕ) (cs : List (Cell d)) → cs ≡ map (cellAt n (c .masks) (valueAt f c) d 0) (from 0 n)
+        → frame byteMask (putValues f) d cs ≡ storedFrom f n c d 0
+    whole f d cs e =
+        ap (frame byteMask (putValues f) d) e
+        ∙ sym (unless-some (frame byteMask (putValues f) d) (cellAt n (c .masks) (valueAt f c) d 0) n some)
+        ∙ ap (λ (is : List ℕ). unlessNone (frame byteMask (putValues f) d) (map (cellAt n (c .masks) (valueAt f c) d 0) is)) (sym (live-all n (c .masks)))
+        ∙ from-frame f n c d 0
+
+    go : (f : Form) (d : ℕ) (cs : List (Cell d)) → cs ≡ map (cellAt n (c .masks) (valueAt f c) d 0) (from 0 n)
+        → written byteMask f d cs c ≡ storedBy f n c d
+    go (fixed s o) d cs e = whole (fixed s o) d cs e
+    go (ragged w p) zero cs e = refl
+    go (ragged w p) (suc d) cs e = whole (ragged w p) (suc d) cs e

@@ -1,0 +1,4 @@
+pub mod Live
+pub mod Place
+pub mod Ready
+pub mod Stored

@@ -1,0 +1,74 @@
+// What belongs to the cells that a level counts, end to end: mask bytes, and values of one size.
+use array::copy;
+use array::endian;
+use array::kind::ByteOrder;
+use crate::live;
+
+ghost use mathlib.Core.Path.{_≡_};
+ghost use mathlib.Core.List.{map};
+ghost use Prim.Native.Nat.{_+_, _*_, _≤_};
+ghost use lib.ListN.{length, drop};
+ghost use Rattle.array.specs.Buffers.{overAt};
+ghost use Rattle.array.specs.Kind.{big, ordered};
+ghost use Rattle.array.specs.Limits.{mostCells};
+ghost use Rattle.array.specs.Lists.{joined, pieces};
+ghost use Rattle.array.specs.Meaning.{orderOf};
+ghost use Rattle.encode.specs.Live.{liveAt, pieceAt};
+
+// Copies `run` cells, each reversed.
+fn reverse_run(out: &mut [u8], to: usize, s: &[u8], at: usize, size: usize, run: usize)
+    requires { ⌜ (to + run * size ≤ length (now out)) × (at + run * size ≤ length (now s)) ⌝ }
+    ensures { λ _. ⌜ now (out .exit) ≡ overAt to (joined (map (ordered big) (pieces size run (drop at (now (s .entry)))))) (now (out .entry)) ⌝ }
+{
+    let mut j = 0;
+    while j < run {
+        let k = j * size;
+        endian::copy_reversed(out, to + k, s, at + k, size);
+        j += 1;
+    }
+}
+
+// Copies `run` cells, each in its stored order.
+fn put_run(
+    out: &mut [u8],
+    to: usize,
+    s: &[u8],
+    at: usize,
+    size: usize,
+    order: ByteOrder,
+    run: usize,
+)
+    requires { ⌜ (to + run * size ≤ length (now out)) × (at + run * size ≤ length (now s)) ⌝ }
+    ensures { λ _. ⌜ now (out .exit) ≡ overAt to (joined (map (ordered (orderOf order)) (pieces size run (drop at (now (s .entry)))))) (now (out .entry)) ⌝ }
+{
+    match order {
+        ByteOrder::Little => copy::copy_bytes(out, to, s, at, run * size),
+        ByteOrder::Big => reverse_run(out, to, s, at, size, run),
+    }
+}
+
+// Of the cells of one size that begin at `at`, those that the level counts. Neighbours go as one run.
+pub fn put_live(
+    out: &mut [u8],
+    to: usize,
+    s: &[u8],
+    at: usize,
+    size: usize,
+    order: ByteOrder,
+    masks: &[u8],
+    cells: usize,
+    level: usize,
+)
+    requires { ⌜ (cells ≤ mostCells) × (level * cells ≤ length (now masks)) × (at + cells * size ≤ length (now s))
+      × (to + length (joined (map (λ i. ordered (orderOf order) (pieceAt at size (now s) i)) (liveAt cells (now masks) level))) ≤ length (now out)) ⌝ }
+    ensures { λ _. ⌜ now (out .exit) ≡ overAt to (joined (map (λ i. ordered (orderOf order) (pieceAt at size (now (s .entry)) i)) (liveAt cells (now (masks .entry)) level))) (now (out .entry)) ⌝ }
+{
+    let mut i = 0;
+    let mut done = 0;
+    while i < cells {
+        let run = live::live_run(masks, cells, level, i);
+        put_run(out, to + done, s, at + i * size, size, order, run);
+        done += run * size;
+        i += run + 1;
+    }
+}

@@ -1,0 +1,60 @@
+// The written length: the sum over the levels, outermost first.
+use array::kind;
+use array::kind::Kind;
+use array::kind::Values;
+use crate::live;
+use crate::values;
+
+ghost use mathlib.Core.Path.{_≡_};
+ghost use Prim.Native.Nat.{_+_, _≤_};
+ghost use Rattle.array.specs.Limits.{mostBytes};
+ghost use Rattle.array.specs.Meaning.{formOf};
+ghost use Rattle.encode.specs.Ready.{Measured};
+ghost use Rattle.encode.specs.Stored.{lengthFrom, lengthBy};
+
+// From a level inwards, `left` levels being left: 16 + the cells that it counts, or nothing where none are left.
+pub fn content_length(
+    form: Values,
+    offsets: &[u64],
+    masks: &[u8],
+    cells: usize,
+    level: usize,
+    left: usize,
+) -> usize
+    requires { ⌜ Measured (formOf form) cells (now masks) (now offsets) (level + left) ⌝ }
+    ensures { λ r. ⌜ r ≡ lengthFrom (formOf form) cells (now (masks .entry)) (now (offsets .entry)) left level ⌝ }
+{
+    let count = live::count_live(masks, cells, level);
+    if count == 0 {
+        return 0;
+    }
+    if left == 0 {
+        return values::values_length(form, offsets, masks, cells, level, count);
+    }
+    16 + count + content_length(form, offsets, masks, cells, level + 1, left - 1)
+}
+
+// The written length of valid content of `cells` cells with so many value bytes.
+pub fn stored_length(
+    kind: Kind,
+    cells: usize,
+    masks: &[u8],
+    bytes: usize,
+    offsets: &[u64],
+) -> usize
+    requires ready { ⌜ Measured (formOf (kind .values)) cells (now masks) (now offsets) (kind .depth) ⌝ }
+    requires small { ⌜ bytes ≤ mostBytes ⌝ }
+    ensures { λ r. ⌜ r ≡ lengthBy (formOf (kind .values)) cells (now (masks .entry)) bytes (now (offsets .entry)) (kind .depth) ⌝ }
+{
+    let form = kind.values;
+    let depth = kind.depth as usize;
+    match form {
+        Values::Fixed(_, _) => content_length(form, offsets, masks, cells, 0, depth),
+        Values::Ragged(width, _) => {
+            if depth == 0 {
+                return 8 + kind::width_bytes(width) * (cells + 1) + bytes;
+            }
+            content_length(form, offsets, masks, cells, 0, depth)
+        }
+    }
+}

@@ -1,0 +1,72 @@
+// Layer 2, writing: an array into its stored form.
+use array::answer::Written;
+use array::array_bytes;
+use array::array_bytes::Checked;
+use array::kind;
+use array::kind::Kind;
+use array::refusal;
+use array::shape;
+use array::shape::Cells;
+
+mod cells;
+mod length;
+mod live;
+mod ragged;
+mod values;
+mod write;
+
+ghost use mathlib.Core.Path.{_≡_};
+ghost use lib.Dec.{leb};
+ghost use lib.ListN.{length};
+ghost use Rattle.array.specs.Answer.{gives, unless};
+ghost use Rattle.array.specs.Buffers.{listOutcome};
+ghost use Rattle.array.specs.Meaning.{kindOf};
+ghost use Rattle.array.specs.Outcome.{outcome};
+ghost use Rattle.codec.specs.Calls.{storedForm, encoded};
+ghost use Rattle.encode.specs.Ready.{Encodable};
+
+// Writes an array into its stored form. Refusals 1, 2, 4, 5 and 6, in this order; nothing is stored before the last check.
+pub fn encode(
+    kind: Kind,
+    shape: &[u64],
+    masks: &[u8],
+    values: &[u8],
+    offsets: &[u64],
+    out: &mut [u8],
+) -> Written
+    ensures { λ r. ⌜ outcome r (now (out .exit)) ≡ encoded (kindOf kind) (now (shape .entry)) (record { masks = now (masks .entry); values = now (values .entry); offsets = now (offsets .entry) }) (now (out .entry)) ⌝ }
+{
+    if !kind::check_kind(kind) {
+        return Written::Refused(refusal::KIND);
+    }
+    let Cells::Count(cells) = shape::shape_cells(shape) else {
+        return Written::Refused(refusal::SHAPE);
+    };
+    let checked = array_bytes::check_array(kind, cells, masks.len(), values.len(), offsets);
+    match checked {
+        Checked::Refused(number) => Written::Refused(number),
+        Checked::Valid => encode_valid(kind, cells, masks, values, offsets, out),
+    }
+}
+
+// The same of valid content of `cells` cells: refusal 6, or its stored form.
+fn encode_valid(
+    kind: Kind,
+    cells: usize,
+    masks: &[u8],
+    values: &[u8],
+    offsets: &[u64],
+    out: &mut [u8],
+) -> Written
+    requires { ⌜ Encodable (kindOf kind) cells (record { masks = now masks; values = now values; offsets = now offsets }) ⌝ }
+    ensures { λ r. ⌜ outcome r (now (out .exit))
+      ≡ listOutcome (unless (leb (length (storedForm (kindOf kind) cells (record { masks = now (masks .entry); values = now (values .entry); offsets = now (offsets .entry) }))) (length (now (out .entry)))) 6
+          (gives (storedForm (kindOf kind) cells (record { masks = now (masks .entry); values = now (values .entry); offsets = now (offsets .entry) })))) (now (out .entry)) ⌝ }
+{
+    let need = length::stored_length(kind, cells, masks, values.len(), offsets);
+    if out.len() < need {
+        return Written::Refused(refusal::OUTPUT);
+    }
+    write::write_stored(out, kind, values, offsets, masks, cells);
+    Written::Length(need)
+}

@@ -1,0 +1,77 @@
+// The innermost content: values of one size, or ragged values.
+use array::kind;
+use array::kind::Values;
+use crate::cells;
+use crate::ragged;
+
+ghost use mathlib.Core.Path.{_≡_};
+ghost use mathlib.Core.List.{map};
+ghost use Prim.Native.Nat.{_+_, _≤_};
+ghost use lib.ListN.{length};
+ghost use Rattle.array.specs.Buffers.{overAt};
+ghost use Rattle.array.specs.Meaning.{formOf};
+ghost use Rattle.codec.specs.Values.{putValues};
+ghost use Rattle.encode.specs.Live.{liveAt, valueAt};
+ghost use Rattle.encode.specs.Ready.{Measured, Ready};
+ghost use Rattle.encode.specs.Stored.{valuesLengthAt};
+
+// How long the values of the `count` cells that the level counts are when written.
+pub fn values_length(
+    form: Values,
+    offsets: &[u64],
+    masks: &[u8],
+    cells: usize,
+    level: usize,
+    count: usize,
+) -> usize
+    requires counted { ⌜ count ≡ length (liveAt cells (now masks) level) ⌝ }
+    requires ready { ⌜ Measured (formOf form) cells (now masks) (now offsets) level ⌝ }
+    ensures { λ r. ⌜ r ≡ valuesLengthAt (formOf form) (now (offsets .entry)) (liveAt cells (now (masks .entry)) level) ⌝ }
+{
+    match form {
+        Values::Fixed(size, _) => count * (size as usize),
+        Values::Ragged(width, _) => {
+            let index = kind::width_bytes(width) * (count + 1);
+            8 + index + ragged::live_bytes(offsets, masks, cells, level)
+        }
+    }
+}
+
+// Writes these values; says how many bytes it wrote.
+pub fn put_values(
+    out: &mut [u8],
+    at: usize,
+    form: Values,
+    values: &[u8],
+    offsets: &[u64],
+    masks: &[u8],
+    cells: usize,
+    level: usize,
+    count: usize,
+) -> usize
+    requires counted { ⌜ count ≡ length (liveAt cells (now masks) level) ⌝ }
+    requires ready { ⌜ Ready (formOf form) cells (record { masks = now masks; values = now values; offsets = now offsets }) level ⌝ }
+    requires room { ⌜ at + length (putValues (formOf form) (map (valueAt (formOf form) (record { masks = now masks; values = now values; offsets = now offsets })) (liveAt cells (now masks) level))) ≤ length (now out) ⌝ }
+    ensures wrote { λ r. ⌜ r ≡ length (putValues (formOf form) (map (valueAt (formOf form) (record { masks = now (masks .entry); values = now (values .entry); offsets = now (offsets .entry) })) (liveAt cells (now (masks .entry)) level))) ⌝ }
+    ensures bytes { λ _. ⌜ now (out .exit) ≡ overAt at (putValues (formOf form) (map (valueAt (formOf form) (record { masks = now (masks .entry); values = now (values .entry); offsets = now (offsets .entry) })) (liveAt cells (now (masks .entry)) level))) (now (out .entry)) ⌝ }
+{
+    match form {
+        Values::Fixed(size, order) => {
+            let k = size as usize;
+            cells::put_live(out, at, values, 0, k, order, masks, cells, level);
+            count * k
+        }
+        Values::Ragged(width, place) => ragged::put_ragged(
+            out,
+            at,
+            width,
+            place,
+            values,
+            offsets,
+            masks,
+            cells,
+            level,
+            count,
+        ),
+    }
+}

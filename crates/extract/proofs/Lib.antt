@@ -1,0 +1,6 @@
+pub mod Places
+pub mod Walk
+pub mod Closing
+pub mod Forms
+pub mod Cutting
+pub mod Outcomes

@@ -1,0 +1,108 @@
+-- The bytes of neighbouring cells are one run of bytes, whatever lies where: masks, fixed and ragged values alike.
+-- Assumes nothing.
+use mathlib.Core.Path.{_≡_, refl, sym, ap, ap₂, _∙_}
+use Prim.Native.Nat.{ℕ, zero, suc, _+_, _-_, _*_, _≤_, _<_}
+use native.Mathlib.Nat.{zero-mul, suc-mul, add-zero, sub-self, le-refl}
+use native.Mathlib.Numerals.{add-one}
+use native.Mathlib.Omega.{arith}
+use mathlib.Core.List.{List, [], _∷_, _++_, map, append-assoc}
+use lib.ListN.{length, take, drop, length-append, length-drop}
+use lib.Seq.{take-add, drop-drop, length-take-le}
+use Rattle.array.specs.Lists.{from, joined, All}
+use Rattle.array.specs.Cells.{Value}
+use Rattle.array.specs.Offsets.{ends}
+use Rattle.extract.specs.Places.{fixedAt, Rises, stepAt, valueAt, bytesAt, valuesAt}
+
+-- ---- lists of values, one part after another
+
+pub joined-append : {A : Type 0} (xs ys : List (List A)) → joined (xs ++ ys) ≡ joined xs ++ joined ys
+joined-append [] ys = refl
+joined-append (x ∷ xs) ys = ap (λ (r : List _). x ++ r) (joined-append xs ys) ∙ sym (append-assoc x (joined xs) (joined ys))
+
+pub bytes-append : (off : ℕ → ℕ) (xs ys : List ℕ) → bytesAt off (xs ++ ys) ≡ bytesAt off xs + bytesAt off ys
+bytes-append off [] ys = omega arith
+bytes-append off (x ∷ xs) ys = omega (arith, bytes-append off xs ys)
+
+pub ends-append : (a : ℕ) (xs ys : List Value) → ends a (xs ++ ys) ≡ ends a xs ++ ends (a + length (joined xs)) ys
+ends-append a [] ys = ap (λ (k : ℕ). ends k ys) (sym (add-zero a))
+ends-append a (x ∷ xs) ys =
+    let e : a + length x + length (joined xs) ≡ a + length (x ++ joined xs) = omega (arith, length-append x (joined xs)) in
+    ap (λ (r : List ℕ). (a + length x) ∷ r) (ends-append (a + length x) xs ys ∙ ap (λ (k : ℕ). ends (a + length x) xs ++ ends k ys) e)
+
+-- ---- places at equal steps
+
+pub fixed-step : (base k j : ℕ) → stepAt (fixedAt base k) j ≡ k
+fixed-step base k j = omega (arith, suc-mul j k)
+
+pub fixed-rises : (base k v : ℕ) → Rises (fixedAt base k) v
+fixed-rises base k v j h = omega (arith, suc-mul j k)
+
+pub fixed-total : (base k : ℕ) (js : List ℕ) → bytesAt (fixedAt base k) js ≡ length js * k
+fixed-total base k [] = sym (zero-mul k)
+fixed-total base k (j ∷ js) = omega (arith, fixed-step base k j, fixed-total base k js, suc-mul (length js) k)
+
+-- ---- a run of cells
+
+module _ (off : ℕ → ℕ) (v : ℕ) (r : Rises off v) where
+  pub run-rises : (a n : ℕ) → a + n ≤ v → off a ≤ off (a + n)
+  run-rises a zero h = let e : off a ≡ off (a + zero) = ap off (sym (add-zero a)) in omega arith
+  run-rises a (suc n) h =
+      let e : off (suc a + n) ≡ off (a + suc n) = let q : suc a + n ≡ a + suc n = omega arith in ap off q in
+      omega (arith, r a (omega arith), run-rises (suc a) n (omega arith), e)
+
+  pub run-below : (a n : ℕ) → a + n ≤ v → off (a + n) ≤ off v
+  run-below a n h = let q : a + n + (v - (a + n)) ≡ v = omega arith in omega (arith, run-rises (a + n) (v - (a + n)) (omega arith), ap off q)
+
+  -- its bytes are those from where it begins up to where it ends
+  pub run-bytes : (s : List ℕ) (a n : ℕ) → a + n ≤ v → joined (valuesAt off s (from a n)) ≡ take (off (a + n) - off a) (drop (off a) s)
+  run-bytes s a zero h = let e : 0 ≡ off (a + zero) - off a = sym (sub-self (off a)) ∙ ap (λ (k : ℕ). off k - off a) (sym (add-zero a)) in ap (λ (k : ℕ). take k (drop (off a) s)) e
+  run-bytes s a (suc n) h =
+      let x : ℕ = stepAt off a in
+      let y : ℕ = off (suc a + n) - off (suc a) in
+      let q : suc a + n ≡ a + suc n = omega arith in
+      let m : off a ≤ off (suc a) = r a (omega arith) in
+      let l : off (suc a) ≤ off (suc a + n) = run-rises (suc a) n (omega arith) in
+      let e : x + y ≡ off (a + suc n) - off a = omega (arith, ap off q) in
+      let b : off a + x ≡ off (suc a) = omega arith in
+      ap (λ (t : List ℕ). valueAt off s a ++ t)
+      (run-bytes s (suc a) n (omega arith) ∙ ap (take y) (ap (λ (k : ℕ). drop k s) (sym b) ∙ sym (drop-drop x (off a) s)))
+      ∙ sym (take-add x y (drop (off a) s)) ∙ ap (λ (k : ℕ). take k (drop (off a) s)) e
+
+  -- so many
+  pub run-long : (s : List ℕ) (a n : ℕ) → a + n ≤ v → off (a + n) ≤ length s → length (take (off (a + n) - off a) (drop (off a) s)) ≡ off (a + n) - off a
+  run-long s a n h l = length-take-le (off (a + n) - off a) (drop (off a) s) (omega (arith, length-drop (off a) s))
+
+  pub run-total : (a n : ℕ) → a + n ≤ v → bytesAt off (from a n) ≡ off (a + n) - off a
+  run-total a zero h = sym (sub-self (off a)) ∙ ap (λ (k : ℕ). off k - off a) (sym (add-zero a))
+  run-total a (suc n) h =
+      let q : suc a + n ≡ a + suc n = omega arith in
+      omega (arith, run-total (suc a) n (omega arith), r a (omega arith), run-rises (suc a) n (omega arith), ap off q)
+
+  -- where its cells end, from t on
+  run-ends-from : (s : List ℕ) (t a b n : ℕ) → a ≤ b → b + n ≤ v → off (b + n) ≤ length s → off a ≤ off b
+      → ends (t + (off b - off a)) (valuesAt off s (from b n)) ≡ map (λ j. t + (off (suc j) - off a)) (from b n)
+  run-ends-from s t a b zero g h l m = refl
+  run-ends-from s t a b (suc n) g h l m =
+      let q : off (suc b + n) ≡ off (b + suc n) = let e : suc b + n ≡ b + suc n = omega arith in ap off e in
+      let up : off b ≤ off (suc b) = r b (omega arith) in
+      let top : off (suc b) ≤ off (suc b + n) = run-rises (suc b) n (omega arith) in
+      let len : length (valueAt off s b) ≡ off (suc b) - off b = length-take-le (off (suc b) - off b) (drop (off b) s) (omega (arith, length-drop (off b) s)) in
+      let e : t + (off b - off a) + length (valueAt off s b) ≡ t + (off (suc b) - off a) = omega arith in
+      ap₂ (λ (x : ℕ) (w : List ℕ). x ∷ w) e
+      (ap (λ (k : ℕ). ends k (valuesAt off s (from (suc b) n))) e ∙ run-ends-from s t a (suc b) n (omega arith) (omega arith) (omega arith) (omega arith))
+
+  pub run-ends : (s : List ℕ) (t a n : ℕ) → a + n ≤ v → off (a + n) ≤ length s → ends t (valuesAt off s (from a n)) ≡ map (λ j. t + (off (suc j) - off a)) (from a n)
+  run-ends s t a n h l =
+      let e : t ≡ t + (off a - off a) = omega arith in
+      ap (λ (k : ℕ). ends k (valuesAt off s (from a n))) e ∙ run-ends-from s t a a n (le-refl a) h l (le-refl (off a))
+
+  -- ---- any cells
+
+  -- as many bytes as their steps say
+  pub bytes-long : (s : List ℕ) → off v ≤ length s → (js : List ℕ) → All (λ j. j < v) js → length (joined (valuesAt off s js)) ≡ bytesAt off js
+  bytes-long s l [] p = refl
+  bytes-long s l (j ∷ js) p =
+      let top : off (suc j) ≤ off v = let q : j + 1 ≡ suc j = add-one j in omega (arith, run-below j 1 (omega (arith, p .0)), ap off q) in
+      let up : off j ≤ off (suc j) = r j (p .0) in
+      let len : length (valueAt off s j) ≡ stepAt off j = length-take-le (stepAt off j) (drop (off j) s) (omega (arith, length-drop (off j) s)) in
+      omega (arith, length-append (valueAt off s j) (joined (valuesAt off s js)), bytes-long s l js (p .1))

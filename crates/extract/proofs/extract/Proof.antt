@@ -1,0 +1,220 @@
+-- `extract` meets its contract: each refusal in its order (proofs/Outcomes), then the cut of an array that keeps the rules.
+-- Assumes nothing.
+use Prim.Native.Nat.{ℕ}
+use mathlib.Core.Path.{_≡_, refl, sym, ap, _∙_}
+use mathlib.Core.Bool.{true}
+use mathlib.Core.List.{List}
+use native.Mathlib.Omega.{arith}
+use borrow.Author.Needs.{needs}
+use borrow.Author.Tests.{not-true, not-false}
+use lib.ListN.{length}
+use Rattle.array.specs.Limits.{mostCells}
+use Rattle.array.specs.Kind.{Kind, kindTest}
+use Rattle.array.specs.Shape.{volume}
+use Rattle.array.specs.ShapeCells.{toldCells}
+use Rattle.array.specs.Subset.{Subset, numbersTest, NumbersOk}
+use Rattle.array.specs.Content.{Content}
+use Rattle.array.specs.Check.{toldChecked}
+use Rattle.array.specs.Outcome.{contentArray}
+use Rattle.array.specs.Meaning.{kindOf}
+use Rattle.array.proofs.Rules.{numbers-ok}
+use Rattle.array.proofs.ShapeLaws.{Counted, counted, not-counted}
+use Rattle.array.proofs.SubsetLists.{subset-parts, within-parts}
+use Rattle.array.proofs.CheckLaws.{checkOf, KeepsRules, check-valid}
+use Rattle.chunks.specs.Cut.{cutOf}
+use Rattle.extract.specs.Outcome.{putInto}
+use Rattle.extract.proofs.Outcomes.{no-kind, no-shape, no-subset, not-kept, kept}
+use Rattle.extract.proofs.extract.Statement.{statement}
+use Rattle.extract.proofs.extract.Tie as tie
+
+-- where the function starts: the kind, the array, the outputs
+abbrev kind : tie.Start → Kind
+kind s = kindOf (s .args .kind)
+
+abbrev shape : tie.Start → List ℕ
+shape s = s .args .shape .now
+
+abbrev numbers : tie.Start → List ℕ
+numbers s = s .args .subset .now
+
+abbrev array : tie.Start → Content
+array s = contentArray (s .args .masks .now) (s .args .values .now) (s .args .offsets .now)
+
+abbrev outputs : tie.Start → Content
+outputs s = contentArray (s .args .out-masks .now) (s .args .out-values .now) (s .args .out-offsets .now)
+
+-- what each check that passed says
+abbrev start : tie.Else1 → tie.Start
+start e = e .before .before .before .before .before .before .before .before .before .before
+
+kind-passes : (e : tie.Else1) → kindTest (kind (start e)) ≡ true
+kind-passes e = sym (e .before .check-kind .ensures) ∙ not-false (e .before .check-kind .result) (e .if1 .left)
+
+abbrev Shaped : Type 0
+Shaped = tie.After-known-told
+
+abbrev sound : Shaped → tie.Else1
+sound m = m .before .before .before .before
+
+abbrev cells : Shaped → ℕ
+cells m = m .before .cells .given .0 .0
+
+shaped : (m : Shaped) → Counted (shape (start (sound m))) (cells m)
+shaped m = counted (shape (start (sound m))) (cells m) (sym (ap toldCells (m .before .cells .given .1)) ∙ m .before .before .before .shape-cells .ensures)
+
+abbrev told : tie.Else2 → Shaped
+told e = e .before .before
+
+subset-passes : (e : tie.Else2) → numbersTest (shape (start (sound (told e)))) (numbers (start (sound (told e)))) ≡ true
+subset-passes e = sym (e .before .subset-fits .ensures) ∙ not-false (e .before .subset-fits .result) (e .if2 .left)
+
+fitting : (e : tie.Else2) → NumbersOk (shape (start (sound (told e)))) (numbers (start (sound (told e))))
+fitting e = let s = start (sound (told e)) in numbers-ok (shape s) (numbers s) (subset-passes e)
+
+abbrev begun : tie.After-check-array → tie.Start
+begun k = start (sound (told (k .before)))
+
+checks : (k : tie.After-check-array) → toldChecked (k .check-array .result) ≡ checkOf (kind (begun k)) (volume (shape (begun k))) (array (begun k))
+checks k = let s = begun k in k .check-array .ensures ∙ ap (λ (n : ℕ). checkOf (kind s) n (array s)) (shaped (told (k .before)) .is)
+
+abbrev Passed : Type 0
+Passed = tie.After-enum-told2
+
+abbrev checked : Passed → tie.After-check-array
+checked p = p .before .before
+
+keeps : (p : Passed) → KeepsRules (kind (begun (checked p))) (volume (shape (begun (checked p)))) (array (begun (checked p)))
+keeps p = let k = checked p in let s = begun k in check-valid (kind s) (volume (shape s)) (array s) (k .check-array .result) (checks k) (p .enum-told2 .given .1)
+
+check-kind-requires : tie.Need-check-kind-requires
+check-kind-requires c κs = search needs
+
+returns : tie.Need-returns
+returns c =
+    let k = c .before in
+    let s = k .before .before .before .before .before .before .before .before .before in
+    no-kind (kind s) (shape s) (numbers s) (array s) (outputs s) (sym (k .check-kind .ensures) ∙ not-true (k .check-kind .result) (c .if1 .taken))
+
+shape-cells-requires : tie.Need-shape-cells-requires
+shape-cells-requires c κs = search needs
+
+enum-known-cells : tie.Need-enum-known-cells
+enum-known-cells c = search needs
+
+enum-told : tie.Need-enum-told
+enum-told c = search needs
+
+returns-2 : tie.Need-returns-2
+returns-2 c =
+    let m = c .before .before in
+    let e = m .before in
+    let s = start e in
+    no-shape (kind s) (shape s) (numbers s) (array s) (outputs s) (kind-passes e)
+    (not-counted (shape s) (c .enum-told .given .0 .0) (sym (ap toldCells (c .enum-told .given .1)) ∙ m .shape-cells .ensures) .0)
+
+subset-fits-requires : tie.Need-subset-fits-requires
+subset-fits-requires c κs = search needs
+
+returns-3 : tie.Need-returns-3
+returns-3 c =
+    let f = c .before in
+    let m = f .before in
+    let s = start (sound m) in
+    no-subset (kind s) (shape s) (numbers s) (array s) (outputs s) (kind-passes (sound m)) (shaped m .passes)
+    (sym (f .subset-fits .ensures) ∙ not-true (f .subset-fits .result) (c .if2 .taken))
+
+check-array-requires : tie.Need-check-array-requires
+unfolding mostCells
+check-array-requires c κs = shaped (told c) .few
+
+enum-known-checked : tie.Need-enum-known-checked
+enum-known-checked c = search needs
+
+enum-told-2 : tie.Need-enum-told-2
+enum-told-2 c = search needs
+
+sub-cut-valid : tie.Need-sub-cut-valid
+sub-cut-valid c = search needs
+
+part-cut-valid-start : tie.Need-part-cut-valid-start
+part-cut-valid-start c = search needs
+
+part-cut-valid-end : tie.Need-part-cut-valid-end
+part-cut-valid-end c = omega (arith, fitting (checked c .before) .counted)
+
+mul-cut-valid : tie.Need-mul-cut-valid
+mul-cut-valid c = search needs
+
+sub-cut-valid-2 : tie.Need-sub-cut-valid-2
+sub-cut-valid-2 c = omega (arith, fitting (checked (c .before) .before) .counted)
+
+part-cut-valid-start-2 : tie.Need-part-cut-valid-start-2
+part-cut-valid-start-2 c = omega (arith, fitting (checked (c .before) .before) .counted)
+
+part-cut-valid-end-2 : tie.Need-part-cut-valid-end-2
+part-cut-valid-end-2 c = search needs
+
+cut-valid-requires : tie.Need-cut-valid-requires
+cut-valid-requires c κs =
+    let p = c .before .before .before .before .before in
+    let e = checked p .before in
+    let s = begun (checked p) in (
+      record { shaped = shaped (told e) .shaped; within = within-parts (shape s) (numbers s) (fitting e); counted = refl },
+      record { whole = shaped (told e) .is; content = keeps p .content; small = keeps p .small },
+    )
+
+returns-4 : tie.Need-returns-4
+returns-4 c =
+    let k = c .before .before .before in
+    let e = k .before in
+    let s = begun k in
+    not-kept (kind s) (shape s) (numbers s) (array s) (outputs s) (kind-passes (sound (told e))) (shaped (told e) .passes) (subset-passes e) (k .check-array .result) (checks k)
+    (c .before .checked .given .0 .0) (c .before .checked .given .1)
+
+same-length : tie.Need-same-length
+same-length c = search needs
+
+same-length-2 : tie.Need-same-length-2
+same-length-2 c = search needs
+
+same-length-3 : tie.Need-same-length-3
+same-length-3 c = search needs
+
+returns-5 : tie.Need-returns-5
+returns-5 c =
+    let r = c .before .before .before .before .before .before in
+    let p = r .before .before .before .before .before .before in
+    let k = checked p in
+    let e = k .before in
+    let s = begun k in
+    r .cut-valid .ensures ∙ ap (λ (b : Subset). putInto (cutOf (kind s) (shape s) (array s) b) (outputs s)) (subset-parts (length (shape s)) (numbers s))
+    ∙ kept (kind s) (shape s) (numbers s) (array s) (outputs s) (kind-passes (sound (told e))) (shaped (told e) .passes) (subset-passes e) (k .check-array .result) (checks k) (p .enum-told2 .given .1)
+
+pub extract-spec : {M : Type 1} → statement M
+extract-spec =
+    tie.close
+    (tie.spec
+    check-kind-requires
+    returns
+    shape-cells-requires
+    enum-known-cells
+    enum-told
+    returns-2
+    subset-fits-requires
+    returns-3
+    check-array-requires
+    enum-known-checked
+    enum-told-2
+    sub-cut-valid
+    part-cut-valid-start
+    part-cut-valid-end
+    mul-cut-valid
+    sub-cut-valid-2
+    part-cut-valid-start-2
+    part-cut-valid-end-2
+    cut-valid-requires
+    returns-4
+    same-length
+    same-length-2
+    same-length-3
+    returns-5)

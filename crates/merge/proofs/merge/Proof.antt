@@ -1,0 +1,91 @@
+-- `merge` meets its contract: it is its two steps (proofs/Steps).
+-- Assumes nothing.
+use mathlib.Core.Path.{_≡_, sym, ap, _∙_}
+use borrow.Author.Needs.{needs}
+use lib.ListN.{length}
+use Rattle.array.specs.Answer.{gives}
+use Rattle.array.specs.Kind.{Form}
+use Rattle.array.specs.Meaning.{formOf, kindOf}
+use Rattle.array.specs.Content.{Content}
+use Rattle.array.specs.Outcome.{contentArray, outcomeArray}
+use Rattle.merge.specs.Merge.{Sizes, checkAnswer, toldChecks}
+use Rattle.merge.proofs.Steps.{merge-refused, merge-asked, merge-stored}
+use Rattle.merge.proofs.merge.Statement.{statement}
+use Rattle.merge.proofs.merge.Tie as tie
+
+-- where the function starts: what was handed over, and what was lent
+abbrev start : tie.After-check-merge → tie.Start
+start m = m .before .before .before .before .before .before .before .before .before
+
+abbrev handed : tie.Start → Content
+handed a = contentArray (a .args .masks .now) (a .args .values .now) (a .args .offsets .now)
+
+abbrev lent : tie.Start → Content
+lent a = contentArray (a .args .out-masks .now) (a .args .out-values .now) (a .args .out-offsets .now)
+
+abbrev form : tie.Start → Form
+form a = formOf (a .args .kind .values)
+
+-- the checks passed: what they found
+abbrev checked : tie.After-known-told2 → tie.After-check-merge
+checked k = k .before .before .before
+
+abbrev sizes : tie.After-known-told2 → Sizes
+sizes k = let g = k .before .cells .given .0 in record { cells = g .0; count = g .1 .0; bytes = g .1 .1 .0 }
+
+passed : (k : tie.After-known-told2)
+    → let a = start (checked k) in
+    gives (sizes k) ≡ checkAnswer (kindOf (a .args .kind)) (a .args .shape .now) (a .args .subsets .now) (length (a .args .masks .now)) (length (a .args .values .now)) (a .args .offsets .now)
+passed k = sym (ap toldChecks (k .before .cells .given .1)) ∙ checked k .check-merge .ensures
+
+check-merge-requires : tie.Need-check-merge-requires
+check-merge-requires c κs = search needs
+
+enum-known-e : tie.Need-enum-known-e
+enum-known-e c = search needs
+
+enum-known-cells : tie.Need-enum-known-cells
+enum-known-cells c = search needs
+
+store-chunks-requires : tie.Need-store-chunks-requires
+store-chunks-requires c κs =
+    let k = c .before .before .before in
+    let a = start (checked k) in
+    merge-asked (form a) (a .args .kind .depth) (a .args .shape .now) (a .args .subsets .now) (handed a) (lent a) (sizes k) (passed k)
+
+returns : tie.Need-returns
+returns c =
+    let m = c .before .before .before in
+    let a = start m in
+    merge-refused (form a) (a .args .kind .depth) (a .args .shape .now) (a .args .subsets .now) (handed a) (lent a) (c .before .e .given .0 .0) (sym (ap toldChecks (c .before .e .given .1)) ∙ m .check-merge .ensures)
+
+same-length : tie.Need-same-length
+same-length c = search needs
+
+same-length-2 : tie.Need-same-length-2
+same-length-2 c = search needs
+
+same-length-3 : tie.Need-same-length-3
+same-length-3 c = search needs
+
+returns-2 : tie.Need-returns-2
+returns-2 c =
+    let s = c .before .before .before .before .before .before in
+    let k = s .before .before .before .before in
+    let a = start (checked k) in
+    merge-stored (form a) (a .args .kind .depth) (a .args .shape .now) (a .args .subsets .now) (handed a) (lent a) (sizes k) (passed k)
+    (let o = s .store-chunks .last .1 .1 .1 .1 .1 .1 .1 .1 .1 in outcomeArray (s .store-chunks .result) (o .0) (o .1 .0) (o .1 .1 .0)) (s .store-chunks .ensures)
+
+pub merge-spec : {M : Type 1} → statement M
+merge-spec =
+    tie.close
+    (tie.spec
+    check-merge-requires
+    enum-known-e
+    enum-known-cells
+    store-chunks-requires
+    returns
+    same-length
+    same-length-2
+    same-length-3
+    returns-2)

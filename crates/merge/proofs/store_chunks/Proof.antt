@@ -1,0 +1,188 @@
+-- `store_chunks` meets its contract: 6 for each output that is too short, else what the stores leave is the merged content (proofs/Closed).
+-- Assumes nothing.
+use Prim.Native.Nat.{_*_, _≤_}
+use mathlib.Core.Path.{_≡_, ap}
+use native.Mathlib.Omega.{arith}
+use borrow.Author.Needs.{needs}
+use lib.ListN.{length}
+use Rattle.array.specs.Limits.{mostCells}
+use Rattle.array.specs.Kind.{Form, fixed, ragged}
+use Rattle.array.specs.Meaning.{formOf, orderOf, widthOf, placeOf}
+use Rattle.array.specs.Content.{Content}
+use Rattle.array.specs.Outcome.{contentArray}
+use Rattle.array.proofs.CheckLaws.{small-product}
+use Rattle.merge.specs.Merge.{Sizes}
+use Rattle.merge.proofs.Closed.{no-masks, no-values, no-offsets, masks-asked, parts-asked, ragged-merge-asked, fixed-stored, ragged-stored}
+use Rattle.merge.proofs.store_chunks.Statement.{statement}
+use Rattle.merge.proofs.store_chunks.Tie as tie
+
+-- where the function starts: what was handed over, what was lent, what the checks found
+abbrev start : tie.After-struct-known → tie.Start
+start k = k .before .before .before .before .before .before .before .before .before
+
+abbrev handed : tie.Start → Content
+handed a = contentArray (a .args .masks .now) (a .args .values .now) (a .args .offsets .now)
+
+abbrev lent : tie.Start → Content
+lent a = contentArray (a .args .out-masks .now) (a .args .out-values .now) (a .args .out-offsets .now)
+
+abbrev sizes : tie.Start → Sizes
+sizes a = record { cells = a .args .cells; count = a .args .count; bytes = a .args .bytes }
+
+abbrev form : tie.Start → Form
+form a = formOf (a .args .kind .values)
+
+few : (a : tie.Start) → a .args .cells ≤ mostCells
+few a = omega (arith, a .pre .counted, a .pre .subsets .shaped .few-cells)
+
+-- after the tests: the masks and the values fit
+abbrev tested : tie.Else2 → tie.Start
+tested t = start (t .before .before)
+
+masks-fit : (t : tie.Else2) → tested t .args .kind .depth * tested t .args .cells ≤ length (tested t .args .out-masks .now)
+masks-fit t = t .before .if1 .left
+
+values-fit : (t : tie.Else2) → tested t .args .bytes ≤ length (tested t .args .out-values .now)
+values-fit t = t .if2 .left
+
+-- the values are fixed
+abbrev at-fixed : tie.After-known-told → tie.Else2
+at-fixed k = k .before .before .before
+
+is-fixed : (k : tie.After-known-told) → form (tested (at-fixed k)) ≡ fixed (k .before .form .given .0 .0) (orderOf (k .before .form .given .0 .1 .0))
+is-fixed k = ap formOf (k .before .form .given .1)
+
+-- the values are ragged, and the offsets fit
+abbrev at-ragged : tie.After-enum-told → tie.Else2
+at-ragged k = k .before .before
+
+is-ragged : (k : tie.After-enum-told) → form (tested (at-ragged k)) ≡ ragged (widthOf (k .enum-told .given .0 .0)) (placeOf (k .enum-told .given .0 .1 .0))
+is-ragged k = ap formOf (k .enum-told .given .1)
+
+cast-depth : tie.Need-cast-depth
+cast-depth c = search needs
+
+mul-mask-bytes : tie.Need-mul-mask-bytes
+mul-mask-bytes c =
+    let a = start c in
+    omega (arith, small-product (a .args .kind .depth) (a .args .cells) (omega (arith, a .pre .kind .shallow)) (few a))
+
+returns : tie.Need-returns
+returns c =
+    let a = start (c .before) in
+    no-masks (a .args .kind .depth) (a .args .shape .now) (a .args .subsets .now) (handed a) (lent a) (sizes a) (form a) (a .pre) (c .if1 .taken)
+
+returns-2 : tie.Need-returns-2
+returns-2 c =
+    let a = start (c .before .before) in
+    no-values (a .args .kind .depth) (a .args .shape .now) (a .args .subsets .now) (handed a) (lent a) (sizes a) (form a) (a .pre) (c .if2 .taken)
+
+enum-known-form : tie.Need-enum-known-form
+enum-known-form c = search needs
+
+cast-wide : tie.Need-cast-wide
+cast-wide c = search needs
+
+store-masks-requires : tie.Need-store-masks-requires
+store-masks-requires c κs =
+    let t = at-fixed (c .before) in
+    let a = tested t in
+    masks-asked (a .args .kind .depth) (a .args .shape .now) (a .args .subsets .now) (handed a) (lent a) (sizes a) (form a) (a .pre) (masks-fit t)
+
+store-parts-requires : tie.Need-store-parts-requires
+store-parts-requires c κs =
+    let k = c .before .before .before .before .before in
+    let t = at-fixed k in
+    let a = tested t in
+    parts-asked (a .args .kind .depth) (a .args .shape .now) (a .args .subsets .now) (handed a) (lent a) (sizes a) (form a) (k .before .form .given .0 .0) (orderOf (k .before .form .given .0 .1 .0)) (is-fixed k) (a .pre) (values-fit t)
+
+enum-told : tie.Need-enum-told
+enum-told c = search needs
+
+returns-3 : tie.Need-returns-3
+returns-3 c =
+    let k = c .before in
+    let a = tested (at-ragged k) in
+    no-offsets (a .args .kind .depth) (a .args .shape .now) (a .args .subsets .now) (handed a) (lent a) (sizes a) (form a) (widthOf (k .enum-told .given .0 .0)) (placeOf (k .enum-told .given .0 .1 .0)) (is-ragged k) (a .pre) (c .if3 .taken)
+
+store-masks-requires-2 : tie.Need-store-masks-requires-2
+store-masks-requires-2 c κs =
+    let t = at-ragged (c .before .before) in
+    let a = tested t in
+    masks-asked (a .args .kind .depth) (a .args .shape .now) (a .args .subsets .now) (handed a) (lent a) (sizes a) (form a) (a .pre) (masks-fit t)
+
+merge-ragged-requires : tie.Need-merge-ragged-requires
+merge-ragged-requires c κs =
+    let o = c .before .before .before .before .before .before in
+    let k = o .before in
+    let t = at-ragged k in
+    let a = tested t in
+    ragged-merge-asked (a .args .kind .depth) (a .args .shape .now) (a .args .subsets .now) (handed a) (lent a) (sizes a) (form a) (widthOf (k .enum-told .given .0 .0)) (placeOf (k .enum-told .given .0 .1 .0)) (is-ragged k) (a .pre) (values-fit t) (o .if3 .left)
+
+add-t26 : tie.Need-add-t26
+unfolding mostCells
+add-t26 c =
+    let o = c .before .before .before .before .before .before .before .before .before .before .before in
+    omega (arith, few (tested (at-ragged (o .before))))
+
+same-length : tie.Need-same-length
+same-length c = search needs
+
+same-length-2 : tie.Need-same-length-2
+same-length-2 c = search needs
+
+returns-4 : tie.Need-returns-4
+returns-4 c =
+    let v = c .before .before in
+    let m = v .before .before .before .before in
+    let k = m .before .before in
+    let t = at-fixed k in
+    let a = tested t in
+    fixed-stored (a .args .kind .depth) (a .args .shape .now) (a .args .subsets .now) (handed a) (lent a) (sizes a) (form a) (k .before .form .given .0 .0) (orderOf (k .before .form .given .0 .1 .0)) (is-fixed k) (a .pre)
+    (masks-fit t) (values-fit t) (m .store-masks .last .0) (v .store-parts .last .0) (m .store-masks .ensures) (v .store-parts .ensures)
+
+same-length-3 : tie.Need-same-length-3
+same-length-3 c = search needs
+
+same-length-4 : tie.Need-same-length-4
+same-length-4 c = search needs
+
+same-length-5 : tie.Need-same-length-5
+same-length-5 c = search needs
+
+returns-5 : tie.Need-returns-5
+returns-5 c =
+    let v = c .before .before .before .before in
+    let m = v .before .before .before .before .before in
+    let o = m .before .before in
+    let k = o .before in
+    let t = at-ragged k in
+    let a = tested t in
+    ragged-stored (a .args .kind .depth) (a .args .shape .now) (a .args .subsets .now) (handed a) (lent a) (sizes a) (form a) (widthOf (k .enum-told .given .0 .0)) (placeOf (k .enum-told .given .0 .1 .0)) (is-ragged k) (a .pre)
+    (masks-fit t) (values-fit t) (o .if3 .left) (m .store-masks2 .last .0) (v .merge-ragged .last .0) (v .merge-ragged .last .1 .0)
+    (m .store-masks2 .ensures) (v .merge-ragged .ensures .0) (v .merge-ragged .ensures .1)
+
+pub store-chunks-spec : {M : Type 1} → statement M
+store-chunks-spec =
+    tie.close
+    (tie.spec
+    cast-depth
+    mul-mask-bytes
+    returns
+    returns-2
+    enum-known-form
+    cast-wide
+    store-masks-requires
+    store-parts-requires
+    enum-told
+    returns-3
+    store-masks-requires-2
+    merge-ragged-requires
+    add-t26
+    same-length
+    same-length-2
+    returns-4
+    same-length-3
+    same-length-4
+    same-length-5
+    returns-5)

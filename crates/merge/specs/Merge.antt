@@ -1,0 +1,56 @@
+-- A merge in two steps (document 01, Answers): all checks but that of the outputs, by lengths and offsets; then 6 and the stores.
+-- proofs/Steps has that these two are the call.
+-- Assumes nothing.
+use mathlib.Core.Path.{_≡_}
+use Prim.Native.Nat.{ℕ, _*_, _/_, _≤_}
+use mathlib.Core.List.{List}
+use lib.ListN.{length}
+use Rattle.array.specs.Limits.{mostBytes}
+use Rattle.array.specs.Answer.{Answer, gives, refuses, andThen, unless}
+use Rattle.array.specs.Kind.{Kind, KindOk, kindTest}
+use Rattle.array.specs.Shape.{volume, shapeTest}
+use Rattle.array.specs.Subset.{Subset, subsetsOf, manyTest, cellsOfAll}
+use Rattle.array.specs.Rows.{nextSubsets}
+use Rattle.array.specs.Content.{Content, sizeTest}
+use Rattle.array.specs.Buffers.{Lengths, enoughTest}
+use Rattle.chunks.specs.Gather.{Once, onceTest}
+use Rattle.chunks.specs.Chunks.{chunkCells, mergeOf}
+use Rattle.cover.specs.Asked.{SubsetsOk}
+use Rattle.merge.specs.Chunks.{chunkSum}
+use Rattle.merge.specs.declared.check.Checks.{Checks}
+
+-- what the stores go by: the cells of the shape, how many subsets there are, the value bytes in cells of all chunks
+pub record Sizes : Type 0 where
+  pub cells : ℕ
+  pub count : ℕ
+  pub bytes : ℕ
+
+-- 1, 2, 3, 4, 5, 12
+unfoldable pub checkAnswer : Kind → List ℕ → List ℕ → ℕ → ℕ → List ℕ → Answer Sizes
+checkAnswer k shape ns masks values os =
+    let bs = subsetsOf (length shape) ns in
+    unless (kindTest k) 1
+    (unless (shapeTest shape) 2
+    (unless (manyTest shape ns) 3
+    (andThen (chunkSum (k .form) (k .depth) bs masks values os) (λ s.
+    unless (sizeTest s) 5
+    (unless (onceTest (volume shape) (cellsOfAll shape bs)) 12
+    (gives (record { cells = volume shape; count = length ns / (2 * length shape); bytes = s })))))))
+
+abbrev pub toldChecks : Checks → Answer Sizes
+toldChecks (Checks.Passed n k s) = gives (record { cells = n; count = k; bytes = s })
+toldChecks (Checks.Refused e) = refuses e
+
+-- 6, and the merged content
+unfoldable pub storeAnswer : Kind → List ℕ → List Subset → Content → Lengths → Answer Content
+unfolding chunkCells
+storeAnswer k shape bs c room = andThen (chunkCells k bs c) (λ cs. unless (enoughTest (mergeOf k shape bs cs) room) 6 (gives (mergeOf k shape bs cs)))
+
+-- what the stores ask: that the checks passed
+pub record MergeAsked (k : Kind) (shape flat : List ℕ) (c : Content) (z : Sizes) : Type 0 where
+  pub kind : KindOk k
+  pub subsets : SubsetsOk shape flat (z .count)
+  pub once : Once (volume shape) (cellsOfAll shape (nextSubsets (length shape) (z .count) flat))
+  pub counted : z .cells ≡ volume shape
+  pub summed : gives (z .bytes) ≡ chunkSum (k .form) (k .depth) (nextSubsets (length shape) (z .count) flat) (length (c .masks)) (length (c .values)) (c .offsets)
+  pub small : z .bytes ≤ mostBytes

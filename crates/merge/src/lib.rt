@@ -1,0 +1,120 @@
+// Merging chunks: everything is checked before the first byte is stored.
+use array::answer::WrittenArray;
+use array::kind::Kind;
+use array::kind::Values;
+use array::refusal;
+use check::Checks;
+ghost use mathlib.Core.Path.{_≡_};
+ghost use lib.ListN.{length};
+ghost use Rattle.array.specs.Meaning.{kindOf};
+ghost use Rattle.array.specs.Rows.{nextSubsets};
+ghost use Rattle.array.specs.Buffers.{lengthsOf, contentOutcome};
+ghost use Rattle.array.specs.Outcome.{contentArray, outcomeArray};
+ghost use Rattle.chunks.specs.Calls.{merged};
+ghost use Rattle.merge.specs.Merge.{storeAnswer, MergeAsked};
+
+pub mod check;
+
+// Stores chunks that passed the checks, where the outputs are long enough.
+fn store_chunks(
+    kind: Kind,
+    cells: usize,
+    count: usize,
+    bytes: usize,
+    shape: &[u64],
+    subsets: &[u64],
+    masks: &[u8],
+    values: &[u8],
+    offsets: &[u64],
+    out_masks: &mut [u8],
+    out_values: &mut [u8],
+    out_offsets: &mut [u64],
+) -> WrittenArray
+    requires { ⌜ MergeAsked (kindOf kind) (now shape) (now subsets) (contentArray (now masks) (now values) (now offsets)) (record { cells = cells; count = count; bytes = bytes }) ⌝ }
+    ensures { λ r. ⌜ outcomeArray r (now («out_masks» .exit)) (now («out_values» .exit)) (now («out_offsets» .exit))
+        ≡ contentOutcome (storeAnswer (kindOf kind) (now (shape .entry)) (nextSubsets (length (now (shape .entry))) count (now (subsets .entry)))
+        (contentArray (now (masks .entry)) (now (values .entry)) (now (offsets .entry)))
+        (lengthsOf (contentArray (now («out_masks» .entry)) (now («out_values» .entry)) (now («out_offsets» .entry)))))
+        (contentArray (now («out_masks» .entry)) (now («out_values» .entry)) (now («out_offsets» .entry))) ⌝ }
+{
+    let depth = kind.depth as usize;
+    let mask_bytes = depth * cells;
+    if out_masks.len() < mask_bytes {
+        return WrittenArray::Refused(refusal::OUTPUT);
+    }
+    if out_values.len() < bytes {
+        return WrittenArray::Refused(refusal::OUTPUT);
+    }
+    let form = kind.values;
+    match form {
+        Values::Fixed(size, _) => {
+            let wide = size as usize;
+            merge_stores::cells::store_masks(out_masks, masks, depth, cells, shape, subsets, count);
+            merge_stores::cells::store_parts(
+                out_values,
+                0,
+                wide,
+                values,
+                0,
+                wide,
+                shape,
+                subsets,
+                count,
+            );
+            WrittenArray::Lengths(mask_bytes, bytes, 0)
+        }
+        Values::Ragged(_, _) => {
+            if out_offsets.len() <= cells {
+                return WrittenArray::Refused(refusal::OUTPUT);
+            }
+            merge_stores::cells::store_masks(out_masks, masks, depth, cells, shape, subsets, count);
+            merge_stores::ragged::merge_ragged(
+                out_values,
+                out_offsets,
+                values,
+                offsets,
+                shape,
+                subsets,
+                count,
+                cells,
+            );
+            WrittenArray::Lengths(mask_bytes, bytes, cells + 1)
+        }
+    }
+}
+
+// Merges chunks, given by the numbers of their subsets and by their masks, values and offsets laid end to end in the list's order.
+// Ragged values come out end to end from offset 0; hidden values are kept.
+pub fn merge(
+    kind: Kind,
+    shape: &[u64],
+    subsets: &[u64],
+    masks: &[u8],
+    values: &[u8],
+    offsets: &[u64],
+    out_masks: &mut [u8],
+    out_values: &mut [u8],
+    out_offsets: &mut [u64],
+) -> WrittenArray
+    ensures { λ r. ⌜ outcomeArray r (now («out_masks» .exit)) (now («out_values» .exit)) (now («out_offsets» .exit))
+        ≡ merged (kindOf kind) (now (shape .entry)) (now (subsets .entry)) (contentArray (now (masks .entry)) (now (values .entry)) (now (offsets .entry)))
+        (contentArray (now («out_masks» .entry)) (now («out_values» .entry)) (now («out_offsets» .entry))) ⌝ }
+{
+    match check::check_merge(kind, shape, subsets, masks.len(), values.len(), offsets) {
+        Checks::Refused(e) => WrittenArray::Refused(e),
+        Checks::Passed(cells, count, bytes) => store_chunks(
+            kind,
+            cells,
+            count,
+            bytes,
+            shape,
+            subsets,
+            masks,
+            values,
+            offsets,
+            out_masks,
+            out_values,
+            out_offsets,
+        ),
+    }
+}

@@ -1,0 +1,17 @@
+pub mod Scattering
+pub mod RowsStored
+pub mod PartsStored
+pub mod Blocks
+pub mod FirstChunk
+pub mod Levels
+pub mod MasksStored
+pub mod RaggedTies
+pub mod RaggedRows
+pub mod RaggedStored
+pub mod Summing
+pub mod RaggedMerge
+pub mod LengthRows
+pub mod LengthsStored
+pub mod Closing
+pub mod RaggedWhole
+pub mod RaggedAsks

@@ -1,0 +1,78 @@
+-- Lengths, offsets, values: the three steps of a ragged merge one after another.
+-- Assumes nothing.
+use mathlib.Core.Path.{_≡_, sym, ap, ap₂, _∙_, subst}
+use Prim.Native.Nat.{ℕ, _+_, _-_, _<_, _≤_}
+use native.Mathlib.Omega.{arith}
+use mathlib.Core.List.{List, _∷_, _++_, append-assoc}
+use lib.ListN.{length, take, drop, length-append, length-map, take-append-drop}
+use lib.Seq.{length-take-le, take-at, drop-at}
+use Rattle.array.specs.Limits.{mostBytes}
+use Rattle.array.specs.Lists.{All, from}
+use Rattle.array.specs.Rows.{nextSubsets}
+use Rattle.array.specs.Shape.{volume}
+use Rattle.array.specs.Subset.{Subset, cellsOfAll, SubsetOk}
+use Rattle.array.proofs.Lists.{length-from}
+use Rattle.array.proofs.SubsetLaws.{all-below}
+use Rattle.chunks.specs.Gather.{lookup, putBack}
+use Rattle.cover.proofs.SubsetWalk.{all-inside}
+use Rattle.merge_stores.specs.Ragged.{offsetAt, sums, sum, stepParts, offsetsMerged, RaggedMergeAsked, LengthsAllAsked, RaggedAllAsked}
+use Rattle.merge_stores.specs.Scatter.{scatter, places, fixedAt}
+use Rattle.merge_stores.proofs.Blocks.{sum-append}
+use Rattle.merge_stores.proofs.Levels.{level-block}
+use Rattle.merge_stores.proofs.RaggedMerge.{offset-is, length-sums}
+use Rattle.merge_stores.proofs.Scattering.{length-scatter}
+
+module _ (sh flat : List ℕ) (count : ℕ) (dv d values src : List ℕ) (n : ℕ) (q : RaggedMergeAsked sh flat count dv d values src n) where
+  abbrev bs : List Subset
+  bs = nextSubsets (length sh) count flat
+
+  abbrev xs : List ℕ
+  xs = putBack 0 (volume sh) (cellsOfAll sh (nextSubsets (length sh) count flat)) (stepParts (nextSubsets (length sh) count flat) src)
+
+  ok : All (SubsetOk sh) (nextSubsets (length sh) count flat)
+  ok = all-inside sh (nextSubsets (length sh) count flat) (q .subsets .each)
+
+  long-xs : length xs ≡ n
+  long-xs = length-map (from 0 (volume sh)) (λ k. lookup 0 k (cellsOfAll sh (nextSubsets (length sh) count flat)) (stepParts (nextSubsets (length sh) count flat) src)) ∙ length-from 0 (volume sh) ∙ sym (q .counted)
+
+  pub first-asked : LengthsAllAsked sh flat count d src
+  first-asked = record { subsets = q .subsets; room = omega (arith, q .room, q .counted); chunks = q .lengths-fit }
+
+  module _ (o : List ℕ) (p : o ≡ scatter d (places (fixedAt 1 1) (cellsOfAll sh (nextSubsets (length sh) count flat))) (stepParts (nextSubsets (length sh) count flat) src)) where
+    is : o ≡ take 1 d ++ xs ++ drop (1 + volume sh) d
+    is = p ∙ level-block 1 (volume sh) d (cellsOfAll sh bs) (stepParts bs src) (omega (arith, q .room, q .counted)) (q .as-many) (all-below sh bs ok) (q .once)
+
+    one : length (take 1 d) ≡ 1
+    one = length-take-le 1 d (omega (arith, q .room))
+
+    lengths-are : take n (drop 1 o) ≡ xs
+    lengths-are =
+        ap (λ (r : List ℕ). take n (drop 1 r)) (is ∙ append-assoc (take 1 d) xs (drop (1 + volume sh) d)) ∙ ap (take n) (drop-at (take 1 d) (xs ++ drop (1 + volume sh) d) 1 one) ∙ take-at xs (drop (1 + volume sh) d) n long-xs
+
+    rest-is : drop (n + 1) o ≡ drop (n + 1) d
+    rest-is =
+        let z : 1 + volume sh ≡ n + 1 = omega (arith, q .counted) in
+        ap (drop (n + 1)) is ∙ drop-at (take 1 d ++ xs) (drop (1 + volume sh) d) (n + 1) (length-append (take 1 d) xs ∙ omega (arith, one, long-xs)) ∙ ap (λ (k : ℕ). drop k d) z
+
+    pub second-asked : (n < length o) × (sum (take n (drop 1 o)) ≤ mostBytes)
+    second-asked =
+        (omega (arith, q .room, ap length p, length-scatter d (places (fixedAt 1 1) (cellsOfAll sh bs)) (stepParts bs src)), omega (arith, ap sum lengths-are, q .small))
+
+    module _ (o′ : List ℕ) (p′ : o′ ≡ (0 ∷ sums 0 (take n (drop 1 o))) ++ drop (n + 1) o) where
+      pub offsets-are : o′ ≡ offsetsMerged sh (nextSubsets (length sh) count flat) src ++ drop (n + 1) d
+      offsets-are = p′ ∙ ap₂ (λ (x y : List ℕ). (0 ∷ sums 0 x) ++ y) lengths-are rest-is
+
+      below : (j : ℕ) → j ≤ volume sh → offsetAt (offsetsMerged sh (nextSubsets (length sh) count flat) src ++ drop (n + 1) d) j ≤ length dv
+      below j h =
+          let s : sum xs ≡ sum (take j xs) + sum (drop j xs) = ap sum (sym (take-append-drop j xs)) ∙ sum-append (take j xs) (drop j xs) in
+          omega (arith, offset-is xs (drop (n + 1) d) j (omega (arith, long-xs, q .counted)), s, q .enough)
+
+      pub third-asked : RaggedAllAsked sh flat count dv o′ values src
+      third-asked =
+          subst (λ (r : List ℕ). RaggedAllAsked sh flat count dv r values src) (sym offsets-are)
+          (record {
+            subsets = q .subsets;
+            covered = omega (arith, length-append (0 ∷ sums 0 xs) (drop (n + 1) d), length-sums 0 xs, long-xs, q .counted);
+            room = below;
+            chunks = q .chunks (drop (n + 1) d);
+          })

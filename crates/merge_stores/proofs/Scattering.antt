@@ -1,0 +1,125 @@
+-- A merge by stores: runs, the places of cells, and that it is the merge where each place stands once.
+-- Assumes nothing.
+use mathlib.Core.Path.{_≡_, refl, sym, ap, ap₂, _∙_, subst}
+use Prim.Native.Nat.{ℕ, zero, suc, _+_, _-_, _<_, _≤_}
+use native.Mathlib.Nat.{add-zero}
+use native.Mathlib.Omega.{arith}
+use mathlib.Core.Bool.{Bool, true, false}
+use mathlib.Core.List.{List, [], _∷_, _++_, map, append-assoc}
+use lib.ListN.{length, getD, take, drop, set, length-set, take-append-drop}
+use lib.Seq.{paste, take-suc-set, drop-set-lt, append-snoc, length-take-le, getD-set-same, getD-set-other}
+use lib.Dec.{eqb}
+use borrow.Author.Tests.{eqb-true, eqb-false}
+use Rattle.array.specs.Lists.{from, pick, count}
+use Rattle.array.proofs.Lists.{length-from}
+use Rattle.chunks.specs.Gather.{lookup, putBack}
+use Rattle.chunks.proofs.Gather.{map-from, gather-all}
+use Rattle.merge_stores.specs.Scatter.{scatter, places}
+
+-- ---- scatter
+
+module _ {A : Type 0} where
+  pub length-scatter : (acc : List A) (js : List ℕ) (xs : List A) → length (scatter acc js xs) ≡ length acc
+  length-scatter acc [] xs = refl
+  length-scatter acc (j ∷ js) [] = refl
+  length-scatter acc (j ∷ js) (x ∷ xs) = length-scatter (set acc j x) js xs ∙ length-set acc j x
+
+  pub scatter-then : (acc : List A) (js ks : List ℕ) (xs ys : List A) → length js ≡ length xs
+      → scatter acc (js ++ ks) (xs ++ ys) ≡ scatter (scatter acc js xs) ks ys
+  scatter-then acc [] ks [] ys e = refl
+  scatter-then acc [] ks (x ∷ xs) ys e = absurd (omega arith)
+  scatter-then acc (j ∷ js) ks [] ys e = absurd (omega arith)
+  scatter-then acc (j ∷ js) ks (x ∷ xs) ys e = scatter-then (set acc j x) js ks xs ys (omega arith)
+
+  pub scatter-run : (n : ℕ) (acc : List A) (a : ℕ) (xs : List A) → a + n ≤ length acc → n ≤ length xs → scatter acc (from a n) xs ≡ paste acc a xs n
+  scatter-run zero acc a xs h l = lib.Seq.paste-zero acc a xs
+  scatter-run (suc n) acc a [] h l = absurd (omega arith)
+  scatter-run (suc n) acc a (x ∷ xs) h l =
+      let q : suc a + n ≡ a + suc n = omega arith in
+      scatter-run n (set acc a x) (suc a) xs (omega (arith, length-set acc a x)) (omega arith)
+      ∙ ap₂ (λ (p r : List A). p ++ take n xs ++ r) (take-suc-set acc a x (omega arith)) (drop-set-lt (suc a + n) acc a x (omega arith) ∙ ap (λ (k : ℕ). drop k acc) q)
+      ∙ ap (λ (p : List A). p ++ drop (a + suc n) acc) (append-snoc (take a acc) x (take n xs))
+
+-- a run, and then the others
+pub scatter-next : (acc : List ℕ) (a n : ℕ) (js xs : List ℕ) → a + n ≤ length acc → n ≤ length xs
+    → scatter acc (from a n ++ js) xs ≡ scatter (paste acc a xs n) js (drop n xs)
+scatter-next acc a n js xs h l =
+    let e : length (take n xs) ≡ n = length-take-le n xs l in
+    ap (scatter acc (from a n ++ js)) (sym (take-append-drop n xs))
+    ∙ scatter-then acc (from a n) js (take n xs) (drop n xs) (length-from a n ∙ sym e)
+    ∙ ap (λ (r : List ℕ). scatter r js (drop n xs)) (scatter-run n acc a (take n xs) h (omega arith) ∙ ap (λ (r : List ℕ). take a acc ++ r ++ drop (a + n) acc) (lib.Seq.take-take n n xs (omega arith)))
+
+-- ---- a merge by stores is the merge
+
+-- a list by its elements
+by-index : {A : Type 0} (z : A) (xs : List A) (n : ℕ) → length xs ≡ n → xs ≡ map (λ i. getD xs i z) (from 0 n)
+by-index z xs n e = sym (gather-all z xs) ∙ ap (λ (m : ℕ). map (λ i. getD xs i z) (from 0 m)) e
+
+module _ {A : Type 0} (z : A) where
+  -- a place that stands nowhere in the list keeps its element
+  scatter-miss : (acc : List A) (js : List ℕ) (xs : List A) (i : ℕ) → count i js ≡ 0 → getD (scatter acc js xs) i z ≡ getD acc i z
+  scatter-miss acc [] xs i e = refl
+  scatter-miss acc (j ∷ js) [] i e = refl
+  scatter-miss acc (j ∷ js) (x ∷ xs) i e = go (scatter-miss (set acc j x) js xs i) (eqb i j) refl e
+    where
+      go : (count i js ≡ 0 → getD (scatter (set acc j x) js xs) i z ≡ getD (set acc j x) i z)
+          → (b : Bool) → eqb i j ≡ b → pick b (suc (count i js)) (count i js) ≡ 0 → getD (scatter (set acc j x) js xs) i z ≡ getD acc i z
+      go ih true q e = absurd (omega arith)
+      go ih false q e = ih e ∙ getD-set-other acc j i x z (eqb-false i j q)
+
+  scatter-hit : (acc : List A) (js : List ℕ) (xs : List A) (i : ℕ) → i < length acc → length js ≡ length xs → count i js ≡ 1 → getD (scatter acc js xs) i z ≡ lookup z i js xs
+  scatter-hit acc [] xs i h l e = absurd (omega arith)
+  scatter-hit acc (j ∷ js) [] i h l e = absurd (omega arith)
+  scatter-hit acc (j ∷ js) (x ∷ xs) i h l e =
+      go (scatter-hit (set acc j x) js xs i (subst (λ (m : ℕ). i < m) (sym (length-set acc j x)) h) (omega arith)) (eqb i j) refl e
+    where
+      go : (count i js ≡ 1 → getD (scatter (set acc j x) js xs) i z ≡ lookup z i js xs)
+          → (b : Bool) → eqb i j ≡ b → pick b (suc (count i js)) (count i js) ≡ 1 → getD (scatter (set acc j x) js xs) i z ≡ pick b x (lookup z i js xs)
+      go ih true q e =
+          scatter-miss (set acc j x) js xs i (omega arith) ∙ ap (λ (m : ℕ). getD (set acc j x) m z) (eqb-true i j q)
+          ∙ getD-set-same acc j x z (subst (λ (m : ℕ). m < length acc) (eqb-true i j q) h)
+      go ih false q e = ih e
+
+  pub scatter-putBack : (acc : List A) (n : ℕ) (js : List ℕ) (xs : List A) → length acc ≡ n → length js ≡ length xs → ((i : ℕ) → i < n → count i js ≡ 1)
+      → scatter acc js xs ≡ putBack z n js xs
+  scatter-putBack acc n js xs e l o =
+      by-index z (scatter acc js xs) n (length-scatter acc js xs ∙ e)
+      ∙ map-from (λ i. getD (scatter acc js xs) i z) (λ i. lookup z i js xs) 0 n (λ i h. scatter-hit acc js xs i (omega arith) l (o i (omega arith)))
+
+-- ---- the places of a run of cells are a run of bytes
+
+pub from-append : (a n m : ℕ) → from a n ++ from (a + n) m ≡ from a (n + m)
+from-append a zero m = ap₂ from (add-zero a) (sym (native.Mathlib.Nat.zero-add m))
+from-append a (suc n) m =
+    let p : a + suc n ≡ suc a + n = omega arith in
+    let q : suc n + m ≡ suc (n + m) = omega arith in
+    ap (λ (k : ℕ). a ∷ from (suc a) n ++ from k m) p ∙ ap (λ (r : List ℕ). a ∷ r) (from-append (suc a) n m) ∙ ap (from a) (sym q)
+
+pub places-append : (off : ℕ → ℕ) (js ks : List ℕ) → places off (js ++ ks) ≡ places off js ++ places off ks
+places-append off [] ks = refl
+places-append off (j ∷ js) ks =
+    ap (λ (r : List ℕ). from (off j) (off (suc j) - off j) ++ r) (places-append off js ks) ∙ sym (append-assoc (from (off j) (off (suc j) - off j)) (places off js) (places off ks))
+
+-- off never falls from a on, n times
+abbrev pub Steps : (ℕ → ℕ) → ℕ → ℕ → Type 0
+Steps off a n = (i : ℕ) → a ≤ i → i < a + n → off i ≤ off (suc i)
+
+pub steps-le : (off : ℕ → ℕ) (n a : ℕ) → Steps off a n → off a ≤ off (a + n)
+steps-le off zero a s = let q : a ≡ a + zero = omega arith in subst (λ (k : ℕ). off a ≤ off k) q (omega arith)
+steps-le off (suc n) a s =
+    let q : suc a + n ≡ a + suc n = omega arith in
+    let r : off (suc a) ≤ off (suc a + n) = steps-le off n (suc a) (λ i h l. s i (omega arith) (omega arith)) in
+    let t : off a ≤ off (suc a) = s a (omega arith) (omega arith) in
+    subst (λ (k : ℕ). off a ≤ off k) q (omega arith)
+
+pub places-run : (off : ℕ → ℕ) (n a : ℕ) → Steps off a n → places off (from a n) ≡ from (off a) (off (a + n) - off a)
+places-run off zero a s = let q : 0 ≡ off (a + zero) - off a = let e : off (a + zero) ≡ off a = ap off (add-zero a) in omega (arith, e) in ap (from (off a)) q
+places-run off (suc n) a s =
+    let q : suc a + n ≡ a + suc n = omega arith in
+    let s′ : Steps off (suc a) n = λ i h l. s i (omega arith) (omega arith) in
+    let r : off (suc a) ≤ off (suc a + n) = steps-le off n (suc a) s′ in
+    let t : off a ≤ off (suc a) = s a (omega arith) (omega arith) in
+    let u : off (suc a) ≡ off a + (off (suc a) - off a) = omega arith in
+    let v : off (suc a) - off a + (off (suc a + n) - off (suc a)) ≡ off (suc a + n) - off a = omega arith in
+    ap (λ (x : List ℕ). from (off a) (off (suc a) - off a) ++ x) (places-run off n (suc a) s′ ∙ ap (λ (k : ℕ). from k (off (suc a + n) - off (suc a))) u)
+    ∙ from-append (off a) (off (suc a) - off a) (off (suc a + n) - off (suc a)) ∙ ap (from (off a)) v ∙ ap (λ (k : ℕ). from (off a) (off k - off a)) q

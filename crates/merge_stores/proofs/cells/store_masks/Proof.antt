@@ -1,0 +1,73 @@
+-- `store_masks` meets its contract: the first l mask levels are merged (proofs/MasksStored).
+-- Assumes nothing.
+use Prim.Native.Nat.{_-_}
+use native.Mathlib.Omega.{arith}
+use Rattle.merge_stores.proofs.MasksStored.{Stored, masks-begin, masks-end, level-room, masks-asked, masks-more}
+use Rattle.merge_stores.proofs.cells.store_masks.Statement.{statement}
+use Rattle.merge_stores.proofs.cells.store_masks.Tie as tie
+
+abbrev Inv-loop : tie.InvT-loop
+Inv-loop out₀ src depth cells shape subsets count l₀ out l = Stored shape subsets count out₀ src depth cells out l
+
+abbrev μ-loop : tie.MeasureT-loop
+μ-loop out₀ src depth cells shape subsets count l₀ out l = depth - l
+
+abbrev Head : Type 0
+Head = tie.At-loop Inv-loop μ-loop
+
+abbrev start : Head → tie.Start Inv-loop μ-loop
+start l = l .before .before .before .before .before
+
+loop-holds : tie.Need-loop-holds Inv-loop μ-loop
+loop-holds c =
+    let a = c .before .before .before .before in
+    masks-begin (a .args .shape .now) (a .args .subsets .now) (a .args .count) (a .args .out .now) (a .args .src .now) (a .args .depth) (a .args .cells) (a .pre)
+
+mul-store-parts : tie.Need-mul-store-parts Inv-loop μ-loop
+mul-store-parts c =
+    let l = c .before .before in
+    let a = start l .args in
+    omega (arith, level-room (a .shape .now) (a .subsets .now) (a .count) (a .out .now) (a .src .now) (a .depth) (a .cells) (start l .pre) (l .loop .out) (l .loop .l) (l .loop .inv) (omega arith))
+
+store-parts-requires : tie.Need-store-parts-requires Inv-loop μ-loop
+store-parts-requires c κs =
+    let l = c .before .before in
+    let a = start l .args in
+    masks-asked (a .shape .now) (a .subsets .now) (a .count) (a .out .now) (a .src .now) (a .depth) (a .cells) (start l .pre) (l .loop .out) (l .loop .l) (l .loop .inv) (omega arith)
+
+add-l : tie.Need-add-l Inv-loop μ-loop
+add-l c = omega arith
+
+loop-less : tie.Need-loop-less Inv-loop μ-loop
+loop-less c = omega arith
+
+loop-again : tie.Need-loop-again Inv-loop μ-loop
+loop-again c =
+    let s = c .before .before in
+    let l = s .before .before .before in
+    let a = start l .args in
+    masks-more (a .shape .now) (a .subsets .now) (a .count) (a .out .now) (a .src .now) (a .depth) (a .cells) (start l .pre) (l .loop .out) (l .loop .l) (l .loop .inv) (omega arith) (s .store-parts .last .0) (s .store-parts .ensures)
+
+same-length : tie.Need-same-length Inv-loop μ-loop
+same-length c = c .before .loop .inv .long
+
+returns : tie.Need-returns Inv-loop μ-loop
+returns c =
+    let l = c .before in
+    let a = start l .args in
+    masks-end (a .shape .now) (a .subsets .now) (a .count) (a .out .now) (a .src .now) (a .depth) (a .cells) (start l .pre) (l .loop .out) (l .loop .l) (l .loop .inv) (omega arith)
+
+pub store-masks-spec : {M : Type 1} → statement M
+store-masks-spec =
+    tie.close
+    (tie.spec
+    Inv-loop
+    μ-loop
+    loop-holds
+    mul-store-parts
+    store-parts-requires
+    add-l
+    loop-less
+    loop-again
+    same-length
+    returns)

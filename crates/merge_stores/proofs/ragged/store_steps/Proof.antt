@@ -1,0 +1,97 @@
+-- `store_steps` meets its contract: i lengths are copied, as if they lay there (proofs/LengthRows over array's Copying).
+-- Assumes nothing.
+use Prim.Native.Nat.{ℕ, _+_, _-_}
+use mathlib.Core.Path.{ap}
+use native.Mathlib.Numerals.{add-one}
+use native.Mathlib.Omega.{arith}
+use lib.ListN.{getD}
+use Rattle.array.proofs.Copying.{Copying, copy-begins, copy-same, copy-room, copy-ends}
+use Rattle.merge_stores.specs.Ragged.{steps}
+use Rattle.merge_stores.proofs.LengthRows.{steps-more}
+use Rattle.merge_stores.proofs.RaggedTies.{length-steps}
+use Rattle.merge_stores.proofs.ragged.store_steps.Statement.{statement}
+use Rattle.merge_stores.proofs.ragged.store_steps.Tie as tie
+
+abbrev Inv-loop : tie.InvT-loop
+Inv-loop out₀ at src first n i₀ out i = Copying out₀ at (steps src) first n out i
+
+abbrev μ-loop : tie.MeasureT-loop
+μ-loop out₀ at src first n i₀ out i = n - i
+
+loop-holds : tie.Need-loop-holds Inv-loop μ-loop
+loop-holds c = copy-begins (c .pre .0) (omega (arith, length-steps (c .args .src .now)))
+
+add-a : tie.Need-add-a Inv-loop μ-loop
+add-a c = omega arith
+
+mul-a : tie.Need-mul-a Inv-loop μ-loop
+mul-a c = omega arith
+
+shared-slice-read-a : tie.Need-shared-slice-read-a Inv-loop μ-loop
+shared-slice-read-a c = omega arith
+
+add-b : tie.Need-add-b Inv-loop μ-loop
+add-b c = omega arith
+
+add-b-2 : tie.Need-add-b-2 Inv-loop μ-loop
+add-b-2 c = omega arith
+
+mul-b : tie.Need-mul-b Inv-loop μ-loop
+mul-b c = omega arith
+
+shared-slice-read-b : tie.Need-shared-slice-read-b Inv-loop μ-loop
+shared-slice-read-b c = omega arith
+
+sub-out : tie.Need-sub-out Inv-loop μ-loop
+sub-out c =
+    let l = c .before .before .before in
+    let a = l .before in
+    omega (arith, a .pre .2 (l .loop .i) (omega arith), ap (λ (k : ℕ). getD (a .args .src .now) k 0) (add-one (a .args .first + l .loop .i)))
+
+add-out : tie.Need-add-out Inv-loop μ-loop
+add-out c = omega arith
+
+mul-out : tie.Need-mul-out Inv-loop μ-loop
+mul-out c = let l = c .before .before .before in omega (arith, copy-same (l .loop .inv))
+
+slice-write-out : tie.Need-slice-write-out Inv-loop μ-loop
+slice-write-out c = copy-room (c .before .before .before .loop .inv) (omega arith)
+
+add-i : tie.Need-add-i Inv-loop μ-loop
+add-i c = omega arith
+
+loop-less : tie.Need-loop-less Inv-loop μ-loop
+loop-less c = omega arith
+
+loop-again : tie.Need-loop-again Inv-loop μ-loop
+loop-again c = let l = c .before .before .before in steps-more (l .before .args .src .now) (l .loop .inv) (omega arith) (l .before .pre .1)
+
+same-length : tie.Need-same-length Inv-loop μ-loop
+same-length c = copy-same (c .before .loop .inv)
+
+returns : tie.Need-returns Inv-loop μ-loop
+returns c = copy-ends (c .before .loop .inv) (c .loop-test .left)
+
+pub store-steps-spec : {M : Type 1} → statement M
+store-steps-spec =
+    tie.close
+    (tie.spec
+    Inv-loop
+    μ-loop
+    loop-holds
+    add-a
+    mul-a
+    shared-slice-read-a
+    add-b
+    add-b-2
+    mul-b
+    shared-slice-read-b
+    sub-out
+    add-out
+    mul-out
+    slice-write-out
+    add-i
+    loop-less
+    loop-again
+    same-length
+    returns)

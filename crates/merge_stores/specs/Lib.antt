@@ -1,0 +1,3 @@
+pub mod Scatter
+pub mod Store
+pub mod Ragged

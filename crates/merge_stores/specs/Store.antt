@@ -1,0 +1,57 @@
+-- Masks, and values of one width, of a list of chunks (document 01, item 6): where they lie, and what their stores ask.
+-- Assumes nothing.
+use mathlib.Core.Path.{_≡_}
+use Prim.Native.Nat.{ℕ, zero, suc, _+_, _*_, _≤_}
+use mathlib.Core.List.{List, [], _∷_, _++_, map}
+use lib.ListN.{length, take, drop}
+use Rattle.array.specs.Lists.{from, joined}
+use Rattle.array.specs.Shape.{volume, ShapeOk}
+use Rattle.array.specs.Subset.{Subset, lengths, cellsOfAll}
+use Rattle.array.specs.Rows.{Within, nextSubsets}
+use Rattle.array.specs.Cells.{Cell, maskOf, inners}
+use Rattle.chunks.specs.Gather.{putBack, Once}
+use Rattle.cover.specs.Asked.{SubsetsOk}
+
+-- of chunks of m cells each: m × lead bytes are passed over, m × size taken, and the next chunk begins m × step bytes on
+abbrev pub parts : ℕ → ℕ → ℕ → List Subset → List ℕ → List ℕ
+parts lead step size [] s = []
+parts lead step size (b ∷ bs) s =
+    take (volume (lengths b) * size) (drop (volume (lengths b) * lead) s) ++ parts lead step size bs (drop (volume (lengths b) * step) s)
+
+-- how many cells the subsets have together
+abbrev pub cellsTotal : List Subset → ℕ
+cellsTotal [] = 0
+cellsTotal (b ∷ bs) = volume (lengths b) + cellsTotal bs
+
+-- the mask bytes of level l, outermost first
+abbrev pub levelAt : (d l : ℕ) → List (Cell d) → List ℕ
+levelAt zero l cs = []
+levelAt (suc d) zero cs = maskOf cs
+levelAt (suc d) (suc l) cs = levelAt d l (inners cs)
+
+-- the first `upto` mask levels of a merge of chunks of this depth
+abbrev pub masksMerged : List ℕ → List Subset → ℕ → List ℕ → ℕ → List ℕ
+masksMerged shape bs depth masks upto = joined (map (λ l. putBack 0 (volume shape) (cellsOfAll shape bs) (parts l depth 1 bs masks)) (from 0 upto))
+
+-- ---- what the stores ask: of one chunk, of one part of each chunk, of all mask levels
+
+pub record StoreAsked (shape starts lens out : List ℕ) (base size : ℕ) (src : List ℕ) (first : ℕ) : Type 0 where
+  pub shaped : ShapeOk shape
+  pub fits : Within shape starts lens
+  pub narrow : size ≤ 64
+  pub room : base + volume shape * size ≤ length out
+  pub enough : first + volume lens * size ≤ length src
+
+pub record PartsAsked (shape flat : List ℕ) (count : ℕ) (out : List ℕ) (base size : ℕ) (src : List ℕ) (lead step : ℕ) : Type 0 where
+  pub subsets : SubsetsOk shape flat count
+  pub narrow : size ≤ 64
+  pub inner : lead + size ≤ step
+  pub room : base + volume shape * size ≤ length out
+  pub enough : cellsTotal (nextSubsets (length shape) count flat) * step ≤ length src
+
+pub record MasksAsked (shape flat : List ℕ) (count : ℕ) (out src : List ℕ) (depth cells : ℕ) : Type 0 where
+  pub subsets : SubsetsOk shape flat count
+  pub once : Once (volume shape) (cellsOfAll shape (nextSubsets (length shape) count flat))
+  pub counted : cells ≡ volume shape
+  pub room : depth * cells ≤ length out
+  pub enough : cellsTotal (nextSubsets (length shape) count flat) * depth ≤ length src

@@ -1,0 +1,100 @@
+// Masks, and values of one width.
+ghost use mathlib.Core.Path.{_≡_};
+ghost use mathlib.Core.List.{_++_};
+ghost use Prim.Native.Nat.{_*_};
+ghost use lib.ListN.{length, drop};
+ghost use Rattle.array.specs.Subset.{pairs, cellsIn, cellsOfAll};
+ghost use Rattle.array.specs.Rows.{nextSubsets};
+ghost use Rattle.merge_stores.specs.Scatter.{scatter, places, fixedAt};
+ghost use Rattle.merge_stores.specs.Store.{parts, masksMerged, StoreAsked, PartsAsked, MasksAsked};
+
+// Stores a chunk's cells of `size` bytes, which lie in `src` from `first` on, at their places in `out`, where cell 0 lies at `base`.
+pub fn store_subset(
+    out: &mut [u8],
+    base: usize,
+    size: usize,
+    src: &[u8],
+    first: usize,
+    shape: &[u64],
+    starts: &[u64],
+    lens: &[u64],
+)
+    requires { ⌜ StoreAsked (now shape) (now starts) (now lens) (now out) base size (now src) first ⌝ }
+    ensures { λ _. ⌜ now (out .exit) ≡ scatter (now (out .entry)) (places (fixedAt base size) (cellsIn (now (shape .entry)) (pairs (now (starts .entry)) (now (lens .entry))))) (drop first (now (src .entry))) ⌝ }
+{
+    let cells = array::subset::volume_of(lens);
+    let last = lens.len() - 1;
+    let n = lens[last];
+    let mut at: u64 = 0;
+    while at < cells {
+        let a = array::subset::cell_at(shape, starts, lens, at);
+        let to = base + (a as usize) * size;
+        let take = first + (at as usize) * size;
+        let len = (n as usize) * size;
+        array::copy::copy_bytes(out, to, src, take, len);
+        at += n;
+    }
+}
+
+// Stores one part of each chunk of a list: of m cells, m × lead bytes are passed over, m × size stored, and the next chunk
+// begins m × step bytes on.
+pub fn store_parts(
+    out: &mut [u8],
+    base: usize,
+    size: usize,
+    src: &[u8],
+    lead: usize,
+    step: usize,
+    shape: &[u64],
+    subsets: &[u64],
+    count: usize,
+)
+    requires { ⌜ PartsAsked (now shape) (now subsets) count (now out) base size (now src) lead step ⌝ }
+    ensures { λ _. ⌜ now (out .exit) ≡ scatter (now (out .entry)) (places (fixedAt base size) (cellsOfAll (now (shape .entry)) (nextSubsets (length (now (shape .entry))) count (now (subsets .entry)))))
+        (parts lead step size (nextSubsets (length (now (shape .entry))) count (now (subsets .entry))) (now (src .entry))) ⌝ }
+{
+    let d = shape.len();
+    let mut i: usize = 0;
+    let mut at: usize = 0;
+    let mut pos: usize = 0;
+    while i < count {
+        let mid = at + d;
+        let end = mid + d;
+        let m = array::subset::volume_of(&subsets[mid..end]) as usize;
+        let first = pos + m * lead;
+        store_subset(
+            out,
+            base,
+            size,
+            src,
+            first,
+            shape,
+            &subsets[at..mid],
+            &subsets[mid..end],
+        );
+        pos += m * step;
+        at = end;
+        i += 1;
+    }
+}
+
+// Stores the masks of all chunks, level by level.
+pub fn store_masks(
+    out: &mut [u8],
+    src: &[u8],
+    depth: usize,
+    cells: usize,
+    shape: &[u64],
+    subsets: &[u64],
+    count: usize,
+)
+    requires { ⌜ MasksAsked (now shape) (now subsets) count (now out) (now src) depth cells ⌝ }
+    ensures { λ _. ⌜ now (out .exit) ≡ masksMerged (now (shape .entry)) (nextSubsets (length (now (shape .entry))) count (now (subsets .entry))) depth (now (src .entry)) depth
+        ++ drop (depth * cells) (now (out .entry)) ⌝ }
+{
+    let mut l: usize = 0;
+    while l < depth {
+        store_parts(out, l * cells, 1, src, l, depth, shape, subsets, count);
+        l += 1;
+    }
+}

@@ -1,0 +1,189 @@
+// Ragged values: their lengths, the offsets that these add up to, and their bytes at those offsets.
+ghost use mathlib.Core.Path.{_≡_};
+ghost use mathlib.Core.List.{_∷_, _++_};
+ghost use Prim.Native.Nat.{_+_, _<_, _≤_};
+ghost use lib.ListN.{length, take, drop};
+ghost use Rattle.array.specs.Limits.{mostBytes};
+ghost use Rattle.array.specs.Buffers.{overAt};
+ghost use Rattle.array.specs.Subset.{pairs, cellsIn, cellsOfAll};
+ghost use Rattle.array.specs.Rows.{nextSubsets};
+ghost use Rattle.merge_stores.specs.Scatter.{scatter, places, fixedAt};
+ghost use Rattle.merge_stores.specs.Ragged.{offsetAt, raggedParts, steps, stepParts, sums, sum, offsetsMerged};
+ghost use Rattle.merge_stores.specs.Ragged.{RisesFor, LengthsAsked, LengthsAllAsked, RaggedAsked, RaggedAllAsked, RaggedMergeAsked};
+
+// The lengths of n neighbours, from their offsets.
+fn store_steps(out: &mut [u64], at: usize, src: &[u64], first: usize, n: usize)
+    requires { ⌜ (at + n ≤ length (now out)) × (first + n < length (now src)) × RisesFor (now src) first n ⌝ }
+    ensures { λ _. ⌜ now (out .exit) ≡ overAt at (take n (drop first (steps (now (src .entry))))) (now (out .entry)) ⌝ }
+{
+    let mut i: usize = 0;
+    while i < n {
+        let a = src[first + i];
+        let b = src[first + i + 1];
+        out[at + i] = b - a;
+        i += 1;
+    }
+}
+
+// Stores the lengths of a chunk's values at their cells' places, where cell 0 lies at 1.
+fn store_lengths(
+    out: &mut [u64],
+    src: &[u64],
+    first: usize,
+    shape: &[u64],
+    starts: &[u64],
+    lens: &[u64],
+)
+    requires { ⌜ LengthsAsked (now shape) (now starts) (now lens) (now out) (now src) first ⌝ }
+    ensures { λ _. ⌜ now (out .exit) ≡ scatter (now (out .entry)) (places (fixedAt 1 1) (cellsIn (now (shape .entry)) (pairs (now (starts .entry)) (now (lens .entry))))) (drop first (steps (now (src .entry)))) ⌝ }
+{
+    let cells = array::subset::volume_of(lens);
+    let last = lens.len() - 1;
+    let n = lens[last];
+    let mut at: u64 = 0;
+    while at < cells {
+        let a = array::subset::cell_at(shape, starts, lens, at) as usize;
+        let i = first + (at as usize);
+        store_steps(out, 1 + a, src, i, n as usize);
+        at += n;
+    }
+}
+
+// Stores the lengths of the values of all chunks.
+fn store_lengths_all(out: &mut [u64], src: &[u64], shape: &[u64], subsets: &[u64], count: usize)
+    requires { ⌜ LengthsAllAsked (now shape) (now subsets) count (now out) (now src) ⌝ }
+    ensures { λ _. ⌜ now (out .exit) ≡ scatter (now (out .entry)) (places (fixedAt 1 1) (cellsOfAll (now (shape .entry)) (nextSubsets (length (now (shape .entry))) count (now (subsets .entry)))))
+        (stepParts (nextSubsets (length (now (shape .entry))) count (now (subsets .entry))) (now (src .entry))) ⌝ }
+{
+    let d = shape.len();
+    let mut i: usize = 0;
+    let mut at: usize = 0;
+    let mut first: usize = 0;
+    while i < count {
+        let mid = at + d;
+        let end = mid + d;
+        let m = array::subset::volume_of(&subsets[mid..end]) as usize;
+        store_lengths(
+            out,
+            src,
+            first,
+            shape,
+            &subsets[at..mid],
+            &subsets[mid..end],
+        );
+        first += m + 1;
+        at = end;
+        i += 1;
+    }
+}
+
+// Lengths become offsets, in place: 0, and after it each of the n lengths added to those before it.
+fn sum_up(out: &mut [u64], n: usize)
+    requires { ⌜ (n < length (now out)) × (sum (take n (drop 1 (now out))) ≤ mostBytes) ⌝ }
+    ensures { λ _. ⌜ now (out .exit) ≡ (0 ∷ sums 0 (take n (drop 1 (now (out .entry))))) ++ drop (n + 1) (now (out .entry)) ⌝ }
+{
+    out[0] = 0;
+    let mut i: usize = 0;
+    while i < n {
+        let a = out[i];
+        let b = out[i + 1];
+        out[i + 1] = a + b;
+        i += 1;
+    }
+}
+
+// Stores a chunk's values row by row: they lie in `values` from `base` on, by the offsets in `src` from `first` on; `begins` says
+// where each cell of the output begins.
+fn store_ragged(
+    out: &mut [u8],
+    begins: &[u64],
+    values: &[u8],
+    base: usize,
+    src: &[u64],
+    first: usize,
+    shape: &[u64],
+    starts: &[u64],
+    lens: &[u64],
+)
+    requires { ⌜ RaggedAsked (now shape) (now starts) (now lens) (now out) (now begins) (now values) base (now src) first ⌝ }
+    ensures { λ _. ⌜ now (out .exit) ≡ scatter (now (out .entry)) (places (offsetAt (now (begins .entry))) (cellsIn (now (shape .entry)) (pairs (now (starts .entry)) (now (lens .entry)))))
+        (drop (base + offsetAt (now (src .entry)) first) (now (values .entry))) ⌝ }
+{
+    let cells = array::subset::volume_of(lens);
+    let last = lens.len() - 1;
+    let n = lens[last];
+    let mut at: u64 = 0;
+    while at < cells {
+        let a = array::subset::cell_at(shape, starts, lens, at) as usize;
+        let to = begins[a] as usize;
+        let i = first + (at as usize);
+        let begin = src[i] as usize;
+        let e = i + (n as usize);
+        let end = src[e] as usize;
+        array::copy::copy_bytes(out, to, values, base + begin, end - begin);
+        at += n;
+    }
+}
+
+// Stores the values of all chunks.
+fn store_ragged_all(
+    out: &mut [u8],
+    begins: &[u64],
+    values: &[u8],
+    src: &[u64],
+    shape: &[u64],
+    subsets: &[u64],
+    count: usize,
+)
+    requires { ⌜ RaggedAllAsked (now shape) (now subsets) count (now out) (now begins) (now values) (now src) ⌝ }
+    ensures { λ _. ⌜ now (out .exit) ≡ scatter (now (out .entry)) (places (offsetAt (now (begins .entry))) (cellsOfAll (now (shape .entry)) (nextSubsets (length (now (shape .entry))) count (now (subsets .entry)))))
+        (raggedParts (nextSubsets (length (now (shape .entry))) count (now (subsets .entry))) (now (src .entry)) (now (values .entry))) ⌝ }
+{
+    let d = shape.len();
+    let mut i: usize = 0;
+    let mut at: usize = 0;
+    let mut base: usize = 0;
+    let mut first: usize = 0;
+    while i < count {
+        let mid = at + d;
+        let end = mid + d;
+        let m = array::subset::volume_of(&subsets[mid..end]) as usize;
+        store_ragged(
+            out,
+            begins,
+            values,
+            base,
+            src,
+            first,
+            shape,
+            &subsets[at..mid],
+            &subsets[mid..end],
+        );
+        let last = first + m;
+        base += src[last] as usize;
+        first = last + 1;
+        at = end;
+        i += 1;
+    }
+}
+
+// The ragged values of all chunks: lengths, then offsets in place, then the value bytes.
+pub fn merge_ragged(
+    outv: &mut [u8],
+    outo: &mut [u64],
+    values: &[u8],
+    src: &[u64],
+    shape: &[u64],
+    subsets: &[u64],
+    count: usize,
+    n: usize,
+)
+    requires { ⌜ RaggedMergeAsked (now shape) (now subsets) count (now outv) (now outo) (now values) (now src) n ⌝ }
+    ensures offsets { λ _. ⌜ now (outo .exit) ≡ offsetsMerged (now (shape .entry)) (nextSubsets (length (now (shape .entry))) count (now (subsets .entry))) (now (src .entry)) ++ drop (n + 1) (now (outo .entry)) ⌝ }
+    ensures bytes { λ _. ⌜ now (outv .exit) ≡ scatter (now (outv .entry)) (places (offsetAt (now (outo .exit))) (cellsOfAll (now (shape .entry)) (nextSubsets (length (now (shape .entry))) count (now (subsets .entry)))))
+        (raggedParts (nextSubsets (length (now (shape .entry))) count (now (subsets .entry))) (now (src .entry)) (now (values .entry))) ⌝ }
+{
+    store_lengths_all(outo, src, shape, subsets, count);
+    sum_up(outo, n);
+    store_ragged_all(outv, outo, values, src, shape, subsets, count);
+}

@@ -1,0 +1,120 @@
+-- `cut_stored` meets its contract: what the cut needs (proofs/Rows), and the laws of its answer (proofs/Outcomes).
+-- Assumes nothing.
+use Prim.Native.Nat.{ℕ, _+_}
+use mathlib.Core.Path.{_≡_, sym, _∙_}
+use mathlib.Core.List.{List}
+use native.Mathlib.Omega.{arith}
+use borrow.Author.Needs.{needs}
+use lib.ListN.{length, drop}
+use Rattle.array.specs.Lists.{joined}
+use Rattle.array.specs.Subset.{pairs, cellsIn}
+use Rattle.array.specs.Cells.{Value}
+use Rattle.array.specs.Offsets.{offsetsOf}
+use Rattle.array.specs.Content.{RaggedContent}
+use Rattle.array.specs.Meaning.{widthOf}
+use Rattle.array.specs.Outcome.{contentRagged}
+use Rattle.array.proofs.Index.{few-within}
+use Rattle.extract.specs.Places.{valuesAt}
+use Rattle.extract.specs.Asked.{SubsetAsked}
+use Rattle.extract.proofs.Walk.{asked-few, asked-count}
+use Rattle.partial.specs.Stored.{storedAt}
+use Rattle.partial.proofs.Rows.{need-values, need-offsets}
+use Rattle.partial.proofs.Outcomes.{no-values, no-offsets, all-put}
+use Rattle.partial.proofs.vlen_partial.cut_stored.Statement.{statement}
+use Rattle.partial.proofs.vlen_partial.cut_stored.Tie as tie
+
+-- once the cells of the subset are counted: the start, the values of the cut, the outputs
+abbrev Counted : Type 0
+Counted = tie.After-volume-of
+
+abbrev start : Counted → tie.Start
+start v = v .before .before .before .before .before .before .before
+
+abbrev off : Counted → ℕ → ℕ
+off v = let a = start v .args in storedAt (widthOf (a .width)) (a .bytes .now) (a .index)
+
+abbrev cells : Counted → List ℕ
+cells v = let a = start v .args in cellsIn (a .shape .now) (pairs (a .starts .now) (a .lens .now))
+
+abbrev cut : Counted → List Value
+cut v = let a = start v .args in valuesAt (off v) (drop (a .source) (a .bytes .now)) (cells v)
+
+abbrev outputs : Counted → RaggedContent
+outputs v = contentRagged (start v .args .values .now) (start v .args .offsets .now)
+
+asked : (v : Counted) → let a = start v .args in SubsetAsked (a .shape .now) (a .starts .now) (a .lens .now) (v .volume-of .result)
+asked v = record { shaped = start v .pre .0 .shaped; within = start v .pre .0 .within; counted = v .volume-of .ensures }
+
+-- what it needs
+values-need : (b : tie.After-count-bytes) → length (joined (cut (b .before))) ≡ b .count-bytes .result
+values-need b =
+    let v = b .before in
+    let a = start v .args in
+    need-values (a .shape .now) (a .starts .now) (a .lens .now) (v .volume-of .result) (asked v) (widthOf (a .width)) (a .bytes .now) (a .index) (a .source) (start v .pre .1)
+    ∙ sym (b .count-bytes .ensures)
+
+offsets-need : (v : Counted) → length (offsetsOf (cut v)) ≡ v .volume-of .result + 1
+offsets-need v =
+    let a = start v .args in
+    need-offsets (a .shape .now) (a .starts .now) (a .lens .now) (v .volume-of .result) (asked v) (off v) (drop (a .source) (a .bytes .now))
+
+volume-of-requires : tie.Need-volume-of-requires
+volume-of-requires c κs =
+    let s = c .before .before .before .before .before .before in
+    few-within (s .args .shape .now) (s .args .starts .now) (s .args .lens .now) (s .pre .0 .shaped) (s .pre .0 .within)
+
+count-bytes-requires : tie.Need-count-bytes-requires
+count-bytes-requires c κs = (asked c, start c .pre .1 .index-asked)
+
+returns : tie.Need-returns
+returns c = let b = c .before in let v = b .before in no-values (cut v) (outputs v) (b .count-bytes .result) (values-need b) (c .if1 .taken)
+
+add-numbers : tie.Need-add-numbers
+add-numbers c = let v = c .before .before in omega (arith, asked-few _ _ _ _ (asked v))
+
+returns-2 : tie.Need-returns-2
+returns-2 c = let v = c .before .before .before in no-offsets (cut v) (outputs v) (v .volume-of .result + 1) (offsets-need v) (c .if2 .taken)
+
+copy-ragged-requires : tie.Need-copy-ragged-requires
+copy-ragged-requires c κs =
+    let o = c .before .before in
+    let e = o .before in
+    let b = e .before in
+    let v = b .before in (
+      asked v,
+      record {
+        stored = start v .pre .1;
+        room = omega (arith, values-need b, e .if1 .left);
+        room-offsets = omega (arith, asked-count _ _ _ _ (asked v), o .if2 .left);
+      },
+    )
+
+same-length : tie.Need-same-length
+same-length c = search needs
+
+same-length-2 : tie.Need-same-length-2
+same-length-2 c = search needs
+
+returns-3 : tie.Need-returns-3
+returns-3 c =
+    let r = c .before .before .before .before in
+    let o = r .before .before .before in
+    let e = o .before in
+    let b = e .before in
+    let v = b .before in
+    all-put (cut v) (outputs v) (b .count-bytes .result) (v .volume-of .result + 1) (values-need b) (offsets-need v) (e .if1 .left) (o .if2 .left)
+    (r .copy-ragged .last .0) (r .copy-ragged .last .1 .0) (r .copy-ragged .ensures .0) (r .copy-ragged .ensures .1)
+
+pub cut-stored-spec : {M : Type 1} → statement M
+cut-stored-spec =
+    tie.close
+    (tie.spec
+    volume-of-requires
+    count-bytes-requires
+    returns
+    add-numbers
+    returns-2
+    copy-ragged-requires
+    same-length
+    same-length-2
+    returns-3)

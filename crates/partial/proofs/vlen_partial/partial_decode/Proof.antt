@@ -1,0 +1,246 @@
+-- `partial_decode` meets its contract: each refusal in its order (proofs/Outcomes), then the cut of what the check found (proofs/Stored).
+-- Assumes nothing.
+use Prim.Native.Nat.{ℕ, _+_, _*_, _≤_}
+use mathlib.Core.Path.{_≡_, refl, sym, ap, _∙_}
+use mathlib.Core.Bool.{true}
+use mathlib.Core.List.{List}
+use native.Mathlib.Omega.{arith}
+use borrow.Author.Needs.{needs}
+use borrow.Author.Tests.{not-true, not-false}
+use lib.ListN.{length, drop}
+use Rattle.array.specs.Answer.{gives}
+use Rattle.array.specs.Limits.{mostCells}
+use Rattle.array.specs.Kind.{Place}
+use Rattle.array.specs.Shape.{volume}
+use Rattle.array.specs.ShapeCells.{toldCells}
+use Rattle.array.specs.Subset.{Subset, numbersTest, NumbersOk, cellsIn}
+use Rattle.array.specs.Content.{RaggedContent}
+use Rattle.array.specs.Buffers.{raggedLengthsOf, raggedOutcome}
+use Rattle.array.specs.Meaning.{widthOf, placeOf}
+use Rattle.array.specs.Outcome.{contentRagged}
+use Rattle.array.proofs.Rules.{numbers-ok}
+use Rattle.array.proofs.ShapeLaws.{Counted, counted, not-counted}
+use Rattle.array.proofs.SubsetLists.{subset-parts, within-parts}
+use Rattle.codec.specs.Ragged.{getRagged}
+use Rattle.codec.specs.Index.{spanIn, toldIndex, indexAt, dataAt}
+use Rattle.extract.specs.Places.{valuesAt}
+use Rattle.partial.specs.Stored.{storedAt, cutAnswer}
+use Rattle.partial.proofs.Stored.{Read, read-room, read-at}
+use Rattle.partial.proofs.Outcomes.{no-shape, no-subset, not-read, cut-read}
+use Rattle.partial.proofs.vlen_partial.partial_decode.Statement.{statement}
+use Rattle.partial.proofs.vlen_partial.partial_decode.Tie as tie
+
+-- where the function starts: the width and the place of the index, what is handed over, the outputs
+abbrev width : tie.Start → ℕ
+width s = widthOf (s .args .width)
+
+abbrev place : tie.Start → Place
+place s = placeOf (s .args .place)
+
+abbrev shape : tie.Start → List ℕ
+shape s = s .args .shape .now
+
+abbrev numbers : tie.Start → List ℕ
+numbers s = s .args .subset .now
+
+abbrev bytes : tie.Start → List ℕ
+bytes s = s .args .bytes .now
+
+abbrev outputs : tie.Start → RaggedContent
+outputs s = contentRagged (s .args .values .now) (s .args .offsets .now)
+
+-- what each check that passed says
+abbrev Shaped : Type 0
+Shaped = tie.After-known-told
+
+abbrev start : Shaped → tie.Start
+start m = m .before .before .before .before .before .before .before .before .before
+
+abbrev cells : Shaped → ℕ
+cells m = m .before .cells .given .0 .0
+
+shaped : (m : Shaped) → Counted (shape (start m)) (cells m)
+shaped m = counted (shape (start m)) (cells m) (sym (ap toldCells (m .before .cells .given .1)) ∙ m .before .before .before .shape-cells .ensures)
+
+abbrev told : tie.Else1 → Shaped
+told e = e .before .before
+
+subset-passes : (e : tie.Else1) → numbersTest (shape (start (told e))) (numbers (start (told e))) ≡ true
+subset-passes e = sym (e .before .subset-fits .ensures) ∙ not-false (e .before .subset-fits .result) (e .if1 .left)
+
+fitting : (e : tie.Else1) → NumbersOk (shape (start (told e))) (numbers (start (told e)))
+fitting e = let s = start (told e) in numbers-ok (shape s) (numbers s) (subset-passes e)
+
+abbrev Checked : Type 0
+Checked = tie.After-check-ragged
+
+abbrev begun : Checked → tie.Start
+begun k = start (told (k .before))
+
+checks : (k : Checked) → toldIndex (k .check-ragged .result) ≡ spanIn (getRagged (width (begun k)) (place (begun k)) (bytes (begun k)) (volume (shape (begun k))))
+checks k =
+    let s = begun k in
+    k .check-ragged .ensures ∙ ap (λ (n : ℕ). spanIn (getRagged (width s) (place s) (bytes s) n)) (shaped (told (k .before)) .is)
+
+-- the index was found
+abbrev Found : Type 0
+Found = tie.After-enum-told2
+
+abbrev checked : Found → Checked
+checked f = f .before .before
+
+span : (f : Found) → let s = begun (checked f) in
+    spanIn (getRagged (width s) (place s) (bytes s) (volume (shape s))) ≡ gives (f .enum-told2 .given .0 .0, f .enum-told2 .given .0 .1 .0)
+span f = sym (checks (checked f)) ∙ ap toldIndex (f .enum-told2 .given .1)
+
+-- how long it is, and where it and the data lie
+size : (i : tie.After-index-length) → let s = begun (checked (i .before)) in i .index-length .result ≡ width s + volume (shape s) * width s
+size i =
+    let k = checked (i .before) in
+    let s = begun k in
+    i .index-length .ensures ∙ ap (λ (n : ℕ). width s + n * width s) (shaped (told (k .before)) .is)
+
+fits : (i : tie.After-index-length) → 8 + i .index-length .result ≤ length (bytes (begun (checked (i .before))))
+fits i =
+    let f = i .before in
+    let s = begun (checked f) in
+    omega (arith, size i, read-room (width s) (place s) (bytes s) (volume (shape s)) _ _ (span f))
+
+read : (d : tie.After-data-at) → let s = begun (checked (d .before .before .before)) in
+    Read (width s) (place s) (bytes s) (volume (shape s)) (d .before .index-at .result) (d .data-at .result)
+read d =
+    let i = d .before .before in
+    let f = i .before in
+    let s = begun (checked f) in
+    read-at (width s) (place s) (bytes s) (volume (shape s)) _ _ (span f) (d .before .index-at .result) (d .data-at .result)
+    (d .before .index-at .ensures ∙ ap (indexAt (place s) (length (bytes s))) (size i)) (d .data-at .ensures ∙ ap (dataAt (place s)) (size i))
+
+shape-cells-requires : tie.Need-shape-cells-requires
+shape-cells-requires c κs = search needs
+
+enum-known-cells : tie.Need-enum-known-cells
+enum-known-cells c = search needs
+
+enum-told : tie.Need-enum-told
+enum-told c = search needs
+
+returns : tie.Need-returns
+returns c =
+    let m = c .before .before in
+    let s = m .before .before .before .before .before .before in
+    no-shape (width s) (place s) (shape s) (numbers s) (bytes s) (outputs s)
+    (not-counted (shape s) (c .enum-told .given .0 .0) (sym (ap toldCells (c .enum-told .given .1)) ∙ m .shape-cells .ensures) .0)
+
+subset-fits-requires : tie.Need-subset-fits-requires
+subset-fits-requires c κs = search needs
+
+returns-2 : tie.Need-returns-2
+returns-2 c =
+    let f = c .before in
+    let m = f .before in
+    let s = start m in
+    no-subset (width s) (place s) (shape s) (numbers s) (bytes s) (outputs s) (shaped m .passes) (sym (f .subset-fits .ensures) ∙ not-true (f .subset-fits .result) (c .if1 .taken))
+
+check-ragged-requires : tie.Need-check-ragged-requires
+unfolding mostCells
+check-ragged-requires c κs = (shaped (told c) .few, omega arith)
+
+enum-known-checked : tie.Need-enum-known-checked
+enum-known-checked c = search needs
+
+enum-told-2 : tie.Need-enum-told-2
+enum-told-2 c = search needs
+
+index-length-requires : tie.Need-index-length-requires
+unfolding mostCells
+index-length-requires c κs = shaped (told (checked c .before)) .few
+
+index-at-requires : tie.Need-index-at-requires
+index-at-requires c κs = fits c
+
+data-at-requires : tie.Need-data-at-requires
+data-at-requires c κs = omega (arith, fits (c .before))
+
+sub-cut-stored : tie.Need-sub-cut-stored
+sub-cut-stored c = search needs
+
+part-cut-stored-start : tie.Need-part-cut-stored-start
+part-cut-stored-start c = search needs
+
+part-cut-stored-end : tie.Need-part-cut-stored-end
+part-cut-stored-end c = omega (arith, fitting (checked (c .before .before .before) .before) .counted)
+
+mul-cut-stored : tie.Need-mul-cut-stored
+mul-cut-stored c = search needs
+
+sub-cut-stored-2 : tie.Need-sub-cut-stored-2
+sub-cut-stored-2 c = omega (arith, fitting (checked (c .before .before .before .before) .before) .counted)
+
+part-cut-stored-start-2 : tie.Need-part-cut-stored-start-2
+part-cut-stored-start-2 c = omega (arith, fitting (checked (c .before .before .before .before) .before) .counted)
+
+part-cut-stored-end-2 : tie.Need-part-cut-stored-end-2
+part-cut-stored-end-2 c = search needs
+
+cut-stored-requires : tie.Need-cut-stored-requires
+cut-stored-requires c κs =
+    let d = c .before .before .before .before in
+    let e = checked (d .before .before .before) .before in
+    let s = start (told e) in
+    (record { shaped = shaped (told e) .shaped; within = within-parts (shape s) (numbers s) (fitting e); counted = refl }, read d .stored)
+
+returns-3 : tie.Need-returns-3
+returns-3 c =
+    let k = c .before .before .before in
+    let e = k .before in
+    let s = begun k in
+    not-read (width s) (place s) (shape s) (numbers s) (bytes s) (outputs s) (shaped (told e) .passes) (subset-passes e) (c .before .checked .given .0 .0)
+    (sym (checks k) ∙ ap toldIndex (c .before .checked .given .1))
+
+same-length : tie.Need-same-length
+same-length c = search needs
+
+same-length-2 : tie.Need-same-length-2
+same-length-2 c = search needs
+
+returns-4 : tie.Need-returns-4
+returns-4 c =
+    let r = c .before .before .before .before in
+    let d = r .before .before .before .before .before in
+    let e = checked (d .before .before .before) .before in
+    let s = start (told e) in
+    let index = d .before .index-at .result in
+    let source = d .data-at .result in
+    r .cut-stored .ensures
+    ∙ ap (λ (b : Subset). raggedOutcome (cutAnswer (valuesAt (storedAt (width s) (bytes s) index) (drop source (bytes s)) (cellsIn (shape s) b)) (raggedLengthsOf (outputs s))) (outputs s))
+    (subset-parts (length (shape s)) (numbers s))
+    ∙ cut-read (width s) (place s) (shape s) (numbers s) (bytes s) (outputs s) (shaped (told e) .passes) (subset-passes e) index source (read d)
+
+pub partial-decode-spec : {M : Type 1} → statement M
+partial-decode-spec =
+    tie.close
+    (tie.spec
+    shape-cells-requires
+    enum-known-cells
+    enum-told
+    returns
+    subset-fits-requires
+    returns-2
+    check-ragged-requires
+    enum-known-checked
+    enum-told-2
+    index-length-requires
+    index-at-requires
+    data-at-requires
+    sub-cut-stored
+    part-cut-stored-start
+    part-cut-stored-end
+    mul-cut-stored
+    sub-cut-stored-2
+    part-cut-stored-start-2
+    part-cut-stored-end-2
+    cut-stored-requires
+    returns-3
+    same-length
+    same-length-2
+    returns-4)

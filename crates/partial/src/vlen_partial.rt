@@ -1,0 +1,266 @@
+// Stored ragged values of depth 0, of which the cells of a subset are handed out. Offsets are read where they are stored, so that
+// no other memory is needed; nothing is stored before the last check.
+use array::answer::WrittenRagged;
+use array::copy;
+use array::field;
+use array::kind;
+use array::kind::IndexPlace;
+use array::kind::IndexWidth;
+use array::refusal;
+use array::shape::Cells;
+use array::subset;
+use codec::vlen;
+use codec::vlen::Indexed;
+ghost use mathlib.Core.Path.{_≡_};
+ghost use mathlib.Core.List.{map};
+ghost use Prim.Native.Nat.{ℕ, suc, _+_, _-_, _*_, _<_, _≤_};
+ghost use lib.ListN.{length, drop};
+ghost use Rattle.array.specs.Lists.{from, joined};
+ghost use Rattle.array.specs.Shape.{volume};
+ghost use Rattle.array.specs.Subset.{pairs, cellsIn};
+ghost use Rattle.array.specs.Offsets.{ends, offsetsOf};
+ghost use Rattle.array.specs.Buffers.{over, overAt, raggedOutcome, raggedLengthsOf};
+ghost use Rattle.array.specs.Meaning.{widthOf, placeOf};
+ghost use Rattle.array.specs.Outcome.{contentRagged, outcomeRagged};
+ghost use Rattle.codec.specs.Index.{indexAt, dataAt};
+ghost use Rattle.chunks.specs.Calls.{partiallyDecoded};
+ghost use Rattle.extract.specs.Places.{bytesAt, valuesAt};
+ghost use Rattle.extract.specs.Asked.{SubsetAsked};
+ghost use Rattle.partial.specs.Stored.{storedAt, cutAnswer, IndexAsked, RowAsked, DataAsked, CutAsked};
+
+// Where the index lies, `size` bytes of it, in so many stored bytes.
+fn index_at(place: IndexPlace, stored: usize, size: usize) -> usize
+    requires { ⌜ 8 + size ≤ stored ⌝ }
+    ensures { λ r. ⌜ r ≡ indexAt (placeOf place) stored size ⌝ }
+{
+    match place {
+        IndexPlace::Start => 8,
+        IndexPlace::End => stored - 8 - size,
+    }
+}
+
+// Where the data lies.
+fn data_at(place: IndexPlace, size: usize) -> usize
+    requires { ⌜ 8 + size < 18446744073709551616 ⌝ }
+    ensures { λ r. ⌜ r ≡ dataAt (placeOf place) size ⌝ }
+{
+    match place {
+        IndexPlace::Start => 8 + size,
+        IndexPlace::End => 0,
+    }
+}
+
+// Offset j of the index.
+fn offset_at(bytes: &[u8], index: usize, width: IndexWidth, j: usize) -> u64
+    requires { ⌜ index + (widthOf width + j * widthOf width) ≤ length (now bytes) ⌝ }
+    ensures { λ r. ⌜ r ≡ storedAt (widthOf width) (now (bytes .entry)) index j ⌝ }
+{
+    let w = kind::width_bytes(width);
+    field::le_at(bytes, index + j * w, width)
+}
+
+// How many bytes the cells of a subset have.
+fn count_bytes(
+    bytes: &[u8],
+    index: usize,
+    width: IndexWidth,
+    shape: &[u64],
+    starts: &[u64],
+    lens: &[u64],
+    count: usize,
+) -> usize
+    requires { ⌜ SubsetAsked (now shape) (now starts) (now lens) count × IndexAsked (widthOf width) (now bytes) index (volume (now shape)) ⌝ }
+    ensures { λ r. ⌜ r ≡ bytesAt (storedAt (widthOf width) (now (bytes .entry)) index) (cellsIn (now (shape .entry)) (pairs (now (starts .entry)) (now (lens .entry)))) ⌝ }
+{
+    let last = lens.len() - 1;
+    let n = lens[last] as usize;
+    let mut at: usize = 0;
+    let mut total: usize = 0;
+    while at < count {
+        let first = subset::cell_at(shape, starts, lens, at as u64) as usize;
+        let begin = offset_at(bytes, index, width, first) as usize;
+        let end = offset_at(bytes, index, width, first + n) as usize;
+        total += end - begin;
+        at += n;
+    }
+    total
+}
+
+// Writes where n neighbours end, from the cell `first` on, where `total` bytes lie before them.
+fn store_ends(
+    out: &mut [u64],
+    to: usize,
+    bytes: &[u8],
+    index: usize,
+    width: IndexWidth,
+    first: usize,
+    n: usize,
+    total: u64,
+)
+    requires { ⌜ (to + n ≤ length (now «out»)) × RowAsked (widthOf width) (now bytes) index first n total ⌝ }
+    ensures { λ _. ⌜ now («out» .exit) ≡ overAt to
+        (map (λ (j : ℕ). total + (storedAt (widthOf width) (now (bytes .entry)) index (suc j) - storedAt (widthOf width) (now (bytes .entry)) index first)) (from first n)) (now («out» .entry)) ⌝ }
+{
+    let begin = offset_at(bytes, index, width, first);
+    let mut i = 0;
+    while i < n {
+        let end = offset_at(bytes, index, width, first + i + 1);
+        out[to + i] = total + (end - begin);
+        i += 1;
+    }
+}
+
+// Copies the values of a subset's cells, and writes where each ends from the place 1 on.
+fn copy_rows(
+    values: &mut [u8],
+    offsets: &mut [u64],
+    bytes: &[u8],
+    index: usize,
+    source: usize,
+    width: IndexWidth,
+    shape: &[u64],
+    starts: &[u64],
+    lens: &[u64],
+    count: usize,
+)
+    requires { ⌜ SubsetAsked (now shape) (now starts) (now lens) count
+        × CutAsked (now values) (now offsets) (widthOf width) (now bytes) index source (now shape) (cellsIn (now shape) (pairs (now starts) (now lens))) ⌝ }
+    ensures values { λ _. ⌜ now (values .exit) ≡ over (joined (valuesAt (storedAt (widthOf width) (now (bytes .entry)) index) (drop source (now (bytes .entry)))
+        (cellsIn (now (shape .entry)) (pairs (now (starts .entry)) (now (lens .entry)))))) (now (values .entry)) ⌝ }
+    ensures offsets { λ _. ⌜ now (offsets .exit) ≡ overAt 1 (ends 0 (valuesAt (storedAt (widthOf width) (now (bytes .entry)) index) (drop source (now (bytes .entry)))
+        (cellsIn (now (shape .entry)) (pairs (now (starts .entry)) (now (lens .entry)))))) (now (offsets .entry)) ⌝ }
+{
+    let last = lens.len() - 1;
+    let n = lens[last] as usize;
+    let mut at: usize = 0;
+    let mut total: usize = 0;
+    while at < count {
+        let first = subset::cell_at(shape, starts, lens, at as u64) as usize;
+        let begin = offset_at(bytes, index, width, first) as usize;
+        let end = offset_at(bytes, index, width, first + n) as usize;
+        let row = end - begin;
+        copy::copy_bytes(values, total, bytes, source + begin, row);
+        store_ends(offsets, at + 1, bytes, index, width, first, n, total as u64);
+        total += row;
+        at += n;
+    }
+}
+
+// Copies the values of a subset's cells end to end, with their offsets, the first of which is 0.
+fn copy_ragged(
+    values: &mut [u8],
+    offsets: &mut [u64],
+    bytes: &[u8],
+    index: usize,
+    source: usize,
+    width: IndexWidth,
+    shape: &[u64],
+    starts: &[u64],
+    lens: &[u64],
+    count: usize,
+)
+    requires { ⌜ SubsetAsked (now shape) (now starts) (now lens) count
+        × CutAsked (now values) (now offsets) (widthOf width) (now bytes) index source (now shape) (cellsIn (now shape) (pairs (now starts) (now lens))) ⌝ }
+    ensures values { λ _. ⌜ now (values .exit) ≡ over (joined (valuesAt (storedAt (widthOf width) (now (bytes .entry)) index) (drop source (now (bytes .entry)))
+        (cellsIn (now (shape .entry)) (pairs (now (starts .entry)) (now (lens .entry)))))) (now (values .entry)) ⌝ }
+    ensures offsets { λ _. ⌜ now (offsets .exit) ≡ over (offsetsOf (valuesAt (storedAt (widthOf width) (now (bytes .entry)) index) (drop source (now (bytes .entry)))
+        (cellsIn (now (shape .entry)) (pairs (now (starts .entry)) (now (lens .entry)))))) (now (offsets .entry)) ⌝ }
+{
+    offsets[0] = 0;
+    copy_rows(
+        values,
+        offsets,
+        bytes,
+        index,
+        source,
+        width,
+        shape,
+        starts,
+        lens,
+        count,
+    );
+}
+
+// The cut of stored values that were checked: 6, or the values and offsets of the subset's cells.
+fn cut_stored(
+    bytes: &[u8],
+    index: usize,
+    source: usize,
+    width: IndexWidth,
+    shape: &[u64],
+    starts: &[u64],
+    lens: &[u64],
+    values: &mut [u8],
+    offsets: &mut [u64],
+) -> WrittenRagged
+    requires { ⌜ SubsetAsked (now shape) (now starts) (now lens) (volume (now lens)) × DataAsked (widthOf width) (now bytes) index source (volume (now shape)) ⌝ }
+    ensures { λ r. ⌜ outcomeRagged r (now (values .exit)) (now (offsets .exit))
+        ≡ raggedOutcome (cutAnswer (valuesAt (storedAt (widthOf width) (now (bytes .entry)) index) (drop source (now (bytes .entry)))
+        (cellsIn (now (shape .entry)) (pairs (now (starts .entry)) (now (lens .entry))))) (raggedLengthsOf (contentRagged (now (values .entry)) (now (offsets .entry)))))
+        (contentRagged (now (values .entry)) (now (offsets .entry))) ⌝ }
+{
+    let count = subset::volume_of(lens) as usize;
+    let need = count_bytes(bytes, index, width, shape, starts, lens, count);
+    if values.len() < need {
+        return WrittenRagged::Refused(refusal::OUTPUT);
+    }
+    let numbers = count + 1;
+    if offsets.len() < numbers {
+        return WrittenRagged::Refused(refusal::OUTPUT);
+    }
+    copy_ragged(
+        values,
+        offsets,
+        bytes,
+        index,
+        source,
+        width,
+        shape,
+        starts,
+        lens,
+        count,
+    );
+    WrittenRagged::Lengths(need, numbers)
+}
+
+// The values and offsets of the cells of a subset, from the stored ragged values of an array of this shape.
+pub fn partial_decode(
+    width: IndexWidth,
+    place: IndexPlace,
+    shape: &[u64],
+    subset: &[u64],
+    bytes: &[u8],
+    values: &mut [u8],
+    offsets: &mut [u64],
+) -> WrittenRagged
+    ensures { λ r. ⌜ outcomeRagged r (now (values .exit)) (now (offsets .exit))
+        ≡ partiallyDecoded (widthOf width) (placeOf place) (now (shape .entry)) (now (subset .entry)) (now (bytes .entry)) (contentRagged (now (values .entry)) (now (offsets .entry))) ⌝ }
+{
+    let Cells::Count(cells) = array::shape::shape_cells(shape) else {
+        return WrittenRagged::Refused(refusal::SHAPE);
+    };
+    if !array::subset::subset_fits(shape, subset) {
+        return WrittenRagged::Refused(refusal::SUBSET);
+    }
+    let checked = vlen::check_ragged(bytes, 0, cells, width, place);
+    match checked {
+        Indexed::Refused(e) => WrittenRagged::Refused(e),
+        Indexed::Span(_, _) => {
+            let size = vlen::index_length(cells, width);
+            let index = index_at(place, bytes.len(), size);
+            let source = data_at(place, size);
+            let sides = shape.len();
+            cut_stored(
+                bytes,
+                index,
+                source,
+                width,
+                shape,
+                &subset[0..sides],
+                &subset[sides..],
+                values,
+                offsets,
+            )
+        }
+    }
+}
