@@ -1,6 +1,7 @@
--- How numbers and lists are shown.
+-- How numbers and lists are shown, and compared.
 -- Assumes nothing.
 use Prim.Native.Nat.{ℕ, zero, suc, _+_}
+use mathlib.Core.Bool.{Bool, true, false, _&&_}
 use mathlib.Core.List.{List, [], _∷_}
 use lib.ListN.{getD}
 use lib.Dec.{ltb, eqb}
@@ -23,3 +24,10 @@ shownOf n = pick (ltb n 5) 1 n
 unfoldable pub partOf : List ℕ → ℕ
 unfolding shownOf
 partOf s = shownOf (runOf (getD s 0 0) s)
+
+-- whether two lists are the same
+unfoldable pub equal : List ℕ → List ℕ → Bool
+equal [] [] = true
+equal [] (y ∷ ys) = false
+equal (x ∷ xs) [] = false
+equal (x ∷ xs) (y ∷ ys) = eqb x y && equal xs ys

@@ -15,6 +15,7 @@ ghost use lib.ListN.{length, drop};
 ghost use lib.Dec.{leb, eqb};
 ghost use Rattle.array.specs.Lists.{every};
 ghost use Rattle.protocol.specs.Scan.{Onward};
+ghost use Rattle.protocol.specs.Print.{equal};
 
 // What every byte and every number of a lent output is beforehand.
 const BLANK: u8 = 238;
@@ -53,6 +54,23 @@ fn blank_numbers(out: &[u64], from: usize) -> bool
     true
 }
 
+// Whether two lists of bytes are the same.
+fn same(a: &[u8], b: &[u8]) -> bool
+    ensures { λ r. ⌜ r ≡ equal (now (a .entry)) (now (b .entry)) ⌝ }
+{
+    if a.len() != b.len() {
+        return false;
+    }
+    let mut i = 0;
+    while i < a.len() {
+        if a[i] != b[i] {
+            return false;
+        }
+        i += 1;
+    }
+    true
+}
+
 // Whether the lent values from `from` on are as they were lent: the bytes of the request where the call works in place, else blank.
 fn kept_values(in_place: bool, bytes: &[u8], values: &[u8], from: usize) -> bool {
     if !in_place {
@@ -64,7 +82,7 @@ fn kept_values(in_place: bool, bytes: &[u8], values: &[u8], from: usize) -> bool
     if from > bytes.len() {
         return false;
     }
-    check::same(&values[from..], &bytes[from..])
+    same(&values[from..], &bytes[from..])
 }
 
 // The values before the call.
