@@ -11,11 +11,11 @@ fn text_space() -> [u8; 262144]
     [0; 262144]
 }
 
-// Room for the stored bytes of 65,536 cells without bytes.
-fn byte_space() -> [u8; 270336]
-    ensures { λ r. ⌜ 270336 ≡ length r ⌝ }
+// Room for 65,536 cells of one byte with four mask levels, stored.
+fn byte_space() -> [u8; 393216]
+    ensures { λ r. ⌜ 393216 ≡ length r ⌝ }
 {
-    [0; 270336]
+    [0; 393216]
 }
 
 // Room for the offsets of 65,536 cells, and for what else a request has in numbers.
