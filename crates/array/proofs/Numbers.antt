@@ -7,11 +7,11 @@ use Prim.Native.Nat.{ℕ, zero, suc, _≤_, _<_}
 use native.Mathlib.Omega.{arith}
 use borrow.Author.Tests.{le-leb, lt-leb, ne-eqb}
 use Rattle.array.specs.Answer.{Answer, gives, refuses, andThen, mapAnswer}
-use Rattle.array.specs.Kind.{Kind, Form, fixed, ragged, Order, Place, formTest}
+use Rattle.array.specs.Kind.{Kind, Form, fixed, ragged, Order, Place, atStart, atEnd, formTest}
 use Rattle.array.specs.declared.kind.IndexWidth.{IndexWidth}
 use Rattle.array.specs.declared.kind.IndexWidth.the-variants.{Four, Eight}
 use Rattle.array.specs.Meaning.{widthOf}
-use Rattle.array.specs.Numbers.{oneOf, fixedOf, raggedOf, formNumbered, kindWith, numberedKind}
+use Rattle.array.specs.Numbers.{oneOf, fixedOf, raggedOf, formNumbered, kindWith, numberedKind, numberedIndex}
 
 -- one of two forms g a and g b, by the number n
 module _ {A : Type 0} (g : A → Form) (a b : A) (depth n : ℕ) where
@@ -83,3 +83,21 @@ module _ (depth form size order mask : ℕ) where
           go zero p q = absurd (p refl)
           go (suc zero) p q = absurd (q refl)
           go (suc (suc f)) p q = refl
+
+-- ---- width and place alone
+
+pub index-at-start : (w : IndexWidth) (n : ℕ) → n ≡ 0 → gives (ragged (widthOf w) atStart) ≡ numberedIndex (widthOf w) n
+index-at-start w n e = rw (e, width-fits w atStart)
+
+pub index-at-end : (w : IndexWidth) (n : ℕ) → n ≡ 1 → gives (ragged (widthOf w) atEnd) ≡ numberedIndex (widthOf w) n
+index-at-end w n e = rw (e, width-fits w atEnd)
+
+pub place-unknown : (w n : ℕ) → n ≢ 0 → n ≢ 1 → refuses 1 ≡ numberedIndex w n
+place-unknown w zero p q = absurd (p refl)
+place-unknown w (suc zero) p q = absurd (q refl)
+place-unknown w (suc (suc n)) p q = refl
+
+pub index-unknown : (w n : ℕ) → w ≢ 4 → w ≢ 8 → refuses 1 ≡ numberedIndex w n
+index-unknown w zero p q = rw (width-unknown w atStart p q)
+index-unknown w (suc zero) p q = rw (width-unknown w atEnd p q)
+index-unknown w (suc (suc n)) p q = refl

@@ -4,10 +4,11 @@
 use Prim.Native.Nat.{ℕ, zero, suc}
 use lib.Dec.{leb, eqb}
 use Rattle.array.specs.declared.kind.KindRead as declared
+use Rattle.array.specs.declared.kind.IndexRead as index
 use Rattle.array.specs.Answer.{Answer, gives, refuses, andThen, unless, mapAnswer}
 use Rattle.array.specs.Limits.{mostDepth}
 use Rattle.array.specs.Kind.{Kind, Form, fixed, ragged, little, big, atStart, atEnd, formTest}
-use Rattle.array.specs.Meaning.{kindOf}
+use Rattle.array.specs.Meaning.{kindOf, widthOf, placeOf}
 
 -- the first of two is number 0, the second number 1
 abbrev pub oneOf : {A : Type 0} → A → A → ℕ → Answer A
@@ -38,3 +39,14 @@ numberedKind depth form size order mask =
 abbrev pub toldKind : declared.KindRead → Answer Kind
 toldKind (declared.KindRead.Kind k) = gives (kindOf k)
 toldKind (declared.KindRead.Refused e) = refuses e
+
+-- width and place alone, as partial_decode takes them: a ragged form within its range
+abbrev pub within : Form → Answer Form
+within f = unless (formTest f) 1 (gives f)
+
+abbrev pub numberedIndex : ℕ → ℕ → Answer Form
+numberedIndex width place = andThen (raggedOf width place) within
+
+abbrev pub toldIndex : index.IndexRead → Answer Form
+toldIndex (index.IndexRead.Index w p) = gives (ragged (widthOf w) (placeOf p))
+toldIndex (index.IndexRead.Refused e) = refuses e

@@ -4,7 +4,7 @@ ghost use mathlib.Core.Path.{_≡_};
 ghost use Rattle.array.specs.Kind.{fixed, ragged, kindTest};
 ghost use Rattle.array.specs.Answer.{andThen};
 ghost use Rattle.array.specs.Meaning.{kindOf, orderOf, widthOf, placeOf};
-ghost use Rattle.array.specs.Numbers.{fixedOf, raggedOf, kindWith, toldKind, numberedKind};
+ghost use Rattle.array.specs.Numbers.{fixedOf, raggedOf, kindWith, toldKind, numberedKind, toldIndex, numberedIndex};
 
 // Most mask levels.
 pub const MOST_DEPTH: u8 = 4;
@@ -141,5 +141,32 @@ fn ragged_of_width(depth: u8, width: IndexWidth, place: u64) -> KindRead
         0 => KindRead::Kind(ragged(depth, width, IndexPlace::Start)),
         1 => KindRead::Kind(ragged(depth, width, IndexPlace::End)),
         _ => KindRead::Refused(refusal::KIND),
+    }
+}
+
+// What numbers say of an index: its width and place, or the number of the refusal.
+pub enum IndexRead {
+    Index(IndexWidth, IndexPlace),
+    Refused(u8),
+}
+
+// The index that the numbers say: width 4 or 8; place 0 start, 1 end.
+pub fn index_from_numbers(width: u64, place: u64) -> IndexRead
+    ensures { λ r. ⌜ toldIndex r ≡ numberedIndex width place ⌝ }
+{
+    match width {
+        4 => index_of_width(IndexWidth::Four, place),
+        8 => index_of_width(IndexWidth::Eight, place),
+        _ => IndexRead::Refused(refusal::KIND),
+    }
+}
+
+fn index_of_width(width: IndexWidth, place: u64) -> IndexRead
+    ensures { λ r. ⌜ toldIndex r ≡ numberedIndex (widthOf width) place ⌝ }
+{
+    match place {
+        0 => IndexRead::Index(width, IndexPlace::Start),
+        1 => IndexRead::Index(width, IndexPlace::End),
+        _ => IndexRead::Refused(refusal::KIND),
     }
 }

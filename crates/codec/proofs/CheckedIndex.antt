@@ -12,7 +12,7 @@ use borrow.Author.Tests.{eqb-true, ltb-true, ltb-false}
 use Rattle.array.specs.Answer.{Answer, gives, refuses, unless}
 use Rattle.array.specs.Bytes.{unle}
 use Rattle.array.specs.Kind.{Place, atStart, atEnd}
-use Rattle.array.specs.Offsets.{last, lastFrom, RisingFrom, risingTest, risingFromTest}
+use Rattle.array.specs.Offsets.{last, lastFrom, RisingFrom, risingTest}
 use Rattle.array.specs.Content.{RaggedContent, sizeTest}
 use Rattle.array.proofs.Rules.{rising-ok}
 use Rattle.codec.specs.Ragged.{dataTest, dataFor, checkRagged, getRagged}
@@ -132,3 +132,16 @@ index-checked w k s at p f l ha h =
           ∙ ap₂ (λ (x y : List ℕ). gives (record { values = y; offsets = x })) ei
           (dt .0 ∙ ap (λ (j : ℕ). take j d) (sym (c .last-is)) ∙ take-take l (length q - 8 - i) (drop (dataAt p i) q) ll ∙ ap (take l) (drop-drop (dataAt p i) at s));
     }
+
+-- the same, where the index and the data are at positions that were worked out in another way
+pub record IndexPlaced (w k : ℕ) (s : List ℕ) (at : ℕ) (p : Place) (index from f l : ℕ) : Type 0 where
+  pub within : IndexWithin w s k index from f l
+  pub first-is : f ≡ unle (take w (drop index s))
+  pub gave : getRagged w p (drop at s) k ≡ gives (record { values = take l (drop from s); offsets = offsetsIn w (suc k) (drop index s) })
+
+pub index-placed : {w k : ℕ} {s : List ℕ} {at : ℕ} {p : Place} {f l : ℕ} → IndexChecked w k s at p f l → (index from : ℕ)
+    → at + indexAt p (length s - at) (w + k * w) ≡ index → at + dataAt p (w + k * w) ≡ from → IndexPlaced w k s at p index from f l
+index-placed {w} {k} {s} {at} {p} {f} {l} c index from ei ef =
+    subst (λ (x : ℕ). IndexPlaced w k s at p x from f l) ei
+    (subst (λ (x : ℕ). IndexPlaced w k s at p (at + indexAt p (length s - at) (w + k * w)) x f l) ef
+    (record { within = c .within; first-is = c .first-is; gave = c .gave }))

@@ -126,7 +126,7 @@ drop-take (suc x) y (a ∷ q) = ap (λ (k : ℕ). drop (suc x) (take k (a ∷ q)
     plus : suc x + y ≡ suc (x + y)
     plus = omega arith
 
-pieces-take : (w n : ℕ) (q : List ℕ) → pieces w n (take (n * w) q) ≡ pieces w n q
+pub pieces-take : (w n : ℕ) (q : List ℕ) → pieces w n (take (n * w) q) ≡ pieces w n q
 pieces-take w zero q = refl
 pieces-take w (suc n) q =
     let e : suc n * w ≡ w + n * w = omega (arith, suc-mul n w) in

@@ -10,12 +10,12 @@ use lib.Dec.{leb, eqb}
 use lib.ListN.{length, take, drop, length-take, length-drop}
 use lib.Seq.{drop-drop}
 use borrow.Author.Tests.{le-leb, lt-leb, eq-eqb, ne-eqb, eqb-true}
-use Rattle.array.specs.Answer.{Answer, gives, refuses, unless, andThen}
+use Rattle.array.specs.Answer.{Answer, gives, refuses, unless}
 use Rattle.array.specs.Bytes.{unle}
 use Rattle.array.specs.Field.{fieldAt}
 use Rattle.array.proofs.Fields.{field-value, field-refused}
 use Rattle.codec.specs.Frame.{countSet}
-use Rattle.codec.specs.Walk.{opened, Innermost, valuesAt, noneSet, entering, frameBy, walked, walkedFrame}
+use Rattle.codec.specs.Walk.{opened, valuesAt, noneSet, entering, walked, walkedFrame}
 use Rattle.codec.proofs.Marks.{count-le}
 
 module _ (s : List ℕ) (n : ℕ) where

@@ -17,7 +17,7 @@ use Rattle.array.specs.Content.{masksOf, leaves}
 use Rattle.codec.specs.Mask.{byteMask}
 use Rattle.codec.specs.Frame.{countSet, expand, contentOf, readFrame}
 use Rattle.codec.specs.Spread.{spread, planeList, placed, innermostPlane}
-use Rattle.codec.specs.Walk.{opened, Innermost, valuesAt, noneSet, entering, frameBy, walked}
+use Rattle.codec.specs.Walk.{opened, Innermost, valuesAt, noneSet, entering, walked}
 use Rattle.codec.specs.Stored.{maskIn, storedMasks, cellsFrom, answerBy}
 use Rattle.codec.proofs.SpreadLaws.{expand-none, planes-joined, planes-expand, leaves-expand, spread-spread, stacked, placed-stacked}
 

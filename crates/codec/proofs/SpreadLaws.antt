@@ -14,6 +14,7 @@ use Rattle.array.specs.Content.{masksOf, leaves}
 use Rattle.array.proofs.Lists.{map-map}
 use Rattle.codec.specs.Frame.{countSet, expand}
 use Rattle.codec.specs.Spread.{spread, planeList, placed}
+use Rattle.codec.proofs.Marks.{count-le}
 
 -- ---- spreading
 
@@ -34,6 +35,14 @@ pub spread-none : {A : Type 0} (z : A) (p : List ℕ) (xs : List A) → countSet
 spread-none z [] xs e = refl
 spread-none {A} z (zero ∷ p) xs e = ap (λ (r : List A). z ∷ r) (spread-none z p xs e)
 spread-none z (suc m ∷ p) xs e = absurd (omega arith)
+
+-- where all bytes are set the list is taken as it is
+pub spread-all : {A : Type 0} (z : A) (p : List ℕ) (xs : List A) → countSet p ≡ length p → length xs ≡ length p → spread z p xs ≡ xs
+spread-all z [] [] e l = refl
+spread-all z [] (x ∷ xs) e l = absurd (omega arith)
+spread-all z (zero ∷ p) xs e l = absurd (omega (arith, count-le p))
+spread-all z (suc m ∷ p) [] e l = absurd (omega arith)
+spread-all {A} z (suc m ∷ p) (x ∷ xs) e l = ap (λ (r : List A). x ∷ r) (spread-all z p xs (omega arith) (omega arith))
 
 pub count-spread : (p m : List ℕ) → length m ≡ countSet p → countSet (spread 0 p m) ≡ countSet m
 count-spread [] [] e = refl

@@ -9,7 +9,7 @@ use lib.Seq.{length-take-le, drop-drop}
 use Rattle.array.specs.Answer.{Answer, gives, refuses, andThen}
 use Rattle.codec.specs.Frame.{countSet}
 use Rattle.codec.specs.Spread.{spread, innermostPlane}
-use Rattle.codec.specs.Walk.{opened, Innermost, valuesAt, noneSet, entering, walked}
+use Rattle.codec.specs.Walk.{opened, valuesAt, noneSet, entering, walked}
 use Rattle.codec.specs.Stored.{maskIn, storedMasks, MasksWithin, innermostCount}
 use Rattle.codec.proofs.Marks.{count-zeros}
 use Rattle.codec.proofs.SpreadLaws.{count-spread, spread-none}

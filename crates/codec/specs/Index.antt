@@ -1,7 +1,7 @@
 -- The check of ragged values (document 01, item 4): the first and the last offset of their index, or the refusal; and where the index
 -- length, the index and the data lie.
 -- Assumes nothing.
-use Prim.Native.Nat.{ℕ, suc, _+_, _-_, _*_, _≤_}
+use Prim.Native.Nat.{ℕ, _+_, _-_, _*_, _≤_}
 use mathlib.Core.Path.{_≡_}
 use mathlib.Core.List.{List, [], _∷_, map}
 use lib.ListN.{length, drop}

@@ -1,37 +1,27 @@
 -- What encode answers, one law for each way it ends.
 -- Assumes nothing.
-use mathlib.Core.Path.{_≡_, refl, sym, ap, ap₂, _∙_, subst}
-use mathlib.Core.Logic.{_≢_}
-use Prim.Native.Nat.{ℕ, zero, suc, _+_, _*_, _<_, _≤_}
-use native.Mathlib.Nat.{le-of-eq, zero-add}
-use native.Mathlib.Omega.{arith}
+use mathlib.Core.Path.{_≡_, sym, ap, ap₂, _∙_, subst}
+use Prim.Native.Nat.{ℕ, _<_, _≤_}
+use native.Mathlib.Nat.{le-of-eq}
 use mathlib.Core.Bool.{Bool, true, false}
 use mathlib.Core.List.{List}
 use lib.ListN.{length}
 use lib.Dec.{leb}
 use borrow.Author.Tests.{le-leb, lt-leb}
 use Rattle.array.specs.declared.array_bytes.Checked.{Checked}
-use Rattle.array.specs.declared.kind.Values.{Values}
-use Rattle.array.specs.declared.kind.Values.the-variants.{Fixed, Ragged}
-use Rattle.array.specs.declared.kind.ByteOrder.{ByteOrder}
-use Rattle.array.specs.declared.kind.IndexWidth.{IndexWidth}
-use Rattle.array.specs.declared.kind.IndexPlace.{IndexPlace}
 use Rattle.array.specs.Answer.{Answer, gives, refuses, unless, Outcome}
 use Rattle.array.specs.Buffers.{over, listOutcome}
 use Rattle.array.specs.Check.{toldChecked}
 use Rattle.array.specs.Kind.{Kind, kindTest}
-use Rattle.array.specs.Limits.{mostBytes, mostCells}
-use Rattle.array.specs.Meaning.{widthOf, placeOf, formOf}
-use Rattle.array.specs.Shape.{volume, shapeTest}
+use Rattle.array.specs.Limits.{mostCells}
 use Rattle.array.specs.ShapeCells.{shapeAnswer}
 use Rattle.array.specs.Content.{Content}
 use Rattle.array.proofs.CheckLaws.{checkOf, unlessKept, KeepsRules, check-refused, check-valid}
 use Rattle.array.proofs.Rules.{kind-ok}
 use Rattle.array.proofs.ShapeLaws.{Counted, counted, not-counted}
-use Rattle.codec.specs.Ragged.{putRagged}
 use Rattle.codec.specs.Calls.{storedForm, encodeAnswer, encoded}
 use Rattle.encode.specs.Ready.{Measured, Ready, Encodable}
-use Rattle.encode.specs.Stored.{storedFrom, storedBy, lengthBy}
+use Rattle.encode.specs.Stored.{storedBy, storedOver, lengthBy}
 use Rattle.encode.proofs.Walk.{stored-by}
 use Rattle.encode.proofs.Levels.{stored-by-long}
 use Rattle.encode.proofs.Forms.{ready-measured}
@@ -43,26 +33,23 @@ refused number out = record { answer = refuses number; buffers = out }
 -- ---- refusals 1 to 5
 
 module _ (k : Kind) (shape : List ℕ) (c : Content) (out : List ℕ) where
-  stored : List ℕ
-  stored = storedForm k (volume shape) c
-
   pub encode-kind : kindTest k ≡ false → refused 1 out ≡ encoded k shape c out
   unfolding encoded encodeAnswer
   encode-kind e = rw e
 
   module _ (p : kindTest k ≡ true) where
-    pub encode-shape : (number : ℕ) → refuses number ≡ shapeAnswer shape → refused 2 out ≡ encoded k shape c out
+    pub encode-shape : {number : ℕ} → refuses number ≡ shapeAnswer shape → refused 2 out ≡ encoded k shape c out
     unfolding encoded encodeAnswer
-    encode-shape number e = rw (p, not-counted shape number e .0)
+    encode-shape {number} e = rw (p, not-counted shape number e .0)
 
-    module _ (n : ℕ) (q : gives n ≡ shapeAnswer shape) (r : Checked) (f : toldChecked r ≡ checkOf k n c) where
+    module _ {n : ℕ} (q : gives n ≡ shapeAnswer shape) (r : Checked) (f : toldChecked r ≡ checkOf k n c) where
       -- the rest, once kind and shape have passed
       whole : ℕ → Answer (List ℕ)
       whole m = unless (leb (length (storedForm k m c)) (length out)) 6 (gives (storedForm k m c))
 
-      pub encode-content : (number : ℕ) → r ≡ Checked.Refused number → refused number out ≡ encoded k shape c out
+      pub encode-content : {number : ℕ} → r ≡ Checked.Refused number → refused number out ≡ encoded k shape c out
       unfolding encoded encodeAnswer whole
-      encode-content number e =
+      encode-content {number} e =
           let s : Counted shape n = counted shape n q in
           sym
           (rw (p, s .passes)
@@ -76,7 +63,7 @@ module _ (k : Kind) (shape : List ℕ) (c : Content) (out : List ℕ) where
           let h : KeepsRules k n c = check-valid k n c r f e in
           record { kind = kind-ok k p; some = s .some; few = s .few; content = h .content; small = h .small }
 
-      pub encode-rest : r ≡ Checked.Valid → listOutcome (unless (leb (length (storedForm k n c)) (length out)) 6 (gives (storedForm k n c))) out ≡ encoded k shape c out
+      pub encode-rest : r ≡ Checked.Valid → storedOver (storedForm k n c) out ≡ encoded k shape c out
       unfolding encoded encodeAnswer whole
       encode-rest e =
           let s : Counted shape n = counted shape n q in
@@ -87,7 +74,7 @@ module _ (k : Kind) (shape : List ℕ) (c : Content) (out : List ℕ) where
 
 -- ---- refusal 6, or the stored form
 
-module _ (k : Kind) (n : ℕ) (c : Content) (h : Encodable k n c) where
+module _ {k : Kind} {n : ℕ} {c : Content} (h : Encodable k n c) where
   pub encodable-ready : Ready (k .form) n c (k .depth)
   encodable-ready = record {
     sound = h .kind .sound;
@@ -99,51 +86,28 @@ module _ (k : Kind) (n : ℕ) (c : Content) (h : Encodable k n c) where
   }
 
   pub encodable-measured : Measured (k .form) n (c .masks) (c .offsets) (k .depth)
-  encodable-measured = ready-measured (k .form) n c (k .depth) encodable-ready
+  encodable-measured = ready-measured (k .form) encodable-ready
 
   is-stored : storedForm k n c ≡ storedBy (k .form) n c (k .depth)
   is-stored = stored-by k n c (h .content) (h .some)
 
-  module _ (out : List ℕ) (need : ℕ) (e : need ≡ lengthBy (k .form) n (c .masks) (length (c .values)) (c .offsets) (k .depth)) where
+  module _ (out : List ℕ) {need : ℕ} (e : need ≡ lengthBy (k .form) n (c .masks) (length (c .values)) (c .offsets) (k .depth)) where
     need-is : length (storedBy (k .form) n c (k .depth)) ≡ need
     need-is = stored-by-long (k .form) n c (k .depth) (h .content .values-fit) ∙ sym e
 
     pub encode-room : need ≤ length out → length (storedBy (k .form) n c (k .depth)) ≤ length out
     encode-room g = subst (λ (m : ℕ). m ≤ length out) (sym need-is) g
 
-    abbrev answered : List ℕ → Outcome ℕ (List ℕ)
-    answered s = listOutcome (unless (leb (length s) (length out)) 6 (gives s)) out
-
-    pub encode-short : length out < need → refused 6 out ≡ answered (storedForm k n c)
+    pub encode-short : length out < need → refused 6 out ≡ storedOver (storedForm k n c) out
     encode-short g =
         let s : List ℕ = storedBy (k .form) n c (k .depth) in
         ap (λ (b : Bool). listOutcome (unless b 6 (gives s)) out) (sym (lt-leb (length s) (length out) (subst (λ (m : ℕ). length out < m) (sym need-is) g)))
-        ∙ ap answered (sym is-stored)
+        ∙ ap (λ (x : List ℕ). storedOver x out) (sym is-stored)
 
-    pub encode-written : need ≤ length out → (out′ : List ℕ) → out′ ≡ over (storedBy (k .form) n c (k .depth)) out
-        → _≡_ {A = Outcome ℕ (List ℕ)} (record { answer = gives need; buffers = out′ }) (answered (storedForm k n c))
-    encode-written g out′ eo =
+    pub encode-written : need ≤ length out → {out′ : List ℕ} → out′ ≡ over (storedBy (k .form) n c (k .depth)) out
+        → _≡_ {A = Outcome ℕ (List ℕ)} (record { answer = gives need; buffers = out′ }) (storedOver (storedForm k n c) out)
+    encode-written g {out′} eo =
         let s : List ℕ = storedBy (k .form) n c (k .depth) in
         ap₂ (λ (m : ℕ) (o : List ℕ). record { answer = gives m; buffers = o }) (sym need-is) eo
         ∙ ap (λ (b : Bool). listOutcome (unless b 6 (gives s)) out) (sym (le-leb (length s) (length out) (encode-room g)))
-        ∙ ap answered (sym is-stored)
-
--- ---- the stored form by the kind
-
-module _ (v : Values) (n : ℕ) (c : Content) (d : ℕ) where
-  pub by-fixed : (s : ℕ) (o : ByteOrder) → v ≡ Fixed s o → storedFrom (formOf v) n c d 0 ≡ storedBy (formOf v) n c d
-  by-fixed s o e = rw e
-
-  module _ (w : IndexWidth) (p : IndexPlace) (e : v ≡ Ragged w p) where
-    pub by-ragged : d ≢ 0 → storedFrom (formOf (Ragged w p)) n c d 0 ≡ storedBy (formOf v) n c d
-    by-ragged z = rw e (go d z)
-      where
-        go : (d : ℕ) → d ≢ 0 → storedFrom (formOf (Ragged w p)) n c d 0 ≡ storedBy (formOf (Ragged w p)) n c d
-        go zero z = absurd (z refl)
-        go (suc d) z = refl
-
-    pub by-plain : d ≡ 0 → putRagged (widthOf w) (placeOf p) (record { values = c .values; offsets = c .offsets }) ≡ storedBy (formOf v) n c d
-    by-plain z = rw (e, z)
-
-pub ready-as : (v u : Values) (n : ℕ) (c : Content) (d : ℕ) → v ≡ u → Ready (formOf v) n c d → Ready (formOf u) n c (0 + d)
-ready-as v u n c d e r = subst (λ (k : ℕ). Ready (formOf u) n c k) (sym (zero-add d)) (subst (λ (x : Values). Ready (formOf x) n c d) e r)
+        ∙ ap (λ (x : List ℕ). storedOver x out) (sym is-stored)

@@ -1,13 +1,13 @@
--- The loops that write what belongs to the cells that a level counts, run by run: g i is what cell i writes.
+-- The loops that write what belongs to the cells that a level counts, run by run.
 -- Assumes nothing.
-use mathlib.Core.Path.{_≡_, refl, sym, ap, ap₂, _∙_}
+use mathlib.Core.Path.{_≡_, refl, sym, ap, ap₂, _∙_, subst}
 use Prim.Native.Nat.{ℕ, zero, suc, _+_, _-_, _*_, _<_, _≤_}
-use native.Mathlib.Nat.{add-zero, sub-zero, suc-mul, zero-mul, mul-le-mul-right, add-mul}
+use native.Mathlib.Nat.{sub-zero, suc-mul, zero-mul, mul-le-mul-right, add-mul}
 use native.Mathlib.Numerals.{add-one}
 use native.Mathlib.Omega.{arith}
 use mathlib.Core.Bool.{Bool}
 use mathlib.Core.List.{List, [], _∷_, _++_, map, reverse, append-assoc}
-use lib.ListN.{length, take, drop, length-append, length-drop}
+use lib.ListN.{length, take, drop, length-append, length-drop, length-map}
 use lib.Seq.{drop-drop, take-add, length-take-le}
 use Rattle.array.specs.Lists.{from, joined, pieces, passing}
 use Rattle.array.specs.Buffers.{overAt}
@@ -16,7 +16,8 @@ use Rattle.array.specs.Cells.{Value}
 use Rattle.array.proofs.Lists.{Sized, map-append, map-map, map-id, length-joined, length-pieces, All-image, All-map}
 use Rattle.array.proofs.Sizes.{length-ordered}
 use Rattle.array.proofs.Laying.{Laying, laying-begins, laying-same, laying-left, laying-ends, laying-part, laying-is}
-use Rattle.encode.specs.Live.{runOf, pieceAt}
+use Rattle.encode.specs.Live.{runOf}
+use Rattle.encode.specs.Pieces.{pieceAt, orderedAt, piecesAt}
 use Rattle.encode.proofs.Runs.{run-le, passing-run, passing-end, passing-start}
 use Rattle.encode.proofs.Walk.{pieces-at}
 
@@ -24,71 +25,114 @@ pub joined-append : (xs ys : List (List ℕ)) → joined (xs ++ ys) ≡ joined x
 joined-append [] ys = refl
 joined-append (x ∷ xs) ys = ap (λ (r : List ℕ). x ++ r) (joined-append xs ys) ∙ sym (append-assoc x (joined xs) (joined ys))
 
--- ---- by runs
+-- ---- by runs: g i is what cell i writes
 
-module _ (t : ℕ → Bool) (n : ℕ) (g : ℕ → List ℕ) where
-  abbrev pub wholeOf : List ℕ
-  wholeOf = joined (map g (passing t (from 0 n)))
+abbrev wholeOf : (ℕ → Bool) → ℕ → (ℕ → List ℕ) → List ℕ
+wholeOf t n g = joined (map g (passing t (from 0 n)))
 
-  abbrev leftFrom : ℕ → List ℕ
-  leftFrom i = joined (map g (passing t (from i (n - i))))
+abbrev leftFrom : (ℕ → Bool) → ℕ → (ℕ → List ℕ) → ℕ → List ℕ
+leftFrom t n g i = joined (map g (passing t (from i (n - i))))
 
-  -- `done` bytes lie there, and the cells from i on are left
-  abbrev pub Gathering : List ℕ → ℕ → List ℕ → ℕ → ℕ → Type 0
-  Gathering d to out i done = Laying wholeOf d to out done (leftFrom i)
+-- `done` bytes lie at `to` in what was d, and the cells from i on are left
+pub record Gathering (t : ℕ → Bool) (n : ℕ) (g : ℕ → List ℕ) (d : List ℕ) (to : ℕ) (out : List ℕ) (i done : ℕ) : Type 0 where
+  pub laid : Laying (wholeOf t n g) d to out done (leftFrom t n g i)
 
-  pub gathering-begins : (d : List ℕ) (to : ℕ) → to + length wholeOf ≤ length d → Gathering d to d 0 0
-  gathering-begins d to h = laying-is (laying-begins wholeOf d to h) (ap (λ (is : List ℕ). joined (map g is)) (sym (passing-start t n)))
+pub gathering-begins : {t : ℕ → Bool} {n : ℕ} {g : ℕ → List ℕ} {d : List ℕ} {to : ℕ} → to + length (joined (map g (passing t (from 0 n)))) ≤ length d → Gathering t n g d to d 0 0
+gathering-begins {t} {n} {g} {d} {to} h = record {
+  laid = laying-is (laying-begins (wholeOf t n g) d to h) (ap (λ (is : List ℕ). joined (map g is)) (sym (passing-start t n)));
+}
 
-  module _ (d : List ℕ) (to : ℕ) (out : List ℕ) (i done : ℕ) (l : Gathering d to out i done) where
-    pub gathering-same : length out ≡ length d
-    gathering-same = laying-same wholeOf d to out done (leftFrom i) l
+module _ {t : ℕ → Bool} {n : ℕ} {g : ℕ → List ℕ} {d : List ℕ} {to : ℕ} {out : List ℕ} {i done : ℕ} (l : Gathering t n g d to out i done) where
+  pub gathering-same : length out ≡ length d
+  gathering-same = laying-same (wholeOf t n g) d to out done (leftFrom t n g i) (l .laid)
 
-    pub gathering-ends : n ≤ i → out ≡ overAt to wholeOf d
-    gathering-ends h = laying-ends wholeOf d to out done (laying-is l (ap (λ (is : List ℕ). joined (map g is)) (passing-end t i n h)))
+  pub gathering-ends : n ≤ i → out ≡ overAt to (wholeOf t n g) d
+  gathering-ends h = laying-ends (wholeOf t n g) d to out done (laying-is (l .laid) (ap (λ (is : List ℕ). joined (map g is)) (passing-end t i n h)))
 
-    -- the next run writes x
-    module _ (r : ℕ) (e : r ≡ runOf t i (n - i)) (x : List ℕ) (ex : joined (map g (from i r)) ≡ x) where
-      next : leftFrom i ≡ x ++ leftFrom (i + (r + 1))
-      next =
-          ap (λ (is : List ℕ). joined (map g is)) (passing-run t i n r e)
-          ∙ ap joined (map-append g (from i r) (passing t (from (i + (r + 1)) (n - (i + (r + 1))))))
-          ∙ joined-append (map g (from i r)) (map g (passing t (from (i + (r + 1)) (n - (i + (r + 1))))))
-          ∙ ap (λ (y : List ℕ). y ++ leftFrom (i + (r + 1))) ex
+  -- the next run writes x
+  module _ {r : ℕ} (e : r ≡ runOf t i (n - i)) {x : List ℕ} (ex : joined (map g (from i r)) ≡ x) where
+    next : leftFrom t n g i ≡ x ++ leftFrom t n g (i + (r + 1))
+    next =
+        ap (λ (is : List ℕ). joined (map g is)) (passing-run t i n r e)
+        ∙ ap joined (map-append g (from i r) (passing t (from (i + (r + 1)) (n - (i + (r + 1))))))
+        ∙ joined-append (map g (from i r)) (map g (passing t (from (i + (r + 1)) (n - (i + (r + 1))))))
+        ∙ ap (λ (y : List ℕ). y ++ leftFrom t n g (i + (r + 1))) ex
 
-      pub gathering-room : to + done + length x ≤ length out
-      gathering-room =
-          omega (arith, gathering-same, l .room, laying-left wholeOf d to out done (leftFrom i) l, ap length next, length-append x (leftFrom (i + (r + 1))))
+    pub gathering-room : to + done + length x ≤ length out
+    gathering-room =
+        omega (
+          arith,
+          gathering-same,
+          l .laid .room,
+          laying-left (wholeOf t n g) d to out done (leftFrom t n g i) (l .laid),
+          ap length next,
+          length-append x (leftFrom t n g (i + (r + 1))),
+        )
 
-      pub gathering-more : (out′ : List ℕ) → out′ ≡ overAt (to + done) x out → (k : ℕ) → length x ≡ k → Gathering d to out′ (i + (r + 1)) (done + k)
-      gathering-more out′ eo k ek =
-          laying-part wholeOf d to out done x (leftFrom (i + (r + 1))) (laying-is l next) out′ eo (done + k) (ap (λ (m : ℕ). done + m) (sym ek))
+    pub gathering-more : {out′ : List ℕ} → out′ ≡ overAt (to + done) x out → {k : ℕ} → length x ≡ k → Gathering t n g d to out′ (i + (r + 1)) (done + k)
+    gathering-more {out′} eo {k} ek = record {
+      laid = laying-part (wholeOf t n g) d to out done x (leftFrom t n g (i + (r + 1))) (laying-is (l .laid) next) out′ eo (done + k) (ap (λ (m : ℕ). done + m) (sym ek));
+    }
 
--- ---- cells of one size
+-- ---- pieces of one size
 
-module _ (o : Order) (at k : ℕ) (s : List ℕ) where
-  abbrev pub orderedAt : ℕ → List ℕ
-  orderedAt i = ordered o (pieceAt at k s i)
+-- the pieces of a run lie end to end
+run-pieces : (o : Order) (at k : ℕ) (s : List ℕ) (i r : ℕ) → piecesAt o at k s (from i r) ≡ joined (map (ordered o) (pieces k r (drop (at + i * k) s)))
+run-pieces o at k s i r = ap joined (sym (map-map (pieceAt at k s) (ordered o) (from i r)) ∙ ap (map (ordered o)) (sym (pieces-at at k r i s)))
 
-  -- the cells of a run lie end to end
-  pub run-pieces : (i r : ℕ) → joined (map orderedAt (from i r)) ≡ joined (map (ordered o) (pieces k r (drop (at + i * k) s)))
-  run-pieces i r = ap joined (sym (map-map (pieceAt at k s) (ordered o) (from i r)) ∙ ap (map (ordered o)) (sym (pieces-at at k r i s)))
-
-pub sized-whole : (k n : ℕ) (s : List ℕ) → n * k ≤ length s → Sized k (pieces k n s)
+sized-whole : (k n : ℕ) (s : List ℕ) → n * k ≤ length s → Sized k (pieces k n s)
 sized-whole k zero s h = tt
 sized-whole k (suc n) s h = (length-take-le k s (omega (arith, suc-mul n k)), sized-whole k n (drop k s) (omega (arith, suc-mul n k, length-drop k s)))
 
-pub sized-ordered : (k : ℕ) (o : Order) (vs : List Value) → Sized k vs → Sized k (map (ordered o) vs)
+sized-ordered : (k : ℕ) (o : Order) (vs : List Value) → Sized k vs → Sized k (map (ordered o) vs)
 sized-ordered k o vs p = All-image (λ v. length v ≡ k) (ordered o) vs (All-map (λ v. length v ≡ k) (λ v. length (ordered o v) ≡ k) (λ v e. length-ordered o v ∙ e) vs p)
 
-pub length-run : (o : Order) (k n : ℕ) (s : List ℕ) → n * k ≤ length s → length (joined (map (ordered o) (pieces k n s))) ≡ n * k
+length-run : (o : Order) (k n : ℕ) (s : List ℕ) → n * k ≤ length s → length (joined (map (ordered o) (pieces k n s))) ≡ n * k
 length-run o k n s h =
     length-joined k (map (ordered o) (pieces k n s)) (sized-ordered k o (pieces k n s) (sized-whole k n s h))
-    ∙ ap (λ (m : ℕ). m * k) (lib.ListN.length-map (pieces k n s) (ordered o) ∙ length-pieces k n s)
+    ∙ ap (λ (m : ℕ). m * k) (length-map (pieces k n s) (ordered o) ∙ length-pieces k n s)
 
--- in little order they are copied
-pub joined-little : (k n : ℕ) (s : List ℕ) → take (n * k) s ≡ joined (map (ordered little) (pieces k n s))
-joined-little k n s = go n s ∙ ap joined (sym (map-id (pieces k n s)))
+-- i pieces and then r more, of n
+rows-fit : (i r n k : ℕ) → i + r ≤ n → i * k + r * k ≤ n * k
+rows-fit i r n k h = omega (arith, mul-le-mul-right {m = i + r} {n = n} k h, add-mul i r k)
+
+pub record Storing (o : Order) (at k : ℕ) (s : List ℕ) (t : ℕ → Bool) (n : ℕ) (d : List ℕ) (to : ℕ) (out : List ℕ) (i done : ℕ) : Type 0 where
+  pub source : at + n * k ≤ length s
+  pub gathers : Gathering t n (orderedAt o at k s) d to out i done
+
+pub storing-begins : {o : Order} {at k : ℕ} {s : List ℕ} {t : ℕ → Bool} {n : ℕ} {d : List ℕ} {to : ℕ}
+    → at + n * k ≤ length s → to + length (piecesAt o at k s (passing t (from 0 n))) ≤ length d → Storing o at k s t n d to d 0 0
+storing-begins q h = record { source = q; gathers = gathering-begins h }
+
+module _ {o : Order} {at k : ℕ} {s : List ℕ} {t : ℕ → Bool} {n : ℕ} {d : List ℕ} {to : ℕ} {out : List ℕ} {i done : ℕ} (l : Storing o at k s t n d to out i done) where
+  pub storing-same : length out ≡ length d
+  storing-same = gathering-same (l .gathers)
+
+  pub storing-ends : n ≤ i → out ≡ overAt to (piecesAt o at k s (passing t (from 0 n))) d
+  storing-ends h = gathering-ends (l .gathers) h
+
+  module _ {r : ℕ} (e : r ≡ runOf t i (n - i)) (h : i < n) where
+    pub storing-within : i + r ≤ n
+    storing-within = omega (arith, run-le t i (n - i))
+
+    pub storing-source : at + i * k + r * k ≤ length s
+    storing-source = omega (arith, l .source, rows-fit i r n k storing-within)
+
+    long : length (joined (map (ordered o) (pieces k r (drop (at + i * k) s)))) ≡ r * k
+    long = length-run o k r (drop (at + i * k) s) (omega (arith, length-drop (at + i * k) s, storing-source))
+
+    pub storing-room : to + done + r * k ≤ length out
+    storing-room = omega (arith, gathering-room (l .gathers) e (run-pieces o at k s i r), long)
+
+    pub storing-more : {out′ : List ℕ} → out′ ≡ overAt (to + done) (joined (map (ordered o) (pieces k r (drop (at + i * k) s)))) out
+        → Storing o at k s t n d to out′ (i + (r + 1)) (done + r * k)
+    storing-more eo = record { source = l .source; gathers = gathering-more (l .gathers) e (run-pieces o at k s i r) eo long }
+
+-- ---- a run in little order: it is copied
+
+pub run-little : (to k n : ℕ) (s d : List ℕ) {o : Order} → o ≡ little → overAt to (take (n * k) s) d ≡ overAt to (joined (map (ordered o) (pieces k n s))) d
+run-little to k n s d {o} e =
+    ap (λ (x : List ℕ). overAt to x d) (go n s ∙ ap joined (sym (map-id (pieces k n s))) ∙ ap (λ (x : Order). joined (map (ordered x) (pieces k n s))) (sym e))
   where
     go : (n : ℕ) (s : List ℕ) → take (n * k) s ≡ joined (pieces k n s)
     go zero s = ap (λ (m : ℕ). take m s) (zero-mul k)
@@ -96,65 +140,59 @@ joined-little k n s = go n s ∙ ap joined (sym (map-id (pieces k n s)))
         let q : suc n * k ≡ k + n * k = omega (arith, suc-mul n k) in
         ap (λ (m : ℕ). take m s) q ∙ take-add k (n * k) s ∙ ap (λ (r : List ℕ). take k s ++ r) (go n (drop k s))
 
--- i cells and then r more, of n
-pub rows-fit : (i r n k : ℕ) → i + r ≤ n → i * k + r * k ≤ n * k
-rows-fit i r n k h = omega (arith, mul-le-mul-right {m = i + r} {n = n} k h, add-mul i r k)
+-- ---- a run in big order: cell by cell
 
-module _ (t : ℕ → Bool) (n : ℕ) (o : Order) (at k : ℕ) (s : List ℕ) (q : at + n * k ≤ length s) (d : List ℕ) (to : ℕ) (out : List ℕ) (i done : ℕ)
-    (l : Gathering t n (orderedAt o at k s) d to out i done) (r : ℕ) (e : r ≡ runOf t i (n - i)) (h : i < n) where
-  pub run-source : at + i * k + r * k ≤ length s
-  run-source = omega (arith, rows-fit i r n k (omega (arith, run-le t i (n - i))))
+abbrev bigRun : ℕ → ℕ → List ℕ → List ℕ
+bigRun k n s = joined (map (ordered big) (pieces k n s))
 
-  long : length (joined (map (ordered o) (pieces k r (drop (at + i * k) s)))) ≡ r * k
-  long = length-run o k r (drop (at + i * k) s) (omega (arith, length-drop (at + i * k) s, run-source))
+pub run-big : (to k n : ℕ) (s d : List ℕ) {o : Order} → o ≡ big → overAt to (joined (map (ordered big) (pieces k n s))) d ≡ overAt to (joined (map (ordered o) (pieces k n s))) d
+run-big to k n s d e = ap (λ (x : Order). overAt to (joined (map (ordered x) (pieces k n s))) d) (sym e)
 
-  pub run-room : to + done + r * k ≤ length out
-  run-room = omega (arith, gathering-room t n (orderedAt o at k s) d to out i done l r e _ (run-pieces o at k s i r), long)
+-- j cells of the run lie there
+pub record Reversing (d : List ℕ) (to : ℕ) (s : List ℕ) (at k n : ℕ) (out : List ℕ) (j : ℕ) : Type 0 where
+  pub source : at + n * k ≤ length s
+  pub room : to + n * k ≤ length d
+  pub laid : Laying (bigRun k n (drop at s)) d to out (j * k) (bigRun k (n - j) (drop (at + j * k) s))
 
-  pub run-more : (out′ : List ℕ) → out′ ≡ overAt (to + done) (joined (map (ordered o) (pieces k r (drop (at + i * k) s)))) out
-      → Gathering t n (orderedAt o at k s) d to out′ (i + (r + 1)) (done + r * k)
-  run-more out′ eo = gathering-more t n (orderedAt o at k s) d to out i done l r e _ (run-pieces o at k s i r) out′ eo (r * k) long
+pub reversing-begins : {d : List ℕ} {to : ℕ} {s : List ℕ} {at k n : ℕ} → to + n * k ≤ length d → at + n * k ≤ length s → Reversing d to s at k n d 0
+reversing-begins {d} {to} {s} {at} {k} {n} p q =
+    let e : at ≡ at + 0 * k = omega (arith, zero-mul k) in
+    record {
+      source = q;
+      room = p;
+      laid = subst (λ (m : ℕ). Laying (bigRun k n (drop at s)) d to d m (bigRun k (n - 0) (drop (at + 0 * k) s))) (sym (zero-mul k))
+          (laying-is (laying-begins (bigRun k n (drop at s)) d to (omega (arith, length-run big k n (drop at s) (omega (arith, length-drop at s)))))
+          (ap₂ (λ (m a : ℕ). bigRun k m (drop a s)) (sym (sub-zero n)) e));
+    }
 
--- ---- a run in big order, cell by cell
+module _ {d : List ℕ} {to : ℕ} {s : List ℕ} {at k n : ℕ} {out : List ℕ} {j : ℕ} (l : Reversing d to s at k n out j) where
+  pub reversing-same : length out ≡ length d
+  reversing-same = laying-same (bigRun k n (drop at s)) d to out (j * k) (bigRun k (n - j) (drop (at + j * k) s)) (l .laid)
 
-abbrev pub Reversing : List ℕ → ℕ → List ℕ → ℕ → ℕ → ℕ → List ℕ → ℕ → Type 0
-Reversing d to s at k n out j = Laying (joined (map (ordered big) (pieces k n (drop at s)))) d to out (j * k) (joined (map (ordered big) (pieces k (n - j) (drop (at + j * k) s))))
+  pub reversing-ends : n ≤ j → out ≡ overAt to (bigRun k n (drop at s)) d
+  reversing-ends h =
+      let e : n - j ≡ 0 = omega arith in
+      laying-ends (bigRun k n (drop at s)) d to out (j * k) (laying-is (l .laid) (ap (λ (m : ℕ). bigRun k m (drop (at + j * k) s)) e))
 
-module _ (d : List ℕ) (to : ℕ) (s : List ℕ) (at k n : ℕ) (p : to + n * k ≤ length d) (q : at + n * k ≤ length s) where
-  pub reversing-begins : Reversing d to s at k n d 0
-  reversing-begins =
-      let want : List ℕ = joined (map (ordered big) (pieces k n (drop at s))) in
-      let e : 0 ≡ 0 * k = sym (zero-mul k) in
-      let e2 : at ≡ at + 0 * k = omega (arith, zero-mul k) in
-      ap-laying want e
-      (laying-is (laying-begins want d to (omega (arith, length-run big k n (drop at s) (omega (arith, length-drop at s)))))
-      (ap₂ (λ (m a : ℕ). joined (map (ordered big) (pieces k m (drop a s)))) (sym (sub-zero n)) e2))
-    where
-      ap-laying : {out r : List ℕ} {i j : ℕ} (want : List ℕ) → i ≡ j → Laying want d to out i r → Laying want d to out j r
-      ap-laying {out} {r} want e l = rw (sym e) l
+  module _ (h : j < n) where
+    pub reversing-fits : j * k + k ≤ n * k
+    reversing-fits = omega (arith, mul-le-mul-right {m = suc j} {n = n} k (omega arith), suc-mul j k)
 
-  module _ (out : List ℕ) (j : ℕ) (l : Reversing d to s at k n out j) where
-    pub reversing-same : length out ≡ length d
-    reversing-same = laying-same (joined (map (ordered big) (pieces k n (drop at s)))) d to out (j * k) (joined (map (ordered big) (pieces k (n - j) (drop (at + j * k) s)))) l
-
-    pub reversing-ends : n ≤ j → out ≡ overAt to (joined (map (ordered big) (pieces k n (drop at s)))) d
-    reversing-ends h =
-        let e : n - j ≡ 0 = omega arith in
-        laying-ends (joined (map (ordered big) (pieces k n (drop at s)))) d to out (j * k)
-        (laying-is l (ap (λ (m : ℕ). joined (map (ordered big) (pieces k m (drop (at + j * k) s)))) e))
-
-    module _ (h : j < n) where
-      pub cell-fits : j * k + k ≤ n * k
-      cell-fits = omega (arith, mul-le-mul-right {m = suc j} {n = n} k (omega arith), suc-mul j k)
-
-      pub reversing-more : (out′ : List ℕ) → out′ ≡ overAt (to + j * k) (reverse (take k (drop (at + j * k) s))) out → Reversing d to s at k n out′ (j + 1)
-      reversing-more out′ eo =
-          let x : List ℕ = reverse (take k (drop (at + j * k) s)) in
-          let e1 : n - j ≡ suc (n - (j + 1)) = omega arith in
-          let e2 : at + j * k + k ≡ at + (j + 1) * k = omega (arith, suc-mul j k, ap (λ (m : ℕ). m * k) (add-one j)) in
-          let e3 : (j + 1) * k ≡ j * k + length x = omega (arith, suc-mul j k, ap (λ (m : ℕ). m * k) (add-one j), length-ordered big (take k (drop (at + j * k) s)), length-take-le k (drop (at + j * k) s) (omega (arith, length-drop (at + j * k) s, cell-fits))) in
-          laying-part (joined (map (ordered big) (pieces k n (drop at s)))) d to out (j * k) x (joined (map (ordered big) (pieces k (n - (j + 1)) (drop (at + (j + 1) * k) s))))
-          (laying-is l
-          (ap (λ (m : ℕ). joined (map (ordered big) (pieces k m (drop (at + j * k) s)))) e1
-          ∙ ap (λ (r : List ℕ). x ++ joined (map (ordered big) (pieces k (n - (j + 1)) r))) (drop-drop k (at + j * k) s ∙ ap (λ (m : ℕ). drop m s) e2)))
-          out′ eo ((j + 1) * k) e3
+    pub reversing-more : {out′ : List ℕ} → out′ ≡ overAt (to + j * k) (reverse (take k (drop (at + j * k) s))) out → Reversing d to s at k n out′ (j + 1)
+    reversing-more {out′} eo =
+        let x : List ℕ = reverse (take k (drop (at + j * k) s)) in
+        let e1 : n - j ≡ suc (n - (j + 1)) = omega arith in
+        let next : (j + 1) * k ≡ j * k + k = ap (λ (m : ℕ). m * k) (add-one j) ∙ suc-mul j k in
+        let e2 : at + j * k + k ≡ at + (j + 1) * k = omega arith in
+        let e3 : (j + 1) * k ≡ j * k + length x =
+        omega (arith, length-ordered big (take k (drop (at + j * k) s)), length-take-le k (drop (at + j * k) s) (omega (arith, l .source, length-drop (at + j * k) s, reversing-fits))) in
+        record {
+          source = l .source;
+          room = l .room;
+          laid =
+              laying-part (bigRun k n (drop at s)) d to out (j * k) x (bigRun k (n - (j + 1)) (drop (at + (j + 1) * k) s))
+              (laying-is (l .laid)
+              (ap (λ (m : ℕ). bigRun k m (drop (at + j * k) s)) e1
+              ∙ ap (λ (r : List ℕ). x ++ bigRun k (n - (j + 1)) r) (drop-drop k (at + j * k) s ∙ ap (λ (m : ℕ). drop m s) e2)))
+              out′ eo ((j + 1) * k) e3;
+        }

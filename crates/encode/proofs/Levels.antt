@@ -1,33 +1,31 @@
 -- A content from a level inwards: what it is where no cell is left, at the innermost, and as a frame; and how long it is.
 -- Assumes nothing.
 use mathlib.Core.Path.{_≡_, refl, sym, ap, ap₂, _∙_}
-use mathlib.Core.Logic.{_≢_, _⊎_, inl, inr}
+use mathlib.Core.Logic.{_≢_, inl, inr}
 use Prim.Native.Nat.{ℕ, zero, suc, _+_, _-_, _*_, _<_, _≤_}
-use native.Mathlib.Nat.{add-zero, suc-mul, mul-le-mul, mul-le-mul-right, mul-one, le-trans, le-refl}
+use native.Mathlib.Nat.{suc-mul, mul-le-mul, mul-le-mul-right, mul-one, le-trans}
 use native.Mathlib.Numerals.{add-one, sub-one}
 use native.Mathlib.Omega.{arith}
 use mathlib.Core.List.{List, [], _∷_, _++_, map}
-use lib.ListN.{length, take, drop, getD, length-map}
-use lib.Seq.{drop-cons}
+use lib.ListN.{length, take, drop, getD, length-drop, length-map}
+use lib.Seq.{drop-cons, length-take-le}
 use Rattle.array.specs.Limits.{mostBytes, mostCells}
-use Rattle.array.specs.Lists.{from, joined, passing, All}
-use Rattle.array.specs.Kind.{Kind, Form, fixed, ragged, FormOk, Order, little, ordered}
+use Rattle.array.specs.Lists.{from, joined, All}
+use Rattle.array.specs.Kind.{Form, fixed, ragged, FormOk, Order, little, ordered}
 use Rattle.array.specs.Cells.{Value}
 use Rattle.array.specs.Offsets.{last}
 use Rattle.array.specs.Content.{Content, ValuesOk}
-use Rattle.array.proofs.Lists.{Sized, map-map, length-joined, length-from, All-image, All-map}
+use Rattle.array.proofs.Lists.{map-map, length-joined, All-image}
 use Rattle.array.proofs.Geometry.{All-from}
 use Rattle.codec.specs.Frame.{wrap, unlessNone}
-use Rattle.codec.specs.Ragged.{putRagged}
 use Rattle.codec.specs.Values.{putValues}
-use Rattle.codec.specs.Length.{raggedLength}
 use Rattle.codec.proofs.Frames.{length-wrap}
 use Rattle.codec.proofs.Values.{ragged-length, length-joined-ordered}
-use Rattle.encode.specs.Live.{maskAt, liveTest, liveAt, pieceAt, sliceAt, valueAt, spansOf}
-use Rattle.encode.specs.Ready.{OffsetsOk, Measured, Ready}
-use Rattle.encode.specs.Stored.{storedFrom, frameFrom, storedBy, orNothing, valuesLengthAt, lengthFrom, lengthBy}
+use Rattle.encode.specs.Live.{maskAt, liveTest, liveAt}
+use Rattle.encode.specs.Pieces.{pieceAt, valueAt, piecesAt, spansOf}
+use Rattle.encode.specs.Ready.{MeasuresOk, Planes}
+use Rattle.encode.specs.Stored.{valuesFrom, storedFrom, frameFrom, storedBy, orNothing, valuesLengthAt, lengthFrom, lengthBy}
 use Rattle.encode.proofs.Runs.{All-passing, live-le}
-use Rattle.encode.proofs.Gathering.{orderedAt, sized-ordered}
 use Rattle.encode.proofs.Spans.{spans-le, last-le}
 use Rattle.encode.proofs.RaggedLaws.{ragged-long}
 
@@ -47,7 +45,7 @@ module _ (f : Form) (n : ℕ) (c : Content) (l : ℕ) where
   stored-none zero e = unless-none (λ is. putValues f (map (valueAt f c) is)) (liveAt n (c .masks) l) e
   stored-none (suc d) e = unless-none (λ is. wrap (map (maskAt n (c .masks) l) is) (storedFrom f n c d (suc l))) (liveAt n (c .masks) l) e
 
-  pub stored-values : (d : ℕ) → d ≡ 0 → length (liveAt n (c .masks) l) ≢ 0 → storedFrom f n c d l ≡ putValues f (map (valueAt f c) (liveAt n (c .masks) l))
+  pub stored-values : (d : ℕ) → d ≡ 0 → length (liveAt n (c .masks) l) ≢ 0 → storedFrom f n c d l ≡ valuesFrom f n c l
   unfolding storedFrom
   stored-values d z e = rw z (unless-some (λ is. putValues f (map (valueAt f c) is)) (liveAt n (c .masks) l) e)
 
@@ -63,38 +61,45 @@ module _ (f : Form) (n : ℕ) (c : Content) (l : ℕ) where
       length-wrap (map (maskAt n (c .masks) l) (liveAt n (c .masks) l)) (storedFrom f n c d (l + 1))
       ∙ ap (λ (m : ℕ). 16 + m + length (storedFrom f n c d (l + 1))) (length-map (liveAt n (c .masks) l) (maskAt n (c .masks) l))
 
--- ---- mask bytes are cells of size 1
+-- ---- mask bytes are pieces of size 1
 
 mask-piece : (at i : ℕ) (s : List ℕ) → at + i < length s → getD s (at + i) 0 ∷ [] ≡ pieceAt at 1 s i
 mask-piece at i s h =
     ap (λ (r : List ℕ). take 1 r) (sym (drop-cons s (at + i) 0 h)) ∙ ap (λ (m : ℕ). take 1 (drop (at + m) s)) (sym (mul-one i))
 
-pub mask-pieces : (n : ℕ) (masks : List ℕ) (l : ℕ) → (l + 1) * n ≤ length masks
-    → joined (map (orderedAt little (l * n) 1 masks) (liveAt n masks l)) ≡ map (maskAt n masks l) (liveAt n masks l)
-mask-pieces n masks l h =
-    go (liveAt n masks l) (All-passing (liveTest n masks l) (λ i. i < n) (from 0 n) (All-from (λ i. i < n) 0 n (λ i a b. omega arith)))
-  where
-    go : (is : List ℕ) → All (λ i. i < n) is → joined (map (pieceAt (l * n) 1 masks) is) ≡ map (maskAt n masks l) is
-    go [] p = refl
-    go (i ∷ is) p =
-        ap₂ (λ (a b : List ℕ). a ++ b) (sym (mask-piece (l * n) i masks (omega (arith, suc-mul l n, ap (λ (m : ℕ). m * n) (add-one l), p .0)))) (go is (p .1))
+module _ {n : ℕ} {masks : List ℕ} (l : ℕ) (h : Planes n masks (l + 1)) where
+  one-more : l * n + n ≤ length masks
+  one-more = omega (arith, h .planes, suc-mul l n, ap (λ (m : ℕ). m * n) (add-one l))
 
-pub mask-room : (n : ℕ) (masks : List ℕ) (l : ℕ) → (l + 1) * n ≤ length masks → l * n + n * 1 ≤ length masks
-mask-room n masks l h = omega (arith, suc-mul l n, ap (λ (m : ℕ). m * n) (add-one l), mul-one n)
+  pub mask-planes : Planes n masks l
+  mask-planes = record { few = h .few; planes = omega (arith, one-more) }
+
+  pub mask-source : l * n + n * 1 ≤ length masks
+  mask-source = omega (arith, one-more, mul-one n)
+
+  pub mask-pieces : piecesAt little (l * n) 1 masks (liveAt n masks l) ≡ map (maskAt n masks l) (liveAt n masks l)
+  mask-pieces = go (liveAt n masks l) (All-passing (liveTest n masks l) (λ i. i < n) (from 0 n) (All-from (λ i. i < n) 0 n (λ i a b. omega arith)))
+    where
+      go : (is : List ℕ) → All (λ i. i < n) is → joined (map (pieceAt (l * n) 1 masks) is) ≡ map (maskAt n masks l) is
+      go [] p = refl
+      go (i ∷ is) p = ap₂ (λ (a b : List ℕ). a ++ b) (sym (mask-piece (l * n) i masks (omega (arith, one-more, p .0)))) (go is (p .1))
+
+  pub mask-long : length (piecesAt little (l * n) 1 masks (liveAt n masks l)) ≡ length (liveAt n masks l)
+  mask-long = ap length mask-pieces ∙ length-map (liveAt n masks l) (maskAt n masks l)
 
 -- ---- values of one size
 
-pub fixed-put : (k : ℕ) (o : Order) (c : Content) (is : List ℕ) → joined (map (orderedAt o 0 k (c .values)) is) ≡ putValues (fixed k o) (map (valueAt (fixed k o) c) is)
+pub fixed-put : (k : ℕ) (o : Order) (c : Content) (is : List ℕ) → piecesAt o 0 k (c .values) is ≡ putValues (fixed k o) (map (valueAt (fixed k o) c) is)
 unfolding putValues
 fixed-put k o c is = ap joined (sym (map-map (pieceAt 0 k (c .values)) (ordered o) is))
 
 piece-long : (k n i : ℕ) (s : List ℕ) → i < n → length s ≡ n * k → length (pieceAt 0 k s i) ≡ k
 piece-long k n i s h e =
-    lib.Seq.length-take-le k (drop (0 + i * k) s)
-    (omega (arith, lib.ListN.length-drop (0 + i * k) s, mul-le-mul-right {m = suc i} {n = n} k h, suc-mul i k))
+    length-take-le k (drop (0 + i * k) s)
+    (omega (arith, length-drop (0 + i * k) s, mul-le-mul-right {m = suc i} {n = n} k h, suc-mul i k))
 
 pub fixed-long : (k n : ℕ) (o : Order) (c : Content) (l : ℕ) → length (c .values) ≡ n * k
-    → length (putValues (fixed k o) (map (valueAt (fixed k o) c) (liveAt n (c .masks) l))) ≡ length (liveAt n (c .masks) l) * k
+    → length (valuesFrom (fixed k o) n c l) ≡ length (liveAt n (c .masks) l) * k
 unfolding putValues
 fixed-long k n o c l e =
     let is : List ℕ = liveAt n (c .masks) l in
@@ -109,10 +114,10 @@ fixed-long k n o c l e =
 -- ---- the written length
 
 pub values-long : (f : Form) (n : ℕ) (c : Content) (l : ℕ) → ValuesOk f n c
-    → length (putValues f (map (valueAt f c) (liveAt n (c .masks) l))) ≡ valuesLengthAt f (c .offsets) (liveAt n (c .masks) l)
+    → length (valuesFrom f n c l) ≡ valuesLengthAt f (c .offsets) (liveAt n (c .masks) l)
 values-long (fixed k o) n c l p = fixed-long k n o c l (p .0)
 values-long (ragged w q) n c l p =
-    ragged-long w q n (c .masks) (c .offsets) (c .values) l (p .0) (p .1) (p .2)
+    ragged-long w q (c .masks) l (record { counted = p .0; rising = p .1 }) (c .values) (p .2) {count = length (liveAt n (c .masks) l)} refl refl refl
     ∙ ap (λ (m : ℕ). 8 + w * m + spansOf (c .offsets) (liveAt n (c .masks) l)) (add-one (length (liveAt n (c .masks) l)))
 
 or-nothing : {A : Type 0} (f : List A → List ℕ) (is : List A) (x : ℕ) → length (f is) ≡ x → length (unlessNone f is) ≡ orNothing (length is) x
@@ -177,7 +182,7 @@ narrow (fixed k o) p = tt
 narrow (ragged w q) (inl e) = omega arith
 narrow (ragged w q) (inr e) = omega arith
 
-pub values-small : (f : Form) (n : ℕ) (masks os : List ℕ) (l : ℕ) → NarrowOk f → n ≤ mostCells → OffsetsOk f n os → valuesLengthAt f os (liveAt n masks l) ≤ 17301520
+pub values-small : (f : Form) (n : ℕ) (masks os : List ℕ) (l : ℕ) → NarrowOk f → n ≤ mostCells → MeasuresOk f n os → valuesLengthAt f os (liveAt n masks l) ≤ 17301520
 unfolding mostCells mostBytes
 values-small (fixed k o) n masks os l w h p = le-trans (mul-le-mul {n₁ = length (liveAt n masks l)} {n₂ = 65536} (omega (arith, live-le n masks l)) p) (omega arith)
 values-small (ragged w q) n masks os l nw h p =
@@ -186,7 +191,7 @@ values-small (ragged w q) n masks os l nw h p =
     let g : getD os (0 + n) 0 ≤ last os = last-le os (p .1) n (0 + n) (p .0) (omega arith) in
     omega (arith, live-le n masks l, spans-le os (p .1) (liveTest n masks l) 0 n (omega (arith, p .0)), p .2)
 
-pub length-small : (f : Form) (n : ℕ) (masks os : List ℕ) → NarrowOk f → n ≤ mostCells → OffsetsOk f n os → (d l : ℕ) → lengthFrom f n masks os d l ≤ d * 65552 + 17301520
+pub length-small : (f : Form) (n : ℕ) (masks os : List ℕ) → NarrowOk f → n ≤ mostCells → MeasuresOk f n os → (d l : ℕ) → lengthFrom f n masks os d l ≤ d * 65552 + 17301520
 unfolding lengthFrom mostCells
 length-small f n masks os w h p zero l = or-le (length (liveAt n masks l)) (valuesLengthAt f os (liveAt n masks l)) (0 * 65552 + 17301520) (omega (arith, values-small f n masks os l w h p))
 length-small f n masks os w h p (suc d) l =

@@ -1,20 +1,19 @@
 -- Parts laid over an output one after the other, and where they come to lie.
 -- Assumes nothing.
-use mathlib.Core.Path.{_≡_, refl, sym, ap, ap₂, _∙_}
-use Prim.Native.Nat.{ℕ, suc, _+_, _*_, _≤_}
-use native.Mathlib.Nat.{zero-add}
+use mathlib.Core.Path.{_≡_, sym, ap, ap₂, _∙_}
+use Prim.Native.Nat.{ℕ, _+_, _≤_}
 use native.Mathlib.Omega.{arith}
-use mathlib.Core.List.{List, [], _∷_, _++_, append-assoc, append-nil}
+use mathlib.Core.List.{List, [], _++_, append-assoc, append-nil}
 use lib.ListN.{length, take, drop, length-append, take-append-drop}
-use lib.Seq.{take-at, drop-at, take-take, length-take-le, take-append-le, drop-drop}
+use lib.Seq.{drop-at, take-take, length-take-le, take-append-le}
 use Rattle.array.specs.Buffers.{over, overAt}
 use Rattle.array.specs.Bytes.{le}
 use Rattle.array.specs.Kind.{Place, atStart, atEnd}
 use Rattle.array.specs.Content.{RaggedContent}
 use Rattle.array.proofs.Bytes.{length-le}
-use Rattle.array.proofs.Over.{over-again, over-at-length}
+use Rattle.array.proofs.Over.{over-again}
 use Rattle.codec.specs.Frame.{wrap}
-use Rattle.codec.specs.Ragged.{put, indexOf, putRagged}
+use Rattle.codec.specs.Ragged.{indexOf, putRagged}
 use Rattle.encode.specs.Place.{dataAt, indexAt, lengthAt}
 
 -- what is laid behind
@@ -47,12 +46,16 @@ pub at-none : (at : ℕ) (out : List ℕ) → at ≤ length out → out ≡ over
 at-none at out h =
     sym (ap (λ (x : List ℕ). over x out) (append-nil (take at out)) ∙ ap (λ (m : ℕ). take at out ++ drop m out) (length-take-le at out h) ∙ take-append-drop at out)
 
+-- the same bytes under another name
+pub laid-as : {o x y : List ℕ} (at : ℕ) (out : List ℕ) → o ≡ overAt at x out → x ≡ y → o ≡ overAt at y out
+laid-as at out e f = e ∙ ap (λ (s : List ℕ). overAt at s out) f
+
 -- a frame: the content, then its mask, then the two lengths
-pub frame-laid : (at n m : ℕ) (out o1 o2 o3 o4 mask content : List ℕ) → length mask ≡ n → length content ≡ m → at + (16 + n + m) ≤ length out
+pub frame-laid : (at : ℕ) (mask content out : List ℕ) {n m : ℕ} {o1 o2 o3 o4 : List ℕ} → length mask ≡ n → length content ≡ m → at + (16 + n + m) ≤ length out
     → o1 ≡ overAt (at + 16 + n) content out → o2 ≡ overAt (at + 16) mask o1 → o3 ≡ overAt (at + 8) (le 8 m) o2 → o4 ≡ overAt at (le 8 n) o3
     → o4 ≡ overAt at (wrap mask content) out
 unfolding wrap
-frame-laid at n m out o1 o2 o3 o4 mask content en em h e1 e2 e3 e4 =
+frame-laid at mask content out {n} {m} {o1} {o2} {o3} {o4} en em h e1 e2 e3 e4 =
     let q2 : o2 ≡ overAt (at + 16) (mask ++ content) out = e2 ∙ ap (overAt (at + 16) mask) e1 ∙ at-front (at + 16) mask content out (at + 16 + n) (omega arith) (omega arith) in
     let q3 : o3 ≡ overAt (at + 8) (le 8 m ++ (mask ++ content)) out =
     e3 ∙ ap (overAt (at + 8) (le 8 m)) q2 ∙ at-front (at + 8) (le 8 m) (mask ++ content) out (at + 16) (omega (arith, length-le 8 m)) (omega arith) in

@@ -2,27 +2,28 @@
 -- Assumes nothing.
 use mathlib.Core.Path.{_≡_, refl, sym, ap, ap₂, _∙_}
 use Prim.Native.Nat.{ℕ, zero, suc, _+_, _-_, _*_, _<_, _≤_}
-use native.Mathlib.Nat.{add-zero, sub-self, le-refl, le-trans, suc-mul, zero-mul, sub-zero, zero-add}
+use native.Mathlib.Nat.{add-zero, sub-zero, zero-add, le-refl, le-trans, mul-comm}
 use native.Mathlib.Numerals.{add-one}
 use native.Mathlib.Omega.{arith}
 use mathlib.Core.Bool.{Bool, true, false}
 use mathlib.Core.List.{List, [], _∷_, _++_, map}
-use lib.ListN.{length, take, drop, getD, length-append, length-drop, length-map, drop-of-length-le}
+use lib.ListN.{length, take, drop, getD, length-append, length-drop, drop-of-length-le}
 use lib.Seq.{drop-drop, take-add, length-take-le, drop-cons}
 use Rattle.array.specs.Lists.{pick, from, joined, passing, All}
 use Rattle.array.specs.Buffers.{overAt}
 use Rattle.array.specs.Bytes.{le}
 use Rattle.array.specs.Offsets.{last, Rising, RisingFrom, ends}
-use Rattle.array.specs.Cells.{Value}
 use Rattle.array.proofs.Bytes.{length-le}
 use Rattle.array.proofs.Lists.{map-append, length-from}
 use Rattle.array.proofs.CheckLaws.{last-at}
 use Rattle.array.proofs.Laying.{Laying, laying-begins, laying-same, laying-left, laying-ends, laying-part, laying-is}
 use Rattle.codec.specs.Ragged.{indexOf}
 use Rattle.codec.proofs.Ragged.{length-index}
-use Rattle.encode.specs.Live.{runOf, spanAt, sliceAt, spansOf, endsAt}
+use Rattle.encode.specs.Live.{runOf}
+use Rattle.encode.specs.Pieces.{spanAt, sliceAt, slicesAt, spansOf, endsAt}
+use Rattle.encode.specs.Ready.{Offsets}
 use Rattle.encode.proofs.Runs.{run-le, passing-run, passing-end, passing-start}
-use Rattle.encode.proofs.Gathering.{Gathering, gathering-room, gathering-more, joined-append}
+use Rattle.encode.proofs.Gathering.{Gathering, gathering-begins, gathering-same, gathering-ends, gathering-room, gathering-more, joined-append}
 
 -- ---- offsets that never fall
 
@@ -106,10 +107,10 @@ abbrev pub Within : List ℕ → List ℕ → ℕ → Type 0
 Within os s i = length (sliceAt os s i) ≡ spanAt os i
 
 module _ (os s : List ℕ) where
-  pub within-at : Rising os → (n : ℕ) → length os ≡ suc n → last os ≡ length s → (i : ℕ) → i < n → Within os s i
-  within-at p n e el i h =
+  pub within-at : {n : ℕ} → Offsets n os → last os ≡ length s → (i : ℕ) → i < n → Within os s i
+  within-at {n} o el i h =
       length-take-le (spanAt os i) (drop (getD os i 0) s)
-      (omega (arith, length-drop (getD os i 0) s, last-le os p n (suc i) e (omega arith), step-le os p i (omega arith)))
+      (omega (arith, length-drop (getD os i 0) s, last-le os (o .rising) n (suc i) (o .counted) (omega arith), step-le os (o .rising) i (omega (arith, o .counted))))
 
   pub length-slices : (is : List ℕ) → All (Within os s) is → length (joined (map (sliceAt os s) is)) ≡ spansOf os is
   length-slices [] q = refl
@@ -123,114 +124,175 @@ module _ (os s : List ℕ) where
 
 -- ---- a sum of lengths that goes by runs
 
-module _ (t : ℕ → Bool) (n : ℕ) (os : List ℕ) where
-  -- the bytes so far, and those of the cells from i on; no more than lie before i
-  pub record Summing (total i : ℕ) : Type 0 where
-    pub below : i ≤ n → total ≤ getD os i 0
-    pub sum : total + spansOf os (passing t (from i (n - i))) ≡ spansOf os (passing t (from 0 n))
+module _ {n : ℕ} {os : List ℕ} (o : Offsets n os) (t : ℕ → Bool) (i r : ℕ) (e : r ≡ runOf t i (n - i)) (h : i < n) where
+  run-inside : i + r < length os
+  run-inside = omega (arith, o .counted, run-le t i (n - i))
 
-  pub summing-begins : Summing 0 0
-  summing-begins = record { below = λ h. omega arith; sum = omega (arith, ap (spansOf os) (passing-start t n)) }
+  run-rises : getD os i 0 ≤ getD os (i + r) 0
+  run-rises = range-le os (o .rising) i r run-inside
 
-  pub summing-ends : (total i : ℕ) → n ≤ i → Summing total i → total ≡ spansOf os (passing t (from 0 n))
-  summing-ends total i h l = omega (arith, l .sum, ap (spansOf os) (passing-end t i n h))
+-- the bytes so far, no more than lie before i; and those of the cells from i on
+pub record Summing (t : ℕ → Bool) (n : ℕ) (os : List ℕ) (total i : ℕ) : Type 0 where
+  pub offsets : Offsets n os
+  pub below : i ≤ n → total ≤ getD os i 0
+  pub sum : total + spansOf os (passing t (from i (n - i))) ≡ spansOf os (passing t (from 0 n))
 
-  module _ (p : Rising os) (c : length os ≡ suc n) (total i : ℕ) (l : Summing total i) (h : i < n) (r : ℕ) (e : r ≡ runOf t i (n - i)) where
-    pub run-inside : i + r < length os
-    run-inside = omega (arith, run-le t i (n - i))
+pub summing-begins : {t : ℕ → Bool} {n : ℕ} {os : List ℕ} → Offsets n os → Summing t n os 0 0
+summing-begins {t} {n} {os} o =
+    record { offsets = o; below = λ h. omega arith; sum = omega (arith, ap (spansOf os) (passing-start t n)) }
 
-    pub run-rises : getD os i 0 ≤ getD os (i + r) 0
-    run-rises = range-le os p i r run-inside
+module _ {t : ℕ → Bool} {n : ℕ} {os : List ℕ} {total i : ℕ} (l : Summing t n os total i) where
+  pub summing-ends : n ≤ i → total ≡ spansOf os (passing t (from 0 n))
+  summing-ends h = omega (arith, l .sum, ap (spansOf os) (passing-end t i n h))
+
+  module _ {r : ℕ} (e : r ≡ runOf t i (n - i)) (h : i < n) where
+    pub summing-inside : i + r < length os
+    summing-inside = run-inside (l .offsets) t i r e h
+
+    pub summing-rises : getD os i 0 ≤ getD os (i + r) 0
+    summing-rises = run-rises (l .offsets) t i r e h
 
     pub summing-fits : total + (getD os (i + r) 0 - getD os i 0) ≤ getD os (i + r) 0
-    summing-fits = omega (arith, l .below (omega arith), run-rises)
+    summing-fits = omega (arith, l .below (omega arith), summing-rises)
 
-    pub summing-more : Summing (total + (getD os (i + r) 0 - getD os i 0)) (i + (r + 1))
+    pub summing-more : Summing t n os (total + (getD os (i + r) 0 - getD os i 0)) (i + (r + 1))
     summing-more = record {
+      offsets = l .offsets;
       below = λ k.
           let q : suc (i + r) ≡ i + (r + 1) = omega arith in
-          omega (arith, summing-fits, step-le os p (i + r) (omega arith), ap (λ (j : ℕ). getD os j 0) q);
+          omega (arith, l .offsets .counted, summing-fits, step-le os (l .offsets .rising) (i + r) (omega (arith, l .offsets .counted)), ap (λ (j : ℕ). getD os j 0) q);
       sum =
           omega (
             arith,
             l .sum,
             ap (spansOf os) (passing-run t i n r e),
             spans-append os (from i r) (passing t (from (i + (r + 1)) (n - (i + (r + 1))))),
-            run-spans os p i r run-inside,
+            run-spans os (l .offsets .rising) i r (run-inside (l .offsets) t i r e h),
           );
     }
 
+-- ---- the values of the cells that a level counts, run by run
+
+pub record Slicing (t : ℕ → Bool) (n : ℕ) (os s d : List ℕ) (to : ℕ) (out : List ℕ) (i done : ℕ) : Type 0 where
+  pub offsets : Offsets n os
+  pub ended : last os ≡ length s
+  pub gathers : Gathering t n (sliceAt os s) d to out i done
+
+pub slicing-begins : {t : ℕ → Bool} {n : ℕ} {os s d : List ℕ} {to : ℕ}
+    → Offsets n os → last os ≡ length s → to + length (slicesAt os s (passing t (from 0 n))) ≤ length d → Slicing t n os s d to d 0 0
+slicing-begins o e h = record { offsets = o; ended = e; gathers = gathering-begins h }
+
+module _ {t : ℕ → Bool} {n : ℕ} {os s d : List ℕ} {to : ℕ} {out : List ℕ} {i done : ℕ} (l : Slicing t n os s d to out i done) where
+  pub slicing-same : length out ≡ length d
+  slicing-same = gathering-same (l .gathers)
+
+  pub slicing-ends : n ≤ i → out ≡ overAt to (slicesAt os s (passing t (from 0 n))) d
+  slicing-ends h = gathering-ends (l .gathers) h
+
+  module _ {r : ℕ} (e : r ≡ runOf t i (n - i)) (h : i < n) where
+    pub slicing-inside : i + r < length os
+    slicing-inside = run-inside (l .offsets) t i r e h
+
+    pub slicing-rises : getD os i 0 ≤ getD os (i + r) 0
+    slicing-rises = run-rises (l .offsets) t i r e h
+
+    pub slicing-source : getD os (i + r) 0 ≤ length s
+    slicing-source = omega (arith, l .ended, l .offsets .counted, last-le os (l .offsets .rising) n (i + r) (l .offsets .counted) (omega (arith, run-le t i (n - i))))
+
+    piece : joined (map (sliceAt os s) (from i r)) ≡ take (getD os (i + r) 0 - getD os i 0) (drop (getD os i 0) s)
+    piece = run-slices os (l .offsets .rising) s i r slicing-inside
+
+    long : length (take (getD os (i + r) 0 - getD os i 0) (drop (getD os i 0) s)) ≡ getD os (i + r) 0 - getD os i 0
+    long =
+        length-take-le (getD os (i + r) 0 - getD os i 0) (drop (getD os i 0) s)
+        (omega (arith, length-drop (getD os i 0) s, slicing-rises, slicing-source))
+
+    pub slicing-room : to + done + (getD os (i + r) 0 - getD os i 0) ≤ length out
+    slicing-room = omega (arith, gathering-room (l .gathers) e piece, long)
+
+    pub slicing-more : {out′ : List ℕ} → out′ ≡ overAt (to + done) (take (getD os (i + r) 0 - getD os i 0) (drop (getD os i 0) s)) out
+        → Slicing t n os s d to out′ (i + (r + 1)) (done + (getD os (i + r) 0 - getD os i 0))
+    slicing-more eo = record { offsets = l .offsets; ended = l .ended; gathers = gathering-more (l .gathers) e piece eo long }
+
 -- ---- the index of a run, offset by offset
 
-module _ (w : ℕ) where
-  pub index-append : (xs ys : List ℕ) → indexOf w (xs ++ ys) ≡ indexOf w xs ++ indexOf w ys
-  index-append xs ys = ap joined (map-append (le w) xs ys) ∙ joined-append (map (le w) xs) (map (le w) ys)
+index-append : (w : ℕ) (xs ys : List ℕ) → indexOf w (xs ++ ys) ≡ indexOf w xs ++ indexOf w ys
+index-append w xs ys = ap joined (map-append (le w) xs ys) ∙ joined-append (map (le w) xs) (map (le w) ys)
 
--- j offsets of the run lie there
+-- the running total before cell i + j
+abbrev totalAt : List ℕ → ℕ → ℕ → ℕ → ℕ
+totalAt os total i j = total + (getD os (i + j) 0 - getD os i 0)
+
+-- j offsets of the run of r cells from i on lie there
 pub record Ending (w : ℕ) (os : List ℕ) (i r total : ℕ) (d : List ℕ) (to : ℕ) (out : List ℕ) (j done : ℕ) : Type 0 where
+  pub rising : Rising os
+  pub inside : i + r < length os
   pub within : j ≤ r
-  pub laid : Laying (indexOf w (endsAt os total (from i r))) d to out done (indexOf w (endsAt os (total + (getD os (i + j) 0 - getD os i 0)) (from (i + j) (r - j))))
+  pub laid : Laying (indexOf w (endsAt os total (from i r))) d to out done (indexOf w (endsAt os (totalAt os total i j) (from (i + j) (r - j))))
 
-module _ (w : ℕ) (os : List ℕ) (p : Rising os) (i r total : ℕ) (h : i + r < length os) (d : List ℕ) (to : ℕ) where
-  pub ending-begins : to + length (indexOf w (endsAt os total (from i r))) ≤ length d → Ending w os i r total d to d 0 0
-  ending-begins q =
-      let e : total ≡ total + (getD os (i + 0) 0 - getD os i 0) = omega (arith, ap (λ (j : ℕ). getD os j 0) (add-zero i)) in
-      record {
-        within = omega arith;
-        laid = laying-is (laying-begins (indexOf w (endsAt os total (from i r))) d to q)
-            (ap₂ (λ (a : ℕ) (is : List ℕ). indexOf w (endsAt os a is)) e (ap₂ from (sym (add-zero i)) (sym (sub-zero r))));
-      }
+pub ending-begins : {w : ℕ} {os : List ℕ} {i r total : ℕ} {d : List ℕ} {to : ℕ}
+    → Rising os → i + r < length os → to + length (indexOf w (endsAt os total (from i r))) ≤ length d → Ending w os i r total d to d 0 0
+ending-begins {w} {os} {i} {r} {total} {d} {to} p h q =
+    let e : total ≡ totalAt os total i 0 = omega (arith, ap (λ (j : ℕ). getD os j 0) (add-zero i)) in
+    record {
+      rising = p;
+      inside = h;
+      within = omega arith;
+      laid = laying-is (laying-begins (indexOf w (endsAt os total (from i r))) d to q)
+          (ap₂ (λ (a : ℕ) (is : List ℕ). indexOf w (endsAt os a is)) e (ap₂ from (sym (add-zero i)) (sym (sub-zero r))));
+    }
 
-  module _ (out : List ℕ) (j done : ℕ) (l : Ending w os i r total d to out j done) where
-    pub ending-same : length out ≡ length d
-    ending-same = laying-same (indexOf w (endsAt os total (from i r))) d to out done _ (l .laid)
+module _ {w : ℕ} {os : List ℕ} {i r total : ℕ} {d : List ℕ} {to : ℕ} {out : List ℕ} {j done : ℕ} (l : Ending w os i r total d to out j done) where
+  abbrev want : List ℕ
+  want = indexOf w (endsAt os total (from i r))
 
-    pub ending-ends : r ≤ j → out ≡ overAt to (indexOf w (endsAt os total (from i r))) d
-    ending-ends k =
-        let e : r - j ≡ 0 = omega arith in
-        laying-ends (indexOf w (endsAt os total (from i r))) d to out done
-        (laying-is (l .laid) (ap (λ (m : ℕ). indexOf w (endsAt os (total + (getD os (i + j) 0 - getD os i 0)) (from (i + j) m))) e))
+  pub ending-same : length out ≡ length d
+  ending-same = laying-same want d to out done _ (l .laid)
 
-    module _ (k : j < r) where
-      pub end-rises : getD os i 0 ≤ getD os (i + j + 1) 0
-      end-rises = let q : i + (j + 1) ≡ i + j + 1 = omega arith in rw q at (range-le os p i (j + 1) (omega arith))
+  pub ending-ends : r ≤ j → out ≡ overAt to (indexOf w (endsAt os total (from i r))) d
+  ending-ends k =
+      let e : r - j ≡ 0 = omega arith in
+      laying-ends want d to out done (laying-is (l .laid) (ap (λ (m : ℕ). indexOf w (endsAt os (totalAt os total i j) (from (i + j) m))) e))
 
-      rest : List ℕ
-      rest = indexOf w (endsAt os (total + (getD os (i + (j + 1)) 0 - getD os i 0)) (from (i + (j + 1)) (r - (j + 1))))
+  module _ (k : j < r) where
+    pub ending-rises : getD os i 0 ≤ getD os (i + j + 1) 0
+    ending-rises = let q : i + (j + 1) ≡ i + j + 1 = omega arith in rw q at (range-le os (l .rising) i (j + 1) (omega (arith, l .inside)))
 
-      next : indexOf w (endsAt os (total + (getD os (i + j) 0 - getD os i 0)) (from (i + j) (r - j)))
-          ≡ le w (total + (getD os (i + j + 1) 0 - getD os i 0)) ++ rest
-      unfolding rest
-      next =
-          let e1 : r - j ≡ suc (r - (j + 1)) = omega arith in
-          let e2 : suc (i + j) ≡ i + (j + 1) = omega arith in
-          let e3 : i + j + 1 ≡ i + (j + 1) = omega arith in
-          let g2 : getD os (suc (i + j)) 0 ≡ getD os (i + (j + 1)) 0 = ap (λ (m : ℕ). getD os m 0) e2 in
-          let e4 : total + (getD os (i + j) 0 - getD os i 0) + spanAt os (i + j) ≡ total + (getD os (i + (j + 1)) 0 - getD os i 0) =
-          omega (arith, g2, range-le os p i j (omega arith), step-le os p (i + j) (omega arith)) in
-          ap (λ (m : ℕ). indexOf w (endsAt os (total + (getD os (i + j) 0 - getD os i 0)) (from (i + j) m))) e1
-          ∙ ap₂ (λ (a m : ℕ). le w a ++ indexOf w (endsAt os a (from m (r - (j + 1))))) e4 e2
-          ∙ ap (λ (m : ℕ). le w (total + (getD os m 0 - getD os i 0)) ++ indexOf w (endsAt os (total + (getD os (i + (j + 1)) 0 - getD os i 0)) (from (i + (j + 1)) (r - (j + 1))))) (sym e3)
+    pub ending-inside : i + j + 1 < length os
+    ending-inside = omega (arith, l .inside)
 
-      pub ending-room : to + done + w ≤ length out
-      ending-room =
-          omega (
-            arith,
-            ending-same,
-            l .laid .room,
-            laying-left (indexOf w (endsAt os total (from i r))) d to out done _ (l .laid),
-            ap length next,
-            length-append (le w (total + (getD os (i + j + 1) 0 - getD os i 0))) rest,
-            length-le w (total + (getD os (i + j + 1) 0 - getD os i 0)),
-          )
+    end : ℕ
+    end = total + (getD os (i + j + 1) 0 - getD os i 0)
 
-      pub ending-more : (out′ : List ℕ) → out′ ≡ overAt (to + done) (le w (total + (getD os (i + j + 1) 0 - getD os i 0))) out → Ending w os i r total d to out′ (j + 1) (done + w)
-      unfolding rest
-      ending-more out′ eo = record {
-        within = omega arith;
-        laid = laying-part (indexOf w (endsAt os total (from i r))) d to out done (le w (total + (getD os (i + j + 1) 0 - getD os i 0))) rest (laying-is (l .laid) next) out′ eo
-            (done + w) (ap (λ (m : ℕ). done + m) (sym (length-le w (total + (getD os (i + j + 1) 0 - getD os i 0)))));
-      }
+    rest : List ℕ
+    rest = indexOf w (endsAt os (totalAt os total i (j + 1)) (from (i + (j + 1)) (r - (j + 1))))
+
+    next : indexOf w (endsAt os (totalAt os total i j) (from (i + j) (r - j))) ≡ le w end ++ rest
+    unfolding end rest
+    next =
+        let e1 : r - j ≡ suc (r - (j + 1)) = omega arith in
+        let e2 : suc (i + j) ≡ i + (j + 1) = omega arith in
+        let e3 : i + (j + 1) ≡ i + j + 1 = omega arith in
+        let g : getD os (suc (i + j)) 0 ≡ getD os (i + (j + 1)) 0 = ap (λ (m : ℕ). getD os m 0) e2 in
+        let e4 : totalAt os total i j + spanAt os (i + j) ≡ totalAt os total i (j + 1) =
+        omega (arith, g, range-le os (l .rising) i j (omega (arith, l .inside)), step-le os (l .rising) (i + j) (omega (arith, l .inside))) in
+        ap (λ (m : ℕ). indexOf w (endsAt os (totalAt os total i j) (from (i + j) m))) e1
+        ∙ ap₂ (λ (a m : ℕ). le w a ++ indexOf w (endsAt os a (from m (r - (j + 1))))) e4 e2
+        ∙ ap (λ (m : ℕ). le w (total + (getD os m 0 - getD os i 0)) ++ indexOf w (endsAt os (totalAt os total i (j + 1)) (from (i + (j + 1)) (r - (j + 1))))) e3
+
+    pub ending-room : to + done + w ≤ length out
+    ending-room =
+        omega (arith, ending-same, l .laid .room, laying-left want d to out done _ (l .laid), ap length next, length-append (le w end) rest, length-le w end)
+
+    pub ending-more : {out′ : List ℕ} → out′ ≡ overAt (to + done) (le w (total + (getD os (i + j + 1) 0 - getD os i 0))) out → {m : ℕ} → m ≡ w
+        → Ending w os i r total d to out′ (j + 1) (done + m)
+    unfolding end rest
+    ending-more {out′} eo {m} em = record {
+      rising = l .rising;
+      inside = l .inside;
+      within = omega arith;
+      laid = laying-part want d to out done (le w end) rest (laying-is (l .laid) next) out′ eo (done + m) (ap (λ (x : ℕ). done + x) (em ∙ sym (length-le w end)));
+    }
 
 -- ---- the index of the cells that a level counts, run by run
 
@@ -238,116 +300,94 @@ pub record Indexing (t : ℕ → Bool) (n w : ℕ) (os d : List ℕ) (to : ℕ) 
   pub sums : Summing t n os total i
   pub laid : Laying (indexOf w (endsAt os 0 (passing t (from 0 n)))) d to out done (indexOf w (endsAt os total (passing t (from i (n - i)))))
 
-module _ (t : ℕ → Bool) (n w : ℕ) (os d : List ℕ) (to : ℕ) where
-  pub indexing-begins : to + length (indexOf w (endsAt os 0 (passing t (from 0 n)))) ≤ length d → Indexing t n w os d to d 0 0 0
-  indexing-begins h = record {
-    sums = summing-begins t n os;
-    laid = laying-is (laying-begins (indexOf w (endsAt os 0 (passing t (from 0 n)))) d to h) (ap (λ (is : List ℕ). indexOf w (endsAt os 0 is)) (sym (passing-start t n)));
-  }
+pub indexing-begins : {t : ℕ → Bool} {n w : ℕ} {os d : List ℕ} {to : ℕ} → Offsets n os
+    → to + length (indexOf w (endsAt os 0 (passing t (from 0 n)))) ≤ length d → Indexing t n w os d to d 0 0 0
+indexing-begins {t} {n} {w} {os} {d} {to} o h = record {
+  sums = summing-begins o;
+  laid = laying-is (laying-begins (indexOf w (endsAt os 0 (passing t (from 0 n)))) d to h) (ap (λ (is : List ℕ). indexOf w (endsAt os 0 is)) (sym (passing-start t n)));
+}
 
-  module _ (out : List ℕ) (i total done : ℕ) (l : Indexing t n w os d to out i total done) where
-    pub indexing-same : length out ≡ length d
-    indexing-same = laying-same (indexOf w (endsAt os 0 (passing t (from 0 n)))) d to out done _ (l .laid)
+module _ {t : ℕ → Bool} {n w : ℕ} {os d : List ℕ} {to : ℕ} {out : List ℕ} {i total done : ℕ} (l : Indexing t n w os d to out i total done) where
+  abbrev wanted : List ℕ
+  wanted = indexOf w (endsAt os 0 (passing t (from 0 n)))
 
-    pub indexing-ends : n ≤ i → out ≡ overAt to (indexOf w (endsAt os 0 (passing t (from 0 n)))) d
-    indexing-ends h =
-        laying-ends (indexOf w (endsAt os 0 (passing t (from 0 n)))) d to out done
-        (laying-is (l .laid) (ap (λ (is : List ℕ). indexOf w (endsAt os total is)) (passing-end t i n h)))
+  pub indexing-same : length out ≡ length d
+  indexing-same = laying-same wanted d to out done _ (l .laid)
 
-    module _ (p : Rising os) (c : length os ≡ suc n) (h : i < n) (r : ℕ) (e : r ≡ runOf t i (n - i)) where
-      later : List ℕ
-      later = indexOf w (endsAt os (total + (getD os (i + r) 0 - getD os i 0)) (passing t (from (i + (r + 1)) (n - (i + (r + 1))))))
+  pub indexing-ends : n ≤ i → out ≡ overAt to (indexOf w (endsAt os 0 (passing t (from 0 n)))) d
+  indexing-ends h = laying-ends wanted d to out done (laying-is (l .laid) (ap (λ (is : List ℕ). indexOf w (endsAt os total is)) (passing-end t i n h)))
 
-      turn : indexOf w (endsAt os total (passing t (from i (n - i)))) ≡ indexOf w (endsAt os total (from i r)) ++ later
-      unfolding later
-      turn =
-          let rs : List ℕ = passing t (from (i + (r + 1)) (n - (i + (r + 1)))) in
-          ap (λ (is : List ℕ). indexOf w (endsAt os total is)) (passing-run t i n r e)
-          ∙ ap (indexOf w) (ends-append os total (from i r) rs)
-          ∙ index-append w (endsAt os total (from i r)) (endsAt os (total + spansOf os (from i r)) rs)
-          ∙ ap (λ (a : ℕ). indexOf w (endsAt os total (from i r)) ++ indexOf w (endsAt os (total + a) rs)) (run-spans os p i r (run-inside t n os p c total i (l .sums) h r e))
+  module _ {r : ℕ} (e : r ≡ runOf t i (n - i)) (h : i < n) where
+    later : List ℕ
+    later = indexOf w (endsAt os (total + (getD os (i + r) 0 - getD os i 0)) (passing t (from (i + (r + 1)) (n - (i + (r + 1))))))
 
-      pub indexed-long : length (indexOf w (endsAt os total (from i r))) ≡ r * w
-      indexed-long = length-index w (endsAt os total (from i r)) ∙ ap (λ (m : ℕ). w * m) (length-endsAt os total (from i r) ∙ length-from i r) ∙ native.Mathlib.Nat.mul-comm w r
+    turn : indexOf w (endsAt os total (passing t (from i (n - i)))) ≡ indexOf w (endsAt os total (from i r)) ++ later
+    unfolding later
+    turn =
+        let rs : List ℕ = passing t (from (i + (r + 1)) (n - (i + (r + 1)))) in
+        ap (λ (is : List ℕ). indexOf w (endsAt os total is)) (passing-run t i n r e)
+        ∙ ap (indexOf w) (ends-append os total (from i r) rs)
+        ∙ index-append w (endsAt os total (from i r)) (endsAt os (total + spansOf os (from i r)) rs)
+        ∙ ap (λ (a : ℕ). indexOf w (endsAt os total (from i r)) ++ indexOf w (endsAt os (total + a) rs))
+        (run-spans os (l .sums .offsets .rising) i r (run-inside (l .sums .offsets) t i r e h))
 
-      pub indexing-room : to + done + r * w ≤ length out
-      indexing-room =
-          omega (
-            arith,
-            indexing-same,
-            l .laid .room,
-            laying-left (indexOf w (endsAt os 0 (passing t (from 0 n)))) d to out done _ (l .laid),
-            ap length turn,
-            length-append (indexOf w (endsAt os total (from i r))) later,
-            indexed-long,
-          )
+    pub indexing-long : length (indexOf w (endsAt os total (from i r))) ≡ r * w
+    indexing-long = length-index w (endsAt os total (from i r)) ∙ ap (λ (m : ℕ). w * m) (length-endsAt os total (from i r) ∙ length-from i r) ∙ mul-comm w r
 
-      pub indexing-more : (out′ : List ℕ) → out′ ≡ overAt (to + done) (indexOf w (endsAt os total (from i r))) out
-          → Indexing t n w os d to out′ (i + (r + 1)) (total + (getD os (i + r) 0 - getD os i 0)) (done + r * w)
-      unfolding later
-      indexing-more out′ eo = record {
-        sums = summing-more t n os p c total i (l .sums) h r e;
-        laid = laying-part (indexOf w (endsAt os 0 (passing t (from 0 n)))) d to out done (indexOf w (endsAt os total (from i r))) later (laying-is (l .laid) turn) out′ eo
-            (done + r * w) (ap (λ (m : ℕ). done + m) (sym indexed-long));
-      }
+    pub indexing-room : to + done + r * w ≤ length out
+    indexing-room =
+        omega (
+          arith,
+          indexing-same,
+          l .laid .room,
+          laying-left wanted d to out done _ (l .laid),
+          ap length turn,
+          length-append (indexOf w (endsAt os total (from i r))) later,
+          indexing-long,
+        )
 
--- ---- the values of the cells that a level counts, run by run
-
-module _ (t : ℕ → Bool) (n : ℕ) (os s : List ℕ) (p : Rising os) (c : length os ≡ suc n) (el : last os ≡ length s) (d : List ℕ) (to : ℕ) (out : List ℕ) (i done : ℕ)
-    (l : Gathering t n (sliceAt os s) d to out i done) (r : ℕ) (e : r ≡ runOf t i (n - i)) (h : i < n) where
-  pub slices-inside : i + r < length os
-  slices-inside = omega (arith, run-le t i (n - i))
-
-  pub slices-rise : getD os i 0 ≤ getD os (i + r) 0
-  slices-rise = range-le os p i r slices-inside
-
-  pub slices-source : getD os (i + r) 0 ≤ length s
-  slices-source = omega (arith, last-le os p n (i + r) c (omega (arith, slices-inside)))
-
-  long : length (take (getD os (i + r) 0 - getD os i 0) (drop (getD os i 0) s)) ≡ getD os (i + r) 0 - getD os i 0
-  long = length-take-le (getD os (i + r) 0 - getD os i 0) (drop (getD os i 0) s) (omega (arith, length-drop (getD os i 0) s, slices-rise, slices-source))
-
-  pub slices-room : to + done + (getD os (i + r) 0 - getD os i 0) ≤ length out
-  slices-room = omega (arith, gathering-room t n (sliceAt os s) d to out i done l r e _ (run-slices os p s i r slices-inside), long)
-
-  pub slices-more : (out′ : List ℕ) → out′ ≡ overAt (to + done) (take (getD os (i + r) 0 - getD os i 0) (drop (getD os i 0) s)) out
-      → Gathering t n (sliceAt os s) d to out′ (i + (r + 1)) (done + (getD os (i + r) 0 - getD os i 0))
-  slices-more out′ eo = gathering-more t n (sliceAt os s) d to out i done l r e _ (run-slices os p s i r slices-inside) out′ eo (getD os (i + r) 0 - getD os i 0) long
+    pub indexing-more : {out′ : List ℕ} → out′ ≡ overAt (to + done) (indexOf w (endsAt os total (from i r))) out → {k : ℕ} → k ≡ w
+        → Indexing t n w os d to out′ (i + (r + 1)) (total + (getD os (i + r) 0 - getD os i 0)) (done + r * k)
+    unfolding later
+    indexing-more {out′} eo {k} ek = record {
+      sums = summing-more (l .sums) e h;
+      laid = laying-part wanted d to out done (indexOf w (endsAt os total (from i r))) later (laying-is (l .laid) turn) out′ eo
+          (done + r * k) (ap (λ (m : ℕ). done + m) (ap (λ (m : ℕ). r * m) ek ∙ sym indexing-long));
+    }
 
 -- ---- an index that is written as it is, offset by offset
 
 pub record Listing (w : ℕ) (os d : List ℕ) (to : ℕ) (out : List ℕ) (j done : ℕ) : Type 0 where
   pub laid : Laying (indexOf w os) d to out done (indexOf w (drop j os))
 
-module _ (w : ℕ) (os d : List ℕ) (to : ℕ) where
-  pub listing-begins : to + length (indexOf w os) ≤ length d → Listing w os d to d 0 0
-  listing-begins h = record { laid = laying-begins (indexOf w os) d to h }
+pub listing-begins : {w : ℕ} {os d : List ℕ} {to : ℕ} → to + length (indexOf w os) ≤ length d → Listing w os d to d 0 0
+listing-begins {w} {os} {d} {to} h = record { laid = laying-begins (indexOf w os) d to h }
 
-  module _ (out : List ℕ) (j done : ℕ) (l : Listing w os d to out j done) where
-    pub listing-same : length out ≡ length d
-    listing-same = laying-same (indexOf w os) d to out done (indexOf w (drop j os)) (l .laid)
+module _ {w : ℕ} {os d : List ℕ} {to : ℕ} {out : List ℕ} {j done : ℕ} (l : Listing w os d to out j done) where
+  pub listing-same : length out ≡ length d
+  listing-same = laying-same (indexOf w os) d to out done (indexOf w (drop j os)) (l .laid)
 
-    pub listing-ends : length os ≤ j → out ≡ overAt to (indexOf w os) d
-    listing-ends h = laying-ends (indexOf w os) d to out done (laying-is (l .laid) (ap (indexOf w) (drop-of-length-le os {i = j} h)))
+  pub listing-ends : length os ≤ j → out ≡ overAt to (indexOf w os) d
+  listing-ends h = laying-ends (indexOf w os) d to out done (laying-is (l .laid) (ap (indexOf w) (drop-of-length-le os {i = j} h)))
 
-    module _ (h : j < length os) where
-      listed : indexOf w (drop j os) ≡ le w (getD os j 0) ++ indexOf w (drop (j + 1) os)
-      listed = ap (indexOf w) (drop-cons os j 0 h) ∙ ap (λ (m : ℕ). le w (getD os j 0) ++ indexOf w (drop m os)) (sym (add-one j))
+  module _ (h : j < length os) where
+    listed : indexOf w (drop j os) ≡ le w (getD os j 0) ++ indexOf w (drop (j + 1) os)
+    listed = ap (indexOf w) (drop-cons os j 0 h) ∙ ap (λ (m : ℕ). le w (getD os j 0) ++ indexOf w (drop m os)) (sym (add-one j))
 
-      pub listing-room : to + done + w ≤ length out
-      listing-room =
-          omega (
-            arith,
-            listing-same,
-            l .laid .room,
-            laying-left (indexOf w os) d to out done (indexOf w (drop j os)) (l .laid),
-            ap length listed,
-            length-append (le w (getD os j 0)) (indexOf w (drop (j + 1) os)),
-            length-le w (getD os j 0),
-          )
+    pub listing-room : to + done + w ≤ length out
+    listing-room =
+        omega (
+          arith,
+          listing-same,
+          l .laid .room,
+          laying-left (indexOf w os) d to out done (indexOf w (drop j os)) (l .laid),
+          ap length listed,
+          length-append (le w (getD os j 0)) (indexOf w (drop (j + 1) os)),
+          length-le w (getD os j 0),
+        )
 
-      pub listing-more : (out′ : List ℕ) → out′ ≡ overAt (to + done) (le w (getD os j 0)) out → Listing w os d to out′ (j + 1) (done + w)
-      listing-more out′ eo = record {
-        laid = laying-part (indexOf w os) d to out done (le w (getD os j 0)) (indexOf w (drop (j + 1) os)) (laying-is (l .laid) listed) out′ eo
-            (done + w) (ap (λ (m : ℕ). done + m) (sym (length-le w (getD os j 0))));
-      }
+    pub listing-more : {out′ : List ℕ} → out′ ≡ overAt (to + done) (le w (getD os j 0)) out → {k : ℕ} → k ≡ w → Listing w os d to out′ (j + 1) (done + k)
+    listing-more {out′} eo {k} ek = record {
+      laid = laying-part (indexOf w os) d to out done (le w (getD os j 0)) (indexOf w (drop (j + 1) os)) (laying-is (l .laid) listed) out′ eo
+          (done + k) (ap (λ (m : ℕ). done + m) (ek ∙ sym (length-le w (getD os j 0))));
+    }

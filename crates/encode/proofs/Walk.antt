@@ -5,21 +5,23 @@ use Prim.Native.Nat.{ℕ, zero, suc, _+_, _-_, _*_, _<_, _≤_}
 use native.Mathlib.Nat.{zero-mul, suc-mul, zero-add}
 use native.Mathlib.Omega.{arith}
 use mathlib.Core.Bool.{Bool, true, false, _&&_}
-use mathlib.Core.List.{List, [], _∷_, _++_, map}
+use mathlib.Core.List.{List, [], _∷_, map}
 use lib.ListN.{length, getD, take, drop, length-drop}
 use lib.Seq.{getD-drop, getD-take, drop-drop, length-take-le}
 use Rattle.array.specs.Lists.{pick, from, pieces, passing}
 use Rattle.array.specs.Kind.{Kind, Form, fixed, ragged}
 use Rattle.array.specs.Offsets.{slices, slicesFrom}
-use Rattle.array.specs.Cells.{Value, Cell, markOf, maskOf}
+use Rattle.array.specs.Cells.{Value, Cell, maskOf}
 use Rattle.array.specs.Content.{Content, ContentOk, ValuesOk, pairUp, attach, valuesIn, cellsOf}
 use Rattle.array.proofs.Lists.{All-of}
 use Rattle.array.proofs.Geometry.{passing-all}
 use Rattle.codec.specs.Mask.{byteMask}
-use Rattle.codec.specs.Frame.{keepOne, keep, wrap, unlessNone, frame}
+use Rattle.codec.specs.Marks.{setTest}
+use Rattle.codec.specs.Frame.{keep, wrap, unlessNone, frame}
 use Rattle.codec.specs.Values.{putValues}
 use Rattle.codec.specs.Calls.{written, storedForm}
-use Rattle.encode.specs.Live.{setBy, maskAt, liveTest, liveAt, pieceAt, sliceAt, valueAt}
+use Rattle.encode.specs.Live.{maskAt, liveTest, liveAt}
+use Rattle.encode.specs.Pieces.{pieceAt, sliceAt, valueAt}
 use Rattle.encode.specs.Stored.{storedFrom, storedBy}
 
 -- ---- lists by their elements
@@ -125,7 +127,7 @@ module _ (n : ℕ) (masks : List ℕ) (val : ℕ → Value) where
       go : (b : Bool) (m : ℕ) → maskAt n masks l j ≡ m
           → keep (map (cellAt n masks val (suc d) l) (passing (liveTest n masks l) js)) ≡ map (cellAt n masks val d (suc l)) (passing (liveTest n masks (suc l)) js)
           → keep (map (cellAt n masks val (suc d) l) (pick b (j ∷ passing (liveTest n masks l) js) (passing (liveTest n masks l) js)))
-          ≡ map (cellAt n masks val d (suc l)) (pick (b && setBy (markOf m)) (j ∷ passing (liveTest n masks (suc l)) js) (passing (liveTest n masks (suc l)) js))
+          ≡ map (cellAt n masks val d (suc l)) (pick (b && setTest m) (j ∷ passing (liveTest n masks (suc l)) js) (passing (liveTest n masks (suc l)) js))
       go true zero q e = rw q e
       go true (suc m) q e = rw q (ap (λ (r : List (Cell d)). cellAt n masks val d (suc l) j ∷ r) e)
       go false m q e = e

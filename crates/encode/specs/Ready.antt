@@ -1,4 +1,4 @@
--- What the writing of valid content leans on, from a level inwards.
+-- What the writing leans on, step by step inwards: valid content of n cells, from a level on.
 -- Assumes nothing.
 use Prim.Native.Nat.{ℕ, suc, _*_, _≤_}
 use mathlib.Core.Path.{_≡_}
@@ -9,18 +9,15 @@ use Rattle.array.specs.Kind.{Kind, KindOk, Form, fixed, ragged, FormOk}
 use Rattle.array.specs.Offsets.{last, Rising}
 use Rattle.array.specs.Content.{Content, ContentOk, ValuesOk}
 
--- to measure n cells: so many levels of masks, and offsets
-abbrev pub OffsetsOk : Form → ℕ → List ℕ → Type 0
-OffsetsOk (fixed k o) n os = k ≤ mostSize
-OffsetsOk (ragged w p) n os = (length os ≡ suc n) × Rising os × (last os ≤ mostBytes)
-
-pub record Measured (f : Form) (n : ℕ) (masks os : List ℕ) (levels : ℕ) : Type 0 where
-  pub shallow : levels ≤ mostDepth
+-- valid content of a sound kind
+pub record Encodable (k : Kind) (n : ℕ) (c : Content) : Type 0 where
+  pub kind : KindOk k
+  pub some : 1 ≤ n
   pub few : n ≤ mostCells
-  pub planes : levels * n ≤ length masks
-  pub offsets : OffsetsOk f n os
+  pub content : ContentOk k n c
+  pub small : length (c .values) ≤ mostBytes
 
--- to write them: the values too
+-- to write: the values, and so many levels of masks
 pub record Ready (f : Form) (n : ℕ) (c : Content) (levels : ℕ) : Type 0 where
   pub sound : FormOk f
   pub shallow : levels ≤ mostDepth
@@ -29,10 +26,23 @@ pub record Ready (f : Form) (n : ℕ) (c : Content) (levels : ℕ) : Type 0 wher
   pub fit : ValuesOk f n c
   pub small : length (c .values) ≤ mostBytes
 
--- valid content of n cells of a sound kind
-pub record Encodable (k : Kind) (n : ℕ) (c : Content) : Type 0 where
-  pub kind : KindOk k
-  pub some : 1 ≤ n
+-- to measure: the offsets and the masks
+abbrev pub MeasuresOk : Form → ℕ → List ℕ → Type 0
+MeasuresOk (fixed k o) n os = k ≤ mostSize
+MeasuresOk (ragged w p) n os = (length os ≡ suc n) × Rising os × (last os ≤ mostBytes)
+
+pub record Measured (f : Form) (n : ℕ) (masks os : List ℕ) (levels : ℕ) : Type 0 where
+  pub shallow : levels ≤ mostDepth
   pub few : n ≤ mostCells
-  pub content : ContentOk k n c
-  pub small : length (c .values) ≤ mostBytes
+  pub planes : levels * n ≤ length masks
+  pub sizes : MeasuresOk f n os
+
+-- to tell the cells that level l counts: the masks of the levels above it
+pub record Planes (n : ℕ) (masks : List ℕ) (l : ℕ) : Type 0 where
+  pub few : n ≤ mostCells
+  pub planes : l * n ≤ length masks
+
+-- offsets of n cells
+pub record Offsets (n : ℕ) (os : List ℕ) : Type 0 where
+  pub counted : length os ≡ suc n
+  pub rising : Rising os

@@ -1,19 +1,20 @@
 // What belongs to the cells that a level counts, end to end: mask bytes, and values of one size.
+use crate::live;
 use array::copy;
 use array::endian;
 use array::kind::ByteOrder;
-use crate::live;
-
 ghost use mathlib.Core.Path.{_≡_};
 ghost use mathlib.Core.List.{map};
 ghost use Prim.Native.Nat.{_+_, _*_, _≤_};
 ghost use lib.ListN.{length, drop};
 ghost use Rattle.array.specs.Buffers.{overAt};
 ghost use Rattle.array.specs.Kind.{big, ordered};
-ghost use Rattle.array.specs.Limits.{mostCells};
 ghost use Rattle.array.specs.Lists.{joined, pieces};
 ghost use Rattle.array.specs.Meaning.{orderOf};
-ghost use Rattle.encode.specs.Live.{liveAt, pieceAt};
+ghost use Rattle.codec.specs.Mask.{byteMask};
+ghost use Rattle.encode.specs.Live.{maskAt, liveAt};
+ghost use Rattle.encode.specs.Pieces.{piecesAt};
+ghost use Rattle.encode.specs.Ready.{Planes};
 
 // Copies `run` cells, each reversed.
 fn reverse_run(out: &mut [u8], to: usize, s: &[u8], at: usize, size: usize, run: usize)
@@ -59,9 +60,9 @@ pub fn put_live(
     cells: usize,
     level: usize,
 )
-    requires { ⌜ (cells ≤ mostCells) × (level * cells ≤ length (now masks)) × (at + cells * size ≤ length (now s))
-      × (to + length (joined (map (λ i. ordered (orderOf order) (pieceAt at size (now s) i)) (liveAt cells (now masks) level))) ≤ length (now out)) ⌝ }
-    ensures { λ _. ⌜ now (out .exit) ≡ overAt to (joined (map (λ i. ordered (orderOf order) (pieceAt at size (now (s .entry)) i)) (liveAt cells (now (masks .entry)) level))) (now (out .entry)) ⌝ }
+    requires { ⌜ Planes cells (now masks) level × (at + cells * size ≤ length (now s))
+        × (to + length (piecesAt (orderOf order) at size (now s) (liveAt cells (now masks) level)) ≤ length (now out)) ⌝ }
+    ensures { λ _. ⌜ now (out .exit) ≡ overAt to (piecesAt (orderOf order) at size (now (s .entry)) (liveAt cells (now (masks .entry)) level)) (now (out .entry)) ⌝ }
 {
     let mut i = 0;
     let mut done = 0;
@@ -71,4 +72,23 @@ pub fn put_live(
         done += run * size;
         i += run + 1;
     }
+}
+
+// The mask of the level: a byte for each cell that it counts.
+pub fn put_mask(out: &mut [u8], to: usize, masks: &[u8], cells: usize, level: usize)
+    requires { ⌜ Planes cells (now masks) (level + 1) × (to + length (liveAt cells (now masks) level) ≤ length (now out)) ⌝ }
+    ensures { λ _. ⌜ now (out .exit) ≡ overAt to (byteMask .put (map (maskAt cells (now (masks .entry)) level) (liveAt cells (now (masks .entry)) level))) (now (out .entry)) ⌝ }
+{
+    let at = level * cells;
+    put_live(
+        out,
+        to,
+        masks,
+        at,
+        1,
+        ByteOrder::Little,
+        masks,
+        cells,
+        level,
+    );
 }

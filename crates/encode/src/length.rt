@@ -1,10 +1,10 @@
 // The written length: the sum over the levels, outermost first.
+use crate::live;
+use crate::values;
 use array::kind;
 use array::kind::Kind;
 use array::kind::Values;
-use crate::live;
-use crate::values;
-
+use codec::mask;
 ghost use mathlib.Core.Path.{_≡_};
 ghost use Prim.Native.Nat.{_+_, _≤_};
 ghost use Rattle.array.specs.Limits.{mostBytes};
@@ -31,17 +31,11 @@ pub fn content_length(
     if left == 0 {
         return values::values_length(form, offsets, masks, cells, level, count);
     }
-    16 + count + content_length(form, offsets, masks, cells, level + 1, left - 1)
+    16 + mask::mask_length(count) + content_length(form, offsets, masks, cells, level + 1, left - 1)
 }
 
 // The written length of valid content of `cells` cells with so many value bytes.
-pub fn stored_length(
-    kind: Kind,
-    cells: usize,
-    masks: &[u8],
-    bytes: usize,
-    offsets: &[u64],
-) -> usize
+pub fn stored_length(kind: Kind, cells: usize, masks: &[u8], bytes: usize, offsets: &[u64]) -> usize
     requires ready { ⌜ Measured (formOf (kind .values)) cells (now masks) (now offsets) (kind .depth) ⌝ }
     requires small { ⌜ bytes ≤ mostBytes ⌝ }
     ensures { λ r. ⌜ r ≡ lengthBy (formOf (kind .values)) cells (now (masks .entry)) bytes (now (offsets .entry)) (kind .depth) ⌝ }

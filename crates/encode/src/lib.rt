@@ -16,14 +16,11 @@ mod values;
 mod write;
 
 ghost use mathlib.Core.Path.{_≡_};
-ghost use lib.Dec.{leb};
-ghost use lib.ListN.{length};
-ghost use Rattle.array.specs.Answer.{gives, unless};
-ghost use Rattle.array.specs.Buffers.{listOutcome};
 ghost use Rattle.array.specs.Meaning.{kindOf};
 ghost use Rattle.array.specs.Outcome.{outcome};
 ghost use Rattle.codec.specs.Calls.{storedForm, encoded};
 ghost use Rattle.encode.specs.Ready.{Encodable};
+ghost use Rattle.encode.specs.Stored.{contentIn, storedOver};
 
 // Writes an array into its stored form. Refusals 1, 2, 4, 5 and 6, in this order; nothing is stored before the last check.
 pub fn encode(
@@ -58,10 +55,8 @@ fn encode_valid(
     offsets: &[u64],
     out: &mut [u8],
 ) -> Written
-    requires { ⌜ Encodable (kindOf kind) cells (record { masks = now masks; values = now values; offsets = now offsets }) ⌝ }
-    ensures { λ r. ⌜ outcome r (now (out .exit))
-      ≡ listOutcome (unless (leb (length (storedForm (kindOf kind) cells (record { masks = now (masks .entry); values = now (values .entry); offsets = now (offsets .entry) }))) (length (now (out .entry)))) 6
-          (gives (storedForm (kindOf kind) cells (record { masks = now (masks .entry); values = now (values .entry); offsets = now (offsets .entry) })))) (now (out .entry)) ⌝ }
+    requires { ⌜ Encodable (kindOf kind) cells (contentIn (now masks) (now values) (now offsets)) ⌝ }
+    ensures { λ r. ⌜ outcome r (now (out .exit)) ≡ storedOver (storedForm (kindOf kind) cells (contentIn (now (masks .entry)) (now (values .entry)) (now (offsets .entry)))) (now (out .entry)) ⌝ }
 {
     let need = length::stored_length(kind, cells, masks, values.len(), offsets);
     if out.len() < need {

@@ -1,17 +1,10 @@
 // The cells that a level counts: those whose masks are set at every level above it.
+use codec::mask;
 ghost use mathlib.Core.Path.{_≡_};
 ghost use Prim.Native.Nat.{_-_, _*_, _<_, _≤_};
 ghost use lib.ListN.{length};
-ghost use Rattle.array.specs.Limits.{mostCells};
-ghost use Rattle.array.specs.Cells.{markOf};
-ghost use Rattle.encode.specs.Live.{setBy, liveTest, liveAt, runOf};
-
-// Any mask byte but 0 is set.
-fn is_set(b: u8) -> bool
-    ensures { λ r. ⌜ r ≡ setBy (markOf b) ⌝ }
-{
-    b != 0
-}
+ghost use Rattle.encode.specs.Live.{liveTest, liveAt, runOf};
+ghost use Rattle.encode.specs.Ready.{Planes};
 
 // Whether cell i is set at each of the first `level` levels.
 pub fn is_live(masks: &[u8], cells: usize, level: usize, i: usize) -> bool
@@ -21,7 +14,7 @@ pub fn is_live(masks: &[u8], cells: usize, level: usize, i: usize) -> bool
     let mut l = level;
     while 0 < l {
         l -= 1;
-        if !is_set(masks[l * cells + i]) {
+        if !mask::is_set(masks, l * cells + i) {
             return false;
         }
     }
@@ -46,11 +39,14 @@ pub fn live_run(masks: &[u8], cells: usize, level: usize, i: usize) -> usize
     j - i
 }
 
-// How many cells the level counts.
+// How many cells the level counts. Level 1 counts the set bytes of the first mask.
 pub fn count_live(masks: &[u8], cells: usize, level: usize) -> usize
-    requires { ⌜ (cells ≤ mostCells) × (level * cells ≤ length (now masks)) ⌝ }
+    requires { ⌜ Planes cells (now masks) level ⌝ }
     ensures { λ r. ⌜ r ≡ length (liveAt cells (now (masks .entry)) level) ⌝ }
 {
+    if level == 1 {
+        return mask::count_set(&masks[0..cells]);
+    }
     let mut count: usize = 0;
     let mut i: usize = 0;
     while i < cells {

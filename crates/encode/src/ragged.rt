@@ -1,26 +1,26 @@
 // Ragged values: their bytes, their index and the index's length, each at its place.
+use crate::live;
 use array::copy;
 use array::field;
 use array::kind;
 use array::kind::IndexPlace;
 use array::kind::IndexWidth;
-use crate::live;
-
 ghost use mathlib.Core.Path.{_≡_};
 ghost use mathlib.Core.List.{_∷_, map};
-ghost use Prim.Native.Nat.{suc, _+_, _*_, _<_, _≤_};
+ghost use Prim.Native.Nat.{_+_, _<_, _≤_};
 ghost use lib.ListN.{length, getD};
 ghost use Rattle.array.specs.Buffers.{over, overAt};
 ghost use Rattle.array.specs.Bytes.{le};
 ghost use Rattle.array.specs.Kind.{ragged};
-ghost use Rattle.array.specs.Limits.{mostCells};
-ghost use Rattle.array.specs.Lists.{from, joined};
+ghost use Rattle.array.specs.Lists.{from};
 ghost use Rattle.array.specs.Meaning.{widthOf, placeOf};
 ghost use Rattle.array.specs.Offsets.{last, Rising};
 ghost use Rattle.codec.specs.Ragged.{indexOf, putRagged};
 ghost use Rattle.codec.specs.Values.{putValues};
-ghost use Rattle.encode.specs.Live.{liveAt, sliceAt, spansOf, endsAt};
+ghost use Rattle.encode.specs.Live.{liveAt};
+ghost use Rattle.encode.specs.Pieces.{sliceAt, slicesAt, spansOf, endsAt};
 ghost use Rattle.encode.specs.Place.{dataAt, indexAt, lengthAt};
+ghost use Rattle.encode.specs.Ready.{Planes, Offsets};
 
 fn data_at(place: IndexPlace, at: usize, index: usize) -> usize
     requires { ⌜ at + 8 + index < 18446744073709551616 ⌝ }
@@ -54,7 +54,7 @@ fn length_at(place: IndexPlace, at: usize, bytes: usize, index: usize) -> usize
 
 // Value bytes of the cells that the level counts.
 pub fn live_bytes(offsets: &[u64], masks: &[u8], cells: usize, level: usize) -> usize
-    requires { ⌜ (cells ≤ mostCells) × (level * cells ≤ length (now masks)) × (length (now offsets) ≡ suc cells) × Rising (now offsets) ⌝ }
+    requires { ⌜ Planes cells (now masks) level × Offsets cells (now offsets) ⌝ }
     ensures { λ r. ⌜ r ≡ spansOf (now (offsets .entry)) (liveAt cells (now (masks .entry)) level) ⌝ }
 {
     let mut total: usize = 0;
@@ -79,10 +79,10 @@ fn put_live_data(
     cells: usize,
     level: usize,
 )
-    requires { ⌜ (cells ≤ mostCells) × (level * cells ≤ length (now masks))
-      × (length (now offsets) ≡ suc cells) × Rising (now offsets) × (last (now offsets) ≡ length (now values))
-      × (to + length (joined (map (sliceAt (now offsets) (now values)) (liveAt cells (now masks) level))) ≤ length (now out)) ⌝ }
-    ensures { λ _. ⌜ now (out .exit) ≡ overAt to (joined (map (sliceAt (now (offsets .entry)) (now (values .entry))) (liveAt cells (now (masks .entry)) level))) (now (out .entry)) ⌝ }
+    requires { ⌜ Planes cells (now masks) level
+        × Offsets cells (now offsets) × (last (now offsets) ≡ length (now values))
+        × (to + length (slicesAt (now offsets) (now values) (liveAt cells (now masks) level)) ≤ length (now out)) ⌝ }
+    ensures { λ _. ⌜ now (out .exit) ≡ overAt to (slicesAt (now (offsets .entry)) (now (values .entry)) (liveAt cells (now (masks .entry)) level)) (now (out .entry)) ⌝ }
 {
     let mut i = 0;
     let mut done = 0;
@@ -117,7 +117,7 @@ fn put_run_ends(
     total: u64,
 )
     requires { ⌜ (i + run < length (now offsets)) × Rising (now offsets) × (total ≤ getD (now offsets) i 0)
-      × (to + length (indexOf (widthOf width) (endsAt (now offsets) total (from i run))) ≤ length (now out)) ⌝ }
+        × (to + length (indexOf (widthOf width) (endsAt (now offsets) total (from i run))) ≤ length (now out)) ⌝ }
     ensures { λ _. ⌜ now (out .exit) ≡ overAt to (indexOf (widthOf width) (endsAt (now (offsets .entry)) total (from i run))) (now (out .entry)) ⌝ }
 {
     let mut j = 0;
@@ -141,8 +141,8 @@ fn put_live_ends(
     cells: usize,
     level: usize,
 )
-    requires { ⌜ (cells ≤ mostCells) × (level * cells ≤ length (now masks)) × (length (now offsets) ≡ suc cells) × Rising (now offsets)
-      × (to + length (indexOf (widthOf width) (endsAt (now offsets) 0 (liveAt cells (now masks) level))) ≤ length (now out)) ⌝ }
+    requires { ⌜ Planes cells (now masks) level × Offsets cells (now offsets)
+        × (to + length (indexOf (widthOf width) (endsAt (now offsets) 0 (liveAt cells (now masks) level))) ≤ length (now out)) ⌝ }
     ensures { λ _. ⌜ now (out .exit) ≡ overAt to (indexOf (widthOf width) (endsAt (now (offsets .entry)) 0 (liveAt cells (now (masks .entry)) level))) (now (out .entry)) ⌝ }
 {
     let mut i = 0;
@@ -183,8 +183,8 @@ fn put_live_index(
     cells: usize,
     level: usize,
 )
-    requires { ⌜ (cells ≤ mostCells) × (level * cells ≤ length (now masks)) × (length (now offsets) ≡ suc cells) × Rising (now offsets)
-      × (to + length (indexOf (widthOf width) (0 ∷ endsAt (now offsets) 0 (liveAt cells (now masks) level))) ≤ length (now out)) ⌝ }
+    requires { ⌜ Planes cells (now masks) level × Offsets cells (now offsets)
+        × (to + length (indexOf (widthOf width) (0 ∷ endsAt (now offsets) 0 (liveAt cells (now masks) level))) ≤ length (now out)) ⌝ }
     ensures { λ _. ⌜ now (out .exit) ≡ overAt to (indexOf (widthOf width) (0 ∷ endsAt (now (offsets .entry)) 0 (liveAt cells (now (masks .entry)) level))) (now (out .entry)) ⌝ }
 {
     put_offset(out, to, width, 0);
@@ -205,9 +205,9 @@ pub fn put_ragged(
     level: usize,
     count: usize,
 ) -> usize
-    requires { ⌜ (cells ≤ mostCells) × (level * cells ≤ length (now masks)) × (count ≡ length (liveAt cells (now masks) level))
-      × (length (now offsets) ≡ suc cells) × Rising (now offsets) × (last (now offsets) ≡ length (now values))
-      × (at + length (putValues (ragged (widthOf width) (placeOf place)) (map (sliceAt (now offsets) (now values)) (liveAt cells (now masks) level))) ≤ length (now out)) ⌝ }
+    requires { ⌜ Planes cells (now masks) level × (count ≡ length (liveAt cells (now masks) level))
+        × Offsets cells (now offsets) × (last (now offsets) ≡ length (now values))
+        × (at + length (putValues (ragged (widthOf width) (placeOf place)) (map (sliceAt (now offsets) (now values)) (liveAt cells (now masks) level))) ≤ length (now out)) ⌝ }
     ensures wrote { λ r. ⌜ r ≡ length (putValues (ragged (widthOf width) (placeOf place)) (map (sliceAt (now (offsets .entry)) (now (values .entry))) (liveAt cells (now (masks .entry)) level))) ⌝ }
     ensures bytes { λ _. ⌜ now (out .exit) ≡ overAt at (putValues (ragged (widthOf width) (placeOf place)) (map (sliceAt (now (offsets .entry)) (now (values .entry))) (liveAt cells (now (masks .entry)) level))) (now (out .entry)) ⌝ }
 {

@@ -1,19 +1,16 @@
 // The innermost content: values of one size, or ragged values.
-use array::kind;
-use array::kind::Values;
 use crate::cells;
 use crate::ragged;
-
+use array::kind;
+use array::kind::Values;
 ghost use mathlib.Core.Path.{_≡_};
-ghost use mathlib.Core.List.{map};
 ghost use Prim.Native.Nat.{_+_, _≤_};
 ghost use lib.ListN.{length};
 ghost use Rattle.array.specs.Buffers.{overAt};
 ghost use Rattle.array.specs.Meaning.{formOf};
-ghost use Rattle.codec.specs.Values.{putValues};
-ghost use Rattle.encode.specs.Live.{liveAt, valueAt};
+ghost use Rattle.encode.specs.Live.{liveAt};
 ghost use Rattle.encode.specs.Ready.{Measured, Ready};
-ghost use Rattle.encode.specs.Stored.{valuesLengthAt};
+ghost use Rattle.encode.specs.Stored.{contentIn, valuesFrom, valuesLengthAt};
 
 // How long the values of the `count` cells that the level counts are when written.
 pub fn values_length(
@@ -50,10 +47,10 @@ pub fn put_values(
     count: usize,
 ) -> usize
     requires counted { ⌜ count ≡ length (liveAt cells (now masks) level) ⌝ }
-    requires ready { ⌜ Ready (formOf form) cells (record { masks = now masks; values = now values; offsets = now offsets }) level ⌝ }
-    requires room { ⌜ at + length (putValues (formOf form) (map (valueAt (formOf form) (record { masks = now masks; values = now values; offsets = now offsets })) (liveAt cells (now masks) level))) ≤ length (now out) ⌝ }
-    ensures wrote { λ r. ⌜ r ≡ length (putValues (formOf form) (map (valueAt (formOf form) (record { masks = now (masks .entry); values = now (values .entry); offsets = now (offsets .entry) })) (liveAt cells (now (masks .entry)) level))) ⌝ }
-    ensures bytes { λ _. ⌜ now (out .exit) ≡ overAt at (putValues (formOf form) (map (valueAt (formOf form) (record { masks = now (masks .entry); values = now (values .entry); offsets = now (offsets .entry) })) (liveAt cells (now (masks .entry)) level))) (now (out .entry)) ⌝ }
+    requires ready { ⌜ Ready (formOf form) cells (contentIn (now masks) (now values) (now offsets)) level ⌝ }
+    requires room { ⌜ at + length (valuesFrom (formOf form) cells (contentIn (now masks) (now values) (now offsets)) level) ≤ length (now out) ⌝ }
+    ensures wrote { λ r. ⌜ r ≡ length (valuesFrom (formOf form) cells (contentIn (now (masks .entry)) (now (values .entry)) (now (offsets .entry))) level) ⌝ }
+    ensures bytes { λ _. ⌜ now (out .exit) ≡ overAt at (valuesFrom (formOf form) cells (contentIn (now (masks .entry)) (now (values .entry)) (now (offsets .entry))) level) (now (out .entry)) ⌝ }
 {
     match form {
         Values::Fixed(size, order) => {

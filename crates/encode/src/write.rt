@@ -1,13 +1,12 @@
 // The stored form, written by position: a frame holds a content, and a content may be a frame again.
-use array::field;
-use array::kind::ByteOrder;
-use array::kind::Kind;
-use array::kind::Values;
 use crate::cells;
 use crate::live;
 use crate::ragged;
 use crate::values;
-
+use array::field;
+use array::kind::Kind;
+use array::kind::Values;
+use codec::mask;
 ghost use mathlib.Core.Path.{_≡_};
 ghost use Prim.Native.Nat.{_+_, _≤_};
 ghost use lib.ListN.{length};
@@ -15,7 +14,7 @@ ghost use Rattle.array.specs.Buffers.{over, overAt};
 ghost use Rattle.array.specs.Meaning.{formOf};
 ghost use Rattle.encode.specs.Live.{liveAt};
 ghost use Rattle.encode.specs.Ready.{Ready};
-ghost use Rattle.encode.specs.Stored.{storedFrom, frameFrom, storedBy};
+ghost use Rattle.encode.specs.Stored.{contentIn, storedFrom, frameFrom, storedBy};
 
 // Writes the content of the cells that the level counts, `left` levels being left; says how many bytes it wrote.
 pub fn write_content(
@@ -29,27 +28,17 @@ pub fn write_content(
     level: usize,
     left: usize,
 ) -> usize
-    requires ready { ⌜ Ready (formOf form) cells (record { masks = now masks; values = now values; offsets = now offsets }) (level + left) ⌝ }
-    requires room { ⌜ at + length (storedFrom (formOf form) cells (record { masks = now masks; values = now values; offsets = now offsets }) left level) ≤ length (now out) ⌝ }
-    ensures wrote { λ r. ⌜ r ≡ length (storedFrom (formOf form) cells (record { masks = now (masks .entry); values = now (values .entry); offsets = now (offsets .entry) }) left level) ⌝ }
-    ensures bytes { λ _. ⌜ now (out .exit) ≡ overAt at (storedFrom (formOf form) cells (record { masks = now (masks .entry); values = now (values .entry); offsets = now (offsets .entry) }) left level) (now (out .entry)) ⌝ }
+    requires ready { ⌜ Ready (formOf form) cells (contentIn (now masks) (now values) (now offsets)) (level + left) ⌝ }
+    requires room { ⌜ at + length (storedFrom (formOf form) cells (contentIn (now masks) (now values) (now offsets)) left level) ≤ length (now out) ⌝ }
+    ensures wrote { λ r. ⌜ r ≡ length (storedFrom (formOf form) cells (contentIn (now (masks .entry)) (now (values .entry)) (now (offsets .entry))) left level) ⌝ }
+    ensures bytes { λ _. ⌜ now (out .exit) ≡ overAt at (storedFrom (formOf form) cells (contentIn (now (masks .entry)) (now (values .entry)) (now (offsets .entry))) left level) (now (out .entry)) ⌝ }
 {
     let count = live::count_live(masks, cells, level);
     if count == 0 {
         return 0;
     }
     if left == 0 {
-        return values::put_values(
-            out,
-            at,
-            form,
-            values,
-            offsets,
-            masks,
-            cells,
-            level,
-            count,
-        );
+        return values::put_values(out, at, form, values, offsets, masks, cells, level, count);
     }
     write_frame(
         out,
@@ -79,15 +68,16 @@ fn write_frame(
     count: usize,
 ) -> usize
     requires counted { ⌜ count ≡ length (liveAt cells (now masks) level) ⌝ }
-    requires ready { ⌜ Ready (formOf form) cells (record { masks = now masks; values = now values; offsets = now offsets }) (level + 1 + below) ⌝ }
-    requires room { ⌜ at + length (frameFrom (formOf form) cells (record { masks = now masks; values = now values; offsets = now offsets }) below level) ≤ length (now out) ⌝ }
-    ensures wrote { λ r. ⌜ r ≡ length (frameFrom (formOf form) cells (record { masks = now (masks .entry); values = now (values .entry); offsets = now (offsets .entry) }) below level) ⌝ }
-    ensures bytes { λ _. ⌜ now (out .exit) ≡ overAt at (frameFrom (formOf form) cells (record { masks = now (masks .entry); values = now (values .entry); offsets = now (offsets .entry) }) below level) (now (out .entry)) ⌝ }
+    requires ready { ⌜ Ready (formOf form) cells (contentIn (now masks) (now values) (now offsets)) (level + 1 + below) ⌝ }
+    requires room { ⌜ at + length (frameFrom (formOf form) cells (contentIn (now masks) (now values) (now offsets)) below level) ≤ length (now out) ⌝ }
+    ensures wrote { λ r. ⌜ r ≡ length (frameFrom (formOf form) cells (contentIn (now (masks .entry)) (now (values .entry)) (now (offsets .entry))) below level) ⌝ }
+    ensures bytes { λ _. ⌜ now (out .exit) ≡ overAt at (frameFrom (formOf form) cells (contentIn (now (masks .entry)) (now (values .entry)) (now (offsets .entry))) below level) (now (out .entry)) ⌝ }
 {
     let start = at + 16;
+    let mask = mask::mask_length(count);
     let length = write_content(
         out,
-        start + count,
+        start + mask,
         form,
         values,
         offsets,
@@ -96,20 +86,10 @@ fn write_frame(
         level + 1,
         below,
     );
-    cells::put_live(
-        out,
-        start,
-        masks,
-        level * cells,
-        1,
-        ByteOrder::Little,
-        masks,
-        cells,
-        level,
-    );
+    cells::put_mask(out, start, masks, cells, level);
     field::put_u64(out, at + 8, length as u64);
-    field::put_u64(out, at, count as u64);
-    16 + count + length
+    field::put_u64(out, at, mask as u64);
+    16 + mask + length
 }
 
 // Writes the whole stored form. At depth 0 ragged values go just as they are.
@@ -121,9 +101,9 @@ pub fn write_stored(
     masks: &[u8],
     cells: usize,
 )
-    requires ready { ⌜ Ready (formOf (kind .values)) cells (record { masks = now masks; values = now values; offsets = now offsets }) (kind .depth) ⌝ }
-    requires room { ⌜ length (storedBy (formOf (kind .values)) cells (record { masks = now masks; values = now values; offsets = now offsets }) (kind .depth)) ≤ length (now out) ⌝ }
-    ensures { λ _. ⌜ now (out .exit) ≡ over (storedBy (formOf (kind .values)) cells (record { masks = now (masks .entry); values = now (values .entry); offsets = now (offsets .entry) }) (kind .depth)) (now (out .entry)) ⌝ }
+    requires ready { ⌜ Ready (formOf (kind .values)) cells (contentIn (now masks) (now values) (now offsets)) (kind .depth) ⌝ }
+    requires room { ⌜ length (storedBy (formOf (kind .values)) cells (contentIn (now masks) (now values) (now offsets)) (kind .depth)) ≤ length (now out) ⌝ }
+    ensures { λ _. ⌜ now (out .exit) ≡ over (storedBy (formOf (kind .values)) cells (contentIn (now (masks .entry)) (now (values .entry)) (now (offsets .entry))) (kind .depth)) (now (out .entry)) ⌝ }
 {
     let form = kind.values;
     let depth = kind.depth as usize;

@@ -22,7 +22,7 @@ use Rattle.cover.specs.Asked.{SubsetsOk}
 use Rattle.cover.proofs.SubsetWalk.{SubsetsLeft, rest, rest-begins, rest-ends, subsets-begin, subsets-more, subset-now, now-lengths}
 use Rattle.merge.specs.Chunks.{chunkTest, chunkBytes, chunkTaken, chunkSum, chunkAnswer}
 use Rattle.merge.proofs.OneChunk.{Fitting, chunk-fits, chunk-bad}
-use Rattle.merge.specs.declared.check.Chunk.the-variants.{Fits, Bad}
+use Rattle.merge.specs.declared.rules.Chunk.the-variants.{Fits, Bad}
 
 -- an answer with more added
 abbrev pub plus : ℕ → Answer ℕ → Answer ℕ

@@ -15,7 +15,7 @@ use Rattle.array.proofs.Rules.{left-of, right-of}
 use Rattle.chunks.specs.Chunks.{offsetCount}
 use Rattle.merge_stores.proofs.RaggedTies.{last-take}
 use Rattle.merge.specs.Chunks.{chunkTest, chunkBytes, chunkTaken, pickChunk, chunkAnswer}
-use Rattle.merge.specs.declared.check.Chunk.the-variants.{Fits, Bad}
+use Rattle.merge.specs.declared.rules.Chunk.the-variants.{Fits, Bad}
 
 rising-last : (a : ℕ) (bs : List ℕ) → risingFromTest a bs ≡ true → a ≤ lastFrom a bs
 rising-last a [] e = omega arith

@@ -12,9 +12,9 @@ use Rattle.array.specs.Offsets.{last, risingTest}
 use Rattle.array.specs.Shape.{volume}
 use Rattle.array.specs.Subset.{Subset, lengths}
 use Rattle.chunks.specs.Chunks.{offsetCount, valueCount}
-use Rattle.merge.specs.declared.check.Chunk.{Chunk}
-use Rattle.merge.specs.declared.check.Chunk.the-variants.{Fits, Bad}
-use Rattle.merge.specs.declared.check.Total.{Total}
+use Rattle.merge.specs.declared.rules.Chunk.{Chunk}
+use Rattle.merge.specs.declared.rules.Chunk.the-variants.{Fits, Bad}
+use Rattle.merge.specs.declared.rules.Total.{Total}
 
 -- values of m cells, where so many bytes and the offsets os are left
 abbrev pub partTest : Form → ℕ → ℕ → List ℕ → Bool

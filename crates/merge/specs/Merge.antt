@@ -17,7 +17,7 @@ use Rattle.chunks.specs.Gather.{Once, onceTest}
 use Rattle.chunks.specs.Chunks.{chunkCells, mergeOf}
 use Rattle.cover.specs.Asked.{SubsetsOk}
 use Rattle.merge.specs.Chunks.{chunkSum}
-use Rattle.merge.specs.declared.check.Checks.{Checks}
+use Rattle.merge.specs.declared.rules.Checks.{Checks}
 
 -- what the stores go by: the cells of the shape, how many subsets there are, the value bytes in cells of all chunks
 pub record Sizes : Type 0 where

@@ -3,7 +3,7 @@ use array::answer::WrittenArray;
 use array::kind::Kind;
 use array::kind::Values;
 use array::refusal;
-use check::Checks;
+use rules::Checks;
 ghost use mathlib.Core.Path.{_≡_};
 ghost use lib.ListN.{length};
 ghost use Rattle.array.specs.Meaning.{kindOf};
@@ -13,7 +13,7 @@ ghost use Rattle.array.specs.Outcome.{contentArray, outcomeArray};
 ghost use Rattle.chunks.specs.Calls.{merged};
 ghost use Rattle.merge.specs.Merge.{storeAnswer, MergeAsked};
 
-pub mod check;
+pub mod rules;
 
 // Stores chunks that passed the checks, where the outputs are long enough.
 fn store_chunks(
@@ -100,7 +100,7 @@ pub fn merge(
         ≡ merged (kindOf kind) (now (shape .entry)) (now (subsets .entry)) (contentArray (now (masks .entry)) (now (values .entry)) (now (offsets .entry)))
         (contentArray (now («out_masks» .entry)) (now («out_values» .entry)) (now («out_offsets» .entry))) ⌝ }
 {
-    match check::check_merge(kind, shape, subsets, masks.len(), values.len(), offsets) {
+    match rules::check_merge(kind, shape, subsets, masks.len(), values.len(), offsets) {
         Checks::Refused(e) => WrittenArray::Refused(e),
         Checks::Passed(cells, count, bytes) => store_chunks(
             kind,

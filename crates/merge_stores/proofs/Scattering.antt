@@ -12,6 +12,7 @@ use lib.Dec.{eqb}
 use borrow.Author.Tests.{eqb-true, eqb-false}
 use Rattle.array.specs.Lists.{from, pick, count}
 use Rattle.array.proofs.Lists.{length-from}
+use Rattle.array.proofs.Geometry as geometry
 use Rattle.chunks.specs.Gather.{lookup, putBack}
 use Rattle.chunks.proofs.Gather.{map-from, gather-all}
 use Rattle.merge_stores.specs.Scatter.{scatter, places}
@@ -89,11 +90,7 @@ module _ {A : Type 0} (z : A) where
 -- ---- the places of a run of cells are a run of bytes
 
 pub from-append : (a n m : ℕ) → from a n ++ from (a + n) m ≡ from a (n + m)
-from-append a zero m = ap₂ from (add-zero a) (sym (native.Mathlib.Nat.zero-add m))
-from-append a (suc n) m =
-    let p : a + suc n ≡ suc a + n = omega arith in
-    let q : suc n + m ≡ suc (n + m) = omega arith in
-    ap (λ (k : ℕ). a ∷ from (suc a) n ++ from k m) p ∙ ap (λ (r : List ℕ). a ∷ r) (from-append (suc a) n m) ∙ ap (from a) (sym q)
+from-append a n m = sym (geometry.from-append a n m (a + n) (n + m) refl refl)
 
 pub places-append : (off : ℕ → ℕ) (js ks : List ℕ) → places off (js ++ ks) ≡ places off js ++ places off ks
 places-append off [] ks = refl

@@ -6,9 +6,8 @@ use array::answer::WrittenRagged;
 use array::endian;
 use array::kind;
 use array::kind::ByteOrder;
+use array::kind::IndexRead;
 use array::kind::KindRead;
-use array::kind::Values;
-use array::refusal;
 use array::subset;
 use interleaved::vlen_v2;
 use partial::vlen_partial;
@@ -108,6 +107,13 @@ fn ask_encode(head: &[u64], shape: &[u64], in_masks: &[u8], in_values: &[u8], in
     }
 }
 
+fn ask_decode(head: &[u64], shape: &[u64], bytes: &[u8], masks: &mut [u8], values: &mut [u8], offsets: &mut [u64]) -> WrittenArray {
+    match head_kind(head) {
+        KindRead::Refused(e) => WrittenArray::Refused(e),
+        KindRead::Kind(kind) => decode::decode(kind, shape, bytes, masks, values, offsets),
+    }
+}
+
 fn ask_extract(
     head: &[u64],
     shape: &[u64],
@@ -142,7 +148,6 @@ fn ask_merge(
     }
 }
 
-// Width and place are told as those of a ragged kind.
 fn ask_partial_decode(
     head: &[u64],
     shape: &[u64],
@@ -151,15 +156,9 @@ fn ask_partial_decode(
     values: &mut [u8],
     offsets: &mut [u64],
 ) -> WrittenArray {
-    match kind::kind_from_numbers(0, 1, number_at(head, 0), number_at(head, 1), 0) {
-        KindRead::Refused(e) => WrittenArray::Refused(e),
-        KindRead::Kind(kind) => {
-            let form = kind.values;
-            match form {
-                Values::Fixed(_, _) => WrittenArray::Refused(refusal::KIND),
-                Values::Ragged(width, place) => ragged_told(vlen_partial::partial_decode(width, place, shape, subset, bytes, values, offsets)),
-            }
-        }
+    match kind::index_from_numbers(number_at(head, 0), number_at(head, 1)) {
+        IndexRead::Refused(e) => WrittenArray::Refused(e),
+        IndexRead::Index(width, place) => ragged_told(vlen_partial::partial_decode(width, place, shape, subset, bytes, values, offsets)),
     }
 }
 
@@ -178,6 +177,7 @@ pub fn run(
 ) -> WrittenArray {
     match letter {
         b'e' => ask_encode(head, shape, in_masks, in_values, in_offsets, values),
+        b'd' => ask_decode(head, shape, in_values, masks, values, offsets),
         b'i' => ask_decode_interleaved(head, in_values, values, offsets),
         b'x' => ask_extract(head, shape, subset, in_masks, in_values, in_offsets, masks, values, offsets),
         b'm' => ask_merge(head, shape, subset, in_masks, in_values, in_offsets, masks, values, offsets),

@@ -1,3 +1,5 @@
+-- `encode::encode` meets its contract: each way it ends has a law.
+-- Assumes nothing.
 use mathlib.Core.Path.{_≡_, sym, ap, _∙_}
 use mathlib.Core.Bool.{true}
 use borrow.Author.Tests.{not-true, not-false}
@@ -7,17 +9,12 @@ use Rattle.array.specs.Kind.{kindTest}
 use Rattle.array.specs.Limits.{mostCells}
 use Rattle.array.specs.Meaning.{kindOf}
 use Rattle.array.specs.ShapeCells.{toldCells, shapeAnswer}
-use Rattle.array.proofs.ShapeLaws.{Counted, counted}
+use Rattle.array.proofs.ShapeLaws.{counted}
+use Rattle.encode.specs.Stored.{contentIn}
 use Rattle.encode.proofs.Encodes.{encode-kind, encode-shape, encode-content, encode-encodable, encode-rest}
 use borrow.Author.Needs.{needs}
 use Rattle.encode.proofs.encode.Statement.{statement}
 use Rattle.encode.proofs.encode.Tie as tie
-use Rattle.encode.proofs.encode.Reads as reads
-use Rattle.encode.proofs.encode.Lts as lts
-use Rattle.array.proofs.array_bytes.check_array.Reads as check-array-reads
-use Rattle.array.proofs.kind.check_kind.Reads as check-kind-reads
-use Rattle.array.proofs.shape.shape_cells.Reads as shape-cells-reads
-use Rattle.encode.proofs.encode_valid.Reads as encode-valid-reads
 
 sound : (c : tie.Else1) → kindTest (kindOf (c .before .before .before .before .before .before .before .args .kind)) ≡ true
 sound c = sym (c .before .check-kind .ensures) ∙ not-false (c .before .check-kind .result) (c .if1 .left)
@@ -25,58 +22,60 @@ sound c = sym (c .before .check-kind .ensures) ∙ not-false (c .before .check-k
 shaped : (c : tie.After-cells) → gives (c .cells .given .0 .0) ≡ shapeAnswer (c .before .before .before .before .before .before .before .before .before .before .args .shape .now)
 shaped c = sym (ap toldCells (c .cells .given .1)) ∙ c .before .before .shape-cells .ensures
 
--- src/lib.rt:39:9
 check-kind-requires : tie.Need-check-kind-requires
 check-kind-requires c κs = search needs
 
--- src/lib.rt:40:9
 returns : tie.Need-returns
-returns c = let a = c .before .before .before .before .before .before .before .args in let v : Content = record { masks = a .masks .now; values = a .values .now; offsets = a .offsets .now } in encode-kind (kindOf (a .kind)) (a .shape .now) v (a .out .now) (sym (c .before .check-kind .ensures) ∙ not-true (c .before .check-kind .result) (c .if1 .taken))
+returns c =
+    let a = c .before .before .before .before .before .before .before .args in
+    let v : Content = contentIn (a .masks .now) (a .values .now) (a .offsets .now) in
+    encode-kind (kindOf (a .kind)) (a .shape .now) v (a .out .now) (sym (c .before .check-kind .ensures) ∙ not-true (c .before .check-kind .result) (c .if1 .taken))
 
--- src/lib.rt:42:31
 shape-cells-requires : tie.Need-shape-cells-requires
 shape-cells-requires c κs = search needs
 
--- src/lib.rt:42:22
 enum-known-cells : tie.Need-enum-known-cells
 enum-known-cells c = search needs
 
--- src/lib.rt:43:9
 enum-told : tie.Need-enum-told
 enum-told c = search needs
 
--- src/lib.rt:43:9
 returns-2 : tie.Need-returns-2
-returns-2 c = let a = c .before .before .before .before .before .before .before .before .before .before .args in let v : Content = record { masks = a .masks .now; values = a .values .now; offsets = a .offsets .now } in encode-shape (kindOf (a .kind)) (a .shape .now) v (a .out .now) (sound (c .before .before .before)) _ (sym (ap toldCells (c .enum-told .given .1)) ∙ c .before .before .shape-cells .ensures)
+returns-2 c =
+    let a = c .before .before .before .before .before .before .before .before .before .before .args in
+    let v : Content = contentIn (a .masks .now) (a .values .now) (a .offsets .now) in
+    encode-shape (kindOf (a .kind)) (a .shape .now) v (a .out .now) (sound (c .before .before .before)) (sym (ap toldCells (c .enum-told .given .1)) ∙ c .before .before .shape-cells .ensures)
 
--- src/lib.rt:45:9
 check-array-requires : tie.Need-check-array-requires
 unfolding mostCells
 check-array-requires c κs = counted (c .before .before .before .before .before .before .before .before .before .before .before .args .shape .now) (c .before .cells .given .0 .0) (shaped (c .before)) .few
 
--- src/lib.rt:47:26
 enum-known-checked : tie.Need-enum-known-checked
 enum-known-checked c = search needs
 
--- src/lib.rt:48:77
 enum-told-2 : tie.Need-enum-told-2
 enum-told-2 c = search needs
 
--- src/lib.rt:48:27
 encode-valid-requires : tie.Need-encode-valid-requires
-encode-valid-requires c κs = let a = c .before .before .before .before .before .before .before .before .before .before .before .before .before .before .before .args in let v : Content = record { masks = a .masks .now; values = a .values .now; offsets = a .offsets .now } in encode-encodable (kindOf (a .kind)) (a .shape .now) v (a .out .now) (sound (c .before .before .before .before .before .before .before .before)) (c .before .before .before .before .before .cells .given .0 .0) (shaped (c .before .before .before .before .before)) (c .before .before .before .check-array .result) (c .before .before .before .check-array .ensures) (c .before .enum-told2 .given .1)
+encode-valid-requires c κs =
+    let a = c .before .before .before .before .before .before .before .before .before .before .before .before .before .before .before .args in
+    let v : Content = contentIn (a .masks .now) (a .values .now) (a .offsets .now) in
+    encode-encodable (kindOf (a .kind)) (a .shape .now) v (a .out .now) (sound (c .before .before .before .before .before .before .before .before)) (shaped (c .before .before .before .before .before)) (c .before .before .before .check-array .result) (c .before .before .before .check-array .ensures) (c .before .enum-told2 .given .1)
 
--- src/lib.rt:29:1
 returns-3 : tie.Need-returns-3
-returns-3 c = let a = c .before .before .before .before .before .before .before .before .before .before .before .before .before .before .before .args in let v : Content = record { masks = a .masks .now; values = a .values .now; offsets = a .offsets .now } in encode-content (kindOf (a .kind)) (a .shape .now) v (a .out .now) (sound (c .before .before .before .before .before .before .before .before)) (c .before .before .before .before .before .cells .given .0 .0) (shaped (c .before .before .before .before .before)) (c .before .before .before .check-array .result) (c .before .before .before .check-array .ensures) (c .before .checked .given .0 .0) (c .before .checked .given .1)
+returns-3 c =
+    let a = c .before .before .before .before .before .before .before .before .before .before .before .before .before .before .before .args in
+    let v : Content = contentIn (a .masks .now) (a .values .now) (a .offsets .now) in
+    encode-content (kindOf (a .kind)) (a .shape .now) v (a .out .now) (sound (c .before .before .before .before .before .before .before .before)) (shaped (c .before .before .before .before .before)) (c .before .before .before .check-array .result) (c .before .before .before .check-array .ensures) (c .before .checked .given .1)
 
--- src/lib.rt:29:1
 same-length : tie.Need-same-length
 same-length c = search needs
 
--- src/lib.rt:29:1
 returns-4 : tie.Need-returns-4
-returns-4 c = let a = c .before .before .before .before .before .before .before .before .before .before .before .before .before .before .before .before .before .before .args in let v : Content = record { masks = a .masks .now; values = a .values .now; offsets = a .offsets .now } in c .before .before .encode-valid .ensures ∙ encode-rest (kindOf (a .kind)) (a .shape .now) v (a .out .now) (sound (c .before .before .before .before .before .before .before .before .before .before .before)) (c .before .before .before .before .before .before .before .before .cells .given .0 .0) (shaped (c .before .before .before .before .before .before .before .before)) (c .before .before .before .before .before .before .check-array .result) (c .before .before .before .before .before .before .check-array .ensures) (c .before .before .before .before .enum-told2 .given .1)
+returns-4 c =
+    let a = c .before .before .before .before .before .before .before .before .before .before .before .before .before .before .before .before .before .before .args in
+    let v : Content = contentIn (a .masks .now) (a .values .now) (a .offsets .now) in
+    c .before .before .encode-valid .ensures ∙ encode-rest (kindOf (a .kind)) (a .shape .now) v (a .out .now) (sound (c .before .before .before .before .before .before .before .before .before .before .before)) (shaped (c .before .before .before .before .before .before .before .before)) (c .before .before .before .before .before .before .check-array .result) (c .before .before .before .before .before .before .check-array .ensures) (c .before .before .before .before .enum-told2 .given .1)
 
 pub encode-spec : {M : Type 1} → statement M
 encode-spec =

@@ -1,23 +1,23 @@
-use borrow.Author.Needs.{needs}
-use mathlib.Core.Path.{_≡_, ap, ap₂, sym, _∙_}
+-- `encode::length::content_length` meets its contract: the levels left fall.
+-- Assumes nothing.
+use mathlib.Core.Path.{ap₂, sym, _∙_}
 use mathlib.Core.Logic.{_≢_}
 use Prim.Native.Nat.{_≤_, _+_, _-_, _*_}
 use native.Mathlib.Nat.{pos-of-ne-zero}
 use native.Mathlib.Omega.{arith}
 use lib.ListN.{length}
-use Rattle.array.specs.Limits.{mostCells}
 use Rattle.array.specs.Meaning.{formOf}
 use Rattle.encode.specs.Live.{liveAt}
-use Rattle.encode.specs.Stored.{lengthFrom}
-use Rattle.encode.proofs.Runs.{live-le}
 use Rattle.encode.proofs.Levels.{length-none, length-values, length-frame, length-small}
-use Rattle.encode.proofs.Forms.{measured-here, measured-next, narrow-of}
+use Rattle.encode.proofs.Forms.{measured-here, measured-next, measured-planes, narrow-of, count-small}
+use borrow.Author.Needs.{needs}
 use Prim.Native.Nat.{ℕ, _<_}
 use borrow.Fn.Kinds.{In}
 use borrow.Fn.PlainCycle.{Measures, is, falls, and}
 use Rattle.encode.proofs.length.content_length.Reads as content-length
 use Rattle.encode.proofs.length.content_length.Kinds as content-length-kinds
 use Rattle.encode.proofs.length.+content_length.Lts-content_length as content-length-lts
+use Rattle.codec.proofs.mask.mask_length.Reads as mask-length-reads
 use Rattle.encode.proofs.live.count_live.Reads as count-live-reads
 use Rattle.encode.proofs.values.values_length.Reads as values-length-reads
 use Rattle.encode.proofs.length.+content_length.{statement}
@@ -44,55 +44,55 @@ content-length-below t =
 
 -- the readings of what each member calls
 abbrev claims-content-length : ℕ → content-length-lts.Claims
-claims-content-length t = (count-live-reads.Asked, count-live-reads.Learnt, values-length-reads.Asked, values-length-reads.Learnt, content-length-below t, content-length.Post)
-
-small : (t : ℕ) (c : content-length-lts.After-content-length (claims-content-length t) (content-length-at t) content-length.Post) → c .content-length .result ≤ (c .before .before .before .before .before .before .args .left - 1) * 65552 + 17301520
-small t c = let a = c .before .before .before .before .before .before .args in omega (arith, c .content-length .ensures, length-small (formOf (a .form)) (a .cells) (a .masks .now) (a .offsets .now) (narrow-of (a .form)) (c .before .before .before .before .before .before .pre .1 .few) (c .before .before .before .before .before .before .pre .1 .offsets) (a .left - 1) (a .level + 1))
+claims-content-length t = (count-live-reads.Asked, count-live-reads.Learnt, values-length-reads.Asked, values-length-reads.Learnt, mask-length-reads.Asked, mask-length-reads.Learnt, content-length-below t, content-length.Post)
 
 some : (t : ℕ) (c : content-length-lts.Else1 (claims-content-length t) (content-length-at t) content-length.Post) → length (liveAt (c .before .before .before .before .args .cells) (c .before .before .before .before .args .masks .now) (c .before .before .before .before .args .level)) ≢ 0
 some t c = λ z. c .if1 .left (c .before .count-live .ensures ∙ z)
 
--- src/length.rt:27:9
-content-length-count-live-requires : (t : ℕ) → content-length-lts.Need-count-live-requires (claims-content-length t) (content-length-at t) content-length.Post
-content-length-count-live-requires t c κs = let a = c .before .before .args in let m = measured-here (formOf (a .form)) (a .cells) (a .masks .now) (a .offsets .now) (a .level) (a .left) (c .before .before .pre .1) in (m .few, m .planes)
+few : (t : ℕ) (c : content-length-lts.After-count-live (claims-content-length t) (content-length-at t) content-length.Post) → c .count-live .result ≤ 65536
+few t c = let a = c .before .before .before .args in count-small (a .form) (measured-here (a .level) (a .left) (c .before .before .before .pre .1)) (c .count-live .ensures)
 
--- src/length.rt:29:9
+small : (t : ℕ) (c : content-length-lts.After-content-length (claims-content-length t) (content-length-at t) content-length.Post) → c .content-length .result ≤ (c .before .before .before .before .before .before .before .args .left - 1) * 65552 + 17301520
+small t c = let a = c .before .before .before .before .before .before .before .args in omega (arith, c .content-length .ensures, length-small (formOf (a .form)) (a .cells) (a .masks .now) (a .offsets .now) (narrow-of (a .form)) (c .before .before .before .before .before .before .before .pre .1 .few) (c .before .before .before .before .before .before .before .pre .1 .sizes) (a .left - 1) (a .level + 1))
+
+content-length-count-live-requires : (t : ℕ) → content-length-lts.Need-count-live-requires (claims-content-length t) (content-length-at t) content-length.Post
+content-length-count-live-requires t c κs = let a = c .before .before .args in measured-planes (measured-here (a .level) (a .left) (c .before .before .pre .1))
+
 content-length-returns : (t : ℕ) → content-length-lts.Need-returns (claims-content-length t) (content-length-at t) content-length.Post
 content-length-returns t c = let a = c .before .before .before .before .args in length-none (formOf (a .form)) (a .cells) (a .masks .now) (a .offsets .now) (a .level) (a .left) (sym (c .before .count-live .ensures) ∙ c .if1 .taken)
 
--- src/length.rt:32:9
 content-length-values-length-requires : (t : ℕ) → content-length-lts.Need-values-length-requires (claims-content-length t) (content-length-at t) content-length.Post
-content-length-values-length-requires t c κs = let a = c .before .before .before .before .before .args in (c .before .before .count-live .ensures, measured-here (formOf (a .form)) (a .cells) (a .masks .now) (a .offsets .now) (a .level) (a .left) (c .before .before .before .before .before .pre .1))
+content-length-values-length-requires t c κs = let a = c .before .before .before .before .before .args in (c .before .before .count-live .ensures, measured-here (a .level) (a .left) (c .before .before .before .before .before .pre .1))
 
--- src/length.rt:32:9
 content-length-returns-2 : (t : ℕ) → content-length-lts.Need-returns-2 (claims-content-length t) (content-length-at t) content-length.Post
 content-length-returns-2 t c = let a = c .before .before .before .before .before .before .args in c .values-length .ensures ∙ length-values (formOf (a .form)) (a .cells) (a .masks .now) (a .offsets .now) (a .level) (a .left) (c .before .if2 .taken) (some t (c .before .before))
 
--- src/length.rt:34:5
+content-length-mask-length-requires : (t : ℕ) → content-length-lts.Need-mask-length-requires (claims-content-length t) (content-length-at t) content-length.Post
+content-length-mask-length-requires t c κs = search needs
+
 content-length-add-result : (t : ℕ) → content-length-lts.Need-add-result (claims-content-length t) (content-length-at t) content-length.Post
-unfolding mostCells
-content-length-add-result t c = let a = c .before .before .before .before .before .args in omega (arith, c .before .before .count-live .ensures, c .before .before .before .before .before .pre .1 .few, live-le (a .cells) (a .masks .now) (a .level))
+content-length-add-result t c = omega (arith, few t (c .before .before .before), c .mask-length .ensures)
 
--- src/length.rt:34:62
 content-length-add-content-length : (t : ℕ) → content-length-lts.Need-add-content-length (claims-content-length t) (content-length-at t) content-length.Post
-content-length-add-content-length t c = omega (arith, c .before .before .before .before .before .pre .1 .shallow)
+content-length-add-content-length t c = omega (arith, c .before .before .before .before .before .before .pre .1 .shallow)
 
--- src/length.rt:34:73
 content-length-sub-content-length : (t : ℕ) → content-length-lts.Need-sub-content-length (claims-content-length t) (content-length-at t) content-length.Post
-content-length-sub-content-length t c = pos-of-ne-zero (c .if2 .left)
+content-length-sub-content-length t c = pos-of-ne-zero (c .before .if2 .left)
 
--- src/length.rt:34:18
 content-length-content-length-requires : (t : ℕ) → content-length-lts.Need-content-length-requires (claims-content-length t) (content-length-at t) content-length.Post
-content-length-content-length-requires t c κs = let a = c .before .before .before .before .before .args in let p : 0 < a .left = pos-of-ne-zero (c .if2 .left) in (omega (arith, c .before .before .before .before .before .pre .0), (measured-next (formOf (a .form)) (a .cells) (a .masks .now) (a .offsets .now) (a .level) (a .left) (c .before .before .before .before .before .pre .1) (c .if2 .left)))
+content-length-content-length-requires t c κs =
+    let a = c .before .before .before .before .before .before .args in
+    let p : 0 < a .left = pos-of-ne-zero (c .before .if2 .left) in
+    (omega (arith, c .before .before .before .before .before .before .pre .0), measured-next (a .level) (a .left) (c .before .before .before .before .before .before .pre .1) (c .before .if2 .left))
 
--- src/length.rt:34:5
 content-length-add-result-2 : (t : ℕ) → content-length-lts.Need-add-result-2 (claims-content-length t) (content-length-at t) content-length.Post
-unfolding mostCells
-content-length-add-result-2 t c = let a = c .before .before .before .before .before .before .args in omega (arith, (small t c), c .before .before .before .before .before .before .pre .1 .shallow, c .before .before .before .count-live .ensures, c .before .before .before .before .before .before .pre .1 .few, live-le (a .cells) (a .masks .now) (a .level))
+content-length-add-result-2 t c = omega (arith, small t c, few t (c .before .before .before .before), c .before .mask-length .ensures, c .before .before .before .before .before .before .before .pre .1 .shallow)
 
--- src/length.rt:16:1
 content-length-returns-3 : (t : ℕ) → content-length-lts.Need-returns-3 (claims-content-length t) (content-length-at t) content-length.Post
-content-length-returns-3 t c = let a = c .before .before .before .before .before .before .args in ap₂ (λ (m k : ℕ). 16 + m + k) (c .before .before .before .count-live .ensures) (c .content-length .ensures) ∙ length-frame (formOf (a .form)) (a .cells) (a .masks .now) (a .offsets .now) (a .level) (a .left) (c .before .if2 .left) (some t (c .before .before))
+content-length-returns-3 t c =
+    let a = c .before .before .before .before .before .before .before .args in
+    ap₂ (λ (m k : ℕ). 16 + m + k) (c .before .mask-length .ensures ∙ c .before .before .before .before .count-live .ensures) (c .content-length .ensures)
+    ∙ length-frame (formOf (a .form)) (a .cells) (a .masks .now) (a .offsets .now) (a .level) (a .left) (c .before .before .if2 .left) (some t (c .before .before .before))
 
 pub +content-length-spec : {M : Type 1} → statement M
 +content-length-spec = close μ-content-length λ t. content-length-lts.spec (claims-content-length t) (content-length-at t) content-length.Post
@@ -100,6 +100,7 @@ pub +content-length-spec : {M : Type 1} → statement M
     (content-length-returns t)
     (content-length-values-length-requires t)
     (content-length-returns-2 t)
+    (content-length-mask-length-requires t)
     (content-length-add-result t)
     (content-length-add-content-length t)
     (content-length-sub-content-length t)

@@ -1,15 +1,14 @@
-use borrow.Author.Needs.{needs}
-use mathlib.Core.Path.{_≡_, refl, sym, ap, _∙_}
+-- `encode::live::live_run` meets its contract: the run from i is what was passed and the run from j.
+-- Assumes nothing.
+use mathlib.Core.Path.{_≡_, sym, _∙_}
 use Prim.Native.Nat.{_≤_, _+_, _-_}
 use native.Mathlib.Omega.{arith}
 use borrow.Author.Tests.{not-true, not-false}
 use Rattle.encode.specs.Live.{liveTest, runOf}
 use Rattle.encode.proofs.Runs.{live-none, run-stops, run-goes, run-none, run-all}
+use borrow.Author.Needs.{needs}
 use Rattle.encode.proofs.live.live_run.Statement.{statement}
 use Rattle.encode.proofs.live.live_run.Tie as tie
-use Rattle.encode.proofs.live.live_run.Reads as reads
-use Rattle.encode.proofs.live.live_run.Lts as lts
-use Rattle.encode.proofs.live.is_live.Reads as is-live-reads
 
 abbrev Inv-loop : tie.InvT-loop
 Inv-loop masks cells level i j₀ j = (i ≤ j) × (j ≤ cells) × (runOf (liveTest cells masks level) i (cells - i) ≡ (j - i) + runOf (liveTest cells masks level) j (cells - j))
@@ -17,47 +16,45 @@ Inv-loop masks cells level i j₀ j = (i ≤ j) × (j ≤ cells) × (runOf (live
 abbrev μ-loop : tie.MeasureT-loop
 μ-loop masks cells level i j₀ j = cells - j
 
--- src/live.rt:37:16
 sub-result : tie.Need-sub-result Inv-loop μ-loop
 sub-result c = omega arith
 
--- src/live.rt:37:9
 returns : tie.Need-returns Inv-loop μ-loop
-returns c = let a = c .before .before .args in sym (run-all (liveTest (a .cells) (a .masks .now) (a .level)) (λ i. live-none (a .cells) (a .masks .now) i (a .level) (c .if1 .taken)) (a .i) (a .cells - a .i))
+returns c =
+    let a = c .before .before .args in
+    sym (run-all (liveTest (a .cells) (a .masks .now) (a .level)) (λ i. live-none (a .cells) (a .masks .now) i (a .level) (c .if1 .taken)) (a .i) (a .cells - a .i))
 
--- src/live.rt:40:5
 loop-holds : tie.Need-loop-holds Inv-loop μ-loop
 loop-holds c = (omega arith, omega arith, omega arith)
 
--- src/live.rt:41:13
 is-live-requires : tie.Need-is-live-requires Inv-loop μ-loop
 is-live-requires c κs = search needs
 
--- src/live.rt:42:20
 sub-result-2 : tie.Need-sub-result-2 Inv-loop μ-loop
 sub-result-2 c = omega arith
 
--- src/live.rt:42:13
 returns-2 : tie.Need-returns-2 Inv-loop μ-loop
-returns-2 c = let a = c .before .before .before .before .before .before .args in omega (arith, c .before .before .before .loop .inv .2, run-stops (liveTest (a .cells) (a .masks .now) (a .level)) (c .before .before .before .loop .j) (a .cells) (c .before .before .loop-test .taken) (sym (c .before .is-live .ensures) ∙ not-true (c .before .is-live .result) (c .if2 .taken)))
+returns-2 c =
+    let a = c .before .before .before .before .before .before .args in
+    omega (arith, c .before .before .before .loop .inv .2, run-stops (liveTest (a .cells) (a .masks .now) (a .level)) (c .before .before .before .loop .j) (a .cells) (c .before .before .loop-test .taken) (sym (c .before .is-live .ensures) ∙ not-true (c .before .is-live .result) (c .if2 .taken)))
 
--- src/live.rt:44:9
 add-j : tie.Need-add-j Inv-loop μ-loop
 add-j c = omega arith
 
--- src/live.rt:40:5
 loop-less : tie.Need-loop-less Inv-loop μ-loop
 loop-less c = omega arith
 
--- src/live.rt:40:5
 loop-again : tie.Need-loop-again Inv-loop μ-loop
-loop-again c = let a = c .before .before .before .before .before .before .args in (omega arith, omega arith, omega (arith, c .before .before .before .loop .inv .2, run-goes (liveTest (a .cells) (a .masks .now) (a .level)) (c .before .before .before .loop .j) (a .cells) (c .before .before .loop-test .taken) (sym (c .before .is-live .ensures) ∙ not-false (c .before .is-live .result) (c .if2 .left))))
+loop-again c =
+    let a = c .before .before .before .before .before .before .args in (
+      omega arith,
+      omega arith,
+      omega (arith, c .before .before .before .loop .inv .2, run-goes (liveTest (a .cells) (a .masks .now) (a .level)) (c .before .before .before .loop .j) (a .cells) (c .before .before .loop-test .taken) (sym (c .before .is-live .ensures) ∙ not-false (c .before .is-live .result) (c .if2 .left))),
+    )
 
--- src/live.rt:46:5
 sub-result-3 : tie.Need-sub-result-3 Inv-loop μ-loop
 sub-result-3 c = omega arith
 
--- src/live.rt:32:1
 returns-3 : tie.Need-returns-3 Inv-loop μ-loop
 returns-3 c = let a = c .before .before .before .before .args in omega (arith, c .before .loop .inv .2, run-none (liveTest (a .cells) (a .masks .now) (a .level)) (c .before .loop .j) (a .cells) (c .loop-test .left))
 

@@ -1,5 +1,7 @@
-use mathlib.Core.Path.{_≡_, sym, ap, _∙_}
-use Prim.Native.Nat.{ℕ, _≤_}
+-- `encode::ragged::put_offset` meets its contract: a case for each width.
+-- Assumes nothing.
+use mathlib.Core.Path.{ap, sym, _∙_}
+use Prim.Native.Nat.{ℕ}
 use native.Mathlib.Omega.{arith}
 use Rattle.array.specs.Buffers.{overAt}
 use Rattle.array.specs.Bytes.{le}
@@ -7,40 +9,28 @@ use Rattle.array.specs.Meaning.{widthOf}
 use borrow.Author.Needs.{needs}
 use Rattle.encode.proofs.ragged.put_offset.Statement.{statement}
 use Rattle.encode.proofs.ragged.put_offset.Tie as tie
-use Rattle.encode.proofs.ragged.put_offset.Reads as reads
-use Rattle.encode.proofs.ragged.put_offset.Lts as lts
-use Rattle.array.proofs.field.put_u32.Reads as put-u32-reads
-use Rattle.array.proofs.field.put_u64.Reads as put-u64-reads
 
--- src/ragged.rt:102:44
 enum-told : tie.Need-enum-told
 enum-told c = search needs
 
--- src/ragged.rt:102:29
 put-u32-requires : tie.Need-put-u32-requires
 put-u32-requires c κs = omega (arith, ap widthOf (c .before .enum-told .given .1))
 
--- src/ragged.rt:103:45
 enum-told-2 : tie.Need-enum-told-2
 enum-told-2 c = search needs
 
--- src/ragged.rt:103:30
 put-u64-requires : tie.Need-put-u64-requires
 put-u64-requires c κs = omega (arith, ap widthOf (c .before .enum-told2 .given .1))
 
--- src/ragged.rt:97:1
 same-length : tie.Need-same-length
 same-length c = search needs
 
--- src/ragged.rt:97:1
 returns : tie.Need-returns
 returns c = let a = c .before .before .before .before .before .before .before .args in c .before .before .put-u32 .ensures ∙ ap (λ (w : ℕ). overAt (a .at) (le w (a .v)) (a .out .now)) (sym (ap widthOf (c .before .before .before .before .enum-told .given .1)))
 
--- src/ragged.rt:97:1
 same-length-2 : tie.Need-same-length-2
 same-length-2 c = search needs
 
--- src/ragged.rt:97:1
 returns-2 : tie.Need-returns-2
 returns-2 c = let a = c .before .before .before .before .before .before .before .args in c .before .before .put-u64 .ensures ∙ ap (λ (w : ℕ). overAt (a .at) (le w (a .v)) (a .out .now)) (sym (ap widthOf (c .before .before .before .before .enum-told2 .given .1)))
 

@@ -1,66 +1,69 @@
-use mathlib.Core.Path.{_≡_, refl, sym, ap, _∙_}
-use Prim.Native.Nat.{ℕ}
+-- `encode::write::write_stored` meets its contract: a case for each form, and for depth 0.
+-- Assumes nothing.
+use mathlib.Core.Path.{refl, ap}
 use native.Mathlib.Omega.{arith}
-use mathlib.Core.List.{List}
 use lib.ListN.{length}
-use Rattle.array.specs.Buffers.{over}
 use Rattle.array.specs.Content.{Content}
-use Rattle.encode.proofs.Encodes.{by-fixed, by-ragged, by-plain, ready-as}
+use Rattle.encode.specs.Stored.{contentIn}
+use Rattle.encode.proofs.Placing.{laid-as}
+use Rattle.encode.proofs.Forms.{ready-all, stored-fixed, stored-ragged, stored-plain}
 use borrow.Author.Needs.{needs}
 use Rattle.encode.proofs.write.write_stored.Statement.{statement}
 use Rattle.encode.proofs.write.write_stored.Tie as tie
-use Rattle.encode.proofs.write.write_stored.Reads as reads
-use Rattle.encode.proofs.write.write_stored.Lts as lts
-use Rattle.encode.proofs.ragged.put_plain.Reads as put-plain-reads
-use Rattle.encode.proofs.write.write_content.Reads as write-content-reads
 
--- src/write.rt:129:17
 cast-depth : tie.Need-cast-depth
 cast-depth c = search needs
 
--- src/write.rt:132:27
 enum-told : tie.Need-enum-told
 enum-told c = search needs
 
--- src/write.rt:132:13
 write-content-requires : tie.Need-write-content-requires
-write-content-requires c κs = let a = c .before .before .before .before .before .before .before .before .args in let v : Content = record { masks = a .masks .now; values = a .values .now; offsets = a .offsets .now } in (ready-as (a .kind .values) (a .kind .values) (a .cells) v (a .kind .depth) refl (c .before .before .before .before .before .before .before .before .pre .0), omega (arith, c .before .before .before .before .before .before .before .before .pre .1, ap length (by-fixed (a .kind .values) (a .cells) v (a .kind .depth) (c .before .enum-told .given .0 .0) (c .before .enum-told .given .0 .1 .0) (c .before .enum-told .given .1))))
+write-content-requires c κs =
+    let a = c .before .before .before .before .before .before .before .before .args in
+    let v : Content = contentIn (a .masks .now) (a .values .now) (a .offsets .now) in
+    (ready-all {v = c .before .before .before .before .before .before .before .before .args .kind .values} refl (c .before .before .before .before .before .before .before .before .pre .0), omega (arith, c .before .before .before .before .before .before .before .before .pre .1, ap length (stored-fixed (c .before .enum-told .given .1) (a .cells) v (a .kind .depth))))
 
--- src/write.rt:134:24
 enum-known-form : tie.Need-enum-known-form
 enum-known-form c = search needs
 
--- src/write.rt:136:17
 put-plain-requires : tie.Need-put-plain-requires
-put-plain-requires c κs = let a = c .before .before .before .before .before .before .before .before .before .before .args in let v : Content = record { masks = a .masks .now; values = a .values .now; offsets = a .offsets .now } in omega (arith, c .before .before .before .before .before .before .before .before .before .before .pre .1, ap length (by-plain (a .kind .values) (a .cells) v (a .kind .depth) (c .before .before .before .form .given .0 .0) (c .before .before .before .form .given .0 .1 .0) (c .before .before .before .form .given .1) (c .before .if1 .taken)))
+put-plain-requires c κs =
+    let a = c .before .before .before .before .before .before .before .before .before .before .args in
+    let v : Content = contentIn (a .masks .now) (a .values .now) (a .offsets .now) in
+    omega (arith, c .before .before .before .before .before .before .before .before .before .before .pre .1, ap length (stored-plain (c .before .before .before .form .given .1) (a .cells) v (c .before .if1 .taken)))
 
--- src/write.rt:138:17
 write-content-requires-2 : tie.Need-write-content-requires-2
-write-content-requires-2 c κs = let a = c .before .before .before .before .before .before .before .before .before .before .args in let v : Content = record { masks = a .masks .now; values = a .values .now; offsets = a .offsets .now } in (ready-as (a .kind .values) _ (a .cells) v (a .kind .depth) (c .before .before .before .form .given .1) (c .before .before .before .before .before .before .before .before .before .before .pre .0), omega (arith, c .before .before .before .before .before .before .before .before .before .before .pre .1, ap length (by-ragged (a .kind .values) (a .cells) v (a .kind .depth) (c .before .before .before .form .given .0 .0) (c .before .before .before .form .given .0 .1 .0) (c .before .before .before .form .given .1) (c .before .if1 .left))))
+write-content-requires-2 c κs =
+    let a = c .before .before .before .before .before .before .before .before .before .before .args in
+    let v : Content = contentIn (a .masks .now) (a .values .now) (a .offsets .now) in
+    (ready-all (c .before .before .before .form .given .1) (c .before .before .before .before .before .before .before .before .before .before .pre .0), omega (arith, c .before .before .before .before .before .before .before .before .before .before .pre .1, ap length (stored-ragged (c .before .before .before .form .given .1) (a .cells) v (c .before .if1 .left))))
 
--- src/write.rt:116:1
 same-length : tie.Need-same-length
 same-length c = search needs
 
--- src/write.rt:116:1
 returns : tie.Need-returns
-returns c = let a = c .before .before .before .before .before .before .before .before .before .before .before .args in let v : Content = record { masks = a .masks .now; values = a .values .now; offsets = a .offsets .now } in c .before .before .write-content .ensures .1 ∙ ap (λ (x : List ℕ). over x (a .out .now)) (by-fixed (a .kind .values) (a .cells) v (a .kind .depth) (c .before .before .before .before .enum-told .given .0 .0) (c .before .before .before .before .enum-told .given .0 .1 .0) (c .before .before .before .before .enum-told .given .1))
+returns c =
+    let a = c .before .before .before .before .before .before .before .before .before .before .before .args in
+    let v : Content = contentIn (a .masks .now) (a .values .now) (a .offsets .now) in
+    laid-as 0 (a .out .now) (c .before .before .write-content .ensures .1) (stored-fixed (c .before .before .before .before .enum-told .given .1) (a .cells) v (a .kind .depth))
 
--- src/write.rt:116:1
 same-length-2 : tie.Need-same-length-2
 same-length-2 c = search needs
 
--- src/write.rt:116:1
 returns-2 : tie.Need-returns-2
-returns-2 c = let a = c .before .before .before .before .before .before .before .before .before .before .before .before .before .args in let v : Content = record { masks = a .masks .now; values = a .values .now; offsets = a .offsets .now } in c .before .before .put-plain .ensures ∙ ap (λ (x : List ℕ). over x (a .out .now)) (by-plain (a .kind .values) (a .cells) v (a .kind .depth) (c .before .before .before .before .before .before .form .given .0 .0) (c .before .before .before .before .before .before .form .given .0 .1 .0) (c .before .before .before .before .before .before .form .given .1) (c .before .before .before .before .if1 .taken))
+returns-2 c =
+    let a = c .before .before .before .before .before .before .before .before .before .before .before .before .before .args in
+    let v : Content = contentIn (a .masks .now) (a .values .now) (a .offsets .now) in
+    laid-as 0 (a .out .now) (c .before .before .put-plain .ensures) (stored-plain (c .before .before .before .before .before .before .form .given .1) (a .cells) v (c .before .before .before .before .if1 .taken))
 
--- src/write.rt:116:1
 same-length-3 : tie.Need-same-length-3
 same-length-3 c = search needs
 
--- src/write.rt:116:1
 returns-3 : tie.Need-returns-3
-returns-3 c = let a = c .before .before .before .before .before .before .before .before .before .before .before .before .before .args in let v : Content = record { masks = a .masks .now; values = a .values .now; offsets = a .offsets .now } in c .before .before .write-content2 .ensures .1 ∙ ap (λ (x : List ℕ). over x (a .out .now)) (by-ragged (a .kind .values) (a .cells) v (a .kind .depth) (c .before .before .before .before .before .before .form .given .0 .0) (c .before .before .before .before .before .before .form .given .0 .1 .0) (c .before .before .before .before .before .before .form .given .1) (c .before .before .before .before .if1 .left))
+returns-3 c =
+    let a = c .before .before .before .before .before .before .before .before .before .before .before .before .before .args in
+    let v : Content = contentIn (a .masks .now) (a .values .now) (a .offsets .now) in
+    laid-as 0 (a .out .now) (c .before .before .write-content2 .ensures .1) (stored-ragged (c .before .before .before .before .before .before .form .given .1) (a .cells) v (c .before .before .before .before .if1 .left))
 
 pub write-stored-spec : {M : Type 1} → statement M
 write-stored-spec =

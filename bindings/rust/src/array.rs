@@ -1,0 +1,206 @@
+//! Arrays: a kind, a shape and its content.
+
+use crate::{sizes, Kind, Refusal, Values, MAX_DEPTH, MAX_SIZE};
+
+/// A table in memory.
+///
+/// `masks` has one plane for each level, outermost first, one byte a cell: 00 is null, any other byte is set.
+/// Ragged kinds have one more offset than cells; fixed kinds have none.
+#[derive(Clone, Debug, PartialEq, Eq)]
+pub struct Array {
+    /// Depth, and fixed or ragged values.
+    pub kind: Kind,
+    /// 1 to 4 sides.
+    pub shape: Vec<u64>,
+    /// depth × cells bytes.
+    pub masks: Vec<u8>,
+    /// The value bytes.
+    pub values: Vec<u8>,
+    /// Cell i has the value bytes from `offsets[i]` up to `offsets[i + 1]`.
+    pub offsets: Vec<u64>,
+}
+
+/// A table in memory, borrowed.
+#[derive(Clone, Copy, Debug, PartialEq, Eq)]
+pub struct ArrayRef<'a> {
+    /// Depth, and fixed or ragged values.
+    pub kind: Kind,
+    /// 1 to 4 sides.
+    pub shape: &'a [u64],
+    /// depth × cells bytes.
+    pub masks: &'a [u8],
+    /// The value bytes.
+    pub values: &'a [u8],
+    /// Cell i has the value bytes from `offsets[i]` up to `offsets[i + 1]`.
+    pub offsets: &'a [u64],
+}
+
+/// What a cell is: null at a level, or a value, which may be empty.
+#[derive(Clone, Copy, Debug, PartialEq, Eq, Hash)]
+pub enum Cell<'a> {
+    /// Not set.
+    Null {
+        /// The outermost level whose mask byte is 00, counted from 1.
+        level: usize,
+    },
+    /// Set at all levels. An empty value is a value.
+    Value(&'a [u8]),
+}
+
+/// Ragged values without masks: cells of any length, none of them null.
+#[derive(Clone, Debug, PartialEq, Eq)]
+pub struct RaggedValues {
+    /// The value bytes.
+    pub values: Vec<u8>,
+    /// Cell i has the value bytes from `offsets[i]` up to `offsets[i + 1]`.
+    pub offsets: Vec<u64>,
+}
+
+impl Array {
+    /// Borrows the array.
+    pub fn view(&self) -> ArrayRef<'_> {
+        ArrayRef {
+            kind: self.kind,
+            shape: &self.shape,
+            masks: &self.masks,
+            values: &self.values,
+            offsets: &self.offsets,
+        }
+    }
+
+    /// Makes a table out of its cells, in row order. Set levels get the mask byte 01. What lies below a null is cleared.
+    ///
+    /// Refused where the kind or the shape is, and with [`Refusal::Content`] if there are more or fewer cells than the
+    /// shape has, a null names a level that the kind has not, or a fixed value has another size.
+    pub fn from_cells(kind: Kind, shape: &[u64], cells: &[Cell<'_>]) -> Result<Array, Refusal> {
+        let size = match kind.values {
+            Values::Fixed { size, .. } => size,
+            Values::Ragged { .. } => 1,
+        };
+        if kind.depth > MAX_DEPTH || size == 0 || size > MAX_SIZE {
+            return Err(Refusal::Kind);
+        }
+        let count = sizes::cells(shape).ok_or(Refusal::Shape)?;
+        if count != cells.len() {
+            return Err(Refusal::Content);
+        }
+        let depth = kind.depth as usize;
+        let ragged = kind.is_ragged();
+        let mut array = Array {
+            kind,
+            shape: shape.to_vec(),
+            masks: vec![0; depth * count],
+            values: Vec::new(),
+            offsets: if ragged { vec![0] } else { Vec::new() },
+        };
+        for (number, cell) in cells.iter().enumerate() {
+            let set = match *cell {
+                Cell::Null { level } if (1..=depth).contains(&level) => {
+                    if !ragged {
+                        array.values.resize(array.values.len() + size as usize, 0);
+                    }
+                    level - 1
+                }
+                Cell::Value(value) if ragged || value.len() as u64 == size => {
+                    array.values.extend_from_slice(value);
+                    depth
+                }
+                _ => return Err(Refusal::Content),
+            };
+            for level in 0..set {
+                array.masks[level * count + number] = 1;
+            }
+            if ragged {
+                array.offsets.push(array.values.len() as u64);
+            }
+        }
+        Ok(array)
+    }
+
+    /// How many cells the shape has; 0 where a side is 0.
+    pub fn cell_count(&self) -> usize {
+        self.view().cell_count()
+    }
+
+    /// The cell of a number, counted row by row. None if there is no such cell, or the lengths do not fit.
+    pub fn cell(&self, number: usize) -> Option<Cell<'_>> {
+        self.view().cell(number)
+    }
+
+    /// The mask bytes of a cell, outermost first.
+    pub fn masks_of(&self, number: usize) -> Vec<u8> {
+        self.view().masks_of(number)
+    }
+}
+
+impl<'a> ArrayRef<'a> {
+    /// How many cells the shape has; 0 where a side is 0.
+    pub fn cell_count(self) -> usize {
+        sizes::cells(self.shape).unwrap_or(0)
+    }
+
+    /// The cell of a number, counted row by row. None if there is no such cell, or the lengths do not fit.
+    pub fn cell(self, number: usize) -> Option<Cell<'a>> {
+        let count = self.cell_count();
+        if number >= count {
+            return None;
+        }
+        for level in 0..usize::try_from(self.kind.depth).ok()? {
+            if *self.masks.get(level.checked_mul(count)?.checked_add(number)?)? == 0 {
+                return Some(Cell::Null { level: level + 1 });
+            }
+        }
+        let (from, to) = match self.kind.values {
+            Values::Fixed { size, .. } => {
+                let size = usize::try_from(size).ok()?;
+                let from = number.checked_mul(size)?;
+                (from, from.checked_add(size)?)
+            }
+            Values::Ragged { .. } => (
+                usize::try_from(*self.offsets.get(number)?).ok()?,
+                usize::try_from(*self.offsets.get(number + 1)?).ok()?,
+            ),
+        };
+        self.values.get(from..to).map(Cell::Value)
+    }
+
+    /// The mask bytes of a cell, outermost first.
+    pub fn masks_of(self, number: usize) -> Vec<u8> {
+        let count = self.cell_count();
+        if number >= count {
+            return Vec::new();
+        }
+        self.masks.iter().skip(number).step_by(count).copied().collect()
+    }
+
+    /// An owned copy.
+    pub fn to_array(self) -> Array {
+        Array {
+            kind: self.kind,
+            shape: self.shape.to_vec(),
+            masks: self.masks.to_vec(),
+            values: self.values.to_vec(),
+            offsets: self.offsets.to_vec(),
+        }
+    }
+}
+
+impl<'a> From<&'a Array> for ArrayRef<'a> {
+    fn from(array: &'a Array) -> ArrayRef<'a> {
+        array.view()
+    }
+}
+
+impl RaggedValues {
+    /// How many cells there are.
+    pub fn cell_count(&self) -> usize {
+        self.offsets.len().saturating_sub(1)
+    }
+
+    /// The value of a cell.
+    pub fn cell(&self, number: usize) -> Option<&[u8]> {
+        let from = usize::try_from(*self.offsets.get(number)?).ok()?;
+        let to = usize::try_from(*self.offsets.get(number.checked_add(1)?)?).ok()?;
+        self.values.get(from..to)
+    }
+}

@@ -1,0 +1,74 @@
+//! The pictures of docs/FORMAT.md are what the library writes.
+
+use durpaxeta::*;
+
+/// The bytes of each picture; positions must run on.
+fn pictures() -> Vec<Vec<u8>> {
+    let page = include_str!("../../../docs/FORMAT.md");
+    let mut pictures = Vec::new();
+    for block in page.split("```bytes\n").skip(1) {
+        let (block, _) = block.split_once("```").expect("a picture ends");
+        let mut bytes = Vec::new();
+        for line in block.lines() {
+            let mut parts = line.split('|').map(str::trim);
+            let at: usize =
+                parts.next().and_then(|at| at.parse().ok()).unwrap_or_else(|| panic!("no position: {line}"));
+            assert_eq!(at, bytes.len(), "{line}");
+            let hex = parts.next().unwrap_or_else(|| panic!("no bytes: {line}"));
+            bytes.extend(hex.split(' ').map(|byte| u8::from_str_radix(byte, 16).unwrap_or_else(|_| panic!("{line}"))));
+        }
+        pictures.push(bytes);
+    }
+    pictures
+}
+
+fn stored(kind: Kind, shape: &[u64], cells: &[Cell<'_>]) -> Vec<u8> {
+    encode(&Array::from_cells(kind, shape, cells).unwrap()).unwrap()
+}
+
+#[test]
+fn pictures_are_real() {
+    let fixed = |depth, size| Kind::fixed(depth, size, Order::Little);
+    let start = |depth| Kind::ragged(depth, Width::Four, Place::Start);
+    let (a, empty, null1, null2) =
+        (Cell::Value(b"A"), Cell::Value(b""), Cell::Null { level: 1 }, Cell::Null { level: 2 });
+    let two = [Cell::Value(&[10, 11]), Cell::Value(&[12, 13])];
+    let ragged = [Cell::Value(b"AB"), empty];
+    let late = Array { kind: start(0), shape: vec![1], masks: vec![], values: b"AB".to_vec(), offsets: vec![1, 2] };
+    let wanted = [
+        stored(fixed(0, 2), &[2], &two),
+        stored(Kind::fixed(0, 2, Order::Big), &[2], &two),
+        stored(Kind::ragged(0, Width::Four, Place::End), &[2], &ragged),
+        stored(Kind::ragged(0, Width::Eight, Place::Start), &[2], &ragged),
+        encode(&late).unwrap(),
+        stored(fixed(1, 2), &[3], &[Cell::Value(&[10, 11]), null1, Cell::Value(&[14, 15])]),
+        stored(fixed(1, 2), &[3], &[null1; 3]),
+        stored(fixed(2, 1), &[3], &[Cell::Value(&[7]), null2, null1]),
+        stored(start(2), &[2, 2], &[Cell::Value(b"0-3,8"), empty, null1, null2]),
+        stored(start(2), &[1], &[a]),
+        stored(start(2), &[1], &[empty]),
+        stored(start(2), &[1], &[null2]),
+        stored(start(2), &[1], &[null1]),
+    ];
+    let pictures = pictures();
+    assert_eq!(pictures.len(), wanted.len() + 1);
+    for (number, (picture, wanted)) in pictures.iter().zip(&wanted).enumerate() {
+        assert_eq!(picture, wanted, "picture {number}");
+    }
+    let interleaved = decode_interleaved(2, pictures.last().unwrap()).unwrap();
+    assert_eq!((interleaved.cell(0), interleaved.cell(1)), (Some(&b"A"[..]), Some(&b""[..])));
+
+    let lengths: Vec<usize> = pictures.iter().map(Vec::len).collect();
+    assert_eq!(lengths, [4, 4, 22, 34, 18, 23, 19, 38, 64, 51, 50, 34, 17, 13]);
+}
+
+#[test]
+fn answers_of_the_questions() {
+    let one = Kind::ragged(1, Width::Four, Place::Start);
+    assert_eq!(stored(one, &[2], &[Cell::Null { level: 1 }; 2]).len(), 18);
+    let kind = Kind::ragged(2, Width::Four, Place::Start);
+    let mut affinity = pictures()[8].clone();
+    affinity[51] = 4;
+    let table = decode(kind, &[2, 2], &affinity).unwrap();
+    assert_eq!((table.cell(0), table.cell(1)), (Some(Cell::Value(b"0-3,")), Some(Cell::Value(b"8"))));
+}

@@ -1,0 +1,191 @@
+//! Document 01's lines, "Bytes to hold against", and the smallest inputs of docs/DECISIONS.md that a caller can hand over.
+
+use durpaxeta::*;
+
+fn bytes(hex: &str) -> Vec<u8> {
+    let digits: Vec<u32> = hex.chars().filter_map(|c| c.to_digit(16)).collect();
+    digits.chunks(2).map(|pair| (pair[0] * 16 + pair[1]) as u8).collect()
+}
+
+fn fixed(depth: u64, size: u64) -> Kind {
+    Kind::fixed(depth, size, Order::Little)
+}
+
+fn ragged(depth: u64, width: Width, place: Place) -> Kind {
+    Kind::ragged(depth, width, place)
+}
+
+fn array(kind: Kind, shape: &[u64], masks: &[u8], values: &[u8], offsets: &[u64]) -> Array {
+    Array { kind, shape: shape.to_vec(), masks: masks.to_vec(), values: values.to_vec(), offsets: offsets.to_vec() }
+}
+
+fn subset(numbers: &[u64]) -> Subset {
+    Subset::from_numbers(numbers.to_vec())
+}
+
+#[test]
+fn depth_1_size_2() {
+    let kind = fixed(1, 2);
+    let stored = encode(&array(kind, &[3], &[1, 0, 1], &bytes("0A0B 0C0D 0E0F"), &[])).unwrap();
+    assert_eq!(stored, bytes("0300000000000000 0400000000000000 010001 0A0B 0E0F"));
+    assert_eq!(stored.len(), 23);
+    assert_eq!(decode(kind, &[3], &stored), Ok(array(kind, &[3], &[1, 0, 1], &bytes("0A0B 0000 0E0F"), &[])));
+}
+
+#[test]
+fn depth_1_nothing_set() {
+    let kind = fixed(1, 2);
+    let stored = encode(&array(kind, &[3], &[0, 0, 0], &bytes("0A0B 0C0D 0E0F"), &[])).unwrap();
+    assert_eq!(stored.len(), 19);
+    let read = decode(kind, &[3], &stored);
+    assert_eq!(read, Ok(array(kind, &[3], &[0, 0, 0], &[0; 6], &[])));
+    // With content length 5 and five more bytes it reads alike.
+    let with_content = bytes("0300000000000000 0500000000000000 000000 0102030405");
+    assert_eq!(decode(kind, &[3], &with_content), read);
+}
+
+#[test]
+fn depth_2() {
+    let kind = fixed(2, 1);
+    let stored = encode(&array(kind, &[3], &[1, 1, 0, 1, 0, 1], &[7, 8, 9], &[])).unwrap();
+    assert_eq!(stored, bytes("0300000000000000 1300000000000000 010100 0200000000000000 0100000000000000 0100 07"));
+    assert_eq!(stored.len(), 38);
+    assert_eq!(decode(kind, &[3], &stored), Ok(array(kind, &[3], &[1, 1, 0, 1, 0, 0], &[7, 0, 0], &[])));
+}
+
+#[test]
+fn ragged_ab_and_empty() {
+    let end = ragged(0, Width::Four, Place::End);
+    let table = array(end, &[2], &[], b"AB", &[0, 2, 2]);
+    let stored = encode(&table).unwrap();
+    assert_eq!(stored, bytes("4142 00000000 02000000 02000000 0C00000000000000"));
+    assert_eq!(stored.len(), 22);
+    assert_eq!(decode(end, &[2], &stored), Ok(table));
+
+    let start = ragged(0, Width::Eight, Place::Start);
+    let table = array(start, &[2], &[], b"AB", &[0, 2, 2]);
+    let stored = encode(&table).unwrap();
+    assert_eq!(stored.len(), 34);
+    assert_eq!(decode(start, &[2], &stored), Ok(table));
+}
+
+#[test]
+fn offsets_from_1() {
+    for place in [Place::Start, Place::End] {
+        let kind = ragged(0, Width::Four, place);
+        let table = array(kind, &[1], &[], b"AB", &[1, 2]);
+        assert_eq!(table.cell(0), Some(Cell::Value(b"B")));
+        assert_eq!(extract(&table, &subset(&[0, 1])), Ok(array(kind, &[1], &[], b"B", &[0, 1])));
+        // Written and read just as it is.
+        assert_eq!(decode(kind, &[1], &encode(&table).unwrap()), Ok(table));
+    }
+}
+
+#[test]
+fn interleaved() {
+    let stored = bytes("02000000 01000000 41 00000000");
+    let read = RaggedValues { values: b"A".to_vec(), offsets: vec![0, 1, 1] };
+    assert_eq!(decode_interleaved(2, &stored), Ok(read.clone()));
+    assert_eq!(
+        (read.cell_count(), read.cell(0), read.cell(1), read.cell(2)),
+        (2, Some(&b"A"[..]), Some(&b""[..]), None)
+    );
+    assert_eq!(decode_interleaved(2, &[&stored[..], b"z"].concat()), Ok(read));
+    assert_eq!(decode_interleaved(2, &stored[..11]), Err(Refusal::Short));
+    assert_eq!(decode_interleaved(2, &bytes("02000000 05000000 4100000000")), Err(Refusal::PastEnd));
+}
+
+#[test]
+fn cells_of_a_subset() {
+    assert_eq!(subset_cells(&[2, 3], &subset(&[0, 1, 2, 2])), Ok(vec![1, 2, 4, 5]));
+    assert_eq!(subset_cells(&[2, 3], &subset(&[0, 2, 2, 2])), Err(Refusal::Subset));
+    assert_eq!(subset_cells(&[2, 3], &Subset::from_ranges(&[0..2, 1..3]).unwrap()), Ok(vec![1, 2, 4, 5]));
+    assert_eq!(subset_cells(&[2, 3], &Subset::whole(&[2, 3])), Ok(vec![0, 1, 2, 3, 4, 5]));
+    assert_eq!(subset_cells(&[2, 3], &subset(&[2, 0, 0, 3])), Ok(vec![]));
+}
+
+#[test]
+fn index_length_of_eight_ff() {
+    for place in [Place::Start, Place::End] {
+        assert_eq!(decode(ragged(0, Width::Four, place), &[1], &[255; 8]), Err(Refusal::Length));
+    }
+}
+
+#[test]
+fn reversed() {
+    let mut cells = [1, 2, 3, 4, 5, 6, 7];
+    assert_eq!(reverse_endianness(3, &mut cells), Ok(6));
+    assert_eq!(cells, [3, 2, 1, 6, 5, 4, 7]);
+    assert_eq!(reverse_endianness(1, &mut cells), Ok(7));
+    assert_eq!(cells, [3, 2, 1, 6, 5, 4, 7]);
+    assert_eq!(reverse_endianness(64, &mut []), Ok(0));
+}
+
+#[test]
+fn big_order_reverses_values_only() {
+    let kind = Kind::fixed(1, 2, Order::Big);
+    let table = array(kind, &[1], &[1], &[0x0A, 0x0B], &[]);
+    let stored = encode(&table).unwrap();
+    assert_eq!(stored, bytes("0100000000000000 0200000000000000 01 0B0A"));
+    assert_eq!(decode(kind, &[1], &stored), Ok(table));
+}
+
+#[test]
+fn a_set_cell_of_no_bytes_is_not_null() {
+    let kind = ragged(2, Width::Four, Place::Start);
+    let cells = [Cell::Value(b""), Cell::Null { level: 1 }, Cell::Null { level: 2 }, Cell::Value(b"0-3")];
+    let table = Array::from_cells(kind, &[4], &cells).unwrap();
+    assert_eq!(table, array(kind, &[4], &[1, 0, 1, 1, 1, 0, 0, 1], b"0-3", &[0, 0, 0, 0, 3]));
+    let read = decode(kind, &[4], &encode(&table).unwrap()).unwrap();
+    for (number, cell) in cells.iter().enumerate() {
+        assert_eq!(read.cell(number).as_ref(), Some(cell));
+    }
+    assert_eq!(read.cell(4), None);
+    assert_eq!(read.masks_of(2), [1, 0]);
+}
+
+#[test]
+fn every_byte_but_00_is_set_and_kept() {
+    let kind = fixed(1, 1);
+    for mask in 1..=255 {
+        let table = array(kind, &[1], &[mask], &[7], &[]);
+        assert_eq!(decode(kind, &[1], &encode(&table).unwrap()), Ok(table));
+    }
+}
+
+#[test]
+fn chunk_by_chunk() {
+    let kind = fixed(2, 1);
+    let (second, first) = (subset(&[1, 1]), subset(&[0, 1]));
+    let (b, a) = (array(kind, &[1], &[5, 6], b"b", &[]), array(kind, &[1], &[7, 8], b"a", &[]));
+    let merged = merge(kind, &[2], &[Chunk::new(&second, &b), Chunk::new(&first, &a)]);
+    assert_eq!(merged, Ok(array(kind, &[2], &[7, 5, 8, 6], b"ab", &[])));
+}
+
+#[test]
+fn a_cut_keeps_what_is_hidden() {
+    let kind = ragged(2, Width::Eight, Place::Start);
+    let table = array(kind, &[1], &[0, 7], b"zAB", &[1, 3]);
+    assert_eq!(extract(&table, &subset(&[0, 1])), Ok(array(kind, &[1], &[0, 7], b"AB", &[0, 2])));
+}
+
+#[test]
+fn cuts_of_stored_values() {
+    let kind = ragged(0, Width::Four, Place::Start);
+    let table = array(kind, &[2, 2], &[], b"xabbccc", &[1, 2, 4, 4, 7]);
+    let stored = encode(&table).unwrap();
+    let column = subset(&[0, 1, 2, 1]);
+    let cut = array(kind, &[2, 1], &[], b"bbccc", &[0, 2, 5]);
+    assert_eq!(partial_decode(Width::Four, Place::Start, &[2, 2], &column, &stored), Ok(cut.clone()));
+    assert_eq!(extract(&table, &column), Ok(cut));
+    let none = partial_decode(Width::Four, Place::Start, &[2, 2], &subset(&[2, 0, 0, 2]), &stored);
+    assert_eq!(none, Ok(array(kind, &[0, 2], &[], b"", &[0])));
+}
+
+#[test]
+fn words_of_kinds() {
+    assert_eq!(ragged(1, Width::Four, Place::Start).to_string(), "depth 1, ragged, width 4, index at start");
+    assert_eq!(ragged(0, Width::Eight, Place::End).to_string(), "depth 0, ragged, width 8, index at end");
+    assert_eq!(fixed(2, 16).to_string(), "depth 2, fixed, size 16, little order");
+    assert_eq!(Kind::fixed(0, 1, Order::Big).to_string(), "depth 0, fixed, size 1, big order");
+}

@@ -1,0 +1,12 @@
+pub mod Outcomes
+pub mod Placing
+pub mod SpreadingValues
+pub mod CopyingCells
+pub mod CopyingOffsets
+pub mod SpreadingOffsets
+pub mod Levels
+pub mod AllPlanes
+pub mod FixedLaws
+pub mod NestedLaws
+pub mod Small
+pub mod Stages

@@ -1,0 +1,53 @@
+-- `copy_cells` meets its contract: in little order the values are one run (CopyingCells).
+-- Assumes nothing.
+use mathlib.Core.Path.{sym, ap, _∙_}
+use mathlib.Core.List.{List}
+use Prim.Native.Nat.{ℕ}
+use borrow.Author.Needs.{needs}
+use Rattle.array.specs.Buffers.{over}
+use Rattle.decode.proofs.CopyingCells.{little-run}
+use Rattle.decode.proofs.values.copy_cells.Statement.{statement}
+use Rattle.decode.proofs.values.copy_cells.Tie as tie
+
+enum-told : tie.Need-enum-told
+enum-told c = search needs
+
+mul-copy-bytes : tie.Need-mul-copy-bytes
+mul-copy-bytes c = search needs
+
+copy-bytes-requires : tie.Need-copy-bytes-requires
+copy-bytes-requires c κs = search needs
+
+enum-told-2 : tie.Need-enum-told-2
+enum-told-2 c = search needs
+
+copy-cells-reversed-requires : tie.Need-copy-cells-reversed-requires
+copy-cells-reversed-requires c κs = search needs
+
+same-length : tie.Need-same-length
+same-length c = search needs
+
+returns : tie.Need-returns
+returns c =
+    let args = c .before .before .before .before .before .before .before .before .args in
+    rw (c .before .before .before .before .enum-told .given .1) (c .before .before .copy-bytes .ensures ∙ sym (ap (λ (l : List ℕ). over l (args .values .now)) (little-run (args .size) (args .s .now) (args .n) (args .at) (c .before .before .before .before .before .before .before .before .pre .1))))
+
+same-length-2 : tie.Need-same-length-2
+same-length-2 c = search needs
+
+returns-2 : tie.Need-returns-2
+returns-2 c = rw (c .before .before .before .before .enum-told2 .given .1) (c .before .before .copy-cells-reversed .ensures)
+
+pub copy-cells-spec : {M : Type 1} → statement M
+copy-cells-spec =
+    tie.close
+    (tie.spec
+    enum-told
+    mul-copy-bytes
+    copy-bytes-requires
+    enum-told-2
+    copy-cells-reversed-requires
+    same-length
+    returns
+    same-length-2
+    returns-2)

@@ -1,0 +1,4 @@
+pub mod Outcomes
+pub mod Next
+pub mod Ends
+pub mod Reads

@@ -1,0 +1,71 @@
+// Mask planes, outermost first. Each level goes straight into its plane: its stored mask, spread over the plane above.
+use crate::next::mask_byte;
+use crate::next::skip;
+use array::copy::copy_bytes;
+use array::copy::fill_bytes;
+use codec::mask::count_set;
+use codec::mask::mark_of;
+use codec::mask::mask_length;
+ghost use mathlib.Core.Path.{_≡_};
+ghost use mathlib.Core.List.{_++_};
+ghost use Prim.Native.Nat.{_+_, _-_, _≤_};
+ghost use lib.ListN.{length, take, drop};
+ghost use Rattle.array.specs.Buffers.{over, overAt};
+ghost use Rattle.codec.specs.Frame.{countSet};
+ghost use Rattle.codec.specs.Spread.{spread};
+ghost use Rattle.codec.specs.Stored.{maskIn, planesBelow};
+ghost use Rattle.decode.specs.Reads.{LevelsWithin, PlanesWithin};
+
+// Spreads the stored mask at `at` over the plane of n cells at `from`, into the plane at `to` behind it.
+pub fn place_plane(masks: &mut [u8], from: usize, to: usize, n: usize, s: &[u8], at: usize)
+    requires { ⌜ (from + n ≤ to) × (to + n ≤ length (now masks)) × (at + countSet (take n (drop from (now masks))) ≤ length (now s)) ⌝ }
+    ensures { λ _. ⌜ now (masks .exit) ≡ overAt to (spread 0 (take n (drop from (now (masks .entry)))) (drop at (now (s .entry)))) (now (masks .entry)) ⌝ }
+{
+    let mut i = 0;
+    let mut j = at;
+    while i < n {
+        let mark = mark_of(masks[from + i]);
+        masks[to + i] = mask_byte(s, j, mark);
+        j = skip(mark, j, 1);
+        i += 1;
+    }
+}
+
+// Places the planes below the one that ends at `to`, in which `cells` are set: `left` levels, the next frame being at `at`.
+pub fn place_levels(
+    masks: &mut [u8],
+    n: usize,
+    to: usize,
+    left: usize,
+    s: &[u8],
+    at: usize,
+    cells: usize,
+)
+    requires { ⌜ LevelsWithin (now masks) n to left (now s) at cells ⌝ }
+    ensures { λ _. ⌜ now (masks .exit) ≡ overAt to (planesBelow (take n (drop (to - n) (now (masks .entry)))) left (now (s .entry)) at cells) (now (masks .entry)) ⌝ }
+{
+    if left == 0 {
+        return;
+    }
+    if cells == 0 {
+        fill_bytes(masks, to, left * n, 0);
+        return;
+    }
+    let mask = at + 16;
+    let end = mask + mask_length(cells);
+    place_plane(masks, to - n, to, n, s, mask);
+    let set = count_set(&s[mask..end]);
+    place_levels(masks, n, to + n, left - 1, s, end, set);
+}
+
+// Places the planes of all levels.
+pub fn place_planes(masks: &mut [u8], n: usize, depth: usize, s: &[u8])
+    requires { ⌜ PlanesWithin (now masks) n depth (now s) ⌝ }
+    ensures { λ _. ⌜ now (masks .exit) ≡ over (maskIn (now (s .entry)) 0 n
+        ++ planesBelow (maskIn (now (s .entry)) 0 n) (depth - 1) (now (s .entry)) (0 + (16 + n)) (countSet (maskIn (now (s .entry)) 0 n))) (now (masks .entry)) ⌝ }
+{
+    let end = 16 + mask_length(n);
+    copy_bytes(masks, 0, s, 16, n);
+    let set = count_set(&s[16..end]);
+    place_levels(masks, n, n, depth - 1, s, end, set);
+}

@@ -1,0 +1,58 @@
+-- What an exported call hands to its C caller: a status, the lengths, and the buffers. The status is 0 for success, else the refusal
+-- number; the lengths are written on success only, masks before values before offsets.
+-- Assumes nothing.
+use Prim.Native.Nat.{ℕ}
+use mathlib.Core.List.{List}
+use lib.ListN.{set}
+use Rattle.array.specs.Answer.{Answer, gives, refuses, Outcome}
+use Rattle.array.specs.Kind.{Form, fixed, ragged, Place}
+use Rattle.array.specs.Content.{Content, RaggedContent}
+use Rattle.array.specs.Buffers.{Lengths, RaggedLengths}
+
+pub record Exported (B : Type 0) : Type 0 where
+  pub status : ℕ
+  pub lengths : List ℕ
+  pub buffers : B
+
+abbrev pub statusOf : {L : Type 0} → Answer L → ℕ
+statusOf (gives n) = 0
+statusOf (refuses k) = k
+
+abbrev pub oneLength : Answer ℕ → List ℕ → List ℕ
+oneLength (gives n) old = set old 0 n
+oneLength (refuses k) old = old
+
+abbrev pub twoLengths : Answer RaggedLengths → List ℕ → List ℕ
+twoLengths (gives n) old = set (set old 0 (n .values)) 1 (n .offsets)
+twoLengths (refuses k) old = old
+
+abbrev pub threeLengths : Answer Lengths → List ℕ → List ℕ
+threeLengths (gives n) old = set (set (set old 0 (n .masks)) 1 (n .values)) 2 (n .offsets)
+threeLengths (refuses k) old = old
+
+-- an outcome handed over, its lengths put as `put` says
+abbrev pub exportBy : {L B : Type 0} → (Answer L → List ℕ → List ℕ) → Outcome L B → List ℕ → Exported B
+exportBy put o old = record { status = statusOf (o .answer); lengths = put (o .answer) old; buffers = o .buffers }
+
+abbrev pub exportOne : Outcome ℕ (List ℕ) → List ℕ → Exported (List ℕ)
+exportOne o old = exportBy oneLength o old
+
+abbrev pub exportTwo : Outcome RaggedLengths RaggedContent → List ℕ → Exported RaggedContent
+exportTwo o old = exportBy twoLengths o old
+
+abbrev pub exportThree : Outcome Lengths Content → List ℕ → Exported Content
+exportThree o old = exportBy threeLengths o old
+
+-- what came as numbers, and what is done with it; numbers that are refused leave the buffers as they were
+abbrev pub withGiven : {K L B : Type 0} → Answer K → B → (K → Outcome L B) → Outcome L B
+withGiven (gives k) old f = f k
+withGiven (refuses e) old f = record { answer = refuses e; buffers = old }
+
+-- of a ragged form its index width and place; numberedIndex gives no other
+abbrev pub byIndex : {L B : Type 0} → B → (ℕ → Place → Outcome L B) → Form → Outcome L B
+byIndex old f (ragged w p) = f w p
+byIndex old f (fixed k o) = record { answer = refuses 1; buffers = old }
+
+-- what was handed out, as the left side of a promise
+abbrev pub handed : {B : Type 0} → ℕ → List ℕ → B → Exported B
+handed status lengths buffers = record { status = status; lengths = lengths; buffers = buffers }

@@ -1,0 +1,291 @@
+// The C interface: each public call as an exported function over numbers and slices. The result is the refusal number, 0 for
+// success; lengths are written on success only, masks before values before offsets. Nothing is asked of the caller.
+use array::answer::Written;
+use array::answer::WrittenArray;
+use array::answer::WrittenRagged;
+use array::kind::IndexRead;
+use array::kind::KindRead;
+ghost use mathlib.Core.Path.{_≡_};
+ghost use Rattle.array.specs.Meaning.{told, toldRagged, toldArray};
+ghost use Rattle.array.specs.Numbers.{numberedKind, numberedIndex};
+ghost use Rattle.array.specs.Outcome.{contentArray, contentRagged};
+ghost use Rattle.array.specs.Calls.{endiannessReversed, subsetCells};
+ghost use Rattle.codec.specs.Calls.{encoded, decoded, interleavedDecoded};
+ghost use Rattle.chunks.specs.Calls.{extracted, merged, partiallyDecoded};
+ghost use Rattle.ffi.specs.Exported.{handed, withGiven, byIndex, statusOf, oneLength, twoLengths, threeLengths, exportOne, exportTwo, exportThree};
+
+// A kind as numbers: form 0 fixed, 1 ragged; size is the cell size or the index width; order 0 little or start, 1 big or end; mask 0.
+#[repr(C)]
+pub struct DpxKind {
+    pub depth: u64,
+    pub form: u64,
+    pub size: u64,
+    pub order: u64,
+    pub mask: u64,
+}
+
+// ---- an answer, handed over
+
+fn put_length(answer: Written, lengths: &mut [u64; 1]) -> u32
+    ensures status { λ r. ⌜ r ≡ statusOf (told answer) ⌝ }
+    ensures lengths { λ _. ⌜ now (lengths .exit) ≡ oneLength (told answer) (now (lengths .entry)) ⌝ }
+{
+    match answer {
+        Written::Refused(e) => e as u32,
+        Written::Length(n) => {
+            lengths[0] = n as u64;
+            0
+        }
+    }
+}
+
+fn put_two_lengths(answer: WrittenRagged, lengths: &mut [u64; 2]) -> u32
+    ensures status { λ r. ⌜ r ≡ statusOf (toldRagged answer) ⌝ }
+    ensures lengths { λ _. ⌜ now (lengths .exit) ≡ twoLengths (toldRagged answer) (now (lengths .entry)) ⌝ }
+{
+    match answer {
+        WrittenRagged::Refused(e) => e as u32,
+        WrittenRagged::Lengths(values, offsets) => {
+            lengths[0] = values as u64;
+            lengths[1] = offsets as u64;
+            0
+        }
+    }
+}
+
+fn put_three_lengths(answer: WrittenArray, lengths: &mut [u64; 3]) -> u32
+    ensures status { λ r. ⌜ r ≡ statusOf (toldArray answer) ⌝ }
+    ensures lengths { λ _. ⌜ now (lengths .exit) ≡ threeLengths (toldArray answer) (now (lengths .entry)) ⌝ }
+{
+    match answer {
+        WrittenArray::Refused(e) => e as u32,
+        WrittenArray::Lengths(masks, values, offsets) => {
+            lengths[0] = masks as u64;
+            lengths[1] = values as u64;
+            lengths[2] = offsets as u64;
+            0
+        }
+    }
+}
+
+// ---- the calls
+
+#[no_mangle]
+pub extern "C" fn dpx_encode(
+    kind: DpxKind,
+    shape: &[u64],
+    masks: &[u8],
+    values: &[u8],
+    offsets: &[u64],
+    out: &mut [u8],
+    lengths: &mut [u64; 1],
+) -> u32
+    ensures { λ r. ⌜ handed r (now (lengths .exit)) (now (out .exit))
+        ≡ exportOne (withGiven (numberedKind (kind .depth) (kind .form) (kind .size) (kind .order) (kind .mask)) (now (out .entry))
+        (λ k. encoded k (now (shape .entry)) (contentArray (now (masks .entry)) (now (values .entry)) (now (offsets .entry))) (now (out .entry)))) (now (lengths .entry)) ⌝ }
+{
+    let read = array::kind::kind_from_numbers(
+        kind.depth,
+        kind.form,
+        kind.size,
+        kind.order,
+        kind.mask,
+    );
+    match read {
+        KindRead::Refused(e) => e as u32,
+        KindRead::Kind(k) => {
+            let answer = encode::encode(k, shape, masks, values, offsets, out);
+            put_length(answer, lengths)
+        }
+    }
+}
+
+#[no_mangle]
+pub extern "C" fn dpx_decode(
+    kind: DpxKind,
+    shape: &[u64],
+    bytes: &[u8],
+    masks: &mut [u8],
+    values: &mut [u8],
+    offsets: &mut [u64],
+    lengths: &mut [u64; 3],
+) -> u32
+    ensures { λ r. ⌜ handed r (now (lengths .exit)) (contentArray (now (masks .exit)) (now (values .exit)) (now (offsets .exit)))
+        ≡ exportThree (withGiven (numberedKind (kind .depth) (kind .form) (kind .size) (kind .order) (kind .mask))
+        (contentArray (now (masks .entry)) (now (values .entry)) (now (offsets .entry)))
+        (λ k. decoded k (now (shape .entry)) (now (bytes .entry)) (contentArray (now (masks .entry)) (now (values .entry)) (now (offsets .entry))))) (now (lengths .entry)) ⌝ }
+{
+    let read = array::kind::kind_from_numbers(
+        kind.depth,
+        kind.form,
+        kind.size,
+        kind.order,
+        kind.mask,
+    );
+    match read {
+        KindRead::Refused(e) => e as u32,
+        KindRead::Kind(k) => {
+            let answer = decode::decode(k, shape, bytes, masks, values, offsets);
+            put_three_lengths(answer, lengths)
+        }
+    }
+}
+
+#[no_mangle]
+pub extern "C" fn dpx_decode_interleaved(
+    cells: u64,
+    bytes: &[u8],
+    values: &mut [u8],
+    offsets: &mut [u64],
+    lengths: &mut [u64; 2],
+) -> u32
+    ensures { λ r. ⌜ handed r (now (lengths .exit)) (contentRagged (now (values .exit)) (now (offsets .exit)))
+        ≡ exportTwo (interleavedDecoded cells (now (bytes .entry)) (contentRagged (now (values .entry)) (now (offsets .entry)))) (now (lengths .entry)) ⌝ }
+{
+    let answer = interleaved::vlen_v2::decode_interleaved(cells, bytes, values, offsets);
+    put_two_lengths(answer, lengths)
+}
+
+#[no_mangle]
+pub extern "C" fn dpx_extract(
+    kind: DpxKind,
+    shape: &[u64],
+    subset: &[u64],
+    masks: &[u8],
+    values: &[u8],
+    offsets: &[u64],
+    out_masks: &mut [u8],
+    out_values: &mut [u8],
+    out_offsets: &mut [u64],
+    lengths: &mut [u64; 3],
+) -> u32
+    ensures { λ r. ⌜ handed r (now (lengths .exit)) (contentArray (now («out_masks» .exit)) (now («out_values» .exit)) (now («out_offsets» .exit)))
+        ≡ exportThree (withGiven (numberedKind (kind .depth) (kind .form) (kind .size) (kind .order) (kind .mask))
+        (contentArray (now («out_masks» .entry)) (now («out_values» .entry)) (now («out_offsets» .entry)))
+        (λ k. extracted k (now (shape .entry)) (now (subset .entry)) (contentArray (now (masks .entry)) (now (values .entry)) (now (offsets .entry)))
+        (contentArray (now («out_masks» .entry)) (now («out_values» .entry)) (now («out_offsets» .entry))))) (now (lengths .entry)) ⌝ }
+{
+    let read = array::kind::kind_from_numbers(
+        kind.depth,
+        kind.form,
+        kind.size,
+        kind.order,
+        kind.mask,
+    );
+    match read {
+        KindRead::Refused(e) => e as u32,
+        KindRead::Kind(k) => {
+            let answer = extract::extract(
+                k,
+                shape,
+                subset,
+                masks,
+                values,
+                offsets,
+                out_masks,
+                out_values,
+                out_offsets,
+            );
+            put_three_lengths(answer, lengths)
+        }
+    }
+}
+
+#[no_mangle]
+pub extern "C" fn dpx_merge(
+    kind: DpxKind,
+    shape: &[u64],
+    subsets: &[u64],
+    masks: &[u8],
+    values: &[u8],
+    offsets: &[u64],
+    out_masks: &mut [u8],
+    out_values: &mut [u8],
+    out_offsets: &mut [u64],
+    lengths: &mut [u64; 3],
+) -> u32
+    ensures { λ r. ⌜ handed r (now (lengths .exit)) (contentArray (now («out_masks» .exit)) (now («out_values» .exit)) (now («out_offsets» .exit)))
+        ≡ exportThree (withGiven (numberedKind (kind .depth) (kind .form) (kind .size) (kind .order) (kind .mask))
+        (contentArray (now («out_masks» .entry)) (now («out_values» .entry)) (now («out_offsets» .entry)))
+        (λ k. merged k (now (shape .entry)) (now (subsets .entry)) (contentArray (now (masks .entry)) (now (values .entry)) (now (offsets .entry)))
+        (contentArray (now («out_masks» .entry)) (now («out_values» .entry)) (now («out_offsets» .entry))))) (now (lengths .entry)) ⌝ }
+{
+    let read = array::kind::kind_from_numbers(
+        kind.depth,
+        kind.form,
+        kind.size,
+        kind.order,
+        kind.mask,
+    );
+    match read {
+        KindRead::Refused(e) => e as u32,
+        KindRead::Kind(k) => {
+            let answer = merge::merge(
+                k,
+                shape,
+                subsets,
+                masks,
+                values,
+                offsets,
+                out_masks,
+                out_values,
+                out_offsets,
+            );
+            put_three_lengths(answer, lengths)
+        }
+    }
+}
+
+#[no_mangle]
+pub extern "C" fn dpx_partial_decode(
+    width: u64,
+    place: u64,
+    shape: &[u64],
+    subset: &[u64],
+    bytes: &[u8],
+    values: &mut [u8],
+    offsets: &mut [u64],
+    lengths: &mut [u64; 2],
+) -> u32
+    ensures { λ r. ⌜ handed r (now (lengths .exit)) (contentRagged (now (values .exit)) (now (offsets .exit)))
+        ≡ exportTwo (withGiven (numberedIndex width place) (contentRagged (now (values .entry)) (now (offsets .entry)))
+        (byIndex (contentRagged (now (values .entry)) (now (offsets .entry))) (λ w p. partiallyDecoded w p (now (shape .entry)) (now (subset .entry)) (now (bytes .entry)) (contentRagged (now (values .entry)) (now (offsets .entry)))))) (now (lengths .entry)) ⌝ }
+{
+    let read = array::kind::index_from_numbers(width, place);
+    match read {
+        IndexRead::Refused(e) => e as u32,
+        IndexRead::Index(w, p) => {
+            let answer = partial::vlen_partial::partial_decode(
+                w,
+                p,
+                shape,
+                subset,
+                bytes,
+                values,
+                offsets,
+            );
+            put_two_lengths(answer, lengths)
+        }
+    }
+}
+
+#[no_mangle]
+pub extern "C" fn dpx_reverse_endianness(size: u64, bytes: &mut [u8], lengths: &mut [u64; 1]) -> u32
+    ensures { λ r. ⌜ handed r (now (lengths .exit)) (now (bytes .exit)) ≡ exportOne (endiannessReversed size (now (bytes .entry))) (now (lengths .entry)) ⌝ }
+{
+    let answer = array::endian::reverse_endianness(size as usize, bytes);
+    put_length(answer, lengths)
+}
+
+#[no_mangle]
+pub extern "C" fn dpx_subset_cells(
+    shape: &[u64],
+    subset: &[u64],
+    cells: &mut [u64],
+    lengths: &mut [u64; 1],
+) -> u32
+    ensures { λ r. ⌜ handed r (now (lengths .exit)) (now (cells .exit)) ≡ exportOne (subsetCells (now (shape .entry)) (now (subset .entry)) (now (cells .entry))) (now (lengths .entry)) ⌝ }
+{
+    let answer = array::subset::subset_cells(shape, subset, cells);
+    put_length(answer, lengths)
+}

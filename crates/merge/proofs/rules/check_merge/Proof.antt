@@ -1,0 +1,186 @@
+-- `check_merge` meets its contract: each refusal in its order (proofs/Passing).
+-- Assumes nothing.
+use Prim.Native.Nat.{ℕ, _*_, _/_}
+use mathlib.Core.Path.{_≡_, sym, ap, _∙_}
+use mathlib.Core.Bool.{true}
+use native.Mathlib.Omega.{arith}
+use borrow.Author.Needs.{needs}
+use borrow.Author.Tests.{not-true, not-false}
+use lib.ListN.{length}
+use Rattle.array.specs.Limits.{mostBytes}
+use Rattle.array.specs.Answer.{gives}
+use Rattle.array.specs.Meaning.{kindOf, formOf}
+use Rattle.array.specs.Kind.{kindTest}
+use Rattle.array.specs.Subset.{manyTest}
+use Rattle.array.specs.Rows.{nextSubsets}
+use Rattle.array.specs.ShapeCells.{toldCells}
+use Rattle.array.proofs.ShapeLaws.{Counted, counted, not-counted}
+use Rattle.merge.specs.Chunks.{toldTotal, chunkSum}
+use Rattle.merge.specs.Merge.{Sizes}
+use Rattle.merge.proofs.Passing.{tested-subsets, no-kind, no-shape, no-subsets, bad-chunks, too-many, no-cover, passes}
+use Rattle.merge.proofs.rules.check_merge.Statement.{statement}
+use Rattle.merge.proofs.rules.check_merge.Tie as tie
+
+abbrev start : tie.Else1 → tie.Start
+start e = e .before .before .before .before .before
+
+-- the kind passed, the shape was counted, the subsets passed
+kind-passed : (e : tie.Else1) → kindTest (kindOf (start e .args .kind)) ≡ true
+kind-passed e = sym (e .before .check-kind .ensures) ∙ not-false (e .before .check-kind .result) (e .if1 .left)
+
+abbrev from : tie.After-known-told → tie.Else1
+from m = m .before .before .before .before
+
+shape-counted : (m : tie.After-known-told) → Counted (start (from m) .args .shape .now) (m .before .cells .given .0 .0)
+shape-counted m =
+    counted (start (from m) .args .shape .now) (m .before .cells .given .0 .0)
+    (sym (ap toldCells (m .before .cells .given .1)) ∙ m .before .before .before .shape-cells .ensures)
+
+abbrev first : tie.Else2 → tie.After-known-told
+first e = e .before .before
+
+abbrev count : tie.Else2 → ℕ
+count e = let a = start (from (first e)) .args in length (a .subsets .now) / (2 * length (a .shape .now))
+
+subsets-passed : (e : tie.Else2) → manyTest (start (from (first e)) .args .shape .now) (start (from (first e)) .args .subsets .now) ≡ true
+subsets-passed e = sym (e .before .subsets-fit .ensures) ∙ not-false (e .before .subsets-fit .result) (e .if2 .left)
+
+-- the chunks passed: the bytes in their cells
+abbrev earlier : tie.After-known-told2 → tie.Else2
+earlier t = t .before .before .before .before
+
+abbrev sum : tie.After-known-told2 → ℕ
+sum t = t .before .bytes .given .0 .0
+
+summed : (t : tie.After-known-told2)
+    → gives (sum t) ≡ chunkSum (formOf (start (from (first (earlier t))) .args .kind .values)) (start (from (first (earlier t))) .args .kind .depth)
+    (nextSubsets (length (start (from (first (earlier t))) .args .shape .now)) (count (earlier t)) (start (from (first (earlier t))) .args .subsets .now))
+    (start (from (first (earlier t))) .args .masks) (start (from (first (earlier t))) .args .values) (start (from (first (earlier t))) .args .offsets .now)
+summed t = sym (ap toldTotal (t .before .bytes .given .1)) ∙ t .before .before .before .check-chunks .ensures
+
+abbrev sized : ℕ → tie.Else2 → tie.After-known-told2 → Sizes
+sized n e t = record { cells = n; count = count e; bytes = sum t }
+
+check-kind-requires : tie.Need-check-kind-requires
+check-kind-requires c κs = search needs
+
+returns : tie.Need-returns
+returns c =
+    let a = c .before .before .before .before .before .args in
+    no-kind (kindOf (a .kind)) (a .shape .now) (a .subsets .now) (a .masks) (a .values) (a .offsets .now)
+    (sym (c .before .check-kind .ensures) ∙ not-true (c .before .check-kind .result) (c .if1 .taken))
+
+shape-cells-requires : tie.Need-shape-cells-requires
+shape-cells-requires c κs = search needs
+
+enum-known-cells : tie.Need-enum-known-cells
+enum-known-cells c = search needs
+
+enum-told : tie.Need-enum-told
+enum-told c = search needs
+
+returns-2 : tie.Need-returns-2
+returns-2 c =
+    let s = c .before .before in
+    let e = s .before in
+    let a = start e .args in
+    no-shape (kindOf (a .kind)) (a .shape .now) (a .subsets .now) (a .masks) (a .values) (a .offsets .now) (kind-passed e)
+    (not-counted (a .shape .now) (c .enum-told .given .0 .0) (sym (ap toldCells (c .enum-told .given .1)) ∙ s .shape-cells .ensures) .0)
+
+subsets-fit-requires : tie.Need-subsets-fit-requires
+subsets-fit-requires c κs = shape-counted c .shaped .some-sides
+
+returns-3 : tie.Need-returns-3
+returns-3 c =
+    let m = c .before .before in
+    let a = start (from m) .args in
+    no-subsets (kindOf (a .kind)) (a .shape .now) (a .subsets .now) (a .masks) (a .values) (a .offsets .now) (kind-passed (from m)) (shape-counted m .passes)
+    (sym (c .before .subsets-fit .ensures) ∙ not-true (c .before .subsets-fit .result) (c .if2 .taken))
+
+mul-count : tie.Need-mul-count
+mul-count c = search needs
+
+div-count : tie.Need-div-count
+div-count c = omega (arith, shape-counted (first c) .shaped .some-sides)
+
+check-chunks-requires : tie.Need-check-chunks-requires
+check-chunks-requires c κs =
+    let a = start (from (first c)) .args in
+    tested-subsets (a .shape .now) (a .subsets .now) (shape-counted (first c) .passes) (subsets-passed c)
+
+enum-known-bytes : tie.Need-enum-known-bytes
+enum-known-bytes c = search needs
+
+enum-told-2 : tie.Need-enum-told-2
+enum-told-2 c = search needs
+
+returns-4 : tie.Need-returns-4
+returns-4 c =
+    let k = c .before .before in
+    let e = k .before in
+    let m = first e in
+    let a = start (from m) .args in
+    bad-chunks (kindOf (a .kind)) (a .shape .now) (a .subsets .now) (a .masks) (a .values) (a .offsets .now) (kind-passed (from m)) (shape-counted m .passes) (subsets-passed e)
+    (sym (ap toldTotal (c .enum-told2 .given .1)) ∙ k .check-chunks .ensures)
+
+returns-5 : tie.Need-returns-5
+unfolding mostBytes
+returns-5 c =
+    let t = c .before in
+    let e = earlier t in
+    let m = first e in
+    let a = start (from m) .args in
+    too-many (kindOf (a .kind)) (a .shape .now) (a .subsets .now) (a .masks) (a .values) (a .offsets .now) (kind-passed (from m)) (shape-counted m .passes) (subsets-passed e)
+    (sum t) (summed t) (c .if3 .taken)
+
+covers-requires : tie.Need-covers-requires
+covers-requires c κs =
+    let e = earlier (c .before) in
+    let a = start (from (first e)) .args in
+    tested-subsets (a .shape .now) (a .subsets .now) (shape-counted (first e) .passes) (subsets-passed e)
+
+returns-6 : tie.Need-returns-6
+unfolding mostBytes
+returns-6 c =
+    let v = c .before in
+    let t = v .before .before in
+    let e = earlier t in
+    let m = first e in
+    let a = start (from m) .args in
+    no-cover (kindOf (a .kind)) (a .shape .now) (a .subsets .now) (a .masks) (a .values) (a .offsets .now) (kind-passed (from m)) (shape-counted m .passes) (subsets-passed e)
+    (sum t) (summed t) (v .before .if3 .left) (sym (v .covers .ensures) ∙ not-true (v .covers .result) (c .if4 .taken))
+
+returns-7 : tie.Need-returns-7
+unfolding mostBytes
+returns-7 c =
+    let v = c .before in
+    let t = v .before .before in
+    let e = earlier t in
+    let m = first e in
+    let a = start (from m) .args in
+    ap (λ (n : ℕ). gives (sized n e t)) (shape-counted m .is)
+    ∙ passes (kindOf (a .kind)) (a .shape .now) (a .subsets .now) (a .masks) (a .values) (a .offsets .now) (kind-passed (from m)) (shape-counted m .passes) (subsets-passed e)
+    (sum t) (summed t) (v .before .if3 .left) (sym (v .covers .ensures) ∙ not-false (v .covers .result) (c .if4 .left))
+
+pub check-merge-spec : {M : Type 1} → statement M
+check-merge-spec =
+    tie.close
+    (tie.spec
+    check-kind-requires
+    returns
+    shape-cells-requires
+    enum-known-cells
+    enum-told
+    returns-2
+    subsets-fit-requires
+    returns-3
+    mul-count
+    div-count
+    check-chunks-requires
+    enum-known-bytes
+    enum-told-2
+    returns-4
+    returns-5
+    covers-requires
+    returns-6
+    returns-7)

@@ -1,0 +1,341 @@
+/*
+ * Durpaxeta: tables of optional and variable-length cells in one checked byte layout.
+ *
+ * Link with libdurpaxeta.a (x86-64). Nothing else is needed.
+ *
+ * A TABLE is a kind, a shape and its content.
+ *
+ *   kind     dpx_kind, below: how many mask levels, and fixed or ragged values.
+ *   shape    1 to 4 sides, each at least 1, at most 65,536 cells. Cells are numbered row by row, the last side fastest.
+ *   masks    one plane for each level, outermost first, one byte a cell, end to end: depth * cells bytes.
+ *            00 is null, any other byte is set and kept as it is. A cell that is null at one level has no value.
+ *   values   the value bytes. Fixed: cells * size bytes. Ragged: all values, one after the other.
+ *   offsets  ragged only: cells + 1 numbers. Cell i has the value bytes from offsets[i] up to offsets[i + 1].
+ *            They never fall, and the last is the count of value bytes. A fixed kind has none.
+ *
+ * Null and empty are two things. Null: a mask byte is 00. Empty: all mask bytes are set, and the value has no bytes.
+ *
+ * Masks come before values, and values before offsets, in every call.
+ *
+ * SLICES. A slice is a pointer and a count, in this order. The count is in elements: bytes for masks, values and stored
+ * bytes, 64-bit numbers for shape, subset, offsets and cells. NULL with 0 is an empty slice. `lengths` is a pointer to
+ * as many numbers as its brackets say; it must not be NULL.
+ *
+ * SUBSETS. A subset (a box of cells) is one slice: all starts, then all lengths. With two sides: start 0, start 1,
+ * length 0, length 1. A list of subsets lays them end to end.
+ *
+ * ANSWERS. Each call answers 0 (DPX_OK) or one refusal number. The refusals of a call are listed in the order in
+ * which they are tested; the first one met is the answer.
+ *
+ *   On 0     `lengths` holds how many elements of each output were written, in the order masks, values, offsets.
+ *            Elements of an output beyond its length keep what they held.
+ *   Refused  no byte of any output changes, `lengths` included.
+ *
+ * An output that the kind does not use (masks at depth 0, offsets of a fixed kind) may have any length, 0 too. It is not
+ * written, and its length is 0.
+ *
+ * MEMORY. The caller owns all of it: no heap is used and no pointer is kept. Outputs must overlap neither each other
+ * nor an input nor `lengths`. Inputs may overlap each other. Pointers to numbers must be aligned for uint64_t.
+ *
+ * STACK. 16 KiB is enough for any call. dpx_merge takes 8 KiB of that to mark the cells that its subsets hold.
+ *
+ * THREADS. There is no state: any number of calls may run at the same time, on outputs that do not overlap.
+ */
+#ifndef DURPAXETA_H
+#define DURPAXETA_H
+
+#include <stddef.h>
+#include <stdint.h>
+
+#ifdef __cplusplus
+extern "C" {
+#endif
+
+/* Limits. One more of any of these is refused. */
+#define DPX_MAX_DEPTH 4             /* mask levels; 0 is allowed      */
+#define DPX_MAX_SIZE 64             /* bytes of a fixed cell, from 1  */
+#define DPX_MAX_SIDES 4             /* sides of a shape, from 1       */
+#define DPX_MAX_CELLS 65536         /* cells of a shape               */
+#define DPX_MAX_VALUE_BYTES 16777216 /* value bytes of a table        */
+
+/* The answers, by who causes them. */
+enum dpx_refusal {
+    DPX_OK = 0,
+
+    /* Whoever describes the table. */
+    DPX_KIND = 1,   /* depth, size or another field of the kind is out of its range */
+    DPX_SHAPE = 2,  /* no side, five or more, a side of 0, or over 65,536 cells (also as the count of the older form) */
+    DPX_SUBSET = 3, /* a subset reaches past its shape, or has not one start and one length a side; in a merge also: it
+                       holds no cell */
+
+    /* Whoever hands over an array or a chunk list. */
+    DPX_CONTENT = 4, /* lengths of masks, values, offsets or chunks disagree, or offsets break their rule */
+    DPX_SIZE = 5,    /* over 16,777,216 value bytes */
+    DPX_COVER = 12,  /* the subsets of a merge miss a cell or hold one twice */
+
+    /* Whoever stored the bytes. */
+    DPX_SHORT = 7,     /* under 16 bytes for a frame, 8 for ragged values, 4 * (1 + cells) for the older form */
+    DPX_LENGTH = 8,    /* a stored length disagrees: frame total, mask, index, data or plain values */
+    DPX_COUNT = 9,     /* the older form counts another number of cells */
+    DPX_FALLING = 10,  /* stored offsets fall */
+    DPX_PAST_END = 11, /* older form: a length field or a cell runs past the end */
+
+    /* Whoever lends the output. */
+    DPX_OUTPUT = 6 /* an output is shorter than the result needs */
+};
+
+/* The numbers of a kind. Any other number in a field is refused with 1. */
+enum dpx_form { DPX_FIXED = 0, DPX_RAGGED = 1 };
+enum dpx_order { DPX_LITTLE = 0, DPX_BIG = 1 }; /* order of the bytes of a stored fixed cell */
+enum dpx_place { DPX_START = 0, DPX_END = 1 };  /* where the index of stored ragged values lies */
+enum dpx_mask { DPX_MASK_BYTES = 0 };           /* one mask byte a cell: the only mask form */
+
+/*
+ * A kind, passed by value. Make one with dpx_fixed or dpx_ragged.
+ */
+typedef struct dpx_kind {
+    uint64_t depth; /* mask levels, 0 to 4 */
+    uint64_t form;  /* DPX_FIXED or DPX_RAGGED */
+    uint64_t size;  /* fixed: bytes of a cell, 1 to 64. ragged: bytes of a stored offset, 4 or 8 */
+    uint64_t order; /* fixed: DPX_LITTLE or DPX_BIG. ragged: DPX_START or DPX_END */
+    uint64_t mask;  /* DPX_MASK_BYTES */
+} dpx_kind;
+
+/* Fixed cells of `size` bytes. In memory a cell is always in little order; `order` is that of the stored bytes. */
+static inline dpx_kind dpx_fixed(uint64_t depth, uint64_t size, enum dpx_order order)
+{
+    dpx_kind kind;
+    kind.depth = depth;
+    kind.form = DPX_FIXED;
+    kind.size = size;
+    kind.order = (uint64_t)order;
+    kind.mask = DPX_MASK_BYTES;
+    return kind;
+}
+
+/* Ragged cells; the stored index has offsets of `width` bytes (4 or 8) and lies at `place`. */
+static inline dpx_kind dpx_ragged(uint64_t depth, uint64_t width, enum dpx_place place)
+{
+    dpx_kind kind;
+    kind.depth = depth;
+    kind.form = DPX_RAGGED;
+    kind.size = width;
+    kind.order = (uint64_t)place;
+    kind.mask = DPX_MASK_BYTES;
+    return kind;
+}
+
+/*
+ * Array to stored bytes.
+ *
+ * Writes the stored form to `out`. Values below a null are not stored. With depth 0 everything is stored as it is.
+ * Enough room in any case: 16 * depth + masks_len + values_len + 8 + 8 * offsets_len bytes.
+ *
+ *   lengths[0]   stored bytes written
+ *
+ * Refusals, in this order:
+ *   1 DPX_KIND     whoever describes the table
+ *   2 DPX_SHAPE    whoever describes the table
+ *   4 DPX_CONTENT  whoever hands over the array: masks_len is not depth * cells; fixed: values_len is not cells * size, or
+ *                  there are offsets; ragged: offsets_len is not cells + 1, offsets fall, or the last is not values_len
+ *   5 DPX_SIZE     whoever hands over the array: the last offset is over 16,777,216
+ *   6 DPX_OUTPUT   whoever lends the output: out_len is under the written length
+ */
+uint32_t dpx_encode(dpx_kind kind,
+                    const uint64_t *shape, size_t shape_len,
+                    const uint8_t *masks, size_t masks_len,
+                    const uint8_t *values, size_t values_len,
+                    const uint64_t *offsets, size_t offsets_len,
+                    uint8_t *out, size_t out_len,
+                    uint64_t lengths[1]);
+
+/*
+ * Stored bytes to array.
+ *
+ * `bytes` is the whole stored table, neither more nor less. Below a null every mask byte comes out as 00, a fixed value
+ * as zero bytes and a ragged one as no bytes. From depth 1 on ragged values come out end to end from offset 0; at depth 0
+ * offsets and value bytes come out as they are stored.
+ * Enough room: depth * cells masks; fixed: cells * size values; ragged: bytes_len values and cells + 1 offsets.
+ *
+ *   lengths[0]   mask bytes written: depth * cells
+ *   lengths[1]   value bytes written
+ *   lengths[2]   offsets written: cells + 1, or 0 for a fixed kind
+ *
+ * Refusals, in this order:
+ *   1 DPX_KIND     whoever describes the table
+ *   2 DPX_SHAPE    whoever describes the table
+ *   for each level, the outermost first, as long as a cell is set above it:
+ *   7 DPX_SHORT    whoever stored the bytes: under 16 bytes for the frame
+ *   8 DPX_LENGTH   whoever stored the bytes: 16 and the two lengths are not the bytes there, or the mask length is not the
+ *                  count of cells set above
+ *   then, if a cell is set at all levels, of ragged values:
+ *   7 DPX_SHORT    whoever stored the bytes: under 8 bytes
+ *   8 DPX_LENGTH   whoever stored the bytes: the index is longer than the bytes, or not width * (cells + 1); or the last
+ *                  offset is neither 0 nor the count of data bytes
+ *  10 DPX_FALLING  whoever stored the bytes: offsets fall
+ *   5 DPX_SIZE     whoever hands over the array: the stored last offset is over 16,777,216
+ *   or of fixed ones:
+ *   8 DPX_LENGTH   whoever stored the bytes: there are not cells * size bytes
+ *   last:
+ *   6 DPX_OUTPUT   whoever lends the outputs
+ */
+uint32_t dpx_decode(dpx_kind kind,
+                    const uint64_t *shape, size_t shape_len,
+                    const uint8_t *bytes, size_t bytes_len,
+                    uint8_t *out_masks, size_t out_masks_len,
+                    uint8_t *out_values, size_t out_values_len,
+                    uint64_t *out_offsets, size_t out_offsets_len,
+                    uint64_t lengths[3]);
+
+/*
+ * The older, interleaved form (Zarr V2) to values and offsets.
+ *
+ * `bytes` has a 4-byte count, then for each cell a 4-byte length and its bytes, all little-endian. The caller says how
+ * many cells there are, 0 to 65,536. Bytes after the last cell are ignored.
+ * Enough room: bytes_len values and cells + 1 offsets.
+ *
+ *   lengths[0]   value bytes written
+ *   lengths[1]   offsets written: cells + 1
+ *
+ * Refusals, in this order:
+ *   2 DPX_SHAPE    whoever describes the table: over 65,536 cells
+ *   7 DPX_SHORT    whoever stored the bytes: under 4 * (1 + cells) bytes
+ *   9 DPX_COUNT    whoever stored the bytes: the stored count is not `cells`
+ *  11 DPX_PAST_END whoever stored the bytes: a length field or a cell runs past the end
+ *   5 DPX_SIZE     whoever hands over the array: the cells sum up to over 16,777,216 bytes
+ *   6 DPX_OUTPUT   whoever lends the outputs
+ */
+uint32_t dpx_decode_interleaved(uint64_t cells,
+                                const uint8_t *bytes, size_t bytes_len,
+                                uint8_t *out_values, size_t out_values_len,
+                                uint64_t *out_offsets, size_t out_offsets_len,
+                                uint64_t lengths[2]);
+
+/*
+ * The cells of a subset out of an array.
+ *
+ * Masks and values of the subset's cells, in row order; values below a null are kept. Ragged values come out end to end
+ * from offset 0. A subset of no cells is allowed: its masks and values are empty, a ragged kind has the one offset 0.
+ * Enough room: depth * (cells of the subset) masks; fixed: their cells * size values; ragged: values_len values, and one
+ * offset more than the subset has cells.
+ *
+ *   lengths[0]   mask bytes written
+ *   lengths[1]   value bytes written
+ *   lengths[2]   offsets written: cells of the subset + 1, or 0 for a fixed kind
+ *
+ * Refusals, in this order:
+ *   1 DPX_KIND     whoever describes the table
+ *   2 DPX_SHAPE    whoever describes the table
+ *   3 DPX_SUBSET   whoever describes the table: subset_len is not 2 * shape_len, or start + length is over a side
+ *   4 DPX_CONTENT  whoever hands over the array: as for dpx_encode
+ *   5 DPX_SIZE     whoever hands over the array: the last offset is over 16,777,216
+ *   6 DPX_OUTPUT   whoever lends the outputs
+ */
+uint32_t dpx_extract(dpx_kind kind,
+                     const uint64_t *shape, size_t shape_len,
+                     const uint64_t *subset, size_t subset_len,
+                     const uint8_t *masks, size_t masks_len,
+                     const uint8_t *values, size_t values_len,
+                     const uint64_t *offsets, size_t offsets_len,
+                     uint8_t *out_masks, size_t out_masks_len,
+                     uint8_t *out_values, size_t out_values_len,
+                     uint64_t *out_offsets, size_t out_offsets_len,
+                     uint64_t lengths[3]);
+
+/*
+ * A list of chunks into one array.
+ *
+ * `subsets` says which cells each chunk holds, 2 * shape_len numbers a chunk. Masks, values and offsets of the chunks lie
+ * end to end in the order of the list: all planes of chunk 0, then all of chunk 1, and so on. The offsets of a chunk are
+ * one more than its cells and count from the start of its own values; its last one says how many value bytes it has.
+ * Together the subsets hold each cell of the shape once; their order is free. Values below a null are kept. Ragged
+ * values come out end to end from offset 0.
+ * Enough room: depth * cells masks; fixed: cells * size values; ragged: values_len values and cells + 1 offsets.
+ *
+ *   lengths[0]   mask bytes written: depth * cells
+ *   lengths[1]   value bytes written
+ *   lengths[2]   offsets written: cells + 1, or 0 for a fixed kind
+ *
+ * Refusals, in this order:
+ *   1 DPX_KIND     whoever describes the table
+ *   2 DPX_SHAPE    whoever describes the table
+ *   3 DPX_SUBSET   whoever describes the table: subsets_len is no multiple of 2 * shape_len, a subset reaches past the
+ *                  shape, or a subset holds no cell
+ *   4 DPX_CONTENT  whoever hands over the chunk list: lengths are not what the subsets and the last offsets say, or the
+ *                  offsets of a chunk fall
+ *   5 DPX_SIZE     whoever hands over the chunk list: the cells of all chunks sum up to over 16,777,216 bytes
+ *  12 DPX_COVER    whoever hands over the chunk list: a cell is missed or held twice
+ *   6 DPX_OUTPUT   whoever lends the outputs
+ */
+uint32_t dpx_merge(dpx_kind kind,
+                   const uint64_t *shape, size_t shape_len,
+                   const uint64_t *subsets, size_t subsets_len,
+                   const uint8_t *masks, size_t masks_len,
+                   const uint8_t *values, size_t values_len,
+                   const uint64_t *offsets, size_t offsets_len,
+                   uint8_t *out_masks, size_t out_masks_len,
+                   uint8_t *out_values, size_t out_values_len,
+                   uint64_t *out_offsets, size_t out_offsets_len,
+                   uint64_t lengths[3]);
+
+/*
+ * The cells of a subset out of stored ragged values of depth 0, without reading the rest into memory.
+ *
+ * Same as dpx_decode with dpx_ragged(0, width, place), then dpx_extract.
+ * Enough room: bytes_len values, and one offset more than the subset has cells.
+ *
+ *   lengths[0]   value bytes written
+ *   lengths[1]   offsets written: cells of the subset + 1
+ *
+ * Refusals, in this order:
+ *   1 DPX_KIND     whoever describes the table: width is not 4 or 8, or place is not DPX_START or DPX_END
+ *   2 DPX_SHAPE    whoever describes the table
+ *   3 DPX_SUBSET   whoever describes the table: as for dpx_extract
+ *   7 DPX_SHORT    whoever stored the bytes: under 8 bytes
+ *   8 DPX_LENGTH   whoever stored the bytes: index or data, as for dpx_decode
+ *  10 DPX_FALLING  whoever stored the bytes: offsets fall
+ *   5 DPX_SIZE     whoever hands over the array: the stored last offset is over 16,777,216
+ *   6 DPX_OUTPUT   whoever lends the outputs
+ */
+uint32_t dpx_partial_decode(uint64_t width, uint64_t place,
+                            const uint64_t *shape, size_t shape_len,
+                            const uint64_t *subset, size_t subset_len,
+                            const uint8_t *bytes, size_t bytes_len,
+                            uint8_t *out_values, size_t out_values_len,
+                            uint64_t *out_offsets, size_t out_offsets_len,
+                            uint64_t lengths[2]);
+
+/*
+ * Reverses the bytes of each whole cell, in place. A tail shorter than a cell is left.
+ *
+ *   lengths[0]   bytes of the whole cells
+ *
+ * Refusals:
+ *   1 DPX_KIND     whoever describes the table: size is 0 or over 64; the bytes stay as they are
+ */
+uint32_t dpx_reverse_endianness(uint64_t size,
+                                uint8_t *bytes, size_t bytes_len,
+                                uint64_t lengths[1]);
+
+/*
+ * The numbers of the cells of a subset, in row order.
+ *
+ * Enough room: the product of the subset's lengths.
+ *
+ *   lengths[0]   cells written
+ *
+ * Refusals, in this order:
+ *   2 DPX_SHAPE    whoever describes the table
+ *   3 DPX_SUBSET   whoever describes the table: as for dpx_extract
+ *   6 DPX_OUTPUT   whoever lends the output
+ */
+uint32_t dpx_subset_cells(const uint64_t *shape, size_t shape_len,
+                          const uint64_t *subset, size_t subset_len,
+                          uint64_t *out_cells, size_t out_cells_len,
+                          uint64_t lengths[1]);
+
+#ifdef __cplusplus
+}
+#endif
+
+#endif

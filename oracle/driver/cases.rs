@@ -1,0 +1,1219 @@
+//! The requests: exhaustive small ones, ones around each limit, large ones, and random ones with damaged copies. All of it is
+//! determined by the seed.
+
+use crate::request::{Request, Request::*};
+
+pub trait Sink {
+    fn ask(&mut self, request: Request);
+    fn asked(&self) -> u64;
+}
+
+// ---------------------------------------------------------------- a generator (splitmix64)
+
+pub struct Rng(pub u64);
+impl Rng {
+    pub fn next(&mut self) -> u64 {
+        self.0 = self.0.wrapping_add(0x9E37_79B9_7F4A_7C15);
+        let mut z = self.0;
+        z = (z ^ (z >> 30)).wrapping_mul(0xBF58_476D_1CE4_E5B9);
+        z = (z ^ (z >> 27)).wrapping_mul(0x94D0_49BB_1331_11EB);
+        z ^ (z >> 31)
+    }
+    /// 0 up to and without `n`.
+    pub fn below(&mut self, n: usize) -> usize {
+        (self.next() % n as u64) as usize
+    }
+    fn byte(&mut self) -> u8 {
+        self.next() as u8
+    }
+    fn bytes(&mut self, n: usize) -> Vec<u8> {
+        (0..n).map(|_| self.byte()).collect()
+    }
+    /// True once in `n` times.
+    pub fn once_in(&mut self, n: usize) -> bool {
+        self.below(n) == 0
+    }
+    pub fn pick<T: Copy>(&mut self, list: &[T]) -> T {
+        list[self.below(list.len())]
+    }
+    fn shuffle<T>(&mut self, list: &mut [T]) {
+        for i in (1..list.len()).rev() {
+            list.swap(i, self.below(i + 1));
+        }
+    }
+}
+
+// ---------------------------------------------------------------- kinds, shapes, subsets
+
+fn fixed(depth: usize, size: u64, order: u64) -> [u64; 5] {
+    [depth as u64, 0, size, order, 0]
+}
+fn ragged(depth: usize, width: u64, place: u64) -> [u64; 5] {
+    [depth as u64, 1, width, place, 0]
+}
+const RAGGED: [(u64, u64); 4] = [(4, 0), (4, 1), (8, 0), (8, 1)];
+const SIZES: [u64; 17] = [1, 1, 2, 2, 3, 4, 5, 7, 8, 9, 15, 16, 17, 32, 33, 63, 64];
+
+/// A kind with the same values at another depth.
+fn at_depth(kind: [u64; 5], depth: usize) -> [u64; 5] {
+    [depth as u64, kind[1], kind[2], kind[3], kind[4]]
+}
+fn any_kind(rng: &mut Rng, depth: usize) -> [u64; 5] {
+    if rng.below(2) == 0 {
+        let (width, place) = rng.pick(&RAGGED);
+        ragged(depth, width, place)
+    } else {
+        let size = if rng.once_in(4) { 1 + rng.below(64) as u64 } else { rng.pick(&SIZES) };
+        fixed(depth, size, rng.below(2) as u64)
+    }
+}
+/// A shape of exactly `cells` cells.
+fn shape_of(rng: &mut Rng, cells: usize) -> Vec<u64> {
+    let mut shape = vec![];
+    let mut left = cells;
+    for _ in 0..rng.below(4) {
+        let divisors: Vec<usize> = (1..=left.min(64)).filter(|d| left.is_multiple_of(*d)).collect();
+        let side = rng.pick(&divisors);
+        shape.push(side as u64);
+        left /= side;
+    }
+    shape.push(left as u64);
+    shape
+}
+fn any_shape(rng: &mut Rng) -> Vec<u64> {
+    let cells = match rng.below(16) {
+        0 => 1,
+        1..=11 => 1 + rng.below(8),
+        12..=14 => 1 + rng.below(30),
+        _ => 1 + rng.below(200),
+    };
+    shape_of(rng, cells)
+}
+fn cells_of(shape: &[u64]) -> usize {
+    shape.iter().product::<u64>() as usize
+}
+/// A subset inside the shape, now and then an empty one.
+fn inside(rng: &mut Rng, shape: &[u64]) -> Vec<u64> {
+    let mut subset = vec![0; 2 * shape.len()];
+    for (i, &side) in shape.iter().enumerate() {
+        let length = if rng.once_in(12) { 0 } else { 1 + rng.below(side as usize) as u64 };
+        subset[i] = rng.below((side - length + 1) as usize) as u64;
+        subset[shape.len() + i] = length;
+    }
+    subset
+}
+/// Subsets that cover the shape, each cell once: halved again and again.
+fn partition(rng: &mut Rng, shape: &[u64]) -> Vec<Vec<u64>> {
+    let sides = shape.len();
+    let mut whole = vec![0; sides];
+    whole.extend(shape);
+    let mut list = vec![whole];
+    let cuts = match rng.below(8) {
+        0 => 0,
+        1 => 200,
+        _ => rng.below(6),
+    };
+    for _ in 0..cuts {
+        let at = rng.below(list.len());
+        let side = rng.below(sides);
+        let (start, length) = (list[at][side], list[at][sides + side]);
+        if length < 2 {
+            continue;
+        }
+        let first = 1 + rng.below(length as usize - 1) as u64;
+        let mut second = list[at].clone();
+        list[at][sides + side] = first;
+        second[side] = start + first;
+        second[sides + side] = length - first;
+        list.push(second);
+    }
+    rng.shuffle(&mut list);
+    list
+}
+
+// ---------------------------------------------------------------- arrays and stored strings
+
+#[derive(Clone)]
+struct Content {
+    masks: Vec<u8>,
+    values: Vec<u8>,
+    offsets: Vec<u64>,
+}
+fn mask_byte(rng: &mut Rng) -> u8 {
+    match rng.below(4) {
+        0 => 1,
+        1 => rng.pick(&[2, 3, 0x7F, 0x80, 0xFE, 0xFF]),
+        _ => 1 + rng.below(255) as u8,
+    }
+}
+fn plane(rng: &mut Rng, cells: usize) -> Vec<u8> {
+    if rng.once_in(4) {
+        // runs
+        let longest = rng.pick(&[3, 40, 600]);
+        let mut mask = vec![];
+        while mask.len() < cells {
+            let run = 1 + rng.below(longest);
+            let set = rng.below(2) == 1;
+            mask.extend((0..run).map(|_| if set { mask_byte(rng) } else { 0 }));
+        }
+        mask.truncate(cells);
+        return mask;
+    }
+    let of_eight = rng.pick(&[0, 1, 4, 4, 4, 6, 7, 8, 8]);
+    (0..cells).map(|_| if rng.below(8) < of_eight { mask_byte(rng) } else { 0 }).collect()
+}
+/// Lengths of ragged values: many empty, most short.
+fn value_lengths(rng: &mut Rng, cells: usize) -> Vec<usize> {
+    let most = if rng.once_in(100) { rng.pick(&[70, 300, 5000]) } else { rng.pick(&[0, 1, 2, 3, 3, 5, 9, 40]) };
+    let mut room = 40_000; // a few long ones are enough
+    (0..cells)
+        .map(|_| {
+            let length = if rng.once_in(3) { 0 } else { rng.below(most + 1) }.min(room);
+            if most > 9 {
+                room -= length;
+            }
+            length
+        })
+        .collect()
+}
+/// Values of these lengths after `lead` bytes that are in no cell.
+fn values_of(rng: &mut Rng, lead: usize, lengths: &[usize]) -> (Vec<u8>, Vec<u64>) {
+    let mut offsets = vec![lead as u64];
+    let mut end = lead;
+    for length in lengths {
+        end += length;
+        offsets.push(end as u64);
+    }
+    (rng.bytes(end), offsets)
+}
+fn lead(rng: &mut Rng) -> usize {
+    if rng.once_in(4) { 1 + rng.below(4) } else { 0 }
+}
+fn content(rng: &mut Rng, kind: [u64; 5], cells: usize) -> Content {
+    let mut masks = vec![];
+    for _ in 0..kind[0] {
+        masks.extend(plane(rng, cells));
+    }
+    let (values, offsets) = if kind[1] == 0 {
+        (rng.bytes(cells * kind[2] as usize), vec![])
+    } else {
+        let (lead, lengths) = (lead(rng), value_lengths(rng, cells));
+        values_of(rng, lead, &lengths)
+    };
+    Content { masks, values, offsets }
+}
+
+fn frame(mask: &[u8], content: &[u8]) -> Vec<u8> {
+    let (m, c) = ((mask.len() as u64).to_le_bytes(), (content.len() as u64).to_le_bytes());
+    [&m[..], &c, mask, content].concat()
+}
+fn ragged_string(width: u64, place: u64, offsets: &[u64], data: &[u8]) -> Vec<u8> {
+    let index: Vec<u8> = offsets.iter().flat_map(|o| o.to_le_bytes()[..width as usize].to_vec()).collect();
+    let length = (index.len() as u64).to_le_bytes();
+    if place == 0 { [&length[..], &index, data].concat() } else { [data, &index, &length].concat() }
+}
+/// A stored string that can be read: with bytes before the first offset, bytes behind nulls and data behind a last offset of 0.
+fn stored(rng: &mut Rng, kind: [u64; 5], cells: usize) -> Vec<u8> {
+    if kind[0] > 0 {
+        let mask = plane(rng, cells);
+        let set = mask.iter().filter(|&&m| m != 0).count();
+        let inner = at_depth(kind, kind[0] as usize - 1);
+        let content = if set > 0 {
+            stored(rng, inner, set)
+        } else if rng.once_in(3) {
+            let spare = rng.below(20);
+            rng.bytes(spare)
+        } else {
+            vec![]
+        };
+        return frame(&mask, &content);
+    }
+    if kind[1] == 0 {
+        return rng.bytes(cells * kind[2] as usize);
+    }
+    let (lead, lengths) = (lead(rng), value_lengths(rng, cells));
+    let (mut data, offsets) = values_of(rng, lead, &lengths);
+    if data.is_empty() && rng.once_in(2) {
+        let spare = rng.below(6);
+        data = rng.bytes(spare);
+    }
+    ragged_string(kind[2], kind[3], &offsets, &data)
+}
+/// `levels` frames around a content of `cells` cells; the cells of the outermost.
+fn wrapped(rng: &mut Rng, levels: usize, cells: usize, content: Vec<u8>) -> (Vec<u8>, usize) {
+    let (mut bytes, mut cells) = (content, cells);
+    for _ in 0..levels {
+        let mut mask: Vec<u8> = (0..cells).map(|_| mask_byte(rng)).collect();
+        let nulls = rng.pick(&[0, 0, 1, 2]);
+        mask.extend(vec![0; nulls]);
+        rng.shuffle(&mut mask);
+        bytes = frame(&mask, &bytes);
+        cells = mask.len();
+    }
+    (bytes, cells)
+}
+fn interleaved(rng: &mut Rng, cells: usize) -> Vec<u8> {
+    let lengths = value_lengths(rng, cells);
+    interleaved_of(rng, &lengths)
+}
+fn interleaved_of(rng: &mut Rng, lengths: &[usize]) -> Vec<u8> {
+    let mut bytes = (lengths.len() as u32).to_le_bytes().to_vec();
+    for &length in lengths {
+        bytes.extend((length as u32).to_le_bytes());
+        bytes.extend(rng.bytes(length));
+    }
+    bytes
+}
+
+// ---------------------------------------------------------------- damage
+
+const MAX: u64 = u64::MAX;
+const NUMBERS: [u64; 22] = [
+    0,
+    1,
+    2,
+    3,
+    4,
+    7,
+    8,
+    9,
+    255,
+    256,
+    65_535,
+    65_536,
+    65_537,
+    16_777_216,
+    16_777_217,
+    1 << 31,
+    u32::MAX as u64,
+    1 << 32,
+    (1 << 32) + 1,
+    1 << 63,
+    MAX - 15,
+    MAX,
+];
+fn a_number(rng: &mut Rng) -> u64 {
+    let n = rng.pick(&NUMBERS);
+    match rng.below(4) {
+        0 => n.wrapping_add(rng.below(5) as u64).wrapping_sub(2),
+        1 => n.wrapping_neg(),
+        _ => n,
+    }
+}
+/// Every one-byte change of three sorts, every cut, and some longer ones.
+fn each_damage(bytes: &[u8]) -> Vec<Vec<u8>> {
+    let mut list = vec![];
+    for at in 0..bytes.len() {
+        for new in [bytes[at].wrapping_add(1), bytes[at].wrapping_sub(1), bytes[at] ^ 0x80, !bytes[at], 0] {
+            if new != bytes[at] {
+                let mut copy = bytes.to_vec();
+                copy[at] = new;
+                list.push(copy);
+            }
+        }
+    }
+    for length in 0..bytes.len() {
+        list.push(bytes[..length].to_vec());
+        list.push(bytes[bytes.len() - length..].to_vec());
+    }
+    for more in [1, 2, 3, 4, 8, 16] {
+        list.push([bytes, &vec![0; more]].concat());
+        list.push([&vec![0; more], bytes].concat());
+    }
+    list.push([bytes, bytes].concat());
+    list
+}
+fn put_number(bytes: &mut [u8], at: usize, width: usize, number: u64) {
+    if at + width <= bytes.len() {
+        bytes[at..at + width].copy_from_slice(&number.to_le_bytes()[..width]);
+    }
+}
+/// Lengths of a frame that agree with its bytes only where their sum is cut to 64 bits (or 32).
+fn wrap_frame(rng: &mut Rng, bytes: &[u8], cells: usize) -> Vec<u8> {
+    let mut copy = bytes.to_vec();
+    if copy.len() < 16 {
+        return copy;
+    }
+    if rng.below(2) == 0 {
+        // the mask length is right and the bytes end before the mask does
+        copy.truncate(16 + rng.below(cells.min(copy.len() - 16) + 1));
+        put_number(&mut copy, 0, 8, cells as u64);
+        let content = (copy.len() as u64 - 16).wrapping_sub(cells as u64);
+        put_number(&mut copy, 8, 8, content);
+    } else {
+        let mask = match rng.below(4) {
+            0 => (copy.len() as u64 - 15).wrapping_add(rng.below(20) as u64),
+            1 => (rng.below(20) as u64).wrapping_neg(),
+            2 => cells as u64 + (1 << 32),
+            _ => a_number(rng),
+        };
+        put_number(&mut copy, 0, 8, mask);
+        let content = (copy.len() as u64 - 16).wrapping_sub(mask);
+        put_number(&mut copy, 8, 8, content);
+    }
+    copy
+}
+fn damaged(rng: &mut Rng, bytes: &[u8], cells: usize) -> Vec<u8> {
+    let mut copy = bytes.to_vec();
+    let length = copy.len();
+    match rng.below(10) {
+        0 if length > 0 => {
+            let at = rng.below(length);
+            copy[at] ^= 1 << rng.below(8);
+        }
+        1 if length > 0 => copy.truncate(rng.below(length)),
+        2 => {
+            let more = 1 + rng.below(17);
+            copy.extend(rng.bytes(more));
+        }
+        3 => {
+            // a number where a field begins: a frame's lengths, the index length at either end, an offset
+            let at = rng.pick(&[0, 8, length.saturating_sub(8), 16 + cells, 24 + cells]);
+            let n = a_number(rng);
+            put_number(&mut copy, at, 8, n);
+        }
+        4 => {
+            let width = rng.pick(&[4, 8]);
+            let at = rng.pick(&[0, 8]) + width * rng.below(cells + 2);
+            let n = a_number(rng);
+            put_number(&mut copy, at, width, n);
+        }
+        5 | 6 => copy = wrap_frame(rng, bytes, cells),
+        7 if length > 0 => {
+            copy.remove(rng.below(length));
+        }
+        8 => {
+            let at = rng.below(length + 1);
+            copy.insert(at, 0);
+        }
+        _ if length > 1 => {
+            let (a, b) = (rng.below(length), rng.below(length));
+            copy.swap(a, b);
+        }
+        _ => {}
+    }
+    copy
+}
+/// Another kind, shape or list of numbers, mostly a wrong one.
+fn damaged_kind(rng: &mut Rng, kind: [u64; 5]) -> [u64; 5] {
+    let mut copy = kind;
+    let at = rng.below(5);
+    copy[at] = if rng.below(2) == 0 { a_number(rng) } else { copy[at].wrapping_add(1) };
+    copy
+}
+fn damaged_numbers(rng: &mut Rng, list: &[u64]) -> Vec<u64> {
+    let mut copy = list.to_vec();
+    if copy.is_empty() {
+        return vec![a_number(rng)];
+    }
+    let at = rng.below(copy.len());
+    match rng.below(6) {
+        0 => copy[at] = copy[at].wrapping_add(1),
+        1 => copy[at] = copy[at].wrapping_sub(1),
+        2 => copy[at] = a_number(rng),
+        3 => {
+            copy.remove(at);
+        }
+        4 => copy.insert(at, list[at]),
+        _ => {
+            let other = rng.below(copy.len());
+            copy.swap(at, other);
+        }
+    }
+    copy
+}
+fn damaged_bytes(rng: &mut Rng, list: &[u8]) -> Vec<u8> {
+    let mut copy = list.to_vec();
+    if copy.is_empty() || rng.below(2) == 0 {
+        copy.push(rng.byte());
+    } else {
+        copy.pop();
+    }
+    copy
+}
+/// A damaged content. Offsets that would make the Rust ask for memory stay outside the domain, since the array's rules are broken.
+fn damaged_content(rng: &mut Rng, c: &Content) -> Content {
+    let mut copy = c.clone();
+    match rng.below(4) {
+        0 => copy.masks = damaged_bytes(rng, &c.masks),
+        1 => copy.values = damaged_bytes(rng, &c.values),
+        _ => copy.offsets = damaged_numbers(rng, &c.offsets),
+    }
+    copy
+}
+
+/// Several faults at once: each part is damaged once in three times.
+fn faulty(rng: &mut Rng, request: &Request) -> Request {
+    let mut r = request.clone();
+    match &mut r {
+        Encode { kind, shape, masks, values, offsets } => {
+            faulty_head(rng, kind, shape);
+            faulty_content(rng, masks, values, offsets);
+        }
+        Decode { kind, shape, bytes } => {
+            faulty_head(rng, kind, shape);
+            faulty_stored(rng, bytes);
+        }
+        DecodeInterleaved { cells, bytes } => {
+            if rng.once_in(3) {
+                *cells = a_number(rng);
+            }
+            faulty_stored(rng, bytes);
+        }
+        Extract { kind, shape, subset, masks, values, offsets }
+        | Merge { kind, shape, subsets: subset, masks, values, offsets } => {
+            faulty_head(rng, kind, shape);
+            if rng.once_in(3) {
+                *subset = damaged_numbers(rng, subset);
+            }
+            faulty_content(rng, masks, values, offsets);
+        }
+        PartialDecode { width, place, shape, subset, bytes } => {
+            let mut kind = [0, 1, *width, *place, 0];
+            faulty_head(rng, &mut kind, shape);
+            (*width, *place) = (kind[2], kind[3]);
+            if rng.once_in(3) {
+                *subset = damaged_numbers(rng, subset);
+            }
+            faulty_stored(rng, bytes);
+        }
+        ReverseEndianness { size, .. } => *size = a_number(rng),
+        SubsetCells { shape, subset } => {
+            if rng.once_in(2) {
+                *shape = damaged_numbers(rng, shape);
+            }
+            *subset = damaged_numbers(rng, subset);
+        }
+    }
+    r
+}
+fn faulty_head(rng: &mut Rng, kind: &mut [u64; 5], shape: &mut Vec<u64>) {
+    if rng.once_in(6) {
+        *kind = damaged_kind(rng, *kind);
+    }
+    if rng.once_in(3) {
+        *shape = damaged_numbers(rng, shape);
+    }
+}
+fn faulty_content(rng: &mut Rng, masks: &mut Vec<u8>, values: &mut Vec<u8>, offsets: &mut Vec<u64>) {
+    if rng.once_in(3) {
+        *masks = damaged_bytes(rng, masks);
+    }
+    if rng.once_in(3) {
+        *values = damaged_bytes(rng, values);
+    }
+    if rng.once_in(3) {
+        *offsets = damaged_numbers(rng, offsets);
+    }
+}
+fn faulty_stored(rng: &mut Rng, bytes: &mut Vec<u8>) {
+    if rng.once_in(2) {
+        let cells = 1 + rng.below(4);
+        *bytes = damaged(rng, bytes, cells);
+    }
+}
+
+// ---------------------------------------------------------------- requests over a content
+
+fn encode(kind: [u64; 5], shape: &[u64], c: &Content) -> Request {
+    Encode { kind, shape: shape.to_vec(), masks: c.masks.clone(), values: c.values.clone(), offsets: c.offsets.clone() }
+}
+fn decode(kind: [u64; 5], shape: &[u64], bytes: &[u8]) -> Request {
+    Decode { kind, shape: shape.to_vec(), bytes: bytes.to_vec() }
+}
+fn extract(kind: [u64; 5], shape: &[u64], subset: &[u64], c: &Content) -> Request {
+    Extract {
+        kind,
+        shape: shape.to_vec(),
+        subset: subset.to_vec(),
+        masks: c.masks.clone(),
+        values: c.values.clone(),
+        offsets: c.offsets.clone(),
+    }
+}
+fn merge(kind: [u64; 5], shape: &[u64], list: &[(Vec<u64>, Content)]) -> Request {
+    let (mut subsets, mut masks, mut values, mut offsets) = (vec![], vec![], vec![], vec![]);
+    for (subset, c) in list {
+        subsets.extend(subset);
+        masks.extend(&c.masks);
+        values.extend(&c.values);
+        offsets.extend(&c.offsets);
+    }
+    Merge { kind, shape: shape.to_vec(), subsets, masks, values, offsets }
+}
+fn partial_decode(kind: [u64; 5], shape: &[u64], subset: &[u64], bytes: &[u8]) -> Request {
+    PartialDecode { width: kind[2], place: kind[3], shape: shape.to_vec(), subset: subset.to_vec(), bytes: bytes.to_vec() }
+}
+fn subset_cells(shape: &[u64], subset: &[u64]) -> Request {
+    SubsetCells { shape: shape.to_vec(), subset: subset.to_vec() }
+}
+
+// ---------------------------------------------------------------- exhaustive
+
+/// All lists of `count` numbers below `n`.
+fn lists(n: u64, count: usize) -> Vec<Vec<u64>> {
+    let mut all = vec![vec![]];
+    for _ in 0..count {
+        all = all.iter().flat_map(|list| (0..n).map(move |x| [&list[..], &[x]].concat())).collect();
+    }
+    all
+}
+/// All strings of up to `length` bytes out of `alphabet`.
+fn strings(alphabet: &[u8], length: usize) -> Vec<Vec<u8>> {
+    (0..=length)
+        .flat_map(|n| lists(alphabet.len() as u64, n))
+        .map(|list| list.iter().map(|&i| alphabet[i as usize]).collect())
+        .collect()
+}
+
+/// All masks and all lengths of up to four cells, written and read back.
+fn exhaustive_masks(sink: &mut dyn Sink, rng: &mut Rng) {
+    for depth in 0..=4 {
+        for cells in 1..=4 {
+            if depth * cells > 8 {
+                continue;
+            }
+            let lengths = if depth * cells > 6 || cells == 4 { 2 } else { 3 };
+            for set in 0..1u64 << (depth * cells) {
+                let masks: Vec<u8> = (0..depth * cells).map(|i| if set >> i & 1 == 1 { mask_byte(rng) } else { 0 }).collect();
+                let mut both = |kind, c: &Content| {
+                    let shape = shape_of(rng, cells);
+                    let request = encode(kind, &shape, c);
+                    if let Ok(r) = request.judged() {
+                        sink.ask(decode(kind, &shape, &r.values));
+                    }
+                    sink.ask(request);
+                };
+                for size in [1, 3] {
+                    for order in [0, 1] {
+                        let values = (1..=cells as u8 * size).collect();
+                        let c = Content { masks: masks.clone(), values, offsets: vec![] };
+                        both(fixed(depth, u64::from(size), order), &c);
+                    }
+                }
+                for list in lists(lengths, cells) {
+                    let list: Vec<usize> = list.iter().map(|&n| n as usize).collect();
+                    let mut values = vec![];
+                    let mut offsets = vec![0];
+                    for (i, &length) in list.iter().enumerate() {
+                        values.extend(vec![b'a' + i as u8; length]);
+                        offsets.push(values.len() as u64);
+                    }
+                    let c = Content { masks: masks.clone(), values, offsets };
+                    for (width, place) in RAGGED {
+                        both(ragged(depth, width, place), &c);
+                    }
+                }
+            }
+        }
+    }
+}
+
+/// All short strings, as the whole, as the content of frames at each level, and behind all small frame lengths.
+fn exhaustive_strings(sink: &mut dyn Sink, rng: &mut Rng) {
+    // every string of two bytes
+    for n in 0..=0xFFFF_u16 {
+        sink.ask(decode(fixed(0, 2, 1), &[1], &n.to_le_bytes()));
+    }
+    let kinds = [fixed(0, 1, 0), fixed(0, 2, 1), fixed(0, 3, 1), ragged(0, 4, 0), ragged(0, 8, 1)];
+    let short = strings(&[0, 1, 2, 0xFF], 4);
+    for levels in 0..=4 {
+        for inner in 0..=4 - levels {
+            for kind in kinds {
+                for cells in 1..=3 {
+                    for s in &short {
+                        let (bytes, cells) = wrapped(rng, levels, cells, s.clone());
+                        sink.ask(decode(at_depth(kind, levels + inner), &[cells as u64], &bytes));
+                    }
+                }
+            }
+        }
+    }
+    for cells in 1..=3_u64 {
+        for mask_length in 0..=4_u64 {
+            for content_length in 0..=3_u64 {
+                for s in strings(&[0, 1, 2], 4) {
+                    let mut bytes = mask_length.to_le_bytes().to_vec();
+                    bytes.extend(content_length.to_le_bytes());
+                    bytes.extend(s);
+                    sink.ask(decode(fixed(1, 1, 0), &[cells], &bytes));
+                }
+            }
+        }
+    }
+    // the index of ragged values: small offsets in all ways, each length of data, also after the index length of another count
+    for (width, place) in RAGGED {
+        for cells in 1..=3 {
+            for offsets in lists(4, cells + 1) {
+                for data in 0..=4 {
+                    let s = ragged_string(width, place, &offsets, &b"wxyz"[..data]);
+                    for levels in 0..=2 {
+                        let (bytes, outer) = wrapped(rng, levels, cells, s.clone());
+                        sink.ask(decode(ragged(levels, width, place), &[outer as u64], &bytes));
+                    }
+                    let subset = inside(rng, &[cells as u64]);
+                    sink.ask(partial_decode(ragged(0, width, place), &[cells as u64], &subset, &s));
+                }
+            }
+        }
+        for index_length in 0..=40_u64 {
+            for rest in 0..=40 {
+                let (length, rest) = (index_length.to_le_bytes().to_vec(), vec![0; rest]);
+                let s = if place == 0 { [length, rest].concat() } else { [rest, length].concat() };
+                for cells in 1..=4 {
+                    sink.ask(decode(ragged(0, width, place), &[cells], &s));
+                }
+            }
+        }
+    }
+    // the interleaved form: small counts and lengths in all ways, each length of the rest
+    for cells in 0..=3 {
+        for count in 0..=4_u64 {
+            for lengths in lists(4, cells as usize) {
+                for data in 0..=8 {
+                    let mut bytes = (count as u32).to_le_bytes().to_vec();
+                    let mut left: Vec<u8> = (1..=data).collect();
+                    for &length in &lengths {
+                        bytes.extend((length as u32).to_le_bytes());
+                        let now = left.len().min(length as usize);
+                        bytes.extend(left.drain(..now));
+                    }
+                    bytes.extend(left);
+                    sink.ask(DecodeInterleaved { cells, bytes });
+                }
+            }
+        }
+    }
+    for s in strings(&[0, 1, 4, 0xFF], 5) {
+        for cells in 0..=1_u64 {
+            let bytes = [&(cells as u32).to_le_bytes()[..], &s].concat();
+            sink.ask(DecodeInterleaved { cells, bytes });
+        }
+    }
+}
+
+/// All subsets of small shapes, those outside too; all lists of up to four subsets.
+fn exhaustive_subsets(sink: &mut dyn Sink, rng: &mut Rng) {
+    let mut shapes: Vec<Vec<u64>> = (1..=5).map(|side| vec![side]).collect();
+    for a in 1..=3 {
+        for b in 1..=3 {
+            shapes.push(vec![a, b]);
+        }
+    }
+    shapes.extend([vec![1, 2, 2], vec![2, 1, 2], vec![2, 2, 1], vec![2, 2, 2]]);
+    for shape in &shapes {
+        let most = shape.iter().max().unwrap() + 2;
+        for subset in lists(most, 2 * shape.len()) {
+            sink.ask(subset_cells(shape, &subset));
+            if shape.len() < 3 {
+                let depth = rng.below(5);
+                let kind = any_kind(rng, depth);
+                let c = content(rng, kind, cells_of(shape));
+                sink.ask(extract(kind, shape, &subset, &c));
+                let (width, place) = rng.pick(&RAGGED);
+                let kind = ragged(0, width, place);
+                let bytes = stored(rng, kind, cells_of(shape));
+                sink.ask(partial_decode(kind, shape, &subset, &bytes));
+            }
+        }
+    }
+    for (shape, most) in [(vec![1], 4), (vec![2], 4), (vec![3], 4), (vec![2, 2], 4), (vec![2, 1, 2], 3)] {
+        let sides = shape.len();
+        let all: Vec<Vec<u64>> = lists(4, 2 * sides)
+            .into_iter()
+            .filter(|s| (0..sides).all(|i| s[sides + i] > 0 && s[i] + s[sides + i] <= shape[i]))
+            .collect();
+        for count in 0..=most {
+            for picks in lists(all.len() as u64, count) {
+                let depth = rng.below(3);
+                let kind = any_kind(rng, depth);
+                let list: Vec<(Vec<u64>, Content)> = picks
+                    .iter()
+                    .map(|&i| {
+                        let subset = all[i as usize].clone();
+                        let cells = cells_of(&subset[sides..]);
+                        (subset, content(rng, kind, cells))
+                    })
+                    .collect();
+                sink.ask(merge(kind, &shape, &list));
+            }
+        }
+    }
+}
+
+fn exhaustive_reversal(sink: &mut dyn Sink, rng: &mut Rng) {
+    for size in 0..=66 {
+        for length in 0..=140 {
+            let bytes = rng.bytes(length);
+            sink.ask(ReverseEndianness { size, bytes });
+        }
+    }
+}
+
+// ---------------------------------------------------------------- limits
+
+fn limits(sink: &mut dyn Sink, rng: &mut Rng) {
+    // every number of a kind, alone and together with other faults
+    let good = [fixed(0, 1, 0), fixed(2, 3, 1), ragged(0, 4, 0), ragged(1, 8, 1)];
+    for kind in good {
+        let c = content(rng, kind, 2);
+        for at in 0..5 {
+            for n in NUMBERS.iter().copied().chain(0..70).chain([(1 << 32) + 4, (1 << 32) + 8, (1 << 63) + 1]) {
+                let mut k = kind;
+                k[at] = n;
+                for shape in [vec![2], vec![0], vec![]] {
+                    sink.ask(encode(k, &shape, &c));
+                    sink.ask(decode(k, &shape, &[]));
+                    sink.ask(extract(k, &shape, &[0, 2], &c));
+                    sink.ask(merge(k, &shape, &[(vec![0, 2], c.clone())]));
+                    sink.ask(partial_decode(k, &shape, &[0, 2], &[0; 8]));
+                }
+                sink.ask(ReverseEndianness { size: n, bytes: vec![1; 65] });
+            }
+        }
+    }
+    // shapes, with products that leave 64 bits
+    let sides = [0, 1, 2, 3, 255, 256, 257, 65_535, 65_536, 65_537, 1 << 31, 1 << 32, 1 << 48, 1 << 63, MAX];
+    let mut shapes: Vec<Vec<u64>> = vec![vec![], vec![1; 5], vec![1, 1, 1, 1, 1, 1], vec![16; 4], vec![2; 16]];
+    for a in sides {
+        shapes.push(vec![a]);
+        for b in sides {
+            shapes.push(vec![a, b]);
+            for _ in 0..3 {
+                shapes.push(vec![a, b, rng.pick(&sides)]);
+                shapes.push(vec![a, b, rng.pick(&sides), rng.pick(&sides)]);
+            }
+        }
+    }
+    for shape in &shapes {
+        let at_0: Vec<u64> = [vec![0; shape.len()], vec![1; shape.len()]].concat();
+        sink.ask(subset_cells(shape, &at_0));
+        sink.ask(subset_cells(shape, &[]));
+        let last: Vec<u64> = shape.iter().map(|s| s.wrapping_sub(1)).chain(vec![1; shape.len()]).collect();
+        sink.ask(subset_cells(shape, &last));
+        sink.ask(decode(fixed(0, 1, 0), shape, &[]));
+        sink.ask(decode(fixed(0, 1, 0), shape, &[7]));
+        sink.ask(decode(ragged(0, 4, 0), shape, &ragged_string(4, 0, &[0], &[])));
+        sink.ask(decode(fixed(1, 1, 0), shape, &[0; 16]));
+        let none = Content { masks: vec![], values: vec![], offsets: vec![] };
+        sink.ask(encode(fixed(0, 1, 0), shape, &none));
+        sink.ask(encode(ragged(0, 8, 0), shape, &Content { offsets: vec![0], ..none.clone() }));
+        sink.ask(extract(fixed(0, 1, 0), shape, &at_0, &none));
+        sink.ask(merge(fixed(0, 1, 0), shape, &[]));
+        sink.ask(partial_decode(ragged(0, 4, 0), shape, &at_0, &ragged_string(4, 0, &[0], &[])));
+    }
+    // starts and lengths, with sums that leave 64 bits
+    for side in [1, 2, 65_536] {
+        for start in NUMBERS {
+            for length in NUMBERS.iter().copied().chain([start.wrapping_neg(), side - 1, 1_u64.wrapping_sub(start)]) {
+                sink.ask(subset_cells(&[side], &[start, length]));
+                if side <= 2 {
+                    let kind = fixed(1, 1, 0);
+                    let c = content(rng, kind, side as usize);
+                    sink.ask(extract(kind, &[side], &[start, length], &c));
+                    let kind = ragged(0, 4, 0);
+                    let c = content(rng, kind, 1);
+                    sink.ask(merge(kind, &[side], &[(vec![start, length], c)]));
+                    let bytes = stored(rng, kind, side as usize);
+                    sink.ask(partial_decode(kind, &[side], &[start, length], &bytes));
+                }
+            }
+        }
+    }
+    // an empty subset in a list, a list with too many or too few numbers
+    for kind in [fixed(0, 1, 0), ragged(1, 8, 0)] {
+        let whole = content(rng, kind, 2);
+        let empty = Content { masks: vec![], values: vec![], offsets: if kind[1] == 1 { vec![0] } else { vec![] } };
+        for at in 0..=2 {
+            sink.ask(merge(kind, &[2], &[(vec![0, 2], whole.clone()), (vec![at, 0], empty.clone())]));
+        }
+        for subsets in [vec![0], vec![0, 2, 0], vec![0, 2, 2], vec![0, 0, 2, 2], vec![0, 2, 0, 2, 0]] {
+            sink.ask(merge(kind, &[2], &[(subsets, whole.clone())]));
+        }
+    }
+    // sums of last offsets that leave 64 bits, offsets near 2^64
+    let half = 1 << 63;
+    for offsets in [
+        vec![0, half, 0, half],
+        vec![0, MAX, 0, 1],
+        vec![0, MAX, 0, 2],
+        vec![0, MAX - 1, 0, 4],
+        vec![half, half, half, half],
+        vec![MAX, MAX, 1, 1],
+        vec![1, 1, 1, 1],
+    ] {
+        for values in [vec![], vec![1], vec![1, 2]] {
+            let c = Content { masks: vec![], values, offsets: offsets.clone() };
+            sink.ask(merge(ragged(0, 8, 0), &[2], &[(vec![0, 1, 1, 1], c.clone())]));
+            sink.ask(merge(ragged(0, 8, 0), &[2], &[(vec![0, 1, 0, 1], c)]));
+        }
+    }
+    for n in NUMBERS {
+        for values in [vec![], vec![1], vec![1; 8]] {
+            for offsets in [vec![0, n], vec![n, n], vec![n, 0], vec![n], vec![1, n]] {
+                let c = Content { masks: vec![], values: values.clone(), offsets };
+                for width in [4, 8] {
+                    sink.ask(encode(ragged(0, width, 0), &[1], &c));
+                }
+                sink.ask(extract(ragged(0, 8, 0), &[1], &[0, 1], &c));
+                sink.ask(extract(ragged(0, 8, 0), &[1], &[1, 0], &c));
+            }
+        }
+        // the count of the interleaved form, from the caller and in the field
+        for bytes in [vec![], vec![0; 4], vec![1, 0, 0, 0], (n as u32).to_le_bytes().to_vec()] {
+            sink.ask(DecodeInterleaved { cells: n, bytes });
+        }
+        for bytes in [0, 1, 8].map(|more| [&[1, 0, 0, 0][..], &(n as u32).to_le_bytes(), &vec![5; more]].concat()) {
+            sink.ask(DecodeInterleaved { cells: 1, bytes });
+        }
+        // every number in every field of a frame and of an index
+        for (depth, cells) in [(1, 1), (2, 1), (1, 3), (4, 2)] {
+            for kind in [fixed(depth, 1, 0), ragged(depth, 4, 0), ragged(depth, 8, 1)] {
+                let s = stored(rng, kind, cells);
+                for at in 0..s.len().saturating_sub(7) {
+                    let mut copy = s.clone();
+                    put_number(&mut copy, at, 8, n);
+                    sink.ask(decode(kind, &[cells as u64], &copy));
+                }
+                if s.len() >= 16 {
+                    for mask in [n, n.wrapping_add(cells as u64), n.wrapping_neg()] {
+                        let mut copy = s.clone();
+                        put_number(&mut copy, 0, 8, mask);
+                        put_number(&mut copy, 8, 8, (s.len() as u64 - 16).wrapping_sub(mask));
+                        sink.ask(decode(kind, &[cells as u64], &copy));
+                    }
+                }
+            }
+        }
+    }
+}
+
+// ---------------------------------------------------------------- medium
+
+/// Each size, depth and order with cells around the blocks that a fast walk may have.
+fn blocks(sink: &mut dyn Sink, rng: &mut Rng) {
+    let counts = [31, 32, 33, 63, 64, 65, 127, 128, 129, 239, 240, 241, 255, 256, 257, 479, 480, 511, 512, 513, 700];
+    let mut kinds: Vec<[u64; 5]> = RAGGED.iter().map(|&(width, place)| ragged(0, width, place)).collect();
+    for size in 1..=64 {
+        kinds.extend([fixed(0, size, 0), fixed(0, size, 1)]);
+    }
+    for kind in kinds {
+        for depth in 0..=4 {
+            let kind = at_depth(kind, depth);
+            let cells = rng.pick(&counts);
+            let shape = shape_of(rng, cells);
+            let c = content(rng, kind, cells);
+            sink.ask(encode(kind, &shape, &c));
+            let cells = rng.pick(&counts);
+            let bytes = stored(rng, kind, cells);
+            let shape = shape_of(rng, cells);
+            sink.ask(decode(kind, &shape, &bytes));
+            let c = content(rng, kind, cells);
+            let subset = inside(rng, &shape);
+            sink.ask(extract(kind, &shape, &subset, &c));
+            if kind[1] == 1 && depth == 0 {
+                for _ in 0..10 {
+                    let bytes = stored(rng, kind, cells);
+                    let subset = inside(rng, &shape);
+                    sink.ask(partial_decode(kind, &shape, &subset, &bytes));
+                }
+            }
+            let list = partition(rng, &shape);
+            let list: Vec<(Vec<u64>, Content)> = list
+                .into_iter()
+                .map(|subset| {
+                    let cells = cells_of(&subset[shape.len()..]);
+                    (subset, content(rng, kind, cells))
+                })
+                .collect();
+            sink.ask(merge(kind, &shape, &list));
+            if kind[1] == 0 {
+                let bytes = rng.bytes(cells * kind[2] as usize + depth);
+                sink.ask(ReverseEndianness { size: kind[2], bytes });
+            }
+        }
+    }
+    for cells in counts {
+        let bytes = interleaved(rng, cells);
+        sink.ask(DecodeInterleaved { cells: cells as u64, bytes });
+    }
+}
+
+// ---------------------------------------------------------------- large
+
+const LIMIT: usize = 16_777_216;
+
+/// 65,536 cells in each call.
+fn many_cells(sink: &mut dyn Sink, rng: &mut Rng) {
+    const CELLS: usize = 65_536;
+    for (shape, kind) in [
+        (vec![65_536], fixed(4, 64, 1)),
+        (vec![256, 256], fixed(0, 8, 0)),
+        (vec![16, 16, 16, 16], ragged(4, 4, 0)),
+        (vec![1, 65_536], ragged(0, 8, 1)),
+    ] {
+        let c = content(rng, kind, CELLS);
+        let subset = inside(rng, &shape);
+        sink.ask(encode(kind, &shape, &c));
+        let s = stored(rng, kind, CELLS);
+        sink.ask(decode(kind, &shape, &s));
+        sink.ask(extract(kind, &shape, &subset, &c));
+        sink.ask(subset_cells(&shape, &subset));
+        let list = partition(rng, &shape);
+        let list: Vec<(Vec<u64>, Content)> = list
+            .into_iter()
+            .map(|subset| {
+                let cells = cells_of(&subset[shape.len()..]);
+                (subset, content(rng, kind, cells))
+            })
+            .collect();
+        sink.ask(merge(kind, &shape, &list));
+        sink.ask(encode(kind, &[65_537], &content(rng, kind, CELLS + 1)));
+        if kind[1] == 1 && kind[0] == 0 {
+            sink.ask(partial_decode(kind, &shape, &subset, &s));
+        }
+    }
+    for cells in [CELLS, CELLS + 1] {
+        let lengths = value_lengths(rng, cells);
+        let bytes = interleaved_of(rng, &lengths);
+        sink.ask(DecodeInterleaved { cells: cells as u64, bytes });
+    }
+    // one subset for each cell, in any order; then one cell missed, one held twice
+    for kind in [fixed(1, 2, 0), ragged(1, 4, 0)] {
+        let mut order: Vec<u64> = (0..CELLS as u64).collect();
+        rng.shuffle(&mut order);
+        let mut list: Vec<(Vec<u64>, Content)> =
+            order.iter().map(|&cell| (vec![cell / 256, cell % 256, 1, 1], content(rng, kind, 1))).collect();
+        sink.ask(merge(kind, &[256, 256], &list));
+        let again = list[7].clone();
+        list.push(again);
+        sink.ask(merge(kind, &[256, 256], &list));
+        list.truncate(CELLS - 1);
+        sink.ask(merge(kind, &[256, 256], &list));
+    }
+}
+
+/// 16,777,216 value bytes in each call, and one more.
+fn many_bytes(sink: &mut dyn Sink, rng: &mut Rng) {
+    let bulk = rng.bytes(LIMIT + 1);
+    for bytes in [LIMIT, LIMIT + 1] {
+        let values = &bulk[..bytes];
+        let end = bytes as u64;
+        let whole = Content { masks: vec![], values: values.to_vec(), offsets: vec![0, end] };
+        let late = Content { masks: vec![], values: values.to_vec(), offsets: vec![1, end] };
+        let kind = ragged(0, 8, 0);
+        sink.ask(encode(kind, &[1], &whole));
+        sink.ask(encode(ragged(1, 4, 1), &[1], &Content { masks: vec![9], ..whole.clone() }));
+        sink.ask(encode(ragged(1, 4, 1), &[1], &Content { masks: vec![0], ..whole.clone() }));
+        sink.ask(encode(kind, &[1], &Content { offsets: vec![end, end], ..whole.clone() }));
+        sink.ask(extract(kind, &[1], &[0, 1], &whole));
+        sink.ask(extract(kind, &[1], &[1, 0], &whole));
+        sink.ask(merge(kind, &[1], &[(vec![0, 1], whole.clone())]));
+        sink.ask(merge(kind, &[1], &[(vec![0, 1], late.clone())]));
+        sink.ask(merge(kind, &[2], &[(vec![0, 1], whole.clone())]));
+        let (a, b) = (LIMIT / 2, bytes - LIMIT / 2);
+        for subsets in [vec![0, 1, 1, 1], vec![0, 1, 0, 1]] {
+            let c = Content { masks: vec![], values: values.to_vec(), offsets: vec![0, a as u64, 0, b as u64] };
+            sink.ask(merge(kind, &[2], &[(subsets, c)]));
+        }
+        for (width, place) in [(4, 0), (8, 1)] {
+            for offsets in [[0, end], [1, end], [end, end]] {
+                let s = ragged_string(width, place, &offsets, values);
+                sink.ask(decode(ragged(0, width, place), &[1], &s));
+                if place == 0 {
+                    sink.ask(partial_decode(ragged(0, width, place), &[1], &[0, 1], &s));
+                    sink.ask(partial_decode(ragged(0, width, place), &[1], &[0, 0], &s));
+                    sink.ask(decode(ragged(1, width, place), &[1], &frame(&[1], &s)));
+                }
+            }
+        }
+        sink.ask(decode(ragged(1, 8, 0), &[1], &frame(&[0], values)));
+        sink.ask(decode(ragged(0, 8, 0), &[1], &ragged_string(8, 0, &[end, end - 1], &values[1..])));
+        let mut s = 1_u32.to_le_bytes().to_vec();
+        s.extend((bytes as u32).to_le_bytes());
+        s.extend(values);
+        sink.ask(DecodeInterleaved { cells: 1, bytes: s.clone() });
+        s[0] = 2;
+        sink.ask(DecodeInterleaved { cells: 2, bytes: s });
+        sink.ask(ReverseEndianness { size: 8, bytes: values.to_vec() });
+    }
+    // cells × size over all subsets: four times the whole shape is the limit
+    let kind = fixed(0, 64, 0);
+    let whole = content(rng, kind, 65_536);
+    let mut list = vec![(vec![0, 65_536], whole); 4];
+    sink.ask(merge(kind, &[65_536], &list));
+    list.push((vec![0, 1], content(rng, kind, 1)));
+    sink.ask(merge(kind, &[65_536], &list));
+}
+
+// ---------------------------------------------------------------- random, with damaged copies
+
+/// A request, and copies with several faults.
+fn ask_with_faults(sink: &mut dyn Sink, rng: &mut Rng, request: Request) {
+    for _ in 0..3 {
+        sink.ask(faulty(rng, &request));
+    }
+    sink.ask(request);
+}
+
+fn random_decode(sink: &mut dyn Sink, rng: &mut Rng) {
+    let depth = rng.below(5);
+    let kind = any_kind(rng, depth);
+    let levels = rng.below(depth + 1);
+    let inner = at_depth(kind, depth - levels);
+    let cells = if rng.once_in(20) { 1 + rng.below(60) } else { 1 + rng.below(6) };
+    let good = stored(rng, inner, cells);
+    let mut copies = vec![good.clone()];
+    if good.len() <= 40 && rng.once_in(8) {
+        copies.extend(each_damage(&good));
+    } else {
+        for _ in 0..8 {
+            copies.push(damaged(rng, &good, cells));
+        }
+        let twice = damaged(rng, &good, cells);
+        copies.push(damaged(rng, &twice, cells));
+    }
+    for s in copies {
+        let partial = depth == 0 && kind[1] == 1;
+        let (bytes, outer) = wrapped(rng, levels, cells, s);
+        let shape = shape_of(rng, outer);
+        if partial {
+            let subset = inside(rng, &shape);
+            if rng.once_in(4) {
+                ask_with_faults(sink, rng, partial_decode(kind, &shape, &subset, &bytes));
+            } else {
+                sink.ask(partial_decode(kind, &shape, &subset, &bytes));
+            }
+        }
+        if rng.once_in(10) {
+            let (k, s) = (damaged_kind(rng, kind), damaged_numbers(rng, &shape));
+            sink.ask(decode(k, &shape, &bytes));
+            sink.ask(decode(kind, &s, &bytes));
+            sink.ask(faulty(rng, &decode(kind, &shape, &bytes)));
+        }
+        sink.ask(decode(kind, &shape, &bytes));
+    }
+}
+
+fn random_array(sink: &mut dyn Sink, rng: &mut Rng) {
+    let depth = rng.below(5);
+    let kind = any_kind(rng, depth);
+    let shape = any_shape(rng);
+    let c = content(rng, kind, cells_of(&shape));
+    let subset = inside(rng, &shape);
+    let request = encode(kind, &shape, &c);
+    if let Ok(r) = request.judged() {
+        sink.ask(decode(kind, &shape, &r.values));
+        if depth == 0 && kind[1] == 1 {
+            sink.ask(partial_decode(kind, &shape, &subset, &r.values));
+        }
+    }
+    ask_with_faults(sink, rng, request);
+    ask_with_faults(sink, rng, extract(kind, &shape, &subset, &c));
+    ask_with_faults(sink, rng, subset_cells(&shape, &subset));
+    sink.ask(ReverseEndianness { size: 1 + rng.below(64) as u64, bytes: c.values.clone() });
+    for _ in 0..3 {
+        let bad = damaged_content(rng, &c);
+        sink.ask(encode(kind, &shape, &bad));
+        sink.ask(extract(kind, &shape, &subset, &bad));
+    }
+    let (k, s, b) = (damaged_kind(rng, kind), damaged_numbers(rng, &shape), damaged_numbers(rng, &subset));
+    sink.ask(encode(k, &shape, &c));
+    sink.ask(encode(kind, &s, &c));
+    sink.ask(extract(k, &shape, &subset, &c));
+    sink.ask(extract(kind, &s, &subset, &c));
+    sink.ask(extract(kind, &shape, &b, &c));
+    sink.ask(subset_cells(&s, &subset));
+    sink.ask(subset_cells(&shape, &b));
+}
+
+fn random_merge(sink: &mut dyn Sink, rng: &mut Rng) {
+    let depth = rng.below(5);
+    let kind = any_kind(rng, depth);
+    let shape = any_shape(rng);
+    let sides = shape.len();
+    let mut list: Vec<(Vec<u64>, Content)> = partition(rng, &shape)
+        .into_iter()
+        .map(|subset| {
+            let cells = cells_of(&subset[sides..]);
+            (subset, content(rng, kind, cells))
+        })
+        .collect();
+    let request = merge(kind, &shape, &list);
+    ask_with_faults(sink, rng, request.clone());
+    let Merge { subsets, masks, values, offsets, .. } = request else { unreachable!() };
+    let all = Content { masks, values, offsets };
+    for _ in 0..3 {
+        let bad = damaged_content(rng, &all);
+        sink.ask(merge(kind, &shape, &[(subsets.clone(), bad)]));
+        let bad = damaged_numbers(rng, &subsets);
+        sink.ask(merge(kind, &shape, &[(bad, all.clone())]));
+    }
+    sink.ask(merge(damaged_kind(rng, kind), &shape, &list));
+    sink.ask(merge(kind, &damaged_numbers(rng, &shape), &list));
+    // a subset twice, a subset missed, one in the place of another
+    let at = rng.below(list.len());
+    let other = rng.below(list.len());
+    list.push(list[at].clone());
+    sink.ask(merge(kind, &shape, &list));
+    list.pop();
+    let kept = list[at].clone();
+    list[at] = list[other].clone();
+    sink.ask(merge(kind, &shape, &list));
+    list[at] = kept;
+    // a subset moved: its cells number the same
+    let side = rng.below(sides);
+    list[at].0[side] = rng.below(shape[side] as usize) as u64;
+    sink.ask(merge(kind, &shape, &list));
+    list.remove(at);
+    sink.ask(merge(kind, &shape, &list));
+}
+
+fn random_interleaved(sink: &mut dyn Sink, rng: &mut Rng) {
+    let cells = if rng.once_in(10) { rng.below(40) } else { rng.below(5) };
+    let good = interleaved(rng, cells);
+    let mut copies = vec![good.clone()];
+    if good.len() <= 24 && rng.once_in(8) {
+        copies.extend(each_damage(&good));
+    } else {
+        for _ in 0..6 {
+            copies.push(damaged(rng, &good, cells));
+        }
+        let mut field = good.clone();
+        let n = a_number(rng);
+        put_number(&mut field, 4, 4, n);
+        copies.push(field);
+    }
+    for bytes in copies {
+        sink.ask(DecodeInterleaved { cells: cells as u64, bytes });
+    }
+    sink.ask(DecodeInterleaved { cells: cells as u64 + 1, bytes: good.clone() });
+    sink.ask(DecodeInterleaved { cells: (cells as u64).wrapping_sub(1), bytes: good.clone() });
+    ask_with_faults(sink, rng, DecodeInterleaved { cells: cells as u64, bytes: good });
+}
+
+pub fn random(sink: &mut dyn Sink, rng: &mut Rng) {
+    random_decode(sink, rng);
+    random_array(sink, rng);
+    random_merge(sink, rng);
+    random_interleaved(sink, rng);
+}
+
+/// Everything, and random ones until `requests` have been asked.
+pub fn all(sink: &mut dyn Sink, seed: u64, requests: u64) {
+    let rng = &mut Rng(seed);
+    for _ in 0..200 {
+        random(sink, rng);
+    }
+    limits(sink, rng);
+    blocks(sink, rng);
+    many_bytes(sink, rng);
+    many_cells(sink, rng);
+    exhaustive_reversal(sink, rng);
+    exhaustive_subsets(sink, rng);
+    exhaustive_masks(sink, rng);
+    exhaustive_strings(sink, rng);
+    while sink.asked() < requests {
+        random(sink, rng);
+    }
+}

@@ -1,0 +1,118 @@
+//! A request is one call with all that is handed over; an outcome is its answer with the results by slot.
+
+use judge::KindNumbers;
+
+#[derive(Clone, Debug, PartialEq)]
+pub enum Request {
+    Encode { kind: KindNumbers, shape: Vec<u64>, masks: Vec<u8>, values: Vec<u8>, offsets: Vec<u64> },
+    Decode { kind: KindNumbers, shape: Vec<u64>, bytes: Vec<u8> },
+    DecodeInterleaved { cells: u64, bytes: Vec<u8> },
+    Extract { kind: KindNumbers, shape: Vec<u64>, subset: Vec<u64>, masks: Vec<u8>, values: Vec<u8>, offsets: Vec<u64> },
+    Merge { kind: KindNumbers, shape: Vec<u64>, subsets: Vec<u64>, masks: Vec<u8>, values: Vec<u8>, offsets: Vec<u64> },
+    PartialDecode { width: u64, place: u64, shape: Vec<u64>, subset: Vec<u64>, bytes: Vec<u8> },
+    ReverseEndianness { size: u64, bytes: Vec<u8> },
+    SubsetCells { shape: Vec<u64>, subset: Vec<u64> },
+}
+use Request::*;
+
+pub const CALLS: [&str; 8] =
+    ["encode", "decode", "decode_interleaved", "extract", "merge", "partial_decode", "reverse_endianness", "subset_cells"];
+
+/// The refusals that a call can give, by docs/DECISIONS.md, part 0. At the C boundary width and place come as numbers, so
+/// `partial_decode` has 1 as well.
+pub const REFUSALS: [&[u32]; 8] = [
+    &[1, 2, 4, 5, 6],
+    &[1, 2, 7, 8, 10, 5, 6],
+    &[2, 7, 9, 11, 5, 6],
+    &[1, 2, 3, 4, 5, 6],
+    &[1, 2, 3, 4, 5, 12, 6],
+    &[1, 2, 3, 7, 8, 10, 5, 6],
+    &[1],
+    &[2, 3, 6],
+];
+
+/// Results by slot: a call uses some of masks (or none), values (the stored bytes of `encode`, the bytes of `reverse_endianness`)
+/// and offsets (the cells of `subset_cells`).
+#[derive(Clone, Debug, Default, PartialEq)]
+pub struct Results {
+    pub masks: Vec<u8>,
+    pub values: Vec<u8>,
+    pub offsets: Vec<u64>,
+    /// Only of `reverse_endianness`: the length of the whole cells.
+    pub whole: u64,
+}
+impl From<judge::Array> for Results {
+    fn from(a: judge::Array) -> Self {
+        Results { masks: a.masks, values: a.values, offsets: a.offsets, whole: 0 }
+    }
+}
+
+pub type Outcome = Result<Results, u32>;
+
+impl Request {
+    pub fn call(&self) -> usize {
+        match self {
+            Encode { .. } => 0,
+            Decode { .. } => 1,
+            DecodeInterleaved { .. } => 2,
+            Extract { .. } => 3,
+            Merge { .. } => 4,
+            PartialDecode { .. } => 5,
+            ReverseEndianness { .. } => 6,
+            SubsetCells { .. } => 7,
+        }
+    }
+
+    /// Which slots the call lends: masks, values, offsets.
+    pub fn slots(&self) -> [bool; 3] {
+        [
+            [false, true, false],
+            [true, true, true],
+            [false, true, true],
+            [true, true, true],
+            [true, true, true],
+            [false, true, true],
+            [false, true, false],
+            [false, false, true],
+        ][self.call()]
+    }
+
+    pub fn judged(&self) -> Outcome {
+        match self {
+            Encode { kind, shape, masks, values, offsets } => {
+                judge::encode(*kind, shape, masks, values, offsets).map(|values| Results { values, ..Results::default() })
+            }
+            Decode { kind, shape, bytes } => judge::decode(*kind, shape, bytes).map(Results::from),
+            DecodeInterleaved { cells, bytes } => judge::decode_interleaved(*cells, bytes).map(Results::from),
+            Extract { kind, shape, subset, masks, values, offsets } => {
+                judge::extract(*kind, shape, subset, masks, values, offsets).map(Results::from)
+            }
+            Merge { kind, shape, subsets, masks, values, offsets } => {
+                judge::merge(*kind, shape, subsets, masks, values, offsets).map(Results::from)
+            }
+            PartialDecode { width, place, shape, subset, bytes } => {
+                judge::partial_decode(*width, *place, shape, subset, bytes).map(Results::from)
+            }
+            ReverseEndianness { size, bytes } => {
+                judge::reverse_endianness(*size, bytes).map(|(values, whole)| Results { values, whole, ..Results::default() })
+            }
+            SubsetCells { shape, subset } => {
+                judge::subset_cells(shape, subset).map(|offsets| Results { offsets, ..Results::default() })
+            }
+        }
+    }
+
+    /// About how much there is to handle.
+    pub fn weight(&self) -> usize {
+        match self {
+            Encode { shape, masks, values, offsets, .. } => shape.len() + masks.len() + values.len() + offsets.len(),
+            Extract { shape, masks, values, offsets, .. } => shape.len() + masks.len() + values.len() + offsets.len(),
+            Merge { subsets, masks, values, offsets, .. } => subsets.len() + masks.len() + values.len() + offsets.len(),
+            Decode { bytes, .. }
+            | DecodeInterleaved { bytes, .. }
+            | PartialDecode { bytes, .. }
+            | ReverseEndianness { bytes, .. } => bytes.len(),
+            SubsetCells { .. } => 0,
+        }
+    }
+}

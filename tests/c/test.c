@@ -1,0 +1,793 @@
+/*
+ * Tests of the C interface: document 01's lines, every refusal of every call, and what stays untouched.
+ *
+ * Inputs are copied into blocks of exactly their size, so that valgrind sees a read past an end. Outputs lie between
+ * guard bytes, and everything lent is filled first, so that a byte written where none may be is seen.
+ */
+#include "durpaxeta.h"
+
+#include <inttypes.h>
+#include <stdio.h>
+#include <stdlib.h>
+#include <string.h>
+
+static unsigned long checks, failures;
+
+static void check(int holds, const char *what, int line)
+{
+    checks++;
+    if (!holds) {
+        failures++;
+        printf("FAILED at line %d: %s\n", line, what);
+    }
+}
+
+#define CHECK(condition) check((condition) ? 1 : 0, #condition, __LINE__)
+
+static void check_answer(uint32_t got, uint32_t wanted, const char *what, int line)
+{
+    checks++;
+    if (got != wanted) {
+        failures++;
+        printf("FAILED at line %d: %s answers %" PRIu32 ", not %" PRIu32 "\n", line, what, got, wanted);
+    }
+}
+
+#define ANSWERS(call, wanted) check_answer((call), (wanted), #call, __LINE__)
+
+/* Blocks handed out by in() and lend(), freed together. */
+static void *blocks[256];
+static size_t block_count;
+
+static void *block(size_t size)
+{
+    void *p = malloc(size);
+    if (p == NULL || block_count == sizeof blocks / sizeof blocks[0]) {
+        printf("FAILED: no memory for the test\n");
+        exit(2);
+    }
+    blocks[block_count++] = p;
+    return p;
+}
+
+static void release(void)
+{
+    while (block_count > 0)
+        free(blocks[--block_count]);
+}
+
+/* A copy of exactly `size` bytes; NULL for none. */
+static void *in(const void *from, size_t size)
+{
+    void *p;
+    if (size == 0)
+        return NULL;
+    p = block(size);
+    memcpy(p, from, size);
+    return p;
+}
+
+/* Slices out of lists in the source. */
+#define BYTES(...) (const uint8_t *)in((const uint8_t[]){__VA_ARGS__}, sizeof((const uint8_t[]){__VA_ARGS__})), \
+                   sizeof((const uint8_t[]){__VA_ARGS__})
+#define NUMBERS(...) (const uint64_t *)in((const uint64_t[]){__VA_ARGS__}, sizeof((const uint64_t[]){__VA_ARGS__})), \
+                     sizeof((const uint64_t[]){__VA_ARGS__}) / sizeof(uint64_t)
+#define TEXT(text) (const uint8_t *)in((text), sizeof(text) - 1), sizeof(text) - 1
+#define NONE NULL, 0
+
+enum { GUARD = 64, FILL = 0xA5 };
+#define FILL64 UINT64_C(0xA5A5A5A5A5A5A5A5)
+
+/* Lent outputs, each between two guards, and the lengths. */
+static struct {
+    uint8_t *masks, *values, *offsets_block;
+    uint64_t *offsets;
+    size_t masks_len, values_len, offsets_len;
+    uint64_t lengths[3];
+} out;
+
+static uint8_t *guarded(size_t size)
+{
+    uint8_t *p = block(size + 2 * GUARD);
+    memset(p, FILL, size + 2 * GUARD);
+    return p + GUARD;
+}
+
+static void lend(size_t masks, size_t values, size_t offsets)
+{
+    out.masks = guarded(masks);
+    out.values = guarded(values);
+    out.offsets_block = guarded(offsets * 8);
+    out.offsets = (uint64_t *)(void *)out.offsets_block;
+    out.masks_len = masks;
+    out.values_len = values;
+    out.offsets_len = offsets;
+    memset(out.lengths, FILL, sizeof out.lengths);
+}
+
+static int filled(const uint8_t *p, size_t size)
+{
+    size_t i;
+    for (i = 0; i < size; i++)
+        if (p[i] != FILL)
+            return 0;
+    return 1;
+}
+
+/* From `written` on an output and both its guards are as they were. */
+static int kept(const uint8_t *p, size_t written, size_t size)
+{
+    return written <= size && filled(p - GUARD, GUARD) && filled(p + written, size - written + GUARD);
+}
+
+static void check_kept(size_t masks, size_t values, size_t offsets, int line)
+{
+    check(kept(out.masks, masks, out.masks_len), "masks beyond their length are kept", line);
+    check(kept(out.values, values, out.values_len), "values beyond their length are kept", line);
+    check(kept(out.offsets_block, offsets * 8, out.offsets_len * 8), "offsets beyond their length are kept", line);
+}
+
+static void check_untouched(int line)
+{
+    check_kept(0, 0, 0, line);
+    check(out.lengths[0] == FILL64 && out.lengths[1] == FILL64 && out.lengths[2] == FILL64, "lengths are kept", line);
+}
+
+/* Refused: the number, and nothing lent has changed. */
+#define REFUSED(call, wanted)           \
+    do {                                \
+        ANSWERS(call, wanted);          \
+        check_untouched(__LINE__);      \
+    } while (0)
+
+static void check_is(const void *got, const void *wanted, size_t size, const char *what, int line)
+{
+    check(size == 0 || memcmp(got, wanted, size) == 0, what, line);
+}
+
+/* Given: masks, values and offsets as named, and nothing beyond. */
+static void check_gives(const uint8_t *masks, size_t masks_len, const uint8_t *values, size_t values_len,
+                        const uint64_t *offsets, size_t offsets_len, int line)
+{
+    check(out.lengths[0] == masks_len, "length of the masks", line);
+    check(out.lengths[1] == values_len, "length of the values", line);
+    check(out.lengths[2] == offsets_len, "length of the offsets", line);
+    check_kept(masks_len, values_len, offsets_len, line);
+    check_is(out.masks, masks, masks_len, "masks", line);
+    check_is(out.values, values, values_len, "values", line);
+    check_is(out.offsets, offsets, offsets_len * 8, "offsets", line);
+}
+
+static void check_values(const uint8_t *values, size_t values_len, const uint64_t *offsets, size_t offsets_len, int line)
+{
+    check(out.lengths[0] == values_len, "length of the values", line);
+    check(out.lengths[1] == offsets_len, "length of the offsets", line);
+    check(out.lengths[2] == FILL64, "only two lengths are written", line);
+    check_kept(0, values_len, offsets_len, line);
+    check_is(out.values, values, values_len, "values", line);
+    check_is(out.offsets, offsets, offsets_len * 8, "offsets", line);
+}
+
+static void check_stored(const uint8_t *stored, size_t stored_len, int line)
+{
+    check(out.lengths[0] == stored_len, "stored length", line);
+    check(out.lengths[1] == FILL64 && out.lengths[2] == FILL64, "only one length is written", line);
+    check_kept(0, stored_len, 0, line);
+    check_is(out.values, stored, stored_len, "stored bytes", line);
+}
+
+#define GIVES(call, ...)                        \
+    do {                                        \
+        ANSWERS(call, DPX_OK);                  \
+        check_gives(__VA_ARGS__, __LINE__);     \
+    } while (0)
+#define GIVES_VALUES(call, ...)                 \
+    do {                                        \
+        ANSWERS(call, DPX_OK);                  \
+        check_values(__VA_ARGS__, __LINE__);    \
+    } while (0)
+#define STORES(call, ...)                       \
+    do {                                        \
+        ANSWERS(call, DPX_OK);                  \
+        check_stored(__VA_ARGS__, __LINE__);    \
+    } while (0)
+
+/* The lent outputs as arguments. */
+#define OUT3 out.masks, out.masks_len, out.values, out.values_len, out.offsets, out.offsets_len, out.lengths
+#define OUT2 out.values, out.values_len, out.offsets, out.offsets_len, out.lengths
+#define OUT1 out.values, out.values_len, out.lengths
+#define OUT_CELLS out.offsets, out.offsets_len, out.lengths
+
+#define LE8(n) (n), 0, 0, 0, 0, 0, 0, 0
+#define LE4(n) (n), 0, 0, 0
+#define FF8 255, 255, 255, 255, 255, 255, 255, 255
+
+static dpx_kind kind_of(uint64_t depth, uint64_t form, uint64_t size, uint64_t order, uint64_t mask)
+{
+    dpx_kind kind;
+    kind.depth = depth;
+    kind.form = form;
+    kind.size = size;
+    kind.order = order;
+    kind.mask = mask;
+    return kind;
+}
+
+/* ------------------------------------------------------------------------------------------- the kind as numbers */
+
+static void test_kind(void)
+{
+    const dpx_kind f = dpx_fixed(3, 16, DPX_BIG), r = dpx_ragged(2, 8, DPX_END);
+    const dpx_kind bad[] = {
+        kind_of(5, DPX_FIXED, 1, 0, 0),   kind_of(UINT64_MAX, DPX_FIXED, 1, 0, 0), kind_of(0, 2, 1, 0, 0),
+        kind_of(0, DPX_FIXED, 0, 0, 0),   kind_of(0, DPX_FIXED, 65, 0, 0),         kind_of(0, DPX_FIXED, 257, 0, 0),
+        kind_of(0, DPX_FIXED, 1, 2, 0),   kind_of(0, DPX_FIXED, 1, 0, 1),          kind_of(0, DPX_RAGGED, 0, 0, 0),
+        kind_of(0, DPX_RAGGED, 5, 0, 0),  kind_of(0, DPX_RAGGED, 16, 0, 0),        kind_of(0, DPX_RAGGED, 4, 2, 0),
+        kind_of(0, DPX_RAGGED, 4, 0, 1),  kind_of(5, DPX_RAGGED, 4, 0, 0),         kind_of(256, DPX_RAGGED, 4, 0, 0),
+        kind_of(0, UINT64_C(1) << 32, 1, 0, 0),
+    };
+    size_t i;
+
+    CHECK(sizeof(dpx_kind) == 40);
+    CHECK(f.depth == 3 && f.form == 0 && f.size == 16 && f.order == 1 && f.mask == 0);
+    CHECK(r.depth == 2 && r.form == 1 && r.size == 8 && r.order == 1 && r.mask == 0);
+
+    /* 1 comes before all else: the shape is wrong too, and nothing is lent. */
+    for (i = 0; i < sizeof bad / sizeof bad[0]; i++) {
+        lend(0, 0, 0);
+        REFUSED(dpx_encode(bad[i], NUMBERS(0), NONE, NONE, NONE, OUT1), DPX_KIND);
+        REFUSED(dpx_decode(bad[i], NUMBERS(0), NONE, OUT3), DPX_KIND);
+        REFUSED(dpx_extract(bad[i], NUMBERS(0), NONE, NONE, NONE, NONE, OUT3), DPX_KIND);
+        REFUSED(dpx_merge(bad[i], NUMBERS(0), NONE, NONE, NONE, NONE, OUT3), DPX_KIND);
+        release();
+    }
+    lend(0, 0, 0);
+    REFUSED(dpx_partial_decode(5, DPX_START, NUMBERS(0), NONE, NONE, OUT2), DPX_KIND);
+    REFUSED(dpx_partial_decode(0, DPX_START, NUMBERS(0), NONE, NONE, OUT2), DPX_KIND);
+    REFUSED(dpx_partial_decode(4, 2, NUMBERS(0), NONE, NONE, OUT2), DPX_KIND);
+    REFUSED(dpx_partial_decode(UINT64_MAX, UINT64_MAX, NUMBERS(0), NONE, NONE, OUT2), DPX_KIND);
+    release();
+}
+
+/* ---------------------------------------------------------------------------------------------- shapes, all calls */
+
+static void refuse_shape(const uint64_t *shape, size_t sides)
+{
+    lend(0, 0, 0);
+    REFUSED(dpx_encode(dpx_fixed(0, 1, DPX_LITTLE), shape, sides, NONE, NONE, NONE, OUT1), DPX_SHAPE);
+    REFUSED(dpx_decode(dpx_fixed(0, 1, DPX_LITTLE), shape, sides, NONE, OUT3), DPX_SHAPE);
+    REFUSED(dpx_extract(dpx_fixed(0, 1, DPX_LITTLE), shape, sides, NONE, NONE, NONE, NONE, OUT3), DPX_SHAPE);
+    REFUSED(dpx_merge(dpx_fixed(0, 1, DPX_LITTLE), shape, sides, NONE, NONE, NONE, NONE, OUT3), DPX_SHAPE);
+    REFUSED(dpx_partial_decode(4, DPX_START, shape, sides, NONE, NONE, OUT2), DPX_SHAPE);
+    REFUSED(dpx_subset_cells(shape, sides, NONE, OUT_CELLS), DPX_SHAPE);
+    release();
+}
+
+static void test_shape(void)
+{
+    refuse_shape(NONE);
+    refuse_shape(NUMBERS(0));
+    refuse_shape(NUMBERS(2, 0));
+    refuse_shape(NUMBERS(65537));
+    refuse_shape(NUMBERS(65536, 2));
+    refuse_shape(NUMBERS(256, 257));
+    refuse_shape(NUMBERS(1, 1, 1, 1, 1));
+    refuse_shape(NUMBERS(UINT64_MAX));
+    refuse_shape(NUMBERS(UINT64_C(1) << 32, UINT64_C(1) << 32));
+    refuse_shape(NUMBERS(65536, UINT64_C(1) << 48));
+    refuse_shape(NUMBERS(0, UINT64_C(1) << 63, 4));
+
+    lend(0, 0, 0);
+    REFUSED(dpx_decode_interleaved(65537, NONE, OUT2), DPX_SHAPE);
+    REFUSED(dpx_decode_interleaved(UINT64_MAX, NONE, OUT2), DPX_SHAPE);
+    release();
+}
+
+/* ------------------------------------------------------------------------------------------------------- encode */
+
+static void test_encode(void)
+{
+    const dpx_kind f1 = dpx_fixed(0, 1, DPX_LITTLE), r4 = dpx_ragged(0, 4, DPX_START);
+
+    /* Depth 1, size 2: the middle cell is null. */
+    lend(0, 40, 0);
+    STORES(dpx_encode(dpx_fixed(1, 2, DPX_LITTLE), NUMBERS(3), BYTES(1, 0, 1), BYTES(0x0A, 0x0B, 0x0C, 0x0D, 0x0E, 0x0F), NONE, OUT1),
+           BYTES(LE8(3), LE8(4), 1, 0, 1, 0x0A, 0x0B, 0x0E, 0x0F));
+    /* Exactly enough room, and one byte less. */
+    lend(0, 23, 0);
+    STORES(dpx_encode(dpx_fixed(1, 2, DPX_LITTLE), NUMBERS(3), BYTES(1, 0, 1), BYTES(0x0A, 0x0B, 0x0C, 0x0D, 0x0E, 0x0F), NONE, OUT1),
+           BYTES(LE8(3), LE8(4), 1, 0, 1, 0x0A, 0x0B, 0x0E, 0x0F));
+    lend(0, 22, 0);
+    REFUSED(dpx_encode(dpx_fixed(1, 2, DPX_LITTLE), NUMBERS(3), BYTES(1, 0, 1), BYTES(0x0A, 0x0B, 0x0C, 0x0D, 0x0E, 0x0F), NONE, OUT1),
+            DPX_OUTPUT);
+    /* Nothing set. */
+    lend(0, 19, 0);
+    STORES(dpx_encode(dpx_fixed(1, 2, DPX_LITTLE), NUMBERS(3), BYTES(0, 0, 0), BYTES(0x0A, 0x0B, 0x0C, 0x0D, 0x0E, 0x0F), NONE, OUT1),
+           BYTES(LE8(3), LE8(0), 0, 0, 0));
+    /* Big order turns the value only. */
+    lend(0, 40, 0);
+    STORES(dpx_encode(dpx_fixed(1, 2, DPX_BIG), NUMBERS(1), BYTES(1), BYTES(0x0A, 0x0B), NONE, OUT1), BYTES(LE8(1), LE8(2), 1, 0x0B, 0x0A));
+    /* Any byte but 00 is set, and kept. */
+    lend(0, 40, 0);
+    STORES(dpx_encode(dpx_fixed(1, 1, DPX_LITTLE), NUMBERS(2), BYTES(2, 255), BYTES(7, 8), NONE, OUT1),
+           BYTES(LE8(2), LE8(2), 2, 255, 7, 8));
+    release();
+
+    /* Depth 2: no inner mask for a cell that the outer mask hides. */
+    lend(0, 38, 0);
+    STORES(dpx_encode(dpx_fixed(2, 1, DPX_LITTLE), NUMBERS(3), BYTES(1, 1, 0, 1, 0, 1), BYTES(7, 8, 9), NONE, OUT1),
+           BYTES(LE8(3), LE8(19), 1, 1, 0, LE8(2), LE8(1), 1, 0, 7));
+    release();
+
+    /* Ragged "AB", "". */
+    lend(0, 22, 0);
+    STORES(dpx_encode(dpx_ragged(0, 4, DPX_END), NUMBERS(2), NONE, TEXT("AB"), NUMBERS(0, 2, 2), OUT1),
+           BYTES('A', 'B', LE4(0), LE4(2), LE4(2), LE8(12)));
+    lend(0, 34, 0);
+    STORES(dpx_encode(dpx_ragged(0, 8, DPX_START), NUMBERS(2), NONE, TEXT("AB"), NUMBERS(0, 2, 2), OUT1),
+           BYTES(LE8(24), LE8(0), LE8(2), LE8(2), 'A', 'B'));
+    /* Depth 0 keeps bytes before the first offset, depth 1 drops them. */
+    lend(0, 18, 0);
+    STORES(dpx_encode(r4, NUMBERS(1), NONE, TEXT("AB"), NUMBERS(1, 2), OUT1), BYTES(LE8(8), LE4(1), LE4(2), 'A', 'B'));
+    lend(0, 34, 0);
+    STORES(dpx_encode(dpx_ragged(1, 4, DPX_START), NUMBERS(1), BYTES(1), TEXT("AB"), NUMBERS(1, 2), OUT1),
+           BYTES(LE8(1), LE8(17), 1, LE8(8), LE4(0), LE4(1), 'B'));
+    /* Set and empty is not null. */
+    lend(0, 40, 0);
+    STORES(dpx_encode(dpx_ragged(1, 4, DPX_START), NUMBERS(1), BYTES(1), NONE, NUMBERS(0, 0), OUT1),
+           BYTES(LE8(1), LE8(16), 1, LE8(8), LE4(0), LE4(0)));
+    lend(0, 40, 0);
+    STORES(dpx_encode(dpx_ragged(1, 4, DPX_START), NUMBERS(1), BYTES(0), NONE, NUMBERS(0, 0), OUT1), BYTES(LE8(1), LE8(0), 0));
+    release();
+
+    /* 4, the output being too short as well. */
+    lend(0, 0, 0);
+    REFUSED(dpx_encode(f1, NUMBERS(1), BYTES(1), TEXT("a"), NONE, OUT1), DPX_CONTENT);
+    REFUSED(dpx_encode(f1, NUMBERS(1), NONE, NONE, NONE, OUT1), DPX_CONTENT);
+    REFUSED(dpx_encode(f1, NUMBERS(1), NONE, TEXT("ab"), NONE, OUT1), DPX_CONTENT);
+    REFUSED(dpx_encode(f1, NUMBERS(1), NONE, TEXT("a"), NUMBERS(0, 1), OUT1), DPX_CONTENT);
+    REFUSED(dpx_encode(dpx_fixed(2, 1, DPX_LITTLE), NUMBERS(2), BYTES(1, 1, 1), TEXT("ab"), NONE, OUT1), DPX_CONTENT);
+    REFUSED(dpx_encode(r4, NUMBERS(1), NONE, NONE, NONE, OUT1), DPX_CONTENT);
+    REFUSED(dpx_encode(r4, NUMBERS(1), NONE, TEXT("x"), NUMBERS(0, 0), OUT1), DPX_CONTENT);
+    REFUSED(dpx_encode(r4, NUMBERS(1), NONE, TEXT("x"), NUMBERS(0, 2), OUT1), DPX_CONTENT);
+    REFUSED(dpx_encode(r4, NUMBERS(1), NONE, TEXT("x"), NUMBERS(0, 1, 1), OUT1), DPX_CONTENT);
+    REFUSED(dpx_encode(r4, NUMBERS(2), NONE, TEXT("ab"), NUMBERS(0, 3, 2), OUT1), DPX_CONTENT);
+    REFUSED(dpx_encode(r4, NUMBERS(2), NONE, TEXT("ab"), NUMBERS(1, 0, 2), OUT1), DPX_CONTENT);
+    REFUSED(dpx_encode(dpx_ragged(0, 8, DPX_START), NUMBERS(1), NONE, NONE, NUMBERS(0, 16777217), OUT1), DPX_CONTENT);
+    REFUSED(dpx_encode(f1, NUMBERS(1), NONE, TEXT("a"), NONE, OUT1), DPX_OUTPUT);
+    release();
+}
+
+/* ------------------------------------------------------------------------------------------------------- decode */
+
+static void test_decode(void)
+{
+    const dpx_kind f1 = dpx_fixed(1, 1, DPX_LITTLE), r4 = dpx_ragged(0, 4, DPX_START), r4e = dpx_ragged(0, 4, DPX_END);
+
+    lend(4, 8, 2);
+    GIVES(dpx_decode(dpx_fixed(1, 2, DPX_LITTLE), NUMBERS(3), BYTES(LE8(3), LE8(4), 1, 0, 1, 0x0A, 0x0B, 0x0E, 0x0F), OUT3),
+          BYTES(1, 0, 1), BYTES(0x0A, 0x0B, 0, 0, 0x0E, 0x0F), NONE);
+    /* With nothing set the content is not looked at. */
+    lend(4, 8, 2);
+    GIVES(dpx_decode(dpx_fixed(1, 2, DPX_LITTLE), NUMBERS(3), BYTES(LE8(3), LE8(0), 0, 0, 0), OUT3), BYTES(0, 0, 0),
+          BYTES(0, 0, 0, 0, 0, 0), NONE);
+    lend(3, 6, 0);
+    GIVES(dpx_decode(dpx_fixed(1, 2, DPX_LITTLE), NUMBERS(3), BYTES(LE8(3), LE8(5), 0, 0, 0, 9, 9, 9, 9, 9), OUT3), BYTES(0, 0, 0),
+          BYTES(0, 0, 0, 0, 0, 0), NONE);
+    lend(8, 8, 0);
+    GIVES(dpx_decode(dpx_fixed(2, 1, DPX_LITTLE), NUMBERS(3), BYTES(LE8(3), LE8(19), 1, 1, 0, LE8(2), LE8(1), 1, 0, 7), OUT3),
+          BYTES(1, 1, 0, 1, 0, 0), BYTES(7, 0, 0), NONE);
+    lend(0, 4, 4);
+    GIVES(dpx_decode(r4e, NUMBERS(2), BYTES('A', 'B', LE4(0), LE4(2), LE4(2), LE8(12)), OUT3), NONE, TEXT("AB"), NUMBERS(0, 2, 2));
+    lend(2, 4, 4);
+    GIVES(dpx_decode(dpx_ragged(0, 8, DPX_START), NUMBERS(2), BYTES(LE8(24), LE8(0), LE8(2), LE8(2), 'A', 'B'), OUT3), NONE, TEXT("AB"),
+          NUMBERS(0, 2, 2));
+    /* Offsets 1, 2: as they are at depth 0, from 0 at depth 1. */
+    lend(0, 4, 4);
+    GIVES(dpx_decode(r4, NUMBERS(1), BYTES(LE8(8), LE4(1), LE4(2), 'A', 'B'), OUT3), NONE, TEXT("AB"), NUMBERS(1, 2));
+    lend(1, 4, 4);
+    GIVES(dpx_decode(dpx_ragged(1, 4, DPX_START), NUMBERS(1), BYTES(LE8(1), LE8(18), 1, LE8(8), LE4(1), LE4(2), 'A', 'B'), OUT3), BYTES(1),
+          TEXT("B"), NUMBERS(0, 1));
+    release();
+    /* A set cell of no bytes, and a null. */
+    lend(2, 4, 4);
+    GIVES(dpx_decode(dpx_ragged(1, 4, DPX_START), NUMBERS(2), BYTES(LE8(2), LE8(16), 1, 0, LE8(8), LE4(0), LE4(0)), OUT3), BYTES(1, 0),
+          NONE, NUMBERS(0, 0, 0));
+    /* Data behind a last offset of 0 is not looked at. */
+    lend(0, 4, 4);
+    GIVES(dpx_decode(r4e, NUMBERS(1), BYTES('x', LE4(0), LE4(0), LE8(8)), OUT3), NONE, NONE, NUMBERS(0, 0));
+    /* Big order. */
+    lend(0, 2, 0);
+    GIVES(dpx_decode(dpx_fixed(0, 2, DPX_BIG), NUMBERS(1), BYTES(1, 2), OUT3), NONE, BYTES(2, 1), NONE);
+    /* Outputs that the kind does not use stay. */
+    lend(5, 1, 5);
+    GIVES(dpx_decode(dpx_fixed(0, 1, DPX_LITTLE), NUMBERS(1), BYTES(7), OUT3), NONE, BYTES(7), NONE);
+    release();
+
+    /* 7 and 8 of a frame; every output is too short as well. */
+    lend(0, 0, 0);
+    REFUSED(dpx_decode(f1, NUMBERS(1), NONE, OUT3), DPX_SHORT);
+    REFUSED(dpx_decode(f1, NUMBERS(1), BYTES(1, 2, 3), OUT3), DPX_SHORT);
+    REFUSED(dpx_decode(f1, NUMBERS(1), BYTES(LE8(1), 0, 0, 0, 0, 0, 0, 0), OUT3), DPX_SHORT);
+    REFUSED(dpx_decode(f1, NUMBERS(1), BYTES(LE8(1), FF8), OUT3), DPX_LENGTH);
+    REFUSED(dpx_decode(f1, NUMBERS(1), BYTES(0xF1, 255, 255, 255, 255, 255, 255, 255, LE8(0)), OUT3), DPX_LENGTH);
+    REFUSED(dpx_decode(f1, NUMBERS(1), BYTES(LE8(1), LE8(5), 0), OUT3), DPX_LENGTH);
+    REFUSED(dpx_decode(f1, NUMBERS(1), BYTES(LE8(2), LE8(0), 1, 1), OUT3), DPX_LENGTH);
+    REFUSED(dpx_decode(f1, NUMBERS(1), BYTES(LE8(1), LE8(1), 1, 7, 7), OUT3), DPX_LENGTH);
+    /* Cells set and no content. */
+    REFUSED(dpx_decode(f1, NUMBERS(1), BYTES(LE8(1), LE8(0), 1), OUT3), DPX_LENGTH);
+    REFUSED(dpx_decode(dpx_ragged(1, 4, DPX_START), NUMBERS(1), BYTES(LE8(1), LE8(0), 1), OUT3), DPX_SHORT);
+    REFUSED(dpx_decode(dpx_fixed(2, 1, DPX_LITTLE), NUMBERS(1), BYTES(LE8(1), LE8(0), 1), OUT3), DPX_SHORT);
+    /* The inner mask counts the cells set above, not the shape's. */
+    REFUSED(dpx_decode(dpx_fixed(2, 1, DPX_LITTLE), NUMBERS(2), BYTES(LE8(2), LE8(18), 1, 0, LE8(2), LE8(0), 0, 0), OUT3), DPX_LENGTH);
+    release();
+
+    /* Plain values. */
+    lend(0, 0, 0);
+    REFUSED(dpx_decode(dpx_fixed(0, 2, DPX_LITTLE), NUMBERS(1), NONE, OUT3), DPX_LENGTH);
+    REFUSED(dpx_decode(dpx_fixed(0, 2, DPX_LITTLE), NUMBERS(1), BYTES(1, 2, 3), OUT3), DPX_LENGTH);
+    /* Ragged values. */
+    REFUSED(dpx_decode(r4, NUMBERS(1), NONE, OUT3), DPX_SHORT);
+    REFUSED(dpx_decode(r4e, NUMBERS(1), BYTES(1, 2, 3, 4, 5, 6, 7), OUT3), DPX_SHORT);
+    REFUSED(dpx_decode(r4, NUMBERS(1), BYTES(FF8), OUT3), DPX_LENGTH);
+    REFUSED(dpx_decode(r4e, NUMBERS(1), BYTES(FF8), OUT3), DPX_LENGTH);
+    REFUSED(dpx_decode(r4, NUMBERS(1), BYTES(LE8(12), LE4(0), LE4(0), LE4(0)), OUT3), DPX_LENGTH);
+    REFUSED(dpx_decode(r4, NUMBERS(1), BYTES(LE8(8), LE4(0), LE4(2), 'a'), OUT3), DPX_LENGTH);
+    REFUSED(dpx_decode(r4, NUMBERS(1), BYTES(LE8(8), LE4(2), LE4(1), 'a', 'b'), OUT3), DPX_LENGTH);
+    REFUSED(dpx_decode(r4, NUMBERS(1), BYTES(LE8(8), LE4(2), LE4(1), 'a'), OUT3), DPX_FALLING);
+    REFUSED(dpx_decode(r4, NUMBERS(1), BYTES(LE8(8), LE4(5), LE4(0), 'x'), OUT3), DPX_FALLING);
+    REFUSED(dpx_decode(dpx_ragged(0, 8, DPX_START), NUMBERS(1), BYTES(LE8(16), LE8(0), 0, 0, 0, 0, 0, 1, 0, 0), OUT3), DPX_LENGTH);
+    release();
+
+    /* 6 is last, and for each output. */
+    lend(0, 1, 0);
+    REFUSED(dpx_decode(f1, NUMBERS(1), BYTES(LE8(1), LE8(1), 1, 7), OUT3), DPX_OUTPUT);
+    lend(1, 0, 0);
+    REFUSED(dpx_decode(f1, NUMBERS(1), BYTES(LE8(1), LE8(1), 1, 7), OUT3), DPX_OUTPUT);
+    lend(0, 2, 2);
+    REFUSED(dpx_decode(r4e, NUMBERS(2), BYTES('A', 'B', LE4(0), LE4(2), LE4(2), LE8(12)), OUT3), DPX_OUTPUT);
+    lend(0, 1, 3);
+    REFUSED(dpx_decode(r4e, NUMBERS(2), BYTES('A', 'B', LE4(0), LE4(2), LE4(2), LE8(12)), OUT3), DPX_OUTPUT);
+    lend(0, 2, 3);
+    GIVES(dpx_decode(r4e, NUMBERS(2), BYTES('A', 'B', LE4(0), LE4(2), LE4(2), LE8(12)), OUT3), NONE, TEXT("AB"), NUMBERS(0, 2, 2));
+    release();
+}
+
+/* ------------------------------------------------------------------------------------------- the interleaved form */
+
+static void test_interleaved(void)
+{
+    lend(0, 4, 4);
+    GIVES_VALUES(dpx_decode_interleaved(2, BYTES(LE4(2), LE4(1), 'A', LE4(0)), OUT2), TEXT("A"), NUMBERS(0, 1, 1));
+    lend(0, 1, 3);
+    GIVES_VALUES(dpx_decode_interleaved(2, BYTES(LE4(2), LE4(1), 'A', LE4(0), 'z'), OUT2), TEXT("A"), NUMBERS(0, 1, 1));
+    lend(0, 1, 3);
+    GIVES_VALUES(dpx_decode_interleaved(0, BYTES(LE4(0), 255), OUT2), NONE, NUMBERS(0));
+    lend(0, 0, 2);
+    GIVES_VALUES(dpx_decode_interleaved(1, BYTES(LE4(1), LE4(0)), OUT2), NONE, NUMBERS(0, 0));
+
+    lend(0, 0, 0);
+    REFUSED(dpx_decode_interleaved(0, NONE, OUT2), DPX_SHORT);
+    REFUSED(dpx_decode_interleaved(0, BYTES(LE4(1)), OUT2), DPX_COUNT);
+    REFUSED(dpx_decode_interleaved(0, BYTES(LE4(0)), OUT2), DPX_OUTPUT);
+    REFUSED(dpx_decode_interleaved(2, BYTES(LE4(2), LE4(1), 'A', 0, 0), OUT2), DPX_SHORT);
+    REFUSED(dpx_decode_interleaved(2, BYTES(LE4(1), LE4(1), 'A', 0, 0), OUT2), DPX_SHORT);
+    REFUSED(dpx_decode_interleaved(2, BYTES(LE4(1), LE4(1), 'A', 0, 0, 0), OUT2), DPX_COUNT);
+    REFUSED(dpx_decode_interleaved(2, BYTES(LE4(2), LE4(1), 'A', 0, 0, 0), OUT2), DPX_PAST_END);
+    REFUSED(dpx_decode_interleaved(2, BYTES(LE4(2), LE4(5), 'A', LE4(0)), OUT2), DPX_PAST_END);
+    REFUSED(dpx_decode_interleaved(1, BYTES(LE4(1), 255, 255, 255, 255), OUT2), DPX_PAST_END);
+    lend(0, 0, 3);
+    REFUSED(dpx_decode_interleaved(2, BYTES(LE4(2), LE4(1), 'A', LE4(0)), OUT2), DPX_OUTPUT);
+    lend(0, 1, 2);
+    REFUSED(dpx_decode_interleaved(2, BYTES(LE4(2), LE4(1), 'A', LE4(0)), OUT2), DPX_OUTPUT);
+    release();
+}
+
+/* ------------------------------------------------------------------------------------------------------- extract */
+
+static void test_extract(void)
+{
+    const dpx_kind f1 = dpx_fixed(1, 1, DPX_LITTLE), r4 = dpx_ragged(0, 4, DPX_START);
+
+    lend(5, 5, 1);
+    GIVES(dpx_extract(f1, NUMBERS(2, 3), NUMBERS(0, 1, 2, 2), BYTES(1, 2, 3, 4, 5, 6), TEXT("abcdef"), NONE, OUT3), BYTES(2, 3, 5, 6),
+          TEXT("bcef"), NONE);
+    /* Two planes: each is cut by itself. */
+    lend(4, 4, 0);
+    GIVES(dpx_extract(dpx_fixed(2, 1, DPX_LITTLE), NUMBERS(3), NUMBERS(1, 2), BYTES(1, 2, 3, 4, 5, 6), TEXT("abc"), NONE, OUT3),
+          BYTES(2, 3, 5, 6), TEXT("bc"), NONE);
+    /* Offsets 1, 2 over "AB": the cell is "B", and its offsets are 0, 1. */
+    lend(0, 2, 3);
+    GIVES(dpx_extract(r4, NUMBERS(1), NUMBERS(0, 1), NONE, TEXT("AB"), NUMBERS(1, 2), OUT3), NONE, TEXT("B"), NUMBERS(0, 1));
+    /* What a null hides is kept. */
+    lend(2, 2, 2);
+    GIVES(dpx_extract(dpx_ragged(2, 8, DPX_START), NUMBERS(1), NUMBERS(0, 1), BYTES(0, 7), TEXT("zAB"), NUMBERS(1, 3), OUT3), BYTES(0, 7),
+          TEXT("AB"), NUMBERS(0, 2));
+    /* No cell at all. */
+    lend(1, 1, 1);
+    GIVES(dpx_extract(r4, NUMBERS(2), NUMBERS(2, 0), NONE, TEXT("ab"), NUMBERS(0, 1, 2), OUT3), NONE, NONE, NUMBERS(0));
+    lend(0, 0, 0);
+    REFUSED(dpx_extract(r4, NUMBERS(2), NUMBERS(2, 0), NONE, TEXT("ab"), NUMBERS(0, 1, 2), OUT3), DPX_OUTPUT);
+    GIVES(dpx_extract(f1, NUMBERS(2), NUMBERS(0, 0), BYTES(1, 1), TEXT("ab"), NONE, OUT3), NONE, NONE, NONE);
+    release();
+
+    lend(0, 0, 0);
+    REFUSED(dpx_extract(f1, NUMBERS(2, 3), NUMBERS(0, 2, 2, 2), NONE, NONE, NONE, OUT3), DPX_SUBSET);
+    REFUSED(dpx_extract(f1, NUMBERS(2), NUMBERS(0), NONE, NONE, NONE, OUT3), DPX_SUBSET);
+    REFUSED(dpx_extract(f1, NUMBERS(2), NUMBERS(0, 1, 1, 1), NONE, NONE, NONE, OUT3), DPX_SUBSET);
+    REFUSED(dpx_extract(f1, NUMBERS(2), NUMBERS(0, 1), BYTES(1), TEXT("ab"), NONE, OUT3), DPX_CONTENT);
+    REFUSED(dpx_extract(f1, NUMBERS(2), NUMBERS(0, 1), BYTES(1, 1), TEXT("a"), NONE, OUT3), DPX_CONTENT);
+    REFUSED(dpx_extract(f1, NUMBERS(2), NUMBERS(0, 1), BYTES(1, 1), TEXT("ab"), NUMBERS(0), OUT3), DPX_CONTENT);
+    REFUSED(dpx_extract(r4, NUMBERS(2), NUMBERS(0, 1), NONE, TEXT("ab"), NUMBERS(1, 0, 2), OUT3), DPX_CONTENT);
+    REFUSED(dpx_extract(r4, NUMBERS(1), NUMBERS(0, 1), NONE, NONE, NUMBERS(0, UINT64_C(1) << 40), OUT3), DPX_CONTENT);
+    lend(0, 1, 0);
+    REFUSED(dpx_extract(f1, NUMBERS(2), NUMBERS(0, 1), BYTES(1, 1), TEXT("ab"), NONE, OUT3), DPX_OUTPUT);
+    lend(1, 0, 0);
+    REFUSED(dpx_extract(f1, NUMBERS(2), NUMBERS(0, 1), BYTES(1, 1), TEXT("ab"), NONE, OUT3), DPX_OUTPUT);
+    lend(0, 1, 1);
+    REFUSED(dpx_extract(r4, NUMBERS(2), NUMBERS(0, 1), NONE, TEXT("ab"), NUMBERS(0, 1, 2), OUT3), DPX_OUTPUT);
+    release();
+}
+
+/* --------------------------------------------------------------------------------------------------------- merge */
+
+static void test_merge(void)
+{
+    const dpx_kind f1 = dpx_fixed(0, 1, DPX_LITTLE), r8 = dpx_ragged(0, 8, DPX_START);
+
+    /* Chunk by chunk: all planes of the first, then all of the second. */
+    lend(5, 3, 1);
+    GIVES(dpx_merge(dpx_fixed(2, 1, DPX_LITTLE), NUMBERS(2), NUMBERS(1, 1, 0, 1), BYTES(5, 6, 7, 8), TEXT("ba"), NONE, OUT3),
+          BYTES(7, 5, 8, 6), TEXT("ab"), NONE);
+    /* Ragged chunks, the second with a byte before its first offset. */
+    lend(2, 8, 4);
+    GIVES(dpx_merge(dpx_ragged(1, 4, DPX_END), NUMBERS(2), NUMBERS(1, 1, 0, 1), BYTES(1, 0), TEXT("cdxab"), NUMBERS(0, 2, 1, 3), OUT3),
+          BYTES(0, 1), TEXT("abcd"), NUMBERS(0, 2, 4));
+    /* Two columns of a 2 x 2 table. */
+    lend(0, 8, 8);
+    GIVES(dpx_merge(r8, NUMBERS(2, 2), NUMBERS(0, 0, 2, 1, 0, 1, 2, 1), NONE, TEXT("acccbbd"), NUMBERS(0, 1, 4, 0, 2, 3), OUT3), NONE,
+          TEXT("abbcccd"), NUMBERS(0, 1, 3, 6, 7));
+    release();
+
+    lend(0, 0, 0);
+    REFUSED(dpx_merge(f1, NUMBERS(1), NUMBERS(0, 1, 0), NONE, TEXT("a"), NONE, OUT3), DPX_SUBSET);
+    REFUSED(dpx_merge(f1, NUMBERS(1), NUMBERS(0, 2), NONE, TEXT("a"), NONE, OUT3), DPX_SUBSET);
+    REFUSED(dpx_merge(f1, NUMBERS(1), NUMBERS(UINT64_MAX, 1), NONE, TEXT("a"), NONE, OUT3), DPX_SUBSET);
+    REFUSED(dpx_merge(r8, NUMBERS(1), NUMBERS(0, 1, 0, 0), NONE, TEXT("a"), NUMBERS(0, 1, 0), OUT3), DPX_SUBSET);
+    REFUSED(dpx_merge(f1, NUMBERS(2), NUMBERS(0, 1, 1, 1), NONE, TEXT("abc"), NONE, OUT3), DPX_CONTENT);
+    REFUSED(dpx_merge(f1, NUMBERS(2), NUMBERS(0, 1, 1, 1), NONE, TEXT("a"), NONE, OUT3), DPX_CONTENT);
+    REFUSED(dpx_merge(f1, NUMBERS(1), NONE, NONE, TEXT("a"), NONE, OUT3), DPX_CONTENT);
+    REFUSED(dpx_merge(dpx_ragged(1, 4, DPX_START), NUMBERS(1), NONE, BYTES(1), NONE, NONE, OUT3), DPX_CONTENT);
+    REFUSED(dpx_merge(r8, NUMBERS(2), NUMBERS(0, 1, 1, 1), NONE, NONE, NUMBERS(0, UINT64_C(1) << 63, 0, UINT64_C(1) << 63), OUT3),
+            DPX_CONTENT);
+    REFUSED(dpx_merge(r8, NUMBERS(2), NUMBERS(0, 2), NONE, TEXT("ab"), NUMBERS(0, 3, 2), OUT3), DPX_CONTENT);
+    REFUSED(dpx_merge(r8, NUMBERS(1), NUMBERS(0, 1), NONE, TEXT("ab"), NUMBERS(0, 1), OUT3), DPX_CONTENT);
+    REFUSED(dpx_merge(f1, NUMBERS(2), NUMBERS(0, 1, 0, 1), NONE, TEXT("ab"), NONE, OUT3), DPX_COVER);
+    REFUSED(dpx_merge(f1, NUMBERS(2), NUMBERS(0, 1), NONE, TEXT("a"), NONE, OUT3), DPX_COVER);
+    REFUSED(dpx_merge(f1, NUMBERS(2), NUMBERS(0, 2, 1, 1), NONE, TEXT("abb"), NONE, OUT3), DPX_COVER);
+    REFUSED(dpx_merge(dpx_ragged(1, 4, DPX_START), NUMBERS(1), NONE, NONE, NONE, NONE, OUT3), DPX_COVER);
+    REFUSED(dpx_merge(f1, NUMBERS(1), NUMBERS(0, 1), NONE, TEXT("a"), NONE, OUT3), DPX_OUTPUT);
+    release();
+    /* 12 with room lent: the room stays as it was. */
+    lend(0, 2, 0);
+    REFUSED(dpx_merge(f1, NUMBERS(2), NUMBERS(0, 1, 0, 1), NONE, TEXT("ab"), NONE, OUT3), DPX_COVER);
+    lend(0, 2, 2);
+    REFUSED(dpx_merge(r8, NUMBERS(2), NUMBERS(0, 1, 1, 1), NONE, TEXT("ab"), NUMBERS(0, 1, 0, 1), OUT3), DPX_OUTPUT);
+    lend(0, 1, 3);
+    REFUSED(dpx_merge(r8, NUMBERS(2), NUMBERS(0, 1, 1, 1), NONE, TEXT("ab"), NUMBERS(0, 1, 0, 1), OUT3), DPX_OUTPUT);
+    lend(0, 2, 3);
+    GIVES(dpx_merge(r8, NUMBERS(2), NUMBERS(0, 1, 1, 1), NONE, TEXT("ab"), NUMBERS(0, 1, 0, 1), OUT3), NONE, TEXT("ab"), NUMBERS(0, 1, 2));
+    release();
+}
+
+/* ------------------------------------------------------------------------------------------------- partial_decode */
+
+static void test_partial(void)
+{
+    lend(0, 4, 4);
+    GIVES_VALUES(dpx_partial_decode(4, DPX_END, NUMBERS(2), NUMBERS(0, 1), BYTES('A', 'B', LE4(0), LE4(2), LE4(2), LE8(12)), OUT2), TEXT("AB"),
+                 NUMBERS(0, 2));
+    lend(0, 4, 4);
+    GIVES_VALUES(dpx_partial_decode(8, DPX_START, NUMBERS(2), NUMBERS(1, 1), BYTES(LE8(24), LE8(0), LE8(2), LE8(3), 'A', 'B', 'C'), OUT2),
+                 TEXT("C"), NUMBERS(0, 1));
+    lend(0, 1, 2);
+    GIVES_VALUES(dpx_partial_decode(4, DPX_START, NUMBERS(1), NUMBERS(0, 1), BYTES(LE8(8), LE4(1), LE4(2), 'A', 'B'), OUT2), TEXT("B"),
+                 NUMBERS(0, 1));
+    lend(0, 0, 1);
+    GIVES_VALUES(dpx_partial_decode(4, DPX_START, NUMBERS(1), NUMBERS(1, 0), BYTES(LE8(8), LE4(1), LE4(2), 'A', 'B'), OUT2), NONE, NUMBERS(0));
+
+    lend(0, 0, 0);
+    REFUSED(dpx_partial_decode(4, DPX_START, NUMBERS(1), NUMBERS(0, 2), NONE, OUT2), DPX_SUBSET);
+    REFUSED(dpx_partial_decode(4, DPX_START, NUMBERS(1), NUMBERS(0), NONE, OUT2), DPX_SUBSET);
+    REFUSED(dpx_partial_decode(4, DPX_START, NUMBERS(1), NUMBERS(0, 1), BYTES(1, 2, 3), OUT2), DPX_SHORT);
+    REFUSED(dpx_partial_decode(4, DPX_START, NUMBERS(1), NUMBERS(0, 1), BYTES(FF8), OUT2), DPX_LENGTH);
+    REFUSED(dpx_partial_decode(8, DPX_START, NUMBERS(1), NUMBERS(0, 1), BYTES(LE8(8), LE4(0), LE4(0)), OUT2), DPX_LENGTH);
+    REFUSED(dpx_partial_decode(4, DPX_START, NUMBERS(1), NUMBERS(0, 1), BYTES(LE8(8), LE4(0), LE4(2), 'a'), OUT2), DPX_LENGTH);
+    REFUSED(dpx_partial_decode(4, DPX_START, NUMBERS(1), NUMBERS(0, 1), BYTES(LE8(8), LE4(2), LE4(1), 'a'), OUT2), DPX_FALLING);
+    REFUSED(dpx_partial_decode(4, DPX_START, NUMBERS(1), NUMBERS(1, 0), BYTES(LE8(8), LE4(0), LE4(0)), OUT2), DPX_OUTPUT);
+    lend(0, 0, 2);
+    REFUSED(dpx_partial_decode(4, DPX_START, NUMBERS(1), NUMBERS(0, 1), BYTES(LE8(8), LE4(0), LE4(1), 'a'), OUT2), DPX_OUTPUT);
+    lend(0, 1, 1);
+    REFUSED(dpx_partial_decode(4, DPX_START, NUMBERS(1), NUMBERS(0, 1), BYTES(LE8(8), LE4(0), LE4(1), 'a'), OUT2), DPX_OUTPUT);
+    release();
+}
+
+/* -------------------------------------------------------------------------------- reverse_endianness, subset_cells */
+
+static void reverse(uint64_t size, const char *before, const char *after, uint64_t length)
+{
+    size_t count = strlen(before);
+    lend(0, count, 0);
+    if (count > 0)
+        memcpy(out.values, before, count);
+    ANSWERS(dpx_reverse_endianness(size, out.values, count, out.lengths), DPX_OK);
+    CHECK(out.lengths[0] == length && out.lengths[1] == FILL64);
+    CHECK(memcmp(out.values, after, count) == 0);
+    CHECK(kept(out.values, count, count));
+    release();
+}
+
+static void test_reverse(void)
+{
+    reverse(3, "\1\2\3\4\5\6\7", "\3\2\1\6\5\4\7", 6);
+    reverse(1, "abc", "abc", 3);
+    reverse(2, "abcd", "badc", 4);
+    reverse(64, "abc", "abc", 0);
+    reverse(3, "abc", "cba", 3);
+    reverse(8, "", "", 0);
+
+    lend(0, 65, 0);
+    REFUSED(dpx_reverse_endianness(0, OUT1), DPX_KIND);
+    REFUSED(dpx_reverse_endianness(65, OUT1), DPX_KIND);
+    REFUSED(dpx_reverse_endianness(UINT64_MAX, OUT1), DPX_KIND);
+    REFUSED(dpx_reverse_endianness(0, NONE, out.lengths), DPX_KIND);
+    ANSWERS(dpx_reverse_endianness(4, NONE, out.lengths), DPX_OK);
+    CHECK(out.lengths[0] == 0);
+    release();
+}
+
+static void check_cells(const uint64_t *cells, size_t count, int line)
+{
+    check(out.lengths[0] == count && out.lengths[1] == FILL64, "count of the cells", line);
+    check_kept(0, 0, count, line);
+    check_is(out.offsets, cells, count * 8, "cells", line);
+}
+
+static void test_subset_cells(void)
+{
+    lend(0, 0, 6);
+    ANSWERS(dpx_subset_cells(NUMBERS(2, 3), NUMBERS(0, 1, 2, 2), OUT_CELLS), DPX_OK);
+    check_cells(NUMBERS(1, 2, 4, 5), __LINE__);
+    lend(0, 0, 4);
+    ANSWERS(dpx_subset_cells(NUMBERS(2, 2, 2, 2), NUMBERS(0, 1, 0, 1, 1, 1, 2, 1), OUT_CELLS), DPX_OK);
+    check_cells(NUMBERS(5, 7), __LINE__);
+    lend(0, 0, 0);
+    ANSWERS(dpx_subset_cells(NUMBERS(2, 3), NUMBERS(2, 0, 0, 3), OUT_CELLS), DPX_OK);
+    check_cells(NONE, __LINE__);
+
+    lend(0, 0, 3);
+    REFUSED(dpx_subset_cells(NUMBERS(2, 3), NUMBERS(0, 2, 2, 2), OUT_CELLS), DPX_SUBSET);
+    REFUSED(dpx_subset_cells(NUMBERS(1), NONE, OUT_CELLS), DPX_SUBSET);
+    REFUSED(dpx_subset_cells(NUMBERS(1), NUMBERS(0, 1, 0, 1), OUT_CELLS), DPX_SUBSET);
+    REFUSED(dpx_subset_cells(NUMBERS(1), NUMBERS(UINT64_MAX, 1), OUT_CELLS), DPX_SUBSET);
+    REFUSED(dpx_subset_cells(NUMBERS(1), NUMBERS(UINT64_C(1) << 63, UINT64_C(1) << 63), OUT_CELLS), DPX_SUBSET);
+    REFUSED(dpx_subset_cells(NUMBERS(2, 2), NUMBERS(0, 0, 0, 3), OUT_CELLS), DPX_SUBSET);
+    REFUSED(dpx_subset_cells(NUMBERS(2, 3), NUMBERS(0, 1, 2, 2), OUT_CELLS), DPX_OUTPUT);
+    release();
+}
+
+/* -------------------------------------------------------------------------------------------------------- limits */
+
+/* A field of eight bytes, and one of four. */
+static void put(uint8_t *at, uint64_t number, size_t width)
+{
+    size_t i;
+    for (i = 0; i < width; i++)
+        at[i] = (uint8_t)(number >> (8 * i));
+}
+
+static void test_byte_limit(void)
+{
+    const size_t most = DPX_MAX_VALUE_BYTES;
+    const dpx_kind kind = dpx_ragged(0, 8, DPX_START);
+    const uint64_t one[1] = {1}, two[1] = {2}, whole[2] = {0, 1}, twice[4] = {0, 1, 0, 1};
+    uint8_t *values = block(most + 1), *stored = block(most + 25), *back = block(most + 1);
+    uint64_t offsets[2] = {0, DPX_MAX_VALUE_BYTES}, chunks[4] = {0, 8388608, 0, 8388608}, got[3] = {7, 7, 7}, lengths[3] = {7, 7, 7};
+    size_t i;
+
+    for (i = 0; i < most + 1; i++)
+        values[i] = (uint8_t)(i * 7 + (i >> 8));
+    memset(stored, FILL, most + 25);
+    memset(back, FILL, most + 1);
+
+    /* 16,777,216 value bytes pass. */
+    ANSWERS(dpx_encode(kind, one, 1, NONE, values, most, offsets, 2, stored, most + 24, lengths), DPX_OK);
+    CHECK(lengths[0] == most + 24 && lengths[1] == 7 && stored[most + 24] == FILL);
+    ANSWERS(dpx_decode(kind, one, 1, stored, most + 24, NONE, back, most, got, 2, lengths), DPX_OK);
+    CHECK(lengths[0] == 0 && lengths[1] == most && lengths[2] == 2 && got[0] == 0 && got[1] == most && got[2] == 7);
+    CHECK(memcmp(values, back, most) == 0 && back[most] == FILL);
+    memset(back, FILL, most);
+    ANSWERS(dpx_partial_decode(8, DPX_START, one, 1, whole, 2, stored, most + 24, back, most, got, 2, lengths), DPX_OK);
+    CHECK(lengths[0] == most && lengths[1] == 2 && memcmp(values, back, most) == 0 && back[most] == FILL);
+    memset(back, FILL, most);
+    ANSWERS(dpx_extract(kind, one, 1, whole, 2, NONE, values, most, offsets, 2, NONE, back, most, got, 2, lengths), DPX_OK);
+    CHECK(lengths[1] == most && lengths[2] == 2 && memcmp(values, back, most) == 0 && back[most] == FILL);
+    memset(back, FILL, most);
+    ANSWERS(dpx_merge(kind, one, 1, whole, 2, NONE, values, most, offsets, 2, NONE, back, most, got, 2, lengths), DPX_OK);
+    CHECK(lengths[1] == most && lengths[2] == 2 && memcmp(values, back, most) == 0 && back[most] == FILL);
+    put(stored, 1, 4);
+    put(stored + 4, most, 4);
+    memcpy(stored + 8, values, most + 1);
+    memset(back, FILL, most);
+    ANSWERS(dpx_decode_interleaved(1, stored, most + 9, back, most, got, 2, lengths), DPX_OK);
+    CHECK(lengths[0] == most && lengths[1] == 2 && memcmp(values, back, most) == 0 && back[most] == FILL);
+
+    /* One more is 5, and no lent byte changes. */
+    memset(back, FILL, most + 1);
+    got[0] = got[1] = lengths[0] = lengths[1] = lengths[2] = 7;
+    put(stored + 4, most + 1, 4);
+    ANSWERS(dpx_decode_interleaved(1, stored, most + 9, back, most + 1, got, 2, lengths), DPX_SIZE);
+    put(stored, 16, 8);
+    put(stored + 8, 0, 8);
+    put(stored + 16, most + 1, 8);
+    memcpy(stored + 24, values, most + 1);
+    ANSWERS(dpx_decode(kind, one, 1, stored, most + 25, NONE, back, most + 1, got, 2, lengths), DPX_SIZE);
+    ANSWERS(dpx_partial_decode(8, DPX_START, one, 1, whole, 2, stored, most + 25, back, most + 1, got, 2, lengths), DPX_SIZE);
+    offsets[1] = most + 1;
+    ANSWERS(dpx_encode(kind, one, 1, NONE, values, most + 1, offsets, 2, back, most + 1, lengths), DPX_SIZE);
+    ANSWERS(dpx_extract(kind, one, 1, whole, 2, NONE, values, most + 1, offsets, 2, NONE, back, most + 1, got, 2, lengths), DPX_SIZE);
+    ANSWERS(dpx_merge(kind, one, 1, whole, 2, NONE, values, most + 1, offsets, 2, NONE, back, most + 1, got, 2, lengths), DPX_SIZE);
+    /* 5 comes before 12. */
+    ANSWERS(dpx_merge(kind, two, 1, twice, 4, NONE, values, most, chunks, 4, NONE, back, most + 1, got, 2, lengths), DPX_COVER);
+    chunks[3]++;
+    ANSWERS(dpx_merge(kind, two, 1, twice, 4, NONE, values, most + 1, chunks, 4, NONE, back, most + 1, got, 2, lengths), DPX_SIZE);
+    CHECK(filled(back, most + 1) && got[0] == 7 && got[1] == 7 && lengths[0] == 7 && lengths[1] == 7 && lengths[2] == 7);
+    /* By the last offset, also where the cell is empty. A merge goes by the sum of its cells. */
+    offsets[0] = most + 1;
+    ANSWERS(dpx_encode(kind, one, 1, NONE, values, most + 1, offsets, 2, back, most + 1, lengths), DPX_SIZE);
+    offsets[0] = most;
+    ANSWERS(dpx_merge(kind, one, 1, whole, 2, NONE, values, most + 1, offsets, 2, NONE, back, 1, got, 2, lengths), DPX_OK);
+    CHECK(lengths[1] == 1 && back[0] == values[most] && got[0] == 0 && got[1] == 1);
+    release();
+}
+
+/* Depth 4, size 64, 65,536 cells. */
+static void test_limits(void)
+{
+    const size_t cells = DPX_MAX_CELLS, room = 4 * (16 + cells) + 64 * cells;
+    const uint64_t all[1] = {DPX_MAX_CELLS};
+    uint8_t *masks = block(4 * cells), *values = block(64 * cells), *stored = block(room);
+    uint8_t *masks_back = block(4 * cells), *back = block(64 * cells);
+    uint64_t lengths[3];
+    size_t i;
+
+    for (i = 0; i < 4 * cells; i++)
+        masks[i] = (uint8_t)(1 + i % 255);
+    for (i = 0; i < 64 * cells; i++)
+        values[i] = (uint8_t)(i * 31 + (i >> 9));
+    ANSWERS(dpx_encode(dpx_fixed(4, 64, DPX_BIG), all, 1, masks, 4 * cells, values, 64 * cells, NONE, stored, room, lengths), DPX_OK);
+    CHECK(lengths[0] == room);
+    ANSWERS(dpx_decode(dpx_fixed(4, 64, DPX_BIG), all, 1, stored, room, masks_back, 4 * cells, back, 64 * cells, NONE, lengths), DPX_OK);
+    CHECK(lengths[0] == 4 * cells && lengths[1] == 64 * cells && lengths[2] == 0);
+    CHECK(memcmp(masks, masks_back, 4 * cells) == 0 && memcmp(values, back, 64 * cells) == 0);
+    release();
+}
+
+int main(void)
+{
+    test_kind();
+    test_shape();
+    test_encode();
+    test_decode();
+    test_interleaved();
+    test_extract();
+    test_merge();
+    test_partial();
+    test_reverse();
+    test_subset_cells();
+    test_byte_limit();
+    test_limits();
+    release();
+    printf("C interface: %lu checks, %lu failed\n", checks, failures);
+    return failures == 0 ? 0 : 1;
+}

@@ -1,0 +1,51 @@
+#!/usr/bin/env bash
+# Everything around the proved code: builds the archive, then tests the C interface (plain, under valgrind, with the
+# sanitizers), the Rust wrapper, the command, the README's examples and the demonstration.
+# With --built the archive in build/ is taken as it is. Any failure ends the script with a status other than 0.
+set -euo pipefail
+cd "$(dirname "$0")/.."
+export CARGO_TARGET_DIR="$PWD/build/cargo"
+
+say() { printf '\n== %s\n' "$*"; }
+
+if [ "${1:-}" != --built ]; then
+    say 'archive and header'
+    make --no-print-directory lib
+    # The archive stands alone: it takes nothing but these four of the C library.
+    undefined=$(nm --undefined-only --format=posix build/libdurpaxeta.a | awk 'NF > 1 {print $1}' | sort -u)
+    if grep -vxE 'memcpy|memmove|memset|memcmp|_GLOBAL_OFFSET_TABLE_' <<< "${undefined:-memcpy}"; then
+        echo 'outside: the archive needs the symbols above' >&2
+        exit 1
+    fi
+fi
+
+say 'exported names'
+diff <(nm --extern-only --defined-only --format=posix build/libdurpaxeta.a | awk 'NF > 1 {print $1}' | sort) - <<'END'
+dpx_decode
+dpx_decode_interleaved
+dpx_encode
+dpx_extract
+dpx_merge
+dpx_partial_decode
+dpx_reverse_endianness
+dpx_subset_cells
+END
+echo 'the eight calls, and nothing else'
+
+say 'C interface'
+tests/c/run.sh
+
+say 'Rust wrapper'
+cargo test --offline --locked --quiet --manifest-path bindings/rust/Cargo.toml
+
+say 'command'
+cargo test --offline --locked --quiet --manifest-path tool/Cargo.toml
+
+say 'examples of the README'
+tests/readme.sh
+
+say 'demonstration'
+make --no-print-directory tool
+demo/affinity.sh
+
+say 'outside: all passed'
