@@ -1,3 +1,2 @@
-pub mod Scan
-pub mod Print
 pub mod Told
+pub mod Kept

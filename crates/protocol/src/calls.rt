@@ -83,7 +83,12 @@ fn kind_of(depth: u64, form: u64, size: u64, order: u64) -> KindRead
 }
 
 fn head_kind(head: &[u64]) -> KindRead {
-    kind_of(number_at(head, 0), number_at(head, 1), number_at(head, 2), number_at(head, 3))
+    kind_of(
+        number_at(head, 0),
+        number_at(head, 1),
+        number_at(head, 2),
+        number_at(head, 3),
+    )
 }
 
 fn ask_reverse_endianness(head: &[u64], values: &mut [u8]) -> WrittenArray {
@@ -95,19 +100,45 @@ fn ask_subset_cells(shape: &[u64], numbers: &[u64], offsets: &mut [u64]) -> Writ
     offsets_told(subset::subset_cells(shape, numbers, offsets))
 }
 
-fn ask_decode_interleaved(head: &[u64], bytes: &[u8], values: &mut [u8], offsets: &mut [u64]) -> WrittenArray {
+fn ask_decode_interleaved(
+    head: &[u64],
+    bytes: &[u8],
+    values: &mut [u8],
+    offsets: &mut [u64],
+) -> WrittenArray {
     let cells = number_at(head, 0);
     ragged_told(vlen_v2::decode_interleaved(cells, bytes, values, offsets))
 }
 
-fn ask_encode(head: &[u64], shape: &[u64], in_masks: &[u8], in_values: &[u8], in_offsets: &[u64], values: &mut [u8]) -> WrittenArray {
+fn ask_encode(
+    head: &[u64],
+    shape: &[u64],
+    in_masks: &[u8],
+    in_values: &[u8],
+    in_offsets: &[u64],
+    values: &mut [u8],
+) -> WrittenArray {
     match head_kind(head) {
         KindRead::Refused(e) => WrittenArray::Refused(e),
-        KindRead::Kind(kind) => values_told(encode::encode(kind, shape, in_masks, in_values, in_offsets, values)),
+        KindRead::Kind(kind) => values_told(encode::encode(
+            kind,
+            shape,
+            in_masks,
+            in_values,
+            in_offsets,
+            values,
+        )),
     }
 }
 
-fn ask_decode(head: &[u64], shape: &[u64], bytes: &[u8], masks: &mut [u8], values: &mut [u8], offsets: &mut [u64]) -> WrittenArray {
+fn ask_decode(
+    head: &[u64],
+    shape: &[u64],
+    bytes: &[u8],
+    masks: &mut [u8],
+    values: &mut [u8],
+    offsets: &mut [u64],
+) -> WrittenArray {
     match head_kind(head) {
         KindRead::Refused(e) => WrittenArray::Refused(e),
         KindRead::Kind(kind) => decode::decode(kind, shape, bytes, masks, values, offsets),
@@ -127,7 +158,17 @@ fn ask_extract(
 ) -> WrittenArray {
     match head_kind(head) {
         KindRead::Refused(e) => WrittenArray::Refused(e),
-        KindRead::Kind(kind) => extract::extract(kind, shape, subset, in_masks, in_values, in_offsets, masks, values, offsets),
+        KindRead::Kind(kind) => extract::extract(
+            kind,
+            shape,
+            subset,
+            in_masks,
+            in_values,
+            in_offsets,
+            masks,
+            values,
+            offsets,
+        ),
     }
 }
 
@@ -144,7 +185,17 @@ fn ask_merge(
 ) -> WrittenArray {
     match head_kind(head) {
         KindRead::Refused(e) => WrittenArray::Refused(e),
-        KindRead::Kind(kind) => merge::merge(kind, shape, subsets, in_masks, in_values, in_offsets, masks, values, offsets),
+        KindRead::Kind(kind) => merge::merge(
+            kind,
+            shape,
+            subsets,
+            in_masks,
+            in_values,
+            in_offsets,
+            masks,
+            values,
+            offsets,
+        ),
     }
 }
 
@@ -158,7 +209,15 @@ fn ask_partial_decode(
 ) -> WrittenArray {
     match kind::index_from_numbers(number_at(head, 0), number_at(head, 1)) {
         IndexRead::Refused(e) => WrittenArray::Refused(e),
-        IndexRead::Index(width, place) => ragged_told(vlen_partial::partial_decode(width, place, shape, subset, bytes, values, offsets)),
+        IndexRead::Index(width, place) => ragged_told(vlen_partial::partial_decode(
+            width,
+            place,
+            shape,
+            subset,
+            bytes,
+            values,
+            offsets,
+        )),
     }
 }
 
@@ -179,8 +238,28 @@ pub fn run(
         b'e' => ask_encode(head, shape, in_masks, in_values, in_offsets, values),
         b'd' => ask_decode(head, shape, in_values, masks, values, offsets),
         b'i' => ask_decode_interleaved(head, in_values, values, offsets),
-        b'x' => ask_extract(head, shape, subset, in_masks, in_values, in_offsets, masks, values, offsets),
-        b'm' => ask_merge(head, shape, subset, in_masks, in_values, in_offsets, masks, values, offsets),
+        b'x' => ask_extract(
+            head,
+            shape,
+            subset,
+            in_masks,
+            in_values,
+            in_offsets,
+            masks,
+            values,
+            offsets,
+        ),
+        b'm' => ask_merge(
+            head,
+            shape,
+            subset,
+            in_masks,
+            in_values,
+            in_offsets,
+            masks,
+            values,
+            offsets,
+        ),
         b'p' => ask_partial_decode(head, shape, subset, in_values, values, offsets),
         b'r' => ask_reverse_endianness(head, values),
         b's' => ask_subset_cells(shape, subset, offsets),

@@ -15,14 +15,14 @@
 // An answer is `refused N`, or `ok LENGTHS: LISTS` with the outputs up to those lengths, masks before values before offsets.
 // Outputs are filled with EE beforehand; `spoilt` says that a byte beyond the lengths, or any after a refusal, has changed.
 pub mod calls;
-pub mod print;
 pub mod request;
 pub mod respond;
-pub mod scan;
+
 use crate::request::Line;
 use crate::request::Parsed;
+use text::print;
 ghost use lib.ListN.{length};
-ghost use Rattle.protocol.specs.Scan.{Onward};
+ghost use Rattle.text.specs.Scan.{Onward};
 
 // Writes the answer to a line into `text` and says where it ends. Numbers and bytes of the request are read into the two outputs
 // behind the line; the next three are lent to the call.

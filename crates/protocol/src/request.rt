@@ -1,6 +1,6 @@
 // A request: which lists its line has, in which order, and where they lie once they are read.
-use crate::scan;
-use crate::scan::Filled;
+use text::scan;
+use text::scan::Filled;
 
 // The lists of a line, in their order: so many numbers at the head; shape; subset; masks; values or stored bytes; offsets; and so
 // many lengths of outputs. Then the outputs that the call has.
@@ -104,8 +104,7 @@ pub enum Content {
 }
 
 // The next list of numbers, if one is wanted: a space, and then the list.
-fn next_numbers(wanted: bool, line: &[u8], at: usize, out: &mut [u64], from: usize) -> Step
-{
+fn next_numbers(wanted: bool, line: &[u8], at: usize, out: &mut [u64], from: usize) -> Step {
     if !wanted {
         return Step::Next(at, from);
     }
@@ -126,8 +125,7 @@ fn next_numbers(wanted: bool, line: &[u8], at: usize, out: &mut [u64], from: usi
     Step::Next(end, to)
 }
 
-fn next_bytes(wanted: bool, line: &[u8], at: usize, out: &mut [u8], from: usize) -> Step
-{
+fn next_bytes(wanted: bool, line: &[u8], at: usize, out: &mut [u8], from: usize) -> Step {
     if !wanted {
         return Step::Next(at, from);
     }

@@ -1,24 +1,25 @@
 // A request answered: the outputs are filled, lent to the call, and shown with its answer.
-use array::answer::WrittenArray;
-use array::copy;
 use crate::calls;
-use crate::print;
 use crate::request::Fields;
 use crate::request::Request;
-use crate::scan;
-use crate::scan::part_of_bytes;
-use crate::scan::part_of_numbers;
+use array::answer::WrittenArray;
+use array::copy;
+use text::print;
+use text::scan;
+use text::scan::part_of_bytes;
+use text::scan::part_of_numbers;
 ghost use mathlib.Core.Path.{_≡_};
 ghost use mathlib.Core.Bool.{_&&_};
 ghost use Prim.Native.Nat.{_≤_, min};
 ghost use lib.ListN.{length, drop};
 ghost use lib.Dec.{leb, eqb};
 ghost use Rattle.array.specs.Lists.{every};
-ghost use Rattle.protocol.specs.Scan.{Onward};
-ghost use Rattle.protocol.specs.Print.{equal};
+ghost use Rattle.text.specs.Scan.{Onward};
+ghost use Rattle.protocol.specs.Kept.{equal};
 
 // What every byte and every number of a lent output is beforehand.
 const BLANK: u8 = 238;
+
 const BLANK_NUMBER: u64 = 17216961135462248174;
 
 // Whether the bytes from `from` on are as they were lent.
@@ -175,7 +176,16 @@ fn put_lengths(text: &mut [u8], f: Fields, m: usize, v: usize, o: usize) -> usiz
     put_length(text, to, f.out_offsets, f.out_values, o)
 }
 
-fn put_ok(text: &mut [u8], f: Fields, m: usize, v: usize, o: usize, masks: &[u8], values: &[u8], offsets: &[u64]) -> usize
+fn put_ok(
+    text: &mut [u8],
+    f: Fields,
+    m: usize,
+    v: usize,
+    o: usize,
+    masks: &[u8],
+    values: &[u8],
+    offsets: &[u64],
+) -> usize
     ensures { λ r. ⌜ Onward 0 r (length (now (text .entry))) ⌝ }
 {
     let mut to = put_lengths(text, f, m, v, o);
@@ -210,11 +220,23 @@ fn put_answer(
     match answer {
         WrittenArray::Refused(e) => {
             let to = put_refused(text, e);
-            put_spoilt(text, to, blank_bytes(masks, 0) && kept_values(in_place, bytes, values, 0) && blank_numbers(offsets, 0))
+            put_spoilt(
+                text,
+                to,
+                blank_bytes(masks, 0)
+                    && kept_values(in_place, bytes, values, 0)
+                    && blank_numbers(offsets, 0),
+            )
         }
         WrittenArray::Lengths(m, v, o) => {
             let to = put_ok(text, f, m, v, o, masks, values, offsets);
-            put_spoilt(text, to, blank_bytes(masks, m) && kept_values(in_place, bytes, values, v) && blank_numbers(offsets, o))
+            put_spoilt(
+                text,
+                to,
+                blank_bytes(masks, m)
+                    && kept_values(in_place, bytes, values, v)
+                    && blank_numbers(offsets, o),
+            )
         }
     }
 }
@@ -238,7 +260,18 @@ fn show(
 {
     let in_place = letter == b'r';
     lend(in_place, in_values, masks, values, offsets);
-    let answer = calls::run(letter, head, shape, subset, in_masks, in_values, in_offsets, masks, values, offsets);
+    let answer = calls::run(
+        letter,
+        head,
+        shape,
+        subset,
+        in_masks,
+        in_values,
+        in_offsets,
+        masks,
+        values,
+        offsets,
+    );
     put_answer(text, f, in_place, answer, in_values, masks, values, offsets)
 }
 
@@ -256,10 +289,34 @@ fn rooms_of(f: Fields, bytes: usize, rooms: &[u64]) -> Rooms {
     let third = calls::number_at(rooms, 2);
     let count = f.rooms;
     match count {
-        0 => Rooms { masks: 0, values: bytes as u64, offsets: 0 },
-        1 => if f.out_values { Rooms { masks: 0, values: first, offsets: 0 } } else { Rooms { masks: 0, values: 0, offsets: first } },
-        2 => Rooms { masks: 0, values: first, offsets: second },
-        _ => Rooms { masks: first, values: second, offsets: third },
+        0 => Rooms {
+            masks: 0,
+            values: bytes as u64,
+            offsets: 0,
+        },
+        1 => if f.out_values {
+            Rooms {
+                masks: 0,
+                values: first,
+                offsets: 0,
+            }
+        } else {
+            Rooms {
+                masks: 0,
+                values: 0,
+                offsets: first,
+            }
+        },
+        2 => Rooms {
+            masks: 0,
+            values: first,
+            offsets: second,
+        },
+        _ => Rooms {
+            masks: first,
+            values: second,
+            offsets: third,
+        },
     }
 }
 
@@ -277,7 +334,11 @@ pub fn respond(
     ensures { λ r. ⌜ Onward 0 r (length (now (text .entry))) ⌝ }
 {
     let in_values = part_of_bytes(bytes, q.values, q.bytes);
-    let room = rooms_of(f, in_values.len(), part_of_numbers(numbers, q.rooms, q.numbers));
+    let room = rooms_of(
+        f,
+        in_values.len(),
+        part_of_numbers(numbers, q.rooms, q.numbers),
+    );
     if room.masks > masks.len() as u64 {
         return bad_line(text);
     }

@@ -51,8 +51,16 @@ fn answer_all(
 ) {
     let mut at = 0;
     while at < input.len() {
-        let end = protocol::scan::find(input, at, b'\n', b'\n');
-        answer_line(&input[at..end], numbers, bytes, masks, values, offsets, text);
+        let end = text::scan::find(input, at, b'\n', b'\n');
+        answer_line(
+            &input[at..end],
+            numbers,
+            bytes,
+            masks,
+            values,
+            offsets,
+            text,
+        );
         at = end + 1;
     }
 }
@@ -66,5 +74,13 @@ fn main() {
     let mut values = byte_space();
     let mut offsets = number_space();
     let mut text = text_space();
-    answer_all(&input[..n], &mut numbers, &mut bytes, &mut masks, &mut values, &mut offsets, &mut text);
+    answer_all(
+        &input[..n],
+        &mut numbers,
+        &mut bytes,
+        &mut masks,
+        &mut values,
+        &mut offsets,
+        &mut text,
+    );
 }

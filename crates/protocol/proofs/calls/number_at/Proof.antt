@@ -1,24 +1,20 @@
+-- `protocol::calls::number_at` meets its contract: past the end a list has the default.
+-- Assumes nothing.
 use mathlib.Core.Path.{sym}
 use lib.ListN.{List·getD-eq-default}
 use borrow.Author.Needs.{needs}
 use Rattle.protocol.proofs.calls.number_at.Statement.{statement}
 use Rattle.protocol.proofs.calls.number_at.Tie as tie
-use Rattle.protocol.proofs.calls.number_at.Reads as reads
-use Rattle.protocol.proofs.calls.number_at.Lts as lts
 
--- src/calls.rt:20:16
 mul-result : tie.Need-mul-result
 mul-result c = search needs
 
--- src/calls.rt:20:16
 shared-slice-read-result : tie.Need-shared-slice-read-result
 shared-slice-read-result c = search needs
 
--- src/calls.rt:20:9
 returns : tie.Need-returns
 returns c = search needs
 
--- src/calls.rt:16:1
 returns-2 : tie.Need-returns-2
 returns-2 c = sym (List·getD-eq-default (c .before .args .s .now) 0 (c .if1 .left))
 

@@ -1,26 +1,22 @@
+-- `protocol::calls::offsets_told` meets its contract: case by case.
+-- Assumes nothing.
 use mathlib.Core.Path.{sym, ap}
+use borrow.Author.Needs.{needs}
 use Rattle.array.specs.Answer.{mapAnswer}
 use Rattle.array.specs.Meaning.{told}
 use Rattle.protocol.specs.Told.{onlyOffsets}
-use borrow.Author.Needs.{needs}
 use Rattle.protocol.proofs.calls.offsets_told.Statement.{statement}
 use Rattle.protocol.proofs.calls.offsets_told.Tie as tie
-use Rattle.protocol.proofs.calls.offsets_told.Reads as reads
-use Rattle.protocol.proofs.calls.offsets_told.Lts as lts
 
--- src/calls.rt:38:25
 enum-known-r : tie.Need-enum-known-r
 enum-known-r c = search needs
 
--- src/calls.rt:39:26
 enum-known-r-2 : tie.Need-enum-known-r-2
 enum-known-r-2 c = search needs
 
--- src/calls.rt:34:1
 returns : tie.Need-returns
 returns c = ap (λ w. mapAnswer onlyOffsets (told w)) (sym (c .before .r .given .1))
 
--- src/calls.rt:34:1
 returns-2 : tie.Need-returns-2
 returns-2 c = ap (λ w. mapAnswer onlyOffsets (told w)) (sym (c .before .r2 .given .1))
 

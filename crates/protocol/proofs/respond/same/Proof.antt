@@ -1,14 +1,14 @@
-use borrow.Author.Needs.{needs}
+-- `protocol::respond::same` meets its contract: the bytes from i on give what all give (proofs/Comparing).
+-- Assumes nothing.
 use Prim.Native.Nat.{_≤_, _-_}
 use mathlib.Core.Path.{_≡_, refl, sym, _∙_}
-use lib.ListN.{length, drop}
 use native.Mathlib.Omega.{arith}
-use Rattle.protocol.specs.Print.{equal}
-use Rattle.protocol.proofs.Showing.{equal-long, equal-end, equal-more, equal-not}
+use lib.ListN.{length, drop}
+use borrow.Author.Needs.{needs}
+use Rattle.protocol.specs.Kept.{equal}
+use Rattle.protocol.proofs.Comparing.{equal-long, equal-end, equal-more, equal-not}
 use Rattle.protocol.proofs.respond.same.Statement.{statement}
 use Rattle.protocol.proofs.respond.same.Tie as tie
-use Rattle.protocol.proofs.respond.same.Reads as reads
-use Rattle.protocol.proofs.respond.same.Lts as lts
 
 abbrev Inv-loop : tie.InvT-loop
 Inv-loop a b i₀ i = (length a ≡ length b) × (i ≤ length a) × (equal a b ≡ equal (drop i a) (drop i b))
@@ -16,39 +16,30 @@ Inv-loop a b i₀ i = (length a ≡ length b) × (i ≤ length a) × (equal a b 
 abbrev μ-loop : tie.MeasureT-loop
 μ-loop a b i₀ i = length a - i
 
--- src/respond.rt:62:9
 returns : tie.Need-returns Inv-loop μ-loop
 returns c = sym (equal-long _ _ (c .if1 .taken))
 
--- src/respond.rt:65:5
 loop-holds : tie.Need-loop-holds Inv-loop μ-loop
 loop-holds c = (omega arith, omega arith, refl)
 
--- src/respond.rt:66:12
 shared-slice-read-if2 : tie.Need-shared-slice-read-if2 Inv-loop μ-loop
 shared-slice-read-if2 c = search needs
 
--- src/respond.rt:66:20
 shared-slice-read-if2-2 : tie.Need-shared-slice-read-if2-2 Inv-loop μ-loop
 shared-slice-read-if2-2 c = search needs
 
--- src/respond.rt:67:13
 returns-2 : tie.Need-returns-2 Inv-loop μ-loop
 returns-2 c = sym (c .before .before .before .before .loop .inv .2 ∙ equal-not _ _ (c .before .before .before .before .loop .inv .0) _ (c .before .before .before .loop-test .taken) (c .if2 .taken))
 
--- src/respond.rt:69:9
 add-i : tie.Need-add-i Inv-loop μ-loop
 add-i c = search needs
 
--- src/respond.rt:65:5
 loop-less : tie.Need-loop-less Inv-loop μ-loop
 loop-less c = search needs
 
--- src/respond.rt:65:5
 loop-again : tie.Need-loop-again Inv-loop μ-loop
 loop-again c = (omega arith, omega arith, c .before .before .before .before .loop .inv .2 ∙ equal-more _ _ (c .before .before .before .before .loop .inv .0) _ (c .before .before .before .loop-test .taken) (c .if2 .left))
 
--- src/respond.rt:58:1
 returns-3 : tie.Need-returns-3 Inv-loop μ-loop
 returns-3 c = sym (c .before .loop .inv .2 ∙ equal-end _ _ (c .before .loop .inv .0) _ (c .loop-test .left))
 
