@@ -1,0 +1,31 @@
+-- What requests ask for by numbers, and what answers tell: the kind; and the lengths that calls with fewer than three outputs name, as
+-- three lengths.
+-- Assumes nothing.
+use Prim.Native.Nat.{ℕ}
+use mathlib.Core.Path.{_≡_}
+use mathlib.Core.Bool.{false}
+use Rattle.array.specs.declared.kind.KindRead as declared
+use Rattle.array.specs.Answer.{Answer, gives, refuses}
+use Rattle.array.specs.Kind.{Kind, kindTest}
+use Rattle.array.specs.Meaning.{kindOf}
+use Rattle.array.specs.Numbers.{toldKind}
+use Rattle.array.specs.Buffers.{Lengths, RaggedLengths}
+
+abbrev pub onlyValues : ℕ → Lengths
+onlyValues n = record { masks = 0; values = n; offsets = 0 }
+
+abbrev pub onlyOffsets : ℕ → Lengths
+onlyOffsets n = record { masks = 0; values = 0; offsets = n }
+
+abbrev pub noMasks : RaggedLengths → Lengths
+noMasks n = record { masks = 0; values = n .values; offsets = n .offsets }
+
+-- the refusal e, or a kind that is out of range
+abbrev pub Beyond : declared.KindRead → ℕ → Type 0
+Beyond (declared.KindRead.Refused n) e = n ≡ e
+Beyond (declared.KindRead.Kind k) e = kindTest (kindOf k) ≡ false
+
+-- the kind that numbers say; else their refusal, or a kind that is out of range
+abbrev pub Asked : Answer Kind → declared.KindRead → Type 0
+Asked (gives k) r = toldKind r ≡ gives k
+Asked (refuses e) r = Beyond r e

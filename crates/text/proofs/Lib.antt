@@ -1,0 +1,2 @@
+pub mod Scanning
+pub mod Showing
