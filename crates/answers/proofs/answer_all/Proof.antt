@@ -1,11 +1,11 @@
--- `vectors::answer_all` meets its contract: the invariant keeps the place within the input, and the lengths.
+-- `answers::answer_all` meets its contract: the invariant keeps the place within the input, and the lengths.
 -- Assumes nothing.
 use Prim.Native.Nat.{_≤_, _-_, _+_}
 use mathlib.Core.Path.{_≡_}
 use lib.ListN.{length}
 use borrow.Author.Needs.{needs}
-use Rattle.vectors.proofs.answer_all.Statement.{statement}
-use Rattle.vectors.proofs.answer_all.Tie as tie
+use Rattle.answers.proofs.answer_all.Statement.{statement}
+use Rattle.answers.proofs.answer_all.Tie as tie
 
 abbrev Inv-loop : tie.InvT-loop
 Inv-loop input numbers₀ bytes₀ masks₀ values₀ offsets₀ text₀ at₀ numbers bytes masks values offsets text at = (at ≤ length input + 1) × (length numbers ≡ length numbers₀) × (length bytes ≡ length bytes₀) × (length masks ≡ length masks₀) × (length values ≡ length values₀) × (length offsets ≡ length offsets₀) × (length text ≡ length text₀)
