@@ -18,11 +18,5 @@ pub mod CheckLaws
 pub mod Numbers
 pub mod Unrolled
 pub mod Fields
-pub mod Reversing
 pub mod ShapeLaws
-pub mod Runs
-pub mod Index
-pub mod Rows
 pub mod SubsetLists
-pub mod Fitting
-pub mod StoringCells

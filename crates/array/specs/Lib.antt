@@ -9,7 +9,6 @@ pub mod Offsets
 pub mod Cells
 pub mod Content
 pub mod Buffers
-pub mod Calls
 pub mod Meaning
 pub mod Check
 pub mod Numbers

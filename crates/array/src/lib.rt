@@ -2,9 +2,7 @@
 pub mod answer;
 pub mod array_bytes;
 pub mod copy;
-pub mod endian;
 pub mod field;
 pub mod kind;
 pub mod refusal;
 pub mod shape;
-pub mod subset;

@@ -11,7 +11,7 @@ use Rattle.array.specs.Subset.{Subset, pairs, cellsIn, cellsOfAll}
 use Rattle.array.specs.Rows.{nextSubsets}
 use Rattle.array.proofs.SubsetLaws.{all-below}
 use Rattle.array.proofs.SubsetLists.{startsAt, lengthsAt}
-use Rattle.array.proofs.Rows.{Left, left-next, left-more, left-ends}
+use Rattle.subset.proofs.Rows.{Left, left-next, left-more, left-ends}
 use Rattle.chunks.specs.Gather.{onceTest}
 use Rattle.cover.specs.Asked.{SubsetsOk}
 use Rattle.cover.specs.Marks.{marking, unmarked, allMarked}

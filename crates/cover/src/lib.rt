@@ -77,12 +77,12 @@ fn mark_subset(words: &mut [u64], shape: &[u64], starts: &[u64], lens: &[u64]) -
     requires { ⌜ ShapeOk (now shape) × Within (now shape) (now starts) (now lens) × (length (now words) ≡ 1024) ⌝ }
     ensures { λ r. ⌜ (r, marksOf (now (words .exit))) ≡ marking (marksOf (now (words .entry))) (cellsIn (now (shape .entry)) (pairs (now (starts .entry)) (now (lens .entry)))) ⌝ }
 {
-    let cells = array::subset::volume_of(lens);
+    let cells = subset::volume_of(lens);
     let last = lens.len() - 1;
     let n = lens[last];
     let mut at: u64 = 0;
     while at < cells {
-        let a = array::subset::cell_at(shape, starts, lens, at);
+        let a = subset::cell_at(shape, starts, lens, at);
         if !mark_run(words, a as usize, n as usize) {
             return false;
         }
@@ -97,7 +97,7 @@ pub fn covers(shape: &[u64], subsets: &[u64], count: usize) -> bool
     ensures { λ r. ⌜ r ≡ onceTest (volume (now (shape .entry))) (cellsOfAll (now (shape .entry)) (nextSubsets (length (now (shape .entry))) count (now (subsets .entry)))) ⌝ }
 {
     let d = shape.len();
-    let n = array::subset::volume_of(shape);
+    let n = subset::volume_of(shape);
     let mut words = no_marks();
     let mut i: usize = 0;
     let mut at: usize = 0;

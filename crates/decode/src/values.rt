@@ -1,10 +1,10 @@
 // Fixed values, cell by cell, in the array's byte order.
 use array::copy::copy_bytes;
 use array::copy::fill_bytes;
-use array::endian::copy_reversed;
 use array::kind::ByteOrder;
 use codec::mask::Mark;
 use codec::mask::mark_of;
+use endian::copy_reversed;
 ghost use mathlib.Core.Path.{_≡_};
 ghost use mathlib.Core.List.{map};
 ghost use Prim.Native.Nat.{_+_, _*_, _≤_};

@@ -1,7 +1,6 @@
 // What belongs to the cells that a level counts, end to end: mask bytes, and values of one size.
 use crate::live;
 use array::copy;
-use array::endian;
 use array::kind::ByteOrder;
 ghost use mathlib.Core.Path.{_≡_};
 ghost use mathlib.Core.List.{map};

@@ -17,8 +17,8 @@ use Rattle.array.proofs.Lists.{map-append, length-from}
 use Rattle.array.proofs.Offsets.{length-ends}
 use Rattle.array.proofs.Over.{over-store, over-again}
 use Rattle.array.proofs.Laying.{Laying, laying-begins, laying-same, laying-ends, laying-left, laying-part, laying-store, laying-is, laying-room}
-use Rattle.array.proofs.Index.{few-drop, few-within}
-use Rattle.array.proofs.Rows.{within-cells, within-below, Left, left-begins, left-next, left-more, left-ends, left-room, left-within}
+use Rattle.subset.proofs.Index.{few-drop, few-within}
+use Rattle.subset.proofs.Rows.{within-cells, within-below, Left, left-begins, left-next, left-more, left-ends, left-room, left-within}
 use Rattle.extract.specs.Places.{fixedAt, Rises, stepAt, bytesAt, valuesAt, planesAt}
 use Rattle.extract.specs.Asked.{SubsetAsked}
 use Rattle.extract.proofs.Places.{joined-append, ends-append, bytes-append, fixed-rises, fixed-total, run-rises, run-below, run-bytes, run-long, run-total, run-ends, bytes-long}

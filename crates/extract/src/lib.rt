@@ -119,7 +119,7 @@ fn cut_valid(
 {
     let depth = kind.depth as usize;
     let form = kind.values;
-    let count = array::subset::volume_of(lens) as usize;
+    let count = subset::volume_of(lens) as usize;
     let mask_bytes = depth * count;
     if out_masks.len() < mask_bytes {
         return WrittenArray::Refused(refusal::OUTPUT);
@@ -169,7 +169,7 @@ pub fn extract(
     let Cells::Count(cells) = array::shape::shape_cells(shape) else {
         return WrittenArray::Refused(refusal::SHAPE);
     };
-    if !array::subset::subset_fits(shape, subset) {
+    if !subset::subset_fits(shape, subset) {
         return WrittenArray::Refused(refusal::SUBSET);
     }
     let checked = array::array_bytes::check_array(kind, cells, masks.len(), values.len(), offsets);

@@ -9,7 +9,8 @@ ghost use mathlib.Core.Path.{_≡_};
 ghost use Rattle.array.specs.Meaning.{told, toldRagged, toldArray};
 ghost use Rattle.array.specs.Numbers.{numberedKind, numberedIndex};
 ghost use Rattle.array.specs.Outcome.{contentArray, contentRagged};
-ghost use Rattle.array.specs.Calls.{endiannessReversed, subsetCells};
+ghost use Rattle.endian.specs.Calls.{endiannessReversed};
+ghost use Rattle.subset.specs.Calls.{subsetCells};
 ghost use Rattle.codec.specs.Calls.{encoded, decoded, interleavedDecoded};
 ghost use Rattle.chunks.specs.Calls.{extracted, merged, partiallyDecoded};
 ghost use Rattle.ffi.specs.Exported.{handed, withGiven, byIndex, statusOf, oneLength, twoLengths, threeLengths, exportOne, exportTwo, exportThree};
@@ -273,7 +274,7 @@ pub extern "C" fn dpx_partial_decode(
 pub extern "C" fn dpx_reverse_endianness(size: u64, bytes: &mut [u8], lengths: &mut [u64; 1]) -> u32
     ensures { λ r. ⌜ handed r (now (lengths .exit)) (now (bytes .exit)) ≡ exportOne (endiannessReversed size (now (bytes .entry))) (now (lengths .entry)) ⌝ }
 {
-    let answer = array::endian::reverse_endianness(size as usize, bytes);
+    let answer = endian::reverse_endianness(size as usize, bytes);
     put_length(answer, lengths)
 }
 
@@ -286,6 +287,6 @@ pub extern "C" fn dpx_subset_cells(
 ) -> u32
     ensures { λ r. ⌜ handed r (now (lengths .exit)) (now (cells .exit)) ≡ exportOne (subsetCells (now (shape .entry)) (now (subset .entry)) (now (cells .entry))) (now (lengths .entry)) ⌝ }
 {
-    let answer = array::subset::subset_cells(shape, subset, cells);
+    let answer = subset::subset_cells(shape, subset, cells);
     put_length(answer, lengths)
 }

@@ -85,7 +85,7 @@ pub fn check_chunks(
     while i < count {
         let mid = at + d;
         let end = mid + d;
-        let m = array::subset::volume_of(&subsets[mid..end]) as usize;
+        let m = subset::volume_of(&subsets[mid..end]) as usize;
         let Chunk::Fits(taken, bytes, passed) = check_chunk(kind, m, p, v, &offsets[o..]) else {
             return Total::Refused;
         };
@@ -131,7 +131,7 @@ pub fn check_merge(
     let Cells::Count(cells) = array::shape::shape_cells(shape) else {
         return Checks::Refused(refusal::SHAPE);
     };
-    if !array::subset::subsets_fit(shape, subsets) {
+    if !subset::subsets_fit(shape, subsets) {
         return Checks::Refused(refusal::SUBSET);
     }
     let count = subsets.len() / (2 * shape.len());

@@ -10,7 +10,7 @@ use lib.Seq.{paste, length-paste, drop-drop}
 use Rattle.array.specs.Lists.{from}
 use Rattle.array.specs.Buffers.{overAt}
 use Rattle.array.proofs.Over.{paste-over}
-use Rattle.array.proofs.Rows.{Left, left-next, left-more, left-ends}
+use Rattle.subset.proofs.Rows.{Left, left-next, left-more, left-ends}
 use Rattle.merge_stores.specs.Scatter.{scatter, places, fixedAt}
 use Rattle.merge_stores.proofs.Scattering.{scatter-next, places-append, places-run, Steps}
 

@@ -22,12 +22,12 @@ pub fn store_subset(
     requires { ⌜ StoreAsked (now shape) (now starts) (now lens) (now out) base size (now src) first ⌝ }
     ensures { λ _. ⌜ now (out .exit) ≡ scatter (now (out .entry)) (places (fixedAt base size) (cellsIn (now (shape .entry)) (pairs (now (starts .entry)) (now (lens .entry))))) (drop first (now (src .entry))) ⌝ }
 {
-    let cells = array::subset::volume_of(lens);
+    let cells = subset::volume_of(lens);
     let last = lens.len() - 1;
     let n = lens[last];
     let mut at: u64 = 0;
     while at < cells {
-        let a = array::subset::cell_at(shape, starts, lens, at);
+        let a = subset::cell_at(shape, starts, lens, at);
         let to = base + (a as usize) * size;
         let take = first + (at as usize) * size;
         let len = (n as usize) * size;
@@ -60,7 +60,7 @@ pub fn store_parts(
     while i < count {
         let mid = at + d;
         let end = mid + d;
-        let m = array::subset::volume_of(&subsets[mid..end]) as usize;
+        let m = subset::volume_of(&subsets[mid..end]) as usize;
         let first = pos + m * lead;
         store_subset(
             out,

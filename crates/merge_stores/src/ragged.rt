@@ -37,12 +37,12 @@ fn store_lengths(
     requires { ⌜ LengthsAsked (now shape) (now starts) (now lens) (now out) (now src) first ⌝ }
     ensures { λ _. ⌜ now (out .exit) ≡ scatter (now (out .entry)) (places (fixedAt 1 1) (cellsIn (now (shape .entry)) (pairs (now (starts .entry)) (now (lens .entry))))) (drop first (steps (now (src .entry)))) ⌝ }
 {
-    let cells = array::subset::volume_of(lens);
+    let cells = subset::volume_of(lens);
     let last = lens.len() - 1;
     let n = lens[last];
     let mut at: u64 = 0;
     while at < cells {
-        let a = array::subset::cell_at(shape, starts, lens, at) as usize;
+        let a = subset::cell_at(shape, starts, lens, at) as usize;
         let i = first + (at as usize);
         store_steps(out, 1 + a, src, i, n as usize);
         at += n;
@@ -62,7 +62,7 @@ fn store_lengths_all(out: &mut [u64], src: &[u64], shape: &[u64], subsets: &[u64
     while i < count {
         let mid = at + d;
         let end = mid + d;
-        let m = array::subset::volume_of(&subsets[mid..end]) as usize;
+        let m = subset::volume_of(&subsets[mid..end]) as usize;
         store_lengths(
             out,
             src,
@@ -109,12 +109,12 @@ fn store_ragged(
     ensures { λ _. ⌜ now (out .exit) ≡ scatter (now (out .entry)) (places (offsetAt (now (begins .entry))) (cellsIn (now (shape .entry)) (pairs (now (starts .entry)) (now (lens .entry)))))
         (drop (base + offsetAt (now (src .entry)) first) (now (values .entry))) ⌝ }
 {
-    let cells = array::subset::volume_of(lens);
+    let cells = subset::volume_of(lens);
     let last = lens.len() - 1;
     let n = lens[last];
     let mut at: u64 = 0;
     while at < cells {
-        let a = array::subset::cell_at(shape, starts, lens, at) as usize;
+        let a = subset::cell_at(shape, starts, lens, at) as usize;
         let to = begins[a] as usize;
         let i = first + (at as usize);
         let begin = src[i] as usize;
@@ -147,7 +147,7 @@ fn store_ragged_all(
     while i < count {
         let mid = at + d;
         let end = mid + d;
-        let m = array::subset::volume_of(&subsets[mid..end]) as usize;
+        let m = subset::volume_of(&subsets[mid..end]) as usize;
         store_ragged(
             out,
             begins,

@@ -13,7 +13,7 @@ use Rattle.array.specs.Subset.{pairs, cellsIn}
 use Rattle.array.specs.Offsets.{offsetsOf}
 use Rattle.array.specs.Buffers.{overAt}
 use Rattle.array.proofs.Offsets.{length-ends}
-use Rattle.array.proofs.Rows.{left-some, left-within}
+use Rattle.subset.proofs.Rows.{left-some, left-within}
 use Rattle.extract.specs.Places.{Rises, bytesAt, valueAt, valuesAt}
 use Rattle.extract.specs.Asked.{SubsetAsked}
 use Rattle.extract.proofs.Places.{bytes-long}

@@ -8,7 +8,6 @@ use array::kind::IndexPlace;
 use array::kind::IndexWidth;
 use array::refusal;
 use array::shape::Cells;
-use array::subset;
 use codec::vlen;
 use codec::vlen::Indexed;
 ghost use mathlib.Core.Path.{_≡_};
@@ -239,7 +238,7 @@ pub fn partial_decode(
     let Cells::Count(cells) = array::shape::shape_cells(shape) else {
         return WrittenRagged::Refused(refusal::SHAPE);
     };
-    if !array::subset::subset_fits(shape, subset) {
+    if !subset::subset_fits(shape, subset) {
         return WrittenRagged::Refused(refusal::SUBSET);
     }
     let checked = vlen::check_ragged(bytes, 0, cells, width, place);

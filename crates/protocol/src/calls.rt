@@ -3,12 +3,10 @@
 use array::answer::Written;
 use array::answer::WrittenArray;
 use array::answer::WrittenRagged;
-use array::endian;
 use array::kind;
 use array::kind::ByteOrder;
 use array::kind::IndexRead;
 use array::kind::KindRead;
-use array::subset;
 use interleaved::vlen_v2;
 use partial::vlen_partial;
 ghost use mathlib.Core.Path.{_≡_};

@@ -8,7 +8,7 @@ use native.Mathlib.Omega.{arith}
 use borrow.Author.Needs.{needs}
 use lib.ListN.{length}
 use Rattle.array.specs.Limits.{mostCells}
-use Rattle.array.proofs.Index.{few-shape}
+use Rattle.subset.proofs.Index.{few-shape}
 use Rattle.cover.specs.Bits.{marksOf}
 use Rattle.cover.specs.Marks.{allMarked}
 use Rattle.cover.proofs.BitLaws.{none-marked}

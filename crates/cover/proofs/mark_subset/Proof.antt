@@ -11,8 +11,8 @@ use lib.ListN.{length, getD}
 use Rattle.array.specs.Limits.{mostCells}
 use Rattle.array.specs.Shape.{volume}
 use Rattle.array.specs.Subset.{cellsIn, pairs}
-use Rattle.array.proofs.Index.{few-within, few-drop}
-use Rattle.array.proofs.Rows.{within-below, left-begins, left-within, left-room, left-some}
+use Rattle.subset.proofs.Index.{few-within, few-drop}
+use Rattle.subset.proofs.Rows.{within-below, left-begins, left-within, left-room, left-some}
 use Rattle.cover.specs.Bits.{marksOf}
 use Rattle.cover.proofs.Marking.{Marked, marked-begins, marked-ends, marked-more, marked-over}
 use Rattle.cover.proofs.mark_subset.Statement.{statement}

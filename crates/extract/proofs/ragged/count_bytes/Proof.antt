@@ -8,7 +8,7 @@ use lib.ListN.{length, getD}
 use Rattle.array.specs.Limits.{mostBytes}
 use Rattle.array.specs.Shape.{volume}
 use Rattle.array.specs.Subset.{pairs, cellsIn}
-use Rattle.array.proofs.Rows.{left-some, left-within, left-room}
+use Rattle.subset.proofs.Rows.{left-some, left-within, left-room}
 use Rattle.extract.specs.Places.{offsetAt}
 use Rattle.extract.proofs.Places.{run-rises, run-below}
 use Rattle.extract.proofs.Walk.{asked-left, asked-below, asked-lengths, asked-few, Summed, summed-begins, summed-more, summed-ends}

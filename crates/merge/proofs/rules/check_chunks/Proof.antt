@@ -10,7 +10,7 @@ use Rattle.array.specs.Limits.{mostCells}
 use Rattle.array.specs.Meaning.{formOf}
 use Rattle.array.specs.Shape.{volume}
 use Rattle.array.proofs.CheckLaws.{small-product}
-use Rattle.array.proofs.Index.{few-within, few-drop}
+use Rattle.subset.proofs.Index.{few-within, few-drop}
 use Rattle.array.proofs.SubsetLists.{startsAt, lengthsAt}
 use Rattle.cover.proofs.SubsetWalk.{next-room, now-within}
 use Rattle.merge.specs.Chunks.{chunkAnswer}

@@ -6,7 +6,7 @@ use mathlib.Core.List.{List}
 use native.Mathlib.Omega.{arith}
 use lib.ListN.{length}
 use Rattle.array.specs.Shape.{volume}
-use Rattle.array.proofs.Index.{few-within}
+use Rattle.subset.proofs.Index.{few-within}
 use Rattle.array.proofs.SubsetLists.{startsAt, lengthsAt}
 use Rattle.cover.proofs.SubsetWalk.{next-room, now-within}
 use Rattle.merge_stores.specs.Ragged.{offsetAt}

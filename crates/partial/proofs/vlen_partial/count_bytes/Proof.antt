@@ -9,7 +9,7 @@ use Rattle.array.specs.Limits.{mostBytes, mostCells}
 use Rattle.array.specs.Shape.{volume}
 use Rattle.array.specs.Subset.{pairs, cellsIn}
 use Rattle.array.specs.Meaning.{widthOf}
-use Rattle.array.proofs.Rows.{left-some, left-within, left-room}
+use Rattle.subset.proofs.Rows.{left-some, left-within, left-room}
 use Rattle.extract.proofs.Places.{run-rises, run-below}
 use Rattle.extract.proofs.Walk.{asked-left, asked-below, asked-lengths, asked-few, Summed, summed-begins, summed-more, summed-ends}
 use Rattle.partial.specs.Stored.{storedAt}

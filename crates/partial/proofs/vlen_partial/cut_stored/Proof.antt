@@ -13,7 +13,7 @@ use Rattle.array.specs.Offsets.{offsetsOf}
 use Rattle.array.specs.Content.{RaggedContent}
 use Rattle.array.specs.Meaning.{widthOf}
 use Rattle.array.specs.Outcome.{contentRagged}
-use Rattle.array.proofs.Index.{few-within}
+use Rattle.subset.proofs.Index.{few-within}
 use Rattle.extract.specs.Places.{valuesAt}
 use Rattle.extract.specs.Asked.{SubsetAsked}
 use Rattle.extract.proofs.Walk.{asked-few, asked-count}

@@ -1,0 +1,5 @@
+pub mod Runs
+pub mod Index
+pub mod Rows
+pub mod Fitting
+pub mod StoringCells

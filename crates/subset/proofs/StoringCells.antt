@@ -1,0 +1,100 @@
+-- Storing the cells of a subset row by row, and what the call answers.
+-- Assumes nothing.
+use mathlib.Core.Path.{_≡_, refl, sym, ap, ap₂, _∙_}
+use mathlib.Core.Bool.{Bool, true, false}
+use Prim.Native.Nat.{ℕ, suc, _+_, _-_, _<_, _≤_}
+use native.Mathlib.Nat.{add-zero, sub-zero, zero-add}
+use native.Mathlib.Omega.{arith}
+use mathlib.Core.List.{List, _∷_, _++_}
+use lib.ListN.{length, drop, getD, set}
+use lib.Dec.{leb}
+use borrow.Author.Tests.{le-leb, lt-leb}
+use Rattle.array.specs.Answer.{Answer, gives, refuses, unless, Outcome}
+use Rattle.array.specs.Lists.{from}
+use Rattle.array.specs.Shape.{shapeTest}
+use Rattle.array.specs.Subset.{Subset, subsetOf, numbersTest, cellsIn}
+use Rattle.array.specs.Buffers.{over, overAt, listOutcome}
+use Rattle.subset.specs.Calls.{cellsAnswer, subsetCells}
+use Rattle.array.proofs.Lists.{length-from}
+use Rattle.array.proofs.Laying.{Laying, laying-begins, laying-same, laying-ends, laying-part, laying-store, laying-is, laying-room}
+use Rattle.subset.proofs.Rows.{Left, left-next, left-more, left-ends}
+
+-- ---- one row: n neighbours from the cell a on, stored one by one
+
+abbrev pub RunLaid : List ℕ → ℕ → ℕ → ℕ → List ℕ → ℕ → Type 0
+RunLaid d at a n out i = Laying (from a n) d at out i (from (a + i) (n - i))
+
+run-next : (a n i : ℕ) → i < n → from (a + i) (n - i) ≡ (a + i) ∷ from (a + (i + 1)) (n - (i + 1))
+run-next a n i h =
+    let e : n - i ≡ suc (n - (i + 1)) = omega arith in
+    let q : suc (a + i) ≡ a + (i + 1) = omega arith in
+    ap (from (a + i)) e ∙ ap (λ (k : ℕ). (a + i) ∷ from k (n - (i + 1))) q
+
+pub run-begins : (d : List ℕ) (at a n : ℕ) → at + n ≤ length d → RunLaid d at a n d 0
+run-begins d at a n p = laying-is (laying-begins (from a n) d at (omega (arith, length-from a n))) (ap₂ from (sym (add-zero a)) (sym (sub-zero n)))
+
+module _ (d : List ℕ) (at a n : ℕ) (out : List ℕ) (i : ℕ) (l : RunLaid d at a n out i) where
+  pub run-same : length out ≡ length d
+  run-same = laying-same (from a n) d at out i (from (a + i) (n - i)) l
+
+  pub run-ends : n ≤ i → out ≡ overAt at (from a n) d
+  run-ends h = let e : n - i ≡ 0 = omega arith in laying-ends (from a n) d at out i (laying-is l (ap (from (a + i)) e))
+
+  module _ (h : i < n) where
+    pub run-room : at + i < length out
+    run-room = laying-room (from a n) d at out i (a + i) (from (a + (i + 1)) (n - (i + 1))) (laying-is l (run-next a n i h))
+
+    pub run-more : RunLaid d at a n (set out (at + i) (a + i)) (i + 1)
+    run-more = laying-store (from a n) d at out i (a + i) (from (a + (i + 1)) (n - (i + 1))) (laying-is l (run-next a n i h))
+
+-- ---- one row after another: those before `at` are stored
+
+pub record Stored (cs d out : List ℕ) (cells n at : ℕ) : Type 0 where
+  pub geo : Left cs cells n at
+  pub laid : Laying cs d 0 out at (drop at cs)
+
+pub stored-begins : (cs d : List ℕ) (cells n : ℕ) → Left cs cells n 0 → cells ≤ length d → Stored cs d d cells n 0
+stored-begins cs d cells n g h = record { geo = g; laid = laying-begins cs d 0 (omega (arith, g .whole)) }
+
+module _ (cs d out : List ℕ) (cells n at : ℕ) (s : Stored cs d out cells n at) where
+  pub stored-same : length out ≡ length d
+  stored-same = laying-same cs d 0 out at (drop at cs) (s .laid)
+
+  pub stored-ends : cells ≤ at → out ≡ over cs d
+  stored-ends h = laying-ends cs d 0 out at (laying-is (s .laid) (left-ends cs cells n at (s .geo) h))
+
+  pub stored-more : at < cells → (a : ℕ) (out′ : List ℕ) → a ≡ getD cs at 0 → out′ ≡ overAt at (from a n) out → Stored cs d out′ cells n (at + n)
+  stored-more h a out′ e r = record {
+    geo = left-more cs cells n at (s .geo) h;
+    laid = laying-part cs d 0 out at (from a n) (drop (at + n) cs)
+        (laying-is (s .laid) (left-next cs cells n at (s .geo) h ∙ ap (λ (k : ℕ). from k n ++ drop (at + n) cs) (sym e)))
+        out′ (r ∙ ap (λ (k : ℕ). overAt k (from a n) out) (sym (zero-add at)))
+        (at + n) (ap (λ (k : ℕ). at + k) (sym (length-from a n)));
+  }
+
+-- ---- the call: each refusal, and success
+
+module _ (sh ns out : List ℕ) where
+  abbrev after : Answer ℕ → List ℕ → Outcome ℕ (List ℕ)
+  after a b = record { answer = a; buffers = b }
+
+  answered : (a b c : Bool) → shapeTest sh ≡ a → numbersTest sh ns ≡ b → leb (length (cellsIn sh (subsetOf (length sh) ns))) (length out) ≡ c
+      → subsetCells sh ns out ≡ listOutcome (unless a 2 (unless b 3 (unless c 6 (gives (cellsIn sh (subsetOf (length sh) ns)))))) out
+  unfolding subsetCells cellsAnswer
+  answered a b c p q r = rw (p, q, r)
+
+  pub cells-no-shape : shapeTest sh ≡ false → after (refuses 2) out ≡ subsetCells sh ns out
+  cells-no-shape p = sym (answered false (numbersTest sh ns) (leb (length (cellsIn sh (subsetOf (length sh) ns))) (length out)) p refl refl)
+
+  module _ (p : shapeTest sh ≡ true) where
+    pub cells-no-subset : numbersTest sh ns ≡ false → after (refuses 3) out ≡ subsetCells sh ns out
+    cells-no-subset q = sym (answered true false (leb (length (cellsIn sh (subsetOf (length sh) ns))) (length out)) p q refl)
+
+    module _ (q : numbersTest sh ns ≡ true) (n : ℕ) (e : n ≡ length (cellsIn sh (subsetOf (length sh) ns))) where
+      pub cells-no-room : length out < n → after (refuses 6) out ≡ subsetCells sh ns out
+      cells-no-room h = sym (answered true true false p q (lt-leb (length (cellsIn sh (subsetOf (length sh) ns))) (length out) (omega arith)))
+
+      pub cells-stored : n ≤ length out → (b : Subset) → b ≡ subsetOf (length sh) ns → (out′ : List ℕ) → out′ ≡ over (cellsIn sh b) out → after (gives n) out′ ≡ subsetCells sh ns out
+      cells-stored h b g out′ r =
+          ap₂ (λ (k : ℕ) (o : List ℕ). after (gives k) o) e (r ∙ ap (λ (c : Subset). over (cellsIn sh c) out) g)
+          ∙ sym (answered true true true p q (le-leb (length (cellsIn sh (subsetOf (length sh) ns))) (length out) (omega arith)))
