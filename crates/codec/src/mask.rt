@@ -1,8 +1,10 @@
 // Masks: the only place that knows how a mask lies in bytes. A mask has one byte a cell.
+use array::copy;
 ghost use mathlib.Core.Path.{_≡_};
 ghost use mathlib.Core.List.{[], _∷_};
 ghost use Prim.Native.Nat.{_+_, _≤_, _<_};
-ghost use lib.ListN.{length, getD, take, drop};
+ghost use lib.ListN.{length, getD, set, take, drop};
+ghost use Rattle.array.specs.Buffers.{overAt};
 ghost use Rattle.array.specs.Cells.{markOf};
 ghost use Rattle.codec.specs.Mask.{byteMask};
 ghost use Rattle.codec.specs.Marks.{toldMark, setTest};
@@ -39,8 +41,40 @@ pub fn is_set(mask: &[u8], j: usize) -> bool
     }
 }
 
+// The byte of the cell j, of the stored mask at `at`.
+pub fn stored_byte(s: &[u8], at: usize, j: usize) -> u8
+    requires { ⌜ at + j < length (now s) ⌝ }
+    ensures { λ r. ⌜ r ≡ getD (now (s .entry)) (at + j) 0 ⌝ }
+{
+    s[at + j]
+}
+
+// Writes the byte of the cell j, of the stored mask at `at`.
+pub fn put_byte(out: &mut [u8], at: usize, j: usize, b: u8)
+    requires { ⌜ at + j < length (now out) ⌝ }
+    ensures { λ _. ⌜ now (out .exit) ≡ set (now (out .entry)) (at + j) b ⌝ }
+{
+    out[at + j] = b;
+}
+
+// Copies the bytes of all n cells of the stored mask at `at` into the plane at `to`.
+pub fn copy_to_plane(planes: &mut [u8], to: usize, s: &[u8], at: usize, n: usize)
+    requires { ⌜ (to + n ≤ length (now planes)) × (at + byteMask .size n ≤ length (now s)) ⌝ }
+    ensures { λ _. ⌜ now (planes .exit) ≡ overAt to (take n (drop at (now (s .entry)))) (now (planes .entry)) ⌝ }
+{
+    copy::copy_bytes(planes, to, s, at, n);
+}
+
+// Writes the stored mask of all n cells of the plane at `at`.
+pub fn put_plane(out: &mut [u8], to: usize, planes: &[u8], at: usize, n: usize)
+    requires { ⌜ (to + byteMask .size n ≤ length (now out)) × (at + n ≤ length (now planes)) ⌝ }
+    ensures { λ _. ⌜ now (out .exit) ≡ overAt to (byteMask .put (take n (drop at (now (planes .entry))))) (now (out .entry)) ⌝ }
+{
+    copy::copy_bytes(out, to, planes, at, n);
+}
+
 // 1 for a set byte, so that a count has no branch.
-fn one_if_set(b: u8) -> u8
+pub fn one_if_set(b: u8) -> u8
     ensures { λ r. ⌜ r ≡ countSet (b ∷ []) ⌝ }
 {
     let mark = mark_of(b);
