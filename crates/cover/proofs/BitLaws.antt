@@ -19,7 +19,7 @@ length-bits (suc k) w = ap suc (length-bits k (w / 2))
 
 -- ---- one word
 
-bit-at : (k w b : ℕ) → b < k → getD (bitsOf k w) b 0 ≡ w / 2 ^ b % 2
+pub bit-at : (k w b : ℕ) → b < k → getD (bitsOf k w) b 0 ≡ w / 2 ^ b % 2
 unfolding bitsOf
 bit-at zero w b h = absurd (omega arith)
 bit-at (suc k) w zero h = ap (λ (x : ℕ). x % 2) (sym (div-one w))
@@ -29,7 +29,7 @@ bit-at (suc k) w (suc b) h =
 even-next : (w : ℕ) → w % 2 ≡ 0 → ((w + 1) % 2 ≡ 1) × ((w + 1) / 2 ≡ w / 2)
 even-next w e = (omega arith, omega arith)
 
-bit-set : (k w b : ℕ) → b < k → getD (bitsOf k w) b 0 ≡ 0 → bitsOf k (w + 2 ^ b) ≡ set (bitsOf k w) b 1
+pub bit-set : (k w b : ℕ) → b < k → getD (bitsOf k w) b 0 ≡ 0 → bitsOf k (w + 2 ^ b) ≡ set (bitsOf k w) b 1
 unfolding bitsOf
 bit-set zero w b h e = absurd (omega arith)
 bit-set (suc k) w zero h e = ap₂ (λ (x : ℕ) (r : ℕ). x ∷ bitsOf k r) (even-next w e .0) (even-next w e .1)
@@ -38,7 +38,7 @@ bit-set (suc k) w (suc b) h e =
     ∙ ap₂ (λ (x : ℕ) (r : ℕ). x ∷ bitsOf k r) (add-mul-mod-self-left w 2 (2 ^ b)) (add-mul-div-left w (2 ^ b) (omega arith))
     ∙ ap (λ (r : List ℕ). w % 2 ∷ r) (bit-set k (w / 2) b (omega arith) e)
 
-bit-fits : (k w b : ℕ) → w < 2 ^ k → b < k → getD (bitsOf k w) b 0 ≡ 0 → w + 2 ^ b < 2 ^ k
+pub bit-fits : (k w b : ℕ) → w < 2 ^ k → b < k → getD (bitsOf k w) b 0 ≡ 0 → w + 2 ^ b < 2 ^ k
 unfolding bitsOf
 bit-fits zero w b l h e = absurd (omega arith)
 bit-fits (suc k) w zero l h e = omega (arith, pow-succ' 2 k)
@@ -57,7 +57,7 @@ set-append-add (x ∷ xs) ys n a =
 word-split : (w q b : ℕ) → suc q * 64 + b ≡ length (bitsOf 64 w) + (q * 64 + b)
 word-split w q b = omega (arith, length-bits 64 w)
 
-marks-at : (ws : List ℕ) (q b : ℕ) → q < length ws → b < 64 → getD (marksOf ws) (q * 64 + b) 0 ≡ getD (bitsOf 64 (getD ws q 0)) b 0
+pub marks-at : (ws : List ℕ) (q b : ℕ) → q < length ws → b < 64 → getD (marksOf ws) (q * 64 + b) 0 ≡ getD (bitsOf 64 (getD ws q 0)) b 0
 unfolding marksOf
 marks-at [] q b h l = absurd (omega arith)
 marks-at (w ∷ ws) zero b h l =
@@ -67,7 +67,7 @@ marks-at (w ∷ ws) (suc q) b h l =
     ap (λ (k : ℕ). getD (bitsOf 64 w ++ marksOf ws) k 0) (word-split w q b)
     ∙ getD-append-add (bitsOf 64 w) (marksOf ws) (q * 64 + b) 0 ∙ marks-at ws q b (omega arith) l
 
-marks-set : (ws : List ℕ) (q b w′ : ℕ) → q < length ws → b < 64 → bitsOf 64 w′ ≡ set (bitsOf 64 (getD ws q 0)) b 1
+pub marks-set : (ws : List ℕ) (q b w′ : ℕ) → q < length ws → b < 64 → bitsOf 64 w′ ≡ set (bitsOf 64 (getD ws q 0)) b 1
     → marksOf (set ws q w′) ≡ set (marksOf ws) (q * 64 + b) 1
 unfolding marksOf
 marks-set [] q b w′ h l e = absurd (omega arith)

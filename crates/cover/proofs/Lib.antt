@@ -1,5 +1,6 @@
 pub mod MarkRuns
 pub mod Once
 pub mod BitLaws
+pub mod RunBits
 pub mod SubsetWalk
 pub mod Marking

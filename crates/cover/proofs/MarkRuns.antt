@@ -1,16 +1,18 @@
--- Marking a run of cells, one cell at a time.
+-- Marking a run of cells, one cell or one word at a time.
 -- Assumes nothing.
-use mathlib.Core.Path.{_≡_, sym, ap, _∙_}
+use mathlib.Core.Path.{_≡_, refl, sym, ap, _∙_}
 use Prim.Native.Nat.{ℕ, suc, _+_, _-_, _<_, _≤_}
 use native.Mathlib.Omega.{arith}
 use native.Mathlib.Numerals.{add-one}
 use mathlib.Core.Bool.{Bool, true, false, _&&_}
-use mathlib.Core.List.{List, [], _∷_}
+use mathlib.Core.List.{List, [], _∷_, _++_}
 use lib.ListN.{getD, set}
 use lib.Dec.{eqb}
 use borrow.Author.Tests.{eq-eqb, ne-eqb}
 use Rattle.array.specs.Lists.{from, pick, every}
+use Rattle.array.proofs.Geometry.{from-append}
 use Rattle.cover.specs.Marks.{marking, allMarked}
+use Rattle.cover.proofs.Once.{marking-then}
 
 from-more : (i e : ℕ) → i < e → from i (e - i) ≡ i ∷ from (i + 1) (e - (i + 1))
 from-more i e h =
@@ -37,23 +39,48 @@ module _ (m : List ℕ) (i e : ℕ) where
   unfolding marking
   marking-end h = ap (marking m) (from-none i e h)
 
--- the cells from i up to n have the mark 1
-abbrev pub restMarked : List ℕ → ℕ → ℕ → Bool
-restMarked m i n = every (λ k. eqb (getD m k 0) 1) (from i (n - i))
+-- n cells at once
+module _ (m : List ℕ) (i n e : ℕ) (h : i + n ≤ e) where
+  from-run : from i (e - i) ≡ from i n ++ from (i + n) (e - (i + n))
+  from-run = from-append i n (e - (i + n)) (i + n) (e - i) refl (omega arith)
 
-pub rest-all : (m : List ℕ) (n : ℕ) → allMarked m n ≡ restMarked m 0 n
-unfolding allMarked
-rest-all m n = let q : n ≡ n - 0 = omega arith in ap (λ (k : ℕ). every (λ i. eqb (getD m i 0) 1) (from 0 k)) q
-
-module _ (m : List ℕ) (i n : ℕ) where
-  pub rest-more : i < n → getD m i 0 ≡ 1 → restMarked m i n ≡ restMarked m (i + 1) n
-  rest-more h z = ap (every (λ k. eqb (getD m k 0) 1)) (from-more i n h) ∙ ap (λ (b : Bool). b && restMarked m (i + 1) n) (eq-eqb (getD m i 0) 1 z)
-
-  pub rest-stop : i < n → (getD m i 0 ≡ 1 → ⊥) → restMarked m i n ≡ false
-  rest-stop h z = ap (every (λ k. eqb (getD m k 0) 1)) (from-more i n h) ∙ ap (λ (b : Bool). b && restMarked m (i + 1) n) (ne-eqb (getD m i 0) 1 z)
-
-  pub rest-end : n ≤ i → restMarked m i n ≡ true
-  rest-end h = ap (every (λ k. eqb (getD m k 0) 1)) (from-none i n h)
+  pub marking-run : (m′ : List ℕ) → (true, m′) ≡ marking m (from i n) → marking m (from i (e - i)) ≡ marking m′ (from (i + n) (e - (i + n)))
+  marking-run m′ r = ap (marking m) from-run ∙ marking-then m (from i n) (from (i + n) (e - (i + n))) m′ r
 
 pub run-begins : (m : List ℕ) (a n : ℕ) → marking m (from a n) ≡ marking m (from a (a + n - a))
 run-begins m a n = let q : n ≡ a + n - a = omega arith in ap (λ (k : ℕ). marking m (from a k)) q
+
+-- ---- whether all are marked
+
+-- the cells of a list have the mark 1
+abbrev pub markedAll : List ℕ → List ℕ → Bool
+markedAll m js = every (λ k. eqb (getD m k 0) 1) js
+
+-- the cells from i up to n have the mark 1
+abbrev pub restMarked : List ℕ → ℕ → ℕ → Bool
+restMarked m i n = markedAll m (from i (n - i))
+
+pub rest-all : (m : List ℕ) (n : ℕ) → allMarked m n ≡ restMarked m 0 n
+unfolding allMarked
+rest-all m n = let q : n ≡ n - 0 = omega arith in ap (λ (k : ℕ). markedAll m (from 0 k)) q
+
+every-append : (f : ℕ → Bool) (xs ys : List ℕ) → every f (xs ++ ys) ≡ every f xs && every f ys
+every-append f [] ys = refl
+every-append f (x ∷ xs) ys = go (f x) (every-append f xs ys)
+  where
+    go : (b : Bool) → every f (xs ++ ys) ≡ every f xs && every f ys → b && every f (xs ++ ys) ≡ (b && every f xs) && every f ys
+    go true e = e
+    go false e = refl
+
+module _ (m : List ℕ) (i k n : ℕ) (h : i + k ≤ n) where
+  rest-run : restMarked m i n ≡ markedAll m (from i k) && restMarked m (i + k) n
+  rest-run = ap (markedAll m) (from-run m i k n h) ∙ every-append (λ j. eqb (getD m j 0) 1) (from i k) (from (i + k) (n - (i + k)))
+
+  pub rest-more : markedAll m (from i k) ≡ true → restMarked m i n ≡ restMarked m (i + k) n
+  rest-more e = rest-run ∙ ap (λ (b : Bool). b && restMarked m (i + k) n) e
+
+  pub rest-stop : markedAll m (from i k) ≡ false → restMarked m i n ≡ false
+  rest-stop e = rest-run ∙ ap (λ (b : Bool). b && restMarked m (i + k) n) e
+
+pub rest-end : (m : List ℕ) (i n : ℕ) → n ≤ i → restMarked m i n ≡ true
+rest-end m i n h = ap (markedAll m) (from-none i n h)

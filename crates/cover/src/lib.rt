@@ -1,6 +1,7 @@
 // Whether each cell of a shape lies in exactly one subset of a list. Marks are bits, so that those of all cells take 8 KiB.
 ghost use mathlib.Core.Path.{_≡_};
-ghost use Prim.Native.Nat.{_+_, _≤_, _<_};
+ghost use mathlib.Core.Bool.{true};
+ghost use Prim.Native.Nat.{_+_, _-_, _%_, _^_, _≤_, _<_, min};
 ghost use lib.ListN.{length, getD, set};
 ghost use Rattle.array.specs.Lists.{from};
 ghost use Rattle.array.specs.Shape.{volume, ShapeOk};
@@ -8,7 +9,7 @@ ghost use Rattle.array.specs.Subset.{pairs, cellsIn, cellsOfAll};
 ghost use Rattle.array.specs.Rows.{Within, nextSubsets};
 ghost use Rattle.chunks.specs.Gather.{onceTest};
 ghost use Rattle.cover.specs.Marks.{marking, allMarked};
-ghost use Rattle.cover.specs.Bits.{marksOf, noWords};
+ghost use Rattle.cover.specs.Bits.{marksOf, bitsAt, noWords};
 ghost use Rattle.cover.specs.Asked.{SubsetsOk};
 
 // No cell is marked.
@@ -40,8 +41,8 @@ fn set_mark(words: &mut [u64], i: usize)
     words[k] = w + (1u64 << b);
 }
 
-// Marks cells that are neighbours, up to the first that is marked already; whether there was none.
-fn mark_run(words: &mut [u64], start: usize, len: usize) -> bool
+// Marks cells one by one, up to the first that is marked already; whether there was none.
+fn mark_cells(words: &mut [u64], start: usize, len: usize) -> bool
     requires { ⌜ (length (now words) ≡ 1024) × (start + len ≤ 65536) ⌝ }
     ensures { λ r. ⌜ (r, marksOf (now (words .exit))) ≡ marking (marksOf (now (words .entry))) (from start len) ⌝ }
 {
@@ -57,6 +58,67 @@ fn mark_run(words: &mut [u64], start: usize, len: usize) -> bool
     true
 }
 
+// How many cells from i on, and before `end`, have their marks in one word.
+fn in_word(i: usize, end: usize) -> usize
+    requires { ⌜ i < end ⌝ }
+    ensures { λ r. ⌜ r ≡ min (64 - i % 64) (end - i) ⌝ }
+{
+    let word = 64 - i % 64;
+    let run = end - i;
+    if word < run { word } else { run }
+}
+
+// n bits, all of them set.
+fn ones(n: usize) -> u64
+    requires { ⌜ (1 ≤ n) × (n ≤ 64) ⌝ }
+    ensures { λ r. ⌜ r ≡ 2 ^ n - 1 ⌝ }
+{
+    let s = (64 - n) as u64;
+    18446744073709551615u64 >> s
+}
+
+// The marks of n cells from i on, which lie in one word, as a number.
+fn marks_at(words: &[u64], i: usize, n: usize) -> u64
+    requires { ⌜ (length (now words) ≡ 1024) × (i < 65536) × (1 ≤ n) × (i % 64 + n ≤ 64) ⌝ }
+    ensures { λ r. ⌜ r ≡ bitsAt (now (words .entry)) i n ⌝ }
+{
+    let k = i / 64;
+    let b = (i % 64) as u64;
+    let s = (64 - n) as u64;
+    let w = words[k];
+    ((w >> b) << s) >> s
+}
+
+// Marks n cells from i on, which lie in one word and are not marked: so their bits are added.
+fn set_marks(words: &mut [u64], i: usize, n: usize)
+    requires { ⌜ (length (now words) ≡ 1024) × (i < 65536) × (1 ≤ n) × (i % 64 + n ≤ 64) × (bitsAt (now words) i n ≡ 0) ⌝ }
+    ensures { λ _. ⌜ (true, marksOf (now (words .exit))) ≡ marking (marksOf (now (words .entry))) (from i n) ⌝ }
+{
+    let k = i / 64;
+    let b = (i % 64) as u64;
+    let v = ones(n);
+    let w = words[k];
+    words[k] = w + (v << b);
+}
+
+// Marks cells that are neighbours, a word at a time, up to the first that is marked already; whether there was none.
+fn mark_run(words: &mut [u64], start: usize, len: usize) -> bool
+    requires { ⌜ (length (now words) ≡ 1024) × (start + len ≤ 65536) ⌝ }
+    ensures { λ r. ⌜ (r, marksOf (now (words .exit))) ≡ marking (marksOf (now (words .entry))) (from start len) ⌝ }
+{
+    let mut i = start;
+    let end = start + len;
+    while i < end {
+        let n = in_word(i, end);
+        if marks_at(words, i, n) != 0 {
+            return mark_cells(words, i, end - i);
+        }
+        set_marks(words, i, n);
+        i += n;
+    }
+    true
+}
+
 // Whether each of the first n cells is marked.
 fn all_marked(words: &[u64], n: usize) -> bool
     requires { ⌜ (length (now words) ≡ 1024) × (n ≤ 65536) ⌝ }
@@ -64,10 +126,11 @@ fn all_marked(words: &[u64], n: usize) -> bool
 {
     let mut i = 0;
     while i < n {
-        if mark_at(words, i) != 1 {
+        let k = in_word(i, n);
+        if marks_at(words, i, k) != ones(k) {
             return false;
         }
-        i += 1;
+        i += k;
     }
     true
 }

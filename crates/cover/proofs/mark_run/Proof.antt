@@ -1,14 +1,14 @@
 -- `mark_run` meets its contract: what is left to mark gives what the whole gives (proofs/MarkRuns).
 -- Assumes nothing.
-use Prim.Native.Nat.{ℕ, _≤_, _-_, _+_}
-use mathlib.Core.Path.{_≡_, sym, ap, _∙_}
-use mathlib.Core.List.{List}
+use Prim.Native.Nat.{ℕ, _≤_, _-_, _+_, _%_}
+use mathlib.Core.Path.{_≡_, sym, _∙_}
 use native.Mathlib.Omega.{arith}
 use lib.ListN.{length}
 use Rattle.array.specs.Lists.{from}
 use Rattle.cover.specs.Bits.{marksOf}
 use Rattle.cover.specs.Marks.{marking}
-use Rattle.cover.proofs.MarkRuns.{marking-more, marking-stop, marking-end, run-begins}
+use Rattle.cover.proofs.MarkRuns.{marking-run, marking-end, run-begins}
+use Rattle.cover.proofs.RunBits.{in-word}
 use Rattle.cover.proofs.mark_run.Statement.{statement}
 use Rattle.cover.proofs.mark_run.Tie as tie
 
@@ -27,37 +27,57 @@ loop-holds c =
     let a = c .before in
     (omega arith, omega arith, a .pre .0, a .pre .0, run-begins (marksOf (a .args .words .now)) (a .args .start) (a .args .len))
 
-mark-at-requires : tie.Need-mark-at-requires Inv-loop μ-loop
-mark-at-requires c κs = (c .before .before .loop .inv .3, omega arith)
+-- where a word's cells are counted; the loop's head before it, and where the run ends
+abbrev Word : Type 0
+Word = tie.After-in-word Inv-loop μ-loop
+
+abbrev head : Word → tie.At-loop Inv-loop μ-loop
+head w = w .before .before
+
+abbrev stop : tie.At-loop Inv-loop μ-loop → ℕ
+stop l = l .before .before .args .start + l .before .before .args .len
+
+inside : (w : Word) → (1 ≤ w .in-word .result) × (head w .loop .i % 64 + w .in-word .result ≤ 64) × (head w .loop .i + w .in-word .result ≤ stop (head w))
+inside w = let l = head w in in-word (l .loop .i) (stop l) (w .in-word .result) (omega arith) (w .in-word .ensures)
+
+in-word-requires : tie.Need-in-word-requires Inv-loop μ-loop
+in-word-requires c κs = omega arith
+
+marks-at-requires : tie.Need-marks-at-requires Inv-loop μ-loop
+marks-at-requires c κs = let w = c .before in (head w .loop .inv .3, omega arith, inside w .0, inside w .1)
+
+sub-mark-cells : tie.Need-sub-mark-cells Inv-loop μ-loop
+sub-mark-cells c = omega arith
+
+mark-cells-requires : tie.Need-mark-cells-requires Inv-loop μ-loop
+mark-cells-requires c κs = (head (c .before .before .before .before) .loop .inv .3, omega arith)
 
 same-length : tie.Need-same-length Inv-loop μ-loop
-same-length c = omega arith
+same-length c = let l = head (c .before .before .before .before .before .before .before) in c .before .before .mark-cells .kept .0 ∙ l .loop .inv .3 ∙ sym (l .loop .inv .2)
 
 returns : tie.Need-returns Inv-loop μ-loop
-returns c =
-    let l = c .before .before .before .before in
-    sym (l .loop .inv .4 ∙ marking-stop (marksOf (l .loop .words)) (l .loop .i) (l .before .before .args .start + l .before .before .args .len) (omega arith) (λ e. omega (arith, e, c .before .mark-at .ensures, c .if1 .taken)))
+returns c = c .before .before .mark-cells .ensures ∙ sym (head (c .before .before .before .before .before .before .before) .loop .inv .4)
 
-set-mark-requires : tie.Need-set-mark-requires Inv-loop μ-loop
-set-mark-requires c κs =
-    let l = c .before .before .before .before .before in
-    (l .loop .inv .3, omega arith, omega (arith, c .before .before .mark-at .ensures, c .before .if1 .left))
+set-marks-requires : tie.Need-set-marks-requires Inv-loop μ-loop
+set-marks-requires c κs =
+    let w = c .before .before .before .before in
+    (head w .loop .inv .3, omega arith, inside w .0, inside w .1, omega (arith, c .before .before .marks-at .ensures, c .before .if1 .left))
 
 add-i : tie.Need-add-i Inv-loop μ-loop
-add-i c = omega arith
+add-i c = omega (arith, inside (c .before .before .before .before .before .before .before) .2)
 
 loop-less : tie.Need-loop-less Inv-loop μ-loop
-loop-less c = omega arith
+loop-less c = let w = c .before .before .before .before .before .before .before in omega (arith, inside w .0, inside w .2)
 
 loop-again : tie.Need-loop-again Inv-loop μ-loop
 loop-again c =
-    let l = c .before .before .before .before .before .before .before .before in (
-      omega arith,
+    let w = c .before .before .before .before .before .before .before in
+    let l = head w in (
+      inside w .2,
       omega arith,
       l .loop .inv .2,
-      c .before .before .set-mark .kept .0 ∙ l .loop .inv .3,
-      l .loop .inv .4 ∙ marking-more (marksOf (l .loop .words)) (l .loop .i) (l .before .before .args .start + l .before .before .args .len) (omega arith) (omega (arith, c .before .before .before .before .before .mark-at .ensures, c .before .before .before .before .if1 .left))
-          ∙ ap (λ (x : List ℕ). marking x (from (l .loop .i + 1) (l .before .before .args .start + l .before .before .args .len - (l .loop .i + 1)))) (sym (c .before .before .set-mark .ensures)),
+      c .before .before .set-marks .kept .0 ∙ l .loop .inv .3,
+      l .loop .inv .4 ∙ marking-run (marksOf (l .loop .words)) (l .loop .i) (w .in-word .result) (stop l) (inside w .2) (marksOf (c .before .before .set-marks .last .0)) (c .before .before .set-marks .ensures),
     )
 
 same-length-2 : tie.Need-same-length-2 Inv-loop μ-loop
@@ -66,7 +86,7 @@ same-length-2 c = omega arith
 returns-2 : tie.Need-returns-2 Inv-loop μ-loop
 returns-2 c =
     let l = c .before in
-    sym (l .loop .inv .4 ∙ marking-end (marksOf (l .loop .words)) (l .loop .i) (l .before .before .args .start + l .before .before .args .len) (omega arith))
+    sym (l .loop .inv .4 ∙ marking-end (marksOf (l .loop .words)) (l .loop .i) (stop l) (omega arith))
 
 pub mark-run-spec : {M : Type 1} → statement M
 mark-run-spec =
@@ -76,10 +96,13 @@ mark-run-spec =
     μ-loop
     add-end
     loop-holds
-    mark-at-requires
+    in-word-requires
+    marks-at-requires
+    sub-mark-cells
+    mark-cells-requires
     same-length
     returns
-    set-mark-requires
+    set-marks-requires
     add-i
     loop-less
     loop-again
