@@ -1,0 +1,209 @@
+// A table as a line of text, and what is run on it.
+use crate::show;
+use crate::way;
+use array::answer::WrittenArray;
+use array::kind;
+use array::kind::Kind;
+use array::kind::KindRead;
+use protocol::calls::number_at;
+use protocol::request;
+use protocol::request::Fields;
+use protocol::request::Parsed;
+use text::scan;
+use text::scan::part_of_bytes;
+use text::scan::part_of_numbers;
+
+// The lists before the semicolon.
+fn table_fields() -> Fields {
+    Fields {
+        head: 4,
+        shape: true,
+        subset: true,
+        masks: true,
+        values: true,
+        offsets: true,
+        rooms: 0,
+        out_masks: true,
+        out_values: true,
+        out_offsets: true,
+    }
+}
+
+// The one list behind it.
+fn cut_fields() -> Fields {
+    Fields {
+        head: 0,
+        shape: false,
+        subset: true,
+        masks: false,
+        values: false,
+        offsets: false,
+        rooms: 0,
+        out_masks: true,
+        out_values: true,
+        out_offsets: true,
+    }
+}
+
+// Cuts a subset from an outcome.
+fn cut(kind: Kind, shape: &[u64], subset: &[u64], masks: &[u8], values: &[u8], offsets: &[u64]) {
+    let mut cut_masks = way::mask_space();
+    let mut cut_values = way::byte_space();
+    let mut cut_offsets = way::number_space();
+    let answer = extract::extract(
+        kind,
+        shape,
+        subset,
+        masks,
+        values,
+        offsets,
+        &mut cut_masks,
+        &mut cut_values,
+        &mut cut_offsets,
+    );
+    show::write_answer(subset, answer, &cut_masks, &cut_values, &cut_offsets);
+}
+
+// Cuts each subset of a list from it.
+fn cut_each(kind: Kind, shape: &[u64], cuts: &[u64], masks: &[u8], values: &[u8], offsets: &[u64]) {
+    let numbers = way::numbers_of_subset(shape);
+    let mut at = 0;
+    while at < cuts.len() {
+        let end = at + numbers;
+        cut(
+            kind,
+            shape,
+            part_of_numbers(cuts, at, end),
+            masks,
+            values,
+            offsets,
+        );
+        at = end;
+    }
+}
+
+// The outcome shown, and what is cut from it.
+fn show_outcome(
+    answer: WrittenArray,
+    kind: Kind,
+    shape: &[u64],
+    cuts: &[u64],
+    masks: &[u8],
+    values: &[u8],
+    offsets: &[u64],
+) {
+    show::write_answer(part_of_numbers(shape, 0, 0), answer, masks, values, offsets);
+    match answer {
+        WrittenArray::Refused(_) => {}
+        WrittenArray::Lengths(m, v, o) => cut_each(
+            kind,
+            shape,
+            cuts,
+            part_of_bytes(masks, 0, m),
+            part_of_bytes(values, 0, v),
+            part_of_numbers(offsets, 0, o),
+        ),
+    }
+}
+
+// The whole way of a table, and the cuts from its outcome.
+fn run_way(
+    kind: Kind,
+    shape: &[u64],
+    subsets: &[u64],
+    masks: &[u8],
+    values: &[u8],
+    offsets: &[u64],
+    cuts: &[u64],
+) {
+    let mut out_masks = way::mask_space();
+    let mut out_values = way::byte_space();
+    let mut out_offsets = way::number_space();
+    let answer = way::whole_way(
+        kind,
+        shape,
+        subsets,
+        masks,
+        values,
+        offsets,
+        &mut out_masks,
+        &mut out_values,
+        &mut out_offsets,
+    );
+    show_outcome(
+        answer,
+        kind,
+        shape,
+        cuts,
+        &out_masks,
+        &out_values,
+        &out_offsets,
+    );
+}
+
+// The kind that the head says.
+fn head_kind(head: &[u64]) -> KindRead {
+    kind::kind_from_numbers(
+        number_at(head, 0),
+        number_at(head, 1),
+        number_at(head, 2),
+        number_at(head, 3),
+        0,
+    )
+}
+
+// The same behind the table's title.
+fn run_titled(
+    number: u64,
+    head: &[u64],
+    shape: &[u64],
+    subsets: &[u64],
+    masks: &[u8],
+    values: &[u8],
+    offsets: &[u64],
+    cuts: &[u64],
+) {
+    show::write_title(number, head);
+    match head_kind(head) {
+        KindRead::Refused(_) => show::write_line(b"bad kind"),
+        KindRead::Kind(kind) => run_way(kind, shape, subsets, masks, values, offsets, cuts),
+    }
+}
+
+// The same, where both parts of its line could be read.
+fn run_parsed(
+    number: u64,
+    table: Parsed,
+    list: Parsed,
+    numbers: &[u64],
+    bytes: &[u8],
+    cuts: &[u64],
+) {
+    let Parsed::Request(t) = table else {
+        return show::write_line(b"bad line");
+    };
+    let Parsed::Request(c) = list else {
+        return show::write_line(b"bad line");
+    };
+    run_titled(
+        number,
+        part_of_numbers(numbers, 0, t.shape),
+        part_of_numbers(numbers, t.shape, t.subset),
+        part_of_numbers(numbers, t.subset, t.offsets),
+        part_of_bytes(bytes, 0, t.values),
+        part_of_bytes(bytes, t.values, t.bytes),
+        part_of_numbers(numbers, t.offsets, t.rooms),
+        part_of_numbers(cuts, c.subset, c.offsets),
+    )
+}
+
+// Reads the table of a line, and runs the whole way of it.
+pub fn run_table(number: u64, line: &[u8]) {
+    let mut numbers = way::number_space();
+    let mut bytes = way::byte_space();
+    let mut cuts = way::number_space();
+    let end = scan::find(line, 0, b';', b';');
+    let table = request::parse(&line[0..end], table_fields(), &mut numbers, &mut bytes);
+    let list = request::parse(&line[end..], cut_fields(), &mut cuts, &mut bytes);
+    run_parsed(number, table, list, &numbers, &bytes, &cuts);
+}
