@@ -234,8 +234,7 @@ def joined(parts):
 
 def told(kind, cells):
     planes, values, offsets = content(kind, cells)
-    masks = sum(planes, [])
-    return f"ok {len(masks)},{len(values)},{len(offsets)}: {hexes(masks)} {hexes(values)} {decimals(offsets)}"
+    return f"{hexes(sum(planes, []))} {hexes(values)} {decimals(offsets)}"
 
 
 # ---- the tables
