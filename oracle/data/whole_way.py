@@ -116,7 +116,7 @@ def grown(shape, pick):
         starts = list(pick(sorted(free)))
         lengths = [1] * len(shape)
         for side in rng.sample(range(len(shape)), len(shape)):
-            while rng.random() < 0.65:
+            while rng.random() < 0.6:
                 longer = list(lengths)
                 longer[side] += 1
                 if not inside(starts, longer) <= free:
@@ -138,6 +138,14 @@ def shuffled(shape):
 
 
 COVERS = (one, each, strips, uneven, shuffled)
+
+
+def covering(cover, shape, least):
+    """So many subsets or more."""
+    while True:
+        subsets = cover(shape)
+        if len(subsets) >= least:
+            return subsets
 
 
 # ---- subsets to cut from the outcome: all, one cell, some, none
@@ -234,8 +242,7 @@ def joined(parts):
 
 def told(kind, cells):
     planes, values, offsets = content(kind, cells)
-    masks = sum(planes, [])
-    return f"ok {len(masks)},{len(values)},{len(offsets)}: {hexes(masks)} {hexes(values)} {decimals(offsets)}"
+    return f"{hexes(sum(planes, []))} {hexes(values)} {decimals(offsets)}"
 
 
 # ---- the tables
@@ -273,17 +280,26 @@ REFUSED = [
 ]
 
 
+HEAD = [
+    "# Tables of every kind, five of each: cut into one subset, one for each cell, strips, uneven ones, uneven ones in any order.",
+    "# A table a line. Printed are its outcome, and what is cut from that: all, one cell, some cells, none.",
+    "# Lists are masks before values before offsets.",
+    "#",
+]
+
+
 def main():
-    asked, given, differ, number = [], [], 0, 0
+    asked, given, differ, number = list(HEAD), list(HEAD), 0, 0
     for i, kind in enumerate(kinds()):
         asked.append("# " + in_words(kind))
         given.append(asked[-1])
         most = 24 if kind[1] or kind[2] <= 4 else 12 if kind[2] <= 16 else 6
         for j, cover in enumerate(COVERS):
-            shape = rng.choice([s for s in SHAPES[1 + (i + j) % 4] if math.prod(s) <= most])
+            least = 1 if cover is one else 2
+            shape = rng.choice([s for s in SHAPES[1 + (i + j) % 4] if least <= math.prod(s) <= most])
             cells = draw_cells(kind, math.prod(shape), STYLES[(i + j) % 5])
             before = bytes(rng.randint(1, 255) for _ in range(rng.choice((0, 0, 1, 3)))) if kind[1] else b""
-            subsets = cover(shape)
+            subsets = covering(cover, shape, least)
             cuts = [one(shape)[0], cell(shape), some(shape), none(shape)]
             number += 1
             asked.append(request(kind, shape, subsets, cells, before, cuts))

@@ -29,7 +29,8 @@ fn run_line(number: u64, line: &[u8]) -> u64 {
         return number;
     }
     if line[0] == b'#' {
-        show::write_line(line);
+        show::write_text(line);
+        show::write_text(b"\n");
         return number;
     }
     let next = num::wrapping_add_u64(number, 1);

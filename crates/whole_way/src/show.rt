@@ -5,137 +5,78 @@ use text::print;
 use text::scan::part_of_bytes;
 use text::scan::part_of_numbers;
 ghost use mathlib.Core.Path.{_≡_};
-ghost use Prim.Native.Nat.{_≤_};
 ghost use lib.ListN.{length};
-ghost use Rattle.text.specs.Scan.{Onward};
 
-// Room for a line.
-fn text_space() -> [u8; 32768]
-    ensures { λ r. ⌜ 32768 ≡ length r ⌝ }
+// Room for the text of a list.
+fn text_space() -> [u8; 16384]
+    ensures { λ r. ⌜ 16384 ≡ length r ⌝ }
 {
-    [0; 32768]
+    [0; 16384]
 }
 
-pub fn write_line(line: &[u8]) {
-    io::write_all(STDOUT_FILENO, line);
-    io::write_all(STDOUT_FILENO, b"\n");
+pub fn write_text(text: &[u8]) {
+    io::write_all(STDOUT_FILENO, text);
+}
+
+fn write_bytes(s: &[u8]) {
+    let mut text = text_space();
+    let n = print::put_bytes(&mut text, 0, s);
+    write_text(part_of_bytes(&text, 0, n));
+}
+
+fn write_numbers(s: &[u64]) {
+    let mut text = text_space();
+    let n = print::put_numbers(&mut text, 0, s);
+    write_text(part_of_bytes(&text, 0, n));
 }
 
 // The number of a table and the numbers of its kind.
-fn write_title_in(text: &mut [u8], number: u64, kind: &[u64]) {
-    let mut to = print::put_number(text, 0, number);
-    to = print::put_text(text, to, b": kind ");
-    let n = print::put_numbers(text, to, kind);
-    write_line(&text[0..n]);
-}
-
 pub fn write_title(number: u64, kind: &[u64]) {
-    let mut text = text_space();
-    write_title_in(&mut text, number, kind);
+    io::print_decimal(STDOUT_FILENO, number);
+    write_text(b": kind ");
+    write_numbers(kind);
+    write_text(b"\n");
 }
 
-// The lengths that success names.
-fn put_lengths(text: &mut [u8], at: usize, m: usize, v: usize, o: usize) -> usize
-    requires { ⌜ at ≤ length (now text) ⌝ }
-    ensures { λ r. ⌜ Onward at r (length (now (text .entry))) ⌝ }
-{
-    let mut to = print::put_number(text, at, m as u64);
-    to = print::put_byte(text, to, b',');
-    to = print::put_number(text, to, v as u64);
-    to = print::put_byte(text, to, b',');
-    print::put_number(text, to, o as u64)
+fn write_lists(masks: &[u8], values: &[u8], offsets: &[u64]) {
+    write_bytes(masks);
+    write_text(b" ");
+    write_bytes(values);
+    write_text(b" ");
+    write_numbers(offsets);
+    write_text(b"\n");
 }
 
-// The lists up to them.
-fn put_lists(text: &mut [u8], at: usize, masks: &[u8], values: &[u8], offsets: &[u64]) -> usize
-    requires { ⌜ at ≤ length (now text) ⌝ }
-    ensures { λ r. ⌜ Onward at r (length (now (text .entry))) ⌝ }
-{
-    let mut to = print::put_bytes(text, at, masks);
-    to = print::put_byte(text, to, b' ');
-    to = print::put_bytes(text, to, values);
-    to = print::put_byte(text, to, b' ');
-    print::put_numbers(text, to, offsets)
-}
-
-fn put_array(
-    text: &mut [u8],
-    at: usize,
-    m: usize,
-    v: usize,
-    o: usize,
-    masks: &[u8],
-    values: &[u8],
-    offsets: &[u64],
-) -> usize
-    requires { ⌜ at ≤ length (now text) ⌝ }
-    ensures { λ r. ⌜ Onward at r (length (now (text .entry))) ⌝ }
-{
-    let mut to = print::put_text(text, at, b"ok ");
-    to = put_lengths(text, to, m, v, o);
-    to = print::put_text(text, to, b": ");
-    put_lists(
-        text,
-        to,
-        part_of_bytes(masks, 0, m),
-        part_of_bytes(values, 0, v),
-        part_of_numbers(offsets, 0, o),
-    )
-}
-
-fn put_answer(
-    text: &mut [u8],
-    at: usize,
-    answer: WrittenArray,
-    masks: &[u8],
-    values: &[u8],
-    offsets: &[u64],
-) -> usize
-    requires { ⌜ at ≤ length (now text) ⌝ }
-    ensures { λ r. ⌜ Onward at r (length (now (text .entry))) ⌝ }
-{
+// The lists up to the lengths that success names, or the number of the refusal.
+fn write_answer(answer: WrittenArray, masks: &[u8], values: &[u8], offsets: &[u64]) {
     match answer {
         WrittenArray::Refused(e) => {
-            let to = print::put_text(text, at, b"refused ");
-            print::put_number(text, to, e as u64)
+            write_text(b"refused ");
+            io::print_decimal(STDOUT_FILENO, e as u64);
+            write_text(b"\n");
         }
-        WrittenArray::Lengths(m, v, o) => put_array(text, at, m, v, o, masks, values, offsets),
+        WrittenArray::Lengths(m, v, o) => write_lists(
+            part_of_bytes(masks, 0, m),
+            part_of_bytes(values, 0, v),
+            part_of_numbers(offsets, 0, o),
+        ),
     }
 }
 
-// The outcome, or the cut of a subset from it.
-fn put_label(text: &mut [u8], subset: &[u64]) -> usize
-    ensures { λ r. ⌜ Onward 0 r (length (now (text .entry))) ⌝ }
-{
-    if subset.len() == 0 {
-        return print::put_text(text, 0, b"outcome: ");
-    }
-    let mut to = print::put_text(text, 0, b"cut ");
-    to = print::put_numbers(text, to, subset);
-    print::put_text(text, to, b": ")
+pub fn write_outcome(answer: WrittenArray, masks: &[u8], values: &[u8], offsets: &[u64]) {
+    write_text(b"outcome: ");
+    write_answer(answer, masks, values, offsets);
 }
 
-fn write_answer_in(
-    text: &mut [u8],
+pub fn write_cut(
     subset: &[u64],
     answer: WrittenArray,
     masks: &[u8],
     values: &[u8],
     offsets: &[u64],
 ) {
-    let to = put_label(text, subset);
-    let n = put_answer(text, to, answer, masks, values, offsets);
-    write_line(&text[0..n]);
-}
-
-// An answer and the outputs up to the lengths that it names, behind the subset that was cut; no subset stands for the outcome.
-pub fn write_answer(
-    subset: &[u64],
-    answer: WrittenArray,
-    masks: &[u8],
-    values: &[u8],
-    offsets: &[u64],
-) {
-    let mut text = text_space();
-    write_answer_in(&mut text, subset, answer, masks, values, offsets);
+    write_text(b"cut ");
+    write_numbers(subset);
+    write_text(b": ");
+    write_answer(answer, masks, values, offsets);
 }

@@ -13,31 +13,15 @@ use text::scan;
 use text::scan::part_of_bytes;
 use text::scan::part_of_numbers;
 
-// The lists before the semicolon.
-fn table_fields() -> Fields {
+// The lists of a table before the semicolon; behind it the one list of cuts.
+fn fields(table: bool) -> Fields {
     Fields {
-        head: 4,
-        shape: true,
+        head: if table { 4 } else { 0 },
+        shape: table,
         subset: true,
-        masks: true,
-        values: true,
-        offsets: true,
-        rooms: 0,
-        out_masks: true,
-        out_values: true,
-        out_offsets: true,
-    }
-}
-
-// The one list behind it.
-fn cut_fields() -> Fields {
-    Fields {
-        head: 0,
-        shape: false,
-        subset: true,
-        masks: false,
-        values: false,
-        offsets: false,
+        masks: table,
+        values: table,
+        offsets: table,
         rooms: 0,
         out_masks: true,
         out_values: true,
@@ -61,7 +45,7 @@ fn cut(kind: Kind, shape: &[u64], subset: &[u64], masks: &[u8], values: &[u8], o
         &mut cut_values,
         &mut cut_offsets,
     );
-    show::write_answer(subset, answer, &cut_masks, &cut_values, &cut_offsets);
+    show::write_cut(subset, answer, &cut_masks, &cut_values, &cut_offsets);
 }
 
 // Cuts each subset of a list from it.
@@ -92,7 +76,7 @@ fn show_outcome(
     values: &[u8],
     offsets: &[u64],
 ) {
-    show::write_answer(part_of_numbers(shape, 0, 0), answer, masks, values, offsets);
+    show::write_outcome(answer, masks, values, offsets);
     match answer {
         WrittenArray::Refused(_) => {}
         WrittenArray::Lengths(m, v, o) => cut_each(
@@ -165,7 +149,7 @@ fn run_titled(
 ) {
     show::write_title(number, head);
     match head_kind(head) {
-        KindRead::Refused(_) => show::write_line(b"bad kind"),
+        KindRead::Refused(_) => show::write_text(b"bad kind\n"),
         KindRead::Kind(kind) => run_way(kind, shape, subsets, masks, values, offsets, cuts),
     }
 }
@@ -180,10 +164,10 @@ fn run_parsed(
     cuts: &[u64],
 ) {
     let Parsed::Request(t) = table else {
-        return show::write_line(b"bad line");
+        return show::write_text(b"bad line\n");
     };
     let Parsed::Request(c) = list else {
-        return show::write_line(b"bad line");
+        return show::write_text(b"bad line\n");
     };
     run_titled(
         number,
@@ -203,7 +187,7 @@ pub fn run_table(number: u64, line: &[u8]) {
     let mut bytes = way::byte_space();
     let mut cuts = way::number_space();
     let end = scan::find(line, 0, b';', b';');
-    let table = request::parse(&line[0..end], table_fields(), &mut numbers, &mut bytes);
-    let list = request::parse(&line[end..], cut_fields(), &mut cuts, &mut bytes);
+    let table = request::parse(&line[0..end], fields(true), &mut numbers, &mut bytes);
+    let list = request::parse(&line[end..], fields(false), &mut cuts, &mut bytes);
     run_parsed(number, table, list, &numbers, &bytes, &cuts);
 }

@@ -145,41 +145,9 @@ fn one_way(
     )
 }
 
-// The way of one subset, its chunk read behind those that reach to `m`, `v` and `o`; how far they reach now.
-fn one_behind(
-    m: usize,
-    v: usize,
-    o: usize,
-    kind: Kind,
-    shape: &[u64],
-    subset: &[u64],
-    masks: &[u8],
-    values: &[u8],
-    offsets: &[u64],
-    chunk_masks: &mut [u8],
-    chunk_values: &mut [u8],
-    chunk_offsets: &mut [u64],
-) -> WrittenArray {
-    if m > chunk_masks.len() {
-        return WrittenArray::Refused(refusal::OUTPUT);
-    }
-    if v > chunk_values.len() {
-        return WrittenArray::Refused(refusal::OUTPUT);
-    }
-    if o > chunk_offsets.len() {
-        return WrittenArray::Refused(refusal::OUTPUT);
-    }
-    match one_way(
-        kind,
-        shape,
-        subset,
-        masks,
-        values,
-        offsets,
-        &mut chunk_masks[m..],
-        &mut chunk_values[v..],
-        &mut chunk_offsets[o..],
-    ) {
+// How far chunks reach with one more.
+fn reach_with(m: usize, v: usize, o: usize, chunk: WrittenArray) -> WrittenArray {
+    match chunk {
         WrittenArray::Refused(e) => WrittenArray::Refused(e),
         WrittenArray::Lengths(a, b, c) => WrittenArray::Lengths(
             num::wrapping_add_usize(m, a),
@@ -189,7 +157,7 @@ fn one_behind(
     }
 }
 
-// The same, unless a subset before it was refused.
+// The way of one subset, its chunk read behind those that reach so far; how far they reach now. A refusal stays.
 fn next_chunk(
     reach: WrittenArray,
     kind: Kind,
@@ -202,23 +170,30 @@ fn next_chunk(
     chunk_values: &mut [u8],
     chunk_offsets: &mut [u64],
 ) -> WrittenArray {
-    match reach {
-        WrittenArray::Refused(e) => WrittenArray::Refused(e),
-        WrittenArray::Lengths(m, v, o) => one_behind(
-            m,
-            v,
-            o,
-            kind,
-            shape,
-            subset,
-            masks,
-            values,
-            offsets,
-            chunk_masks,
-            chunk_values,
-            chunk_offsets,
-        ),
+    let WrittenArray::Lengths(m, v, o) = reach else {
+        return reach;
+    };
+    if m > chunk_masks.len() {
+        return WrittenArray::Refused(refusal::OUTPUT);
     }
+    if v > chunk_values.len() {
+        return WrittenArray::Refused(refusal::OUTPUT);
+    }
+    if o > chunk_offsets.len() {
+        return WrittenArray::Refused(refusal::OUTPUT);
+    }
+    let chunk = one_way(
+        kind,
+        shape,
+        subset,
+        masks,
+        values,
+        offsets,
+        &mut chunk_masks[m..],
+        &mut chunk_values[v..],
+        &mut chunk_offsets[o..],
+    );
+    reach_with(m, v, o, chunk)
 }
 
 // How many numbers a subset has: a start and a length a side. A shape outside the rules, which every call refuses, counts as one side.
