@@ -1,12 +1,12 @@
 -- Lists: a rule for every element, map, pieces laid end to end and taken apart again.
 -- Assumes nothing.
 use mathlib.Core.Path.{_≡_, refl, sym, ap, ap₂, _∙_}
-use Prim.Native.Nat.{ℕ, zero, suc, _+_, _*_}
+use Prim.Native.Nat.{ℕ, zero, suc, _+_, _*_, _≤_}
 use native.Mathlib.Nat.{zero-mul, suc-mul, add-comm}
 use native.Mathlib.Omega.{arith}
-use mathlib.Core.List.{List, [], _∷_, _++_, map}
+use mathlib.Core.List.{List, [], _∷_, _++_, map, append-assoc}
 use lib.ListN.{length, take, drop, getD, length-append, length-drop, take-append-drop}
-use lib.Seq.{take-at, drop-at, length-take-le}
+use lib.Seq.{take-at, drop-at, take-take, length-take-le}
 use Rattle.array.specs.Lists.{from, joined, pieces, All}
 
 module _ {A : Type 0} where
@@ -84,3 +84,15 @@ map-id {A} (x ∷ xs) = ap (λ (r : List A). x ∷ r) (map-id xs)
 pub length-from : (a n : ℕ) → length (from a n) ≡ n
 length-from a zero = refl
 length-from a (suc n) = ap suc (length-from (suc a) n)
+
+-- lists laid end to end, one part after another
+pub joined-append : {A : Type 0} (xs ys : List (List A)) → joined (xs ++ ys) ≡ joined xs ++ joined ys
+joined-append [] ys = refl
+joined-append {A} (x ∷ xs) ys = ap (λ (r : List A). x ++ r) (joined-append xs ys) ∙ sym (append-assoc x (joined xs) (joined ys))
+
+-- what lies before m is there in the first m
+pub take-within : (a n m : ℕ) (s : List ℕ) → a + n ≤ m → take n (drop a (take m s)) ≡ take n (drop a s)
+take-within zero n m s h = take-take n m s (omega arith)
+take-within (suc a) n zero s h = absurd (omega arith)
+take-within (suc a) n (suc m) [] h = refl
+take-within (suc a) n (suc m) (x ∷ s) h = take-within a n m s (omega arith)

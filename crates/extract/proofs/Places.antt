@@ -5,7 +5,7 @@ use Prim.Native.Nat.{ℕ, zero, suc, _+_, _-_, _*_, _≤_, _<_}
 use native.Mathlib.Nat.{zero-mul, suc-mul, add-zero, sub-self, le-refl}
 use native.Mathlib.Numerals.{add-one}
 use native.Mathlib.Omega.{arith}
-use mathlib.Core.List.{List, [], _∷_, _++_, map, append-assoc}
+use mathlib.Core.List.{List, [], _∷_, _++_, map}
 use lib.ListN.{length, take, drop, length-append, length-drop}
 use lib.Seq.{take-add, drop-drop, length-take-le}
 use Rattle.array.specs.Lists.{from, joined, All}
@@ -14,10 +14,6 @@ use Rattle.array.specs.Offsets.{ends}
 use Rattle.extract.specs.Places.{fixedAt, Rises, stepAt, valueAt, bytesAt, valuesAt}
 
 -- ---- lists of values, one part after another
-
-pub joined-append : {A : Type 0} (xs ys : List (List A)) → joined (xs ++ ys) ≡ joined xs ++ joined ys
-joined-append [] ys = refl
-joined-append (x ∷ xs) ys = ap (λ (r : List _). x ++ r) (joined-append xs ys) ∙ sym (append-assoc x (joined xs) (joined ys))
 
 pub bytes-append : (off : ℕ → ℕ) (xs ys : List ℕ) → bytesAt off (xs ++ ys) ≡ bytesAt off xs + bytesAt off ys
 bytes-append off [] ys = omega arith

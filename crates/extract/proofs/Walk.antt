@@ -13,7 +13,7 @@ use Rattle.array.specs.Shape.{volume}
 use Rattle.array.specs.Subset.{pairs, cellsIn}
 use Rattle.array.specs.Offsets.{ends}
 use Rattle.array.specs.Buffers.{over, overAt}
-use Rattle.array.proofs.Lists.{map-append, length-from}
+use Rattle.array.proofs.Lists.{map-append, joined-append, length-from}
 use Rattle.array.proofs.Offsets.{length-ends}
 use Rattle.array.proofs.Over.{over-store, over-again}
 use Rattle.array.proofs.Laying.{Laying, laying-begins, laying-same, laying-ends, laying-left, laying-part, laying-store, laying-is, laying-room}
@@ -21,7 +21,7 @@ use Rattle.subset.proofs.Index.{few-drop, few-within}
 use Rattle.subset.proofs.Rows.{within-cells, within-below, Left, left-begins, left-next, left-more, left-ends, left-room, left-within}
 use Rattle.extract.specs.Places.{fixedAt, Rises, stepAt, bytesAt, valuesAt, planesAt}
 use Rattle.extract.specs.Asked.{SubsetAsked}
-use Rattle.extract.proofs.Places.{joined-append, ends-append, bytes-append, fixed-rises, fixed-total, run-rises, run-below, run-bytes, run-long, run-total, run-ends, bytes-long}
+use Rattle.extract.proofs.Places.{ends-append, bytes-append, fixed-rises, fixed-total, run-rises, run-below, run-bytes, run-long, run-total, run-ends, bytes-long}
 
 -- ---- what a subset that is asked for has
 

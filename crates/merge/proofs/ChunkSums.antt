@@ -18,11 +18,10 @@ use Rattle.array.specs.Offsets.{last, lastFrom, Rising, RisingFrom, risingTest,
 use Rattle.array.specs.Shape.{volume}
 use Rattle.array.specs.Subset.{Subset, lengths}
 use Rattle.array.proofs.LayoutLaws.{values-length, values-sized}
-use Rattle.array.proofs.Lists.{length-joined, map-append}
+use Rattle.array.proofs.Lists.{length-joined, map-append, joined-append}
 use Rattle.array.proofs.Offsets.{rising-le}
 use Rattle.array.proofs.Rules.{content-ok}
 use Rattle.chunks.specs.Chunks.{offsetCount, firstChunk, laterChunks, chunkCells, nothingTest}
-use Rattle.merge_stores.proofs.Blocks.{joined-append}
 use Rattle.merge_stores.proofs.FirstChunk.{leaves-first}
 use Rattle.merge.specs.Chunks.{partTest, chunkTest, chunkBytes, chunkTaken, chunkSum}
 

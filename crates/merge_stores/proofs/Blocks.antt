@@ -9,7 +9,7 @@ use lib.ListN.{length, getD, take, drop, set, length-drop, length-append, length
 use lib.Seq.{take-at, drop-at, take-all, take-length, split-at, set-split, map-set-same, length-take-le, drop-drop, take-suc}
 use Rattle.array.specs.Cells.{Value}
 use Rattle.array.specs.Lists.{All, joined, from}
-use Rattle.array.proofs.Lists.{length-from}
+use Rattle.array.proofs.Lists.{length-from, joined-append}
 use Rattle.chunks.specs.Gather.{putBack, Once}
 use Rattle.merge_stores.specs.Ragged.{sum}
 use Rattle.merge_stores.specs.Scatter.{scatter, places, fixedAt}
@@ -18,10 +18,6 @@ use Rattle.merge_stores.proofs.Scattering.{scatter-putBack, scatter-the
 pub sum-append : (xs ys : List ℕ) → sum (xs ++ ys) ≡ sum xs + sum ys
 sum-append [] ys = omega arith
 sum-append (x ∷ xs) ys = omega (arith, sum-append xs ys)
-
-pub joined-append : {A : Type 0} (xs ys : List (List A)) → joined (xs ++ ys) ≡ joined xs ++ joined ys
-joined-append [] ys = refl
-joined-append {A} (x ∷ xs) ys = ap (λ (r : List A). x ++ r) (joined-append xs ys) ∙ sym (append-assoc x (joined xs) (joined ys))
 
 pub length-joined : (vs : List Value) → length (joined vs) ≡ sum (map length vs)
 length-joined [] = refl

@@ -8,7 +8,7 @@ use mathlib.Core.Bool.{Bool, true, false}
 use mathlib.Core.List.{List, [], _∷_, _++_, map}
 use lib.ListN.{length, take, drop, length-drop, length-append, length-map}
 use lib.Dec.{eqb}
-use lib.Seq.{drop-drop, length-take-le, take-take}
+use lib.Seq.{drop-drop, length-take-le}
 use Rattle.array.specs.Answer.{gives, unless}
 use Rattle.array.specs.Cells.{Value, Cell, maskOf, blank, inners}
 use Rattle.array.specs.Content.{Content, attach, pairUp, valuesIn, cellsOf, masksOf}
@@ -17,7 +17,7 @@ use Rattle.array.specs.Lists.{All, joined, from, pick}
 use Rattle.array.specs.Shape.{volume}
 use Rattle.array.specs.Subset.{Subset, lengths, cellsIn, cellsOfAll, SubsetOk}
 use Rattle.array.proofs.LayoutLaws.{inners-pairUp, length-attach, values-length}
-use Rattle.array.proofs.Lists.{map-append, map-map, map-cong}
+use Rattle.array.proofs.Lists.{map-append, map-map, map-cong, take-within}
 use Rattle.array.proofs.SubsetLaws.{length-cellsIn}
 use Rattle.chunks.specs.Chunks.{firstChunk, laterChunks, chunkCells, nothingTest}
 use Rattle.chunks.specs.Gather.{lookup, putBack, Once}
@@ -83,13 +83,6 @@ level-attach n vs ev (suc d) (suc l) ps h e =
     let q : n + n * l ≡ n * suc l = omega (arith, mul-suc n l) in
     ap (levelAt d l) (inners-pairUp (take n ps) (attach d n (drop n ps) vs) (lt ∙ sym (length-attach n vs ev d (drop n ps) ld)))
     ∙ level-attach n vs ev d l (drop n ps) (omega arith) ld ∙ ap (take n) (drop-drop (n * l) n ps ∙ ap (λ (k : ℕ). drop k ps) q)
-
--- taking and dropping within a part
-pub take-within : (a n m : ℕ) (s : List ℕ) → a + n ≤ m → take n (drop a (take m s)) ≡ take n (drop a s)
-take-within zero n m s h = take-take n m s (omega arith)
-take-within (suc a) n zero s h = absurd (omega arith)
-take-within (suc a) n (suc m) [] h = refl
-take-within (suc a) n (suc m) (x ∷ s) h = take-within a n m s (omega arith)
 
 module _ (f : Form) (d : ℕ) where
   abbrev k : Kind

@@ -17,14 +17,12 @@ use Rattle.array.specs.Offsets.{last, lastFrom, Rising, RisingFrom, slices, sli
 use Rattle.array.specs.Shape.{volume}
 use Rattle.array.specs.Subset.{Subset, lengths, cellsIn, cellsOfAll, SubsetOk}
 use Rattle.array.proofs.LayoutLaws.{leaves-attach, values-length}
-use Rattle.array.proofs.Lists.{map-append}
+use Rattle.array.proofs.Lists.{map-append, joined-append, take-within}
 use Rattle.array.proofs.Offsets.{rising-le}
 use Rattle.array.proofs.SubsetLaws.{length-cellsIn}
 use Rattle.chunks.specs.Chunks.{firstChunk, laterChunks, chunkCells, nothingTest}
 use Rattle.merge_stores.specs.Ragged.{offsetAt, RisesFor, RaggedChunks, raggedParts, stepsFrom, steps, stepParts}
-use Rattle.merge_stores.proofs.Blocks.{joined-append}
 use Rattle.merge_stores.proofs.FirstChunk.{first-of}
-use Rattle.merge_stores.proofs.Levels.{take-within}
 
 -- ---- values between offsets that never fall
 

@@ -8,7 +8,7 @@ use native.Mathlib.Nat.{zero-mul, suc-mul, zero-add, sub-zero, mul-le-mul-right}
 use native.Mathlib.Omega.{arith}
 use mathlib.Core.List.{List, [], _∷_}
 use lib.ListN.{length, take, drop, getD, length-drop, length-map}
-use lib.Seq.{drop-drop, take-take, length-take-le}
+use lib.Seq.{drop-drop, length-take-le}
 use lib.Dec.{leb, eqb}
 use Rattle.array.specs.Answer.{Answer, gives, unless}
 use Rattle.array.specs.Limits.{mostBytes}
@@ -20,13 +20,12 @@ use Rattle.array.specs.Subset.{SubsetOk, subsetOf, cellsIn}
 use Rattle.array.specs.Cells.{Value}
 use Rattle.array.specs.Offsets.{last, lastFrom, Rising, risingTest}
 use Rattle.array.specs.Content.{Content, RaggedContent, unmasked, ValuesOk, sizeTest}
-use Rattle.array.proofs.Lists.{length-pieces}
+use Rattle.array.proofs.Lists.{length-pieces, take-within}
 use Rattle.array.proofs.Rules.{rising-ok, size-ok}
 use Rattle.array.proofs.CheckLaws as check
 use Rattle.array.proofs.SubsetLaws.{cellsIn-below}
 use Rattle.codec.specs.Ragged.{dataTest, checkRagged, partOf, leftOf, getRagged}
 use Rattle.codec.specs.Index.{offsetsIn, spanIn, indexAt, dataAt}
-use Rattle.codec.proofs.IndexLaws.{drop-take}
 use Rattle.codec.proofs.CheckedIndex.{IndexChecked, index-checked}
 use Rattle.chunks.specs.Calls.{raggedCut}
 use Rattle.extract.specs.Places.{offsetAt, Rises, valuesAt}
@@ -161,12 +160,6 @@ module _ (w : ℕ) (p : Place) (s : List ℕ) (n f l : ℕ) (h : spanIn (getRagg
 
 -- ---- the cut
 
--- what lies before l is there in the first l bytes
-take-within : (k b l : ℕ) (q : List ℕ) → b + k ≤ l → take k (drop b (take l q)) ≡ take k (drop b q)
-take-within k b l q h =
-    let e : l ≡ b + (l - b) = omega arith in
-    ap (λ (i : ℕ). take k (drop b (take i q))) e ∙ ap (take k) (drop-take b (l - b) q) ∙ take-take k (l - b) (drop b q) (omega arith)
-
 -- the values between offsets that are the same
 values-same : (off to : ℕ → ℕ) (n : ℕ) (q : List ℕ) → Rises to n → ((j : ℕ) → j ≤ n → off j ≡ to j) → (js : List ℕ) → All (λ j. j < n) js
     → valuesAt off (take (to n) q) js ≡ valuesAt to q js
@@ -176,7 +169,7 @@ values-same off to n q r e (j ∷ js) a =
     let up : to j ≤ to (suc j) = r j h in
     let top : to (suc j) ≤ to n = let i : j + 1 ≡ suc j = omega arith in omega (arith, run-below to n r j 1 (omega arith), ap to i) in
     ap₂ (λ (x : Value) (xs : List Value). x ∷ xs)
-    (ap₂ (λ (x y : ℕ). take (x - y) (drop y (take (to n) q))) (e (suc j) (omega arith)) (e j (omega arith)) ∙ take-within (to (suc j) - to j) (to j) (to n) q (omega arith))
+    (ap₂ (λ (x y : ℕ). take (x - y) (drop y (take (to n) q))) (e (suc j) (omega arith)) (e j (omega arith)) ∙ take-within (to j) (to (suc j) - to j) (to n) q (omega arith))
     (values-same off to n q r e js (a .1))
 
 pub read-cut : (w : ℕ) (p : Place) (shape ns s : List ℕ) (index source : ℕ) → Read w p s (volume shape) index source → SubsetOk shape (subsetOf (length shape) ns)
