@@ -8,7 +8,7 @@ use borrow.Author.Needs.{needs}
 use Rattle.array.specs.Field.{toldField}
 use Rattle.array.proofs.Fields.{field-value, field-refused}
 use Rattle.interleaved.proofs.Steps.{lengthAt}
-use Rattle.interleaved.proofs.Loops.{Walking, walk-begins, walk-ends, walk-field-past, walk-cell-past, walk-more}
+use Rattle.interleaved.proofs.Loops.{Walking, walk-begins, walk-ends, walk-field-past, walk-cell-past, walk-more, walk-none}
 use Rattle.interleaved.proofs.vlen_v2.walk_cells.Statement.{statement}
 use Rattle.interleaved.proofs.vlen_v2.walk_cells.Tie as tie
 
@@ -44,29 +44,37 @@ returns c =
 add-at : tie.Need-add-at Inv-loop μ-loop
 add-at c = omega (arith, read c)
 
-sub-if1 : tie.Need-sub-if1 Inv-loop μ-loop
-sub-if1 c = omega (arith, read c)
+sub-left : tie.Need-sub-left Inv-loop μ-loop
+sub-left c = search needs
+
+sub-if2 : tie.Need-sub-if2 Inv-loop μ-loop
+sub-if2 c = omega (arith, read (c .before))
 
 returns-2 : tie.Need-returns-2 Inv-loop μ-loop
 returns-2 c =
-    walk-cell-past (c .before .before .before .before .before .before .loop .inv) (c .before .before .before .before .before .loop-test .taken)
-    (read (c .before) .0) (c .before .before .field .given .0 .0) (read (c .before) .1) (c .if1 .taken)
+    walk-cell-past (c .before .before .before .before .before .before .before .loop .inv) (c .before .before .before .before .before .before .loop-test .taken)
+    (read (c .before .before) .0) (c .before .before .before .field .given .0 .0) (read (c .before .before) .1) (c .if2 .taken)
 
 add-at-2 : tie.Need-add-at-2 Inv-loop μ-loop
-add-at-2 c = omega (arith, read (c .before))
+add-at-2 c = omega (arith, read (c .before .before))
 
 add-sum : tie.Need-add-sum Inv-loop μ-loop
-add-sum c = omega (arith, read (c .before))
-
-sub-left : tie.Need-sub-left Inv-loop μ-loop
-sub-left c = search needs
+add-sum c = omega (arith, read (c .before .before))
 
 loop-less : tie.Need-loop-less Inv-loop μ-loop
 loop-less c = omega arith
 
 loop-again : tie.Need-loop-again Inv-loop μ-loop
 loop-again c =
-    walk-more (c .before .before .before .before .before .before .loop .inv) (c .before .before .before .before .before .loop-test .taken)
+    walk-more (c .before .before .before .before .before .before .before .loop .inv) (c .before .before .before .before .before .before .loop-test .taken)
+    (read (c .before .before) .0) (c .before .before .before .field .given .0 .0) (read (c .before .before) .1) (c .if2 .left)
+
+loop-less-2 : tie.Need-loop-less-2 Inv-loop μ-loop
+loop-less-2 c = omega arith
+
+loop-again-2 : tie.Need-loop-again-2 Inv-loop μ-loop
+loop-again-2 c =
+    walk-none (c .before .before .before .before .before .before .loop .inv) (c .before .before .before .before .before .loop-test .taken)
     (read (c .before) .0) (c .before .before .field .given .0 .0) (read (c .before) .1) (c .if1 .left)
 
 returns-3 : tie.Need-returns-3 Inv-loop μ-loop
@@ -84,11 +92,13 @@ walk-cells-spec =
     enum-told
     returns
     add-at
-    sub-if1
+    sub-left
+    sub-if2
     returns-2
     add-at-2
     add-sum
-    sub-left
     loop-less
     loop-again
+    loop-less-2
+    loop-again-2
     returns-3)

@@ -24,11 +24,8 @@ returns-3 : tie.Need-returns-3
 unfolding mostBytes
 returns-3 c = offsets-short (c .before .before .before .before .before .before .pre) _ (c .before .before .if1 .left) (c .before .if2 .left) (c .if3 .taken)
 
-copy-values-requires : tie.Need-copy-values-requires
-copy-values-requires c κs = search needs
-
-copy-offsets-requires : tie.Need-copy-offsets-requires
-copy-offsets-requires c κs = search needs
+copy-cells-requires : tie.Need-copy-cells-requires
+copy-cells-requires c κs = search needs
 
 same-length : tie.Need-same-length
 same-length c = search needs
@@ -39,13 +36,11 @@ same-length-2 c = search needs
 returns-4 : tie.Need-returns-4
 unfolding mostBytes
 returns-4 c =
-    let start = c .before .before .before .before .before .before .before .before .before .before .before .before .before .before in
-    all-written (start .pre) (contentRagged (start .args .values .now) (start .args .offsets .now))
-    (c .before .before .before .before .before .before .before .before .before .before .if1 .left)
-    (c .before .before .before .before .before .before .before .before .before .if2 .left)
-    (c .before .before .before .before .before .before .before .before .if3 .left)
-    (c .before .before .before .before .before .before .copy-values .ensures)
-    (c .before .before .copy-offsets .ensures)
+    let copied = c .before .before .before .before in
+    let room = copied .before .before .before in
+    let start = room .before .before .before .before .before .before in
+    all-written (start .pre) (contentRagged (start .args .values .now) (start .args .offsets .now)) (room .before .before .if1 .left) (room .before .if2 .left) (room .if3 .left)
+    (copied .copy-cells .ensures .0) (copied .copy-cells .ensures .1)
 
 pub write-cells-spec : {M : Type 1} → statement M
 write-cells-spec =
@@ -55,8 +50,7 @@ write-cells-spec =
     returns-2
     add-count
     returns-3
-    copy-values-requires
-    copy-offsets-requires
+    copy-cells-requires
     same-length
     same-length-2
     returns-4)
