@@ -9,7 +9,7 @@ use array::refusal;
 use array::shape;
 ghost use mathlib.Core.Path.{_≡_};
 ghost use Prim.Native.Nat.{_+_, _≤_};
-ghost use lib.ListN.{length, drop};
+ghost use lib.ListN.{length, drop, replicate};
 ghost use Rattle.array.specs.Lists.{joined};
 ghost use Rattle.array.specs.Offsets.{offsetsOf};
 ghost use Rattle.array.specs.Buffers.{over, overAt, raggedOutcome, raggedLengthsOf};
@@ -87,6 +87,18 @@ fn copy_cells(values: &mut [u8], offsets: &mut [u64], bytes: &[u8], cells: usize
     offsets[i] = to as u64;
 }
 
+// Where no cell has a byte, each begins and ends at 0.
+fn zero_offsets(offsets: &mut [u64], count: usize)
+    requires { ⌜ count ≤ length (now offsets) ⌝ }
+    ensures { λ _. ⌜ now (offsets .exit) ≡ over (replicate count 0) (now (offsets .entry)) ⌝ }
+{
+    let mut i: usize = 0;
+    while i < count {
+        offsets[i] = 0;
+        i += 1;
+    }
+}
+
 // Cells that the walk found, `sum` bytes in all: 5, 6, and then the copying.
 fn write_cells(
     cells: usize,
@@ -109,6 +121,10 @@ fn write_cells(
     let count = cells + 1;
     if offsets.len() < count {
         return WrittenRagged::Refused(refusal::OUTPUT);
+    }
+    if sum == 0 {
+        zero_offsets(offsets, count);
+        return WrittenRagged::Lengths(sum, count);
     }
     copy_cells(values, offsets, bytes, cells, sum);
     WrittenRagged::Lengths(sum, count)
