@@ -7,6 +7,7 @@ use mathlib.Core.Bool.{true}
 use mathlib.Core.List.{List, [], _∷_}
 use lib.ListN.{length, take, drop, replicate, length-append}
 use lib.Dec.{leb}
+use lib.Seq.{take-all}
 use borrow.Author.Tests.{le-leb, lt-leb, eq-eqb, ne-eqb}
 use Rattle.array.specs.Answer.{Answer, gives, refuses, mapAnswer, Outcome}
 use Rattle.array.specs.Limits.{mostCells, mostBytes}
@@ -35,10 +36,6 @@ zero-ends (v ∷ vs) e =
     let both : length v + totalOf vs ≡ 0 = sym (length-append v (joined vs)) ∙ e in
     let here : 0 + length v ≡ 0 = omega arith in
     ap (λ (k : ℕ). k ∷ ends k vs) here ∙ ap (λ (l : List ℕ). 0 ∷ l) (zero-ends vs (omega arith))
-
-no-bytes : (l : List ℕ) → length l ≡ 0 → l ≡ []
-no-bytes [] e = refl
-no-bytes (x ∷ l) e = absurd (omega arith)
 
 module _ {n : ℕ} {s : List ℕ} {sum : ℕ} (w : Walked n s sum) (old : RaggedContent) where
   abbrev cellsOutcome : Outcome RaggedLengths RaggedContent
@@ -79,7 +76,7 @@ module _ {n : ℕ} {s : List ℕ} {sum : ℕ} (w : Walked n s sum) (old : Ragged
           let none : totalOf (found n s) ≡ 0 = omega (arith, w .total) in
           let all : suc (length (found n s)) ≡ n + 1 = omega (arith, length-cells n (drop 4 s) (found n s) (w .all)) in
           let zeros : offsetsOf (found n s) ≡ replicate (n + 1) 0 = ap (λ (l : List ℕ). 0 ∷ l) (zero-ends (found n s) none) ∙ ap (λ (k : ℕ). replicate k 0) all in
-          all-written f (sym (ap (λ (l : List ℕ). over l (old .values)) (no-bytes (joined (found n s)) none)))
+          all-written f (ap (λ (l : List ℕ). over l (old .values)) (take-all 0 (joined (found n s)) (omega arith)))
           (e ∙ ap (λ (l : List ℕ). over l (old .offsets)) (sym zeros))
 
 -- ---- decode_interleaved

@@ -4,7 +4,8 @@ use mathlib.Core.Path.{_≡_, refl, sym, ap, ap₂, _∙_}
 use mathlib.Core.List.{List, [], _++_}
 use Prim.Native.Nat.{ℕ, _+_, _-_, _*_, _/_, _≤_}
 use native.Mathlib.Omega.{arith}
-use lib.ListN.{length, take, drop, length-append, length-drop, take-append-drop}
+use native.Mathlib.Nat.{min-le-left, min-le-right}
+use lib.ListN.{length, take, drop, length-append, length-drop, length-take, take-append-drop}
 use lib.Seq.{drop-drop, take-all, take-add, take-take, take-at, drop-at, length-take-le, take-append-le, take-append-add, drop-append-add}
 use Rattle.array.specs.Buffers.{over, overAt}
 use Rattle.array.proofs.Over.{over-at-length}
@@ -66,9 +67,7 @@ module _ {want d out : List ℕ} {to : ℕ} where
 
 module _ (k room : ℕ) (s : List ℕ) where
   length-part : (n : ℕ) (l : List ℕ) → (length (take n l) ≤ n) × (length (take n l) ≤ length l)
-  length-part n l =
-      let whole : length (take n l) + length (drop n l) ≡ length l = sym (length-append (take n l) (drop n l)) ∙ ap length (take-append-drop n l) in
-      (omega (arith, length-drop n l), omega arith)
+  length-part n l = (omega (arith, length-take n l, min-le-left n (length l)), omega (arith, length-take n l, min-le-right n (length l)))
 
   -- no more than there is room for
   pub reached-room : length (reached k room s) ≤ room
