@@ -2,14 +2,14 @@
 -- Assumes nothing.
 use mathlib.Core.Path.{_≡_, refl, sym, ap, ap₂, _∙_}
 use mathlib.Core.List.{List, [], _++_}
-use Prim.Native.Nat.{ℕ, _+_, _-_, _*_, _/_, _≤_}
+use Prim.Native.Nat.{ℕ, _+_, _-_, _≤_}
 use native.Mathlib.Omega.{arith}
 use native.Mathlib.Nat.{min-le-left, min-le-right}
 use lib.ListN.{length, take, drop, length-append, length-drop, length-take, take-append-drop}
 use lib.Seq.{drop-drop, take-all, take-add, take-take, take-at, drop-at, length-take-le, take-append-le, take-append-add, drop-append-add}
 use Rattle.array.specs.Buffers.{over, overAt}
 use Rattle.array.proofs.Over.{over-at-length}
-use Rattle.interleaved.specs.Walk.{reached}
+use Rattle.interleaved.specs.Walk.{blocks, reached}
 
 -- the first `to` of `want` stand in what was d, what lies beyond `want` is as it was, and r is left
 pub record Placing (want d out : List ℕ) (to : ℕ) (r : List ℕ) : Type 0 where
@@ -65,26 +65,26 @@ module _ {want d out : List ℕ} {to : ℕ} where
 
 -- ---- what is copied with a cell
 
-module _ (k room : ℕ) (s : List ℕ) where
-  length-part : (n : ℕ) (l : List ℕ) → (length (take n l) ≤ n) × (length (take n l) ≤ length l)
-  length-part n l = (omega (arith, length-take n l, min-le-left n (length l)), omega (arith, length-take n l, min-le-right n (length l)))
+length-part : (n : ℕ) (l : List ℕ) → (length (take n l) ≤ n) × (length (take n l) ≤ length l)
+length-part n l = (omega (arith, length-take n l, min-le-left n (length l)), omega (arith, length-take n l, min-le-right n (length l)))
 
+module _ (k room : ℕ) (s : List ℕ) where
   -- no more than there is room for
   pub reached-room : length (reached k room s) ≤ room
-  reached-room = omega (arith, length-part (k / 32 * 32 + 32) (take room s), length-part room s)
+  reached-room = omega (arith, length-part (blocks k) (take room s), length-part room s)
 
   module _ (h : k ≤ room) where
     -- the cell first
     pub reached-front : take k (reached k room s) ≡ take k s
-    reached-front = take-take k (k / 32 * 32 + 32) (take room s) (omega arith) ∙ take-take k room s h
+    reached-front = take-take k (blocks k) (take room s) (omega arith) ∙ take-take k room s h
 
     pub reached-long : k ≤ length s → k ≤ length (reached k room s)
     reached-long g = omega (arith, length-part k (reached k room s), ap length reached-front, length-take-le k s g)
 
   -- in one copy
   module _ (to : ℕ) (out : List ℕ) {out′ : List ℕ} where
-    pub copied-all : room ≤ k / 32 * 32 + 32 → out′ ≡ overAt to (take room s) out → out′ ≡ overAt to (reached k room s) out
-    copied-all h e = e ∙ ap (λ (l : List ℕ). overAt to l out) (sym (take-all (k / 32 * 32 + 32) (take room s) (omega (arith, length-part room s))))
+    pub copied-all : room ≤ blocks k → out′ ≡ overAt to (take room s) out → out′ ≡ overAt to (reached k room s) out
+    copied-all h e = e ∙ ap (λ (l : List ℕ). overAt to l out) (sym (take-all (blocks k) (take room s) (omega (arith, length-part room s))))
 
-    pub copied-blocks : k / 32 * 32 + 32 ≤ room → out′ ≡ overAt to (take (k / 32 * 32 + 32) s) out → out′ ≡ overAt to (reached k room s) out
-    copied-blocks h e = e ∙ ap (λ (l : List ℕ). overAt to l out) (sym (take-take (k / 32 * 32 + 32) room s h))
+    pub copied-blocks : blocks k ≤ room → out′ ≡ overAt to (take (blocks k) s) out → out′ ≡ overAt to (reached k room s) out
+    copied-blocks h e = e ∙ ap (λ (l : List ℕ). overAt to l out) (sym (take-take (blocks k) room s h))

@@ -8,7 +8,7 @@ use array::field::Field;
 use array::refusal;
 use array::shape;
 ghost use mathlib.Core.Path.{_≡_};
-ghost use Prim.Native.Nat.{_+_, _≤_};
+ghost use Prim.Native.Nat.{_+_, _<_, _≤_};
 ghost use lib.ListN.{length, drop, replicate};
 ghost use Rattle.array.specs.Lists.{joined};
 ghost use Rattle.array.specs.Offsets.{offsetsOf};
@@ -52,10 +52,10 @@ fn walk_cells(bytes: &[u8], cells: usize) -> Walk
 // Copies a cell of `size` bytes and what lies behind it, up to a whole number of blocks or to the end of the room: whole blocks
 // are copied without a test for each byte.
 fn copy_cell(values: &mut [u8], to: usize, bytes: &[u8], at: usize, size: usize, room: usize)
-    requires { ⌜ (size ≤ room) × (to + room ≤ length (now values)) × (at + room ≤ length (now bytes)) ⌝ }
+    requires { ⌜ (0 < size) × (size ≤ room) × (to + room ≤ length (now values)) × (at + room ≤ length (now bytes)) ⌝ }
     ensures { λ _. ⌜ now (values .exit) ≡ overAt to (reached size room (drop at (now (bytes .entry)))) (now (values .entry)) ⌝ }
 {
-    let blocks = size / 32 * 32 + 32;
+    let blocks = (size - 1) / 32 * 32 + 32;
     if room < blocks {
         copy::copy_bytes(values, to, bytes, at, room);
     } else {

@@ -7,6 +7,9 @@ use Rattle.interleaved.proofs.Placing.{copied-all, copied-blocks}
 use Rattle.interleaved.proofs.vlen_v2.copy_cell.Statement.{statement}
 use Rattle.interleaved.proofs.vlen_v2.copy_cell.Tie as tie
 
+sub-blocks : tie.Need-sub-blocks
+sub-blocks c = search needs
+
 mul-blocks : tie.Need-mul-blocks
 mul-blocks c = search needs
 
@@ -41,6 +44,7 @@ pub copy-cell-spec : {M : Type 1} → statement M
 copy-cell-spec =
     tie.close
     (tie.spec
+    sub-blocks
     mul-blocks
     add-blocks
     copy-bytes-requires
