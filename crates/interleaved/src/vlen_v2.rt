@@ -24,13 +24,14 @@ pub enum Walk {
 }
 
 // Each length is held against what is left, so that no position wraps; the sum stays below the position.
-// An empty cell is passed by a branch of its own, so that the next place does not wait for its length.
+// An empty cell, and one as long as the one before, has a branch of its own: there the next place does not wait for the length.
 fn walk_cells(bytes: &[u8], cells: usize) -> Walk
     ensures { λ r. ⌜ toldWalk r ≡ walkAnswer cells (now (bytes .entry)) ⌝ }
 {
     let mut left = cells;
     let mut at: usize = 4;
     let mut sum: usize = 0;
+    let mut last: usize = 0;
     while 0 < left {
         let Field::Value(field) = field::read_u32(bytes, at) else {
             return Walk::Refused(refusal::PAST_END);
@@ -39,11 +40,20 @@ fn walk_cells(bytes: &[u8], cells: usize) -> Walk
         at += 4;
         left -= 1;
         if 0 < length {
-            if bytes.len() - at < length {
-                return Walk::Refused(refusal::PAST_END);
+            if length == last {
+                if bytes.len() - at < last {
+                    return Walk::Refused(refusal::PAST_END);
+                }
+                at += last;
+                sum += last;
+            } else {
+                if bytes.len() - at < length {
+                    return Walk::Refused(refusal::PAST_END);
+                }
+                at += length;
+                sum += length;
+                last = length;
             }
-            at += length;
-            sum += length;
         }
     }
     Walk::Sum(sum)
