@@ -1,4 +1,4 @@
--- The three loops over the stored cells, by what is left of the string: the sum so far, the value bytes and the offsets laid so far.
+-- The two loops over the stored cells, by what is left of the string: the sum so far; the value bytes and the offsets written so far.
 -- Assumes nothing.
 use mathlib.Core.Path.{_≡_, refl, sym, ap, ap₂, _∙_, subst}
 use Prim.Native.Nat.{ℕ, suc, _+_, _-_, _<_, _≤_}
@@ -13,10 +13,11 @@ use Rattle.array.specs.Offsets.{ends, offsetsOf}
 use Rattle.array.specs.Cells.{Value}
 use Rattle.array.specs.Buffers.{over, overAt}
 use Rattle.array.proofs.Offsets.{length-ends}
-use Rattle.array.proofs.Laying.{Laying, laying-begins, laying-same, laying-left, laying-ends, laying-part, laying-store, laying-is, laying-room}
+use Rattle.array.proofs.Laying.{Laying, laying-begins, laying-same, laying-ends, laying-store, laying-is, laying-room}
 use Rattle.codec.specs.Interleaved.{interleavedCells}
-use Rattle.interleaved.specs.Walk.{totalOf, storedCells, walkAnswer, found, Found}
-use Rattle.interleaved.proofs.Steps.{lengthAt, field-past, cell-past, cell-next, Cell, cell-at, length-cells}
+use Rattle.interleaved.specs.Walk.{totalOf, storedCells, walkAnswer, found, Found, reached}
+use Rattle.interleaved.proofs.Steps.{lengthAt, field-past, cell-past, cell-next, Cell, cell-at, length-cells, cells-room}
+use Rattle.interleaved.proofs.Placing.{Placing, placing-begins, placing-is, placing-left, placing-ends, placing-part, reached-room, reached-front, reached-long}
 
 -- ---- walk_cells
 
@@ -73,6 +74,17 @@ module _ {n : ℕ} {s : List ℕ} {left at sum : ℕ} (w : Walking n s left at s
           go (gives vs) = ap gives (omega (arith, length-append cell (joined vs), long))
           go (refuses k) = refl
 
+      -- an empty cell
+      pub walk-none : v ≤ 0 → Walking n s (left - 1) (at + 4) sum
+      walk-none z =
+          let w′ : Walking n s (left - 1) (at + 4 + v) (sum + v) = walk-more (omega arith) in
+          let same-sum : sum + v ≡ sum = omega arith in
+          let same-place : at + 4 + v ≡ at + 4 = omega arith in
+          record {
+            small = omega (arith, w .small);
+            whole = w′ .whole ∙ ap₂ (λ (k m : ℕ). mapAnswer (λ vs. k + totalOf vs) (interleavedCells (left - 1) (drop m s))) same-sum same-place;
+          }
+
 -- ---- the cells that are left, where the walk refused nothing
 
 -- the next of them
@@ -89,113 +101,118 @@ no-cell s left at vs e h =
     let z : gives [] ≡ gives vs = ap (λ (k : ℕ). interleavedCells k (drop at s)) (sym none) ∙ e in
     cc
 
--- ---- copy_values
+-- ---- copy_cells
 
--- the value bytes lie in what was d up to `to`, and `left` cells from `at` on are left
-pub record Joining (n : ℕ) (s d out : List ℕ) (left at to : ℕ) : Type 0 where
+-- i offsets lie in what was os₀, the values up to `to` in what was vs₀, and the cells from `at` on are left
+pub record Copying (n : ℕ) (s vs₀ vs os₀ os : List ℕ) (i at to : ℕ) : Type 0 where
   pub cells : List Value
-  pub stored : interleavedCells left (drop at s) ≡ gives cells
-  pub laid : Laying (joined (found n s)) d 0 out to (joined cells)
+  pub within : i ≤ n
+  pub stored : interleavedCells (n - i) (drop at s) ≡ gives cells
+  pub placed : Placing (joined (found n s)) vs₀ vs to (joined cells)
+  pub laid : Laying (offsetsOf (found n s)) os₀ 0 os i (to ∷ ends to cells)
 
-pub joining-begins : {n : ℕ} {s d : List ℕ} → Found n s → totalOf (found n s) ≤ length d → Joining n s d d n 4 0
-joining-begins {n} {s} {d} e h = record { cells = found n s; stored = e; laid = laying-begins (joined (found n s)) d 0 (omega arith) }
+pub copy-begins : {n : ℕ} {s vs₀ os₀ : List ℕ} → Found n s → totalOf (found n s) ≤ length vs₀ → n + 1 ≤ length os₀ → Copying n s vs₀ vs₀ os₀ os₀ 0 4 0
+copy-begins {n} {s} {vs₀} {os₀} e h g = record {
+  cells = found n s;
+  within = omega arith;
+  stored = ap (λ (k : ℕ). interleavedCells k (drop 4 s)) (sub-zero n) ∙ e;
+  placed = placing-begins (joined (found n s)) vs₀ h;
+  laid = laying-begins (offsetsOf (found n s)) os₀ 0 (omega (arith, length-ends 0 (found n s), length-cells n (drop 4 s) (found n s) e));
+}
 
-module _ {n : ℕ} {s d out : List ℕ} {left at to : ℕ} (j : Joining n s d out left at to) where
-  pub joining-same : length out ≡ length d
-  joining-same = laying-same (joined (found n s)) d 0 out to _ (j .laid)
+module _ {n : ℕ} {s vs₀ vs os₀ os : List ℕ} {i at to : ℕ} (c : Copying n s vs₀ vs os₀ os i at to) where
+  pub copy-same : length os ≡ length os₀
+  copy-same = laying-same (offsetsOf (found n s)) os₀ 0 os i _ (c .laid)
 
-  pub joining-ends : left ≤ 0 → out ≡ over (joined (found n s)) d
-  joining-ends h = laying-ends (joined (found n s)) d 0 out to (laying-is (j .laid) (ap joined (no-cell s left at (j .cells) (j .stored) h)))
+  pub copy-room : i < length os
+  copy-room = omega (arith, laying-room (offsetsOf (found n s)) os₀ 0 os i _ _ (c .laid))
 
-  module _ (h : 0 < left) where
-    cell : Cell s at (left - 1) (j .cells)
-    cell = next-cell s left at (j .cells) (j .stored) h
+  -- the next offset
+  offset-next : Laying (offsetsOf (found n s)) os₀ 0 (set os i to) (i + 1) (ends to (c .cells))
+  offset-next =
+      subst (λ (k : ℕ). Laying (offsetsOf (found n s)) os₀ 0 (set os k to) (i + 1) (ends to (c .cells))) (zero-add i)
+      (laying-store (offsetsOf (found n s)) os₀ 0 os i to (ends to (c .cells)) (c .laid))
 
-    pub joining-field : at + 4 ≤ length s
-    joining-field = omega (arith, cell .fits)
+  module _ (h : n ≤ i) where
+    none : c .cells ≡ []
+    none = no-cell s (n - i) at (c .cells) (c .stored) (omega arith)
+
+    pub copy-values-end : vs ≡ over (joined (found n s)) vs₀
+    copy-values-end = placing-ends (placing-is (c .placed) (ap joined none))
+
+    pub copy-offsets-end : set os i to ≡ over (offsetsOf (found n s)) os₀
+    copy-offsets-end = laying-ends (offsetsOf (found n s)) os₀ 0 (set os i to) (i + 1) (laying-is offset-next (ap (ends to) none))
+
+  module _ (h : i < n) where
+    cell : Cell s at (n - i - 1) (c .cells)
+    cell = next-cell s (n - i) at (c .cells) (c .stored) (omega arith)
+
+    pub copy-field : at + 4 ≤ length s
+    copy-field = omega (arith, cell .fits)
 
     module _ (v : ℕ) (e : v ≡ lengthAt s at) where
-      pub joining-cell : at + 4 + v ≤ length s
-      joining-cell = omega (arith, cell .fits)
+      pub copy-cell : at + 4 + v ≤ length s
+      copy-cell = omega (arith, cell .fits)
 
       abbrev part : List ℕ
       part = take v (drop (at + 4) s)
 
       long : length part ≡ v
-      long = length-take-le v (drop (at + 4) s) (omega (arith, length-drop (at + 4) s, joining-cell))
+      long = length-take-le v (drop (at + 4) s) (omega (arith, length-drop (at + 4) s, copy-cell))
 
-      here : Laying (joined (found n s)) d 0 out to (part ++ joined (cell .others))
-      here = laying-is (j .laid) (ap joined (cell .whole ∙ ap (λ (k : ℕ). take k (drop (at + 4) s) ∷ cell .others) (sym e)))
+      whole : c .cells ≡ part ∷ cell .others
+      whole = cell .whole ∙ ap (λ (k : ℕ). take k (drop (at + 4) s) ∷ cell .others) (sym e)
 
-      pub joining-room : to + v ≤ length out
-      joining-room =
-          omega (arith, laying-left (joined (found n s)) d 0 out to _ here, joining-same, here .room, length-append part (joined (cell .others)), long)
+      here : Placing (joined (found n s)) vs₀ vs to (part ++ joined (cell .others))
+      here = placing-is (c .placed) (ap joined whole)
 
-      pub joining-more : (out′ : List ℕ) → out′ ≡ overAt to part out → Joining n s d out′ (left - 1) (at + 4 + v) (to + v)
-      joining-more out′ f = record {
-        cells = cell .others;
-        stored = ap (λ (k : ℕ). interleavedCells (left - 1) (drop (at + 4 + k) s)) e ∙ cell .after;
-        laid =
-            laying-part (joined (found n s)) d 0 out to part (joined (cell .others)) here out′
-            (f ∙ ap (λ (k : ℕ). overAt k part out) (sym (zero-add to))) (to + v) (ap (λ (k : ℕ). to + k) (sym long));
-      }
-
--- ---- copy_offsets
-
--- i offsets lie in what was d, the next is `end`, and the cells from `at` on are left
-pub record Ending (n : ℕ) (s d out : List ℕ) (i at end : ℕ) : Type 0 where
-  pub cells : List Value
-  pub within : i ≤ n
-  pub small : end ≤ at
-  pub stored : interleavedCells (n - i) (drop at s) ≡ gives cells
-  pub laid : Laying (offsetsOf (found n s)) d 0 out i (end ∷ ends end cells)
-
-pub ending-begins : {n : ℕ} {s d : List ℕ} → Found n s → n + 1 ≤ length d → Ending n s d d 0 4 0
-ending-begins {n} {s} {d} e h = record {
-  cells = found n s;
-  within = omega arith;
-  small = omega arith;
-  stored = ap (λ (k : ℕ). interleavedCells k (drop 4 s)) (sub-zero n) ∙ e;
-  laid = laying-begins (offsetsOf (found n s)) d 0 (omega (arith, length-ends 0 (found n s), length-cells n (drop 4 s) (found n s) e));
-}
-
-module _ {n : ℕ} {s d out : List ℕ} {i at end : ℕ} (c : Ending n s d out i at end) where
-  pub ending-same : length out ≡ length d
-  ending-same = laying-same (offsetsOf (found n s)) d 0 out i _ (c .laid)
-
-  pub ending-room : i < length out
-  ending-room = omega (arith, laying-room (offsetsOf (found n s)) d 0 out i _ _ (c .laid))
-
-  stored-next : Laying (offsetsOf (found n s)) d 0 (set out i end) (i + 1) (ends end (c .cells))
-  stored-next =
-      subst (λ (k : ℕ). Laying (offsetsOf (found n s)) d 0 (set out k end) (i + 1) (ends end (c .cells))) (zero-add i)
-      (laying-store (offsetsOf (found n s)) d 0 out i end (ends end (c .cells)) (c .laid))
-
-  pub ending-ends : n ≤ i → set out i end ≡ over (offsetsOf (found n s)) d
-  ending-ends h =
-      laying-ends (offsetsOf (found n s)) d 0 (set out i end) (i + 1)
-      (laying-is stored-next (ap (ends end) (no-cell s (n - i) at (c .cells) (c .stored) (omega arith))))
-
-  module _ (h : i < n) where
-    coming : Cell s at (n - i - 1) (c .cells)
-    coming = next-cell s (n - i) at (c .cells) (c .stored) (omega arith)
-
-    pub ending-field : at + 4 ≤ length s
-    ending-field = omega (arith, coming .fits)
-
-    module _ (v : ℕ) (e : v ≡ lengthAt s at) where
-      pub ending-cell : at + 4 + v ≤ length s
-      ending-cell = omega (arith, coming .fits)
-
-      pub ending-more : Ending n s d (set out i end) (i + 1) (at + 4 + v) (end + v)
-      ending-more =
-          let long : length (take (lengthAt s at) (drop (at + 4) s)) ≡ v =
-          length-take-le (lengthAt s at) (drop (at + 4) s) (omega (arith, length-drop (at + 4) s, coming .fits)) ∙ sym e in
+      -- the offset is stored, and the values stand to the end of the cell
+      goes-on : (vs′ : List ℕ) → Placing (joined (found n s)) vs₀ vs′ (to + v) (joined (cell .others)) → Copying n s vs₀ vs′ os₀ (set os i to) (i + 1) (at + 4 + v) (to + v)
+      goes-on vs′ p =
           let one : n - i - 1 ≡ n - (i + 1) = omega arith in
           record {
-            cells = coming .others;
+            cells = cell .others;
             within = omega arith;
-            small = omega (arith, c .small);
-            stored = ap₂ (λ (m k : ℕ). interleavedCells m (drop (at + 4 + k) s)) (sym one) e ∙ coming .after;
-            laid = laying-is stored-next (ap (ends end) (coming .whole) ∙ ap (λ (k : ℕ). (end + k) ∷ ends (end + k) (coming .others)) long);
+            stored = ap₂ (λ (m k : ℕ). interleavedCells m (drop (at + 4 + k) s)) (sym one) e ∙ cell .after;
+            placed = p;
+            laid = laying-is offset-next (ap (ends to) whole ∙ ap (λ (k : ℕ). (to + k) ∷ ends (to + k) (cell .others)) long);
           }
+
+      -- an empty cell
+      pub copy-none : v ≤ 0 → Copying n s vs₀ vs os₀ (set os i to) (i + 1) (at + 4) to
+      copy-none z =
+          let nothing : part ≡ [] = ap (λ (k : ℕ). take k (drop (at + 4) s)) (zero-of z) in
+          subst (λ (k : ℕ). Copying n s vs₀ vs os₀ (set os i to) (i + 1) k to) (omega arith)
+          (subst (λ (k : ℕ). Copying n s vs₀ vs os₀ (set os i to) (i + 1) (at + 4 + v) k) (omega arith)
+          (goes-on vs (subst (λ (k : ℕ). Placing (joined (found n s)) vs₀ vs k (joined (cell .others))) (omega arith)
+          (placing-is here (ap (λ (l : List ℕ). l ++ joined (cell .others)) nothing)))))
+        where
+          zero-of : v ≤ 0 → v ≡ 0
+          zero-of y = omega arith
+
+      module _ (sum : ℕ) (t : sum ≡ totalOf (found n s)) where
+        -- room for the cell among the values, and so much behind it among the bytes
+        pub copy-fits : (to ≤ sum) × (v ≤ sum - to)
+        copy-fits =
+            let all : to + length (part ++ joined (cell .others)) ≡ sum = placing-left here ∙ sym t in
+            (omega arith, omega (arith, length-append part (joined (cell .others)), long))
+
+        pub copy-source : at + 4 + (sum - to) ≤ length s
+        copy-source =
+            omega (arith, cells-room (n - i) (drop at s) (c .cells) (c .stored), length-drop at s, placing-left (c .placed), copy-field)
+
+        pub copy-more : (vs′ : List ℕ) → vs′ ≡ overAt to (reached v (sum - to) (drop (at + 4) s)) vs
+            → Copying n s vs₀ vs′ os₀ (set os i to) (i + 1) (at + 4 + v) (to + v)
+        copy-more vs′ f =
+            goes-on vs′
+            (subst (λ (k : ℕ). Placing (joined (found n s)) vs₀ vs′ (to + k) (joined (cell .others))) long
+            (placing-part part (joined (cell .others)) here (reached v (sum - to) (drop (at + 4) s)) fits enough first vs′ f))
+          where
+            fits : to + length (reached v (sum - to) (drop (at + 4) s)) ≤ length (joined (found n s))
+            fits = omega (arith, reached-room v (sum - to) (drop (at + 4) s), copy-fits, t)
+
+            enough : length part ≤ length (reached v (sum - to) (drop (at + 4) s))
+            enough = omega (arith, reached-long v (sum - to) (drop (at + 4) s) (copy-fits .1) (omega (arith, length-drop (at + 4) s, copy-cell)), long)
+
+            first : take (length part) (reached v (sum - to) (drop (at + 4) s)) ≡ part
+            first = ap (λ (k : ℕ). take k (reached v (sum - to) (drop (at + 4) s))) long ∙ reached-front v (sum - to) (drop (at + 4) s) (copy-fits .1)

@@ -4,15 +4,16 @@ use mathlib.Core.Path.{_≡_, refl, sym, ap, _∙_}
 use Prim.Native.Nat.{ℕ, suc, _+_, _*_, _<_, _≤_}
 use native.Mathlib.Omega.{arith}
 use mathlib.Core.Bool.{true}
-use mathlib.Core.List.{List}
-use lib.ListN.{length, take, drop}
+use mathlib.Core.List.{List, [], _∷_}
+use lib.ListN.{length, take, drop, replicate, length-append}
 use lib.Dec.{leb}
+use lib.Seq.{take-all}
 use borrow.Author.Tests.{le-leb, lt-leb, eq-eqb, ne-eqb}
 use Rattle.array.specs.Answer.{Answer, gives, refuses, mapAnswer, Outcome}
 use Rattle.array.specs.Limits.{mostCells, mostBytes}
 use Rattle.array.specs.Lists.{joined}
 use Rattle.array.specs.Bytes.{unle}
-use Rattle.array.specs.Offsets.{offsetsOf}
+use Rattle.array.specs.Offsets.{ends, offsetsOf}
 use Rattle.array.specs.Cells.{Value}
 use Rattle.array.specs.Content.{RaggedContent}
 use Rattle.array.specs.Buffers.{RaggedLengths, raggedLengthsOf, over, raggedOutcome}
@@ -27,6 +28,14 @@ abbrev pub refused : ℕ → RaggedContent → Outcome RaggedLengths RaggedConte
 refused e old = record { answer = refuses e; buffers = old }
 
 -- ---- write_cells
+
+-- cells of no bytes all end at 0
+zero-ends : (vs : List Value) → totalOf vs ≡ 0 → ends 0 vs ≡ replicate (length vs) 0
+zero-ends [] e = refl
+zero-ends (v ∷ vs) e =
+    let both : length v + totalOf vs ≡ 0 = sym (length-append v (joined vs)) ∙ e in
+    let here : 0 + length v ≡ 0 = omega arith in
+    ap (λ (k : ℕ). k ∷ ends k vs) here ∙ ap (λ (l : List ℕ). 0 ∷ l) (zero-ends vs (omega arith))
 
 module _ {n : ℕ} {s : List ℕ} {sum : ℕ} (w : Walked n s sum) (old : RaggedContent) where
   abbrev cellsOutcome : Outcome RaggedLengths RaggedContent
@@ -59,6 +68,16 @@ module _ {n : ℕ} {s : List ℕ} {sum : ℕ} (w : Walked n s sum) (old : Ragged
           → _≡_ {A = Outcome RaggedLengths RaggedContent} (record { answer = gives (record { values = sum; offsets = n + 1 }); buffers = contentRagged values offsets }) cellsOutcome
       all-written f ev eo =
           rw (few, for-values, le-leb (length (offsetsOf (found n s))) (length (old .offsets)) (omega (arith, count)), w .total, sym count, ev, eo)
+
+      -- and no cell has a byte
+      pub none-written : sum ≡ 0 → n + 1 ≤ length (old .offsets) → {offsets : List ℕ} → offsets ≡ over (replicate (n + 1) 0) (old .offsets)
+          → _≡_ {A = Outcome RaggedLengths RaggedContent} (record { answer = gives (record { values = sum; offsets = n + 1 }); buffers = contentRagged (old .values) offsets }) cellsOutcome
+      none-written z f e =
+          let none : totalOf (found n s) ≡ 0 = omega (arith, w .total) in
+          let all : suc (length (found n s)) ≡ n + 1 = omega (arith, length-cells n (drop 4 s) (found n s) (w .all)) in
+          let zeros : offsetsOf (found n s) ≡ replicate (n + 1) 0 = ap (λ (l : List ℕ). 0 ∷ l) (zero-ends (found n s) none) ∙ ap (λ (k : ℕ). replicate k 0) all in
+          all-written f (ap (λ (l : List ℕ). over l (old .values)) (take-all 0 (joined (found n s)) (omega arith)))
+          (e ∙ ap (λ (l : List ℕ). over l (old .offsets)) (sym zeros))
 
 -- ---- decode_interleaved
 

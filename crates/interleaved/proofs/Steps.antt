@@ -1,15 +1,16 @@
 -- One stored cell, by its place: what the definition does with it, and what stands there where nothing is refused.
 -- Assumes nothing.
 use mathlib.Core.Path.{_≡_, refl, ap, _∙_}
-use Prim.Native.Nat.{ℕ, zero, suc, _+_, _-_, _<_, _≤_}
+use Prim.Native.Nat.{ℕ, zero, suc, _+_, _-_, _*_, _<_, _≤_}
 use native.Mathlib.Omega.{arith}
 use mathlib.Core.Bool.{Bool, true, false}
 use mathlib.Core.List.{List, [], _∷_}
-use lib.ListN.{length, take, drop, length-drop}
+use lib.ListN.{length, take, drop, length-append, length-drop}
 use lib.Dec.{leb}
-use lib.Seq.{drop-drop}
+use lib.Seq.{drop-drop, length-take-le}
 use borrow.Author.Tests.{le-leb, lt-leb, leb-true, leb-false}
 use Rattle.array.specs.Answer.{Answer, gives, refuses, andThen}
+use Rattle.array.specs.Lists.{joined}
 use Rattle.array.specs.Bytes.{unle}
 use Rattle.array.specs.Cells.{Value}
 use Rattle.codec.specs.Interleaved.{interleavedCells}
@@ -76,3 +77,21 @@ length-cells zero s vs e = let z : vs ≡ [] = cc in ap length z
 length-cells (suc n) s vs e =
     let c : Cell s 0 n vs = cell-at s 0 n vs e in
     ap length (c .whole) ∙ ap suc (length-cells n (drop (0 + 4 + lengthAt s 0) s) (c .others) (c .after))
+
+-- a length field and the bytes of each lie in the string
+pub cells-room : (n : ℕ) (s : List ℕ) (vs : List Value) → interleavedCells n s ≡ gives vs → 4 * n + length (joined vs) ≤ length s
+unfolding interleavedCells
+cells-room zero s vs e = let z : vs ≡ [] = cc in omega (arith, ap (λ (us : List Value). length (joined us)) z)
+cells-room (suc n) s vs e =
+    let c : Cell s 0 n vs = cell-at s 0 n vs e in
+    let cell : List ℕ = take (lengthAt s 0) (drop (0 + 4) s) in
+    let long : length cell ≡ lengthAt s 0 = length-take-le (lengthAt s 0) (drop (0 + 4) s) (omega (arith, length-drop (0 + 4) s, c .fits)) in
+    omega (
+      arith,
+      cells-room n (drop (0 + 4 + lengthAt s 0) s) (c .others) (c .after),
+      length-drop (0 + 4 + lengthAt s 0) s,
+      c .fits,
+      ap (λ (us : List Value). length (joined us)) (c .whole),
+      length-append cell (joined (c .others)),
+      long,
+    )

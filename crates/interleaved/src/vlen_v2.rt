@@ -1,5 +1,5 @@
 // The older interleaved form of ragged values, read: a 4-byte count, then for each cell a 4-byte length and its bytes.
-// A checking walk comes before the first store; the walks that copy cannot fail.
+// A checking walk comes before the first store; the walk that copies cannot fail.
 use array::answer::WrittenRagged;
 use array::array_bytes;
 use array::copy;
@@ -8,14 +8,14 @@ use array::field::Field;
 use array::refusal;
 use array::shape;
 ghost use mathlib.Core.Path.{_≡_};
-ghost use Prim.Native.Nat.{_+_, _≤_};
-ghost use lib.ListN.{length};
+ghost use Prim.Native.Nat.{_+_, _<_, _≤_};
+ghost use lib.ListN.{length, drop, replicate};
 ghost use Rattle.array.specs.Lists.{joined};
 ghost use Rattle.array.specs.Offsets.{offsetsOf};
-ghost use Rattle.array.specs.Buffers.{over, raggedOutcome, raggedLengthsOf};
+ghost use Rattle.array.specs.Buffers.{over, overAt, raggedOutcome, raggedLengthsOf};
 ghost use Rattle.array.specs.Outcome.{contentRagged, outcomeRagged};
 ghost use Rattle.codec.specs.Calls.{interleavedDecoded};
-ghost use Rattle.interleaved.specs.Walk.{toldWalk, walkAnswer, totalOf, found, Found, Walked, cellsAnswer};
+ghost use Rattle.interleaved.specs.Walk.{toldWalk, walkAnswer, totalOf, found, Found, Walked, reached, cellsAnswer};
 
 // What the checking walk over the stored cells finds: how many value bytes they have, or the refusal.
 pub enum Walk {
@@ -24,62 +24,89 @@ pub enum Walk {
 }
 
 // Each length is held against what is left, so that no position wraps; the sum stays below the position.
+// An empty cell, and one as long as the one before, has a branch of its own: there the next place does not wait for the length.
 fn walk_cells(bytes: &[u8], cells: usize) -> Walk
     ensures { λ r. ⌜ toldWalk r ≡ walkAnswer cells (now (bytes .entry)) ⌝ }
 {
     let mut left = cells;
     let mut at: usize = 4;
     let mut sum: usize = 0;
+    let mut last: usize = 0;
     while 0 < left {
         let Field::Value(field) = field::read_u32(bytes, at) else {
             return Walk::Refused(refusal::PAST_END);
         };
         let length = field as usize;
         at += 4;
-        if bytes.len() - at < length {
-            return Walk::Refused(refusal::PAST_END);
-        }
-        at += length;
-        sum += length;
         left -= 1;
+        if 0 < length {
+            if length == last {
+                if bytes.len() - at < last {
+                    return Walk::Refused(refusal::PAST_END);
+                }
+                at += last;
+                sum += last;
+            } else {
+                if bytes.len() - at < length {
+                    return Walk::Refused(refusal::PAST_END);
+                }
+                at += length;
+                sum += length;
+                last = length;
+            }
+        }
     }
     Walk::Sum(sum)
 }
 
-// The bytes of all cells, end to end.
-fn copy_values(values: &mut [u8], bytes: &[u8], cells: usize)
-    requires { ⌜ Found cells (now bytes) × (totalOf (found cells (now bytes)) ≤ length (now values)) ⌝ }
-    ensures { λ _. ⌜ now (values .exit) ≡ over (joined (found cells (now (bytes .entry)))) (now (values .entry)) ⌝ }
+// Copies a cell of `size` bytes and what lies behind it, up to a whole number of blocks or to the end of the room: whole blocks
+// are copied without a test for each byte.
+fn copy_cell(values: &mut [u8], to: usize, bytes: &[u8], at: usize, size: usize, room: usize)
+    requires { ⌜ (0 < size) × (size ≤ room) × (to + room ≤ length (now values)) × (at + room ≤ length (now bytes)) ⌝ }
+    ensures { λ _. ⌜ now (values .exit) ≡ overAt to (reached size room (drop at (now (bytes .entry)))) (now (values .entry)) ⌝ }
 {
-    let mut left = cells;
-    let mut at: usize = 4;
-    let mut to: usize = 0;
-    while 0 < left {
-        let length = field::le4_at(bytes, at) as usize;
-        at += 4;
-        copy::copy_bytes(values, to, bytes, at, length);
-        at += length;
-        to += length;
-        left -= 1;
+    let blocks = (size - 1) / 32 * 32 + 32;
+    if room < blocks {
+        copy::copy_bytes(values, to, bytes, at, room);
+    } else {
+        copy::copy_bytes(values, to, bytes, at, blocks);
     }
 }
 
-// Where each cell begins, and where the last one ends.
-fn copy_offsets(offsets: &mut [u64], bytes: &[u8], cells: usize)
-    requires { ⌜ Found cells (now bytes) × (cells + 1 ≤ length (now offsets)) ⌝ }
-    ensures { λ _. ⌜ now (offsets .exit) ≡ over (offsetsOf (found cells (now (bytes .entry)))) (now (offsets .entry)) ⌝ }
+// The bytes of all cells, `sum` of them, end to end; where each cell begins, and where the last one ends.
+// What is copied beyond a cell, the cells after it write over.
+fn copy_cells(values: &mut [u8], offsets: &mut [u64], bytes: &[u8], cells: usize, sum: usize)
+    requires { ⌜ Found cells (now bytes) × (sum ≡ totalOf (found cells (now bytes))) × (sum ≤ length (now values)) × (cells + 1 ≤ length (now offsets)) ⌝ }
+    ensures joins { λ _. ⌜ now (values .exit) ≡ over (joined (found cells (now (bytes .entry)))) (now (values .entry)) ⌝ }
+    ensures places { λ _. ⌜ now (offsets .exit) ≡ over (offsetsOf (found cells (now (bytes .entry)))) (now (offsets .entry)) ⌝ }
 {
     let mut i: usize = 0;
     let mut at: usize = 4;
-    let mut end: u64 = 0;
+    let mut to: usize = 0;
     while i < cells {
-        let length = field::le4_at(bytes, at);
-        offsets[i] = end;
-        at = at + 4 + length as usize;
-        end += length;
+        let length = field::le4_at(bytes, at) as usize;
+        offsets[i] = to as u64;
+        at += 4;
+        i += 1;
+        if 0 < length {
+            copy_cell(values, to, bytes, at, length, sum - to);
+            at += length;
+            to += length;
+        }
+    }
+    offsets[i] = to as u64;
+}
+
+// Where no cell has a byte, each begins and ends at 0.
+fn zero_offsets(offsets: &mut [u64], count: usize)
+    requires { ⌜ count ≤ length (now offsets) ⌝ }
+    ensures { λ _. ⌜ now (offsets .exit) ≡ over (replicate count 0) (now (offsets .entry)) ⌝ }
+{
+    let mut i: usize = 0;
+    while i < count {
+        offsets[i] = 0;
         i += 1;
     }
-    offsets[i] = end;
 }
 
 // Cells that the walk found, `sum` bytes in all: 5, 6, and then the copying.
@@ -105,8 +132,11 @@ fn write_cells(
     if offsets.len() < count {
         return WrittenRagged::Refused(refusal::OUTPUT);
     }
-    copy_values(values, bytes, cells);
-    copy_offsets(offsets, bytes, cells);
+    if sum == 0 {
+        zero_offsets(offsets, count);
+        return WrittenRagged::Lengths(sum, count);
+    }
+    copy_cells(values, offsets, bytes, cells, sum);
     WrittenRagged::Lengths(sum, count)
 }
 

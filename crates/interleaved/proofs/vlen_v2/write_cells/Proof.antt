@@ -4,7 +4,7 @@ use native.Mathlib.Omega.{arith}
 use borrow.Author.Needs.{needs}
 use Rattle.array.specs.Limits.{mostBytes, mostCells}
 use Rattle.array.specs.Outcome.{contentRagged}
-use Rattle.interleaved.proofs.Outcomes.{too-large, values-short, offsets-short, all-written}
+use Rattle.interleaved.proofs.Outcomes.{too-large, values-short, offsets-short, all-written, none-written}
 use Rattle.interleaved.proofs.vlen_v2.write_cells.Statement.{statement}
 use Rattle.interleaved.proofs.vlen_v2.write_cells.Tie as tie
 
@@ -24,28 +24,38 @@ returns-3 : tie.Need-returns-3
 unfolding mostBytes
 returns-3 c = offsets-short (c .before .before .before .before .before .before .pre) _ (c .before .before .if1 .left) (c .before .if2 .left) (c .if3 .taken)
 
-copy-values-requires : tie.Need-copy-values-requires
-copy-values-requires c κs = search needs
-
-copy-offsets-requires : tie.Need-copy-offsets-requires
-copy-offsets-requires c κs = search needs
+zero-offsets-requires : tie.Need-zero-offsets-requires
+zero-offsets-requires c κs = search needs
 
 same-length : tie.Need-same-length
 same-length c = search needs
 
-same-length-2 : tie.Need-same-length-2
-same-length-2 c = search needs
-
 returns-4 : tie.Need-returns-4
 unfolding mostBytes
 returns-4 c =
-    let start = c .before .before .before .before .before .before .before .before .before .before .before .before .before .before in
-    all-written (start .pre) (contentRagged (start .args .values .now) (start .args .offsets .now))
-    (c .before .before .before .before .before .before .before .before .before .before .if1 .left)
-    (c .before .before .before .before .before .before .before .before .before .if2 .left)
-    (c .before .before .before .before .before .before .before .before .if3 .left)
-    (c .before .before .before .before .before .before .copy-values .ensures)
-    (c .before .before .copy-offsets .ensures)
+    let filled = c .before .before in
+    let room = filled .before .before .before in
+    let start = room .before .before .before .before .before .before in
+    none-written (start .pre) (contentRagged (start .args .values .now) (start .args .offsets .now)) (room .before .before .if1 .left) (room .before .if2 .left)
+    (filled .before .before .if4 .taken) (room .if3 .left) (filled .zero-offsets .ensures)
+
+copy-cells-requires : tie.Need-copy-cells-requires
+copy-cells-requires c κs = search needs
+
+same-length-2 : tie.Need-same-length-2
+same-length-2 c = search needs
+
+same-length-3 : tie.Need-same-length-3
+same-length-3 c = search needs
+
+returns-5 : tie.Need-returns-5
+unfolding mostBytes
+returns-5 c =
+    let copied = c .before .before .before .before in
+    let room = copied .before .before .before .before in
+    let start = room .before .before .before .before .before .before in
+    all-written (start .pre) (contentRagged (start .args .values .now) (start .args .offsets .now)) (room .before .before .if1 .left) (room .before .if2 .left) (room .if3 .left)
+    (copied .copy-cells .ensures .0) (copied .copy-cells .ensures .1)
 
 pub write-cells-spec : {M : Type 1} → statement M
 write-cells-spec =
@@ -55,8 +65,10 @@ write-cells-spec =
     returns-2
     add-count
     returns-3
-    copy-values-requires
-    copy-offsets-requires
+    zero-offsets-requires
     same-length
+    returns-4
+    copy-cells-requires
     same-length-2
-    returns-4)
+    same-length-3
+    returns-5)
