@@ -1,4 +1,4 @@
--- Cells reversed in place, for any size: a cell by its ends or at once, and one cell after another; and a copy, the last byte first.
+-- Cells reversed in place, for any size: a cell by its ends or at once, and one cell after another.
 -- Assumes nothing.
 use mathlib.Core.Path.{_≡_, refl, sym, ap, ap₂, _∙_}
 use mathlib.Core.Bool.{true, false}
@@ -183,45 +183,6 @@ module _ (at k : ℕ) (d : List ℕ) where
         kept =
             let e : take low out ++ take left (drop low out) ≡ take (low + left) out = sym (take-add low left out) in
             ap (λ (r : List ℕ). over r out) e ∙ ap (λ (j : ℕ). take (low + left) out ++ drop j out) (length-take-le (low + left) out (l .room)) ∙ take-append-drop (low + left) out
-
--- ---- a copy, the last byte first
-
-back-next : (s : List ℕ) (at left : ℕ) → 0 < left → at + left ≤ length s → reverse (take left (drop at s)) ≡ getD s (at + (left - 1)) 0 ∷ reverse (take (left - 1) (drop at s))
-back-next s at left h b =
-    let e : left ≡ suc (left - 1) = omega arith in
-    let j : ℕ = left - 1 in
-    ap (λ (i : ℕ). reverse (take i (drop at s))) e
-    ∙ ap reverse (take-suc (drop at s) j 0 (omega (arith, length-drop at s)))
-    ∙ reverseAux-append (take j (drop at s)) (getD (drop at s) j 0 ∷ []) []
-    ∙ ap (λ (x : ℕ). x ∷ reverse (take j (drop at s))) (getD-drop at s j 0)
-
-pub record Backing (d : List ℕ) (to : ℕ) (s : List ℕ) (at k : ℕ) (out : List ℕ) (i left : ℕ) : Type 0 where
-  pub fits : left ≤ k
-  pub laid : Laying (reverse (take k (drop at s))) d to out i (reverse (take left (drop at s)))
-
-module _ (d : List ℕ) (to : ℕ) (s : List ℕ) (at k : ℕ) (p : to + k ≤ length d) (q : at + k ≤ length s) where
-  pub back-begins : Backing d to s at k d 0 k
-  back-begins = record {
-    fits = omega arith;
-    laid = laying-begins (reverse (take k (drop at s))) d to (omega (arith, length-reverse (take k (drop at s)), length-take-le k (drop at s) (omega (arith, length-drop at s))));
-  }
-
-  module _ (out : List ℕ) (i left : ℕ) (l : Backing d to s at k out i left) where
-    pub back-same : length out ≡ length d
-    back-same = laying-same (reverse (take k (drop at s))) d to out i _ (l .laid)
-
-    pub back-ends : left ≡ 0 → out ≡ overAt to (reverse (take k (drop at s))) d
-    back-ends e = laying-ends (reverse (take k (drop at s))) d to out i (laying-is (l .laid) (ap (λ (j : ℕ). reverse (take j (drop at s))) e))
-
-    module _ (h : 0 < left) where
-      next : Laying (reverse (take k (drop at s))) d to out i (getD s (at + (left - 1)) 0 ∷ reverse (take (left - 1) (drop at s)))
-      next = laying-is (l .laid) (back-next s at left h (omega (arith, l .fits)))
-
-      pub back-room : to + i < length out
-      back-room = laying-room (reverse (take k (drop at s))) d to out i _ _ next
-
-      pub back-more : Backing d to s at k (set out (to + i) (getD s (at + (left - 1)) 0)) (i + 1) (left - 1)
-      back-more = record { fits = omega (arith, l .fits); laid = laying-store (reverse (take k (drop at s))) d to out i _ _ next }
 
 -- ---- the call
 
