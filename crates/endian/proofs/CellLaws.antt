@@ -12,7 +12,7 @@ use Rattle.array.specs.Buffers.{over, overAt}
 use Rattle.array.specs.Kind.{Order, little, big, ordered}
 use Rattle.array.proofs.Lists.{map-id}
 use Rattle.array.proofs.Over.{over-again, over-at-length}
-use Rattle.array.proofs.Unrolled.{reads, reads-take, stores, stores-over}
+use Rattle.array.proofs.Unrolled.{reads, reads-take}
 use Rattle.endian.specs.Calls.{reversedCells}
 
 -- ---- what is laid behind what was laid
@@ -74,13 +74,16 @@ reversed-take k (suc n) s h =
     ∙ ap₂ (λ (v r : List ℕ). reverse v ++ reversedCells k n r) (take-at a b k la) (drop-at a b k la)
     ∙ ap (λ (r : List ℕ). reverse a ++ r) (reversed-take k n (drop k s) (omega (arith, length-drop k s)))
 
-pub cells-at-once : (k n : ℕ) (s d : List ℕ) (at to : ℕ) → to + n * k ≤ length d → at + n * k ≤ length s
-    → stores d to (reversedCells k n (reads s at (n * k))) ≡ overAt to (reversedCells k n (drop at s)) d
-cells-at-once k n s d at to p q =
+-- m bytes of them, and then the others
+pub cells-at-once : (k n m : ℕ) (s d : List ℕ) (at to : ℕ) → m ≤ n * k → to + n * k ≤ length d → at + n * k ≤ length s → {out out′ : List ℕ}
+    → out ≡ overAt to (take m (reversedCells k n (reads s at (n * k)))) d → out′ ≡ overAt (to + m) (drop m (reversedCells k n (reads s at (n * k)))) out
+    → out′ ≡ overAt to (reversedCells k n (drop at s)) d
+cells-at-once k n m s d at to b p q f g =
     let h : n * k ≤ length (drop at s) = omega (arith, length-drop at s) in
     let v : List ℕ = reversedCells k n (reads s at (n * k)) in
     let e : v ≡ reversedCells k n (drop at s) = ap (reversedCells k n) (reads-take s at (n * k) q) ∙ reversed-take k n (drop at s) h in
-    stores-over to v d (omega (arith, ap length e, length-reversed k n (drop at s) h)) ∙ ap (λ (w : List ℕ). overAt to w d) e
+    let l : length (take m v) ≡ m = length-take-le m v (omega (arith, ap length e, length-reversed k n (drop at s) h)) in
+    g ∙ ap (overAt (to + m) (drop m v)) f ∙ over-next to m (take m v) (drop m v) d (omega arith) l ∙ ap (λ (w : List ℕ). overAt to w d) (take-append-drop m v ∙ e)
 
 -- ---- the two orders
 
