@@ -145,7 +145,18 @@ fn copy_cell_16(out: &mut [u8], to: usize, s: &[u8], at: usize)
 }
 
 // Writes eight bytes.
-fn put_8(out: &mut [u8], at: usize, b0: u8, b1: u8, b2: u8, b3: u8, b4: u8, b5: u8, b6: u8, b7: u8)
+pub fn put_8(
+    out: &mut [u8],
+    at: usize,
+    b0: u8,
+    b1: u8,
+    b2: u8,
+    b3: u8,
+    b4: u8,
+    b5: u8,
+    b6: u8,
+    b7: u8,
+)
     requires { ⌜ at + 8 ≤ length (now «out») ⌝ }
     ensures { λ _. ⌜ now («out» .exit) ≡ overAt at (b0 ∷ b1 ∷ b2 ∷ b3 ∷ b4 ∷ b5 ∷ b6 ∷ b7 ∷ []) (now («out» .entry)) ⌝ }
 {
