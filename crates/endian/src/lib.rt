@@ -1,4 +1,5 @@
 // Cells with their bytes reversed: in place, and on the way to another slice.
+pub mod cells;
 pub mod word;
 
 use array::answer::Written;
@@ -152,13 +153,18 @@ fn reverse_cell(bytes: &mut [u8], at: usize, size: usize)
     }
 }
 
-// Copies k bytes, the last first.
+// Copies k bytes, the last first: by words while a word is left.
 pub fn copy_reversed(out: &mut [u8], to: usize, s: &[u8], at: usize, k: usize)
     requires { ⌜ (to + k ≤ length (now «out»)) × (at + k ≤ length (now s)) ⌝ }
     ensures { λ _. ⌜ now («out» .exit) ≡ overAt to (reverse (take k (drop at (now (s .entry))))) (now («out» .entry)) ⌝ }
 {
     let mut i = 0;
     let mut left = k;
+    while 8 <= left {
+        left -= 8;
+        cells::copy_cell_8(out, to + i, s, at + left);
+        i += 8;
+    }
     while 0 < left {
         left -= 1;
         out[to + i] = s[at + left];
