@@ -26,6 +26,11 @@ plane-length from n d h = length-take-le n (drop from d) (omega (arith, length-d
 pub plane-byte : (from n : ℕ) (d : List ℕ) (i : ℕ) → i < n → getD d (from + i) 0 ≡ getD (planeAt from n d) i 0
 plane-byte from n d i h = sym (getD-take n (drop from d) i 0 h ∙ getD-drop from d i 0)
 
+-- a cell takes at most one of the stored ones
+pub next-most : (m : Mark) (k n : ℕ) → k < n → nextAt m k 1 ≤ n
+next-most isNull k n h = omega arith
+next-most isSet k n h = omega arith
+
 -- i cells of the plane at `to` are written, and j stored bytes are taken
 pub record Placing (d : List ℕ) (from to n : ℕ) (s : List ℕ) (at cells : ℕ) (out : List ℕ) (i j : ℕ) : Type 0 where
   pub apart : from + n ≤ to
@@ -104,9 +109,6 @@ module _ {d : List ℕ} {from to n : ℕ} {s : List ℕ} {at cells : ℕ} {out :
             ap (spread 0 (drop i (planeAt from n d))) (drop-cons s (at + j) 0 (omega (arith, l .enough))) ∙ spread-set 0 (planeAt from n d) i (getD s (at + j) 0) (drop (suc (at + j)) s) inside b
                 ∙ ap (λ (k : ℕ). getD s (at + j) 0 ∷ spread 0 (drop (i + 1) (planeAt from n d)) (drop k s)) k,
           )
-
-      pub placing-next : nextAt m j 1 ≤ cells
-      placing-next = omega (arith, next m mark-is .0)
 
       pub placing-more : (b : ℕ) → b ≡ ifSet m (getD s (at + j) 0) 0 → Placing d from to n s at cells (set out (to + i) b) (i + 1) (nextAt m j 1)
       placing-more b eb = record {

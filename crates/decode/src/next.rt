@@ -25,3 +25,13 @@ pub fn byte_if(mark: Mark, b: u8) -> u8
         Mark::Set => b,
     }
 }
+
+// The word v for a set cell, and 0 for a null one.
+pub fn word_if(mark: Mark, v: u64) -> u64
+    ensures { λ r. ⌜ r ≡ ifSet (toldMark mark) v 0 ⌝ }
+{
+    match mark {
+        Mark::Null => 0,
+        Mark::Set => v,
+    }
+}

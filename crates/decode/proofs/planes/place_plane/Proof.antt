@@ -7,7 +7,7 @@ use lib.ListN.{length}
 use borrow.Author.Needs.{needs}
 use Rattle.codec.specs.Marks.{toldMark}
 use Rattle.decode.specs.Next.{ifSet}
-use Rattle.decode.proofs.Placing.{Placing, placing-begins, placing-all, placing-same, placing-ends, placing-inside, placing-next, placing-more}
+use Rattle.decode.proofs.Placing.{next-most, Placing, placing-begins, placing-all, placing-same, placing-ends, placing-inside, placing-more}
 use Rattle.decode.proofs.planes.place_plane.Statement.{statement}
 use Rattle.decode.proofs.planes.place_plane.Tie as tie
 
@@ -65,7 +65,7 @@ slice-write-masks : tie.Need-slice-write-masks Inv-loop μ-loop
 slice-write-masks c = omega (arith, (same (c .before .before .before .before .before)), (inside (c .before .before .before .before)), c .before .before .before .before .before .before .before .before .before .pre)
 
 skip-requires : tie.Need-skip-requires Inv-loop μ-loop
-skip-requires c κs = omega (arith, placing-next (c .before .before .before .before .before .loop .inv) (c .before .before .before .before .loop-test .taken) (toldMark (c .before .mark-of .result)) (c .before .mark-of .ensures))
+skip-requires c κs = omega (arith, next-most (toldMark (c .before .mark-of .result)) _ _ (c .before .before .before .before .loop-test .taken))
 
 add-i : tie.Need-add-i Inv-loop μ-loop
 add-i c = omega (arith, (same (c .before .before .before .before .before .before)), (inside (c .before .before .before .before .before)), c .before .before .before .before .before .before .before .before .before .before .pre)
