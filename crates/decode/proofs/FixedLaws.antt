@@ -4,10 +4,10 @@ use mathlib.Core.Path.{_≡_, refl, sym, ap, _∙_, subst}
 use mathlib.Core.Logic.{_≢_}
 use mathlib.Core.Bool.{Bool}
 use mathlib.Core.List.{List, [], map}
-use Prim.Native.Nat.{ℕ, zero, suc, _+_, _-_, _*_, _≤_}
+use Prim.Native.Nat.{ℕ, zero, suc, _+_, _-_, _*_, _≤_, _<_}
 use native.Mathlib.Omega.{arith}
 use native.Mathlib.Nat.{zero-mul}
-use lib.ListN.{length, drop, replicate, length-drop, length-map}
+use lib.ListN.{length, take, drop, replicate, length-drop}
 use borrow.Author.Tests.{eq-eqb, ne-eqb}
 use Rattle.array.specs.Answer.{Answer, gives, refuses, andThen, unless}
 use Rattle.array.specs.Limits.{mostCells, mostDepth, mostSize}
@@ -15,7 +15,9 @@ use Rattle.array.specs.Lists.{joined, pieces}
 use Rattle.array.specs.Kind.{Order, fixed, ordered}
 use Rattle.array.specs.Cells.{Value, Cell}
 use Rattle.array.specs.Content.{layout}
-use Rattle.array.proofs.Lists.{length-pieces}
+use Rattle.array.specs.Buffers.{over}
+use Rattle.array.specs.Outcome.{contentArray, outcomeArray}
+use Rattle.array.specs.declared.answer.WrittenArray.the-variants.{Refused, Lengths}
 use Rattle.codec.specs.Mask.{byteMask}
 use Rattle.codec.specs.Frame.{countSet}
 use Rattle.codec.specs.Spread.{spread}
@@ -23,13 +25,15 @@ use Rattle.codec.specs.Values.{getValues}
 use Rattle.codec.specs.Walk.{Innermost, valuesAt, noneSet, walked}
 use Rattle.codec.specs.Stored.{cellsFrom, answerBy, innermostCount}
 use Rattle.codec.specs.Calls.{readIn}
-use Rattle.codec.proofs.SpreadLaws.{spread-all}
 use Rattle.codec.proofs.Reading.{read-walked}
 use Rattle.codec.proofs.Walks.{walk-values, walk-none, values-flat, none-deep, passed-count}
-use Rattle.decode.specs.Reads.{fixedFrom, FixedWithin}
-use Rattle.decode.proofs.SpreadingValues.{valuesLeft, values-length}
-use Rattle.decode.proofs.CopyingCells.{cellsLeft, cells-length}
-use Rattle.decode.proofs.AllPlanes.{planesIn, innermostIn, masks-are, leaves-are, leaves-flat, count-are, planes-long, innermost-long}
+use Rattle.decode.specs.Outcomes.{readOutcome}
+use Rattle.decode.specs.Reads.{valuesOver, ValuesWithin, fixedFrom, FixedWithin}
+use Rattle.decode.proofs.Outcomes.{short-masks, short-values, all-written}
+use Rattle.decode.proofs.Levels.{times-first}
+use Rattle.decode.proofs.RunLaws.{cellsLeft, valuesLeft}
+use Rattle.decode.proofs.SpreadingValues.{cells-length, values-length}
+use Rattle.decode.proofs.AllPlanes.{planesIn, innermostIn, masks-are, leaves-are, leaves-flat, count-are, planes-long, innermost-read, innermost-long}
 
 -- ---- what is copied
 
@@ -47,16 +51,6 @@ module _ (o : Order) {d : ℕ} {s : List ℕ} {n at k size : ℕ} (r : FixedWith
   fixed-values f =
       ap joined (leaves-are (replicate size 0) s n d (map (ordered o) (pieces size k (drop at s))) f)
       ∙ ap (λ (c : ℕ). joined (spread (replicate size 0) (innermostIn s n (d - 1)) (map (ordered o) (pieces size c (drop at s))))) (fixed-count f)
-
-  -- where all cells are set the values are those that are stored
-  pub full-values : d ≢ 0 → k ≡ n → fixedFrom size o d s n at k .values ≡ cellsLeft size o s k at
-  unfolding fixedFrom
-  full-values f e =
-      let vs : List Value = map (ordered o) (pieces size k (drop at s)) in
-      let p : List ℕ = innermostIn s n (d - 1) in
-      let lp : length p ≡ n = innermost-long s n d (r .some) (r .masks) f in
-      let lv : length vs ≡ k = length-map (pieces size k (drop at s)) (ordered o) ∙ length-pieces size k (drop at s) in
-      ap joined (leaves-are (replicate size 0) s n d vs f ∙ spread-all (replicate size 0) p vs (sym (fixed-count f) ∙ e ∙ sym lp) (lv ∙ e ∙ sym lp))
 
   pub flat-count : d ≡ 0 → k ≡ n
   unfolding innermostCount
@@ -84,20 +78,61 @@ module _ (o : Order) {d : ℕ} {s : List ℕ} {n at k size : ℕ} (r : FixedWith
 
   pub fixed-values-long : length (fixedFrom size o d s n at k .values) ≡ n * size
   fixed-values-long =
-      by-depth (λ e. ap length (flat-values e) ∙ cells-length size o s [] k at (r .room) ∙ ap (λ (j : ℕ). j * size) (flat-count e))
+      by-depth (λ e. ap length (flat-values e) ∙ cells-length size o s k at (r .room) ∙ ap (λ (j : ℕ). j * size) (flat-count e))
       (λ f. ap length (fixed-values f)
-      ∙ values-length size o (innermostIn s n (d - 1)) s [] at (subst (λ (c : ℕ). at + c * size ≤ length s) (fixed-count f) (r .room))
+      ∙ values-length size o (innermostIn s n (d - 1)) s at (subst (λ (c : ℕ). at + c * size ≤ length s) (fixed-count f) (r .room))
       ∙ ap (λ (j : ℕ). j * size) (innermost-long s n d (r .some) (r .masks) f))
 
   pub fixed-offsets : fixedFrom size o d s n at k .offsets ≡ []
   unfolding fixedFrom
   fixed-offsets = refl
 
+-- ---- what is left behind: m, v and off are the outputs
+
+module _ (o : Order) {d : ℕ} {s : List ℕ} {n at k size : ℕ} (r : FixedWithin d s n at k size) (m v off : List ℕ) where
+  pub fixed-short-masks : length m < d * n → outcomeArray (Refused 6) m v off ≡ readOutcome (contentArray m v off) (gives (fixedFrom size o d s n at k))
+  fixed-short-masks h = short-masks (fixedFrom size o d s n at k) m v off (omega (arith, fixed-masks-long o r))
+
+  pub fixed-short-values : length v < n * size → outcomeArray (Refused 6) m v off ≡ readOutcome (contentArray m v off) (gives (fixedFrom size o d s n at k))
+  fixed-short-values h = short-values (fixedFrom size o d s n at k) m v off (omega (arith, fixed-values-long o r))
+
+  module _ (h : d * n ≤ length m) (i : n * size ≤ length v) where
+    written : (m′ v′ : List ℕ) → m′ ≡ over (fixedFrom size o d s n at k .masks) m → v′ ≡ over (fixedFrom size o d s n at k .values) v
+        → outcomeArray (Lengths (d * n) (n * size) 0) m′ v′ off ≡ readOutcome (contentArray m v off) (gives (fixedFrom size o d s n at k))
+    written m′ v′ em ev =
+        let em0 : length (fixedFrom size o d s n at k .masks) ≡ d * n = fixed-masks-long o r in
+        let ev0 : length (fixedFrom size o d s n at k .values) ≡ n * size = fixed-values-long o r in
+        let eo0 : length (fixedFrom size o d s n at k .offsets) ≡ 0 = ap length (fixed-offsets o r) in
+        all-written (fixedFrom size o d s n at k) m v off (omega arith) (omega arith) (omega arith) (d * n) (n * size) 0 m′ v′ off (sym em0) (sym ev0) (sym eo0) em ev
+        (ap (λ (p : List ℕ). over p off) (sym (fixed-offsets o r)))
+
+    pub flat-written : d ≡ 0 → (v′ : List ℕ) → v′ ≡ over (cellsLeft size o s k at) v → outcomeArray (Lengths (d * n) (n * size) 0) m v′ off ≡ readOutcome (contentArray m v off) (gives (fixedFrom size o d s n at k))
+    flat-written e v′ ev = written m v′ (ap (λ (p : List ℕ). over p m) (sym (flat-masks o r e))) (ev ∙ ap (λ (p : List ℕ). over p v) (sym (flat-values o r e)))
+
+    -- m′ has the planes, and from the innermost of them the values are spread
+    module _ (f : d ≢ 0) (m′ : List ℕ) (em : m′ ≡ over (planesIn s n (d - 1)) m) where
+      innermost : take n (drop (d * n - n) m′) ≡ innermostIn s n (d - 1)
+      innermost = innermost-read s n d (r .some) (r .masks) f m m′ em
+
+      pub values-within : length m′ ≡ length m → ValuesWithin v m′ (d * n - n) n s at size k
+      values-within e = record {
+        plane = omega (arith, times-first d n f);
+        count = fixed-count o r f ∙ ap countSet (sym innermost);
+        room = i;
+        stored = r .room;
+      }
+
+      pub deep-written : (v′ : List ℕ) → v′ ≡ over (valuesOver size o (take n (drop (d * n - n) m′)) (drop at s)) v
+          → outcomeArray (Lengths (d * n) (n * size) 0) m′ v′ off ≡ readOutcome (contentArray m v off) (gives (fixedFrom size o d s n at k))
+      deep-written v′ ev =
+          written m′ v′ (em ∙ ap (λ (p : List ℕ). over p m) (sym (fixed-masks o r f)))
+          (ev ∙ ap (λ (p : List ℕ). over (valuesOver size o p (drop at s)) v) innermost ∙ ap (λ (p : List ℕ). over p v) (sym (fixed-values o r f)))
+
 -- ---- what the copying rests on, by the walk
 
 module _ (d : ℕ) (s : List ℕ) (n size : ℕ) (h1 : 1 ≤ n) (h2 : n ≤ mostCells) (h3 : d ≤ mostDepth) (h4 : size ≤ mostSize) where
-  pub values-within : (a k : ℕ) → walked d s 0 n ≡ gives (valuesAt a k) → length s - a ≡ k * size → FixedWithin d s n a k size
-  values-within a k h e =
+  pub some-within : (a k : ℕ) → walked d s 0 n ≡ gives (valuesAt a k) → length s - a ≡ k * size → FixedWithin d s n a k size
+  some-within a k h e =
       let w = walk-values d s 0 n a k (omega arith) h in
       record {
         some = h1;

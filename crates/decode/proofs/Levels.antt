@@ -100,9 +100,6 @@ module _ {d : List ℕ} {n to left : ℕ} {s : List ℕ} {at cells : ℕ} (l : L
     pub levels-room : at + (16 + cells) ≤ length s
     levels-room = within-now left s at cells (l .within) f g
 
-    pub levels-count : at + 16 + countSet (take n (drop (to - n) d)) ≤ length s
-    levels-count = omega (arith, levels-room, l .count)
-
     pub levels-fits : to + n + (left - 1) * n ≤ length d
     levels-fits = omega (arith, l .room, times-first left n f)
 

@@ -1,7 +1,7 @@
 pub mod Outcomes
 pub mod Placing
+pub mod RunLaws
 pub mod SpreadingValues
-pub mod CopyingCells
 pub mod CopyingOffsets
 pub mod SpreadingOffsets
 pub mod Levels

@@ -1,4 +1,5 @@
 pub mod Outcomes
 pub mod Next
+pub mod Runs
 pub mod Ends
 pub mod Reads

@@ -1,12 +1,12 @@
 // Arrays of fixed values: the walk, then the need, and then the copying.
 use crate::planes::place_planes;
-use crate::values::copy_cells;
 use crate::values::spread_values;
 use array::answer::WrittenArray;
 use array::kind::ByteOrder;
 use array::refusal;
 use codec::optional::Walked;
 use codec::optional::walk_content;
+use endian::cells::copy_cells;
 ghost use mathlib.Core.Path.{_≡_};
 ghost use Prim.Native.Nat.{_≤_};
 ghost use Rattle.array.specs.Answer.{gives};
@@ -19,7 +19,7 @@ ghost use Rattle.array.specs.Outcome.{contentArray, outcomeArray};
 ghost use Rattle.decode.specs.Outcomes.{readOutcome};
 ghost use Rattle.decode.specs.Reads.{fixedFrom, FixedWithin};
 
-// Writes what the walk found: `cells` values from `at` on, for an array of n cells. Where all cells are set no plane is looked at.
+// Writes what the walk found: `cells` values from `at` on, for an array of n cells.
 pub fn write_fixed(
     s: &[u8],
     n: usize,
@@ -45,15 +45,11 @@ pub fn write_fixed(
         return WrittenArray::Refused(refusal::OUTPUT);
     }
     if depth == 0 {
-        copy_cells(values, cells, s, at, size, order);
+        copy_cells(values, 0, s, at, size, order, cells);
         return WrittenArray::Lengths(planes, bytes, 0);
     }
     place_planes(masks, n, depth, s);
-    if cells == n {
-        copy_cells(values, cells, s, at, size, order);
-        return WrittenArray::Lengths(planes, bytes, 0);
-    }
-    spread_values(values, masks, planes - n, n, s, at, size, order);
+    spread_values(values, masks, planes - n, n, s, at, size, order, cells);
     WrittenArray::Lengths(planes, bytes, 0)
 }
 

@@ -4,6 +4,7 @@ mod next;
 mod offsets;
 mod planes;
 mod ragged;
+mod runs;
 mod values;
 
 use array::answer::WrittenArray;

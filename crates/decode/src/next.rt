@@ -1,8 +1,7 @@
 // One cell of a plane, by its mark: a set cell takes the next stored one.
 use codec::mask::Mark;
 ghost use mathlib.Core.Path.{_≡_};
-ghost use Prim.Native.Nat.{_≤_, _<_};
-ghost use lib.ListN.{length, getD};
+ghost use Prim.Native.Nat.{_<_};
 ghost use Rattle.codec.specs.Marks.{toldMark};
 ghost use Rattle.decode.specs.Next.{ifSet, nextAt};
 
@@ -17,13 +16,22 @@ pub fn skip(mark: Mark, at: usize, size: usize) -> usize
     }
 }
 
-// The mask byte of the cell: the stored one at `at`, or 0.
-pub fn mask_byte(s: &[u8], at: usize, mark: Mark) -> u8
-    requires { ⌜ nextAt (toldMark mark) at 1 ≤ length (now s) ⌝ }
-    ensures { λ r. ⌜ r ≡ ifSet (toldMark mark) (getD (now (s .entry)) at 0) 0 ⌝ }
+// The byte b for a set cell, and 0 for a null one.
+pub fn byte_if(mark: Mark, b: u8) -> u8
+    ensures { λ r. ⌜ r ≡ ifSet (toldMark mark) b 0 ⌝ }
 {
     match mark {
         Mark::Null => 0,
-        Mark::Set => s[at],
+        Mark::Set => b,
+    }
+}
+
+// The word v for a set cell, and 0 for a null one.
+pub fn word_if(mark: Mark, v: u64) -> u64
+    ensures { λ r. ⌜ r ≡ ifSet (toldMark mark) v 0 ⌝ }
+{
+    match mark {
+        Mark::Null => 0,
+        Mark::Set => v,
     }
 }

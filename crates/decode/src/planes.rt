@@ -1,34 +1,51 @@
 // Mask planes, outermost first. Each level goes straight into its plane: its stored mask, spread over the plane above.
-use crate::next::mask_byte;
+use crate::next::byte_if;
 use crate::next::skip;
-use array::copy::copy_bytes;
 use array::copy::fill_bytes;
+use codec::mask::copy_to_plane;
 use codec::mask::count_set;
 use codec::mask::mark_of;
 use codec::mask::mask_length;
+use codec::mask::stored_byte;
 ghost use mathlib.Core.Path.{_≡_};
 ghost use mathlib.Core.List.{_++_};
 ghost use Prim.Native.Nat.{_+_, _-_, _≤_};
 ghost use lib.ListN.{length, take, drop};
 ghost use Rattle.array.specs.Buffers.{over, overAt};
+ghost use Rattle.codec.specs.Mask.{byteMask};
 ghost use Rattle.codec.specs.Frame.{countSet};
 ghost use Rattle.codec.specs.Spread.{spread};
 ghost use Rattle.codec.specs.Stored.{maskIn, planesBelow};
 ghost use Rattle.decode.specs.Reads.{LevelsWithin, PlanesWithin};
 
-// Spreads the stored mask at `at` over the plane of n cells at `from`, into the plane at `to` behind it.
-pub fn place_plane(masks: &mut [u8], from: usize, to: usize, n: usize, s: &[u8], at: usize)
-    requires { ⌜ (from + n ≤ to) × (to + n ≤ length (now masks)) × (at + countSet (take n (drop from (now masks))) ≤ length (now s)) ⌝ }
+// Spreads the stored mask at `at` over the plane of n cells at `from`, in which `cells` are set, into the plane at `to` behind it.
+// A byte is read for every cell until all are placed, so that no branch goes by the plane.
+pub fn place_plane(
+    masks: &mut [u8],
+    from: usize,
+    to: usize,
+    n: usize,
+    s: &[u8],
+    at: usize,
+    cells: usize,
+)
+    requires { ⌜ (from + n ≤ to) × (to + n ≤ length (now masks)) × (cells ≡ countSet (take n (drop from (now masks)))) × (at + byteMask .size cells ≤ length (now s)) ⌝ }
     ensures { λ _. ⌜ now (masks .exit) ≡ overAt to (spread 0 (take n (drop from (now (masks .entry)))) (drop at (now (s .entry)))) (now (masks .entry)) ⌝ }
 {
+    if cells == n {
+        copy_to_plane(masks, to, s, at, n);
+        return;
+    }
     let mut i = 0;
-    let mut j = at;
-    while i < n {
+    let mut j = 0;
+    while j < cells {
+        let b = stored_byte(s, at, j);
         let mark = mark_of(masks[from + i]);
-        masks[to + i] = mask_byte(s, j, mark);
+        masks[to + i] = byte_if(mark, b);
         j = skip(mark, j, 1);
         i += 1;
     }
+    fill_bytes(masks, to + i, n - i, 0);
 }
 
 // Places the planes below the one that ends at `to`, in which `cells` are set: `left` levels, the next frame being at `at`.
@@ -53,7 +70,7 @@ pub fn place_levels(
     }
     let mask = at + 16;
     let end = mask + mask_length(cells);
-    place_plane(masks, to - n, to, n, s, mask);
+    place_plane(masks, to - n, to, n, s, mask, cells);
     let set = count_set(&s[mask..end]);
     place_levels(masks, n, to + n, left - 1, s, end, set);
 }
@@ -65,7 +82,7 @@ pub fn place_planes(masks: &mut [u8], n: usize, depth: usize, s: &[u8])
         ++ planesBelow (maskIn (now (s .entry)) 0 n) (depth - 1) (now (s .entry)) (0 + (16 + n)) (countSet (maskIn (now (s .entry)) 0 n))) (now (masks .entry)) ⌝ }
 {
     let end = 16 + mask_length(n);
-    copy_bytes(masks, 0, s, 16, n);
+    copy_to_plane(masks, 0, s, 16, n);
     let set = count_set(&s[16..end]);
     place_levels(masks, n, n, depth - 1, s, end, set);
 }

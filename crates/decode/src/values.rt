@@ -1,61 +1,24 @@
-// Fixed values, cell by cell, in the array's byte order.
-use array::copy::copy_bytes;
+// Fixed values below masks, in the array's byte order. Those of the set cells are stored end to end.
+use crate::next::skip;
+use crate::next::word_if;
+use crate::runs::run_length;
 use array::copy::fill_bytes;
 use array::kind::ByteOrder;
-use codec::mask::Mark;
 use codec::mask::mark_of;
-use endian::copy_reversed;
+use endian::cells::copy_cells;
+use endian::word::is_word;
+use endian::word::put_word;
+use endian::word::word_at;
 ghost use mathlib.Core.Path.{_≡_};
-ghost use mathlib.Core.List.{map};
+ghost use mathlib.Core.Bool.{true};
 ghost use Prim.Native.Nat.{_+_, _*_, _≤_};
-ghost use lib.ListN.{length, take, drop, replicate};
-ghost use Rattle.array.specs.Lists.{joined, pieces};
-ghost use Rattle.array.specs.Kind.{big, ordered};
-ghost use Rattle.array.specs.Buffers.{over, overAt};
+ghost use lib.ListN.{length, take, drop};
+ghost use Rattle.array.specs.Buffers.{over};
 ghost use Rattle.array.specs.Meaning.{orderOf};
-ghost use Rattle.codec.specs.Marks.{toldMark};
-ghost use Rattle.codec.specs.Frame.{countSet};
-ghost use Rattle.codec.specs.Spread.{spread};
-ghost use Rattle.decode.specs.Next.{nextAt, valueFor};
+ghost use Rattle.endian.specs.Word.{wordTest};
+ghost use Rattle.decode.specs.Reads.{valuesOver, ValuesWithin};
 
-// Writes one stored value.
-pub fn put_cell(out: &mut [u8], to: usize, s: &[u8], at: usize, size: usize, order: ByteOrder)
-    requires { ⌜ (to + size ≤ length (now «out»)) × (at + size ≤ length (now s)) ⌝ }
-    ensures { λ _. ⌜ now («out» .exit) ≡ overAt to (ordered (orderOf order) (take size (drop at (now (s .entry))))) (now («out» .entry)) ⌝ }
-{
-    match order {
-        ByteOrder::Little => copy_bytes(out, to, s, at, size),
-        ByteOrder::Big => copy_reversed(out, to, s, at, size),
-    }
-}
-
-// Writes the value of a cell with this mark, and says where the next stored value is.
-pub fn put_next(
-    out: &mut [u8],
-    to: usize,
-    s: &[u8],
-    at: usize,
-    size: usize,
-    order: ByteOrder,
-    mark: Mark,
-) -> usize
-    requires { ⌜ (to + size ≤ length (now «out»)) × (nextAt (toldMark mark) at size ≤ length (now s)) ⌝ }
-    ensures { λ r. ⌜ r ≡ nextAt (toldMark mark) at size ⌝ }
-    ensures { λ _. ⌜ now («out» .exit) ≡ overAt to (valueFor (toldMark mark) size (orderOf order) (drop at (now (s .entry)))) (now («out» .entry)) ⌝ }
-{
-    match mark {
-        Mark::Null => {
-            fill_bytes(out, to, size, 0);
-            at
-        }
-        Mark::Set => {
-            put_cell(out, to, s, at, size, order);
-            at + size
-        }
-    }
-}
-
-// Writes the values of the n cells of the plane at `from`: the set ones from `at` on, the others as zero bytes.
+// Writes the values of the n cells of the plane at `from`, of which `cells` are set: these from `at` on, the others as zero bytes.
 pub fn spread_values(
     values: &mut [u8],
     masks: &[u8],
@@ -65,44 +28,74 @@ pub fn spread_values(
     at: usize,
     size: usize,
     order: ByteOrder,
+    cells: usize,
 )
-    requires { ⌜ (from + n ≤ length (now masks)) × (n * size ≤ length (now values)) × (at + countSet (take n (drop from (now masks))) * size ≤ length (now s)) ⌝ }
-    ensures { λ _. ⌜ now (values .exit) ≡ over (joined (spread (replicate size 0) (take n (drop from (now (masks .entry))))
-        (map (ordered (orderOf order)) (pieces size (countSet (take n (drop from (now (masks .entry))))) (drop at (now (s .entry))))))) (now (values .entry)) ⌝ }
+    requires { ⌜ ValuesWithin (now values) (now masks) from n (now s) at size cells ⌝ }
+    ensures { λ _. ⌜ now (values .exit) ≡ over (valuesOver size (orderOf order) (take n (drop from (now (masks .entry)))) (drop at (now (s .entry)))) (now (values .entry)) ⌝ }
+{
+    if cells == n {
+        copy_cells(values, 0, s, at, size, order, n);
+        return;
+    }
+    if is_word(size) {
+        spread_words(values, masks, from, n, s, at, size, order, cells);
+    } else {
+        spread_runs(values, masks, from, n, s, at, size, order, cells);
+    }
+}
+
+// A word is read for every cell until all are placed, so that no branch goes by the plane.
+fn spread_words(
+    values: &mut [u8],
+    masks: &[u8],
+    from: usize,
+    n: usize,
+    s: &[u8],
+    at: usize,
+    size: usize,
+    order: ByteOrder,
+    cells: usize,
+)
+    requires { ⌜ ValuesWithin (now values) (now masks) from n (now s) at size cells × (wordTest size ≡ true) ⌝ }
+    ensures { λ _. ⌜ now (values .exit) ≡ over (valuesOver size (orderOf order) (take n (drop from (now (masks .entry)))) (drop at (now (s .entry)))) (now (values .entry)) ⌝ }
 {
     let mut i = 0;
-    let mut j = at;
-    let mut to = 0;
-    while i < n {
+    let mut k = 0;
+    while k < cells {
+        let v = word_at(s, at + k * size, size, order);
         let mark = mark_of(masks[from + i]);
-        j = put_next(values, to, s, j, size, order, mark);
-        to += size;
+        put_word(values, i * size, size, word_if(mark, v));
+        k = skip(mark, k, 1);
         i += 1;
     }
+    fill_bytes(values, i * size, (n - i) * size, 0);
 }
 
-// Writes the values of n cells that are all stored: in little order they are one run.
-pub fn copy_cells(values: &mut [u8], n: usize, s: &[u8], at: usize, size: usize, order: ByteOrder)
-    requires { ⌜ (n * size ≤ length (now values)) × (at + n * size ≤ length (now s)) ⌝ }
-    ensures { λ _. ⌜ now (values .exit) ≡ over (joined (map (ordered (orderOf order)) (pieces size n (drop at (now (s .entry)))))) (now (values .entry)) ⌝ }
+// Neighbours that are all null are filled at once, and those that are all set are copied at once.
+fn spread_runs(
+    values: &mut [u8],
+    masks: &[u8],
+    from: usize,
+    n: usize,
+    s: &[u8],
+    at: usize,
+    size: usize,
+    order: ByteOrder,
+    cells: usize,
+)
+    requires { ⌜ ValuesWithin (now values) (now masks) from n (now s) at size cells ⌝ }
+    ensures { λ _. ⌜ now (values .exit) ≡ over (valuesOver size (orderOf order) (take n (drop from (now (masks .entry)))) (drop at (now (s .entry)))) (now (values .entry)) ⌝ }
 {
-    match order {
-        ByteOrder::Little => copy_bytes(values, 0, s, at, n * size),
-        ByteOrder::Big => copy_cells_reversed(values, n, s, at, size),
+    let mut i = 0;
+    let mut k = 0;
+    while k < cells {
+        let nulls = run_length(masks, from, n, i, false);
+        fill_bytes(values, i * size, nulls * size, 0);
+        i += nulls;
+        let sets = run_length(masks, from, n, i, true);
+        copy_cells(values, i * size, s, at + k * size, size, order, sets);
+        i += sets;
+        k += sets;
     }
-}
-
-fn copy_cells_reversed(values: &mut [u8], n: usize, s: &[u8], at: usize, size: usize)
-    requires { ⌜ (n * size ≤ length (now values)) × (at + n * size ≤ length (now s)) ⌝ }
-    ensures { λ _. ⌜ now (values .exit) ≡ over (joined (map (ordered big) (pieces size n (drop at (now (s .entry)))))) (now (values .entry)) ⌝ }
-{
-    let mut left = n;
-    let mut j = at;
-    let mut to = 0;
-    while 0 < left {
-        copy_reversed(values, to, s, j, size);
-        to += size;
-        j += size;
-        left -= 1;
-    }
+    fill_bytes(values, i * size, (n - i) * size, 0);
 }

@@ -13,7 +13,7 @@ use Rattle.codec.specs.Walk.{walked, valuesAt, toldWalk}
 use Rattle.codec.proofs.Walks.{WalkPassed, walk-values}
 use Rattle.decode.specs.Outcomes.{readOutcome}
 use Rattle.decode.proofs.Small.{bytes-small}
-use Rattle.decode.proofs.FixedLaws.{values-within, none-within, fixed-refused, fixed-none, fixed-length, fixed-given}
+use Rattle.decode.proofs.FixedLaws.{some-within, none-within, fixed-refused, fixed-none, fixed-length, fixed-given}
 use Rattle.decode.proofs.fixed.decode_fixed.Statement.{statement}
 use Rattle.decode.proofs.fixed.decode_fixed.Tie as tie
 
@@ -63,7 +63,7 @@ write-fixed-requires-2 c κs =
     let args = c .before .before .before .before .before .before .before .before .before .before .before .before .args in
     let pre = c .before .before .before .before .before .before .before .before .before .before .before .before .pre in
     let walk2 = c .before .before .before .before .before .walk2 in
-    values-within (args .depth) (args .s .now) (args .n) (args .size) (pre .0) (pre .1) (pre .2) (pre .3) (walk2 .given .0 .0) (walk2 .given .0 .1 .0) (walk-is (c .before .before .before .before)) (c .before .before .before .if1 .left)
+    some-within (args .depth) (args .s .now) (args .n) (args .size) (pre .0) (pre .1) (pre .2) (pre .3) (walk2 .given .0 .0) (walk2 .given .0 .1 .0) (walk-is (c .before .before .before .before)) (c .before .before .before .if1 .left)
 
 returns-2 : tie.Need-returns-2
 returns-2 c =

@@ -7,7 +7,7 @@ use borrow.Author.Needs.{needs}
 use borrow.Fn.Kinds.{In}
 use borrow.Fn.PlainCycle.{Measures, is, falls, and}
 use Rattle.array.proofs.copy.fill_bytes.Reads as fill-bytes-reads
-use Rattle.decode.proofs.Levels.{levels-none, levels-null, levels-room, levels-count, levels-fits, levels-next, levels-done}
+use Rattle.decode.proofs.Levels.{levels-none, levels-null, levels-room, levels-fits, levels-next, levels-done}
 use Rattle.decode.proofs.planes.place_levels.Reads as place-levels
 use Rattle.decode.proofs.planes.place_levels.Kinds as place-levels-kinds
 use Rattle.decode.proofs.planes.+place_levels.Lts-place_levels as place-levels-lts
@@ -72,7 +72,7 @@ place-levels-sub-place-plane t c = omega (arith, c .before .before .before .befo
 place-levels-place-plane-requires : (t : ℕ) → place-levels-lts.Need-place-plane-requires (claims-place-levels t) (place-levels-at t) place-levels.Post
 place-levels-place-plane-requires t c κs =
     let pre = c .before .before .before .before .before .before .pre in
-    (omega (arith, pre .1 .above), omega (arith, (fits t (c .before .before))), levels-count (pre .1) (c .before .before .before .if1 .left) (c .before .before .if2 .left))
+    (omega (arith, pre .1 .above), omega (arith, (fits t (c .before .before))), pre .1 .count, omega (arith, (room t (c .before .before))))
 
 place-levels-sub-count-set : (t : ℕ) → place-levels-lts.Need-sub-count-set (claims-place-levels t) (place-levels-at t) place-levels.Post
 place-levels-sub-count-set t c = search needs

@@ -12,8 +12,8 @@ mask-length-requires c κs = search needs
 add-end : tie.Need-add-end
 add-end c = omega (arith, first-room (c .before .before .before .pre), c .mask-length .ensures)
 
-copy-bytes-requires : tie.Need-copy-bytes-requires
-copy-bytes-requires c κs =
+copy-to-plane-requires : tie.Need-copy-to-plane-requires
+copy-to-plane-requires c κs =
     let pre = c .before .before .before .before .pre in
     omega (arith, first-room (pre), first-fits (pre))
 
@@ -35,9 +35,9 @@ sub-place-levels c = search needs
 place-levels-requires : tie.Need-place-levels-requires
 place-levels-requires c κs =
     let mask-length = c .before .before .before .before .before .before .before .mask-length in
-    let copy-bytes = c .before .before .before .before .before .copy-bytes in
+    let copy-to-plane = c .before .before .before .before .before .copy-to-plane in
     let count-set = c .before .count-set in
-    first-next (c .before .before .before .before .before .before .before .before .before .before .pre) (mask-length .result) (mask-length .ensures) (copy-bytes .last .0) (copy-bytes .ensures) (count-set .result) (count-set .ensures)
+    first-next (c .before .before .before .before .before .before .before .before .before .before .pre) (mask-length .result) (mask-length .ensures) (copy-to-plane .last .0) (copy-to-plane .ensures) (count-set .result) (count-set .ensures)
 
 same-length : tie.Need-same-length
 same-length c = search needs
@@ -45,9 +45,9 @@ same-length c = search needs
 returns : tie.Need-returns
 returns c =
     let mask-length = c .before .before .before .before .before .before .before .before .before .before .mask-length in
-    let copy-bytes = c .before .before .before .before .before .before .before .before .copy-bytes in
+    let copy-to-plane = c .before .before .before .before .before .before .before .before .copy-to-plane in
     let count-set = c .before .before .before .before .count-set in
-    planes-done (c .before .before .before .before .before .before .before .before .before .before .before .before .before .pre) (mask-length .result) (mask-length .ensures) (copy-bytes .last .0) (copy-bytes .ensures) (count-set .result) (count-set .ensures) _ (c .before .before .place-levels .ensures)
+    planes-done (c .before .before .before .before .before .before .before .before .before .before .before .before .before .pre) (mask-length .result) (mask-length .ensures) (copy-to-plane .last .0) (copy-to-plane .ensures) (count-set .result) (count-set .ensures) _ (c .before .before .place-levels .ensures)
 
 pub place-planes-spec : {M : Type 1} → statement M
 place-planes-spec =
@@ -55,7 +55,7 @@ place-planes-spec =
     (tie.spec
     mask-length-requires
     add-end
-    copy-bytes-requires
+    copy-to-plane-requires
     sub-count-set
     part-count-set-start
     part-count-set-end

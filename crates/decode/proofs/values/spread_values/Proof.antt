@@ -1,93 +1,67 @@
--- `spread_values` meets its contract, by the laws of SpreadingValues.
+-- `spread_values` meets its contract: where all cells are set it is one copy (SpreadingValues).
 -- Assumes nothing.
-use mathlib.Core.Path.{_≡_, ap, _∙_}
-use Prim.Native.Nat.{_-_, _<_}
+use mathlib.Core.Path.{_≡_, sym, ap, _∙_}
+use Prim.Native.Nat.{ℕ, _*_}
 use native.Mathlib.Omega.{arith}
-use lib.ListN.{length, getD}
+use lib.ListN.{length}
 use borrow.Author.Needs.{needs}
-use Rattle.array.specs.Cells.{markOf}
 use Rattle.array.specs.Meaning.{orderOf}
-use Rattle.codec.specs.Marks.{toldMark}
-use Rattle.decode.proofs.Placing.{planeAt, plane-length, plane-byte}
-use Rattle.decode.proofs.SpreadingValues.{SpreadingValues, values-begin, values-same, values-end, values-source, values-room, values-more}
+use Rattle.decode.proofs.Placing.{planeAt, plane-length}
+use Rattle.decode.proofs.SpreadingValues.{values-begin, values-all}
 use Rattle.decode.proofs.values.spread_values.Statement.{statement}
 use Rattle.decode.proofs.values.spread_values.Tie as tie
 
-abbrev Inv-loop : tie.InvT-loop
-Inv-loop values₀ masks from n s at size order i₀ j₀ to₀ values i j to = SpreadingValues size (orderOf order) (planeAt from n masks) s values₀ at values i j to
+long : (c : tie.Start) → length (planeAt (c .args .from) (c .args .n) (c .args .masks .now)) ≡ c .args .n
+long c = plane-length (c .args .from) (c .args .n) (c .args .masks .now) (c .pre .plane)
 
-abbrev μ-loop : tie.MeasureT-loop
-μ-loop values₀ masks from n s at size order i₀ j₀ to₀ values i j to = n - i
+copy-cells-requires : tie.Need-copy-cells-requires
+copy-cells-requires c κs =
+    let pre = c .before .before .before .before .before .pre in
+    (omega (arith, pre .room), omega (arith, pre .stored, ap (λ (j : ℕ). j * c .before .before .before .before .before .args .size) (c .before .if1 .taken)))
 
-long : (c : tie.After-shared-slice-known2 Inv-loop μ-loop) → length (planeAt (c .before .before .before .args .from) (c .before .before .before .args .n) (c .before .before .before .args .masks .now)) ≡ c .before .before .before .args .n
-long c =
-    let args = c .before .before .before .args in
-    plane-length (args .from) (args .n) (args .masks .now) (c .before .before .before .pre .0)
+same-length : tie.Need-same-length
+same-length c = search needs
 
-inside : (c : tie.In-loop Inv-loop μ-loop) → c .before .loop .i < length (planeAt (c .before .before .before .before .before .args .from) (c .before .before .before .before .before .args .n) (c .before .before .before .before .before .args .masks .now))
-inside c = omega (arith, (long (c .before .before)))
+returns : tie.Need-returns
+returns c =
+    let args = c .before .before .before .before .before .before .before .before .args in
+    let pre = c .before .before .before .before .before .before .before .before .pre in
+    values-all
+    (values-begin (args .size) (orderOf (args .order)) (planeAt (args .from) (args .n) (args .masks .now)) (args .s .now) (args .values .now) (args .at) (args .cells) (rw (long (c .before .before .before .before .before .before .before .before)) (pre .room)) (pre .count) (pre .stored))
+    (args .n) (long (c .before .before .before .before .before .before .before .before)) (c .before .before .before .before .if1 .taken) _ (c .before .before .copy-cells .ensures)
 
-mark-is : (c : tie.After-mark-of Inv-loop μ-loop) → toldMark (c .mark-of .result) ≡ markOf (getD (planeAt (c .before .before .before .before .before .before .before .args .from) (c .before .before .before .before .before .before .before .args .n) (c .before .before .before .before .before .before .before .args .masks .now)) (c .before .before .before .loop .i) 0)
-mark-is c =
-    let args = c .before .before .before .before .before .before .before .args in
-    c .mark-of .ensures ∙ ap markOf (plane-byte (args .from) (args .n) (args .masks .now) (c .before .before .before .loop .i) (c .before .before .loop-test .taken))
+is-word-requires : tie.Need-is-word-requires
+is-word-requires c κs = search needs
 
-loop-holds : tie.Need-loop-holds Inv-loop μ-loop
-loop-holds c =
-    let args = c .before .before .before .args in
-    let pre = c .before .before .before .pre in
-    values-begin (args .size) (orderOf (args .order)) (planeAt (args .from) (args .n) (args .masks .now)) (args .s .now) (args .values .now) (args .at) (pre .2) (rw (long c) (pre .1))
+spread-words-requires : tie.Need-spread-words-requires
+spread-words-requires c κs = (c .before .before .before .before .before .before .before .pre, sym (c .before .before .is-word .ensures) ∙ c .before .if2 .taken)
 
-add-mark-of : tie.Need-add-mark-of Inv-loop μ-loop
-add-mark-of c = search needs
+spread-runs-requires : tie.Need-spread-runs-requires
+spread-runs-requires c κs = search needs
 
-shared-slice-read-mark-of : tie.Need-shared-slice-read-mark-of Inv-loop μ-loop
-shared-slice-read-mark-of c = search needs
+same-length-2 : tie.Need-same-length-2
+same-length-2 c = search needs
 
-mark-of-requires : tie.Need-mark-of-requires Inv-loop μ-loop
-mark-of-requires c κs = search needs
+returns-2 : tie.Need-returns-2
+returns-2 c = search needs
 
-put-next-requires : tie.Need-put-next-requires Inv-loop μ-loop
-put-next-requires c κs =
-    let loop = c .before .before .before .before .loop in
-    (values-room (loop .inv) (inside (c .before .before .before)) _ (mark-is (c .before)), values-source (loop .inv) (inside (c .before .before .before)) _ (mark-is (c .before)))
+same-length-3 : tie.Need-same-length-3
+same-length-3 c = search needs
 
-add-to : tie.Need-add-to Inv-loop μ-loop
-add-to c =
-    let loop = c .before .before .before .before .before .before .before .loop in
-    omega (arith, values-room (loop .inv) (inside (c .before .before .before .before .before .before)) _ (mark-is (c .before .before .before .before)), values-same (loop .inv))
-
-add-i : tie.Need-add-i Inv-loop μ-loop
-add-i c = search needs
-
-loop-less : tie.Need-loop-less Inv-loop μ-loop
-loop-less c = omega arith
-
-loop-again : tie.Need-loop-again Inv-loop μ-loop
-loop-again c =
-    let put-next = c .before .before .put-next in
-    rw (put-next .ensures .0) (values-more (c .before .before .before .before .before .before .before .loop .inv) (inside (c .before .before .before .before .before .before)) _ (mark-is (c .before .before .before .before)) (put-next .last .0) (put-next .ensures .1))
-
-same-length : tie.Need-same-length Inv-loop μ-loop
-same-length c = values-same (c .before .loop .inv)
-
-returns : tie.Need-returns Inv-loop μ-loop
-returns c = values-end (c .before .loop .inv) (omega (arith, (long (c .before .before))))
+returns-3 : tie.Need-returns-3
+returns-3 c = search needs
 
 pub spread-values-spec : {M : Type 1} → statement M
 spread-values-spec =
     tie.close
     (tie.spec
-    Inv-loop
-    μ-loop
-    loop-holds
-    add-mark-of
-    shared-slice-read-mark-of
-    mark-of-requires
-    put-next-requires
-    add-to
-    add-i
-    loop-less
-    loop-again
+    copy-cells-requires
     same-length
-    returns)
+    returns
+    is-word-requires
+    spread-words-requires
+    spread-runs-requires
+    same-length-2
+    returns-2
+    same-length-3
+    returns-3)
