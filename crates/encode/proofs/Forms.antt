@@ -45,7 +45,7 @@ module _ {f : Form} {n : ℕ} {masks os : List ℕ} (l d : ℕ) (m : Measured f 
   measured-next z = subst (λ (k : ℕ). Measured f n masks os k) (one-less l d z) m
 
 pub measured-planes : {f : Form} {n : ℕ} {masks os : List ℕ} {l : ℕ} → Measured f n masks os l → Planes n masks l
-measured-planes m = record { few = m .few; planes = m .planes }
+measured-planes m = record { shallow = m .shallow; few = m .few; planes = m .planes }
 
 module _ {f : Form} {n : ℕ} {c : Content} (l d : ℕ) (r : Ready f n c (l + d)) where
   pub ready-here : Ready f n c l
@@ -55,7 +55,7 @@ module _ {f : Form} {n : ℕ} {c : Content} (l d : ℕ) (r : Ready f n c (l + d)
   ready-next z = subst (λ (k : ℕ). Ready f n c k) (one-less l d z) r
 
 pub ready-planes : {f : Form} {n : ℕ} {c : Content} {l : ℕ} → Ready f n c l → Planes n (c .masks) l
-ready-planes r = record { few = r .few; planes = r .planes }
+ready-planes r = record { shallow = r .shallow; few = r .few; planes = r .planes }
 
 -- what can be written can be measured
 sizes-ok : (f : Form) (n : ℕ) (c : Content) (l : ℕ) → Ready f n c l → MeasuresOk f n (c .offsets)

@@ -72,7 +72,7 @@ module _ {n : ℕ} {masks : List ℕ} (l : ℕ) (h : Planes n masks (l + 1)) whe
   one-more = omega (arith, h .planes, suc-mul l n, ap (λ (m : ℕ). m * n) (add-one l))
 
   pub mask-planes : Planes n masks l
-  mask-planes = record { few = h .few; planes = omega (arith, one-more) }
+  mask-planes = record { shallow = omega (arith, h .shallow); few = h .few; planes = omega (arith, one-more) }
 
   pub mask-source : l * n + n * 1 ≤ length masks
   mask-source = omega (arith, one-more, mul-one n)

@@ -1,5 +1,6 @@
 pub mod Walk
 pub mod Runs
+pub mod LiveMarks
 pub mod Gathering
 pub mod Spans
 pub mod Placing
