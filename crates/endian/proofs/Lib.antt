@@ -1,1 +1,2 @@
 pub mod Reversing
+pub mod Words

@@ -1,4 +1,6 @@
 // Cells with their bytes reversed: in place, and on the way to another slice.
+pub mod word;
+
 use array::answer::Written;
 use array::kind::MOST_SIZE;
 use array::refusal;
