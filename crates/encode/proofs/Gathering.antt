@@ -27,10 +27,10 @@ joined-append (x ∷ xs) ys = ap (λ (r : List ℕ). x ++ r) (joined-append xs y
 
 -- ---- by runs: g i is what cell i writes
 
-abbrev wholeOf : (ℕ → Bool) → ℕ → (ℕ → List ℕ) → List ℕ
+abbrev pub wholeOf : (ℕ → Bool) → ℕ → (ℕ → List ℕ) → List ℕ
 wholeOf t n g = joined (map g (passing t (from 0 n)))
 
-abbrev leftFrom : (ℕ → Bool) → ℕ → (ℕ → List ℕ) → ℕ → List ℕ
+abbrev pub leftFrom : (ℕ → Bool) → ℕ → (ℕ → List ℕ) → ℕ → List ℕ
 leftFrom t n g i = joined (map g (passing t (from i (n - i))))
 
 -- `done` bytes lie at `to` in what was d, and the cells from i on are left
@@ -77,7 +77,7 @@ module _ {t : ℕ → Bool} {n : ℕ} {g : ℕ → List ℕ} {d : List ℕ} {to 
 -- ---- pieces of one size
 
 -- the pieces of a run lie end to end
-run-pieces : (o : Order) (at k : ℕ) (s : List ℕ) (i r : ℕ) → piecesAt o at k s (from i r) ≡ joined (map (ordered o) (pieces k r (drop (at + i * k) s)))
+pub run-pieces : (o : Order) (at k : ℕ) (s : List ℕ) (i r : ℕ) → piecesAt o at k s (from i r) ≡ joined (map (ordered o) (pieces k r (drop (at + i * k) s)))
 run-pieces o at k s i r = ap joined (sym (map-map (pieceAt at k s) (ordered o) (from i r)) ∙ ap (map (ordered o)) (sym (pieces-at at k r i s)))
 
 sized-whole : (k n : ℕ) (s : List ℕ) → n * k ≤ length s → Sized k (pieces k n s)
@@ -93,7 +93,7 @@ length-run o k n s h =
     ∙ ap (λ (m : ℕ). m * k) (length-map (pieces k n s) (ordered o) ∙ length-pieces k n s)
 
 -- i pieces and then r more, of n
-rows-fit : (i r n k : ℕ) → i + r ≤ n → i * k + r * k ≤ n * k
+pub rows-fit : (i r n k : ℕ) → i + r ≤ n → i * k + r * k ≤ n * k
 rows-fit i r n k h = omega (arith, mul-le-mul-right {m = i + r} {n = n} k h, add-mul i r k)
 
 pub record Storing (o : Order) (at k : ℕ) (s : List ℕ) (t : ℕ → Bool) (n : ℕ) (d : List ℕ) (to : ℕ) (out : List ℕ) (i done : ℕ) : Type 0 where

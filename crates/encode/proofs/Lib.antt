@@ -4,6 +4,7 @@ pub mod LiveMarks
 pub mod Gathering
 pub mod Spans
 pub mod Placing
+pub mod Packing
 pub mod RaggedLaws
 pub mod Levels
 pub mod Forms

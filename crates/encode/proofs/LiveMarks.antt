@@ -12,11 +12,12 @@ use lib.ListN.{length, take, drop, getD}
 use lib.Seq.{drop-cons}
 use Rattle.array.specs.Lists.{pick, from, passing}
 use Rattle.array.proofs.Lists.{All-of, length-from}
-use Rattle.array.proofs.Geometry.{passing-cong, passing-all}
+use Rattle.array.proofs.Geometry.{passing-cong}
 use Rattle.codec.specs.Marks.{setTest, setTestBy}
 use Rattle.codec.specs.Frame.{countSet, countBy}
 use Rattle.array.specs.Cells.{Mark, isNull, isSet, markOf}
 use Rattle.encode.specs.Live.{maskAt, setOne, liveTest, liveOne, liveAt, liveFrom}
+use Rattle.encode.proofs.Walk.{live-all}
 use Rattle.encode.proofs.Runs.{passing-start, passing-end}
 
 -- ---- one cell
@@ -83,17 +84,13 @@ module _ (n : ℕ) (masks : List ℕ) (l : ℕ) where
   pub live-end : (i : ℕ) → n ≤ i → length (liveFrom n masks l i) ≡ 0
   live-end i h = ap length (passing-end (liveTest n masks l) i n h)
 
-  pub live-all : length (liveFrom n masks l 0) ≡ length (liveAt n masks l)
-  live-all = ap length (passing-start (liveTest n masks l) n)
+  pub live-whole : length (liveFrom n masks l 0) ≡ length (liveAt n masks l)
+  live-whole = ap length (passing-start (liveTest n masks l) n)
 
 -- ---- level 0 counts every cell, and level 1 those that are set in the first mask
 
 pub count-all : (n : ℕ) (masks : List ℕ) (l : ℕ) → l ≡ 0 → n ≡ length (liveAt n masks l)
-count-all n masks l e =
-    sym
-    (ap (λ (x : ℕ). length (liveAt n masks x)) e
-    ∙ ap length (passing-all (liveTest n masks 0) (from 0 n) (All-of (λ i. liveTest n masks 0 i ≡ true) (λ i. refl) (from 0 n)))
-    ∙ length-from 0 n)
+count-all n masks l e = sym (ap (λ (x : ℕ). length (liveAt n masks x)) e ∙ ap length (live-all n masks) ∙ length-from 0 n)
 
 count-from : (masks : List ℕ) (a n : ℕ) → a + n ≤ length masks → length (passing (λ i. setTest (getD masks i 0)) (from a n)) ≡ countSet (take n (drop a masks))
 count-from masks a zero h = refl

@@ -86,7 +86,7 @@ fn write_frame(
         level + 1,
         below,
     );
-    cells::put_mask(out, start, masks, cells, level);
+    cells::put_mask(out, start, masks, cells, level, count);
     field::put_u64(out, at + 8, length as u64);
     field::put_u64(out, at, mask as u64);
     16 + mask + length

@@ -8,7 +8,7 @@ use lib.ListN.{length}
 use Rattle.array.specs.Limits.{mostCells}
 use Rattle.encode.specs.Live.{liveAt, liveFrom}
 use Rattle.encode.proofs.Runs.{live-le}
-use Rattle.encode.proofs.LiveMarks.{live-all, live-end}
+use Rattle.encode.proofs.LiveMarks.{live-whole, live-end}
 use Rattle.encode.proofs.live.count_blocks.Statement.{statement}
 use Rattle.encode.proofs.live.count_blocks.Tie as tie
 
@@ -19,7 +19,7 @@ abbrev μ-loop : tie.MeasureT-loop
 μ-loop masks cells level n₀ at₀ n at = cells - at
 
 loop-holds : tie.Need-loop-holds Inv-loop μ-loop
-loop-holds c = let a = c .before .args in omega (arith, live-all (a .cells) (a .masks .now) (a .level))
+loop-holds c = let a = c .before .args in omega (arith, live-whole (a .cells) (a .masks .now) (a .level))
 
 block-end-requires : tie.Need-block-end-requires Inv-loop μ-loop
 block-end-requires c κs = omega arith
