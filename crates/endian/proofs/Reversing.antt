@@ -2,19 +2,18 @@
 -- Assumes nothing.
 use mathlib.Core.Path.{_≡_, refl, sym, ap, ap₂, _∙_}
 use mathlib.Core.Bool.{true, false}
-use mathlib.Core.List.{List, [], _∷_, _++_, map, reverse, append-assoc, append-nil, reverse-cons, reverse-append, reverseAux-append}
+use mathlib.Core.List.{List, [], _∷_, _++_, reverse, append-assoc, reverse-cons, reverse-append, reverseAux-append}
 use Prim.Native.Nat.{ℕ, zero, suc, _+_, _-_, _*_, _/_, _≤_, _<_}
-use native.Mathlib.Nat.{zero-mul, suc-mul, mul-one, mul-le-mul-right, div-mul-le-self, div-one}
+use native.Mathlib.Nat.{suc-mul, mul-one, mul-le-mul-right, div-mul-le-self, div-one}
 use native.Mathlib.Omega.{arith}
 use native.Mathlib.Numerals.{add-one}
 use lib.ListN.{length, take, drop, getD, set, length-append, length-take, length-drop, length-set, length-reverse, take-append-drop}
 use lib.Seq.{drop-drop, take-suc, take-add, take-at, drop-at, set-at, split-at, length-take-le, getD-drop}
-use Rattle.array.specs.Lists.{joined, pieces}
 use Rattle.array.specs.Buffers.{over, overAt}
 use Rattle.array.specs.Answer.{gives, refuses}
 use Rattle.array.specs.Kind.{fixed, little, formTest}
-use Rattle.endian.specs.Calls.{wholeCells, cellsReversed, reverseAnswer, endiannessReversed}
-use Rattle.array.proofs.Lists.{map-append}
+use Rattle.endian.specs.Calls.{wholeCells, reversedCells, cellsReversed, reverseAnswer, endiannessReversed}
+use Rattle.endian.proofs.CellLaws.{reversed-one, reversed-add, length-reversed}
 use Rattle.array.proofs.Over.{over-length, over-again}
 use Rattle.array.proofs.Laying.{Laying, laying-begins, laying-same, laying-ends, laying-store, laying-is, laying-room}
 use Rattle.array.proofs.Unrolled.{reads, reads-take, stores, stores-over}
@@ -33,43 +32,10 @@ reversed-at-once at k d h =
 
 -- ---- cell after cell
 
-abbrev reversedPieces : ℕ → ℕ → List ℕ → List ℕ
-reversedPieces k i d = joined (map reverse (pieces k i d))
-
-pieces-more : (k i : ℕ) (s : List ℕ) → pieces k (suc i) s ≡ pieces k i s ++ (take k (drop (i * k) s) ∷ [])
-pieces-more k zero s = ap (λ (j : ℕ). take k (drop j s) ∷ []) (sym (zero-mul k))
-pieces-more k (suc i) s =
-    let e : k + i * k ≡ suc i * k = omega (arith, suc-mul i k) in
-    ap (λ (ps : List (List ℕ)). take k s ∷ ps)
-    (pieces-more k i (drop k s) ∙ ap (λ (r : List ℕ). pieces k i (drop k s) ++ (take k r ∷ [])) (drop-drop (i * k) k s ∙ ap (λ (j : ℕ). drop j s) e))
-
-joined-more : (vs : List (List ℕ)) (v : List ℕ) → joined (vs ++ (v ∷ [])) ≡ joined vs ++ v
-joined-more [] v = append-nil v
-joined-more (u ∷ vs) v = ap (λ (r : List ℕ). u ++ r) (joined-more vs v) ∙ sym (append-assoc u (joined vs) v)
-
-reversed-more : (k i : ℕ) (d : List ℕ) → reversedPieces k (i + 1) d ≡ reversedPieces k i d ++ reverse (take k (drop (i * k) d))
-reversed-more k i d =
-    ap (λ (j : ℕ). reversedPieces k j d) (add-one i)
-    ∙ ap (λ (ps : List (List ℕ)). joined (map reverse ps)) (pieces-more k i d)
-    ∙ ap joined (map-append reverse (pieces k i d) (take k (drop (i * k) d) ∷ []))
-    ∙ joined-more (map reverse (pieces k i d)) (reverse (take k (drop (i * k) d)))
-
-length-reversed : (k i : ℕ) (s : List ℕ) → i * k ≤ length s → length (reversedPieces k i s) ≡ i * k
-length-reversed k zero s h = sym (zero-mul k)
-length-reversed k (suc i) s h =
-    let m : suc i * k ≡ i * k + k = suc-mul i k in
-    omega (
-      arith,
-      length-append (reverse (take k s)) (reversedPieces k i (drop k s)),
-      length-reverse (take k s),
-      length-take-le k s (omega arith),
-      length-reversed k i (drop k s) (omega (arith, length-drop k s)),
-    )
-
 -- the first i cells of d are reversed in out
 pub record Reversing (k : ℕ) (d out : List ℕ) (i : ℕ) : Type 0 where
   pub within : i ≤ length d / k
-  pub here : out ≡ over (joined (map reverse (pieces k i d))) d
+  pub here : out ≡ over (reversedCells k i d) d
 
 module _ (k : ℕ) (d : List ℕ) where
   pub reversing-begins : Reversing k d d 0
@@ -79,16 +45,16 @@ module _ (k : ℕ) (d : List ℕ) where
   fits i h = omega (arith, mul-le-mul-right k h, div-mul-le-self (length d) k)
 
   module _ (out : List ℕ) (i : ℕ) (l : Reversing k d out i) where
-    front : length (reversedPieces k i d) ≡ i * k
+    front : length (reversedCells k i d) ≡ i * k
     front = length-reversed k i d (fits i (l .within))
 
     pub reversing-same : length out ≡ length d
-    reversing-same = ap length (l .here) ∙ over-length (reversedPieces k i d) d (omega (arith, front, fits i (l .within)))
+    reversing-same = ap length (l .here) ∙ over-length (reversedCells k i d) d (omega (arith, front, fits i (l .within)))
 
     pub reversing-ends : length d / k ≤ i → out ≡ cellsReversed k d
     reversing-ends h =
         let e : i ≡ length d / k = omega (arith, l .within) in
-        l .here ∙ ap (λ (j : ℕ). reversedPieces k i d ++ drop j d) front ∙ ap (λ (n : ℕ). reversedPieces k n d ++ drop (n * k) d) e
+        l .here ∙ ap (λ (j : ℕ). reversedCells k i d ++ drop j d) front ∙ ap (λ (n : ℕ). reversedCells k n d ++ drop (n * k) d) e
 
     module _ (h : i < length d / k) where
       pub reversing-room : i * k + k ≤ length out
@@ -96,20 +62,20 @@ module _ (k : ℕ) (d : List ℕ) where
 
       pub reversing-more : (out′ : List ℕ) → out′ ≡ cellReversed (i * k) k out → Reversing k d out′ (i + 1)
       reversing-more out′ e =
-          let f : List ℕ = reversedPieces k i d in
+          let f : List ℕ = reversedCells k i d in
           let same : drop (i * k) out ≡ drop (i * k) d = ap (drop (i * k)) (l .here) ∙ drop-at f (drop (length f) d) (i * k) front ∙ ap (λ (j : ℕ). drop j d) front in
           record {
             within = omega arith;
             here = e ∙ ap₂ (λ (r o : List ℕ). overAt (i * k) (reverse (take k r)) o) same (l .here)
                 ∙ over-again f (reverse (take k (drop (i * k) d))) d (i * k) front
-                ∙ ap (λ (r : List ℕ). over r d) (sym (reversed-more k i d));
+                ∙ ap (λ (r : List ℕ). over r d) (sym (reversed-add k i 1 d ∙ ap (λ (v : List ℕ). f ++ v) (sym (reversed-one k (drop (i * k) d)))));
           }
 
 -- cells of one byte stay as they are
 pub ones-reversed : (d : List ℕ) → d ≡ cellsReversed 1 d
-ones-reversed d = sym (ap (λ (n : ℕ). reversedPieces 1 n d ++ drop (n * 1) d) (div-one (length d)) ∙ ap (λ (n : ℕ). reversedPieces 1 (length d) d ++ drop n d) (mul-one (length d)) ∙ go d)
+ones-reversed d = sym (ap (λ (n : ℕ). reversedCells 1 n d ++ drop (n * 1) d) (div-one (length d)) ∙ ap (λ (n : ℕ). reversedCells 1 (length d) d ++ drop n d) (mul-one (length d)) ∙ go d)
   where
-    go : (s : List ℕ) → reversedPieces 1 (length s) s ++ drop (length s) s ≡ s
+    go : (s : List ℕ) → reversedCells 1 (length s) s ++ drop (length s) s ≡ s
     go [] = refl
     go (x ∷ s) = ap (λ (r : List ℕ). x ∷ r) (go s)
 

@@ -11,9 +11,13 @@ use Rattle.array.specs.Lists.{joined, pieces}
 abbrev pub wholeCells : ℕ → List ℕ → ℕ
 wholeCells k s = length s / k * k
 
+-- the first n cells of size k, each reversed
+abbrev pub reversedCells : ℕ → ℕ → List ℕ → List ℕ
+reversedCells k n s = joined (map reverse (pieces k n s))
+
 -- each whole cell of size k reversed, a shorter tail left
 abbrev pub cellsReversed : ℕ → List ℕ → List ℕ
-cellsReversed k s = joined (map reverse (pieces k (length s / k) s)) ++ drop (wholeCells k s) s
+cellsReversed k s = reversedCells k (length s / k) s ++ drop (wholeCells k s) s
 
 -- Each whole cell of the lent bytes reversed in place. Success names the length of the
 -- whole cells; the shorter tail is left. A size that no fixed kind has is refusal 1.

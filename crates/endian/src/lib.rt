@@ -1,4 +1,5 @@
 // Cells with their bytes reversed: in place, and on the way to another slice.
+pub mod cells;
 pub mod word;
 
 use array::answer::Written;

@@ -48,7 +48,7 @@ fn le2_at(s: &[u8], at: usize) -> u64
     b0 + 256 * b1
 }
 
-fn be2_at(s: &[u8], at: usize) -> u64
+pub fn be2_at(s: &[u8], at: usize) -> u64
     requires { ⌜ at + 2 ≤ length (now s) ⌝ }
     ensures { λ r. ⌜ r ≡ unle (reverse (take 2 (drop at (now (s .entry))))) ⌝ }
 {
@@ -141,7 +141,7 @@ fn put_u8(out: &mut [u8], at: usize, v: u64)
     out[at] = b0;
 }
 
-fn put_u16(out: &mut [u8], at: usize, v: u64)
+pub fn put_u16(out: &mut [u8], at: usize, v: u64)
     requires { ⌜ at + 2 ≤ length (now «out») ⌝ }
     ensures { λ _. ⌜ now («out» .exit) ≡ overAt at (le 2 v) (now («out» .entry)) ⌝ }
 {

@@ -1,0 +1,115 @@
+-- Cells reversed one after another, for any size; and the loops that copy them so, any number of them a turn.
+-- Assumes nothing.
+use mathlib.Core.Path.{_≡_, refl, sym, ap, ap₂, _∙_}
+use mathlib.Core.List.{List, [], _∷_, _++_, map, reverse, append-assoc, append-nil}
+use Prim.Native.Nat.{ℕ, zero, suc, _+_, _*_, _≤_, _<_}
+use native.Mathlib.Nat.{zero-mul, zero-add, suc-mul, add-mul, mul-le-mul-right}
+use native.Mathlib.Omega.{arith}
+use lib.ListN.{length, take, drop, length-append, length-drop, length-reverse, take-append-drop}
+use lib.Seq.{drop-drop, take-add, length-take-le}
+use Rattle.array.specs.Lists.{joined, pieces}
+use Rattle.array.specs.Buffers.{over, overAt}
+use Rattle.array.specs.Kind.{Order, little, big, ordered}
+use Rattle.array.proofs.Lists.{map-id}
+use Rattle.array.proofs.Over.{over-again, over-at-length}
+use Rattle.endian.specs.Calls.{reversedCells}
+
+pub reversed-one : (k : ℕ) (s : List ℕ) → reverse (take k s) ≡ reversedCells k 1 s
+reversed-one k s = sym (append-nil (reverse (take k s)))
+
+pub reversed-add : (k i m : ℕ) (s : List ℕ) → reversedCells k (i + m) s ≡ reversedCells k i s ++ reversedCells k m (drop (i * k) s)
+reversed-add k zero m s = ap₂ (λ (n j : ℕ). reversedCells k n (drop j s)) (zero-add m) (sym (zero-mul k))
+reversed-add k (suc i) m s =
+    let n : suc i + m ≡ suc (i + m) = omega arith in
+    let e : k + i * k ≡ suc i * k = omega (arith, suc-mul i k) in
+    ap (λ (j : ℕ). reversedCells k j s) n
+    ∙ ap (λ (r : List ℕ). reverse (take k s) ++ r)
+    (reversed-add k i m (drop k s) ∙ ap (λ (r : List ℕ). reversedCells k i (drop k s) ++ reversedCells k m r) (drop-drop (i * k) k s ∙ ap (λ (j : ℕ). drop j s) e))
+    ∙ sym (append-assoc (reverse (take k s)) (reversedCells k i (drop k s)) (reversedCells k m (drop (suc i * k) s)))
+
+pub length-reversed : (k i : ℕ) (s : List ℕ) → i * k ≤ length s → length (reversedCells k i s) ≡ i * k
+length-reversed k zero s h = sym (zero-mul k)
+length-reversed k (suc i) s h =
+    let m : suc i * k ≡ i * k + k = suc-mul i k in
+    omega (
+      arith,
+      length-append (reverse (take k s)) (reversedCells k i (drop k s)),
+      length-reverse (take k s),
+      length-take-le k s (omega arith),
+      length-reversed k i (drop k s) (omega (arith, length-drop k s)),
+    )
+
+reversed-none : (n : ℕ) → [] ≡ reversedCells 1 n []
+reversed-none zero = refl
+reversed-none (suc n) = reversed-none n
+
+-- cells of one byte stay as they are
+pub reversed-ones : (n : ℕ) (s : List ℕ) → take n s ≡ reversedCells 1 n s
+reversed-ones zero s = refl
+reversed-ones (suc n) [] = reversed-none n
+reversed-ones (suc n) (x ∷ s) = ap (λ (r : List ℕ). x ∷ r) (reversed-ones n s)
+
+-- ---- the two orders
+
+pub cells-little : (k n : ℕ) (s : List ℕ) (o : Order) → o ≡ little → take (n * k) s ≡ joined (map (ordered o) (pieces k n s))
+cells-little k n s o e = go n s ∙ ap joined (sym (map-id (pieces k n s))) ∙ ap (λ (x : Order). joined (map (ordered x) (pieces k n s))) (sym e)
+  where
+    go : (n : ℕ) (s : List ℕ) → take (n * k) s ≡ joined (pieces k n s)
+    go zero s = ap (λ (m : ℕ). take m s) (zero-mul k)
+    go (suc n) s =
+        let q : suc n * k ≡ k + n * k = omega (arith, suc-mul n k) in
+        ap (λ (m : ℕ). take m s) q ∙ take-add k (n * k) s ∙ ap (λ (r : List ℕ). take k s ++ r) (go n (drop k s))
+
+pub cells-big : (k n : ℕ) (s : List ℕ) (o : Order) → o ≡ big → reversedCells k n s ≡ joined (map (ordered o) (pieces k n s))
+cells-big k n s o e = ap (λ (x : Order). joined (map (ordered x) (pieces k n s))) (sym e)
+
+-- ---- copied one after another: the first i of n cells lie at `to` in what was d
+
+pub record Copies (d : List ℕ) (to : ℕ) (s : List ℕ) (at k n : ℕ) (out : List ℕ) (i : ℕ) : Type 0 where
+  pub within : i ≤ n
+  pub room : to + n * k ≤ length d
+  pub source : at + n * k ≤ length s
+  pub here : out ≡ overAt to (reversedCells k i (drop at s)) d
+
+pub copies-begin : {d : List ℕ} {to : ℕ} {s : List ℕ} {at k n : ℕ} → to + n * k ≤ length d → at + n * k ≤ length s → Copies d to s at k n d 0
+copies-begin {d} {to} p q = record {
+  within = omega arith;
+  room = p;
+  source = q;
+  here = sym (ap (λ (l : List ℕ). over l d) (append-nil (take to d)) ∙ ap (λ (j : ℕ). take to d ++ drop j d) (length-take-le to d (omega arith)) ∙ take-append-drop to d);
+}
+
+module _ {d : List ℕ} {to : ℕ} {s : List ℕ} {at k n : ℕ} {out : List ℕ} {i : ℕ} (l : Copies d to s at k n out i) where
+  long : length (reversedCells k i (drop at s)) ≡ i * k
+  long = length-reversed k i (drop at s) (omega (arith, length-drop at s, l .source, mul-le-mul-right {m = i} {n = n} k (l .within)))
+
+  pub copies-same : length out ≡ length d
+  copies-same = ap length (l .here) ∙ over-at-length to (reversedCells k i (drop at s)) d (omega (arith, long, l .room, mul-le-mul-right {m = i} {n = n} k (l .within)))
+
+  pub copies-end : n ≤ i → out ≡ overAt to (reversedCells k n (drop at s)) d
+  copies-end h = let e : i ≡ n = omega (arith, l .within) in l .here ∙ ap (λ (j : ℕ). overAt to (reversedCells k j (drop at s)) d) e
+
+  pub copies-fit : (m : ℕ) → i + m ≤ n → i * k + m * k ≤ n * k
+  copies-fit m h = omega (arith, mul-le-mul-right {m = i + m} {n = n} k h, add-mul i m k)
+
+  -- m cells more
+  pub copies-more : (m : ℕ) → i + m ≤ n → {out′ : List ℕ} → out′ ≡ overAt (to + i * k) (reversedCells k m (drop (at + i * k) s)) out → Copies d to s at k n out′ (i + m)
+  copies-more m h {out′} e =
+      let f : List ℕ = reversedCells k i (drop at s) in
+      let g : List ℕ = reversedCells k m (drop (at + i * k) s) in
+      let lf : length (take to d ++ f) ≡ to + i * k = omega (arith, length-append (take to d) f, length-take-le to d (omega (arith, l .room)), long) in
+      record {
+        within = h;
+        room = l .room;
+        source = l .source;
+        here = e ∙ ap (overAt (to + i * k) g) (l .here) ∙ over-again (take to d ++ f) g d (to + i * k) lf
+            ∙ ap (λ (w : List ℕ). over w d)
+            (append-assoc (take to d) f g ∙ ap (λ (w : List ℕ). take to d ++ w) (sym (reversed-add k i m (drop at s) ∙ ap (λ (r : List ℕ). f ++ reversedCells k m r) (drop-drop (i * k) at s))));
+      }
+
+  module _ (h : i < n) where
+    pub copies-room : i * k + k ≤ n * k
+    copies-room = omega (arith, mul-le-mul-right {m = suc i} {n = n} k (omega arith), suc-mul i k)
+
+    pub copies-next : {out′ : List ℕ} → out′ ≡ overAt (to + i * k) (reverse (take k (drop (at + i * k) s))) out → Copies d to s at k n out′ (i + 1)
+    copies-next e = copies-more 1 (omega arith) (e ∙ ap (λ (g : List ℕ). overAt (to + i * k) g out) (reversed-one k (drop (at + i * k) s)))

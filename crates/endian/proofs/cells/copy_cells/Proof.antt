@@ -1,0 +1,59 @@
+-- `endian::cells::copy_cells`: little order copies, big order reverses.
+-- Assumes nothing.
+use mathlib.Core.Path.{ap, _∙_}
+use mathlib.Core.List.{List}
+use Prim.Native.Nat.{ℕ}
+use lib.ListN.{drop}
+use Rattle.array.specs.Buffers.{overAt}
+use Rattle.array.specs.Meaning.{orderOf}
+use Rattle.endian.proofs.CellLaws.{cells-little, cells-big}
+use borrow.Author.Needs.{needs}
+use Rattle.endian.proofs.cells.copy_cells.Statement.{statement}
+use Rattle.endian.proofs.cells.copy_cells.Tie as tie
+
+enum-told : tie.Need-enum-told
+enum-told c = search needs
+
+mul-copy-bytes : tie.Need-mul-copy-bytes
+mul-copy-bytes c = search needs
+
+copy-bytes-requires : tie.Need-copy-bytes-requires
+copy-bytes-requires c κs = search needs
+
+enum-told-2 : tie.Need-enum-told-2
+enum-told-2 c = search needs
+
+copy-cells-reversed-requires : tie.Need-copy-cells-reversed-requires
+copy-cells-reversed-requires c κs = search needs
+
+same-length : tie.Need-same-length
+same-length c = search needs
+
+returns : tie.Need-returns
+returns c =
+    let a = c .before .before .before .before .before .before .before .before .args in
+    c .before .before .copy-bytes .ensures
+    ∙ ap (λ (l : List ℕ). overAt (a .to) l (a .out .now)) (cells-little (a .size) (a .cells) (drop (a .at) (a .s .now)) (orderOf (a .order)) (ap orderOf (c .before .before .before .before .enum-told .given .1)))
+
+same-length-2 : tie.Need-same-length-2
+same-length-2 c = search needs
+
+returns-2 : tie.Need-returns-2
+returns-2 c =
+    let a = c .before .before .before .before .before .before .before .before .args in
+    c .before .before .copy-cells-reversed .ensures
+    ∙ ap (λ (l : List ℕ). overAt (a .to) l (a .out .now)) (cells-big (a .size) (a .cells) (drop (a .at) (a .s .now)) (orderOf (a .order)) (ap orderOf (c .before .before .before .before .enum-told2 .given .1)))
+
+pub copy-cells-spec : {M : Type 1} → statement M
+copy-cells-spec =
+    tie.close
+    (tie.spec
+    enum-told
+    mul-copy-bytes
+    copy-bytes-requires
+    enum-told-2
+    copy-cells-reversed-requires
+    same-length
+    returns
+    same-length-2
+    returns-2)

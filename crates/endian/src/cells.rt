@@ -1,0 +1,117 @@
+// Cells of one size copied in their stored order: in little order as one run, in big order each reversed.
+use crate::copy_reversed;
+use crate::word;
+use array::copy;
+use array::field;
+use array::kind::ByteOrder;
+ghost use mathlib.Core.Path.{_≡_};
+ghost use mathlib.Core.List.{map, reverse};
+ghost use Prim.Native.Nat.{_+_, _*_, _≤_};
+ghost use lib.ListN.{length, take, drop};
+ghost use Rattle.array.specs.Buffers.{overAt};
+ghost use Rattle.array.specs.Kind.{ordered};
+ghost use Rattle.array.specs.Lists.{joined, pieces};
+ghost use Rattle.array.specs.Meaning.{orderOf};
+ghost use Rattle.endian.specs.Calls.{reversedCells};
+
+pub fn copy_cells(
+    out: &mut [u8],
+    to: usize,
+    s: &[u8],
+    at: usize,
+    size: usize,
+    order: ByteOrder,
+    cells: usize,
+)
+    requires { ⌜ (to + cells * size ≤ length (now «out»)) × (at + cells * size ≤ length (now s)) ⌝ }
+    ensures { λ _. ⌜ now («out» .exit) ≡ overAt to (joined (map (ordered (orderOf order)) (pieces size cells (drop at (now (s .entry)))))) (now («out» .entry)) ⌝ }
+{
+    match order {
+        ByteOrder::Little => copy::copy_bytes(out, to, s, at, cells * size),
+        ByteOrder::Big => copy_cells_reversed(out, to, s, at, size, cells),
+    }
+}
+
+// The sizes that most types have go by words.
+fn copy_cells_reversed(out: &mut [u8], to: usize, s: &[u8], at: usize, size: usize, cells: usize)
+    requires { ⌜ (to + cells * size ≤ length (now «out»)) × (at + cells * size ≤ length (now s)) ⌝ }
+    ensures { λ _. ⌜ now («out» .exit) ≡ overAt to (reversedCells size cells (drop at (now (s .entry)))) (now («out» .entry)) ⌝ }
+{
+    match size {
+        1 => copy::copy_bytes(out, to, s, at, cells),
+        2 => copy_cells_2(out, to, s, at, cells),
+        4 => copy_cells_4(out, to, s, at, cells),
+        8 => copy_cells_8(out, to, s, at, cells),
+        _ => copy_cells_any(out, to, s, at, size, cells),
+    }
+}
+
+fn copy_cells_2(out: &mut [u8], to: usize, s: &[u8], at: usize, cells: usize)
+    requires { ⌜ (to + cells * 2 ≤ length (now «out»)) × (at + cells * 2 ≤ length (now s)) ⌝ }
+    ensures { λ _. ⌜ now («out» .exit) ≡ overAt to (reversedCells 2 cells (drop at (now (s .entry)))) (now («out» .entry)) ⌝ }
+{
+    let mut i = 0;
+    while i < cells {
+        let k = i * 2;
+        copy_cell_2(out, to + k, s, at + k);
+        i += 1;
+    }
+}
+
+fn copy_cells_4(out: &mut [u8], to: usize, s: &[u8], at: usize, cells: usize)
+    requires { ⌜ (to + cells * 4 ≤ length (now «out»)) × (at + cells * 4 ≤ length (now s)) ⌝ }
+    ensures { λ _. ⌜ now («out» .exit) ≡ overAt to (reversedCells 4 cells (drop at (now (s .entry)))) (now («out» .entry)) ⌝ }
+{
+    let mut i = 0;
+    while i < cells {
+        let k = i * 4;
+        copy_cell_4(out, to + k, s, at + k);
+        i += 1;
+    }
+}
+
+fn copy_cells_8(out: &mut [u8], to: usize, s: &[u8], at: usize, cells: usize)
+    requires { ⌜ (to + cells * 8 ≤ length (now «out»)) × (at + cells * 8 ≤ length (now s)) ⌝ }
+    ensures { λ _. ⌜ now («out» .exit) ≡ overAt to (reversedCells 8 cells (drop at (now (s .entry)))) (now («out» .entry)) ⌝ }
+{
+    let mut i = 0;
+    while i < cells {
+        let k = i * 8;
+        copy_cell_8(out, to + k, s, at + k);
+        i += 1;
+    }
+}
+
+fn copy_cells_any(out: &mut [u8], to: usize, s: &[u8], at: usize, size: usize, cells: usize)
+    requires { ⌜ (to + cells * size ≤ length (now «out»)) × (at + cells * size ≤ length (now s)) ⌝ }
+    ensures { λ _. ⌜ now («out» .exit) ≡ overAt to (reversedCells size cells (drop at (now (s .entry)))) (now («out» .entry)) ⌝ }
+{
+    let mut i = 0;
+    while i < cells {
+        let k = i * size;
+        copy_reversed(out, to + k, s, at + k, size);
+        i += 1;
+    }
+}
+
+// One cell, reversed.
+fn copy_cell_2(out: &mut [u8], to: usize, s: &[u8], at: usize)
+    requires { ⌜ (to + 2 ≤ length (now «out»)) × (at + 2 ≤ length (now s)) ⌝ }
+    ensures { λ _. ⌜ now («out» .exit) ≡ overAt to (reverse (take 2 (drop at (now (s .entry))))) (now («out» .entry)) ⌝ }
+{
+    word::put_u16(out, to, word::be2_at(s, at));
+}
+
+fn copy_cell_4(out: &mut [u8], to: usize, s: &[u8], at: usize)
+    requires { ⌜ (to + 4 ≤ length (now «out»)) × (at + 4 ≤ length (now s)) ⌝ }
+    ensures { λ _. ⌜ now («out» .exit) ≡ overAt to (reverse (take 4 (drop at (now (s .entry))))) (now («out» .entry)) ⌝ }
+{
+    field::put_u32(out, to, word::be4_at(s, at));
+}
+
+fn copy_cell_8(out: &mut [u8], to: usize, s: &[u8], at: usize)
+    requires { ⌜ (to + 8 ≤ length (now «out»)) × (at + 8 ≤ length (now s)) ⌝ }
+    ensures { λ _. ⌜ now («out» .exit) ≡ overAt to (reverse (take 8 (drop at (now (s .entry))))) (now («out» .entry)) ⌝ }
+{
+    field::put_u64(out, to, word::be8_at(s, at));
+}
