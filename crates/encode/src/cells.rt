@@ -1,55 +1,21 @@
 // What belongs to the cells that a level counts, end to end: mask bytes, and values of one size.
 use crate::live;
-use array::copy;
 use array::kind::ByteOrder;
 use codec::mask;
+use endian::cells;
 use endian::word;
 ghost use mathlib.Core.Path.{_≡_};
 ghost use mathlib.Core.Bool.{true};
 ghost use mathlib.Core.List.{map};
 ghost use Prim.Native.Nat.{_+_, _*_, _≤_};
-ghost use lib.ListN.{length, drop};
+ghost use lib.ListN.{length};
 ghost use Rattle.array.specs.Buffers.{overAt};
-ghost use Rattle.array.specs.Kind.{big, ordered};
-ghost use Rattle.array.specs.Lists.{joined, pieces};
 ghost use Rattle.array.specs.Meaning.{orderOf};
 ghost use Rattle.codec.specs.Mask.{byteMask};
 ghost use Rattle.endian.specs.Word.{wordTest};
 ghost use Rattle.encode.specs.Live.{maskAt, liveAt};
 ghost use Rattle.encode.specs.Pieces.{piecesAt};
 ghost use Rattle.encode.specs.Ready.{Planes};
-
-// Copies `run` cells, each reversed.
-fn reverse_run(out: &mut [u8], to: usize, s: &[u8], at: usize, size: usize, run: usize)
-    requires { ⌜ (to + run * size ≤ length (now out)) × (at + run * size ≤ length (now s)) ⌝ }
-    ensures { λ _. ⌜ now (out .exit) ≡ overAt to (joined (map (ordered big) (pieces size run (drop at (now (s .entry)))))) (now (out .entry)) ⌝ }
-{
-    let mut j = 0;
-    while j < run {
-        let k = j * size;
-        endian::copy_reversed(out, to + k, s, at + k, size);
-        j += 1;
-    }
-}
-
-// Copies `run` cells, each in its stored order.
-fn put_run(
-    out: &mut [u8],
-    to: usize,
-    s: &[u8],
-    at: usize,
-    size: usize,
-    order: ByteOrder,
-    run: usize,
-)
-    requires { ⌜ (to + run * size ≤ length (now out)) × (at + run * size ≤ length (now s)) ⌝ }
-    ensures { λ _. ⌜ now (out .exit) ≡ overAt to (joined (map (ordered (orderOf order)) (pieces size run (drop at (now (s .entry)))))) (now (out .entry)) ⌝ }
-{
-    match order {
-        ByteOrder::Little => copy::copy_bytes(out, to, s, at, run * size),
-        ByteOrder::Big => reverse_run(out, to, s, at, size, run),
-    }
-}
 
 // Of the cells of one size that begin at `at`, those that the level counts. Neighbours go as one run.
 fn put_live_runs(
@@ -71,7 +37,7 @@ fn put_live_runs(
     let mut done = 0;
     while i < cells {
         let run = live::live_run(masks, cells, level, i);
-        put_run(out, to + done, s, at + i * size, size, order, run);
+        cells::copy_cells(out, to + done, s, at + i * size, size, order, run);
         done += run * size;
         i += run + 1;
     }
@@ -124,7 +90,7 @@ pub fn put_live(
     ensures { λ _. ⌜ now (out .exit) ≡ overAt to (piecesAt (orderOf order) at size (now (s .entry)) (liveAt cells (now (masks .entry)) level)) (now (out .entry)) ⌝ }
 {
     if count == cells {
-        put_run(out, to, s, at, size, order, cells);
+        cells::copy_cells(out, to, s, at, size, order, cells);
     } else if word::is_word(size) {
         put_live_words(out, to, s, at, size, order, masks, cells, level, count);
     } else {

@@ -10,8 +10,8 @@ use borrow.Author.Needs.{needs}
 use Rattle.encode.proofs.cells.put_live.Statement.{statement}
 use Rattle.encode.proofs.cells.put_live.Tie as tie
 
-put-run-requires : tie.Need-put-run-requires
-put-run-requires c κs = let a = c .before .before .before .before .before .args in (omega (arith, c .before .before .before .before .before .pre .3, all-long (orderOf (a .order)) (a .at) (a .size) (a .s .now) (liveTest (a .cells) (a .masks .now) (a .level)) (a .cells) (c .before .before .before .before .before .pre .2) (c .before .before .before .before .before .pre .1) (c .before .if1 .taken)), c .before .before .before .before .before .pre .2)
+copy-cells-requires : tie.Need-copy-cells-requires
+copy-cells-requires c κs = let a = c .before .before .before .before .before .args in (omega (arith, c .before .before .before .before .before .pre .3, all-long (orderOf (a .order)) (a .at) (a .size) (a .s .now) (liveTest (a .cells) (a .masks .now) (a .level)) (a .cells) (c .before .before .before .before .before .pre .2) (c .before .before .before .before .before .pre .1) (c .before .if1 .taken)), c .before .before .before .before .before .pre .2)
 
 is-word-requires : tie.Need-is-word-requires
 is-word-requires c κs = search needs
@@ -26,7 +26,7 @@ same-length : tie.Need-same-length
 same-length c = search needs
 
 returns : tie.Need-returns
-returns c = let a = c .before .before .before .before .before .before .before .before .args in laid-as (a .to) (a .out .now) (c .before .before .put-run .ensures) (all-pieces (orderOf (a .order)) (a .at) (a .size) (a .s .now) (liveTest (a .cells) (a .masks .now) (a .level)) (a .cells) (c .before .before .before .before .before .before .before .before .pre .1) (c .before .before .before .before .if1 .taken))
+returns c = let a = c .before .before .before .before .before .before .before .before .args in laid-as (a .to) (a .out .now) (c .before .before .copy-cells .ensures) (all-pieces (orderOf (a .order)) (a .at) (a .size) (a .s .now) (liveTest (a .cells) (a .masks .now) (a .level)) (a .cells) (c .before .before .before .before .before .before .before .before .pre .1) (c .before .before .before .before .if1 .taken))
 
 same-length-2 : tie.Need-same-length-2
 same-length-2 c = search needs
@@ -44,7 +44,7 @@ pub put-live-spec : {M : Type 1} → statement M
 put-live-spec =
     tie.close
     (tie.spec
-    put-run-requires
+    copy-cells-requires
     is-word-requires
     put-live-words-requires
     put-live-runs-requires

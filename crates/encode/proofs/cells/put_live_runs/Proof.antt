@@ -35,17 +35,17 @@ loop-holds c = storing-begins (c .before .before .before .pre .1) (c .before .be
 live-run-requires : tie.Need-live-run-requires Inv-loop μ-loop
 live-run-requires c κs = omega (arith, c .before .before .before .before .before .pre .0 .shallow, c .before .before .before .before .before .pre .0 .planes)
 
-add-put-run : tie.Need-add-put-run Inv-loop μ-loop
-add-put-run c = omega (arith, room (c .before), same (c .before .before .before))
+add-copy-cells : tie.Need-add-copy-cells Inv-loop μ-loop
+add-copy-cells c = omega (arith, room (c .before), same (c .before .before .before))
 
-mul-put-run : tie.Need-mul-put-run Inv-loop μ-loop
-mul-put-run c = omega (arith, source (c .before))
+mul-copy-cells : tie.Need-mul-copy-cells Inv-loop μ-loop
+mul-copy-cells c = omega (arith, source (c .before))
 
-add-put-run-2 : tie.Need-add-put-run-2 Inv-loop μ-loop
-add-put-run-2 c = omega (arith, source (c .before))
+add-copy-cells-2 : tie.Need-add-copy-cells-2 Inv-loop μ-loop
+add-copy-cells-2 c = omega (arith, source (c .before))
 
-put-run-requires : tie.Need-put-run-requires Inv-loop μ-loop
-put-run-requires c κs = omega (arith, source (c .before), room (c .before), same (c .before .before .before))
+copy-cells-requires : tie.Need-copy-cells-requires Inv-loop μ-loop
+copy-cells-requires c κs = omega (arith, source (c .before), room (c .before), same (c .before .before .before))
 
 mul-done : tie.Need-mul-done Inv-loop μ-loop
 mul-done c = omega (arith, source (c .before .before .before .before))
@@ -65,7 +65,7 @@ loop-less : tie.Need-loop-less Inv-loop μ-loop
 loop-less c = omega arith
 
 loop-again : tie.Need-loop-again Inv-loop μ-loop
-loop-again c = storing-more (c .before .before .before .before .before .before .loop .inv) (c .before .before .before .before .live-run .ensures) (c .before .before .before .before .before .loop-test .taken) (c .before .before .put-run .ensures)
+loop-again c = storing-more (c .before .before .before .before .before .before .loop .inv) (c .before .before .before .before .live-run .ensures) (c .before .before .before .before .before .loop-test .taken) (c .before .before .copy-cells .ensures)
 
 same-length : tie.Need-same-length Inv-loop μ-loop
 same-length c = same (c .before)
@@ -81,10 +81,10 @@ put-live-runs-spec =
     μ-loop
     loop-holds
     live-run-requires
-    add-put-run
-    mul-put-run
-    add-put-run-2
-    put-run-requires
+    add-copy-cells
+    mul-copy-cells
+    add-copy-cells-2
+    copy-cells-requires
     mul-done
     add-done
     add-i
