@@ -7,7 +7,7 @@ use native.Mathlib.Nat.{mul-le-mul-right, le-trans, zero-add}
 use native.Mathlib.Numerals.{add-one}
 use native.Mathlib.Omega.{arith}
 use mathlib.Core.List.{List, map}
-use lib.ListN.{length}
+use lib.ListN.{length, drop}
 use Rattle.array.specs.declared.kind.ByteOrder.{ByteOrder}
 use Rattle.array.specs.declared.kind.IndexWidth.{IndexWidth}
 use Rattle.array.specs.declared.kind.IndexWidth.the-variants.{Four, Eight}
@@ -15,7 +15,8 @@ use Rattle.array.specs.declared.kind.IndexPlace.{IndexPlace}
 use Rattle.array.specs.declared.kind.Values.{Values}
 use Rattle.array.specs.declared.kind.Values.the-variants.{Fixed, Ragged}
 use Rattle.array.specs.Limits.{mostBytes, mostCells}
-use Rattle.array.specs.Kind.{Form, fixed, ragged}
+use Rattle.array.specs.Lists.{joined, pieces}
+use Rattle.array.specs.Kind.{Form, fixed, ragged, ordered}
 use Rattle.array.specs.Meaning.{orderOf, widthOf, placeOf, formOf}
 use Rattle.array.specs.Offsets.{last, Rising}
 use Rattle.array.specs.Content.{Content, ValuesOk}
@@ -26,7 +27,7 @@ use Rattle.encode.specs.Pieces.{sliceAt, piecesAt, spansOf}
 use Rattle.encode.specs.Ready.{Planes, Offsets, MeasuresOk, Measured, Ready}
 use Rattle.encode.specs.Stored.{valuesFrom, storedFrom, storedBy, valuesLengthAt, lengthFrom, lengthBy}
 use Rattle.encode.proofs.Runs.{live-le}
-use Rattle.encode.proofs.Levels.{NarrowOk, values-small, fixed-put, fixed-long}
+use Rattle.encode.proofs.Levels.{NarrowOk, values-small, fixed-put, fixed-long, plain-length, plain-stored}
 
 -- ---- fewer levels
 
@@ -45,7 +46,7 @@ module _ {f : Form} {n : ℕ} {masks os : List ℕ} (l d : ℕ) (m : Measured f 
   measured-next z = subst (λ (k : ℕ). Measured f n masks os k) (one-less l d z) m
 
 pub measured-planes : {f : Form} {n : ℕ} {masks os : List ℕ} {l : ℕ} → Measured f n masks os l → Planes n masks l
-measured-planes m = record { few = m .few; planes = m .planes }
+measured-planes m = record { shallow = m .shallow; few = m .few; planes = m .planes }
 
 module _ {f : Form} {n : ℕ} {c : Content} (l d : ℕ) (r : Ready f n c (l + d)) where
   pub ready-here : Ready f n c l
@@ -55,7 +56,7 @@ module _ {f : Form} {n : ℕ} {c : Content} (l d : ℕ) (r : Ready f n c (l + d)
   ready-next z = subst (λ (k : ℕ). Ready f n c k) (one-less l d z) r
 
 pub ready-planes : {f : Form} {n : ℕ} {c : Content} {l : ℕ} → Ready f n c l → Planes n (c .masks) l
-ready-planes r = record { few = r .few; planes = r .planes }
+ready-planes r = record { shallow = r .shallow; few = r .few; planes = r .planes }
 
 -- what can be written can be measured
 sizes-ok : (f : Form) (n : ℕ) (c : Content) (l : ℕ) → Ready f n c l → MeasuresOk f n (c .offsets)
@@ -151,11 +152,17 @@ pub ready-all : {v u : Values} {n : ℕ} {c : Content} {d : ℕ} → v ≡ u →
 ready-all {v} {u} {n} {c} {d} e r = subst (λ (k : ℕ). Ready (formOf u) n c k) (sym (zero-add d)) (subst (λ (x : Values). Ready (formOf x) n c d) e r)
 
 module _ {v : Values} {s : ℕ} {o : ByteOrder} (e : v ≡ Fixed s o) (n : ℕ) where
-  pub length-fixed : (masks os : List ℕ) (bytes d : ℕ) → lengthFrom (formOf v) n masks os d 0 ≡ lengthBy (formOf v) n masks bytes os d
+  pub length-fixed : (masks os : List ℕ) (bytes d : ℕ) → lengthFrom (formOf (Fixed s o)) n masks os d 0 ≡ lengthBy (formOf v) n masks bytes os d
   length-fixed masks os bytes d = rw e
 
-  pub stored-fixed : (c : Content) (d : ℕ) → storedFrom (formOf v) n c d 0 ≡ storedBy (formOf v) n c d
+  pub stored-fixed : (c : Content) (d : ℕ) → storedFrom (formOf (Fixed s o)) n c d 0 ≡ storedBy (formOf v) n c d
   stored-fixed c d = rw e
+
+  pub length-copied : (masks os : List ℕ) (bytes : ℕ) {d : ℕ} → d ≡ 0 → n * s ≡ lengthBy (formOf v) n masks bytes os d
+  length-copied masks os bytes z = rw (e, z) (plain-length s n (orderOf o) masks os)
+
+  pub stored-copied : (c : Content) {d : ℕ} → d ≡ 0 → joined (map (ordered (orderOf o)) (pieces s n (drop 0 (c .values)))) ≡ storedBy (formOf v) n c d
+  stored-copied c z = rw (e, z) (plain-stored s n (orderOf o) c)
 
 module _ {v : Values} {w : IndexWidth} {p : IndexPlace} (e : v ≡ Ragged w p) (n : ℕ) where
   pub length-ragged : (masks os : List ℕ) (bytes : ℕ) {d : ℕ} → d ≢ 0 → lengthFrom (formOf (Ragged w p)) n masks os d 0 ≡ lengthBy (formOf v) n masks bytes os d

@@ -1,19 +1,18 @@
 -- The loops that write what belongs to the cells that a level counts, run by run.
 -- Assumes nothing.
-use mathlib.Core.Path.{_≡_, refl, sym, ap, ap₂, _∙_, subst}
+use mathlib.Core.Path.{_≡_, refl, sym, ap, _∙_}
 use Prim.Native.Nat.{ℕ, zero, suc, _+_, _-_, _*_, _<_, _≤_}
-use native.Mathlib.Nat.{sub-zero, suc-mul, zero-mul, mul-le-mul-right, add-mul}
-use native.Mathlib.Numerals.{add-one}
+use native.Mathlib.Nat.{suc-mul, mul-le-mul-right, add-mul}
 use native.Mathlib.Omega.{arith}
 use mathlib.Core.Bool.{Bool}
-use mathlib.Core.List.{List, [], _∷_, _++_, map, reverse, append-assoc}
-use lib.ListN.{length, take, drop, length-append, length-drop, length-map}
-use lib.Seq.{drop-drop, take-add, length-take-le}
+use mathlib.Core.List.{List, [], _∷_, _++_, map, append-assoc}
+use lib.ListN.{length, drop, length-append, length-drop, length-map}
+use lib.Seq.{length-take-le}
 use Rattle.array.specs.Lists.{from, joined, pieces, passing}
 use Rattle.array.specs.Buffers.{overAt}
-use Rattle.array.specs.Kind.{Order, little, big, ordered}
+use Rattle.array.specs.Kind.{Order, ordered}
 use Rattle.array.specs.Cells.{Value}
-use Rattle.array.proofs.Lists.{Sized, map-append, map-map, map-id, length-joined, length-pieces, All-image, All-map}
+use Rattle.array.proofs.Lists.{Sized, map-append, map-map, length-joined, length-pieces, All-image, All-map}
 use Rattle.array.proofs.Sizes.{length-ordered}
 use Rattle.array.proofs.Laying.{Laying, laying-begins, laying-same, laying-left, laying-ends, laying-part, laying-is}
 use Rattle.encode.specs.Live.{runOf}
@@ -27,10 +26,10 @@ joined-append (x ∷ xs) ys = ap (λ (r : List ℕ). x ++ r) (joined-append xs y
 
 -- ---- by runs: g i is what cell i writes
 
-abbrev wholeOf : (ℕ → Bool) → ℕ → (ℕ → List ℕ) → List ℕ
+abbrev pub wholeOf : (ℕ → Bool) → ℕ → (ℕ → List ℕ) → List ℕ
 wholeOf t n g = joined (map g (passing t (from 0 n)))
 
-abbrev leftFrom : (ℕ → Bool) → ℕ → (ℕ → List ℕ) → ℕ → List ℕ
+abbrev pub leftFrom : (ℕ → Bool) → ℕ → (ℕ → List ℕ) → ℕ → List ℕ
 leftFrom t n g i = joined (map g (passing t (from i (n - i))))
 
 -- `done` bytes lie at `to` in what was d, and the cells from i on are left
@@ -77,7 +76,7 @@ module _ {t : ℕ → Bool} {n : ℕ} {g : ℕ → List ℕ} {d : List ℕ} {to 
 -- ---- pieces of one size
 
 -- the pieces of a run lie end to end
-run-pieces : (o : Order) (at k : ℕ) (s : List ℕ) (i r : ℕ) → piecesAt o at k s (from i r) ≡ joined (map (ordered o) (pieces k r (drop (at + i * k) s)))
+pub run-pieces : (o : Order) (at k : ℕ) (s : List ℕ) (i r : ℕ) → piecesAt o at k s (from i r) ≡ joined (map (ordered o) (pieces k r (drop (at + i * k) s)))
 run-pieces o at k s i r = ap joined (sym (map-map (pieceAt at k s) (ordered o) (from i r)) ∙ ap (map (ordered o)) (sym (pieces-at at k r i s)))
 
 sized-whole : (k n : ℕ) (s : List ℕ) → n * k ≤ length s → Sized k (pieces k n s)
@@ -93,7 +92,7 @@ length-run o k n s h =
     ∙ ap (λ (m : ℕ). m * k) (length-map (pieces k n s) (ordered o) ∙ length-pieces k n s)
 
 -- i pieces and then r more, of n
-rows-fit : (i r n k : ℕ) → i + r ≤ n → i * k + r * k ≤ n * k
+pub rows-fit : (i r n k : ℕ) → i + r ≤ n → i * k + r * k ≤ n * k
 rows-fit i r n k h = omega (arith, mul-le-mul-right {m = i + r} {n = n} k h, add-mul i r k)
 
 pub record Storing (o : Order) (at k : ℕ) (s : List ℕ) (t : ℕ → Bool) (n : ℕ) (d : List ℕ) (to : ℕ) (out : List ℕ) (i done : ℕ) : Type 0 where
@@ -127,72 +126,3 @@ module _ {o : Order} {at k : ℕ} {s : List ℕ} {t : ℕ → Bool} {n : ℕ} {d
     pub storing-more : {out′ : List ℕ} → out′ ≡ overAt (to + done) (joined (map (ordered o) (pieces k r (drop (at + i * k) s)))) out
         → Storing o at k s t n d to out′ (i + (r + 1)) (done + r * k)
     storing-more eo = record { source = l .source; gathers = gathering-more (l .gathers) e (run-pieces o at k s i r) eo long }
-
--- ---- a run in little order: it is copied
-
-pub run-little : (to k n : ℕ) (s d : List ℕ) {o : Order} → o ≡ little → overAt to (take (n * k) s) d ≡ overAt to (joined (map (ordered o) (pieces k n s))) d
-run-little to k n s d {o} e =
-    ap (λ (x : List ℕ). overAt to x d) (go n s ∙ ap joined (sym (map-id (pieces k n s))) ∙ ap (λ (x : Order). joined (map (ordered x) (pieces k n s))) (sym e))
-  where
-    go : (n : ℕ) (s : List ℕ) → take (n * k) s ≡ joined (pieces k n s)
-    go zero s = ap (λ (m : ℕ). take m s) (zero-mul k)
-    go (suc n) s =
-        let q : suc n * k ≡ k + n * k = omega (arith, suc-mul n k) in
-        ap (λ (m : ℕ). take m s) q ∙ take-add k (n * k) s ∙ ap (λ (r : List ℕ). take k s ++ r) (go n (drop k s))
-
--- ---- a run in big order: cell by cell
-
-abbrev bigRun : ℕ → ℕ → List ℕ → List ℕ
-bigRun k n s = joined (map (ordered big) (pieces k n s))
-
-pub run-big : (to k n : ℕ) (s d : List ℕ) {o : Order} → o ≡ big → overAt to (joined (map (ordered big) (pieces k n s))) d ≡ overAt to (joined (map (ordered o) (pieces k n s))) d
-run-big to k n s d e = ap (λ (x : Order). overAt to (joined (map (ordered x) (pieces k n s))) d) (sym e)
-
--- j cells of the run lie there
-pub record Reversing (d : List ℕ) (to : ℕ) (s : List ℕ) (at k n : ℕ) (out : List ℕ) (j : ℕ) : Type 0 where
-  pub source : at + n * k ≤ length s
-  pub room : to + n * k ≤ length d
-  pub laid : Laying (bigRun k n (drop at s)) d to out (j * k) (bigRun k (n - j) (drop (at + j * k) s))
-
-pub reversing-begins : {d : List ℕ} {to : ℕ} {s : List ℕ} {at k n : ℕ} → to + n * k ≤ length d → at + n * k ≤ length s → Reversing d to s at k n d 0
-reversing-begins {d} {to} {s} {at} {k} {n} p q =
-    let e : at ≡ at + 0 * k = omega (arith, zero-mul k) in
-    record {
-      source = q;
-      room = p;
-      laid = subst (λ (m : ℕ). Laying (bigRun k n (drop at s)) d to d m (bigRun k (n - 0) (drop (at + 0 * k) s))) (sym (zero-mul k))
-          (laying-is (laying-begins (bigRun k n (drop at s)) d to (omega (arith, length-run big k n (drop at s) (omega (arith, length-drop at s)))))
-          (ap₂ (λ (m a : ℕ). bigRun k m (drop a s)) (sym (sub-zero n)) e));
-    }
-
-module _ {d : List ℕ} {to : ℕ} {s : List ℕ} {at k n : ℕ} {out : List ℕ} {j : ℕ} (l : Reversing d to s at k n out j) where
-  pub reversing-same : length out ≡ length d
-  reversing-same = laying-same (bigRun k n (drop at s)) d to out (j * k) (bigRun k (n - j) (drop (at + j * k) s)) (l .laid)
-
-  pub reversing-ends : n ≤ j → out ≡ overAt to (bigRun k n (drop at s)) d
-  reversing-ends h =
-      let e : n - j ≡ 0 = omega arith in
-      laying-ends (bigRun k n (drop at s)) d to out (j * k) (laying-is (l .laid) (ap (λ (m : ℕ). bigRun k m (drop (at + j * k) s)) e))
-
-  module _ (h : j < n) where
-    pub reversing-fits : j * k + k ≤ n * k
-    reversing-fits = omega (arith, mul-le-mul-right {m = suc j} {n = n} k (omega arith), suc-mul j k)
-
-    pub reversing-more : {out′ : List ℕ} → out′ ≡ overAt (to + j * k) (reverse (take k (drop (at + j * k) s))) out → Reversing d to s at k n out′ (j + 1)
-    reversing-more {out′} eo =
-        let x : List ℕ = reverse (take k (drop (at + j * k) s)) in
-        let e1 : n - j ≡ suc (n - (j + 1)) = omega arith in
-        let next : (j + 1) * k ≡ j * k + k = ap (λ (m : ℕ). m * k) (add-one j) ∙ suc-mul j k in
-        let e2 : at + j * k + k ≡ at + (j + 1) * k = omega arith in
-        let e3 : (j + 1) * k ≡ j * k + length x =
-        omega (arith, length-ordered big (take k (drop (at + j * k) s)), length-take-le k (drop (at + j * k) s) (omega (arith, l .source, length-drop (at + j * k) s, reversing-fits))) in
-        record {
-          source = l .source;
-          room = l .room;
-          laid =
-              laying-part (bigRun k n (drop at s)) d to out (j * k) x (bigRun k (n - (j + 1)) (drop (at + (j + 1) * k) s))
-              (laying-is (l .laid)
-              (ap (λ (m : ℕ). bigRun k m (drop (at + j * k) s)) e1
-              ∙ ap (λ (r : List ℕ). x ++ bigRun k (n - (j + 1)) r) (drop-drop k (at + j * k) s ∙ ap (λ (m : ℕ). drop m s) e2)))
-              out′ eo ((j + 1) * k) e3;
-        }

@@ -3,19 +3,19 @@
 use mathlib.Core.Path.{_≡_, refl, sym, ap, ap₂, _∙_}
 use mathlib.Core.Logic.{_≢_, inl, inr}
 use Prim.Native.Nat.{ℕ, zero, suc, _+_, _-_, _*_, _<_, _≤_}
-use native.Mathlib.Nat.{suc-mul, mul-le-mul, mul-le-mul-right, mul-one, le-trans}
+use native.Mathlib.Nat.{zero-mul, suc-mul, mul-le-mul, mul-le-mul-right, le-trans}
 use native.Mathlib.Numerals.{add-one, sub-one}
 use native.Mathlib.Omega.{arith}
-use mathlib.Core.List.{List, [], _∷_, _++_, map}
-use lib.ListN.{length, take, drop, getD, length-drop, length-map}
-use lib.Seq.{drop-cons, length-take-le}
+use mathlib.Core.List.{List, [], _∷_, map}
+use lib.ListN.{length, drop, getD, length-drop, length-map}
+use lib.Seq.{length-take-le}
 use Rattle.array.specs.Limits.{mostBytes, mostCells}
-use Rattle.array.specs.Lists.{from, joined, All}
-use Rattle.array.specs.Kind.{Form, fixed, ragged, FormOk, Order, little, ordered}
+use Rattle.array.specs.Lists.{from, joined, pieces}
+use Rattle.array.specs.Kind.{Form, fixed, ragged, FormOk, Order, ordered}
 use Rattle.array.specs.Cells.{Value}
 use Rattle.array.specs.Offsets.{last}
 use Rattle.array.specs.Content.{Content, ValuesOk}
-use Rattle.array.proofs.Lists.{map-map, length-joined, All-image}
+use Rattle.array.proofs.Lists.{map-map, length-joined, length-from, All-image}
 use Rattle.array.proofs.Geometry.{All-from}
 use Rattle.codec.specs.Frame.{wrap, unlessNone}
 use Rattle.codec.specs.Values.{putValues}
@@ -23,9 +23,11 @@ use Rattle.codec.proofs.Frames.{length-wrap}
 use Rattle.codec.proofs.Values.{ragged-length, length-joined-ordered}
 use Rattle.encode.specs.Live.{maskAt, liveTest, liveAt}
 use Rattle.encode.specs.Pieces.{pieceAt, valueAt, piecesAt, spansOf}
-use Rattle.encode.specs.Ready.{MeasuresOk, Planes}
+use Rattle.encode.specs.Ready.{MeasuresOk}
 use Rattle.encode.specs.Stored.{valuesFrom, storedFrom, frameFrom, storedBy, orNothing, valuesLengthAt, lengthFrom, lengthBy}
+use Rattle.encode.proofs.Walk.{live-all}
 use Rattle.encode.proofs.Runs.{All-passing, live-le}
+use Rattle.encode.proofs.Gathering.{run-pieces}
 use Rattle.encode.proofs.Spans.{spans-le, last-le}
 use Rattle.encode.proofs.RaggedLaws.{ragged-long}
 
@@ -60,32 +62,6 @@ module _ (f : Form) (n : ℕ) (c : Content) (l : ℕ) where
   frame-long d =
       length-wrap (map (maskAt n (c .masks) l) (liveAt n (c .masks) l)) (storedFrom f n c d (l + 1))
       ∙ ap (λ (m : ℕ). 16 + m + length (storedFrom f n c d (l + 1))) (length-map (liveAt n (c .masks) l) (maskAt n (c .masks) l))
-
--- ---- mask bytes are pieces of size 1
-
-mask-piece : (at i : ℕ) (s : List ℕ) → at + i < length s → getD s (at + i) 0 ∷ [] ≡ pieceAt at 1 s i
-mask-piece at i s h =
-    ap (λ (r : List ℕ). take 1 r) (sym (drop-cons s (at + i) 0 h)) ∙ ap (λ (m : ℕ). take 1 (drop (at + m) s)) (sym (mul-one i))
-
-module _ {n : ℕ} {masks : List ℕ} (l : ℕ) (h : Planes n masks (l + 1)) where
-  one-more : l * n + n ≤ length masks
-  one-more = omega (arith, h .planes, suc-mul l n, ap (λ (m : ℕ). m * n) (add-one l))
-
-  pub mask-planes : Planes n masks l
-  mask-planes = record { few = h .few; planes = omega (arith, one-more) }
-
-  pub mask-source : l * n + n * 1 ≤ length masks
-  mask-source = omega (arith, one-more, mul-one n)
-
-  pub mask-pieces : piecesAt little (l * n) 1 masks (liveAt n masks l) ≡ map (maskAt n masks l) (liveAt n masks l)
-  mask-pieces = go (liveAt n masks l) (All-passing (liveTest n masks l) (λ i. i < n) (from 0 n) (All-from (λ i. i < n) 0 n (λ i a b. omega arith)))
-    where
-      go : (is : List ℕ) → All (λ i. i < n) is → joined (map (pieceAt (l * n) 1 masks) is) ≡ map (maskAt n masks l) is
-      go [] p = refl
-      go (i ∷ is) p = ap₂ (λ (a b : List ℕ). a ++ b) (sym (mask-piece (l * n) i masks (omega (arith, one-more, p .0)))) (go is (p .1))
-
-  pub mask-long : length (piecesAt little (l * n) 1 masks (liveAt n masks l)) ≡ length (liveAt n masks l)
-  mask-long = ap length mask-pieces ∙ length-map (liveAt n masks l) (maskAt n masks l)
 
 -- ---- values of one size
 
@@ -165,6 +141,30 @@ module _ (f : Form) (n : ℕ) (masks os : List ℕ) (l : ℕ) where
   length-frame (suc d) z e =
       ap₂ (λ (a b : ℕ). 16 + length (liveAt n masks l) + lengthFrom f n masks os a b) (sub-one (suc d)) (add-one l)
       ∙ some-all (length (liveAt n masks l)) (16 + length (liveAt n masks l) + lengthFrom f n masks os d (suc l)) e
+
+-- ---- at depth 0 every cell is there
+
+pub plain-length : (k n : ℕ) (o : Order) (masks os : List ℕ) → n * k ≡ lengthFrom (fixed k o) n masks os 0 0
+unfolding lengthFrom
+plain-length k n o masks os = sym (ap (λ (m : ℕ). orNothing m (m * k)) (ap length (live-all n masks) ∙ length-from 0 n) ∙ go n)
+  where
+    go : (n : ℕ) → orNothing n (n * k) ≡ n * k
+    go zero = sym (zero-mul k)
+    go (suc n) = refl
+
+pub plain-stored : (k n : ℕ) (o : Order) (c : Content) → joined (map (ordered o) (pieces k n (drop 0 (c .values)))) ≡ storedFrom (fixed k o) n c 0 0
+unfolding storedFrom putValues
+plain-stored k n o c =
+    let z : 0 ≡ 0 + 0 * k = omega (arith, zero-mul k) in
+    ap (λ (m : ℕ). joined (map (ordered o) (pieces k n (drop m (c .values))))) z
+    ∙ sym (run-pieces o 0 k (c .values) 0 n)
+    ∙ fixed-put k o c (from 0 n)
+    ∙ go (from 0 n)
+    ∙ ap (unlessNone (λ is. putValues (fixed k o) (map (valueAt (fixed k o) c) is))) (sym (live-all n (c .masks)))
+  where
+    go : (is : List ℕ) → putValues (fixed k o) (map (valueAt (fixed k o) c) is) ≡ unlessNone (λ is. putValues (fixed k o) (map (valueAt (fixed k o) c) is)) is
+    go [] = refl
+    go (i ∷ is) = refl
 
 -- ---- within the limits it is small
 

@@ -1,8 +1,10 @@
 pub mod Walk
 pub mod Runs
+pub mod LiveMarks
 pub mod Gathering
 pub mod Spans
 pub mod Placing
+pub mod Packing
 pub mod RaggedLaws
 pub mod Levels
 pub mod Forms

@@ -1,49 +1,24 @@
 -- Runs of cells that a level counts, and the loops that go by them.
 -- Assumes nothing.
 use mathlib.Core.Path.{_≡_, refl, sym, ap, ap₂, _∙_}
-use Prim.Native.Nat.{ℕ, zero, suc, _+_, _-_, _*_, _<_, _≤_}
-use native.Mathlib.Nat.{sub-zero, zero-sub, zero-add, zero-mul, one-mul, suc-mul, le-refl}
-use native.Mathlib.Numerals.{add-one, sub-one}
+use Prim.Native.Nat.{ℕ, zero, suc, _+_, _-_, _<_, _≤_}
+use native.Mathlib.Nat.{sub-zero, zero-sub, le-refl}
+use native.Mathlib.Numerals.{add-one}
 use native.Mathlib.Omega.{arith}
-use mathlib.Core.Bool.{Bool, true, false, _&&_}
+use mathlib.Core.Bool.{Bool, true, false}
 use mathlib.Core.List.{List, [], _∷_, _++_}
-use lib.ListN.{length, take, drop, getD, length-append}
-use lib.Seq.{drop-cons}
+use lib.ListN.{length}
 use Rattle.array.specs.Lists.{pick, from, passing, All}
-use Rattle.array.proofs.Lists.{All-of, length-from}
-use Rattle.array.proofs.Geometry.{passing-cong}
-use Rattle.codec.specs.Marks.{setTest}
-use Rattle.codec.specs.Frame.{countSet}
-use Rattle.encode.specs.Live.{maskAt, liveTest, liveAt, runOf}
+use Rattle.array.proofs.Lists.{length-from}
+use Rattle.encode.specs.Live.{liveTest, liveAt, runOf}
 
 -- ---- one cell
 
 module _ (n : ℕ) (masks : List ℕ) (i : ℕ) where
-  -- no level, a level that is null, and one that is set
+  -- no level
   pub live-none : (l : ℕ) → l ≡ 0 → liveTest n masks l i ≡ true
   live-none zero h = refl
   live-none (suc l) h = absurd (omega arith)
-
-  pub live-null : (l : ℕ) → 0 < l → setTest (maskAt n masks (l - 1) i) ≡ false → liveTest n masks l i ≡ false
-  live-null zero h e = absurd (omega arith)
-  live-null (suc l) h e = ap (λ (b : Bool). liveTest n masks l i && b) (rw sub-one at e) ∙ go (liveTest n masks l i)
-    where
-      go : (b : Bool) → b && false ≡ false
-      go true = refl
-      go false = refl
-
-  pub live-set : (l : ℕ) → 0 < l → setTest (maskAt n masks (l - 1) i) ≡ true → liveTest n masks l i ≡ liveTest n masks (l - 1) i
-  live-set zero h e = absurd (omega arith)
-  live-set (suc l) h e = rw sub-one (ap (λ (b : Bool). liveTest n masks l i && b) (rw sub-one at e) ∙ go (liveTest n masks l i))
-    where
-      go : (b : Bool) → b && true ≡ b
-      go true = refl
-      go false = refl
-
--- the place of a mask byte
-pub row-le : (l n i m : ℕ) → 0 < l → i < n → l * n ≤ m → (l - 1) * n + i < m
-row-le zero n i m p h k = absurd (omega arith)
-row-le (suc l) n i m p h k = rw sub-one (omega (arith, suc-mul l n))
 
 -- ---- runs
 
@@ -125,58 +100,3 @@ module _ (t : ℕ → Bool) where
 -- a level counts no more cells than there are
 pub live-le : (n : ℕ) (masks : List ℕ) (l : ℕ) → length (liveAt n masks l) ≤ n
 live-le n masks l = omega (arith, passing-le (liveTest n masks l) (from 0 n), length-from 0 n)
-
--- ---- level 1 counts the set bytes of the first mask
-
-count-from : (masks : List ℕ) (a n : ℕ) → a + n ≤ length masks → length (passing (λ i. setTest (getD masks i 0)) (from a n)) ≡ countSet (take n (drop a masks))
-count-from masks a zero h = refl
-count-from masks a (suc n) h =
-    sym (ap (λ (s : List ℕ). countSet (take (suc n) s)) (drop-cons masks a 0 (omega arith)) ∙ sym (go (getD masks a 0) (count-from masks (suc a) n (omega arith))))
-  where
-    go : (m : ℕ) → length (passing (λ i. setTest (getD masks i 0)) (from (suc a) n)) ≡ countSet (take n (drop (suc a) masks))
-        → length (pick (setTest m) (a ∷ passing (λ i. setTest (getD masks i 0)) (from (suc a) n)) (passing (λ i. setTest (getD masks i 0)) (from (suc a) n)))
-        ≡ countSet (m ∷ take n (drop (suc a) masks))
-    go zero e = e
-    go (suc m) e = ap suc e
-
-pub count-one : (n : ℕ) (masks : List ℕ) (l : ℕ) → l ≡ 1 → l * n ≤ length masks → countSet (take (n - 0) (drop 0 masks)) ≡ length (liveAt n masks l)
-count-one n masks l e h =
-    ap (λ (m : ℕ). countSet (take m masks)) (sub-zero n)
-    ∙ sym
-    (ap (λ (x : ℕ). length (liveAt n masks x)) e
-    ∙ ap length
-    (passing-cong (liveTest n masks 1) (λ i. setTest (getD masks i 0)) (from 0 n)
-    (All-of (λ i. setTest (getD masks (0 * n + i) 0) ≡ setTest (getD masks i 0)) (λ i. ap (λ (x : ℕ). setTest (getD masks x 0)) (ap (λ (x : ℕ). x + i) (zero-mul n) ∙ zero-add i)) (from 0 n)))
-    ∙ count-from masks 0 n (omega (arith, ap (λ (x : ℕ). x * n) e, one-mul n)))
-
--- ---- a count that goes by runs
-
--- the cells counted so far, and those from i on
-pub record Counting (t : ℕ → Bool) (n count i : ℕ) : Type 0 where
-  pub sum : count + length (passing t (from i (n - i))) ≡ length (passing t (from 0 n))
-
-pub counting-begins : {t : ℕ → Bool} {n : ℕ} → Counting t n 0 0
-counting-begins {t} {n} = record { sum = omega (arith, ap length (passing-start t n)) }
-
-module _ {t : ℕ → Bool} {n count i : ℕ} (l : Counting t n count i) where
-  pub counting-ends : n ≤ i → count ≡ length (passing t (from 0 n))
-  counting-ends h = omega (arith, l .sum, ap length (passing-end t i n h))
-
-  module _ {r : ℕ} (e : r ≡ runOf t i (n - i)) where
-    pub counting-more : Counting t n (count + r) (i + (r + 1))
-    counting-more = record {
-      sum =
-          omega (
-            arith,
-            l .sum,
-            ap length (passing-run t i n r e),
-            length-append (from i r) (passing t (from (i + (r + 1)) (n - (i + (r + 1))))),
-            length-from i r,
-          );
-    }
-
-    pub counting-within : i < n → i + r ≤ n
-    counting-within h = omega (arith, run-le t i (n - i))
-
-    pub counting-fits : count + r ≤ n
-    counting-fits = omega (arith, counting-more .sum, passing-le t (from 0 n), length-from 0 n)

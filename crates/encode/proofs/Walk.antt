@@ -2,7 +2,7 @@
 -- Assumes nothing.
 use mathlib.Core.Path.{_≡_, refl, sym, ap, ap₂, _∙_}
 use Prim.Native.Nat.{ℕ, zero, suc, _+_, _-_, _*_, _<_, _≤_}
-use native.Mathlib.Nat.{zero-mul, suc-mul, zero-add}
+use native.Mathlib.Nat.{zero-mul, suc-mul, add-mul, zero-add}
 use native.Mathlib.Omega.{arith}
 use mathlib.Core.Bool.{Bool, true, false, _&&_}
 use mathlib.Core.List.{List, [], _∷_, map}
@@ -54,18 +54,19 @@ abbrev cellAt : ℕ → List ℕ → (ℕ → Value) → (d l : ℕ) → ℕ →
 cellAt n masks val zero l i = val i
 cellAt n masks val (suc d) l i = (maskAt n masks l i, cellAt n masks val d (suc l) i)
 
-module _ (n : ℕ) (masks : List ℕ) (val : ℕ → Value) where
-  plane-at : (d l : ℕ) → length masks ≡ (l + suc d) * n → take n (drop (l * n) masks) ≡ map (maskAt n masks l) (from 0 n)
-  plane-at d l e =
-      let ps : List ℕ = drop (l * n) masks in
-      let le : n ≤ length ps = omega (arith, length-drop (l * n) masks) in
-      by-index 0 (take n ps) n (length-take-le n ps le)
-      ∙ map-from (λ i. getD (take n ps) i 0) (maskAt n masks l) 0 n (λ i h. getD-take n ps i 0 (omega arith) ∙ getD-drop (l * n) masks i 0)
+-- the plane of level l
+pub plane-at : (n : ℕ) (masks : List ℕ) (l : ℕ) → l * n + n ≤ length masks → take n (drop (l * n) masks) ≡ map (maskAt n masks l) (from 0 n)
+plane-at n masks l h =
+    let ps : List ℕ = drop (l * n) masks in
+    let le : n ≤ length ps = omega (arith, length-drop (l * n) masks) in
+    by-index 0 (take n ps) n (length-take-le n ps le)
+    ∙ map-from (λ i. getD (take n ps) i 0) (maskAt n masks l) 0 n (λ i h. getD-take n ps i 0 (omega arith) ∙ getD-drop (l * n) masks i 0)
 
+module _ (n : ℕ) (masks : List ℕ) (val : ℕ → Value) where
   attach-at : (d l : ℕ) → length masks ≡ (l + d) * n → attach d n (drop (l * n) masks) (map val (from 0 n)) ≡ map (cellAt n masks val d l) (from 0 n)
   attach-at zero l e = refl
   attach-at (suc d) l e =
-      ap₂ (λ (ms : List ℕ) (ps : List ℕ). pairUp ms (attach d n ps (map val (from 0 n)))) (plane-at d l e)
+      ap₂ (λ (ms : List ℕ) (ps : List ℕ). pairUp ms (attach d n ps (map val (from 0 n)))) (plane-at n masks l (omega (arith, suc-mul (l + d) n, add-mul l d n)))
       (drop-drop n (l * n) masks ∙ ap (λ (m : ℕ). drop m masks) (sym (suc-mul l n)))
       ∙ ap (pairUp (map (maskAt n masks l) (from 0 n))) (attach-at d (suc l) (omega arith))
       ∙ pairUp-map (maskAt n masks l) (cellAt n masks val d (suc l)) (from 0 n)

@@ -1,7 +1,7 @@
 -- The cells that a level counts (document 01, item 5: the content covers only the cells set there), by their numbers: what code that
 -- goes by places speaks of. proofs/Walk has that these are the cells of the definitions.
 -- Assumes nothing.
-use Prim.Native.Nat.{ℕ, zero, suc, _+_, _*_}
+use Prim.Native.Nat.{ℕ, zero, suc, _+_, _-_, _*_}
 use mathlib.Core.Bool.{Bool, true, _&&_}
 use mathlib.Core.List.{List}
 use lib.ListN.{getD}
@@ -17,9 +17,19 @@ abbrev pub liveTest : ℕ → List ℕ → ℕ → ℕ → Bool
 liveTest n masks zero i = true
 liveTest n masks (suc l) i = liveTest n masks l i && setTest (maskAt n masks l i)
 
--- the cells that level l counts
+-- the same as numbers, 1 or 0
+abbrev pub setOne : ℕ → ℕ
+setOne m = pick (setTest m) 1 0
+
+abbrev pub liveOne : ℕ → List ℕ → ℕ → ℕ → ℕ
+liveOne n masks l i = pick (liveTest n masks l i) 1 0
+
+-- the cells that level l counts, all of them and those from i on
 abbrev pub liveAt : ℕ → List ℕ → ℕ → List ℕ
 liveAt n masks l = passing (liveTest n masks l) (from 0 n)
+
+abbrev pub liveFrom : ℕ → List ℕ → ℕ → ℕ → List ℕ
+liveFrom n masks l i = passing (liveTest n masks l) (from i (n - i))
 
 -- how many of the m numbers from i on pass before the first that does not
 abbrev pub runOf : (ℕ → Bool) → ℕ → ℕ → ℕ

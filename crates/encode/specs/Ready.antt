@@ -39,6 +39,7 @@ pub record Measured (f : Form) (n : ℕ) (masks os : List ℕ) (levels : ℕ) : 
 
 -- to tell the cells that level l counts: the masks of the levels above it
 pub record Planes (n : ℕ) (masks : List ℕ) (l : ℕ) : Type 0 where
+  pub shallow : l ≤ mostDepth
   pub few : n ≤ mostCells
   pub planes : l * n ≤ length masks
 

@@ -1,54 +1,24 @@
 // What belongs to the cells that a level counts, end to end: mask bytes, and values of one size.
 use crate::live;
-use array::copy;
 use array::kind::ByteOrder;
+use codec::mask;
+use endian::cells;
+use endian::word;
 ghost use mathlib.Core.Path.{_≡_};
+ghost use mathlib.Core.Bool.{true};
 ghost use mathlib.Core.List.{map};
 ghost use Prim.Native.Nat.{_+_, _*_, _≤_};
-ghost use lib.ListN.{length, drop};
+ghost use lib.ListN.{length};
 ghost use Rattle.array.specs.Buffers.{overAt};
-ghost use Rattle.array.specs.Kind.{big, ordered};
-ghost use Rattle.array.specs.Lists.{joined, pieces};
 ghost use Rattle.array.specs.Meaning.{orderOf};
 ghost use Rattle.codec.specs.Mask.{byteMask};
+ghost use Rattle.endian.specs.Word.{wordTest};
 ghost use Rattle.encode.specs.Live.{maskAt, liveAt};
 ghost use Rattle.encode.specs.Pieces.{piecesAt};
 ghost use Rattle.encode.specs.Ready.{Planes};
 
-// Copies `run` cells, each reversed.
-fn reverse_run(out: &mut [u8], to: usize, s: &[u8], at: usize, size: usize, run: usize)
-    requires { ⌜ (to + run * size ≤ length (now out)) × (at + run * size ≤ length (now s)) ⌝ }
-    ensures { λ _. ⌜ now (out .exit) ≡ overAt to (joined (map (ordered big) (pieces size run (drop at (now (s .entry)))))) (now (out .entry)) ⌝ }
-{
-    let mut j = 0;
-    while j < run {
-        let k = j * size;
-        endian::copy_reversed(out, to + k, s, at + k, size);
-        j += 1;
-    }
-}
-
-// Copies `run` cells, each in its stored order.
-fn put_run(
-    out: &mut [u8],
-    to: usize,
-    s: &[u8],
-    at: usize,
-    size: usize,
-    order: ByteOrder,
-    run: usize,
-)
-    requires { ⌜ (to + run * size ≤ length (now out)) × (at + run * size ≤ length (now s)) ⌝ }
-    ensures { λ _. ⌜ now (out .exit) ≡ overAt to (joined (map (ordered (orderOf order)) (pieces size run (drop at (now (s .entry)))))) (now (out .entry)) ⌝ }
-{
-    match order {
-        ByteOrder::Little => copy::copy_bytes(out, to, s, at, run * size),
-        ByteOrder::Big => reverse_run(out, to, s, at, size, run),
-    }
-}
-
 // Of the cells of one size that begin at `at`, those that the level counts. Neighbours go as one run.
-pub fn put_live(
+fn put_live_runs(
     out: &mut [u8],
     to: usize,
     s: &[u8],
@@ -67,27 +37,92 @@ pub fn put_live(
     let mut done = 0;
     while i < cells {
         let run = live::live_run(masks, cells, level, i);
-        put_run(out, to + done, s, at + i * size, size, order, run);
+        cells::copy_cells(out, to + done, s, at + i * size, size, order, run);
         done += run * size;
         i += run + 1;
     }
 }
 
-// The mask of the level: a byte for each cell that it counts.
-pub fn put_mask(out: &mut [u8], to: usize, masks: &[u8], cells: usize, level: usize)
-    requires { ⌜ Planes cells (now masks) (level + 1) × (to + length (liveAt cells (now masks) level) ≤ length (now out)) ⌝ }
+// The same of cells of a word's size, without a branch: a cell that the level does not count is written too, and the next is written over it.
+fn put_live_words(
+    out: &mut [u8],
+    to: usize,
+    s: &[u8],
+    at: usize,
+    size: usize,
+    order: ByteOrder,
+    masks: &[u8],
+    cells: usize,
+    level: usize,
+    count: usize,
+)
+    requires { ⌜ Planes cells (now masks) level × (count ≡ length (liveAt cells (now masks) level))
+        × (wordTest size ≡ true) × (at + cells * size ≤ length (now s))
+        × (to + length (piecesAt (orderOf order) at size (now s) (liveAt cells (now masks) level)) ≤ length (now out)) ⌝ }
+    ensures { λ _. ⌜ now (out .exit) ≡ overAt to (piecesAt (orderOf order) at size (now (s .entry)) (liveAt cells (now (masks .entry)) level)) (now (out .entry)) ⌝ }
+{
+    let mut i = 0;
+    let mut done = 0;
+    while done < count {
+        let v = word::word_at(s, at + i * size, size, order);
+        word::put_word(out, to + done * size, size, v);
+        done += live::live_mark(masks, cells, level, i) as usize;
+        i += 1;
+    }
+}
+
+// Of the cells of one size that begin at `at`, the `count` that the level counts.
+pub fn put_live(
+    out: &mut [u8],
+    to: usize,
+    s: &[u8],
+    at: usize,
+    size: usize,
+    order: ByteOrder,
+    masks: &[u8],
+    cells: usize,
+    level: usize,
+    count: usize,
+)
+    requires { ⌜ Planes cells (now masks) level × (count ≡ length (liveAt cells (now masks) level))
+        × (at + cells * size ≤ length (now s))
+        × (to + length (piecesAt (orderOf order) at size (now s) (liveAt cells (now masks) level)) ≤ length (now out)) ⌝ }
+    ensures { λ _. ⌜ now (out .exit) ≡ overAt to (piecesAt (orderOf order) at size (now (s .entry)) (liveAt cells (now (masks .entry)) level)) (now (out .entry)) ⌝ }
+{
+    if count == cells {
+        cells::copy_cells(out, to, s, at, size, order, cells);
+    } else if word::is_word(size) {
+        put_live_words(out, to, s, at, size, order, masks, cells, level, count);
+    } else {
+        put_live_runs(out, to, s, at, size, order, masks, cells, level);
+    }
+}
+
+// The mask bytes of the cells that the level counts, in the same way.
+fn put_live_mask(out: &mut [u8], to: usize, masks: &[u8], cells: usize, level: usize, count: usize)
+    requires { ⌜ Planes cells (now masks) (level + 1) × (count ≡ length (liveAt cells (now masks) level))
+        × (to + byteMask .size count ≤ length (now out)) ⌝ }
     ensures { λ _. ⌜ now (out .exit) ≡ overAt to (byteMask .put (map (maskAt cells (now (masks .entry)) level) (liveAt cells (now (masks .entry)) level))) (now (out .entry)) ⌝ }
 {
     let at = level * cells;
-    put_live(
-        out,
-        to,
-        masks,
-        at,
-        1,
-        ByteOrder::Little,
-        masks,
-        cells,
-        level,
-    );
+    let mut i = 0;
+    let mut done = 0;
+    while done < count {
+        mask::put_byte(out, to, done, masks[at + i]);
+        done += live::live_mark(masks, cells, level, i) as usize;
+        i += 1;
+    }
+}
+
+// The stored mask of the `count` cells that the level counts.
+pub fn put_mask(out: &mut [u8], to: usize, masks: &[u8], cells: usize, level: usize, count: usize)
+    requires { ⌜ Planes cells (now masks) (level + 1) × (count ≡ length (liveAt cells (now masks) level))
+        × (to + byteMask .size count ≤ length (now out)) ⌝ }
+    ensures { λ _. ⌜ now (out .exit) ≡ overAt to (byteMask .put (map (maskAt cells (now (masks .entry)) level) (liveAt cells (now (masks .entry)) level))) (now (out .entry)) ⌝ }
+{
+    if count == cells {
+        mask::put_plane(out, to, masks, level * cells, cells);
+    } else {
+        put_live_mask(out, to, masks, cells, level, count);
+    }
 }

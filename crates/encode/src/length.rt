@@ -43,7 +43,12 @@ pub fn stored_length(kind: Kind, cells: usize, masks: &[u8], bytes: usize, offse
     let form = kind.values;
     let depth = kind.depth as usize;
     match form {
-        Values::Fixed(_, _) => content_length(form, offsets, masks, cells, 0, depth),
+        Values::Fixed(size, _) => {
+            if depth == 0 {
+                return cells * (size as usize);
+            }
+            content_length(form, offsets, masks, cells, 0, depth)
+        }
         Values::Ragged(width, _) => {
             if depth == 0 {
                 return 8 + kind::width_bytes(width) * (cells + 1) + bytes;

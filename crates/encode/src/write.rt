@@ -86,13 +86,13 @@ fn write_frame(
         level + 1,
         below,
     );
-    cells::put_mask(out, start, masks, cells, level);
+    cells::put_mask(out, start, masks, cells, level, count);
     field::put_u64(out, at + 8, length as u64);
     field::put_u64(out, at, mask as u64);
     16 + mask + length
 }
 
-// Writes the whole stored form. At depth 0 ragged values go just as they are.
+// Writes the whole stored form. At depth 0 all cells are there, and ragged values go just as they are.
 pub fn write_stored(
     out: &mut [u8],
     kind: Kind,
@@ -108,8 +108,13 @@ pub fn write_stored(
     let form = kind.values;
     let depth = kind.depth as usize;
     match form {
-        Values::Fixed(_, _) => {
-            write_content(out, 0, form, values, offsets, masks, cells, 0, depth);
+        Values::Fixed(size, order) => {
+            if depth == 0 {
+                let k = size as usize;
+                endian::cells::copy_cells(out, 0, values, 0, k, order, cells);
+            } else {
+                write_content(out, 0, form, values, offsets, masks, cells, 0, depth);
+            }
         }
         Values::Ragged(width, place) => {
             if depth == 0 {

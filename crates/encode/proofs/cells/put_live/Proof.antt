@@ -1,95 +1,56 @@
--- `encode::cells::put_live` meets its contract: by the laws of Storing.
+-- `encode::cells::put_live` meets its contract: where every cell is counted, they lie end to end.
 -- Assumes nothing.
-use mathlib.Core.Path.{_≡_}
-use Prim.Native.Nat.{_≤_, _+_, _*_, _-_}
+use mathlib.Core.Path.{sym, _∙_}
 use native.Mathlib.Omega.{arith}
-use lib.ListN.{length}
-use Rattle.array.specs.Limits.{mostCells}
 use Rattle.array.specs.Meaning.{orderOf}
 use Rattle.encode.specs.Live.{liveTest}
-use Rattle.encode.proofs.Gathering.{Storing, storing-begins, storing-same, storing-ends, storing-within, storing-source, storing-room, storing-more}
+use Rattle.encode.proofs.Placing.{laid-as}
+use Rattle.encode.proofs.Packing.{all-pieces, all-long}
+use borrow.Author.Needs.{needs}
 use Rattle.encode.proofs.cells.put_live.Statement.{statement}
 use Rattle.encode.proofs.cells.put_live.Tie as tie
 
-abbrev Inv-loop : tie.InvT-loop
-Inv-loop out₀ to s at size order masks cells level i₀ done₀ out i done = Storing (orderOf order) at size s (liveTest cells masks level) cells out₀ to out i done
+copy-cells-requires : tie.Need-copy-cells-requires
+copy-cells-requires c κs = let a = c .before .before .before .before .before .args in (omega (arith, c .before .before .before .before .before .pre .3, all-long (orderOf (a .order)) (a .at) (a .size) (a .s .now) (liveTest (a .cells) (a .masks .now) (a .level)) (a .cells) (c .before .before .before .before .before .pre .2) (c .before .before .before .before .before .pre .1) (c .before .if1 .taken)), c .before .before .before .before .before .pre .2)
 
-abbrev μ-loop : tie.MeasureT-loop
-μ-loop out₀ to s at size order masks cells level i₀ done₀ out i done = cells - i
+is-word-requires : tie.Need-is-word-requires
+is-word-requires c κs = search needs
 
-same : (c : tie.At-loop Inv-loop μ-loop) → length (c .loop .out) ≡ length (c .before .before .before .before .args .out .now)
-same c = storing-same (c .loop .inv)
+put-live-words-requires : tie.Need-put-live-words-requires
+put-live-words-requires c κs = (c .before .before .before .before .before .before .before .pre .0, c .before .before .before .before .before .before .before .pre .1, sym (c .before .before .is-word .ensures) ∙ c .before .if2 .taken, c .before .before .before .before .before .before .before .pre .2, c .before .before .before .before .before .before .before .pre .3)
 
-within : (c : tie.After-live-run Inv-loop μ-loop) → c .before .before .loop .i + c .live-run .result ≤ c .before .before .before .before .before .before .args .cells
-within c = storing-within (c .before .before .loop .inv) (c .live-run .ensures) (c .before .loop-test .taken)
+put-live-runs-requires : tie.Need-put-live-runs-requires
+put-live-runs-requires c κs = search needs
 
-source : (c : tie.After-live-run Inv-loop μ-loop) → c .before .before .before .before .before .before .args .at + c .before .before .loop .i * c .before .before .before .before .before .before .args .size + c .live-run .result * c .before .before .before .before .before .before .args .size ≤ length (c .before .before .before .before .before .before .args .s .now)
-source c = storing-source (c .before .before .loop .inv) (c .live-run .ensures) (c .before .loop-test .taken)
+same-length : tie.Need-same-length
+same-length c = search needs
 
-room : (c : tie.After-live-run Inv-loop μ-loop) → c .before .before .before .before .before .before .args .to + c .before .before .loop .done + c .live-run .result * c .before .before .before .before .before .before .args .size ≤ length (c .before .before .loop .out)
-room c = storing-room (c .before .before .loop .inv) (c .live-run .ensures) (c .before .loop-test .taken)
+returns : tie.Need-returns
+returns c = let a = c .before .before .before .before .before .before .before .before .args in laid-as (a .to) (a .out .now) (c .before .before .copy-cells .ensures) (all-pieces (orderOf (a .order)) (a .at) (a .size) (a .s .now) (liveTest (a .cells) (a .masks .now) (a .level)) (a .cells) (c .before .before .before .before .before .before .before .before .pre .1) (c .before .before .before .before .if1 .taken))
 
-loop-holds : tie.Need-loop-holds Inv-loop μ-loop
-loop-holds c = storing-begins (c .before .before .before .pre .1) (c .before .before .before .pre .2)
+same-length-2 : tie.Need-same-length-2
+same-length-2 c = search needs
 
-live-run-requires : tie.Need-live-run-requires Inv-loop μ-loop
-live-run-requires c κs = omega (arith, c .before .before .before .before .before .pre .0 .planes)
+returns-2 : tie.Need-returns-2
+returns-2 c = search needs
 
-add-put-run : tie.Need-add-put-run Inv-loop μ-loop
-add-put-run c = omega (arith, room (c .before), same (c .before .before .before))
+same-length-3 : tie.Need-same-length-3
+same-length-3 c = search needs
 
-mul-put-run : tie.Need-mul-put-run Inv-loop μ-loop
-mul-put-run c = omega (arith, source (c .before))
-
-add-put-run-2 : tie.Need-add-put-run-2 Inv-loop μ-loop
-add-put-run-2 c = omega (arith, source (c .before))
-
-put-run-requires : tie.Need-put-run-requires Inv-loop μ-loop
-put-run-requires c κs = omega (arith, source (c .before), room (c .before), same (c .before .before .before))
-
-mul-done : tie.Need-mul-done Inv-loop μ-loop
-mul-done c = omega (arith, source (c .before .before .before .before))
-
-add-done : tie.Need-add-done Inv-loop μ-loop
-add-done c = omega (arith, room (c .before .before .before .before), same (c .before .before .before .before .before .before))
-
-add-i : tie.Need-add-i Inv-loop μ-loop
-unfolding mostCells
-add-i c = omega (arith, within (c .before .before .before .before), c .before .before .before .before .before .before .before .before .before .before .pre .0 .few)
-
-add-i-2 : tie.Need-add-i-2 Inv-loop μ-loop
-unfolding mostCells
-add-i-2 c = omega (arith, within (c .before .before .before .before), c .before .before .before .before .before .before .before .before .before .before .pre .0 .few)
-
-loop-less : tie.Need-loop-less Inv-loop μ-loop
-loop-less c = omega arith
-
-loop-again : tie.Need-loop-again Inv-loop μ-loop
-loop-again c = storing-more (c .before .before .before .before .before .before .loop .inv) (c .before .before .before .before .live-run .ensures) (c .before .before .before .before .before .loop-test .taken) (c .before .before .put-run .ensures)
-
-same-length : tie.Need-same-length Inv-loop μ-loop
-same-length c = same (c .before)
-
-returns : tie.Need-returns Inv-loop μ-loop
-returns c = storing-ends (c .before .loop .inv) (c .loop-test .left)
+returns-3 : tie.Need-returns-3
+returns-3 c = search needs
 
 pub put-live-spec : {M : Type 1} → statement M
 put-live-spec =
     tie.close
     (tie.spec
-    Inv-loop
-    μ-loop
-    loop-holds
-    live-run-requires
-    add-put-run
-    mul-put-run
-    add-put-run-2
-    put-run-requires
-    mul-done
-    add-done
-    add-i
-    add-i-2
-    loop-less
-    loop-again
+    copy-cells-requires
+    is-word-requires
+    put-live-words-requires
+    put-live-runs-requires
     same-length
-    returns)
+    returns
+    same-length-2
+    returns-2
+    same-length-3
+    returns-3)

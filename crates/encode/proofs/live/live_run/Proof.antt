@@ -3,10 +3,9 @@
 use mathlib.Core.Path.{_≡_, sym, _∙_}
 use Prim.Native.Nat.{_≤_, _+_, _-_}
 use native.Mathlib.Omega.{arith}
-use borrow.Author.Tests.{not-true, not-false}
 use Rattle.encode.specs.Live.{liveTest, runOf}
 use Rattle.encode.proofs.Runs.{live-none, run-stops, run-goes, run-none, run-all}
-use borrow.Author.Needs.{needs}
+use Rattle.encode.proofs.LiveMarks.{zero-false, one-true}
 use Rattle.encode.proofs.live.live_run.Statement.{statement}
 use Rattle.encode.proofs.live.live_run.Tie as tie
 
@@ -27,8 +26,8 @@ returns c =
 loop-holds : tie.Need-loop-holds Inv-loop μ-loop
 loop-holds c = (omega arith, omega arith, omega arith)
 
-is-live-requires : tie.Need-is-live-requires Inv-loop μ-loop
-is-live-requires c κs = search needs
+live-mark-requires : tie.Need-live-mark-requires Inv-loop μ-loop
+live-mark-requires c κs = omega arith
 
 sub-result-2 : tie.Need-sub-result-2 Inv-loop μ-loop
 sub-result-2 c = omega arith
@@ -36,7 +35,7 @@ sub-result-2 c = omega arith
 returns-2 : tie.Need-returns-2 Inv-loop μ-loop
 returns-2 c =
     let a = c .before .before .before .before .before .before .args in
-    omega (arith, c .before .before .before .loop .inv .2, run-stops (liveTest (a .cells) (a .masks .now) (a .level)) (c .before .before .before .loop .j) (a .cells) (c .before .before .loop-test .taken) (sym (c .before .is-live .ensures) ∙ not-true (c .before .is-live .result) (c .if2 .taken)))
+    omega (arith, c .before .before .before .loop .inv .2, run-stops (liveTest (a .cells) (a .masks .now) (a .level)) (c .before .before .before .loop .j) (a .cells) (c .before .before .loop-test .taken) (zero-false (liveTest (a .cells) (a .masks .now) (a .level) (c .before .before .before .loop .j)) (sym (c .before .live-mark .ensures) ∙ c .if2 .taken)))
 
 add-j : tie.Need-add-j Inv-loop μ-loop
 add-j c = omega arith
@@ -49,7 +48,7 @@ loop-again c =
     let a = c .before .before .before .before .before .before .args in (
       omega arith,
       omega arith,
-      omega (arith, c .before .before .before .loop .inv .2, run-goes (liveTest (a .cells) (a .masks .now) (a .level)) (c .before .before .before .loop .j) (a .cells) (c .before .before .loop-test .taken) (sym (c .before .is-live .ensures) ∙ not-false (c .before .is-live .result) (c .if2 .left))),
+      omega (arith, c .before .before .before .loop .inv .2, run-goes (liveTest (a .cells) (a .masks .now) (a .level)) (c .before .before .before .loop .j) (a .cells) (c .before .before .loop-test .taken) (one-true (liveTest (a .cells) (a .masks .now) (a .level) (c .before .before .before .loop .j)) (λ z. c .if2 .left (c .before .live-mark .ensures ∙ z)))),
     )
 
 sub-result-3 : tie.Need-sub-result-3 Inv-loop μ-loop
@@ -67,7 +66,7 @@ live-run-spec =
     sub-result
     returns
     loop-holds
-    is-live-requires
+    live-mark-requires
     sub-result-2
     returns-2
     add-j

@@ -23,7 +23,7 @@ loop-holds : tie.Need-loop-holds Inv-loop μ-loop
 loop-holds c = summing-begins (c .before .before .pre .1)
 
 live-run-requires : tie.Need-live-run-requires Inv-loop μ-loop
-live-run-requires c κs = omega (arith, c .before .before .before .before .pre .0 .planes)
+live-run-requires c κs = omega (arith, c .before .before .before .before .pre .0 .shallow, c .before .before .before .before .pre .0 .planes)
 
 mul-start : tie.Need-mul-start Inv-loop μ-loop
 mul-start c = search needs

@@ -33,7 +33,7 @@ loop-holds : tie.Need-loop-holds Inv-loop μ-loop
 loop-holds c = slicing-begins (c .before .before .before .before .pre .1) (c .before .before .before .before .pre .2) (c .before .before .before .before .pre .3)
 
 live-run-requires : tie.Need-live-run-requires Inv-loop μ-loop
-live-run-requires c κs = omega (arith, c .before .before .before .before .before .before .pre .0 .planes)
+live-run-requires c κs = omega (arith, c .before .before .before .before .before .before .pre .0 .shallow, c .before .before .before .before .before .before .pre .0 .planes)
 
 mul-start : tie.Need-mul-start Inv-loop μ-loop
 mul-start c = search needs

@@ -34,7 +34,7 @@ loop-holds : tie.Need-loop-holds Inv-loop μ-loop
 loop-holds c = indexing-begins (c .before .before .before .pre .1) (c .before .before .before .pre .2)
 
 live-run-requires : tie.Need-live-run-requires Inv-loop μ-loop
-live-run-requires c κs = omega (arith, c .before .before .before .before .before .pre .0 .planes)
+live-run-requires c κs = omega (arith, c .before .before .before .before .before .pre .0 .shallow, c .before .before .before .before .before .pre .0 .planes)
 
 add-put-run-ends : tie.Need-add-put-run-ends Inv-loop μ-loop
 add-put-run-ends c = omega (arith, room (c .before), same (c .before .before .before))

@@ -19,7 +19,7 @@ put-live-requires : tie.Need-put-live-requires
 put-live-requires c κs =
     let a = c .before .before .before .before .before .before .before .before .args in
     let r = c .before .before .before .before .before .before .before .before .pre .1 .0 in
-    (ready-planes r, fixed-source (a .form) r (c .before .before .form .given .1), omega (arith, c .before .before .before .before .before .before .before .before .pre .1 .1, ap length (fixed-writes (a .form) r (c .before .before .form .given .1))))
+    (ready-planes r, c .before .before .before .before .before .before .before .before .pre .0, fixed-source (a .form) r (c .before .before .form .given .1), omega (arith, c .before .before .before .before .before .before .before .before .pre .1 .1, ap length (fixed-writes (a .form) r (c .before .before .form .given .1))))
 
 mul-result : tie.Need-mul-result
 mul-result c = let a = c .before .before .before .before .before .before .before .before .before .before .before .args in omega (arith, c .before .before .before .before .before .before .before .before .before .before .before .pre .1 .1, fixed-wrote (a .form) (c .before .before .before .before .before .before .before .before .before .before .before .pre .1 .0) (c .before .before .before .before .before .form .given .1) (c .before .before .before .before .before .before .before .before .before .before .before .pre .0))

@@ -137,7 +137,7 @@ write-frame-write-content-requires : (t : ℕ) → write-frame-lts.Need-write-co
 write-frame-write-content-requires t c κs = (omega (arith, c .before .before .before .before .before .before .pre .0), (c .before .before .before .before .before .before .pre .1 .1 .0, omega (arith, long t (c .before .before .before .before .before .before), c .before .mask-length .ensures)))
 
 write-frame-put-mask-requires : (t : ℕ) → write-frame-lts.Need-put-mask-requires (claims-write-frame t) (write-frame-at t) write-frame.Post
-write-frame-put-mask-requires t c κs = (ready-planes (next t (c .before .before .before .before .before .before .before .before .before .before)), omega (arith, long t (c .before .before .before .before .before .before .before .before .before .before), c .before .before .before .write-content .kept .0, c .before .before .before .before .before .before .before .before .before .before .pre .1 .0))
+write-frame-put-mask-requires t c κs = (ready-planes (next t (c .before .before .before .before .before .before .before .before .before .before)), c .before .before .before .before .before .before .before .before .before .before .pre .1 .0, omega (arith, long t (c .before .before .before .before .before .before .before .before .before .before), c .before .before .before .write-content .kept .0, c .before .before .before .before .before .before .before .before .before .before .pre .1 .0))
 
 write-frame-add-put-u64 : (t : ℕ) → write-frame-lts.Need-add-put-u64 (claims-write-frame t) (write-frame-at t) write-frame.Post
 write-frame-add-put-u64 t c = omega (arith, long t (c .before .before .before .before .before .before .before .before .before .before .before .before .before .before))
