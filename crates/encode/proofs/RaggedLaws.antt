@@ -4,15 +4,17 @@ use mathlib.Core.Path.{_≡_, refl, sym, ap, ap₂, _∙_}
 use Prim.Native.Nat.{ℕ, suc, _+_, _*_, _≤_}
 use native.Mathlib.Numerals.{add-one}
 use native.Mathlib.Omega.{arith}
-use mathlib.Core.List.{List, _∷_, map}
+use mathlib.Core.Bool.{Bool, true, false}
+use mathlib.Core.List.{List, [], _∷_, map}
 use lib.ListN.{length, take, drop, length-append}
 use lib.Seq.{take-all}
-use Rattle.array.specs.Lists.{from, All}
+use Rattle.array.specs.Lists.{pick, from, passing, All}
 use Rattle.array.specs.Buffers.{over, overAt}
 use Rattle.array.specs.Bytes.{le}
 use Rattle.array.specs.Kind.{Place, atStart, atEnd, ragged}
 use Rattle.array.specs.Offsets.{last, offsetsOf}
 use Rattle.array.proofs.Bytes.{length-le}
+use Rattle.array.proofs.Lists.{length-from}
 use Rattle.array.proofs.Geometry.{All-from}
 use Rattle.codec.specs.Ragged.{put, indexOf, putRagged}
 use Rattle.codec.specs.Values.{putValues}
@@ -22,7 +24,7 @@ use Rattle.encode.specs.Live.{liveTest, liveAt}
 use Rattle.encode.specs.Pieces.{sliceAt, slicesAt, spansOf, endsAt}
 use Rattle.encode.specs.Place.{dataAt, indexAt, lengthAt}
 use Rattle.encode.specs.Ready.{Offsets}
-use Rattle.encode.proofs.Runs.{All-passing}
+use Rattle.encode.proofs.Runs.{passing-le, All-passing}
 use Rattle.encode.proofs.Spans.{Within, within-at, length-slices, ends-slices, length-endsAt}
 use Rattle.encode.proofs.Placing.{at-behind, ragged-laid}
 
@@ -34,6 +36,20 @@ pub index-laid : (w to : ℕ) (os out : List ℕ) {k : ℕ} {o1 o2 : List ℕ} �
     → o1 ≡ overAt to (le w 0) out → o2 ≡ overAt (to + k) (indexOf w os) o1 → o2 ≡ overAt to (indexOf w (0 ∷ os)) out
 index-laid w to os out {k} {o1} {o2} h ek e1 e2 =
     e2 ∙ ap (overAt (to + k) (indexOf w os)) e1 ∙ at-behind to (le w 0) (indexOf w os) out (to + k) (ap (λ (m : ℕ). to + m) (length-le w 0 ∙ sym ek)) (omega arith)
+
+-- ---- where every cell is counted, the cells are one run
+
+passing-full : (t : ℕ → Bool) (xs : List ℕ) → length (passing t xs) ≡ length xs → passing t xs ≡ xs
+passing-full t [] e = refl
+passing-full t (x ∷ xs) e = go (t x) (passing-le t xs) (passing-full t xs) e
+  where
+    go : (b : Bool) → length (passing t xs) ≤ length xs → (length (passing t xs) ≡ length xs → passing t xs ≡ xs)
+        → length (pick b (x ∷ passing t xs) (passing t xs)) ≡ suc (length xs) → pick b (x ∷ passing t xs) (passing t xs) ≡ x ∷ xs
+    go true h ih e = ap (λ (r : List ℕ). x ∷ r) (ih (omega arith))
+    go false h ih e = absurd (omega arith)
+
+pub live-full : (n : ℕ) (masks : List ℕ) (l : ℕ) {count : ℕ} → count ≡ length (liveAt n masks l) → count ≡ n → from 0 n ≡ liveAt n masks l
+live-full n masks l ec e = sym (passing-full (liveTest n masks l) (from 0 n) (sym ec ∙ e ∙ sym (length-from 0 n)))
 
 -- ---- each part has its place
 

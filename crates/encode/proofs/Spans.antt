@@ -1,8 +1,8 @@
--- Ragged values between offsets that never fall: their lengths, their bytes and their ends, run by run.
+-- Ragged values between offsets that never fall: their lengths, their bytes and their ends, by cells and by runs.
 -- Assumes nothing.
-use mathlib.Core.Path.{_≡_, refl, sym, ap, ap₂, _∙_}
+use mathlib.Core.Path.{_≡_, refl, sym, ap, ap₂, _∙_, subst}
 use Prim.Native.Nat.{ℕ, zero, suc, _+_, _-_, _*_, _<_, _≤_}
-use native.Mathlib.Nat.{add-zero, sub-zero, zero-add, le-refl, le-trans, mul-comm}
+use native.Mathlib.Nat.{add-zero, sub-zero, zero-add, le-refl, le-trans, zero-mul, one-mul, mul-zero, mul-one, add-mul, mul-le-mul-left}
 use native.Mathlib.Numerals.{add-one}
 use native.Mathlib.Omega.{arith}
 use mathlib.Core.Bool.{Bool, true, false}
@@ -14,7 +14,8 @@ use Rattle.array.specs.Buffers.{overAt}
 use Rattle.array.specs.Bytes.{le}
 use Rattle.array.specs.Offsets.{last, Rising, RisingFrom, ends}
 use Rattle.array.proofs.Bytes.{length-le}
-use Rattle.array.proofs.Lists.{map-append, length-from}
+use Rattle.array.proofs.Over.{over-at-length}
+use Rattle.array.proofs.Lists.{length-from}
 use Rattle.array.proofs.CheckLaws.{last-at}
 use Rattle.array.proofs.Laying.{Laying, laying-begins, laying-same, laying-left, laying-ends, laying-part, laying-is}
 use Rattle.codec.specs.Ragged.{indexOf}
@@ -22,8 +23,10 @@ use Rattle.codec.proofs.Ragged.{length-index}
 use Rattle.encode.specs.Live.{runOf}
 use Rattle.encode.specs.Pieces.{spanAt, sliceAt, slicesAt, spansOf, endsAt}
 use Rattle.encode.specs.Ready.{Offsets}
-use Rattle.encode.proofs.Runs.{run-le, passing-run, passing-end, passing-start}
-use Rattle.encode.proofs.Gathering.{Gathering, gathering-begins, gathering-same, gathering-ends, gathering-room, gathering-more, joined-append}
+use Rattle.encode.proofs.Runs.{run-le, passing-end, passing-start, passing-le}
+use Rattle.encode.proofs.LiveMarks.{passing-next}
+use Rattle.encode.proofs.Gathering.{Gathering, gathering-begins, gathering-same, gathering-ends, gathering-room, gathering-more}
+use Rattle.encode.proofs.Placing.{laying-over, over-held}
 
 -- ---- offsets that never fall
 
@@ -69,13 +72,6 @@ module _ (os : List ℕ) (p : Rising os) where
       ap (λ (l : List ℕ). take (b - a) (drop a s) ++ l) (run-slices s (suc i) r (omega arith) ∙ ap (λ (m : ℕ). take (e - b) (drop m s)) (sym q1) ∙ ap (take (e - b)) (sym (drop-drop (b - a) a s)))
       ∙ sym (take-add (b - a) (e - b) (drop a s)) ∙ ap (λ (m : ℕ). take m (drop a s)) q2 ∙ ap (λ (j : ℕ). take (getD os j 0 - a) (drop a s)) (sym q)
 
-  -- and as long as the offsets say
-  pub run-spans : (i r : ℕ) → i + r < length os → spansOf os (from i r) ≡ getD os (i + r) 0 - getD os i 0
-  run-spans i zero h = omega (arith, ap (λ (j : ℕ). getD os j 0) (add-zero i))
-  run-spans i (suc r) h =
-      let q : i + suc r ≡ suc i + r = omega arith in
-      omega (arith, run-spans (suc i) r (omega arith), step-le os p i (omega arith), range-le os p (suc i) r (omega arith), ap (λ (j : ℕ). getD os j 0) q)
-
   -- what passes has no more bytes than lie there
   pub spans-le : (t : ℕ → Bool) (i m : ℕ) → i + m < length os → spansOf os (passing t (from i m)) + getD os i 0 ≤ getD os (i + m) 0
   spans-le t i zero h = omega (arith, ap (λ (j : ℕ). getD os j 0) (add-zero i))
@@ -85,16 +81,6 @@ module _ (os : List ℕ) (p : Rising os) where
           → spansOf os (pick b (i ∷ passing t (from (suc i) m)) (passing t (from (suc i) m))) + getD os i 0 ≤ getD os (i + suc m) 0
       go true e = let q : i + suc m ≡ suc i + m = omega arith in omega (arith, step-le os p i (omega arith), ap (λ (j : ℕ). getD os j 0) q)
       go false e = let q : i + suc m ≡ suc i + m = omega arith in omega (arith, step-le os p i (omega arith), ap (λ (j : ℕ). getD os j 0) q)
-
-pub spans-append : (os xs ys : List ℕ) → spansOf os (xs ++ ys) ≡ spansOf os xs + spansOf os ys
-spans-append os [] ys = sym (zero-add (spansOf os ys))
-spans-append os (x ∷ xs) ys = omega (arith, spans-append os xs ys)
-
-pub ends-append : (os : List ℕ) (a : ℕ) (xs ys : List ℕ) → endsAt os a (xs ++ ys) ≡ endsAt os a xs ++ endsAt os (a + spansOf os xs) ys
-ends-append os a [] ys = ap (λ (b : ℕ). endsAt os b ys) (sym (add-zero a))
-ends-append os a (x ∷ xs) ys =
-    let q : a + spanAt os x + spansOf os xs ≡ a + (spanAt os x + spansOf os xs) = omega arith in
-    ap (λ (r : List ℕ). (a + spanAt os x) ∷ r) (ends-append os (a + spanAt os x) xs ys ∙ ap (λ (b : ℕ). endsAt os (a + spanAt os x) xs ++ endsAt os b ys) q)
 
 pub length-endsAt : (os : List ℕ) (a : ℕ) (is : List ℕ) → length (endsAt os a is) ≡ length is
 length-endsAt os a [] = refl
@@ -122,14 +108,7 @@ module _ (os s : List ℕ) where
       let e : a + length (sliceAt os s i) ≡ a + spanAt os i = omega (arith, q .0) in
       ap₂ (λ (x : ℕ) (r : List ℕ). x ∷ r) e (ap (λ (b : ℕ). ends b (map (sliceAt os s) is)) e ∙ ends-slices (a + spanAt os i) is (q .1))
 
--- ---- a sum of lengths that goes by runs
-
-module _ {n : ℕ} {os : List ℕ} (o : Offsets n os) (t : ℕ → Bool) (i r : ℕ) (e : r ≡ runOf t i (n - i)) (h : i < n) where
-  run-inside : i + r < length os
-  run-inside = omega (arith, o .counted, run-le t i (n - i))
-
-  run-rises : getD os i 0 ≤ getD os (i + r) 0
-  run-rises = range-le os (o .rising) i r run-inside
+-- ---- a sum of lengths that goes by cells
 
 -- the bytes so far, no more than lie before i; and those of the cells from i on
 pub record Summing (t : ℕ → Bool) (n : ℕ) (os : List ℕ) (total i : ℕ) : Type 0 where
@@ -141,37 +120,53 @@ pub summing-begins : {t : ℕ → Bool} {n : ℕ} {os : List ℕ} → Offsets n 
 summing-begins {t} {n} {os} o =
     record { offsets = o; below = λ h. omega arith; sum = omega (arith, ap (spansOf os) (passing-start t n)) }
 
+-- the length by the mark
+marked : (b : Bool) (x : ℕ) → x * pick b 1 0 ≡ pick b x 0
+marked true x = mul-one x
+marked false x = mul-zero x
+
 module _ {t : ℕ → Bool} {n : ℕ} {os : List ℕ} {total i : ℕ} (l : Summing t n os total i) where
   pub summing-ends : n ≤ i → total ≡ spansOf os (passing t (from 0 n))
   summing-ends h = omega (arith, l .sum, ap (spansOf os) (passing-end t i n h))
 
-  module _ {r : ℕ} (e : r ≡ runOf t i (n - i)) (h : i < n) where
-    pub summing-inside : i + r < length os
-    summing-inside = run-inside (l .offsets) t i r e h
+  module _ (h : i < n) where
+    pub summing-inside : i + 1 < length os
+    summing-inside = omega (arith, l .offsets .counted)
 
-    pub summing-rises : getD os i 0 ≤ getD os (i + r) 0
-    summing-rises = run-rises (l .offsets) t i r e h
+    pub summing-rises : getD os i 0 ≤ getD os (i + 1) 0
+    summing-rises = range-le os (l .offsets .rising) i 1 summing-inside
 
-    pub summing-fits : total + (getD os (i + r) 0 - getD os i 0) ≤ getD os (i + r) 0
-    summing-fits = omega (arith, l .below (omega arith), summing-rises)
+    module _ {m : ℕ} (e : m ≡ pick (t i) 1 0) where
+      pub summing-step : (getD os (i + 1) 0 - getD os i 0) * m ≡ pick (t i) (spanAt os i) 0
+      summing-step =
+          ap₂ (λ (j k : ℕ). (getD os j 0 - getD os i 0) * k) (add-one i) e ∙ marked (t i) (spanAt os i)
 
-    pub summing-more : Summing t n os (total + (getD os (i + r) 0 - getD os i 0)) (i + (r + 1))
-    summing-more = record {
-      offsets = l .offsets;
-      below = λ k.
-          let q : suc (i + r) ≡ i + (r + 1) = omega arith in
-          omega (arith, l .offsets .counted, summing-fits, step-le os (l .offsets .rising) (i + r) (omega (arith, l .offsets .counted)), ap (λ (j : ℕ). getD os j 0) q);
-      sum =
-          omega (
-            arith,
-            l .sum,
-            ap (spansOf os) (passing-run t i n r e),
-            spans-append os (from i r) (passing t (from (i + (r + 1)) (n - (i + (r + 1))))),
-            run-spans os (l .offsets .rising) i r (run-inside (l .offsets) t i r e h),
-          );
-    }
+      pub summing-fits : total + (getD os (i + 1) 0 - getD os i 0) * m ≤ getD os (i + 1) 0
+      summing-fits = go (t i) summing-step
+        where
+          go : (b : Bool) → (getD os (i + 1) 0 - getD os i 0) * m ≡ pick b (spanAt os i) 0 → total + (getD os (i + 1) 0 - getD os i 0) * m ≤ getD os (i + 1) 0
+          go true q = omega (arith, l .below (omega arith), summing-rises, ap (λ (j : ℕ). getD os j 0) (add-one i))
+          go false q = omega (arith, l .below (omega arith), summing-rises)
+
+      pub summing-more : Summing t n os (total + (getD os (i + 1) 0 - getD os i 0) * m) (i + 1)
+      summing-more = record {
+        offsets = l .offsets;
+        below = λ k. summing-fits;
+        sum = omega (arith, l .sum, ap (spansOf os) (passing-next t i n h), summing-step, go (t i) (passing t (from (i + 1) (n - (i + 1)))));
+      }
+        where
+          go : (b : Bool) (r : List ℕ) → spansOf os (pick b (i ∷ r) r) ≡ pick b (spanAt os i) 0 + spansOf os r
+          go true r = refl
+          go false r = sym (zero-add (spansOf os r))
 
 -- ---- the values of the cells that a level counts, run by run
+
+module _ {n : ℕ} {os : List ℕ} (o : Offsets n os) (t : ℕ → Bool) (i r : ℕ) (e : r ≡ runOf t i (n - i)) (h : i < n) where
+  run-inside : i + r < length os
+  run-inside = omega (arith, o .counted, run-le t i (n - i))
+
+  run-rises : getD os i 0 ≤ getD os (i + r) 0
+  run-rises = range-le os (o .rising) i r run-inside
 
 pub record Slicing (t : ℕ → Bool) (n : ℕ) (os s d : List ℕ) (to : ℕ) (out : List ℕ) (i done : ℕ) : Type 0 where
   pub offsets : Offsets n os
@@ -215,9 +210,6 @@ module _ {t : ℕ → Bool} {n : ℕ} {os s d : List ℕ} {to : ℕ} {out : List
     slicing-more eo = record { offsets = l .offsets; ended = l .ended; gathers = gathering-more (l .gathers) e piece eo long }
 
 -- ---- the index of a run, offset by offset
-
-index-append : (w : ℕ) (xs ys : List ℕ) → indexOf w (xs ++ ys) ≡ indexOf w xs ++ indexOf w ys
-index-append w xs ys = ap joined (map-append (le w) xs ys) ∙ joined-append (map (le w) xs) (map (le w) ys)
 
 -- the running total before cell i + j
 abbrev totalAt : List ℕ → ℕ → ℕ → ℕ → ℕ
@@ -294,66 +286,108 @@ module _ {w : ℕ} {os : List ℕ} {i r total : ℕ} {d : List ℕ} {to : ℕ} {
       laid = laying-part want d to out done (le w end) rest (laying-is (l .laid) next) out′ eo (done + m) (ap (λ (x : ℕ). done + x) (em ∙ sym (length-le w end)));
     }
 
--- ---- the index of the cells that a level counts, run by run
+-- ---- the index of the cells that a level counts, cell by cell
 
-pub record Indexing (t : ℕ → Bool) (n w : ℕ) (os d : List ℕ) (to : ℕ) (out : List ℕ) (i total done : ℕ) : Type 0 where
+-- `done` ends lie in a base that differs from d at most where ends come to lie
+pub record Indexing (t : ℕ → Bool) (n w : ℕ) (os d : List ℕ) (to count : ℕ) (out : List ℕ) (i total done : ℕ) : Type 0 where
   pub sums : Summing t n os total i
-  pub laid : Laying (indexOf w (endsAt os 0 (passing t (from 0 n)))) d to out done (indexOf w (endsAt os total (passing t (from i (n - i)))))
+  pub counted : done + length (passing t (from i (n - i))) ≡ count
+  pub base : List ℕ
+  pub same : length base ≡ length d
+  pub held : overAt to (indexOf w (endsAt os 0 (passing t (from 0 n)))) base ≡ overAt to (indexOf w (endsAt os 0 (passing t (from 0 n)))) d
+  pub laid : Laying (indexOf w (endsAt os 0 (passing t (from 0 n)))) base to out (done * w) (indexOf w (endsAt os total (passing t (from i (n - i)))))
 
-pub indexing-begins : {t : ℕ → Bool} {n w : ℕ} {os d : List ℕ} {to : ℕ} → Offsets n os
-    → to + length (indexOf w (endsAt os 0 (passing t (from 0 n)))) ≤ length d → Indexing t n w os d to d 0 0 0
-indexing-begins {t} {n} {w} {os} {d} {to} o h = record {
-  sums = summing-begins o;
-  laid = laying-is (laying-begins (indexOf w (endsAt os 0 (passing t (from 0 n)))) d to h) (ap (λ (is : List ℕ). indexOf w (endsAt os 0 is)) (sym (passing-start t n)));
-}
+pub indexing-begins : {t : ℕ → Bool} {n w : ℕ} {os d : List ℕ} {to count : ℕ} → count ≡ length (passing t (from 0 n)) → Offsets n os
+    → to + length (indexOf w (endsAt os 0 (passing t (from 0 n)))) ≤ length d → Indexing t n w os d to count d 0 0 0
+indexing-begins {t} {n} {w} {os} {d} {to} {count} e o h =
+    let want : List ℕ = indexOf w (endsAt os 0 (passing t (from 0 n))) in
+    record {
+      sums = summing-begins o;
+      counted = omega (arith, ap length (passing-start t n));
+      base = d;
+      same = refl;
+      held = refl;
+      laid = subst (λ (k : ℕ). Laying want d to d k (indexOf w (endsAt os 0 (passing t (from 0 (n - 0)))))) (sym (zero-mul w))
+          (laying-is (laying-begins want d to h) (ap (λ (is : List ℕ). indexOf w (endsAt os 0 is)) (sym (passing-start t n))));
+    }
 
-module _ {t : ℕ → Bool} {n w : ℕ} {os d : List ℕ} {to : ℕ} {out : List ℕ} {i total done : ℕ} (l : Indexing t n w os d to out i total done) where
+none-left : (xs : List ℕ) → length xs ≡ 0 → xs ≡ []
+none-left [] e = refl
+none-left (x ∷ xs) e = absurd (omega arith)
+
+module _ {t : ℕ → Bool} {n w : ℕ} {os d : List ℕ} {to count : ℕ} {out : List ℕ} {i total done : ℕ} (l : Indexing t n w os d to count out i total done) where
   abbrev wanted : List ℕ
   wanted = indexOf w (endsAt os 0 (passing t (from 0 n)))
 
+  abbrev cells : List ℕ
+  cells = passing t (from i (n - i))
+
   pub indexing-same : length out ≡ length d
-  indexing-same = laying-same wanted d to out done _ (l .laid)
+  indexing-same = laying-same wanted (l .base) to out (done * w) _ (l .laid) ∙ l .same
 
-  pub indexing-ends : n ≤ i → out ≡ overAt to (indexOf w (endsAt os 0 (passing t (from 0 n)))) d
-  indexing-ends h = laying-ends wanted d to out done (laying-is (l .laid) (ap (λ (is : List ℕ). indexOf w (endsAt os total is)) (passing-end t i n h)))
+  pub indexing-ends : count ≤ done → out ≡ overAt to (indexOf w (endsAt os 0 (passing t (from 0 n)))) d
+  indexing-ends h =
+      laying-ends wanted (l .base) to out (done * w)
+      (laying-is (l .laid) (ap (λ (is : List ℕ). indexOf w (endsAt os total is)) (none-left cells (omega (arith, l .counted)))))
+      ∙ l .held
 
-  module _ {r : ℕ} (e : r ≡ runOf t i (n - i)) (h : i < n) where
-    later : List ℕ
-    later = indexOf w (endsAt os (total + (getD os (i + r) 0 - getD os i 0)) (passing t (from (i + (r + 1)) (n - (i + (r + 1))))))
+  module _ (h : done < count) where
+    pub indexing-inside : i < n
+    indexing-inside = omega (arith, l .counted, passing-le t (from i (n - i)), length-from i (n - i))
 
-    turn : indexOf w (endsAt os total (passing t (from i (n - i)))) ≡ indexOf w (endsAt os total (from i r)) ++ later
-    unfolding later
-    turn =
-        let rs : List ℕ = passing t (from (i + (r + 1)) (n - (i + (r + 1)))) in
-        ap (λ (is : List ℕ). indexOf w (endsAt os total is)) (passing-run t i n r e)
-        ∙ ap (indexOf w) (ends-append os total (from i r) rs)
-        ∙ index-append w (endsAt os total (from i r)) (endsAt os (total + spansOf os (from i r)) rs)
-        ∙ ap (λ (a : ℕ). indexOf w (endsAt os total (from i r)) ++ indexOf w (endsAt os (total + a) rs))
-        (run-spans os (l .sums .offsets .rising) i r (run-inside (l .sums .offsets) t i r e h))
-
-    pub indexing-long : length (indexOf w (endsAt os total (from i r))) ≡ r * w
-    indexing-long = length-index w (endsAt os total (from i r)) ∙ ap (λ (m : ℕ). w * m) (length-endsAt os total (from i r) ∙ length-from i r) ∙ mul-comm w r
-
-    pub indexing-room : to + done + r * w ≤ length out
-    indexing-room =
+    room-left : w ≤ length (indexOf w (endsAt os total cells))
+    room-left =
         omega (
           arith,
-          indexing-same,
-          l .laid .room,
-          laying-left wanted d to out done _ (l .laid),
-          ap length turn,
-          length-append (indexOf w (endsAt os total (from i r))) later,
-          indexing-long,
+          length-index w (endsAt os total cells),
+          ap (λ (m : ℕ). w * m) (length-endsAt os total cells),
+          mul-le-mul-left {m = 1} {n = length cells} w (omega (arith, l .counted)),
+          mul-one w,
         )
 
-    pub indexing-more : {out′ : List ℕ} → out′ ≡ overAt (to + done) (indexOf w (endsAt os total (from i r))) out → {k : ℕ} → k ≡ w
-        → Indexing t n w os d to out′ (i + (r + 1)) (total + (getD os (i + r) 0 - getD os i 0)) (done + r * k)
-    unfolding later
-    indexing-more {out′} eo {k} ek = record {
-      sums = summing-more (l .sums) e h;
-      laid = laying-part wanted d to out done (indexOf w (endsAt os total (from i r))) later (laying-is (l .laid) turn) out′ eo
-          (done + r * k) (ap (λ (m : ℕ). done + m) (ap (λ (m : ℕ). r * m) ek ∙ sym indexing-long));
-    }
+    pub indexing-room : to + done * w + w ≤ length out
+    indexing-room = omega (arith, indexing-same, l .same, l .laid .room, laying-left wanted (l .base) to out (done * w) _ (l .laid), room-left)
+
+    module _ {m : ℕ} (em : m ≡ pick (t i) 1 0) where
+      abbrev end-here : ℕ
+      end-here = total + (getD os (i + 1) 0 - getD os i 0) * m
+
+      abbrev others : List ℕ
+      others = passing t (from (i + 1) (n - (i + 1)))
+
+      pub indexing-more : {k : ℕ} → k ≡ w → {out′ : List ℕ} → out′ ≡ overAt (to + done * k) (le w (total + (getD os (i + 1) 0 - getD os i 0) * m)) out
+          → Indexing t n w os d to count out′ (i + 1) (total + (getD os (i + 1) 0 - getD os i 0) * m) (done + m)
+      indexing-more {k} ek {out′} eo =
+          go (t i) (passing-next t i n indexing-inside) em (ap (λ (x : ℕ). total + x) (summing-step (l .sums) indexing-inside em))
+          (eo ∙ ap (λ (j : ℕ). overAt (to + done * j) (le w end-here) out) ek)
+        where
+          go : (b : Bool) → cells ≡ pick b (i ∷ others) others → m ≡ pick b 1 0 → end-here ≡ total + pick b (spanAt os i) 0 → out′ ≡ overAt (to + done * w) (le w end-here) out
+              → Indexing t n w os d to count out′ (i + 1) end-here (done + m)
+          -- the next end
+          go true ec e1 ee q = record {
+            sums = summing-more (l .sums) indexing-inside em;
+            counted = omega (arith, l .counted, ap length ec);
+            base = l .base;
+            same = l .same;
+            held = l .held;
+            laid = laying-part wanted (l .base) to out (done * w) (le w end-here) (indexOf w (endsAt os end-here others))
+                (laying-is (l .laid) (ap (λ (is : List ℕ). indexOf w (endsAt os total is)) ec ∙ ap (λ (x : ℕ). le w x ++ indexOf w (endsAt os x others)) (sym ee)))
+                out′ q ((done + m) * w) (omega (arith, add-mul done m w, ap (λ (x : ℕ). x * w) e1, one-mul w, length-le w end-here));
+          }
+          -- a cell that does not count: as if that had lain there before
+          go false ec e1 ee q =
+              let fits : length (le w end-here) ≤ length (indexOf w (endsAt os total cells)) = omega (arith, length-le w end-here, room-left) in
+              let left : length (indexOf w (endsAt os total cells)) + done * w ≡ length wanted = omega (arith, laying-left wanted (l .base) to out (done * w) _ (l .laid)) in
+              let e0 : done * w ≡ (done + m) * w = ap (λ (x : ℕ). x * w) (omega arith) in
+              record {
+                sums = summing-more (l .sums) indexing-inside em;
+                counted = omega (arith, l .counted, ap length ec);
+                base = overAt (to + done * w) (le w end-here) (l .base);
+                same = over-at-length (to + done * w) (le w end-here) (l .base) (omega (arith, l .laid .room)) ∙ l .same;
+                held = over-held (l .laid) (le w end-here) fits ∙ l .held;
+                laid = subst (λ (x : ℕ). Laying wanted (overAt (to + done * w) (le w end-here) (l .base)) to out′ x (indexOf w (endsAt os end-here others))) e0
+                    (laying-is (laying-over (l .laid) (le w end-here) fits q) (ap₂ (λ (x : ℕ) (is : List ℕ). indexOf w (endsAt os x is)) (omega (arith, ee)) ec));
+              }
 
 -- ---- an index that is written as it is, offset by offset
 

@@ -52,7 +52,7 @@ fn length_at(place: IndexPlace, at: usize, bytes: usize, index: usize) -> usize
     }
 }
 
-// Value bytes of the cells that the level counts.
+// Value bytes of the cells that the level counts: each length by its mark, so that nothing branches on a mask.
 pub fn live_bytes(offsets: &[u64], masks: &[u8], cells: usize, level: usize) -> usize
     requires { ⌜ Planes cells (now masks) level × Offsets cells (now offsets) ⌝ }
     ensures { λ r. ⌜ r ≡ spansOf (now (offsets .entry)) (liveAt cells (now (masks .entry)) level) ⌝ }
@@ -60,11 +60,11 @@ pub fn live_bytes(offsets: &[u64], masks: &[u8], cells: usize, level: usize) -> 
     let mut total: usize = 0;
     let mut i: usize = 0;
     while i < cells {
-        let run = live::live_run(masks, cells, level, i);
+        let mark = live::live_mark(masks, cells, level, i) as u64;
         let start = offsets[i];
-        let end = offsets[i + run];
-        total += (end - start) as usize;
-        i += run + 1;
+        let end = offsets[i + 1];
+        total += ((end - start) * mark) as usize;
+        i += 1;
     }
     total
 }
@@ -131,7 +131,8 @@ fn put_run_ends(
     }
 }
 
-// Where the cells that the level counts end, when they lie end to end from 0.
+// Where the `count` cells that the level counts end, when they lie end to end from 0. What a cell that it does not count puts
+// is overwritten by the next that it counts, so that nothing branches on a mask.
 fn put_live_ends(
     out: &mut [u8],
     to: usize,
@@ -140,22 +141,24 @@ fn put_live_ends(
     masks: &[u8],
     cells: usize,
     level: usize,
+    count: usize,
 )
-    requires { ⌜ Planes cells (now masks) level × Offsets cells (now offsets)
+    requires { ⌜ Planes cells (now masks) level × (count ≡ length (liveAt cells (now masks) level)) × Offsets cells (now offsets)
         × (to + length (indexOf (widthOf width) (endsAt (now offsets) 0 (liveAt cells (now masks) level))) ≤ length (now out)) ⌝ }
     ensures { λ _. ⌜ now (out .exit) ≡ overAt to (indexOf (widthOf width) (endsAt (now (offsets .entry)) 0 (liveAt cells (now (masks .entry)) level))) (now (out .entry)) ⌝ }
 {
+    let k = kind::width_bytes(width);
     let mut i = 0;
     let mut total: u64 = 0;
     let mut done = 0;
-    while i < cells {
-        let run = live::live_run(masks, cells, level, i);
-        put_run_ends(out, to + done, width, offsets, i, run, total);
+    while done < count {
+        let mark = live::live_mark(masks, cells, level, i);
         let start = offsets[i];
-        let end = offsets[i + run];
-        total += end - start;
-        done += run * kind::width_bytes(width);
-        i += run + 1;
+        let end = offsets[i + 1];
+        total += (end - start) * (mark as u64);
+        put_offset(out, to + done * k, width, total);
+        done += mark as usize;
+        i += 1;
     }
 }
 
@@ -173,7 +176,7 @@ fn put_index(out: &mut [u8], to: usize, width: IndexWidth, offsets: &[u64])
     }
 }
 
-// The index of the cells that the level counts, from offset 0.
+// The index of the `count` cells that the level counts, from offset 0.
 fn put_live_index(
     out: &mut [u8],
     to: usize,
@@ -182,14 +185,19 @@ fn put_live_index(
     masks: &[u8],
     cells: usize,
     level: usize,
+    count: usize,
 )
-    requires { ⌜ Planes cells (now masks) level × Offsets cells (now offsets)
+    requires { ⌜ Planes cells (now masks) level × (count ≡ length (liveAt cells (now masks) level)) × Offsets cells (now offsets)
         × (to + length (indexOf (widthOf width) (0 ∷ endsAt (now offsets) 0 (liveAt cells (now masks) level))) ≤ length (now out)) ⌝ }
     ensures { λ _. ⌜ now (out .exit) ≡ overAt to (indexOf (widthOf width) (0 ∷ endsAt (now (offsets .entry)) 0 (liveAt cells (now (masks .entry)) level))) (now (out .entry)) ⌝ }
 {
     put_offset(out, to, width, 0);
     let behind = to + kind::width_bytes(width);
-    put_live_ends(out, behind, width, offsets, masks, cells, level);
+    if count == cells {
+        put_run_ends(out, behind, width, offsets, 0, cells, 0);
+    } else {
+        put_live_ends(out, behind, width, offsets, masks, cells, level, count);
+    }
 }
 
 // Ragged values of the `count` cells that the level counts, end to end from offset 0; says how many bytes it wrote.
@@ -216,7 +224,7 @@ pub fn put_ragged(
     let data = data_at(place, at, index);
     put_live_data(out, data, values, offsets, masks, cells, level);
     let start = index_at(place, at, bytes);
-    put_live_index(out, start, width, offsets, masks, cells, level);
+    put_live_index(out, start, width, offsets, masks, cells, level, count);
     let field = length_at(place, at, bytes, index);
     field::put_u64(out, field, index as u64);
     8 + index + bytes

@@ -2,7 +2,7 @@
 -- Assumes nothing.
 use mathlib.Core.Path.{_≡_, sym}
 use mathlib.Core.List.{map}
-use Prim.Native.Nat.{_≤_, _+_, _*_}
+use Prim.Native.Nat.{_<_, _≤_, _+_, _*_}
 use native.Mathlib.Omega.{arith}
 use lib.ListN.{length}
 use Rattle.array.specs.Kind.{ragged}
@@ -22,6 +22,9 @@ long c = let a = c .before .before .before .before .before .before .args in ragg
 
 room : (c : tie.After-width-bytes) → c .before .before .before .before .before .before .args .at + (8 + c .width-bytes .result * (c .before .before .before .before .before .before .args .count + 1) + c .before .live-bytes .result) ≤ length (c .before .before .before .before .before .before .args .out .now)
 room c = omega (arith, c .before .before .before .before .before .before .pre .4, long c)
+
+small : (c : tie.After-width-bytes) → 8 + c .width-bytes .result * (c .before .before .before .before .before .before .args .count + 1) + c .before .live-bytes .result < 18446744073709551616
+small c = omega (arith, room c)
 
 live-bytes-requires : tie.Need-live-bytes-requires
 live-bytes-requires c κs = search needs
@@ -60,6 +63,7 @@ put-live-index-requires : tie.Need-put-live-index-requires
 put-live-index-requires c κs =
     let a = c .before .before .before .before .before .before .before .before .before .before .before .before .before .args in (
       c .before .before .before .before .before .before .before .before .before .before .before .before .before .pre .0,
+      c .before .before .before .before .before .before .before .before .before .before .before .before .before .pre .1,
       c .before .before .before .before .before .before .before .before .before .before .before .before .before .pre .2,
       omega (
         arith,
@@ -83,10 +87,10 @@ put-u64-requires c κs =
     )
 
 add-result : tie.Need-add-result
-add-result c = omega (arith, room (c .before .before .before .before .before .before .before .before .before .before .before .before .before .before .before))
+add-result c = omega (arith, small (c .before .before .before .before .before .before .before .before .before .before .before .before .before .before .before))
 
 add-result-2 : tie.Need-add-result-2
-add-result-2 c = omega (arith, room (c .before .before .before .before .before .before .before .before .before .before .before .before .before .before .before))
+add-result-2 c = omega (arith, small (c .before .before .before .before .before .before .before .before .before .before .before .before .before .before .before))
 
 same-length : tie.Need-same-length
 same-length c = search needs
