@@ -2,7 +2,7 @@
 -- Assumes nothing.
 use mathlib.Core.Path.{_≡_, refl, sym, ap, ap₂, _∙_}
 use mathlib.Core.Bool.{Bool, true, false, not, Bool·beq}
-use mathlib.Core.List.{List, [], _∷_, _++_, map, append-assoc}
+use mathlib.Core.List.{List, [], _∷_, _++_, map}
 use Prim.Native.Nat.{ℕ, zero, suc, _+_, _-_, _*_, _≤_, _<_}
 use native.Mathlib.Omega.{arith}
 use native.Mathlib.Nat.{zero-mul, suc-mul}
@@ -12,7 +12,7 @@ use lib.Seq.{drop-drop, drop-cons}
 use Rattle.array.specs.Lists.{joined, pieces}
 use Rattle.array.specs.Kind.{Order, ordered}
 use Rattle.array.specs.Cells.{Value}
-use Rattle.array.proofs.Lists.{map-append, length-pieces}
+use Rattle.array.proofs.Lists.{map-append, joined-append, length-pieces}
 use Rattle.codec.specs.Frame.{countSet}
 use Rattle.codec.specs.Marks.{setTest}
 use Rattle.codec.specs.Spread.{spread}
@@ -21,10 +21,6 @@ use Rattle.decode.specs.Runs.{runOf}
 use Rattle.decode.specs.Reads.{valuesOver}
 
 -- ---- lists
-
-joined-append : (xs ys : List (List ℕ)) → joined (xs ++ ys) ≡ joined xs ++ joined ys
-joined-append [] ys = refl
-joined-append (x ∷ xs) ys = ap (λ (r : List ℕ). x ++ r) (joined-append xs ys) ∙ sym (append-assoc x (joined xs) (joined ys))
 
 joined-zeros : (r size : ℕ) → joined {A = ℕ} (replicate r (replicate size 0)) ≡ replicate (r * size) 0
 joined-zeros zero size = ap (λ (k : ℕ). replicate {A = ℕ} k 0) (sym (zero-mul size))
