@@ -71,7 +71,7 @@ fn put_live_words(
     }
 }
 
-// Of the cells of one size that begin at `at`, the `count` that the level counts. A word's size is told outside the loop, so that each has its own.
+// Of the cells of one size that begin at `at`, the `count` that the level counts. Each size of a word has a loop of its own.
 pub fn put_live(
     out: &mut [u8],
     to: usize,
