@@ -1,4 +1,4 @@
--- Cells reversed one after another, for any size; and the loops that copy them so, any number of them a turn.
+-- Cells reversed one after another, for any size: as lists, and by loops that copy them, any number of them a turn.
 -- Assumes nothing.
 use mathlib.Core.Path.{_≡_, refl, sym, ap, ap₂, _∙_}
 use mathlib.Core.List.{List, [], _∷_, _++_, map, reverse, append-assoc, append-nil}
@@ -6,13 +6,25 @@ use Prim.Native.Nat.{ℕ, zero, suc, _+_, _*_, _≤_, _<_}
 use native.Mathlib.Nat.{zero-mul, zero-add, suc-mul, add-mul, mul-le-mul-right}
 use native.Mathlib.Omega.{arith}
 use lib.ListN.{length, take, drop, length-append, length-drop, length-reverse, take-append-drop}
-use lib.Seq.{drop-drop, take-add, length-take-le}
+use lib.Seq.{drop-drop, take-add, take-at, drop-at, length-take-le}
 use Rattle.array.specs.Lists.{joined, pieces}
 use Rattle.array.specs.Buffers.{over, overAt}
 use Rattle.array.specs.Kind.{Order, little, big, ordered}
 use Rattle.array.proofs.Lists.{map-id}
 use Rattle.array.proofs.Over.{over-again, over-at-length}
+use Rattle.array.proofs.Unrolled.{reads, reads-take}
 use Rattle.endian.specs.Calls.{reversedCells}
+
+-- ---- what is laid behind what was laid
+
+pub over-none : (to : ℕ) (d : List ℕ) → to ≤ length d → d ≡ overAt to [] d
+over-none to d h = sym (ap (λ (l : List ℕ). over l d) (append-nil (take to d)) ∙ ap (λ (j : ℕ). take to d ++ drop j d) (length-take-le to d h) ∙ take-append-drop to d)
+
+pub over-next : (to i : ℕ) (x y d : List ℕ) → to ≤ length d → length x ≡ i → overAt (to + i) y (overAt to x d) ≡ overAt to (x ++ y) d
+over-next to i x y d h e =
+    over-again (take to d ++ x) y d (to + i) (omega (arith, length-append (take to d) x, length-take-le to d h)) ∙ ap (λ (w : List ℕ). over w d) (append-assoc (take to d) x y)
+
+-- ---- reversed cells
 
 pub reversed-one : (k : ℕ) (s : List ℕ) → reverse (take k s) ≡ reversedCells k 1 s
 reversed-one k s = sym (append-nil (reverse (take k s)))
@@ -49,6 +61,30 @@ reversed-ones zero s = refl
 reversed-ones (suc n) [] = reversed-none n
 reversed-ones (suc n) (x ∷ s) = ap (λ (r : List ℕ). x ∷ r) (reversed-ones n s)
 
+-- ---- cells at once: all their bytes read, then written
+
+reversed-take : (k n : ℕ) (s : List ℕ) → n * k ≤ length s → reversedCells k n (take (n * k) s) ≡ reversedCells k n s
+reversed-take k zero s h = refl
+reversed-take k (suc n) s h =
+    let e : suc n * k ≡ k + n * k = omega (arith, suc-mul n k) in
+    let a : List ℕ = take k s in
+    let b : List ℕ = take (n * k) (drop k s) in
+    let la : length a ≡ k = length-take-le k s (omega arith) in
+    ap (reversedCells k (suc n)) (ap (λ (j : ℕ). take j s) e ∙ take-add k (n * k) s)
+    ∙ ap₂ (λ (v r : List ℕ). reverse v ++ reversedCells k n r) (take-at a b k la) (drop-at a b k la)
+    ∙ ap (λ (r : List ℕ). reverse a ++ r) (reversed-take k n (drop k s) (omega (arith, length-drop k s)))
+
+-- m bytes of them, and then the others
+pub cells-at-once : (k n m : ℕ) (s d : List ℕ) (at to : ℕ) → m ≤ n * k → to + n * k ≤ length d → at + n * k ≤ length s → {out out′ : List ℕ}
+    → out ≡ overAt to (take m (reversedCells k n (reads s at (n * k)))) d → out′ ≡ overAt (to + m) (drop m (reversedCells k n (reads s at (n * k)))) out
+    → out′ ≡ overAt to (reversedCells k n (drop at s)) d
+cells-at-once k n m s d at to b p q f g =
+    let h : n * k ≤ length (drop at s) = omega (arith, length-drop at s) in
+    let v : List ℕ = reversedCells k n (reads s at (n * k)) in
+    let e : v ≡ reversedCells k n (drop at s) = ap (reversedCells k n) (reads-take s at (n * k) q) ∙ reversed-take k n (drop at s) h in
+    let l : length (take m v) ≡ m = length-take-le m v (omega (arith, ap length e, length-reversed k n (drop at s) h)) in
+    g ∙ ap (overAt (to + m) (drop m v)) f ∙ over-next to m (take m v) (drop m v) d (omega arith) l ∙ ap (λ (w : List ℕ). overAt to w d) (take-append-drop m v ∙ e)
+
 -- ---- the two orders
 
 pub cells-little : (k n : ℕ) (s : List ℕ) (o : Order) → o ≡ little → take (n * k) s ≡ joined (map (ordered o) (pieces k n s))
@@ -76,7 +112,7 @@ copies-begin {d} {to} p q = record {
   within = omega arith;
   room = p;
   source = q;
-  here = sym (ap (λ (l : List ℕ). over l d) (append-nil (take to d)) ∙ ap (λ (j : ℕ). take to d ++ drop j d) (length-take-le to d (omega arith)) ∙ take-append-drop to d);
+  here = over-none to d (omega arith);
 }
 
 module _ {d : List ℕ} {to : ℕ} {s : List ℕ} {at k n : ℕ} {out : List ℕ} {i : ℕ} (l : Copies d to s at k n out i) where
@@ -97,14 +133,12 @@ module _ {d : List ℕ} {to : ℕ} {s : List ℕ} {at k n : ℕ} {out : List ℕ
   copies-more m h {out′} e =
       let f : List ℕ = reversedCells k i (drop at s) in
       let g : List ℕ = reversedCells k m (drop (at + i * k) s) in
-      let lf : length (take to d ++ f) ≡ to + i * k = omega (arith, length-append (take to d) f, length-take-le to d (omega (arith, l .room)), long) in
       record {
         within = h;
         room = l .room;
         source = l .source;
-        here = e ∙ ap (overAt (to + i * k) g) (l .here) ∙ over-again (take to d ++ f) g d (to + i * k) lf
-            ∙ ap (λ (w : List ℕ). over w d)
-            (append-assoc (take to d) f g ∙ ap (λ (w : List ℕ). take to d ++ w) (sym (reversed-add k i m (drop at s) ∙ ap (λ (r : List ℕ). f ++ reversedCells k m r) (drop-drop (i * k) at s))));
+        here = e ∙ ap (overAt (to + i * k) g) (l .here) ∙ over-next to (i * k) f g d (omega (arith, l .room)) long
+            ∙ ap (λ (w : List ℕ). overAt to w d) (sym (reversed-add k i m (drop at s) ∙ ap (λ (r : List ℕ). f ++ reversedCells k m r) (drop-drop (i * k) at s)));
       }
 
   module _ (h : i < n) where

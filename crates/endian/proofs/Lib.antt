@@ -1,3 +1,4 @@
+pub mod Backing
 pub mod CellLaws
 pub mod Reversing
 pub mod Words

@@ -5,7 +5,7 @@ use array::copy;
 use array::field;
 use array::kind::ByteOrder;
 ghost use mathlib.Core.Path.{_≡_};
-ghost use mathlib.Core.List.{map, reverse};
+ghost use mathlib.Core.List.{[], _∷_, map, reverse};
 ghost use Prim.Native.Nat.{_+_, _*_, _≤_};
 ghost use lib.ListN.{length, take, drop};
 ghost use Rattle.array.specs.Buffers.{overAt};
@@ -42,6 +42,7 @@ fn copy_cells_reversed(out: &mut [u8], to: usize, s: &[u8], at: usize, size: usi
         2 => copy_cells_2(out, to, s, at, cells),
         4 => copy_cells_4(out, to, s, at, cells),
         8 => copy_cells_8(out, to, s, at, cells),
+        16 => copy_cells_16(out, to, s, at, cells),
         _ => copy_cells_any(out, to, s, at, size, cells),
     }
 }
@@ -51,6 +52,11 @@ fn copy_cells_2(out: &mut [u8], to: usize, s: &[u8], at: usize, cells: usize)
     ensures { λ _. ⌜ now («out» .exit) ≡ overAt to (reversedCells 2 cells (drop at (now (s .entry)))) (now («out» .entry)) ⌝ }
 {
     let mut i = 0;
+    while 8 <= cells - i {
+        let k = i * 2;
+        copy_block_2(out, to + k, s, at + k);
+        i += 8;
+    }
     while i < cells {
         let k = i * 2;
         copy_cell_2(out, to + k, s, at + k);
@@ -82,6 +88,18 @@ fn copy_cells_8(out: &mut [u8], to: usize, s: &[u8], at: usize, cells: usize)
     }
 }
 
+fn copy_cells_16(out: &mut [u8], to: usize, s: &[u8], at: usize, cells: usize)
+    requires { ⌜ (to + cells * 16 ≤ length (now «out»)) × (at + cells * 16 ≤ length (now s)) ⌝ }
+    ensures { λ _. ⌜ now («out» .exit) ≡ overAt to (reversedCells 16 cells (drop at (now (s .entry)))) (now («out» .entry)) ⌝ }
+{
+    let mut i = 0;
+    while i < cells {
+        let k = i * 16;
+        copy_cell_16(out, to + k, s, at + k);
+        i += 1;
+    }
+}
+
 fn copy_cells_any(out: &mut [u8], to: usize, s: &[u8], at: usize, size: usize, cells: usize)
     requires { ⌜ (to + cells * size ≤ length (now «out»)) × (at + cells * size ≤ length (now s)) ⌝ }
     ensures { λ _. ⌜ now («out» .exit) ≡ overAt to (reversedCells size cells (drop at (now (s .entry)))) (now («out» .entry)) ⌝ }
@@ -109,9 +127,70 @@ fn copy_cell_4(out: &mut [u8], to: usize, s: &[u8], at: usize)
     field::put_u32(out, to, word::be4_at(s, at));
 }
 
-fn copy_cell_8(out: &mut [u8], to: usize, s: &[u8], at: usize)
+pub fn copy_cell_8(out: &mut [u8], to: usize, s: &[u8], at: usize)
     requires { ⌜ (to + 8 ≤ length (now «out»)) × (at + 8 ≤ length (now s)) ⌝ }
     ensures { λ _. ⌜ now («out» .exit) ≡ overAt to (reverse (take 8 (drop at (now (s .entry))))) (now («out» .entry)) ⌝ }
 {
     field::put_u64(out, to, word::be8_at(s, at));
+}
+
+fn copy_cell_16(out: &mut [u8], to: usize, s: &[u8], at: usize)
+    requires { ⌜ (to + 16 ≤ length (now «out»)) × (at + 16 ≤ length (now s)) ⌝ }
+    ensures { λ _. ⌜ now («out» .exit) ≡ overAt to (reverse (take 16 (drop at (now (s .entry))))) (now («out» .entry)) ⌝ }
+{
+    let low = word::be8_at(s, at);
+    let high = word::be8_at(s, at + 8);
+    field::put_u64(out, to, high);
+    field::put_u64(out, to + 8, low);
+}
+
+// Writes eight bytes.
+pub fn put_8(
+    out: &mut [u8],
+    at: usize,
+    b0: u8,
+    b1: u8,
+    b2: u8,
+    b3: u8,
+    b4: u8,
+    b5: u8,
+    b6: u8,
+    b7: u8,
+)
+    requires { ⌜ at + 8 ≤ length (now «out») ⌝ }
+    ensures { λ _. ⌜ now («out» .exit) ≡ overAt at (b0 ∷ b1 ∷ b2 ∷ b3 ∷ b4 ∷ b5 ∷ b6 ∷ b7 ∷ []) (now («out» .entry)) ⌝ }
+{
+    out[at] = b0;
+    out[at + 1] = b1;
+    out[at + 2] = b2;
+    out[at + 3] = b3;
+    out[at + 4] = b4;
+    out[at + 5] = b5;
+    out[at + 6] = b6;
+    out[at + 7] = b7;
+}
+
+// Eight cells of two bytes. All are read before the first is written, so that they go as one vector.
+fn copy_block_2(out: &mut [u8], to: usize, s: &[u8], at: usize)
+    requires { ⌜ (to + 16 ≤ length (now «out»)) × (at + 16 ≤ length (now s)) ⌝ }
+    ensures { λ _. ⌜ now («out» .exit) ≡ overAt to (reversedCells 2 8 (drop at (now (s .entry)))) (now («out» .entry)) ⌝ }
+{
+    let b0 = s[at];
+    let b1 = s[at + 1];
+    let b2 = s[at + 2];
+    let b3 = s[at + 3];
+    let b4 = s[at + 4];
+    let b5 = s[at + 5];
+    let b6 = s[at + 6];
+    let b7 = s[at + 7];
+    let b8 = s[at + 8];
+    let b9 = s[at + 9];
+    let b10 = s[at + 10];
+    let b11 = s[at + 11];
+    let b12 = s[at + 12];
+    let b13 = s[at + 13];
+    let b14 = s[at + 14];
+    let b15 = s[at + 15];
+    put_8(out, to, b1, b0, b3, b2, b5, b4, b7, b6);
+    put_8(out, to + 8, b9, b8, b11, b10, b13, b12, b15, b14);
 }

@@ -24,6 +24,9 @@ copy-cells-4-requires c κs = omega (arith, ap (λ (k : ℕ). c .before .before 
 copy-cells-8-requires : tie.Need-copy-cells-8-requires
 copy-cells-8-requires c κs = omega (arith, ap (λ (k : ℕ). c .before .before .before .before .args .cells * k) (c .before .match .keys4))
 
+copy-cells-16-requires : tie.Need-copy-cells-16-requires
+copy-cells-16-requires c κs = omega (arith, ap (λ (k : ℕ). c .before .before .before .before .args .cells * k) (c .before .match .keys5))
+
 copy-cells-any-requires : tie.Need-copy-cells-any-requires
 copy-cells-any-requires c κs = search needs
 
@@ -58,7 +61,13 @@ same-length-5 : tie.Need-same-length-5
 same-length-5 c = search needs
 
 returns-5 : tie.Need-returns-5
-returns-5 c = search needs
+returns-5 c = let a = c .before .before .before .before .before .before .before .args in c .before .before .copy-cells-16 .ensures ∙ ap (λ (k : ℕ). overAt (a .to) (reversedCells k (a .cells) (drop (a .at) (a .s .now))) (a .out .now)) (sym (c .before .before .before .before .match .keys5))
+
+same-length-6 : tie.Need-same-length-6
+same-length-6 c = search needs
+
+returns-6 : tie.Need-returns-6
+returns-6 c = search needs
 
 pub copy-cells-reversed-spec : {M : Type 1} → statement M
 copy-cells-reversed-spec =
@@ -68,6 +77,7 @@ copy-cells-reversed-spec =
     copy-cells-2-requires
     copy-cells-4-requires
     copy-cells-8-requires
+    copy-cells-16-requires
     copy-cells-any-requires
     same-length
     returns
@@ -78,4 +88,6 @@ copy-cells-reversed-spec =
     same-length-4
     returns-4
     same-length-5
-    returns-5)
+    returns-5
+    same-length-6
+    returns-6)
