@@ -71,7 +71,7 @@ fn put_live_words(
     }
 }
 
-// Of the cells of one size that begin at `at`, the `count` that the level counts.
+// Of the cells of one size that begin at `at`, the `count` that the level counts. Each size of a word has a loop of its own.
 pub fn put_live(
     out: &mut [u8],
     to: usize,
@@ -91,10 +91,14 @@ pub fn put_live(
 {
     if count == cells {
         cells::copy_cells(out, to, s, at, size, order, cells);
-    } else if word::is_word(size) {
-        put_live_words(out, to, s, at, size, order, masks, cells, level, count);
     } else {
-        put_live_runs(out, to, s, at, size, order, masks, cells, level);
+        match size {
+            1 => put_live_words(out, to, s, at, 1, order, masks, cells, level, count),
+            2 => put_live_words(out, to, s, at, 2, order, masks, cells, level, count),
+            4 => put_live_words(out, to, s, at, 4, order, masks, cells, level, count),
+            8 => put_live_words(out, to, s, at, 8, order, masks, cells, level, count),
+            _ => put_live_runs(out, to, s, at, size, order, masks, cells, level),
+        }
     }
 }
 
