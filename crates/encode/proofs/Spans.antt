@@ -184,6 +184,14 @@ module _ {t : ℕ → Bool} {n : ℕ} {os s d : List ℕ} {to : ℕ} {out : List
   pub slicing-ends : n ≤ i → out ≡ overAt to (slicesAt os s (passing t (from 0 n))) d
   slicing-ends h = gathering-ends (l .gathers) h
 
+  pub slicing-wrote : n ≤ i → done ≡ length (slicesAt os s (passing t (from 0 n)))
+  slicing-wrote h =
+      omega (
+        arith,
+        laying-left (slicesAt os s (passing t (from 0 n))) d to out done _ (l .gathers .laid),
+        ap (λ (is : List ℕ). length (slicesAt os s is)) (passing-end t i n h),
+      )
+
   module _ {r : ℕ} (e : r ≡ runOf t i (n - i)) (h : i < n) where
     pub slicing-inside : i + r < length os
     slicing-inside = run-inside (l .offsets) t i r e h

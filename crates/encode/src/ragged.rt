@@ -69,8 +69,8 @@ pub fn live_bytes(offsets: &[u64], masks: &[u8], cells: usize, level: usize) -> 
     total
 }
 
-// The values of the cells that the level counts, end to end. Neighbours go as one run.
-fn put_live_data(
+// The values of the cells that the level counts, end to end; says how many bytes it wrote. Neighbours go as one run.
+fn put_live_runs(
     out: &mut [u8],
     to: usize,
     values: &[u8],
@@ -78,11 +78,12 @@ fn put_live_data(
     masks: &[u8],
     cells: usize,
     level: usize,
-)
+) -> usize
     requires { ⌜ Planes cells (now masks) level
         × Offsets cells (now offsets) × (last (now offsets) ≡ length (now values))
         × (to + length (slicesAt (now offsets) (now values) (liveAt cells (now masks) level)) ≤ length (now out)) ⌝ }
-    ensures { λ _. ⌜ now (out .exit) ≡ overAt to (slicesAt (now (offsets .entry)) (now (values .entry)) (liveAt cells (now (masks .entry)) level)) (now (out .entry)) ⌝ }
+    ensures wrote { λ r. ⌜ r ≡ length (slicesAt (now (offsets .entry)) (now (values .entry)) (liveAt cells (now (masks .entry)) level)) ⌝ }
+    ensures bytes { λ _. ⌜ now (out .exit) ≡ overAt to (slicesAt (now (offsets .entry)) (now (values .entry)) (liveAt cells (now (masks .entry)) level)) (now (out .entry)) ⌝ }
 {
     let mut i = 0;
     let mut done = 0;
@@ -93,6 +94,31 @@ fn put_live_data(
         copy::copy_bytes(out, to + done, values, start, end - start);
         done += end - start;
         i += run + 1;
+    }
+    done
+}
+
+// The same: a level that stands in the text is not asked for again at each cell.
+fn put_live_data(
+    out: &mut [u8],
+    to: usize,
+    values: &[u8],
+    offsets: &[u64],
+    masks: &[u8],
+    cells: usize,
+    level: usize,
+) -> usize
+    requires { ⌜ Planes cells (now masks) level
+        × Offsets cells (now offsets) × (last (now offsets) ≡ length (now values))
+        × (to + length (slicesAt (now offsets) (now values) (liveAt cells (now masks) level)) ≤ length (now out)) ⌝ }
+    ensures wrote { λ r. ⌜ r ≡ length (slicesAt (now (offsets .entry)) (now (values .entry)) (liveAt cells (now (masks .entry)) level)) ⌝ }
+    ensures bytes { λ _. ⌜ now (out .exit) ≡ overAt to (slicesAt (now (offsets .entry)) (now (values .entry)) (liveAt cells (now (masks .entry)) level)) (now (out .entry)) ⌝ }
+{
+    match level {
+        1 => put_live_runs(out, to, values, offsets, masks, cells, 1),
+        2 => put_live_runs(out, to, values, offsets, masks, cells, 2),
+        3 => put_live_runs(out, to, values, offsets, masks, cells, 3),
+        _ => put_live_runs(out, to, values, offsets, masks, cells, level),
     }
 }
 
@@ -133,7 +159,7 @@ fn put_run_ends(
 
 // Where the `count` cells that the level counts end, when they lie end to end from 0. What a cell that it does not count puts
 // is overwritten by the next that it counts, so that nothing branches on a mask.
-fn put_live_ends(
+fn put_marked_ends(
     out: &mut [u8],
     to: usize,
     width: IndexWidth,
@@ -159,6 +185,29 @@ fn put_live_ends(
         put_offset(out, to + done * k, width, total);
         done += mark as usize;
         i += 1;
+    }
+}
+
+// The same, a level for each part of the text.
+fn put_live_ends(
+    out: &mut [u8],
+    to: usize,
+    width: IndexWidth,
+    offsets: &[u64],
+    masks: &[u8],
+    cells: usize,
+    level: usize,
+    count: usize,
+)
+    requires { ⌜ Planes cells (now masks) level × (count ≡ length (liveAt cells (now masks) level)) × Offsets cells (now offsets)
+        × (to + length (indexOf (widthOf width) (endsAt (now offsets) 0 (liveAt cells (now masks) level))) ≤ length (now out)) ⌝ }
+    ensures { λ _. ⌜ now (out .exit) ≡ overAt to (indexOf (widthOf width) (endsAt (now (offsets .entry)) 0 (liveAt cells (now (masks .entry)) level))) (now (out .entry)) ⌝ }
+{
+    match level {
+        1 => put_marked_ends(out, to, width, offsets, masks, cells, 1, count),
+        2 => put_marked_ends(out, to, width, offsets, masks, cells, 2, count),
+        3 => put_marked_ends(out, to, width, offsets, masks, cells, 3, count),
+        _ => put_marked_ends(out, to, width, offsets, masks, cells, level, count),
     }
 }
 
@@ -219,10 +268,9 @@ pub fn put_ragged(
     ensures wrote { λ r. ⌜ r ≡ length (putValues (ragged (widthOf width) (placeOf place)) (map (sliceAt (now (offsets .entry)) (now (values .entry))) (liveAt cells (now (masks .entry)) level))) ⌝ }
     ensures bytes { λ _. ⌜ now (out .exit) ≡ overAt at (putValues (ragged (widthOf width) (placeOf place)) (map (sliceAt (now (offsets .entry)) (now (values .entry))) (liveAt cells (now (masks .entry)) level))) (now (out .entry)) ⌝ }
 {
-    let bytes = live_bytes(offsets, masks, cells, level);
     let index = kind::width_bytes(width) * (count + 1);
     let data = data_at(place, at, index);
-    put_live_data(out, data, values, offsets, masks, cells, level);
+    let bytes = put_live_data(out, data, values, offsets, masks, cells, level);
     let start = index_at(place, at, bytes);
     put_live_index(out, start, width, offsets, masks, cells, level, count);
     let field = length_at(place, at, bytes, index);

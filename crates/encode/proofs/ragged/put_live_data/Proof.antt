@@ -1,112 +1,81 @@
--- `encode::ragged::put_live_data` meets its contract: by the laws of Slicing.
+-- `encode::ragged::put_live_data` meets its contract: each level has the runs of its own.
 -- Assumes nothing.
-use mathlib.Core.Path.{_≡_}
-use Prim.Native.Nat.{_≤_, _<_, _+_, _-_}
-use native.Mathlib.Omega.{arith}
-use lib.ListN.{length, getD}
-use Rattle.array.specs.Limits.{mostCells}
-use Rattle.encode.specs.Live.{liveTest}
-use Rattle.encode.proofs.Spans.{Slicing, slicing-begins, slicing-same, slicing-ends, slicing-inside, slicing-rises, slicing-source, slicing-room, slicing-more}
+use mathlib.Core.Path.{_≡_, sym, ap, _∙_, subst}
+use mathlib.Core.List.{List}
+use Prim.Native.Nat.{ℕ, _≤_, _+_}
+use lib.ListN.{length}
 use borrow.Author.Needs.{needs}
+use Rattle.array.specs.Buffers.{overAt}
+use Rattle.array.specs.Offsets.{last}
+use Rattle.encode.specs.Live.{liveAt}
+use Rattle.encode.specs.Pieces.{slicesAt}
+use Rattle.encode.specs.Ready.{Planes, Offsets}
 use Rattle.encode.proofs.ragged.put_live_data.Statement.{statement}
 use Rattle.encode.proofs.ragged.put_live_data.Tie as tie
 
-abbrev Inv-loop : tie.InvT-loop
-Inv-loop out₀ to values offsets masks cells level i₀ done₀ out i done = Slicing (liveTest cells masks level) cells offsets values out₀ to out i done
+-- what the level counts
+abbrev slices : tie.Start → ℕ → List ℕ
+slices c l = slicesAt (c .args .offsets .now) (c .args .values .now) (liveAt (c .args .cells) (c .args .masks .now) l)
 
-abbrev μ-loop : tie.MeasureT-loop
-μ-loop out₀ to values offsets masks cells level i₀ done₀ out i done = cells - i
+asked : (c : tie.Start) (l : ℕ) → c .args .level ≡ l
+    → Planes (c .args .cells) (c .args .masks .now) l × Offsets (c .args .cells) (c .args .offsets .now) × (last (c .args .offsets .now) ≡ length (c .args .values .now))
+    × (c .args .to + length (slices c l) ≤ length (c .args .out .now))
+asked c l e =
+    (subst (Planes (c .args .cells) (c .args .masks .now)) e (c .pre .0), c .pre .1, c .pre .2, subst (λ (k : ℕ). c .args .to + length (slices c k) ≤ length (c .args .out .now)) e (c .pre .3))
 
-same : (c : tie.At-loop Inv-loop μ-loop) → length (c .loop .out) ≡ length (c .before .before .before .before .before .args .out .now)
-same c = slicing-same (c .loop .inv)
+given : (c : tie.Start) (l : ℕ) → c .args .level ≡ l → {r : ℕ} {o : List ℕ} → r ≡ length (slices c l) → o ≡ overAt (c .args .to) (slices c l) (c .args .out .now)
+    → (r ≡ length (slices c (c .args .level))) × (o ≡ overAt (c .args .to) (slices c (c .args .level)) (c .args .out .now))
+given c l e p q = (p ∙ ap (λ (k : ℕ). length (slices c k)) (sym e), q ∙ ap (λ (k : ℕ). overAt (c .args .to) (slices c k) (c .args .out .now)) (sym e))
 
-inside : (c : tie.After-live-run Inv-loop μ-loop) → c .before .before .loop .i + c .live-run .result < length (c .before .before .before .before .before .before .before .args .offsets .now)
-inside c = slicing-inside (c .before .before .loop .inv) (c .live-run .ensures) (c .before .loop-test .taken)
+put-live-runs-requires : tie.Need-put-live-runs-requires
+put-live-runs-requires c κs = asked (c .before .before .before .before .before .before) 1 (c .before .match .keys1)
 
-rises : (c : tie.After-live-run Inv-loop μ-loop) → getD (c .before .before .before .before .before .before .before .args .offsets .now) (c .before .before .loop .i) 0 ≤ getD (c .before .before .before .before .before .before .before .args .offsets .now) (c .before .before .loop .i + c .live-run .result) 0
-rises c = slicing-rises (c .before .before .loop .inv) (c .live-run .ensures) (c .before .loop-test .taken)
+put-live-runs-requires-2 : tie.Need-put-live-runs-requires-2
+put-live-runs-requires-2 c κs = asked (c .before .before .before .before .before .before) 2 (c .before .match .keys2)
 
-room : (c : tie.After-live-run Inv-loop μ-loop) → c .before .before .before .before .before .before .before .args .to + c .before .before .loop .done + (getD (c .before .before .before .before .before .before .before .args .offsets .now) (c .before .before .loop .i + c .live-run .result) 0 - getD (c .before .before .before .before .before .before .before .args .offsets .now) (c .before .before .loop .i) 0) ≤ length (c .before .before .loop .out)
-room c = slicing-room (c .before .before .loop .inv) (c .live-run .ensures) (c .before .loop-test .taken)
+put-live-runs-requires-3 : tie.Need-put-live-runs-requires-3
+put-live-runs-requires-3 c κs = asked (c .before .before .before .before .before .before) 3 (c .before .match .keys3)
 
-loop-holds : tie.Need-loop-holds Inv-loop μ-loop
-loop-holds c = slicing-begins (c .before .before .before .before .pre .1) (c .before .before .before .before .pre .2) (c .before .before .before .before .pre .3)
+put-live-runs-requires-4 : tie.Need-put-live-runs-requires-4
+put-live-runs-requires-4 c κs = search needs
 
-live-run-requires : tie.Need-live-run-requires Inv-loop μ-loop
-live-run-requires c κs = omega (arith, c .before .before .before .before .before .before .pre .0 .shallow, c .before .before .before .before .before .before .pre .0 .planes)
+same-length : tie.Need-same-length
+same-length c = search needs
 
-mul-start : tie.Need-mul-start Inv-loop μ-loop
-mul-start c = search needs
+returns : tie.Need-returns
+returns c = given (c .before .before .before .before .before .before .before .before .before) 1 (c .before .before .before .before .match .keys1) (c .before .before .put-live-runs .ensures .0) (c .before .before .put-live-runs .ensures .1)
 
-shared-slice-read-start : tie.Need-shared-slice-read-start Inv-loop μ-loop
-shared-slice-read-start c = omega (arith, inside (c .before))
+same-length-2 : tie.Need-same-length-2
+same-length-2 c = search needs
 
-add-end : tie.Need-add-end Inv-loop μ-loop
-add-end c = omega (arith, inside (c .before))
+returns-2 : tie.Need-returns-2
+returns-2 c = given (c .before .before .before .before .before .before .before .before .before) 2 (c .before .before .before .before .match .keys2) (c .before .before .put-live-runs2 .ensures .0) (c .before .before .put-live-runs2 .ensures .1)
 
-mul-end : tie.Need-mul-end Inv-loop μ-loop
-unfolding mostCells
-mul-end c = omega (arith, inside (c .before), c .before .before .before .before .before .before .before .before .pre .0 .few, c .before .before .before .before .before .before .before .before .pre .1 .counted)
+same-length-3 : tie.Need-same-length-3
+same-length-3 c = search needs
 
-shared-slice-read-end : tie.Need-shared-slice-read-end Inv-loop μ-loop
-shared-slice-read-end c = inside (c .before .before)
+returns-3 : tie.Need-returns-3
+returns-3 c = given (c .before .before .before .before .before .before .before .before .before) 3 (c .before .before .before .before .match .keys3) (c .before .before .put-live-runs3 .ensures .0) (c .before .before .put-live-runs3 .ensures .1)
 
-add-copy-bytes : tie.Need-add-copy-bytes Inv-loop μ-loop
-add-copy-bytes c = omega (arith, room (c .before .before .before), same (c .before .before .before .before .before))
+same-length-4 : tie.Need-same-length-4
+same-length-4 c = search needs
 
-sub-copy-bytes : tie.Need-sub-copy-bytes Inv-loop μ-loop
-sub-copy-bytes c = rises (c .before .before .before)
-
-copy-bytes-requires : tie.Need-copy-bytes-requires Inv-loop μ-loop
-copy-bytes-requires c κs = omega (arith, room (c .before .before .before), same (c .before .before .before .before .before), rises (c .before .before .before), slicing-source (c .before .before .before .before .before .loop .inv) (c .before .before .before .live-run .ensures) (c .before .before .before .before .loop-test .taken))
-
-sub-done : tie.Need-sub-done Inv-loop μ-loop
-sub-done c = rises (c .before .before .before .before .before .before)
-
-add-done : tie.Need-add-done Inv-loop μ-loop
-add-done c = omega (arith, room (c .before .before .before .before .before .before), same (c .before .before .before .before .before .before .before .before))
-
-add-i : tie.Need-add-i Inv-loop μ-loop
-unfolding mostCells
-add-i c = omega (arith, inside (c .before .before .before .before .before .before), c .before .before .before .before .before .before .before .before .before .before .before .before .before .pre .0 .few, c .before .before .before .before .before .before .before .before .before .before .before .before .before .pre .1 .counted)
-
-add-i-2 : tie.Need-add-i-2 Inv-loop μ-loop
-unfolding mostCells
-add-i-2 c = omega (arith, inside (c .before .before .before .before .before .before), c .before .before .before .before .before .before .before .before .before .before .before .before .before .pre .0 .few, c .before .before .before .before .before .before .before .before .before .before .before .before .before .pre .1 .counted)
-
-loop-less : tie.Need-loop-less Inv-loop μ-loop
-loop-less c = omega arith
-
-loop-again : tie.Need-loop-again Inv-loop μ-loop
-loop-again c = slicing-more (c .before .before .before .before .before .before .before .before .loop .inv) (c .before .before .before .before .before .before .live-run .ensures) (c .before .before .before .before .before .before .before .loop-test .taken) (c .before .before .copy-bytes .ensures)
-
-same-length : tie.Need-same-length Inv-loop μ-loop
-same-length c = same (c .before)
-
-returns : tie.Need-returns Inv-loop μ-loop
-returns c = slicing-ends (c .before .loop .inv) (c .loop-test .left)
+returns-4 : tie.Need-returns-4
+returns-4 c = search needs
 
 pub put-live-data-spec : {M : Type 1} → statement M
 put-live-data-spec =
     tie.close
     (tie.spec
-    Inv-loop
-    μ-loop
-    loop-holds
-    live-run-requires
-    mul-start
-    shared-slice-read-start
-    add-end
-    mul-end
-    shared-slice-read-end
-    add-copy-bytes
-    sub-copy-bytes
-    copy-bytes-requires
-    sub-done
-    add-done
-    add-i
-    add-i-2
-    loop-less
-    loop-again
+    put-live-runs-requires
+    put-live-runs-requires-2
+    put-live-runs-requires-3
+    put-live-runs-requires-4
     same-length
-    returns)
+    returns
+    same-length-2
+    returns-2
+    same-length-3
+    returns-3
+    same-length-4
+    returns-4)
