@@ -99,7 +99,7 @@ fn count_block(mask: &[u8], from: usize, end: usize) -> u8
 }
 
 // Where the block that begins at `at` ends.
-fn block_end(at: usize, length: usize) -> usize
+pub fn block_end(at: usize, length: usize) -> usize
     requires { ⌜ at < length ⌝ }
     ensures { λ r. ⌜ (at < r) × (r ≤ at + 240) × (r ≤ length) ⌝ }
 {

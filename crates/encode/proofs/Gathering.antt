@@ -5,24 +5,20 @@ use Prim.Native.Nat.{ℕ, zero, suc, _+_, _-_, _*_, _<_, _≤_}
 use native.Mathlib.Nat.{suc-mul, mul-le-mul-right, add-mul}
 use native.Mathlib.Omega.{arith}
 use mathlib.Core.Bool.{Bool}
-use mathlib.Core.List.{List, [], _∷_, _++_, map, append-assoc}
+use mathlib.Core.List.{List, [], _∷_, _++_, map}
 use lib.ListN.{length, drop, length-append, length-drop, length-map}
 use lib.Seq.{length-take-le}
 use Rattle.array.specs.Lists.{from, joined, pieces, passing}
 use Rattle.array.specs.Buffers.{overAt}
 use Rattle.array.specs.Kind.{Order, ordered}
 use Rattle.array.specs.Cells.{Value}
-use Rattle.array.proofs.Lists.{Sized, map-append, map-map, length-joined, length-pieces, All-image, All-map}
+use Rattle.array.proofs.Lists.{Sized, joined-append, map-append, map-map, length-joined, length-pieces, All-image, All-map}
 use Rattle.array.proofs.Sizes.{length-ordered}
 use Rattle.array.proofs.Laying.{Laying, laying-begins, laying-same, laying-left, laying-ends, laying-part, laying-is}
 use Rattle.encode.specs.Live.{runOf}
 use Rattle.encode.specs.Pieces.{pieceAt, orderedAt, piecesAt}
 use Rattle.encode.proofs.Runs.{run-le, passing-run, passing-end, passing-start}
 use Rattle.encode.proofs.Walk.{pieces-at}
-
-pub joined-append : (xs ys : List (List ℕ)) → joined (xs ++ ys) ≡ joined xs ++ joined ys
-joined-append [] ys = refl
-joined-append (x ∷ xs) ys = ap (λ (r : List ℕ). x ++ r) (joined-append xs ys) ∙ sym (append-assoc x (joined xs) (joined ys))
 
 -- ---- by runs: g i is what cell i writes
 

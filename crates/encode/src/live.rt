@@ -54,14 +54,6 @@ pub fn live_run(masks: &[u8], cells: usize, level: usize, i: usize) -> usize
     j - i
 }
 
-// Where the block that begins at `at` ends.
-fn block_end(at: usize, cells: usize) -> usize
-    requires { ⌜ at < cells ⌝ }
-    ensures { λ r. ⌜ (at < r) × (r ≤ at + 240) × (r ≤ cells) ⌝ }
-{
-    if cells - at < 240 { cells } else { at + 240 }
-}
-
 // The live cells from `start` to `end`, few enough for a byte: a narrow counter is what makes counting fast.
 fn count_block(masks: &[u8], cells: usize, level: usize, start: usize, end: usize) -> u8
     requires { ⌜ (level ≤ mostDepth) × (level * cells ≤ length (now masks)) × (start ≤ end) × (end ≤ start + 240) × (end ≤ cells) ⌝ }
@@ -83,7 +75,7 @@ fn count_blocks(masks: &[u8], cells: usize, level: usize) -> usize
     let mut n: usize = 0;
     let mut at = 0;
     while at < cells {
-        let end = block_end(at, cells);
+        let end = mask::block_end(at, cells);
         n += count_block(masks, cells, level, at, end) as usize;
         at = end;
     }
