@@ -74,16 +74,29 @@ reversed-take k (suc n) s h =
     ∙ ap₂ (λ (v r : List ℕ). reverse v ++ reversedCells k n r) (take-at a b k la) (drop-at a b k la)
     ∙ ap (λ (r : List ℕ). reverse a ++ r) (reversed-take k n (drop k s) (omega (arith, length-drop k s)))
 
+pub reads-reversed : (k n : ℕ) (s : List ℕ) (at : ℕ) → at + n * k ≤ length s → reversedCells k n (reads s at (n * k)) ≡ reversedCells k n (drop at s)
+reads-reversed k n s at q = ap (reversedCells k n) (reads-take s at (n * k) q) ∙ reversed-take k n (drop at s) (omega (arith, length-drop at s))
+
 -- m bytes of them, and then the others
 pub cells-at-once : (k n m : ℕ) (s d : List ℕ) (at to : ℕ) → m ≤ n * k → to + n * k ≤ length d → at + n * k ≤ length s → {out out′ : List ℕ}
     → out ≡ overAt to (take m (reversedCells k n (reads s at (n * k)))) d → out′ ≡ overAt (to + m) (drop m (reversedCells k n (reads s at (n * k)))) out
     → out′ ≡ overAt to (reversedCells k n (drop at s)) d
 cells-at-once k n m s d at to b p q f g =
-    let h : n * k ≤ length (drop at s) = omega (arith, length-drop at s) in
     let v : List ℕ = reversedCells k n (reads s at (n * k)) in
-    let e : v ≡ reversedCells k n (drop at s) = ap (reversedCells k n) (reads-take s at (n * k) q) ∙ reversed-take k n (drop at s) h in
-    let l : length (take m v) ≡ m = length-take-le m v (omega (arith, ap length e, length-reversed k n (drop at s) h)) in
+    let e : v ≡ reversedCells k n (drop at s) = reads-reversed k n s at q in
+    let l : length (take m v) ≡ m = length-take-le m v (omega (arith, ap length e, length-reversed k n (drop at s) (omega (arith, length-drop at s)))) in
     g ∙ ap (overAt (to + m) (drop m v)) f ∙ over-next to m (take m v) (drop m v) d (omega arith) l ∙ ap (λ (w : List ℕ). overAt to w d) (take-append-drop m v ∙ e)
+
+-- two cells, one after the other
+pub two-cells : (k : ℕ) (s d : List ℕ) (at to : ℕ) → to + (k + k) ≤ length d → at + (k + k) ≤ length s → {out out′ : List ℕ}
+    → out ≡ overAt to (reverse (take k (drop at s))) d → out′ ≡ overAt (to + k) (reverse (take k (drop (at + k) s))) out
+    → out′ ≡ overAt to (reversedCells k 2 (drop at s)) d
+two-cells k s d at to p q e f =
+    let x : List ℕ = reverse (take k (drop at s)) in
+    let y : List ℕ = reverse (take k (drop (at + k) s)) in
+    let l : length x ≡ k = length-reverse (take k (drop at s)) ∙ length-take-le k (drop at s) (omega (arith, length-drop at s)) in
+    f ∙ ap (overAt (to + k) y) e ∙ over-next to k x y d (omega arith) l
+    ∙ ap (λ (w : List ℕ). overAt to (x ++ w) d) (sym (append-nil (reverse (take k (drop k (drop at s)))) ∙ ap (λ (r : List ℕ). reverse (take k r)) (drop-drop k at s)))
 
 -- ---- the two orders
 

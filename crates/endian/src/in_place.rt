@@ -44,6 +44,10 @@ fn reverse_cells_4(bytes: &mut [u8], cells: usize)
     ensures { λ _. ⌜ now (bytes .exit) ≡ over (reversedCells 4 cells (now (bytes .entry))) (now (bytes .entry)) ⌝ }
 {
     let mut i = 0;
+    while 2 <= cells - i {
+        reverse_block_4(bytes, i * 4);
+        i += 2;
+    }
     while i < cells {
         reverse_cell_4(bytes, i * 4);
         i += 1;
@@ -55,6 +59,10 @@ fn reverse_cells_8(bytes: &mut [u8], cells: usize)
     ensures { λ _. ⌜ now (bytes .exit) ≡ over (reversedCells 8 cells (now (bytes .entry))) (now (bytes .entry)) ⌝ }
 {
     let mut i = 0;
+    while 2 <= cells - i {
+        reverse_block_8(bytes, i * 8);
+        i += 2;
+    }
     while i < cells {
         reverse_cell_8(bytes, i * 8);
         i += 1;
@@ -81,6 +89,33 @@ fn reverse_cells_any(bytes: &mut [u8], size: usize, cells: usize)
         reverse_cell(bytes, i * size, size);
         i += 1;
     }
+}
+
+// Two cells of eight bytes: one a turn would be made a vector, which is slower.
+fn reverse_block_8(bytes: &mut [u8], at: usize)
+    requires { ⌜ at + 16 ≤ length (now bytes) ⌝ }
+    ensures { λ _. ⌜ now (bytes .exit) ≡ overAt at (reversedCells 8 2 (drop at (now (bytes .entry)))) (now (bytes .entry)) ⌝ }
+{
+    let a = word::be8_at(bytes, at);
+    let b = word::be8_at(bytes, at + 8);
+    field::put_u64(bytes, at, a);
+    field::put_u64(bytes, at + 8, b);
+}
+
+// Two cells of four bytes.
+fn reverse_block_4(bytes: &mut [u8], at: usize)
+    requires { ⌜ at + 8 ≤ length (now bytes) ⌝ }
+    ensures { λ _. ⌜ now (bytes .exit) ≡ overAt at (reversedCells 4 2 (drop at (now (bytes .entry)))) (now (bytes .entry)) ⌝ }
+{
+    let b0 = bytes[at];
+    let b1 = bytes[at + 1];
+    let b2 = bytes[at + 2];
+    let b3 = bytes[at + 3];
+    let b4 = bytes[at + 4];
+    let b5 = bytes[at + 5];
+    let b6 = bytes[at + 6];
+    let b7 = bytes[at + 7];
+    cells::put_8(bytes, at, b3, b2, b1, b0, b7, b6, b5, b4);
 }
 
 // Eight cells of two bytes. All are read before the first is written, so that they go as one vector.
