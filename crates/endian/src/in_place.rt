@@ -44,10 +44,6 @@ fn reverse_cells_4(bytes: &mut [u8], cells: usize)
     ensures { λ _. ⌜ now (bytes .exit) ≡ over (reversedCells 4 cells (now (bytes .entry))) (now (bytes .entry)) ⌝ }
 {
     let mut i = 0;
-    while 2 <= cells - i {
-        reverse_block_4(bytes, i * 4);
-        i += 2;
-    }
     while i < cells {
         reverse_cell_4(bytes, i * 4);
         i += 1;
@@ -100,22 +96,6 @@ fn reverse_block_8(bytes: &mut [u8], at: usize)
     let b = word::be8_at(bytes, at + 8);
     field::put_u64(bytes, at, a);
     field::put_u64(bytes, at + 8, b);
-}
-
-// Two cells of four bytes.
-fn reverse_block_4(bytes: &mut [u8], at: usize)
-    requires { ⌜ at + 8 ≤ length (now bytes) ⌝ }
-    ensures { λ _. ⌜ now (bytes .exit) ≡ overAt at (reversedCells 4 2 (drop at (now (bytes .entry)))) (now (bytes .entry)) ⌝ }
-{
-    let b0 = bytes[at];
-    let b1 = bytes[at + 1];
-    let b2 = bytes[at + 2];
-    let b3 = bytes[at + 3];
-    let b4 = bytes[at + 4];
-    let b5 = bytes[at + 5];
-    let b6 = bytes[at + 6];
-    let b7 = bytes[at + 7];
-    cells::put_8(bytes, at, b3, b2, b1, b0, b7, b6, b5, b4);
 }
 
 // Eight cells of two bytes. All are read before the first is written, so that they go as one vector.

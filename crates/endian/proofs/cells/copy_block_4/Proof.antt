@@ -1,10 +1,6 @@
 -- `endian::cells::copy_block_4`: eight reads, written at once, by the law for any size (CellLaws).
 -- Assumes nothing.
-use mathlib.Core.Path.{ap, _∙_}
-use mathlib.Core.List.{List}
-use Prim.Native.Nat.{ℕ}
-use Rattle.array.specs.Buffers.{overAt}
-use Rattle.endian.proofs.CellLaws.{reads-reversed}
+use Rattle.endian.proofs.CellLaws.{cells-written}
 use borrow.Author.Needs.{needs}
 use Rattle.endian.proofs.cells.copy_block_4.Statement.{statement}
 use Rattle.endian.proofs.cells.copy_block_4.Tie as tie
@@ -61,7 +57,7 @@ same-length : tie.Need-same-length
 same-length c = search needs
 
 returns : tie.Need-returns
-returns c = let a = c .before .before .before .before .before .before .before .before .before .before .before .before .before .before .args in c .before .before .put-8 .ensures ∙ ap (λ (l : List ℕ). overAt (a .to) l (a .out .now)) (reads-reversed 4 2 (a .s .now) (a .at) (c .before .before .before .before .before .before .before .before .before .before .before .before .before .before .pre .1))
+returns c = let a = c .before .before .before .before .before .before .before .before .before .before .before .before .before .before .args in cells-written 4 2 (a .s .now) (a .out .now) (a .at) (a .to) (c .before .before .before .before .before .before .before .before .before .before .before .before .before .before .pre .1) (c .before .before .put-8 .ensures)
 
 pub copy-block-4-spec : {M : Type 1} → statement M
 copy-block-4-spec =
