@@ -69,6 +69,11 @@ fn copy_cells_4(out: &mut [u8], to: usize, s: &[u8], at: usize, cells: usize)
     ensures { λ _. ⌜ now («out» .exit) ≡ overAt to (reversedCells 4 cells (drop at (now (s .entry)))) (now («out» .entry)) ⌝ }
 {
     let mut i = 0;
+    while 2 <= cells - i {
+        let k = i * 4;
+        copy_block_4(out, to + k, s, at + k);
+        i += 2;
+    }
     while i < cells {
         let k = i * 4;
         copy_cell_4(out, to + k, s, at + k);
@@ -81,6 +86,11 @@ fn copy_cells_8(out: &mut [u8], to: usize, s: &[u8], at: usize, cells: usize)
     ensures { λ _. ⌜ now («out» .exit) ≡ overAt to (reversedCells 8 cells (drop at (now (s .entry)))) (now («out» .entry)) ⌝ }
 {
     let mut i = 0;
+    while 2 <= cells - i {
+        let k = i * 8;
+        copy_block_8(out, to + k, s, at + k);
+        i += 2;
+    }
     while i < cells {
         let k = i * 8;
         copy_cell_8(out, to + k, s, at + k);
@@ -144,6 +154,17 @@ fn copy_cell_16(out: &mut [u8], to: usize, s: &[u8], at: usize)
     field::put_u64(out, to + 8, low);
 }
 
+// Two cells of eight bytes: one a turn would be made a vector, which is slower.
+fn copy_block_8(out: &mut [u8], to: usize, s: &[u8], at: usize)
+    requires { ⌜ (to + 16 ≤ length (now «out»)) × (at + 16 ≤ length (now s)) ⌝ }
+    ensures { λ _. ⌜ now («out» .exit) ≡ overAt to (reversedCells 8 2 (drop at (now (s .entry)))) (now («out» .entry)) ⌝ }
+{
+    let a = word::be8_at(s, at);
+    let b = word::be8_at(s, at + 8);
+    field::put_u64(out, to, a);
+    field::put_u64(out, to + 8, b);
+}
+
 // Writes eight bytes.
 pub fn put_8(
     out: &mut [u8],
@@ -168,6 +189,22 @@ pub fn put_8(
     out[at + 5] = b5;
     out[at + 6] = b6;
     out[at + 7] = b7;
+}
+
+// Two cells of four bytes.
+fn copy_block_4(out: &mut [u8], to: usize, s: &[u8], at: usize)
+    requires { ⌜ (to + 8 ≤ length (now «out»)) × (at + 8 ≤ length (now s)) ⌝ }
+    ensures { λ _. ⌜ now («out» .exit) ≡ overAt to (reversedCells 4 2 (drop at (now (s .entry)))) (now («out» .entry)) ⌝ }
+{
+    let b0 = s[at];
+    let b1 = s[at + 1];
+    let b2 = s[at + 2];
+    let b3 = s[at + 3];
+    let b4 = s[at + 4];
+    let b5 = s[at + 5];
+    let b6 = s[at + 6];
+    let b7 = s[at + 7];
+    put_8(out, to, b3, b2, b1, b0, b7, b6, b5, b4);
 }
 
 // Eight cells of two bytes. All are read before the first is written, so that they go as one vector.
