@@ -6,7 +6,6 @@ use array::copy::fill_bytes;
 use array::kind::ByteOrder;
 use codec::mask::mark_of;
 use endian::cells::copy_cells;
-use endian::word::is_word;
 use endian::word::put_word;
 use endian::word::word_at;
 ghost use mathlib.Core.Path.{_≡_};
@@ -37,10 +36,13 @@ pub fn spread_values(
         copy_cells(values, 0, s, at, size, order, n);
         return;
     }
-    if is_word(size) {
-        spread_words(values, masks, from, n, s, at, size, order, cells);
-    } else {
-        spread_runs(values, masks, from, n, s, at, size, order, cells);
+    // the size is a constant in each loop, so that it compiles to plain loads and stores
+    match size {
+        1 => spread_words(values, masks, from, n, s, at, 1, order, cells),
+        2 => spread_words(values, masks, from, n, s, at, 2, order, cells),
+        4 => spread_words(values, masks, from, n, s, at, 4, order, cells),
+        8 => spread_words(values, masks, from, n, s, at, 8, order, cells),
+        _ => spread_runs(values, masks, from, n, s, at, size, order, cells),
     }
 }
 

@@ -1,11 +1,14 @@
--- `spread_values` meets its contract: where all cells are set it is one copy (SpreadingValues).
+-- `spread_values` meets its contract: where all cells are set it is one copy (SpreadingValues); else by the size.
 -- Assumes nothing.
-use mathlib.Core.Path.{_≡_, sym, ap, _∙_}
+use mathlib.Core.Path.{_≡_, refl, sym, ap, _∙_, subst}
+use mathlib.Core.List.{List}
 use Prim.Native.Nat.{ℕ, _*_}
 use native.Mathlib.Omega.{arith}
-use lib.ListN.{length}
+use lib.ListN.{length, drop}
 use borrow.Author.Needs.{needs}
+use Rattle.array.specs.Buffers.{over}
 use Rattle.array.specs.Meaning.{orderOf}
+use Rattle.decode.specs.Reads.{valuesOver, ValuesWithin}
 use Rattle.decode.proofs.Placing.{planeAt, plane-length}
 use Rattle.decode.proofs.SpreadingValues.{values-begin, values-all}
 use Rattle.decode.proofs.values.spread_values.Statement.{statement}
@@ -30,11 +33,25 @@ returns c =
     (values-begin (args .size) (orderOf (args .order)) (planeAt (args .from) (args .n) (args .masks .now)) (args .s .now) (args .values .now) (args .at) (args .cells) (rw (long (c .before .before .before .before .before .before .before .before)) (pre .room)) (pre .count) (pre .stored))
     (args .n) (long (c .before .before .before .before .before .before .before .before)) (c .before .before .before .before .if1 .taken) _ (c .before .before .copy-cells .ensures)
 
-is-word-requires : tie.Need-is-word-requires
-is-word-requires c κs = search needs
-
 spread-words-requires : tie.Need-spread-words-requires
-spread-words-requires c κs = (c .before .before .before .before .before .before .before .pre, sym (c .before .before .is-word .ensures) ∙ c .before .if2 .taken)
+spread-words-requires c κs =
+    let args = c .before .before .before .before .before .before .args in
+    (subst (λ (w : ℕ). ValuesWithin (args .values .now) (args .masks .now) (args .from) (args .n) (args .s .now) (args .at) w (args .cells)) (c .before .match .keys1) (c .before .before .before .before .before .before .pre), refl)
+
+spread-words-requires-2 : tie.Need-spread-words-requires-2
+spread-words-requires-2 c κs =
+    let args = c .before .before .before .before .before .before .args in
+    (subst (λ (w : ℕ). ValuesWithin (args .values .now) (args .masks .now) (args .from) (args .n) (args .s .now) (args .at) w (args .cells)) (c .before .match .keys2) (c .before .before .before .before .before .before .pre), refl)
+
+spread-words-requires-3 : tie.Need-spread-words-requires-3
+spread-words-requires-3 c κs =
+    let args = c .before .before .before .before .before .before .args in
+    (subst (λ (w : ℕ). ValuesWithin (args .values .now) (args .masks .now) (args .from) (args .n) (args .s .now) (args .at) w (args .cells)) (c .before .match .keys3) (c .before .before .before .before .before .before .pre), refl)
+
+spread-words-requires-4 : tie.Need-spread-words-requires-4
+spread-words-requires-4 c κs =
+    let args = c .before .before .before .before .before .before .args in
+    (subst (λ (w : ℕ). ValuesWithin (args .values .now) (args .masks .now) (args .from) (args .n) (args .s .now) (args .at) w (args .cells)) (c .before .match .keys4) (c .before .before .before .before .before .before .pre), refl)
 
 spread-runs-requires : tie.Need-spread-runs-requires
 spread-runs-requires c κs = search needs
@@ -43,13 +60,39 @@ same-length-2 : tie.Need-same-length-2
 same-length-2 c = search needs
 
 returns-2 : tie.Need-returns-2
-returns-2 c = search needs
+returns-2 c =
+    let args = c .before .before .before .before .before .before .before .before .before .args in
+    c .before .before .spread-words .ensures ∙ sym (ap (λ (w : ℕ). over (valuesOver w (orderOf (args .order)) (planeAt (args .from) (args .n) (args .masks .now)) (drop (args .at) (args .s .now))) (args .values .now)) (c .before .before .before .before .match .keys1))
 
 same-length-3 : tie.Need-same-length-3
 same-length-3 c = search needs
 
 returns-3 : tie.Need-returns-3
-returns-3 c = search needs
+returns-3 c =
+    let args = c .before .before .before .before .before .before .before .before .before .args in
+    c .before .before .spread-words2 .ensures ∙ sym (ap (λ (w : ℕ). over (valuesOver w (orderOf (args .order)) (planeAt (args .from) (args .n) (args .masks .now)) (drop (args .at) (args .s .now))) (args .values .now)) (c .before .before .before .before .match .keys2))
+
+same-length-4 : tie.Need-same-length-4
+same-length-4 c = search needs
+
+returns-4 : tie.Need-returns-4
+returns-4 c =
+    let args = c .before .before .before .before .before .before .before .before .before .args in
+    c .before .before .spread-words3 .ensures ∙ sym (ap (λ (w : ℕ). over (valuesOver w (orderOf (args .order)) (planeAt (args .from) (args .n) (args .masks .now)) (drop (args .at) (args .s .now))) (args .values .now)) (c .before .before .before .before .match .keys3))
+
+same-length-5 : tie.Need-same-length-5
+same-length-5 c = search needs
+
+returns-5 : tie.Need-returns-5
+returns-5 c =
+    let args = c .before .before .before .before .before .before .before .before .before .args in
+    c .before .before .spread-words4 .ensures ∙ sym (ap (λ (w : ℕ). over (valuesOver w (orderOf (args .order)) (planeAt (args .from) (args .n) (args .masks .now)) (drop (args .at) (args .s .now))) (args .values .now)) (c .before .before .before .before .match .keys4))
+
+same-length-6 : tie.Need-same-length-6
+same-length-6 c = search needs
+
+returns-6 : tie.Need-returns-6
+returns-6 c = search needs
 
 pub spread-values-spec : {M : Type 1} → statement M
 spread-values-spec =
@@ -58,10 +101,18 @@ spread-values-spec =
     copy-cells-requires
     same-length
     returns
-    is-word-requires
     spread-words-requires
+    spread-words-requires-2
+    spread-words-requires-3
+    spread-words-requires-4
     spread-runs-requires
     same-length-2
     returns-2
     same-length-3
-    returns-3)
+    returns-3
+    same-length-4
+    returns-4
+    same-length-5
+    returns-5
+    same-length-6
+    returns-6)
