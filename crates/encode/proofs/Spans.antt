@@ -24,7 +24,7 @@ use Rattle.encode.specs.Live.{runOf}
 use Rattle.encode.specs.Pieces.{spanAt, sliceAt, slicesAt, spansOf, endsAt}
 use Rattle.encode.specs.Ready.{Offsets}
 use Rattle.encode.proofs.Runs.{run-le, passing-end, passing-start, passing-le}
-use Rattle.encode.proofs.LiveMarks.{passing-next}
+use Rattle.encode.proofs.LiveMarks.{zero-false, passing-next}
 use Rattle.encode.proofs.Gathering.{Gathering, gathering-begins, gathering-same, gathering-ends, gathering-room, gathering-more}
 use Rattle.encode.proofs.Placing.{laying-over, over-held}
 
@@ -191,6 +191,19 @@ module _ {t : ℕ → Bool} {n : ℕ} {os s d : List ℕ} {to : ℕ} {out : List
         laying-left (slicesAt os s (passing t (from 0 n))) d to out done _ (l .gathers .laid),
         ap (λ (is : List ℕ). length (slicesAt os s is)) (passing-end t i n h),
       )
+
+  -- a cell that does not count
+  pub slicing-skip : i < n → {m : ℕ} → m ≡ pick (t i) 1 0 → m ≡ 0 → Slicing t n os s d to out (i + 1) done
+  slicing-skip h e z =
+      let rest : List ℕ = passing t (from (i + 1) (n - (i + 1))) in
+      record {
+        offsets = l .offsets;
+        ended = l .ended;
+        gathers = record {
+          laid = laying-is (l .gathers .laid)
+              (ap (slicesAt os s) (passing-next t i n h ∙ ap (λ (b : Bool). pick b (i ∷ rest) rest) (zero-false (t i) (sym e ∙ z))));
+        };
+      }
 
   module _ {r : ℕ} (e : r ≡ runOf t i (n - i)) (h : i < n) where
     pub slicing-inside : i + r < length os

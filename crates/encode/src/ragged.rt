@@ -88,12 +88,16 @@ fn put_live_runs(
     let mut i = 0;
     let mut done = 0;
     while i < cells {
-        let run = live::live_run(masks, cells, level, i);
-        let start = offsets[i] as usize;
-        let end = offsets[i + run] as usize;
-        copy::copy_bytes(out, to + done, values, start, end - start);
-        done += end - start;
-        i += run + 1;
+        if live::live_mark(masks, cells, level, i) == 0 {
+            i += 1;
+        } else {
+            let run = live::live_run(masks, cells, level, i);
+            let start = offsets[i] as usize;
+            let end = offsets[i + run] as usize;
+            copy::copy_bytes(out, to + done, values, start, end - start);
+            done += end - start;
+            i += run + 1;
+        }
     }
     done
 }
@@ -118,6 +122,7 @@ fn put_live_data(
         1 => put_live_runs(out, to, values, offsets, masks, cells, 1),
         2 => put_live_runs(out, to, values, offsets, masks, cells, 2),
         3 => put_live_runs(out, to, values, offsets, masks, cells, 3),
+        4 => put_live_runs(out, to, values, offsets, masks, cells, 4),
         _ => put_live_runs(out, to, values, offsets, masks, cells, level),
     }
 }
@@ -207,6 +212,7 @@ fn put_live_ends(
         1 => put_marked_ends(out, to, width, offsets, masks, cells, 1, count),
         2 => put_marked_ends(out, to, width, offsets, masks, cells, 2, count),
         3 => put_marked_ends(out, to, width, offsets, masks, cells, 3, count),
+        4 => put_marked_ends(out, to, width, offsets, masks, cells, 4, count),
         _ => put_marked_ends(out, to, width, offsets, masks, cells, level, count),
     }
 }

@@ -37,7 +37,10 @@ put-live-runs-requires-3 : tie.Need-put-live-runs-requires-3
 put-live-runs-requires-3 c κs = asked (c .before .before .before .before .before .before) 3 (c .before .match .keys3)
 
 put-live-runs-requires-4 : tie.Need-put-live-runs-requires-4
-put-live-runs-requires-4 c κs = search needs
+put-live-runs-requires-4 c κs = asked (c .before .before .before .before .before .before) 4 (c .before .match .keys4)
+
+put-live-runs-requires-5 : tie.Need-put-live-runs-requires-5
+put-live-runs-requires-5 c κs = search needs
 
 same-length : tie.Need-same-length
 same-length c = search needs
@@ -61,7 +64,13 @@ same-length-4 : tie.Need-same-length-4
 same-length-4 c = search needs
 
 returns-4 : tie.Need-returns-4
-returns-4 c = search needs
+returns-4 c = given (c .before .before .before .before .before .before .before .before .before) 4 (c .before .before .before .before .match .keys4) (c .before .before .put-live-runs4 .ensures .0) (c .before .before .put-live-runs4 .ensures .1)
+
+same-length-5 : tie.Need-same-length-5
+same-length-5 c = search needs
+
+returns-5 : tie.Need-returns-5
+returns-5 c = search needs
 
 pub put-live-data-spec : {M : Type 1} → statement M
 put-live-data-spec =
@@ -71,6 +80,7 @@ put-live-data-spec =
     put-live-runs-requires-2
     put-live-runs-requires-3
     put-live-runs-requires-4
+    put-live-runs-requires-5
     same-length
     returns
     same-length-2
@@ -78,4 +88,6 @@ put-live-data-spec =
     same-length-3
     returns-3
     same-length-4
-    returns-4)
+    returns-4
+    same-length-5
+    returns-5)

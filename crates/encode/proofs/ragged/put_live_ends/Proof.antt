@@ -41,7 +41,10 @@ put-marked-ends-requires-3 : tie.Need-put-marked-ends-requires-3
 put-marked-ends-requires-3 c κs = asked (c .before .before .before .before .before) 3 (c .before .match .keys3)
 
 put-marked-ends-requires-4 : tie.Need-put-marked-ends-requires-4
-put-marked-ends-requires-4 c κs = search needs
+put-marked-ends-requires-4 c κs = asked (c .before .before .before .before .before) 4 (c .before .match .keys4)
+
+put-marked-ends-requires-5 : tie.Need-put-marked-ends-requires-5
+put-marked-ends-requires-5 c κs = search needs
 
 same-length : tie.Need-same-length
 same-length c = search needs
@@ -65,7 +68,13 @@ same-length-4 : tie.Need-same-length-4
 same-length-4 c = search needs
 
 returns-4 : tie.Need-returns-4
-returns-4 c = search needs
+returns-4 c = given (c .before .before .before .before .before .before .before .before) 4 (c .before .before .before .before .match .keys4) (c .before .before .put-marked-ends4 .ensures)
+
+same-length-5 : tie.Need-same-length-5
+same-length-5 c = search needs
+
+returns-5 : tie.Need-returns-5
+returns-5 c = search needs
 
 pub put-live-ends-spec : {M : Type 1} → statement M
 put-live-ends-spec =
@@ -75,6 +84,7 @@ put-live-ends-spec =
     put-marked-ends-requires-2
     put-marked-ends-requires-3
     put-marked-ends-requires-4
+    put-marked-ends-requires-5
     same-length
     returns
     same-length-2
@@ -82,4 +92,6 @@ put-live-ends-spec =
     same-length-3
     returns-3
     same-length-4
-    returns-4)
+    returns-4
+    same-length-5
+    returns-5)
