@@ -102,7 +102,7 @@ fn put_live_runs(
     done
 }
 
-// The same: a level that stands in the text is not asked for again at each cell.
+// The same by level: where the level is a constant, the walk is compiled for it and does not ask for it at each cell.
 fn put_live_data(
     out: &mut [u8],
     to: usize,
@@ -193,7 +193,7 @@ fn put_marked_ends(
     }
 }
 
-// The same, a level for each part of the text.
+// The same by level, as put_live_data.
 fn put_live_ends(
     out: &mut [u8],
     to: usize,
