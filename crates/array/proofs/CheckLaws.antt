@@ -23,40 +23,43 @@ use Rattle.array.specs.declared.kind.Values.{Values}
 use Rattle.array.specs.declared.array_bytes.Checked.{Checked}
 use Rattle.array.proofs.Rules.{content-ok, size-ok}
 
--- ---- offsets that never fall: what is left after i of them
+and-true : (b : Bool) → b && true ≡ b
+and-true true = refl
+and-true false = refl
 
-pub record Rise (os : List ℕ) (n i : ℕ) : Type 0 where
+and-assoc : (a b c : Bool) → a && (b && c) ≡ a && b && c
+and-assoc true b c = refl
+and-assoc false b c = refl
+
+-- ---- offsets that never fall: what the first i of them say, and what is left
+
+pub record Rise (os : List ℕ) (n : ℕ) (so-far : Bool) (i : ℕ) : Type 0 where
   pub enough : n < length os
   pub within : i ≤ n
-  pub same : risingTest (take (suc n) os) ≡ risingFromTest (getD os i 0) (take (n - i) (drop (suc i) os))
+  pub same : risingTest (take (suc n) os) ≡ so-far && risingFromTest (getD os i 0) (take (n - i) (drop (suc i) os))
 
-pub rise-begins : {os : List ℕ} {n : ℕ} → n < length os → Rise os n 0
+pub rise-begins : {os : List ℕ} {n : ℕ} → n < length os → Rise os n true 0
 rise-begins {os} {n} h = record { enough = h; within = omega arith; same = go os h }
   where
     go : (xs : List ℕ) → n < length xs → risingTest (take (suc n) xs) ≡ risingFromTest (getD xs 0 0) (take (n - 0) (drop 1 xs))
     go [] l = absurd (omega arith)
     go (x ∷ xs) l = let z : n ≡ n - 0 = omega arith in ap (λ (k : ℕ). risingFromTest x (take k xs)) z
 
-module _ {os : List ℕ} {n i : ℕ} (c : Rise os n i) where
-  pub rise-ends : n ≤ i → true ≡ risingTest (take (suc n) os)
-  rise-ends l = let z : n - i ≡ 0 = omega arith in sym (c .same ∙ ap (λ (k : ℕ). risingFromTest (getD os i 0) (take k (drop (suc i) os))) z)
+module _ {os : List ℕ} {n i : ℕ} {b : Bool} (c : Rise os n b i) where
+  pub rise-ends : n ≤ i → b ≡ risingTest (take (suc n) os)
+  rise-ends l = let z : n - i ≡ 0 = omega arith in sym (c .same ∙ ap (λ (k : ℕ). b && risingFromTest (getD os i 0) (take k (drop (suc i) os))) z ∙ and-true b)
 
-  -- what is left after i + 1
-  abbrev after : Bool
-  after = risingFromTest (getD os (i + 1) 0) (take (n - (i + 1)) (drop (suc (i + 1)) os))
-
-  rise-next : i < n → risingTest (take (suc n) os) ≡ leb (getD os i 0) (getD os (i + 1) 0) && after
-  rise-next l =
+  pub rise-more : i < n → Rise os n (b && leb (getD os i 0) (getD os (i + 1) 0)) (i + 1)
+  rise-more l = record
+      { enough = c .enough
+      ; within = omega arith
+      ; same =
       let z : n - i ≡ suc (n - (i + 1)) = omega arith in
       c .same
-      ∙ ap₂ (λ (k : ℕ) (r : List ℕ). risingFromTest (getD os i 0) (take k r)) z (drop-cons os (suc i) 0 (omega (arith, c .enough)))
-      ∙ ap (λ (k : ℕ). leb (getD os i 0) (getD os k 0) && risingFromTest (getD os k 0) (take (n - (i + 1)) (drop (suc k) os))) (sym (add-one i))
-
-  pub rise-more : i < n → getD os i 0 ≤ getD os (i + 1) 0 → Rise os n (i + 1)
-  rise-more l e = record { enough = c .enough; within = omega arith; same = rise-next l ∙ ap (λ (b : Bool). b && after) (le-leb (getD os i 0) (getD os (i + 1) 0) e) }
-
-  pub rise-falls : i < n → getD os (i + 1) 0 < getD os i 0 → false ≡ risingTest (take (suc n) os)
-  rise-falls l e = sym (rise-next l ∙ ap (λ (b : Bool). b && after) (lt-leb (getD os i 0) (getD os (i + 1) 0) e))
+      ∙ ap₂ (λ (k : ℕ) (r : List ℕ). b && risingFromTest (getD os i 0) (take k r)) z (drop-cons os (suc i) 0 (omega (arith, c .enough)))
+      ∙ ap (λ (k : ℕ). b && (leb (getD os i 0) (getD os k 0) && risingFromTest (getD os k 0) (take (n - (i + 1)) (drop (suc k) os)))) (sym (add-one i))
+      ∙ and-assoc b (leb (getD os i 0) (getD os (i + 1) 0)) (risingFromTest (getD os (i + 1) 0) (take (n - (i + 1)) (drop (suc (i + 1)) os)))
+      }
 
 -- the last of n + 1 offsets is the one at n
 pub last-at : (os : List ℕ) (n : ℕ) → length os ≡ suc n → last os ≡ getD os n 0

@@ -1,7 +1,9 @@
 // The array's rules: lengths that agree with the kind and the count of cells, offsets that never fall, few enough value bytes.
 ghost use mathlib.Core.Path.{_≡_};
+ghost use mathlib.Core.Bool.{_&&_};
 ghost use Prim.Native.Nat.{suc, _≤_, _<_};
 ghost use lib.ListN.{length, take};
+ghost use lib.Dec.{leb};
 ghost use Rattle.array.specs.Limits.{mostCells};
 ghost use Rattle.array.specs.Offsets.{risingTest};
 ghost use Rattle.array.specs.Meaning.{kindOf};
@@ -18,21 +20,25 @@ pub enum Checked {
     Refused(u8),
 }
 
-// Whether the first n + 1 offsets never fall.
+// Whether nothing has fallen so far, nor from a to b.
+fn still_rises(rising: bool, a: u64, b: u64) -> bool
+    ensures { λ r. ⌜ r ≡ rising && leb a b ⌝ }
+{
+    rising && a <= b
+}
+
+// Whether the first n + 1 offsets never fall. All are looked at, so that no turn waits for a branch.
 pub fn never_fall(offsets: &[u64], n: usize) -> bool
     requires { ⌜ n < length (now offsets) ⌝ }
     ensures { λ r. ⌜ r ≡ risingTest (take (suc n) (now (offsets .entry))) ⌝ }
 {
+    let mut rising = true;
     let mut i: usize = 0;
     while i < n {
-        let a = offsets[i];
-        let b = offsets[i + 1];
-        if b < a {
-            return false;
-        }
+        rising = still_rises(rising, offsets[i], offsets[i + 1]);
         i += 1;
     }
-    true
+    rising
 }
 
 // Whether an array of so many cells, with so many mask and value bytes and these offsets, has the lengths and offsets of its kind.

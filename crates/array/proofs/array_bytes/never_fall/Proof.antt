@@ -1,38 +1,40 @@
 -- `array::array_bytes::never_fall` meets its contract, by the laws of Rise.
 -- Assumes nothing.
-use Prim.Native.Nat.{_-_}
+use Prim.Native.Nat.{_+_, _-_}
+use mathlib.Core.Path.{sym, subst}
+use mathlib.Core.Bool.{Bool}
 use native.Mathlib.Omega.{arith}
 use borrow.Author.Needs.{needs}
-use Rattle.array.proofs.CheckLaws.{Rise, rise-begins, rise-ends, rise-more, rise-falls}
+use Rattle.array.proofs.CheckLaws.{Rise, rise-begins, rise-ends, rise-more}
 use Rattle.array.proofs.array_bytes.never_fall.Statement.{statement}
 use Rattle.array.proofs.array_bytes.never_fall.Tie as tie
 
 abbrev Inv-loop : tie.InvT-loop
-Inv-loop offsets n i₀ i = Rise offsets n i
+Inv-loop offsets n rising₀ i₀ rising i = Rise offsets n rising i
 
 abbrev μ-loop : tie.MeasureT-loop
-μ-loop offsets n i₀ i = n - i
+μ-loop offsets n rising₀ i₀ rising i = n - i
 
 loop-holds : tie.Need-loop-holds Inv-loop μ-loop
-loop-holds c = rise-begins (c .pre)
+loop-holds c = rise-begins (c .before .pre)
 
-mul-a : tie.Need-mul-a Inv-loop μ-loop
-mul-a c = search needs
+mul-still-rises : tie.Need-mul-still-rises Inv-loop μ-loop
+mul-still-rises c = search needs
 
-shared-slice-read-a : tie.Need-shared-slice-read-a Inv-loop μ-loop
-shared-slice-read-a c = search needs
+shared-slice-read-still-rises : tie.Need-shared-slice-read-still-rises Inv-loop μ-loop
+shared-slice-read-still-rises c = search needs
 
-add-b : tie.Need-add-b Inv-loop μ-loop
-add-b c = search needs
+add-still-rises : tie.Need-add-still-rises Inv-loop μ-loop
+add-still-rises c = search needs
 
-mul-b : tie.Need-mul-b Inv-loop μ-loop
-mul-b c = search needs
+mul-still-rises-2 : tie.Need-mul-still-rises-2 Inv-loop μ-loop
+mul-still-rises-2 c = search needs
 
-shared-slice-read-b : tie.Need-shared-slice-read-b Inv-loop μ-loop
-shared-slice-read-b c = search needs
+shared-slice-read-still-rises-2 : tie.Need-shared-slice-read-still-rises-2 Inv-loop μ-loop
+shared-slice-read-still-rises-2 c = search needs
 
-returns : tie.Need-returns Inv-loop μ-loop
-returns c = rise-falls (c .before .before .before .before .loop .inv) (omega arith) (omega arith)
+still-rises-requires : tie.Need-still-rises-requires Inv-loop μ-loop
+still-rises-requires c κs = search needs
 
 add-i : tie.Need-add-i Inv-loop μ-loop
 add-i c = search needs
@@ -41,10 +43,12 @@ loop-less : tie.Need-loop-less Inv-loop μ-loop
 loop-less c = omega arith
 
 loop-again : tie.Need-loop-again Inv-loop μ-loop
-loop-again c = rise-more (c .before .before .before .before .loop .inv) (omega arith) (omega arith)
+loop-again c =
+    subst (λ (b : Bool). Rise (c .before .before .before .before .before .before .args .offsets .now) (c .before .before .before .before .before .before .args .n) b (c .before .before .before .before .loop .i + 1)) (sym (c .still-rises .ensures))
+    (rise-more (c .before .before .before .before .loop .inv) (c .before .before .before .loop-test .taken))
 
-returns-2 : tie.Need-returns-2 Inv-loop μ-loop
-returns-2 c = rise-ends (c .before .loop .inv) (omega arith)
+returns : tie.Need-returns Inv-loop μ-loop
+returns c = rise-ends (c .before .loop .inv) (omega arith)
 
 pub never-fall-spec : {M : Type 1} → statement M
 never-fall-spec =
@@ -53,13 +57,13 @@ never-fall-spec =
     Inv-loop
     μ-loop
     loop-holds
-    mul-a
-    shared-slice-read-a
-    add-b
-    mul-b
-    shared-slice-read-b
-    returns
+    mul-still-rises
+    shared-slice-read-still-rises
+    add-still-rises
+    mul-still-rises-2
+    shared-slice-read-still-rises-2
+    still-rises-requires
     add-i
     loop-less
     loop-again
-    returns-2)
+    returns)
