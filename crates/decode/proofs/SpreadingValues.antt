@@ -23,7 +23,7 @@ use Rattle.codec.proofs.Marks.{null-byte, set-byte, count-le, count-block}
 use Rattle.codec.proofs.SpreadLaws.{length-spread}
 use Rattle.endian.proofs.Words.{le-zero}
 use Rattle.decode.specs.Runs.{runOf}
-use Rattle.decode.specs.Next.{ifSet, nextAt, valueFor}
+use Rattle.decode.specs.Next.{ifSet, nextAt}
 use Rattle.decode.proofs.RunLaws.{run-within, null-run, set-run, some-run, cellsLeft, valuesLeft, nulls-first, sets-first}
 
 -- ---- the sizes

@@ -1,6 +1,6 @@
 // Fixed values below masks, in the array's byte order. Those of the set cells are stored end to end.
+use crate::next::number_if;
 use crate::next::skip;
-use crate::next::word_if;
 use crate::runs::run_length;
 use array::copy::fill_bytes;
 use array::kind::ByteOrder;
@@ -66,7 +66,7 @@ fn spread_words(
     while k < cells {
         let v = word_at(s, at + k * size, size, order);
         let mark = mark_of(masks[from + i]);
-        put_word(values, i * size, size, word_if(mark, v));
+        put_word(values, i * size, size, number_if(mark, v, 0));
         k = skip(mark, k, 1);
         i += 1;
     }

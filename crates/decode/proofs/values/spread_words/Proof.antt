@@ -66,8 +66,8 @@ mark-of-requires c κs = search needs
 mul-put-word : tie.Need-mul-put-word Inv-loop μ-loop
 mul-put-word c = omega (arith, (room (c .before .before .before .before)))
 
-word-if-requires : tie.Need-word-if-requires Inv-loop μ-loop
-word-if-requires c κs = search needs
+number-if-requires : tie.Need-number-if-requires Inv-loop μ-loop
+number-if-requires c κs = search needs
 
 put-word-requires : tie.Need-put-word-requires Inv-loop μ-loop
 put-word-requires c κs = (c .before .before .before .before .before .before .before .before .before .before .pre .1, omega (arith, (room (c .before .before .before .before .before))))
@@ -82,7 +82,7 @@ loop-less : tie.Need-loop-less Inv-loop μ-loop
 loop-less c = omega (arith, (inside (c .before .before .before .before .before .before .before .before .before)), (long (c .before .before .before .before .before .before .before .before .before .before .before .before .before .before)))
 
 loop-again : tie.Need-loop-again Inv-loop μ-loop
-loop-again c = rw (c .skip .ensures) (values-more (c .before .before .before .before .before .before .before .before .before .before .loop .inv) (inside (c .before .before .before .before .before .before .before .before .before)) (toldMark (c .before .before .before .before .before .before .mark-of .result)) (mark-is (c .before .before .before .before .before .before)) (c .before .before .before .before .word-if .result) (c .before .before .before .before .before .before .before .before .word-at .result) (c .before .before .before .before .word-if .ensures) (c .before .before .before .before .before .before .before .before .word-at .ensures) _ (c .before .before .before .put-word .ensures))
+loop-again c = rw (c .skip .ensures) (values-more (c .before .before .before .before .before .before .before .before .before .before .loop .inv) (inside (c .before .before .before .before .before .before .before .before .before)) (toldMark (c .before .before .before .before .before .before .mark-of .result)) (mark-is (c .before .before .before .before .before .before)) (c .before .before .before .before .number-if .result) (c .before .before .before .before .before .before .before .before .word-at .result) (c .before .before .before .before .number-if .ensures) (c .before .before .before .before .before .before .before .before .word-at .ensures) _ (c .before .before .before .put-word .ensures))
 
 mul-fill-bytes : tie.Need-mul-fill-bytes Inv-loop μ-loop
 mul-fill-bytes c = omega (arith, (rest (c .before)))
@@ -116,7 +116,7 @@ spread-words-spec =
     shared-slice-read-mark-of
     mark-of-requires
     mul-put-word
-    word-if-requires
+    number-if-requires
     put-word-requires
     skip-requires
     add-i
