@@ -23,7 +23,7 @@ byte-over d j x h = stores-over j (x ∷ []) d (omega arith)
 pub byte-read : (s : List ℕ) (j : ℕ) → j < length s → getD s j 0 ∷ [] ≡ reverse (take 1 (drop j s))
 byte-read s j h = reads-take s j 1 (omega arith) ∙ sym (reverse-one (drop j s))
 
-length-back : (s : List ℕ) (at i : ℕ) → at + i ≤ length s → length (reverse (take i (drop at s))) ≡ i
+pub length-back : (s : List ℕ) (at i : ℕ) → at + i ≤ length s → length (reverse (take i (drop at s))) ≡ i
 length-back s at i h = length-reverse (take i (drop at s)) ∙ length-take-le i (drop at s) (omega (arith, length-drop at s))
 
 -- the last i of k bytes lie at `to` in what was d, and the first `left` are left

@@ -12,7 +12,7 @@ use Rattle.array.specs.Buffers.{over, overAt}
 use Rattle.array.specs.Kind.{Order, little, big, ordered}
 use Rattle.array.proofs.Lists.{map-id}
 use Rattle.array.proofs.Over.{over-again, over-at-length}
-use Rattle.array.proofs.Unrolled.{reads, reads-take, stores, stores-over}
+use Rattle.array.proofs.Unrolled.{reads, reads-take}
 use Rattle.endian.specs.Calls.{reversedCells}
 
 -- ---- what is laid behind what was laid
@@ -74,17 +74,36 @@ reversed-take k (suc n) s h =
     ∙ ap₂ (λ (v r : List ℕ). reverse v ++ reversedCells k n r) (take-at a b k la) (drop-at a b k la)
     ∙ ap (λ (r : List ℕ). reverse a ++ r) (reversed-take k n (drop k s) (omega (arith, length-drop k s)))
 
-pub cells-at-once : (k n : ℕ) (s d : List ℕ) (at to : ℕ) → to + n * k ≤ length d → at + n * k ≤ length s
-    → stores d to (reversedCells k n (reads s at (n * k))) ≡ overAt to (reversedCells k n (drop at s)) d
-cells-at-once k n s d at to p q =
-    let h : n * k ≤ length (drop at s) = omega (arith, length-drop at s) in
+reads-reversed : (k n : ℕ) (s : List ℕ) (at : ℕ) → at + n * k ≤ length s → reversedCells k n (reads s at (n * k)) ≡ reversedCells k n (drop at s)
+reads-reversed k n s at q = ap (reversedCells k n) (reads-take s at (n * k) q) ∙ reversed-take k n (drop at s) (omega (arith, length-drop at s))
+
+pub cells-written : (k n : ℕ) (s d : List ℕ) (at to : ℕ) → at + n * k ≤ length s → {out : List ℕ} → out ≡ overAt to (reversedCells k n (reads s at (n * k))) d → out ≡ overAt to (reversedCells k n (drop at s)) d
+cells-written k n s d at to q e = e ∙ ap (λ (l : List ℕ). overAt to l d) (reads-reversed k n s at q)
+
+-- m bytes of them, and then the others
+pub cells-at-once : (k n m : ℕ) (s d : List ℕ) (at to : ℕ) → m ≤ n * k → to + n * k ≤ length d → at + n * k ≤ length s → {out out′ : List ℕ}
+    → out ≡ overAt to (take m (reversedCells k n (reads s at (n * k)))) d → out′ ≡ overAt (to + m) (drop m (reversedCells k n (reads s at (n * k)))) out
+    → out′ ≡ overAt to (reversedCells k n (drop at s)) d
+cells-at-once k n m s d at to b p q f g =
     let v : List ℕ = reversedCells k n (reads s at (n * k)) in
-    let e : v ≡ reversedCells k n (drop at s) = ap (reversedCells k n) (reads-take s at (n * k) q) ∙ reversed-take k n (drop at s) h in
-    stores-over to v d (omega (arith, ap length e, length-reversed k n (drop at s) h)) ∙ ap (λ (w : List ℕ). overAt to w d) e
+    let e : v ≡ reversedCells k n (drop at s) = reads-reversed k n s at q in
+    let l : length (take m v) ≡ m = length-take-le m v (omega (arith, ap length e, length-reversed k n (drop at s) (omega (arith, length-drop at s)))) in
+    g ∙ ap (overAt (to + m) (drop m v)) f ∙ over-next to m (take m v) (drop m v) d (omega arith) l ∙ ap (λ (w : List ℕ). overAt to w d) (take-append-drop m v ∙ e)
+
+-- two cells, one after the other
+pub two-cells : (k : ℕ) (s d : List ℕ) (at to : ℕ) → to + (k + k) ≤ length d → at + (k + k) ≤ length s → {out out′ : List ℕ}
+    → out ≡ overAt to (reverse (take k (drop at s))) d → out′ ≡ overAt (to + k) (reverse (take k (drop (at + k) s))) out
+    → out′ ≡ overAt to (reversedCells k 2 (drop at s)) d
+two-cells k s d at to p q e f =
+    let x : List ℕ = reverse (take k (drop at s)) in
+    let y : List ℕ = reverse (take k (drop (at + k) s)) in
+    let l : length x ≡ k = length-reverse (take k (drop at s)) ∙ length-take-le k (drop at s) (omega (arith, length-drop at s)) in
+    f ∙ ap (overAt (to + k) y) e ∙ over-next to k x y d (omega arith) l
+    ∙ ap (λ (w : List ℕ). overAt to (x ++ w) d) (sym (append-nil (reverse (take k (drop k (drop at s)))) ∙ ap (λ (r : List ℕ). reverse (take k r)) (drop-drop k at s)))
 
 -- ---- the two orders
 
-pub cells-little : (k n : ℕ) (s : List ℕ) (o : Order) → o ≡ little → take (n * k) s ≡ joined (map (ordered o) (pieces k n s))
+cells-little : (k n : ℕ) (s : List ℕ) (o : Order) → o ≡ little → take (n * k) s ≡ joined (map (ordered o) (pieces k n s))
 cells-little k n s o e = go n s ∙ ap joined (sym (map-id (pieces k n s))) ∙ ap (λ (x : Order). joined (map (ordered x) (pieces k n s))) (sym e)
   where
     go : (n : ℕ) (s : List ℕ) → take (n * k) s ≡ joined (pieces k n s)
@@ -93,8 +112,18 @@ cells-little k n s o e = go n s ∙ ap joined (sym (map-id (pieces k n s))) ∙ 
         let q : suc n * k ≡ k + n * k = omega (arith, suc-mul n k) in
         ap (λ (m : ℕ). take m s) q ∙ take-add k (n * k) s ∙ ap (λ (r : List ℕ). take k s ++ r) (go n (drop k s))
 
-pub cells-big : (k n : ℕ) (s : List ℕ) (o : Order) → o ≡ big → reversedCells k n s ≡ joined (map (ordered o) (pieces k n s))
-cells-big k n s o e = ap (λ (x : Order). joined (map (ordered x) (pieces k n s))) (sym e)
+-- the output, said of another order or size
+pub copied-little : (to k n : ℕ) (s d : List ℕ) {o : Order} → o ≡ little → {out : List ℕ} → out ≡ overAt to (take (n * k) s) d → out ≡ overAt to (joined (map (ordered o) (pieces k n s))) d
+copied-little to k n s d {o} e f = f ∙ ap (λ (l : List ℕ). overAt to l d) (cells-little k n s o e)
+
+pub copied-big : (to k n : ℕ) (s d : List ℕ) {o : Order} → o ≡ big → {out : List ℕ} → out ≡ overAt to (reversedCells k n s) d → out ≡ overAt to (joined (map (ordered o) (pieces k n s))) d
+copied-big to k n s d e f = f ∙ ap (λ (x : Order). overAt to (joined (map (ordered x) (pieces k n s))) d) (sym e)
+
+pub copied-sized : (to n : ℕ) (s d : List ℕ) {k j : ℕ} → k ≡ j → {out : List ℕ} → out ≡ overAt to (reversedCells j n s) d → out ≡ overAt to (reversedCells k n s) d
+copied-sized to n s d e f = f ∙ ap (λ (j : ℕ). overAt to (reversedCells j n s) d) (sym e)
+
+pub copied-ones : (to n : ℕ) (s d : List ℕ) {k : ℕ} → k ≡ 1 → {out : List ℕ} → out ≡ overAt to (take n s) d → out ≡ overAt to (reversedCells k n s) d
+copied-ones to n s d e f = copied-sized to n s d e (f ∙ ap (λ (l : List ℕ). overAt to l d) (reversed-ones n s))
 
 -- ---- copied one after another: the first i of n cells lie at `to` in what was d
 

@@ -1,85 +1,71 @@
--- Cells reversed in place, for any size: a cell by its ends or at once, and one cell after another.
+-- Cells reversed in place, for any size: one after another, any number of them a turn; and a cell by its ends, any number of bytes a turn.
 -- Assumes nothing.
 use mathlib.Core.Path.{_≡_, refl, sym, ap, ap₂, _∙_}
 use mathlib.Core.Bool.{true, false}
-use mathlib.Core.List.{List, [], _∷_, _++_, reverse, append-assoc, reverse-cons, reverse-append, reverseAux-append}
-use Prim.Native.Nat.{ℕ, zero, suc, _+_, _-_, _*_, _/_, _≤_, _<_}
-use native.Mathlib.Nat.{suc-mul, mul-one, mul-le-mul-right, div-mul-le-self, div-one}
+use mathlib.Core.List.{List, [], _∷_, _++_, reverse, append-assoc, reverse-append}
+use Prim.Native.Nat.{ℕ, suc, _+_, _-_, _*_, _/_, _≤_, _<_}
+use native.Mathlib.Nat.{suc-mul, add-mul, mul-le-mul-right, div-mul-le-self}
 use native.Mathlib.Omega.{arith}
-use native.Mathlib.Numerals.{add-one}
-use lib.ListN.{length, take, drop, getD, set, length-append, length-take, length-drop, length-set, length-reverse, take-append-drop}
-use lib.Seq.{drop-drop, take-suc, take-add, take-at, drop-at, set-at, split-at, length-take-le, getD-drop}
+use lib.ListN.{length, take, drop, getD, set, length-append, length-take, length-drop, length-reverse, take-append-drop}
+use lib.Seq.{drop-drop, take-add, take-at, drop-at, length-take-le}
 use Rattle.array.specs.Buffers.{over, overAt}
 use Rattle.array.specs.Answer.{gives, refuses}
 use Rattle.array.specs.Kind.{fixed, little, formTest}
-use Rattle.endian.specs.Calls.{wholeCells, reversedCells, cellsReversed, reverseAnswer, endiannessReversed}
-use Rattle.endian.proofs.CellLaws.{reversed-one, reversed-add, length-reversed}
-use Rattle.array.proofs.Over.{over-length, over-again}
-use Rattle.array.proofs.Laying.{Laying, laying-begins, laying-same, laying-ends, laying-store, laying-is, laying-room}
-use Rattle.array.proofs.Unrolled.{reads, reads-take, stores, stores-over}
+use Rattle.array.proofs.Over.{over-length, over-again, over-at-length}
+use Rattle.endian.specs.Calls.{wholeCells, reversedCells, reverseAnswer, endiannessReversed}
+use Rattle.endian.proofs.CellLaws.{reversed-one, reversed-ones, reversed-add, length-reversed}
+use Rattle.endian.proofs.Backing.{byte-over, byte-read, length-back}
 
 -- the k bytes at `at` reversed, all else as it was
 abbrev pub cellReversed : ℕ → ℕ → List ℕ → List ℕ
 cellReversed at k d = overAt at (reverse (take k (drop at d))) d
 
--- ---- a cell at once: all its bytes read, then written the other way round
+-- ---- cell after cell: the first i of n cells of d are reversed in out
 
-pub reversed-at-once : (at k : ℕ) (d : List ℕ) → at + k ≤ length d → stores d at (reverse (reads d at k)) ≡ cellReversed at k d
-reversed-at-once at k d h =
-    let e : reads d at k ≡ take k (drop at d) = reads-take d at k h in
-    let l : length (reverse (reads d at k)) ≡ k = length-reverse (reads d at k) ∙ ap length e ∙ length-take-le k (drop at d) (omega (arith, length-drop at d)) in
-    stores-over at (reverse (reads d at k)) d (omega arith) ∙ ap (λ (s : List ℕ). overAt at (reverse s) d) e
-
--- ---- cell after cell
-
--- the first i cells of d are reversed in out
-pub record Reversing (k : ℕ) (d out : List ℕ) (i : ℕ) : Type 0 where
-  pub within : i ≤ length d / k
+pub record Reversing (k n : ℕ) (d out : List ℕ) (i : ℕ) : Type 0 where
+  pub within : i ≤ n
+  pub room : n * k ≤ length d
   pub here : out ≡ over (reversedCells k i d) d
 
-module _ (k : ℕ) (d : List ℕ) where
-  pub reversing-begins : Reversing k d d 0
-  reversing-begins = record { within = omega arith; here = refl }
+pub reversing-begins : {k n : ℕ} {d : List ℕ} → n * k ≤ length d → Reversing k n d d 0
+reversing-begins h = record { within = omega arith; room = h; here = refl }
 
-  fits : (i : ℕ) → i ≤ length d / k → i * k ≤ length d
-  fits i h = omega (arith, mul-le-mul-right k h, div-mul-le-self (length d) k)
+module _ {k n : ℕ} {d out : List ℕ} {i : ℕ} (l : Reversing k n d out i) where
+  front : length (reversedCells k i d) ≡ i * k
+  front = length-reversed k i d (omega (arith, l .room, mul-le-mul-right {m = i} {n = n} k (l .within)))
 
-  module _ (out : List ℕ) (i : ℕ) (l : Reversing k d out i) where
-    front : length (reversedCells k i d) ≡ i * k
-    front = length-reversed k i d (fits i (l .within))
+  pub reversing-same : length out ≡ length d
+  reversing-same = ap length (l .here) ∙ over-length (reversedCells k i d) d (omega (arith, front, l .room, mul-le-mul-right {m = i} {n = n} k (l .within)))
 
-    pub reversing-same : length out ≡ length d
-    reversing-same = ap length (l .here) ∙ over-length (reversedCells k i d) d (omega (arith, front, fits i (l .within)))
+  pub reversing-ends : n ≤ i → out ≡ over (reversedCells k n d) d
+  reversing-ends h = let e : i ≡ n = omega (arith, l .within) in l .here ∙ ap (λ (j : ℕ). over (reversedCells k j d) d) e
 
-    pub reversing-ends : length d / k ≤ i → out ≡ cellsReversed k d
-    reversing-ends h =
-        let e : i ≡ length d / k = omega (arith, l .within) in
-        l .here ∙ ap (λ (j : ℕ). reversedCells k i d ++ drop j d) front ∙ ap (λ (n : ℕ). reversedCells k n d ++ drop (n * k) d) e
+  -- m cells more
+  pub reversing-more : (m : ℕ) → i + m ≤ n → {out′ : List ℕ} → out′ ≡ overAt (i * k) (reversedCells k m (drop (i * k) out)) out → Reversing k n d out′ (i + m)
+  reversing-more m h e =
+      let f : List ℕ = reversedCells k i d in
+      let same : drop (i * k) out ≡ drop (i * k) d = ap (drop (i * k)) (l .here) ∙ drop-at f (drop (length f) d) (i * k) front ∙ ap (λ (j : ℕ). drop j d) front in
+      record {
+        within = h;
+        room = l .room;
+        here = e ∙ ap₂ (λ (r o : List ℕ). overAt (i * k) (reversedCells k m r) o) same (l .here) ∙ over-again f (reversedCells k m (drop (i * k) d)) d (i * k) front
+            ∙ ap (λ (r : List ℕ). over r d) (sym (reversed-add k i m d));
+      }
 
-    module _ (h : i < length d / k) where
-      pub reversing-room : i * k + k ≤ length out
-      reversing-room = omega (arith, fits (suc i) h, suc-mul i k, reversing-same)
+  module _ (h : i < n) where
+    pub reversing-room : i * k + k ≤ length out
+    reversing-room = omega (arith, mul-le-mul-right {m = suc i} {n = n} k (omega arith), suc-mul i k, l .room, reversing-same)
 
-      pub reversing-more : (out′ : List ℕ) → out′ ≡ cellReversed (i * k) k out → Reversing k d out′ (i + 1)
-      reversing-more out′ e =
-          let f : List ℕ = reversedCells k i d in
-          let same : drop (i * k) out ≡ drop (i * k) d = ap (drop (i * k)) (l .here) ∙ drop-at f (drop (length f) d) (i * k) front ∙ ap (λ (j : ℕ). drop j d) front in
-          record {
-            within = omega arith;
-            here = e ∙ ap₂ (λ (r o : List ℕ). overAt (i * k) (reverse (take k r)) o) same (l .here)
-                ∙ over-again f (reverse (take k (drop (i * k) d))) d (i * k) front
-                ∙ ap (λ (r : List ℕ). over r d) (sym (reversed-add k i 1 d ∙ ap (λ (v : List ℕ). f ++ v) (sym (reversed-one k (drop (i * k) d)))));
-          }
+    pub reversing-next : {out′ : List ℕ} → out′ ≡ cellReversed (i * k) k out → Reversing k n d out′ (i + 1)
+    reversing-next e = reversing-more 1 (omega arith) (e ∙ ap (λ (g : List ℕ). overAt (i * k) g out) (reversed-one k (drop (i * k) out)))
 
 -- cells of one byte stay as they are
-pub ones-reversed : (d : List ℕ) → d ≡ cellsReversed 1 d
-ones-reversed d = sym (ap (λ (n : ℕ). reversedCells 1 n d ++ drop (n * 1) d) (div-one (length d)) ∙ ap (λ (n : ℕ). reversedCells 1 (length d) d ++ drop n d) (mul-one (length d)) ∙ go d)
-  where
-    go : (s : List ℕ) → reversedCells 1 (length s) s ++ drop (length s) s ≡ s
-    go [] = refl
-    go (x ∷ s) = ap (λ (r : List ℕ). x ∷ r) (go s)
+pub ones-reversed : (n : ℕ) (d : List ℕ) → n * 1 ≤ length d → d ≡ over (reversedCells 1 n d) d
+ones-reversed n d h =
+    let e : length (reversedCells 1 n d) ≡ n = omega (arith, length-reversed 1 n d h) in
+    sym (ap₂ (λ (a : List ℕ) (j : ℕ). a ++ drop j d) (sym (reversed-ones n d)) e ∙ take-append-drop n d)
 
--- ---- a cell by its ends: they are swapped, and what lies between them is left to reverse
+-- ---- a cell by its ends: they are swapped, each reversed, and what lies between them is left to reverse
 
 over-middle : (p m q g : List ℕ) (n : ℕ) → length p ≡ n → length g ≡ length m → overAt n g (p ++ (m ++ q)) ≡ p ++ (g ++ q)
 over-middle p m q g n e f =
@@ -90,68 +76,79 @@ over-middle p m q g n e f =
     ∙ ap (λ (r : List ℕ). p ++ g ++ r) (drop-at (p ++ m) q (length (p ++ m)) refl)
     ∙ append-assoc p g q
 
-reverse-ends : (x : ℕ) (m : List ℕ) (y : ℕ) → reverse (x ∷ (m ++ (y ∷ []))) ≡ (y ∷ reverse m) ++ (x ∷ [])
-reverse-ends x m y = reverse-cons x (m ++ (y ∷ [])) ∙ ap (λ (r : List ℕ). r ++ (x ∷ [])) (reverse-append m (y ∷ []))
+middle-reversed : (p m q : List ℕ) (n k : ℕ) → length p ≡ n → length m ≡ k → cellReversed n k (p ++ (m ++ q)) ≡ p ++ (reverse m ++ q)
+middle-reversed p m q n k e f =
+    ap (λ (r : List ℕ). overAt n (reverse r) (p ++ (m ++ q))) (ap (take k) (drop-at p (m ++ q) n e) ∙ take-at m q k f) ∙ over-middle p m q (reverse m) n e (length-reverse m)
 
--- a cell x m y with p before it and q behind it
-abbrev ended : List ℕ → ℕ → List ℕ → ℕ → List ℕ → List ℕ
-ended p x m y q = p ++ ((x ∷ (m ++ (y ∷ []))) ++ q)
-
-module _ (p : List ℕ) (x : ℕ) (m : List ℕ) (y : ℕ) (q : List ℕ) (low left : ℕ) (ep : length p ≡ low) (em : length m + 2 ≡ left) where
-  ends-reversed : cellReversed low left (ended p x m y q) ≡ p ++ (((y ∷ reverse m) ++ (x ∷ [])) ++ q)
+-- the ends x and y of a cell x m y, with p before it and q behind it
+module _ (p x m y q : List ℕ) (low left j : ℕ) (ep : length p ≡ low) (ex : length x ≡ j) (ey : length y ≡ j) (em : length m + (j + j) ≡ left) where
+  ends-reversed : cellReversed low left (p ++ (x ++ (m ++ (y ++ q)))) ≡ p ++ (reverse y ++ (reverse m ++ (reverse x ++ q)))
   ends-reversed =
-      let cell : List ℕ = x ∷ (m ++ (y ∷ [])) in
-      let long : length cell ≡ left = omega (arith, length-append m (y ∷ [])) in
-      ap (λ (r : List ℕ). overAt low (reverse r) (ended p x m y q)) (ap (take left) (drop-at p (cell ++ q) low ep) ∙ take-at cell q left long)
-      ∙ over-middle p cell q (reverse cell) low ep (length-reverse cell)
-      ∙ ap (λ (r : List ℕ). p ++ (r ++ q)) (reverse-ends x m y)
+      let c : List ℕ = x ++ (m ++ y) in
+      let lc : length c ≡ left = omega (arith, length-append x (m ++ y), length-append m y) in
+      let g : p ++ (x ++ (m ++ (y ++ q))) ≡ p ++ (c ++ q) = ap (λ (r : List ℕ). p ++ r) (sym (append-assoc x (m ++ y) q ∙ ap (λ (r : List ℕ). x ++ r) (append-assoc m y q))) in
+      let rc : reverse c ≡ (reverse y ++ reverse m) ++ reverse x = reverse-append x (m ++ y) ∙ ap (λ (r : List ℕ). r ++ reverse x) (reverse-append m y) in
+      ap (cellReversed low left) g ∙ middle-reversed p c q low left ep lc
+      ∙ ap (λ (r : List ℕ). p ++ r)
+      (ap (λ (r : List ℕ). r ++ q) rc ∙ append-assoc (reverse y ++ reverse m) (reverse x) q ∙ append-assoc (reverse y) (reverse m) (reverse x ++ q))
 
-  -- with the ends swapped
-  between-reversed : cellReversed (low + 1) (left - 2) (p ++ (y ∷ []) ++ (m ++ (x ∷ q))) ≡ p ++ (y ∷ []) ++ (reverse m ++ (x ∷ q))
-  between-reversed =
-      let e : length (p ++ (y ∷ [])) ≡ low + 1 = omega (arith, length-append p (y ∷ [])) in
-      let f : length m ≡ left - 2 = omega arith in
-      ap (λ (r : List ℕ). overAt (low + 1) (reverse r) (p ++ (y ∷ []) ++ (m ++ (x ∷ q))))
-      (ap (take (left - 2)) (drop-at (p ++ (y ∷ [])) (m ++ (x ∷ q)) (low + 1) e) ∙ take-at m (x ∷ q) (left - 2) f)
-      ∙ over-middle (p ++ (y ∷ [])) m (x ∷ q) (reverse m) (low + 1) e (length-reverse m)
-
-  ends-swapped : set (set (ended p x m y q) low y) (low + (left - 1)) x ≡ p ++ (y ∷ []) ++ (m ++ (x ∷ q))
+  ends-swapped : overAt (low + (left - j)) (reverse x) (overAt low (reverse y) (p ++ (x ++ (m ++ (y ++ q))))) ≡ p ++ (reverse y ++ (m ++ (reverse x ++ q)))
   ends-swapped =
-      let e : length (p ++ (y ∷ []) ++ m) ≡ low + (left - 1) = omega (arith, length-append (p ++ (y ∷ [])) m, length-append p (y ∷ [])) in
-      let r : List ℕ = m ++ (y ∷ []) ++ q in
-      ap (λ (s : List ℕ). set s (low + (left - 1)) x)
-      (set-at p x r y low ep
-      ∙ sym (append-assoc p (y ∷ []) r)
-      ∙ ap (λ (s : List ℕ). p ++ (y ∷ []) ++ s) (append-assoc m (y ∷ []) q)
-      ∙ sym (append-assoc (p ++ (y ∷ [])) m (y ∷ q)))
-      ∙ set-at (p ++ (y ∷ []) ++ m) y q x (low + (left - 1)) e
-      ∙ append-assoc (p ++ (y ∷ [])) m (x ∷ q)
+      let p′ : List ℕ = p ++ (reverse y ++ m) in
+      let lp : length p′ ≡ low + (left - j) = omega (arith, length-append p (reverse y ++ m), length-append (reverse y) m, length-reverse y) in
+      let lr : length (reverse y) ≡ length x = length-reverse y ∙ ey ∙ sym ex in
+      let lx : length (reverse x) ≡ length y = length-reverse x ∙ ex ∙ sym ey in
+      let in-front : (r : List ℕ) → p′ ++ r ≡ p ++ (reverse y ++ (m ++ r)) =
+      λ r. append-assoc p (reverse y ++ m) r ∙ ap (λ (z : List ℕ). p ++ z) (append-assoc (reverse y) m r) in
+      ap (overAt (low + (left - j)) (reverse x)) (over-middle p x (m ++ (y ++ q)) (reverse y) low ep lr ∙ sym (in-front (y ++ q)))
+      ∙ over-middle p′ y q (reverse x) (low + (left - j)) lp lx ∙ in-front (reverse x ++ q)
 
-  ends-first : cellReversed low left (ended p x m y q) ≡ cellReversed (low + 1) (left - 2) (set (set (ended p x m y q) low y) (low + (left - 1)) x)
-  ends-first =
-      ends-reversed
-      ∙ ap (λ (r : List ℕ). p ++ (y ∷ r)) (append-assoc (reverse m) (x ∷ []) q)
-      ∙ sym (append-assoc p (y ∷ []) (reverse m ++ (x ∷ q)))
-      ∙ sym (ap (cellReversed (low + 1) (left - 2)) ends-swapped ∙ between-reversed)
+  between-reversed : cellReversed (low + j) (left - (j + j)) (p ++ (reverse y ++ (m ++ (reverse x ++ q)))) ≡ p ++ (reverse y ++ (reverse m ++ (reverse x ++ q)))
+  between-reversed =
+      let lp : length (p ++ reverse y) ≡ low + j = omega (arith, length-append p (reverse y), length-reverse y) in
+      let lm : length m ≡ left - (j + j) = omega arith in
+      ap (cellReversed (low + j) (left - (j + j))) (sym (append-assoc p (reverse y) (m ++ (reverse x ++ q))))
+      ∙ middle-reversed (p ++ reverse y) m (reverse x ++ q) (low + j) (left - (j + j)) lp lm
+      ∙ append-assoc p (reverse y) (reverse m ++ (reverse x ++ q))
 
-swap-ends : (out : List ℕ) (low left : ℕ) → 1 < left → low + left ≤ length out
-    → cellReversed low left out ≡ cellReversed (low + 1) (left - 2) (set (set out low (getD out (low + (left - 1)) 0)) (low + (left - 1)) (getD out low 0))
-swap-ends out low left h room =
+-- j bytes at low and j at high, each reversed and in the other's place
+abbrev pub swapped : ℕ → ℕ → ℕ → List ℕ → List ℕ
+swapped j low high d = overAt high (reverse (take j (drop low d))) (overAt low (reverse (take j (drop high d))) d)
+
+pub bytes-swapped : (low high : ℕ) (d : List ℕ) → low < length d → high < length d → set (set d low (getD d high 0)) high (getD d low 0) ≡ swapped 1 low high d
+bytes-swapped low high d a b =
+    let f : set d low (getD d high 0) ≡ overAt low (reverse (take 1 (drop high d))) d = byte-over d low (getD d high 0) a ∙ ap (λ (w : List ℕ). overAt low w d) (byte-read d high b) in
+    let d′ : List ℕ = overAt low (reverse (take 1 (drop high d))) d in
+    let s : length d′ ≡ length d = over-at-length low (reverse (take 1 (drop high d))) d (omega (arith, length-back d high 1 (omega arith))) in
+    ap (λ (o : List ℕ). set o high (getD d low 0)) f ∙ byte-over d′ high (getD d low 0) (omega arith) ∙ ap (λ (w : List ℕ). overAt high w d′) (byte-read d low a)
+
+swap-ends : (out : List ℕ) (low left j : ℕ) → j + j ≤ left → low + left ≤ length out
+    → cellReversed low left out ≡ cellReversed (low + j) (left - (j + j)) (swapped j low (low + (left - j)) out)
+swap-ends out low left j h room =
+    let k : ℕ = left - (j + j) in
     let p : List ℕ = take low out in
-    let x : ℕ = getD out low 0 in
-    let r : List ℕ = drop (suc low) out in
-    let k : ℕ = left - 2 in
-    let m : List ℕ = take k r in
-    let y : ℕ = getD out (low + (left - 1)) 0 in
-    let q : List ℕ = drop (suc k) r in
-    let lr : k < length r = omega (arith, length-drop (suc low) out) in
-    let ey : getD r k 0 ≡ y = getD-drop (suc low) out k 0 ∙ ap (λ (j : ℕ). getD out j 0) (omega arith) in
-    let er : r ≡ m ++ (y ∷ []) ++ q = split-at r k 0 lr ∙ ap (λ (z : ℕ). m ++ (z ∷ q)) ey ∙ sym (append-assoc m (y ∷ []) q) in
-    let e : out ≡ ended p x m y q = split-at out low 0 (omega arith) ∙ ap (λ (s : List ℕ). p ++ (x ∷ s)) er in
-    let lp : length p ≡ low = length-take-le low out (omega arith) in
-    let lm : length m + 2 ≡ left = omega (arith, length-take-le k r (omega arith)) in
-    ap (cellReversed low left) e ∙ ends-first p x m y q low left lp lm
-    ∙ ap (λ (o : List ℕ). cellReversed (low + 1) (left - 2) (set (set o low y) (low + (left - 1)) x)) (sym e)
+    let r : List ℕ = drop low out in
+    let x : List ℕ = take j r in
+    let m : List ℕ = take k (drop j r) in
+    let s : List ℕ = drop k (drop j r) in
+    let y : List ℕ = take j s in
+    let q : List ℕ = drop j s in
+    let lr : length r ≡ length out - low = length-drop low out in
+    let lj : length (drop j r) ≡ length r - j = length-drop j r in
+    let ls : length s ≡ length (drop j r) - k = length-drop k (drop j r) in
+    let n : low + j + k ≡ low + (left - j) = omega arith in
+    let es : drop (low + (left - j)) out ≡ s = sym (ap (drop k) (drop-drop j low out) ∙ drop-drop k (low + j) out ∙ ap (λ (i : ℕ). drop i out) n) in
+    let e : p ++ (x ++ (m ++ (y ++ q))) ≡ out =
+    ap (λ (z : List ℕ). p ++ z) (ap (λ (z : List ℕ). x ++ z) (ap (λ (z : List ℕ). m ++ z) (take-append-drop j s) ∙ take-append-drop k (drop j r)) ∙ take-append-drop j r) ∙ take-append-drop low out in
+    let ep : length p ≡ low = length-take-le low out (omega arith) in
+    let ex : length x ≡ j = length-take-le j r (omega arith) in
+    let ey : length y ≡ j = length-take-le j s (omega arith) in
+    let em : length m + (j + j) ≡ left = omega (arith, length-take-le k (drop j r) (omega arith)) in
+    ap (cellReversed low left) (sym e) ∙ ends-reversed p x m y q low left j ep ex ey em
+    ∙ sym (ap (cellReversed (low + j) k)
+    (ap (λ (z : List ℕ). overAt (low + (left - j)) (reverse x) (overAt low (reverse (take j z)) out)) es
+    ∙ ap (λ (z : List ℕ). overAt (low + (left - j)) (reverse x) (overAt low (reverse y) z)) (sym e) ∙ ends-swapped p x m y q low left j ep ex ey em)
+    ∙ between-reversed p x m y q low left j ep ex ey em)
 
 -- d's cell is reversed once the cell of out that is left is
 pub record Swapping (at k : ℕ) (d out : List ℕ) (low left : ℕ) : Type 0 where
@@ -159,30 +156,38 @@ pub record Swapping (at k : ℕ) (d out : List ℕ) (low left : ℕ) : Type 0 wh
   pub room : low + left ≤ length out
   pub comes-to : cellReversed at k d ≡ cellReversed low left out
 
-module _ (at k : ℕ) (d : List ℕ) where
-  pub swapping-begins : at + k ≤ length d → Swapping at k d d at k
-  swapping-begins h = record { same = refl; room = h; comes-to = refl }
+pub swapping-begins : {at k : ℕ} {d : List ℕ} → at + k ≤ length d → Swapping at k d d at k
+swapping-begins h = record { same = refl; room = h; comes-to = refl }
 
-  module _ (out : List ℕ) (low left : ℕ) (l : Swapping at k d out low left) where
-    pub swapping-more : 1 < left → Swapping at k d (set (set out low (getD out (low + (left - 1)) 0)) (low + (left - 1)) (getD out low 0)) (low + 1) (left - 2)
-    swapping-more h = record {
-      same = simp length-set (l .same);
-      room = simp length-set (omega (arith, l .room));
-      comes-to = l .comes-to ∙ swap-ends out low left h (l .room);
-    }
+module _ {at k : ℕ} {d out : List ℕ} {low left : ℕ} (l : Swapping at k d out low left) where
+  pub swapping-more : (j : ℕ) → j + j ≤ left → {out′ : List ℕ} → out′ ≡ swapped j low (low + (left - j)) out → Swapping at k d out′ (low + j) (left - (j + j))
+  swapping-more j h e =
+      let high : ℕ = low + (left - j) in
+      let a : List ℕ = reverse (take j (drop high out)) in
+      let b : List ℕ = reverse (take j (drop low out)) in
+      let la : length a ≡ j = length-back out high j (omega (arith, l .room)) in
+      let lb : length b ≡ j = length-back out low j (omega (arith, l .room)) in
+      let s : length (overAt low a out) ≡ length out = over-at-length low a out (omega (arith, l .room)) in
+      let t : length (overAt high b (overAt low a out)) ≡ length out = over-at-length high b (overAt low a out) (omega (arith, l .room)) ∙ s in
+      let u = ap length e in
+      record {
+        same = u ∙ t ∙ l .same;
+        room = omega (arith, l .room);
+        comes-to = l .comes-to ∙ swap-ends out low left j h (l .room) ∙ ap (cellReversed (low + j) (left - (j + j))) (sym e);
+      }
 
-    pub swapping-ends : left ≤ 1 → out ≡ cellReversed at k d
-    swapping-ends h = sym (l .comes-to ∙ ap (λ (r : List ℕ). overAt low r out) (short (take left (drop low out)) (omega (arith, length-take left (drop low out)))) ∙ kept)
-      where
-        short : (s : List ℕ) → length s ≤ 1 → reverse s ≡ s
-        short [] q = refl
-        short (x ∷ []) q = refl
-        short (x ∷ (y ∷ s)) q = absurd (omega arith)
+  pub swapping-ends : left ≤ 1 → out ≡ cellReversed at k d
+  swapping-ends h = sym (l .comes-to ∙ ap (λ (r : List ℕ). overAt low r out) (short (take left (drop low out)) (omega (arith, length-take left (drop low out)))) ∙ kept)
+    where
+      short : (s : List ℕ) → length s ≤ 1 → reverse s ≡ s
+      short [] q = refl
+      short (x ∷ []) q = refl
+      short (x ∷ (y ∷ s)) q = absurd (omega arith)
 
-        kept : overAt low (take left (drop low out)) out ≡ out
-        kept =
-            let e : take low out ++ take left (drop low out) ≡ take (low + left) out = sym (take-add low left out) in
-            ap (λ (r : List ℕ). over r out) e ∙ ap (λ (j : ℕ). take (low + left) out ++ drop j out) (length-take-le (low + left) out (l .room)) ∙ take-append-drop (low + left) out
+      kept : overAt low (take left (drop low out)) out ≡ out
+      kept =
+          let e : take low out ++ take left (drop low out) ≡ take (low + left) out = sym (take-add low left out) in
+          ap (λ (r : List ℕ). over r out) e ∙ ap (λ (j : ℕ). take (low + left) out ++ drop j out) (length-take-le (low + left) out (l .room)) ∙ take-append-drop (low + left) out
 
 -- ---- the call
 
@@ -190,6 +195,9 @@ pub reverse-refused : (k : ℕ) (d : List ℕ) → formTest (fixed k little) ≡
 unfolding endiannessReversed reverseAnswer
 reverse-refused k d t = rw t
 
-pub reverse-done : (k : ℕ) (d d′ : List ℕ) → formTest (fixed k little) ≡ true → d′ ≡ cellsReversed k d → record { answer = gives (wholeCells k d); buffers = d′ } ≡ endiannessReversed k d
+pub reverse-done : (k : ℕ) (d d′ : List ℕ) (n : ℕ) → formTest (fixed k little) ≡ true → n ≡ length d / k → d′ ≡ over (reversedCells k n d) d
+    → record { answer = gives (n * k); buffers = d′ } ≡ endiannessReversed k d
 unfolding endiannessReversed reverseAnswer
-reverse-done k d d′ t e = rw (t, e)
+reverse-done k d d′ n t e f =
+    let l : length (reversedCells k n d) ≡ n * k = length-reversed k n d (omega (arith, ap (λ (j : ℕ). j * k) e, div-mul-le-self (length d) k)) in
+    rw (t, f, l, e)

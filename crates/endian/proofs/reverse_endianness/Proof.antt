@@ -1,14 +1,19 @@
 -- `endian::reverse_endianness`: the two refusals and the success by one law each (Reversing).
 -- Assumes nothing.
+use mathlib.Core.Path.{ap}
+use Prim.Native.Nat.{ℕ, _*_, _≤_}
 use native.Mathlib.Nat.{div-mul-le-self}
 use native.Mathlib.Omega.{arith}
 use lib.ListN.{length}
-use borrow.Author.Needs.{needs}
 use Rattle.array.specs.Kind.{little}
 use Rattle.array.proofs.Numbers.{size-fits, size-none, size-over}
 use Rattle.endian.proofs.Reversing.{reverse-refused, reverse-done}
+use borrow.Author.Needs.{needs}
 use Rattle.endian.proofs.reverse_endianness.Statement.{statement}
 use Rattle.endian.proofs.reverse_endianness.Tie as tie
+
+fit : (c : tie.After-whole-cells) → c .whole-cells .result * c .before .before .before .before .args .size ≤ length (c .before .before .before .before .args .bytes .now)
+fit c = omega (arith, ap (λ (n : ℕ). n * c .before .before .before .before .args .size) (c .whole-cells .ensures), div-mul-le-self (length (c .before .before .before .before .args .bytes .now)) (c .before .before .before .before .args .size))
 
 returns : tie.Need-returns
 returns c = let a = c .before .before .args in reverse-refused (a .size) (a .bytes .now) (size-none (a .size) little (c .if1 .taken))
@@ -19,20 +24,20 @@ cast-if2 c = search needs
 returns-2 : tie.Need-returns-2
 returns-2 c = let a = c .before .before .before .args in reverse-refused (a .size) (a .bytes .now) (size-over (a .size) little (c .if2 .taken))
 
-div-whole : tie.Need-div-whole
-div-whole c = search needs
+whole-cells-requires : tie.Need-whole-cells-requires
+whole-cells-requires c κs = search needs
 
 mul-whole : tie.Need-mul-whole
-mul-whole c = let a = c .before .before .before .args in omega (arith, div-mul-le-self (length (a .bytes .now)) (a .size))
+mul-whole c = omega (arith, fit c)
 
-reverse-whole-cells-requires : tie.Need-reverse-whole-cells-requires
-reverse-whole-cells-requires c κs = search needs
+reverse-cells-requires : tie.Need-reverse-cells-requires
+reverse-cells-requires c κs = fit (c .before)
 
 same-length : tie.Need-same-length
 same-length c = search needs
 
 returns-3 : tie.Need-returns-3
-returns-3 c = let a = c .before .before .before .before .before .before .before .args in reverse-done (a .size) (a .bytes .now) _ (size-fits (a .size) little (omega arith) (c .before .before .before .before .if2 .left)) (c .before .before .reverse-whole-cells .ensures)
+returns-3 c = let a = c .before .before .before .before .before .before .before .before .args in reverse-done (a .size) (a .bytes .now) _ (c .before .before .before .before .whole-cells .result) (size-fits (a .size) little (omega arith) (c .before .before .before .before .before .if2 .left)) (c .before .before .before .before .whole-cells .ensures) (c .before .before .reverse-cells .ensures)
 
 pub reverse-endianness-spec : {M : Type 1} → statement M
 reverse-endianness-spec =
@@ -41,8 +46,8 @@ reverse-endianness-spec =
     returns
     cast-if2
     returns-2
-    div-whole
+    whole-cells-requires
     mul-whole
-    reverse-whole-cells-requires
+    reverse-cells-requires
     same-length
     returns-3)

@@ -1,7 +1,6 @@
--- `endian::cells::copy_block_2`: sixteen reads and sixteen stores, by the law for any size (CellLaws).
+-- `endian::cells::copy_block_2`: sixteen reads, written by eights, by the law for any size (CellLaws).
 -- Assumes nothing.
 use native.Mathlib.Omega.{arith}
-use lib.ListN.{length-set}
 use Rattle.endian.proofs.CellLaws.{cells-at-once}
 use borrow.Author.Needs.{needs}
 use Rattle.endian.proofs.cells.copy_block_2.Statement.{statement}
@@ -100,104 +99,20 @@ add-b15 c = search needs
 shared-slice-read-b15 : tie.Need-shared-slice-read-b15
 shared-slice-read-b15 c = search needs
 
-slice-write-out : tie.Need-slice-write-out
-slice-write-out c = search needs
+put-8-requires : tie.Need-put-8-requires
+put-8-requires c κs = search needs
 
-add-out : tie.Need-add-out
-add-out c = search needs
+add-put-8 : tie.Need-add-put-8
+add-put-8 c = search needs
 
-slice-write-out-2 : tie.Need-slice-write-out-2
-slice-write-out-2 c = simp length-set (omega arith)
-
-add-out-2 : tie.Need-add-out-2
-add-out-2 c = search needs
-
-slice-write-out-3 : tie.Need-slice-write-out-3
-slice-write-out-3 c = simp length-set (omega arith)
-
-add-out-3 : tie.Need-add-out-3
-add-out-3 c = search needs
-
-slice-write-out-4 : tie.Need-slice-write-out-4
-slice-write-out-4 c = simp length-set (omega arith)
-
-add-out-4 : tie.Need-add-out-4
-add-out-4 c = search needs
-
-slice-write-out-5 : tie.Need-slice-write-out-5
-slice-write-out-5 c = simp length-set (omega arith)
-
-add-out-5 : tie.Need-add-out-5
-add-out-5 c = search needs
-
-slice-write-out-6 : tie.Need-slice-write-out-6
-slice-write-out-6 c = simp length-set (omega arith)
-
-add-out-6 : tie.Need-add-out-6
-add-out-6 c = search needs
-
-slice-write-out-7 : tie.Need-slice-write-out-7
-slice-write-out-7 c = simp length-set (omega arith)
-
-add-out-7 : tie.Need-add-out-7
-add-out-7 c = search needs
-
-slice-write-out-8 : tie.Need-slice-write-out-8
-slice-write-out-8 c = simp length-set (omega arith)
-
-add-out-8 : tie.Need-add-out-8
-add-out-8 c = search needs
-
-slice-write-out-9 : tie.Need-slice-write-out-9
-slice-write-out-9 c = simp length-set (omega arith)
-
-add-out-9 : tie.Need-add-out-9
-add-out-9 c = search needs
-
-slice-write-out-10 : tie.Need-slice-write-out-10
-slice-write-out-10 c = simp length-set (omega arith)
-
-add-out-10 : tie.Need-add-out-10
-add-out-10 c = search needs
-
-slice-write-out-11 : tie.Need-slice-write-out-11
-slice-write-out-11 c = simp length-set (omega arith)
-
-add-out-11 : tie.Need-add-out-11
-add-out-11 c = search needs
-
-slice-write-out-12 : tie.Need-slice-write-out-12
-slice-write-out-12 c = simp length-set (omega arith)
-
-add-out-12 : tie.Need-add-out-12
-add-out-12 c = search needs
-
-slice-write-out-13 : tie.Need-slice-write-out-13
-slice-write-out-13 c = simp length-set (omega arith)
-
-add-out-13 : tie.Need-add-out-13
-add-out-13 c = search needs
-
-slice-write-out-14 : tie.Need-slice-write-out-14
-slice-write-out-14 c = simp length-set (omega arith)
-
-add-out-14 : tie.Need-add-out-14
-add-out-14 c = search needs
-
-slice-write-out-15 : tie.Need-slice-write-out-15
-slice-write-out-15 c = simp length-set (omega arith)
-
-add-out-15 : tie.Need-add-out-15
-add-out-15 c = search needs
-
-slice-write-out-16 : tie.Need-slice-write-out-16
-slice-write-out-16 c = simp length-set (omega arith)
+put-8-requires-2 : tie.Need-put-8-requires-2
+put-8-requires-2 c κs = search needs
 
 same-length : tie.Need-same-length
-same-length c = simp length-set
+same-length c = search needs
 
 returns : tie.Need-returns
-returns c = let a = c .before .before .before .before .before .before .before .before .before .before .before .before .before .before .before .before .args in cells-at-once 2 8 (a .s .now) (a .out .now) (a .at) (a .to) (c .before .before .before .before .before .before .before .before .before .before .before .before .before .before .before .before .pre .0) (c .before .before .before .before .before .before .before .before .before .before .before .before .before .before .before .before .pre .1)
+returns c = let a = c .before .before .before .before .before .before .before .before .before .before .before .before .before .before .before .before .before .before .before .before .before .before .before .before .before .before .args in cells-at-once 2 8 8 (a .s .now) (a .out .now) (a .at) (a .to) (omega arith) (c .before .before .before .before .before .before .before .before .before .before .before .before .before .before .before .before .before .before .before .before .before .before .before .before .before .before .pre .0) (c .before .before .before .before .before .before .before .before .before .before .before .before .before .before .before .before .before .before .before .before .before .before .before .before .before .before .pre .1) (c .before .before .before .before .before .before .put-8 .ensures) (c .before .before .put-82 .ensures)
 
 pub copy-block-2-spec : {M : Type 1} → statement M
 copy-block-2-spec =
@@ -234,36 +149,8 @@ copy-block-2-spec =
     shared-slice-read-b14
     add-b15
     shared-slice-read-b15
-    slice-write-out
-    add-out
-    slice-write-out-2
-    add-out-2
-    slice-write-out-3
-    add-out-3
-    slice-write-out-4
-    add-out-4
-    slice-write-out-5
-    add-out-5
-    slice-write-out-6
-    add-out-6
-    slice-write-out-7
-    add-out-7
-    slice-write-out-8
-    add-out-8
-    slice-write-out-9
-    add-out-9
-    slice-write-out-10
-    add-out-10
-    slice-write-out-11
-    add-out-11
-    slice-write-out-12
-    add-out-12
-    slice-write-out-13
-    add-out-13
-    slice-write-out-14
-    add-out-14
-    slice-write-out-15
-    add-out-15
-    slice-write-out-16
+    put-8-requires
+    add-put-8
+    put-8-requires-2
     same-length
     returns)

@@ -1,12 +1,9 @@
 -- `endian::cells::copy_cells`: little order copies, big order reverses.
 -- Assumes nothing.
-use mathlib.Core.Path.{ap, _∙_}
-use mathlib.Core.List.{List}
-use Prim.Native.Nat.{ℕ}
+use mathlib.Core.Path.{ap}
 use lib.ListN.{drop}
-use Rattle.array.specs.Buffers.{overAt}
 use Rattle.array.specs.Meaning.{orderOf}
-use Rattle.endian.proofs.CellLaws.{cells-little, cells-big}
+use Rattle.endian.proofs.CellLaws.{copied-little, copied-big}
 use borrow.Author.Needs.{needs}
 use Rattle.endian.proofs.cells.copy_cells.Statement.{statement}
 use Rattle.endian.proofs.cells.copy_cells.Tie as tie
@@ -30,19 +27,13 @@ same-length : tie.Need-same-length
 same-length c = search needs
 
 returns : tie.Need-returns
-returns c =
-    let a = c .before .before .before .before .before .before .before .before .args in
-    c .before .before .copy-bytes .ensures
-    ∙ ap (λ (l : List ℕ). overAt (a .to) l (a .out .now)) (cells-little (a .size) (a .cells) (drop (a .at) (a .s .now)) (orderOf (a .order)) (ap orderOf (c .before .before .before .before .enum-told .given .1)))
+returns c = let a = c .before .before .before .before .before .before .before .before .args in copied-little (a .to) (a .size) (a .cells) (drop (a .at) (a .s .now)) (a .out .now) (ap orderOf (c .before .before .before .before .enum-told .given .1)) (c .before .before .copy-bytes .ensures)
 
 same-length-2 : tie.Need-same-length-2
 same-length-2 c = search needs
 
 returns-2 : tie.Need-returns-2
-returns-2 c =
-    let a = c .before .before .before .before .before .before .before .before .args in
-    c .before .before .copy-cells-reversed .ensures
-    ∙ ap (λ (l : List ℕ). overAt (a .to) l (a .out .now)) (cells-big (a .size) (a .cells) (drop (a .at) (a .s .now)) (orderOf (a .order)) (ap orderOf (c .before .before .before .before .enum-told2 .given .1)))
+returns-2 c = let a = c .before .before .before .before .before .before .before .before .args in copied-big (a .to) (a .size) (a .cells) (drop (a .at) (a .s .now)) (a .out .now) (ap orderOf (c .before .before .before .before .enum-told2 .given .1)) (c .before .before .copy-cells-reversed .ensures)
 
 pub copy-cells-spec : {M : Type 1} → statement M
 copy-cells-spec =

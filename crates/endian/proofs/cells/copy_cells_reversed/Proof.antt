@@ -1,13 +1,10 @@
 -- `endian::cells::copy_cells_reversed`: by cases on the size, each by its callee; cells of one byte are copied.
 -- Assumes nothing.
-use mathlib.Core.Path.{sym, ap, _∙_}
-use mathlib.Core.List.{List}
+use mathlib.Core.Path.{ap}
 use Prim.Native.Nat.{ℕ, _*_}
 use native.Mathlib.Omega.{arith}
 use lib.ListN.{drop}
-use Rattle.array.specs.Buffers.{overAt}
-use Rattle.endian.specs.Calls.{reversedCells}
-use Rattle.endian.proofs.CellLaws.{reversed-ones}
+use Rattle.endian.proofs.CellLaws.{copied-ones, copied-sized}
 use borrow.Author.Needs.{needs}
 use Rattle.endian.proofs.cells.copy_cells_reversed.Statement.{statement}
 use Rattle.endian.proofs.cells.copy_cells_reversed.Tie as tie
@@ -34,34 +31,31 @@ same-length : tie.Need-same-length
 same-length c = search needs
 
 returns : tie.Need-returns
-returns c =
-    let a = c .before .before .before .before .before .before .before .args in
-    c .before .before .copy-bytes .ensures ∙ ap (λ (l : List ℕ). overAt (a .to) l (a .out .now)) (reversed-ones (a .cells) (drop (a .at) (a .s .now)))
-    ∙ ap (λ (k : ℕ). overAt (a .to) (reversedCells k (a .cells) (drop (a .at) (a .s .now))) (a .out .now)) (sym (c .before .before .before .before .match .keys1))
+returns c = let a = c .before .before .before .before .before .before .before .args in copied-ones (a .to) (a .cells) (drop (a .at) (a .s .now)) (a .out .now) (c .before .before .before .before .match .keys1) (c .before .before .copy-bytes .ensures)
 
 same-length-2 : tie.Need-same-length-2
 same-length-2 c = search needs
 
 returns-2 : tie.Need-returns-2
-returns-2 c = let a = c .before .before .before .before .before .before .before .args in c .before .before .copy-cells-2 .ensures ∙ ap (λ (k : ℕ). overAt (a .to) (reversedCells k (a .cells) (drop (a .at) (a .s .now))) (a .out .now)) (sym (c .before .before .before .before .match .keys2))
+returns-2 c = let a = c .before .before .before .before .before .before .before .args in copied-sized (a .to) (a .cells) (drop (a .at) (a .s .now)) (a .out .now) (c .before .before .before .before .match .keys2) (c .before .before .copy-cells-2 .ensures)
 
 same-length-3 : tie.Need-same-length-3
 same-length-3 c = search needs
 
 returns-3 : tie.Need-returns-3
-returns-3 c = let a = c .before .before .before .before .before .before .before .args in c .before .before .copy-cells-4 .ensures ∙ ap (λ (k : ℕ). overAt (a .to) (reversedCells k (a .cells) (drop (a .at) (a .s .now))) (a .out .now)) (sym (c .before .before .before .before .match .keys3))
+returns-3 c = let a = c .before .before .before .before .before .before .before .args in copied-sized (a .to) (a .cells) (drop (a .at) (a .s .now)) (a .out .now) (c .before .before .before .before .match .keys3) (c .before .before .copy-cells-4 .ensures)
 
 same-length-4 : tie.Need-same-length-4
 same-length-4 c = search needs
 
 returns-4 : tie.Need-returns-4
-returns-4 c = let a = c .before .before .before .before .before .before .before .args in c .before .before .copy-cells-8 .ensures ∙ ap (λ (k : ℕ). overAt (a .to) (reversedCells k (a .cells) (drop (a .at) (a .s .now))) (a .out .now)) (sym (c .before .before .before .before .match .keys4))
+returns-4 c = let a = c .before .before .before .before .before .before .before .args in copied-sized (a .to) (a .cells) (drop (a .at) (a .s .now)) (a .out .now) (c .before .before .before .before .match .keys4) (c .before .before .copy-cells-8 .ensures)
 
 same-length-5 : tie.Need-same-length-5
 same-length-5 c = search needs
 
 returns-5 : tie.Need-returns-5
-returns-5 c = let a = c .before .before .before .before .before .before .before .args in c .before .before .copy-cells-16 .ensures ∙ ap (λ (k : ℕ). overAt (a .to) (reversedCells k (a .cells) (drop (a .at) (a .s .now))) (a .out .now)) (sym (c .before .before .before .before .match .keys5))
+returns-5 c = let a = c .before .before .before .before .before .before .before .args in copied-sized (a .to) (a .cells) (drop (a .at) (a .s .now)) (a .out .now) (c .before .before .before .before .match .keys5) (c .before .before .copy-cells-16 .ensures)
 
 same-length-6 : tie.Need-same-length-6
 same-length-6 c = search needs

@@ -1,0 +1,103 @@
+-- `endian::in_place::reverse_cells_2`: the first i cells are reversed, eight a turn and then one, by the laws for any size (Reversing).
+-- Assumes nothing.
+use mathlib.Core.Path.{_≡_}
+use mathlib.Core.List.{List}
+use Prim.Native.Nat.{ℕ, _+_, _-_, _*_, _≤_}
+use native.Mathlib.Omega.{arith}
+use lib.ListN.{length}
+use Rattle.endian.proofs.Reversing.{Reversing, reversing-begins, reversing-same, reversing-more, reversing-next, reversing-ends}
+use Rattle.endian.proofs.in_place.reverse_cells_2.Statement.{statement}
+use Rattle.endian.proofs.in_place.reverse_cells_2.Tie as tie
+
+abbrev Inv-loop : tie.InvT-loop
+Inv-loop bytes₀ cells i₀ bytes i = Reversing 2 cells bytes₀ bytes i
+
+abbrev μ-loop : tie.MeasureT-loop
+μ-loop bytes₀ cells i₀ bytes i = cells - i
+
+abbrev Inv-loop2 : tie.InvT-loop2
+Inv-loop2 bytes₀ cells i₀ bytes i = (d : List ℕ) → Reversing 2 cells d bytes₀ i₀ → Reversing 2 cells d bytes i
+
+abbrev μ-loop2 : tie.MeasureT-loop2
+μ-loop2 bytes₀ cells i₀ bytes i = cells - i
+
+same : (c : tie.At-loop Inv-loop μ-loop Inv-loop2 μ-loop2) → length (c .loop .bytes) ≡ length (c .before .before .args .bytes .now)
+same c = reversing-same (c .loop .inv)
+
+eight : (c : tie.In-loop Inv-loop μ-loop Inv-loop2 μ-loop2) → c .before .loop .i + 8 ≤ c .before .before .before .args .cells
+eight c = omega arith
+
+laid : (c : tie.At-loop2 Inv-loop μ-loop Inv-loop2 μ-loop2) → Reversing 2 (c .before .before .before .before .args .cells) (c .before .before .before .before .args .bytes .now) (c .loop2 .bytes) (c .loop2 .i)
+laid c = c .loop2 .inv (c .before .before .before .before .args .bytes .now) (c .before .before .loop .inv)
+
+same2 : (c : tie.At-loop2 Inv-loop μ-loop Inv-loop2 μ-loop2) → length (c .loop2 .bytes) ≡ length (c .before .before .before .before .args .bytes .now)
+same2 c = reversing-same (laid c)
+
+loop-holds : tie.Need-loop-holds Inv-loop μ-loop Inv-loop2 μ-loop2
+loop-holds c = reversing-begins (c .before .pre)
+
+sub-loop : tie.Need-sub-loop Inv-loop μ-loop Inv-loop2 μ-loop2
+sub-loop c = omega arith
+
+mul-reverse-block-2 : tie.Need-mul-reverse-block-2 Inv-loop μ-loop Inv-loop2 μ-loop2
+mul-reverse-block-2 c = omega (arith, eight (c .before))
+
+reverse-block-2-requires : tie.Need-reverse-block-2-requires Inv-loop μ-loop Inv-loop2 μ-loop2
+reverse-block-2-requires c κs = omega (arith, eight (c .before), same (c .before .before))
+
+add-i : tie.Need-add-i Inv-loop μ-loop Inv-loop2 μ-loop2
+add-i c = omega (arith, eight (c .before .before .before .before))
+
+loop-less : tie.Need-loop-less Inv-loop μ-loop Inv-loop2 μ-loop2
+loop-less c = omega (arith, eight (c .before .before .before .before))
+
+loop-again : tie.Need-loop-again Inv-loop μ-loop Inv-loop2 μ-loop2
+loop-again c = reversing-more (c .before .before .before .before .before .loop .inv) 8 (eight (c .before .before .before .before)) (c .before .before .reverse-block-2 .ensures)
+
+loop2-holds : tie.Need-loop2-holds Inv-loop μ-loop Inv-loop2 μ-loop2
+loop2-holds c = λ d p. p
+
+mul-reverse-cell-2 : tie.Need-mul-reverse-cell-2 Inv-loop μ-loop Inv-loop2 μ-loop2
+mul-reverse-cell-2 c = omega (arith, laid (c .before .before))
+
+reverse-cell-2-requires : tie.Need-reverse-cell-2-requires Inv-loop μ-loop Inv-loop2 μ-loop2
+reverse-cell-2-requires c κs = omega (arith, laid (c .before .before), same2 (c .before .before))
+
+add-i-2 : tie.Need-add-i-2 Inv-loop μ-loop Inv-loop2 μ-loop2
+add-i-2 c = omega arith
+
+loop2-less : tie.Need-loop2-less Inv-loop μ-loop Inv-loop2 μ-loop2
+loop2-less c = omega arith
+
+loop2-again : tie.Need-loop2-again Inv-loop μ-loop Inv-loop2 μ-loop2
+loop2-again c = λ d p. reversing-next (c .before .before .before .before .before .loop2 .inv d p) (c .before .before .before .before .loop2-test .taken) (c .before .before .reverse-cell-2 .ensures)
+
+same-length : tie.Need-same-length Inv-loop μ-loop Inv-loop2 μ-loop2
+same-length c = same2 (c .before)
+
+returns : tie.Need-returns Inv-loop μ-loop Inv-loop2 μ-loop2
+returns c = reversing-ends (laid (c .before)) (c .loop2-test .left)
+
+pub reverse-cells-2-spec : {M : Type 1} → statement M
+reverse-cells-2-spec =
+    tie.close
+    (tie.spec
+    Inv-loop
+    μ-loop
+    Inv-loop2
+    μ-loop2
+    loop-holds
+    sub-loop
+    mul-reverse-block-2
+    reverse-block-2-requires
+    add-i
+    loop-less
+    loop-again
+    loop2-holds
+    mul-reverse-cell-2
+    reverse-cell-2-requires
+    add-i-2
+    loop2-less
+    loop2-again
+    same-length
+    returns)

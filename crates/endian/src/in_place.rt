@@ -1,0 +1,189 @@
+// Cells of one size reversed in place.
+use crate::cells;
+use crate::word;
+use array::field;
+ghost use mathlib.Core.Path.{_≡_};
+ghost use mathlib.Core.List.{reverse};
+ghost use Prim.Native.Nat.{_+_, _*_, _≤_};
+ghost use lib.ListN.{length, take, drop};
+ghost use Rattle.array.specs.Buffers.{over, overAt};
+ghost use Rattle.endian.specs.Calls.{reversedCells};
+
+// Reverses the first cells. The sizes that most types have go by blocks or words.
+pub fn reverse_cells(bytes: &mut [u8], size: usize, cells: usize)
+    requires { ⌜ cells * size ≤ length (now bytes) ⌝ }
+    ensures { λ _. ⌜ now (bytes .exit) ≡ over (reversedCells size cells (now (bytes .entry))) (now (bytes .entry)) ⌝ }
+{
+    match size {
+        1 => {}
+        2 => reverse_cells_2(bytes, cells),
+        4 => reverse_cells_4(bytes, cells),
+        8 => reverse_cells_8(bytes, cells),
+        16 => reverse_cells_16(bytes, cells),
+        _ => reverse_cells_any(bytes, size, cells),
+    }
+}
+
+fn reverse_cells_2(bytes: &mut [u8], cells: usize)
+    requires { ⌜ cells * 2 ≤ length (now bytes) ⌝ }
+    ensures { λ _. ⌜ now (bytes .exit) ≡ over (reversedCells 2 cells (now (bytes .entry))) (now (bytes .entry)) ⌝ }
+{
+    let mut i = 0;
+    while 8 <= cells - i {
+        reverse_block_2(bytes, i * 2);
+        i += 8;
+    }
+    while i < cells {
+        reverse_cell_2(bytes, i * 2);
+        i += 1;
+    }
+}
+
+fn reverse_cells_4(bytes: &mut [u8], cells: usize)
+    requires { ⌜ cells * 4 ≤ length (now bytes) ⌝ }
+    ensures { λ _. ⌜ now (bytes .exit) ≡ over (reversedCells 4 cells (now (bytes .entry))) (now (bytes .entry)) ⌝ }
+{
+    let mut i = 0;
+    while i < cells {
+        reverse_cell_4(bytes, i * 4);
+        i += 1;
+    }
+}
+
+fn reverse_cells_8(bytes: &mut [u8], cells: usize)
+    requires { ⌜ cells * 8 ≤ length (now bytes) ⌝ }
+    ensures { λ _. ⌜ now (bytes .exit) ≡ over (reversedCells 8 cells (now (bytes .entry))) (now (bytes .entry)) ⌝ }
+{
+    let mut i = 0;
+    while 2 <= cells - i {
+        reverse_block_8(bytes, i * 8);
+        i += 2;
+    }
+    while i < cells {
+        reverse_cell_8(bytes, i * 8);
+        i += 1;
+    }
+}
+
+fn reverse_cells_16(bytes: &mut [u8], cells: usize)
+    requires { ⌜ cells * 16 ≤ length (now bytes) ⌝ }
+    ensures { λ _. ⌜ now (bytes .exit) ≡ over (reversedCells 16 cells (now (bytes .entry))) (now (bytes .entry)) ⌝ }
+{
+    let mut i = 0;
+    while i < cells {
+        reverse_cell_16(bytes, i * 16);
+        i += 1;
+    }
+}
+
+fn reverse_cells_any(bytes: &mut [u8], size: usize, cells: usize)
+    requires { ⌜ cells * size ≤ length (now bytes) ⌝ }
+    ensures { λ _. ⌜ now (bytes .exit) ≡ over (reversedCells size cells (now (bytes .entry))) (now (bytes .entry)) ⌝ }
+{
+    let mut i = 0;
+    while i < cells {
+        reverse_cell(bytes, i * size, size);
+        i += 1;
+    }
+}
+
+// Two cells of eight bytes: one a turn would be made a vector, which is slower.
+fn reverse_block_8(bytes: &mut [u8], at: usize)
+    requires { ⌜ at + 16 ≤ length (now bytes) ⌝ }
+    ensures { λ _. ⌜ now (bytes .exit) ≡ overAt at (reversedCells 8 2 (drop at (now (bytes .entry)))) (now (bytes .entry)) ⌝ }
+{
+    let a = word::be8_at(bytes, at);
+    let b = word::be8_at(bytes, at + 8);
+    field::put_u64(bytes, at, a);
+    field::put_u64(bytes, at + 8, b);
+}
+
+// Eight cells of two bytes. All are read before the first is written, so that they go as one vector.
+fn reverse_block_2(bytes: &mut [u8], at: usize)
+    requires { ⌜ at + 16 ≤ length (now bytes) ⌝ }
+    ensures { λ _. ⌜ now (bytes .exit) ≡ overAt at (reversedCells 2 8 (drop at (now (bytes .entry)))) (now (bytes .entry)) ⌝ }
+{
+    let b0 = bytes[at];
+    let b1 = bytes[at + 1];
+    let b2 = bytes[at + 2];
+    let b3 = bytes[at + 3];
+    let b4 = bytes[at + 4];
+    let b5 = bytes[at + 5];
+    let b6 = bytes[at + 6];
+    let b7 = bytes[at + 7];
+    let b8 = bytes[at + 8];
+    let b9 = bytes[at + 9];
+    let b10 = bytes[at + 10];
+    let b11 = bytes[at + 11];
+    let b12 = bytes[at + 12];
+    let b13 = bytes[at + 13];
+    let b14 = bytes[at + 14];
+    let b15 = bytes[at + 15];
+    cells::put_8(bytes, at, b1, b0, b3, b2, b5, b4, b7, b6);
+    cells::put_8(bytes, at + 8, b9, b8, b11, b10, b13, b12, b15, b14);
+}
+
+fn reverse_cell_2(bytes: &mut [u8], at: usize)
+    requires { ⌜ at + 2 ≤ length (now bytes) ⌝ }
+    ensures { λ _. ⌜ now (bytes .exit) ≡ overAt at (reverse (take 2 (drop at (now (bytes .entry))))) (now (bytes .entry)) ⌝ }
+{
+    let v = word::be2_at(bytes, at);
+    word::put_u16(bytes, at, v);
+}
+
+fn reverse_cell_4(bytes: &mut [u8], at: usize)
+    requires { ⌜ at + 4 ≤ length (now bytes) ⌝ }
+    ensures { λ _. ⌜ now (bytes .exit) ≡ overAt at (reverse (take 4 (drop at (now (bytes .entry))))) (now (bytes .entry)) ⌝ }
+{
+    let v = word::be4_at(bytes, at);
+    field::put_u32(bytes, at, v);
+}
+
+fn reverse_cell_8(bytes: &mut [u8], at: usize)
+    requires { ⌜ at + 8 ≤ length (now bytes) ⌝ }
+    ensures { λ _. ⌜ now (bytes .exit) ≡ overAt at (reverse (take 8 (drop at (now (bytes .entry))))) (now (bytes .entry)) ⌝ }
+{
+    let v = word::be8_at(bytes, at);
+    field::put_u64(bytes, at, v);
+}
+
+fn reverse_cell_16(bytes: &mut [u8], at: usize)
+    requires { ⌜ at + 16 ≤ length (now bytes) ⌝ }
+    ensures { λ _. ⌜ now (bytes .exit) ≡ overAt at (reverse (take 16 (drop at (now (bytes .entry))))) (now (bytes .entry)) ⌝ }
+{
+    swap_words(bytes, at, at + 8);
+}
+
+// Each word goes to the other's place, reversed.
+fn swap_words(bytes: &mut [u8], low: usize, high: usize)
+    requires { ⌜ (low + 8 ≤ length (now bytes)) × (high + 8 ≤ length (now bytes)) ⌝ }
+    ensures { λ _. ⌜ now (bytes .exit) ≡ overAt high (reverse (take 8 (drop low (now (bytes .entry))))) (overAt low (reverse (take 8 (drop high (now (bytes .entry))))) (now (bytes .entry))) ⌝ }
+{
+    let a = word::be8_at(bytes, low);
+    let b = word::be8_at(bytes, high);
+    field::put_u64(bytes, low, b);
+    field::put_u64(bytes, high, a);
+}
+
+// Reverses the size bytes at `at`: the ends are swapped, words and then bytes, then what lies between them.
+fn reverse_cell(bytes: &mut [u8], at: usize, size: usize)
+    requires { ⌜ at + size ≤ length (now bytes) ⌝ }
+    ensures { λ _. ⌜ now (bytes .exit) ≡ overAt at (reverse (take size (drop at (now (bytes .entry))))) (now (bytes .entry)) ⌝ }
+{
+    let mut low = at;
+    let mut left = size;
+    while 16 <= left {
+        swap_words(bytes, low, low + (left - 8));
+        low += 8;
+        left -= 16;
+    }
+    while 1 < left {
+        let high = low + (left - 1);
+        let a = bytes[low];
+        let b = bytes[high];
+        bytes[low] = b;
+        bytes[high] = a;
+        low += 1;
+        left -= 2;
+    }
+}
