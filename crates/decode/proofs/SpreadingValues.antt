@@ -25,7 +25,8 @@ use Rattle.codec.proofs.SpreadLaws.{length-spread}
 use Rattle.endian.proofs.Words.{le-zero}
 use Rattle.decode.specs.Runs.{runOf}
 use Rattle.decode.specs.Next.{ifSet, nextAt, wordAt}
-use Rattle.decode.proofs.RunLaws.{run-within, null-run, set-run, some-run, cellsLeft, valuesLeft, nulls-first, sets-first}
+use Rattle.decode.proofs.RunLaws.{run-within, null-run, set-run, some-run}
+use Rattle.decode.proofs.ValueRuns.{cellsLeft, valuesLeft, nulls-first, sets-first}
 
 -- ---- the sizes
 
