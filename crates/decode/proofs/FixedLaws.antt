@@ -31,7 +31,7 @@ use Rattle.decode.specs.Outcomes.{readOutcome}
 use Rattle.decode.specs.Reads.{valuesOver, ValuesWithin, fixedFrom, FixedWithin}
 use Rattle.decode.proofs.Outcomes.{short-masks, short-values, all-written}
 use Rattle.decode.proofs.Levels.{times-first}
-use Rattle.decode.proofs.RunLaws.{cellsLeft, valuesLeft}
+use Rattle.decode.proofs.ValueRuns.{cellsLeft, valuesLeft}
 use Rattle.decode.proofs.SpreadingValues.{cells-length, values-length}
 use Rattle.decode.proofs.AllPlanes.{planesIn, innermostIn, masks-are, leaves-are, leaves-flat, count-are, planes-long, innermost-read, innermost-long}
 

@@ -1,6 +1,7 @@
 pub mod Outcomes
 pub mod Placing
 pub mod RunLaws
+pub mod ValueRuns
 pub mod SpreadingValues
 pub mod CopyingOffsets
 pub mod SpreadingOffsets

@@ -2,9 +2,9 @@
 -- Assumes nothing.
 use mathlib.Core.Path.{_≡_, refl, sym, ap, _∙_}
 use mathlib.Core.List.{List, [], _∷_, _++_, append-nil}
-use Prim.Native.Nat.{ℕ, suc, _+_, _-_, _≤_, _<_}
+use Prim.Native.Nat.{ℕ, suc, _+_, _-_, _*_, _≤_, _<_}
 use native.Mathlib.Omega.{arith}
-use native.Mathlib.Nat.{add-zero}
+use native.Mathlib.Nat.{add-zero, suc-mul, mul-le-mul-right}
 use lib.ListN.{length, take, drop, getD, set, replicate, length-drop}
 use lib.Seq.{drop-cons, length-take-le, getD-drop, getD-take}
 use Rattle.array.specs.Cells.{Mark, isNull, isSet, markOf}
@@ -30,6 +30,10 @@ plane-byte from n d i h = sym (getD-take n (drop from d) i 0 h ∙ getD-drop fro
 pub next-most : (m : Mark) (k n : ℕ) → k < n → nextAt m k 1 ≤ n
 next-most isNull k n h = omega arith
 next-most isSet k n h = omega arith
+
+-- the next of the stored ones, of w bytes each, lies within them
+pub next-within : (w at k cells l : ℕ) → k < cells → at + cells * w ≤ l → at + k * w + w ≤ l
+next-within w at k cells l h r = omega (arith, suc-mul k w, mul-le-mul-right {m = suc k} {n = cells} w h)
 
 -- i cells of the plane at `to` are written, and j stored bytes are taken
 pub record Placing (d : List ℕ) (from to n : ℕ) (s : List ℕ) (at cells : ℕ) (out : List ℕ) (i j : ℕ) : Type 0 where

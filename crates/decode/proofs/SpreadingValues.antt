@@ -2,14 +2,15 @@
 -- Assumes nothing.
 use mathlib.Core.Path.{_≡_, refl, sym, ap, ap₂, _∙_, subst}
 use mathlib.Core.Logic.{_≢_}
-use mathlib.Core.Bool.{true, false}
+use mathlib.Core.Bool.{Bool, true, false}
 use mathlib.Core.List.{List, [], _∷_, _++_, map, append-nil}
 use Prim.Native.Nat.{ℕ, zero, suc, _+_, _-_, _*_, _≤_, _<_}
 use native.Mathlib.Omega.{arith}
 use native.Mathlib.Nat.{zero-add, zero-mul, one-mul, suc-mul, add-mul, mul-le-mul-right}
 use lib.ListN.{length, take, drop, getD, replicate, length-drop, length-map, length-replicate, drop-of-length-le}
 use lib.Seq.{length-take-le, drop-drop, drop-cons, take-all}
-use Rattle.array.specs.Lists.{pieces}
+use borrow.Author.Tests.{lt-ltb, le-ltb}
+use Rattle.array.specs.Lists.{pick, pieces}
 use Rattle.array.specs.Bytes.{le}
 use Rattle.array.specs.Kind.{Order, ordered}
 use Rattle.array.specs.Cells.{Value, Mark, isNull, isSet, markOf}
@@ -23,8 +24,9 @@ use Rattle.codec.proofs.Marks.{null-byte, set-byte, count-le, count-block}
 use Rattle.codec.proofs.SpreadLaws.{length-spread}
 use Rattle.endian.proofs.Words.{le-zero}
 use Rattle.decode.specs.Runs.{runOf}
-use Rattle.decode.specs.Next.{ifSet, nextAt, valueFor}
-use Rattle.decode.proofs.RunLaws.{run-within, null-run, set-run, some-run, cellsLeft, valuesLeft, nulls-first, sets-first}
+use Rattle.decode.specs.Next.{ifSet, nextAt, wordAt}
+use Rattle.decode.proofs.RunLaws.{run-within, null-run, set-run, some-run}
+use Rattle.decode.proofs.ValueRuns.{cellsLeft, valuesLeft, nulls-first, sets-first}
 
 -- ---- the sizes
 
@@ -178,6 +180,15 @@ module _ {size : ℕ} {o : Order} {p s d : List ℕ} {at cells : ℕ} {out : Lis
 
     pub sets-laid : (out′ : List ℕ) → out′ ≡ overAt (i * size) (cellsLeft size o s r (at + k * size)) out → SpreadingValues size o p s d at cells out′ (i + r) (k + r)
     sets-laid = values-sets v r sets-fit set-count
+
+-- ---- the next stored word
+
+module _ (size : ℕ) (o : Order) (s : List ℕ) (at k cells : ℕ) where
+  pub word-left : k < cells → wordAt size o s at k cells ≡ ordered o (take size (drop (at + k * size) s))
+  word-left h = ap (λ (b : Bool). pick b (ordered o (take size (drop (at + k * size) s))) (replicate size 0)) (lt-ltb k cells h)
+
+  pub word-none : cells ≤ k → le size 0 ≡ wordAt size o s at k cells
+  word-none h = le-zero size ∙ sym (ap (λ (b : Bool). pick b (ordered o (take size (drop (at + k * size) s))) (replicate size 0)) (le-ltb k cells h))
 
 -- ---- one cell more, by its mark
 

@@ -1,8 +1,10 @@
 -- One cell of a plane, by its mark: what it gets, and where the next stored one is.
 -- Assumes nothing.
-use Prim.Native.Nat.{ℕ, _+_}
+use Prim.Native.Nat.{ℕ, _+_, _*_}
 use mathlib.Core.List.{List}
-use lib.ListN.{take, replicate}
+use lib.ListN.{take, drop, replicate}
+use lib.Dec.{ltb}
+use Rattle.array.specs.Lists.{pick}
 use Rattle.array.specs.Cells.{Mark, isNull, isSet}
 use Rattle.array.specs.Kind.{Order, ordered}
 
@@ -15,6 +17,6 @@ ifSet isSet x z = x
 abbrev pub nextAt : Mark → ℕ → ℕ → ℕ
 nextAt m at size = ifSet m (at + size) at
 
--- the value of a cell, the stored ones beginning with q
-abbrev pub valueFor : Mark → ℕ → Order → List ℕ → List ℕ
-valueFor m size o q = ifSet m (ordered o (take size q)) (replicate size 0)
+-- the value k of those that are stored from `at` on, or zero bytes behind them
+abbrev pub wordAt : ℕ → Order → List ℕ → ℕ → ℕ → ℕ → List ℕ
+wordAt size o s at k cells = pick (ltb k cells) (ordered o (take size (drop (at + k * size) s))) (replicate size 0)

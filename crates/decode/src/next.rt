@@ -26,12 +26,12 @@ pub fn byte_if(mark: Mark, b: u8) -> u8
     }
 }
 
-// The word v for a set cell, and 0 for a null one.
-pub fn word_if(mark: Mark, v: u64) -> u64
-    ensures { λ r. ⌜ r ≡ ifSet (toldMark mark) v 0 ⌝ }
+// The number v for a set cell, and z for a null one.
+pub fn number_if(mark: Mark, v: u64, z: u64) -> u64
+    ensures { λ r. ⌜ r ≡ ifSet (toldMark mark) v z ⌝ }
 {
     match mark {
-        Mark::Null => 0,
+        Mark::Null => z,
         Mark::Set => v,
     }
 }

@@ -1,23 +1,19 @@
 // Offsets: as they are stored, or of values that lie end to end from 0 below masks.
+use crate::next::number_if;
 use crate::next::skip;
 use array::field::le_at;
 use array::kind::IndexWidth;
 use array::kind::width_bytes;
-use codec::mask::Mark;
 use codec::mask::mark_of;
 ghost use mathlib.Core.Path.{_≡_};
 ghost use mathlib.Core.List.{_∷_};
-ghost use Prim.Native.Nat.{suc, _+_, _*_, _-_, _≤_};
-ghost use lib.ListN.{length, take, drop};
+ghost use Prim.Native.Nat.{suc, _+_, _*_, _≤_};
+ghost use lib.ListN.{length, take, drop, replicate};
 ghost use Rattle.array.specs.Lists.{All};
-ghost use Rattle.array.specs.Bytes.{unle};
-ghost use Rattle.array.specs.Buffers.{over};
-ghost use Rattle.array.specs.Cells.{isSet};
+ghost use Rattle.array.specs.Buffers.{over, overAt};
 ghost use Rattle.array.specs.Meaning.{widthOf};
-ghost use Rattle.codec.specs.Marks.{toldMark};
 ghost use Rattle.codec.specs.Frame.{countSet};
 ghost use Rattle.codec.specs.Index.{offsetsIn};
-ghost use Rattle.decode.specs.Next.{ifSet, nextAt};
 ghost use Rattle.decode.specs.Ends.{endsBy};
 
 // Writes n + 1 offsets just as they are stored.
@@ -38,21 +34,20 @@ pub fn copy_offsets(offsets: &mut [u64], s: &[u8], at: usize, n: usize, width: I
     }
 }
 
-// Where the values end after a cell with this mark: a set cell takes the stored end at `at`, counted from the first offset.
-pub fn next_end(s: &[u8], at: usize, width: IndexWidth, first: u64, end: u64, mark: Mark) -> u64
-    requires { ⌜ (nextAt (toldMark mark) at (widthOf width) ≤ length (now s)) × (toldMark mark ≡ isSet → first ≤ unle (take (widthOf width) (drop at (now s)))) ⌝ }
-    ensures { λ r. ⌜ r ≡ ifSet (toldMark mark) (unle (take (widthOf width) (drop at (now (s .entry)))) - first) end ⌝ }
+// Writes the number v, k times, from the place `to` on.
+fn fill_numbers(out: &mut [u64], to: usize, k: usize, v: u64)
+    requires { ⌜ to + k ≤ length (now «out») ⌝ }
+    ensures { λ _. ⌜ now («out» .exit) ≡ overAt to (replicate k v) (now («out» .entry)) ⌝ }
 {
-    match mark {
-        Mark::Null => end,
-        Mark::Set => {
-            let v = le_at(s, at, width);
-            v - first
-        }
+    let mut n = 0;
+    while n < k {
+        out[to + n] = v;
+        n += 1;
     }
 }
 
-// Writes the offsets of the n cells of the plane at `from`: the ends of the set ones are stored from `at` on.
+// Writes the offsets of the n cells of the plane at `from`, of which `cells` are set: their ends are stored from `at` on, and counted
+// from the first offset. An end is read for every cell until all are placed, so that no branch goes by the plane.
 pub fn spread_offsets(
     offsets: &mut [u64],
     masks: &[u8],
@@ -62,22 +57,24 @@ pub fn spread_offsets(
     at: usize,
     width: IndexWidth,
     first: u64,
+    cells: usize,
 )
-    requires { ⌜ (from + n ≤ length (now masks)) × (n + 1 ≤ length (now offsets)) × (at + countSet (take n (drop from (now masks))) * widthOf width ≤ length (now s))
-        × All (λ o. first ≤ o) (offsetsIn (widthOf width) (countSet (take n (drop from (now masks)))) (drop at (now s))) ⌝ }
+    requires { ⌜ (from + n ≤ length (now masks)) × (n + 1 ≤ length (now offsets)) × (cells ≡ countSet (take n (drop from (now masks))))
+        × (at + cells * widthOf width ≤ length (now s)) × All (λ o. first ≤ o) (offsetsIn (widthOf width) cells (drop at (now s))) ⌝ }
     ensures { λ _. ⌜ now (offsets .exit) ≡ over (0 ∷ endsBy first 0 (take n (drop from (now (masks .entry))))
         (offsetsIn (widthOf width) (countSet (take n (drop from (now (masks .entry))))) (drop at (now (s .entry))))) (now (offsets .entry)) ⌝ }
 {
     let w = width_bytes(width);
     let mut end: u64 = 0;
     let mut i = 0;
-    let mut j = at;
-    while i < n {
+    let mut k = 0;
+    while k < cells {
         offsets[i] = end;
+        let v = le_at(s, at + k * w, width);
         let mark = mark_of(masks[from + i]);
-        end = next_end(s, j, width, first, end, mark);
-        j = skip(mark, j, w);
+        end = number_if(mark, v - first, end);
+        k = skip(mark, k, 1);
         i += 1;
     }
-    offsets[n] = end;
+    fill_numbers(offsets, i, n + 1 - i, end);
 }

@@ -92,7 +92,7 @@ pub fn write_nested(
         return WrittenArray::Refused(refusal::OUTPUT);
     }
     place_planes(masks, n, depth, s);
-    spread_offsets(offsets, masks, planes - n, n, s, ends, width, first);
+    spread_offsets(offsets, masks, planes - n, n, s, ends, width, first, cells);
     let start = from + first as usize;
     copy_bytes(values, 0, s, start, bytes);
     WrittenArray::Lengths(planes, bytes, count)

@@ -96,9 +96,9 @@ spread-offsets-requires c κs =
     let pre = c .before .before .before .before .before .before .before .before .before .before .before .before .before .pre in (
       omega (arith, (first-is (c .before .before .before .before .before .before .before .before .before)), c .before .before .before .before .place-planes .kept .0),
       omega arith,
-      subst (λ (j : ℕ). args .ends + j * widthOf (args .width) ≤ length (args .s .now)) (count-is (c .before .before .before .before)) (pre .ends-room),
-      subst (λ (j : ℕ). All (λ o. args .first ≤ o) (offsetsIn (widthOf (args .width)) j (drop (args .ends) (args .s .now)))) (count-is (c .before .before .before .before))
-          (rising-above (args .first) (args .first) (offsetsIn (widthOf (args .width)) (args .cells) (drop (args .ends) (args .s .now))) (omega arith) (pre .rising)),
+      count-is (c .before .before .before .before),
+      pre .ends-room,
+      rising-above (args .first) (args .first) (offsetsIn (widthOf (args .width)) (args .cells) (drop (args .ends) (args .s .now))) (omega arith) (pre .rising),
     )
 
 add-start : tie.Need-add-start
