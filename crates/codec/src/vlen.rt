@@ -1,4 +1,4 @@
-// Ragged values with their index: the check. It stores nothing.
+// Ragged values with their index: where its parts lie, and the check. It stores nothing.
 // Place start: 8-byte index length, index, data. Place end: data, index, index length. The index is n + 1 offsets for n cells.
 use array::array_bytes;
 use array::field::Field;
@@ -9,7 +9,7 @@ use array::kind::IndexWidth;
 use array::kind::width_bytes;
 use array::refusal;
 ghost use mathlib.Core.Path.{_≡_};
-ghost use Prim.Native.Nat.{suc, _+_, _*_, _≤_};
+ghost use Prim.Native.Nat.{suc, _+_, _*_, _≤_, _<_};
 ghost use lib.Dec.{eqb};
 ghost use lib.ListN.{length, take, drop};
 ghost use Rattle.array.specs.Answer.{unless};
@@ -18,7 +18,7 @@ ghost use Rattle.array.specs.Bytes.{unle};
 ghost use Rattle.array.specs.Meaning.{widthOf, placeOf};
 ghost use Rattle.array.specs.Offsets.{risingTest};
 ghost use Rattle.codec.specs.Ragged.{dataTest, getRagged};
-ghost use Rattle.codec.specs.Index.{offsetsIn, indexedBy, spanIn, toldIndex};
+ghost use Rattle.codec.specs.Index.{offsetsIn, indexedBy, spanIn, indexAt, dataAt, toldIndex};
 
 // The first and the last offset of an index that passed the check.
 pub enum Indexed {
@@ -33,6 +33,28 @@ pub fn index_length(n: usize, width: IndexWidth) -> usize
 {
     let w = width_bytes(width);
     w + n * w
+}
+
+// Where the index lies, `size` bytes of it, in so many stored bytes.
+pub fn index_at(place: IndexPlace, stored: usize, size: usize) -> usize
+    requires { ⌜ 8 + size ≤ stored ⌝ }
+    ensures { λ r. ⌜ r ≡ indexAt (placeOf place) stored size ⌝ }
+{
+    match place {
+        IndexPlace::Start => 8,
+        IndexPlace::End => stored - 8 - size,
+    }
+}
+
+// Where the data lies.
+pub fn data_at(place: IndexPlace, size: usize) -> usize
+    requires { ⌜ 8 + size < 18446744073709551616 ⌝ }
+    ensures { λ r. ⌜ r ≡ dataAt (placeOf place) size ⌝ }
+{
+    match place {
+        IndexPlace::Start => 8 + size,
+        IndexPlace::End => 0,
+    }
 }
 
 // Whether the n + 1 offsets from `at` on never fall.

@@ -9,5 +9,6 @@ pub mod Levels
 pub mod AllPlanes
 pub mod FixedLaws
 pub mod NestedLaws
+pub mod NestedWritten
 pub mod Small
 pub mod Stages

@@ -10,6 +10,7 @@ use lib.Seq.{drop-drop}
 use Rattle.array.specs.Lists.{joined, pieces}
 use Rattle.array.specs.Kind.{Order, ordered}
 use Rattle.array.specs.Cells.{Value}
+use Rattle.array.specs.Buffers.{over}
 use Rattle.array.proofs.Lists.{map-append, length-pieces, joined-append}
 use Rattle.codec.specs.Frame.{countSet}
 use Rattle.codec.specs.Spread.{spread}
@@ -66,6 +67,10 @@ cellsLeft size o s left j = joined (map (ordered o) (pieces size left (drop j s)
 -- what is left from cell i of the plane p on, the next stored value being at j
 abbrev pub valuesLeft : ℕ → Order → List ℕ → List ℕ → ℕ → ℕ → List ℕ
 valuesLeft size o p s i j = valuesOver size o (drop i p) (drop j s)
+
+-- the size may be said in another way
+pub sized-as : (size w : ℕ) → size ≡ w → (o : Order) (p q v out : List ℕ) → out ≡ over (valuesOver w o p q) v → out ≡ over (valuesOver size o p q) v
+sized-as size w e o p q v out h = h ∙ ap (λ (k : ℕ). over (valuesOver k o p q) v) (sym e)
 
 module _ (size : ℕ) (o : Order) (p s : List ℕ) (i j r : ℕ) where
   -- r null cells

@@ -12,6 +12,8 @@ use codec::optional::Walked;
 use codec::optional::walk_content;
 use codec::vlen::Indexed;
 use codec::vlen::check_ragged;
+use codec::vlen::data_at;
+use codec::vlen::index_at;
 use codec::vlen::index_length;
 ghost use mathlib.Core.Path.{_≡_};
 ghost use mathlib.Core.List.{[]};
@@ -164,37 +166,12 @@ pub fn decode_ragged(
             match checked {
                 Indexed::Refused(e) => WrittenArray::Refused(e),
                 Indexed::Span(first, last) => {
-                    let index = index_length(cells, width);
-                    match place {
-                        IndexPlace::Start => write_ragged(
-                            s,
-                            n,
-                            depth,
-                            width,
-                            at + 8,
-                            at + (8 + index),
-                            cells,
-                            first,
-                            last,
-                            masks,
-                            values,
-                            offsets,
-                        ),
-                        IndexPlace::End => write_ragged(
-                            s,
-                            n,
-                            depth,
-                            width,
-                            at + (s.len() - at - 8 - index),
-                            at,
-                            cells,
-                            first,
-                            last,
-                            masks,
-                            values,
-                            offsets,
-                        ),
-                    }
+                    let size = index_length(cells, width);
+                    let index = at + index_at(place, s.len() - at, size);
+                    let from = at + data_at(place, size);
+                    write_ragged(
+                        s, n, depth, width, index, from, cells, first, last, masks, values, offsets,
+                    )
                 }
             }
         }

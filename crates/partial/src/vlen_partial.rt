@@ -21,33 +21,10 @@ ghost use Rattle.array.specs.Offsets.{ends, offsetsOf};
 ghost use Rattle.array.specs.Buffers.{over, overAt, raggedOutcome, raggedLengthsOf};
 ghost use Rattle.array.specs.Meaning.{widthOf, placeOf};
 ghost use Rattle.array.specs.Outcome.{contentRagged, outcomeRagged};
-ghost use Rattle.codec.specs.Index.{indexAt, dataAt};
 ghost use Rattle.chunks.specs.Calls.{partiallyDecoded};
 ghost use Rattle.extract.specs.Places.{bytesAt, valuesAt};
 ghost use Rattle.extract.specs.Asked.{SubsetAsked};
 ghost use Rattle.partial.specs.Stored.{storedAt, cutAnswer, IndexAsked, RowAsked, DataAsked, CutAsked};
-
-// Where the index lies, `size` bytes of it, in so many stored bytes.
-fn index_at(place: IndexPlace, stored: usize, size: usize) -> usize
-    requires { ⌜ 8 + size ≤ stored ⌝ }
-    ensures { λ r. ⌜ r ≡ indexAt (placeOf place) stored size ⌝ }
-{
-    match place {
-        IndexPlace::Start => 8,
-        IndexPlace::End => stored - 8 - size,
-    }
-}
-
-// Where the data lies.
-fn data_at(place: IndexPlace, size: usize) -> usize
-    requires { ⌜ 8 + size < 18446744073709551616 ⌝ }
-    ensures { λ r. ⌜ r ≡ dataAt (placeOf place) size ⌝ }
-{
-    match place {
-        IndexPlace::Start => 8 + size,
-        IndexPlace::End => 0,
-    }
-}
 
 // Offset j of the index.
 fn offset_at(bytes: &[u8], index: usize, width: IndexWidth, j: usize) -> u64
@@ -246,8 +223,8 @@ pub fn partial_decode(
         Indexed::Refused(e) => WrittenRagged::Refused(e),
         Indexed::Span(_, _) => {
             let size = vlen::index_length(cells, width);
-            let index = index_at(place, bytes.len(), size);
-            let source = data_at(place, size);
+            let index = vlen::index_at(place, bytes.len(), size);
+            let source = vlen::data_at(place, size);
             let sides = shape.len();
             cut_stored(
                 bytes,

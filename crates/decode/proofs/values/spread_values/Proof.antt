@@ -1,16 +1,15 @@
 -- `spread_values` meets its contract: where all cells are set it is one copy (SpreadingValues); else by the size.
 -- Assumes nothing.
-use mathlib.Core.Path.{_≡_, refl, sym, ap, _∙_, subst}
-use mathlib.Core.List.{List}
+use mathlib.Core.Path.{_≡_, refl, ap, subst}
 use Prim.Native.Nat.{ℕ, _*_}
 use native.Mathlib.Omega.{arith}
 use lib.ListN.{length, drop}
 use borrow.Author.Needs.{needs}
-use Rattle.array.specs.Buffers.{over}
 use Rattle.array.specs.Meaning.{orderOf}
-use Rattle.decode.specs.Reads.{valuesOver, ValuesWithin}
+use Rattle.decode.specs.Reads.{ValuesWithin}
 use Rattle.decode.proofs.Placing.{planeAt, plane-length}
 use Rattle.decode.proofs.SpreadingValues.{values-begin, values-all}
+use Rattle.decode.proofs.ValueRuns.{sized-as}
 use Rattle.decode.proofs.values.spread_values.Statement.{statement}
 use Rattle.decode.proofs.values.spread_values.Tie as tie
 
@@ -62,7 +61,7 @@ same-length-2 c = search needs
 returns-2 : tie.Need-returns-2
 returns-2 c =
     let args = c .before .before .before .before .before .before .before .before .before .args in
-    c .before .before .spread-words .ensures ∙ sym (ap (λ (w : ℕ). over (valuesOver w (orderOf (args .order)) (planeAt (args .from) (args .n) (args .masks .now)) (drop (args .at) (args .s .now))) (args .values .now)) (c .before .before .before .before .match .keys1))
+    sized-as (args .size) 1 (c .before .before .before .before .match .keys1) (orderOf (args .order)) (planeAt (args .from) (args .n) (args .masks .now)) (drop (args .at) (args .s .now)) (args .values .now) (c .before .before .spread-words .last .0) (c .before .before .spread-words .ensures)
 
 same-length-3 : tie.Need-same-length-3
 same-length-3 c = search needs
@@ -70,7 +69,7 @@ same-length-3 c = search needs
 returns-3 : tie.Need-returns-3
 returns-3 c =
     let args = c .before .before .before .before .before .before .before .before .before .args in
-    c .before .before .spread-words2 .ensures ∙ sym (ap (λ (w : ℕ). over (valuesOver w (orderOf (args .order)) (planeAt (args .from) (args .n) (args .masks .now)) (drop (args .at) (args .s .now))) (args .values .now)) (c .before .before .before .before .match .keys2))
+    sized-as (args .size) 2 (c .before .before .before .before .match .keys2) (orderOf (args .order)) (planeAt (args .from) (args .n) (args .masks .now)) (drop (args .at) (args .s .now)) (args .values .now) (c .before .before .spread-words2 .last .0) (c .before .before .spread-words2 .ensures)
 
 same-length-4 : tie.Need-same-length-4
 same-length-4 c = search needs
@@ -78,7 +77,7 @@ same-length-4 c = search needs
 returns-4 : tie.Need-returns-4
 returns-4 c =
     let args = c .before .before .before .before .before .before .before .before .before .args in
-    c .before .before .spread-words3 .ensures ∙ sym (ap (λ (w : ℕ). over (valuesOver w (orderOf (args .order)) (planeAt (args .from) (args .n) (args .masks .now)) (drop (args .at) (args .s .now))) (args .values .now)) (c .before .before .before .before .match .keys3))
+    sized-as (args .size) 4 (c .before .before .before .before .match .keys3) (orderOf (args .order)) (planeAt (args .from) (args .n) (args .masks .now)) (drop (args .at) (args .s .now)) (args .values .now) (c .before .before .spread-words3 .last .0) (c .before .before .spread-words3 .ensures)
 
 same-length-5 : tie.Need-same-length-5
 same-length-5 c = search needs
@@ -86,7 +85,7 @@ same-length-5 c = search needs
 returns-5 : tie.Need-returns-5
 returns-5 c =
     let args = c .before .before .before .before .before .before .before .before .before .args in
-    c .before .before .spread-words4 .ensures ∙ sym (ap (λ (w : ℕ). over (valuesOver w (orderOf (args .order)) (planeAt (args .from) (args .n) (args .masks .now)) (drop (args .at) (args .s .now))) (args .values .now)) (c .before .before .before .before .match .keys4))
+    sized-as (args .size) 8 (c .before .before .before .before .match .keys4) (orderOf (args .order)) (planeAt (args .from) (args .n) (args .masks .now)) (drop (args .at) (args .s .now)) (args .values .now) (c .before .before .spread-words4 .last .0) (c .before .before .spread-words4 .ensures)
 
 same-length-6 : tie.Need-same-length-6
 same-length-6 c = search needs
