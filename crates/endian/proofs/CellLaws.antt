@@ -5,6 +5,7 @@ use mathlib.Core.List.{List, [], _∷_, _++_, map, reverse, append-assoc, append
 use Prim.Native.Nat.{ℕ, zero, suc, _+_, _*_, _≤_, _<_}
 use native.Mathlib.Nat.{zero-mul, zero-add, suc-mul, add-mul, mul-le-mul-right}
 use native.Mathlib.Omega.{arith}
+use native.Mathlib.Numerals.{add-one}
 use lib.ListN.{length, take, drop, length-append, length-drop, length-reverse, take-append-drop}
 use lib.Seq.{drop-drop, take-add, take-at, drop-at, length-take-le}
 use Rattle.array.specs.Lists.{joined, pieces}
@@ -89,17 +90,6 @@ two-runs k n s d at to p q e f =
     f ∙ ap (overAt (to + n * k) y) e ∙ over-next to (n * k) x y d (omega arith) l
     ∙ ap (λ (w : List ℕ). overAt to w d) (sym (reversed-add k n n (drop at s) ∙ ap (λ (r : List ℕ). x ++ reversedCells k n r) (drop-drop (n * k) at s)))
 
--- two cells, one after the other
-pub two-cells : (k : ℕ) (s d : List ℕ) (at to : ℕ) → to + (k + k) ≤ length d → at + (k + k) ≤ length s → {out out′ : List ℕ}
-    → out ≡ overAt to (reverse (take k (drop at s))) d → out′ ≡ overAt (to + k) (reverse (take k (drop (at + k) s))) out
-    → out′ ≡ overAt to (reversedCells k 2 (drop at s)) d
-two-cells k s d at to p q e f =
-    let x : List ℕ = reverse (take k (drop at s)) in
-    let y : List ℕ = reverse (take k (drop (at + k) s)) in
-    let l : length x ≡ k = length-reverse (take k (drop at s)) ∙ length-take-le k (drop at s) (omega (arith, length-drop at s)) in
-    f ∙ ap (overAt (to + k) y) e ∙ over-next to k x y d (omega arith) l
-    ∙ ap (λ (w : List ℕ). overAt to (x ++ w) d) (sym (append-nil (reverse (take k (drop k (drop at s)))) ∙ ap (λ (r : List ℕ). reverse (take k r)) (drop-drop k at s)))
-
 -- ---- the two orders
 
 cells-little : (k n : ℕ) (s : List ℕ) (o : Order) → o ≡ little → take (n * k) s ≡ joined (map (ordered o) (pieces k n s))
@@ -172,3 +162,14 @@ module _ {d : List ℕ} {to : ℕ} {s : List ℕ} {at k n : ℕ} {out : List ℕ
 
     pub copies-next : {out′ : List ℕ} → out′ ≡ overAt (to + i * k) (reverse (take k (drop (at + i * k) s))) out → Copies d to s at k n out′ (i + 1)
     copies-next e = copies-more 1 (omega arith) (e ∙ ap (λ (g : List ℕ). overAt (to + i * k) g out) (reversed-one k (drop (at + i * k) s)))
+
+-- two cells more
+pub copies-twice : {d : List ℕ} {to : ℕ} {s : List ℕ} {at k n : ℕ} {out : List ℕ} {i : ℕ} → Copies d to s at k n out i → i + 2 ≤ n
+    → {out′ : List ℕ} → out′ ≡ overAt (to + i * k) (reverse (take k (drop (at + i * k) s))) out
+    → {out″ : List ℕ} → out″ ≡ overAt (to + (i * k + k)) (reverse (take k (drop (at + (i * k + k)) s))) out′ → Copies d to s at k n out″ (i + 2)
+copies-twice {d} {to} {s} {at} {k} {n} {out} {i} l h {out′} e {out″} f =
+    let q : i * k + k ≡ (i + 1) * k = sym (ap (λ (j : ℕ). j * k) (add-one i) ∙ suc-mul i k) in
+    let a : Copies d to s at k n out′ (i + 1) = copies-next l (omega arith) e in
+    let b : Copies d to s at k n out″ (i + 1 + 1) = copies-next a (omega arith) (f ∙ ap (λ (j : ℕ). overAt (to + j) (reverse (take k (drop (at + j) s))) out′) q) in
+    let j : i + 1 + 1 ≡ i + 2 = omega arith in
+    record { within = h; room = b .room; source = b .source; here = b .here ∙ ap (λ (x : ℕ). overAt to (reversedCells k x (drop at s)) d) j }

@@ -75,13 +75,14 @@ fn copy_cells_4(out: &mut [u8], to: usize, s: &[u8], at: usize, cells: usize)
         copy_block_4(out, to + k, s, at + k);
         i += 2;
     }
-    while i < cells {
-        let k = i * 4;
-        copy_cell_4(out, to + k, s, at + k);
-        i += 1;
+    if i == cells {
+        return;
     }
+    let k = i * 4;
+    copy_cell_4(out, to + k, s, at + k);
 }
 
+// Two a turn: one a turn would be made a vector, which is slower.
 fn copy_cells_8(out: &mut [u8], to: usize, s: &[u8], at: usize, cells: usize)
     requires { ⌜ (to + cells * 8 ≤ length (now «out»)) × (at + cells * 8 ≤ length (now s)) ⌝ }
     ensures { λ _. ⌜ now («out» .exit) ≡ overAt to (reversedCells 8 cells (drop at (now (s .entry)))) (now («out» .entry)) ⌝ }
@@ -89,14 +90,15 @@ fn copy_cells_8(out: &mut [u8], to: usize, s: &[u8], at: usize, cells: usize)
     let mut i = 0;
     while 2 <= cells - i {
         let k = i * 8;
-        copy_block_8(out, to + k, s, at + k);
+        copy_cell_8(out, to + k, s, at + k);
+        copy_cell_8(out, to + (k + 8), s, at + (k + 8));
         i += 2;
     }
-    while i < cells {
-        let k = i * 8;
-        copy_cell_8(out, to + k, s, at + k);
-        i += 1;
+    if i == cells {
+        return;
     }
+    let k = i * 8;
+    copy_cell_8(out, to + k, s, at + k);
 }
 
 fn copy_cells_16(out: &mut [u8], to: usize, s: &[u8], at: usize, cells: usize)
@@ -153,17 +155,6 @@ fn copy_cell_16(out: &mut [u8], to: usize, s: &[u8], at: usize)
     let high = word::be8_at(s, at + 8);
     field::put_u64(out, to, high);
     field::put_u64(out, to + 8, low);
-}
-
-// Two cells of eight bytes: one a turn would be made a vector, which is slower.
-fn copy_block_8(out: &mut [u8], to: usize, s: &[u8], at: usize)
-    requires { ⌜ (to + 16 ≤ length (now «out»)) × (at + 16 ≤ length (now s)) ⌝ }
-    ensures { λ _. ⌜ now («out» .exit) ≡ overAt to (reversedCells 8 2 (drop at (now (s .entry)))) (now («out» .entry)) ⌝ }
-{
-    let a = word::be8_at(s, at);
-    let b = word::be8_at(s, at + 8);
-    field::put_u64(out, to, a);
-    field::put_u64(out, to + 8, b);
 }
 
 // Two cells of four bytes.

@@ -50,19 +50,22 @@ fn reverse_cells_4(bytes: &mut [u8], cells: usize)
     }
 }
 
+// Two a turn: one a turn would be made a vector, which is slower.
 fn reverse_cells_8(bytes: &mut [u8], cells: usize)
     requires { ⌜ cells * 8 ≤ length (now bytes) ⌝ }
     ensures { λ _. ⌜ now (bytes .exit) ≡ over (reversedCells 8 cells (now (bytes .entry))) (now (bytes .entry)) ⌝ }
 {
     let mut i = 0;
     while 2 <= cells - i {
-        reverse_block_8(bytes, i * 8);
+        let k = i * 8;
+        reverse_cell_8(bytes, k);
+        reverse_cell_8(bytes, k + 8);
         i += 2;
     }
-    while i < cells {
-        reverse_cell_8(bytes, i * 8);
-        i += 1;
+    if i == cells {
+        return;
     }
+    reverse_cell_8(bytes, i * 8);
 }
 
 fn reverse_cells_16(bytes: &mut [u8], cells: usize)
@@ -85,17 +88,6 @@ fn reverse_cells_any(bytes: &mut [u8], size: usize, cells: usize)
         reverse_cell(bytes, i * size, size);
         i += 1;
     }
-}
-
-// Two cells of eight bytes: one a turn would be made a vector, which is slower.
-fn reverse_block_8(bytes: &mut [u8], at: usize)
-    requires { ⌜ at + 16 ≤ length (now bytes) ⌝ }
-    ensures { λ _. ⌜ now (bytes .exit) ≡ overAt at (reversedCells 8 2 (drop at (now (bytes .entry)))) (now (bytes .entry)) ⌝ }
-{
-    let a = word::be8_at(bytes, at);
-    let b = word::be8_at(bytes, at + 8);
-    field::put_u64(bytes, at, a);
-    field::put_u64(bytes, at + 8, b);
 }
 
 // Eight cells of two bytes. All are read before the first is written, so that they go as one vector.
