@@ -5,6 +5,7 @@ use mathlib.Core.List.{List, [], _∷_, _++_, map, reverse, append-assoc, append
 use Prim.Native.Nat.{ℕ, zero, suc, _+_, _*_, _≤_, _<_}
 use native.Mathlib.Nat.{zero-mul, zero-add, suc-mul, add-mul, mul-le-mul-right}
 use native.Mathlib.Omega.{arith}
+use native.Mathlib.Numerals.{add-one}
 use lib.ListN.{length, take, drop, length-append, length-drop, length-reverse, take-append-drop}
 use lib.Seq.{drop-drop, take-add, take-at, drop-at, length-take-le}
 use Rattle.array.specs.Lists.{joined, pieces}
@@ -12,7 +13,6 @@ use Rattle.array.specs.Buffers.{over, overAt}
 use Rattle.array.specs.Kind.{Order, little, big, ordered}
 use Rattle.array.proofs.Lists.{map-id}
 use Rattle.array.proofs.Over.{over-again, over-at-length}
-use Rattle.array.proofs.Unrolled.{reads, reads-take}
 use Rattle.endian.specs.Calls.{reversedCells}
 
 -- ---- what is laid behind what was laid
@@ -74,32 +74,21 @@ reversed-take k (suc n) s h =
     ∙ ap₂ (λ (v r : List ℕ). reverse v ++ reversedCells k n r) (take-at a b k la) (drop-at a b k la)
     ∙ ap (λ (r : List ℕ). reverse a ++ r) (reversed-take k n (drop k s) (omega (arith, length-drop k s)))
 
-reads-reversed : (k n : ℕ) (s : List ℕ) (at : ℕ) → at + n * k ≤ length s → reversedCells k n (reads s at (n * k)) ≡ reversedCells k n (drop at s)
-reads-reversed k n s at q = ap (reversedCells k n) (reads-take s at (n * k) q) ∙ reversed-take k n (drop at s) (omega (arith, length-drop at s))
+-- the cells of a run that was read, and of two
+pub run-written : (k n : ℕ) (s d : List ℕ) (at to : ℕ) → at + n * k ≤ length s → {x : List ℕ} → x ≡ take (n * k) (drop at s) → {y : List ℕ} → y ≡ reversedCells k n x
+    → {out : List ℕ} → out ≡ overAt to y d → out ≡ overAt to (reversedCells k n (drop at s)) d
+run-written k n s d at to q e f g =
+    g ∙ ap (λ (l : List ℕ). overAt to l d) (f ∙ ap (reversedCells k n) e ∙ reversed-take k n (drop at s) (omega (arith, length-drop at s)))
 
-pub cells-written : (k n : ℕ) (s d : List ℕ) (at to : ℕ) → at + n * k ≤ length s → {out : List ℕ} → out ≡ overAt to (reversedCells k n (reads s at (n * k))) d → out ≡ overAt to (reversedCells k n (drop at s)) d
-cells-written k n s d at to q e = e ∙ ap (λ (l : List ℕ). overAt to l d) (reads-reversed k n s at q)
-
--- m bytes of them, and then the others
-pub cells-at-once : (k n m : ℕ) (s d : List ℕ) (at to : ℕ) → m ≤ n * k → to + n * k ≤ length d → at + n * k ≤ length s → {out out′ : List ℕ}
-    → out ≡ overAt to (take m (reversedCells k n (reads s at (n * k)))) d → out′ ≡ overAt (to + m) (drop m (reversedCells k n (reads s at (n * k)))) out
-    → out′ ≡ overAt to (reversedCells k n (drop at s)) d
-cells-at-once k n m s d at to b p q f g =
-    let v : List ℕ = reversedCells k n (reads s at (n * k)) in
-    let e : v ≡ reversedCells k n (drop at s) = reads-reversed k n s at q in
-    let l : length (take m v) ≡ m = length-take-le m v (omega (arith, ap length e, length-reversed k n (drop at s) (omega (arith, length-drop at s)))) in
-    g ∙ ap (overAt (to + m) (drop m v)) f ∙ over-next to m (take m v) (drop m v) d (omega arith) l ∙ ap (λ (w : List ℕ). overAt to w d) (take-append-drop m v ∙ e)
-
--- two cells, one after the other
-pub two-cells : (k : ℕ) (s d : List ℕ) (at to : ℕ) → to + (k + k) ≤ length d → at + (k + k) ≤ length s → {out out′ : List ℕ}
-    → out ≡ overAt to (reverse (take k (drop at s))) d → out′ ≡ overAt (to + k) (reverse (take k (drop (at + k) s))) out
-    → out′ ≡ overAt to (reversedCells k 2 (drop at s)) d
-two-cells k s d at to p q e f =
-    let x : List ℕ = reverse (take k (drop at s)) in
-    let y : List ℕ = reverse (take k (drop (at + k) s)) in
-    let l : length x ≡ k = length-reverse (take k (drop at s)) ∙ length-take-le k (drop at s) (omega (arith, length-drop at s)) in
-    f ∙ ap (overAt (to + k) y) e ∙ over-next to k x y d (omega arith) l
-    ∙ ap (λ (w : List ℕ). overAt to (x ++ w) d) (sym (append-nil (reverse (take k (drop k (drop at s)))) ∙ ap (λ (r : List ℕ). reverse (take k r)) (drop-drop k at s)))
+pub two-runs : (k n : ℕ) (s d : List ℕ) (at to : ℕ) → to + (n + n) * k ≤ length d → at + (n + n) * k ≤ length s → {out out′ : List ℕ}
+    → out ≡ overAt to (reversedCells k n (drop at s)) d → out′ ≡ overAt (to + n * k) (reversedCells k n (drop (at + n * k) s)) out
+    → out′ ≡ overAt to (reversedCells k (n + n) (drop at s)) d
+two-runs k n s d at to p q e f =
+    let x : List ℕ = reversedCells k n (drop at s) in
+    let y : List ℕ = reversedCells k n (drop (at + n * k) s) in
+    let l : length x ≡ n * k = length-reversed k n (drop at s) (omega (arith, add-mul n n k, length-drop at s)) in
+    f ∙ ap (overAt (to + n * k) y) e ∙ over-next to (n * k) x y d (omega arith) l
+    ∙ ap (λ (w : List ℕ). overAt to w d) (sym (reversed-add k n n (drop at s) ∙ ap (λ (r : List ℕ). x ++ reversedCells k n r) (drop-drop (n * k) at s)))
 
 -- ---- the two orders
 
@@ -173,3 +162,14 @@ module _ {d : List ℕ} {to : ℕ} {s : List ℕ} {at k n : ℕ} {out : List ℕ
 
     pub copies-next : {out′ : List ℕ} → out′ ≡ overAt (to + i * k) (reverse (take k (drop (at + i * k) s))) out → Copies d to s at k n out′ (i + 1)
     copies-next e = copies-more 1 (omega arith) (e ∙ ap (λ (g : List ℕ). overAt (to + i * k) g out) (reversed-one k (drop (at + i * k) s)))
+
+-- two cells more
+pub copies-twice : {d : List ℕ} {to : ℕ} {s : List ℕ} {at k n : ℕ} {out : List ℕ} {i : ℕ} → Copies d to s at k n out i → i + 2 ≤ n
+    → {out′ : List ℕ} → out′ ≡ overAt (to + i * k) (reverse (take k (drop (at + i * k) s))) out
+    → {out″ : List ℕ} → out″ ≡ overAt (to + (i * k + k)) (reverse (take k (drop (at + (i * k + k)) s))) out′ → Copies d to s at k n out″ (i + 2)
+copies-twice {d} {to} {s} {at} {k} {n} {out} {i} l h {out′} e {out″} f =
+    let q : i * k + k ≡ (i + 1) * k = sym (ap (λ (j : ℕ). j * k) (add-one i) ∙ suc-mul i k) in
+    let a : Copies d to s at k n out′ (i + 1) = copies-next l (omega arith) e in
+    let b : Copies d to s at k n out″ (i + 1 + 1) = copies-next a (omega arith) (f ∙ ap (λ (j : ℕ). overAt (to + j) (reverse (take k (drop (at + j) s))) out′) q) in
+    let j : i + 1 + 1 ≡ i + 2 = omega arith in
+    record { within = h; room = b .room; source = b .source; here = b .here ∙ ap (λ (x : ℕ). overAt to (reversedCells k x (drop at s)) d) j }

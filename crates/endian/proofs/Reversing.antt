@@ -4,15 +4,16 @@ use mathlib.Core.Path.{_≡_, refl, sym, ap, ap₂, _∙_}
 use mathlib.Core.Bool.{true, false}
 use mathlib.Core.List.{List, [], _∷_, _++_, reverse, append-assoc, reverse-append}
 use Prim.Native.Nat.{ℕ, suc, _+_, _-_, _*_, _/_, _≤_, _<_}
-use native.Mathlib.Nat.{suc-mul, add-mul, mul-le-mul-right, div-mul-le-self}
+use native.Mathlib.Nat.{suc-mul, mul-le-mul-right, div-mul-le-self}
 use native.Mathlib.Omega.{arith}
+use native.Mathlib.Numerals.{add-one}
 use lib.ListN.{length, take, drop, getD, set, length-append, length-take, length-drop, length-reverse, take-append-drop}
 use lib.Seq.{drop-drop, take-add, take-at, drop-at, length-take-le}
 use Rattle.array.specs.Buffers.{over, overAt}
 use Rattle.array.specs.Answer.{gives, refuses}
 use Rattle.array.specs.Kind.{fixed, little, formTest}
 use Rattle.array.proofs.Over.{over-length, over-again, over-at-length}
-use Rattle.endian.specs.Calls.{wholeCells, reversedCells, reverseAnswer, endiannessReversed}
+use Rattle.endian.specs.Calls.{reversedCells, reverseAnswer, endiannessReversed}
 use Rattle.endian.proofs.CellLaws.{reversed-one, reversed-ones, reversed-add, length-reversed}
 use Rattle.endian.proofs.Backing.{byte-over, byte-read, length-back}
 
@@ -58,6 +59,16 @@ module _ {k n : ℕ} {d out : List ℕ} {i : ℕ} (l : Reversing k n d out i) wh
 
     pub reversing-next : {out′ : List ℕ} → out′ ≡ cellReversed (i * k) k out → Reversing k n d out′ (i + 1)
     reversing-next e = reversing-more 1 (omega arith) (e ∙ ap (λ (g : List ℕ). overAt (i * k) g out) (reversed-one k (drop (i * k) out)))
+
+-- two cells more
+pub reversing-twice : {k n : ℕ} {d out : List ℕ} {i : ℕ} → Reversing k n d out i → i + 2 ≤ n → {out′ : List ℕ} → out′ ≡ cellReversed (i * k) k out
+    → {out″ : List ℕ} → out″ ≡ cellReversed (i * k + k) k out′ → Reversing k n d out″ (i + 2)
+reversing-twice {k} {n} {d} {out} {i} l h {out′} e {out″} f =
+    let q : i * k + k ≡ (i + 1) * k = sym (ap (λ (j : ℕ). j * k) (add-one i) ∙ suc-mul i k) in
+    let a : Reversing k n d out′ (i + 1) = reversing-next l (omega arith) e in
+    let b : Reversing k n d out″ (i + 1 + 1) = reversing-next a (omega arith) (f ∙ ap (λ (j : ℕ). cellReversed j k out′) q) in
+    let j : i + 1 + 1 ≡ i + 2 = omega arith in
+    record { within = h; room = b .room; here = b .here ∙ ap (λ (x : ℕ). over (reversedCells k x d) d) j }
 
 -- cells of one byte stay as they are
 pub ones-reversed : (n : ℕ) (d : List ℕ) → n * 1 ≤ length d → d ≡ over (reversedCells 1 n d) d

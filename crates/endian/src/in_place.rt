@@ -1,5 +1,5 @@
 // Cells of one size reversed in place.
-use crate::cells;
+use crate::eight;
 use crate::word;
 use array::field;
 ghost use mathlib.Core.Path.{_≡_};
@@ -50,19 +50,22 @@ fn reverse_cells_4(bytes: &mut [u8], cells: usize)
     }
 }
 
+// Two a turn: one a turn would be made a vector, which is slower.
 fn reverse_cells_8(bytes: &mut [u8], cells: usize)
     requires { ⌜ cells * 8 ≤ length (now bytes) ⌝ }
     ensures { λ _. ⌜ now (bytes .exit) ≡ over (reversedCells 8 cells (now (bytes .entry))) (now (bytes .entry)) ⌝ }
 {
     let mut i = 0;
     while 2 <= cells - i {
-        reverse_block_8(bytes, i * 8);
+        let k = i * 8;
+        reverse_cell_8(bytes, k);
+        reverse_cell_8(bytes, k + 8);
         i += 2;
     }
-    while i < cells {
-        reverse_cell_8(bytes, i * 8);
-        i += 1;
+    if i == cells {
+        return;
     }
+    reverse_cell_8(bytes, i * 8);
 }
 
 fn reverse_cells_16(bytes: &mut [u8], cells: usize)
@@ -87,40 +90,15 @@ fn reverse_cells_any(bytes: &mut [u8], size: usize, cells: usize)
     }
 }
 
-// Two cells of eight bytes: one a turn would be made a vector, which is slower.
-fn reverse_block_8(bytes: &mut [u8], at: usize)
-    requires { ⌜ at + 16 ≤ length (now bytes) ⌝ }
-    ensures { λ _. ⌜ now (bytes .exit) ≡ overAt at (reversedCells 8 2 (drop at (now (bytes .entry)))) (now (bytes .entry)) ⌝ }
-{
-    let a = word::be8_at(bytes, at);
-    let b = word::be8_at(bytes, at + 8);
-    field::put_u64(bytes, at, a);
-    field::put_u64(bytes, at + 8, b);
-}
-
 // Eight cells of two bytes. All are read before the first is written, so that they go as one vector.
 fn reverse_block_2(bytes: &mut [u8], at: usize)
     requires { ⌜ at + 16 ≤ length (now bytes) ⌝ }
     ensures { λ _. ⌜ now (bytes .exit) ≡ overAt at (reversedCells 2 8 (drop at (now (bytes .entry)))) (now (bytes .entry)) ⌝ }
 {
-    let b0 = bytes[at];
-    let b1 = bytes[at + 1];
-    let b2 = bytes[at + 2];
-    let b3 = bytes[at + 3];
-    let b4 = bytes[at + 4];
-    let b5 = bytes[at + 5];
-    let b6 = bytes[at + 6];
-    let b7 = bytes[at + 7];
-    let b8 = bytes[at + 8];
-    let b9 = bytes[at + 9];
-    let b10 = bytes[at + 10];
-    let b11 = bytes[at + 11];
-    let b12 = bytes[at + 12];
-    let b13 = bytes[at + 13];
-    let b14 = bytes[at + 14];
-    let b15 = bytes[at + 15];
-    cells::put_8(bytes, at, b1, b0, b3, b2, b5, b4, b7, b6);
-    cells::put_8(bytes, at + 8, b9, b8, b11, b10, b13, b12, b15, b14);
+    let x = eight::reverse_pairs(eight::read(bytes, at));
+    let y = eight::reverse_pairs(eight::read(bytes, at + 8));
+    eight::put(bytes, at, x);
+    eight::put(bytes, at + 8, y);
 }
 
 fn reverse_cell_2(bytes: &mut [u8], at: usize)

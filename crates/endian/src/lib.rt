@@ -1,5 +1,6 @@
 // Cells with their bytes reversed: in place, and on the way to another slice.
 pub mod cells;
+pub mod eight;
 pub mod in_place;
 pub mod word;
 

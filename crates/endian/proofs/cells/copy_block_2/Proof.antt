@@ -1,156 +1,58 @@
--- `endian::cells::copy_block_2`: sixteen reads, written by eights, by the law for any size (CellLaws).
+-- `endian::cells::copy_block_2`: twice eight bytes, by the laws for any size (CellLaws).
 -- Assumes nothing.
+use Prim.Native.Nat.{_+_}
 use native.Mathlib.Omega.{arith}
-use Rattle.endian.proofs.CellLaws.{cells-at-once}
+use Rattle.endian.proofs.CellLaws.{run-written, two-runs}
 use borrow.Author.Needs.{needs}
 use Rattle.endian.proofs.cells.copy_block_2.Statement.{statement}
 use Rattle.endian.proofs.cells.copy_block_2.Tie as tie
 
-shared-slice-read-b0 : tie.Need-shared-slice-read-b0
-shared-slice-read-b0 c = search needs
+read-requires : tie.Need-read-requires
+read-requires c κs = search needs
 
-add-b1 : tie.Need-add-b1
-add-b1 c = search needs
+reverse-pairs-requires : tie.Need-reverse-pairs-requires
+reverse-pairs-requires c κs = search needs
 
-shared-slice-read-b1 : tie.Need-shared-slice-read-b1
-shared-slice-read-b1 c = search needs
+add-read : tie.Need-add-read
+add-read c = search needs
 
-add-b2 : tie.Need-add-b2
-add-b2 c = search needs
+read-requires-2 : tie.Need-read-requires-2
+read-requires-2 c κs = search needs
 
-shared-slice-read-b2 : tie.Need-shared-slice-read-b2
-shared-slice-read-b2 c = search needs
+reverse-pairs-requires-2 : tie.Need-reverse-pairs-requires-2
+reverse-pairs-requires-2 c κs = search needs
 
-add-b3 : tie.Need-add-b3
-add-b3 c = search needs
+put-requires : tie.Need-put-requires
+put-requires c κs = search needs
 
-shared-slice-read-b3 : tie.Need-shared-slice-read-b3
-shared-slice-read-b3 c = search needs
+add-put : tie.Need-add-put
+add-put c = search needs
 
-add-b4 : tie.Need-add-b4
-add-b4 c = search needs
-
-shared-slice-read-b4 : tie.Need-shared-slice-read-b4
-shared-slice-read-b4 c = search needs
-
-add-b5 : tie.Need-add-b5
-add-b5 c = search needs
-
-shared-slice-read-b5 : tie.Need-shared-slice-read-b5
-shared-slice-read-b5 c = search needs
-
-add-b6 : tie.Need-add-b6
-add-b6 c = search needs
-
-shared-slice-read-b6 : tie.Need-shared-slice-read-b6
-shared-slice-read-b6 c = search needs
-
-add-b7 : tie.Need-add-b7
-add-b7 c = search needs
-
-shared-slice-read-b7 : tie.Need-shared-slice-read-b7
-shared-slice-read-b7 c = search needs
-
-add-b8 : tie.Need-add-b8
-add-b8 c = search needs
-
-shared-slice-read-b8 : tie.Need-shared-slice-read-b8
-shared-slice-read-b8 c = search needs
-
-add-b9 : tie.Need-add-b9
-add-b9 c = search needs
-
-shared-slice-read-b9 : tie.Need-shared-slice-read-b9
-shared-slice-read-b9 c = search needs
-
-add-b10 : tie.Need-add-b10
-add-b10 c = search needs
-
-shared-slice-read-b10 : tie.Need-shared-slice-read-b10
-shared-slice-read-b10 c = search needs
-
-add-b11 : tie.Need-add-b11
-add-b11 c = search needs
-
-shared-slice-read-b11 : tie.Need-shared-slice-read-b11
-shared-slice-read-b11 c = search needs
-
-add-b12 : tie.Need-add-b12
-add-b12 c = search needs
-
-shared-slice-read-b12 : tie.Need-shared-slice-read-b12
-shared-slice-read-b12 c = search needs
-
-add-b13 : tie.Need-add-b13
-add-b13 c = search needs
-
-shared-slice-read-b13 : tie.Need-shared-slice-read-b13
-shared-slice-read-b13 c = search needs
-
-add-b14 : tie.Need-add-b14
-add-b14 c = search needs
-
-shared-slice-read-b14 : tie.Need-shared-slice-read-b14
-shared-slice-read-b14 c = search needs
-
-add-b15 : tie.Need-add-b15
-add-b15 c = search needs
-
-shared-slice-read-b15 : tie.Need-shared-slice-read-b15
-shared-slice-read-b15 c = search needs
-
-put-8-requires : tie.Need-put-8-requires
-put-8-requires c κs = search needs
-
-add-put-8 : tie.Need-add-put-8
-add-put-8 c = search needs
-
-put-8-requires-2 : tie.Need-put-8-requires-2
-put-8-requires-2 c κs = search needs
+put-requires-2 : tie.Need-put-requires-2
+put-requires-2 c κs = search needs
 
 same-length : tie.Need-same-length
 same-length c = search needs
 
 returns : tie.Need-returns
-returns c = let a = c .before .before .before .before .before .before .before .before .before .before .before .before .before .before .before .before .before .before .before .before .before .before .before .before .before .before .args in cells-at-once 2 8 8 (a .s .now) (a .out .now) (a .at) (a .to) (omega arith) (c .before .before .before .before .before .before .before .before .before .before .before .before .before .before .before .before .before .before .before .before .before .before .before .before .before .before .pre .0) (c .before .before .before .before .before .before .before .before .before .before .before .before .before .before .before .before .before .before .before .before .before .before .before .before .before .before .pre .1) (c .before .before .before .before .before .before .put-8 .ensures) (c .before .before .put-82 .ensures)
+returns c =
+    let a = c .before .before .before .before .before .before .before .before .before .before .before .before .before .before .args in
+    let p = c .before .before .before .before .before .before .before .before .before .before .before .before .before .before .pre in
+    two-runs 2 4 (a .s .now) (a .out .now) (a .at) (a .to) (p .0) (p .1)
+    (run-written 2 4 (a .s .now) (a .out .now) (a .at) (a .to) (omega arith) (c .before .before .before .before .before .before .before .before .before .before .before .read .ensures) (c .before .before .before .before .before .before .before .before .before .before .reverse-pairs .ensures) (c .before .before .before .before .before .before .put .ensures))
+    (run-written 2 4 (a .s .now) (c .before .before .before .before .before .before .put .last .0) (a .at + 8) (a .to + 8) (omega arith) (c .before .before .before .before .before .before .before .before .before .read2 .ensures) (c .before .before .before .before .before .before .before .before .reverse-pairs2 .ensures) (c .before .before .put2 .ensures))
 
 pub copy-block-2-spec : {M : Type 1} → statement M
 copy-block-2-spec =
     tie.close
     (tie.spec
-    shared-slice-read-b0
-    add-b1
-    shared-slice-read-b1
-    add-b2
-    shared-slice-read-b2
-    add-b3
-    shared-slice-read-b3
-    add-b4
-    shared-slice-read-b4
-    add-b5
-    shared-slice-read-b5
-    add-b6
-    shared-slice-read-b6
-    add-b7
-    shared-slice-read-b7
-    add-b8
-    shared-slice-read-b8
-    add-b9
-    shared-slice-read-b9
-    add-b10
-    shared-slice-read-b10
-    add-b11
-    shared-slice-read-b11
-    add-b12
-    shared-slice-read-b12
-    add-b13
-    shared-slice-read-b13
-    add-b14
-    shared-slice-read-b14
-    add-b15
-    shared-slice-read-b15
-    put-8-requires
-    add-put-8
-    put-8-requires-2
+    read-requires
+    reverse-pairs-requires
+    add-read
+    read-requires-2
+    reverse-pairs-requires-2
+    put-requires
+    add-put
+    put-requires-2
     same-length
     returns)

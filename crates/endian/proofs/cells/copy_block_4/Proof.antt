@@ -1,83 +1,25 @@
--- `endian::cells::copy_block_4`: eight reads, written at once, by the law for any size (CellLaws).
+-- `endian::cells::copy_block_4`: eight bytes, by the law for any size (CellLaws).
 -- Assumes nothing.
-use Rattle.endian.proofs.CellLaws.{cells-written}
+use Rattle.endian.proofs.CellLaws.{run-written}
 use borrow.Author.Needs.{needs}
 use Rattle.endian.proofs.cells.copy_block_4.Statement.{statement}
 use Rattle.endian.proofs.cells.copy_block_4.Tie as tie
 
-shared-slice-read-b0 : tie.Need-shared-slice-read-b0
-shared-slice-read-b0 c = search needs
+read-requires : tie.Need-read-requires
+read-requires c κs = search needs
 
-add-b1 : tie.Need-add-b1
-add-b1 c = search needs
+reverse-fours-requires : tie.Need-reverse-fours-requires
+reverse-fours-requires c κs = search needs
 
-shared-slice-read-b1 : tie.Need-shared-slice-read-b1
-shared-slice-read-b1 c = search needs
-
-add-b2 : tie.Need-add-b2
-add-b2 c = search needs
-
-shared-slice-read-b2 : tie.Need-shared-slice-read-b2
-shared-slice-read-b2 c = search needs
-
-add-b3 : tie.Need-add-b3
-add-b3 c = search needs
-
-shared-slice-read-b3 : tie.Need-shared-slice-read-b3
-shared-slice-read-b3 c = search needs
-
-add-b4 : tie.Need-add-b4
-add-b4 c = search needs
-
-shared-slice-read-b4 : tie.Need-shared-slice-read-b4
-shared-slice-read-b4 c = search needs
-
-add-b5 : tie.Need-add-b5
-add-b5 c = search needs
-
-shared-slice-read-b5 : tie.Need-shared-slice-read-b5
-shared-slice-read-b5 c = search needs
-
-add-b6 : tie.Need-add-b6
-add-b6 c = search needs
-
-shared-slice-read-b6 : tie.Need-shared-slice-read-b6
-shared-slice-read-b6 c = search needs
-
-add-b7 : tie.Need-add-b7
-add-b7 c = search needs
-
-shared-slice-read-b7 : tie.Need-shared-slice-read-b7
-shared-slice-read-b7 c = search needs
-
-put-8-requires : tie.Need-put-8-requires
-put-8-requires c κs = search needs
+put-requires : tie.Need-put-requires
+put-requires c κs = search needs
 
 same-length : tie.Need-same-length
 same-length c = search needs
 
 returns : tie.Need-returns
-returns c = let a = c .before .before .before .before .before .before .before .before .before .before .before .before .before .before .args in cells-written 4 2 (a .s .now) (a .out .now) (a .at) (a .to) (c .before .before .before .before .before .before .before .before .before .before .before .before .before .before .pre .1) (c .before .before .put-8 .ensures)
+returns c = let a = c .before .before .before .before .before .before .before .before .args in run-written 4 2 (a .s .now) (a .out .now) (a .at) (a .to) (c .before .before .before .before .before .before .before .before .pre .1) (c .before .before .before .before .before .read .ensures) (c .before .before .before .before .reverse-fours .ensures) (c .before .before .put .ensures)
 
 pub copy-block-4-spec : {M : Type 1} → statement M
 copy-block-4-spec =
-    tie.close
-    (tie.spec
-    shared-slice-read-b0
-    add-b1
-    shared-slice-read-b1
-    add-b2
-    shared-slice-read-b2
-    add-b3
-    shared-slice-read-b3
-    add-b4
-    shared-slice-read-b4
-    add-b5
-    shared-slice-read-b5
-    add-b6
-    shared-slice-read-b6
-    add-b7
-    shared-slice-read-b7
-    put-8-requires
-    same-length
-    returns)
+    tie.close (tie.spec read-requires reverse-fours-requires put-requires same-length returns)

@@ -1,12 +1,12 @@
--- `endian::cells::put_8`: eight stores are the eight bytes laid over the output (Unrolled).
+-- `endian::eight::put`: eight stores are the eight bytes laid over the output (Unrolled).
 -- Assumes nothing.
-use mathlib.Core.List.{[], _∷_}
 use native.Mathlib.Omega.{arith}
 use lib.ListN.{length-set}
 use Rattle.array.proofs.Unrolled.{stores-over}
+use Rattle.endian.specs.Eight.{eightBytes}
 use borrow.Author.Needs.{needs}
-use Rattle.endian.proofs.cells.put_8.Statement.{statement}
-use Rattle.endian.proofs.cells.put_8.Tie as tie
+use Rattle.endian.proofs.eight.put.Statement.{statement}
+use Rattle.endian.proofs.eight.put.Tie as tie
 
 slice-write-out : tie.Need-slice-write-out
 slice-write-out c = search needs
@@ -57,10 +57,10 @@ same-length : tie.Need-same-length
 same-length c = simp length-set
 
 returns : tie.Need-returns
-returns c = let a = c .args in stores-over (a .at) (a .b0 ∷ a .b1 ∷ a .b2 ∷ a .b3 ∷ a .b4 ∷ a .b5 ∷ a .b6 ∷ a .b7 ∷ []) (a .out .now) (c .pre)
+returns c = let a = c .args in stores-over (a .at) (eightBytes (a .e)) (a .out .now) (c .pre)
 
-pub put-8-spec : {M : Type 1} → statement M
-put-8-spec =
+pub put-spec : {M : Type 1} → statement M
+put-spec =
     tie.close
     (tie.spec
     slice-write-out
