@@ -50,16 +50,16 @@ module _ {os : List ℕ} {n i : ℕ} {b : Bool} (c : Rise os n b i) where
   rise-ends l = let z : n - i ≡ 0 = omega arith in sym (c .same ∙ ap (λ (k : ℕ). b && risingFromTest (getD os i 0) (take k (drop (suc i) os))) z ∙ and-true b)
 
   pub rise-more : i < n → Rise os n (b && leb (getD os i 0) (getD os (i + 1) 0)) (i + 1)
-  rise-more l = record
-      { enough = c .enough
-      ; within = omega arith
-      ; same =
-      let z : n - i ≡ suc (n - (i + 1)) = omega arith in
-      c .same
-      ∙ ap₂ (λ (k : ℕ) (r : List ℕ). b && risingFromTest (getD os i 0) (take k r)) z (drop-cons os (suc i) 0 (omega (arith, c .enough)))
-      ∙ ap (λ (k : ℕ). b && (leb (getD os i 0) (getD os k 0) && risingFromTest (getD os k 0) (take (n - (i + 1)) (drop (suc k) os)))) (sym (add-one i))
-      ∙ and-assoc b (leb (getD os i 0) (getD os (i + 1) 0)) (risingFromTest (getD os (i + 1) 0) (take (n - (i + 1)) (drop (suc (i + 1)) os)))
-      }
+  rise-more l = record {
+    enough = c .enough;
+    within = omega arith;
+    same =
+        let z : n - i ≡ suc (n - (i + 1)) = omega arith in
+        c .same
+        ∙ ap₂ (λ (k : ℕ) (r : List ℕ). b && risingFromTest (getD os i 0) (take k r)) z (drop-cons os (suc i) 0 (omega (arith, c .enough)))
+        ∙ ap (λ (k : ℕ). b && (leb (getD os i 0) (getD os k 0) && risingFromTest (getD os k 0) (take (n - (i + 1)) (drop (suc k) os)))) (sym (add-one i))
+        ∙ and-assoc b (leb (getD os i 0) (getD os (i + 1) 0)) (risingFromTest (getD os (i + 1) 0) (take (n - (i + 1)) (drop (suc (i + 1)) os)));
+  }
 
 -- the last of n + 1 offsets is the one at n
 pub last-at : (os : List ℕ) (n : ℕ) → length os ≡ suc n → last os ≡ getD os n 0

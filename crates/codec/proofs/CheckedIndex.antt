@@ -87,11 +87,11 @@ pub record IndexChecked (w k : ℕ) (s : List ℕ) (at : ℕ) (p : Place) (f l :
   pub gave : getRagged w p (drop at s) k
       ≡ gives (record { values = take l (drop (at + dataAt p (w + k * w)) s); offsets = offsetsIn w (suc k) (drop (at + indexAt p (length s - at) (w + k * w)) s) })
 
-index-within : (p : Place) (m i : ℕ) → 8 ≤ m → i ≤ m - 8 → indexAt p m i + i ≤ m
+pub index-within : (p : Place) (m i : ℕ) → 8 ≤ m → i ≤ m - 8 → indexAt p m i + i ≤ m
 index-within atStart m i h g = omega arith
 index-within atEnd m i h g = omega arith
 
-data-within : (p : Place) (m i : ℕ) → 8 ≤ m → i ≤ m - 8 → dataAt p i + (m - 8 - i) ≤ m
+pub data-within : (p : Place) (m i : ℕ) → 8 ≤ m → i ≤ m - 8 → dataAt p i + (m - 8 - i) ≤ m
 data-within atStart m i h g = omega arith
 data-within atEnd m i h g = omega arith
 

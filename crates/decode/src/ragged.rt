@@ -170,7 +170,18 @@ pub fn decode_ragged(
                     let index = at + index_at(place, s.len() - at, size);
                     let from = at + data_at(place, size);
                     write_ragged(
-                        s, n, depth, width, index, from, cells, first, last, masks, values, offsets,
+                        s,
+                        n,
+                        depth,
+                        width,
+                        index,
+                        from,
+                        cells,
+                        first,
+                        last,
+                        masks,
+                        values,
+                        offsets,
                     )
                 }
             }
