@@ -1,4 +1,4 @@
--- `spread_pairs` meets its contract, by the laws of SpreadingValues and Pairs; the next two words are at hand.
+-- `spread_pairs` meets its contract, by the laws of SpreadingValues and PairLaws; the next two words are at hand.
 -- Assumes nothing.
 use mathlib.Core.Path.{_≡_, refl, ap, _∙_}
 use mathlib.Core.List.{_++_}
@@ -14,9 +14,9 @@ use Rattle.codec.specs.Marks.{toldMark}
 use Rattle.decode.specs.Next.{wordAt}
 use Rattle.decode.proofs.Placing.{planeAt, plane-length, plane-byte, next-most}
 use Rattle.decode.proofs.SpreadingValues.{SpreadingValues, values-begin, values-same, values-inside, values-room, values-cell, values-end}
-use Rattle.decode.proofs.Pairs.{pair-is, pair-cell, pair-room, first-most}
-use Rattle.decode.proofs.values.spread_pairs.Statement.{statement}
-use Rattle.decode.proofs.values.spread_pairs.Tie as tie
+use Rattle.decode.proofs.PairLaws.{pair-is, pair-cell, pair-room, first-most}
+use Rattle.decode.proofs.pairs.spread_pairs.Statement.{statement}
+use Rattle.decode.proofs.pairs.spread_pairs.Tie as tie
 
 abbrev Inv-loop : tie.InvT-loop
 Inv-loop values₀ masks from n s at order cells words a b i₀ k₀ v₀ u₀ values i k v u = SpreadingValues 16 (orderOf order) (planeAt from n masks) s values₀ at cells values i k × (le 8 v ≡ wordAt 8 (orderOf order) s at (2 * k + a) (2 * cells)) × (le 8 u ≡ wordAt 8 (orderOf order) s at (2 * k + (1 - a)) (2 * cells))

@@ -13,8 +13,8 @@ use Rattle.codec.specs.Marks.{toldMark}
 use Rattle.decode.specs.Next.{wordAt}
 use Rattle.decode.proofs.Placing.{planeAt, plane-length, plane-byte, next-most}
 use Rattle.decode.proofs.SpreadingValues.{SpreadingValues, values-begin, values-same, values-inside, values-room, values-cell, values-end, word-left, word-cell}
-use Rattle.decode.proofs.values.spread_words.Statement.{statement}
-use Rattle.decode.proofs.values.spread_words.Tie as tie
+use Rattle.decode.proofs.words.spread_words.Statement.{statement}
+use Rattle.decode.proofs.words.spread_words.Tie as tie
 
 abbrev Inv-loop : tie.InvT-loop
 Inv-loop values₀ masks from n s at size order cells i₀ k₀ v₀ values i k v = SpreadingValues size (orderOf order) (planeAt from n masks) s values₀ at cells values i k × (le size v ≡ wordAt size (orderOf order) s at k cells)

@@ -1,9 +1,9 @@
--- `put_pair` meets its contract, by the laws of Pairs.
+-- `put_pair` meets its contract, by the laws of PairLaws.
 -- Assumes nothing.
 use borrow.Author.Needs.{needs}
-use Rattle.decode.proofs.Pairs.{pair-laid}
-use Rattle.decode.proofs.values.put_pair.Statement.{statement}
-use Rattle.decode.proofs.values.put_pair.Tie as tie
+use Rattle.decode.proofs.PairLaws.{pair-laid}
+use Rattle.decode.proofs.pairs.put_pair.Statement.{statement}
+use Rattle.decode.proofs.pairs.put_pair.Tie as tie
 
 put-word-requires : tie.Need-put-word-requires
 put-word-requires c κs = search needs
