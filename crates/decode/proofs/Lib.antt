@@ -3,6 +3,7 @@ pub mod Placing
 pub mod RunLaws
 pub mod ValueRuns
 pub mod SpreadingValues
+pub mod PairLaws
 pub mod CopyingOffsets
 pub mod SpreadingOffsets
 pub mod Levels

@@ -200,13 +200,18 @@ module _ {size : ℕ} {o : Order} {p s d : List ℕ} {at cells : ℕ} {out : Lis
   one zero g = absurd (g refl)
   one (suc b) g = refl
 
-  -- the word w is the stored one, or 0
-  pub values-more : (m : Mark) → m ≡ markOf (getD p i 0) → (w x : ℕ) → w ≡ ifSet m x 0 → le size x ≡ ordered o (take size (drop (at + k * size) s))
-      → (out′ : List ℕ) → out′ ≡ overAt (i * size) (le size w) out → SpreadingValues size o p s d at cells out′ (i + 1) (nextAt m k 1)
-  values-more isNull e w x ew ex out′ eo =
+  -- g is the stored value, or zero bytes
+  pub values-cell : (m : Mark) → m ≡ markOf (getD p i 0) → (g : List ℕ) → g ≡ ifSet m (ordered o (take size (drop (at + k * size) s))) (replicate size 0)
+      → (out′ : List ℕ) → out′ ≡ overAt (i * size) g out → SpreadingValues size o p s d at cells out′ (i + 1) (nextAt m k 1)
+  values-cell isNull e g eg out′ eo =
       let b : getD p i 0 ≡ 0 = null-byte (getD p i 0) (sym e) in
       values-nulls v 1 (omega arith) (ap countSet first ∙ ap (λ (b : ℕ). countSet (b ∷ [])) b) out′
-      (eo ∙ ap (λ (l : List ℕ). overAt (i * size) l out) (ap (le size) ew ∙ le-zero size ∙ ap (λ (k : ℕ). replicate {A = ℕ} k 0) (sym (one-mul size))))
-  values-more isSet e w x ew ex out′ eo =
+      (eo ∙ ap (λ (l : List ℕ). overAt (i * size) l out) (eg ∙ ap (λ (k : ℕ). replicate {A = ℕ} k 0) (sym (one-mul size))))
+  values-cell isSet e g eg out′ eo =
       values-sets v 1 (omega arith) (ap countSet first ∙ one (getD p i 0) (set-byte (getD p i 0) (sym e))) out′
-      (eo ∙ ap (λ (l : List ℕ). overAt (i * size) l out) (ap (le size) ew ∙ ex ∙ sym (append-nil (ordered o (take size (drop (at + k * size) s))))))
+      (eo ∙ ap (λ (l : List ℕ). overAt (i * size) l out) (eg ∙ sym (append-nil (ordered o (take size (drop (at + k * size) s))))))
+
+-- the word w is the stored one, or 0
+pub word-cell : (size : ℕ) (m : Mark) (w x : ℕ) (q : List ℕ) → w ≡ ifSet m x 0 → le size x ≡ q → le size w ≡ ifSet m q (replicate size 0)
+word-cell size isNull w x q ew ex = ap (le size) ew ∙ le-zero size
+word-cell size isSet w x q ew ex = ap (le size) ew ∙ ex

@@ -6,7 +6,7 @@ use lib.ListN.{take, drop, replicate}
 use lib.Dec.{ltb}
 use Rattle.array.specs.Lists.{pick}
 use Rattle.array.specs.Cells.{Mark, isNull, isSet}
-use Rattle.array.specs.Kind.{Order, ordered}
+use Rattle.array.specs.Kind.{Order, little, big, ordered}
 
 -- x for a set cell, z for a null one
 abbrev pub ifSet : {A : Type 0} → Mark → A → A → A
@@ -20,3 +20,8 @@ nextAt m at size = ifSet m (at + size) at
 -- the value k of those that are stored from `at` on, or zero bytes behind them
 abbrev pub wordAt : ℕ → Order → List ℕ → ℕ → ℕ → ℕ → List ℕ
 wordAt size o s at k cells = pick (ltb k cells) (ordered o (take size (drop (at + k * size) s))) (replicate size 0)
+
+-- which of a value's two words is its first
+abbrev pub firstWord : Order → ℕ
+firstWord little = 0
+firstWord big = 1

@@ -2,10 +2,12 @@
 mod fixed;
 mod next;
 mod offsets;
+mod pairs;
 mod planes;
 mod ragged;
 mod runs;
 mod values;
+mod words;
 
 use array::answer::WrittenArray;
 use array::kind::Kind;

@@ -52,6 +52,11 @@ spread-words-requires-4 c κs =
     let args = c .before .before .before .before .before .before .args in
     (subst (λ (w : ℕ). ValuesWithin (args .values .now) (args .masks .now) (args .from) (args .n) (args .s .now) (args .at) w (args .cells)) (c .before .match .keys4) (c .before .before .before .before .before .before .pre), refl)
 
+spread-pairs-requires : tie.Need-spread-pairs-requires
+spread-pairs-requires c κs =
+    let args = c .before .before .before .before .before .before .args in
+    subst (λ (w : ℕ). ValuesWithin (args .values .now) (args .masks .now) (args .from) (args .n) (args .s .now) (args .at) w (args .cells)) (c .before .match .keys5) (c .before .before .before .before .before .before .pre)
+
 spread-runs-requires : tie.Need-spread-runs-requires
 spread-runs-requires c κs = search needs
 
@@ -91,7 +96,15 @@ same-length-6 : tie.Need-same-length-6
 same-length-6 c = search needs
 
 returns-6 : tie.Need-returns-6
-returns-6 c = search needs
+returns-6 c =
+    let args = c .before .before .before .before .before .before .before .before .before .args in
+    sized-as (args .size) 16 (c .before .before .before .before .match .keys5) (orderOf (args .order)) (planeAt (args .from) (args .n) (args .masks .now)) (drop (args .at) (args .s .now)) (args .values .now) (c .before .before .spread-pairs .last .0) (c .before .before .spread-pairs .ensures)
+
+same-length-7 : tie.Need-same-length-7
+same-length-7 c = search needs
+
+returns-7 : tie.Need-returns-7
+returns-7 c = search needs
 
 pub spread-values-spec : {M : Type 1} → statement M
 spread-values-spec =
@@ -104,6 +117,7 @@ spread-values-spec =
     spread-words-requires-2
     spread-words-requires-3
     spread-words-requires-4
+    spread-pairs-requires
     spread-runs-requires
     same-length-2
     returns-2
@@ -114,4 +128,6 @@ spread-values-spec =
     same-length-5
     returns-5
     same-length-6
-    returns-6)
+    returns-6
+    same-length-7
+    returns-7)

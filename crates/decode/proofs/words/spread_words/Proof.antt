@@ -3,17 +3,18 @@
 use mathlib.Core.Path.{_≡_, ap, _∙_}
 use Prim.Native.Nat.{_+_, _-_, _*_, _≤_, _<_}
 use native.Mathlib.Omega.{arith}
-use lib.ListN.{length, getD}
+use lib.ListN.{length, take, drop, getD}
 use borrow.Author.Needs.{needs}
 use Rattle.array.specs.Cells.{markOf}
+use Rattle.array.specs.Kind.{ordered}
 use Rattle.array.specs.Meaning.{orderOf}
 use Rattle.array.specs.Bytes.{le}
 use Rattle.codec.specs.Marks.{toldMark}
 use Rattle.decode.specs.Next.{wordAt}
 use Rattle.decode.proofs.Placing.{planeAt, plane-length, plane-byte, next-most}
-use Rattle.decode.proofs.SpreadingValues.{SpreadingValues, values-begin, values-same, values-inside, values-room, values-more, values-end, word-left}
-use Rattle.decode.proofs.values.spread_words.Statement.{statement}
-use Rattle.decode.proofs.values.spread_words.Tie as tie
+use Rattle.decode.proofs.SpreadingValues.{SpreadingValues, values-begin, values-same, values-inside, values-room, values-cell, values-end, word-left, word-cell}
+use Rattle.decode.proofs.words.spread_words.Statement.{statement}
+use Rattle.decode.proofs.words.spread_words.Tie as tie
 
 abbrev Inv-loop : tie.InvT-loop
 Inv-loop values₀ masks from n s at size order cells i₀ k₀ v₀ values i k v = SpreadingValues size (orderOf order) (planeAt from n masks) s values₀ at cells values i k × (le size v ≡ wordAt size (orderOf order) s at k cells)
@@ -81,8 +82,10 @@ loop-again : tie.Need-loop-again Inv-loop μ-loop
 loop-again c =
     let args = c .before .before .before .before .before .before .before .before .before .before .before .before .before .before .before .args in
     let loop = c .before .before .before .before .before .before .before .before .before .before .loop in
+    let q = ordered (orderOf (args .order)) (take (args .size) (drop (args .at + loop .k * args .size) (args .s .now))) in
     let word-is = loop .inv .1 ∙ word-left (args .size) (orderOf (args .order)) (args .s .now) (args .at) (loop .k) (args .cells) (c .before .before .before .before .before .before .before .before .before .loop-test .taken) in
-    (rw (c .before .before .before .before .before .skip .ensures) (values-more (loop .inv .0) (inside (c .before .before .before .before .before .before .before .before .before)) (toldMark (c .before .before .before .before .before .before .before .mark-of .result)) (mark-is (c .before .before .before .before .before .before .before)) (c .before .before .before .before .before .before .number-if .result) (loop .v) (c .before .before .before .before .before .before .number-if .ensures) word-is _ (c .before .before .put-word .ensures)), c .before .before .before .before .next-word2 .ensures)
+    let mark = toldMark (c .before .before .before .before .before .before .before .mark-of .result) in
+    (rw (c .before .before .before .before .before .skip .ensures) (values-cell (loop .inv .0) (inside (c .before .before .before .before .before .before .before .before .before)) mark (mark-is (c .before .before .before .before .before .before .before)) (le (args .size) (c .before .before .before .before .before .before .number-if .result)) (word-cell (args .size) mark (c .before .before .before .before .before .before .number-if .result) (loop .v) q (c .before .before .before .before .before .before .number-if .ensures) word-is) _ (c .before .before .put-word .ensures)), c .before .before .before .before .next-word2 .ensures)
 
 mul-fill-bytes : tie.Need-mul-fill-bytes Inv-loop μ-loop
 mul-fill-bytes c = omega (arith, (rest (c .before)))

@@ -8,8 +8,8 @@ use borrow.Author.Needs.{needs}
 use Rattle.array.specs.Meaning.{orderOf}
 use Rattle.decode.proofs.Placing.{next-within}
 use Rattle.decode.proofs.SpreadingValues.{word-left, word-none}
-use Rattle.decode.proofs.values.next_word.Statement.{statement}
-use Rattle.decode.proofs.values.next_word.Tie as tie
+use Rattle.decode.proofs.words.next_word.Statement.{statement}
+use Rattle.decode.proofs.words.next_word.Tie as tie
 
 room : (c : tie.Then1) → c .before .before .args .at + c .before .before .args .k * c .before .before .args .size + c .before .before .args .size ≤ length (c .before .before .args .s .now)
 room c = next-within (c .before .before .args .size) (c .before .before .args .at) (c .before .before .args .k) (c .before .before .args .cells) (length (c .before .before .args .s .now)) (c .if1 .taken) (c .before .before .pre .1)
