@@ -157,13 +157,12 @@ fn copy_cell_16(out: &mut [u8], to: usize, s: &[u8], at: usize)
     field::put_u64(out, to + 8, low);
 }
 
-// Two cells of four bytes.
+// Two cells of four bytes, as one word.
 fn copy_block_4(out: &mut [u8], to: usize, s: &[u8], at: usize)
     requires { ⌜ (to + 8 ≤ length (now «out»)) × (at + 8 ≤ length (now s)) ⌝ }
     ensures { λ _. ⌜ now («out» .exit) ≡ overAt to (reversedCells 4 2 (drop at (now (s .entry)))) (now («out» .entry)) ⌝ }
 {
-    let x = eight::reverse_fours(eight::read(s, at));
-    eight::put(out, to, x);
+    field::put_u64(out, to, word::swap_halves(word::be8_at(s, at)));
 }
 
 // Eight cells of two bytes. All are read before the first is written, so that they go as one vector.
