@@ -39,22 +39,24 @@ fn reverse_cells_2(bytes: &mut [u8], cells: usize)
     }
 }
 
+// Two words a turn: one a turn would be made a vector, which is slower.
 fn reverse_cells_4(bytes: &mut [u8], cells: usize)
     requires { ⌜ cells * 4 ≤ length (now bytes) ⌝ }
     ensures { λ _. ⌜ now (bytes .exit) ≡ over (reversedCells 4 cells (now (bytes .entry))) (now (bytes .entry)) ⌝ }
 {
     let mut i = 0;
-    while 2 <= cells - i {
-        reverse_block_4(bytes, i * 4);
-        i += 2;
+    while 4 <= cells - i {
+        let k = i * 4;
+        reverse_block_4(bytes, k);
+        reverse_block_4(bytes, k + 8);
+        i += 4;
     }
-    if i == cells {
-        return;
+    while i < cells {
+        reverse_cell_4(bytes, i * 4);
+        i += 1;
     }
-    reverse_cell_4(bytes, i * 4);
 }
 
-// Two a turn: one a turn would be made a vector, which is slower.
 fn reverse_cells_8(bytes: &mut [u8], cells: usize)
     requires { ⌜ cells * 8 ≤ length (now bytes) ⌝ }
     ensures { λ _. ⌜ now (bytes .exit) ≡ over (reversedCells 8 cells (now (bytes .entry))) (now (bytes .entry)) ⌝ }
