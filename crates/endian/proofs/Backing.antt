@@ -1,16 +1,19 @@
 -- A copy, the last byte first: any number of bytes a turn, each number reversed by itself.
 -- Assumes nothing.
-use mathlib.Core.Path.{_≡_, sym, ap, _∙_}
-use mathlib.Core.List.{List, [], _∷_, _++_, reverse, reverse-append}
+use mathlib.Core.Path.{_≡_, sym, ap, ap₂, _∙_}
+use mathlib.Core.List.{List, [], _∷_, _++_, reverse, append-nil, reverse-append}
 use Prim.Native.Nat.{ℕ, _+_, _-_, _≤_, _<_}
 use native.Mathlib.Omega.{arith}
 use lib.ListN.{length, take, drop, getD, set, length-drop, length-reverse}
-use lib.Seq.{drop-drop, take-add, length-take-le}
+use lib.Seq.{drop-drop, take-add, take-at, drop-at, length-take-le}
+use Rattle.array.specs.Bytes.{le, unle}
 use Rattle.array.specs.Buffers.{overAt}
+use Rattle.array.specs.Kind.{big}
 use Rattle.array.proofs.Over.{over-at-length}
 use Rattle.array.proofs.Unrolled.{reads-take, stores-over}
+use Rattle.endian.specs.Calls.{reversedCells}
 use Rattle.endian.proofs.CellLaws.{over-none, over-next}
-use Rattle.endian.proofs.Words.{reverse-one}
+use Rattle.endian.proofs.Words.{Slice, le-read, reverse-one}
 
 -- what lies behind comes first
 reverse-add : (m i : ℕ) (q : List ℕ) → reverse (take (m + i) q) ≡ reverse (take i (drop m q)) ++ reverse (take m q)
@@ -85,3 +88,17 @@ two-parts d to s at m p q e f =
     let y : List ℕ = reverse (take m (drop at s)) in
     f ∙ ap (overAt (to + m) y) e ∙ over-next to m x y d (omega arith) (length-back s (at + m) m (omega arith))
     ∙ ap (λ (w : List ℕ). overAt to w d) (sym (reverse-add m m (drop at s) ∙ ap (λ (r : List ℕ). reverse (take m r) ++ y) (drop-drop m at s)))
+
+-- two cells by their number: reversed as one, and then the halves in the other's place
+halves-swapped : (m : ℕ) (q : List ℕ) → m + m ≤ length q → drop m (reverse (take (m + m) q)) ++ take m (reverse (take (m + m) q)) ≡ reversedCells m 2 q
+halves-swapped m q h =
+    let x : List ℕ = reverse (take m q) in
+    let y : List ℕ = reverse (take m (drop m q)) in
+    let l : length y ≡ m = length-back q m m h in
+    let e : reverse (take (m + m) q) ≡ y ++ x = reverse-add m m q in
+    ap₂ (λ (a b : List ℕ). a ++ b) (ap (drop m) e ∙ drop-at y x m l) (ap (take m) e ∙ take-at y x m l) ∙ ap (λ (r : List ℕ). x ++ r) (sym (append-nil y))
+
+pub pair-written : (s : List ℕ) → Slice s → (d : List ℕ) (at to : ℕ) → at + 8 ≤ length s → {w : ℕ} → w ≡ unle (reverse (take 8 (drop at s)))
+    → (v : ℕ) → le 8 v ≡ drop 4 (le 8 w) ++ take 4 (le 8 w) → {out : List ℕ} → out ≡ overAt to (le 8 v) d → out ≡ overAt to (reversedCells 4 2 (drop at s)) d
+pair-written s f d at to h {w} e v g o =
+    o ∙ ap (λ (l : List ℕ). overAt to l d) (g ∙ ap (λ (l : List ℕ). drop 4 l ++ take 4 l) (le-read big s f at 8 h w e) ∙ halves-swapped 4 (drop at s) (omega (arith, length-drop at s)))

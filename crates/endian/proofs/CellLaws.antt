@@ -173,3 +173,14 @@ copies-twice {d} {to} {s} {at} {k} {n} {out} {i} l h {out′} e {out″} f =
     let b : Copies d to s at k n out″ (i + 1 + 1) = copies-next a (omega arith) (f ∙ ap (λ (j : ℕ). overAt (to + j) (reverse (take k (drop (at + j) s))) out′) q) in
     let j : i + 1 + 1 ≡ i + 2 = omega arith in
     record { within = h; room = b .room; source = b .source; here = b .here ∙ ap (λ (x : ℕ). overAt to (reversedCells k x (drop at s)) d) j }
+
+-- m cells more, and m again
+pub copies-pair : {d : List ℕ} {to : ℕ} {s : List ℕ} {at k n : ℕ} {out : List ℕ} {i : ℕ} → Copies d to s at k n out i → (m : ℕ) → i + (m + m) ≤ n
+    → {out′ : List ℕ} → out′ ≡ overAt (to + i * k) (reversedCells k m (drop (at + i * k) s)) out
+    → {out″ : List ℕ} → out″ ≡ overAt (to + (i * k + m * k)) (reversedCells k m (drop (at + (i * k + m * k)) s)) out′ → Copies d to s at k n out″ (i + (m + m))
+copies-pair {d} {to} {s} {at} {k} {n} {out} {i} l m h {out′} e {out″} f =
+    let q : i * k + m * k ≡ (i + m) * k = sym (add-mul i m k) in
+    let a : Copies d to s at k n out′ (i + m) = copies-more l m (omega arith) e in
+    let b : Copies d to s at k n out″ (i + m + m) = copies-more a m (omega arith) (f ∙ ap (λ (j : ℕ). overAt (to + j) (reversedCells k m (drop (at + j) s)) out′) q) in
+    let j : i + m + m ≡ i + (m + m) = omega arith in
+    record { within = h; room = b .room; source = b .source; here = b .here ∙ ap (λ (x : ℕ). overAt to (reversedCells k x (drop at s)) d) j }

@@ -4,7 +4,7 @@ use mathlib.Core.Path.{_≡_, refl, sym, ap, ap₂, _∙_}
 use mathlib.Core.Bool.{true, false}
 use mathlib.Core.List.{List, [], _∷_, _++_, reverse, append-assoc, reverse-append}
 use Prim.Native.Nat.{ℕ, suc, _+_, _-_, _*_, _/_, _≤_, _<_}
-use native.Mathlib.Nat.{suc-mul, mul-le-mul-right, div-mul-le-self}
+use native.Mathlib.Nat.{suc-mul, add-mul, mul-le-mul-right, div-mul-le-self}
 use native.Mathlib.Omega.{arith}
 use native.Mathlib.Numerals.{add-one}
 use lib.ListN.{length, take, drop, getD, set, length-append, length-take, length-drop, length-reverse, take-append-drop}
@@ -68,6 +68,16 @@ reversing-twice {k} {n} {d} {out} {i} l h {out′} e {out″} f =
     let a : Reversing k n d out′ (i + 1) = reversing-next l (omega arith) e in
     let b : Reversing k n d out″ (i + 1 + 1) = reversing-next a (omega arith) (f ∙ ap (λ (j : ℕ). cellReversed j k out′) q) in
     let j : i + 1 + 1 ≡ i + 2 = omega arith in
+    record { within = h; room = b .room; here = b .here ∙ ap (λ (x : ℕ). over (reversedCells k x d) d) j }
+
+-- m cells more, and m again
+pub reversing-pair : {k n : ℕ} {d out : List ℕ} {i : ℕ} → Reversing k n d out i → (m : ℕ) → i + (m + m) ≤ n → {out′ : List ℕ} → out′ ≡ overAt (i * k) (reversedCells k m (drop (i * k) out)) out
+    → {out″ : List ℕ} → out″ ≡ overAt (i * k + m * k) (reversedCells k m (drop (i * k + m * k) out′)) out′ → Reversing k n d out″ (i + (m + m))
+reversing-pair {k} {n} {d} {out} {i} l m h {out′} e {out″} f =
+    let q : i * k + m * k ≡ (i + m) * k = sym (add-mul i m k) in
+    let a : Reversing k n d out′ (i + m) = reversing-more l m (omega arith) e in
+    let b : Reversing k n d out″ (i + m + m) = reversing-more a m (omega arith) (f ∙ ap (λ (j : ℕ). overAt j (reversedCells k m (drop j out′)) out′) q) in
+    let j : i + m + m ≡ i + (m + m) = omega arith in
     record { within = h; room = b .room; here = b .here ∙ ap (λ (x : ℕ). over (reversedCells k x d) d) j }
 
 -- cells of one byte stay as they are

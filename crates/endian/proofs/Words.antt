@@ -2,15 +2,17 @@
 -- Assumes nothing.
 use mathlib.Core.Path.{_≡_, refl, sym, ap, ap₂, _∙_}
 use mathlib.Core.Bool.{true, false}
-use mathlib.Core.List.{List, [], _∷_, reverse, reverseAux}
-use Prim.Native.Nat.{ℕ, zero, suc, _+_, _*_, _/_, _%_, _≤_, _<_}
+use mathlib.Core.List.{List, [], _∷_, _++_, reverse, reverseAux}
+use Prim.Native.Nat.{ℕ, zero, suc, _+_, _*_, _/_, _%_, _^_, _≤_, _<_}
+use native.Mathlib.Nat.{zero-add, mul-comm, mul-assoc, pow-suc, div-one, div-div-eq-div-mul, div-lt-iff-lt-mul, zero-lt-suc}
 use native.Mathlib.Omega.{arith}
 use lib.ListN.{length, take, drop, getD, replicate, length-drop}
-use lib.Seq.{length-take-le}
+use lib.Seq.{length-take-le, take-at, drop-at}
 use borrow.Author.Tests.{ne-eqb, eqb-true}
 use Rattle.array.specs.Bytes.{le, unle}
 use Rattle.array.specs.Kind.{Order, little, big, ordered}
 use Rattle.array.specs.Lists.{All}
+use Rattle.array.proofs.Bytes.{length-le}
 use Rattle.array.proofs.Sizes.{length-ordered}
 use Rattle.endian.specs.Word.{wordTest}
 
@@ -61,6 +63,40 @@ le-read o s f at k h r e =
     let v : List ℕ = ordered o (take k (drop at s)) in
     let l : length v ≡ k = length-ordered o (take k (drop at s)) ∙ length-take-le k (drop at s) (omega (arith, length-drop at s)) in
     ap (le k) e ∙ ap (λ (j : ℕ). le j (unle v)) (sym l) ∙ le-unle v (bytes-ordered o (take k (drop at s)) (bytes-take k (drop at s) (bytes-drop at s (slice-bytes s f))))
+
+-- ---- the low bytes and the others
+
+le-low : (m a b : ℕ) → le m (a + 256 ^ m * b) ≡ le m a
+unfolding le
+le-low zero a b = refl
+le-low (suc m) a b =
+    let p : 256 ^ suc m * b ≡ 256 * (256 ^ m * b) = ap (λ (x : ℕ). x * b) (pow-suc 256 m ∙ mul-comm (256 ^ m) 256) ∙ mul-assoc 256 (256 ^ m) b in
+    let r : (a + 256 ^ suc m * b) % 256 ≡ a % 256 = omega arith in
+    let d : (a + 256 ^ suc m * b) / 256 ≡ a / 256 + 256 ^ m * b = omega arith in
+    ap₂ (λ (x : ℕ) (l : List ℕ). x ∷ l) r (ap (le m) d ∙ le-low m (a / 256) b)
+
+le-split : (m n v : ℕ) → le (m + n) v ≡ le m v ++ le n (v / 256 ^ m)
+unfolding le
+le-split zero n v = ap₂ le (zero-add n) (sym (div-one v))
+le-split (suc m) n v =
+    let e : suc m + n ≡ suc (m + n) = omega arith in
+    let p : v / 256 / 256 ^ m ≡ v / 256 ^ suc m = div-div-eq-div-mul v 256 (256 ^ m) ∙ ap (λ (x : ℕ). v / x) (mul-comm 256 (256 ^ m) ∙ sym (pow-suc 256 m)) in
+    ap (λ (j : ℕ). le j v) e ∙ ap (λ (l : List ℕ). v % 256 ∷ l) (le-split m n (v / 256) ∙ ap (λ (x : ℕ). le m (v / 256) ++ le n x) p)
+
+pub high-half : (v : ℕ) → v < 18446744073709551616 → v / 4294967296 < 4294967296
+high-half v h = div-lt-iff-lt-mul (zero-lt-suc 4294967295) .1 h
+
+-- the halves of eight bytes, each in the other's place
+pub le-halves : (v : ℕ) → v / 4294967296 < 4294967296 → le 8 (v / 4294967296 + 4294967296 * (v % 4294967296)) ≡ drop 4 (le 8 v) ++ take 4 (le 8 v)
+le-halves v h =
+    let high : ℕ = v / 4294967296 in
+    let low : ℕ = v % 4294967296 in
+    let d : (high + 4294967296 * low) / 4294967296 ≡ low = omega arith in
+    let e : low + 4294967296 * high ≡ v = omega arith in
+    let f : le 8 v ≡ le 4 v ++ le 4 high = le-split 4 4 v in
+    let g : le 4 v ≡ le 4 low = ap (le 4) (sym e) ∙ le-low 4 low high in
+    le-split 4 4 (high + 4294967296 * low) ∙ ap₂ (λ (a b : List ℕ). a ++ b) (le-low 4 high low) (ap (le 4) d ∙ sym g)
+    ∙ sym (ap₂ (λ (a b : List ℕ). a ++ b) (ap (drop 4) f ∙ drop-at (le 4 v) (le 4 high) 4 (length-le 4 v)) (ap (take 4) f ∙ take-at (le 4 v) (le 4 high) 4 (length-le 4 v)))
 
 -- zero is zero bytes
 pub le-zero : (k : ℕ) → le k 0 ≡ replicate k 0

@@ -65,24 +65,25 @@ fn copy_cells_2(out: &mut [u8], to: usize, s: &[u8], at: usize, cells: usize)
     }
 }
 
+// Two words a turn: one a turn would be made a vector, which is slower.
 fn copy_cells_4(out: &mut [u8], to: usize, s: &[u8], at: usize, cells: usize)
     requires { ⌜ (to + cells * 4 ≤ length (now «out»)) × (at + cells * 4 ≤ length (now s)) ⌝ }
     ensures { λ _. ⌜ now («out» .exit) ≡ overAt to (reversedCells 4 cells (drop at (now (s .entry)))) (now («out» .entry)) ⌝ }
 {
     let mut i = 0;
-    while 2 <= cells - i {
+    while 4 <= cells - i {
         let k = i * 4;
         copy_block_4(out, to + k, s, at + k);
-        i += 2;
+        copy_block_4(out, to + (k + 8), s, at + (k + 8));
+        i += 4;
     }
-    if i == cells {
-        return;
+    while i < cells {
+        let k = i * 4;
+        copy_cell_4(out, to + k, s, at + k);
+        i += 1;
     }
-    let k = i * 4;
-    copy_cell_4(out, to + k, s, at + k);
 }
 
-// Two a turn: one a turn would be made a vector, which is slower.
 fn copy_cells_8(out: &mut [u8], to: usize, s: &[u8], at: usize, cells: usize)
     requires { ⌜ (to + cells * 8 ≤ length (now «out»)) × (at + cells * 8 ≤ length (now s)) ⌝ }
     ensures { λ _. ⌜ now («out» .exit) ≡ overAt to (reversedCells 8 cells (drop at (now (s .entry)))) (now («out» .entry)) ⌝ }
@@ -157,13 +158,12 @@ fn copy_cell_16(out: &mut [u8], to: usize, s: &[u8], at: usize)
     field::put_u64(out, to + 8, low);
 }
 
-// Two cells of four bytes.
+// Two cells of four bytes, as one word.
 fn copy_block_4(out: &mut [u8], to: usize, s: &[u8], at: usize)
     requires { ⌜ (to + 8 ≤ length (now «out»)) × (at + 8 ≤ length (now s)) ⌝ }
     ensures { λ _. ⌜ now («out» .exit) ≡ overAt to (reversedCells 4 2 (drop at (now (s .entry)))) (now («out» .entry)) ⌝ }
 {
-    let x = eight::reverse_fours(eight::read(s, at));
-    eight::put(out, to, x);
+    field::put_u64(out, to, word::swap_halves(word::be8_at(s, at)));
 }
 
 // Eight cells of two bytes. All are read before the first is written, so that they go as one vector.

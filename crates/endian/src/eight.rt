@@ -56,21 +56,6 @@ pub fn reverse_pairs(e: Eight) -> Eight
     }
 }
 
-pub fn reverse_fours(e: Eight) -> Eight
-    ensures { λ r. ⌜ eightBytes r ≡ reversedCells 4 2 (eightBytes e) ⌝ }
-{
-    Eight {
-        b0: e.b3,
-        b1: e.b2,
-        b2: e.b1,
-        b3: e.b0,
-        b4: e.b7,
-        b5: e.b6,
-        b6: e.b5,
-        b7: e.b4,
-    }
-}
-
 pub fn put(out: &mut [u8], at: usize, e: Eight)
     requires { ⌜ at + 8 ≤ length (now «out») ⌝ }
     ensures { λ _. ⌜ now («out» .exit) ≡ overAt at (eightBytes e) (now («out» .entry)) ⌝ }

@@ -39,18 +39,24 @@ fn reverse_cells_2(bytes: &mut [u8], cells: usize)
     }
 }
 
+// Two words a turn: one a turn would be made a vector, which is slower.
 fn reverse_cells_4(bytes: &mut [u8], cells: usize)
     requires { ⌜ cells * 4 ≤ length (now bytes) ⌝ }
     ensures { λ _. ⌜ now (bytes .exit) ≡ over (reversedCells 4 cells (now (bytes .entry))) (now (bytes .entry)) ⌝ }
 {
     let mut i = 0;
+    while 4 <= cells - i {
+        let k = i * 4;
+        reverse_block_4(bytes, k);
+        reverse_block_4(bytes, k + 8);
+        i += 4;
+    }
     while i < cells {
         reverse_cell_4(bytes, i * 4);
         i += 1;
     }
 }
 
-// Two a turn: one a turn would be made a vector, which is slower.
 fn reverse_cells_8(bytes: &mut [u8], cells: usize)
     requires { ⌜ cells * 8 ≤ length (now bytes) ⌝ }
     ensures { λ _. ⌜ now (bytes .exit) ≡ over (reversedCells 8 cells (now (bytes .entry))) (now (bytes .entry)) ⌝ }
@@ -88,6 +94,15 @@ fn reverse_cells_any(bytes: &mut [u8], size: usize, cells: usize)
         reverse_cell(bytes, i * size, size);
         i += 1;
     }
+}
+
+// Two cells of four bytes, as one word.
+fn reverse_block_4(bytes: &mut [u8], at: usize)
+    requires { ⌜ at + 8 ≤ length (now bytes) ⌝ }
+    ensures { λ _. ⌜ now (bytes .exit) ≡ overAt at (reversedCells 4 2 (drop at (now (bytes .entry)))) (now (bytes .entry)) ⌝ }
+{
+    let v = word::be8_at(bytes, at);
+    field::put_u64(bytes, at, word::swap_halves(v));
 }
 
 // Eight cells of two bytes. All are read before the first is written, so that they go as one vector.

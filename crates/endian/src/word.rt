@@ -3,7 +3,7 @@ use array::field;
 use array::kind::ByteOrder;
 ghost use mathlib.Core.Path.{_≡_};
 ghost use mathlib.Core.Bool.{true};
-ghost use mathlib.Core.List.{reverse};
+ghost use mathlib.Core.List.{_++_, reverse};
 ghost use Prim.Native.Nat.{_+_, _≤_};
 ghost use lib.ListN.{length, take, drop};
 ghost use Rattle.array.specs.Bytes.{le, unle};
@@ -89,6 +89,13 @@ pub fn swap_bytes(v: u64) -> u64
     let b6 = v6 % 256;
     let b7 = v7 % 256;
     b7 + 256 * (b6 + 256 * (b5 + 256 * (b4 + 256 * (b3 + 256 * (b2 + 256 * (b1 + 256 * b0))))))
+}
+
+// The number with its halves of four bytes in the other order: it compiles to one rotation.
+pub fn swap_halves(v: u64) -> u64
+    ensures { λ r. ⌜ le 8 r ≡ drop 4 (le 8 v) ++ take 4 (le 8 v) ⌝ }
+{
+    v / 4294967296 + 4294967296 * (v % 4294967296)
 }
 
 pub fn be8_at(s: &[u8], at: usize) -> u64

@@ -1,25 +1,25 @@
--- `endian::cells::copy_block_4`: eight bytes, by the law for any size (CellLaws).
+-- `endian::cells::copy_block_4`: two cells by their number (Backing).
 -- Assumes nothing.
-use Rattle.endian.proofs.CellLaws.{run-written}
+use Rattle.endian.proofs.Backing.{pair-written}
 use borrow.Author.Needs.{needs}
 use Rattle.endian.proofs.cells.copy_block_4.Statement.{statement}
 use Rattle.endian.proofs.cells.copy_block_4.Tie as tie
 
-read-requires : tie.Need-read-requires
-read-requires c κs = search needs
+be8-at-requires : tie.Need-be8-at-requires
+be8-at-requires c κs = search needs
 
-reverse-fours-requires : tie.Need-reverse-fours-requires
-reverse-fours-requires c κs = search needs
+swap-halves-requires : tie.Need-swap-halves-requires
+swap-halves-requires c κs = search needs
 
-put-requires : tie.Need-put-requires
-put-requires c κs = search needs
+put-u64-requires : tie.Need-put-u64-requires
+put-u64-requires c κs = search needs
 
 same-length : tie.Need-same-length
 same-length c = search needs
 
 returns : tie.Need-returns
-returns c = let a = c .before .before .before .before .before .before .before .before .args in run-written 4 2 (a .s .now) (a .out .now) (a .at) (a .to) (c .before .before .before .before .before .before .before .before .pre .1) (c .before .before .before .before .before .read .ensures) (c .before .before .before .before .reverse-fours .ensures) (c .before .before .put .ensures)
+returns c = let a = c .before .before .before .before .before .before .before .before .args in pair-written (a .s .now) (λ i. c .before .before .before .before .before .before .shared-slice-known .given i .fits) (a .out .now) (a .at) (a .to) (c .before .before .before .before .before .before .before .before .pre .1) (c .before .before .before .before .be8-at .ensures) (c .before .before .before .swap-halves .result) (c .before .before .before .swap-halves .ensures) (c .before .before .put-u64 .ensures)
 
 pub copy-block-4-spec : {M : Type 1} → statement M
 copy-block-4-spec =
-    tie.close (tie.spec read-requires reverse-fours-requires put-requires same-length returns)
+    tie.close (tie.spec be8-at-requires swap-halves-requires put-u64-requires same-length returns)
