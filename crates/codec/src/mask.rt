@@ -2,7 +2,7 @@
 use array::copy;
 ghost use mathlib.Core.Path.{_≡_};
 ghost use mathlib.Core.List.{[], _∷_};
-ghost use Prim.Native.Nat.{_+_, _≤_, _<_};
+ghost use Prim.Native.Nat.{_+_, _≤_, _<_, min};
 ghost use lib.ListN.{length, getD, set, take, drop};
 ghost use Rattle.array.specs.Buffers.{overAt};
 ghost use Rattle.array.specs.Cells.{markOf};
@@ -101,7 +101,7 @@ fn count_block(mask: &[u8], from: usize, end: usize) -> u8
 // Where the block that begins at `at` ends.
 pub fn block_end(at: usize, length: usize) -> usize
     requires { ⌜ at < length ⌝ }
-    ensures { λ r. ⌜ (at < r) × (r ≤ at + 240) × (r ≤ length) ⌝ }
+    ensures { λ r. ⌜ r ≡ min (at + 240) length ⌝ }
 {
     if length - at < 240 { length } else { at + 240 }
 }
