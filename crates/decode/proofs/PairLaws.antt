@@ -55,6 +55,5 @@ pub first-most : (o : Order) → firstWord o ≤ 1
 first-most little = omega arith
 first-most big = omega arith
 
--- where they lie
-pub pair-room : (at cells l : ℕ) → at + cells * 16 ≤ l → at + 2 * cells * 8 ≤ l
-pair-room at cells l h = omega arith
+pub other-most : (a : ℕ) → 1 - a ≤ 1
+other-most a = omega arith

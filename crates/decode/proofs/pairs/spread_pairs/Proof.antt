@@ -14,21 +14,18 @@ use Rattle.codec.specs.Marks.{toldMark}
 use Rattle.decode.specs.Next.{wordAt}
 use Rattle.decode.proofs.Placing.{planeAt, plane-length, plane-byte, next-most}
 use Rattle.decode.proofs.SpreadingValues.{SpreadingValues, values-begin, values-same, values-inside, values-room, values-cell, values-end}
-use Rattle.decode.proofs.PairLaws.{pair-is, pair-cell, pair-room, first-most}
+use Rattle.decode.proofs.PairLaws.{pair-is, pair-cell, first-most, other-most}
 use Rattle.decode.proofs.pairs.spread_pairs.Statement.{statement}
 use Rattle.decode.proofs.pairs.spread_pairs.Tie as tie
 
 abbrev Inv-loop : tie.InvT-loop
-Inv-loop values₀ masks from n s at order cells words a b i₀ k₀ v₀ u₀ values i k v u = SpreadingValues 16 (orderOf order) (planeAt from n masks) s values₀ at cells values i k × (le 8 v ≡ wordAt 8 (orderOf order) s at (2 * k + a) (2 * cells)) × (le 8 u ≡ wordAt 8 (orderOf order) s at (2 * k + (1 - a)) (2 * cells))
+Inv-loop values₀ masks from n s at order cells a b i₀ k₀ v₀ u₀ values i k v u = SpreadingValues 16 (orderOf order) (planeAt from n masks) s values₀ at cells values i k × (le 8 v ≡ wordAt 8 (orderOf order) s at (2 * k + a) (2 * cells)) × (le 8 u ≡ wordAt 8 (orderOf order) s at (2 * k + (1 - a)) (2 * cells))
 
 abbrev μ-loop : tie.MeasureT-loop
-μ-loop values₀ masks from n s at order cells words a b i₀ k₀ v₀ u₀ values i k v u = n - i
+μ-loop values₀ masks from n s at order cells a b i₀ k₀ v₀ u₀ values i k v u = n - i
 
 long : (c : tie.Start Inv-loop μ-loop) → length (planeAt (c .args .from) (c .args .n) (c .args .masks .now)) ≡ c .args .n
 long c = plane-length (c .args .from) (c .args .n) (c .args .masks .now) (c .pre .plane)
-
-stored : (c : tie.Start Inv-loop μ-loop) → c .args .at + 2 * c .args .cells * 8 ≤ length (c .args .s .now)
-stored c = pair-room (c .args .at) (c .args .cells) (length (c .args .s .now)) (c .pre .stored)
 
 low : (c : tie.After-first-word Inv-loop μ-loop) → c .first-word .result ≤ 1
 low c = omega (arith, c .first-word .ensures, first-most (orderOf (c .before .before .before .before .args .order)))
@@ -50,38 +47,23 @@ most c = omega (arith, c .skip .ensures, next-most (toldMark (c .before .before 
 rest : (c : tie.After-loop Inv-loop μ-loop) → c .before .loop .i * 16 + (c .before .before .before .before .before .before .before .before .args .n - c .before .loop .i) * 16 ≤ length (c .before .loop .values)
 rest c = values-room (c .before .loop .inv .0) (c .before .before .before .before .before .before .before .before .args .n - c .before .loop .i) (omega (arith, (long (c .before .before .before .before .before .before .before .before)), c .before .loop .inv .0 .within))
 
-mul-words : tie.Need-mul-words Inv-loop μ-loop
-mul-words c = omega (arith, (stored (c .before .before .before)))
-
 first-word-requires : tie.Need-first-word-requires Inv-loop μ-loop
 first-word-requires c κs = search needs
 
 sub-b : tie.Need-sub-b Inv-loop μ-loop
 sub-b c = omega (arith, (low c))
 
-mul-next-word : tie.Need-mul-next-word Inv-loop μ-loop
-mul-next-word c = omega arith
+pair-word-requires : tie.Need-pair-word-requires Inv-loop μ-loop
+pair-word-requires c κs = (omega arith, (low c), c .before .before .before .before .pre .stored)
 
-add-next-word : tie.Need-add-next-word Inv-loop μ-loop
-add-next-word c = omega (arith, (low c))
-
-next-word-requires : tie.Need-next-word-requires Inv-loop μ-loop
-next-word-requires c κs = (refl, (stored (c .before .before .before .before)))
-
-mul-next-word-2 : tie.Need-mul-next-word-2 Inv-loop μ-loop
-mul-next-word-2 c = omega arith
-
-add-next-word-2 : tie.Need-add-next-word-2 Inv-loop μ-loop
-add-next-word-2 c = omega (arith, (low (c .before)))
-
-next-word-requires-2 : tie.Need-next-word-requires-2 Inv-loop μ-loop
-next-word-requires-2 c κs = (refl, (stored (c .before .before .before .before .before)))
+pair-word-requires-2 : tie.Need-pair-word-requires-2 Inv-loop μ-loop
+pair-word-requires-2 c κs = (omega arith, other-most (c .before .first-word .result), c .before .before .before .before .before .pre .stored)
 
 loop-holds : tie.Need-loop-holds Inv-loop μ-loop
 loop-holds c =
     let args = c .before .before .before .before .before .before .args in
     let pre = c .before .before .before .before .before .before .pre in
-    (values-begin 16 (orderOf (args .order)) (planeAt (args .from) (args .n) (args .masks .now)) (args .s .now) (args .values .now) (args .at) (args .cells) (rw (long (c .before .before .before .before .before .before)) (pre .room)) (pre .count) (pre .stored), c .before .next-word .ensures, c .next-word2 .ensures)
+    (values-begin 16 (orderOf (args .order)) (planeAt (args .from) (args .n) (args .masks .now)) (args .s .now) (args .values .now) (args .at) (args .cells) (rw (long (c .before .before .before .before .before .before)) (pre .room)) (pre .count) (pre .stored), c .before .pair-word .ensures, c .pair-word2 .ensures)
 
 add-mark-of : tie.Need-add-mark-of Inv-loop μ-loop
 add-mark-of c = omega (arith, (inside c), (long (c .before .before .before .before .before .before .before .before)), c .before .before .before .before .before .before .before .before .pre .plane)
@@ -101,23 +83,11 @@ number-if-requires-2 c κs = search needs
 skip-requires : tie.Need-skip-requires Inv-loop μ-loop
 skip-requires c κs = omega (arith, next-most (toldMark (c .before .before .mark-of .result)) (c .before .before .before .before .before .loop .k) (c .before .before .before .before .before .before .before .before .before .before .before .before .args .cells) (c .before .before .before .before .loop-test .taken))
 
-mul-next-word-3 : tie.Need-mul-next-word-3 Inv-loop μ-loop
-mul-next-word-3 c = omega (arith, (most c), (stored (c .before .before .before .before .before .before .before .before .before .before .before .before .before)))
+pair-word-requires-3 : tie.Need-pair-word-requires-3 Inv-loop μ-loop
+pair-word-requires-3 c κs = ((most c), (low (c .before .before .before .before .before .before .before .before .before)), c .before .before .before .before .before .before .before .before .before .before .before .before .before .pre .stored)
 
-add-next-word-3 : tie.Need-add-next-word-3 Inv-loop μ-loop
-add-next-word-3 c = omega (arith, (most c), (stored (c .before .before .before .before .before .before .before .before .before .before .before .before .before)), (low (c .before .before .before .before .before .before .before .before .before)))
-
-next-word-requires-3 : tie.Need-next-word-requires-3 Inv-loop μ-loop
-next-word-requires-3 c κs = (refl, (stored (c .before .before .before .before .before .before .before .before .before .before .before .before .before)))
-
-mul-next-word-4 : tie.Need-mul-next-word-4 Inv-loop μ-loop
-mul-next-word-4 c = omega (arith, (most (c .before)), (stored (c .before .before .before .before .before .before .before .before .before .before .before .before .before .before)))
-
-add-next-word-4 : tie.Need-add-next-word-4 Inv-loop μ-loop
-add-next-word-4 c = omega (arith, (most (c .before)), (stored (c .before .before .before .before .before .before .before .before .before .before .before .before .before .before)), (low (c .before .before .before .before .before .before .before .before .before .before)))
-
-next-word-requires-4 : tie.Need-next-word-requires-4 Inv-loop μ-loop
-next-word-requires-4 c κs = (refl, (stored (c .before .before .before .before .before .before .before .before .before .before .before .before .before .before)))
+pair-word-requires-4 : tie.Need-pair-word-requires-4 Inv-loop μ-loop
+pair-word-requires-4 c κs = ((most (c .before)), other-most (c .before .before .before .before .before .before .before .before .before .before .first-word .result), c .before .before .before .before .before .before .before .before .before .before .before .before .before .before .pre .stored)
 
 mul-put-pair : tie.Need-mul-put-pair Inv-loop μ-loop
 mul-put-pair c = omega (arith, (room (c .before .before .before .before .before .before .before .before)), values-same (c .before .before .before .before .before .before .before .before .before .loop .inv .0))
@@ -140,7 +110,7 @@ loop-again c =
     let x = c .before .before .before .before .before .before .before .before .number-if in
     let y = c .before .before .before .before .before .before .before .number-if2 in
     let is = pair-is (args .s .now) (args .at) (loop .k) (args .cells) (c .before .before .before .before .before .before .before .before .before .before .before .loop-test .taken) (orderOf (args .order)) (c .before .before .before .before .before .before .before .before .before .before .before .before .before .before .before .first-word .result) (c .before .before .before .before .before .before .before .before .before .before .before .before .before .before .before .first-word .ensures) (loop .v) (loop .u) (loop .inv .1) (loop .inv .2) in
-    (rw (c .before .before .before .before .before .before .skip .ensures) (values-cell (loop .inv .0) (inside (c .before .before .before .before .before .before .before .before .before .before .before)) mark (mark-is (c .before .before .before .before .before .before .before .before .before)) (le 8 (x .result) ++ le 8 (y .result)) (pair-cell mark (x .result) (y .result) (loop .v) (loop .u) q (x .ensures) (y .ensures) is) _ (c .before .before .put-pair .ensures)), c .before .before .before .before .before .next-word3 .ensures, c .before .before .before .before .next-word4 .ensures)
+    (rw (c .before .before .before .before .before .before .skip .ensures) (values-cell (loop .inv .0) (inside (c .before .before .before .before .before .before .before .before .before .before .before)) mark (mark-is (c .before .before .before .before .before .before .before .before .before)) (le 8 (x .result) ++ le 8 (y .result)) (pair-cell mark (x .result) (y .result) (loop .v) (loop .u) q (x .ensures) (y .ensures) is) _ (c .before .before .put-pair .ensures)), c .before .before .before .before .before .pair-word3 .ensures, c .before .before .before .before .pair-word4 .ensures)
 
 mul-fill-bytes : tie.Need-mul-fill-bytes Inv-loop μ-loop
 mul-fill-bytes c = omega (arith, (rest (c .before)), values-same (c .before .before .loop .inv .0))
@@ -166,15 +136,10 @@ spread-pairs-spec =
     (tie.spec
     Inv-loop
     μ-loop
-    mul-words
     first-word-requires
     sub-b
-    mul-next-word
-    add-next-word
-    next-word-requires
-    mul-next-word-2
-    add-next-word-2
-    next-word-requires-2
+    pair-word-requires
+    pair-word-requires-2
     loop-holds
     add-mark-of
     shared-slice-read-mark-of
@@ -182,12 +147,8 @@ spread-pairs-spec =
     number-if-requires
     number-if-requires-2
     skip-requires
-    mul-next-word-3
-    add-next-word-3
-    next-word-requires-3
-    mul-next-word-4
-    add-next-word-4
-    next-word-requires-4
+    pair-word-requires-3
+    pair-word-requires-4
     mul-put-pair
     put-pair-requires
     add-i
