@@ -53,10 +53,11 @@ fn copy_cells_2(out: &mut [u8], to: usize, s: &[u8], at: usize, cells: usize)
     ensures { λ _. ⌜ now («out» .exit) ≡ overAt to (reversedCells 2 cells (drop at (now (s .entry)))) (now («out» .entry)) ⌝ }
 {
     let mut i = 0;
-    while 8 <= cells - i {
+    while 16 <= cells - i {
         let k = i * 2;
         copy_block_2(out, to + k, s, at + k);
-        i += 8;
+        copy_block_2(out, to + (k + 16), s, at + (k + 16));
+        i += 16;
     }
     while i < cells {
         let k = i * 2;

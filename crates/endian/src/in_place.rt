@@ -29,9 +29,11 @@ fn reverse_cells_2(bytes: &mut [u8], cells: usize)
     ensures { λ _. ⌜ now (bytes .exit) ≡ over (reversedCells 2 cells (now (bytes .entry))) (now (bytes .entry)) ⌝ }
 {
     let mut i = 0;
-    while 8 <= cells - i {
-        reverse_block_2(bytes, i * 2);
-        i += 8;
+    while 16 <= cells - i {
+        let k = i * 2;
+        reverse_block_2(bytes, k);
+        reverse_block_2(bytes, k + 16);
+        i += 16;
     }
     while i < cells {
         reverse_cell_2(bytes, i * 2);

@@ -1,11 +1,11 @@
--- `endian::in_place::reverse_cells_2`: the first i cells are reversed, eight a turn and then one, by the laws for any size (Reversing).
+-- `endian::in_place::reverse_cells_2`: the first i cells are reversed, sixteen a turn and then one, by the laws for any size (Reversing).
 -- Assumes nothing.
 use mathlib.Core.Path.{_≡_}
 use mathlib.Core.List.{List}
 use Prim.Native.Nat.{ℕ, _+_, _-_, _≤_}
 use native.Mathlib.Omega.{arith}
 use lib.ListN.{length}
-use Rattle.endian.proofs.Reversing.{Reversing, reversing-begins, reversing-same, reversing-more, reversing-next, reversing-ends}
+use Rattle.endian.proofs.Reversing.{Reversing, reversing-begins, reversing-same, reversing-pair, reversing-next, reversing-ends}
 use Rattle.endian.proofs.in_place.reverse_cells_2.Statement.{statement}
 use Rattle.endian.proofs.in_place.reverse_cells_2.Tie as tie
 
@@ -24,8 +24,8 @@ abbrev μ-loop2 : tie.MeasureT-loop2
 same : (c : tie.At-loop Inv-loop μ-loop Inv-loop2 μ-loop2) → length (c .loop .bytes) ≡ length (c .before .before .args .bytes .now)
 same c = reversing-same (c .loop .inv)
 
-eight : (c : tie.In-loop Inv-loop μ-loop Inv-loop2 μ-loop2) → c .before .loop .i + 8 ≤ c .before .before .before .args .cells
-eight c = omega arith
+sixteen : (c : tie.In-loop Inv-loop μ-loop Inv-loop2 μ-loop2) → c .before .loop .i + 16 ≤ c .before .before .before .args .cells
+sixteen c = omega arith
 
 laid : (c : tie.At-loop2 Inv-loop μ-loop Inv-loop2 μ-loop2) → Reversing 2 (c .before .before .before .before .args .cells) (c .before .before .before .before .args .bytes .now) (c .loop2 .bytes) (c .loop2 .i)
 laid c = c .loop2 .inv (c .before .before .before .before .args .bytes .now) (c .before .before .loop .inv)
@@ -39,20 +39,26 @@ loop-holds c = reversing-begins (c .before .pre)
 sub-loop : tie.Need-sub-loop Inv-loop μ-loop Inv-loop2 μ-loop2
 sub-loop c = omega arith
 
-mul-reverse-block-2 : tie.Need-mul-reverse-block-2 Inv-loop μ-loop Inv-loop2 μ-loop2
-mul-reverse-block-2 c = omega (arith, eight (c .before))
+mul-k : tie.Need-mul-k Inv-loop μ-loop Inv-loop2 μ-loop2
+mul-k c = omega (arith, sixteen c)
 
 reverse-block-2-requires : tie.Need-reverse-block-2-requires Inv-loop μ-loop Inv-loop2 μ-loop2
-reverse-block-2-requires c κs = omega (arith, eight (c .before), same (c .before .before))
+reverse-block-2-requires c κs = omega (arith, sixteen (c .before), same (c .before .before))
+
+add-reverse-block-2 : tie.Need-add-reverse-block-2 Inv-loop μ-loop Inv-loop2 μ-loop2
+add-reverse-block-2 c = omega (arith, sixteen (c .before .before .before .before .before))
+
+reverse-block-2-requires-2 : tie.Need-reverse-block-2-requires-2 Inv-loop μ-loop Inv-loop2 μ-loop2
+reverse-block-2-requires-2 c κs = omega (arith, sixteen (c .before .before .before .before .before), same (c .before .before .before .before .before .before), c .before .before .before .reverse-block-2 .kept .0)
 
 add-i : tie.Need-add-i Inv-loop μ-loop Inv-loop2 μ-loop2
-add-i c = omega (arith, eight (c .before .before .before .before))
+add-i c = omega (arith, sixteen (c .before .before .before .before .before .before .before .before))
 
 loop-less : tie.Need-loop-less Inv-loop μ-loop Inv-loop2 μ-loop2
-loop-less c = omega (arith, eight (c .before .before .before .before))
+loop-less c = omega (arith, sixteen (c .before .before .before .before .before .before .before .before))
 
 loop-again : tie.Need-loop-again Inv-loop μ-loop Inv-loop2 μ-loop2
-loop-again c = reversing-more (c .before .before .before .before .before .loop .inv) 8 (eight (c .before .before .before .before)) (c .before .before .reverse-block-2 .ensures)
+loop-again c = reversing-pair (c .before .before .before .before .before .before .before .before .before .loop .inv) 8 (sixteen (c .before .before .before .before .before .before .before .before)) (c .before .before .before .before .before .before .reverse-block-2 .ensures) (c .before .before .reverse-block-22 .ensures)
 
 loop2-holds : tie.Need-loop2-holds Inv-loop μ-loop Inv-loop2 μ-loop2
 loop2-holds c = λ d p. p
@@ -88,8 +94,10 @@ reverse-cells-2-spec =
     μ-loop2
     loop-holds
     sub-loop
-    mul-reverse-block-2
+    mul-k
     reverse-block-2-requires
+    add-reverse-block-2
+    reverse-block-2-requires-2
     add-i
     loop-less
     loop-again
