@@ -37,6 +37,12 @@ use Rattle.decode.proofs.AllPlanes.{planesIn, innermostIn, masks-are, l
 
 -- ---- what is copied
 
+-- with no mask the walk is at the values at once
+pub walk-flat : (d : ℕ) (s : List ℕ) (n : ℕ) → d ≡ 0 → walked d s 0 n ≡ gives (valuesAt 0 n)
+unfolding walked
+walk-flat zero s n e = refl
+walk-flat (suc d) s n e = absurd (omega arith)
+
 module _ (o : Order) {d : ℕ} {s : List ℕ} {n at k size : ℕ} (r : FixedWithin d s n at k size) where
   pub fixed-masks : d ≢ 0 → fixedFrom size o d s n at k .masks ≡ planesIn s n (d - 1)
   unfolding fixedFrom

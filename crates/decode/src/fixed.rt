@@ -15,6 +15,7 @@ ghost use Rattle.array.specs.Kind.{fixed};
 ghost use Rattle.array.specs.Meaning.{orderOf};
 ghost use Rattle.codec.specs.Mask.{byteMask};
 ghost use Rattle.codec.specs.Calls.{readIn};
+ghost use Rattle.codec.specs.Walk.{walked, valuesAt};
 ghost use Rattle.array.specs.Outcome.{contentArray, outcomeArray};
 ghost use Rattle.decode.specs.Outcomes.{readOutcome};
 ghost use Rattle.decode.specs.Reads.{fixedFrom, FixedWithin};
@@ -53,7 +54,30 @@ pub fn write_fixed(
     WrittenArray::Lengths(planes, bytes, 0)
 }
 
-// Reads an array of n cells of a fixed size.
+// Writes the `cells` values from `at` on that the walk found, if the stored bytes end with them.
+fn write_found(
+    s: &[u8],
+    n: usize,
+    depth: usize,
+    size: usize,
+    order: ByteOrder,
+    at: usize,
+    cells: usize,
+    masks: &mut [u8],
+    values: &mut [u8],
+    offsets: &mut [u64],
+) -> WrittenArray
+    requires { ⌜ (1 ≤ n) × (n ≤ mostCells) × (depth ≤ mostDepth) × (size ≤ mostSize) × (walked depth (now s) 0 n ≡ gives (valuesAt at cells)) ⌝ }
+    ensures { λ r. ⌜ outcomeArray r (now (masks .exit)) (now (values .exit)) (now (offsets .exit))
+        ≡ readOutcome (contentArray (now (masks .entry)) (now (values .entry)) (now (offsets .entry))) (readIn byteMask (fixed size (orderOf order)) depth n (now (s .entry))) ⌝ }
+{
+    if s.len() - at != cells * size {
+        return WrittenArray::Refused(refusal::LENGTH);
+    }
+    write_fixed(s, n, depth, size, order, at, cells, masks, values, offsets)
+}
+
+// Reads an array of n cells of a fixed size. With no mask there is nothing to walk.
 pub fn decode_fixed(
     s: &[u8],
     n: usize,
@@ -68,15 +92,15 @@ pub fn decode_fixed(
     ensures { λ r. ⌜ outcomeArray r (now (masks .exit)) (now (values .exit)) (now (offsets .exit))
         ≡ readOutcome (contentArray (now (masks .entry)) (now (values .entry)) (now (offsets .entry))) (readIn byteMask (fixed size (orderOf order)) depth n (now (s .entry))) ⌝ }
 {
+    if depth == 0 {
+        return write_found(s, n, depth, size, order, 0, n, masks, values, offsets);
+    }
     let walk = walk_content(s, 0, n, depth);
     match walk {
         Walked::Refused(e) => WrittenArray::Refused(e),
         Walked::NoneSet => write_fixed(s, n, depth, size, order, 0, 0, masks, values, offsets),
         Walked::Values(at, cells) => {
-            if s.len() - at != cells * size {
-                return WrittenArray::Refused(refusal::LENGTH);
-            }
-            write_fixed(s, n, depth, size, order, at, cells, masks, values, offsets)
+            write_found(s, n, depth, size, order, at, cells, masks, values, offsets)
         }
     }
 }
