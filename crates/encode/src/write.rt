@@ -111,7 +111,7 @@ pub fn write_stored(
         Values::Fixed(size, order) => {
             if depth == 0 {
                 let k = size as usize;
-                endian::cells::copy_cells(out, 0, values, 0, k, order, cells);
+                cells::put_all(out, values, k, order, cells);
             } else {
                 write_content(out, 0, form, values, offsets, masks, cells, 0, depth);
             }

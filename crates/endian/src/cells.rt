@@ -34,7 +34,14 @@ pub fn copy_cells(
 }
 
 // The sizes that most types have go by words.
-fn copy_cells_reversed(out: &mut [u8], to: usize, s: &[u8], at: usize, size: usize, cells: usize)
+pub fn copy_cells_reversed(
+    out: &mut [u8],
+    to: usize,
+    s: &[u8],
+    at: usize,
+    size: usize,
+    cells: usize,
+)
     requires { ⌜ (to + cells * size ≤ length (now «out»)) × (at + cells * size ≤ length (now s)) ⌝ }
     ensures { λ _. ⌜ now («out» .exit) ≡ overAt to (reversedCells size cells (drop at (now (s .entry)))) (now («out» .entry)) ⌝ }
 {

@@ -22,11 +22,11 @@ enum-known-form c = search needs
 cast-k : tie.Need-cast-k
 cast-k c = search needs
 
-copy-cells-requires : tie.Need-copy-cells-requires
-copy-cells-requires c κs =
+put-all-requires : tie.Need-put-all-requires
+put-all-requires c κs =
     let a = c .before .before .before .before .before .before .before .before .before .before .args in
     let v : Content = contentIn (a .masks .now) (a .values .now) (a .offsets .now) in
-    (omega (arith, c .before .before .before .before .before .before .before .before .before .before .pre .1, stored-by-long (formOf (a .kind .values)) (a .cells) v (a .kind .depth) (c .before .before .before .before .before .before .before .before .before .before .pre .0 .fit), length-copied (c .before .before .before .form .given .1) (a .cells) (a .masks .now) (a .offsets .now) (length (a .values .now)) (c .before .if1 .taken)), fixed-source (a .kind .values) (c .before .before .before .before .before .before .before .before .before .before .pre .0) (c .before .before .before .form .given .1))
+    (omega (arith, c .before .before .before .before .before .before .before .before .before .before .pre .1, stored-by-long (formOf (a .kind .values)) (a .cells) v (a .kind .depth) (c .before .before .before .before .before .before .before .before .before .before .pre .0 .fit), length-copied (c .before .before .before .form .given .1) (a .cells) (a .masks .now) (a .offsets .now) (length (a .values .now)) (c .before .if1 .taken)), omega (arith, fixed-source (a .kind .values) (c .before .before .before .before .before .before .before .before .before .before .pre .0) (c .before .before .before .form .given .1)))
 
 write-content-requires : tie.Need-write-content-requires
 write-content-requires c κs =
@@ -56,7 +56,7 @@ returns : tie.Need-returns
 returns c =
     let a = c .before .before .before .before .before .before .before .before .before .before .before .before .before .args in
     let v : Content = contentIn (a .masks .now) (a .values .now) (a .offsets .now) in
-    laid-as 0 (a .out .now) (c .before .before .copy-cells .ensures) (stored-copied (c .before .before .before .before .before .before .form .given .1) (a .cells) v (c .before .before .before .before .if1 .taken))
+    laid-as 0 (a .out .now) (c .before .before .put-all .ensures) (stored-copied (c .before .before .before .before .before .before .form .given .1) (a .cells) v (c .before .before .before .before .if1 .taken))
 
 same-length-2 : tie.Need-same-length-2
 same-length-2 c = search needs
@@ -92,7 +92,7 @@ write-stored-spec =
     cast-depth
     enum-known-form
     cast-k
-    copy-cells-requires
+    put-all-requires
     write-content-requires
     enum-known-form-2
     put-plain-requires
