@@ -12,7 +12,7 @@ use Rattle.array.specs.Kind.{big}
 use Rattle.array.proofs.Over.{over-at-length}
 use Rattle.array.proofs.Unrolled.{reads-take, stores-over}
 use Rattle.endian.specs.Calls.{reversedCells}
-use Rattle.endian.proofs.CellLaws.{over-none, over-next}
+use Rattle.endian.proofs.CellLaws.{over-none, over-next, reversed-one, two-runs}
 use Rattle.endian.proofs.Words.{Slice, le-read, reverse-one}
 
 -- what lies behind comes first
@@ -102,3 +102,19 @@ pub pair-written : (s : List ℕ) → Slice s → (d : List ℕ) (at to : ℕ) �
     → (v : ℕ) → le 8 v ≡ drop 4 (le 8 w) ++ take 4 (le 8 w) → {out : List ℕ} → out ≡ overAt to (le 8 v) d → out ≡ overAt to (reversedCells 4 2 (drop at s)) d
 pair-written s f d at to h {w} e v g o =
     o ∙ ap (λ (l : List ℕ). overAt to l d) (g ∙ ap (λ (l : List ℕ). drop 4 l ++ take 4 l) (le-read big s f at 8 h w e) ∙ halves-swapped 4 (drop at s) (omega (arith, length-drop at s)))
+
+-- a cell of eight bytes by its number, and four of them, one after another
+pub word-written : (s : List ℕ) → Slice s → (d : List ℕ) (at to : ℕ) → at + 8 ≤ length s → {w : ℕ} → w ≡ unle (reverse (take 8 (drop at s)))
+    → {out : List ℕ} → out ≡ overAt to (le 8 w) d → out ≡ overAt to (reversedCells 8 1 (drop at s)) d
+word-written s f d at to h {w} e o = o ∙ ap (λ (l : List ℕ). overAt to l d) (le-read big s f at 8 h w e ∙ reversed-one 8 (drop at s))
+
+pub four-written : (s d : List ℕ) (at to : ℕ) → to + 32 ≤ length d → at + 32 ≤ length s → {o1 o2 o3 o4 : List ℕ} → length o2 ≡ length d
+    → o1 ≡ overAt to (reversedCells 8 1 (drop at s)) d → o2 ≡ overAt (to + 8) (reversedCells 8 1 (drop (at + 8) s)) o1
+    → o3 ≡ overAt (to + 16) (reversedCells 8 1 (drop (at + 16) s)) o2 → o4 ≡ overAt (to + 24) (reversedCells 8 1 (drop (at + 24) s)) o3
+    → o4 ≡ overAt to (reversedCells 8 4 (drop at s)) d
+four-written s d at to p q {o1} {o2} {o3} {o4} l e1 e2 e3 e4 =
+    let a : to + 24 ≡ to + 16 + 8 = omega arith in
+    let b : at + 24 ≡ at + 16 + 8 = omega arith in
+    two-runs 8 2 s d at to p q
+    (two-runs 8 1 s d at to (omega arith) (omega arith) e1 e2)
+    (two-runs 8 1 s o2 (at + 16) (to + 16) (omega (arith, l)) (omega arith) e3 (e4 ∙ ap₂ (λ (i j : ℕ). overAt i (reversedCells 8 1 (drop j s)) o3) a b))

@@ -60,16 +60,6 @@ module _ {k n : ℕ} {d out : List ℕ} {i : ℕ} (l : Reversing k n d out i) wh
     pub reversing-next : {out′ : List ℕ} → out′ ≡ cellReversed (i * k) k out → Reversing k n d out′ (i + 1)
     reversing-next e = reversing-more 1 (omega arith) (e ∙ ap (λ (g : List ℕ). overAt (i * k) g out) (reversed-one k (drop (i * k) out)))
 
--- two cells more
-pub reversing-twice : {k n : ℕ} {d out : List ℕ} {i : ℕ} → Reversing k n d out i → i + 2 ≤ n → {out′ : List ℕ} → out′ ≡ cellReversed (i * k) k out
-    → {out″ : List ℕ} → out″ ≡ cellReversed (i * k + k) k out′ → Reversing k n d out″ (i + 2)
-reversing-twice {k} {n} {d} {out} {i} l h {out′} e {out″} f =
-    let q : i * k + k ≡ (i + 1) * k = sym (ap (λ (j : ℕ). j * k) (add-one i) ∙ suc-mul i k) in
-    let a : Reversing k n d out′ (i + 1) = reversing-next l (omega arith) e in
-    let b : Reversing k n d out″ (i + 1 + 1) = reversing-next a (omega arith) (f ∙ ap (λ (j : ℕ). cellReversed j k out′) q) in
-    let j : i + 1 + 1 ≡ i + 2 = omega arith in
-    record { within = h; room = b .room; here = b .here ∙ ap (λ (x : ℕ). over (reversedCells k x d) d) j }
-
 -- m cells more, and m again
 pub reversing-pair : {k n : ℕ} {d out : List ℕ} {i : ℕ} → Reversing k n d out i → (m : ℕ) → i + (m + m) ≤ n → {out′ : List ℕ} → out′ ≡ overAt (i * k) (reversedCells k m (drop (i * k) out)) out
     → {out″ : List ℕ} → out″ ≡ overAt (i * k + m * k) (reversedCells k m (drop (i * k + m * k) out′)) out′ → Reversing k n d out″ (i + (m + m))

@@ -64,16 +64,16 @@ fn reverse_cells_8(bytes: &mut [u8], cells: usize)
     ensures { λ _. ⌜ now (bytes .exit) ≡ over (reversedCells 8 cells (now (bytes .entry))) (now (bytes .entry)) ⌝ }
 {
     let mut i = 0;
-    while 2 <= cells - i {
+    while 8 <= cells - i {
         let k = i * 8;
-        reverse_cell_8(bytes, k);
-        reverse_cell_8(bytes, k + 8);
-        i += 2;
+        reverse_block_8(bytes, k);
+        reverse_block_8(bytes, k + 32);
+        i += 8;
     }
-    if i == cells {
-        return;
+    while i < cells {
+        reverse_cell_8(bytes, i * 8);
+        i += 1;
     }
-    reverse_cell_8(bytes, i * 8);
 }
 
 fn reverse_cells_16(bytes: &mut [u8], cells: usize)
@@ -132,6 +132,21 @@ fn reverse_cell_4(bytes: &mut [u8], at: usize)
 {
     let v = word::be4_at(bytes, at);
     field::put_u32(bytes, at, v);
+}
+
+// Four cells. All are read before the first is written.
+fn reverse_block_8(bytes: &mut [u8], at: usize)
+    requires { ⌜ at + 32 ≤ length (now bytes) ⌝ }
+    ensures { λ _. ⌜ now (bytes .exit) ≡ overAt at (reversedCells 8 4 (drop at (now (bytes .entry)))) (now (bytes .entry)) ⌝ }
+{
+    let w0 = word::be8_at(bytes, at);
+    let w1 = word::be8_at(bytes, at + 8);
+    let w2 = word::be8_at(bytes, at + 16);
+    let w3 = word::be8_at(bytes, at + 24);
+    field::put_u64(bytes, at, w0);
+    field::put_u64(bytes, at + 8, w1);
+    field::put_u64(bytes, at + 16, w2);
+    field::put_u64(bytes, at + 24, w3);
 }
 
 fn reverse_cell_8(bytes: &mut [u8], at: usize)
