@@ -13,10 +13,4 @@ pub mod RestLaws
 pub mod Over
 pub mod Laying
 pub mod Limits
-pub mod Copying
-pub mod CheckLaws
-pub mod Numbers
-pub mod Unrolled
-pub mod Fields
-pub mod ShapeLaws
 pub mod SubsetLists

@@ -10,9 +10,5 @@ pub mod Cells
 pub mod Content
 pub mod Buffers
 pub mod Meaning
-pub mod Check
-pub mod Numbers
-pub mod Field
-pub mod ShapeCells
 pub mod Outcome
 pub mod Rows

@@ -1,8 +1,4 @@
-// Layer 1: bytes and boxes. What an array is, how numbers lie in bytes, which cells a subset has.
+// Layer 1: what an array is: its kind, the answers of the calls, the refusals.
 pub mod answer;
-pub mod array_bytes;
-pub mod copy;
-pub mod field;
 pub mod kind;
 pub mod refusal;
-pub mod shape;

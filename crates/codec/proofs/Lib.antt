@@ -5,9 +5,4 @@ pub mod Lengths
 pub mod RoundTrip
 pub mod Marks
 pub mod SpreadLaws
-pub mod Opening
-pub mod Reading
-pub mod Walks
-pub mod IndexLaws
-pub mod CheckedIndex
 pub mod Returns

@@ -5,8 +5,4 @@ pub mod Values
 pub mod Length
 pub mod Interleaved
 pub mod Calls
-pub mod Marks
 pub mod Spread
-pub mod Walk
-pub mod Stored
-pub mod Index

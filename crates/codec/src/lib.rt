@@ -1,4 +1,1 @@
-// Layer 2: the stored forms, written and read.
-pub mod mask;
-pub mod optional;
-pub mod vlen;
+// Layer 2: what the stored forms are, and what is read of what was written. Definitions and laws.

@@ -15,9 +15,9 @@ use Rattle.array.specs.Buffers.{over, overAt}
 use Rattle.array.proofs.Over.{over-again, over-length}
 use Rattle.codec.specs.Frame.{countSet}
 use Rattle.codec.specs.Spread.{spread, innermostPlane}
-use Rattle.codec.specs.Stored.{maskIn, storedMasks, cellsFrom, planesBelow, MasksWithin, innermostCount}
+use Rattle.stored.specs.Stored.{maskIn, storedMasks, cellsFrom, planesBelow, MasksWithin, innermostCount}
 use Rattle.codec.proofs.SpreadLaws.{length-spread}
-use Rattle.codec.proofs.Reading.{masks-from, leaves-from}
+use Rattle.stored.proofs.Reading.{masks-from, leaves-from}
 use Rattle.decode.specs.Reads.{LevelsWithin, PlanesWithin}
 use Rattle.decode.proofs.Levels.{times-first, below-length, within-now, within-next}
 

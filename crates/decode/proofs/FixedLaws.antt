@@ -22,11 +22,11 @@ use Rattle.codec.specs.Mask.{byteMask}
 use Rattle.codec.specs.Frame.{countSet}
 use Rattle.codec.specs.Spread.{spread}
 use Rattle.codec.specs.Values.{getValues}
-use Rattle.codec.specs.Walk.{Innermost, valuesAt, noneSet, walked}
-use Rattle.codec.specs.Stored.{cellsFrom, answerBy, innermostCount}
+use Rattle.stored.specs.Walk.{Innermost, valuesAt, noneSet, walked}
+use Rattle.stored.specs.Stored.{cellsFrom, answerBy, innermostCount}
 use Rattle.codec.specs.Calls.{readIn}
-use Rattle.codec.proofs.Reading.{read-walked}
-use Rattle.codec.proofs.Walks.{walk-values, walk-none, values-flat, none-deep, passed-count}
+use Rattle.stored.proofs.Reading.{read-walked}
+use Rattle.stored.proofs.Walks.{walk-values, walk-none, values-flat, none-deep, passed-count}
 use Rattle.decode.specs.Outcomes.{readOutcome}
 use Rattle.decode.specs.Reads.{valuesOver, ValuesWithin, fixedFrom, FixedWithin}
 use Rattle.decode.proofs.Outcomes.{short-masks, short-values, all-written}

@@ -13,7 +13,7 @@ use Rattle.array.specs.Buffers.{over, overAt}
 use Rattle.array.proofs.Over.{over-again, over-at-length}
 use Rattle.codec.specs.Frame.{countSet}
 use Rattle.codec.specs.Spread.{spread}
-use Rattle.codec.specs.Stored.{maskIn, storedMasks, planesBelow, MasksWithin}
+use Rattle.stored.specs.Stored.{maskIn, storedMasks, planesBelow, MasksWithin}
 use Rattle.codec.proofs.Marks.{count-zeros}
 use Rattle.codec.proofs.SpreadLaws.{length-spread, spread-take, spread-none, count-spread}
 use Rattle.decode.specs.Reads.{LevelsWithin}

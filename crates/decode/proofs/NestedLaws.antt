@@ -22,15 +22,15 @@ use Rattle.codec.specs.Frame.{countSet}
 use Rattle.codec.specs.Spread.{spread}
 use Rattle.codec.specs.Ragged.{getRagged}
 use Rattle.codec.specs.Values.{getValues}
-use Rattle.codec.specs.Walk.{Innermost, valuesAt, noneSet, walked}
-use Rattle.codec.specs.Stored.{cellsFrom, answerBy, MasksWithin, innermostCount}
-use Rattle.codec.specs.Index.{offsetsIn, IndexWithin}
+use Rattle.stored.specs.Walk.{Innermost, valuesAt, noneSet, walked}
+use Rattle.stored.specs.Stored.{cellsFrom, answerBy, MasksWithin, innermostCount}
+use Rattle.stored.specs.Index.{offsetsIn, IndexWithin}
 use Rattle.array.specs.Outcome.{contentArray}
 use Rattle.codec.specs.Calls.{readIn}
 use Rattle.codec.proofs.SpreadLaws.{length-spread}
-use Rattle.codec.proofs.Reading.{read-walked}
-use Rattle.codec.proofs.Walks.{walk-none, none-deep, passed-count}
-use Rattle.codec.proofs.IndexLaws.{drop-take}
+use Rattle.stored.proofs.Reading.{read-walked}
+use Rattle.stored.proofs.Walks.{walk-none, none-deep, passed-count}
+use Rattle.stored.proofs.IndexLaws.{drop-take}
 use Rattle.decode.specs.Ends.{endsBy}
 use Rattle.decode.specs.Reads.{nestedFrom, NestedWithin, raggedFrom}
 use Rattle.decode.proofs.CopyingOffsets.{length-offsets}

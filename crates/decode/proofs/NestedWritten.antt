@@ -10,7 +10,7 @@ use Rattle.array.specs.Answer.{gives}
 use Rattle.array.specs.Buffers.{over}
 use Rattle.array.specs.Outcome.{contentArray, outcomeArray}
 use Rattle.codec.specs.Frame.{countSet}
-use Rattle.codec.specs.Index.{offsetsIn}
+use Rattle.stored.specs.Index.{offsetsIn}
 use Rattle.decode.specs.Outcomes.{readOutcome}
 use Rattle.decode.specs.Ends.{endsBy}
 use Rattle.decode.specs.Reads.{nestedFrom, NestedWithin}

@@ -9,7 +9,7 @@ use native.Mathlib.Numerals.{add-one}
 use lib.ListN.{length, take, drop, getD, drop-of-length-le}
 use lib.Seq.{drop-cons}
 use Rattle.codec.specs.Frame.{countSet}
-use Rattle.codec.specs.Marks.{setTest}
+use Rattle.stored.specs.Marks.{setTest}
 use Rattle.decode.specs.Runs.{runOf}
 
 pub run-within : (b : Bool) (p : List ℕ) → runOf b p ≤ length p

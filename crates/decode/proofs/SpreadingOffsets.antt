@@ -14,7 +14,7 @@ use Rattle.array.specs.Cells.{Mark, isNull, isSet, markOf}
 use Rattle.array.specs.Buffers.{over, overAt}
 use Rattle.array.proofs.Laying.{Laying, laying-begins, laying-same, laying-ends, laying-part, laying-store, laying-is, laying-room}
 use Rattle.codec.specs.Frame.{countSet}
-use Rattle.codec.specs.Index.{offsetsIn}
+use Rattle.stored.specs.Index.{offsetsIn}
 use Rattle.codec.proofs.Marks.{null-byte, set-byte, count-le, count-null, count-more}
 use Rattle.decode.specs.Next.{ifSet, nextAt}
 use Rattle.decode.specs.Ends.{endsBy}

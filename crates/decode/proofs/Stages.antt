@@ -12,7 +12,7 @@ use Rattle.array.specs.Limits.{mostCells}
 use Rattle.array.specs.Lists.{All}
 use Rattle.array.specs.Kind.{Kind, Form, kindTest}
 use Rattle.array.specs.Shape.{volume, shapeTest}
-use Rattle.array.specs.ShapeCells.{shapeAnswer}
+use Rattle.valid.specs.ShapeCells.{shapeAnswer}
 use Rattle.array.specs.Buffers.{contentOutcome}
 use Rattle.array.proofs.Rules.{shape-ok}
 use Rattle.codec.specs.Mask.{byteMask}

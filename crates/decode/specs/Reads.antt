@@ -11,8 +11,8 @@ use Rattle.array.specs.Offsets.{RisingFrom, lastFrom, slicesFrom}
 use Rattle.array.specs.Content.{Content, layout}
 use Rattle.codec.specs.Frame.{countSet}
 use Rattle.codec.specs.Spread.{spread}
-use Rattle.codec.specs.Stored.{cellsFrom, MasksWithin, innermostCount}
-use Rattle.codec.specs.Index.{offsetsIn}
+use Rattle.stored.specs.Stored.{cellsFrom, MasksWithin, innermostCount}
+use Rattle.stored.specs.Index.{offsetsIn}
 use Rattle.array.specs.Outcome.{contentArray}
 
 -- ---- planes: `left` levels below the plane that ends at `to`, in which `cells` are set, the next frame being at `at`

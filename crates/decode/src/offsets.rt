@@ -1,10 +1,10 @@
 // Offsets: as they are stored, or of values that lie end to end from 0 below masks.
 use crate::next::number_if;
 use crate::next::skip;
-use array::field::le_at;
 use array::kind::IndexWidth;
 use array::kind::width_bytes;
-use codec::mask::mark_of;
+use buffer::field::le_at;
+use stored::mask::mark_of;
 ghost use mathlib.Core.Path.{_≡_};
 ghost use mathlib.Core.List.{_∷_};
 ghost use Prim.Native.Nat.{suc, _+_, _*_, _≤_};
@@ -13,7 +13,7 @@ ghost use Rattle.array.specs.Lists.{All};
 ghost use Rattle.array.specs.Buffers.{over, overAt};
 ghost use Rattle.array.specs.Meaning.{widthOf};
 ghost use Rattle.codec.specs.Frame.{countSet};
-ghost use Rattle.codec.specs.Index.{offsetsIn};
+ghost use Rattle.stored.specs.Index.{offsetsIn};
 ghost use Rattle.decode.specs.Ends.{endsBy};
 
 // Writes n + 1 offsets just as they are stored.

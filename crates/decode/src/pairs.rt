@@ -2,10 +2,10 @@
 use crate::next::number_if;
 use crate::next::skip;
 use crate::words::next_word;
-use array::copy::fill_bytes;
 use array::kind::ByteOrder;
-use codec::mask::mark_of;
+use buffer::copy::fill_bytes;
 use endian::word::put_word;
+use stored::mask::mark_of;
 ghost use mathlib.Core.Path.{_≡_};
 ghost use mathlib.Core.List.{_++_};
 ghost use Prim.Native.Nat.{_+_, _*_, _≤_};

@@ -1,12 +1,12 @@
 // Mask planes, outermost first. Each level goes straight into its plane: its stored mask, spread over the plane above.
 use crate::next::byte_if;
 use crate::next::skip;
-use array::copy::fill_bytes;
-use codec::mask::copy_to_plane;
-use codec::mask::count_set;
-use codec::mask::mark_of;
-use codec::mask::mask_length;
-use codec::mask::stored_byte;
+use buffer::copy::fill_bytes;
+use stored::mask::copy_to_plane;
+use stored::mask::count_set;
+use stored::mask::mark_of;
+use stored::mask::mask_length;
+use stored::mask::stored_byte;
 ghost use mathlib.Core.Path.{_≡_};
 ghost use mathlib.Core.List.{_++_};
 ghost use Prim.Native.Nat.{_+_, _-_, _≤_};
@@ -15,7 +15,7 @@ ghost use Rattle.array.specs.Buffers.{over, overAt};
 ghost use Rattle.codec.specs.Mask.{byteMask};
 ghost use Rattle.codec.specs.Frame.{countSet};
 ghost use Rattle.codec.specs.Spread.{spread};
-ghost use Rattle.codec.specs.Stored.{maskIn, planesBelow};
+ghost use Rattle.stored.specs.Stored.{maskIn, planesBelow};
 ghost use Rattle.decode.specs.Reads.{LevelsWithin, PlanesWithin};
 
 // Spreads the stored mask at `at` over the plane of n cells at `from`, in which `cells` are set, into the plane at `to` behind it.

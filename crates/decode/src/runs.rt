@@ -1,5 +1,5 @@
 // Runs of cells with one mark.
-use codec::mask::is_set;
+use stored::mask::is_set;
 ghost use mathlib.Core.Path.{_≡_};
 ghost use Prim.Native.Nat.{_+_, _≤_};
 ghost use lib.ListN.{length, take, drop};

@@ -2,8 +2,8 @@
 use crate::pairs::spread_pairs;
 use crate::runs::run_length;
 use crate::words::spread_words;
-use array::copy::fill_bytes;
 use array::kind::ByteOrder;
+use buffer::copy::fill_bytes;
 use endian::cells::copy_cells;
 ghost use mathlib.Core.Path.{_≡_};
 ghost use lib.ListN.{take, drop};

@@ -1,11 +1,11 @@
 // Values of a machine word's size.
 use crate::next::number_if;
 use crate::next::skip;
-use array::copy::fill_bytes;
 use array::kind::ByteOrder;
-use codec::mask::mark_of;
+use buffer::copy::fill_bytes;
 use endian::word::put_word;
 use endian::word::word_at;
+use stored::mask::mark_of;
 ghost use mathlib.Core.Path.{_≡_};
 ghost use mathlib.Core.Bool.{true};
 ghost use Prim.Native.Nat.{_+_, _*_, _≤_};

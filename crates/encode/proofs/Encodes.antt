@@ -8,17 +8,17 @@ use mathlib.Core.List.{List}
 use lib.ListN.{length}
 use lib.Dec.{leb}
 use borrow.Author.Tests.{le-leb, lt-leb}
-use Rattle.array.specs.declared.array_bytes.Checked.{Checked}
+use Rattle.valid.specs.declared.array_bytes.Checked.{Checked}
 use Rattle.array.specs.Answer.{Answer, gives, refuses, unless, Outcome}
 use Rattle.array.specs.Buffers.{over, listOutcome}
-use Rattle.array.specs.Check.{toldChecked}
+use Rattle.valid.specs.Check.{toldChecked}
 use Rattle.array.specs.Kind.{Kind, kindTest}
 use Rattle.array.specs.Limits.{mostCells}
-use Rattle.array.specs.ShapeCells.{shapeAnswer}
+use Rattle.valid.specs.ShapeCells.{shapeAnswer}
 use Rattle.array.specs.Content.{Content}
-use Rattle.array.proofs.CheckLaws.{checkOf, unlessKept, KeepsRules, check-refused, check-valid}
+use Rattle.valid.proofs.CheckLaws.{checkOf, unlessKept, KeepsRules, check-refused, check-valid}
 use Rattle.array.proofs.Rules.{kind-ok}
-use Rattle.array.proofs.ShapeLaws.{Counted, counted, not-counted}
+use Rattle.valid.proofs.ShapeLaws.{Counted, counted, not-counted}
 use Rattle.codec.specs.Calls.{storedForm, encodeAnswer, encoded}
 use Rattle.encode.specs.Ready.{Measured, Ready, Encodable}
 use Rattle.encode.specs.Stored.{storedBy, storedOver, lengthBy}

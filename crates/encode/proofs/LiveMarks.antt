@@ -13,7 +13,7 @@ use lib.Seq.{drop-cons}
 use Rattle.array.specs.Lists.{pick, from, passing}
 use Rattle.array.proofs.Lists.{All-of, length-from}
 use Rattle.array.proofs.Geometry.{passing-cong}
-use Rattle.codec.specs.Marks.{setTest, setTestBy}
+use Rattle.stored.specs.Marks.{setTest, setTestBy}
 use Rattle.codec.specs.Frame.{countSet, countBy}
 use Rattle.array.specs.Cells.{Mark, isNull, isSet, markOf}
 use Rattle.encode.specs.Live.{maskAt, setOne, liveTest, liveOne, liveAt, liveFrom}

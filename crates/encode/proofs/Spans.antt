@@ -16,7 +16,7 @@ use Rattle.array.specs.Offsets.{last, Rising, RisingFrom, ends}
 use Rattle.array.proofs.Bytes.{length-le}
 use Rattle.array.proofs.Over.{over-at-length}
 use Rattle.array.proofs.Lists.{length-from}
-use Rattle.array.proofs.CheckLaws.{last-at}
+use Rattle.valid.proofs.CheckLaws.{last-at}
 use Rattle.array.proofs.Laying.{Laying, laying-begins, laying-same, laying-left, laying-ends, laying-part, laying-is}
 use Rattle.codec.specs.Ragged.{indexOf}
 use Rattle.codec.proofs.Ragged.{length-index}

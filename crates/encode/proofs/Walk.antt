@@ -16,7 +16,7 @@ use Rattle.array.specs.Content.{Content, ContentOk, ValuesOk, pairUp, attach, v
 use Rattle.array.proofs.Lists.{All-of}
 use Rattle.array.proofs.Geometry.{passing-all}
 use Rattle.codec.specs.Mask.{byteMask}
-use Rattle.codec.specs.Marks.{setTest}
+use Rattle.stored.specs.Marks.{setTest}
 use Rattle.codec.specs.Frame.{keep, wrap, unlessNone, frame}
 use Rattle.codec.specs.Values.{putValues}
 use Rattle.codec.specs.Calls.{written, storedForm}

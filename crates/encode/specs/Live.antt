@@ -6,7 +6,7 @@ use mathlib.Core.Bool.{Bool, true, _&&_}
 use mathlib.Core.List.{List}
 use lib.ListN.{getD}
 use Rattle.array.specs.Lists.{pick, from, passing}
-use Rattle.codec.specs.Marks.{setTest}
+use Rattle.stored.specs.Marks.{setTest}
 
 -- the mask byte of cell i at level l, of n cells
 abbrev pub maskAt : ℕ → List ℕ → ℕ → ℕ → ℕ

@@ -1,10 +1,10 @@
 // What belongs to the cells that a level counts, end to end: mask bytes, and values of one size.
 use crate::live;
-use array::copy;
 use array::kind::ByteOrder;
-use codec::mask;
+use buffer::copy;
 use endian::cells;
 use endian::word;
+use stored::mask;
 ghost use mathlib.Core.Path.{_≡_};
 ghost use mathlib.Core.Bool.{true};
 ghost use mathlib.Core.List.{map};

@@ -4,7 +4,7 @@ use crate::values;
 use array::kind;
 use array::kind::Kind;
 use array::kind::Values;
-use codec::mask;
+use stored::mask;
 ghost use mathlib.Core.Path.{_≡_};
 ghost use Prim.Native.Nat.{_+_, _≤_};
 ghost use Rattle.array.specs.Limits.{mostBytes};

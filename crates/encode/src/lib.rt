@@ -1,12 +1,11 @@
 // Layer 2, writing: an array into its stored form.
 use array::answer::Written;
-use array::array_bytes;
-use array::array_bytes::Checked;
-use array::kind;
 use array::kind::Kind;
 use array::refusal;
-use array::shape;
-use array::shape::Cells;
+use valid::array_bytes;
+use valid::array_bytes::Checked;
+use valid::shape;
+use valid::shape::Cells;
 
 mod cells;
 mod length;
@@ -33,7 +32,7 @@ pub fn encode(
 ) -> Written
     ensures { λ r. ⌜ outcome r (now (out .exit)) ≡ encoded (kindOf kind) (now (shape .entry)) (record { masks = now (masks .entry); values = now (values .entry); offsets = now (offsets .entry) }) (now (out .entry)) ⌝ }
 {
-    if !kind::check_kind(kind) {
+    if !valid::kind::check_kind(kind) {
         return Written::Refused(refusal::KIND);
     }
     let Cells::Count(cells) = shape::shape_cells(shape) else {

@@ -1,5 +1,5 @@
 // The cells that a level counts: those whose masks are set at every level above it.
-use codec::mask;
+use stored::mask;
 ghost use mathlib.Core.Path.{_≡_};
 ghost use Prim.Native.Nat.{_+_, _-_, _*_, _<_, _≤_};
 ghost use lib.ListN.{length};

@@ -1,10 +1,10 @@
 // Ragged values: their bytes, their index and the index's length, each at its place.
 use crate::live;
-use array::copy;
-use array::field;
 use array::kind;
 use array::kind::IndexPlace;
 use array::kind::IndexWidth;
+use buffer::copy;
+use buffer::field;
 ghost use mathlib.Core.Path.{_≡_};
 ghost use mathlib.Core.List.{_∷_, map};
 ghost use Prim.Native.Nat.{_+_, _<_, _≤_};

@@ -2,9 +2,9 @@
 use crate::copy_reversed;
 use crate::eight;
 use crate::word;
-use array::copy;
-use array::field;
 use array::kind::ByteOrder;
+use buffer::copy;
+use buffer::field;
 ghost use mathlib.Core.Path.{_≡_};
 ghost use mathlib.Core.List.{map, reverse};
 ghost use Prim.Native.Nat.{_+_, _*_, _≤_};

@@ -5,8 +5,8 @@ pub mod in_place;
 pub mod word;
 
 use array::answer::Written;
-use array::kind::MOST_SIZE;
 use array::refusal;
+use valid::kind::MOST_SIZE;
 ghost use mathlib.Core.Path.{_≡_};
 ghost use mathlib.Core.List.{reverse};
 ghost use Prim.Native.Nat.{_+_, _/_, _≤_};

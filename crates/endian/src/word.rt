@@ -1,6 +1,6 @@
 // Cells of a machine word's size, as numbers: read in either byte order, and written.
-use array::field;
 use array::kind::ByteOrder;
+use buffer::field;
 ghost use mathlib.Core.Path.{_≡_};
 ghost use mathlib.Core.Bool.{true};
 ghost use mathlib.Core.List.{_++_, reverse};

@@ -6,7 +6,7 @@ use Prim.Native.Nat.{ℕ, _≤_, _<_}
 use native.Mathlib.Omega.{arith}
 use mathlib.Core.List.{List}
 use lib.ListN.{length}
-use Rattle.array.specs.declared.array_bytes.Checked.{Checked}
+use Rattle.valid.specs.declared.array_bytes.Checked.{Checked}
 use Rattle.array.specs.Answer.{Answer, gives, refuses, unless, Outcome}
 use Rattle.array.specs.Kind.{Kind, kindTest}
 use Rattle.array.specs.Shape.{volume, shapeTest}
@@ -14,9 +14,9 @@ use Rattle.array.specs.Subset.{subsetOf, numbersTest}
 use Rattle.array.specs.Content.{Content}
 use Rattle.array.specs.Buffers.{Lengths, lengthsOf, Enough, enoughTest, over, contentOutcome}
 use Rattle.array.specs.Outcome.{contentArray}
-use Rattle.array.specs.Check.{toldChecked}
+use Rattle.valid.specs.Check.{toldChecked}
 use Rattle.array.proofs.Rules.{enough-test, enough-ok}
-use Rattle.array.proofs.CheckLaws.{checkOf, unlessKept, check-refused, check-valid}
+use Rattle.valid.proofs.CheckLaws.{checkOf, unlessKept, check-refused, check-valid}
 use Rattle.chunks.specs.Cut.{cutOf}
 use Rattle.chunks.specs.Calls.{extracted, extractAnswer}
 use Rattle.extract.specs.Outcome.{putInto}

@@ -1,5 +1,5 @@
 // Masks and fixed values of the cells of a subset, copied row by row: a row of neighbours is one run of bytes.
-use array::copy;
+use buffer::copy;
 ghost use mathlib.Core.Path.{_≡_};
 ghost use Prim.Native.Nat.{_*_};
 ghost use Rattle.array.specs.Lists.{joined};

@@ -1,10 +1,10 @@
 // Layer 3: a subset cut from an array.
 use array::answer::WrittenArray;
-use array::array_bytes::Checked;
 use array::kind::Kind;
 use array::kind::Values;
 use array::refusal;
-use array::shape::Cells;
+use valid::array_bytes::Checked;
+use valid::shape::Cells;
 ghost use mathlib.Core.Path.{_≡_};
 ghost use Prim.Native.Nat.{_≤_};
 ghost use Rattle.array.specs.Lists.{joined};
@@ -163,16 +163,16 @@ pub fn extract(
         ≡ extracted (kindOf kind) (now (shape .entry)) (now (subset .entry)) (contentArray (now (masks .entry)) (now (values .entry)) (now (offsets .entry)))
         (contentArray (now («out_masks» .entry)) (now («out_values» .entry)) (now («out_offsets» .entry))) ⌝ }
 {
-    if !array::kind::check_kind(kind) {
+    if !valid::kind::check_kind(kind) {
         return WrittenArray::Refused(refusal::KIND);
     }
-    let Cells::Count(cells) = array::shape::shape_cells(shape) else {
+    let Cells::Count(cells) = valid::shape::shape_cells(shape) else {
         return WrittenArray::Refused(refusal::SHAPE);
     };
     if !subset::subset_fits(shape, subset) {
         return WrittenArray::Refused(refusal::SUBSET);
     }
-    let checked = array::array_bytes::check_array(kind, cells, masks.len(), values.len(), offsets);
+    let checked = valid::array_bytes::check_array(kind, cells, masks.len(), values.len(), offsets);
     match checked {
         Checked::Refused(e) => WrittenArray::Refused(e),
         Checked::Valid => {

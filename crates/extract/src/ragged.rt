@@ -1,5 +1,5 @@
 // Ragged values and offsets of the cells of a subset: the bytes of a row are one run, its offsets are counted anew.
-use array::copy;
+use buffer::copy;
 ghost use mathlib.Core.Path.{_≡_};
 ghost use mathlib.Core.List.{map};
 ghost use Prim.Native.Nat.{ℕ, suc, _+_, _-_, _<_, _≤_};

@@ -3,11 +3,11 @@
 use array::answer::Written;
 use array::answer::WrittenArray;
 use array::answer::WrittenRagged;
-use array::kind::IndexRead;
-use array::kind::KindRead;
+use valid::numbers::IndexRead;
+use valid::numbers::KindRead;
 ghost use mathlib.Core.Path.{_≡_};
 ghost use Rattle.array.specs.Meaning.{told, toldRagged, toldArray};
-ghost use Rattle.array.specs.Numbers.{numberedKind, numberedIndex};
+ghost use Rattle.valid.specs.Numbers.{numberedKind, numberedIndex};
 ghost use Rattle.array.specs.Outcome.{contentArray, contentRagged};
 ghost use Rattle.endian.specs.Calls.{endiannessReversed};
 ghost use Rattle.subset.specs.Calls.{subsetCells};
@@ -85,7 +85,7 @@ pub extern "C" fn dpx_encode(
         ≡ exportOne (withGiven (numberedKind (kind .depth) (kind .form) (kind .size) (kind .order) (kind .mask)) (now (out .entry))
         (λ k. encoded k (now (shape .entry)) (contentArray (now (masks .entry)) (now (values .entry)) (now (offsets .entry))) (now (out .entry)))) (now (lengths .entry)) ⌝ }
 {
-    let read = array::kind::kind_from_numbers(
+    let read = valid::numbers::kind_from_numbers(
         kind.depth,
         kind.form,
         kind.size,
@@ -116,7 +116,7 @@ pub extern "C" fn dpx_decode(
         (contentArray (now (masks .entry)) (now (values .entry)) (now (offsets .entry)))
         (λ k. decoded k (now (shape .entry)) (now (bytes .entry)) (contentArray (now (masks .entry)) (now (values .entry)) (now (offsets .entry))))) (now (lengths .entry)) ⌝ }
 {
-    let read = array::kind::kind_from_numbers(
+    let read = valid::numbers::kind_from_numbers(
         kind.depth,
         kind.form,
         kind.size,
@@ -166,7 +166,7 @@ pub extern "C" fn dpx_extract(
         (λ k. extracted k (now (shape .entry)) (now (subset .entry)) (contentArray (now (masks .entry)) (now (values .entry)) (now (offsets .entry)))
         (contentArray (now («out_masks» .entry)) (now («out_values» .entry)) (now («out_offsets» .entry))))) (now (lengths .entry)) ⌝ }
 {
-    let read = array::kind::kind_from_numbers(
+    let read = valid::numbers::kind_from_numbers(
         kind.depth,
         kind.form,
         kind.size,
@@ -211,7 +211,7 @@ pub extern "C" fn dpx_merge(
         (λ k. merged k (now (shape .entry)) (now (subsets .entry)) (contentArray (now (masks .entry)) (now (values .entry)) (now (offsets .entry)))
         (contentArray (now («out_masks» .entry)) (now («out_values» .entry)) (now («out_offsets» .entry))))) (now (lengths .entry)) ⌝ }
 {
-    let read = array::kind::kind_from_numbers(
+    let read = valid::numbers::kind_from_numbers(
         kind.depth,
         kind.form,
         kind.size,
@@ -252,7 +252,7 @@ pub extern "C" fn dpx_partial_decode(
         ≡ exportTwo (withGiven (numberedIndex width place) (contentRagged (now (values .entry)) (now (offsets .entry)))
         (byIndex (contentRagged (now (values .entry)) (now (offsets .entry))) (λ w p. partiallyDecoded w p (now (shape .entry)) (now (subset .entry)) (now (bytes .entry)) (contentRagged (now (values .entry)) (now (offsets .entry)))))) (now (lengths .entry)) ⌝ }
 {
-    let read = array::kind::index_from_numbers(width, place);
+    let read = valid::numbers::index_from_numbers(width, place);
     match read {
         IndexRead::Refused(e) => e as u32,
         IndexRead::Index(w, p) => {

@@ -1,12 +1,12 @@
 // The older interleaved form of ragged values, read: a 4-byte count, then for each cell a 4-byte length and its bytes.
 // A checking walk comes before the first store; the walk that copies cannot fail.
 use array::answer::WrittenRagged;
-use array::array_bytes;
-use array::copy;
-use array::field;
-use array::field::Field;
 use array::refusal;
-use array::shape;
+use buffer::copy;
+use buffer::field;
+use buffer::field::Field;
+use valid::array_bytes;
+use valid::shape;
 ghost use mathlib.Core.Path.{_≡_};
 ghost use Prim.Native.Nat.{_+_, _<_, _≤_};
 ghost use lib.ListN.{length, drop, replicate};

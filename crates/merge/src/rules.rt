@@ -1,9 +1,9 @@
 // Whether chunks may be merged, by lengths and offsets alone.
-use array::array_bytes::MOST_BYTES;
 use array::kind::Kind;
 use array::kind::Values;
 use array::refusal;
-use array::shape::Cells;
+use valid::array_bytes::MOST_BYTES;
+use valid::shape::Cells;
 ghost use mathlib.Core.Path.{_≡_};
 ghost use Prim.Native.Nat.{_≤_};
 ghost use lib.ListN.{length};
@@ -48,7 +48,7 @@ fn check_chunk(kind: Kind, cells: usize, masks: usize, values: usize, offsets: &
             if offsets.len() <= cells {
                 return Chunk::Bad;
             }
-            if !array::array_bytes::never_fall(offsets, cells) {
+            if !valid::array_bytes::never_fall(offsets, cells) {
                 return Chunk::Bad;
             }
             let last = offsets[cells] as usize;
@@ -125,10 +125,10 @@ pub fn check_merge(
 ) -> Checks
     ensures { λ r. ⌜ toldChecks r ≡ checkAnswer (kindOf kind) (now (shape .entry)) (now (subsets .entry)) masks values (now (offsets .entry)) ⌝ }
 {
-    if !array::kind::check_kind(kind) {
+    if !valid::kind::check_kind(kind) {
         return Checks::Refused(refusal::KIND);
     }
-    let Cells::Count(cells) = array::shape::shape_cells(shape) else {
+    let Cells::Count(cells) = valid::shape::shape_cells(shape) else {
         return Checks::Refused(refusal::SHAPE);
     };
     if !subset::subsets_fit(shape, subsets) {

@@ -9,7 +9,7 @@ use mathlib.Core.List.{List}
 use lib.ListN.{length, getD, take, drop, set, length-drop}
 use lib.Seq.{drop-drop}
 use Rattle.array.specs.Buffers.{overAt}
-use Rattle.array.proofs.Copying.{Copying, copy-more}
+use Rattle.buffer.proofs.Copying.{Copying, copy-more}
 use Rattle.merge_stores.specs.Ragged.{steps}
 use Rattle.merge_stores.specs.Scatter.{fixedAt}
 use Rattle.merge_stores.proofs.RaggedTies.{steps-at}

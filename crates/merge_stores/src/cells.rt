@@ -31,7 +31,7 @@ pub fn store_subset(
         let to = base + (a as usize) * size;
         let take = first + (at as usize) * size;
         let len = (n as usize) * size;
-        array::copy::copy_bytes(out, to, src, take, len);
+        buffer::copy::copy_bytes(out, to, src, take, len);
         at += n;
     }
 }

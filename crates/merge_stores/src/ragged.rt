@@ -120,7 +120,7 @@ fn store_ragged(
         let begin = src[i] as usize;
         let e = i + (n as usize);
         let end = src[e] as usize;
-        array::copy::copy_bytes(out, to, values, base + begin, end - begin);
+        buffer::copy::copy_bytes(out, to, values, base + begin, end - begin);
         at += n;
     }
 }

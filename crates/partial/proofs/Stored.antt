@@ -22,11 +22,11 @@ use Rattle.array.specs.Offsets.{last, lastFrom, Rising, risingTest}
 use Rattle.array.specs.Content.{Content, RaggedContent, unmasked, ValuesOk, sizeTest}
 use Rattle.array.proofs.Lists.{length-pieces, take-within}
 use Rattle.array.proofs.Rules.{rising-ok, size-ok}
-use Rattle.array.proofs.CheckLaws as check
+use Rattle.valid.proofs.CheckLaws as check
 use Rattle.array.proofs.SubsetLaws.{cellsIn-below}
 use Rattle.codec.specs.Ragged.{dataTest, checkRagged, partOf, leftOf, getRagged}
-use Rattle.codec.specs.Index.{offsetsIn, spanIn, indexAt, dataAt}
-use Rattle.codec.proofs.CheckedIndex.{IndexChecked, index-checked}
+use Rattle.stored.specs.Index.{offsetsIn, spanIn, indexAt, dataAt}
+use Rattle.stored.proofs.CheckedIndex.{IndexChecked, index-checked}
 use Rattle.chunks.specs.Calls.{raggedCut}
 use Rattle.extract.specs.Places.{offsetAt, Rises, valuesAt}
 use Rattle.extract.proofs.Places.{run-below}

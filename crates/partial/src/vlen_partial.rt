@@ -1,15 +1,15 @@
 // Stored ragged values of depth 0, of which the cells of a subset are handed out. Offsets are read where they are stored, so that
 // no other memory is needed; nothing is stored before the last check.
 use array::answer::WrittenRagged;
-use array::copy;
-use array::field;
 use array::kind;
 use array::kind::IndexPlace;
 use array::kind::IndexWidth;
 use array::refusal;
-use array::shape::Cells;
-use codec::vlen;
-use codec::vlen::Indexed;
+use buffer::copy;
+use buffer::field;
+use stored::vlen;
+use stored::vlen::Indexed;
+use valid::shape::Cells;
 ghost use mathlib.Core.Path.{_≡_};
 ghost use mathlib.Core.List.{map};
 ghost use Prim.Native.Nat.{ℕ, suc, _+_, _-_, _*_, _<_, _≤_};
@@ -212,7 +212,7 @@ pub fn partial_decode(
     ensures { λ r. ⌜ outcomeRagged r (now (values .exit)) (now (offsets .exit))
         ≡ partiallyDecoded (widthOf width) (placeOf place) (now (shape .entry)) (now (subset .entry)) (now (bytes .entry)) (contentRagged (now (values .entry)) (now (offsets .entry))) ⌝ }
 {
-    let Cells::Count(cells) = array::shape::shape_cells(shape) else {
+    let Cells::Count(cells) = valid::shape::shape_cells(shape) else {
         return WrittenRagged::Refused(refusal::SHAPE);
     };
     if !subset::subset_fits(shape, subset) {

@@ -4,11 +4,11 @@
 use Prim.Native.Nat.{ℕ}
 use mathlib.Core.Path.{_≡_}
 use mathlib.Core.Bool.{false}
-use Rattle.array.specs.declared.kind.KindRead as declared
+use Rattle.valid.specs.declared.numbers.KindRead as declared
 use Rattle.array.specs.Answer.{Answer, gives, refuses}
 use Rattle.array.specs.Kind.{Kind, kindTest}
 use Rattle.array.specs.Meaning.{kindOf}
-use Rattle.array.specs.Numbers.{toldKind}
+use Rattle.valid.specs.Numbers.{toldKind}
 use Rattle.array.specs.Buffers.{Lengths, RaggedLengths}
 
 abbrev pub onlyValues : ℕ → Lengths

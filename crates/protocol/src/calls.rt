@@ -5,15 +5,15 @@ use array::answer::WrittenArray;
 use array::answer::WrittenRagged;
 use array::kind;
 use array::kind::ByteOrder;
-use array::kind::IndexRead;
-use array::kind::KindRead;
 use interleaved::vlen_v2;
 use partial::vlen_partial;
+use valid::numbers::IndexRead;
+use valid::numbers::KindRead;
 ghost use mathlib.Core.Path.{_≡_};
 ghost use lib.ListN.{getD};
 ghost use Rattle.array.specs.Answer.{mapAnswer};
 ghost use Rattle.array.specs.Meaning.{told, toldRagged, toldArray};
-ghost use Rattle.array.specs.Numbers.{numberedKind};
+ghost use Rattle.valid.specs.Numbers.{numberedKind};
 ghost use Rattle.protocol.specs.Told.{onlyValues, onlyOffsets, noMasks, Beyond, Asked};
 
 // A number of a list; 0 where the list is shorter.
@@ -64,7 +64,7 @@ fn kind_beyond(depth: u64, size: u64, e: u8) -> KindRead
         return KindRead::Refused(e);
     }
     let kind = kind::fixed(depth as u8, size as u8, ByteOrder::Little);
-    if kind::check_kind(kind) {
+    if valid::kind::check_kind(kind) {
         return KindRead::Refused(e);
     }
     KindRead::Kind(kind)

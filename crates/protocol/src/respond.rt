@@ -3,7 +3,7 @@ use crate::calls;
 use crate::request::Fields;
 use crate::request::Request;
 use array::answer::WrittenArray;
-use array::copy;
+use buffer::copy;
 use text::print;
 use text::scan;
 use text::scan::part_of_bytes;

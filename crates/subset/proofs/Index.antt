@@ -12,7 +12,7 @@ use Rattle.array.specs.Shape.{volume, ShapeOk}
 use Rattle.array.specs.Subset.{pairs, SubsetOk, rows, cellsIn}
 use Rattle.array.specs.Rows.{Within, FewCells}
 use Rattle.array.proofs.SubsetLaws.{length-cellsIn, lengths-pairs, volume-le}
-use Rattle.array.proofs.ShapeLaws.{next-side, volume-drop}
+use Rattle.valid.proofs.ShapeLaws.{next-side, volume-drop}
 use Rattle.subset.proofs.Runs.{rows-at}
 
 pub All-drop : (P : ℕ → Type 0) (k : ℕ) (xs : List ℕ) → All P xs → All P (drop k xs)

@@ -1,7 +1,7 @@
 // Subsets of a shape: whether numbers are some, and which cells they have, row by row.
 use array::answer::Written;
 use array::refusal;
-use array::shape::Cells;
+use valid::shape::Cells;
 ghost use mathlib.Core.Path.{_≡_};
 ghost use Prim.Native.Nat.{_+_, _-_, _≤_, _<_};
 ghost use lib.ListN.{length, getD};
@@ -164,7 +164,7 @@ fn store_rows(cells: &mut [u64], shape: &[u64], starts: &[u64], lens: &[u64], co
 pub fn subset_cells(shape: &[u64], numbers: &[u64], cells: &mut [u64]) -> Written
     ensures { λ r. ⌜ outcome r (now (cells .exit)) ≡ subsetCells (now (shape .entry)) (now (numbers .entry)) (now (cells .entry)) ⌝ }
 {
-    let Cells::Count(_) = array::shape::shape_cells(shape) else {
+    let Cells::Count(_) = valid::shape::shape_cells(shape) else {
         return Written::Refused(refusal::SHAPE);
     };
     if !subset_fits(shape, numbers) {

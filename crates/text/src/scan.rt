@@ -1,6 +1,6 @@
 // Lists of numbers and of bytes, read from text. `-` is the empty list. Numbers are decimal and joined by commas, bytes are pairs of
 // hexadecimal digits; COUNT*X is a run of equal ones, and `+` joins runs and plain parts.
-use array::copy;
+use buffer::copy;
 ghost use mathlib.Core.Path.{_≡_};
 ghost use Prim.Native.Nat.{_+_, _≤_};
 ghost use lib.ListN.{length, drop, replicate};

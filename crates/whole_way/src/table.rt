@@ -4,7 +4,6 @@ use crate::way;
 use array::answer::WrittenArray;
 use array::kind;
 use array::kind::Kind;
-use array::kind::KindRead;
 use protocol::calls::number_at;
 use protocol::request;
 use protocol::request::Fields;
@@ -12,6 +11,7 @@ use protocol::request::Parsed;
 use text::scan;
 use text::scan::part_of_bytes;
 use text::scan::part_of_numbers;
+use valid::numbers::KindRead;
 
 // The lists of a table before the semicolon; behind it the one list of cuts.
 fn fields(table: bool) -> Fields {

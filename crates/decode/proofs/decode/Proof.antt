@@ -6,7 +6,7 @@ use borrow.Author.Tests.{not-true, not-false}
 use borrow.Author.Needs.{needs}
 use Rattle.array.specs.Kind.{fixed, ragged, FormOk, KindOk, kindTest}
 use Rattle.array.specs.Meaning.{kindOf, formOf, orderOf, widthOf, placeOf}
-use Rattle.array.specs.ShapeCells.{toldCells}
+use Rattle.valid.specs.ShapeCells.{toldCells}
 use Rattle.array.proofs.Rules.{kind-ok}
 use Rattle.decode.proofs.Stages.{ShapeCounted, shape-counted, shape-refused, by-kind, by-shape, by-reading}
 use Rattle.decode.proofs.decode.Statement.{statement}

@@ -8,8 +8,8 @@ use Rattle.array.specs.Content.{Content}
 use Rattle.array.specs.Kind.{kindTest}
 use Rattle.array.specs.Limits.{mostCells}
 use Rattle.array.specs.Meaning.{kindOf}
-use Rattle.array.specs.ShapeCells.{toldCells, shapeAnswer}
-use Rattle.array.proofs.ShapeLaws.{counted}
+use Rattle.valid.specs.ShapeCells.{toldCells, shapeAnswer}
+use Rattle.valid.proofs.ShapeLaws.{counted}
 use Rattle.encode.specs.Stored.{contentIn}
 use Rattle.encode.proofs.Encodes.{encode-kind, encode-shape, encode-content, encode-encodable, encode-rest}
 use borrow.Author.Needs.{needs}

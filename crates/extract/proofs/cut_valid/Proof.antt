@@ -13,7 +13,7 @@ use Rattle.array.specs.Content.{Content}
 use Rattle.array.specs.Buffers.{over}
 use Rattle.array.specs.Outcome.{contentArray}
 use Rattle.array.specs.Meaning.{kindOf}
-use Rattle.array.proofs.CheckLaws.{small-product}
+use Rattle.valid.proofs.CheckLaws.{small-product}
 use Rattle.subset.proofs.Index.{few-within}
 use Rattle.chunks.specs.Cut.{cutOf}
 use Rattle.extract.specs.Asked.{SubsetAsked, ArrayAsked}

@@ -11,16 +11,16 @@ use lib.ListN.{length}
 use Rattle.array.specs.Limits.{mostCells}
 use Rattle.array.specs.Kind.{Kind, kindTest}
 use Rattle.array.specs.Shape.{volume}
-use Rattle.array.specs.ShapeCells.{toldCells}
+use Rattle.valid.specs.ShapeCells.{toldCells}
 use Rattle.array.specs.Subset.{Subset, numbersTest, NumbersOk}
 use Rattle.array.specs.Content.{Content}
-use Rattle.array.specs.Check.{toldChecked}
+use Rattle.valid.specs.Check.{toldChecked}
 use Rattle.array.specs.Outcome.{contentArray}
 use Rattle.array.specs.Meaning.{kindOf}
 use Rattle.array.proofs.Rules.{numbers-ok}
-use Rattle.array.proofs.ShapeLaws.{Counted, counted, not-counted}
+use Rattle.valid.proofs.ShapeLaws.{Counted, counted, not-counted}
 use Rattle.array.proofs.SubsetLists.{subset-parts, within-parts}
-use Rattle.array.proofs.CheckLaws.{checkOf, KeepsRules, check-valid}
+use Rattle.valid.proofs.CheckLaws.{checkOf, KeepsRules, check-valid}
 use Rattle.chunks.specs.Cut.{cutOf}
 use Rattle.extract.specs.Outcome.{putInto}
 use Rattle.extract.proofs.Outcomes.{no-kind, no-shape, no-subset, not-kept, kept}

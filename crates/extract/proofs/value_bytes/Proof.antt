@@ -6,7 +6,7 @@ use native.Mathlib.Omega.{arith}
 use borrow.Author.Needs.{needs}
 use Rattle.array.specs.Limits.{mostCells}
 use Rattle.array.specs.Subset.{pairs, cellsIn}
-use Rattle.array.proofs.CheckLaws.{small-product}
+use Rattle.valid.proofs.CheckLaws.{small-product}
 use Rattle.extract.proofs.Places.{fixed-total}
 use Rattle.extract.proofs.Walk.{asked-count, asked-few}
 use Rattle.extract.proofs.value_bytes.Statement.{statement}

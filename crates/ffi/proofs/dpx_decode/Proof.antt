@@ -1,7 +1,7 @@
 -- `ffi::dpx_decode` meets its contract, by what `decode` promises of a kind that came as numbers.
 -- Assumes nothing.
 use mathlib.Core.Path.{refl, ap}
-use Rattle.array.specs.Numbers.{toldKind}
+use Rattle.valid.specs.Numbers.{toldKind}
 use Rattle.ffi.specs.Exported.{threeLengths}
 use Rattle.ffi.proofs.Exporting.{exported, not-given, given}
 use borrow.Author.Needs.{needs}

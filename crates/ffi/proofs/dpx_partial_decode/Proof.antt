@@ -1,7 +1,7 @@
 -- `ffi::dpx_partial_decode` meets its contract, by what `partial_decode` promises of an index that came as numbers.
 -- Assumes nothing.
 use mathlib.Core.Path.{refl, ap}
-use Rattle.array.specs.Numbers.{toldIndex}
+use Rattle.valid.specs.Numbers.{toldIndex}
 use Rattle.ffi.specs.Exported.{twoLengths}
 use Rattle.ffi.proofs.Exporting.{exported, not-given, given}
 use borrow.Author.Needs.{needs}

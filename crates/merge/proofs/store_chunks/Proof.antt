@@ -10,7 +10,7 @@ use Rattle.array.specs.Kind.{Form, fixed, ragged}
 use Rattle.array.specs.Meaning.{formOf, orderOf, widthOf, placeOf}
 use Rattle.array.specs.Content.{Content}
 use Rattle.array.specs.Outcome.{contentArray}
-use Rattle.array.proofs.CheckLaws.{small-product}
+use Rattle.valid.proofs.CheckLaws.{small-product}
 use Rattle.merge.specs.Merge.{Sizes}
 use Rattle.merge.proofs.Closed.{no-masks, no-values, no-offsets, masks-asked, parts-asked, ragged-merge-asked, fixed-stored, ragged-stored}
 use Rattle.merge.proofs.store_chunks.Statement.{statement}

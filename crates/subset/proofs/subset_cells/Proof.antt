@@ -8,10 +8,10 @@ use native.Mathlib.Omega.{arith}
 use borrow.Author.Needs.{needs}
 use borrow.Author.Tests.{not-true, not-false}
 use lib.ListN.{length}
-use Rattle.array.specs.ShapeCells.{toldCells}
+use Rattle.valid.specs.ShapeCells.{toldCells}
 use Rattle.array.specs.Subset.{Subset, subsetOf, numbersTest, NumbersOk, cellsIn}
 use Rattle.array.proofs.Rules.{numbers-ok}
-use Rattle.array.proofs.ShapeLaws.{Counted, counted, not-counted}
+use Rattle.valid.proofs.ShapeLaws.{Counted, counted, not-counted}
 use Rattle.array.proofs.SubsetLists.{subset-parts, within-parts}
 use Rattle.subset.proofs.Index.{few-within}
 use Rattle.subset.proofs.Rows.{within-cells}

@@ -4,7 +4,7 @@ use mathlib.Core.Path.{sym, ap, _∙_}
 use borrow.Author.Needs.{needs}
 use Rattle.array.specs.Meaning.{orderOf}
 use Rattle.array.specs.Outcome.{contentArray}
-use Rattle.codec.specs.Walk.{toldWalk}
+use Rattle.stored.specs.Walk.{toldWalk}
 use Rattle.decode.specs.Outcomes.{readOutcome}
 use Rattle.decode.proofs.FixedLaws.{walk-flat, none-within, fixed-refused, fixed-none}
 use Rattle.decode.proofs.fixed.decode_fixed.Statement.{statement}

@@ -8,7 +8,7 @@ use lib.ListN.{length}
 use borrow.Author.Needs.{needs}
 use Rattle.array.specs.Meaning.{orderOf}
 use Rattle.array.specs.Outcome.{contentArray}
-use Rattle.codec.proofs.Walks.{WalkPassed, walk-values}
+use Rattle.stored.proofs.Walks.{WalkPassed, walk-values}
 use Rattle.decode.specs.Outcomes.{readOutcome}
 use Rattle.decode.proofs.Small.{bytes-small}
 use Rattle.decode.proofs.FixedLaws.{some-within, fixed-length, fixed-given}

@@ -9,8 +9,8 @@ use Rattle.array.specs.Lists.{All}
 use Rattle.array.specs.Bytes.{unle}
 use Rattle.array.specs.Buffers.{over}
 use Rattle.array.specs.Cells.{markOf}
-use Rattle.codec.specs.Marks.{toldMark}
-use Rattle.codec.specs.Index.{offsetsIn}
+use Rattle.stored.specs.Marks.{toldMark}
+use Rattle.stored.specs.Index.{offsetsIn}
 use Rattle.decode.specs.Next.{ifSet}
 use Rattle.decode.proofs.Placing.{planeAt, plane-length, plane-byte, next-most, next-within}
 use Rattle.decode.proofs.SpreadingOffsets.{SpreadingOffsets, endsOf, ends-begin, ends-same, ends-room, ends-end, ends-inside, ends-above, ends-more}

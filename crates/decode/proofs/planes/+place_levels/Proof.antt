@@ -6,13 +6,13 @@ use lib.ListN.{length}
 use borrow.Author.Needs.{needs}
 use borrow.Fn.Kinds.{In}
 use borrow.Fn.PlainCycle.{Measures, is, falls, and}
-use Rattle.array.proofs.copy.fill_bytes.Reads as fill-bytes-reads
+use Rattle.buffer.proofs.copy.fill_bytes.Reads as fill-bytes-reads
 use Rattle.decode.proofs.Levels.{levels-none, levels-null, levels-room, levels-fits, levels-next, levels-done}
 use Rattle.decode.proofs.planes.place_levels.Reads as place-levels
 use Rattle.decode.proofs.planes.place_levels.Kinds as place-levels-kinds
 use Rattle.decode.proofs.planes.+place_levels.Lts-place_levels as place-levels-lts
-use Rattle.codec.proofs.mask.count_set.Reads as count-set-reads
-use Rattle.codec.proofs.mask.mask_length.Reads as mask-length-reads
+use Rattle.stored.proofs.mask.count_set.Reads as count-set-reads
+use Rattle.stored.proofs.mask.mask_length.Reads as mask-length-reads
 use Rattle.decode.proofs.planes.place_plane.Reads as place-plane-reads
 use Rattle.decode.proofs.planes.+place_levels.{statement}
 use Rattle.decode.proofs.planes.+place_levels.Tie.{close}

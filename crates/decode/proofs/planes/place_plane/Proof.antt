@@ -5,7 +5,7 @@ use Prim.Native.Nat.{ℕ, _-_, _<_}
 use native.Mathlib.Omega.{arith}
 use lib.ListN.{length}
 use borrow.Author.Needs.{needs}
-use Rattle.codec.specs.Marks.{toldMark}
+use Rattle.stored.specs.Marks.{toldMark}
 use Rattle.decode.specs.Next.{ifSet}
 use Rattle.decode.proofs.Placing.{next-most, Placing, placing-begins, placing-all, placing-same, placing-ends, placing-inside, placing-more}
 use Rattle.decode.proofs.planes.place_plane.Statement.{statement}

@@ -9,10 +9,10 @@ use borrow.Author.Needs.{needs}
 use Rattle.array.specs.Answer.{gives}
 use Rattle.array.specs.Meaning.{widthOf, placeOf}
 use Rattle.array.specs.Outcome.{contentArray}
-use Rattle.codec.specs.Walk.{walked, valuesAt, toldWalk}
-use Rattle.codec.specs.Index.{indexAt, dataAt, toldIndex}
-use Rattle.codec.proofs.Walks.{WalkPassed, walk-values, values-flat, passed-count}
-use Rattle.codec.proofs.CheckedIndex.{span-refused, IndexChecked, index-checked, IndexPlaced, index-placed, index-within, data-within}
+use Rattle.stored.specs.Walk.{walked, valuesAt, toldWalk}
+use Rattle.stored.specs.Index.{indexAt, dataAt, toldIndex}
+use Rattle.stored.proofs.Walks.{WalkPassed, walk-values, values-flat, passed-count}
+use Rattle.stored.proofs.CheckedIndex.{span-refused, IndexChecked, index-checked, IndexPlaced, index-placed, index-within, data-within}
 use Rattle.decode.specs.Outcomes.{readOutcome}
 use Rattle.decode.proofs.NestedLaws.{none-within, ragged-refused, ragged-none-set, ragged-wrong, ragged-given}
 use Rattle.decode.proofs.ragged.decode_ragged.Statement.{statement}

@@ -10,7 +10,7 @@ use borrow.Author.Needs.{needs}
 use Rattle.array.specs.Content.{Content}
 use Rattle.array.specs.Meaning.{widthOf}
 use Rattle.array.specs.Outcome.{contentArray}
-use Rattle.codec.specs.Index.{offsetsIn}
+use Rattle.stored.specs.Index.{offsetsIn}
 use Rattle.decode.proofs.Outcomes.{short-values, short-offsets, all-written}
 use Rattle.decode.proofs.Small.{few-cells}
 use Rattle.decode.proofs.CopyingOffsets.{length-offsets}

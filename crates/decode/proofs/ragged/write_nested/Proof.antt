@@ -6,7 +6,7 @@ use native.Mathlib.Omega.{arith}
 use lib.ListN.{drop}
 use borrow.Author.Needs.{needs}
 use Rattle.array.specs.Meaning.{widthOf}
-use Rattle.codec.specs.Index.{offsetsIn}
+use Rattle.stored.specs.Index.{offsetsIn}
 use Rattle.decode.proofs.Small.{few-cells, planes-small}
 use Rattle.decode.proofs.Levels.{times-first}
 use Rattle.decode.proofs.NestedLaws.{rising-above, nested-first}

@@ -5,7 +5,7 @@ use Prim.Native.Nat.{_-_, _<_}
 use native.Mathlib.Omega.{arith}
 use lib.ListN.{length, getD}
 use borrow.Author.Needs.{needs}
-use Rattle.codec.specs.Marks.{setTest}
+use Rattle.stored.specs.Marks.{setTest}
 use Rattle.decode.proofs.Placing.{planeAt, plane-length, plane-byte}
 use Rattle.decode.proofs.RunLaws.{Running, running-begins, running-ends, running-stops, running-more}
 use Rattle.decode.proofs.runs.run_length.Statement.{statement}

@@ -17,7 +17,7 @@ use borrow.Fn.PlainCycle.{Measures, is, falls, and}
 use Rattle.encode.proofs.length.content_length.Reads as content-length
 use Rattle.encode.proofs.length.content_length.Kinds as content-length-kinds
 use Rattle.encode.proofs.length.+content_length.Lts-content_length as content-length-lts
-use Rattle.codec.proofs.mask.mask_length.Reads as mask-length-reads
+use Rattle.stored.proofs.mask.mask_length.Reads as mask-length-reads
 use Rattle.encode.proofs.live.count_live.Reads as count-live-reads
 use Rattle.encode.proofs.values.values_length.Reads as values-length-reads
 use Rattle.encode.proofs.length.+content_length.{statement}

@@ -25,8 +25,8 @@ use Rattle.encode.proofs.write.+write_content+write_frame.Lts-write_con
 use Rattle.encode.proofs.write.write_frame.Reads as write-frame
 use Rattle.encode.proofs.write.write_frame.Kinds as write-frame-kinds
 use Rattle.encode.proofs.write.+write_content+write_frame.Lts-write_frame as write-frame-lts
-use Rattle.array.proofs.field.put_u64.Reads as put-u64-reads
-use Rattle.codec.proofs.mask.mask_length.Reads as mask-length-reads
+use Rattle.buffer.proofs.field.put_u64.Reads as put-u64-reads
+use Rattle.stored.proofs.mask.mask_length.Reads as mask-length-reads
 use Rattle.encode.proofs.cells.put_mask.Reads as put-mask-reads
 use Rattle.encode.proofs.live.count_live.Reads as count-live-reads
 use Rattle.encode.proofs.values.put_values.Reads as put-values-reads

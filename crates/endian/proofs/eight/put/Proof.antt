@@ -2,7 +2,7 @@
 -- Assumes nothing.
 use native.Mathlib.Omega.{arith}
 use lib.ListN.{length-set}
-use Rattle.array.proofs.Unrolled.{stores-over}
+use Rattle.buffer.proofs.Unrolled.{stores-over}
 use Rattle.endian.specs.Eight.{eightBytes}
 use borrow.Author.Needs.{needs}
 use Rattle.endian.proofs.eight.put.Statement.{statement}

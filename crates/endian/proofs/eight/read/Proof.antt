@@ -1,6 +1,6 @@
 -- `endian::eight::read`: eight reads are the eight bytes (Unrolled).
 -- Assumes nothing.
-use Rattle.array.proofs.Unrolled.{reads-take}
+use Rattle.buffer.proofs.Unrolled.{reads-take}
 use borrow.Author.Needs.{needs}
 use Rattle.endian.proofs.eight.read.Statement.{statement}
 use Rattle.endian.proofs.eight.read.Tie as tie

@@ -3,7 +3,7 @@
 use native.Mathlib.Omega.{arith}
 use lib.ListN.{length-set}
 use Rattle.array.specs.Bytes.{le}
-use Rattle.array.proofs.Unrolled.{stores-over}
+use Rattle.buffer.proofs.Unrolled.{stores-over}
 use borrow.Author.Needs.{needs}
 use Rattle.endian.proofs.word.put_u16.Statement.{statement}
 use Rattle.endian.proofs.word.put_u16.Tie as tie

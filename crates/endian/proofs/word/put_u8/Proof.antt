@@ -1,7 +1,7 @@
 -- `endian::word::put_u8`: one store is the byte laid over the output (Unrolled).
 -- Assumes nothing.
 use Rattle.array.specs.Bytes.{le}
-use Rattle.array.proofs.Unrolled.{stores-over}
+use Rattle.buffer.proofs.Unrolled.{stores-over}
 use borrow.Author.Needs.{needs}
 use Rattle.endian.proofs.word.put_u8.Statement.{statement}
 use Rattle.endian.proofs.word.put_u8.Tie as tie

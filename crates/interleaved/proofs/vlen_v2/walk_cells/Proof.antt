@@ -5,8 +5,8 @@ use Prim.Native.Nat.{_-_, _≤_}
 use native.Mathlib.Omega.{arith}
 use lib.ListN.{length}
 use borrow.Author.Needs.{needs}
-use Rattle.array.specs.Field.{toldField}
-use Rattle.array.proofs.Fields.{field-value, field-refused}
+use Rattle.buffer.specs.Field.{toldField}
+use Rattle.buffer.proofs.Fields.{field-value, field-refused}
 use Rattle.interleaved.proofs.Steps.{lengthAt}
 use Rattle.interleaved.proofs.Loops.{Walking, walk-begins, walk-ends, walk-field-past, walk-cell-past, walk-more, walk-none}
 use Rattle.interleaved.proofs.vlen_v2.walk_cells.Statement.{statement}

@@ -6,7 +6,7 @@ use native.Mathlib.Omega.{arith}
 use native.Mathlib.Nat.{zero-add}
 use lib.ListN.{set}
 use borrow.Author.Needs.{needs}
-use Rattle.array.proofs.Copying.{Filling, fill-begins, fill-same, fill-ends, fill-room, fill-more}
+use Rattle.buffer.proofs.Copying.{Filling, fill-begins, fill-same, fill-ends, fill-room, fill-more}
 use Rattle.interleaved.proofs.vlen_v2.zero_offsets.Statement.{statement}
 use Rattle.interleaved.proofs.vlen_v2.zero_offsets.Tie as tie
 

@@ -6,7 +6,7 @@ use mathlib.Core.List.{List}
 use native.Mathlib.Omega.{arith}
 use borrow.Author.Tests.{not-true, not-false}
 use Rattle.array.specs.Meaning.{formOf, orderOf, widthOf, placeOf}
-use Rattle.array.proofs.CheckLaws.{small-product}
+use Rattle.valid.proofs.CheckLaws.{small-product}
 use Rattle.merge.specs.Chunks.{chunkAnswer}
 use Rattle.merge.proofs.OneChunk.{bad-masks, bad-fixed, fits-fixed, bad-short, bad-falls, bad-last, first-le, fits-ragged}
 use Rattle.array.specs.declared.kind.Values.{Values}

@@ -9,7 +9,7 @@ use lib.ListN.{length, drop, length-drop}
 use Rattle.array.specs.Limits.{mostCells}
 use Rattle.array.specs.Meaning.{formOf}
 use Rattle.array.specs.Shape.{volume}
-use Rattle.array.proofs.CheckLaws.{small-product}
+use Rattle.valid.proofs.CheckLaws.{small-product}
 use Rattle.subset.proofs.Index.{few-within, few-drop}
 use Rattle.array.proofs.SubsetLists.{startsAt, lengthsAt}
 use Rattle.cover.proofs.SubsetWalk.{next-room, now-within}

@@ -13,8 +13,8 @@ use Rattle.array.specs.Meaning.{kindOf, formOf}
 use Rattle.array.specs.Kind.{kindTest}
 use Rattle.array.specs.Subset.{manyTest}
 use Rattle.array.specs.Rows.{nextSubsets}
-use Rattle.array.specs.ShapeCells.{toldCells}
-use Rattle.array.proofs.ShapeLaws.{Counted, counted, not-counted}
+use Rattle.valid.specs.ShapeCells.{toldCells}
+use Rattle.valid.proofs.ShapeLaws.{Counted, counted, not-counted}
 use Rattle.merge.specs.Chunks.{toldTotal, chunkSum}
 use Rattle.merge.specs.Merge.{Sizes}
 use Rattle.merge.proofs.Passing.{tested-subsets, no-kind, no-shape, no-subsets, bad-chunks, too-many, no-cover, passes}

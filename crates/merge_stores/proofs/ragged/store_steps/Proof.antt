@@ -5,7 +5,7 @@ use mathlib.Core.Path.{ap}
 use native.Mathlib.Numerals.{add-one}
 use native.Mathlib.Omega.{arith}
 use lib.ListN.{getD}
-use Rattle.array.proofs.Copying.{Copying, copy-begins, copy-same, copy-room, copy-ends}
+use Rattle.buffer.proofs.Copying.{Copying, copy-begins, copy-same, copy-room, copy-ends}
 use Rattle.merge_stores.specs.Ragged.{steps}
 use Rattle.merge_stores.proofs.LengthRows.{steps-more}
 use Rattle.merge_stores.proofs.RaggedTies.{length-steps}

@@ -12,17 +12,17 @@ use Rattle.array.specs.Answer.{gives}
 use Rattle.array.specs.Limits.{mostCells}
 use Rattle.array.specs.Kind.{Place}
 use Rattle.array.specs.Shape.{volume}
-use Rattle.array.specs.ShapeCells.{toldCells}
+use Rattle.valid.specs.ShapeCells.{toldCells}
 use Rattle.array.specs.Subset.{Subset, numbersTest, NumbersOk, cellsIn}
 use Rattle.array.specs.Content.{RaggedContent}
 use Rattle.array.specs.Buffers.{raggedLengthsOf, raggedOutcome}
 use Rattle.array.specs.Meaning.{widthOf, placeOf}
 use Rattle.array.specs.Outcome.{contentRagged}
 use Rattle.array.proofs.Rules.{numbers-ok}
-use Rattle.array.proofs.ShapeLaws.{Counted, counted, not-counted}
+use Rattle.valid.proofs.ShapeLaws.{Counted, counted, not-counted}
 use Rattle.array.proofs.SubsetLists.{subset-parts, within-parts}
 use Rattle.codec.specs.Ragged.{getRagged}
-use Rattle.codec.specs.Index.{spanIn, toldIndex, indexAt, dataAt}
+use Rattle.stored.specs.Index.{spanIn, toldIndex, indexAt, dataAt}
 use Rattle.extract.specs.Places.{valuesAt}
 use Rattle.partial.specs.Stored.{storedAt, cutAnswer}
 use Rattle.partial.proofs.Stored.{Read, read-room, read-at}

@@ -2,10 +2,10 @@
 -- Assumes nothing.
 use mathlib.Core.Path.{refl, sym, ap, subst, _∙_}
 use borrow.Author.Needs.{needs}
-use Rattle.array.specs.declared.kind.KindRead.{KindRead}
+use Rattle.valid.specs.declared.numbers.KindRead.{KindRead}
 use Rattle.array.specs.Answer.{Answer}
 use Rattle.array.specs.Kind.{Kind}
-use Rattle.array.specs.Numbers.{toldKind}
+use Rattle.valid.specs.Numbers.{toldKind}
 use Rattle.protocol.specs.Told.{Asked}
 use Rattle.protocol.proofs.calls.kind_of.Statement.{statement}
 use Rattle.protocol.proofs.calls.kind_of.Tie as tie

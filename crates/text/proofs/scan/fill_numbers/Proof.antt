@@ -3,7 +3,7 @@
 use Prim.Native.Nat.{_-_}
 use native.Mathlib.Omega.{arith}
 use borrow.Author.Needs.{needs}
-use Rattle.array.proofs.Copying.{Filling, fill-begins, fill-same, fill-ends, fill-room, fill-more}
+use Rattle.buffer.proofs.Copying.{Filling, fill-begins, fill-same, fill-ends, fill-room, fill-more}
 use Rattle.text.proofs.scan.fill_numbers.Statement.{statement}
 use Rattle.text.proofs.scan.fill_numbers.Tie as tie
 

@@ -1,0 +1,61 @@
+-- `array::copy::copy_bytes` meets its contract, by the laws of Copying.
+-- Assumes nothing.
+use Prim.Native.Nat.{_-_}
+use native.Mathlib.Omega.{arith}
+use borrow.Author.Needs.{needs}
+use Rattle.buffer.proofs.Copying.{Copying, copy-begins, copy-same, copy-ends, copy-room, copy-more}
+use Rattle.buffer.proofs.copy.copy_bytes.Statement.{statement}
+use Rattle.buffer.proofs.copy.copy_bytes.Tie as tie
+
+abbrev Inv-loop : tie.InvT-loop
+Inv-loop out₀ to s at k i₀ out i = Copying out₀ to s at k out i
+
+abbrev μ-loop : tie.MeasureT-loop
+μ-loop out₀ to s at k i₀ out i = k - i
+
+loop-holds : tie.Need-loop-holds Inv-loop μ-loop
+loop-holds c = copy-begins (c .pre .0) (c .pre .1)
+
+add-out : tie.Need-add-out Inv-loop μ-loop
+add-out c = search needs
+
+shared-slice-read-out : tie.Need-shared-slice-read-out Inv-loop μ-loop
+shared-slice-read-out c = search needs
+
+add-out-2 : tie.Need-add-out-2 Inv-loop μ-loop
+add-out-2 c = search needs
+
+slice-write-out : tie.Need-slice-write-out Inv-loop μ-loop
+slice-write-out c = copy-room (c .before .before .loop .inv) (c .before .loop-test .taken)
+
+add-i : tie.Need-add-i Inv-loop μ-loop
+add-i c = search needs
+
+loop-less : tie.Need-loop-less Inv-loop μ-loop
+loop-less c = omega arith
+
+loop-again : tie.Need-loop-again Inv-loop μ-loop
+loop-again c = copy-more (c .before .before .loop .inv) (c .before .loop-test .taken)
+
+same-length : tie.Need-same-length Inv-loop μ-loop
+same-length c = copy-same (c .before .loop .inv)
+
+returns : tie.Need-returns Inv-loop μ-loop
+returns c = copy-ends (c .before .loop .inv) (c .loop-test .left)
+
+pub copy-bytes-spec : {M : Type 1} → statement M
+copy-bytes-spec =
+    tie.close
+    (tie.spec
+    Inv-loop
+    μ-loop
+    loop-holds
+    add-out
+    shared-slice-read-out
+    add-out-2
+    slice-write-out
+    add-i
+    loop-less
+    loop-again
+    same-length
+    returns)

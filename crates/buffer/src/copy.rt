@@ -1,0 +1,41 @@
+// Copying and filling. What lies outside the place written is kept.
+ghost use mathlib.Core.Path.{_≡_};
+ghost use Prim.Native.Nat.{_+_, _≤_};
+ghost use lib.ListN.{length, take, drop, replicate};
+ghost use Rattle.array.specs.Buffers.{overAt};
+
+// Copies the k bytes of s that begin at `at` to the place `to`.
+pub fn copy_bytes(out: &mut [u8], to: usize, s: &[u8], at: usize, k: usize)
+    requires { ⌜ (to + k ≤ length (now out)) × (at + k ≤ length (now s)) ⌝ }
+    ensures { λ _. ⌜ now (out .exit) ≡ overAt to (take k (drop at (now (s .entry)))) (now (out .entry)) ⌝ }
+{
+    let mut i = 0;
+    while i < k {
+        out[to + i] = s[at + i];
+        i += 1;
+    }
+}
+
+// The same for 64-bit numbers.
+pub fn copy_numbers(out: &mut [u64], to: usize, numbers: &[u64], at: usize, k: usize)
+    requires { ⌜ (to + k ≤ length (now out)) × (at + k ≤ length (now numbers)) ⌝ }
+    ensures { λ _. ⌜ now (out .exit) ≡ overAt to (take k (drop at (now (numbers .entry)))) (now (out .entry)) ⌝ }
+{
+    let mut j = 0;
+    while j < k {
+        out[to + j] = numbers[at + j];
+        j += 1;
+    }
+}
+
+// Writes the byte b, k times, from the place `to` on.
+pub fn fill_bytes(out: &mut [u8], to: usize, k: usize, b: u8)
+    requires { ⌜ to + k ≤ length (now out) ⌝ }
+    ensures { λ _. ⌜ now (out .exit) ≡ overAt to (replicate k b) (now (out .entry)) ⌝ }
+{
+    let mut n = 0;
+    while n < k {
+        out[to + n] = b;
+        n += 1;
+    }
+}

@@ -1,0 +1,5 @@
+pub mod Opening
+pub mod Reading
+pub mod Walks
+pub mod IndexLaws
+pub mod CheckedIndex

@@ -1,0 +1,30 @@
+-- `is_set` meets its contract, by what the mark says.
+-- Assumes nothing.
+use mathlib.Core.Path.{sym, ap, _∙_}
+use borrow.Author.Needs.{needs}
+use Rattle.stored.specs.Marks.{toldMark, setTestBy}
+use Rattle.stored.proofs.mask.is_set.Statement.{statement}
+use Rattle.stored.proofs.mask.is_set.Tie as tie
+
+shared-slice-read-mark-of : tie.Need-shared-slice-read-mark-of
+shared-slice-read-mark-of c = search needs
+
+mark-of-requires : tie.Need-mark-of-requires
+mark-of-requires c κs = search needs
+
+enum-told : tie.Need-enum-told
+enum-told c = search needs
+
+enum-told-2 : tie.Need-enum-told-2
+enum-told-2 c = search needs
+
+returns : tie.Need-returns
+returns c = ap setTestBy (sym (ap toldMark (c .enum-told .given .1)) ∙ c .before .before .mark-of .ensures)
+
+returns-2 : tie.Need-returns-2
+returns-2 c = ap setTestBy (sym (ap toldMark (c .enum-told2 .given .1)) ∙ c .before .before .mark-of .ensures)
+
+pub is-set-spec : {M : Type 1} → statement M
+is-set-spec =
+    tie.close
+    (tie.spec shared-slice-read-mark-of mark-of-requires enum-told enum-told-2 returns returns-2)

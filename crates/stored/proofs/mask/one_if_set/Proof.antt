@@ -1,0 +1,27 @@
+-- `one_if_set` meets its contract, by what the mark says.
+-- Assumes nothing.
+use mathlib.Core.Path.{sym, ap, _∙_}
+use borrow.Author.Needs.{needs}
+use Rattle.array.specs.Cells.{Mark}
+use Rattle.codec.specs.Frame.{countBy}
+use Rattle.stored.specs.Marks.{toldMark}
+use Rattle.stored.proofs.mask.one_if_set.Statement.{statement}
+use Rattle.stored.proofs.mask.one_if_set.Tie as tie
+
+mark-of-requires : tie.Need-mark-of-requires
+mark-of-requires c κs = search needs
+
+enum-told : tie.Need-enum-told
+enum-told c = search needs
+
+enum-told-2 : tie.Need-enum-told-2
+enum-told-2 c = search needs
+
+returns : tie.Need-returns
+returns c = ap (λ (m : Mark). countBy m 0) (sym (ap toldMark (c .enum-told .given .1)) ∙ c .before .before .mark-of .ensures)
+
+returns-2 : tie.Need-returns-2
+returns-2 c = ap (λ (m : Mark). countBy m 0) (sym (ap toldMark (c .enum-told2 .given .1)) ∙ c .before .before .mark-of .ensures)
+
+pub one-if-set-spec : {M : Type 1} → statement M
+one-if-set-spec = tie.close (tie.spec mark-of-requires enum-told enum-told-2 returns returns-2)

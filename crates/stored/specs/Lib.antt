@@ -1,0 +1,4 @@
+pub mod Marks
+pub mod Walk
+pub mod Stored
+pub mod Index

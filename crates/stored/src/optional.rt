@@ -1,0 +1,82 @@
+// Frames, read: the checking walk. It stores nothing, and tells where the innermost content lies.
+// A frame: 8-byte mask length, 8-byte content length, the mask, the content.
+use crate::mask::count_set;
+use crate::mask::mask_length;
+use array::refusal;
+use buffer::field::Field;
+use buffer::field::read_u64;
+ghost use mathlib.Core.Path.{_≡_};
+ghost use Prim.Native.Nat.{_≤_};
+ghost use lib.ListN.{length, drop};
+ghost use Rattle.array.specs.Limits.{mostCells};
+ghost use Rattle.stored.specs.Walk.{opened, walked, walkedFrame, toldOpened, toldWalk};
+
+// How many cells the content of a frame has.
+pub enum Opened {
+    Cells(usize),
+    Refused(u8),
+}
+
+// The innermost content: where it starts and how many cells it has. Where a level has no cell set there is none to look at.
+pub enum Walked {
+    Values(usize, usize),
+    NoneSet,
+    Refused(u8),
+}
+
+// Opens the frame of so many cells at `at`. Its lengths are compared by what is left, so that no sum wraps.
+pub fn open_frame(s: &[u8], at: usize, cells: usize) -> Opened
+    requires { ⌜ (at ≤ length (now s)) × (cells ≤ mostCells) ⌝ }
+    ensures { λ r. ⌜ toldOpened r ≡ opened (drop at (now (s .entry))) cells ⌝ }
+{
+    let Field::Value(mask) = read_u64(s, at) else {
+        return Opened::Refused(refusal::SHORT);
+    };
+    let Field::Value(content) = read_u64(s, at + 8) else {
+        return Opened::Refused(refusal::SHORT);
+    };
+    let start = at + 16;
+    let left = s.len() - start;
+    let size = mask_length(cells);
+    if mask != size as u64 {
+        return Opened::Refused(refusal::LENGTH);
+    }
+    if left < size {
+        return Opened::Refused(refusal::LENGTH);
+    }
+    if (left - size) as u64 != content {
+        return Opened::Refused(refusal::LENGTH);
+    }
+    let end = start + size;
+    Opened::Cells(count_set(&s[start..end]))
+}
+
+// Walks a content of so many cells: the values, or a frame again.
+pub fn walk_content(s: &[u8], at: usize, cells: usize, depth: usize) -> Walked
+    requires { ⌜ (at ≤ length (now s)) × (cells ≤ mostCells) ⌝ }
+    ensures { λ r. ⌜ toldWalk r ≡ walked depth (now (s .entry)) at cells ⌝ }
+{
+    if depth == 0 {
+        Walked::Values(at, cells)
+    } else {
+        walk_frame(s, at, cells, depth - 1)
+    }
+}
+
+// Walks a frame of so many cells, with `below` levels in its content.
+pub fn walk_frame(s: &[u8], at: usize, cells: usize, below: usize) -> Walked
+    requires { ⌜ (at ≤ length (now s)) × (cells ≤ mostCells) ⌝ }
+    ensures { λ r. ⌜ toldWalk r ≡ walkedFrame below (now (s .entry)) at cells ⌝ }
+{
+    let frame = open_frame(s, at, cells);
+    match frame {
+        Opened::Refused(e) => Walked::Refused(e),
+        Opened::Cells(set) => {
+            if set == 0 {
+                Walked::NoneSet
+            } else {
+                walk_content(s, at + (16 + mask_length(cells)), set, below)
+            }
+        }
+    }
+}

@@ -1,0 +1,15 @@
+-- The cells of a shape, counted (document 01, The array): the count, or refusal 2. Also what the code's answer to it means.
+-- Assumes nothing.
+use Prim.Native.Nat.{ℕ}
+use mathlib.Core.List.{List}
+use Rattle.valid.specs.declared.shape.Cells.{Cells}
+use Rattle.valid.specs.declared.shape.Cells.the-variants.{Count, Refused}
+use Rattle.array.specs.Answer.{Answer, gives, refuses, unless}
+use Rattle.array.specs.Shape.{volume, shapeTest}
+
+unfoldable pub shapeAnswer : List ℕ → Answer ℕ
+shapeAnswer shape = unless (shapeTest shape) 2 (gives (volume shape))
+
+abbrev pub toldCells : Cells → Answer ℕ
+toldCells (Count n) = gives n
+toldCells (Refused e) = refuses e

@@ -1,0 +1,92 @@
+// The array's rules: lengths that agree with the kind and the count of cells, offsets that never fall, few enough value bytes.
+ghost use mathlib.Core.Path.{_≡_};
+ghost use mathlib.Core.Bool.{_&&_};
+ghost use Prim.Native.Nat.{suc, _≤_, _<_};
+ghost use lib.ListN.{length, take};
+ghost use lib.Dec.{leb};
+ghost use Rattle.array.specs.Limits.{mostCells};
+ghost use Rattle.array.specs.Offsets.{risingTest};
+ghost use Rattle.array.specs.Meaning.{kindOf};
+ghost use Rattle.valid.specs.Check.{contentTestBy, checkAnswer, toldChecked};
+use array::kind::Kind;
+use array::kind::Values;
+use array::refusal;
+
+// Value bytes of an array at most.
+pub const MOST_BYTES: usize = 16777216;
+
+pub enum Checked {
+    Valid,
+    Refused(u8),
+}
+
+// Whether nothing has fallen so far, nor from a to b.
+fn still_rises(rising: bool, a: u64, b: u64) -> bool
+    ensures { λ r. ⌜ r ≡ rising && leb a b ⌝ }
+{
+    rising && a <= b
+}
+
+// Whether the first n + 1 offsets never fall. All are looked at, so that no turn waits for a branch.
+pub fn never_fall(offsets: &[u64], n: usize) -> bool
+    requires { ⌜ n < length (now offsets) ⌝ }
+    ensures { λ r. ⌜ r ≡ risingTest (take (suc n) (now (offsets .entry))) ⌝ }
+{
+    let mut rising = true;
+    let mut i: usize = 0;
+    while i < n {
+        rising = still_rises(rising, offsets[i], offsets[i + 1]);
+        i += 1;
+    }
+    rising
+}
+
+// Whether an array of so many cells, with so many mask and value bytes and these offsets, has the lengths and offsets of its kind.
+pub fn content_fits(kind: Kind, cells: usize, masks: usize, values: usize, offsets: &[u64]) -> bool
+    requires { ⌜ cells ≤ mostCells ⌝ }
+    ensures { λ r. ⌜ r ≡ contentTestBy (kindOf kind) cells masks values (now (offsets .entry)) ⌝ }
+{
+    let depth = kind.depth as usize;
+    if masks != depth * cells {
+        return false;
+    }
+    let form = kind.values;
+    match form {
+        Values::Fixed(size, _) => {
+            if values != cells * (size as usize) {
+                return false;
+            }
+            offsets.len() == 0
+        }
+        Values::Ragged(_, _) => {
+            if offsets.len() != cells + 1 {
+                return false;
+            }
+            if !never_fall(offsets, cells) {
+                return false;
+            }
+            let last = offsets[cells] as usize;
+            last == values
+        }
+    }
+}
+
+// The rules of an array whose kind and shape are sound: 4, and then 5.
+pub fn check_array(
+    kind: Kind,
+    cells: usize,
+    masks: usize,
+    values: usize,
+    offsets: &[u64],
+) -> Checked
+    requires { ⌜ cells ≤ mostCells ⌝ }
+    ensures { λ r. ⌜ toldChecked r ≡ checkAnswer (kindOf kind) cells masks values (now (offsets .entry)) ⌝ }
+{
+    if !content_fits(kind, cells, masks, values, offsets) {
+        return Checked::Refused(refusal::CONTENT);
+    }
+    if values > MOST_BYTES {
+        return Checked::Refused(refusal::SIZE);
+    }
+    Checked::Valid
+}

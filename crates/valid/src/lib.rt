@@ -1,0 +1,5 @@
+// Layer 1: which kinds, shapes and contents are valid.
+pub mod array_bytes;
+pub mod kind;
+pub mod numbers;
+pub mod shape;

@@ -1,0 +1,100 @@
+// Kinds read from numbers.
+use crate::kind::MOST_DEPTH;
+use crate::kind::MOST_SIZE;
+use array::kind;
+use array::kind::ByteOrder;
+use array::kind::IndexPlace;
+use array::kind::IndexWidth;
+use array::kind::Kind;
+use array::refusal;
+ghost use mathlib.Core.Path.{_≡_};
+ghost use Rattle.array.specs.Answer.{andThen};
+ghost use Rattle.array.specs.Meaning.{widthOf};
+ghost use Rattle.valid.specs.Numbers.{fixedOf, raggedOf, kindWith, toldKind, numberedKind, toldIndex, numberedIndex};
+
+// What numbers say: a kind, or the number of the refusal.
+pub enum KindRead {
+    Kind(Kind),
+    Refused(u8),
+}
+
+// The kind that the numbers say: form 0 fixed or 1 ragged; cell size or index width; order 0 little or start, 1 big or end;
+// 0 for masks of one byte a cell, the only mask form.
+pub fn kind_from_numbers(depth: u64, form: u64, size: u64, order: u64, mask: u64) -> KindRead
+    ensures { λ r. ⌜ toldKind r ≡ numberedKind depth form size order mask ⌝ }
+{
+    if depth > MOST_DEPTH as u64 {
+        return KindRead::Refused(refusal::KIND);
+    }
+    if mask != 0 {
+        return KindRead::Refused(refusal::KIND);
+    }
+    match form {
+        0 => fixed_from_numbers(depth as u8, size, order),
+        1 => ragged_from_numbers(depth as u8, size, order),
+        _ => KindRead::Refused(refusal::KIND),
+    }
+}
+
+fn fixed_from_numbers(depth: u8, size: u64, order: u64) -> KindRead
+    ensures { λ r. ⌜ toldKind r ≡ andThen (fixedOf size order) (kindWith depth) ⌝ }
+{
+    if size == 0 {
+        return KindRead::Refused(refusal::KIND);
+    }
+    if size > MOST_SIZE as u64 {
+        return KindRead::Refused(refusal::KIND);
+    }
+    match order {
+        0 => KindRead::Kind(kind::fixed(depth, size as u8, ByteOrder::Little)),
+        1 => KindRead::Kind(kind::fixed(depth, size as u8, ByteOrder::Big)),
+        _ => KindRead::Refused(refusal::KIND),
+    }
+}
+
+fn ragged_from_numbers(depth: u8, width: u64, place: u64) -> KindRead
+    ensures { λ r. ⌜ toldKind r ≡ andThen (raggedOf width place) (kindWith depth) ⌝ }
+{
+    match width {
+        4 => ragged_of_width(depth, IndexWidth::Four, place),
+        8 => ragged_of_width(depth, IndexWidth::Eight, place),
+        _ => KindRead::Refused(refusal::KIND),
+    }
+}
+
+fn ragged_of_width(depth: u8, width: IndexWidth, place: u64) -> KindRead
+    ensures { λ r. ⌜ toldKind r ≡ andThen (raggedOf (widthOf width) place) (kindWith depth) ⌝ }
+{
+    match place {
+        0 => KindRead::Kind(kind::ragged(depth, width, IndexPlace::Start)),
+        1 => KindRead::Kind(kind::ragged(depth, width, IndexPlace::End)),
+        _ => KindRead::Refused(refusal::KIND),
+    }
+}
+
+// What numbers say of an index: its width and place, or the number of the refusal.
+pub enum IndexRead {
+    Index(IndexWidth, IndexPlace),
+    Refused(u8),
+}
+
+// The index that the numbers say: width 4 or 8; place 0 start, 1 end.
+pub fn index_from_numbers(width: u64, place: u64) -> IndexRead
+    ensures { λ r. ⌜ toldIndex r ≡ numberedIndex width place ⌝ }
+{
+    match width {
+        4 => index_of_width(IndexWidth::Four, place),
+        8 => index_of_width(IndexWidth::Eight, place),
+        _ => IndexRead::Refused(refusal::KIND),
+    }
+}
+
+fn index_of_width(width: IndexWidth, place: u64) -> IndexRead
+    ensures { λ r. ⌜ toldIndex r ≡ numberedIndex (widthOf width) place ⌝ }
+{
+    match place {
+        0 => IndexRead::Index(width, IndexPlace::Start),
+        1 => IndexRead::Index(width, IndexPlace::End),
+        _ => IndexRead::Refused(refusal::KIND),
+    }
+}
