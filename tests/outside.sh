@@ -1,6 +1,6 @@
 #!/usr/bin/env bash
 # Everything around the proved code: builds the archive, then tests the C interface (plain, under valgrind, with the
-# sanitizers), the Rust wrapper, the command, the README's examples and the demonstration.
+# sanitizers), the Rust wrapper, the command, the README's examples and the demonstration; what the documents name.
 # With --built the archive in build/ is taken as it is. Any failure ends the script with a status other than 0.
 set -euo pipefail
 cd "$(dirname "$0")/.."
@@ -18,6 +18,9 @@ if [ "${1:-}" != --built ]; then
         exit 1
     fi
 fi
+
+say 'documents'
+tests/documents.sh
 
 say 'exported names'
 diff <(nm --extern-only --defined-only --format=posix build/libdurpaxeta.a | awk 'NF > 1 {print $1}' | sort) - <<'END'
