@@ -60,18 +60,10 @@ pub fn store_parts(
     while i < count {
         let mid = at + d;
         let end = mid + d;
-        let m = subset::volume_of(&subsets[mid..end]) as usize;
+        let lens = &subsets[mid..end];
+        let m = subset::volume_of(lens) as usize;
         let first = pos + m * lead;
-        store_subset(
-            out,
-            base,
-            size,
-            src,
-            first,
-            shape,
-            &subsets[at..mid],
-            &subsets[mid..end],
-        );
+        store_subset(out, base, size, src, first, shape, &subsets[at..mid], lens);
         pos += m * step;
         at = end;
         i += 1;

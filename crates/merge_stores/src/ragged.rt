@@ -62,15 +62,9 @@ fn store_lengths_all(out: &mut [u64], src: &[u64], shape: &[u64], subsets: &[u64
     while i < count {
         let mid = at + d;
         let end = mid + d;
-        let m = subset::volume_of(&subsets[mid..end]) as usize;
-        store_lengths(
-            out,
-            src,
-            first,
-            shape,
-            &subsets[at..mid],
-            &subsets[mid..end],
-        );
+        let lens = &subsets[mid..end];
+        let m = subset::volume_of(lens) as usize;
+        store_lengths(out, src, first, shape, &subsets[at..mid], lens);
         first += m + 1;
         at = end;
         i += 1;
@@ -147,7 +141,8 @@ fn store_ragged_all(
     while i < count {
         let mid = at + d;
         let end = mid + d;
-        let m = subset::volume_of(&subsets[mid..end]) as usize;
+        let lens = &subsets[mid..end];
+        let m = subset::volume_of(lens) as usize;
         store_ragged(
             out,
             begins,
@@ -157,7 +152,7 @@ fn store_ragged_all(
             first,
             shape,
             &subsets[at..mid],
-            &subsets[mid..end],
+            lens,
         );
         let last = first + m;
         base += src[last] as usize;
