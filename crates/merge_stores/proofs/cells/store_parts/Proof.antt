@@ -104,9 +104,11 @@ store-subset-requires : tie.Need-store-subset-requires Inv-loop μ-loop
 store-subset-requires c κs =
     let v = c .before .before in
     let l = v .before .before .before in
-    let a = start l .args in
-    all-asked (a .shape .now) (a .subsets .now) (a .count) (a .out .now) (a .base) (a .size) (a .src .now) (a .lead) (a .step) (start l .pre) (l .loop .out) (l .loop .i) (l .loop .at) (l .loop .pos) (l .loop .inv) (omega arith)
-    (v .volume-of .result) (v .volume-of .ensures)
+    let a = start l .args in (
+      all-asked (a .shape .now) (a .subsets .now) (a .count) (a .out .now) (a .base) (a .size) (a .src .now) (a .lead) (a .step) (start l .pre) (l .loop .out) (l .loop .i) (l .loop .at) (l .loop .pos) (l .loop .inv) (omega arith)
+          (v .volume-of .result) (v .volume-of .ensures),
+      v .volume-of .ensures,
+    )
 
 mul-pos : tie.Need-mul-pos Inv-loop μ-loop
 mul-pos c =

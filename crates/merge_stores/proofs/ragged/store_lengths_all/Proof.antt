@@ -81,7 +81,7 @@ store-lengths-requires : tie.Need-store-lengths-requires Inv-loop μ-loop
 store-lengths-requires c κs =
     let l = c .before .before .before .before .before in
     let a = start l in
-    lengths-asked (a .args .shape .now) (a .args .subsets .now) (a .args .count) (a .args .out .now) (a .args .src .now) (a .pre) (l .loop .out) (l .loop .i) (l .loop .at) (l .loop .first) (l .loop .inv) (omega arith)
+    (lengths-asked (a .args .shape .now) (a .args .subsets .now) (a .args .count) (a .args .out .now) (a .args .src .now) (a .pre) (l .loop .out) (l .loop .i) (l .loop .at) (l .loop .first) (l .loop .inv) (omega arith), c .before .before .volume-of .ensures)
 
 add-first : tie.Need-add-first Inv-loop μ-loop
 add-first c =

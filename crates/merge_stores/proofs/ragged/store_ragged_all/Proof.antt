@@ -86,7 +86,7 @@ store-ragged-requires : tie.Need-store-ragged-requires Inv-loop μ-loop
 store-ragged-requires c κs =
     let l = c .before .before .before .before .before in
     let a = start l in
-    ragged-asked (a .args .shape .now) (a .args .subsets .now) (a .args .count) (a .args .out .now) (a .args .begins .now) (a .args .values .now) (a .args .src .now) (a .pre) (l .loop .out) (l .loop .i) (l .loop .at) (l .loop .base) (l .loop .first) (l .loop .inv) (omega arith)
+    (ragged-asked (a .args .shape .now) (a .args .subsets .now) (a .args .count) (a .args .out .now) (a .args .begins .now) (a .args .values .now) (a .args .src .now) (a .pre) (l .loop .out) (l .loop .i) (l .loop .at) (l .loop .base) (l .loop .first) (l .loop .inv) (omega arith), c .before .before .volume-of .ensures)
 
 add-last : tie.Need-add-last Inv-loop μ-loop
 add-last c =
