@@ -1,13 +1,12 @@
--- A bit of a word, read and set.
+-- A bit of a word, and the marks that words hold.
 -- Assumes nothing.
-use mathlib.Core.Path.{_≡_, refl, sym, ap, ap₂, _∙_, subst}
-use Prim.Native.Nat.{ℕ, zero, suc, _+_, _-_, _*_, _/_, _%_, _^_, _<_}
-use native.Mathlib.Nat.{pow-succ', div-one, div-div-eq-div-mul, add-mul-mod-self-left, add-mul-div-left, div-add-mod', mod-lt, mod-eq-of-lt, one-mul}
+use mathlib.Core.Path.{_≡_, refl, sym, ap, ap₂, _∙_}
+use Prim.Native.Nat.{ℕ, zero, suc, _+_, _*_, _/_, _%_, _^_, _<_}
+use native.Mathlib.Nat.{pow-succ', div-one, div-div-eq-div-mul, add-mul-mod-self-left, add-mul-div-left}
 use native.Mathlib.Omega.{arith}
 use mathlib.Core.List.{List, [], _∷_, _++_}
 use lib.ListN.{length, getD, set, replicate, length-replicate, replicate-append-replicate, List·getD-append}
 use lib.Seq.{getD-append-add, set-append-left}
-use lib.Pow.{pow-lt}
 use Rattle.array.specs.Limits.{mostCells}
 use Rattle.cover.specs.Bits.{bitsOf, marksOf, noWords}
 use Rattle.cover.specs.Marks.{unmarked}
@@ -78,34 +77,6 @@ marks-set (w ∷ ws) zero b w′ h l e =
 marks-set (w ∷ ws) (suc q) b w′ h l e =
     ap (λ (r : List ℕ). bitsOf 64 w ++ r) (marks-set ws q b w′ (omega arith) l e) ∙ sym (set-append-add (bitsOf 64 w) (marksOf ws) (q * 64 + b) 1)
     ∙ ap (λ (k : ℕ). set (bitsOf 64 w ++ marksOf ws) k 1) (sym (word-split w q b))
-
--- ---- what the code computes
-
-shift-one : (b : ℕ) → b < 64 → 1 * 2 ^ b % 2 ^ 64 ≡ 2 ^ b
-shift-one b h = ap (λ (x : ℕ). x % 2 ^ 64) (one-mul (2 ^ b)) ∙ mod-eq-of-lt (pow-lt h)
-
-module _ (ws : List ℕ) (i : ℕ) (h : i / 64 < length ws) where
-  pub read-bit : getD ws (i / 64) 0 / 2 ^ (i % 64) % 2 ≡ getD (marksOf ws) i 0
-  read-bit =
-      let l : i % 64 < 64 = mod-lt i (omega arith) in
-      sym (ap (λ (k : ℕ). getD (marksOf ws) k 0) (sym (div-add-mod' i 64)) ∙ marks-at ws (i / 64) (i % 64) h l ∙ bit-at 64 (getD ws (i / 64) 0) (i % 64) l)
-
-  module _ (e : getD (marksOf ws) i 0 ≡ 0) where
-    clear : getD (bitsOf 64 (getD ws (i / 64) 0)) (i % 64) 0 ≡ 0
-    clear = bit-at 64 (getD ws (i / 64) 0) (i % 64) (mod-lt i (omega arith)) ∙ read-bit ∙ e
-
-    pub word-fits : getD ws (i / 64) 0 < 2 ^ 64 → getD ws (i / 64) 0 + 1 * 2 ^ (i % 64) % 2 ^ 64 < 2 ^ 64
-    word-fits f =
-        let l : i % 64 < 64 = mod-lt i (omega arith) in
-        subst (λ (x : ℕ). getD ws (i / 64) 0 + x < 2 ^ 64) (sym (shift-one (i % 64) l)) (bit-fits 64 (getD ws (i / 64) 0) (i % 64) f l clear)
-
-    pub set-bit-is : marksOf (set ws (i / 64) (getD ws (i / 64) 0 + 1 * 2 ^ (i % 64) % 2 ^ 64)) ≡ set (marksOf ws) i 1
-    set-bit-is =
-        let l : i % 64 < 64 = mod-lt i (omega arith) in
-        let w : ℕ = getD ws (i / 64) 0 in
-        ap (λ (x : ℕ). marksOf (set ws (i / 64) (w + x))) (shift-one (i % 64) l)
-        ∙ marks-set ws (i / 64) (i % 64) (w + 2 ^ (i % 64)) h l (bit-set 64 w (i % 64) l clear)
-        ∙ ap (λ (k : ℕ). set (marksOf ws) k 1) (div-add-mod' i 64)
 
 -- ---- no mark
 

@@ -2,21 +2,28 @@
 -- Assumes nothing.
 use mathlib.Core.Path.{_≡_, refl, sym, ap, ap₂, _∙_}
 use Prim.Native.Nat.{ℕ, _+_, _-_, _<_, _≤_}
-use mathlib.Core.Bool.{true, false}
-use mathlib.Core.List.{List, _++_}
-use lib.ListN.{length, getD, drop}
+use native.Mathlib.Omega.{arith}
+use mathlib.Core.Bool.{Bool, true, false}
+use mathlib.Core.List.{List, [], _++_}
+use lib.ListN.{length, getD, drop, length-append}
+use lib.Dec.{eqb}
+use borrow.Author.Tests.{eq-eqb, ne-eqb, eqb-true, eqb-false}
+use Rattle.array.specs.Answer.{Answer, gives, refuses, andThen}
 use Rattle.array.specs.Lists.{from, All}
 use Rattle.array.specs.Shape.{volume}
 use Rattle.array.specs.Subset.{Subset, pairs, cellsIn, cellsOfAll}
 use Rattle.array.specs.Rows.{nextSubsets}
 use Rattle.array.proofs.SubsetLaws.{all-below}
 use Rattle.array.proofs.SubsetLists.{startsAt, lengthsAt}
-use Rattle.subset.proofs.Rows.{Left, left-next, left-more, left-ends}
+use Rattle.subset.proofs.Rows.{Left, left-next, left-more, left-ends, within-cells}
 use Rattle.chunks.specs.Gather.{onceTest}
 use Rattle.cover.specs.Asked.{SubsetsOk}
-use Rattle.cover.specs.Marks.{marking, unmarked, allMarked}
-use Rattle.cover.proofs.Once.{marking-then, marking-over, once-marked, once-refused}
-use Rattle.cover.proofs.SubsetWalk.{SubsetsLeft, rest, rest-begins, rest-ends, subsets-begin, subsets-more, subset-now, all-inside}
+use Rattle.cover.specs.Marks.{marking, toldMarks, unmarked}
+use Rattle.cover.proofs.Once.{marking-append, once-marked, once-refused, once-beyond}
+use Rattle.cover.proofs.SubsetWalk.{SubsetsLeft, rest, rest-begins, rest-ends, subsets-begin, subsets-more, subset-now, now-within, all-inside}
+
+told-by : (free : Bool) (m : List ℕ) (b : Bool) → free ≡ b → (a : Answer (List ℕ)) → toldMarks free m ≡ a → toldMarks b m ≡ a
+told-by free m b t a r = ap (λ (x : Bool). toldMarks x m) (sym t) ∙ r
 
 -- ---- one subset: its cells from `at` on are left
 
@@ -28,25 +35,29 @@ pub marked-begins : (cs m : List ℕ) (cells n : ℕ) → Left cs cells n 0 → 
 marked-begins cs m cells n g = record { geo = g; same = refl }
 
 module _ (cs m₀ m : List ℕ) (cells n at : ℕ) (w : Marked cs m₀ m cells n at) where
-  pub marked-ends : cells ≤ at → (true, m) ≡ marking m₀ cs
+  pub marked-ends : cells ≤ at → gives m ≡ marking m₀ cs
   unfolding marking
   marked-ends h = sym (w .same ∙ ap (marking m) (left-ends cs cells n at (w .geo) h))
 
-  module _ (h : at < cells) (a : ℕ) (m′ : List ℕ) (e : a ≡ getD cs at 0) where
-    next : marking m₀ cs ≡ marking m (from a n ++ drop (at + n) cs)
-    next = w .same ∙ ap (marking m) (left-next cs cells n at (w .geo) h ∙ ap (λ (k : ℕ). from k n ++ drop (at + n) cs) (sym e))
+  module _ (h : at < cells) (a : ℕ) (e : a ≡ getD cs at 0) where
+    next : (r : Answer (List ℕ)) → r ≡ marking m (from a n) → marking m₀ cs ≡ andThen r (λ u. marking u (drop (at + n) cs))
+    next r q =
+        w .same ∙ ap (marking m) (left-next cs cells n at (w .geo) h ∙ ap (λ (k : ℕ). from k n ++ drop (at + n) cs) (sym e))
+        ∙ marking-append m (from a n) (drop (at + n) cs) ∙ ap (λ (x : Answer (List ℕ)). andThen x (λ u. marking u (drop (at + n) cs))) (sym q)
 
-    pub marked-more : (true, m′) ≡ marking m (from a n) → Marked cs m₀ m′ cells n (at + n)
-    marked-more r = record { geo = left-more cs cells n at (w .geo) h; same = next ∙ marking-then m (from a n) (drop (at + n) cs) m′ r }
+    module _ (free : Bool) (m′ : List ℕ) (r : toldMarks free m′ ≡ marking m (from a n)) where
+      pub marked-more : free ≡ true → Marked cs m₀ m′ cells n (at + n)
+      marked-more t = record { geo = left-more cs cells n at (w .geo) h; same = next (gives m′) (told-by free m′ true t (marking m (from a n)) r) }
 
-    pub marked-over : (false, m′) ≡ marking m (from a n) → (false, m′) ≡ marking m₀ cs
-    marked-over r = sym (next ∙ marking-over m (from a n) (drop (at + n) cs) m′ r)
+      pub marked-over : free ≡ false → refuses 12 ≡ marking m₀ cs
+      marked-over t = sym (next (refuses 12) (told-by free m′ false t (marking m (from a n)) r))
 
--- ---- all subsets: i of them are marked
+-- ---- all subsets: i of them are marked, and so many cells of the shape are left
 
-pub record AllMarked (sh flat m : List ℕ) (count i at : ℕ) : Type 0 where
+pub record AllMarked (sh flat m : List ℕ) (count i at left : ℕ) : Type 0 where
   pub geo : SubsetsLeft sh flat count i at
   pub same : marking unmarked (cellsOfAll sh (nextSubsets (length sh) count flat)) ≡ marking m (cellsOfAll sh (rest sh flat count i at))
+  pub counted : length (cellsOfAll sh (nextSubsets (length sh) count flat)) + left ≡ volume sh + length (cellsOfAll sh (rest sh flat count i at))
 
 module _ (sh flat : List ℕ) (count : ℕ) (q : SubsetsOk sh flat count) where
   abbrev all : List ℕ
@@ -55,18 +66,24 @@ module _ (sh flat : List ℕ) (count : ℕ) (q : SubsetsOk sh flat count) where
   below : All (λ j. j < volume sh) all
   below = all-below sh (nextSubsets (length sh) count flat) (all-inside sh (nextSubsets (length sh) count flat) (q .each))
 
-  pub cover-begins : (m : List ℕ) → m ≡ unmarked → AllMarked sh flat m count 0 0
-  cover-begins m e = record {
+  pub cover-begins : (m : List ℕ) (left : ℕ) → m ≡ unmarked → left ≡ volume sh → AllMarked sh flat m count 0 0 left
+  cover-begins m left e l = record {
     geo = subsets-begin sh flat count q;
     same = ap₂ (λ (u : List ℕ) (bs : List Subset). marking u (cellsOfAll sh bs)) (sym e) (rest-begins sh flat count);
+    counted = omega (arith, l, ap (λ (bs : List Subset). length (cellsOfAll sh bs)) (rest-begins sh flat count));
   }
 
-  module _ (m : List ℕ) (i at : ℕ) (c : AllMarked sh flat m count i at) where
-    pub cover-ends : count ≤ i → onceTest (volume sh) all ≡ allMarked m (volume sh)
+  module _ (m : List ℕ) (i at left : ℕ) (c : AllMarked sh flat m count i at left) where
+    pub cover-ends : count ≤ i → onceTest (volume sh) all ≡ eqb left 0
     unfolding marking
     cover-ends h =
-        once-marked (volume sh) all m (q .shaped .few-cells) below
-        (sym (c .same ∙ ap (λ (bs : List Subset). marking m (cellsOfAll sh bs)) (rest-ends sh flat count i at h)))
+        let n : rest sh flat count i at ≡ [] = rest-ends sh flat count i at h in
+        once-marked (volume sh) all (q .shaped .few-cells) below m (sym (c .same ∙ ap (λ (bs : List Subset). marking m (cellsOfAll sh bs)) n))
+        ∙ none (omega (arith, c .counted, ap (λ (bs : List Subset). length (cellsOfAll sh bs)) n)) (eqb left 0) refl
+      where
+        none : length all + left ≡ volume sh → (b : Bool) → eqb left 0 ≡ b → eqb (length all) (volume sh) ≡ b
+        none e true z = eq-eqb (length all) (volume sh) (omega (arith, eqb-true left 0 z))
+        none e false z = ne-eqb (length all) (volume sh) (λ k. eqb-false left 0 z (omega arith))
 
     module _ (h : i < count) where
       abbrev cs : List ℕ
@@ -75,12 +92,33 @@ module _ (sh flat : List ℕ) (count : ℕ) (q : SubsetsOk sh flat count) where
       abbrev later : List ℕ
       later = cellsOfAll sh (rest sh flat count (i + 1) (at + length sh + length sh))
 
-      next-subset : marking unmarked all ≡ marking m (cs ++ later)
-      next-subset = c .same ∙ ap (λ (bs : List Subset). marking m (cellsOfAll sh bs)) (subset-now sh flat count i at (c .geo) h)
+      -- the cells that are left, those of the next subset taken off
+      next-left : length all + left ≡ volume sh + (volume (lengthsAt (length sh) at flat) + length later)
+      next-left =
+          omega (
+            arith,
+            c .counted,
+            ap (λ (bs : List Subset). length (cellsOfAll sh bs)) (subset-now sh flat count i at (c .geo) h),
+            length-append cs later,
+            within-cells sh (startsAt (length sh) at flat) (lengthsAt (length sh) at flat) (now-within sh flat count i at (c .geo) h),
+          )
 
-      module _ (m′ : List ℕ) where
-        pub cover-more : (true, m′) ≡ marking m cs → AllMarked sh flat m′ count (i + 1) (at + length sh + length sh)
-        cover-more r = record { geo = subsets-more sh flat count i at (c .geo) h; same = next-subset ∙ marking-then m cs later m′ r }
+      next-subset : (r : Answer (List ℕ)) → r ≡ marking m cs → marking unmarked all ≡ andThen r (λ u. marking u later)
+      next-subset r e =
+          c .same ∙ ap (λ (bs : List Subset). marking m (cellsOfAll sh bs)) (subset-now sh flat count i at (c .geo) h)
+          ∙ marking-append m cs later ∙ ap (λ (x : Answer (List ℕ)). andThen x (λ u. marking u later)) (sym e)
 
-        pub cover-over : (false, m′) ≡ marking m cs → onceTest (volume sh) all ≡ false
-        cover-over r = once-refused (volume sh) all m′ (q .shaped .few-cells) below (sym (next-subset ∙ marking-over m cs later m′ r))
+      pub cover-over : (m′ : List ℕ) (free : Bool) → toldMarks free m′ ≡ marking m cs → free ≡ false → onceTest (volume sh) all ≡ false
+      cover-over m′ free r t = once-refused (volume sh) all (q .shaped .few-cells) below (sym (next-subset (refuses 12) (told-by free m′ false t (marking m cs) r)))
+
+      module _ (cells : ℕ) (v : cells ≡ volume (lengthsAt (length sh) at flat)) where
+        pub cover-beyond : left < cells → onceTest (volume sh) all ≡ false
+        cover-beyond l = once-beyond (volume sh) all (q .shaped .few-cells) below (omega (arith, next-left))
+
+        pub cover-more : cells ≤ left → (m′ : List ℕ) (free : Bool) → toldMarks free m′ ≡ marking m cs → free ≡ true
+            → AllMarked sh flat m′ count (i + 1) (at + length sh + length sh) (left - cells)
+        cover-more l m′ free r t = record {
+          geo = subsets-more sh flat count i at (c .geo) h;
+          same = next-subset (gives m′) (told-by free m′ true t (marking m cs) r);
+          counted = omega (arith, next-left);
+        }

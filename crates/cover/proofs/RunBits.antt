@@ -1,18 +1,20 @@
 -- Bits of one word that are neighbours, read and set at once.
 -- Assumes nothing.
 use mathlib.Core.Path.{_≡_, refl, sym, ap, ap₂, _∙_}
+use mathlib.Core.Logic.{_≢_}
 use Prim.Native.Nat.{ℕ, zero, suc, _+_, _-_, _*_, _/_, _%_, _^_, _<_, _≤_, min}
 use native.Mathlib.Nat.{pow-suc, pow-succ', div-one, mod-one, div-div-eq-div-mul, div-add-mod', mod-lt, min-le-left, min-le-right, le-min}
 use native.Mathlib.Omega.{arith}
-use mathlib.Core.Bool.{Bool, true, false, _&&_}
+use mathlib.Core.Bool.{Bool, true, false}
 use mathlib.Core.List.{List}
 use lib.ListN.{length, getD, set, length-set}
 use lib.Seq.{getD-set-same, getD-set-other, set-getD, set-set}
 use lib.Arith.{mod-mul}
 use lib.Pow.{pow-pos, pow-mono, field, shl-shr, shr-shr, shl-exact, ones-split, ones-lt, high, high-ones}
 use lib.Dec.{eqb}
-use borrow.Author.Tests.{eq-eqb, ne-eqb, eqb-true, eqb-false}
-use Rattle.array.specs.Lists.{from, pick, every}
+use borrow.Author.Tests.{eq-eqb, eqb-true}
+use Rattle.array.specs.Answer.{gives, refuses, unless}
+use Rattle.array.specs.Lists.{from}
 use Rattle.cover.specs.Bits.{bitsOf, marksOf, bitsAt}
 use Rattle.cover.specs.Marks.{marking}
 use Rattle.cover.proofs.BitLaws.{bit-at, bit-set, bit-fits, marks-at, marks-set}
@@ -30,28 +32,23 @@ zero-bits zero x j h e = absurd (omega arith)
 zero-bits (suc n) x zero h e = ap (λ (y : ℕ). y % 2) (div-one x) ∙ omega (arith, mod-more x n, e)
 zero-bits (suc n) x (suc j) h e = ap (λ (y : ℕ). y % 2) (div-more x j) ∙ zero-bits n (x / 2) j (omega arith) (omega (arith, mod-more x n, e))
 
--- a digit and a number are all ones where the two together are
-digit-full : (a y p : ℕ) → a < 2 → 1 ≤ p → eqb a 1 && eqb y (p - 1) ≡ eqb (y * 2 + a) (p * 2 - 1)
-digit-full a y p h l = go (eqb a 1) (eqb y (p - 1)) refl refl
-  where
-    go : (s t : Bool) → eqb a 1 ≡ s → eqb y (p - 1) ≡ t → s && t ≡ eqb (y * 2 + a) (p * 2 - 1)
-    go true true e f = sym (eq-eqb (y * 2 + a) (p * 2 - 1) (omega (arith, eqb-true a 1 e, eqb-true y (p - 1) f)))
-    go true false e f = sym (ne-eqb (y * 2 + a) (p * 2 - 1) (λ q. eqb-false y (p - 1) f (omega (arith, q, eqb-true a 1 e))))
-    go false t e f = sym (ne-eqb (y * 2 + a) (p * 2 - 1) (λ q. eqb-false a 1 e (omega (arith, q))))
-
--- marks that are the bits of x are all 1 where x is all ones
-ones-marked : (m : List ℕ) (n i x : ℕ) → ((j : ℕ) → j < n → getD m (i + j) 0 ≡ x / 2 ^ j % 2)
-    → every (λ k. eqb (getD m k 0) 1) (from i n) ≡ eqb (x % 2 ^ n) (2 ^ n - 1)
-ones-marked m zero i x e = sym (eq-eqb (x % 1) 0 (mod-one x))
-ones-marked m (suc n) i x e =
-    let q : i ≡ i + 0 = omega arith in
-    ap₂ (λ (a : ℕ) (b : Bool). eqb a 1 && b)
-    (ap (λ (k : ℕ). getD m k 0) q ∙ e 0 (omega arith) ∙ ap (λ (y : ℕ). y % 2) (div-one x))
-    (ones-marked m n (suc i) (x / 2)
+-- marks that are the bits of x, and not all 0: one of them hinders
+stops : (m : List ℕ) (n i x : ℕ) → ((j : ℕ) → j < n → getD m (i + j) 0 ≡ x / 2 ^ j % 2) → x % 2 ^ n ≢ 0 → marking m (from i n) ≡ refuses 12
+unfolding marking
+stops m zero i x e f = absurd (f (mod-one x))
+stops m (suc n) i x e f =
+    go (eqb (getD m i 0) 0) refl
+    (stops (set m i 1) n (suc i) (x / 2)
     (λ j h. let r : suc i + j ≡ i + suc j = omega arith in
-    ap (λ (k : ℕ). getD m k 0) r ∙ e (suc j) (omega arith) ∙ ap (λ (y : ℕ). y % 2) (div-more x j)))
-    ∙ digit-full (x % 2) (x / 2 % 2 ^ n) (2 ^ n) (omega arith) (pow-pos n)
-    ∙ ap₂ (λ (a b : ℕ). eqb a (b - 1)) (sym (mod-more x n)) (sym (pow-suc 2 n))
+    getD-set-other m i (suc i + j) 1 0 (λ q. omega (arith, q)) ∙ ap (λ (k : ℕ). getD m k 0) r ∙ e (suc j) (omega arith) ∙ ap (λ (y : ℕ). y % 2) (div-more x j)))
+  where
+    first : getD m i 0 ≡ x % 2
+    first = let q : i ≡ i + 0 = omega arith in ap (λ (k : ℕ). getD m k 0) q ∙ e 0 (omega arith) ∙ ap (λ (y : ℕ). y % 2) (div-one x)
+
+    go : (b : Bool) → eqb (getD m i 0) 0 ≡ b → (x / 2 % 2 ^ n ≢ 0 → marking (set m i 1) (from (suc i) n) ≡ refuses 12)
+        → unless b 12 (marking (set m i 1) (from (suc i) n)) ≡ refuses 12
+    go false t ih = refl
+    go true t ih = ih (λ z. f (omega (arith, mod-more x n, z, first, eqb-true (getD m i 0) 0 t)))
 
 -- ---- bits b to b + n of word q, all 0, are set: the word then is w′
 
@@ -83,20 +80,20 @@ bits-fit (suc n) b w w′ f l e s =
     (others-clear w b n (omega arith) e) (others-sum w b n w′ s)
 
 bits-mark : (n q b : ℕ) (ws : List ℕ) (w w′ : ℕ) → getD ws q 0 ≡ w → q < length ws → b + n ≤ 64 → Clear w b n → w′ + 2 ^ b ≡ w + 2 ^ (b + n)
-    → marking (marksOf ws) (from (q * 64 + b) n) ≡ (true, marksOf (set ws q w′))
+    → marking (marksOf ws) (from (q * 64 + b) n) ≡ gives (marksOf (set ws q w′))
 unfolding marking
 bits-mark zero q b ws w w′ i h l e s =
     let r : getD ws q 0 ≡ w′ = omega (arith, i, no-sum w b w′ s) in
-    ap (λ (v : List ℕ). (true, marksOf v)) (sym (set-getD ws q 0) ∙ ap (set ws q) r)
+    ap (λ (v : List ℕ). gives (marksOf v)) (sym (set-getD ws q 0) ∙ ap (set ws q) r)
 bits-mark (suc n) q b ws w w′ i h l e s =
     let z : getD (marksOf ws) (q * 64 + b) 0 ≡ 0 = marks-at ws q b h (omega arith) ∙ ap (λ (x : ℕ). getD (bitsOf 64 x) b 0) i ∙ first-clear w b n e in
     let r : suc (q * 64 + b) ≡ q * 64 + suc b = omega arith in
-    ap (λ (t : Bool). pick t (marking (set (marksOf ws) (q * 64 + b) 1) (from (suc (q * 64 + b)) n)) (false, marksOf ws)) (eq-eqb (getD (marksOf ws) (q * 64 + b) 0) 0 z)
+    ap (λ (t : Bool). unless t 12 (marking (set (marksOf ws) (q * 64 + b) 1) (from (suc (q * 64 + b)) n))) (eq-eqb (getD (marksOf ws) (q * 64 + b) 0) 0 z)
     ∙ ap₂ (λ (m : List ℕ) (k : ℕ). marking m (from k n))
     (sym (marks-set ws q b (w + 2 ^ b) h (omega arith) (bit-set 64 w b (omega arith) (first-clear w b n e) ∙ ap (λ (x : ℕ). set (bitsOf 64 x) b 1) (sym i)))) r
     ∙ bits-mark n q (suc b) (set ws q (w + 2 ^ b)) (w + 2 ^ b) w′ (getD-set-same ws q (w + 2 ^ b) 0 h) (omega (arith, length-set ws q (w + 2 ^ b))) (omega arith)
     (others-clear w b n (omega arith) e) (others-sum w b n w′ s)
-    ∙ ap (λ (v : List ℕ). (true, marksOf v)) (set-set ws q (w + 2 ^ b) w′)
+    ∙ ap (λ (v : List ℕ). gives (marksOf v)) (set-set ws q (w + 2 ^ b) w′)
 
 -- ---- what the code computes
 
@@ -134,9 +131,9 @@ module _ (ws : List ℕ) (i n : ℕ) (h : i / 64 < length ws) (l : i % 64 + n �
       ap (λ (x : ℕ). getD (marksOf ws) x 0) q ∙ marks-at ws (i / 64) (i % 64 + j) h (omega arith) ∙ bit-at 64 word (i % 64 + j) (omega arith)
       ∙ ap (λ (x : ℕ). x % 2) (sym (shr-shr word (i % 64) j))
 
-  pub all-ones : every (λ k. eqb (getD (marksOf ws) k 0) 1) (from i n) ≡ eqb (bitsAt ws i n) (2 ^ n - 1)
+  pub run-stops : bitsAt ws i n ≢ 0 → marking (marksOf ws) (from i n) ≡ refuses 12
   unfolding bitsAt
-  all-ones = ones-marked (marksOf ws) n i (word / 2 ^ (i % 64)) mark-in-word
+  run-stops f = stops (marksOf ws) n i (word / 2 ^ (i % 64)) mark-in-word f
 
   module _ (v : ℕ) (o : v ≡ 2 ^ n - 1) (e : bitsAt ws i n ≡ 0) where
     clear-bits : Clear word (i % 64) n
@@ -157,7 +154,7 @@ module _ (ws : List ℕ) (i n : ℕ) (h : i / 64 < length ws) (l : i % 64 + n �
     pub run-fits : word < 2 ^ 64 → word + v * 2 ^ (i % 64) % 2 ^ 64 < 2 ^ 64
     run-fits f = bits-fit n (i % 64) word (word + v * 2 ^ (i % 64) % 2 ^ 64) f l clear-bits sum
 
-    pub run-marked : (true, marksOf (set ws (i / 64) (word + v * 2 ^ (i % 64) % 2 ^ 64))) ≡ marking (marksOf ws) (from i n)
+    pub run-marked : gives (marksOf (set ws (i / 64) (word + v * 2 ^ (i % 64) % 2 ^ 64))) ≡ marking (marksOf ws) (from i n)
     run-marked =
         sym (ap (λ (k : ℕ). marking (marksOf ws) (from k n)) (sym (div-add-mod' i 64))
         ∙ bits-mark n (i / 64) (i % 64) ws word (word + v * 2 ^ (i % 64) % 2 ^ 64) refl h l clear-bits sum)

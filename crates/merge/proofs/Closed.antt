@@ -45,10 +45,10 @@ module _ (d : ℕ) (sh flat : List ℕ) (c old : Content) (z : Sizes) where
 
   module _ (f : Form) (q : Asked f) where
     inside : All (SubsetOk sh) bs
-    inside = all-inside sh bs (q .subsets .each)
+    inside = all-inside sh bs (q .checked .subsets .each)
 
     cells : Found f d bs c (z .bytes)
-    cells = found f d bs c (z .bytes) (q .summed)
+    cells = found f d bs c (z .bytes) (q .checked .summed)
 
     abbrev merged : Content
     merged = mergeOf (record { depth = d; form = f }) sh bs (cells .cells)
@@ -60,7 +60,7 @@ module _ (d : ℕ) (sh flat : List ℕ) (c old : Content) (z : Sizes) where
         (gives (mergeOf (record { depth = d; form = f }) sh bs cs)))) old) (sym (cells .are))
 
     mask-bytes : length (merged .masks) ≡ d * z .cells
-    mask-bytes = merged-masks f d sh bs inside (q .once) c (cells .cells) (cells .are) ∙ ap (λ (n : ℕ). d * n) (sym (q .counted))
+    mask-bytes = merged-masks f d sh bs inside (q .once) c (cells .cells) (cells .are) ∙ ap (λ (n : ℕ). d * n) (sym (q .checked .counted))
 
     value-bytes : length (merged .values) ≡ z .bytes
     value-bytes = merged-bytes f d sh bs inside (q .once) c (cells .cells) (cells .are) ∙ sym (cells .sum-of)
@@ -73,9 +73,9 @@ module _ (d : ℕ) (sh flat : List ℕ) (c old : Content) (z : Sizes) where
 
     pub masks-asked : d * z .cells ≤ length (old .masks) → MasksAsked sh flat (z .count) (old .masks) (c .masks) d (z .cells)
     masks-asked h = record {
-      subsets = q .subsets;
+      subsets = q .checked .subsets;
       once = q .once;
-      counted = q .counted;
+      counted = q .checked .counted;
       room = h;
       enough = masks-total f d bs c (cells .cells) (cells .are);
     }
@@ -98,8 +98,8 @@ module _ (d : ℕ) (sh flat : List ℕ) (c old : Content) (z : Sizes) where
     parts-now h =
         let w = cells (fixed k r) q in
         record {
-          subsets = q .subsets;
-          narrow = q .kind .sound .1;
+          subsets = q .checked .subsets;
+          narrow = q .checked .kind .sound .1;
           inner = omega arith;
           room = omega (arith, width);
           enough = values-total k d r bs c (w .cells) (w .are);
@@ -133,7 +133,7 @@ module _ (d : ℕ) (sh flat : List ℕ) (c old : Content) (z : Sizes) where
 
   module _ (w : ℕ) (p : Place) (q : Asked (ragged w p)) where
     offset-count : length (merged (ragged w p) q .offsets) ≡ z .cells + 1
-    offset-count = ragged-offsets d (volume sh) (blank [] d) (cellsOfAll sh bs) (cells (ragged w p) q .cells) ∙ ap (λ (n : ℕ). n + 1) (sym (q .counted))
+    offset-count = ragged-offsets d (volume sh) (blank [] d) (cellsOfAll sh bs) (cells (ragged w p) q .cells) ∙ ap (λ (n : ℕ). n + 1) (sym (q .checked .counted))
 
     short-now : length (old .offsets) ≤ z .cells → record { answer = refuses 6; buffers = old } ≡ left (ragged w p)
     short-now h =
@@ -144,8 +144,8 @@ module _ (d : ℕ) (sh flat : List ℕ) (c old : Content) (z : Sizes) where
         → RaggedMergeAsked sh flat (z .count) (old .values) (old .offsets) (c .values) (c .offsets) (z .cells)
     ragged-now hv ho =
         let x = cells (ragged w p) q in
-        ragged-asked w d p sh flat (z .count) (q .subsets) (q .once) c (x .cells) (x .are) (old .values) (old .offsets) (z .cells) (q .counted) ho
-        (omega (arith, x .sum-of, q .small)) (omega (arith, x .sum-of))
+        ragged-asked w d p sh flat (z .count) (q .checked .subsets) (q .once) c (x .cells) (x .are) (old .values) (old .offsets) (z .cells) (q .checked .counted) ho
+        (omega (arith, x .sum-of, q .checked .small)) (omega (arith, x .sum-of))
 
     stored-now : d * z .cells ≤ length (old .masks) → z .bytes ≤ length (old .values) → z .cells < length (old .offsets) → (ms vs os : List ℕ)
         → ms ≡ masksMerged sh bs d (c .masks) d ++ drop (d * z .cells) (old .masks)

@@ -11,16 +11,14 @@ use Rattle.array.specs.Limits.{mostBytes}
 use Rattle.array.specs.Answer.{Answer, gives, refuses, andThen, unless}
 use Rattle.array.specs.Kind.{Kind, kindTest}
 use Rattle.array.specs.Shape.{volume, shapeTest}
-use Rattle.array.specs.Subset.{Subset, subsetsOf, manyTest, cellsOfAll}
+use Rattle.array.specs.Subset.{Subset, subsetsOf, manyTest}
 use Rattle.array.specs.Rows.{nextSubsets}
 use Rattle.array.specs.Content.{Content, sizeTest}
 use Rattle.array.proofs.Rules.{kind-ok, shape-ok, many-ok, size-ok}
 use Rattle.array.proofs.SubsetLists.{subsets-are, subsets-long, many-next}
-use Rattle.chunks.specs.Gather.{onceTest}
-use Rattle.chunks.proofs.Gather.{once-ok}
 use Rattle.cover.specs.Asked.{SubsetsOk}
 use Rattle.merge.specs.Chunks.{chunkSum}
-use Rattle.merge.specs.Merge.{Sizes, checkAnswer, MergeAsked}
+use Rattle.merge.specs.Merge.{Sizes, checkAnswer, MergeChecked}
 
 -- ---- the subsets, once they are tested
 
@@ -39,95 +37,77 @@ module _ (k : Kind) (sh ns : List ℕ) (masks values : ℕ) (os : List ℕ) wher
   abbrev count : ℕ
   count = length ns / (2 * length sh)
 
-  -- the total, and whether the subsets cover, of a list of subsets
   abbrev total : List Subset → Answer ℕ
   total bs = chunkSum (k .form) (k .depth) bs masks values os
-
-  abbrev covered : List Subset → Bool
-  covered bs = onceTest (volume sh) (cellsOfAll sh bs)
 
   abbrev sizes : ℕ → Sizes
   sizes s = record { cells = volume sh; count = length ns / (2 * length sh); bytes = s }
 
-  abbrev after : Bool → ℕ → Answer Sizes
-  after c s = unless (sizeTest s) 5 (unless c 12 (gives (sizes s)))
+  abbrev after : ℕ → Answer Sizes
+  after s = unless (sizeTest s) 5 (gives (sizes s))
 
-  answered : (a b m c : Bool) (t : Answer ℕ) → kindTest k ≡ a → shapeTest sh ≡ b → manyTest sh ns ≡ m → total (subsetsOf (length sh) ns) ≡ t
-      → covered (subsetsOf (length sh) ns) ≡ c → checkAnswer k sh ns masks values os ≡ unless a 1 (unless b 2 (unless m 3 (andThen t (after c))))
+  answered : (a b m : Bool) (t : Answer ℕ) → kindTest k ≡ a → shapeTest sh ≡ b → manyTest sh ns ≡ m → total (subsetsOf (length sh) ns) ≡ t
+      → checkAnswer k sh ns masks values os ≡ unless a 1 (unless b 2 (unless m 3 (andThen t after)))
   unfolding checkAnswer
-  answered a b m c t p q r u v = rw (p, q, r, u, v)
+  answered a b m t p q r u = rw (p, q, r, u)
 
   pub no-kind : kindTest k ≡ false → refuses 1 ≡ checkAnswer k sh ns masks values os
-  no-kind p = sym (answered false (shapeTest sh) (manyTest sh ns) (covered (subsetsOf (length sh) ns)) (total (subsetsOf (length sh) ns)) p refl refl refl refl)
+  no-kind p = sym (answered false (shapeTest sh) (manyTest sh ns) (total (subsetsOf (length sh) ns)) p refl refl refl)
 
   module _ (p : kindTest k ≡ true) where
     pub no-shape : shapeTest sh ≡ false → refuses 2 ≡ checkAnswer k sh ns masks values os
-    no-shape q = sym (answered true false (manyTest sh ns) (covered (subsetsOf (length sh) ns)) (total (subsetsOf (length sh) ns)) p q refl refl refl)
+    no-shape q = sym (answered true false (manyTest sh ns) (total (subsetsOf (length sh) ns)) p q refl refl)
 
     module _ (q : shapeTest sh ≡ true) where
       pub no-subsets : manyTest sh ns ≡ false → refuses 3 ≡ checkAnswer k sh ns masks values os
-      no-subsets r = sym (answered true true false (covered (subsetsOf (length sh) ns)) (total (subsetsOf (length sh) ns)) p q r refl refl)
+      no-subsets r = sym (answered true true false (total (subsetsOf (length sh) ns)) p q r refl)
 
       module _ (r : manyTest sh ns ≡ true) where
-        with-total : (c : Bool) (t : Answer ℕ) → t ≡ total (nextSubsets (length sh) count ns) → covered (nextSubsets (length sh) count ns) ≡ c
-            → checkAnswer k sh ns masks values os ≡ andThen t (after c)
-        with-total c t u v = answered true true true c t p q r (ap total (subsets-same sh ns q r) ∙ sym u) (ap covered (subsets-same sh ns q r) ∙ v)
+        with-total : (t : Answer ℕ) → t ≡ total (nextSubsets (length sh) count ns) → checkAnswer k sh ns masks values os ≡ andThen t after
+        with-total t u = answered true true true t p q r (ap total (subsets-same sh ns q r) ∙ sym u)
 
         pub bad-chunks : refuses 4 ≡ total (nextSubsets (length sh) count ns) → refuses 4 ≡ checkAnswer k sh ns masks values os
-        bad-chunks u = sym (with-total (covered (nextSubsets (length sh) count ns)) (refuses 4) u refl)
+        bad-chunks u = sym (with-total (refuses 4) u)
 
         module _ (s : ℕ) (u : gives s ≡ total (nextSubsets (length sh) count ns)) where
           pub too-many : mostBytes < s → refuses 5 ≡ checkAnswer k sh ns masks values os
-          too-many h =
-              sym (with-total (covered (nextSubsets (length sh) count ns)) (gives s) u refl
-              ∙ ap (λ (x : Bool). unless x 5 (unless (covered (nextSubsets (length sh) count ns)) 12 (gives (sizes s)))) (lt-leb s mostBytes h))
+          too-many h = sym (with-total (gives s) u ∙ ap (λ (x : Bool). unless x 5 (gives (sizes s))) (lt-leb s mostBytes h))
 
-          few : s ≤ mostBytes → (c : Bool) → covered (nextSubsets (length sh) count ns) ≡ c → checkAnswer k sh ns masks values os ≡ unless c 12 (gives (sizes s))
-          few h c v = with-total c (gives s) u v ∙ ap (λ (x : Bool). unless x 5 (unless c 12 (gives (sizes s)))) (le-leb s mostBytes h)
-
-          pub no-cover : s ≤ mostBytes → covered (nextSubsets (length sh) count ns) ≡ false → refuses 12 ≡ checkAnswer k sh ns masks values os
-          no-cover h v = sym (few h false v)
-
-          pub passes : s ≤ mostBytes → covered (nextSubsets (length sh) count ns) ≡ true → gives (sizes s) ≡ checkAnswer k sh ns masks values os
-          passes h v = sym (few h true v)
+          pub passes : s ≤ mostBytes → gives (sizes s) ≡ checkAnswer k sh ns masks values os
+          passes h = sym (with-total (gives s) u ∙ ap (λ (x : Bool). unless x 5 (gives (sizes s))) (le-leb s mostBytes h))
 
 -- ---- what is known where they pass
 
 pub passed : (k : Kind) (sh ns : List ℕ) (c : Content) (z : Sizes) → gives z ≡ checkAnswer k sh ns (length (c .masks)) (length (c .values)) (c .offsets)
-    → MergeAsked k sh ns c z × (subsetsOf (length sh) ns ≡ nextSubsets (length sh) (z .count) ns)
+    → MergeChecked k sh ns c z × (subsetsOf (length sh) ns ≡ nextSubsets (length sh) (z .count) ns)
 unfolding checkAnswer
 passed k sh ns c z e =
     go (kindTest k) (shapeTest sh) (manyTest sh ns) (chunkSum (k .form) (k .depth) (subsetsOf (length sh) ns) (length (c .masks)) (length (c .values)) (c .offsets)) refl refl refl refl e
   where
-    last : (x y : Bool) (s : ℕ) → kindTest k ≡ true → shapeTest sh ≡ true → manyTest sh ns ≡ true
+    last : (x : Bool) (s : ℕ) → kindTest k ≡ true → shapeTest sh ≡ true → manyTest sh ns ≡ true
         → chunkSum (k .form) (k .depth) (subsetsOf (length sh) ns) (length (c .masks)) (length (c .values)) (c .offsets) ≡ gives s
-        → sizeTest s ≡ x → onceTest (volume sh) (cellsOfAll sh (subsetsOf (length sh) ns)) ≡ y
-        → gives z ≡ unless x 5 (unless y 12 (gives (record { cells = volume sh; count = length ns / (2 * length sh); bytes = s })))
-        → MergeAsked k sh ns c z × (subsetsOf (length sh) ns ≡ nextSubsets (length sh) (z .count) ns)
-    last true true s p q r u v w e =
+        → sizeTest s ≡ x → gives z ≡ unless x 5 (gives (record { cells = volume sh; count = length ns / (2 * length sh); bytes = s }))
+        → MergeChecked k sh ns c z × (subsetsOf (length sh) ns ≡ nextSubsets (length sh) (z .count) ns)
+    last true s p q r u v e =
         let is : record { cells = volume sh; count = length ns / (2 * length sh); bytes = s } ≡ z = cc in
         let same : subsetsOf (length sh) ns ≡ nextSubsets (length sh) (length ns / (2 * length sh)) ns = subsets-same sh ns q r in
-        subst (λ (y : Sizes). MergeAsked k sh ns c y × (subsetsOf (length sh) ns ≡ nextSubsets (length sh) (y .count) ns)) is (
+        subst (λ (y : Sizes). MergeChecked k sh ns c y × (subsetsOf (length sh) ns ≡ nextSubsets (length sh) (y .count) ns)) is (
           record {
             kind = kind-ok k p;
             subsets = tested-subsets sh ns q r;
-            once = once-ok (volume sh) (cellsOfAll sh (nextSubsets (length sh) (length ns / (2 * length sh)) ns))
-                (ap (λ (bs : List Subset). onceTest (volume sh) (cellsOfAll sh bs)) (sym same) ∙ w);
             counted = refl;
             summed = sym u ∙ ap (λ (bs : List Subset). chunkSum (k .form) (k .depth) bs (length (c .masks)) (length (c .values)) (c .offsets)) same;
             small = size-ok s v;
           },
           same,
         )
-    last true false s p q r u v w e = let z : _≡_ {A = ℕ} 0 1 = cc in absurd (omega arith)
-    last false y s p q r u v w e = let z : _≡_ {A = ℕ} 0 1 = cc in absurd (omega arith)
+    last false s p q r u v e = let z : _≡_ {A = ℕ} 0 1 = cc in absurd (omega arith)
 
     go : (a b m : Bool) (t : Answer ℕ) → kindTest k ≡ a → shapeTest sh ≡ b → manyTest sh ns ≡ m
         → chunkSum (k .form) (k .depth) (subsetsOf (length sh) ns) (length (c .masks)) (length (c .values)) (c .offsets) ≡ t
-        → gives z ≡ unless a 1 (unless b 2 (unless m 3 (andThen t (λ s. unless (sizeTest s) 5
-        (unless (onceTest (volume sh) (cellsOfAll sh (subsetsOf (length sh) ns))) 12 (gives (record { cells = volume sh; count = length ns / (2 * length sh); bytes = s })))))))
-        → MergeAsked k sh ns c z × (subsetsOf (length sh) ns ≡ nextSubsets (length sh) (z .count) ns)
-    go true true true (gives s) p q r u e = last (sizeTest s) (onceTest (volume sh) (cellsOfAll sh (subsetsOf (length sh) ns))) s p q r u refl refl e
+        → gives z ≡ unless a 1 (unless b 2 (unless m 3 (andThen t (λ s. unless (sizeTest s) 5 (gives (record { cells = volume sh; count = length ns / (2 * length sh); bytes = s }))))))
+        → MergeChecked k sh ns c z × (subsetsOf (length sh) ns ≡ nextSubsets (length sh) (z .count) ns)
+    go true true true (gives s) p q r u e = last (sizeTest s) s p q r u refl e
     go true true true (refuses n) p q r u e = let z : _≡_ {A = ℕ} 0 1 = cc in absurd (omega arith)
     go true true false t p q r u e = let z : _≡_ {A = ℕ} 0 1 = cc in absurd (omega arith)
     go true false m t p q r u e = let z : _≡_ {A = ℕ} 0 1 = cc in absurd (omega arith)

@@ -1,4 +1,4 @@
--- The call is its two steps: the checks, and then the outputs' test and the stores.
+-- The call is its steps: the checks, and then 12, the outputs' test and the stores.
 -- Assumes nothing.
 use mathlib.Core.Path.{_≡_, refl, sym, ap, _∙_}
 use Prim.Native.Nat.{ℕ, _*_, _/_}
@@ -17,7 +17,7 @@ use Rattle.array.specs.Buffers.{Lengths, lengthsOf, enoughTest, contentOutcome}
 use Rattle.chunks.specs.Gather.{onceTest}
 use Rattle.chunks.specs.Chunks.{chunkCells, mergeOf}
 use Rattle.chunks.specs.Calls.{mergeAnswer, merged}
-use Rattle.merge.specs.Merge.{Sizes, checkAnswer, storeAnswer, MergeAsked}
+use Rattle.merge.specs.Merge.{Sizes, checkAnswer, storeAnswer, coverAnswer, MergeChecked}
 use Rattle.merge.proofs.ChunkSums.{sum-is}
 use Rattle.merge.proofs.Passing.{passed}
 
@@ -33,30 +33,29 @@ module _ (f : Form) (d : ℕ) (sh ns : List ℕ) (c : Content) where
   sizes s = record { cells = volume sh; count = length ns / (2 * length sh); bytes = s }
 
   pub merge-steps : (room : Lengths) → mergeAnswer k sh ns c room
-      ≡ andThen (checkAnswer k sh ns (length (c .masks)) (length (c .values)) (c .offsets)) (λ z. storeAnswer k sh bs c room)
+      ≡ andThen (checkAnswer k sh ns (length (c .masks)) (length (c .values)) (c .offsets)) (λ z. coverAnswer k sh bs c room)
   unfolding mergeAnswer checkAnswer storeAnswer
   merge-steps room = go (kindTest k) (shapeTest sh) (manyTest sh ns) (chunkCells k bs c) (sum-is f d bs c)
     where
       last : (cs : List (Cell d)) (x y : Bool) (a : Answer Content)
-          → unless x 5 (unless y 12 a) ≡ andThen (unless x 5 (unless y 12 (gives (sizes (length (joined (leaves d cs))))))) (λ z. a)
-      last cs true true a = refl
-      last cs true false a = refl
+          → unless x 5 (unless y 12 a) ≡ andThen (unless x 5 (gives (sizes (length (joined (leaves d cs)))))) (λ z. unless y 12 a)
+      last cs true y a = refl
       last cs false y a = refl
 
       go : (a b m : Bool) (r : Answer (List (Cell d))) {t : Answer ℕ} → andThen r (λ cs. gives (length (joined (leaves d cs)))) ≡ t
           → unless a 1 (unless b 2 (unless m 3 (andThen r (λ cs. unless (sizeTest (length (joined (leaves d cs)))) 5
           (unless (onceTest (volume sh) (cellsOfAll sh bs)) 12 (unless (enoughTest (mergeOf k sh bs cs) room) 6 (gives (mergeOf k sh bs cs))))))))
-          ≡ andThen (unless a 1 (unless b 2 (unless m 3 (andThen t (λ s. unless (sizeTest s) 5 (unless (onceTest (volume sh) (cellsOfAll sh bs)) 12 (gives (sizes s))))))))
-          (λ z. andThen r (λ cs. unless (enoughTest (mergeOf k sh bs cs) room) 6 (gives (mergeOf k sh bs cs))))
+          ≡ andThen (unless a 1 (unless b 2 (unless m 3 (andThen t (λ s. unless (sizeTest s) 5 (gives (sizes s)))))))
+          (λ z. unless (onceTest (volume sh) (cellsOfAll sh bs)) 12 (andThen r (λ cs. unless (enoughTest (mergeOf k sh bs cs) room) 6 (gives (mergeOf k sh bs cs)))))
       go false b m r e = refl
       go true false m r e = refl
       go true true false r e = refl
       go true true true (refuses n) e =
-          ap (λ (x : Answer ℕ). andThen (andThen x (λ s. unless (sizeTest s) 5 (unless (onceTest (volume sh) (cellsOfAll sh bs)) 12 (gives (sizes s))))) (λ z. refuses n)) e
+          ap (λ (x : Answer ℕ). andThen (andThen x (λ s. unless (sizeTest s) 5 (gives (sizes s)))) (λ z. unless (onceTest (volume sh) (cellsOfAll sh bs)) 12 (refuses n))) e
       go true true true (gives cs) e =
           last cs (sizeTest (length (joined (leaves d cs)))) (onceTest (volume sh) (cellsOfAll sh bs)) (unless (enoughTest (mergeOf k sh bs cs) room) 6 (gives (mergeOf k sh bs cs)))
-          ∙ ap (λ (x : Answer ℕ). andThen (andThen x (λ s. unless (sizeTest s) 5 (unless (onceTest (volume sh) (cellsOfAll sh bs)) 12 (gives (sizes s)))))
-          (λ z. unless (enoughTest (mergeOf k sh bs cs) room) 6 (gives (mergeOf k sh bs cs)))) e
+          ∙ ap (λ (x : Answer ℕ). andThen (andThen x (λ s. unless (sizeTest s) 5 (gives (sizes s))))
+          (λ z. unless (onceTest (volume sh) (cellsOfAll sh bs)) 12 (unless (enoughTest (mergeOf k sh bs cs) room) 6 (gives (mergeOf k sh bs cs))))) e
 
   module _ (old : Content) where
     whole : merged k sh ns c old ≡ contentOutcome (mergeAnswer k sh ns c (lengthsOf old)) old
@@ -64,19 +63,28 @@ module _ (f : Form) (d : ℕ) (sh ns : List ℕ) (c : Content) where
     whole = refl
 
     by-steps : (t : Answer Sizes) → t ≡ checkAnswer k sh ns (length (c .masks)) (length (c .values)) (c .offsets)
-        → merged k sh ns c old ≡ contentOutcome (andThen t (λ z. storeAnswer k sh bs c (lengthsOf old))) old
+        → merged k sh ns c old ≡ contentOutcome (andThen t (λ z. coverAnswer k sh bs c (lengthsOf old))) old
     by-steps t e =
         whole ∙ ap (λ (a : Answer Content). contentOutcome a old)
-        (merge-steps (lengthsOf old) ∙ ap (λ (x : Answer Sizes). andThen x (λ z. storeAnswer k sh bs c (lengthsOf old))) (sym e))
+        (merge-steps (lengthsOf old) ∙ ap (λ (x : Answer Sizes). andThen x (λ z. coverAnswer k sh bs c (lengthsOf old))) (sym e))
 
     pub merge-refused : (e : ℕ) → refuses e ≡ checkAnswer k sh ns (length (c .masks)) (length (c .values)) (c .offsets)
         → record { answer = refuses e; buffers = old } ≡ merged k sh ns c old
     merge-refused e p = sym (by-steps (refuses e) p)
 
     module _ (z : Sizes) (p : gives z ≡ checkAnswer k sh ns (length (c .masks)) (length (c .values)) (c .offsets)) where
-      pub merge-asked : MergeAsked k sh ns c z
-      merge-asked = passed k sh ns c z p .0
+      pub merge-checked : MergeChecked k sh ns c z
+      merge-checked = passed k sh ns c z p .0
 
-      pub merge-stored : (o : Outcome Lengths Content) → o ≡ contentOutcome (storeAnswer k sh (nextSubsets (length sh) (z .count) ns) c (lengthsOf old)) old → o ≡ merged k sh ns c old
+      pub merge-stored : (o : Outcome Lengths Content) → o ≡ contentOutcome (coverAnswer k sh (nextSubsets (length sh) (z .count) ns) c (lengthsOf old)) old → o ≡ merged k sh ns c old
       merge-stored o e =
-          e ∙ ap (λ (x : List Subset). contentOutcome (storeAnswer k sh x c (lengthsOf old)) old) (sym (passed k sh ns c z p .1)) ∙ sym (by-steps (gives z) p)
+          e ∙ ap (λ (x : List Subset). contentOutcome (coverAnswer k sh x c (lengthsOf old)) old) (sym (passed k sh ns c z p .1)) ∙ sym (by-steps (gives z) p)
+
+-- ---- the test of 12
+
+module _ {covers t : Bool} (e : covers ≡ t) (a : Answer Content) (old : Content) where
+  pub uncovered : covers ≡ false → record { answer = refuses 12; buffers = old } ≡ contentOutcome (unless t 12 a) old
+  uncovered f = ap (λ (x : Bool). contentOutcome (unless x 12 a) old) (sym f ∙ e)
+
+  pub covered : covers ≡ true → (o : Outcome Lengths Content) → o ≡ contentOutcome a old → o ≡ contentOutcome (unless t 12 a) old
+  covered f o s = s ∙ ap (λ (x : Bool). contentOutcome (unless x 12 a) old) (sym f ∙ e)

@@ -1,5 +1,5 @@
--- A merge in two steps (document 01, Answers): all checks but that of the outputs, by lengths and offsets; then 6 and the stores.
--- proofs/Steps has that these two are the call.
+-- A merge in steps (document 01, Answers): the checks by lengths and offsets; then 12; then 6 and the stores.
+-- proofs/Steps has that these are the call.
 -- Assumes nothing.
 use mathlib.Core.Path.{_≡_}
 use Prim.Native.Nat.{ℕ, _*_, _/_, _≤_}
@@ -25,7 +25,7 @@ pub record Sizes : Type 0 where
   pub count : ℕ
   pub bytes : ℕ
 
--- 1, 2, 3, 4, 5, 12
+-- 1, 2, 3, 4, 5
 unfoldable pub checkAnswer : Kind → List ℕ → List ℕ → ℕ → ℕ → List ℕ → Answer Sizes
 checkAnswer k shape ns masks values os =
     let bs = subsetsOf (length shape) ns in
@@ -34,8 +34,7 @@ checkAnswer k shape ns masks values os =
     (unless (manyTest shape ns) 3
     (andThen (chunkSum (k .form) (k .depth) bs masks values os) (λ s.
     unless (sizeTest s) 5
-    (unless (onceTest (volume shape) (cellsOfAll shape bs)) 12
-    (gives (record { cells = volume shape; count = length ns / (2 * length shape); bytes = s })))))))
+    (gives (record { cells = volume shape; count = length ns / (2 * length shape); bytes = s }))))))
 
 abbrev pub toldChecks : Checks → Answer Sizes
 toldChecks (Checks.Passed n k s) = gives (record { cells = n; count = k; bytes = s })
@@ -46,11 +45,19 @@ unfoldable pub storeAnswer : Kind → List ℕ → List Subset → Content → L
 unfolding chunkCells
 storeAnswer k shape bs c room = andThen (chunkCells k bs c) (λ cs. unless (enoughTest (mergeOf k shape bs cs) room) 6 (gives (mergeOf k shape bs cs)))
 
--- what the stores ask: that the checks passed
-pub record MergeAsked (k : Kind) (shape flat : List ℕ) (c : Content) (z : Sizes) : Type 0 where
+-- 12, and then the same
+abbrev pub coverAnswer : Kind → List ℕ → List Subset → Content → Lengths → Answer Content
+coverAnswer k shape bs c room = unless (onceTest (volume shape) (cellsOfAll shape bs)) 12 (storeAnswer k shape bs c room)
+
+-- what is known where the checks passed
+pub record MergeChecked (k : Kind) (shape flat : List ℕ) (c : Content) (z : Sizes) : Type 0 where
   pub kind : KindOk k
   pub subsets : SubsetsOk shape flat (z .count)
-  pub once : Once (volume shape) (cellsOfAll shape (nextSubsets (length shape) (z .count) flat))
   pub counted : z .cells ≡ volume shape
   pub summed : gives (z .bytes) ≡ chunkSum (k .form) (k .depth) (nextSubsets (length shape) (z .count) flat) (length (c .masks)) (length (c .values)) (c .offsets)
   pub small : z .bytes ≤ mostBytes
+
+-- what the stores ask: that no chunk overlaps another or leaves a gap either
+pub record MergeAsked (k : Kind) (shape flat : List ℕ) (c : Content) (z : Sizes) : Type 0 where
+  pub checked : MergeChecked k shape flat c z
+  pub once : Once (volume shape) (cellsOfAll shape (nextSubsets (length shape) (z .count) flat))

@@ -11,11 +11,11 @@ ghost use Rattle.array.specs.Rows.{nextSubsets};
 ghost use Rattle.array.specs.Buffers.{lengthsOf, contentOutcome};
 ghost use Rattle.array.specs.Outcome.{contentArray, outcomeArray};
 ghost use Rattle.chunks.specs.Calls.{merged};
-ghost use Rattle.merge.specs.Merge.{storeAnswer, MergeAsked};
+ghost use Rattle.merge.specs.Merge.{storeAnswer, coverAnswer, MergeChecked, MergeAsked};
 
 pub mod rules;
 
-// Stores chunks that passed the checks, where the outputs are long enough.
+// Stores chunks that passed the checks and cover the shape, where the outputs are long enough.
 fn store_chunks(
     kind: Kind,
     cells: usize,
@@ -83,6 +83,47 @@ fn store_chunks(
     }
 }
 
+// Stores chunks that passed the other checks, where their subsets cover the shape.
+fn store_covering(
+    kind: Kind,
+    cells: usize,
+    count: usize,
+    bytes: usize,
+    shape: &[u64],
+    subsets: &[u64],
+    masks: &[u8],
+    values: &[u8],
+    offsets: &[u64],
+    out_masks: &mut [u8],
+    out_values: &mut [u8],
+    out_offsets: &mut [u64],
+) -> WrittenArray
+    requires { ⌜ MergeChecked (kindOf kind) (now shape) (now subsets) (contentArray (now masks) (now values) (now offsets)) (record { cells = cells; count = count; bytes = bytes }) ⌝ }
+    ensures { λ r. ⌜ outcomeArray r (now («out_masks» .exit)) (now («out_values» .exit)) (now («out_offsets» .exit))
+        ≡ contentOutcome (coverAnswer (kindOf kind) (now (shape .entry)) (nextSubsets (length (now (shape .entry))) count (now (subsets .entry)))
+        (contentArray (now (masks .entry)) (now (values .entry)) (now (offsets .entry)))
+        (lengthsOf (contentArray (now («out_masks» .entry)) (now («out_values» .entry)) (now («out_offsets» .entry)))))
+        (contentArray (now («out_masks» .entry)) (now («out_values» .entry)) (now («out_offsets» .entry))) ⌝ }
+{
+    if !cover::covers(shape, subsets, count) {
+        return WrittenArray::Refused(refusal::COVER);
+    }
+    store_chunks(
+        kind,
+        cells,
+        count,
+        bytes,
+        shape,
+        subsets,
+        masks,
+        values,
+        offsets,
+        out_masks,
+        out_values,
+        out_offsets,
+    )
+}
+
 // Merges chunks, given by the numbers of their subsets and by their masks, values and offsets laid end to end in the list's order.
 // Ragged values come out end to end from offset 0; hidden values are kept.
 pub fn merge(
@@ -102,7 +143,7 @@ pub fn merge(
 {
     match rules::check_merge(kind, shape, subsets, masks.len(), values.len(), offsets) {
         Checks::Refused(e) => WrittenArray::Refused(e),
-        Checks::Passed(cells, count, bytes) => store_chunks(
+        Checks::Passed(cells, count, bytes) => store_covering(
             kind,
             cells,
             count,

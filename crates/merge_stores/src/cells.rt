@@ -3,12 +3,13 @@ ghost use mathlib.Core.Path.{_≡_};
 ghost use mathlib.Core.List.{_++_};
 ghost use Prim.Native.Nat.{_*_};
 ghost use lib.ListN.{length, drop};
+ghost use Rattle.array.specs.Shape.{volume};
 ghost use Rattle.array.specs.Subset.{pairs, cellsIn, cellsOfAll};
 ghost use Rattle.array.specs.Rows.{nextSubsets};
 ghost use Rattle.merge_stores.specs.Scatter.{scatter, places, fixedAt};
 ghost use Rattle.merge_stores.specs.Store.{parts, masksMerged, StoreAsked, PartsAsked, MasksAsked};
 
-// Stores a chunk's cells of `size` bytes, which lie in `src` from `first` on, at their places in `out`, where cell 0 lies at `base`.
+// Stores a chunk's `cells` cells of `size` bytes, which lie in `src` from `first` on, at their places in `out`, where cell 0 lies at `base`.
 pub fn store_subset(
     out: &mut [u8],
     base: usize,
@@ -18,11 +19,11 @@ pub fn store_subset(
     shape: &[u64],
     starts: &[u64],
     lens: &[u64],
+    cells: u64,
 )
-    requires { ⌜ StoreAsked (now shape) (now starts) (now lens) (now out) base size (now src) first ⌝ }
+    requires { ⌜ StoreAsked (now shape) (now starts) (now lens) (now out) base size (now src) first × (cells ≡ volume (now lens)) ⌝ }
     ensures { λ _. ⌜ now (out .exit) ≡ scatter (now (out .entry)) (places (fixedAt base size) (cellsIn (now (shape .entry)) (pairs (now (starts .entry)) (now (lens .entry))))) (drop first (now (src .entry))) ⌝ }
 {
-    let cells = subset::volume_of(lens);
     let last = lens.len() - 1;
     let n = lens[last];
     let mut at: u64 = 0;
@@ -60,7 +61,9 @@ pub fn store_parts(
     while i < count {
         let mid = at + d;
         let end = mid + d;
-        let m = subset::volume_of(&subsets[mid..end]) as usize;
+        let lens = &subsets[mid..end];
+        let cells = subset::volume_of(lens);
+        let m = cells as usize;
         let first = pos + m * lead;
         store_subset(
             out,
@@ -70,7 +73,8 @@ pub fn store_parts(
             first,
             shape,
             &subsets[at..mid],
-            &subsets[mid..end],
+            lens,
+            cells,
         );
         pos += m * step;
         at = end;

@@ -5,6 +5,7 @@ ghost use Prim.Native.Nat.{_+_, _<_, _≤_};
 ghost use lib.ListN.{length, take, drop};
 ghost use Rattle.array.specs.Limits.{mostBytes};
 ghost use Rattle.array.specs.Buffers.{overAt};
+ghost use Rattle.array.specs.Shape.{volume};
 ghost use Rattle.array.specs.Subset.{pairs, cellsIn, cellsOfAll};
 ghost use Rattle.array.specs.Rows.{nextSubsets};
 ghost use Rattle.merge_stores.specs.Scatter.{scatter, places, fixedAt};
@@ -33,11 +34,11 @@ fn store_lengths(
     shape: &[u64],
     starts: &[u64],
     lens: &[u64],
+    cells: u64,
 )
-    requires { ⌜ LengthsAsked (now shape) (now starts) (now lens) (now out) (now src) first ⌝ }
+    requires { ⌜ LengthsAsked (now shape) (now starts) (now lens) (now out) (now src) first × (cells ≡ volume (now lens)) ⌝ }
     ensures { λ _. ⌜ now (out .exit) ≡ scatter (now (out .entry)) (places (fixedAt 1 1) (cellsIn (now (shape .entry)) (pairs (now (starts .entry)) (now (lens .entry))))) (drop first (steps (now (src .entry)))) ⌝ }
 {
-    let cells = subset::volume_of(lens);
     let last = lens.len() - 1;
     let n = lens[last];
     let mut at: u64 = 0;
@@ -62,15 +63,10 @@ fn store_lengths_all(out: &mut [u64], src: &[u64], shape: &[u64], subsets: &[u64
     while i < count {
         let mid = at + d;
         let end = mid + d;
-        let m = subset::volume_of(&subsets[mid..end]) as usize;
-        store_lengths(
-            out,
-            src,
-            first,
-            shape,
-            &subsets[at..mid],
-            &subsets[mid..end],
-        );
+        let lens = &subsets[mid..end];
+        let cells = subset::volume_of(lens);
+        let m = cells as usize;
+        store_lengths(out, src, first, shape, &subsets[at..mid], lens, cells);
         first += m + 1;
         at = end;
         i += 1;
@@ -104,12 +100,12 @@ fn store_ragged(
     shape: &[u64],
     starts: &[u64],
     lens: &[u64],
+    cells: u64,
 )
-    requires { ⌜ RaggedAsked (now shape) (now starts) (now lens) (now out) (now begins) (now values) base (now src) first ⌝ }
+    requires { ⌜ RaggedAsked (now shape) (now starts) (now lens) (now out) (now begins) (now values) base (now src) first × (cells ≡ volume (now lens)) ⌝ }
     ensures { λ _. ⌜ now (out .exit) ≡ scatter (now (out .entry)) (places (offsetAt (now (begins .entry))) (cellsIn (now (shape .entry)) (pairs (now (starts .entry)) (now (lens .entry)))))
         (drop (base + offsetAt (now (src .entry)) first) (now (values .entry))) ⌝ }
 {
-    let cells = subset::volume_of(lens);
     let last = lens.len() - 1;
     let n = lens[last];
     let mut at: u64 = 0;
@@ -147,7 +143,9 @@ fn store_ragged_all(
     while i < count {
         let mid = at + d;
         let end = mid + d;
-        let m = subset::volume_of(&subsets[mid..end]) as usize;
+        let lens = &subsets[mid..end];
+        let cells = subset::volume_of(lens);
+        let m = cells as usize;
         store_ragged(
             out,
             begins,
@@ -157,7 +155,8 @@ fn store_ragged_all(
             first,
             shape,
             &subsets[at..mid],
-            &subsets[mid..end],
+            lens,
+            cells,
         );
         let last = first + m;
         base += src[last] as usize;

@@ -4,11 +4,12 @@ use Prim.Native.Nat.{ℕ, _≤_, _-_, _+_, _%_}
 use mathlib.Core.Path.{_≡_, sym, _∙_}
 use native.Mathlib.Omega.{arith}
 use lib.ListN.{length}
+use Rattle.array.specs.Answer.{gives, refuses}
 use Rattle.array.specs.Lists.{from}
 use Rattle.cover.specs.Bits.{marksOf}
 use Rattle.cover.specs.Marks.{marking}
-use Rattle.cover.proofs.MarkRuns.{marking-run, marking-end, run-begins}
-use Rattle.cover.proofs.RunBits.{in-word}
+use Rattle.cover.proofs.MarkRuns.{run-begins, run-ends, run-more}
+use Rattle.cover.proofs.RunBits.{in-word, run-stops}
 use Rattle.cover.proofs.mark_run.Statement.{statement}
 use Rattle.cover.proofs.mark_run.Tie as tie
 
@@ -46,17 +47,16 @@ in-word-requires c κs = omega arith
 marks-at-requires : tie.Need-marks-at-requires Inv-loop μ-loop
 marks-at-requires c κs = let w = c .before in (head w .loop .inv .3, omega arith, inside w .0, inside w .1)
 
-sub-mark-cells : tie.Need-sub-mark-cells Inv-loop μ-loop
-sub-mark-cells c = omega arith
-
-mark-cells-requires : tie.Need-mark-cells-requires Inv-loop μ-loop
-mark-cells-requires c κs = (head (c .before .before .before .before) .loop .inv .3, omega arith)
-
 same-length : tie.Need-same-length Inv-loop μ-loop
-same-length c = let l = head (c .before .before .before .before .before .before .before) in c .before .before .mark-cells .kept .0 ∙ l .loop .inv .3 ∙ sym (l .loop .inv .2)
+same-length c = omega arith
 
 returns : tie.Need-returns Inv-loop μ-loop
-returns c = c .before .before .mark-cells .ensures ∙ sym (head (c .before .before .before .before .before .before .before) .loop .inv .4)
+returns c =
+    let w = c .before .before .before in
+    let l = head w in
+    sym (l .loop .inv .4
+    ∙ run-more (marksOf (l .loop .words)) (l .loop .i) (w .in-word .result) (stop l) (inside w .2) (refuses 12)
+    (run-stops (l .loop .words) (l .loop .i) (w .in-word .result) (omega (arith, l .loop .inv .3)) (inside w .1) (λ e. omega (arith, e, c .before .marks-at .ensures, c .if1 .taken))))
 
 set-marks-requires : tie.Need-set-marks-requires Inv-loop μ-loop
 set-marks-requires c κs =
@@ -77,7 +77,7 @@ loop-again c =
       omega arith,
       l .loop .inv .2,
       c .before .before .set-marks .kept .0 ∙ l .loop .inv .3,
-      l .loop .inv .4 ∙ marking-run (marksOf (l .loop .words)) (l .loop .i) (w .in-word .result) (stop l) (inside w .2) (marksOf (c .before .before .set-marks .last .0)) (c .before .before .set-marks .ensures),
+      l .loop .inv .4 ∙ run-more (marksOf (l .loop .words)) (l .loop .i) (w .in-word .result) (stop l) (inside w .2) (gives (marksOf (c .before .before .set-marks .last .0))) (sym (c .before .before .set-marks .ensures)),
     )
 
 same-length-2 : tie.Need-same-length-2 Inv-loop μ-loop
@@ -86,7 +86,7 @@ same-length-2 c = omega arith
 returns-2 : tie.Need-returns-2 Inv-loop μ-loop
 returns-2 c =
     let l = c .before in
-    sym (l .loop .inv .4 ∙ marking-end (marksOf (l .loop .words)) (l .loop .i) (stop l) (omega arith))
+    sym (l .loop .inv .4 ∙ run-ends (marksOf (l .loop .words)) (l .loop .i) (stop l) (omega arith))
 
 pub mark-run-spec : {M : Type 1} → statement M
 mark-run-spec =
@@ -98,8 +98,6 @@ mark-run-spec =
     loop-holds
     in-word-requires
     marks-at-requires
-    sub-mark-cells
-    mark-cells-requires
     same-length
     returns
     set-marks-requires

@@ -1,8 +1,7 @@
 -- `mark_subset` meets its contract: the rows before `at` are marked (proofs/Marking over array's Rows).
 -- Assumes nothing.
 use Prim.Native.Nat.{ℕ, _+_, _-_, _<_, _≤_}
-use mathlib.Core.Path.{_≡_, sym, ap, _∙_}
-use mathlib.Core.Bool.{Bool}
+use mathlib.Core.Path.{_≡_, sym, _∙_}
 use mathlib.Core.List.{List}
 use borrow.Author.Tests.{not-true, not-false}
 use native.Mathlib.Omega.{arith}
@@ -29,13 +28,13 @@ abbrev Head : Type 0
 Head = tie.At-loop Inv-loop μ-loop
 
 abbrev start : Head → tie.Start Inv-loop μ-loop
-start l = l .before .before .before .before .before .before .before
+start l = l .before .before .before .before .before .before
 
 abbrev cells : Head → List ℕ
 cells l = cellsIn (start l .args .shape .now) (pairs (start l .args .starts .now) (start l .args .lens .now))
 
 abbrev total : Head → ℕ
-total l = l .before .before .volume-of .result
+total l = start l .args .cells
 
 abbrev run : Head → ℕ
 run l = getD (start l .args .lens .now) (length (start l .args .lens .now) - 1) 0
@@ -56,37 +55,33 @@ within l h =
     let a = start l in
     omega (
       arith,
-      l .before .before .volume-of .ensures,
+      a .pre .3,
       few-drop 0 (a .args .lens .now) (few-within (a .args .shape .now) (a .args .starts .now) (a .args .lens .now) (a .pre .0) (a .pre .1)),
       left-within (cells l) (total l) (run l) (l .loop .at) (l .loop .inv .0 .geo) h,
     )
 
-volume-of-requires : tie.Need-volume-of-requires Inv-loop μ-loop
-volume-of-requires c κs = let a = c .before .before .before .before in few-within (a .args .shape .now) (a .args .starts .now) (a .args .lens .now) (a .pre .0) (a .pre .1)
-
 sub-last : tie.Need-sub-last Inv-loop μ-loop
-sub-last c = let a = c .before .before .before .before .before in omega (arith, a .pre .1 .as-many-lengths, a .pre .0 .some-sides)
+sub-last c = let a = c .before .before .before .before in omega (arith, a .pre .1 .as-many-lengths, a .pre .0 .some-sides)
 
 mul-n : tie.Need-mul-n Inv-loop μ-loop
 mul-n c = search needs
 
 shared-slice-read-n : tie.Need-shared-slice-read-n Inv-loop μ-loop
-shared-slice-read-n c = let a = c .before .before .before .before .before .before in omega (arith, a .pre .1 .as-many-lengths, a .pre .0 .some-sides)
+shared-slice-read-n c = let a = c .before .before .before .before .before in omega (arith, a .pre .1 .as-many-lengths, a .pre .0 .some-sides)
 
 loop-holds : tie.Need-loop-holds Inv-loop μ-loop
 loop-holds c =
-    let a = c .before .before .before .before .before .before in (
-      marked-begins (cellsIn (a .args .shape .now) (pairs (a .args .starts .now) (a .args .lens .now))) (marksOf (a .args .words .now)) (c .before .volume-of .result) (getD (a .args .lens .now) (length (a .args .lens .now) - 1) 0)
-          (left-begins (a .args .shape .now) (a .args .starts .now) (a .args .lens .now) (c .before .volume-of .result) (a .pre .1) (a .pre .0 .some-sides) (c .before .volume-of .ensures)),
+    let a = c .before .before .before .before .before in (
+      marked-begins (cellsIn (a .args .shape .now) (pairs (a .args .starts .now) (a .args .lens .now))) (marksOf (a .args .words .now)) (a .args .cells) (getD (a .args .lens .now) (length (a .args .lens .now) - 1) 0)
+          (left-begins (a .args .shape .now) (a .args .starts .now) (a .args .lens .now) (a .args .cells) (a .pre .1) (a .pre .0 .some-sides) (a .pre .3)),
       a .pre .2,
       a .pre .2,
     )
 
 cell-at-requires : tie.Need-cell-at-requires Inv-loop μ-loop
 cell-at-requires c κs =
-    let l = c .before in
-    let a = l .before .before .before .before .before .before .before in
-    (a .pre .0, a .pre .1, omega (arith, l .before .before .volume-of .ensures))
+    let a = start (c .before) in
+    (a .pre .0, a .pre .1, omega (arith, a .pre .3))
 
 mark-run-requires : tie.Need-mark-run-requires Inv-loop μ-loop
 mark-run-requires c κs =
@@ -100,8 +95,8 @@ returns : tie.Need-returns Inv-loop μ-loop
 returns c =
     let l = c .before .before .before .before .before .before .before in
     marked-over (cells l) (marksOf (start l .args .words .now)) (marksOf (l .loop .words)) (total l) (run l) (l .loop .at) (l .loop .inv .0) (omega arith)
-    (c .before .before .before .before .before .cell-at .result) (marksOf (c .before .before .before .mark-run .last .0)) (c .before .before .before .before .before .cell-at .ensures)
-    (ap (λ (b : Bool). (b, marksOf (c .before .before .before .mark-run .last .0))) (sym (not-true (c .before .before .before .mark-run .result) (c .if1 .taken))) ∙ c .before .before .before .mark-run .ensures)
+    (c .before .before .before .before .before .cell-at .result) (c .before .before .before .before .before .cell-at .ensures)
+    (c .before .before .before .mark-run .result) (marksOf (c .before .before .before .mark-run .last .0)) (c .before .before .before .mark-run .ensures) (not-true (c .before .before .before .mark-run .result) (c .if1 .taken))
 
 add-at : tie.Need-add-at Inv-loop μ-loop
 add-at c = omega (arith, within (c .before .before .before .before .before .before .before) (omega arith))
@@ -116,8 +111,8 @@ loop-again : tie.Need-loop-again Inv-loop μ-loop
 loop-again c =
     let l = c .before .before .before .before .before .before .before in (
       marked-more (cells l) (marksOf (start l .args .words .now)) (marksOf (l .loop .words)) (total l) (run l) (l .loop .at) (l .loop .inv .0) (omega arith)
-          (c .before .before .before .before .before .cell-at .result) (marksOf (c .before .before .before .mark-run .last .0)) (c .before .before .before .before .before .cell-at .ensures)
-          (ap (λ (b : Bool). (b, marksOf (c .before .before .before .mark-run .last .0))) (sym (not-false (c .before .before .before .mark-run .result) (c .if1 .left))) ∙ c .before .before .before .mark-run .ensures),
+          (c .before .before .before .before .before .cell-at .result) (c .before .before .before .before .before .cell-at .ensures)
+          (c .before .before .before .mark-run .result) (marksOf (c .before .before .before .mark-run .last .0)) (c .before .before .before .mark-run .ensures) (not-false (c .before .before .before .mark-run .result) (c .if1 .left)),
       l .loop .inv .1,
       c .before .before .before .mark-run .kept .0 ∙ l .loop .inv .2,
     )
@@ -136,7 +131,6 @@ mark-subset-spec =
     (tie.spec
     Inv-loop
     μ-loop
-    volume-of-requires
     sub-last
     mul-n
     shared-slice-read-n

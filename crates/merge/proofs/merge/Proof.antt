@@ -1,4 +1,4 @@
--- `merge` meets its contract: it is its two steps (proofs/Steps).
+-- `merge` meets its contract: it is its steps (proofs/Steps).
 -- Assumes nothing.
 use mathlib.Core.Path.{_≡_, sym, ap, _∙_}
 use borrow.Author.Needs.{needs}
@@ -9,7 +9,7 @@ use Rattle.array.specs.Meaning.{formOf, kindOf}
 use Rattle.array.specs.Content.{Content}
 use Rattle.array.specs.Outcome.{contentArray, outcomeArray}
 use Rattle.merge.specs.Merge.{Sizes, checkAnswer, toldChecks}
-use Rattle.merge.proofs.Steps.{merge-refused, merge-asked, merge-stored}
+use Rattle.merge.proofs.Steps.{merge-refused, merge-checked, merge-stored}
 use Rattle.merge.proofs.merge.Statement.{statement}
 use Rattle.merge.proofs.merge.Tie as tie
 
@@ -47,11 +47,11 @@ enum-known-e c = search needs
 enum-known-cells : tie.Need-enum-known-cells
 enum-known-cells c = search needs
 
-store-chunks-requires : tie.Need-store-chunks-requires
-store-chunks-requires c κs =
+store-covering-requires : tie.Need-store-covering-requires
+store-covering-requires c κs =
     let k = c .before .before .before in
     let a = start (checked k) in
-    merge-asked (form a) (a .args .kind .depth) (a .args .shape .now) (a .args .subsets .now) (handed a) (lent a) (sizes k) (passed k)
+    merge-checked (form a) (a .args .kind .depth) (a .args .shape .now) (a .args .subsets .now) (handed a) (lent a) (sizes k) (passed k)
 
 returns : tie.Need-returns
 returns c =
@@ -74,7 +74,7 @@ returns-2 c =
     let k = s .before .before .before .before in
     let a = start (checked k) in
     merge-stored (form a) (a .args .kind .depth) (a .args .shape .now) (a .args .subsets .now) (handed a) (lent a) (sizes k) (passed k)
-    (let o = s .store-chunks .last .1 .1 .1 .1 .1 .1 .1 .1 .1 in outcomeArray (s .store-chunks .result) (o .0) (o .1 .0) (o .1 .1 .0)) (s .store-chunks .ensures)
+    (let o = s .store-covering .last .1 .1 .1 .1 .1 .1 .1 .1 .1 in outcomeArray (s .store-covering .result) (o .0) (o .1 .0) (o .1 .1 .0)) (s .store-covering .ensures)
 
 pub merge-spec : {M : Type 1} → statement M
 merge-spec =
@@ -83,7 +83,7 @@ merge-spec =
     check-merge-requires
     enum-known-e
     enum-known-cells
-    store-chunks-requires
+    store-covering-requires
     returns
     same-length
     same-length-2

@@ -33,7 +33,7 @@ abbrev form : tie.Start → Form
 form a = formOf (a .args .kind .values)
 
 few : (a : tie.Start) → a .args .cells ≤ mostCells
-few a = omega (arith, a .pre .counted, a .pre .subsets .shaped .few-cells)
+few a = omega (arith, a .pre .checked .counted, a .pre .checked .subsets .shaped .few-cells)
 
 -- after the tests: the masks and the values fit
 abbrev tested : tie.Else2 → tie.Start
@@ -65,7 +65,7 @@ cast-depth c = search needs
 mul-mask-bytes : tie.Need-mul-mask-bytes
 mul-mask-bytes c =
     let a = start c in
-    omega (arith, small-product (a .args .kind .depth) (a .args .cells) (omega (arith, a .pre .kind .shallow)) (few a))
+    omega (arith, small-product (a .args .kind .depth) (a .args .cells) (omega (arith, a .pre .checked .kind .shallow)) (few a))
 
 returns : tie.Need-returns
 returns c =

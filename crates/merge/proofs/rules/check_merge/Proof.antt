@@ -17,7 +17,7 @@ use Rattle.valid.specs.ShapeCells.{toldCells}
 use Rattle.valid.proofs.ShapeLaws.{Counted, counted, not-counted}
 use Rattle.merge.specs.Chunks.{toldTotal, chunkSum}
 use Rattle.merge.specs.Merge.{Sizes}
-use Rattle.merge.proofs.Passing.{tested-subsets, no-kind, no-shape, no-subsets, bad-chunks, too-many, no-cover, passes}
+use Rattle.merge.proofs.Passing.{tested-subsets, no-kind, no-shape, no-subsets, bad-chunks, too-many, passes}
 use Rattle.merge.proofs.rules.check_merge.Statement.{statement}
 use Rattle.merge.proofs.rules.check_merge.Tie as tie
 
@@ -133,34 +133,16 @@ returns-5 c =
     too-many (kindOf (a .kind)) (a .shape .now) (a .subsets .now) (a .masks) (a .values) (a .offsets .now) (kind-passed (from m)) (shape-counted m .passes) (subsets-passed e)
     (sum t) (summed t) (c .if3 .taken)
 
-covers-requires : tie.Need-covers-requires
-covers-requires c κs =
-    let e = earlier (c .before) in
-    let a = start (from (first e)) .args in
-    tested-subsets (a .shape .now) (a .subsets .now) (shape-counted (first e) .passes) (subsets-passed e)
-
 returns-6 : tie.Need-returns-6
 unfolding mostBytes
 returns-6 c =
-    let v = c .before in
-    let t = v .before .before in
-    let e = earlier t in
-    let m = first e in
-    let a = start (from m) .args in
-    no-cover (kindOf (a .kind)) (a .shape .now) (a .subsets .now) (a .masks) (a .values) (a .offsets .now) (kind-passed (from m)) (shape-counted m .passes) (subsets-passed e)
-    (sum t) (summed t) (v .before .if3 .left) (sym (v .covers .ensures) ∙ not-true (v .covers .result) (c .if4 .taken))
-
-returns-7 : tie.Need-returns-7
-unfolding mostBytes
-returns-7 c =
-    let v = c .before in
-    let t = v .before .before in
+    let t = c .before in
     let e = earlier t in
     let m = first e in
     let a = start (from m) .args in
     ap (λ (n : ℕ). gives (sized n e t)) (shape-counted m .is)
     ∙ passes (kindOf (a .kind)) (a .shape .now) (a .subsets .now) (a .masks) (a .values) (a .offsets .now) (kind-passed (from m)) (shape-counted m .passes) (subsets-passed e)
-    (sum t) (summed t) (v .before .if3 .left) (sym (v .covers .ensures) ∙ not-false (v .covers .result) (c .if4 .left))
+    (sum t) (summed t) (c .if3 .left)
 
 pub check-merge-spec : {M : Type 1} → statement M
 check-merge-spec =
@@ -181,6 +163,4 @@ check-merge-spec =
     enum-told-2
     returns-4
     returns-5
-    covers-requires
-    returns-6
-    returns-7)
+    returns-6)

@@ -62,17 +62,17 @@ add-mid c = omega (arith, seen (c .before) (omega arith))
 add-end : tie.Need-add-end Inv-loop μ-loop
 add-end c = omega (arith, seen (c .before) (omega arith))
 
-mul-volume-of : tie.Need-mul-volume-of Inv-loop μ-loop
-mul-volume-of c = omega (arith, seen (c .before) (omega arith))
+mul-lens : tie.Need-mul-lens Inv-loop μ-loop
+mul-lens c = omega (arith, seen (c .before) (omega arith))
 
-sub-volume-of : tie.Need-sub-volume-of Inv-loop μ-loop
-sub-volume-of c = omega (arith, seen (c .before) (omega arith))
+sub-lens : tie.Need-sub-lens Inv-loop μ-loop
+sub-lens c = omega (arith, seen (c .before) (omega arith))
 
-part-volume-of-start : tie.Need-part-volume-of-start Inv-loop μ-loop
-part-volume-of-start c = omega (arith, seen (c .before) (omega arith))
+part-lens-start : tie.Need-part-lens-start Inv-loop μ-loop
+part-lens-start c = omega (arith, seen (c .before) (omega arith))
 
-part-volume-of-end : tie.Need-part-volume-of-end Inv-loop μ-loop
-part-volume-of-end c = omega (arith, seen (c .before) (omega arith))
+part-lens-end : tie.Need-part-lens-end Inv-loop μ-loop
+part-lens-end c = omega (arith, seen (c .before) (omega arith))
 
 volume-of-requires : tie.Need-volume-of-requires Inv-loop μ-loop
 volume-of-requires c κs =
@@ -100,35 +100,25 @@ part-store-subset-start c = omega (arith, seen (c .before .before .before .befor
 part-store-subset-end : tie.Need-part-store-subset-end Inv-loop μ-loop
 part-store-subset-end c = omega (arith, seen (c .before .before .before .before) (omega arith))
 
-mul-store-subset-2 : tie.Need-mul-store-subset-2 Inv-loop μ-loop
-mul-store-subset-2 c = omega (arith, seen (c .before .before .before .before .before) (omega arith))
-
-sub-store-subset-2 : tie.Need-sub-store-subset-2 Inv-loop μ-loop
-sub-store-subset-2 c = omega (arith, seen (c .before .before .before .before .before) (omega arith))
-
-part-store-subset-start-2 : tie.Need-part-store-subset-start-2 Inv-loop μ-loop
-part-store-subset-start-2 c = omega (arith, seen (c .before .before .before .before .before) (omega arith))
-
-part-store-subset-end-2 : tie.Need-part-store-subset-end-2 Inv-loop μ-loop
-part-store-subset-end-2 c = omega (arith, seen (c .before .before .before .before .before) (omega arith))
-
 store-subset-requires : tie.Need-store-subset-requires Inv-loop μ-loop
 store-subset-requires c κs =
-    let v = c .before .before .before in
+    let v = c .before .before in
     let l = v .before .before .before in
-    let a = start l .args in
-    all-asked (a .shape .now) (a .subsets .now) (a .count) (a .out .now) (a .base) (a .size) (a .src .now) (a .lead) (a .step) (start l .pre) (l .loop .out) (l .loop .i) (l .loop .at) (l .loop .pos) (l .loop .inv) (omega arith)
-    (v .volume-of .result) (v .volume-of .ensures)
+    let a = start l .args in (
+      all-asked (a .shape .now) (a .subsets .now) (a .count) (a .out .now) (a .base) (a .size) (a .src .now) (a .lead) (a .step) (start l .pre) (l .loop .out) (l .loop .i) (l .loop .at) (l .loop .pos) (l .loop .inv) (omega arith)
+          (v .volume-of .result) (v .volume-of .ensures),
+      v .volume-of .ensures,
+    )
 
 mul-pos : tie.Need-mul-pos Inv-loop μ-loop
 mul-pos c =
-    let v = c .before .before .before .before .before .before in
+    let v = c .before .before .before .before .before in
     let r = whole (v .before .before .before) (omega arith) (v .volume-of .result) (v .volume-of .ensures) in
     omega (arith, r)
 
 add-pos : tie.Need-add-pos Inv-loop μ-loop
 add-pos c =
-    let v = c .before .before .before .before .before .before in
+    let v = c .before .before .before .before .before in
     let r = whole (v .before .before .before) (omega arith) (v .volume-of .result) (v .volume-of .ensures) in
     omega (arith, r)
 
@@ -141,7 +131,7 @@ loop-less c = omega arith
 loop-again : tie.Need-loop-again Inv-loop μ-loop
 loop-again c =
     let s = c .before .before in
-    let v = s .before .before .before .before in
+    let v = s .before .before .before in
     let l = v .before .before .before in
     let a = start l .args in
     all-more (a .shape .now) (a .subsets .now) (a .count) (a .out .now) (a .base) (a .size) (a .src .now) (a .lead) (a .step) (start l .pre) (l .loop .out) (l .loop .i) (l .loop .at) (l .loop .pos) (l .loop .inv) (omega arith)
@@ -165,10 +155,10 @@ store-parts-spec =
     loop-holds
     add-mid
     add-end
-    mul-volume-of
-    sub-volume-of
-    part-volume-of-start
-    part-volume-of-end
+    mul-lens
+    sub-lens
+    part-lens-start
+    part-lens-end
     volume-of-requires
     mul-first
     add-first
@@ -176,10 +166,6 @@ store-parts-spec =
     sub-store-subset
     part-store-subset-start
     part-store-subset-end
-    mul-store-subset-2
-    sub-store-subset-2
-    part-store-subset-start-2
-    part-store-subset-end-2
     store-subset-requires
     mul-pos
     add-pos

@@ -26,68 +26,65 @@ abbrev Head : Type 0
 Head = tie.At-loop Inv-loop μ-loop
 
 abbrev start : Head → tie.Start Inv-loop μ-loop
-start l = l .before .before .before .before .before .before .before .before
+start l = l .before .before .before .before .before .before .before
 
 abbrev cells : Head → List ℕ
 cells l = cellsIn (start l .args .shape .now) (pairs (start l .args .starts .now) (start l .args .lens .now))
 
 abbrev total : Head → ℕ
-total l = l .before .before .volume-of .result
+total l = start l .args .cells
 
 abbrev run : Head → ℕ
 run l = getD (start l .args .lens .now) (length (start l .args .lens .now) - 1) 0
 
 within : (l : Head) → l .loop .at < total l → l .loop .at + run l ≤ volume (start l .args .lens .now)
-within l h = omega (arith, l .before .before .volume-of .ensures, left-within (cells l) (total l) (run l) (l .loop .at) (l .loop .inv .geo) h)
+within l h = omega (arith, start l .pre .1, left-within (cells l) (total l) (run l) (l .loop .at) (l .loop .inv .geo) h)
 
 few-cells : (l : Head) → volume (start l .args .lens .now) ≤ 65536
-few-cells l = let a = start l in few-drop 0 (a .args .lens .now) (few-within (a .args .shape .now) (a .args .starts .now) (a .args .lens .now) (a .pre .shaped) (a .pre .fits))
+few-cells l = let a = start l in few-drop 0 (a .args .lens .now) (few-within (a .args .shape .now) (a .args .starts .now) (a .args .lens .now) (a .pre .0 .shaped) (a .pre .0 .fits))
 
 below : (l : Head) → l .loop .at < total l → getD (cells l) (l .loop .at) 0 + run l ≤ volume (start l .args .shape .now)
 below l h =
     let a = start l in
-    left-room (cells l) (total l) (run l) (l .loop .at) (l .loop .inv .geo) h (volume (a .args .shape .now)) (within-below (a .args .shape .now) (a .args .starts .now) (a .args .lens .now) (a .pre .fits))
+    left-room (cells l) (total l) (run l) (l .loop .at) (l .loop .inv .geo) h (volume (a .args .shape .now)) (within-below (a .args .shape .now) (a .args .starts .now) (a .args .lens .now) (a .pre .0 .fits))
 
 -- the run lies in the output, and in what is stored
 room : (l : Head) → l .loop .at < total l → (k : ℕ) → k ≡ getD (cells l) (l .loop .at) 0
     → start l .args .base + k * start l .args .size + run l * start l .args .size ≤ length (start l .args .out .now)
 room l h k e =
     let a = start l in
-    fixed-room (a .args .base) (a .args .size) (volume (a .args .shape .now)) k (run l) (length (a .args .out .now)) (omega (arith, e, below l h)) (a .pre .room)
+    fixed-room (a .args .base) (a .args .size) (volume (a .args .shape .now)) k (run l) (length (a .args .out .now)) (omega (arith, e, below l h)) (a .pre .0 .room)
 
 enough : (l : Head) → l .loop .at < total l
     → start l .args .first + l .loop .at * start l .args .size + run l * start l .args .size ≤ length (start l .args .src .now)
 enough l h =
     let a = start l in
-    fixed-room (a .args .first) (a .args .size) (volume (a .args .lens .now)) (l .loop .at) (run l) (length (a .args .src .now)) (within l h) (a .pre .enough)
-
-volume-of-requires : tie.Need-volume-of-requires Inv-loop μ-loop
-volume-of-requires c κs = let a = c .before .before .before .before .before in few-within (a .args .shape .now) (a .args .starts .now) (a .args .lens .now) (a .pre .shaped) (a .pre .fits)
+    fixed-room (a .args .first) (a .args .size) (volume (a .args .lens .now)) (l .loop .at) (run l) (length (a .args .src .now)) (within l h) (a .pre .0 .enough)
 
 sub-last : tie.Need-sub-last Inv-loop μ-loop
-sub-last c = let a = c .before .before .before .before .before .before in omega (arith, a .pre .fits .as-many-lengths, a .pre .shaped .some-sides)
+sub-last c = let a = c .before .before .before .before .before in omega (arith, a .pre .0 .fits .as-many-lengths, a .pre .0 .shaped .some-sides)
 
 mul-n : tie.Need-mul-n Inv-loop μ-loop
 mul-n c = search needs
 
 shared-slice-read-n : tie.Need-shared-slice-read-n Inv-loop μ-loop
-shared-slice-read-n c = let a = c .before .before .before .before .before .before .before in omega (arith, a .pre .fits .as-many-lengths, a .pre .shaped .some-sides)
+shared-slice-read-n c = let a = c .before .before .before .before .before .before in omega (arith, a .pre .0 .fits .as-many-lengths, a .pre .0 .shaped .some-sides)
 
 loop-holds : tie.Need-loop-holds Inv-loop μ-loop
 loop-holds c =
-    let a = c .before .before .before .before .before .before .before in
+    let a = c .before .before .before .before .before .before in
     let cs : List ℕ = cellsIn (a .args .shape .now) (pairs (a .args .starts .now) (a .args .lens .now)) in
     let n : ℕ = getD (a .args .lens .now) (length (a .args .lens .now) - 1) 0 in
     let off : ℕ → ℕ = fixedAt (a .args .base) (a .args .size) in
     let xs : List ℕ = drop (a .args .first) (a .args .src .now) in
-    subst (λ (k : ℕ). Store (fixedAt (a .args .base) (a .args .size)) cs xs (a .args .out .now) (a .args .out .now) (c .before .volume-of .result) n 0 k) (sym (zero-mul (a .args .size)))
-    (store-begins (fixedAt (a .args .base) (a .args .size)) cs xs (a .args .out .now) (c .before .volume-of .result) n
-    (left-begins (a .args .shape .now) (a .args .starts .now) (a .args .lens .now) (c .before .volume-of .result) (a .pre .fits) (a .pre .shaped .some-sides) (c .before .volume-of .ensures)))
+    subst (λ (k : ℕ). Store (fixedAt (a .args .base) (a .args .size)) cs xs (a .args .out .now) (a .args .out .now) (a .args .cells) n 0 k) (sym (zero-mul (a .args .size)))
+    (store-begins (fixedAt (a .args .base) (a .args .size)) cs xs (a .args .out .now) (a .args .cells) n
+    (left-begins (a .args .shape .now) (a .args .starts .now) (a .args .lens .now) (a .args .cells) (a .pre .0 .fits) (a .pre .0 .shaped .some-sides) (a .pre .1)))
 
 cell-at-requires : tie.Need-cell-at-requires Inv-loop μ-loop
 cell-at-requires c κs =
     let l = c .before in
-    (start l .pre .shaped, start l .pre .fits, omega (arith, l .before .before .volume-of .ensures))
+    (start l .pre .0 .shaped, start l .pre .0 .fits, omega (arith, start l .pre .1))
 
 mul-to : tie.Need-mul-to Inv-loop μ-loop
 mul-to c = let r = room (c .before .before) (omega arith) (c .cell-at .result) (c .cell-at .ensures) in omega (arith, r)
@@ -139,7 +136,6 @@ store-subset-spec =
     (tie.spec
     Inv-loop
     μ-loop
-    volume-of-requires
     sub-last
     mul-n
     shared-slice-read-n

@@ -28,27 +28,27 @@ abbrev Head : Type 0
 Head = tie.At-loop Inv-loop μ-loop
 
 abbrev start : Head → tie.Start Inv-loop μ-loop
-start l = l .before .before .before .before .before .before .before .before
+start l = l .before .before .before .before .before .before .before
 
 abbrev cells : Head → List ℕ
 cells l = cellsIn (start l .args .shape .now) (pairs (start l .args .starts .now) (start l .args .lens .now))
 
 abbrev total : Head → ℕ
-total l = l .before .before .volume-of .result
+total l = start l .args .cells
 
 abbrev run : Head → ℕ
 run l = getD (start l .args .lens .now) (length (start l .args .lens .now) - 1) 0
 
 within : (l : Head) → l .loop .at < total l → l .loop .at + run l ≤ volume (start l .args .lens .now)
-within l h = omega (arith, l .before .before .volume-of .ensures, left-within (cells l) (total l) (run l) (l .loop .at) (l .loop .inv .geo) h)
+within l h = omega (arith, start l .pre .1, left-within (cells l) (total l) (run l) (l .loop .at) (l .loop .inv .geo) h)
 
 few-cells : (l : Head) → volume (start l .args .lens .now) ≤ 65536
-few-cells l = let a = start l in few-drop 0 (a .args .lens .now) (few-within (a .args .shape .now) (a .args .starts .now) (a .args .lens .now) (a .pre .shaped) (a .pre .fits))
+few-cells l = let a = start l in few-drop 0 (a .args .lens .now) (few-within (a .args .shape .now) (a .args .starts .now) (a .args .lens .now) (a .pre .0 .shaped) (a .pre .0 .fits))
 
 below : (l : Head) → l .loop .at < total l → getD (cells l) (l .loop .at) 0 + run l ≤ volume (start l .args .shape .now)
 below l h =
     let a = start l in
-    left-room (cells l) (total l) (run l) (l .loop .at) (l .loop .inv .geo) h (volume (a .args .shape .now)) (within-below (a .args .shape .now) (a .args .starts .now) (a .args .lens .now) (a .pre .fits))
+    left-room (cells l) (total l) (run l) (l .loop .at) (l .loop .inv .geo) h (volume (a .args .shape .now)) (within-below (a .args .shape .now) (a .args .starts .now) (a .args .lens .now) (a .pre .0 .fits))
 
 short : (a : tie.Start Inv-loop μ-loop) → length (a .args .src .now) * 8 < 18446744073709551616
 short a = omega arith
@@ -58,43 +58,40 @@ rising : (l : Head) → l .loop .at < total l → RisesFor (start l .args .src .
 rising l h i k =
     let a = start l in
     let q : a .args .first + (l .loop .at + i) ≡ a .args .first + l .loop .at + i = omega arith in
-    subst (λ (x : ℕ). offsetAt (a .args .src .now) x ≤ offsetAt (a .args .src .now) (suc x)) q (a .pre .rises (l .loop .at + i) (omega (arith, within l h)))
-
-volume-of-requires : tie.Need-volume-of-requires Inv-loop μ-loop
-volume-of-requires c κs = let a = c .before .before .before .before .before in few-within (a .args .shape .now) (a .args .starts .now) (a .args .lens .now) (a .pre .shaped) (a .pre .fits)
+    subst (λ (x : ℕ). offsetAt (a .args .src .now) x ≤ offsetAt (a .args .src .now) (suc x)) q (a .pre .0 .rises (l .loop .at + i) (omega (arith, within l h)))
 
 sub-last : tie.Need-sub-last Inv-loop μ-loop
-sub-last c = let a = c .before .before .before .before .before .before in omega (arith, a .pre .fits .as-many-lengths, a .pre .shaped .some-sides)
+sub-last c = let a = c .before .before .before .before .before in omega (arith, a .pre .0 .fits .as-many-lengths, a .pre .0 .shaped .some-sides)
 
 mul-n : tie.Need-mul-n Inv-loop μ-loop
 mul-n c = search needs
 
 shared-slice-read-n : tie.Need-shared-slice-read-n Inv-loop μ-loop
-shared-slice-read-n c = let a = c .before .before .before .before .before .before .before in omega (arith, a .pre .fits .as-many-lengths, a .pre .shaped .some-sides)
+shared-slice-read-n c = let a = c .before .before .before .before .before .before in omega (arith, a .pre .0 .fits .as-many-lengths, a .pre .0 .shaped .some-sides)
 
 loop-holds : tie.Need-loop-holds Inv-loop μ-loop
 loop-holds c =
-    let a = c .before .before .before .before .before .before .before in
-    store-begins (fixedAt 1 1) (cellsIn (a .args .shape .now) (pairs (a .args .starts .now) (a .args .lens .now))) (drop (a .args .first) (steps (a .args .src .now))) (a .args .out .now) (c .before .volume-of .result)
+    let a = c .before .before .before .before .before .before in
+    store-begins (fixedAt 1 1) (cellsIn (a .args .shape .now) (pairs (a .args .starts .now) (a .args .lens .now))) (drop (a .args .first) (steps (a .args .src .now))) (a .args .out .now) (a .args .cells)
     (getD (a .args .lens .now) (length (a .args .lens .now) - 1) 0)
-    (left-begins (a .args .shape .now) (a .args .starts .now) (a .args .lens .now) (c .before .volume-of .result) (a .pre .fits) (a .pre .shaped .some-sides) (c .before .volume-of .ensures))
+    (left-begins (a .args .shape .now) (a .args .starts .now) (a .args .lens .now) (a .args .cells) (a .pre .0 .fits) (a .pre .0 .shaped .some-sides) (a .pre .1))
 
 cell-at-requires : tie.Need-cell-at-requires Inv-loop μ-loop
 cell-at-requires c κs =
     let l = c .before in
-    (start l .pre .shaped, start l .pre .fits, omega (arith, l .before .before .volume-of .ensures))
+    (start l .pre .0 .shaped, start l .pre .0 .fits, omega (arith, start l .pre .1))
 
 add-i : tie.Need-add-i Inv-loop μ-loop
-add-i c = let l = c .before .before in omega (arith, within l (omega arith), start l .pre .indexed, short (start l))
+add-i c = let l = c .before .before in omega (arith, within l (omega arith), start l .pre .0 .indexed, short (start l))
 
 add-store-steps : tie.Need-add-store-steps Inv-loop μ-loop
-add-store-steps c = let k = c .before in let l = k .before .before in omega (arith, below l (omega arith), k .cell-at .ensures, start l .pre .shaped .few-cells)
+add-store-steps c = let k = c .before in let l = k .before .before in omega (arith, below l (omega arith), k .cell-at .ensures, start l .pre .0 .shaped .few-cells)
 
 store-steps-requires : tie.Need-store-steps-requires Inv-loop μ-loop
 store-steps-requires c κs =
     let k = c .before in
     let l = k .before .before in
-    (omega (arith, l .loop .inv .long, below l (omega arith), k .cell-at .ensures, start l .pre .room), omega (arith, within l (omega arith), start l .pre .indexed), rising l (omega arith))
+    (omega (arith, l .loop .inv .long, below l (omega arith), k .cell-at .ensures, start l .pre .0 .room), omega (arith, within l (omega arith), start l .pre .0 .indexed), rising l (omega arith))
 
 add-at : tie.Need-add-at Inv-loop μ-loop
 add-at c = let l = c .before .before .before .before .before .before in omega (arith, within l (omega arith), few-cells l)
@@ -111,7 +108,7 @@ loop-again c =
     let l = k .before .before in
     let a = start l in
     unit-more 1 (cells l) (steps (a .args .src .now)) (a .args .first) (a .args .out .now) (l .loop .out) (total l) (run l) (l .loop .at) (l .loop .inv) (omega arith) (k .cell-at .result) (k .cell-at .ensures)
-    (omega (arith, below l (omega arith), k .cell-at .ensures, a .pre .room)) (omega (arith, within l (omega arith), a .pre .indexed, length-steps (a .args .src .now)))
+    (omega (arith, below l (omega arith), k .cell-at .ensures, a .pre .0 .room)) (omega (arith, within l (omega arith), a .pre .0 .indexed, length-steps (a .args .src .now)))
     (c .before .before .store-steps .last .0) (c .before .before .store-steps .ensures)
 
 same-length : tie.Need-same-length Inv-loop μ-loop
@@ -129,7 +126,6 @@ store-lengths-spec =
     (tie.spec
     Inv-loop
     μ-loop
-    volume-of-requires
     sub-last
     mul-n
     shared-slice-read-n

@@ -46,17 +46,17 @@ add-mid c = omega (arith, seen (c .before) (omega arith), short (start (c .befor
 add-end : tie.Need-add-end Inv-loop μ-loop
 add-end c = omega (arith, seen (c .before) (omega arith), short (start (c .before)) .1)
 
-mul-volume-of : tie.Need-mul-volume-of Inv-loop μ-loop
-mul-volume-of c = omega (arith, seen (c .before) (omega arith), short (start (c .before)) .1)
+mul-lens : tie.Need-mul-lens Inv-loop μ-loop
+mul-lens c = omega (arith, seen (c .before) (omega arith), short (start (c .before)) .1)
 
-sub-volume-of : tie.Need-sub-volume-of Inv-loop μ-loop
-sub-volume-of c = omega (arith, seen (c .before) (omega arith), short (start (c .before)) .1)
+sub-lens : tie.Need-sub-lens Inv-loop μ-loop
+sub-lens c = omega (arith, seen (c .before) (omega arith), short (start (c .before)) .1)
 
-part-volume-of-start : tie.Need-part-volume-of-start Inv-loop μ-loop
-part-volume-of-start c = omega (arith, seen (c .before) (omega arith), short (start (c .before)) .1)
+part-lens-start : tie.Need-part-lens-start Inv-loop μ-loop
+part-lens-start c = omega (arith, seen (c .before) (omega arith), short (start (c .before)) .1)
 
-part-volume-of-end : tie.Need-part-volume-of-end Inv-loop μ-loop
-part-volume-of-end c = omega (arith, seen (c .before) (omega arith), short (start (c .before)) .1)
+part-lens-end : tie.Need-part-lens-end Inv-loop μ-loop
+part-lens-end c = omega (arith, seen (c .before) (omega arith), short (start (c .before)) .1)
 
 volume-of-requires : tie.Need-volume-of-requires Inv-loop μ-loop
 volume-of-requires c κs =
@@ -77,33 +77,21 @@ part-store-lengths-start c = omega (arith, seen (c .before .before .before .befo
 part-store-lengths-end : tie.Need-part-store-lengths-end Inv-loop μ-loop
 part-store-lengths-end c = omega (arith, seen (c .before .before .before .before) (omega arith), short (start (c .before .before .before .before)) .1)
 
-mul-store-lengths-2 : tie.Need-mul-store-lengths-2 Inv-loop μ-loop
-mul-store-lengths-2 c = omega (arith, seen (c .before .before .before .before .before) (omega arith), short (start (c .before .before .before .before .before)) .1)
-
-sub-store-lengths-2 : tie.Need-sub-store-lengths-2 Inv-loop μ-loop
-sub-store-lengths-2 c = omega (arith, seen (c .before .before .before .before .before) (omega arith), short (start (c .before .before .before .before .before)) .1)
-
-part-store-lengths-start-2 : tie.Need-part-store-lengths-start-2 Inv-loop μ-loop
-part-store-lengths-start-2 c = omega (arith, seen (c .before .before .before .before .before) (omega arith), short (start (c .before .before .before .before .before)) .1)
-
-part-store-lengths-end-2 : tie.Need-part-store-lengths-end-2 Inv-loop μ-loop
-part-store-lengths-end-2 c = omega (arith, seen (c .before .before .before .before .before) (omega arith), short (start (c .before .before .before .before .before)) .1)
-
 store-lengths-requires : tie.Need-store-lengths-requires Inv-loop μ-loop
 store-lengths-requires c κs =
-    let l = c .before .before .before .before .before .before in
+    let l = c .before .before .before .before .before in
     let a = start l in
-    lengths-asked (a .args .shape .now) (a .args .subsets .now) (a .args .count) (a .args .out .now) (a .args .src .now) (a .pre) (l .loop .out) (l .loop .i) (l .loop .at) (l .loop .first) (l .loop .inv) (omega arith)
+    (lengths-asked (a .args .shape .now) (a .args .subsets .now) (a .args .count) (a .args .out .now) (a .args .src .now) (a .pre) (l .loop .out) (l .loop .i) (l .loop .at) (l .loop .first) (l .loop .inv) (omega arith), c .before .before .volume-of .ensures)
 
 add-first : tie.Need-add-first Inv-loop μ-loop
 add-first c =
-    let v = c .before .before .before .before .before .before in
+    let v = c .before .before .before .before .before in
     let l = v .before .before .before in
     omega (arith, indexed l (omega arith) (v .volume-of .result) (v .volume-of .ensures), short (start l) .0)
 
 add-first-2 : tie.Need-add-first-2 Inv-loop μ-loop
 add-first-2 c =
-    let v = c .before .before .before .before .before .before in
+    let v = c .before .before .before .before .before in
     let l = v .before .before .before in
     omega (arith, indexed l (omega arith) (v .volume-of .result) (v .volume-of .ensures), short (start l) .0)
 
@@ -115,7 +103,7 @@ loop-less c = omega arith
 
 loop-again : tie.Need-loop-again Inv-loop μ-loop
 loop-again c =
-    let v = c .before .before .before .before .before .before in
+    let v = c .before .before .before .before .before in
     let l = v .before .before .before in
     let a = start l in
     let s = c .before .before in
@@ -139,19 +127,15 @@ store-lengths-all-spec =
     loop-holds
     add-mid
     add-end
-    mul-volume-of
-    sub-volume-of
-    part-volume-of-start
-    part-volume-of-end
+    mul-lens
+    sub-lens
+    part-lens-start
+    part-lens-end
     volume-of-requires
     mul-store-lengths
     sub-store-lengths
     part-store-lengths-start
     part-store-lengths-end
-    mul-store-lengths-2
-    sub-store-lengths-2
-    part-store-lengths-start-2
-    part-store-lengths-end-2
     store-lengths-requires
     add-first
     add-first-2

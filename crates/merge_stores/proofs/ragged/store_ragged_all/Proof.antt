@@ -51,17 +51,17 @@ add-mid c = omega (arith, seen (c .before) (omega arith), short (start (c .befor
 add-end : tie.Need-add-end Inv-loop μ-loop
 add-end c = omega (arith, seen (c .before) (omega arith), short (start (c .before)) .2)
 
-mul-volume-of : tie.Need-mul-volume-of Inv-loop μ-loop
-mul-volume-of c = omega (arith, seen (c .before) (omega arith), short (start (c .before)) .2)
+mul-lens : tie.Need-mul-lens Inv-loop μ-loop
+mul-lens c = omega (arith, seen (c .before) (omega arith), short (start (c .before)) .2)
 
-sub-volume-of : tie.Need-sub-volume-of Inv-loop μ-loop
-sub-volume-of c = omega (arith, seen (c .before) (omega arith), short (start (c .before)) .2)
+sub-lens : tie.Need-sub-lens Inv-loop μ-loop
+sub-lens c = omega (arith, seen (c .before) (omega arith), short (start (c .before)) .2)
 
-part-volume-of-start : tie.Need-part-volume-of-start Inv-loop μ-loop
-part-volume-of-start c = omega (arith, seen (c .before) (omega arith), short (start (c .before)) .2)
+part-lens-start : tie.Need-part-lens-start Inv-loop μ-loop
+part-lens-start c = omega (arith, seen (c .before) (omega arith), short (start (c .before)) .2)
 
-part-volume-of-end : tie.Need-part-volume-of-end Inv-loop μ-loop
-part-volume-of-end c = omega (arith, seen (c .before) (omega arith), short (start (c .before)) .2)
+part-lens-end : tie.Need-part-lens-end Inv-loop μ-loop
+part-lens-end c = omega (arith, seen (c .before) (omega arith), short (start (c .before)) .2)
 
 volume-of-requires : tie.Need-volume-of-requires Inv-loop μ-loop
 volume-of-requires c κs =
@@ -82,51 +82,39 @@ part-store-ragged-start c = omega (arith, seen (c .before .before .before .befor
 part-store-ragged-end : tie.Need-part-store-ragged-end Inv-loop μ-loop
 part-store-ragged-end c = omega (arith, seen (c .before .before .before .before) (omega arith), short (start (c .before .before .before .before)) .2)
 
-mul-store-ragged-2 : tie.Need-mul-store-ragged-2 Inv-loop μ-loop
-mul-store-ragged-2 c = omega (arith, seen (c .before .before .before .before .before) (omega arith), short (start (c .before .before .before .before .before)) .2)
-
-sub-store-ragged-2 : tie.Need-sub-store-ragged-2 Inv-loop μ-loop
-sub-store-ragged-2 c = omega (arith, seen (c .before .before .before .before .before) (omega arith), short (start (c .before .before .before .before .before)) .2)
-
-part-store-ragged-start-2 : tie.Need-part-store-ragged-start-2 Inv-loop μ-loop
-part-store-ragged-start-2 c = omega (arith, seen (c .before .before .before .before .before) (omega arith), short (start (c .before .before .before .before .before)) .2)
-
-part-store-ragged-end-2 : tie.Need-part-store-ragged-end-2 Inv-loop μ-loop
-part-store-ragged-end-2 c = omega (arith, seen (c .before .before .before .before .before) (omega arith), short (start (c .before .before .before .before .before)) .2)
-
 store-ragged-requires : tie.Need-store-ragged-requires Inv-loop μ-loop
 store-ragged-requires c κs =
-    let l = c .before .before .before .before .before .before in
+    let l = c .before .before .before .before .before in
     let a = start l in
-    ragged-asked (a .args .shape .now) (a .args .subsets .now) (a .args .count) (a .args .out .now) (a .args .begins .now) (a .args .values .now) (a .args .src .now) (a .pre) (l .loop .out) (l .loop .i) (l .loop .at) (l .loop .base) (l .loop .first) (l .loop .inv) (omega arith)
+    (ragged-asked (a .args .shape .now) (a .args .subsets .now) (a .args .count) (a .args .out .now) (a .args .begins .now) (a .args .values .now) (a .args .src .now) (a .pre) (l .loop .out) (l .loop .i) (l .loop .at) (l .loop .base) (l .loop .first) (l .loop .inv) (omega arith), c .before .before .volume-of .ensures)
 
 add-last : tie.Need-add-last Inv-loop μ-loop
 add-last c =
-    let v = c .before .before .before .before .before .before in
+    let v = c .before .before .before .before .before in
     let l = v .before .before .before in
     omega (arith, indexed l (omega arith) (v .volume-of .result) (v .volume-of .ensures), short (start l) .0)
 
 mul-base : tie.Need-mul-base Inv-loop μ-loop
 mul-base c =
-    let v = c .before .before .before .before .before .before in
+    let v = c .before .before .before .before .before in
     let l = v .before .before .before in
     omega (arith, indexed l (omega arith) (v .volume-of .result) (v .volume-of .ensures), short (start l) .0)
 
 shared-slice-read-base : tie.Need-shared-slice-read-base Inv-loop μ-loop
 shared-slice-read-base c =
-    let v = c .before .before .before .before .before .before .before in
+    let v = c .before .before .before .before .before .before in
     let l = v .before .before .before in
     omega (arith, indexed l (omega arith) (v .volume-of .result) (v .volume-of .ensures), short (start l) .0)
 
 add-base : tie.Need-add-base Inv-loop μ-loop
 add-base c =
-    let v = c .before .before .before .before .before .before .before in
+    let v = c .before .before .before .before .before .before in
     let l = v .before .before .before in
     omega (arith, enough l (omega arith) (v .volume-of .result) (v .volume-of .ensures), short (start l) .1)
 
 add-first : tie.Need-add-first Inv-loop μ-loop
 add-first c =
-    let v = c .before .before .before .before .before .before .before in
+    let v = c .before .before .before .before .before .before in
     let l = v .before .before .before in
     omega (arith, indexed l (omega arith) (v .volume-of .result) (v .volume-of .ensures), short (start l) .0)
 
@@ -138,7 +126,7 @@ loop-less c = omega arith
 
 loop-again : tie.Need-loop-again Inv-loop μ-loop
 loop-again c =
-    let v = c .before .before .before .before .before .before .before in
+    let v = c .before .before .before .before .before .before in
     let l = v .before .before .before in
     let a = start l in
     let s = c .before .before .before in
@@ -162,19 +150,15 @@ store-ragged-all-spec =
     loop-holds
     add-mid
     add-end
-    mul-volume-of
-    sub-volume-of
-    part-volume-of-start
-    part-volume-of-end
+    mul-lens
+    sub-lens
+    part-lens-start
+    part-lens-end
     volume-of-requires
     mul-store-ragged
     sub-store-ragged
     part-store-ragged-start
     part-store-ragged-end
-    mul-store-ragged-2
-    sub-store-ragged-2
-    part-store-ragged-start-2
-    part-store-ragged-end-2
     store-ragged-requires
     add-last
     mul-base
