@@ -1,3 +1,4 @@
 pub mod Stored
 pub mod Rows
+pub mod Counting
 pub mod Outcomes

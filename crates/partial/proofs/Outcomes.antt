@@ -1,6 +1,6 @@
 -- What the call answers: each refusal in its order, and success.
 -- Assumes nothing.
-use mathlib.Core.Path.{_≡_, refl, sym, ap, _∙_}
+use mathlib.Core.Path.{_≡_, refl, sym, ap, ap₂, _∙_}
 use mathlib.Core.Bool.{Bool, true, false}
 use Prim.Native.Nat.{ℕ, _≤_, _<_}
 use native.Mathlib.Omega.{arith}
@@ -13,49 +13,57 @@ use Rattle.array.specs.Shape.{volume, shapeTest}
 use Rattle.array.specs.Subset.{subsetOf, numbersTest, cellsIn}
 use Rattle.array.specs.Cells.{Value}
 use Rattle.array.specs.Offsets.{offsetsOf}
-use Rattle.array.specs.Content.{RaggedContent}
+use Rattle.array.specs.Content.{RaggedContent, sizeTest}
 use Rattle.array.specs.Buffers.{RaggedLengths, raggedLengthsOf, RaggedEnough, raggedEnoughTest, over, raggedOutcome}
 use Rattle.array.specs.Outcome.{contentRagged}
 use Rattle.array.proofs.Rules.{ragged-enough-test, ragged-enough-ok, numbers-ok}
 use Rattle.codec.specs.Ragged.{getRagged}
-use Rattle.stored.specs.Index.{spanIn}
-use Rattle.stored.proofs.CheckedIndex.{span-refused}
+use Rattle.codec.specs.Index.{indexIn, limited}
+use Rattle.codec.proofs.IndexLaws.{index-limited}
+use Rattle.codec.proofs.CheckedIndex.{span-refused}
 use Rattle.chunks.specs.Calls.{raggedCut, partialAnswer, partiallyDecoded}
 use Rattle.extract.specs.Places.{valuesAt}
 use Rattle.partial.specs.Stored.{storedAt, endToEnd, cutAnswer}
-use Rattle.partial.proofs.Stored.{Read, read-cut}
+use Rattle.partial.proofs.Stored.{readAt, Read, read-cut}
 
 -- nothing is stored
 abbrev pub refused : ℕ → RaggedContent → Outcome RaggedLengths RaggedContent
 refused number old = record { answer = refuses number; buffers = old }
 
--- ---- outputs long enough, or 6
+-- ---- few enough bytes, or 5; then outputs long enough, or 6
 
-module _ (vs : List Value) (old : RaggedContent) where
+module _ (l : ℕ) (vs : List Value) (old : RaggedContent) where
   abbrev put : Outcome RaggedLengths RaggedContent
-  put = raggedOutcome (cutAnswer vs (raggedLengthsOf old)) old
+  put = raggedOutcome (cutAnswer l vs (raggedLengthsOf old)) old
 
-  not-enough : (RaggedEnough (endToEnd vs) (raggedLengthsOf old) → ⊥) → refused 6 old ≡ put
-  not-enough f = go (raggedEnoughTest (endToEnd vs) (raggedLengthsOf old)) refl
-    where
-      go : (b : Bool) → raggedEnoughTest (endToEnd vs) (raggedLengthsOf old) ≡ b → refused 6 old ≡ put
-      go true e = absurd (f (ragged-enough-ok (endToEnd vs) (raggedLengthsOf old) e))
-      go false e = ap (λ (b : Bool). raggedOutcome (unless b 6 (gives (endToEnd vs))) old) (sym e)
+  by-tests : (a b : Bool) → sizeTest l ≡ a → raggedEnoughTest (endToEnd vs) (raggedLengthsOf old) ≡ b → raggedOutcome (unless a 5 (unless b 6 (gives (endToEnd vs)))) old ≡ put
+  by-tests a b ea eb = ap₂ (λ (x y : Bool). raggedOutcome (unless x 5 (unless y 6 (gives (endToEnd vs)))) old) (sym ea) (sym eb)
 
-  pub no-values : (v : ℕ) → length (joined vs) ≡ v → length (old .values) < v → refused 6 old ≡ put
-  no-values v e h = not-enough (λ r. omega (arith, r .for-values))
+  pub too-many : sizeTest l ≡ false → refused 5 old ≡ put
+  too-many ea = by-tests false _ ea refl
 
-  pub no-offsets : (o : ℕ) → length (offsetsOf vs) ≡ o → length (old .offsets) < o → refused 6 old ≡ put
-  no-offsets o e h = not-enough (λ r. omega (arith, r .for-offsets))
+  module _ (ea : sizeTest l ≡ true) where
+    not-enough : (RaggedEnough (endToEnd vs) (raggedLengthsOf old) → ⊥) → refused 6 old ≡ put
+    not-enough f = go (raggedEnoughTest (endToEnd vs) (raggedLengthsOf old)) refl
+      where
+        go : (b : Bool) → raggedEnoughTest (endToEnd vs) (raggedLengthsOf old) ≡ b → refused 6 old ≡ put
+        go true e = absurd (f (ragged-enough-ok (endToEnd vs) (raggedLengthsOf old) e))
+        go false e = by-tests true false ea e
 
-  pub all-put : (v o : ℕ) → length (joined vs) ≡ v → length (offsetsOf vs) ≡ o → v ≤ length (old .values) → o ≤ length (old .offsets)
-      → (values offsets : List ℕ) → values ≡ over (joined vs) (old .values) → offsets ≡ over (offsetsOf vs) (old .offsets)
-      → _≡_ {A = Outcome RaggedLengths RaggedContent} (record { answer = gives (record { values = v; offsets = o }); buffers = contentRagged values offsets }) put
-  all-put v o ev eo hv ho values offsets rv ro =
-      let t : raggedEnoughTest (endToEnd vs) (raggedLengthsOf old) ≡ true =
-      ragged-enough-test (endToEnd vs) (raggedLengthsOf old) (record { for-values = omega arith; for-offsets = omega arith }) in
-      (λ i. record { answer = gives (record { values = sym ev i; offsets = sym eo i }); buffers = contentRagged (rv i) (ro i) })
-      ∙ ap (λ (b : Bool). raggedOutcome (unless b 6 (gives (endToEnd vs))) old) (sym t)
+    pub no-values : (v : ℕ) → length (joined vs) ≡ v → length (old .values) < v → refused 6 old ≡ put
+    no-values v e h = not-enough (λ r. omega (arith, r .for-values))
+
+    pub no-offsets : (o : ℕ) → length (offsetsOf vs) ≡ o → length (old .offsets) < o → refused 6 old ≡ put
+    no-offsets o e h = not-enough (λ r. omega (arith, r .for-offsets))
+
+    pub all-put : (v o : ℕ) → length (joined vs) ≡ v → length (offsetsOf vs) ≡ o → v ≤ length (old .values) → o ≤ length (old .offsets)
+        → (values offsets : List ℕ) → values ≡ over (joined vs) (old .values) → offsets ≡ over (offsetsOf vs) (old .offsets)
+        → _≡_ {A = Outcome RaggedLengths RaggedContent} (record { answer = gives (record { values = v; offsets = o }); buffers = contentRagged values offsets }) put
+    all-put v o ev eo hv ho values offsets rv ro =
+        let t : raggedEnoughTest (endToEnd vs) (raggedLengthsOf old) ≡ true =
+        ragged-enough-test (endToEnd vs) (raggedLengthsOf old) (record { for-values = omega arith; for-offsets = omega arith }) in
+        (λ i. record { answer = gives (record { values = sym ev i; offsets = sym eo i }); buffers = contentRagged (rv i) (ro i) })
+        ∙ by-tests true true ea t
 
 -- ---- the call
 
@@ -77,12 +85,21 @@ module _ (w : ℕ) (p : Place) (shape ns s : List ℕ) (old : RaggedContent) whe
     no-subset eb = sym (answered true false (getRagged w p s (volume shape)) ea eb refl)
 
     module _ (eb : numbersTest shape ns ≡ true) where
-      pub not-read : (e : ℕ) → spanIn (getRagged w p s (volume shape)) ≡ refuses e → refused e old ≡ partiallyDecoded w p shape ns s old
-      not-read e h = sym (answered true true (refuses e) ea eb (span-refused (getRagged w p s (volume shape)) e h))
+      pub not-read : (e : ℕ) → indexIn w p s (volume shape) ≡ refuses e → refused e old ≡ partiallyDecoded w p shape ns s old
+      not-read e h =
+          let r = span-refused (getRagged w p s (volume shape)) e (sym (index-limited w p s (volume shape)) ∙ ap limited h) in
+          sym (answered true true (refuses e) ea eb r)
 
-      pub cut-read : (index source : ℕ) → Read w p s (volume shape) index source
-          → raggedOutcome (cutAnswer (valuesAt (storedAt w s index) (drop source s) (cellsIn shape (subsetOf (length shape) ns))) (raggedLengthsOf old)) old
+      pub cut-read : (index source l : ℕ) → Read w p s (volume shape) index source l
+          → raggedOutcome (cutAnswer l (valuesAt (storedAt w s index) (drop source s) (cellsIn shape (subsetOf (length shape) ns))) (raggedLengthsOf old)) old
           ≡ partiallyDecoded w p shape ns s old
-      cut-read index source r =
-          sym (answered true true (gives _) ea eb (r .gave)
-          ∙ ap (λ (c : RaggedContent). raggedOutcome (unless (raggedEnoughTest c (raggedLengthsOf old)) 6 (gives c)) old) (read-cut w p shape ns s index source r (numbers-ok shape ns eb .fits)))
+      cut-read index source l r =
+          let x : RaggedContent = readAt w s (volume shape) index source in
+          sym (answered true true (unless (sizeTest l) 5 (gives x)) ea eb (r .gave)
+          ∙ ap (λ (a : Answer RaggedContent). raggedOutcome a old) (go (sizeTest l) x)
+          ∙ ap (λ (c : RaggedContent). raggedOutcome (unless (sizeTest l) 5 (unless (raggedEnoughTest c (raggedLengthsOf old)) 6 (gives c))) old)
+          (read-cut w p shape ns s index source l r (numbers-ok shape ns eb .fits)))
+        where
+          go : (b : Bool) (x : RaggedContent) → andThen (unless b 5 (gives x)) cutOr ≡ unless b 5 (cutOr x)
+          go true x = refl
+          go false x = refl

@@ -1,32 +1,28 @@
--- Stored ragged values that were checked: the offsets, read where they are stored, are those that the reader gives, and the cut of what
+-- Stored ragged values whose index was found: the offsets, read where they are stored, are those that the reader gives, and the cut of what
 -- the reader gives has the values between them.
 -- Assumes nothing.
 use mathlib.Core.Path.{_≡_, refl, sym, ap, ap₂, _∙_, subst}
-use mathlib.Core.Bool.{Bool, true, false}
 use Prim.Native.Nat.{ℕ, zero, suc, _+_, _-_, _*_, _≤_, _<_}
 use native.Mathlib.Nat.{zero-mul, suc-mul, zero-add, sub-zero, mul-le-mul-right}
 use native.Mathlib.Omega.{arith}
 use mathlib.Core.List.{List, [], _∷_}
 use lib.ListN.{length, take, drop, getD, length-drop, length-map}
 use lib.Seq.{drop-drop, length-take-le}
-use lib.Dec.{leb, eqb}
-use Rattle.array.specs.Answer.{Answer, gives, unless}
-use Rattle.array.specs.Limits.{mostBytes}
+use Rattle.array.specs.Answer.{gives, unless}
 use Rattle.array.specs.Lists.{pieces, All}
 use Rattle.array.specs.Bytes.{unle}
 use Rattle.array.specs.Kind.{Place, ragged}
 use Rattle.array.specs.Shape.{volume}
 use Rattle.array.specs.Subset.{SubsetOk, subsetOf, cellsIn}
 use Rattle.array.specs.Cells.{Value}
-use Rattle.array.specs.Offsets.{last, lastFrom, Rising, risingTest}
+use Rattle.array.specs.Offsets.{last, lastFrom, Rising, RisingFrom}
 use Rattle.array.specs.Content.{Content, RaggedContent, unmasked, ValuesOk, sizeTest}
 use Rattle.array.proofs.Lists.{length-pieces, take-within}
-use Rattle.array.proofs.Rules.{rising-ok, size-ok}
-use Rattle.valid.proofs.CheckLaws as check
+use Rattle.array.proofs.CheckLaws as check
 use Rattle.array.proofs.SubsetLaws.{cellsIn-below}
-use Rattle.codec.specs.Ragged.{dataTest, checkRagged, partOf, leftOf, getRagged}
-use Rattle.stored.specs.Index.{offsetsIn, spanIn, indexAt, dataAt}
-use Rattle.stored.proofs.CheckedIndex.{IndexChecked, index-checked}
+use Rattle.codec.specs.Ragged.{getRagged}
+use Rattle.codec.specs.Index.{offsetsIn, indexIn, indexAt, dataAt}
+use Rattle.codec.proofs.CheckedIndex.{IndexFound, index-found}
 use Rattle.chunks.specs.Calls.{raggedCut}
 use Rattle.extract.specs.Places.{offsetAt, Rises, valuesAt}
 use Rattle.extract.proofs.Places.{run-below}
@@ -53,45 +49,14 @@ stored-is w n s index j h =
 pub offset-room : (w n j index l : ℕ) → j ≤ n → index + (w + n * w) ≤ l → index + (w + j * w) ≤ l
 offset-room w n j index l h r = omega (arith, mul-le-mul-right {m = j} {n = n} w h)
 
--- ---- what the reader gives keeps the rules
-
-record Kept (x : RaggedContent) : Type 0 where
-  rising : Rising (x .offsets)
-  small : last (x .offsets) ≤ mostBytes
-
--- a test before what was given did pass
-peel : {A : Type 0} (b : Bool) (k : ℕ) (a : Answer A) (x : A) → unless b k a ≡ gives x → (b ≡ true) × (a ≡ gives x)
-peel true k a x e = (refl, e)
-peel false k a x e = let z : _≡_ {A = ℕ} 0 1 = cc in absurd (omega arith)
-
-check-kept : (os d : List ℕ) (x : RaggedContent) → checkRagged os d ≡ gives x → Kept x
-check-kept os d x e =
-    let a = peel (dataTest (last os) (length d)) 8 _ x e in
-    let b = peel (risingTest os) 10 _ x (a .1) in
-    let c = peel (sizeTest (last os)) 5 _ x (b .1) in
-    let q : os ≡ x .offsets = same _ x (c .1) in
-    record { rising = subst Rising q (rising-ok os (b .0)); small = subst (λ (o : List ℕ). last o ≤ mostBytes) q (size-ok (last os) (c .0)) }
-  where
-    same : (y x : RaggedContent) → gives y ≡ gives x → y .offsets ≡ x .offsets
-    same y x e = let q : y ≡ x = cc in ap (λ (z : RaggedContent). z .offsets) q
-
-ragged-kept : (w : ℕ) (p : Place) (s : List ℕ) (n : ℕ) (x : RaggedContent) → getRagged w p s n ≡ gives x → Kept x
-unfolding getRagged
-ragged-kept w p s n x e =
-    let l : ℕ = unle (partOf p 8 s) in
-    let a = peel (leb 8 (length s)) 7 _ x e in
-    let b = peel (leb l (length (leftOf p 8 s))) 8 _ x (a .1) in
-    let c = peel (eqb l (w * suc n)) 8 _ x (b .1) in
-    check-kept (offsetsIn w (suc n) (partOf p l (leftOf p 8 s))) (leftOf p l (leftOf p 8 s)) x (c .1)
-
--- ---- values that were checked, by where they lie
+-- ---- values whose index was found, by where they lie
 
 abbrev pub readAt : ℕ → List ℕ → ℕ → ℕ → ℕ → RaggedContent
 readAt w s n index source = record { values = take (storedAt w s index n) (drop source s); offsets = offsetsIn w (suc n) (drop index s) }
 
-pub record Read (w : ℕ) (p : Place) (s : List ℕ) (n index source : ℕ) : Type 0 where
+pub record Read (w : ℕ) (p : Place) (s : List ℕ) (n index source l : ℕ) : Type 0 where
   pub stored : DataAsked w s index source n
-  pub gave : getRagged w p s n ≡ gives (readAt w s n index source)
+  pub gave : getRagged w p s n ≡ unless (sizeTest l) 5 (gives (readAt w s n index source))
   pub keeps : ValuesOk (ragged w p) n (unmasked (readAt w s n index source))
 
 module _ (w : ℕ) (p : Place) (s : List ℕ) (n index source : ℕ) where
@@ -104,13 +69,12 @@ module _ (w : ℕ) (p : Place) (s : List ℕ) (n index source : ℕ) where
   last-stored : last os ≡ storedAt w s index n
   last-stored = check.last-at os n many ∙ stored-is w n s index n (omega arith)
 
-  by-places : (l : ℕ) → l ≡ last os → index + (w + n * w) ≤ length s → source + l ≤ length s
-      → getRagged w p s n ≡ gives (record { values = take l (drop source s); offsets = os }) → Read w p s n index source
-  by-places l el hi hs g =
+  by-places : (l : ℕ) → l ≡ last os → index + (w + n * w) ≤ length s → source + l ≤ length s → Rising os
+      → getRagged w p s n ≡ unless (sizeTest l) 5 (gives (record { values = take l (drop source s); offsets = os })) → Read w p s n index source l
+  by-places l el hi hs up g =
       let e : l ≡ storedAt w s index n = el ∙ last-stored in
-      let k : Kept (record { values = take l (drop source s); offsets = os }) = ragged-kept w p s n _ g in
       let ok : ValuesOk (ragged w p) n (unmasked (readAt w s n index source)) =
-      (many, k .rising, last-stored ∙ sym (length-take-le (storedAt w s index n) (drop source s) (omega (arith, length-drop source s)))) in
+      (many, up, last-stored ∙ sym (length-take-le (storedAt w s index n) (drop source s) (omega (arith, length-drop source s)))) in
       record {
         stored = record {
           index-asked = record {
@@ -122,41 +86,43 @@ module _ (w : ℕ) (p : Place) (s : List ℕ) (n index source : ℕ) where
                   stored-is w n s index j (omega arith),
                   stored-is w n s index (suc j) (omega arith),
                 );
-            small = omega (arith, k .small, last-stored);
+            few-bytes = omega arith;
           };
           data-room = omega arith;
         };
-        gave = g ∙ ap (λ (i : ℕ). gives (record { values = take i (drop source s); offsets = os })) e;
+        gave = g ∙ ap (λ (i : ℕ). unless (sizeTest l) 5 (gives (record { values = take i (drop source s); offsets = os }))) e;
         keeps = ok;
       }
 
 -- the check's answer says where they lie
-module _ (w : ℕ) (p : Place) (s : List ℕ) (n f l : ℕ) (h : spanIn (getRagged w p s n) ≡ gives (f, l)) where
+module _ (w : ℕ) (p : Place) (s : List ℕ) (n f l : ℕ) (h : indexIn w p s n ≡ gives (f, l)) where
   abbrev index : ℕ
   index = 0 + indexAt p (length s - 0) (w + n * w)
 
   abbrev source : ℕ
   source = 0 + dataAt p (w + n * w)
 
-  checked : IndexChecked w n s 0 p f l
-  checked = index-checked w n s 0 p f l (omega arith) h
+  found : IndexFound w n s 0 p f l
+  found = index-found w n s 0 p f l (omega arith) h
 
-  read-from : Read w p s n index source
+  read-from : Read w p s n index source l
   read-from =
-      let c = checked in
+      let c = found in
+      let after : drop (index + w) s ≡ drop w (drop index s) = sym (drop-drop w index s) in
       by-places w p s n index source l
-      (c .within .last-is ∙ ap₂ (λ (x : ℕ) (y : List ℕ). lastFrom x (offsetsIn w n y)) (c .first-is) (sym (drop-drop w index s)))
-      (c .within .index-room) (c .within .data-room) (c .gave)
+      (c .within .last-is ∙ ap₂ (λ (x : ℕ) (y : List ℕ). lastFrom x (offsetsIn w n y)) (c .first-is) after)
+      (c .within .index-room) (c .within .data-room)
+      (subst (λ (x : ℕ). RisingFrom x (offsetsIn w n (drop w (drop index s)))) (c .first-is) (subst (λ (y : List ℕ). RisingFrom f (offsetsIn w n y)) after (c .within .rising))) (c .gave)
 
   -- the index fits
   pub read-room : 8 + (w + n * w) ≤ length s
-  read-room = omega (arith, checked .long, checked .fits)
+  read-room = omega (arith, found .long, found .fits)
 
-  pub read-at : (i d : ℕ) → i ≡ indexAt p (length s) (w + n * w) → d ≡ dataAt p (w + n * w) → Read w p s n i d
+  pub read-at : (i d : ℕ) → i ≡ indexAt p (length s) (w + n * w) → d ≡ dataAt p (w + n * w) → Read w p s n i d l
   read-at i d ei ed =
       let qi : index ≡ i = zero-add (indexAt p (length s - 0) (w + n * w)) ∙ ap (λ (k : ℕ). indexAt p k (w + n * w)) (sub-zero (length s)) ∙ sym ei in
       let qd : source ≡ d = zero-add (dataAt p (w + n * w)) ∙ sym ed in
-      subst (λ (x : ℕ). Read w p s n x d) qi (subst (λ (x : ℕ). Read w p s n index x) qd read-from)
+      subst (λ (x : ℕ). Read w p s n x d l) qi (subst (λ (x : ℕ). Read w p s n index x l) qd read-from)
 
 -- ---- the cut
 
@@ -172,10 +138,10 @@ values-same off to n q r e (j ∷ js) a =
     (ap₂ (λ (x y : ℕ). take (x - y) (drop y (take (to n) q))) (e (suc j) (omega arith)) (e j (omega arith)) ∙ take-within (to j) (to (suc j) - to j) (to n) q (omega arith))
     (values-same off to n q r e js (a .1))
 
-pub read-cut : (w : ℕ) (p : Place) (shape ns s : List ℕ) (index source : ℕ) → Read w p s (volume shape) index source → SubsetOk shape (subsetOf (length shape) ns)
+pub read-cut : (w : ℕ) (p : Place) (shape ns s : List ℕ) (index source l : ℕ) → Read w p s (volume shape) index source l → SubsetOk shape (subsetOf (length shape) ns)
     → raggedCut w p shape ns (readAt w s (volume shape) index source)
     ≡ endToEnd (valuesAt (storedAt w s index) (drop source s) (cellsIn shape (subsetOf (length shape) ns)))
-read-cut w p shape ns s index source r ok =
+read-cut w p shape ns s index source l r ok =
     let n : ℕ = volume shape in
     let x : RaggedContent = readAt w s n index source in
     let js : List ℕ = cellsIn shape (subsetOf (length shape) ns) in

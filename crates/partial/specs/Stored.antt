@@ -4,13 +4,13 @@ use Prim.Native.Nat.{ℕ, suc, _+_, _-_, _*_, _^_, _≤_, _<_}
 use mathlib.Core.List.{List}
 use lib.ListN.{length, take, drop}
 use Rattle.array.specs.Answer.{Answer, gives, unless}
-use Rattle.array.specs.Limits.{mostBytes, mostCells}
+use Rattle.array.specs.Limits.{mostCells}
 use Rattle.array.specs.Lists.{joined}
 use Rattle.array.specs.Bytes.{unle}
 use Rattle.array.specs.Shape.{volume}
 use Rattle.array.specs.Cells.{Value}
 use Rattle.array.specs.Offsets.{offsetsOf}
-use Rattle.array.specs.Content.{RaggedContent}
+use Rattle.array.specs.Content.{RaggedContent, sizeTest}
 use Rattle.array.specs.Buffers.{RaggedLengths, raggedEnoughTest}
 use Rattle.extract.specs.Places.{Rises, valuesAt}
 
@@ -18,18 +18,19 @@ use Rattle.extract.specs.Places.{Rises, valuesAt}
 unfoldable pub storedAt : ℕ → List ℕ → ℕ → ℕ → ℕ
 storedAt w s index j = unle (take w (drop (index + j * w) s))
 
--- values end to end from offset 0, and 6 for outputs that are too short for them
+-- values end to end from offset 0
 abbrev pub endToEnd : List Value → RaggedContent
 endToEnd vs = record { values = joined vs; offsets = offsetsOf vs }
 
-abbrev pub cutAnswer : List Value → RaggedLengths → Answer RaggedContent
-cutAnswer vs room = unless (raggedEnoughTest (endToEnd vs) room) 6 (gives (endToEnd vs))
+-- values that are cut: 5 by the last stored offset, whatever they are, and 6 for outputs that are too short for them
+abbrev pub cutAnswer : ℕ → List Value → RaggedLengths → Answer RaggedContent
+cutAnswer last vs room = unless (sizeTest last) 5 (unless (raggedEnoughTest (endToEnd vs) room) 6 (gives (endToEnd vs)))
 
--- an index of n + 1 offsets that never fall
+-- an index of n + 1 offsets that never fall, and of no more bytes than there are
 pub record IndexAsked (w : ℕ) (s : List ℕ) (index n : ℕ) : Type 0 where
   pub room : index + (w + n * w) ≤ length s
   pub rises : Rises (storedAt w s index) n
-  pub small : storedAt w s index n ≤ mostBytes
+  pub few-bytes : storedAt w s index n ≤ length s
 
 -- with the data that it speaks of
 pub record DataAsked (w : ℕ) (s : List ℕ) (index source n : ℕ) : Type 0 where

@@ -157,11 +157,13 @@ fn copy_ragged(
     );
 }
 
-// The cut of stored values that were checked: 6, or the values and offsets of the subset's cells.
+// The cut of stored values whose index was found: 5, 6, or the values and offsets of the subset's cells. 5 goes by the last stored
+// offset, not by what is cut.
 fn cut_stored(
     bytes: &[u8],
     index: usize,
     source: usize,
+    last: u64,
     width: IndexWidth,
     shape: &[u64],
     starts: &[u64],
@@ -171,12 +173,15 @@ fn cut_stored(
 ) -> WrittenRagged
     requires { ⌜ SubsetAsked (now shape) (now starts) (now lens) (volume (now lens)) × DataAsked (widthOf width) (now bytes) index source (volume (now shape)) ⌝ }
     ensures { λ r. ⌜ outcomeRagged r (now (values .exit)) (now (offsets .exit))
-        ≡ raggedOutcome (cutAnswer (valuesAt (storedAt (widthOf width) (now (bytes .entry)) index) (drop source (now (bytes .entry)))
+        ≡ raggedOutcome (cutAnswer last (valuesAt (storedAt (widthOf width) (now (bytes .entry)) index) (drop source (now (bytes .entry)))
         (cellsIn (now (shape .entry)) (pairs (now (starts .entry)) (now (lens .entry))))) (raggedLengthsOf (contentRagged (now (values .entry)) (now (offsets .entry)))))
         (contentRagged (now (values .entry)) (now (offsets .entry))) ⌝ }
 {
     let count = subset::volume_of(lens) as usize;
     let need = count_bytes(bytes, index, width, shape, starts, lens, count);
+    if vlen::too_large(last) {
+        return WrittenRagged::Refused(refusal::SIZE);
+    }
     if values.len() < need {
         return WrittenRagged::Refused(refusal::OUTPUT);
     }
@@ -218,10 +223,10 @@ pub fn partial_decode(
     if !subset::subset_fits(shape, subset) {
         return WrittenRagged::Refused(refusal::SUBSET);
     }
-    let checked = vlen::check_ragged(bytes, 0, cells, width, place);
-    match checked {
+    let found = vlen::find_index(bytes, 0, cells, width, place);
+    match found {
         Indexed::Refused(e) => WrittenRagged::Refused(e),
-        Indexed::Span(_, _) => {
+        Indexed::Span(_, last) => {
             let size = vlen::index_length(cells, width);
             let index = vlen::index_at(place, bytes.len(), size);
             let source = vlen::data_at(place, size);
@@ -230,6 +235,7 @@ pub fn partial_decode(
                 bytes,
                 index,
                 source,
+                last,
                 width,
                 shape,
                 &subset[0..sides],

@@ -15,9 +15,9 @@ use Rattle.array.specs.Kind.{Place, atStart, atEnd}
 use Rattle.array.specs.Offsets.{last, lastFrom, RisingFrom, risingTest}
 use Rattle.array.specs.Content.{RaggedContent, sizeTest}
 use Rattle.array.proofs.Rules.{rising-ok}
 use Rattle.codec.specs.Ragged.{dataTest, dataFor, checkRagged, getRagged}
-use Rattle.stored.specs.Index.{offsetsIn, first, spanOf, spanIn, lengthAt, indexAt, dataAt, IndexWithin}
-use Rattle.stored.proofs.IndexLaws.{ragged-none, ragged-short, ragged-at, checkedAt}
+use Rattle.codec.specs.Index.{offsetsIn, first, spanOf, readBy, indexedBy, indexCheck, indexIn, limited, spanIn, lengthAt, indexAt, dataAt, IndexWithin}
+use Rattle.codec.proofs.IndexLaws.{checkedAt, read-none, read-short, read-at, index-limited}
 
 pub span-refused : (a : Answer RaggedContent) (e : ℕ) → spanIn a ≡ refuses e → a ≡ refuses e
 span-refused (gives x) e h = let z : _≡_ {A = ℕ} 0 1 = cc in absurd (omega arith)
@@ -30,62 +30,81 @@ data-taken (suc o) d h = let e : suc o ≡ length d = eqb-true (suc o) (length d
 
 -- what a check that was passed says
 record Passes (os d : List ℕ) (f l : ℕ) : Type 0 where
-  gave : checkRagged os d ≡ gives (record { values = dataFor (last os) d; offsets = os })
+  gave : checkRagged os d ≡ unless (sizeTest l) 5 (gives (record { values = dataFor l d; offsets = os }))
   first-is : f ≡ first os
   last-is : l ≡ last os
   rising : risingTest os ≡ true
-  fits : dataTest (last os) (length d) ≡ true
+  fits : dataTest l (length d) ≡ true
 
-passes : (os d : List ℕ) (f l : ℕ) → spanIn (checkRagged os d) ≡ gives (f, l) → Passes os d f l
-passes os d f l h = go (dataTest (last os) (length d)) (risingTest os) (sizeTest (last os)) refl refl refl h
+passes : (os d : List ℕ) (f l : ℕ) → indexCheck os d ≡ gives (f, l) → Passes os d f l
+unfolding indexedBy
+passes os d f l h = go (dataTest (last os) (length d)) (risingTest os) refl refl h
   where
-    go : (a b c : Bool) → dataTest (last os) (length d) ≡ a → risingTest os ≡ b → sizeTest (last os) ≡ c
-        → spanIn (unless a 8 (unless b 10 (unless c 5 (gives (record { values = dataFor (last os) d; offsets = os }))))) ≡ gives (f, l) → Passes os d f l
-    go true true true ea eb ec q =
+    go : (a b : Bool) → dataTest (last os) (length d) ≡ a → risingTest os ≡ b → unless a 8 (unless b 10 (gives (spanOf os))) ≡ gives (f, l) → Passes os d f l
+    go true true ea eb q =
         let e : (f, l) ≡ spanOf os = cc in
-        record { gave = rw (ea, eb, ec); first-is = ap (λ (x : ℕ × ℕ). x .0) e; last-is = ap (λ (x : ℕ × ℕ). x .1) e; rising = eb; fits = ea }
-    go true true false ea eb ec q = let z : _≡_ {A = ℕ} 0 1 = cc in absurd (omega arith)
-    go true false c ea eb ec q = let z : _≡_ {A = ℕ} 0 1 = cc in absurd (omega arith)
-    go false b c ea eb ec q = let z : _≡_ {A = ℕ} 0 1 = cc in absurd (omega arith)
+        let el : l ≡ last os = ap (λ (x : ℕ × ℕ). x .1) e in
+        record {
+          gave = rw (ea, eb) (ap (λ (j : ℕ). unless (sizeTest j) 5 (gives (record { values = dataFor j d; offsets = os }))) (sym el));
+          first-is = ap (λ (x : ℕ × ℕ). x .0) e;
+          last-is = el;
+          rising = eb;
+          fits = ap (λ (j : ℕ). dataTest j (length d)) el ∙ ea;
+        }
+    go true false ea eb q = let z : _≡_ {A = ℕ} 0 1 = cc in absurd (omega arith)
+    go false b ea eb q = let z : _≡_ {A = ℕ} 0 1 = cc in absurd (omega arith)
 
 -- ---- by positions
 
 record Fits (w k : ℕ) (q : List ℕ) (p : Place) (f l : ℕ) : Type 0 where
   long : 8 ≤ length q
   index-fits : w + k * w ≤ length q - 8
-  span : spanIn (checkedAt w p q k) ≡ gives (f, l)
-  by-position : getRagged w p q k ≡ checkedAt w p q k
+  span : checkedAt indexCheck w k q p ≡ gives (f, l)
+  by-position : getRagged w p q k ≡ checkedAt checkRagged w k q p
 
-fits-at : (w k : ℕ) (q : List ℕ) (p : Place) (f l : ℕ) → spanIn (getRagged w p q k) ≡ gives (f, l) → Fits w k q p f l
+fits-at : (w k : ℕ) (q : List ℕ) (p : Place) (f l : ℕ) → indexIn w p q k ≡ gives (f, l) → Fits w k q p f l
+unfolding indexIn getRagged
 fits-at w k q p f l h = go (ltb (length q) 8) refl
   where
     fits : 8 ≤ length q → (t : Bool) → ltb (length q - 8) (w + k * w) ≡ t → Fits w k q p f l
     fits g true e =
-        let r : refuses 8 ≡ spanIn (getRagged w p q k) = ragged-short w k q g (ltb-true (length q - 8) (w + k * w) e) p in
+        let r : refuses 8 ≡ readBy indexCheck w p q k = read-short indexCheck w k q g (ltb-true (length q - 8) (w + k * w) e) p in
         let z : _≡_ {A = ℕ} 0 1 = cc in absurd (omega arith)
     fits g false e =
         let m : w + k * w ≤ length q - 8 = ltb-false (length q - 8) (w + k * w) e in
-        let r = ragged-at w k q g m p in
-        by (eqb (unle (take 8 (drop (lengthAt p (length q)) q))) (w + k * w)) r (sym (ap spanIn r) ∙ h) m
+        by (eqb (unle (take 8 (drop (lengthAt p (length q)) q))) (w + k * w)) (read-at checkRagged w k q g m p) (sym (read-at indexCheck w k q g m p) ∙ h) m
       where
-        by : (t : Bool) → getRagged w p q k ≡ unless t 8 (checkedAt w p q k) → spanIn (unless t 8 (checkedAt w p q k)) ≡ gives (f, l) → w + k * w ≤ length q - 8 → Fits w k q p f l
+        by : (t : Bool) → readBy checkRagged w p q k ≡ unless t 8 (checkedAt checkRagged w k q p) → unless t 8 (checkedAt indexCheck w k q p) ≡ gives (f, l) → w + k * w ≤ length q - 8 → Fits w k q p f l
         by true a b m = record { long = g; index-fits = m; span = b; by-position = a }
         by false a b m = let z : _≡_ {A = ℕ} 0 1 = cc in absurd (omega arith)
 
     go : (t : Bool) → ltb (length q) 8 ≡ t → Fits w k q p f l
     go true e =
-        let r : refuses 7 ≡ spanIn (getRagged w p q k) = ragged-none w k q p (ltb-true (length q) 8 e) in
+        let r : refuses 7 ≡ readBy indexCheck w p q k = read-none indexCheck w k q p (ltb-true (length q) 8 e) in
         let z : _≡_ {A = ℕ} 0 1 = cc in absurd (omega arith)
     go false e = fits (ltb-false (length q) 8 e) (ltb (length q - 8) (w + k * w)) refl
 
--- an index of k + 1 offsets that was checked, in the bytes from `at` on
-pub record IndexChecked (w k : ℕ) (s : List ℕ) (at : ℕ) (p : Place) (f l : ℕ) : Type 0 where
+-- values of k cells that are read from the bytes from `at` on, their last offset l
+abbrev pub raggedAt : ℕ → ℕ → List ℕ → ℕ → Place → ℕ → RaggedContent
+raggedAt w k s at p l = record {
+  values = take l (drop (at + dataAt p (w + k * w)) s);
+  offsets = offsetsIn w (suc k) (drop (at + indexAt p (length s - at) (w + k * w)) s);
+}
+
+-- an index of k + 1 offsets that was found there, where the reader's answer is r
+pub record IndexThere (w k : ℕ) (s : List ℕ) (at : ℕ) (p : Place) (f l : ℕ) (r : Answer RaggedContent) : Type 0 where
   pub long : 8 ≤ length s - at
   pub fits : w + k * w ≤ length s - at - 8
   pub within : IndexWithin w s k (at + indexAt p (length s - at) (w + k * w)) (at + dataAt p (w + k * w)) f l
   pub first-is : f ≡ unle (take w (drop (at + indexAt p (length s - at) (w + k * w)) s))
-  pub gave : getRagged w p (drop at s) k
-      ≡ gives (record { values = take l (drop (at + dataAt p (w + k * w)) s); offsets = offsetsIn w (suc k) (drop (at + indexAt p (length s - at) (w + k * w)) s) })
+  pub gave : getRagged w p (drop at s) k ≡ r
+
+-- before the limit, and within it
+abbrev pub IndexFound : ℕ → ℕ → List ℕ → ℕ → Place → ℕ → ℕ → Type 0
+IndexFound w k s at p f l = IndexThere w k s at p f l (unless (sizeTest l) 5 (gives (raggedAt w k s at p l)))
+
+abbrev pub IndexChecked : ℕ → ℕ → List ℕ → ℕ → Place → ℕ → ℕ → Type 0
+IndexChecked w k s at p f l = IndexThere w k s at p f l (gives (raggedAt w k s at p l))
 
 pub index-within : (p : Place) (m i : ℕ) → 8 ≤ m → i ≤ m - 8 → indexAt p m i + i ≤ m
 index-within atStart m i h g = omega arith
@@ -95,8 +114,8 @@ pub data-within : (p : Place) (m i : ℕ) → 8 ≤ m → i ≤ m - 8 → dataAt
 data-within atStart m i h g = omega arith
 data-within atEnd m i h g = omega arith
 
-pub index-checked : (w k : ℕ) (s : List ℕ) (at : ℕ) (p : Place) (f l : ℕ) → at ≤ length s → spanIn (getRagged w p (drop at s) k) ≡ gives (f, l) → IndexChecked w k s at p f l
-index-checked w k s at p f l ha h =
+pub index-found : (w k : ℕ) (s : List ℕ) (at : ℕ) (p : Place) (f l : ℕ) → at ≤ length s → indexIn w p (drop at s) k ≡ gives (f, l) → IndexFound w k s at p f l
+index-found w k s at p f l ha h =
     let q : List ℕ = drop at s in
     let m : ℕ = length s - at in
     let i : ℕ = w + k * w in
@@ -110,8 +129,8 @@ index-checked w k s at p f l ha h =
     let ew : drop w (drop (at + indexAt p m i) s) ≡ drop (at + indexAt p m i + w) s = drop-drop w (at + indexAt p m i) s in
     let ff : f ≡ unle (take w (drop (at + indexAt p m i) s)) = c .first-is ∙ ap (λ (x : List ℕ). unle (take w x)) ed in
     let ld : length d ≡ length q - 8 - i = length-take-le (length q - 8 - i) (drop (dataAt p i) q) (omega (arith, length-drop (dataAt p i) q, data-within p (length q) i (a .long) (a .index-fits))) in
-    let dt = data-taken (last os) d (c .fits) in
-    let ll : l ≤ length q - 8 - i = omega (arith, dt .1, c .last-is, ld) in
+    let dt = data-taken l d (c .fits) in
+    let ll : l ≤ length q - 8 - i = omega (arith, dt .1, ld) in
     let rs : RisingFrom f (offsetsIn w k (drop (at + indexAt p m i + w) s)) =
     subst (λ (x : ℕ). RisingFrom x (offsetsIn w k (drop (at + indexAt p m i + w) s))) (sym ff)
     (subst (λ (x : List ℕ). RisingFrom (unle (take w (drop (at + indexAt p m i) s))) (offsetsIn w k x)) ew
@@ -129,9 +148,23 @@ index-checked w k s at p f l ha h =
       };
       first-is = ff;
       gave = a .by-position ∙ c .gave
-          ∙ ap₂ (λ (x y : List ℕ). gives (record { values = y; offsets = x })) ei
-          (dt .0 ∙ ap (λ (j : ℕ). take j d) (sym (c .last-is)) ∙ take-take l (length q - 8 - i) (drop (dataAt p i) q) ll ∙ ap (take l) (drop-drop (dataAt p i) at s));
+          ∙ ap₂ (λ (x y : List ℕ). unless (sizeTest l) 5 (gives (record { values = y; offsets = x }))) ei
+          (dt .0 ∙ take-take l (length q - 8 - i) (drop (dataAt p i) q) ll ∙ ap (take l) (drop-drop (dataAt p i) at s));
     }
+
+-- what was not limited was found, and has few enough bytes
+within-limit : (a : Answer (ℕ × ℕ)) (f l : ℕ) → limited a ≡ gives (f, l) → (a ≡ gives (f, l)) × (sizeTest l ≡ true)
+within-limit (refuses e) f l h = let z : _≡_ {A = ℕ} 0 1 = cc in absurd (omega arith)
+within-limit (gives x) f l h = go (sizeTest (x .1)) refl h
+  where
+    go : (t : Bool) → sizeTest (x .1) ≡ t → unless t 5 (gives x) ≡ gives (f, l) → (gives x ≡ gives (f, l)) × (sizeTest l ≡ true)
+    go true e q = let same : x ≡ (f, l) = cc in (q, ap (λ (y : ℕ × ℕ). sizeTest (y .1)) (sym same) ∙ e)
+    go false e q = let z : _≡_ {A = ℕ} 0 1 = cc in absurd (omega arith)
+
+pub index-checked : (w k : ℕ) (s : List ℕ) (at : ℕ) (p : Place) (f l : ℕ) → at ≤ length s → spanIn (getRagged w p (drop at s) k) ≡ gives (f, l) → IndexChecked w k s at p f l
+index-checked w k s at p f l ha h =
+    let t = within-limit (indexIn w p (drop at s) k) f l (index-limited w p (drop at s) k ∙ h) in
+    subst (IndexThere w k s at p f l) (ap (λ (b : Bool). unless b 5 (gives (raggedAt w k s at p l))) (t .1)) (index-found w k s at p f l ha (t .0))
 
 -- the same, where the index and the data are at positions that were worked out in another way
 pub record IndexPlaced (w k : ℕ) (s : List ℕ) (at : ℕ) (p : Place) (index from f l : ℕ) : Type 0 where

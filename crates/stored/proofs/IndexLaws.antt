@@ -3,15 +3,15 @@
 -- Assumes nothing.
 use mathlib.Core.Path.{_≡_, refl, sym, ap, ap₂, _∙_}
 use mathlib.Core.List.{List, [], _∷_, map}
-use mathlib.Core.Bool.{Bool, true, false, _&&_}
+use mathlib.Core.Bool.{Bool, true, false, not, _&&_}
 use Prim.Native.Nat.{ℕ, zero, suc, _+_, _-_, _*_, _≤_, _<_}
 use native.Mathlib.Omega.{arith}
 use native.Mathlib.Nat.{suc-mul, zero-mul, mul-comm}
 use native.Mathlib.Numerals.{sub-one}
-use lib.Dec.{leb, eqb}
+use lib.Dec.{leb, ltb, eqb}
 use lib.ListN.{length, take, drop, length-take, length-drop}
 use lib.Seq.{take-nil, drop-drop, take-take, take-all, length-take-le}
-use borrow.Author.Tests.{le-leb, lt-leb, eqb-true, leb-true}
+use borrow.Author.Tests.{le-leb, lt-leb, eqb-true, leb-true, ltb-true, ltb-false}
 use Rattle.array.specs.Answer.{Answer, gives, refuses, unless}
 use Rattle.array.specs.Limits.{mostBytes}
 use Rattle.array.specs.Lists.{pieces}
@@ -22,8 +22,8 @@ use Rattle.array.specs.declared.kind.IndexWidth.the-variants.{Four, Eight}
 use Rattle.array.specs.Meaning.{widthOf}
 use Rattle.array.specs.Offsets.{last, risingTest, risingFromTest}
 use Rattle.array.specs.Content.{RaggedContent, sizeTest}
-use Rattle.codec.specs.Ragged.{dataTest, dataFor, checkRagged, openRagged, getRagged, partOf, leftOf}
-use Rattle.stored.specs.Index.{offsetsIn, first, spanOf, indexedBy, spanIn, lengthAt, indexAt, dataAt}
+use Rattle.codec.specs.Ragged.{dataTest, dataFor, checkRagged, getRagged, partOf, leftOf}
+use Rattle.codec.specs.Index.{offsetsIn, first, spanOf, openBy, readBy, indexedBy, indexCheck, indexIn, limited, spanIn, lengthAt, indexAt, dataAt}
 
 pub width-most : (w : IndexWidth) → widthOf w ≤ 8
 width-most Four = omega arith
@@ -92,6 +92,15 @@ data-some (suc l) k f = refl
 pub data-none : (l k : ℕ) → l ≡ 0 → true ≡ dataTest l k
 data-none l k e = ap (λ (x : ℕ). dataTest x k) (sym e)
 
+-- ---- the limit
+
+pub over-limit : (n : ℕ) → ltb mostBytes n ≡ not (sizeTest n)
+over-limit n = go (ltb mostBytes n) refl
+  where
+    go : (b : Bool) → ltb mostBytes n ≡ b → b ≡ not (sizeTest n)
+    go true e = ap not (sym (lt-leb n mostBytes (ltb-true mostBytes n e)))
+    go false e = ap not (sym (le-leb n mostBytes (ltb-false mostBytes n e)))
+
 -- ---- the answers of the check, by what was found
 
 module _ (os : List ℕ) (k l : ℕ) (el : l ≡ last os) where
@@ -104,14 +113,9 @@ module _ (os : List ℕ) (k l : ℕ) (el : l ≡ last os) where
     unfolding indexedBy
     by-rising e = rw (ap (λ (x : ℕ). dataTest x k) (sym el) ∙ ed, e)
 
-    module _ (er : risingTest os ≡ true) where
-      pub by-size : mostBytes < l → refuses 5 ≡ indexedBy os k
-      unfolding indexedBy
-      by-size h = rw (ap (λ (x : ℕ). dataTest x k) (sym el) ∙ ed, er, ap sizeTest (sym el) ∙ lt-leb l mostBytes h)
-
-      pub by-span : l ≤ mostBytes → (f : ℕ) → f ≡ first os → gives (f, l) ≡ indexedBy os k
-      unfolding indexedBy
-      by-span h f ef = ap₂ (λ (x y : ℕ). gives (x, y)) ef el ∙ rw (ap (λ (x : ℕ). dataTest x k) (sym el) ∙ ed, er, ap sizeTest (sym el) ∙ le-leb l mostBytes h)
+    pub by-span : risingTest os ≡ true → (f : ℕ) → f ≡ first os → gives (f, l) ≡ indexedBy os k
+    unfolding indexedBy
+    by-span er f ef = ap₂ (λ (x y : ℕ). gives (x, y)) ef el ∙ rw (ap (λ (x : ℕ). dataTest x k) (sym el) ∙ ed, er)
 
 -- ---- the reader, by positions
 
@@ -133,102 +137,90 @@ pieces-take w (suc n) q =
     ap (λ (k : ℕ). pieces w (suc n) (take k q)) e
     ∙ ap₂ (λ (a : List ℕ) (r : List (List ℕ)). a ∷ r) (take-take w (w + n * w) q (omega arith)) (ap (pieces w n) (drop-take w (n * w) q) ∙ pieces-take w n (drop w q))
 
--- the offsets and the data of q, taken by their positions
-abbrev pub checkedAt : ℕ → Place → List ℕ → ℕ → Answer RaggedContent
-checkedAt w p q n =
-    checkRagged (offsetsIn w (suc n) (drop (indexAt p (length q) (w + n * w)) q)) (take (length q - 8 - (w + n * w)) (drop (dataAt p (w + n * w)) q))
+-- any check of the offsets and the data of q
+module _ {A : Type 0} (check : List ℕ → List ℕ → Answer A) (w n : ℕ) (q : List ℕ) where
+  -- taken by their positions
+  abbrev pub checkedAt : Place → Answer A
+  checkedAt p =
+      check (offsetsIn w (suc n) (drop (indexAt p (length q) (w + n * w)) q)) (take (length q - 8 - (w + n * w)) (drop (dataAt p (w + n * w)) q))
 
-pub ragged-none : (w n : ℕ) (q : List ℕ) (p : Place) → length q < 8 → refuses 7 ≡ spanIn (getRagged w p q n)
-unfolding getRagged
-ragged-none w n q p h = sym (ap (λ (b : Bool). spanIn (unless b 7 (openRagged w p (unle (partOf p 8 q)) (leftOf p 8 q) n))) (lt-leb 8 (length q) h))
+  pub read-none : (p : Place) → length q < 8 → refuses 7 ≡ readBy check w p q n
+  read-none p h = sym (ap (λ (b : Bool). unless b 7 (openBy check w p (unle (partOf p 8 q)) (leftOf p 8 q) n)) (lt-leb 8 (length q) h))
 
-module _ (w n : ℕ) (q : List ℕ) (h : 8 ≤ length q) where
-  pub ragged-short : length q - 8 < w + n * w → (p : Place) → refuses 8 ≡ spanIn (getRagged w p q n)
-  unfolding getRagged
-  ragged-short f p = sym (ap spanIn (ap (λ (b : Bool). unless b 7 (openRagged w p (unle (partOf p 8 q)) (leftOf p 8 q) n)) (le-leb 8 (length q) h)) ∙ go p)
-    where
-      -- an index that does not fit is refused, whatever its length says
-      no : (l k : ℕ) (a : Answer RaggedContent) → k < w + n * w → spanIn (unless (leb l k) 8 (unless (eqb l (w * suc n)) 8 a)) ≡ refuses 8
-      no l k a f = by (leb l k) (eqb l (w * suc n)) refl refl
+  module _ (h : 8 ≤ length q) where
+    opens : (p : Place) → readBy check w p q n ≡ openBy check w p (unle (partOf p 8 q)) (leftOf p 8 q) n
+    opens p = ap (λ (b : Bool). unless b 7 (openBy check w p (unle (partOf p 8 q)) (leftOf p 8 q) n)) (le-leb 8 (length q) h)
+
+    left-long : (p : Place) → length (leftOf p 8 q) ≡ length q - 8
+    left-long atStart = length-drop 8 q
+    left-long atEnd = length-take-le (length q - 8) q (omega arith)
+
+    pub read-short : length q - 8 < w + n * w → (p : Place) → refuses 8 ≡ readBy check w p q n
+    read-short f p = sym (opens p ∙ no (unle (partOf p 8 q)) (length (leftOf p 8 q)) _ (omega (arith, left-long p)))
+      where
+        -- an index that does not fit is refused, whatever its length says
+        no : (l k : ℕ) (a : Answer A) → k < w + n * w → unless (leb l k) 8 (unless (eqb l (w * suc n)) 8 a) ≡ refuses 8
+        no l k a f = by (leb l k) (eqb l (w * suc n)) refl refl
+          where
+            by : (b c : Bool) → leb l k ≡ b → eqb l (w * suc n) ≡ c → unless b 8 (unless c 8 a) ≡ refuses 8
+            by false c eb ec = refl
+            by true false eb ec = refl
+            by true true eb ec = absurd (omega (arith, leb-true l k eb, eqb-true l (w * suc n) ec, index-size w n))
+
+    module _ (f : w + n * w ≤ length q - 8) where
+      -- the index length is the index's, or the refusal is 8
+      by-length : (l k : ℕ) (a b : Answer A) → k ≡ length q - 8 → (l ≡ w * suc n → a ≡ b) → unless (leb l k) 8 (unless (eqb l (w * suc n)) 8 a) ≡ unless (eqb l (w + n * w)) 8 b
+      by-length l k a b ek g = go (eqb l (w * suc n)) refl
         where
-          by : (b c : Bool) → leb l k ≡ b → eqb l (w * suc n) ≡ c → spanIn (unless b 8 (unless c 8 a)) ≡ refuses 8
-          by false c eb ec = refl
-          by true false eb ec = refl
-          by true true eb ec = absurd (omega (arith, leb-true l k eb, eqb-true l (w * suc n) ec, index-size w n))
+          same : eqb l (w + n * w) ≡ eqb l (w * suc n)
+          same = ap (eqb l) (sym (index-size w n))
 
-      go : (p : Place) → spanIn (openRagged w p (unle (partOf p 8 q)) (leftOf p 8 q) n) ≡ refuses 8
-      go atStart = no _ (length (drop 8 q)) _ (omega (arith, length-drop 8 q))
-      go atEnd = no _ (length (take (length q - 8) q)) _ (omega (arith, length-take (length q - 8) q))
+          no : (c : Bool) → _≡_ {A = Answer A} (unless c 8 (refuses 8)) (refuses 8)
+          no true = refl
+          no false = refl
 
-  module _ (f : w + n * w ≤ length q - 8) where
-    -- the index length is the index's, or the refusal is 8
-    by-length : (l k : ℕ) (a b : Answer RaggedContent) → k ≡ length q - 8 → (l ≡ w * suc n → a ≡ b) → unless (leb l k) 8 (unless (eqb l (w * suc n)) 8 a) ≡ unless (eqb l (w + n * w)) 8 b
-    by-length l k a b ek g = go (eqb l (w * suc n)) refl
-      where
-        same : eqb l (w + n * w) ≡ eqb l (w * suc n)
-        same = ap (eqb l) (sym (index-size w n))
+          go : (c : Bool) → eqb l (w * suc n) ≡ c → unless (leb l k) 8 (unless (eqb l (w * suc n)) 8 a) ≡ unless (eqb l (w + n * w)) 8 b
+          go true e =
+              let el : l ≡ w * suc n = eqb-true l (w * suc n) e in
+              let lk : l ≤ k = omega (arith, index-size w n) in
+              ap₂ (λ (x y : Bool). unless x 8 (unless y 8 a)) (le-leb l k lk) e ∙ g el ∙ sym (ap (λ (y : Bool). unless y 8 b) (same ∙ e))
+          go false e = ap (λ (y : Bool). unless (leb l k) 8 (unless y 8 a)) e ∙ no (leb l k) ∙ sym (ap (λ (y : Bool). unless y 8 b) (same ∙ e))
 
-        no : (c : Bool) → _≡_ {A = Answer RaggedContent} (unless c 8 (refuses 8)) (refuses 8)
-        no true = refl
-        no false = refl
+      pub read-at : (p : Place) → readBy check w p q n ≡ unless (eqb (unle (take 8 (drop (lengthAt p (length q)) q))) (w + n * w)) 8 (checkedAt p)
+      read-at p = opens p ∙ go p
+        where
+          go : (p : Place) → openBy check w p (unle (partOf p 8 q)) (leftOf p 8 q) n ≡ unless (eqb (unle (take 8 (drop (lengthAt p (length q)) q))) (w + n * w)) 8 (checkedAt p)
+          go atStart =
+              by-length (unle (take 8 q)) (length (drop 8 q)) _ _ (left-long atStart)
+              (λ e.
+              let e1 : unle (take 8 q) ≡ suc n * w = e ∙ mul-comm w (suc n) in
+              let e2 : 8 + unle (take 8 q) ≡ 8 + (w + n * w) = omega (arith, index-size w n) in
+              let a1 : offsetsIn w (suc n) (take (unle (take 8 q)) (drop 8 q)) ≡ offsetsIn w (suc n) (drop 8 q) = ap (λ (k : ℕ). offsetsIn w (suc n) (take k (drop 8 q))) e1 ∙ ap (map unle) (pieces-take w (suc n) (drop 8 q)) in
+              let a2 : drop (unle (take 8 q)) (drop 8 q) ≡ drop (8 + (w + n * w)) q = drop-drop (unle (take 8 q)) 8 q ∙ ap (λ (k : ℕ). drop k q) e2 in
+              let a3 : take (length q - 8 - (w + n * w)) (drop (8 + (w + n * w)) q) ≡ drop (8 + (w + n * w)) q = take-all (length q - 8 - (w + n * w)) (drop (8 + (w + n * w)) q) (omega (arith, length-drop (8 + (w + n * w)) q)) in
+              ap₂ check a1 (a2 ∙ sym a3))
+          go atEnd =
+              let t : List ℕ = take (length q - 8) q in
+              let lt : length t ≡ length q - 8 = left-long atEnd in
+              let b : take 8 (drop (length q - 8) q) ≡ drop (length q - 8) q = take-all 8 (drop (length q - 8) q) (omega (arith, length-drop (length q - 8) q)) in
+              by-length (unle (drop (length q - 8) q)) (length t) _ (checkedAt atEnd) lt
+              (λ e.
+              let x : ℕ = length q - 8 - (w + n * w) in
+              let ex : length t - unle (drop (length q - 8) q) ≡ x = omega (arith, index-size w n) in
+              let ey : length q - 8 ≡ x + suc n * w = omega (arith, suc-mul n w) in
+              let a1 : drop (length t - unle (drop (length q - 8) q)) t ≡ take (suc n * w) (drop x q) = ap₂ (λ (i j : ℕ). drop i (take j q)) ex ey ∙ drop-take x (suc n * w) q in
+              let a2 : offsetsIn w (suc n) (drop (length t - unle (drop (length q - 8) q)) t) ≡ offsetsIn w (suc n) (drop x q) = ap (offsetsIn w (suc n)) a1 ∙ ap (map unle) (pieces-take w (suc n) (drop x q)) in
+              let a3 : take (length t - unle (drop (length q - 8) q)) t ≡ take x q = ap (λ (i : ℕ). take i t) ex ∙ take-take x (length q - 8) q (omega arith) in
+              ap₂ check a2 a3)
+              ∙ ap (λ (m : List ℕ). unless (eqb (unle m) (w + n * w)) 8 (checkedAt atEnd)) (sym b)
 
-        go : (c : Bool) → eqb l (w * suc n) ≡ c → unless (leb l k) 8 (unless (eqb l (w * suc n)) 8 a) ≡ unless (eqb l (w + n * w)) 8 b
-        go true e =
-            let el : l ≡ w * suc n = eqb-true l (w * suc n) e in
-            let lk : l ≤ k = omega (arith, index-size w n) in
-            ap₂ (λ (x y : Bool). unless x 8 (unless y 8 a)) (le-leb l k lk) e ∙ g el ∙ sym (ap (λ (y : Bool). unless y 8 b) (same ∙ e))
-        go false e = ap (λ (y : Bool). unless (leb l k) 8 (unless y 8 a)) e ∙ no (leb l k) ∙ sym (ap (λ (y : Bool). unless y 8 b) (same ∙ e))
+-- ---- the index, found by positions
 
-    pub ragged-at : (p : Place) → getRagged w p q n ≡ unless (eqb (unle (take 8 (drop (lengthAt p (length q)) q))) (w + n * w)) 8 (checkedAt w p q n)
-    unfolding getRagged
-    ragged-at p = ap (λ (b : Bool). unless b 7 (openRagged w p (unle (partOf p 8 q)) (leftOf p 8 q) n)) (le-leb 8 (length q) h) ∙ go p
-      where
-        go : (p : Place) → openRagged w p (unle (partOf p 8 q)) (leftOf p 8 q) n ≡ unless (eqb (unle (take 8 (drop (lengthAt p (length q)) q))) (w + n * w)) 8 (checkedAt w p q n)
-        go atStart =
-            by-length (unle (take 8 q)) (length (drop 8 q)) _ _ (length-drop 8 q)
-            (λ e.
-            let e1 : unle (take 8 q) ≡ suc n * w = e ∙ mul-comm w (suc n) in
-            let e2 : 8 + unle (take 8 q) ≡ 8 + (w + n * w) = omega (arith, index-size w n) in
-            let a1 : offsetsIn w (suc n) (take (unle (take 8 q)) (drop 8 q)) ≡ offsetsIn w (suc n) (drop 8 q) = ap (λ (k : ℕ). offsetsIn w (suc n) (take k (drop 8 q))) e1 ∙ ap (map unle) (pieces-take w (suc n) (drop 8 q)) in
-            let a2 : drop (unle (take 8 q)) (drop 8 q) ≡ drop (8 + (w + n * w)) q = drop-drop (unle (take 8 q)) 8 q ∙ ap (λ (k : ℕ). drop k q) e2 in
-            let a3 : take (length q - 8 - (w + n * w)) (drop (8 + (w + n * w)) q) ≡ drop (8 + (w + n * w)) q = take-all (length q - 8 - (w + n * w)) (drop (8 + (w + n * w)) q) (omega (arith, length-drop (8 + (w + n * w)) q)) in
-            ap₂ checkRagged a1 (a2 ∙ sym a3))
-        go atEnd =
-            let t : List ℕ = take (length q - 8) q in
-            let lt : length t ≡ length q - 8 = length-take-le (length q - 8) q (omega arith) in
-            let b : take 8 (drop (length q - 8) q) ≡ drop (length q - 8) q = take-all 8 (drop (length q - 8) q) (omega (arith, length-drop (length q - 8) q)) in
-            by-length (unle (drop (length q - 8) q)) (length t) _ (checkedAt w atEnd q n) lt
-            (λ e.
-            let x : ℕ = length q - 8 - (w + n * w) in
-            let ex : length t - unle (drop (length q - 8) q) ≡ x = omega (arith, index-size w n) in
-            let ey : length q - 8 ≡ x + suc n * w = omega (arith, suc-mul n w) in
-            let a1 : drop (length t - unle (drop (length q - 8) q)) t ≡ take (suc n * w) (drop x q) = ap₂ (λ (i j : ℕ). drop i (take j q)) ex ey ∙ drop-take x (suc n * w) q in
-            let a2 : offsetsIn w (suc n) (drop (length t - unle (drop (length q - 8) q)) t) ≡ offsetsIn w (suc n) (drop x q) = ap (offsetsIn w (suc n)) a1 ∙ ap (map unle) (pieces-take w (suc n) (drop x q)) in
-            let a3 : take (length t - unle (drop (length q - 8) q)) t ≡ take x q = ap (λ (i : ℕ). take i t) ex ∙ take-take x (length q - 8) q (omega arith) in
-            ap₂ checkRagged a2 a3)
-            ∙ ap (λ (m : List ℕ). unless (eqb (unle m) (w + n * w)) 8 (checkedAt w atEnd q n)) (sym b)
-
--- ---- the check agrees with the reader
-
-indexed-check : (os d : List ℕ) → indexedBy os (length d) ≡ spanIn (checkRagged os d)
-unfolding indexedBy
-indexed-check os d = go (dataTest (last os) (length d)) (risingTest os) (sizeTest (last os))
-  where
-    go : (a b c : Bool) → unless a 8 (unless b 10 (unless c 5 (gives (spanOf os))))
-        ≡ spanIn (unless a 8 (unless b 10 (unless c 5 (gives (record { values = dataFor (last os) d; offsets = os })))))
-    go true true true = refl
-    go true true false = refl
-    go true false c = refl
-    go false b c = refl
-
-span-unless : (b : Bool) (a : Answer RaggedContent) → unless b 8 (spanIn a) ≡ spanIn (unless b 8 a)
-span-unless true a = refl
-span-unless false a = refl
-
-pub ragged-checked : (w n : ℕ) (s : List ℕ) (at : ℕ) → 8 ≤ length s - at → w + n * w ≤ length s - at - 8 → (p : Place) (fa ia k : ℕ)
+pub found-at : (w n : ℕ) (s : List ℕ) (at : ℕ) → 8 ≤ length s - at → w + n * w ≤ length s - at - 8 → (p : Place) (fa ia k : ℕ)
     → fa ≡ at + lengthAt p (length s - at) → ia ≡ at + indexAt p (length s - at) (w + n * w) → k ≡ length s - at - 8 - (w + n * w)
-    → unless (eqb (unle (take 8 (drop fa s))) (w + n * w)) 8 (indexedBy (offsetsIn w (suc n) (drop ia s)) k) ≡ spanIn (getRagged w p (drop at s) n)
-ragged-checked w n s at h f p fa ia k ef ei ek =
+    → unless (eqb (unle (take 8 (drop fa s))) (w + n * w)) 8 (indexedBy (offsetsIn w (suc n) (drop ia s)) k) ≡ indexIn w p (drop at s) n
+unfolding indexIn
+found-at w n s at h f p fa ia k ef ei ek =
     let q : List ℕ = drop at s in
     let lq : length q ≡ length s - at = length-drop at s in
     let i : ℕ = w + n * w in
@@ -236,12 +228,39 @@ ragged-checked w n s at h f p fa ia k ef ei ek =
     let ai : drop ia s ≡ drop (indexAt p (length q) i) q = ap (λ (j : ℕ). drop j s) (ei ∙ ap (λ (l : ℕ). at + indexAt p l i) (sym lq)) ∙ sym (drop-drop (indexAt p (length q) i) at s) in
     let d : List ℕ = take (length q - 8 - i) (drop (dataAt p i) q) in
     let ld : length d ≡ k = length-take-le (length q - 8 - i) (drop (dataAt p i) q) (omega (arith, length-drop (dataAt p i) q, data-room p (length q) i (omega arith))) ∙ ap (λ (l : ℕ). l - 8 - i) lq ∙ sym ek in
-    let os : List ℕ = offsetsIn w (suc n) (drop (indexAt p (length q) i) q) in
     ap₂ (λ (x y : List ℕ). unless (eqb (unle (take 8 x)) i) 8 (indexedBy (offsetsIn w (suc n) y) k)) af ai
-    ∙ ap (λ (z : Answer (ℕ × ℕ)). unless (eqb (unle (take 8 (drop (lengthAt p (length q)) q))) i) 8 z) (ap (indexedBy os) (sym ld) ∙ indexed-check os d)
-    ∙ span-unless (eqb (unle (take 8 (drop (lengthAt p (length q)) q))) i) (checkedAt w p q n)
-    ∙ sym (ap spanIn (ragged-at w n q (omega arith) (omega arith) p))
+    ∙ ap (λ (j : ℕ). unless (eqb (unle (take 8 (drop (lengthAt p (length q)) q))) i) 8 (indexedBy (offsetsIn w (suc n) (drop (indexAt p (length q) i) q)) j)) (sym ld)
+    ∙ sym (read-at indexCheck w n q (omega arith) (omega arith) p)
   where
     data-room : (p : Place) (l i : ℕ) → i ≤ l - 8 → l - 8 - i ≤ l - dataAt p i
     data-room atStart l i h = omega arith
     data-room atEnd l i h = omega arith
+
+-- ---- what the reader gives has the index that was found, and few enough bytes
+
+check-limited : (os d : List ℕ) → limited (indexCheck os d) ≡ spanIn (checkRagged os d)
+unfolding indexedBy
+check-limited os d = go (dataTest (last os) (length d)) (risingTest os) (sizeTest (last os)) refl
+  where
+    go : (a b c : Bool) → sizeTest (last os) ≡ c → limited (unless a 8 (unless b 10 (gives (spanOf os))))
+        ≡ spanIn (unless a 8 (unless b 10 (unless c 5 (gives (record { values = dataFor (last os) d; offsets = os })))))
+    go true true true e = ap (λ (t : Bool). unless t 5 (gives (spanOf os))) e
+    go true true false e = ap (λ (t : Bool). unless t 5 (gives (spanOf os))) e
+    go true false c e = refl
+    go false b c e = refl
+
+pub index-limited : (w : ℕ) (p : Place) (s : List ℕ) (n : ℕ) → limited (indexIn w p s n) ≡ spanIn (getRagged w p s n)
+unfolding indexIn getRagged
+index-limited w p s n =
+    let l : ℕ = unle (partOf p 8 s) in
+    let r : List ℕ = leftOf p 8 s in
+    let os : List ℕ = offsetsIn w (suc n) (partOf p l r) in
+    let d : List ℕ = leftOf p l r in
+    go (indexCheck os d) (checkRagged os d) (leb 8 (length s)) (leb l (length r)) (eqb l (w * suc n)) (check-limited os d)
+  where
+    go : (x : Answer (ℕ × ℕ)) (y : Answer RaggedContent) (a b c : Bool) → limited x ≡ spanIn y
+        → limited (unless a 7 (unless b 8 (unless c 8 x))) ≡ spanIn (unless a 7 (unless b 8 (unless c 8 y)))
+    go x y true true true e = e
+    go x y true true false e = refl
+    go x y true false c e = refl
+    go x y false b c e = refl

@@ -9,6 +9,7 @@ use buffer::field::le_at;
 use buffer::field::read_u64;
 use valid::array_bytes;
 ghost use mathlib.Core.Path.{_≡_};
+ghost use mathlib.Core.Bool.{not};
 ghost use Prim.Native.Nat.{suc, _+_, _*_, _≤_, _<_};
 ghost use lib.Dec.{eqb};
 ghost use lib.ListN.{length, take, drop};
@@ -17,8 +18,9 @@ ghost use Rattle.array.specs.Limits.{mostCells};
 ghost use Rattle.array.specs.Bytes.{unle};
 ghost use Rattle.array.specs.Meaning.{widthOf, placeOf};
 ghost use Rattle.array.specs.Offsets.{risingTest};
+ghost use Rattle.array.specs.Content.{sizeTest};
 ghost use Rattle.codec.specs.Ragged.{dataTest, getRagged};
-ghost use Rattle.stored.specs.Index.{offsetsIn, indexedBy, spanIn, indexAt, dataAt, toldIndex};
+ghost use Rattle.codec.specs.Index.{offsetsIn, indexedBy, indexIn, spanIn, indexAt, dataAt, toldIndex};
 
 // The first and the last offset of an index that passed the check.
 pub enum Indexed {
@@ -88,6 +90,13 @@ pub fn data_fits(last: u64, count: usize) -> bool
     last == count as u64
 }
 
+// Whether stored values have too many bytes, by their last offset.
+pub fn too_large(bytes: u64) -> bool
+    ensures { λ r. ⌜ r ≡ not (sizeTest bytes) ⌝ }
+{
+    bytes > array_bytes::MOST_BYTES as u64
+}
+
 // Checks the index at `at` for n cells, with `count` bytes of data.
 pub fn check_index(s: &[u8], at: usize, n: usize, width: IndexWidth, count: usize) -> Indexed
     requires { ⌜ at + (widthOf width + n * widthOf width) ≤ length (now s) ⌝ }
@@ -100,9 +109,6 @@ pub fn check_index(s: &[u8], at: usize, n: usize, width: IndexWidth, count: usiz
     }
     if !never_falls(s, at, n, width) {
         return Indexed::Refused(refusal::FALLING);
-    }
-    if last > array_bytes::MOST_BYTES as u64 {
-        return Indexed::Refused(refusal::SIZE);
     }
     Indexed::Span(le_at(s, at, width), last)
 }
@@ -129,11 +135,11 @@ pub fn check_placed(
     check_index(s, at, n, width, count)
 }
 
-// Checks the ragged values of n cells that lie from `at` to the end. An index that cannot fit is refused before its length is read:
-// no other answer is possible there.
-pub fn check_ragged(s: &[u8], at: usize, n: usize, width: IndexWidth, place: IndexPlace) -> Indexed
+// Finds the index of the ragged values of n cells that lie from `at` to the end. An index that cannot fit is refused before its length
+// is read: no other answer is possible there.
+pub fn find_index(s: &[u8], at: usize, n: usize, width: IndexWidth, place: IndexPlace) -> Indexed
     requires { ⌜ (n ≤ mostCells) × (at ≤ length (now s)) ⌝ }
-    ensures { λ r. ⌜ toldIndex r ≡ spanIn (getRagged (widthOf width) (placeOf place) (drop at (now (s .entry))) n) ⌝ }
+    ensures { λ r. ⌜ toldIndex r ≡ indexIn (widthOf width) (placeOf place) (drop at (now (s .entry))) n ⌝ }
 {
     let size = s.len() - at;
     if size < 8 {
@@ -148,5 +154,22 @@ pub fn check_ragged(s: &[u8], at: usize, n: usize, width: IndexWidth, place: Ind
     match place {
         IndexPlace::Start => check_placed(s, at, at + 8, n, width, count),
         IndexPlace::End => check_placed(s, at + left, at + count, n, width, count),
+    }
+}
+
+// Checks the ragged values of n cells that lie from `at` to the end: their index, and then how many bytes they have.
+pub fn check_ragged(s: &[u8], at: usize, n: usize, width: IndexWidth, place: IndexPlace) -> Indexed
+    requires { ⌜ (n ≤ mostCells) × (at ≤ length (now s)) ⌝ }
+    ensures { λ r. ⌜ toldIndex r ≡ spanIn (getRagged (widthOf width) (placeOf place) (drop at (now (s .entry))) n) ⌝ }
+{
+    let found = find_index(s, at, n, width, place);
+    match found {
+        Indexed::Refused(e) => Indexed::Refused(e),
+        Indexed::Span(first, last) => {
+            if too_large(last) {
+                return Indexed::Refused(refusal::SIZE);
+            }
+            Indexed::Span(first, last)
+        }
     }
 }

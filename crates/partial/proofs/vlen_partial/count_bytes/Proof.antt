@@ -1,24 +1,26 @@
--- `count_bytes` meets its contract: the rows before `at` are counted (the laws of the loop are extract's).
+-- `count_bytes` meets its contract: the rows before `at` are counted (proofs/Counting).
 -- Assumes nothing.
-use Prim.Native.Nat.{ℕ, _+_, _-_, _≤_}
+use Prim.Native.Nat.{ℕ, _+_, _-_, _≤_, _<_}
 use mathlib.Core.Path.{ap, ap₂, _∙_}
 use mathlib.Core.List.{List}
 use native.Mathlib.Omega.{arith}
 use lib.ListN.{length, getD}
-use Rattle.array.specs.Limits.{mostBytes, mostCells}
+use Rattle.array.specs.Limits.{mostCells}
 use Rattle.array.specs.Shape.{volume}
 use Rattle.array.specs.Subset.{pairs, cellsIn}
 use Rattle.array.specs.Meaning.{widthOf}
 use Rattle.subset.proofs.Rows.{left-some, left-within, left-room}
-use Rattle.extract.proofs.Places.{run-rises, run-below}
-use Rattle.extract.proofs.Walk.{asked-left, asked-below, asked-lengths, asked-few, Summed, summed-begins, summed-more, summed-ends}
+use Rattle.extract.specs.Places.{bytesAt}
+use Rattle.extract.proofs.Places.{run-rises}
+use Rattle.extract.proofs.Walk.{asked-left, asked-below, asked-lengths, asked-few}
 use Rattle.partial.specs.Stored.{storedAt}
 use Rattle.partial.proofs.Stored.{offset-room}
+use Rattle.partial.proofs.Counting.{bytes-most, Counting, counting-begins, counting-ends, counting-more}
 use Rattle.partial.proofs.vlen_partial.count_bytes.Statement.{statement}
 use Rattle.partial.proofs.vlen_partial.count_bytes.Tie as tie
 
 abbrev Inv-loop : tie.InvT-loop
-Inv-loop bytes index width shape starts lens count last n at₀ total₀ at total = Summed (storedAt (widthOf width) bytes index) (cellsIn shape (pairs starts lens)) count n at total
+Inv-loop bytes index width shape starts lens count last n at₀ total₀ at total = Counting (storedAt (widthOf width) bytes index) (cellsIn shape (pairs starts lens)) count n at total
 
 abbrev μ-loop : tie.MeasureT-loop
 μ-loop bytes index width shape starts lens count last n at₀ total₀ at total = count - at
@@ -61,10 +63,6 @@ inside k =
 rises : (k : Known) → off (start k) (k .cell-at .result) ≤ off (start k) (k .cell-at .result + row (start k))
 rises k = let a = start k in run-rises (off a) (full a) (a .pre .1 .rises) (k .cell-at .result) (row a) (inside k)
 
-small : (k : Known) → off (start k) (k .cell-at .result + row (start k)) ≤ 16777216
-unfolding mostBytes
-small k = let a = start k in omega (arith, run-below (off a) (full a) (a .pre .1 .rises) (k .cell-at .result) (row a) (inside k), a .pre .1 .small)
-
 within : (k : Known) → head k .loop .at + row (start k) ≤ start k .args .count
 within k = let a = start k in left-within (cells a) (a .args .count) (row a) (head k .loop .at) (head k .loop .inv .geo) (k .before .loop-test .taken)
 
@@ -78,7 +76,7 @@ shared-slice-read-n : tie.Need-shared-slice-read-n Inv-loop μ-loop
 shared-slice-read-n c = let a = c .before .before .before .before .before in omega (arith, asked-lengths _ _ _ _ (a .pre .0))
 
 loop-holds : tie.Need-loop-holds Inv-loop μ-loop
-loop-holds c = let a = c .before .before .before .before .before in summed-begins (off a) (cells a) (a .args .count) (row a) (asked-left _ _ _ _ (a .pre .0))
+loop-holds c = let a = c .before .before .before .before .before in counting-begins (off a) (cells a) (a .args .count) (row a) (asked-left _ _ _ _ (a .pre .0))
 
 cell-at-requires : tie.Need-cell-at-requires Inv-loop μ-loop
 cell-at-requires c κs =
@@ -103,10 +101,26 @@ offset-at-requires-2 c κs =
 sub-total : tie.Need-sub-total Inv-loop μ-loop
 sub-total c = omega (arith, rises (c .before .before), c .offset-at2 .ensures, c .before .offset-at .ensures)
 
+-- where the row's end is known
+abbrev Ended : Type 0
+Ended = tie.After-offset-at2 Inv-loop μ-loop
+
+counted : (e : Ended) → let k = e .before .before in let a = start k in
+    Counting (off a) (cells a) (a .args .count) (row a) (head k .loop .at + row a) (head k .loop .total + (e .offset-at2 .result - e .before .offset-at .result))
+counted e =
+    let k = e .before .before in
+    let a = start k in
+    let l = head k in
+    counting-more (off a) (cells a) (a .args .count) (row a) (l .loop .at) (l .loop .total) (l .loop .inv) (full a) (a .pre .1 .rises) (asked-below _ _ _ _ (a .pre .0))
+    (k .before .loop-test .taken) (e .offset-at2 .result - e .before .offset-at .result)
+    (ap₂ (λ (x y : ℕ). x - y) (e .offset-at2 .ensures) (e .before .offset-at .ensures) ∙ ap (λ (x : ℕ). off a (x + row a) - off a x) (k .cell-at .ensures))
+
+-- no more than there are bytes
+short : (a : Start) → bytesAt (off a) (cells a) < 18446744073709551616
+short a = omega (arith, bytes-most (off a) (a .args .shape .now) (pairs (a .args .starts .now) (a .args .lens .now)) (a .pre .1 .rises) (a .pre .0 .within .inside), a .pre .1 .few-bytes)
+
 add-total : tie.Need-add-total Inv-loop μ-loop
-add-total c =
-    let k = c .before .before in
-    omega (arith, small k, c .offset-at2 .ensures, head k .loop .inv .small, within k, asked-few _ _ _ _ (start k .pre .0))
+add-total c = omega (arith, counted c .same, short (start (c .before .before)))
 
 add-at : tie.Need-add-at Inv-loop μ-loop
 add-at c = let k = c .before .before in omega (arith, within k, asked-few _ _ _ _ (start k .pre .0))
@@ -118,19 +132,13 @@ loop-less c =
     omega (arith, within k, left-some (cells a) (a .args .count) (row a) (head k .loop .at) (head k .loop .inv .geo) (k .before .loop-test .taken))
 
 loop-again : tie.Need-loop-again Inv-loop μ-loop
-loop-again c =
-    let k = c .before .before in
-    let a = start k in
-    let l = head k in
-    summed-more (off a) (full a) (a .pre .1 .rises) (cells a) (asked-below _ _ _ _ (a .pre .0)) (a .pre .1 .small) (a .args .count) (row a) (l .loop .at) (l .loop .total)
-    (l .loop .inv) (k .before .loop-test .taken) (c .offset-at2 .result - c .before .offset-at .result)
-    (ap₂ (λ (x y : ℕ). x - y) (c .offset-at2 .ensures) (c .before .offset-at .ensures) ∙ ap (λ (x : ℕ). off a (x + row a) - off a x) (k .cell-at .ensures))
+loop-again c = counted c
 
 returns : tie.Need-returns Inv-loop μ-loop
 returns c =
     let l = c .before in
     let a = l .before .before .before .before .before .before in
-    summed-ends (off a) (cells a) (a .args .count) (row a) (l .loop .at) (l .loop .total) (l .loop .inv) (c .loop-test .left)
+    counting-ends (off a) (cells a) (a .args .count) (row a) (l .loop .at) (l .loop .total) (l .loop .inv) (c .loop-test .left)
 
 pub count-bytes-spec : {M : Type 1} → statement M
 count-bytes-spec =

@@ -2,15 +2,17 @@
 -- Assumes nothing.
 use Prim.Native.Nat.{ℕ, _+_}
 use mathlib.Core.Path.{_≡_, sym, _∙_}
+use mathlib.Core.Bool.{true}
 use mathlib.Core.List.{List}
 use native.Mathlib.Omega.{arith}
 use borrow.Author.Needs.{needs}
+use borrow.Author.Tests.{not-true, not-false}
 use lib.ListN.{length, drop}
 use Rattle.array.specs.Lists.{joined}
 use Rattle.array.specs.Subset.{pairs, cellsIn}
 use Rattle.array.specs.Cells.{Value}
 use Rattle.array.specs.Offsets.{offsetsOf}
-use Rattle.array.specs.Content.{RaggedContent}
+use Rattle.array.specs.Content.{RaggedContent, sizeTest}
 use Rattle.array.specs.Meaning.{widthOf}
 use Rattle.array.specs.Outcome.{contentRagged}
 use Rattle.subset.proofs.Index.{few-within}
@@ -19,7 +21,7 @@ use Rattle.extract.specs.Asked.{SubsetAsked}
 use Rattle.extract.proofs.Walk.{asked-few, asked-count}
 use Rattle.partial.specs.Stored.{storedAt}
 use Rattle.partial.proofs.Rows.{need-values, need-offsets}
-use Rattle.partial.proofs.Outcomes.{no-values, no-offsets, all-put}
+use Rattle.partial.proofs.Outcomes.{too-many, no-values, no-offsets, all-put}
 use Rattle.partial.proofs.vlen_partial.cut_stored.Statement.{statement}
 use Rattle.partial.proofs.vlen_partial.cut_stored.Tie as tie
 
@@ -66,26 +68,51 @@ volume-of-requires c κs =
 count-bytes-requires : tie.Need-count-bytes-requires
 count-bytes-requires c κs = (asked c, start c .pre .1 .index-asked)
 
-returns : tie.Need-returns
-returns c = let b = c .before in let v = b .before in no-values (cut v) (outputs v) (b .count-bytes .result) (values-need b) (c .if1 .taken)
+-- the bytes that are stored, against the limit
+abbrev counted : tie.Else1 → tie.After-count-bytes
+counted e = e .before .before
 
-add-numbers : tie.Need-add-numbers
-add-numbers c = let v = c .before .before in omega (arith, asked-few _ _ _ _ (asked v))
+size-passes : (e : tie.Else1) → sizeTest (start (counted e .before) .args .last) ≡ true
+size-passes e =
+    not-false (sizeTest (start (counted e .before) .args .last)) (sym (e .before .too-large .ensures) ∙ e .if1 .left)
+
+too-large-requires : tie.Need-too-large-requires
+too-large-requires c κs = search needs
+
+returns : tie.Need-returns
+returns c =
+    let t = c .before in
+    let v = t .before .before in
+    let l = start v .args .last in
+    too-many l (cut v) (outputs v) (not-true (sizeTest l) (sym (t .too-large .ensures) ∙ c .if1 .taken))
 
 returns-2 : tie.Need-returns-2
-returns-2 c = let v = c .before .before .before in no-offsets (cut v) (outputs v) (v .volume-of .result + 1) (offsets-need v) (c .if2 .taken)
+returns-2 c =
+    let e = c .before in
+    let b = counted e in
+    let v = b .before in
+    no-values (start v .args .last) (cut v) (outputs v) (size-passes e) (b .count-bytes .result) (values-need b) (c .if2 .taken)
+
+add-numbers : tie.Need-add-numbers
+add-numbers c = let v = counted (c .before) .before in omega (arith, asked-few _ _ _ _ (asked v))
+
+returns-3 : tie.Need-returns-3
+returns-3 c =
+    let e = c .before .before in
+    let v = counted e .before in
+    no-offsets (start v .args .last) (cut v) (outputs v) (size-passes e) (v .volume-of .result + 1) (offsets-need v) (c .if3 .taken)
 
 copy-ragged-requires : tie.Need-copy-ragged-requires
 copy-ragged-requires c κs =
     let o = c .before .before in
-    let e = o .before in
-    let b = e .before in
+    let n = o .before in
+    let b = counted (n .before) in
     let v = b .before in (
       asked v,
       record {
         stored = start v .pre .1;
-        room = omega (arith, values-need b, e .if1 .left);
-        room-offsets = omega (arith, asked-count _ _ _ _ (asked v), o .if2 .left);
+        room = omega (arith, values-need b, n .if2 .left);
+        room-offsets = omega (arith, asked-count _ _ _ _ (asked v), o .if3 .left);
       },
     )
 
@@ -95,14 +122,15 @@ same-length c = search needs
 same-length-2 : tie.Need-same-length-2
 same-length-2 c = search needs
 
-returns-3 : tie.Need-returns-3
-returns-3 c =
+returns-4 : tie.Need-returns-4
+returns-4 c =
     let r = c .before .before .before .before in
     let o = r .before .before .before in
-    let e = o .before in
-    let b = e .before in
+    let n = o .before in
+    let e = n .before in
+    let b = counted e in
     let v = b .before in
-    all-put (cut v) (outputs v) (b .count-bytes .result) (v .volume-of .result + 1) (values-need b) (offsets-need v) (e .if1 .left) (o .if2 .left)
+    all-put (start v .args .last) (cut v) (outputs v) (size-passes e) (b .count-bytes .result) (v .volume-of .result + 1) (values-need b) (offsets-need v) (n .if2 .left) (o .if3 .left)
     (r .copy-ragged .last .0) (r .copy-ragged .last .1 .0) (r .copy-ragged .ensures .0) (r .copy-ragged .ensures .1)
 
 pub cut-stored-spec : {M : Type 1} → statement M
@@ -111,10 +139,12 @@ cut-stored-spec =
     (tie.spec
     volume-of-requires
     count-bytes-requires
+    too-large-requires
     returns
-    add-numbers
     returns-2
+    add-numbers
+    returns-3
     copy-ragged-requires
     same-length
     same-length-2
-    returns-3)
+    returns-4)

@@ -21,8 +21,7 @@ use Rattle.array.specs.Outcome.{contentRagged}
 use Rattle.array.proofs.Rules.{numbers-ok}
 use Rattle.valid.proofs.ShapeLaws.{Counted, counted, not-counted}
 use Rattle.array.proofs.SubsetLists.{subset-parts, within-parts}
-use Rattle.codec.specs.Ragged.{getRagged}
-use Rattle.stored.specs.Index.{spanIn, toldIndex, indexAt, dataAt}
+use Rattle.codec.specs.Index.{indexIn, toldIndex, indexAt, dataAt}
 use Rattle.extract.specs.Places.{valuesAt}
 use Rattle.partial.specs.Stored.{storedAt, cutAnswer}
 use Rattle.partial.proofs.Stored.{Read, read-room, read-at}
@@ -72,26 +71,26 @@ fitting : (e : tie.Else1) → NumbersOk (shape (start (told e))) (numbers (start
 fitting e = let s = start (told e) in numbers-ok (shape s) (numbers s) (subset-passes e)
 
 abbrev Checked : Type 0
-Checked = tie.After-check-ragged
+Checked = tie.After-find-index
 
 abbrev begun : Checked → tie.Start
 begun k = start (told (k .before))
 
-checks : (k : Checked) → toldIndex (k .check-ragged .result) ≡ spanIn (getRagged (width (begun k)) (place (begun k)) (bytes (begun k)) (volume (shape (begun k))))
+checks : (k : Checked) → toldIndex (k .find-index .result) ≡ indexIn (width (begun k)) (place (begun k)) (bytes (begun k)) (volume (shape (begun k)))
 checks k =
     let s = begun k in
-    k .check-ragged .ensures ∙ ap (λ (n : ℕ). spanIn (getRagged (width s) (place s) (bytes s) n)) (shaped (told (k .before)) .is)
+    k .find-index .ensures ∙ ap (λ (n : ℕ). indexIn (width s) (place s) (bytes s) n) (shaped (told (k .before)) .is)
 
 -- the index was found
 abbrev Found : Type 0
-Found = tie.After-enum-told2
+Found = tie.After-known-told3
 
 abbrev checked : Found → Checked
-checked f = f .before .before
+checked f = f .before .before .before
 
 span : (f : Found) → let s = begun (checked f) in
-    spanIn (getRagged (width s) (place s) (bytes s) (volume (shape s))) ≡ gives (f .enum-told2 .given .0 .0, f .enum-told2 .given .0 .1 .0)
-span f = sym (checks (checked f)) ∙ ap toldIndex (f .enum-told2 .given .1)
+    indexIn (width s) (place s) (bytes s) (volume (shape s)) ≡ gives (f .before .found2 .given .0 .0, f .before .found2 .given .0 .1 .0)
+span f = sym (checks (checked f)) ∙ ap toldIndex (f .before .found2 .given .1)
 
 -- how long it is, and where it and the data lie
 size : (i : tie.After-index-length) → let s = begun (checked (i .before)) in i .index-length .result ≡ width s + volume (shape s) * width s
@@ -107,7 +106,7 @@ fits i =
     omega (arith, size i, read-room (width s) (place s) (bytes s) (volume (shape s)) _ _ (span f))
 
 read : (d : tie.After-data-at) → let s = begun (checked (d .before .before .before)) in
-    Read (width s) (place s) (bytes s) (volume (shape s)) (d .before .index-at .result) (d .data-at .result)
+    Read (width s) (place s) (bytes s) (volume (shape s)) (d .before .index-at .result) (d .data-at .result) (d .before .before .before .before .found2 .given .0 .1 .0)
 read d =
     let i = d .before .before in
     let f = i .before in
@@ -141,15 +140,15 @@ returns-2 c =
     let s = start m in
     no-subset (width s) (place s) (shape s) (numbers s) (bytes s) (outputs s) (shaped m .passes) (sym (f .subset-fits .ensures) ∙ not-true (f .subset-fits .result) (c .if1 .taken))
 
-check-ragged-requires : tie.Need-check-ragged-requires
+find-index-requires : tie.Need-find-index-requires
 unfolding mostCells
-check-ragged-requires c κs = (shaped (told c) .few, omega arith)
+find-index-requires c κs = (shaped (told c) .few, omega arith)
 
-enum-known-checked : tie.Need-enum-known-checked
-enum-known-checked c = search needs
+enum-known-found : tie.Need-enum-known-found
+enum-known-found c = search needs
 
-enum-told-2 : tie.Need-enum-told-2
-enum-told-2 c = search needs
+enum-known-found-2 : tie.Need-enum-known-found-2
+enum-known-found-2 c = search needs
 
 index-length-requires : tie.Need-index-length-requires
 unfolding mostCells
@@ -194,8 +193,8 @@ returns-3 c =
     let k = c .before .before .before in
     let e = k .before in
     let s = begun k in
-    not-read (width s) (place s) (shape s) (numbers s) (bytes s) (outputs s) (shaped (told e) .passes) (subset-passes e) (c .before .checked .given .0 .0)
-    (sym (checks k) ∙ ap toldIndex (c .before .checked .given .1))
+    not-read (width s) (place s) (shape s) (numbers s) (bytes s) (outputs s) (shaped (told e) .passes) (subset-passes e) (c .before .found .given .0 .0)
+    (sym (checks k) ∙ ap toldIndex (c .before .found .given .1))
 
 same-length : tie.Need-same-length
 same-length c = search needs
@@ -211,10 +210,11 @@ returns-4 c =
     let s = start (told e) in
     let index = d .before .index-at .result in
     let source = d .data-at .result in
+    let last = d .before .before .before .before .found2 .given .0 .1 .0 in
     r .cut-stored .ensures
-    ∙ ap (λ (b : Subset). raggedOutcome (cutAnswer (valuesAt (storedAt (width s) (bytes s) index) (drop source (bytes s)) (cellsIn (shape s) b)) (raggedLengthsOf (outputs s))) (outputs s))
+    ∙ ap (λ (b : Subset). raggedOutcome (cutAnswer last (valuesAt (storedAt (width s) (bytes s) index) (drop source (bytes s)) (cellsIn (shape s) b)) (raggedLengthsOf (outputs s))) (outputs s))
     (subset-parts (length (shape s)) (numbers s))
-    ∙ cut-read (width s) (place s) (shape s) (numbers s) (bytes s) (outputs s) (shaped (told e) .passes) (subset-passes e) index source (read d)
+    ∙ cut-read (width s) (place s) (shape s) (numbers s) (bytes s) (outputs s) (shaped (told e) .passes) (subset-passes e) index source last (read d)
 
 pub partial-decode-spec : {M : Type 1} → statement M
 partial-decode-spec =
@@ -226,9 +226,9 @@ partial-decode-spec =
     returns
     subset-fits-requires
     returns-2
-    check-ragged-requires
-    enum-known-checked
-    enum-told-2
+    find-index-requires
+    enum-known-found
+    enum-known-found-2
     index-length-requires
     index-at-requires
     data-at-requires

@@ -7,15 +7,14 @@ use native.Mathlib.Omega.{arith}
 use lib.ListN.{take, drop}
 use borrow.Author.Tests.{not-true, not-false}
 use borrow.Author.Needs.{needs}
-use Rattle.array.specs.Limits.{mostBytes}
 use Rattle.array.specs.Bytes.{unle}
 use Rattle.array.specs.Meaning.{widthOf}
 use Rattle.array.specs.Offsets.{last, risingTest}
 use Rattle.codec.specs.Ragged.{dataTest}
-use Rattle.stored.specs.Index.{offsetsIn}
-use Rattle.stored.proofs.IndexLaws.{last-at, by-data, by-rising, by-size, by-span}
-use Rattle.stored.proofs.vlen.check_index.Statement.{statement}
-use Rattle.stored.proofs.vlen.check_index.Tie as tie
+use Rattle.codec.specs.Index.{offsetsIn}
+use Rattle.codec.proofs.IndexLaws.{last-at, by-data, by-rising, by-span}
+use Rattle.codec.proofs.vlen.check_index.Statement.{statement}
+use Rattle.codec.proofs.vlen.check_index.Tie as tie
 
 times-is : (c : tie.After-width-bytes) → c .before .before .args .n * c .width-bytes .result ≡ c .before .before .args .n * widthOf (c .before .before .args .width)
 times-is c = ap (λ (x : ℕ). c .before .before .args .n * x) (c .width-bytes .ensures)
@@ -66,20 +65,13 @@ returns-2 c =
     let never-falls = c .before .never-falls in
     by-rising (offsetsIn (widthOf (args .width)) (suc (args .n)) (drop (args .at) (args .s .now))) (args .count) (c .before .before .before .before .le-at .result) (last-is (c .before .before .before .before)) (data-is (c .before .before)) (sym (never-falls .ensures) ∙ not-true (never-falls .result) (c .if2 .taken))
 
-returns-3 : tie.Need-returns-3
-unfolding mostBytes
-returns-3 c =
-    let args = c .before .before .before .before .before .before .before .before .args in
-    by-size (offsetsIn (widthOf (args .width)) (suc (args .n)) (drop (args .at) (args .s .now))) (args .count) (c .before .before .before .before .before .le-at .result) (last-is (c .before .before .before .before .before)) (data-is (c .before .before .before)) (rise-is (c .before)) (c .if3 .taken)
-
 le-at-requires-2 : tie.Need-le-at-requires-2
 le-at-requires-2 c κs = search needs
 
-returns-4 : tie.Need-returns-4
-unfolding mostBytes
-returns-4 c =
-    let args = c .before .before .before .before .before .before .before .before .before .args in
-    by-span (offsetsIn (widthOf (args .width)) (suc (args .n)) (drop (args .at) (args .s .now))) (args .count) (c .before .before .before .before .before .before .le-at .result) (last-is (c .before .before .before .before .before .before)) (data-is (c .before .before .before .before)) (rise-is (c .before .before)) (c .before .if3 .left) (c .le-at2 .result) (c .le-at2 .ensures)
+returns-3 : tie.Need-returns-3
+returns-3 c =
+    let args = c .before .before .before .before .before .before .before .before .args in
+    by-span (offsetsIn (widthOf (args .width)) (suc (args .n)) (drop (args .at) (args .s .now))) (args .count) (c .before .before .before .before .before .le-at .result) (last-is (c .before .before .before .before .before)) (data-is (c .before .before .before)) (rise-is (c .before)) (c .le-at2 .result) (c .le-at2 .ensures)
 
 pub check-index-spec : {M : Type 1} → statement M
 check-index-spec =
@@ -93,6 +85,5 @@ check-index-spec =
     returns
     never-falls-requires
     returns-2
-    returns-3
     le-at-requires-2
-    returns-4)
+    returns-3)

@@ -1,85 +1,78 @@
--- `check_ragged` meets its contract: the positions of index length, index and data, for both places (IndexLaws).
+-- `check_ragged` meets its contract: the index that was found, and then the limit (IndexLaws).
 -- Assumes nothing.
-use mathlib.Core.Path.{sym, ap, _∙_}
-use Prim.Native.Nat.{_+_, _-_}
-use native.Mathlib.Omega.{arith}
-use lib.ListN.{length, drop, length-drop}
+use mathlib.Core.Path.{_≡_, sym, ap, _∙_}
+use mathlib.Core.Bool.{Bool}
+use Prim.Native.Nat.{ℕ}
+use lib.ListN.{drop}
 use borrow.Author.Needs.{needs}
-use Rattle.array.specs.Kind.{Place, atStart, atEnd}
+use borrow.Author.Tests.{not-true, not-false}
+use Rattle.array.specs.Answer.{gives, unless}
+use Rattle.array.specs.Content.{sizeTest}
 use Rattle.array.specs.Meaning.{widthOf, placeOf}
 use Rattle.codec.specs.Ragged.{getRagged}
-use Rattle.stored.specs.Index.{spanIn}
-use Rattle.stored.proofs.IndexLaws.{ragged-none, ragged-short, ragged-checked}
-use Rattle.stored.proofs.vlen.check_ragged.Statement.{statement}
-use Rattle.stored.proofs.vlen.check_ragged.Tie as tie
+use Rattle.codec.specs.Index.{spanIn, limited, toldIndex}
+use Rattle.codec.proofs.IndexLaws.{index-limited}
+use Rattle.codec.proofs.vlen.check_ragged.Statement.{statement}
+use Rattle.codec.proofs.vlen.check_ragged.Tie as tie
 
-sub-size : tie.Need-sub-size
-sub-size c = search needs
+-- the answer is what was found, limited
+answer : (k : tie.After-find-index) → let a = k .before .before .args in
+    limited (toldIndex (k .find-index .result)) ≡ spanIn (getRagged (widthOf (a .width)) (placeOf (a .place)) (drop (a .at) (a .s .now)) (a .n))
+answer k =
+    let a = k .before .before .args in
+    ap limited (k .find-index .ensures) ∙ index-limited (widthOf (a .width)) (placeOf (a .place)) (drop (a .at) (a .s .now)) (a .n)
+
+-- where a span was found
+abbrev Spanned : Type 0
+Spanned = tie.After-known-told2
+
+abbrev found : Spanned → tie.After-find-index
+found m = m .before .before .before
+
+abbrev first : Spanned → ℕ
+first m = m .before .found2 .given .0 .0
+
+abbrev last : Spanned → ℕ
+last m = m .before .found2 .given .0 .1 .0
+
+by-size : (m : Spanned) (b : Bool) → sizeTest (last m) ≡ b → let a = found m .before .before .args in
+    unless b 5 (gives (first m, last m)) ≡ spanIn (getRagged (widthOf (a .width)) (placeOf (a .place)) (drop (a .at) (a .s .now)) (a .n))
+by-size m b e =
+    ap (λ (t : Bool). unless t 5 (gives (first m, last m))) (sym e) ∙ ap (λ i. limited (toldIndex i)) (sym (m .before .found2 .given .1)) ∙ answer (found m)
+
+find-index-requires : tie.Need-find-index-requires
+find-index-requires c κs = search needs
+
+enum-known-found : tie.Need-enum-known-found
+enum-known-found c = search needs
+
+enum-known-found-2 : tie.Need-enum-known-found-2
+enum-known-found-2 c = search needs
+
+too-large-requires : tie.Need-too-large-requires
+too-large-requires c κs = search needs
 
 returns : tie.Need-returns
 returns c =
-    let args = c .before .before .args in
-    ragged-none (widthOf (args .width)) (args .n) (drop (args .at) (args .s .now)) (placeOf (args .place)) (omega (arith, length-drop (args .at) (args .s .now)))
-
-index-length-requires : tie.Need-index-length-requires
-index-length-requires c κs = search needs
+    let t = c .before in
+    by-size (t .before) _ (not-true (sizeTest (last (t .before))) (sym (t .too-large .ensures) ∙ c .if1 .taken))
 
 returns-2 : tie.Need-returns-2
-returns-2 c =
-    let args = c .before .before .before .before .args in
-    ragged-short (widthOf (args .width)) (args .n) (drop (args .at) (args .s .now)) (omega (arith, length-drop (args .at) (args .s .now))) (omega (arith, length-drop (args .at) (args .s .now), c .before .index-length .ensures)) (placeOf (args .place))
-
-enum-told : tie.Need-enum-told
-enum-told c = search needs
-
-add-check-placed : tie.Need-add-check-placed
-add-check-placed c = search needs
-
-check-placed-requires : tie.Need-check-placed-requires
-check-placed-requires c κs = search needs
-
-enum-told-2 : tie.Need-enum-told-2
-enum-told-2 c = search needs
-
-add-check-placed-2 : tie.Need-add-check-placed-2
-add-check-placed-2 c = search needs
-
-add-check-placed-3 : tie.Need-add-check-placed-3
-add-check-placed-3 c = search needs
-
-check-placed-requires-2 : tie.Need-check-placed-requires-2
-check-placed-requires-2 c κs = search needs
+returns-2 c = ap (λ i. limited (toldIndex i)) (sym (c .before .found .given .1)) ∙ answer (c .before .before .before)
 
 returns-3 : tie.Need-returns-3
 returns-3 c =
-    let args = c .before .before .before .before .before .before .before .args in
-    let index-length = c .before .before .before .before .index-length in
-    c .check-placed .ensures
-    ∙ ragged-checked (widthOf (args .width)) (args .n) (args .s .now) (args .at) (omega arith) (omega (arith, index-length .ensures)) atStart (args .at) (args .at + 8) (length (args .s .now) - args .at - 8 - index-length .result) (omega arith) (omega arith) (omega (arith, index-length .ensures))
-    ∙ ap (λ (p : Place). spanIn (getRagged (widthOf (args .width)) p (drop (args .at) (args .s .now)) (args .n))) (ap placeOf (sym (c .before .enum-told .given .1)))
-
-returns-4 : tie.Need-returns-4
-returns-4 c =
-    let args = c .before .before .before .before .before .before .before .args in
-    let index-length = c .before .before .before .before .index-length in
-    c .check-placed2 .ensures
-    ∙ ragged-checked (widthOf (args .width)) (args .n) (args .s .now) (args .at) (omega arith) (omega (arith, index-length .ensures)) atEnd (args .at + (length (args .s .now) - args .at - 8)) (args .at + (length (args .s .now) - args .at - 8 - index-length .result)) (length (args .s .now) - args .at - 8 - index-length .result) (omega arith) (omega (arith, index-length .ensures)) (omega (arith, index-length .ensures))
-    ∙ ap (λ (p : Place). spanIn (getRagged (widthOf (args .width)) p (drop (args .at) (args .s .now)) (args .n))) (ap placeOf (sym (c .before .enum-told2 .given .1)))
+    let t = c .before in
+    by-size (t .before) _ (not-false (sizeTest (last (t .before))) (sym (t .too-large .ensures) ∙ c .if1 .left))
 
 pub check-ragged-spec : {M : Type 1} → statement M
 check-ragged-spec =
     tie.close
     (tie.spec
-    sub-size
+    find-index-requires
+    enum-known-found
+    enum-known-found-2
+    too-large-requires
     returns
-    index-length-requires
     returns-2
-    enum-told
-    add-check-placed
-    check-placed-requires
-    enum-told-2
-    add-check-placed-2
-    add-check-placed-3
-    check-placed-requires-2
-    returns-3
-    returns-4)
+    returns-3)
