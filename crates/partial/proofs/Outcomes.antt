@@ -18,9 +18,9 @@ use Rattle.array.specs.Buffers.{RaggedLengths, raggedLengthsOf, RaggedEnough, r
 use Rattle.array.specs.Outcome.{contentRagged}
 use Rattle.array.proofs.Rules.{ragged-enough-test, ragged-enough-ok, numbers-ok}
 use Rattle.codec.specs.Ragged.{getRagged}
-use Rattle.codec.specs.Index.{indexIn, limited}
-use Rattle.codec.proofs.IndexLaws.{index-limited}
-use Rattle.codec.proofs.CheckedIndex.{span-refused}
+use Rattle.stored.specs.Index.{indexIn, limited}
+use Rattle.stored.proofs.IndexLaws.{index-limited}
+use Rattle.stored.proofs.CheckedIndex.{span-refused}
 use Rattle.chunks.specs.Calls.{raggedCut, partialAnswer, partiallyDecoded}
 use Rattle.extract.specs.Places.{valuesAt}
 use Rattle.partial.specs.Stored.{storedAt, endToEnd, cutAnswer}

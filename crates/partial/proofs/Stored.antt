@@ -18,11 +18,11 @@ use Rattle.array.specs.Cells.{Value}
 use Rattle.array.specs.Offsets.{last, lastFrom, Rising, RisingFrom}
 use Rattle.array.specs.Content.{Content, RaggedContent, unmasked, ValuesOk, sizeTest}
 use Rattle.array.proofs.Lists.{length-pieces, take-within}
-use Rattle.array.proofs.CheckLaws as check
+use Rattle.valid.proofs.CheckLaws as check
 use Rattle.array.proofs.SubsetLaws.{cellsIn-below}
 use Rattle.codec.specs.Ragged.{getRagged}
-use Rattle.codec.specs.Index.{offsetsIn, indexIn, indexAt, dataAt}
-use Rattle.codec.proofs.CheckedIndex.{IndexFound, index-found}
+use Rattle.stored.specs.Index.{offsetsIn, indexIn, indexAt, dataAt}
+use Rattle.stored.proofs.CheckedIndex.{IndexFound, index-found}
 use Rattle.chunks.specs.Calls.{raggedCut}
 use Rattle.extract.specs.Places.{offsetAt, Rises, valuesAt}
 use Rattle.extract.proofs.Places.{run-below}

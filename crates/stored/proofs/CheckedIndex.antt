@@ -15,9 +15,9 @@ use Rattle.array.specs.Kind.{Place, atStart, atEnd}
 use Rattle.array.specs.Offsets.{last, lastFrom, RisingFrom, risingTest}
 use Rattle.array.specs.Content.{RaggedContent, sizeTest}
 use Rattle.array.proofs.Rules.{rising-ok}
 use Rattle.codec.specs.Ragged.{dataTest, dataFor, checkRagged, getRagged}
-use Rattle.codec.specs.Index.{offsetsIn, first, spanOf, readBy, indexedBy, indexCheck, indexIn, limited, spanIn, lengthAt, indexAt, dataAt, IndexWithin}
-use Rattle.codec.proofs.IndexLaws.{checkedAt, read-none, read-short, read-at, index-limited}
+use Rattle.stored.specs.Index.{offsetsIn, first, spanOf, readBy, indexedBy, indexCheck, indexIn, limited, spanIn, lengthAt, indexAt, dataAt, IndexWithin}
+use Rattle.stored.proofs.IndexLaws.{checkedAt, read-none, read-short, read-at, index-limited}
 
 pub span-refused : (a : Answer RaggedContent) (e : ℕ) → spanIn a ≡ refuses e → a ≡ refuses e
 span-refused (gives x) e h = let z : _≡_ {A = ℕ} 0 1 = cc in absurd (omega arith)

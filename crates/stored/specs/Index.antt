@@ -12,9 +12,9 @@ use Rattle.array.specs.Bytes.{unle}
 use Rattle.array.specs.Kind.{Place, atStart, atEnd}
 use Rattle.array.specs.Offsets.{last, lastFrom, RisingFrom, risingTest}
 use Rattle.array.specs.Content.{RaggedContent, sizeTest}
 use Rattle.codec.specs.Ragged.{dataTest, partOf, leftOf}
-use Rattle.codec.specs.declared.vlen.Indexed.{Indexed}
-use Rattle.codec.specs.declared.vlen.Indexed.the-variants.{Span, Refused}
+use Rattle.stored.specs.declared.vlen.Indexed.{Indexed}
+use Rattle.stored.specs.declared.vlen.Indexed.the-variants.{Span, Refused}
 
 -- the first n offsets of width w that the bytes hold
 abbrev pub offsetsIn : ℕ → ℕ → List ℕ → List ℕ

@@ -19,8 +19,8 @@ ghost use Rattle.array.specs.Bytes.{unle};
 ghost use Rattle.array.specs.Meaning.{widthOf, placeOf};
 ghost use Rattle.array.specs.Offsets.{risingTest};
 ghost use Rattle.array.specs.Content.{sizeTest};
 ghost use Rattle.codec.specs.Ragged.{dataTest, getRagged};
-ghost use Rattle.codec.specs.Index.{offsetsIn, indexedBy, indexIn, spanIn, indexAt, dataAt, toldIndex};
+ghost use Rattle.stored.specs.Index.{offsetsIn, indexedBy, indexIn, spanIn, indexAt, dataAt, toldIndex};
 
 // The first and the last offset of an index that passed the check.
 pub enum Indexed {

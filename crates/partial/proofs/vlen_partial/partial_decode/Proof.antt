@@ -21,7 +21,7 @@ use Rattle.array.specs.Outcome.{contentRagged}
 use Rattle.array.proofs.Rules.{numbers-ok}
 use Rattle.valid.proofs.ShapeLaws.{Counted, counted, not-counted}
 use Rattle.array.proofs.SubsetLists.{subset-parts, within-parts}
-use Rattle.codec.specs.Index.{indexIn, toldIndex, indexAt, dataAt}
+use Rattle.stored.specs.Index.{indexIn, toldIndex, indexAt, dataAt}
 use Rattle.extract.specs.Places.{valuesAt}
 use Rattle.partial.specs.Stored.{storedAt, cutAnswer}
 use Rattle.partial.proofs.Stored.{Read, read-room, read-at}

@@ -10,11 +10,11 @@ use borrow.Author.Needs.{needs}
 use Rattle.array.specs.Bytes.{unle}
 use Rattle.array.specs.Meaning.{widthOf}
 use Rattle.array.specs.Offsets.{last, risingTest}
 use Rattle.codec.specs.Ragged.{dataTest}
-use Rattle.codec.specs.Index.{offsetsIn}
-use Rattle.codec.proofs.IndexLaws.{last-at, by-data, by-rising, by-span}
-use Rattle.codec.proofs.vlen.check_index.Statement.{statement}
-use Rattle.codec.proofs.vlen.check_index.Tie as tie
+use Rattle.stored.specs.Index.{offsetsIn}
+use Rattle.stored.proofs.IndexLaws.{last-at, by-data, by-rising, by-span}
+use Rattle.stored.proofs.vlen.check_index.Statement.{statement}
+use Rattle.stored.proofs.vlen.check_index.Tie as tie
 
 times-is : (c : tie.After-width-bytes) → c .before .before .args .n * c .width-bytes .result ≡ c .before .before .args .n * widthOf (c .before .before .args .width)
 times-is c = ap (λ (x : ℕ). c .before .before .args .n * x) (c .width-bytes .ensures)

@@ -9,11 +9,11 @@ use borrow.Author.Tests.{not-true, not-false}
 use Rattle.array.specs.Answer.{gives, unless}
 use Rattle.array.specs.Content.{sizeTest}
 use Rattle.array.specs.Meaning.{widthOf, placeOf}
 use Rattle.codec.specs.Ragged.{getRagged}
-use Rattle.codec.specs.Index.{spanIn, limited, toldIndex}
-use Rattle.codec.proofs.IndexLaws.{index-limited}
-use Rattle.codec.proofs.vlen.check_ragged.Statement.{statement}
-use Rattle.codec.proofs.vlen.check_ragged.Tie as tie
+use Rattle.stored.specs.Index.{spanIn, limited, toldIndex}
+use Rattle.stored.proofs.IndexLaws.{index-limited}
+use Rattle.stored.proofs.vlen.check_ragged.Statement.{statement}
+use Rattle.stored.proofs.vlen.check_ragged.Tie as tie
 
 -- the answer is what was found, limited
 answer : (k : tie.After-find-index) → let a = k .before .before .args in

@@ -1,9 +1,9 @@
 -- `too_large` meets its contract.
 -- Assumes nothing.
 use Rattle.array.specs.Limits.{mostBytes}
-use Rattle.codec.proofs.IndexLaws.{over-limit}
-use Rattle.codec.proofs.vlen.too_large.Statement.{statement}
-use Rattle.codec.proofs.vlen.too_large.Tie as tie
+use Rattle.stored.proofs.IndexLaws.{over-limit}
+use Rattle.stored.proofs.vlen.too_large.Statement.{statement}
+use Rattle.stored.proofs.vlen.too_large.Tie as tie
 
 returns : tie.Need-returns
 unfolding mostBytes

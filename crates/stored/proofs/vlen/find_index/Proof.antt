@@ -7,10 +7,10 @@ use lib.ListN.{length, drop, length-drop}
 use borrow.Author.Needs.{needs}
 use Rattle.array.specs.Kind.{Place, atStart, atEnd}
 use Rattle.array.specs.Meaning.{widthOf, placeOf}
-use Rattle.codec.specs.Index.{indexCheck, indexIn}
-use Rattle.codec.proofs.IndexLaws.{read-none, read-short, found-at}
-use Rattle.codec.proofs.vlen.find_index.Statement.{statement}
-use Rattle.codec.proofs.vlen.find_index.Tie as tie
+use Rattle.stored.specs.Index.{indexCheck, indexIn}
+use Rattle.stored.proofs.IndexLaws.{read-none, read-short, found-at}
+use Rattle.stored.proofs.vlen.find_index.Statement.{statement}
+use Rattle.stored.proofs.vlen.find_index.Tie as tie
 
 sub-size : tie.Need-sub-size
 sub-size c = search needs
