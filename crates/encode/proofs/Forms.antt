@@ -22,11 +22,12 @@ use Rattle.array.specs.Offsets.{last, Rising}
 use Rattle.array.specs.Content.{Content, ValuesOk}
 use Rattle.codec.specs.Ragged.{putRagged}
 use Rattle.codec.specs.Values.{putValues}
-use Rattle.encode.specs.Live.{liveAt}
-use Rattle.encode.specs.Pieces.{sliceAt, piecesAt, spansOf}
-use Rattle.encode.specs.Ready.{Planes, Offsets, MeasuresOk, Measured, Ready}
+use Rattle.gather.specs.Live.{liveAt, Planes}
+use Rattle.gather_ragged.specs.Slices.{sliceAt, spansOf, Offsets}
+use Rattle.gather.specs.Pieces.{piecesAt}
+use Rattle.encode.specs.Ready.{MeasuresOk, Measured, Ready}
 use Rattle.encode.specs.Stored.{valuesFrom, storedFrom, storedBy, valuesLengthAt, lengthFrom, lengthBy}
-use Rattle.encode.proofs.Runs.{live-le}
+use Rattle.gather.proofs.Runs.{live-le}
 use Rattle.encode.proofs.Levels.{NarrowOk, values-small, fixed-put, fixed-long, plain-length, plain-stored}
 
 -- ---- fewer levels

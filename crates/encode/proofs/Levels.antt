@@ -21,15 +21,16 @@ use Rattle.codec.specs.Frame.{wrap, unlessNone}
 use Rattle.codec.specs.Values.{putValues}
 use Rattle.codec.proofs.Frames.{length-wrap}
 use Rattle.codec.proofs.Values.{ragged-length, length-joined-ordered}
-use Rattle.encode.specs.Live.{maskAt, liveTest, liveAt}
-use Rattle.encode.specs.Pieces.{pieceAt, valueAt, piecesAt, spansOf}
+use Rattle.gather.specs.Live.{maskAt, liveTest, liveAt}
+use Rattle.gather.specs.Pieces.{pieceAt, piecesAt}
+use Rattle.encode.specs.Stored.{valueAt, valuesFrom, storedFrom, frameFrom, storedBy, orNothing, valuesLengthAt, lengthFrom, lengthBy}
+use Rattle.gather_ragged.specs.Slices.{spansOf}
 use Rattle.encode.specs.Ready.{MeasuresOk}
-use Rattle.encode.specs.Stored.{valuesFrom, storedFrom, frameFrom, storedBy, orNothing, valuesLengthAt, lengthFrom, lengthBy}
-use Rattle.encode.proofs.Walk.{live-all}
-use Rattle.encode.proofs.Runs.{All-passing, live-le}
-use Rattle.encode.proofs.Gathering.{run-pieces}
-use Rattle.encode.proofs.Spans.{spans-le, last-le}
-use Rattle.encode.proofs.RaggedLaws.{ragged-long}
+use Rattle.gather.proofs.Numbered.{live-all}
+use Rattle.gather.proofs.Runs.{All-passing, live-le}
+use Rattle.gather.proofs.Gathering.{run-pieces}
+use Rattle.gather_ragged.proofs.Spans.{spans-le, last-le}
+use Rattle.gather_ragged.proofs.Parts.{ragged-long}
 
 -- ---- the cases of a content
 

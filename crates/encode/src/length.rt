@@ -1,10 +1,10 @@
 // The written length: the sum over the levels, outermost first.
-use crate::live;
 use crate::values;
 use array::kind;
 use array::kind::Kind;
 use array::kind::Values;
 use codec::mask;
+use gather::live;
 ghost use mathlib.Core.Path.{_≡_};
 ghost use Prim.Native.Nat.{_+_, _≤_};
 ghost use Rattle.array.specs.Limits.{mostBytes};

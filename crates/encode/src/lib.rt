@@ -8,10 +8,7 @@ use array::refusal;
 use array::shape;
 use array::shape::Cells;
 
-mod cells;
 mod length;
-mod live;
-mod ragged;
 mod values;
 mod write;
 

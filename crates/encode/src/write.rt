@@ -1,18 +1,17 @@
 // The stored form, written by position: a frame holds a content, and a content may be a frame again.
-use crate::cells;
-use crate::live;
-use crate::ragged;
 use crate::values;
 use array::field;
 use array::kind::Kind;
 use array::kind::Values;
 use codec::mask;
+use gather::cells;
+use gather::live;
 ghost use mathlib.Core.Path.{_≡_};
 ghost use Prim.Native.Nat.{_+_, _≤_};
 ghost use lib.ListN.{length};
 ghost use Rattle.array.specs.Buffers.{over, overAt};
 ghost use Rattle.array.specs.Meaning.{formOf};
-ghost use Rattle.encode.specs.Live.{liveAt};
+ghost use Rattle.gather.specs.Live.{liveAt};
 ghost use Rattle.encode.specs.Ready.{Ready};
 ghost use Rattle.encode.specs.Stored.{contentIn, storedFrom, frameFrom, storedBy};
 
@@ -118,7 +117,7 @@ pub fn write_stored(
         }
         Values::Ragged(width, place) => {
             if depth == 0 {
-                ragged::put_plain(out, width, place, values, offsets);
+                gather_ragged::put_plain(out, width, place, values, offsets);
             } else {
                 write_content(out, 0, form, values, offsets, masks, cells, 0, depth);
             }

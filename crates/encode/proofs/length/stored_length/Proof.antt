@@ -3,7 +3,7 @@
 use mathlib.Core.Path.{_∙_}
 use native.Mathlib.Omega.{arith}
 use Rattle.array.specs.Limits.{mostBytes, mostCells}
-use Rattle.encode.proofs.LiveMarks.{count-all}
+use Rattle.gather.proofs.LiveMarks.{count-all}
 use Rattle.encode.proofs.Forms.{measured-all, fixed-small, width-small, length-fixed, length-copied, length-ragged, length-plain}
 use borrow.Author.Needs.{needs}
 use Rattle.encode.proofs.length.stored_length.Statement.{statement}

@@ -6,7 +6,7 @@ use lib.ListN.{length}
 use Rattle.array.specs.Content.{Content}
 use Rattle.array.specs.Meaning.{formOf}
 use Rattle.encode.specs.Stored.{contentIn}
-use Rattle.encode.proofs.Placing.{laid-as}
+use Rattle.gather.proofs.Placing.{laid-as}
 use Rattle.encode.proofs.Levels.{stored-by-long}
 use Rattle.encode.proofs.Forms.{ready-all, fixed-source, length-copied, stored-copied, stored-fixed, stored-ragged, stored-plain}
 use borrow.Author.Needs.{needs}

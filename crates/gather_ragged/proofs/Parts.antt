@@ -1,0 +1,148 @@
+-- Ragged values of the cells that a level counts: how long they are when written, and where their parts lie.
+-- Assumes nothing.
+use mathlib.Core.Path.{_≡_, refl, sym, ap, ap₂, _∙_}
+use Prim.Native.Nat.{ℕ, suc, _+_, _*_, _≤_}
+use native.Mathlib.Numerals.{add-one}
+use native.Mathlib.Omega.{arith}
+use mathlib.Core.Bool.{Bool, true, false}
+use mathlib.Core.List.{List, [], _∷_, map}
+use lib.ListN.{length, take, drop, length-append}
+use lib.Seq.{take-all}
+use Rattle.array.specs.Lists.{pick, from, passing, All}
+use Rattle.array.specs.Buffers.{over, overAt}
+use Rattle.array.specs.Bytes.{le}
+use Rattle.array.specs.Kind.{Place, atStart, atEnd, ragged}
+use Rattle.array.specs.Offsets.{last, offsetsOf}
+use Rattle.array.proofs.Bytes.{length-le}
+use Rattle.array.proofs.Lists.{length-from}
+use Rattle.array.proofs.Geometry.{All-from}
+use Rattle.codec.specs.Ragged.{put, indexOf, putRagged}
+use Rattle.codec.specs.Values.{putValues}
+use Rattle.codec.proofs.Ragged.{length-put, length-index}
+use Rattle.codec.proofs.Values.{ragged-length}
+use Rattle.gather.specs.Live.{liveTest, liveAt}
+use Rattle.gather_ragged.specs.Slices.{sliceAt, slicesAt, spansOf, endsAt, Offsets}
+use Rattle.gather_ragged.specs.Place.{dataAt, indexAt, lengthAt}
+use Rattle.gather.proofs.Runs.{passing-le, All-passing}
+use Rattle.gather_ragged.proofs.Spans.{Within, within-at, length-slices, ends-slices, length-endsAt}
+use Rattle.gather.proofs.Placing.{at-behind}
+use Rattle.gather_ragged.proofs.Placed.{ragged-laid}
+
+-- the index begins with 0
+pub index-head : (w : ℕ) (os : List ℕ) → length (indexOf w (0 ∷ os)) ≡ w + length (indexOf w os)
+index-head w os = length-append (le w 0) (indexOf w os) ∙ ap (λ (m : ℕ). m + length (indexOf w os)) (length-le w 0)
+
+pub index-laid : (w to : ℕ) (os out : List ℕ) {k : ℕ} {o1 o2 : List ℕ} → to + length (indexOf w (0 ∷ os)) ≤ length out → k ≡ w
+    → o1 ≡ overAt to (le w 0) out → o2 ≡ overAt (to + k) (indexOf w os) o1 → o2 ≡ overAt to (indexOf w (0 ∷ os)) out
+index-laid w to os out {k} {o1} {o2} h ek e1 e2 =
+    e2 ∙ ap (overAt (to + k) (indexOf w os)) e1 ∙ at-behind to (le w 0) (indexOf w os) out (to + k) (ap (λ (m : ℕ). to + m) (length-le w 0 ∙ sym ek)) (omega arith)
+
+-- ---- where every cell is counted, the cells are one run
+
+passing-full : (t : ℕ → Bool) (xs : List ℕ) → length (passing t xs) ≡ length xs → passing t xs ≡ xs
+passing-full t [] e = refl
+passing-full t (x ∷ xs) e = go (t x) (passing-le t xs) (passing-full t xs) e
+  where
+    go : (b : Bool) → length (passing t xs) ≤ length xs → (length (passing t xs) ≡ length xs → passing t xs ≡ xs)
+        → length (pick b (x ∷ passing t xs) (passing t xs)) ≡ suc (length xs) → pick b (x ∷ passing t xs) (passing t xs) ≡ x ∷ xs
+    go true h ih e = ap (λ (r : List ℕ). x ∷ r) (ih (omega arith))
+    go false h ih e = absurd (omega arith)
+
+pub live-full : (n : ℕ) (masks : List ℕ) (l : ℕ) {count : ℕ} → count ≡ length (liveAt n masks l) → count ≡ n → from 0 n ≡ liveAt n masks l
+live-full n masks l ec e = sym (passing-full (liveTest n masks l) (from 0 n) (sym ec ∙ e ∙ sym (length-from 0 n)))
+
+-- ---- each part has its place
+
+module _ (p : Place) (at index bytes : ℕ) {m : ℕ} (h : at + (8 + index + bytes) ≤ m) where
+  pub data-room : {k : ℕ} → k ≡ dataAt p at index → k + bytes ≤ m
+  data-room {k} e = go p e
+    where
+      go : (p : Place) → k ≡ dataAt p at index → k + bytes ≤ m
+      go atStart e = omega arith
+      go atEnd e = omega arith
+
+  pub index-room : {k : ℕ} → k ≡ indexAt p at bytes → k + index ≤ m
+  index-room {k} e = go p e
+    where
+      go : (p : Place) → k ≡ indexAt p at bytes → k + index ≤ m
+      go atStart e = omega arith
+      go atEnd e = omega arith
+
+  pub length-room : {k : ℕ} → k ≡ lengthAt p at bytes index → k + 8 ≤ m
+  length-room {k} e = go p e
+    where
+      go : (p : Place) → k ≡ lengthAt p at bytes index → k + 8 ≤ m
+      go atStart e = omega arith
+      go atEnd e = omega arith
+
+-- ---- the values of the cells that a level counts
+
+module _ (w : ℕ) (p : Place) (masks : List ℕ) (l : ℕ) {n : ℕ} {os : List ℕ} (o : Offsets n os) (s : List ℕ) (ended : last os ≡ length s) where
+  abbrev cells : List ℕ
+  cells = liveAt n masks l
+
+  all-within : All (Within os s) cells
+  all-within = All-passing (liveTest n masks l) (Within os s) (from 0 n) (All-from (Within os s) 0 n (λ i h k. within-at os s o ended i (omega arith)))
+
+  pub data-long : length (slicesAt os s (liveAt n masks l)) ≡ spansOf os (liveAt n masks l)
+  data-long = length-slices os s cells all-within
+
+  offsets-are : offsetsOf (map (sliceAt os s) cells) ≡ 0 ∷ endsAt os 0 cells
+  offsets-are = ap (λ (r : List ℕ). 0 ∷ r) (ends-slices os s 0 cells all-within)
+
+  index-count : length (indexOf w (0 ∷ endsAt os 0 cells)) ≡ w * (length cells + 1)
+  index-count = length-index w (0 ∷ endsAt os 0 cells) ∙ ap (λ (m : ℕ). w * suc m) (length-endsAt os 0 cells) ∙ ap (λ (m : ℕ). w * m) (sym (add-one (length cells)))
+
+  -- so many cells, and an index of offsets of so many bytes
+  module _ {count k : ℕ} (ec : count ≡ length (liveAt n masks l)) (ek : k ≡ w) where
+    counted : k * (count + 1) ≡ w * (length cells + 1)
+    counted = ap₂ (λ (x m : ℕ). x * (m + 1)) ek ec
+
+    pub index-long : length (indexOf w (0 ∷ endsAt os 0 (liveAt n masks l))) ≡ k * (count + 1)
+    index-long = index-count ∙ sym counted
+
+    pub ragged-long : {bytes : ℕ} → bytes ≡ spansOf os (liveAt n masks l) → length (putValues (ragged w p) (map (sliceAt os s) (liveAt n masks l))) ≡ 8 + k * (count + 1) + bytes
+    unfolding putValues
+    ragged-long {bytes} eb =
+        ragged-length w p (record { values = slicesAt os s cells; offsets = offsetsOf (map (sliceAt os s) cells) }) (length cells)
+        (ap length offsets-are ∙ ap suc (length-endsAt os 0 cells))
+        ∙ ap₂ (λ (a b : ℕ). 8 + a + b) (ap (λ (m : ℕ). w * m) (sym (add-one (length cells))) ∙ sym counted) (data-long ∙ sym eb)
+
+    pub ragged-put : (at : ℕ) (out : List ℕ) {bytes place start field : ℕ} {o1 o2 o3 : List ℕ} → bytes ≡ spansOf os (liveAt n masks l)
+        → at + length (putValues (ragged w p) (map (sliceAt os s) (liveAt n masks l))) ≤ length out
+        → place ≡ dataAt p at (k * (count + 1)) → o1 ≡ overAt place (slicesAt os s (liveAt n masks l)) out
+        → start ≡ indexAt p at bytes → o2 ≡ overAt start (indexOf w (0 ∷ endsAt os 0 (liveAt n masks l))) o1
+        → field ≡ lengthAt p at bytes (k * (count + 1)) → o3 ≡ overAt field (le 8 (k * (count + 1))) o2
+        → o3 ≡ overAt at (putValues (ragged w p) (map (sliceAt os s) (liveAt n masks l))) out
+    unfolding putValues
+    ragged-put at out {bytes} {place} {start} {field} {o1} {o2} {o3} eb h ed e1 es e2 ef e3 =
+        ragged-laid p w at (k * (count + 1)) bytes out o1 o2 o3 (record { values = slicesAt os s cells; offsets = offsetsOf (map (sliceAt os s) cells) })
+        (ap (λ (x : List ℕ). length (indexOf w x)) offsets-are ∙ index-long)
+        (data-long ∙ sym eb)
+        (omega (arith, ragged-long eb))
+        (e1 ∙ ap (λ (x : ℕ). overAt x (slicesAt os s cells) out) ed)
+        (e2 ∙ ap₂ (λ (x : ℕ) (y : List ℕ). overAt x (indexOf w y) o1) es (sym offsets-are))
+        (e3 ∙ ap (λ (x : ℕ). overAt x (le 8 (k * (count + 1))) o2) ef)
+
+-- ---- values just as they are
+
+module _ (w : ℕ) (p : Place) (os s : List ℕ) {k : ℕ} (ek : k ≡ w) where
+  pub plain-index : length (indexOf w os) ≡ k * length os
+  plain-index = length-index w os ∙ ap (λ (x : ℕ). x * length os) (sym ek)
+
+  pub plain-long : length (putRagged w p (record { values = s; offsets = os })) ≡ 8 + k * length os + length s
+  unfolding putRagged
+  plain-long =
+      let index : List ℕ = indexOf w os in
+      omega (arith, length-put p (le 8 (length index)) (put p index s), length-le 8 (length index), length-put p index s, plain-index)
+
+  pub plain-put : (out : List ℕ) {place start field : ℕ} {o1 o2 o3 : List ℕ} → length (putRagged w p (record { values = s; offsets = os })) ≤ length out
+      → place ≡ dataAt p 0 (k * length os) → o1 ≡ overAt place (take (length s) (drop 0 s)) out
+      → start ≡ indexAt p 0 (length s) → o2 ≡ overAt start (indexOf w os) o1
+      → field ≡ lengthAt p 0 (length s) (k * length os) → o3 ≡ overAt field (le 8 (k * length os)) o2
+      → o3 ≡ over (putRagged w p (record { values = s; offsets = os })) out
+  plain-put out {place} {start} {field} {o1} {o2} {o3} h ed e1 es e2 ef e3 =
+      ragged-laid p w 0 (k * length os) (length s) out o1 o2 o3 (record { values = s; offsets = os }) plain-index refl (omega (arith, plain-long))
+      (e1 ∙ ap₂ (λ (x : ℕ) (y : List ℕ). overAt x y out) ed (take-all (length s) s (omega arith)))
+      (e2 ∙ ap (λ (x : ℕ). overAt x (indexOf w os) o1) es)
+      (e3 ∙ ap (λ (x : ℕ). overAt x (le 8 (k * length os)) o2) ef)

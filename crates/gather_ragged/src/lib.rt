@@ -1,0 +1,73 @@
+// Ragged values: their bytes, their index and the index's length, each at its place.
+use array::copy;
+use array::field;
+use array::kind;
+use array::kind::IndexPlace;
+use array::kind::IndexWidth;
+
+pub mod data;
+mod index;
+mod place;
+
+ghost use mathlib.Core.Path.{_≡_};
+ghost use mathlib.Core.List.{map};
+ghost use Prim.Native.Nat.{_+_, _≤_};
+ghost use lib.ListN.{length};
+ghost use Rattle.array.specs.Buffers.{over, overAt};
+ghost use Rattle.array.specs.Kind.{ragged};
+ghost use Rattle.array.specs.Meaning.{widthOf, placeOf};
+ghost use Rattle.array.specs.Offsets.{last};
+ghost use Rattle.codec.specs.Ragged.{putRagged};
+ghost use Rattle.codec.specs.Values.{putValues};
+ghost use Rattle.gather.specs.Live.{liveAt, Planes};
+ghost use Rattle.gather_ragged.specs.Slices.{sliceAt, Offsets};
+
+// Ragged values of the `count` cells that the level counts, end to end from offset 0; says how many bytes it wrote.
+pub fn put_ragged(
+    out: &mut [u8],
+    at: usize,
+    width: IndexWidth,
+    place: IndexPlace,
+    values: &[u8],
+    offsets: &[u64],
+    masks: &[u8],
+    cells: usize,
+    level: usize,
+    count: usize,
+) -> usize
+    requires { ⌜ Planes cells (now masks) level × (count ≡ length (liveAt cells (now masks) level))
+        × Offsets cells (now offsets) × (last (now offsets) ≡ length (now values))
+        × (at + length (putValues (ragged (widthOf width) (placeOf place)) (map (sliceAt (now offsets) (now values)) (liveAt cells (now masks) level))) ≤ length (now out)) ⌝ }
+    ensures wrote { λ r. ⌜ r ≡ length (putValues (ragged (widthOf width) (placeOf place)) (map (sliceAt (now (offsets .entry)) (now (values .entry))) (liveAt cells (now (masks .entry)) level))) ⌝ }
+    ensures bytes { λ _. ⌜ now (out .exit) ≡ overAt at (putValues (ragged (widthOf width) (placeOf place)) (map (sliceAt (now (offsets .entry)) (now (values .entry))) (liveAt cells (now (masks .entry)) level))) (now (out .entry)) ⌝ }
+{
+    let index = kind::width_bytes(width) * (count + 1);
+    let data = place::data_at(place, at, index);
+    let bytes = data::put_live_data(out, data, values, offsets, masks, cells, level);
+    let start = place::index_at(place, at, bytes);
+    index::put_live_index(out, start, width, offsets, masks, cells, level, count);
+    let field = place::length_at(place, at, bytes, index);
+    field::put_u64(out, field, index as u64);
+    8 + index + bytes
+}
+
+// Ragged values just as they are, those before the first offset too.
+pub fn put_plain(
+    out: &mut [u8],
+    width: IndexWidth,
+    place: IndexPlace,
+    values: &[u8],
+    offsets: &[u64],
+)
+    requires { ⌜ length (putRagged (widthOf width) (placeOf place) (record { values = now values; offsets = now offsets })) ≤ length (now out) ⌝ }
+    ensures { λ _. ⌜ now (out .exit) ≡ over (putRagged (widthOf width) (placeOf place) (record { values = now (values .entry); offsets = now (offsets .entry) })) (now (out .entry)) ⌝ }
+{
+    let bytes = values.len();
+    let index = kind::width_bytes(width) * offsets.len();
+    let data = place::data_at(place, 0, index);
+    copy::copy_bytes(out, data, values, 0, bytes);
+    let start = place::index_at(place, 0, bytes);
+    index::put_index(out, start, width, offsets);
+    let field = place::length_at(place, 0, bytes, index);
+    field::put_u64(out, field, index as u64);
+}
