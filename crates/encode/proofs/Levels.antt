@@ -2,34 +2,31 @@
 -- Assumes nothing.
 use mathlib.Core.Path.{_≡_, refl, sym, ap, ap₂, _∙_}
 use mathlib.Core.Logic.{_≢_, inl, inr}
-use Prim.Native.Nat.{ℕ, zero, suc, _+_, _-_, _*_, _<_, _≤_}
+use Prim.Native.Nat.{ℕ, zero, suc, _+_, _-_, _*_, _≤_}
 use native.Mathlib.Nat.{zero-mul, suc-mul, mul-le-mul, mul-le-mul-right, le-trans}
 use native.Mathlib.Numerals.{add-one, sub-one}
 use native.Mathlib.Omega.{arith}
 use mathlib.Core.List.{List, [], _∷_, map}
-use lib.ListN.{length, drop, getD, length-drop, length-map}
-use lib.Seq.{length-take-le}
+use lib.ListN.{length, drop, length-map}
 use Rattle.array.specs.Limits.{mostBytes, mostCells}
 use Rattle.array.specs.Lists.{from, joined, pieces}
 use Rattle.array.specs.Kind.{Form, fixed, ragged, FormOk, Order, ordered}
-use Rattle.array.specs.Cells.{Value}
-use Rattle.array.specs.Offsets.{last}
 use Rattle.array.specs.Content.{Content, ValuesOk}
-use Rattle.array.proofs.Lists.{map-map, length-joined, length-from, All-image}
-use Rattle.array.proofs.Geometry.{All-from}
+use Rattle.array.proofs.Lists.{map-map, length-from}
 use Rattle.codec.specs.Frame.{wrap, unlessNone}
 use Rattle.codec.specs.Values.{putValues}
 use Rattle.codec.proofs.Frames.{length-wrap}
-use Rattle.codec.proofs.Values.{ragged-length, length-joined-ordered}
+use Rattle.codec.proofs.Values.{ragged-length}
 use Rattle.gather.specs.Live.{maskAt, liveTest, liveAt}
 use Rattle.gather.specs.Pieces.{pieceAt, piecesAt}
 use Rattle.encode.specs.Stored.{valueAt, valuesFrom, storedFrom, frameFrom, storedBy, orNothing, valuesLengthAt, lengthFrom, lengthBy}
 use Rattle.gather_ragged.specs.Slices.{spansOf}
 use Rattle.encode.specs.Ready.{MeasuresOk}
 use Rattle.gather.proofs.Numbered.{live-all}
-use Rattle.gather.proofs.Runs.{All-passing, live-le}
+use Rattle.gather.proofs.Runs.{live-le}
 use Rattle.gather.proofs.Gathering.{run-pieces}
-use Rattle.gather_ragged.proofs.Spans.{spans-le, last-le}
+use Rattle.gather.proofs.Packing.{pieces-long}
+use Rattle.gather_ragged.proofs.Summing.{spans-le}
 use Rattle.gather_ragged.proofs.Parts.{ragged-long}
 
 -- ---- the cases of a content
@@ -70,23 +67,10 @@ pub fixed-put : (k : ℕ) (o : Order) (c : Content) (is : List ℕ) → piecesAt
 unfolding putValues
 fixed-put k o c is = ap joined (sym (map-map (pieceAt 0 k (c .values)) (ordered o) is))
 
-piece-long : (k n i : ℕ) (s : List ℕ) → i < n → length s ≡ n * k → length (pieceAt 0 k s i) ≡ k
-piece-long k n i s h e =
-    length-take-le k (drop (0 + i * k) s)
-    (omega (arith, length-drop (0 + i * k) s, mul-le-mul-right {m = suc i} {n = n} k h, suc-mul i k))
-
 pub fixed-long : (k n : ℕ) (o : Order) (c : Content) (l : ℕ) → length (c .values) ≡ n * k
     → length (valuesFrom (fixed k o) n c l) ≡ length (liveAt n (c .masks) l) * k
-unfolding putValues
 fixed-long k n o c l e =
-    let is : List ℕ = liveAt n (c .masks) l in
-    let vs : List Value = map (pieceAt 0 k (c .values)) is in
-    length-joined-ordered o vs
-    ∙ length-joined k vs
-    (All-image (λ v. length v ≡ k) (pieceAt 0 k (c .values)) is
-    (All-passing (liveTest n (c .masks) l) (λ i. length (pieceAt 0 k (c .values) i) ≡ k) (from 0 n)
-    (All-from (λ i. length (pieceAt 0 k (c .values) i) ≡ k) 0 n (λ i a b. piece-long k n i (c .values) (omega arith) e))))
-    ∙ ap (λ (m : ℕ). m * k) (length-map is (pieceAt 0 k (c .values)))
+    ap length (sym (fixed-put k o c (liveAt n (c .masks) l))) ∙ pieces-long o 0 k (c .values) (liveTest n (c .masks) l) n (omega arith)
 
 -- ---- the written length
 
@@ -189,8 +173,7 @@ values-small (fixed k o) n masks os l w h p = le-trans (mul-le-mul {n₁ = lengt
 values-small (ragged w q) n masks os l nw h p =
     let m : ℕ = length (liveAt n masks l) in
     let a : w * suc m ≤ 8 * suc m = mul-le-mul-right (suc m) nw in
-    let g : getD os (0 + n) 0 ≤ last os = last-le os (p .1) n (0 + n) (p .0) (omega arith) in
-    omega (arith, live-le n masks l, spans-le os (p .1) (liveTest n masks l) 0 n (omega (arith, p .0)), p .2)
+    omega (arith, live-le n masks l, spans-le os (liveTest n masks l) n (p .0) (p .1), p .2)
 
 pub length-small : (f : Form) (n : ℕ) (masks os : List ℕ) → NarrowOk f → n ≤ mostCells → MeasuresOk f n os → (d l : ℕ) → lengthFrom f n masks os d l ≤ d * 65552 + 17301520
 unfolding lengthFrom mostCells

@@ -9,9 +9,9 @@ use native.Mathlib.Omega.{arith}
 use mathlib.Core.Bool.{Bool, true, false}
 use mathlib.Core.List.{List, [], _∷_, _++_, map, append-assoc}
 use lib.ListN.{length, take, drop, set, length-append, length-drop, length-map}
-use lib.Seq.{set-split, take-at, drop-drop, drop-append-add, length-take-le}
+use lib.Seq.{set-split, length-take-le}
 use Rattle.array.specs.Lists.{pick, from, joined, pieces, passing}
-use Rattle.array.specs.Buffers.{over, overAt}
+use Rattle.array.specs.Buffers.{overAt}
 use Rattle.array.specs.Kind.{Order, ordered}
 use Rattle.array.proofs.Lists.{length-joined, length-from, All-image}
 use Rattle.array.proofs.Geometry.{All-from}
@@ -21,24 +21,10 @@ use Rattle.array.proofs.Laying.{Laying, laying-same, laying-left, laying-ends, 
 use Rattle.gather.specs.Live.{maskAt, liveTest, liveOne, liveAt, Planes}
 use Rattle.gather.specs.Pieces.{orderedAt, piecesAt}
 use Rattle.gather.proofs.Numbered.{plane-at}
-use Rattle.gather.proofs.Runs.{passing-le, passing-start, All-passing}
+use Rattle.gather.proofs.Runs.{passing-le, passing-start, All-passing, all-counted}
 use Rattle.gather.proofs.LiveMarks.{passing-next}
-use Rattle.gather.proofs.Placing.{at-none}
+use Rattle.gather.proofs.Placing.{at-none, at-again}
 use Rattle.gather.proofs.Gathering.{wholeOf, leftFrom, gathering-begins, run-pieces}
-
--- written over by as much or more
-over-twice : (b : ℕ) (x y out : List ℕ) → b ≤ length out → length x ≤ length y → overAt b y (overAt b x out) ≡ overAt b y out
-over-twice b x y out hb h =
-    let lb : length (take b out) ≡ b = length-take-le b out hb in
-    let f : List ℕ = take b out ++ x in
-    let z : List ℕ = f ++ drop (length f) out in
-    let m : ℕ = length (take b out ++ y) in
-    let lm : m ≡ length f + (length y - length x) = omega (arith, length-append (take b out) y, length-append (take b out) x) in
-    let e1 : take b z ≡ take b out = ap (take b) (append-assoc (take b out) x (drop (length f) out)) ∙ take-at (take b out) (x ++ drop (length f) out) b lb in
-    let e2 : drop m z ≡ drop m out =
-    ap (λ (j : ℕ). drop j z) lm ∙ drop-append-add f (drop (length f) out) (length y - length x) ∙ drop-drop (length y - length x) (length f) out
-    ∙ ap (λ (j : ℕ). drop j out) (sym lm) in
-    ap (λ (l : List ℕ). over (l ++ y) z) e1 ∙ ap (λ (l : List ℕ). (take b out ++ y) ++ l) e2
 
 none-left : (l : List ℕ) → length l ≡ 0 → l ≡ []
 none-left [] e = refl
@@ -123,7 +109,7 @@ module _ {t : ℕ → Bool} {n : ℕ} {g : ℕ → List ℕ} {k : ℕ} {d : List
         long = p .sized i packing-cell
 
         q : out′ ≡ overAt (to + done * k) (g i) (p .clean)
-        q = eo ∙ ap (overAt (to + done * k) (g i)) (p .here) ∙ over-twice (to + done * k) (p .junk) (g i) (p .clean) (omega (arith, p .inside, p .laid .room, clean-same)) (omega (arith, long, p .short))
+        q = eo ∙ ap (overAt (to + done * k) (g i)) (p .here) ∙ at-again (to + done * k) (g i) (p .junk) (p .clean) (omega (arith, p .inside, p .laid .room, clean-same)) (omega (arith, long, p .short))
 
         kept : length out′ ≡ length d
         kept = ap length q ∙ over-at-length (to + done * k) (g i) (p .clean) (omega (arith, long, fits, p .laid .room, clean-same)) ∙ clean-same
@@ -167,18 +153,13 @@ pieces-sized o at k n s h j l =
     length-ordered o (take k (drop (at + j * k) s))
     ∙ length-take-le k (drop (at + j * k) s) (omega (arith, length-drop (at + j * k) s, mul-le-mul-right {m = suc j} {n = n} k l, suc-mul j k))
 
--- where every cell is counted, they lie end to end
-pub all-counted : (t : ℕ → Bool) (n : ℕ) → length (passing t (from 0 n)) ≡ n → passing t (from 0 n) ≡ from 0 n
-all-counted t n e = go (from 0 n) (e ∙ sym (length-from 0 n))
-  where
-    go : (xs : List ℕ) → length (passing t xs) ≡ length xs → passing t xs ≡ xs
-    go [] e = refl
-    go (x ∷ xs) e = one (t x) e (go xs)
-      where
-        one : (b : Bool) → length (pick b (x ∷ passing t xs) (passing t xs)) ≡ suc (length xs) → (length (passing t xs) ≡ length xs → passing t xs ≡ xs) → pick b (x ∷ passing t xs) (passing t xs) ≡ x ∷ xs
-        one true q ih = ap (λ (l : List ℕ). x ∷ l) (ih (omega arith))
-        one false q ih = absurd (omega (arith, passing-le t xs))
+pub pieces-long : (o : Order) (at k : ℕ) (s : List ℕ) (t : ℕ → Bool) (n : ℕ) → at + n * k ≤ length s
+    → length (piecesAt o at k s (passing t (from 0 n))) ≡ length (passing t (from 0 n)) * k
+pieces-long o at k s t n h =
+    ap (λ (is : List ℕ). length (piecesAt o at k s is)) (sym (passing-start t n)) ∙ left-long t n (orderedAt o at k s) k (pieces-sized o at k n s h) 0
+    ∙ ap (λ (is : List ℕ). length is * k) (passing-start t n)
 
+-- where every cell is counted, they lie end to end
 pub all-pieces : (o : Order) (at k : ℕ) (s : List ℕ) (t : ℕ → Bool) (n : ℕ) {count : ℕ} → count ≡ length (passing t (from 0 n)) → count ≡ n
     → joined (map (ordered o) (pieces k n (drop at s))) ≡ piecesAt o at k s (passing t (from 0 n))
 all-pieces o at k s t n ec en =
@@ -187,9 +168,7 @@ all-pieces o at k s t n ec en =
 
 pub all-long : (o : Order) (at k : ℕ) (s : List ℕ) (t : ℕ → Bool) (n : ℕ) {count : ℕ} → at + n * k ≤ length s → count ≡ length (passing t (from 0 n)) → count ≡ n
     → length (piecesAt o at k s (passing t (from 0 n))) ≡ n * k
-all-long o at k s t n h ec en =
-    ap (λ (is : List ℕ). length (piecesAt o at k s is)) (sym (passing-start t n)) ∙ left-long t n (orderedAt o at k s) k (pieces-sized o at k n s h) 0
-    ∙ ap (λ (m : ℕ). m * k) (ap length (passing-start t n) ∙ sym ec ∙ en)
+all-long o at k s t n h ec en = pieces-long o at k s t n h ∙ ap (λ (m : ℕ). m * k) (sym ec ∙ en)
 
 -- ---- mask bytes, which are pieces of size 1
 

@@ -7,8 +7,7 @@ use mathlib.Core.List.{List, [], _++_, append-assoc, append-nil}
 use lib.ListN.{length, take, drop, length-append, take-append-drop}
 use lib.Seq.{take-at, drop-at, take-take, drop-drop, drop-append-add, length-take-le, take-append-le}
 use Rattle.array.specs.Buffers.{over, overAt}
-use Rattle.array.proofs.Over.{over-again, over-at-length}
-use Rattle.array.proofs.Laying.{Laying, laying-left}
+use Rattle.array.proofs.Over.{over-again}
 
 -- what is laid behind
 pub at-behind : (at : ℕ) (f g out : List ℕ) (b : ℕ) → at + length f ≡ b → at ≤ length out → overAt b g (overAt at f out) ≡ overAt at (f ++ g) out
@@ -37,7 +36,7 @@ at-front at f g out b e h =
     ∙ ap (λ (m : ℕ). (take at out ++ (f ++ g)) ++ drop m out) e3
 
 -- what is laid over again, and no less of it
-at-again : (at : ℕ) (f g out : List ℕ) → at ≤ length out → length g ≤ length f → overAt at f (overAt at g out) ≡ overAt at f out
+pub at-again : (at : ℕ) (f g out : List ℕ) → at ≤ length out → length g ≤ length f → overAt at f (overAt at g out) ≡ overAt at f out
 at-again at f g out h q =
     let la : length (take at out) ≡ at = length-take-le at out h in
     let front : List ℕ = take at out ++ g in
@@ -48,33 +47,7 @@ at-again at f g out h q =
     ap (λ (m : ℕ). drop m (front ++ rest)) e2 ∙ drop-append-add front rest (length f - length g) ∙ drop-drop (length f - length g) (length front) out ∙ ap (λ (m : ℕ). drop m out) (sym e2) in
     ap (λ (x : List ℕ). over (x ++ f) (front ++ rest)) e1 ∙ ap (λ (x : List ℕ). (take at out ++ f) ++ x) e3
 
--- ---- what is laid where something is still to come might have lain there before
-
-module _ {want d : List ℕ} {to : ℕ} {out : List ℕ} {i : ℕ} {r : List ℕ} (l : Laying want d to out i r) (g : List ℕ) (h : length g ≤ length r) where
-  begun : to + length (take i want) ≡ to + i
-  begun = ap (λ (m : ℕ). to + m) (length-take-le i want (l .within))
-
-  inside : to + i + length g ≤ length d
-  inside = omega (arith, l .room, laying-left want d to out i r l)
-
-  pub laying-over : {out′ : List ℕ} → out′ ≡ overAt (to + i) g out → Laying want (overAt (to + i) g d) to out′ i r
-  laying-over {out′} e = record {
-    room = omega (arith, l .room, over-at-length (to + i) g d inside);
-    within = l .within;
-    here = e ∙ ap (overAt (to + i) g) (l .here) ∙ at-behind to (take i want) g d (to + i) begun (omega (arith, inside)) ∙ sym (at-front to (take i want) g d (to + i) begun (omega (arith, inside)));
-    left = l .left;
-  }
-
-  pub over-held : overAt to want (overAt (to + i) g d) ≡ overAt to want d
-  over-held =
-      let y : List ℕ = overAt (to + i) g d in
-      let ew : take i want ++ r ≡ want = ap (λ (x : List ℕ). take i want ++ x) (sym (l .left)) ∙ take-append-drop i want in
-      ap (λ (x : List ℕ). overAt to x y) (sym ew)
-      ∙ sym (at-front to (take i want) r y (to + i) begun (omega (arith, inside, over-at-length (to + i) g d inside)))
-      ∙ ap (overAt to (take i want)) (at-again (to + i) r g d (omega (arith, inside)) h)
-      ∙ at-front to (take i want) r d (to + i) begun (omega (arith, inside))
-      ∙ ap (λ (x : List ℕ). overAt to x d) ew
-
+-- nothing laid
 pub at-none : (at : ℕ) (out : List ℕ) → at ≤ length out → out ≡ overAt at [] out
 at-none at out h =
     sym (ap (λ (x : List ℕ). over x out) (append-nil (take at out)) ∙ ap (λ (m : ℕ). take at out ++ drop m out) (length-take-le at out h) ∙ take-append-drop at out)

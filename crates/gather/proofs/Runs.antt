@@ -97,6 +97,18 @@ module _ (t : ℕ → Bool) where
       go true q r = (q, r)
       go false q r = r
 
+-- where as many pass as there are, all do
+pub all-counted : (t : ℕ → Bool) (n : ℕ) → length (passing t (from 0 n)) ≡ n → passing t (from 0 n) ≡ from 0 n
+all-counted t n e = go (from 0 n) (e ∙ sym (length-from 0 n))
+  where
+    go : (xs : List ℕ) → length (passing t xs) ≡ length xs → passing t xs ≡ xs
+    go [] e = refl
+    go (x ∷ xs) e = one (t x) e (go xs)
+      where
+        one : (b : Bool) → length (pick b (x ∷ passing t xs) (passing t xs)) ≡ suc (length xs) → (length (passing t xs) ≡ length xs → passing t xs ≡ xs) → pick b (x ∷ passing t xs) (passing t xs) ≡ x ∷ xs
+        one true q ih = ap (λ (l : List ℕ). x ∷ l) (ih (omega arith))
+        one false q ih = absurd (omega (arith, passing-le t xs))
+
 -- a level counts no more cells than there are
 pub live-le : (n : ℕ) (masks : List ℕ) (l : ℕ) → length (liveAt n masks l) ≤ n
 live-le n masks l = omega (arith, passing-le (liveTest n masks l) (from 0 n), length-from 0 n)

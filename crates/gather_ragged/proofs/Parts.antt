@@ -2,29 +2,29 @@
 -- Assumes nothing.
 use mathlib.Core.Path.{_≡_, refl, sym, ap, ap₂, _∙_}
 use Prim.Native.Nat.{ℕ, suc, _+_, _*_, _≤_}
+use native.Mathlib.Nat.{zero-add}
 use native.Mathlib.Numerals.{add-one}
 use native.Mathlib.Omega.{arith}
-use mathlib.Core.Bool.{Bool, true, false}
-use mathlib.Core.List.{List, [], _∷_, map}
+use mathlib.Core.List.{List, _∷_, map}
 use lib.ListN.{length, take, drop, length-append}
 use lib.Seq.{take-all}
-use Rattle.array.specs.Lists.{pick, from, passing, All}
+use Rattle.array.specs.Lists.{from, All}
 use Rattle.array.specs.Buffers.{over, overAt}
 use Rattle.array.specs.Bytes.{le}
-use Rattle.array.specs.Kind.{Place, atStart, atEnd, ragged}
+use Rattle.array.specs.Kind.{Place, ragged}
 use Rattle.array.specs.Offsets.{last, offsetsOf}
 use Rattle.array.proofs.Bytes.{length-le}
-use Rattle.array.proofs.Lists.{length-from}
 use Rattle.array.proofs.Geometry.{All-from}
+use Rattle.codec.specs.Index.{dataAt, indexAt, lengthAt}
 use Rattle.codec.specs.Ragged.{put, indexOf, putRagged}
 use Rattle.codec.specs.Values.{putValues}
 use Rattle.codec.proofs.Ragged.{length-put, length-index}
 use Rattle.codec.proofs.Values.{ragged-length}
 use Rattle.gather.specs.Live.{liveTest, liveAt}
-use Rattle.gather_ragged.specs.Slices.{sliceAt, slicesAt, spansOf, endsAt, Offsets}
-use Rattle.gather_ragged.specs.Place.{dataAt, indexAt, lengthAt}
-use Rattle.gather.proofs.Runs.{passing-le, All-passing}
+use Rattle.gather_ragged.specs.Slices.{Offsets, sliceAt, slicesAt, spansOf, endsAt, lessBy}
+use Rattle.gather.proofs.Runs.{All-passing}
 use Rattle.gather_ragged.proofs.Spans.{Within, within-at, length-slices, ends-slices, length-endsAt}
+use Rattle.gather_ragged.proofs.Indexing.{less-none}
 use Rattle.gather.proofs.Placing.{at-behind}
 use Rattle.gather_ragged.proofs.Placed.{ragged-laid}
 
@@ -36,44 +36,6 @@ pub index-laid : (w to : ℕ) (os out : List ℕ) {k : ℕ} {o1 o2 : List ℕ} �
     → o1 ≡ overAt to (le w 0) out → o2 ≡ overAt (to + k) (indexOf w os) o1 → o2 ≡ overAt to (indexOf w (0 ∷ os)) out
 index-laid w to os out {k} {o1} {o2} h ek e1 e2 =
     e2 ∙ ap (overAt (to + k) (indexOf w os)) e1 ∙ at-behind to (le w 0) (indexOf w os) out (to + k) (ap (λ (m : ℕ). to + m) (length-le w 0 ∙ sym ek)) (omega arith)
-
--- ---- where every cell is counted, the cells are one run
-
-passing-full : (t : ℕ → Bool) (xs : List ℕ) → length (passing t xs) ≡ length xs → passing t xs ≡ xs
-passing-full t [] e = refl
-passing-full t (x ∷ xs) e = go (t x) (passing-le t xs) (passing-full t xs) e
-  where
-    go : (b : Bool) → length (passing t xs) ≤ length xs → (length (passing t xs) ≡ length xs → passing t xs ≡ xs)
-        → length (pick b (x ∷ passing t xs) (passing t xs)) ≡ suc (length xs) → pick b (x ∷ passing t xs) (passing t xs) ≡ x ∷ xs
-    go true h ih e = ap (λ (r : List ℕ). x ∷ r) (ih (omega arith))
-    go false h ih e = absurd (omega arith)
-
-pub live-full : (n : ℕ) (masks : List ℕ) (l : ℕ) {count : ℕ} → count ≡ length (liveAt n masks l) → count ≡ n → from 0 n ≡ liveAt n masks l
-live-full n masks l ec e = sym (passing-full (liveTest n masks l) (from 0 n) (sym ec ∙ e ∙ sym (length-from 0 n)))
-
--- ---- each part has its place
-
-module _ (p : Place) (at index bytes : ℕ) {m : ℕ} (h : at + (8 + index + bytes) ≤ m) where
-  pub data-room : {k : ℕ} → k ≡ dataAt p at index → k + bytes ≤ m
-  data-room {k} e = go p e
-    where
-      go : (p : Place) → k ≡ dataAt p at index → k + bytes ≤ m
-      go atStart e = omega arith
-      go atEnd e = omega arith
-
-  pub index-room : {k : ℕ} → k ≡ indexAt p at bytes → k + index ≤ m
-  index-room {k} e = go p e
-    where
-      go : (p : Place) → k ≡ indexAt p at bytes → k + index ≤ m
-      go atStart e = omega arith
-      go atEnd e = omega arith
-
-  pub length-room : {k : ℕ} → k ≡ lengthAt p at bytes index → k + 8 ≤ m
-  length-room {k} e = go p e
-    where
-      go : (p : Place) → k ≡ lengthAt p at bytes index → k + 8 ≤ m
-      go atStart e = omega arith
-      go atEnd e = omega arith
 
 -- ---- the values of the cells that a level counts
 
@@ -110,9 +72,9 @@ module _ (w : ℕ) (p : Place) (masks : List ℕ) (l : ℕ) {n : ℕ} {os : List
 
     pub ragged-put : (at : ℕ) (out : List ℕ) {bytes place start field : ℕ} {o1 o2 o3 : List ℕ} → bytes ≡ spansOf os (liveAt n masks l)
         → at + length (putValues (ragged w p) (map (sliceAt os s) (liveAt n masks l))) ≤ length out
-        → place ≡ dataAt p at (k * (count + 1)) → o1 ≡ overAt place (slicesAt os s (liveAt n masks l)) out
-        → start ≡ indexAt p at bytes → o2 ≡ overAt start (indexOf w (0 ∷ endsAt os 0 (liveAt n masks l))) o1
-        → field ≡ lengthAt p at bytes (k * (count + 1)) → o3 ≡ overAt field (le 8 (k * (count + 1))) o2
+        → place ≡ dataAt p (k * (count + 1)) → o1 ≡ overAt (at + place) (slicesAt os s (liveAt n masks l)) out
+        → start ≡ indexAt p (8 + k * (count + 1) + bytes) (k * (count + 1)) → o2 ≡ overAt (at + start) (indexOf w (0 ∷ endsAt os 0 (liveAt n masks l))) o1
+        → field ≡ lengthAt p (8 + k * (count + 1) + bytes) → o3 ≡ overAt (at + field) (le 8 (k * (count + 1))) o2
         → o3 ≡ overAt at (putValues (ragged w p) (map (sliceAt os s) (liveAt n masks l))) out
     unfolding putValues
     ragged-put at out {bytes} {place} {start} {field} {o1} {o2} {o3} eb h ed e1 es e2 ef e3 =
@@ -120,9 +82,9 @@ module _ (w : ℕ) (p : Place) (masks : List ℕ) (l : ℕ) {n : ℕ} {os : List
         (ap (λ (x : List ℕ). length (indexOf w x)) offsets-are ∙ index-long)
         (data-long ∙ sym eb)
         (omega (arith, ragged-long eb))
-        (e1 ∙ ap (λ (x : ℕ). overAt x (slicesAt os s cells) out) ed)
-        (e2 ∙ ap₂ (λ (x : ℕ) (y : List ℕ). overAt x (indexOf w y) o1) es (sym offsets-are))
-        (e3 ∙ ap (λ (x : ℕ). overAt x (le 8 (k * (count + 1))) o2) ef)
+        ed e1 es
+        (e2 ∙ ap (λ (y : List ℕ). overAt (at + start) (indexOf w y) o1) (sym offsets-are))
+        ef e3
 
 -- ---- values just as they are
 
@@ -137,12 +99,12 @@ module _ (w : ℕ) (p : Place) (os s : List ℕ) {k : ℕ} (ek : k ≡ w) where
       omega (arith, length-put p (le 8 (length index)) (put p index s), length-le 8 (length index), length-put p index s, plain-index)
 
   pub plain-put : (out : List ℕ) {place start field : ℕ} {o1 o2 o3 : List ℕ} → length (putRagged w p (record { values = s; offsets = os })) ≤ length out
-      → place ≡ dataAt p 0 (k * length os) → o1 ≡ overAt place (take (length s) (drop 0 s)) out
-      → start ≡ indexAt p 0 (length s) → o2 ≡ overAt start (indexOf w os) o1
-      → field ≡ lengthAt p 0 (length s) (k * length os) → o3 ≡ overAt field (le 8 (k * length os)) o2
+      → place ≡ dataAt p (k * length os) → o1 ≡ overAt place (take (length s) (drop 0 s)) out
+      → start ≡ indexAt p (8 + k * length os + length s) (k * length os) → o2 ≡ overAt start (indexOf w (lessBy 0 os)) o1
+      → field ≡ lengthAt p (8 + k * length os + length s) → o3 ≡ overAt field (le 8 (k * length os)) o2
       → o3 ≡ over (putRagged w p (record { values = s; offsets = os })) out
   plain-put out {place} {start} {field} {o1} {o2} {o3} h ed e1 es e2 ef e3 =
       ragged-laid p w 0 (k * length os) (length s) out o1 o2 o3 (record { values = s; offsets = os }) plain-index refl (omega (arith, plain-long))
-      (e1 ∙ ap₂ (λ (x : ℕ) (y : List ℕ). overAt x y out) ed (take-all (length s) s (omega arith)))
-      (e2 ∙ ap (λ (x : ℕ). overAt x (indexOf w os) o1) es)
-      (e3 ∙ ap (λ (x : ℕ). overAt x (le 8 (k * length os)) o2) ef)
+      ed (e1 ∙ ap₂ (λ (x : ℕ) (y : List ℕ). overAt x y out) (sym (zero-add place)) (take-all (length s) s (omega arith)))
+      es (e2 ∙ ap₂ (λ (x : ℕ) (y : List ℕ). overAt x (indexOf w y) o1) (sym (zero-add start)) (less-none os))
+      ef (e3 ∙ ap (λ (x : ℕ). overAt x (le 8 (k * length os)) o2) (sym (zero-add field)))

@@ -1,2 +1,1 @@
-pub mod Place
 pub mod Slices

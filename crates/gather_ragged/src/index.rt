@@ -5,16 +5,14 @@ use array::kind::IndexWidth;
 use gather::live;
 ghost use mathlib.Core.Path.{_≡_};
 ghost use mathlib.Core.List.{_∷_};
-ghost use Prim.Native.Nat.{_+_, _<_, _≤_};
-ghost use lib.ListN.{length, getD};
+ghost use Prim.Native.Nat.{_+_, _≤_};
+ghost use lib.ListN.{length};
 ghost use Rattle.array.specs.Buffers.{overAt};
 ghost use Rattle.array.specs.Bytes.{le};
-ghost use Rattle.array.specs.Lists.{from};
 ghost use Rattle.array.specs.Meaning.{widthOf};
-ghost use Rattle.array.specs.Offsets.{Rising};
 ghost use Rattle.codec.specs.Ragged.{indexOf};
 ghost use Rattle.gather.specs.Live.{liveAt, Planes};
-ghost use Rattle.gather_ragged.specs.Slices.{endsAt, Offsets};
+ghost use Rattle.gather_ragged.specs.Slices.{Offsets, endsAt, NoneBelow, lessBy};
 
 fn put_offset(out: &mut [u8], at: usize, width: IndexWidth, v: u64)
     requires { ⌜ at + widthOf width ≤ length (now out) ⌝ }
@@ -23,31 +21,6 @@ fn put_offset(out: &mut [u8], at: usize, width: IndexWidth, v: u64)
     match width {
         IndexWidth::Four => field::put_u32(out, at, v),
         IndexWidth::Eight => field::put_u64(out, at, v),
-    }
-}
-
-// Where each of `run` neighbours from cell i on ends, the first beginning at `total`.
-fn put_run_ends(
-    out: &mut [u8],
-    to: usize,
-    width: IndexWidth,
-    offsets: &[u64],
-    i: usize,
-    run: usize,
-    total: u64,
-)
-    requires { ⌜ (i + run < length (now offsets)) × Rising (now offsets) × (total ≤ getD (now offsets) i 0)
-        × (to + length (indexOf (widthOf width) (endsAt (now offsets) total (from i run))) ≤ length (now out)) ⌝ }
-    ensures { λ _. ⌜ now (out .exit) ≡ overAt to (indexOf (widthOf width) (endsAt (now (offsets .entry)) total (from i run))) (now (out .entry)) ⌝ }
-{
-    let mut j = 0;
-    let mut done = 0;
-    while j < run {
-        let start = offsets[i];
-        let end = offsets[i + j + 1];
-        put_offset(out, to + done, width, total + (end - start));
-        done += kind::width_bytes(width);
-        j += 1;
     }
 }
 
@@ -106,21 +79,21 @@ fn put_live_ends(
     }
 }
 
-// The index just as it is.
-pub fn put_index(out: &mut [u8], to: usize, width: IndexWidth, offsets: &[u64])
-    requires { ⌜ to + length (indexOf (widthOf width) (now offsets)) ≤ length (now out) ⌝ }
-    ensures { λ _. ⌜ now (out .exit) ≡ overAt to (indexOf (widthOf width) (now (offsets .entry))) (now (out .entry)) ⌝ }
+// Every offset less `base`.
+pub fn put_index(out: &mut [u8], to: usize, width: IndexWidth, offsets: &[u64], base: u64)
+    requires { ⌜ NoneBelow base (now offsets) × (to + length (indexOf (widthOf width) (lessBy base (now offsets))) ≤ length (now out)) ⌝ }
+    ensures { λ _. ⌜ now (out .exit) ≡ overAt to (indexOf (widthOf width) (lessBy base (now (offsets .entry)))) (now (out .entry)) ⌝ }
 {
     let mut j = 0;
     let mut done = 0;
     while j < offsets.len() {
-        put_offset(out, to + done, width, offsets[j]);
+        put_offset(out, to + done, width, offsets[j] - base);
         done += kind::width_bytes(width);
         j += 1;
     }
 }
 
-// The index of the `count` cells that the level counts, from offset 0.
+// The index of the `count` cells that the level counts, from offset 0. Where all count, it is the offsets less the first.
 pub fn put_live_index(
     out: &mut [u8],
     to: usize,
@@ -135,11 +108,11 @@ pub fn put_live_index(
         × (to + length (indexOf (widthOf width) (0 ∷ endsAt (now offsets) 0 (liveAt cells (now masks) level))) ≤ length (now out)) ⌝ }
     ensures { λ _. ⌜ now (out .exit) ≡ overAt to (indexOf (widthOf width) (0 ∷ endsAt (now (offsets .entry)) 0 (liveAt cells (now (masks .entry)) level))) (now (out .entry)) ⌝ }
 {
-    put_offset(out, to, width, 0);
-    let behind = to + kind::width_bytes(width);
     if count == cells {
-        put_run_ends(out, behind, width, offsets, 0, cells, 0);
+        put_index(out, to, width, offsets, offsets[0]);
     } else {
+        put_offset(out, to, width, 0);
+        let behind = to + kind::width_bytes(width);
         put_live_ends(out, behind, width, offsets, masks, cells, level, count);
     }
 }

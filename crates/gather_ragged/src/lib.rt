@@ -4,10 +4,10 @@ use array::field;
 use array::kind;
 use array::kind::IndexPlace;
 use array::kind::IndexWidth;
+use codec::vlen;
 
 pub mod data;
 mod index;
-mod place;
 
 ghost use mathlib.Core.Path.{_≡_};
 ghost use mathlib.Core.List.{map};
@@ -17,10 +17,22 @@ ghost use Rattle.array.specs.Buffers.{over, overAt};
 ghost use Rattle.array.specs.Kind.{ragged};
 ghost use Rattle.array.specs.Meaning.{widthOf, placeOf};
 ghost use Rattle.array.specs.Offsets.{last};
+ghost use Rattle.codec.specs.Index.{lengthAt};
 ghost use Rattle.codec.specs.Ragged.{putRagged};
 ghost use Rattle.codec.specs.Values.{putValues};
 ghost use Rattle.gather.specs.Live.{liveAt, Planes};
 ghost use Rattle.gather_ragged.specs.Slices.{sliceAt, Offsets};
+
+// Where the index's length lies, in so many stored bytes.
+fn length_at(place: IndexPlace, stored: usize) -> usize
+    requires { ⌜ 8 ≤ stored ⌝ }
+    ensures { λ r. ⌜ r ≡ lengthAt (placeOf place) stored ⌝ }
+{
+    match place {
+        IndexPlace::Start => 0,
+        IndexPlace::End => stored - 8,
+    }
+}
 
 // Ragged values of the `count` cells that the level counts, end to end from offset 0; says how many bytes it wrote.
 pub fn put_ragged(
@@ -42,13 +54,14 @@ pub fn put_ragged(
     ensures bytes { λ _. ⌜ now (out .exit) ≡ overAt at (putValues (ragged (widthOf width) (placeOf place)) (map (sliceAt (now (offsets .entry)) (now (values .entry))) (liveAt cells (now (masks .entry)) level))) (now (out .entry)) ⌝ }
 {
     let index = kind::width_bytes(width) * (count + 1);
-    let data = place::data_at(place, at, index);
+    let data = at + vlen::data_at(place, index);
     let bytes = data::put_live_data(out, data, values, offsets, masks, cells, level);
-    let start = place::index_at(place, at, bytes);
+    let stored = 8 + index + bytes;
+    let start = at + vlen::index_at(place, stored, index);
     index::put_live_index(out, start, width, offsets, masks, cells, level, count);
-    let field = place::length_at(place, at, bytes, index);
+    let field = at + length_at(place, stored);
     field::put_u64(out, field, index as u64);
-    8 + index + bytes
+    stored
 }
 
 // Ragged values just as they are, those before the first offset too.
@@ -64,10 +77,11 @@ pub fn put_plain(
 {
     let bytes = values.len();
     let index = kind::width_bytes(width) * offsets.len();
-    let data = place::data_at(place, 0, index);
+    let data = vlen::data_at(place, index);
     copy::copy_bytes(out, data, values, 0, bytes);
-    let start = place::index_at(place, 0, bytes);
-    index::put_index(out, start, width, offsets);
-    let field = place::length_at(place, 0, bytes, index);
+    let stored = 8 + index + bytes;
+    let start = vlen::index_at(place, stored, index);
+    index::put_index(out, start, width, offsets, 0);
+    let field = length_at(place, stored);
     field::put_u64(out, field, index as u64);
 }

@@ -1,10 +1,15 @@
 -- `gather_ragged::put_plain` meets its contract: each part has its place, and the parts are the stored values.
 -- Assumes nothing.
-use Prim.Native.Nat.{_≤_, _+_, _*_}
+use Prim.Native.Nat.{_≤_, _+_, _*_, ℕ}
+use mathlib.Core.Path.{ap}
 use native.Mathlib.Omega.{arith}
 use lib.ListN.{length}
+use mathlib.Core.List.{List}
 use Rattle.array.specs.Meaning.{widthOf, placeOf}
-use Rattle.gather_ragged.proofs.Parts.{data-room, index-room, length-room, plain-index, plain-long, plain-put}
+use Rattle.codec.specs.Ragged.{indexOf}
+use Rattle.gather_ragged.proofs.Indexing.{less-none}
+use Rattle.gather_ragged.proofs.Placed.{data-room, index-room, length-room}
+use Rattle.gather_ragged.proofs.Parts.{plain-index, plain-long, plain-put}
 use borrow.Author.Needs.{needs}
 use Rattle.gather_ragged.proofs.put_plain.Statement.{statement}
 use Rattle.gather_ragged.proofs.put_plain.Tie as tie
@@ -24,21 +29,30 @@ data-at-requires c κs = omega (arith, room c)
 copy-bytes-requires : tie.Need-copy-bytes-requires
 copy-bytes-requires c κs = let a = c .before .before .before .before .before .before .args in omega (arith, data-room (placeOf (a .place)) 0 (c .before .before .width-bytes .result * length (a .offsets .now)) (length (a .values .now)) (room (c .before .before)) (c .before .data-at .ensures))
 
+add-stored : tie.Need-add-stored
+add-stored c = omega (arith, room (c .before .before .before .before .before))
+
+add-stored-2 : tie.Need-add-stored-2
+add-stored-2 c = omega (arith, room (c .before .before .before .before .before))
+
 index-at-requires : tie.Need-index-at-requires
-index-at-requires c κs = omega (arith, room (c .before .before .before .before .before))
+index-at-requires c κs = omega arith
 
 put-index-requires : tie.Need-put-index-requires
 put-index-requires c κs =
-    let a = c .before .before .before .before .before .before .before .before .before .before .before .args in
-    omega (
-      arith,
-      index-room (placeOf (a .place)) 0 (c .before .before .before .before .before .before .before .width-bytes .result * length (a .offsets .now)) (length (a .values .now)) (room (c .before .before .before .before .before .before .before)) (c .before .index-at .ensures),
-      plain-index (widthOf (a .width)) (placeOf (a .place)) (a .offsets .now) (a .values .now) (c .before .before .before .before .before .before .before .width-bytes .ensures),
-      c .before .before .before .before .copy-bytes .kept .0,
+    let a = c .before .before .before .before .before .before .before .before .before .before .before .args in (
+      λ i h. omega arith,
+      omega (
+        arith,
+        index-room (placeOf (a .place)) 0 (c .before .before .before .before .before .before .before .width-bytes .result * length (a .offsets .now)) (length (a .values .now)) (room (c .before .before .before .before .before .before .before)) (c .before .index-at .ensures),
+        plain-index (widthOf (a .width)) (placeOf (a .place)) (a .offsets .now) (a .values .now) (c .before .before .before .before .before .before .before .width-bytes .ensures),
+        ap (λ (os : List ℕ). length (indexOf (widthOf (a .width)) os)) (less-none (a .offsets .now)),
+        c .before .before .before .before .copy-bytes .kept .0,
+      ),
     )
 
 length-at-requires : tie.Need-length-at-requires
-length-at-requires c κs = omega (arith, room (c .before .before .before .before .before .before .before .before .before .before))
+length-at-requires c κs = omega arith
 
 put-u64-requires : tie.Need-put-u64-requires
 put-u64-requires c κs =
@@ -67,6 +81,8 @@ put-plain-spec =
     mul-index
     data-at-requires
     copy-bytes-requires
+    add-stored
+    add-stored-2
     index-at-requires
     put-index-requires
     length-at-requires

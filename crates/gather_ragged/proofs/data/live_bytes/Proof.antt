@@ -6,7 +6,7 @@ use lib.ListN.{length}
 use borrow.Author.Needs.{needs}
 use Rattle.array.specs.Limits.{mostCells}
 use Rattle.gather.specs.Live.{liveTest}
-use Rattle.gather_ragged.proofs.Spans.{Summing, summing-begins, summing-ends, summing-inside, summing-rises, summing-fits, summing-more}
+use Rattle.gather_ragged.proofs.Summing.{Summing, summing-begins, summing-ends, summing-inside, summing-rises, summing-fits, summing-more}
 use Rattle.gather_ragged.proofs.data.live_bytes.Statement.{statement}
 use Rattle.gather_ragged.proofs.data.live_bytes.Tie as tie
 

@@ -7,7 +7,7 @@ use lib.ListN.{length, getD}
 use borrow.Author.Needs.{needs}
 use Rattle.array.specs.Limits.{mostCells}
 use Rattle.gather.specs.Live.{liveTest}
-use Rattle.gather_ragged.proofs.Spans.{Slicing, slicing-begins, slicing-same, slicing-ends, slicing-wrote, slicing-skip, slicing-inside, slicing-rises, slicing-source, slicing-room, slicing-more}
+use Rattle.gather_ragged.proofs.Slicing.{Slicing, slicing-begins, slicing-same, slicing-ends, slicing-wrote, slicing-skip, slicing-inside, slicing-rises, slicing-source, slicing-room, slicing-more}
 use Rattle.gather_ragged.proofs.data.put_live_runs.Statement.{statement}
 use Rattle.gather_ragged.proofs.data.put_live_runs.Tie as tie
 

@@ -7,14 +7,15 @@ use lib.ListN.{length}
 use borrow.Author.Needs.{needs}
 use Rattle.array.specs.Limits.{mostCells}
 use Rattle.array.specs.Meaning.{widthOf}
-use Rattle.gather.specs.Live.{liveTest}
+use Rattle.gather.specs.Live.{liveTest, liveAt}
 use Rattle.gather.proofs.LiveMarks.{mark-le}
-use Rattle.gather_ragged.proofs.Spans.{summing-inside, summing-rises, summing-fits, Indexing, indexing-begins, indexing-same, indexing-ends, indexing-inside, indexing-room, indexing-more}
+use Rattle.gather_ragged.proofs.Summing.{summing-inside, summing-rises, summing-fits}
+use Rattle.gather_ragged.proofs.Indexing.{Indexing, indexing-begins, indexing-same, indexing-ends, indexing-inside, indexing-room, indexing-more}
 use Rattle.gather_ragged.proofs.index.put_marked_ends.Statement.{statement}
 use Rattle.gather_ragged.proofs.index.put_marked_ends.Tie as tie
 
 abbrev Inv-loop : tie.InvT-loop
-Inv-loop out₀ to width offsets masks cells level count k i₀ total₀ done₀ out i total done = Indexing (liveTest cells masks level) cells (widthOf width) offsets out₀ to count out i total done
+Inv-loop out₀ to width offsets masks cells level count k i₀ total₀ done₀ out i total done = Indexing (liveTest cells masks level) cells (widthOf width) offsets out₀ to out i total done
 
 abbrev μ-loop : tie.MeasureT-loop
 μ-loop out₀ to width offsets masks cells level count k i₀ total₀ done₀ out i total done = cells - i
@@ -22,8 +23,11 @@ abbrev μ-loop : tie.MeasureT-loop
 same : (c : tie.At-loop Inv-loop μ-loop) → length (c .loop .out) ≡ length (c .before .before .before .before .before .args .out .now)
 same c = indexing-same (c .loop .inv)
 
+more : (c : tie.In-loop Inv-loop μ-loop) → c .before .loop .done < length (liveAt (c .before .before .before .before .before .before .args .cells) (c .before .before .before .before .before .before .args .masks .now) (c .before .before .before .before .before .before .args .level))
+more c = omega (arith, c .loop-test .taken, c .before .before .before .before .before .before .pre .1)
+
 within : (c : tie.In-loop Inv-loop μ-loop) → c .before .loop .i < c .before .before .before .before .before .before .args .cells
-within c = indexing-inside (c .before .loop .inv) (c .loop-test .taken)
+within c = indexing-inside (c .before .loop .inv) (more c)
 
 inside : (c : tie.In-loop Inv-loop μ-loop) → c .before .loop .i + 1 < length (c .before .before .before .before .before .before .args .offsets .now)
 inside c = summing-inside (c .before .loop .inv .sums) (within c)
@@ -32,13 +36,13 @@ wide : (c : tie.In-loop Inv-loop μ-loop) → c .before .loop .done * c .before 
 wide c = ap (λ (w : ℕ). c .before .loop .done * w) (c .before .before .width-bytes .ensures)
 
 room : (c : tie.In-loop Inv-loop μ-loop) → c .before .before .before .before .before .before .args .to + c .before .loop .done * widthOf (c .before .before .before .before .before .before .args .width) + widthOf (c .before .before .before .before .before .before .args .width) ≤ length (c .before .loop .out)
-room c = indexing-room (c .before .loop .inv) (c .loop-test .taken)
+room c = indexing-room (c .before .loop .inv) (more c)
 
 width-bytes-requires : tie.Need-width-bytes-requires Inv-loop μ-loop
 width-bytes-requires c κs = search needs
 
 loop-holds : tie.Need-loop-holds Inv-loop μ-loop
-loop-holds c = indexing-begins (c .before .before .before .before .pre .1) (c .before .before .before .before .pre .2) (c .before .before .before .before .pre .3)
+loop-holds c = indexing-begins (c .before .before .before .before .pre .2) (c .before .before .before .before .pre .3)
 
 live-mark-requires : tie.Need-live-mark-requires Inv-loop μ-loop
 live-mark-requires c κs = omega (arith, (within c), c .before .before .before .before .before .before .pre .0 .shallow, c .before .before .before .before .before .before .pre .0 .planes)
@@ -94,13 +98,13 @@ loop-less : tie.Need-loop-less Inv-loop μ-loop
 loop-less c = omega (arith, (within (c .before .before .before .before .before .before .before)))
 
 loop-again : tie.Need-loop-again Inv-loop μ-loop
-loop-again c = indexing-more (c .before .before .before .before .before .before .before .before .loop .inv) (c .before .before .before .before .before .before .before .loop-test .taken) (c .before .before .before .before .before .before .live-mark .ensures) (c .before .before .before .before .before .before .before .before .before .width-bytes .ensures) (c .before .before .put-offset .ensures)
+loop-again c = indexing-more (c .before .before .before .before .before .before .before .before .loop .inv) (more (c .before .before .before .before .before .before .before)) (c .before .before .before .before .before .before .live-mark .ensures) (c .before .before .before .before .before .before .before .before .before .width-bytes .ensures) (c .before .before .put-offset .ensures)
 
 same-length : tie.Need-same-length Inv-loop μ-loop
 same-length c = (same (c .before))
 
 returns : tie.Need-returns Inv-loop μ-loop
-returns c = indexing-ends (c .before .loop .inv) (c .loop-test .left)
+returns c = indexing-ends (c .before .loop .inv) (omega (arith, c .loop-test .left, c .before .before .before .before .before .before .pre .1))
 
 pub put-marked-ends-spec : {M : Type 1} → statement M
 put-marked-ends-spec =
