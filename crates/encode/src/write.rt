@@ -1,7 +1,6 @@
 // The stored form, written by position: a frame holds a content, and a content may be a frame again.
 use crate::values;
 use array::field;
-use array::kind::Kind;
 use array::kind::Values;
 use codec::mask;
 use gather::cells;
@@ -94,33 +93,37 @@ fn write_frame(
 // Writes the whole stored form. At depth 0 all cells are there, and ragged values go just as they are.
 pub fn write_stored(
     out: &mut [u8],
-    kind: Kind,
+    form: Values,
+    depth: usize,
     values: &[u8],
     offsets: &[u64],
     masks: &[u8],
     cells: usize,
 )
-    requires ready { ⌜ Ready (formOf (kind .values)) cells (contentIn (now masks) (now values) (now offsets)) (kind .depth) ⌝ }
-    requires room { ⌜ length (storedBy (formOf (kind .values)) cells (contentIn (now masks) (now values) (now offsets)) (kind .depth)) ≤ length (now out) ⌝ }
-    ensures { λ _. ⌜ now (out .exit) ≡ over (storedBy (formOf (kind .values)) cells (contentIn (now (masks .entry)) (now (values .entry)) (now (offsets .entry))) (kind .depth)) (now (out .entry)) ⌝ }
+    requires ready { ⌜ Ready (formOf form) cells (contentIn (now masks) (now values) (now offsets)) depth ⌝ }
+    requires room { ⌜ length (storedBy (formOf form) cells (contentIn (now masks) (now values) (now offsets)) depth) ≤ length (now out) ⌝ }
+    ensures { λ _. ⌜ now (out .exit) ≡ over (storedBy (formOf form) cells (contentIn (now (masks .entry)) (now (values .entry)) (now (offsets .entry))) depth) (now (out .entry)) ⌝ }
 {
-    let form = kind.values;
-    let depth = kind.depth as usize;
+    if 0 < depth {
+        write_content(out, 0, form, values, offsets, masks, cells, 0, depth);
+        return;
+    }
     match form {
-        Values::Fixed(size, order) => {
-            if depth == 0 {
-                let k = size as usize;
-                cells::put_all(out, values, k, order, cells);
-            } else {
-                write_content(out, 0, form, values, offsets, masks, cells, 0, depth);
-            }
-        }
-        Values::Ragged(width, place) => {
-            if depth == 0 {
-                gather_ragged::put_plain(out, width, place, values, offsets);
-            } else {
-                write_content(out, 0, form, values, offsets, masks, cells, 0, depth);
-            }
-        }
+        Values::Fixed(size, order) => endian::cells::copy_cells(
+            out,
+            0,
+            values,
+            0,
+            size as usize,
+            order,
+            cells,
+        ),
+        Values::Ragged(width, place) => gather_ragged::put_plain(
+            out,
+            width,
+            place,
+            values,
+            offsets,
+        ),
     }
 }
