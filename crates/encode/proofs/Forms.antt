@@ -119,10 +119,10 @@ module _ (v : Values) {n : ℕ} {c : Content} {l : ℕ} (r : Ready (formOf v) n 
     pub fixed-fits : length (c .values) ≡ n * s
     fixed-fits = subst (λ (x : Values). ValuesOk (formOf x) n c) e (r .fit) .0
 
-    pub fixed-source : 0 + n * s ≤ length (c .values)
+    pub fixed-source : n * s ≤ length (c .values)
     fixed-source = omega (arith, fixed-fits)
 
-    pub fixed-writes : piecesAt (orderOf o) 0 s (c .values) (liveAt n (c .masks) l) ≡ valuesFrom (formOf v) n c l
+    pub fixed-writes : piecesAt (orderOf o) s (c .values) (liveAt n (c .masks) l) ≡ valuesFrom (formOf v) n c l
     fixed-writes = fixed-put s (orderOf o) c (liveAt n (c .masks) l) ∙ ap (λ (x : Values). valuesFrom (formOf x) n c l) (sym e)
 
     pub fixed-wrote : {count : ℕ} → count ≡ length (liveAt n (c .masks) l) → count * s ≡ length (valuesFrom (formOf v) n c l)

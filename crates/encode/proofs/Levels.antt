@@ -63,14 +63,14 @@ module _ (f : Form) (n : ℕ) (c : Content) (l : ℕ) where
 
 -- ---- values of one size
 
-pub fixed-put : (k : ℕ) (o : Order) (c : Content) (is : List ℕ) → piecesAt o 0 k (c .values) is ≡ putValues (fixed k o) (map (valueAt (fixed k o) c) is)
+pub fixed-put : (k : ℕ) (o : Order) (c : Content) (is : List ℕ) → piecesAt o k (c .values) is ≡ putValues (fixed k o) (map (valueAt (fixed k o) c) is)
 unfolding putValues
-fixed-put k o c is = ap joined (sym (map-map (pieceAt 0 k (c .values)) (ordered o) is))
+fixed-put k o c is = ap joined (sym (map-map (pieceAt k (c .values)) (ordered o) is))
 
 pub fixed-long : (k n : ℕ) (o : Order) (c : Content) (l : ℕ) → length (c .values) ≡ n * k
     → length (valuesFrom (fixed k o) n c l) ≡ length (liveAt n (c .masks) l) * k
 fixed-long k n o c l e =
-    ap length (sym (fixed-put k o c (liveAt n (c .masks) l))) ∙ pieces-long o 0 k (c .values) (liveTest n (c .masks) l) n (omega arith)
+    ap length (sym (fixed-put k o c (liveAt n (c .masks) l))) ∙ pieces-long o k (c .values) (liveTest n (c .masks) l) n (omega arith)
 
 -- ---- the written length
 
@@ -140,9 +140,8 @@ plain-length k n o masks os = sym (ap (λ (m : ℕ). orNothing m (m * k)) (ap le
 pub plain-stored : (k n : ℕ) (o : Order) (c : Content) → joined (map (ordered o) (pieces k n (drop 0 (c .values)))) ≡ storedFrom (fixed k o) n c 0 0
 unfolding storedFrom putValues
 plain-stored k n o c =
-    let z : 0 ≡ 0 + 0 * k = omega (arith, zero-mul k) in
-    ap (λ (m : ℕ). joined (map (ordered o) (pieces k n (drop m (c .values))))) z
-    ∙ sym (run-pieces o 0 k (c .values) 0 n)
+    ap (λ (m : ℕ). joined (map (ordered o) (pieces k n (drop m (c .values))))) (sym (zero-mul k))
+    ∙ sym (run-pieces o k (c .values) 0 n)
     ∙ fixed-put k o c (from 0 n)
     ∙ go (from 0 n)
     ∙ ap (unlessNone (λ is. putValues (fixed k o) (map (valueAt (fixed k o) c) is))) (sym (live-all n (c .masks)))

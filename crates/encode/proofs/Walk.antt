@@ -52,8 +52,7 @@ slices-at a (b ∷ bs) s =
 
 pub values-at : (f : Form) (n : ℕ) (c : Content) → ValuesOk f n c → valuesIn f n c ≡ map (valueAt f c) (from 0 n)
 values-at (fixed k o) n c p =
-    let q : 0 ≡ 0 + 0 * k = omega (arith, zero-mul k) in
-    ap (λ (m : ℕ). pieces k n (drop m (c .values))) q ∙ pieces-at 0 k n 0 (c .values)
+    ap (λ (m : ℕ). pieces k n (drop m (c .values))) (sym (zero-mul k)) ∙ pieces-at k n 0 (c .values)
 values-at (ragged w q) n c p = go (c .offsets) (p .0)
   where
     go : (os : List ℕ) → length os ≡ suc n → slices os (c .values) ≡ map (sliceAt os (c .values)) (from 0 n)

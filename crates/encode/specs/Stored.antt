@@ -25,7 +25,7 @@ contentIn masks values offsets = record { masks = masks; values = values; offset
 
 -- the value of cell i
 abbrev pub valueAt : Form → Content → ℕ → Value
-valueAt (fixed k o) c i = pieceAt 0 k (c .values) i
+valueAt (fixed k o) c i = pieceAt k (c .values) i
 valueAt (ragged w p) c i = sliceAt (c .offsets) (c .values) i
 
 -- the values of the cells that level l counts

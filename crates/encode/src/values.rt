@@ -54,7 +54,7 @@ pub fn put_values(
     match form {
         Values::Fixed(size, order) => {
             let k = size as usize;
-            cells::put_live(out, at, values, 0, k, order, masks, cells, level, count);
+            cells::put_live(out, at, values, k, order, masks, cells, level, count);
             count * k
         }
         Values::Ragged(width, place) => gather_ragged::put_ragged(

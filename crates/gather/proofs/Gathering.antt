@@ -72,8 +72,8 @@ module _ {t : ℕ → Bool} {n : ℕ} {g : ℕ → List ℕ} {d : List ℕ} {to 
 -- ---- pieces of one size
 
 -- the pieces of a run lie end to end
-pub run-pieces : (o : Order) (at k : ℕ) (s : List ℕ) (i r : ℕ) → piecesAt o at k s (from i r) ≡ joined (map (ordered o) (pieces k r (drop (at + i * k) s)))
-run-pieces o at k s i r = ap joined (sym (map-map (pieceAt at k s) (ordered o) (from i r)) ∙ ap (map (ordered o)) (sym (pieces-at at k r i s)))
+pub run-pieces : (o : Order) (k : ℕ) (s : List ℕ) (i r : ℕ) → piecesAt o k s (from i r) ≡ joined (map (ordered o) (pieces k r (drop (i * k) s)))
+run-pieces o k s i r = ap joined (sym (map-map (pieceAt k s) (ordered o) (from i r)) ∙ ap (map (ordered o)) (sym (pieces-at k r i s)))
 
 sized-whole : (k n : ℕ) (s : List ℕ) → n * k ≤ length s → Sized k (pieces k n s)
 sized-whole k zero s h = tt
@@ -91,34 +91,34 @@ length-run o k n s h =
 pub rows-fit : (i r n k : ℕ) → i + r ≤ n → i * k + r * k ≤ n * k
 rows-fit i r n k h = omega (arith, mul-le-mul-right {m = i + r} {n = n} k h, add-mul i r k)
 
-pub record Storing (o : Order) (at k : ℕ) (s : List ℕ) (t : ℕ → Bool) (n : ℕ) (d : List ℕ) (to : ℕ) (out : List ℕ) (i done : ℕ) : Type 0 where
-  pub source : at + n * k ≤ length s
-  pub gathers : Gathering t n (orderedAt o at k s) d to out i done
+pub record Storing (o : Order) (k : ℕ) (s : List ℕ) (t : ℕ → Bool) (n : ℕ) (d : List ℕ) (to : ℕ) (out : List ℕ) (i done : ℕ) : Type 0 where
+  pub source : n * k ≤ length s
+  pub gathers : Gathering t n (orderedAt o k s) d to out i done
 
-pub storing-begins : {o : Order} {at k : ℕ} {s : List ℕ} {t : ℕ → Bool} {n : ℕ} {d : List ℕ} {to : ℕ}
-    → at + n * k ≤ length s → to + length (piecesAt o at k s (passing t (from 0 n))) ≤ length d → Storing o at k s t n d to d 0 0
+pub storing-begins : {o : Order} {k : ℕ} {s : List ℕ} {t : ℕ → Bool} {n : ℕ} {d : List ℕ} {to : ℕ}
+    → n * k ≤ length s → to + length (piecesAt o k s (passing t (from 0 n))) ≤ length d → Storing o k s t n d to d 0 0
 storing-begins q h = record { source = q; gathers = gathering-begins h }
 
-module _ {o : Order} {at k : ℕ} {s : List ℕ} {t : ℕ → Bool} {n : ℕ} {d : List ℕ} {to : ℕ} {out : List ℕ} {i done : ℕ} (l : Storing o at k s t n d to out i done) where
+module _ {o : Order} {k : ℕ} {s : List ℕ} {t : ℕ → Bool} {n : ℕ} {d : List ℕ} {to : ℕ} {out : List ℕ} {i done : ℕ} (l : Storing o k s t n d to out i done) where
   pub storing-same : length out ≡ length d
   storing-same = gathering-same (l .gathers)
 
-  pub storing-ends : n ≤ i → out ≡ overAt to (piecesAt o at k s (passing t (from 0 n))) d
+  pub storing-ends : n ≤ i → out ≡ overAt to (piecesAt o k s (passing t (from 0 n))) d
   storing-ends h = gathering-ends (l .gathers) h
 
   module _ {r : ℕ} (e : r ≡ runOf t i (n - i)) (h : i < n) where
     pub storing-within : i + r ≤ n
     storing-within = omega (arith, run-le t i (n - i))
 
-    pub storing-source : at + i * k + r * k ≤ length s
+    pub storing-source : i * k + r * k ≤ length s
     storing-source = omega (arith, l .source, rows-fit i r n k storing-within)
 
-    long : length (joined (map (ordered o) (pieces k r (drop (at + i * k) s)))) ≡ r * k
-    long = length-run o k r (drop (at + i * k) s) (omega (arith, length-drop (at + i * k) s, storing-source))
+    long : length (joined (map (ordered o) (pieces k r (drop (i * k) s)))) ≡ r * k
+    long = length-run o k r (drop (i * k) s) (omega (arith, length-drop (i * k) s, storing-source))
 
     pub storing-room : to + done + r * k ≤ length out
-    storing-room = omega (arith, gathering-room (l .gathers) e (run-pieces o at k s i r), long)
+    storing-room = omega (arith, gathering-room (l .gathers) e (run-pieces o k s i r), long)
 
-    pub storing-more : {out′ : List ℕ} → out′ ≡ overAt (to + done) (joined (map (ordered o) (pieces k r (drop (at + i * k) s)))) out
-        → Storing o at k s t n d to out′ (i + (r + 1)) (done + r * k)
-    storing-more eo = record { source = l .source; gathers = gathering-more (l .gathers) e (run-pieces o at k s i r) eo long }
+    pub storing-more : {out′ : List ℕ} → out′ ≡ overAt (to + done) (joined (map (ordered o) (pieces k r (drop (i * k) s)))) out
+        → Storing o k s t n d to out′ (i + (r + 1)) (done + r * k)
+    storing-more eo = record { source = l .source; gathers = gathering-more (l .gathers) e (run-pieces o k s i r) eo long }

@@ -43,12 +43,11 @@ plane-at n masks l h =
     ∙ map-from (λ i. getD (take n ps) i 0) (maskAt n masks l) 0 n (λ i h. getD-take n ps i 0 (omega arith) ∙ getD-drop (l * n) masks i 0)
 
 -- the pieces of n cells from cell a on
-pub pieces-at : (at k n a : ℕ) (s : List ℕ) → pieces k n (drop (at + a * k) s) ≡ map (pieceAt at k s) (from a n)
-pieces-at at k zero a s = refl
-pieces-at at k (suc n) a s =
-    let q : at + a * k + k ≡ at + suc a * k = omega (arith, suc-mul a k) in
-    ap (λ (r : List Value). take k (drop (at + a * k) s) ∷ r)
-    (ap (pieces k n) (drop-drop k (at + a * k) s ∙ ap (λ (m : ℕ). drop m s) q) ∙ pieces-at at k n (suc a) s)
+pub pieces-at : (k n a : ℕ) (s : List ℕ) → pieces k n (drop (a * k) s) ≡ map (pieceAt k s) (from a n)
+pieces-at k zero a s = refl
+pieces-at k (suc n) a s =
+    ap (λ (r : List Value). take k (drop (a * k) s) ∷ r)
+    (ap (pieces k n) (drop-drop k (a * k) s ∙ ap (λ (m : ℕ). drop m s) (sym (suc-mul a k))) ∙ pieces-at k n (suc a) s)
 
 -- level 0 counts every cell
 pub live-all : (n : ℕ) (masks : List ℕ) → liveAt n masks 0 ≡ from 0 n

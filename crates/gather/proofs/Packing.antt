@@ -145,30 +145,29 @@ module _ {t : ℕ → Bool} {n : ℕ} {g : ℕ → List ℕ} {k : ℕ} {d : List
 
 -- ---- pieces of one size
 
-pub piece-in : (at k : ℕ) {i n m : ℕ} → i < n → at + n * k ≤ m → at + i * k + k ≤ m
-piece-in at k {i} {n} {m} h q = omega (arith, mul-le-mul-right {m = suc i} {n = n} k h, suc-mul i k)
+pub piece-in : (k : ℕ) {i n m : ℕ} → i < n → n * k ≤ m → i * k + k ≤ m
+piece-in k {i} {n} {m} h q = omega (arith, mul-le-mul-right {m = suc i} {n = n} k h, suc-mul i k)
 
-pub pieces-sized : (o : Order) (at k n : ℕ) (s : List ℕ) → at + n * k ≤ length s → (j : ℕ) → j < n → length (orderedAt o at k s j) ≡ k
-pieces-sized o at k n s h j l =
-    length-ordered o (take k (drop (at + j * k) s))
-    ∙ length-take-le k (drop (at + j * k) s) (omega (arith, length-drop (at + j * k) s, mul-le-mul-right {m = suc j} {n = n} k l, suc-mul j k))
+pub pieces-sized : (o : Order) (k n : ℕ) (s : List ℕ) → n * k ≤ length s → (j : ℕ) → j < n → length (orderedAt o k s j) ≡ k
+pieces-sized o k n s h j l =
+    length-ordered o (take k (drop (j * k) s))
+    ∙ length-take-le k (drop (j * k) s) (omega (arith, length-drop (j * k) s, mul-le-mul-right {m = suc j} {n = n} k l, suc-mul j k))
 
-pub pieces-long : (o : Order) (at k : ℕ) (s : List ℕ) (t : ℕ → Bool) (n : ℕ) → at + n * k ≤ length s
-    → length (piecesAt o at k s (passing t (from 0 n))) ≡ length (passing t (from 0 n)) * k
-pieces-long o at k s t n h =
-    ap (λ (is : List ℕ). length (piecesAt o at k s is)) (sym (passing-start t n)) ∙ left-long t n (orderedAt o at k s) k (pieces-sized o at k n s h) 0
+pub pieces-long : (o : Order) (k : ℕ) (s : List ℕ) (t : ℕ → Bool) (n : ℕ) → n * k ≤ length s
+    → length (piecesAt o k s (passing t (from 0 n))) ≡ length (passing t (from 0 n)) * k
+pieces-long o k s t n h =
+    ap (λ (is : List ℕ). length (piecesAt o k s is)) (sym (passing-start t n)) ∙ left-long t n (orderedAt o k s) k (pieces-sized o k n s h) 0
     ∙ ap (λ (is : List ℕ). length is * k) (passing-start t n)
 
 -- where every cell is counted, they lie end to end
-pub all-pieces : (o : Order) (at k : ℕ) (s : List ℕ) (t : ℕ → Bool) (n : ℕ) {count : ℕ} → count ≡ length (passing t (from 0 n)) → count ≡ n
-    → joined (map (ordered o) (pieces k n (drop at s))) ≡ piecesAt o at k s (passing t (from 0 n))
-all-pieces o at k s t n ec en =
-    let z : at ≡ at + 0 * k = omega (arith, zero-mul k) in
-    ap (λ (m : ℕ). joined (map (ordered o) (pieces k n (drop m s)))) z ∙ sym (run-pieces o at k s 0 n) ∙ ap (piecesAt o at k s) (sym (all-counted t n (sym ec ∙ en)))
+pub all-pieces : (o : Order) (k : ℕ) (s : List ℕ) (t : ℕ → Bool) (n : ℕ) {count : ℕ} → count ≡ length (passing t (from 0 n)) → count ≡ n
+    → joined (map (ordered o) (pieces k n (drop 0 s))) ≡ piecesAt o k s (passing t (from 0 n))
+all-pieces o k s t n ec en =
+    ap (λ (m : ℕ). joined (map (ordered o) (pieces k n (drop m s)))) (sym (zero-mul k)) ∙ sym (run-pieces o k s 0 n) ∙ ap (piecesAt o k s) (sym (all-counted t n (sym ec ∙ en)))
 
-pub all-long : (o : Order) (at k : ℕ) (s : List ℕ) (t : ℕ → Bool) (n : ℕ) {count : ℕ} → at + n * k ≤ length s → count ≡ length (passing t (from 0 n)) → count ≡ n
-    → length (piecesAt o at k s (passing t (from 0 n))) ≡ n * k
-all-long o at k s t n h ec en = pieces-long o at k s t n h ∙ ap (λ (m : ℕ). m * k) (sym ec ∙ en)
+pub all-long : (o : Order) (k : ℕ) (s : List ℕ) (t : ℕ → Bool) (n : ℕ) {count : ℕ} → n * k ≤ length s → count ≡ length (passing t (from 0 n)) → count ≡ n
+    → length (piecesAt o k s (passing t (from 0 n))) ≡ n * k
+all-long o k s t n h ec en = pieces-long o k s t n h ∙ ap (λ (m : ℕ). m * k) (sym ec ∙ en)
 
 -- ---- mask bytes, which are pieces of size 1
 

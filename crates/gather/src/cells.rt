@@ -1,6 +1,5 @@
 // What belongs to the cells that a level counts, end to end: mask bytes, and values of one size.
 use crate::live;
-use array::copy;
 use array::kind::ByteOrder;
 use codec::mask;
 use endian::cells;
@@ -11,46 +10,32 @@ ghost use mathlib.Core.List.{map};
 ghost use Prim.Native.Nat.{_+_, _*_, _≤_};
 ghost use lib.ListN.{length};
 ghost use Rattle.array.specs.Buffers.{overAt};
-ghost use Rattle.array.specs.Kind.{ordered};
-ghost use Rattle.array.specs.Lists.{joined, pieces};
 ghost use Rattle.array.specs.Meaning.{orderOf};
 ghost use Rattle.codec.specs.Mask.{byteMask};
 ghost use Rattle.endian.specs.Word.{wordTest};
 ghost use Rattle.gather.specs.Live.{maskAt, liveAt, Planes};
 ghost use Rattle.gather.specs.Pieces.{piecesAt};
 
-// All cells of values with no mask. The test of the order stands here, so that little values are one copy and no call.
-pub fn put_all(out: &mut [u8], s: &[u8], size: usize, order: ByteOrder, cells: usize)
-    requires { ⌜ (cells * size ≤ length (now out)) × (cells * size ≤ length (now s)) ⌝ }
-    ensures { λ _. ⌜ now (out .exit) ≡ overAt 0 (joined (map (ordered (orderOf order)) (pieces size cells (now (s .entry))))) (now (out .entry)) ⌝ }
-{
-    match order {
-        ByteOrder::Little => copy::copy_bytes(out, 0, s, 0, cells * size),
-        ByteOrder::Big => cells::copy_cells_reversed(out, 0, s, 0, size, cells),
-    }
-}
-
-// Of the cells of one size that begin at `at`, those that the level counts. Neighbours go as one run.
+// Of cells of one size, those that the level counts. Neighbours go as one run.
 fn put_live_runs(
     out: &mut [u8],
     to: usize,
     s: &[u8],
-    at: usize,
     size: usize,
     order: ByteOrder,
     masks: &[u8],
     cells: usize,
     level: usize,
 )
-    requires { ⌜ Planes cells (now masks) level × (at + cells * size ≤ length (now s))
-        × (to + length (piecesAt (orderOf order) at size (now s) (liveAt cells (now masks) level)) ≤ length (now out)) ⌝ }
-    ensures { λ _. ⌜ now (out .exit) ≡ overAt to (piecesAt (orderOf order) at size (now (s .entry)) (liveAt cells (now (masks .entry)) level)) (now (out .entry)) ⌝ }
+    requires { ⌜ Planes cells (now masks) level × (cells * size ≤ length (now s))
+        × (to + length (piecesAt (orderOf order) size (now s) (liveAt cells (now masks) level)) ≤ length (now out)) ⌝ }
+    ensures { λ _. ⌜ now (out .exit) ≡ overAt to (piecesAt (orderOf order) size (now (s .entry)) (liveAt cells (now (masks .entry)) level)) (now (out .entry)) ⌝ }
 {
     let mut i = 0;
     let mut done = 0;
     while i < cells {
         let run = live::live_run(masks, cells, level, i);
-        cells::copy_cells(out, to + done, s, at + i * size, size, order, run);
+        cells::copy_cells(out, to + done, s, i * size, size, order, run);
         done += run * size;
         i += run + 1;
     }
@@ -61,7 +46,6 @@ fn put_live_words(
     out: &mut [u8],
     to: usize,
     s: &[u8],
-    at: usize,
     size: usize,
     order: ByteOrder,
     masks: &[u8],
@@ -70,26 +54,25 @@ fn put_live_words(
     count: usize,
 )
     requires { ⌜ Planes cells (now masks) level × (count ≡ length (liveAt cells (now masks) level))
-        × (wordTest size ≡ true) × (at + cells * size ≤ length (now s))
-        × (to + length (piecesAt (orderOf order) at size (now s) (liveAt cells (now masks) level)) ≤ length (now out)) ⌝ }
-    ensures { λ _. ⌜ now (out .exit) ≡ overAt to (piecesAt (orderOf order) at size (now (s .entry)) (liveAt cells (now (masks .entry)) level)) (now (out .entry)) ⌝ }
+        × (wordTest size ≡ true) × (cells * size ≤ length (now s))
+        × (to + length (piecesAt (orderOf order) size (now s) (liveAt cells (now masks) level)) ≤ length (now out)) ⌝ }
+    ensures { λ _. ⌜ now (out .exit) ≡ overAt to (piecesAt (orderOf order) size (now (s .entry)) (liveAt cells (now (masks .entry)) level)) (now (out .entry)) ⌝ }
 {
     let mut i = 0;
     let mut done = 0;
     while done < count {
-        let v = word::word_at(s, at + i * size, size, order);
+        let v = word::word_at(s, i * size, size, order);
         word::put_word(out, to + done * size, size, v);
         done += live::live_mark(masks, cells, level, i) as usize;
         i += 1;
     }
 }
 
-// Of the cells of one size that begin at `at`, the `count` that the level counts. Each size of a word has a loop of its own.
+// Of cells of one size, the `count` that the level counts. Each size of a word has a loop of its own.
 pub fn put_live(
     out: &mut [u8],
     to: usize,
     s: &[u8],
-    at: usize,
     size: usize,
     order: ByteOrder,
     masks: &[u8],
@@ -98,19 +81,19 @@ pub fn put_live(
     count: usize,
 )
     requires { ⌜ Planes cells (now masks) level × (count ≡ length (liveAt cells (now masks) level))
-        × (at + cells * size ≤ length (now s))
-        × (to + length (piecesAt (orderOf order) at size (now s) (liveAt cells (now masks) level)) ≤ length (now out)) ⌝ }
-    ensures { λ _. ⌜ now (out .exit) ≡ overAt to (piecesAt (orderOf order) at size (now (s .entry)) (liveAt cells (now (masks .entry)) level)) (now (out .entry)) ⌝ }
+        × (cells * size ≤ length (now s))
+        × (to + length (piecesAt (orderOf order) size (now s) (liveAt cells (now masks) level)) ≤ length (now out)) ⌝ }
+    ensures { λ _. ⌜ now (out .exit) ≡ overAt to (piecesAt (orderOf order) size (now (s .entry)) (liveAt cells (now (masks .entry)) level)) (now (out .entry)) ⌝ }
 {
     if count == cells {
-        cells::copy_cells(out, to, s, at, size, order, cells);
+        cells::copy_cells(out, to, s, 0, size, order, cells);
     } else {
         match size {
-            1 => put_live_words(out, to, s, at, 1, order, masks, cells, level, count),
-            2 => put_live_words(out, to, s, at, 2, order, masks, cells, level, count),
-            4 => put_live_words(out, to, s, at, 4, order, masks, cells, level, count),
-            8 => put_live_words(out, to, s, at, 8, order, masks, cells, level, count),
-            _ => put_live_runs(out, to, s, at, size, order, masks, cells, level),
+            1 => put_live_words(out, to, s, 1, order, masks, cells, level, count),
+            2 => put_live_words(out, to, s, 2, order, masks, cells, level, count),
+            4 => put_live_words(out, to, s, 4, order, masks, cells, level, count),
+            8 => put_live_words(out, to, s, 8, order, masks, cells, level, count),
+            _ => put_live_runs(out, to, s, size, order, masks, cells, level),
         }
     }
 }

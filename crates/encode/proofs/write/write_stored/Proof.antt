@@ -35,7 +35,7 @@ copy-cells-requires : tie.Need-copy-cells-requires
 copy-cells-requires c κs =
     let a = c .before .before .before .before .before .before .before .before .before .args in (
       omega (arith, c .before .before .before .before .before .before .before .before .before .pre .1, stored-by-long (formOf (a .form)) (a .cells) (held (c .before .before .before .before .before .before .before .before .before)) (a .depth) (c .before .before .before .before .before .before .before .before .before .pre .0 .fit), length-copied (c .before .before .form .given .1) (a .cells) (a .masks .now) (a .offsets .now) (length (a .values .now)) {d = a .depth} (omega (arith, c .before .before .before .before .if1 .left))),
-      fixed-source (a .form) (c .before .before .before .before .before .before .before .before .before .pre .0) (c .before .before .form .given .1),
+      omega (arith, fixed-source (a .form) (c .before .before .before .before .before .before .before .before .before .pre .0) (c .before .before .form .given .1)),
     )
 
 enum-known-form-2 : tie.Need-enum-known-form-2

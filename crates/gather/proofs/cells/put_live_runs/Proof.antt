@@ -12,10 +12,10 @@ use Rattle.gather.proofs.cells.put_live_runs.Statement.{statement}
 use Rattle.gather.proofs.cells.put_live_runs.Tie as tie
 
 abbrev Inv-loop : tie.InvT-loop
-Inv-loop out₀ to s at size order masks cells level i₀ done₀ out i done = Storing (orderOf order) at size s (liveTest cells masks level) cells out₀ to out i done
+Inv-loop out₀ to s size order masks cells level i₀ done₀ out i done = Storing (orderOf order) size s (liveTest cells masks level) cells out₀ to out i done
 
 abbrev μ-loop : tie.MeasureT-loop
-μ-loop out₀ to s at size order masks cells level i₀ done₀ out i done = cells - i
+μ-loop out₀ to s size order masks cells level i₀ done₀ out i done = cells - i
 
 same : (c : tie.At-loop Inv-loop μ-loop) → length (c .loop .out) ≡ length (c .before .before .before .before .args .out .now)
 same c = storing-same (c .loop .inv)
@@ -23,7 +23,7 @@ same c = storing-same (c .loop .inv)
 within : (c : tie.After-live-run Inv-loop μ-loop) → c .before .before .loop .i + c .live-run .result ≤ c .before .before .before .before .before .before .args .cells
 within c = storing-within (c .before .before .loop .inv) (c .live-run .ensures) (c .before .loop-test .taken)
 
-source : (c : tie.After-live-run Inv-loop μ-loop) → c .before .before .before .before .before .before .args .at + c .before .before .loop .i * c .before .before .before .before .before .before .args .size + c .live-run .result * c .before .before .before .before .before .before .args .size ≤ length (c .before .before .before .before .before .before .args .s .now)
+source : (c : tie.After-live-run Inv-loop μ-loop) → c .before .before .loop .i * c .before .before .before .before .before .before .args .size + c .live-run .result * c .before .before .before .before .before .before .args .size ≤ length (c .before .before .before .before .before .before .args .s .now)
 source c = storing-source (c .before .before .loop .inv) (c .live-run .ensures) (c .before .loop-test .taken)
 
 room : (c : tie.After-live-run Inv-loop μ-loop) → c .before .before .before .before .before .before .args .to + c .before .before .loop .done + c .live-run .result * c .before .before .before .before .before .before .args .size ≤ length (c .before .before .loop .out)
@@ -40,9 +40,6 @@ add-copy-cells c = omega (arith, room (c .before), same (c .before .before .befo
 
 mul-copy-cells : tie.Need-mul-copy-cells Inv-loop μ-loop
 mul-copy-cells c = omega (arith, source (c .before))
-
-add-copy-cells-2 : tie.Need-add-copy-cells-2 Inv-loop μ-loop
-add-copy-cells-2 c = omega (arith, source (c .before))
 
 copy-cells-requires : tie.Need-copy-cells-requires Inv-loop μ-loop
 copy-cells-requires c κs = omega (arith, source (c .before), room (c .before), same (c .before .before .before))
@@ -83,7 +80,6 @@ put-live-runs-spec =
     live-run-requires
     add-copy-cells
     mul-copy-cells
-    add-copy-cells-2
     copy-cells-requires
     mul-done
     add-done

@@ -18,10 +18,10 @@ use Rattle.gather.proofs.cells.put_live_words.Statement.{statement}
 use Rattle.gather.proofs.cells.put_live_words.Tie as tie
 
 abbrev Inv-loop : tie.InvT-loop
-Inv-loop out₀ to s at size order masks cells level count i₀ done₀ out i done = Packing (liveTest cells masks level) cells (orderedAt (orderOf order) at size s) size out₀ to out i done
+Inv-loop out₀ to s size order masks cells level count i₀ done₀ out i done = Packing (liveTest cells masks level) cells (orderedAt (orderOf order) size s) size out₀ to out i done
 
 abbrev μ-loop : tie.MeasureT-loop
-μ-loop out₀ to s at size order masks cells level count i₀ done₀ out i done = cells - i
+μ-loop out₀ to s size order masks cells level count i₀ done₀ out i done = cells - i
 
 same : (c : tie.At-loop Inv-loop μ-loop) → length (c .loop .out) ≡ length (c .before .before .before .before .args .out .now)
 same c = packing-same (c .loop .inv)
@@ -32,20 +32,17 @@ more c = omega (arith, c .loop-test .taken, c .before .before .before .before .b
 cell : (c : tie.In-loop Inv-loop μ-loop) → c .before .loop .i < c .before .before .before .before .before .args .cells
 cell c = packing-cell (c .before .loop .inv) (more c)
 
-source : (c : tie.In-loop Inv-loop μ-loop) → c .before .before .before .before .before .args .at + c .before .loop .i * c .before .before .before .before .before .args .size + c .before .before .before .before .before .args .size ≤ length (c .before .before .before .before .before .args .s .now)
-source c = piece-in (c .before .before .before .before .before .args .at) (c .before .before .before .before .before .args .size) (cell c) (c .before .before .before .before .before .pre .3)
+source : (c : tie.In-loop Inv-loop μ-loop) → c .before .loop .i * c .before .before .before .before .before .args .size + c .before .before .before .before .before .args .size ≤ length (c .before .before .before .before .before .args .s .now)
+source c = piece-in (c .before .before .before .before .before .args .size) (cell c) (c .before .before .before .before .before .pre .3)
 
 room : (c : tie.In-loop Inv-loop μ-loop) → c .before .before .before .before .before .args .to + c .before .loop .done * c .before .before .before .before .before .args .size + c .before .before .before .before .before .args .size ≤ length (c .before .loop .out)
 room c = packing-room (c .before .loop .inv) (more c)
 
 loop-holds : tie.Need-loop-holds Inv-loop μ-loop
-loop-holds c = let a = c .before .before .before .args in packing-begins (pieces-sized (orderOf (a .order)) (a .at) (a .size) (a .cells) (a .s .now) (c .before .before .before .pre .3)) (c .before .before .before .pre .4)
+loop-holds c = let a = c .before .before .before .args in packing-begins (pieces-sized (orderOf (a .order)) (a .size) (a .cells) (a .s .now) (c .before .before .before .pre .3)) (c .before .before .before .pre .4)
 
 mul-word-at : tie.Need-mul-word-at Inv-loop μ-loop
 mul-word-at c = omega (arith, (source c))
-
-add-word-at : tie.Need-add-word-at Inv-loop μ-loop
-add-word-at c = omega (arith, (source c))
 
 word-at-requires : tie.Need-word-at-requires Inv-loop μ-loop
 word-at-requires c κs = (c .before .before .before .before .before .pre .2, (source c))
@@ -93,7 +90,6 @@ put-live-words-spec =
     μ-loop
     loop-holds
     mul-word-at
-    add-word-at
     word-at-requires
     mul-put-word
     add-put-word
