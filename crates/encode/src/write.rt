@@ -109,15 +109,7 @@ pub fn write_stored(
         return;
     }
     match form {
-        Values::Fixed(size, order) => endian::cells::copy_cells(
-            out,
-            0,
-            values,
-            0,
-            size as usize,
-            order,
-            cells,
-        ),
+        Values::Fixed(size, order) => cells::put_all(out, values, size as usize, order, cells),
         Values::Ragged(width, place) => gather_ragged::put_plain(
             out,
             width,

@@ -1,5 +1,6 @@
 // What belongs to the cells that a level counts, end to end: mask bytes, and values of one size.
 use crate::live;
+use array::copy;
 use array::kind::ByteOrder;
 use codec::mask;
 use endian::cells;
@@ -10,11 +11,24 @@ ghost use mathlib.Core.List.{map};
 ghost use Prim.Native.Nat.{_+_, _*_, _≤_};
 ghost use lib.ListN.{length};
 ghost use Rattle.array.specs.Buffers.{overAt};
+ghost use Rattle.array.specs.Kind.{ordered};
+ghost use Rattle.array.specs.Lists.{joined, pieces};
 ghost use Rattle.array.specs.Meaning.{orderOf};
 ghost use Rattle.codec.specs.Mask.{byteMask};
 ghost use Rattle.endian.specs.Word.{wordTest};
 ghost use Rattle.gather.specs.Live.{maskAt, liveAt, Planes};
 ghost use Rattle.gather.specs.Pieces.{piecesAt};
+
+// All cells of values with no mask: as endian's copy_cells. The test of the order stands here, so that little values are one copy and no call.
+pub fn put_all(out: &mut [u8], s: &[u8], size: usize, order: ByteOrder, cells: usize)
+    requires { ⌜ (cells * size ≤ length (now out)) × (cells * size ≤ length (now s)) ⌝ }
+    ensures { λ _. ⌜ now (out .exit) ≡ overAt 0 (joined (map (ordered (orderOf order)) (pieces size cells (now (s .entry))))) (now (out .entry)) ⌝ }
+{
+    match order {
+        ByteOrder::Little => copy::copy_bytes(out, 0, s, 0, cells * size),
+        ByteOrder::Big => cells::copy_cells_reversed(out, 0, s, 0, size, cells),
+    }
+}
 
 // Of cells of one size, those that the level counts. Neighbours go as one run.
 fn put_live_runs(

@@ -28,11 +28,11 @@ returns c = let a = c .before .before .before .before .before .before .before .b
 enum-known-form : tie.Need-enum-known-form
 enum-known-form c = search needs
 
-cast-copy-cells : tie.Need-cast-copy-cells
-cast-copy-cells c = search needs
+cast-put-all : tie.Need-cast-put-all
+cast-put-all c = search needs
 
-copy-cells-requires : tie.Need-copy-cells-requires
-copy-cells-requires c κs =
+put-all-requires : tie.Need-put-all-requires
+put-all-requires c κs =
     let a = c .before .before .before .before .before .before .before .before .before .args in (
       omega (arith, c .before .before .before .before .before .before .before .before .before .pre .1, stored-by-long (formOf (a .form)) (a .cells) (held (c .before .before .before .before .before .before .before .before .before)) (a .depth) (c .before .before .before .before .before .before .before .before .before .pre .0 .fit), length-copied (c .before .before .form .given .1) (a .cells) (a .masks .now) (a .offsets .now) (length (a .values .now)) {d = a .depth} (omega (arith, c .before .before .before .before .if1 .left))),
       omega (arith, fixed-source (a .form) (c .before .before .before .before .before .before .before .before .before .pre .0) (c .before .before .form .given .1)),
@@ -48,7 +48,7 @@ same-length-2 : tie.Need-same-length-2
 same-length-2 c = search needs
 
 returns-2 : tie.Need-returns-2
-returns-2 c = let a = c .before .before .before .before .before .before .before .before .before .before .before .before .args in laid-as 0 (a .out .now) (c .before .before .copy-cells .ensures) (stored-copied (c .before .before .before .before .before .form .given .1) (a .cells) (held (c .before .before .before .before .before .before .before .before .before .before .before .before)) {d = a .depth} (omega (arith, c .before .before .before .before .before .before .before .if1 .left)))
+returns-2 c = let a = c .before .before .before .before .before .before .before .before .before .before .before .before .args in laid-as 0 (a .out .now) (c .before .before .put-all .ensures) (stored-copied (c .before .before .before .before .before .form .given .1) (a .cells) (held (c .before .before .before .before .before .before .before .before .before .before .before .before)) {d = a .depth} (omega (arith, c .before .before .before .before .before .before .before .if1 .left)))
 
 same-length-3 : tie.Need-same-length-3
 same-length-3 c = search needs
@@ -64,8 +64,8 @@ write-stored-spec =
     same-length
     returns
     enum-known-form
-    cast-copy-cells
-    copy-cells-requires
+    cast-put-all
+    put-all-requires
     enum-known-form-2
     put-plain-requires
     same-length-2
