@@ -2,7 +2,7 @@
 -- Assumes nothing.
 use mathlib.Core.Path.{_≡_, refl, sym, ap, ap₂, _∙_, subst}
 use mathlib.Core.Logic.{_≢_}
-use Prim.Native.Nat.{ℕ, zero, suc, _+_, _-_, _*_, _≤_}
+use Prim.Native.Nat.{ℕ, zero, suc, _+_, _-_, _*_, _<_, _≤_}
 use native.Mathlib.Nat.{mul-le-mul-right, le-trans, zero-add}
 use native.Mathlib.Numerals.{add-one}
 use native.Mathlib.Omega.{arith}
@@ -22,11 +22,12 @@ use Rattle.array.specs.Offsets.{last, Rising}
 use Rattle.array.specs.Content.{Content, ValuesOk}
 use Rattle.codec.specs.Ragged.{putRagged}
 use Rattle.codec.specs.Values.{putValues}
-use Rattle.encode.specs.Live.{liveAt}
-use Rattle.encode.specs.Pieces.{sliceAt, piecesAt, spansOf}
-use Rattle.encode.specs.Ready.{Planes, Offsets, MeasuresOk, Measured, Ready}
+use Rattle.gather.specs.Live.{liveAt, Planes}
+use Rattle.gather_ragged.specs.Slices.{sliceAt, spansOf, Offsets}
+use Rattle.gather.specs.Pieces.{piecesAt}
+use Rattle.encode.specs.Ready.{MeasuresOk, Measured, Ready}
 use Rattle.encode.specs.Stored.{valuesFrom, storedFrom, storedBy, valuesLengthAt, lengthFrom, lengthBy}
-use Rattle.encode.proofs.Runs.{live-le}
+use Rattle.gather.proofs.Runs.{live-le}
 use Rattle.encode.proofs.Levels.{NarrowOk, values-small, fixed-put, fixed-long, plain-length, plain-stored}
 
 -- ---- fewer levels
@@ -118,10 +119,10 @@ module _ (v : Values) {n : ℕ} {c : Content} {l : ℕ} (r : Ready (formOf v) n 
     pub fixed-fits : length (c .values) ≡ n * s
     fixed-fits = subst (λ (x : Values). ValuesOk (formOf x) n c) e (r .fit) .0
 
-    pub fixed-source : 0 + n * s ≤ length (c .values)
+    pub fixed-source : n * s ≤ length (c .values)
     fixed-source = omega (arith, fixed-fits)
 
-    pub fixed-writes : piecesAt (orderOf o) 0 s (c .values) (liveAt n (c .masks) l) ≡ valuesFrom (formOf v) n c l
+    pub fixed-writes : piecesAt (orderOf o) s (c .values) (liveAt n (c .masks) l) ≡ valuesFrom (formOf v) n c l
     fixed-writes = fixed-put s (orderOf o) c (liveAt n (c .masks) l) ∙ ap (λ (x : Values). valuesFrom (formOf x) n c l) (sym e)
 
     pub fixed-wrote : {count : ℕ} → count ≡ length (liveAt n (c .masks) l) → count * s ≡ length (valuesFrom (formOf v) n c l)
@@ -144,20 +145,25 @@ module _ (v : Values) {n : ℕ} {c : Content} {l : ℕ} (r : Ready (formOf v) n 
 -- ---- by the kind
 
 -- all levels, from level 0
-pub measured-all : {v u : Values} {n : ℕ} {masks os : List ℕ} {d : ℕ} → v ≡ u → Measured (formOf v) n masks os d → Measured (formOf u) n masks os (0 + d)
-measured-all {v} {u} {n} {masks} {os} {d} e m =
-    subst (λ (k : ℕ). Measured (formOf u) n masks os k) (sym (zero-add d)) (subst (λ (x : Values). Measured (formOf x) n masks os d) e m)
+pub measured-all : {f : Form} {n : ℕ} {masks os : List ℕ} {d : ℕ} → Measured f n masks os d → Measured f n masks os (0 + d)
+measured-all {f} {n} {masks} {os} {d} m = subst (λ (k : ℕ). Measured f n masks os k) (sym (zero-add d)) m
 
-pub ready-all : {v u : Values} {n : ℕ} {c : Content} {d : ℕ} → v ≡ u → Ready (formOf v) n c d → Ready (formOf u) n c (0 + d)
-ready-all {v} {u} {n} {c} {d} e r = subst (λ (k : ℕ). Ready (formOf u) n c k) (sym (zero-add d)) (subst (λ (x : Values). Ready (formOf x) n c d) e r)
+pub ready-all : {f : Form} {n : ℕ} {c : Content} {d : ℕ} → Ready f n c d → Ready f n c (0 + d)
+ready-all {f} {n} {c} {d} r = subst (λ (k : ℕ). Ready f n c k) (sym (zero-add d)) r
 
+-- below masks
+pub length-deep : (f : Form) (n : ℕ) (masks os : List ℕ) (bytes d : ℕ) → 0 < d → lengthFrom f n masks os d 0 ≡ lengthBy f n masks bytes os d
+length-deep (fixed k o) n masks os bytes d h = refl
+length-deep (ragged w p) n masks os bytes zero h = absurd (omega arith)
+length-deep (ragged w p) n masks os bytes (suc d) h = refl
+
+pub stored-deep : (f : Form) (n : ℕ) (c : Content) (d : ℕ) → 0 < d → storedFrom f n c d 0 ≡ storedBy f n c d
+stored-deep (fixed k o) n c d h = refl
+stored-deep (ragged w p) n c zero h = absurd (omega arith)
+stored-deep (ragged w p) n c (suc d) h = refl
+
+-- at depth 0
 module _ {v : Values} {s : ℕ} {o : ByteOrder} (e : v ≡ Fixed s o) (n : ℕ) where
-  pub length-fixed : (masks os : List ℕ) (bytes d : ℕ) → lengthFrom (formOf (Fixed s o)) n masks os d 0 ≡ lengthBy (formOf v) n masks bytes os d
-  length-fixed masks os bytes d = rw e
-
-  pub stored-fixed : (c : Content) (d : ℕ) → storedFrom (formOf (Fixed s o)) n c d 0 ≡ storedBy (formOf v) n c d
-  stored-fixed c d = rw e
-
   pub length-copied : (masks os : List ℕ) (bytes : ℕ) {d : ℕ} → d ≡ 0 → n * s ≡ lengthBy (formOf v) n masks bytes os d
   length-copied masks os bytes z = rw (e, z) (plain-length s n (orderOf o) masks os)
 
@@ -165,22 +171,8 @@ module _ {v : Values} {s : ℕ} {o : ByteOrder} (e : v ≡ Fixed s o) (n : ℕ) 
   stored-copied c z = rw (e, z) (plain-stored s n (orderOf o) c)
 
 module _ {v : Values} {w : IndexWidth} {p : IndexPlace} (e : v ≡ Ragged w p) (n : ℕ) where
-  pub length-ragged : (masks os : List ℕ) (bytes : ℕ) {d : ℕ} → d ≢ 0 → lengthFrom (formOf (Ragged w p)) n masks os d 0 ≡ lengthBy (formOf v) n masks bytes os d
-  length-ragged masks os bytes {d} z = rw e (go d z)
-    where
-      go : (d : ℕ) → d ≢ 0 → lengthFrom (formOf (Ragged w p)) n masks os d 0 ≡ lengthBy (formOf (Ragged w p)) n masks bytes os d
-      go zero z = absurd (z refl)
-      go (suc d) z = refl
-
   pub length-plain : (masks os : List ℕ) (bytes : ℕ) {d k : ℕ} → d ≡ 0 → k ≡ widthOf w → 8 + k * (n + 1) + bytes ≡ lengthBy (formOf v) n masks bytes os d
   length-plain masks os bytes z ek = rw (e, z) (ap₂ (λ (a b : ℕ). 8 + a * b + bytes) ek (add-one n))
-
-  pub stored-ragged : (c : Content) {d : ℕ} → d ≢ 0 → storedFrom (formOf (Ragged w p)) n c d 0 ≡ storedBy (formOf v) n c d
-  stored-ragged c {d} z = rw e (go d z)
-    where
-      go : (d : ℕ) → d ≢ 0 → storedFrom (formOf (Ragged w p)) n c d 0 ≡ storedBy (formOf (Ragged w p)) n c d
-      go zero z = absurd (z refl)
-      go (suc d) z = refl
 
   pub stored-plain : (c : Content) {d : ℕ} → d ≡ 0 → putRagged (widthOf w) (placeOf p) (record { values = c .values; offsets = c .offsets }) ≡ storedBy (formOf v) n c d
   stored-plain c z = rw (e, z)

@@ -1,11 +1,5 @@
 pub mod Walk
-pub mod Runs
-pub mod LiveMarks
-pub mod Gathering
-pub mod Spans
-pub mod Placing
-pub mod Packing
-pub mod RaggedLaws
+pub mod Framing
 pub mod Levels
 pub mod Forms
 pub mod Encodes

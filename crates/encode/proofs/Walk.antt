@@ -1,51 +1,31 @@
 -- The cells of an array by their numbers, and the stored form by them.
 -- Assumes nothing.
 use mathlib.Core.Path.{_≡_, refl, sym, ap, ap₂, _∙_}
-use Prim.Native.Nat.{ℕ, zero, suc, _+_, _-_, _*_, _<_, _≤_}
+use Prim.Native.Nat.{ℕ, zero, suc, _+_, _-_, _*_, _≤_}
 use native.Mathlib.Nat.{zero-mul, suc-mul, add-mul, zero-add}
 use native.Mathlib.Omega.{arith}
 use mathlib.Core.Bool.{Bool, true, false, _&&_}
 use mathlib.Core.List.{List, [], _∷_, map}
-use lib.ListN.{length, getD, take, drop, length-drop}
-use lib.Seq.{getD-drop, getD-take, drop-drop, length-take-le}
+use lib.ListN.{length, take, drop}
+use lib.Seq.{drop-drop}
 use Rattle.array.specs.Lists.{pick, from, pieces, passing}
 use Rattle.array.specs.Kind.{Kind, Form, fixed, ragged}
 use Rattle.array.specs.Offsets.{slices, slicesFrom}
 use Rattle.array.specs.Cells.{Value, Cell, maskOf}
 use Rattle.array.specs.Content.{Content, ContentOk, ValuesOk, pairUp, attach, valuesIn, cellsOf}
-use Rattle.array.proofs.Lists.{All-of}
-use Rattle.array.proofs.Geometry.{passing-all}
 use Rattle.codec.specs.Mask.{byteMask}
 use Rattle.stored.specs.Marks.{setTest}
 use Rattle.codec.specs.Frame.{keep, wrap, unlessNone, frame}
 use Rattle.codec.specs.Values.{putValues}
 use Rattle.codec.specs.Calls.{written, storedForm}
-use Rattle.encode.specs.Live.{maskAt, liveTest, liveAt}
-use Rattle.encode.specs.Pieces.{pieceAt, sliceAt, valueAt}
-use Rattle.encode.specs.Stored.{storedFrom, storedBy}
+use Rattle.gather.specs.Live.{maskAt, liveTest, liveAt}
+use Rattle.gather.proofs.Numbered.{from-suc, plane-at, pieces-at, live-all}
+use Rattle.gather_ragged.specs.Slices.{sliceAt}
+use Rattle.encode.specs.Stored.{valueAt, storedFrom, storedBy}
 
--- ---- lists by their elements
-
-module _ {A : Type 0} where
-  pub map-from : (f g : ℕ → A) (a n : ℕ) → ((i : ℕ) → i < a + n → f i ≡ g i) → map f (from a n) ≡ map g (from a n)
-  map-from f g a zero e = refl
-  map-from f g a (suc n) e =
-      ap₂ (λ (x : A) (r : List A). x ∷ r) (e a (omega arith)) (map-from f g (suc a) n (λ i h. e i (omega arith)))
-
-  from-suc : (f : ℕ → A) (a n : ℕ) → map f (from (suc a) n) ≡ map (λ i. f (suc i)) (from a n)
-  from-suc f a zero = refl
-  from-suc f a (suc n) = ap (λ (r : List A). f (suc a) ∷ r) (from-suc f (suc a) n)
-
-  in-place : (z : A) (xs : List A) → map (λ i. getD xs i z) (from 0 (length xs)) ≡ xs
-  in-place z [] = refl
-  in-place z (x ∷ xs) = ap (λ (r : List A). x ∷ r) (from-suc (λ i. getD (x ∷ xs) i z) 0 (length xs) ∙ in-place z xs)
-
-  by-index : (z : A) (xs : List A) (n : ℕ) → length xs ≡ n → xs ≡ map (λ i. getD xs i z) (from 0 n)
-  by-index z xs n e = sym (in-place z xs) ∙ ap (λ (m : ℕ). map (λ i. getD xs i z) (from 0 m)) e
-
-  pairUp-map : (f : ℕ → ℕ) (g : ℕ → A) (is : List ℕ) → pairUp (map f is) (map g is) ≡ map (λ i. (f i, g i)) is
-  pairUp-map f g [] = refl
-  pairUp-map f g (i ∷ is) = ap (λ (r : List (ℕ × A)). (f i, g i) ∷ r) (pairUp-map f g is)
+pairUp-map : {A : Type 0} (f : ℕ → ℕ) (g : ℕ → A) (is : List ℕ) → pairUp (map f is) (map g is) ≡ map (λ i. (f i, g i)) is
+pairUp-map f g [] = refl
+pairUp-map {A} f g (i ∷ is) = ap (λ (r : List (ℕ × A)). (f i, g i) ∷ r) (pairUp-map f g is)
 
 -- ---- cells
 
@@ -53,14 +33,6 @@ module _ {A : Type 0} where
 abbrev cellAt : ℕ → List ℕ → (ℕ → Value) → (d l : ℕ) → ℕ → Cell d
 cellAt n masks val zero l i = val i
 cellAt n masks val (suc d) l i = (maskAt n masks l i, cellAt n masks val d (suc l) i)
-
--- the plane of level l
-pub plane-at : (n : ℕ) (masks : List ℕ) (l : ℕ) → l * n + n ≤ length masks → take n (drop (l * n) masks) ≡ map (maskAt n masks l) (from 0 n)
-plane-at n masks l h =
-    let ps : List ℕ = drop (l * n) masks in
-    let le : n ≤ length ps = omega (arith, length-drop (l * n) masks) in
-    by-index 0 (take n ps) n (length-take-le n ps le)
-    ∙ map-from (λ i. getD (take n ps) i 0) (maskAt n masks l) 0 n (λ i h. getD-take n ps i 0 (omega arith) ∙ getD-drop (l * n) masks i 0)
 
 module _ (n : ℕ) (masks : List ℕ) (val : ℕ → Value) where
   attach-at : (d l : ℕ) → length masks ≡ (l + d) * n → attach d n (drop (l * n) masks) (map val (from 0 n)) ≡ map (cellAt n masks val d l) (from 0 n)
@@ -73,13 +45,6 @@ module _ (n : ℕ) (masks : List ℕ) (val : ℕ → Value) where
 
 -- ---- values
 
-pub pieces-at : (at k n a : ℕ) (s : List ℕ) → pieces k n (drop (at + a * k) s) ≡ map (pieceAt at k s) (from a n)
-pieces-at at k zero a s = refl
-pieces-at at k (suc n) a s =
-    let q : at + a * k + k ≡ at + suc a * k = omega (arith, suc-mul a k) in
-    ap (λ (r : List Value). take k (drop (at + a * k) s) ∷ r)
-    (ap (pieces k n) (drop-drop k (at + a * k) s ∙ ap (λ (m : ℕ). drop m s) q) ∙ pieces-at at k n (suc a) s)
-
 slices-at : (a : ℕ) (os s : List ℕ) → slicesFrom a os s ≡ map (sliceAt (a ∷ os) s) (from 0 (length os))
 slices-at a [] s = refl
 slices-at a (b ∷ bs) s =
@@ -87,8 +52,7 @@ slices-at a (b ∷ bs) s =
 
 pub values-at : (f : Form) (n : ℕ) (c : Content) → ValuesOk f n c → valuesIn f n c ≡ map (valueAt f c) (from 0 n)
 values-at (fixed k o) n c p =
-    let q : 0 ≡ 0 + 0 * k = omega (arith, zero-mul k) in
-    ap (λ (m : ℕ). pieces k n (drop m (c .values))) q ∙ pieces-at 0 k n 0 (c .values)
+    ap (λ (m : ℕ). pieces k n (drop m (c .values))) (sym (zero-mul k)) ∙ pieces-at k n 0 (c .values)
 values-at (ragged w q) n c p = go (c .offsets) (p .0)
   where
     go : (os : List ℕ) → length os ≡ suc n → slices os (c .values) ≡ map (sliceAt os (c .values)) (from 0 n)
@@ -105,10 +69,6 @@ cells-at k n c p =
     ∙ attach-at n (c .masks) (valueAt (k .form) c) (k .depth) 0 (p .masks-fit ∙ ap (λ (m : ℕ). m * n) (sym (zero-add (k .depth))))
 
 -- ---- frames
-
--- level 0 counts every cell
-pub live-all : (n : ℕ) (masks : List ℕ) → liveAt n masks 0 ≡ from 0 n
-live-all n masks = passing-all (λ i. true) (from 0 n) (All-of (λ i. true ≡ true) (λ i. refl) (from 0 n))
 
 unless-map : {A : Type 0} (g : ℕ → A) (f : List A → List ℕ) (h : List ℕ → List ℕ) (is : List ℕ) → f (map g is) ≡ h is → unlessNone f (map g is) ≡ unlessNone h is
 unless-map g f h [] e = refl

@@ -36,14 +36,3 @@ pub record Measured (f : Form) (n : ℕ) (masks os : List ℕ) (levels : ℕ) : 
   pub few : n ≤ mostCells
   pub planes : levels * n ≤ length masks
   pub sizes : MeasuresOk f n os
-
--- to tell the cells that level l counts: the masks of the levels above it
-pub record Planes (n : ℕ) (masks : List ℕ) (l : ℕ) : Type 0 where
-  pub shallow : l ≤ mostDepth
-  pub few : n ≤ mostCells
-  pub planes : l * n ≤ length masks
-
--- offsets of n cells
-pub record Offsets (n : ℕ) (os : List ℕ) : Type 0 where
-  pub counted : length os ≡ suc n
-  pub rising : Rising os

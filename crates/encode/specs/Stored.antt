@@ -7,6 +7,7 @@ use lib.ListN.{length}
 use lib.Dec.{leb}
 use Rattle.array.specs.Answer.{gives, unless, Outcome}
 use Rattle.array.specs.Buffers.{listOutcome}
+use Rattle.array.specs.Cells.{Value}
 use Rattle.array.specs.Kind.{Form, fixed, ragged}
 use Rattle.array.specs.Content.{Content}
 use Rattle.codec.specs.Mask.{byteMask}
@@ -14,12 +15,18 @@ use Rattle.codec.specs.Frame.{unlessNone, wrap}
 use Rattle.codec.specs.Ragged.{putRagged}
 use Rattle.codec.specs.Values.{putValues}
 use Rattle.codec.specs.Length.{raggedLength}
-use Rattle.encode.specs.Live.{maskAt, liveAt}
-use Rattle.encode.specs.Pieces.{valueAt, spansOf}
+use Rattle.gather.specs.Live.{maskAt, liveAt}
+use Rattle.gather.specs.Pieces.{pieceAt}
+use Rattle.gather_ragged.specs.Slices.{sliceAt, spansOf}
 
 -- the content that three slices hold
 abbrev pub contentIn : List ℕ → List ℕ → List ℕ → Content
 contentIn masks values offsets = record { masks = masks; values = values; offsets = offsets }
+
+-- the value of cell i
+abbrev pub valueAt : Form → Content → ℕ → Value
+valueAt (fixed k o) c i = pieceAt k (c .values) i
+valueAt (ragged w p) c i = sliceAt (c .offsets) (c .values) i
 
 -- the values of the cells that level l counts
 abbrev pub valuesFrom : Form → ℕ → Content → ℕ → List ℕ

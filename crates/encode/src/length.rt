@@ -1,10 +1,9 @@
 // The written length: the sum over the levels, outermost first.
-use crate::live;
 use crate::values;
 use array::kind;
-use array::kind::Kind;
 use array::kind::Values;
 use stored::mask;
+use gather::live;
 ghost use mathlib.Core.Path.{_≡_};
 ghost use Prim.Native.Nat.{_+_, _≤_};
 ghost use Rattle.array.specs.Limits.{mostBytes};
@@ -34,26 +33,24 @@ pub fn content_length(
     16 + mask::mask_length(count) + content_length(form, offsets, masks, cells, level + 1, left - 1)
 }
 
-// The written length of valid content of `cells` cells with so many value bytes.
-pub fn stored_length(kind: Kind, cells: usize, masks: &[u8], bytes: usize, offsets: &[u64]) -> usize
-    requires ready { ⌜ Measured (formOf (kind .values)) cells (now masks) (now offsets) (kind .depth) ⌝ }
+// The written length of valid content of `cells` cells with so many value bytes. At depth 0 all of these are written.
+pub fn stored_length(
+    form: Values,
+    depth: usize,
+    cells: usize,
+    masks: &[u8],
+    bytes: usize,
+    offsets: &[u64],
+) -> usize
+    requires ready { ⌜ Measured (formOf form) cells (now masks) (now offsets) depth ⌝ }
     requires small { ⌜ bytes ≤ mostBytes ⌝ }
-    ensures { λ r. ⌜ r ≡ lengthBy (formOf (kind .values)) cells (now (masks .entry)) bytes (now (offsets .entry)) (kind .depth) ⌝ }
+    ensures { λ r. ⌜ r ≡ lengthBy (formOf form) cells (now (masks .entry)) bytes (now (offsets .entry)) depth ⌝ }
 {
-    let form = kind.values;
-    let depth = kind.depth as usize;
+    if 0 < depth {
+        return content_length(form, offsets, masks, cells, 0, depth);
+    }
     match form {
-        Values::Fixed(size, _) => {
-            if depth == 0 {
-                return cells * (size as usize);
-            }
-            content_length(form, offsets, masks, cells, 0, depth)
-        }
-        Values::Ragged(width, _) => {
-            if depth == 0 {
-                return 8 + kind::width_bytes(width) * (cells + 1) + bytes;
-            }
-            content_length(form, offsets, masks, cells, 0, depth)
-        }
+        Values::Fixed(size, _) => cells * (size as usize),
+        Values::Ragged(width, _) => 8 + kind::width_bytes(width) * (cells + 1) + bytes,
     }
 }

@@ -7,10 +7,7 @@ use valid::array_bytes::Checked;
 use valid::shape;
 use valid::shape::Cells;
 
-mod cells;
 mod length;
-mod live;
-mod ragged;
 mod values;
 mod write;
 
@@ -57,10 +54,12 @@ fn encode_valid(
     requires { ⌜ Encodable (kindOf kind) cells (contentIn (now masks) (now values) (now offsets)) ⌝ }
     ensures { λ r. ⌜ outcome r (now (out .exit)) ≡ storedOver (storedForm (kindOf kind) cells (contentIn (now (masks .entry)) (now (values .entry)) (now (offsets .entry)))) (now (out .entry)) ⌝ }
 {
-    let need = length::stored_length(kind, cells, masks, values.len(), offsets);
+    let form = kind.values;
+    let depth = kind.depth as usize;
+    let need = length::stored_length(form, depth, cells, masks, values.len(), offsets);
     if out.len() < need {
         return Written::Refused(refusal::OUTPUT);
     }
-    write::write_stored(out, kind, values, offsets, masks, cells);
+    write::write_stored(out, form, depth, values, offsets, masks, cells);
     Written::Length(need)
 }

@@ -1,14 +1,13 @@
 // The innermost content: values of one size, or ragged values.
-use crate::cells;
-use crate::ragged;
 use array::kind;
 use array::kind::Values;
+use gather::cells;
 ghost use mathlib.Core.Path.{_≡_};
 ghost use Prim.Native.Nat.{_+_, _≤_};
 ghost use lib.ListN.{length};
 ghost use Rattle.array.specs.Buffers.{overAt};
 ghost use Rattle.array.specs.Meaning.{formOf};
-ghost use Rattle.encode.specs.Live.{liveAt};
+ghost use Rattle.gather.specs.Live.{liveAt};
 ghost use Rattle.encode.specs.Ready.{Measured, Ready};
 ghost use Rattle.encode.specs.Stored.{contentIn, valuesFrom, valuesLengthAt};
 
@@ -29,7 +28,7 @@ pub fn values_length(
         Values::Fixed(size, _) => count * (size as usize),
         Values::Ragged(width, _) => {
             let index = kind::width_bytes(width) * (count + 1);
-            8 + index + ragged::live_bytes(offsets, masks, cells, level)
+            8 + index + gather_ragged::data::live_bytes(offsets, masks, cells, level)
         }
     }
 }
@@ -55,10 +54,10 @@ pub fn put_values(
     match form {
         Values::Fixed(size, order) => {
             let k = size as usize;
-            cells::put_live(out, at, values, 0, k, order, masks, cells, level, count);
+            cells::put_live(out, at, values, k, order, masks, cells, level, count);
             count * k
         }
-        Values::Ragged(width, place) => ragged::put_ragged(
+        Values::Ragged(width, place) => gather_ragged::put_ragged(
             out,
             at,
             width,

@@ -1,18 +1,16 @@
 // The stored form, written by position: a frame holds a content, and a content may be a frame again.
-use crate::cells;
-use crate::live;
-use crate::ragged;
 use crate::values;
-use array::kind::Kind;
-use array::kind::Values;
 use buffer::field;
+use array::kind::Values;
 use stored::mask;
+use gather::cells;
+use gather::live;
 ghost use mathlib.Core.Path.{_≡_};
 ghost use Prim.Native.Nat.{_+_, _≤_};
 ghost use lib.ListN.{length};
 ghost use Rattle.array.specs.Buffers.{over, overAt};
 ghost use Rattle.array.specs.Meaning.{formOf};
-ghost use Rattle.encode.specs.Live.{liveAt};
+ghost use Rattle.gather.specs.Live.{liveAt};
 ghost use Rattle.encode.specs.Ready.{Ready};
 ghost use Rattle.encode.specs.Stored.{contentIn, storedFrom, frameFrom, storedBy};
 
@@ -95,33 +93,29 @@ fn write_frame(
 // Writes the whole stored form. At depth 0 all cells are there, and ragged values go just as they are.
 pub fn write_stored(
     out: &mut [u8],
-    kind: Kind,
+    form: Values,
+    depth: usize,
     values: &[u8],
     offsets: &[u64],
     masks: &[u8],
     cells: usize,
 )
-    requires ready { ⌜ Ready (formOf (kind .values)) cells (contentIn (now masks) (now values) (now offsets)) (kind .depth) ⌝ }
-    requires room { ⌜ length (storedBy (formOf (kind .values)) cells (contentIn (now masks) (now values) (now offsets)) (kind .depth)) ≤ length (now out) ⌝ }
-    ensures { λ _. ⌜ now (out .exit) ≡ over (storedBy (formOf (kind .values)) cells (contentIn (now (masks .entry)) (now (values .entry)) (now (offsets .entry))) (kind .depth)) (now (out .entry)) ⌝ }
+    requires ready { ⌜ Ready (formOf form) cells (contentIn (now masks) (now values) (now offsets)) depth ⌝ }
+    requires room { ⌜ length (storedBy (formOf form) cells (contentIn (now masks) (now values) (now offsets)) depth) ≤ length (now out) ⌝ }
+    ensures { λ _. ⌜ now (out .exit) ≡ over (storedBy (formOf form) cells (contentIn (now (masks .entry)) (now (values .entry)) (now (offsets .entry))) depth) (now (out .entry)) ⌝ }
 {
-    let form = kind.values;
-    let depth = kind.depth as usize;
+    if 0 < depth {
+        write_content(out, 0, form, values, offsets, masks, cells, 0, depth);
+        return;
+    }
     match form {
-        Values::Fixed(size, order) => {
-            if depth == 0 {
-                let k = size as usize;
-                cells::put_all(out, values, k, order, cells);
-            } else {
-                write_content(out, 0, form, values, offsets, masks, cells, 0, depth);
-            }
-        }
-        Values::Ragged(width, place) => {
-            if depth == 0 {
-                ragged::put_plain(out, width, place, values, offsets);
-            } else {
-                write_content(out, 0, form, values, offsets, masks, cells, 0, depth);
-            }
-        }
+        Values::Fixed(size, order) => cells::put_all(out, values, size as usize, order, cells),
+        Values::Ragged(width, place) => gather_ragged::put_plain(
+            out,
+            width,
+            place,
+            values,
+            offsets,
+        ),
     }
 }

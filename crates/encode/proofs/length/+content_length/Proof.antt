@@ -2,23 +2,22 @@
 -- Assumes nothing.
 use mathlib.Core.Path.{ap₂, sym, _∙_}
 use mathlib.Core.Logic.{_≢_}
-use Prim.Native.Nat.{_≤_, _+_, _-_, _*_}
+use Prim.Native.Nat.{_≤_, _+_, _-_, _*_, ℕ, _<_}
 use native.Mathlib.Nat.{pos-of-ne-zero}
 use native.Mathlib.Omega.{arith}
 use lib.ListN.{length}
 use Rattle.array.specs.Meaning.{formOf}
-use Rattle.encode.specs.Live.{liveAt}
+use Rattle.gather.specs.Live.{liveAt}
 use Rattle.encode.proofs.Levels.{length-none, length-values, length-frame, length-small}
 use Rattle.encode.proofs.Forms.{measured-here, measured-next, measured-planes, narrow-of, count-small}
 use borrow.Author.Needs.{needs}
-use Prim.Native.Nat.{ℕ, _<_}
 use borrow.Fn.Kinds.{In}
 use borrow.Fn.PlainCycle.{Measures, is, falls, and}
 use Rattle.encode.proofs.length.content_length.Reads as content-length
 use Rattle.encode.proofs.length.content_length.Kinds as content-length-kinds
 use Rattle.encode.proofs.length.+content_length.Lts-content_length as content-length-lts
 use Rattle.stored.proofs.mask.mask_length.Reads as mask-length-reads
-use Rattle.encode.proofs.live.count_live.Reads as count-live-reads
+use Rattle.gather.proofs.live.count_live.Reads as count-live-reads
 use Rattle.encode.proofs.values.values_length.Reads as values-length-reads
 use Rattle.encode.proofs.length.+content_length.{statement}
 use Rattle.encode.proofs.length.+content_length.Tie.{close}

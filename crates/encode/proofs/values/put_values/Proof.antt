@@ -3,7 +3,7 @@
 use mathlib.Core.Path.{ap, _∙_}
 use native.Mathlib.Omega.{arith}
 use lib.ListN.{length}
-use Rattle.encode.proofs.Placing.{laid-as}
+use Rattle.gather.proofs.Placing.{laid-as}
 use Rattle.encode.proofs.Forms.{ready-planes, fixed-source, fixed-writes, fixed-wrote, offsets-fit, offsets-end, ragged-writes}
 use borrow.Author.Needs.{needs}
 use Rattle.encode.proofs.values.put_values.Statement.{statement}

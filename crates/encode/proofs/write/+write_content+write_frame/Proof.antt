@@ -3,20 +3,20 @@
 use mathlib.Core.Path.{_≡_, ap, ap₂, sym, _∙_}
 use mathlib.Core.Logic.{_≢_}
 use mathlib.Core.List.{[], map}
-use Prim.Native.Nat.{_≤_, _+_, _*_}
+use Prim.Native.Nat.{_≤_, _+_, _*_, ℕ, _<_}
 use native.Mathlib.Nat.{pos-of-ne-zero}
 use native.Mathlib.Omega.{arith}
 use lib.ListN.{length, length-map}
 use Rattle.array.specs.Meaning.{formOf}
 use Rattle.array.specs.Content.{Content}
-use Rattle.encode.specs.Live.{maskAt, liveAt}
+use Rattle.gather.specs.Live.{maskAt, liveAt}
 use Rattle.encode.specs.Ready.{Ready}
 use Rattle.encode.specs.Stored.{contentIn, storedFrom}
-use Rattle.encode.proofs.Placing.{at-none, laid-as, frame-laid}
+use Rattle.gather.proofs.Placing.{at-none, laid-as}
+use Rattle.encode.proofs.Framing.{frame-laid}
 use Rattle.encode.proofs.Levels.{stored-none, stored-values, stored-frame, frame-long}
 use Rattle.encode.proofs.Forms.{ready-here, ready-next, ready-planes}
 use borrow.Author.Needs.{needs}
-use Prim.Native.Nat.{ℕ, _<_}
 use borrow.Fn.Kinds.{In}
 use borrow.Fn.PlainCycle.{Measures, is, falls, and}
 use Rattle.encode.proofs.write.write_content.Reads as write-content
@@ -27,8 +27,8 @@ use Rattle.encode.proofs.write.write_frame.Kinds as write-frame-kinds
 use Rattle.encode.proofs.write.+write_content+write_frame.Lts-write_frame as write-frame-lts
 use Rattle.buffer.proofs.field.put_u64.Reads as put-u64-reads
 use Rattle.stored.proofs.mask.mask_length.Reads as mask-length-reads
-use Rattle.encode.proofs.cells.put_mask.Reads as put-mask-reads
-use Rattle.encode.proofs.live.count_live.Reads as count-live-reads
+use Rattle.gather.proofs.cells.put_mask.Reads as put-mask-reads
+use Rattle.gather.proofs.live.count_live.Reads as count-live-reads
 use Rattle.encode.proofs.values.put_values.Reads as put-values-reads
 use Rattle.encode.proofs.write.+write_content+write_frame.{statement}
 use Rattle.encode.proofs.write.+write_content+write_frame.Tie.{close}

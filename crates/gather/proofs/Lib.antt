@@ -1,0 +1,6 @@
+pub mod Numbered
+pub mod Runs
+pub mod LiveMarks
+pub mod Placing
+pub mod Gathering
+pub mod Packing

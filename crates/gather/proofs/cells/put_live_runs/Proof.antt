@@ -1,0 +1,91 @@
+-- `gather::cells::put_live_runs` meets its contract: by the laws of Storing.
+-- Assumes nothing.
+use mathlib.Core.Path.{_≡_}
+use Prim.Native.Nat.{_≤_, _+_, _*_, _-_}
+use native.Mathlib.Omega.{arith}
+use lib.ListN.{length}
+use Rattle.array.specs.Limits.{mostCells}
+use Rattle.array.specs.Meaning.{orderOf}
+use Rattle.gather.specs.Live.{liveTest}
+use Rattle.gather.proofs.Gathering.{Storing, storing-begins, storing-same, storing-ends, storing-within, storing-source, storing-room, storing-more}
+use Rattle.gather.proofs.cells.put_live_runs.Statement.{statement}
+use Rattle.gather.proofs.cells.put_live_runs.Tie as tie
+
+abbrev Inv-loop : tie.InvT-loop
+Inv-loop out₀ to s size order masks cells level i₀ done₀ out i done = Storing (orderOf order) size s (liveTest cells masks level) cells out₀ to out i done
+
+abbrev μ-loop : tie.MeasureT-loop
+μ-loop out₀ to s size order masks cells level i₀ done₀ out i done = cells - i
+
+same : (c : tie.At-loop Inv-loop μ-loop) → length (c .loop .out) ≡ length (c .before .before .before .before .args .out .now)
+same c = storing-same (c .loop .inv)
+
+within : (c : tie.After-live-run Inv-loop μ-loop) → c .before .before .loop .i + c .live-run .result ≤ c .before .before .before .before .before .before .args .cells
+within c = storing-within (c .before .before .loop .inv) (c .live-run .ensures) (c .before .loop-test .taken)
+
+source : (c : tie.After-live-run Inv-loop μ-loop) → c .before .before .loop .i * c .before .before .before .before .before .before .args .size + c .live-run .result * c .before .before .before .before .before .before .args .size ≤ length (c .before .before .before .before .before .before .args .s .now)
+source c = storing-source (c .before .before .loop .inv) (c .live-run .ensures) (c .before .loop-test .taken)
+
+room : (c : tie.After-live-run Inv-loop μ-loop) → c .before .before .before .before .before .before .args .to + c .before .before .loop .done + c .live-run .result * c .before .before .before .before .before .before .args .size ≤ length (c .before .before .loop .out)
+room c = storing-room (c .before .before .loop .inv) (c .live-run .ensures) (c .before .loop-test .taken)
+
+loop-holds : tie.Need-loop-holds Inv-loop μ-loop
+loop-holds c = storing-begins (c .before .before .before .pre .1) (c .before .before .before .pre .2)
+
+live-run-requires : tie.Need-live-run-requires Inv-loop μ-loop
+live-run-requires c κs = omega (arith, c .before .before .before .before .before .pre .0 .shallow, c .before .before .before .before .before .pre .0 .planes)
+
+add-copy-cells : tie.Need-add-copy-cells Inv-loop μ-loop
+add-copy-cells c = omega (arith, room (c .before), same (c .before .before .before))
+
+mul-copy-cells : tie.Need-mul-copy-cells Inv-loop μ-loop
+mul-copy-cells c = omega (arith, source (c .before))
+
+copy-cells-requires : tie.Need-copy-cells-requires Inv-loop μ-loop
+copy-cells-requires c κs = omega (arith, source (c .before), room (c .before), same (c .before .before .before))
+
+mul-done : tie.Need-mul-done Inv-loop μ-loop
+mul-done c = omega (arith, source (c .before .before .before .before))
+
+add-done : tie.Need-add-done Inv-loop μ-loop
+add-done c = omega (arith, room (c .before .before .before .before), same (c .before .before .before .before .before .before))
+
+add-i : tie.Need-add-i Inv-loop μ-loop
+unfolding mostCells
+add-i c = omega (arith, within (c .before .before .before .before), c .before .before .before .before .before .before .before .before .before .before .pre .0 .few)
+
+add-i-2 : tie.Need-add-i-2 Inv-loop μ-loop
+unfolding mostCells
+add-i-2 c = omega (arith, within (c .before .before .before .before), c .before .before .before .before .before .before .before .before .before .before .pre .0 .few)
+
+loop-less : tie.Need-loop-less Inv-loop μ-loop
+loop-less c = omega arith
+
+loop-again : tie.Need-loop-again Inv-loop μ-loop
+loop-again c = storing-more (c .before .before .before .before .before .before .loop .inv) (c .before .before .before .before .live-run .ensures) (c .before .before .before .before .before .loop-test .taken) (c .before .before .copy-cells .ensures)
+
+same-length : tie.Need-same-length Inv-loop μ-loop
+same-length c = same (c .before)
+
+returns : tie.Need-returns Inv-loop μ-loop
+returns c = storing-ends (c .before .loop .inv) (c .loop-test .left)
+
+pub put-live-runs-spec : {M : Type 1} → statement M
+put-live-runs-spec =
+    tie.close
+    (tie.spec
+    Inv-loop
+    μ-loop
+    loop-holds
+    live-run-requires
+    add-copy-cells
+    mul-copy-cells
+    copy-cells-requires
+    mul-done
+    add-done
+    add-i
+    add-i-2
+    loop-less
+    loop-again
+    same-length
+    returns)

@@ -1,0 +1,44 @@
+-- The cells that a level counts (document 01, item 5: the content covers only the cells set there), by their numbers: what code that
+-- goes by places speaks of. Crate encode has that these are the cells of the definitions.
+-- Assumes nothing.
+use Prim.Native.Nat.{ℕ, zero, suc, _+_, _-_, _*_, _≤_}
+use mathlib.Core.Bool.{Bool, true, _&&_}
+use mathlib.Core.List.{List}
+use lib.ListN.{length, getD}
+use Rattle.array.specs.Limits.{mostCells, mostDepth}
+use Rattle.array.specs.Lists.{pick, from, passing}
+use Rattle.stored.specs.Marks.{setTest}
+
+-- the mask byte of cell i at level l, of n cells
+abbrev pub maskAt : ℕ → List ℕ → ℕ → ℕ → ℕ
+maskAt n masks l i = getD masks (l * n + i) 0
+
+-- cell i is set at each of the first l levels
+abbrev pub liveTest : ℕ → List ℕ → ℕ → ℕ → Bool
+liveTest n masks zero i = true
+liveTest n masks (suc l) i = liveTest n masks l i && setTest (maskAt n masks l i)
+
+-- the same as numbers, 1 or 0
+abbrev pub setOne : ℕ → ℕ
+setOne m = pick (setTest m) 1 0
+
+abbrev pub liveOne : ℕ → List ℕ → ℕ → ℕ → ℕ
+liveOne n masks l i = pick (liveTest n masks l i) 1 0
+
+-- the cells that level l counts, all of them and those from i on
+abbrev pub liveAt : ℕ → List ℕ → ℕ → List ℕ
+liveAt n masks l = passing (liveTest n masks l) (from 0 n)
+
+abbrev pub liveFrom : ℕ → List ℕ → ℕ → ℕ → List ℕ
+liveFrom n masks l i = passing (liveTest n masks l) (from i (n - i))
+
+-- how many of the m numbers from i on pass before the first that does not
+abbrev pub runOf : (ℕ → Bool) → ℕ → ℕ → ℕ
+runOf t i zero = zero
+runOf t i (suc m) = pick (t i) (suc (runOf t (suc i) m)) zero
+
+-- what it takes to tell the cells that level l counts: the masks of the levels above it
+pub record Planes (n : ℕ) (masks : List ℕ) (l : ℕ) : Type 0 where
+  pub shallow : l ≤ mostDepth
+  pub few : n ≤ mostCells
+  pub planes : l * n ≤ length masks

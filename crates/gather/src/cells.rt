@@ -1,0 +1,142 @@
+// What belongs to the cells that a level counts, end to end: mask bytes, and values of one size.
+use crate::live;
+use array::kind::ByteOrder;
+use buffer::copy;
+use endian::cells;
+use endian::word;
+use stored::mask;
+ghost use mathlib.Core.Path.{_≡_};
+ghost use mathlib.Core.Bool.{true};
+ghost use mathlib.Core.List.{map};
+ghost use Prim.Native.Nat.{_+_, _*_, _≤_};
+ghost use lib.ListN.{length};
+ghost use Rattle.array.specs.Buffers.{overAt};
+ghost use Rattle.array.specs.Kind.{ordered};
+ghost use Rattle.array.specs.Lists.{joined, pieces};
+ghost use Rattle.array.specs.Meaning.{orderOf};
+ghost use Rattle.codec.specs.Mask.{byteMask};
+ghost use Rattle.endian.specs.Word.{wordTest};
+ghost use Rattle.gather.specs.Live.{maskAt, liveAt, Planes};
+ghost use Rattle.gather.specs.Pieces.{piecesAt};
+
+// All cells of values with no mask: as endian's copy_cells. The test of the order stands here, so that little values are one copy and no call.
+pub fn put_all(out: &mut [u8], s: &[u8], size: usize, order: ByteOrder, cells: usize)
+    requires { ⌜ (cells * size ≤ length (now out)) × (cells * size ≤ length (now s)) ⌝ }
+    ensures { λ _. ⌜ now (out .exit) ≡ overAt 0 (joined (map (ordered (orderOf order)) (pieces size cells (now (s .entry))))) (now (out .entry)) ⌝ }
+{
+    match order {
+        ByteOrder::Little => copy::copy_bytes(out, 0, s, 0, cells * size),
+        ByteOrder::Big => cells::copy_cells_reversed(out, 0, s, 0, size, cells),
+    }
+}
+
+// Of cells of one size, those that the level counts. Neighbours go as one run.
+fn put_live_runs(
+    out: &mut [u8],
+    to: usize,
+    s: &[u8],
+    size: usize,
+    order: ByteOrder,
+    masks: &[u8],
+    cells: usize,
+    level: usize,
+)
+    requires { ⌜ Planes cells (now masks) level × (cells * size ≤ length (now s))
+        × (to + length (piecesAt (orderOf order) size (now s) (liveAt cells (now masks) level)) ≤ length (now out)) ⌝ }
+    ensures { λ _. ⌜ now (out .exit) ≡ overAt to (piecesAt (orderOf order) size (now (s .entry)) (liveAt cells (now (masks .entry)) level)) (now (out .entry)) ⌝ }
+{
+    let mut i = 0;
+    let mut done = 0;
+    while i < cells {
+        let run = live::live_run(masks, cells, level, i);
+        cells::copy_cells(out, to + done, s, i * size, size, order, run);
+        done += run * size;
+        i += run + 1;
+    }
+}
+
+// The same of cells of a word's size, without a branch: a cell that the level does not count is written too, and the next is written over it.
+fn put_live_words(
+    out: &mut [u8],
+    to: usize,
+    s: &[u8],
+    size: usize,
+    order: ByteOrder,
+    masks: &[u8],
+    cells: usize,
+    level: usize,
+    count: usize,
+)
+    requires { ⌜ Planes cells (now masks) level × (count ≡ length (liveAt cells (now masks) level))
+        × (wordTest size ≡ true) × (cells * size ≤ length (now s))
+        × (to + length (piecesAt (orderOf order) size (now s) (liveAt cells (now masks) level)) ≤ length (now out)) ⌝ }
+    ensures { λ _. ⌜ now (out .exit) ≡ overAt to (piecesAt (orderOf order) size (now (s .entry)) (liveAt cells (now (masks .entry)) level)) (now (out .entry)) ⌝ }
+{
+    let mut i = 0;
+    let mut done = 0;
+    while done < count {
+        let v = word::word_at(s, i * size, size, order);
+        word::put_word(out, to + done * size, size, v);
+        done += live::live_mark(masks, cells, level, i) as usize;
+        i += 1;
+    }
+}
+
+// Of cells of one size, the `count` that the level counts. Each size of a word has a loop of its own.
+pub fn put_live(
+    out: &mut [u8],
+    to: usize,
+    s: &[u8],
+    size: usize,
+    order: ByteOrder,
+    masks: &[u8],
+    cells: usize,
+    level: usize,
+    count: usize,
+)
+    requires { ⌜ Planes cells (now masks) level × (count ≡ length (liveAt cells (now masks) level))
+        × (cells * size ≤ length (now s))
+        × (to + length (piecesAt (orderOf order) size (now s) (liveAt cells (now masks) level)) ≤ length (now out)) ⌝ }
+    ensures { λ _. ⌜ now (out .exit) ≡ overAt to (piecesAt (orderOf order) size (now (s .entry)) (liveAt cells (now (masks .entry)) level)) (now (out .entry)) ⌝ }
+{
+    if count == cells {
+        cells::copy_cells(out, to, s, 0, size, order, cells);
+    } else {
+        match size {
+            1 => put_live_words(out, to, s, 1, order, masks, cells, level, count),
+            2 => put_live_words(out, to, s, 2, order, masks, cells, level, count),
+            4 => put_live_words(out, to, s, 4, order, masks, cells, level, count),
+            8 => put_live_words(out, to, s, 8, order, masks, cells, level, count),
+            _ => put_live_runs(out, to, s, size, order, masks, cells, level),
+        }
+    }
+}
+
+// The mask bytes of the cells that the level counts, in the same way.
+fn put_live_mask(out: &mut [u8], to: usize, masks: &[u8], cells: usize, level: usize, count: usize)
+    requires { ⌜ Planes cells (now masks) (level + 1) × (count ≡ length (liveAt cells (now masks) level))
+        × (to + byteMask .size count ≤ length (now out)) ⌝ }
+    ensures { λ _. ⌜ now (out .exit) ≡ overAt to (byteMask .put (map (maskAt cells (now (masks .entry)) level) (liveAt cells (now (masks .entry)) level))) (now (out .entry)) ⌝ }
+{
+    let at = level * cells;
+    let mut i = 0;
+    let mut done = 0;
+    while done < count {
+        mask::put_byte(out, to, done, masks[at + i]);
+        done += live::live_mark(masks, cells, level, i) as usize;
+        i += 1;
+    }
+}
+
+// The stored mask of the `count` cells that the level counts.
+pub fn put_mask(out: &mut [u8], to: usize, masks: &[u8], cells: usize, level: usize, count: usize)
+    requires { ⌜ Planes cells (now masks) (level + 1) × (count ≡ length (liveAt cells (now masks) level))
+        × (to + byteMask .size count ≤ length (now out)) ⌝ }
+    ensures { λ _. ⌜ now (out .exit) ≡ overAt to (byteMask .put (map (maskAt cells (now (masks .entry)) level) (liveAt cells (now (masks .entry)) level))) (now (out .entry)) ⌝ }
+{
+    if count == cells {
+        mask::put_plane(out, to, masks, level * cells, cells);
+    } else {
+        put_live_mask(out, to, masks, cells, level, count);
+    }
+}

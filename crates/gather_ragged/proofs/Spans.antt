@@ -1,0 +1,77 @@
+-- Offsets that never fall, and the values between them: their bytes, their lengths and their ends.
+-- Assumes nothing.
+use mathlib.Core.Path.{_≡_, refl, sym, ap, ap₂, _∙_}
+use Prim.Native.Nat.{ℕ, zero, suc, _+_, _-_, _<_, _≤_}
+use native.Mathlib.Nat.{add-zero, le-refl, le-trans}
+use native.Mathlib.Omega.{arith}
+use mathlib.Core.List.{List, [], _∷_, _++_, map}
+use lib.ListN.{length, take, drop, getD, length-append, length-drop}
+use lib.Seq.{drop-drop, take-add, length-take-le}
+use Rattle.array.specs.Lists.{from, joined, All}
+use Rattle.array.specs.Offsets.{last, Rising, ends}
+use Rattle.valid.proofs.CheckLaws.{last-at}
+use Rattle.gather_ragged.specs.Slices.{Offsets, spanAt, sliceAt, spansOf, endsAt}
+
+-- ---- offsets that never fall
+
+pub step-le : (os : List ℕ) → Rising os → (i : ℕ) → suc i < length os → getD os i 0 ≤ getD os (suc i) 0
+step-le [] p i h = absurd (omega arith)
+step-le (a ∷ []) p i h = absurd (omega arith)
+step-le (a ∷ b ∷ os) p zero h = p .0
+step-le (a ∷ b ∷ os) p (suc i) h = step-le (b ∷ os) (p .1) i (omega arith)
+
+pub range-le : (os : List ℕ) → Rising os → (i r : ℕ) → i + r < length os → getD os i 0 ≤ getD os (i + r) 0
+range-le os p i zero h = let q : i + 0 ≡ i = add-zero i in rw q (le-refl (getD os i 0))
+range-le os p i (suc r) h =
+    let q : i + suc r ≡ suc i + r = omega arith in
+    rw q (le-trans (step-le os p i (omega arith)) (range-le os p (suc i) r (omega arith)))
+
+pub last-le : (os : List ℕ) → Rising os → (n i : ℕ) → length os ≡ suc n → i ≤ n → getD os i 0 ≤ last os
+last-le os p n i e h =
+    let q : i + (n - i) ≡ n = omega arith in
+    rw (last-at os n e) (rw q at (range-le os p i (n - i) (omega arith)))
+
+-- ---- the values of neighbours are one piece
+
+pub run-slices : (os : List ℕ) → Rising os → (s : List ℕ) (i r : ℕ) → i + r < length os
+    → joined (map (sliceAt os s) (from i r)) ≡ take (getD os (i + r) 0 - getD os i 0) (drop (getD os i 0) s)
+run-slices os p s i zero h =
+    let q : 0 ≡ getD os (i + 0) 0 - getD os i 0 = omega (arith, ap (λ (j : ℕ). getD os j 0) (add-zero i)) in
+    ap (λ (m : ℕ). take m (drop (getD os i 0) s)) q
+run-slices os p s i (suc r) h =
+    let a : ℕ = getD os i 0 in
+    let b : ℕ = getD os (suc i) 0 in
+    let e : ℕ = getD os (suc i + r) 0 in
+    let ab : a ≤ b = step-le os p i (omega arith) in
+    let be : b ≤ e = range-le os p (suc i) r (omega arith) in
+    let q : i + suc r ≡ suc i + r = omega arith in
+    let q1 : a + (b - a) ≡ b = omega arith in
+    let q2 : (b - a) + (e - b) ≡ e - a = omega arith in
+    ap (λ (l : List ℕ). take (b - a) (drop a s) ++ l) (run-slices os p s (suc i) r (omega arith) ∙ ap (λ (m : ℕ). take (e - b) (drop m s)) (sym q1) ∙ ap (take (e - b)) (sym (drop-drop (b - a) a s)))
+    ∙ sym (take-add (b - a) (e - b) (drop a s)) ∙ ap (λ (m : ℕ). take m (drop a s)) q2 ∙ ap (λ (j : ℕ). take (getD os j 0 - a) (drop a s)) (sym q)
+
+-- ---- cells of a list
+
+pub length-endsAt : (os : List ℕ) (a : ℕ) (is : List ℕ) → length (endsAt os a is) ≡ length is
+length-endsAt os a [] = refl
+length-endsAt os a (i ∷ is) = ap suc (length-endsAt os (a + spanAt os i) is)
+
+-- the cell ends within the bytes
+abbrev pub Within : List ℕ → List ℕ → ℕ → Type 0
+Within os s i = length (sliceAt os s i) ≡ spanAt os i
+
+module _ (os s : List ℕ) where
+  pub within-at : {n : ℕ} → Offsets n os → last os ≡ length s → (i : ℕ) → i < n → Within os s i
+  within-at {n} o el i h =
+      length-take-le (spanAt os i) (drop (getD os i 0) s)
+      (omega (arith, length-drop (getD os i 0) s, last-le os (o .rising) n (suc i) (o .counted) (omega arith), step-le os (o .rising) i (omega (arith, o .counted))))
+
+  pub length-slices : (is : List ℕ) → All (Within os s) is → length (joined (map (sliceAt os s) is)) ≡ spansOf os is
+  length-slices [] q = refl
+  length-slices (i ∷ is) q = omega (arith, length-append (sliceAt os s i) (joined (map (sliceAt os s) is)), length-slices is (q .1), q .0)
+
+  pub ends-slices : (a : ℕ) (is : List ℕ) → All (Within os s) is → ends a (map (sliceAt os s) is) ≡ endsAt os a is
+  ends-slices a [] q = refl
+  ends-slices a (i ∷ is) q =
+      let e : a + length (sliceAt os s i) ≡ a + spanAt os i = omega (arith, q .0) in
+      ap₂ (λ (x : ℕ) (r : List ℕ). x ∷ r) e (ap (λ (b : ℕ). ends b (map (sliceAt os s) is)) e ∙ ends-slices (a + spanAt os i) is (q .1))

@@ -1,0 +1,48 @@
+-- `gather_ragged::index::put_offset` meets its contract: a case for each width.
+-- Assumes nothing.
+use mathlib.Core.Path.{ap, sym, _∙_}
+use Prim.Native.Nat.{ℕ}
+use native.Mathlib.Omega.{arith}
+use Rattle.array.specs.Buffers.{overAt}
+use Rattle.array.specs.Bytes.{le}
+use Rattle.array.specs.Meaning.{widthOf}
+use borrow.Author.Needs.{needs}
+use Rattle.gather_ragged.proofs.index.put_offset.Statement.{statement}
+use Rattle.gather_ragged.proofs.index.put_offset.Tie as tie
+
+enum-told : tie.Need-enum-told
+enum-told c = search needs
+
+put-u32-requires : tie.Need-put-u32-requires
+put-u32-requires c κs = omega (arith, ap widthOf (c .before .enum-told .given .1))
+
+enum-told-2 : tie.Need-enum-told-2
+enum-told-2 c = search needs
+
+put-u64-requires : tie.Need-put-u64-requires
+put-u64-requires c κs = omega (arith, ap widthOf (c .before .enum-told2 .given .1))
+
+same-length : tie.Need-same-length
+same-length c = search needs
+
+returns : tie.Need-returns
+returns c = let a = c .before .before .before .before .before .before .before .args in c .before .before .put-u32 .ensures ∙ ap (λ (w : ℕ). overAt (a .at) (le w (a .v)) (a .out .now)) (sym (ap widthOf (c .before .before .before .before .enum-told .given .1)))
+
+same-length-2 : tie.Need-same-length-2
+same-length-2 c = search needs
+
+returns-2 : tie.Need-returns-2
+returns-2 c = let a = c .before .before .before .before .before .before .before .args in c .before .before .put-u64 .ensures ∙ ap (λ (w : ℕ). overAt (a .at) (le w (a .v)) (a .out .now)) (sym (ap widthOf (c .before .before .before .before .enum-told2 .given .1)))
+
+pub put-offset-spec : {M : Type 1} → statement M
+put-offset-spec =
+    tie.close
+    (tie.spec
+    enum-told
+    put-u32-requires
+    enum-told-2
+    put-u64-requires
+    same-length
+    returns
+    same-length-2
+    returns-2)

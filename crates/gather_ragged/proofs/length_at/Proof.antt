@@ -1,0 +1,23 @@
+-- `gather_ragged::length_at` meets its contract, place by place.
+-- Assumes nothing.
+use borrow.Author.Needs.{needs}
+use Rattle.gather_ragged.proofs.length_at.Statement.{statement}
+use Rattle.gather_ragged.proofs.length_at.Tie as tie
+
+enum-told : tie.Need-enum-told
+enum-told c = search needs
+
+enum-told-2 : tie.Need-enum-told-2
+enum-told-2 c = search needs
+
+sub-result : tie.Need-sub-result
+sub-result c = search needs
+
+returns : tie.Need-returns
+returns c = search needs
+
+returns-2 : tie.Need-returns-2
+returns-2 c = rw (c .enum-told2 .given .1)
+
+pub length-at-spec : {M : Type 1} → statement M
+length-at-spec = tie.close (tie.spec enum-told enum-told-2 sub-result returns returns-2)
