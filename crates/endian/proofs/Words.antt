@@ -2,6 +2,7 @@
 -- Assumes nothing.
 use mathlib.Core.Path.{_≡_, refl, sym, ap, ap₂, _∙_}
 use mathlib.Core.Bool.{true, false}
+use mathlib.Core.Logic.{inl, inr}
 use mathlib.Core.List.{List, [], _∷_, _++_, reverse, reverseAux}
 use Prim.Native.Nat.{ℕ, zero, suc, _+_, _*_, _/_, _%_, _^_, _≤_, _<_}
 use native.Mathlib.Nat.{zero-add, mul-comm, mul-assoc, pow-suc, div-one, div-div-eq-div-mul, div-lt-iff-lt-mul, zero-lt-suc}
@@ -14,7 +15,7 @@ use Rattle.array.specs.Kind.{Order, little, big, ordered}
 use Rattle.array.specs.Lists.{All}
 use Rattle.array.proofs.Bytes.{length-le}
 use Rattle.array.proofs.Sizes.{length-ordered}
-use Rattle.endian.specs.Word.{wordTest}
+use Rattle.endian.specs.Word.{wordTest, Wide, Narrow}
 
 -- ---- each element is a byte
 
@@ -115,3 +116,53 @@ word-no k a b c d = rw (ne-eqb k 1 a, ne-eqb k 2 b, ne-eqb k 4 c, ne-eqb k 8 d)
 
 pub word-eight : (k : ℕ) → wordTest k ≡ true → (k ≡ 1 → ⊥) → (k ≡ 2 → ⊥) → (k ≡ 4 → ⊥) → k ≡ 8
 word-eight k h a b c = eqb-true k 8 (rw (ne-eqb k 1 a, ne-eqb k 2 b, ne-eqb k 4 c) at h)
+
+-- ---- the sizes that are reversed by blocks
+
+pub narrow-word : (k : ℕ) → Narrow k → wordTest k ≡ true
+narrow-word k (inl e) = ap wordTest e
+narrow-word k (inr (inl e)) = ap wordTest e
+narrow-word k (inr (inr e)) = ap wordTest e
+
+pub narrow-wide : {k : ℕ} → Narrow k → (k ≡ 2 → ⊥) → Wide k
+narrow-wide (inl e) h = absurd (h e)
+narrow-wide (inr w) h = w
+
+pub wide-eight : {k : ℕ} → Wide k → (k ≡ 4 → ⊥) → k ≡ 8
+wide-eight (inl e) h = absurd (h e)
+wide-eight (inr e) h = e
+
+pub narrow-some : (k : ℕ) → Narrow k → 1 ≤ k
+narrow-some k (inl e) = omega arith
+narrow-some k (inr (inl e)) = omega arith
+narrow-some k (inr (inr e)) = omega arith
+
+pub line-some : (k : ℕ) → Narrow k → 1 ≤ 64 / k
+line-some k (inl e) = rw e (omega arith)
+line-some k (inr (inl e)) = rw e (omega arith)
+line-some k (inr (inr e)) = rw e (omega arith)
+
+-- a line of 64 bytes is two blocks of 32
+pub narrow-line : (k : ℕ) → Narrow k → 64 / k ≡ 32 / k + 32 / k
+narrow-line k (inl e) = rw e refl
+narrow-line k (inr (inl e)) = rw e refl
+narrow-line k (inr (inr e)) = rw e refl
+
+pub narrow-block : (k : ℕ) → Narrow k → 32 / k * k ≡ 32
+narrow-block k (inl e) = rw e refl
+narrow-block k (inr (inl e)) = rw e refl
+narrow-block k (inr (inr e)) = rw e refl
+
+-- a block is four words
+pub wide-block : (k : ℕ) → Wide k → 8 / k + 8 / k + (8 / k + 8 / k) ≡ 32 / k
+wide-block k (inl e) = rw e refl
+wide-block k (inr e) = rw e refl
+
+pub wide-word : (k : ℕ) → Wide k → 8 / k * k ≡ 8
+wide-word k (inl e) = rw e refl
+wide-word k (inr e) = rw e refl
+
+pub lines-fit : (k : ℕ) → Narrow k → (n : ℕ) → n / 64 * (64 / k) ≤ n / k
+lines-fit k (inl e) n = rw e (omega arith)
+lines-fit k (inr (inl e)) n = rw e (omega arith)
+lines-fit k (inr (inr e)) n = rw e (omega arith)

@@ -4,13 +4,14 @@ use array::kind::ByteOrder;
 ghost use mathlib.Core.Path.{_≡_};
 ghost use mathlib.Core.Bool.{true};
 ghost use mathlib.Core.List.{_++_, reverse};
-ghost use Prim.Native.Nat.{_+_, _≤_};
+ghost use Prim.Native.Nat.{_+_, _/_, _≤_};
 ghost use lib.ListN.{length, take, drop};
 ghost use Rattle.array.specs.Bytes.{le, unle};
 ghost use Rattle.array.specs.Buffers.{overAt};
 ghost use Rattle.array.specs.Kind.{ordered};
 ghost use Rattle.array.specs.Meaning.{orderOf};
-ghost use Rattle.endian.specs.Word.{wordTest};
+ghost use Rattle.endian.specs.Calls.{reversedCells};
+ghost use Rattle.endian.specs.Word.{wordTest, Wide};
 
 // Whether a machine word has this size.
 pub fn is_word(size: usize) -> bool
@@ -48,7 +49,7 @@ fn le2_at(s: &[u8], at: usize) -> u64
     b0 + 256 * b1
 }
 
-pub fn be2_at(s: &[u8], at: usize) -> u64
+fn be2_at(s: &[u8], at: usize) -> u64
     requires { ⌜ at + 2 ≤ length (now s) ⌝ }
     ensures { λ r. ⌜ r ≡ unle (reverse (take 2 (drop at (now (s .entry))))) ⌝ }
 {
@@ -58,7 +59,7 @@ pub fn be2_at(s: &[u8], at: usize) -> u64
 }
 
 // Put together the other way round, it compiles to a load and a byte swap.
-pub fn be4_at(s: &[u8], at: usize) -> u64
+fn be4_at(s: &[u8], at: usize) -> u64
     requires { ⌜ at + 4 ≤ length (now s) ⌝ }
     ensures { λ r. ⌜ r ≡ unle (reverse (take 4 (drop at (now (s .entry))))) ⌝ }
 {
@@ -70,7 +71,7 @@ pub fn be4_at(s: &[u8], at: usize) -> u64
 }
 
 // The number with its eight bytes in the other order. Taken from the number and not from the bytes, it compiles to one byte swap.
-pub fn swap_bytes(v: u64) -> u64
+fn swap_bytes(v: u64) -> u64
     ensures { λ r. ⌜ r ≡ unle (reverse (le 8 v)) ⌝ }
 {
     let v1 = v / 256;
@@ -92,7 +93,7 @@ pub fn swap_bytes(v: u64) -> u64
 }
 
 // The number with its halves of four bytes in the other order: it compiles to one rotation.
-pub fn swap_halves(v: u64) -> u64
+fn swap_halves(v: u64) -> u64
     ensures { λ r. ⌜ le 8 r ≡ drop 4 (le 8 v) ++ take 4 (le 8 v) ⌝ }
 {
     v / 4294967296 + 4294967296 * (v % 4294967296)
@@ -103,6 +104,18 @@ pub fn be8_at(s: &[u8], at: usize) -> u64
     ensures { λ r. ⌜ r ≡ unle (reverse (take 8 (drop at (now (s .entry))))) ⌝ }
 {
     swap_bytes(field::le8_at(s, at))
+}
+
+// The eight bytes at `at` as a number, each cell of four or eight of them reversed.
+pub fn turned_at(s: &[u8], at: usize, size: usize) -> u64
+    requires { ⌜ Wide size × (at + 8 ≤ length (now s)) ⌝ }
+    ensures { λ r. ⌜ le 8 r ≡ reversedCells size (8 / size) (drop at (now (s .entry))) ⌝ }
+{
+    let v = be8_at(s, at);
+    match size {
+        4 => swap_halves(v),
+        _ => v,
+    }
 }
 
 fn little_at(s: &[u8], at: usize, size: usize) -> u64
@@ -117,7 +130,7 @@ fn little_at(s: &[u8], at: usize, size: usize) -> u64
     }
 }
 
-fn big_at(s: &[u8], at: usize, size: usize) -> u64
+pub fn big_at(s: &[u8], at: usize, size: usize) -> u64
     requires { ⌜ (wordTest size ≡ true) × (at + size ≤ length (now s)) ⌝ }
     ensures { λ r. ⌜ r ≡ unle (reverse (take size (drop at (now (s .entry))))) ⌝ }
 {
@@ -148,7 +161,7 @@ fn put_u8(out: &mut [u8], at: usize, v: u64)
     out[at] = b0;
 }
 
-pub fn put_u16(out: &mut [u8], at: usize, v: u64)
+fn put_u16(out: &mut [u8], at: usize, v: u64)
     requires { ⌜ at + 2 ≤ length (now «out») ⌝ }
     ensures { λ _. ⌜ now («out» .exit) ≡ overAt at (le 2 v) (now («out» .entry)) ⌝ }
 {
