@@ -5,7 +5,7 @@ use crate::words::next_word;
 use array::copy::fill_bytes;
 use array::kind::ByteOrder;
 use codec::mask::mark_of;
-use endian::word::put_word;
+use word::put_word;
 ghost use mathlib.Core.Path.{_≡_};
 ghost use mathlib.Core.List.{_++_};
 ghost use Prim.Native.Nat.{_+_, _*_, _≤_};

@@ -14,7 +14,7 @@ use Rattle.array.proofs.Over.{over-at-length}
 use Rattle.array.proofs.Unrolled.{reads-take, stores-over}
 use Rattle.endian.specs.Calls.{reversedCells}
 use Rattle.endian.proofs.CellLaws.{over-none, over-next, reversed-one, two-runs}
-use Rattle.endian.proofs.Words.{Slice, le-read, reverse-one}
+use Rattle.word.proofs.Words.{Slice, le-read, reverse-one}
 
 -- what lies behind comes first
 reverse-add : (m i : ℕ) (q : List ℕ) → reverse (take (m + i) q) ≡ reverse (take i (drop m q)) ++ reverse (take m q)

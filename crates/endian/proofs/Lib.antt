@@ -2,4 +2,4 @@ pub mod Backing
 pub mod CellLaws
 pub mod Copying
 pub mod Reversing
-pub mod Words
+pub mod Sizes

@@ -1,7 +1,7 @@
 // Cells of one size copied in their stored order: in little order as one run, in big order each reversed.
 use crate::eight;
 use crate::in_place;
-use crate::word;
+use crate::turned;
 use array::copy;
 use array::field;
 use array::kind::ByteOrder;
@@ -15,7 +15,8 @@ ghost use Rattle.array.specs.Kind.{ordered};
 ghost use Rattle.array.specs.Lists.{joined, pieces};
 ghost use Rattle.array.specs.Meaning.{orderOf};
 ghost use Rattle.endian.specs.Calls.{reversedCells};
-ghost use Rattle.endian.specs.Word.{wordTest, Narrow, Wide};
+ghost use Rattle.endian.specs.Sizes.{Narrow, Wide};
+ghost use Rattle.word.specs.Word.{wordTest};
 
 pub fn copy_cells(
     out: &mut [u8],
@@ -35,7 +36,8 @@ pub fn copy_cells(
     }
 }
 
-// The size is a constant where it is one that most types have, so that each has loops of its own.
+// The size is a constant where it is one that most types have, so that each has loops of its own. Two tests and then few
+// sizes each, so that no table of jumps stands before them.
 pub fn copy_cells_reversed(
     out: &mut [u8],
     to: usize,
@@ -47,11 +49,26 @@ pub fn copy_cells_reversed(
     requires { ⌜ (to + cells * size ≤ length (now «out»)) × (at + cells * size ≤ length (now s)) ⌝ }
     ensures { λ _. ⌜ now («out» .exit) ≡ overAt to (reversedCells size cells (drop at (now (s .entry)))) (now («out» .entry)) ⌝ }
 {
+    if size < 4 {
+        match size {
+            1 => copy::copy_bytes(out, to, s, at, cells),
+            2 => copy_words(out, to, s, at, 2, cells),
+            _ => copy_any(out, to, s, at, size, cells),
+        }
+    } else {
+        match size {
+            4 => copy_words(out, to, s, at, 4, cells),
+            8 => copy_words(out, to, s, at, 8, cells),
+            _ => copy_others(out, to, s, at, size, cells),
+        }
+    }
+}
+
+fn copy_others(out: &mut [u8], to: usize, s: &[u8], at: usize, size: usize, cells: usize)
+    requires { ⌜ (to + cells * size ≤ length (now «out»)) × (at + cells * size ≤ length (now s)) ⌝ }
+    ensures { λ _. ⌜ now («out» .exit) ≡ overAt to (reversedCells size cells (drop at (now (s .entry)))) (now («out» .entry)) ⌝ }
+{
     match size {
-        1 => copy::copy_bytes(out, to, s, at, cells),
-        2 => copy_words(out, to, s, at, 2, cells),
-        4 => copy_words(out, to, s, at, 4, cells),
-        8 => copy_words(out, to, s, at, 8, cells),
         16 => copy_large(out, to, s, at, 16, cells),
         64 => copy_large(out, to, s, at, 64, cells),
         _ => copy_any(out, to, s, at, size, cells),
@@ -132,10 +149,10 @@ fn copy_block_wide(out: &mut [u8], to: usize, s: &[u8], at: usize, size: usize)
     requires { ⌜ Wide size × (to + 32 ≤ length (now «out»)) × (at + 32 ≤ length (now s)) ⌝ }
     ensures { λ _. ⌜ now («out» .exit) ≡ overAt to (reversedCells size (32 / size) (drop at (now (s .entry)))) (now («out» .entry)) ⌝ }
 {
-    let w0 = word::turned_at(s, at, size);
-    let w1 = word::turned_at(s, at + 8, size);
-    let w2 = word::turned_at(s, at + 16, size);
-    let w3 = word::turned_at(s, at + 24, size);
+    let w0 = turned::turned_at(s, at, size);
+    let w1 = turned::turned_at(s, at + 8, size);
+    let w2 = turned::turned_at(s, at + 16, size);
+    let w3 = turned::turned_at(s, at + 24, size);
     field::put_u64(out, to, w0);
     field::put_u64(out, to + 8, w1);
     field::put_u64(out, to + 16, w2);

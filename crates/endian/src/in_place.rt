@@ -1,6 +1,6 @@
 // Cells of one size reversed in place.
 use crate::eight;
-use crate::word;
+use crate::turned;
 use array::field;
 ghost use mathlib.Core.Path.{_≡_};
 ghost use mathlib.Core.Bool.{true};
@@ -9,7 +9,8 @@ ghost use Prim.Native.Nat.{_+_, _*_, _/_, _≤_};
 ghost use lib.ListN.{length, take, drop};
 ghost use Rattle.array.specs.Buffers.{overAt};
 ghost use Rattle.endian.specs.Calls.{reversedCells, wholeCells};
-ghost use Rattle.endian.specs.Word.{wordTest, Narrow, Wide};
+ghost use Rattle.endian.specs.Sizes.{Narrow, Wide};
+ghost use Rattle.word.specs.Word.{wordTest};
 
 // Reverses each whole cell of two, four or eight bytes and says how many bytes these are: 64 bytes a turn, then cell by cell.
 // The size is a constant where it is called, so that each size has loops of its own.
@@ -94,10 +95,10 @@ fn reverse_block_wide(bytes: &mut [u8], at: usize, size: usize)
     requires { ⌜ Wide size × (at + 32 ≤ length (now bytes)) ⌝ }
     ensures { λ _. ⌜ now (bytes .exit) ≡ overAt at (reversedCells size (32 / size) (drop at (now (bytes .entry)))) (now (bytes .entry)) ⌝ }
 {
-    let w0 = word::turned_at(bytes, at, size);
-    let w1 = word::turned_at(bytes, at + 8, size);
-    let w2 = word::turned_at(bytes, at + 16, size);
-    let w3 = word::turned_at(bytes, at + 24, size);
+    let w0 = turned::turned_at(bytes, at, size);
+    let w1 = turned::turned_at(bytes, at + 8, size);
+    let w2 = turned::turned_at(bytes, at + 16, size);
+    let w3 = turned::turned_at(bytes, at + 24, size);
     field::put_u64(bytes, at, w0);
     field::put_u64(bytes, at + 8, w1);
     field::put_u64(bytes, at + 16, w2);

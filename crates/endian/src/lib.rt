@@ -2,7 +2,7 @@
 pub mod cells;
 pub mod eight;
 pub mod in_place;
-pub mod word;
+pub mod turned;
 
 use array::answer::Written;
 use array::kind::MOST_SIZE;

@@ -5,7 +5,7 @@ use mathlib.Core.List.{List}
 use Prim.Native.Nat.{ℕ}
 use Rattle.array.specs.Buffers.{overAt}
 use Rattle.array.specs.Kind.{big}
-use Rattle.endian.proofs.Words.{le-read}
+use Rattle.word.proofs.Words.{le-read}
 use borrow.Author.Needs.{needs}
 use Rattle.endian.proofs.cells.copy_word.Statement.{statement}
 use Rattle.endian.proofs.cells.copy_word.Tie as tie

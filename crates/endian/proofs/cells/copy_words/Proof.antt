@@ -6,7 +6,7 @@ use Prim.Native.Nat.{ℕ, _+_, _-_, _*_, _/_, _≤_}
 use native.Mathlib.Nat.{zero-mul, div-mul-le-self}
 use native.Mathlib.Omega.{arith}
 use lib.ListN.{length}
-use Rattle.endian.proofs.Words.{narrow-word, narrow-some, narrow-line, narrow-block, line-some}
+use Rattle.endian.proofs.Sizes.{narrow-word, narrow-some, narrow-line, narrow-block, line-some}
 use Rattle.endian.proofs.Copying.{Copies, copies-begin, copies-cast, copies-same, copies-end, copies-room, copies-next, line-within, line-room, copies-line}
 use Rattle.endian.proofs.cells.copy_words.Statement.{statement}
 use Rattle.endian.proofs.cells.copy_words.Tie as tie

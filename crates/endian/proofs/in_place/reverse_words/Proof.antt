@@ -6,7 +6,7 @@ use Prim.Native.Nat.{ℕ, _-_, _*_, _/_, _≤_}
 use native.Mathlib.Nat.{zero-mul, div-le-self, div-mul-le-self}
 use native.Mathlib.Omega.{arith}
 use lib.ListN.{length}
-use Rattle.endian.proofs.Words.{narrow-word, narrow-some, narrow-line, narrow-block, lines-fit}
+use Rattle.endian.proofs.Sizes.{narrow-word, narrow-some, narrow-line, narrow-block, lines-fit}
 use Rattle.endian.proofs.Copying.{Copies, copies-begin, copies-cast, copies-same, copies-end, copies-room, reversing-next, line-within, reversing-line}
 use Rattle.endian.proofs.in_place.reverse_words.Statement.{statement}
 use Rattle.endian.proofs.in_place.reverse_words.Tie as tie
