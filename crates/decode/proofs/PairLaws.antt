@@ -12,7 +12,7 @@ use Rattle.array.specs.Cells.{Mark, isNull, isSet}
 use Rattle.array.specs.Buffers.{over, overAt}
 use Rattle.array.proofs.Bytes.{length-le}
 use Rattle.array.proofs.Over.{over-again}
-use Rattle.endian.proofs.Words.{le-zero}
+use Rattle.word.proofs.Words.{le-zero}
 use Rattle.decode.specs.Next.{ifSet, wordAt, firstWord}
 use Rattle.decode.proofs.SpreadingValues.{word-left}
 

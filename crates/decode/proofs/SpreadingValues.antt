@@ -22,7 +22,7 @@ use Rattle.codec.specs.Frame.{countSet}
 use Rattle.codec.specs.Spread.{spread}
 use Rattle.codec.proofs.Marks.{null-byte, set-byte, count-le, count-block}
 use Rattle.codec.proofs.SpreadLaws.{length-spread}
-use Rattle.endian.proofs.Words.{le-zero}
+use Rattle.word.proofs.Words.{le-zero}
 use Rattle.decode.specs.Runs.{runOf}
 use Rattle.decode.specs.Next.{ifSet, nextAt, wordAt}
 use Rattle.decode.proofs.RunLaws.{run-within, null-run, set-run, some-run}

@@ -2,10 +2,9 @@
 use crate::next::number_if;
 use crate::next::skip;
 use array::kind::ByteOrder;
-use buffer::copy::fill_bytes;
-use endian::word::put_word;
-use endian::word::word_at;
-use stored::mask::mark_of;
+use codec::mask::mark_of;
+use word::put_word;
+use word::word_at;
 ghost use mathlib.Core.Path.{_≡_};
 ghost use mathlib.Core.Bool.{true};
 ghost use Prim.Native.Nat.{_+_, _*_, _≤_};
@@ -13,7 +12,7 @@ ghost use lib.ListN.{length, take, drop};
 ghost use Rattle.array.specs.Bytes.{le};
 ghost use Rattle.array.specs.Buffers.{over};
 ghost use Rattle.array.specs.Meaning.{orderOf};
-ghost use Rattle.endian.specs.Word.{wordTest};
+ghost use Rattle.word.specs.Word.{wordTest};
 ghost use Rattle.decode.specs.Next.{wordAt};
 ghost use Rattle.decode.specs.Reads.{valuesOver, ValuesWithin};
 

@@ -2,7 +2,8 @@
 -- Assumes nothing.
 use mathlib.Core.Path.{_≡_, sym, ap, ap₂, _∙_}
 use mathlib.Core.List.{List, [], _∷_, _++_, reverse, append-nil, reverse-append}
-use Prim.Native.Nat.{ℕ, _+_, _-_, _≤_, _<_}
+use Prim.Native.Nat.{ℕ, _+_, _-_, _*_, _≤_, _<_}
+use native.Mathlib.Nat.{add-mul}
 use native.Mathlib.Omega.{arith}
 use lib.ListN.{length, take, drop, getD, set, length-drop, length-reverse}
 use lib.Seq.{drop-drop, take-add, take-at, drop-at, length-take-le}
@@ -13,7 +14,7 @@ use Rattle.array.proofs.Over.{over-at-length}
 use Rattle.buffer.proofs.Unrolled.{reads-take, stores-over}
 use Rattle.endian.specs.Calls.{reversedCells}
 use Rattle.endian.proofs.CellLaws.{over-none, over-next, reversed-one, two-runs}
-use Rattle.endian.proofs.Words.{Slice, le-read, reverse-one}
+use Rattle.word.proofs.Words.{Slice, le-read, reverse-one}
 
 -- what lies behind comes first
 reverse-add : (m i : ℕ) (q : List ℕ) → reverse (take (m + i) q) ≡ reverse (take i (drop m q)) ++ reverse (take m q)
@@ -72,13 +73,6 @@ module _ {d : List ℕ} {to : ℕ} {s : List ℕ} {at k : ℕ} {out : List ℕ} 
   pub back-room : (m : ℕ) → m ≤ left → to + i + m ≤ length out
   back-room m h = omega (arith, back-same, l .room, l .all)
 
-  -- one byte more
-  pub back-byte : 0 < left → Backing d to s at k (set out (to + i) (getD s (at + (left - 1)) 0)) (i + 1) (left - 1)
-  back-byte h =
-      back-more 1 (omega arith)
-      (byte-over out (to + i) (getD s (at + (left - 1)) 0) (omega (arith, back-room 1 (omega arith)))
-      ∙ ap (λ (w : List ℕ). overAt (to + i) w out) (byte-read s (at + (left - 1)) (omega (arith, l .all, l .source))))
-
 -- two parts, the second first
 pub two-parts : (d : List ℕ) (to : ℕ) (s : List ℕ) (at m : ℕ) → to + (m + m) ≤ length d → at + (m + m) ≤ length s
     → {out out′ : List ℕ} → out ≡ overAt to (reverse (take m (drop (at + m) s))) d → out′ ≡ overAt (to + m) (reverse (take m (drop at s))) out
@@ -98,23 +92,25 @@ halves-swapped m q h =
     let e : reverse (take (m + m) q) ≡ y ++ x = reverse-add m m q in
     ap₂ (λ (a b : List ℕ). a ++ b) (ap (drop m) e ∙ drop-at y x m l) (ap (take m) e ∙ take-at y x m l) ∙ ap (λ (r : List ℕ). x ++ r) (sym (append-nil y))
 
-pub pair-written : (s : List ℕ) → Slice s → (d : List ℕ) (at to : ℕ) → at + 8 ≤ length s → {w : ℕ} → w ≡ unle (reverse (take 8 (drop at s)))
-    → (v : ℕ) → le 8 v ≡ drop 4 (le 8 w) ++ take 4 (le 8 w) → {out : List ℕ} → out ≡ overAt to (le 8 v) d → out ≡ overAt to (reversedCells 4 2 (drop at s)) d
-pair-written s f d at to h {w} e v g o =
-    o ∙ ap (λ (l : List ℕ). overAt to l d) (g ∙ ap (λ (l : List ℕ). drop 4 l ++ take 4 l) (le-read big s f at 8 h w e) ∙ halves-swapped 4 (drop at s) (omega (arith, length-drop at s)))
+-- eight bytes by their number: two cells, and one
+module _ (s : List ℕ) (f : Slice s) (at : ℕ) (h : at + 8 ≤ length s) {w : ℕ} (e : w ≡ unle (reverse (take 8 (drop at s)))) where
+  pub pair-turned : (v : ℕ) → le 8 v ≡ drop 4 (le 8 w) ++ take 4 (le 8 w) → le 8 v ≡ reversedCells 4 2 (drop at s)
+  pair-turned v g = g ∙ ap (λ (l : List ℕ). drop 4 l ++ take 4 l) (le-read big s f at 8 h w e) ∙ halves-swapped 4 (drop at s) (omega (arith, length-drop at s))
 
--- a cell of eight bytes by its number, and four of them, one after another
-pub word-written : (s : List ℕ) → Slice s → (d : List ℕ) (at to : ℕ) → at + 8 ≤ length s → {w : ℕ} → w ≡ unle (reverse (take 8 (drop at s)))
-    → {out : List ℕ} → out ≡ overAt to (le 8 w) d → out ≡ overAt to (reversedCells 8 1 (drop at s)) d
-word-written s f d at to h {w} e o = o ∙ ap (λ (l : List ℕ). overAt to l d) (le-read big s f at 8 h w e ∙ reversed-one 8 (drop at s))
+  pub one-turned : le 8 w ≡ reversedCells 8 1 (drop at s)
+  one-turned = le-read big s f at 8 h w e ∙ reversed-one 8 (drop at s)
 
-pub four-written : (s d : List ℕ) (at to : ℕ) → to + 32 ≤ length d → at + 32 ≤ length s → {o1 o2 o3 o4 : List ℕ} → length o2 ≡ length d
-    → o1 ≡ overAt to (reversedCells 8 1 (drop at s)) d → o2 ≡ overAt (to + 8) (reversedCells 8 1 (drop (at + 8) s)) o1
-    → o3 ≡ overAt (to + 16) (reversedCells 8 1 (drop (at + 16) s)) o2 → o4 ≡ overAt (to + 24) (reversedCells 8 1 (drop (at + 24) s)) o3
-    → o4 ≡ overAt to (reversedCells 8 4 (drop at s)) d
-four-written s d at to p q {o1} {o2} {o3} {o4} l e1 e2 e3 e4 =
-    let a : to + 24 ≡ to + 16 + 8 = omega arith in
-    let b : at + 24 ≡ at + 16 + 8 = omega arith in
-    two-runs 8 2 s d at to p q
-    (two-runs 8 1 s d at to (omega arith) (omega arith) e1 e2)
-    (two-runs 8 1 s o2 (at + 16) (to + 16) (omega (arith, l)) (omega arith) e3 (e4 ∙ ap₂ (λ (i j : ℕ). overAt i (reversedCells 8 1 (drop j s)) o3) a b))
+-- four times eight bytes, n cells each
+pub four-words : (k n : ℕ) → n * k ≡ 8 → (s d : List ℕ) (at to : ℕ) → to + 32 ≤ length d → at + 32 ≤ length s → {o1 o2 o3 o4 : List ℕ} → length o2 ≡ length d
+    → o1 ≡ overAt to (reversedCells k n (drop at s)) d → o2 ≡ overAt (to + 8) (reversedCells k n (drop (at + 8) s)) o1
+    → o3 ≡ overAt (to + 16) (reversedCells k n (drop (at + 16) s)) o2 → o4 ≡ overAt (to + 24) (reversedCells k n (drop (at + 24) s)) o3
+    → o4 ≡ overAt to (reversedCells k (n + n + (n + n)) (drop at s)) d
+four-words k n w s d at to p q {o1} {o2} {o3} {o4} l e1 e2 e3 e4 =
+    let two : (n + n) * k ≡ 16 = omega (arith, add-mul n n k) in
+    let four : (n + n + (n + n)) * k ≡ 32 = omega (arith, add-mul (n + n) (n + n) k) in
+    let a : to + 24 ≡ to + 16 + n * k = omega arith in
+    let b : at + 24 ≡ at + 16 + n * k = omega arith in
+    two-runs k (n + n) s d at to (omega arith) (omega arith)
+    (two-runs k n s d at to (omega arith) (omega arith) e1 (e2 ∙ ap (λ (j : ℕ). overAt (to + j) (reversedCells k n (drop (at + j) s)) o1) (sym w)))
+    (two-runs k n s o2 (at + 16) (to + 16) (omega arith) (omega arith) e3 (e4 ∙ ap₂ (λ (i j : ℕ). overAt i (reversedCells k n (drop j s)) o3) a b)
+    ∙ ap (λ (j : ℕ). overAt (to + j) (reversedCells k (n + n) (drop (at + j) s)) o2) (sym two))

@@ -1,18 +1,17 @@
--- Cells reversed one after another, for any size: as lists, and by loops that copy them, any number of them a turn.
+-- Cells reversed one after another, for any size, as lists.
 -- Assumes nothing.
 use mathlib.Core.Path.{_≡_, refl, sym, ap, ap₂, _∙_}
 use mathlib.Core.List.{List, [], _∷_, _++_, map, reverse, append-assoc, append-nil}
-use Prim.Native.Nat.{ℕ, zero, suc, _+_, _*_, _≤_, _<_}
-use native.Mathlib.Nat.{zero-mul, zero-add, suc-mul, add-mul, mul-le-mul-right}
+use Prim.Native.Nat.{ℕ, zero, suc, _+_, _*_, _≤_}
+use native.Mathlib.Nat.{zero-mul, zero-add, suc-mul, add-mul}
 use native.Mathlib.Omega.{arith}
-use native.Mathlib.Numerals.{add-one}
 use lib.ListN.{length, take, drop, length-append, length-drop, length-reverse, take-append-drop}
 use lib.Seq.{drop-drop, take-add, take-at, drop-at, length-take-le}
 use Rattle.array.specs.Lists.{joined, pieces}
 use Rattle.array.specs.Buffers.{over, overAt}
 use Rattle.array.specs.Kind.{Order, little, big, ordered}
 use Rattle.array.proofs.Lists.{map-id}
-use Rattle.array.proofs.Over.{over-again, over-at-length}
+use Rattle.array.proofs.Over.{over-again}
 use Rattle.endian.specs.Calls.{reversedCells}
 
 -- ---- what is laid behind what was laid
@@ -63,7 +62,7 @@ reversed-ones (suc n) (x ∷ s) = ap (λ (r : List ℕ). x ∷ r) (reversed-ones
 
 -- ---- cells at once: all their bytes read, then written
 
-reversed-take : (k n : ℕ) (s : List ℕ) → n * k ≤ length s → reversedCells k n (take (n * k) s) ≡ reversedCells k n s
+pub reversed-take : (k n : ℕ) (s : List ℕ) → n * k ≤ length s → reversedCells k n (take (n * k) s) ≡ reversedCells k n s
 reversed-take k zero s h = refl
 reversed-take k (suc n) s h =
     let e : suc n * k ≡ k + n * k = omega (arith, suc-mul n k) in
@@ -113,74 +112,3 @@ copied-sized to n s d e f = f ∙ ap (λ (j : ℕ). overAt to (reversedCells j n
 
 pub copied-ones : (to n : ℕ) (s d : List ℕ) {k : ℕ} → k ≡ 1 → {out : List ℕ} → out ≡ overAt to (take n s) d → out ≡ overAt to (reversedCells k n s) d
 copied-ones to n s d e f = copied-sized to n s d e (f ∙ ap (λ (l : List ℕ). overAt to l d) (reversed-ones n s))
-
--- ---- copied one after another: the first i of n cells lie at `to` in what was d
-
-pub record Copies (d : List ℕ) (to : ℕ) (s : List ℕ) (at k n : ℕ) (out : List ℕ) (i : ℕ) : Type 0 where
-  pub within : i ≤ n
-  pub room : to + n * k ≤ length d
-  pub source : at + n * k ≤ length s
-  pub here : out ≡ overAt to (reversedCells k i (drop at s)) d
-
-pub copies-begin : {d : List ℕ} {to : ℕ} {s : List ℕ} {at k n : ℕ} → to + n * k ≤ length d → at + n * k ≤ length s → Copies d to s at k n d 0
-copies-begin {d} {to} p q = record {
-  within = omega arith;
-  room = p;
-  source = q;
-  here = over-none to d (omega arith);
-}
-
-module _ {d : List ℕ} {to : ℕ} {s : List ℕ} {at k n : ℕ} {out : List ℕ} {i : ℕ} (l : Copies d to s at k n out i) where
-  long : length (reversedCells k i (drop at s)) ≡ i * k
-  long = length-reversed k i (drop at s) (omega (arith, length-drop at s, l .source, mul-le-mul-right {m = i} {n = n} k (l .within)))
-
-  pub copies-same : length out ≡ length d
-  copies-same = ap length (l .here) ∙ over-at-length to (reversedCells k i (drop at s)) d (omega (arith, long, l .room, mul-le-mul-right {m = i} {n = n} k (l .within)))
-
-  pub copies-end : n ≤ i → out ≡ overAt to (reversedCells k n (drop at s)) d
-  copies-end h = let e : i ≡ n = omega (arith, l .within) in l .here ∙ ap (λ (j : ℕ). overAt to (reversedCells k j (drop at s)) d) e
-
-  pub copies-fit : (m : ℕ) → i + m ≤ n → i * k + m * k ≤ n * k
-  copies-fit m h = omega (arith, mul-le-mul-right {m = i + m} {n = n} k h, add-mul i m k)
-
-  -- m cells more
-  pub copies-more : (m : ℕ) → i + m ≤ n → {out′ : List ℕ} → out′ ≡ overAt (to + i * k) (reversedCells k m (drop (at + i * k) s)) out → Copies d to s at k n out′ (i + m)
-  copies-more m h {out′} e =
-      let f : List ℕ = reversedCells k i (drop at s) in
-      let g : List ℕ = reversedCells k m (drop (at + i * k) s) in
-      record {
-        within = h;
-        room = l .room;
-        source = l .source;
-        here = e ∙ ap (overAt (to + i * k) g) (l .here) ∙ over-next to (i * k) f g d (omega (arith, l .room)) long
-            ∙ ap (λ (w : List ℕ). overAt to w d) (sym (reversed-add k i m (drop at s) ∙ ap (λ (r : List ℕ). f ++ reversedCells k m r) (drop-drop (i * k) at s)));
-      }
-
-  module _ (h : i < n) where
-    pub copies-room : i * k + k ≤ n * k
-    copies-room = omega (arith, mul-le-mul-right {m = suc i} {n = n} k (omega arith), suc-mul i k)
-
-    pub copies-next : {out′ : List ℕ} → out′ ≡ overAt (to + i * k) (reverse (take k (drop (at + i * k) s))) out → Copies d to s at k n out′ (i + 1)
-    copies-next e = copies-more 1 (omega arith) (e ∙ ap (λ (g : List ℕ). overAt (to + i * k) g out) (reversed-one k (drop (at + i * k) s)))
-
--- two cells more
-pub copies-twice : {d : List ℕ} {to : ℕ} {s : List ℕ} {at k n : ℕ} {out : List ℕ} {i : ℕ} → Copies d to s at k n out i → i + 2 ≤ n
-    → {out′ : List ℕ} → out′ ≡ overAt (to + i * k) (reverse (take k (drop (at + i * k) s))) out
-    → {out″ : List ℕ} → out″ ≡ overAt (to + (i * k + k)) (reverse (take k (drop (at + (i * k + k)) s))) out′ → Copies d to s at k n out″ (i + 2)
-copies-twice {d} {to} {s} {at} {k} {n} {out} {i} l h {out′} e {out″} f =
-    let q : i * k + k ≡ (i + 1) * k = sym (ap (λ (j : ℕ). j * k) (add-one i) ∙ suc-mul i k) in
-    let a : Copies d to s at k n out′ (i + 1) = copies-next l (omega arith) e in
-    let b : Copies d to s at k n out″ (i + 1 + 1) = copies-next a (omega arith) (f ∙ ap (λ (j : ℕ). overAt (to + j) (reverse (take k (drop (at + j) s))) out′) q) in
-    let j : i + 1 + 1 ≡ i + 2 = omega arith in
-    record { within = h; room = b .room; source = b .source; here = b .here ∙ ap (λ (x : ℕ). overAt to (reversedCells k x (drop at s)) d) j }
-
--- m cells more, and m again
-pub copies-pair : {d : List ℕ} {to : ℕ} {s : List ℕ} {at k n : ℕ} {out : List ℕ} {i : ℕ} → Copies d to s at k n out i → (m : ℕ) → i + (m + m) ≤ n
-    → {out′ : List ℕ} → out′ ≡ overAt (to + i * k) (reversedCells k m (drop (at + i * k) s)) out
-    → {out″ : List ℕ} → out″ ≡ overAt (to + (i * k + m * k)) (reversedCells k m (drop (at + (i * k + m * k)) s)) out′ → Copies d to s at k n out″ (i + (m + m))
-copies-pair {d} {to} {s} {at} {k} {n} {out} {i} l m h {out′} e {out″} f =
-    let q : i * k + m * k ≡ (i + m) * k = sym (add-mul i m k) in
-    let a : Copies d to s at k n out′ (i + m) = copies-more l m (omega arith) e in
-    let b : Copies d to s at k n out″ (i + m + m) = copies-more a m (omega arith) (f ∙ ap (λ (j : ℕ). overAt (to + j) (reversedCells k m (drop (at + j) s)) out′) q) in
-    let j : i + m + m ≡ i + (m + m) = omega arith in
-    record { within = h; room = b .room; source = b .source; here = b .here ∙ ap (λ (x : ℕ). overAt to (reversedCells k x (drop at s)) d) j }

@@ -1,4 +1,5 @@
 pub mod Backing
 pub mod CellLaws
+pub mod Copying
 pub mod Reversing
-pub mod Words
+pub mod Sizes

@@ -1,74 +1,24 @@
--- Cells reversed in place, for any size: one after another, any number of them a turn; and a cell by its ends, any number of bytes a turn.
+-- A cell reversed in place by its ends, any number of bytes a turn; and what the call answers.
 -- Assumes nothing.
 use mathlib.Core.Path.{_≡_, refl, sym, ap, ap₂, _∙_}
 use mathlib.Core.Bool.{true, false}
 use mathlib.Core.List.{List, [], _∷_, _++_, reverse, append-assoc, reverse-append}
-use Prim.Native.Nat.{ℕ, suc, _+_, _-_, _*_, _/_, _≤_, _<_}
-use native.Mathlib.Nat.{suc-mul, add-mul, mul-le-mul-right, div-mul-le-self}
+use Prim.Native.Nat.{ℕ, _+_, _-_, _*_, _/_, _≤_, _<_}
+use native.Mathlib.Nat.{div-mul-le-self}
 use native.Mathlib.Omega.{arith}
-use native.Mathlib.Numerals.{add-one}
 use lib.ListN.{length, take, drop, getD, set, length-append, length-take, length-drop, length-reverse, take-append-drop}
 use lib.Seq.{drop-drop, take-add, take-at, drop-at, length-take-le}
 use Rattle.array.specs.Buffers.{over, overAt}
 use Rattle.array.specs.Answer.{gives, refuses}
 use Rattle.array.specs.Kind.{fixed, little, formTest}
-use Rattle.array.proofs.Over.{over-length, over-again, over-at-length}
+use Rattle.array.proofs.Over.{over-at-length}
 use Rattle.endian.specs.Calls.{reversedCells, reverseAnswer, endiannessReversed}
-use Rattle.endian.proofs.CellLaws.{reversed-one, reversed-ones, reversed-add, length-reversed}
+use Rattle.endian.proofs.CellLaws.{reversed-ones, reversed-take, length-reversed}
 use Rattle.endian.proofs.Backing.{byte-over, byte-read, length-back}
 
 -- the k bytes at `at` reversed, all else as it was
 abbrev pub cellReversed : ℕ → ℕ → List ℕ → List ℕ
 cellReversed at k d = overAt at (reverse (take k (drop at d))) d
-
--- ---- cell after cell: the first i of n cells of d are reversed in out
-
-pub record Reversing (k n : ℕ) (d out : List ℕ) (i : ℕ) : Type 0 where
-  pub within : i ≤ n
-  pub room : n * k ≤ length d
-  pub here : out ≡ over (reversedCells k i d) d
-
-pub reversing-begins : {k n : ℕ} {d : List ℕ} → n * k ≤ length d → Reversing k n d d 0
-reversing-begins h = record { within = omega arith; room = h; here = refl }
-
-module _ {k n : ℕ} {d out : List ℕ} {i : ℕ} (l : Reversing k n d out i) where
-  front : length (reversedCells k i d) ≡ i * k
-  front = length-reversed k i d (omega (arith, l .room, mul-le-mul-right {m = i} {n = n} k (l .within)))
-
-  pub reversing-same : length out ≡ length d
-  reversing-same = ap length (l .here) ∙ over-length (reversedCells k i d) d (omega (arith, front, l .room, mul-le-mul-right {m = i} {n = n} k (l .within)))
-
-  pub reversing-ends : n ≤ i → out ≡ over (reversedCells k n d) d
-  reversing-ends h = let e : i ≡ n = omega (arith, l .within) in l .here ∙ ap (λ (j : ℕ). over (reversedCells k j d) d) e
-
-  -- m cells more
-  pub reversing-more : (m : ℕ) → i + m ≤ n → {out′ : List ℕ} → out′ ≡ overAt (i * k) (reversedCells k m (drop (i * k) out)) out → Reversing k n d out′ (i + m)
-  reversing-more m h e =
-      let f : List ℕ = reversedCells k i d in
-      let same : drop (i * k) out ≡ drop (i * k) d = ap (drop (i * k)) (l .here) ∙ drop-at f (drop (length f) d) (i * k) front ∙ ap (λ (j : ℕ). drop j d) front in
-      record {
-        within = h;
-        room = l .room;
-        here = e ∙ ap₂ (λ (r o : List ℕ). overAt (i * k) (reversedCells k m r) o) same (l .here) ∙ over-again f (reversedCells k m (drop (i * k) d)) d (i * k) front
-            ∙ ap (λ (r : List ℕ). over r d) (sym (reversed-add k i m d));
-      }
-
-  module _ (h : i < n) where
-    pub reversing-room : i * k + k ≤ length out
-    reversing-room = omega (arith, mul-le-mul-right {m = suc i} {n = n} k (omega arith), suc-mul i k, l .room, reversing-same)
-
-    pub reversing-next : {out′ : List ℕ} → out′ ≡ cellReversed (i * k) k out → Reversing k n d out′ (i + 1)
-    reversing-next e = reversing-more 1 (omega arith) (e ∙ ap (λ (g : List ℕ). overAt (i * k) g out) (reversed-one k (drop (i * k) out)))
-
--- m cells more, and m again
-pub reversing-pair : {k n : ℕ} {d out : List ℕ} {i : ℕ} → Reversing k n d out i → (m : ℕ) → i + (m + m) ≤ n → {out′ : List ℕ} → out′ ≡ overAt (i * k) (reversedCells k m (drop (i * k) out)) out
-    → {out″ : List ℕ} → out″ ≡ overAt (i * k + m * k) (reversedCells k m (drop (i * k + m * k) out′)) out′ → Reversing k n d out″ (i + (m + m))
-reversing-pair {k} {n} {d} {out} {i} l m h {out′} e {out″} f =
-    let q : i * k + m * k ≡ (i + m) * k = sym (add-mul i m k) in
-    let a : Reversing k n d out′ (i + m) = reversing-more l m (omega arith) e in
-    let b : Reversing k n d out″ (i + m + m) = reversing-more a m (omega arith) (f ∙ ap (λ (j : ℕ). overAt j (reversedCells k m (drop j out′)) out′) q) in
-    let j : i + m + m ≡ i + (m + m) = omega arith in
-    record { within = h; room = b .room; here = b .here ∙ ap (λ (x : ℕ). over (reversedCells k x d) d) j }
 
 -- cells of one byte stay as they are
 pub ones-reversed : (n : ℕ) (d : List ℕ) → n * 1 ≤ length d → d ≡ over (reversedCells 1 n d) d
@@ -86,6 +36,28 @@ over-middle p m q g n e f =
     ∙ ap₂ (λ (i : ℕ) (r : List ℕ). p ++ g ++ drop i r) j (sym (append-assoc p m q))
     ∙ ap (λ (r : List ℕ). p ++ g ++ r) (drop-at (p ++ m) q (length (p ++ m)) refl)
     ∙ append-assoc p g q
+
+-- what was laid is laid over
+over-twice : (to : ℕ) (x y d : List ℕ) → to ≤ length d → length y ≡ length x → overAt to y (overAt to x d) ≡ overAt to y d
+over-twice to x y d h e =
+    let p : List ℕ = take to d in
+    let q : List ℕ = drop (length (p ++ x)) d in
+    let j : length (p ++ x) ≡ length (p ++ y) = omega (arith, length-append p x, length-append p y) in
+    ap (overAt to y) (append-assoc p x q) ∙ over-middle p x q y to (length-take-le to d h) e ∙ sym (append-assoc p y q) ∙ ap (λ (i : ℕ). p ++ y ++ drop i d) j
+
+-- cells copied, and then reversed where they lie
+pub copied-reversed : (k n : ℕ) (s d : List ℕ) (at to : ℕ) → to + n * k ≤ length d → at + n * k ≤ length s → {o1 : List ℕ} → o1 ≡ overAt to (take (n * k) (drop at s)) d
+    → {o2 : List ℕ} → o2 ≡ overAt to (reversedCells k n (drop to o1)) o1 → o2 ≡ overAt to (reversedCells k n (drop at s)) d
+copied-reversed k n s d at to p q {o1} e f =
+    let x : List ℕ = take (n * k) (drop at s) in
+    let a : List ℕ = take to d in
+    let b : List ℕ = drop (length (a ++ x)) d in
+    let h : n * k ≤ length (drop at s) = omega (arith, length-drop at s) in
+    let lx : length x ≡ n * k = length-take-le (n * k) (drop at s) h in
+    let g : drop to o1 ≡ x ++ b = ap (drop to) (e ∙ append-assoc a x b) ∙ drop-at a (x ++ b) to (length-take-le to d (omega arith)) in
+    let r : reversedCells k n (drop to o1) ≡ reversedCells k n (drop at s) =
+    ap (reversedCells k n) g ∙ sym (reversed-take k n (x ++ b) (omega (arith, length-append x b))) ∙ ap (reversedCells k n) (take-at x b (n * k) lx) ∙ reversed-take k n (drop at s) h in
+    f ∙ ap₂ (λ (y o : List ℕ). overAt to y o) r e ∙ over-twice to x (reversedCells k n (drop at s)) d (omega arith) (length-reversed k n (drop at s) h ∙ sym lx)
 
 middle-reversed : (p m q : List ℕ) (n k : ℕ) → length p ≡ n → length m ≡ k → cellReversed n k (p ++ (m ++ q)) ≡ p ++ (reverse m ++ q)
 middle-reversed p m q n k e f =
@@ -212,3 +184,10 @@ unfolding endiannessReversed reverseAnswer
 reverse-done k d d′ n t e f =
     let l : length (reversedCells k n d) ≡ n * k = length-reversed k n d (omega (arith, ap (λ (j : ℕ). j * k) e, div-mul-le-self (length d) k)) in
     rw (t, f, l, e)
+
+-- by a size that is j
+pub reverse-whole : (k j : ℕ) (d d′ : List ℕ) (r : ℕ) → formTest (fixed k little) ≡ true → k ≡ j → r ≡ length d / j * j → d′ ≡ over (reversedCells j (length d / j) d) d
+    → record { answer = gives r; buffers = d′ } ≡ endiannessReversed k d
+reverse-whole k j d d′ r t q e f =
+    ap (λ (n : ℕ). record { answer = gives n; buffers = d′ }) (e ∙ ap (λ (i : ℕ). length d / i * i) (sym q))
+    ∙ reverse-done k d d′ (length d / k) t refl (f ∙ ap (λ (i : ℕ). over (reversedCells i (length d / i) d) d) (sym q))

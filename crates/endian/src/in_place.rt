@@ -1,110 +1,82 @@
 // Cells of one size reversed in place.
 use crate::eight;
-use crate::word;
-use buffer::field;
+use crate::turned;
+use array::field;
 ghost use mathlib.Core.Path.{_≡_};
+ghost use mathlib.Core.Bool.{true};
 ghost use mathlib.Core.List.{reverse};
-ghost use Prim.Native.Nat.{_+_, _*_, _≤_};
+ghost use Prim.Native.Nat.{_+_, _*_, _/_, _≤_};
 ghost use lib.ListN.{length, take, drop};
-ghost use Rattle.array.specs.Buffers.{over, overAt};
-ghost use Rattle.endian.specs.Calls.{reversedCells};
+ghost use Rattle.array.specs.Buffers.{overAt};
+ghost use Rattle.endian.specs.Calls.{reversedCells, wholeCells};
+ghost use Rattle.endian.specs.Sizes.{Narrow, Wide};
+ghost use Rattle.word.specs.Word.{wordTest};
 
-// Reverses the first cells. The sizes that most types have go by blocks or words.
-pub fn reverse_cells(bytes: &mut [u8], size: usize, cells: usize)
-    requires { ⌜ cells * size ≤ length (now bytes) ⌝ }
-    ensures { λ _. ⌜ now (bytes .exit) ≡ over (reversedCells size cells (now (bytes .entry))) (now (bytes .entry)) ⌝ }
+// Reverses each whole cell of two, four or eight bytes and says how many bytes these are: 64 bytes a turn, then cell by cell.
+// The size is a constant where it is called, so that each size has loops of its own.
+pub fn reverse_words(bytes: &mut [u8], size: usize) -> usize
+    requires { ⌜ Narrow size ⌝ }
+    ensures whole { λ r. ⌜ r ≡ wholeCells size (now (bytes .entry)) ⌝ }
+    ensures bytes { λ _. ⌜ now (bytes .exit) ≡ overAt 0 (reversedCells size (length (now (bytes .entry)) / size) (now (bytes .entry))) (now (bytes .entry)) ⌝ }
+{
+    let all = bytes.len();
+    let line = 64 / size;
+    let lines = all / 64;
+    let mut i = 0;
+    while i < lines {
+        let k = i * 64;
+        reverse_block(bytes, k, size);
+        reverse_block(bytes, k + 32, size);
+        i += 1;
+    }
+    let cells = all / size;
+    let mut j = lines * line;
+    while j < cells {
+        reverse_word(bytes, j * size, size);
+        j += 1;
+    }
+    cells * size
+}
+
+// Cells of a size that no other function has. It is called from two places and is long, so that it stays a function of its own:
+// its registers are not saved where other sizes are reversed.
+pub fn reverse_any(bytes: &mut [u8], at: usize, size: usize, cells: usize) -> usize
+    requires { ⌜ at + cells * size ≤ length (now bytes) ⌝ }
+    ensures whole { λ r. ⌜ r ≡ cells * size ⌝ }
+    ensures bytes { λ _. ⌜ now (bytes .exit) ≡ overAt at (reversedCells size cells (drop at (now (bytes .entry)))) (now (bytes .entry)) ⌝ }
 {
     match size {
-        1 => {}
-        2 => reverse_cells_2(bytes, cells),
-        4 => reverse_cells_4(bytes, cells),
-        8 => reverse_cells_8(bytes, cells),
-        16 => reverse_cells_16(bytes, cells),
-        _ => reverse_cells_any(bytes, size, cells),
+        32 => reverse_cells(bytes, at, 32, cells),
+        _ => reverse_cells(bytes, at, size, cells),
     }
 }
 
-fn reverse_cells_2(bytes: &mut [u8], cells: usize)
-    requires { ⌜ cells * 2 ≤ length (now bytes) ⌝ }
-    ensures { λ _. ⌜ now (bytes .exit) ≡ over (reversedCells 2 cells (now (bytes .entry))) (now (bytes .entry)) ⌝ }
-{
-    let mut i = 0;
-    while 16 <= cells - i {
-        let k = i * 2;
-        reverse_block_2(bytes, k);
-        reverse_block_2(bytes, k + 16);
-        i += 16;
-    }
-    while i < cells {
-        reverse_cell_2(bytes, i * 2);
-        i += 1;
-    }
-}
-
-// Two words a turn: one a turn would be made a vector, which is slower.
-fn reverse_cells_4(bytes: &mut [u8], cells: usize)
-    requires { ⌜ cells * 4 ≤ length (now bytes) ⌝ }
-    ensures { λ _. ⌜ now (bytes .exit) ≡ over (reversedCells 4 cells (now (bytes .entry))) (now (bytes .entry)) ⌝ }
-{
-    let mut i = 0;
-    while 4 <= cells - i {
-        let k = i * 4;
-        reverse_block_4(bytes, k);
-        reverse_block_4(bytes, k + 8);
-        i += 4;
-    }
-    while i < cells {
-        reverse_cell_4(bytes, i * 4);
-        i += 1;
-    }
-}
-
-fn reverse_cells_8(bytes: &mut [u8], cells: usize)
-    requires { ⌜ cells * 8 ≤ length (now bytes) ⌝ }
-    ensures { λ _. ⌜ now (bytes .exit) ≡ over (reversedCells 8 cells (now (bytes .entry))) (now (bytes .entry)) ⌝ }
-{
-    let mut i = 0;
-    while 8 <= cells - i {
-        let k = i * 8;
-        reverse_block_8(bytes, k);
-        reverse_block_8(bytes, k + 32);
-        i += 8;
-    }
-    while i < cells {
-        reverse_cell_8(bytes, i * 8);
-        i += 1;
-    }
-}
-
-fn reverse_cells_16(bytes: &mut [u8], cells: usize)
-    requires { ⌜ cells * 16 ≤ length (now bytes) ⌝ }
-    ensures { λ _. ⌜ now (bytes .exit) ≡ over (reversedCells 16 cells (now (bytes .entry))) (now (bytes .entry)) ⌝ }
+// Reverses the cells that begin at `at`, each by its ends, and says how many bytes these are.
+pub fn reverse_cells(bytes: &mut [u8], at: usize, size: usize, cells: usize) -> usize
+    requires { ⌜ at + cells * size ≤ length (now bytes) ⌝ }
+    ensures whole { λ r. ⌜ r ≡ cells * size ⌝ }
+    ensures bytes { λ _. ⌜ now (bytes .exit) ≡ overAt at (reversedCells size cells (drop at (now (bytes .entry)))) (now (bytes .entry)) ⌝ }
 {
     let mut i = 0;
     while i < cells {
-        reverse_cell_16(bytes, i * 16);
+        reverse_cell(bytes, at + i * size, size);
         i += 1;
     }
+    cells * size
 }
 
-fn reverse_cells_any(bytes: &mut [u8], size: usize, cells: usize)
-    requires { ⌜ cells * size ≤ length (now bytes) ⌝ }
-    ensures { λ _. ⌜ now (bytes .exit) ≡ over (reversedCells size cells (now (bytes .entry))) (now (bytes .entry)) ⌝ }
+// The cells of 32 bytes.
+fn reverse_block(bytes: &mut [u8], at: usize, size: usize)
+    requires { ⌜ Narrow size × (at + 32 ≤ length (now bytes)) ⌝ }
+    ensures { λ _. ⌜ now (bytes .exit) ≡ overAt at (reversedCells size (32 / size) (drop at (now (bytes .entry)))) (now (bytes .entry)) ⌝ }
 {
-    let mut i = 0;
-    while i < cells {
-        reverse_cell(bytes, i * size, size);
-        i += 1;
+    match size {
+        2 => {
+            reverse_block_2(bytes, at);
+            reverse_block_2(bytes, at + 16);
+        }
+        _ => reverse_block_wide(bytes, at, size),
     }
-}
-
-// Two cells of four bytes, as one word.
-fn reverse_block_4(bytes: &mut [u8], at: usize)
-    requires { ⌜ at + 8 ≤ length (now bytes) ⌝ }
-    ensures { λ _. ⌜ now (bytes .exit) ≡ overAt at (reversedCells 4 2 (drop at (now (bytes .entry)))) (now (bytes .entry)) ⌝ }
-{
-    let v = word::be8_at(bytes, at);
-    field::put_u64(bytes, at, word::swap_halves(v));
 }
 
 // Eight cells of two bytes. All are read before the first is written, so that they go as one vector.
@@ -118,50 +90,27 @@ fn reverse_block_2(bytes: &mut [u8], at: usize)
     eight::put(bytes, at + 8, y);
 }
 
-fn reverse_cell_2(bytes: &mut [u8], at: usize)
-    requires { ⌜ at + 2 ≤ length (now bytes) ⌝ }
-    ensures { λ _. ⌜ now (bytes .exit) ≡ overAt at (reverse (take 2 (drop at (now (bytes .entry))))) (now (bytes .entry)) ⌝ }
+// Four words. All are read before the first is written.
+fn reverse_block_wide(bytes: &mut [u8], at: usize, size: usize)
+    requires { ⌜ Wide size × (at + 32 ≤ length (now bytes)) ⌝ }
+    ensures { λ _. ⌜ now (bytes .exit) ≡ overAt at (reversedCells size (32 / size) (drop at (now (bytes .entry)))) (now (bytes .entry)) ⌝ }
 {
-    let v = word::be2_at(bytes, at);
-    word::put_u16(bytes, at, v);
-}
-
-fn reverse_cell_4(bytes: &mut [u8], at: usize)
-    requires { ⌜ at + 4 ≤ length (now bytes) ⌝ }
-    ensures { λ _. ⌜ now (bytes .exit) ≡ overAt at (reverse (take 4 (drop at (now (bytes .entry))))) (now (bytes .entry)) ⌝ }
-{
-    let v = word::be4_at(bytes, at);
-    field::put_u32(bytes, at, v);
-}
-
-// Four cells. All are read before the first is written.
-fn reverse_block_8(bytes: &mut [u8], at: usize)
-    requires { ⌜ at + 32 ≤ length (now bytes) ⌝ }
-    ensures { λ _. ⌜ now (bytes .exit) ≡ overAt at (reversedCells 8 4 (drop at (now (bytes .entry)))) (now (bytes .entry)) ⌝ }
-{
-    let w0 = word::be8_at(bytes, at);
-    let w1 = word::be8_at(bytes, at + 8);
-    let w2 = word::be8_at(bytes, at + 16);
-    let w3 = word::be8_at(bytes, at + 24);
+    let w0 = turned::turned_at(bytes, at, size);
+    let w1 = turned::turned_at(bytes, at + 8, size);
+    let w2 = turned::turned_at(bytes, at + 16, size);
+    let w3 = turned::turned_at(bytes, at + 24, size);
     field::put_u64(bytes, at, w0);
     field::put_u64(bytes, at + 8, w1);
     field::put_u64(bytes, at + 16, w2);
     field::put_u64(bytes, at + 24, w3);
 }
 
-fn reverse_cell_8(bytes: &mut [u8], at: usize)
-    requires { ⌜ at + 8 ≤ length (now bytes) ⌝ }
-    ensures { λ _. ⌜ now (bytes .exit) ≡ overAt at (reverse (take 8 (drop at (now (bytes .entry))))) (now (bytes .entry)) ⌝ }
+fn reverse_word(bytes: &mut [u8], at: usize, size: usize)
+    requires { ⌜ (wordTest size ≡ true) × (at + size ≤ length (now bytes)) ⌝ }
+    ensures { λ _. ⌜ now (bytes .exit) ≡ overAt at (reverse (take size (drop at (now (bytes .entry))))) (now (bytes .entry)) ⌝ }
 {
-    let v = word::be8_at(bytes, at);
-    field::put_u64(bytes, at, v);
-}
-
-fn reverse_cell_16(bytes: &mut [u8], at: usize)
-    requires { ⌜ at + 16 ≤ length (now bytes) ⌝ }
-    ensures { λ _. ⌜ now (bytes .exit) ≡ overAt at (reverse (take 16 (drop at (now (bytes .entry))))) (now (bytes .entry)) ⌝ }
-{
-    swap_words(bytes, at, at + 8);
+    let v = word::big_at(bytes, at, size);
+    word::put_word(bytes, at, size, v);
 }
 
 // Each word goes to the other's place, reversed.

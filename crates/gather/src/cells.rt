@@ -3,8 +3,6 @@ use crate::live;
 use array::kind::ByteOrder;
 use buffer::copy;
 use endian::cells;
-use endian::word;
-use stored::mask;
 ghost use mathlib.Core.Path.{_≡_};
 ghost use mathlib.Core.Bool.{true};
 ghost use mathlib.Core.List.{map};
@@ -15,9 +13,10 @@ ghost use Rattle.array.specs.Kind.{ordered};
 ghost use Rattle.array.specs.Lists.{joined, pieces};
 ghost use Rattle.array.specs.Meaning.{orderOf};
 ghost use Rattle.codec.specs.Mask.{byteMask};
-ghost use Rattle.endian.specs.Word.{wordTest};
-ghost use Rattle.gather.specs.Live.{maskAt, liveAt, Planes};
-ghost use Rattle.gather.specs.Pieces.{piecesAt};
+ghost use Rattle.word.specs.Word.{wordTest};
+ghost use Rattle.encode.specs.Live.{maskAt, liveAt};
+ghost use Rattle.encode.specs.Pieces.{piecesAt};
+ghost use Rattle.encode.specs.Ready.{Planes};
 
 // All cells of values with no mask: as endian's copy_cells. The test of the order stands here, so that little values are one copy and no call.
 pub fn put_all(out: &mut [u8], s: &[u8], size: usize, order: ByteOrder, cells: usize)

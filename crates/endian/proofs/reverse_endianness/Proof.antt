@@ -1,53 +1,82 @@
--- `endian::reverse_endianness`: the two refusals and the success by one law each (Reversing).
+-- `endian::reverse_endianness`: by cases on the size, each by its callee; cells of one byte stay (Reversing).
 -- Assumes nothing.
-use mathlib.Core.Path.{ap}
-use Prim.Native.Nat.{ℕ, _*_, _≤_}
-use native.Mathlib.Nat.{div-mul-le-self}
+use mathlib.Core.Path.{refl}
+use mathlib.Core.Logic.{inl, inr}
+use Prim.Native.Nat.{_/_}
 use native.Mathlib.Omega.{arith}
 use lib.ListN.{length}
 use Rattle.array.specs.Kind.{little}
-use Rattle.valid.proofs.NumberLaws.{size-fits, size-none, size-over}
-use Rattle.endian.proofs.Reversing.{reverse-refused, reverse-done}
+use Rattle.array.proofs.Numbers.{size-fits}
+use Rattle.endian.proofs.Reversing.{ones-reversed, reverse-whole}
 use borrow.Author.Needs.{needs}
 use Rattle.endian.proofs.reverse_endianness.Statement.{statement}
 use Rattle.endian.proofs.reverse_endianness.Tie as tie
 
-fit : (c : tie.After-whole-cells) → c .whole-cells .result * c .before .before .before .before .args .size ≤ length (c .before .before .before .before .args .bytes .now)
-fit c = omega (arith, ap (λ (n : ℕ). n * c .before .before .before .before .args .size) (c .whole-cells .ensures), div-mul-le-self (length (c .before .before .before .before .args .bytes .now)) (c .before .before .before .before .args .size))
+reverse-words-requires : tie.Need-reverse-words-requires
+reverse-words-requires c κs = inl refl
+
+reverse-others-requires : tie.Need-reverse-others-requires
+reverse-others-requires c κs = search needs
+
+reverse-words-requires-2 : tie.Need-reverse-words-requires-2
+reverse-words-requires-2 c κs = inr (inl refl)
+
+reverse-words-requires-3 : tie.Need-reverse-words-requires-3
+reverse-words-requires-3 c κs = inr (inr refl)
+
+reverse-others-requires-2 : tie.Need-reverse-others-requires-2
+reverse-others-requires-2 c κs = search needs
 
 returns : tie.Need-returns
-returns c = let a = c .before .before .args in reverse-refused (a .size) (a .bytes .now) (size-none (a .size) little (c .if1 .taken))
-
-cast-if2 : tie.Need-cast-if2
-cast-if2 c = search needs
-
-returns-2 : tie.Need-returns-2
-returns-2 c = let a = c .before .before .before .args in reverse-refused (a .size) (a .bytes .now) (size-over (a .size) little (c .if2 .taken))
-
-whole-cells-requires : tie.Need-whole-cells-requires
-whole-cells-requires c κs = search needs
-
-mul-whole : tie.Need-mul-whole
-mul-whole c = omega (arith, fit c)
-
-reverse-cells-requires : tie.Need-reverse-cells-requires
-reverse-cells-requires c κs = fit (c .before)
+returns c = let a = c .before .before .before .args in reverse-whole (a .size) 1 (a .bytes .now) (a .bytes .now) (length (a .bytes .now)) (size-fits (a .size) little (omega arith) (omega arith)) (c .match .keys1) (omega arith) (ones-reversed (length (a .bytes .now) / 1) (a .bytes .now) (omega arith))
 
 same-length : tie.Need-same-length
 same-length c = search needs
 
+returns-2 : tie.Need-returns-2
+returns-2 c = let a = c .before .before .before .before .before .before .before .args in reverse-whole (a .size) 2 (a .bytes .now) _ (c .before .before .reverse-words .result) (size-fits (a .size) little (omega arith) (omega arith)) (c .before .before .before .before .match .keys2) (c .before .before .reverse-words .ensures .0) (c .before .before .reverse-words .ensures .1)
+
+same-length-2 : tie.Need-same-length-2
+same-length-2 c = search needs
+
 returns-3 : tie.Need-returns-3
-returns-3 c = let a = c .before .before .before .before .before .before .before .before .args in reverse-done (a .size) (a .bytes .now) _ (c .before .before .before .before .whole-cells .result) (size-fits (a .size) little (omega arith) (c .before .before .before .before .before .if2 .left)) (c .before .before .before .before .whole-cells .ensures) (c .before .before .reverse-cells .ensures)
+returns-3 c = search needs
+
+same-length-3 : tie.Need-same-length-3
+same-length-3 c = search needs
+
+returns-4 : tie.Need-returns-4
+returns-4 c = let a = c .before .before .before .before .before .before .before .args in reverse-whole (a .size) 4 (a .bytes .now) _ (c .before .before .reverse-words2 .result) (size-fits (a .size) little (omega arith) (omega arith)) (c .before .before .before .before .match2 .keys1) (c .before .before .reverse-words2 .ensures .0) (c .before .before .reverse-words2 .ensures .1)
+
+same-length-4 : tie.Need-same-length-4
+same-length-4 c = search needs
+
+returns-5 : tie.Need-returns-5
+returns-5 c = let a = c .before .before .before .before .before .before .before .args in reverse-whole (a .size) 8 (a .bytes .now) _ (c .before .before .reverse-words3 .result) (size-fits (a .size) little (omega arith) (omega arith)) (c .before .before .before .before .match2 .keys2) (c .before .before .reverse-words3 .ensures .0) (c .before .before .reverse-words3 .ensures .1)
+
+same-length-5 : tie.Need-same-length-5
+same-length-5 c = search needs
+
+returns-6 : tie.Need-returns-6
+returns-6 c = search needs
 
 pub reverse-endianness-spec : {M : Type 1} → statement M
 reverse-endianness-spec =
     tie.close
     (tie.spec
+    reverse-words-requires
+    reverse-others-requires
+    reverse-words-requires-2
+    reverse-words-requires-3
+    reverse-others-requires-2
     returns
-    cast-if2
-    returns-2
-    whole-cells-requires
-    mul-whole
-    reverse-cells-requires
     same-length
-    returns-3)
+    returns-2
+    same-length-2
+    returns-3
+    same-length-3
+    returns-4
+    same-length-4
+    returns-5
+    same-length-5
+    returns-6)

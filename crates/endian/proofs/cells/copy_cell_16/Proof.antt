@@ -7,7 +7,7 @@ use Prim.Native.Nat.{ℕ, _+_}
 use native.Mathlib.Omega.{arith}
 use Rattle.array.specs.Buffers.{overAt}
 use Rattle.array.specs.Kind.{big}
-use Rattle.endian.proofs.Words.{Slice, le-read}
+use Rattle.word.proofs.Words.{Slice, le-read}
 use Rattle.endian.proofs.Backing.{two-parts}
 use Rattle.endian.proofs.cells.copy_cell_16.Statement.{statement}
 use Rattle.endian.proofs.cells.copy_cell_16.Tie as tie

@@ -1,83 +1,68 @@
--- `endian::in_place::reverse_cells`: by cases on the size, each by its callee; cells of one byte stay.
+-- `endian::in_place::reverse_cells`: the first i cells are reversed, by the laws for any size (Copying).
 -- Assumes nothing.
-use mathlib.Core.Path.{sym, ap, _∙_}
-use Prim.Native.Nat.{ℕ, _*_}
+use mathlib.Core.Path.{_≡_, refl}
+use Prim.Native.Nat.{_+_, _-_, _*_, _≤_}
 use native.Mathlib.Omega.{arith}
-use Rattle.array.specs.Buffers.{over}
-use Rattle.endian.specs.Calls.{reversedCells}
-use Rattle.endian.proofs.Reversing.{ones-reversed}
-use borrow.Author.Needs.{needs}
+use lib.ListN.{length}
+use Rattle.endian.proofs.Copying.{Copies, copies-begin, copies-same, copies-end, copies-room, reversing-next}
 use Rattle.endian.proofs.in_place.reverse_cells.Statement.{statement}
 use Rattle.endian.proofs.in_place.reverse_cells.Tie as tie
 
-reverse-cells-2-requires : tie.Need-reverse-cells-2-requires
-reverse-cells-2-requires c κs = omega (arith, ap (λ (k : ℕ). c .before .before .before .args .cells * k) (c .before .match .keys2))
+abbrev Inv-loop : tie.InvT-loop
+Inv-loop bytes₀ at size cells i₀ bytes i = Copies bytes₀ at bytes₀ at size cells bytes i
 
-reverse-cells-4-requires : tie.Need-reverse-cells-4-requires
-reverse-cells-4-requires c κs = omega (arith, ap (λ (k : ℕ). c .before .before .before .args .cells * k) (c .before .match .keys3))
+abbrev μ-loop : tie.MeasureT-loop
+μ-loop bytes₀ at size cells i₀ bytes i = cells - i
 
-reverse-cells-8-requires : tie.Need-reverse-cells-8-requires
-reverse-cells-8-requires c κs = omega (arith, ap (λ (k : ℕ). c .before .before .before .args .cells * k) (c .before .match .keys4))
+fits : (c : tie.In-loop Inv-loop μ-loop) → c .before .loop .i * c .before .before .before .args .size + c .before .before .before .args .size ≤ c .before .before .before .args .cells * c .before .before .before .args .size
+fits c = copies-room (c .before .loop .inv) (c .loop-test .taken)
 
-reverse-cells-16-requires : tie.Need-reverse-cells-16-requires
-reverse-cells-16-requires c κs = omega (arith, ap (λ (k : ℕ). c .before .before .before .args .cells * k) (c .before .match .keys5))
+same : (c : tie.At-loop Inv-loop μ-loop) → length (c .loop .bytes) ≡ length (c .before .before .args .bytes .now)
+same c = copies-same (c .loop .inv)
 
-reverse-cells-any-requires : tie.Need-reverse-cells-any-requires
-reverse-cells-any-requires c κs = search needs
+loop-holds : tie.Need-loop-holds Inv-loop μ-loop
+loop-holds c = copies-begin (c .before .pre) (c .before .pre)
 
-returns : tie.Need-returns
-returns c =
-    let a = c .before .before .args in
-    let e = ap (λ (k : ℕ). a .cells * k) (c .match .keys1) in
-    ones-reversed (a .cells) (a .bytes .now) (omega arith) ∙ ap (λ (k : ℕ). over (reversedCells k (a .cells) (a .bytes .now)) (a .bytes .now)) (sym (c .match .keys1))
+mul-reverse-cell : tie.Need-mul-reverse-cell Inv-loop μ-loop
+mul-reverse-cell c = omega (arith, fits (c .before))
 
-same-length : tie.Need-same-length
-same-length c = search needs
+add-reverse-cell : tie.Need-add-reverse-cell Inv-loop μ-loop
+add-reverse-cell c = omega (arith, fits (c .before))
 
-returns-2 : tie.Need-returns-2
-returns-2 c = let a = c .before .before .before .before .before .before .args in c .before .before .reverse-cells-2 .ensures ∙ ap (λ (k : ℕ). over (reversedCells k (a .cells) (a .bytes .now)) (a .bytes .now)) (sym (c .before .before .before .before .match .keys2))
+reverse-cell-requires : tie.Need-reverse-cell-requires Inv-loop μ-loop
+reverse-cell-requires c κs = omega (arith, fits (c .before), same (c .before .before))
 
-same-length-2 : tie.Need-same-length-2
-same-length-2 c = search needs
+add-i : tie.Need-add-i Inv-loop μ-loop
+add-i c = omega arith
 
-returns-3 : tie.Need-returns-3
-returns-3 c = let a = c .before .before .before .before .before .before .args in c .before .before .reverse-cells-4 .ensures ∙ ap (λ (k : ℕ). over (reversedCells k (a .cells) (a .bytes .now)) (a .bytes .now)) (sym (c .before .before .before .before .match .keys3))
+loop-less : tie.Need-loop-less Inv-loop μ-loop
+loop-less c = omega arith
 
-same-length-3 : tie.Need-same-length-3
-same-length-3 c = search needs
+loop-again : tie.Need-loop-again Inv-loop μ-loop
+loop-again c = reversing-next (c .before .before .before .before .before .loop .inv) (c .before .before .before .before .loop-test .taken) (c .before .before .before .before .before .before .before .args .at + c .before .before .before .before .before .loop .i * c .before .before .before .before .before .before .before .args .size) refl (c .before .before .reverse-cell .ensures)
 
-returns-4 : tie.Need-returns-4
-returns-4 c = let a = c .before .before .before .before .before .before .args in c .before .before .reverse-cells-8 .ensures ∙ ap (λ (k : ℕ). over (reversedCells k (a .cells) (a .bytes .now)) (a .bytes .now)) (sym (c .before .before .before .before .match .keys4))
+mul-result : tie.Need-mul-result Inv-loop μ-loop
+mul-result c = omega arith
 
-same-length-4 : tie.Need-same-length-4
-same-length-4 c = search needs
+same-length : tie.Need-same-length Inv-loop μ-loop
+same-length c = same (c .before)
 
-returns-5 : tie.Need-returns-5
-returns-5 c = let a = c .before .before .before .before .before .before .args in c .before .before .reverse-cells-16 .ensures ∙ ap (λ (k : ℕ). over (reversedCells k (a .cells) (a .bytes .now)) (a .bytes .now)) (sym (c .before .before .before .before .match .keys5))
-
-same-length-5 : tie.Need-same-length-5
-same-length-5 c = search needs
-
-returns-6 : tie.Need-returns-6
-returns-6 c = search needs
+returns : tie.Need-returns Inv-loop μ-loop
+returns c = (refl, copies-end (c .before .loop .inv) (c .loop-test .left))
 
 pub reverse-cells-spec : {M : Type 1} → statement M
 reverse-cells-spec =
     tie.close
     (tie.spec
-    reverse-cells-2-requires
-    reverse-cells-4-requires
-    reverse-cells-8-requires
-    reverse-cells-16-requires
-    reverse-cells-any-requires
-    returns
+    Inv-loop
+    μ-loop
+    loop-holds
+    mul-reverse-cell
+    add-reverse-cell
+    reverse-cell-requires
+    add-i
+    loop-less
+    loop-again
+    mul-result
     same-length
-    returns-2
-    same-length-2
-    returns-3
-    same-length-3
-    returns-4
-    same-length-4
-    returns-5
-    same-length-5
-    returns-6)
+    returns)

@@ -6,7 +6,7 @@ use Prim.Native.Nat.{ℕ}
 use Rattle.array.specs.Bytes.{le}
 use Rattle.array.specs.Buffers.{overAt}
 use Rattle.array.specs.Kind.{big}
-use Rattle.endian.proofs.Words.{Slice, le-read}
+use Rattle.word.proofs.Words.{Slice, le-read}
 use borrow.Author.Needs.{needs}
 use Rattle.endian.proofs.in_place.swap_words.Statement.{statement}
 use Rattle.endian.proofs.in_place.swap_words.Tie as tie
