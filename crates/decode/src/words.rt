@@ -2,7 +2,7 @@
 use crate::next::number_if;
 use crate::next::skip;
 use array::kind::ByteOrder;
-use codec::mask::mark_of;
+use stored::mask::mark_of;
 use word::put_word;
 use word::word_at;
 ghost use mathlib.Core.Path.{_≡_};

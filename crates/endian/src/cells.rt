@@ -2,8 +2,8 @@
 use crate::eight;
 use crate::in_place;
 use crate::turned;
-use array::copy;
-use array::field;
+use buffer::copy;
+use buffer::field;
 use array::kind::ByteOrder;
 use buffer::copy;
 use buffer::field;

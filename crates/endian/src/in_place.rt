@@ -1,7 +1,7 @@
 // Cells of one size reversed in place.
 use crate::eight;
 use crate::turned;
-use array::field;
+use buffer::field;
 ghost use mathlib.Core.Path.{_≡_};
 ghost use mathlib.Core.Bool.{true};
 ghost use mathlib.Core.List.{reverse};

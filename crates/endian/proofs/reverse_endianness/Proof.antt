@@ -6,7 +6,7 @@ use Prim.Native.Nat.{_/_}
 use native.Mathlib.Omega.{arith}
 use lib.ListN.{length}
 use Rattle.array.specs.Kind.{little}
-use Rattle.array.proofs.Numbers.{size-fits}
+use Rattle.valid.proofs.NumberLaws.{size-fits}
 use Rattle.endian.proofs.Reversing.{ones-reversed, reverse-whole}
 use borrow.Author.Needs.{needs}
 use Rattle.endian.proofs.reverse_endianness.Statement.{statement}

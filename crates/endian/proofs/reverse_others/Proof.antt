@@ -5,7 +5,7 @@ use native.Mathlib.Nat.{div-mul-le-self}
 use native.Mathlib.Omega.{arith}
 use lib.ListN.{length}
 use Rattle.array.specs.Kind.{little}
-use Rattle.array.proofs.Numbers.{size-fits, size-none, size-over}
+use Rattle.valid.proofs.NumberLaws.{size-fits, size-none, size-over}
 use Rattle.endian.proofs.Reversing.{reverse-refused, reverse-whole}
 use borrow.Author.Needs.{needs}
 use Rattle.endian.proofs.reverse_others.Statement.{statement}
