@@ -12,7 +12,7 @@ use Rattle.array.specs.Outcome.{contentArray, outcomeArray}
 use Rattle.codec.specs.Frame.{countSet}
 use Rattle.codec.specs.Index.{offsetsIn}
 use Rattle.decode.specs.Outcomes.{readOutcome}
-use Rattle.decode.specs.Ends.{endsBy}
+use Rattle.spread.specs.Ends.{endsBy}
 use Rattle.decode.specs.Reads.{nestedFrom, NestedWithin}
 use Rattle.decode.proofs.Outcomes.{short-masks, short-values, short-offsets, all-written}
 use Rattle.decode.proofs.AllPlanes.{planesIn, innermostIn, innermost-read}

@@ -14,26 +14,8 @@ use Rattle.codec.specs.Frame.{countSet}
 use Rattle.codec.specs.Spread.{spread}
 use Rattle.codec.proofs.Marks.{null-byte, set-byte, count-null, count-more, count-le}
 use Rattle.codec.proofs.SpreadLaws.{length-spread, spread-take, spread-none, spread-all, spread-null, spread-set}
-use Rattle.decode.specs.Next.{ifSet, nextAt}
-
--- the plane of n cells at `from`
-abbrev pub planeAt : ℕ → ℕ → List ℕ → List ℕ
-planeAt from n d = take n (drop from d)
-
-pub plane-length : (from n : ℕ) (d : List ℕ) → from + n ≤ length d → length (planeAt from n d) ≡ n
-plane-length from n d h = length-take-le n (drop from d) (omega (arith, length-drop from d))
-
-pub plane-byte : (from n : ℕ) (d : List ℕ) (i : ℕ) → i < n → getD d (from + i) 0 ≡ getD (planeAt from n d) i 0
-plane-byte from n d i h = sym (getD-take n (drop from d) i 0 h ∙ getD-drop from d i 0)
-
--- a cell takes at most one of the stored ones
-pub next-most : (m : Mark) (k n : ℕ) → k < n → nextAt m k 1 ≤ n
-next-most isNull k n h = omega arith
-next-most isSet k n h = omega arith
-
--- the next of the stored ones, of w bytes each, lies within them
-pub next-within : (w at k cells l : ℕ) → k < cells → at + cells * w ≤ l → at + k * w + w ≤ l
-next-within w at k cells l h r = omega (arith, suc-mul k w, mul-le-mul-right {m = suc k} {n = cells} w h)
+use Rattle.spread.specs.Next.{ifSet, nextAt}
+use Rattle.spread.proofs.PlaneLaws.{planeAt, plane-length, plane-byte}
 
 -- i cells of the plane at `to` are written, and j stored bytes are taken
 pub record Placing (d : List ℕ) (from to n : ℕ) (s : List ℕ) (at cells : ℕ) (out : List ℕ) (i j : ℕ) : Type 0 where

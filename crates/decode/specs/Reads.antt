@@ -5,12 +5,11 @@ use mathlib.Core.Path.{_≡_}
 use mathlib.Core.List.{List, [], map}
 use lib.ListN.{length, take, drop, replicate}
 use Rattle.array.specs.Limits.{mostCells, mostDepth, mostSize}
-use Rattle.array.specs.Lists.{joined, pieces}
+use Rattle.array.specs.Lists.{pieces}
 use Rattle.array.specs.Kind.{Order, fixed, ragged, atStart, ordered}
 use Rattle.array.specs.Offsets.{RisingFrom, lastFrom, slicesFrom}
 use Rattle.array.specs.Content.{Content, layout}
 use Rattle.codec.specs.Frame.{countSet}
-use Rattle.codec.specs.Spread.{spread}
 use Rattle.codec.specs.Stored.{cellsFrom, MasksWithin, innermostCount}
 use Rattle.codec.specs.Index.{offsetsIn}
 use Rattle.array.specs.Outcome.{contentArray}
@@ -29,18 +28,6 @@ pub record PlanesWithin (masks : List ℕ) (n depth : ℕ) (s : List ℕ) : Type
   pub deep : 1 ≤ depth
   pub room : depth * n ≤ length masks
   pub within : MasksWithin depth s 0 n
-
--- ---- fixed values: those of the set cells of the plane p lie end to end in q, and the others are zero bytes
-
-abbrev pub valuesOver : ℕ → Order → List ℕ → List ℕ → List ℕ
-valuesOver size o p q = joined (spread (replicate size 0) p (map (ordered o) (pieces size (countSet p) q)))
-
--- for the plane of n cells at `from`, of which `cells` are set
-pub record ValuesWithin (values masks : List ℕ) (from n : ℕ) (s : List ℕ) (at size cells : ℕ) : Type 0 where
-  pub plane : from + n ≤ length masks
-  pub count : cells ≡ countSet (take n (drop from masks))
-  pub room : n * size ≤ length values
-  pub stored : at + cells * size ≤ length s
 
 -- ---- fixed values: k of them stored from `at` on
 

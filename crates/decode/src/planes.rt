@@ -1,12 +1,12 @@
 // Mask planes, outermost first. Each level goes straight into its plane: its stored mask, spread over the plane above.
-use crate::next::byte_if;
-use crate::next::skip;
 use array::copy::fill_bytes;
 use codec::mask::copy_to_plane;
 use codec::mask::count_set;
 use codec::mask::mark_of;
 use codec::mask::mask_length;
 use codec::mask::stored_byte;
+use spread::next::byte_if;
+use spread::next::skip;
 ghost use mathlib.Core.Path.{_≡_};
 ghost use mathlib.Core.List.{_++_};
 ghost use Prim.Native.Nat.{_+_, _-_, _≤_};

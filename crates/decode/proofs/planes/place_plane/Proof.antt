@@ -6,8 +6,9 @@ use native.Mathlib.Omega.{arith}
 use lib.ListN.{length}
 use borrow.Author.Needs.{needs}
 use Rattle.codec.specs.Marks.{toldMark}
-use Rattle.decode.specs.Next.{ifSet}
-use Rattle.decode.proofs.Placing.{next-most, Placing, placing-begins, placing-all, placing-same, placing-ends, placing-inside, placing-more}
+use Rattle.spread.specs.Next.{ifSet}
+use Rattle.spread.proofs.PlaneLaws.{next-most}
+use Rattle.decode.proofs.Placing.{Placing, placing-begins, placing-all, placing-same, placing-ends, placing-inside, placing-more}
 use Rattle.decode.proofs.planes.place_plane.Statement.{statement}
 use Rattle.decode.proofs.planes.place_plane.Tie as tie
 
