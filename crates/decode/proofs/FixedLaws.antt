@@ -33,10 +33,10 @@ use Rattle.decode.specs.Found.{fixedBy, fixedFound}
 use Rattle.spread.specs.Values.{valuesOver, ValuesWithin}
 use Rattle.decode.specs.Reads.{fixedFrom, FixedWithin}
 use Rattle.decode.proofs.Outcomes.{short-masks, short-values, all-written}
-use Rattle.decode.proofs.Levels.{times-first}
+use Rattle.planes.proofs.Levels.{times-first}
 use Rattle.spread.proofs.ValueRuns.{cellsLeft, valuesLeft}
 use Rattle.spread.proofs.SpreadingValues.{cells-length, values-length}
-use Rattle.decode.proofs.AllPlanes.{planesIn, innermostIn, masks-are, leaves-are, leaves-flat, count-are, planes-long, innermost-read, innermost-long}
+use Rattle.planes.proofs.AllPlanes.{planesIn, innermostIn, masks-are, leaves-are, leaves-flat, count-are, planes-long, innermost-read, innermost-long}
 
 -- ---- what is copied
 

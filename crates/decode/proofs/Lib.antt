@@ -1,7 +1,4 @@
 pub mod Outcomes
-pub mod Placing
-pub mod Levels
-pub mod AllPlanes
 pub mod FixedLaws
 pub mod NestedLaws
 pub mod NestedWritten

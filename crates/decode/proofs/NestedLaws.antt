@@ -39,8 +39,8 @@ use Rattle.spread.specs.Ends.{endsBy}
 use Rattle.decode.specs.Found.{RaggedPlace, raggedAt, placedAt, raggedBy, raggedFound}
 use Rattle.decode.specs.Reads.{nestedFrom, NestedWithin, raggedFrom}
 use Rattle.spread.proofs.CopyingOffsets.{length-offsets}
-use Rattle.decode.proofs.Levels.{some-of, within-now}
-use Rattle.decode.proofs.AllPlanes.{planesIn, innermostIn, masks-are, leaves-are, count-are, planes-long, innermost-long}
+use Rattle.planes.proofs.Levels.{some-of, within-now}
+use Rattle.planes.proofs.AllPlanes.{planesIn, innermostIn, masks-are, leaves-are, count-are, planes-long, innermost-long}
 
 -- ---- values end to end below masks
 

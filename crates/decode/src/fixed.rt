@@ -1,11 +1,11 @@
 // Arrays of fixed values: the walk, then the need, and then the copying.
-use crate::planes::place_planes;
 use array::answer::WrittenArray;
 use array::kind::ByteOrder;
 use array::refusal;
 use codec::optional::Walked;
 use codec::optional::walk_content;
 use endian::cells::copy_cells;
+use planes::place_planes;
 use spread::values::spread_values;
 ghost use mathlib.Core.Path.{_≡_};
 ghost use Prim.Native.Nat.{_≤_};

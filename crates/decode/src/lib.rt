@@ -1,6 +1,5 @@
 // Reading a stored array into lent masks, values and offsets: the public call `decode`.
 mod fixed;
-mod planes;
 mod ragged;
 
 use array::answer::WrittenArray;

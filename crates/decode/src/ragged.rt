@@ -1,5 +1,4 @@
 // Arrays of ragged values: the walk, the check of the index, then the need, and then the copying.
-use crate::planes::place_planes;
 use array::answer::WrittenArray;
 use array::copy::copy_bytes;
 use array::kind::IndexPlace;
@@ -13,6 +12,7 @@ use codec::vlen::check_ragged;
 use codec::vlen::data_at;
 use codec::vlen::index_at;
 use codec::vlen::index_length;
+use planes::place_planes;
 use spread::offsets::copy_offsets;
 use spread::offsets::spread_offsets;
 ghost use mathlib.Core.Path.{_≡_};

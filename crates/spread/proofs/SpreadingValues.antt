@@ -25,6 +25,8 @@ use Rattle.codec.proofs.SpreadLaws.{length-spread}
 use Rattle.endian.proofs.Words.{le-zero}
 use Rattle.spread.specs.Runs.{runOf}
 use Rattle.spread.specs.Next.{ifSet, nextAt, wordAt}
+use Rattle.spread.specs.Values.{ValuesWithin}
+use Rattle.spread.proofs.PlaneLaws.{planeAt, plane-length}
 use Rattle.spread.proofs.RunLaws.{run-within, null-run, set-run, some-run}
 use Rattle.spread.proofs.ValueRuns.{cellsLeft, valuesLeft, nulls-first, sets-first}
 
@@ -64,7 +66,7 @@ pub record SpreadingValues (size : ℕ) (o : Order) (p s d : List ℕ) (at cells
   pub count : k + countSet (drop i p) ≡ cells
   pub laid : Laying (valuesLeft size o p s 0 at) d 0 out (i * size) (valuesLeft size o p s i (at + k * size))
 
-pub values-begin : (size : ℕ) (o : Order) (p s d : List ℕ) (at cells : ℕ) → length p * size ≤ length d → cells ≡ countSet p → at + cells * size ≤ length s → SpreadingValues size o p s d at cells d 0 0
+values-begin : (size : ℕ) (o : Order) (p s d : List ℕ) (at cells : ℕ) → length p * size ≤ length d → cells ≡ countSet p → at + cells * size ≤ length s → SpreadingValues size o p s d at cells d 0 0
 values-begin size o p s d at cells r e h =
     let l : length (valuesLeft size o p s 0 at) ≡ length p * size = values-length size o p s at (omega (arith, ap (λ (k : ℕ). k * size) e)) in
     let z : 0 ≡ 0 * size = sym (zero-mul size) in
@@ -77,6 +79,14 @@ values-begin size o p s d at cells r e h =
       laid = laying-is (subst (λ (i : ℕ). Laying (valuesLeft size o p s 0 at) d 0 d i (valuesLeft size o p s 0 at)) z (laying-begins (valuesLeft size o p s 0 at) d 0 (omega arith)))
           (ap (valuesLeft size o p s 0) a);
     }
+
+-- by what the copying rests on
+module _ {values masks : List ℕ} {from n : ℕ} {s : List ℕ} {at size cells : ℕ} (r : ValuesWithin values masks from n s at size cells) where
+  pub plane-long : length (planeAt from n masks) ≡ n
+  plane-long = plane-length from n masks (r .plane)
+
+  pub values-start : (o : Order) → SpreadingValues size o (planeAt from n masks) s values at cells values 0 0
+  values-start o = values-begin size o (planeAt from n masks) s values at cells (rw plane-long (r .room)) (r .count) (r .stored)
 
 module _ {size : ℕ} {o : Order} {p s d : List ℕ} {at cells : ℕ} {out : List ℕ} {i k : ℕ} (v : SpreadingValues size o p s d at cells out i k) where
   pub values-same : length out ≡ length d
@@ -128,6 +138,10 @@ module _ {size : ℕ} {o : Order} {p s d : List ℕ} {at cells : ℕ} {out : Lis
               (laying-is (v .laid) (sets-first size o p s i j r e ∙ ap (λ (j : ℕ). g ++ valuesLeft size o p s (i + r) j) ej)) out′
               (eo ∙ ap (λ (k : ℕ). overAt k g out) (sym (zero-add (i * size)))) ((i + r) * size) to;
         }
+
+  -- all cells that are left
+  pub values-rest : (n : ℕ) → length p ≡ n → i * size + (n - i) * size ≤ length out
+  values-rest n e = values-room (n - i) (omega (arith, v .within))
 
   -- no cell is left
   values-whole : i ≡ length p → out ≡ over (valuesLeft size o p s 0 at) d

@@ -1,6 +1,6 @@
 -- `decode_ragged` meets its contract: the reader's answer by what was found (NestedLaws), and what the copying rests on.
 -- Assumes nothing.
-use mathlib.Core.Path.{_≡_, sym, ap, _∙_, subst}
+use mathlib.Core.Path.{sym, ap, _∙_, subst}
 use Prim.Native.Nat.{ℕ, _+_, _≤_}
 use native.Mathlib.Omega.{arith}
 use lib.ListN.{length}

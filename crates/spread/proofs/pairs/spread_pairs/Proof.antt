@@ -1,6 +1,6 @@
 -- `spread_pairs` meets its contract, by the laws of SpreadingValues and PairLaws; the next two words are at hand.
 -- Assumes nothing.
-use mathlib.Core.Path.{_≡_, refl, ap, _∙_}
+use mathlib.Core.Path.{_≡_, ap, _∙_}
 use mathlib.Core.List.{_++_}
 use Prim.Native.Nat.{_+_, _-_, _*_, _≤_, _<_}
 use native.Mathlib.Omega.{arith}
@@ -12,8 +12,8 @@ use Rattle.array.specs.Cells.{markOf}
 use Rattle.array.specs.Meaning.{orderOf}
 use Rattle.codec.specs.Marks.{toldMark}
 use Rattle.spread.specs.Next.{wordAt}
-use Rattle.spread.proofs.PlaneLaws.{planeAt, plane-length, plane-byte, next-most}
-use Rattle.spread.proofs.SpreadingValues.{SpreadingValues, values-begin, values-same, values-inside, values-room, values-cell, values-end}
+use Rattle.spread.proofs.PlaneLaws.{planeAt, plane-byte, next-most}
+use Rattle.spread.proofs.SpreadingValues.{SpreadingValues, values-start, values-same, values-inside, values-room, values-cell, values-end, plane-long, values-rest}
 use Rattle.spread.proofs.PairLaws.{pair-is, pair-cell, first-most, other-most}
 use Rattle.spread.proofs.pairs.spread_pairs.Statement.{statement}
 use Rattle.spread.proofs.pairs.spread_pairs.Tie as tie
@@ -25,7 +25,7 @@ abbrev μ-loop : tie.MeasureT-loop
 μ-loop values₀ masks from n s at order cells a b i₀ k₀ v₀ u₀ values i k v u = n - i
 
 long : (c : tie.Start Inv-loop μ-loop) → length (planeAt (c .args .from) (c .args .n) (c .args .masks .now)) ≡ c .args .n
-long c = plane-length (c .args .from) (c .args .n) (c .args .masks .now) (c .pre .plane)
+long c = plane-long (c .pre)
 
 low : (c : tie.After-first-word Inv-loop μ-loop) → c .first-word .result ≤ 1
 low c = omega (arith, c .first-word .ensures, first-most (orderOf (c .before .before .before .before .args .order)))
@@ -45,7 +45,7 @@ most : (c : tie.After-skip Inv-loop μ-loop) → c .skip .result ≤ c .before .
 most c = omega (arith, c .skip .ensures, next-most (toldMark (c .before .before .before .mark-of .result)) (c .before .before .before .before .before .before .loop .k) (c .before .before .before .before .before .before .before .before .before .before .before .before .before .args .cells) (c .before .before .before .before .before .loop-test .taken))
 
 rest : (c : tie.After-loop Inv-loop μ-loop) → c .before .loop .i * 16 + (c .before .before .before .before .before .before .before .before .args .n - c .before .loop .i) * 16 ≤ length (c .before .loop .values)
-rest c = values-room (c .before .loop .inv .0) (c .before .before .before .before .before .before .before .before .args .n - c .before .loop .i) (omega (arith, (long (c .before .before .before .before .before .before .before .before)), c .before .loop .inv .0 .within))
+rest c = values-rest (c .before .loop .inv .0) (c .before .before .before .before .before .before .before .before .args .n) (long (c .before .before .before .before .before .before .before .before))
 
 first-word-requires : tie.Need-first-word-requires Inv-loop μ-loop
 first-word-requires c κs = search needs
@@ -63,7 +63,7 @@ loop-holds : tie.Need-loop-holds Inv-loop μ-loop
 loop-holds c =
     let args = c .before .before .before .before .before .before .args in
     let pre = c .before .before .before .before .before .before .pre in
-    (values-begin 16 (orderOf (args .order)) (planeAt (args .from) (args .n) (args .masks .now)) (args .s .now) (args .values .now) (args .at) (args .cells) (rw (long (c .before .before .before .before .before .before)) (pre .room)) (pre .count) (pre .stored), c .before .pair-word .ensures, c .pair-word2 .ensures)
+    (values-start pre (orderOf (args .order)), c .before .pair-word .ensures, c .pair-word2 .ensures)
 
 add-mark-of : tie.Need-add-mark-of Inv-loop μ-loop
 add-mark-of c = omega (arith, (inside c), (long (c .before .before .before .before .before .before .before .before)), c .before .before .before .before .before .before .before .before .pre .plane)

@@ -1,13 +1,12 @@
 -- `spread_runs` meets its contract, by the laws of SpreadingValues: a null run and a set run a turn.
 -- Assumes nothing.
-use mathlib.Core.Path.{_≡_, ap, _∙_}
+use mathlib.Core.Path.{_≡_, _∙_}
 use Prim.Native.Nat.{_+_, _-_, _*_, _≤_, _<_}
 use native.Mathlib.Omega.{arith}
 use lib.ListN.{length}
-use borrow.Author.Needs.{needs}
 use Rattle.array.specs.Meaning.{orderOf}
-use Rattle.spread.proofs.PlaneLaws.{planeAt, plane-length}
-use Rattle.spread.proofs.SpreadingValues.{SpreadingValues, values-begin, values-same, values-room, values-source, values-end, nulls-fit, nulls-laid, sets-some, sets-fit, sets-stored, sets-laid}
+use Rattle.spread.proofs.PlaneLaws.{planeAt}
+use Rattle.spread.proofs.SpreadingValues.{SpreadingValues, values-start, values-same, values-room, values-source, values-end, nulls-fit, nulls-laid, sets-some, sets-fit, sets-stored, sets-laid, plane-long, values-rest}
 use Rattle.spread.proofs.values.spread_runs.Statement.{statement}
 use Rattle.spread.proofs.values.spread_runs.Tie as tie
 
@@ -18,7 +17,7 @@ abbrev μ-loop : tie.MeasureT-loop
 μ-loop values₀ masks from n s at size order cells i₀ k₀ values i k = n - i
 
 long : (c : tie.Start Inv-loop μ-loop) → length (planeAt (c .args .from) (c .args .n) (c .args .masks .now)) ≡ c .args .n
-long c = plane-length (c .args .from) (c .args .n) (c .args .masks .now) (c .pre .plane)
+long c = plane-long (c .pre)
 
 nulls-room : (c : tie.After-run-length Inv-loop μ-loop) → c .before .before .loop .i * c .before .before .before .before .before .before .args .size + c .run-length .result * c .before .before .before .before .before .before .args .size ≤ length (c .before .before .loop .values)
 nulls-room c = values-room (c .before .before .loop .inv) (c .run-length .result) (nulls-fit (c .before .before .loop .inv) (c .run-length .result) (c .run-length .ensures))
@@ -36,13 +35,13 @@ some : (c : tie.After-run-length2 Inv-loop μ-loop) → 0 < c .run-length2 .resu
 some c = sets-some (c .before .before .before .before .before .before .before .loop .inv) (c .before .before .before .before .before .run-length .result) (c .before .before .before .before .before .run-length .ensures) (c .before .before .before .before .before .before .loop-test .taken) (c .run-length2 .result) (c .run-length2 .ensures)
 
 rest : (c : tie.After-loop Inv-loop μ-loop) → c .before .loop .i * c .before .before .before .before .before .args .size + (c .before .before .before .before .before .args .n - c .before .loop .i) * c .before .before .before .before .before .args .size ≤ length (c .before .loop .values)
-rest c = values-room (c .before .loop .inv) (c .before .before .before .before .before .args .n - c .before .loop .i) (omega (arith, (long (c .before .before .before .before .before)), c .before .loop .inv .within))
+rest c = values-rest (c .before .loop .inv) (c .before .before .before .before .before .args .n) (long (c .before .before .before .before .before))
 
 loop-holds : tie.Need-loop-holds Inv-loop μ-loop
 loop-holds c =
     let args = c .before .before .before .args in
     let pre = c .before .before .before .pre in
-    values-begin (args .size) (orderOf (args .order)) (planeAt (args .from) (args .n) (args .masks .now)) (args .s .now) (args .values .now) (args .at) (args .cells) (rw (long (c .before .before .before)) (pre .room)) (pre .count) (pre .stored)
+    values-start pre (orderOf (args .order))
 
 run-length-requires : tie.Need-run-length-requires Inv-loop μ-loop
 run-length-requires c κs = (c .before .before .before .before .before .pre .plane, omega (arith, (long (c .before .before .before .before .before)), c .before .loop .inv .within))

@@ -7,14 +7,14 @@ use lib.ListN.{length, drop}
 use borrow.Author.Needs.{needs}
 use Rattle.array.specs.Meaning.{orderOf}
 use Rattle.spread.specs.Values.{ValuesWithin}
-use Rattle.spread.proofs.PlaneLaws.{planeAt, plane-length}
-use Rattle.spread.proofs.SpreadingValues.{values-begin, values-all}
+use Rattle.spread.proofs.PlaneLaws.{planeAt}
+use Rattle.spread.proofs.SpreadingValues.{values-start, values-all, plane-long}
 use Rattle.spread.proofs.ValueRuns.{sized-as}
 use Rattle.spread.proofs.values.spread_values.Statement.{statement}
 use Rattle.spread.proofs.values.spread_values.Tie as tie
 
 long : (c : tie.Start) → length (planeAt (c .args .from) (c .args .n) (c .args .masks .now)) ≡ c .args .n
-long c = plane-length (c .args .from) (c .args .n) (c .args .masks .now) (c .pre .plane)
+long c = plane-long (c .pre)
 
 copy-cells-requires : tie.Need-copy-cells-requires
 copy-cells-requires c κs =
@@ -29,7 +29,7 @@ returns c =
     let args = c .before .before .before .before .before .before .before .before .args in
     let pre = c .before .before .before .before .before .before .before .before .pre in
     values-all
-    (values-begin (args .size) (orderOf (args .order)) (planeAt (args .from) (args .n) (args .masks .now)) (args .s .now) (args .values .now) (args .at) (args .cells) (rw (long (c .before .before .before .before .before .before .before .before)) (pre .room)) (pre .count) (pre .stored))
+    (values-start pre (orderOf (args .order)))
     (args .n) (long (c .before .before .before .before .before .before .before .before)) (c .before .before .before .before .if1 .taken) _ (c .before .before .copy-cells .ensures)
 
 spread-words-requires : tie.Need-spread-words-requires

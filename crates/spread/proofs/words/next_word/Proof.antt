@@ -1,10 +1,9 @@
 -- `next_word` meets its contract: a word where one is left, else 0 (SpreadingValues).
 -- Assumes nothing.
-use mathlib.Core.Path.{_≡_, sym, _∙_}
+use mathlib.Core.Path.{sym, _∙_}
 use Prim.Native.Nat.{_+_, _*_, _≤_}
 use native.Mathlib.Omega.{arith}
 use lib.ListN.{length}
-use borrow.Author.Needs.{needs}
 use Rattle.array.specs.Meaning.{orderOf}
 use Rattle.spread.proofs.PlaneLaws.{next-within}
 use Rattle.spread.proofs.SpreadingValues.{word-left, word-none}

@@ -11,8 +11,8 @@ use Rattle.array.specs.Meaning.{orderOf}
 use Rattle.array.specs.Bytes.{le}
 use Rattle.codec.specs.Marks.{toldMark}
 use Rattle.spread.specs.Next.{wordAt}
-use Rattle.spread.proofs.PlaneLaws.{planeAt, plane-length, plane-byte, next-most}
-use Rattle.spread.proofs.SpreadingValues.{SpreadingValues, values-begin, values-same, values-inside, values-room, values-cell, values-end, word-left, word-cell}
+use Rattle.spread.proofs.PlaneLaws.{planeAt, plane-byte, next-most}
+use Rattle.spread.proofs.SpreadingValues.{SpreadingValues, values-start, values-same, values-inside, values-room, values-cell, values-end, word-left, word-cell, plane-long, values-rest}
 use Rattle.spread.proofs.words.spread_words.Statement.{statement}
 use Rattle.spread.proofs.words.spread_words.Tie as tie
 
@@ -23,7 +23,7 @@ abbrev μ-loop : tie.MeasureT-loop
 μ-loop values₀ masks from n s at size order cells i₀ k₀ v₀ values i k v = n - i
 
 long : (c : tie.Start Inv-loop μ-loop) → length (planeAt (c .args .from) (c .args .n) (c .args .masks .now)) ≡ c .args .n
-long c = plane-length (c .args .from) (c .args .n) (c .args .masks .now) (c .pre .0 .plane)
+long c = plane-long (c .pre .0)
 
 inside : (c : tie.In-loop Inv-loop μ-loop) → c .before .loop .i < length (planeAt (c .before .before .before .before .before .before .args .from) (c .before .before .before .before .before .before .args .n) (c .before .before .before .before .before .before .args .masks .now))
 inside c = values-inside (c .before .loop .inv .0) (c .loop-test .taken)
@@ -37,7 +37,7 @@ mark-is c =
     c .mark-of .ensures ∙ ap markOf (plane-byte (args .from) (args .n) (args .masks .now) (c .before .before .before .loop .i) (omega (arith, (inside (c .before .before)), (long (c .before .before .before .before .before .before .before .before)))))
 
 rest : (c : tie.After-loop Inv-loop μ-loop) → c .before .loop .i * c .before .before .before .before .before .before .args .size + (c .before .before .before .before .before .before .args .n - c .before .loop .i) * c .before .before .before .before .before .before .args .size ≤ length (c .before .loop .values)
-rest c = values-room (c .before .loop .inv .0) (c .before .before .before .before .before .before .args .n - c .before .loop .i) (omega (arith, (long (c .before .before .before .before .before .before)), c .before .loop .inv .0 .within))
+rest c = values-rest (c .before .loop .inv .0) (c .before .before .before .before .before .before .args .n) (long (c .before .before .before .before .before .before))
 
 next-word-requires : tie.Need-next-word-requires Inv-loop μ-loop
 next-word-requires c κs = (c .before .before .before .pre .1, c .before .before .before .pre .0 .stored)
@@ -46,7 +46,7 @@ loop-holds : tie.Need-loop-holds Inv-loop μ-loop
 loop-holds c =
     let args = c .before .before .before .before .args in
     let pre = c .before .before .before .before .pre .0 in
-    (values-begin (args .size) (orderOf (args .order)) (planeAt (args .from) (args .n) (args .masks .now)) (args .s .now) (args .values .now) (args .at) (args .cells) (rw (long (c .before .before .before .before)) (pre .room)) (pre .count) (pre .stored), c .next-word .ensures)
+    (values-start pre (orderOf (args .order)), c .next-word .ensures)
 
 add-mark-of : tie.Need-add-mark-of Inv-loop μ-loop
 add-mark-of c = omega (arith, (inside c), (long (c .before .before .before .before .before .before)), c .before .before .before .before .before .before .pre .0 .plane)

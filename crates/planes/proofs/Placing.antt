@@ -2,11 +2,11 @@
 -- Assumes nothing.
 use mathlib.Core.Path.{_≡_, refl, sym, ap, _∙_}
 use mathlib.Core.List.{List, [], _∷_, _++_, append-nil}
-use Prim.Native.Nat.{ℕ, suc, _+_, _-_, _*_, _≤_, _<_}
+use Prim.Native.Nat.{ℕ, suc, _+_, _-_, _≤_, _<_}
 use native.Mathlib.Omega.{arith}
-use native.Mathlib.Nat.{add-zero, suc-mul, mul-le-mul-right}
+use native.Mathlib.Nat.{add-zero}
 use lib.ListN.{length, take, drop, getD, set, replicate, length-drop}
-use lib.Seq.{drop-cons, length-take-le, getD-drop, getD-take}
+use lib.Seq.{drop-cons, length-take-le}
 use Rattle.array.specs.Cells.{Mark, isNull, isSet, markOf}
 use Rattle.array.specs.Buffers.{overAt}
 use Rattle.array.proofs.Laying.{Laying, laying-begins, laying-same, laying-ends, laying-part, laying-store, laying-is, laying-before}

@@ -8,9 +8,9 @@ use borrow.Author.Needs.{needs}
 use Rattle.codec.specs.Marks.{toldMark}
 use Rattle.spread.specs.Next.{ifSet}
 use Rattle.spread.proofs.PlaneLaws.{next-most}
-use Rattle.decode.proofs.Placing.{Placing, placing-begins, placing-all, placing-same, placing-ends, placing-inside, placing-more}
-use Rattle.decode.proofs.planes.place_plane.Statement.{statement}
-use Rattle.decode.proofs.planes.place_plane.Tie as tie
+use Rattle.planes.proofs.Placing.{Placing, placing-begins, placing-all, placing-same, placing-ends, placing-inside, placing-more}
+use Rattle.planes.proofs.place_plane.Statement.{statement}
+use Rattle.planes.proofs.place_plane.Tie as tie
 
 abbrev Inv-loop : tie.InvT-loop
 Inv-loop masks₀ from to n s at cells i₀ j₀ masks i j = Placing masks₀ from to n s at cells masks i j

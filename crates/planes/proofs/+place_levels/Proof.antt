@@ -7,15 +7,15 @@ use borrow.Author.Needs.{needs}
 use borrow.Fn.Kinds.{In}
 use borrow.Fn.PlainCycle.{Measures, is, falls, and}
 use Rattle.array.proofs.copy.fill_bytes.Reads as fill-bytes-reads
-use Rattle.decode.proofs.Levels.{levels-none, levels-null, levels-room, levels-fits, levels-next, levels-done}
-use Rattle.decode.proofs.planes.place_levels.Reads as place-levels
-use Rattle.decode.proofs.planes.place_levels.Kinds as place-levels-kinds
-use Rattle.decode.proofs.planes.+place_levels.Lts-place_levels as place-levels-lts
+use Rattle.planes.proofs.Levels.{levels-none, levels-null, levels-room, levels-fits, levels-next, levels-done}
+use Rattle.planes.proofs.place_levels.Reads as place-levels
+use Rattle.planes.proofs.place_levels.Kinds as place-levels-kinds
+use Rattle.planes.proofs.+place_levels.Lts-place_levels as place-levels-lts
 use Rattle.codec.proofs.mask.count_set.Reads as count-set-reads
 use Rattle.codec.proofs.mask.mask_length.Reads as mask-length-reads
-use Rattle.decode.proofs.planes.place_plane.Reads as place-plane-reads
-use Rattle.decode.proofs.planes.+place_levels.{statement}
-use Rattle.decode.proofs.planes.+place_levels.Tie.{close}
+use Rattle.planes.proofs.place_plane.Reads as place-plane-reads
+use Rattle.planes.proofs.+place_levels.{statement}
+use Rattle.planes.proofs.+place_levels.Tie.{close}
 
 abbrev μ-place-levels : Measures 2 place-levels-kinds.ps ℕ
 μ-place-levels κs a = a .1 .1 .1 .0

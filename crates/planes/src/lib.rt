@@ -16,7 +16,7 @@ ghost use Rattle.codec.specs.Mask.{byteMask};
 ghost use Rattle.codec.specs.Frame.{countSet};
 ghost use Rattle.codec.specs.Spread.{spread};
 ghost use Rattle.codec.specs.Stored.{maskIn, planesBelow};
-ghost use Rattle.decode.specs.Reads.{LevelsWithin, PlanesWithin};
+ghost use Rattle.planes.specs.Within.{LevelsWithin, PlanesWithin};
 
 // Spreads the stored mask at `at` over the plane of n cells at `from`, in which `cells` are set, into the plane at `to` behind it.
 // A byte is read for every cell until all are placed, so that no branch goes by the plane.

@@ -18,8 +18,8 @@ use Rattle.codec.specs.Spread.{spread, innermostPlane}
 use Rattle.codec.specs.Stored.{maskIn, storedMasks, cellsFrom, planesBelow, MasksWithin, innermostCount}
 use Rattle.codec.proofs.SpreadLaws.{length-spread}
 use Rattle.codec.proofs.Reading.{masks-from, leaves-from}
-use Rattle.decode.specs.Reads.{LevelsWithin, PlanesWithin}
-use Rattle.decode.proofs.Levels.{times-first, below-length, within-now, within-next}
+use Rattle.planes.specs.Within.{LevelsWithin, PlanesWithin}
+use Rattle.planes.proofs.Levels.{times-first, below-length, within-now, within-next}
 
 -- the planes of d + 1 levels of n cells, the first frame at the front of s, and the innermost of them
 abbrev pub planesIn : List ℕ → ℕ → ℕ → List ℕ

@@ -16,7 +16,7 @@ use Rattle.codec.specs.Spread.{spread}
 use Rattle.codec.specs.Stored.{maskIn, storedMasks, planesBelow, MasksWithin}
 use Rattle.codec.proofs.Marks.{count-zeros}
 use Rattle.codec.proofs.SpreadLaws.{length-spread, spread-take, spread-none, count-spread}
-use Rattle.decode.specs.Reads.{LevelsWithin}
+use Rattle.planes.specs.Within.{LevelsWithin}
 
 -- k rows of n, all but the first
 pub times-first : (k n : ℕ) → k ≢ 0 → k * n ≡ (k - 1) * n + n

@@ -2,9 +2,9 @@
 -- Assumes nothing.
 use native.Mathlib.Omega.{arith}
 use borrow.Author.Needs.{needs}
-use Rattle.decode.proofs.AllPlanes.{first-room, first-fits, first-next, planes-done}
-use Rattle.decode.proofs.planes.place_planes.Statement.{statement}
-use Rattle.decode.proofs.planes.place_planes.Tie as tie
+use Rattle.planes.proofs.AllPlanes.{first-room, first-fits, first-next, planes-done}
+use Rattle.planes.proofs.place_planes.Statement.{statement}
+use Rattle.planes.proofs.place_planes.Tie as tie
 
 mask-length-requires : tie.Need-mask-length-requires
 mask-length-requires c κs = search needs
