@@ -27,7 +27,7 @@ use Rattle.codec.specs.Walk.{Innermost, valuesAt, noneSet, walked}
 use Rattle.codec.specs.Stored.{cellsFrom, answerBy, innermostCount}
 use Rattle.codec.specs.Calls.{readIn}
 use Rattle.codec.proofs.Reading.{read-walked}
-use Rattle.codec.proofs.Walks.{walk-values, walk-none, values-flat, none-deep, passed-count}
+use Rattle.codec.proofs.Walks.{WalkPassed, walk-values, walk-none, values-flat, none-deep, passed-count}
 use Rattle.decode.specs.Outcomes.{readOutcome}
 use Rattle.decode.specs.Found.{fixedBy, fixedFound}
 use Rattle.spread.specs.Values.{valuesOver, ValuesWithin}
@@ -160,31 +160,16 @@ checked-length size s a k x h = go (eqb (length s - a) (k * size)) refl h
     go false e q = let z : _≡_ {A = ℕ} 0 1 = cc in absurd (omega arith)
 
 module _ (d : ℕ) (s : List ℕ) (n size : ℕ) (h1 : 1 ≤ n) (h2 : n ≤ mostCells) (h3 : d ≤ mostDepth) (h4 : size ≤ mostSize) where
+  passed-within : (a k : ℕ) → WalkPassed d s 0 n k → (d ≡ 0 → k ≡ n) → a + k * size ≤ length s → FixedWithin d s n a k size
+  passed-within a k w f r = record { some = h1; few = h2; shallow = h3; small = h4; masks = w .within; count = passed-count d s n k h1 w f; room = r }
+
   some-within : (a k : ℕ) → walked d s 0 n ≡ gives (valuesAt a k) → length s - a ≡ k * size → FixedWithin d s n a k size
   some-within a k h e =
       let w = walk-values d s 0 n a k (omega arith) h in
-      record {
-        some = h1;
-        few = h2;
-        shallow = h3;
-        small = h4;
-        masks = w .0 .within;
-        count = passed-count d s n k h1 (w .0) (values-flat d s 0 n a k h);
-        room = omega (arith, w .1);
-      }
+      passed-within a k (w .0) (values-flat d s 0 n a k h) (omega (arith, w .1))
 
   none-within : walked d s 0 n ≡ gives noneSet → FixedWithin d s n 0 0 size
-  none-within h =
-      let w = walk-none d s 0 n (omega arith) h in
-      record {
-        some = h1;
-        few = h2;
-        shallow = h3;
-        small = h4;
-        masks = w .within;
-        count = passed-count d s n 0 h1 w (λ e. absurd (omega (arith, none-deep d s 0 n h)));
-        room = omega (arith, zero-mul size);
-      }
+  none-within h = passed-within 0 0 (walk-none d s 0 n (omega arith) h) (λ e. absurd (omega (arith, none-deep d s 0 n h))) (omega (arith, zero-mul size))
 
   abbrev Within : Innermost → Type 0
   Within noneSet = FixedWithin d s n 0 0 size
