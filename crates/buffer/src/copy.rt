@@ -39,3 +39,15 @@ pub fn fill_bytes(out: &mut [u8], to: usize, k: usize, b: u8)
         n += 1;
     }
 }
+
+// The same for a 64-bit number.
+pub fn fill_numbers(out: &mut [u64], to: usize, k: usize, v: u64)
+    requires { ⌜ to + k ≤ length (now out) ⌝ }
+    ensures { λ _. ⌜ now (out .exit) ≡ overAt to (replicate k v) (now (out .entry)) ⌝ }
+{
+    let mut n = 0;
+    while n < k {
+        out[to + n] = v;
+        n += 1;
+    }
+}

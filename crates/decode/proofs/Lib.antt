@@ -1,13 +1,4 @@
 pub mod Outcomes
-pub mod Placing
-pub mod RunLaws
-pub mod ValueRuns
-pub mod SpreadingValues
-pub mod PairLaws
-pub mod CopyingOffsets
-pub mod SpreadingOffsets
-pub mod Levels
-pub mod AllPlanes
 pub mod FixedLaws
 pub mod NestedLaws
 pub mod NestedWritten

@@ -12,10 +12,10 @@ use Rattle.array.specs.Outcome.{contentArray, outcomeArray}
 use Rattle.codec.specs.Frame.{countSet}
 use Rattle.stored.specs.Index.{offsetsIn}
 use Rattle.decode.specs.Outcomes.{readOutcome}
-use Rattle.decode.specs.Ends.{endsBy}
+use Rattle.spread.specs.Ends.{endsBy}
 use Rattle.decode.specs.Reads.{nestedFrom, NestedWithin}
 use Rattle.decode.proofs.Outcomes.{short-masks, short-values, short-offsets, all-written}
-use Rattle.decode.proofs.AllPlanes.{planesIn, innermostIn, innermost-read}
+use Rattle.planes.proofs.AllPlanes.{planesIn, innermostIn, innermost-read}
 use Rattle.decode.proofs.NestedLaws.{nested-masks, nested-count, nested-values, nested-offsets, nested-masks-long, nested-values-long, nested-offsets-long}
 
 module _ {d w : ℕ} {s : List ℕ} {n start from k first last : ℕ} (r : NestedWithin d w s n start from k first last) (m v off : List ℕ) where

@@ -1,5 +1,3 @@
 pub mod Outcomes
-pub mod Next
-pub mod Runs
-pub mod Ends
+pub mod Found
 pub mod Reads

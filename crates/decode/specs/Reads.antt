@@ -1,46 +1,17 @@
 -- What is read once the walk and the check have passed, by positions in the stored bytes s, for n cells; and what the copying rests on.
 -- Assumes nothing.
-use Prim.Native.Nat.{ℕ, zero, suc, _+_, _-_, _*_, _≤_}
+use Prim.Native.Nat.{ℕ, zero, suc, _+_, _*_, _≤_}
 use mathlib.Core.Path.{_≡_}
 use mathlib.Core.List.{List, [], map}
 use lib.ListN.{length, take, drop, replicate}
 use Rattle.array.specs.Limits.{mostCells, mostDepth, mostSize}
-use Rattle.array.specs.Lists.{joined, pieces}
+use Rattle.array.specs.Lists.{pieces}
 use Rattle.array.specs.Kind.{Order, fixed, ragged, atStart, ordered}
 use Rattle.array.specs.Offsets.{RisingFrom, lastFrom, slicesFrom}
 use Rattle.array.specs.Content.{Content, layout}
-use Rattle.codec.specs.Frame.{countSet}
-use Rattle.codec.specs.Spread.{spread}
 use Rattle.stored.specs.Stored.{cellsFrom, MasksWithin, innermostCount}
 use Rattle.stored.specs.Index.{offsetsIn}
 use Rattle.array.specs.Outcome.{contentArray}
-
--- ---- planes: `left` levels below the plane that ends at `to`, in which `cells` are set, the next frame being at `at`
-
-pub record LevelsWithin (masks : List ℕ) (n to left : ℕ) (s : List ℕ) (at cells : ℕ) : Type 0 where
-  pub above : n ≤ to
-  pub room : to + left * n ≤ length masks
-  pub count : cells ≡ countSet (take n (drop (to - n) masks))
-  pub within : MasksWithin left s at cells
-
--- all levels, the first frame at the front of s
-pub record PlanesWithin (masks : List ℕ) (n depth : ℕ) (s : List ℕ) : Type 0 where
-  pub some : 1 ≤ n
-  pub deep : 1 ≤ depth
-  pub room : depth * n ≤ length masks
-  pub within : MasksWithin depth s 0 n
-
--- ---- fixed values: those of the set cells of the plane p lie end to end in q, and the others are zero bytes
-
-abbrev pub valuesOver : ℕ → Order → List ℕ → List ℕ → List ℕ
-valuesOver size o p q = joined (spread (replicate size 0) p (map (ordered o) (pieces size (countSet p) q)))
-
--- for the plane of n cells at `from`, of which `cells` are set
-pub record ValuesWithin (values masks : List ℕ) (from n : ℕ) (s : List ℕ) (at size cells : ℕ) : Type 0 where
-  pub plane : from + n ≤ length masks
-  pub count : cells ≡ countSet (take n (drop from masks))
-  pub room : n * size ≤ length values
-  pub stored : at + cells * size ≤ length s
 
 -- ---- fixed values: k of them stored from `at` on
 

@@ -1,13 +1,6 @@
 // Reading a stored array into lent masks, values and offsets: the public call `decode`.
 mod fixed;
-mod next;
-mod offsets;
-mod pairs;
-mod planes;
 mod ragged;
-mod runs;
-mod values;
-mod words;
 
 use array::answer::WrittenArray;
 use array::kind::Kind;

@@ -2,8 +2,8 @@
 use crate::values;
 use array::kind;
 use array::kind::Values;
-use stored::mask;
 use gather::live;
+use stored::mask;
 ghost use mathlib.Core.Path.{_≡_};
 ghost use Prim.Native.Nat.{_+_, _≤_};
 ghost use Rattle.array.specs.Limits.{mostBytes};

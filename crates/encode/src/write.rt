@@ -1,10 +1,10 @@
 // The stored form, written by position: a frame holds a content, and a content may be a frame again.
 use crate::values;
-use buffer::field;
 use array::kind::Values;
-use stored::mask;
+use buffer::field;
 use gather::cells;
 use gather::live;
+use stored::mask;
 ghost use mathlib.Core.Path.{_≡_};
 ghost use Prim.Native.Nat.{_+_, _≤_};
 ghost use lib.ListN.{length};

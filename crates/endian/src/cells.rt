@@ -2,10 +2,10 @@
 use crate::eight;
 use crate::in_place;
 use crate::turned;
-use buffer::copy;
-use buffer::field;
 use array::kind::ByteOrder;
 use buffer::copy;
+use buffer::copy;
+use buffer::field;
 use buffer::field;
 ghost use mathlib.Core.Path.{_≡_};
 ghost use mathlib.Core.Bool.{true};

@@ -1,7 +1,7 @@
 // The index of ragged values.
-use buffer::field;
 use array::kind;
 use array::kind::IndexWidth;
+use buffer::field;
 use gather::live;
 ghost use mathlib.Core.Path.{_≡_};
 ghost use mathlib.Core.List.{_∷_};

@@ -1,9 +1,9 @@
 // Ragged values: their bytes, their index and the index's length, each at its place.
-use buffer::copy;
-use buffer::field;
 use array::kind;
 use array::kind::IndexPlace;
 use array::kind::IndexWidth;
+use buffer::copy;
+use buffer::field;
 use stored::vlen;
 
 pub mod data;

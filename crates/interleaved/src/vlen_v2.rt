@@ -9,7 +9,7 @@ use valid::array_bytes;
 use valid::shape;
 ghost use mathlib.Core.Path.{_≡_};
 ghost use Prim.Native.Nat.{_+_, _<_, _≤_};
-ghost use lib.ListN.{length, drop, replicate};
+ghost use lib.ListN.{length, drop};
 ghost use Rattle.array.specs.Lists.{joined};
 ghost use Rattle.array.specs.Offsets.{offsetsOf};
 ghost use Rattle.array.specs.Buffers.{over, overAt, raggedOutcome, raggedLengthsOf};
@@ -97,18 +97,6 @@ fn copy_cells(values: &mut [u8], offsets: &mut [u64], bytes: &[u8], cells: usize
     offsets[i] = to as u64;
 }
 
-// Where no cell has a byte, each begins and ends at 0.
-fn zero_offsets(offsets: &mut [u64], count: usize)
-    requires { ⌜ count ≤ length (now offsets) ⌝ }
-    ensures { λ _. ⌜ now (offsets .exit) ≡ over (replicate count 0) (now (offsets .entry)) ⌝ }
-{
-    let mut i: usize = 0;
-    while i < count {
-        offsets[i] = 0;
-        i += 1;
-    }
-}
-
 // Cells that the walk found, `sum` bytes in all: 5, 6, and then the copying.
 fn write_cells(
     cells: usize,
@@ -133,7 +121,8 @@ fn write_cells(
         return WrittenRagged::Refused(refusal::OUTPUT);
     }
     if sum == 0 {
-        zero_offsets(offsets, count);
+        // no cell has a byte: each begins and ends at 0
+        copy::fill_numbers(offsets, 0, count, 0);
         return WrittenRagged::Lengths(sum, count);
     }
     copy_cells(values, offsets, bytes, cells, sum);

@@ -1,13 +1,13 @@
 -- `write_fixed` meets its contract, by the laws of FixedLaws.
 -- Assumes nothing.
-use mathlib.Core.Path.{_≡_, ap}
-use Prim.Native.Nat.{ℕ, _+_, _-_, _*_, _≤_}
+use mathlib.Core.Path.{ap}
+use Prim.Native.Nat.{ℕ, _-_, _*_}
 use native.Mathlib.Omega.{arith}
 use lib.ListN.{length}
 use borrow.Author.Needs.{needs}
 use Rattle.array.specs.Meaning.{orderOf}
 use Rattle.decode.proofs.Small.{planes-small, bytes-small}
-use Rattle.decode.proofs.Levels.{times-first}
+use Rattle.planes.proofs.Levels.{times-first}
 use Rattle.decode.proofs.FixedLaws.{flat-count, fixed-short-masks, fixed-short-values, flat-written, values-within, deep-written}
 use Rattle.decode.proofs.fixed.write_fixed.Statement.{statement}
 use Rattle.decode.proofs.fixed.write_fixed.Tie as tie

@@ -13,7 +13,7 @@ use Rattle.array.specs.Outcome.{contentArray}
 use Rattle.stored.specs.Index.{offsetsIn}
 use Rattle.decode.proofs.Outcomes.{short-values, short-offsets, all-written}
 use Rattle.decode.proofs.Small.{few-cells}
-use Rattle.decode.proofs.CopyingOffsets.{length-offsets}
+use Rattle.spread.proofs.CopyingOffsets.{length-offsets}
 use Rattle.decode.proofs.ragged.write_flat.Statement.{statement}
 use Rattle.decode.proofs.ragged.write_flat.Tie as tie
 

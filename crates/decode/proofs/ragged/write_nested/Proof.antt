@@ -8,7 +8,7 @@ use borrow.Author.Needs.{needs}
 use Rattle.array.specs.Meaning.{widthOf}
 use Rattle.stored.specs.Index.{offsetsIn}
 use Rattle.decode.proofs.Small.{few-cells, planes-small}
-use Rattle.decode.proofs.Levels.{times-first}
+use Rattle.planes.proofs.Levels.{times-first}
 use Rattle.decode.proofs.NestedLaws.{rising-above, nested-first}
 use Rattle.decode.proofs.NestedWritten.{nested-short-masks, nested-short-values, nested-short-offsets, nested-set, nested-written}
 use Rattle.decode.proofs.ragged.write_nested.Statement.{statement}

@@ -24,8 +24,8 @@ returns-3 : tie.Need-returns-3
 unfolding mostBytes
 returns-3 c = offsets-short (c .before .before .before .before .before .before .pre) _ (c .before .before .if1 .left) (c .before .if2 .left) (c .if3 .taken)
 
-zero-offsets-requires : tie.Need-zero-offsets-requires
-zero-offsets-requires c κs = search needs
+fill-numbers-requires : tie.Need-fill-numbers-requires
+fill-numbers-requires c κs = search needs
 
 same-length : tie.Need-same-length
 same-length c = search needs
@@ -37,7 +37,7 @@ returns-4 c =
     let room = filled .before .before .before in
     let start = room .before .before .before .before .before .before in
     none-written (start .pre) (contentRagged (start .args .values .now) (start .args .offsets .now)) (room .before .before .if1 .left) (room .before .if2 .left)
-    (filled .before .before .if4 .taken) (room .if3 .left) (filled .zero-offsets .ensures)
+    (filled .before .before .if4 .taken) (room .if3 .left) (filled .fill-numbers .ensures)
 
 copy-cells-requires : tie.Need-copy-cells-requires
 copy-cells-requires c κs = search needs
@@ -65,7 +65,7 @@ write-cells-spec =
     returns-2
     add-count
     returns-3
-    zero-offsets-requires
+    fill-numbers-requires
     same-length
     returns-4
     copy-cells-requires

@@ -1,0 +1,3 @@
+pub mod Placing
+pub mod Levels
+pub mod AllPlanes

@@ -1,0 +1,75 @@
+-- Runs of cells with one mark: how long they are, and the loop that finds it.
+-- Assumes nothing.
+use mathlib.Core.Path.{_≡_, refl, sym, ap, _∙_}
+use mathlib.Core.Bool.{Bool, true, false, not, Bool·beq}
+use mathlib.Core.List.{List, [], _∷_}
+use Prim.Native.Nat.{ℕ, zero, suc, _+_, _-_, _≤_, _<_}
+use native.Mathlib.Omega.{arith}
+use native.Mathlib.Numerals.{add-one}
+use lib.ListN.{length, take, drop, getD, drop-of-length-le}
+use lib.Seq.{drop-cons}
+use Rattle.codec.specs.Frame.{countSet}
+use Rattle.stored.specs.Marks.{setTest}
+use Rattle.spread.specs.Runs.{runOf}
+
+pub run-within : (b : Bool) (p : List ℕ) → runOf b p ≤ length p
+run-within b [] = omega arith
+run-within true (zero ∷ p) = omega arith
+run-within true (suc m ∷ p) = omega (arith, run-within true p)
+run-within false (zero ∷ p) = omega (arith, run-within false p)
+run-within false (suc m ∷ p) = omega arith
+
+pub null-run : (p : List ℕ) → countSet (take (runOf false p) p) ≡ 0
+null-run [] = refl
+null-run (zero ∷ p) = null-run p
+null-run (suc m ∷ p) = refl
+
+pub set-run : (p : List ℕ) → countSet (take (runOf true p) p) ≡ runOf true p
+set-run [] = refl
+set-run (zero ∷ p) = refl
+set-run (suc m ∷ p) = ap suc (set-run p)
+
+-- behind a null run comes a set one, where any byte is set
+pub some-run : (p : List ℕ) → 0 < countSet p → 0 < runOf true (drop (runOf false p) p)
+some-run [] h = absurd (omega arith)
+some-run (zero ∷ p) h = some-run p h
+some-run (suc m ∷ p) h = omega arith
+
+-- the run from i on reaches e
+pub record Running (b : Bool) (p : List ℕ) (i e : ℕ) : Type 0 where
+  pub begun : i ≤ e
+  pub within : e ≤ length p
+  pub left : e - i + runOf b (drop e p) ≡ runOf b (drop i p)
+
+pub running-begins : (b : Bool) (p : List ℕ) (i : ℕ) → i ≤ length p → Running b p i i
+running-begins b p i h = record { begun = omega arith; within = h; left = omega arith }
+
+module _ {b : Bool} {p : List ℕ} {i e : ℕ} (r : Running b p i e) where
+  pub running-ends : length p ≤ e → e - i ≡ runOf b (drop i p)
+  running-ends h = omega (arith, r .left, ap (runOf b) (drop-of-length-le p {i = e} h))
+
+  module _ (h : e < length p) (t : Bool) (et : t ≡ setTest (getD p e 0)) where
+    at-e : drop e p ≡ getD p e 0 ∷ drop (e + 1) p
+    at-e = drop-cons p e 0 h ∙ ap (λ (k : ℕ). getD p e 0 ∷ drop k p) (sym (add-one e))
+
+    pub running-stops : not (Bool·beq t b) ≡ true → e - i ≡ runOf b (drop i p)
+    running-stops f = omega (arith, r .left, ap (runOf b) at-e, go b (getD p e 0) (ap (λ (u : Bool). not (Bool·beq u b)) (sym et) ∙ f))
+      where
+        go : (b : Bool) (m : ℕ) → not (Bool·beq (setTest m) b) ≡ true → runOf b (m ∷ drop (e + 1) p) ≡ 0
+        go true zero f = refl
+        go true (suc m) f = cc
+        go false zero f = cc
+        go false (suc m) f = refl
+
+    pub running-more : not (Bool·beq t b) ≡ false → Running b p i (e + 1)
+    running-more f = record {
+      begun = omega (arith, r .begun);
+      within = omega arith;
+      left = omega (arith, r .begun, r .left, ap (runOf b) at-e, go b (getD p e 0) (ap (λ (u : Bool). not (Bool·beq u b)) (sym et) ∙ f));
+    }
+      where
+        go : (b : Bool) (m : ℕ) → not (Bool·beq (setTest m) b) ≡ false → runOf b (m ∷ drop (e + 1) p) ≡ suc (runOf b (drop (e + 1) p))
+        go true zero f = cc
+        go true (suc m) f = refl
+        go false zero f = refl
+        go false (suc m) f = cc

@@ -1,0 +1,24 @@
+-- `skip` meets its contract, by cases of the mark.
+-- Assumes nothing.
+use native.Mathlib.Omega.{arith}
+use borrow.Author.Needs.{needs}
+use Rattle.spread.proofs.next.skip.Statement.{statement}
+use Rattle.spread.proofs.next.skip.Tie as tie
+
+enum-told : tie.Need-enum-told
+enum-told c = search needs
+
+enum-told-2 : tie.Need-enum-told-2
+enum-told-2 c = search needs
+
+add-result : tie.Need-add-result
+add-result c = omega (arith, rw (c .enum-told2 .given .1) at (c .before .before .pre))
+
+returns : tie.Need-returns
+returns c = search needs
+
+returns-2 : tie.Need-returns-2
+returns-2 c = rw (c .enum-told2 .given .1)
+
+pub skip-spec : {M : Type 1} → statement M
+skip-spec = tie.close (tie.spec enum-told enum-told-2 add-result returns returns-2)

@@ -1,0 +1,4 @@
+pub mod Next
+pub mod Runs
+pub mod Ends
+pub mod Values
