@@ -4,8 +4,6 @@ use crate::in_place;
 use crate::turned;
 use array::kind::ByteOrder;
 use buffer::copy;
-use buffer::copy;
-use buffer::field;
 use buffer::field;
 ghost use mathlib.Core.Path.{_≡_};
 ghost use mathlib.Core.Bool.{true};

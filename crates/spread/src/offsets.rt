@@ -5,7 +5,6 @@ use array::kind::IndexWidth;
 use array::kind::width_bytes;
 use buffer::copy::fill_numbers;
 use buffer::field::le_at;
-use buffer::field::le_at;
 use stored::mask::mark_of;
 ghost use mathlib.Core.Path.{_≡_};
 ghost use mathlib.Core.List.{_∷_};
