@@ -1,5 +1,5 @@
--- The index of ragged values, over the width and the place: the loop that looks for a falling offset, the answers of the check, and the
--- reader by positions.
+-- The index of ragged values, over the width and the place: the loop that looks for a falling offset, the answers of the check, the
+-- reader by positions, and the limit.
 -- Assumes nothing.
 use mathlib.Core.Path.{_≡_, refl, sym, ap, ap₂, _∙_}
 use mathlib.Core.List.{List, [], _∷_, map}
@@ -9,7 +9,7 @@ use native.Mathlib.Omega.{arith}
 use native.Mathlib.Nat.{suc-mul, zero-mul, mul-comm}
 use native.Mathlib.Numerals.{sub-one}
 use lib.Dec.{leb, ltb, eqb}
-use lib.ListN.{length, take, drop, length-take, length-drop}
+use lib.ListN.{length, take, drop, length-drop}
 use lib.Seq.{take-nil, drop-drop, take-take, take-all, length-take-le}
 use borrow.Author.Tests.{le-leb, lt-leb, eqb-true, leb-true, ltb-true, ltb-false}
 use Rattle.array.specs.Answer.{Answer, gives, refuses, unless}
