@@ -61,6 +61,9 @@ module _ (f : Form) (n : ℕ) (c : Content) (l : ℕ) where
       length-wrap (map (maskAt n (c .masks) l) (liveAt n (c .masks) l)) (storedFrom f n c d (l + 1))
       ∙ ap (λ (m : ℕ). 16 + m + length (storedFrom f n c d (l + 1))) (length-map (liveAt n (c .masks) l) (maskAt n (c .masks) l))
 
+  pub frame-wrote : (d : ℕ) {m k : ℕ} → m ≡ length (liveAt n (c .masks) l) → k ≡ length (storedFrom f n c d (l + 1)) → 16 + m + k ≡ length (frameFrom f n c d l)
+  frame-wrote d em ek = ap₂ (λ (x y : ℕ). 16 + x + y) em ek ∙ sym (frame-long d)
+
 -- ---- values of one size
 
 pub fixed-put : (k : ℕ) (o : Order) (c : Content) (is : List ℕ) → piecesAt o k (c .values) is ≡ putValues (fixed k o) (map (valueAt (fixed k o) c) is)

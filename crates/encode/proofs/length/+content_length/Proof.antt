@@ -8,6 +8,7 @@ use native.Mathlib.Omega.{arith}
 use lib.ListN.{length}
 use Rattle.array.specs.Meaning.{formOf}
 use Rattle.gather.specs.Live.{liveAt}
+use Rattle.encode.specs.Stored.{valuesLengthAt}
 use Rattle.encode.proofs.Levels.{length-none, length-values, length-frame, length-small}
 use Rattle.encode.proofs.Forms.{measured-here, measured-next, measured-planes, narrow-of, count-small}
 use borrow.Author.Needs.{needs}
@@ -64,7 +65,7 @@ content-length-values-length-requires : (t : ℕ) → content-length-lts.Need-va
 content-length-values-length-requires t c κs = let a = c .before .before .before .before .before .args in (c .before .before .count-live .ensures, measured-here (a .level) (a .left) (c .before .before .before .before .before .pre .1))
 
 content-length-returns-2 : (t : ℕ) → content-length-lts.Need-returns-2 (claims-content-length t) (content-length-at t) content-length.Post
-content-length-returns-2 t c = let a = c .before .before .before .before .before .before .args in c .values-length .ensures ∙ length-values (formOf (a .form)) (a .cells) (a .masks .now) (a .offsets .now) (a .level) (a .left) (c .before .if2 .taken) (some t (c .before .before))
+content-length-returns-2 t c = let a = c .before .before .before .before .before .before .args in _∙_ {b = valuesLengthAt (formOf (a .form)) (a .offsets .now) (liveAt (a .cells) (a .masks .now) (a .level))} (c .values-length .ensures) (length-values (formOf (a .form)) (a .cells) (a .masks .now) (a .offsets .now) (a .level) (a .left) (c .before .if2 .taken) (some t (c .before .before)))
 
 content-length-mask-length-requires : (t : ℕ) → content-length-lts.Need-mask-length-requires (claims-content-length t) (content-length-at t) content-length.Post
 content-length-mask-length-requires t c κs = search needs

@@ -1,7 +1,6 @@
 -- `encode::length::stored_length` meets its contract: below masks the length from level 0, and without them a case for each form.
 -- Assumes nothing.
-use mathlib.Core.Path.{_≡_, _∙_}
-use Prim.Native.Nat.{_≤_, _+_, _*_}
+use mathlib.Core.Path.{_∙_}
 use native.Mathlib.Omega.{arith}
 use Rattle.array.specs.Limits.{mostBytes, mostCells}
 use Rattle.array.specs.Meaning.{formOf}

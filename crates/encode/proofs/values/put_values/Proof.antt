@@ -1,9 +1,12 @@
 -- `encode::values::put_values` meets its contract: a case for each form.
 -- Assumes nothing.
-use mathlib.Core.Path.{ap, _∙_}
+use mathlib.Core.Path.{ap}
 use native.Mathlib.Omega.{arith}
 use lib.ListN.{length}
+use Rattle.array.specs.Meaning.{formOf}
 use Rattle.gather.proofs.Placing.{laid-as}
+use Rattle.encode.specs.Stored.{contentIn, valuesFrom}
+use Rattle.encode.proofs.Framing.{told-as}
 use Rattle.encode.proofs.Forms.{ready-planes, fixed-source, fixed-writes, fixed-wrote, offsets-fit, offsets-end, ragged-writes}
 use borrow.Author.Needs.{needs}
 use Rattle.encode.proofs.values.put_values.Statement.{statement}
@@ -55,7 +58,7 @@ returns-2 : tie.Need-returns-2
 returns-2 c =
     let a = c .before .before .before .before .before .before .before .before .before .before .before .args in
     let e = ragged-writes (a .form) (c .before .before .before .before .before .before .before .before .before .before .before .pre .1 .0) (c .before .before .before .before .before .form2 .given .1) in
-    (c .before .before .put-ragged .ensures .0 ∙ ap length e, laid-as (a .at) (a .out .now) (c .before .before .put-ragged .ensures .1) e)
+    told-as _ (valuesFrom (formOf (a .form)) (a .cells) (contentIn (a .masks .now) (a .values .now) (a .offsets .now)) (a .level)) (a .at) (a .out .now) (c .before .before .put-ragged .ensures) e
 
 pub put-values-spec : {M : Type 1} → statement M
 put-values-spec =

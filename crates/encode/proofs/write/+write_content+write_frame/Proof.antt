@@ -1,9 +1,9 @@
 -- `encode::write::write_content` and `encode::write::write_frame` meet their contracts: a content of so many levels calls a frame with one fewer below it, and a frame the content below it.
 -- Assumes nothing.
-use mathlib.Core.Path.{_≡_, ap, ap₂, sym, _∙_}
+use mathlib.Core.Path.{_≡_, ap, sym, _∙_}
 use mathlib.Core.Logic.{_≢_}
 use mathlib.Core.List.{[], map}
-use Prim.Native.Nat.{_≤_, _+_, _*_, ℕ, _<_}
+use Prim.Native.Nat.{_-_, _≤_, _+_, _*_, ℕ, _<_}
 use native.Mathlib.Nat.{pos-of-ne-zero}
 use native.Mathlib.Omega.{arith}
 use lib.ListN.{length, length-map}
@@ -11,10 +11,10 @@ use Rattle.array.specs.Meaning.{formOf}
 use Rattle.array.specs.Content.{Content}
 use Rattle.gather.specs.Live.{maskAt, liveAt}
 use Rattle.encode.specs.Ready.{Ready}
-use Rattle.encode.specs.Stored.{contentIn, storedFrom}
+use Rattle.encode.specs.Stored.{contentIn, valuesFrom, storedFrom, frameFrom}
 use Rattle.gather.proofs.Placing.{at-none, laid-as}
-use Rattle.encode.proofs.Framing.{frame-laid}
-use Rattle.encode.proofs.Levels.{stored-none, stored-values, stored-frame, frame-long}
+use Rattle.encode.proofs.Framing.{told-as, frame-laid}
+use Rattle.encode.proofs.Levels.{stored-none, stored-values, stored-frame, frame-long, frame-wrote}
 use Rattle.encode.proofs.Forms.{ready-here, ready-next, ready-planes}
 use borrow.Author.Needs.{needs}
 use borrow.Fn.Kinds.{In}
@@ -99,7 +99,7 @@ write-content-returns-2 t c =
     let a = c .before .before .before .before .before .before .before .before .before .before .before .args in
     let v : Content = contentIn (a .masks .now) (a .values .now) (a .offsets .now) in
     let e = stored-values (formOf (a .form)) (a .cells) v (a .level) (a .left) (c .before .before .before .before .if2 .taken) (some t (c .before .before .before .before .before)) in
-    (c .before .before .put-values .ensures .0 ∙ ap length (sym e), laid-as (a .at) (a .out .now) (c .before .before .put-values .ensures .1) (sym e))
+    told-as (valuesFrom (formOf (a .form)) (a .cells) v (a .level)) (storedFrom (formOf (a .form)) (a .cells) v (a .left) (a .level)) (a .at) (a .out .now) (c .before .before .put-values .ensures) (sym e)
 
 write-content-sub-write-frame : (t : ℕ) → write-content-lts.Need-sub-write-frame (claims-write-content t) (write-content-at t) write-content.Post
 write-content-sub-write-frame t c = pos-of-ne-zero (c .before .if2 .left)
@@ -119,7 +119,7 @@ write-content-returns-3 t c =
     let a = c .before .before .before .before .before .before .before .before .before .before .before .args in
     let v : Content = contentIn (a .masks .now) (a .values .now) (a .offsets .now) in
     let e = stored-frame (formOf (a .form)) (a .cells) v (a .level) (a .left) (c .before .before .before .before .if2 .left) (some t (c .before .before .before .before .before)) in
-    (c .before .before .write-frame .ensures .0 ∙ ap length (sym e), laid-as (a .at) (a .out .now) (c .before .before .write-frame .ensures .1) (sym e))
+    told-as (frameFrom (formOf (a .form)) (a .cells) v (a .left - 1) (a .level)) (storedFrom (formOf (a .form)) (a .cells) v (a .left) (a .level)) (a .at) (a .out .now) (c .before .before .write-frame .ensures) (sym e)
 
 write-frame-add-start : (t : ℕ) → write-frame-lts.Need-add-start (claims-write-frame t) (write-frame-at t) write-frame.Post
 write-frame-add-start t c = omega (arith, long t (c .before .before .before .before))
@@ -161,7 +161,7 @@ write-frame-returns : (t : ℕ) → write-frame-lts.Need-returns (claims-write-f
 write-frame-returns t c =
     let a = c .before .before .before .before .before .before .before .before .before .before .before .before .before .before .before .before .before .before .before .before .before .args in
     let v : Content = contentIn (a .masks .now) (a .values .now) (a .offsets .now) in (
-      sym (frame-long (formOf (a .form)) (a .cells) v (a .level) (a .below) ∙ ap₂ (λ (x y : ℕ). 16 + x + y) (sym (c .before .before .before .before .before .before .before .before .before .before .before .before .before .before .before .before .mask-length .ensures ∙ c .before .before .before .before .before .before .before .before .before .before .before .before .before .before .before .before .before .before .before .before .before .pre .1 .0)) (sym (c .before .before .before .before .before .before .before .before .before .before .before .before .before .before .write-content .ensures .0))),
+      frame-wrote (formOf (a .form)) (a .cells) v (a .level) (a .below) (c .before .before .before .before .before .before .before .before .before .before .before .before .before .before .before .before .mask-length .ensures ∙ c .before .before .before .before .before .before .before .before .before .before .before .before .before .before .before .before .before .before .before .before .before .pre .1 .0) (c .before .before .before .before .before .before .before .before .before .before .before .before .before .before .write-content .ensures .0),
       frame-laid (a .at) (map (maskAt (a .cells) (a .masks .now) (a .level)) (liveAt (a .cells) (a .masks .now) (a .level))) (storedFrom (formOf (a .form)) (a .cells) v (a .below) (a .level + 1)) (a .out .now)
           (length-map (liveAt (a .cells) (a .masks .now) (a .level)) (maskAt (a .cells) (a .masks .now) (a .level)) ∙ sym (c .before .before .before .before .before .before .before .before .before .before .before .before .before .before .before .before .mask-length .ensures ∙ c .before .before .before .before .before .before .before .before .before .before .before .before .before .before .before .before .before .before .before .before .before .pre .1 .0)) (sym (c .before .before .before .before .before .before .before .before .before .before .before .before .before .before .write-content .ensures .0))
           (omega (arith, long t (c .before .before .before .before .before .before .before .before .before .before .before .before .before .before .before .before .before .before .before .before .before), c .before .before .before .before .before .before .before .before .before .before .before .before .before .before .before .before .mask-length .ensures, c .before .before .before .before .before .before .before .before .before .before .before .before .before .before .write-content .ensures .0)) (c .before .before .before .before .before .before .before .before .before .before .before .before .before .before .write-content .ensures .1) (c .before .before .before .before .before .before .before .before .before .before .put-mask .ensures) (c .before .before .before .before .before .before .put-u64 .ensures) (c .before .before .put-u642 .ensures),

@@ -1,6 +1,6 @@
 -- `encode::write::write_stored` meets its contract: below masks the content of level 0, and without them a case for each form.
 -- Assumes nothing.
-use mathlib.Core.Path.{_≡_, ap}
+use mathlib.Core.Path.{ap}
 use native.Mathlib.Omega.{arith}
 use lib.ListN.{length}
 use Rattle.array.specs.Content.{Content}
