@@ -6,7 +6,8 @@ use endian::cells::copy_cells;
 use planes::place_planes;
 use spread::values::spread_values;
 ghost use mathlib.Core.Path.{_≡_};
-ghost use Prim.Native.Nat.{_≤_};
+ghost use mathlib.Core.List.{List};
+ghost use Prim.Native.Nat.{ℕ, _≤_};
 ghost use lib.ListN.{length};
 ghost use Rattle.array.specs.Answer.{gives};
 ghost use Rattle.array.specs.Limits.{mostCells, mostDepth, mostSize};
@@ -20,7 +21,7 @@ ghost use Rattle.decode.specs.Outcomes.{readOutcome};
 ghost use Rattle.decode.specs.Found.{fixedBy, fixedFound, toldFixed};
 ghost use Rattle.decode.specs.Reads.{fixedFrom, FixedWithin};
 
-// Writes what the walk found: `cells` values from `at` on, for an array of n cells.
+// Writes what the walk found: `cells` values from `at` on, for an array of n cells. The offsets are not touched.
 fn write_fixed(
     s: &[u8],
     n: usize,
@@ -31,11 +32,10 @@ fn write_fixed(
     cells: usize,
     masks: &mut [u8],
     values: &mut [u8],
-    offsets: &mut [u64],
 ) -> WrittenArray
     requires { ⌜ FixedWithin depth (now s) n at cells size ⌝ }
-    ensures { λ r. ⌜ outcomeArray r (now (masks .exit)) (now (values .exit)) (now (offsets .exit))
-        ≡ readOutcome (contentArray (now (masks .entry)) (now (values .entry)) (now (offsets .entry))) (gives (fixedFrom size (orderOf order) depth (now (s .entry)) n at cells)) ⌝ }
+    ensures { λ r. ⌜ ((offsets : List ℕ) → outcomeArray r (now (masks .exit)) (now (values .exit)) offsets
+        ≡ readOutcome (contentArray (now (masks .entry)) (now (values .entry)) offsets) (gives (fixedFrom size (orderOf order) depth (now (s .entry)) n at cells))) ⌝ }
 {
     let planes = depth * n;
     let bytes = n * size;
@@ -96,17 +96,16 @@ pub fn decode_fixed(
     order: ByteOrder,
     masks: &mut [u8],
     values: &mut [u8],
-    offsets: &mut [u64],
 ) -> WrittenArray
     requires { ⌜ (1 ≤ n) × (n ≤ mostCells) × (depth ≤ mostDepth) × (size ≤ mostSize) ⌝ }
-    ensures { λ r. ⌜ outcomeArray r (now (masks .exit)) (now (values .exit)) (now (offsets .exit))
-        ≡ readOutcome (contentArray (now (masks .entry)) (now (values .entry)) (now (offsets .entry))) (readIn byteMask (fixed size (orderOf order)) depth n (now (s .entry))) ⌝ }
+    ensures { λ r. ⌜ ((offsets : List ℕ) → outcomeArray r (now (masks .exit)) (now (values .exit)) offsets
+        ≡ readOutcome (contentArray (now (masks .entry)) (now (values .entry)) offsets) (readIn byteMask (fixed size (orderOf order)) depth n (now (s .entry)))) ⌝ }
 {
     let found = find_fixed(s, n, depth, size);
     match found {
         FixedValues::Refused(e) => WrittenArray::Refused(e),
         FixedValues::At(at, cells) => {
-            write_fixed(s, n, depth, size, order, at, cells, masks, values, offsets)
+            write_fixed(s, n, depth, size, order, at, cells, masks, values)
         }
     }
 }

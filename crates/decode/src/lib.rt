@@ -43,7 +43,6 @@ pub fn decode(
             order,
             masks,
             values,
-            offsets,
         ),
         Values::Ragged(width, place) => ragged::decode_ragged(
             bytes,

@@ -15,8 +15,8 @@ use stored::vlen::data_at;
 use stored::vlen::index_at;
 use stored::vlen::index_length;
 ghost use mathlib.Core.Path.{_≡_};
-ghost use mathlib.Core.List.{[]};
-ghost use Prim.Native.Nat.{suc, _+_, _*_, _≤_};
+ghost use mathlib.Core.List.{List, []};
+ghost use Prim.Native.Nat.{ℕ, suc, _+_, _*_, _≤_};
 ghost use lib.ListN.{length, take, drop};
 ghost use Rattle.array.specs.Answer.{gives};
 ghost use Rattle.array.specs.Limits.{mostCells, mostDepth};
@@ -38,14 +38,13 @@ fn write_flat(
     index: usize,
     from: usize,
     last: u64,
-    masks: &mut [u8],
     values: &mut [u8],
     offsets: &mut [u64],
 ) -> WrittenArray
     requires { ⌜ (n ≤ mostCells) × (index + (widthOf width + n * widthOf width) ≤ length (now s)) × (from + last ≤ length (now s)) ⌝ }
-    ensures { λ r. ⌜ outcomeArray r (now (masks .exit)) (now (values .exit)) (now (offsets .exit))
-        ≡ readOutcome (contentArray (now (masks .entry)) (now (values .entry)) (now (offsets .entry)))
-        (gives (contentArray [] (take last (drop from (now (s .entry)))) (offsetsIn (widthOf width) (suc n) (drop index (now (s .entry)))))) ⌝ }
+    ensures { λ r. ⌜ ((masks : List ℕ) → outcomeArray r masks (now (values .exit)) (now (offsets .exit))
+        ≡ readOutcome (contentArray masks (now (values .entry)) (now (offsets .entry)))
+        (gives (contentArray [] (take last (drop from (now (s .entry)))) (offsetsIn (widthOf width) (suc n) (drop index (now (s .entry))))))) ⌝ }
 {
     let bytes = last as usize;
     let count = n + 1;
@@ -155,7 +154,7 @@ pub fn decode_ragged(
         RaggedValues::Refused(e) => WrittenArray::Refused(e),
         RaggedValues::At(index, from, cells, first, last) => {
             if depth == 0 {
-                return write_flat(s, cells, width, index, from, last, masks, values, offsets);
+                return write_flat(s, cells, width, index, from, last, values, offsets);
             }
             let ends = index + width_bytes(width);
             write_nested(

@@ -32,8 +32,8 @@ enum-known-found-2 c = search needs
 
 write-flat-requires : tie.Need-write-flat-requires
 write-flat-requires c κs =
-    let g = given (c .before .before .before .before) in
-    (subst (λ (k : ℕ). k ≤ mostCells) (sym (flat-cells (c .before .before .before .before .before .before .before .before .before .before .before .before .args .depth) (c .before .before .before .before .before .before .before .before .before .before .before .before .args .s .now) (c .before .before .before .before .before .before .before .before .before .before .before .before .args .n) (c .before .before .before .before .before .found2 .given .0 .1 .1 .0) (c .before .before .before .if1 .taken) (g .count))) (c .before .before .before .before .before .before .before .before .before .before .before .before .pre .1), g .within .index-room, g .within .data-room)
+    let g = given (c .before .before .before) in
+    (subst (λ (k : ℕ). k ≤ mostCells) (sym (flat-cells (c .before .before .before .before .before .before .before .before .before .before .before .args .depth) (c .before .before .before .before .before .before .before .before .before .before .before .args .s .now) (c .before .before .before .before .before .before .before .before .before .before .before .args .n) (c .before .before .before .before .found2 .given .0 .1 .1 .0) (c .before .before .if1 .taken) (g .count))) (c .before .before .before .before .before .before .before .before .before .before .before .pre .1), g .within .index-room, g .within .data-room)
 
 same-length : tie.Need-same-length
 same-length c = search needs
@@ -41,13 +41,10 @@ same-length c = search needs
 same-length-2 : tie.Need-same-length-2
 same-length-2 c = search needs
 
-same-length-3 : tie.Need-same-length-3
-same-length-3 c = search needs
-
 returns : tie.Need-returns
 returns c =
-    let args = c .before .before .before .before .before .before .before .before .before .before .before .before .before .before .before .before .before .before .before .args in
-    read-given (args .masks .now) (args .values .now) (args .offsets .now) (flat-read (given (c .before .before .before .before .before .before .before .before .before .before .before)) (c .before .before .before .before .before .before .before .before .before .before .if1 .taken)) (c .before .before .before .before .before .before .write-flat .ensures)
+    let args = c .before .before .before .before .before .before .before .before .before .before .before .before .before .before .before .before .args in
+    read-given (args .masks .now) (args .values .now) (args .offsets .now) (flat-read (given (c .before .before .before .before .before .before .before .before)) (c .before .before .before .before .before .before .before .if1 .taken)) (c .before .before .before .before .write-flat .ensures (args .masks .now))
 
 width-bytes-requires : tie.Need-width-bytes-requires
 width-bytes-requires c κs = search needs
@@ -68,14 +65,14 @@ returns-2 c =
     read-refused (args .masks .now) (args .values .now) (args .offsets .now) (c .before .found .given .0 .0)
     (found-refused (widthOf (args .width)) (placeOf (args .place)) (args .depth) (args .s .now) (args .n) (c .before .found .given .0 .0) (sym (c .before .before .before .find-ragged .ensures) ∙ ap toldRagged (c .before .found .given .1)))
 
+same-length-3 : tie.Need-same-length-3
+same-length-3 c = search needs
+
 same-length-4 : tie.Need-same-length-4
 same-length-4 c = search needs
 
 same-length-5 : tie.Need-same-length-5
 same-length-5 c = search needs
-
-same-length-6 : tie.Need-same-length-6
-same-length-6 c = search needs
 
 returns-3 : tie.Need-returns-3
 returns-3 c =
@@ -92,13 +89,12 @@ decode-ragged-spec =
     write-flat-requires
     same-length
     same-length-2
-    same-length-3
     returns
     width-bytes-requires
     add-ends
     write-nested-requires
     returns-2
+    same-length-3
     same-length-4
     same-length-5
-    same-length-6
     returns-3)
