@@ -11,7 +11,7 @@ use lib.Dec.{eqb}
 use borrow.Author.Tests.{eq-eqb, ne-eqb}
 use Rattle.array.specs.Lists.{every}
 use Rattle.text.proofs.Scanning.{next-of}
-use Rattle.protocol.specs.Kept.{equal}
+use Rattle.responses.specs.Kept.{equal}
 
 -- ---- outputs as they were lent
 

@@ -1,10 +1,10 @@
--- `protocol::calls::number_at` meets its contract: past the end a list has the default.
+-- `requests::number_at` meets its contract: past the end a list has the default.
 -- Assumes nothing.
 use mathlib.Core.Path.{sym}
 use lib.ListN.{List·getD-eq-default}
 use borrow.Author.Needs.{needs}
-use Rattle.protocol.proofs.calls.number_at.Statement.{statement}
-use Rattle.protocol.proofs.calls.number_at.Tie as tie
+use Rattle.requests.proofs.number_at.Statement.{statement}
+use Rattle.requests.proofs.number_at.Tie as tie
 
 mul-result : tie.Need-mul-result
 mul-result c = search needs

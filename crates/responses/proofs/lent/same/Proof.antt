@@ -1,14 +1,14 @@
--- `protocol::respond::same` meets its contract: the bytes from i on give what all give (proofs/Comparing).
+-- `responses::lent::same` meets its contract: the bytes from i on give what all give (proofs/Comparing).
 -- Assumes nothing.
 use Prim.Native.Nat.{_≤_, _-_}
 use mathlib.Core.Path.{_≡_, refl, sym, _∙_}
 use native.Mathlib.Omega.{arith}
 use lib.ListN.{length, drop}
 use borrow.Author.Needs.{needs}
-use Rattle.protocol.specs.Kept.{equal}
-use Rattle.protocol.proofs.Comparing.{equal-long, equal-end, equal-more, equal-not}
-use Rattle.protocol.proofs.respond.same.Statement.{statement}
-use Rattle.protocol.proofs.respond.same.Tie as tie
+use Rattle.responses.specs.Kept.{equal}
+use Rattle.responses.proofs.Comparing.{equal-long, equal-end, equal-more, equal-not}
+use Rattle.responses.proofs.lent.same.Statement.{statement}
+use Rattle.responses.proofs.lent.same.Tie as tie
 
 abbrev Inv-loop : tie.InvT-loop
 Inv-loop a b i₀ i = (length a ≡ length b) × (i ≤ length a) × (equal a b ≡ equal (drop i a) (drop i b))
