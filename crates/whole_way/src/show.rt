@@ -38,7 +38,7 @@ pub fn write_title(number: u64, kind: &[u64]) {
     write_text(b"\n");
 }
 
-fn write_lists(masks: &[u8], values: &[u8], offsets: &[u64]) {
+pub fn write_lists(masks: &[u8], values: &[u8], offsets: &[u64]) {
     write_bytes(masks);
     write_text(b" ");
     write_bytes(values);
@@ -47,14 +47,16 @@ fn write_lists(masks: &[u8], values: &[u8], offsets: &[u64]) {
     write_text(b"\n");
 }
 
+pub fn write_refusal(e: u8) {
+    write_text(b"refused ");
+    io::print_decimal(STDOUT_FILENO, e as u64);
+    write_text(b"\n");
+}
+
 // The lists up to the lengths that success names, or the number of the refusal.
-fn write_answer(answer: WrittenArray, masks: &[u8], values: &[u8], offsets: &[u64]) {
+pub fn write_answer(answer: WrittenArray, masks: &[u8], values: &[u8], offsets: &[u64]) {
     match answer {
-        WrittenArray::Refused(e) => {
-            write_text(b"refused ");
-            io::print_decimal(STDOUT_FILENO, e as u64);
-            write_text(b"\n");
-        }
+        WrittenArray::Refused(e) => write_refusal(e),
         WrittenArray::Lengths(m, v, o) => write_lists(
             part_of_bytes(masks, 0, m),
             part_of_bytes(values, 0, v),
@@ -63,20 +65,8 @@ fn write_answer(answer: WrittenArray, masks: &[u8], values: &[u8], offsets: &[u6
     }
 }
 
-pub fn write_outcome(answer: WrittenArray, masks: &[u8], values: &[u8], offsets: &[u64]) {
-    write_text(b"outcome: ");
-    write_answer(answer, masks, values, offsets);
-}
-
-pub fn write_cut(
-    subset: &[u64],
-    answer: WrittenArray,
-    masks: &[u8],
-    values: &[u8],
-    offsets: &[u64],
-) {
+pub fn write_cut(subset: &[u64]) {
     write_text(b"cut ");
     write_numbers(subset);
     write_text(b": ");
-    write_answer(answer, masks, values, offsets);
 }

@@ -1,14 +1,14 @@
 // A table as a line of text, and what is run on it.
 use crate::show;
 use crate::way;
+use crate::way::Reach;
 use array::answer::WrittenArray;
 use array::kind;
 use array::kind::Kind;
 use array::kind::KindRead;
-use protocol::calls::number_at;
-use protocol::request;
-use protocol::request::Fields;
-use protocol::request::Parsed;
+use requests::Fields;
+use requests::Parsed;
+use requests::number_at;
 use text::scan;
 use text::scan::part_of_bytes;
 use text::scan::part_of_numbers;
@@ -23,9 +23,6 @@ fn fields(table: bool) -> Fields {
         values: table,
         offsets: table,
         rooms: 0,
-        out_masks: true,
-        out_values: true,
-        out_offsets: true,
     }
 }
 
@@ -45,7 +42,8 @@ fn cut(kind: Kind, shape: &[u64], subset: &[u64], masks: &[u8], values: &[u8], o
         &mut cut_values,
         &mut cut_offsets,
     );
-    show::write_cut(subset, answer, &cut_masks, &cut_values, &cut_offsets);
+    show::write_cut(subset);
+    show::write_answer(answer, &cut_masks, &cut_values, &cut_offsets);
 }
 
 // Cuts each subset of a list from it.
@@ -76,22 +74,21 @@ fn show_outcome(
     values: &[u8],
     offsets: &[u64],
 ) {
-    show::write_outcome(answer, masks, values, offsets);
+    show::write_text(b"outcome: ");
     match answer {
-        WrittenArray::Refused(_) => {}
-        WrittenArray::Lengths(m, v, o) => cut_each(
-            kind,
-            shape,
-            cuts,
-            part_of_bytes(masks, 0, m),
-            part_of_bytes(values, 0, v),
-            part_of_numbers(offsets, 0, o),
-        ),
+        WrittenArray::Refused(e) => show::write_refusal(e),
+        WrittenArray::Lengths(m, v, o) => {
+            let masks = part_of_bytes(masks, 0, m);
+            let values = part_of_bytes(values, 0, v);
+            let offsets = part_of_numbers(offsets, 0, o);
+            show::write_lists(masks, values, offsets);
+            cut_each(kind, shape, cuts, masks, values, offsets);
+        }
     }
 }
 
-// The whole way of a table, and the cuts from its outcome.
-fn run_way(
+// All that was read, merged, and the cuts from the outcome.
+fn run_merge(
     kind: Kind,
     shape: &[u64],
     subsets: &[u64],
@@ -103,7 +100,7 @@ fn run_way(
     let mut out_masks = way::mask_space();
     let mut out_values = way::byte_space();
     let mut out_offsets = way::number_space();
-    let answer = way::whole_way(
+    let answer = merge::merge(
         kind,
         shape,
         subsets,
@@ -122,6 +119,68 @@ fn run_way(
         &out_masks,
         &out_values,
         &out_offsets,
+    );
+}
+
+// The same, where every chunk could be read.
+fn run_chunks(
+    reach: Reach,
+    kind: Kind,
+    shape: &[u64],
+    subsets: &[u64],
+    masks: &[u8],
+    values: &[u8],
+    offsets: &[u64],
+    cuts: &[u64],
+) {
+    if reach.refusal != 0 {
+        show::write_text(b"outcome: ");
+        return show::write_refusal(reach.refusal);
+    }
+    run_merge(
+        kind,
+        shape,
+        subsets,
+        part_of_bytes(masks, 0, reach.masks),
+        part_of_bytes(values, 0, reach.values),
+        part_of_numbers(offsets, 0, reach.offsets),
+        cuts,
+    );
+}
+
+// The whole way of a table, and the cuts from its outcome.
+fn run_way(
+    kind: Kind,
+    shape: &[u64],
+    subsets: &[u64],
+    masks: &[u8],
+    values: &[u8],
+    offsets: &[u64],
+    cuts: &[u64],
+) {
+    let mut chunk_masks = way::mask_space();
+    let mut chunk_values = way::byte_space();
+    let mut chunk_offsets = way::number_space();
+    let reach = way::read_chunks(
+        kind,
+        shape,
+        subsets,
+        masks,
+        values,
+        offsets,
+        &mut chunk_masks,
+        &mut chunk_values,
+        &mut chunk_offsets,
+    );
+    run_chunks(
+        reach,
+        kind,
+        shape,
+        subsets,
+        &chunk_masks,
+        &chunk_values,
+        &chunk_offsets,
+        cuts,
     );
 }
 
@@ -187,7 +246,7 @@ pub fn run_table(number: u64, line: &[u8]) {
     let mut bytes = way::byte_space();
     let mut cuts = way::number_space();
     let end = scan::find(line, 0, b';', b';');
-    let table = request::parse(&line[0..end], fields(true), &mut numbers, &mut bytes);
-    let list = request::parse(&line[end..], fields(false), &mut cuts, &mut bytes);
+    let table = requests::parse(&line[0..end], fields(true), &mut numbers, &mut bytes);
+    let list = requests::parse(&line[end..], fields(false), &mut cuts, &mut bytes);
     run_parsed(number, table, list, &numbers, &bytes, &cuts);
 }
