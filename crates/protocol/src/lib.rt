@@ -1,4 +1,5 @@
-// Requests as lines of text, answered by the library's calls: for programs that show what the calls do, or compare it.
+// Requests from standard input, one a line, answered by the library's calls, one answer a line: for programs that show what the calls
+// do, or compare it.
 //
 //     e KIND SHAPE MASKS VALUES OFFSETS ROOM            encode
 //     d KIND SHAPE BYTES ROOMS                          decode
@@ -16,18 +17,54 @@
 // Outputs are filled with EE beforehand; `spoilt` says that a byte beyond the lengths, or any after a refusal, has changed.
 mod calls;
 
+use array::answer::WrittenArray;
+use libc::STDIN_FILENO;
+use libc::STDOUT_FILENO;
 use requests::Parsed;
 use requests::Request;
 use requests::number_at;
 use responses::Outputs;
 use responses::lent;
 use responses::lent::Rooms;
-use text::print;
+use text::scan;
 use text::scan::part_of_bytes;
 use text::scan::part_of_numbers;
+ghost use mathlib.Core.Path.{_≡_};
 ghost use Prim.Native.Nat.{_≤_};
 ghost use lib.ListN.{length};
-ghost use Rattle.text.specs.Scan.{Onward};
+
+// Room for all requests.
+fn input_space() -> [u8; 524288]
+    ensures { λ r. ⌜ 524288 ≡ length r ⌝ }
+{
+    [0; 524288]
+}
+
+// Room for the text of one answer.
+fn text_space() -> [u8; 262144]
+    ensures { λ r. ⌜ 262144 ≡ length r ⌝ }
+{
+    [0; 262144]
+}
+
+// Room for 65,536 cells of one byte with four mask levels, stored.
+fn byte_space() -> [u8; 393216]
+    ensures { λ r. ⌜ 393216 ≡ length r ⌝ }
+{
+    [0; 393216]
+}
+
+// Room for the offsets of 65,536 cells, and for what else a request has in numbers.
+fn number_space() -> [u64; 66560]
+    ensures { λ r. ⌜ 66560 ≡ length r ⌝ }
+{
+    [0; 66560]
+}
+
+fn write_line(line: &[u8]) {
+    io::write_all(STDOUT_FILENO, line);
+    io::write_all(STDOUT_FILENO, b"\n");
+}
 
 // The length of an output to lend, masks, values and offsets being 0 to 2.
 fn room_of(f: Outputs, output: usize, rooms: &[u64]) -> u64 {
@@ -57,7 +94,21 @@ fn rooms_of(
     lent::rooms_of(m, v, room_of(f, 2, rooms), masks, values, offsets)
 }
 
-// Lends the outputs, makes the call, and shows its answer.
+// Writes the answer of the call of a letter, and the outputs.
+fn write_answer(
+    letter: u8,
+    answer: WrittenArray,
+    bytes: &[u8],
+    masks: &[u8],
+    values: &[u8],
+    offsets: &[u64],
+) {
+    let mut text = text_space();
+    let n = responses::put_answer(&mut text, letter, answer, bytes, masks, values, offsets);
+    write_line(part_of_bytes(&text, 0, n));
+}
+
+// Lends the outputs, makes the call, and writes its answer.
 fn show(
     letter: u8,
     q: Request,
@@ -66,42 +117,26 @@ fn show(
     masks: &mut [u8],
     values: &mut [u8],
     offsets: &mut [u64],
-    text: &mut [u8],
-) -> usize
-    ensures { λ r. ⌜ Onward 0 r (length (now (text .entry))) ⌝ }
-{
+) {
     let content = part_of_bytes(bytes, q.values, q.bytes);
     lent::lend(letter == b'r', content, masks, values, offsets);
     let answer = calls::run(letter, q, numbers, bytes, masks, values, offsets);
-    responses::put_answer(text, letter, answer, content, masks, values, offsets)
+    write_answer(letter, answer, content, masks, values, offsets);
 }
 
-fn respond(
-    letter: u8,
-    q: Request,
-    numbers: &[u64],
-    bytes: &[u8],
-    masks: &mut [u8],
-    values: &mut [u8],
-    offsets: &mut [u64],
-    text: &mut [u8],
-) -> usize
-    ensures { λ r. ⌜ Onward 0 r (length (now (text .entry))) ⌝ }
-{
-    let rooms = rooms_of(
-        letter,
-        part_of_numbers(numbers, q.rooms, q.numbers),
-        part_of_bytes(bytes, q.values, q.bytes).len(),
-        masks.len(),
-        values.len(),
-        offsets.len(),
-    );
+fn respond(letter: u8, q: Request, numbers: &[u64], bytes: &[u8]) {
+    let rooms = part_of_numbers(numbers, q.rooms, q.numbers);
+    let content = part_of_bytes(bytes, q.values, q.bytes);
+    let rooms = rooms_of(letter, rooms, content.len(), 393216, 393216, 66560);
     if !rooms.named {
-        return responses::bad_line(text);
+        return write_line(b"bad line");
     }
     let m = rooms.masks;
     let v = rooms.values;
     let o = rooms.offsets;
+    let mut masks = byte_space();
+    let mut values = byte_space();
+    let mut offsets = number_space();
     show(
         letter,
         q,
@@ -110,29 +145,35 @@ fn respond(
         &mut masks[0..m],
         &mut values[0..v],
         &mut offsets[0..o],
-        text,
-    )
+    );
 }
 
-// Writes the answer to a line into `text` and says where it ends. Numbers and bytes of the request are read into the two outputs
-// behind the line; the next three are lent to the call.
-pub fn answer(
-    line: &[u8],
-    numbers: &mut [u64],
-    bytes: &mut [u8],
-    masks: &mut [u8],
-    values: &mut [u8],
-    offsets: &mut [u64],
-    text: &mut [u8],
-) -> usize
-    ensures { λ r. ⌜ Onward 0 r (length (now (text .entry))) ⌝ }
-{
+// Answers one line.
+fn answer_line(line: &[u8]) {
     let letter = requests::letter_of(line);
     if letter == b'#' {
-        return print::put_text(text, 0, line);
+        return write_line(line);
     }
-    let Parsed::Request(q) = requests::read_line(letter, line, numbers, bytes) else {
-        return responses::bad_line(text);
+    let mut numbers = number_space();
+    let mut bytes = byte_space();
+    let Parsed::Request(q) = requests::read_line(letter, line, &mut numbers, &mut bytes) else {
+        return write_line(b"bad line");
     };
-    respond(letter, q, numbers, bytes, masks, values, offsets, text)
+    respond(letter, q, &numbers, &bytes);
+}
+
+fn answer_all(input: &[u8]) {
+    let mut at = 0;
+    while at < input.len() {
+        let end = scan::find(input, at, b'\n', b'\n');
+        answer_line(&input[at..end]);
+        at = end + 1;
+    }
+}
+
+// Answers all of standard input.
+pub fn answer_input() {
+    let mut input = input_space();
+    let n = io::read_full(STDIN_FILENO, &mut input);
+    answer_all(&input[..n]);
 }

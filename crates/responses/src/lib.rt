@@ -58,12 +58,6 @@ fn put_numbers_out(text: &mut [u8], at: usize, wanted: bool, out: &[u64], n: usi
     print::put_numbers(text, to, part_of_numbers(out, 0, n))
 }
 
-pub fn bad_line(text: &mut [u8]) -> usize
-    ensures { λ r. ⌜ Onward 0 r (length (now (text .entry))) ⌝ }
-{
-    print::put_text(text, 0, b"bad line")
-}
-
 fn put_refused(text: &mut [u8], e: u8) -> usize
     ensures { λ r. ⌜ Onward 0 r (length (now (text .entry))) ⌝ }
 {
