@@ -1,87 +1,19 @@
-// The calls, each on the lists of a request. Every answer is told as three lengths, masks before values before offsets, 0 for an
-// output that the call has not.
-use array::answer::Written;
+// The calls, each on the lists of a request.
 use array::answer::WrittenArray;
-use array::answer::WrittenRagged;
 use array::kind;
-use array::kind::ByteOrder;
 use array::kind::IndexRead;
 use array::kind::Kind;
 use array::kind::KindRead;
 use interleaved::vlen_v2;
 use partial::vlen_partial;
 use requests::Request;
-use requests::number_at;
+use requests::asked::head_kind;
+use responses::told::offsets_told;
+use responses::told::ragged_told;
+use responses::told::values_told;
+use text::scan::number_at;
 use text::scan::part_of_bytes;
 use text::scan::part_of_numbers;
-ghost use mathlib.Core.Path.{_≡_};
-ghost use Rattle.array.specs.Answer.{mapAnswer};
-ghost use Rattle.array.specs.Meaning.{told, toldRagged, toldArray};
-ghost use Rattle.array.specs.Numbers.{numberedKind};
-ghost use Rattle.protocol.specs.Told.{onlyValues, onlyOffsets, noMasks, Beyond, Asked};
-
-fn values_told(r: Written) -> WrittenArray
-    ensures { λ t. ⌜ toldArray t ≡ mapAnswer onlyValues (told r) ⌝ }
-{
-    match r {
-        Written::Length(n) => WrittenArray::Lengths(0, n, 0),
-        Written::Refused(e) => WrittenArray::Refused(e),
-    }
-}
-
-fn offsets_told(r: Written) -> WrittenArray
-    ensures { λ t. ⌜ toldArray t ≡ mapAnswer onlyOffsets (told r) ⌝ }
-{
-    match r {
-        Written::Length(n) => WrittenArray::Lengths(0, 0, n),
-        Written::Refused(e) => WrittenArray::Refused(e),
-    }
-}
-
-fn ragged_told(r: WrittenRagged) -> WrittenArray
-    ensures { λ t. ⌜ toldArray t ≡ mapAnswer noMasks (toldRagged r) ⌝ }
-{
-    match r {
-        WrittenRagged::Lengths(v, o) => WrittenArray::Lengths(0, v, o),
-        WrittenRagged::Refused(e) => WrittenArray::Refused(e),
-    }
-}
-
-// Numbers that say no kind may still make one that is out of range. It is handed over, so that the call itself is seen to refuse it.
-fn kind_beyond(depth: u64, size: u64, e: u8) -> KindRead
-    ensures { λ r. ⌜ Beyond r e ⌝ }
-{
-    if depth > 255 {
-        return KindRead::Refused(e);
-    }
-    if size > 255 {
-        return KindRead::Refused(e);
-    }
-    let kind = kind::fixed(depth as u8, size as u8, ByteOrder::Little);
-    if kind::check_kind(kind) {
-        return KindRead::Refused(e);
-    }
-    KindRead::Kind(kind)
-}
-
-// The kind that four numbers say.
-fn kind_of(depth: u64, form: u64, size: u64, order: u64) -> KindRead
-    ensures { λ r. ⌜ Asked (numberedKind depth form size order 0) r ⌝ }
-{
-    match kind::kind_from_numbers(depth, form, size, order, 0) {
-        KindRead::Kind(k) => KindRead::Kind(k),
-        KindRead::Refused(e) => kind_beyond(depth, size, e),
-    }
-}
-
-fn head_kind(head: &[u64]) -> KindRead {
-    kind_of(
-        number_at(head, 0),
-        number_at(head, 1),
-        number_at(head, 2),
-        number_at(head, 3),
-    )
-}
 
 // The calls that take a kind.
 fn run_kind(
@@ -97,14 +29,7 @@ fn run_kind(
     offsets: &mut [u64],
 ) -> WrittenArray {
     match letter {
-        b'e' => values_told(encode::encode(
-            kind,
-            shape,
-            in_masks,
-            in_values,
-            in_offsets,
-            values,
-        )),
+        b'e' => values_told(encode::encode(kind, shape, in_masks, in_values, in_offsets, values)),
         b'd' => decode::decode(kind, shape, in_values, masks, values, offsets),
         b'x' => extract::extract(
             kind,

@@ -17,20 +17,15 @@
 // Outputs are filled with EE beforehand; `spoilt` says that a byte beyond the lengths, or any after a refusal, has changed.
 mod calls;
 
-use array::answer::WrittenArray;
 use libc::STDIN_FILENO;
-use libc::STDOUT_FILENO;
 use requests::Parsed;
 use requests::Request;
-use requests::number_at;
-use responses::Outputs;
 use responses::lent;
-use responses::lent::Rooms;
+use responses::show;
 use text::scan;
 use text::scan::part_of_bytes;
 use text::scan::part_of_numbers;
 ghost use mathlib.Core.Path.{_≡_};
-ghost use Prim.Native.Nat.{_≤_};
 ghost use lib.ListN.{length};
 
 // Room for all requests.
@@ -38,13 +33,6 @@ fn input_space() -> [u8; 524288]
     ensures { λ r. ⌜ 524288 ≡ length r ⌝ }
 {
     [0; 524288]
-}
-
-// Room for the text of one answer.
-fn text_space() -> [u8; 262144]
-    ensures { λ r. ⌜ 262144 ≡ length r ⌝ }
-{
-    [0; 262144]
 }
 
 // Room for 65,536 cells of one byte with four mask levels, stored.
@@ -61,55 +49,8 @@ fn number_space() -> [u64; 66560]
     [0; 66560]
 }
 
-fn write_line(line: &[u8]) {
-    io::write_all(STDOUT_FILENO, line);
-    io::write_all(STDOUT_FILENO, b"\n");
-}
-
-// The length of an output to lend, masks, values and offsets being 0 to 2.
-fn room_of(f: Outputs, output: usize, rooms: &[u64]) -> u64 {
-    if output < f.first {
-        return 0;
-    }
-    number_at(rooms, output - f.first)
-}
-
-// The lengths of the outputs to lend. A call that works in place is lent the bytes of the request.
-fn rooms_of(
-    letter: u8,
-    rooms: &[u64],
-    bytes: usize,
-    masks: usize,
-    values: usize,
-    offsets: usize,
-) -> Rooms
-    ensures { λ r. ⌜ (r .masks ≤ masks) × (r .values ≤ values) × (r .offsets ≤ offsets) ⌝ }
-{
-    if letter == b'r' {
-        return lent::rooms_of(0, bytes as u64, 0, masks, values, offsets);
-    }
-    let f = responses::outputs_of(letter);
-    let m = room_of(f, 0, rooms);
-    let v = room_of(f, 1, rooms);
-    lent::rooms_of(m, v, room_of(f, 2, rooms), masks, values, offsets)
-}
-
-// Writes the answer of the call of a letter, and the outputs.
-fn write_answer(
-    letter: u8,
-    answer: WrittenArray,
-    bytes: &[u8],
-    masks: &[u8],
-    values: &[u8],
-    offsets: &[u64],
-) {
-    let mut text = text_space();
-    let n = responses::put_answer(&mut text, letter, answer, bytes, masks, values, offsets);
-    write_line(part_of_bytes(&text, 0, n));
-}
-
 // Lends the outputs, makes the call, and writes its answer.
-fn show(
+fn run_call(
     letter: u8,
     q: Request,
     numbers: &[u64],
@@ -121,15 +62,15 @@ fn show(
     let content = part_of_bytes(bytes, q.values, q.bytes);
     lent::lend(letter == b'r', content, masks, values, offsets);
     let answer = calls::run(letter, q, numbers, bytes, masks, values, offsets);
-    write_answer(letter, answer, content, masks, values, offsets);
+    responses::write_answer(letter, answer, content, masks, values, offsets);
 }
 
 fn respond(letter: u8, q: Request, numbers: &[u64], bytes: &[u8]) {
     let rooms = part_of_numbers(numbers, q.rooms, q.numbers);
     let content = part_of_bytes(bytes, q.values, q.bytes);
-    let rooms = rooms_of(letter, rooms, content.len(), 393216, 393216, 66560);
+    let rooms = responses::rooms_of(letter, rooms, content.len(), 393216, 393216, 66560);
     if !rooms.named {
-        return write_line(b"bad line");
+        return show::write_line(b"bad line");
     }
     let m = rooms.masks;
     let v = rooms.values;
@@ -137,7 +78,7 @@ fn respond(letter: u8, q: Request, numbers: &[u64], bytes: &[u8]) {
     let mut masks = byte_space();
     let mut values = byte_space();
     let mut offsets = number_space();
-    show(
+    run_call(
         letter,
         q,
         numbers,
@@ -152,12 +93,12 @@ fn respond(letter: u8, q: Request, numbers: &[u64], bytes: &[u8]) {
 fn answer_line(line: &[u8]) {
     let letter = requests::letter_of(line);
     if letter == b'#' {
-        return write_line(line);
+        return show::write_line(line);
     }
     let mut numbers = number_space();
     let mut bytes = byte_space();
     let Parsed::Request(q) = requests::read_line(letter, line, &mut numbers, &mut bytes) else {
-        return write_line(b"bad line");
+        return show::write_line(b"bad line");
     };
     respond(letter, q, &numbers, &bytes);
 }

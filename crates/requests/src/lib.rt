@@ -1,14 +1,14 @@
 // A request: which lists its line has, in which order, and where they lie once they are read.
+pub mod asked;
+
 use std::num;
 use text::scan;
 use text::scan::Filled;
 use text::scan::part_of_bytes;
-ghost use mathlib.Core.Path.{_≡_};
-ghost use lib.ListN.{getD};
 
 // The lists of a line, in their order: so many numbers at the head; shape; subset; masks; values or stored bytes; offsets; and so
 // many lengths of outputs.
-pub struct Fields {
+struct Fields {
     pub head: usize,
     pub shape: bool,
     pub subset: bool,
@@ -18,7 +18,7 @@ pub struct Fields {
     pub rooms: usize,
 }
 
-pub enum Line {
+enum Line {
     Request(Fields),
     Unknown,
 }
@@ -197,7 +197,7 @@ fn complete(f: Fields, q: Request, at: usize, length: usize) -> Parsed {
 }
 
 // Reads the lists of a line behind its letter.
-pub fn parse(line: &[u8], f: Fields, numbers: &mut [u64], bytes: &mut [u8]) -> Parsed {
+fn parse(line: &[u8], f: Fields, numbers: &mut [u64], bytes: &mut [u8]) -> Parsed {
     let description = read_description(line, f, numbers);
     let content = read_content(line, description.at, f, bytes);
     let rest = read_rest(line, content.at, f, numbers, description.offsets);
@@ -213,14 +213,49 @@ pub fn parse(line: &[u8], f: Fields, numbers: &mut [u64], bytes: &mut [u8]) -> P
     complete(f, q, rest.at, line.len())
 }
 
-// A number of a list; 0 where the list is shorter.
-pub fn number_at(s: &[u64], i: usize) -> u64
-    ensures { λ r. ⌜ r ≡ getD (now (s .entry)) i 0 ⌝ }
-{
-    if i < s.len() {
-        return s[i];
+// The lists of a table, `w KIND SHAPE SUBSETS MASKS VALUES OFFSETS`.
+fn table_fields() -> Fields {
+    Fields {
+        head: 4,
+        shape: true,
+        subset: true,
+        masks: true,
+        values: true,
+        offsets: true,
+        rooms: 0,
     }
-    0
+}
+
+// A table with one more list of numbers, read up to the end of a line.
+fn with_list(q: Request, list: Step, length: usize) -> Parsed {
+    if list.at != length {
+        return Parsed::Bad;
+    }
+    Parsed::Request(Request {
+        shape: q.shape,
+        subset: q.subset,
+        offsets: q.offsets,
+        rooms: q.rooms,
+        numbers: list.to,
+        values: q.values,
+        bytes: q.bytes,
+    })
+}
+
+// Reads a table and, behind a semicolon, one more list of numbers, which stands where a request has the lengths of outputs.
+pub fn read_table(line: &[u8], numbers: &mut [u64], bytes: &mut [u8]) -> Parsed {
+    let end = scan::find(line, 0, b';', b';');
+    let Parsed::Request(q) = parse(&line[0..end], table_fields(), numbers, bytes) else {
+        return Parsed::Bad;
+    };
+    let list = next_numbers(
+        true,
+        line,
+        num::wrapping_add_usize(end, 1),
+        numbers,
+        q.numbers,
+    );
+    with_list(q, list, line.len())
 }
 
 // The letter of a line; 0 where it is empty.

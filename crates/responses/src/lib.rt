@@ -1,11 +1,16 @@
 // Answers as text: `refused N`, or `ok LENGTHS: LISTS` with the outputs up to those lengths, masks before values before offsets;
 // ` spoilt` where a byte beyond the lengths, or any after a refusal, has changed.
 pub mod lent;
+pub mod show;
+pub mod told;
 
+use crate::lent::Rooms;
 use array::answer::WrittenArray;
 use text::print;
+use text::scan::number_at;
 use text::scan::part_of_bytes;
 use text::scan::part_of_numbers;
+ghost use mathlib.Core.Path.{_≡_};
 ghost use Prim.Native.Nat.{_≤_};
 ghost use lib.ListN.{length};
 ghost use Rattle.text.specs.Scan.{Onward};
@@ -24,6 +29,34 @@ pub fn outputs_of(letter: u8) -> Outputs {
         b's' => Outputs { first: 2, end: 3 },
         _ => Outputs { first: 0, end: 3 },
     }
+}
+
+// The length of an output to lend, masks, values and offsets being 0 to 2.
+fn room_of(f: Outputs, output: usize, rooms: &[u64]) -> u64 {
+    if output < f.first {
+        return 0;
+    }
+    number_at(rooms, output - f.first)
+}
+
+// The lengths of the outputs to lend. A call that works in place is lent the bytes of the request.
+pub fn rooms_of(
+    letter: u8,
+    rooms: &[u64],
+    bytes: usize,
+    masks: usize,
+    values: usize,
+    offsets: usize,
+) -> Rooms
+    ensures { λ r. ⌜ (r .masks ≤ masks) × (r .values ≤ values) × (r .offsets ≤ offsets) ⌝ }
+{
+    if letter == b'r' {
+        return lent::rooms_of(0, bytes as u64, 0, masks, values, offsets);
+    }
+    let f = outputs_of(letter);
+    let m = room_of(f, 0, rooms);
+    let v = room_of(f, 1, rooms);
+    lent::rooms_of(m, v, room_of(f, 2, rooms), masks, values, offsets)
 }
 
 // The lengths that success names.
@@ -102,7 +135,7 @@ fn put_outcome(
 }
 
 // The answer of the call of a letter, the outputs, and whether they are as they were lent beyond.
-pub fn put_answer(
+fn put_answer(
     text: &mut [u8],
     letter: u8,
     answer: WrittenArray,
@@ -118,4 +151,25 @@ pub fn put_answer(
         return to;
     }
     print::put_text(text, to, b" spoilt")
+}
+
+// Room for the text of one answer.
+fn text_space() -> [u8; 262144]
+    ensures { λ r. ⌜ 262144 ≡ length r ⌝ }
+{
+    [0; 262144]
+}
+
+// Writes the answer of the call of a letter, and the outputs.
+pub fn write_answer(
+    letter: u8,
+    answer: WrittenArray,
+    bytes: &[u8],
+    masks: &[u8],
+    values: &[u8],
+    offsets: &[u64],
+) {
+    let mut text = text_space();
+    let n = put_answer(&mut text, letter, answer, bytes, masks, values, offsets);
+    show::write_line(part_of_bytes(&text, 0, n));
 }

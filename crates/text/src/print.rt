@@ -101,35 +101,40 @@ fn shown(n: usize) -> usize
     if n < LONG_RUN { 1 } else { n }
 }
 
-// What joins a part of n equal ones to those before it, `before` of them, the last in a plain part or not.
-fn put_join(text: &mut [u8], at: usize, before: usize, plain: bool, n: usize, comma: bool) -> usize
-    requires { ⌜ at ≤ length (now text) ⌝ }
-    ensures { λ r. ⌜ Onward at r (length (now (text .entry))) ⌝ }
-{
+// What joins a part of n equal ones to those before it, `before` of them, the last in a plain part or not; 0 where nothing does.
+fn joint(before: usize, plain: bool, n: usize, comma: bool) -> u8 {
     if before == 0 {
-        return at;
+        return 0;
     }
     if !plain {
-        return put_byte(text, at, b'+');
+        return b'+';
     }
     if n != 1 {
-        return put_byte(text, at, b'+');
+        return b'+';
     }
-    if comma {
-        return put_byte(text, at, b',');
-    }
-    at
+    if comma { b',' } else { 0 }
 }
 
-// The count of a run; nothing where it is 1.
-fn put_count(text: &mut [u8], at: usize, n: usize) -> usize
+fn put_joint(text: &mut [u8], at: usize, joint: u8) -> usize
     requires { ⌜ at ≤ length (now text) ⌝ }
     ensures { λ r. ⌜ Onward at r (length (now (text .entry))) ⌝ }
 {
-    if n == 1 {
+    if joint == 0 {
         return at;
     }
-    let to = put_number(text, at, n as u64);
+    put_byte(text, at, joint)
+}
+
+// The head of a part of n equal ones: what joins it, and the count of a run.
+fn put_head(text: &mut [u8], at: usize, joint: u8, n: usize) -> usize
+    requires { ⌜ at ≤ length (now text) ⌝ }
+    ensures { λ r. ⌜ Onward at r (length (now (text .entry))) ⌝ }
+{
+    let mut to = put_joint(text, at, joint);
+    if n == 1 {
+        return to;
+    }
+    to = put_number(text, to, n as u64);
     put_byte(text, to, b'*')
 }
 
@@ -146,8 +151,7 @@ pub fn put_bytes(text: &mut [u8], at: usize, s: &[u8]) -> usize
     let mut plain = false;
     while i < s.len() {
         let n = run_of_bytes(s, i);
-        to = put_join(text, to, i, plain, n, false);
-        to = put_count(text, to, n);
+        to = put_head(text, to, joint(i, plain, n, false), n);
         to = put_hex(text, to, s[i]);
         plain = n == 1;
         i += n;
@@ -168,8 +172,7 @@ pub fn put_numbers(text: &mut [u8], at: usize, s: &[u64]) -> usize
     let mut plain = false;
     while i < s.len() {
         let n = run_of_numbers(s, i);
-        to = put_join(text, to, i, plain, n, true);
-        to = put_count(text, to, n);
+        to = put_head(text, to, joint(i, plain, n, true), n);
         to = put_number(text, to, s[i]);
         plain = n == 1;
         i += n;

@@ -1,30 +1,15 @@
 // A table as a line of text, and what is run on it.
-use crate::show;
 use crate::way;
 use crate::way::Reach;
 use array::answer::WrittenArray;
-use array::kind;
 use array::kind::Kind;
 use array::kind::KindRead;
-use requests::Fields;
 use requests::Parsed;
-use requests::number_at;
-use text::scan;
+use requests::Request;
+use requests::asked::head_kind;
+use responses::show;
 use text::scan::part_of_bytes;
 use text::scan::part_of_numbers;
-
-// The lists of a table before the semicolon; behind it the one list of cuts.
-fn fields(table: bool) -> Fields {
-    Fields {
-        head: if table { 4 } else { 0 },
-        shape: table,
-        subset: true,
-        masks: table,
-        values: table,
-        offsets: table,
-        rooms: 0,
-    }
-}
 
 // Cuts a subset from an outcome.
 fn cut(kind: Kind, shape: &[u64], subset: &[u64], masks: &[u8], values: &[u8], offsets: &[u64]) {
@@ -184,69 +169,30 @@ fn run_way(
     );
 }
 
-// The kind that the head says.
-fn head_kind(head: &[u64]) -> KindRead {
-    kind::kind_from_numbers(
-        number_at(head, 0),
-        number_at(head, 1),
-        number_at(head, 2),
-        number_at(head, 3),
-        0,
-    )
-}
-
 // The same behind the table's title.
-fn run_titled(
-    number: u64,
-    head: &[u64],
-    shape: &[u64],
-    subsets: &[u64],
-    masks: &[u8],
-    values: &[u8],
-    offsets: &[u64],
-    cuts: &[u64],
-) {
+fn run_titled(number: u64, t: Request, numbers: &[u64], bytes: &[u8]) {
+    let head = part_of_numbers(numbers, 0, t.shape);
     show::write_title(number, head);
     match head_kind(head) {
         KindRead::Refused(_) => show::write_text(b"bad kind\n"),
-        KindRead::Kind(kind) => run_way(kind, shape, subsets, masks, values, offsets, cuts),
+        KindRead::Kind(kind) => run_way(
+            kind,
+            part_of_numbers(numbers, t.shape, t.subset),
+            part_of_numbers(numbers, t.subset, t.offsets),
+            part_of_bytes(bytes, 0, t.values),
+            part_of_bytes(bytes, t.values, t.bytes),
+            part_of_numbers(numbers, t.offsets, t.rooms),
+            part_of_numbers(numbers, t.rooms, t.numbers),
+        ),
     }
-}
-
-// The same, where both parts of its line could be read.
-fn run_parsed(
-    number: u64,
-    table: Parsed,
-    list: Parsed,
-    numbers: &[u64],
-    bytes: &[u8],
-    cuts: &[u64],
-) {
-    let Parsed::Request(t) = table else {
-        return show::write_text(b"bad line\n");
-    };
-    let Parsed::Request(c) = list else {
-        return show::write_text(b"bad line\n");
-    };
-    run_titled(
-        number,
-        part_of_numbers(numbers, 0, t.shape),
-        part_of_numbers(numbers, t.shape, t.subset),
-        part_of_numbers(numbers, t.subset, t.offsets),
-        part_of_bytes(bytes, 0, t.values),
-        part_of_bytes(bytes, t.values, t.bytes),
-        part_of_numbers(numbers, t.offsets, t.rooms),
-        part_of_numbers(cuts, c.subset, c.offsets),
-    )
 }
 
 // Reads the table of a line, and runs the whole way of it.
 pub fn run_table(number: u64, line: &[u8]) {
     let mut numbers = way::number_space();
     let mut bytes = way::byte_space();
-    let mut cuts = way::number_space();
-    let end = scan::find(line, 0, b';', b';');
-    let table = requests::parse(&line[0..end], fields(true), &mut numbers, &mut bytes);
-    let list = requests::parse(&line[end..], fields(false), &mut cuts, &mut bytes);
-    run_parsed(number, table, list, &numbers, &bytes, &cuts);
+    let Parsed::Request(t) = requests::read_table(line, &mut numbers, &mut bytes) else {
+        return show::write_text(b"bad line\n");
+    };
+    run_titled(number, t, &numbers, &bytes);
 }

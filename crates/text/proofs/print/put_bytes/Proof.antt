@@ -36,11 +36,11 @@ loop-holds c = search needs
 run-of-bytes-requires : tie.Need-run-of-bytes-requires Inv-loop μ-loop
 run-of-bytes-requires c κs = search needs
 
-put-join-requires : tie.Need-put-join-requires Inv-loop μ-loop
-put-join-requires c κs = search needs
+joint-requires : tie.Need-joint-requires Inv-loop μ-loop
+joint-requires c κs = search needs
 
-put-count-requires : tie.Need-put-count-requires Inv-loop μ-loop
-put-count-requires c κs = search needs
+put-head-requires : tie.Need-put-head-requires Inv-loop μ-loop
+put-head-requires c κs = search needs
 
 shared-slice-read-put-hex : tie.Need-shared-slice-read-put-hex Inv-loop μ-loop
 shared-slice-read-put-hex c = search needs
@@ -49,13 +49,13 @@ put-hex-requires : tie.Need-put-hex-requires Inv-loop μ-loop
 put-hex-requires c κs = search needs
 
 add-i : tie.Need-add-i Inv-loop μ-loop
-add-i c = omega (arith, (within (c .before .before .before .before .before .before .before .before .before .before .before .before .before)))
+add-i c = omega (arith, (within (c .before .before .before .before .before .before .before .before .before .before)))
 
 loop-less : tie.Need-loop-less Inv-loop μ-loop
-loop-less c = omega (arith, (within (c .before .before .before .before .before .before .before .before .before .before .before .before .before)), (some (c .before .before .before .before .before .before .before .before .before .before .before .before .before)))
+loop-less c = omega (arith, (within (c .before .before .before .before .before .before .before .before .before .before)), (some (c .before .before .before .before .before .before .before .before .before .before)))
 
 loop-again : tie.Need-loop-again Inv-loop μ-loop
-loop-again c = (omega (arith, (within (c .before .before .before .before .before .before .before .before .before .before .before .before .before))), search needs, search needs, search needs)
+loop-again c = (omega (arith, (within (c .before .before .before .before .before .before .before .before .before .before))), search needs, search needs, search needs)
 
 same-length-2 : tie.Need-same-length-2 Inv-loop μ-loop
 same-length-2 c = search needs
@@ -74,8 +74,8 @@ put-bytes-spec =
     returns
     loop-holds
     run-of-bytes-requires
-    put-join-requires
-    put-count-requires
+    joint-requires
+    put-head-requires
     shared-slice-read-put-hex
     put-hex-requires
     add-i

@@ -36,11 +36,11 @@ loop-holds c = search needs
 run-of-numbers-requires : tie.Need-run-of-numbers-requires Inv-loop μ-loop
 run-of-numbers-requires c κs = search needs
 
-put-join-requires : tie.Need-put-join-requires Inv-loop μ-loop
-put-join-requires c κs = search needs
+joint-requires : tie.Need-joint-requires Inv-loop μ-loop
+joint-requires c κs = search needs
 
-put-count-requires : tie.Need-put-count-requires Inv-loop μ-loop
-put-count-requires c κs = search needs
+put-head-requires : tie.Need-put-head-requires Inv-loop μ-loop
+put-head-requires c κs = search needs
 
 mul-put-number : tie.Need-mul-put-number Inv-loop μ-loop
 mul-put-number c = search needs
@@ -52,13 +52,13 @@ put-number-requires : tie.Need-put-number-requires Inv-loop μ-loop
 put-number-requires c κs = search needs
 
 add-i : tie.Need-add-i Inv-loop μ-loop
-add-i c = omega (arith, (within (c .before .before .before .before .before .before .before .before .before .before .before .before .before)))
+add-i c = omega (arith, (within (c .before .before .before .before .before .before .before .before .before .before)))
 
 loop-less : tie.Need-loop-less Inv-loop μ-loop
-loop-less c = omega (arith, (within (c .before .before .before .before .before .before .before .before .before .before .before .before .before)), (some (c .before .before .before .before .before .before .before .before .before .before .before .before .before)))
+loop-less c = omega (arith, (within (c .before .before .before .before .before .before .before .before .before .before)), (some (c .before .before .before .before .before .before .before .before .before .before)))
 
 loop-again : tie.Need-loop-again Inv-loop μ-loop
-loop-again c = (omega (arith, (within (c .before .before .before .before .before .before .before .before .before .before .before .before .before))), search needs, search needs, search needs)
+loop-again c = (omega (arith, (within (c .before .before .before .before .before .before .before .before .before .before))), search needs, search needs, search needs)
 
 same-length-2 : tie.Need-same-length-2 Inv-loop μ-loop
 same-length-2 c = search needs
@@ -77,8 +77,8 @@ put-numbers-spec =
     returns
     loop-holds
     run-of-numbers-requires
-    put-join-requires
-    put-count-requires
+    joint-requires
+    put-head-requires
     mul-put-number
     shared-slice-read-put-number
     put-number-requires

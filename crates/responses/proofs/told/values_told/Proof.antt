@@ -1,12 +1,12 @@
--- `protocol::calls::values_told` meets its contract: case by case.
+-- `responses::told::values_told` meets its contract: case by case.
 -- Assumes nothing.
 use mathlib.Core.Path.{sym, ap}
 use borrow.Author.Needs.{needs}
 use Rattle.array.specs.Answer.{mapAnswer}
 use Rattle.array.specs.Meaning.{told}
-use Rattle.protocol.specs.Told.{onlyValues}
-use Rattle.protocol.proofs.calls.values_told.Statement.{statement}
-use Rattle.protocol.proofs.calls.values_told.Tie as tie
+use Rattle.responses.specs.Told.{onlyValues}
+use Rattle.responses.proofs.told.values_told.Statement.{statement}
+use Rattle.responses.proofs.told.values_told.Tie as tie
 
 enum-known-r : tie.Need-enum-known-r
 enum-known-r c = search needs

@@ -1,12 +1,12 @@
--- `protocol::calls::ragged_told` meets its contract: case by case.
+-- `responses::told::ragged_told` meets its contract: case by case.
 -- Assumes nothing.
 use mathlib.Core.Path.{sym, ap}
 use borrow.Author.Needs.{needs}
 use Rattle.array.specs.Answer.{mapAnswer}
 use Rattle.array.specs.Meaning.{toldRagged}
-use Rattle.protocol.specs.Told.{noMasks}
-use Rattle.protocol.proofs.calls.ragged_told.Statement.{statement}
-use Rattle.protocol.proofs.calls.ragged_told.Tie as tie
+use Rattle.responses.specs.Told.{noMasks}
+use Rattle.responses.proofs.told.ragged_told.Statement.{statement}
+use Rattle.responses.proofs.told.ragged_told.Tie as tie
 
 enum-known-r : tie.Need-enum-known-r
 enum-known-r c = search needs

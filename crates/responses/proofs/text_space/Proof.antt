@@ -1,10 +1,10 @@
--- `protocol::text_space` meets its contract by a law: to count so many elements one by one takes long.
+-- `responses::text_space` meets its contract by a law: to count so many elements one by one takes long.
 -- Assumes nothing.
 use mathlib.Core.Path.{sym}
 use Prim.Native.Nat.{ℕ}
 use lib.ListN.{length-replicate}
-use Rattle.protocol.proofs.text_space.Statement.{statement}
-use Rattle.protocol.proofs.text_space.Tie as tie
+use Rattle.responses.proofs.text_space.Statement.{statement}
+use Rattle.responses.proofs.text_space.Tie as tie
 
 returns : tie.Need-returns
 returns c = sym (length-replicate {A = ℕ} 262144 0)

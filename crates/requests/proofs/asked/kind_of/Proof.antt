@@ -1,4 +1,4 @@
--- `protocol::calls::kind_of` meets its contract: what the numbers say, or what the kind out of range says.
+-- `requests::asked::kind_of` meets its contract: what the numbers say, or what the kind out of range says.
 -- Assumes nothing.
 use mathlib.Core.Path.{refl, sym, ap, subst, _∙_}
 use borrow.Author.Needs.{needs}
@@ -6,9 +6,9 @@ use Rattle.array.specs.declared.kind.KindRead.{KindRead}
 use Rattle.array.specs.Answer.{Answer}
 use Rattle.array.specs.Kind.{Kind}
 use Rattle.array.specs.Numbers.{toldKind}
-use Rattle.protocol.specs.Told.{Asked}
-use Rattle.protocol.proofs.calls.kind_of.Statement.{statement}
-use Rattle.protocol.proofs.calls.kind_of.Tie as tie
+use Rattle.requests.specs.Asked.{Asked}
+use Rattle.requests.proofs.asked.kind_of.Statement.{statement}
+use Rattle.requests.proofs.asked.kind_of.Tie as tie
 
 kind-from-numbers-requires : tie.Need-kind-from-numbers-requires
 kind-from-numbers-requires c κs = search needs

@@ -1,5 +1,4 @@
--- What requests ask for by numbers, and what answers tell: the kind; and the lengths that calls with fewer than three outputs name, as
--- three lengths.
+-- What requests ask for by numbers: the kind.
 -- Assumes nothing.
 use Prim.Native.Nat.{ℕ}
 use mathlib.Core.Path.{_≡_}
@@ -9,16 +8,6 @@ use Rattle.array.specs.Answer.{Answer, gives, refuses}
 use Rattle.array.specs.Kind.{Kind, kindTest}
 use Rattle.array.specs.Meaning.{kindOf}
 use Rattle.array.specs.Numbers.{toldKind}
-use Rattle.array.specs.Buffers.{Lengths, RaggedLengths}
-
-abbrev pub onlyValues : ℕ → Lengths
-onlyValues n = record { masks = 0; values = n; offsets = 0 }
-
-abbrev pub onlyOffsets : ℕ → Lengths
-onlyOffsets n = record { masks = 0; values = 0; offsets = n }
-
-abbrev pub noMasks : RaggedLengths → Lengths
-noMasks n = record { masks = 0; values = n .values; offsets = n .offsets }
 
 -- the refusal e, or a kind that is out of range
 abbrev pub Beyond : declared.KindRead → ℕ → Type 0

@@ -1,10 +1,10 @@
--- `requests::number_at` meets its contract: past the end a list has the default.
+-- `text::scan::number_at` meets its contract: past the end a list has the default.
 -- Assumes nothing.
 use mathlib.Core.Path.{sym}
 use lib.ListN.{List·getD-eq-default}
 use borrow.Author.Needs.{needs}
-use Rattle.requests.proofs.number_at.Statement.{statement}
-use Rattle.requests.proofs.number_at.Tie as tie
+use Rattle.text.proofs.scan.number_at.Statement.{statement}
+use Rattle.text.proofs.scan.number_at.Tie as tie
 
 mul-result : tie.Need-mul-result
 mul-result c = search needs

@@ -1,9 +1,9 @@
--- `protocol::calls::kind_beyond` meets its contract: what the test of the kind says.
+-- `requests::asked::kind_beyond` meets its contract: what the test of the kind says.
 -- Assumes nothing.
 use mathlib.Core.Path.{sym, _∙_}
 use borrow.Author.Needs.{needs}
-use Rattle.protocol.proofs.calls.kind_beyond.Statement.{statement}
-use Rattle.protocol.proofs.calls.kind_beyond.Tie as tie
+use Rattle.requests.proofs.asked.kind_beyond.Statement.{statement}
+use Rattle.requests.proofs.asked.kind_beyond.Tie as tie
 
 returns : tie.Need-returns
 returns c = search needs

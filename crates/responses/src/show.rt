@@ -1,4 +1,4 @@
-// What is written: a title for each table, then a line for its outcome and for each cut.
+// Answers and lists written to standard output.
 use array::answer::WrittenArray;
 use libc::STDOUT_FILENO;
 use text::print;
@@ -18,24 +18,21 @@ pub fn write_text(text: &[u8]) {
     io::write_all(STDOUT_FILENO, text);
 }
 
+pub fn write_line(line: &[u8]) {
+    write_text(line);
+    write_text(b"\n");
+}
+
 fn write_bytes(s: &[u8]) {
     let mut text = text_space();
     let n = print::put_bytes(&mut text, 0, s);
     write_text(part_of_bytes(&text, 0, n));
 }
 
-fn write_numbers(s: &[u64]) {
+pub fn write_numbers(s: &[u64]) {
     let mut text = text_space();
     let n = print::put_numbers(&mut text, 0, s);
     write_text(part_of_bytes(&text, 0, n));
-}
-
-// The number of a table and the numbers of its kind.
-pub fn write_title(number: u64, kind: &[u64]) {
-    io::print_decimal(STDOUT_FILENO, number);
-    write_text(b": kind ");
-    write_numbers(kind);
-    write_text(b"\n");
 }
 
 pub fn write_lists(masks: &[u8], values: &[u8], offsets: &[u64]) {
@@ -47,9 +44,13 @@ pub fn write_lists(masks: &[u8], values: &[u8], offsets: &[u64]) {
     write_text(b"\n");
 }
 
+pub fn write_number(n: u64) {
+    io::print_decimal(STDOUT_FILENO, n);
+}
+
 pub fn write_refusal(e: u8) {
     write_text(b"refused ");
-    io::print_decimal(STDOUT_FILENO, e as u64);
+    write_number(e as u64);
     write_text(b"\n");
 }
 
@@ -65,6 +66,15 @@ pub fn write_answer(answer: WrittenArray, masks: &[u8], values: &[u8], offsets: 
     }
 }
 
+// The number of a table and the numbers of its kind.
+pub fn write_title(number: u64, kind: &[u64]) {
+    write_number(number);
+    write_text(b": kind ");
+    write_numbers(kind);
+    write_text(b"\n");
+}
+
+// What a cut is of.
 pub fn write_cut(subset: &[u64]) {
     write_text(b"cut ");
     write_numbers(subset);
