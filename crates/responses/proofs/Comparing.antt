@@ -10,7 +10,7 @@ use lib.ListN.{length, drop, getD, drop-of-length-le}
 use lib.Dec.{eqb}
 use borrow.Author.Tests.{eq-eqb, ne-eqb}
 use Rattle.array.specs.Lists.{every}
-use Rattle.text.proofs.Scanning.{next-of}
+use Rattle.print.proofs.Showing.{next-of}
 use Rattle.responses.specs.Kept.{equal}
 
 -- ---- outputs as they were lent

@@ -6,14 +6,13 @@ pub mod told;
 
 use crate::lent::Rooms;
 use array::answer::WrittenArray;
-use text::print;
 use text::scan::number_at;
 use text::scan::part_of_bytes;
 use text::scan::part_of_numbers;
 ghost use mathlib.Core.Path.{_≡_};
 ghost use Prim.Native.Nat.{_≤_};
 ghost use lib.ListN.{length};
-ghost use Rattle.text.specs.Scan.{Onward};
+ghost use Rattle.print.specs.Print.{Onward};
 
 // The outputs that a call has: from masks, values and offsets, which are 0 to 2, those from `first` on before `end`.
 pub struct Outputs {

@@ -1,7 +1,6 @@
 // Answers and lists written to standard output.
 use array::answer::WrittenArray;
 use libc::STDOUT_FILENO;
-use text::print;
 use text::scan::part_of_bytes;
 use text::scan::part_of_numbers;
 ghost use mathlib.Core.Path.{_≡_};

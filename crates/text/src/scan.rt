@@ -5,7 +5,8 @@ ghost use mathlib.Core.Path.{_≡_};
 ghost use Prim.Native.Nat.{_+_, _≤_};
 ghost use lib.ListN.{length, drop, getD, replicate};
 ghost use Rattle.array.specs.Buffers.{overAt};
-ghost use Rattle.text.specs.Scan.{digitOf, nextNumber, numberOf, octetOf, before, between, Onward, Fills};
+ghost use Rattle.print.specs.Print.{Onward};
+ghost use Rattle.text.specs.Scan.{digitOf, nextNumber, numberOf, octetOf, before, between, Fills};
 
 // A number that the text says, or none.
 pub enum Number {

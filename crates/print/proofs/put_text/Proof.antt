@@ -1,11 +1,11 @@
--- `text::print::put_text` meets its contract: the invariant keeps the place within the text.
+-- `print::put_text` meets its contract: the invariant keeps the place within the text.
 -- Assumes nothing.
 use Prim.Native.Nat.{_≤_, _-_}
 use mathlib.Core.Path.{_≡_}
 use lib.ListN.{length}
 use borrow.Author.Needs.{needs}
-use Rattle.text.proofs.print.put_text.Statement.{statement}
-use Rattle.text.proofs.print.put_text.Tie as tie
+use Rattle.print.proofs.put_text.Statement.{statement}
+use Rattle.print.proofs.put_text.Tie as tie
 
 abbrev Inv-loop : tie.InvT-loop
 Inv-loop text₀ at s to₀ i₀ text to i = (i ≤ length s) × (length text ≡ length text₀) × (at ≤ to) × (to ≤ length text₀)

@@ -2,8 +2,7 @@
 ghost use mathlib.Core.Path.{_≡_};
 ghost use Prim.Native.Nat.{_≤_, _<_};
 ghost use lib.ListN.{length, drop, set};
-ghost use Rattle.text.specs.Scan.{Onward};
-ghost use Rattle.text.specs.Print.{glyphOf, shownOf, partOf};
+ghost use Rattle.print.specs.Print.{Onward, glyphOf, shownOf, partOf};
 
 // From so many equal ones on a list shows a run.
 const LONG_RUN: usize = 5;

@@ -1,9 +1,9 @@
--- `text::print::shown` meets its contract: the test says which case it is.
+-- `print::shown` meets its contract: the test says which case it is.
 -- Assumes nothing.
 use borrow.Author.Tests.{lt-ltb, le-ltb}
-use Rattle.text.specs.Print.{shownOf}
-use Rattle.text.proofs.print.shown.Statement.{statement}
-use Rattle.text.proofs.print.shown.Tie as tie
+use Rattle.print.specs.Print.{shownOf}
+use Rattle.print.proofs.shown.Statement.{statement}
+use Rattle.print.proofs.shown.Tie as tie
 
 returns : tie.Need-returns
 unfolding shownOf

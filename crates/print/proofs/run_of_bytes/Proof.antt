@@ -1,12 +1,12 @@
--- `text::print::run_of_bytes` meets its contract: by the laws of a run (proofs/Showing).
+-- `print::run_of_bytes` meets its contract: by the laws of a run (proofs/Showing).
 -- Assumes nothing.
 use Prim.Native.Nat.{_-_}
 use mathlib.Core.Path.{_∙_}
 use lib.ListN.{length}
 use borrow.Author.Needs.{needs}
-use Rattle.text.proofs.Showing.{Running, run-begins, run-goes-on, run-shown, run-cut}
-use Rattle.text.proofs.print.run_of_bytes.Statement.{statement}
-use Rattle.text.proofs.print.run_of_bytes.Tie as tie
+use Rattle.print.proofs.Showing.{Running, run-begins, run-goes-on, run-shown, run-cut}
+use Rattle.print.proofs.run_of_bytes.Statement.{statement}
+use Rattle.print.proofs.run_of_bytes.Tie as tie
 
 abbrev Inv-loop : tie.InvT-loop
 Inv-loop s at i₀ i = Running s at i

@@ -1,11 +1,11 @@
--- `text::print::put_byte` meets its contract: past the end a store changes nothing.
+-- `print::put_byte` meets its contract: past the end a store changes nothing.
 -- Assumes nothing.
 use mathlib.Core.Path.{sym}
 use native.Mathlib.Omega.{arith}
 use lib.Seq.{set-out}
 use borrow.Author.Needs.{needs}
-use Rattle.text.proofs.print.put_byte.Statement.{statement}
-use Rattle.text.proofs.print.put_byte.Tie as tie
+use Rattle.print.proofs.put_byte.Statement.{statement}
+use Rattle.print.proofs.put_byte.Tie as tie
 
 slice-write-text : tie.Need-slice-write-text
 slice-write-text c = search needs

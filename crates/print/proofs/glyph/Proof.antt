@@ -1,10 +1,10 @@
--- `text::print::glyph` meets its contract: the test says which digits it is.
+-- `print::glyph` meets its contract: the test says which digits it is.
 -- Assumes nothing.
 use borrow.Author.Tests.{lt-ltb, le-ltb}
 use borrow.Author.Needs.{needs}
-use Rattle.text.specs.Print.{glyphOf}
-use Rattle.text.proofs.print.glyph.Statement.{statement}
-use Rattle.text.proofs.print.glyph.Tie as tie
+use Rattle.print.specs.Print.{glyphOf}
+use Rattle.print.proofs.glyph.Statement.{statement}
+use Rattle.print.proofs.glyph.Tie as tie
 
 add-result : tie.Need-add-result
 add-result c = search needs

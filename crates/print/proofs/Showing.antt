@@ -1,19 +1,22 @@
 -- Lists shown part by part.
 -- Assumes nothing.
-use mathlib.Core.Path.{_≡_, refl, ap, _∙_}
+use mathlib.Core.Path.{_≡_, refl, sym, ap, _∙_}
 use mathlib.Core.Logic.{_≢_}
-use mathlib.Core.Bool.{Bool, true, false}
+use mathlib.Core.Bool.{Bool, true, false, cond}
 use mathlib.Core.List.{List, [], _∷_}
 use Prim.Native.Nat.{ℕ, zero, suc, _+_, _-_, _≤_, _<_}
 use native.Mathlib.Nat.{add-zero}
+use native.Mathlib.Numerals.{add-one}
 use native.Mathlib.Omega.{arith}
 use lib.ListN.{length, drop, getD, drop-of-length-le, length-drop}
-use lib.Seq.{getD-drop}
+use lib.Seq.{getD-drop, drop-cons}
 use lib.Dec.{ltb, eqb}
 use borrow.Author.Tests.{eq-eqb, ne-eqb}
-use Rattle.array.specs.Lists.{pick}
-use Rattle.text.specs.Print.{runOf, shownOf, partOf}
-use Rattle.text.proofs.Scanning.{next-of}
+use Rattle.print.specs.Print.{runOf, shownOf, partOf}
+
+-- the next element, and those behind it
+pub next-of : (xs : List ℕ) (i : ℕ) → i < length xs → drop i xs ≡ getD xs i 0 ∷ drop (i + 1) xs
+next-of xs i h = drop-cons xs i 0 h ∙ ap (λ (j : ℕ). getD xs i 0 ∷ drop j xs) (sym (add-one i))
 
 -- ---- runs
 
@@ -22,7 +25,7 @@ unfolding runOf
 run-within x [] = omega arith
 run-within x (y ∷ ys) = picked (eqb y x) (run-within x ys)
   where
-    picked : (t : Bool) → runOf x ys ≤ length ys → pick t (suc (runOf x ys)) zero ≤ suc (length ys)
+    picked : (t : Bool) → runOf x ys ≤ length ys → cond t (suc (runOf x ys)) zero ≤ suc (length ys)
     picked true h = omega arith
     picked false h = omega arith
 
@@ -76,7 +79,7 @@ shown-within : (n : ℕ) → 1 ≤ n → shownOf n ≤ n
 unfolding shownOf
 shown-within n h = picked (ltb n 5)
   where
-    picked : (t : Bool) → pick t 1 n ≤ n
+    picked : (t : Bool) → cond t 1 n ≤ n
     picked true = h
     picked false = omega arith
 
@@ -84,7 +87,7 @@ shown-some : (n : ℕ) → 1 ≤ n → 1 ≤ shownOf n
 unfolding shownOf
 shown-some n h = picked (ltb n 5)
   where
-    picked : (t : Bool) → 1 ≤ pick t 1 n
+    picked : (t : Bool) → 1 ≤ cond t 1 n
     picked true = omega arith
     picked false = h
 
