@@ -45,9 +45,9 @@ pub fn fill_numbers(out: &mut [u64], to: usize, k: usize, v: u64)
     requires { ⌜ to + k ≤ length (now out) ⌝ }
     ensures { λ _. ⌜ now (out .exit) ≡ overAt to (replicate k v) (now (out .entry)) ⌝ }
 {
-    let mut n = 0;
-    while n < k {
-        out[to + n] = v;
-        n += 1;
+    let mut m = 0;
+    while m < k {
+        out[to + m] = v;
+        m += 1;
     }
 }

@@ -1,4 +1,5 @@
-// Requests as lines of text, answered by the library's calls: for programs that show what the calls do, or compare it.
+// Requests from standard input, one a line, answered by the library's calls, one answer a line: for programs that show what the calls
+// do, or compare it.
 //
 //     e KIND SHAPE MASKS VALUES OFFSETS ROOM            encode
 //     d KIND SHAPE BYTES ROOMS                          decode
@@ -14,41 +15,106 @@
 // and plain parts. KIND is depth,form,size,order; form 0 is fixed and 1 ragged. ROOMS are the lengths of the outputs to lend.
 // An answer is `refused N`, or `ok LENGTHS: LISTS` with the outputs up to those lengths, masks before values before offsets.
 // Outputs are filled with EE beforehand; `spoilt` says that a byte beyond the lengths, or any after a refusal, has changed.
-pub mod calls;
-pub mod request;
-pub mod respond;
+mod calls;
 
-use crate::request::Line;
-use crate::request::Parsed;
-use text::print;
+use libc::STDIN_FILENO;
+use requests::Parsed;
+use requests::Request;
+use responses::lent;
+use responses::show;
+use text::scan;
+use text::scan::part_of_bytes;
+use text::scan::part_of_numbers;
+ghost use mathlib.Core.Path.{_≡_};
 ghost use lib.ListN.{length};
-ghost use Rattle.text.specs.Scan.{Onward};
 
-// Writes the answer to a line into `text` and says where it ends. Numbers and bytes of the request are read into the two outputs
-// behind the line; the next three are lent to the call.
-pub fn answer(
-    line: &[u8],
-    numbers: &mut [u64],
-    bytes: &mut [u8],
+// Room for all requests.
+fn input_space() -> [u8; 524288]
+    ensures { λ r. ⌜ 524288 ≡ length r ⌝ }
+{
+    [0; 524288]
+}
+
+// Room for 65,536 cells of one byte with four mask levels, stored.
+fn byte_space() -> [u8; 393216]
+    ensures { λ r. ⌜ 393216 ≡ length r ⌝ }
+{
+    [0; 393216]
+}
+
+// Room for the offsets of 65,536 cells, and for what else a request has in numbers.
+fn number_space() -> [u64; 66560]
+    ensures { λ r. ⌜ 66560 ≡ length r ⌝ }
+{
+    [0; 66560]
+}
+
+// Lends the outputs, makes the call, and writes its answer.
+fn run_call(
+    letter: u8,
+    q: Request,
+    numbers: &[u64],
+    bytes: &[u8],
     masks: &mut [u8],
     values: &mut [u8],
     offsets: &mut [u64],
-    text: &mut [u8],
-) -> usize
-    ensures { λ r. ⌜ Onward 0 r (length (now (text .entry))) ⌝ }
-{
-    if line.len() == 0 {
-        return respond::bad_line(text);
+) {
+    let content = part_of_bytes(bytes, q.values, q.bytes);
+    lent::lend(letter == b'r', content, masks, values, offsets);
+    let answer = calls::run(letter, q, numbers, bytes, masks, values, offsets);
+    responses::write_answer(letter, answer, content, masks, values, offsets);
+}
+
+fn respond(letter: u8, q: Request, numbers: &[u64], bytes: &[u8]) {
+    let rooms = part_of_numbers(numbers, q.rooms, q.numbers);
+    let content = part_of_bytes(bytes, q.values, q.bytes);
+    let rooms = responses::rooms_of(letter, rooms, content.len(), 393216, 393216, 66560);
+    if !rooms.named {
+        return show::write_line(b"bad line");
     }
-    let letter = line[0];
+    let m = rooms.masks;
+    let v = rooms.values;
+    let o = rooms.offsets;
+    let mut masks = byte_space();
+    let mut values = byte_space();
+    let mut offsets = number_space();
+    run_call(
+        letter,
+        q,
+        numbers,
+        bytes,
+        &mut masks[0..m],
+        &mut values[0..v],
+        &mut offsets[0..o],
+    );
+}
+
+// Answers one line.
+fn answer_line(line: &[u8]) {
+    let letter = requests::letter_of(line);
     if letter == b'#' {
-        return print::put_text(text, 0, line);
+        return show::write_line(line);
     }
-    let Line::Request(f) = request::line_of(letter) else {
-        return respond::bad_line(text);
+    let mut numbers = number_space();
+    let mut bytes = byte_space();
+    let Parsed::Request(q) = requests::read_line(letter, line, &mut numbers, &mut bytes) else {
+        return show::write_line(b"bad line");
     };
-    let Parsed::Request(q) = request::parse(line, f, numbers, bytes) else {
-        return respond::bad_line(text);
-    };
-    respond::respond(letter, f, q, numbers, bytes, masks, values, offsets, text)
+    respond(letter, q, &numbers, &bytes);
+}
+
+fn answer_all(input: &[u8]) {
+    let mut at = 0;
+    while at < input.len() {
+        let end = scan::find(input, at, b'\n', b'\n');
+        answer_line(&input[at..end]);
+        at = end + 1;
+    }
+}
+
+// Answers all of standard input.
+pub fn answer_input() {
+    let mut input = input_space();
+    let n = io::read_full(STDIN_FILENO, &mut input);
+    answer_all(&input[..n]);
 }

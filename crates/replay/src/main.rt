@@ -1,4 +1,4 @@
 // The Rust's recorded answers and the published vectors, held to the proved calls. oracle/data/replay.py makes stdin and stdout.
 fn main() {
-    answers::answer_input();
+    protocol::answer_input();
 }

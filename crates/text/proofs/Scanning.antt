@@ -4,18 +4,15 @@ use mathlib.Core.Path.{_≡_, refl, sym, ap, subst, _∙_}
 use mathlib.Core.Logic.{_≢_}
 use mathlib.Core.List.{List, [], _∷_}
 use Prim.Native.Nat.{ℕ, suc, _+_, _-_, _*_, _/_, _^_, _≤_, _<_}
-use native.Mathlib.Numerals.{add-one}
 use native.Mathlib.Omega.{arith}
 use lib.ListN.{length, drop, getD, drop-of-length-le}
-use lib.Seq.{drop-cons}
 use borrow.Author.Tests.{lt-ltb, le-ltb, le-leb, lt-leb, eq-eqb, ne-eqb}
 use Rattle.text.specs.declared.scan.Number.{Number}
 use Rattle.text.specs.declared.scan.Octet.{Octet}
 use Rattle.text.specs.declared.scan.Filled.{Filled}
-use Rattle.text.specs.Scan.{digitOf, nextNumber, goOn, numberFrom, numberOf, octetOf, before, Onward, Fills}
-
-pub next-of : (xs : List ℕ) (i : ℕ) → i < length xs → drop i xs ≡ getD xs i 0 ∷ drop (i + 1) xs
-next-of xs i h = drop-cons xs i 0 h ∙ ap (λ (j : ℕ). getD xs i 0 ∷ drop j xs) (sym (add-one i))
+use Rattle.text.specs.Scan.{digitOf, nextNumber, goOn, numberFrom, numberOf, octetOf, before, Fills}
+use Rattle.print.specs.Print.{Onward}
+use Rattle.print.proofs.Showing.{next-of}
 
 -- ---- numbers
 

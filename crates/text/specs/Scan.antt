@@ -6,6 +6,7 @@ use mathlib.Core.List.{List, [], _∷_}
 use lib.ListN.{length, take, drop}
 use lib.Dec.{leb, ltb, eqb}
 use Rattle.array.specs.Lists.{pick}
+use Rattle.print.specs.Print.{Onward}
 use Rattle.text.specs.declared.scan.Number.{Number}
 use Rattle.text.specs.declared.scan.Octet.{Octet}
 use Rattle.text.specs.declared.scan.Filled.{Filled}
@@ -43,11 +44,6 @@ before a b (c ∷ cs) = pick (eqb c a) [] (pick (eqb c b) [] (c ∷ before a b c
 -- the elements between two places; none where these are no places of the list
 unfoldable pub between : ℕ → ℕ → List ℕ → List ℕ
 between from to s = pick (leb from to) (pick (leb to (length s)) (take (to - from) (drop from s)) []) []
-
--- a place that is not behind `from`, nor past the end
-pub record Onward (from to end : ℕ) : Type 0 where
-  pub on : from ≤ to
-  pub within : to ≤ end
 
 abbrev pub Fills : Filled → ℕ → ℕ → Type 0
 Fills (Filled.To n) from room = Onward from n room

@@ -1,3 +1,2 @@
-// Lists of numbers and of bytes as text, for programs: read from it, and written into it.
-pub mod print;
+// Lists of numbers and of bytes read from text, for programs.
 pub mod scan;

@@ -3,9 +3,9 @@
 use buffer::copy;
 ghost use mathlib.Core.Path.{_≡_};
 ghost use Prim.Native.Nat.{_+_, _≤_};
-ghost use lib.ListN.{length, drop, replicate};
-ghost use Rattle.array.specs.Buffers.{overAt};
-ghost use Rattle.text.specs.Scan.{digitOf, nextNumber, numberOf, octetOf, before, between, Onward, Fills};
+ghost use lib.ListN.{length, drop, getD};
+ghost use Rattle.print.specs.Print.{Onward};
+ghost use Rattle.text.specs.Scan.{digitOf, nextNumber, numberOf, octetOf, before, between, Fills};
 
 // A number that the text says, or none.
 pub enum Number {
@@ -110,16 +110,15 @@ pub fn find(text: &[u8], at: usize, a: u8, b: u8) -> usize
     i
 }
 
-// Writes the number v, k times, from the place `to` on.
-pub fn fill_numbers(out: &mut [u64], to: usize, k: usize, v: u64)
-    requires { ⌜ to + k ≤ length (now out) ⌝ }
-    ensures { λ _. ⌜ now (out .exit) ≡ overAt to (replicate k v) (now (out .entry)) ⌝ }
-{
-    let mut n = 0;
-    while n < k {
-        out[to + n] = v;
-        n += 1;
+// The byte that the two digits from `at` on say.
+fn octet_at(text: &[u8], at: usize) -> Octet {
+    if at >= text.len() {
+        return Octet::Bad;
     }
+    if text.len() - at < 2 {
+        return Octet::Bad;
+    }
+    read_octet(digit(text[at]), digit(text[at + 1]))
 }
 
 // Pairs of digits, appended to what lies below `from`.
@@ -139,7 +138,7 @@ fn hex_part(part: &[u8], out: &mut [u8], from: usize) -> Filled
     }
     let mut i = 0;
     while i < n {
-        let Octet::Value(b) = read_octet(digit(part[2 * i]), digit(part[2 * i + 1])) else {
+        let Octet::Value(b) = octet_at(part, 2 * i) else {
             return Filled::Bad;
         };
         out[from + i] = b;
@@ -148,55 +147,72 @@ fn hex_part(part: &[u8], out: &mut [u8], from: usize) -> Filled
     Filled::To(from + n)
 }
 
-// A run of a byte, COUNT*HH with its star at `star`.
-fn byte_run(part: &[u8], star: usize, out: &mut [u8], from: usize) -> Filled
-    requires { ⌜ (star ≤ length (now part)) × (from ≤ length (now out)) ⌝ }
+// How often a part says its element, and where the element begins.
+pub struct Run {
+    pub count: u64,
+    pub begin: usize,
+}
+
+// More than any list has room for: the count of a part that says no number.
+const TOO_MANY: u64 = 18446744073709551615;
+
+// Of a part COUNT*X, or of an X alone, which begins at 0.
+fn run_of(part: &[u8]) -> Run {
+    let star = find(part, 0, b'*', b'*');
+    if star == part.len() {
+        return Run { count: 1, begin: 0 };
+    }
+    let begin = star + 1;
+    match read_number(&part[0..star]) {
+        Number::Value(count) => Run { count, begin },
+        Number::Bad => Run {
+            count: TOO_MANY,
+            begin,
+        },
+    }
+}
+
+// The byte of two digits, k times.
+fn byte_run(digits: &[u8], k: u64, out: &mut [u8], from: usize) -> Filled
+    requires { ⌜ from ≤ length (now out) ⌝ }
     ensures { λ r. ⌜ Fills r from (length (now (out .entry))) ⌝ }
 {
-    if part.len() - star != 3 {
+    if digits.len() != 2 {
         return Filled::Bad;
     }
-    let Number::Value(count) = read_number(&part[0..star]) else {
+    let Octet::Value(b) = octet_at(digits, 0) else {
         return Filled::Bad;
     };
-    let Octet::Value(b) = read_octet(digit(part[star + 1]), digit(part[star + 2])) else {
-        return Filled::Bad;
-    };
-    let room = out.len() - from;
-    if count > room as u64 {
+    if k > (out.len() - from) as u64 {
         return Filled::Bad;
     }
-    let k = count as usize;
-    copy::fill_bytes(out, from, k, b);
-    Filled::To(from + k)
+    let n = k as usize;
+    copy::fill_bytes(out, from, n, b);
+    Filled::To(from + n)
 }
 
 fn byte_part(part: &[u8], out: &mut [u8], from: usize) -> Filled
     requires { ⌜ from ≤ length (now out) ⌝ }
     ensures { λ r. ⌜ Fills r from (length (now (out .entry))) ⌝ }
 {
-    let star = find(part, 0, b'*', b'*');
-    if star < part.len() {
-        byte_run(part, star, out, from)
-    } else {
-        hex_part(part, out, from)
+    let run = run_of(part);
+    if run.begin == 0 {
+        return hex_part(part, out, from);
     }
+    let digits = part_of_bytes(part, run.begin, part.len());
+    byte_run(digits, run.count, out, from)
 }
 
 // A number, k times.
-fn number_run(part: &[u8], k: u64, out: &mut [u64], from: usize) -> Filled
+fn number_run(v: u64, k: u64, out: &mut [u64], from: usize) -> Filled
     requires { ⌜ from ≤ length (now out) ⌝ }
     ensures { λ r. ⌜ Fills r from (length (now (out .entry))) ⌝ }
 {
-    let Number::Value(v) = read_number(part) else {
-        return Filled::Bad;
-    };
-    let room = out.len() - from;
-    if k > room as u64 {
+    if k > (out.len() - from) as u64 {
         return Filled::Bad;
     }
     let n = k as usize;
-    fill_numbers(out, from, n, v);
+    copy::fill_numbers(out, from, n, v);
     Filled::To(from + n)
 }
 
@@ -204,15 +220,11 @@ fn number_part(part: &[u8], out: &mut [u64], from: usize) -> Filled
     requires { ⌜ from ≤ length (now out) ⌝ }
     ensures { λ r. ⌜ Fills r from (length (now (out .entry))) ⌝ }
 {
-    let star = find(part, 0, b'*', b'*');
-    if star == part.len() {
-        return number_run(part, 1, out, from);
-    }
-    let Number::Value(k) = read_number(&part[0..star]) else {
+    let run = run_of(part);
+    let Number::Value(v) = read_number(part_of_bytes(part, run.begin, part.len())) else {
         return Filled::Bad;
     };
-    let behind = star + 1;
-    number_run(&part[behind..], k, out, from)
+    number_run(v, run.count, out, from)
 }
 
 // Whether the text is the empty list's.
@@ -285,4 +297,14 @@ pub fn part_of_numbers(s: &[u64], from: usize, to: usize) -> &[u64]
         return &s[..0];
     }
     &s[from..to]
+}
+
+// A number of a list; 0 where the list is shorter.
+pub fn number_at(s: &[u64], i: usize) -> u64
+    ensures { λ r. ⌜ r ≡ getD (now (s .entry)) i 0 ⌝ }
+{
+    if i < s.len() {
+        return s[i];
+    }
+    0
 }

@@ -1,4 +1,4 @@
 // The directed vectors: document 01's lines, each refusal, each pair of them, each thing that is kept.
 fn main() {
-    answers::answer_input();
+    protocol::answer_input();
 }

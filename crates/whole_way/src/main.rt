@@ -4,13 +4,13 @@
 //     w KIND SHAPE SUBSETS MASKS VALUES OFFSETS; CUTS
 //     # a comment is printed as it is
 //
-// The lists are those of crate protocol. SUBSETS cover the table, CUTS are cut from the outcome; either is a list of subsets, all
+// The lists are those of crate requests. SUBSETS cover the table, CUTS are cut from the outcome; either is a list of subsets, all
 // starts and then all lengths of each.
-mod show;
 mod table;
 mod way;
 
 use libc::STDIN_FILENO;
+use responses::show;
 use std::num;
 use text::scan;
 ghost use lib.ListN.{length};
@@ -29,8 +29,7 @@ fn run_line(number: u64, line: &[u8]) -> u64 {
         return number;
     }
     if line[0] == b'#' {
-        show::write_text(line);
-        show::write_text(b"\n");
+        show::write_line(line);
         return number;
     }
     let next = num::wrapping_add_u64(number, 1);

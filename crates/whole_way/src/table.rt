@@ -1,33 +1,16 @@
 // A table as a line of text, and what is run on it.
-use crate::show;
 use crate::way;
+use crate::way::Reach;
 use array::answer::WrittenArray;
-use array::kind;
 use array::kind::Kind;
-use protocol::calls::number_at;
-use protocol::request;
-use protocol::request::Fields;
-use protocol::request::Parsed;
-use text::scan;
+use requests::Parsed;
+use requests::Request;
+use requests::asked::head_kind;
+use responses::show;
 use text::scan::part_of_bytes;
 use text::scan::part_of_numbers;
 use valid::numbers::KindRead;
-
-// The lists of a table before the semicolon; behind it the one list of cuts.
-fn fields(table: bool) -> Fields {
-    Fields {
-        head: if table { 4 } else { 0 },
-        shape: table,
-        subset: true,
-        masks: table,
-        values: table,
-        offsets: table,
-        rooms: 0,
-        out_masks: true,
-        out_values: true,
-        out_offsets: true,
-    }
-}
+use valid::numbers::KindRead;
 
 // Cuts a subset from an outcome.
 fn cut(kind: Kind, shape: &[u64], subset: &[u64], masks: &[u8], values: &[u8], offsets: &[u64]) {
@@ -45,7 +28,8 @@ fn cut(kind: Kind, shape: &[u64], subset: &[u64], masks: &[u8], values: &[u8], o
         &mut cut_values,
         &mut cut_offsets,
     );
-    show::write_cut(subset, answer, &cut_masks, &cut_values, &cut_offsets);
+    show::write_cut(subset);
+    show::write_answer(answer, &cut_masks, &cut_values, &cut_offsets);
 }
 
 // Cuts each subset of a list from it.
@@ -76,22 +60,21 @@ fn show_outcome(
     values: &[u8],
     offsets: &[u64],
 ) {
-    show::write_outcome(answer, masks, values, offsets);
+    show::write_text(b"outcome: ");
     match answer {
-        WrittenArray::Refused(_) => {}
-        WrittenArray::Lengths(m, v, o) => cut_each(
-            kind,
-            shape,
-            cuts,
-            part_of_bytes(masks, 0, m),
-            part_of_bytes(values, 0, v),
-            part_of_numbers(offsets, 0, o),
-        ),
+        WrittenArray::Refused(e) => show::write_refusal(e),
+        WrittenArray::Lengths(m, v, o) => {
+            let masks = part_of_bytes(masks, 0, m);
+            let values = part_of_bytes(values, 0, v);
+            let offsets = part_of_numbers(offsets, 0, o);
+            show::write_lists(masks, values, offsets);
+            cut_each(kind, shape, cuts, masks, values, offsets);
+        }
     }
 }
 
-// The whole way of a table, and the cuts from its outcome.
-fn run_way(
+// All that was read, merged, and the cuts from the outcome.
+fn run_merge(
     kind: Kind,
     shape: &[u64],
     subsets: &[u64],
@@ -103,7 +86,7 @@ fn run_way(
     let mut out_masks = way::mask_space();
     let mut out_values = way::byte_space();
     let mut out_offsets = way::number_space();
-    let answer = way::whole_way(
+    let answer = merge::merge(
         kind,
         shape,
         subsets,
@@ -125,21 +108,10 @@ fn run_way(
     );
 }
 
-// The kind that the head says.
-fn head_kind(head: &[u64]) -> KindRead {
-    kind::kind_from_numbers(
-        number_at(head, 0),
-        number_at(head, 1),
-        number_at(head, 2),
-        number_at(head, 3),
-        0,
-    )
-}
-
-// The same behind the table's title.
-fn run_titled(
-    number: u64,
-    head: &[u64],
+// The same, where every chunk could be read.
+fn run_chunks(
+    reach: Reach,
+    kind: Kind,
     shape: &[u64],
     subsets: &[u64],
     masks: &[u8],
@@ -147,47 +119,81 @@ fn run_titled(
     offsets: &[u64],
     cuts: &[u64],
 ) {
+    if reach.refusal != 0 {
+        show::write_text(b"outcome: ");
+        return show::write_refusal(reach.refusal);
+    }
+    run_merge(
+        kind,
+        shape,
+        subsets,
+        part_of_bytes(masks, 0, reach.masks),
+        part_of_bytes(values, 0, reach.values),
+        part_of_numbers(offsets, 0, reach.offsets),
+        cuts,
+    );
+}
+
+// The whole way of a table, and the cuts from its outcome.
+fn run_way(
+    kind: Kind,
+    shape: &[u64],
+    subsets: &[u64],
+    masks: &[u8],
+    values: &[u8],
+    offsets: &[u64],
+    cuts: &[u64],
+) {
+    let mut chunk_masks = way::mask_space();
+    let mut chunk_values = way::byte_space();
+    let mut chunk_offsets = way::number_space();
+    let reach = way::read_chunks(
+        kind,
+        shape,
+        subsets,
+        masks,
+        values,
+        offsets,
+        &mut chunk_masks,
+        &mut chunk_values,
+        &mut chunk_offsets,
+    );
+    run_chunks(
+        reach,
+        kind,
+        shape,
+        subsets,
+        &chunk_masks,
+        &chunk_values,
+        &chunk_offsets,
+        cuts,
+    );
+}
+
+// The same behind the table's title.
+fn run_titled(number: u64, t: Request, numbers: &[u64], bytes: &[u8]) {
+    let head = part_of_numbers(numbers, 0, t.shape);
     show::write_title(number, head);
     match head_kind(head) {
         KindRead::Refused(_) => show::write_text(b"bad kind\n"),
-        KindRead::Kind(kind) => run_way(kind, shape, subsets, masks, values, offsets, cuts),
+        KindRead::Kind(kind) => run_way(
+            kind,
+            part_of_numbers(numbers, t.shape, t.subset),
+            part_of_numbers(numbers, t.subset, t.offsets),
+            part_of_bytes(bytes, 0, t.values),
+            part_of_bytes(bytes, t.values, t.bytes),
+            part_of_numbers(numbers, t.offsets, t.rooms),
+            part_of_numbers(numbers, t.rooms, t.numbers),
+        ),
     }
-}
-
-// The same, where both parts of its line could be read.
-fn run_parsed(
-    number: u64,
-    table: Parsed,
-    list: Parsed,
-    numbers: &[u64],
-    bytes: &[u8],
-    cuts: &[u64],
-) {
-    let Parsed::Request(t) = table else {
-        return show::write_text(b"bad line\n");
-    };
-    let Parsed::Request(c) = list else {
-        return show::write_text(b"bad line\n");
-    };
-    run_titled(
-        number,
-        part_of_numbers(numbers, 0, t.shape),
-        part_of_numbers(numbers, t.shape, t.subset),
-        part_of_numbers(numbers, t.subset, t.offsets),
-        part_of_bytes(bytes, 0, t.values),
-        part_of_bytes(bytes, t.values, t.bytes),
-        part_of_numbers(numbers, t.offsets, t.rooms),
-        part_of_numbers(cuts, c.subset, c.offsets),
-    )
 }
 
 // Reads the table of a line, and runs the whole way of it.
 pub fn run_table(number: u64, line: &[u8]) {
     let mut numbers = way::number_space();
     let mut bytes = way::byte_space();
-    let mut cuts = way::number_space();
-    let end = scan::find(line, 0, b';', b';');
-    let table = request::parse(&line[0..end], fields(true), &mut numbers, &mut bytes);
-    let list = request::parse(&line[end..], fields(false), &mut cuts, &mut bytes);
-    run_parsed(number, table, list, &numbers, &bytes, &cuts);
+    let Parsed::Request(t) = requests::read_table(line, &mut numbers, &mut bytes) else {
+        return show::write_text(b"bad line\n");
+    };
+    run_titled(number, t, &numbers, &bytes);
 }

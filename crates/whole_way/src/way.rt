@@ -3,13 +3,12 @@
 use array::answer::Written;
 use array::answer::WrittenArray;
 use array::kind::Kind;
-use array::refusal;
 use std::num;
 use text::scan::part_of_bytes;
 use text::scan::part_of_numbers;
 ghost use lib.ListN.{length};
 ghost use mathlib.Core.Path.{_≡_};
-ghost use Prim.Native.Nat.{_≤_};
+ghost use Prim.Native.Nat.{_≤_, min};
 
 // Room for the values of a table, or for a stored cut.
 pub fn byte_space() -> [u8; 8192]
@@ -32,92 +31,39 @@ pub fn number_space() -> [u64; 1024]
     [17216961135462248174; 1024]
 }
 
-// Exactly the bytes written, read back.
-fn read_stored(
-    written: Written,
-    kind: Kind,
-    shape: &[u64],
-    stored: &[u8],
-    back_masks: &mut [u8],
-    back_values: &mut [u8],
-    back_offsets: &mut [u64],
-) -> WrittenArray {
-    match written {
-        Written::Refused(e) => WrittenArray::Refused(e),
-        Written::Length(n) => decode::decode(
-            kind,
-            shape,
-            part_of_bytes(stored, 0, n),
-            back_masks,
-            back_values,
-            back_offsets,
-        ),
-    }
-}
-
-// An array written, and read back.
-fn write_and_read(
-    kind: Kind,
-    shape: &[u64],
-    masks: &[u8],
-    values: &[u8],
-    offsets: &[u64],
-    back_masks: &mut [u8],
-    back_values: &mut [u8],
-    back_offsets: &mut [u64],
-) -> WrittenArray {
-    let mut stored = byte_space();
-    let written = encode::encode(kind, shape, masks, values, offsets, &mut stored);
-    read_stored(
-        written,
-        kind,
-        shape,
-        &stored,
-        back_masks,
-        back_values,
-        back_offsets,
-    )
-}
-
-// A cut as it came, written and read back.
-fn return_cut(
+// A cut as it came, written.
+fn write_cut(
     cut: WrittenArray,
     kind: Kind,
     shape: &[u64],
     masks: &[u8],
     values: &[u8],
     offsets: &[u64],
-    back_masks: &mut [u8],
-    back_values: &mut [u8],
-    back_offsets: &mut [u64],
-) -> WrittenArray {
+    stored: &mut [u8],
+) -> Written {
     match cut {
-        WrittenArray::Refused(e) => WrittenArray::Refused(e),
-        WrittenArray::Lengths(m, v, o) => write_and_read(
+        WrittenArray::Refused(e) => Written::Refused(e),
+        WrittenArray::Lengths(m, v, o) => encode::encode(
             kind,
             shape,
             part_of_bytes(masks, 0, m),
             part_of_bytes(values, 0, v),
             part_of_numbers(offsets, 0, o),
-            back_masks,
-            back_values,
-            back_offsets,
+            stored,
         ),
     }
 }
 
-// The way of one subset: cut, written with its lengths as shape, and read back.
-fn one_way(
+// A subset cut, and written with its lengths as shape.
+fn store_subset(
     kind: Kind,
     shape: &[u64],
     subset: &[u64],
     masks: &[u8],
     values: &[u8],
     offsets: &[u64],
-    back_masks: &mut [u8],
-    back_values: &mut [u8],
-    back_offsets: &mut [u64],
-) -> WrittenArray {
+    stored: &mut [u8],
+) -> Written {
     let mut cut_masks = mask_space();
     let mut cut_values = byte_space();
     let mut cut_offsets = number_space();
@@ -132,34 +78,83 @@ fn one_way(
         &mut cut_values,
         &mut cut_offsets,
     );
-    return_cut(
+    let lengths = part_of_numbers(subset, shape.len(), subset.len());
+    write_cut(
         cut,
         kind,
-        part_of_numbers(subset, shape.len(), subset.len()),
+        lengths,
         &cut_masks,
         &cut_values,
         &cut_offsets,
-        back_masks,
-        back_values,
-        back_offsets,
+        stored,
     )
 }
 
-// How far chunks reach with one more.
-fn reach_with(m: usize, v: usize, o: usize, chunk: WrittenArray) -> WrittenArray {
-    match chunk {
-        WrittenArray::Refused(e) => WrittenArray::Refused(e),
-        WrittenArray::Lengths(a, b, c) => WrittenArray::Lengths(
-            num::wrapping_add_usize(m, a),
-            num::wrapping_add_usize(v, b),
-            num::wrapping_add_usize(o, c),
+// The way of one subset: cut and written, and exactly the bytes written read back.
+fn one_way(
+    kind: Kind,
+    shape: &[u64],
+    subset: &[u64],
+    masks: &[u8],
+    values: &[u8],
+    offsets: &[u64],
+    back_masks: &mut [u8],
+    back_values: &mut [u8],
+    back_offsets: &mut [u64],
+) -> WrittenArray {
+    let mut stored = byte_space();
+    let written = store_subset(kind, shape, subset, masks, values, offsets, &mut stored);
+    let lengths = part_of_numbers(subset, shape.len(), subset.len());
+    match written {
+        Written::Refused(e) => WrittenArray::Refused(e),
+        Written::Length(n) => decode::decode(
+            kind,
+            lengths,
+            part_of_bytes(&stored, 0, n),
+            back_masks,
+            back_values,
+            back_offsets,
         ),
     }
 }
 
-// The way of one subset, its chunk read behind those that reach so far; how far they reach now. A refusal stays.
+// How far chunks reach that were read one behind the other, and the first refusal; 0 where there is none.
+pub struct Reach {
+    pub masks: usize,
+    pub values: usize,
+    pub offsets: usize,
+    pub refusal: u8,
+}
+
+fn reach_with(reach: Reach, chunk: WrittenArray) -> Reach {
+    if reach.refusal != 0 {
+        return reach;
+    }
+    match chunk {
+        WrittenArray::Refused(e) => Reach {
+            masks: 0,
+            values: 0,
+            offsets: 0,
+            refusal: e,
+        },
+        WrittenArray::Lengths(m, v, o) => Reach {
+            masks: num::wrapping_add_usize(reach.masks, m),
+            values: num::wrapping_add_usize(reach.values, v),
+            offsets: num::wrapping_add_usize(reach.offsets, o),
+            refusal: 0,
+        },
+    }
+}
+
+fn at_most(n: usize, all: usize) -> usize
+    ensures { λ r. ⌜ r ≡ min n all ⌝ }
+{
+    if n < all { n } else { all }
+}
+
+// The way of one subset, its chunk read behind those that reach so far; how far they reach now.
 fn next_chunk(
-    reach: WrittenArray,
+    reach: Reach,
     kind: Kind,
     shape: &[u64],
     subset: &[u64],
@@ -169,19 +164,10 @@ fn next_chunk(
     chunk_masks: &mut [u8],
     chunk_values: &mut [u8],
     chunk_offsets: &mut [u64],
-) -> WrittenArray {
-    let WrittenArray::Lengths(m, v, o) = reach else {
-        return reach;
-    };
-    if m > chunk_masks.len() {
-        return WrittenArray::Refused(refusal::OUTPUT);
-    }
-    if v > chunk_values.len() {
-        return WrittenArray::Refused(refusal::OUTPUT);
-    }
-    if o > chunk_offsets.len() {
-        return WrittenArray::Refused(refusal::OUTPUT);
-    }
+) -> Reach {
+    let m = at_most(reach.masks, chunk_masks.len());
+    let v = at_most(reach.values, chunk_values.len());
+    let o = at_most(reach.offsets, chunk_offsets.len());
     let chunk = one_way(
         kind,
         shape,
@@ -193,7 +179,7 @@ fn next_chunk(
         &mut chunk_values[v..],
         &mut chunk_offsets[o..],
     );
-    reach_with(m, v, o, chunk)
+    reach_with(reach, chunk)
 }
 
 // How many numbers a subset has: a start and a length a side. A shape outside the rules, which every call refuses, counts as one side.
@@ -211,7 +197,7 @@ pub fn numbers_of_subset(shape: &[u64]) -> usize
 }
 
 // The way of each subset, in the list's order; the chunks end to end, and how far they reach.
-fn read_chunks(
+pub fn read_chunks(
     kind: Kind,
     shape: &[u64],
     subsets: &[u64],
@@ -221,9 +207,14 @@ fn read_chunks(
     chunk_masks: &mut [u8],
     chunk_values: &mut [u8],
     chunk_offsets: &mut [u64],
-) -> WrittenArray {
+) -> Reach {
     let numbers = numbers_of_subset(shape);
-    let mut reach = WrittenArray::Lengths(0, 0, 0);
+    let mut reach = Reach {
+        masks: 0,
+        values: 0,
+        offsets: 0,
+        refusal: 0,
+    };
     let mut at = 0;
     while at < subsets.len() {
         let end = at + numbers;
@@ -242,73 +233,4 @@ fn read_chunks(
         at = end;
     }
     reach
-}
-
-// All that was read, merged.
-fn merge_chunks(
-    reach: WrittenArray,
-    kind: Kind,
-    shape: &[u64],
-    subsets: &[u64],
-    masks: &[u8],
-    values: &[u8],
-    offsets: &[u64],
-    out_masks: &mut [u8],
-    out_values: &mut [u8],
-    out_offsets: &mut [u64],
-) -> WrittenArray {
-    match reach {
-        WrittenArray::Refused(e) => WrittenArray::Refused(e),
-        WrittenArray::Lengths(m, v, o) => merge::merge(
-            kind,
-            shape,
-            subsets,
-            part_of_bytes(masks, 0, m),
-            part_of_bytes(values, 0, v),
-            part_of_numbers(offsets, 0, o),
-            out_masks,
-            out_values,
-            out_offsets,
-        ),
-    }
-}
-
-// The whole way of an array and a list of subsets.
-pub fn whole_way(
-    kind: Kind,
-    shape: &[u64],
-    subsets: &[u64],
-    masks: &[u8],
-    values: &[u8],
-    offsets: &[u64],
-    out_masks: &mut [u8],
-    out_values: &mut [u8],
-    out_offsets: &mut [u64],
-) -> WrittenArray {
-    let mut chunk_masks = mask_space();
-    let mut chunk_values = byte_space();
-    let mut chunk_offsets = number_space();
-    let reach = read_chunks(
-        kind,
-        shape,
-        subsets,
-        masks,
-        values,
-        offsets,
-        &mut chunk_masks,
-        &mut chunk_values,
-        &mut chunk_offsets,
-    );
-    merge_chunks(
-        reach,
-        kind,
-        shape,
-        subsets,
-        &chunk_masks,
-        &chunk_values,
-        &chunk_offsets,
-        out_masks,
-        out_values,
-        out_offsets,
-    )
 }

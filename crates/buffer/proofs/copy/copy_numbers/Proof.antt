@@ -1,4 +1,4 @@
--- `array::copy::copy_numbers` meets its contract, by the laws of Copying.
+-- `buffer::copy::copy_numbers` meets its contract, by the laws of Copying.
 -- Assumes nothing.
 use Prim.Native.Nat.{_-_}
 use native.Mathlib.Omega.{arith}

@@ -1,4 +1,4 @@
--- `array::copy::fill_bytes` meets its contract, by the laws of Filling.
+-- `buffer::copy::fill_bytes` meets its contract, by the laws of Filling.
 -- Assumes nothing.
 use Prim.Native.Nat.{_-_}
 use native.Mathlib.Omega.{arith}

@@ -1,4 +1,4 @@
--- `array::copy::fill_numbers` meets its contract, by the laws of Filling.
+-- `buffer::copy::fill_numbers` meets its contract, by the laws of Filling.
 -- Assumes nothing.
 use Prim.Native.Nat.{_-_}
 use native.Mathlib.Omega.{arith}
@@ -8,10 +8,10 @@ use Rattle.buffer.proofs.copy.fill_numbers.Statement.{statement}
 use Rattle.buffer.proofs.copy.fill_numbers.Tie as tie
 
 abbrev Inv-loop : tie.InvT-loop
-Inv-loop out₀ to k v n₀ out n = Filling out₀ to k v out n
+Inv-loop out₀ to k v m₀ out m = Filling out₀ to k v out m
 
 abbrev μ-loop : tie.MeasureT-loop
-μ-loop out₀ to k v n₀ out n = k - n
+μ-loop out₀ to k v m₀ out m = k - m
 
 loop-holds : tie.Need-loop-holds Inv-loop μ-loop
 loop-holds c = fill-begins (c .pre)
@@ -25,8 +25,8 @@ mul-out c = search needs
 slice-write-out : tie.Need-slice-write-out Inv-loop μ-loop
 slice-write-out c = fill-room (c .before .loop .inv) (c .loop-test .taken)
 
-add-n : tie.Need-add-n Inv-loop μ-loop
-add-n c = search needs
+add-m : tie.Need-add-m Inv-loop μ-loop
+add-m c = search needs
 
 loop-less : tie.Need-loop-less Inv-loop μ-loop
 loop-less c = omega arith
@@ -50,7 +50,7 @@ fill-numbers-spec =
     add-out
     mul-out
     slice-write-out
-    add-n
+    add-m
     loop-less
     loop-again
     same-length

@@ -1,4 +1,4 @@
--- `field::le4_at`: four reads are the four bytes (Unrolled), and the sum is their number.
+-- `buffer::field::le4_at`: four reads are the four bytes (Unrolled), and the sum is their number.
 -- Assumes nothing.
 use mathlib.Core.Path.{ap}
 use native.Mathlib.Omega.{arith}

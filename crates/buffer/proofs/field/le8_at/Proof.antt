@@ -1,4 +1,4 @@
--- `field::le8_at`: eight reads are the eight bytes (Unrolled), and the sum is their number.
+-- `buffer::field::le8_at`: eight reads are the eight bytes (Unrolled), and the sum is their number.
 -- Assumes nothing.
 use mathlib.Core.Path.{ap}
 use native.Mathlib.Omega.{arith}

@@ -1,4 +1,4 @@
--- `field::le_at`: by cases on the width.
+-- `buffer::field::le_at`: by cases on the width.
 -- Assumes nothing.
 use mathlib.Core.Path.{sym, ap, _∙_}
 use native.Mathlib.Omega.{arith}

@@ -1,4 +1,4 @@
--- `field::put_u32`: four stores are the four bytes laid over the output (Unrolled).
+-- `buffer::field::put_u32`: four stores are the four bytes laid over the output (Unrolled).
 -- Assumes nothing.
 use native.Mathlib.Omega.{arith}
 use lib.ListN.{length-set}

@@ -1,4 +1,4 @@
--- `field::put_u64`: eight stores are the eight bytes laid over the output (Unrolled).
+-- `buffer::field::put_u64`: eight stores are the eight bytes laid over the output (Unrolled).
 -- Assumes nothing.
 use native.Mathlib.Omega.{arith}
 use lib.ListN.{length-set}

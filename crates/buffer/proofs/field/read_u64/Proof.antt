@@ -1,4 +1,4 @@
--- `field::read_u64`, by the laws on a field of any width and refusal.
+-- `buffer::field::read_u64`, by the laws on a field of any width and refusal.
 -- Assumes nothing.
 use native.Mathlib.Omega.{arith}
 use borrow.Author.Needs.{needs}

@@ -28,29 +28,11 @@ returns-3 c = search needs
 loop-holds : tie.Need-loop-holds Inv-loop μ-loop
 loop-holds c = search needs
 
-mul-digit : tie.Need-mul-digit Inv-loop μ-loop
-mul-digit c = search needs
+mul-octet-at : tie.Need-mul-octet-at Inv-loop μ-loop
+mul-octet-at c = search needs
 
-shared-slice-read-digit : tie.Need-shared-slice-read-digit Inv-loop μ-loop
-shared-slice-read-digit c = search needs
-
-digit-requires : tie.Need-digit-requires Inv-loop μ-loop
-digit-requires c κs = search needs
-
-mul-digit-2 : tie.Need-mul-digit-2 Inv-loop μ-loop
-mul-digit-2 c = search needs
-
-add-digit : tie.Need-add-digit Inv-loop μ-loop
-add-digit c = search needs
-
-shared-slice-read-digit-2 : tie.Need-shared-slice-read-digit-2 Inv-loop μ-loop
-shared-slice-read-digit-2 c = search needs
-
-digit-requires-2 : tie.Need-digit-requires-2 Inv-loop μ-loop
-digit-requires-2 c κs = search needs
-
-read-octet-requires : tie.Need-read-octet-requires Inv-loop μ-loop
-read-octet-requires c κs = search needs
+octet-at-requires : tie.Need-octet-at-requires Inv-loop μ-loop
+octet-at-requires c κs = search needs
 
 enum-known-b : tie.Need-enum-known-b Inv-loop μ-loop
 enum-known-b c = search needs
@@ -99,14 +81,8 @@ hex-part-spec =
     sub-if3
     returns-3
     loop-holds
-    mul-digit
-    shared-slice-read-digit
-    digit-requires
-    mul-digit-2
-    add-digit
-    shared-slice-read-digit-2
-    digit-requires-2
-    read-octet-requires
+    mul-octet-at
+    octet-at-requires
     enum-known-b
     enum-told
     same-length

@@ -1,4 +1,4 @@
--- `array::array_bytes::check_array` meets its contract: each return by its law of CheckLaws.
+-- `valid::array_bytes::check_array` meets its contract: each return by its law of CheckLaws.
 -- Assumes nothing.
 use borrow.Author.Needs.{needs}
 use Rattle.array.specs.Limits.{mostBytes}

@@ -1,4 +1,4 @@
--- `array::array_bytes::content_fits` meets its contract: each return by its law of CheckLaws.
+-- `valid::array_bytes::content_fits` meets its contract: each return by its law of CheckLaws.
 -- Assumes nothing.
 use native.Mathlib.Omega.{arith}
 use borrow.Author.Needs.{needs}

@@ -1,4 +1,4 @@
--- `array::array_bytes::never_fall` meets its contract, by the laws of Rise.
+-- `valid::array_bytes::never_fall` meets its contract, by the laws of Rise.
 -- Assumes nothing.
 use Prim.Native.Nat.{_+_, _-_}
 use mathlib.Core.Path.{sym, subst}

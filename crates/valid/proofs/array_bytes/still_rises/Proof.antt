@@ -1,4 +1,4 @@
--- `array::array_bytes::still_rises` meets its contract.
+-- `valid::array_bytes::still_rises` meets its contract.
 -- Assumes nothing.
 use borrow.Author.Needs.{needs}
 use Rattle.valid.proofs.array_bytes.still_rises.Statement.{statement}

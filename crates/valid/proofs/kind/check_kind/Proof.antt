@@ -1,4 +1,4 @@
--- `kind::check_kind` is the test of the kind that the value means: each test that fails or passes on the way is one of its parts.
+-- `valid::kind::check_kind` is the test of the kind that the value means: each test that fails or passes on the way is one of its parts.
 -- Assumes nothing.
 use borrow.Author.Needs.{needs}
 use borrow.Author.Tests.{le-leb, lt-leb}

@@ -1,4 +1,4 @@
--- `kind::fixed_from_numbers`: a size outside its range, or one of two orders, by the laws on a form chosen by its number.
+-- `valid::numbers::fixed_from_numbers`: a size outside its range, or one of two orders, by the laws on a form chosen by its number.
 -- Assumes nothing.
 use mathlib.Core.Path.{ap, _∙_}
 use native.Mathlib.Omega.{arith}

@@ -1,4 +1,4 @@
--- `kind::index_of_width`: one of two places, and any other number refused.
+-- `valid::numbers::index_of_width`: one of two places, and any other number refused.
 -- Assumes nothing.
 use Rattle.valid.proofs.NumberLaws.{index-at-start, index-at-end, place-unknown}
 use Rattle.array.specs.Meaning.{widthOf}

@@ -1,4 +1,4 @@
--- `kind::kind_from_numbers`: each number outside its range by its law, the two forms by the callees.
+-- `valid::numbers::kind_from_numbers`: each number outside its range by its law, the two forms by the callees.
 -- Assumes nothing.
 use mathlib.Core.Path.{_∙_}
 use borrow.Author.Needs.{needs}

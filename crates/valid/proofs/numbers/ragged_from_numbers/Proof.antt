@@ -1,4 +1,4 @@
--- `kind::ragged_from_numbers`: the two widths, each by the callee, and any other width refused.
+-- `valid::numbers::ragged_from_numbers`: the two widths, each by the callee, and any other width refused.
 -- Assumes nothing.
 use mathlib.Core.Path.{sym, ap, _∙_}
 use Prim.Native.Nat.{ℕ}

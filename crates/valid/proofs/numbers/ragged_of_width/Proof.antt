@@ -1,4 +1,4 @@
--- `kind::ragged_of_width`: one of two places, by the laws on a form chosen by its number.
+-- `valid::numbers::ragged_of_width`: one of two places, by the laws on a form chosen by its number.
 -- Assumes nothing.
 use mathlib.Core.Path.{ap, _∙_}
 use borrow.Author.Needs.{needs}

@@ -1,4 +1,4 @@
--- `table::cut_each` meets its contract: the place in the list rises by two and more.
+-- `whole_way::table::cut_each` meets its contract: the place in the list rises by two and more.
 -- Assumes nothing.
 use Prim.Native.Nat.{_≤_, _-_, _+_}
 use lib.ListN.{length}

@@ -1,4 +1,4 @@
--- `way::read_chunks` meets its contract: the place in the list rises by two and more, and the lengths stay.
+-- `whole_way::way::read_chunks` meets its contract: the place in the list rises by two and more, and the lengths stay.
 -- Assumes nothing.
 use Prim.Native.Nat.{_≤_, _-_, _+_}
 use mathlib.Core.Path.{_≡_}

@@ -1,0 +1,60 @@
+-- `responses::lent::same` meets its contract: the bytes from i on give what all give (proofs/Comparing).
+-- Assumes nothing.
+use Prim.Native.Nat.{_≤_, _-_}
+use mathlib.Core.Path.{_≡_, refl, sym, _∙_}
+use native.Mathlib.Omega.{arith}
+use lib.ListN.{length, drop}
+use borrow.Author.Needs.{needs}
+use Rattle.responses.specs.Kept.{equal}
+use Rattle.responses.proofs.Comparing.{equal-long, equal-end, equal-more, equal-not}
+use Rattle.responses.proofs.lent.same.Statement.{statement}
+use Rattle.responses.proofs.lent.same.Tie as tie
+
+abbrev Inv-loop : tie.InvT-loop
+Inv-loop a b i₀ i = (length a ≡ length b) × (i ≤ length a) × (equal a b ≡ equal (drop i a) (drop i b))
+
+abbrev μ-loop : tie.MeasureT-loop
+μ-loop a b i₀ i = length a - i
+
+returns : tie.Need-returns Inv-loop μ-loop
+returns c = sym (equal-long _ _ (c .if1 .taken))
+
+loop-holds : tie.Need-loop-holds Inv-loop μ-loop
+loop-holds c = (omega arith, omega arith, refl)
+
+shared-slice-read-if2 : tie.Need-shared-slice-read-if2 Inv-loop μ-loop
+shared-slice-read-if2 c = search needs
+
+shared-slice-read-if2-2 : tie.Need-shared-slice-read-if2-2 Inv-loop μ-loop
+shared-slice-read-if2-2 c = search needs
+
+returns-2 : tie.Need-returns-2 Inv-loop μ-loop
+returns-2 c = sym (c .before .before .before .before .loop .inv .2 ∙ equal-not _ _ (c .before .before .before .before .loop .inv .0) _ (c .before .before .before .loop-test .taken) (c .if2 .taken))
+
+add-i : tie.Need-add-i Inv-loop μ-loop
+add-i c = search needs
+
+loop-less : tie.Need-loop-less Inv-loop μ-loop
+loop-less c = search needs
+
+loop-again : tie.Need-loop-again Inv-loop μ-loop
+loop-again c = (omega arith, omega arith, c .before .before .before .before .loop .inv .2 ∙ equal-more _ _ (c .before .before .before .before .loop .inv .0) _ (c .before .before .before .loop-test .taken) (c .if2 .left))
+
+returns-3 : tie.Need-returns-3 Inv-loop μ-loop
+returns-3 c = sym (c .before .loop .inv .2 ∙ equal-end _ _ (c .before .loop .inv .0) _ (c .loop-test .left))
+
+pub same-spec : {M : Type 1} → statement M
+same-spec =
+    tie.close
+    (tie.spec
+    Inv-loop
+    μ-loop
+    returns
+    loop-holds
+    shared-slice-read-if2
+    shared-slice-read-if2-2
+    returns-2
+    add-i
+    loop-less
+    loop-again
+    returns-3)

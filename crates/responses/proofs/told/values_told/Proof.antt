@@ -1,0 +1,24 @@
+-- `responses::told::values_told` meets its contract: case by case.
+-- Assumes nothing.
+use mathlib.Core.Path.{sym, ap}
+use borrow.Author.Needs.{needs}
+use Rattle.array.specs.Answer.{mapAnswer}
+use Rattle.array.specs.Meaning.{told}
+use Rattle.responses.specs.Told.{onlyValues}
+use Rattle.responses.proofs.told.values_told.Statement.{statement}
+use Rattle.responses.proofs.told.values_told.Tie as tie
+
+enum-known-r : tie.Need-enum-known-r
+enum-known-r c = search needs
+
+enum-known-r-2 : tie.Need-enum-known-r-2
+enum-known-r-2 c = search needs
+
+returns : tie.Need-returns
+returns c = ap (λ w. mapAnswer onlyValues (told w)) (sym (c .before .r .given .1))
+
+returns-2 : tie.Need-returns-2
+returns-2 c = ap (λ w. mapAnswer onlyValues (told w)) (sym (c .before .r2 .given .1))
+
+pub values-told-spec : {M : Type 1} → statement M
+values-told-spec = tie.close (tie.spec enum-known-r enum-known-r-2 returns returns-2)
