@@ -2,20 +2,19 @@
 -- Assumes nothing.
 use mathlib.Core.Path.{_≡_, refl, sym, ap, _∙_, subst}
 use mathlib.Core.Logic.{_≢_}
-use mathlib.Core.Bool.{Bool, true, false}
+use mathlib.Core.Bool.{Bool}
 use mathlib.Core.List.{List, [], map}
 use Prim.Native.Nat.{ℕ, zero, suc, _+_, _-_, _*_, _≤_, _<_}
 use native.Mathlib.Omega.{arith}
 use native.Mathlib.Nat.{zero-mul}
 use lib.ListN.{length, take, drop, replicate, length-drop}
-use lib.Dec.{eqb}
-use borrow.Author.Tests.{eqb-true, eq-eqb, ne-eqb}
+use borrow.Author.Tests.{eq-eqb, ne-eqb}
 use Rattle.array.specs.Answer.{Answer, gives, refuses, andThen, unless}
 use Rattle.array.specs.Limits.{mostCells, mostDepth, mostSize}
 use Rattle.array.specs.Lists.{joined, pieces}
 use Rattle.array.specs.Kind.{Order, fixed, ordered}
 use Rattle.array.specs.Cells.{Value, Cell}
-use Rattle.array.specs.Content.{Content, layout}
+use Rattle.array.specs.Content.{layout}
 use Rattle.array.specs.Buffers.{over}
 use Rattle.array.specs.Outcome.{contentArray, outcomeArray}
 use Rattle.array.specs.declared.answer.WrittenArray.the-variants.{Refused, Lengths}
@@ -27,9 +26,8 @@ use Rattle.stored.specs.Walk.{Innermost, valuesAt, noneSet, walked}
 use Rattle.stored.specs.Stored.{cellsFrom, answerBy, innermostCount}
 use Rattle.codec.specs.Calls.{readIn}
 use Rattle.stored.proofs.Reading.{read-walked}
-use Rattle.stored.proofs.Walks.{WalkPassed, walk-values, walk-none, values-flat, none-deep, passed-count}
+use Rattle.stored.proofs.Walks.{walk-values, walk-none, values-flat, none-deep, passed-count}
 use Rattle.decode.specs.Outcomes.{readOutcome}
-use Rattle.decode.specs.Found.{fixedBy, fixedFound}
 use Rattle.spread.specs.Values.{valuesOver, ValuesWithin}
 use Rattle.decode.specs.Reads.{fixedFrom, FixedWithin}
 use Rattle.decode.proofs.Outcomes.{short-masks, short-values, all-written}
@@ -40,14 +38,11 @@ use Rattle.planes.proofs.AllPlanes.{planesIn, innermostIn, masks-are, leaves-ar
 
 -- ---- what is copied
 
--- with no mask the values are all there is
-pub found-flat : (size d : ℕ) (s : List ℕ) (n : ℕ) → d ≡ 0 → fixedFound size d s n ≡ fixedBy size s (valuesAt 0 n)
-unfolding fixedFound walked
-found-flat size d s n e = ap (λ (j : ℕ). andThen (walked j s 0 n) (fixedBy size s)) e
-
-pub found-walked : (size d : ℕ) (s : List ℕ) (n : ℕ) (w : Answer Innermost) → walked d s 0 n ≡ w → andThen w (fixedBy size s) ≡ fixedFound size d s n
-unfolding fixedFound
-found-walked size d s n w e = ap (λ (x : Answer Innermost). andThen x (fixedBy size s)) (sym e)
+-- with no mask the walk is at the values at once
+pub walk-flat : (d : ℕ) (s : List ℕ) (n : ℕ) → d ≡ 0 → walked d s 0 n ≡ gives (valuesAt 0 n)
+unfolding walked
+walk-flat zero s n e = refl
+walk-flat (suc d) s n e = absurd (omega arith)
 
 module _ (o : Order) {d : ℕ} {s : List ℕ} {n at k size : ℕ} (r : FixedWithin d s n at k size) where
   pub fixed-masks : d ≢ 0 → fixedFrom size o d s n at k .masks ≡ planesIn s n (d - 1)
@@ -140,51 +135,36 @@ module _ (o : Order) {d : ℕ} {s : List ℕ} {n at k size : ℕ} (r : FixedWith
           written m′ v′ (em ∙ ap (λ (p : List ℕ). over p m) (sym (fixed-masks o r f)))
           (ev ∙ ap (λ (p : List ℕ). over (valuesOver size o p (drop at s)) v) innermost ∙ ap (λ (p : List ℕ). over p v) (sym (fixed-values o r f)))
 
--- ---- the check of the length
-
-module _ (size : ℕ) (s : List ℕ) (a k : ℕ) where
-  pub length-wrong : length s - a ≢ k * size → refuses 8 ≡ fixedBy size s (valuesAt a k)
-  length-wrong f = ap (λ (b : Bool). unless b 8 (gives (valuesAt a k))) (sym (ne-eqb (length s - a) (k * size) f))
-
-  pub length-right : length s - a ≡ k * size → gives (valuesAt a k) ≡ fixedBy size s (valuesAt a k)
-  length-right e = ap (λ (b : Bool). unless b 8 (gives (valuesAt a k))) (sym (eq-eqb (length s - a) (k * size) e))
-
--- ---- what the copying rests on, by what was found
-
--- values that passed the check
-checked-length : (size : ℕ) (s : List ℕ) (a k : ℕ) (x : Innermost) → fixedBy size s (valuesAt a k) ≡ gives x → (valuesAt a k ≡ x) × (length s - a ≡ k * size)
-checked-length size s a k x h = go (eqb (length s - a) (k * size)) refl h
-  where
-    go : (b : Bool) → eqb (length s - a) (k * size) ≡ b → unless b 8 (gives (valuesAt a k)) ≡ gives x → (valuesAt a k ≡ x) × (length s - a ≡ k * size)
-    go true e q = (cc, eqb-true (length s - a) (k * size) e)
-    go false e q = let z : _≡_ {A = ℕ} 0 1 = cc in absurd (omega arith)
+-- ---- what the copying rests on, by the walk
 
 module _ (d : ℕ) (s : List ℕ) (n size : ℕ) (h1 : 1 ≤ n) (h2 : n ≤ mostCells) (h3 : d ≤ mostDepth) (h4 : size ≤ mostSize) where
-  passed-within : (a k : ℕ) → WalkPassed d s 0 n k → (d ≡ 0 → k ≡ n) → a + k * size ≤ length s → FixedWithin d s n a k size
-  passed-within a k w f r = record { some = h1; few = h2; shallow = h3; small = h4; masks = w .within; count = passed-count d s n k h1 w f; room = r }
-
-  some-within : (a k : ℕ) → walked d s 0 n ≡ gives (valuesAt a k) → length s - a ≡ k * size → FixedWithin d s n a k size
+  pub some-within : (a k : ℕ) → walked d s 0 n ≡ gives (valuesAt a k) → length s - a ≡ k * size → FixedWithin d s n a k size
   some-within a k h e =
       let w = walk-values d s 0 n a k (omega arith) h in
-      passed-within a k (w .0) (values-flat d s 0 n a k h) (omega (arith, w .1))
+      record {
+        some = h1;
+        few = h2;
+        shallow = h3;
+        small = h4;
+        masks = w .0 .within;
+        count = passed-count d s n k h1 (w .0) (values-flat d s 0 n a k h);
+        room = omega (arith, w .1);
+      }
 
-  none-within : walked d s 0 n ≡ gives noneSet → FixedWithin d s n 0 0 size
-  none-within h = passed-within 0 0 (walk-none d s 0 n (omega arith) h) (λ e. absurd (omega (arith, none-deep d s 0 n h))) (omega (arith, zero-mul size))
+  pub none-within : walked d s 0 n ≡ gives noneSet → FixedWithin d s n 0 0 size
+  none-within h =
+      let w = walk-none d s 0 n (omega arith) h in
+      record {
+        some = h1;
+        few = h2;
+        shallow = h3;
+        small = h4;
+        masks = w .within;
+        count = passed-count d s n 0 h1 w (λ e. absurd (omega (arith, none-deep d s 0 n h)));
+        room = omega (arith, zero-mul size);
+      }
 
-  abbrev Within : Innermost → Type 0
-  Within noneSet = FixedWithin d s n 0 0 size
-  Within (valuesAt a k) = FixedWithin d s n a k size
-
-  pub found-within : (a k : ℕ) → fixedFound size d s n ≡ gives (valuesAt a k) → FixedWithin d s n a k size
-  unfolding fixedFound
-  found-within a k h = go (walked d s 0 n) refl h
-    where
-      go : (w : Answer Innermost) → walked d s 0 n ≡ w → andThen w (fixedBy size s) ≡ gives (valuesAt a k) → FixedWithin d s n a k size
-      go (refuses e) q r = let z : _≡_ {A = ℕ} 0 1 = cc in absurd (omega arith)
-      go (gives noneSet) q r = let e : valuesAt 0 0 ≡ valuesAt a k = cc in subst Within e (none-within q)
-      go (gives (valuesAt b j)) q r = let c = checked-length size s b j (valuesAt a k) r in subst Within (c .0) (some-within b j q (c .1))
-
--- ---- the reader, by what was found
+-- ---- the reader, by the walk
 
 module _ (size : ℕ) (o : Order) (d : ℕ) (s : List ℕ) (n : ℕ) where
   reads : (w : Answer Innermost) → walked d s 0 n ≡ w
@@ -195,32 +175,23 @@ module _ (size : ℕ) (o : Order) (d : ℕ) (s : List ℕ) (n : ℕ) where
       (read-walked (replicate size 0) (getValues (fixed size o)) d s 0 n
       ∙ ap (λ (x : Answer Innermost). andThen x (answerBy (replicate size 0) (getValues (fixed size o)) d s 0 n)) e)
 
-  abbrev readAt : Innermost → Answer Content
-  readAt noneSet = gives (fixedFrom size o d s n 0 0)
-  readAt (valuesAt a k) = gives (fixedFrom size o d s n a k)
+  pub fixed-refused : (e : ℕ) → walked d s 0 n ≡ refuses e → readIn byteMask (fixed size o) d n s ≡ refuses e
+  fixed-refused e h = reads (refuses e) h
 
-  -- k values at a, by the outcome of their check
-  abbrev checkedBy : ℕ → ℕ → Bool → Answer Content
-  checkedBy a k b = andThen (andThen (unless b 8 (gives (map (ordered o) (pieces size k (drop a s))))) (λ vs. gives (cellsFrom (replicate size 0) d s 0 n vs))) (λ cs. gives (layout (fixed size o) d cs))
-
-  by-check : (a k : ℕ) (b : Bool) → checkedBy a k b ≡ andThen (unless b 8 (gives (valuesAt a k))) readAt
+  pub fixed-none : walked d s 0 n ≡ gives noneSet → readIn byteMask (fixed size o) d n s ≡ gives (fixedFrom size o d s n 0 0)
   unfolding fixedFrom
-  by-check a k true = refl
-  by-check a k false = refl
+  fixed-none h = reads (gives noneSet) h
 
-  by-walk : (w : Answer Innermost) → walked d s 0 n ≡ w → readIn byteMask (fixed size o) d n s ≡ andThen (andThen w (fixedBy size s)) readAt
+  pub fixed-length : (a k : ℕ) → walked d s 0 n ≡ gives (valuesAt a k) → length s - a ≢ k * size → readIn byteMask (fixed size o) d n s ≡ refuses 8
+  unfolding getValues
+  fixed-length a k h f =
+      reads (gives (valuesAt a k)) h
+      ∙ ap (λ (b : Bool). andThen (andThen (unless b 8 (gives (map (ordered o) (pieces size k (drop a s))))) (λ vs. gives (cellsFrom (replicate size 0) d s 0 n vs))) (λ cs. gives (layout (fixed size o) d cs)))
+      (ne-eqb (length (drop a s)) (k * size) (λ e. f (sym (length-drop a s) ∙ e)))
+
+  pub fixed-given : (a k : ℕ) → walked d s 0 n ≡ gives (valuesAt a k) → length s - a ≡ k * size → readIn byteMask (fixed size o) d n s ≡ gives (fixedFrom size o d s n a k)
   unfolding getValues fixedFrom
-  by-walk (refuses e) q = reads (refuses e) q
-  by-walk (gives noneSet) q = reads (gives noneSet) q
-  by-walk (gives (valuesAt a k)) q =
-      reads (gives (valuesAt a k)) q ∙ ap (λ (l : ℕ). checkedBy a k (eqb l (k * size))) (length-drop a s) ∙ by-check a k (eqb (length s - a) (k * size))
-
-  fixed-reads : readIn byteMask (fixed size o) d n s ≡ andThen (fixedFound size d s n) readAt
-  unfolding fixedFound
-  fixed-reads = by-walk (walked d s 0 n) refl
-
-  pub fixed-refused : (e : ℕ) → fixedFound size d s n ≡ refuses e → readIn byteMask (fixed size o) d n s ≡ refuses e
-  fixed-refused e h = fixed-reads ∙ ap (λ (x : Answer Innermost). andThen x readAt) h
-
-  pub fixed-given : (a k : ℕ) → fixedFound size d s n ≡ gives (valuesAt a k) → readIn byteMask (fixed size o) d n s ≡ gives (fixedFrom size o d s n a k)
-  fixed-given a k h = fixed-reads ∙ ap (λ (x : Answer Innermost). andThen x readAt) h
+  fixed-given a k h f =
+      reads (gives (valuesAt a k)) h
+      ∙ ap (λ (b : Bool). andThen (andThen (unless b 8 (gives (map (ordered o) (pieces size k (drop a s))))) (λ vs. gives (cellsFrom (replicate size 0) d s 0 n vs))) (λ cs. gives (layout (fixed size o) d cs)))
+      (eq-eqb (length (drop a s)) (k * size) (length-drop a s ∙ f))

@@ -1,6 +1,6 @@
 -- Ragged values: what the copying leaves is the definition's, and how the reader answers by the walk and the check.
 -- Assumes nothing.
-use mathlib.Core.Path.{_≡_, refl, sym, ap, ap₂, _∙_, subst}
+use mathlib.Core.Path.{_≡_, refl, sym, ap, ap₂, _∙_}
 use mathlib.Core.Logic.{_≢_}
 use mathlib.Core.List.{List, [], _∷_, _++_}
 use Prim.Native.Nat.{ℕ, zero, suc, _+_, _-_, _*_, _≤_}
@@ -8,14 +8,11 @@ use native.Mathlib.Omega.{arith}
 use native.Mathlib.Nat.{add-zero, zero-mul}
 use lib.ListN.{length, take, drop, length-drop}
 use lib.Seq.{length-take-le, drop-drop, take-add, take-take}
-use Rattle.array.specs.Answer.{Answer, gives, refuses, andThen, mapAnswer}
-use Rattle.array.specs.declared.kind.IndexWidth.{IndexWidth}
-use Rattle.array.specs.declared.kind.IndexWidth.the-variants.{Four, Eight}
+use Rattle.array.specs.Answer.{Answer, gives, refuses, andThen}
 use Rattle.array.specs.Limits.{mostCells, mostDepth}
 use Rattle.array.specs.Lists.{joined, All}
 use Rattle.array.specs.Bytes.{unle}
 use Rattle.array.specs.Kind.{Place, ragged}
-use Rattle.array.specs.Meaning.{widthOf}
 use Rattle.array.specs.Offsets.{RisingFrom, lastFrom, slices, slicesFrom, ends, offsetsOf}
 use Rattle.array.specs.Cells.{Value, Cell}
 use Rattle.array.specs.Content.{RaggedContent, unmasked, layout}
@@ -27,19 +24,17 @@ use Rattle.codec.specs.Ragged.{getRagged}
 use Rattle.codec.specs.Values.{getValues}
 use Rattle.stored.specs.Walk.{Innermost, valuesAt, noneSet, walked}
 use Rattle.stored.specs.Stored.{cellsFrom, answerBy, MasksWithin, innermostCount}
-use Rattle.stored.specs.Index.{offsetsIn, spanIn, indexAt, dataAt, IndexWithin}
+use Rattle.stored.specs.Index.{offsetsIn, IndexWithin}
 use Rattle.array.specs.Outcome.{contentArray}
 use Rattle.codec.specs.Calls.{readIn}
 use Rattle.codec.proofs.SpreadLaws.{length-spread}
 use Rattle.stored.proofs.Reading.{read-walked}
-use Rattle.stored.proofs.Walks.{walk-values, walk-none, values-flat, none-deep, passed-count}
-use Rattle.stored.proofs.CheckedIndex.{span-refused, index-checked}
+use Rattle.stored.proofs.Walks.{walk-none, none-deep, passed-count}
 use Rattle.stored.proofs.IndexLaws.{drop-take}
 use Rattle.spread.specs.Ends.{endsBy}
-use Rattle.decode.specs.Found.{RaggedPlace, raggedAt, placedAt, raggedBy, raggedFound}
 use Rattle.decode.specs.Reads.{nestedFrom, NestedWithin, raggedFrom}
 use Rattle.spread.proofs.CopyingOffsets.{length-offsets}
-use Rattle.planes.proofs.Levels.{some-of, within-now}
+use Rattle.planes.proofs.Levels.{some-of}
 use Rattle.planes.proofs.AllPlanes.{planesIn, innermostIn, masks-are, leaves-are, count-are, planes-long, innermost-long}
 
 -- ---- values end to end below masks
@@ -137,25 +132,57 @@ module _ {d w : ℕ} {s : List ℕ} {n start from k first last : ℕ} (r : Neste
       let lp : length vs ≡ n = length-spread [] (innermostIn s n (d - 1)) _ ∙ innermost-long s n d (r .some) (r .masks) deep in
       ap (λ (v : List Value). length (offsetsOf v)) (leaves-are [] s n d (slicesFrom first (offsetsIn w k (drop start s)) (take last (drop from s))) deep) ∙ omega (arith, length-ends 0 vs, lp)
 
--- with no value it does not matter where the ends would be
-no-ends : (d w : ℕ) (s : List ℕ) (n start : ℕ) → nestedFrom d w s n start 0 0 0 0 ≡ nestedFrom d w s n 0 0 0 0 0
-unfolding nestedFrom
-no-ends d w s n start = refl
-
 -- ---- with masks or without
 
 module _ (d w : ℕ) (s : List ℕ) (n index from k first last : ℕ) where
-  given-flat : d ≡ 0 → raggedFrom d w s n index from k first last ≡ contentArray [] (take last (drop from s)) (offsetsIn w (suc k) (drop index s))
+  pub given-flat : d ≡ 0 → raggedFrom d w s n index from k first last ≡ contentArray [] (take last (drop from s)) (offsetsIn w (suc k) (drop index s))
   unfolding raggedFrom
   given-flat e = ap (λ (j : ℕ). raggedFrom j w s n index from k first last) e
 
-  given-nested : d ≢ 0 → raggedFrom d w s n index from k first last ≡ nestedFrom d w s n (index + w) from k first last
+  pub given-nested : d ≢ 0 → raggedFrom d w s n index from k first last ≡ nestedFrom d w s n (index + w) from k first last
   unfolding raggedFrom
   given-nested f = go d f
     where
       go : (j : ℕ) → j ≢ 0 → raggedFrom j w s n index from k first last ≡ nestedFrom j w s n (index + w) from k first last
       go zero g = absurd (g refl)
       go (suc j) g = refl
+
+  pub flat-cells : d ≡ 0 → k ≡ innermostCount d s n → k ≡ n
+  unfolding innermostCount
+  flat-cells e h = h ∙ ap (λ (j : ℕ). innermostCount j s n) e
+
+  pub nested-within : 1 ≤ n → n ≤ mostCells → d ≤ mostDepth → MasksWithin d s 0 n → k ≡ innermostCount d s n → IndexWithin w s k index from first last → d ≢ 0
+      → NestedWithin d w s n (index + w) from k first last
+  nested-within a b c f g i h = record {
+    some = a;
+    few = b;
+    shallow = c;
+    deep = some-of d h;
+    masks = f;
+    count = g;
+    ends-room = omega (arith, i .index-room);
+    rising = i .rising;
+    last-is = i .last-is;
+    room = i .data-room;
+  }
+
+-- where no cell is set there is nothing stored
+pub none-within : (d w : ℕ) (s : List ℕ) (n : ℕ) → 1 ≤ n → n ≤ mostCells → d ≤ mostDepth → walked d s 0 n ≡ gives noneSet → NestedWithin d w s n 0 0 0 0 0
+none-within d w s n a b c h =
+    let q = walk-none d s 0 n (omega arith) h in
+    let l : 1 ≤ d = none-deep d s 0 n h in
+    record {
+      some = a;
+      few = b;
+      shallow = c;
+      deep = l;
+      masks = q .within;
+      count = passed-count d s n 0 a q (λ e. absurd (omega arith));
+      ends-room = omega (arith, zero-mul w);
+      rising = tt;
+      last-is = refl;
+      room = omega arith;
+    }
 
 -- ---- the reader, by the walk and the check
 
@@ -175,16 +202,16 @@ module _ (w : ℕ) (p : Place) (s : List ℕ) (n : ℕ) where
   unfolding walked
   flat-never x h f = f 0 n (sym h)
 
-  ragged-refused : (d e : ℕ) → walked d s 0 n ≡ refuses e → readIn byteMask (ragged w p) d n s ≡ refuses e
+  pub ragged-refused : (d e : ℕ) → walked d s 0 n ≡ refuses e → readIn byteMask (ragged w p) d n s ≡ refuses e
   ragged-refused zero e h = absurd (flat-never (refuses e) h (λ a k q. let z : _≡_ {A = ℕ} 0 1 = cc in omega arith))
   ragged-refused (suc d) e h = reads d (refuses e) h
 
-  ragged-none-set : (d : ℕ) → walked d s 0 n ≡ gives noneSet → readIn byteMask (ragged w p) d n s ≡ gives (nestedFrom d w s n 0 0 0 0 0)
+  pub ragged-none-set : (d : ℕ) → walked d s 0 n ≡ gives noneSet → readIn byteMask (ragged w p) d n s ≡ gives (nestedFrom d w s n 0 0 0 0 0)
   unfolding nestedFrom
   ragged-none-set zero h = absurd (flat-never (gives noneSet) h (λ a k q. let z : _≡_ {A = ℕ} 0 1 = cc in omega arith))
   ragged-none-set (suc d) h = reads d (gives noneSet) h
 
-  ragged-wrong : (d a k e : ℕ) → walked d s 0 n ≡ gives (valuesAt a k) → getRagged w p (drop a s) k ≡ refuses e → readIn byteMask (ragged w p) d n s ≡ refuses e
+  pub ragged-wrong : (d a k e : ℕ) → walked d s 0 n ≡ gives (valuesAt a k) → getRagged w p (drop a s) k ≡ refuses e → readIn byteMask (ragged w p) d n s ≡ refuses e
   unfolding readIn getValues
   ragged-wrong zero a k e h g =
       let q = flat-at a k h in
@@ -193,7 +220,7 @@ module _ (w : ℕ) (p : Place) (s : List ℕ) (n : ℕ) where
       reads d (gives (valuesAt a k)) h
       ∙ ap (λ (x : Answer RaggedContent). andThen (andThen (andThen x (λ y. gives (slices (y .offsets) (y .values)))) (λ vs. gives (cellsFrom [] (suc d) s 0 n vs))) (λ cs. gives (layout (ragged w p) (suc d) cs))) g
 
-  ragged-given : (d a k f l index from : ℕ) → walked d s 0 n ≡ gives (valuesAt a k) → f ≡ unle (take w (drop index s))
+  pub ragged-given : (d a k f l index from : ℕ) → walked d s 0 n ≡ gives (valuesAt a k) → f ≡ unle (take w (drop index s))
       → getRagged w p (drop a s) k ≡ gives (record { values = take l (drop from s); offsets = offsetsIn w (suc k) (drop index s) })
       → readIn byteMask (ragged w p) d n s ≡ gives (raggedFrom d w s n index from k f l)
   unfolding readIn getValues raggedFrom nestedFrom
@@ -204,116 +231,3 @@ module _ (w : ℕ) (p : Place) (s : List ℕ) (n : ℕ) where
       reads d (gives (valuesAt a k)) h
       ∙ ap (λ (x : Answer RaggedContent). andThen (andThen (andThen x (λ y. gives (slices (y .offsets) (y .values)))) (λ vs. gives (cellsFrom [] (suc d) s 0 n vs))) (λ cs. gives (layout (ragged w p) (suc d) cs))) g
       ∙ ap₂ (λ (x : ℕ) (y : List ℕ). gives (layout (ragged w p) (suc d) (cellsFrom [] (suc d) s 0 n (slicesFrom x (offsetsIn w k y) (take l (drop from s)))))) (sym ef) (drop-drop w index s)
-
--- ---- what was found, and what it gives
-
-pub record RaggedGiven (w : ℕ) (p : Place) (d : ℕ) (s : List ℕ) (n index from k f l : ℕ) : Type 0 where
-  pub masks : MasksWithin d s 0 n
-  pub count : k ≡ innermostCount d s n
-  pub within : IndexWithin w s k index from f l
-  pub is : readIn byteMask (ragged w p) d n s ≡ gives (raggedFrom d w s n index from k f l)
-
-module _ (w : ℕ) (p : Place) (d : ℕ) (s : List ℕ) (n : ℕ) where
-  abbrev Given : RaggedPlace → Type 0
-  Given (raggedAt index from k f l) = RaggedGiven w p d s n index from k f l
-
-  none-given : 1 ≤ n → w ≤ 16 → walked d s 0 n ≡ gives noneSet → RaggedGiven w p d s n 0 0 0 0 0
-  none-given h i q =
-      let x = walk-none d s 0 n (omega arith) q in
-      let deep : 1 ≤ d = none-deep d s 0 n q in
-      let f : d ≢ 0 = (λ e. absurd (omega arith)) in
-      record {
-        masks = x .within;
-        count = passed-count d s n 0 h x (λ e. absurd (omega arith));
-        within = record {
-          index-room = omega (arith, zero-mul w, within-now d s 0 n (x .within) f (λ e. absurd (omega arith)));
-          data-room = omega arith;
-          rising = tt;
-          last-is = refl;
-        };
-        is = ragged-none-set w p s n d q ∙ ap gives (sym (given-nested d w s n 0 0 0 0 0 f ∙ no-ends d w s n (0 + w)));
-      }
-
-  span-given : 1 ≤ n → (a k f l : ℕ) → walked d s 0 n ≡ gives (valuesAt a k) → spanIn (getRagged w p (drop a s) k) ≡ gives (f, l) → Given (placedAt w p s a k (f, l))
-  span-given h a k f l q e =
-      let x = walk-values d s 0 n a k (omega arith) q in
-      let c = index-checked w k s a p f l (x .1) e in
-      record {
-        masks = x .0 .within;
-        count = passed-count d s n k h (x .0) (values-flat d s 0 n a k q);
-        within = c .within;
-        is = ragged-given w p s n d a k f l (a + indexAt p (length s - a) (w + k * w)) (a + dataAt p (w + k * w)) q (c .first-is) (c .gave);
-      }
-
-  pub found-given : 1 ≤ n → w ≤ 16 → (index from k f l : ℕ) → raggedFound w p d s n ≡ gives (raggedAt index from k f l) → RaggedGiven w p d s n index from k f l
-  unfolding raggedFound
-  found-given h i index from k f l e = go (walked d s 0 n) refl e
-    where
-      at-span : (a j : ℕ) → walked d s 0 n ≡ gives (valuesAt a j) → (x : Answer (ℕ × ℕ)) → spanIn (getRagged w p (drop a s) j) ≡ x
-          → mapAnswer (placedAt w p s a j) x ≡ gives (raggedAt index from k f l) → RaggedGiven w p d s n index from k f l
-      at-span a j q (refuses m) r g = let z : _≡_ {A = ℕ} 0 1 = cc in absurd (omega arith)
-      at-span a j q (gives (f′, l′)) r g = let y : placedAt w p s a j (f′, l′) ≡ raggedAt index from k f l = cc in subst Given y (span-given h a j f′ l′ q r)
-
-      go : (x : Answer Innermost) → walked d s 0 n ≡ x → andThen x (raggedBy w p s) ≡ gives (raggedAt index from k f l) → RaggedGiven w p d s n index from k f l
-      go (refuses m) q r = let z : _≡_ {A = ℕ} 0 1 = cc in absurd (omega arith)
-      go (gives noneSet) q r = let y : raggedAt 0 0 0 0 0 ≡ raggedAt index from k f l = cc in subst Given y (none-given h i q)
-      go (gives (valuesAt a j)) q r = at-span a j q (spanIn (getRagged w p (drop a s) j)) refl r
-
-  pub found-refused : (e : ℕ) → raggedFound w p d s n ≡ refuses e → readIn byteMask (ragged w p) d n s ≡ refuses e
-  unfolding raggedFound
-  found-refused e h = go (walked d s 0 n) refl h
-    where
-      at-span : (a j : ℕ) → walked d s 0 n ≡ gives (valuesAt a j) → (x : Answer (ℕ × ℕ)) → spanIn (getRagged w p (drop a s) j) ≡ x
-          → mapAnswer (placedAt w p s a j) x ≡ refuses e → readIn byteMask (ragged w p) d n s ≡ refuses e
-      at-span a j q (refuses m) r g = let y : m ≡ e = cc in ragged-wrong w p s n d a j e q (span-refused (getRagged w p (drop a s) j) e (r ∙ ap refuses y))
-      at-span a j q (gives x) r g = let z : _≡_ {A = ℕ} 0 1 = cc in absurd (omega arith)
-
-      go : (x : Answer Innermost) → walked d s 0 n ≡ x → andThen x (raggedBy w p s) ≡ refuses e → readIn byteMask (ragged w p) d n s ≡ refuses e
-      go (refuses m) q r = let y : m ≡ e = cc in ragged-refused w p s n d e (q ∙ ap refuses y)
-      go (gives noneSet) q r = let z : _≡_ {A = ℕ} 0 1 = cc in absurd (omega arith)
-      go (gives (valuesAt a j)) q r = at-span a j q (spanIn (getRagged w p (drop a s) j)) refl r
-
-  pub found-walked : (x : Answer Innermost) → walked d s 0 n ≡ x → andThen x (raggedBy w p s) ≡ raggedFound w p d s n
-  unfolding raggedFound
-  found-walked x e = ap (λ (y : Answer Innermost). andThen y (raggedBy w p s)) (sym e)
-
-  -- k values at a, by their check
-  pub found-checked : (a k : ℕ) → walked d s 0 n ≡ gives (valuesAt a k) → (x : Answer (ℕ × ℕ)) → spanIn (getRagged w p (drop a s) k) ≡ x → mapAnswer (placedAt w p s a k) x ≡ raggedFound w p d s n
-  found-checked a k q x e = ap (mapAnswer (placedAt w p s a k)) (sym e) ∙ found-walked (gives (valuesAt a k)) q
-
-  -- i and j are where the index of z bytes and the data lie behind a
-  pub found-span : (a k f l z i j : ℕ) → walked d s 0 n ≡ gives (valuesAt a k) → spanIn (getRagged w p (drop a s) k) ≡ gives (f, l) → z ≡ w + k * w → i ≡ indexAt p (length s - a) z → j ≡ dataAt p z
-      → gives (raggedAt (a + i) (a + j) k f l) ≡ raggedFound w p d s n
-  found-span a k f l z i j q e ez ei ej =
-      ap₂ (λ (x y : ℕ). gives (raggedAt (a + x) (a + y) k f l)) (ei ∙ ap (indexAt p (length s - a)) ez) (ej ∙ ap (dataAt p) ez) ∙ found-checked a k q (gives (f, l)) e
-
-pub width-most : (w : IndexWidth) → widthOf w ≤ 16
-width-most Four = omega arith
-width-most Eight = omega arith
-
-pub flat-cells : (d : ℕ) (s : List ℕ) (n k : ℕ) → d ≡ 0 → k ≡ innermostCount d s n → k ≡ n
-unfolding innermostCount
-flat-cells d s n k e h = h ∙ ap (λ (j : ℕ). innermostCount j s n) e
-
-module _ {w : ℕ} {p : Place} {d : ℕ} {s : List ℕ} {n index from k f l : ℕ} (g : RaggedGiven w p d s n index from k f l) where
-  -- with no mask
-  pub flat-read : d ≡ 0 → readIn byteMask (ragged w p) d n s ≡ gives (contentArray [] (take l (drop from s)) (offsetsIn w (suc k) (drop index s)))
-  flat-read e = g .is ∙ ap gives (given-flat d w s n index from k f l e)
-
-  -- below masks; v is the width
-  pub nested-read : d ≢ 0 → (v : ℕ) → v ≡ w → readIn byteMask (ragged w p) d n s ≡ gives (nestedFrom d w s n (index + v) from k f l)
-  nested-read h v e = g .is ∙ ap gives (given-nested d w s n index from k f l h) ∙ ap (λ (x : ℕ). gives (nestedFrom d w s n (index + x) from k f l)) (sym e)
-
-  pub nested-within : 1 ≤ n → n ≤ mostCells → d ≤ mostDepth → d ≢ 0 → NestedWithin d w s n (index + w) from k f l
-  nested-within a b c h = record {
-    some = a;
-    few = b;
-    shallow = c;
-    deep = some-of d h;
-    masks = g .masks;
-    count = g .count;
-    ends-room = omega (arith, g .within .index-room);
-    rising = g .within .rising;
-    last-is = g .within .last-is;
-    room = g .within .data-room;
-  }

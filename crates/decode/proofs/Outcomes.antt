@@ -8,10 +8,9 @@ use lib.Dec.{leb}
 use lib.ListN.{length}
 use borrow.Author.Tests.{lt-leb}
 use Rattle.array.specs.declared.answer.WrittenArray.the-variants.{Lengths, Refused}
-use Rattle.array.specs.Answer.{Answer, gives, refuses, unless, Outcome}
+use Rattle.array.specs.Answer.{Answer, gives, refuses, unless}
 use Rattle.array.specs.Content.{Content}
 use Rattle.array.specs.Buffers.{over, lengthsOf, contentOutcome}
-use Rattle.array.specs.Buffers as buffers
 use Rattle.array.proofs.Rules.{enough-test}
 use Rattle.array.specs.Outcome.{contentArray, outcomeArray}
 use Rattle.decode.specs.Outcomes.{ifEnough, readOutcome}
@@ -62,11 +61,3 @@ module _ (c : Content) (m v o : List ℕ) where
       → outcomeArray (Lengths a b e) m′ v′ o′ ≡ readOutcome (contentArray m v o) (gives c)
   all-written h i j a b e m′ v′ o′ ea eb ee em ev eo =
       rw (ea, eb, ee, em, ev, eo) (ap (λ (x : Answer Content). contentOutcome x (contentArray m v o)) (sym (all-fit (contentArray m v o) c h i j)))
-
--- ---- the outcome, by what is read
-
-pub read-refused : (m v o : List ℕ) (e : ℕ) {a : Answer Content} → a ≡ refuses e → outcomeArray (Refused e) m v o ≡ readOutcome (contentArray m v o) a
-read-refused m v o e h = ap (readOutcome (contentArray m v o)) (sym h)
-
-pub read-given : (m v o : List ℕ) {a : Answer Content} {c : Content} {x : Outcome buffers.Lengths Content} → a ≡ gives c → x ≡ readOutcome (contentArray m v o) (gives c) → x ≡ readOutcome (contentArray m v o) a
-read-given m v o h e = e ∙ ap (readOutcome (contentArray m v o)) (sym h)

@@ -1,3 +1,2 @@
 pub mod Outcomes
-pub mod Found
 pub mod Reads

@@ -43,6 +43,7 @@ pub fn decode(
             order,
             masks,
             values,
+            offsets,
         ),
         Values::Ragged(width, place) => ragged::decode_ragged(
             bytes,

@@ -10,7 +10,6 @@ use responses::show;
 use text::scan::part_of_bytes;
 use text::scan::part_of_numbers;
 use valid::numbers::KindRead;
-use valid::numbers::KindRead;
 
 // Cuts a subset from an outcome.
 fn cut(kind: Kind, shape: &[u64], subset: &[u64], masks: &[u8], values: &[u8], offsets: &[u64]) {

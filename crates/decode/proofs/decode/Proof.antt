@@ -54,11 +54,11 @@ cast-decode-fixed c = search needs
 
 decode-fixed-requires : tie.Need-decode-fixed-requires
 decode-fixed-requires c κs =
-    let args = c .before .before .before .before .before .before .before .before .before .before .before .before .before .before .before .before .before .args in
-    let form = c .before .before .before .form in
-    let ok : KindOk (kindOf (args .kind)) = kind-ok (kindOf (args .kind)) (kind-is (c .before .before .before .before .before .before .before .before .before .before)) in
+    let args = c .before .before .before .before .before .before .before .before .before .before .before .before .before .before .before .before .before .before .args in
+    let form = c .before .before .before .before .form in
+    let ok : KindOk (kindOf (args .kind)) = kind-ok (kindOf (args .kind)) (kind-is (c .before .before .before .before .before .before .before .before .before .before .before)) in
     let sized : FormOk (fixed (form .given .0 .0) (orderOf (form .given .0 .1 .0))) = subst FormOk (ap formOf (form .given .1)) (ok .sound) in
-    ((counted (c .before .before .before .before .before .before)) .some, (counted (c .before .before .before .before .before .before)) .few, ok .shallow, sized .1)
+    ((counted (c .before .before .before .before .before .before .before)) .some, (counted (c .before .before .before .before .before .before .before)) .few, ok .shallow, sized .1)
 
 enum-known-form-2 : tie.Need-enum-known-form-2
 enum-known-form-2 c = search needs
@@ -72,20 +72,23 @@ same-length c = search needs
 same-length-2 : tie.Need-same-length-2
 same-length-2 c = search needs
 
-returns-3 : tie.Need-returns-3
-returns-3 c =
-    let args = c .before .before .before .before .before .before .before .before .before .before .before .before .before .before .before .before .before .before .before .before .before .before .args in
-    let form = c .before .before .before .before .before .before .before .before .form in
-    c .before .before .before .before .decode-fixed .ensures (args .offsets .now) ∙ by-reading (kindOf (args .kind)) (args .shape .now) (args .bytes .now) (args .masks .now) (args .values .now) (args .offsets .now) (kind-is (c .before .before .before .before .before .before .before .before .before .before .before .before .before .before .before)) (c .before .before .before .before .before .before .before .before .before .before .before .before .n .given .0 .0) (counted (c .before .before .before .before .before .before .before .before .before .before .before)) (fixed (form .given .0 .0) (orderOf (form .given .0 .1 .0))) (ap formOf (form .given .1))
-
 same-length-3 : tie.Need-same-length-3
 same-length-3 c = search needs
+
+returns-3 : tie.Need-returns-3
+returns-3 c =
+    let args = c .before .before .before .before .before .before .before .before .before .before .before .before .before .before .before .before .before .before .before .before .before .before .before .before .before .args in
+    let form = c .before .before .before .before .before .before .before .before .before .before .before .form in
+    c .before .before .before .before .before .before .decode-fixed .ensures ∙ by-reading (kindOf (args .kind)) (args .shape .now) (args .bytes .now) (args .masks .now) (args .values .now) (args .offsets .now) (kind-is (c .before .before .before .before .before .before .before .before .before .before .before .before .before .before .before .before .before .before)) (c .before .before .before .before .before .before .before .before .before .before .before .before .before .before .before .n .given .0 .0) (counted (c .before .before .before .before .before .before .before .before .before .before .before .before .before .before)) (fixed (form .given .0 .0) (orderOf (form .given .0 .1 .0))) (ap formOf (form .given .1))
 
 same-length-4 : tie.Need-same-length-4
 same-length-4 c = search needs
 
 same-length-5 : tie.Need-same-length-5
 same-length-5 c = search needs
+
+same-length-6 : tie.Need-same-length-6
+same-length-6 c = search needs
 
 returns-4 : tie.Need-returns-4
 returns-4 c =
@@ -111,8 +114,9 @@ decode-spec =
     decode-ragged-requires
     same-length
     same-length-2
-    returns-3
     same-length-3
+    returns-3
     same-length-4
     same-length-5
+    same-length-6
     returns-4)

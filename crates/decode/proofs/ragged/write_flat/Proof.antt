@@ -22,28 +22,28 @@ given c =
     let a = c .args in
     contentArray [] (take (a .last) (drop (a .from) (a .s .now))) (offsetsIn (widthOf (a .width)) (suc (a .n)) (drop (a .index) (a .s .now)))
 
-values-long : (c : tie.After-slice-known2) → length ((given (c .before .before .before)) .values) ≡ c .before .before .before .args .last
+values-long : (c : tie.After-slice-known3) → length ((given (c .before .before .before .before)) .values) ≡ c .before .before .before .before .args .last
 values-long c =
-    let args = c .before .before .before .args in
-    length-take-le (args .last) (drop (args .from) (args .s .now)) (omega (arith, length-drop (args .from) (args .s .now), c .before .before .before .pre .2))
+    let args = c .before .before .before .before .args in
+    length-take-le (args .last) (drop (args .from) (args .s .now)) (omega (arith, length-drop (args .from) (args .s .now), c .before .before .before .before .pre .2))
 
-offsets-long : (c : tie.After-slice-known2) → length ((given (c .before .before .before)) .offsets) ≡ c .before .before .before .args .n + 1
+offsets-long : (c : tie.After-slice-known3) → length ((given (c .before .before .before .before)) .offsets) ≡ c .before .before .before .before .args .n + 1
 offsets-long c =
-    let args = c .before .before .before .args in
+    let args = c .before .before .before .before .args in
     omega (arith, length-offsets (widthOf (args .width)) (suc (args .n)) (drop (args .index) (args .s .now)))
 
 add-count : tie.Need-add-count
-add-count c = omega (arith, few-cells (c .before .before .before .args .n) (c .before .before .before .pre .0))
+add-count c = omega (arith, few-cells (c .before .before .before .before .args .n) (c .before .before .before .before .pre .0))
 
 returns : tie.Need-returns
-returns c masks =
-    let args = c .before .before .before .before .args in
-    short-values (given (c .before .before .before .before)) masks (args .values .now) (args .offsets .now) (omega (arith, (values-long (c .before))))
+returns c =
+    let args = c .before .before .before .before .before .args in
+    short-values (given (c .before .before .before .before .before)) (args .masks .now) (args .values .now) (args .offsets .now) (omega (arith, (values-long (c .before))))
 
 returns-2 : tie.Need-returns-2
-returns-2 c masks =
-    let args = c .before .before .before .before .before .args in
-    short-offsets (given (c .before .before .before .before .before)) masks (args .values .now) (args .offsets .now) (omega (arith, (offsets-long (c .before .before))))
+returns-2 c =
+    let args = c .before .before .before .before .before .before .args in
+    short-offsets (given (c .before .before .before .before .before .before)) (args .masks .now) (args .values .now) (args .offsets .now) (omega (arith, (offsets-long (c .before .before))))
 
 copy-offsets-requires : tie.Need-copy-offsets-requires
 copy-offsets-requires c κs = search needs
@@ -58,9 +58,9 @@ same-length-2 : tie.Need-same-length-2
 same-length-2 c = search needs
 
 returns-3 : tie.Need-returns-3
-returns-3 c masks =
-    let args = c .before .before .before .before .before .before .before .before .before .before .before .before .before .args in
-    all-written (given (c .before .before .before .before .before .before .before .before .before .before .before .before .before)) masks (args .values .now) (args .offsets .now)
+returns-3 c =
+    let args = c .before .before .before .before .before .before .before .before .before .before .before .before .before .before .args in
+    all-written (given (c .before .before .before .before .before .before .before .before .before .before .before .before .before .before)) (args .masks .now) (args .values .now) (args .offsets .now)
     (omega arith) (omega (arith, (values-long (c .before .before .before .before .before .before .before .before .before .before)))) (omega (arith, (offsets-long (c .before .before .before .before .before .before .before .before .before .before)))) 0 (args .last) (args .n + 1) _ _ _ refl (sym (values-long (c .before .before .before .before .before .before .before .before .before .before))) (sym (offsets-long (c .before .before .before .before .before .before .before .before .before .before))) refl (c .before .before .copy-bytes .ensures) (c .before .before .before .before .before .before .copy-offsets .ensures)
 
 pub write-flat-spec : {M : Type 1} → statement M
