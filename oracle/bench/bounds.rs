@@ -21,11 +21,7 @@ pub fn copy_16(to: &mut [u8], from: &[u8]) {
 
 /// The same with stores of 32 bytes, where the machine has them.
 pub fn copy_32(to: &mut [u8], from: &[u8]) {
-    if is_x86_feature_detected!("avx") {
-        unsafe { copy_avx(to, from) }
-    } else {
-        copy_16(to, from)
-    }
+    if is_x86_feature_detected!("avx") { unsafe { copy_avx(to, from) } } else { copy_16(to, from) }
 }
 #[target_feature(enable = "avx")]
 fn copy_avx(to: &mut [u8], from: &[u8]) {
