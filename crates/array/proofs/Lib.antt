@@ -14,3 +14,5 @@ pub mod Over
 pub mod Laying
 pub mod Limits
 pub mod SubsetLists
+pub mod Reversed
+pub mod CellAnswers

@@ -12,3 +12,4 @@ pub mod Buffers
 pub mod Meaning
 pub mod Outcome
 pub mod Rows
+pub mod Calls

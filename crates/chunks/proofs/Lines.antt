@@ -3,8 +3,8 @@
 use mathlib.Core.Path.{refl}
 use Rattle.array.specs.Limits.{mostBytes, mostCells}
 use Rattle.array.specs.Bytes.{le, unle}
-use Rattle.endian.specs.Calls.{reverseAnswer, endiannessReversed}
-use Rattle.subset.specs.Calls.{cellsAnswer, subsetCells}
+use Rattle.array.specs.Calls.{reverseAnswer, endiannessReversed}
+use Rattle.array.specs.Calls.{cellsAnswer, subsetCells}
 use Rattle.codec.specs.Frame.{wrap, frame, readFrame}
 use Rattle.codec.specs.Ragged.{putRagged, getRagged}
 use Rattle.codec.specs.Values.{putValues, getValues}

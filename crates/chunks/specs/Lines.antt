@@ -9,8 +9,8 @@ use Rattle.array.specs.Answer.{Answer, gives, refuses, Outcome}
 use Rattle.array.specs.Kind.{Kind, fixed, ragged, little, atStart, atEnd}
 use Rattle.array.specs.Content.{Content, RaggedContent, cellsOf}
 use Rattle.array.specs.Buffers.{Lengths, RaggedLengths}
-use Rattle.endian.specs.Calls.{endiannessReversed}
-use Rattle.subset.specs.Calls.{subsetCells}
+use Rattle.array.specs.Calls.{endiannessReversed}
+use Rattle.array.specs.Calls.{subsetCells}
 use Rattle.codec.specs.Calls.{encoded, decoded, interleavedDecoded}
 use Rattle.chunks.specs.Calls.{extracted}
 

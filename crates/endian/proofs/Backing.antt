@@ -12,7 +12,7 @@ use Rattle.array.specs.Buffers.{overAt}
 use Rattle.array.specs.Kind.{big}
 use Rattle.array.proofs.Over.{over-at-length}
 use Rattle.buffer.proofs.Unrolled.{reads-take, stores-over}
-use Rattle.endian.specs.Calls.{reversedCells}
+use Rattle.array.specs.Calls.{reversedCells}
 use Rattle.endian.proofs.CellLaws.{over-none, over-next, reversed-one, two-runs}
 use Rattle.word.proofs.Words.{Slice, le-read, reverse-one}
 

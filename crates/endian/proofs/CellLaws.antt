@@ -5,14 +5,15 @@ use mathlib.Core.List.{List, [], _∷_, _++_, map, reverse, append-assoc, append
 use Prim.Native.Nat.{ℕ, zero, suc, _+_, _*_, _≤_}
 use native.Mathlib.Nat.{zero-mul, zero-add, suc-mul, add-mul}
 use native.Mathlib.Omega.{arith}
-use lib.ListN.{length, take, drop, length-append, length-drop, length-reverse, take-append-drop}
+use lib.ListN.{length, take, drop, length-append, length-drop, take-append-drop}
 use lib.Seq.{drop-drop, take-add, take-at, drop-at, length-take-le}
 use Rattle.array.specs.Lists.{joined, pieces}
 use Rattle.array.specs.Buffers.{over, overAt}
 use Rattle.array.specs.Kind.{Order, little, big, ordered}
 use Rattle.array.proofs.Lists.{map-id}
 use Rattle.array.proofs.Over.{over-again}
-use Rattle.endian.specs.Calls.{reversedCells}
+use Rattle.array.proofs.Reversed.{length-reversed}
+use Rattle.array.specs.Calls.{reversedCells}
 
 -- ---- what is laid behind what was laid
 
@@ -37,18 +38,6 @@ reversed-add k (suc i) m s =
     ∙ ap (λ (r : List ℕ). reverse (take k s) ++ r)
     (reversed-add k i m (drop k s) ∙ ap (λ (r : List ℕ). reversedCells k i (drop k s) ++ reversedCells k m r) (drop-drop (i * k) k s ∙ ap (λ (j : ℕ). drop j s) e))
     ∙ sym (append-assoc (reverse (take k s)) (reversedCells k i (drop k s)) (reversedCells k m (drop (suc i * k) s)))
-
-pub length-reversed : (k i : ℕ) (s : List ℕ) → i * k ≤ length s → length (reversedCells k i s) ≡ i * k
-length-reversed k zero s h = sym (zero-mul k)
-length-reversed k (suc i) s h =
-    let m : suc i * k ≡ i * k + k = suc-mul i k in
-    omega (
-      arith,
-      length-append (reverse (take k s)) (reversedCells k i (drop k s)),
-      length-reverse (take k s),
-      length-take-le k s (omega arith),
-      length-reversed k i (drop k s) (omega (arith, length-drop k s)),
-    )
 
 reversed-none : (n : ℕ) → [] ≡ reversedCells 1 n []
 reversed-none zero = refl

@@ -10,8 +10,9 @@ use lib.ListN.{length, take, drop, length-append, length-drop}
 use lib.Seq.{drop-drop, drop-at, length-take-le}
 use Rattle.array.specs.Buffers.{overAt}
 use Rattle.array.proofs.Over.{over-at-length}
-use Rattle.endian.specs.Calls.{reversedCells}
-use Rattle.endian.proofs.CellLaws.{over-none, over-next, reversed-one, reversed-add, length-reversed}
+use Rattle.array.specs.Calls.{reversedCells}
+use Rattle.endian.proofs.CellLaws.{over-none, over-next, reversed-one, reversed-add}
+use Rattle.array.proofs.Reversed.{length-reversed}
 
 -- the first i of n cells lie at `to` in what was d
 pub record Copies (d : List ℕ) (to : ℕ) (s : List ℕ) (at k n : ℕ) (out : List ℕ) (i : ℕ) : Type 0 where

@@ -1,19 +1,16 @@
--- A cell reversed in place by its ends, any number of bytes a turn; and what the call answers.
+-- A cell reversed in place by its ends, any number of bytes a turn.
 -- Assumes nothing.
 use mathlib.Core.Path.{_≡_, refl, sym, ap, ap₂, _∙_}
-use mathlib.Core.Bool.{true, false}
 use mathlib.Core.List.{List, [], _∷_, _++_, reverse, append-assoc, reverse-append}
-use Prim.Native.Nat.{ℕ, _+_, _-_, _*_, _/_, _≤_, _<_}
-use native.Mathlib.Nat.{div-mul-le-self}
+use Prim.Native.Nat.{ℕ, _+_, _-_, _*_, _≤_, _<_}
 use native.Mathlib.Omega.{arith}
 use lib.ListN.{length, take, drop, getD, set, length-append, length-take, length-drop, length-reverse, take-append-drop}
 use lib.Seq.{drop-drop, take-add, take-at, drop-at, length-take-le}
 use Rattle.array.specs.Buffers.{over, overAt}
-use Rattle.array.specs.Answer.{gives, refuses}
-use Rattle.array.specs.Kind.{fixed, little, formTest}
 use Rattle.array.proofs.Over.{over-at-length}
-use Rattle.endian.specs.Calls.{reversedCells, reverseAnswer, endiannessReversed}
-use Rattle.endian.proofs.CellLaws.{reversed-ones, reversed-take, length-reversed}
+use Rattle.array.specs.Calls.{reversedCells}
+use Rattle.endian.proofs.CellLaws.{reversed-ones, reversed-take}
+use Rattle.array.proofs.Reversed.{length-reversed}
 use Rattle.endian.proofs.Backing.{byte-over, byte-read, length-back}
 
 -- the k bytes at `at` reversed, all else as it was
@@ -171,23 +168,3 @@ module _ {at k : ℕ} {d out : List ℕ} {low left : ℕ} (l : Swapping at k d o
       kept =
           let e : take low out ++ take left (drop low out) ≡ take (low + left) out = sym (take-add low left out) in
           ap (λ (r : List ℕ). over r out) e ∙ ap (λ (j : ℕ). take (low + left) out ++ drop j out) (length-take-le (low + left) out (l .room)) ∙ take-append-drop (low + left) out
-
--- ---- the call
-
-pub reverse-refused : (k : ℕ) (d : List ℕ) → formTest (fixed k little) ≡ false → record { answer = refuses 1; buffers = d } ≡ endiannessReversed k d
-unfolding endiannessReversed reverseAnswer
-reverse-refused k d t = rw t
-
-pub reverse-done : (k : ℕ) (d d′ : List ℕ) (n : ℕ) → formTest (fixed k little) ≡ true → n ≡ length d / k → d′ ≡ over (reversedCells k n d) d
-    → record { answer = gives (n * k); buffers = d′ } ≡ endiannessReversed k d
-unfolding endiannessReversed reverseAnswer
-reverse-done k d d′ n t e f =
-    let l : length (reversedCells k n d) ≡ n * k = length-reversed k n d (omega (arith, ap (λ (j : ℕ). j * k) e, div-mul-le-self (length d) k)) in
-    rw (t, f, l, e)
-
--- by a size that is j
-pub reverse-whole : (k j : ℕ) (d d′ : List ℕ) (r : ℕ) → formTest (fixed k little) ≡ true → k ≡ j → r ≡ length d / j * j → d′ ≡ over (reversedCells j (length d / j) d) d
-    → record { answer = gives r; buffers = d′ } ≡ endiannessReversed k d
-reverse-whole k j d d′ r t q e f =
-    ap (λ (n : ℕ). record { answer = gives n; buffers = d′ }) (e ∙ ap (λ (i : ℕ). length d / i * i) (sym q))
-    ∙ reverse-done k d d′ (length d / k) t refl (f ∙ ap (λ (i : ℕ). over (reversedCells i (length d / i) d) d) (sym q))

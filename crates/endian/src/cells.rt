@@ -14,7 +14,7 @@ ghost use Rattle.array.specs.Buffers.{overAt};
 ghost use Rattle.array.specs.Kind.{ordered};
 ghost use Rattle.array.specs.Lists.{joined, pieces};
 ghost use Rattle.array.specs.Meaning.{orderOf};
-ghost use Rattle.endian.specs.Calls.{reversedCells};
+ghost use Rattle.array.specs.Calls.{reversedCells};
 ghost use Rattle.endian.specs.Sizes.{Narrow, Wide};
 ghost use Rattle.word.specs.Word.{wordTest};
 

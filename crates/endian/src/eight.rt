@@ -3,7 +3,7 @@ ghost use mathlib.Core.Path.{_≡_};
 ghost use Prim.Native.Nat.{_+_, _≤_};
 ghost use lib.ListN.{length, take, drop};
 ghost use Rattle.array.specs.Buffers.{overAt};
-ghost use Rattle.endian.specs.Calls.{reversedCells};
+ghost use Rattle.array.specs.Calls.{reversedCells};
 ghost use Rattle.endian.specs.Eight.{eightBytes};
 
 pub struct Eight {

@@ -8,7 +8,7 @@ ghost use mathlib.Core.List.{reverse};
 ghost use Prim.Native.Nat.{_+_, _*_, _/_, _≤_};
 ghost use lib.ListN.{length, take, drop};
 ghost use Rattle.array.specs.Buffers.{overAt};
-ghost use Rattle.endian.specs.Calls.{reversedCells, wholeCells};
+ghost use Rattle.array.specs.Calls.{reversedCells, wholeCells};
 ghost use Rattle.endian.specs.Sizes.{Narrow, Wide};
 ghost use Rattle.word.specs.Word.{wordTest};
 

@@ -8,7 +8,7 @@ use array::answer::Written;
 use array::refusal;
 use valid::kind::MOST_SIZE;
 ghost use mathlib.Core.Path.{_≡_};
-ghost use Rattle.endian.specs.Calls.{endiannessReversed};
+ghost use Rattle.array.specs.Calls.{endiannessReversed};
 ghost use Rattle.array.specs.Meaning.{told};
 
 // Reverses each whole cell in place and says how many bytes these are; a shorter tail is left. A size that no fixed kind

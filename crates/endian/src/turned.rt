@@ -3,7 +3,7 @@ ghost use mathlib.Core.Path.{_≡_};
 ghost use Prim.Native.Nat.{_+_, _/_, _≤_};
 ghost use lib.ListN.{length, drop};
 ghost use Rattle.array.specs.Bytes.{le};
-ghost use Rattle.endian.specs.Calls.{reversedCells};
+ghost use Rattle.array.specs.Calls.{reversedCells};
 ghost use Rattle.endian.specs.Sizes.{Wide};
 
 // The eight bytes at `at` as a number, each cell of four or eight of them reversed.

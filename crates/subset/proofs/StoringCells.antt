@@ -1,20 +1,13 @@
--- Storing the cells of a subset row by row, and what the call answers.
+-- Storing the cells of a subset row by row.
 -- Assumes nothing.
-use mathlib.Core.Path.{_≡_, refl, sym, ap, ap₂, _∙_}
-use mathlib.Core.Bool.{Bool, true, false}
+use mathlib.Core.Path.{_≡_, sym, ap, ap₂, _∙_}
 use Prim.Native.Nat.{ℕ, suc, _+_, _-_, _<_, _≤_}
 use native.Mathlib.Nat.{add-zero, sub-zero, zero-add}
 use native.Mathlib.Omega.{arith}
 use mathlib.Core.List.{List, _∷_, _++_}
 use lib.ListN.{length, drop, getD, set}
-use lib.Dec.{leb}
-use borrow.Author.Tests.{le-leb, lt-leb}
-use Rattle.array.specs.Answer.{Answer, gives, refuses, unless, Outcome}
 use Rattle.array.specs.Lists.{from}
-use Rattle.array.specs.Shape.{shapeTest}
-use Rattle.array.specs.Subset.{Subset, subsetOf, numbersTest, cellsIn}
-use Rattle.array.specs.Buffers.{over, overAt, listOutcome}
-use Rattle.subset.specs.Calls.{cellsAnswer, subsetCells}
+use Rattle.array.specs.Buffers.{over, overAt}
 use Rattle.array.proofs.Lists.{length-from}
 use Rattle.array.proofs.Laying.{Laying, laying-begins, laying-same, laying-ends, laying-part, laying-store, laying-is, laying-room}
 use Rattle.subset.proofs.Rows.{Left, left-next, left-more, left-ends}
@@ -71,30 +64,3 @@ module _ (cs d out : List ℕ) (cells n at : ℕ) (s : Stored cs d out cells n a
         out′ (r ∙ ap (λ (k : ℕ). overAt k (from a n) out) (sym (zero-add at)))
         (at + n) (ap (λ (k : ℕ). at + k) (sym (length-from a n)));
   }
-
--- ---- the call: each refusal, and success
-
-module _ (sh ns out : List ℕ) where
-  abbrev after : Answer ℕ → List ℕ → Outcome ℕ (List ℕ)
-  after a b = record { answer = a; buffers = b }
-
-  answered : (a b c : Bool) → shapeTest sh ≡ a → numbersTest sh ns ≡ b → leb (length (cellsIn sh (subsetOf (length sh) ns))) (length out) ≡ c
-      → subsetCells sh ns out ≡ listOutcome (unless a 2 (unless b 3 (unless c 6 (gives (cellsIn sh (subsetOf (length sh) ns)))))) out
-  unfolding subsetCells cellsAnswer
-  answered a b c p q r = rw (p, q, r)
-
-  pub cells-no-shape : shapeTest sh ≡ false → after (refuses 2) out ≡ subsetCells sh ns out
-  cells-no-shape p = sym (answered false (numbersTest sh ns) (leb (length (cellsIn sh (subsetOf (length sh) ns))) (length out)) p refl refl)
-
-  module _ (p : shapeTest sh ≡ true) where
-    pub cells-no-subset : numbersTest sh ns ≡ false → after (refuses 3) out ≡ subsetCells sh ns out
-    cells-no-subset q = sym (answered true false (leb (length (cellsIn sh (subsetOf (length sh) ns))) (length out)) p q refl)
-
-    module _ (q : numbersTest sh ns ≡ true) (n : ℕ) (e : n ≡ length (cellsIn sh (subsetOf (length sh) ns))) where
-      pub cells-no-room : length out < n → after (refuses 6) out ≡ subsetCells sh ns out
-      cells-no-room h = sym (answered true true false p q (lt-leb (length (cellsIn sh (subsetOf (length sh) ns))) (length out) (omega arith)))
-
-      pub cells-stored : n ≤ length out → (b : Subset) → b ≡ subsetOf (length sh) ns → (out′ : List ℕ) → out′ ≡ over (cellsIn sh b) out → after (gives n) out′ ≡ subsetCells sh ns out
-      cells-stored h b g out′ r =
-          ap₂ (λ (k : ℕ) (o : List ℕ). after (gives k) o) e (r ∙ ap (λ (c : Subset). over (cellsIn sh c) out) g)
-          ∙ sym (answered true true true p q (le-leb (length (cellsIn sh (subsetOf (length sh) ns))) (length out) (omega arith)))

@@ -12,7 +12,7 @@ ghost use Rattle.array.specs.Subset.{pairs, subsetTest, fullTest, numbersTest, 
 ghost use Rattle.array.specs.Buffers.{over, overAt};
 ghost use Rattle.array.specs.Rows.{Within, FewCells};
 ghost use Rattle.array.specs.Outcome.{outcome};
-ghost use Rattle.subset.specs.Calls.{subsetCells};
+ghost use Rattle.array.specs.Calls.{subsetCells};
 
 // Whether a start leaves room for the length in its side. The length is taken off the side, since a sum could wrap.
 fn leaves_room(side: u64, start: u64, len: u64) -> bool

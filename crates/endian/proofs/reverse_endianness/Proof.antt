@@ -7,7 +7,8 @@ use native.Mathlib.Omega.{arith}
 use lib.ListN.{length}
 use Rattle.array.specs.Kind.{little}
 use Rattle.valid.proofs.NumberLaws.{size-fits}
-use Rattle.endian.proofs.Reversing.{ones-reversed, reverse-whole}
+use Rattle.endian.proofs.Reversing.{ones-reversed}
+use Rattle.array.proofs.Reversed.{reverse-whole}
 use borrow.Author.Needs.{needs}
 use Rattle.endian.proofs.reverse_endianness.Statement.{statement}
 use Rattle.endian.proofs.reverse_endianness.Tie as tie

@@ -6,7 +6,7 @@ use native.Mathlib.Omega.{arith}
 use lib.ListN.{length}
 use Rattle.array.specs.Kind.{little}
 use Rattle.valid.proofs.NumberLaws.{size-fits, size-none, size-over}
-use Rattle.endian.proofs.Reversing.{reverse-refused, reverse-whole}
+use Rattle.array.proofs.Reversed.{reverse-refused, reverse-whole}
 use borrow.Author.Needs.{needs}
 use Rattle.endian.proofs.reverse_others.Statement.{statement}
 use Rattle.endian.proofs.reverse_others.Tie as tie

@@ -15,7 +15,7 @@ use Rattle.valid.proofs.ShapeLaws.{Counted, counted, not-counted}
 use Rattle.array.proofs.SubsetLists.{subset-parts, within-parts}
 use Rattle.subset.proofs.Index.{few-within}
 use Rattle.subset.proofs.Rows.{within-cells}
-use Rattle.subset.proofs.StoringCells.{cells-no-shape, cells-no-subset, cells-no-room, cells-stored}
+use Rattle.array.proofs.CellAnswers.{cells-no-shape, cells-no-subset, cells-no-room, cells-stored}
 use Rattle.subset.proofs.subset_cells.Statement.{statement}
 use Rattle.subset.proofs.subset_cells.Tie as tie
 

@@ -5,7 +5,7 @@ use mathlib.Core.List.{List}
 use Prim.Native.Nat.{ℕ, _+_, _/_}
 use lib.ListN.{drop}
 use Rattle.array.specs.Buffers.{overAt}
-use Rattle.endian.specs.Calls.{reversedCells}
+use Rattle.array.specs.Calls.{reversedCells}
 use Rattle.endian.proofs.Sizes.{wide-block, wide-word}
 use Rattle.endian.proofs.Backing.{four-words}
 use borrow.Author.Needs.{needs}

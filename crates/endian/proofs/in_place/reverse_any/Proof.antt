@@ -5,7 +5,7 @@ use Prim.Native.Nat.{ℕ, _*_}
 use native.Mathlib.Omega.{arith}
 use lib.ListN.{drop}
 use Rattle.array.specs.Buffers.{overAt}
-use Rattle.endian.specs.Calls.{reversedCells}
+use Rattle.array.specs.Calls.{reversedCells}
 use borrow.Author.Needs.{needs}
 use Rattle.endian.proofs.in_place.reverse_any.Statement.{statement}
 use Rattle.endian.proofs.in_place.reverse_any.Tie as tie

@@ -3,7 +3,7 @@
 use mathlib.Core.Path.{sym, ap, _∙_}
 use Prim.Native.Nat.{ℕ, _/_}
 use lib.ListN.{drop}
-use Rattle.endian.specs.Calls.{reversedCells}
+use Rattle.array.specs.Calls.{reversedCells}
 use Rattle.endian.proofs.Sizes.{wide-eight}
 use Rattle.endian.proofs.Backing.{pair-turned, one-turned}
 use borrow.Author.Needs.{needs}

@@ -1,11 +1,17 @@
--- The public call reverse_endianness (document 01, item 1): what it answers, and what it leaves in the lent bytes.
+-- The public calls of this layer: what each answers, and what it leaves in the lent buffers.
 -- Assumes nothing.
 use Prim.Native.Nat.{ℕ, _*_, _/_}
 use mathlib.Core.List.{List, _++_, map, reverse}
 use lib.ListN.{length, drop}
+use lib.Dec.{leb}
 use Rattle.array.specs.Answer.{Answer, gives, refuses, unless, Outcome}
 use Rattle.array.specs.Kind.{fixed, little, formTest}
 use Rattle.array.specs.Lists.{joined, pieces}
+use Rattle.array.specs.Shape.{shapeTest}
+use Rattle.array.specs.Subset.{subsetOf, numbersTest, cellsIn}
+use Rattle.array.specs.Buffers.{listOutcome}
+
+-- ---- reverse_endianness (document 01, item 1)
 
 -- how many bytes of a string lie in whole cells of size k
 abbrev pub wholeCells : ℕ → List ℕ → ℕ
@@ -31,3 +37,16 @@ bytesReversed k (refuses r) s = s
 unfoldable pub endiannessReversed : ℕ → List ℕ → Outcome ℕ (List ℕ)
 unfolding reverseAnswer
 endiannessReversed k s = record { answer = reverseAnswer k s; buffers = bytesReversed k (reverseAnswer k s) s }
+
+-- ---- subset_cells (document 01, item 2): the numbers of the cells of a subset, in row order
+
+unfoldable pub cellsAnswer : List ℕ → List ℕ → ℕ → Answer (List ℕ)
+cellsAnswer shape ns room =
+    let cells = cellsIn shape (subsetOf (length shape) ns) in
+    unless (shapeTest shape) 2
+    (unless (numbersTest shape ns) 3
+    (unless (leb (length cells) room) 6 (gives cells)))
+
+unfoldable pub subsetCells : List ℕ → List ℕ → List ℕ → Outcome ℕ (List ℕ)
+unfolding cellsAnswer
+subsetCells shape ns out = listOutcome (cellsAnswer shape ns (length out)) out
