@@ -1,12 +1,11 @@
 -- The rest form, by the words of document 01: a level's mask byte stays if all outer masks there are set, else it is 0; the value
 -- stays if all masks are set, else it is that of a null.
 -- Assumes nothing.
-use mathlib.Core.Path.{_≡_, refl, sym, ap, _∙_}
+use mathlib.Core.Path.{_≡_, refl, ap}
 use Prim.Native.Nat.{ℕ, zero, suc}
-use mathlib.Core.Bool.{Bool, true, false, _&&_}
-use mathlib.Core.List.{List}
+use mathlib.Core.Bool.{Bool, true, _&&_}
 use Rattle.array.specs.Lists.{pick}
-use Rattle.array.specs.Cells.{Value, Cell, Mark, isNull, isSet, markOf, leaf, blank, restBy, restOne, rest}
+use Rattle.array.specs.Cells.{Value, Cell, setTest, leaf, blank, restOne, rest}
 
 -- the mask byte of level l, outermost first; 0 past the innermost
 abbrev pub maskAt : (d l : ℕ) → Cell d → ℕ
@@ -14,22 +13,11 @@ maskAt zero l c = 0
 maskAt (suc d) zero c = c .0
 maskAt (suc d) (suc l) c = maskAt d l (c .1)
 
-abbrev pub setTest : ℕ → Bool
-setTest zero = false
-setTest (suc m) = true
-
 -- the masks of the first l levels are all set
 abbrev pub outerSet : (d l : ℕ) → Cell d → Bool
 outerSet zero l c = true
 outerSet (suc d) zero c = true
 outerSet (suc d) (suc l) c = setTest (c .0) && outerSet d l (c .1)
-
--- a mask byte is null where it is 0, and nowhere else
-pub mark-null : markOf 0 ≡ isNull
-mark-null = refl
-
-pub mark-set : (m : ℕ) → markOf (suc m) ≡ isSet
-mark-set m = refl
 
 module _ (z : Value) where
   pub rest-blank : (d : ℕ) → rest z d (blank z d) ≡ blank z d

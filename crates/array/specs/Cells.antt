@@ -2,6 +2,7 @@
 -- recursion on the depth, so that a cell of depth d + 1 is a mask byte and a cell of depth d.
 -- Assumes nothing.
 use Prim.Native.Nat.{ℕ, zero, suc}
+use mathlib.Core.Bool.{Bool, true, false}
 use mathlib.Core.List.{List, [], _∷_, map}
 
 abbrev pub Value : Type 0
@@ -18,6 +19,13 @@ pub data Mark : Type 0 where
 abbrev pub markOf : ℕ → Mark
 markOf zero = isNull
 markOf (suc m) = isSet
+
+abbrev pub setTestBy : Mark → Bool
+setTestBy isNull = false
+setTestBy isSet = true
+
+abbrev pub setTest : ℕ → Bool
+setTest m = setTestBy (markOf m)
 
 -- the mask bytes of the outermost level, and what stands below it
 abbrev pub maskOf : {A : Type 0} → List (ℕ × A) → List ℕ

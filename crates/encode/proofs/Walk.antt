@@ -11,10 +11,9 @@ use lib.Seq.{drop-drop}
 use Rattle.array.specs.Lists.{pick, from, pieces, passing}
 use Rattle.array.specs.Kind.{Kind, Form, fixed, ragged}
 use Rattle.array.specs.Offsets.{slices, slicesFrom}
-use Rattle.array.specs.Cells.{Value, Cell, maskOf}
+use Rattle.array.specs.Cells.{Value, Cell, maskOf, setTest}
 use Rattle.array.specs.Content.{Content, ContentOk, ValuesOk, pairUp, attach, valuesIn, cellsOf}
 use Rattle.codec.specs.Mask.{byteMask}
-use Rattle.stored.specs.Marks.{setTest}
 use Rattle.codec.specs.Frame.{keep, wrap, unlessNone, frame}
 use Rattle.codec.specs.Values.{putValues}
 use Rattle.codec.specs.Calls.{written, storedForm}

@@ -13,9 +13,8 @@ use lib.Seq.{drop-cons}
 use Rattle.array.specs.Lists.{pick, from, passing}
 use Rattle.array.proofs.Lists.{All-of, length-from}
 use Rattle.array.proofs.Geometry.{passing-cong}
-use Rattle.stored.specs.Marks.{setTest, setTestBy}
 use Rattle.codec.specs.Frame.{countSet, countBy}
-use Rattle.array.specs.Cells.{Mark, isNull, isSet, markOf}
+use Rattle.array.specs.Cells.{Mark, isNull, isSet, markOf, setTest, setTestBy}
 use Rattle.gather.specs.Live.{maskAt, setOne, liveTest, liveOne, liveAt, liveFrom}
 use Rattle.gather.proofs.Numbered.{live-all}
 use Rattle.gather.proofs.Runs.{passing-start, passing-end}

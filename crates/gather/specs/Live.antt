@@ -7,7 +7,7 @@ use mathlib.Core.List.{List}
 use lib.ListN.{length, getD}
 use Rattle.array.specs.Limits.{mostCells, mostDepth}
 use Rattle.array.specs.Lists.{pick, from, passing}
-use Rattle.stored.specs.Marks.{setTest}
+use Rattle.array.specs.Cells.{setTest}
 
 -- the mask byte of cell i at level l, of n cells
 abbrev pub maskAt : ℕ → List ℕ → ℕ → ℕ → ℕ

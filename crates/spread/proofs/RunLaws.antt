@@ -8,8 +8,8 @@ use native.Mathlib.Omega.{arith}
 use native.Mathlib.Numerals.{add-one}
 use lib.ListN.{length, take, drop, getD, drop-of-length-le}
 use lib.Seq.{drop-cons}
+use Rattle.array.specs.Cells.{setTest}
 use Rattle.codec.specs.Frame.{countSet}
-use Rattle.stored.specs.Marks.{setTest}
 use Rattle.spread.specs.Runs.{runOf}
 
 pub run-within : (b : Bool) (p : List ℕ) → runOf b p ≤ length p

@@ -89,9 +89,6 @@ pub data-some : (l k : ℕ) → (l ≡ 0 → ⊥) → eqb l k ≡ dataTest l k
 data-some zero k f = absurd (f refl)
 data-some (suc l) k f = refl
 
-pub data-none : (l k : ℕ) → l ≡ 0 → true ≡ dataTest l k
-data-none l k e = ap (λ (x : ℕ). dataTest x k) (sym e)
-
 -- ---- the limit
 
 pub over-limit : (n : ℕ) → ltb mostBytes n ≡ not (sizeTest n)

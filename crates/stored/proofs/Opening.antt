@@ -15,6 +15,7 @@ use Rattle.array.specs.Bytes.{unle}
 use Rattle.buffer.specs.Field.{fieldAt}
 use Rattle.buffer.proofs.Fields.{field-value, field-refused}
 use Rattle.codec.specs.Frame.{countSet}
+use Rattle.stored.specs.Marks.{countedIn}
 use Rattle.stored.specs.Walk.{opened, valuesAt, noneSet, entering, walked, walkedFrame}
 use Rattle.codec.proofs.Marks.{count-le}
 
@@ -36,7 +37,7 @@ module _ (s : List ℕ) (n : ℕ) where
         go true = refl
         go false = refl
 
-    open-count : unle (take 8 s) ≡ n → length s ≡ 16 + unle (take 8 s) + unle (take 8 (drop 8 s)) → gives (countSet (take n (drop 16 s))) ≡ opened s n
+    open-count : unle (take 8 s) ≡ n → length s ≡ 16 + unle (take 8 s) + unle (take 8 (drop 8 s)) → countedIn (take n (drop 16 s)) n ≡ opened s n
     unfolding opened
     open-count e f = rw (le-leb 16 (length s) h, eq-eqb _ _ f, eq-eqb _ _ e)
 
@@ -70,10 +71,10 @@ module _ (s : List ℕ) (at n : ℕ) (l : at ≤ length s) where
       pub by-total : m ≡ z → (length s - (at + 16) ≡ z + c → ⊥) → refuses 8 ≡ opened (drop at s) n
       by-total e f = open-total (drop at s) n long (λ h. f (omega (arith, length-drop at s, first, second, room-for)))
 
-      pub by-count : m ≡ z → length s - (at + 16) ≡ z + c → (k : ℕ) → k ≡ countSet (take (at + 16 + z - (at + 16)) (drop (at + 16) s)) → gives k ≡ opened (drop at s) n
-      by-count e f k h =
+      pub by-count : m ≡ z → length s - (at + 16) ≡ z + c → countedIn (take (at + 16 + z - (at + 16)) (drop (at + 16) s)) n ≡ opened (drop at s) n
+      by-count e f =
           let a : at + 16 + z - (at + 16) ≡ n = omega arith in
-          ap gives (h ∙ ap₂ (λ (x : ℕ) (q : List ℕ). countSet (take x q)) a (sym (drop-drop 16 at s)))
+          ap₂ (λ (x : ℕ) (q : List ℕ). countedIn (take x q) n) a (sym (drop-drop 16 at s))
           ∙ open-count (drop at s) n long (sym first ∙ e ∙ ez) (omega (arith, length-drop at s, first, second, room-for))
 
 -- ---- what the count says

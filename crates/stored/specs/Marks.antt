@@ -1,17 +1,22 @@
--- What the code's mark of a mask byte means, and whether a byte is set (document 01, The array: 0 null, any other byte set).
+-- What the code's mark of a mask byte means, and how many cells a stored mask sets.
 -- Assumes nothing.
 use Prim.Native.Nat.{ℕ}
-use mathlib.Core.Bool.{Bool, true, false}
-use Rattle.array.specs.Cells.{Mark, isNull, isSet, markOf}
-use Rattle.stored.specs.declared.mask.Mark as declared
+use mathlib.Core.List.{List}
+use Rattle.array.specs.Answer.{Answer, gives, refuses, andThen}
+use Rattle.array.specs.Cells.{Mark, isNull, isSet}
+use Rattle.codec.specs.Mask.{byteMask}
+use Rattle.codec.specs.Frame.{countSet}
+use Rattle.stored.specs.declared.mask.Mark as marks
+use Rattle.stored.specs.declared.mask.Counted as counts
 
-abbrev pub toldMark : declared.Mark → Mark
-toldMark declared.Mark.Null = isNull
-toldMark declared.Mark.Set = isSet
+abbrev pub toldMark : marks.Mark → Mark
+toldMark marks.Mark.Null = isNull
+toldMark marks.Mark.Set = isSet
 
-abbrev pub setTestBy : Mark → Bool
-setTestBy isNull = false
-setTestBy isSet = true
+-- the stored mask of n cells, got back or refused: how many of them it sets
+abbrev pub countedIn : List ℕ → ℕ → Answer ℕ
+countedIn mask n = andThen (byteMask .get mask n) (λ ms. gives (countSet ms))
 
-abbrev pub setTest : ℕ → Bool
-setTest m = setTestBy (markOf m)
+abbrev pub toldCounted : counts.Counted → Answer ℕ
+toldCounted (counts.Counted.Cells k) = gives k
+toldCounted (counts.Counted.Refused e) = refuses e

@@ -8,8 +8,7 @@ use lib.Dec.{leb, eqb}
 use Rattle.array.specs.Answer.{Answer, gives, refuses, unless, andThen}
 use Rattle.array.specs.Bytes.{unle}
 use Rattle.codec.specs.Mask.{byteMask}
-use Rattle.codec.specs.Frame.{countSet}
-use Rattle.stored.specs.declared.optional.Opened as frames
+use Rattle.stored.specs.Marks.{countedIn}
 use Rattle.stored.specs.declared.optional.Walked as walks
 
 -- how many cells the content of a frame of n cells has
@@ -17,7 +16,7 @@ unfoldable pub opened : List ℕ → ℕ → Answer ℕ
 opened s n =
     unless (leb 16 (length s)) 7
     (unless (eqb (length s) (16 + unle (take 8 s) + unle (take 8 (drop 8 s)))) 8
-    (unless (eqb (unle (take 8 s)) (byteMask .size n)) 8 (gives (countSet (take n (drop 16 s))))))
+    (unless (eqb (unle (take 8 s)) (byteMask .size n)) 8 (countedIn (take n (drop 16 s)) n)))
 
 -- the innermost content: from a position on, for so many cells; or a level had no cell set, and there is none to look at
 pub data Innermost : Type 0 where
@@ -41,11 +40,7 @@ walked (suc d) s at n = frameBy (walked d s) s at n
 unfoldable pub walkedFrame : ℕ → List ℕ → ℕ → ℕ → Answer Innermost
 walkedFrame d s at n = frameBy (walked d s) s at n
 
--- what the declared answers mean
-abbrev pub toldOpened : frames.Opened → Answer ℕ
-toldOpened (frames.Opened.Cells k) = gives k
-toldOpened (frames.Opened.Refused e) = refuses e
-
+-- what the declared answer means
 abbrev pub toldWalk : walks.Walked → Answer Innermost
 toldWalk (walks.Walked.Values at n) = gives (valuesAt at n)
 toldWalk walks.Walked.NoneSet = gives noneSet

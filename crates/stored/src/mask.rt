@@ -5,9 +5,9 @@ ghost use mathlib.Core.List.{[], _∷_};
 ghost use Prim.Native.Nat.{_+_, _≤_, _<_, min};
 ghost use lib.ListN.{length, getD, set, take, drop};
 ghost use Rattle.array.specs.Buffers.{overAt};
-ghost use Rattle.array.specs.Cells.{markOf};
+ghost use Rattle.array.specs.Cells.{markOf, setTest};
 ghost use Rattle.codec.specs.Mask.{byteMask};
-ghost use Rattle.stored.specs.Marks.{toldMark, setTest};
+ghost use Rattle.stored.specs.Marks.{toldMark, countedIn, toldCounted};
 ghost use Rattle.codec.specs.Frame.{countSet};
 
 // What a mask byte says of its cell.
@@ -118,4 +118,17 @@ pub fn count_set(mask: &[u8]) -> usize
         at = end;
     }
     n
+}
+
+// How many cells a stored mask sets, or the refusal of its bytes.
+pub enum Counted {
+    Cells(usize),
+    Refused(u8),
+}
+
+// Checks the stored mask of so many cells and counts those that it sets. Every byte is allowed, so that none is refused.
+pub fn check_mask(mask: &[u8], cells: usize) -> Counted
+    ensures { λ r. ⌜ toldCounted r ≡ countedIn (now (mask .entry)) cells ⌝ }
+{
+    Counted::Cells(count_set(mask))
 }

@@ -1,6 +1,7 @@
 // Frames, read: the checking walk. It stores nothing, and tells where the innermost content lies.
 // A frame: 8-byte mask length, 8-byte content length, the mask, the content.
-use crate::mask::count_set;
+use crate::mask::Counted;
+use crate::mask::check_mask;
 use crate::mask::mask_length;
 use array::refusal;
 use buffer::field::Field;
@@ -9,13 +10,8 @@ ghost use mathlib.Core.Path.{_≡_};
 ghost use Prim.Native.Nat.{_≤_};
 ghost use lib.ListN.{length, drop};
 ghost use Rattle.array.specs.Limits.{mostCells};
-ghost use Rattle.stored.specs.Walk.{opened, walked, walkedFrame, toldOpened, toldWalk};
-
-// How many cells the content of a frame has.
-pub enum Opened {
-    Cells(usize),
-    Refused(u8),
-}
+ghost use Rattle.stored.specs.Marks.{toldCounted};
+ghost use Rattle.stored.specs.Walk.{opened, walked, walkedFrame, toldWalk};
 
 // The innermost content: where it starts and how many cells it has. Where a level has no cell set there is none to look at.
 pub enum Walked {
@@ -24,31 +20,31 @@ pub enum Walked {
     Refused(u8),
 }
 
-// Opens the frame of so many cells at `at`. Its lengths are compared by what is left, so that no sum wraps.
-pub fn open_frame(s: &[u8], at: usize, cells: usize) -> Opened
+// Opens the frame of so many cells at `at`: how many its content has. Its lengths are compared by what is left, so that no sum wraps.
+pub fn open_frame(s: &[u8], at: usize, cells: usize) -> Counted
     requires { ⌜ (at ≤ length (now s)) × (cells ≤ mostCells) ⌝ }
-    ensures { λ r. ⌜ toldOpened r ≡ opened (drop at (now (s .entry))) cells ⌝ }
+    ensures { λ r. ⌜ toldCounted r ≡ opened (drop at (now (s .entry))) cells ⌝ }
 {
     let Field::Value(mask) = read_u64(s, at) else {
-        return Opened::Refused(refusal::SHORT);
+        return Counted::Refused(refusal::SHORT);
     };
     let Field::Value(content) = read_u64(s, at + 8) else {
-        return Opened::Refused(refusal::SHORT);
+        return Counted::Refused(refusal::SHORT);
     };
     let start = at + 16;
     let left = s.len() - start;
     let size = mask_length(cells);
     if mask != size as u64 {
-        return Opened::Refused(refusal::LENGTH);
+        return Counted::Refused(refusal::LENGTH);
     }
     if left < size {
-        return Opened::Refused(refusal::LENGTH);
+        return Counted::Refused(refusal::LENGTH);
     }
     if (left - size) as u64 != content {
-        return Opened::Refused(refusal::LENGTH);
+        return Counted::Refused(refusal::LENGTH);
     }
     let end = start + size;
-    Opened::Cells(count_set(&s[start..end]))
+    check_mask(&s[start..end], cells)
 }
 
 // Walks a content of so many cells: the values, or a frame again.
@@ -70,8 +66,8 @@ pub fn walk_frame(s: &[u8], at: usize, cells: usize, below: usize) -> Walked
 {
     let frame = open_frame(s, at, cells);
     match frame {
-        Opened::Refused(e) => Walked::Refused(e),
-        Opened::Cells(set) => {
+        Counted::Refused(e) => Walked::Refused(e),
+        Counted::Cells(set) => {
             if set == 0 {
                 Walked::NoneSet
             } else {

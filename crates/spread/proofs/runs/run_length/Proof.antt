@@ -4,7 +4,7 @@ use mathlib.Core.Path.{_≡_, ap, _∙_}
 use Prim.Native.Nat.{_-_, _<_}
 use native.Mathlib.Omega.{arith}
 use lib.ListN.{length, getD}
-use Rattle.stored.specs.Marks.{setTest}
+use Rattle.array.specs.Cells.{setTest}
 use Rattle.spread.proofs.PlaneLaws.{planeAt, plane-length, plane-byte}
 use Rattle.spread.proofs.RunLaws.{Running, running-begins, running-ends, running-stops, running-more}
 use Rattle.spread.proofs.runs.run_length.Statement.{statement}

@@ -2,7 +2,8 @@
 -- Assumes nothing.
 use mathlib.Core.Path.{sym, ap, _∙_}
 use borrow.Author.Needs.{needs}
-use Rattle.stored.specs.Marks.{toldMark, setTestBy}
+use Rattle.array.specs.Cells.{setTestBy}
+use Rattle.stored.specs.Marks.{toldMark}
 use Rattle.stored.proofs.mask.is_set.Statement.{statement}
 use Rattle.stored.proofs.mask.is_set.Tie as tie
 

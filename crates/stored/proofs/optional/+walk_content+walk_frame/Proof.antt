@@ -8,7 +8,8 @@ use borrow.Author.Needs.{needs}
 use borrow.Fn.Kinds.{In}
 use borrow.Fn.PlainCycle.{Measures, is, falls, and}
 use Rattle.array.specs.Answer.{gives}
-use Rattle.stored.specs.Walk.{opened, walked, toldOpened}
+use Rattle.stored.specs.Marks.{toldCounted}
+use Rattle.stored.specs.Walk.{opened, walked}
 use Rattle.stored.proofs.Opening.{FrameOpen, frame-open, content-end, content-frame, frame-refused, frame-none, frame-content}
 use Rattle.stored.proofs.optional.walk_content.Reads as walk-content
 use Rattle.stored.proofs.optional.walk_content.Kinds as walk-content-kinds
@@ -55,7 +56,7 @@ abbrev claims-walk-frame : ℕ → walk-frame-lts.Claims
 claims-walk-frame t = (open-frame-reads.Asked, open-frame-reads.Learnt, mask-length-reads.Asked, mask-length-reads.Learnt, walk-content-below t, walk-content.Post)
 
 opened-is : (t : ℕ) (c : walk-frame-lts.After-known-told2 (claims-walk-frame t) (walk-frame-at t) walk-frame.Post) → opened (drop (c .before .before .before .before .before .args .at) (c .before .before .before .before .before .args .s .now)) (c .before .before .before .before .before .args .cells) ≡ gives (c .before .frame2 .given .0 .0)
-opened-is t c = sym (c .before .before .before .open-frame .ensures) ∙ ap toldOpened (c .before .frame2 .given .1)
+opened-is t c = sym (c .before .before .before .open-frame .ensures) ∙ ap toldCounted (c .before .frame2 .given .1)
 
 inside : (t : ℕ) (c : walk-frame-lts.After-known-told2 (claims-walk-frame t) (walk-frame-at t) walk-frame.Post) → FrameOpen (drop (c .before .before .before .before .before .args .at) (c .before .before .before .before .before .args .s .now)) (c .before .before .before .before .before .args .cells) (c .before .frame2 .given .0 .0)
 inside t c =
@@ -108,7 +109,7 @@ walk-frame-walk-content-requires t c κs =
 walk-frame-returns : (t : ℕ) → walk-frame-lts.Need-returns (claims-walk-frame t) (walk-frame-at t) walk-frame.Post
 walk-frame-returns t c =
     let args = c .before .before .before .before .before .args in
-    frame-refused (args .below) (args .s .now) (args .at) (args .cells) _ (sym (c .before .before .before .open-frame .ensures) ∙ ap toldOpened (c .before .frame .given .1))
+    frame-refused (args .below) (args .s .now) (args .at) (args .cells) _ (sym (c .before .before .before .open-frame .ensures) ∙ ap toldCounted (c .before .frame .given .1))
 
 walk-frame-returns-2 : (t : ℕ) → walk-frame-lts.Need-returns-2 (claims-walk-frame t) (walk-frame-at t) walk-frame.Post
 walk-frame-returns-2 t c =

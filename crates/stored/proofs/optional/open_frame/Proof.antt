@@ -83,23 +83,23 @@ returns-5 c =
 add-end : tie.Need-add-end
 add-end c = search needs
 
-sub-count-set : tie.Need-sub-count-set
-sub-count-set c = search needs
+sub-check-mask : tie.Need-sub-check-mask
+sub-check-mask c = search needs
 
-part-count-set-start : tie.Need-part-count-set-start
-part-count-set-start c = search needs
+part-check-mask-start : tie.Need-part-check-mask-start
+part-check-mask-start c = search needs
 
-part-count-set-end : tie.Need-part-count-set-end
-part-count-set-end c = omega (arith, (room (c .before .before .before .before)))
+part-check-mask-end : tie.Need-part-check-mask-end
+part-check-mask-end c = omega (arith, (room (c .before .before .before .before)))
 
-count-set-requires : tie.Need-count-set-requires
-count-set-requires c κs = search needs
+check-mask-requires : tie.Need-check-mask-requires
+check-mask-requires c κs = search needs
 
 returns-6 : tie.Need-returns-6
 returns-6 c =
     let args = c .before .before .before .before .before .before .before .before .before .before .before .before .before .before .before .args in
     let mask-length = c .before .before .before .before .before .mask-length in
-    by-count (args .s .now) (args .at) (args .cells) (c .before .before .before .before .before .before .before .before .before .before .before .before .before .before .before .pre .0) (c .before .before .before .before .before .before .before .before .before .before .before .mask .given .0 .0) (c .before .before .before .before .before .before .before .content .given .0 .0) (mask-is (c .before .before .before .before .before .before)) (content-is (c .before .before .before .before .before .before)) (mask-length .result) (mask-length .ensures) (c .before .before .before .before .if1 .left) (omega arith) (c .count-set .result) (c .count-set .ensures)
+    c .check-mask .ensures ∙ by-count (args .s .now) (args .at) (args .cells) (c .before .before .before .before .before .before .before .before .before .before .before .before .before .before .before .pre .0) (c .before .before .before .before .before .before .before .before .before .before .before .mask .given .0 .0) (c .before .before .before .before .before .before .before .content .given .0 .0) (mask-is (c .before .before .before .before .before .before)) (content-is (c .before .before .before .before .before .before)) (mask-length .result) (mask-length .ensures) (c .before .before .before .before .if1 .left) (omega arith)
 
 pub open-frame-spec : {M : Type 1} → statement M
 open-frame-spec =
@@ -121,8 +121,8 @@ open-frame-spec =
     returns-4
     returns-5
     add-end
-    sub-count-set
-    part-count-set-start
-    part-count-set-end
-    count-set-requires
+    sub-check-mask
+    part-check-mask-start
+    part-check-mask-end
+    check-mask-requires
     returns-6)
