@@ -1,10 +1,10 @@
 -- Content and cells: what is laid out keeps the array's rules and is taken apart again into the same cells.
 -- Assumes nothing.
 use mathlib.Core.Path.{_≡_, refl, sym, ap, _∙_, subst}
-use Prim.Native.Nat.{ℕ, zero, suc, _+_, _*_, _≤_}
+use Prim.Native.Nat.{ℕ, zero, suc, _*_, _≤_}
 use native.Mathlib.Nat.{zero-mul, suc-mul, zero-add, le-trans, le-of-eq}
 use native.Mathlib.Omega.{arith}
-use mathlib.Core.List.{List, [], _∷_, _++_, map}
+use mathlib.Core.List.{List, [], _∷_}
 use lib.ListN.{length, take, drop, length-append, length-map, length-drop}
 use lib.Seq.{take-at, drop-at, length-take-le}
 use Rattle.array.specs.Limits.{mostBytes}

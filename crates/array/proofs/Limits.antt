@@ -3,7 +3,6 @@
 use mathlib.Core.Path.{_≡_, refl}
 use mathlib.Core.Bool.{true, false}
 use mathlib.Core.List.{[], _∷_}
-use Prim.Native.Nat.{_+_}
 use Rattle.array.specs.Limits.{mostBytes, mostCells}
 use Rattle.array.specs.Kind.{kindTest, fixed, little}
 use Rattle.array.specs.Shape.{shapeTest}

@@ -6,7 +6,7 @@ use Prim.Native.Nat.{ℕ, suc, _+_, _≤_, _<_}
 use native.Mathlib.Omega.{arith}
 use native.Mathlib.Numerals.{add-one}
 use lib.ListN.{length, take, drop, getD, set, length-append, length-drop}
-use lib.Seq.{drop-drop, take-at, set-at, length-take-le, drop-cons, drop-append-add, take-all, paste, length-paste-head}
+use lib.Seq.{drop-drop, take-at, set-at, length-take-le, drop-cons, drop-append-add, paste, length-paste-head}
 use Rattle.array.specs.Buffers.{over, overAt}
 
 -- the first of the output is the result
@@ -35,10 +35,6 @@ over-store f d k x e h =
 
 pub over-at-length : (k : ℕ) (g d : List ℕ) → k + length g ≤ length d → length (overAt k g d) ≡ length d
 over-at-length k g d h = over-length (take k d ++ g) d (omega (arith, length-append (take k d) g, length-take-le k d (omega arith)))
-
--- a whole list laid from the front
-pub over-whole : (s d : List ℕ) → overAt 0 (take (length s) (drop 0 s)) d ≡ over s d
-over-whole s d = ap (λ (l : List ℕ). over l d) (take-all (length s) s (omega arith))
 
 -- the library's paste is the same
 pub paste-over : (old : List ℕ) (at : ℕ) (xs : List ℕ) (n : ℕ) → at ≤ length old → n ≤ length xs → paste old at xs n ≡ overAt at (take n xs) old

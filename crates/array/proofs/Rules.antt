@@ -2,13 +2,13 @@
 -- Assumes nothing.
 use mathlib.Core.Path.{_≡_, refl}
 use mathlib.Core.Logic.{_⊎_, inl, inr}
-use Prim.Native.Nat.{ℕ, zero, suc, _+_, _*_, _%_, _≤_}
+use Prim.Native.Nat.{ℕ, suc, _+_, _*_, _%_, _≤_}
 use mathlib.Core.Bool.{Bool, true, false, _&&_, _||_, false≢true}
 use mathlib.Core.List.{List, [], _∷_}
 use lib.ListN.{length}
 use lib.Dec.{leb, eqb}
 use borrow.Author.Tests.{le-leb, eq-eqb, leb-true, eqb-true}
-use Rattle.array.specs.Limits.{mostBytes, mostCells, mostDepth, mostSides, mostSize}
+use Rattle.array.specs.Limits.{mostBytes, mostCells}
 use Rattle.array.specs.Lists.{All, every}
 use Rattle.array.specs.Kind.{Kind, KindOk, kindTest, Form, fixed, ragged, FormOk, formTest}
 use Rattle.array.specs.Shape.{volume, ShapeOk, shapeTest}

@@ -4,7 +4,7 @@ use mathlib.Core.Path.{_≡_, refl, sym, ap, ap₂, _∙_}
 use Prim.Native.Nat.{ℕ, zero, suc, _+_, _*_, _/_, _<_, _≤_}
 use native.Mathlib.Nat.{zero-mul, suc-mul, le-refl, le-trans, mul-le-mul, mul-le-mul-right, mul-div-cancel}
 use native.Mathlib.Omega.{arith}
-use mathlib.Core.List.{List, [], _∷_, _++_, map}
+use mathlib.Core.List.{List, [], _∷_, map}
 use lib.ListN.{length, take, drop, length-append, length-map, length-drop}
 use lib.Seq.{length-take-le}
 use Rattle.array.specs.Lists.{from, joined, pieces, All}

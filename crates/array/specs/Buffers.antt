@@ -5,7 +5,7 @@ use mathlib.Core.Bool.{Bool, _&&_}
 use mathlib.Core.List.{List, _++_}
 use lib.ListN.{length, take, drop}
 use lib.Dec.{leb}
-use Rattle.array.specs.Answer.{Answer, gives, refuses, andThen, mapAnswer, Outcome}
+use Rattle.array.specs.Answer.{Answer, gives, refuses, mapAnswer, Outcome}
 use Rattle.array.specs.Content.{Content, RaggedContent}
 
 -- ---- lengths: of what was written, or of the outputs lent for it

@@ -16,18 +16,6 @@ pub fn copy_bytes(out: &mut [u8], to: usize, s: &[u8], at: usize, k: usize)
     }
 }
 
-// The same for 64-bit numbers.
-pub fn copy_numbers(out: &mut [u64], to: usize, numbers: &[u64], at: usize, k: usize)
-    requires { ⌜ (to + k ≤ length (now out)) × (at + k ≤ length (now numbers)) ⌝ }
-    ensures { λ _. ⌜ now (out .exit) ≡ overAt to (take k (drop at (now (numbers .entry)))) (now (out .entry)) ⌝ }
-{
-    let mut j = 0;
-    while j < k {
-        out[to + j] = numbers[at + j];
-        j += 1;
-    }
-}
-
 // Writes the byte b, k times, from the place `to` on.
 pub fn fill_bytes(out: &mut [u8], to: usize, k: usize, b: u8)
     requires { ⌜ to + k ≤ length (now out) ⌝ }

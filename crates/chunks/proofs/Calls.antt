@@ -25,7 +25,7 @@ use Rattle.codec.proofs.Lengths.{frame-small}
 use Rattle.codec.proofs.RoundTrip.{stored-layout, read-layout}
 use Rattle.chunks.specs.Cut.{cutOf}
 use Rattle.chunks.specs.Calls.{extractAnswer}
-use Rattle.chunks.specs.Demand.{Taken, whole, taken, takenBytes}
+use Rattle.chunks.specs.Demand.{whole, taken, takenBytes}
 
 -- ---- what the caller takes from the outputs is what was given, with its lengths named
 

@@ -1,16 +1,16 @@
 -- Demand 3 holds: through every subset and the merge nothing is refused, and the outcome is the rest form.
 -- Assumes nothing.
 use mathlib.Core.Path.{_≡_, refl, sym, ap, ap₂, _∙_, subst}
-use Prim.Native.Nat.{ℕ, zero, suc, _+_, _*_, _%_, _<_, _≤_}
+use Prim.Native.Nat.{ℕ, _*_, _%_, _<_, _≤_}
 use native.Mathlib.Nat.{le-of-eq, mul-mod-left}
 use native.Mathlib.Omega.{arith}
 use mathlib.Core.List.{List, [], _∷_, _++_, map}
-use lib.ListN.{length, drop, getD, length-map}
-use Rattle.array.specs.Answer.{Answer, gives, refuses, andThen, unless}
-use Rattle.array.specs.Lists.{joined, All, count, countPassing}
+use lib.ListN.{length, getD, length-map}
+use Rattle.array.specs.Answer.{Answer, gives, andThen, unless}
+use Rattle.array.specs.Lists.{joined, All, count}
 use Rattle.array.specs.Kind.{Kind, Form, nullOf}
 use Rattle.array.specs.Shape.{volume, ShapeOk}
-use Rattle.array.specs.Subset.{Subset, lengths, subsetOf, subsetsOf, SubsetOk, FullOk, NumbersOk, ManyOk, coordinates, insideTest, cellsIn, cellsOfAll}
+use Rattle.array.specs.Subset.{Subset, lengths, subsetOf, subsetsOf, SubsetOk, FullOk, NumbersOk, ManyOk, cellsIn, cellsOfAll}
 use Rattle.array.specs.Cells.{Cell, leaf, rest}
 use Rattle.array.specs.Content.{Content, Valid, cellsOf, contentTest, sizeTest, leaves, layout, nullCell, restForm}
 use Rattle.array.specs.Buffers.{Lengths, lengthsOf, Enough, enoughTest}
@@ -23,7 +23,7 @@ use Rattle.array.proofs.SubsetLaws.{length-cellsIn, cellsIn-below, all-below, s
 use Rattle.array.proofs.Geometry.{count-all}
 use Rattle.array.proofs.LayoutLaws.{cells-layout, layout-ok, Good, good-cells}
 use Rattle.array.proofs.RestLaws.{rest-blank, leaf-blank}
-use Rattle.codec.specs.Calls.{encoded, decoded, encodeAnswer, decodeAnswer, storedForm}
+use Rattle.codec.specs.Calls.{encoded, decoded, encodeAnswer, decodeAnswer}
 use Rattle.codec.proofs.Lengths.{All-leaves}
 use Rattle.chunks.specs.Gather.{gather, putBack, Once, onceTest}
 use Rattle.chunks.specs.Cut.{cellsAt, cutOf}

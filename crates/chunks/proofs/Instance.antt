@@ -1,18 +1,15 @@
 -- Demand 3's hypotheses can be met: a ragged array of depth 2 in a shape of 2 × 3, cut into two subsets, with an empty Q.
 -- Assumes nothing.
-use mathlib.Core.Path.{_≡_, refl, sym, _∙_}
+use mathlib.Core.Path.{_≡_, refl}
 use mathlib.Core.Logic.{inl}
-use Prim.Native.Nat.{ℕ, zero, suc, _+_, _≤_, _<_}
+use Prim.Native.Nat.{ℕ, zero, suc}
 use native.Mathlib.Omega.{arith}
 use mathlib.Core.List.{List, [], _∷_}
-use lib.ListN.{length, replicate}
 use lib.Dec.{lit≤}
 use Rattle.array.specs.Answer.{gives, andThen}
 use Rattle.array.specs.Limits.{mostBytes, mostCells}
-use Rattle.array.specs.Lists.{All}
 use Rattle.array.specs.Bytes.{le}
 use Rattle.array.specs.Kind.{Kind, ragged, atEnd}
-use Rattle.array.specs.Shape.{volume}
 use Rattle.array.specs.Content.{Content, Valid}
 use Rattle.array.specs.Buffers.{lengthsOf, Enough}
 use Rattle.codec.specs.Frame.{wrap, frame}
@@ -20,7 +17,7 @@ use Rattle.codec.specs.Ragged.{putRagged}
 use Rattle.codec.specs.Values.{putValues}
 use Rattle.codec.specs.Calls.{written}
 use Rattle.chunks.specs.Calls.{extracted}
-use Rattle.chunks.specs.Demand.{Taken, taken, whole, Entry, EntryOk, Covers, subsetsIn, wholeWay}
+use Rattle.chunks.specs.Demand.{taken, whole, Entry, EntryOk, Covers, subsetsIn, wholeWay}
 use Rattle.chunks.specs.Lines.{lent, old}
 use Rattle.chunks.proofs.Demand.{demand3}
 

@@ -1,6 +1,6 @@
 -- The public calls of this layer: what each answers, with the refusals in document 01's order, and what it leaves in the outputs.
 -- Assumes nothing.
-use Prim.Native.Nat.{ℕ, zero}
+use Prim.Native.Nat.{ℕ}
 use mathlib.Core.List.{List}
 use lib.ListN.{length}
 use Rattle.array.specs.Answer.{Answer, gives, unless, andThen, Outcome}
@@ -8,7 +8,7 @@ use Rattle.array.specs.Lists.{joined}
 use Rattle.array.specs.Kind.{Kind, Place, ragged}
 use Rattle.array.specs.Shape.{volume, shapeTest}
 use Rattle.array.specs.Kind.{kindTest}
-use Rattle.array.specs.Subset.{Subset, subsetOf, subsetsOf, numbersTest, manyTest, cellsOfAll}
+use Rattle.array.specs.Subset.{subsetOf, subsetsOf, numbersTest, manyTest, cellsOfAll}
 use Rattle.array.specs.Content.{Content, RaggedContent, unmasked, leaves, contentTest, sizeTest}
 use Rattle.array.specs.Buffers.{Lengths, RaggedLengths, lengthsOf, raggedLengthsOf, enoughTest, raggedEnoughTest, raggedOutcome, contentOutcome}
 use Rattle.codec.specs.Ragged.{getRagged}

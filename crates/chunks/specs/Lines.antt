@@ -5,7 +5,7 @@ use Prim.Native.Nat.{ℕ}
 use mathlib.Core.Path.{_≡_}
 use mathlib.Core.List.{List, [], _∷_, _++_}
 use lib.ListN.{replicate, take}
-use Rattle.array.specs.Answer.{Answer, gives, refuses, Outcome}
+use Rattle.array.specs.Answer.{gives, refuses, Outcome}
 use Rattle.array.specs.Kind.{Kind, fixed, ragged, little, atStart, atEnd}
 use Rattle.array.specs.Content.{Content, RaggedContent, cellsOf}
 use Rattle.array.specs.Buffers.{Lengths, RaggedLengths}

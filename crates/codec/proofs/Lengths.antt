@@ -4,7 +4,7 @@ use mathlib.Core.Path.{_≡_, refl, sym, ap, ap₂, _∙_}
 use Prim.Native.Nat.{ℕ, zero, suc, _+_, _*_, _^_, _<_, _≤_}
 use native.Mathlib.Nat.{zero-mul, suc-mul, le-refl, le-trans, add-le-add, mul-le-mul-left, le-of-eq, mul-le-mul}
 use native.Mathlib.Omega.{arith}
-use mathlib.Core.List.{List, [], _∷_, _++_, map}
+use mathlib.Core.List.{List, [], _∷_}
 use lib.ListN.{length}
 use Rattle.array.specs.Limits.{mostBytes, mostCells}
 use Rattle.array.specs.Lists.{joined, All}

@@ -21,10 +21,6 @@ pub set-byte : (b : ℕ) → markOf b ≡ isSet → b ≢ 0
 set-byte zero e q = let z : _≡_ {A = ℕ} 0 1 = cc in omega arith
 set-byte (suc b) e q = omega arith
 
-pub byte-null : (b : ℕ) → b ≡ 0 → isNull ≡ markOf b
-byte-null zero e = refl
-byte-null (suc b) e = absurd (omega arith)
-
 pub byte-set : (b : ℕ) → b ≢ 0 → isSet ≡ markOf b
 byte-set zero f = absurd (f refl)
 byte-set (suc b) f = refl

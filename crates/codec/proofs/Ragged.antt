@@ -9,7 +9,7 @@ use mathlib.Core.List.{List, [], _∷_, _++_, map}
 use lib.ListN.{length, length-append, length-map}
 use lib.Seq.{take-at, drop-at}
 use borrow.Author.Tests.{le-leb, eq-eqb}
-use Rattle.array.specs.Answer.{Answer, gives}
+use Rattle.array.specs.Answer.{gives}
 use Rattle.array.specs.Limits.{mostBytes}
 use Rattle.array.specs.Lists.{pieces, All}
 use Rattle.array.specs.Bytes.{le, unle}

@@ -1,6 +1,6 @@
 -- What decode makes of what encode wrote (document 01, items 4 and 5): at depth 0 the array itself, at depth 1 to 4 its rest form.
 -- Assumes nothing.
-use mathlib.Core.Path.{_≡_, refl, sym, ap, _∙_, subst}
+use mathlib.Core.Path.{_≡_, refl, sym, ap, _∙_}
 use Prim.Native.Nat.{ℕ, zero, suc, _*_, _^_, _<_, _≤_}
 use native.Mathlib.Nat.{zero-mul}
 use native.Mathlib.Omega.{arith}
@@ -11,7 +11,7 @@ use Rattle.array.specs.Limits.{mostBytes, mostCells}
 use Rattle.array.specs.Lists.{joined}
 use Rattle.array.specs.Kind.{Kind, Place, Form, fixed, ragged, FormOk, nullOf}
 use Rattle.array.specs.Shape.{volume}
-use Rattle.array.specs.Cells.{Value, Cell, rest}
+use Rattle.array.specs.Cells.{Cell, rest}
 use Rattle.array.specs.Content.{Content, RaggedContent, unmasked, Valid, ValuesOk, leaves, layout, cellsOf, restForm}
 use Rattle.array.specs.Buffers.{Lengths, Enough, enoughTest}
 use Rattle.array.proofs.Answers.{pass}

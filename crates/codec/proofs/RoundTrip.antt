@@ -10,7 +10,7 @@ use Rattle.array.specs.Limits.{mostBytes}
 use Rattle.array.specs.Lists.{joined}
 use Rattle.array.specs.Kind.{Kind, Form, fixed, ragged, FormOk, nullOf}
 use Rattle.array.specs.Cells.{Value, Cell, rest}
-use Rattle.array.specs.Content.{Content, RaggedContent, unmasked, leaves, layout}
+use Rattle.array.specs.Content.{RaggedContent, unmasked, leaves, layout}
 use Rattle.array.proofs.Lists.{map-id}
 use Rattle.array.proofs.Sizes.{SizedAs}
 use Rattle.array.proofs.LayoutLaws.{cells-layout, Good}

@@ -5,7 +5,7 @@ use Prim.Native.Nat.{ℕ, zero, suc, _+_}
 use mathlib.Core.List.{List, [], _∷_, _++_}
 use lib.ListN.{length, take, drop}
 use lib.Dec.{leb, eqb}
-use Rattle.array.specs.Answer.{Answer, gives, refuses, andThen, unless}
+use Rattle.array.specs.Answer.{Answer, gives, andThen, unless}
 use Rattle.array.specs.Bytes.{le, unle}
 use Rattle.array.specs.Cells.{Value, Cell, Mark, isNull, isSet, markOf, maskOf, blank}
 use Rattle.codec.specs.Mask.{MaskForm}

@@ -2,7 +2,7 @@
 -- Place start: index length (8 bytes), index, data. Place end: data, index, index length.
 -- Assumes nothing.
 use Prim.Native.Nat.{ℕ, zero, suc, _-_, _*_}
-use mathlib.Core.List.{List, [], _∷_, _++_, map}
+use mathlib.Core.List.{List, [], _++_, map}
 use mathlib.Core.Bool.{Bool, true}
 use lib.ListN.{length, take, drop}
 use lib.Dec.{leb, eqb}

@@ -13,7 +13,7 @@ use Rattle.array.specs.Answer.{Answer, gives, refuses, andThen, unless}
 use Rattle.array.specs.Limits.{mostCells, mostDepth, mostSize}
 use Rattle.array.specs.Lists.{joined, pieces}
 use Rattle.array.specs.Kind.{Order, fixed, ordered}
-use Rattle.array.specs.Cells.{Value, Cell}
+use Rattle.array.specs.Cells.{Cell}
 use Rattle.array.specs.Content.{layout}
 use Rattle.array.specs.Buffers.{over}
 use Rattle.array.specs.Outcome.{contentArray, outcomeArray}

@@ -60,9 +60,6 @@ module _ (off : ℕ → ℕ) (s cs d : List ℕ) (to : ℕ) (out : List ℕ) (ce
       laying-ends (joined (valuesAt off s cs)) d to out done
       (laying-is (c .laid) (ap (λ (js : List ℕ). joined (valuesAt off s js)) (left-ends cs cells n at (c .geo) h)))
 
-  pub copied-within : done ≤ length (joined (valuesAt off s cs))
-  copied-within = c .laid .within
-
 -- ---- the next row: n neighbours from the cell a on, of an array of v cells
 
 module _ (off : ℕ → ℕ) (v : ℕ) (r : Rises off v) (s cs : List ℕ) (p : All (λ j. j < v) cs) (l : off v ≤ length s) (cells n at : ℕ) (g : Left cs cells n at) (h : at < cells) where
@@ -74,9 +71,6 @@ module _ (off : ℕ → ℕ) (v : ℕ) (r : Rises off v) (s cs : List ℕ) (p : 
 
   pub row-within : a + n ≤ v
   row-within = left-room cs cells n at g h v p
-
-  pub row-rises : off a ≤ off (a + n)
-  row-rises = run-rises off v r a n row-within
 
   pub row-below : off (a + n) ≤ off v
   row-below = run-below off v r a n row-within

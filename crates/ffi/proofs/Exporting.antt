@@ -1,10 +1,10 @@
 -- What is handed to the C caller follows from the call's own promise and from the lengths as they were put.
 -- Assumes nothing.
-use mathlib.Core.Path.{_≡_, refl, sym, ap, _∙_}
+use mathlib.Core.Path.{_≡_, sym, ap, _∙_}
 use Prim.Native.Nat.{ℕ}
 use mathlib.Core.List.{List}
 use Rattle.array.specs.Answer.{Answer, gives, refuses, Outcome}
-use Rattle.ffi.specs.Exported.{Exported, handed, withGiven, statusOf, exportBy}
+use Rattle.ffi.specs.Exported.{handed, withGiven, statusOf, exportBy}
 
 -- `put` is how lengths are put, `o` what the call's definition leaves, `a` and `b` what the call answered and left
 pub exported : {L B : Type 0} (put : Answer L → List ℕ → List ℕ) (a : Answer L) (b : B) (o : Outcome L B) → record { answer = a; buffers = b } ≡ o

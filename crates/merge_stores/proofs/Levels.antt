@@ -1,7 +1,7 @@
 -- What the stores leave in the outputs is the layout of the merged cells: masks, and values of one width.
 -- Assumes nothing.
 use mathlib.Core.Path.{_≡_, refl, sym, ap, ap₂, _∙_}
-use Prim.Native.Nat.{ℕ, zero, suc, _+_, _-_, _*_, _<_, _≤_}
+use Prim.Native.Nat.{ℕ, zero, suc, _+_, _*_, _<_, _≤_}
 use native.Mathlib.Nat.{mul-zero, mul-suc, mul-comm, mul-one, suc-mul, zero-mul, mul-add, add-mul, mul-le-mul-right, mul-le-mul-left}
 use native.Mathlib.Omega.{arith}
 use mathlib.Core.Bool.{Bool, true, false}

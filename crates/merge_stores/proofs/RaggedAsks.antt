@@ -1,7 +1,7 @@
 -- What a ragged merge asks follows from the checks: a chunk list that gives cells, subsets that cover, and room for the cell sum.
 -- Assumes nothing.
 use mathlib.Core.Path.{_≡_, sym, ap, _∙_}
-use Prim.Native.Nat.{ℕ, _+_, _<_, _≤_}
+use Prim.Native.Nat.{ℕ, _<_, _≤_}
 use native.Mathlib.Omega.{arith}
 use mathlib.Core.List.{List, [], _∷_, _++_}
 use lib.ListN.{length, length-map}

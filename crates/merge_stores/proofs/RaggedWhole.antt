@@ -1,7 +1,7 @@
 -- Lengths, offsets, values: the three steps of a ragged merge one after another.
 -- Assumes nothing.
 use mathlib.Core.Path.{_≡_, sym, ap, ap₂, _∙_, subst}
-use Prim.Native.Nat.{ℕ, _+_, _-_, _<_, _≤_}
+use Prim.Native.Nat.{ℕ, _+_, _<_, _≤_}
 use native.Mathlib.Omega.{arith}
 use mathlib.Core.List.{List, _∷_, _++_, append-assoc}
 use lib.ListN.{length, take, drop, length-append, length-map, take-append-drop}
@@ -15,7 +15,7 @@ use Rattle.array.proofs.Lists.{length-from}
 use Rattle.array.proofs.SubsetLaws.{all-below}
 use Rattle.chunks.specs.Gather.{lookup, putBack}
 use Rattle.cover.proofs.SubsetWalk.{all-inside}
-use Rattle.merge_stores.specs.Ragged.{offsetAt, sums, sum, stepParts, offsetsMerged, RaggedMergeAsked, LengthsAllAsked, RaggedAllAsked}
+use Rattle.merge_stores.specs.Ragged.{offsetAt, sums, sum, stepParts, offsetsMerged, RaggedMergeAsked, RaggedAllAsked}
 use Rattle.merge_stores.specs.Scatter.{scatter, places, fixedAt}
 use Rattle.merge_stores.proofs.Blocks.{sum-append}
 use Rattle.merge_stores.proofs.Levels.{level-block}
@@ -34,9 +34,6 @@ module _ (sh flat : List ℕ) (count : ℕ) (dv d values src : List ℕ) (n : �
 
   long-xs : length xs ≡ n
   long-xs = length-map (from 0 (volume sh)) (λ k. lookup 0 k (cellsOfAll sh (nextSubsets (length sh) count flat)) (stepParts (nextSubsets (length sh) count flat) src)) ∙ length-from 0 (volume sh) ∙ sym (q .counted)
-
-  pub first-asked : LengthsAllAsked sh flat count d src
-  first-asked = record { subsets = q .subsets; room = omega (arith, q .room, q .counted); chunks = q .lengths-fit }
 
   module _ (o : List ℕ) (p : o ≡ scatter d (places (fixedAt 1 1) (cellsOfAll sh (nextSubsets (length sh) count flat))) (stepParts (nextSubsets (length sh) count flat) src)) where
     is : o ≡ take 1 d ++ xs ++ drop (1 + volume sh) d

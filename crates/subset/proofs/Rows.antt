@@ -1,17 +1,16 @@
 -- A loop over the rows of a subset, whatever it does with them: what holds at its head, and a turn of it.
 -- Assumes nothing.
 use mathlib.Core.Path.{_≡_, refl, sym, ap, ap₂, _∙_, subst}
-use Prim.Native.Nat.{ℕ, zero, suc, _+_, _-_, _*_, _<_, _≤_}
-use native.Mathlib.Nat.{add-zero, zero-mul, suc-mul}
+use Prim.Native.Nat.{ℕ, zero, suc, _+_, _-_, _<_, _≤_}
+use native.Mathlib.Nat.{add-zero}
 use native.Mathlib.Omega.{arith}
 use mathlib.Core.List.{List, [], _∷_, _++_}
-use lib.ListN.{length, getD, take, drop, length-drop, drop-of-length-le}
-use lib.Seq.{getD-drop, drop-drop, take-at}
+use lib.ListN.{length, getD, drop, length-drop, drop-of-length-le}
+use lib.Seq.{getD-drop, drop-drop}
 use Rattle.array.specs.Lists.{from, All}
 use Rattle.array.specs.Shape.{volume}
 use Rattle.array.specs.Subset.{lengths, pairs, cellsIn}
 use Rattle.array.specs.Rows.{Within}
-use Rattle.array.proofs.Lists.{length-from}
 use Rattle.array.proofs.SubsetLaws.{length-cellsIn, cellsIn-below, lengths-pairs}
 use Rattle.subset.proofs.Runs.{Runs, lastLength, cells-runs, Begun, begun}
 use Rattle.subset.proofs.Index.{All-drop, lengths-some}
@@ -91,19 +90,3 @@ module _ (cs : List ℕ) (cells n at : ℕ) (w : Left cs cells n at) where
 
     pub left-more : Left cs cells n (at + n)
     left-more = record { whole = w .whole; some = w .some; within = left-within; left = subst (Runs n) (drop-drop n at cs) (now .rest) }
-
--- ---- row by row
-
-left-row : (cs : List ℕ) (cells n : ℕ) → Left cs cells n 0 → (r : ℕ) → r * n < cells → Left cs cells n (r * n)
-left-row cs cells n w zero h = subst (Left cs cells n) (sym (zero-mul n)) w
-left-row cs cells n w (suc r) h =
-    subst (Left cs cells n) (sym (suc-mul r n)) (left-more cs cells n (r * n) (left-row cs cells n w r (omega (arith, suc-mul r n))) (omega (arith, suc-mul r n)))
-
--- with rows of n cells, row r is the run of neighbours from cell r * n of the subset on
-pub row-is : (sh st ls : List ℕ) → Within sh st ls → 1 ≤ length sh → (n : ℕ) → n ≡ getD ls (length ls - 1) 0 → (r : ℕ) → r * n < volume ls
-    → take n (drop (r * n) (cellsIn sh (pairs st ls))) ≡ from (getD (cellsIn sh (pairs st ls)) (r * n) 0) n
-row-is sh st ls f h n e r l =
-    let cs : List ℕ = cellsIn sh (pairs st ls) in
-    let w : Left cs (volume ls) n 0 = subst (λ (k : ℕ). Left cs (volume ls) k 0) (sym e) (left-begins sh st ls (volume ls) f h refl) in
-    let a : List ℕ = from (getD cs (r * n) 0) n in
-    ap (take n) (left-next cs (volume ls) n (r * n) (left-row cs (volume ls) n w r l) l) ∙ take-at a (drop (r * n + n) cs) n (length-from (getD cs (r * n) 0) n)

@@ -12,19 +12,6 @@ ghost use Rattle.array.specs.Kind.{ordered};
 ghost use Rattle.array.specs.Meaning.{orderOf};
 ghost use Rattle.word.specs.Word.{wordTest};
 
-// Whether a machine word has this size.
-pub fn is_word(size: usize) -> bool
-    ensures { λ r. ⌜ r ≡ wordTest size ⌝ }
-{
-    match size {
-        1 => true,
-        2 => true,
-        4 => true,
-        8 => true,
-        _ => false,
-    }
-}
-
 // A byte as a number.
 fn wide(b: u8) -> u64
     ensures { λ r. ⌜ (r ≡ b) × (r ≤ 255) ⌝ }

@@ -1,9 +1,8 @@
 -- `write_fixed` meets its contract, by the laws of FixedLaws.
 -- Assumes nothing.
-use mathlib.Core.Path.{_≡_, ap}
-use Prim.Native.Nat.{ℕ, _+_, _-_, _*_, _≤_}
+use mathlib.Core.Path.{ap}
+use Prim.Native.Nat.{ℕ, _*_}
 use native.Mathlib.Omega.{arith}
-use lib.ListN.{length}
 use borrow.Author.Needs.{needs}
 use Rattle.array.specs.Meaning.{orderOf}
 use Rattle.decode.proofs.Small.{planes-small, bytes-small}
