@@ -17,22 +17,10 @@ ghost use Rattle.array.specs.Buffers.{over, overAt};
 ghost use Rattle.array.specs.Kind.{ragged};
 ghost use Rattle.array.specs.Meaning.{widthOf, placeOf};
 ghost use Rattle.array.specs.Offsets.{last};
-ghost use Rattle.stored.specs.Index.{lengthAt};
 ghost use Rattle.codec.specs.Ragged.{putRagged};
 ghost use Rattle.codec.specs.Values.{putValues};
 ghost use Rattle.gather.specs.Live.{liveAt, Planes};
 ghost use Rattle.gather_ragged.specs.Slices.{sliceAt, Offsets};
-
-// Where the index's length lies, in so many stored bytes.
-fn length_at(place: IndexPlace, stored: usize) -> usize
-    requires { ⌜ 8 ≤ stored ⌝ }
-    ensures { λ r. ⌜ r ≡ lengthAt (placeOf place) stored ⌝ }
-{
-    match place {
-        IndexPlace::Start => 0,
-        IndexPlace::End => stored - 8,
-    }
-}
 
 // Ragged values of the `count` cells that the level counts, end to end from offset 0; says how many bytes it wrote.
 pub fn put_ragged(
@@ -59,7 +47,7 @@ pub fn put_ragged(
     let stored = 8 + index + bytes;
     let start = at + vlen::index_at(place, stored, index);
     index::put_live_index(out, start, width, offsets, masks, cells, level, count);
-    let field = at + length_at(place, stored);
+    let field = at + vlen::length_at(place, stored);
     field::put_u64(out, field, index as u64);
     stored
 }
@@ -82,6 +70,6 @@ pub fn put_plain(
     let stored = 8 + index + bytes;
     let start = vlen::index_at(place, stored, index);
     index::put_index(out, start, width, offsets, 0);
-    let field = length_at(place, stored);
+    let field = vlen::length_at(place, stored);
     field::put_u64(out, field, index as u64);
 }

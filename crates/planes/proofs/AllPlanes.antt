@@ -44,12 +44,9 @@ module _ {d : List ℕ} {n depth : ℕ} {s : List ℕ} (p : PlanesWithin d n dep
   mask-long = length-take-le n (drop (0 + 16) s) (omega (arith, length-drop (0 + 16) s, first-room))
 
   -- z is the mask's length, `out` has the first plane, and `set` counts it
-  module _ (z : ℕ) (ez : z ≡ n) (out : List ℕ) (eo : out ≡ overAt 0 (take n (drop 16 s)) d) (set : ℕ) (es : set ≡ countSet (take (16 + z - 16) (drop 16 s))) where
+  module _ (z : ℕ) (ez : z ≡ n) (out : List ℕ) (eo : out ≡ overAt 0 (take n (drop 16 s)) d) (set : ℕ) (set-is : set ≡ countSet (maskIn s 0 n)) where
     out-is : out ≡ over (maskIn s 0 n) d
     out-is = eo
-
-    set-is : set ≡ countSet (maskIn s 0 n)
-    set-is = let e : 16 + z - 16 ≡ n = omega arith in es ∙ ap (λ (k : ℕ). countSet (take k (drop 16 s))) e
 
     again : take n (drop (n - n) out) ≡ maskIn s 0 n
     again =

@@ -112,10 +112,7 @@ module _ {d : List ℕ} {n to left : ℕ} {s : List ℕ} {at cells : ℕ} (l : L
 
     -- z is the mask's length, `out` has the next plane, and `set` counts its mask
     module _ (z : ℕ) (ez : z ≡ cells) (out : List ℕ) (eo : out ≡ overAt to (spread 0 (take n (drop (to - n) d)) (drop (at + 16) s)) d)
-        (set : ℕ) (es : set ≡ countSet (take (at + 16 + z - (at + 16)) (drop (at + 16) s))) where
-      set-is : set ≡ countSet (maskIn s at cells)
-      set-is = let e : at + 16 + z - (at + 16) ≡ cells = omega arith in es ∙ ap (λ (k : ℕ). countSet (take k (drop (at + 16) s))) e
-
+        (set : ℕ) (set-is : set ≡ countSet (maskIn s at cells)) where
       long : length (spread 0 (take n (drop (to - n) d)) (maskIn s at cells)) ≡ n
       long = length-spread 0 (take n (drop (to - n) d)) (maskIn s at cells) ∙ above-long
 

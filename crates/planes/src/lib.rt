@@ -3,7 +3,7 @@ use buffer::copy::fill_bytes;
 use spread::next::byte_if;
 use spread::next::skip;
 use stored::mask::copy_to_plane;
-use stored::mask::count_set;
+use stored::mask::count_stored;
 use stored::mask::mark_of;
 use stored::mask::mask_length;
 use stored::mask::stored_byte;
@@ -71,7 +71,7 @@ pub fn place_levels(
     let mask = at + 16;
     let end = mask + mask_length(cells);
     place_plane(masks, to - n, to, n, s, mask, cells);
-    let set = count_set(&s[mask..end]);
+    let set = count_stored(s, mask, cells);
     place_levels(masks, n, to + n, left - 1, s, end, set);
 }
 
@@ -79,10 +79,10 @@ pub fn place_levels(
 pub fn place_planes(masks: &mut [u8], n: usize, depth: usize, s: &[u8])
     requires { ⌜ PlanesWithin (now masks) n depth (now s) ⌝ }
     ensures { λ _. ⌜ now (masks .exit) ≡ over (maskIn (now (s .entry)) 0 n
-        ++ planesBelow (maskIn (now (s .entry)) 0 n) (depth - 1) (now (s .entry)) (0 + (16 + n)) (countSet (maskIn (now (s .entry)) 0 n))) (now (masks .entry)) ⌝ }
+        ++ planesBelow (maskIn (now (s .entry)) 0 n) (depth - 1) (now (s .entry)) (0 + (16 + byteMask .size n)) (countSet (maskIn (now (s .entry)) 0 n))) (now (masks .entry)) ⌝ }
 {
     let end = 16 + mask_length(n);
     copy_to_plane(masks, 0, s, 16, n);
-    let set = count_set(&s[16..end]);
+    let set = count_stored(s, 16, n);
     place_levels(masks, n, n, depth - 1, s, end, set);
 }

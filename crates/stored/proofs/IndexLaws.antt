@@ -11,7 +11,7 @@ use native.Mathlib.Numerals.{sub-one}
 use lib.Dec.{leb, ltb, eqb}
 use lib.ListN.{length, take, drop, length-drop}
 use lib.Seq.{take-nil, drop-drop, take-take, take-all, length-take-le}
-use borrow.Author.Tests.{le-leb, lt-leb, eqb-true, leb-true, ltb-true, ltb-false}
+use borrow.Author.Tests.{le-leb, lt-leb, eq-eqb, ne-eqb, eqb-true, leb-true, ltb-true, ltb-false}
 use Rattle.array.specs.Answer.{Answer, gives, refuses, unless}
 use Rattle.array.specs.Limits.{mostBytes}
 use Rattle.array.specs.Lists.{pieces}
@@ -213,25 +213,49 @@ module _ {A : Type 0} (check : List ℕ → List ℕ → Answer A) (w n : ℕ) (
 
 -- ---- the index, found by positions
 
-pub found-at : (w n : ℕ) (s : List ℕ) (at : ℕ) → 8 ≤ length s - at → w + n * w ≤ length s - at - 8 → (p : Place) (fa ia k : ℕ)
-    → fa ≡ at + lengthAt p (length s - at) → ia ≡ at + indexAt p (length s - at) (w + n * w) → k ≡ length s - at - 8 - (w + n * w)
-    → unless (eqb (unle (take 8 (drop fa s))) (w + n * w)) 8 (indexedBy (offsetsIn w (suc n) (drop ia s)) k) ≡ indexIn w p (drop at s) n
-unfolding indexIn
-found-at w n s at h f p fa ia k ef ei ek =
-    let q : List ℕ = drop at s in
-    let lq : length q ≡ length s - at = length-drop at s in
-    let i : ℕ = w + n * w in
-    let af : drop fa s ≡ drop (lengthAt p (length q)) q = ap (λ (j : ℕ). drop j s) (ef ∙ ap (λ (l : ℕ). at + lengthAt p l) (sym lq)) ∙ sym (drop-drop (lengthAt p (length q)) at s) in
-    let ai : drop ia s ≡ drop (indexAt p (length q) i) q = ap (λ (j : ℕ). drop j s) (ei ∙ ap (λ (l : ℕ). at + indexAt p l i) (sym lq)) ∙ sym (drop-drop (indexAt p (length q) i) at s) in
-    let d : List ℕ = take (length q - 8 - i) (drop (dataAt p i) q) in
-    let ld : length d ≡ k = length-take-le (length q - 8 - i) (drop (dataAt p i) q) (omega (arith, length-drop (dataAt p i) q, data-room p (length q) i (omega arith))) ∙ ap (λ (l : ℕ). l - 8 - i) lq ∙ sym ek in
-    ap₂ (λ (x y : List ℕ). unless (eqb (unle (take 8 x)) i) 8 (indexedBy (offsetsIn w (suc n) y) k)) af ai
-    ∙ ap (λ (j : ℕ). unless (eqb (unle (take 8 (drop (lengthAt p (length q)) q))) i) 8 (indexedBy (offsetsIn w (suc n) (drop (indexAt p (length q) i) q)) j)) (sym ld)
-    ∙ sym (read-at indexCheck w n q (omega arith) (omega arith) p)
-  where
-    data-room : (p : Place) (l i : ℕ) → i ≤ l - 8 → l - 8 - i ≤ l - dataAt p i
-    data-room atStart l i h = omega arith
-    data-room atEnd l i h = omega arith
+pub length-within : (p : Place) (m : ℕ) → 8 ≤ m → lengthAt p m + 8 ≤ m
+length-within atStart m h = omega arith
+length-within atEnd m h = omega arith
+
+pub length-short : (p : Place) (m : ℕ) → m - lengthAt p m < 8 → m < 8
+length-short atStart m h = omega arith
+length-short atEnd m h = omega arith
+
+module _ (w n : ℕ) (s : List ℕ) (at : ℕ) (h : 8 ≤ length s - at) (f : w + n * w ≤ length s - at - 8) (p : Place) where
+  abbrev i : ℕ
+  i = w + n * w
+
+  -- where the index lies, and how many bytes of data there are
+  abbrev there : ℕ
+  there = at + indexAt p (length s - at) (w + n * w)
+
+  abbrev count : ℕ
+  count = length s - at - 8 - (w + n * w)
+
+  found-at : unless (eqb (unle (take 8 (drop (at + lengthAt p (length s - at)) s))) i) 8 (indexedBy (offsetsIn w (suc n) (drop there s)) count) ≡ indexIn w p (drop at s) n
+  unfolding indexIn
+  found-at =
+      let q : List ℕ = drop at s in
+      let lq : length q ≡ length s - at = length-drop at s in
+      let af : drop (at + lengthAt p (length s - at)) s ≡ drop (lengthAt p (length q)) q = ap (λ (l : ℕ). drop (at + lengthAt p l) s) (sym lq) ∙ sym (drop-drop (lengthAt p (length q)) at s) in
+      let ai : drop there s ≡ drop (indexAt p (length q) i) q = ap (λ (l : ℕ). drop (at + indexAt p l i) s) (sym lq) ∙ sym (drop-drop (indexAt p (length q) i) at s) in
+      let d : List ℕ = take (length q - 8 - i) (drop (dataAt p i) q) in
+      let ld : length d ≡ count = length-take-le (length q - 8 - i) (drop (dataAt p i) q) (omega (arith, length-drop (dataAt p i) q, data-room p (length q) i (omega arith))) ∙ ap (λ (l : ℕ). l - 8 - i) lq in
+      ap₂ (λ (x y : List ℕ). unless (eqb (unle (take 8 x)) i) 8 (indexedBy (offsetsIn w (suc n) y) count)) af ai
+      ∙ ap (λ (j : ℕ). unless (eqb (unle (take 8 (drop (lengthAt p (length q)) q))) i) 8 (indexedBy (offsetsIn w (suc n) (drop (indexAt p (length q) i) q)) j)) (sym ld)
+      ∙ sym (read-at indexCheck w n q (omega arith) (omega arith) p)
+    where
+      data-room : (p : Place) (l i : ℕ) → i ≤ l - 8 → l - 8 - i ≤ l - dataAt p i
+      data-room atStart l i h = omega arith
+      data-room atEnd l i h = omega arith
+
+  -- by the index length that was read
+  module _ (l : ℕ) (e : l ≡ unle (take 8 (drop (at + lengthAt p (length s - at)) s))) where
+    pub found-other : (l ≡ w + n * w → ⊥) → refuses 8 ≡ indexIn w p (drop at s) n
+    found-other g = ap (λ (b : Bool). unless b 8 (indexedBy (offsetsIn w (suc n) (drop there s)) count)) (sym (ne-eqb _ i (λ q. g (e ∙ q)))) ∙ found-at
+
+    pub found-index : l ≡ w + n * w → indexedBy (offsetsIn w (suc n) (drop there s)) count ≡ indexIn w p (drop at s) n
+    found-index g = ap (λ (b : Bool). unless b 8 (indexedBy (offsetsIn w (suc n) (drop there s)) count)) (sym (eq-eqb _ i (sym e ∙ g))) ∙ found-at
 
 -- ---- what the reader gives has the index that was found, and few enough bytes
 

@@ -1,6 +1,6 @@
 -- A frame that is opened: each answer by the fields that were read, and what the count says.
 -- Assumes nothing.
-use mathlib.Core.Path.{_≡_, refl, sym, ap, ap₂, _∙_}
+use mathlib.Core.Path.{_≡_, refl, sym, ap, _∙_}
 use mathlib.Core.Bool.{Bool, true, false}
 use mathlib.Core.List.{List}
 use Prim.Native.Nat.{ℕ, zero, suc, _+_, _-_, _≤_, _<_}
@@ -15,7 +15,7 @@ use Rattle.array.specs.Bytes.{unle}
 use Rattle.buffer.specs.Field.{fieldAt}
 use Rattle.buffer.proofs.Fields.{field-value, field-refused}
 use Rattle.codec.specs.Frame.{countSet}
-use Rattle.stored.specs.Marks.{countedIn}
+use Rattle.stored.specs.Marks.{storedMask, countedIn}
 use Rattle.stored.specs.Walk.{opened, valuesAt, noneSet, entering, walked, walkedFrame}
 use Rattle.codec.proofs.Marks.{count-le}
 
@@ -37,7 +37,7 @@ module _ (s : List ℕ) (n : ℕ) where
         go true = refl
         go false = refl
 
-    open-count : unle (take 8 s) ≡ n → length s ≡ 16 + unle (take 8 s) + unle (take 8 (drop 8 s)) → countedIn (take n (drop 16 s)) n ≡ opened s n
+    open-count : unle (take 8 s) ≡ n → length s ≡ 16 + unle (take 8 s) + unle (take 8 (drop 8 s)) → countedIn (storedMask s 16 n) n ≡ opened s n
     unfolding opened
     open-count e f = rw (le-leb 16 (length s) h, eq-eqb _ _ f, eq-eqb _ _ e)
 
@@ -71,10 +71,9 @@ module _ (s : List ℕ) (at n : ℕ) (l : at ≤ length s) where
       pub by-total : m ≡ z → (length s - (at + 16) ≡ z + c → ⊥) → refuses 8 ≡ opened (drop at s) n
       by-total e f = open-total (drop at s) n long (λ h. f (omega (arith, length-drop at s, first, second, room-for)))
 
-      pub by-count : m ≡ z → length s - (at + 16) ≡ z + c → countedIn (take (at + 16 + z - (at + 16)) (drop (at + 16) s)) n ≡ opened (drop at s) n
+      pub by-count : m ≡ z → length s - (at + 16) ≡ z + c → countedIn (storedMask s (at + 16) n) n ≡ opened (drop at s) n
       by-count e f =
-          let a : at + 16 + z - (at + 16) ≡ n = omega arith in
-          ap₂ (λ (x : ℕ) (q : List ℕ). countedIn (take x q) n) a (sym (drop-drop 16 at s))
+          ap (λ (q : List ℕ). countedIn (take n q) n) (sym (drop-drop 16 at s))
           ∙ open-count (drop at s) n long (sym first ∙ e ∙ ez) (omega (arith, length-drop at s, first, second, room-for))
 
 -- ---- what the count says

@@ -8,7 +8,7 @@ use lib.Dec.{leb, eqb}
 use Rattle.array.specs.Answer.{Answer, gives, refuses, unless, andThen}
 use Rattle.array.specs.Bytes.{unle}
 use Rattle.codec.specs.Mask.{byteMask}
-use Rattle.stored.specs.Marks.{countedIn}
+use Rattle.stored.specs.Marks.{storedMask, countedIn}
 use Rattle.stored.specs.declared.optional.Walked as walks
 
 -- how many cells the content of a frame of n cells has
@@ -16,7 +16,7 @@ unfoldable pub opened : List ℕ → ℕ → Answer ℕ
 opened s n =
     unless (leb 16 (length s)) 7
     (unless (eqb (length s) (16 + unle (take 8 s) + unle (take 8 (drop 8 s)))) 8
-    (unless (eqb (unle (take 8 s)) (byteMask .size n)) 8 (countedIn (take n (drop 16 s)) n)))
+    (unless (eqb (unle (take 8 s)) (byteMask .size n)) 8 (countedIn (storedMask s 16 n) n)))
 
 -- the innermost content: from a position on, for so many cells; or a level had no cell set, and there is none to look at
 pub data Innermost : Type 0 where
@@ -29,7 +29,7 @@ entering (suc k) next = next (suc k)
 
 -- a frame of n cells at `at`, whose content `next` walks
 abbrev pub frameBy : (ℕ → ℕ → Answer Innermost) → List ℕ → ℕ → ℕ → Answer Innermost
-frameBy next s at n = andThen (opened (drop at s) n) (λ k. entering k (next (at + (16 + n))))
+frameBy next s at n = andThen (opened (drop at s) n) (λ k. entering k (next (at + (16 + byteMask .size n))))
 
 -- d levels, from the position `at` on, with n cells counted there
 unfoldable pub walked : ℕ → List ℕ → ℕ → ℕ → Answer Innermost

@@ -7,7 +7,7 @@ ghost use lib.ListN.{length, getD, set, take, drop};
 ghost use Rattle.array.specs.Buffers.{overAt};
 ghost use Rattle.array.specs.Cells.{markOf, setTest};
 ghost use Rattle.codec.specs.Mask.{byteMask};
-ghost use Rattle.stored.specs.Marks.{toldMark, countedIn, toldCounted};
+ghost use Rattle.stored.specs.Marks.{toldMark, storedMask, countedIn, toldCounted};
 ghost use Rattle.codec.specs.Frame.{countSet};
 
 // What a mask byte says of its cell.
@@ -106,7 +106,7 @@ pub fn block_end(at: usize, length: usize) -> usize
     if length - at < 240 { length } else { at + 240 }
 }
 
-// How many bytes of a mask are set.
+// How many bytes of a plane are set.
 pub fn count_set(mask: &[u8]) -> usize
     ensures { λ r. ⌜ r ≡ countSet (now (mask .entry)) ⌝ }
 {
@@ -120,15 +120,25 @@ pub fn count_set(mask: &[u8]) -> usize
     n
 }
 
+// How many cells the stored mask of n cells at `at` sets.
+pub fn count_stored(s: &[u8], at: usize, n: usize) -> usize
+    requires { ⌜ at + byteMask .size n ≤ length (now s) ⌝ }
+    ensures { λ r. ⌜ r ≡ countSet (storedMask (now (s .entry)) at n) ⌝ }
+{
+    let end = at + mask_length(n);
+    count_set(&s[at..end])
+}
+
 // How many cells a stored mask sets, or the refusal of its bytes.
 pub enum Counted {
     Cells(usize),
     Refused(u8),
 }
 
-// Checks the stored mask of so many cells and counts those that it sets. Every byte is allowed, so that none is refused.
-pub fn check_mask(mask: &[u8], cells: usize) -> Counted
-    ensures { λ r. ⌜ toldCounted r ≡ countedIn (now (mask .entry)) cells ⌝ }
+// Checks the stored mask of n cells at `at`, and counts those that it sets. Every byte is allowed, so that none is refused.
+pub fn check_mask(s: &[u8], at: usize, n: usize) -> Counted
+    requires { ⌜ at + byteMask .size n ≤ length (now s) ⌝ }
+    ensures { λ r. ⌜ toldCounted r ≡ countedIn (storedMask (now (s .entry)) at n) n ⌝ }
 {
-    Counted::Cells(count_set(mask))
+    Counted::Cells(count_stored(s, at, n))
 }

@@ -43,8 +43,7 @@ pub fn open_frame(s: &[u8], at: usize, cells: usize) -> Counted
     if (left - size) as u64 != content {
         return Counted::Refused(refusal::LENGTH);
     }
-    let end = start + size;
-    check_mask(&s[start..end], cells)
+    check_mask(s, start, cells)
 }
 
 // Walks a content of so many cells: the values, or a frame again.

@@ -10,17 +10,15 @@ use buffer::field::read_u64;
 use valid::array_bytes;
 ghost use mathlib.Core.Path.{_≡_};
 ghost use mathlib.Core.Bool.{not};
-ghost use Prim.Native.Nat.{suc, _+_, _*_, _≤_, _<_};
-ghost use lib.Dec.{eqb};
-ghost use lib.ListN.{length, take, drop};
-ghost use Rattle.array.specs.Answer.{unless};
+ghost use Prim.Native.Nat.{suc, _+_, _-_, _*_, _≤_, _<_};
+ghost use lib.ListN.{length, drop};
 ghost use Rattle.array.specs.Limits.{mostCells};
-ghost use Rattle.array.specs.Bytes.{unle};
 ghost use Rattle.array.specs.Meaning.{widthOf, placeOf};
 ghost use Rattle.array.specs.Offsets.{risingTest};
 ghost use Rattle.array.specs.Content.{sizeTest};
+ghost use Rattle.buffer.specs.Field.{fieldAt, toldField};
 ghost use Rattle.codec.specs.Ragged.{dataTest, getRagged};
-ghost use Rattle.stored.specs.Index.{offsetsIn, indexedBy, indexIn, spanIn, indexAt, dataAt, toldIndex};
+ghost use Rattle.stored.specs.Index.{offsetsIn, indexedBy, indexIn, spanIn, lengthAt, indexAt, dataAt, toldIndex};
 
 // The first and the last offset of an index that passed the check.
 pub enum Indexed {
@@ -35,6 +33,17 @@ pub fn index_length(n: usize, width: IndexWidth) -> usize
 {
     let w = width_bytes(width);
     w + n * w
+}
+
+// Where the index length lies, in so many stored bytes.
+pub fn length_at(place: IndexPlace, stored: usize) -> usize
+    requires { ⌜ 8 ≤ stored ⌝ }
+    ensures { λ r. ⌜ r ≡ lengthAt (placeOf place) stored ⌝ }
+{
+    match place {
+        IndexPlace::Start => 0,
+        IndexPlace::End => stored - 8,
+    }
 }
 
 // Where the index lies, `size` bytes of it, in so many stored bytes.
@@ -113,48 +122,37 @@ pub fn check_index(s: &[u8], at: usize, n: usize, width: IndexWidth, count: usiz
     Indexed::Span(le_at(s, at, width), last)
 }
 
-// Checks the index length at `field`, and the index.
-pub fn check_placed(
-    s: &[u8],
-    field: usize,
-    at: usize,
-    n: usize,
-    width: IndexWidth,
-    count: usize,
-) -> Indexed
-    requires { ⌜ (n ≤ mostCells) × (at + (widthOf width + n * widthOf width) ≤ length (now s)) × (field + 8 ≤ length (now s)) ⌝ }
-    ensures { λ r. ⌜ toldIndex r ≡ unless (eqb (unle (take 8 (drop field (now (s .entry))))) (widthOf width + n * widthOf width)) 8
-        (indexedBy (offsetsIn (widthOf width) (suc n) (drop at (now (s .entry)))) count) ⌝ }
+// The index length of the ragged values that lie from `at` to the end, or refusal 7 where they are too short for it.
+fn read_length(s: &[u8], at: usize, place: IndexPlace) -> Field
+    requires { ⌜ at ≤ length (now s) ⌝ }
+    ensures { λ r. ⌜ toldField r ≡ fieldAt 8 7 (now (s .entry)) (at + lengthAt (placeOf place) (length (now (s .entry)) - at)) ⌝ }
 {
-    let Field::Value(l) = read_u64(s, field) else {
-        return Indexed::Refused(refusal::SHORT);
-    };
-    if l != index_length(n, width) as u64 {
-        return Indexed::Refused(refusal::LENGTH);
+    let size = s.len() - at;
+    if size < 8 {
+        return Field::Refused(refusal::SHORT);
     }
-    check_index(s, at, n, width, count)
+    read_u64(s, at + length_at(place, size))
 }
 
-// Finds the index of the ragged values of n cells that lie from `at` to the end. An index that cannot fit is refused before its length
-// is read: no other answer is possible there.
+// Finds the index of the ragged values of n cells that lie from `at` to the end. Whether it fits is told before its length is looked
+// at: no other answer is possible there.
 pub fn find_index(s: &[u8], at: usize, n: usize, width: IndexWidth, place: IndexPlace) -> Indexed
     requires { ⌜ (n ≤ mostCells) × (at ≤ length (now s)) ⌝ }
     ensures { λ r. ⌜ toldIndex r ≡ indexIn (widthOf width) (placeOf place) (drop at (now (s .entry))) n ⌝ }
 {
-    let size = s.len() - at;
-    if size < 8 {
+    let Field::Value(l) = read_length(s, at, place) else {
         return Indexed::Refused(refusal::SHORT);
-    }
+    };
+    let size = s.len() - at;
     let left = size - 8;
     let index = index_length(n, width);
     if left < index {
         return Indexed::Refused(refusal::LENGTH);
     }
-    let count = left - index;
-    match place {
-        IndexPlace::Start => check_placed(s, at, at + 8, n, width, count),
-        IndexPlace::End => check_placed(s, at + left, at + count, n, width, count),
+    if l != index as u64 {
+        return Indexed::Refused(refusal::LENGTH);
     }
+    check_index(s, at + index_at(place, size, index), n, width, left - index)
 }
 
 // Checks the ragged values of n cells that lie from `at` to the end: their index, and then how many bytes they have.

@@ -11,7 +11,7 @@ use Rattle.planes.proofs.Levels.{levels-none, levels-null, levels-room,
 use Rattle.planes.proofs.place_levels.Reads as place-levels
 use Rattle.planes.proofs.place_levels.Kinds as place-levels-kinds
 use Rattle.planes.proofs.+place_levels.Lts-place_levels as place-levels-lts
-use Rattle.stored.proofs.mask.count_set.Reads as count-set-reads
+use Rattle.stored.proofs.mask.count_stored.Reads as count-stored-reads
 use Rattle.stored.proofs.mask.mask_length.Reads as mask-length-reads
 use Rattle.planes.proofs.place_plane.Reads as place-plane-reads
 use Rattle.planes.proofs.+place_levels.{statement}
@@ -34,7 +34,7 @@ place-levels-below t =
 
 -- the readings of what each member calls
 abbrev claims-place-levels : ℕ → place-levels-lts.Claims
-claims-place-levels t = (fill-bytes-reads.Asked, fill-bytes-reads.Learnt, mask-length-reads.Asked, mask-length-reads.Learnt, place-plane-reads.Asked, place-plane-reads.Learnt, count-set-reads.Asked, count-set-reads.Learnt, place-levels-below t, place-levels.Post)
+claims-place-levels t = (fill-bytes-reads.Asked, fill-bytes-reads.Learnt, mask-length-reads.Asked, mask-length-reads.Learnt, place-plane-reads.Asked, place-plane-reads.Learnt, count-stored-reads.Asked, count-stored-reads.Learnt, place-levels-below t, place-levels.Post)
 
 fits : (t : ℕ) (c : place-levels-lts.Else2 (claims-place-levels t) (place-levels-at t) place-levels.Post) → c .before .before .before .before .args .to + c .before .before .before .before .args .n + (c .before .before .before .before .args .left - 1) * c .before .before .before .before .args .n ≤ length (c .before .before .before .before .args .masks .now)
 fits t c = levels-fits (c .before .before .before .before .pre .1) (c .before .if1 .left) (c .if2 .left)
@@ -74,40 +74,31 @@ place-levels-place-plane-requires t c κs =
     let pre = c .before .before .before .before .before .before .pre in
     (omega (arith, pre .1 .above), omega (arith, (fits t (c .before .before))), pre .1 .count, omega (arith, (room t (c .before .before))))
 
-place-levels-sub-count-set : (t : ℕ) → place-levels-lts.Need-sub-count-set (claims-place-levels t) (place-levels-at t) place-levels.Post
-place-levels-sub-count-set t c = search needs
-
-place-levels-part-count-set-start : (t : ℕ) → place-levels-lts.Need-part-count-set-start (claims-place-levels t) (place-levels-at t) place-levels.Post
-place-levels-part-count-set-start t c = search needs
-
-place-levels-part-count-set-end : (t : ℕ) → place-levels-lts.Need-part-count-set-end (claims-place-levels t) (place-levels-at t) place-levels.Post
-place-levels-part-count-set-end t c = omega (arith, (room t (c .before .before .before .before .before)), c .before .before .before .before .mask-length .ensures)
-
-place-levels-count-set-requires : (t : ℕ) → place-levels-lts.Need-count-set-requires (claims-place-levels t) (place-levels-at t) place-levels.Post
-place-levels-count-set-requires t c κs = search needs
+place-levels-count-stored-requires : (t : ℕ) → place-levels-lts.Need-count-stored-requires (claims-place-levels t) (place-levels-at t) place-levels.Post
+place-levels-count-stored-requires t c κs = omega (arith, (room t (c .before .before .before .before .before)))
 
 place-levels-add-place-levels : (t : ℕ) → place-levels-lts.Need-add-place-levels (claims-place-levels t) (place-levels-at t) place-levels.Post
-place-levels-add-place-levels t c = omega (arith, (fits t (c .before .before .before .before .before .before .before .before)))
+place-levels-add-place-levels t c = omega (arith, (fits t (c .before .before .before .before .before .before .before)))
 
 place-levels-sub-place-levels : (t : ℕ) → place-levels-lts.Need-sub-place-levels (claims-place-levels t) (place-levels-at t) place-levels.Post
 place-levels-sub-place-levels t c = search needs
 
 place-levels-place-levels-requires : (t : ℕ) → place-levels-lts.Need-place-levels-requires (claims-place-levels t) (place-levels-at t) place-levels.Post
 place-levels-place-levels-requires t c κs =
-    let mask-length = c .before .before .before .before .before .before .before .mask-length in
-    let place-plane = c .before .before .before .before .before .place-plane in
-    let count-set = c .before .count-set in
-    (omega arith, levels-next (c .before .before .before .before .before .before .before .before .before .before .before .before .pre .1) (c .before .before .before .before .before .before .before .before .before .if1 .left) (c .before .before .before .before .before .before .before .before .if2 .left) (mask-length .result) (mask-length .ensures) (place-plane .last .0) (place-plane .ensures) (count-set .result) (count-set .ensures))
+    let mask-length = c .before .before .before .before .before .before .mask-length in
+    let place-plane = c .before .before .before .before .place-plane in
+    let count-stored = c .before .count-stored in
+    (omega arith, levels-next (c .before .before .before .before .before .before .before .before .before .before .before .pre .1) (c .before .before .before .before .before .before .before .before .if1 .left) (c .before .before .before .before .before .before .before .if2 .left) (mask-length .result) (mask-length .ensures) (place-plane .last .0) (place-plane .ensures) (count-stored .result) (count-stored .ensures))
 
 place-levels-same-length-2 : (t : ℕ) → place-levels-lts.Need-same-length-2 (claims-place-levels t) (place-levels-at t) place-levels.Post
 place-levels-same-length-2 t c = search needs
 
 place-levels-returns-3 : (t : ℕ) → place-levels-lts.Need-returns-3 (claims-place-levels t) (place-levels-at t) place-levels.Post
 place-levels-returns-3 t c =
-    let mask-length = c .before .before .before .before .before .before .before .before .before .before .mask-length in
-    let place-plane = c .before .before .before .before .before .before .before .before .place-plane in
-    let count-set = c .before .before .before .before .count-set in
-    levels-done (c .before .before .before .before .before .before .before .before .before .before .before .before .before .before .before .pre .1) (c .before .before .before .before .before .before .before .before .before .before .before .before .if1 .left) (c .before .before .before .before .before .before .before .before .before .before .before .if2 .left) (mask-length .result) (mask-length .ensures) (place-plane .last .0) (place-plane .ensures) (count-set .result) (count-set .ensures) _ (c .before .before .place-levels .ensures)
+    let mask-length = c .before .before .before .before .before .before .before .before .before .mask-length in
+    let place-plane = c .before .before .before .before .before .before .before .place-plane in
+    let count-stored = c .before .before .before .before .count-stored in
+    levels-done (c .before .before .before .before .before .before .before .before .before .before .before .before .before .before .pre .1) (c .before .before .before .before .before .before .before .before .before .before .before .if1 .left) (c .before .before .before .before .before .before .before .before .before .before .if2 .left) (mask-length .result) (mask-length .ensures) (place-plane .last .0) (place-plane .ensures) (count-stored .result) (count-stored .ensures) _ (c .before .before .place-levels .ensures)
 
 pub +place-levels-spec : {M : Type 1} → statement M
 +place-levels-spec = close μ-place-levels λ t. place-levels-lts.spec (claims-place-levels t) (place-levels-at t) place-levels.Post
@@ -121,10 +112,7 @@ pub +place-levels-spec : {M : Type 1} → statement M
     (place-levels-add-end t)
     (place-levels-sub-place-plane t)
     (place-levels-place-plane-requires t)
-    (place-levels-sub-count-set t)
-    (place-levels-part-count-set-start t)
-    (place-levels-part-count-set-end t)
-    (place-levels-count-set-requires t)
+    (place-levels-count-stored-requires t)
     (place-levels-add-place-levels t)
     (place-levels-sub-place-levels t)
     (place-levels-place-levels-requires t)

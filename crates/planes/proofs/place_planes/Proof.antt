@@ -17,37 +17,28 @@ copy-to-plane-requires c κs =
     let pre = c .before .before .before .before .pre in
     omega (arith, first-room (pre), first-fits (pre))
 
-sub-count-set : tie.Need-sub-count-set
-sub-count-set c = search needs
-
-part-count-set-start : tie.Need-part-count-set-start
-part-count-set-start c = search needs
-
-part-count-set-end : tie.Need-part-count-set-end
-part-count-set-end c = omega (arith, first-room (c .before .before .before .before .before .before .before .pre), c .before .before .before .before .mask-length .ensures)
-
-count-set-requires : tie.Need-count-set-requires
-count-set-requires c κs = search needs
+count-stored-requires : tie.Need-count-stored-requires
+count-stored-requires c κs = omega (arith, first-room (c .before .before .before .before .before .before .before .pre))
 
 sub-place-levels : tie.Need-sub-place-levels
 sub-place-levels c = search needs
 
 place-levels-requires : tie.Need-place-levels-requires
 place-levels-requires c κs =
-    let mask-length = c .before .before .before .before .before .before .before .mask-length in
-    let copy-to-plane = c .before .before .before .before .before .copy-to-plane in
-    let count-set = c .before .count-set in
-    first-next (c .before .before .before .before .before .before .before .before .before .before .pre) (mask-length .result) (mask-length .ensures) (copy-to-plane .last .0) (copy-to-plane .ensures) (count-set .result) (count-set .ensures)
+    let mask-length = c .before .before .before .before .before .before .mask-length in
+    let copy-to-plane = c .before .before .before .before .copy-to-plane in
+    let count-stored = c .before .count-stored in
+    first-next (c .before .before .before .before .before .before .before .before .before .pre) (mask-length .result) (mask-length .ensures) (copy-to-plane .last .0) (copy-to-plane .ensures) (count-stored .result) (count-stored .ensures)
 
 same-length : tie.Need-same-length
 same-length c = search needs
 
 returns : tie.Need-returns
 returns c =
-    let mask-length = c .before .before .before .before .before .before .before .before .before .before .mask-length in
-    let copy-to-plane = c .before .before .before .before .before .before .before .before .copy-to-plane in
-    let count-set = c .before .before .before .before .count-set in
-    planes-done (c .before .before .before .before .before .before .before .before .before .before .before .before .before .pre) (mask-length .result) (mask-length .ensures) (copy-to-plane .last .0) (copy-to-plane .ensures) (count-set .result) (count-set .ensures) _ (c .before .before .place-levels .ensures)
+    let mask-length = c .before .before .before .before .before .before .before .before .before .mask-length in
+    let copy-to-plane = c .before .before .before .before .before .before .before .copy-to-plane in
+    let count-stored = c .before .before .before .before .count-stored in
+    planes-done (c .before .before .before .before .before .before .before .before .before .before .before .before .pre) (mask-length .result) (mask-length .ensures) (copy-to-plane .last .0) (copy-to-plane .ensures) (count-stored .result) (count-stored .ensures) _ (c .before .before .place-levels .ensures)
 
 pub place-planes-spec : {M : Type 1} → statement M
 place-planes-spec =
@@ -56,10 +47,7 @@ place-planes-spec =
     mask-length-requires
     add-end
     copy-to-plane-requires
-    sub-count-set
-    part-count-set-start
-    part-count-set-end
-    count-set-requires
+    count-stored-requires
     sub-place-levels
     place-levels-requires
     same-length

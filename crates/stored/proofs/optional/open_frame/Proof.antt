@@ -80,26 +80,14 @@ returns-5 c =
     let mask-length = c .before .before .before .mask-length in
     by-total (args .s .now) (args .at) (args .cells) (c .before .before .before .before .before .before .before .before .before .before .before .before .before .pre .0) (c .before .before .before .before .before .before .before .before .before .mask .given .0 .0) (c .before .before .before .before .before .content .given .0 .0) (mask-is (c .before .before .before .before)) (content-is (c .before .before .before .before)) (mask-length .result) (mask-length .ensures) (c .before .before .if1 .left) (λ e. omega arith)
 
-add-end : tie.Need-add-end
-add-end c = search needs
-
-sub-check-mask : tie.Need-sub-check-mask
-sub-check-mask c = search needs
-
-part-check-mask-start : tie.Need-part-check-mask-start
-part-check-mask-start c = search needs
-
-part-check-mask-end : tie.Need-part-check-mask-end
-part-check-mask-end c = omega (arith, (room (c .before .before .before .before)))
-
 check-mask-requires : tie.Need-check-mask-requires
-check-mask-requires c κs = search needs
+check-mask-requires c κs = omega (arith, (room (c .before .before .before .before)), c .before .before .before .mask-length .ensures)
 
 returns-6 : tie.Need-returns-6
 returns-6 c =
-    let args = c .before .before .before .before .before .before .before .before .before .before .before .before .before .before .before .args in
-    let mask-length = c .before .before .before .before .before .mask-length in
-    c .check-mask .ensures ∙ by-count (args .s .now) (args .at) (args .cells) (c .before .before .before .before .before .before .before .before .before .before .before .before .before .before .before .pre .0) (c .before .before .before .before .before .before .before .before .before .before .before .mask .given .0 .0) (c .before .before .before .before .before .before .before .content .given .0 .0) (mask-is (c .before .before .before .before .before .before)) (content-is (c .before .before .before .before .before .before)) (mask-length .result) (mask-length .ensures) (c .before .before .before .before .if1 .left) (omega arith)
+    let args = c .before .before .before .before .before .before .before .before .before .before .before .before .before .before .args in
+    let mask-length = c .before .before .before .before .mask-length in
+    c .check-mask .ensures ∙ by-count (args .s .now) (args .at) (args .cells) (c .before .before .before .before .before .before .before .before .before .before .before .before .before .before .pre .0) (c .before .before .before .before .before .before .before .before .before .before .mask .given .0 .0) (c .before .before .before .before .before .before .content .given .0 .0) (mask-is (c .before .before .before .before .before)) (content-is (c .before .before .before .before .before)) (mask-length .result) (mask-length .ensures) (c .before .before .before .if1 .left) (omega arith)
 
 pub open-frame-spec : {M : Type 1} → statement M
 open-frame-spec =
@@ -120,9 +108,5 @@ open-frame-spec =
     returns-3
     returns-4
     returns-5
-    add-end
-    sub-check-mask
-    part-check-mask-start
-    part-check-mask-end
     check-mask-requires
     returns-6)

@@ -1,8 +1,8 @@
--- `gather_ragged::length_at` meets its contract, place by place.
+-- `length_at` meets its contract, place by place.
 -- Assumes nothing.
 use borrow.Author.Needs.{needs}
-use Rattle.gather_ragged.proofs.length_at.Statement.{statement}
-use Rattle.gather_ragged.proofs.length_at.Tie as tie
+use Rattle.stored.proofs.vlen.length_at.Statement.{statement}
+use Rattle.stored.proofs.vlen.length_at.Tie as tie
 
 enum-told : tie.Need-enum-told
 enum-told c = search needs
