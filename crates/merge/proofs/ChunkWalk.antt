@@ -20,9 +20,8 @@ use Rattle.array.proofs.SubsetLists.{startsAt, lengthsAt}
 use Rattle.chunks.specs.Chunks.{offsetCount}
 use Rattle.cover.specs.Asked.{SubsetsOk}
 use Rattle.cover.proofs.SubsetWalk.{SubsetsLeft, rest, rest-begins, rest-ends, subsets-begin, subsets-more, subset-now, now-lengths}
-use Rattle.merge.specs.Chunks.{chunkTest, chunkBytes, chunkTaken, chunkSum, chunkAnswer}
+use Rattle.merge.specs.Chunks.{chunkTest, chunkBytes, chunkTaken, chunkSum, fits, chunkAnswer}
 use Rattle.merge.proofs.OneChunk.{Fitting, chunk-fits, chunk-bad}
-use Rattle.merge.specs.declared.rules.Chunk.the-variants.{Fits, Bad}
 
 -- an answer with more added
 abbrev pub plus : ℕ → Answer ℕ → Answer ℕ
@@ -101,10 +100,10 @@ module _ (f : Form) (d : ℕ) (sh flat : List ℕ) (count pl vl : ℕ) (os : Lis
             (ap volume (now-lengths sh flat count i at (c .geo) h) ∙ sym e)
             ∙ ap (λ (x : Bool). plus sum (unless x 4 (plus (chunkBytes f m (drop o os)) (chunkSum f d later (p - d * m) (v - chunkTaken f m (drop o os)) (drop (offsetCount f m) (drop o os)))))) et
 
-        pub walked-bad : Bad ≡ chunkAnswer f d m p v (drop o os) → refuses 4 ≡ chunkSum f d (nextSubsets (length sh) count flat) pl vl os
+        pub walked-bad : refuses 4 ≡ chunkAnswer f d m p v (drop o os) → refuses 4 ≡ chunkSum f d (nextSubsets (length sh) count flat) pl vl os
         walked-bad r = sym (turn false (chunk-bad f d m p v (drop o os) r))
 
-        module _ (taken bytes offsets : ℕ) (r : Fits taken bytes offsets ≡ chunkAnswer f d m p v (drop o os)) where
+        module _ (taken bytes offsets : ℕ) (r : fits taken bytes offsets ≡ chunkAnswer f d m p v (drop o os)) where
           abbrev pub fitting : Fitting f d m p v (drop o os) taken bytes offsets
           fitting = chunk-fits f d m p v (drop o os) taken bytes offsets r
 

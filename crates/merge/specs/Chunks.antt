@@ -2,7 +2,7 @@
 -- proofs/ChunkSums has that these are the refusals of the chunks' cells, and the sum of their bytes.
 -- Assumes nothing.
 use Prim.Native.Nat.{ℕ, suc, _+_, _-_, _*_}
-use mathlib.Core.Bool.{Bool, true, false, _&&_}
+use mathlib.Core.Bool.{Bool, _&&_}
 use mathlib.Core.List.{List, [], _∷_}
 use lib.ListN.{length, getD, take, drop}
 use lib.Dec.{leb, eqb}
@@ -13,7 +13,6 @@ use Rattle.array.specs.Shape.{volume}
 use Rattle.array.specs.Subset.{Subset, lengths}
 use Rattle.chunks.specs.Chunks.{offsetCount, valueCount}
 use Rattle.merge.specs.declared.rules.Chunk.{Chunk}
-use Rattle.merge.specs.declared.rules.Chunk.the-variants.{Fits, Bad}
 use Rattle.merge.specs.declared.rules.Total.{Total}
 
 -- values of m cells, where so many bytes and the offsets os are left
@@ -44,13 +43,16 @@ chunkSum f d (b ∷ bs) masks values os =
 
 -- ---- as the code answers
 
-abbrev pub pickChunk : Bool → Chunk → Chunk → Chunk
-pickChunk true a b = a
-pickChunk false a b = b
+-- a chunk that fits: its value bytes, those of them that are in cells, its offsets
+abbrev pub fits : ℕ → ℕ → ℕ → Answer (ℕ × ℕ × ℕ)
+fits v b o = gives (v, b, o)
 
-unfoldable pub chunkAnswer : Form → ℕ → ℕ → ℕ → ℕ → List ℕ → Chunk
-chunkAnswer f d m masks values os =
-    pickChunk (chunkTest f d m masks values os) (Fits (chunkTaken f m os) (chunkBytes f m os) (offsetCount f m)) Bad
+unfoldable pub chunkAnswer : Form → ℕ → ℕ → ℕ → ℕ → List ℕ → Answer (ℕ × ℕ × ℕ)
+chunkAnswer f d m masks values os = unless (chunkTest f d m masks values os) 4 (fits (chunkTaken f m os) (chunkBytes f m os) (offsetCount f m))
+
+abbrev pub toldChunk : Chunk → Answer (ℕ × ℕ × ℕ)
+toldChunk (Chunk.Fits v b o) = fits v b o
+toldChunk Chunk.Bad = refuses 4
 
 abbrev pub toldTotal : Total → Answer ℕ
 toldTotal (Total.Bytes s) = gives s

@@ -11,7 +11,7 @@ ghost use Rattle.array.specs.Limits.{mostCells};
 ghost use Rattle.array.specs.Meaning.{formOf, kindOf};
 ghost use Rattle.array.specs.Rows.{nextSubsets};
 ghost use Rattle.cover.specs.Asked.{SubsetsOk};
-ghost use Rattle.merge.specs.Chunks.{chunkAnswer, chunkSum, toldTotal};
+ghost use Rattle.merge.specs.Chunks.{chunkAnswer, chunkSum, toldChunk, toldTotal};
 ghost use Rattle.merge.specs.Merge.{checkAnswer, toldChecks};
 
 // What a chunk takes: its value bytes, those of them that are in cells, its offsets.
@@ -29,7 +29,7 @@ pub enum Total {
 // A chunk of `cells` cells against what is left of masks, values and offsets.
 fn check_chunk(kind: Kind, cells: usize, masks: usize, values: usize, offsets: &[u64]) -> Chunk
     requires { ⌜ cells ≤ mostCells ⌝ }
-    ensures { λ r. ⌜ r ≡ chunkAnswer (formOf (kind .values)) (kind .depth) cells masks values (now (offsets .entry)) ⌝ }
+    ensures { λ r. ⌜ toldChunk r ≡ chunkAnswer (formOf (kind .values)) (kind .depth) cells masks values (now (offsets .entry)) ⌝ }
 {
     let depth = kind.depth as usize;
     if masks < depth * cells {

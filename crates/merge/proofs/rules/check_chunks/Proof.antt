@@ -13,10 +13,9 @@ use Rattle.valid.proofs.CheckLaws.{small-product}
 use Rattle.subset.proofs.Index.{few-within, few-drop}
 use Rattle.array.proofs.SubsetLists.{startsAt, lengthsAt}
 use Rattle.cover.proofs.SubsetWalk.{next-room, now-within}
-use Rattle.merge.specs.Chunks.{chunkAnswer}
+use Rattle.merge.specs.Chunks.{fits, chunkAnswer, toldChunk}
 use Rattle.merge.proofs.ChunkWalk.{Walked, walked-begins, masks-left, values-left, offsets-left, none-left, walked-bad, walked-more, rest-part}
 use Rattle.merge.proofs.OneChunk.{Fitting, chunk-fits}
-use Rattle.merge.specs.declared.rules.Chunk.the-variants.{Fits}
 use Rattle.merge.proofs.rules.check_chunks.Statement.{statement}
 use Rattle.merge.proofs.rules.check_chunks.Tie as tie
 
@@ -56,17 +55,17 @@ head c = c .before .before .before .before .before .before .before .before
 abbrev cells : Told → ℕ
 cells c = c .before .before .before .before .before .volume-of .result
 
-got : (c : Told) → Fits (c .before .taken .given .0 .0) (c .before .taken .given .0 .1 .0) (c .before .taken .given .0 .1 .1 .0)
+got : (c : Told) → fits (c .before .taken .given .0 .0) (c .before .taken .given .0 .1 .0) (c .before .taken .given .0 .1 .1 .0)
     ≡ chunkAnswer (formOf (start (head c) .args .kind .values)) (start (head c) .args .kind .depth) (cells c) (head c .loop .p) (head c .loop .v) (drop (head c .loop .o) (start (head c) .args .offsets .now))
 got c =
     let l = head c in
     let a = start l .args in
     let k = c .before .before .before in
-    sym (c .before .taken .given .1) ∙ k .check-chunk .ensures ∙ ap (chunkAnswer (formOf (a .kind .values)) (a .kind .depth) (cells c) (l .loop .p) (l .loop .v)) (rest-part (l .loop .o) (a .offsets .now))
+    sym (ap toldChunk (c .before .taken .given .1)) ∙ k .check-chunk .ensures ∙ ap (chunkAnswer (formOf (a .kind .values)) (a .kind .depth) (cells c) (l .loop .p) (l .loop .v)) (rest-part (l .loop .o) (a .offsets .now))
 
-fits : (c : Told) → Fitting (formOf (start (head c) .args .kind .values)) (start (head c) .args .kind .depth) (cells c) (head c .loop .p) (head c .loop .v) (drop (head c .loop .o) (start (head c) .args .offsets .now))
+fitted : (c : Told) → Fitting (formOf (start (head c) .args .kind .values)) (start (head c) .args .kind .depth) (cells c) (head c .loop .p) (head c .loop .v) (drop (head c .loop .o) (start (head c) .args .offsets .now))
     (c .before .taken .given .0 .0) (c .before .taken .given .0 .1 .0) (c .before .taken .given .0 .1 .1 .0)
-fits c =
+fitted c =
     let l = head c in
     let a = start l .args in
     chunk-fits (formOf (a .kind .values)) (a .kind .depth) (cells c) (l .loop .p) (l .loop .v) (drop (l .loop .o) (a .offsets .now)) _ _ _ (got c)
@@ -134,7 +133,7 @@ returns c =
     let a = start l .args in
     walked-bad (formOf (a .kind .values)) (a .kind .depth) (a .shape .now) (a .subsets .now) (a .count) (a .masks) (a .values) (a .offsets .now) (l .loop .i) (l .loop .at) (l .loop .p) (l .loop .v) (l .loop .o) (l .loop .sum) (l .loop .inv) (omega arith)
     (v .volume-of .result) (v .volume-of .ensures)
-    (sym (c .enum-told .given .1) ∙ k .check-chunk .ensures ∙ ap (chunkAnswer (formOf (a .kind .values)) (a .kind .depth) (v .volume-of .result) (l .loop .p) (l .loop .v)) (rest-part (l .loop .o) (a .offsets .now)))
+    (sym (ap toldChunk (c .enum-told .given .1)) ∙ k .check-chunk .ensures ∙ ap (chunkAnswer (formOf (a .kind .values)) (a .kind .depth) (v .volume-of .result) (l .loop .p) (l .loop .v)) (rest-part (l .loop .o) (a .offsets .now)))
 
 mul-p : tie.Need-mul-p Inv-loop μ-loop
 mul-p c =
@@ -143,16 +142,16 @@ mul-p c =
     omega (arith, small-product (start l .args .kind .depth) (cells c) (omega arith) (omega (arith, c .before .before .before .before .before .volume-of .ensures, small l (omega arith))))
 
 sub-p : tie.Need-sub-p Inv-loop μ-loop
-sub-p c = fits c .masks
+sub-p c = fitted c .masks
 
 sub-v : tie.Need-sub-v Inv-loop μ-loop
-sub-v c = fits c .values
+sub-v c = fitted c .values
 
 add-o : tie.Need-add-o Inv-loop μ-loop
-add-o c = omega (arith, fits c .indexed, length-drop (head c .loop .o) (start (head c) .args .offsets .now), head c .loop .inv .within)
+add-o c = omega (arith, fitted c .indexed, length-drop (head c .loop .o) (start (head c) .args .offsets .now), head c .loop .inv .within)
 
 add-sum : tie.Need-add-sum Inv-loop μ-loop
-add-sum c = omega (arith, fits c .values, fits c .inside, head c .loop .inv .bounded)
+add-sum c = omega (arith, fitted c .values, fitted c .inside, head c .loop .inv .bounded)
 
 add-i : tie.Need-add-i Inv-loop μ-loop
 add-i c = omega arith
