@@ -45,10 +45,11 @@ fn put_marked_ends(
     let mut total: u64 = 0;
     let mut done = 0;
     while done < count {
-        let mark = live::live_mark(masks, cells, level, i);
+        let mark = live::live_mark(masks, cells, level, i) as u64;
         let start = offsets[i];
         let end = offsets[i + 1];
-        total += (end - start) * (mark as u64);
+        let bytes = (end - start) * mark;
+        total += bytes;
         put_offset(out, to + done * k, width, total);
         done += mark as usize;
         i += 1;

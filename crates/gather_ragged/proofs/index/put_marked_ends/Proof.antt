@@ -47,6 +47,9 @@ loop-holds c = indexing-begins (c .before .before .before .before .pre .2) (c .b
 live-mark-requires : tie.Need-live-mark-requires Inv-loop μ-loop
 live-mark-requires c κs = omega (arith, (within c), c .before .before .before .before .before .before .pre .0 .shallow, c .before .before .before .before .before .before .pre .0 .planes)
 
+cast-mark : tie.Need-cast-mark Inv-loop μ-loop
+cast-mark c = search needs
+
 mul-start : tie.Need-mul-start Inv-loop μ-loop
 unfolding mostCells
 mul-start c = omega (arith, (inside (c .before)), c .before .before .before .before .before .before .before .pre .0 .few, c .before .before .before .before .before .before .before .pre .2 .counted)
@@ -64,14 +67,11 @@ mul-end c = omega (arith, (inside (c .before .before)), c .before .before .befor
 shared-slice-read-end : tie.Need-shared-slice-read-end Inv-loop μ-loop
 shared-slice-read-end c = (inside (c .before .before .before))
 
-sub-total : tie.Need-sub-total Inv-loop μ-loop
-sub-total c = summing-rises (c .before .before .before .before .loop .inv .sums) (within (c .before .before .before))
+sub-bytes : tie.Need-sub-bytes Inv-loop μ-loop
+sub-bytes c = summing-rises (c .before .before .before .before .loop .inv .sums) (within (c .before .before .before))
 
-cast-total : tie.Need-cast-total Inv-loop μ-loop
-cast-total c = search needs
-
-mul-total : tie.Need-mul-total Inv-loop μ-loop
-mul-total c = omega (arith, summing-fits (c .before .before .before .before .loop .inv .sums) (within (c .before .before .before)) (c .before .before .live-mark .ensures), c .shared-slice-known4 .given (c .before .before .before .before .loop .i + 1))
+mul-bytes : tie.Need-mul-bytes Inv-loop μ-loop
+mul-bytes c = omega (arith, summing-fits (c .before .before .before .before .loop .inv .sums) (within (c .before .before .before)) (c .before .before .live-mark .ensures), c .shared-slice-known4 .given (c .before .before .before .before .loop .i + 1))
 
 add-total : tie.Need-add-total Inv-loop μ-loop
 add-total c = omega (arith, summing-fits (c .before .before .before .before .loop .inv .sums) (within (c .before .before .before)) (c .before .before .live-mark .ensures), c .shared-slice-known4 .given (c .before .before .before .before .loop .i + 1))
@@ -84,9 +84,6 @@ add-put-offset c = omega (arith, (room (c .before .before .before .before)), (sa
 
 put-offset-requires : tie.Need-put-offset-requires Inv-loop μ-loop
 put-offset-requires c κs = omega (arith, (room (c .before .before .before .before)), (wide (c .before .before .before .before)))
-
-cast-done : tie.Need-cast-done Inv-loop μ-loop
-cast-done c = search needs
 
 add-done : tie.Need-add-done Inv-loop μ-loop
 add-done c = let a = c .before .before .before .before .before .before .before .before .before .before .before .before .before .args in omega (arith, mark-le (a .cells) (a .masks .now) (c .before .before .before .before .before .before .before .before .loop .i) (a .level) (c .before .before .before .before .before .before .live-mark .ensures))
@@ -115,19 +112,18 @@ put-marked-ends-spec =
     width-bytes-requires
     loop-holds
     live-mark-requires
+    cast-mark
     mul-start
     shared-slice-read-start
     add-end
     mul-end
     shared-slice-read-end
-    sub-total
-    cast-total
-    mul-total
+    sub-bytes
+    mul-bytes
     add-total
     mul-put-offset
     add-put-offset
     put-offset-requires
-    cast-done
     add-done
     add-i
     loop-less
