@@ -1017,7 +1017,8 @@ fn many_bytes(sink: &mut dyn Sink, rng: &mut Rng) {
             sink.ask(merge(kind, &[2], &[(subsets, c)]));
         }
         for (width, place) in [(4, 0), (8, 1)] {
-            for offsets in [[0, end], [1, end], [end, end]] {
+            // the last pair falls: 10, also where the last offset is over the limit
+            for offsets in [[0, end], [1, end], [end, end], [end + 1, end]] {
                 let s = ragged_string(width, place, &offsets, values);
                 sink.ask(decode(ragged(0, width, place), &[1], &s));
                 if place == 0 {
