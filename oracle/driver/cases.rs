@@ -566,7 +566,7 @@ fn strings(alphabet: &[u8], length: usize) -> Vec<Vec<u8>> {
         .collect()
 }
 
-/// All masks and all lengths of up to four cells, written and read back.
+/// Null or set in all ways, for up to four cells and eight mask bytes; all short lengths. Written and read back.
 fn exhaustive_masks(sink: &mut dyn Sink, rng: &mut Rng) {
     for depth in 0..=4 {
         for cells in 1..=4 {
