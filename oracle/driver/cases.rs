@@ -566,7 +566,7 @@ fn strings(alphabet: &[u8], length: usize) -> Vec<Vec<u8>> {
         .collect()
 }
 
-/// All masks and all lengths of up to four cells, written and read back.
+/// Null or set in all ways, for up to four cells and eight mask bytes; all short lengths. Written and read back.
 fn exhaustive_masks(sink: &mut dyn Sink, rng: &mut Rng) {
     for depth in 0..=4 {
         for cells in 1..=4 {
@@ -1017,7 +1017,8 @@ fn many_bytes(sink: &mut dyn Sink, rng: &mut Rng) {
             sink.ask(merge(kind, &[2], &[(subsets, c)]));
         }
         for (width, place) in [(4, 0), (8, 1)] {
-            for offsets in [[0, end], [1, end], [end, end]] {
+            // the last pair falls: 10, also where the last offset is over the limit
+            for offsets in [[0, end], [1, end], [end, end], [end + 1, end]] {
                 let s = ragged_string(width, place, &offsets, values);
                 sink.ask(decode(ragged(0, width, place), &[1], &s));
                 if place == 0 {
