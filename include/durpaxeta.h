@@ -128,7 +128,8 @@ static inline dpx_kind dpx_ragged(uint64_t depth, uint64_t width, enum dpx_place
 /*
  * Array to stored bytes.
  *
- * Writes the stored form to `out`. Values below a null are not stored. With depth 0 everything is stored as it is.
+ * Writes the stored form to `out`. Values below a null are not stored. Fixed values of big order are stored with the
+ * bytes of each cell reversed. At depth 0 all else is stored as it is.
  * Enough room in any case: 16 * depth + masks_len + values_len + 8 + 8 * offsets_len bytes.
  *
  *   lengths[0]   stored bytes written
@@ -154,7 +155,7 @@ uint32_t dpx_encode(dpx_kind kind,
  *
  * `bytes` is the whole stored table, neither more nor less. Below a null every mask byte comes out as 00, a fixed value
  * as zero bytes and a ragged one as no bytes. From depth 1 on ragged values come out end to end from offset 0; at depth 0
- * offsets and value bytes come out as they are stored.
+ * offsets and value bytes come out as they are stored, but where the last offset is 0: there no value bytes come out.
  * Enough room: depth * cells masks; fixed: cells * size values; ragged: bytes_len values and cells + 1 offsets.
  *
  *   lengths[0]   mask bytes written: depth * cells
@@ -281,7 +282,8 @@ uint32_t dpx_merge(dpx_kind kind,
 /*
  * The cells of a subset out of stored ragged values of depth 0, without reading the rest into memory.
  *
- * Same as dpx_decode with dpx_ragged(0, width, place), then dpx_extract.
+ * Gives what dpx_decode with dpx_ragged(0, width, place) and then dpx_extract give. The subset is tested before the
+ * stored bytes.
  * Enough room: bytes_len values, and one offset more than the subset has cells.
  *
  *   lengths[0]   value bytes written

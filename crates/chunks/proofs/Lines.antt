@@ -3,8 +3,7 @@
 use mathlib.Core.Path.{refl}
 use Rattle.array.specs.Limits.{mostBytes, mostCells}
 use Rattle.array.specs.Bytes.{le, unle}
-use Rattle.array.specs.Calls.{reverseAnswer, endiannessReversed}
-use Rattle.array.specs.Calls.{cellsAnswer, subsetCells}
+use Rattle.array.specs.Calls.{reverseAnswer, endiannessReversed, cellsAnswer, subsetCells}
 use Rattle.codec.specs.Frame.{wrap, frame, readFrame}
 use Rattle.codec.specs.Ragged.{putRagged, getRagged}
 use Rattle.codec.specs.Values.{putValues, getValues}
@@ -20,7 +19,7 @@ lines = record {
   reads-23 = refl;
   writes-19 = refl;
   reads-19 = refl;
-  reads-alike = refl;
+  reads-alike = λ a b c d e. refl;
   writes-38 = refl;
   reads-38 = refl;
   writes-22 = refl;
@@ -28,7 +27,7 @@ lines = record {
   one-cell = refl;
   cut-packs = refl;
   older-form = refl;
-  older-tail = refl;
+  older-tail = λ b. refl;
   older-short = refl;
   older-past = refl;
   four-cells = refl;
@@ -36,4 +35,6 @@ lines = record {
   index-FF-start = refl;
   index-FF-end = refl;
   reversed-3 = refl;
+  writes-big = refl;
+  reads-big = refl;
 }

@@ -6,11 +6,10 @@ use mathlib.Core.Path.{_≡_}
 use mathlib.Core.List.{List, [], _∷_, _++_}
 use lib.ListN.{replicate, take}
 use Rattle.array.specs.Answer.{gives, refuses, Outcome}
-use Rattle.array.specs.Kind.{Kind, fixed, ragged, little, atStart, atEnd}
+use Rattle.array.specs.Kind.{Kind, fixed, ragged, little, big, atStart, atEnd}
 use Rattle.array.specs.Content.{Content, RaggedContent, cellsOf}
 use Rattle.array.specs.Buffers.{Lengths, RaggedLengths}
-use Rattle.array.specs.Calls.{endiannessReversed}
-use Rattle.array.specs.Calls.{subsetCells}
+use Rattle.array.specs.Calls.{endiannessReversed, subsetCells}
 use Rattle.codec.specs.Calls.{encoded, decoded, interleavedDecoded}
 use Rattle.chunks.specs.Calls.{extracted}
 
@@ -59,8 +58,15 @@ bytes23 = u64 3 ++ (u64 4 ++ (1 ∷ 0 ∷ 1 ∷ 0x0A ∷ 0x0B ∷ 0x0E ∷ 0x0F 
 abbrev pub bytes19 : List ℕ
 bytes19 = u64 3 ++ (u64 0 ++ (0 ∷ 0 ∷ 0 ∷ []))
 
-abbrev pub bytes24 : List ℕ
-bytes24 = u64 3 ++ (u64 5 ++ (0 ∷ 0 ∷ 0 ∷ 9 ∷ 8 ∷ 7 ∷ 6 ∷ 5 ∷ []))
+-- any five bytes behind a mask with nothing set
+abbrev pub bytes24 : ℕ → ℕ → ℕ → ℕ → ℕ → List ℕ
+bytes24 a b c d e = u64 3 ++ (u64 5 ++ (0 ∷ 0 ∷ 0 ∷ a ∷ b ∷ c ∷ d ∷ e ∷ []))
+
+abbrev pub big1 : Kind
+big1 = record { depth = 1; form = fixed 2 big }
+
+abbrev pub bytes-big : List ℕ
+bytes-big = u64 1 ++ (u64 2 ++ (1 ∷ 0x0B ∷ 0x0A ∷ []))
 
 abbrev pub depth2 : Kind
 depth2 = record { depth = 2; form = fixed 1 little }
@@ -101,7 +107,7 @@ pub record Lines : Type 0 where
   -- the same with mask 00 00 00: 19 bytes; with content length 5 and five more bytes it reads alike
   pub writes-19 : encoded depth1 (3 ∷ []) (array (0 ∷ 0 ∷ 0 ∷ []) six []) (old 20) ≡ wrote 19 bytes19
   pub reads-19 : decoded depth1 (3 ∷ []) bytes19 (lent 4 7 1) ≡ gave 3 6 0 (0 ∷ 0 ∷ 0 ∷ []) (replicate 6 0) []
-  pub reads-alike : decoded depth1 (3 ∷ []) bytes24 (lent 4 7 1) ≡ decoded depth1 (3 ∷ []) bytes19 (lent 4 7 1)
+  pub reads-alike : (a b c d e : ℕ) → decoded depth1 (3 ∷ []) (bytes24 a b c d e) (lent 4 7 1) ≡ decoded depth1 (3 ∷ []) bytes19 (lent 4 7 1)
   -- depth 2, size 1, masks 01 01 00 and 01 00 01, values 07 08 09: 38 bytes; reads as 01 01 00, 01 00 00, 07 00 00
   pub writes-38 : encoded depth2 (3 ∷ []) (array (1 ∷ 1 ∷ 0 ∷ 1 ∷ 0 ∷ 1 ∷ []) (7 ∷ 8 ∷ 9 ∷ []) []) (old 39) ≡ wrote 38 bytes38
   pub reads-38 : decoded depth2 (3 ∷ []) bytes38 (lent 7 4 1) ≡ gave 6 3 0 (1 ∷ 1 ∷ 0 ∷ 1 ∷ 0 ∷ 0 ∷ []) (7 ∷ 0 ∷ 0 ∷ []) []
@@ -113,7 +119,7 @@ pub record Lines : Type 0 where
   pub cut-packs : extracted raggedEnd (1 ∷ []) (0 ∷ 1 ∷ []) late (lent 1 2 3) ≡ gave 0 1 2 [] (0x42 ∷ []) (0 ∷ 1 ∷ [])
   -- older form, 2 cells: "A" and "", also with a byte appended; its first 11 bytes: 7; a first length of 05: 11
   pub older-form : interleavedDecoded 2 older (lentRagged 2 4) ≡ gaveRagged 1 3 (0x41 ∷ []) (0 ∷ 1 ∷ 1 ∷ [])
-  pub older-tail : interleavedDecoded 2 (older ++ (0x4D ∷ [])) (lentRagged 2 4) ≡ gaveRagged 1 3 (0x41 ∷ []) (0 ∷ 1 ∷ 1 ∷ [])
+  pub older-tail : (b : ℕ) → interleavedDecoded 2 (older ++ (b ∷ [])) (lentRagged 2 4) ≡ gaveRagged 1 3 (0x41 ∷ []) (0 ∷ 1 ∷ 1 ∷ [])
   pub older-short : interleavedDecoded 2 (take 11 older) (lentRagged 2 4) ≡ record { answer = refuses 7; buffers = lentRagged 2 4 }
   pub older-past : interleavedDecoded 2 (u32 2 ++ (u32 5 ++ (0x41 ∷ u32 0))) (lentRagged 2 4) ≡ record { answer = refuses 11; buffers = lentRagged 2 4 }
   -- shape 2 × 3, start (0, 1), lengths (2, 2): cells 1, 2, 4, 5; start (0, 2): refusal 3
@@ -124,3 +130,6 @@ pub record Lines : Type 0 where
   pub index-FF-end : decoded raggedEnd (1 ∷ []) (replicate 8 0 ++ indexFF) (lent 1 1 3) ≡ record { answer = refuses 8; buffers = lent 1 1 3 }
   -- size 3 on 01 02 03 04 05 06 07 gives 03 02 01 06 05 04 07 (item 1, not marked)
   pub reversed-3 : endiannessReversed 3 (1 ∷ 2 ∷ 3 ∷ 4 ∷ 5 ∷ 6 ∷ 7 ∷ []) ≡ record { answer = gives 6; buffers = 3 ∷ 2 ∷ 1 ∷ 6 ∷ 5 ∷ 4 ∷ 7 ∷ [] }
+  -- big order reverses a cell, and nothing else (item 7, not marked)
+  pub writes-big : encoded big1 (1 ∷ []) (array (1 ∷ []) (0x0A ∷ 0x0B ∷ []) []) (old 20) ≡ wrote 19 bytes-big
+  pub reads-big : decoded big1 (1 ∷ []) bytes-big (lent 2 3 1) ≡ gave 1 2 0 (1 ∷ []) (0x0A ∷ 0x0B ∷ []) []

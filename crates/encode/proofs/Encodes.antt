@@ -21,7 +21,7 @@ use Rattle.array.proofs.Rules.{kind-ok}
 use Rattle.valid.proofs.ShapeLaws.{Counted, counted, not-counted}
 use Rattle.codec.specs.Calls.{storedForm, encodeAnswer, encoded}
 use Rattle.encode.specs.Ready.{Measured, Ready, Encodable}
-use Rattle.encode.specs.Stored.{storedBy, storedOver, lengthBy}
+use Rattle.encode.specs.Stored.{storedBy, storedOver, storedLength}
 use Rattle.encode.proofs.Walk.{stored-by}
 use Rattle.encode.proofs.Levels.{stored-by-long}
 use Rattle.encode.proofs.Forms.{ready-measured}
@@ -91,7 +91,7 @@ module _ {k : Kind} {n : ℕ} {c : Content} (h : Encodable k n c) where
   is-stored : storedForm k n c ≡ storedBy (k .form) n c (k .depth)
   is-stored = stored-by k n c (h .content) (h .some)
 
-  module _ (out : List ℕ) {need : ℕ} (e : need ≡ lengthBy (k .form) n (c .masks) (length (c .values)) (c .offsets) (k .depth)) where
+  module _ (out : List ℕ) {need : ℕ} (e : need ≡ storedLength (k .form) n (c .masks) (length (c .values)) (c .offsets) (k .depth)) where
     need-is : length (storedBy (k .form) n c (k .depth)) ≡ need
     need-is = stored-by-long (k .form) n c (k .depth) (h .content .values-fit) ∙ sym e
 

@@ -26,7 +26,7 @@ use Rattle.gather.specs.Live.{liveAt, Planes}
 use Rattle.gather_ragged.specs.Slices.{sliceAt, spansOf, Offsets}
 use Rattle.gather.specs.Pieces.{piecesAt}
 use Rattle.encode.specs.Ready.{MeasuresOk, Measured, Ready}
-use Rattle.encode.specs.Stored.{valuesFrom, storedFrom, storedBy, valuesLengthAt, lengthFrom, lengthBy}
+use Rattle.encode.specs.Stored.{valuesFrom, storedFrom, storedBy, valuesLengthAt, lengthFrom, storedLength}
 use Rattle.gather.proofs.Runs.{live-le}
 use Rattle.encode.proofs.Levels.{NarrowOk, values-small, fixed-put, fixed-long, plain-length, plain-stored}
 
@@ -152,7 +152,7 @@ pub ready-all : {f : Form} {n : ℕ} {c : Content} {d : ℕ} → Ready f n c d �
 ready-all {f} {n} {c} {d} r = subst (λ (k : ℕ). Ready f n c k) (sym (zero-add d)) r
 
 -- below masks
-pub length-deep : (f : Form) (n : ℕ) (masks os : List ℕ) (bytes d : ℕ) → 0 < d → lengthFrom f n masks os d 0 ≡ lengthBy f n masks bytes os d
+pub length-deep : (f : Form) (n : ℕ) (masks os : List ℕ) (bytes d : ℕ) → 0 < d → lengthFrom f n masks os d 0 ≡ storedLength f n masks bytes os d
 length-deep (fixed k o) n masks os bytes d h = refl
 length-deep (ragged w p) n masks os bytes zero h = absurd (omega arith)
 length-deep (ragged w p) n masks os bytes (suc d) h = refl
@@ -164,14 +164,14 @@ stored-deep (ragged w p) n c (suc d) h = refl
 
 -- at depth 0
 module _ {v : Values} {s : ℕ} {o : ByteOrder} (e : v ≡ Fixed s o) (n : ℕ) where
-  pub length-copied : (masks os : List ℕ) (bytes : ℕ) {d : ℕ} → d ≡ 0 → n * s ≡ lengthBy (formOf v) n masks bytes os d
+  pub length-copied : (masks os : List ℕ) (bytes : ℕ) {d : ℕ} → d ≡ 0 → n * s ≡ storedLength (formOf v) n masks bytes os d
   length-copied masks os bytes z = rw (e, z) (plain-length s n (orderOf o) masks os)
 
   pub stored-copied : (c : Content) {d : ℕ} → d ≡ 0 → joined (map (ordered (orderOf o)) (pieces s n (drop 0 (c .values)))) ≡ storedBy (formOf v) n c d
   stored-copied c z = rw (e, z) (plain-stored s n (orderOf o) c)
 
 module _ {v : Values} {w : IndexWidth} {p : IndexPlace} (e : v ≡ Ragged w p) (n : ℕ) where
-  pub length-plain : (masks os : List ℕ) (bytes : ℕ) {d k : ℕ} → d ≡ 0 → k ≡ widthOf w → 8 + k * (n + 1) + bytes ≡ lengthBy (formOf v) n masks bytes os d
+  pub length-plain : (masks os : List ℕ) (bytes : ℕ) {d k : ℕ} → d ≡ 0 → k ≡ widthOf w → 8 + k * (n + 1) + bytes ≡ storedLength (formOf v) n masks bytes os d
   length-plain masks os bytes z ek = rw (e, z) (ap₂ (λ (a b : ℕ). 8 + a * b + bytes) ek (add-one n))
 
   pub stored-plain : (c : Content) {d : ℕ} → d ≡ 0 → putRagged (widthOf w) (placeOf p) (record { values = c .values; offsets = c .offsets }) ≡ storedBy (formOf v) n c d

@@ -19,7 +19,7 @@ use Rattle.codec.proofs.Frames.{length-wrap}
 use Rattle.codec.proofs.Values.{ragged-length}
 use Rattle.gather.specs.Live.{maskAt, liveTest, liveAt}
 use Rattle.gather.specs.Pieces.{pieceAt, piecesAt}
-use Rattle.encode.specs.Stored.{valueAt, valuesFrom, storedFrom, frameFrom, storedBy, orNothing, valuesLengthAt, lengthFrom, lengthBy}
+use Rattle.encode.specs.Stored.{valueAt, valuesFrom, storedFrom, frameFrom, storedBy, orNothing, valuesLengthAt, lengthFrom, storedLength}
 use Rattle.gather_ragged.specs.Slices.{spansOf}
 use Rattle.encode.specs.Ready.{MeasuresOk}
 use Rattle.gather.proofs.Numbered.{live-all}
@@ -98,7 +98,7 @@ stored-long f n c p (suc d) l =
     ∙ ap₂ (λ (a b : ℕ). 16 + a + b) (length-map (liveAt n (c .masks) l) (maskAt n (c .masks) l)) (stored-long f n c p d (suc l)))
 
 -- as document 01 says it: by the kind, at depth 0 with all value bytes
-pub stored-by-long : (f : Form) (n : ℕ) (c : Content) (d : ℕ) → ValuesOk f n c → length (storedBy f n c d) ≡ lengthBy f n (c .masks) (length (c .values)) (c .offsets) d
+pub stored-by-long : (f : Form) (n : ℕ) (c : Content) (d : ℕ) → ValuesOk f n c → length (storedBy f n c d) ≡ storedLength f n (c .masks) (length (c .values)) (c .offsets) d
 stored-by-long (fixed k o) n c d p = stored-long (fixed k o) n c p d 0
 stored-by-long (ragged w q) n c zero p = ragged-length w q (record { values = c .values; offsets = c .offsets }) n (p .0)
 stored-by-long (ragged w q) n c (suc d) p = stored-long (ragged w q) n c p (suc d) 0

@@ -67,8 +67,8 @@ unfoldable pub lengthFrom : Form → ℕ → List ℕ → List ℕ → (d l : �
 lengthFrom f n masks os zero l = orNothing (length (liveAt n masks l)) (valuesLengthAt f os (liveAt n masks l))
 lengthFrom f n masks os (suc d) l = orNothing (length (liveAt n masks l)) (16 + byteMask .size (length (liveAt n masks l)) + lengthFrom f n masks os d (suc l))
 
--- with so many value bytes
-abbrev pub lengthBy : Form → ℕ → List ℕ → ℕ → List ℕ → (d : ℕ) → ℕ
-lengthBy (fixed k o) n masks bytes os d = lengthFrom (fixed k o) n masks os d 0
-lengthBy (ragged w p) n masks bytes os zero = raggedLength w n bytes
-lengthBy (ragged w p) n masks bytes os (suc d) = lengthFrom (ragged w p) n masks os (suc d) 0
+-- of the whole stored form, the array having so many value bytes
+abbrev pub storedLength : Form → ℕ → List ℕ → ℕ → List ℕ → (d : ℕ) → ℕ
+storedLength (fixed k o) n masks bytes os d = lengthFrom (fixed k o) n masks os d 0
+storedLength (ragged w p) n masks bytes os zero = raggedLength w n bytes
+storedLength (ragged w p) n masks bytes os (suc d) = lengthFrom (ragged w p) n masks os (suc d) 0

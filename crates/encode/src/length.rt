@@ -9,7 +9,7 @@ ghost use Prim.Native.Nat.{_+_, _≤_};
 ghost use Rattle.array.specs.Limits.{mostBytes};
 ghost use Rattle.array.specs.Meaning.{formOf};
 ghost use Rattle.encode.specs.Ready.{Measured};
-ghost use Rattle.encode.specs.Stored.{lengthFrom, lengthBy};
+ghost use Rattle.encode.specs.Stored.{lengthFrom, storedLength};
 
 // From a level inwards, `left` levels being left: 16 + the cells that it counts, or nothing where none are left.
 pub fn content_length(
@@ -44,7 +44,7 @@ pub fn stored_length(
 ) -> usize
     requires ready { ⌜ Measured (formOf form) cells (now masks) (now offsets) depth ⌝ }
     requires small { ⌜ bytes ≤ mostBytes ⌝ }
-    ensures { λ r. ⌜ r ≡ lengthBy (formOf form) cells (now (masks .entry)) bytes (now (offsets .entry)) depth ⌝ }
+    ensures { λ r. ⌜ r ≡ storedLength (formOf form) cells (now (masks .entry)) bytes (now (offsets .entry)) depth ⌝ }
 {
     if 0 < depth {
         return content_length(form, offsets, masks, cells, 0, depth);

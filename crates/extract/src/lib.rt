@@ -7,6 +7,7 @@ use valid::array_bytes::Checked;
 use valid::shape::Cells;
 ghost use mathlib.Core.Path.{_≡_};
 ghost use Prim.Native.Nat.{_≤_};
+ghost use Rattle.array.specs.Limits.{mostCells};
 ghost use Rattle.array.specs.Lists.{joined};
 ghost use Rattle.array.specs.Shape.{volume};
 ghost use Rattle.array.specs.Subset.{pairs, cellsIn};
@@ -44,7 +45,7 @@ fn value_bytes(
 
 // How many offsets they have.
 fn count_offsets(form: Values, count: usize) -> usize
-    requires { ⌜ count ≤ 65536 ⌝ }
+    requires { ⌜ count ≤ mostCells ⌝ }
     ensures { λ r. ⌜ r ≡ offsetCount (formOf form) count ⌝ }
 {
     match form {

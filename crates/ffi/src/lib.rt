@@ -1,5 +1,6 @@
 // The C interface: each public call as an exported function over numbers and slices. The result is the refusal number, 0 for
-// success; lengths are written on success only, masks before values before offsets. Nothing is asked of the caller.
+// success; lengths are written on success only, masks before values before offsets. Nothing is asked of the numbers
+// and bytes handed over; what holds of the pointers is in include/durpaxeta.h, under SLICES and MEMORY.
 use array::answer::Written;
 use array::answer::WrittenArray;
 use array::answer::WrittenRagged;

@@ -4,6 +4,7 @@ use mathlib.Core.Path.{_≡_}
 use Prim.Native.Nat.{ℕ, zero, suc, _+_, _*_, _≤_}
 use mathlib.Core.List.{List, [], _∷_, _++_, map}
 use lib.ListN.{length, take, drop}
+use Rattle.array.specs.Limits.{mostSize}
 use Rattle.array.specs.Lists.{from, joined}
 use Rattle.array.specs.Shape.{volume, ShapeOk}
 use Rattle.array.specs.Subset.{Subset, lengths, cellsOfAll}
@@ -38,13 +39,13 @@ masksMerged shape bs depth masks upto = joined (map (λ l. putBack 0 (volume sha
 pub record StoreAsked (shape starts lens out : List ℕ) (base size : ℕ) (src : List ℕ) (first : ℕ) : Type 0 where
   pub shaped : ShapeOk shape
   pub fits : Within shape starts lens
-  pub narrow : size ≤ 64
+  pub narrow : size ≤ mostSize
   pub room : base + volume shape * size ≤ length out
   pub enough : first + volume lens * size ≤ length src
 
 pub record PartsAsked (shape flat : List ℕ) (count : ℕ) (out : List ℕ) (base size : ℕ) (src : List ℕ) (lead step : ℕ) : Type 0 where
   pub subsets : SubsetsOk shape flat count
-  pub narrow : size ≤ 64
+  pub narrow : size ≤ mostSize
   pub inner : lead + size ≤ step
   pub room : base + volume shape * size ≤ length out
   pub enough : cellsTotal (nextSubsets (length shape) count flat) * step ≤ length src

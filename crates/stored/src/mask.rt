@@ -129,7 +129,7 @@ pub fn count_stored(s: &[u8], at: usize, n: usize) -> usize
     count_set(&s[at..end])
 }
 
-// How many cells a stored mask sets, or the refusal of its bytes.
+// How many cells a stored mask sets, or the refusal of it or of its frame.
 pub enum Counted {
     Cells(usize),
     Refused(u8),

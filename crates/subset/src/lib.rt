@@ -6,6 +6,7 @@ ghost use mathlib.Core.Path.{_≡_};
 ghost use Prim.Native.Nat.{_+_, _-_, _≤_, _<_};
 ghost use lib.ListN.{length, getD};
 ghost use lib.Dec.{leb};
+ghost use Rattle.array.specs.Limits.{mostCells};
 ghost use Rattle.array.specs.Lists.{from, every};
 ghost use Rattle.array.specs.Shape.{volume, ShapeOk};
 ghost use Rattle.array.specs.Subset.{pairs, subsetTest, fullTest, numbersTest, manyTest, cellsIn};
@@ -135,7 +136,7 @@ pub fn cell_at(shape: &[u64], starts: &[u64], lens: &[u64], i: u64) -> u64
 
 // Stores n cells that are neighbours, from the cell `first` on.
 fn store_run(cells: &mut [u64], at: usize, first: u64, n: usize)
-    requires { ⌜ (at + n ≤ length (now cells)) × (first + n ≤ 65536) ⌝ }
+    requires { ⌜ (at + n ≤ length (now cells)) × (first + n ≤ mostCells) ⌝ }
     ensures { λ _. ⌜ now (cells .exit) ≡ overAt at (from first n) (now (cells .entry)) ⌝ }
 {
     let mut i = 0;

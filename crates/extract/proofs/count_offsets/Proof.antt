@@ -2,6 +2,7 @@
 -- Assumes nothing.
 use native.Mathlib.Numerals.{add-one}
 use borrow.Author.Needs.{needs}
+use Rattle.array.specs.Limits.{mostCells}
 use Rattle.extract.proofs.count_offsets.Statement.{statement}
 use Rattle.extract.proofs.count_offsets.Tie as tie
 
@@ -12,6 +13,7 @@ enum-told-2 : tie.Need-enum-told-2
 enum-told-2 c = search needs
 
 add-result : tie.Need-add-result
+unfolding mostCells
 add-result c = search needs
 
 returns : tie.Need-returns

@@ -103,6 +103,7 @@ returns-2 : tie.Need-returns-2
 returns-2 c = let b = c .before in let v = b .before .before in no-values (cut v) (outputs v) (b .value-bytes .result) (values-need b) (c .if2 .taken)
 
 count-offsets-requires : tie.Need-count-offsets-requires
+unfolding mostCells
 count-offsets-requires c κs = few (c .before .before .before)
 
 returns-3 : tie.Need-returns-3

@@ -70,6 +70,7 @@ cell-at-requires : tie.Need-cell-at-requires Inv-loop μ-loop
 cell-at-requires c κs = let a = start (c .before) in (a .pre .0, a .pre .1, omega (arith, a .pre .2))
 
 store-run-requires : tie.Need-store-run-requires Inv-loop μ-loop
+unfolding mostCells
 store-run-requires c κs =
     let i = c .before .before in
     let l = i .before in

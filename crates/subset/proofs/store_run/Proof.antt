@@ -2,6 +2,7 @@
 -- Assumes nothing.
 use Prim.Native.Nat.{_-_, _≤_}
 use native.Mathlib.Omega.{arith}
+use Rattle.array.specs.Limits.{mostCells}
 use Rattle.subset.proofs.StoringCells.{RunLaid, run-begins, run-same, run-room, run-more, run-ends}
 use Rattle.subset.proofs.store_run.Statement.{statement}
 use Rattle.subset.proofs.store_run.Tie as tie
@@ -16,9 +17,11 @@ loop-holds : tie.Need-loop-holds Inv-loop μ-loop
 loop-holds c = (omega arith, run-begins (c .args .cells .now) (c .args .at) (c .args .first) (c .args .n) (c .pre .0))
 
 add-cells : tie.Need-add-cells Inv-loop μ-loop
+unfolding mostCells
 add-cells c = omega arith
 
 add-cells-2 : tie.Need-add-cells-2 Inv-loop μ-loop
+unfolding mostCells
 add-cells-2 c = omega arith
 
 mul-cells : tie.Need-mul-cells Inv-loop μ-loop
