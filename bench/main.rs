@@ -8,7 +8,7 @@
 //! caller's memory. Kinds, shapes and chunk lists are built before the clock starts. The Rust is built with opt-level 3 over the stand-in chain,
 //! which does less than the listed one.
 
-#[path = "../driver/archive.rs"]
+#[path = "../oracle/driver/archive.rs"]
 #[allow(dead_code)]
 mod archive;
 mod bounds;
