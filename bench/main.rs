@@ -12,172 +12,14 @@
 #[allow(dead_code)]
 mod archive;
 mod bounds;
+mod inputs;
 
 use archive::{Archive, c_kind};
+use inputs::*;
 use standin_release::{ArrayBytes, CodecOptions, FillValue, door};
 use std::borrow::Cow;
 use std::hint::black_box;
 use std::time::{Duration, Instant};
-
-// ---------------------------------------------------------------- inputs
-
-struct Rng(u64);
-impl Rng {
-    fn next(&mut self) -> u64 {
-        self.0 = self.0.wrapping_add(0x9E37_79B9_7F4A_7C15);
-        let mut z = self.0;
-        z = (z ^ (z >> 30)).wrapping_mul(0xBF58_476D_1CE4_E5B9);
-        z = (z ^ (z >> 27)).wrapping_mul(0x94D0_49BB_1331_11EB);
-        z ^ (z >> 31)
-    }
-    fn below(&mut self, n: u64) -> u64 {
-        self.next() % n
-    }
-    fn bytes(&mut self, n: usize) -> Vec<u8> {
-        (0..n).map(|_| self.next() as u8).collect()
-    }
-}
-
-#[derive(Clone, Copy, PartialEq)]
-enum Mask {
-    Empty,
-    Full,
-    Half,
-    Clustered,
-}
-const MASKS: [Mask; 4] = [Mask::Empty, Mask::Full, Mask::Half, Mask::Clustered];
-impl Mask {
-    fn name(self) -> &'static str {
-        ["empty", "full", "half", "clustered"][self as usize]
-    }
-    fn plane(self, rng: &mut Rng, cells: usize) -> Vec<u8> {
-        match self {
-            Mask::Empty => vec![0; cells],
-            Mask::Full => vec![1; cells],
-            Mask::Half => (0..cells).map(|_| rng.below(2) as u8).collect(),
-            Mask::Clustered => {
-                let mut mask = vec![];
-                let mut set = 1;
-                while mask.len() < cells {
-                    mask.extend(vec![set; 16 + rng.below(96) as usize]);
-                    set ^= 1;
-                }
-                mask.truncate(cells);
-                mask
-            }
-        }
-    }
-}
-
-/// Ragged values: of 0 to 8 bytes, of 200, of none.
-#[derive(Clone, Copy, PartialEq)]
-enum Values {
-    Short,
-    Long,
-    Empty,
-}
-const VALUES: [Values; 3] = [Values::Short, Values::Long, Values::Empty];
-impl Values {
-    fn name(self) -> &'static str {
-        ["short values", "long values", "empty values"][self as usize]
-    }
-    fn length(self, rng: &mut Rng) -> u64 {
-        match self {
-            Values::Short => rng.below(9),
-            Values::Long => 200,
-            Values::Empty => 0,
-        }
-    }
-}
-
-/// An array, and the subsets of a chunk list where there is one.
-struct Input {
-    kind: [u64; 5],
-    shape: Vec<u64>,
-    subsets: Vec<u64>,
-    masks: Vec<u8>,
-    values: Vec<u8>,
-    offsets: Vec<u64>,
-}
-fn fixed(depth: u64, size: u64, order: u64) -> [u64; 5] {
-    [depth, 0, size, order, 0]
-}
-fn ragged(depth: u64, width: u64, place: u64) -> [u64; 5] {
-    [depth, 1, width, place, 0]
-}
-fn four(k: &[u64; 5]) -> [u64; 4] {
-    [k[0], k[1], k[2], k[3]]
-}
-fn kind_name(k: &[u64; 5]) -> String {
-    if k[1] == 0 {
-        format!("d{} F({}, {})", k[0], k[2], ["little", "big"][k[3] as usize])
-    } else {
-        format!("d{} R({}, {})", k[0], k[2], ["start", "end"][k[3] as usize])
-    }
-}
-fn cells_of(shape: &[u64]) -> usize {
-    shape.iter().product::<u64>() as usize
-}
-/// Two sides as equal as can be.
-fn square(cells: usize) -> Vec<u64> {
-    let mut side = 1;
-    while side * side < cells {
-        side *= 2;
-    }
-    vec![(cells / side) as u64, side as u64]
-}
-fn input(kind: [u64; 5], shape: Vec<u64>, mask: Mask, values: Values) -> Input {
-    let rng = &mut Rng(7);
-    let cells = cells_of(&shape);
-    let masks = (0..kind[0]).flat_map(|_| mask.plane(rng, cells)).collect();
-    let (values, offsets) = if kind[1] == 0 {
-        (rng.bytes(cells * kind[2] as usize), vec![])
-    } else {
-        let mut offsets = vec![0];
-        for _ in 0..cells {
-            offsets.push(offsets.last().unwrap() + values.length(rng));
-        }
-        (rng.bytes(offsets[cells] as usize), offsets)
-    };
-    Input { kind, shape, subsets: vec![], masks, values, offsets }
-}
-/// A chunk list of `count` equal subsets over 256 × 256 cells.
-fn chunk_list(depth: u64, count: usize, values: Values) -> Input {
-    let rng = &mut Rng(9);
-    let mut all = input(ragged(depth, 8, 0), vec![256, 256], Mask::Half, values);
-    (all.masks, all.values, all.offsets) = (vec![], vec![], vec![]);
-    let n = square(count);
-    let (high, wide) = (256 / n[0], 256 / n[1]);
-    let cells = (high * wide) as usize;
-    for row in 0..n[0] {
-        for column in 0..n[1] {
-            all.subsets.extend([row * high, column * wide, high, wide]);
-            for _ in 0..depth {
-                all.masks.extend(Mask::Half.plane(rng, cells));
-            }
-            let mut end = 0;
-            all.offsets.push(0);
-            for _ in 0..cells {
-                end += values.length(rng);
-                all.offsets.push(end);
-            }
-            all.values.extend(rng.bytes(end as usize));
-        }
-    }
-    all
-}
-
-/// The older form of so many values.
-fn interleaved(cells: usize, values: Values) -> Vec<u8> {
-    let rng = &mut Rng(5);
-    let mut stored = (cells as u32).to_le_bytes().to_vec();
-    for _ in 0..cells {
-        let length = values.length(rng) as usize;
-        stored.extend((length as u32).to_le_bytes());
-        stored.extend(rng.bytes(length));
-    }
-    stored
-}
 
 // ---------------------------------------------------------------- lent outputs, and the archive's calls
 
@@ -283,17 +125,21 @@ fn timed<'a>(mut once: impl FnMut() + 'a) -> Timed<'a> {
 /// Best nanoseconds a call of each, by turns.
 fn best(sides: &mut [Timed], rounds: u32) -> Vec<f64> {
     const BATCH: f64 = 200_000.0; // nanoseconds
+    const LONG: f64 = 1e9;
+    let mut turn = 0.0;
     let times: Vec<u32> = sides
         .iter_mut()
         .map(|side| {
             side(1);
             let once = side(3).as_nanos() as f64 / 3.0;
-            (BATCH / once.max(1.0)).clamp(1.0, 20_000.0) as u32
+            let times = (BATCH / once.max(1.0)).clamp(1.0, 20_000.0) as u32;
+            turn += once * f64::from(times);
+            times
         })
         .collect();
     let mut best = vec![f64::MAX; sides.len()];
-    // A long call fills its batch alone: it gets more rounds.
-    let rounds = if times.contains(&1) { 4 * rounds } else { rounds };
+    // A long call fills its batch alone: it gets up to four times the rounds, as many as a second holds.
+    let rounds = if times.contains(&1) { rounds.max((LONG / turn) as u32).min(4 * rounds) } else { rounds };
     for _ in 0..rounds {
         for (at, side) in sides.iter_mut().enumerate() {
             let now = side(times[at]).as_nanos() as f64 / f64::from(times[at]);
@@ -303,26 +149,38 @@ fn best(sides: &mut [Timed], rounds: u32) -> Vec<f64> {
     best
 }
 
-/// What keeps a row from getting better: it is one copy of so many bytes, or two walks over as many cells.
-#[derive(Clone, Copy)]
-enum Bound {
-    Copy(usize),
-    Walks(usize),
+/// What keeps a row from getting better: it is one copy of these bytes, or two walks over this older form.
+enum Bound<'a> {
+    Copy(&'a [u8]),
+    Walks(&'a [u8]),
+}
+/// Ours may take so much of its bound's time, in two digits as printed.
+const SLACK: f64 = 1.10;
+/// A row under 1.0 beside loops with the same bound: ours and the bound by turns, nanoseconds, and what else was measured.
+struct Held {
+    ours: f64,
+    bound: f64,
+    loops: String,
 }
 
-/// One row: what was called with, the column it stands in, and nanoseconds a call.
+/// One row: what was called with, the column it stands in, and nanoseconds a call. Rows below masks have a table of their own.
 struct Row {
     call: &'static str,
+    below: bool,
     kind: String,
     what: String,
     column: String,
     rust: f64,
     ours: f64,
-    bound: Option<Bound>,
+    held: Option<Held>,
 }
 impl Row {
     fn ratio(&self) -> f64 {
         self.rust / self.ours
+    }
+    /// Whether its bound keeps it under 1.0.
+    fn at_bound(&self) -> bool {
+        self.held.as_ref().is_some_and(|held| (100.0 * held.ours / held.bound).round() <= 100.0 * SLACK)
     }
 }
 
@@ -352,8 +210,21 @@ impl Bench {
         }
     }
 
+    /// Ours and another, by turns. Where a buffer lies can cost more than the call: while ours takes more than `limit` of the other's time,
+    /// it is tried again with outputs elsewhere, up to three times, and the best of each counts.
+    fn turns(&self, call: Call, mut other: Timed, limit: f64) -> [f64; 2] {
+        let mut elsewhere = vec![];
+        let mut times = [f64::MAX; 2];
+        while elsewhere.is_empty() || times[0] > limit * times[1] && elsewhere.len() < 4 {
+            let now = best(&mut [self.ours(call), Box::new(&mut other)], self.rounds);
+            times = [times[0].min(now[0]), times[1].min(now[1])];
+            elsewhere.push(Lent::new());
+        }
+        times
+    }
+
     /// Both sides give the same, then the clock.
-    fn row(&mut self, name: [String; 3], call: Call, mut rust: Timed, same: (Vec<u8>, Vec<u8>, Vec<u64>)) {
+    fn row(&mut self, name: [String; 3], call: Call, rust: Timed, same: (Vec<u8>, Vec<u8>, Vec<u64>)) {
         let mut lent = Lent::new();
         if let Reverse(_, length) = call {
             lent.values[..length].copy_from_slice(&Rng(3).bytes(length));
@@ -363,26 +234,59 @@ impl Bench {
         let [kind, what, column] = name;
         let call_name = call.name();
         assert!((m, v, o) == (&same.0[..], &same.1[..], &same.2[..]), "not the same: {call_name} {kind} {what} {column}");
-        // Where a buffer lies can cost more than the call. So a row under 1.0 is tried again with outputs elsewhere, and the best of each
-        // side counts.
-        let mut elsewhere = vec![];
-        let mut times = [f64::MAX; 2];
-        while times[0] > times[1] || elsewhere.is_empty() {
-            let now = best(&mut [self.ours(call), Box::new(&mut rust)], self.rounds);
-            times = [times[0].min(now[0]), times[1].min(now[1])];
-            elsewhere.push(Lent::new());
-            if elsewhere.len() > 3 {
-                break;
-            }
-        }
+        let [ours, rust] = self.turns(call, rust, 1.0);
+        let below = matches!(call, Encode(i) | Decode(i, _) if i.kind[0] > 0);
         let bound = match call {
             Encode(i) | Decode(i, _) if i.kind[..2] == [0, 0] && (i.kind[2] == 1 || i.kind[3] == 0) => {
-                Some(Bound::Copy(i.values.len()))
+                Some(Bound::Copy(&i.values))
             }
-            Interleaved(cells, _) if what == Values::Long.name() => Some(Bound::Walks(cells as usize)),
+            Interleaved(_, stored) if what == Values::Long.name() => Some(Bound::Walks(stored)),
             _ => None,
         };
-        self.rows.push(Row { call: call_name, kind, what, column, rust: times[1], ours: times[0], bound });
+        let held = bound.filter(|_| ours > rust).map(|bound| self.held(call, bound));
+        self.rows.push(Row { call: call_name, below, kind, what, column, rust, ours, held });
+    }
+
+    fn held(&self, call: Call, bound: Bound) -> Held {
+        match bound {
+            Bound::Copy(from) => {
+                let side = |copy: fn(&mut [u8], &[u8])| {
+                    let mut to = Lent::new().values;
+                    timed(move || {
+                        copy(&mut to[..from.len()], black_box(from));
+                        black_box(&mut to);
+                    })
+                };
+                let [ours, bound] = self.turns(call, side(bounds::copy_16), SLACK);
+                let others = best(&mut [side(|to, from| to.copy_from_slice(from)), side(bounds::copy_32)], self.rounds);
+                let [memcpy, wide, narrow] = [others[0], others[1], bound].map(nanoseconds);
+                let length = from.len();
+                let loops = format!("a copy of {length} bytes: memcpy {memcpy}, stores of 32 bytes {wide}, of 16 bytes {narrow}");
+                Held { ours, bound, loops }
+            }
+            Bound::Walks(stored) => {
+                let side = |walk: fn(&[u8], &mut [u8], &mut [u64]) -> usize| {
+                    let mut lent = Lent::new();
+                    timed(move || {
+                        walk(black_box(stored), &mut lent.values, &mut lent.offsets);
+                        black_box(&mut lent);
+                    })
+                };
+                let [ours, bound] = self.turns(call, side(bounds::two_walks), SLACK);
+                let one = best(&mut [side(bounds::one_walk), side(bounds::two_walks)], self.rounds)[0];
+                let cells = u32::from_le_bytes(stored[..4].try_into().unwrap());
+                let (a, mut l) = (self.archive, Lent::new());
+                let checks = timed(move || {
+                    let (v, o, ol, n) = (l.values.as_mut_ptr(), l.offsets.as_mut_ptr(), l.offsets.len(), l.lengths.as_mut_ptr());
+                    let answer = unsafe { (a.decode_interleaved)(cells.into(), stored.as_ptr(), stored.len(), v, 0, o, ol, n) };
+                    assert_eq!(answer, 6);
+                });
+                let checks = best(&mut [checks], self.rounds)[0];
+                let [one, two, checks] = [one, bound, checks].map(nanoseconds);
+                let loops = format!("one walk {one}, all lengths before the first store {two}, our checks alone {checks}");
+                Held { ours, bound, loops }
+            }
+        }
     }
 
     fn encode_and_decode(&mut self, i: &Input, what: &str) {
@@ -390,7 +294,7 @@ impl Bench {
         let shape = door::sides(&i.shape);
         let fill = FillValue::new(vec![]);
         let stored = door::encode(four(&i.kind), &i.shape, &i.masks, &i.values, &i.offsets).unwrap();
-        let name = || [kind_name(&i.kind), what.to_string(), cells_of(&i.shape).to_string()];
+        let name = || [kind_name(&i.kind), what.to_string(), format!("d{} {}", i.kind[0], cells_of(&i.shape))];
         let mut reused = vec![0; stored.len()];
         let rust = timed(|| {
             let array = door::array(k.ragged, k.depth, &i.masks, &i.values, &i.offsets);
@@ -425,26 +329,26 @@ impl Bench {
         self.row(name, Interleaved(cells as u64, &stored), rust, same);
     }
 
-    fn extract(&mut self, i: &Input, numbers: &[u64], what: &str) {
+    fn extract(&mut self, i: &Input, numbers: &[u64], what: &str, column: &str) {
         let same = door::extract(&i.shape, numbers, &i.values, &i.offsets).unwrap();
         let (subset, shape) = (door::subset(numbers), door::sides(&i.shape));
         let rust = timed(|| keep(door::extracted(black_box(&i.values), &i.offsets, &subset, &shape)));
-        let name = [kind_name(&i.kind), what.to_string(), cells_of(&i.shape).to_string()];
+        let name = [kind_name(&i.kind), what.to_string(), column.to_string()];
         self.row(name, Extract(i, numbers), rust, same);
     }
 
-    fn partial_decode(&mut self, i: &Input, numbers: &[u64], what: &str) {
+    fn partial_decode(&mut self, i: &Input, numbers: &[u64], what: &str, column: &str) {
         let stored = door::encode(four(&i.kind), &i.shape, &[], &i.values, &i.offsets).unwrap();
         let same = door::partial_decode(i.kind[2], i.kind[3], &i.shape, numbers, &stored).unwrap();
         let decoder = door::partial_decoder(i.kind[2], i.kind[3], &i.shape, &stored);
         let subset = door::subset(numbers);
         let rust = timed(|| keep(decoder.partial_decode(black_box(&subset), &CodecOptions).unwrap()));
-        let name = [kind_name(&i.kind), what.to_string(), cells_of(&i.shape).to_string()];
+        let name = [kind_name(&i.kind), what.to_string(), column.to_string()];
         self.row(name, Partial(i, numbers, &stored), rust, same);
     }
 
-    fn merge(&mut self, i: &Input, subsets: usize, what: &str) {
-        let depth = i.kind[0] as usize;
+    fn merge(&mut self, i: &Input, what: &str) {
+        let (depth, subsets) = (i.kind[0] as usize, i.subsets.len() / 4);
         let same = door::merge(i.kind[0], &i.shape, &i.subsets, &i.masks, &i.values, &i.offsets).unwrap();
         let list = || door::list(depth, door::chunks(depth, 2, &i.subsets, &i.masks, &i.values, &i.offsets));
         let rust: Timed = Box::new(|times| {
@@ -456,17 +360,18 @@ impl Bench {
             }
             clock.elapsed()
         });
-        let name = [kind_name(&i.kind), what.to_string(), subsets.to_string()];
+        let kind = format!("d{depth} {}", kind_name(&i.kind));
+        let name = [kind, what.to_string(), format!("{} in {subsets}", cells_of(&i.shape))];
         self.row(name, Merge(i), rust, same);
     }
 
-    fn reverse(&mut self, size: u64, length: usize) {
+    fn reverse(&mut self, size: u64, length: usize, column: String) {
         let same = door::reverse_endianness(size, &Rng(3).bytes(length)).unwrap();
         let mut bytes = vec![0; length];
         let rust = timed(|| {
             door::reverse(size, black_box(&mut bytes));
         });
-        let name = [format!("size {size}"), String::new(), length.to_string()];
+        let name = [format!("size {size}"), String::new(), column];
         self.row(name, Reverse(size, length), rust, (vec![], same, vec![]));
     }
 
@@ -479,113 +384,49 @@ impl Bench {
         ratio
     }
 
-    /// Nanoseconds of a copy: memcpy, with stores of 32 bytes, with stores of 16.
-    fn copies(&self, length: usize) -> Vec<f64> {
-        let from = Rng(1).bytes(length);
-        let side = |copy: fn(&mut [u8], &[u8])| {
-            let (from, mut to) = (from.clone(), vec![0; length]);
-            timed(move || {
-                copy(&mut to, black_box(&from));
-                black_box(&mut to);
-            })
-        };
-        best(&mut [side(|to, from| to.copy_from_slice(from)), side(bounds::copy_32), side(bounds::copy_16)], self.rounds)
-    }
-
-    /// Nanoseconds of the older form's long values: one walk that stores as it goes, all lengths before the first store, our checks alone.
-    /// The first two by turns over one input, as the row's two sides are.
-    fn walks(&self, cells: usize) -> Vec<f64> {
-        let stored = &interleaved(cells, Values::Long)[..];
-        let side = |walk: fn(&[u8], &mut [u8], &mut [u64]) -> usize| {
-            let mut lent = Lent::new();
-            timed(move || {
-                walk(black_box(stored), &mut lent.values, &mut lent.offsets);
-                black_box(&mut lent);
-            })
-        };
-        let (a, mut l) = (self.archive, Lent::new());
-        let checks = timed(move || {
-            let (v, o, ol, n) = (l.values.as_mut_ptr(), l.offsets.as_mut_ptr(), l.offsets.len(), l.lengths.as_mut_ptr());
-            let answer = unsafe { (a.decode_interleaved)(cells as u64, stored.as_ptr(), stored.len(), v, 0, o, ol, n) };
-            assert_eq!(answer, 6);
-        });
-        let mut times = best(&mut [side(bounds::one_walk), side(bounds::two_walks)], self.rounds);
-        times.extend(best(&mut [checks], self.rounds));
-        times
-    }
-
-    /// Whether a row's bound keeps it under 1.0: a bare loop with that bound does not reach the Rust's time either, or ours is as fast as it.
-    /// Prints what was measured.
-    fn at_bound(&self, row: &Row) -> bool {
-        let name = format!("{} {} {}", row.call, row.kind, row.what);
-        let (bound, measured) = match row.bound {
-            None => return false,
-            Some(Bound::Copy(length)) => {
-                let times = self.copies(length);
-                let [memcpy, wide, narrow] = [times[0], times[1], times[2]].map(nanoseconds);
-                (times[2], format!("a copy of {length} bytes: memcpy {memcpy}, stores of 32 bytes {wide}, of 16 bytes {narrow}"))
-            }
-            Some(Bound::Walks(cells)) => {
-                let times = self.walks(cells);
-                let [one, two, checks] = [times[0], times[1], times[2]].map(nanoseconds);
-                (
-                    times[1],
-                    format!(
-                        "{cells} values: one walk {one}, all lengths before the first store {two}, our checks alone {checks}"
-                    ),
-                )
-            }
-        };
-        println!("| {} | {} | {measured} | {:.2} |", name.trim(), nanoseconds(row.ours), row.ours / bound);
-        bound >= row.rust || row.ours <= 1.05 * bound
-    }
-
     fn per(&mut self, call: Call, count: usize) -> f64 {
         best(&mut [self.ours(call)], self.rounds)[0] / count as f64
     }
-}
-
-fn nanoseconds(n: f64) -> String {
-    if n < 100.0 { format!("{n:.1}") } else { format!("{n:.0}") }
 }
 
 const CELLS: [usize; 4] = [1, 64, 4096, 65_536];
 const SIZES: [u64; 6] = [1, 2, 4, 8, 16, 64];
 
 fn rows(b: &mut Bench) {
-    for cells in CELLS {
-        for size in SIZES {
-            for order in [0, 1] {
-                b.encode_and_decode(&input(fixed(0, size, order), square(cells), Mask::Full, Values::Short), "");
+    let fixed_kinds = || SIZES.into_iter().flat_map(|size| [(size, 0), (size, 1)]);
+    let ragged_kinds = [(4, 0), (4, 1), (8, 0), (8, 1)];
+    for (size, order) in fixed_kinds() {
+        for cells in CELLS {
+            b.encode_and_decode(&input(fixed(0, size, order), square(cells), Mask::Full, Values::Short), "");
+        }
+    }
+    for (width, place) in ragged_kinds {
+        for values in VALUES {
+            for cells in CELLS {
+                b.encode_and_decode(&input(ragged(0, width, place), square(cells), Mask::Full, values), values.name());
             }
         }
     }
-    for cells in [4096, 65_536] {
-        for size in SIZES {
-            for order in [0, 1] {
-                b.encode_and_decode(&input(fixed(1, size, order), square(cells), Mask::Half, Values::Short), "half mask");
-            }
-        }
-    }
-    for cells in CELLS {
+    let mut below = |kind: fn(u64, u64, u64) -> [u64; 5], (size, order), mask: Mask, values: Values, what: &str| {
         for depth in 1..=4 {
-            for mask in MASKS {
-                let what = format!("{} mask", mask.name());
-                b.encode_and_decode(&input(fixed(depth, 8, 0), square(cells), mask, Values::Short), &what);
+            for cells in CELLS {
+                b.encode_and_decode(&input(kind(depth, size, order), square(cells), mask, values), what);
+            }
+        }
+    };
+    for (size, order) in fixed_kinds() {
+        for mask in MASKS {
+            if mask == Mask::Half || order == 0 && [1, 8, 64].contains(&size) {
+                below(fixed, (size, order), mask, Values::Short, mask.name());
             }
         }
     }
-    for cells in CELLS {
-        for (width, place) in [(4, 0), (8, 1)] {
+    for kind in [(4, 1), (8, 0)] {
+        for mask in MASKS {
             for values in VALUES {
-                let what = values.name();
-                b.encode_and_decode(&input(ragged(0, width, place), square(cells), Mask::Full, values), what);
-            }
-        }
-        for depth in 1..=4 {
-            for mask in MASKS {
-                let what = format!("{} mask, short values", mask.name());
-                b.encode_and_decode(&input(ragged(depth, 8, 0), square(cells), mask, Values::Short), &what);
+                if mask == Mask::Half || values == Values::Short {
+                    below(ragged, kind, mask, values, &format!("{}, {}", mask.name(), values.name()));
+                }
             }
         }
     }
@@ -594,41 +435,65 @@ fn rows(b: &mut Bench) {
             b.interleaved(cells, values);
         }
     }
-    for cells in CELLS {
+    for (width, place) in ragged_kinds {
         for values in VALUES {
-            let i = input(ragged(0, 8, 0), square(cells), Mask::Full, values);
-            let whole = [0, 0, i.shape[0], i.shape[1]];
-            b.extract(&i, &whole, &format!("all of them, {}", values.name()));
-            b.partial_decode(&i, &whole, &format!("all of them, {}", values.name()));
-            if cells > 1 {
-                let part = [i.shape[0] / 4, i.shape[1] / 4, i.shape[0] / 2, i.shape[1] / 2];
-                b.extract(&i, &part, &format!("a quarter of them, {}", values.name()));
-                b.partial_decode(&i, &part, &format!("a quarter of them, {}", values.name()));
+            let arrays = CELLS.map(|cells| input(ragged(0, width, place), square(cells), Mask::Full, values));
+            // what is stored how does not matter to extract
+            for i in &arrays {
+                let (whole, column) = ([0, 0, i.shape[0], i.shape[1]], cells_of(&i.shape).to_string());
+                if (width, place) == (8, 0) {
+                    b.extract(i, &whole, values.name(), &column);
+                }
+                b.partial_decode(i, &whole, values.name(), &column);
+            }
+            for i in &arrays[1..] {
+                let (part, column) = (quarter(&i.shape), format!("quarter of {}", cells_of(&i.shape)));
+                if (width, place) == (8, 0) {
+                    b.extract(i, &part, values.name(), &column);
+                }
+                b.partial_decode(i, &part, values.name(), &column);
             }
         }
     }
-    for count in [1, 64, 65_536] {
-        for depth in 0..=4 {
-            b.merge(&chunk_list(depth, count, Values::Short), count, "short values");
+    let mut merge = |depth, mask: Mask, values: Values, lists: &[(usize, usize)]| {
+        for (cells, count) in lists {
+            let masks = if depth > 0 { format!("{}, ", mask.name()) } else { String::new() };
+            b.merge(&chunk_list(depth, *cells, *count, mask, values), &format!("{masks}{}", values.name()));
         }
-        b.merge(&chunk_list(0, count, Values::Long), count, "long values");
-        b.merge(&chunk_list(0, count, Values::Empty), count, "empty values");
+    };
+    const LISTS: [(usize, usize); 7] = [(64, 1), (64, 64), (4096, 1), (4096, 64), (65_536, 1), (65_536, 64), (65_536, 65_536)];
+    for depth in 0..=4 {
+        merge(depth, Mask::Half, Values::Short, &LISTS);
+    }
+    for mask in [Mask::Empty, Mask::Full, Mask::Clustered] {
+        merge(1, mask, Values::Short, &LISTS[4..]);
+    }
+    for depth in [0, 1] {
+        for values in [Values::Long, Values::Empty] {
+            merge(depth, Mask::Half, values, &LISTS[4..]);
+        }
+    }
+    for cells in CELLS {
+        for size in SIZES {
+            b.reverse(size, size as usize * cells, cells.to_string());
+        }
     }
     for length in [64, 32_768, 4_194_304] {
         for size in SIZES {
-            b.reverse(size, length);
+            // some are there already
+            if !CELLS.contains(&(length / size as usize)) {
+                b.reverse(size, length, format!("{length} bytes"));
+            }
         }
     }
 }
+/// In the middle of two sides.
+fn quarter(shape: &[u64]) -> [u64; 4] {
+    [shape[0] / 4, shape[1] / 4, shape[0] / 2, shape[1] / 2]
+}
 
-fn main() {
-    let args: Vec<String> = std::env::args().skip(1).collect();
-    let archive = Archive::load(&args[0]).unwrap();
-    let rounds = args.get(1).map_or(25, |n| n.parse().unwrap());
-    let mut b = Bench { archive, rounds, rows: vec![] };
-    rows(&mut b);
-    ratios(&b.rows);
-
+/// Large copies beside memcpy; the ratios.
+fn copies(b: &mut Bench) -> [f64; 9] {
     println!("\nLarge plain copies against memcpy of the same number of value bytes. Ratio: memcpy's time over ours.\n");
     println!("| call | bytes | memcpy, ns | ours, ns | ratio |\n|---|---|---|---|---|");
     let plain = input(fixed(0, 64, 0), vec![65_536], Mask::Full, Values::Short);
@@ -640,7 +505,7 @@ fn main() {
     let one_stored = door::encode(four(&one.kind), &one.shape, &[], &one.values, &one.offsets).unwrap();
     let mut listed = input(fixed(0, 64, 0), vec![65_536], Mask::Full, Values::Short);
     listed.subsets = vec![0, 65_536];
-    let copies = [
+    [
         b.to_memcpy("encode d0 F(64, little)", Encode(&plain), &plain.values),
         b.to_memcpy("decode d0 F(64, little)", Decode(&plain, &plain.values), &plain.values),
         b.to_memcpy("extract d0 F(64, little), all cells", Extract(&plain, &[0, 65_536]), &plain.values),
@@ -650,72 +515,146 @@ fn main() {
         b.to_memcpy("encode d0 R(8, start), one cell", Encode(&one), &one.values),
         b.to_memcpy("decode d0 R(8, start), one cell", Decode(&one, &one_stored), &one.values),
         b.to_memcpy("partial_decode R(8, start), one cell", Partial(&one, &[0, 1], &one_stored), &one.values),
-    ];
+    ]
+}
 
-    println!(
-        "\nHow our cost grows: nanoseconds a cell, half masks and short values; extract of a quarter of the cells, a cell of that quarter.\n"
-    );
-    let counts = [1024, 4096, 16_384, 65_536];
-    println!("| cells | {} |\n|---|---|---|---|---|", counts.map(|n| n.to_string()).join(" | "));
-    for depth in 0..=4 {
-        for kind in [fixed(depth, 8, 0), ragged(depth, 8, 0)] {
-            let mut lines = [vec![], vec![], vec![]];
-            for cells in counts {
-                let i = input(kind, square(cells), Mask::Half, Values::Short);
-                let stored = door::encode(four(&kind), &i.shape, &i.masks, &i.values, &i.offsets).unwrap();
-                let quarter = [i.shape[0] / 4, i.shape[1] / 4, i.shape[0] / 2, i.shape[1] / 2];
-                let calls = [(Encode(&i), cells), (Decode(&i, &stored), cells), (Extract(&i, &quarter), cells / 4)];
-                for (line, (call, cells)) in lines.iter_mut().zip(calls) {
-                    line.push(format!("{:.2}", b.per(call, cells)));
-                }
-            }
-            for (name, line) in ["encode", "decode", "extract"].iter().zip(lines) {
-                println!("| {name} {} | {} |", kind_name(&kind), line.join(" | "));
-            }
+// ---------------------------------------------------------------- how our cost grows
+
+/// Nanoseconds a cell: a line for each call and kind.
+struct Growth {
+    columns: Vec<usize>,
+    lines: Vec<(&'static str, String, Vec<f64>)>,
+}
+impl Growth {
+    fn add(&mut self, call: &'static str, kind: String, cost: f64) {
+        match self.lines.iter_mut().find(|line| (line.0, &line.1) == (call, &kind)) {
+            Some(line) => line.2.push(cost),
+            None => self.lines.push((call, kind, vec![cost])),
         }
     }
-    let line = counts.map(|cells| {
-        let shape = square(cells);
-        format!("{:.2}", b.per(Cells(&shape, &[0, 0, shape[0], shape[1]]), cells))
-    });
-    println!("| subset_cells, all | {} |", line.join(" | "));
-    let subsets = [1, 16, 64, 1024, 4096, 65_536];
-    println!("\nmerge of 65,536 cells, nanoseconds a cell.\n");
-    println!("| subsets | {} |\n|---|---|---|---|---|---|---|", subsets.map(|n| n.to_string()).join(" | "));
-    for depth in 0..=4 {
-        let cells = subsets.map(|count| format!("{:.2}", b.per(Merge(&chunk_list(depth, count, Values::Short)), 65_536)));
-        println!("| d{depth} R(8, start) | {} |", cells.join(" | "));
+    fn print(&self, unit: &str) {
+        let columns: Vec<String> = self.columns.iter().map(usize::to_string).collect();
+        println!("| {unit} | {} |\n|---|{}", columns.join(" | "), "---|".repeat(columns.len()));
+        for (call, kind, costs) in &self.lines {
+            println!("| {call} {kind} | {} |", costs.iter().map(|cost| figure(*cost)).collect::<Vec<_>>().join(" | "));
+        }
     }
-
-    let all: Vec<f64> = b.rows.iter().map(Row::ratio).collect();
-    println!("\nBy call:\n\n| call | rows | geometric mean | least | rows under 1.0 |\n|---|---|---|---|---|");
-    for call in CALLS {
-        let list: Vec<f64> = b.rows.iter().filter(|row| row.call == call).map(Row::ratio).collect();
-        let under = list.iter().filter(|r| **r < 1.0).count();
-        println!("| {call} | {} | {:.2} | {:.2} | {under} |", list.len(), mean(&list), least(&list));
-    }
-    let under: Vec<&Row> = b.rows.iter().filter(|row| row.ratio() < 1.0).collect();
-    let mut beyond = 0;
-    if !under.is_empty() {
-        println!("\nRows under 1.0:\n\n| call | kind | with | at | Rust, ns | ours, ns | ratio |\n|---|---|---|---|---|---|---|");
-        under.iter().for_each(|row| println!("{}", whole(row)));
-        println!(
-            "\nThose that have a bound, beside loops of the same bound (BENCHMARKS.md), nanoseconds; last, ours over the bound.\n"
-        );
-        println!("| row | ours | loops | ours over the bound |\n|---|---|---|---|");
-        beyond = under.iter().filter(|row| !b.at_bound(row)).count();
-    }
-    let said = |met: bool| if met { "met" } else { "not met" };
-    println!("\n{} rows, geometric mean {:.2}, best of {rounds} rounds", all.len(), mean(&all));
-    println!("no row under 1.0 but by its bound: {} ({} under, {beyond} of them by no bound)", said(beyond == 0), under.len());
-    println!("geometric mean 2.0 or more: {}", said(mean(&all) >= 2.0));
-    println!("large plain copies at 0.7 of memcpy or more: {} (least {:.2})", said(least(&copies) >= 0.7), least(&copies));
-    if let Some(file) = args.get(2) {
-        let lines: Vec<String> = b.rows.iter().map(whole).collect();
-        std::fs::write(file, lines.join("\n") + "\n").unwrap();
+    /// For each call the greatest step from a column to the next.
+    fn steps(&self, unit: &str) {
+        let mut calls: Vec<&str> = self.lines.iter().map(|line| line.0).collect();
+        calls.dedup();
+        for call in calls {
+            let mut most = (0.0, String::new());
+            for (_, kind, costs) in self.lines.iter().filter(|line| line.0 == call) {
+                for (at, pair) in costs.windows(2).enumerate() {
+                    if pair[1] / pair[0] > most.0 {
+                        let place = format!("from {} to {} {unit}, {kind}", self.columns[at], self.columns[at + 1]);
+                        most = (pair[1] / pair[0], place);
+                    }
+                }
+            }
+            println!("- {call}: at most {:.2} {}", most.0, most.1);
+        }
     }
 }
 
+fn growth(b: &mut Bench) {
+    let mut g = Growth { columns: vec![1024, 4096, 16_384, 65_536], lines: vec![] };
+    let counts = g.columns.clone();
+    let inputs = |kind| counts.iter().map(move |cells| (input(kind, square(*cells), Mask::Half, Values::Short), *cells));
+    let kinds = |depth| [fixed(depth, 8, 0), ragged(depth, 8, 0)];
+    let named = |kind: &[u64; 5]| format!("d{} {}", kind[0], kind_name(kind));
+    for kind in (0..=4).flat_map(kinds) {
+        for (i, cells) in inputs(kind) {
+            g.add(CALLS[0], named(&kind), b.per(Encode(&i), cells));
+        }
+    }
+    for kind in (0..=4).flat_map(kinds) {
+        for (i, cells) in inputs(kind) {
+            let stored = door::encode(four(&kind), &i.shape, &i.masks, &i.values, &i.offsets).unwrap();
+            g.add(CALLS[1], named(&kind), b.per(Decode(&i, &stored), cells));
+        }
+    }
+    for values in VALUES {
+        for cells in &counts {
+            let stored = interleaved(*cells, values);
+            g.add(CALLS[2], values.name().to_string(), b.per(Interleaved(*cells as u64, &stored), *cells));
+        }
+    }
+    for kind in (0..=4).flat_map(kinds) {
+        for (i, cells) in inputs(kind) {
+            g.add(CALLS[3], named(&kind), b.per(Extract(&i, &quarter(&i.shape)), cells / 4));
+        }
+    }
+    for depth in 0..=4 {
+        for cells in &counts {
+            let i = chunk_list(depth, *cells, cells / 16, Mask::Half, Values::Short);
+            g.add(CALLS[4], named(&i.kind), b.per(Merge(&i), *cells));
+        }
+    }
+    for kind in [ragged(0, 4, 1), ragged(0, 8, 0)] {
+        for (i, cells) in inputs(kind) {
+            let stored = door::encode(four(&kind), &i.shape, &[], &i.values, &i.offsets).unwrap();
+            g.add(CALLS[5], named(&kind), b.per(Partial(&i, &quarter(&i.shape), &stored), cells / 4));
+        }
+    }
+    // of size 1 nothing is done
+    for size in &SIZES[1..] {
+        for cells in &counts {
+            g.add(CALLS[6], format!("size {size}"), b.per(Reverse(*size, *size as usize * cells), *cells));
+        }
+    }
+    for cells in &counts {
+        let shape = square(*cells);
+        g.add("subset_cells", "all".to_string(), b.per(Cells(&shape, &[0, 0, shape[0], shape[1]]), *cells));
+    }
+    println!(
+        "\nHow our cost grows: nanoseconds a cell. Half masks; short values but in decode_interleaved; extract and partial_decode of a quarter"
+    );
+    println!("of the cells, a cell of that quarter; merge of subsets of 16 cells.\n");
+    g.print("cells");
+    println!("\nThe greatest step of a cell's cost from a column to the next, of four times the cells:\n");
+    g.steps("cells");
+
+    println!("\nBy depth, 65536 cells, nanoseconds a cell:\n");
+    println!("| depth | 0 | 1 | 2 | 3 | 4 |\n|---|---|---|---|---|---|");
+    for call in [CALLS[0], CALLS[1], CALLS[3], CALLS[4]] {
+        for kind in kinds(0).iter().map(kind_name) {
+            let deep = g.lines.iter().filter(|line| line.0 == call && line.1.ends_with(&kind));
+            let costs: Vec<String> = deep.map(|line| figure(line.2[3])).collect();
+            if !costs.is_empty() {
+                println!("| {call} {kind} | {} |", costs.join(" | "));
+            }
+        }
+    }
+
+    let mut g = Growth { columns: vec![1, 16, 64, 256, 1024, 4096, 16_384, 65_536], lines: vec![] };
+    for depth in 0..=4 {
+        for count in g.columns.clone() {
+            let i = chunk_list(depth, 65_536, count, Mask::Half, Values::Short);
+            g.add(CALLS[4], named(&i.kind), b.per(Merge(&i), 65_536));
+        }
+    }
+    println!("\nmerge of 65536 cells by subsets, nanoseconds a cell:\n");
+    g.print("subsets");
+    println!("\nThe greatest step, of four times the subsets (first 16):\n");
+    g.steps("subsets");
+}
+
+// ---------------------------------------------------------------- what is printed
+
+fn nanoseconds(n: f64) -> String {
+    if n < 100.0 { format!("{n:.1}") } else { format!("{n:.0}") }
+}
+fn figure(n: f64) -> String {
+    if n < 0.1 {
+        format!("{n:.3}")
+    } else if n < 10.0 {
+        format!("{n:.2}")
+    } else {
+        format!("{n:.1}")
+    }
+}
 fn mean(list: &[f64]) -> f64 {
     (list.iter().map(|r| r.ln()).sum::<f64>() / list.len() as f64).exp()
 }
@@ -727,11 +666,11 @@ fn whole(row: &Row) -> String {
     format!("| {call} | {kind} | {what} | {column} | {} | {} | {:.2} |", nanoseconds(*rust), nanoseconds(*ours), row.ratio())
 }
 
-/// A table of ratios for each call.
+/// A table of ratios for each call; for those below masks one more.
 fn ratios(rows: &[Row]) {
     println!("Ratio: the Rust's time over ours.");
-    for call in CALLS {
-        let rows: Vec<&Row> = rows.iter().filter(|row| row.call == call).collect();
+    for (call, below) in CALLS.into_iter().flat_map(|call| [(call, false), (call, true)]) {
+        let rows: Vec<&Row> = rows.iter().filter(|row| (row.call, row.below) == (call, below)).collect();
         let mut columns: Vec<&str> = vec![];
         let mut lines: Vec<(&str, &str)> = vec![];
         for row in &rows {
@@ -742,22 +681,75 @@ fn ratios(rows: &[Row]) {
                 lines.push((&row.kind, &row.what));
             }
         }
-        let unit = match call {
-            "merge" => "subsets over 65,536 cells",
-            "reverse_endianness" => "bytes",
-            _ => "cells",
+        if rows.is_empty() {
+            continue;
+        }
+        let head = match call {
+            "encode" | "decode" => "by depth and cells",
+            "extract" => {
+                "by cells (the Rust has a body for ragged values of depth 0 only: fixed kinds and masks have no counterpart)"
+            }
+            "merge" => "by cells and subsets (the Rust has a body for ragged values only: fixed kinds have no counterpart)",
+            "reverse_endianness" => "by cells, and by bytes where no column of cells has as many",
+            _ => "by cells",
         };
-        println!(
-            "\n`{call}`, by {unit}:\n\n| kind | with | {} |\n|---|---|{}",
-            columns.join(" | "),
-            "---|".repeat(columns.len())
-        );
+        println!("\n`{call}`{}, {head}:\n", if below { " below masks" } else { "" });
+        println!("| kind | with | {} |\n|---|---|{}", columns.join(" | "), "---|".repeat(columns.len()));
         for (kind, what) in lines {
             let cells = columns.iter().map(|column| {
                 let row = rows.iter().find(|row| (&row.kind[..], &row.what[..], &row.column[..]) == (kind, what, *column));
-                row.map_or(String::new(), |row| format!("{:.2}", row.ratio()))
+                row.map_or(String::new(), |row| figure(row.ratio()))
             });
             println!("| {kind} | {what} | {} |", cells.collect::<Vec<_>>().join(" | "));
         }
+    }
+}
+
+fn main() {
+    let args: Vec<String> = std::env::args().skip(1).collect();
+    let archive = Archive::load(&args[0]).unwrap();
+    let rounds = args.get(1).map_or(25, |n| n.parse().unwrap());
+    let mut b = Bench { archive, rounds, rows: vec![] };
+    rows(&mut b);
+    ratios(&b.rows);
+    let copies = copies(&mut b);
+    growth(&mut b);
+
+    let all: Vec<f64> = b.rows.iter().map(Row::ratio).collect();
+    println!("\nBy call:\n\n| call | rows | geometric mean | least | rows under 1.0 |\n|---|---|---|---|---|");
+    for call in CALLS {
+        let list: Vec<f64> = b.rows.iter().filter(|row| row.call == call).map(Row::ratio).collect();
+        let under = list.iter().filter(|r| **r < 1.0).count();
+        println!("| {call} | {} | {:.2} | {:.2} | {under} |", list.len(), mean(&list), least(&list));
+    }
+    let under: Vec<&Row> = b.rows.iter().filter(|row| row.ratio() < 1.0).collect();
+    if !under.is_empty() {
+        println!("\nRows under 1.0:\n\n| call | kind | with | at | Rust, ns | ours, ns | ratio |\n|---|---|---|---|---|---|---|");
+        under.iter().for_each(|row| println!("{}", whole(row)));
+        println!(
+            "\nThose that have a bound, ours and the bound's loop by turns, beside other loops (BENCHMARKS.md), nanoseconds:\n"
+        );
+        println!("| row | ours | loops | ours over the bound |\n|---|---|---|---|");
+        for row in &under {
+            if let Some(Held { ours, bound, loops }) = &row.held {
+                let Row { call, kind, what, column, .. } = row;
+                let name = [call, &kind[..], &what[..], &column[..]].into_iter().filter(|s| !s.is_empty()).collect::<Vec<_>>();
+                println!("| {} | {} | {loops} | {:.2} |", name.join(" "), nanoseconds(*ours), ours / bound);
+            }
+        }
+    }
+    let beyond = under.iter().filter(|row| !row.at_bound()).count();
+    let said = |met: bool| if met { "met" } else { "not met" };
+    println!("\n{} rows, geometric mean {:.2}, best of {rounds} rounds", all.len(), mean(&all));
+    println!(
+        "no row under 1.0 but where ours takes at most {SLACK:.2} of its bound's own time: {} ({} under, {beyond} of them not so)",
+        said(beyond == 0),
+        under.len()
+    );
+    println!("geometric mean 2.0 or more: {}", said(mean(&all) >= 2.0));
+    println!("large plain copies at 0.7 of memcpy or more: {} (least {:.2})", said(least(&copies) >= 0.7), least(&copies));
+    if let Some(file) = args.get(2) {
+        let lines: Vec<String> = b.rows.iter().map(whole).collect();
+        std::fs::write(file, lines.join("\n") + "\n").unwrap();
     }
 }
