@@ -1,0 +1,163 @@
+//! What both sides are called with.
+
+pub struct Rng(pub u64);
+impl Rng {
+    pub fn next(&mut self) -> u64 {
+        self.0 = self.0.wrapping_add(0x9E37_79B9_7F4A_7C15);
+        let mut z = self.0;
+        z = (z ^ (z >> 30)).wrapping_mul(0xBF58_476D_1CE4_E5B9);
+        z = (z ^ (z >> 27)).wrapping_mul(0x94D0_49BB_1331_11EB);
+        z ^ (z >> 31)
+    }
+    pub fn below(&mut self, n: u64) -> u64 {
+        self.next() % n
+    }
+    pub fn bytes(&mut self, n: usize) -> Vec<u8> {
+        (0..n).map(|_| self.next() as u8).collect()
+    }
+}
+
+#[derive(Clone, Copy, PartialEq)]
+pub enum Mask {
+    Empty,
+    Full,
+    Half,
+    Clustered,
+}
+pub const MASKS: [Mask; 4] = [Mask::Empty, Mask::Full, Mask::Half, Mask::Clustered];
+impl Mask {
+    pub fn name(self) -> &'static str {
+        ["empty mask", "full mask", "half mask", "clustered mask"][self as usize]
+    }
+    pub fn plane(self, rng: &mut Rng, cells: usize) -> Vec<u8> {
+        match self {
+            Mask::Empty => vec![0; cells],
+            Mask::Full => vec![1; cells],
+            Mask::Half => (0..cells).map(|_| rng.below(2) as u8).collect(),
+            Mask::Clustered => {
+                let mut mask = vec![];
+                let mut set = 1;
+                while mask.len() < cells {
+                    // few cells have smaller clusters
+                    let length = (16 + rng.below(96) as usize).min(cells.div_ceil(4));
+                    mask.extend(vec![set; length]);
+                    set ^= 1;
+                }
+                mask.truncate(cells);
+                mask
+            }
+        }
+    }
+}
+
+/// Ragged values: of 0 to 8 bytes, of 200, of none.
+#[derive(Clone, Copy, PartialEq)]
+pub enum Values {
+    Short,
+    Long,
+    Empty,
+}
+pub const VALUES: [Values; 3] = [Values::Short, Values::Long, Values::Empty];
+impl Values {
+    pub fn name(self) -> &'static str {
+        ["short values", "long values", "empty values"][self as usize]
+    }
+    pub fn length(self, rng: &mut Rng) -> u64 {
+        match self {
+            Values::Short => rng.below(9),
+            Values::Long => 200,
+            Values::Empty => 0,
+        }
+    }
+}
+
+/// An array, and the subsets of a chunk list where there is one.
+pub struct Input {
+    pub kind: [u64; 5],
+    pub shape: Vec<u64>,
+    pub subsets: Vec<u64>,
+    pub masks: Vec<u8>,
+    pub values: Vec<u8>,
+    pub offsets: Vec<u64>,
+}
+pub fn fixed(depth: u64, size: u64, order: u64) -> [u64; 5] {
+    [depth, 0, size, order, 0]
+}
+pub fn ragged(depth: u64, width: u64, place: u64) -> [u64; 5] {
+    [depth, 1, width, place, 0]
+}
+pub fn four(k: &[u64; 5]) -> [u64; 4] {
+    [k[0], k[1], k[2], k[3]]
+}
+pub fn kind_name(k: &[u64; 5]) -> String {
+    if k[1] == 0 {
+        format!("F({}, {})", k[2], ["little", "big"][k[3] as usize])
+    } else {
+        format!("R({}, {})", k[2], ["start", "end"][k[3] as usize])
+    }
+}
+pub fn cells_of(shape: &[u64]) -> usize {
+    shape.iter().product::<u64>() as usize
+}
+/// Two sides as equal as can be.
+pub fn square(cells: usize) -> Vec<u64> {
+    let mut side = 1;
+    while side * side < cells {
+        side *= 2;
+    }
+    vec![(cells / side) as u64, side as u64]
+}
+pub fn input(kind: [u64; 5], shape: Vec<u64>, mask: Mask, values: Values) -> Input {
+    let rng = &mut Rng(7);
+    let cells = cells_of(&shape);
+    let masks = (0..kind[0]).flat_map(|_| mask.plane(rng, cells)).collect();
+    let (values, offsets) = if kind[1] == 0 {
+        (rng.bytes(cells * kind[2] as usize), vec![])
+    } else {
+        let mut offsets = vec![0];
+        for _ in 0..cells {
+            offsets.push(offsets.last().unwrap() + values.length(rng));
+        }
+        (rng.bytes(offsets[cells] as usize), offsets)
+    };
+    Input { kind, shape, subsets: vec![], masks, values, offsets }
+}
+/// A chunk list of `count` equal subsets over so many cells. A subset's masks are its part of the whole array's.
+pub fn chunk_list(depth: u64, cells: usize, count: usize, mask: Mask, values: Values) -> Input {
+    let rng = &mut Rng(9);
+    let (kind, shape, n) = (ragged(depth, 8, 0), square(cells), square(count));
+    let (high, wide, side) = (shape[0] / n[0], shape[1] / n[1], shape[1]);
+    let planes: Vec<Vec<u8>> = (0..depth).map(|_| mask.plane(rng, cells)).collect();
+    let mut all = Input { kind, shape, subsets: vec![], masks: vec![], values: vec![], offsets: vec![] };
+    for top in (0..n[0]).map(|row| row * high) {
+        for left in (0..n[1]).map(|column| column * wide) {
+            all.subsets.extend([top, left, high, wide]);
+            for plane in &planes {
+                for line in top..top + high {
+                    let at = (line * side + left) as usize;
+                    all.masks.extend(&plane[at..at + wide as usize]);
+                }
+            }
+            let mut end = 0;
+            all.offsets.push(0);
+            for _ in 0..high * wide {
+                end += values.length(rng);
+                all.offsets.push(end);
+            }
+            all.values.extend(rng.bytes(end as usize));
+        }
+    }
+    all
+}
+
+/// The older form of so many values.
+pub fn interleaved(cells: usize, values: Values) -> Vec<u8> {
+    let rng = &mut Rng(5);
+    let mut stored = (cells as u32).to_le_bytes().to_vec();
+    for _ in 0..cells {
+        let length = values.length(rng) as usize;
+        stored.extend((length as u32).to_le_bytes());
+        stored.extend(rng.bytes(length));
+    }
+    stored
+}

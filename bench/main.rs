@@ -1,0 +1,755 @@
+//! The archive's and the Rust's times, in one process: the two by turns, the best of many rounds each.
+//!
+//!   bench OBJECT [ROUNDS [FILE]]     FILE: every row with its times
+//!
+//! Both get the same inputs, borrowed. The archive writes to lent outputs, reused from call to call. The Rust allocates: its results, and
+//! inside encode and decode a part of the array for each level, the index and the data; giving that memory back is in its time. Where it
+//! hands back what it borrowed (plain values, little order, depth 0), its result is copied to a reused buffer, so that both leave it in the
+//! caller's memory. Kinds, shapes and chunk lists are built before the clock starts. The Rust is built with opt-level 3 over the stand-in chain,
+//! which does less than the listed one.
+
+#[path = "../oracle/driver/archive.rs"]
+#[allow(dead_code)]
+mod archive;
+mod bounds;
+mod inputs;
+
+use archive::{Archive, c_kind};
+use inputs::*;
+use standin_release::{ArrayBytes, CodecOptions, FillValue, door};
+use std::borrow::Cow;
+use std::hint::black_box;
+use std::time::{Duration, Instant};
+
+// ---------------------------------------------------------------- lent outputs, and the archive's calls
+
+struct Lent {
+    masks: Vec<u8>,
+    values: Vec<u8>,
+    offsets: Vec<u64>,
+    lengths: [u64; 3],
+}
+impl Lent {
+    fn new() -> Lent {
+        Lent { masks: vec![0; 4 * 65_536], values: vec![0; 20_000_000], offsets: vec![0; 65_537], lengths: [0; 3] }
+    }
+}
+
+#[derive(Clone, Copy)]
+enum Call<'a> {
+    Encode(&'a Input),
+    Decode(&'a Input, &'a [u8]),
+    Interleaved(u64, &'a [u8]),
+    Extract(&'a Input, &'a [u64]),
+    Merge(&'a Input),
+    Partial(&'a Input, &'a [u64], &'a [u8]),
+    Reverse(u64, usize),
+    Cells(&'a [u64], &'a [u64]),
+    Memcpy(&'a [u8]),
+}
+use Call::*;
+const CALLS: [&str; 7] = ["encode", "decode", "decode_interleaved", "extract", "merge", "partial_decode", "reverse_endianness"];
+impl Call<'_> {
+    fn name(&self) -> &'static str {
+        match self {
+            Encode(..) => CALLS[0],
+            Decode(..) => CALLS[1],
+            Interleaved(..) => CALLS[2],
+            Extract(..) => CALLS[3],
+            Merge(..) => CALLS[4],
+            Partial(..) => CALLS[5],
+            Reverse(..) => CALLS[6],
+            Memcpy(..) | Cells(..) => "",
+        }
+    }
+}
+
+/// Inlined, so that where the call is known no time goes into finding out which it is.
+#[inline(always)]
+fn ours(a: &Archive, call: Call, l: &mut Lent) {
+    let (m, v, o) = (l.masks.as_mut_ptr(), l.values.as_mut_ptr(), l.offsets.as_mut_ptr());
+    let (ml, vl, ol) = (l.masks.len(), l.values.len(), l.offsets.len());
+    let n = l.lengths.as_mut_ptr();
+    let answer = unsafe {
+        match call {
+            #[rustfmt::skip]
+            Encode(i) => (a.encode)(
+                c_kind(&i.kind), i.shape.as_ptr(), i.shape.len(), i.masks.as_ptr(), i.masks.len(),
+                i.values.as_ptr(), i.values.len(), i.offsets.as_ptr(), i.offsets.len(), v, vl, n,
+            ),
+            #[rustfmt::skip]
+            Decode(i, s) => (a.decode)(
+                c_kind(&i.kind), i.shape.as_ptr(), i.shape.len(), s.as_ptr(), s.len(), m, ml, v, vl, o, ol, n,
+            ),
+            Interleaved(cells, s) => (a.decode_interleaved)(cells, s.as_ptr(), s.len(), v, vl, o, ol, n),
+            #[rustfmt::skip]
+            Extract(i, q) => (a.extract)(
+                c_kind(&i.kind), i.shape.as_ptr(), i.shape.len(), q.as_ptr(), q.len(), i.masks.as_ptr(), i.masks.len(),
+                i.values.as_ptr(), i.values.len(), i.offsets.as_ptr(), i.offsets.len(), m, ml, v, vl, o, ol, n,
+            ),
+            #[rustfmt::skip]
+            Merge(i) => (a.merge)(
+                c_kind(&i.kind), i.shape.as_ptr(), i.shape.len(), i.subsets.as_ptr(), i.subsets.len(), i.masks.as_ptr(), i.masks.len(),
+                i.values.as_ptr(), i.values.len(), i.offsets.as_ptr(), i.offsets.len(), m, ml, v, vl, o, ol, n,
+            ),
+            #[rustfmt::skip]
+            Partial(i, q, s) => (a.partial_decode)(
+                i.kind[2], i.kind[3], i.shape.as_ptr(), i.shape.len(), q.as_ptr(), q.len(), s.as_ptr(), s.len(), v, vl, o, ol, n,
+            ),
+            Reverse(size, length) => (a.reverse_endianness)(size, v, length, n),
+            Cells(shape, q) => (a.subset_cells)(shape.as_ptr(), shape.len(), q.as_ptr(), q.len(), o, ol, n),
+            Memcpy(s) => {
+                l.values[..s.len()].copy_from_slice(black_box(s));
+                0
+            }
+        }
+    };
+    assert_eq!(answer, 0);
+    black_box(l);
+}
+
+// ---------------------------------------------------------------- the clock
+
+/// A timed batch: so many calls, and the time they took.
+type Timed<'a> = Box<dyn FnMut(u32) -> Duration + 'a>;
+
+fn timed<'a>(mut once: impl FnMut() + 'a) -> Timed<'a> {
+    Box::new(move |times| {
+        let clock = Instant::now();
+        for _ in 0..times {
+            once();
+        }
+        clock.elapsed()
+    })
+}
+/// Best nanoseconds a call of each, by turns.
+fn best(sides: &mut [Timed], rounds: u32) -> Vec<f64> {
+    const BATCH: f64 = 200_000.0; // nanoseconds
+    const LONG: f64 = 1e9;
+    let mut turn = 0.0;
+    let times: Vec<u32> = sides
+        .iter_mut()
+        .map(|side| {
+            side(1);
+            let once = side(3).as_nanos() as f64 / 3.0;
+            let times = (BATCH / once.max(1.0)).clamp(1.0, 20_000.0) as u32;
+            turn += once * f64::from(times);
+            times
+        })
+        .collect();
+    let mut best = vec![f64::MAX; sides.len()];
+    // A long call fills its batch alone: it gets up to four times the rounds, as many as a second holds.
+    let rounds = if times.contains(&1) { rounds.max((LONG / turn) as u32).min(4 * rounds) } else { rounds };
+    for _ in 0..rounds {
+        for (at, side) in sides.iter_mut().enumerate() {
+            let now = side(times[at]).as_nanos() as f64 / f64::from(times[at]);
+            best[at] = best[at].min(now);
+        }
+    }
+    best
+}
+
+/// What keeps a row from getting better: it is one copy of these bytes, or two walks over this older form.
+enum Bound<'a> {
+    Copy(&'a [u8]),
+    Walks(&'a [u8]),
+}
+/// Ours may take so much of its bound's time, in two digits as printed.
+const SLACK: f64 = 1.10;
+/// A row under 1.0 beside loops with the same bound: ours and the bound by turns, nanoseconds, and what else was measured.
+struct Held {
+    ours: f64,
+    bound: f64,
+    loops: String,
+}
+
+/// One row: what was called with, the column it stands in, and nanoseconds a call. Rows below masks have a table of their own.
+struct Row {
+    call: &'static str,
+    below: bool,
+    kind: String,
+    what: String,
+    column: String,
+    rust: f64,
+    ours: f64,
+    held: Option<Held>,
+}
+impl Row {
+    fn ratio(&self) -> f64 {
+        self.rust / self.ours
+    }
+    /// Whether its bound keeps it under 1.0.
+    fn at_bound(&self) -> bool {
+        self.held.as_ref().is_some_and(|held| (100.0 * held.ours / held.bound).round() <= 100.0 * SLACK)
+    }
+}
+
+struct Bench {
+    archive: Archive,
+    rounds: u32,
+    rows: Vec<Row>,
+}
+
+fn keep<T>(result: T) {
+    drop(black_box(result));
+}
+
+impl Bench {
+    fn ours<'a>(&self, call: Call<'a>) -> Timed<'a> {
+        let (a, mut l) = (self.archive, Lent::new());
+        match call {
+            Encode(i) => timed(move || ours(&a, Encode(i), &mut l)),
+            Decode(i, s) => timed(move || ours(&a, Decode(i, s), &mut l)),
+            Interleaved(cells, s) => timed(move || ours(&a, Interleaved(cells, s), &mut l)),
+            Extract(i, q) => timed(move || ours(&a, Extract(i, q), &mut l)),
+            Merge(i) => timed(move || ours(&a, Merge(i), &mut l)),
+            Partial(i, q, s) => timed(move || ours(&a, Partial(i, q, s), &mut l)),
+            Reverse(size, length) => timed(move || ours(&a, Reverse(size, length), &mut l)),
+            Cells(shape, q) => timed(move || ours(&a, Cells(shape, q), &mut l)),
+            Memcpy(s) => timed(move || ours(&a, Memcpy(s), &mut l)),
+        }
+    }
+
+    /// Ours and another, by turns. Where a buffer lies can cost more than the call: while ours takes more than `limit` of the other's time,
+    /// it is tried again with outputs elsewhere, up to three times, and the best of each counts.
+    fn turns(&self, call: Call, mut other: Timed, limit: f64) -> [f64; 2] {
+        let mut elsewhere = vec![];
+        let mut times = [f64::MAX; 2];
+        while elsewhere.is_empty() || times[0] > limit * times[1] && elsewhere.len() < 4 {
+            let now = best(&mut [self.ours(call), Box::new(&mut other)], self.rounds);
+            times = [times[0].min(now[0]), times[1].min(now[1])];
+            elsewhere.push(Lent::new());
+        }
+        times
+    }
+
+    /// Both sides give the same, then the clock.
+    fn row(&mut self, name: [String; 3], call: Call, rust: Timed, same: (Vec<u8>, Vec<u8>, Vec<u64>)) {
+        let mut lent = Lent::new();
+        if let Reverse(_, length) = call {
+            lent.values[..length].copy_from_slice(&Rng(3).bytes(length));
+        }
+        ours(&self.archive, call, &mut lent);
+        let (m, v, o) = (&lent.masks[..same.0.len()], &lent.values[..same.1.len()], &lent.offsets[..same.2.len()]);
+        let [kind, what, column] = name;
+        let call_name = call.name();
+        assert!((m, v, o) == (&same.0[..], &same.1[..], &same.2[..]), "not the same: {call_name} {kind} {what} {column}");
+        let [ours, rust] = self.turns(call, rust, 1.0);
+        let below = matches!(call, Encode(i) | Decode(i, _) if i.kind[0] > 0);
+        let bound = match call {
+            Encode(i) | Decode(i, _) if i.kind[..2] == [0, 0] && (i.kind[2] == 1 || i.kind[3] == 0) => {
+                Some(Bound::Copy(&i.values))
+            }
+            Interleaved(_, stored) if what == Values::Long.name() => Some(Bound::Walks(stored)),
+            _ => None,
+        };
+        let held = bound.filter(|_| ours > rust).map(|bound| self.held(call, bound));
+        self.rows.push(Row { call: call_name, below, kind, what, column, rust, ours, held });
+    }
+
+    fn held(&self, call: Call, bound: Bound) -> Held {
+        match bound {
+            Bound::Copy(from) => {
+                let side = |copy: fn(&mut [u8], &[u8])| {
+                    let mut to = Lent::new().values;
+                    timed(move || {
+                        copy(&mut to[..from.len()], black_box(from));
+                        black_box(&mut to);
+                    })
+                };
+                let [ours, bound] = self.turns(call, side(bounds::copy_16), SLACK);
+                let others = best(&mut [side(|to, from| to.copy_from_slice(from)), side(bounds::copy_32)], self.rounds);
+                let [memcpy, wide, narrow] = [others[0], others[1], bound].map(nanoseconds);
+                let length = from.len();
+                let loops = format!("a copy of {length} bytes: memcpy {memcpy}, stores of 32 bytes {wide}, of 16 bytes {narrow}");
+                Held { ours, bound, loops }
+            }
+            Bound::Walks(stored) => {
+                let side = |walk: fn(&[u8], &mut [u8], &mut [u64]) -> usize| {
+                    let mut lent = Lent::new();
+                    timed(move || {
+                        walk(black_box(stored), &mut lent.values, &mut lent.offsets);
+                        black_box(&mut lent);
+                    })
+                };
+                let [ours, bound] = self.turns(call, side(bounds::two_walks), SLACK);
+                let one = best(&mut [side(bounds::one_walk), side(bounds::two_walks)], self.rounds)[0];
+                let cells = u32::from_le_bytes(stored[..4].try_into().unwrap());
+                let (a, mut l) = (self.archive, Lent::new());
+                let checks = timed(move || {
+                    let (v, o, ol, n) = (l.values.as_mut_ptr(), l.offsets.as_mut_ptr(), l.offsets.len(), l.lengths.as_mut_ptr());
+                    let answer = unsafe { (a.decode_interleaved)(cells.into(), stored.as_ptr(), stored.len(), v, 0, o, ol, n) };
+                    assert_eq!(answer, 6);
+                });
+                let checks = best(&mut [checks], self.rounds)[0];
+                let [one, two, checks] = [one, bound, checks].map(nanoseconds);
+                let loops = format!("one walk {one}, all lengths before the first store {two}, our checks alone {checks}");
+                Held { ours, bound, loops }
+            }
+        }
+    }
+
+    fn encode_and_decode(&mut self, i: &Input, what: &str) {
+        let k = door::kind(four(&i.kind));
+        let shape = door::sides(&i.shape);
+        let fill = FillValue::new(vec![]);
+        let stored = door::encode(four(&i.kind), &i.shape, &i.masks, &i.values, &i.offsets).unwrap();
+        let name = || [kind_name(&i.kind), what.to_string(), format!("d{} {}", i.kind[0], cells_of(&i.shape))];
+        let mut reused = vec![0; stored.len()];
+        let rust = timed(|| {
+            let array = door::array(k.ragged, k.depth, &i.masks, &i.values, &i.offsets);
+            let bytes = k.chain.encode(black_box(array), &shape, &k.data_type, &fill, &CodecOptions).unwrap();
+            if let Cow::Borrowed(bytes) = bytes {
+                reused.copy_from_slice(bytes);
+                black_box(&mut reused);
+            }
+            keep(bytes);
+        });
+        self.row(name(), Encode(i), rust, (vec![], stored.clone(), vec![]));
+        let back = door::decode(four(&i.kind), &i.shape, &stored).unwrap();
+        let mut reused = vec![0; i.values.len()];
+        let rust = timed(|| {
+            let bytes = Cow::Borrowed(black_box(&stored[..]));
+            let array = k.chain.decode(bytes, &shape, &k.data_type, &fill, &CodecOptions).unwrap();
+            if let ArrayBytes::Fixed(Cow::Borrowed(values)) = &array {
+                reused.copy_from_slice(values);
+                black_box(&mut reused);
+            }
+            keep(array);
+        });
+        self.row(name(), Decode(i, &stored), rust, back);
+    }
+
+    fn interleaved(&mut self, cells: usize, values: Values) {
+        let stored = interleaved(cells, values);
+        let same = door::decode_interleaved(cells as u64, &stored).unwrap();
+        let bytes = Cow::Borrowed(&stored[..]);
+        let rust = timed(|| keep(door::interleaved(cells, black_box(&bytes))));
+        let name = [String::new(), values.name().to_string(), cells.to_string()];
+        self.row(name, Interleaved(cells as u64, &stored), rust, same);
+    }
+
+    fn extract(&mut self, i: &Input, numbers: &[u64], what: &str, column: &str) {
+        let same = door::extract(&i.shape, numbers, &i.values, &i.offsets).unwrap();
+        let (subset, shape) = (door::subset(numbers), door::sides(&i.shape));
+        let rust = timed(|| keep(door::extracted(black_box(&i.values), &i.offsets, &subset, &shape)));
+        let name = [kind_name(&i.kind), what.to_string(), column.to_string()];
+        self.row(name, Extract(i, numbers), rust, same);
+    }
+
+    fn partial_decode(&mut self, i: &Input, numbers: &[u64], what: &str, column: &str) {
+        let stored = door::encode(four(&i.kind), &i.shape, &[], &i.values, &i.offsets).unwrap();
+        let same = door::partial_decode(i.kind[2], i.kind[3], &i.shape, numbers, &stored).unwrap();
+        let decoder = door::partial_decoder(i.kind[2], i.kind[3], &i.shape, &stored);
+        let subset = door::subset(numbers);
+        let rust = timed(|| keep(decoder.partial_decode(black_box(&subset), &CodecOptions).unwrap()));
+        let name = [kind_name(&i.kind), what.to_string(), column.to_string()];
+        self.row(name, Partial(i, numbers, &stored), rust, same);
+    }
+
+    fn merge(&mut self, i: &Input, what: &str) {
+        let (depth, subsets) = (i.kind[0] as usize, i.subsets.len() / 4);
+        let same = door::merge(i.kind[0], &i.shape, &i.subsets, &i.masks, &i.values, &i.offsets).unwrap();
+        let list = || door::list(depth, door::chunks(depth, 2, &i.subsets, &i.masks, &i.values, &i.offsets));
+        let rust: Timed = Box::new(|times| {
+            // the merge takes the lists away, so they are built first
+            let lists: Vec<door::List> = (0..times).map(|_| list()).collect();
+            let clock = Instant::now();
+            for list in lists {
+                keep(door::merged(depth, &i.shape, black_box(list)).unwrap());
+            }
+            clock.elapsed()
+        });
+        let kind = format!("d{depth} {}", kind_name(&i.kind));
+        let name = [kind, what.to_string(), format!("{} in {subsets}", cells_of(&i.shape))];
+        self.row(name, Merge(i), rust, same);
+    }
+
+    fn reverse(&mut self, size: u64, length: usize, column: String) {
+        let same = door::reverse_endianness(size, &Rng(3).bytes(length)).unwrap();
+        let mut bytes = vec![0; length];
+        let rust = timed(|| {
+            door::reverse(size, black_box(&mut bytes));
+        });
+        let name = [format!("size {size}"), String::new(), column];
+        self.row(name, Reverse(size, length), rust, (vec![], same, vec![]));
+    }
+
+    // ---------------------------------------------------------------- ours alone
+
+    fn to_memcpy(&mut self, name: &str, call: Call, bytes: &[u8]) -> f64 {
+        let times = best(&mut [self.ours(call), self.ours(Memcpy(bytes))], self.rounds);
+        let ratio = times[1] / times[0];
+        println!("| {name} | {} | {} | {} | {ratio:.2} |", bytes.len(), nanoseconds(times[1]), nanoseconds(times[0]));
+        ratio
+    }
+
+    fn per(&mut self, call: Call, count: usize) -> f64 {
+        best(&mut [self.ours(call)], self.rounds)[0] / count as f64
+    }
+}
+
+const CELLS: [usize; 4] = [1, 64, 4096, 65_536];
+const SIZES: [u64; 6] = [1, 2, 4, 8, 16, 64];
+
+fn rows(b: &mut Bench) {
+    let fixed_kinds = || SIZES.into_iter().flat_map(|size| [(size, 0), (size, 1)]);
+    let ragged_kinds = [(4, 0), (4, 1), (8, 0), (8, 1)];
+    for (size, order) in fixed_kinds() {
+        for cells in CELLS {
+            b.encode_and_decode(&input(fixed(0, size, order), square(cells), Mask::Full, Values::Short), "");
+        }
+    }
+    for (width, place) in ragged_kinds {
+        for values in VALUES {
+            for cells in CELLS {
+                b.encode_and_decode(&input(ragged(0, width, place), square(cells), Mask::Full, values), values.name());
+            }
+        }
+    }
+    let mut below = |kind: fn(u64, u64, u64) -> [u64; 5], (size, order), mask: Mask, values: Values, what: &str| {
+        for depth in 1..=4 {
+            for cells in CELLS {
+                b.encode_and_decode(&input(kind(depth, size, order), square(cells), mask, values), what);
+            }
+        }
+    };
+    for (size, order) in fixed_kinds() {
+        for mask in MASKS {
+            if mask == Mask::Half || order == 0 && [1, 8, 64].contains(&size) {
+                below(fixed, (size, order), mask, Values::Short, mask.name());
+            }
+        }
+    }
+    for kind in [(4, 1), (8, 0)] {
+        for mask in MASKS {
+            for values in VALUES {
+                if mask == Mask::Half || values == Values::Short {
+                    below(ragged, kind, mask, values, &format!("{}, {}", mask.name(), values.name()));
+                }
+            }
+        }
+    }
+    for cells in CELLS {
+        for values in VALUES {
+            b.interleaved(cells, values);
+        }
+    }
+    for (width, place) in ragged_kinds {
+        for values in VALUES {
+            let arrays = CELLS.map(|cells| input(ragged(0, width, place), square(cells), Mask::Full, values));
+            // what is stored how does not matter to extract
+            for i in &arrays {
+                let (whole, column) = ([0, 0, i.shape[0], i.shape[1]], cells_of(&i.shape).to_string());
+                if (width, place) == (8, 0) {
+                    b.extract(i, &whole, values.name(), &column);
+                }
+                b.partial_decode(i, &whole, values.name(), &column);
+            }
+            for i in &arrays[1..] {
+                let (part, column) = (quarter(&i.shape), format!("quarter of {}", cells_of(&i.shape)));
+                if (width, place) == (8, 0) {
+                    b.extract(i, &part, values.name(), &column);
+                }
+                b.partial_decode(i, &part, values.name(), &column);
+            }
+        }
+    }
+    let mut merge = |depth, mask: Mask, values: Values, lists: &[(usize, usize)]| {
+        for (cells, count) in lists {
+            let masks = if depth > 0 { format!("{}, ", mask.name()) } else { String::new() };
+            b.merge(&chunk_list(depth, *cells, *count, mask, values), &format!("{masks}{}", values.name()));
+        }
+    };
+    const LISTS: [(usize, usize); 7] = [(64, 1), (64, 64), (4096, 1), (4096, 64), (65_536, 1), (65_536, 64), (65_536, 65_536)];
+    for depth in 0..=4 {
+        merge(depth, Mask::Half, Values::Short, &LISTS);
+    }
+    for mask in [Mask::Empty, Mask::Full, Mask::Clustered] {
+        merge(1, mask, Values::Short, &LISTS[4..]);
+    }
+    for depth in [0, 1] {
+        for values in [Values::Long, Values::Empty] {
+            merge(depth, Mask::Half, values, &LISTS[4..]);
+        }
+    }
+    for cells in CELLS {
+        for size in SIZES {
+            b.reverse(size, size as usize * cells, cells.to_string());
+        }
+    }
+    for length in [64, 32_768, 4_194_304] {
+        for size in SIZES {
+            // some are there already
+            if !CELLS.contains(&(length / size as usize)) {
+                b.reverse(size, length, format!("{length} bytes"));
+            }
+        }
+    }
+}
+/// In the middle of two sides.
+fn quarter(shape: &[u64]) -> [u64; 4] {
+    [shape[0] / 4, shape[1] / 4, shape[0] / 2, shape[1] / 2]
+}
+
+/// Large copies beside memcpy; the ratios.
+fn copies(b: &mut Bench) -> [f64; 9] {
+    println!("\nLarge plain copies against memcpy of the same number of value bytes. Ratio: memcpy's time over ours.\n");
+    println!("| call | bytes | memcpy, ns | ours, ns | ratio |\n|---|---|---|---|---|");
+    let plain = input(fixed(0, 64, 0), vec![65_536], Mask::Full, Values::Short);
+    let masked = input(fixed(1, 64, 0), vec![65_536], Mask::Full, Values::Short);
+    let masked_stored = door::encode(four(&masked.kind), &masked.shape, &masked.masks, &masked.values, &[]).unwrap();
+    let mut one = input(ragged(0, 8, 0), vec![1], Mask::Full, Values::Empty);
+    one.values = Rng(1).bytes(16_777_216);
+    one.offsets = vec![0, 16_777_216];
+    let one_stored = door::encode(four(&one.kind), &one.shape, &[], &one.values, &one.offsets).unwrap();
+    let mut listed = input(fixed(0, 64, 0), vec![65_536], Mask::Full, Values::Short);
+    listed.subsets = vec![0, 65_536];
+    [
+        b.to_memcpy("encode d0 F(64, little)", Encode(&plain), &plain.values),
+        b.to_memcpy("decode d0 F(64, little)", Decode(&plain, &plain.values), &plain.values),
+        b.to_memcpy("extract d0 F(64, little), all cells", Extract(&plain, &[0, 65_536]), &plain.values),
+        b.to_memcpy("merge d0 F(64, little), one subset", Merge(&listed), &listed.values),
+        b.to_memcpy("encode d1 F(64, little), full mask", Encode(&masked), &masked.values),
+        b.to_memcpy("decode d1 F(64, little), full mask", Decode(&masked, &masked_stored), &masked.values),
+        b.to_memcpy("encode d0 R(8, start), one cell", Encode(&one), &one.values),
+        b.to_memcpy("decode d0 R(8, start), one cell", Decode(&one, &one_stored), &one.values),
+        b.to_memcpy("partial_decode R(8, start), one cell", Partial(&one, &[0, 1], &one_stored), &one.values),
+    ]
+}
+
+// ---------------------------------------------------------------- how our cost grows
+
+/// Nanoseconds a cell: a line for each call and kind.
+struct Growth {
+    columns: Vec<usize>,
+    lines: Vec<(&'static str, String, Vec<f64>)>,
+}
+impl Growth {
+    fn add(&mut self, call: &'static str, kind: String, cost: f64) {
+        match self.lines.iter_mut().find(|line| (line.0, &line.1) == (call, &kind)) {
+            Some(line) => line.2.push(cost),
+            None => self.lines.push((call, kind, vec![cost])),
+        }
+    }
+    fn print(&self, unit: &str) {
+        let columns: Vec<String> = self.columns.iter().map(usize::to_string).collect();
+        println!("| {unit} | {} |\n|---|{}", columns.join(" | "), "---|".repeat(columns.len()));
+        for (call, kind, costs) in &self.lines {
+            println!("| {call} {kind} | {} |", costs.iter().map(|cost| figure(*cost)).collect::<Vec<_>>().join(" | "));
+        }
+    }
+    /// For each call the greatest step from a column to the next.
+    fn steps(&self, unit: &str) {
+        let mut calls: Vec<&str> = self.lines.iter().map(|line| line.0).collect();
+        calls.dedup();
+        for call in calls {
+            let mut most = (0.0, String::new());
+            for (_, kind, costs) in self.lines.iter().filter(|line| line.0 == call) {
+                for (at, pair) in costs.windows(2).enumerate() {
+                    if pair[1] / pair[0] > most.0 {
+                        let place = format!("from {} to {} {unit}, {kind}", self.columns[at], self.columns[at + 1]);
+                        most = (pair[1] / pair[0], place);
+                    }
+                }
+            }
+            println!("- {call}: at most {:.2} {}", most.0, most.1);
+        }
+    }
+}
+
+fn growth(b: &mut Bench) {
+    let mut g = Growth { columns: vec![1024, 4096, 16_384, 65_536], lines: vec![] };
+    let counts = g.columns.clone();
+    let inputs = |kind| counts.iter().map(move |cells| (input(kind, square(*cells), Mask::Half, Values::Short), *cells));
+    let kinds = |depth| [fixed(depth, 8, 0), ragged(depth, 8, 0)];
+    let named = |kind: &[u64; 5]| format!("d{} {}", kind[0], kind_name(kind));
+    for kind in (0..=4).flat_map(kinds) {
+        for (i, cells) in inputs(kind) {
+            g.add(CALLS[0], named(&kind), b.per(Encode(&i), cells));
+        }
+    }
+    for kind in (0..=4).flat_map(kinds) {
+        for (i, cells) in inputs(kind) {
+            let stored = door::encode(four(&kind), &i.shape, &i.masks, &i.values, &i.offsets).unwrap();
+            g.add(CALLS[1], named(&kind), b.per(Decode(&i, &stored), cells));
+        }
+    }
+    for values in VALUES {
+        for cells in &counts {
+            let stored = interleaved(*cells, values);
+            g.add(CALLS[2], values.name().to_string(), b.per(Interleaved(*cells as u64, &stored), *cells));
+        }
+    }
+    for kind in (0..=4).flat_map(kinds) {
+        for (i, cells) in inputs(kind) {
+            g.add(CALLS[3], named(&kind), b.per(Extract(&i, &quarter(&i.shape)), cells / 4));
+        }
+    }
+    for depth in 0..=4 {
+        for cells in &counts {
+            let i = chunk_list(depth, *cells, cells / 16, Mask::Half, Values::Short);
+            g.add(CALLS[4], named(&i.kind), b.per(Merge(&i), *cells));
+        }
+    }
+    for kind in [ragged(0, 4, 1), ragged(0, 8, 0)] {
+        for (i, cells) in inputs(kind) {
+            let stored = door::encode(four(&kind), &i.shape, &[], &i.values, &i.offsets).unwrap();
+            g.add(CALLS[5], named(&kind), b.per(Partial(&i, &quarter(&i.shape), &stored), cells / 4));
+        }
+    }
+    // of size 1 nothing is done
+    for size in &SIZES[1..] {
+        for cells in &counts {
+            g.add(CALLS[6], format!("size {size}"), b.per(Reverse(*size, *size as usize * cells), *cells));
+        }
+    }
+    for cells in &counts {
+        let shape = square(*cells);
+        g.add("subset_cells", "all".to_string(), b.per(Cells(&shape, &[0, 0, shape[0], shape[1]]), *cells));
+    }
+    println!(
+        "\nHow our cost grows: nanoseconds a cell. Half masks; short values but in decode_interleaved; extract and partial_decode of a quarter"
+    );
+    println!("of the cells, a cell of that quarter; merge of subsets of 16 cells.\n");
+    g.print("cells");
+    println!("\nThe greatest step of a cell's cost from a column to the next, of four times the cells:\n");
+    g.steps("cells");
+
+    println!("\nBy depth, 65536 cells, nanoseconds a cell:\n");
+    println!("| depth | 0 | 1 | 2 | 3 | 4 |\n|---|---|---|---|---|---|");
+    for call in [CALLS[0], CALLS[1], CALLS[3], CALLS[4]] {
+        for kind in kinds(0).iter().map(kind_name) {
+            let deep = g.lines.iter().filter(|line| line.0 == call && line.1.ends_with(&kind));
+            let costs: Vec<String> = deep.map(|line| figure(line.2[3])).collect();
+            if !costs.is_empty() {
+                println!("| {call} {kind} | {} |", costs.join(" | "));
+            }
+        }
+    }
+
+    let mut g = Growth { columns: vec![1, 16, 64, 256, 1024, 4096, 16_384, 65_536], lines: vec![] };
+    for depth in 0..=4 {
+        for count in g.columns.clone() {
+            let i = chunk_list(depth, 65_536, count, Mask::Half, Values::Short);
+            g.add(CALLS[4], named(&i.kind), b.per(Merge(&i), 65_536));
+        }
+    }
+    println!("\nmerge of 65536 cells by subsets, nanoseconds a cell:\n");
+    g.print("subsets");
+    println!("\nThe greatest step, of four times the subsets (first 16):\n");
+    g.steps("subsets");
+}
+
+// ---------------------------------------------------------------- what is printed
+
+fn nanoseconds(n: f64) -> String {
+    if n < 100.0 { format!("{n:.1}") } else { format!("{n:.0}") }
+}
+fn figure(n: f64) -> String {
+    if n < 0.1 {
+        format!("{n:.3}")
+    } else if n < 10.0 {
+        format!("{n:.2}")
+    } else {
+        format!("{n:.1}")
+    }
+}
+fn mean(list: &[f64]) -> f64 {
+    (list.iter().map(|r| r.ln()).sum::<f64>() / list.len() as f64).exp()
+}
+fn least(list: &[f64]) -> f64 {
+    list.iter().copied().fold(f64::MAX, f64::min)
+}
+fn whole(row: &Row) -> String {
+    let Row { call, kind, what, column, rust, ours, .. } = row;
+    format!("| {call} | {kind} | {what} | {column} | {} | {} | {:.2} |", nanoseconds(*rust), nanoseconds(*ours), row.ratio())
+}
+
+/// A table of ratios for each call; for those below masks one more.
+fn ratios(rows: &[Row]) {
+    println!("Ratio: the Rust's time over ours.");
+    for (call, below) in CALLS.into_iter().flat_map(|call| [(call, false), (call, true)]) {
+        let rows: Vec<&Row> = rows.iter().filter(|row| (row.call, row.below) == (call, below)).collect();
+        let mut columns: Vec<&str> = vec![];
+        let mut lines: Vec<(&str, &str)> = vec![];
+        for row in &rows {
+            if !columns.contains(&&row.column[..]) {
+                columns.push(&row.column);
+            }
+            if !lines.contains(&(&row.kind[..], &row.what[..])) {
+                lines.push((&row.kind, &row.what));
+            }
+        }
+        if rows.is_empty() {
+            continue;
+        }
+        let head = match call {
+            "encode" | "decode" => "by depth and cells",
+            "extract" => {
+                "by cells (the Rust has a body for ragged values of depth 0 only: fixed kinds and masks have no counterpart)"
+            }
+            "merge" => "by cells and subsets (the Rust has a body for ragged values only: fixed kinds have no counterpart)",
+            "reverse_endianness" => "by cells, and by bytes where no column of cells has as many",
+            _ => "by cells",
+        };
+        println!("\n`{call}`{}, {head}:\n", if below { " below masks" } else { "" });
+        println!("| kind | with | {} |\n|---|---|{}", columns.join(" | "), "---|".repeat(columns.len()));
+        for (kind, what) in lines {
+            let cells = columns.iter().map(|column| {
+                let row = rows.iter().find(|row| (&row.kind[..], &row.what[..], &row.column[..]) == (kind, what, *column));
+                row.map_or(String::new(), |row| figure(row.ratio()))
+            });
+            println!("| {kind} | {what} | {} |", cells.collect::<Vec<_>>().join(" | "));
+        }
+    }
+}
+
+fn main() {
+    let args: Vec<String> = std::env::args().skip(1).collect();
+    let archive = Archive::load(&args[0]).unwrap();
+    let rounds = args.get(1).map_or(25, |n| n.parse().unwrap());
+    let mut b = Bench { archive, rounds, rows: vec![] };
+    rows(&mut b);
+    ratios(&b.rows);
+    let copies = copies(&mut b);
+    growth(&mut b);
+
+    let all: Vec<f64> = b.rows.iter().map(Row::ratio).collect();
+    println!("\nBy call:\n\n| call | rows | geometric mean | least | rows under 1.0 |\n|---|---|---|---|---|");
+    for call in CALLS {
+        let list: Vec<f64> = b.rows.iter().filter(|row| row.call == call).map(Row::ratio).collect();
+        let under = list.iter().filter(|r| **r < 1.0).count();
+        println!("| {call} | {} | {:.2} | {:.2} | {under} |", list.len(), mean(&list), least(&list));
+    }
+    let under: Vec<&Row> = b.rows.iter().filter(|row| row.ratio() < 1.0).collect();
+    if !under.is_empty() {
+        println!("\nRows under 1.0:\n\n| call | kind | with | at | Rust, ns | ours, ns | ratio |\n|---|---|---|---|---|---|---|");
+        under.iter().for_each(|row| println!("{}", whole(row)));
+        println!(
+            "\nThose that have a bound, ours and the bound's loop by turns, beside other loops (BENCHMARKS.md), nanoseconds:\n"
+        );
+        println!("| row | ours | loops | ours over the bound |\n|---|---|---|---|");
+        for row in &under {
+            if let Some(Held { ours, bound, loops }) = &row.held {
+                let Row { call, kind, what, column, .. } = row;
+                let name = [call, &kind[..], &what[..], &column[..]].into_iter().filter(|s| !s.is_empty()).collect::<Vec<_>>();
+                println!("| {} | {} | {loops} | {:.2} |", name.join(" "), nanoseconds(*ours), ours / bound);
+            }
+        }
+    }
+    let beyond = under.iter().filter(|row| !row.at_bound()).count();
+    let said = |met: bool| if met { "met" } else { "not met" };
+    println!("\n{} rows, geometric mean {:.2}, best of {rounds} rounds", all.len(), mean(&all));
+    println!(
+        "no row under 1.0 but where ours takes at most {SLACK:.2} of its bound's own time: {} ({} under, {beyond} of them not so)",
+        said(beyond == 0),
+        under.len()
+    );
+    println!("geometric mean 2.0 or more: {}", said(mean(&all) >= 2.0));
+    println!("large plain copies at 0.7 of memcpy or more: {} (least {:.2})", said(least(&copies) >= 0.7), least(&copies));
+    if let Some(file) = args.get(2) {
+        let lines: Vec<String> = b.rows.iter().map(whole).collect();
+        std::fs::write(file, lines.join("\n") + "\n").unwrap();
+    }
+}
