@@ -136,6 +136,12 @@ pub fn put_mask(out: &mut [u8], to: usize, masks: &[u8], cells: usize, level: us
     if count == cells {
         mask::put_plane(out, to, masks, level * cells, cells);
     } else {
-        put_live_mask(out, to, masks, cells, level, count);
+        // a level that is a constant has a loop of its own
+        match level {
+            1 => put_live_mask(out, to, masks, cells, 1, count),
+            2 => put_live_mask(out, to, masks, cells, 2, count),
+            3 => put_live_mask(out, to, masks, cells, 3, count),
+            _ => put_live_mask(out, to, masks, cells, level, count),
+        }
     }
 }
