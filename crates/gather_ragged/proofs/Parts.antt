@@ -8,22 +8,19 @@ use native.Mathlib.Omega.{arith}
 use mathlib.Core.List.{List, _∷_, map}
 use lib.ListN.{length, take, drop, length-append}
 use lib.Seq.{take-all}
-use Rattle.array.specs.Lists.{from, All}
 use Rattle.array.specs.Buffers.{over, overAt}
 use Rattle.array.specs.Bytes.{le}
 use Rattle.array.specs.Kind.{Place, ragged}
 use Rattle.array.specs.Offsets.{last, offsetsOf}
 use Rattle.array.proofs.Bytes.{length-le}
-use Rattle.array.proofs.Geometry.{All-from}
 use Rattle.stored.specs.Index.{dataAt, indexAt, lengthAt}
 use Rattle.codec.specs.Ragged.{put, indexOf, putRagged}
 use Rattle.codec.specs.Values.{putValues}
 use Rattle.codec.proofs.Ragged.{length-put, length-index}
 use Rattle.codec.proofs.Values.{ragged-length}
-use Rattle.gather.specs.Live.{liveTest, liveAt}
+use Rattle.gather.specs.Live.{liveAt}
 use Rattle.gather_ragged.specs.Slices.{Offsets, sliceAt, slicesAt, spansOf, endsAt, lessBy}
-use Rattle.gather.proofs.Runs.{All-passing}
-use Rattle.gather_ragged.proofs.Spans.{Within, within-at, length-slices, ends-slices, length-endsAt}
+use Rattle.gather_ragged.proofs.Spans.{live-within, slices-long, ends-slices, length-endsAt}
 use Rattle.gather_ragged.proofs.Indexing.{less-none}
 use Rattle.gather.proofs.Placing.{at-behind}
 use Rattle.gather_ragged.proofs.Placed.{ragged-laid}
@@ -43,14 +40,11 @@ module _ (w : ℕ) (p : Place) (masks : List ℕ) (l : ℕ) {n : ℕ} {os : List
   abbrev cells : List ℕ
   cells = liveAt n masks l
 
-  all-within : All (Within os s) cells
-  all-within = All-passing (liveTest n masks l) (Within os s) (from 0 n) (All-from (Within os s) 0 n (λ i h k. within-at os s o ended i (omega arith)))
-
-  pub data-long : length (slicesAt os s (liveAt n masks l)) ≡ spansOf os (liveAt n masks l)
-  data-long = length-slices os s cells all-within
+  data-long : length (slicesAt os s (liveAt n masks l)) ≡ spansOf os (liveAt n masks l)
+  data-long = slices-long masks l o s ended
 
   offsets-are : offsetsOf (map (sliceAt os s) cells) ≡ 0 ∷ endsAt os 0 cells
-  offsets-are = ap (λ (r : List ℕ). 0 ∷ r) (ends-slices os s 0 cells all-within)
+  offsets-are = ap (λ (r : List ℕ). 0 ∷ r) (ends-slices os s 0 cells (live-within masks l o s ended))
 
   index-count : length (indexOf w (0 ∷ endsAt os 0 cells)) ≡ w * (length cells + 1)
   index-count = length-index w (0 ∷ endsAt os 0 cells) ∙ ap (λ (m : ℕ). w * suc m) (length-endsAt os 0 cells) ∙ ap (λ (m : ℕ). w * m) (sym (add-one (length cells)))

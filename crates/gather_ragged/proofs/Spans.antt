@@ -9,8 +9,11 @@ use lib.ListN.{length, take, drop, getD, length-append, length-drop}
 use lib.Seq.{drop-drop, take-add, length-take-le}
 use Rattle.array.specs.Lists.{from, joined, All}
 use Rattle.array.specs.Offsets.{last, Rising, ends}
+use Rattle.array.proofs.Geometry.{All-from}
 use Rattle.valid.proofs.CheckLaws.{last-at}
-use Rattle.gather_ragged.specs.Slices.{Offsets, spanAt, sliceAt, spansOf, endsAt}
+use Rattle.gather.specs.Live.{liveTest, liveAt}
+use Rattle.gather.proofs.Runs.{All-passing}
+use Rattle.gather_ragged.specs.Slices.{Offsets, spanAt, sliceAt, slicesAt, spansOf, endsAt}
 
 -- ---- offsets that never fall
 
@@ -75,3 +78,11 @@ module _ (os s : List ℕ) where
   ends-slices a (i ∷ is) q =
       let e : a + length (sliceAt os s i) ≡ a + spanAt os i = omega (arith, q .0) in
       ap₂ (λ (x : ℕ) (r : List ℕ). x ∷ r) e (ap (λ (b : ℕ). ends b (map (sliceAt os s) is)) e ∙ ends-slices (a + spanAt os i) is (q .1))
+
+-- ---- the cells that a level counts
+
+pub live-within : {n : ℕ} {os : List ℕ} (masks : List ℕ) (l : ℕ) → Offsets n os → (s : List ℕ) → last os ≡ length s → All (Within os s) (liveAt n masks l)
+live-within {n} {os} masks l o s e = All-passing (liveTest n masks l) (Within os s) (from 0 n) (All-from (Within os s) 0 n (λ i h k. within-at os s o e i (omega arith)))
+
+pub slices-long : {n : ℕ} {os : List ℕ} (masks : List ℕ) (l : ℕ) → Offsets n os → (s : List ℕ) → last os ≡ length s → length (slicesAt os s (liveAt n masks l)) ≡ spansOf os (liveAt n masks l)
+slices-long {n} {os} masks l o s e = length-slices os s (liveAt n masks l) (live-within masks l o s e)

@@ -2,15 +2,24 @@
 use buffer::copy;
 use gather::live;
 ghost use mathlib.Core.Path.{_≡_};
-ghost use Prim.Native.Nat.{_+_, _≤_};
-ghost use lib.ListN.{length};
+ghost use Prim.Native.Nat.{_+_, _<_, _≤_};
+ghost use lib.Dec.{eqb};
+ghost use lib.ListN.{length, getD};
 ghost use Rattle.array.specs.Buffers.{overAt};
 ghost use Rattle.array.specs.Offsets.{last};
 ghost use Rattle.gather.specs.Live.{liveAt, Planes};
 ghost use Rattle.gather_ragged.specs.Slices.{slicesAt, spansOf, Offsets};
 
+// Whether no cell has a byte.
+fn none_has_bytes(offsets: &[u64], cells: usize) -> bool
+    requires { ⌜ cells < length (now offsets) ⌝ }
+    ensures { λ r. ⌜ r ≡ eqb (getD (now (offsets .entry)) 0 0) (getD (now (offsets .entry)) cells 0) ⌝ }
+{
+    offsets[0] == offsets[cells]
+}
+
 // Value bytes of the cells that the level counts: each length by its mark, so that nothing branches on a mask.
-pub fn live_bytes(offsets: &[u64], masks: &[u8], cells: usize, level: usize) -> usize
+fn sum_live_bytes(offsets: &[u64], masks: &[u8], cells: usize, level: usize) -> usize
     requires { ⌜ Planes cells (now masks) level × Offsets cells (now offsets) ⌝ }
     ensures { λ r. ⌜ r ≡ spansOf (now (offsets .entry)) (liveAt cells (now (masks .entry)) level) ⌝ }
 {
@@ -24,6 +33,17 @@ pub fn live_bytes(offsets: &[u64], masks: &[u8], cells: usize, level: usize) -> 
         i += 1;
     }
     total
+}
+
+// The same, without a walk where there is nothing to sum up.
+pub fn live_bytes(offsets: &[u64], masks: &[u8], cells: usize, level: usize) -> usize
+    requires { ⌜ Planes cells (now masks) level × Offsets cells (now offsets) ⌝ }
+    ensures { λ r. ⌜ r ≡ spansOf (now (offsets .entry)) (liveAt cells (now (masks .entry)) level) ⌝ }
+{
+    if none_has_bytes(offsets, cells) {
+        return 0;
+    }
+    sum_live_bytes(offsets, masks, cells, level)
 }
 
 // The values of the cells that the level counts, end to end; says how many bytes it wrote. Neighbours go as one run.
@@ -60,7 +80,7 @@ fn put_live_runs(
 }
 
 // The same by level: where the level is a constant, the walk is compiled for it and does not ask for it at each cell.
-pub fn put_live_data(
+fn put_level_runs(
     out: &mut [u8],
     to: usize,
     values: &[u8],
@@ -82,4 +102,26 @@ pub fn put_live_data(
         4 => put_live_runs(out, to, values, offsets, masks, cells, 4),
         _ => put_live_runs(out, to, values, offsets, masks, cells, level),
     }
+}
+
+// The same, without a walk where there is nothing to write.
+pub fn put_live_data(
+    out: &mut [u8],
+    to: usize,
+    values: &[u8],
+    offsets: &[u64],
+    masks: &[u8],
+    cells: usize,
+    level: usize,
+) -> usize
+    requires { ⌜ Planes cells (now masks) level
+        × Offsets cells (now offsets) × (last (now offsets) ≡ length (now values))
+        × (to + length (slicesAt (now offsets) (now values) (liveAt cells (now masks) level)) ≤ length (now out)) ⌝ }
+    ensures wrote { λ r. ⌜ r ≡ length (slicesAt (now (offsets .entry)) (now (values .entry)) (liveAt cells (now (masks .entry)) level)) ⌝ }
+    ensures bytes { λ _. ⌜ now (out .exit) ≡ overAt to (slicesAt (now (offsets .entry)) (now (values .entry)) (liveAt cells (now (masks .entry)) level)) (now (out .entry)) ⌝ }
+{
+    if none_has_bytes(offsets, cells) {
+        return 0;
+    }
+    put_level_runs(out, to, values, offsets, masks, cells, level)
 }

@@ -10,8 +10,9 @@ use Rattle.array.specs.Meaning.{widthOf, placeOf}
 use Rattle.gather.specs.Live.{liveAt}
 use Rattle.gather.proofs.Runs.{live-le}
 use Rattle.gather_ragged.specs.Slices.{slicesAt, spansOf}
+use Rattle.gather_ragged.proofs.Spans.{slices-long}
 use Rattle.gather_ragged.proofs.Placed.{data-room, index-room, length-room}
-use Rattle.gather_ragged.proofs.Parts.{data-long, index-long, ragged-long, ragged-put}
+use Rattle.gather_ragged.proofs.Parts.{index-long, ragged-long, ragged-put}
 use Rattle.gather_ragged.proofs.put_ragged.Statement.{statement}
 use Rattle.gather_ragged.proofs.put_ragged.Tie as tie
 
@@ -19,7 +20,7 @@ fits : (c : tie.After-width-bytes) → c .before .before .before .before .before
 fits c = let a = c .before .before .before .before .before .args in omega (arith, c .before .before .before .before .before .pre .4, ragged-long (widthOf (a .width)) (placeOf (a .place)) (a .masks .now) (a .level) (c .before .before .before .before .before .pre .2) (a .values .now) (c .before .before .before .before .before .pre .3) (c .before .before .before .before .before .pre .1) (c .width-bytes .ensures) refl)
 
 wrote : (c : tie.After-put-live-data) → c .put-live-data .result ≡ spansOf (c .before .before .before .before .before .before .before .before .args .offsets .now) (liveAt (c .before .before .before .before .before .before .before .before .args .cells) (c .before .before .before .before .before .before .before .before .args .masks .now) (c .before .before .before .before .before .before .before .before .args .level))
-wrote c = let a = c .before .before .before .before .before .before .before .before .args in _∙_ {b = length (slicesAt (a .offsets .now) (a .values .now) (liveAt (a .cells) (a .masks .now) (a .level)))} (c .put-live-data .ensures .0) (data-long (widthOf (a .width)) (placeOf (a .place)) (a .masks .now) (a .level) (c .before .before .before .before .before .before .before .before .pre .2) (a .values .now) (c .before .before .before .before .before .before .before .before .pre .3))
+wrote c = let a = c .before .before .before .before .before .before .before .before .args in _∙_ {b = length (slicesAt (a .offsets .now) (a .values .now) (liveAt (a .cells) (a .masks .now) (a .level)))} (c .put-live-data .ensures .0) (slices-long (a .masks .now) (a .level) (c .before .before .before .before .before .before .before .before .pre .2) (a .values .now) (c .before .before .before .before .before .before .before .before .pre .3))
 
 room : (c : tie.After-put-live-data) → c .before .before .before .before .before .before .before .before .args .at + (8 + c .before .before .before .width-bytes .result * (c .before .before .before .before .before .before .before .before .args .count + 1) + c .put-live-data .result) ≤ length (c .before .before .before .before .before .before .before .before .args .out .now)
 room c = omega (arith, fits (c .before .before .before), wrote c)
@@ -49,7 +50,7 @@ put-live-data-requires c κs =
       c .before .before .before .before .before .before .before .pre .0,
       c .before .before .before .before .before .before .before .pre .2,
       c .before .before .before .before .before .before .before .pre .3,
-      omega (arith, data-fits (c .before), data-long (widthOf (a .width)) (placeOf (a .place)) (a .masks .now) (a .level) (c .before .before .before .before .before .before .before .pre .2) (a .values .now) (c .before .before .before .before .before .before .before .pre .3)),
+      omega (arith, data-fits (c .before), slices-long (a .masks .now) (a .level) (c .before .before .before .before .before .before .before .pre .2) (a .values .now) (c .before .before .before .before .before .before .before .pre .3)),
     )
 
 add-stored : tie.Need-add-stored
