@@ -1,21 +1,6 @@
 //! What both sides are called with.
 
-pub struct Rng(pub u64);
-impl Rng {
-    pub fn next(&mut self) -> u64 {
-        self.0 = self.0.wrapping_add(0x9E37_79B9_7F4A_7C15);
-        let mut z = self.0;
-        z = (z ^ (z >> 30)).wrapping_mul(0xBF58_476D_1CE4_E5B9);
-        z = (z ^ (z >> 27)).wrapping_mul(0x94D0_49BB_1331_11EB);
-        z ^ (z >> 31)
-    }
-    pub fn below(&mut self, n: u64) -> u64 {
-        self.next() % n
-    }
-    pub fn bytes(&mut self, n: usize) -> Vec<u8> {
-        (0..n).map(|_| self.next() as u8).collect()
-    }
-}
+use crate::rng::Rng;
 
 #[derive(Clone, Copy, PartialEq)]
 pub enum Mask {
@@ -39,7 +24,7 @@ impl Mask {
                 let mut set = 1;
                 while mask.len() < cells {
                     // few cells have smaller clusters
-                    let length = (16 + rng.below(96) as usize).min(cells.div_ceil(4));
+                    let length = (16 + rng.below(96)).min(cells.div_ceil(4));
                     mask.extend(vec![set; length]);
                     set ^= 1;
                 }
@@ -64,7 +49,7 @@ impl Values {
     }
     pub fn length(self, rng: &mut Rng) -> u64 {
         match self {
-            Values::Short => rng.below(9),
+            Values::Short => rng.below(9) as u64,
             Values::Long => 200,
             Values::Empty => 0,
         }

@@ -13,9 +13,13 @@
 mod archive;
 mod bounds;
 mod inputs;
+#[path = "../oracle/driver/rng.rs"]
+#[allow(dead_code)]
+mod rng;
 
 use archive::{Archive, c_kind};
 use inputs::*;
+use rng::Rng;
 use standin_release::{ArrayBytes, CodecOptions, FillValue, door};
 use std::borrow::Cow;
 use std::hint::black_box;

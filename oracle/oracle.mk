@@ -65,7 +65,7 @@ vectors:
 	@mv $(O)/vectors.txt oracle/data/vectors.txt
 	@wc -lc oracle/data/vectors.txt
 
-$(O)/bench: $(wildcard bench/*.rs) oracle/driver/archive.rs $(O)/.rust
+$(O)/bench: $(wildcard bench/*.rs) oracle/driver/archive.rs oracle/driver/rng.rs $(O)/.rust
 	@$(RUSTC) -C opt-level=3 -L $(O) --extern standin_release=$(O)/libstandin_release.rlib -o $@ bench/main.rs
 
 # ROUNDS  of which the best counts. Every row with its times goes to build/oracle/bench.txt.

@@ -14,12 +14,14 @@ mod guarded;
 mod lines;
 mod record;
 mod request;
+mod rng;
 mod rust;
 
 use archive::Archive;
-use cases::{Rng, Sink};
+use cases::Sink;
 use guarded::Guarded;
 use request::{CALLS, Outcome, REFUSALS, Request};
+use rng::Rng;
 use rust::{BUILDS, Body, body};
 use std::sync::atomic::{AtomicU64, Ordering};
 use std::time::Instant;

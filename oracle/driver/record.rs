@@ -1,6 +1,7 @@
 //! Recorded answers: a sample of the Rust's answers in document 01's domain, for a replay with no Rust at hand.
 
-use crate::cases::{self, Rng, Sink};
+use crate::cases::{self, Sink};
+use crate::rng::Rng;
 use crate::lines;
 use crate::request::{Outcome, Request, Request::*};
 use crate::rust::{BUILDS, Body, body};
