@@ -214,7 +214,7 @@ impl Bench {
         }
     }
 
-    /// Ours and another, by turns. Where a buffer lies, or a neighbour on the same core, can cost more than the call: while ours takes more than
+    /// Ours and another, by turns. Where a buffer lies, or what else the machine does, can cost more than the call: while ours takes more than
     /// `limit` of the other's time, both are tried again a little later, ours with outputs elsewhere, up to eleven times, and the best of each counts.
     fn turns(&self, call: Call, mut other: Timed, limit: f64) -> [f64; 2] {
         let mut elsewhere = vec![];
