@@ -1,7 +1,7 @@
 /*
  * Durpaxeta: tables of optional and variable-length cells in one checked byte layout.
  *
- * Link with libdurpaxeta.a (x86-64). Nothing else is needed.
+ * Link with libdurpaxeta.a (x86-64). Nothing else is needed but memmove and memset, as of any C library.
  *
  * A TABLE is a kind, a shape and its content.
  *

@@ -6,7 +6,7 @@ use Prim.Native.Nat.{ℕ, suc, _+_, _-_, _≤_, _<_}
 use native.Mathlib.Omega.{arith}
 use native.Mathlib.Nat.{sub-zero, add-zero}
 use lib.ListN.{length, take, drop, getD, set, replicate, length-drop, length-replicate}
-use lib.Seq.{drop-cons, length-take-le}
+use lib.Seq.{drop-cons, take-at, length-take-le}
 use Rattle.array.specs.Buffers.{overAt}
 use Rattle.array.proofs.Laying.{Laying, laying-begins, laying-same, laying-ends, laying-store, laying-is, laying-room}
 
@@ -51,6 +51,14 @@ module _ {d : List ℕ} {to : ℕ} {s : List ℕ} {at k : ℕ} {out : List ℕ} 
     within = omega arith;
     laid = laying-store (take k (drop at s)) d to out i _ _ (laying-is (c .laid) (copy-next s at k i (c .source) h));
   }
+
+-- ---- what goes to an array and from there on is what goes straight
+
+module _ (to : ℕ) (s : List ℕ) (at k : ℕ) (d : List ℕ) where
+  pub through : (b : List ℕ) {between out : List ℕ} → at + k ≤ length s → between ≡ overAt 0 (take k (drop at s)) b → out ≡ overAt to (take k (drop 0 between)) d → out ≡ overAt to (take k (drop at s)) d
+  through b h first second =
+      let g = take k (drop at s) in
+      second ∙ ap (λ (w : List ℕ). overAt to w d) (ap (take k) first ∙ take-at g (drop (length g) b) k (length-take-le k (drop at s) (omega (arith, length-drop at s))))
 
 -- ---- i of k places from `to` on hold b
 

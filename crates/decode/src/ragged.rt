@@ -4,7 +4,7 @@ use array::kind::IndexPlace;
 use array::kind::IndexWidth;
 use array::kind::width_bytes;
 use array::refusal;
-use buffer::copy::copy_bytes;
+use buffer::copy::copy_many;
 use planes::place_planes;
 use spread::offsets::copy_offsets;
 use spread::offsets::spread_offsets;
@@ -57,7 +57,7 @@ pub fn write_flat(
         return WrittenArray::Refused(refusal::OUTPUT);
     }
     copy_offsets(offsets, s, index, n, width);
-    copy_bytes(values, 0, s, from, bytes);
+    copy_many(values, 0, s, from, bytes);
     WrittenArray::Lengths(0, bytes, count)
 }
 
@@ -96,7 +96,7 @@ pub fn write_nested(
     place_planes(masks, n, depth, s);
     spread_offsets(offsets, masks, planes - n, n, s, ends, width, first, cells);
     let start = from + first as usize;
-    copy_bytes(values, 0, s, start, bytes);
+    copy_many(values, 0, s, start, bytes);
     WrittenArray::Lengths(planes, bytes, count)
 }
 

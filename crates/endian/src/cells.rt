@@ -31,7 +31,7 @@ pub fn copy_cells(
     ensures { λ _. ⌜ now («out» .exit) ≡ overAt to (joined (map (ordered (orderOf order)) (pieces size cells (drop at (now (s .entry)))))) (now («out» .entry)) ⌝ }
 {
     match order {
-        ByteOrder::Little => copy::copy_bytes(out, to, s, at, cells * size),
+        ByteOrder::Little => copy::copy_many(out, to, s, at, cells * size),
         ByteOrder::Big => copy_cells_reversed(out, to, s, at, size, cells),
     }
 }
@@ -51,7 +51,7 @@ pub fn copy_cells_reversed(
 {
     if size < 4 {
         match size {
-            1 => copy::copy_bytes(out, to, s, at, cells),
+            1 => copy::copy_many(out, to, s, at, cells),
             2 => copy_words(out, to, s, at, 2, cells),
             _ => copy_any(out, to, s, at, size, cells),
         }

@@ -24,7 +24,7 @@ pub fn put_all(out: &mut [u8], s: &[u8], size: usize, order: ByteOrder, cells: u
     ensures { λ _. ⌜ now (out .exit) ≡ overAt 0 (joined (map (ordered (orderOf order)) (pieces size cells (now (s .entry))))) (now (out .entry)) ⌝ }
 {
     match order {
-        ByteOrder::Little => copy::copy_bytes(out, 0, s, 0, cells * size),
+        ByteOrder::Little => copy::copy_many(out, 0, s, 0, cells * size),
         ByteOrder::Big => cells::copy_cells_reversed(out, 0, s, 0, size, cells),
     }
 }

@@ -66,7 +66,7 @@ pub fn put_plain(
     let bytes = values.len();
     let index = kind::width_bytes(width) * offsets.len();
     let data = vlen::data_at(place, index);
-    copy::copy_bytes(out, data, values, 0, bytes);
+    copy::copy_many(out, data, values, 0, bytes);
     let stored = 8 + index + bytes;
     let start = vlen::index_at(place, stored, index);
     index::put_index(out, start, width, offsets, 0);

@@ -62,7 +62,7 @@ pub fn copy_to_plane(planes: &mut [u8], to: usize, s: &[u8], at: usize, n: usize
     requires { ⌜ (to + n ≤ length (now planes)) × (at + byteMask .size n ≤ length (now s)) ⌝ }
     ensures { λ _. ⌜ now (planes .exit) ≡ overAt to (take n (drop at (now (s .entry)))) (now (planes .entry)) ⌝ }
 {
-    copy::copy_bytes(planes, to, s, at, n);
+    copy::copy_many(planes, to, s, at, n);
 }
 
 // Writes the stored mask of all n cells of the plane at `at`.
@@ -70,7 +70,7 @@ pub fn put_plane(out: &mut [u8], to: usize, planes: &[u8], at: usize, n: usize)
     requires { ⌜ (to + byteMask .size n ≤ length (now out)) × (at + n ≤ length (now planes)) ⌝ }
     ensures { λ _. ⌜ now (out .exit) ≡ overAt to (byteMask .put (take n (drop at (now (planes .entry))))) (now (out .entry)) ⌝ }
 {
-    copy::copy_bytes(out, to, planes, at, n);
+    copy::copy_many(out, to, planes, at, n);
 }
 
 // 1 for a set byte, so that a count has no branch.

@@ -26,8 +26,8 @@ mul-index c = omega (arith, room c)
 data-at-requires : tie.Need-data-at-requires
 data-at-requires c κs = omega (arith, room c)
 
-copy-bytes-requires : tie.Need-copy-bytes-requires
-copy-bytes-requires c κs = let a = c .before .before .before .before .before .before .args in omega (arith, data-room (placeOf (a .place)) 0 (c .before .before .width-bytes .result * length (a .offsets .now)) (length (a .values .now)) (room (c .before .before)) (c .before .data-at .ensures))
+copy-many-requires : tie.Need-copy-many-requires
+copy-many-requires c κs = let a = c .before .before .before .before .before .before .args in omega (arith, data-room (placeOf (a .place)) 0 (c .before .before .width-bytes .result * length (a .offsets .now)) (length (a .values .now)) (room (c .before .before)) (c .before .data-at .ensures))
 
 add-stored : tie.Need-add-stored
 add-stored c = omega (arith, room (c .before .before .before .before .before))
@@ -47,7 +47,7 @@ put-index-requires c κs =
         index-room (placeOf (a .place)) 0 (c .before .before .before .before .before .before .before .width-bytes .result * length (a .offsets .now)) (length (a .values .now)) (room (c .before .before .before .before .before .before .before)) (c .before .index-at .ensures),
         plain-index (widthOf (a .width)) (placeOf (a .place)) (a .offsets .now) (a .values .now) (c .before .before .before .before .before .before .before .width-bytes .ensures),
         ap (λ (os : List ℕ). length (indexOf (widthOf (a .width)) os)) (less-none (a .offsets .now)),
-        c .before .before .before .before .copy-bytes .kept .0,
+        c .before .before .before .before .copy-many .kept .0,
       ),
     )
 
@@ -60,7 +60,7 @@ put-u64-requires c κs =
     omega (
       arith,
       length-room (placeOf (a .place)) 0 (c .before .before .before .before .before .before .before .before .before .before .before .before .width-bytes .result * length (a .offsets .now)) (length (a .values .now)) (room (c .before .before .before .before .before .before .before .before .before .before .before .before)) (c .before .length-at .ensures),
-      c .before .before .before .before .before .before .before .before .before .copy-bytes .kept .0,
+      c .before .before .before .before .before .before .before .before .before .copy-many .kept .0,
       c .before .before .before .before .put-index .kept .0,
     )
 
@@ -71,7 +71,7 @@ returns : tie.Need-returns
 returns c =
     let a = c .before .before .before .before .before .before .before .before .before .before .before .before .before .before .before .before .before .before .before .args in
     plain-put (widthOf (a .width)) (placeOf (a .place)) (a .offsets .now) (a .values .now) (c .before .before .before .before .before .before .before .before .before .before .before .before .before .before .before .width-bytes .ensures) (a .out .now) (c .before .before .before .before .before .before .before .before .before .before .before .before .before .before .before .before .before .before .before .pre)
-    (c .before .before .before .before .before .before .before .before .before .before .before .before .before .before .data-at .ensures) (c .before .before .before .before .before .before .before .before .before .before .before .before .copy-bytes .ensures) (c .before .before .before .before .before .before .before .before .before .index-at .ensures) (c .before .before .before .before .before .before .before .put-index .ensures) (c .before .before .before .before .length-at .ensures) (c .before .before .put-u64 .ensures)
+    (c .before .before .before .before .before .before .before .before .before .before .before .before .before .before .data-at .ensures) (c .before .before .before .before .before .before .before .before .before .before .before .before .copy-many .ensures) (c .before .before .before .before .before .before .before .before .before .index-at .ensures) (c .before .before .before .before .before .before .before .put-index .ensures) (c .before .before .before .before .length-at .ensures) (c .before .before .put-u64 .ensures)
 
 pub put-plain-spec : {M : Type 1} → statement M
 put-plain-spec =
@@ -80,7 +80,7 @@ put-plain-spec =
     width-bytes-requires
     mul-index
     data-at-requires
-    copy-bytes-requires
+    copy-many-requires
     add-stored
     add-stored-2
     index-at-requires

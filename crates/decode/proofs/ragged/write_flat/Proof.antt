@@ -48,8 +48,8 @@ returns-2 c =
 copy-offsets-requires : tie.Need-copy-offsets-requires
 copy-offsets-requires c κs = search needs
 
-copy-bytes-requires : tie.Need-copy-bytes-requires
-copy-bytes-requires c κs = search needs
+copy-many-requires : tie.Need-copy-many-requires
+copy-many-requires c κs = search needs
 
 same-length : tie.Need-same-length
 same-length c = search needs
@@ -61,7 +61,7 @@ returns-3 : tie.Need-returns-3
 returns-3 c =
     let args = c .before .before .before .before .before .before .before .before .before .before .before .before .before .before .args in
     all-written (given (c .before .before .before .before .before .before .before .before .before .before .before .before .before .before)) (args .masks .now) (args .values .now) (args .offsets .now)
-    (omega arith) (omega (arith, (values-long (c .before .before .before .before .before .before .before .before .before .before)))) (omega (arith, (offsets-long (c .before .before .before .before .before .before .before .before .before .before)))) 0 (args .last) (args .n + 1) _ _ _ refl (sym (values-long (c .before .before .before .before .before .before .before .before .before .before))) (sym (offsets-long (c .before .before .before .before .before .before .before .before .before .before))) refl (c .before .before .copy-bytes .ensures) (c .before .before .before .before .before .before .copy-offsets .ensures)
+    (omega arith) (omega (arith, (values-long (c .before .before .before .before .before .before .before .before .before .before)))) (omega (arith, (offsets-long (c .before .before .before .before .before .before .before .before .before .before)))) 0 (args .last) (args .n + 1) _ _ _ refl (sym (values-long (c .before .before .before .before .before .before .before .before .before .before))) (sym (offsets-long (c .before .before .before .before .before .before .before .before .before .before))) refl (c .before .before .copy-many .ensures) (c .before .before .before .before .before .before .copy-offsets .ensures)
 
 pub write-flat-spec : {M : Type 1} → statement M
 write-flat-spec =
@@ -71,7 +71,7 @@ write-flat-spec =
     returns
     returns-2
     copy-offsets-requires
-    copy-bytes-requires
+    copy-many-requires
     same-length
     same-length-2
     returns-3)

@@ -68,8 +68,8 @@ spread-offsets-requires c κs =
 add-start : tie.Need-add-start
 add-start c = omega (arith, (ordered (c .before .before .before .before .before .before .before .before .before .before .before .before .before .before .before .before)), c .before .before .before .before .before .before .before .before .before .before .before .before .before .before .before .before .pre .room)
 
-copy-bytes-requires : tie.Need-copy-bytes-requires
-copy-bytes-requires c κs = omega (arith, (ordered (c .before .before .before .before .before .before .before .before .before .before .before .before .before .before .before .before .before)), c .before .before .before .before .before .before .before .before .before .before .before .before .before .before .before .before .before .pre .room)
+copy-many-requires : tie.Need-copy-many-requires
+copy-many-requires c κs = omega (arith, (ordered (c .before .before .before .before .before .before .before .before .before .before .before .before .before .before .before .before .before)), c .before .before .before .before .before .before .before .before .before .before .before .before .before .before .before .before .before .pre .room)
 
 same-length : tie.Need-same-length
 same-length c = search needs
@@ -84,7 +84,7 @@ returns-4 : tie.Need-returns-4
 returns-4 c =
     let args = c .before .before .before .before .before .before .before .before .before .before .before .before .before .before .before .before .before .before .before .before .args in
     let place-planes = c .before .before .before .before .before .before .before .before .before .before .before .place-planes in
-    nested-written (c .before .before .before .before .before .before .before .before .before .before .before .before .before .before .before .before .before .before .before .before .pre) (args .masks .now) (args .values .now) (args .offsets .now) (place-planes .last .0) (place-planes .ensures) (c .before .before .before .before .before .before .before .before .before .before .before .before .before .before .before .if1 .left) (c .before .before .before .before .before .before .before .before .before .before .before .before .before .before .if2 .left) (c .before .before .before .before .before .before .before .before .before .before .before .before .before .if3 .left) (c .before .before .copy-bytes .last .0) (c .before .before .before .before .before .before .spread-offsets .last .0) (c .before .before .copy-bytes .ensures) (c .before .before .before .before .before .before .spread-offsets .ensures)
+    nested-written (c .before .before .before .before .before .before .before .before .before .before .before .before .before .before .before .before .before .before .before .before .pre) (args .masks .now) (args .values .now) (args .offsets .now) (place-planes .last .0) (place-planes .ensures) (c .before .before .before .before .before .before .before .before .before .before .before .before .before .before .before .if1 .left) (c .before .before .before .before .before .before .before .before .before .before .before .before .before .before .if2 .left) (c .before .before .before .before .before .before .before .before .before .before .before .before .before .if3 .left) (c .before .before .copy-many .last .0) (c .before .before .before .before .before .before .spread-offsets .last .0) (c .before .before .copy-many .ensures) (c .before .before .before .before .before .before .spread-offsets .ensures)
 
 pub write-nested-spec : {M : Type 1} → statement M
 write-nested-spec =
@@ -100,7 +100,7 @@ write-nested-spec =
     sub-spread-offsets
     spread-offsets-requires
     add-start
-    copy-bytes-requires
+    copy-many-requires
     same-length
     same-length-2
     same-length-3

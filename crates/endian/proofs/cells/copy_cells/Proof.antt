@@ -11,11 +11,11 @@ use Rattle.endian.proofs.cells.copy_cells.Tie as tie
 enum-told : tie.Need-enum-told
 enum-told c = search needs
 
-mul-copy-bytes : tie.Need-mul-copy-bytes
-mul-copy-bytes c = search needs
+mul-copy-many : tie.Need-mul-copy-many
+mul-copy-many c = search needs
 
-copy-bytes-requires : tie.Need-copy-bytes-requires
-copy-bytes-requires c κs = search needs
+copy-many-requires : tie.Need-copy-many-requires
+copy-many-requires c κs = search needs
 
 enum-told-2 : tie.Need-enum-told-2
 enum-told-2 c = search needs
@@ -27,7 +27,7 @@ same-length : tie.Need-same-length
 same-length c = search needs
 
 returns : tie.Need-returns
-returns c = let a = c .before .before .before .before .before .before .before .before .args in copied-little (a .to) (a .size) (a .cells) (drop (a .at) (a .s .now)) (a .out .now) (ap orderOf (c .before .before .before .before .enum-told .given .1)) (c .before .before .copy-bytes .ensures)
+returns c = let a = c .before .before .before .before .before .before .before .before .args in copied-little (a .to) (a .size) (a .cells) (drop (a .at) (a .s .now)) (a .out .now) (ap orderOf (c .before .before .before .before .enum-told .given .1)) (c .before .before .copy-many .ensures)
 
 same-length-2 : tie.Need-same-length-2
 same-length-2 c = search needs
@@ -40,8 +40,8 @@ copy-cells-spec =
     tie.close
     (tie.spec
     enum-told
-    mul-copy-bytes
-    copy-bytes-requires
+    mul-copy-many
+    copy-many-requires
     enum-told-2
     copy-cells-reversed-requires
     same-length

@@ -10,8 +10,8 @@ use borrow.Author.Needs.{needs}
 use Rattle.endian.proofs.cells.copy_cells_reversed.Statement.{statement}
 use Rattle.endian.proofs.cells.copy_cells_reversed.Tie as tie
 
-copy-bytes-requires : tie.Need-copy-bytes-requires
-copy-bytes-requires c κs = let e = ap (λ (k : ℕ). c .before .before .before .before .before .args .cells * k) (c .before .match .keys1) in (omega arith, omega arith)
+copy-many-requires : tie.Need-copy-many-requires
+copy-many-requires c κs = let e = ap (λ (k : ℕ). c .before .before .before .before .before .args .cells * k) (c .before .match .keys1) in (omega arith, omega arith)
 
 copy-words-requires : tie.Need-copy-words-requires
 copy-words-requires c κs = let e = ap (λ (k : ℕ). c .before .before .before .before .before .args .cells * k) (c .before .match .keys2) in (inl refl, omega arith, omega arith)
@@ -32,7 +32,7 @@ same-length : tie.Need-same-length
 same-length c = search needs
 
 returns : tie.Need-returns
-returns c = let a = c .before .before .before .before .before .before .before .before .args in copied-ones (a .to) (a .cells) (drop (a .at) (a .s .now)) (a .out .now) (c .before .before .before .before .match .keys1) (c .before .before .copy-bytes .ensures)
+returns c = let a = c .before .before .before .before .before .before .before .before .args in copied-ones (a .to) (a .cells) (drop (a .at) (a .s .now)) (a .out .now) (c .before .before .before .before .match .keys1) (c .before .before .copy-many .ensures)
 
 same-length-2 : tie.Need-same-length-2
 same-length-2 c = search needs
@@ -68,7 +68,7 @@ pub copy-cells-reversed-spec : {M : Type 1} → statement M
 copy-cells-reversed-spec =
     tie.close
     (tie.spec
-    copy-bytes-requires
+    copy-many-requires
     copy-words-requires
     copy-any-requires
     copy-words-requires-2
