@@ -810,6 +810,43 @@ static void test_byte_limit(void)
 }
 
 /* Depth 4, size 64, 65,536 cells. */
+/* Copies of so many bytes are made in other ways: from 257 bytes to 1,048,576 the archive calls memmove. */
+static void copy_values(dpx_kind kind, uint64_t cells, const uint64_t *offsets, size_t count, const uint8_t *values, size_t size)
+{
+    const uint8_t *given = in(values, size);
+    const size_t stored = size + (count == 0 ? 0 : 8 + 8 * count);
+    const uint8_t *bytes;
+
+    lend(0, stored + 3, 0);
+    ANSWERS(dpx_encode(kind, &cells, 1, NONE, given, size, offsets, count, OUT1), DPX_OK);
+    CHECK(out.lengths[0] == stored);
+    check_kept(0, stored, 0, __LINE__);
+    check_is(out.values + (stored - size), values, size, "values as they were", __LINE__);
+    bytes = in(out.values, stored);
+    lend(0, size + 3, count);
+    GIVES(dpx_decode(kind, &cells, 1, bytes, stored, OUT3), NULL, 0, values, size, offsets, count);
+    release();
+}
+
+static void test_copies(void)
+{
+    static const struct {
+        uint64_t size, cells;
+    } plain[] = {{1, 255}, {1, 256}, {1, 257}, {2, 129}, {4, 4096}, {16, 65535}, {16, 65536}, {17, 61681}};
+    static const size_t one_cell[] = {1, 255, 256, 257, 1048575, 1048576, 1048577};
+    static uint8_t values[1048577];
+    size_t i;
+
+    for (i = 0; i < sizeof values; i++)
+        values[i] = (uint8_t)(i * 13 + (i >> 8) + (i >> 16));
+    for (i = 0; i < sizeof plain / sizeof plain[0]; i++)
+        copy_values(dpx_fixed(0, plain[i].size, DPX_LITTLE), plain[i].cells, NULL, 0, values, plain[i].size * plain[i].cells);
+    for (i = 0; i < sizeof one_cell / sizeof one_cell[0]; i++) {
+        const uint64_t offsets[2] = {0, one_cell[i]};
+        copy_values(dpx_ragged(0, 8, DPX_START), 1, offsets, 2, values, one_cell[i]);
+    }
+}
+
 static void test_limits(void)
 {
     const size_t cells = DPX_MAX_CELLS, room = 4 * (16 + cells) + 64 * cells;
@@ -844,6 +881,7 @@ int main(void)
     test_reverse();
     test_subset_cells();
     test_byte_limit();
+    test_copies();
     test_limits();
     release();
     printf("C interface: %lu checks, %lu failed\n", checks, failures);
