@@ -2,14 +2,13 @@
 -- Assumes nothing.
 use Prim.Native.Nat.{ℕ, zero, suc}
 use mathlib.Core.List.{List, [], _∷_}
-use Rattle.array.specs.Cells.{Cell, maskOf, inners}
+use Rattle.array.specs.Cells.{Cell, markOf, maskOf, inners}
+use Rattle.codec.specs.Frame.{nextBy, leftBy}
 
 -- each set byte takes the next of the list, and a null one takes z
 abbrev pub spread : {A : Type 0} → A → List ℕ → List A → List A
 spread z [] xs = []
-spread z (zero ∷ ms) xs = z ∷ spread z ms xs
-spread z (suc m ∷ ms) [] = z ∷ spread z ms []
-spread z (suc m ∷ ms) (x ∷ xs) = x ∷ spread z ms xs
+spread z (m ∷ ms) xs = nextBy (markOf m) z xs ∷ spread z ms (leftBy (markOf m) xs)
 
 -- the mask planes, one list a level
 abbrev pub planeList : (d : ℕ) → List (Cell d) → List (List ℕ)

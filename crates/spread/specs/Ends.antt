@@ -1,11 +1,16 @@
 -- Offsets of values that lie end to end, by the innermost plane and the stored ends.
 -- Assumes nothing.
-use Prim.Native.Nat.{ℕ, zero, suc, _-_}
+use Prim.Native.Nat.{ℕ, _-_}
 use mathlib.Core.List.{List, [], _∷_}
+use Rattle.array.specs.Cells.{Mark, isNull, isSet, markOf}
+use Rattle.codec.specs.Frame.{leftBy}
 
--- t is where the values so far end; a set cell takes the next stored end, counted from the first offset
+-- where a cell ends: t is where the values so far end, and a set cell takes the next stored end, counted from the first offset
+abbrev pub endBy : Mark → ℕ → ℕ → List ℕ → ℕ
+endBy isNull first t os = t
+endBy isSet first t [] = t
+endBy isSet first t (b ∷ os) = b - first
+
 abbrev pub endsBy : ℕ → ℕ → List ℕ → List ℕ → List ℕ
 endsBy first t [] os = []
-endsBy first t (zero ∷ p) os = t ∷ endsBy first t p os
-endsBy first t (suc m ∷ p) [] = t ∷ endsBy first t p []
-endsBy first t (suc m ∷ p) (b ∷ os) = (b - first) ∷ endsBy first (b - first) p os
+endsBy first t (m ∷ p) os = endBy (markOf m) first t os ∷ endsBy first (endBy (markOf m) first t os) p (leftBy (markOf m) os)

@@ -3,11 +3,16 @@
 use Prim.Native.Nat.{ℕ, zero, suc}
 use mathlib.Core.Bool.{Bool, true, false}
 use mathlib.Core.List.{List, [], _∷_}
+use Rattle.array.specs.Cells.{Mark, isNull, isSet, markOf}
+
+-- a cell with the mark that is asked for is one more than what follows, and another ends the run
+abbrev pub runBy : Bool → Mark → ℕ → ℕ
+runBy true isNull n = zero
+runBy true isSet n = suc n
+runBy false isNull n = suc n
+runBy false isSet n = zero
 
 -- how many bytes of a mask are all set, or all null, from the first on
 abbrev pub runOf : Bool → List ℕ → ℕ
 runOf set [] = zero
-runOf true (zero ∷ p) = zero
-runOf true (suc m ∷ p) = suc (runOf true p)
-runOf false (zero ∷ p) = suc (runOf false p)
-runOf false (suc m ∷ p) = zero
+runOf set (m ∷ p) = runBy set (markOf m) (runOf set p)
