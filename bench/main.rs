@@ -252,9 +252,7 @@ impl Bench {
         let [ours, rust] = self.turns(call, rust, 1.0);
         let below = matches!(call, Encode(i) | Decode(i, _) if i.kind[0] > 0);
         let bound = match call {
-            Encode(i) | Decode(i, _) if i.kind[..2] == [0, 0] && (i.kind[2] == 1 || i.kind[3] == 0) => {
-                Some(Bound::Copy(&i.values))
-            }
+            Encode(i) | Decode(i, _) if i.kind[..2] == [0, 0] && i.kind[3] == 0 => Some(Bound::Copy(&i.values)),
             Interleaved(_, stored) if what == Values::Long.name() => Some(Bound::Walks(stored)),
             _ => None,
         };
