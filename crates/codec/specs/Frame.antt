@@ -34,17 +34,19 @@ abbrev pub countSet : List ℕ → ℕ
 countSet [] = zero
 countSet (m ∷ ms) = countBy (markOf m) (countSet ms)
 
--- the other way round: each set mask byte takes the next of the list, and below a null stands b
+-- the other way round: a set mask byte takes the next of the list, and below a null stands b
 abbrev pub nextBy : {A : Type 0} → Mark → A → List A → A
 nextBy isNull b xs = b
 nextBy isSet b [] = b
 nextBy isSet b (a ∷ xs) = a
 
+-- what it leaves of the list
 abbrev pub leftBy : {A : Type 0} → Mark → List A → List A
 leftBy isNull xs = xs
 leftBy isSet [] = []
 leftBy isSet (a ∷ xs) = xs
 
+-- each mask byte and what stands below it
 abbrev pub expand : {A : Type 0} → A → List ℕ → List A → List (ℕ × A)
 expand b [] xs = []
 expand b (m ∷ ms) xs = (m, nextBy (markOf m) b xs) ∷ expand b ms (leftBy (markOf m) xs)

@@ -18,7 +18,7 @@ ghost use Rattle.word.specs.Word.{wordTest};
 ghost use Rattle.gather.specs.Live.{maskAt, liveAt, Planes};
 ghost use Rattle.gather.specs.Pieces.{piecesAt};
 
-// All cells of values with no mask: as endian's copy_cells. The test of the order stands here, so that little values are one copy and no call.
+// All cells of values with no mask: as endian's copy_cells, which with one more caller would be a call of its own everywhere.
 pub fn put_all(out: &mut [u8], s: &[u8], size: usize, order: ByteOrder, cells: usize)
     requires { ⌜ (cells * size ≤ length (now out)) × (cells * size ≤ length (now s)) ⌝ }
     ensures { λ _. ⌜ now (out .exit) ≡ overAt 0 (joined (map (ordered (orderOf order)) (pieces size cells (now (s .entry))))) (now (out .entry)) ⌝ }
