@@ -809,7 +809,6 @@ static void test_byte_limit(void)
     release();
 }
 
-/* Depth 4, size 64, 65,536 cells. */
 /* Copies of so many bytes are made in other ways: from 257 bytes to 1,048,576 the archive calls memmove. */
 static void copy_values(dpx_kind kind, uint64_t cells, const uint64_t *offsets, size_t count, const uint8_t *values, size_t size)
 {
@@ -847,6 +846,7 @@ static void test_copies(void)
     }
 }
 
+/* Depth 4, size 64, 65,536 cells. */
 static void test_limits(void)
 {
     const size_t cells = DPX_MAX_CELLS, room = 4 * (16 + cells) + 64 * cells;
