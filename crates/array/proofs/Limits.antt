@@ -4,14 +4,14 @@ use mathlib.Core.Path.{_≡_, refl}
 use mathlib.Core.Bool.{true, false}
 use mathlib.Core.List.{[], _∷_}
 use Rattle.array.specs.Limits.{mostBytes, mostCells}
-use Rattle.array.specs.Kind.{kindTest, fixed, little}
+use Rattle.array.specs.Kind.{kindTest, byteKind, fixed, little}
 use Rattle.array.specs.Shape.{shapeTest}
 use Rattle.array.specs.Content.{sizeTest}
 
 pub record Limits : Type 0 where
-  pub depth-4-size-64 : kindTest (record { depth = 4; form = fixed 64 little }) ≡ true
-  pub depth-5 : kindTest (record { depth = 5; form = fixed 64 little }) ≡ false
-  pub size-65 : kindTest (record { depth = 4; form = fixed 65 little }) ≡ false
+  pub depth-4-size-64 : kindTest (byteKind 4 (fixed 64 little)) ≡ true
+  pub depth-5 : kindTest (byteKind 5 (fixed 64 little)) ≡ false
+  pub size-65 : kindTest (byteKind 4 (fixed 65 little)) ≡ false
   pub all-cells : shapeTest (65536 ∷ []) ≡ true
   pub one-cell-more : shapeTest (65537 ∷ []) ≡ false
   pub all-bytes : sizeTest 16777216 ≡ true

@@ -27,6 +27,16 @@ module _ {A : Type 0} where
   All-of P f [] = tt
   All-of P f (x ∷ xs) = (f x, All-of P f xs)
 
+  pub All-take : (P : A → Type 0) (n : ℕ) (xs : List A) → All P xs → All P (take n xs)
+  All-take P zero xs p = tt
+  All-take P (suc n) [] p = tt
+  All-take P (suc n) (x ∷ xs) p = (p .0, All-take P n xs (p .1))
+
+  pub All-drop : (P : A → Type 0) (n : ℕ) (xs : List A) → All P xs → All P (drop n xs)
+  All-drop P zero xs p = p
+  All-drop P (suc n) [] p = tt
+  All-drop P (suc n) (x ∷ xs) p = All-drop P n xs (p .1)
+
 module _ {A B : Type 0} where
   pub All-image : (P : B → Type 0) (f : A → B) (xs : List A) → All (λ a. P (f a)) xs → All P (map f xs)
   All-image P f [] p = tt

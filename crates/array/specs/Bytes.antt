@@ -1,14 +1,21 @@
--- Numbers as little-endian bytes, for any width (document 01, item 4).
+-- Numbers as digits in any base, for any width: bytes are digits in base 256 (document 01, item 4), bits in base 2 (document 02, request 1).
 -- Assumes nothing.
 use Prim.Native.Nat.{ℕ, zero, suc, _+_, _*_, _/_, _%_}
 use mathlib.Core.List.{List, [], _∷_}
 
--- the w lowest bytes of n, the lowest first
-unfoldable pub le : ℕ → ℕ → List ℕ
-le zero n = []
-le (suc w) n = n % 256 ∷ le w (n / 256)
+-- the w lowest digits of n in base b, the lowest first
+abbrev pub digits : ℕ → ℕ → ℕ → List ℕ
+digits b zero n = []
+digits b (suc w) n = n % b ∷ digits b w (n / b)
 
--- the number whose bytes these are
+-- the number whose digits these are
+abbrev pub number : ℕ → List ℕ → ℕ
+number b [] = 0
+number b (d ∷ ds) = d + b * number b ds
+
+-- the w lowest bytes of n, and the number whose bytes these are
+unfoldable pub le : ℕ → ℕ → List ℕ
+le w n = digits 256 w n
+
 unfoldable pub unle : List ℕ → ℕ
-unle [] = 0
-unle (b ∷ bs) = b + 256 * unle bs
+unle s = number 256 s

@@ -27,6 +27,14 @@ setTestBy isSet = true
 abbrev pub setTest : ℕ → Bool
 setTest m = setTestBy (markOf m)
 
+-- the bit that a mask byte says
+abbrev pub bitBy : Mark → ℕ
+bitBy isNull = 0
+bitBy isSet = 1
+
+abbrev pub bitOf : ℕ → ℕ
+bitOf m = bitBy (markOf m)
+
 -- the mask bytes of the outermost level, and what stands below it
 abbrev pub maskOf : {A : Type 0} → List (ℕ × A) → List ℕ
 maskOf [] = []

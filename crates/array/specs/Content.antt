@@ -8,10 +8,10 @@ use lib.ListN.{length, take, drop}
 use lib.Dec.{leb, eqb}
 use Rattle.array.specs.Limits.{mostBytes}
 use Rattle.array.specs.Lists.{joined, pieces}
-use Rattle.array.specs.Kind.{Kind, KindOk, Form, fixed, ragged, nullOf}
+use Rattle.array.specs.Kind.{Kind, KindOk, Form, fixed, ragged, nullOf, Masks, asBytes, asBits}
 use Rattle.array.specs.Shape.{volume, ShapeOk}
 use Rattle.array.specs.Offsets.{last, Rising, risingTest, offsetsOf, slices}
-use Rattle.array.specs.Cells.{Value, Cell, maskOf, inners, leaf, rest, blank}
+use Rattle.array.specs.Cells.{Value, Cell, bitOf, maskOf, inners, leaf, rest, blank}
 
 -- the mask planes laid end to end, outermost first; the value bytes; the offsets
 pub record Content : Type 0 where
@@ -100,3 +100,18 @@ nullCell k = blank (nullOf (k .form)) (k .depth)
 -- the rest form of content of n cells
 abbrev pub restForm : Kind → ℕ → Content → Content
 restForm k n c = layout (k .form) (k .depth) (map (rest (nullOf (k .form)) (k .depth)) (cellsOf k n c))
+
+-- ---- what comes back of what was stored
+
+-- a mask byte that was stored: bytes keep it, a bit says 01 for every set one
+abbrev pub seen : Masks → ℕ → ℕ
+seen asBytes m = m
+seen asBits m = bitOf m
+
+-- what f makes of each mask byte
+abbrev pub withMasks : (ℕ → ℕ) → Content → Content
+withMasks f c = record { masks = map f (c .masks); values = c .values; offsets = c .offsets }
+
+-- the rest form with its mask bytes as they were stored
+abbrev pub returnForm : Kind → ℕ → Content → Content
+returnForm k n c = withMasks (seen (k .masks)) (restForm k n c)

@@ -1,4 +1,4 @@
--- Kinds (document 01, The array): the depth, and whether values are fixed or ragged.
+-- Kinds (document 01, The array): the depth, whether values are fixed or ragged, and how stored masks lie (document 02, request 1).
 -- Assumes nothing.
 use Prim.Native.Nat.{ℕ, _≤_}
 use mathlib.Core.Path.{_≡_}
@@ -23,9 +23,18 @@ pub data Form : Type 0 where
   fixed : ℕ → Order → Form
   ragged : ℕ → Place → Form
 
+-- stored masks: a byte a cell, or a bit a cell
+pub data Masks : Type 0 where
+  asBytes asBits : Masks
+
 pub record Kind : Type 0 where
   pub depth : ℕ
+  pub masks : Masks
   pub form : Form
+
+-- a kind that says nothing of masks means bytes
+abbrev pub byteKind : ℕ → Form → Kind
+byteKind d f = record { depth = d; masks = asBytes; form = f }
 
 -- the value of a null cell: zero bytes, or no bytes
 abbrev pub nullOf : Form → Value

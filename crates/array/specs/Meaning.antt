@@ -7,6 +7,8 @@ use Rattle.array.specs.declared.kind.IndexWidth.{IndexWidth}
 use Rattle.array.specs.declared.kind.IndexWidth.the-variants.{Four, Eight}
 use Rattle.array.specs.declared.kind.IndexPlace.{IndexPlace}
 use Rattle.array.specs.declared.kind.IndexPlace.the-variants.{Start, End}
+use Rattle.array.specs.declared.kind.MaskForm.{MaskForm}
+use Rattle.array.specs.declared.kind.MaskForm.the-variants.{Bytes, Packed}
 use Rattle.array.specs.declared.kind.Values.{Values}
 use Rattle.array.specs.declared.kind.Values.the-variants.{Fixed, Ragged}
 use Rattle.array.specs.declared.kind.Kind as declared
@@ -14,7 +16,7 @@ use Rattle.array.specs.declared.answer.Written as one
 use Rattle.array.specs.declared.answer.WrittenRagged as two
 use Rattle.array.specs.declared.answer.WrittenArray as three
 use Rattle.array.specs.Answer.{Answer, gives, refuses}
-use Rattle.array.specs.Kind.{Kind, Form, fixed, ragged, Order, little, big, Place, atStart, atEnd}
+use Rattle.array.specs.Kind.{Kind, Form, fixed, ragged, Order, little, big, Place, atStart, atEnd, Masks, asBytes, asBits}
 use Rattle.array.specs.Buffers.{Lengths, RaggedLengths}
 
 abbrev pub orderOf : ByteOrder → Order
@@ -29,12 +31,16 @@ abbrev pub placeOf : IndexPlace → Place
 placeOf Start = atStart
 placeOf End = atEnd
 
+abbrev pub masksOf : MaskForm → Masks
+masksOf Bytes = asBytes
+masksOf Packed = asBits
+
 abbrev pub formOf : Values → Form
 formOf (Fixed s o) = fixed s (orderOf o)
 formOf (Ragged w p) = ragged (widthOf w) (placeOf p)
 
 abbrev pub kindOf : declared.Kind → Kind
-kindOf k = record { depth = k .depth; form = formOf (k .values) }
+kindOf k = record { depth = k .depth; masks = masksOf (k .masks); form = formOf (k .values) }
 
 -- one length: encode, reverse_endianness, subset_cells
 abbrev pub told : one.Written → Answer ℕ

@@ -35,3 +35,5 @@ pub const COUNT: u8 = 9;
 pub const FALLING: u8 = 10;
 // In the older form a length field or a cell runs past the end.
 pub const PAST_END: u8 = 11;
+// A packed mask with an unused bit that is not 0.
+pub const UNUSED_BITS: u8 = 13;

@@ -10,14 +10,15 @@ use Rattle.array.specs.Answer.{Answer, gives, refuses, andThen, unless}
 use Rattle.array.specs.Kind.{Kind, KindOk, nullOf}
 use Rattle.array.specs.Shape.{volume, ShapeOk}
 use Rattle.array.specs.Subset.{subsetOf, NumbersOk}
-use Rattle.array.specs.Cells.{Cell, rest}
-use Rattle.array.specs.Content.{Content, Valid, layout}
+use Rattle.array.specs.Cells.{Cell}
+use Rattle.array.specs.Content.{Content, Valid, layout, seen}
 use Rattle.array.specs.Buffers.{Lengths, Enough, enoughTest, listOutcome, contentOutcome}
 use Rattle.array.proofs.Answers.{pass}
 use Rattle.array.proofs.Rules.{kind-test, shape-test, numbers-test, content-test, size-test, enough-test}
 use Rattle.array.proofs.LayoutLaws.{content-path, layout-ok, Good}
+use Rattle.array.proofs.SeenLaws.{restSeen}
 use Rattle.array.proofs.Over.{take-over}
-use Rattle.codec.specs.Mask.{byteMask}
+use Rattle.codec.specs.Mask.{maskForm}
 use Rattle.codec.specs.Frame.{frame}
 use Rattle.codec.specs.Values.{putValues}
 use Rattle.codec.specs.Calls.{storedForm, readIn, encodeAnswer, decodeAnswer}
@@ -55,10 +56,10 @@ module _ (k : Kind) (ok : KindOk k) (shape : List ℕ) (sh : ShapeOk shape) (xs 
   here = layout (k .form) (k .depth) xs
 
   abbrev resting : Content
-  resting = layout (k .form) (k .depth) (map (rest (nullOf (k .form)) (k .depth)) xs)
+  resting = layout (k .form) (k .depth) (map (restSeen (nullOf (k .form)) (seen (k .masks)) (k .depth)) xs)
 
   abbrev stored : List ℕ
-  stored = frame byteMask (putValues (k .form)) (k .depth) xs
+  stored = frame (maskForm (k .masks)) (putValues (k .form)) (k .depth) xs
 
   pub valid-layout : Valid k shape here
   valid-layout = record { kind = ok; shaped = sh; content = layout-ok k (volume shape) xs (g .counted) (g .sized); small = g .small }
@@ -72,8 +73,8 @@ module _ (k : Kind) (ok : KindOk k) (shape : List ℕ) (sh : ShapeOk shape) (xs 
   pub decode-gives : (r : Lengths) → Enough resting r → decodeAnswer k shape stored r ≡ gives resting
   unfolding decodeAnswer
   decode-gives r e =
-      let fits : length stored < 256 ^ 8 = frame-small (k .form) (ok .sound) (k .depth) xs (ok .shallow) (omega (arith, g .counted, sh .few-cells)) (g .small) in
+      let fits : length stored < 256 ^ 8 = frame-small (k .masks) (k .form) (ok .sound) (k .depth) xs (ok .shallow) (omega (arith, g .counted, sh .few-cells)) (g .small) in
       pass 1 (kind-test k ok) (pass 2 (shape-test shape sh)
       (ap (λ (a : Answer Content). andThen a (λ c. unless (enoughTest c r) 6 (gives c)))
-      (ap (λ (n : ℕ). readIn byteMask (k .form) (k .depth) n stored) (sym (g .counted)) ∙ read-layout (k .form) (k .depth) xs (ok .sound) (g .sized) (g .small) fits)
+      (ap (λ (n : ℕ). readIn (maskForm (k .masks)) (k .form) (k .depth) n stored) (sym (g .counted)) ∙ read-layout (k .masks) (k .form) (k .depth) xs (ok .sound) (g .sized) (g .small) fits)
       ∙ pass 6 (enough-test resting r e) refl))

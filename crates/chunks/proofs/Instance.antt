@@ -1,4 +1,4 @@
--- Demand 3's hypotheses can be met: a ragged array of depth 2 in a shape of 2 × 3, cut into two subsets, with an empty Q.
+-- Demand 3's hypotheses can be met: a ragged array of depth 2 with packed masks in a shape of 2 × 3, cut into two subsets, with an empty Q.
 -- Assumes nothing.
 use mathlib.Core.Path.{_≡_, refl}
 use mathlib.Core.Logic.{inl}
@@ -9,7 +9,7 @@ use lib.Dec.{lit≤}
 use Rattle.array.specs.Answer.{gives, andThen}
 use Rattle.array.specs.Limits.{mostBytes, mostCells}
 use Rattle.array.specs.Bytes.{le}
-use Rattle.array.specs.Kind.{Kind, ragged, atEnd}
+use Rattle.array.specs.Kind.{Kind, asBits, ragged, atEnd}
 use Rattle.array.specs.Content.{Content, Valid}
 use Rattle.array.specs.Buffers.{lengthsOf, Enough}
 use Rattle.codec.specs.Frame.{wrap, frame}
@@ -22,7 +22,7 @@ use Rattle.chunks.specs.Lines.{lent, old}
 use Rattle.chunks.proofs.Demand.{demand3}
 
 abbrev kind : Kind
-kind = record { depth = 2; form = ragged 4 atEnd }
+kind = record { depth = 2; masks = asBits; form = ragged 4 atEnd }
 
 abbrev shape : List ℕ
 shape = 2 ∷ 3 ∷ []
@@ -45,10 +45,10 @@ narrow = record { subset = 0 ∷ 0 ∷ 2 ∷ 1 ∷ []; cut = lent 4 2 3; stored 
 abbrev entries : List Entry
 entries = wide ∷ narrow ∷ []
 
--- the rest form: the cells 1 and 2 have lost their values, and cell 1 its inner mask
+-- the rest form: the cells 1 and 2 have lost their values, and cell 1 its inner mask; every set mask byte is 01
 abbrev resting : Content
 resting = record {
-  masks = 1 ∷ 0 ∷ 7 ∷ 1 ∷ 1 ∷ 255 ∷ 1 ∷ 0 ∷ 0 ∷ 1 ∷ 9 ∷ 1 ∷ [];
+  masks = 1 ∷ 0 ∷ 1 ∷ 1 ∷ 1 ∷ 1 ∷ 1 ∷ 0 ∷ 0 ∷ 1 ∷ 1 ∷ 1 ∷ [];
   values = 1 ∷ 4 ∷ 5 ∷ 6 ∷ [];
   offsets = 0 ∷ 1 ∷ 1 ∷ 1 ∷ 1 ∷ 3 ∷ 4 ∷ [];
 }

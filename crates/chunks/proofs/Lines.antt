@@ -37,4 +37,8 @@ lines = record {
   reversed-3 = refl;
   writes-big = refl;
   reads-big = refl;
+  writes-packed = refl;
+  reads-packed = refl;
+  unused-bit = refl;
+  packed-long = refl;
 }

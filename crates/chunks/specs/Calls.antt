@@ -5,7 +5,7 @@ use mathlib.Core.List.{List}
 use lib.ListN.{length}
 use Rattle.array.specs.Answer.{Answer, gives, unless, andThen, Outcome}
 use Rattle.array.specs.Lists.{joined}
-use Rattle.array.specs.Kind.{Kind, Place, ragged}
+use Rattle.array.specs.Kind.{Kind, Place, ragged, byteKind}
 use Rattle.array.specs.Shape.{volume, shapeTest}
 use Rattle.array.specs.Kind.{kindTest}
 use Rattle.array.specs.Subset.{subsetOf, subsetsOf, numbersTest, manyTest, cellsOfAll}
@@ -55,7 +55,7 @@ merged k shape ns c out = contentOutcome (mergeAnswer k shape ns c (lengthsOf ou
 
 abbrev pub raggedCut : ℕ → Place → List ℕ → List ℕ → RaggedContent → RaggedContent
 raggedCut w p shape ns x =
-    let cut = cutOf (record { depth = 0; form = ragged w p }) shape (unmasked x) (subsetOf (length shape) ns) in
+    let cut = cutOf (byteKind 0 (ragged w p)) shape (unmasked x) (subsetOf (length shape) ns) in
     record { values = cut .values; offsets = cut .offsets }
 
 unfoldable pub partialAnswer : ℕ → Place → List ℕ → List ℕ → List ℕ → RaggedLengths → Answer RaggedContent

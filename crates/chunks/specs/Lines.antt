@@ -6,7 +6,7 @@ use mathlib.Core.Path.{_≡_}
 use mathlib.Core.List.{List, [], _∷_, _++_}
 use lib.ListN.{replicate, take}
 use Rattle.array.specs.Answer.{gives, refuses, Outcome}
-use Rattle.array.specs.Kind.{Kind, fixed, ragged, little, big, atStart, atEnd}
+use Rattle.array.specs.Kind.{Kind, byteKind, asBits, fixed, ragged, little, big, atStart, atEnd}
 use Rattle.array.specs.Content.{Content, RaggedContent, cellsOf}
 use Rattle.array.specs.Buffers.{Lengths, RaggedLengths}
 use Rattle.array.specs.Calls.{endiannessReversed, subsetCells}
@@ -47,7 +47,7 @@ abbrev pub u32 : ℕ → List ℕ
 u32 n = n ∷ replicate 3 0
 
 abbrev pub depth1 : Kind
-depth1 = record { depth = 1; form = fixed 2 little }
+depth1 = byteKind 1 (fixed 2 little)
 
 abbrev pub six : List ℕ
 six = 0x0A ∷ 0x0B ∷ 0x0C ∷ 0x0D ∷ 0x0E ∷ 0x0F ∷ []
@@ -63,22 +63,22 @@ abbrev pub bytes24 : ℕ → ℕ → ℕ → ℕ → ℕ → List ℕ
 bytes24 a b c d e = u64 3 ++ (u64 5 ++ (0 ∷ 0 ∷ 0 ∷ a ∷ b ∷ c ∷ d ∷ e ∷ []))
 
 abbrev pub big1 : Kind
-big1 = record { depth = 1; form = fixed 2 big }
+big1 = byteKind 1 (fixed 2 big)
 
 abbrev pub bytes-big : List ℕ
 bytes-big = u64 1 ++ (u64 2 ++ (1 ∷ 0x0B ∷ 0x0A ∷ []))
 
 abbrev pub depth2 : Kind
-depth2 = record { depth = 2; form = fixed 1 little }
+depth2 = byteKind 2 (fixed 1 little)
 
 abbrev pub bytes38 : List ℕ
 bytes38 = u64 3 ++ (u64 19 ++ (1 ∷ 1 ∷ 0 ∷ (u64 2 ++ (u64 1 ++ (1 ∷ 0 ∷ 7 ∷ [])))))
 
 abbrev pub raggedEnd : Kind
-raggedEnd = record { depth = 0; form = ragged 4 atEnd }
+raggedEnd = byteKind 0 (ragged 4 atEnd)
 
 abbrev pub raggedStart : Kind
-raggedStart = record { depth = 0; form = ragged 8 atStart }
+raggedStart = byteKind 0 (ragged 8 atStart)
 
 abbrev pub ab : Content
 ab = array [] (0x41 ∷ 0x42 ∷ []) (0 ∷ 2 ∷ 2 ∷ [])
@@ -94,6 +94,17 @@ late = array [] (0x41 ∷ 0x42 ∷ []) (1 ∷ 2 ∷ [])
 
 abbrev pub older : List ℕ
 older = u32 2 ++ (u32 1 ++ (0x41 ∷ u32 0))
+
+-- depth 1, size 1, with packed masks
+abbrev pub packed1 : Kind
+packed1 = record { depth = 1; masks = asBits; form = fixed 1 little }
+
+abbrev pub nine : List ℕ
+nine = 1 ∷ 2 ∷ 3 ∷ 4 ∷ 5 ∷ 6 ∷ 7 ∷ 8 ∷ 9 ∷ []
+
+-- cells 0, 2 and 8 are set
+abbrev pub bytes21 : List ℕ
+bytes21 = u64 2 ++ (u64 3 ++ (5 ∷ 1 ∷ 1 ∷ 3 ∷ 9 ∷ []))
 
 abbrev pub indexFF : List ℕ
 indexFF = replicate 8 0xFF
@@ -133,3 +144,8 @@ pub record Lines : Type 0 where
   -- big order reverses a cell, and nothing else (item 7, not marked)
   pub writes-big : encoded big1 (1 ∷ []) (array (1 ∷ []) (0x0A ∷ 0x0B ∷ []) []) (old 20) ≡ wrote 19 bytes-big
   pub reads-big : decoded big1 (1 ∷ []) bytes-big (lent 2 3 1) ≡ gave 1 2 0 (1 ∷ []) (0x0A ∷ 0x0B ∷ []) []
+  -- document 02, request 1: packed masks; a set cell reads as 01; a bit after the last cell that is set is 13, after the mask's length and before the content
+  pub writes-packed : encoded packed1 (9 ∷ []) (array (1 ∷ 0 ∷ 2 ∷ 0 ∷ 0 ∷ 0 ∷ 0 ∷ 0 ∷ 255 ∷ []) nine []) (old 22) ≡ wrote 21 bytes21
+  pub reads-packed : decoded packed1 (9 ∷ []) bytes21 (lent 10 10 1) ≡ gave 9 9 0 (1 ∷ 0 ∷ 1 ∷ 0 ∷ 0 ∷ 0 ∷ 0 ∷ 0 ∷ 1 ∷ []) (1 ∷ 0 ∷ 3 ∷ 0 ∷ 0 ∷ 0 ∷ 0 ∷ 0 ∷ 9 ∷ []) []
+  pub unused-bit : decoded packed1 (1 ∷ []) (u64 1 ++ (u64 2 ++ (3 ∷ 7 ∷ 7 ∷ []))) (lent 1 1 0) ≡ record { answer = refuses 13; buffers = lent 1 1 0 }
+  pub packed-long : decoded packed1 (1 ∷ []) (u64 2 ++ (u64 1 ++ (1 ∷ 2 ∷ 7 ∷ []))) (lent 1 1 0) ≡ record { answer = refuses 8; buffers = lent 1 1 0 }

@@ -1,9 +1,10 @@
 -- A frame is read as it was written: at any depth, over any mask form and any innermost form that are read as they were written.
 -- Assumes nothing.
-use mathlib.Core.Path.{_≡_, refl, sym, ap, _∙_}
+use mathlib.Core.Path.{_≡_, refl, sym, ap, ap₂, _∙_}
 use Prim.Native.Nat.{ℕ, zero, suc, _+_, _^_, _<_, _≤_}
 use native.Mathlib.Nat.{le-refl}
 use native.Mathlib.Omega.{arith}
+use mathlib.Core.Bool.{true}
 use mathlib.Core.List.{List, [], _∷_, _++_, map}
 use lib.ListN.{length, take, drop, length-append}
 use lib.Seq.{take-at, drop-at, drop-drop}
@@ -11,12 +12,15 @@ use borrow.Author.Tests.{le-leb, eq-eqb}
 use Rattle.array.specs.Answer.{Answer, gives, andThen}
 use Rattle.array.specs.Lists.{All}
 use Rattle.array.specs.Bytes.{le, unle}
-use Rattle.array.specs.Cells.{Value, Cell, maskOf, blank, restOne, rest}
+use Rattle.array.specs.Cells.{Value, Cell, Mark, isNull, isSet, markOf, maskOf, blank, restBy, rest}
+use Rattle.array.proofs.Answers.{pass}
 use Rattle.array.proofs.Bytes.{length-le, unle-le}
-use Rattle.array.proofs.Lists.{map-id, map-cong}
+use Rattle.array.proofs.Lists.{map-id}
+use Rattle.array.proofs.SeenLaws.{seenCell, restSeen, seen-blank}
 use Rattle.array.proofs.LayoutLaws.{length-maskOf}
-use Rattle.codec.specs.Mask.{MaskForm, byteMask}
-use Rattle.codec.specs.Frame.{keepOne, keep, countSet, expand, wrap, unlessNone, frame, contentOf, readFrame, live}
+use Rattle.codec.specs.Mask.{MaskForm, getMask}
+use Rattle.codec.specs.Frame.{keepOne, keepBy, keep, countBy, countSet, nextBy, leftBy, expand, wrap, unlessNone, frame, contentOf, readFrame, live}
+use Rattle.codec.proofs.Marks.{null-byte}
 
 -- ---- the cells that are set
 
@@ -67,108 +71,77 @@ module _ (ms ct : List ℕ) where
 
 -- ---- masks
 
--- a mask byte as a mask form reads it: null stays null, and a set byte m + 1 becomes q m + 1
-abbrev pub seenAs : (ℕ → ℕ) → ℕ → ℕ
-seenAs q zero = zero
-seenAs q (suc m) = suc (q m)
-
--- what is asked of a mask form: its length, and that it is read as it was written, set bytes as q says
-pub record MaskLaws (q : ℕ → ℕ) (mf : MaskForm) : Type 0 where
+-- what is asked of a mask form: it takes at most a byte a cell, and is read as it was written, each mask byte as s makes it
+pub record MaskLaws (s : ℕ → ℕ) (mf : MaskForm) : Type 0 where
+  pub null-stays : s 0 ≡ 0
+  pub marks-stay : (m : ℕ) → markOf (s m) ≡ markOf m
+  pub size-le : (n : ℕ) → mf .size n ≤ n
   pub length-put : (ms : List ℕ) → length (mf .put ms) ≡ mf .size (length ms)
-  pub back-mask : (ms : List ℕ) → mf .get (mf .put ms) (length ms) ≡ gives (map (seenAs q) ms)
-
-seen-same : (ms : List ℕ) → ms ≡ map (seenAs (λ m. m)) ms
-seen-same [] = refl
-seen-same (zero ∷ ms) = ap (λ (r : List ℕ). zero ∷ r) (seen-same ms)
-seen-same (suc m ∷ ms) = ap (λ (r : List ℕ). suc m ∷ r) (seen-same ms)
-
--- a byte a cell keeps every mask byte
-pub byte-mask : MaskLaws (λ m. m) byteMask
-byte-mask = record { length-put = λ ms. refl; back-mask = λ ms. ap gives (seen-same ms) }
-
--- the rest form with set bytes as q says
-abbrev pub restOneAs : {A : Type 0} → (ℕ → ℕ) → A → (A → A) → ℕ → A → ℕ × A
-restOneAs q b f zero a = (zero, b)
-restOneAs q b f (suc m) a = (suc (q m), f a)
-
-abbrev pub restAs : Value → (ℕ → ℕ) → (d : ℕ) → Cell d → Cell d
-restAs z q zero v = v
-restAs z q (suc d) c = restOneAs q (blank z d) (restAs z q d) (c .0) (c .1)
-
-rest-same : (z : Value) (d : ℕ) (c : Cell d) → restAs z (λ m. m) d c ≡ rest z d c
-rest-same z zero c = refl
-rest-same z (suc d) c = one (c .0) (rest-same z d (c .1))
-  where
-    one : (m : ℕ) → restAs z (λ k. k) d (c .1) ≡ rest z d (c .1)
-        → restOneAs (λ k. k) (blank z d) (restAs z (λ k. k) d) m (c .1) ≡ restOne z (blank z d) (rest z d) m (c .1)
-    one zero e = refl
-    one (suc m) e = ap (λ (x : Cell d). (suc m, x)) e
+  pub passes : (ms : List ℕ) → mf .test (mf .put ms) (length ms) ≡ true
+  pub says : (ms : List ℕ) → mf .said (mf .put ms) (length ms) ≡ map s ms
 
 -- ---- the round trip
 
-module _ (q : ℕ → ℕ) where
-  count-seen : {A : Type 0} (cs : List (ℕ × A)) → countSet (map (seenAs q) (maskOf cs)) ≡ length (keep cs)
+module _ (s : ℕ → ℕ) (null : s 0 ≡ 0) (stay : (m : ℕ) → markOf (s m) ≡ markOf m) where
+  count-seen : (ms : List ℕ) → countSet (map s ms) ≡ countSet ms
   count-seen [] = refl
-  count-seen {A} (c ∷ cs) = one (c .0) (count-seen cs)
+  count-seen (m ∷ ms) = ap₂ countBy (stay m) (count-seen ms)
+
+  -- cells that were kept, read again below the mask as it was stored
+  expand-keep : (z : Value) (d : ℕ) (cs : List (Cell (suc d))) → expand (blank z d) (map s (maskOf cs)) (map (restSeen z s d) (keep cs)) ≡ map (restSeen z s (suc d)) cs
+  expand-keep z d [] = refl
+  expand-keep z d (c ∷ cs) =
+      ap (λ (k : Mark). here k (markOf (c .0)) ∷ expand (blank z d) (map s (maskOf cs)) (leftBy k (left (markOf (c .0))))) (stay (c .0))
+      ∙ one (markOf (c .0)) refl (expand-keep z d cs)
     where
-      one : (m : ℕ) → countSet (map (seenAs q) (maskOf cs)) ≡ length (keep cs) → countSet (seenAs q m ∷ map (seenAs q) (maskOf cs)) ≡ length (keepOne m (c .1) (keep cs))
-      one zero e = e
-      one (suc m) e = ap suc e
+      left : Mark → List (Cell d)
+      left k = map (restSeen z s d) (keepBy k (c .1) (keep cs))
 
-  expand-keep : {A : Type 0} (b : A) (f : A → A) (cs : List (ℕ × A)) → expand b (map (seenAs q) (maskOf cs)) (map f (keep cs)) ≡ map (λ c. restOneAs q b f (c .0) (c .1)) cs
-  expand-keep b f [] = refl
-  expand-keep {A} b f (c ∷ cs) = one (c .0) (c .1) (expand-keep b f cs)
-    where
-      one : (m : ℕ) (a : A) → expand b (map (seenAs q) (maskOf cs)) (map f (keep cs)) ≡ map (λ x. restOneAs q b f (x .0) (x .1)) cs
-          → expand b (seenAs q m ∷ map (seenAs q) (maskOf cs)) (map f (keepOne m a (keep cs))) ≡ restOneAs q b f m a ∷ map (λ x. restOneAs q b f (x .0) (x .1)) cs
-      one zero a e = ap (λ (r : List (ℕ × A)). (zero, b) ∷ r) e
-      one (suc m) a e = ap (λ (r : List (ℕ × A)). (suc (q m), f a) ∷ r) e
+      here : Mark → Mark → Cell (suc d)
+      here j k = (s (c .0), nextBy j (blank z d) (left k))
 
-  -- over any mask form, and any innermost form w that r reads as it was written where it is Good
-  module _ (mf : MaskForm) (laws : MaskLaws q mf) (z : Value) (r : List ℕ → ℕ → Answer (List Value)) (w : List Value → List ℕ) (Good : List Value → Type 0)
-      (back-values : (vs : List Value) → Good vs → length (w vs) < 256 ^ 8 → r (w vs) (length vs) ≡ gives vs) where
-    pub back-as : (d : ℕ) (cs : List (Cell d)) → Good (live d cs) → length (frame mf w d cs) < 256 ^ 8
-        → readFrame mf z r d (frame mf w d cs) (length cs) ≡ gives (map (restAs z q d) cs)
-    unfolding frame readFrame
-    back-as zero cs g h = back-values cs g h ∙ ap gives (sym (map-id cs))
-    back-as (suc d) cs g h =
-        let ms : List ℕ = mf .put (maskOf cs) in
-        let ct : List ℕ = unlessNone (frame mf w d) (keep cs) in
-        let n : ℕ = length cs in
-        let lw = length-wrap ms ct in
-        let em : unle (take 8 (wrap ms ct)) ≡ length ms = ap unle (wrap-take ms ct) ∙ unle-le 8 (length ms) (omega (arith, lw)) in
-        let ec : unle (take 8 (drop 8 (wrap ms ct))) ≡ length ct = ap unle (wrap-take2 ms ct) ∙ unle-le 8 (length ct) (omega (arith, lw)) in
-        let el : length ms ≡ mf .size n = laws .length-put (maskOf cs) ∙ ap (mf .size) (length-maskOf cs) in
-        let eg : mf .get ms n ≡ gives (map (seenAs q) (maskOf cs)) = ap (mf .get ms) (sym (length-maskOf cs)) ∙ laws .back-mask (maskOf cs) in
-        rw (
-          em,
-          ec,
-          lw,
-          wrap-body ms ct,
-          take-at ms ct (length ms) refl,
-          drop-at ms ct (length ms) refl,
-          le-leb 16 (16 + length ms + length ct) (omega arith),
-          eq-eqb (16 + length ms + length ct) _ refl,
-          eq-eqb (length ms) (mf .size n) el,
-          eg,
-          count-seen cs,
-        )
-        (ap (λ (a : Answer (List (Cell d))). andThen a (λ xs. gives (expand (blank z d) (map (seenAs q) (maskOf cs)) xs)))
-        (inner (keep cs) (λ ks. back-as d ks) g (omega (arith, lw)))
-        ∙ ap gives (expand-keep (blank z d) (restAs z q d) cs))
-      where
-        inner : (ks : List (Cell d))
-            → ((js : List (Cell d)) → Good (live d js) → length (frame mf w d js) < 256 ^ 8 → readFrame mf z r d (frame mf w d js) (length js) ≡ gives (map (restAs z q d) js))
-            → Good (live d ks) → length (unlessNone (frame mf w d) ks) < 256 ^ 8
-            → contentOf (length ks) (readFrame mf z r d (unlessNone (frame mf w d) ks)) ≡ gives (map (restAs z q d) ks)
-        inner [] ih g h = refl
-        inner (k ∷ ks) ih g h = ih (k ∷ ks) g h
+      one : (k : Mark) → markOf (c .0) ≡ k → expand (blank z d) (map s (maskOf cs)) (map (restSeen z s d) (keep cs)) ≡ map (restSeen z s (suc d)) cs
+          → here k k ∷ expand (blank z d) (map s (maskOf cs)) (leftBy k (left k)) ≡ seenCell s (suc d) (restBy z k (blank z d) (rest z d) (c .0) (c .1)) ∷ map (restSeen z s (suc d)) cs
+      one isNull e ih = ap₂ (λ (x : Cell (suc d)) (r : List (Cell (suc d))). x ∷ r) (ap₂ (λ (m : ℕ) (x : Cell d). (m, x)) (ap s (null-byte (c .0) e)) (sym (seen-blank s null z d))) ih
+      one isSet e ih = ap (λ (r : List (Cell (suc d))). here isSet isSet ∷ r) ih
 
--- a frame with a byte a cell is read back in rest form
-module _ (z : Value) (r : List ℕ → ℕ → Answer (List Value)) (w : List Value → List ℕ) (Good : List Value → Type 0)
+-- over any mask form, and any innermost form w that r reads as it was written where it is Good
+module _ (s : ℕ → ℕ) (mf : MaskForm) (laws : MaskLaws s mf) (z : Value) (r : List ℕ → ℕ → Answer (List Value)) (w : List Value → List ℕ) (Good : List Value → Type 0)
     (back-values : (vs : List Value) → Good vs → length (w vs) < 256 ^ 8 → r (w vs) (length vs) ≡ gives vs) where
-  pub back : (d : ℕ) (cs : List (Cell d)) → Good (live d cs) → length (frame byteMask w d cs) < 256 ^ 8
-      → readFrame byteMask z r d (frame byteMask w d cs) (length cs) ≡ gives (map (rest z d) cs)
-  back d cs g h =
-      back-as (λ m. m) byteMask byte-mask z r w Good back-values d cs g h
-      ∙ ap gives (map-cong (restAs z (λ m. m) d) (rest z d) (rest-same z d) cs)
+  pub back : (d : ℕ) (cs : List (Cell d)) → Good (live d cs) → length (frame mf w d cs) < 256 ^ 8
+      → readFrame mf z r d (frame mf w d cs) (length cs) ≡ gives (map (restSeen z s d) cs)
+  unfolding frame readFrame
+  back zero cs g h = back-values cs g h ∙ ap gives (sym (map-id cs))
+  back (suc d) cs g h =
+      let ms : List ℕ = mf .put (maskOf cs) in
+      let ct : List ℕ = unlessNone (frame mf w d) (keep cs) in
+      let n : ℕ = length cs in
+      let lw = length-wrap ms ct in
+      let em : unle (take 8 (wrap ms ct)) ≡ length ms = ap unle (wrap-take ms ct) ∙ unle-le 8 (length ms) (omega (arith, lw)) in
+      let ec : unle (take 8 (drop 8 (wrap ms ct))) ≡ length ct = ap unle (wrap-take2 ms ct) ∙ unle-le 8 (length ct) (omega (arith, lw)) in
+      let el : length ms ≡ mf .size n = laws .length-put (maskOf cs) ∙ ap (mf .size) (length-maskOf cs) in
+      let eg : getMask mf ms n ≡ gives (map s (maskOf cs)) =
+      ap (getMask mf ms) (sym (length-maskOf cs)) ∙ pass (mf .refusal) (laws .passes (maskOf cs)) (ap gives (laws .says (maskOf cs))) in
+      rw (
+        em,
+        ec,
+        lw,
+        wrap-body ms ct,
+        take-at ms ct (length ms) refl,
+        drop-at ms ct (length ms) refl,
+        le-leb 16 (16 + length ms + length ct) (omega arith),
+        eq-eqb (16 + length ms + length ct) _ refl,
+        eq-eqb (length ms) (mf .size n) el,
+        eg,
+        count-seen s (laws .null-stays) (laws .marks-stay) (maskOf cs) ∙ sym (length-keep cs),
+      )
+      (ap (λ (a : Answer (List (Cell d))). andThen a (λ xs. gives (expand (blank z d) (map s (maskOf cs)) xs)))
+      (inner (keep cs) (λ ks. back d ks) g (omega (arith, lw)))
+      ∙ ap gives (expand-keep s (laws .null-stays) (laws .marks-stay) z d cs))
+    where
+      inner : (ks : List (Cell d))
+          → ((js : List (Cell d)) → Good (live d js) → length (frame mf w d js) < 256 ^ 8 → readFrame mf z r d (frame mf w d js) (length js) ≡ gives (map (restSeen z s d) js))
+          → Good (live d ks) → length (unlessNone (frame mf w d) ks) < 256 ^ 8
+          → contentOf (length ks) (readFrame mf z r d (unlessNone (frame mf w d) ks)) ≡ gives (map (restSeen z s d) ks)
+      inner [] ih g h = refl
+      inner (k ∷ ks) ih g h = ih (k ∷ ks) g h

@@ -8,19 +8,20 @@ use mathlib.Core.List.{List, [], _∷_}
 use lib.ListN.{length}
 use Rattle.array.specs.Limits.{mostBytes, mostCells}
 use Rattle.array.specs.Lists.{joined, All}
-use Rattle.array.specs.Kind.{Kind, Form, fixed, ragged, FormOk}
+use Rattle.array.specs.Kind.{Kind, Masks, Form, fixed, ragged, FormOk}
 use Rattle.array.specs.Cells.{Value, Cell, maskOf, leaf}
 use Rattle.array.specs.Content.{Content, ContentOk, ValuesOk, leaves, cellsOf}
 use Rattle.array.proofs.Lists.{map-id}
 use Rattle.array.proofs.Sums.{sumOf, length-joined-map}
 use Rattle.array.proofs.Sizes.{OfSize, SizedAs}
 use Rattle.array.proofs.LayoutLaws.{length-maskOf, cells-sized}
-use Rattle.codec.specs.Mask.{MaskForm, byteMask}
+use Rattle.codec.specs.Mask.{MaskForm, maskForm}
 use Rattle.codec.specs.Frame.{keepOne, keep, unlessNone, frame, live}
 use Rattle.codec.specs.Values.{putValues}
 use Rattle.codec.specs.Length.{lengthOrNone, frameLength, writtenLength, lengthBy}
 use Rattle.codec.specs.Calls.{written, storedForm}
 use Rattle.codec.proofs.Frames.{length-keep-le, All-keep, length-wrap}
+use Rattle.codec.proofs.Masks.{mask-laws}
 use Rattle.codec.proofs.Values.{ragged-length, values-length, length-put-values}
 
 -- ---- the sum over the levels
@@ -74,29 +75,34 @@ pub written-length : (k : Kind) (n : ℕ) (c : Content) → ContentOk k n c → 
 unfolding written
 written-length k n c ok = go (k .form) (k .depth) (cellsOf k n c) (All-leaves (OfSize (k .form)) (k .depth) (cellsOf k n c) (cells-sized k n c ok)) (ok .values-fit)
   where
-    go : (f : Form) (d : ℕ) (cs : List (Cell d)) → All (λ x. OfSize f (leaf d x)) cs → ValuesOk f n c → length (written byteMask f d cs c) ≡ lengthBy byteMask f d n cs c
-    go (fixed k o) d cs s v = frame-length byteMask (λ ms. refl) (fixed k o) d cs s
+    mf : MaskForm
+    mf = maskForm (k .masks)
+
+    go : (f : Form) (d : ℕ) (cs : List (Cell d)) → All (λ x. OfSize f (leaf d x)) cs → ValuesOk f n c → length (written mf f d cs c) ≡ lengthBy mf f d n cs c
+    go (fixed j o) d cs s v = frame-length mf (mask-laws (k .masks) .length-put) (fixed j o) d cs s
     go (ragged w p) zero cs s v = ragged-length w p (record { values = c .values; offsets = c .offsets }) n (v .0)
-    go (ragged w p) (suc d) cs s v = frame-length byteMask (λ ms. refl) (ragged w p) (suc d) cs s
+    go (ragged w p) (suc d) cs s v = frame-length mf (mask-laws (k .masks) .length-put) (ragged w p) (suc d) cs s
 
 -- ---- an upper bound
 
-module _ (f : Form) (ok : FormOk f) where
-  content-le : (d : ℕ) → ((cs : List (Cell d)) → length (frame byteMask (putValues f) d cs) ≤ d * (16 + length cs) + (8 + 8 * suc (length cs) + length (joined (leaves d cs))))
-      → (cs : List (Cell d)) → length (unlessNone (frame byteMask (putValues f) d) cs) ≤ d * (16 + length cs) + (8 + 8 * suc (length cs) + length (joined (leaves d cs)))
+module _ (x : Masks) (f : Form) (ok : FormOk f) where
+  content-le : (d : ℕ) → ((cs : List (Cell d)) → length (frame (maskForm x) (putValues f) d cs) ≤ d * (16 + length cs) + (8 + 8 * suc (length cs) + length (joined (leaves d cs))))
+      → (cs : List (Cell d)) → length (unlessNone (frame (maskForm x) (putValues f) d) cs) ≤ d * (16 + length cs) + (8 + 8 * suc (length cs) + length (joined (leaves d cs)))
   content-le d h [] = omega arith
   content-le d h (c ∷ cs) = h (c ∷ cs)
 
-  pub length-frame-le : (d : ℕ) (cs : List (Cell d)) → length (frame byteMask (putValues f) d cs) ≤ d * (16 + length cs) + (8 + 8 * suc (length cs) + length (joined (leaves d cs)))
+  pub length-frame-le : (d : ℕ) (cs : List (Cell d)) → length (frame (maskForm x) (putValues f) d cs) ≤ d * (16 + length cs) + (8 + 8 * suc (length cs) + length (joined (leaves d cs)))
   unfolding frame
   length-frame-le zero cs = omega (arith, length-put-values f ok cs, zero-mul (16 + length cs), ap (λ (vs : List Value). length (joined vs)) (map-id cs))
   length-frame-le (suc d) cs =
       let ks : List (Cell d) = keep cs in
-      let ct : List ℕ = unlessNone (frame byteMask (putValues f) d) ks in
+      let ct : List ℕ = unlessNone (frame (maskForm x) (putValues f) d) ks in
       let k : length ks ≤ length cs = length-keep-le cs in
       omega (
         arith,
-        length-wrap (maskOf cs) ct,
+        length-wrap (maskForm x .put (maskOf cs)) ct,
+        mask-laws x .length-put (maskOf cs),
+        mask-laws x .size-le (length (maskOf cs)),
         length-maskOf cs,
         content-le d (λ xs. length-frame-le d xs) ks,
         bytes-keep d cs,
@@ -106,6 +112,6 @@ module _ (f : Form) (ok : FormOk f) where
 
   -- within the limits a frame's length fits 64 bits
   pub frame-small : (d : ℕ) (cs : List (Cell d)) → d ≤ 4 → length cs ≤ mostCells → length (joined (leaves d cs)) ≤ mostBytes
-      → length (frame byteMask (putValues f) d cs) < 256 ^ 8
+      → length (frame (maskForm x) (putValues f) d cs) < 256 ^ 8
   unfolding mostCells mostBytes
   frame-small d cs h n b = omega (arith, length-frame-le d cs, mul-le-mul h (add-le-add (le-refl 16) n))

@@ -1,4 +1,5 @@
 pub mod Frames
+pub mod Masks
 pub mod Ragged
 pub mod Values
 pub mod Lengths

@@ -9,19 +9,20 @@ use lib.ListN.{length}
 use Rattle.array.specs.Answer.{Answer, gives, andThen, unless}
 use Rattle.array.specs.Limits.{mostBytes, mostCells}
 use Rattle.array.specs.Lists.{joined}
-use Rattle.array.specs.Kind.{Kind, Place, Form, fixed, ragged, FormOk, nullOf}
+use Rattle.array.specs.Kind.{Kind, Masks, Place, Form, fixed, ragged, FormOk, nullOf}
 use Rattle.array.specs.Shape.{volume}
 use Rattle.array.specs.Cells.{Cell, rest}
-use Rattle.array.specs.Content.{Content, RaggedContent, unmasked, Valid, ValuesOk, leaves, layout, cellsOf, restForm}
+use Rattle.array.specs.Content.{Content, RaggedContent, unmasked, Valid, ValuesOk, leaves, layout, cellsOf, seen, withMasks, returnForm}
 use Rattle.array.specs.Buffers.{Lengths, Enough, enoughTest}
 use Rattle.array.proofs.Answers.{pass}
 use Rattle.array.proofs.Rules.{kind-test, shape-test, content-test, size-test, enough-test}
 use Rattle.array.proofs.Lists.{map-id}
+use Rattle.array.proofs.SeenLaws.{layout-rest-seen}
 use Rattle.array.proofs.Sizes.{SizedAs}
 use Rattle.array.proofs.LayoutLaws.{content-path, Good, good-cells}
 use Rattle.array.proofs.Inverse.{FromZero, layout-cells}
 use borrow.Author.Tests.{le-leb}
-use Rattle.codec.specs.Mask.{byteMask}
+use Rattle.codec.specs.Mask.{maskForm}
 use Rattle.codec.specs.Frame.{frame, readFrame}
 use Rattle.codec.specs.Ragged.{putRagged, getRagged}
 use Rattle.codec.specs.Values.{putValues, getValues}
@@ -31,13 +32,13 @@ use Rattle.codec.proofs.Values.{fits-width, ragged-length, width-le}
 use Rattle.codec.proofs.Lengths.{frame-small}
 use Rattle.codec.proofs.RoundTrip.{read-framed}
 
--- the array at depth 0, else its rest form
+-- the array at depth 0, else its rest form as the stored masks keep it
 abbrev pub byDepth : ℕ → Content → Content → Content
 byDepth zero c r = c
 byDepth (suc d) c r = r
 
 abbrev pub returned : Kind → ℕ → Content → Content
-returned k n c = byDepth (k .depth) c (restForm k n c)
+returned k n c = byDepth (k .depth) c (returnForm k n c)
 
 -- ---- ragged values of depth 0 come back as they are
 
@@ -60,34 +61,35 @@ flat-returns w p n c ok em v h b =
 
 -- ---- framed cells come back in rest form
 
-module _ (f : Form) (d n : ℕ) (cs : List (Cell d)) (ok : FormOk f) (shallow : d ≤ 4) (counted : length cs ≡ n) (few : n ≤ mostCells)
+module _ (x : Masks) (f : Form) (d n : ℕ) (cs : List (Cell d)) (ok : FormOk f) (shallow : d ≤ 4) (counted : length cs ≡ n) (few : n ≤ mostCells)
     (sized : SizedAs f (leaves d cs)) (small : length (joined (leaves d cs)) ≤ mostBytes) where
-  framed-returns : andThen (readFrame byteMask (nullOf f) (getValues f) d (frame byteMask (putValues f) d cs) n) (λ xs. gives (layout f d xs))
-      ≡ gives (layout f d (map (rest (nullOf f) d) cs))
+  framed-returns : andThen (readFrame (maskForm x) (nullOf f) (getValues f) d (frame (maskForm x) (putValues f) d cs) n) (λ xs. gives (layout f d xs))
+      ≡ gives (withMasks (seen x) (layout f d (map (rest (nullOf f) d) cs)))
   framed-returns =
-      ap (λ (m : ℕ). andThen (readFrame byteMask (nullOf f) (getValues f) d (frame byteMask (putValues f) d cs) m) (λ xs. gives (layout f d xs))) (sym counted)
+      ap (λ (m : ℕ). andThen (readFrame (maskForm x) (nullOf f) (getValues f) d (frame (maskForm x) (putValues f) d cs) m) (λ xs. gives (layout f d xs))) (sym counted)
       ∙ ap (λ (a : Answer (List (Cell d))). andThen a (λ xs. gives (layout f d xs)))
-      (read-framed f d cs ok sized small (frame-small f ok d cs shallow (omega arith) small))
+      (read-framed x f d cs ok sized small (frame-small x f ok d cs shallow (omega arith) small))
+      ∙ ap gives (layout-rest-seen (nullOf f) (seen x) f d cs)
 
 -- ---- each form at each depth
 
-module _ (n : ℕ) (c : Content) (few : n ≤ mostCells) (bytes : length (c .values) ≤ mostBytes) where
+module _ (x : Masks) (n : ℕ) (c : Content) (few : n ≤ mostCells) (bytes : length (c .values) ≤ mostBytes) where
   returns-by : (f : Form) (d : ℕ) (cs : List (Cell d)) → FormOk f → d ≤ 4 → length cs ≡ n → SizedAs f (leaves d cs) → length (joined (leaves d cs)) ≤ mostBytes
       → length (c .masks) ≡ d * n → ValuesOk f n c → (FromZero f c → layout f d cs ≡ c)
-      → readIn byteMask f d n (written byteMask f d cs c) ≡ gives (byDepth d c (layout f d (map (rest (nullOf f) d) cs)))
+      → readIn (maskForm x) f d n (written (maskForm x) f d cs c) ≡ gives (byDepth d c (withMasks (seen x) (layout f d (map (rest (nullOf f) d) cs))))
   unfolding readIn written
-  returns-by (fixed k o) zero cs ok sh ct sz sm em v back = framed-returns (fixed k o) zero n cs ok sh ct few sz sm ∙ ap gives (ap (layout (fixed k o) zero) (map-id cs) ∙ back tt)
-  returns-by (fixed k o) (suc d) cs ok sh ct sz sm em v back = framed-returns (fixed k o) (suc d) n cs ok sh ct few sz sm
+  returns-by (fixed k o) zero cs ok sh ct sz sm em v back = framed-returns x (fixed k o) zero n cs ok sh ct few sz sm ∙ ap gives (ap (withMasks (seen x)) (ap (layout (fixed k o) zero) (map-id cs)) ∙ back tt)
+  returns-by (fixed k o) (suc d) cs ok sh ct sz sm em v back = framed-returns x (fixed k o) (suc d) n cs ok sh ct few sz sm
   returns-by (ragged w p) zero cs ok sh ct sz sm em v back = flat-returns w p n c ok em v few bytes
-  returns-by (ragged w p) (suc d) cs ok sh ct sz sm em v back = framed-returns (ragged w p) (suc d) n cs ok sh ct few sz sm
+  returns-by (ragged w p) (suc d) cs ok sh ct sz sm em v back = framed-returns x (ragged w p) (suc d) n cs ok sh ct few sz sm
 
 -- what is read of what a valid array was written as
 pub stored-returns : (k : Kind) (shape : List ℕ) (c : Content) → Valid k shape c
-    → readIn byteMask (k .form) (k .depth) (volume shape) (storedForm k (volume shape) c) ≡ gives (returned k (volume shape) c)
+    → readIn (maskForm (k .masks)) (k .form) (k .depth) (volume shape) (storedForm k (volume shape) c) ≡ gives (returned k (volume shape) c)
 stored-returns k shape c v =
     let n : ℕ = volume shape in
     let g : Good k n (cellsOf k n c) = good-cells k n c (v .content) (v .small) in
-    returns-by n c (v .shaped .few-cells) (v .small) (k .form) (k .depth) (cellsOf k n c) (v .kind .sound) (v .kind .shallow) (g .counted) (g .sized) (g .small)
+    returns-by (k .masks) n c (v .shaped .few-cells) (v .small) (k .form) (k .depth) (cellsOf k n c) (v .kind .sound) (v .kind .shallow) (g .counted) (g .sized) (g .small)
     (v .content .masks-fit) (v .content .values-fit) (layout-cells k n c (v .content))
 
 -- ---- over the calls, with outputs that are long enough

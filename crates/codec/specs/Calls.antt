@@ -14,7 +14,7 @@ use Rattle.array.specs.Offsets.{offsetsOf}
 use Rattle.array.specs.Cells.{Cell}
 use Rattle.array.specs.Content.{Content, RaggedContent, unmasked, layout, cellsOf, contentTest, sizeTest}
 use Rattle.array.specs.Buffers.{Lengths, RaggedLengths, lengthsOf, raggedLengthsOf, enoughTest, raggedEnoughTest, listOutcome, raggedOutcome, contentOutcome}
-use Rattle.codec.specs.Mask.{MaskForm, byteMask}
+use Rattle.codec.specs.Mask.{MaskForm, maskForm}
 use Rattle.codec.specs.Frame.{frame, readFrame}
 use Rattle.codec.specs.Ragged.{putRagged, getRagged}
 use Rattle.codec.specs.Values.{putValues, getValues}
@@ -30,7 +30,7 @@ written mf (ragged w p) (suc d) cs c = frame mf (putValues (ragged w p)) (suc d)
 
 -- the stored form of an array of n cells
 abbrev pub storedForm : Kind → ℕ → Content → List ℕ
-storedForm k n c = written byteMask (k .form) (k .depth) (cellsOf k n c) c
+storedForm k n c = written (maskForm (k .masks)) (k .form) (k .depth) (cellsOf k n c) c
 
 unfoldable pub encodeAnswer : Kind → List ℕ → Content → ℕ → Answer (List ℕ)
 encodeAnswer k shape c room =
@@ -57,7 +57,7 @@ unfoldable pub decodeAnswer : Kind → List ℕ → List ℕ → Lengths → Ans
 decodeAnswer k shape s room =
     unless (kindTest k) 1
     (unless (shapeTest shape) 2
-    (andThen (readIn byteMask (k .form) (k .depth) (volume shape) s) (λ c.
+    (andThen (readIn (maskForm (k .masks)) (k .form) (k .depth) (volume shape) s) (λ c.
     unless (enoughTest c room) 6 (gives c))))
 
 unfoldable pub decoded : Kind → List ℕ → List ℕ → Content → Outcome Lengths Content

@@ -6,9 +6,9 @@ use mathlib.Core.List.{List, [], _∷_, _++_}
 use lib.ListN.{length, take, drop}
 use lib.Dec.{leb, eqb}
 use Rattle.array.specs.Answer.{Answer, gives, andThen, unless}
-use Rattle.array.specs.Bytes.{le, unle}
+use Rattle.array.specs.Bytes.{digits, le, unle}
 use Rattle.array.specs.Cells.{Value, Cell, Mark, isNull, isSet, markOf, maskOf, blank}
-use Rattle.codec.specs.Mask.{MaskForm}
+use Rattle.codec.specs.Mask.{MaskForm, getMask}
 
 -- ---- the cells that are set
 
@@ -33,6 +33,10 @@ countBy isSet n = suc n
 abbrev pub countSet : List ℕ → ℕ
 countSet [] = zero
 countSet (m ∷ ms) = countBy (markOf m) (countSet ms)
+
+-- how many bits of a byte are set
+abbrev pub setBits : ℕ → ℕ
+setBits b = countSet (digits 2 8 b)
 
 -- the other way round: a set mask byte takes the next of the list, and below a null stands b
 abbrev pub nextBy : {A : Type 0} → Mark → A → List A → A
@@ -80,7 +84,7 @@ openFrame mf b len m c mask n content =
     unless (leb 16 len) 7
     (unless (eqb len (16 + m + c)) 8
     (unless (eqb m (mf .size n)) 8
-    (andThen (mf .get mask n) (λ ms.
+    (andThen (getMask mf mask n) (λ ms.
     andThen (contentOf (countSet ms) content) (λ xs. gives (expand b ms xs))))))
 
 -- z is the value of a null cell

@@ -7,7 +7,7 @@ use Rattle.array.specs.Lists.{joined}
 use Rattle.array.specs.Kind.{Kind, Form, fixed, ragged}
 use Rattle.array.specs.Cells.{Value, Cell}
 use Rattle.array.specs.Content.{Content, cellsOf}
-use Rattle.codec.specs.Mask.{MaskForm, byteMask}
+use Rattle.codec.specs.Mask.{MaskForm, maskForm}
 use Rattle.codec.specs.Frame.{keep}
 
 -- the index length, the index of n + 1 offsets, and the value bytes
@@ -35,4 +35,4 @@ lengthBy mf (ragged w p) (suc d) n cs c = frameLength mf (ragged w p) (suc d) cs
 
 -- the written length of an array of n cells
 abbrev pub writtenLength : Kind → ℕ → Content → ℕ
-writtenLength k n c = lengthBy byteMask (k .form) (k .depth) n (cellsOf k n c) c
+writtenLength k n c = lengthBy (maskForm (k .masks)) (k .form) (k .depth) n (cellsOf k n c) c
