@@ -12,7 +12,7 @@ use borrow.Author.Tests.{eq-eqb, ne-eqb, leb-true, leb-false}
 use Rattle.array.specs.Answer.{Answer, gives, refuses, andThen, unless}
 use Rattle.array.specs.Cells.{Value, Cell, leaf}
 use Rattle.array.specs.Content.{Content, ContentOk, ValuesOk, contentTest, valuesTest, leaves, valuesIn, cellsOf}
-use Rattle.array.specs.Kind.{Kind, Form, fixed, ragged}
+use Rattle.array.specs.Kind.{byteKind, Kind, Form, fixed, ragged}
 use Rattle.array.specs.Lists.{joined, pieces}
 use Rattle.array.specs.Offsets.{last, lastFrom, Rising, RisingFrom, risingTest, slices, slicesFrom}
 use Rattle.array.specs.Shape.{volume}
@@ -49,12 +49,12 @@ and-true : (b : Bool) → b && true ≡ b
 and-true true = refl
 and-true false = refl
 
-values-agree : (f : Form) (d m : ℕ) (c : Content) → valuesTest f m (firstChunk (record { depth = d; form = f }) m c) ≡ partTest f m (length (c .values)) (c .offsets)
+values-agree : (f : Form) (d m : ℕ) (c : Content) → valuesTest f m (firstChunk (byteKind d f) m c) ≡ partTest f m (length (c .values)) (c .offsets)
 values-agree (fixed k o) d m c = ap (λ (b : Bool). b && true) (take-test (m * k) (c .values)) ∙ and-true (leb (m * k) (length (c .values)))
 values-agree (ragged w p) d m c =
     ap₂ (λ (a b : Bool). a && risingTest (take (suc m) (c .offsets)) && b) (take-test (suc m) (c .offsets)) (test-take (last (take (suc m) (c .offsets))) (c .values))
 
-pub tests-agree : (f : Form) (d m : ℕ) (c : Content) → contentTest (record { depth = d; form = f }) m (firstChunk (record { depth = d; form = f }) m c) ≡ chunkTest f d m (length (c .masks)) (length (c .values)) (c .offsets)
+pub tests-agree : (f : Form) (d m : ℕ) (c : Content) → contentTest (byteKind d f) m (firstChunk (byteKind d f) m c) ≡ chunkTest f d m (length (c .masks)) (length (c .values)) (c .offsets)
 tests-agree f d m c = ap₂ (λ (a b : Bool). a && b) (take-test (d * m) (c .masks)) (values-agree f d m c)
 
 -- ---- the bytes of a chunk's cells
@@ -66,12 +66,12 @@ total-slices a (b ∷ bs) s r h =
     let v : length (take (b - a) (drop a s)) ≡ b - a = length-take-le (b - a) (drop a s) (omega (arith, length-drop a s)) in
     omega (arith, total-slices b bs s (r .1) h, length-append (take (b - a) (drop a s)) (joined (slicesFrom b bs s)), r .0)
 
-bytes-are : (f : Form) (d m : ℕ) (c : Content) → ValuesOk f m (firstChunk (record { depth = d; form = f }) m c)
-    → length (joined (valuesIn f m (firstChunk (record { depth = d; form = f }) m c))) ≡ chunkBytes f m (c .offsets)
+bytes-are : (f : Form) (d m : ℕ) (c : Content) → ValuesOk f m (firstChunk (byteKind d f) m c)
+    → length (joined (valuesIn f m (firstChunk (byteKind d f) m c))) ≡ chunkBytes f m (c .offsets)
 bytes-are (fixed k o) d m c v =
     let vs : List Value = pieces k m (take (m * k) (c .values)) in
-    length-joined k vs (values-sized (fixed k o) m (firstChunk (record { depth = d; form = fixed k o }) m c) v)
-    ∙ ap (λ (n : ℕ). n * k) (values-length (fixed k o) m (firstChunk (record { depth = d; form = fixed k o }) m c) v)
+    length-joined k vs (values-sized (fixed k o) m (firstChunk (byteKind d (fixed k o)) m c) v)
+    ∙ ap (λ (n : ℕ). n * k) (values-length (fixed k o) m (firstChunk (byteKind d (fixed k o)) m c) v)
 bytes-are (ragged w p) d m c v = go (c .offsets) (v .1) (v .2)
   where
     go : (os : List ℕ) → Rising (take (suc m) os) → last (take (suc m) os) ≡ length (take (last (take (suc m) os)) (c .values))
@@ -81,7 +81,7 @@ bytes-are (ragged w p) d m c v = go (c .offsets) (v .1) (v .2)
 
 module _ (f : Form) (d : ℕ) where
   abbrev k : Kind
-  k = record { depth = d; form = f }
+  k = byteKind d f
 
   -- the walk by lengths gives the refusals of the cells, and the sum of their bytes
   pub sum-is : (bs : List Subset) (c : Content)

@@ -8,7 +8,7 @@ use mathlib.Core.List.{List, [], _++_}
 use lib.ListN.{length, drop}
 use Rattle.array.specs.Answer.{Answer, gives, refuses, andThen, unless, Outcome}
 use Rattle.array.specs.Lists.{All, joined}
-use Rattle.array.specs.Kind.{Form, fixed, ragged, Order, Place, nullOf}
+use Rattle.array.specs.Kind.{byteKind, Form, fixed, ragged, Order, Place, nullOf}
 use Rattle.array.specs.Shape.{volume}
 use Rattle.array.specs.Subset.{Subset, SubsetOk, cellsOfAll}
 use Rattle.array.specs.Rows.{nextSubsets}
@@ -37,11 +37,11 @@ module _ (d : ℕ) (sh flat : List ℕ) (c old : Content) (z : Sizes) where
   bs = nextSubsets (length sh) (z .count) flat
 
   abbrev Asked : Form → Type 0
-  Asked f = MergeAsked (record { depth = d; form = f }) sh flat c z
+  Asked f = MergeAsked (byteKind d f) sh flat c z
 
   -- what the stores are to leave behind
   abbrev pub left : Form → Outcome Lengths Content
-  left f = contentOutcome (storeAnswer (record { depth = d; form = f }) sh (nextSubsets (length sh) (z .count) flat) c (lengthsOf old)) old
+  left f = contentOutcome (storeAnswer (byteKind d f) sh (nextSubsets (length sh) (z .count) flat) c (lengthsOf old)) old
 
   module _ (f : Form) (q : Asked f) where
     inside : All (SubsetOk sh) bs
@@ -51,13 +51,13 @@ module _ (d : ℕ) (sh flat : List ℕ) (c old : Content) (z : Sizes) where
     cells = found f d bs c (z .bytes) (q .checked .summed)
 
     abbrev merged : Content
-    merged = mergeOf (record { depth = d; form = f }) sh bs (cells .cells)
+    merged = mergeOf (byteKind d f) sh bs (cells .cells)
 
     left-is : contentOutcome (unless (enoughTest merged (lengthsOf old)) 6 (gives merged)) old ≡ left f
     unfolding storeAnswer
     left-is =
-        ap (λ (a : Answer (List (Cell d))). contentOutcome (andThen a (λ cs. unless (enoughTest (mergeOf (record { depth = d; form = f }) sh bs cs) (lengthsOf old)) 6
-        (gives (mergeOf (record { depth = d; form = f }) sh bs cs)))) old) (sym (cells .are))
+        ap (λ (a : Answer (List (Cell d))). contentOutcome (andThen a (λ cs. unless (enoughTest (mergeOf (byteKind d f) sh bs cs) (lengthsOf old)) 6
+        (gives (mergeOf (byteKind d f) sh bs cs)))) old) (sym (cells .are))
 
     mask-bytes : length (merged .masks) ≡ d * z .cells
     mask-bytes = merged-masks f d sh bs inside (q .once) c (cells .cells) (cells .are) ∙ ap (λ (n : ℕ). d * n) (sym (q .checked .counted))

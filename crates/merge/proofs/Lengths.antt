@@ -9,7 +9,7 @@ use lib.ListN.{length, length-map}
 use lib.Dec.{eqb}
 use Rattle.array.specs.Answer.{gives}
 use Rattle.array.specs.Lists.{from, pick, count, joined, All}
-use Rattle.array.specs.Kind.{Form, fixed, Order, nullOf}
+use Rattle.array.specs.Kind.{byteKind, Form, fixed, Order, nullOf}
 use Rattle.array.specs.Offsets.{offsetsOf}
 use Rattle.array.specs.Shape.{volume}
 use Rattle.array.specs.Subset.{Subset, SubsetOk, cellsOfAll}
@@ -64,7 +64,7 @@ length-putBack z n js xs = length-map (from 0 n) (λ i. lookup z i js xs) ∙ le
 -- ---- the merged cells
 
 module _ (f : Form) (d : ℕ) (sh : List ℕ) (bs : List Subset) (inside : All (SubsetOk sh) bs) (once : Once (volume sh) (cellsOfAll sh bs)) (c : Content) (cs : List (Cell d))
-    (e : chunkCells (record { depth = d; form = f }) bs c ≡ gives cs) where
+    (e : chunkCells (byteKind d f) bs c ≡ gives cs) where
   abbrev js : List ℕ
   js = cellsOfAll sh bs
 
@@ -89,7 +89,7 @@ module _ (f : Form) (d : ℕ) (sh : List ℕ) (bs : List Subset) (inside : All (
 
 -- values of one width: as many bytes as cells of that width
 pub fixed-bytes : (k d : ℕ) (r : Order) (sh : List ℕ) (bs : List Subset) → All (SubsetOk sh) bs → Once (volume sh) (cellsOfAll sh bs) → (c : Content) (cs : List (Cell d))
-    → chunkCells (record { depth = d; form = fixed k r }) bs c ≡ gives cs → length (joined (leaves d cs)) ≡ volume sh * k
+    → chunkCells (byteKind d (fixed k r)) bs c ≡ gives cs → length (joined (leaves d cs)) ≡ volume sh * k
 fixed-bytes k d r sh bs inside once c cs e =
     let z : Cell d = blank (nullOf (fixed k r)) d in
     let vs : List Value = putBack (leaf d z) (volume sh) (cellsOfAll sh bs) (leaves d cs) in

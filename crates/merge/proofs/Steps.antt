@@ -7,7 +7,7 @@ use mathlib.Core.List.{List}
 use lib.ListN.{length}
 use Rattle.array.specs.Answer.{Answer, gives, refuses, andThen, unless, Outcome}
 use Rattle.array.specs.Lists.{joined}
-use Rattle.array.specs.Kind.{Kind, Form, kindTest}
+use Rattle.array.specs.Kind.{byteKind, Kind, Form, kindTest}
 use Rattle.array.specs.Shape.{volume, shapeTest}
 use Rattle.array.specs.Subset.{Subset, subsetsOf, manyTest, cellsOfAll}
 use Rattle.array.specs.Rows.{nextSubsets}
@@ -23,7 +23,7 @@ use Rattle.merge.proofs.Passing.{passed}
 
 module _ (f : Form) (d : ℕ) (sh ns : List ℕ) (c : Content) where
   abbrev k : Kind
-  k = record { depth = d; form = f }
+  k = byteKind d f
 
   abbrev bs : List Subset
   bs = subsetsOf (length sh) ns

@@ -9,6 +9,7 @@ ghost use Prim.Native.Nat.{_≤_};
 ghost use lib.ListN.{length};
 ghost use Rattle.array.specs.Limits.{mostCells};
 ghost use Rattle.array.specs.Meaning.{formOf, kindOf};
+ghost use Rattle.chunks.proofs.Idle.{inBytes};
 ghost use Rattle.array.specs.Rows.{nextSubsets};
 ghost use Rattle.cover.specs.Asked.{SubsetsOk};
 ghost use Rattle.merge.specs.Chunks.{chunkAnswer, chunkSum, toldChunk, toldTotal};
@@ -123,7 +124,7 @@ pub fn check_merge(
     values: usize,
     offsets: &[u64],
 ) -> Checks
-    ensures { λ r. ⌜ toldChecks r ≡ checkAnswer (kindOf kind) (now (shape .entry)) (now (subsets .entry)) masks values (now (offsets .entry)) ⌝ }
+    ensures { λ r. ⌜ toldChecks r ≡ checkAnswer (inBytes (kindOf kind)) (now (shape .entry)) (now (subsets .entry)) masks values (now (offsets .entry)) ⌝ }
 {
     if !valid::kind::check_kind(kind) {
         return Checks::Refused(refusal::KIND);

@@ -10,7 +10,7 @@ use lib.ListN.{length, getD, take, drop, length-drop, length-append, length-map,
 use Rattle.array.specs.Answer.{gives, unless}
 use Rattle.array.specs.Cells.{Value, Cell, leaf, blank}
 use Rattle.array.specs.Content.{Content, leaves, valuesIn, cellsOf, masksOf}
-use Rattle.array.specs.Kind.{Kind, Form, fixed, ragged, Order, Place}
+use Rattle.array.specs.Kind.{byteKind, Kind, Form, fixed, ragged, Order, Place}
 use Rattle.array.specs.Lists.{All, joined, pieces, from, count}
 use Rattle.array.specs.Offsets.{offsetsOf}
 use Rattle.array.specs.Shape.{volume}
@@ -56,7 +56,7 @@ sum-putBack n js ls a o e =
 
 -- ---- masks
 
-pub masks-close : (f : Form) (d : ℕ) (v : Value) (sh : List ℕ) (bs : List Subset) (c : Content) (cs : List (Cell d)) → chunkCells (record { depth = d; form = f }) bs c ≡ gives cs
+pub masks-close : (f : Form) (d : ℕ) (v : Value) (sh : List ℕ) (bs : List Subset) (c : Content) (cs : List (Cell d)) → chunkCells (byteKind d f) bs c ≡ gives cs
     → masksOf d (putBack (blank v d) (volume sh) (cellsOfAll sh bs) cs) ≡ masksMerged sh bs d (c .masks) d
 masks-close f d v sh bs c cs e =
     masks-putBack v d (volume sh) (cellsOfAll sh bs) cs
@@ -65,7 +65,7 @@ masks-close f d v sh bs c cs e =
 
 -- ---- as many cells as the subsets have
 
-pub cells-counted : (f : Form) (d : ℕ) (bs : List Subset) (c : Content) (cs : List (Cell d)) → chunkCells (record { depth = d; form = f }) bs c ≡ gives cs → length cs ≡ cellsTotal bs
+pub cells-counted : (f : Form) (d : ℕ) (bs : List Subset) (c : Content) (cs : List (Cell d)) → chunkCells (byteKind d f) bs c ≡ gives cs → length cs ≡ cellsTotal bs
 unfolding chunkCells
 cells-counted f d [] c cs e = ap length (go (nothingTest c) e)
   where
@@ -73,18 +73,18 @@ cells-counted f d [] c cs e = ap length (go (nothingTest c) e)
     go true e = cc
     go false e = let z : _≡_ {A = ℕ} 0 1 = cc in absurd (omega arith)
 cells-counted f d (b ∷ bs) c cs e =
-    let k : Kind = record { depth = d; form = f } in
+    let k : Kind = byteKind d f in
     let m : ℕ = volume (lengths b) in
     let q = first-of f d b bs c cs e in
-    let first : Content = firstChunk (record { depth = d; form = f }) m c in
-    ap length (q .whole) ∙ length-append (cellsOf (record { depth = d; form = f }) m first) (q .later)
+    let first : Content = firstChunk (byteKind d f) m c in
+    ap length (q .whole) ∙ length-append (cellsOf (byteKind d f) m first) (q .later)
     ∙ ap₂ (λ (x y : ℕ). x + y) (length-attach m (valuesIn f m first) (values-length f m first (q .ok .values-fit)) d (first .masks) (q .ok .masks-fit))
-    (cells-counted f d bs (laterChunks (record { depth = d; form = f }) m c) (q .later) (q .is-later))
+    (cells-counted f d bs (laterChunks (byteKind d f) m c) (q .later) (q .is-later))
 
 -- ---- ragged values
 
 module _ (w d : ℕ) (p : Place) (sh : List ℕ) (bs : List Subset) (inside : All (SubsetOk sh) bs) (once : Once (volume sh) (cellsOfAll sh bs)) (c : Content) (cs : List (Cell d))
-    (e : chunkCells (record { depth = d; form = ragged w p }) bs c ≡ gives cs) where
+    (e : chunkCells (byteKind d (ragged w p)) bs c ≡ gives cs) where
   abbrev js : List ℕ
   js = cellsOfAll sh bs
 
@@ -132,7 +132,7 @@ joined-pieces k (suc m) s e = ap (λ (r : List ℕ). take k s ++ r) (joined-piec
 
 module _ (k d : ℕ) (r : Order) where
   abbrev kind : Kind
-  kind = record { depth = d; form = fixed k r }
+  kind = byteKind d (fixed k r)
 
   pub record FixedCells (bs : List Subset) (c : Content) (cs : List (Cell d)) : Type 0 where
     pub laid : joined (leaves d cs) ≡ parts 0 k k bs (c .values)

@@ -8,7 +8,7 @@ use mathlib.Core.List.{List, _∷_, _++_}
 use Rattle.array.specs.Answer.{Answer, gives, refuses, andThen, unless}
 use Rattle.array.specs.Cells.{Cell}
 use Rattle.array.specs.Content.{Content, ContentOk, contentTest, leaves, valuesIn, cellsOf}
-use Rattle.array.specs.Kind.{Kind, Form}
+use Rattle.array.specs.Kind.{byteKind, Kind, Form}
 use Rattle.array.specs.Shape.{volume}
 use Rattle.array.specs.Subset.{Subset, lengths}
 use Rattle.array.proofs.LayoutLaws.{leaves-attach, values-length}
@@ -17,7 +17,7 @@ use Rattle.chunks.specs.Chunks.{firstChunk, laterChunks, chunkCells}
 
 module _ (f : Form) (d : ℕ) where
   abbrev k : Kind
-  k = record { depth = d; form = f }
+  k = byteKind d f
 
   pub leaves-first : (m : ℕ) (c : Content) → ContentOk k m c → leaves d (cellsOf k m c) ≡ valuesIn f m c
   leaves-first m c ok = leaves-attach m (valuesIn f m c) (values-length f m c (ok .values-fit)) d (c .masks) (ok .masks-fit)

@@ -12,7 +12,7 @@ use lib.Seq.{drop-drop, length-take-le}
 use Rattle.array.specs.Answer.{gives, unless}
 use Rattle.array.specs.Cells.{Value, Cell, maskOf, blank, inners}
 use Rattle.array.specs.Content.{Content, attach, pairUp, valuesIn, cellsOf, masksOf}
-use Rattle.array.specs.Kind.{Kind, Form}
+use Rattle.array.specs.Kind.{byteKind, Kind, Form}
 use Rattle.array.specs.Lists.{All, joined, from, pick}
 use Rattle.array.specs.Shape.{volume}
 use Rattle.array.specs.Subset.{Subset, lengths, cellsIn, cellsOfAll, SubsetOk}
@@ -86,7 +86,7 @@ level-attach n vs ev (suc d) (suc l) ps h e =
 
 module _ (f : Form) (d : ℕ) where
   abbrev k : Kind
-  k = record { depth = d; form = f }
+  k = byteKind d f
 
   pub chunk-levels : (l : ℕ) → l < d → (bs : List Subset) (c : Content) (cs : List (Cell d)) → chunkCells k bs c ≡ gives cs → levelAt d l cs ≡ parts l d 1 bs (c .masks)
   unfolding chunkCells

@@ -9,7 +9,7 @@ use Rattle.array.specs.Answer.{gives}
 use Rattle.array.specs.Cells.{Cell, leaf}
 use Rattle.array.specs.Content.{Content, leaves}
 use Rattle.array.specs.Limits.{mostBytes}
-use Rattle.array.specs.Kind.{ragged, Place}
+use Rattle.array.specs.Kind.{byteKind, ragged, Place}
 use Rattle.array.specs.Lists.{All, joined}
 use Rattle.array.specs.Rows.{nextSubsets}
 use Rattle.array.specs.Shape.{volume}
@@ -30,7 +30,7 @@ lengths-too begins sh [] os vs r = tt
 lengths-too begins sh (b ∷ bs) os vs r = (r .0 .indexed, r .0 .rises, lengths-too begins sh bs _ _ (r .1))
 
 module _ (w d : ℕ) (p : Place) (sh flat : List ℕ) (count : ℕ) (q : SubsetsOk sh flat count) (once : Once (volume sh) (cellsOfAll sh (nextSubsets (length sh) count flat))) (c : Content) (cs : List (Cell d))
-    (e : chunkCells (record { depth = d; form = ragged w p }) (nextSubsets (length sh) count flat) c ≡ gives cs) where
+    (e : chunkCells (byteKind d (ragged w p)) (nextSubsets (length sh) count flat) c ≡ gives cs) where
   ok : All (SubsetOk sh) (nextSubsets (length sh) count flat)
   ok = all-inside sh (nextSubsets (length sh) count flat) (q .each)
 

@@ -11,7 +11,7 @@ use lib.Seq.{drop-drop, length-take-le, take-add, getD-append-add, getD-take}
 use Rattle.array.specs.Answer.{gives, unless}
 use Rattle.array.specs.Cells.{Cell, leaf}
 use Rattle.array.specs.Content.{Content, ContentOk, leaves, valuesIn, cellsOf}
-use Rattle.array.specs.Kind.{Kind, ragged, Place}
+use Rattle.array.specs.Kind.{byteKind, Kind, ragged, Place}
 use Rattle.array.specs.Lists.{All, joined}
 use Rattle.array.specs.Offsets.{last, lastFrom, Rising, RisingFrom, slices, slicesFrom}
 use Rattle.array.specs.Shape.{volume}
@@ -91,7 +91,7 @@ rises-of m (a ∷ os) r h = λ i l. let z : 0 + i ≡ i = omega arith in subst (
 
 module _ (w d : ℕ) (p : Place) where
   abbrev k : Kind
-  k = record { depth = d; form = ragged w p }
+  k = byteKind d (ragged w p)
 
   module _ (m : ℕ) (c : Content) (ok : ContentOk k m (firstChunk k m c)) where
     pub some-offsets : m < length (c .offsets)

@@ -11,7 +11,7 @@ use lib.Seq.{drop-drop, length-take-le}
 use Rattle.array.specs.Answer.{gives, unless}
 use Rattle.array.specs.Lists.{pieces, All}
 use Rattle.array.specs.Bytes.{unle}
-use Rattle.array.specs.Kind.{Place, ragged}
+use Rattle.array.specs.Kind.{byteKind, Place, ragged}
 use Rattle.array.specs.Shape.{volume}
 use Rattle.array.specs.Subset.{SubsetOk, subsetOf, cellsIn}
 use Rattle.array.specs.Cells.{Value}
@@ -146,6 +146,6 @@ read-cut w p shape ns s index source l r ok =
     let x : RaggedContent = readAt w s n index source in
     let js : List ℕ = cellsIn shape (subsetOf (length shape) ns) in
     ap (λ (c : Content). record { values = c .values; offsets = c .offsets })
-    (cut-is (record { depth = 0; form = ragged w p }) shape (unmasked x) (record { masks-fit = sym (zero-mul n); values-fit = r .keeps }) (subsetOf (length shape) ns) ok)
+    (cut-is (byteKind 0 (ragged w p)) shape (unmasked x) (record { masks-fit = sym (zero-mul n); values-fit = r .keeps }) (subsetOf (length shape) ns) ok)
     ∙ ap endToEnd
     (values-same (offsetAt (x .offsets)) (storedAt w s index) n (drop source s) (r .stored .index-asked .rises) (stored-is w n s index) js (cellsIn-below shape (subsetOf (length shape) ns) ok))

@@ -7,7 +7,7 @@ use Prim.Native.Nat.{ℕ, zero, suc, _≤_, _<_}
 use native.Mathlib.Omega.{arith}
 use borrow.Author.Tests.{le-leb, lt-leb, ne-eqb}
 use Rattle.array.specs.Answer.{Answer, gives, refuses, andThen, mapAnswer}
-use Rattle.array.specs.Kind.{Kind, Form, fixed, ragged, Order, Place, atStart, atEnd, formTest}
+use Rattle.array.specs.Kind.{byteKind, Kind, Form, fixed, ragged, Order, Place, atStart, atEnd, formTest}
 use Rattle.array.specs.declared.kind.IndexWidth.{IndexWidth}
 use Rattle.array.specs.declared.kind.IndexWidth.the-variants.{Four, Eight}
 use Rattle.array.specs.Meaning.{widthOf}
@@ -18,10 +18,10 @@ module _ {A : Type 0} (g : A → Form) (a b : A) (depth n : ℕ) where
   abbrev pub chosen : Answer Kind
   chosen = andThen (mapAnswer g (oneOf a b n)) (kindWith depth)
 
-  pub first : n ≡ 0 → formTest (g a) ≡ true → gives (record { depth = depth; form = g a }) ≡ chosen
+  pub first : n ≡ 0 → formTest (g a) ≡ true → gives (byteKind depth (g a)) ≡ chosen
   first e t = rw (e, t)
 
-  pub second : n ≡ 1 → formTest (g b) ≡ true → gives (record { depth = depth; form = g b }) ≡ chosen
+  pub second : n ≡ 1 → formTest (g b) ≡ true → gives (byteKind depth (g b)) ≡ chosen
   second e t = rw (e, t)
 
 pub other : {A : Type 0} (g : A → Form) (a b : A) (depth n : ℕ) → n ≢ 0 → n ≢ 1 → refuses 1 ≡ chosen g a b depth n

@@ -7,7 +7,7 @@ use Rattle.valid.specs.declared.numbers.KindRead as declared
 use Rattle.valid.specs.declared.numbers.IndexRead as index
 use Rattle.array.specs.Answer.{Answer, gives, refuses, andThen, unless, mapAnswer}
 use Rattle.array.specs.Limits.{mostDepth}
-use Rattle.array.specs.Kind.{Kind, Form, fixed, ragged, little, big, atStart, atEnd, formTest}
+use Rattle.array.specs.Kind.{Kind, Form, fixed, ragged, byteKind, little, big, atStart, atEnd, formTest}
 use Rattle.array.specs.Meaning.{kindOf, widthOf, placeOf}
 
 -- the first of two is number 0, the second number 1
@@ -27,7 +27,7 @@ formNumbered form size order = andThen (oneOf (fixedOf size order) (raggedOf siz
 
 -- the kind of a form within its range
 abbrev pub kindWith : ℕ → Form → Answer Kind
-kindWith depth f = unless (formTest f) 1 (gives (record { depth = depth; form = f }))
+kindWith depth f = unless (formTest f) 1 (gives (byteKind depth f))
 
 unfoldable pub numberedKind : ℕ → ℕ → ℕ → ℕ → ℕ → Answer Kind
 numberedKind depth form size order mask =

@@ -6,6 +6,7 @@ use lib.ListN.{length}
 use Rattle.array.specs.Answer.{gives}
 use Rattle.array.specs.Kind.{Form}
 use Rattle.array.specs.Meaning.{formOf, kindOf}
+use Rattle.chunks.proofs.Idle.{inBytes, merged-idle}
 use Rattle.array.specs.Content.{Content}
 use Rattle.array.specs.Outcome.{contentArray, outcomeArray}
 use Rattle.merge.specs.Merge.{Sizes, checkAnswer, toldChecks}
@@ -35,7 +36,7 @@ sizes k = let g = k .before .cells .given .0 in record { cells = g .0; count = g
 
 passed : (k : tie.After-known-told2)
     → let a = start (checked k) in
-    gives (sizes k) ≡ checkAnswer (kindOf (a .args .kind)) (a .args .shape .now) (a .args .subsets .now) (length (a .args .masks .now)) (length (a .args .values .now)) (a .args .offsets .now)
+    gives (sizes k) ≡ checkAnswer (inBytes (kindOf (a .args .kind))) (a .args .shape .now) (a .args .subsets .now) (length (a .args .masks .now)) (length (a .args .values .now)) (a .args .offsets .now)
 passed k = sym (ap toldChecks (k .before .cells .given .1)) ∙ checked k .check-merge .ensures
 
 check-merge-requires : tie.Need-check-merge-requires
@@ -58,6 +59,7 @@ returns c =
     let m = c .before .before .before in
     let a = start m in
     merge-refused (form a) (a .args .kind .depth) (a .args .shape .now) (a .args .subsets .now) (handed a) (lent a) (c .before .e .given .0 .0) (sym (ap toldChecks (c .before .e .given .1)) ∙ m .check-merge .ensures)
+    ∙ sym (merged-idle (kindOf (a .args .kind)) (a .args .shape .now) (a .args .subsets .now) (handed a) (lent a))
 
 same-length : tie.Need-same-length
 same-length c = search needs
@@ -75,6 +77,7 @@ returns-2 c =
     let a = start (checked k) in
     merge-stored (form a) (a .args .kind .depth) (a .args .shape .now) (a .args .subsets .now) (handed a) (lent a) (sizes k) (passed k)
     (let o = s .store-covering .last .1 .1 .1 .1 .1 .1 .1 .1 .1 in outcomeArray (s .store-covering .result) (o .0) (o .1 .0) (o .1 .1 .0)) (s .store-covering .ensures)
+    ∙ sym (merged-idle (kindOf (a .args .kind)) (a .args .shape .now) (a .args .subsets .now) (handed a) (lent a))
 
 pub merge-spec : {M : Type 1} → statement M
 merge-spec =

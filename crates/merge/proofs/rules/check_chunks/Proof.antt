@@ -138,8 +138,7 @@ returns c =
 mul-p : tie.Need-mul-p Inv-loop μ-loop
 mul-p c =
     let l = head c in
-    let s = l .before in
-    omega (arith, small-product (start l .args .kind .depth) (cells c) (omega arith) (omega (arith, c .before .before .before .before .before .volume-of .ensures, small l (omega arith))))
+    omega (arith, small-product (start l .args .kind .depth) (cells c) (omega arith) (omega (arith, c .before .before .before .before .before .volume-of .ensures, small l (c .before .before .before .before .before .before .before .loop-test .taken))))
 
 sub-p : tie.Need-sub-p Inv-loop μ-loop
 sub-p c = fitted c .masks

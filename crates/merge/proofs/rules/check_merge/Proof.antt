@@ -10,6 +10,7 @@ use lib.ListN.{length}
 use Rattle.array.specs.Limits.{mostBytes}
 use Rattle.array.specs.Answer.{gives}
 use Rattle.array.specs.Meaning.{kindOf, formOf}
+use Rattle.chunks.proofs.Idle.{inBytes}
 use Rattle.array.specs.Kind.{kindTest}
 use Rattle.array.specs.Subset.{manyTest}
 use Rattle.array.specs.Rows.{nextSubsets}
@@ -25,7 +26,7 @@ abbrev start : tie.Else1 → tie.Start
 start e = e .before .before .before .before .before
 
 -- the kind passed, the shape was counted, the subsets passed
-kind-passed : (e : tie.Else1) → kindTest (kindOf (start e .args .kind)) ≡ true
+kind-passed : (e : tie.Else1) → kindTest (inBytes (kindOf (start e .args .kind))) ≡ true
 kind-passed e = sym (e .before .check-kind .ensures) ∙ not-false (e .before .check-kind .result) (e .if1 .left)
 
 abbrev from : tie.After-known-told → tie.Else1
@@ -67,7 +68,7 @@ check-kind-requires c κs = search needs
 returns : tie.Need-returns
 returns c =
     let a = c .before .before .before .before .before .args in
-    no-kind (kindOf (a .kind)) (a .shape .now) (a .subsets .now) (a .masks) (a .values) (a .offsets .now)
+    no-kind (inBytes (kindOf (a .kind))) (a .shape .now) (a .subsets .now) (a .masks) (a .values) (a .offsets .now)
     (sym (c .before .check-kind .ensures) ∙ not-true (c .before .check-kind .result) (c .if1 .taken))
 
 shape-cells-requires : tie.Need-shape-cells-requires
@@ -84,7 +85,7 @@ returns-2 c =
     let s = c .before .before in
     let e = s .before in
     let a = start e .args in
-    no-shape (kindOf (a .kind)) (a .shape .now) (a .subsets .now) (a .masks) (a .values) (a .offsets .now) (kind-passed e)
+    no-shape (inBytes (kindOf (a .kind))) (a .shape .now) (a .subsets .now) (a .masks) (a .values) (a .offsets .now) (kind-passed e)
     (not-counted (a .shape .now) (c .enum-told .given .0 .0) (sym (ap toldCells (c .enum-told .given .1)) ∙ s .shape-cells .ensures) .0)
 
 subsets-fit-requires : tie.Need-subsets-fit-requires
@@ -94,7 +95,7 @@ returns-3 : tie.Need-returns-3
 returns-3 c =
     let m = c .before .before in
     let a = start (from m) .args in
-    no-subsets (kindOf (a .kind)) (a .shape .now) (a .subsets .now) (a .masks) (a .values) (a .offsets .now) (kind-passed (from m)) (shape-counted m .passes)
+    no-subsets (inBytes (kindOf (a .kind))) (a .shape .now) (a .subsets .now) (a .masks) (a .values) (a .offsets .now) (kind-passed (from m)) (shape-counted m .passes)
     (sym (c .before .subsets-fit .ensures) ∙ not-true (c .before .subsets-fit .result) (c .if2 .taken))
 
 mul-count : tie.Need-mul-count
@@ -120,7 +121,7 @@ returns-4 c =
     let e = k .before in
     let m = first e in
     let a = start (from m) .args in
-    bad-chunks (kindOf (a .kind)) (a .shape .now) (a .subsets .now) (a .masks) (a .values) (a .offsets .now) (kind-passed (from m)) (shape-counted m .passes) (subsets-passed e)
+    bad-chunks (inBytes (kindOf (a .kind))) (a .shape .now) (a .subsets .now) (a .masks) (a .values) (a .offsets .now) (kind-passed (from m)) (shape-counted m .passes) (subsets-passed e)
     (sym (ap toldTotal (c .enum-told2 .given .1)) ∙ k .check-chunks .ensures)
 
 returns-5 : tie.Need-returns-5
@@ -130,7 +131,7 @@ returns-5 c =
     let e = earlier t in
     let m = first e in
     let a = start (from m) .args in
-    too-many (kindOf (a .kind)) (a .shape .now) (a .subsets .now) (a .masks) (a .values) (a .offsets .now) (kind-passed (from m)) (shape-counted m .passes) (subsets-passed e)
+    too-many (inBytes (kindOf (a .kind))) (a .shape .now) (a .subsets .now) (a .masks) (a .values) (a .offsets .now) (kind-passed (from m)) (shape-counted m .passes) (subsets-passed e)
     (sum t) (summed t) (c .if3 .taken)
 
 returns-6 : tie.Need-returns-6
@@ -141,7 +142,7 @@ returns-6 c =
     let m = first e in
     let a = start (from m) .args in
     ap (λ (n : ℕ). gives (sized n e t)) (shape-counted m .is)
-    ∙ passes (kindOf (a .kind)) (a .shape .now) (a .subsets .now) (a .masks) (a .values) (a .offsets .now) (kind-passed (from m)) (shape-counted m .passes) (subsets-passed e)
+    ∙ passes (inBytes (kindOf (a .kind))) (a .shape .now) (a .subsets .now) (a .masks) (a .values) (a .offsets .now) (kind-passed (from m)) (shape-counted m .passes) (subsets-passed e)
     (sum t) (summed t) (c .if3 .left)
 
 pub check-merge-spec : {M : Type 1} → statement M
