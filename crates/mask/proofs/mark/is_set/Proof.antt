@@ -3,9 +3,9 @@
 use mathlib.Core.Path.{sym, ap, _∙_}
 use borrow.Author.Needs.{needs}
 use Rattle.array.specs.Cells.{setTestBy}
-use Rattle.stored.specs.Marks.{toldMark}
-use Rattle.stored.proofs.mask.is_set.Statement.{statement}
-use Rattle.stored.proofs.mask.is_set.Tie as tie
+use Rattle.mask.specs.Marks.{toldMark}
+use Rattle.mask.proofs.mark.is_set.Statement.{statement}
+use Rattle.mask.proofs.mark.is_set.Tie as tie
 
 shared-slice-read-mark-of : tie.Need-shared-slice-read-mark-of
 shared-slice-read-mark-of c = search needs

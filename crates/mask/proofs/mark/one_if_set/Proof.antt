@@ -4,9 +4,9 @@ use mathlib.Core.Path.{sym, ap, _∙_}
 use borrow.Author.Needs.{needs}
 use Rattle.array.specs.Cells.{Mark}
 use Rattle.codec.specs.Frame.{countBy}
-use Rattle.stored.specs.Marks.{toldMark}
-use Rattle.stored.proofs.mask.one_if_set.Statement.{statement}
-use Rattle.stored.proofs.mask.one_if_set.Tie as tie
+use Rattle.mask.specs.Marks.{toldMark}
+use Rattle.mask.proofs.mark.one_if_set.Statement.{statement}
+use Rattle.mask.proofs.mark.one_if_set.Tie as tie
 
 mark-of-requires : tie.Need-mark-of-requires
 mark-of-requires c κs = search needs

@@ -2,8 +2,8 @@
 -- Assumes nothing.
 use borrow.Author.Needs.{needs}
 use Rattle.codec.proofs.Marks.{byte-set}
-use Rattle.stored.proofs.mask.mark_of.Statement.{statement}
-use Rattle.stored.proofs.mask.mark_of.Tie as tie
+use Rattle.mask.proofs.mark.mark_of.Statement.{statement}
+use Rattle.mask.proofs.mark.mark_of.Tie as tie
 
 returns : tie.Need-returns
 returns c = search needs

@@ -7,8 +7,8 @@ use lib.ListN.{length, drop}
 use borrow.Author.Needs.{needs}
 use Rattle.codec.specs.Frame.{countSet}
 use Rattle.codec.proofs.Marks.{count-le, count-end}
-use Rattle.stored.proofs.mask.count_set.Statement.{statement}
-use Rattle.stored.proofs.mask.count_set.Tie as tie
+use Rattle.mask.proofs.mark.count_set.Statement.{statement}
+use Rattle.mask.proofs.mark.count_set.Tie as tie
 
 abbrev Inv-loop : tie.InvT-loop
 Inv-loop mask n₀ at₀ n at = (at ≤ length mask) × (n + countSet (drop at mask) ≡ countSet mask)

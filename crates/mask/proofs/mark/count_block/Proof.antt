@@ -7,8 +7,8 @@ use lib.ListN.{getD, drop}
 use borrow.Author.Needs.{needs}
 use Rattle.codec.specs.Frame.{countSet}
 use Rattle.codec.proofs.Marks.{count-one, count-next}
-use Rattle.stored.proofs.mask.count_block.Statement.{statement}
-use Rattle.stored.proofs.mask.count_block.Tie as tie
+use Rattle.mask.proofs.mark.count_block.Statement.{statement}
+use Rattle.mask.proofs.mark.count_block.Tie as tie
 
 abbrev Inv-loop : tie.InvT-loop
 Inv-loop mask from end n₀ i₀ n i = (from ≤ i) × (i ≤ end) × (n ≤ i - from) × (n + countSet (drop i mask) ≡ countSet (drop from mask))

@@ -1,0 +1,40 @@
+-- What the code's mark of a mask byte means; a stored mask by its place, over its form: what it says, and how many cells it sets.
+-- Assumes nothing.
+use Prim.Native.Nat.{ℕ, _/_}
+use mathlib.Core.List.{List}
+use lib.ListN.{take, drop}
+use Rattle.array.specs.Answer.{Answer, gives, refuses, andThen}
+use Rattle.array.specs.Cells.{Mark, isNull, isSet}
+use Rattle.array.specs.Kind.{Masks, asBytes, asBits}
+use Rattle.codec.specs.Mask.{MaskForm, getMask, bitsOf}
+use Rattle.codec.specs.Frame.{countSet}
+use Rattle.mask.specs.declared.mark.Mark as marks
+use Rattle.mask.specs.declared.form.Counted as counts
+
+abbrev pub toldMark : marks.Mark → Mark
+toldMark marks.Mark.Null = isNull
+toldMark marks.Mark.Set = isSet
+
+-- the stored mask of n cells at `at`, and the mask bytes that it says
+abbrev pub storedMask : MaskForm → List ℕ → ℕ → ℕ → List ℕ
+storedMask mf s at n = take (mf .size n) (drop at s)
+
+abbrev pub saidMask : MaskForm → List ℕ → ℕ → ℕ → List ℕ
+saidMask mf s at n = mf .said (storedMask mf s at n) n
+
+-- the mask bytes that stored bytes say, all of them, and the byte in which the one of cell j lies
+abbrev pub saidFrom : Masks → List ℕ → List ℕ
+saidFrom asBytes s = s
+saidFrom asBits s = bitsOf s
+
+abbrev pub saidPlace : Masks → ℕ → ℕ
+saidPlace asBytes j = j
+saidPlace asBits j = j / 8
+
+-- the stored mask of n cells, got back or refused: how many of them it sets
+abbrev pub countedIn : MaskForm → List ℕ → ℕ → Answer ℕ
+countedIn mf mask n = andThen (getMask mf mask n) (λ ms. gives (countSet ms))
+
+abbrev pub toldCounted : counts.Counted → Answer ℕ
+toldCounted (counts.Counted.Cells k) = gives k
+toldCounted (counts.Counted.Refused e) = refuses e
