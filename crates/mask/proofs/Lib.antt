@@ -1,3 +1,4 @@
+pub mod Entries
 pub mod Table
 pub mod Said
-pub mod Packs
+pub mod Words

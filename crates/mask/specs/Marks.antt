@@ -1,6 +1,6 @@
 -- What the code's mark of a mask byte means; a stored mask by its place, over its form: what it says, and how many cells it sets.
 -- Assumes nothing.
-use Prim.Native.Nat.{ℕ, _/_}
+use Prim.Native.Nat.{ℕ, _+_, _*_, _/_, _%_}
 use mathlib.Core.List.{List}
 use lib.ListN.{take, drop}
 use Rattle.array.specs.Answer.{Answer, gives, refuses, andThen}
@@ -38,3 +38,7 @@ countedIn mf mask n = andThen (getMask mf mask n) (λ ms. gives (countSet ms))
 abbrev pub toldCounted : counts.Counted → Answer ℕ
 toldCounted (counts.Counted.Cells k) = gives k
 toldCounted (counts.Counted.Refused e) = refuses e
+
+-- the byte whose bits are the bytes of v, where these are 0 or 1: proofs/Words has that law
+abbrev pub packedWord : ℕ → ℕ
+packedWord v = v % 4294967296 * 16909320 / 16777216 % 16 + 16 * (v / 4294967296 * 16909320 / 16777216 % 16)

@@ -1,6 +1,8 @@
 // Stored masks, over their form: a byte a cell or a bit a cell. No other crate knows how a mask lies in stored bytes.
 use crate::mark::count_set;
+use crate::pack;
 use crate::packed;
+use crate::unpack;
 use array::kind::MaskForm;
 use array::refusal;
 use buffer::copy;
@@ -42,7 +44,7 @@ pub fn copy_to_plane(form: MaskForm, planes: &mut [u8], to: usize, s: &[u8], at:
 {
     match form {
         MaskForm::Bytes => copy::copy_many(planes, to, s, at, n),
-        MaskForm::Packed => packed::unpack(planes, to, s, at, n),
+        MaskForm::Packed => unpack::unpack(planes, to, s, at, n),
     }
 }
 
@@ -53,7 +55,7 @@ pub fn put_plane(form: MaskForm, out: &mut [u8], to: usize, planes: &[u8], at: u
 {
     match form {
         MaskForm::Bytes => copy::copy_many(out, to, planes, at, n),
-        MaskForm::Packed => packed::pack(out, to, planes, at, n),
+        MaskForm::Packed => pack::pack(out, to, planes, at, n),
     }
 }
 

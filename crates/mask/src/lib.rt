@@ -2,4 +2,6 @@
 pub mod bits;
 pub mod form;
 pub mod mark;
+pub mod pack;
 pub mod packed;
+pub mod unpack;

@@ -1,0 +1,66 @@
+// Packed masks, read into a plane: eight cells a step.
+use buffer::copy;
+use buffer::field;
+ghost use mathlib.Core.Path.{_≡_};
+ghost use Prim.Native.Nat.{_+_, _*_, _≤_, _<_};
+ghost use lib.ListN.{length, take, drop};
+ghost use Rattle.array.specs.Buffers.{overAt};
+ghost use Rattle.array.specs.Bytes.{digits, number, le};
+ghost use Rattle.codec.specs.Mask.{bytesFor, bitsOf, packedMask};
+ghost use Rattle.mask.specs.Marks.{saidMask};
+
+// Four bits as four bytes: bit k of the place is byte k of the number there.
+const FOUR_BYTES: [u32; 16] = [
+    0, 1, 256, 257, 65536, 65537, 65792, 65793, 16777216, 16777217, 16777472, 16777473, 16842752,
+    16842753, 16843008, 16843009,
+];
+
+fn four_bytes(i: u8) -> u32
+    requires { ⌜ i < 16 ⌝ }
+    ensures { λ r. ⌜ r ≡ number 256 (digits 2 4 i) ⌝ }
+{
+    let place = i as usize;
+    FOUR_BYTES[place]
+}
+
+// The eight mask bytes that b says, as the number whose bytes they are.
+fn eight_bytes(b: u8) -> u64
+    ensures { λ r. ⌜ le 8 r ≡ digits 2 8 b ⌝ }
+{
+    four_bytes(b % 16) as u64 + 4294967296 * (four_bytes(b / 16) as u64)
+}
+
+// The cells of whole bytes.
+fn unpack_whole(planes: &mut [u8], to: usize, s: &[u8], at: usize, whole: usize)
+    requires { ⌜ (to + whole * 8 ≤ length (now planes)) × (at + whole ≤ length (now s)) ⌝ }
+    ensures { λ _. ⌜ now (planes .exit) ≡ overAt to (bitsOf (take whole (drop at (now (s .entry))))) (now (planes .entry)) ⌝ }
+{
+    let mut i = 0;
+    while i < whole {
+        field::put_u64(planes, to + i * 8, eight_bytes(s[at + i]));
+        i += 1;
+    }
+}
+
+// The first `count` cells of a byte.
+fn unpack_some(planes: &mut [u8], to: usize, b: u8, count: usize)
+    requires { ⌜ (to + count ≤ length (now planes)) × (count ≤ 8) ⌝ }
+    ensures { λ _. ⌜ now (planes .exit) ≡ overAt to (take count (digits 2 8 b)) (now (planes .entry)) ⌝ }
+{
+    let mut cells = [0u8; 8];
+    field::put_u64(&mut cells, 0, eight_bytes(b));
+    copy::copy_bytes(planes, to, &cells, 0, count);
+}
+
+// Writes the mask bytes of the n cells of the packed mask at `at` into the plane at `to`: 01 where the bit is set.
+pub fn unpack(planes: &mut [u8], to: usize, s: &[u8], at: usize, n: usize)
+    requires { ⌜ (to + n ≤ length (now planes)) × (at + bytesFor n ≤ length (now s)) ⌝ }
+    ensures { λ _. ⌜ now (planes .exit) ≡ overAt to (saidMask packedMask (now (s .entry)) at n) (now (planes .entry)) ⌝ }
+{
+    let whole = n / 8;
+    unpack_whole(planes, to, s, at, whole);
+    let rest = n % 8;
+    if 0 < rest {
+        unpack_some(planes, to + whole * 8, s[at + whole], rest);
+    }
+}
