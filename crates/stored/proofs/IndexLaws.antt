@@ -12,7 +12,7 @@ use lib.Dec.{leb, ltb, eqb}
 use lib.ListN.{length, take, drop, length-drop}
 use lib.Seq.{take-nil, drop-drop, take-take, take-all, length-take-le}
 use borrow.Author.Tests.{le-leb, lt-leb, eq-eqb, ne-eqb, eqb-true, leb-true, ltb-true, ltb-false}
-use Rattle.array.specs.Answer.{Answer, gives, refuses, unless}
+use Rattle.array.specs.Answer.{Answer, gives, refuses, unless, andThen, mapAnswer}
 use Rattle.array.specs.Limits.{mostBytes}
 use Rattle.array.specs.Lists.{pieces}
 use Rattle.array.specs.Bytes.{unle}
@@ -23,7 +23,8 @@ use Rattle.array.specs.Meaning.{widthOf}
 use Rattle.array.specs.Offsets.{last, risingTest, risingFromTest}
 use Rattle.array.specs.Content.{RaggedContent, sizeTest}
 use Rattle.codec.specs.Ragged.{dataTest, dataFor, checkRagged, getRagged, partOf, leftOf}
-use Rattle.stored.specs.Index.{offsetsIn, first, spanOf, openBy, readBy, indexedBy, indexCheck, indexIn, limited, spanIn, lengthAt, indexAt, dataAt}
+use Rattle.stored.specs.declared.vlen.Index.{Index}
+use Rattle.stored.specs.Index.{offsetsIn, first, spanOf, openBy, readBy, indexedBy, indexCheck, indexIn, limited, spanIn, lengthAt, indexAt, dataAt, located, foundIn, checkedIn}
 
 pub width-most : (w : IndexWidth) → widthOf w ≤ 8
 width-most Four = omega arith
@@ -270,7 +271,7 @@ check-limited os d = go (dataTest (last os) (length d)) (risingTest os) (sizeTes
     go true false c e = refl
     go false b c e = refl
 
-pub index-limited : (w : ℕ) (p : Place) (s : List ℕ) (n : ℕ) → limited (indexIn w p s n) ≡ spanIn (getRagged w p s n)
+index-limited : (w : ℕ) (p : Place) (s : List ℕ) (n : ℕ) → limited (indexIn w p s n) ≡ spanIn (getRagged w p s n)
 unfolding indexIn getRagged
 index-limited w p s n =
     let l : ℕ = unle (partOf p 8 s) in
@@ -285,3 +286,19 @@ index-limited w p s n =
     go x y true true false e = refl
     go x y true false c e = refl
     go x y false b c e = refl
+
+-- the same of the whole index
+abbrev pub limitedIndex : Answer Index → Answer Index
+limitedIndex a = andThen a (λ i. unless (sizeTest (i .last)) 5 (gives i))
+
+pub found-limited : (w : ℕ) (p : Place) (s : List ℕ) (at n : ℕ) → limitedIndex (foundIn w p s at n) ≡ checkedIn w p s at n
+unfolding foundIn checkedIn
+found-limited w p s at n = go (indexIn w p (drop at s) n) ∙ ap (mapAnswer (located w p s at n)) (index-limited w p (drop at s) n)
+  where
+    go : (a : Answer (ℕ × ℕ)) → limitedIndex (mapAnswer (located w p s at n) a) ≡ mapAnswer (located w p s at n) (limited a)
+    go (refuses e) = refl
+    go (gives x) = by (sizeTest (x .1))
+      where
+        by : (b : Bool) → unless b 5 (gives (located w p s at n x)) ≡ mapAnswer (located w p s at n) (unless b 5 (gives x))
+        by true = refl
+        by false = refl
