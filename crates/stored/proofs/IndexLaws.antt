@@ -101,7 +101,7 @@ over-limit n = go (ltb mostBytes n) refl
 
 -- ---- the answers of the check, by what was found
 
-module _ (os : List ℕ) (k l : ℕ) (el : l ≡ last os) where
+module _ (os : List ℕ) (k : ℕ) {l : ℕ} (el : l ≡ last os) where
   pub by-data : dataTest l k ≡ false → refuses 8 ≡ indexedBy os k
   unfolding indexedBy
   by-data e = rw (ap (λ (x : ℕ). dataTest x k) (sym el) ∙ e)
