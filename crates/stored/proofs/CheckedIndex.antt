@@ -96,7 +96,8 @@ fits-at w k q p f l h = go (ltb (length q) 8) refl
         let m : w + k * w ≤ length q - 8 = ltb-false (length q - 8) (w + k * w) e in
         by (eqb (unle (take 8 (drop (lengthAt p (length q)) q))) (w + k * w)) (read-at checkRagged w k q g m p) (sym (read-at indexCheck w k q g m p) ∙ h) m
       where
-        by : (t : Bool) → readBy checkRagged w p q k ≡ unless t 8 (checkedAt checkRagged w k q p) → unless t 8 (checkedAt indexCheck w k q p) ≡ gives (f, l) → w + k * w ≤ length q - 8 → Fits w k q p f l
+        by : (t : Bool) → readBy checkRagged w p q k ≡ unless t 8 (checkedAt checkRagged w k q p) → unless t 8 (checkedAt indexCheck w k q p) ≡ gives (f, l)
+            → w + k * w ≤ length q - 8 → Fits w k q p f l
         by true a b m = record { long = g; index-fits = m; span = b; by-position = a }
         by false a b m = let z : _≡_ {A = ℕ} 0 1 = cc in absurd (omega arith)
 

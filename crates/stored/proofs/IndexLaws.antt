@@ -49,7 +49,7 @@ pub record Rises (w n : ℕ) (s : List ℕ) (at prev p left : ℕ) : Type 0 wher
 pub rises-start : (w n : ℕ) (s : List ℕ) (at prev : ℕ) → at + (w + n * w) ≤ length s → prev ≡ unle (take w (drop at s)) → Rises w n s at prev at n
 rises-start w n s at prev h e = record { room = h; rest = ap₂ (λ (q : List ℕ) (a : ℕ). risingFromTest a (offsetsIn w n q)) (drop-drop w at s) (sym e) }
 
-module _ (w n : ℕ) (s : List ℕ) (at prev p left : ℕ) (r : Rises w n s at prev p left) (h : 0 < left) where
+module _ {w n : ℕ} {s : List ℕ} {at prev p left : ℕ} (r : Rises w n s at prev p left) (h : 0 < left) where
   pub rises-room : p + w + w + (left - 1) * w ≤ length s
   rises-room = omega (arith, r .room, times-less left w h)
 
@@ -72,8 +72,8 @@ module _ (w n : ℕ) (s : List ℕ) (at prev p left : ℕ) (r : Rises w n s at p
     rest = next-is next e ∙ ap (λ (b : Bool). b && risingFromTest next (offsetsIn w (left - 1) (drop (p + w + w) s))) (le-leb prev next f);
   }
 
-pub rises-end : (w n : ℕ) (s : List ℕ) (at prev p left : ℕ) → Rises w n s at prev p left → left ≡ 0 → true ≡ risingTest (offsetsIn w (suc n) (drop at s))
-rises-end w n s at prev p left r e = sym (r .rest ∙ ap (λ (k : ℕ). risingFromTest prev (offsetsIn w k (drop (p + w) s))) e)
+pub rises-end : {w n : ℕ} {s : List ℕ} {at prev p left : ℕ} → Rises w n s at prev p left → left ≡ 0 → true ≡ risingTest (offsetsIn w (suc n) (drop at s))
+rises-end {w} {n} {s} {at} {prev} {p} {left} r e = sym (r .rest ∙ ap (λ (k : ℕ). risingFromTest prev (offsetsIn w k (drop (p + w) s))) e)
 
 -- ---- the last offset, and the data
 
@@ -193,9 +193,11 @@ module _ {A : Type 0} (check : List ℕ → List ℕ → Answer A) (w n : ℕ) (
               (λ e.
               let e1 : unle (take 8 q) ≡ suc n * w = e ∙ mul-comm w (suc n) in
               let e2 : 8 + unle (take 8 q) ≡ 8 + (w + n * w) = omega (arith, index-size w n) in
-              let a1 : offsetsIn w (suc n) (take (unle (take 8 q)) (drop 8 q)) ≡ offsetsIn w (suc n) (drop 8 q) = ap (λ (k : ℕ). offsetsIn w (suc n) (take k (drop 8 q))) e1 ∙ ap (map unle) (pieces-take w (suc n) (drop 8 q)) in
+              let a1 : offsetsIn w (suc n) (take (unle (take 8 q)) (drop 8 q)) ≡ offsetsIn w (suc n) (drop 8 q) =
+              ap (λ (k : ℕ). offsetsIn w (suc n) (take k (drop 8 q))) e1 ∙ ap (map unle) (pieces-take w (suc n) (drop 8 q)) in
               let a2 : drop (unle (take 8 q)) (drop 8 q) ≡ drop (8 + (w + n * w)) q = drop-drop (unle (take 8 q)) 8 q ∙ ap (λ (k : ℕ). drop k q) e2 in
-              let a3 : take (length q - 8 - (w + n * w)) (drop (8 + (w + n * w)) q) ≡ drop (8 + (w + n * w)) q = take-all (length q - 8 - (w + n * w)) (drop (8 + (w + n * w)) q) (omega (arith, length-drop (8 + (w + n * w)) q)) in
+              let a3 : take (length q - 8 - (w + n * w)) (drop (8 + (w + n * w)) q) ≡ drop (8 + (w + n * w)) q =
+              take-all (length q - 8 - (w + n * w)) (drop (8 + (w + n * w)) q) (omega (arith, length-drop (8 + (w + n * w)) q)) in
               ap₂ check a1 (a2 ∙ sym a3))
           go atEnd =
               let t : List ℕ = take (length q - 8) q in
@@ -207,7 +209,8 @@ module _ {A : Type 0} (check : List ℕ → List ℕ → Answer A) (w n : ℕ) (
               let ex : length t - unle (drop (length q - 8) q) ≡ x = omega (arith, index-size w n) in
               let ey : length q - 8 ≡ x + suc n * w = omega (arith, suc-mul n w) in
               let a1 : drop (length t - unle (drop (length q - 8) q)) t ≡ take (suc n * w) (drop x q) = ap₂ (λ (i j : ℕ). drop i (take j q)) ex ey ∙ drop-take x (suc n * w) q in
-              let a2 : offsetsIn w (suc n) (drop (length t - unle (drop (length q - 8) q)) t) ≡ offsetsIn w (suc n) (drop x q) = ap (offsetsIn w (suc n)) a1 ∙ ap (map unle) (pieces-take w (suc n) (drop x q)) in
+              let a2 : offsetsIn w (suc n) (drop (length t - unle (drop (length q - 8) q)) t) ≡ offsetsIn w (suc n) (drop x q) =
+              ap (offsetsIn w (suc n)) a1 ∙ ap (map unle) (pieces-take w (suc n) (drop x q)) in
               let a3 : take (length t - unle (drop (length q - 8) q)) t ≡ take x q = ap (λ (i : ℕ). take i t) ex ∙ take-take x (length q - 8) q (omega arith) in
               ap₂ check a2 a3)
               ∙ ap (λ (m : List ℕ). unless (eqb (unle m) (w + n * w)) 8 (checkedAt atEnd)) (sym b)
@@ -241,7 +244,8 @@ module _ (w n : ℕ) (s : List ℕ) (at : ℕ) (h : 8 ≤ length s - at) (f : w 
       let af : drop (at + lengthAt p (length s - at)) s ≡ drop (lengthAt p (length q)) q = ap (λ (l : ℕ). drop (at + lengthAt p l) s) (sym lq) ∙ sym (drop-drop (lengthAt p (length q)) at s) in
       let ai : drop there s ≡ drop (indexAt p (length q) i) q = ap (λ (l : ℕ). drop (at + indexAt p l i) s) (sym lq) ∙ sym (drop-drop (indexAt p (length q) i) at s) in
       let d : List ℕ = take (length q - 8 - i) (drop (dataAt p i) q) in
-      let ld : length d ≡ count = length-take-le (length q - 8 - i) (drop (dataAt p i) q) (omega (arith, length-drop (dataAt p i) q, data-room p (length q) i (omega arith))) ∙ ap (λ (l : ℕ). l - 8 - i) lq in
+      let ld : length d ≡ count =
+      length-take-le (length q - 8 - i) (drop (dataAt p i) q) (omega (arith, length-drop (dataAt p i) q, data-room p (length q) i (omega arith))) ∙ ap (λ (l : ℕ). l - 8 - i) lq in
       ap₂ (λ (x y : List ℕ). unless (eqb (unle (take 8 x)) i) 8 (indexedBy (offsetsIn w (suc n) y) count)) af ai
       ∙ ap (λ (j : ℕ). unless (eqb (unle (take 8 (drop (lengthAt p (length q)) q))) i) 8 (indexedBy (offsetsIn w (suc n) (drop (indexAt p (length q) i) q)) j)) (sym ld)
       ∙ sym (read-at indexCheck w n q (omega arith) (omega arith) p)

@@ -15,7 +15,7 @@ use Rattle.array.specs.Bytes.{unle}
 use Rattle.array.specs.Kind.{Masks}
 use Rattle.buffer.specs.Field.{fieldAt}
 use Rattle.buffer.proofs.Fields.{field-value, field-refused}
-use Rattle.codec.specs.Mask.{MaskForm, getMask, maskForm}
+use Rattle.codec.specs.Mask.{MaskForm, maskForm}
 use Rattle.codec.specs.Frame.{countSet}
 use Rattle.mask.specs.Marks.{storedMask, saidMask, countedIn}
 use Rattle.stored.specs.Walk.{opened, valuesAt, noneSet, entering, walked, walkedFrame}

@@ -12,7 +12,7 @@ use borrow.Fn.PlainCycle.{Measures, is, falls, and}
 use Rattle.array.specs.Answer.{gives}
 use Rattle.array.specs.Kind.{Masks}
 use Rattle.array.specs.Meaning.{masksOf}
-use Rattle.codec.specs.Mask.{MaskForm, maskForm}
+use Rattle.codec.specs.Mask.{maskForm}
 use Rattle.mask.specs.Marks.{toldCounted}
 use Rattle.stored.specs.Walk.{opened}
 use Rattle.stored.proofs.Opening.{FrameOpen, frame-open, content-end, content-frame, frame-refused, frame-none, frame-content}

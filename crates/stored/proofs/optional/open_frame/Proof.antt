@@ -1,6 +1,6 @@
 -- `open_frame` meets its contract: each answer by the fields that were read (Opening).
 -- Assumes nothing.
-use mathlib.Core.Path.{_≡_, sym, ap, _∙_}
+use mathlib.Core.Path.{sym, ap, _∙_}
 use mathlib.Core.List.{List}
 use Prim.Native.Nat.{ℕ}
 use native.Mathlib.Omega.{arith}
@@ -19,18 +19,25 @@ form s = maskForm (masksOf (s .args .form))
 abbrev bytes : tie.Start → List ℕ
 bytes s = s .args .s .now
 
--- both lengths were read
+-- the first length was read and the second asked for
+abbrev Second : Type 0
+Second = tie.After-read-u642
+
+abbrev first : Second → tie.After-read-u64
+first r = r .before .before .before .before
+
+abbrev asked : Second → tie.Start
+asked r = first r .before .before
+
+-- both were read
 abbrev Read : Type 0
 Read = tie.After-known-told2
 
-abbrev second : Read → tie.After-read-u642
+abbrev second : Read → Second
 second k = k .before .before .before
 
-abbrev first : Read → tie.After-read-u64
-first k = second k .before .before .before .before
-
 abbrev start : Read → tie.Start
-start k = first k .before .before
+start k = asked (second k)
 
 abbrev mask : Read → ℕ
 mask k = second k .before .before .mask .given .0 .0
@@ -42,7 +49,7 @@ fields : (k : Read) → Fields (bytes (start k)) (start k .args .at) (mask k) (c
 fields k =
     let s = start k in
     fields-read (bytes s) (s .args .at) (mask k) (content k) (s .pre .0)
-    (sym (first k .read-u64 .ensures) ∙ ap toldField (second k .before .before .mask .given .1))
+    (sym (first (second k) .read-u64 .ensures) ∙ ap toldField (second k .before .before .mask .given .1))
     (sym (second k .read-u642 .ensures) ∙ ap toldField (k .before .content .given .1))
 
 -- what the mask's length has to be
@@ -85,7 +92,7 @@ enum-told-2 c = search needs
 returns-2 : tie.Need-returns-2
 returns-2 c =
     let r = c .before .before in
-    let s = r .before .before .before .before .before .before in
+    let s = asked r in
     short-second (form s) (bytes s) (s .args .at) (s .args .cells) _ (sym (r .read-u642 .ensures) ∙ ap toldField (c .enum-told2 .given .1))
 
 add-start : tie.Need-add-start
