@@ -36,7 +36,7 @@ pub enum Indexed {
 }
 
 // Bytes of the index of n cells.
-pub fn index_length(n: usize, width: IndexWidth) -> usize
+fn index_length(n: usize, width: IndexWidth) -> usize
     requires { ⌜ n ≤ mostCells ⌝ }
     ensures { λ r. ⌜ r ≡ widthOf width + n * widthOf width ⌝ }
 {
@@ -78,7 +78,7 @@ pub fn data_at(place: IndexPlace, size: usize) -> usize
 }
 
 // Whether the n + 1 offsets from `at` on never fall.
-pub fn never_falls(s: &[u8], at: usize, n: usize, width: IndexWidth) -> bool
+fn never_falls(s: &[u8], at: usize, n: usize, width: IndexWidth) -> bool
     requires { ⌜ at + (widthOf width + n * widthOf width) ≤ length (now s) ⌝ }
     ensures { λ r. ⌜ r ≡ risingTest (offsetsIn (widthOf width) (suc n) (drop at (now (s .entry)))) ⌝ }
 {
@@ -99,7 +99,7 @@ pub fn never_falls(s: &[u8], at: usize, n: usize, width: IndexWidth) -> bool
 }
 
 // With a last offset of 0 the data is not looked at.
-pub fn data_fits(last: u64, count: usize) -> bool
+fn data_fits(last: u64, count: usize) -> bool
     ensures { λ r. ⌜ r ≡ dataTest last count ⌝ }
 {
     if last == 0 {

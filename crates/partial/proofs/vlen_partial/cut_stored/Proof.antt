@@ -25,12 +25,16 @@ use Rattle.partial.proofs.Outcomes.{too-many, no-values, no-offsets, al
 use Rattle.partial.proofs.vlen_partial.cut_stored.Statement.{statement}
 use Rattle.partial.proofs.vlen_partial.cut_stored.Tie as tie
 
+-- past the slices' own places
+abbrev entry : tie.After-shared-slice-known4 → tie.Start
+entry c = c .before .before .before .before
+
 -- once the cells of the subset are counted: the start, the values of the cut, the outputs
 abbrev Counted : Type 0
 Counted = tie.After-volume-of
 
 abbrev start : Counted → tie.Start
-start v = v .before .before .before .before .before .before .before
+start v = entry (v .before .before .before)
 
 abbrev off : Counted → ℕ → ℕ
 off v = let a = start v .args in storedAt (widthOf (a .width)) (a .bytes .now) (a .found .index)
@@ -62,7 +66,7 @@ offsets-need v =
 
 volume-of-requires : tie.Need-volume-of-requires
 volume-of-requires c κs =
-    let s = c .before .before .before .before .before .before in
+    let s = entry (c .before .before) in
     few-within (s .args .shape .now) (s .args .starts .now) (s .args .lens .now) (s .pre .0 .shaped) (s .pre .0 .within)
 
 count-bytes-requires : tie.Need-count-bytes-requires

@@ -30,6 +30,13 @@ use Rattle.partial.proofs.Outcomes.{no-shape, no-subset, not-read, cut-
 use Rattle.partial.proofs.vlen_partial.partial_decode.Statement.{statement}
 use Rattle.partial.proofs.vlen_partial.partial_decode.Tie as tie
 
+-- past the slices' own places, and where the shape was asked for its cells
+abbrev entry : tie.After-slice-known → tie.Start
+entry c = c .before .before .before .before
+
+abbrev asked : tie.After-shape-cells → tie.Start
+asked k = entry (k .before .before)
+
 -- where the function starts: the width and the place of the index, what is handed over, the outputs
 abbrev width : tie.Start → ℕ
 width s = widthOf (s .args .width)
@@ -54,7 +61,7 @@ abbrev Shaped : Type 0
 Shaped = tie.After-known-told
 
 abbrev start : Shaped → tie.Start
-start m = m .before .before .before .before .before .before .before .before .before
+start m = asked (m .before .before .before)
 
 abbrev cells : Shaped → ℕ
 cells m = m .before .cells .given .0 .0
@@ -113,7 +120,7 @@ enum-told c = search needs
 returns : tie.Need-returns
 returns c =
     let m = c .before .before in
-    let s = m .before .before .before .before .before .before in
+    let s = asked m in
     no-shape (width s) (place s) (shape s) (numbers s) (bytes s) (outputs s)
     (not-counted (shape s) (c .enum-told .given .0 .0) (sym (ap toldCells (c .enum-told .given .1)) ∙ m .shape-cells .ensures) .0)
 
