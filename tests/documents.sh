@@ -1,7 +1,8 @@
 #!/usr/bin/env bash
 # The pages against the tree: files, functions and make targets that they name are there; each must-fail edit is named in
 # docs/PROMISES.md, and each edit that it names stands in the crate that it says; each rule that they cite is in docs/SPEC.md, which
-# alone names where the rules come from; header, README and docs/FORMAT.md have the refusals of docs/SPEC.md; the version is one.
+# alone names where the rules come from; header, README and docs/FORMAT.md have the refusals of docs/SPEC.md, the header those of each
+# call; CHANGELOG.md begins with the version.
 set -euo pipefail
 cd "$(dirname "$0")/.."
 bad=0
@@ -70,6 +71,17 @@ for page in README.md docs/FORMAT.md; do
 done
 header=$(sed -n '/^enum dpx_refusal/,/^}/p' include/durpaxeta.h | grep -oE 'DPX_[A-Z_]+ = [1-9][0-9]*' | awk '{print $3}' | sort -n | tr '\n' ' ')
 [ "$header" = "$ruled" ] || wrong "include/durpaxeta.h has the refusals $header, docs/SPEC.md $ruled"
+
+# Each call's list in rule S6.1 has the numbers that the header's comment on the call has.
+calls=$(sed -n '/^\*\*S6.1\*\*/,/^\*\*S6.2\*\*/p' docs/SPEC.md | grep '^| `')
+numbers() { grep -oE '[0-9]+' | sort -nu | tr '\n' ' '; }
+while IFS='|' read -r _ call _ _ _ list _; do
+    call=$(tr -d '` ' <<< "$call")
+    list=$(sed 's/S[0-9.]*//g' <<< "$list" | numbers)
+    header=$(awk -v call="dpx_$call(" '/^\/\*/ {comment = ""} {comment = comment "\n" $0} /^uint32_t/ && index($0, call) {print comment; exit}' include/durpaxeta.h \
+        | grep -oE '^ \* +[0-9]+ DPX_' | numbers)
+    [ "$header" = "$list" ] || wrong "$call has the refusals $header in include/durpaxeta.h, $list in rule S6.1"
+done <<< "$calls"
 
 version=$(sed -n 's/^version = "\(.*\)"$/\1/p' bindings/rust/Cargo.toml)
 newest=$(sed -n 's/^## \([0-9.]*\).*/\1/p' CHANGELOG.md | head -n 1)
