@@ -1,13 +1,32 @@
-//! Files, standard input and standard output.
+//! Files that are read, and standard input.
 
-use crate::failure::Failure;
+use crate::failure::{Failure, SYSTEM};
+use crate::system;
 use crate::watch::Watch;
 use std::ffi::OsStr;
-use std::fs::File;
-use std::io::{self, Read, Write};
+use std::fs::{File, Metadata};
+use std::io::{self, Read};
+use std::os::fd::AsFd;
+use std::os::unix::fs::MetadataExt;
 
 /// More than this is not read: no table needs it, and an input that never ends must end somewhere.
 const MOST: u64 = 1 << 28;
+
+/// The device and the inode of a regular file. Two names of one file have one identity.
+#[derive(Clone, Copy, Debug, PartialEq, Eq)]
+pub struct Identity(u64, u64);
+
+/// The identity of a regular file; devices and pipes have none that matters.
+pub fn identity(about: &Metadata) -> Option<Identity> {
+    about.is_file().then(|| Identity(about.dev(), about.ino()))
+}
+
+/// What was read.
+pub struct Input {
+    pub name: String,
+    pub bytes: Vec<u8>,
+    pub identity: Option<Identity>,
+}
 
 /// The name of a file for people.
 pub fn name(path: &OsStr, standard: &str) -> String {
@@ -19,18 +38,20 @@ pub fn name(path: &OsStr, standard: &str) -> String {
 }
 
 /// Reads all of a file; `-` is standard input.
-pub fn read(path: &OsStr, watch: &Watch) -> Result<Vec<u8>, Failure> {
+pub fn read(path: &OsStr, watch: &Watch) -> Result<Input, Failure> {
     let name = name(path, "standard input");
-    if path == "-" {
-        return read_all(&mut io::stdin().lock(), &name, None, watch);
+    if path == "-" && system::input_was_closed() {
+        return Err(Failure::plain(SYSTEM, format!("cannot read {name}: it is closed")));
     }
-    let mut file = File::open(path).map_err(|error| Failure::system("open", &name, &error))?;
+    let opened = if path == "-" { io::stdin().as_fd().try_clone_to_owned().map(File::from) } else { File::open(path) };
+    let mut file = opened.map_err(|error| Failure::system("open", &name, &error))?;
     let about = file.metadata().map_err(|error| Failure::system("read", &name, &error))?;
     if about.is_dir() {
-        return Err(Failure::System(format!("cannot read {name}: it is a directory")));
+        return Err(Failure::plain(SYSTEM, format!("cannot read {name}: it is a directory")));
     }
     let total = about.is_file().then_some(about.len());
-    read_all(&mut file, &name, total, watch)
+    let bytes = read_all(&mut file, &name, total, watch)?;
+    Ok(Input { name, bytes, identity: identity(&about) })
 }
 
 fn read_all(from: &mut dyn Read, name: &str, total: Option<u64>, watch: &Watch) -> Result<Vec<u8>, Failure> {
@@ -45,35 +66,13 @@ fn read_all(from: &mut dyn Read, name: &str, total: Option<u64>, watch: &Watch) 
             Err(error) => return Err(Failure::system("read", name, &error)),
         };
         if bytes.len() as u64 + count as u64 > MOST {
-            return Err(Failure::System(format!(
-                "cannot read {name}: it is longer than {MOST} bytes, the most that is read"
-            )));
+            let what = format!("cannot read {name}: it is longer than {MOST} bytes, the most that is read");
+            return Err(Failure::plain(SYSTEM, what));
         }
         if bytes.try_reserve(count).is_err() {
-            return Err(Failure::System(format!("cannot read {name}: not enough memory for it")));
+            return Err(Failure::plain(SYSTEM, format!("cannot read {name}: not enough memory for it")));
         }
         bytes.extend_from_slice(&piece[..count]);
         watch.done(bytes.len() as u64);
     }
-}
-
-/// Writes all of a file, in place of what was there; `-` is standard output.
-pub fn write(path: &OsStr, bytes: &[u8], watch: &Watch) -> Result<(), Failure> {
-    let name = name(path, "standard output");
-    watch.step(format!("writing {name}"), Some(bytes.len() as u64), "bytes");
-    if path == "-" {
-        return write_all(&mut io::stdout().lock(), &name, bytes, watch);
-    }
-    let mut file = File::create(path).map_err(|error| Failure::system("write", &name, &error))?;
-    write_all(&mut file, &name, bytes, watch)
-}
-
-fn write_all(to: &mut dyn Write, name: &str, bytes: &[u8], watch: &Watch) -> Result<(), Failure> {
-    let mut done = 0;
-    for piece in bytes.chunks(1 << 20) {
-        to.write_all(piece).map_err(|error| Failure::system("write", name, &error))?;
-        done += piece.len() as u64;
-        watch.done(done);
-    }
-    to.flush().map_err(|error| Failure::system("write", name, &error))
 }

@@ -1,100 +1,14 @@
 //! The command as its users run it.
 
+mod common;
+
+use common::*;
 use std::fs;
-use std::io::{Read, Write};
-use std::path::{Path, PathBuf};
+use std::io::Write;
+use std::path::Path;
 use std::process::{Command, Stdio};
 use std::thread;
-use std::time::{Duration, Instant};
-
-const TOOL: &str = env!("CARGO_BIN_EXE_durpaxeta");
-const KIND: &str = "depth 2, ragged, width 4, index at start";
-
-/// What a run said.
-struct Said {
-    status: i32,
-    out: Vec<u8>,
-    err: String,
-}
-
-impl Said {
-    fn text(&self) -> &str {
-        std::str::from_utf8(&self.out).expect("standard output is text")
-    }
-}
-
-/// A directory of its own for each test.
-fn folder(name: &str) -> PathBuf {
-    let folder = Path::new(env!("CARGO_TARGET_TMPDIR")).join(name);
-    let _ = fs::remove_dir_all(&folder);
-    fs::create_dir_all(&folder).unwrap();
-    folder
-}
-
-/// Runs the tool; a run that takes over a minute or ends by a signal fails the test.
-fn run(folder: &Path, arguments: &[&str], input: &[u8]) -> Said {
-    let mut child = Command::new(TOOL)
-        .args(arguments)
-        .current_dir(folder)
-        .stdin(Stdio::piped())
-        .stdout(Stdio::piped())
-        .stderr(Stdio::piped())
-        .spawn()
-        .unwrap();
-    let (mut stdin, input) = (child.stdin.take().unwrap(), input.to_vec());
-    let feeder = thread::spawn(move || {
-        let _ = stdin.write_all(&input);
-    });
-    let (mut stdout, mut stderr) = (child.stdout.take().unwrap(), child.stderr.take().unwrap());
-    let reader = thread::spawn(move || {
-        let mut out = Vec::new();
-        stdout.read_to_end(&mut out).unwrap();
-        out
-    });
-    let errors = thread::spawn(move || {
-        let mut err = String::new();
-        stderr.read_to_string(&mut err).unwrap();
-        err
-    });
-    let deadline = Instant::now() + Duration::from_secs(60);
-    let status = loop {
-        if let Some(status) = child.try_wait().unwrap() {
-            break status;
-        }
-        if Instant::now() > deadline {
-            let _ = child.kill();
-            panic!("{arguments:?} hangs");
-        }
-        thread::sleep(Duration::from_millis(1));
-    };
-    feeder.join().unwrap();
-    let said = Said {
-        status: status.code().unwrap_or_else(|| panic!("{arguments:?} was ended by a signal")),
-        out: reader.join().unwrap(),
-        err: errors.join().unwrap(),
-    };
-    assert_ne!(said.status, 101, "{arguments:?} panicked: {}", said.err);
-    assert!(!said.err.contains("panicked"), "{arguments:?}: {}", said.err);
-    said
-}
-
-fn good(folder: &Path, arguments: &[&str]) -> Said {
-    let said = run(folder, arguments, b"");
-    assert_eq!(said.status, 0, "{arguments:?}: {}{}", said.text(), said.err);
-    assert_eq!(said.err, "", "{arguments:?}");
-    said
-}
-
-fn affinity(folder: &Path) {
-    fs::write(folder.join("guests.txt"), good(folder, &["example"]).out).unwrap();
-    good(folder, &["write", "guests.txt", "guests.bin"]);
-}
-
-fn le(numbers: &[u64], width: usize, then: &[u8]) -> Vec<u8> {
-    let mut bytes: Vec<u8> = numbers.iter().flat_map(|number| number.to_le_bytes()[..width].to_vec()).collect();
-    bytes.extend_from_slice(then);
-    bytes
-}
+use std::time::Duration;
 
 #[test]
 fn the_affinity_table() {
@@ -396,17 +310,29 @@ fn wrong_command_lines() {
         &["show", "--kind", KIND, "--shape", "2x2", "a", "b"],
         &["show", "--kind", KIND, "--shape", "2x2", "--subset", "0..1", "a"],
         &["write", "a"],
-        &["write", "a", "a"],
         &["cut", "--kind", KIND, "--shape", "2x2", "a", "b"],
         &["merge", "--kind", KIND, "--shape", "2x2", "out"],
         &["merge", "--kind", KIND, "--shape", "2x2", "--part", "0..1,0..2", "-", "--part", "1..2,0..2", "-", "out"],
         &["check", "--interleaved", "--kind", KIND, "--shape", "2", "a"],
         &["help", "nothing"],
+        &["help", "show", "cut"],
+        &["show", "--json", "--hex", "--kind", KIND, "--shape", "2x2", "a"],
+        &["write", "--strict", "a", "b"],
+        &["explain", "--interleaved", "--kind", KIND, "--shape", "2", "a"],
         &["example", "more"],
     ] {
         let said = run(&folder, line, b"");
         assert_eq!(said.status, 64, "{line:?}: {}", said.err);
-        assert!(said.err.starts_with("durpaxeta: ") && said.err.contains("--help"), "{line:?}: {}", said.err);
+        let command = line.first().filter(|first| !["shw", "help"].contains(*first));
+        let see =
+            command.map_or("See 'durpaxeta help'.\n".to_string(), |name| format!("See 'durpaxeta help {name}'.\n"));
+        assert!(said.err.starts_with("durpaxeta: ") && said.err.ends_with(&see), "{line:?}: {}", said.err);
+        assert_eq!(
+            said.err.matches("help").count() - usize::from(*line == ["help", "show", "cut"]),
+            1,
+            "{line:?}: {}",
+            said.err
+        );
         assert!(said.out.is_empty());
     }
 }
@@ -450,28 +376,6 @@ fn refused_and_not_written() {
     let cut = ["cut", "--kind", KIND, "--shape", "2x3", "--subset", "0..1,0..1", "guests.bin", "kept.bin"];
     assert_eq!(run(&folder, &cut, b"").status, 8);
     assert_eq!(fs::read(folder.join("kept.bin")).unwrap(), b"kept");
-    // In and out may be one file.
-    let whole = ["cut", "--kind", KIND, "--shape", "2x2", "--subset", "0..1,0..2", "guests.bin", "guests.bin"];
-    good(&folder, &whole);
-    good(&folder, &["check", "--kind", KIND, "--shape", "1x2", "guests.bin"]);
-}
-
-#[test]
-fn whoever_reads_may_leave() {
-    let folder = folder("left");
-    let kind = "depth 0, fixed, size 1, little order";
-    let mut child = Command::new(TOOL)
-        .args(["show", "--kind", kind, "--shape", "65536", "-"])
-        .current_dir(&folder)
-        .stdin(Stdio::piped())
-        .stdout(Stdio::piped())
-        .stderr(Stdio::piped())
-        .spawn()
-        .unwrap();
-    child.stdin.take().unwrap().write_all(&[7; 65_536]).unwrap();
-    drop(child.stdout.take());
-    let out = child.wait_with_output().unwrap();
-    assert_eq!((out.status.code(), out.stderr.len()), (Some(0), 0));
 }
 
 #[test]
@@ -536,7 +440,7 @@ fn help_examples_work_as_printed() {
     assert_eq!(run(Path::new("."), &["help"], b"").out, general.out);
     assert!(run(Path::new("."), &["--version"], b"").text().starts_with("durpaxeta "));
     let mut pages = vec![("durpaxeta".to_string(), general.text().to_string())];
-    for command in ["show", "write", "cut", "merge", "convert", "check", "example"] {
+    for command in ["show", "write", "cut", "merge", "convert", "check", "explain", "example"] {
         assert!(general.text().contains(&format!("  durpaxeta {command} ")), "{command} is not in the list");
         let page = run(Path::new("."), &[command, "--help"], b"");
         assert_eq!(page.status, 0);
