@@ -280,15 +280,16 @@ fn stopped(refusal: Refusal, walk: &Walk, length: usize) -> String {
     }
 }
 
-/// Tells of stored bytes that are left out.
+/// How many stored bytes are in no cell.
+fn in_no_cell(count: usize, total: usize) -> String {
+    format!("{count} of the {total} stored bytes {} in no cell", if count == 1 { "is" } else { "are" })
+}
+
+/// Tells of stored bytes that were left out.
 fn dropped(input: &Input, walk: &Walk) {
     match walk.unused_bytes() {
         0 => {}
-        count => output::tell(&format!(
-            "{}: {count} of the {} stored bytes are in no cell; they are left out",
-            input.name,
-            input.bytes.len()
-        )),
+        count => output::tell(&format!("{}: {}: left out", input.name, in_no_cell(count, input.bytes.len()))),
     }
 }
 
@@ -342,15 +343,15 @@ fn show(arguments: &Arguments, watch: &Watch) -> Result<u8, Failure> {
     // At depth 0 a worksheet has a line for what lies before the first cell.
     let kept = |unused: Unused| unused == Unused::Before && array.kind.depth == 0 && !arguments.json;
     let lost: usize = walk.unused().filter(|&(_, unused)| !kept(unused)).map(|(field, _)| field.length).sum();
-    let count = format!("{lost} of the {} stored bytes are in no cell", stored.input.bytes.len());
+    let count = in_no_cell(lost, stored.input.bytes.len());
     if arguments.json {
         print(&json::write(&array), watch)?;
         if lost > 0 {
-            output::tell(&format!("{}: {count}; they are not shown", stored.input.name));
+            output::tell(&format!("{}: {count}: not shown", stored.input.name));
         }
         return Ok(0);
     }
-    let notes = if lost > 0 { vec![format!("{count}; write leaves them out")] } else { vec![] };
+    let notes = if lost > 0 { vec![format!("{count}: write leaves that out")] } else { vec![] };
     print(&worksheet::write(&array, arguments.hex, &notes), watch)
 }
 

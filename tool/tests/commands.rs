@@ -76,21 +76,6 @@ fn shown_and_written_again() {
     }
 }
 
-/// Bytes in no cell are named; the rest comes back.
-#[test]
-fn bytes_in_no_cell() {
-    let folder = folder("unused");
-    let kind = "depth 1, fixed, size 2, little order";
-    let stored = le(&[3, 5], 8, &[0, 0, 0, 9, 9, 9, 9, 9]);
-    let shown = run(&folder, &["show", "--kind", kind, "--shape", "3", "-"], &stored);
-    assert_eq!(shown.status, 0);
-    assert!(shown.text().contains("# note: 5 of the 24 stored bytes are in no cell"), "{}", shown.text());
-    let again = run(&folder, &["write", "-", "-"], &shown.out);
-    assert_eq!(again.out, le(&[3, 0], 8, &[0, 0, 0]));
-    let checked = run(&folder, &["check", "--kind", kind, "--shape", "3", "-"], &stored);
-    assert!(checked.text().contains("24 bytes, 5 of them in no cell"), "{}", checked.text());
-}
-
 #[test]
 fn cut_and_merged() {
     let folder = folder("merge");
@@ -296,6 +281,56 @@ fn kinds_and_shapes_out_of_range() {
     }
 }
 
+/// A number is shown as it was typed, also where it is too long for 64 bits.
+#[test]
+fn numbers_as_they_were_typed() {
+    let folder = folder("typed");
+    let long = "99999999999999999999";
+    let kind = |depth: &str| format!("depth {depth}, fixed, size 1, little order");
+    let show = |kind: &str, shape: &str| run(&folder, &["show", "--kind", kind, "--shape", shape, "-"], b"");
+    let said = show(&kind("0"), long);
+    assert!(said.status == 2 && said.err.contains(&format!("The shape is {long}.")), "{}", said.err);
+    let said = show(&kind("0"), "3x18446744073709551616");
+    assert!(said.err.contains("The shape is 3x18446744073709551616."), "{}", said.err);
+    let said = show(&kind(long), "1");
+    assert!(said.status == 1 && said.err.contains(&format!("The kind is depth {long},")), "{}", said.err);
+    let said = show("depth 0, ragged, width 18446744073709551617, index at end", "1");
+    assert!(said.status == 1 && said.err.contains("width 18446744073709551617,"), "{}", said.err);
+    let subset = format!("0..{long}");
+    let cut = ["cut", "--kind", &kind("0"), "--shape", "3", "--subset", &subset, "-", "-"];
+    let said = run(&folder, &cut, b"abc");
+    assert!(said.status == 3 && said.err.contains(&format!("The subset is {subset};")), "{}", said.err);
+    let sheet = format!("durpaxeta worksheet 1\nkind: {}\nshape: {long}\n", kind("0"));
+    let said = run(&folder, &["write", "-", "-"], sheet.as_bytes());
+    assert!(said.status == 2 && said.err.contains(&format!("The shape is {long}.")), "{}", said.err);
+}
+
+/// Text of any language is shown as text where it is printable and clear, and read back to the same bytes.
+#[test]
+fn text_of_any_language() {
+    let folder = folder("languages");
+    let kind = "depth 1, ragged, width 4, index at start";
+    let values = ["Kühlung 25 °C", "冷却", "насос №3", "a\nb", "e\u{301}", "\u{202E}x", "\u{200B}", "\u{FEFF}"];
+    let lines: Vec<String> = values
+        .iter()
+        .enumerate()
+        .map(|(number, value)| {
+            let hex: Vec<String> = value.bytes().map(|byte| format!("{byte:02x}")).collect();
+            format!("{number} | 01 | value hex {}\n", hex.join(""))
+        })
+        .collect();
+    let sheet = format!("durpaxeta worksheet 1\nkind: {kind}\nshape: 8\n{}", lines.concat());
+    let stored = run(&folder, &["write", "-", "-"], sheet.as_bytes());
+    assert_eq!((stored.status, stored.err.as_str()), (0, ""));
+    let shown = run(&folder, &["show", "--kind", kind, "--shape", "8", "-"], &stored.out);
+    for (number, value) in values.iter().enumerate() {
+        let as_text = shown.text().contains(&format!("{number} | 01 | value \"{value}\"\n"));
+        assert_eq!(as_text, number < 3, "{value:?}: {}", shown.text());
+    }
+    assert_eq!(shown.text().matches("value hex").count(), 5, "{}", shown.text());
+    assert_eq!(run(&folder, &["write", "-", "-"], &shown.out).out, stored.out);
+}
+
 #[test]
 fn wrong_command_lines() {
     let folder = folder("usage");
@@ -439,6 +474,10 @@ fn help_examples_work_as_printed() {
     assert_eq!(general.status, 0);
     assert_eq!(run(Path::new("."), &["help"], b"").out, general.out);
     assert!(run(Path::new("."), &["--version"], b"").text().starts_with("durpaxeta "));
+    assert!(general.text().contains("'durpaxeta help COMMAND'"));
+    for status in (64..=70).chain(73..=74) {
+        assert!(general.text().contains(&status.to_string()), "status {status} is not on the page");
+    }
     let mut pages = vec![("durpaxeta".to_string(), general.text().to_string())];
     for command in ["show", "write", "cut", "merge", "convert", "check", "explain", "example"] {
         assert!(general.text().contains(&format!("  durpaxeta {command} ")), "{command} is not in the list");
