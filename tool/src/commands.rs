@@ -4,13 +4,15 @@ use crate::arguments::{self, Arguments};
 use crate::describe::{self, Described, Description};
 use crate::failure::{refusal_text, Failure, HIDDEN};
 use crate::files::{self, Input};
-use crate::locate::{self, Unused, Walk};
+use crate::locate::{Unused, Walk};
 use crate::output::{self, Output};
+use crate::stored::{
+    cells, given_kind, given_shape, missing_kind, missing_shape, no_kind, stopped, Given, Interleaved, Stored,
+};
 use crate::watch::Watch;
 use crate::{explain, help, json, words, worksheet};
 use durpaxeta::{
-    decode, decode_interleaved, encode, extract, merge, partial_decode, subset_cells, Array, Cell, Chunk, Kind,
-    RaggedValues, Refusal, Subset, Values,
+    decode, encode, extract, merge, partial_decode, subset_cells, Array, Cell, Chunk, Kind, Refusal, Subset, Values,
 };
 use std::ffi::{OsStr, OsString};
 use std::fs;
@@ -131,29 +133,6 @@ fn verdict(status: u8, text: &str, watch: &Watch) -> Result<u8, Failure> {
     }
 }
 
-// ---------------------------------------------------------------------------------------------- kinds and shapes
-
-fn given_kind(arguments: &Arguments) -> Result<Option<Kind>, Failure> {
-    arguments.kind.as_ref().map(|text| words::kind(text).map_err(|failure| failure.about("--kind"))).transpose()
-}
-
-fn given_shape(arguments: &Arguments) -> Result<Option<Vec<u64>>, Failure> {
-    arguments.shape.as_ref().map(|text| words::shape(text).map_err(|failure| failure.about("--shape"))).transpose()
-}
-
-fn missing_kind(why: &str) -> Failure {
-    Failure::usage(format!("--kind is missing{why}; for example --kind \"depth 1, ragged, width 4, index at start\""))
-}
-
-fn missing_shape(why: &str) -> Failure {
-    Failure::usage(format!("--shape is missing{why}; for example --shape 2x3"))
-}
-
-/// Cells of a shape that is accepted.
-fn cells(shape: &[u64]) -> usize {
-    shape.iter().product::<u64>() as usize
-}
-
 /// Reads a subset and tests it against its shape; answers how many cells it holds, too.
 fn subset_of(text: &str, shape: &[u64], option: &str) -> Result<(Subset, usize), Failure> {
     let subset = words::subset(text)?;
@@ -163,120 +142,6 @@ fn subset_of(text: &str, shape: &[u64], option: &str) -> Result<(Subset, usize),
             let detail = format!("The subset is {}; the shape is {}", text.trim(), words::shape_text(shape));
             Err(Failure::refused(refusal, option, detail))
         }
-    }
-}
-
-// ------------------------------------------------------------------------------------------------- stored tables
-
-/// A stored table that is read: what it is, and its bytes.
-struct Stored {
-    kind: Kind,
-    shape: Vec<u64>,
-    input: Input,
-    described: Option<Described>,
-}
-
-/// Kind and shape as they are given, and by what.
-struct Given<'a> {
-    kind: Option<Kind>,
-    shape: Option<&'a [u64]>,
-    shape_by: &'a str,
-}
-
-impl Stored {
-    /// Reads a table. Kind and shape are given, or its description says them. `damaged` takes a file that is not the
-    /// one described, too.
-    fn read(path: &OsStr, given: Given<'_>, damaged: bool, watch: &Watch) -> Result<Stored, Failure> {
-        let described = describe::find(path, watch)?;
-        let (kind, shape) = match &described {
-            Some(described) => (described.kind(given.kind, "--kind")?, described.shape(given.shape, given.shape_by)?),
-            None => (
-                given.kind.ok_or_else(|| missing_kind(&undescribed(path)))?,
-                given.shape.ok_or_else(|| missing_shape(&undescribed(path)))?.to_vec(),
-            ),
-        };
-        let input = files::read(path, watch)?;
-        if let (Some(described), false) = (&described, damaged) {
-            described.holds(&input)?;
-        }
-        Ok(Stored { kind, shape, input, described })
-    }
-
-    /// Reads the one table of a command line.
-    fn named(arguments: &Arguments, damaged: bool, watch: &Watch) -> Result<Stored, Failure> {
-        let (kind, shape) = (given_kind(arguments)?, given_shape(arguments)?);
-        let given = Given { kind, shape: shape.as_deref(), shape_by: "--shape" };
-        Stored::read(&arguments.files[0], given, damaged, watch)
-    }
-
-    /// The file, and its description.
-    fn inputs(&self) -> impl Iterator<Item = &Input> {
-        [&self.input].into_iter().chain(self.described.as_ref().map(|described| &described.input))
-    }
-
-    fn walk(&self) -> Walk {
-        locate::table(self.kind, cells(&self.shape), &self.input.bytes)
-    }
-
-    fn decode(&self) -> Result<Array, Failure> {
-        decode(self.kind, &self.shape, &self.input.bytes).map_err(|refusal| self.refused(refusal))
-    }
-
-    fn refused(&self, refusal: Refusal) -> Failure {
-        Failure::refused(refusal, &self.input.name, stopped(refusal, &self.walk(), self.input.bytes.len()))
-    }
-}
-
-/// Why kind and shape must be given.
-fn undescribed(path: &OsStr) -> String {
-    match path == "-" {
-        true => String::new(),
-        false => format!(" and there is no {}", describe::beside(path).to_string_lossy()),
-    }
-}
-
-/// The older, interleaved form that is read: its shape, and its bytes.
-struct Interleaved {
-    shape: Vec<u64>,
-    input: Input,
-}
-
-impl Interleaved {
-    fn read(path: &OsStr, arguments: &Arguments, watch: &Watch) -> Result<Interleaved, Failure> {
-        let shape = given_shape(arguments)?.ok_or_else(|| missing_shape(""))?;
-        Ok(Interleaved { shape, input: files::read(path, watch)? })
-    }
-
-    fn walk(&self) -> Walk {
-        locate::interleaved(cells(&self.shape), &self.input.bytes)
-    }
-
-    fn decode(&self) -> Result<RaggedValues, Refusal> {
-        decode_interleaved(cells(&self.shape) as u64, &self.input.bytes)
-    }
-}
-
-/// With `--interleaved` there is no kind, neither given nor described.
-fn no_kind(path: &OsStr, arguments: &Arguments, watch: &Watch) -> Result<(), Failure> {
-    if arguments.kind.is_some() {
-        return Err(Failure::usage("the interleaved form has no kind: give --interleaved or --kind, not both"));
-    }
-    match describe::find(path, watch)? {
-        Some(described) => {
-            let kind = format!("\"{}\"", described.says.kind);
-            Err(describe::differ("--interleaved", "the older form", described.name(), &kind))
-        }
-        None => Ok(()),
-    }
-}
-
-/// Where reading stopped, in words.
-fn stopped(refusal: Refusal, walk: &Walk, length: usize) -> String {
-    match &walk.stop {
-        Some(stop) if stop.refusal == refusal => {
-            format!("Reading stopped at byte {} of {length}: {}", stop.at, stop.what)
-        }
-        _ => "The byte where reading stopped was not found".to_string(),
     }
 }
 

@@ -37,9 +37,9 @@ pub struct Described {
     pub says: Description,
 }
 
-/// The name of the description of a file.
+/// The name of the description of a file. It lies beside the file itself, also where a link leads there.
 pub fn beside(path: &OsStr) -> OsString {
-    let mut name = path.to_os_string();
+    let mut name = files::follow(path).map_or_else(|_| path.to_os_string(), OsString::from);
     name.push(".dpx");
     name
 }

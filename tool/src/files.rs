@@ -1,13 +1,14 @@
-//! Files that are read, and standard input.
+//! Files: their names, their identity, and reading them.
 
 use crate::failure::{Failure, SYSTEM};
 use crate::system;
 use crate::watch::Watch;
 use std::ffi::OsStr;
-use std::fs::{File, Metadata};
+use std::fs::{self, File, Metadata};
 use std::io::{self, Read};
 use std::os::fd::AsFd;
 use std::os::unix::fs::MetadataExt;
+use std::path::{Path, PathBuf};
 
 /// More than this is not read: no table needs it, and an input that never ends must end somewhere.
 const MOST: u64 = 1 << 28;
@@ -34,6 +35,40 @@ pub fn name(path: &OsStr, standard: &str) -> String {
         standard.to_string()
     } else {
         path.to_string_lossy().into_owned()
+    }
+}
+
+/// Links that are followed from one name, as many as Linux follows.
+const LINKS: usize = 40;
+
+/// What a name leads to, if it is a link; an open descriptor, such as /dev/stdout, is the end of it.
+pub fn follow(path: &OsStr) -> io::Result<PathBuf> {
+    let mut path = PathBuf::from(path);
+    for _ in 0..LINKS {
+        if descriptor(&path).is_some() {
+            return Ok(path);
+        }
+        match fs::symlink_metadata(&path) {
+            Ok(about) if about.is_symlink() => path = folder(&path).join(fs::read_link(&path)?),
+            _ => return Ok(path),
+        }
+    }
+    Err(io::Error::new(io::ErrorKind::Other, "its links lead in a circle"))
+}
+
+/// The number of an open descriptor that a name stands for: /dev/fd/1, and /proc/self/fd/1 as /dev/stdout leads there.
+pub fn descriptor(path: &Path) -> Option<u32> {
+    let own = format!("/proc/{}/fd", std::process::id());
+    let folder = path.parent()?;
+    let known = ["/dev/fd", "/proc/self/fd", own.as_str()].iter().any(|name| folder == Path::new(name));
+    path.file_name()?.to_str()?.parse().ok().filter(|_| known)
+}
+
+/// The folder in which a file lies.
+pub fn folder(path: &Path) -> &Path {
+    match path.parent() {
+        Some(folder) if folder != Path::new("") => folder,
+        _ => Path::new("."),
     }
 }
 

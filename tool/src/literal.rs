@@ -17,8 +17,8 @@ pub fn shown(character: char) -> bool {
         ' '..='~' => true,
         // Parts of Hangul that join into other characters, and fillers that are not seen.
         '\u{1100}'..='\u{11FF}' | '\u{A960}'..='\u{A97F}' | '\u{D7B0}'..='\u{D7FF}' | '\u{3164}' | '\u{FFA0}' => false,
-        // A blank that is none, and what stands for characters that could not be shown.
-        '\u{2800}' | '\u{FFFC}' | '\u{FFFD}' => false,
+        // Blanks that are none, and what stands for characters that could not be shown.
+        '\u{2800}' | '\u{13441}' | '\u{13442}' | '\u{1D159}' | '\u{FFFC}' | '\u{FFFD}' => false,
         // Written from right to left: the order on the screen is not that of the bytes.
         '\u{0590}'..='\u{08FF}' | '\u{FB1D}'..='\u{FDFF}' | '\u{FE70}'..='\u{FEFF}' => false,
         '\u{10800}'..='\u{10FFF}' | '\u{1E800}'..='\u{1EFFF}' => false,
@@ -185,13 +185,7 @@ mod tests {
 
     #[test]
     fn random_bytes_come_back() {
-        let mut seed: u64 = 777;
-        let mut draw = |limit: usize| {
-            seed ^= seed << 13;
-            seed ^= seed >> 7;
-            seed ^= seed << 17;
-            (seed >> 11) as usize % limit
-        };
+        let mut draw = crate::random::draws(777);
         let (mut texts, mut hexes) = (0, 0);
         for _ in 0..100_000 {
             let value: Vec<u8> = match draw(3) {

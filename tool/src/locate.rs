@@ -519,13 +519,7 @@ mod tests {
     /// Whatever is damaged: the walk comes to the library's answer.
     #[test]
     fn agrees_with_the_library() {
-        let mut seed: u64 = 12345;
-        let mut draw = |limit: usize| {
-            seed ^= seed << 13;
-            seed ^= seed >> 7;
-            seed ^= seed << 17;
-            (seed >> 11) as usize % limit
-        };
+        let mut draw = crate::random::draws(12345);
         let kinds = [
             affinity(Place::Start).0,
             affinity(Place::End).0,

@@ -14,6 +14,9 @@ mod json;
 mod literal;
 mod locate;
 mod output;
+#[cfg(test)]
+mod random;
+mod stored;
 mod system;
 mod watch;
 mod words;

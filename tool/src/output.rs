@@ -3,7 +3,7 @@
 //! What is no regular file (a pipe, a device) is written as it comes.
 
 use crate::failure::{Failure, KEPT, SYSTEM};
-use crate::files::{self, identity, Identity, Input};
+use crate::files::{self, folder, identity, Identity, Input};
 use crate::system::{self, Held};
 use crate::watch::Watch;
 use std::ffi::OsStr;
@@ -15,8 +15,6 @@ use std::path::{Path, PathBuf};
 
 /// Bytes that are written between two looks at the signals.
 const PIECE: usize = 1 << 16;
-/// Links that are followed from one name, as many as Linux follows.
-const LINKS: usize = 40;
 
 /// Where an output goes.
 #[derive(Debug)]
@@ -87,44 +85,18 @@ fn way(path: &OsStr) -> io::Result<Way> {
     if path == "-" {
         return Ok(Way::Standard);
     }
-    let mut path = PathBuf::from(path);
-    for _ in 0..LINKS {
-        match descriptor(&path) {
-            Some(1) => return Ok(Way::Standard),
-            Some(_) => return Ok(Way::Stream(path)),
-            None => {}
-        }
-        let about = match fs::symlink_metadata(&path) {
-            Err(error) if error.kind() == ErrorKind::NotFound => return Ok(Way::File { path, there: None }),
-            about => about?,
-        };
-        if about.is_symlink() {
-            path = folder(&path).join(fs::read_link(&path)?);
-        } else if about.is_dir() {
-            return Err(io::Error::new(ErrorKind::Other, "it is a directory"));
-        } else if about.is_file() {
-            return Ok(Way::File { path, there: Some(about) });
-        } else {
-            return Ok(Way::Stream(path));
-        }
+    let path = files::follow(path)?;
+    match files::descriptor(&path) {
+        Some(1) => return Ok(Way::Standard),
+        Some(_) => return Ok(Way::Stream(path)),
+        None => {}
     }
-    Err(io::Error::new(ErrorKind::Other, "its links lead in a circle"))
-}
-
-/// The number of an open descriptor that a name stands for: /dev/fd/1, and /proc/self/fd/1 as /dev/stdout leads there.
-fn descriptor(path: &Path) -> Option<u32> {
-    let folder = path.parent()?;
-    let own = format!("/proc/{}/fd", std::process::id());
-    if !["/dev/fd", "/proc/self/fd", own.as_str()].iter().any(|name| folder == Path::new(name)) {
-        return None;
-    }
-    path.file_name()?.to_str()?.parse().ok()
-}
-
-fn folder(path: &Path) -> &Path {
-    match path.parent() {
-        Some(folder) if folder != Path::new("") => folder,
-        _ => Path::new("."),
+    match fs::symlink_metadata(&path) {
+        Err(error) if error.kind() == ErrorKind::NotFound => Ok(Way::File { path, there: None }),
+        Err(error) => Err(error),
+        Ok(about) if about.is_dir() => Err(io::Error::new(ErrorKind::Other, "it is a directory")),
+        Ok(about) if about.is_file() => Ok(Way::File { path, there: Some(about) }),
+        Ok(_) => Ok(Way::Stream(path)),
     }
 }
 
@@ -218,7 +190,9 @@ fn store(
         OpenOptions::new().write(true).open(path).map_err(failed)?;
     }
     let mode = there.map_or(0o666, |about| about.mode() & 0o777);
-    let (temporary, mut file) = create(folder(path), mode).map_err(failed)?;
+    let (temporary, mut file) = create(folder(path), mode).map_err(|error| {
+        Failure::system("write", &format!("{}, as its folder takes no new file", output.name), &error)
+    })?;
     if let Some(about) = there {
         let own = file.metadata().map_err(failed)?;
         if (own.uid(), own.gid()) != (about.uid(), about.gid()) {

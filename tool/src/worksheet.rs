@@ -466,13 +466,7 @@ mod tests {
     /// Whatever is damaged: an array that the library can judge, or a failure; never a panic.
     #[test]
     fn damaged_sheets() {
-        let mut seed: u64 = 99;
-        let mut draw = |limit: usize| {
-            seed ^= seed << 13;
-            seed ^= seed >> 7;
-            seed ^= seed << 17;
-            (seed >> 11) as usize % limit
-        };
+        let mut draw = crate::random::draws(99);
         let sheets = [
             include_str!("../../demo/guests.txt").to_string(),
             sheet(FLAT, "2", &["before: hex 00 01", "0 | - | value \"a\\\"\\x41é\"", "1 | - | value hex 0A0b"]),

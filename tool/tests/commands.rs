@@ -6,7 +6,7 @@ use common::*;
 use std::fs;
 use std::io::Write;
 use std::path::Path;
-use std::process::{Command, Stdio};
+use std::process::Command;
 use std::thread;
 use std::time::Duration;
 
@@ -448,14 +448,7 @@ fn the_largest_tables() {
 #[test]
 fn progress_after_a_second() {
     let folder = folder("progress");
-    let mut child = Command::new(TOOL)
-        .args(["check", "--kind", "depth 0, fixed, size 1, little order", "--shape", "4", "-"])
-        .current_dir(&folder)
-        .stdin(Stdio::piped())
-        .stdout(Stdio::piped())
-        .stderr(Stdio::piped())
-        .spawn()
-        .unwrap();
+    let mut child = piped(&folder, &["check", "--kind", "depth 0, fixed, size 1, little order", "--shape", "4", "-"]);
     let mut stdin = child.stdin.take().unwrap();
     stdin.write_all(&[1, 2, 3]).unwrap();
     thread::sleep(Duration::from_millis(1700));

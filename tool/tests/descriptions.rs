@@ -74,6 +74,22 @@ fn kind_and_shape_come_from_it() {
     assert!(!folder.join("no.bin").exists());
 }
 
+/// A description is of the file, under whatever link it is read or written.
+#[test]
+fn links_are_followed() {
+    let folder = described("links-described");
+    fs::create_dir(folder.join("d")).unwrap();
+    symlink("../guests.bin", folder.join("d/link.bin")).unwrap();
+    let shown = good(&folder, &["show", "guests.bin"]).out;
+    assert_eq!(good(&folder, &["show", "d/link.bin"]).out, shown);
+    assert_eq!(status(&folder, &["show", "--kind", KIND, "--shape", "4", "d/link.bin"]).0, 67);
+    assert_eq!(status(&folder, &["write", "guests.txt", "d/link.bin"]).0, 64);
+    let sheet = fs::read_to_string(folder.join("guests.txt")).unwrap().replace("0-3,8", "0-3,9");
+    assert_eq!(run(&folder, &["write", "--describe", "-", "d/link.bin"], sheet.as_bytes()).status, 0);
+    assert_eq!(fs::read_dir(folder.join("d")).unwrap().count(), 1);
+    assert!(good(&folder, &["show", "guests.bin"]).text().contains("\"0-3,9\""));
+}
+
 /// What was shown with status 0 before: null and empty exchanged by a mistyped shape.
 #[test]
 fn what_differs_is_refused() {
@@ -173,6 +189,7 @@ fn a_description_that_is_none() {
 #[test]
 fn descriptions_stay_right() {
     let folder = described("right");
+    fs::copy(folder.join("guests.bin"), folder.join("f.bin")).unwrap();
     let before = contents(&folder);
     let given = ["--kind", KIND, "--shape", "2x2"];
     // A described file is not replaced without its description.
@@ -189,8 +206,7 @@ fn descriptions_stay_right() {
     assert_eq!(status(&folder, &["write", "--describe", "guests.txt", "d.bin"]).0, 74);
     symlink("guests.txt", folder.join("e.bin.dpx")).unwrap();
     assert_eq!(status(&folder, &["write", "--describe", "guests.txt", "e.bin"]).0, 64);
-    symlink("guests.bin", folder.join("f.bin")).unwrap();
-    symlink("guests.bin", folder.join("f.bin.dpx")).unwrap();
+    symlink("f.bin", folder.join("f.bin.dpx")).unwrap();
     assert_eq!(status(&folder, &["write", "--describe", "guests.txt", "f.bin"]).0, 64);
     for out in ["-", "/dev/null", "/dev/stdout"] {
         assert_eq!(status(&folder, &["write", "--describe", "guests.txt", out]).0, 64);

@@ -8,8 +8,10 @@ use std::fs;
 const FIXED: &str = "depth 1, fixed, size 2, little order";
 const FLAT: &str = "depth 0, ragged, width 4, index at start";
 
-/// Tables with bytes in no cell: kind, shape, stored bytes, how many, from where, in what words.
-fn tables() -> Vec<(&'static str, &'static str, Vec<u8>, usize, usize, &'static str)> {
+/// A table with bytes in no cell: kind, shape, stored bytes; how many, from where, in what words.
+type Hiding = (&'static str, &'static str, Vec<u8>, usize, usize, &'static str);
+
+fn tables() -> Vec<Hiding> {
     let behind = le(&[12], 8, &le(&[0, 0, 0], 4, b"note"));
     let inner = le(&[2, 5], 8, &[0, 0, 9, 9, 9, 9, 9]);
     let deep = le(&[2, inner.len() as u64], 8, &[&[1, 1][..], &inner].concat());

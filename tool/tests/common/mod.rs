@@ -5,7 +5,7 @@
 use std::fs;
 use std::io::{Read, Write};
 use std::path::{Path, PathBuf};
-use std::process::{Command, Stdio};
+use std::process::{Child, Command, Stdio};
 use std::thread;
 use std::time::{Duration, Instant};
 
@@ -33,16 +33,21 @@ pub fn folder(name: &str) -> PathBuf {
     folder
 }
 
-/// Runs the tool; a run that takes over a minute or ends by a signal fails the test.
-pub fn run(folder: &Path, arguments: &[&str], input: &[u8]) -> Said {
-    let mut child = Command::new(TOOL)
+/// Starts the tool with pipes to and from it.
+pub fn piped(folder: &Path, arguments: &[&str]) -> Child {
+    Command::new(TOOL)
         .args(arguments)
         .current_dir(folder)
         .stdin(Stdio::piped())
         .stdout(Stdio::piped())
         .stderr(Stdio::piped())
         .spawn()
-        .unwrap();
+        .unwrap()
+}
+
+/// Runs the tool; a run that takes over a minute or ends by a signal fails the test.
+pub fn run(folder: &Path, arguments: &[&str], input: &[u8]) -> Said {
+    let mut child = piped(folder, arguments);
     let (mut stdin, input) = (child.stdin.take().unwrap(), input.to_vec());
     let feeder = thread::spawn(move || {
         let _ = stdin.write_all(&input);
