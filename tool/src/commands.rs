@@ -6,9 +6,7 @@ use crate::failure::{refusal_text, Failure, HIDDEN};
 use crate::files::{self, Input};
 use crate::locate::{Unused, Walk};
 use crate::output::{self, Output};
-use crate::stored::{
-    cells, given_kind, given_shape, missing_kind, missing_shape, no_kind, stopped, Given, Interleaved, Stored,
-};
+use crate::stored::{cells, given_kind, given_shape, missing_kind, missing_shape, stopped, Given, Interleaved, Stored};
 use crate::watch::Watch;
 use crate::{explain, help, json, words, worksheet};
 use durpaxeta::{
@@ -324,7 +322,7 @@ fn convert(arguments: &Arguments, watch: &Watch) -> Result<u8, Failure> {
     if kind.depth != 0 || !kind.is_ragged() {
         return Err(Failure::usage(format!("convert writes ragged values of depth 0, not \"{kind}\"; {example}")));
     }
-    let old = Interleaved::read(&arguments.files[0], arguments, watch)?;
+    let old = Interleaved::read(&arguments.files[0], "convert", arguments, watch)?;
     let walk = old.walk();
     let values = old.decode().map_err(|refusal| {
         Failure::refused(refusal, &old.input.name, stopped(refusal, &walk, old.input.bytes.len()))
@@ -350,8 +348,11 @@ impl Looked {
     fn at(arguments: &Arguments, damaged: bool, watch: &Watch) -> Result<Looked, Failure> {
         let path = &arguments.files[0];
         if arguments.interleaved {
-            no_kind(path, arguments, watch)?;
-            let old = Interleaved::read(path, arguments, watch)?;
+            if arguments.kind.is_some() {
+                let what = "the interleaved form has no kind: give --interleaved or --kind, not both";
+                return Err(Failure::usage(what));
+            }
+            let old = Interleaved::read(path, "--interleaved", arguments, watch)?;
             let walk = old.walk();
             let answer = old.decode().map(|_| format!("interleaved; {} cells", cells(&old.shape)));
             return Ok(Looked { kind: None, shape: old.shape, input: old.input, described: None, walk, answer });

@@ -192,3 +192,45 @@ impl Picture<'_> {
         }
     }
 }
+
+#[cfg(test)]
+mod tests {
+    use super::*;
+    use crate::random;
+
+    /// Whatever is damaged: each line shows the bytes at its position, the lines are in order, one is marked where reading
+    /// stopped, and of a table that is accepted no byte is missing.
+    #[test]
+    fn every_byte_at_its_place() {
+        let mut draw = random::draws(31);
+        let (mut whole, mut refused) = (0, 0);
+        for round in 0..20_000 {
+            let (kind, stored) = random::damaged(round, &mut draw);
+            let (form, walk) = match draw(3) {
+                0 => (None, locate::interleaved(4, &stored)),
+                _ => (Some(kind), locate::table(kind, 4, &stored)),
+            };
+            let text = picture(form, &[4], &stored, &walk);
+            let mut shown = 0;
+            for line in text.lines() {
+                let parts: Vec<&str> = line.splitn(3, " | ").map(str::trim).collect();
+                if parts[..2] == ["..", ".."] {
+                    shown += parts[2].strip_suffix(" bytes more").unwrap().parse::<usize>().unwrap();
+                    continue;
+                }
+                let (at, bytes): (usize, &str) = (parts[0].parse().unwrap(), parts[1]);
+                assert!(at >= shown && !parts[2].is_empty(), "{text}");
+                let length = bytes.split_whitespace().count();
+                assert_eq!(bytes, literal::spaced(&stored[at..at + length]), "{text}");
+                assert!(at == shown || walk.stop.is_some(), "{text}");
+                shown = at + length;
+            }
+            assert_eq!(text.matches("<- refused").count(), usize::from(walk.stop.is_some()), "{text}");
+            if walk.stop.is_none() {
+                assert_eq!(shown, stored.len(), "{text}");
+            }
+            *(if walk.stop.is_none() { &mut whole } else { &mut refused }) += 1;
+        }
+        assert!(whole > 1000 && refused > 1000, "{whole} and {refused}");
+    }
+}

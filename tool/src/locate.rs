@@ -520,35 +520,8 @@ mod tests {
     #[test]
     fn agrees_with_the_library() {
         let mut draw = crate::random::draws(12345);
-        let kinds = [
-            affinity(Place::Start).0,
-            affinity(Place::End).0,
-            Kind::ragged(0, Width::Eight, Place::Start),
-            Kind::ragged(0, Width::Four, Place::End),
-            Kind::ragged(4, Width::Eight, Place::End),
-            Kind::fixed(0, 3, Order::Big),
-            Kind::fixed(3, 2, Order::Little),
-        ];
         for round in 0..40_000 {
-            let kind = kinds[round % kinds.len()];
-            let depth = kind.depth as usize;
-            let cells: Vec<Cell<'_>> = (0..4)
-                .map(|_| match draw(4) {
-                    0 if depth > 0 => Cell::Null { level: 1 + draw(depth) },
-                    _ => Cell::Value(match kind.values {
-                        Values::Fixed { size, .. } => &b"abc"[..size as usize],
-                        Values::Ragged { .. } => &b"abc"[..draw(4)],
-                    }),
-                })
-                .collect();
-            let mut stored = encode(&Array::from_cells(kind, &[4], &cells).unwrap()).unwrap();
-            for _ in 0..draw(3) {
-                let position = draw(stored.len());
-                stored[position] = if draw(2) == 0 { stored[position] ^ (1 << draw(8)) } else { draw(256) as u8 };
-            }
-            if draw(4) == 0 {
-                stored.truncate(draw(stored.len() + 1));
-            }
+            let (kind, mut stored) = crate::random::damaged(round, &mut draw);
             let answer = decode(kind, &[4], &stored).err();
             covered(&table(kind, 4, &stored), answer, &stored);
             let count = draw(5);

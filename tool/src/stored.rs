@@ -105,8 +105,13 @@ pub struct Interleaved {
 }
 
 impl Interleaved {
-    pub fn read(path: &OsStr, arguments: &Arguments, watch: &Watch) -> Result<Interleaved, Failure> {
+    /// Reads the older form, as `by` asks for. A file that is described is a table, and so is none.
+    pub fn read(path: &OsStr, by: &str, arguments: &Arguments, watch: &Watch) -> Result<Interleaved, Failure> {
         let shape = given_shape(arguments)?.ok_or_else(|| missing_shape(""))?;
+        if let Some(described) = describe::find(path, watch)? {
+            let kind = format!("\"{}\"", described.says.kind);
+            return Err(describe::differ(by, "the older form", described.name(), &kind));
+        }
         Ok(Interleaved { shape, input: files::read(path, watch)? })
     }
 
@@ -116,20 +121,6 @@ impl Interleaved {
 
     pub fn decode(&self) -> Result<RaggedValues, Refusal> {
         decode_interleaved(cells(&self.shape) as u64, &self.input.bytes)
-    }
-}
-
-/// With `--interleaved` there is no kind, neither given nor described.
-pub fn no_kind(path: &OsStr, arguments: &Arguments, watch: &Watch) -> Result<(), Failure> {
-    if arguments.kind.is_some() {
-        return Err(Failure::usage("the interleaved form has no kind: give --interleaved or --kind, not both"));
-    }
-    match describe::find(path, watch)? {
-        Some(described) => {
-            let kind = format!("\"{}\"", described.says.kind);
-            Err(describe::differ("--interleaved", "the older form", described.name(), &kind))
-        }
-        None => Ok(()),
     }
 }
 

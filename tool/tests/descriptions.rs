@@ -119,6 +119,7 @@ fn what_differs_is_refused() {
     let (code, err) = merge("3x2", "0..3,0..2");
     assert!(code == 67 && err.contains("--part 0..3,0..2 says 3x2; t.bin.dpx says 2x3"), "{err}");
     assert_eq!(status(&folder, &["check", "--interleaved", "--shape", "2x3", "t.bin"]).0, 67);
+    assert_eq!(status(&folder, &["convert", "--kind", LONG, "--shape", "2x3", "t.bin", "no.bin"]).0, 67);
     // Parts of two kinds.
     fs::write(folder.join("sheet.txt"), sheet.replace("width 4", "width 8")).unwrap();
     good(&folder, &["write", "--describe", "sheet.txt", "wide.bin"]);
