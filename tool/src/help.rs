@@ -29,6 +29,7 @@ Where write, cut, merge and convert write to:
   A file is replaced whole or stays as it was. What is written goes to a temporary file in the same folder, is synced, and
   then takes the place of the old file, with its mode. On an error, or on a signal that ends the command, nothing is left
   of it. (Power loss can leave a file named .durpaxeta-NUMBER-NUMBER, which may be removed.)
+  A symbolic link stays one, and the file that it leads to is replaced; another hard link of that file keeps the old bytes.
   An output that is also an input, under whatever name, is refused. What is no regular file, such as a pipe, is written as
   it comes.
   --no-clobber    refuses to replace a file
@@ -43,7 +44,7 @@ Exit status:
   66        a description that cannot be read
   67        --kind, --shape or --part that differ from the description
   68, 69    a file of another length (68) or checksum (69) than its description says
-  70        check --strict: a valid table with bytes that no cell uses
+  70        check --strict: a valid table with bytes that no cell uses, or mask bytes other than 00 and 01
   73        --no-clobber: the output is there already
   74        an error of the operating system; so is an output whose reader left, or that was closed
 

@@ -130,16 +130,12 @@ pub fn write(outputs: &[(Output, &[u8])], watch: &Watch) -> Result<(), Failure> 
             }
         }
     }
-    let mut folders: Vec<&Path> = Vec::new();
     for (output, path, temporary) in ready {
         temporary.put(output, path)?;
-        folders.retain(|other| *other != folder(path));
-        folders.push(folder(path));
-    }
-    for name in folders {
-        File::open(name).and_then(|file| sync(&file)).map_err(|error| {
-            let name = name.display().to_string();
-            Failure::system("make sure that what was written is kept in folder", &name, &error)
+        // So that the next one does not come to its place before this one, whenever the power fails.
+        File::open(folder(path)).and_then(|folder| sync(&folder)).map_err(|error| {
+            let name = format!("the new {} in its folder for sure", output.name);
+            Failure::system("keep", &name, &error)
         })?;
     }
     Ok(())
