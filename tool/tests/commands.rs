@@ -6,7 +6,6 @@ use common::*;
 use std::fs;
 use std::io::Write;
 use std::path::Path;
-use std::process::Command;
 use std::thread;
 use std::time::Duration;
 
@@ -480,7 +479,6 @@ fn help_examples_work_as_printed() {
         assert!(page.text().starts_with(&format!("durpaxeta {command}")), "{}", page.text());
         pages.push((command.to_string(), page.text().to_string()));
     }
-    let path = format!("{}:{}", Path::new(TOOL).parent().unwrap().display(), std::env::var("PATH").unwrap());
     for (command, page) in pages {
         let folder = folder(&format!("help-{command}"));
         let (_, examples) = page.split_once("\nExamples:\n").unwrap_or_else(|| panic!("{command} has no examples"));
@@ -488,14 +486,8 @@ fn help_examples_work_as_printed() {
         assert!(!examples.is_empty());
         for example in examples {
             assert!(example.starts_with("  "), "{command}: {example}");
-            let out = Command::new("sh")
-                .args(["-e", "-c", example])
-                .current_dir(&folder)
-                .env("PATH", &path)
-                .output()
-                .unwrap();
-            let err = String::from_utf8_lossy(&out.stderr).into_owned();
-            assert!(out.status.success() && err.is_empty(), "{command}: {example}\n{err}");
+            let said = sh(&folder, &format!("set -e; {example}"));
+            assert!(said.status == 0 && said.err.is_empty(), "{command}: {example}\n{}", said.err);
         }
     }
 }

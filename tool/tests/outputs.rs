@@ -227,7 +227,7 @@ fn unread(folder: &Path, arguments: &[&str], input: &[u8]) -> (Option<i32>, Stri
     drop(child.stdout.take());
     child.stdin.take().unwrap().write_all(input).unwrap();
     let out = child.wait_with_output().unwrap();
-    (out.status.code(), String::from_utf8(out.stderr).unwrap())
+    (out.status.code(), told(out.stderr))
 }
 
 #[test]
