@@ -134,8 +134,8 @@ pub fn write(outputs: &[(Output, &[u8])], watch: &Watch) -> Result<(), Failure> 
         temporary.put(output, path)?;
         // So that the next one does not come to its place before this one, whenever the power fails.
         File::open(folder(path)).and_then(|folder| sync(&folder)).map_err(|error| {
-            let name = format!("the new {} in its folder for sure", output.name);
-            Failure::system("keep", &name, &error)
+            let name = format!("{}, which is in its place", output.name);
+            Failure::system("sync the folder of", &name, &error)
         })?;
     }
     Ok(())

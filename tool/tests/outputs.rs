@@ -58,18 +58,20 @@ fn a_full_disk_keeps_the_old_file() {
     let folder = prepared("full", 600_000);
     fs::create_dir(folder.join("disk")).unwrap();
     // A file system of its own, seen by this shell alone.
-    let inside = format!(
-        "mount -t tmpfs -o size=128k tmpfs disk || exit 99; echo kept > disk/keep.bin; {}; echo status $?; {}; echo status $?; \
-         ls -A disk; cat disk/keep.bin",
-        cut_long("disk/keep.bin"),
-        cut_long("disk/new.bin --describe")
-    );
-    let said =
-        sh(&folder, &format!("unshare --mount --map-root-user sh -c \"{}\" || exit 99", inside.replace('$', "\\$")));
-    if said.status == 99 {
-        println!("skipped: no file system can be mounted here: {}", said.err);
+    let mounted = |line: &str| {
+        let line = format!("mount -t tmpfs -o size=128k tmpfs disk && {{ {line}; }}");
+        sh(&folder, &format!("unshare --mount --map-root-user sh -c \"{}\"", line.replace('$', "\\$")))
+    };
+    let tried = mounted("true");
+    if tried.status != 0 {
+        println!("skipped: no file system can be mounted here: {}", tried.err);
         return;
     }
+    let said = mounted(&format!(
+        "echo kept > disk/keep.bin; {}; echo status $?; {}; echo status $?; ls -A disk; cat disk/keep.bin",
+        cut_long("disk/keep.bin"),
+        cut_long("disk/new.bin --describe")
+    ));
     assert_eq!(said.text(), "status 74\nstatus 74\nkeep.bin\nkept\n", "{}", said.err);
     assert!(said.err.contains("cannot write disk/keep.bin: No space left on device"), "{}", said.err);
     assert!(said.err.contains("cannot write disk/new.bin: No space left on device"), "{}", said.err);
