@@ -13,7 +13,8 @@
 //! A line is the cell's coordinates, its mask byte of each level (a `-` at depth 0), and either the word `null` with the
 //! level, or the word `value` with `"text"` or `hex 0A 0B`. So an empty value and a null differ in a word and in a mask
 //! byte, and a line where the two contradict each other is not accepted. In a text `\"`, `\\`, `\n`, `\t`, `\r` and `\x0A`
-//! stand for one byte. `#` begins a comment, on a line of its own or behind a cell.
+//! stand for one byte, other characters for their bytes in UTF-8. `#` begins a comment, on a line of its own or behind a
+//! cell.
 //!
 //! Ragged values of depth 0 may have bytes before their first cell; they stand in a line `before: "text"`.
 
