@@ -1,7 +1,7 @@
 //! Kinds, shapes and subsets in readable words.
 
 use crate::failure::Failure;
-use durpaxeta::{Kind, Order, Place, Refusal, Subset, Width};
+use durpaxeta::{decode, subset_cells, Kind, Order, Place, Refusal, Subset, Width};
 
 const KIND_EXAMPLES: &str =
     "write for example \"depth 1, ragged, width 4, index at start\" or \"depth 0, fixed, size 2, little order\"";
@@ -24,6 +24,17 @@ fn fill<T>(place: &mut Option<T>, value: T) -> bool {
 /// Reads a kind: `depth 1, ragged, width 4, index at start` or `depth 0, fixed, size 2, little order`.
 /// Words that are no kind are an error in words; numbers out of range are refusal 1, by the library or, for the width, here.
 pub fn kind(text: &str) -> Result<Kind, Failure> {
+    let refused = || Failure::refused(Refusal::Kind, "kind", format!("The kind is {}", text.trim()));
+    let Some(kind) = kind_of_words(text)? else { return Err(refused()) };
+    // The kind is tested before anything else, and one cell of no bytes costs nothing.
+    match decode(kind, &[1], &[]) {
+        Err(Refusal::Kind) => Err(refused()),
+        _ => Ok(kind),
+    }
+}
+
+/// None where the width is none.
+fn kind_of_words(text: &str) -> Result<Option<Kind>, Failure> {
     let wrong = |what: String| Failure::usage(format!("the kind \"{text}\" {what}; {KIND_EXAMPLES}"));
     let (mut depth, mut form, mut size, mut width) = (None, None, None, None);
     let (mut order, mut place) = (None, None);
@@ -60,7 +71,7 @@ pub fn kind(text: &str) -> Result<Kind, Failure> {
             }
             let size = size.ok_or_else(|| wrong("is fixed and does not say the size of a cell".into()))?;
             let order = order.ok_or_else(|| wrong("is fixed and does not say little order or big order".into()))?;
-            Ok(Kind::fixed(depth, size, order))
+            Ok(Some(Kind::fixed(depth, size, order)))
         }
         Some(_) => {
             if size.is_some() || order.is_some() {
@@ -69,22 +80,28 @@ pub fn kind(text: &str) -> Result<Kind, Failure> {
             let width = width.ok_or_else(|| wrong("is ragged and does not say the width of its index".into()))?;
             let place = place
                 .ok_or_else(|| wrong("is ragged and does not say \"index at start\" or \"index at end\"".into()))?;
-            let width = match width {
-                4 => Width::Four,
-                8 => Width::Eight,
-                _ => return Err(Failure::refused(Refusal::Kind, "kind", format!("The width is {width}"))),
-            };
-            Ok(Kind::ragged(depth, width, place))
+            Ok(match width {
+                4 => Some(Kind::ragged(depth, Width::Four, place)),
+                8 => Some(Kind::ragged(depth, Width::Eight, place)),
+                _ => None,
+            })
         }
         None => Err(wrong("says neither fixed nor ragged".into())),
     }
 }
 
-/// Reads a shape: `2x3`.
+/// Reads a shape: `2x3`. One that the library refuses is shown as it was typed.
 pub fn shape(text: &str) -> Result<Vec<u64>, Failure> {
-    text.split(['x', 'X', '×']).map(|side| number(side.trim())).collect::<Option<Vec<u64>>>().ok_or_else(|| {
+    let sides = text.split(['x', 'X', '×']).map(|side| number(side.trim())).collect::<Option<Vec<u64>>>();
+    let shape = sides.ok_or_else(|| {
         Failure::usage(format!("\"{text}\" is no shape; write the sides with an x between, for example 2x3"))
-    })
+    })?;
+    match subset_cells(&shape, &Subset::from_numbers(Vec::new())) {
+        Err(refusal @ Refusal::Shape) => {
+            Err(Failure::refused(refusal, "shape", format!("The shape is {}", text.trim())))
+        }
+        _ => Ok(shape),
+    }
 }
 
 pub fn shape_text(shape: &[u64]) -> String {
@@ -189,8 +206,12 @@ mod tests {
     fn numbers_out_of_range_are_refused() {
         assert_eq!(status(kind("depth 1, ragged, width 5, index at start")), 1);
         assert_eq!(status(kind("depth 1, ragged, width 99999999999999999999, index at start")), 1);
-        assert_eq!(kind("depth 99999999999999999999, fixed, size 1, little").unwrap().depth, u64::MAX);
-        assert_eq!(shape("99999999999999999999").unwrap(), [u64::MAX]);
+        assert_eq!(status(kind("depth 99999999999999999999, fixed, size 1, little")), 1);
+        for text in ["0", "0x3", "65537", "1x1x1x1x1", "99999999999999999999", "3x18446744073709551616"] {
+            let refused = shape(text).unwrap_err();
+            assert_eq!(refused.status(), 2);
+            assert!(refused.to_string().contains(&format!("The shape is {text}.")), "{refused}");
+        }
         assert_eq!(subset("2..1").unwrap_err().status(), 3);
     }
 
@@ -198,7 +219,6 @@ mod tests {
     fn shapes_and_subsets() {
         assert_eq!(shape("2x3").unwrap(), [2, 3]);
         assert_eq!(shape(" 2 X 3 × 4").unwrap(), [2, 3, 4]);
-        assert_eq!(shape("0").unwrap(), [0]);
         assert_eq!(shape_text(&[2, 3]), "2x3");
         for text in ["", "x", "2x", "2,3", "-1", "+2", "2.0", "two"] {
             assert_eq!(shape(text).unwrap_err().status(), 64, "{text}");
