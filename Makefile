@@ -3,6 +3,8 @@
 #                it from C, from Rust and by the command. Its last line is rt's own: 'N passed, 0 failed'.
 # make lib       proves and builds the archive: build/libdurpaxeta.a and build/durpaxeta.h.
 # make tool      builds the command build/durpaxeta over that archive.
+# make install   puts command, header, archive, pkg-config file and man pages under PREFIX (/usr/local); make uninstall takes
+#                them away again. DESTDIR goes before PREFIX.
 # make compare   holds the archive against the original Rust; make teeth, make bench: oracle/README.md.
 .PHONY: test lib tool demo
 
@@ -13,24 +15,27 @@ test:
 	@tests/outside.sh
 	@tail -n 1 build/rt-ci.log
 
-# A failed rt leaves the archive of an earlier run in target/, so its status decides, and the old copy goes first.
-lib:
-	@rm -f build/libdurpaxeta.a
-	rt staticlib ffi
-	@mkdir -p build
-	@cp include/durpaxeta.h build/durpaxeta.h
-	@cp target/staticlib/libffi.a build/libdurpaxeta.a
+lib: build/libdurpaxeta.a build/durpaxeta.h
 	@echo "build/libdurpaxeta.a and build/durpaxeta.h are there"
 
-# Takes the archive in build/ as it is.
-tool:
+# A failed rt leaves the archive of an earlier run in target/, so its status decides. The old copy stays until the new one is there.
+build/libdurpaxeta.a: crates.txt $(shell find crates -type f)
+	@mkdir -p build
+	@package/archive.sh
+	@cp target/staticlib/libffi.a $@.new
+	@mv -f $@.new $@
+
+build/durpaxeta.h: include/durpaxeta.h
+	@mkdir -p build
+	@cp $< $@
+
+tool: build/libdurpaxeta.a
 	@CARGO_TARGET_DIR="$(CURDIR)/build/cargo" cargo build --offline --locked --release --quiet --manifest-path tool/Cargo.toml
 	@cp build/cargo/release/durpaxeta build/durpaxeta
 	@echo "build/durpaxeta is there"
 
-demo:
-	@$(MAKE) --no-print-directory lib
-	@$(MAKE) --no-print-directory tool
+demo: lib tool
 	@demo/affinity.sh
 
+include package/install.mk
 include oracle/oracle.mk
