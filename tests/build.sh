@@ -3,6 +3,7 @@
 # error and keeps the archive that was there; compare, bench, tool and install build the archive that they need.
 set -euo pipefail
 cd "$(dirname "$0")/.."
+unset MAKEFLAGS # of a make that runs this
 folder=$(mktemp -d)
 trap 'rm -rf "$folder"' EXIT
 wrong() {

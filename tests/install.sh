@@ -3,6 +3,7 @@
 # pages; make uninstall; and one version in all of it. Needs build/libdurpaxeta.a (make lib).
 set -euo pipefail
 cd "$(dirname "$0")/.."
+unset MAKEFLAGS # of a make that runs this
 folder=$(mktemp -d)
 trap 'rm -rf "$folder"' EXIT
 wrong() {

@@ -2,25 +2,13 @@
  * What the header itself defines: version, texts, room, cells. Compiled as C11 and as C++17. Each room is tried on the
  * archive: it is enough, and where no cell is null one byte less is refused.
  */
+#include "check.h"
 #include "durpaxeta.h"
 
 #include <stdio.h>
 #include <string.h>
 
 enum { CELLS = 6, VALUES = 64 * CELLS, STORED = 1024 };
-
-static unsigned checks, failures;
-
-static void check(int holds, const char *what, int line)
-{
-    checks++;
-    if (!holds) {
-        failures++;
-        printf("FAILED at line %d: %s\n", line, what);
-    }
-}
-
-#define CHECK(condition) check((condition) ? 1 : 0, #condition, __LINE__)
 
 static void versions(void)
 {
@@ -180,6 +168,6 @@ int main(void)
     }
     boxes();
     edges();
-    printf("header: %u checks, %u failed\n", checks, failures);
+    printf("header: %lu checks, %lu failed\n", checks, failures);
     return failures == 0 ? 0 : 1;
 }
