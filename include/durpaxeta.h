@@ -2,6 +2,7 @@
  * Durpaxeta: tables of optional and variable-length cells in one checked byte layout.
  *
  * Link with libdurpaxeta.a (x86-64). Nothing else is needed but memmove and memset, as of any C library.
+ * The archive has the eight calls. All else is static inline here: kinds, answers in words, room for outputs, cells.
  *
  * A TABLE is a kind, a shape and its content.
  *
@@ -189,9 +190,11 @@ typedef struct dpx_room {
 
 /*
  * The room that an array of `cells` cells needs. Ragged values are at most `bytes` long.
- *   dpx_decode    cells of the shape,  bytes: bytes_len
- *   dpx_extract   cells of the subset, bytes: values_len
- *   dpx_merge     cells of the shape,  bytes: values_len
+ *   dpx_decode              cells of the shape,  bytes: bytes_len
+ *   dpx_extract             cells of the subset, bytes: values_len
+ *   dpx_merge               cells of the shape,  bytes: values_len
+ *   dpx_partial_decode      cells of the subset, bytes: bytes_len, kind: ragged, depth 0
+ *   dpx_decode_interleaved  its cells,           bytes: bytes_len, kind: ragged, depth 0
  * All of it is used but for ragged values, which may be shorter.
  */
 static inline dpx_room dpx_array_room(dpx_kind kind, uint64_t cells, size_t bytes)

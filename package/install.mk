@@ -3,6 +3,7 @@
 #   DESTDIR   where they are put for now, before PREFIX, as for a package
 PREFIX ?= /usr/local
 DESTDIR ?=
+FILES := include/durpaxeta.h lib/libdurpaxeta.a lib/pkgconfig/durpaxeta.pc share/man/man1/durpaxeta.1 share/man/man3/durpaxeta.3
 
 .PHONY: install uninstall
 install: lib tool
@@ -10,13 +11,10 @@ install: lib tool
 	@sed -e 's|@PREFIX@|$(PREFIX)|' -e "s|@VERSION@|$$(cat VERSION)|" package/durpaxeta.pc.in > build/durpaxeta.pc
 	@package/man.sh 1 > build/durpaxeta.1
 	@package/man.sh 3 > build/durpaxeta.3
-	install -D -m 755 build/durpaxeta "$(DESTDIR)$(PREFIX)/bin/durpaxeta"
-	install -D -m 644 build/durpaxeta.h "$(DESTDIR)$(PREFIX)/include/durpaxeta.h"
-	install -D -m 644 build/libdurpaxeta.a "$(DESTDIR)$(PREFIX)/lib/libdurpaxeta.a"
-	install -D -m 644 build/durpaxeta.pc "$(DESTDIR)$(PREFIX)/lib/pkgconfig/durpaxeta.pc"
-	install -D -m 644 build/durpaxeta.1 "$(DESTDIR)$(PREFIX)/share/man/man1/durpaxeta.1"
-	install -D -m 644 build/durpaxeta.3 "$(DESTDIR)$(PREFIX)/share/man/man3/durpaxeta.3"
+	@install -D -m 755 build/durpaxeta "$(DESTDIR)$(PREFIX)/bin/durpaxeta"
+	@for file in $(FILES); do install -D -m 644 "build/$${file##*/}" "$(DESTDIR)$(PREFIX)/$$file" || exit 1; done
+	@echo "installed under $(DESTDIR)$(PREFIX): bin/durpaxeta $(FILES)"
 
 uninstall:
-	cd "$(DESTDIR)$(PREFIX)" && rm -f bin/durpaxeta include/durpaxeta.h lib/libdurpaxeta.a lib/pkgconfig/durpaxeta.pc \
-	    share/man/man1/durpaxeta.1 share/man/man3/durpaxeta.3
+	@rm -f $(foreach file,bin/durpaxeta $(FILES),"$(DESTDIR)$(PREFIX)/$(file)")
+	@echo "removed from $(DESTDIR)$(PREFIX): bin/durpaxeta $(FILES)"

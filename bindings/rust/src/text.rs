@@ -16,7 +16,7 @@ pub enum TextError {
     Words(String),
     /// The words are understood, and what they say is refused.
     Refused {
-        /// As which call would refuse it.
+        /// The refusal that a call would give.
         refusal: Refusal,
         /// What exactly is wrong.
         detail: String,
@@ -119,8 +119,8 @@ impl Said {
         }
     }
 
-    /// The kind that was said; `wrong` tells of what is missing or too much.
-    fn kind(self, wrong: impl Fn(&str) -> TextError) -> Result<Kind, TextError> {
+    /// The kind that was said, None where its width is none; `wrong` tells of what is missing or too much.
+    fn kind(self, wrong: impl Fn(&str) -> TextError) -> Result<Option<Kind>, TextError> {
         let depth = self.depth.ok_or_else(|| wrong("does not say the depth"))?;
         if !self.ragged.ok_or_else(|| wrong("says neither fixed nor ragged"))? {
             if self.width.is_some() || self.place.is_some() {
@@ -128,7 +128,7 @@ impl Said {
             }
             let size = self.size.ok_or_else(|| wrong("is fixed and does not say the size of a cell"))?;
             let order = self.order.ok_or_else(|| wrong("is fixed and does not say little order or big order"))?;
-            return Ok(Kind::fixed(depth, size, order));
+            return Ok(Some(Kind::fixed(depth, size, order)));
         }
         if self.size.is_some() || self.order.is_some() {
             return Err(wrong("is ragged and has a size or an order; only fixed kinds have them"));
@@ -139,12 +139,9 @@ impl Said {
         let width = match width {
             4 => Width::Four,
             8 => Width::Eight,
-            _ => {
-                let detail = format!("The width is {width}");
-                return Err(TextError::Refused { refusal: Refusal::Kind, detail });
-            }
+            _ => return Ok(None),
         };
-        Ok(Kind::ragged(depth, width, place))
+        Ok(Some(Kind::ragged(depth, width, place)))
     }
 }
 
@@ -159,7 +156,10 @@ impl FromStr for Kind {
         for part in text.split(',') {
             said.hear(part).map_err(|what| wrong(&what))?;
         }
-        said.kind(wrong)
+        said.kind(wrong)?.ok_or_else(|| TextError::Refused {
+            refusal: Refusal::Kind,
+            detail: format!("The kind is {}", text.trim()),
+        })
     }
 }
 

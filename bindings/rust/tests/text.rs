@@ -77,10 +77,11 @@ fn words_that_are_no_kind() {
 #[test]
 fn widths_are_refused() {
     for width in ["5", "0", "99999999999999999999"] {
-        let error = format!("depth 1, ragged, width {width}, index at start").parse::<Kind>().unwrap_err();
-        assert!(matches!(error, TextError::Refused { refusal: Refusal::Kind, .. }));
-        assert!(error.to_string().starts_with("The width is "), "{error}");
-        assert!(error.to_string().ends_with(&Refusal::Kind.to_string()), "{error}");
+        let text = format!("depth 1, ragged, width {width}, index at start");
+        let error = text.parse::<Kind>().unwrap_err();
+        let detail = format!("The kind is {text}");
+        assert_eq!(error.to_string(), format!("{detail}: {}", Refusal::Kind));
+        assert_eq!(error, TextError::Refused { refusal: Refusal::Kind, detail });
     }
     // Words come first.
     assert!(matches!("depth 1, ragged, width 5".parse::<Kind>(), Err(TextError::Words(_))));
