@@ -29,10 +29,12 @@ build/durpaxeta.h: include/durpaxeta.h
 	@mkdir -p build
 	@cp $< $@
 
-tool: build/libdurpaxeta.a
-	@CARGO_TARGET_DIR="$(CURDIR)/build/cargo" cargo build --offline --locked --release --quiet --manifest-path tool/Cargo.toml
-	@cp build/cargo/release/durpaxeta build/durpaxeta
+tool: build/durpaxeta
 	@echo "build/durpaxeta is there"
+
+build/durpaxeta: build/libdurpaxeta.a demo/guests.txt $(shell find tool bindings/rust -type f)
+	@CARGO_TARGET_DIR="$(CURDIR)/build/cargo" cargo build --offline --locked --release --quiet --manifest-path tool/Cargo.toml
+	@cp build/cargo/release/durpaxeta $@
 
 demo: lib tool
 	@demo/affinity.sh

@@ -12,7 +12,7 @@ wrong() {
     exit 1
 }
 mkdir -p "$folder/tree/crates/array/src" "$folder/bin"
-cp -R Makefile VERSION include package oracle bench "$folder/tree"
+cp -R Makefile VERSION include package bindings tool demo oracle bench "$folder/tree"
 printf 'array:\nbuffer: array\nffi: array buffer\nvectors: array\n' > "$folder/tree/crates.txt"
 touch "$folder/tree/crates/array/src/lib.rt"
 cat > "$folder/bin/rt" <<'END'
