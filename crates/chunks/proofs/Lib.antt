@@ -5,3 +5,5 @@ pub mod Calls
 pub mod Demand
 pub mod Lines
 pub mod Instance
+pub mod Refusals
+pub mod Demand1

@@ -6,3 +6,4 @@ pub mod RoundTrip
 pub mod Marks
 pub mod SpreadLaws
 pub mod Returns
+pub mod Refusals
