@@ -2,12 +2,12 @@
 -- Assumes nothing.
 use mathlib.Core.Path.{_≡_, refl, subst}
 use mathlib.Core.Bool.{Bool, true, false, false≢true}
-use mathlib.Core.List.{List, [], _∷_, _++_}
+use mathlib.Core.List.{List, _∷_, _++_}
 use Prim.Native.Nat.{ℕ, _≤_}
 use lib.ListN.{length}
 use lib.Dec.{leb, eqb}
 use borrow.Author.Tests.{le-leb, leb-true, eq-eqb, eqb-true}
-use Rattle.array.specs.Answer.{Answer, gives, refuses, unless, andThen, mapAnswer}
+use Rattle.array.specs.Answer.{Answer, gives, unless, andThen, mapAnswer}
 use Rattle.array.specs.Kind.{fixed, little}
 use Rattle.array.specs.Calls.{reverseAnswer, endiannessReversed, cellsAnswer, subsetCells}
 use Rattle.array.specs.Refusals.{Rule, InOrder, success, broken, kept, Given, Refusals}

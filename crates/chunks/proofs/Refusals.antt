@@ -19,9 +19,9 @@ use Rattle.array.proofs.Rules.{both, left-of, right-of}
 use Rattle.array.proofs.Rules.{kind-test, kind-ok, shape-test, shape-ok, numbers-test, numbers-ok, many-test, many-ok, content-test, content-ok}
 use Rattle.array.proofs.Rules.{size-test, size-ok, enough-test, enough-ok, ragged-enough-test, ragged-enough-ok}
 use Rattle.codec.proofs.Refusals.{ragged-order}
-use Rattle.chunks.specs.Chunks.{firstChunk, laterChunks, nothingTest, chunkCells, mergeOf}
+use Rattle.chunks.specs.Chunks.{firstChunk, laterChunks, Nothing, nothingTest, chunkCells, mergeOf}
 use Rattle.chunks.specs.Calls.{extractAnswer, extracted, mergeAnswer, merged, raggedCut, partialAnswer, partiallyDecoded}
-use Rattle.chunks.specs.Refusals.{Nothing, chunkRules, Refusals}
+use Rattle.chunks.specs.Refusals.{chunkRules, Refusals}
 use Rattle.chunks.proofs.Gather.{once-test, once-ok}
 
 -- ---- the chunk list

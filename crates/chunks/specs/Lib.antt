@@ -6,3 +6,4 @@ pub mod Demand
 pub mod Lines
 pub mod Refusals
 pub mod Demand1
+pub mod ReadThenCut

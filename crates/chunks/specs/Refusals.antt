@@ -2,7 +2,6 @@
 -- of this layer's three calls.
 -- Assumes nothing.
 use Prim.Native.Nat.{ℕ, _≤_}
-use mathlib.Core.Path.{_≡_}
 use mathlib.Core.List.{List, [], _∷_, _++_}
 use lib.ListN.{length}
 use Rattle.array.specs.Limits.{mostBytes}
@@ -17,14 +16,8 @@ use Rattle.codec.specs.Ragged.{getRagged}
 use Rattle.codec.specs.Refusals.{raggedRules}
 use Rattle.chunks.specs.Gather.{Once}
 use Rattle.chunks.specs.Cut.{cutOf}
-use Rattle.chunks.specs.Chunks.{firstChunk, laterChunks, chunkCells, mergeOf}
+use Rattle.chunks.specs.Chunks.{Nothing, firstChunk, laterChunks, chunkCells, mergeOf}
 use Rattle.chunks.specs.Calls.{extracted, merged, raggedCut, partiallyDecoded}
-
--- nothing is left over behind the last chunk
-pub record Nothing (c : Content) : Type 0 where
-  pub no-masks : length (c .masks) ≡ 0
-  pub no-values : length (c .values) ≡ 0
-  pub no-offsets : length (c .offsets) ≡ 0
 
 abbrev pub chunkRules : Kind → List Subset → Content → List Rule
 chunkRules k [] c = (4, Nothing c) ∷ []

@@ -7,3 +7,4 @@ pub mod Marks
 pub mod SpreadLaws
 pub mod Returns
 pub mod Refusals
+pub mod Accepted

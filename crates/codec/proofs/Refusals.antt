@@ -1,22 +1,15 @@
 -- Each refusal of the stored forms exactly when it is due: the readers first, then the calls.
 -- Assumes nothing.
-use mathlib.Core.Path.{_≡_, refl}
-use mathlib.Core.Logic.{inl, inr}
-use mathlib.Core.Bool.{true}
 use mathlib.Core.List.{List, map}
 use Prim.Native.Nat.{ℕ, zero, suc}
-use native.Mathlib.Omega.{arith}
 use lib.ListN.{length, take, drop}
-use borrow.Author.Tests.{eq-eqb, eqb-true}
-use Rattle.array.specs.Answer.{Answer, gives, andThen}
-use Rattle.array.specs.Limits.{mostBytes}
+use Rattle.array.specs.Answer.{Answer}
 use Rattle.array.specs.Bytes.{unle}
 use Rattle.array.specs.Lists.{joined, pieces}
-use Rattle.array.specs.Kind.{Kind, Place, Form, fixed, ragged, nullOf}
+use Rattle.array.specs.Kind.{Place, Form, fixed, ragged, nullOf}
 use Rattle.array.specs.Shape.{volume}
 use Rattle.array.specs.Offsets.{last}
 use Rattle.array.specs.Cells.{blank}
-use Rattle.array.specs.Content.{Content, RaggedContent}
 use Rattle.array.specs.Buffers.{lengthsOf, raggedLengthsOf}
 use Rattle.array.specs.Refusals.{Rule, InOrder, success}
 use Rattle.array.proofs.Refusals.{stage, stage-le, stage-eq, stage-given, and-then, named}
@@ -24,25 +17,17 @@ use Rattle.array.proofs.Rules.{kind-test, kind-ok, shape-test, shape-ok, conten
 use Rattle.array.proofs.Rules.{size-test, size-ok, enough-test, enough-ok, ragged-enough-test, ragged-enough-ok}
 use Rattle.codec.specs.Mask.{byteMask}
 use Rattle.codec.specs.Frame.{countSet, expand, contentOf, readFrame}
-use Rattle.codec.specs.Ragged.{partOf, leftOf, dataTest, checkRagged, openRagged, getRagged}
+use Rattle.codec.specs.Ragged.{partOf, leftOf, checkRagged, openRagged, getRagged}
 use Rattle.codec.specs.Values.{getValues}
 use Rattle.codec.specs.Interleaved.{interleavedCells}
 use Rattle.codec.specs.Calls.{readIn, encodeAnswer, encoded, decodeAnswer, decoded, interleavedAnswer, interleavedDecoded}
-use Rattle.codec.specs.Refusals.{DataOk, dataRules, indexRules, raggedRules, valueRules, contentRules, frameRules, cellRules, Refusals}
+use Rattle.codec.specs.Refusals.{dataRules, indexRules, raggedRules, valueRules, contentRules, frameRules, cellRules, Refusals}
+use Rattle.codec.proofs.Ragged.{data-test, data-ok}
 
 -- ---- stored bytes
 
-data-test : (o : ℕ) (s : List ℕ) → DataOk o s → dataTest o (length s) ≡ true
-data-test zero s p = refl
-data-test (suc o) s (inl e) = absurd (omega arith)
-data-test (suc o) s (inr e) = eq-eqb (suc o) (length s) e
-
-data-ok : (o : ℕ) (s : List ℕ) → dataTest o (length s) ≡ true → DataOk o s
-data-ok zero s e = inl refl
-data-ok (suc o) s e = inr (eqb-true (suc o) (length s) e)
-
 data-order : (os s : List ℕ) → InOrder (dataRules os s) (checkRagged os s)
-data-order os s = stage 8 (data-test (last os) s) (data-ok (last os) s) (stage 10 (rising-test os) (rising-ok os) (stage 5 (size-test (last os)) (size-ok (last os)) success))
+data-order os s = stage 8 (data-test (last os) (length s)) (data-ok (last os) (length s)) (stage 10 (rising-test os) (rising-ok os) (stage 5 (size-test (last os)) (size-ok (last os)) success))
 
 index-order : (w : ℕ) (p : Place) (l : ℕ) (s : List ℕ) (n : ℕ) → InOrder (indexRules w p l s n) (openRagged w p l s n)
 index-order w p l s n = stage-le 8 _ _ (stage-eq 8 _ _ (data-order (map unle (pieces w (suc n) (partOf p l s))) (leftOf p l s)))

@@ -3,7 +3,6 @@
 -- Assumes nothing.
 use Prim.Native.Nat.{ℕ, zero, suc, _+_, _*_, _≤_}
 use mathlib.Core.Path.{_≡_}
-use mathlib.Core.Logic.{_⊎_}
 use mathlib.Core.List.{List, [], _∷_, _++_, map}
 use lib.ListN.{length, take, drop}
 use Rattle.array.specs.Limits.{mostBytes, mostCells}
@@ -17,19 +16,15 @@ use Rattle.array.specs.Buffers.{lengthsOf, raggedLengthsOf, Enough, RaggedEnoug
 use Rattle.array.specs.Refusals.{Rule, InOrder, Given}
 use Rattle.codec.specs.Mask.{byteMask}
 use Rattle.codec.specs.Frame.{countSet}
-use Rattle.codec.specs.Ragged.{partOf, leftOf}
+use Rattle.codec.specs.Ragged.{partOf, leftOf, DataOk}
 use Rattle.codec.specs.Interleaved.{interleavedCells}
 use Rattle.codec.specs.Calls.{storedForm, readIn, encoded, decoded, interleavedDecoded}
 
 -- ---- stored bytes
 
--- with a last offset of 0 the data may be anything
-abbrev pub DataOk : ℕ → List ℕ → Type 0
-DataOk o s = (o ≡ 0) ⊎ (o ≡ length s)
-
 -- offsets and data
 abbrev pub dataRules : List ℕ → List ℕ → List Rule
-dataRules os s = (8, DataOk (last os) s) ∷ (10, Rising os) ∷ (5, last os ≤ mostBytes) ∷ []
+dataRules os s = (8, DataOk (last os) (length s)) ∷ (10, Rising os) ∷ (5, last os ≤ mostBytes) ∷ []
 
 -- an index of l bytes for n cells, in what the index length leaves
 abbrev pub indexRules : ℕ → Place → ℕ → List ℕ → ℕ → List Rule
