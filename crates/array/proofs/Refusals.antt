@@ -2,8 +2,9 @@
 -- Assumes nothing.
 use mathlib.Core.Path.{_≡_, refl, subst}
 use mathlib.Core.Bool.{Bool, true, false, false≢true}
-use mathlib.Core.List.{List, _∷_, _++_}
+use mathlib.Core.List.{List, [], _∷_, _++_}
 use Prim.Native.Nat.{ℕ, _≤_}
+use native.Mathlib.Omega.{arith}
 use lib.ListN.{length}
 use lib.Dec.{leb, eqb}
 use borrow.Author.Tests.{le-leb, leb-true, eq-eqb, eqb-true}
@@ -47,6 +48,17 @@ pub named : {A B : Type 0} {rs : List Rule} {a : Answer A} (f : A → B) → InO
 named f success = success
 named f (broken no-P) = broken no-P
 named f (kept p h) = kept p (named f h)
+
+-- ---- where something is given, every rule is kept
+
+abbrev pub Kept : List Rule → Type 0
+Kept [] = Unit {0}
+Kept (r ∷ rs) = r .1 × Kept rs
+
+pub all-kept : {A : Type 0} {rs : List Rule} {a : Answer A} {x : A} → InOrder rs a → a ≡ gives x → Kept rs
+all-kept success e = tt
+all-kept (broken no-P) e = absurd (let never : _≡_ {A = ℕ} 0 1 = cc in omega arith)
+all-kept (kept p h) e = (p, all-kept h e)
 
 -- ---- the calls of this layer
 

@@ -1,54 +1,66 @@
 -- What is read of stored ragged values keeps the rules of an array.
 -- Assumes nothing.
 use mathlib.Core.Path.{_≡_, refl, sym, _∙_, subst}
+use mathlib.Core.Logic.{inl, inr}
 use Prim.Native.Nat.{ℕ, zero, suc, _*_, _≤_}
 use native.Mathlib.Nat.{zero-mul}
 use native.Mathlib.Omega.{arith}
-use mathlib.Core.Bool.{true}
 use mathlib.Core.List.{List, map}
 use lib.ListN.{length, length-map}
-use lib.Dec.{leb, eqb}
-use borrow.Author.Tests.{eqb-true}
+use borrow.Author.Tests.{le-leb, eq-eqb}
 use Rattle.array.specs.Answer.{gives}
 use Rattle.array.specs.Limits.{mostBytes}
 use Rattle.array.specs.Lists.{pieces}
 use Rattle.array.specs.Bytes.{unle}
 use Rattle.array.specs.Kind.{Place, ragged}
-use Rattle.array.specs.Offsets.{last, Rising, risingTest}
-use Rattle.array.specs.Content.{RaggedContent, unmasked, ContentOk, sizeTest}
-use Rattle.array.proofs.Answers.{passed}
+use Rattle.array.specs.Offsets.{last, Rising}
+use Rattle.array.specs.Content.{RaggedContent, unmasked, ContentOk}
 use Rattle.array.proofs.Lists.{length-pieces}
-use Rattle.array.proofs.Rules.{rising-ok, size-ok}
-use Rattle.codec.specs.Ragged.{partOf, leftOf, getRagged, checkRagged, dataTest, dataFor}
+use Rattle.array.proofs.Refusals.{Kept, all-kept}
+use Rattle.codec.specs.Ragged.{partOf, leftOf, getRagged, DataOk, dataFor}
+use Rattle.codec.specs.Refusals.{dataRules, raggedRules}
+use Rattle.codec.proofs.Ragged.{check-gives}
+use Rattle.codec.proofs.Refusals.{ragged-order}
 
-data-length : (o : ℕ) (s : List ℕ) → dataTest o (length s) ≡ true → o ≡ length (dataFor o s)
-data-length zero s e = refl
-data-length (suc o) s e = eqb-true (suc o) (length s) e
+data-length : (o : ℕ) (s : List ℕ) → DataOk o (length s) → o ≡ length (dataFor o s)
+data-length zero s p = refl
+data-length (suc o) s (inl e) = absurd (omega arith)
+data-length (suc o) s (inr e) = e
 
 -- offsets of n cells, and as many value bytes as the last of them says, at most so many
 abbrev RaggedOk : ℕ → RaggedContent → Type 0
 RaggedOk n c = (length (c .offsets) ≡ suc n) × Rising (c .offsets) × (last (c .offsets) ≡ length (c .values)) × (length (c .values) ≤ mostBytes)
 
-check-ok : (n : ℕ) (os s : List ℕ) (c : RaggedContent) → length os ≡ suc n → checkRagged os s ≡ gives c → RaggedOk n c
-check-ok n os s c en e =
-    let first = passed (dataTest (last os) (length s)) _ _ e in
-    let second = passed (risingTest os) _ _ (first .1) in
-    let third = passed (sizeTest (last os)) _ _ (second .1) in
-    let el : last os ≡ length (dataFor (last os) s) = data-length (last os) s (first .0) in
-    let same : record { values = dataFor (last os) s; offsets = os } ≡ c = cc in
-    subst (RaggedOk n) same (en, rising-ok os (second .0), el, omega (arith, size-ok (last os) (third .0)))
-
 module _ (w : ℕ) (p : Place) (s : List ℕ) (n : ℕ) (c : RaggedContent) (e : getRagged w p s n ≡ gives c) where
+  abbrev indexLength : ℕ
+  indexLength = unle (partOf p 8 s)
+
+  abbrev behind : List ℕ
+  behind = leftOf p 8 s
+
+  abbrev offsets : List ℕ
+  offsets = map unle (pieces w (suc n) (partOf p indexLength behind))
+
+  abbrev bytes : List ℕ
+  bytes = leftOf p indexLength behind
+
+  facts : Kept (raggedRules w p s n)
+  facts = all-kept (ragged-order w p s n) e
+
+  of-data : Kept (dataRules offsets bytes)
+  of-data = facts .1 .1 .1
+
   ragged-ok : RaggedOk n c
   unfolding getRagged
   ragged-ok =
-      let l : ℕ = unle (partOf p 8 s) in
-      let t : List ℕ = leftOf p 8 s in
-      let first = passed (leb 8 (length s)) _ _ e in
-      let second = passed (leb l (length t)) _ _ (first .1) in
-      let third = passed (eqb l (w * suc n)) _ _ (second .1) in
-      let index : List (List ℕ) = pieces w (suc n) (partOf p l t) in
-      check-ok n (map unle index) (leftOf p l t) c (length-map index unle ∙ length-pieces w (suc n) (partOf p l t)) (third .1)
+      let read : RaggedContent = record { values = dataFor (last offsets) bytes; offsets = offsets } in
+      let is : getRagged w p s n ≡ gives read =
+      rw (le-leb 8 (length s) (facts .0), le-leb indexLength (length behind) (facts .1 .0), eq-eqb indexLength (w * suc n) (facts .1 .1 .0))
+      (check-gives offsets bytes (of-data .0) (of-data .1 .0) (of-data .1 .1 .0)) in
+      let same : read ≡ c = cc in
+      let ended : last offsets ≡ length (dataFor (last offsets) bytes) = data-length (last offsets) bytes (of-data .0) in
+      subst (RaggedOk n) same
+      (length-map (pieces w (suc n) (partOf p indexLength behind)) unle ∙ length-pieces w (suc n) (partOf p indexLength behind), of-data .1 .0, ended, omega (arith, of-data .1 .1 .0))
 
   pub read-content : ContentOk (record { depth = 0; form = ragged w p }) n (unmasked c)
   read-content = record { masks-fit = sym (zero-mul n); values-fit = (ragged-ok .0, ragged-ok .1, ragged-ok .2) }

@@ -70,9 +70,12 @@ data-for zero [] e = refl
 data-for zero (x ∷ s) e = absurd (omega arith)
 data-for (suc n) s e = refl
 
+pub check-gives : (os s : List ℕ) → DataOk (last os) (length s) → Rising os → last os ≤ mostBytes → checkRagged os s ≡ gives (record { values = dataFor (last os) s; offsets = os })
+check-gives os s d p h = rw (data-test (last os) (length s) d, rising-test os p, le-leb (last os) mostBytes h)
+
 check-back : (os s : List ℕ) → Rising os → last os ≡ length s → length s ≤ mostBytes → checkRagged os s ≡ gives (record { values = s; offsets = os })
 check-back os s p e h =
-    rw (data-test (last os) (length s) (inr e), rising-test os p, le-leb (last os) mostBytes (omega arith), data-for (last os) s e)
+    check-gives os s (inr e) p (omega arith) ∙ ap (λ (t : List ℕ). gives (record { values = t; offsets = os })) (data-for (last os) s e)
 
 -- for any width in which the offsets fit
 pub back-ragged : (w : ℕ) (p : Place) (c : RaggedContent) (n : ℕ) → mostBytes < 256 ^ w → length (c .offsets) ≡ suc n → Rising (c .offsets)
