@@ -48,14 +48,14 @@ module _ (w : ℕ) (p : Place) (s : List ℕ) (n : ℕ) (c : RaggedContent) (e :
   facts = all-kept (ragged-order w p s n) e
 
   of-data : Kept (dataRules offsets bytes)
-  of-data = facts .1 .1 .1
+  of-data = facts .1 .1
 
   ragged-ok : RaggedOk n c
   unfolding getRagged
   ragged-ok =
       let read : RaggedContent = record { values = dataFor (last offsets) bytes; offsets = offsets } in
       let is : getRagged w p s n ≡ gives read =
-      rw (le-leb 8 (length s) (facts .0), le-leb indexLength (length behind) (facts .1 .0), eq-eqb indexLength (w * suc n) (facts .1 .1 .0))
+      rw (le-leb 8 (length s) (facts .0), le-leb indexLength (length behind) (facts .1 .0 .0), eq-eqb indexLength (w * suc n) (facts .1 .0 .1))
       (check-gives offsets bytes (of-data .0) (of-data .1 .0) (of-data .1 .1 .0)) in
       let same : read ≡ c = cc in
       let ended : last offsets ≡ length (dataFor (last offsets) bytes) = data-length (last offsets) bytes (of-data .0) in

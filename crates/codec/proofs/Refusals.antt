@@ -1,18 +1,24 @@
 -- Each refusal of the stored forms exactly when it is due: the readers first, then the calls.
 -- Assumes nothing.
+use mathlib.Core.Path.{_≡_, refl, sym, subst}
+use mathlib.Core.Bool.{Bool, true, false, _&&_}
 use mathlib.Core.List.{List, map}
-use Prim.Native.Nat.{ℕ, zero, suc}
+use Prim.Native.Nat.{ℕ, zero, suc, _*_}
 use lib.ListN.{length, take, drop}
-use Rattle.array.specs.Answer.{Answer}
+use lib.Dec.{leb, eqb}
+use borrow.Author.Tests.{le-leb, leb-true, eq-eqb, eqb-true}
+use Rattle.array.specs.Answer.{Answer, unless}
 use Rattle.array.specs.Bytes.{unle}
 use Rattle.array.specs.Lists.{joined, pieces}
 use Rattle.array.specs.Kind.{Place, Form, fixed, ragged, nullOf}
 use Rattle.array.specs.Shape.{volume}
 use Rattle.array.specs.Offsets.{last}
 use Rattle.array.specs.Cells.{blank}
+use Rattle.array.specs.Content.{RaggedContent}
 use Rattle.array.specs.Buffers.{lengthsOf, raggedLengthsOf}
 use Rattle.array.specs.Refusals.{Rule, InOrder, success}
 use Rattle.array.proofs.Refusals.{stage, stage-le, stage-eq, stage-given, and-then, named}
+use Rattle.array.proofs.Rules.{both, left-of, right-of}
 use Rattle.array.proofs.Rules.{kind-test, kind-ok, shape-test, shape-ok, content-test, content-ok, rising-test, rising-ok}
 use Rattle.array.proofs.Rules.{size-test, size-ok, enough-test, enough-ok, ragged-enough-test, ragged-enough-ok}
 use Rattle.codec.specs.Mask.{byteMask}
@@ -29,8 +35,25 @@ use Rattle.codec.proofs.Ragged.{data-test, data-ok}
 data-order : (os s : List ℕ) → InOrder (dataRules os s) (checkRagged os s)
 data-order os s = stage 8 (data-test (last os) (length s)) (data-ok (last os) (length s)) (stage 10 (rising-test os) (rising-ok os) (stage 5 (size-test (last os)) (size-ok (last os)) success))
 
-index-order : (w : ℕ) (p : Place) (l : ℕ) (s : List ℕ) (n : ℕ) → InOrder (indexRules w p l s n) (openRagged w p l s n)
-index-order w p l s n = stage-le 8 _ _ (stage-eq 8 _ _ (data-order (map unle (pieces w (suc n) (partOf p l s))) (leftOf p l s)))
+module _ (w : ℕ) (p : Place) (l : ℕ) (s : List ℕ) (n : ℕ) where
+  abbrev checked : Answer RaggedContent
+  checked = checkRagged (map unle (pieces w (suc n) (partOf p l s))) (leftOf p l s)
+
+  -- both tests of the index are 8, so that either may come first
+  index-is : (a b : Bool) → leb l (length s) ≡ a → eqb l (w * suc n) ≡ b → openRagged w p l s n ≡ unless (a && b) 8 checked
+  index-is true true ea eb = simp (ea, eb)
+  index-is true false ea eb = simp (ea, eb)
+  index-is false true ea eb = simp (ea, eb)
+  index-is false false ea eb = simp (ea, eb)
+
+  index-order : InOrder (indexRules w p l s n) (openRagged w p l s n)
+  index-order =
+      let a : Bool = leb l (length s) in
+      let b : Bool = eqb l (w * suc n) in
+      subst (InOrder (indexRules w p l s n)) (sym (index-is a b refl refl))
+      (stage 8 (λ i. both (le-leb l (length s) (i .0)) (eq-eqb l (w * suc n) (i .1)))
+      (λ t. (leb-true l (length s) (left-of a b t), eqb-true l (w * suc n) (right-of a b t)))
+      (data-order (map unle (pieces w (suc n) (partOf p l s))) (leftOf p l s)))
 
 pub ragged-order : (w : ℕ) (p : Place) (s : List ℕ) (n : ℕ) → InOrder (raggedRules w p s n) (getRagged w p s n)
 unfolding getRagged

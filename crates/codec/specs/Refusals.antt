@@ -28,7 +28,7 @@ dataRules os s = (8, DataOk (last os) (length s)) ∷ (10, Rising os) ∷ (5, la
 
 -- an index of l bytes for n cells, in what the index length leaves
 abbrev pub indexRules : ℕ → Place → ℕ → List ℕ → ℕ → List Rule
-indexRules w p l s n = (8, l ≤ length s) ∷ (8, l ≡ w * suc n) ∷ dataRules (map unle (pieces w (suc n) (partOf p l s))) (leftOf p l s)
+indexRules w p l s n = (8, (l ≤ length s) × (l ≡ w * suc n)) ∷ dataRules (map unle (pieces w (suc n) (partOf p l s))) (leftOf p l s)
 
 abbrev pub raggedRules : ℕ → Place → List ℕ → ℕ → List Rule
 raggedRules w p s n = (7, 8 ≤ length s) ∷ indexRules w p (unle (partOf p 8 s)) (leftOf p 8 s) n
