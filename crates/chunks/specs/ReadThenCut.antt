@@ -45,7 +45,7 @@ module _ (w : ℕ) (p : Place) (shape s : List ℕ) where
   abbrev pub readThenCut : List ℕ → Content → Content → Outcome Lengths Content
   readThenCut ns read out = nextCall (taken (decoded (flat w p) shape s read)) (λ c. extracted (flat w p) shape ns c out) out
 
-  pub record Same (ns : List ℕ) (read out : Content) : Type 0 where
+  pub record AsReadThenCut (ns : List ℕ) (read out : Content) : Type 0 where
     pub subset-first : ShapeOk shape → (NumbersOk shape ns → ⊥) → partiallyDecoded w p shape ns s (raggedOf out) ≡ record { answer = refuses 3; buffers = raggedOf out }
     pub else-equal : (ShapeOk shape → NumbersOk shape ns) → partiallyDecoded w p shape ns s (raggedOf out) ≡ withoutMasks (readThenCut ns read out)
 
@@ -54,4 +54,4 @@ module _ (w : ℕ) (p : Place) (shape s : List ℕ) where
 abbrev pub PartialDecode : Type 0
 PartialDecode =
     (w : ℕ) (p : Place) → FormOk (ragged w p) → (shape s : List ℕ) (read : Content) → LongEnough w p shape s read
-    → (ns : List ℕ) (out : Content) → Same w p shape s ns read out
+    → (ns : List ℕ) (out : Content) → AsReadThenCut w p shape s ns read out
