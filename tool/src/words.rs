@@ -1,7 +1,7 @@
 //! Kinds, shapes and subsets in readable words.
 
 use crate::failure::Failure;
-use durpaxeta::{read_number as number, subset_cells, Kind, Refusal, Subset, TextError};
+use durpaxeta::{decode, read_number as number, subset_cells, Kind, Refusal, Subset, TextError};
 
 /// The library's complaint about a text.
 fn told(error: TextError, subject: impl Into<String>) -> Failure {
@@ -12,8 +12,14 @@ fn told(error: TextError, subject: impl Into<String>) -> Failure {
 }
 
 /// Reads a kind: `depth 1, ragged, width 4, index at start` or `depth 0, fixed, size 2, little order`.
+/// Numbers out of range are refusal 1, with the kind as it was typed.
 pub fn kind(text: &str) -> Result<Kind, Failure> {
-    text.parse().map_err(|error| told(error, "kind"))
+    let kind: Kind = text.parse().map_err(|error| told(error, "kind"))?;
+    // The kind is tested before anything else, and one cell of no bytes costs nothing.
+    match decode(kind, &[1], &[]) {
+        Err(refusal @ Refusal::Kind) => Err(Failure::refused(refusal, "kind", format!("The kind is {}", text.trim()))),
+        _ => Ok(kind),
+    }
 }
 
 /// Reads a shape: `2x3`. One that the library refuses is shown as it was typed.

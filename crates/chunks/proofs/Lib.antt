@@ -4,4 +4,7 @@ pub mod Chunks
 pub mod Calls
 pub mod Demand
 pub mod Lines
+pub mod Refusals
+pub mod Demand1
+pub mod ReadThenCut
 pub mod Instance
