@@ -13,3 +13,4 @@ pub mod Meaning
 pub mod Outcome
 pub mod Rows
 pub mod Calls
+pub mod Refusals
