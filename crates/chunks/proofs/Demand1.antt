@@ -19,7 +19,7 @@ use Rattle.array.proofs.Refusals as array
 use Rattle.array.proofs.Rules.{both, left-of, right-of}
 use Rattle.codec.specs.Mask.{maskForm}
 use Rattle.codec.specs.Frame.{countSet}
-use Rattle.codec.specs.Calls.{encodeAnswer, encoded, decodeAnswer, decoded, interleavedAnswer, interleavedDecoded}
+use Rattle.codec.specs.Calls.{encodeAnswer, encoded, decodeAnswer, decoded, interleavedAnswer, interleavedDecoded, encodeInterleavedAnswer, interleavedEncoded}
 use Rattle.codec.specs.Refusals.{maskRules, contentRules, frameRules, cellRules}
 use Rattle.codec.proofs.Refusals as codec
 use Rattle.chunks.specs.Chunks.{laterChunks}
@@ -96,13 +96,14 @@ module _ {rs : List Rule} (ns : List ℕ) where
 -- ---- the demand
 
 pub demand1 : Demand1
-unfolding encoded decoded interleavedDecoded extracted merged partiallyDecoded endiannessReversed subsetCells
+unfolding encoded decoded interleavedDecoded interleavedEncoded extracted merged partiallyDecoded endiannessReversed subsetCells
 demand1 = record {
   encode = λ k shape c out. list-answered _ (encodeAnswer k shape c (length out)) out (codec.refusals .encode k shape c out) refl;
   decode = λ k shape s out. content-answered _ (decodeAnswer k shape s (lengthsOf out)) out (codec.refusals .decode k shape s out)
       (numbered-append decodeNumbers (frameRules (k .masks) (k .form) (k .depth) s (volume shape)) _ (frame-numbered (k .masks) (k .form) (k .depth) s (volume shape)) refl);
   decode-interleaved = λ n s out. ragged-answered _ (interleavedAnswer n s (raggedLengthsOf out)) out (codec.refusals .decode-interleaved n s out)
       (numbered-append interleavedNumbers (cellRules n (drop 4 s)) _ (cell-numbered n (drop 4 s)) refl);
+  encode-interleaved = λ k shape c out. list-answered _ (encodeInterleavedAnswer k shape c (length out)) out (codec.refusals .encode-interleaved k shape c out) refl;
   extract = λ k shape ns c out. content-answered _ (extractAnswer k shape ns c (lengthsOf out)) out (chunks.refusals .extract k shape ns c out) refl;
   merge = λ k shape ns c out. content-answered _ (mergeAnswer k shape ns c (lengthsOf out)) out (chunks.refusals .merge k shape ns c out)
       (numbered-append mergeNumbers (chunkRules k (subsetsOf (length shape) ns) c) _ (chunk-numbered k (subsetsOf (length shape) ns) c) refl);

@@ -1,25 +1,28 @@
 -- Demand 3's hypotheses can be met: a ragged array of depth 2 with packed masks in a shape of 2 × 3, cut into two subsets, with an empty
--- Q. And those of partial_decode as decode, then extract: document 01's 34 bytes.
+-- Q. And those of partial_decode as decode, then extract: document 01's 34 bytes. And those of the older form's way: offsets 1, 2 over 41 42.
 -- Assumes nothing.
 use mathlib.Core.Path.{_≡_, refl}
 use mathlib.Core.Logic.{inl, inr}
 use Prim.Native.Nat.{ℕ, zero, suc}
 use native.Mathlib.Omega.{arith}
-use mathlib.Core.List.{List, [], _∷_}
+use mathlib.Core.List.{List, [], _∷_, _++_}
 use lib.Dec.{lit≤}
 use Rattle.array.specs.Answer.{gives, andThen}
 use Rattle.array.specs.Limits.{mostBytes, mostCells}
 use Rattle.array.specs.Bytes.{le, unle}
-use Rattle.array.specs.Kind.{Kind, asBits, ragged, atStart, atEnd}
+use Rattle.array.specs.Kind.{Kind, asBytes, asBits, ragged, atStart, atEnd}
 use Rattle.array.specs.Content.{Content, Valid}
-use Rattle.array.specs.Buffers.{lengthsOf, Enough}
+use Rattle.array.specs.Buffers.{lengthsOf, raggedLengthsOf, Enough, RaggedEnough}
 use Rattle.codec.specs.Frame.{wrap, frame}
 use Rattle.codec.specs.Ragged.{putRagged, getRagged}
 use Rattle.codec.specs.Values.{putValues}
-use Rattle.codec.specs.Calls.{written, readIn, decodeAnswer, decoded}
+use Rattle.codec.specs.Interleaved.{putCells, putInterleaved}
+use Rattle.codec.specs.Calls.{written, readIn, decodeAnswer, decoded, interleavedDecoded, interleavedEncoded}
+use Rattle.codec.specs.Older.{flatKind, restRagged, OlderWay}
+use Rattle.codec.proofs.Older.{older-returns}
 use Rattle.chunks.specs.Calls.{extracted, partiallyDecoded}
 use Rattle.chunks.specs.Demand.{taken, whole, Entry, EntryOk, Covers, subsetsIn, wholeWay}
-use Rattle.chunks.specs.Lines.{lent, lentRagged, old, bytes34}
+use Rattle.chunks.specs.Lines.{lent, lentRagged, old, wrote, gaveRagged, u32, bytes34, late}
 use Rattle.chunks.specs.ReadThenCut.{withoutMasks, readThenCut, LongEnough}
 use Rattle.chunks.proofs.Demand.{demand3}
 use Rattle.chunks.proofs.ReadThenCut.{partial-decode}
@@ -120,3 +123,28 @@ long-enough e = let never : _≡_ {A = ℕ} 0 1 = cc in omega arith
 
 pub first-cell : partiallyDecoded 8 atStart (2 ∷ []) firstOfTwo bytes34 (lentRagged 3 3) ≡ withoutMasks (readThenCut 8 atStart (2 ∷ []) bytes34 firstOfTwo (lent 0 2 3) (lent 0 3 3))
 first-cell = partial-decode 8 atStart (inr refl) (2 ∷ []) bytes34 (lent 0 2 3) long-enough firstOfTwo (lent 0 3 3) .else-equal (λ sh. record { counted = refl; fits = omega arith })
+
+-- the one cell 42 in the older form: written, and read again from offset 0
+
+abbrev flat : Kind
+flat = flatKind asBytes 4 atStart
+
+late-valid : Valid flat (1 ∷ []) late
+unfolding mostBytes mostCells
+late-valid = record {
+  kind = record { shallow = lit≤ tt; sound = inl refl };
+  shaped = record { some-sides = lit≤ tt; few-sides = lit≤ tt; sides = omega arith; few-cells = lit≤ tt };
+  content = record { masks-fit = refl; values-fit = (refl, omega arith, refl) };
+  small = lit≤ tt;
+}
+
+older-way : OlderWay flat (1 ∷ []) late (old 10) (lentRagged 2 3)
+older-way = older-returns asBytes 4 atStart (1 ∷ []) late late-valid (old 10) (lit≤ tt) (lentRagged 2 3) (record { for-values = lit≤ tt; for-offsets = lit≤ tt })
+
+pub older-written : interleavedEncoded flat (1 ∷ []) late (old 10) ≡ wrote 9 (u32 1 ++ (u32 1 ++ (0x42 ∷ [])))
+unfolding le putCells putInterleaved
+older-written = older-way .writes
+
+pub older-read : interleavedDecoded 1 (u32 1 ++ (u32 1 ++ (0x42 ∷ []))) (lentRagged 2 3) ≡ gaveRagged 1 2 (0x42 ∷ []) (0 ∷ 1 ∷ [])
+unfolding le putCells putInterleaved
+older-read = older-way .reads

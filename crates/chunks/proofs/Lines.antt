@@ -7,13 +7,13 @@ use Rattle.array.specs.Calls.{reverseAnswer, endiannessReversed, cellsAnswer, s
 use Rattle.codec.specs.Frame.{wrap, frame, readFrame}
 use Rattle.codec.specs.Ragged.{putRagged, getRagged}
 use Rattle.codec.specs.Values.{putValues, getValues}
-use Rattle.codec.specs.Interleaved.{interleavedCells}
-use Rattle.codec.specs.Calls.{written, encodeAnswer, encoded, readIn, decodeAnswer, decoded, interleavedAnswer, interleavedDecoded}
+use Rattle.codec.specs.Interleaved.{interleavedCells, putCells, putInterleaved}
+use Rattle.codec.specs.Calls.{written, encodeAnswer, encoded, readIn, decodeAnswer, decoded, interleavedAnswer, interleavedDecoded, encodeInterleavedAnswer, interleavedEncoded}
 use Rattle.chunks.specs.Calls.{extractAnswer, extracted}
 use Rattle.chunks.specs.Lines.{Lines}
 
 pub lines : Lines
-unfolding mostBytes mostCells le unle reverseAnswer endiannessReversed cellsAnswer subsetCells wrap frame readFrame putRagged getRagged putValues getValues interleavedCells written encodeAnswer encoded readIn decodeAnswer decoded interleavedAnswer interleavedDecoded extractAnswer extracted
+unfolding mostBytes mostCells le unle reverseAnswer endiannessReversed cellsAnswer subsetCells wrap frame readFrame putRagged getRagged putValues getValues interleavedCells written encodeAnswer encoded readIn decodeAnswer decoded interleavedAnswer interleavedDecoded putCells putInterleaved encodeInterleavedAnswer interleavedEncoded extractAnswer extracted
 lines = record {
   writes-23 = refl;
   reads-23 = refl;
@@ -41,4 +41,10 @@ lines = record {
   reads-packed = refl;
   unused-bit = refl;
   packed-long = refl;
+  writes-older = refl;
+  older-late = refl;
+  older-depth = refl;
+  older-fixed = refl;
+  older-masks = refl;
+  older-room = refl;
 }

@@ -10,7 +10,7 @@ use Rattle.array.specs.Answer.{Answer, gives, refuses, Outcome}
 use Rattle.array.specs.Kind.{Kind, Place}
 use Rattle.array.specs.Content.{Content, RaggedContent}
 use Rattle.array.specs.Calls.{endiannessReversed, subsetCells}
-use Rattle.codec.specs.Calls.{encoded, decoded, interleavedDecoded}
+use Rattle.codec.specs.Calls.{encoded, decoded, interleavedDecoded, interleavedEncoded}
 use Rattle.chunks.specs.Calls.{extracted, merged, partiallyDecoded}
 
 -- ---- the numbers of each call, in the order of their tests
@@ -23,6 +23,9 @@ decodeNumbers = 1 ∷ 2 ∷ 7 ∷ 8 ∷ 13 ∷ 10 ∷ 5 ∷ 6 ∷ []
 
 abbrev pub interleavedNumbers : List ℕ
 interleavedNumbers = 2 ∷ 7 ∷ 9 ∷ 11 ∷ 5 ∷ 6 ∷ []
+
+abbrev pub encodeInterleavedNumbers : List ℕ
+encodeInterleavedNumbers = 1 ∷ 2 ∷ 4 ∷ 5 ∷ 6 ∷ []
 
 abbrev pub extractNumbers : List ℕ
 extractNumbers = 1 ∷ 2 ∷ 3 ∷ 4 ∷ 5 ∷ 6 ∷ []
@@ -57,6 +60,7 @@ pub record Demand1 : Type 0 where
   pub encode : (k : Kind) (shape : List ℕ) (c : Content) (out : List ℕ) → Answered encodeNumbers out (encoded k shape c out)
   pub decode : (k : Kind) (shape s : List ℕ) (out : Content) → Answered decodeNumbers out (decoded k shape s out)
   pub decode-interleaved : (n : ℕ) (s : List ℕ) (out : RaggedContent) → Answered interleavedNumbers out (interleavedDecoded n s out)
+  pub encode-interleaved : (k : Kind) (shape : List ℕ) (c : Content) (out : List ℕ) → Answered encodeInterleavedNumbers out (interleavedEncoded k shape c out)
   pub extract : (k : Kind) (shape ns : List ℕ) (c out : Content) → Answered extractNumbers out (extracted k shape ns c out)
   pub merge : (k : Kind) (shape ns : List ℕ) (c out : Content) → Answered mergeNumbers out (merged k shape ns c out)
   pub partial-decode : (w : ℕ) (p : Place) (shape ns s : List ℕ) (out : RaggedContent) → Answered partialNumbers out (partiallyDecoded w p shape ns s out)

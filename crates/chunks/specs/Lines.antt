@@ -10,7 +10,7 @@ use Rattle.array.specs.Kind.{Kind, byteKind, asBits, fixed, ragged, little, big
 use Rattle.array.specs.Content.{Content, RaggedContent, cellsOf}
 use Rattle.array.specs.Buffers.{Lengths, RaggedLengths}
 use Rattle.array.specs.Calls.{endiannessReversed, subsetCells}
-use Rattle.codec.specs.Calls.{encoded, decoded, interleavedDecoded}
+use Rattle.codec.specs.Calls.{encoded, decoded, interleavedDecoded, interleavedEncoded}
 use Rattle.chunks.specs.Calls.{extracted}
 
 -- ---- lent outputs, and what is left in them
@@ -149,3 +149,11 @@ pub record Lines : Type 0 where
   pub reads-packed : decoded packed1 (9 ∷ []) bytes21 (lent 10 10 1) ≡ gave 9 9 0 (1 ∷ 0 ∷ 1 ∷ 0 ∷ 0 ∷ 0 ∷ 0 ∷ 0 ∷ 1 ∷ []) (1 ∷ 0 ∷ 3 ∷ 0 ∷ 0 ∷ 0 ∷ 0 ∷ 0 ∷ 9 ∷ []) []
   pub unused-bit : decoded packed1 (1 ∷ []) (u64 1 ++ (u64 2 ++ (3 ∷ 7 ∷ 7 ∷ []))) (lent 1 1 0) ≡ record { answer = refuses 13; buffers = lent 1 1 0 }
   pub packed-long : decoded packed1 (1 ∷ []) (u64 2 ++ (u64 1 ++ (1 ∷ 2 ∷ 7 ∷ []))) (lent 1 1 0) ≡ record { answer = refuses 8; buffers = lent 1 1 0 }
+  -- document 02, request 2: the older form written, bytes before the first offset dropped; a depth above 0 or a fixed kind is 1, before the shape;
+  -- masks at depth 0 are 4; a short output is 6
+  pub writes-older : interleavedEncoded raggedEnd (2 ∷ []) (array [] (0x41 ∷ []) (0 ∷ 1 ∷ 1 ∷ [])) (old 14) ≡ wrote 13 older
+  pub older-late : interleavedEncoded (byteKind 0 (ragged 4 atStart)) (1 ∷ []) late (old 10) ≡ wrote 9 (u32 1 ++ (u32 1 ++ (0x42 ∷ [])))
+  pub older-depth : interleavedEncoded (byteKind 1 (ragged 4 atEnd)) [] (array [] [] []) (old 1) ≡ record { answer = refuses 1; buffers = old 1 }
+  pub older-fixed : interleavedEncoded (byteKind 0 (fixed 1 little)) (1 ∷ []) (array [] (7 ∷ []) []) (old 9) ≡ record { answer = refuses 1; buffers = old 9 }
+  pub older-masks : interleavedEncoded raggedEnd (1 ∷ []) (array (1 ∷ []) [] (0 ∷ 0 ∷ [])) (old 9) ≡ record { answer = refuses 4; buffers = old 9 }
+  pub older-room : interleavedEncoded raggedEnd (1 ∷ []) (array [] [] (0 ∷ 0 ∷ [])) (old 7) ≡ record { answer = refuses 6; buffers = old 7 }

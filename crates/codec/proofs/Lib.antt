@@ -9,3 +9,4 @@ pub mod SpreadLaws
 pub mod Returns
 pub mod Refusals
 pub mod Accepted
+pub mod Older

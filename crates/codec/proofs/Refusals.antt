@@ -1,7 +1,7 @@
 -- Each refusal of the stored forms exactly when it is due: the readers first, then the calls.
 -- Assumes nothing.
 use mathlib.Core.Path.{_≡_, refl, sym, subst}
-use mathlib.Core.Bool.{Bool, true, false, _&&_}
+use mathlib.Core.Bool.{Bool, true, false, _&&_, false≢true}
 use mathlib.Core.List.{List, [], _∷_, _++_, map}
 use Prim.Native.Nat.{ℕ, zero, suc, _*_}
 use lib.ListN.{length, take, drop}
@@ -10,7 +10,7 @@ use borrow.Author.Tests.{le-leb, leb-true, eq-eqb, eqb-true}
 use Rattle.array.specs.Answer.{Answer, andThen, unless}
 use Rattle.array.specs.Bytes.{unle}
 use Rattle.array.specs.Lists.{joined, pieces, All, every}
-use Rattle.array.specs.Kind.{Place, Form, fixed, ragged, nullOf, Masks, asBytes, asBits}
+use Rattle.array.specs.Kind.{Kind, kindTest, Place, Form, fixed, ragged, nullOf, Masks, asBytes, asBits}
 use Rattle.array.specs.Shape.{volume}
 use Rattle.array.specs.Offsets.{last}
 use Rattle.array.specs.Cells.{blank}
@@ -26,8 +26,8 @@ use Rattle.codec.specs.Mask.{getMask, packedMask, maskForm, bitsOf}
 use Rattle.codec.specs.Frame.{countSet, expand, contentOf, readFrame}
 use Rattle.codec.specs.Ragged.{partOf, leftOf, checkRagged, openRagged, getRagged}
 use Rattle.codec.specs.Values.{getValues}
-use Rattle.codec.specs.Interleaved.{interleavedCells}
-use Rattle.codec.specs.Calls.{readIn, encodeAnswer, encoded, decodeAnswer, decoded, interleavedAnswer, interleavedDecoded}
+use Rattle.codec.specs.Interleaved.{interleavedCells, InterleavedOk, interleavedTest, IsRagged, raggedTest}
+use Rattle.codec.specs.Calls.{readIn, encodeAnswer, encoded, decodeAnswer, decoded, interleavedAnswer, interleavedDecoded, encodeInterleavedAnswer, interleavedEncoded}
 use Rattle.codec.specs.Refusals.{dataRules, indexRules, raggedRules, valueRules, maskRules, contentRules, frameRules, cellRules, Refusals}
 use Rattle.codec.proofs.Ragged.{data-test, data-ok}
 
@@ -107,10 +107,32 @@ unfolding interleavedCells
 cell-order zero s = success
 cell-order (suc n) s = stage-le 11 _ _ (stage-le 11 _ _ (named _ (cell-order n (drop (unle (take 4 s)) (drop 4 s)))))
 
+-- the kinds of the older form
+is-ragged-test : (f : Form) → IsRagged f → raggedTest f ≡ true
+is-ragged-test (fixed k o) p = absurd p
+is-ragged-test (ragged w p) r = refl
+
+is-ragged-ok : (f : Form) → raggedTest f ≡ true → IsRagged f
+is-ragged-ok (fixed k o) e = absurd (false≢true e)
+is-ragged-ok (ragged w p) e = tt
+
+pub interleaved-test : (k : Kind) → InterleavedOk k → interleavedTest k ≡ true
+interleaved-test k p = both (both (kind-test k (p .sound)) (eq-eqb (k .depth) 0 (p .flat))) (is-ragged-test (k .form) (p .is-ragged))
+
+pub interleaved-ok : (k : Kind) → interleavedTest k ≡ true → InterleavedOk k
+interleaved-ok k e =
+    let one : Bool = kindTest k && eqb (k .depth) 0 in
+    let sound-flat : one ≡ true = left-of one (raggedTest (k .form)) e in
+    record {
+      sound = kind-ok k (left-of (kindTest k) (eqb (k .depth) 0) sound-flat);
+      flat = eqb-true (k .depth) 0 (right-of (kindTest k) (eqb (k .depth) 0) sound-flat);
+      is-ragged = is-ragged-ok (k .form) (right-of one (raggedTest (k .form)) e);
+    }
+
 -- ---- the calls
 
 pub refusals : Refusals
-unfolding encoded encodeAnswer decoded decodeAnswer interleavedDecoded interleavedAnswer
+unfolding encoded encodeAnswer decoded decodeAnswer interleavedDecoded interleavedAnswer interleavedEncoded encodeInterleavedAnswer
 refusals = record {
   encode = λ k shape c out. named length
       (stage 1 (kind-test k) (kind-ok k)
@@ -128,4 +150,10 @@ refusals = record {
       (and-then (cell-order n (drop 4 s)) (λ vs e.
       stage-given 5 e (size-test (length (joined vs))) (size-ok (length (joined vs)))
       (stage-given 6 e (ragged-enough-test _ (raggedLengthsOf out)) (ragged-enough-ok _ (raggedLengthsOf out)) success))))));
+  encode-interleaved = λ k shape c out. named length
+      (stage 1 (interleaved-test k) (interleaved-ok k)
+      (stage 2 (shape-test shape) (shape-ok shape)
+      (stage 4 (content-test k (volume shape) c) (content-ok k (volume shape) c)
+      (stage 5 (size-test (length (c .values))) (size-ok (length (c .values)))
+      (stage-le 6 _ _ success)))));
 }

@@ -12,13 +12,13 @@ use Rattle.array.specs.Kind.{Kind, Form, fixed, ragged, nullOf, kindTest}
 use Rattle.array.specs.Shape.{volume, shapeTest}
 use Rattle.array.specs.Offsets.{offsetsOf}
 use Rattle.array.specs.Cells.{Cell}
-use Rattle.array.specs.Content.{Content, RaggedContent, unmasked, layout, cellsOf, contentTest, sizeTest}
+use Rattle.array.specs.Content.{Content, RaggedContent, unmasked, layout, cellsOf, valuesIn, contentTest, sizeTest}
 use Rattle.array.specs.Buffers.{Lengths, RaggedLengths, lengthsOf, raggedLengthsOf, enoughTest, raggedEnoughTest, listOutcome, raggedOutcome, contentOutcome}
 use Rattle.codec.specs.Mask.{MaskForm, maskForm}
 use Rattle.codec.specs.Frame.{frame, readFrame}
 use Rattle.codec.specs.Ragged.{putRagged, getRagged}
 use Rattle.codec.specs.Values.{putValues, getValues}
-use Rattle.codec.specs.Interleaved.{interleavedCells}
+use Rattle.codec.specs.Interleaved.{interleavedCells, putInterleaved, interleavedTest}
 
 -- ---- encode
 
@@ -80,3 +80,23 @@ interleavedAnswer n s room =
 unfoldable pub interleavedDecoded : ℕ → List ℕ → RaggedContent → Outcome RaggedLengths RaggedContent
 unfolding interleavedAnswer
 interleavedDecoded n s out = raggedOutcome (interleavedAnswer n s (raggedLengthsOf out)) out
+
+-- ---- encode_interleaved: an array of depth 0 in the older form (document 02, request 2)
+
+-- bytes before the first offset are in no cell, so they are not written
+abbrev pub interleavedForm : Kind → ℕ → Content → List ℕ
+interleavedForm k n c = putInterleaved (valuesIn (k .form) n c)
+
+unfoldable pub encodeInterleavedAnswer : Kind → List ℕ → Content → ℕ → Answer (List ℕ)
+unfolding putInterleaved
+encodeInterleavedAnswer k shape c room =
+    let stored = interleavedForm k (volume shape) c in
+    unless (interleavedTest k) 1
+    (unless (shapeTest shape) 2
+    (unless (contentTest k (volume shape) c) 4
+    (unless (sizeTest (length (c .values))) 5
+    (unless (leb (length stored) room) 6 (gives stored)))))
+
+unfoldable pub interleavedEncoded : Kind → List ℕ → Content → List ℕ → Outcome ℕ (List ℕ)
+unfolding encodeInterleavedAnswer
+interleavedEncoded k shape c out = listOutcome (encodeInterleavedAnswer k shape c (length out)) out

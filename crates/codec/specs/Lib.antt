@@ -7,3 +7,4 @@ pub mod Interleaved
 pub mod Calls
 pub mod Spread
 pub mod Refusals
+pub mod Older

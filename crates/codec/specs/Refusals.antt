@@ -1,5 +1,5 @@
 -- Each refusal exactly when it is due (document 01, Answers), for the stored forms: the rules of stored bytes, field by field as they are
--- read, and with them the rules of this layer's three calls.
+-- read, and with them the rules of this layer's four calls.
 -- Assumes nothing.
 use Prim.Native.Nat.{ℕ, zero, suc, _+_, _*_, _≤_}
 use mathlib.Core.Path.{_≡_}
@@ -17,8 +17,8 @@ use Rattle.array.specs.Refusals.{Rule, InOrder, Given}
 use Rattle.codec.specs.Mask.{maskForm, bitsOf}
 use Rattle.codec.specs.Frame.{countSet}
 use Rattle.codec.specs.Ragged.{partOf, leftOf, DataOk}
-use Rattle.codec.specs.Interleaved.{interleavedCells}
-use Rattle.codec.specs.Calls.{storedForm, readIn, encoded, decoded, interleavedDecoded}
+use Rattle.codec.specs.Interleaved.{interleavedCells, InterleavedOk}
+use Rattle.codec.specs.Calls.{storedForm, readIn, encoded, decoded, interleavedDecoded, interleavedForm, interleavedEncoded}
 
 -- ---- stored bytes
 
@@ -85,7 +85,13 @@ interleavedRules n s out =
     ++ (5, Given cells (λ vs. length (joined vs) ≤ mostBytes))
     ∷ (6, Given cells (λ vs. RaggedEnough (record { values = joined vs; offsets = offsetsOf vs }) (raggedLengthsOf out))) ∷ [])
 
+abbrev pub encodeInterleavedRules : Kind → List ℕ → Content → List ℕ → List Rule
+encodeInterleavedRules k shape c out =
+    (1, InterleavedOk k) ∷ (2, ShapeOk shape) ∷ (4, ContentOk k (volume shape) c) ∷ (5, length (c .values) ≤ mostBytes)
+    ∷ (6, length (interleavedForm k (volume shape) c) ≤ length out) ∷ []
+
 pub record Refusals : Type 1 where
   pub encode : (k : Kind) (shape : List ℕ) (c : Content) (out : List ℕ) → InOrder (encodeRules k shape c out) (encoded k shape c out .answer)
   pub decode : (k : Kind) (shape s : List ℕ) (out : Content) → InOrder (decodeRules k shape s out) (decoded k shape s out .answer)
   pub decode-interleaved : (n : ℕ) (s : List ℕ) (out : RaggedContent) → InOrder (interleavedRules n s out) (interleavedDecoded n s out .answer)
+  pub encode-interleaved : (k : Kind) (shape : List ℕ) (c : Content) (out : List ℕ) → InOrder (encodeInterleavedRules k shape c out) (interleavedEncoded k shape c out .answer)
