@@ -15,7 +15,8 @@ use Rattle.array.specs.Buffers.{over, overAt}
 use Rattle.array.proofs.Offsets.{length-ends}
 use Rattle.array.proofs.Laying.{Laying, laying-begins, laying-same, laying-ends, laying-store, laying-is, laying-room}
 use Rattle.codec.specs.Interleaved.{interleavedCells}
-use Rattle.interleaved.specs.Walk.{totalOf, storedCells, walkAnswer, found, Found, reached}
+use Rattle.interleaved.specs.Cell.{reached}
+use Rattle.interleaved.specs.Walk.{totalOf, storedCells, walkAnswer, found, Found}
 use Rattle.interleaved.proofs.Steps.{lengthAt, field-past, cell-past, cell-next, Cell, cell-at, length-cells, cells-room}
 use Rattle.interleaved.proofs.Placing.{Placing, placing-begins, placing-is, placing-left, placing-ends, placing-part, reached-room, reached-front, reached-long}
 

@@ -9,7 +9,7 @@ use lib.ListN.{length, take, drop, length-append, length-drop, length-take, take
 use lib.Seq.{drop-drop, take-all, take-add, take-take, take-at, drop-at, length-take-le, take-append-le, take-append-add, drop-append-add}
 use Rattle.array.specs.Buffers.{over, overAt}
 use Rattle.array.proofs.Over.{over-at-length}
-use Rattle.interleaved.specs.Walk.{blocks, reached}
+use Rattle.interleaved.specs.Cell.{blocks, reached}
 
 -- the first `to` of `want` stand in what was d, what lies beyond `want` is as it was, and r is left
 pub record Placing (want d out : List ℕ) (to : ℕ) (r : List ℕ) : Type 0 where

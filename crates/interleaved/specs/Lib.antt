@@ -1,1 +1,3 @@
+pub mod Cell
 pub mod Walk
+pub mod Held

@@ -1,9 +1,9 @@
 -- What the steps of decode_interleaved answer (document 01, item 3): the walk over the stored cells, and what becomes of the cells that it found.
 -- Assumes nothing.
-use Prim.Native.Nat.{ℕ, _+_, _-_, _*_, _/_, _≤_}
+use Prim.Native.Nat.{ℕ, _≤_}
 use mathlib.Core.Path.{_≡_}
 use mathlib.Core.List.{List, []}
-use lib.ListN.{length, take, drop}
+use lib.ListN.{length, drop}
 use Rattle.array.specs.Answer.{Answer, gives, refuses, unless, mapAnswer}
 use Rattle.array.specs.Limits.{mostCells}
 use Rattle.array.specs.Lists.{joined}
@@ -46,14 +46,6 @@ pub record Walked (n : ℕ) (s : List ℕ) (sum : ℕ) : Type 0 where
   pub few : n ≤ mostCells
   pub all : Found n s
   pub total : sum ≡ totalOf (found n s)
-
--- the whole blocks of 32 bytes that a cell of k bytes, one or more, lies in
-abbrev pub blocks : ℕ → ℕ
-blocks k = (k - 1) / 32 * 32 + 32
-
--- what is copied with it: these, or all that there is room for
-abbrev pub reached : ℕ → ℕ → List ℕ → List ℕ
-reached k room s = take (blocks k) (take room s)
 
 -- what becomes of the cells: 5, and last 6
 abbrev pub cellsContent : List Value → RaggedContent

@@ -1,2 +1,4 @@
-// Layer 2: the reader of the older interleaved form.
+// Layer 2: the older interleaved form, read and written.
+mod cell;
 pub mod vlen_v2;
+pub mod write;

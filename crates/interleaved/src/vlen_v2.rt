@@ -1,5 +1,6 @@
 // The older interleaved form of ragged values, read: a 4-byte count, then for each cell a 4-byte length and its bytes.
 // A checking walk comes before the first store; the walk that copies cannot fail.
+use crate::cell;
 use array::answer::WrittenRagged;
 use array::refusal;
 use buffer::copy;
@@ -8,14 +9,14 @@ use buffer::field::Field;
 use valid::array_bytes;
 use valid::shape;
 ghost use mathlib.Core.Path.{_≡_};
-ghost use Prim.Native.Nat.{_+_, _<_, _≤_};
-ghost use lib.ListN.{length, drop};
+ghost use Prim.Native.Nat.{_+_, _≤_};
+ghost use lib.ListN.{length};
 ghost use Rattle.array.specs.Lists.{joined};
 ghost use Rattle.array.specs.Offsets.{offsetsOf};
-ghost use Rattle.array.specs.Buffers.{over, overAt, raggedOutcome, raggedLengthsOf};
+ghost use Rattle.array.specs.Buffers.{over, raggedOutcome, raggedLengthsOf};
 ghost use Rattle.array.specs.Outcome.{contentRagged, outcomeRagged};
 ghost use Rattle.codec.specs.Calls.{interleavedDecoded};
-ghost use Rattle.interleaved.specs.Walk.{toldWalk, walkAnswer, totalOf, found, Found, Walked, reached, cellsAnswer};
+ghost use Rattle.interleaved.specs.Walk.{toldWalk, walkAnswer, totalOf, found, Found, Walked, cellsAnswer};
 
 // What the checking walk over the stored cells finds: how many value bytes they have, or the refusal.
 pub enum Walk {
@@ -59,20 +60,6 @@ fn walk_cells(bytes: &[u8], cells: usize) -> Walk
     Walk::Sum(sum)
 }
 
-// Copies a cell of `size` bytes and what lies behind it, up to a whole number of blocks or to the end of the room: whole blocks
-// are copied without a test for each byte.
-fn copy_cell(values: &mut [u8], to: usize, bytes: &[u8], at: usize, size: usize, room: usize)
-    requires { ⌜ (0 < size) × (size ≤ room) × (to + room ≤ length (now values)) × (at + room ≤ length (now bytes)) ⌝ }
-    ensures { λ _. ⌜ now (values .exit) ≡ overAt to (reached size room (drop at (now (bytes .entry)))) (now (values .entry)) ⌝ }
-{
-    let blocks = (size - 1) / 32 * 32 + 32;
-    if room < blocks {
-        copy::copy_bytes(values, to, bytes, at, room);
-    } else {
-        copy::copy_bytes(values, to, bytes, at, blocks);
-    }
-}
-
 // The bytes of all cells, `sum` of them, end to end; where each cell begins, and where the last one ends.
 // What is copied beyond a cell, the cells after it write over.
 fn copy_cells(values: &mut [u8], offsets: &mut [u64], bytes: &[u8], cells: usize, sum: usize)
@@ -89,7 +76,7 @@ fn copy_cells(values: &mut [u8], offsets: &mut [u64], bytes: &[u8], cells: usize
         at += 4;
         i += 1;
         if 0 < length {
-            copy_cell(values, to, bytes, at, length, sum - to);
+            cell::copy_cell(values, to, bytes, at, length, sum - to);
             at += length;
             to += length;
         }

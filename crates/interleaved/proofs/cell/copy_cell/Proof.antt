@@ -1,11 +1,11 @@
--- `interleaved::vlen_v2::copy_cell` meets its contract: in either case the bytes reached.
+-- `interleaved::cell::copy_cell` meets its contract: in either case the bytes reached.
 -- Assumes nothing.
 use native.Mathlib.Omega.{arith}
 use lib.ListN.{drop}
 use borrow.Author.Needs.{needs}
 use Rattle.interleaved.proofs.Placing.{copied-all, copied-blocks}
-use Rattle.interleaved.proofs.vlen_v2.copy_cell.Statement.{statement}
-use Rattle.interleaved.proofs.vlen_v2.copy_cell.Tie as tie
+use Rattle.interleaved.proofs.cell.copy_cell.Statement.{statement}
+use Rattle.interleaved.proofs.cell.copy_cell.Tie as tie
 
 sub-blocks : tie.Need-sub-blocks
 sub-blocks c = search needs

@@ -1,0 +1,113 @@
+-- What encode_interleaved answers, one law for each way it ends: refusals 1 to 5, then 6 or the cells.
+-- Assumes nothing.
+use mathlib.Core.Path.{_≡_, refl, sym, ap, ap₂, _∙_}
+use Prim.Native.Nat.{ℕ, _<_, _≤_}
+use native.Mathlib.Omega.{arith}
+use mathlib.Core.Bool.{Bool, true, false}
+use mathlib.Core.List.{List}
+use lib.ListN.{length}
+use lib.Dec.{leb, eqb}
+use borrow.Author.Tests.{le-leb, lt-leb, eq-eqb, ne-eqb}
+use Rattle.array.specs.Answer.{Answer, gives, refuses, unless, Outcome}
+use Rattle.array.specs.Limits.{mostBytes, mostCells}
+use Rattle.array.specs.Kind.{Kind, kindTest, Form, fixed, ragged}
+use Rattle.array.specs.Offsets.{slices}
+use Rattle.array.specs.Cells.{Value}
+use Rattle.array.specs.Content.{Content, ContentOk, ValuesOk, valuesIn}
+use Rattle.array.specs.Buffers.{over, listOutcome}
+use Rattle.array.specs.Meaning.{formOf, kindOf}
+use Rattle.array.specs.declared.kind.Kind as declared
+use Rattle.array.specs.declared.kind.Values.{Values}
+use Rattle.valid.specs.declared.array_bytes.Checked.{Checked}
+use Rattle.valid.specs.Check.{toldChecked}
+use Rattle.valid.specs.ShapeCells.{shapeAnswer}
+use Rattle.valid.proofs.CheckLaws.{checkOf, unlessKept, KeepsRules, check-refused, check-valid}
+use Rattle.valid.proofs.ShapeLaws.{Counted, counted, not-counted}
+use Rattle.codec.specs.Interleaved.{putInterleaved, IsRagged, raggedTest, interleavedTest}
+use Rattle.codec.specs.Calls.{interleavedForm, encodeInterleavedAnswer, interleavedEncoded}
+use Rattle.codec.proofs.Refusals.{interleaved-ok}
+use Rattle.interleaved.specs.Held.{Held, interleavedOf, writtenOver}
+
+-- ---- is_interleaved
+
+module _ (k : declared.Kind) where
+  pub kind-wrong : kindTest (kindOf k) ≡ false → false ≡ interleavedTest (kindOf k)
+  kind-wrong e = rw e
+
+  module _ (p : kindTest (kindOf k) ≡ true) where
+    pub kind-deep : 0 < k .depth → false ≡ interleavedTest (kindOf k)
+    kind-deep h = rw (p, ne-eqb (k .depth) 0 (λ e. omega arith))
+
+    pub kind-flat : k .depth ≤ 0 → (f : Values) → k .values ≡ f → raggedTest (formOf f) ≡ interleavedTest (kindOf k)
+    kind-flat h f e = rw (p, eq-eqb (k .depth) 0 (omega arith), e)
+
+-- ---- refusals 1 to 5
+
+-- a refusal leaves the output as it was
+abbrev pub refusedList : ℕ → List ℕ → Outcome ℕ (List ℕ)
+refusedList number out = record { answer = refuses number; buffers = out }
+
+-- the values of a ragged form
+ragged-values : (f : Form) → IsRagged f → (n : ℕ) (c : Content) → slices (c .offsets) (c .values) ≡ valuesIn f n c
+ragged-values (fixed k o) r n c = absurd r
+ragged-values (ragged w p) r n c = refl
+
+ragged-held : (f : Form) → IsRagged f → (n : ℕ) (c : Content) → ValuesOk f n c → n ≤ mostCells → length (c .values) ≤ mostBytes → Held n (c .values) (c .offsets)
+ragged-held (fixed k o) r n c v h b = absurd r
+ragged-held (ragged w p) r n c v h b = record { few = h; small = b; counted = v .0; rising = v .1; ended = v .2 }
+
+module _ (k : Kind) (shape : List ℕ) (c : Content) (out : List ℕ) where
+  pub write-kind : interleavedTest k ≡ false → refusedList 1 out ≡ interleavedEncoded k shape c out
+  unfolding interleavedEncoded encodeInterleavedAnswer
+  write-kind e = rw e
+
+  module _ (p : interleavedTest k ≡ true) where
+    pub write-shape : {number : ℕ} → refuses number ≡ shapeAnswer shape → refusedList 2 out ≡ interleavedEncoded k shape c out
+    unfolding interleavedEncoded encodeInterleavedAnswer
+    write-shape {number} e = rw (p, not-counted shape number e .0)
+
+    module _ {n : ℕ} (q : gives n ≡ shapeAnswer shape) (r : Checked) (f : toldChecked r ≡ checkOf k n c) where
+      -- the rest, once kind and shape have passed
+      whole : ℕ → Answer (List ℕ)
+      whole m = unless (leb (length (interleavedForm k m c)) (length out)) 6 (gives (interleavedForm k m c))
+
+      pub write-content : {number : ℕ} → r ≡ Checked.Refused number → refusedList number out ≡ interleavedEncoded k shape c out
+      unfolding interleavedEncoded encodeInterleavedAnswer whole
+      write-content {number} e =
+          let s : Counted shape n = counted shape n q in
+          sym
+          (rw (p, s .passes)
+          (ap (λ (a : Answer (List ℕ)). listOutcome a out)
+          (ap (λ (m : ℕ). unlessKept k m c (whole m)) (sym (s .is)) ∙ check-refused k n c r f (whole n) number e)))
+
+      pub write-held : r ≡ Checked.Valid → Held n (c .values) (c .offsets)
+      unfolding mostCells
+      write-held e =
+          let s : Counted shape n = counted shape n q in
+          let h : KeepsRules k n c = check-valid k n c r f e in
+          ragged-held (k .form) (interleaved-ok k p .is-ragged) n c (h .content .values-fit) (s .few) (h .small)
+
+      pub write-rest : r ≡ Checked.Valid → writtenOver (interleavedOf (c .values) (c .offsets)) out ≡ interleavedEncoded k shape c out
+      unfolding interleavedEncoded encodeInterleavedAnswer whole
+      write-rest e =
+          let s : Counted shape n = counted shape n q in
+          let h : KeepsRules k n c = check-valid k n c r f e in
+          ap (λ (vs : List Value). writtenOver (putInterleaved vs) out) (ragged-values (k .form) (interleaved-ok k p .is-ragged) n c)
+          ∙ sym
+          (rw (p, s .passes)
+          (ap (λ (m : ℕ). listOutcome (unlessKept k m c (whole m)) out) (sym (s .is)) ∙ rw (h .content-passes, h .size-passes)))
+
+-- ---- refusal 6, or the cells
+
+module _ (s os out : List ℕ) {need : ℕ} where
+  pub cells-room : need ≤ length out → need ≡ length (interleavedOf s os) → length (interleavedOf s os) ≤ length out
+  cells-room g e = omega arith
+
+  pub cells-short : length out < need → need ≡ length (interleavedOf s os) → refusedList 6 out ≡ writtenOver (interleavedOf s os) out
+  cells-short g e = rw (lt-leb (length (interleavedOf s os)) (length out) (omega arith))
+
+  pub cells-written : need ≤ length out → need ≡ length (interleavedOf s os) → {out′ : List ℕ} → out′ ≡ over (interleavedOf s os) out
+      → _≡_ {A = Outcome ℕ (List ℕ)} (record { answer = gives need; buffers = out′ }) (writtenOver (interleavedOf s os) out)
+  cells-written g e eo =
+      ap₂ (λ (m : ℕ) (o : List ℕ). record { answer = gives m; buffers = o }) e eo
+      ∙ ap (λ (b : Bool). listOutcome (unless b 6 (gives (interleavedOf s os))) out) (sym (le-leb (length (interleavedOf s os)) (length out) (cells-room g e)))

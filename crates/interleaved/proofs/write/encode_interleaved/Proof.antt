@@ -1,0 +1,120 @@
+-- `interleaved::write::encode_interleaved` meets its contract: each way it ends has a law in Writes.
+-- Assumes nothing.
+use mathlib.Core.Path.{_≡_, sym, ap, _∙_}
+use mathlib.Core.Bool.{true}
+use borrow.Author.Tests.{not-true, not-false}
+use borrow.Author.Needs.{needs}
+use Rattle.array.specs.Answer.{gives}
+use Rattle.array.specs.Limits.{mostCells}
+use Rattle.array.specs.Meaning.{kindOf}
+use Rattle.array.specs.Outcome.{contentArray}
+use Rattle.array.specs.Content.{Content}
+use Rattle.valid.specs.ShapeCells.{toldCells, shapeAnswer}
+use Rattle.valid.proofs.ShapeLaws.{counted}
+use Rattle.codec.specs.Interleaved.{interleavedTest}
+use Rattle.interleaved.proofs.Writes.{write-kind, write-shape, write-content, write-held, write-rest}
+use Rattle.interleaved.proofs.write.encode_interleaved.Statement.{statement}
+use Rattle.interleaved.proofs.write.encode_interleaved.Tie as tie
+
+-- ---- places: the start, the kind asked for, the kind found right, the cells counted, the array checked
+
+abbrev entry : tie.After-shared-slice-known4 → tie.Start
+entry c = c .before .before .before .before
+
+abbrev start : tie.After-is-interleaved → tie.Start
+start c = entry (c .before .before)
+
+abbrev right : tie.After-cells → tie.Else1
+right c = c .before .before .before
+
+abbrev cells : tie.After-check-array → tie.After-cells
+cells c = c .before .before
+
+-- the array that is handed over
+abbrev content : tie.Start → Content
+content s = contentArray (s .args .masks .now) (s .args .values .now) (s .args .offsets .now)
+
+sound : (c : tie.Else1) → interleavedTest (kindOf (start (c .before) .args .kind)) ≡ true
+sound c = sym (c .before .is-interleaved .ensures) ∙ not-false (c .before .is-interleaved .result) (c .if1 .left)
+
+shaped : (c : tie.After-cells) → gives (c .cells .given .0 .0) ≡ shapeAnswer (start (right c .before) .args .shape .now)
+shaped c = sym (ap toldCells (c .cells .given .1)) ∙ c .before .before .shape-cells .ensures
+
+is-interleaved-requires : tie.Need-is-interleaved-requires
+is-interleaved-requires c κs = search needs
+
+returns : tie.Need-returns
+returns c =
+    let s = start (c .before) in
+    write-kind (kindOf (s .args .kind)) (s .args .shape .now) (content s) (s .args .out .now)
+    (sym (c .before .is-interleaved .ensures) ∙ not-true (c .before .is-interleaved .result) (c .if1 .taken))
+
+shape-cells-requires : tie.Need-shape-cells-requires
+shape-cells-requires c κs = search needs
+
+enum-known-cells : tie.Need-enum-known-cells
+enum-known-cells c = search needs
+
+enum-told : tie.Need-enum-told
+enum-told c = search needs
+
+returns-2 : tie.Need-returns-2
+returns-2 c =
+    let kind = c .before .before .before in
+    let s = start (kind .before) in
+    write-shape (kindOf (s .args .kind)) (s .args .shape .now) (content s) (s .args .out .now) (sound kind)
+    (sym (ap toldCells (c .enum-told .given .1)) ∙ c .before .before .shape-cells .ensures)
+
+check-array-requires : tie.Need-check-array-requires
+unfolding mostCells
+check-array-requires c κs = counted (start (right (c .before) .before) .args .shape .now) (c .before .cells .given .0 .0) (shaped (c .before)) .few
+
+enum-known-checked : tie.Need-enum-known-checked
+enum-known-checked c = search needs
+
+enum-told-2 : tie.Need-enum-told-2
+enum-told-2 c = search needs
+
+write-cells-requires : tie.Need-write-cells-requires
+write-cells-requires c κs =
+    let k = c .before .before .before in
+    let s = start (right (cells k) .before) in
+    write-held (kindOf (s .args .kind)) (s .args .shape .now) (content s) (s .args .out .now) (sound (right (cells k))) (shaped (cells k))
+    (k .check-array .result) (k .check-array .ensures) (c .before .enum-told2 .given .1)
+
+returns-3 : tie.Need-returns-3
+returns-3 c =
+    let k = c .before .before .before in
+    let s = start (right (cells k) .before) in
+    write-content (kindOf (s .args .kind)) (s .args .shape .now) (content s) (s .args .out .now) (sound (right (cells k))) (shaped (cells k))
+    (k .check-array .result) (k .check-array .ensures) (c .before .checked .given .1)
+
+same-length : tie.Need-same-length
+same-length c = search needs
+
+returns-4 : tie.Need-returns-4
+returns-4 c =
+    let told = c .before .before .before .before in
+    let k = told .before .before in
+    let s = start (right (cells k) .before) in
+    c .before .before .write-cells .ensures
+    ∙ write-rest (kindOf (s .args .kind)) (s .args .shape .now) (content s) (s .args .out .now) (sound (right (cells k))) (shaped (cells k))
+    (k .check-array .result) (k .check-array .ensures) (told .enum-told2 .given .1)
+
+pub encode-interleaved-spec : {M : Type 1} → statement M
+encode-interleaved-spec =
+    tie.close
+    (tie.spec
+    is-interleaved-requires
+    returns
+    shape-cells-requires
+    enum-known-cells
+    enum-told
+    returns-2
+    check-array-requires
+    enum-known-checked
+    enum-told-2
+    write-cells-requires
+    returns-3
+    same-length
+    returns-4)

@@ -1,0 +1,27 @@
+-- What the writing of the older form leans on (document 02, request 2): the offsets of n cells over these value bytes.
+-- Assumes nothing.
+use Prim.Native.Nat.{ℕ, suc, _≤_}
+use mathlib.Core.Path.{_≡_}
+use mathlib.Core.List.{List}
+use lib.ListN.{length}
+use lib.Dec.{leb}
+use Rattle.array.specs.Answer.{gives, unless, Outcome}
+use Rattle.array.specs.Limits.{mostBytes, mostCells}
+use Rattle.array.specs.Offsets.{last, Rising, slices}
+use Rattle.array.specs.Buffers.{listOutcome}
+use Rattle.codec.specs.Interleaved.{putInterleaved}
+
+pub record Held (n : ℕ) (s os : List ℕ) : Type 0 where
+  pub few : n ≤ mostCells
+  pub small : length s ≤ mostBytes
+  pub counted : length os ≡ suc n
+  pub rising : Rising os
+  pub ended : last os ≡ length s
+
+-- the cells between the offsets, in the older form
+abbrev pub interleavedOf : List ℕ → List ℕ → List ℕ
+interleavedOf s os = putInterleaved (slices os s)
+
+-- bytes over an output: refusal 6 where it is too short
+abbrev pub writtenOver : List ℕ → List ℕ → Outcome ℕ (List ℕ)
+writtenOver s out = listOutcome (unless (leb (length s) (length out)) 6 (gives s)) out

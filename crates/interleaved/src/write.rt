@@ -1,0 +1,103 @@
+// The older interleaved form of ragged values, written: a 4-byte count, then for each cell a 4-byte length and its bytes.
+// Its length is known from the first offset and the count of value bytes, so the one walk is the one that stores.
+use crate::cell;
+use array::answer::Written;
+use array::kind::Kind;
+use array::kind::Values;
+use array::refusal;
+use buffer::field;
+use valid::array_bytes;
+use valid::array_bytes::Checked;
+use valid::shape;
+use valid::shape::Cells;
+ghost use mathlib.Core.Path.{_≡_};
+ghost use Prim.Native.Nat.{_≤_};
+ghost use lib.ListN.{length};
+ghost use Rattle.array.specs.Meaning.{kindOf};
+ghost use Rattle.array.specs.Outcome.{outcome};
+ghost use Rattle.array.specs.Buffers.{over};
+ghost use Rattle.codec.specs.Interleaved.{interleavedTest};
+ghost use Rattle.codec.specs.Calls.{interleavedEncoded};
+ghost use Rattle.interleaved.specs.Held.{Held, interleavedOf, writtenOver};
+
+// Whether arrays of this kind have an interleaved form: ragged values with no mask. Width, place and mask form say nothing of it.
+fn is_interleaved(kind: Kind) -> bool
+    ensures { λ r. ⌜ r ≡ interleavedTest (kindOf kind) ⌝ }
+{
+    if !valid::kind::check_kind(kind) {
+        return false;
+    }
+    let depth = kind.depth;
+    if 0 < depth {
+        return false;
+    }
+    let values = kind.values;
+    match values {
+        Values::Fixed(_, _) => false,
+        Values::Ragged(_, _) => true,
+    }
+}
+
+// The count, then each cell: its length and its bytes. What is copied beyond a cell, the cells after it write over.
+fn put_cells(out: &mut [u8], values: &[u8], offsets: &[u64], cells: usize)
+    requires held { ⌜ Held cells (now values) (now offsets) ⌝ }
+    requires room { ⌜ length (interleavedOf (now values) (now offsets)) ≤ length (now out) ⌝ }
+    ensures { λ _. ⌜ now (out .exit) ≡ over (interleavedOf (now (values .entry)) (now (offsets .entry))) (now (out .entry)) ⌝ }
+{
+    field::put_u32(out, 0, cells as u64);
+    let mut start = offsets[0] as usize;
+    let mut i: usize = 0;
+    let mut at: usize = 4;
+    while i < cells {
+        i += 1;
+        let end = offsets[i] as usize;
+        let size = end - start;
+        field::put_u32(out, at, size as u64);
+        at += 4;
+        if 0 < size {
+            cell::copy_cell(out, at, values, start, size, values.len() - start);
+            at += size;
+            start = end;
+        }
+    }
+}
+
+// The cells of a valid array: refusal 6, or their interleaved form. Bytes before the first offset are in no cell.
+fn write_cells(cells: usize, values: &[u8], offsets: &[u64], out: &mut [u8]) -> Written
+    requires { ⌜ Held cells (now values) (now offsets) ⌝ }
+    ensures { λ r. ⌜ outcome r (now (out .exit)) ≡ writtenOver (interleavedOf (now (values .entry)) (now (offsets .entry))) (now (out .entry)) ⌝ }
+{
+    let first = offsets[0] as usize;
+    let need = 4 + 4 * cells + (values.len() - first);
+    if out.len() < need {
+        return Written::Refused(refusal::OUTPUT);
+    }
+    put_cells(out, values, offsets, cells);
+    Written::Length(need)
+}
+
+// Writes a ragged array of depth 0 in the interleaved form. Refusals 1, 2, 4, 5 and 6, in this order; nothing is stored before the
+// last check.
+pub fn encode_interleaved(
+    kind: Kind,
+    shape: &[u64],
+    masks: &[u8],
+    values: &[u8],
+    offsets: &[u64],
+    out: &mut [u8],
+) -> Written
+    ensures { λ r. ⌜ outcome r (now (out .exit)) ≡ interleavedEncoded (kindOf kind) (now (shape .entry))
+        (record { masks = now (masks .entry); values = now (values .entry); offsets = now (offsets .entry) }) (now (out .entry)) ⌝ }
+{
+    if !is_interleaved(kind) {
+        return Written::Refused(refusal::KIND);
+    }
+    let Cells::Count(cells) = shape::shape_cells(shape) else {
+        return Written::Refused(refusal::SHAPE);
+    };
+    let checked = array_bytes::check_array(kind, cells, masks.len(), values.len(), offsets);
+    match checked {
+        Checked::Refused(number) => Written::Refused(number),
+        Checked::Valid => write_cells(cells, values, offsets, out),
+    }
+}
