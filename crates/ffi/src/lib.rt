@@ -12,7 +12,7 @@ ghost use Rattle.valid.specs.Numbers.{numberedKind, numberedIndex};
 ghost use Rattle.array.specs.Outcome.{contentArray, contentRagged};
 ghost use Rattle.array.specs.Calls.{endiannessReversed};
 ghost use Rattle.array.specs.Calls.{subsetCells};
-ghost use Rattle.codec.specs.Calls.{encoded, decoded, interleavedDecoded};
+ghost use Rattle.codec.specs.Calls.{encoded, decoded, interleavedDecoded, interleavedEncoded};
 ghost use Rattle.chunks.specs.Calls.{extracted, merged, partiallyDecoded};
 ghost use Rattle.ffi.specs.Exported.{handed, withGiven, byIndex, statusOf, oneLength, twoLengths, threeLengths, exportOne, exportTwo, exportThree};
 
@@ -146,6 +146,36 @@ pub extern "C" fn dpx_decode_interleaved(
 {
     let answer = interleaved::vlen_v2::decode_interleaved(cells, bytes, values, offsets);
     put_two_lengths(answer, lengths)
+}
+
+#[no_mangle]
+pub extern "C" fn dpx_encode_interleaved(
+    kind: DpxKind,
+    shape: &[u64],
+    masks: &[u8],
+    values: &[u8],
+    offsets: &[u64],
+    out: &mut [u8],
+    lengths: &mut [u64; 1],
+) -> u32
+    ensures { λ r. ⌜ handed r (now (lengths .exit)) (now (out .exit))
+        ≡ exportOne (withGiven (numberedKind (kind .depth) (kind .form) (kind .size) (kind .order) (kind .mask)) (now (out .entry))
+        (λ k. interleavedEncoded k (now (shape .entry)) (contentArray (now (masks .entry)) (now (values .entry)) (now (offsets .entry))) (now (out .entry)))) (now (lengths .entry)) ⌝ }
+{
+    let read = valid::numbers::kind_from_numbers(
+        kind.depth,
+        kind.form,
+        kind.size,
+        kind.order,
+        kind.mask,
+    );
+    match read {
+        KindRead::Refused(e) => e as u32,
+        KindRead::Kind(k) => {
+            let answer = interleaved::write::encode_interleaved(k, shape, masks, values, offsets, out);
+            put_length(answer, lengths)
+        }
+    }
 }
 
 #[no_mangle]

@@ -2,6 +2,7 @@
 use array::answer::WrittenArray;
 use array::kind::Kind;
 use interleaved::vlen_v2;
+use interleaved::write;
 use partial::vlen_partial;
 use requests::Request;
 use requests::asked::head_kind;
@@ -30,6 +31,14 @@ fn run_kind(
 ) -> WrittenArray {
     match letter {
         b'e' => values_told(encode::encode(kind, shape, in_masks, in_values, in_offsets, values)),
+        b'o' => values_told(write::encode_interleaved(
+            kind,
+            shape,
+            in_masks,
+            in_values,
+            in_offsets,
+            values,
+        )),
         b'd' => decode::decode(kind, shape, in_values, masks, values, offsets),
         b'x' => extract::extract(
             kind,

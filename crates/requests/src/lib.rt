@@ -53,6 +53,7 @@ fn of_numbers(head: usize, shape: bool, values: bool, rooms: usize) -> Line {
 fn line_of(letter: u8) -> Line {
     match letter {
         b'e' => of_kind(false, true, 1),
+        b'o' => of_kind(false, true, 1),
         b'd' => of_kind(false, false, 3),
         b'x' => of_kind(true, true, 3),
         b'm' => of_kind(true, true, 3),

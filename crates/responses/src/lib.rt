@@ -23,7 +23,7 @@ pub struct Outputs {
 // The outputs of the call of a letter.
 pub fn outputs_of(letter: u8) -> Outputs {
     match letter {
-        b'e' | b'r' => Outputs { first: 1, end: 2 },
+        b'e' | b'o' | b'r' => Outputs { first: 1, end: 2 },
         b'i' | b'p' => Outputs { first: 1, end: 3 },
         b's' => Outputs { first: 2, end: 3 },
         _ => Outputs { first: 0, end: 3 },

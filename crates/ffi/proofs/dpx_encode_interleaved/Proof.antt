@@ -1,0 +1,58 @@
+-- `ffi::dpx_encode_interleaved` meets its contract, by what `encode_interleaved` promises of a kind that came as numbers.
+-- Assumes nothing.
+use mathlib.Core.Path.{refl, ap}
+use Rattle.valid.specs.Numbers.{toldKind}
+use Rattle.ffi.specs.Exported.{oneLength}
+use Rattle.ffi.proofs.Exporting.{exported, not-given, given}
+use borrow.Author.Needs.{needs}
+use Rattle.ffi.proofs.dpx_encode_interleaved.Statement.{statement}
+use Rattle.ffi.proofs.dpx_encode_interleaved.Tie as tie
+
+kind-from-numbers-requires : tie.Need-kind-from-numbers-requires
+kind-from-numbers-requires c κs = search needs
+
+enum-known-read : tie.Need-enum-known-read
+enum-known-read c = search needs
+
+cast-result : tie.Need-cast-result
+cast-result c = search needs
+
+enum-known-read-2 : tie.Need-enum-known-read-2
+enum-known-read-2 c = search needs
+
+encode-interleaved-requires : tie.Need-encode-interleaved-requires
+encode-interleaved-requires c κs = search needs
+
+put-length-requires : tie.Need-put-length-requires
+put-length-requires c κs = search needs
+
+returns : tie.Need-returns
+returns c =
+    let numbers = c .before .before .before in
+    not-given toldKind _ _ (numbers .kind-from-numbers .result) _ (numbers .kind-from-numbers .ensures) oneLength _ (ap toldKind (c .before .read .given .1)) _ refl
+
+same-length : tie.Need-same-length
+same-length c = search needs
+
+returns-2 : tie.Need-returns-2
+returns-2 c =
+    let called = c .before .before .before .before in
+    let read = called .before .before .before in
+    let numbers = read .before .before in
+    exported oneLength _ _ _
+    (given toldKind _ _ (numbers .kind-from-numbers .result) _ (numbers .kind-from-numbers .ensures) _ (ap toldKind (read .read2 .given .1)) _ (called .encode-interleaved .ensures))
+    _ _ (c .put-length .ensures .0) _ (c .put-length .ensures .1)
+
+pub dpx-encode-interleaved-spec : {M : Type 1} → statement M
+dpx-encode-interleaved-spec =
+    tie.close
+    (tie.spec
+    kind-from-numbers-requires
+    enum-known-read
+    cast-result
+    enum-known-read-2
+    encode-interleaved-requires
+    put-length-requires
+    returns
+    same-length
+    returns-2)
