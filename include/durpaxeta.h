@@ -2,7 +2,7 @@
  * Durpaxeta: tables of optional and variable-length cells in one checked byte layout.
  *
  * Link with libdurpaxeta.a (x86-64). Nothing else is needed but memmove and memset, as of any C library.
- * The archive has the eight calls. All else is static inline here: kinds, answers in words, room for outputs, cells.
+ * The archive has the nine calls. All else is static inline here: kinds, answers in words, room for outputs, cells.
  *
  * A TABLE is a kind, a shape and its content.
  *
@@ -236,6 +236,12 @@ static inline size_t dpx_stored_room(dpx_kind kind, uint64_t cells, size_t value
     return kind.depth * (16 + dpx_mask_room(kind, cells)) + array.values + index;
 }
 
+/* The most bytes that dpx_encode_interleaved writes; exactly as many where the first offset is 0. */
+static inline size_t dpx_interleaved_room(uint64_t cells, size_t values_len)
+{
+    return cells > DPX_MAX_CELLS || values_len > DPX_MAX_VALUE_BYTES ? 0 : 4 + 4 * cells + values_len;
+}
+
 /*
  * CELLS
  */
@@ -362,6 +368,31 @@ uint32_t dpx_decode_interleaved(uint64_t cells,
                                 uint8_t *out_values, size_t out_values_len,
                                 uint64_t *out_offsets, size_t out_offsets_len,
                                 uint64_t lengths[2]);
+
+/*
+ * An array to the older, interleaved form (Zarr V2).
+ *
+ * Writes a 4-byte count, then for each cell a 4-byte length and its bytes, all little-endian. The kind is ragged, of depth
+ * 0: this form has no masks. Width and place of its index say nothing here. Bytes before the first offset are in no cell and are
+ * not written. dpx_decode_interleaved reads the cells again, from offset 0.
+ * Enough room: dpx_interleaved_room. Written are 4 + 4 * cells bytes, and those of the cells.
+ *
+ *   lengths[0]   bytes written
+ *
+ * Refusals, in this order:
+ *   1 DPX_KIND     whoever describes the table: also a depth above 0, and a fixed kind
+ *   2 DPX_SHAPE    whoever describes the table
+ *   4 DPX_CONTENT  whoever hands over the array: as for dpx_encode; so masks_len is 0
+ *   5 DPX_SIZE     whoever hands over the array: the last offset is over 16,777,216
+ *   6 DPX_OUTPUT   whoever lends the output: out_len is under the written length
+ */
+uint32_t dpx_encode_interleaved(dpx_kind kind,
+                                const uint64_t *shape, size_t shape_len,
+                                const uint8_t *masks, size_t masks_len,
+                                const uint8_t *values, size_t values_len,
+                                const uint64_t *offsets, size_t offsets_len,
+                                uint8_t *out, size_t out_len,
+                                uint64_t lengths[1]);
 
 /*
  * The cells of a subset out of an array.

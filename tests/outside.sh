@@ -33,13 +33,14 @@ diff <(nm --extern-only --defined-only --format=posix build/libdurpaxeta.a | awk
 dpx_decode
 dpx_decode_interleaved
 dpx_encode
+dpx_encode_interleaved
 dpx_extract
 dpx_merge
 dpx_partial_decode
 dpx_reverse_endianness
 dpx_subset_cells
 END
-echo 'the eight calls, and nothing else'
+echo 'the nine calls, and nothing else'
 
 say 'C interface'
 tests/c/run.sh

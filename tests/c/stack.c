@@ -43,6 +43,11 @@ static void decode_interleaved(void)
     answer = dpx_decode_interleaved(CELLS, old, old_len, out_values, CELLS, out_offsets, CELLS + 1, lengths);
 }
 
+static void encode_interleaved(void)
+{
+    answer = dpx_encode_interleaved(flat, shape, 1, NULL, 0, values, CELLS, offsets, CELLS + 1, plain, sizeof plain, &plain_len);
+}
+
 static void extract(void)
 {
     answer = dpx_extract(nested, shape, 1, whole, 2, masks, 4 * CELLS, values, CELLS, offsets, CELLS + 1, out_masks, 4 * CELLS, out_values,
@@ -93,7 +98,8 @@ int main(void)
         const char *name;
         void (*call)(void);
     } calls[] = {{"encode", encode_nested},       {"encode, depth 0", encode_flat}, {"decode", decode},
-                 {"decode_interleaved", decode_interleaved}, {"extract", extract},  {"merge", merge},
+                 {"decode_interleaved", decode_interleaved}, {"encode_interleaved", encode_interleaved},
+                 {"extract", extract},          {"merge", merge},
                  {"partial_decode", partial_decode}, {"reverse_endianness", reverse_endianness}, {"subset_cells", subset_cells}};
     size_t i, idle, failed = 0;
 

@@ -225,6 +225,7 @@ static void test_kind(void)
         lend(0, 0, 0);
         REFUSED(dpx_encode(bad[i], NUMBERS(0), NONE, NONE, NONE, OUT1), DPX_KIND);
         REFUSED(dpx_decode(bad[i], NUMBERS(0), NONE, OUT3), DPX_KIND);
+        REFUSED(dpx_encode_interleaved(bad[i], NUMBERS(0), NONE, NONE, NONE, OUT1), DPX_KIND);
         REFUSED(dpx_extract(bad[i], NUMBERS(0), NONE, NONE, NONE, NONE, OUT3), DPX_KIND);
         REFUSED(dpx_merge(bad[i], NUMBERS(0), NONE, NONE, NONE, NONE, OUT3), DPX_KIND);
         release();
@@ -244,6 +245,7 @@ static void refuse_shape(const uint64_t *shape, size_t sides)
     lend(0, 0, 0);
     REFUSED(dpx_encode(dpx_fixed(0, 1, DPX_LITTLE), shape, sides, NONE, NONE, NONE, OUT1), DPX_SHAPE);
     REFUSED(dpx_decode(dpx_fixed(0, 1, DPX_LITTLE), shape, sides, NONE, OUT3), DPX_SHAPE);
+    REFUSED(dpx_encode_interleaved(dpx_ragged(0, 4, DPX_START), shape, sides, NONE, NONE, NONE, OUT1), DPX_SHAPE);
     REFUSED(dpx_extract(dpx_fixed(0, 1, DPX_LITTLE), shape, sides, NONE, NONE, NONE, NONE, OUT3), DPX_SHAPE);
     REFUSED(dpx_merge(dpx_fixed(0, 1, DPX_LITTLE), shape, sides, NONE, NONE, NONE, NONE, OUT3), DPX_SHAPE);
     REFUSED(dpx_partial_decode(4, DPX_START, shape, sides, NONE, NONE, OUT2), DPX_SHAPE);
@@ -468,6 +470,43 @@ static void test_interleaved(void)
     REFUSED(dpx_decode_interleaved(2, BYTES(LE4(2), LE4(1), 'A', LE4(0)), OUT2), DPX_OUTPUT);
     lend(0, 1, 2);
     REFUSED(dpx_decode_interleaved(2, BYTES(LE4(2), LE4(1), 'A', LE4(0)), OUT2), DPX_OUTPUT);
+    release();
+}
+
+static void test_encode_interleaved(void)
+{
+    const dpx_kind r4 = dpx_ragged(0, 4, DPX_START), deep = dpx_ragged(1, 4, DPX_START), f1 = dpx_fixed(0, 1, DPX_LITTLE);
+
+    /* Exactly enough room, more of it, and one byte less. Width and place are idle. */
+    lend(0, 13, 0);
+    STORES(dpx_encode_interleaved(r4, NUMBERS(2), NONE, TEXT("A"), NUMBERS(0, 1, 1), OUT1), BYTES(LE4(2), LE4(1), 'A', LE4(0)));
+    lend(0, 20, 0);
+    STORES(dpx_encode_interleaved(dpx_ragged(0, 8, DPX_END), NUMBERS(2, 1), NONE, TEXT("A"), NUMBERS(0, 1, 1), OUT1),
+           BYTES(LE4(2), LE4(1), 'A', LE4(0)));
+    lend(0, 12, 0);
+    REFUSED(dpx_encode_interleaved(r4, NUMBERS(2), NONE, TEXT("A"), NUMBERS(0, 1, 1), OUT1), DPX_OUTPUT);
+    /* Bytes before the first offset are not written. */
+    lend(0, 9, 0);
+    STORES(dpx_encode_interleaved(r4, NUMBERS(1), NONE, TEXT("AB"), NUMBERS(1, 2), OUT1), BYTES(LE4(1), LE4(1), 'B'));
+    lend(0, 8, 0);
+    REFUSED(dpx_encode_interleaved(r4, NUMBERS(1), NONE, TEXT("AB"), NUMBERS(1, 2), OUT1), DPX_OUTPUT);
+    STORES(dpx_encode_interleaved(r4, NUMBERS(1), NONE, NONE, NUMBERS(0, 0), OUT1), BYTES(LE4(1), LE4(0)));
+    CHECK(dpx_interleaved_room(2, 1) == 13 && dpx_interleaved_room(DPX_MAX_CELLS + 1, 1) == 0);
+    CHECK(dpx_interleaved_room(1, DPX_MAX_VALUE_BYTES + 1) == 0);
+
+    /* Another kind is 1, whatever else is wrong; then 2, 4, 6. */
+    lend(0, 0, 0);
+    REFUSED(dpx_encode_interleaved(deep, NONE, NONE, NONE, NONE, OUT1), DPX_KIND);
+    REFUSED(dpx_encode_interleaved(deep, NUMBERS(1), BYTES(1), TEXT("A"), NUMBERS(0, 1), OUT1), DPX_KIND);
+    REFUSED(dpx_encode_interleaved(f1, NUMBERS(1), NONE, TEXT("A"), NONE, OUT1), DPX_KIND);
+    REFUSED(dpx_encode_interleaved(dpx_ragged(5, 4, DPX_START), NUMBERS(0), NONE, NONE, NONE, OUT1), DPX_KIND);
+    REFUSED(dpx_encode_interleaved(dpx_ragged(0, 5, DPX_START), NUMBERS(1), NONE, TEXT("A"), NUMBERS(0, 1), OUT1), DPX_KIND);
+    REFUSED(dpx_encode_interleaved(r4, NUMBERS(65537), BYTES(1), NONE, NONE, OUT1), DPX_SHAPE);
+    REFUSED(dpx_encode_interleaved(r4, NUMBERS(1), BYTES(1), TEXT("A"), NUMBERS(0, 1), OUT1), DPX_CONTENT);
+    REFUSED(dpx_encode_interleaved(r4, NUMBERS(1), NONE, TEXT("A"), NUMBERS(0, 2), OUT1), DPX_CONTENT);
+    REFUSED(dpx_encode_interleaved(r4, NUMBERS(2), NONE, TEXT("AB"), NUMBERS(0, 3, 2), OUT1), DPX_CONTENT);
+    REFUSED(dpx_encode_interleaved(r4, NUMBERS(1), NONE, TEXT("A"), NONE, OUT1), DPX_CONTENT);
+    REFUSED(dpx_encode_interleaved(r4, NUMBERS(1), NONE, TEXT("A"), NUMBERS(0, 1), OUT1), DPX_OUTPUT);
     release();
 }
 
@@ -716,6 +755,10 @@ static void test_byte_limit(void)
     memset(back, FILL, most);
     ANSWERS(dpx_decode_interleaved(1, stored, most + 9, back, most, got, 2, lengths), DPX_OK);
     CHECK(lengths[0] == most && lengths[1] == 2 && memcmp(values, back, most) == 0 && back[most] == FILL);
+    memset(back, FILL, most);
+    ANSWERS(dpx_encode_interleaved(kind, one, 1, NONE, values, most, offsets, 2, back, most + 8, lengths), DPX_OK);
+    CHECK(lengths[0] == most + 8 && memcmp(stored, back, most + 8) == 0 && back[most + 8] == FILL);
+    memset(back, FILL, most + 8);
 
     /* One more is 5: before 12 and 6, after all else. Of each call at most one other refusal holds. No lent byte changes. */
 #define BACK2 back, most + 1, got, 2, lengths
@@ -763,6 +806,11 @@ static void test_byte_limit(void)
     offsets[1] = most + 1;
     ANSWERS(dpx_encode(kind, one, 1, NONE, values, most + 1, offsets, 2, back, room, lengths), DPX_SIZE);
     ANSWERS(dpx_encode(kind, one, 1, NONE, values, most + 1, offsets, 2, NONE, lengths), DPX_SIZE);
+    ANSWERS(dpx_encode_interleaved(kind, one, 1, NONE, values, most + 1, offsets, 2, back, room, lengths), DPX_SIZE);
+    ANSWERS(dpx_encode_interleaved(kind, one, 1, NONE, values, most + 1, offsets, 2, NONE, lengths), DPX_SIZE);
+    ANSWERS(dpx_encode_interleaved(deep, one, 1, set, 5, values, most + 1, offsets, 2, back, room, lengths), DPX_KIND);
+    ANSWERS(dpx_encode_interleaved(kind, five, 5, NONE, values, most + 1, offsets, 2, back, room, lengths), DPX_SHAPE);
+    ANSWERS(dpx_encode_interleaved(kind, one, 1, NONE, values, most + 1, fall, 2, back, room, lengths), DPX_CONTENT);
     ANSWERS(dpx_encode(deep, one, 1, set, 5, values, most + 1, offsets, 2, back, room, lengths), DPX_KIND);
     ANSWERS(dpx_encode(kind, five, 5, NONE, values, most + 1, offsets, 2, back, room, lengths), DPX_SHAPE);
     ANSWERS(dpx_encode(kind, one, 1, NONE, values, most + 1, fall, 2, back, room, lengths), DPX_CONTENT);
@@ -863,6 +911,7 @@ int main(void)
     test_encode();
     test_decode();
     test_interleaved();
+    test_encode_interleaved();
     test_extract();
     test_merge();
     test_partial();

@@ -1,4 +1,4 @@
-//! The eight calls, and those of them that write into lent slices.
+//! The nine calls, and those of them that write into lent slices.
 
 use crate::ffi::{self, Answer, Content};
 use crate::{
@@ -150,6 +150,53 @@ pub fn decode_interleaved(cells: u64, bytes: &[u8]) -> Result<RaggedValues, Refu
     let room = kind.array_room(count, bytes.len());
     let read = lend(kind, &[], room, |out| given(ffi::decode_interleaved(cells, bytes, out)))?;
     Ok(RaggedValues { values: read.values, offsets: read.offsets })
+}
+
+/// Array to the older, interleaved form of Zarr V2. The kind is ragged, of depth 0; bytes before the first offset are not
+/// written.
+///
+/// # Errors
+///
+/// In this order `Kind` (also a depth above 0, and a fixed kind), `Shape`, `Content`, `Size`.
+///
+/// ```
+/// use durpaxeta::{encode_interleaved, Array, Cell, Kind, Order, Place, Refusal, Width};
+///
+/// let kind = Kind::ragged(0, Width::Four, Place::Start);
+/// let table = Array::from_cells(kind, &[2], &[Cell::Value(b"A"), Cell::Value(b"")])?;
+/// assert_eq!(encode_interleaved(&table)?, [2, 0, 0, 0, 1, 0, 0, 0, b'A', 0, 0, 0, 0]);
+/// let fixed = Array::from_cells(Kind::fixed(0, 1, Order::Little), &[1], &[Cell::Value(b"A")])?;
+/// assert_eq!(encode_interleaved(&fixed), Err(Refusal::Kind));
+/// # Ok::<(), Refusal>(())
+/// ```
+pub fn encode_interleaved<'a>(array: impl Into<ArrayRef<'a>>) -> Result<Vec<u8>, Refusal> {
+    let array = array.into();
+    let mut out = vec![0; sizes::interleaved(array.cell_count(), array.values.len())];
+    let length = given(ffi::encode_interleaved(array.kind, array.shape, content(array), &mut out))?;
+    cut(&mut out, length);
+    Ok(out)
+}
+
+/// [`encode_interleaved`] into a lent slice; answers the bytes that it wrote: 4, 4 for each cell, and those of the cells.
+///
+/// # Errors
+///
+/// Those of [`encode_interleaved`], then `Output` where the slice is too short. A refusal changes no byte of it.
+///
+/// ```
+/// use durpaxeta::{encode_interleaved_into, Array, Cell, Kind, Place, Refusal, Width};
+///
+/// let kind = Kind::ragged(0, Width::Four, Place::Start);
+/// let table = Array::from_cells(kind, &[2], &[Cell::Value(b"0-3"), Cell::Value(b"")])?;
+/// let mut buffer = [0; 64];
+/// assert_eq!(encode_interleaved_into(&table, &mut buffer)?.len(), 15);
+/// assert_eq!(encode_interleaved_into(&table, &mut buffer[..14]), Err(Refusal::Output));
+/// # Ok::<(), Refusal>(())
+/// ```
+pub fn encode_interleaved_into<'a, 'o>(array: impl Into<ArrayRef<'a>>, out: &'o mut [u8]) -> Result<&'o [u8], Refusal> {
+    let array = array.into();
+    let length = given(ffi::encode_interleaved(array.kind, array.shape, content(array), out))?;
+    Ok(&out[..length])
 }
 
 /// The cells of a subset out of an array. What lies below a null is kept. The outcome's shape is the subset's lengths;

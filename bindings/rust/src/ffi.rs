@@ -87,6 +87,21 @@ extern "C" {
         lengths: *mut u64,
     ) -> u32;
 
+    fn dpx_encode_interleaved(
+        kind: RawKind,
+        shape: *const u64,
+        shape_len: usize,
+        masks: *const u8,
+        masks_len: usize,
+        values: *const u8,
+        values_len: usize,
+        offsets: *const u64,
+        offsets_len: usize,
+        out: *mut u8,
+        out_len: usize,
+        lengths: *mut u64,
+    ) -> u32;
+
     fn dpx_extract(
         kind: RawKind,
         shape: *const u64,
@@ -184,26 +199,34 @@ fn room(masks: u64, values: u64, offsets: u64) -> Room {
 // SAFETY of all calls below: each pointer and count come from one slice that lives through the call; outputs are borrowed
 // mutably, so they overlap nothing; `lengths` has the elements that durpaxeta.h asks for; the archive keeps no pointer.
 
+/// An array to bytes, by a call that takes it as `dpx_encode` does.
+macro_rules! write_array {
+    ($call:ident, $kind:expr, $shape:expr, $content:expr, $out:expr) => {{
+        let (shape, content, out) = ($shape, $content, $out);
+        let mut lengths = [0; 1];
+        let number = unsafe {
+            $call(
+                $kind.into(),
+                shape.as_ptr(),
+                shape.len(),
+                content.masks.as_ptr(),
+                content.masks.len(),
+                content.values.as_ptr(),
+                content.values.len(),
+                content.offsets.as_ptr(),
+                content.offsets.len(),
+                out.as_mut_ptr(),
+                out.len(),
+                lengths.as_mut_ptr(),
+            )
+        };
+        answer(number)?;
+        Ok(lengths[0] as usize)
+    }};
+}
+
 pub fn encode(kind: Kind, shape: &[u64], content: Content<'_>, out: &mut [u8]) -> Answer<usize> {
-    let mut lengths = [0; 1];
-    let number = unsafe {
-        dpx_encode(
-            kind.into(),
-            shape.as_ptr(),
-            shape.len(),
-            content.masks.as_ptr(),
-            content.masks.len(),
-            content.values.as_ptr(),
-            content.values.len(),
-            content.offsets.as_ptr(),
-            content.offsets.len(),
-            out.as_mut_ptr(),
-            out.len(),
-            lengths.as_mut_ptr(),
-        )
-    };
-    answer(number)?;
-    Ok(lengths[0] as usize)
+    write_array!(dpx_encode, kind, shape, content, out)
 }
 
 pub fn decode(kind: Kind, shape: &[u64], bytes: &[u8], out: &mut Lent<'_>) -> Answer<Room> {
@@ -244,6 +267,10 @@ pub fn decode_interleaved(cells: u64, bytes: &[u8], out: &mut Lent<'_>) -> Answe
     };
     answer(number)?;
     Ok(room(0, lengths[0], lengths[1]))
+}
+
+pub fn encode_interleaved(kind: Kind, shape: &[u64], content: Content<'_>, out: &mut [u8]) -> Answer<usize> {
+    write_array!(dpx_encode_interleaved, kind, shape, content, out)
 }
 
 pub fn extract(kind: Kind, shape: &[u64], subset: &[u64], content: Content<'_>, out: &mut Lent<'_>) -> Answer<Room> {

@@ -95,6 +95,18 @@ fn encode_and_decode() {
     }
 }
 
+#[test]
+fn interleaved() {
+    let table = table(Kind::ragged(0, Width::Four, Place::Start));
+    let stored = encode_interleaved(&table).unwrap();
+    let mut out = vec![FILL; stored.len() + 3];
+    assert_eq!(encode_interleaved_into(&table, &mut out), Ok(&stored[..]));
+    assert_eq!(out[stored.len()..], [FILL; 3]);
+    let mut out = vec![FILL; stored.len() - 1];
+    assert_eq!(encode_interleaved_into(&table, &mut out), Err(Refusal::Output));
+    assert!(out.iter().all(|byte| *byte == FILL));
+}
+
 /// Where no cell is null the room for the stored bytes is what they take.
 #[test]
 fn stored_room_is_exact() {

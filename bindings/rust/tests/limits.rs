@@ -52,6 +52,21 @@ fn byte_limit_of_encode() {
 }
 
 #[test]
+fn byte_limit_of_encode_interleaved() {
+    assert_eq!(encode_interleaved(&one(MOST)).as_ref(), Ok(&interleaved(&[MOST])));
+    assert_eq!(encode_interleaved(&one(MOST + 1)), Err(Refusal::Size));
+    // By the last offset, not by what is written.
+    let late = array(kind(), &[1], vec![], value(MOST + 1), vec![1, MOST as u64 + 1]);
+    assert_eq!(encode_interleaved(&late), Err(Refusal::Size));
+    assert_eq!(
+        encode_interleaved(&array(kind(), &[1], vec![], vec![], vec![0, MOST as u64 + 1])),
+        Err(Refusal::Content)
+    );
+    let many = array(kind(), &[65_536], vec![], vec![], vec![0; 65_537]);
+    assert_eq!(encode_interleaved(&many).as_ref(), Ok(&interleaved(&[0; 65_536])));
+}
+
+#[test]
 fn byte_limit_of_decode() {
     for place in [Place::Start, Place::End] {
         let kind = Kind::ragged(0, Width::Eight, place);

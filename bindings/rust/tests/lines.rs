@@ -93,6 +93,11 @@ fn interleaved() {
     assert_eq!(decode_interleaved(2, &[&stored[..], b"z"].concat()), Ok(read));
     assert_eq!(decode_interleaved(2, &stored[..11]), Err(Refusal::Short));
     assert_eq!(decode_interleaved(2, &bytes("02000000 05000000 4100000000")), Err(Refusal::PastEnd));
+
+    let table = array(ragged(0, Width::Four, Place::End), &[2], &[], b"A", &[0, 1, 1]);
+    assert_eq!(encode_interleaved(&table), Ok(stored));
+    let late = array(ragged(0, Width::Four, Place::Start), &[1], &[], b"AB", &[1, 2]);
+    assert_eq!(encode_interleaved(&late), Ok(bytes("01000000 01000000 42")));
 }
 
 #[test]

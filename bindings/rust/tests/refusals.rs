@@ -60,12 +60,17 @@ fn kind_comes_first() {
     ];
     for kind in bad {
         assert_eq!(encode(&array(kind, &[0], &[1], b"a", &[5])), Err(Refusal::Kind));
+        assert_eq!(encode_interleaved(&array(kind, &[0], &[1], b"a", &[5])), Err(Refusal::Kind));
         assert_eq!(decode(kind, &[0], &[]), Err(Refusal::Kind));
         assert_eq!(extract(&array(kind, &[0], &[], &[], &[]), &subset(&[])), Err(Refusal::Kind));
         assert_eq!(merge(kind, &[0], &[]), Err(Refusal::Kind));
         let chunk = array(kind, &[1], &[], b"a", &[]);
         assert_eq!(merge(kind, &[0], &[Chunk::new(&subset(&[1]), &chunk)]), Err(Refusal::Kind));
         assert_eq!(Array::from_cells(kind, &[0], &[]), Err(Refusal::Kind));
+    }
+    // The interleaved form is of ragged kinds of depth 0 alone.
+    for kind in [r4(1), r4(4), f1(0), f1(1)] {
+        assert_eq!(encode_interleaved(&array(kind, &[], &[], b"", &[])), Err(Refusal::Kind));
     }
     let mut bytes = [1; 65];
     assert_eq!(reverse_endianness(0, &mut bytes), Err(Refusal::Kind));
@@ -89,6 +94,7 @@ fn shape_comes_next() {
     ];
     for shape in bad {
         assert_eq!(encode(&array(f1(0), shape, &[1], &[], &[])), Err(Refusal::Shape));
+        assert_eq!(encode_interleaved(&array(r4(0), shape, &[1], &[], &[])), Err(Refusal::Shape));
         assert_eq!(decode(f1(0), shape, &[]), Err(Refusal::Shape));
         assert_eq!(extract(&array(r4(0), shape, &[], &[], &[]), &subset(&[9])), Err(Refusal::Shape));
         assert_eq!(merge(f1(0), shape, &[]), Err(Refusal::Shape));

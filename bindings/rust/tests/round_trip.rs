@@ -161,6 +161,22 @@ fn cells_make_the_rest_form() {
     }
 }
 
+/// In the interleaved form the cells come back, from offset 0.
+#[test]
+fn interleaved_cells_return() {
+    let mut draws = Draws(2024);
+    for _ in 0..2_000 {
+        let kind = Kind::ragged(0, Width::Eight, Place::End);
+        let shape = draws.shape();
+        let table = draws.array(kind, &shape);
+        let stored = encode_interleaved(&table).unwrap();
+        let (rest, cells) = (rest(&table), table.cell_count());
+        assert_eq!(stored.len(), 4 + 4 * cells + rest.values.len());
+        let read = decode_interleaved(cells as u64, &stored).unwrap();
+        assert_eq!((read.values, read.offsets), (rest.values, rest.offsets));
+    }
+}
+
 /// Small changes to anything: refused or not, never for the output's sake.
 #[test]
 fn outputs_are_never_short() {
@@ -211,6 +227,7 @@ fn outputs_are_never_short() {
             partial_decode(Width::Four, Place::Start, &shape, &subset, &stored).err(),
             partial_decode(Width::Eight, Place::End, &shape, &subset, &stored).err(),
             decode_interleaved(draws.below(4), &stored).err(),
+            encode_interleaved(&table).err(),
             subset_cells(&shape, &subset).err(),
         ];
         for refusal in answers.into_iter().flatten() {
