@@ -8,14 +8,14 @@ use Rattle.array.specs.Kind.{Masks}
 use Rattle.codec.specs.Mask.{MaskForm, maskForm}
 use Rattle.codec.specs.Frame.{countSet}
 use Rattle.codec.specs.Spread.{innermostPlane}
-use Rattle.stored.specs.Stored.{maskIn, storedMasks, planesBelow, MasksWithin}
+use Rattle.stored.specs.Stored.{maskIn, contentAt, storedMasks, planesBelow, MasksWithin}
 
 -- the planes of d + 1 levels of n cells, the first frame at the front of s, and the innermost of them
 abbrev pub planesIn : MaskForm → List ℕ → ℕ → ℕ → List ℕ
-planesIn mf s n d = maskIn mf s 0 n ++ planesBelow mf (maskIn mf s 0 n) d s (0 + (16 + mf .size n)) (countSet (maskIn mf s 0 n))
+planesIn mf s n d = maskIn mf s 0 n ++ planesBelow mf (maskIn mf s 0 n) d s (contentAt mf 0 n) (countSet (maskIn mf s 0 n))
 
 abbrev pub innermostIn : MaskForm → List ℕ → ℕ → ℕ → List ℕ
-innermostIn mf s n d = innermostPlane (maskIn mf s 0 n) (storedMasks mf d s (0 + (16 + mf .size n)) (countSet (maskIn mf s 0 n)))
+innermostIn mf s n d = innermostPlane (maskIn mf s 0 n) (storedMasks mf d s (contentAt mf 0 n) (countSet (maskIn mf s 0 n)))
 
 -- the plane of n cells at `from`, in which `cells` are set, and room for the one below it at `to`, whose stored mask is at `at`
 pub record PlaneWithin (x : Masks) (masks : List ℕ) (from to n : ℕ) (s : List ℕ) (at cells : ℕ) : Type 0 where
