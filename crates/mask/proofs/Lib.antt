@@ -1,2 +1,3 @@
 pub mod Table
 pub mod Said
+pub mod Packs

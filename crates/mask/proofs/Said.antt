@@ -4,20 +4,25 @@ use mathlib.Core.Path.{_≡_, refl, sym, ap, ap₂, _∙_}
 use Prim.Native.Nat.{ℕ, zero, suc, _+_, _-_, _*_, _/_, _%_, _^_, _<_, _≤_}
 use native.Mathlib.Nat.{div-add-mod'}
 use native.Mathlib.Omega.{arith}
+use native.Mathlib.Numerals.{add-one}
 use mathlib.Core.Bool.{Bool, true, false}
+use mathlib.Core.Logic.{_≢_}
 use mathlib.Core.List.{List, [], _∷_, _++_, map}
-use lib.ListN.{length, take, drop, getD, length-append, length-drop, drop-of-length-le, take-append-drop}
-use lib.Seq.{length-take-le, take-append-le, take-all, take-add, drop-drop, drop-cons}
+use lib.ListN.{length, take, drop, getD, length-take, length-drop, drop-of-length-le, take-append-drop}
+use lib.Seq.{length-take-le, take-append-le, take-suc, drop-cons, drop-drop, getD-drop, getD-take}
 use lib.Dec.{eqb}
+use Rattle.array.specs.Answer.{gives, refuses, unless, andThen}
 use Rattle.array.specs.Kind.{Masks, asBytes, asBits}
 use Rattle.array.specs.Lists.{joined, every}
-use Rattle.array.specs.Bytes.{digits}
+use Rattle.array.specs.Bytes.{digits, number}
+use Rattle.array.specs.Cells.{bitOf}
 use Rattle.array.proofs.Lists.{map-append, joined-append}
 use Rattle.array.proofs.Sums.{sumOf}
-use Rattle.codec.specs.Mask.{maskForm, packedMask, bytesFor, bitsOf}
-use Rattle.codec.specs.Frame.{setBits}
-use Rattle.codec.proofs.Masks.{length-bits, packed-test}
-use Rattle.mask.specs.Marks.{storedMask, saidMask, saidFrom, saidPlace}
+use Rattle.codec.specs.Mask.{MaskForm, maskForm, packedMask, bytesFor, bitsOf}
+use Rattle.codec.specs.Frame.{countSet, setBits}
+use Rattle.codec.proofs.Marks.{count-le}
+use Rattle.codec.proofs.Masks.{length-bits, bit-at, packed-test, count-packed}
+use Rattle.mask.specs.Marks.{storedMask, saidMask, saidFrom, saidPlace, countedIn}
 
 pub bits-append : (s t : List ℕ) → bitsOf (s ++ t) ≡ bitsOf s ++ bitsOf t
 bits-append s t = ap joined (map-append (digits 2 8) s t) ∙ joined-append (map (digits 2 8) s) (map (digits 2 8) t)
@@ -44,3 +49,91 @@ length-said x s at n h = ap length (said-is x s at n h) ∙ length-take-le n (sa
 pub place-within : (x : Masks) (j n : ℕ) → j < n → saidPlace x j < maskForm x .size n
 place-within asBytes j n h = h
 place-within asBits j n h = omega arith
+
+-- ---- a packed mask by its bytes
+
+pub bit-in-byte : (s : List ℕ) (at j : ℕ) → getD s (at + j / 8) 0 / 2 ^ (j % 8) % 2 ≡ getD (bitsOf (drop at s)) j 0
+bit-in-byte s at j = ap (λ (b : ℕ). b / 2 ^ (j % 8) % 2) (sym (getD-drop at s (j / 8) 0)) ∙ sym (bit-at (drop at s) j)
+
+module _ (s : List ℕ) (at n : ℕ) (h : at + bytesFor n ≤ length s) where
+  room : bytesFor n ≤ length (drop at s)
+  room = omega (arith, length-drop at s)
+
+  -- whole bytes have no unused bit
+  pub no-unused : n % 8 ≡ 0 → true ≡ packedMask .test (storedMask packedMask s at n) n
+  no-unused e =
+      let mask : List ℕ = storedMask packedMask s at n in
+      let l : length (bitsOf mask) ≤ n = omega (arith, length-bits mask, length-take-le (bytesFor n) (drop at s) room) in
+      sym (ap (every (eqb 0)) (drop-of-length-le (bitsOf mask) l))
+
+  -- else they are the highest of the last byte
+  pub unused-last : n % 8 ≢ 0 → getD s (at + n / 8) 0 < 256 → eqb (getD s (at + n / 8) 0 / 2 ^ (n % 8)) 0 ≡ packedMask .test (storedMask packedMask s at n) n
+  unused-last e b =
+      let k : ℕ = n / 8 in
+      let size : bytesFor n ≡ suc k = omega arith in
+      let last : getD (drop at s) k 0 ≡ getD s (at + k) 0 = getD-drop at s k 0 in
+      let mask : storedMask packedMask s at n ≡ take k (drop at s) ++ (getD s (at + k) 0 ∷ []) =
+      ap (λ (i : ℕ). take i (drop at s)) size ∙ take-suc (drop at s) k 0 (omega (arith, room)) ∙ ap (λ (x : ℕ). take k (drop at s) ++ (x ∷ [])) last in
+      let cells : n ≡ k * 8 + n % 8 = omega arith in
+      sym (ap₂ (λ (m : List ℕ) (i : ℕ). packedMask .test m i) mask cells
+      ∙ packed-test (take k (drop at s)) (getD s (at + k) 0) k (n % 8) (length-take-le k (drop at s) (omega (arith, room))) b)
+
+  -- the set bits of its bytes, from byte i on
+  abbrev bitsLeft : ℕ → ℕ
+  bitsLeft i = sumOf setBits (drop i (storedMask packedMask s at n))
+
+  pub bits-next : (i : ℕ) → i < bytesFor n → bitsLeft i ≡ setBits (getD s (at + i) 0) + bitsLeft (i + 1)
+  bits-next i l =
+      let mask : List ℕ = storedMask packedMask s at n in
+      let size : length mask ≡ bytesFor n = length-take-le (bytesFor n) (drop at s) room in
+      let byte : getD mask i 0 ≡ getD s (at + i) 0 = getD-take (bytesFor n) (drop at s) i 0 l ∙ getD-drop at s i 0 in
+      ap (sumOf setBits) (drop-cons mask i 0 (omega arith)) ∙ ap₂ (λ (b k : ℕ). setBits b + sumOf setBits (drop k mask)) byte (sym (add-one i))
+
+  pub bits-end : (i : ℕ) → bytesFor n ≤ i → bitsLeft i ≡ 0
+  bits-end i l =
+      let mask : List ℕ = storedMask packedMask s at n in
+      ap (sumOf setBits) (drop-of-length-le mask {i = i} (omega (arith, length-take-le (bytesFor n) (drop at s) room)))
+
+  -- of a mask that passes its test, no more than its cells
+  pub bits-few : packedMask .test (storedMask packedMask s at n) n ≡ true → bitsLeft 0 ≤ n
+  bits-few e =
+      let mask : List ℕ = storedMask packedMask s at n in
+      omega (arith, count-packed mask n e, count-le (take n (bitsOf mask)), length-take n (bitsOf mask))
+
+  pub count-left : packedMask .test (storedMask packedMask s at n) n ≡ true → bitsLeft 0 ≡ countSet (saidMask packedMask s at n)
+  count-left e = sym (count-packed (storedMask packedMask s at n) n e)
+
+-- what is said of the cells from j on begins with that of cell j
+pub said-next : (x : Masks) (s : List ℕ) (at n j : ℕ) → maskForm x .size n ≤ length (drop at s) → j < n
+    → drop j (saidMask (maskForm x) s at n) ≡ getD (saidFrom x (drop at s)) j 0 ∷ drop (j + 1) (saidMask (maskForm x) s at n)
+said-next x s at n j h l =
+    let said : List ℕ = saidMask (maskForm x) s at n in
+    drop-cons said j 0 (omega (arith, length-said x s at n h))
+    ∙ ap₂ (λ (b k : ℕ). b ∷ drop k said) (ap (λ (m : List ℕ). getD m j 0) (said-is x s at n h) ∙ getD-take n (saidFrom x (drop at s)) j 0 l) (sym (add-one j))
+
+-- ---- a byte of bits, from its highest on
+
+pub bit-one : (b : ℕ) → countSet (b ∷ []) ≡ bitOf b
+bit-one zero = refl
+bit-one (suc b) = refl
+
+number-head : (bs : List ℕ) → number 2 bs ≡ getD bs 0 0 + 2 * number 2 (drop 1 bs)
+number-head [] = refl
+number-head (b ∷ bs) = refl
+
+pub number-from : (bs : List ℕ) (k : ℕ) → number 2 (drop k bs) ≡ getD bs k 0 + 2 * number 2 (drop (k + 1) bs)
+number-from bs k =
+    let e : k + 0 ≡ k = omega arith in
+    number-head (drop k bs) ∙ ap₂ (λ (b r : ℕ). b + 2 * r) (getD-drop k bs 0 0 ∙ ap (λ (i : ℕ). getD bs i 0) e) (ap (number 2) (drop-drop 1 k bs))
+
+pub number-past : (bs : List ℕ) (k : ℕ) → length bs ≤ k → number 2 (drop k bs) ≡ 0
+number-past bs k h = ap (number 2) (drop-of-length-le bs h)
+
+-- ---- the check of a mask: it passes, or its refusal is given
+
+pub counted-passed : (mf : MaskForm) (mask : List ℕ) (n k : ℕ) → mf .test mask n ≡ true → k ≡ countSet (mf .said mask n) → gives k ≡ countedIn mf mask n
+counted-passed mf mask n k t e =
+    ap (λ (i : ℕ). gives i) e ∙ sym (ap (λ (b : Bool). andThen (unless b (mf .refusal) (gives (mf .said mask n))) (λ ms. gives (countSet ms))) t)
+
+pub counted-failed : (mf : MaskForm) (mask : List ℕ) (n : ℕ) → mf .test mask n ≡ false → refuses (mf .refusal) ≡ countedIn mf mask n
+counted-failed mf mask n t = sym (ap (λ (b : Bool). andThen (unless b (mf .refusal) (gives (mf .said mask n))) (λ ms. gives (countSet ms))) t)

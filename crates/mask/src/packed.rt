@@ -4,7 +4,7 @@ use crate::mark::one_if_set;
 ghost use mathlib.Core.Path.{_≡_};
 ghost use mathlib.Core.Bool.{true};
 ghost use mathlib.Core.List.{map};
-ghost use Prim.Native.Nat.{_+_, _/_, _≤_, _<_};
+ghost use Prim.Native.Nat.{_+_, _/_, _≤_, _<_, min};
 ghost use lib.ListN.{length, getD, take, drop};
 ghost use Rattle.array.specs.Buffers.{overAt};
 ghost use Rattle.array.specs.Bytes.{number};
@@ -67,18 +67,37 @@ pub fn unpack(planes: &mut [u8], to: usize, s: &[u8], at: usize, n: usize)
     }
 }
 
+// 1 where the mask byte k of the `count` at `at` is there and set, else 0.
+fn bit_or_zero(planes: &[u8], at: usize, count: usize, k: usize) -> u8
+    requires { ⌜ at + count ≤ length (now planes) ⌝ }
+    ensures { λ r. ⌜ (r ≡ getD (map bitOf (take count (drop at (now (planes .entry))))) k 0) × (r ≤ 1) ⌝ }
+{
+    if k < count {
+        one_if_set(planes[at + k])
+    } else {
+        0
+    }
+}
+
 // The byte whose bits say which of the `count` mask bytes at `at` are set, eight at most.
-pub fn packed_byte(planes: &[u8], at: usize, count: usize) -> u8
+fn packed_byte(planes: &[u8], at: usize, count: usize) -> u8
     requires { ⌜ (at + count ≤ length (now planes)) × (count ≤ 8) ⌝ }
     ensures { λ r. ⌜ r ≡ number 2 (map bitOf (take count (drop at (now (planes .entry))))) ⌝ }
 {
-    let mut b: u8 = 0;
-    let mut i = count;
-    while 0 < i {
-        i -= 1;
-        b = 2 * b + one_if_set(planes[at + i]);
-    }
-    b
+    let b7 = bit_or_zero(planes, at, count, 7);
+    let b6 = bit_or_zero(planes, at, count, 6) + 2 * b7;
+    let b5 = bit_or_zero(planes, at, count, 5) + 2 * b6;
+    let b4 = bit_or_zero(planes, at, count, 4) + 2 * b5;
+    let b3 = bit_or_zero(planes, at, count, 3) + 2 * b4;
+    let b2 = bit_or_zero(planes, at, count, 2) + 2 * b3;
+    let b1 = bit_or_zero(planes, at, count, 1) + 2 * b2;
+    bit_or_zero(planes, at, count, 0) + 2 * b1
+}
+
+fn eight_at_most(left: usize) -> usize
+    ensures { λ r. ⌜ r ≡ min 8 left ⌝ }
+{
+    if left < 8 { left } else { 8 }
 }
 
 // Writes the packed mask of the n cells of the plane at `at`.
@@ -89,8 +108,7 @@ pub fn pack(out: &mut [u8], to: usize, planes: &[u8], at: usize, n: usize)
     let size = bytes_for(n);
     let mut i = 0;
     while i < size {
-        let left = n - 8 * i;
-        let count = if left < 8 { left } else { 8 };
+        let count = eight_at_most(n - 8 * i);
         out[to + i] = packed_byte(planes, at + 8 * i, count);
         i += 1;
     }

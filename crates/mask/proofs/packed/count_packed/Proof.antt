@@ -1,59 +1,68 @@
+-- `mask::packed::count_packed` meets its contract. The invariant: what is counted and the set bits of what is left make the set bits of the mask.
+-- Assumes nothing.
+use mathlib.Core.Path.{_≡_, sym, ap, _∙_}
+use Prim.Native.Nat.{ℕ, _+_, _-_, _*_, _≤_, _<_}
+use native.Mathlib.Omega.{arith}
+use borrow.Author.Needs.{needs}
+use lib.ListN.{length, drop, take}
+use Rattle.array.proofs.Sums.{sumOf}
+use Rattle.codec.specs.Mask.{packedMask}
+use Rattle.codec.specs.Frame.{setBits}
+use Rattle.mask.specs.Marks.{storedMask}
+use Rattle.mask.proofs.Said.{bits-next, bits-few, bits-end, count-left}
 use Rattle.mask.proofs.packed.count_packed.Statement.{statement}
 use Rattle.mask.proofs.packed.count_packed.Tie as tie
-use Rattle.mask.proofs.packed.count_packed.Reads as reads
-use Rattle.mask.proofs.packed.count_packed.Lts as lts
-use Rattle.mask.proofs.bits.set_bits.Reads as set-bits-reads
-use Rattle.mask.proofs.packed.bytes_for.Reads as bytes-for-reads
 
 abbrev Inv-loop : tie.InvT-loop
-Inv-loop s at n size set₀ i₀ set i = ?
+Inv-loop s at n size set₀ i₀ set i =
+    (i ≤ size) × (set + sumOf setBits (drop i (storedMask packedMask s at n)) ≡ sumOf setBits (storedMask packedMask s at n))
 
 abbrev μ-loop : tie.MeasureT-loop
-μ-loop s at n size set₀ i₀ set i = ?
+μ-loop s at n size set₀ i₀ set i = size - i
 
--- src/packed.rt:48:9
 bytes-for-requires : tie.Need-bytes-for-requires Inv-loop μ-loop
-bytes-for-requires c κs = ?
+bytes-for-requires c κs = search needs
 
--- src/packed.rt:51:5
 loop-holds : tie.Need-loop-holds Inv-loop μ-loop
-loop-holds c = ?
+loop-holds c = omega arith
 
--- src/packed.rt:52:27
 add-set-bits : tie.Need-add-set-bits Inv-loop μ-loop
-add-set-bits c = ?
+add-set-bits c = omega (arith, c .before .before .bytes-for .ensures)
 
--- src/packed.rt:52:25
 shared-slice-read-set-bits : tie.Need-shared-slice-read-set-bits Inv-loop μ-loop
-shared-slice-read-set-bits c = ?
+shared-slice-read-set-bits c = omega (arith, c .before .before .before .bytes-for .ensures)
 
--- src/packed.rt:52:16
 set-bits-requires : tie.Need-set-bits-requires Inv-loop μ-loop
-set-bits-requires c κs = ?
+set-bits-requires c κs = search needs
 
--- src/packed.rt:52:16
 cast-set : tie.Need-cast-set Inv-loop μ-loop
-cast-set c = ?
+cast-set c = search needs
 
--- src/packed.rt:52:9
 add-set : tie.Need-add-set Inv-loop μ-loop
-add-set c = ?
+add-set c =
+    let a = c .before .before .before .before .before .before .args in
+    let i : ℕ = c .before .before .before .loop .i in
+    let pre = c .before .before .before .before .before .before .pre in
+    omega (arith, c .set-bits .ensures, bits-next (a .s .now) (a .at) (a .n) (pre .0) i (omega (arith, c .before .before .before .before .bytes-for .ensures)), bits-few (a .s .now) (a .at) (a .n) (pre .0) (pre .1))
 
--- src/packed.rt:53:9
 add-i : tie.Need-add-i Inv-loop μ-loop
-add-i c = ?
+add-i c = omega arith
 
--- src/packed.rt:51:5
 loop-less : tie.Need-loop-less Inv-loop μ-loop
-loop-less c = ?
+loop-less c = omega arith
 
--- src/packed.rt:51:5
 loop-again : tie.Need-loop-again Inv-loop μ-loop
-loop-again c = ?
+loop-again c =
+    let a = c .before .before .before .before .before .before .args in
+    let i : ℕ = c .before .before .before .loop .i in
+    let pre = c .before .before .before .before .before .before .pre in
+    omega (arith, c .set-bits .ensures, bits-next (a .s .now) (a .at) (a .n) (pre .0) i (omega (arith, c .before .before .before .before .bytes-for .ensures)))
 
--- src/packed.rt:44:1
 returns : tie.Need-returns Inv-loop μ-loop
-returns c = ?
+returns c =
+    let a = c .before .before .before .before .args in
+    let pre = c .before .before .before .before .pre in
+    omega (arith, count-left (a .s .now) (a .at) (a .n) (pre .0) (pre .1), bits-end (a .s .now) (a .at) (a .n) (pre .0) (c .before .loop .i) (omega (arith, c .before .before .bytes-for .ensures)))
 
 pub count-packed-spec : {M : Type 1} → statement M
 count-packed-spec =

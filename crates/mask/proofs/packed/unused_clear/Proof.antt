@@ -1,34 +1,31 @@
+-- `mask::packed::unused_clear` meets its contract: only the last byte can have unused bits (Said).
+-- Assumes nothing.
 use borrow.Author.Needs.{needs}
+use Rattle.mask.proofs.Said.{no-unused, unused-last}
 use Rattle.mask.proofs.packed.unused_clear.Statement.{statement}
 use Rattle.mask.proofs.packed.unused_clear.Tie as tie
-use Rattle.mask.proofs.packed.unused_clear.Reads as reads
-use Rattle.mask.proofs.packed.unused_clear.Lts as lts
+use Prim.Native.Nat.{_+_, _/_}
+use native.Mathlib.Omega.{arith}
 
--- src/packed.rt:38:9
 returns : tie.Need-returns
-returns c = ?
+returns c = let a = c .before .args in no-unused (a .s .now) (a .at) (a .n) (c .before .pre) (c .if1 .taken)
 
--- src/packed.rt:40:7
 add-result : tie.Need-add-result
 add-result c = search needs
 
--- src/packed.rt:40:5
 shared-slice-read-result : tie.Need-shared-slice-read-result
 shared-slice-read-result c = search needs
 
--- src/packed.rt:40:22
 cast-result : tie.Need-cast-result
 cast-result c = search needs
 
--- src/packed.rt:40:5
 shr-result : tie.Need-shr-result
 shr-result c = search needs
 
--- src/packed.rt:32:1
 returns-2 : tie.Need-returns-2
-returns-2 c = ?
+returns-2 c =
+    let a = c .before .before .args in
+    unused-last (a .s .now) (a .at) (a .n) (c .before .before .pre) (c .before .if1 .left) (omega (arith, c .shared-slice-known .given (a .at + a .n / 8)))
 
 pub unused-clear-spec : {M : Type 1} → statement M
-unused-clear-spec =
-    tie.close
-    (tie.spec returns add-result shared-slice-read-result cast-result shr-result returns-2)
+unused-clear-spec = tie.close (tie.spec returns add-result shared-slice-read-result cast-result shr-result returns-2)

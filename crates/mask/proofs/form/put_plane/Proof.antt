@@ -1,0 +1,60 @@
+-- `mask::form::put_plane` meets its contract, form by form.
+-- Assumes nothing.
+use mathlib.Core.Path.{_≡_, sym, ap, subst, _∙_}
+use Rattle.array.specs.declared.kind.MaskForm.{MaskForm}
+use mathlib.Core.List.{List}
+use Prim.Native.Nat.{ℕ, _+_, _-_, _≤_}
+use native.Mathlib.Omega.{arith}
+use lib.ListN.{length, take, drop}
+use Rattle.array.specs.Kind.{Masks}
+use Rattle.array.specs.Meaning.{masksOf}
+use Rattle.array.specs.Buffers.{overAt}
+use Rattle.codec.specs.Mask.{maskForm}
+use borrow.Author.Needs.{needs}
+use Rattle.mask.proofs.form.put_plane.Statement.{statement}
+use Rattle.mask.proofs.form.put_plane.Tie as tie
+
+room : (c : tie.Start) {f : MaskForm} → c .args .form ≡ f
+    → (c .args .to + maskForm (masksOf f) .size (c .args .n) ≤ length (c .args .out .now)) × (c .args .at + c .args .n ≤ length (c .args .planes .now))
+room c e = (subst (λ (f : MaskForm). c .args .to + maskForm (masksOf f) .size (c .args .n) ≤ length (c .args .out .now)) e (c .pre .0), c .pre .1)
+
+enum-told : tie.Need-enum-told
+enum-told c = search needs
+
+copy-many-requires : tie.Need-copy-many-requires
+copy-many-requires c κs = room (c .before .before .before .before .before) (c .before .enum-told .given .1)
+
+enum-told-2 : tie.Need-enum-told-2
+enum-told-2 c = search needs
+
+pack-requires : tie.Need-pack-requires
+pack-requires c κs = room (c .before .before .before .before .before) (c .before .enum-told2 .given .1)
+
+same-length : tie.Need-same-length
+same-length c = search needs
+
+returns : tie.Need-returns
+returns c =
+    let a = c .before .before .before .before .before .before .before .before .args in
+    c .before .before .copy-many .ensures ∙ sym (ap (λ (x : Masks). overAt (a .to) (maskForm x .put (take (a .n) (drop (a .at) (a .planes .now)))) (a .out .now)) (ap masksOf (c .before .before .before .before .enum-told .given .1)))
+
+same-length-2 : tie.Need-same-length-2
+same-length-2 c = search needs
+
+returns-2 : tie.Need-returns-2
+returns-2 c =
+    let a = c .before .before .before .before .before .before .before .before .args in
+    c .before .before .pack .ensures ∙ sym (ap (λ (x : Masks). overAt (a .to) (maskForm x .put (take (a .n) (drop (a .at) (a .planes .now)))) (a .out .now)) (ap masksOf (c .before .before .before .before .enum-told2 .given .1)))
+
+pub put-plane-spec : {M : Type 1} → statement M
+put-plane-spec =
+    tie.close
+    (tie.spec
+    enum-told
+    copy-many-requires
+    enum-told-2
+    pack-requires
+    same-length
+    returns
+    same-length-2
+    returns-2)
