@@ -40,8 +40,8 @@ module _ {x : Masks} {d : List ℕ} {n depth : ℕ} {s : List ℕ} (p : PlanesWi
   long = mask-long x s 0 n (first-mask .room)
 
   -- z is the mask's length, `out` has the first plane, and `set` counts it
-  module _ (z : ℕ) (ez : z ≡ maskForm x .size n) (out : List ℕ) (eo : out ≡ overAt 0 (saidMask (maskForm x) s 16 n) d)
-      (set : ℕ) (set-is : set ≡ countSet (saidMask (maskForm x) s 16 n)) where
+  module _ {z : ℕ} (ez : z ≡ maskForm x .size n) {out : List ℕ} (eo : out ≡ overAt 0 (saidMask (maskForm x) s 16 n) d)
+      {set : ℕ} (set-is : set ≡ countSet (saidMask (maskForm x) s 16 n)) where
     out-is : out ≡ over (maskIn (maskForm x) s 0 n) d
     out-is = eo
 

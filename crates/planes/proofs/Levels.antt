@@ -117,8 +117,8 @@ module _ {x : Masks} {d : List ℕ} {n to left : ℕ} {s : List ℕ} {at cells :
     levels-plane = record { apart = omega (arith, l .above); room = omega (arith, levels-fits); count = l .count; stored = omega (arith, levels-mask .room) }
 
     -- z is the mask's length, `out` has the next plane, and `set` counts its mask
-    module _ (z : ℕ) (ez : z ≡ maskForm x .size cells) (out : List ℕ) (eo : out ≡ overAt to (spread 0 (take n (drop (to - n) d)) (maskIn (maskForm x) s at cells)) d)
-        (set : ℕ) (set-is : set ≡ countSet (maskIn (maskForm x) s at cells)) where
+    module _ {z : ℕ} (ez : z ≡ maskForm x .size cells) {out : List ℕ} (eo : out ≡ overAt to (spread 0 (take n (drop (to - n) d)) (maskIn (maskForm x) s at cells)) d)
+        {set : ℕ} (set-is : set ≡ countSet (maskIn (maskForm x) s at cells)) where
       long : length (spread 0 (take n (drop (to - n) d)) (maskIn (maskForm x) s at cells)) ≡ n
       long = length-spread 0 (take n (drop (to - n) d)) (maskIn (maskForm x) s at cells) ∙ above-long
 

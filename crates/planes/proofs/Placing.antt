@@ -1,6 +1,6 @@
 -- The loop that spreads what a stored mask says over the plane before it: what is left to write, turn by turn.
 -- Assumes nothing.
-use mathlib.Core.Path.{_≡_, refl, sym, ap, _∙_}
+use mathlib.Core.Path.{_≡_, refl, sym, ap, _∙_, subst}
 use mathlib.Core.List.{List, [], _∷_, _++_, append-nil}
 use Prim.Native.Nat.{ℕ, suc, _+_, _-_, _≤_, _<_}
 use native.Mathlib.Omega.{arith}
@@ -33,6 +33,12 @@ pub record Placing (x : Masks) (d : List ℕ) (from to n : ℕ) (s : List ℕ) (
   pub count : j + countSet (drop i (planeAt from n d)) ≡ cells
   pub laid : Laying (spread 0 (planeAt from n d) (said x s at cells)) d to out i (spread 0 (drop i (planeAt from n d)) (drop j (said x s at cells)))
 
+-- what the stores of a turn rest on
+pub record Turn (from to n : ℕ) (out : List ℕ) (i : ℕ) : Type 0 where
+  pub inside : i < n
+  pub apart : from + n ≤ to
+  pub room : to + n ≤ length out
+
 module _ {x : Masks} {d : List ℕ} {from to n : ℕ} {s : List ℕ} {at cells : ℕ} (p : PlaneWithin x d from to n s at cells) where
   whole : length (planeAt from n d) ≡ n
   whole = plane-length from n d (omega (arith, p .apart, p .room))
@@ -59,6 +65,9 @@ module _ {x : Masks} {d : List ℕ} {from to n : ℕ} {s : List ℕ} {at cells :
   }
 
   -- where all cells are set the plane is the mask
+  pub placing-fits : cells ≡ n → (to + n ≤ length d) × (at + maskForm x .size n ≤ length s)
+  placing-fits f = (p .room, subst (λ (k : ℕ). at + maskForm x .size k ≤ length s) f (p .stored))
+
   pub placing-all : cells ≡ n → (out : List ℕ) → out ≡ overAt to (said x s at n) d → out ≡ overAt to (spread 0 (planeAt from n d) (said x s at cells)) d
   placing-all f out eo =
       eo ∙ ap (λ (m : List ℕ). overAt to m d)
@@ -84,6 +93,9 @@ module _ {x : Masks} {d : List ℕ} {from to n : ℕ} {s : List ℕ} {at cells :
     -- a mask byte is left, so some cell is
     pub placing-inside : i < n
     placing-inside = omega (arith, l .count, count-le (drop i (planeAt from n d)), length-drop i (planeAt from n d), whole (l .start))
+
+    pub placing-turn : Turn from to n out i
+    placing-turn = record { inside = placing-inside; apart = l .start .apart; room = omega (arith, l .start .room, placing-same) }
 
     module _ (m : Mark) (em : m ≡ markOf (getD out (from + i) 0)) where
       inside : i < length (planeAt from n d)
