@@ -1,7 +1,7 @@
 -- A frame is read as it was written: at any depth, over any mask form and any innermost form that are read as they were written.
 -- Assumes nothing.
 use mathlib.Core.Path.{_≡_, refl, sym, ap, ap₂, _∙_}
-use Prim.Native.Nat.{ℕ, zero, suc, _+_, _^_, _<_, _≤_}
+use Prim.Native.Nat.{ℕ, zero, suc, _+_, _%_, _^_, _<_, _≤_}
 use native.Mathlib.Nat.{le-refl}
 use native.Mathlib.Omega.{arith}
 use mathlib.Core.Bool.{true}
@@ -71,12 +71,15 @@ module _ (ms ct : List ℕ) where
 
 -- ---- masks
 
--- what is asked of a mask form: it takes at most a byte a cell, and is read as it was written, each mask byte as s makes it
+-- what is asked of a mask form: it takes at most a byte a cell, is written eight cells by eight, and is read as it was written, each
+-- mask byte as s makes it
 pub record MaskLaws (s : ℕ → ℕ) (mf : MaskForm) : Type 0 where
   pub null-stays : s 0 ≡ 0
   pub marks-stay : (m : ℕ) → markOf (s m) ≡ markOf m
   pub size-le : (n : ℕ) → mf .size n ≤ n
+  pub size-append : (m n : ℕ) → m % 8 ≡ 0 → mf .size (m + n) ≡ mf .size m + mf .size n
   pub length-put : (ms : List ℕ) → length (mf .put ms) ≡ mf .size (length ms)
+  pub put-append : (ms ns : List ℕ) → length ms % 8 ≡ 0 → mf .put (ms ++ ns) ≡ mf .put ms ++ mf .put ns
   pub passes : (ms : List ℕ) → mf .test (mf .put ms) (length ms) ≡ true
   pub says : (ms : List ℕ) → mf .said (mf .put ms) (length ms) ≡ map s ms
 

@@ -110,6 +110,18 @@ pack-next bs h =
         let f : length bs < 8 = leb-false 8 (length bs) e in
         drop-of-length-le (padded bs) {i = 8} (omega (arith, length-padded bs)) ∙ ap padded (sym (drop-of-length-le bs {i = 8} (omega arith)))
 
+-- what fills whole bytes is packed by itself
+pub pack-append : (k : ℕ) (bs cs : List ℕ) → length bs ≡ k * 8 → packBits (bs ++ cs) ≡ packBits bs ++ packBits cs
+pack-append zero [] cs e = refl
+pack-append zero (b ∷ bs) cs e = absurd (omega arith)
+pack-append (suc k) bs cs e =
+    let l : length (bs ++ cs) ≡ length bs + length cs = length-append bs cs in
+    let f : 8 ≤ length bs = omega arith in
+    pack-next (bs ++ cs) (omega arith)
+    ∙ ap₂ (λ (x r : List ℕ). number 2 x ∷ packBits r) (take-append-le 8 bs cs f) (drop-append-le 8 bs cs f)
+    ∙ ap (λ (r : List ℕ). number 2 (take 8 bs) ∷ r) (pack-append k (drop 8 bs) cs (length-drop 8 bs ∙ omega arith))
+    ∙ ap (λ (r : List ℕ). r ++ packBits cs) (sym (pack-next bs (omega arith)))
+
 -- ---- by cell, as code speaks of a packed mask: bit i mod 8 of byte i / 8, and set bits by bytes
 
 bit-in : (s : List ℕ) (j r : ℕ) → r < 8 → getD (bitsOf s) (j * 8 + r) 0 ≡ getD s j 0 / 2 ^ r % 2
@@ -165,12 +177,24 @@ count-packed s n e =
 -- ---- the laws
 
 pub mask-laws : (x : Masks) → MaskLaws (seen x) (maskForm x)
-mask-laws asBytes = record { null-stays = refl; marks-stay = λ m. refl; size-le = λ n. le-refl n; length-put = λ ms. refl; passes = λ ms. refl; says = λ ms. sym (map-id ms) }
+mask-laws asBytes = record {
+  null-stays = refl;
+  marks-stay = λ m. refl;
+  size-le = λ n. le-refl n;
+  size-append = λ m n e. refl;
+  length-put = λ ms. refl;
+  put-append = λ ms ns e. refl;
+  passes = λ ms. refl;
+  says = λ ms. sym (map-id ms);
+}
 mask-laws asBits = record {
   null-stays = refl;
   marks-stay = seen-stays asBits;
   size-le = λ n. omega arith;
+  size-append = λ m n e. omega arith;
   length-put = λ ms. length-packed (map bitOf ms) ∙ ap bytesFor (length-map ms bitOf);
+  put-append = λ ms ns e.
+      ap packBits (map-append bitOf ms ns) ∙ pack-append (length ms / 8) (map bitOf ms) (map bitOf ns) (length-map ms bitOf ∙ omega arith);
   passes = λ ms. ap (packedMask .test (packBits (map bitOf ms))) (sym (length-map ms bitOf)) ∙ packed-passes (map bitOf ms) (bits-of-marks ms);
   says = λ ms. ap (packedMask .said (packBits (map bitOf ms))) (sym (length-map ms bitOf)) ∙ packed-says (map bitOf ms) (bits-of-marks ms);
 }
