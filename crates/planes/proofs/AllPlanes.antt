@@ -21,8 +21,9 @@ use Rattle.codec.proofs.SpreadLaws.{length-spread}
 use Rattle.mask.specs.Marks.{saidMask}
 use Rattle.stored.specs.Stored.{maskIn, contentAt, storedMasks, cellsFrom, planesBelow, MaskPassed, MasksWithin, innermostCount}
 use Rattle.stored.proofs.Reading.{masks-from, leaves-from}
+use Rattle.stored.proofs.Walks.{mask-long}
 use Rattle.planes.specs.Within.{planesIn, innermostIn, LevelsWithin, PlanesWithin}
-use Rattle.planes.proofs.Levels.{times-first, below-length, within-now, within-next, mask-long}
+use Rattle.planes.proofs.Levels.{times-first, below-length, within-now, within-next}
 
 -- ---- the first plane, and the others behind it
 
@@ -37,7 +38,7 @@ module _ {x : Masks} {d : List ℕ} {n depth : ℕ} {s : List ℕ} (p : PlanesWi
   first-fits = omega (arith, p .room, times-first depth n deep)
 
   long : length (maskIn (maskForm x) s 0 n) ≡ n
-  long = mask-long x s 0 n (first-mask .room)
+  long = mask-long x first-mask
 
   -- z is the mask's length, `out` has the first plane, and `set` counts it
   module _ {z : ℕ} (ez : z ≡ maskForm x .size n) {out : List ℕ} (eo : out ≡ overAt 0 (saidMask (maskForm x) s 16 n) d)
@@ -114,7 +115,7 @@ count-are mf s n (suc d) f = ap (λ (e : ℕ). countSet (innermostIn mf s n e)) 
 
 module _ (x : Masks) (s : List ℕ) (n d : ℕ) (h1 : 1 ≤ n) (h4 : MasksWithin (maskForm x) d s 0 n) (f : d ≢ 0) where
   top-long : length (maskIn (maskForm x) s 0 n) ≡ n
-  top-long = mask-long x s 0 n (within-now (maskForm x) d s 0 n h4 f (λ e. absurd (omega arith)) .room)
+  top-long = mask-long x (within-now (maskForm x) d s 0 n h4 f (λ e. absurd (omega arith)))
 
   pub planes-long : length (planesIn (maskForm x) s n (d - 1)) ≡ d * n
   planes-long =

@@ -17,8 +17,8 @@ use Rattle.codec.specs.Frame.{countSet}
 use Rattle.codec.specs.Spread.{spread}
 use Rattle.codec.proofs.Marks.{count-zeros}
 use Rattle.codec.proofs.SpreadLaws.{length-spread, spread-none, count-spread}
-use Rattle.mask.proofs.Said.{length-said}
 use Rattle.stored.specs.Stored.{maskIn, contentAt, storedMasks, planesBelow, MaskPassed, MasksWithin}
+use Rattle.stored.proofs.Walks.{mask-long}
 use Rattle.planes.specs.Within.{PlaneWithin, LevelsWithin}
 
 -- k rows of n, all but the first
@@ -77,10 +77,6 @@ module _ (mf : MaskForm) where
   within-next zero s at n h f = absurd (f refl)
   within-next (suc d) s at n h f = subst (λ (j : ℕ). MasksWithin mf j s (contentAt mf at n) (countSet (maskIn mf s at n))) (sym (sub-one (suc d))) (h .1)
 
--- the mask of a frame says a byte for each of its cells
-pub mask-long : (x : Masks) (s : List ℕ) (at n : ℕ) → contentAt (maskForm x) at n ≤ length s → length (maskIn (maskForm x) s at n) ≡ n
-mask-long x s at n h = length-said x s (at + 16) n (omega (arith, length-drop (at + 16) s))
-
 -- ---- a level: the plane above is the last that lies before `to` in d
 
 -- the plane that was laid, read again
@@ -134,7 +130,7 @@ module _ {x : Masks} {d : List ℕ} {n to left : ℕ} {s : List ℕ} {at cells :
       pub levels-next : LevelsWithin x out n (to + n) (left - 1) s (at + 16 + z) set
       levels-next =
           let e : contentAt (maskForm x) at cells ≡ at + 16 + z = omega arith in
-          let lm : length (maskIn (maskForm x) s at cells) ≡ countSet (take n (drop (to - n) d)) = mask-long x s at cells (levels-mask .room) ∙ l .count in
+          let lm : length (maskIn (maskForm x) s at cells) ≡ countSet (take n (drop (to - n) d)) = mask-long x levels-mask ∙ l .count in
           record {
             above = omega arith;
             room = omega (arith, same, levels-fits);
