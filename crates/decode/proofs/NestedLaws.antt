@@ -9,33 +9,33 @@ use native.Mathlib.Nat.{add-zero, zero-mul}
 use lib.ListN.{length, take, drop, length-drop}
 use lib.Seq.{length-take-le, drop-drop, take-add, take-take}
 use Rattle.array.specs.Answer.{Answer, gives, refuses, andThen}
-use Rattle.array.specs.Limits.{mostCells, mostDepth}
 use Rattle.array.specs.Lists.{joined, All}
-use Rattle.array.specs.Bytes.{unle}
-use Rattle.array.specs.Kind.{Place, ragged}
+use Rattle.array.specs.Kind.{Masks, Place, Form, ragged}
 use Rattle.array.specs.Offsets.{RisingFrom, lastFrom, slices, slicesFrom, ends, offsetsOf}
 use Rattle.array.specs.Cells.{Value, Cell}
-use Rattle.array.specs.Content.{RaggedContent, unmasked, layout}
+use Rattle.array.specs.Content.{Content, RaggedContent, unmasked, layout}
 use Rattle.array.proofs.Offsets.{rising-le, length-ends, length-slicesFrom}
-use Rattle.codec.specs.Mask.{byteMask}
+use Rattle.codec.specs.Mask.{MaskForm, maskForm}
 use Rattle.codec.specs.Frame.{countSet}
 use Rattle.codec.specs.Spread.{spread}
 use Rattle.codec.specs.Ragged.{getRagged}
 use Rattle.codec.specs.Values.{getValues}
-use Rattle.stored.specs.Walk.{Innermost, valuesAt, noneSet, walked}
-use Rattle.stored.specs.Stored.{cellsFrom, answerBy, MasksWithin, innermostCount}
-use Rattle.stored.specs.Index.{offsetsIn, IndexWithin}
-use Rattle.array.specs.Outcome.{contentArray}
 use Rattle.codec.specs.Calls.{readIn}
 use Rattle.codec.proofs.SpreadLaws.{length-spread}
+use Rattle.stored.specs.declared.vlen.Index.{Index}
+use Rattle.stored.specs.Walk.{Innermost, valuesAt, noneSet, walked}
+use Rattle.stored.specs.Stored.{cellsFrom, answerBy, innermostCount}
+use Rattle.stored.specs.Index.{offsetsIn, raggedAt}
 use Rattle.stored.proofs.Reading.{read-walked}
-use Rattle.stored.proofs.Walks.{walk-none, none-deep, passed-count}
+use Rattle.stored.proofs.Walks.{WalkPassed, walk-values, walk-none, values-flat, none-deep, passed-count}
 use Rattle.stored.proofs.IndexLaws.{drop-take}
+use Rattle.stored.proofs.CheckedIndex.{IndexChecked}
 use Rattle.spread.specs.Ends.{endsBy}
-use Rattle.decode.specs.Reads.{nestedFrom, NestedWithin, raggedFrom}
 use Rattle.spread.proofs.CopyingOffsets.{length-offsets}
-use Rattle.planes.proofs.Levels.{some-of}
-use Rattle.planes.proofs.AllPlanes.{planesIn, innermostIn, masks-are, leaves-are, count-are, planes-long, innermost-long}
+use Rattle.planes.specs.Within.{planesIn, innermostIn}
+use Rattle.planes.proofs.Levels.{within-now}
+use Rattle.planes.proofs.AllPlanes.{masks-are, leaves-are, count-are, planes-long, innermost-long}
+use Rattle.decode.specs.Reads.{Limited, nestedFrom, raggedFrom, RaggedWithin}
 
 -- ---- values end to end below masks
 
@@ -77,157 +77,179 @@ joined-run a (b ∷ os) dat r =
     ∙ sym (ap (λ (k : ℕ). take k (drop a dat)) e ∙ take-add (b - a) (l - b) (drop a dat)
     ∙ ap (λ (t : List ℕ). take (b - a) (drop a dat) ++ take (l - b) t) (drop-drop (b - a) a dat ∙ ap (λ (k : ℕ). drop k dat) g))
 
--- ---- what is copied
+-- ---- what is copied below masks, by the index i
 
-module _ {d w : ℕ} {s : List ℕ} {n start from k first last : ℕ} (r : NestedWithin d w s n start from k first last) where
-  deep : d ≢ 0
-  deep e = absurd (omega (arith, r .deep))
+module _ {x : Masks} {w d : ℕ} {s : List ℕ} {n : ℕ} {i : Index} (r : RaggedWithin x w d s n i) (g : d ≢ 0) where
+  abbrev pub content : Content
+  content = nestedFrom (maskForm x) w d s n i
 
-  pub nested-first : first ≤ last
-  nested-first = omega (arith, rising-le first (offsetsIn w k (drop start s)) (r .rising), r .last-is)
+  -- the ends of the set cells, their bytes, and the values
+  abbrev ends-in : List ℕ
+  ends-in = offsetsIn w (i .cells) (drop (i .index + w) s)
 
-  pub nested-masks : nestedFrom d w s n start from k first last .masks ≡ planesIn s n (d - 1)
+  abbrev bytes : List ℕ
+  bytes = take (i .last) (drop (i .from) s)
+
+  abbrev stored : List Value
+  stored = slicesFrom (i .first) ends-in bytes
+
+  abbrev plane : List ℕ
+  plane = innermostIn (maskForm x) s n (d - 1)
+
+  pub nested-first : i .first ≤ i .last
+  nested-first = omega (arith, rising-le (i .first) ends-in (r .index .rising), r .index .last-is)
+
+  pub nested-above : All (λ o. i .first ≤ o) ends-in
+  nested-above = rising-above (i .first) (i .first) ends-in (omega arith) (r .index .rising)
+
+  pub nested-masks : content .masks ≡ planesIn (maskForm x) s n (d - 1)
   unfolding nestedFrom
-  nested-masks = masks-are [] s n d (slicesFrom first (offsetsIn w k (drop start s)) (take last (drop from s))) deep
+  nested-masks = masks-are (maskForm x) [] s n d stored g
 
-  pub nested-count : k ≡ countSet (innermostIn s n (d - 1))
-  nested-count = r .count ∙ count-are s n d deep
+  pub nested-count : i .cells ≡ countSet plane
+  nested-count = r .count ∙ count-are (maskForm x) s n d g
 
-  data-long : length (take last (drop from s)) ≡ last
-  data-long = length-take-le last (drop from s) (omega (arith, length-drop from s, r .room))
+  bytes-long : length bytes ≡ i .last
+  bytes-long = length-take-le (i .last) (drop (i .from) s) (omega (arith, length-drop (i .from) s, r .index .data-room))
 
-  pub nested-values : nestedFrom d w s n start from k first last .values ≡ take (last - first) (drop (from + first) s)
+  pub nested-values : content .values ≡ take (i .last - i .first) (drop (i .from + i .first) s)
   unfolding nestedFrom
   nested-values =
-      let os : List ℕ = offsetsIn w k (drop start s) in
-      let dat : List ℕ = take last (drop from s) in
-      let p : List ℕ = innermostIn s n (d - 1) in
-      let e : last ≡ first + (last - first) = omega (arith, nested-first) in
-      ap joined (leaves-are [] s n d (slicesFrom first os dat) deep)
-      ∙ joined-spread p (slicesFrom first os dat) (sym nested-count ∙ sym (length-slicesFrom first os dat ∙ length-offsets w k (drop start s)))
-      ∙ joined-run first os dat (r .rising)
-      ∙ ap (λ (l : ℕ). take (l - first) (drop first dat)) (sym (r .last-is))
-      ∙ ap (take (last - first)) (ap (λ (l : ℕ). drop first (take l (drop from s))) e ∙ drop-take first (last - first) (drop from s))
-      ∙ take-take (last - first) (last - first) (drop first (drop from s)) (omega arith)
-      ∙ ap (take (last - first)) (drop-drop first from s)
+      let f : ℕ = i .first in
+      let l : ℕ = i .last - i .first in
+      let e : i .last ≡ f + l = omega (arith, nested-first) in
+      ap joined (leaves-are (maskForm x) [] s n d stored g)
+      ∙ joined-spread plane stored (sym nested-count ∙ sym (length-slicesFrom f ends-in bytes ∙ length-offsets w (i .cells) (drop (i .index + w) s)))
+      ∙ joined-run f ends-in bytes (r .index .rising)
+      ∙ ap (λ (j : ℕ). take (j - f) (drop f bytes)) (sym (r .index .last-is))
+      ∙ ap (take l) (ap (λ (j : ℕ). drop f (take j (drop (i .from) s))) e ∙ drop-take f l (drop (i .from) s))
+      ∙ take-take l l (drop f (drop (i .from) s)) (omega arith)
+      ∙ ap (take l) (drop-drop f (i .from) s)
 
-  pub nested-offsets : nestedFrom d w s n start from k first last .offsets ≡ 0 ∷ endsBy first 0 (innermostIn s n (d - 1)) (offsetsIn w k (drop start s))
+  pub nested-offsets : content .offsets ≡ 0 ∷ endsBy (i .first) 0 plane ends-in
   unfolding nestedFrom
   nested-offsets =
-      let os : List ℕ = offsetsIn w k (drop start s) in
-      let dat : List ℕ = take last (drop from s) in
-      ap offsetsOf (leaves-are [] s n d (slicesFrom first os dat) deep)
-      ∙ ap (λ (t : List ℕ). 0 ∷ t) (ends-by first 0 first (innermostIn s n (d - 1)) os dat (omega arith) (omega arith) (r .rising) (omega (arith, r .last-is, data-long)))
+      ap offsetsOf (leaves-are (maskForm x) [] s n d stored g)
+      ∙ ap (λ (t : List ℕ). 0 ∷ t) (ends-by (i .first) 0 (i .first) plane ends-in bytes (omega arith) (omega arith) (r .index .rising) (omega (arith, r .index .last-is, bytes-long)))
 
-  pub nested-masks-long : length (nestedFrom d w s n start from k first last .masks) ≡ d * n
-  nested-masks-long = ap length nested-masks ∙ planes-long s n d (r .some) (r .masks) deep
+  pub nested-masks-long : length (content .masks) ≡ d * n
+  nested-masks-long = ap length nested-masks ∙ planes-long x s n d (r .limits .some) (r .masks) g
 
-  pub nested-values-long : length (nestedFrom d w s n start from k first last .values) ≡ last - first
-  nested-values-long = ap length nested-values ∙ length-take-le (last - first) (drop (from + first) s) (omega (arith, length-drop (from + first) s, r .room, nested-first))
+  pub nested-values-long : length (content .values) ≡ i .last - i .first
+  nested-values-long =
+      ap length nested-values
+      ∙ length-take-le (i .last - i .first) (drop (i .from + i .first) s) (omega (arith, length-drop (i .from + i .first) s, r .index .data-room, nested-first))
 
-  pub nested-offsets-long : length (nestedFrom d w s n start from k first last .offsets) ≡ n + 1
+  pub nested-offsets-long : length (content .offsets) ≡ n + 1
   unfolding nestedFrom
   nested-offsets-long =
-      let vs : List Value = spread [] (innermostIn s n (d - 1)) (slicesFrom first (offsetsIn w k (drop start s)) (take last (drop from s))) in
-      let lp : length vs ≡ n = length-spread [] (innermostIn s n (d - 1)) _ ∙ innermost-long s n d (r .some) (r .masks) deep in
-      ap (λ (v : List Value). length (offsetsOf v)) (leaves-are [] s n d (slicesFrom first (offsetsIn w k (drop start s)) (take last (drop from s))) deep) ∙ omega (arith, length-ends 0 vs, lp)
+      let vs : List Value = spread [] plane stored in
+      let lp : length vs ≡ n = length-spread [] plane stored ∙ innermost-long x s n d (r .limits .some) (r .masks) g in
+      ap (λ (v : List Value). length (offsetsOf v)) (leaves-are (maskForm x) [] s n d stored g) ∙ omega (arith, length-ends 0 vs, lp)
 
 -- ---- with masks or without
 
-module _ (d w : ℕ) (s : List ℕ) (n index from k first last : ℕ) where
-  pub given-flat : d ≡ 0 → raggedFrom d w s n index from k first last ≡ contentArray [] (take last (drop from s)) (offsetsIn w (suc k) (drop index s))
+module _ (mf : MaskForm) (w d : ℕ) (s : List ℕ) (n : ℕ) (i : Index) where
+  pub given-flat : d ≡ 0 → raggedFrom mf w d s n i ≡ unmasked (raggedAt w s i)
   unfolding raggedFrom
-  given-flat e = ap (λ (j : ℕ). raggedFrom j w s n index from k first last) e
+  given-flat e = ap (λ (j : ℕ). raggedFrom mf w j s n i) e
 
-  pub given-nested : d ≢ 0 → raggedFrom d w s n index from k first last ≡ nestedFrom d w s n (index + w) from k first last
+  pub given-nested : d ≢ 0 → raggedFrom mf w d s n i ≡ nestedFrom mf w d s n i
   unfolding raggedFrom
   given-nested f = go d f
     where
-      go : (j : ℕ) → j ≢ 0 → raggedFrom j w s n index from k first last ≡ nestedFrom j w s n (index + w) from k first last
+      go : (j : ℕ) → j ≢ 0 → raggedFrom mf w j s n i ≡ nestedFrom mf w j s n i
       go zero g = absurd (g refl)
       go (suc j) g = refl
 
-  pub flat-cells : d ≡ 0 → k ≡ innermostCount d s n → k ≡ n
-  unfolding innermostCount
-  flat-cells e h = h ∙ ap (λ (j : ℕ). innermostCount j s n) e
+pub flat-cells : {x : Masks} {w d : ℕ} {s : List ℕ} {n : ℕ} {i : Index} → RaggedWithin x w d s n i → d ≡ 0 → i .cells ≡ n
+unfolding innermostCount
+flat-cells {x} {w} {d} {s} {n} r e = r .count ∙ ap (λ (j : ℕ). innermostCount (maskForm x) j s n) e
 
-  pub nested-within : 1 ≤ n → n ≤ mostCells → d ≤ mostDepth → MasksWithin d s 0 n → k ≡ innermostCount d s n → IndexWithin w s k index from first last → d ≢ 0
-      → NestedWithin d w s n (index + w) from k first last
-  nested-within a b c f g i h = record {
-    some = a;
-    few = b;
-    shallow = c;
-    deep = some-of d h;
-    masks = f;
-    count = g;
-    ends-room = omega (arith, i .index-room);
-    rising = i .rising;
-    last-is = i .last-is;
-    room = i .data-room;
-  }
+-- ---- what the copying rests on, by the walk and the check
 
 -- where no cell is set there is nothing stored
-pub none-within : (d w : ℕ) (s : List ℕ) (n : ℕ) → 1 ≤ n → n ≤ mostCells → d ≤ mostDepth → walked d s 0 n ≡ gives noneSet → NestedWithin d w s n 0 0 0 0 0
-none-within d w s n a b c h =
-    let q = walk-none d s 0 n (omega arith) h in
-    let l : 1 ≤ d = none-deep d s 0 n h in
-    record {
-      some = a;
-      few = b;
-      shallow = c;
-      deep = l;
-      masks = q .within;
-      count = passed-count d s n 0 a q (λ e. absurd (omega arith));
-      ends-room = omega (arith, zero-mul w);
-      rising = tt;
-      last-is = refl;
-      room = omega arith;
-    }
+abbrev pub nothing : Index
+nothing = record { cells = 0; index = 0; from = 0; first = 0; last = 0 }
+
+module _ (x : Masks) {d : ℕ} (s : List ℕ) {n : ℕ} (l : Limited d n) (w : ℕ) where
+  pub none-within : w ≤ 8 → walked (maskForm x) d s 0 n ≡ gives noneSet → RaggedWithin x w d s n nothing
+  none-within h g =
+      let q = walk-none x d s 0 n (omega arith) g in
+      let deep : 1 ≤ d = none-deep (maskForm x) d s 0 n g in
+      let mask = within-now (maskForm x) d s 0 n (q .within) (λ e. absurd (omega arith)) (λ e. absurd (omega (arith, l .some))) in
+      record {
+        limits = l;
+        masks = q .within;
+        count = passed-count (l .some) q (λ e. absurd (omega arith));
+        index = record { index-room = omega (arith, zero-mul w, mask .room); data-room = omega arith; rising = tt; last-is = refl };
+      }
+
+  pub some-within : (p : Place) (a k : ℕ) (i : Index) → walked (maskForm x) d s 0 n ≡ gives (valuesAt a k) → IndexChecked w p s a k i → RaggedWithin x w d s n i
+  some-within p a k i g c = record {
+    limits = l;
+    masks = walk-values x d s 0 n a k (omega arith) g .0 .within;
+    count = c .cells-are ∙ passed-count (l .some) (walk-values x d s 0 n a k (omega arith) g .0) (values-flat (maskForm x) d s 0 n a k g);
+    index = c .within;
+  }
 
 -- ---- the reader, by the walk and the check
 
-module _ (w : ℕ) (p : Place) (s : List ℕ) (n : ℕ) where
-  reads : (d : ℕ) (x : Answer Innermost) → walked (suc d) s 0 n ≡ x
-      → readIn byteMask (ragged w p) (suc d) n s ≡ andThen (andThen x (answerBy [] (getValues (ragged w p)) (suc d) s 0 n)) (λ cs. gives (layout (ragged w p) (suc d) cs))
-  unfolding readIn
-  reads d x e =
-      ap (λ (a : Answer (List (Cell (suc d)))). andThen a (λ cs. gives (layout (ragged w p) (suc d) cs)))
-      (read-walked [] (getValues (ragged w p)) (suc d) s 0 n ∙ ap (λ (y : Answer Innermost). andThen y (answerBy [] (getValues (ragged w p)) (suc d) s 0 n)) e)
+module _ (mf : MaskForm) (w : ℕ) (p : Place) (s : List ℕ) (n : ℕ) where
+  abbrev form : Form
+  form = ragged w p
 
-  flat-at : (a k : ℕ) → walked zero s 0 n ≡ gives (valuesAt a k) → (0 ≡ a) × (n ≡ k)
+  abbrev laidOut : (d : ℕ) → Answer (List (Cell d)) → Answer Content
+  laidOut d a = andThen a (λ cs. gives (layout form d cs))
+
+  -- the cells of the ragged values y
+  abbrev given : (d : ℕ) → Answer RaggedContent → Answer Content
+  given d y = laidOut d (andThen (andThen y (λ c. gives (slices (c .offsets) (c .values)))) (λ vs. gives (cellsFrom mf [] d s 0 n vs)))
+
+  reads : (d : ℕ) (y : Answer Innermost) → walked mf (suc d) s 0 n ≡ y → readIn mf form (suc d) n s ≡ laidOut (suc d) (andThen y (answerBy mf [] (getValues form) (suc d) s 0 n))
+  unfolding readIn
+  reads d y e =
+      ap (laidOut (suc d))
+      (read-walked mf [] (getValues form) (suc d) s 0 n ∙ ap (λ (z : Answer Innermost). andThen z (answerBy mf [] (getValues form) (suc d) s 0 n)) e)
+
+  flat-at : (a k : ℕ) → walked mf zero s 0 n ≡ gives (valuesAt a k) → (0 ≡ a) × (n ≡ k)
   unfolding walked
   flat-at a k h = (cc, cc)
 
-  flat-never : (x : Answer Innermost) → walked zero s 0 n ≡ x → ((a k : ℕ) → x ≡ gives (valuesAt a k) → ⊥) → ⊥
+  flat-never : (y : Answer Innermost) → walked mf zero s 0 n ≡ y → ((a k : ℕ) → y ≡ gives (valuesAt a k) → ⊥) → ⊥
   unfolding walked
-  flat-never x h f = f 0 n (sym h)
+  flat-never y h f = f 0 n (sym h)
 
-  pub ragged-refused : (d e : ℕ) → walked d s 0 n ≡ refuses e → readIn byteMask (ragged w p) d n s ≡ refuses e
+  pub ragged-refused : (d e : ℕ) → walked mf d s 0 n ≡ refuses e → readIn mf form d n s ≡ refuses e
   ragged-refused zero e h = absurd (flat-never (refuses e) h (λ a k q. let z : _≡_ {A = ℕ} 0 1 = cc in omega arith))
   ragged-refused (suc d) e h = reads d (refuses e) h
 
-  pub ragged-none-set : (d : ℕ) → walked d s 0 n ≡ gives noneSet → readIn byteMask (ragged w p) d n s ≡ gives (nestedFrom d w s n 0 0 0 0 0)
+  pub ragged-none-set : (d : ℕ) → walked mf d s 0 n ≡ gives noneSet → readIn mf form d n s ≡ gives (nestedFrom mf w d s n nothing)
   unfolding nestedFrom
   ragged-none-set zero h = absurd (flat-never (gives noneSet) h (λ a k q. let z : _≡_ {A = ℕ} 0 1 = cc in omega arith))
   ragged-none-set (suc d) h = reads d (gives noneSet) h
 
-  pub ragged-wrong : (d a k e : ℕ) → walked d s 0 n ≡ gives (valuesAt a k) → getRagged w p (drop a s) k ≡ refuses e → readIn byteMask (ragged w p) d n s ≡ refuses e
-  unfolding readIn getValues
-  ragged-wrong zero a k e h g =
+  -- the reader of the values that the walk found
+  flat-read : (a k : ℕ) (y : Answer RaggedContent) → walked mf zero s 0 n ≡ gives (valuesAt a k) → getRagged w p (drop a s) k ≡ y
+      → readIn mf form zero n s ≡ andThen y (λ c. gives (unmasked c))
+  unfolding readIn
+  flat-read a k y h g =
       let q = flat-at a k h in
-      ap (λ (x : Answer RaggedContent). andThen x (λ y. gives (unmasked y))) (ap₂ (λ (i j : ℕ). getRagged w p (drop i s) j) (q .0) (q .1) ∙ g)
-  ragged-wrong (suc d) a k e h g =
-      reads d (gives (valuesAt a k)) h
-      ∙ ap (λ (x : Answer RaggedContent). andThen (andThen (andThen x (λ y. gives (slices (y .offsets) (y .values)))) (λ vs. gives (cellsFrom [] (suc d) s 0 n vs))) (λ cs. gives (layout (ragged w p) (suc d) cs))) g
+      ap (λ (z : Answer RaggedContent). andThen z (λ c. gives (unmasked c))) (ap₂ (λ (i j : ℕ). getRagged w p (drop i s) j) (q .0) (q .1) ∙ g)
 
-  pub ragged-given : (d a k f l index from : ℕ) → walked d s 0 n ≡ gives (valuesAt a k) → f ≡ unle (take w (drop index s))
-      → getRagged w p (drop a s) k ≡ gives (record { values = take l (drop from s); offsets = offsetsIn w (suc k) (drop index s) })
-      → readIn byteMask (ragged w p) d n s ≡ gives (raggedFrom d w s n index from k f l)
-  unfolding readIn getValues raggedFrom nestedFrom
-  ragged-given zero a k f l index from h ef g =
-      let q = flat-at a k h in
-      ap (λ (x : Answer RaggedContent). andThen x (λ y. gives (unmasked y))) (ap₂ (λ (i j : ℕ). getRagged w p (drop i s) j) (q .0) (q .1) ∙ g)
-  ragged-given (suc d) a k f l index from h ef g =
-      reads d (gives (valuesAt a k)) h
-      ∙ ap (λ (x : Answer RaggedContent). andThen (andThen (andThen x (λ y. gives (slices (y .offsets) (y .values)))) (λ vs. gives (cellsFrom [] (suc d) s 0 n vs))) (λ cs. gives (layout (ragged w p) (suc d) cs))) g
-      ∙ ap₂ (λ (x : ℕ) (y : List ℕ). gives (layout (ragged w p) (suc d) (cellsFrom [] (suc d) s 0 n (slicesFrom x (offsetsIn w k y) (take l (drop from s)))))) (sym ef) (drop-drop w index s)
+  deep-read : (d a k : ℕ) (y : Answer RaggedContent) → walked mf (suc d) s 0 n ≡ gives (valuesAt a k) → getRagged w p (drop a s) k ≡ y
+      → readIn mf form (suc d) n s ≡ given (suc d) y
+  unfolding getValues
+  deep-read d a k y h g = reads d (gives (valuesAt a k)) h ∙ ap (given (suc d)) g
+
+  pub ragged-wrong : (d a k e : ℕ) → walked mf d s 0 n ≡ gives (valuesAt a k) → getRagged w p (drop a s) k ≡ refuses e → readIn mf form d n s ≡ refuses e
+  ragged-wrong zero a k e h g = flat-read a k (refuses e) h g
+  ragged-wrong (suc d) a k e h g = deep-read d a k (refuses e) h g
+
+  pub ragged-given : (d a k : ℕ) (i : Index) → walked mf d s 0 n ≡ gives (valuesAt a k) → IndexChecked w p s a k i → readIn mf form d n s ≡ gives (raggedFrom mf w d s n i)
+  unfolding raggedFrom nestedFrom
+  ragged-given zero a k i h c = flat-read a k (gives (raggedAt w s i)) h (c .gave)
+  ragged-given (suc d) a k i h c =
+      deep-read d a k (gives (raggedAt w s i)) h (c .gave)
+      ∙ ap₂ (λ (f : ℕ) (y : List ℕ). laidOut (suc d) (gives (cellsFrom mf [] (suc d) s 0 n (slicesFrom f (offsetsIn w (i .cells) y) (take (i .last) (drop (i .from) s))))))
+      (sym (c .first-is)) (drop-drop w (i .index) s)

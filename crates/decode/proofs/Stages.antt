@@ -15,7 +15,7 @@ use Rattle.array.specs.Shape.{volume, shapeTest}
 use Rattle.valid.specs.ShapeCells.{shapeAnswer}
 use Rattle.array.specs.Buffers.{contentOutcome}
 use Rattle.array.proofs.Rules.{shape-ok}
-use Rattle.codec.specs.Mask.{byteMask}
+use Rattle.codec.specs.Mask.{maskForm}
 use Rattle.codec.specs.Calls.{readIn, decodeAnswer, decoded}
 use Rattle.array.specs.Outcome.{contentArray, outcomeArray}
 use Rattle.decode.specs.Outcomes.{ifEnough, readOutcome}
@@ -62,8 +62,8 @@ module _ (k : Kind) (shape s m v o : List ℕ) where
     unfolding decoded decodeAnswer
     by-shape f = rw (e, f)
 
-    pub by-reading : (n : ℕ) → ShapeCounted shape n → (f : Form) → k .form ≡ f → readOutcome (contentArray m v o) (readIn byteMask f (k .depth) n s) ≡ decoded k shape s (contentArray m v o)
+    pub by-reading : (n : ℕ) → ShapeCounted shape n → (f : Form) → k .form ≡ f → readOutcome (contentArray m v o) (readIn (maskForm (k .masks)) f (k .depth) n s) ≡ decoded k shape s (contentArray m v o)
     unfolding decoded decodeAnswer
     by-reading n c f ef =
-        ap₂ (λ (g : Form) (j : ℕ). readOutcome (contentArray m v o) (readIn byteMask g (k .depth) j s)) (sym ef) (c .is)
-        ∙ ap₂ (λ (x y : Bool). contentOutcome (unless x 1 (unless y 2 (andThen (readIn byteMask (k .form) (k .depth) (volume shape) s) (ifEnough (contentArray m v o))))) (contentArray m v o)) (sym e) (sym (c .passes))
+        ap₂ (λ (g : Form) (j : ℕ). readOutcome (contentArray m v o) (readIn (maskForm (k .masks)) g (k .depth) j s)) (sym ef) (c .is)
+        ∙ ap₂ (λ (x y : Bool). contentOutcome (unless x 1 (unless y 2 (andThen (readIn (maskForm (k .masks)) (k .form) (k .depth) (volume shape) s) (ifEnough (contentArray m v o))))) (contentArray m v o)) (sym e) (sym (c .passes))

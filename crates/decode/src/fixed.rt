@@ -40,9 +40,9 @@ pub fn write_fixed(
     values: &mut [u8],
 ) -> WrittenArray
     requires { ⌜ FixedWithin (masksOf (kind .masks)) size (kind .depth) (now s) n found ⌝ }
-    ensures { λ r. ⌜ (offsets : List ℕ) → outcomeArray r (now (masks .exit)) (now (values .exit)) offsets
+    ensures { λ r. ⌜ ((offsets : List ℕ) → outcomeArray r (now (masks .exit)) (now (values .exit)) offsets
         ≡ readOutcome (contentArray (now (masks .entry)) (now (values .entry)) offsets)
-        (gives (fixedFrom (maskForm (masksOf (kind .masks))) size (orderOf order) (kind .depth) (now (s .entry)) n found)) ⌝ }
+        (gives (fixedFrom (maskForm (masksOf (kind .masks))) size (orderOf order) (kind .depth) (now (s .entry)) n found))) ⌝ }
 {
     let form = kind.masks;
     let depth = kind.depth as usize;
@@ -78,9 +78,9 @@ fn write_found(
 ) -> WrittenArray
     requires limits { ⌜ Limited (kind .depth) n × (size ≤ mostSize) ⌝ }
     requires walk { ⌜ walked (maskForm (masksOf (kind .masks))) (kind .depth) (now s) 0 n ≡ gives (valuesAt (found .at) (found .cells)) ⌝ }
-    ensures { λ r. ⌜ (offsets : List ℕ) → outcomeArray r (now (masks .exit)) (now (values .exit)) offsets
+    ensures { λ r. ⌜ ((offsets : List ℕ) → outcomeArray r (now (masks .exit)) (now (values .exit)) offsets
         ≡ readOutcome (contentArray (now (masks .entry)) (now (values .entry)) offsets)
-        (readIn (maskForm (masksOf (kind .masks))) (fixed size (orderOf order)) (kind .depth) n (now (s .entry))) ⌝ }
+        (readIn (maskForm (masksOf (kind .masks))) (fixed size (orderOf order)) (kind .depth) n (now (s .entry)))) ⌝ }
 {
     if s.len() - found.at != found.cells * size {
         return WrittenArray::Refused(refusal::LENGTH);
@@ -99,9 +99,9 @@ pub fn decode_fixed(
     values: &mut [u8],
 ) -> WrittenArray
     requires { ⌜ Limited (kind .depth) n × (size ≤ mostSize) ⌝ }
-    ensures { λ r. ⌜ (offsets : List ℕ) → outcomeArray r (now (masks .exit)) (now (values .exit)) offsets
+    ensures { λ r. ⌜ ((offsets : List ℕ) → outcomeArray r (now (masks .exit)) (now (values .exit)) offsets
         ≡ readOutcome (contentArray (now (masks .entry)) (now (values .entry)) offsets)
-        (readIn (maskForm (masksOf (kind .masks))) (fixed size (orderOf order)) (kind .depth) n (now (s .entry))) ⌝ }
+        (readIn (maskForm (masksOf (kind .masks))) (fixed size (orderOf order)) (kind .depth) n (now (s .entry)))) ⌝ }
 {
     let form = kind.masks;
     let depth = kind.depth as usize;

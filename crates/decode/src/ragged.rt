@@ -38,8 +38,8 @@ pub fn write_flat(
     offsets: &mut [u64],
 ) -> WrittenArray
     requires { ⌜ (found .cells ≤ mostCells) × IndexWithin (widthOf width) (now s) found ⌝ }
-    ensures { λ r. ⌜ (masks : List ℕ) → outcomeArray r masks (now (values .exit)) (now (offsets .exit))
-        ≡ readOutcome (contentArray masks (now (values .entry)) (now (offsets .entry))) (gives (unmasked (raggedAt (widthOf width) (now (s .entry)) found))) ⌝ }
+    ensures { λ r. ⌜ ((masks : List ℕ) → outcomeArray r masks (now (values .exit)) (now (offsets .exit))
+        ≡ readOutcome (contentArray masks (now (values .entry)) (now (offsets .entry))) (gives (unmasked (raggedAt (widthOf width) (now (s .entry)) found)))) ⌝ }
 {
     let n = found.cells;
     let index = found.index;

@@ -1,100 +1,84 @@
--- `decode` meets its contract: the stages in document 01's order (Stages).
--- Assumes nothing.
-use mathlib.Core.Path.{_≡_, sym, ap, _∙_, subst}
-use mathlib.Core.Bool.{true}
-use borrow.Author.Tests.{not-true, not-false}
 use borrow.Author.Needs.{needs}
-use Rattle.array.specs.Kind.{fixed, ragged, FormOk, KindOk, kindTest}
-use Rattle.array.specs.Meaning.{kindOf, formOf, orderOf, widthOf, placeOf}
-use Rattle.valid.specs.ShapeCells.{toldCells}
-use Rattle.array.proofs.Rules.{kind-ok}
-use Rattle.decode.proofs.Stages.{ShapeCounted, shape-counted, shape-refused, by-kind, by-shape, by-reading}
 use Rattle.decode.proofs.decode.Statement.{statement}
 use Rattle.decode.proofs.decode.Tie as tie
+use Rattle.decode.proofs.decode.Reads as reads
+use Rattle.decode.proofs.decode.Lts as lts
+use Rattle.decode.proofs.fixed.decode_fixed.Reads as decode-fixed-reads
+use Rattle.decode.proofs.ragged.decode_ragged.Reads as decode-ragged-reads
+use Rattle.valid.proofs.kind.check_kind.Reads as check-kind-reads
+use Rattle.valid.proofs.shape.shape_cells.Reads as shape-cells-reads
 
-kind-is : (c : tie.Else1) → kindTest (kindOf (c .before .before .before .before .before .before .before .args .kind)) ≡ true
-kind-is c =
-    let check-kind = c .before .check-kind in
-    sym (check-kind .ensures) ∙ not-false (check-kind .result) (c .if1 .left)
-
-counted : (c : tie.After-known-told) → ShapeCounted (c .before .before .before .before .before .before .before .before .before .before .before .args .shape .now) (c .before .n .given .0 .0)
-counted c = shape-counted (c .before .before .before .before .before .before .before .before .before .before .before .args .shape .now) (c .before .n .given .0 .0) (sym (c .before .before .before .shape-cells .ensures) ∙ ap toldCells (c .before .n .given .1))
-
+-- src/lib.rt:29:9
 check-kind-requires : tie.Need-check-kind-requires
 check-kind-requires c κs = search needs
 
+-- src/lib.rt:30:9
 returns : tie.Need-returns
-returns c =
-    let args = c .before .before .before .before .before .before .before .args in
-    let check-kind = c .before .check-kind in
-    by-kind (kindOf (args .kind)) (args .shape .now) (args .bytes .now) (args .masks .now) (args .values .now) (args .offsets .now) (sym (check-kind .ensures) ∙ not-true (check-kind .result) (c .if1 .taken))
+returns c = ?
 
+-- src/lib.rt:32:27
 shape-cells-requires : tie.Need-shape-cells-requires
 shape-cells-requires c κs = search needs
 
+-- src/lib.rt:32:22
 enum-known-n : tie.Need-enum-known-n
 enum-known-n c = search needs
 
+-- src/lib.rt:33:9
 enum-told : tie.Need-enum-told
 enum-told c = search needs
 
+-- src/lib.rt:33:9
 returns-2 : tie.Need-returns-2
-returns-2 c =
-    let args = c .before .before .before .before .before .before .before .before .before .before .args in
-    by-shape (kindOf (args .kind)) (args .shape .now) (args .bytes .now) (args .masks .now) (args .values .now) (args .offsets .now) (kind-is (c .before .before .before)) (shape-refused (args .shape .now) _ (sym (c .before .before .shape-cells .ensures) ∙ ap toldCells (c .enum-told .given .1)))
+returns-2 c = ?
 
-cast-depth : tie.Need-cast-depth
-cast-depth c = search needs
-
+-- src/lib.rt:37:23
 enum-known-form : tie.Need-enum-known-form
 enum-known-form c = search needs
 
+-- src/lib.rt:38:39
 cast-decode-fixed : tie.Need-cast-decode-fixed
 cast-decode-fixed c = search needs
 
+-- src/lib.rt:38:13
 decode-fixed-requires : tie.Need-decode-fixed-requires
-decode-fixed-requires c κs =
-    let args = c .before .before .before .before .before .before .before .before .before .before .before .before .before .before .before .before .before .before .args in
-    let form = c .before .before .before .before .form in
-    let ok : KindOk (kindOf (args .kind)) = kind-ok (kindOf (args .kind)) (kind-is (c .before .before .before .before .before .before .before .before .before .before .before)) in
-    let sized : FormOk (fixed (form .given .0 .0) (orderOf (form .given .0 .1 .0))) = subst FormOk (ap formOf (form .given .1)) (ok .sound) in
-    ((counted (c .before .before .before .before .before .before .before)) .some, (counted (c .before .before .before .before .before .before .before)) .few, ok .shallow, sized .1)
+decode-fixed-requires c κs = ?
 
+-- src/lib.rt:40:24
 enum-known-form-2 : tie.Need-enum-known-form-2
 enum-known-form-2 c = search needs
 
+-- src/lib.rt:41:13
 decode-ragged-requires : tie.Need-decode-ragged-requires
-decode-ragged-requires c κs = ((counted (c .before .before .before .before .before .before .before)) .some, (counted (c .before .before .before .before .before .before .before)) .few, kind-ok (kindOf (c .before .before .before .before .before .before .before .before .before .before .before .before .before .before .before .before .before .before .args .kind)) (kind-is (c .before .before .before .before .before .before .before .before .before .before .before)) .shallow)
+decode-ragged-requires c κs = ?
 
+-- src/lib.rt:18:1
 same-length : tie.Need-same-length
 same-length c = search needs
 
+-- src/lib.rt:18:1
 same-length-2 : tie.Need-same-length-2
 same-length-2 c = search needs
 
+-- src/lib.rt:18:1
+returns-3 : tie.Need-returns-3
+returns-3 c = ?
+
+-- src/lib.rt:18:1
 same-length-3 : tie.Need-same-length-3
 same-length-3 c = search needs
 
-returns-3 : tie.Need-returns-3
-returns-3 c =
-    let args = c .before .before .before .before .before .before .before .before .before .before .before .before .before .before .before .before .before .before .before .before .before .before .before .before .before .args in
-    let form = c .before .before .before .before .before .before .before .before .before .before .before .form in
-    c .before .before .before .before .before .before .decode-fixed .ensures ∙ by-reading (kindOf (args .kind)) (args .shape .now) (args .bytes .now) (args .masks .now) (args .values .now) (args .offsets .now) (kind-is (c .before .before .before .before .before .before .before .before .before .before .before .before .before .before .before .before .before .before)) (c .before .before .before .before .before .before .before .before .before .before .before .before .before .before .before .n .given .0 .0) (counted (c .before .before .before .before .before .before .before .before .before .before .before .before .before .before)) (fixed (form .given .0 .0) (orderOf (form .given .0 .1 .0))) (ap formOf (form .given .1))
-
+-- src/lib.rt:18:1
 same-length-4 : tie.Need-same-length-4
 same-length-4 c = search needs
 
+-- src/lib.rt:18:1
 same-length-5 : tie.Need-same-length-5
 same-length-5 c = search needs
 
-same-length-6 : tie.Need-same-length-6
-same-length-6 c = search needs
-
+-- src/lib.rt:18:1
 returns-4 : tie.Need-returns-4
-returns-4 c =
-    let args = c .before .before .before .before .before .before .before .before .before .before .before .before .before .before .before .before .before .before .before .before .before .before .before .before .before .args in
-    let form2 = c .before .before .before .before .before .before .before .before .before .before .before .form2 in
-    c .before .before .before .before .before .before .decode-ragged .ensures ∙ by-reading (kindOf (args .kind)) (args .shape .now) (args .bytes .now) (args .masks .now) (args .values .now) (args .offsets .now) (kind-is (c .before .before .before .before .before .before .before .before .before .before .before .before .before .before .before .before .before .before)) (c .before .before .before .before .before .before .before .before .before .before .before .before .before .before .before .n .given .0 .0) (counted (c .before .before .before .before .before .before .before .before .before .before .before .before .before .before)) (ragged (widthOf (form2 .given .0 .0)) (placeOf (form2 .given .0 .1 .0))) (ap formOf (form2 .given .1))
+returns-4 c = ?
 
 pub decode-spec : {M : Type 1} → statement M
 decode-spec =
@@ -106,7 +90,6 @@ decode-spec =
     enum-known-n
     enum-told
     returns-2
-    cast-depth
     enum-known-form
     cast-decode-fixed
     decode-fixed-requires
@@ -114,9 +97,8 @@ decode-spec =
     decode-ragged-requires
     same-length
     same-length-2
-    same-length-3
     returns-3
+    same-length-3
     same-length-4
     same-length-5
-    same-length-6
     returns-4)
