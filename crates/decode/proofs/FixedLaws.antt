@@ -2,11 +2,11 @@
 -- Assumes nothing.
 use mathlib.Core.Path.{_≡_, refl, sym, ap, _∙_, subst}
 use mathlib.Core.Logic.{_≢_}
-use mathlib.Core.Bool.{Bool}
+use mathlib.Core.Bool.{Bool, true, false}
 use mathlib.Core.List.{List, [], map}
 use Prim.Native.Nat.{ℕ, zero, suc, _+_, _-_, _*_, _≤_, _<_}
 use native.Mathlib.Omega.{arith}
-use native.Mathlib.Nat.{zero-mul}
+use native.Mathlib.Nat.{zero-mul, le-trans}
 use lib.Dec.{eqb}
 use lib.ListN.{length, take, drop, replicate, length-drop}
 use borrow.Author.Tests.{eq-eqb, ne-eqb}
@@ -27,7 +27,7 @@ use Rattle.codec.specs.Calls.{readIn}
 use Rattle.stored.specs.Walk.{Innermost, valuesAt, noneSet, walked}
 use Rattle.stored.specs.Stored.{cellsFrom, answerBy, innermostCount}
 use Rattle.stored.proofs.Reading.{read-walked}
-use Rattle.stored.proofs.Walks.{walk-values, walk-none, values-flat, none-deep, passed-count}
+use Rattle.stored.proofs.Walks.{WalkPassed, walk-values, walk-none, values-flat, none-deep, passed-count}
 use Rattle.spread.specs.Values.{valuesOver, ValuesWithin}
 use Rattle.spread.proofs.ValueRuns.{cellsLeft, valuesLeft}
 use Rattle.spread.proofs.SpreadingValues.{cells-length, values-length}
@@ -36,8 +36,9 @@ use Rattle.planes.proofs.Levels.{times-first}
 use Rattle.planes.proofs.AllPlanes.{masks-are, leaves-are, leaves-flat, count-are, planes-long, innermost-read, innermost-long}
 use Rattle.decode.specs.declared.fixed.Found.{Found}
 use Rattle.decode.specs.Outcomes.{readOutcome}
-use Rattle.decode.specs.Reads.{Limited, fixedFrom, FixedWithin}
+use Rattle.decode.specs.Reads.{Limited, fixedFrom, FixedFound, FixedWithin}
 use Rattle.decode.proofs.Outcomes.{short-masks, short-values, all-written}
+use Rattle.decode.proofs.Small.{bytes-small}
 
 -- with no mask the walk is at the values at once
 pub walk-flat : (mf : MaskForm) (d : ℕ) (s : List ℕ) (n : ℕ) → d ≡ 0 → walked mf d s 0 n ≡ gives (valuesAt 0 n)
@@ -105,31 +106,31 @@ module _ (o : Order) {x : Masks} {size d : ℕ} {s : List ℕ} {n : ℕ} {f : Fo
   unfolding fixedFrom
   no-offsets = refl
 
--- ---- what is left behind: m, v and off are the outputs
+-- ---- what is left behind: m and v are the outputs, and the offsets stay
 
-module _ (o : Order) {x : Masks} {size d : ℕ} {s : List ℕ} {n : ℕ} {f : Found} (r : FixedWithin x size d s n f) (m v off : List ℕ) where
-  pub fixed-short-masks : length m < d * n → outcomeArray (Refused 6) m v off ≡ readOutcome (contentArray m v off) (gives (content o r))
-  fixed-short-masks h = short-masks (content o r) m v off (omega (arith, masks-long o r))
+module _ (o : Order) {x : Masks} {size d : ℕ} {s : List ℕ} {n : ℕ} {f : Found} (r : FixedWithin x size d s n f) (m v : List ℕ) where
+  pub fixed-short-masks : length m < d * n → (off : List ℕ) → outcomeArray (Refused 6) m v off ≡ readOutcome (contentArray m v off) (gives (content o r))
+  fixed-short-masks h off = short-masks (content o r) m v off (omega (arith, masks-long o r))
 
-  pub fixed-short-values : length v < n * size → outcomeArray (Refused 6) m v off ≡ readOutcome (contentArray m v off) (gives (content o r))
-  fixed-short-values h = short-values (content o r) m v off (omega (arith, values-long o r))
+  pub fixed-short-values : length v < n * size → (off : List ℕ) → outcomeArray (Refused 6) m v off ≡ readOutcome (contentArray m v off) (gives (content o r))
+  fixed-short-values h off = short-values (content o r) m v off (omega (arith, values-long o r))
 
   module _ (h : d * n ≤ length m) (i : n * size ≤ length v) where
-    written : (m′ v′ : List ℕ) → m′ ≡ over (content o r .masks) m → v′ ≡ over (content o r .values) v
+    written : (m′ v′ : List ℕ) → m′ ≡ over (content o r .masks) m → v′ ≡ over (content o r .values) v → (off : List ℕ)
         → outcomeArray (Lengths (d * n) (n * size) 0) m′ v′ off ≡ readOutcome (contentArray m v off) (gives (content o r))
-    written m′ v′ em ev =
+    written m′ v′ em ev off =
         let lm : length (content o r .masks) ≡ d * n = masks-long o r in
         let lv : length (content o r .values) ≡ n * size = values-long o r in
         let lo : length (content o r .offsets) ≡ 0 = ap length (no-offsets o r) in
         all-written (content o r) m v off (omega arith) (omega arith) (omega arith) (d * n) (n * size) 0 m′ v′ off (sym lm) (sym lv) (sym lo) em ev
         (ap (λ (p : List ℕ). over p off) (sym (no-offsets o r)))
 
-    pub flat-written : d ≡ 0 → (v′ : List ℕ) → v′ ≡ over (cellsLeft size o s (f .cells) (f .at)) v
+    pub flat-written : d ≡ 0 → {v′ : List ℕ} → v′ ≡ over (cellsLeft size o s (f .cells) (f .at)) v → (off : List ℕ)
         → outcomeArray (Lengths (d * n) (n * size) 0) m v′ off ≡ readOutcome (contentArray m v off) (gives (content o r))
-    flat-written e v′ ev = written m v′ (ap (λ (p : List ℕ). over p m) (sym (flat-masks o r e))) (ev ∙ ap (λ (p : List ℕ). over p v) (sym (flat-values o r e)))
+    flat-written e {v′} ev = written m v′ (ap (λ (p : List ℕ). over p m) (sym (flat-masks o r e))) (ev ∙ ap (λ (p : List ℕ). over p v) (sym (flat-values o r e)))
 
     -- m′ has the planes, and from the innermost of them the values are spread
-    module _ (g : d ≢ 0) (m′ : List ℕ) (em : m′ ≡ over (planesIn (maskForm x) s n (d - 1)) m) where
+    module _ (g : d ≢ 0) {m′ : List ℕ} (em : m′ ≡ over (planesIn (maskForm x) s n (d - 1)) m) where
       innermost : take n (drop (d * n - n) m′) ≡ plane o r
       innermost = innermost-read x s n d (r .limits .some) (r .masks) g m m′ em
 
@@ -141,36 +142,47 @@ module _ (o : Order) {x : Masks} {size d : ℕ} {s : List ℕ} {n : ℕ} {f : Fo
         stored = r .room;
       }
 
-      pub deep-written : (v′ : List ℕ) → v′ ≡ over (valuesOver size o (take n (drop (d * n - n) m′)) (drop (f .at) s)) v
+      pub deep-written : {v′ : List ℕ} → v′ ≡ over (valuesOver size o (take n (drop (d * n - n) m′)) (drop (f .at) s)) v → (off : List ℕ)
           → outcomeArray (Lengths (d * n) (n * size) 0) m′ v′ off ≡ readOutcome (contentArray m v off) (gives (content o r))
-      deep-written v′ ev =
+      deep-written {v′} ev =
           written m′ v′ (em ∙ ap (λ (p : List ℕ). over p m) (sym (fixed-masks o r g)))
           (ev ∙ ap (λ (p : List ℕ). over (valuesOver size o p (drop (f .at) s)) v) innermost ∙ ap (λ (p : List ℕ). over p v) (sym (fixed-values o r g)))
 
 -- ---- what the copying rests on, by the walk
 
-module _ (x : Masks) {d : ℕ} (s : List ℕ) {n : ℕ} (l : Limited d n) {size : ℕ} (h : size ≤ mostSize) where
-  pub some-within : (f : Found) → walked (maskForm x) d s 0 n ≡ gives (valuesAt (f .at) (f .cells)) → length s - f .at ≡ f .cells * size → FixedWithin x size d s n f
-  some-within f g e =
-      let w = walk-values x d s 0 n (f .at) (f .cells) (omega arith) g in
-      record {
-        limits = l;
-        small = h;
-        masks = w .0 .within;
-        count = passed-count (l .some) (w .0) (values-flat (maskForm x) d s 0 n (f .at) (f .cells) g);
-        room = omega (arith, w .1);
-      }
+module _ {x : Masks} {size d : ℕ} {s : List ℕ} {n : ℕ} {f : Found} (r : FixedFound x size d s n f) where
+  found-passed : WalkPassed x d s 0 n (f .cells) × (f .at ≤ length s)
+  found-passed = walk-values x d s 0 n (f .at) (f .cells) (omega arith) (r .walk)
 
-  pub none-within : walked (maskForm x) d s 0 n ≡ gives noneSet → FixedWithin x size d s n (record { at = 0; cells = 0 })
-  none-within g =
-      let w = walk-none x d s 0 n (omega arith) g in
-      record {
-        limits = l;
-        small = h;
-        masks = w .within;
-        count = passed-count (l .some) w (λ e. absurd (omega (arith, none-deep (maskForm x) d s 0 n g)));
-        room = omega (arith, zero-mul size);
-      }
+  pub found-inside : f .at ≤ length s
+  found-inside = found-passed .1
+
+  pub found-small : f .cells * size ≤ 65536 * 64
+  found-small = bytes-small (f .cells) size (le-trans (found-passed .0 .few) (r .limits .few)) (r .small)
+
+  pub some-within : length s - f .at ≡ f .cells * size → FixedWithin x size d s n f
+  some-within e = record {
+    limits = r .limits;
+    small = r .small;
+    masks = found-passed .0 .within;
+    count = passed-count (r .limits .some) (found-passed .0) (values-flat (maskForm x) d s 0 n (f .at) (f .cells) (r .walk));
+    room = omega (arith, found-passed .1);
+  }
+
+-- no cell is set
+abbrev pub nothing : Found
+nothing = record { at = 0; cells = 0 }
+
+pub none-within : (x : Masks) {size d : ℕ} (s : List ℕ) {n : ℕ} → Limited d n → size ≤ mostSize → walked (maskForm x) d s 0 n ≡ gives noneSet → FixedWithin x size d s n nothing
+none-within x {size} {d} s {n} l h g =
+    let w = walk-none x d s 0 n (omega arith) g in
+    record {
+      limits = l;
+      small = h;
+      masks = w .within;
+      count = passed-count (l .some) w (λ e. absurd (omega (arith, none-deep (maskForm x) d s 0 n g)));
+      room = omega (arith, zero-mul size);
+    }
 
 -- ---- the reader, by the walk
 
@@ -190,22 +202,29 @@ module _ (mf : MaskForm) (size : ℕ) (o : Order) (d : ℕ) (s : List ℕ) (n : 
   pub fixed-refused : (e : ℕ) → walked mf d s 0 n ≡ refuses e → readIn mf form d n s ≡ refuses e
   fixed-refused e h = reads (refuses e) h
 
-  pub fixed-none : walked mf d s 0 n ≡ gives noneSet → readIn mf form d n s ≡ gives (fixedFrom mf size o d s n (record { at = 0; cells = 0 }))
+  pub fixed-none : walked mf d s 0 n ≡ gives noneSet → readIn mf form d n s ≡ gives (fixedFrom mf size o d s n nothing)
   unfolding fixedFrom
   fixed-none h = reads (gives noneSet) h
 
-  module _ (f : Found) (h : walked mf d s 0 n ≡ gives (valuesAt (f .at) (f .cells))) where
-    -- by whether the stored bytes end with the values
-    by-length : (t : Bool) → eqb (length (drop (f .at) s)) (f .cells * size) ≡ t → readIn mf form d n s
-        ≡ laidOut (andThen (unless t 8 (gives (map (ordered o) (pieces size (f .cells) (drop (f .at) s))))) (λ vs. gives (cellsFrom mf (replicate size 0) d s 0 n vs)))
-    unfolding getValues
-    by-length t e =
-        reads (gives (valuesAt (f .at) (f .cells))) h
-        ∙ ap (λ (b : Bool). laidOut (andThen (unless b 8 (gives (map (ordered o) (pieces size (f .cells) (drop (f .at) s))))) (λ vs. gives (cellsFrom mf (replicate size 0) d s 0 n vs)))) e
+module _ (o : Order) {x : Masks} {size d : ℕ} {s : List ℕ} {n : ℕ} {f : Found} (r : FixedFound x size d s n f) where
+  -- by whether the stored bytes end with the values
+  by-length : (t : Bool) → eqb (length (drop (f .at) s)) (f .cells * size) ≡ t → readIn (maskForm x) (fixed size o) d n s
+      ≡ andThen (unless t 8 (gives (map (ordered o) (pieces size (f .cells) (drop (f .at) s)))))
+      (λ vs. gives (layout (fixed size o) d (cellsFrom (maskForm x) (replicate size 0) d s 0 n vs)))
+  unfolding getValues
+  by-length t e = reads (maskForm x) size o d s n (gives (valuesAt (f .at) (f .cells))) (r .walk) ∙ go t e
+    where
+      go : (t : Bool) → eqb (length (drop (f .at) s)) (f .cells * size) ≡ t → laidOut (maskForm x) size o d s n
+          (andThen (unless (eqb (length (drop (f .at) s)) (f .cells * size)) 8 (gives (map (ordered o) (pieces size (f .cells) (drop (f .at) s)))))
+          (λ vs. gives (cellsFrom (maskForm x) (replicate size 0) d s 0 n vs)))
+          ≡ andThen (unless t 8 (gives (map (ordered o) (pieces size (f .cells) (drop (f .at) s)))))
+          (λ vs. gives (layout (fixed size o) d (cellsFrom (maskForm x) (replicate size 0) d s 0 n vs)))
+      go true e = rw e
+      go false e = rw e
 
-    pub fixed-length : length s - f .at ≢ f .cells * size → readIn mf form d n s ≡ refuses 8
-    fixed-length g = by-length _ (ne-eqb (length (drop (f .at) s)) (f .cells * size) (λ e. g (sym (length-drop (f .at) s) ∙ e)))
+  pub fixed-length : length s - f .at ≢ f .cells * size → readIn (maskForm x) (fixed size o) d n s ≡ refuses 8
+  fixed-length g = by-length false (ne-eqb (length (drop (f .at) s)) (f .cells * size) (λ e. g (sym (length-drop (f .at) s) ∙ e)))
 
-    pub fixed-given : length s - f .at ≡ f .cells * size → readIn mf form d n s ≡ gives (fixedFrom mf size o d s n f)
-    unfolding fixedFrom
-    fixed-given g = by-length _ (eq-eqb (length (drop (f .at) s)) (f .cells * size) (length-drop (f .at) s ∙ g))
+  pub fixed-given : length s - f .at ≡ f .cells * size → readIn (maskForm x) (fixed size o) d n s ≡ gives (fixedFrom (maskForm x) size o d s n f)
+  unfolding fixedFrom
+  fixed-given g = by-length true (eq-eqb (length (drop (f .at) s)) (f .cells * size) (length-drop (f .at) s ∙ g))

@@ -5,6 +5,7 @@ use Prim.Native.Nat.{ℕ, zero, suc, _+_, _*_, _≤_}
 use mathlib.Core.Path.{_≡_}
 use mathlib.Core.List.{List, [], map}
 use lib.ListN.{length, take, drop, replicate}
+use Rattle.array.specs.Answer.{gives}
 use Rattle.array.specs.Limits.{mostCells, mostDepth, mostSize}
 use Rattle.array.specs.Lists.{pieces}
 use Rattle.array.specs.Kind.{Masks, Order, fixed, ragged, atStart, ordered}
@@ -12,6 +13,7 @@ use Rattle.array.specs.Offsets.{slicesFrom}
 use Rattle.array.specs.Content.{Content, unmasked, layout}
 use Rattle.codec.specs.Mask.{MaskForm, maskForm}
 use Rattle.stored.specs.declared.vlen.Index.{Index}
+use Rattle.stored.specs.Walk.{valuesAt, walked}
 use Rattle.stored.specs.Stored.{cellsFrom, MasksWithin, innermostCount}
 use Rattle.stored.specs.Index.{offsetsIn, raggedAt, IndexWithin}
 use Rattle.decode.specs.declared.fixed.Found.{Found}
@@ -27,6 +29,11 @@ pub record Limited (d n : ℕ) : Type 0 where
 unfoldable pub fixedFrom : MaskForm → ℕ → Order → ℕ → List ℕ → ℕ → Found → Content
 fixedFrom mf size o d s n f =
     layout (fixed size o) d (cellsFrom mf (replicate size 0) d s 0 n (map (ordered o) (pieces size (f .cells) (drop (f .at) s))))
+
+pub record FixedFound (x : Masks) (size d : ℕ) (s : List ℕ) (n : ℕ) (f : Found) : Type 0 where
+  pub limits : Limited d n
+  pub small : size ≤ mostSize
+  pub walk : walked (maskForm x) d s 0 n ≡ gives (valuesAt (f .at) (f .cells))
 
 pub record FixedWithin (x : Masks) (size d : ℕ) (s : List ℕ) (n : ℕ) (f : Found) : Type 0 where
   pub limits : Limited d n

@@ -18,9 +18,8 @@ ghost use Rattle.array.specs.Meaning.{orderOf, masksOf};
 ghost use Rattle.array.specs.Outcome.{contentArray, outcomeArray};
 ghost use Rattle.codec.specs.Mask.{maskForm};
 ghost use Rattle.codec.specs.Calls.{readIn};
-ghost use Rattle.stored.specs.Walk.{walked, valuesAt};
 ghost use Rattle.decode.specs.Outcomes.{readOutcome};
-ghost use Rattle.decode.specs.Reads.{Limited, fixedFrom, FixedWithin};
+ghost use Rattle.decode.specs.Reads.{Limited, fixedFrom, FixedFound, FixedWithin};
 
 // Values that the walk found: where they begin, and of how many cells.
 pub struct Found {
@@ -76,8 +75,7 @@ fn write_found(
     masks: &mut [u8],
     values: &mut [u8],
 ) -> WrittenArray
-    requires limits { ⌜ Limited (kind .depth) n × (size ≤ mostSize) ⌝ }
-    requires walk { ⌜ walked (maskForm (masksOf (kind .masks))) (kind .depth) (now s) 0 n ≡ gives (valuesAt (found .at) (found .cells)) ⌝ }
+    requires { ⌜ FixedFound (masksOf (kind .masks)) size (kind .depth) (now s) n found ⌝ }
     ensures { λ r. ⌜ ((offsets : List ℕ) → outcomeArray r (now (masks .exit)) (now (values .exit)) offsets
         ≡ readOutcome (contentArray (now (masks .entry)) (now (values .entry)) offsets)
         (readIn (maskForm (masksOf (kind .masks))) (fixed size (orderOf order)) (kind .depth) n (now (s .entry)))) ⌝ }

@@ -1,104 +1,126 @@
+-- `decode` meets its contract: the stages in document 01's order (Stages).
+-- Assumes nothing.
+use mathlib.Core.Path.{_≡_, sym, ap, _∙_, subst}
+use mathlib.Core.Bool.{true}
+use Prim.Native.Nat.{ℕ}
+use borrow.Author.Tests.{not-true, not-false}
 use borrow.Author.Needs.{needs}
+use Rattle.array.specs.Kind.{fixed, FormOk, KindOk, kindTest}
+use Rattle.array.specs.Meaning.{kindOf, formOf, orderOf}
+use Rattle.array.proofs.Rules.{kind-ok}
+use Rattle.valid.specs.ShapeCells.{toldCells}
+use Rattle.decode.specs.Reads.{Limited}
+use Rattle.decode.proofs.Stages.{ShapeCounted, shape-counted, shape-refused, by-kind, by-shape, by-reading}
 use Rattle.decode.proofs.decode.Statement.{statement}
 use Rattle.decode.proofs.decode.Tie as tie
-use Rattle.decode.proofs.decode.Reads as reads
-use Rattle.decode.proofs.decode.Lts as lts
-use Rattle.decode.proofs.fixed.decode_fixed.Reads as decode-fixed-reads
-use Rattle.decode.proofs.ragged.decode_ragged.Reads as decode-ragged-reads
-use Rattle.valid.proofs.kind.check_kind.Reads as check-kind-reads
-use Rattle.valid.proofs.shape.shape_cells.Reads as shape-cells-reads
 
--- src/lib.rt:29:9
-check-kind-requires : tie.Need-check-kind-requires
-check-kind-requires c κs = search needs
+-- ---- places
 
--- src/lib.rt:30:9
+abbrev entry : tie.After-slice-known3 → tie.Start
+entry c = let read = c .before .before .before in read .before .before
+
+-- the kind is one
+abbrev kinded : tie.After-shape-cells → tie.Else1
+kinded c = c .before
+
+abbrev begun : tie.Else1 → tie.Start
+begun c = entry (c .before .before)
+
+abbrev counting : tie.After-known-told → tie.After-shape-cells
+counting c = c .before .before .before
+
+abbrev cells : tie.After-known-told → ℕ
+cells c = c .before .n .given .0 .0
+
+abbrev start : tie.After-known-told → tie.Start
+start c = begun (counting c .before)
+
+abbrev fixed-form : tie.After-decode-fixed → tie.After-form
+fixed-form c = c .before .before .before .before
+
+abbrev ragged-form : tie.After-decode-ragged-arg3 → tie.After-form2
+ragged-form c = c .before .before .before .before
+
+-- ---- what was checked
+
+kind-is : (c : tie.Else1) → kindTest (kindOf (begun c .args .kind)) ≡ true
+kind-is c = sym (c .before .check-kind .ensures) ∙ not-false (c .before .check-kind .result) (c .if1 .left)
+
+sound : (c : tie.Else1) → KindOk (kindOf (begun c .args .kind))
+sound c = kind-ok (kindOf (begun c .args .kind)) (kind-is c)
+
+counted : (c : tie.After-known-told) → ShapeCounted (start c .args .shape .now) (cells c)
+counted c = shape-counted (start c .args .shape .now) (cells c) (sym (counting c .shape-cells .ensures) ∙ ap toldCells (c .before .n .given .1))
+
+limits : (c : tie.After-known-told) → Limited (start c .args .kind .depth) (cells c)
+limits c = record { some = counted c .some; few = counted c .few; shallow = sound (counting c .before) .shallow }
+
+-- ---- answers
+
 returns : tie.Need-returns
-returns c = ?
+returns c =
+    let check = c .before .check-kind in
+    let a = entry (c .before .before) .args in
+    by-kind (kindOf (a .kind)) (a .shape .now) (a .bytes .now) (a .masks .now) (a .values .now) (a .offsets .now) (sym (check .ensures) ∙ not-true (check .result) (c .if1 .taken))
 
--- src/lib.rt:32:27
-shape-cells-requires : tie.Need-shape-cells-requires
-shape-cells-requires c κs = search needs
-
--- src/lib.rt:32:22
-enum-known-n : tie.Need-enum-known-n
-enum-known-n c = search needs
-
--- src/lib.rt:33:9
-enum-told : tie.Need-enum-told
-enum-told c = search needs
-
--- src/lib.rt:33:9
 returns-2 : tie.Need-returns-2
-returns-2 c = ?
+returns-2 c =
+    let count = c .before .before in
+    let a = begun (count .before) .args in
+    by-shape (kindOf (a .kind)) (a .shape .now) (a .bytes .now) (a .masks .now) (a .values .now) (a .offsets .now) (kind-is (count .before))
+    (shape-refused (a .shape .now) _ (sym (count .shape-cells .ensures) ∙ ap toldCells (c .enum-told .given .1)))
 
--- src/lib.rt:37:23
-enum-known-form : tie.Need-enum-known-form
-enum-known-form c = search needs
-
--- src/lib.rt:38:39
-cast-decode-fixed : tie.Need-cast-decode-fixed
-cast-decode-fixed c = search needs
-
--- src/lib.rt:38:13
 decode-fixed-requires : tie.Need-decode-fixed-requires
-decode-fixed-requires c κs = ?
+decode-fixed-requires c κs =
+    let form = c .before .before .before in
+    let here = form .before .before in
+    let given = form .form .given in
+    let sized : FormOk (fixed (given .0 .0) (orderOf (given .0 .1 .0))) = subst FormOk (ap formOf (given .1)) (sound (counting here .before) .sound) in
+    (limits here, sized .1)
 
--- src/lib.rt:40:24
-enum-known-form-2 : tie.Need-enum-known-form-2
-enum-known-form-2 c = search needs
-
--- src/lib.rt:41:13
 decode-ragged-requires : tie.Need-decode-ragged-requires
-decode-ragged-requires c κs = ?
+decode-ragged-requires c κs = limits (ragged-form c .before .before)
 
--- src/lib.rt:18:1
-same-length : tie.Need-same-length
-same-length c = search needs
-
--- src/lib.rt:18:1
-same-length-2 : tie.Need-same-length-2
-same-length-2 c = search needs
-
--- src/lib.rt:18:1
 returns-3 : tie.Need-returns-3
-returns-3 c = ?
+returns-3 c =
+    let wrote = c .before .before .before .before in
+    let form = fixed-form wrote in
+    let here = form .before .before in
+    let a = start here .args in
+    wrote .decode-fixed .ensures (a .offsets .now)
+    ∙ by-reading (kindOf (a .kind)) (a .shape .now) (a .bytes .now) (a .masks .now) (a .values .now) (a .offsets .now) (kind-is (counting here .before)) (cells here) (counted here) _
+    (ap formOf (form .form .given .1))
 
--- src/lib.rt:18:1
-same-length-3 : tie.Need-same-length-3
-same-length-3 c = search needs
-
--- src/lib.rt:18:1
-same-length-4 : tie.Need-same-length-4
-same-length-4 c = search needs
-
--- src/lib.rt:18:1
-same-length-5 : tie.Need-same-length-5
-same-length-5 c = search needs
-
--- src/lib.rt:18:1
 returns-4 : tie.Need-returns-4
-returns-4 c = ?
+returns-4 c =
+    let copied = c .before .before .before .before in
+    let wrote = copied .before .before in
+    let form = ragged-form (wrote .before) in
+    let here = form .before .before in
+    let a = start here .args in
+    wrote .decode-ragged .ensures
+    ∙ by-reading (kindOf (a .kind)) (a .shape .now) (a .bytes .now) (a .masks .now) (a .values .now) (a .offsets .now) (kind-is (counting here .before)) (cells here) (counted here) _
+    (ap formOf (form .form2 .given .1))
 
 pub decode-spec : {M : Type 1} → statement M
 decode-spec =
     tie.close
     (tie.spec
-    check-kind-requires
+    (λ c κs. search needs)
     returns
-    shape-cells-requires
-    enum-known-n
-    enum-told
+    (λ c κs. search needs)
+    (λ c. search needs)
+    (λ c. search needs)
     returns-2
-    enum-known-form
-    cast-decode-fixed
+    (λ c. search needs)
+    (λ c. search needs)
     decode-fixed-requires
-    enum-known-form-2
+    (λ c. search needs)
     decode-ragged-requires
-    same-length
-    same-length-2
+    (λ c. search needs)
+    (λ c. search needs)
     returns-3
-    same-length-3
-    same-length-4
-    same-length-5
+    (λ c. search needs)
+    (λ c. search needs)
+    (λ c. search needs)
     returns-4)

@@ -1,103 +1,112 @@
+-- `decode_fixed` meets its contract: the reader's answer by the walk (FixedLaws), and what the copying rests on.
+-- Assumes nothing.
+use mathlib.Core.Path.{_≡_, sym, ap, _∙_}
+use mathlib.Core.List.{List}
+use Prim.Native.Nat.{ℕ}
 use borrow.Author.Needs.{needs}
+use Rattle.array.specs.Answer.{Answer, Outcome}
+use Rattle.array.specs.Buffers.{Lengths}
+use Rattle.array.specs.Content.{Content}
+use Rattle.array.specs.Meaning.{orderOf, masksOf}
+use Rattle.array.specs.Outcome.{contentArray}
+use Rattle.codec.specs.Mask.{maskForm}
+use Rattle.stored.specs.Walk.{walked, toldWalk}
+use Rattle.decode.specs.Outcomes.{readOutcome}
+use Rattle.decode.proofs.FixedLaws.{walk-flat, none-within, fixed-refused, fixed-none}
 use Rattle.decode.proofs.fixed.decode_fixed.Statement.{statement}
 use Rattle.decode.proofs.fixed.decode_fixed.Tie as tie
-use Rattle.decode.proofs.fixed.decode_fixed.Reads as reads
-use Rattle.decode.proofs.fixed.decode_fixed.Lts as lts
-use Rattle.decode.proofs.fixed.write_fixed.Reads as write-fixed-reads
-use Rattle.decode.proofs.fixed.write_found.Reads as write-found-reads
-use Rattle.stored.proofs.optional.walk_content.Reads as walk-content-reads
 
--- src/fixed.rt:107:17
-cast-depth : tie.Need-cast-depth
-cast-depth c = search needs
+-- ---- places
 
--- src/fixed.rt:109:9
+abbrev entry : tie.After-struct-known → tie.Start
+entry c = c .before .before .before .before
+
+abbrev begun : tie.After-walk-content → tie.Start
+begun c = entry (c .before .before)
+
+abbrev none : tie.After-write-fixed-arg2 → tie.After-enum-told
+none c = c .before .before
+
+abbrev found : tie.After-write-found-arg4 → tie.After-walk2
+found c = c .before .before .before
+
+-- what a reading leaves behind
+abbrev outcome : tie.Start → List ℕ → Answer Content → Outcome Lengths Content
+outcome c offsets a = readOutcome (contentArray (c .args .masks .now) (c .args .values .now) offsets) a
+
+-- ---- the walk
+
+walk-is : (c : tie.After-walk-content)
+    → walked (maskForm (masksOf (begun c .args .kind .masks))) (begun c .args .kind .depth) (begun c .args .s .now) 0 (begun c .args .n) ≡ toldWalk (c .walk-content .result)
+walk-is c = sym (c .walk-content .ensures)
+
+-- ---- answers
+
 write-found-requires : tie.Need-write-found-requires
-write-found-requires c κs = ?
+write-found-requires c κs =
+    let flat = c .before .before in
+    let start = entry (flat .before) in
+    record {
+      limits = start .pre .0;
+      small = start .pre .1;
+      walk = walk-flat (maskForm (masksOf (start .args .kind .masks))) (start .args .kind .depth) (start .args .s .now) (start .args .n) (flat .if1 .taken);
+    }
 
--- src/fixed.rt:109:9
-same-length : tie.Need-same-length
-same-length c = search needs
-
--- src/fixed.rt:109:9
-same-length-2 : tie.Need-same-length-2
-same-length-2 c = search needs
-
--- src/fixed.rt:109:9
 returns : tie.Need-returns
-returns c = search needs
+returns c = c .before .before .before .before .write-found .ensures
 
--- src/fixed.rt:111:9
-walk-content-requires : tie.Need-walk-content-requires
-walk-content-requires c κs = search needs
-
--- src/fixed.rt:113:25
-enum-known-walk : tie.Need-enum-known-walk
-enum-known-walk c = search needs
-
--- src/fixed.rt:115:50
-enum-told : tie.Need-enum-told
-enum-told c = search needs
-
--- src/fixed.rt:115:13
 write-fixed-requires : tie.Need-write-fixed-requires
-write-fixed-requires c κs = ?
+write-fixed-requires c κs =
+    let told = none c in
+    let walk = told .before .before in
+    none-within (masksOf (begun walk .args .kind .masks)) (begun walk .args .s .now) (begun walk .pre .0) (begun walk .pre .1) (walk-is walk ∙ ap toldWalk (told .enum-told .given .1))
 
--- src/fixed.rt:117:24
-enum-known-walk-2 : tie.Need-enum-known-walk-2
-enum-known-walk-2 c = search needs
-
--- src/fixed.rt:118:13
 write-found-requires-2 : tie.Need-write-found-requires-2
-write-found-requires-2 c κs = ?
+write-found-requires-2 c κs =
+    let walk = found c .before .before in
+    record { limits = begun walk .pre .0; small = begun walk .pre .1; walk = walk-is walk ∙ ap toldWalk (found c .walk2 .given .1) }
 
--- src/fixed.rt:92:1
 returns-2 : tie.Need-returns-2
-returns-2 c = ?
+returns-2 c =
+    let walk = c .before .before .before in
+    let start = begun walk in
+    let a = start .args in
+    λ offsets. ap (outcome start offsets)
+    (sym (fixed-refused (maskForm (masksOf (a .kind .masks))) (a .size) (orderOf (a .order)) (a .kind .depth) (a .s .now) (a .n) _ (walk-is walk ∙ ap toldWalk (c .before .walk .given .1))))
 
--- src/fixed.rt:92:1
-same-length-3 : tie.Need-same-length-3
-same-length-3 c = search needs
-
--- src/fixed.rt:92:1
-same-length-4 : tie.Need-same-length-4
-same-length-4 c = search needs
-
--- src/fixed.rt:92:1
 returns-3 : tie.Need-returns-3
-returns-3 c = ?
+returns-3 c =
+    let wrote = c .before .before .before .before in
+    let told = none (wrote .before) in
+    let walk = told .before .before in
+    let start = begun walk in
+    let a = start .args in
+    λ offsets. wrote .write-fixed .ensures offsets
+    ∙ ap (outcome start offsets)
+    (sym (fixed-none (maskForm (masksOf (a .kind .masks))) (a .size) (orderOf (a .order)) (a .kind .depth) (a .s .now) (a .n) (walk-is walk ∙ ap toldWalk (told .enum-told .given .1))))
 
--- src/fixed.rt:92:1
-same-length-5 : tie.Need-same-length-5
-same-length-5 c = search needs
-
--- src/fixed.rt:92:1
-same-length-6 : tie.Need-same-length-6
-same-length-6 c = search needs
-
--- src/fixed.rt:92:1
 returns-4 : tie.Need-returns-4
-returns-4 c = search needs
+returns-4 c = c .before .before .before .before .write-found2 .ensures
 
 pub decode-fixed-spec : {M : Type 1} → statement M
 decode-fixed-spec =
     tie.close
     (tie.spec
-    cast-depth
+    (λ c. search needs)
     write-found-requires
-    same-length
-    same-length-2
+    (λ c. search needs)
+    (λ c. search needs)
     returns
-    walk-content-requires
-    enum-known-walk
-    enum-told
+    (λ c κs. search needs)
+    (λ c. search needs)
+    (λ c. search needs)
     write-fixed-requires
-    enum-known-walk-2
+    (λ c. search needs)
     write-found-requires-2
     returns-2
-    same-length-3
-    same-length-4
+    (λ c. search needs)
+    (λ c. search needs)
     returns-3
-    same-length-5
-    same-length-6
+    (λ c. search needs)
+    (λ c. search needs)
     returns-4)

@@ -1,114 +1,164 @@
+-- `decode_ragged` meets its contract: the reader's answer by the walk and the check (RaggedLaws), and what the copying rests on.
+-- Assumes nothing.
+use mathlib.Core.Path.{_≡_, sym, ap, _∙_}
+use Prim.Native.Nat.{ℕ, _≤_}
+use native.Mathlib.Nat.{le-trans}
+use native.Mathlib.Omega.{arith}
+use lib.ListN.{length}
 use borrow.Author.Needs.{needs}
+use Rattle.array.specs.Answer.{Answer, gives, Outcome}
+use Rattle.array.specs.Buffers.{Lengths}
+use Rattle.array.specs.Content.{Content}
+use Rattle.array.specs.Meaning.{widthOf, placeOf, masksOf}
+use Rattle.array.specs.Outcome.{contentArray}
+use Rattle.codec.specs.Mask.{maskForm}
+use Rattle.stored.specs.Walk.{valuesAt, walked, toldWalk}
+use Rattle.stored.specs.Index.{toldIndex}
+use Rattle.stored.proofs.Walks.{WalkPassed, walk-values, none-deep}
+use Rattle.stored.proofs.IndexLaws.{width-most}
+use Rattle.stored.proofs.CheckedIndex.{IndexChecked, index-checked, checked-refused}
+use Rattle.decode.specs.Outcomes.{readOutcome}
+use Rattle.decode.proofs.RaggedLaws.{none-within, some-within, ragged-refused, ragged-none-set, ragged-wrong, ragged-given}
 use Rattle.decode.proofs.ragged.decode_ragged.Statement.{statement}
 use Rattle.decode.proofs.ragged.decode_ragged.Tie as tie
-use Rattle.decode.proofs.ragged.decode_ragged.Reads as reads
-use Rattle.decode.proofs.ragged.decode_ragged.Lts as lts
-use Rattle.decode.proofs.ragged.write_nested.Reads as write-nested-reads
-use Rattle.decode.proofs.ragged.write_ragged.Reads as write-ragged-reads
-use Rattle.stored.proofs.optional.walk_content.Reads as walk-content-reads
-use Rattle.stored.proofs.vlen.check_ragged.Reads as check-ragged-reads
 
--- src/ragged.rt:141:44
-cast-walk-content : tie.Need-cast-walk-content
-cast-walk-content c = search needs
+-- ---- places
 
--- src/ragged.rt:141:9
-walk-content-requires : tie.Need-walk-content-requires
-walk-content-requires c κs = search needs
+abbrev entry : tie.After-slice-known3 → tie.Start
+entry c = c .before .before .before .before
 
--- src/ragged.rt:143:25
-enum-known-walk : tie.Need-enum-known-walk
-enum-known-walk c = search needs
+abbrev begun : tie.After-walk-content → tie.Start
+begun c = entry (c .before .before)
 
--- src/ragged.rt:145:17
-enum-told : tie.Need-enum-told
-enum-told c = search needs
+abbrev none : tie.After-write-nested-arg3 → tie.After-enum-told
+none c = c .before .before .before
 
--- src/ragged.rt:152:13
+abbrev looked : tie.After-check-ragged → tie.After-walk2
+looked c = c .before .before
+
+abbrev found : tie.After-write-ragged-arg3 → tie.After-checked2
+found c = c .before .before .before .before
+
+-- what a reading leaves behind
+abbrev outcome : tie.Start → Answer Content → Outcome Lengths Content
+outcome c a = readOutcome (contentArray (c .args .masks .now) (c .args .values .now) (c .args .offsets .now)) a
+
+-- ---- the walk and the check
+
+walk-is : (c : tie.After-walk-content)
+    → walked (maskForm (masksOf (begun c .args .kind .masks))) (begun c .args .kind .depth) (begun c .args .s .now) 0 (begun c .args .n) ≡ toldWalk (c .walk-content .result)
+walk-is c = sym (c .walk-content .ensures)
+
+abbrev start : tie.After-walk2 → tie.Start
+start c = begun (c .before .before)
+
+abbrev at : tie.After-walk2 → ℕ
+at c = c .walk2 .given .0 .0
+
+abbrev cells : tie.After-walk2 → ℕ
+cells c = c .walk2 .given .0 .1 .0
+
+values-are : (c : tie.After-walk2)
+    → walked (maskForm (masksOf (start c .args .kind .masks))) (start c .args .kind .depth) (start c .args .s .now) 0 (start c .args .n) ≡ gives (valuesAt (at c) (cells c))
+values-are c = walk-is (c .before .before) ∙ ap toldWalk (c .walk2 .given .1)
+
+passed : (c : tie.After-walk2)
+    → WalkPassed (masksOf (start c .args .kind .masks)) (start c .args .kind .depth) (start c .args .s .now) 0 (start c .args .n) (cells c) × (at c ≤ length (start c .args .s .now))
+passed c =
+    let a = start c .args in
+    walk-values (masksOf (a .kind .masks)) (a .kind .depth) (a .s .now) 0 (a .n) (at c) (cells c) (omega arith) (values-are c)
+
+abbrev walk-of : tie.After-checked2 → tie.After-walk2
+walk-of c = looked (c .before .before)
+
+checked-is : (c : tie.After-checked2) → IndexChecked (widthOf (start (walk-of c) .args .width)) (placeOf (start (walk-of c) .args .place)) (start (walk-of c) .args .s .now)
+    (at (walk-of c)) (cells (walk-of c)) (c .checked2 .given .0 .0)
+checked-is c =
+    let w = walk-of c in
+    let a = start w .args in
+    index-checked (widthOf (a .width)) (placeOf (a .place)) (a .s .now) (at w) (cells w) (c .checked2 .given .0 .0) (passed w .1)
+    (sym (c .before .before .check-ragged .ensures) ∙ ap toldIndex (c .checked2 .given .1))
+
+-- ---- answers
+
 write-nested-requires : tie.Need-write-nested-requires
-write-nested-requires c κs = ?
+write-nested-requires c κs =
+    let told = none c in
+    let walk = told .before .before in
+    let a = begun walk .args in
+    let e = walk-is walk ∙ ap toldWalk (told .enum-told .given .1) in (
+      none-within (masksOf (a .kind .masks)) (a .s .now) (begun walk .pre) (widthOf (a .width)) (width-most (a .width)) e,
+      none-deep (maskForm (masksOf (a .kind .masks))) (a .kind .depth) (a .s .now) 0 (a .n) e,
+    )
 
--- src/ragged.rt:154:24
-enum-known-walk-2 : tie.Need-enum-known-walk-2
-enum-known-walk-2 c = search needs
-
--- src/ragged.rt:155:17
 check-ragged-requires : tie.Need-check-ragged-requires
-check-ragged-requires c κs = ?
+check-ragged-requires c κs = (le-trans (passed (c .before) .0 .few) (start (c .before) .pre .few), passed (c .before) .1)
 
--- src/ragged.rt:157:34
-enum-known-checked : tie.Need-enum-known-checked
-enum-known-checked c = search needs
-
--- src/ragged.rt:158:32
-enum-known-checked-2 : tie.Need-enum-known-checked-2
-enum-known-checked-2 c = search needs
-
--- src/ragged.rt:159:21
 write-ragged-requires : tie.Need-write-ragged-requires
-write-ragged-requires c κs = ?
+write-ragged-requires c κs =
+    let w = walk-of (found c) in
+    let a = start w .args in
+    some-within (masksOf (a .kind .masks)) (a .s .now) (start w .pre) (widthOf (a .width)) (placeOf (a .place)) (at w) (cells w) _ (values-are w) (checked-is (found c))
 
--- src/ragged.rt:125:1
 returns : tie.Need-returns
-returns c = ?
+returns c =
+    let walk = c .before .before .before in
+    let a = begun walk .args in
+    ap (outcome (begun walk))
+    (sym (ragged-refused (maskForm (masksOf (a .kind .masks))) (widthOf (a .width)) (placeOf (a .place)) (a .s .now) (a .n) (a .kind .depth) _ (walk-is walk ∙ ap toldWalk (c .before .walk .given .1))))
 
--- src/ragged.rt:125:1
-same-length : tie.Need-same-length
-same-length c = search needs
-
--- src/ragged.rt:125:1
-same-length-2 : tie.Need-same-length-2
-same-length-2 c = search needs
-
--- src/ragged.rt:125:1
-same-length-3 : tie.Need-same-length-3
-same-length-3 c = search needs
-
--- src/ragged.rt:125:1
 returns-2 : tie.Need-returns-2
-returns-2 c = ?
+returns-2 c =
+    let copied = c .before .before .before .before in
+    let wrote = copied .before .before in
+    let told = none (wrote .before) in
+    let walk = told .before .before in
+    let a = begun walk .args in
+    wrote .write-nested .ensures
+    ∙ ap (outcome (begun walk))
+    (sym (ragged-none-set (maskForm (masksOf (a .kind .masks))) (widthOf (a .width)) (placeOf (a .place)) (a .s .now) (a .n) (a .kind .depth) (walk-is walk ∙ ap toldWalk (told .enum-told .given .1))))
 
--- src/ragged.rt:125:1
 returns-3 : tie.Need-returns-3
-returns-3 c = ?
+returns-3 c =
+    let check = c .before .before .before in
+    let w = looked check in
+    let a = start w .args in
+    ap (outcome (start w))
+    (sym (ragged-wrong (maskForm (masksOf (a .kind .masks))) (widthOf (a .width)) (placeOf (a .place)) (a .s .now) (a .n) (a .kind .depth) (at w) (cells w) _ (values-are w)
+    (checked-refused (widthOf (a .width)) (placeOf (a .place)) (a .s .now) (at w) (cells w) _ (sym (check .check-ragged .ensures) ∙ ap toldIndex (c .before .checked .given .1)))))
 
--- src/ragged.rt:125:1
-same-length-4 : tie.Need-same-length-4
-same-length-4 c = search needs
-
--- src/ragged.rt:125:1
-same-length-5 : tie.Need-same-length-5
-same-length-5 c = search needs
-
--- src/ragged.rt:125:1
-same-length-6 : tie.Need-same-length-6
-same-length-6 c = search needs
-
--- src/ragged.rt:125:1
 returns-4 : tie.Need-returns-4
-returns-4 c = ?
+returns-4 c =
+    let copied = c .before .before .before .before in
+    let wrote = copied .before .before in
+    let here = found (wrote .before) in
+    let w = walk-of here in
+    let a = start w .args in
+    wrote .write-ragged .ensures
+    ∙ ap (outcome (start w))
+    (sym (ragged-given (maskForm (masksOf (a .kind .masks))) (widthOf (a .width)) (placeOf (a .place)) (a .s .now) (a .n) (a .kind .depth) (at w) (cells w) _ (values-are w) (checked-is here)))
 
 pub decode-ragged-spec : {M : Type 1} → statement M
 decode-ragged-spec =
     tie.close
     (tie.spec
-    cast-walk-content
-    walk-content-requires
-    enum-known-walk
-    enum-told
+    (λ c. search needs)
+    (λ c κs. search needs)
+    (λ c. search needs)
+    (λ c. search needs)
     write-nested-requires
-    enum-known-walk-2
+    (λ c. search needs)
     check-ragged-requires
-    enum-known-checked
-    enum-known-checked-2
+    (λ c. search needs)
+    (λ c. search needs)
     write-ragged-requires
     returns
-    same-length
-    same-length-2
-    same-length-3
+    (λ c. search needs)
+    (λ c. search needs)
+    (λ c. search needs)
     returns-2
     returns-3
-    same-length-4
-    same-length-5
-    same-length-6
+    (λ c. search needs)
+    (λ c. search needs)
+    (λ c. search needs)
     returns-4)

@@ -1,92 +1,126 @@
+-- `write_nested` meets its contract, by the laws of RaggedWritten.
+-- Assumes nothing.
+use mathlib.Core.Path.{_≡_}
+use mathlib.Core.Logic.{_≢_}
+use Prim.Native.Nat.{_+_, _-_, _*_, _≤_}
+use native.Mathlib.Omega.{arith}
 use borrow.Author.Needs.{needs}
+use Rattle.planes.proofs.Levels.{times-first}
+use Rattle.decode.proofs.Small.{few-cells, planes-small}
+use Rattle.decode.proofs.RaggedLaws.{nested-first, nested-above}
+use Rattle.decode.proofs.RaggedWritten.{nested-short-masks, nested-short-values, nested-short-offsets, nested-set, nested-written}
 use Rattle.decode.proofs.ragged.write_nested.Statement.{statement}
 use Rattle.decode.proofs.ragged.write_nested.Tie as tie
-use Rattle.decode.proofs.ragged.write_nested.Reads as reads
-use Rattle.decode.proofs.ragged.write_nested.Lts as lts
-use Rattle.array.proofs.kind.width_bytes.Reads as width-bytes-reads
-use Rattle.buffer.proofs.copy.copy_many.Reads as copy-many-reads
-use Rattle.planes.proofs.place_planes.Reads as place-planes-reads
-use Rattle.spread.proofs.offsets.spread_offsets.Reads as spread-offsets-reads
 
--- src/ragged.rt:78:17
-cast-depth : tie.Need-cast-depth
-cast-depth c = search needs
+-- ---- places
 
--- src/ragged.rt:81:30
-width-bytes-requires : tie.Need-width-bytes-requires
-width-bytes-requires c κs = search needs
+abbrev entry : tie.After-slice-known3 → tie.Start
+entry c = c .before .before .before .before
 
--- src/ragged.rt:81:16
-add-ends : tie.Need-add-ends
-add-ends c = search needs
+abbrev sized : tie.After-struct-known4 → tie.After-width-bytes
+sized c = c .before .before .before
 
--- src/ragged.rt:82:17
+abbrev begun : tie.After-struct-known4 → tie.Start
+begun c = entry (sized c .before .before)
+
+-- all outputs are long enough
+abbrev fitting : tie.Else3 → tie.After-struct-known4
+fitting c = c .before .before .before
+
+abbrev placed : tie.After-copy-many → tie.After-place-planes
+placed c = c .before .before .before .before
+
+abbrev copied : tie.After-spread-offsets-arg2 → tie.After-copy-many
+copied c = c .before .before .before .before
+
+-- ---- of the arguments
+
+deep : (c : tie.Start) → c .args .kind .depth ≢ 0
+deep c e = absurd (omega (arith, c .pre .1))
+
+rising : (c : tie.Start) → c .args .found .first ≤ c .args .found .last
+rising c = nested-first (c .pre .0) (deep c)
+
+first-is : (c : tie.Start) → c .args .kind .depth * c .args .n ≡ (c .args .kind .depth - 1) * c .args .n + c .args .n
+first-is c = times-first (c .args .kind .depth) (c .args .n) (deep c)
+
+-- ---- answers
+
 add-start : tie.Need-add-start
-add-start c = ?
+add-start c = let start = entry (c .before .before .before .before) in omega (arith, rising start, start .pre .0 .index .data-room)
 
--- src/ragged.rt:83:18
 mul-planes : tie.Need-mul-planes
-mul-planes c = ?
+mul-planes c =
+    let start = entry (c .before .before .before .before) in
+    let l = start .pre .0 .limits in
+    omega (arith, planes-small (start .args .kind .depth) (start .args .n) (l .shallow) (l .few))
 
--- src/ragged.rt:84:18
 sub-bytes : tie.Need-sub-bytes
-sub-bytes c = ?
+sub-bytes c = omega (arith, rising (begun c))
 
--- src/ragged.rt:85:17
 add-count : tie.Need-add-count
-add-count c = ?
+add-count c = omega (arith, few-cells (begun c .args .n) (begun c .pre .0 .limits .few))
 
--- src/ragged.rt:87:9
 returns : tie.Need-returns
-returns c = ?
+returns c =
+    let start = begun (c .before) in
+    let a = start .args in
+    nested-short-masks (start .pre .0) (deep start) (a .masks .now) (a .values .now) (a .offsets .now) (c .if1 .taken)
 
--- src/ragged.rt:90:9
 returns-2 : tie.Need-returns-2
-returns-2 c = ?
+returns-2 c =
+    let start = begun (c .before .before) in
+    let a = start .args in
+    nested-short-values (start .pre .0) (deep start) (a .masks .now) (a .values .now) (a .offsets .now) (c .if2 .taken)
 
--- src/ragged.rt:93:9
 returns-3 : tie.Need-returns-3
-returns-3 c = ?
+returns-3 c =
+    let start = begun (c .before .before .before) in
+    let a = start .args in
+    nested-short-offsets (start .pre .0) (deep start) (a .masks .now) (a .values .now) (a .offsets .now) (c .if3 .taken)
 
--- src/ragged.rt:95:5
-place-planes-requires : tie.Need-place-planes-requires
-place-planes-requires c κs = search needs
-
--- src/ragged.rt:96:5
 copy-many-requires : tie.Need-copy-many-requires
-copy-many-requires c κs = ?
+copy-many-requires c κs =
+    let fits = c .before .before .before .before .before in
+    let start = begun (fitting fits) in
+    omega (arith, rising start, start .pre .0 .index .data-room, fits .before .if2 .left)
 
--- src/ragged.rt:97:36
 sub-spread-offsets : tie.Need-sub-spread-offsets
-sub-spread-offsets c = ?
+sub-spread-offsets c = omega (arith, first-is (begun (fitting (placed (copied c) .before .before))))
 
--- src/ragged.rt:97:5
 spread-offsets-requires : tie.Need-spread-offsets-requires
-spread-offsets-requires c κs = ?
+spread-offsets-requires c κs =
+    let planes = placed (copied c) .place-planes in
+    let fits = placed (copied c) .before .before in
+    let long = fitting fits in
+    let start = begun long in
+    let a = start .args in
+    let width = sized long .width-bytes .ensures in (
+      omega (arith, first-is start, planes .kept .1 .0, fits .before .before .if1 .left),
+      omega (arith, fits .if3 .left),
+      nested-set (start .pre .0) (deep start) (a .masks .now) (a .values .now) (a .offsets .now) (planes .ensures),
+      omega (arith, width, start .pre .0 .index .index-room),
+      nested-above (start .pre .0) (deep start) width,
+    )
 
--- src/ragged.rt:61:1
-same-length : tie.Need-same-length
-same-length c = search needs
-
--- src/ragged.rt:61:1
-same-length-2 : tie.Need-same-length-2
-same-length-2 c = search needs
-
--- src/ragged.rt:61:1
-same-length-3 : tie.Need-same-length-3
-same-length-3 c = search needs
-
--- src/ragged.rt:61:1
 returns-4 : tie.Need-returns-4
-returns-4 c = ?
+returns-4 c =
+    let wrote = c .before .before in
+    let values = copied (wrote .before) in
+    let fits = placed values .before .before in
+    let long = fitting fits in
+    let start = begun long in
+    let a = start .args in
+    nested-written (start .pre .0) (deep start) (a .masks .now) (a .values .now) (a .offsets .now) (placed values .place-planes .ensures) (fits .before .before .if1 .left) (fits .before .if2 .left)
+    (fits .if3 .left) (sized long .width-bytes .ensures) (values .copy-many .ensures) (wrote .spread-offsets .ensures)
 
 pub write-nested-spec : {M : Type 1} → statement M
 write-nested-spec =
     tie.close
     (tie.spec
-    cast-depth
-    width-bytes-requires
-    add-ends
+    (λ c. search needs)
+    (λ c κs. search needs)
+    (λ c. search needs)
     add-start
     mul-planes
     sub-bytes
@@ -94,11 +128,11 @@ write-nested-spec =
     returns
     returns-2
     returns-3
-    place-planes-requires
+    (λ c κs. search needs)
     copy-many-requires
     sub-spread-offsets
     spread-offsets-requires
-    same-length
-    same-length-2
-    same-length-3
+    (λ c. search needs)
+    (λ c. search needs)
+    (λ c. search needs)
     returns-4)

@@ -1,57 +1,72 @@
+-- `write_ragged` meets its contract, by the depth.
+-- Assumes nothing.
+use mathlib.Core.Path.{sym, ap, _∙_, subst}
+use Prim.Native.Nat.{ℕ, _≤_}
 use borrow.Author.Needs.{needs}
+use Rattle.array.specs.Answer.{gives, Outcome}
+use Rattle.array.specs.Limits.{mostCells}
+use Rattle.array.specs.Buffers.{Lengths}
+use Rattle.array.specs.Content.{Content}
+use Rattle.array.specs.Meaning.{widthOf, masksOf}
+use Rattle.array.specs.Outcome.{contentArray}
+use Rattle.codec.specs.Mask.{maskForm}
+use Rattle.decode.specs.Outcomes.{readOutcome}
+use Rattle.decode.proofs.RaggedLaws.{given-flat, given-nested, flat-cells}
 use Rattle.decode.proofs.ragged.write_ragged.Statement.{statement}
 use Rattle.decode.proofs.ragged.write_ragged.Tie as tie
-use Rattle.decode.proofs.ragged.write_ragged.Reads as reads
-use Rattle.decode.proofs.ragged.write_ragged.Lts as lts
-use Rattle.decode.proofs.ragged.write_flat.Reads as write-flat-reads
-use Rattle.decode.proofs.ragged.write_nested.Reads as write-nested-reads
 
--- src/ragged.rt:118:9
+-- ---- places
+
+abbrev entry : tie.After-slice-known3 → tie.Start
+entry c = c .before .before .before .before
+
+abbrev flat : tie.After-write-flat → tie.Then1
+flat c = c .before .before .before
+
+abbrev deep : tie.After-write-nested → tie.Else1
+deep c = c .before .before .before .before
+
+-- what a reading of the content x leaves behind
+abbrev outcome : tie.Start → Content → Outcome Lengths Content
+outcome c x = readOutcome (contentArray (c .args .masks .now) (c .args .values .now) (c .args .offsets .now)) (gives x)
+
+-- ---- answers
+
 write-flat-requires : tie.Need-write-flat-requires
-write-flat-requires c κs = ?
+write-flat-requires c κs =
+    let here = c .before .before in
+    let pre = entry (here .before .before) .pre in
+    (subst (λ (k : ℕ). k ≤ mostCells) (sym (flat-cells pre (here .if1 .taken))) (pre .limits .few), pre .index)
 
--- src/ragged.rt:120:9
-write-nested-requires : tie.Need-write-nested-requires
-write-nested-requires c κs = search needs
-
--- src/ragged.rt:102:1
-same-length : tie.Need-same-length
-same-length c = search needs
-
--- src/ragged.rt:102:1
-same-length-2 : tie.Need-same-length-2
-same-length-2 c = search needs
-
--- src/ragged.rt:102:1
 returns : tie.Need-returns
-returns c = ?
+returns c =
+    let wrote = c .before .before .before .before in
+    let here = flat wrote in
+    let start = entry (here .before .before) in
+    let a = start .args in
+    wrote .write-flat .ensures (a .masks .now)
+    ∙ ap (outcome start) (sym (given-flat (maskForm (masksOf (a .kind .masks))) (widthOf (a .width)) (a .kind .depth) (a .s .now) (a .n) (a .found) (here .if1 .taken)))
 
--- src/ragged.rt:102:1
-same-length-3 : tie.Need-same-length-3
-same-length-3 c = search needs
-
--- src/ragged.rt:102:1
-same-length-4 : tie.Need-same-length-4
-same-length-4 c = search needs
-
--- src/ragged.rt:102:1
-same-length-5 : tie.Need-same-length-5
-same-length-5 c = search needs
-
--- src/ragged.rt:102:1
 returns-2 : tie.Need-returns-2
-returns-2 c = ?
+returns-2 c =
+    let copied = c .before .before .before .before in
+    let wrote = copied .before .before in
+    let here = deep wrote in
+    let start = entry (here .before .before) in
+    let a = start .args in
+    wrote .write-nested .ensures
+    ∙ ap (outcome start) (sym (given-nested (maskForm (masksOf (a .kind .masks))) (widthOf (a .width)) (a .kind .depth) (a .s .now) (a .n) (a .found) (here .if1 .left)))
 
 pub write-ragged-spec : {M : Type 1} → statement M
 write-ragged-spec =
     tie.close
     (tie.spec
     write-flat-requires
-    write-nested-requires
-    same-length
-    same-length-2
+    (λ c κs. search needs)
+    (λ c. search needs)
+    (λ c. search needs)
     returns
-    same-length-3
-    same-length-4
-    same-length-5
+    (λ c. search needs)
+    (λ c. search needs)
+    (λ c. search needs)
     returns-2)

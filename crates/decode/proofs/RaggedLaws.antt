@@ -39,7 +39,7 @@ use Rattle.decode.specs.Reads.{Limited, nestedFrom, raggedFrom, RaggedWi
 
 -- ---- values end to end below masks
 
-pub rising-above : (a f : ℕ) (os : List ℕ) → f ≤ a → RisingFrom a os → All (λ o. f ≤ o) os
+rising-above : (a f : ℕ) (os : List ℕ) → f ≤ a → RisingFrom a os → All (λ o. f ≤ o) os
 rising-above a f [] h r = tt
 rising-above a f (b ∷ os) h r = (omega (arith, r .0), rising-above b f os (omega (arith, r .0)) (r .1))
 
@@ -99,8 +99,9 @@ module _ {x : Masks} {w d : ℕ} {s : List ℕ} {n : ℕ} {i : Index} (r : Ragge
   pub nested-first : i .first ≤ i .last
   nested-first = omega (arith, rising-le (i .first) ends-in (r .index .rising), r .index .last-is)
 
-  pub nested-above : All (λ o. i .first ≤ o) ends-in
-  nested-above = rising-above (i .first) (i .first) ends-in (omega arith) (r .index .rising)
+  -- z is the width, worked out in another way
+  pub nested-above : {z : ℕ} → z ≡ w → All (λ o. i .first ≤ o) (offsetsIn w (i .cells) (drop (i .index + z) s))
+  nested-above e = rw e (rising-above (i .first) (i .first) ends-in (omega arith) (r .index .rising))
 
   pub nested-masks : content .masks ≡ planesIn (maskForm x) s n (d - 1)
   unfolding nestedFrom
