@@ -62,8 +62,7 @@ module _ (k : Kind) (shape s m v o : List ℕ) where
     unfolding decoded decodeAnswer
     by-shape f = rw (e, f)
 
-    pub by-reading : (n : ℕ) → ShapeCounted shape n → (f : Form) → k .form ≡ f → readOutcome (contentArray m v o) (readIn (maskForm (k .masks)) f (k .depth) n s) ≡ decoded k shape s (contentArray m v o)
+    pub by-reading : (n : ℕ) → ShapeCounted shape n → (f : Form) → k .form ≡ f
+        → decoded k shape s (contentArray m v o) ≡ readOutcome (contentArray m v o) (readIn (maskForm (k .masks)) f (k .depth) n s)
     unfolding decoded decodeAnswer
-    by-reading n c f ef =
-        ap₂ (λ (g : Form) (j : ℕ). readOutcome (contentArray m v o) (readIn (maskForm (k .masks)) g (k .depth) j s)) (sym ef) (c .is)
-        ∙ ap₂ (λ (x y : Bool). contentOutcome (unless x 1 (unless y 2 (andThen (readIn (maskForm (k .masks)) (k .form) (k .depth) (volume shape) s) (ifEnough (contentArray m v o))))) (contentArray m v o)) (sym e) (sym (c .passes))
+    by-reading n c f ef = rw (e, c .passes, ef, c .is)

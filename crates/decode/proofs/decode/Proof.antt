@@ -5,10 +5,15 @@ use mathlib.Core.Bool.{true}
 use Prim.Native.Nat.{ℕ}
 use borrow.Author.Tests.{not-true, not-false}
 use borrow.Author.Needs.{needs}
-use Rattle.array.specs.Kind.{fixed, FormOk, KindOk, kindTest}
-use Rattle.array.specs.Meaning.{kindOf, formOf, orderOf}
+use Rattle.array.specs.Kind.{Form, fixed, FormOk, KindOk, kindTest}
+use Rattle.array.specs.Meaning.{kindOf, formOf, masksOf, orderOf}
+use Rattle.array.specs.Content.{Content}
+use Rattle.array.specs.Outcome.{contentArray}
 use Rattle.array.proofs.Rules.{kind-ok}
+use Rattle.codec.specs.Mask.{maskForm}
+use Rattle.codec.specs.Calls.{readIn, decoded}
 use Rattle.valid.specs.ShapeCells.{toldCells}
+use Rattle.decode.specs.Outcomes.{readOutcome}
 use Rattle.decode.specs.Reads.{Limited}
 use Rattle.decode.proofs.Stages.{ShapeCounted, shape-counted, shape-refused, by-kind, by-shape, by-reading}
 use Rattle.decode.proofs.decode.Statement.{statement}
@@ -18,10 +23,6 @@ use Rattle.decode.proofs.decode.Tie as tie
 
 abbrev entry : tie.After-slice-known3 → tie.Start
 entry c = let read = c .before .before .before in read .before .before
-
--- the kind is one
-abbrev kinded : tie.After-shape-cells → tie.Else1
-kinded c = c .before
 
 abbrev begun : tie.Else1 → tie.Start
 begun c = entry (c .before .before)
@@ -41,6 +42,9 @@ fixed-form c = c .before .before .before .before
 abbrev ragged-form : tie.After-decode-ragged-arg3 → tie.After-form2
 ragged-form c = c .before .before .before .before
 
+abbrev lent : tie.Start → Content
+lent c = contentArray (c .args .masks .now) (c .args .values .now) (c .args .offsets .now)
+
 -- ---- what was checked
 
 kind-is : (c : tie.Else1) → kindTest (kindOf (begun c .args .kind)) ≡ true
@@ -54,6 +58,14 @@ counted c = shape-counted (start c .args .shape .now) (cells c) (sym (counting c
 
 limits : (c : tie.After-known-told) → Limited (start c .args .kind .depth) (cells c)
 limits c = record { some = counted c .some; few = counted c .few; shallow = sound (counting c .before) .shallow }
+
+-- what is left behind then, by the reading
+read : (c : tie.After-known-told) {f : Form} → formOf (start c .args .kind .values) ≡ f
+    → decoded (kindOf (start c .args .kind)) (start c .args .shape .now) (start c .args .bytes .now) (lent (start c))
+    ≡ readOutcome (lent (start c)) (readIn (maskForm (masksOf (start c .args .kind .masks))) f (start c .args .kind .depth) (cells c) (start c .args .bytes .now))
+read c {f} e =
+    let a = start c .args in
+    by-reading (kindOf (a .kind)) (a .shape .now) (a .bytes .now) (a .masks .now) (a .values .now) (a .offsets .now) (kind-is (counting c .before)) (cells c) (counted c) f e
 
 -- ---- answers
 
@@ -87,9 +99,7 @@ returns-3 c =
     let form = fixed-form wrote in
     let here = form .before .before in
     let a = start here .args in
-    wrote .decode-fixed .ensures (a .offsets .now)
-    ∙ by-reading (kindOf (a .kind)) (a .shape .now) (a .bytes .now) (a .masks .now) (a .values .now) (a .offsets .now) (kind-is (counting here .before)) (cells here) (counted here) _
-    (ap formOf (form .form .given .1))
+    rw (read here (ap formOf (form .form .given .1))) (wrote .decode-fixed .ensures (a .offsets .now))
 
 returns-4 : tie.Need-returns-4
 returns-4 c =
@@ -97,10 +107,7 @@ returns-4 c =
     let wrote = copied .before .before in
     let form = ragged-form (wrote .before) in
     let here = form .before .before in
-    let a = start here .args in
-    wrote .decode-ragged .ensures
-    ∙ by-reading (kindOf (a .kind)) (a .shape .now) (a .bytes .now) (a .masks .now) (a .values .now) (a .offsets .now) (kind-is (counting here .before)) (cells here) (counted here) _
-    (ap formOf (form .form2 .given .1))
+    rw (read here (ap formOf (form .form2 .given .1))) (wrote .decode-ragged .ensures)
 
 pub decode-spec : {M : Type 1} → statement M
 decode-spec =

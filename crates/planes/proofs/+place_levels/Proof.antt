@@ -112,13 +112,13 @@ module _ (t : ℕ) where
 
   place-plane-requires : lts.Need-place-plane-requires (claims t) (place-levels-at t) place-levels.Post
   place-plane-requires c κs =
-      let left = c .before .before in
-      levels-plane (entry left .pre .1) (left .before .if1 .left) (left .if2 .left)
+      let some = c .before .before in
+      levels-plane (entry some .pre .1) (some .before .if1 .left) (some .if2 .left)
 
   count-stored-requires : lts.Need-count-stored-requires (claims t) (place-levels-at t) place-levels.Post
   count-stored-requires c κs =
-      let left = c .before .before .before .before .before in
-      (omega (arith, mask left .room), mask left .passed)
+      let some = left (c .before .before) in
+      (omega (arith, mask some .room), mask some .passed)
 
   add-place-levels : lts.Need-add-place-levels (claims t) (place-levels-at t) place-levels.Post
   add-place-levels c = omega (arith, fits (left (laid (c .before))))

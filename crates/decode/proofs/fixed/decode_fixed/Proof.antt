@@ -1,17 +1,10 @@
 -- `decode_fixed` meets its contract: the reader's answer by the walk (FixedLaws), and what the copying rests on.
 -- Assumes nothing.
 use mathlib.Core.Path.{_≡_, sym, ap, _∙_}
-use mathlib.Core.List.{List}
-use Prim.Native.Nat.{ℕ}
 use borrow.Author.Needs.{needs}
-use Rattle.array.specs.Answer.{Answer, Outcome}
-use Rattle.array.specs.Buffers.{Lengths}
-use Rattle.array.specs.Content.{Content}
 use Rattle.array.specs.Meaning.{orderOf, masksOf}
-use Rattle.array.specs.Outcome.{contentArray}
 use Rattle.codec.specs.Mask.{maskForm}
 use Rattle.stored.specs.Walk.{walked, toldWalk}
-use Rattle.decode.specs.Outcomes.{readOutcome}
 use Rattle.decode.proofs.FixedLaws.{walk-flat, none-within, fixed-refused, fixed-none}
 use Rattle.decode.proofs.fixed.decode_fixed.Statement.{statement}
 use Rattle.decode.proofs.fixed.decode_fixed.Tie as tie
@@ -29,10 +22,6 @@ none c = c .before .before
 
 abbrev found : tie.After-write-found-arg4 → tie.After-walk2
 found c = c .before .before .before
-
--- what a reading leaves behind
-abbrev outcome : tie.Start → List ℕ → Answer Content → Outcome Lengths Content
-outcome c offsets a = readOutcome (contentArray (c .args .masks .now) (c .args .values .now) offsets) a
 
 -- ---- the walk
 
@@ -69,21 +58,18 @@ write-found-requires-2 c κs =
 returns-2 : tie.Need-returns-2
 returns-2 c =
     let walk = c .before .before .before in
-    let start = begun walk in
-    let a = start .args in
-    λ offsets. ap (outcome start offsets)
-    (sym (fixed-refused (maskForm (masksOf (a .kind .masks))) (a .size) (orderOf (a .order)) (a .kind .depth) (a .s .now) (a .n) _ (walk-is walk ∙ ap toldWalk (c .before .walk .given .1))))
+    let a = begun walk .args in
+    λ offsets. rw (fixed-refused (maskForm (masksOf (a .kind .masks))) (a .size) (orderOf (a .order)) (a .kind .depth) (a .s .now) (a .n) _ (walk-is walk ∙ ap toldWalk (c .before .walk .given .1)))
 
 returns-3 : tie.Need-returns-3
 returns-3 c =
     let wrote = c .before .before .before .before in
     let told = none (wrote .before) in
     let walk = told .before .before in
-    let start = begun walk in
-    let a = start .args in
-    λ offsets. wrote .write-fixed .ensures offsets
-    ∙ ap (outcome start offsets)
-    (sym (fixed-none (maskForm (masksOf (a .kind .masks))) (a .size) (orderOf (a .order)) (a .kind .depth) (a .s .now) (a .n) (walk-is walk ∙ ap toldWalk (told .enum-told .given .1))))
+    let a = begun walk .args in
+    λ offsets. rw
+    (fixed-none (maskForm (masksOf (a .kind .masks))) (a .size) (orderOf (a .order)) (a .kind .depth) (a .s .now) (a .n) (walk-is walk ∙ ap toldWalk (told .enum-told .given .1)))
+    (wrote .write-fixed .ensures offsets)
 
 returns-4 : tie.Need-returns-4
 returns-4 c = c .before .before .before .before .write-found2 .ensures

@@ -1,16 +1,8 @@
 -- `write_found` meets its contract: the reader's answer by what the walk found (FixedLaws), and what the copying rests on.
 -- Assumes nothing.
-use mathlib.Core.Path.{sym, ap, _∙_}
-use mathlib.Core.List.{List}
-use Prim.Native.Nat.{ℕ}
 use native.Mathlib.Omega.{arith}
 use borrow.Author.Needs.{needs}
-use Rattle.array.specs.Answer.{Answer, Outcome}
-use Rattle.array.specs.Buffers.{Lengths}
-use Rattle.array.specs.Content.{Content}
 use Rattle.array.specs.Meaning.{orderOf}
-use Rattle.array.specs.Outcome.{contentArray}
-use Rattle.decode.specs.Outcomes.{readOutcome}
 use Rattle.decode.proofs.FixedLaws.{found-inside, found-small, some-within, fixed-length, fixed-given}
 use Rattle.decode.proofs.fixed.write_found.Statement.{statement}
 use Rattle.decode.proofs.fixed.write_found.Tie as tie
@@ -23,10 +15,6 @@ entry c = c .before .before .before .before
 abbrev fitting : tie.After-write-fixed → tie.Else1
 fitting c = c .before .before .before
 
--- what a reading leaves behind
-abbrev outcome : tie.Start → List ℕ → Answer Content → Outcome Lengths Content
-outcome c offsets a = readOutcome (contentArray (c .args .masks .now) (c .args .values .now) offsets) a
-
 -- ---- answers
 
 sub-if1 : tie.Need-sub-if1
@@ -36,7 +24,7 @@ mul-if1 : tie.Need-mul-if1
 mul-if1 c = omega (arith, found-small (entry (c .before) .pre))
 
 returns : tie.Need-returns
-returns c = let start = entry (c .before .before) in λ offsets. ap (outcome start offsets) (sym (fixed-length (orderOf (start .args .order)) (start .pre) (c .if1 .taken)))
+returns c = let start = entry (c .before .before) in λ offsets. rw (fixed-length (orderOf (start .args .order)) (start .pre) (c .if1 .taken))
 
 write-fixed-requires : tie.Need-write-fixed-requires
 write-fixed-requires c κs = let fits = c .before .before in some-within (entry (fits .before .before) .pre) (fits .if1 .left)
@@ -46,7 +34,7 @@ returns-2 c =
     let wrote = c .before .before .before .before in
     let fits = fitting wrote in
     let start = entry (fits .before .before) in
-    λ offsets. wrote .write-fixed .ensures offsets ∙ ap (outcome start offsets) (sym (fixed-given (orderOf (start .args .order)) (start .pre) (fits .if1 .left)))
+    λ offsets. rw (fixed-given (orderOf (start .args .order)) (start .pre) (fits .if1 .left)) (wrote .write-fixed .ensures offsets)
 
 pub write-found-spec : {M : Type 1} → statement M
 write-found-spec = tie.close (tie.spec sub-if1 mul-if1 returns write-fixed-requires (λ c. search needs) (λ c. search needs) returns-2)

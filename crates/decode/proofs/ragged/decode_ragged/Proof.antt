@@ -6,18 +6,14 @@ use native.Mathlib.Nat.{le-trans}
 use native.Mathlib.Omega.{arith}
 use lib.ListN.{length}
 use borrow.Author.Needs.{needs}
-use Rattle.array.specs.Answer.{Answer, gives, Outcome}
-use Rattle.array.specs.Buffers.{Lengths}
-use Rattle.array.specs.Content.{Content}
+use Rattle.array.specs.Answer.{gives}
 use Rattle.array.specs.Meaning.{widthOf, placeOf, masksOf}
-use Rattle.array.specs.Outcome.{contentArray}
 use Rattle.codec.specs.Mask.{maskForm}
 use Rattle.stored.specs.Walk.{valuesAt, walked, toldWalk}
 use Rattle.stored.specs.Index.{toldIndex}
 use Rattle.stored.proofs.Walks.{WalkPassed, walk-values, none-deep}
 use Rattle.stored.proofs.IndexLaws.{width-most}
 use Rattle.stored.proofs.CheckedIndex.{IndexChecked, index-checked, checked-refused}
-use Rattle.decode.specs.Outcomes.{readOutcome}
 use Rattle.decode.proofs.RaggedLaws.{none-within, some-within, ragged-refused, ragged-none-set, ragged-wrong, ragged-given}
 use Rattle.decode.proofs.ragged.decode_ragged.Statement.{statement}
 use Rattle.decode.proofs.ragged.decode_ragged.Tie as tie
@@ -38,10 +34,6 @@ looked c = c .before .before
 
 abbrev found : tie.After-write-ragged-arg3 → tie.After-checked2
 found c = c .before .before .before .before
-
--- what a reading leaves behind
-abbrev outcome : tie.Start → Answer Content → Outcome Lengths Content
-outcome c a = readOutcome (contentArray (c .args .masks .now) (c .args .values .now) (c .args .offsets .now)) a
 
 -- ---- the walk and the check
 
@@ -104,8 +96,7 @@ returns : tie.Need-returns
 returns c =
     let walk = c .before .before .before in
     let a = begun walk .args in
-    ap (outcome (begun walk))
-    (sym (ragged-refused (maskForm (masksOf (a .kind .masks))) (widthOf (a .width)) (placeOf (a .place)) (a .s .now) (a .n) (a .kind .depth) _ (walk-is walk ∙ ap toldWalk (c .before .walk .given .1))))
+    rw (ragged-refused (maskForm (masksOf (a .kind .masks))) (widthOf (a .width)) (placeOf (a .place)) (a .s .now) (a .n) (a .kind .depth) _ (walk-is walk ∙ ap toldWalk (c .before .walk .given .1)))
 
 returns-2 : tie.Need-returns-2
 returns-2 c =
@@ -114,18 +105,18 @@ returns-2 c =
     let told = none (wrote .before) in
     let walk = told .before .before in
     let a = begun walk .args in
-    wrote .write-nested .ensures
-    ∙ ap (outcome (begun walk))
-    (sym (ragged-none-set (maskForm (masksOf (a .kind .masks))) (widthOf (a .width)) (placeOf (a .place)) (a .s .now) (a .n) (a .kind .depth) (walk-is walk ∙ ap toldWalk (told .enum-told .given .1))))
+    rw
+    (ragged-none-set (maskForm (masksOf (a .kind .masks))) (widthOf (a .width)) (placeOf (a .place)) (a .s .now) (a .n) (a .kind .depth) (walk-is walk ∙ ap toldWalk (told .enum-told .given .1)))
+    (wrote .write-nested .ensures)
 
 returns-3 : tie.Need-returns-3
 returns-3 c =
     let check = c .before .before .before in
     let w = looked check in
     let a = start w .args in
-    ap (outcome (start w))
-    (sym (ragged-wrong (maskForm (masksOf (a .kind .masks))) (widthOf (a .width)) (placeOf (a .place)) (a .s .now) (a .n) (a .kind .depth) (at w) (cells w) _ (values-are w)
-    (checked-refused (widthOf (a .width)) (placeOf (a .place)) (a .s .now) (at w) (cells w) _ (sym (check .check-ragged .ensures) ∙ ap toldIndex (c .before .checked .given .1)))))
+    rw
+    (ragged-wrong (maskForm (masksOf (a .kind .masks))) (widthOf (a .width)) (placeOf (a .place)) (a .s .now) (a .n) (a .kind .depth) (at w) (cells w) _ (values-are w)
+    (checked-refused (widthOf (a .width)) (placeOf (a .place)) (a .s .now) (at w) (cells w) _ (sym (check .check-ragged .ensures) ∙ ap toldIndex (c .before .checked .given .1))))
 
 returns-4 : tie.Need-returns-4
 returns-4 c =
@@ -134,9 +125,9 @@ returns-4 c =
     let here = found (wrote .before) in
     let w = walk-of here in
     let a = start w .args in
-    wrote .write-ragged .ensures
-    ∙ ap (outcome (start w))
-    (sym (ragged-given (maskForm (masksOf (a .kind .masks))) (widthOf (a .width)) (placeOf (a .place)) (a .s .now) (a .n) (a .kind .depth) (at w) (cells w) _ (values-are w) (checked-is here)))
+    rw
+    (ragged-given (maskForm (masksOf (a .kind .masks))) (widthOf (a .width)) (placeOf (a .place)) (a .s .now) (a .n) (a .kind .depth) (at w) (cells w) _ (values-are w) (checked-is here))
+    (wrote .write-ragged .ensures)
 
 pub decode-ragged-spec : {M : Type 1} → statement M
 decode-ragged-spec =

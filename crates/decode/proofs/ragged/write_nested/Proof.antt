@@ -81,7 +81,8 @@ returns-3 c =
 
 copy-many-requires : tie.Need-copy-many-requires
 copy-many-requires c κs =
-    let fits = c .before .before .before .before .before in
+    let planes = c .before .before .before in
+    let fits = planes .before .before in
     let start = begun (fitting fits) in
     omega (arith, rising start, start .pre .0 .index .data-room, fits .before .if2 .left)
 

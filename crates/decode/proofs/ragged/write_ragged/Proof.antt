@@ -1,16 +1,11 @@
 -- `write_ragged` meets its contract, by the depth.
 -- Assumes nothing.
-use mathlib.Core.Path.{sym, ap, _∙_, subst}
+use mathlib.Core.Path.{sym, subst}
 use Prim.Native.Nat.{ℕ, _≤_}
 use borrow.Author.Needs.{needs}
-use Rattle.array.specs.Answer.{gives, Outcome}
 use Rattle.array.specs.Limits.{mostCells}
-use Rattle.array.specs.Buffers.{Lengths}
-use Rattle.array.specs.Content.{Content}
 use Rattle.array.specs.Meaning.{widthOf, masksOf}
-use Rattle.array.specs.Outcome.{contentArray}
 use Rattle.codec.specs.Mask.{maskForm}
-use Rattle.decode.specs.Outcomes.{readOutcome}
 use Rattle.decode.proofs.RaggedLaws.{given-flat, given-nested, flat-cells}
 use Rattle.decode.proofs.ragged.write_ragged.Statement.{statement}
 use Rattle.decode.proofs.ragged.write_ragged.Tie as tie
@@ -26,10 +21,6 @@ flat c = c .before .before .before
 abbrev deep : tie.After-write-nested → tie.Else1
 deep c = c .before .before .before .before
 
--- what a reading of the content x leaves behind
-abbrev outcome : tie.Start → Content → Outcome Lengths Content
-outcome c x = readOutcome (contentArray (c .args .masks .now) (c .args .values .now) (c .args .offsets .now)) (gives x)
-
 -- ---- answers
 
 write-flat-requires : tie.Need-write-flat-requires
@@ -42,20 +33,17 @@ returns : tie.Need-returns
 returns c =
     let wrote = c .before .before .before .before in
     let here = flat wrote in
-    let start = entry (here .before .before) in
-    let a = start .args in
-    wrote .write-flat .ensures (a .masks .now)
-    ∙ ap (outcome start) (sym (given-flat (maskForm (masksOf (a .kind .masks))) (widthOf (a .width)) (a .kind .depth) (a .s .now) (a .n) (a .found) (here .if1 .taken)))
+    let a = entry (here .before .before) .args in
+    rw (given-flat (maskForm (masksOf (a .kind .masks))) (widthOf (a .width)) (a .kind .depth) (a .s .now) (a .n) (a .found) (here .if1 .taken))
+    (wrote .write-flat .ensures (a .masks .now))
 
 returns-2 : tie.Need-returns-2
 returns-2 c =
     let copied = c .before .before .before .before in
     let wrote = copied .before .before in
     let here = deep wrote in
-    let start = entry (here .before .before) in
-    let a = start .args in
-    wrote .write-nested .ensures
-    ∙ ap (outcome start) (sym (given-nested (maskForm (masksOf (a .kind .masks))) (widthOf (a .width)) (a .kind .depth) (a .s .now) (a .n) (a .found) (here .if1 .left)))
+    let a = entry (here .before .before) .args in
+    rw (given-nested (maskForm (masksOf (a .kind .masks))) (widthOf (a .width)) (a .kind .depth) (a .s .now) (a .n) (a .found) (here .if1 .left)) (wrote .write-nested .ensures)
 
 pub write-ragged-spec : {M : Type 1} → statement M
 write-ragged-spec =
