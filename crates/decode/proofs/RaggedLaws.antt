@@ -27,7 +27,7 @@ use Rattle.stored.specs.Walk.{Innermost, valuesAt, noneSet, walked}
 use Rattle.stored.specs.Stored.{cellsFrom, answerBy, innermostCount}
 use Rattle.stored.specs.Index.{offsetsIn, raggedAt}
 use Rattle.stored.proofs.Reading.{read-walked}
-use Rattle.stored.proofs.Walks.{WalkPassed, walk-values, walk-none, values-flat, none-deep, passed-count}
+use Rattle.stored.proofs.Walks.{walk-values, walk-none, values-flat, none-deep, passed-count}
 use Rattle.stored.proofs.IndexLaws.{drop-take}
 use Rattle.stored.proofs.CheckedIndex.{IndexChecked}
 use Rattle.spread.specs.Ends.{endsBy}

@@ -22,7 +22,7 @@ use Rattle.spread.proofs.CopyingOffsets.{length-offsets}
 use Rattle.planes.specs.Within.{planesIn, innermostIn}
 use Rattle.planes.proofs.AllPlanes.{innermost-read}
 use Rattle.decode.specs.Outcomes.{readOutcome}
-use Rattle.decode.specs.Reads.{nestedFrom, RaggedWithin}
+use Rattle.decode.specs.Reads.{RaggedWithin}
 use Rattle.decode.proofs.Outcomes.{short-masks, short-values, short-offsets, all-written}
 use Rattle.decode.proofs.RaggedLaws.{content, nested-masks, nested-count, nested-values, nested-offsets, nested-masks-long, nested-values-long, nested-offsets-long}
 

@@ -1,24 +1,23 @@
 -- The stages of the call: what it leaves behind where the kind or the shape is refused, and that else the reading decides.
 -- Assumes nothing.
-use mathlib.Core.Path.{_≡_, refl, sym, ap₂, _∙_, subst}
+use mathlib.Core.Path.{_≡_, refl, sym, subst}
 use mathlib.Core.Bool.{Bool, true, false}
 use mathlib.Core.List.{List, [], _∷_}
 use Prim.Native.Nat.{ℕ, _≤_}
 use native.Mathlib.Nat.{le-refl, mul-le-mul}
 use native.Mathlib.Omega.{arith}
 use Rattle.array.specs.declared.answer.WrittenArray.the-variants.{Refused}
-use Rattle.array.specs.Answer.{gives, refuses, andThen, unless}
+use Rattle.array.specs.Answer.{gives, refuses, unless}
 use Rattle.array.specs.Limits.{mostCells}
 use Rattle.array.specs.Lists.{All}
 use Rattle.array.specs.Kind.{Kind, Form, kindTest}
 use Rattle.array.specs.Shape.{volume, shapeTest}
 use Rattle.valid.specs.ShapeCells.{shapeAnswer}
-use Rattle.array.specs.Buffers.{contentOutcome}
 use Rattle.array.proofs.Rules.{shape-ok}
 use Rattle.codec.specs.Mask.{maskForm}
 use Rattle.codec.specs.Calls.{readIn, decodeAnswer, decoded}
 use Rattle.array.specs.Outcome.{contentArray, outcomeArray}
-use Rattle.decode.specs.Outcomes.{ifEnough, readOutcome}
+use Rattle.decode.specs.Outcomes.{readOutcome}
 
 -- what the shape's count says
 pub record ShapeCounted (shape : List ℕ) (n : ℕ) : Type 0 where

@@ -5,7 +5,7 @@ use mathlib.Core.List.{List, [], _∷_, _++_, append-nil}
 use Prim.Native.Nat.{ℕ, suc, _+_, _-_, _≤_, _<_}
 use native.Mathlib.Omega.{arith}
 use native.Mathlib.Numerals.{add-one}
-use lib.ListN.{length, take, drop, getD, set, replicate, length-drop}
+use lib.ListN.{length, drop, getD, set, replicate, length-drop}
 use lib.Seq.{drop-cons, getD-take}
 use Rattle.array.specs.Kind.{Masks}
 use Rattle.array.specs.Cells.{Mark, isNull, isSet, markOf}

@@ -66,7 +66,8 @@ spread-values-requires c κs =
     let here = deep (placed c) in
     let long = here .before in
     let start = enough long in
-    values-within (orderOf (start .args .order)) (start .pre) (start .args .masks .now) (start .args .values .now) (long .before .if1 .left) (long .if2 .left) (here .if3 .left) (planes .ensures) (planes .kept .1 .0)
+    values-within (orderOf (start .args .order)) (start .pre) (start .args .masks .now) (start .args .values .now) (long .before .if1 .left) (long .if2 .left) (here .if3 .left)
+    (planes .ensures) (planes .kept .1 .0)
 
 returns-4 : tie.Need-returns-4
 returns-4 c =

@@ -10,7 +10,7 @@ use Rattle.array.specs.Answer.{gives}
 use Rattle.array.specs.Meaning.{widthOf, placeOf, masksOf}
 use Rattle.codec.specs.Mask.{maskForm}
 use Rattle.stored.specs.Walk.{valuesAt, walked, toldWalk}
-use Rattle.stored.specs.Index.{toldIndex}
+use Rattle.stored.specs.Index.{checkedIn, toldIndex}
 use Rattle.stored.proofs.Walks.{WalkPassed, walk-values, none-deep}
 use Rattle.stored.proofs.IndexLaws.{width-most}
 use Rattle.stored.proofs.CheckedIndex.{IndexChecked, index-checked, checked-refused}
@@ -60,6 +60,10 @@ passed c =
     let a = start c .args in
     walk-values (masksOf (a .kind .masks)) (a .kind .depth) (a .s .now) 0 (a .n) (at c) (cells c) (omega arith) (values-are c)
 
+check-is : (c : tie.After-check-ragged) → checkedIn (widthOf (start (looked c) .args .width)) (placeOf (start (looked c) .args .place)) (start (looked c) .args .s .now)
+    (at (looked c)) (cells (looked c)) ≡ toldIndex (c .check-ragged .result)
+check-is c = sym (c .check-ragged .ensures)
+
 abbrev walk-of : tie.After-checked2 → tie.After-walk2
 walk-of c = looked (c .before .before)
 
@@ -69,7 +73,7 @@ checked-is c =
     let w = walk-of c in
     let a = start w .args in
     index-checked (widthOf (a .width)) (placeOf (a .place)) (a .s .now) (at w) (cells w) (c .checked2 .given .0 .0) (passed w .1)
-    (sym (c .before .before .check-ragged .ensures) ∙ ap toldIndex (c .checked2 .given .1))
+    (check-is (c .before .before) ∙ ap toldIndex (c .checked2 .given .1))
 
 -- ---- answers
 
@@ -116,7 +120,7 @@ returns-3 c =
     let a = start w .args in
     rw
     (ragged-wrong (maskForm (masksOf (a .kind .masks))) (widthOf (a .width)) (placeOf (a .place)) (a .s .now) (a .n) (a .kind .depth) (at w) (cells w) _ (values-are w)
-    (checked-refused (widthOf (a .width)) (placeOf (a .place)) (a .s .now) (at w) (cells w) _ (sym (check .check-ragged .ensures) ∙ ap toldIndex (c .before .checked .given .1))))
+    (checked-refused (widthOf (a .width)) (placeOf (a .place)) (a .s .now) (at w) (cells w) _ (check-is check ∙ ap toldIndex (c .before .checked .given .1))))
 
 returns-4 : tie.Need-returns-4
 returns-4 c =
