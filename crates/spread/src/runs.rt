@@ -1,5 +1,5 @@
 // Runs of cells with one mark.
-use stored::mask::is_set;
+use mask::mark::is_set;
 ghost use mathlib.Core.Path.{_≡_};
 ghost use Prim.Native.Nat.{_+_, _≤_};
 ghost use lib.ListN.{length, take, drop};
