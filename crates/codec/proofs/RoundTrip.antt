@@ -10,7 +10,7 @@ use Rattle.array.specs.Limits.{mostBytes}
 use Rattle.array.specs.Lists.{joined}
 use Rattle.array.specs.Kind.{Kind, Form, fixed, ragged, FormOk, nullOf}
 use Rattle.array.specs.Cells.{Value, Cell, rest}
-use Rattle.array.specs.Content.{RaggedContent, unmasked, leaves, layout}
+use Rattle.array.specs.Content.{RaggedContent, unmasked, leaves, layout, endToEnd}
 use Rattle.array.proofs.Lists.{map-id}
 use Rattle.array.proofs.Sizes.{SizedAs}
 use Rattle.array.proofs.LayoutLaws.{cells-layout, Good}
@@ -20,7 +20,7 @@ use Rattle.codec.specs.Ragged.{putRagged}
 use Rattle.codec.specs.Values.{putValues, getValues}
 use Rattle.codec.specs.Calls.{written, storedForm, readIn}
 use Rattle.codec.proofs.Frames.{back}
-use Rattle.codec.proofs.Values.{endToEnd, back-offsets, back-values}
+use Rattle.codec.proofs.Values.{back-offsets, back-values}
 use Rattle.codec.proofs.Lengths.{bytes-live, sized-live}
 
 written-layout : (f : Form) (d : ℕ) (xs : List (Cell d)) → written byteMask f d xs (layout f d xs) ≡ frame byteMask (putValues f) d xs
