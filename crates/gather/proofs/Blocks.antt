@@ -1,7 +1,7 @@
 -- Stored masks block by block: mask bytes of cells that a level counts are gathered, and put into stored bytes by the laws of a mask form.
 -- Assumes nothing.
 use mathlib.Core.Path.{_≡_, refl, sym, ap, ap₂, _∙_, subst}
-use Prim.Native.Nat.{ℕ, _+_, _-_, _%_, _<_, _≤_, min}
+use Prim.Native.Nat.{ℕ, _+_, _-_, _%_, _<_, _≤_}
 use native.Mathlib.Numerals.{add-one}
 use native.Mathlib.Omega.{arith}
 use mathlib.Core.Bool.{Bool, true, false}
@@ -182,8 +182,8 @@ module _ {x : Masks} {n : ℕ} {masks : List ℕ} {l : ℕ} {d : List ℕ} {to :
       laying-ends (liveMask x n masks l) d to out (maskForm x .size done)
       (laying-is (p .laid) (ap (λ (is : List ℕ). maskForm x .put (masksAt n masks l is)) e ∙ put-none x))
 
-  -- a block of the next m cells
-  module _ {m : ℕ} (some : 1 ≤ m) (em : m ≡ min (length (liveAt n masks l) - done) 256) where
+  -- a block of the next m cells: it fills whole bytes, or is the last
+  module _ {m : ℕ} (some : 1 ≤ m) (fit : done + m ≤ length (liveAt n masks l)) (eights : done + m < length (liveAt n masks l) → m % 8 ≡ 0) where
     pub block-fits : m ≤ length (liveFrom n masks l i)
     block-fits = omega (arith, p .counted)
 
@@ -204,7 +204,7 @@ module _ {x : Masks} {n : ℕ} {masks : List ℕ} {l : ℕ} {d : List ℕ} {to :
       next =
           ap (maskForm x .put) (gathered-split q block-fits)
           ∙ put-parts x (masksAt n masks l (take m (liveFrom n masks l i))) (masksAt n masks l (liveFrom n masks l r))
-          (λ h. omega (arith, gathered-long q block-fits, length-map (liveFrom n masks l r) (maskAt n masks l), rest-long, p .counted))
+          (λ h. ap (λ (k : ℕ). k % 8) (gathered-long q block-fits) ∙ eights (omega (arith, length-map (liveFrom n masks l r) (maskAt n masks l), rest-long, p .counted)))
 
       pub block-room : to + maskForm x .size done + maskForm x .size m ≤ length out
       block-room =
@@ -226,5 +226,5 @@ module _ {x : Masks} {n : ℕ} {masks : List ℕ} {l : ℕ} {d : List ℕ} {to :
             (eo ∙ ap₂ (λ (k : ℕ) (s : List ℕ). overAt (to + k) (maskForm x .put s) out) ea (gathered-first q block-fits))
             (maskForm x .size (done + m)) (size-more ∙ ap (λ (k : ℕ). maskForm x .size done + k) (sym part-long));
         counted = omega (arith, p .counted, rest-long);
-        whole = λ h. omega (arith, p .counted, rest-long, p .whole (omega (arith, block-fits)));
+        whole = λ h. omega (arith, eights (omega (arith, p .counted, rest-long)), p .whole (omega (arith, block-fits)));
       }

@@ -1,8 +1,8 @@
 -- `gather::cells::put_live_mask` meets its contract: by the laws of Blocks.
 -- Assumes nothing.
 use borrow.Author.Needs.{needs}
-use mathlib.Core.Path.{_≡_, refl, sym, ap, _∙_}
-use Prim.Native.Nat.{ℕ, _-_, _≤_, min}
+use mathlib.Core.Path.{_≡_, refl, sym, _∙_}
+use Prim.Native.Nat.{ℕ, _+_, _-_, _%_, _<_, _≤_}
 use native.Mathlib.Omega.{arith}
 use lib.ListN.{length}
 use Rattle.array.specs.Limits.{mostCells}
@@ -50,8 +50,14 @@ stored c = c .before .before .before
 some : (k : Counted) → 1 ≤ k .block-cells .result
 some k = omega (arith, k .block-cells .ensures, k .before .loop-test .taken)
 
-next : (k : Counted) → k .block-cells .result ≡ min (length (liveAt (start (loop k) .args .cells) (start (loop k) .args .masks .now) (start (loop k) .args .level)) - loop k .loop .done) 256
-next k = k .block-cells .ensures ∙ ap (λ (n : ℕ). min (n - loop k .loop .done) 256) (start (loop k) .pre .1)
+abbrev all : Start → ℕ
+all s = length (liveAt (s .args .cells) (s .args .masks .now) (s .args .level))
+
+fits : (k : Counted) → loop k .loop .done + k .block-cells .result ≤ all (start (loop k))
+fits k = omega (arith, k .block-cells .ensures, k .before .loop-test .taken, start (loop k) .pre .1)
+
+eights : (k : Counted) → loop k .loop .done + k .block-cells .result < all (start (loop k)) → k .block-cells .result % 8 ≡ 0
+eights k h = omega (arith, k .block-cells .ensures, k .before .loop-test .taken, start (loop k) .pre .1)
 
 long : (g : Filled) → length (g .gather-masks .last .0) ≡ 256
 long g = g .gather-masks .kept .0 ∙ loop (counted g) .loop .inv .0
@@ -72,7 +78,7 @@ gather-masks-requires : tie.Need-gather-masks-requires Inv-loop μ-loop
 gather-masks-requires c κs =
     let k = c .before in
     let l = loop k in
-    (start l .pre .0, block-fits (l .loop .inv .1) (some k) (next k), omega (arith, k .block-cells .ensures, l .loop .inv .0))
+    (start l .pre .0, block-fits (l .loop .inv .1) (some k) (fits k) (eights k), omega (arith, k .block-cells .ensures, l .loop .inv .0))
 
 mask-length-requires : tie.Need-mask-length-requires Inv-loop μ-loop
 mask-length-requires c κs = search needs
@@ -81,7 +87,7 @@ add-put-plane : tie.Need-add-put-plane Inv-loop μ-loop
 add-put-plane c =
     let g = c .before .before .before in
     let k = counted g in
-    omega (arith, c .mask-length .ensures, block-room (loop k .loop .inv .1) (some k) (next k) (g .gather-masks .ensures))
+    omega (arith, c .mask-length .ensures, block-room (loop k .loop .inv .1) (some k) (fits k) (eights k) (g .gather-masks .ensures))
 
 slice-aggregate-put-plane : tie.Need-slice-aggregate-put-plane Inv-loop μ-loop
 slice-aggregate-put-plane c = sym (long (filled c))
@@ -90,7 +96,7 @@ put-plane-requires : tie.Need-put-plane-requires Inv-loop μ-loop
 put-plane-requires c κs =
     let g = filled c in
     let k = counted g in
-    (omega (arith, c .before .mask-length .ensures, block-room (loop k .loop .inv .1) (some k) (next k) (g .gather-masks .ensures)), omega (arith, long g, k .block-cells .ensures))
+    (omega (arith, c .before .mask-length .ensures, block-room (loop k .loop .inv .1) (some k) (fits k) (eights k) (g .gather-masks .ensures)), omega (arith, long g, k .block-cells .ensures))
 
 add-done : tie.Need-add-done Inv-loop μ-loop
 unfolding mostCells
@@ -108,7 +114,7 @@ loop-again : tie.Need-loop-again Inv-loop μ-loop
 loop-again c =
     let g = filled (stored c) in
     let k = counted g in
-    (long g, blocks-more (loop k .loop .inv .1) (some k) (next k) (g .gather-masks .ensures) (stored c .before .mask-length .ensures) (c .before .before .put-plane .ensures))
+    (long g, blocks-more (loop k .loop .inv .1) (some k) (fits k) (eights k) (g .gather-masks .ensures) (stored c .before .mask-length .ensures) (c .before .before .put-plane .ensures))
 
 same-length : tie.Need-same-length Inv-loop μ-loop
 same-length c = blocks-same (c .before .loop .inv .1)
