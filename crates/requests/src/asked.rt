@@ -48,7 +48,11 @@ fn kind_beyond(depth: u64, form: u64, size: u64, order: u64, mask: u64, e: u8) -
     if size > 255 {
         return KindRead::Refused(e);
     }
-    masked_out_of_range(kind::fixed(depth as u8, size as u8, ByteOrder::Little), mask, e)
+    masked_out_of_range(
+        kind::fixed(depth as u8, size as u8, ByteOrder::Little),
+        mask,
+        e,
+    )
 }
 
 // The kind that five numbers say.
