@@ -3,8 +3,10 @@
 #                it from C, from Rust and by the command. Its last line is rt's own: 'N passed, 0 failed'.
 # make lib       proves and builds the archive: build/libdurpaxeta.a and build/durpaxeta.h.
 # make tool      builds the command build/durpaxeta over that archive.
+# make install   puts command, header, archive, pkg-config file and man pages under PREFIX, an absolute path; make uninstall takes
+#                them away again. For a package DESTDIR is where they lie for now, before PREFIX.
 # make compare   holds the archive against the original Rust; make teeth, make bench: oracle/README.md.
-.PHONY: test lib tool demo
+.PHONY: test lib tool demo install uninstall
 
 # rt's last line is kept back until the rest has passed.
 test:
@@ -13,24 +15,45 @@ test:
 	@tests/outside.sh
 	@tail -n 1 build/rt-ci.log
 
-# A failed rt leaves the archive of an earlier run in target/, so its status decides, and the old copy goes first.
-lib:
-	@rm -f build/libdurpaxeta.a
-	rt staticlib ffi
-	@mkdir -p build
-	@cp include/durpaxeta.h build/durpaxeta.h
-	@cp target/staticlib/libffi.a build/libdurpaxeta.a
+lib: build/libdurpaxeta.a build/durpaxeta.h
 	@echo "build/libdurpaxeta.a and build/durpaxeta.h are there"
 
-# Takes the archive in build/ as it is.
-tool:
-	@CARGO_TARGET_DIR="$(CURDIR)/build/cargo" cargo build --offline --locked --release --quiet --manifest-path tool/Cargo.toml
-	@cp build/cargo/release/durpaxeta build/durpaxeta
+# A failed rt leaves the archive of an earlier run in target/, so its status decides. The old copy stays until the new one is there.
+build/libdurpaxeta.a: crates.txt $(shell find crates -type f)
+	@mkdir -p build
+	@package/archive.sh
+	@cp target/staticlib/libffi.a $@.new
+	@mv -f $@.new $@
+
+build/durpaxeta.h: include/durpaxeta.h
+	@mkdir -p build
+	@cp $< $@
+
+tool: build/durpaxeta
 	@echo "build/durpaxeta is there"
 
-demo:
-	@$(MAKE) --no-print-directory lib
-	@$(MAKE) --no-print-directory tool
+build/durpaxeta: build/libdurpaxeta.a demo/guests.txt $(shell find tool bindings/rust -type f)
+	@CARGO_TARGET_DIR="$(CURDIR)/build/cargo" cargo build --offline --locked --release --quiet --manifest-path tool/Cargo.toml
+	@cp build/cargo/release/durpaxeta $@
+
+demo: lib tool
 	@demo/affinity.sh
+
+PREFIX ?= /usr/local
+DESTDIR ?=
+FILES := include/durpaxeta.h lib/libdurpaxeta.a lib/pkgconfig/durpaxeta.pc share/man/man1/durpaxeta.1 share/man/man3/durpaxeta.3
+
+install: lib tool
+	@case "$(PREFIX)" in /*) ;; *) echo "make install: PREFIX is an absolute path, not '$(PREFIX)'" >&2; exit 1 ;; esac
+	@sed -e 's|@PREFIX@|$(PREFIX)|' -e "s|@VERSION@|$$(cat VERSION)|" package/durpaxeta.pc.in > build/durpaxeta.pc
+	@package/man.sh 1 > build/durpaxeta.1
+	@package/man.sh 3 > build/durpaxeta.3
+	@install -D -m 755 build/durpaxeta "$(DESTDIR)$(PREFIX)/bin/durpaxeta"
+	@for file in $(FILES); do install -D -m 644 "build/$${file##*/}" "$(DESTDIR)$(PREFIX)/$$file" || exit 1; done
+	@echo "installed under $(DESTDIR)$(PREFIX): bin/durpaxeta $(FILES)"
+
+uninstall:
+	@rm -f $(foreach file,bin/durpaxeta $(FILES),"$(DESTDIR)$(PREFIX)/$(file)")
+	@echo "removed from $(DESTDIR)$(PREFIX): bin/durpaxeta $(FILES)"
 
 include oracle/oracle.mk

@@ -2,6 +2,7 @@
  * Durpaxeta: tables of optional and variable-length cells in one checked byte layout.
  *
  * Link with libdurpaxeta.a (x86-64). Nothing else is needed but memmove and memset, as of any C library.
+ * The archive has the eight calls. All else is static inline here: kinds, answers in words, room for outputs, cells.
  *
  * A TABLE is a kind, a shape and its content.
  *
@@ -51,6 +52,13 @@
 extern "C" {
 #endif
 
+/* The version, as three numbers, as text, and as one number that grows with it: #if DPX_VERSION_NUMBER >= 1002003 */
+#define DPX_VERSION_MAJOR 0
+#define DPX_VERSION_MINOR 1
+#define DPX_VERSION_PATCH 0
+#define DPX_VERSION "0.1.0"
+#define DPX_VERSION_NUMBER (DPX_VERSION_MAJOR * 1000000 + DPX_VERSION_MINOR * 1000 + DPX_VERSION_PATCH)
+
 /* Limits. One more of any of these is refused. */
 #define DPX_MAX_DEPTH 4             /* mask levels; 0 is allowed      */
 #define DPX_MAX_SIZE 64             /* bytes of a fixed cell, from 1  */
@@ -84,6 +92,40 @@ enum dpx_refusal {
     DPX_OUTPUT = 6 /* an output is shorter than the result needs */
 };
 
+/* An answer in words: what is wrong, and who causes it. */
+#define DPX_DESCRIBER " (caused by whoever describes the table)"
+#define DPX_SUPPLIER " (caused by whoever hands over the array or chunk list)"
+#define DPX_STORER " (caused by whoever stored the bytes)"
+#define DPX_LENDER " (caused by whoever lends the output)"
+static inline const char *dpx_refusal_text(uint32_t refusal)
+{
+    switch (refusal) {
+    case DPX_OK: return "done";
+    case DPX_KIND: return "refusal 1: the kind is out of range: depth 0 to 4, cell size 1 to 64 bytes, index width 4 or 8"
+                          " bytes" DPX_DESCRIBER;
+    case DPX_SHAPE: return "refusal 2: the shape is out of range: 1 to 4 sides, each at least 1, at most 65,536 cells in"
+                           " all" DPX_DESCRIBER;
+    case DPX_SUBSET: return "refusal 3: a subset reaches past the shape, or has not one start and one length for each side,"
+                            " or, in a merge, holds no cell" DPX_DESCRIBER;
+    case DPX_CONTENT: return "refusal 4: lengths of masks, values, offsets or chunks disagree, or offsets fall" DPX_SUPPLIER;
+    case DPX_SIZE: return "refusal 5: more than 16,777,216 value bytes" DPX_SUPPLIER;
+    case DPX_OUTPUT: return "refusal 6: an output is shorter than the result needs" DPX_LENDER;
+    case DPX_SHORT: return "refusal 7: too few stored bytes: a frame takes at least 16, ragged values 8, the interleaved form"
+                           " 4 and 4 for each cell" DPX_STORER;
+    case DPX_LENGTH: return "refusal 8: a stored length disagrees with the bytes that are there, or with the number of"
+                            " cells" DPX_STORER;
+    case DPX_COUNT: return "refusal 9: the interleaved form counts another number of cells" DPX_STORER;
+    case DPX_FALLING: return "refusal 10: stored offsets fall" DPX_STORER;
+    case DPX_PAST_END: return "refusal 11: interleaved form: a length field or a cell runs past the end" DPX_STORER;
+    case DPX_COVER: return "refusal 12: the subsets of the merge miss a cell or hold one twice" DPX_SUPPLIER;
+    default: return "no answer of this version";
+    }
+}
+#undef DPX_DESCRIBER
+#undef DPX_SUPPLIER
+#undef DPX_STORER
+#undef DPX_LENDER
+
 /* The numbers of a kind. Any other number in a field is refused with 1. */
 enum dpx_form { DPX_FIXED = 0, DPX_RAGGED = 1 };
 enum dpx_order { DPX_LITTLE = 0, DPX_BIG = 1 }; /* order of the bytes of a stored fixed cell */
@@ -108,7 +150,7 @@ static inline dpx_kind dpx_fixed(uint64_t depth, uint64_t size, enum dpx_order o
     kind.depth = depth;
     kind.form = DPX_FIXED;
     kind.size = size;
-    kind.order = (uint64_t)order;
+    kind.order = order;
     kind.mask = DPX_MASK_BYTES;
     return kind;
 }
@@ -120,9 +162,117 @@ static inline dpx_kind dpx_ragged(uint64_t depth, uint64_t width, enum dpx_place
     kind.depth = depth;
     kind.form = DPX_RAGGED;
     kind.size = width;
-    kind.order = (uint64_t)place;
+    kind.order = place;
     kind.mask = DPX_MASK_BYTES;
     return kind;
+}
+
+/*
+ * ROOM: how long the outputs must be. For what a call refuses any room will do, and these answer little or nothing.
+ */
+
+/* Cells of that many sides, of a shape or of the lengths of a subset; 0 where there are none, or over 65,536. */
+static inline uint64_t dpx_cell_count(const uint64_t *sides, size_t sides_len)
+{
+    uint64_t cells = sides_len >= 1 && sides_len <= DPX_MAX_SIDES ? 1 : 0;
+    size_t i;
+    for (i = 0; i < sides_len && cells != 0; i++)
+        cells = sides[i] <= DPX_MAX_CELLS / cells ? cells * sides[i] : 0;
+    return cells;
+}
+
+/* Elements of masks, values and offsets. */
+typedef struct dpx_room {
+    size_t masks;
+    size_t values;
+    size_t offsets;
+} dpx_room;
+
+/*
+ * The room that an array of `cells` cells needs. Ragged values are at most `bytes` long.
+ *   dpx_decode              cells of the shape,  bytes: bytes_len
+ *   dpx_extract             cells of the subset, bytes: values_len
+ *   dpx_merge               cells of the shape,  bytes: values_len
+ *   dpx_partial_decode      cells of the subset, bytes: bytes_len, kind: ragged, depth 0
+ *   dpx_decode_interleaved  its cells,           bytes: bytes_len, kind: ragged, depth 0
+ * All of it is used but for ragged values, which may be shorter.
+ */
+static inline dpx_room dpx_array_room(dpx_kind kind, uint64_t cells, size_t bytes)
+{
+    dpx_room room = {0, 0, 0};
+    if (kind.depth > DPX_MAX_DEPTH || kind.size > DPX_MAX_SIZE || cells > DPX_MAX_CELLS)
+        return room;
+    room.masks = kind.depth * cells;
+    if (kind.form == DPX_RAGGED) {
+        room.values = bytes < DPX_MAX_VALUE_BYTES ? bytes : DPX_MAX_VALUE_BYTES;
+        room.offsets = cells + 1;
+    } else {
+        room.values = cells * kind.size;
+    }
+    return room;
+}
+
+/* The stored bytes of one level's mask over that many cells. */
+static inline size_t dpx_mask_room(dpx_kind kind, uint64_t cells)
+{
+    switch (kind.mask) {
+    case DPX_MASK_BYTES: return cells;
+    default: return 0;
+    }
+}
+
+/*
+ * The most bytes that dpx_encode writes for an array of `cells` cells; of ragged ones with values_len value bytes.
+ * Exactly as many are written where no cell is null.
+ */
+static inline size_t dpx_stored_room(dpx_kind kind, uint64_t cells, size_t values_len)
+{
+    const dpx_room array = dpx_array_room(kind, cells, values_len);
+    size_t index = 0;
+    if (array.values + array.offsets == 0)
+        return 0;
+    if (kind.form == DPX_RAGGED)
+        index = 8 + kind.size * array.offsets;
+    return kind.depth * (16 + dpx_mask_room(kind, cells)) + array.values + index;
+}
+
+/*
+ * CELLS
+ */
+
+/* What a cell is: null at a level, or a value, which may be empty. */
+typedef struct dpx_cell {
+    uint64_t null_level;  /* 0: it has a value. Else the outermost level whose mask byte is 00, counted from 1 */
+    const uint8_t *value; /* its first byte; of no use where the cell is null or empty */
+    uint64_t length;      /* its bytes; 0 where the cell is null */
+} dpx_cell;
+
+/*
+ * Cell `number` of an array of `cells` cells, counted row by row from 0. The array is one that a call gave or accepted,
+ * and `number` is below `cells`: nothing is tested here. `value` points into `values`.
+ */
+static inline dpx_cell dpx_get_cell(dpx_kind kind, uint64_t cells,
+                                    const uint8_t *masks, const uint8_t *values, const uint64_t *offsets,
+                                    uint64_t number)
+{
+    dpx_cell cell = {0, values, 0};
+    uint64_t level, start;
+    for (level = 0; level < kind.depth; level++) {
+        if (masks[level * cells + number] == 0) {
+            cell.null_level = level + 1;
+            return cell;
+        }
+    }
+    if (kind.form == DPX_RAGGED) {
+        start = offsets[number];
+        cell.length = offsets[number + 1] - start;
+    } else {
+        start = number * kind.size;
+        cell.length = kind.size;
+    }
+    if (cell.length != 0)
+        cell.value = values + start;
+    return cell;
 }
 
 /*
@@ -130,7 +280,7 @@ static inline dpx_kind dpx_ragged(uint64_t depth, uint64_t width, enum dpx_place
  *
  * Writes the stored form to `out`. Values below a null are not stored. Fixed values of big order are stored with the
  * bytes of each cell reversed. At depth 0 all else is stored as it is.
- * Enough room in any case: 16 * depth + masks_len + values_len + 8 + 8 * offsets_len bytes.
+ * Enough room: dpx_stored_room.
  *
  *   lengths[0]   stored bytes written
  *
@@ -156,7 +306,8 @@ uint32_t dpx_encode(dpx_kind kind,
  * `bytes` is the whole stored table, neither more nor less. Below a null every mask byte comes out as 00, a fixed value
  * as zero bytes and a ragged one as no bytes. From depth 1 on ragged values come out end to end from offset 0; at depth 0
  * offsets and value bytes come out as they are stored, but where the last offset is 0: there no value bytes come out.
- * Enough room: depth * cells masks; fixed: cells * size values; ragged: bytes_len values and cells + 1 offsets.
+ * Enough room: dpx_array_room. That is depth * cells masks; fixed: cells * size values; ragged: bytes_len values and
+ * cells + 1 offsets.
  *
  *   lengths[0]   mask bytes written: depth * cells
  *   lengths[1]   value bytes written

@@ -1,6 +1,7 @@
 #!/usr/bin/env bash
 # Everything around the proved code: builds the archive, then tests the C interface (plain, under valgrind, with the
-# sanitizers), the Rust wrapper, the command, the README's examples and the demonstration; what the documents name.
+# sanitizers), the Rust wrapper, the command, what is installed, the README's examples and the demonstration; the build itself
+# and what the documents name.
 # With --built the archive in build/ is taken as it is. Any failure ends the script with a status other than 0.
 set -euo pipefail
 cd "$(dirname "$0")/.."
@@ -10,14 +11,19 @@ say() { printf '\n== %s\n' "$*"; }
 
 if [ "${1:-}" != --built ]; then
     say 'archive and header'
-    make --no-print-directory lib
+    make --no-print-directory --always-make lib
     # The archive stands alone: it takes nothing but these four of the C library.
     undefined=$(nm --undefined-only --format=posix build/libdurpaxeta.a | awk 'NF > 1 {print $1}' | sort -u)
     if grep -vxE 'memcpy|memmove|memset|memcmp|_GLOBAL_OFFSET_TABLE_' <<< "${undefined:-memcpy}"; then
         echo 'outside: the archive needs the symbols above' >&2
         exit 1
     fi
+else
+    touch build/libdurpaxeta.a
 fi
+
+say 'build'
+tests/build.sh
 
 say 'documents'
 tests/documents.sh
@@ -43,6 +49,9 @@ cargo test --offline --locked --quiet --manifest-path bindings/rust/Cargo.toml
 
 say 'command'
 cargo test --offline --locked --quiet --manifest-path tool/Cargo.toml
+
+say 'installation'
+tests/install.sh
 
 say 'examples of the README'
 tests/readme.sh

@@ -4,25 +4,13 @@
  * Inputs are copied into blocks of exactly their size, so that valgrind sees a read past an end. Outputs lie between
  * guard bytes, and everything lent is filled first, so that a byte written where none may be is seen.
  */
+#include "check.h"
 #include "durpaxeta.h"
 
 #include <inttypes.h>
 #include <stdio.h>
 #include <stdlib.h>
 #include <string.h>
-
-static unsigned long checks, failures;
-
-static void check(int holds, const char *what, int line)
-{
-    checks++;
-    if (!holds) {
-        failures++;
-        printf("FAILED at line %d: %s\n", line, what);
-    }
-}
-
-#define CHECK(condition) check((condition) ? 1 : 0, #condition, __LINE__)
 
 static void check_answer(uint32_t got, uint32_t wanted, const char *what, int line)
 {

@@ -13,8 +13,27 @@ pub struct Arguments {
     /// Subset and file of each part of a merge.
     pub parts: Vec<(String, OsString)>,
     pub hex: bool,
+    pub json: bool,
     pub interleaved: bool,
+    pub strict: bool,
+    pub describe: bool,
+    pub no_clobber: bool,
     pub files: Vec<OsString>,
+}
+
+impl Arguments {
+    /// The options that take no value.
+    fn flag(&mut self, option: &str) -> Option<&mut bool> {
+        match option {
+            "--hex" => Some(&mut self.hex),
+            "--json" => Some(&mut self.json),
+            "--interleaved" => Some(&mut self.interleaved),
+            "--strict" => Some(&mut self.strict),
+            "--describe" => Some(&mut self.describe),
+            "--no-clobber" => Some(&mut self.no_clobber),
+            _ => None,
+        }
+    }
 }
 
 /// Reads the words behind a command. `options` are those that it takes, `files` the names of its files.
@@ -41,16 +60,13 @@ pub fn parse(command: &str, options: &[&str], files: &[&str], words: Vec<OsStrin
             None => (text.as_str(), None),
         };
         if !options.contains(&option) {
-            return Err(Failure::usage(format!("{command} does not take {option}; see 'durpaxeta {command} --help'")));
+            return Err(Failure::usage(format!("{command} does not take {option}")));
         }
-        if option == "--hex" || option == "--interleaved" {
+        if let Some(flag) = arguments.flag(option) {
             if attached.is_some() {
                 return Err(Failure::usage(format!("{option} takes no value")));
             }
-            match option {
-                "--hex" => arguments.hex = true,
-                _ => arguments.interleaved = true,
-            }
+            *flag = true;
             continue;
         }
         let value = match attached {
@@ -71,7 +87,7 @@ pub fn parse(command: &str, options: &[&str], files: &[&str], words: Vec<OsStrin
         let wanted = if files.is_empty() { "no file".to_string() } else { files.join(" ") };
         let given = arguments.files.len();
         return Err(Failure::usage(format!(
-            "{command} takes {wanted}, and {given} {} given; see 'durpaxeta {command} --help'",
+            "{command} takes {wanted}, and {given} {} given",
             if given == 1 { "name was" } else { "names were" }
         )));
     }

@@ -1,15 +1,19 @@
 //! The commands.
 
 use crate::arguments::{self, Arguments};
-use crate::failure::{refusal_text, Failure};
-use crate::locate::{self, Stop};
+use crate::describe::{self, Described, Description};
+use crate::failure::{refusal_text, Failure, HIDDEN};
+use crate::files::{self, Input};
+use crate::locate::{Unused, Walk};
+use crate::output::{self, Output};
+use crate::stored::{cells, given_kind, given_shape, missing_kind, missing_shape, stopped, Given, Interleaved, Stored};
 use crate::watch::Watch;
-use crate::{files, help, words, worksheet};
+use crate::{explain, help, json, words, worksheet};
 use durpaxeta::{
-    decode, decode_interleaved, encode, extract, merge, partial_decode, subset_cells, Array, Cell, Chunk, Kind,
-    Refusal, Subset, Values,
+    decode, encode, extract, merge, partial_decode, subset_cells, Array, Cell, Chunk, Kind, Refusal, Subset, Values,
 };
 use std::ffi::{OsStr, OsString};
+use std::fs;
 
 struct Command {
     name: &'static str,
@@ -19,36 +23,55 @@ struct Command {
     run: fn(&Arguments, &Watch) -> Result<u8, Failure>,
 }
 
-const COMMANDS: [Command; 7] = [
-    Command { name: "show", help: help::SHOW, options: &["--kind", "--shape", "--hex"], files: &["FILE"], run: show },
-    Command { name: "write", help: help::WRITE, options: &[], files: &["WORKSHEET", "OUT"], run: write },
+const COMMANDS: [Command; 8] = [
+    Command {
+        name: "show",
+        help: help::SHOW,
+        options: &["--kind", "--shape", "--hex", "--json"],
+        files: &["FILE"],
+        run: show,
+    },
+    Command {
+        name: "write",
+        help: help::WRITE,
+        options: &["--describe", "--no-clobber"],
+        files: &["WORKSHEET", "OUT"],
+        run: write,
+    },
     Command {
         name: "cut",
         help: help::CUT,
-        options: &["--kind", "--shape", "--subset"],
+        options: &["--kind", "--shape", "--subset", "--describe", "--no-clobber"],
         files: &["IN", "OUT"],
         run: cut,
     },
     Command {
         name: "merge",
         help: help::MERGE,
-        options: &["--kind", "--shape", "--part"],
+        options: &["--kind", "--shape", "--part", "--describe", "--no-clobber"],
         files: &["OUT"],
         run: merge_parts,
     },
     Command {
         name: "convert",
         help: help::CONVERT,
-        options: &["--kind", "--shape"],
+        options: &["--kind", "--shape", "--describe", "--no-clobber"],
         files: &["IN", "OUT"],
         run: convert,
     },
     Command {
         name: "check",
         help: help::CHECK,
-        options: &["--kind", "--shape", "--interleaved"],
+        options: &["--kind", "--shape", "--interleaved", "--strict"],
         files: &["FILE"],
         run: check,
+    },
+    Command {
+        name: "explain",
+        help: help::EXPLAIN,
+        options: &["--kind", "--shape", "--interleaved"],
+        files: &["FILE"],
+        run: explain_bytes,
     },
     Command { name: "example", help: help::EXAMPLE_HELP, options: &[], files: &[], run: example },
 ];
@@ -59,23 +82,29 @@ pub fn run(words: Vec<OsString>) -> Result<u8, Failure> {
     let mut words = words.into_iter();
     let first = words.next().ok_or_else(|| Failure::usage("no command is given"))?;
     let text = first.to_string_lossy().into_owned();
-    match text.as_str() {
-        "--help" | "-h" | "help" => {
-            let page = match words.next() {
-                Some(name) => command(&name.to_string_lossy())?.help,
-                None => help::GENERAL,
-            };
-            return print(page, &watch);
-        }
-        "--version" | "-V" => return print(help::VERSION, &watch),
-        _ => {}
+    let page = match text.as_str() {
+        "--help" | "-h" | "help" => match words.next() {
+            Some(name) => Some(command(&name.to_string_lossy())?.help),
+            None => Some(help::GENERAL),
+        },
+        "--version" | "-V" => Some(help::VERSION),
+        _ => None,
+    };
+    if let Some(page) = page {
+        return match words.next() {
+            Some(more) => Err(Failure::usage(format!("{text} does not take \"{}\"", more.to_string_lossy()))),
+            None => print(page, &watch),
+        };
     }
     let command = command(&text)?;
-    let arguments = arguments::parse(command.name, command.options, command.files, words.collect())?;
-    if arguments.help {
-        return print(command.help, &watch);
-    }
-    (command.run)(&arguments, &watch)
+    let run = || {
+        let arguments = arguments::parse(command.name, command.options, command.files, words.collect())?;
+        match arguments.help {
+            true => print(command.help, &watch),
+            false => (command.run)(&arguments, &watch),
+        }
+    };
+    run().map_err(|failure| failure.of_command(command.name))
 }
 
 fn command(name: &str) -> Result<&'static Command, Failure> {
@@ -86,149 +115,148 @@ fn command(name: &str) -> Result<&'static Command, Failure> {
 }
 
 fn print(text: &str, watch: &Watch) -> Result<u8, Failure> {
-    files::write(OsStr::new("-"), text.as_bytes(), watch)?;
+    output::print(text, watch)?;
     Ok(0)
 }
 
-// ------------------------------------------------------------------------------------------------ kinds and shapes
-
-/// The library's refusal of a kind.
-pub fn refused_kind(kind: Kind) -> Option<Refusal> {
-    // The kind is tested before anything else, and one cell of no bytes costs nothing.
-    decode(kind, &[1], &[]).err().filter(|refusal| *refusal == Refusal::Kind)
-}
-
-/// The library's refusal of a shape.
-pub fn refused_shape(shape: &[u64]) -> Option<Refusal> {
-    subset_cells(shape, &Subset::from_numbers(Vec::new())).err().filter(|refusal| *refusal == Refusal::Shape)
-}
-
-fn kind(arguments: &Arguments) -> Result<Kind, Failure> {
-    let text = arguments.kind.as_ref().ok_or_else(|| {
-        Failure::usage("--kind is missing; for example --kind \"depth 1, ragged, width 4, index at start\"")
-    })?;
-    let kind = words::kind(text)?;
-    match refused_kind(kind) {
-        Some(refusal) => Err(Failure::refused(refusal, "--kind", format!("The kind is {kind}"))),
-        None => Ok(kind),
-    }
-}
-
-fn shape(arguments: &Arguments) -> Result<Vec<u64>, Failure> {
-    let text = arguments.shape.as_ref().ok_or_else(|| Failure::usage("--shape is missing; for example --shape 2x3"))?;
-    let shape = words::shape(text)?;
-    match refused_shape(&shape) {
-        Some(refusal) => {
-            Err(Failure::refused(refusal, "--shape", format!("The shape is {}", words::shape_text(&shape))))
+/// Prints a verdict. Its status stands, whether or not anyone reads the text.
+fn verdict(status: u8, text: &str, watch: &Watch) -> Result<u8, Failure> {
+    match (status, output::print(text, watch)) {
+        (0, Err(failure)) => Err(failure),
+        (_, Err(failure)) => {
+            output::tell(&failure.to_string());
+            Ok(status)
         }
-        None => Ok(shape),
+        (_, Ok(())) => Ok(status),
     }
 }
 
-/// Cells of a shape that is accepted.
-fn cells(shape: &[u64]) -> usize {
-    shape.iter().product::<u64>() as usize
-}
-
-/// Tests a subset against its shape.
-fn inside(shape: &[u64], subset: &Subset, option: &str) -> Result<usize, Failure> {
-    match subset_cells(shape, subset) {
-        Ok(cells) => Ok(cells.len()),
+/// Reads a subset and tests it against its shape; answers how many cells it holds, too.
+fn subset_of(text: &str, shape: &[u64], option: &str) -> Result<(Subset, usize), Failure> {
+    let subset = words::subset(text)?;
+    match subset_cells(shape, &subset) {
+        Ok(cells) => Ok((subset, cells.len())),
         Err(refusal) => {
-            let detail =
-                format!("The subset is {}; the shape is {}", words::subset_text(subset), words::shape_text(shape));
+            let detail = format!("The subset is {}; the shape is {}", text.trim(), words::shape_text(shape));
             Err(Failure::refused(refusal, option, detail))
         }
     }
 }
 
-// ------------------------------------------------------------------------------------------------- stored tables
+/// How many stored bytes are in no cell.
+fn in_no_cell(count: usize, total: usize) -> String {
+    format!("{count} of the {total} stored bytes {} in no cell", if count == 1 { "is" } else { "are" })
+}
 
-/// Where reading stopped, in words.
-fn stopped(refusal: Refusal, found: Option<Stop>, length: usize) -> String {
-    match found {
-        Some(stop) if stop.refusal == refusal => {
-            format!("Reading stopped at byte {} of {length}: {}", stop.at, stop.what)
-        }
-        _ => "The byte where reading stopped was not found".to_string(),
+/// Tells of stored bytes that were left out.
+fn dropped(input: &Input, walk: &Walk) {
+    match walk.unused_bytes() {
+        0 => {}
+        count => output::tell(&format!("{}: {}: left out", input.name, in_no_cell(count, input.bytes.len()))),
     }
 }
 
-fn stopped_in_table(kind: Kind, shape: &[u64], bytes: &[u8], refusal: Refusal) -> String {
-    stopped(refusal, locate::table(kind, cells(shape), bytes), bytes.len())
-}
-
-/// Reads a stored table.
-fn table(kind: Kind, shape: &[u64], name: &str, bytes: &[u8]) -> Result<Array, Failure> {
-    decode(kind, shape, bytes)
-        .map_err(|refusal| Failure::refused(refusal, name, stopped_in_table(kind, shape, bytes, refusal)))
-}
-
-/// Stores an array.
-fn store(array: &Array, subject: &str) -> Result<Vec<u8>, Failure> {
-    encode(array).map_err(|refusal| Failure::Refused { refusal, subject: subject.to_string(), detail: None })
-}
-
-/// Stored bytes that no cell uses: what storing the table anew would leave out.
-fn unused(array: &Array, bytes: &[u8]) -> usize {
-    encode(array).map_or(0, |anew| bytes.len().saturating_sub(anew.len()))
-}
-
-fn input(arguments: &Arguments, which: usize, watch: &Watch) -> Result<(String, Vec<u8>), Failure> {
-    let path = &arguments.files[which];
-    Ok((files::name(path, "standard input"), files::read(path, watch)?))
+/// Stores an array in a file, and describes it where that is asked for.
+fn store(
+    array: &Array,
+    subject: &str,
+    path: &OsStr,
+    inputs: &[&Input],
+    arguments: &Arguments,
+    watch: &Watch,
+) -> Result<(), Failure> {
+    let table = Output::new(path, arguments.no_clobber, inputs)?;
+    let beside = describe::beside(path);
+    if arguments.describe && !table.is_file() {
+        return Err(Failure::usage("--describe writes OUT.dpx beside OUT, so OUT must be a file"));
+    }
+    let description = match arguments.describe {
+        true => Some(Output::new(&beside, arguments.no_clobber, inputs)?),
+        false if table.is_file() && fs::symlink_metadata(&beside).is_ok() => {
+            return Err(Failure::usage(format!(
+                "{} is there and would no longer be right: give --describe to write it anew, or remove it",
+                beside.to_string_lossy()
+            )));
+        }
+        false => None,
+    };
+    if let Some(description) = &description {
+        if !description.is_file() || (table.identity().is_some() && table.identity() == description.identity()) {
+            let beside = beside.to_string_lossy();
+            return Err(Failure::usage(format!("{beside} is no file of its own, so it cannot be the description")));
+        }
+    }
+    let stored =
+        encode(array).map_err(|refusal| Failure::Refused { refusal, subject: subject.to_string(), detail: None })?;
+    let text = Description::of(array.kind, &array.shape, &stored).text();
+    let mut outputs = vec![(table, &stored[..])];
+    outputs.extend(description.map(|description| (description, text.as_bytes())));
+    output::write(&outputs, watch)
 }
 
 // ---------------------------------------------------------------------------------------------------- the commands
 
 fn show(arguments: &Arguments, watch: &Watch) -> Result<u8, Failure> {
-    let (kind, shape) = (kind(arguments)?, shape(arguments)?);
-    let (name, bytes) = input(arguments, 0, watch)?;
-    let array = table(kind, &shape, &name, &bytes)?;
-    let notes = match unused(&array, &bytes) {
-        0 => vec![],
-        count => vec![format!("{count} of the {} stored bytes are in no cell; write leaves them out", bytes.len())],
-    };
+    if arguments.json && arguments.hex {
+        return Err(Failure::usage("--json shows each value as text and in hex: give --json or --hex, not both"));
+    }
+    let stored = Stored::named(arguments, false, watch)?;
+    let array = stored.decode()?;
+    let walk = stored.walk();
+    // At depth 0 a worksheet has a line for what lies before the first cell.
+    let kept = |unused: Unused| unused == Unused::Before && array.kind.depth == 0 && !arguments.json;
+    let lost: usize = walk.unused().filter(|&(_, unused)| !kept(unused)).map(|(field, _)| field.length).sum();
+    let count = in_no_cell(lost, stored.input.bytes.len());
+    if arguments.json {
+        print(&json::write(&array), watch)?;
+        if lost > 0 {
+            output::tell(&format!("{}: {count}: not shown", stored.input.name));
+        }
+        return Ok(0);
+    }
+    let notes = if lost > 0 { vec![format!("{count}: write leaves that out")] } else { vec![] };
     print(&worksheet::write(&array, arguments.hex, &notes), watch)
 }
 
 fn write(arguments: &Arguments, watch: &Watch) -> Result<u8, Failure> {
-    if arguments.files[0] == arguments.files[1] && arguments.files[0] != "-" {
-        return Err(Failure::usage("the table would be written over its worksheet; give OUT another name"));
-    }
-    let (name, bytes) = input(arguments, 0, watch)?;
-    let array = worksheet::read(&name, &bytes)?;
-    files::write(&arguments.files[1], &store(&array, &name)?, watch)?;
+    let sheet = files::read(&arguments.files[0], watch)?;
+    let array = worksheet::read(&sheet.name, &sheet.bytes)?;
+    store(&array, &sheet.name, &arguments.files[1], &[&sheet], arguments, watch)?;
     Ok(0)
 }
 
 fn cut(arguments: &Arguments, watch: &Watch) -> Result<u8, Failure> {
-    let (kind, shape) = (kind(arguments)?, shape(arguments)?);
     let text = arguments
         .subset
         .as_ref()
         .ok_or_else(|| Failure::usage("--subset is missing; for example --subset 0..2,1..3"))?;
-    let subset = words::subset(text)?;
-    if inside(&shape, &subset, "--subset")? == 0 {
+    let stored = Stored::named(arguments, false, watch)?;
+    let (subset, count) = subset_of(text, &stored.shape, "--subset")?;
+    if count == 0 {
         let detail = format!("The subset {text} holds no cell, and there is no table of no cells");
         return Err(Failure::refused(Refusal::Shape, "--subset", detail));
     }
-    let (name, bytes) = input(arguments, 0, watch)?;
-    let cut = match (kind.depth, kind.values) {
-        (0, Values::Ragged { width, place }) => partial_decode(width, place, &shape, &subset, &bytes)
-            .map_err(|refusal| Failure::refused(refusal, &name, stopped_in_table(kind, &shape, &bytes, refusal)))?,
-        _ => extract(&table(kind, &shape, &name, &bytes)?, &subset).map_err(|refusal| Failure::Refused {
+    let name = &stored.input.name;
+    let cut = match (stored.kind.depth, stored.kind.values) {
+        (0, Values::Ragged { width, place }) => {
+            partial_decode(width, place, &stored.shape, &subset, &stored.input.bytes)
+                .map_err(|refusal| stored.refused(refusal))?
+        }
+        _ => extract(&stored.decode()?, &subset).map_err(|refusal| Failure::Refused {
             refusal,
             subject: name.clone(),
             detail: None,
         })?,
     };
-    files::write(&arguments.files[1], &store(&cut, &name)?, watch)?;
+    store(&cut, name, &arguments.files[1], &stored.inputs().collect::<Vec<_>>(), arguments, watch)?;
+    dropped(&stored.input, &stored.walk());
     Ok(0)
 }
 
 fn merge_parts(arguments: &Arguments, watch: &Watch) -> Result<u8, Failure> {
-    let (kind, shape) = (kind(arguments)?, shape(arguments)?);
+    let kind = given_kind(arguments)?;
+    // A part knows its own shape at most, so the shape of the whole is always given.
+    let shape = given_shape(arguments)?.ok_or_else(|| missing_shape(", the shape of the whole"))?;
     if arguments.parts.is_empty() {
         return Err(Failure::usage("--part is missing; for example --part 0..1,0..3 first.bin"));
     }
@@ -237,25 +265,37 @@ fn merge_parts(arguments: &Arguments, watch: &Watch) -> Result<u8, Failure> {
     }
     let mut subsets = Vec::new();
     for (text, _) in &arguments.parts {
-        let subset = words::subset(text)?;
-        if inside(&shape, &subset, "--part")? == 0 {
+        let (subset, count) = subset_of(text, &shape, "--part")?;
+        if count == 0 {
             return Err(Failure::refused(Refusal::Subset, "--part", format!("The subset {text} holds no cell")));
         }
         subsets.push(subset);
     }
-    let mut parts = Vec::new();
-    for (subset, (_, file)) in subsets.iter().zip(&arguments.parts) {
-        let bytes = files::read(file, watch)?;
-        parts.push(table(kind, subset.lengths(), &files::name(file, "standard input"), &bytes)?);
+    let mut parts: Vec<(Stored, Array)> = Vec::new();
+    for (subset, (text, file)) in subsets.iter().zip(&arguments.parts) {
+        let given = Given { kind, shape: Some(subset.lengths()), shape_by: &format!("--part {text}") };
+        let stored = Stored::read(file, given, false, watch)?;
+        if let Some((first, _)) = parts.first().filter(|(first, _)| first.kind != stored.kind) {
+            let said = |part: &Stored| format!("\"{}\"", part.kind);
+            return Err(describe::differ(&first.input.name, &said(first), &stored.input.name, &said(&stored)));
+        }
+        let array = stored.decode()?;
+        parts.push((stored, array));
     }
+    let kind = parts[0].0.kind;
     watch.step("merging", Some(parts.len() as u64), "parts");
-    let chunks: Vec<Chunk<'_>> = subsets.iter().zip(&parts).map(|(subset, part)| Chunk::new(subset, part)).collect();
+    let chunks: Vec<Chunk<'_>> =
+        subsets.iter().zip(&parts).map(|(subset, (_, array))| Chunk::new(subset, array)).collect();
     let whole = merge(kind, &shape, &chunks).map_err(|refusal| Failure::Refused {
         refusal,
         subject: "merge".into(),
         detail: if refusal == Refusal::Cover { uncovered(&shape, &subsets) } else { None },
     })?;
-    files::write(&arguments.files[0], &store(&whole, "merge")?, watch)?;
+    let inputs: Vec<&Input> = parts.iter().flat_map(|(stored, _)| stored.inputs()).collect();
+    store(&whole, "merge", &arguments.files[0], &inputs, arguments, watch)?;
+    for (stored, _) in &parts {
+        dropped(&stored.input, &stored.walk());
+    }
     Ok(0)
 }
 
@@ -277,59 +317,119 @@ fn uncovered(shape: &[u64], subsets: &[Subset]) -> Option<String> {
 }
 
 fn convert(arguments: &Arguments, watch: &Watch) -> Result<u8, Failure> {
-    let (kind, shape) = (kind(arguments)?, shape(arguments)?);
+    let kind = given_kind(arguments)?.ok_or_else(|| missing_kind(""))?;
+    let example = "for example --kind \"depth 0, ragged, width 8, index at start\"";
     if kind.depth != 0 || !kind.is_ragged() {
-        return Err(Failure::usage(format!(
-            "convert writes ragged values of depth 0, not \"{kind}\"; for example --kind \"depth 0, ragged, width 8, index at start\""
-        )));
+        return Err(Failure::usage(format!("convert writes ragged values of depth 0, not \"{kind}\"; {example}")));
     }
-    let (name, bytes) = input(arguments, 0, watch)?;
-    let count = cells(&shape);
-    let values = decode_interleaved(count as u64, &bytes).map_err(|refusal| {
-        Failure::refused(refusal, &name, stopped(refusal, locate::interleaved(count, &bytes), bytes.len()))
+    let old = Interleaved::read(&arguments.files[0], "convert", arguments, watch)?;
+    let walk = old.walk();
+    let values = old.decode().map_err(|refusal| {
+        Failure::refused(refusal, &old.input.name, stopped(refusal, &walk, old.input.bytes.len()))
     })?;
-    let array = Array { kind, shape, masks: Vec::new(), values: values.values, offsets: values.offsets };
-    files::write(&arguments.files[1], &store(&array, &name)?, watch)?;
+    let array = Array { kind, shape: old.shape, masks: Vec::new(), values: values.values, offsets: values.offsets };
+    store(&array, &old.input.name, &arguments.files[1], &[&old.input], arguments, watch)?;
+    dropped(&old.input, &walk);
     Ok(0)
 }
 
-fn check(arguments: &Arguments, watch: &Watch) -> Result<u8, Failure> {
-    if arguments.interleaved && arguments.kind.is_some() {
-        return Err(Failure::usage("the interleaved form has no kind: give --interleaved or --kind, not both"));
-    }
-    let kind = if arguments.interleaved { None } else { Some(kind(arguments)?) };
-    let shape = shape(arguments)?;
-    let (name, bytes) = input(arguments, 0, watch)?;
-    let count = cells(&shape);
-    let verdict = match kind {
-        Some(kind) => match decode(kind, &shape, &bytes) {
-            Ok(array) => {
-                Ok(format!("  {kind}; {}\n  {}\n", contents(&array), length(bytes.len(), unused(&array, &bytes))))
+/// What was read of a file for `check` and `explain`, and the library's answer.
+struct Looked {
+    kind: Option<Kind>,
+    shape: Vec<u64>,
+    input: Input,
+    described: Option<Described>,
+    walk: Walk,
+    /// What the table is, in words; or the refusal.
+    answer: Result<String, Refusal>,
+}
+
+impl Looked {
+    fn at(arguments: &Arguments, damaged: bool, watch: &Watch) -> Result<Looked, Failure> {
+        let path = &arguments.files[0];
+        if arguments.interleaved {
+            if arguments.kind.is_some() {
+                let what = "the interleaved form has no kind: give --interleaved or --kind, not both";
+                return Err(Failure::usage(what));
             }
-            Err(refusal) => Err((refusal, stopped_in_table(kind, &shape, &bytes, refusal))),
-        },
-        None => match decode_interleaved(count as u64, &bytes) {
-            Ok(values) => {
-                let used = 4 + 4 * count + values.values.len();
-                Ok(format!("  interleaved; {count} cells\n  {}\n", length(bytes.len(), bytes.len() - used)))
-            }
-            Err(refusal) => Err((refusal, stopped(refusal, locate::interleaved(count, &bytes), bytes.len()))),
-        },
-    };
-    match verdict {
-        Ok(text) => print(&format!("{name}: valid\n{text}"), watch),
-        Err((refusal, detail)) => {
-            print(&format!("{name}: not valid\n{}\n", refusal_text(refusal, Some(&detail))), watch)?;
-            Ok(refusal.number() as u8)
+            let old = Interleaved::read(path, "--interleaved", arguments, watch)?;
+            let walk = old.walk();
+            let answer = old.decode().map(|_| format!("interleaved; {} cells", cells(&old.shape)));
+            return Ok(Looked { kind: None, shape: old.shape, input: old.input, described: None, walk, answer });
         }
+        let stored = Stored::named(arguments, damaged, watch)?;
+        let walk = stored.walk();
+        let Stored { kind, shape, input, described } = stored;
+        let answer = decode(kind, &shape, &input.bytes).map(|array| format!("{kind}; {}", contents(&array)));
+        Ok(Looked { kind: Some(kind), shape, input, described, walk, answer })
+    }
+
+    fn refusal(&self, refusal: Refusal) -> String {
+        refusal_text(refusal, Some(&stopped(refusal, &self.walk, self.input.bytes.len())))
+    }
+
+    /// What `--strict` does not accept: bytes that no cell uses, and mask bytes that say more than set or null.
+    fn hidden(&self) -> Option<String> {
+        let (bytes, length) = (&self.input.bytes, self.input.bytes.len());
+        let mut hidden = Vec::new();
+        if let Some((at, level)) = self.walk.loose_mask(bytes) {
+            let byte = bytes[at];
+            hidden
+                .push(format!("byte {at} of {length} is {byte:02X}, in the mask of level {level}; set is 01, null 00"));
+        }
+        for (field, unused) in self.walk.unused() {
+            let (at, count) = (field.at, field.length);
+            let noun = if count == 1 { "byte is" } else { "bytes are" };
+            hidden.push(format!("{count} {noun} in no cell, from byte {at} of {length} on: {}", unused.text()));
+        }
+        if hidden.is_empty() {
+            return None;
+        }
+        Some(format!("  {}.\n  Caused by whoever stored the bytes.", hidden.join(".\n  ")))
     }
 }
 
-fn length(bytes: usize, unused: usize) -> String {
-    match unused {
-        0 => format!("{bytes} bytes"),
-        _ => format!("{bytes} bytes, {unused} of them in no cell"),
+fn check(arguments: &Arguments, watch: &Watch) -> Result<u8, Failure> {
+    let looked = Looked::at(arguments, false, watch)?;
+    let name = &looked.input.name;
+    let about = match &looked.answer {
+        Ok(about) => about,
+        Err(refusal) => {
+            let text = format!("{name}: not valid\n{}\n", looked.refusal(*refusal));
+            return verdict(refusal.number() as u8, &text, watch);
+        }
+    };
+    if let Some(hidden) = looked.hidden().filter(|_| arguments.strict) {
+        return verdict(HIDDEN, &format!("{name}: valid, but not strictly\n{hidden}\n"), watch);
     }
+    let mut text = format!("{name}: valid\n  {about}\n  {} bytes", looked.input.bytes.len());
+    match looked.walk.unused_bytes() {
+        0 => {}
+        unused => text.push_str(&format!(", {unused} of them in no cell")),
+    }
+    if let Some(described) = &looked.described {
+        text.push_str(&format!(", as {} says", described.name()));
+    }
+    verdict(0, &format!("{text}\n"), watch)
+}
+
+fn explain_bytes(arguments: &Arguments, watch: &Watch) -> Result<u8, Failure> {
+    let looked = Looked::at(arguments, true, watch)?;
+    let Looked { kind, shape, input, .. } = &looked;
+    let form = kind.map_or("interleaved".to_string(), |kind| kind.to_string());
+    let mut text = format!("{}: {form}; {}; {} bytes\n", input.name, words::shape_text(shape), input.bytes.len());
+    text.push_str(&explain::picture(*kind, shape, &input.bytes, &looked.walk));
+    let mut status = 0;
+    if let Err(refusal) = looked.answer {
+        status = refusal.number() as u8;
+        text.push_str(&format!("{}\n", looked.refusal(refusal)));
+    }
+    let held = looked.described.as_ref().map_or(Ok(()), |described| described.holds(input));
+    if let Err(failure) = held {
+        status = if status == 0 { failure.status() } else { status };
+        text.push_str(&format!("{failure}\n"));
+    }
+    verdict(status, &text, watch)
 }
 
 /// How many cells are null at which level, empty, or have a value.

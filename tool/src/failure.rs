@@ -4,54 +4,85 @@ use durpaxeta::{Blame, Refusal};
 use std::fmt;
 use std::io;
 
-/// Exit status of a wrong command line.
+/// A wrong command line.
 pub const USAGE: u8 = 64;
-/// Exit status of a worksheet that cannot be read.
+/// A worksheet that cannot be read.
 pub const WORKSHEET: u8 = 65;
-/// Exit status of an error of the operating system.
+/// A description that cannot be read.
+pub const DESCRIPTION: u8 = 66;
+/// A description that says another kind or shape.
+pub const OTHER_TABLE: u8 = 67;
+/// A file of another length than its description says.
+pub const OTHER_LENGTH: u8 = 68;
+/// A file of another checksum than its description says.
+pub const OTHER_CHECKSUM: u8 = 69;
+/// A valid table that `--strict` does not accept.
+pub const HIDDEN: u8 = 70;
+/// A file that `--no-clobber` keeps.
+pub const KEPT: u8 = 73;
+/// An error of the operating system.
 pub const SYSTEM: u8 = 74;
 
 #[derive(Debug)]
 pub enum Failure {
-    /// The command line is wrong.
-    Usage(String),
+    /// The command line is wrong; with the command, where it is known.
+    Usage { what: String, command: Option<&'static str> },
     /// A worksheet cannot be read; with the line, where there is one.
     Worksheet { name: String, line: Option<usize>, what: String },
-    /// The operating system said no.
-    System(String),
     /// The library refused. `subject` is the file or argument, `detail` what exactly is wrong.
     Refused { refusal: Refusal, subject: String, detail: Option<String> },
-    /// Whoever read our output has left.
-    ReaderLeft,
+    /// Anything else, in a plain sentence with an exit status of its own.
+    Plain { status: u8, what: String },
 }
 
 impl Failure {
     pub fn usage(what: impl Into<String>) -> Failure {
-        Failure::Usage(what.into())
+        Failure::Usage { what: what.into(), command: None }
+    }
+
+    pub fn plain(status: u8, what: impl Into<String>) -> Failure {
+        Failure::Plain { status, what: what.into() }
     }
 
     pub fn system(what: &str, name: &str, error: &io::Error) -> Failure {
         if error.kind() == io::ErrorKind::BrokenPipe {
-            return Failure::ReaderLeft;
+            return Failure::plain(SYSTEM, format!("cannot {what} {name}: whoever reads it has left"));
         }
         // Without "(os error 2)", which says the same once more.
         let said = error.to_string();
         let said = said.split(" (os error").next().unwrap_or_default();
-        Failure::System(format!("cannot {what} {name}: {said}"))
+        Failure::plain(SYSTEM, format!("cannot {what} {name}: {said}"))
     }
 
     pub fn refused(refusal: Refusal, subject: impl Into<String>, detail: impl Into<String>) -> Failure {
         Failure::Refused { refusal, subject: subject.into(), detail: Some(detail.into()) }
     }
 
+    /// Names what was refused.
+    pub fn about(self, subject: &str) -> Failure {
+        match self {
+            Failure::Refused { refusal, detail, .. } => {
+                Failure::Refused { refusal, subject: subject.to_string(), detail }
+            }
+            other => other,
+        }
+    }
+
+    /// Names the command whose help tells more.
+    pub fn of_command(self, name: &'static str) -> Failure {
+        match self {
+            Failure::Usage { what, .. } => Failure::Usage { what, command: Some(name) },
+            other => other,
+        }
+    }
+
     /// The exit status: the number of a refusal, or 64 and above.
     pub fn status(&self) -> u8 {
         match self {
-            Failure::Usage(_) => USAGE,
+            Failure::Usage { .. } => USAGE,
             Failure::Worksheet { .. } => WORKSHEET,
-            Failure::System(_) => SYSTEM,
             Failure::Refused { refusal, .. } => refusal.number() as u8,
-            Failure::ReaderLeft => 0,
+            Failure::Plain { status, .. } => *status,
         }
     }
 }
@@ -74,14 +105,14 @@ pub fn refusal_text(refusal: Refusal, detail: Option<&str>) -> String {
 impl fmt::Display for Failure {
     fn fmt(&self, f: &mut fmt::Formatter<'_>) -> fmt::Result {
         match self {
-            Failure::Usage(what) => write!(f, "{what}\nTry 'durpaxeta --help'."),
+            Failure::Usage { what, command: Some(command) } => write!(f, "{what}\nSee 'durpaxeta help {command}'."),
+            Failure::Usage { what, command: None } => write!(f, "{what}\nSee 'durpaxeta help'."),
             Failure::Worksheet { name, line: Some(line), what } => write!(f, "{name}, line {line}: {what}"),
             Failure::Worksheet { name, line: None, what } => write!(f, "{name}: {what}"),
-            Failure::System(what) => f.write_str(what),
             Failure::Refused { refusal, subject, detail } => {
                 write!(f, "{subject}: {}", refusal_text(*refusal, detail.as_deref()))
             }
-            Failure::ReaderLeft => Ok(()),
+            Failure::Plain { what, .. } => f.write_str(what),
         }
     }
 }

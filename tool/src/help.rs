@@ -4,17 +4,18 @@ pub const VERSION: &str = concat!("durpaxeta ", env!("CARGO_PKG_VERSION"), "\n")
 
 pub const GENERAL: &str = r#"durpaxeta: stored tables of optional and variable-length cells
 
-  durpaxeta show     prints a stored table as a worksheet, one cell a line
+  durpaxeta show     prints a stored table as a worksheet, one cell a line, or as JSON
   durpaxeta write    makes a stored table from a worksheet
   durpaxeta cut      takes a subset of the cells out of a stored table
   durpaxeta merge    puts parts together into one stored table
   durpaxeta convert  makes a stored table from the older, interleaved form
   durpaxeta check    says whether a file is a valid table, and if not, why and at which byte
+  durpaxeta explain  prints the stored bytes, field by field, with what they are
   durpaxeta example  prints a worksheet to begin with
 
-'durpaxeta COMMAND --help' tells more about each.
+'durpaxeta help COMMAND' or 'durpaxeta COMMAND --help' tells more about each; 'durpaxeta help' prints this page.
 
-A stored table does not say its kind or its shape. You do:
+A stored table does not say its kind or its shape. You do, or its description does (FILE.dpx, written by --describe):
 
   --kind "depth 2, ragged, width 4, index at start"    cells of any length
   --kind "depth 1, fixed, size 2, little order"        cells of 2 bytes; or: big order
@@ -22,34 +23,62 @@ A stored table does not say its kind or its shape. You do:
   --subset 0..2,1..3                                   rows 0 and 1, columns 1 and 2: the end is not included
 
 Depth is the number of mask levels. Level 1 is the outermost. Bytes are counted from 0.
-A file name of - is standard input or standard output. Nothing is written unless all went well.
-Inputs of over 268,435,456 bytes are not read.
+A file name of - is standard input or standard output. Inputs of over 268,435,456 bytes are not read.
 
-Exit status: 0; or the number of the refusal, 1 to 12; 64 for a wrong command line; 65 for a worksheet that
-cannot be read; 74 for an error of the operating system.
+Where write, cut, merge and convert write to:
+  A file is replaced whole or stays as it was. What is written goes to a temporary file in the same folder, is synced, and
+  then takes the place of the old file, with its mode. On an error, or on a signal that ends the command, nothing is left
+  of it. (Power loss can leave a file named .durpaxeta-NUMBER-NUMBER, which may be removed.)
+  A symbolic link stays one, and the file that it leads to is replaced; another hard link of that file keeps the old bytes.
+  An output that is also an input, under whatever name, is refused. What is no regular file, such as a pipe, is written as
+  it comes.
+  --no-clobber    refuses to replace a file
+  --describe      writes OUT.dpx beside OUT: kind, shape, byte length and checksum. show, check, explain, cut and merge
+                  then need no --kind and --shape, and refuse a file that is not the one described.
+
+Exit status:
+  0         all went well, and all of it was delivered
+  1 to 12   the number of the refusal, whether or not anyone read the words to it
+  64        a wrong command line, or an output that is also an input
+  65        a worksheet that cannot be read
+  66        a description that cannot be read
+  67        --kind, --shape or --part that differ from the description
+  68, 69    a file of another length (68) or checksum (69) than its description says
+  70        check --strict: a valid table with bytes that no cell uses, or mask bytes other than 00 and 01
+  73        --no-clobber: the output is there already
+  74        an error of the operating system; so is an output whose reader left, or that was closed
 
 Examples:
   durpaxeta example > guests.txt
   durpaxeta write guests.txt guests.bin
   durpaxeta show --kind "depth 2, ragged, width 4, index at start" --shape 2x2 guests.bin
+  durpaxeta write --describe guests.txt described.bin
+  durpaxeta show described.bin
 "#;
 
-pub const SHOW: &str = r#"durpaxeta show --kind KIND --shape SHAPE [--hex] FILE
+pub const SHOW: &str = r#"durpaxeta show [--kind KIND --shape SHAPE] [--hex | --json] FILE
 
 Prints a stored table as a worksheet: a line for each cell, with its coordinates, its mask byte of each level, and then
-'null at level N' or a value. A value of no bytes is printed as value "". Values of printable ASCII are printed as text,
-others and all fixed ones in hex; with --hex all are in hex.
+'null at level N' or a value. A value of no bytes is printed as value "". A value is printed as text if it is UTF-8 and all
+of it is printable and clear: no control, joining, invisible or right-to-left characters. Others, and all fixed ones, are
+printed in hex; with --hex all are.
 'durpaxeta write' makes the same table out of the worksheet.
+
+With --json each cell is one line with a JSON object: "cell" and "masks" are lists, then comes "null" with the level, or
+"value" with "text" and "hex". The text of a value that is no UTF-8 is null.
+
+Kind and shape may be left out where FILE.dpx says them ('durpaxeta help write').
 
 Examples:
   durpaxeta example > guests.txt
   durpaxeta write guests.txt guests.bin
   durpaxeta show --kind "depth 2, ragged, width 4, index at start" --shape 2x2 guests.bin
   durpaxeta show --kind "depth 2, ragged, width 4, index at start" --shape 2x2 --hex guests.bin
+  durpaxeta show --kind "depth 2, ragged, width 4, index at start" --shape 2x2 --json guests.bin
   durpaxeta show --kind "depth 2, ragged, width 4, index at start" --shape 2x2 - < guests.bin > again.txt
 "#;
 
-pub const WRITE: &str = r#"durpaxeta write WORKSHEET OUT
+pub const WRITE: &str = r#"durpaxeta write [--describe] [--no-clobber] WORKSHEET OUT
 
 Makes a stored table from a worksheet. The worksheet says its kind and its shape; then comes a line for each cell:
 
@@ -63,63 +92,97 @@ Makes a stored table from a worksheet. The worksheet says its kind and its shape
 
 A line is the coordinates, the mask byte of each level in hex (00 is null, any other byte is set; at depth 0 a -), and
 what the cell is: null at level N, value "text" or value hex 0A 0B. Masks and words must agree. In a text \" \\ \n \t \r
-and \x0A stand for one byte. Every cell stands in one line; their order is free. # begins a comment.
+and \x0A stand for one byte; other characters for their bytes in UTF-8. Every cell stands in one line; their order is free.
+# begins a comment.
+
+With --describe OUT.dpx is written too, after OUT: a text with kind, shape, byte length and checksum of OUT. Where OUT.dpx is
+there already, --describe must be given, so that it stays right.
 
 Examples:
   durpaxeta example > guests.txt
-  durpaxeta write guests.txt guests.bin
+  durpaxeta write --describe guests.txt guests.bin
+  cat guests.bin.dpx
+  durpaxeta show guests.bin
   durpaxeta example | durpaxeta write - - > again.bin
   cmp guests.bin again.bin
 "#;
 
-pub const CUT: &str = r#"durpaxeta cut --kind KIND --shape SHAPE --subset SUBSET IN OUT
+pub const CUT: &str = r#"durpaxeta cut [--kind KIND --shape SHAPE] --subset SUBSET [--describe] [--no-clobber] IN OUT
 
 Takes the cells of a subset out of a stored table and stores them as a table of the same kind. Its shape is the lengths of
-the subset. A subset is one range for each side; the end is not included.
+the subset. A subset is one range for each side; the end is not included. Stored bytes that are in no cell are left out, and
+standard error says how many. Kind and shape may be left out where IN.dpx says them ('durpaxeta help write').
 
 Examples:
-  durpaxeta example | durpaxeta write - guests.bin
+  durpaxeta example | durpaxeta write --describe - guests.bin
   durpaxeta cut --kind "depth 2, ragged, width 4, index at start" --shape 2x2 --subset 0..1,0..2 guests.bin host0.bin
   durpaxeta show --kind "depth 2, ragged, width 4, index at start" --shape 1x2 host0.bin
+  durpaxeta cut --subset 1..2,0..2 --describe guests.bin host1.bin
+  durpaxeta show host1.bin
 "#;
 
-pub const MERGE: &str = r#"durpaxeta merge --kind KIND --shape SHAPE --part SUBSET FILE [--part SUBSET FILE]... OUT
+pub const MERGE: &str = r#"durpaxeta merge [--kind KIND] --shape SHAPE --part SUBSET FILE [--part SUBSET FILE]... [--describe] [--no-clobber] OUT
 
 Puts stored tables of one kind together into one. Each part is a subset of the whole and the file with its cells. Together
-the subsets hold each cell once; their order is free.
+the subsets hold each cell once; their order is free. Stored bytes that are in no cell are left out, and standard error says
+how many. The kind may be left out where each part has a description ('durpaxeta help write'); the shape of the whole may
+not, as no part knows it.
 
 Examples:
   durpaxeta example | durpaxeta write - guests.bin
-  durpaxeta cut --kind "depth 2, ragged, width 4, index at start" --shape 2x2 --subset 0..1,0..2 guests.bin host0.bin
-  durpaxeta cut --kind "depth 2, ragged, width 4, index at start" --shape 2x2 --subset 1..2,0..2 guests.bin host1.bin
+  durpaxeta cut --kind "depth 2, ragged, width 4, index at start" --shape 2x2 --subset 0..1,0..2 --describe guests.bin host0.bin
+  durpaxeta cut --kind "depth 2, ragged, width 4, index at start" --shape 2x2 --subset 1..2,0..2 --describe guests.bin host1.bin
   durpaxeta merge --kind "depth 2, ragged, width 4, index at start" --shape 2x2 --part 1..2,0..2 host1.bin --part 0..1,0..2 host0.bin all.bin
   cmp guests.bin all.bin
+  durpaxeta merge --shape 2x2 --part 0..1,0..2 host0.bin --part 1..2,0..2 host1.bin --no-clobber again.bin
+  cmp guests.bin again.bin
 "#;
 
-pub const CONVERT: &str = r#"durpaxeta convert --kind KIND --shape SHAPE IN OUT
+pub const CONVERT: &str = r#"durpaxeta convert --kind KIND --shape SHAPE [--describe] [--no-clobber] IN OUT
 
 Reads the older, interleaved form (Zarr V2: a count, then for each cell a length and its bytes) and stores its values as
-ragged values. The older form has no masks, so the kind is a ragged one of depth 0. Bytes after the last cell are left out.
+ragged values. The older form has no masks, so the kind is a ragged one of depth 0. Bytes after the last cell are left out,
+and standard error says how many.
 
 Examples:
   printf '\002\000\000\000\001\000\000\000A\000\000\000\000' > old.bin
-  durpaxeta convert --kind "depth 0, ragged, width 8, index at start" --shape 2 old.bin new.bin
-  durpaxeta show --kind "depth 0, ragged, width 8, index at start" --shape 2 new.bin
+  durpaxeta convert --kind "depth 0, ragged, width 8, index at start" --shape 2 --describe old.bin new.bin
+  durpaxeta show new.bin
 "#;
 
-pub const CHECK: &str = r#"durpaxeta check --kind KIND --shape SHAPE FILE
-durpaxeta check --interleaved --shape SHAPE FILE
+pub const CHECK: &str = r#"durpaxeta check [--kind KIND --shape SHAPE] [--strict] FILE
+durpaxeta check --interleaved --shape SHAPE [--strict] FILE
 
 Says whether a file is a valid table. If it is not, says the refusal, what it means, who causes it and the byte at which
 the field begins that could not be accepted. The exit status is 0 or the number of the refusal. With --interleaved the
-file is read as the older, interleaved form.
+file is read as the older, interleaved form. Kind and shape may be left out where FILE.dpx says them.
+
+With --strict a valid table is refused too, with status 70, if it has bytes that no cell uses: the content of a frame where
+no cell is set, data though the last offset is 0, data before the first offset, bytes behind the last cell of the older
+form; and if a mask byte is other than 00 and 01.
 
 Examples:
   durpaxeta example | durpaxeta write - guests.bin
-  durpaxeta check --kind "depth 2, ragged, width 4, index at start" --shape 2x2 guests.bin
+  durpaxeta check --strict --kind "depth 2, ragged, width 4, index at start" --shape 2x2 guests.bin
   head -c 40 guests.bin > damaged.bin
   durpaxeta check --kind "depth 2, ragged, width 4, index at start" --shape 2x2 damaged.bin || echo "refused with $?"
   printf '\002\000\000\000\001\000\000\000A\000\000\000\000' | durpaxeta check --interleaved --shape 2 -
+"#;
+
+pub const EXPLAIN: &str = r#"durpaxeta explain [--kind KIND --shape SHAPE] FILE
+durpaxeta explain --interleaved --shape SHAPE FILE
+
+Prints the stored bytes field by field: position, bytes, what they are. Masks come before values; each mask line names its
+cells. Long parts are shortened with a count. Of a damaged file all is printed up to the field that is refused, then the
+refusal and whose it is. The exit status is that of check. With --interleaved the file is read as the older, interleaved form.
+Kind and shape may be left out where FILE.dpx says them; a file that is not the one described is explained, too.
+
+Examples:
+  durpaxeta example | durpaxeta write - guests.bin
+  durpaxeta explain --kind "depth 2, ragged, width 4, index at start" --shape 2x2 guests.bin
+  head -c 40 guests.bin > damaged.bin
+  durpaxeta explain --kind "depth 2, ragged, width 4, index at start" --shape 2x2 damaged.bin || echo "refused with $?"
+  printf '\002\000\000\000\001\000\000\000A\000\000\000\000' | durpaxeta explain --interleaved --shape 2 -
 "#;
 
 pub const EXAMPLE_HELP: &str = r#"durpaxeta example

@@ -1,9 +1,10 @@
-//! Where reading stopped: the byte at which the field begins that could not be accepted.
+//! Stored bytes field by field, in the order in which the library reads them: what each field is, and where reading stops.
 //!
-//! The library answers with a number alone. After a refusal this module walks the stored bytes in the same order and
-//! names the field. It decides nothing: its answer is used only where it comes to the library's refusal.
+//! The library answers with a number alone. This module walks the same bytes and names the fields. It decides nothing:
+//! where it stops is used only where it comes to the library's refusal.
 
 use durpaxeta::{Kind, Place, Refusal, Values, Width, MAX_VALUE_BYTES};
+use std::ops::Range;
 
 /// Where reading stops, and why.
 #[derive(Debug, PartialEq, Eq)]
@@ -15,18 +16,156 @@ pub struct Stop {
     pub what: String,
 }
 
-fn stop(refusal: Refusal, at: usize, what: String) -> Option<Stop> {
-    Some(Stop { refusal, at, what })
+fn stop(refusal: Refusal, at: usize, what: String) -> Result<(), Stop> {
+    Err(Stop { refusal, at, what })
 }
 
-/// A little-endian field; one past the end is 0.
-fn field(bytes: &[u8], at: usize, width: usize) -> u64 {
-    let mut number = [0; 8];
-    if let Some(field) = bytes.get(at..at + width) {
-        number[..width].copy_from_slice(field);
-    }
-    u64::from_le_bytes(number)
+/// A field of stored bytes.
+#[derive(Debug, PartialEq, Eq)]
+pub struct Field {
+    pub at: usize,
+    pub length: usize,
+    pub part: Part,
 }
+
+impl Field {
+    pub fn range(&self) -> Range<usize> {
+        self.at..self.at + self.length
+    }
+}
+
+/// What a field is. Cells are numbers, row by row.
+#[derive(Debug, PartialEq, Eq)]
+pub enum Part {
+    MaskLength {
+        level: u64,
+        says: u64,
+    },
+    ContentLength {
+        level: u64,
+        says: u64,
+    },
+    /// `cells` are those that have a place in this mask, in their order.
+    Mask {
+        level: u64,
+        cells: Vec<usize>,
+    },
+    /// A fixed value.
+    Plain {
+        cell: usize,
+    },
+    IndexLength {
+        says: u64,
+    },
+    /// `ends` is the cell that ends there, and whether it is empty; `begins` the cell that begins there.
+    Offset {
+        number: usize,
+        says: u64,
+        ends: Option<(usize, bool)>,
+        begins: Option<usize>,
+    },
+    /// The bytes of a ragged cell.
+    Data {
+        cell: usize,
+    },
+    /// Of the interleaved form.
+    Count {
+        says: u64,
+    },
+    CellLength {
+        cell: usize,
+        says: u64,
+    },
+    /// Bytes that no cell uses.
+    Unused(Unused),
+}
+
+/// Where bytes can lie that no cell uses.
+#[derive(Clone, Copy, Debug, PartialEq, Eq)]
+pub enum Unused {
+    /// The content of a frame in which no cell is set.
+    Content { level: u64 },
+    /// Data, though the last offset is 0.
+    Behind,
+    /// Data before the first offset.
+    Before,
+    /// Bytes behind the last cell of the interleaved form.
+    Tail,
+}
+
+impl Unused {
+    pub fn text(self) -> String {
+        match self {
+            Unused::Content { level } => format!("content of level {level}, where no cell is set"),
+            Unused::Behind => "data, though the last offset is 0".into(),
+            Unused::Before => "data before the first offset".into(),
+            Unused::Tail => "behind the last cell".into(),
+        }
+    }
+}
+
+/// The fields of stored bytes, up to the one that is refused and with it.
+#[derive(Debug)]
+pub struct Walk {
+    pub fields: Vec<Field>,
+    pub stop: Option<Stop>,
+}
+
+impl Walk {
+    /// The fields that no cell uses.
+    pub fn unused(&self) -> impl Iterator<Item = (&Field, Unused)> {
+        self.fields.iter().filter_map(|field| match field.part {
+            Part::Unused(unused) => Some((field, unused)),
+            _ => None,
+        })
+    }
+
+    /// How many bytes no cell uses.
+    pub fn unused_bytes(&self) -> usize {
+        self.unused().map(|(field, _)| field.length).sum()
+    }
+
+    /// The first mask byte other than 00 and 01, and its level.
+    pub fn loose_mask(&self, bytes: &[u8]) -> Option<(usize, u64)> {
+        self.fields.iter().find_map(|field| match field.part {
+            Part::Mask { level, .. } => field.range().find(|&at| bytes[at] > 1).map(|at| (at, level)),
+            _ => None,
+        })
+    }
+}
+
+/// A stored table of a kind, with so many cells.
+pub fn table(kind: Kind, cells: usize, bytes: &[u8]) -> Walk {
+    let mut walker = Walker { bytes, fields: Vec::new() };
+    let stop = walker.table(kind, (0..cells).collect()).err();
+    Walk { fields: walker.fields, stop }
+}
+
+/// The interleaved form of so many cells.
+pub fn interleaved(cells: usize, bytes: &[u8]) -> Walk {
+    let mut walker = Walker { bytes, fields: Vec::new() };
+    let stop = walker.interleaved(cells).err();
+    Walk { fields: walker.fields, stop }
+}
+
+// ----------------------------------------------------------------------------------------------- how a mask lies
+
+/// Bytes of the mask of so many cells: one for each.
+fn mask_length(cells: usize) -> usize {
+    cells
+}
+
+/// Whether the cell at a place of a mask is set: any byte but 00.
+pub fn is_set(mask: &[u8], place: usize) -> bool {
+    mask[place] != 0
+}
+
+/// The places of a mask that lie in these of its bytes.
+pub fn places(bytes: Range<usize>) -> Range<usize> {
+    bytes
+}
+
+// -------------------------------------------------------------------------------------------------- the fields
 
 fn cells_text(count: usize) -> String {
     if count == 1 {
@@ -36,158 +175,206 @@ fn cells_text(count: usize) -> String {
     }
 }
 
-/// A stored table of a kind, with so many cells. None where nothing stops.
-pub fn table(kind: Kind, cells: usize, bytes: &[u8]) -> Option<Stop> {
-    let (mut at, mut count) = (0, cells);
-    for level in 1..=kind.depth {
-        let left = bytes.len() - at;
+struct Walker<'a> {
+    bytes: &'a [u8],
+    fields: Vec<Field>,
+}
+
+impl Walker<'_> {
+    /// Adds a field; one of no bytes is none.
+    fn field(&mut self, at: usize, length: usize, part: Part) {
+        if length > 0 {
+            self.fields.push(Field { at, length, part });
+        }
+    }
+
+    /// A little-endian number; one past the end is 0.
+    fn number(&self, at: usize, width: usize) -> u64 {
+        let mut number = [0; 8];
+        if let Some(field) = self.bytes.get(at..at + width) {
+            number[..width].copy_from_slice(field);
+        }
+        u64::from_le_bytes(number)
+    }
+
+    fn left(&self, at: usize) -> usize {
+        self.bytes.len() - at
+    }
+
+    fn table(&mut self, kind: Kind, mut cells: Vec<usize>) -> Result<(), Stop> {
+        let mut at = 0;
+        for level in 1..=kind.depth {
+            let mask = self.frame(level, cells.len(), at)?;
+            let set = (0..cells.len()).filter(|&place| is_set(&self.bytes[mask.clone()], place));
+            let set = set.map(|place| cells[place]).collect();
+            self.field(mask.start, mask.len(), Part::Mask { level, cells });
+            (at, cells) = (mask.end, set);
+            if cells.is_empty() {
+                self.field(at, self.left(at), Part::Unused(Unused::Content { level }));
+                return Ok(());
+            }
+        }
+        match kind.values {
+            Values::Fixed { size, .. } => self.plain(size, &cells, at),
+            Values::Ragged { width, place } => self.ragged(width, place, &cells, at),
+        }
+    }
+
+    /// The two lengths of a frame; answers where its mask lies.
+    fn frame(&mut self, level: u64, cells: usize, at: usize) -> Result<Range<usize>, Stop> {
+        let left = self.left(at);
         if left < 16 {
-            return stop(
+            stop(
                 Refusal::Short,
                 at,
                 format!(
                     "a frame of level {level} begins there and takes 16 bytes for its two lengths; {left} are left"
                 ),
-            );
+            )?;
         }
-        let (mask, content) = (field(bytes, at, 8), field(bytes, at + 8, 8));
-        if mask != count as u64 {
-            return stop(
+        let (mask, content) = (self.number(at, 8), self.number(at + 8, 8));
+        self.field(at, 8, Part::MaskLength { level, says: mask });
+        if mask != mask_length(cells) as u64 {
+            stop(
                 Refusal::Length,
                 at,
-                format!("the mask length of level {level} says {mask}; that level has {}", cells_text(count)),
-            );
+                format!("the mask length of level {level} says {mask}; that level has {}", cells_text(cells)),
+            )?;
         }
+        self.field(at + 8, 8, Part::ContentLength { level, says: content });
         if 16 + u128::from(mask) + u128::from(content) != left as u128 {
-            return stop(
+            stop(
                 Refusal::Length,
                 at + 8,
                 format!(
                     "the content length of level {level} says {content}, so the frame takes 16 + {mask} + {content} bytes; \
                      {left} are there"
                 ),
-            );
+            )?;
         }
-        let set = bytes[at + 16..at + 16 + count].iter().filter(|&&mask| mask != 0).count();
-        at += 16 + count;
-        count = set;
-        if count == 0 {
-            return None;
-        }
+        Ok(at + 16..at + 16 + mask_length(cells))
     }
-    match kind.values {
-        Values::Fixed { size, .. } => plain(size, count, bytes, at),
-        Values::Ragged { width, place } => ragged(width, place, count, bytes, at),
-    }
-}
 
-fn plain(size: u64, count: usize, bytes: &[u8], at: usize) -> Option<Stop> {
-    let (need, left) = (size as u128 * count as u128, bytes.len() - at);
-    if need == left as u128 {
-        return None;
+    fn plain(&mut self, size: u64, cells: &[usize], at: usize) -> Result<(), Stop> {
+        let (need, left) = (size as u128 * cells.len() as u128, self.left(at));
+        if need != left as u128 {
+            let count = cells_text(cells.len());
+            let what = format!("the values begin there; {count} of {size} bytes take {need}, and {left} are there");
+            stop(Refusal::Length, at, what)?;
+        }
+        let size = size as usize;
+        for (place, &cell) in cells.iter().enumerate() {
+            self.field(at + size * place, size, Part::Plain { cell });
+        }
+        Ok(())
     }
-    stop(
-        Refusal::Length,
-        at,
-        format!("the values begin there; {} of {size} bytes take {need}, and {left} are there", cells_text(count)),
-    )
-}
 
-fn ragged(width: Width, place: Place, count: usize, bytes: &[u8], at: usize) -> Option<Stop> {
-    let left = bytes.len() - at;
-    if left < 8 {
-        return stop(
-            Refusal::Short,
-            at,
-            format!("ragged values begin there and take 8 bytes for the length of their index; {left} are left"),
-        );
-    }
-    let width = width.bytes();
-    let need = width * (count + 1);
-    let length_at = match place {
-        Place::Start => at,
-        Place::End => bytes.len() - 8,
-    };
-    let length = field(bytes, length_at, 8);
-    if length != need as u64 {
-        return stop(
-            Refusal::Length,
-            length_at,
-            format!("the index length says {length}; the index of {} takes {need} bytes", cells_text(count)),
-        );
-    }
-    if need > left - 8 {
-        return stop(Refusal::Length, length_at, format!("the index takes {need} bytes; {} are there", left - 8));
-    }
-    let index = match place {
-        Place::Start => at + 8,
-        Place::End => length_at - need,
-    };
-    let offset = |number: usize| field(bytes, index + width * number, width);
-    let (last, data) = (offset(count), left - 8 - need);
-    let last_at = index + width * count;
-    if last != 0 && last != data as u64 {
-        return stop(Refusal::Length, last_at, format!("the last offset says {last} value bytes; {data} are there"));
-    }
-    for number in 1..=count {
-        let (before, here) = (offset(number - 1), offset(number));
-        if here < before {
-            return stop(
-                Refusal::Falling,
-                index + width * number,
-                format!("offset {number} is {here}, less than offset {} before it, which is {before}", number - 1),
-            );
+    fn ragged(&mut self, width: Width, place: Place, cells: &[usize], at: usize) -> Result<(), Stop> {
+        let (count, left) = (cells.len(), self.left(at));
+        if left < 8 {
+            stop(
+                Refusal::Short,
+                at,
+                format!("ragged values begin there and take 8 bytes for the length of their index; {left} are left"),
+            )?;
         }
+        let width = width.bytes();
+        let need = width * (count + 1);
+        let length_at = match place {
+            Place::Start => at,
+            Place::End => self.bytes.len() - 8,
+        };
+        let length = self.number(length_at, 8);
+        self.field(length_at, 8, Part::IndexLength { says: length });
+        if length != need as u64 {
+            let what = format!("the index length says {length}; the index of {} takes {need} bytes", cells_text(count));
+            stop(Refusal::Length, length_at, what)?;
+        }
+        if need > left - 8 {
+            let what = format!("the index takes {need} bytes; {} are there", left - 8);
+            stop(Refusal::Length, length_at, what)?;
+        }
+        let (index, data_at) = match place {
+            Place::Start => (at + 8, at + 8 + need),
+            Place::End => (length_at - need, at),
+        };
+        let offsets: Vec<u64> = (0..=count).map(|number| self.number(index + width * number, width)).collect();
+        let (last, data) = (offsets[count], left - 8 - need);
+        let wrong_end = last != 0 && last != data as u64;
+        let falling = offsets.windows(2).position(|pair| pair[1] < pair[0]).filter(|_| !wrong_end);
+        // With all offsets, or up to the one that is less than the one before it.
+        for number in 0..=falling.map_or(count, |before| before + 1) {
+            let part = Part::Offset {
+                number,
+                says: offsets[number],
+                ends: number.checked_sub(1).map(|place| (cells[place], offsets[place] == offsets[number])),
+                begins: cells.get(number).copied(),
+            };
+            self.field(index + width * number, width, part);
+        }
+        let last_at = index + width * count;
+        if wrong_end {
+            let what = format!("the last offset says {last} value bytes; {data} are there");
+            stop(Refusal::Length, last_at, what)?;
+        }
+        if let Some(before) = falling {
+            let number = before + 1;
+            let (less, more) = (offsets[number], offsets[before]);
+            let what = format!("offset {number} is {less}, less than offset {before} before it, which is {more}");
+            stop(Refusal::Falling, index + width * number, what)?;
+        }
+        if last > MAX_VALUE_BYTES {
+            stop(Refusal::Size, last_at, format!("the last offset says {last} value bytes"))?;
+        }
+        if last == 0 {
+            self.field(data_at, data, Part::Unused(Unused::Behind));
+            return Ok(());
+        }
+        self.field(data_at, offsets[0] as usize, Part::Unused(Unused::Before));
+        for (ends, &cell) in offsets.windows(2).zip(cells) {
+            self.field(data_at + ends[0] as usize, (ends[1] - ends[0]) as usize, Part::Data { cell });
+        }
+        Ok(())
     }
-    if last > MAX_VALUE_BYTES {
-        return stop(Refusal::Size, last_at, format!("the last offset says {last} value bytes"));
-    }
-    None
-}
 
-/// The interleaved form of so many cells. None where nothing stops.
-pub fn interleaved(cells: usize, bytes: &[u8]) -> Option<Stop> {
-    let need = 4 * (1 + cells);
-    if bytes.len() < need {
-        return stop(
-            Refusal::Short,
-            0,
-            format!("the count and the lengths of {} take {need} bytes; {} are there", cells_text(cells), bytes.len()),
-        );
-    }
-    let count = field(bytes, 0, 4);
-    if count != cells as u64 {
-        return stop(Refusal::Count, 0, format!("the count says {count}; the shape has {}", cells_text(cells)));
-    }
-    let (mut at, mut sum, mut over) = (4, 0, None);
-    for cell in 0..cells {
-        let left = bytes.len() - at;
-        if left < 4 {
-            return stop(
-                Refusal::PastEnd,
-                at,
-                format!("the length of cell {cell} begins there and takes 4 bytes; {left} are left"),
-            );
+    fn interleaved(&mut self, cells: usize) -> Result<(), Stop> {
+        let need = 4 * (1 + cells);
+        if self.bytes.len() < need {
+            let there = self.bytes.len();
+            let what =
+                format!("the count and the lengths of {} take {need} bytes; {there} are there", cells_text(cells));
+            stop(Refusal::Short, 0, what)?;
         }
-        let length = field(bytes, at, 4);
-        if length > left as u64 - 4 {
-            return stop(
-                Refusal::PastEnd,
-                at,
-                format!("the length of cell {cell} says {length}; {} bytes are left", left - 4),
-            );
+        let count = self.number(0, 4);
+        self.field(0, 4, Part::Count { says: count });
+        if count != cells as u64 {
+            let what = format!("the count says {count}; the shape has {}", cells_text(cells));
+            stop(Refusal::Count, 0, what)?;
         }
-        sum += length;
-        if sum > MAX_VALUE_BYTES && over.is_none() {
-            over = stop(
-                Refusal::Size,
-                at,
-                format!("with the length of cell {cell}, which says {length}, the cells sum up to {sum}"),
-            );
+        let (mut at, mut sum, mut over) = (4, 0, Ok(()));
+        for cell in 0..cells {
+            let left = self.left(at);
+            if left < 4 {
+                let what = format!("the length of cell {cell} begins there and takes 4 bytes; {left} are left");
+                stop(Refusal::PastEnd, at, what)?;
+            }
+            let length = self.number(at, 4);
+            self.field(at, 4, Part::CellLength { cell, says: length });
+            if length > left as u64 - 4 {
+                let what = format!("the length of cell {cell} says {length}; {} bytes are left", left - 4);
+                stop(Refusal::PastEnd, at, what)?;
+            }
+            self.field(at + 4, length as usize, Part::Data { cell });
+            sum += length;
+            if sum > MAX_VALUE_BYTES && over.is_ok() {
+                let what = format!("with the length of cell {cell}, which says {length}, the cells sum up to {sum}");
+                over = stop(Refusal::Size, at, what);
+            }
+            at += 4 + length as usize;
         }
-        at += 4 + length as usize;
+        self.field(at, self.left(at), Part::Unused(Unused::Tail));
+        over
     }
-    over
 }
 
 #[cfg(test)]
@@ -195,8 +382,8 @@ mod tests {
     use super::*;
     use durpaxeta::{decode, decode_interleaved, encode, Array, Cell, Order};
 
-    fn at(found: Option<Stop>) -> Option<(u32, usize)> {
-        found.map(|stop| (stop.refusal.number(), stop.at))
+    fn at(walk: Walk) -> Option<(u32, usize)> {
+        walk.stop.map(|stop| (stop.refusal.number(), stop.at))
     }
 
     /// The affinity table: 64 bytes.
@@ -210,7 +397,7 @@ mod tests {
     fn each_field_of_a_frame() {
         let (kind, stored) = affinity(Place::Start);
         assert_eq!(stored.len(), 64);
-        assert_eq!(table(kind, 4, &stored), None);
+        assert_eq!(at(table(kind, 4, &stored)), None);
         let with = |position: usize, byte: u8| {
             let mut bytes = stored.clone();
             bytes[position] = byte;
@@ -249,7 +436,7 @@ mod tests {
     fn plain_values_and_missing_contents() {
         let fixed = |depth| Kind::fixed(depth, 2, Order::Little);
         assert_eq!(at(table(fixed(0), 3, &[0; 5])), Some((8, 0)));
-        assert_eq!(table(fixed(0), 3, &[0; 6]), None);
+        assert_eq!(at(table(fixed(0), 3, &[0; 6])), None);
         let frame = [1, 0, 0, 0, 0, 0, 0, 0, 0, 0, 0, 0, 0, 0, 0, 0, 1];
         assert_eq!(at(table(fixed(1), 1, &frame)), Some((8, 17)));
         assert_eq!(at(table(fixed(2), 1, &frame)), Some((7, 17)));
@@ -259,14 +446,14 @@ mod tests {
     #[test]
     fn interleaved_fields() {
         let stored = [2, 0, 0, 0, 1, 0, 0, 0, b'A', 0, 0, 0, 0];
-        assert_eq!(interleaved(2, &stored), None);
+        assert_eq!(at(interleaved(2, &stored)), None);
         assert_eq!(at(interleaved(2, &stored[..11])), Some((7, 0)));
         assert_eq!(at(interleaved(2, &stored[..12])), Some((11, 9)));
         assert_eq!(at(interleaved(1, &stored)), Some((9, 0)));
         let mut long = stored;
         long[4] = 6;
         assert_eq!(at(interleaved(2, &long)), Some((11, 4)));
-        assert_eq!(interleaved(0, &[0, 0, 0, 0]), None);
+        assert_eq!(at(interleaved(0, &[0, 0, 0, 0])), None);
     }
 
     #[test]
@@ -283,58 +470,67 @@ mod tests {
         assert_eq!(at(interleaved(1, &bytes)), Some((5, 4)));
     }
 
-    /// Whatever is damaged: the walk comes to the library's answer, and stops within the bytes.
+    /// The walk comes to the library's answer. Its fields lie within the bytes and nowhere one over the other; with nothing
+    /// refused, every byte is in one of them.
+    fn covered(walk: &Walk, answer: Option<Refusal>, stored: &[u8]) {
+        assert_eq!(walk.stop.as_ref().map(|stop| stop.refusal), answer, "{stored:02X?}");
+        assert!(walk.stop.as_ref().map_or(true, |stop| stop.at <= stored.len()));
+        let mut ranges: Vec<Range<usize>> = walk.fields.iter().map(Field::range).collect();
+        ranges.sort_by_key(|range| range.start);
+        assert!(ranges.windows(2).all(|pair| pair[0].end <= pair[1].start), "{ranges:?}: {stored:02X?}");
+        assert!(ranges.last().map_or(true, |range| range.end <= stored.len()), "{ranges:?}: {stored:02X?}");
+        if walk.stop.is_none() {
+            assert_eq!(ranges.iter().map(Range::len).sum::<usize>(), stored.len(), "{ranges:?}: {stored:02X?}");
+        }
+    }
+
+    #[test]
+    fn bytes_that_no_cell_uses() {
+        let unused = |walk: Walk| -> Vec<(usize, usize, Unused)> {
+            assert_eq!(walk.stop, None);
+            walk.unused().map(|(field, unused)| (field.at, field.length, unused)).collect()
+        };
+        let frame = |content: &[u8]| {
+            [&[2, 0, 0, 0, 0, 0, 0, 0, content.len() as u8, 0, 0, 0, 0, 0, 0, 0, 0, 0][..], content].concat()
+        };
+        let fixed = Kind::fixed(1, 2, Order::Little);
+        assert_eq!(unused(table(fixed, 2, &frame(b""))), []);
+        assert_eq!(unused(table(fixed, 2, &frame(b"note"))), [(18, 4, Unused::Content { level: 1 })]);
+        let ragged = |place| Kind::ragged(0, Width::Four, place);
+        let start = |offsets: [u8; 2], data: &[u8]| {
+            [&[8, 0, 0, 0, 0, 0, 0, 0, offsets[0], 0, 0, 0, offsets[1], 0, 0, 0][..], data].concat()
+        };
+        assert_eq!(unused(table(ragged(Place::Start), 1, &start([0, 2], b"AB"))), []);
+        assert_eq!(unused(table(ragged(Place::Start), 1, &start([1, 2], b"AB"))), [(16, 1, Unused::Before)]);
+        assert_eq!(unused(table(ragged(Place::Start), 1, &start([0, 0], b"AB"))), [(16, 2, Unused::Behind)]);
+        let end = [&b"AB"[..], &start([1, 2], b"")[8..], &start([1, 2], b"")[..8]].concat();
+        assert_eq!(unused(table(ragged(Place::End), 1, &end)), [(0, 1, Unused::Before)]);
+        assert_eq!(unused(interleaved(1, &[1, 0, 0, 0, 0, 0, 0, 0, 7])), [(8, 1, Unused::Tail)]);
+    }
+
+    #[test]
+    fn mask_bytes_over_01() {
+        let (kind, mut stored) = affinity(Place::Start);
+        assert_eq!(table(kind, 4, &stored).loose_mask(&stored), None);
+        stored[37] = 2;
+        assert_eq!(table(kind, 4, &stored).loose_mask(&stored), Some((37, 2)));
+    }
+
+    /// Whatever is damaged: the walk comes to the library's answer.
     #[test]
     fn agrees_with_the_library() {
-        let mut seed: u64 = 12345;
-        let mut draw = |limit: usize| {
-            seed ^= seed << 13;
-            seed ^= seed >> 7;
-            seed ^= seed << 17;
-            (seed >> 11) as usize % limit
-        };
-        let kinds = [
-            affinity(Place::Start).0,
-            affinity(Place::End).0,
-            Kind::ragged(0, Width::Eight, Place::Start),
-            Kind::ragged(0, Width::Four, Place::End),
-            Kind::ragged(4, Width::Eight, Place::End),
-            Kind::fixed(0, 3, Order::Big),
-            Kind::fixed(3, 2, Order::Little),
-        ];
+        let mut draw = crate::random::draws(12345);
         for round in 0..40_000 {
-            let kind = kinds[round % kinds.len()];
-            let depth = kind.depth as usize;
-            let cells: Vec<Cell<'_>> = (0..4)
-                .map(|_| match draw(4) {
-                    0 if depth > 0 => Cell::Null { level: 1 + draw(depth) },
-                    _ => Cell::Value(match kind.values {
-                        Values::Fixed { size, .. } => &b"abc"[..size as usize],
-                        Values::Ragged { .. } => &b"abc"[..draw(4)],
-                    }),
-                })
-                .collect();
-            let mut stored = encode(&Array::from_cells(kind, &[4], &cells).unwrap()).unwrap();
-            for _ in 0..draw(3) {
-                let position = draw(stored.len());
-                stored[position] = if draw(2) == 0 { stored[position] ^ (1 << draw(8)) } else { draw(256) as u8 };
-            }
-            if draw(4) == 0 {
-                stored.truncate(draw(stored.len() + 1));
-            }
+            let (kind, mut stored) = crate::random::damaged(round, &mut draw);
             let answer = decode(kind, &[4], &stored).err();
-            let found = table(kind, 4, &stored);
-            assert_eq!(found.as_ref().map(|stop| stop.refusal), answer, "{kind}: {stored:02X?}");
-            assert!(found.map_or(true, |stop| stop.at <= stored.len()));
+            covered(&table(kind, 4, &stored), answer, &stored);
             let count = draw(5);
             if stored.len() >= 4 && draw(2) == 0 {
                 stored[..4].copy_from_slice(&(count as u32).to_le_bytes());
                 stored[4..].iter_mut().for_each(|byte| *byte %= 3);
             }
             let answer = decode_interleaved(count as u64, &stored).err();
-            let found = interleaved(count, &stored);
-            assert_eq!(found.as_ref().map(|stop| stop.refusal), answer, "interleaved {count}: {stored:02X?}");
-            assert!(found.map_or(true, |stop| stop.at <= stored.len()));
+            covered(&interleaved(count, &stored), answer, &stored);
         }
     }
 }

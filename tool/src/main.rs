@@ -1,29 +1,35 @@
-//! The command `durpaxeta`: shows, writes, cuts, merges, converts and checks stored tables.
+//! The command `durpaxeta`: shows, writes, cuts, merges, converts, checks and explains stored tables.
 
-#![forbid(unsafe_code)]
+#![deny(unsafe_code)]
 
 mod arguments;
 mod commands;
+mod crc;
+mod describe;
+mod explain;
 mod failure;
 mod files;
 mod help;
+mod json;
+mod literal;
 mod locate;
+mod output;
+#[cfg(test)]
+mod random;
+mod stored;
+mod system;
 mod watch;
 mod words;
 mod worksheet;
 
-use std::io::Write;
 use std::process::ExitCode;
 
 fn main() -> ExitCode {
+    system::tell_of_long_files();
     match commands::run(std::env::args_os().skip(1).collect()) {
         Ok(status) => ExitCode::from(status),
         Err(failure) => {
-            let text = failure.to_string();
-            if !text.is_empty() {
-                // With no standard error there is nobody left to tell.
-                let _ = writeln!(std::io::stderr(), "durpaxeta: {text}");
-            }
+            output::tell(&failure.to_string());
             ExitCode::from(failure.status())
         }
     }

@@ -13,11 +13,13 @@
 //! A line is the cell's coordinates, its mask byte of each level (a `-` at depth 0), and either the word `null` with the
 //! level, or the word `value` with `"text"` or `hex 0A 0B`. So an empty value and a null differ in a word and in a mask
 //! byte, and a line where the two contradict each other is not accepted. In a text `\"`, `\\`, `\n`, `\t`, `\r` and `\x0A`
-//! stand for one byte. `#` begins a comment, on a line of its own or behind a cell.
+//! stand for one byte, other characters for their bytes in UTF-8. `#` begins a comment, on a line of its own or behind a
+//! cell.
 //!
 //! Ragged values of depth 0 may have bytes before their first cell; they stand in a line `before: "text"`.
 
 use crate::failure::Failure;
+use crate::literal::{self, hex_byte, word};
 use crate::words;
 use durpaxeta::{Array, Cell, Kind, Refusal, Values};
 use std::fmt::Write;
@@ -32,7 +34,7 @@ pub fn write(array: &Array, hex: bool, notes: &[String]) -> String {
         let _ = writeln!(text, "# note: {note}");
     }
     if let Some(before @ 1..) = array.offsets.first().copied() {
-        let _ = writeln!(text, "before: {}", literal(&array.values[..before as usize], hex));
+        let _ = writeln!(text, "before: {}", literal::write(&array.values[..before as usize], hex));
     }
     let fixed = !array.kind.is_ragged();
     let count = array.cell_count();
@@ -43,44 +45,18 @@ pub fn write(array: &Array, hex: bool, notes: &[String]) -> String {
         if masks.is_empty() {
             text.push('-');
         } else {
-            text.push_str(&spaced(&masks));
+            text.push_str(&literal::spaced(&masks));
         }
         match array.cell(number) {
             Some(Cell::Null { level }) => {
                 let _ = writeln!(text, " | null at level {level}");
             }
             Some(Cell::Value(value)) => {
-                let _ = writeln!(text, " | value {}", literal(value, hex || fixed));
+                let _ = writeln!(text, " | value {}", literal::write(value, hex || fixed));
             }
             None => {}
         }
     }
-    text
-}
-
-fn spaced(bytes: &[u8]) -> String {
-    let mut text = String::with_capacity(3 * bytes.len());
-    for (number, byte) in bytes.iter().enumerate() {
-        let _ = write!(text, "{}{byte:02X}", if number > 0 { " " } else { "" });
-    }
-    text
-}
-
-/// Printable ASCII in quotes, all else in hex. No bytes are always `""`.
-fn literal(value: &[u8], hex: bool) -> String {
-    let printable = value.iter().all(|byte| (b' '..=b'~').contains(byte));
-    if !value.is_empty() && (hex || !printable) {
-        return format!("hex {}", spaced(value));
-    }
-    let mut text = String::with_capacity(value.len() + 2);
-    text.push('"');
-    for &byte in value {
-        if byte == b'"' || byte == b'\\' {
-            text.push('\\');
-        }
-        text.push(byte as char);
-    }
-    text.push('"');
     text
 }
 
@@ -150,7 +126,7 @@ impl Reader<'_> {
     /// What is wrong with words on a command line is wrong in this line here.
     fn here(&self, failure: Failure) -> Failure {
         match failure {
-            Failure::Usage(what) => self.wrong(what),
+            Failure::Usage { what, .. } => self.wrong(what),
             Failure::Refused { refusal, detail, .. } => self.refused(refusal, detail.unwrap_or_default()),
             other => other,
         }
@@ -163,9 +139,6 @@ impl Reader<'_> {
                 return Err(self.wrong("the kind was given before"));
             }
             let kind = words::kind(words.trim()).map_err(|failure| self.here(failure))?;
-            if let Some(refusal) = crate::commands::refused_kind(kind) {
-                return Err(self.refused(refusal, format!("The kind is {kind}")));
-            }
             self.kind = Some(kind);
             return Ok(());
         }
@@ -174,9 +147,6 @@ impl Reader<'_> {
                 return Err(self.wrong("the shape was given before"));
             }
             let shape = words::shape(words.trim()).map_err(|failure| self.here(failure))?;
-            if let Some(refusal) = crate::commands::refused_shape(&shape) {
-                return Err(self.refused(refusal, format!("The shape is {}", words::shape_text(&shape))));
-            }
             self.cells.resize_with(shape.iter().product::<u64>() as usize, || None);
             self.shape = Some(shape);
             return Ok(());
@@ -289,63 +259,7 @@ impl Reader<'_> {
 
     /// `"text"` or `hex 0A 0B`, and perhaps a comment.
     fn literal(&self, text: &str, to: &mut Vec<u8>) -> Result<(), Failure> {
-        let rest = if let Some(text) = text.strip_prefix('"') {
-            self.quoted(text, to)?
-        } else if let Some(rest) = word(text, "hex") {
-            let (digits, comment) = rest.split_at(rest.find('#').unwrap_or(rest.len()));
-            self.hex(digits, to)?;
-            comment
-        } else {
-            return Err(self.wrong("a value is written as \"text\" in double quotes, or as hex 0A 0B"));
-        };
-        let rest = rest.trim();
-        if rest.is_empty() || rest.starts_with('#') {
-            return Ok(());
-        }
-        Err(self.wrong(format!("\"{rest}\" stands behind the value; a comment begins with #")))
-    }
-
-    fn hex(&self, text: &str, to: &mut Vec<u8>) -> Result<(), Failure> {
-        let from = to.len();
-        for group in text.split_whitespace() {
-            let digits = group.as_bytes();
-            let bytes: Option<Vec<u8>> =
-                digits.chunks(2).map(|pair| std::str::from_utf8(pair).ok().and_then(hex_byte)).collect();
-            match bytes {
-                Some(bytes) => to.extend_from_slice(&bytes),
-                None => return Err(self.wrong(format!("\"{group}\" is not hex: two digits for each byte"))),
-            }
-        }
-        if to.len() == from {
-            return Err(self.wrong("hex without digits; a value of no bytes is written as \"\""));
-        }
-        Ok(())
-    }
-
-    /// The text up to the closing quote; answers what stands behind it.
-    fn quoted<'t>(&self, text: &'t str, to: &mut Vec<u8>) -> Result<&'t str, Failure> {
-        let mut characters = text.char_indices();
-        while let Some((at, character)) = characters.next() {
-            match character {
-                '"' => return Ok(&text[at + 1..]),
-                '\\' => match characters.next().map(|(_, escaped)| escaped) {
-                    Some(plain @ ('"' | '\\')) => to.push(plain as u8),
-                    Some('n') => to.push(b'\n'),
-                    Some('t') => to.push(b'\t'),
-                    Some('r') => to.push(b'\r'),
-                    Some('x') => {
-                        let digits: String = characters.by_ref().take(2).map(|(_, digit)| digit).collect();
-                        match hex_byte(&digits) {
-                            Some(byte) => to.push(byte),
-                            None => return Err(self.wrong("\\x takes two hex digits, as in \\x0A")),
-                        }
-                    }
-                    _ => return Err(self.wrong("after \\ comes one of \" \\ n t r x")),
-                },
-                _ => to.extend_from_slice(character.encode_utf8(&mut [0; 4]).as_bytes()),
-            }
-        }
-        Err(self.wrong("the closing quote is missing"))
+        literal::read(text, to).map_err(|what| self.wrong(what))
     }
 
     /// All cells together.
@@ -383,25 +297,6 @@ impl Reader<'_> {
             }
         }
         Ok(array)
-    }
-}
-
-/// What stands behind a word, if the text begins with that word.
-fn word<'t>(text: &'t str, word: &str) -> Option<&'t str> {
-    let rest = text.strip_prefix(word)?;
-    if rest.is_empty() || rest.starts_with(|next: char| next.is_whitespace() || next == '#') {
-        Some(rest.trim_start())
-    } else {
-        None
-    }
-}
-
-/// Two hex digits.
-fn hex_byte(text: &str) -> Option<u8> {
-    if text.len() == 2 && text.bytes().all(|digit| digit.is_ascii_hexdigit()) {
-        u8::from_str_radix(text, 16).ok()
-    } else {
-        None
     }
 }
 
@@ -572,13 +467,7 @@ mod tests {
     /// Whatever is damaged: an array that the library can judge, or a failure; never a panic.
     #[test]
     fn damaged_sheets() {
-        let mut seed: u64 = 99;
-        let mut draw = |limit: usize| {
-            seed ^= seed << 13;
-            seed ^= seed >> 7;
-            seed ^= seed << 17;
-            (seed >> 11) as usize % limit
-        };
+        let mut draw = crate::random::draws(99);
         let sheets = [
             include_str!("../../demo/guests.txt").to_string(),
             sheet(FLAT, "2", &["before: hex 00 01", "0 | - | value \"a\\\"\\x41é\"", "1 | - | value hex 0A0b"]),

@@ -1,100 +1,13 @@
 //! The command as its users run it.
 
+mod common;
+
+use common::*;
 use std::fs;
-use std::io::{Read, Write};
-use std::path::{Path, PathBuf};
-use std::process::{Command, Stdio};
+use std::io::Write;
+use std::path::Path;
 use std::thread;
-use std::time::{Duration, Instant};
-
-const TOOL: &str = env!("CARGO_BIN_EXE_durpaxeta");
-const KIND: &str = "depth 2, ragged, width 4, index at start";
-
-/// What a run said.
-struct Said {
-    status: i32,
-    out: Vec<u8>,
-    err: String,
-}
-
-impl Said {
-    fn text(&self) -> &str {
-        std::str::from_utf8(&self.out).expect("standard output is text")
-    }
-}
-
-/// A directory of its own for each test.
-fn folder(name: &str) -> PathBuf {
-    let folder = Path::new(env!("CARGO_TARGET_TMPDIR")).join(name);
-    let _ = fs::remove_dir_all(&folder);
-    fs::create_dir_all(&folder).unwrap();
-    folder
-}
-
-/// Runs the tool; a run that takes over a minute or ends by a signal fails the test.
-fn run(folder: &Path, arguments: &[&str], input: &[u8]) -> Said {
-    let mut child = Command::new(TOOL)
-        .args(arguments)
-        .current_dir(folder)
-        .stdin(Stdio::piped())
-        .stdout(Stdio::piped())
-        .stderr(Stdio::piped())
-        .spawn()
-        .unwrap();
-    let (mut stdin, input) = (child.stdin.take().unwrap(), input.to_vec());
-    let feeder = thread::spawn(move || {
-        let _ = stdin.write_all(&input);
-    });
-    let (mut stdout, mut stderr) = (child.stdout.take().unwrap(), child.stderr.take().unwrap());
-    let reader = thread::spawn(move || {
-        let mut out = Vec::new();
-        stdout.read_to_end(&mut out).unwrap();
-        out
-    });
-    let errors = thread::spawn(move || {
-        let mut err = String::new();
-        stderr.read_to_string(&mut err).unwrap();
-        err
-    });
-    let deadline = Instant::now() + Duration::from_secs(60);
-    let status = loop {
-        if let Some(status) = child.try_wait().unwrap() {
-            break status;
-        }
-        if Instant::now() > deadline {
-            let _ = child.kill();
-            panic!("{arguments:?} hangs");
-        }
-        thread::sleep(Duration::from_millis(1));
-    };
-    feeder.join().unwrap();
-    let said = Said {
-        status: status.code().unwrap_or_else(|| panic!("{arguments:?} was ended by a signal")),
-        out: reader.join().unwrap(),
-        err: errors.join().unwrap(),
-    };
-    assert_ne!(said.status, 101, "{arguments:?} panicked: {}", said.err);
-    assert!(!said.err.contains("panicked"), "{arguments:?}: {}", said.err);
-    said
-}
-
-fn good(folder: &Path, arguments: &[&str]) -> Said {
-    let said = run(folder, arguments, b"");
-    assert_eq!(said.status, 0, "{arguments:?}: {}{}", said.text(), said.err);
-    assert_eq!(said.err, "", "{arguments:?}");
-    said
-}
-
-fn affinity(folder: &Path) {
-    fs::write(folder.join("guests.txt"), good(folder, &["example"]).out).unwrap();
-    good(folder, &["write", "guests.txt", "guests.bin"]);
-}
-
-fn le(numbers: &[u64], width: usize, then: &[u8]) -> Vec<u8> {
-    let mut bytes: Vec<u8> = numbers.iter().flat_map(|number| number.to_le_bytes()[..width].to_vec()).collect();
-    bytes.extend_from_slice(then);
-    bytes
-}
+use std::time::Duration;
 
 #[test]
 fn the_affinity_table() {
@@ -160,21 +73,6 @@ fn shown_and_written_again() {
             assert_eq!((again.status, &again.out), (0, &stored.out), "{}", shown.text());
         }
     }
-}
-
-/// Bytes in no cell are named; the rest comes back.
-#[test]
-fn bytes_in_no_cell() {
-    let folder = folder("unused");
-    let kind = "depth 1, fixed, size 2, little order";
-    let stored = le(&[3, 5], 8, &[0, 0, 0, 9, 9, 9, 9, 9]);
-    let shown = run(&folder, &["show", "--kind", kind, "--shape", "3", "-"], &stored);
-    assert_eq!(shown.status, 0);
-    assert!(shown.text().contains("# note: 5 of the 24 stored bytes are in no cell"), "{}", shown.text());
-    let again = run(&folder, &["write", "-", "-"], &shown.out);
-    assert_eq!(again.out, le(&[3, 0], 8, &[0, 0, 0]));
-    let checked = run(&folder, &["check", "--kind", kind, "--shape", "3", "-"], &stored);
-    assert!(checked.text().contains("24 bytes, 5 of them in no cell"), "{}", checked.text());
 }
 
 #[test]
@@ -382,6 +280,56 @@ fn kinds_and_shapes_out_of_range() {
     }
 }
 
+/// A number is shown as it was typed, also where it is too long for 64 bits.
+#[test]
+fn numbers_as_they_were_typed() {
+    let folder = folder("typed");
+    let long = "99999999999999999999";
+    let kind = |depth: &str| format!("depth {depth}, fixed, size 1, little order");
+    let show = |kind: &str, shape: &str| run(&folder, &["show", "--kind", kind, "--shape", shape, "-"], b"");
+    let said = show(&kind("0"), long);
+    assert!(said.status == 2 && said.err.contains(&format!("The shape is {long}.")), "{}", said.err);
+    let said = show(&kind("0"), "3x18446744073709551616");
+    assert!(said.err.contains("The shape is 3x18446744073709551616."), "{}", said.err);
+    let said = show(&kind(long), "1");
+    assert!(said.status == 1 && said.err.contains(&format!("The kind is depth {long},")), "{}", said.err);
+    let said = show("depth 0, ragged, width 18446744073709551617, index at end", "1");
+    assert!(said.status == 1 && said.err.contains("width 18446744073709551617,"), "{}", said.err);
+    let subset = format!("0..{long}");
+    let cut = ["cut", "--kind", &kind("0"), "--shape", "3", "--subset", &subset, "-", "-"];
+    let said = run(&folder, &cut, b"abc");
+    assert!(said.status == 3 && said.err.contains(&format!("The subset is {subset};")), "{}", said.err);
+    let sheet = format!("durpaxeta worksheet 1\nkind: {}\nshape: {long}\n", kind("0"));
+    let said = run(&folder, &["write", "-", "-"], sheet.as_bytes());
+    assert!(said.status == 2 && said.err.contains(&format!("The shape is {long}.")), "{}", said.err);
+}
+
+/// Text of any language is shown as text where it is printable and clear, and read back to the same bytes.
+#[test]
+fn text_of_any_language() {
+    let folder = folder("languages");
+    let kind = "depth 1, ragged, width 4, index at start";
+    let values = ["Kühlung 25 °C", "冷却", "насос №3", "a\nb", "e\u{301}", "\u{202E}x", "\u{200B}", "\u{FEFF}"];
+    let lines: Vec<String> = values
+        .iter()
+        .enumerate()
+        .map(|(number, value)| {
+            let hex: Vec<String> = value.bytes().map(|byte| format!("{byte:02x}")).collect();
+            format!("{number} | 01 | value hex {}\n", hex.join(""))
+        })
+        .collect();
+    let sheet = format!("durpaxeta worksheet 1\nkind: {kind}\nshape: 8\n{}", lines.concat());
+    let stored = run(&folder, &["write", "-", "-"], sheet.as_bytes());
+    assert_eq!((stored.status, stored.err.as_str()), (0, ""));
+    let shown = run(&folder, &["show", "--kind", kind, "--shape", "8", "-"], &stored.out);
+    for (number, value) in values.iter().enumerate() {
+        let as_text = shown.text().contains(&format!("{number} | 01 | value \"{value}\"\n"));
+        assert_eq!(as_text, number < 3, "{value:?}: {}", shown.text());
+    }
+    assert_eq!(shown.text().matches("value hex").count(), 5, "{}", shown.text());
+    assert_eq!(run(&folder, &["write", "-", "-"], &shown.out).out, stored.out);
+}
+
 #[test]
 fn wrong_command_lines() {
     let folder = folder("usage");
@@ -396,17 +344,29 @@ fn wrong_command_lines() {
         &["show", "--kind", KIND, "--shape", "2x2", "a", "b"],
         &["show", "--kind", KIND, "--shape", "2x2", "--subset", "0..1", "a"],
         &["write", "a"],
-        &["write", "a", "a"],
         &["cut", "--kind", KIND, "--shape", "2x2", "a", "b"],
         &["merge", "--kind", KIND, "--shape", "2x2", "out"],
         &["merge", "--kind", KIND, "--shape", "2x2", "--part", "0..1,0..2", "-", "--part", "1..2,0..2", "-", "out"],
         &["check", "--interleaved", "--kind", KIND, "--shape", "2", "a"],
         &["help", "nothing"],
+        &["help", "show", "cut"],
+        &["show", "--json", "--hex", "--kind", KIND, "--shape", "2x2", "a"],
+        &["write", "--strict", "a", "b"],
+        &["explain", "--interleaved", "--kind", KIND, "--shape", "2", "a"],
         &["example", "more"],
     ] {
         let said = run(&folder, line, b"");
         assert_eq!(said.status, 64, "{line:?}: {}", said.err);
-        assert!(said.err.starts_with("durpaxeta: ") && said.err.contains("--help"), "{line:?}: {}", said.err);
+        let command = line.first().filter(|first| !["shw", "help"].contains(*first));
+        let see =
+            command.map_or("See 'durpaxeta help'.\n".to_string(), |name| format!("See 'durpaxeta help {name}'.\n"));
+        assert!(said.err.starts_with("durpaxeta: ") && said.err.ends_with(&see), "{line:?}: {}", said.err);
+        assert_eq!(
+            said.err.matches("help").count() - usize::from(*line == ["help", "show", "cut"]),
+            1,
+            "{line:?}: {}",
+            said.err
+        );
         assert!(said.out.is_empty());
     }
 }
@@ -450,28 +410,6 @@ fn refused_and_not_written() {
     let cut = ["cut", "--kind", KIND, "--shape", "2x3", "--subset", "0..1,0..1", "guests.bin", "kept.bin"];
     assert_eq!(run(&folder, &cut, b"").status, 8);
     assert_eq!(fs::read(folder.join("kept.bin")).unwrap(), b"kept");
-    // In and out may be one file.
-    let whole = ["cut", "--kind", KIND, "--shape", "2x2", "--subset", "0..1,0..2", "guests.bin", "guests.bin"];
-    good(&folder, &whole);
-    good(&folder, &["check", "--kind", KIND, "--shape", "1x2", "guests.bin"]);
-}
-
-#[test]
-fn whoever_reads_may_leave() {
-    let folder = folder("left");
-    let kind = "depth 0, fixed, size 1, little order";
-    let mut child = Command::new(TOOL)
-        .args(["show", "--kind", kind, "--shape", "65536", "-"])
-        .current_dir(&folder)
-        .stdin(Stdio::piped())
-        .stdout(Stdio::piped())
-        .stderr(Stdio::piped())
-        .spawn()
-        .unwrap();
-    child.stdin.take().unwrap().write_all(&[7; 65_536]).unwrap();
-    drop(child.stdout.take());
-    let out = child.wait_with_output().unwrap();
-    assert_eq!((out.status.code(), out.stderr.len()), (Some(0), 0));
 }
 
 #[test]
@@ -509,14 +447,7 @@ fn the_largest_tables() {
 #[test]
 fn progress_after_a_second() {
     let folder = folder("progress");
-    let mut child = Command::new(TOOL)
-        .args(["check", "--kind", "depth 0, fixed, size 1, little order", "--shape", "4", "-"])
-        .current_dir(&folder)
-        .stdin(Stdio::piped())
-        .stdout(Stdio::piped())
-        .stderr(Stdio::piped())
-        .spawn()
-        .unwrap();
+    let mut child = piped(&folder, &["check", "--kind", "depth 0, fixed, size 1, little order", "--shape", "4", "-"]);
     let mut stdin = child.stdin.take().unwrap();
     stdin.write_all(&[1, 2, 3]).unwrap();
     thread::sleep(Duration::from_millis(1700));
@@ -535,8 +466,12 @@ fn help_examples_work_as_printed() {
     assert_eq!(general.status, 0);
     assert_eq!(run(Path::new("."), &["help"], b"").out, general.out);
     assert!(run(Path::new("."), &["--version"], b"").text().starts_with("durpaxeta "));
+    assert!(general.text().contains("'durpaxeta help COMMAND'"));
+    for status in (64..=70).chain(73..=74) {
+        assert!(general.text().contains(&status.to_string()), "status {status} is not on the page");
+    }
     let mut pages = vec![("durpaxeta".to_string(), general.text().to_string())];
-    for command in ["show", "write", "cut", "merge", "convert", "check", "example"] {
+    for command in ["show", "write", "cut", "merge", "convert", "check", "explain", "example"] {
         assert!(general.text().contains(&format!("  durpaxeta {command} ")), "{command} is not in the list");
         let page = run(Path::new("."), &[command, "--help"], b"");
         assert_eq!(page.status, 0);
@@ -544,7 +479,6 @@ fn help_examples_work_as_printed() {
         assert!(page.text().starts_with(&format!("durpaxeta {command}")), "{}", page.text());
         pages.push((command.to_string(), page.text().to_string()));
     }
-    let path = format!("{}:{}", Path::new(TOOL).parent().unwrap().display(), std::env::var("PATH").unwrap());
     for (command, page) in pages {
         let folder = folder(&format!("help-{command}"));
         let (_, examples) = page.split_once("\nExamples:\n").unwrap_or_else(|| panic!("{command} has no examples"));
@@ -552,14 +486,8 @@ fn help_examples_work_as_printed() {
         assert!(!examples.is_empty());
         for example in examples {
             assert!(example.starts_with("  "), "{command}: {example}");
-            let out = Command::new("sh")
-                .args(["-e", "-c", example])
-                .current_dir(&folder)
-                .env("PATH", &path)
-                .output()
-                .unwrap();
-            let err = String::from_utf8_lossy(&out.stderr).into_owned();
-            assert!(out.status.success() && err.is_empty(), "{command}: {example}\n{err}");
+            let said = sh(&folder, &format!("set -e; {example}"));
+            assert!(said.status == 0 && said.err.is_empty(), "{command}: {example}\n{}", said.err);
         }
     }
 }

@@ -1,6 +1,9 @@
 //! Arrays: a kind, a shape and its content.
 
-use crate::{sizes, Kind, Refusal, Values, MAX_DEPTH, MAX_SIZE};
+use crate::{cell_count, sizes, Kind, Refusal, Values, MAX_DEPTH, MAX_SIZE};
+use alloc::vec;
+use alloc::vec::Vec;
+use core::iter::FusedIterator;
 
 /// A table in memory.
 ///
@@ -47,6 +50,43 @@ pub enum Cell<'a> {
     Value(&'a [u8]),
 }
 
+impl Cell<'_> {
+    /// Whether it is not set. An empty value is no null.
+    ///
+    /// ```
+    /// use durpaxeta::Cell;
+    /// assert!(Cell::Null { level: 1 }.is_null());
+    /// assert!(!Cell::Value(b"").is_null());
+    /// ```
+    pub const fn is_null(self) -> bool {
+        matches!(self, Cell::Null { .. })
+    }
+}
+
+/// The cells of an array, in row order.
+#[derive(Clone, Debug)]
+pub struct Cells<'a> {
+    array: ArrayRef<'a>,
+    next: usize,
+}
+
+impl<'a> Iterator for Cells<'a> {
+    type Item = Cell<'a>;
+
+    fn next(&mut self) -> Option<Cell<'a>> {
+        let cell = self.array.cell(self.next)?;
+        self.next += 1;
+        Some(cell)
+    }
+
+    fn size_hint(&self) -> (usize, Option<usize>) {
+        // Fewer where the lengths do not fit.
+        (0, Some(self.array.cell_count() - self.next))
+    }
+}
+
+impl FusedIterator for Cells<'_> {}
+
 /// Ragged values without masks: cells of any length, none of them null.
 #[derive(Clone, Debug, PartialEq, Eq)]
 pub struct RaggedValues {
@@ -56,8 +96,24 @@ pub struct RaggedValues {
     pub offsets: Vec<u64>,
 }
 
+/// An example over a table of four cells.
+macro_rules! example {
+    ($($line:literal),+) => {
+        concat!(
+            "```\n# use durpaxeta::{Array, Cell, Kind, Place, Width};\n",
+            "# let kind = Kind::ragged(1, Width::Four, Place::Start);\n",
+            "let cells = [Cell::Value(b\"0-3\"), Cell::Null { level: 1 }, Cell::Value(b\"\"), Cell::Value(b\"8\")];\n",
+            "let table = Array::from_cells(kind, &[2, 2], &cells)?;\n",
+            $($line, "\n",)+
+            "# Ok::<(), durpaxeta::Refusal>(())\n```"
+        )
+    };
+}
+
 impl Array {
     /// Borrows the array.
+    ///
+    #[doc = example!(r#"assert_eq!(table.view().values, b"0-38");"#)]
     pub fn view(&self) -> ArrayRef<'_> {
         ArrayRef {
             kind: self.kind,
@@ -70,8 +126,20 @@ impl Array {
 
     /// Makes a table out of its cells, in row order. Set levels get the mask byte 01. What lies below a null is cleared.
     ///
-    /// Refused where the kind or the shape is, and with [`Refusal::Content`] if there are more or fewer cells than the
-    /// shape has, a null names a level that the kind has not, or a fixed value has another size.
+    /// # Errors
+    ///
+    /// `Kind` or `Shape` where these are refused, and `Content` if there are more or fewer cells than the shape has, a null
+    /// names a level that the kind has not, or a fixed value has another size.
+    ///
+    /// ```
+    /// use durpaxeta::{Array, Cell, Kind, Place, Refusal, Width};
+    ///
+    /// let kind = Kind::ragged(2, Width::Four, Place::Start);
+    /// let table = Array::from_cells(kind, &[2], &[Cell::Value(b"0-3"), Cell::Null { level: 2 }])?;
+    /// assert_eq!((&table.masks[..], &table.offsets[..]), (&[1, 1, 1, 0][..], &[0, 3, 3][..]));
+    /// assert_eq!(Array::from_cells(kind, &[2], &[Cell::Value(b"0-3")]), Err(Refusal::Content));
+    /// # Ok::<(), Refusal>(())
+    /// ```
     pub fn from_cells(kind: Kind, shape: &[u64], cells: &[Cell<'_>]) -> Result<Array, Refusal> {
         let size = match kind.values {
             Values::Fixed { size, .. } => size,
@@ -117,29 +185,62 @@ impl Array {
         Ok(array)
     }
 
-    /// How many cells the shape has; 0 where a side is 0.
+    /// How many cells the shape has; 0 where it is refused.
+    ///
+    #[doc = example!("assert_eq!(table.cell_count(), 4);")]
     pub fn cell_count(&self) -> usize {
         self.view().cell_count()
     }
 
     /// The cell of a number, counted row by row. None if there is no such cell, or the lengths do not fit.
+    ///
+    #[doc = example!(r#"assert_eq!(table.cell(2), Some(Cell::Value(b"")));"#, "assert_eq!(table.cell(4), None);")]
     pub fn cell(&self, number: usize) -> Option<Cell<'_>> {
         self.view().cell(number)
     }
 
+    /// The cell at a place: one number for each side. None if there is no such cell, or the lengths do not fit.
+    ///
+    #[doc = example!(
+        r#"assert_eq!(table.cell_at(&[1, 0]), Some(Cell::Value(b"")));"#,
+        "assert_eq!(table.cell_at(&[0, 2]), None);"
+    )]
+    pub fn cell_at(&self, place: &[u64]) -> Option<Cell<'_>> {
+        self.view().cell_at(place)
+    }
+
+    /// All cells, in row order. Where the lengths do not fit it ends at the first cell that is not there.
+    ///
+    #[doc = example!(
+        "assert_eq!(table.cells().filter(|cell| cell.is_null()).count(), 1);",
+        "assert!(table.cells().eq(cells));"
+    )]
+    pub fn cells(&self) -> Cells<'_> {
+        self.view().cells()
+    }
+
     /// The mask bytes of a cell, outermost first.
+    ///
+    #[doc = example!("assert_eq!(table.masks_of(1), [0]);")]
     pub fn masks_of(&self, number: usize) -> Vec<u8> {
         self.view().masks_of(number)
     }
 }
 
 impl<'a> ArrayRef<'a> {
-    /// How many cells the shape has; 0 where a side is 0.
+    /// How many cells the shape has; 0 where it is refused.
+    ///
+    #[doc = example!("assert_eq!(table.view().cell_count(), 4);")]
     pub fn cell_count(self) -> usize {
-        sizes::cells(self.shape).unwrap_or(0)
+        cell_count(self.shape)
     }
 
     /// The cell of a number, counted row by row. None if there is no such cell, or the lengths do not fit.
+    ///
+    #[doc = example!(
+        r#"assert_eq!(table.view().cell(2), Some(Cell::Value(b"")));"#,
+        "assert_eq!(table.view().cell(4), None);"
+    )]
     pub fn cell(self, number: usize) -> Option<Cell<'a>> {
         let count = self.cell_count();
         if number >= count {
@@ -164,7 +265,37 @@ impl<'a> ArrayRef<'a> {
         self.values.get(from..to).map(Cell::Value)
     }
 
+    /// The cell at a place: one number for each side. None if there is no such cell, or the lengths do not fit.
+    ///
+    #[doc = example!(
+        r#"assert_eq!(table.view().cell_at(&[1, 0]), Some(Cell::Value(b"")));"#,
+        "assert_eq!(table.view().cell_at(&[0, 2]), None);"
+    )]
+    pub fn cell_at(self, place: &[u64]) -> Option<Cell<'a>> {
+        if place.len() != self.shape.len() || place.iter().zip(self.shape).any(|(at, side)| at >= side) {
+            return None;
+        }
+        // A shape that is refused has no cell 0 either, so what its product wraps to does not matter.
+        let number = place
+            .iter()
+            .zip(self.shape)
+            .fold(0, |number: u64, (at, side)| number.wrapping_mul(*side).wrapping_add(*at));
+        self.cell(usize::try_from(number).ok()?)
+    }
+
+    /// All cells, in row order. Where the lengths do not fit it ends at the first cell that is not there.
+    ///
+    #[doc = example!(
+        "assert_eq!(table.view().cells().filter(|cell| cell.is_null()).count(), 1);",
+        "assert!(table.view().cells().eq(cells));"
+    )]
+    pub fn cells(self) -> Cells<'a> {
+        Cells { array: self, next: 0 }
+    }
+
     /// The mask bytes of a cell, outermost first.
+    ///
+    #[doc = example!("assert_eq!(table.view().masks_of(1), [0]);")]
     pub fn masks_of(self, number: usize) -> Vec<u8> {
         let count = self.cell_count();
         if number >= count {
@@ -174,6 +305,8 @@ impl<'a> ArrayRef<'a> {
     }
 
     /// An owned copy.
+    ///
+    #[doc = example!("assert_eq!(table.view().to_array(), table);")]
     pub fn to_array(self) -> Array {
         Array {
             kind: self.kind,
@@ -193,11 +326,23 @@ impl<'a> From<&'a Array> for ArrayRef<'a> {
 
 impl RaggedValues {
     /// How many cells there are.
+    ///
+    /// ```
+    /// let read = durpaxeta::decode_interleaved(1, &[1, 0, 0, 0, 0, 0, 0, 0])?;
+    /// assert_eq!(read.cell_count(), 1);
+    /// # Ok::<(), durpaxeta::Refusal>(())
+    /// ```
     pub fn cell_count(&self) -> usize {
         self.offsets.len().saturating_sub(1)
     }
 
-    /// The value of a cell.
+    /// The value of a cell. None if there is no such cell, or the lengths do not fit.
+    ///
+    /// ```
+    /// let read = durpaxeta::decode_interleaved(1, &[1, 0, 0, 0, 2, 0, 0, 0, b'h', b'i'])?;
+    /// assert_eq!((read.cell(0), read.cell(1)), (Some(&b"hi"[..]), None));
+    /// # Ok::<(), durpaxeta::Refusal>(())
+    /// ```
     pub fn cell(&self, number: usize) -> Option<&[u8]> {
         let from = usize::try_from(*self.offsets.get(number)?).ok()?;
         let to = usize::try_from(*self.offsets.get(number.checked_add(1)?)?).ok()?;

@@ -1,74 +1,208 @@
-//! The eight calls.
+//! The eight calls, and those of them that write into lent slices.
 
-use crate::ffi::{self, Answer, Content, Lent};
-use crate::{sizes, Array, ArrayRef, Kind, Place, RaggedValues, Refusal, Subset, Width, MAX_CELLS};
-
-fn refused(number: u32) -> Refusal {
-    match Refusal::from_number(number) {
-        Some(refusal) => refusal,
-        None => panic!("libdurpaxeta.a gave the unknown answer {number}: it does not belong to this crate"),
-    }
-}
+use crate::ffi::{self, Answer, Content};
+use crate::{
+    cell_count, sizes, Array, ArrayRef, Kind, Lent, Place, RaggedValues, Refusal, Room, Subset, Width, MAX_CELLS,
+};
+use alloc::vec;
+use alloc::vec::Vec;
 
 fn given<T>(answer: Answer<T>) -> Result<T, Refusal> {
-    answer.map_err(refused)
-}
-
-fn array(kind: Kind, shape: &[u64], lent: Lent) -> Array {
-    Array { kind, shape: shape.to_vec(), masks: lent.masks, values: lent.values, offsets: lent.offsets }
+    answer.map_err(|number| match Refusal::try_from(number) {
+        Ok(refusal) => refusal,
+        Err(_) => panic!("libdurpaxeta.a gave the unknown answer {number}: it does not belong to this crate"),
+    })
 }
 
 fn content(array: ArrayRef<'_>) -> Content<'_> {
     Content { masks: array.masks, values: array.values, offsets: array.offsets }
 }
 
+fn cut<T>(list: &mut Vec<T>, length: usize) {
+    list.truncate(length);
+    list.shrink_to_fit();
+}
+
+/// Lends vectors of that room, and cuts them to what was written.
+fn lend(
+    kind: Kind,
+    shape: &[u64],
+    room: Room,
+    call: impl FnOnce(&mut Lent<'_>) -> Result<Room, Refusal>,
+) -> Result<Array, Refusal> {
+    let (mut masks, mut values, mut offsets) = (vec![0; room.masks], vec![0; room.values], vec![0; room.offsets]);
+    let wrote = call(&mut Lent { masks: &mut masks, values: &mut values, offsets: &mut offsets })?;
+    cut(&mut masks, wrote.masks);
+    cut(&mut values, wrote.values);
+    cut(&mut offsets, wrote.offsets);
+    Ok(Array { kind, shape: shape.to_vec(), masks, values, offsets })
+}
+
 /// Array to stored bytes. What lies below a null is not stored.
 ///
-/// Refused, in this order, with `Kind`, `Shape`, `Content`, `Size`.
+/// # Errors
+///
+/// In this order `Kind`, `Shape`, `Content`, `Size`.
+///
+/// ```
+/// use durpaxeta::{encode, Array, Cell, Kind, Order};
+///
+/// let cells = [Cell::Value(&[0x0A, 0x0B]), Cell::Null { level: 1 }, Cell::Value(&[0x0E, 0x0F])];
+/// let stored = encode(&Array::from_cells(Kind::fixed(1, 2, Order::Little), &[3], &cells)?)?;
+/// assert_eq!(stored[16..], [1, 0, 1, 0x0A, 0x0B, 0x0E, 0x0F]);
+/// # Ok::<(), durpaxeta::Refusal>(())
+/// ```
 pub fn encode<'a>(array: impl Into<ArrayRef<'a>>) -> Result<Vec<u8>, Refusal> {
     let array = array.into();
-    let room = sizes::stored(array.kind, array.masks, array.values, array.offsets);
-    given(ffi::encode(array.kind, array.shape, content(array), room))
+    // Where the lengths disagree, and where there are too many value bytes, the output is not looked at.
+    let has = Room { masks: array.masks.len(), values: array.values.len(), offsets: array.offsets.len() };
+    let cells = array.cell_count();
+    let agrees = has == array.kind.array_room(cells, has.values);
+    let mut out = vec![0; if agrees { array.kind.stored_room(cells, has.values) } else { 0 }];
+    let length = given(ffi::encode(array.kind, array.shape, content(array), &mut out))?;
+    cut(&mut out, length);
+    Ok(out)
+}
+
+/// [`encode`] into a lent slice; answers the bytes that it wrote. [`Kind::stored_room`] tells how many there can be.
+///
+/// # Errors
+///
+/// Those of [`encode`], then `Output` where the slice is too short. A refusal changes no byte of it.
+///
+/// ```
+/// use durpaxeta::{encode_into, Array, Cell, Kind, Place, Refusal, Width};
+///
+/// let kind = Kind::ragged(1, Width::Four, Place::Start);
+/// let table = Array::from_cells(kind, &[2], &[Cell::Value(b"0-3"), Cell::Null { level: 1 }])?;
+/// let mut buffer = [0; 64];
+/// assert_eq!(encode_into(&table, &mut buffer)?.len(), 37);
+/// assert_eq!(encode_into(&table, &mut buffer[..36]), Err(Refusal::Output));
+/// # Ok::<(), Refusal>(())
+/// ```
+pub fn encode_into<'a, 'o>(array: impl Into<ArrayRef<'a>>, out: &'o mut [u8]) -> Result<&'o [u8], Refusal> {
+    let array = array.into();
+    let length = given(ffi::encode(array.kind, array.shape, content(array), out))?;
+    Ok(&out[..length])
 }
 
 /// Stored bytes to array. What lies below a null comes out cleared.
 ///
-/// Refused, in this order, with `Kind`, `Shape`; then, as the bytes are read, `Short`, `Length`, `Falling`; then `Size`.
+/// # Errors
+///
+/// In this order `Kind`, `Shape`; then, as the bytes are read, `Short`, `Length`, `Falling`; then `Size`.
+///
+/// ```
+/// use durpaxeta::{decode, Cell, Kind, Order, Refusal};
+///
+/// let kind = Kind::fixed(1, 1, Order::Little);
+/// let stored = [2, 0, 0, 0, 0, 0, 0, 0, 1, 0, 0, 0, 0, 0, 0, 0, 0, 1, 0x0A];
+/// let table = decode(kind, &[2], &stored)?;
+/// assert_eq!(table.cell(0), Some(Cell::Null { level: 1 }));
+/// assert_eq!(table.cell(1), Some(Cell::Value(&[0x0A])));
+/// assert_eq!(decode(kind, &[2], &stored[..18]), Err(Refusal::Length));
+/// # Ok::<(), Refusal>(())
+/// ```
 pub fn decode(kind: Kind, shape: &[u64], bytes: &[u8]) -> Result<Array, Refusal> {
-    let cells = sizes::cells(shape).unwrap_or(0);
-    let lent = Lent::new(
-        sizes::masks(kind, cells),
-        sizes::values(kind, cells, sizes::stored_at_most(bytes)),
-        sizes::offsets(kind, cells),
-    );
-    Ok(array(kind, shape, given(ffi::decode(kind, shape, bytes, lent))?))
+    let room = kind.array_room(cell_count(shape), bytes.len());
+    lend(kind, shape, room, |out| given(ffi::decode(kind, shape, bytes, out)))
+}
+
+/// [`decode`] into lent slices; answers the array in them. [`Kind::array_room`] tells how long they must be.
+///
+/// # Errors
+///
+/// Those of [`decode`], then `Output` where a slice is too short. A refusal changes no element of them.
+///
+/// ```
+/// use durpaxeta::{decode_into, Cell, Kind, Lent, Order};
+///
+/// let kind = Kind::fixed(1, 1, Order::Little);
+/// let stored = [2, 0, 0, 0, 0, 0, 0, 0, 1, 0, 0, 0, 0, 0, 0, 0, 0, 1, 0x0A];
+/// let (mut masks, mut values) = ([0; 2], [0; 2]);
+/// let out = Lent { masks: &mut masks, values: &mut values, offsets: &mut [] };
+/// let table = decode_into(kind, &[2], &stored, out)?;
+/// assert_eq!(table.cell(1), Some(Cell::Value(&[0x0A])));
+/// # Ok::<(), durpaxeta::Refusal>(())
+/// ```
+pub fn decode_into<'o>(kind: Kind, shape: &'o [u64], bytes: &[u8], mut out: Lent<'o>) -> Result<ArrayRef<'o>, Refusal> {
+    let wrote = given(ffi::decode(kind, shape, bytes, &mut out))?;
+    Ok(out.array(kind, shape, wrote))
 }
 
 /// The older, interleaved form of Zarr V2 to values and offsets. The caller says how many cells there are.
 ///
-/// Refused, in this order, with `Shape` (over 65,536 cells), `Short`, `Count`, `PastEnd`, `Size`.
+/// # Errors
+///
+/// In this order `Shape` (over 65,536 cells), `Short`, `Count`, `PastEnd`, `Size`.
+///
+/// ```
+/// use durpaxeta::decode_interleaved;
+///
+/// let old = [2, 0, 0, 0, 1, 0, 0, 0, b'A', 0, 0, 0, 0];
+/// let read = decode_interleaved(2, &old)?;
+/// assert_eq!((read.cell(0), read.cell(1)), (Some(&b"A"[..]), Some(&b""[..])));
+/// # Ok::<(), durpaxeta::Refusal>(())
+/// ```
 pub fn decode_interleaved(cells: u64, bytes: &[u8]) -> Result<RaggedValues, Refusal> {
-    let offsets = if cells <= MAX_CELLS { cells as usize + 1 } else { 0 };
-    let lent = Lent::new(0, sizes::stored_at_most(bytes), offsets);
-    let lent = given(ffi::decode_interleaved(cells, bytes, lent))?;
-    Ok(RaggedValues { values: lent.values, offsets: lent.offsets })
+    let count = if cells <= MAX_CELLS { cells as usize } else { 0 };
+    let kind = Kind::ragged(0, Width::Four, Place::Start);
+    let room = kind.array_room(count, bytes.len());
+    let read = lend(kind, &[], room, |out| given(ffi::decode_interleaved(cells, bytes, out)))?;
+    Ok(RaggedValues { values: read.values, offsets: read.offsets })
 }
 
 /// The cells of a subset out of an array. What lies below a null is kept. The outcome's shape is the subset's lengths;
 /// a subset of no cells is allowed.
 ///
-/// Refused, in this order, with `Kind`, `Shape`, `Subset`, `Content`, `Size`.
+/// # Errors
+///
+/// In this order `Kind`, `Shape`, `Subset`, `Content`, `Size`.
+///
+/// ```
+/// use durpaxeta::{extract, Array, Cell, Kind, Order};
+///
+/// let cells = [Cell::Value(b"a"), Cell::Value(b"b"), Cell::Null { level: 1 }];
+/// let table = Array::from_cells(Kind::fixed(1, 1, Order::Little), &[3], &cells)?;
+/// let part = extract(&table, &"1..3".parse()?)?;
+/// assert!(part.cells().eq([Cell::Value(b"b"), Cell::Null { level: 1 }]));
+/// # Ok::<(), Box<dyn std::error::Error>>(())
+/// ```
 pub fn extract<'a>(from: impl Into<ArrayRef<'a>>, subset: &Subset) -> Result<Array, Refusal> {
     let from = from.into();
     let cells = sizes::subset_cells(from.shape, subset.numbers()).unwrap_or(0);
     let ragged = sizes::ragged_subset(from.shape, subset.numbers(), from.values, from.offsets);
-    let lent = Lent::new(
-        sizes::masks(from.kind, cells),
-        sizes::values(from.kind, cells, ragged),
-        sizes::offsets(from.kind, cells),
-    );
-    let lent = given(ffi::extract(from.kind, from.shape, subset.numbers(), content(from), lent))?;
-    Ok(array(from.kind, subset.lengths(), lent))
+    lend(from.kind, subset.lengths(), from.kind.array_room(cells, ragged), |out| {
+        given(ffi::extract(from.kind, from.shape, subset.numbers(), content(from), out))
+    })
+}
+
+/// [`extract`] into lent slices; answers the array in them. [`Kind::array_room`] tells how long they must be.
+///
+/// # Errors
+///
+/// Those of [`extract`], then `Output` where a slice is too short. A refusal changes no element of them.
+///
+/// ```
+/// use durpaxeta::{extract_into, Array, Cell, Kind, Lent, Place, Width};
+///
+/// let kind = Kind::ragged(0, Width::Four, Place::Start);
+/// let table = Array::from_cells(kind, &[3], &[Cell::Value(b"a"), Cell::Value(b"bc"), Cell::Value(b"")])?;
+/// let (mut values, mut offsets) = ([0; 8], [0; 3]);
+/// let out = Lent { masks: &mut [], values: &mut values, offsets: &mut offsets };
+/// let subset = "1..3".parse()?;
+/// let part = extract_into(&table, &subset, out)?;
+/// assert_eq!((part.values, part.offsets), (&b"bc"[..], &[0, 2, 2][..]));
+/// # Ok::<(), Box<dyn std::error::Error>>(())
+/// ```
+pub fn extract_into<'a, 'o>(
+    from: impl Into<ArrayRef<'a>>,
+    subset: &'o Subset,
+    mut out: Lent<'o>,
+) -> Result<ArrayRef<'o>, Refusal> {
+    let from = from.into();
+    let wrote = given(ffi::extract(from.kind, from.shape, subset.numbers(), content(from), &mut out))?;
+    Ok(out.array(from.kind, subset.lengths(), wrote))
 }
 
 /// A chunk of a merge: the cells that it holds, and their content.
@@ -82,6 +216,15 @@ pub struct Chunk<'a> {
 
 impl<'a> Chunk<'a> {
     /// A chunk.
+    ///
+    /// ```
+    /// use durpaxeta::{Array, Cell, Chunk, Kind, Order, Subset};
+    ///
+    /// let part = Array::from_cells(Kind::fixed(0, 1, Order::Little), &[1], &[Cell::Value(b"a")])?;
+    /// let subset = Subset::new(&[4], &[1])?;
+    /// assert_eq!(Chunk::new(&subset, &part).array.cell(0), Some(Cell::Value(b"a")));
+    /// # Ok::<(), durpaxeta::Refusal>(())
+    /// ```
     pub fn new(subset: &'a Subset, array: impl Into<ArrayRef<'a>>) -> Chunk<'a> {
         Chunk { subset, array: array.into() }
     }
@@ -98,49 +241,124 @@ impl<'a> Chunk<'a> {
     }
 }
 
-/// A list of chunks into one array. Together the subsets hold each cell once; their order is free.
-///
-/// Refused, in this order, with `Kind`, `Shape`, `Subset`, `Content`, `Size`, `Cover`.
-pub fn merge(kind: Kind, shape: &[u64], chunks: &[Chunk<'_>]) -> Result<Array, Refusal> {
-    let mut subsets = Vec::new();
-    let mut masks = Vec::new();
-    let mut values = Vec::new();
-    let mut offsets = Vec::new();
-    let mut bytes: u64 = 0;
-    for chunk in chunks {
-        subsets.extend_from_slice(chunk.subset.numbers());
-        masks.extend_from_slice(chunk.array.masks);
-        values.extend_from_slice(chunk.array.values);
-        offsets.extend_from_slice(chunk.array.offsets);
-        if let (Some(first), Some(last)) = (chunk.array.offsets.first(), chunk.array.offsets.last()) {
-            bytes = bytes.saturating_add(last.saturating_sub(*first));
+/// Chunks laid end to end, as the archive takes them.
+struct ChunkList {
+    subsets: Vec<u64>,
+    masks: Vec<u8>,
+    values: Vec<u8>,
+    offsets: Vec<u64>,
+    agrees: bool,
+}
+
+impl ChunkList {
+    fn new(kind: Kind, shape: &[u64], chunks: &[Chunk<'_>]) -> ChunkList {
+        let mut list = ChunkList {
+            subsets: Vec::new(),
+            masks: Vec::new(),
+            values: Vec::new(),
+            offsets: Vec::new(),
+            agrees: chunks.iter().all(|chunk| chunk.agrees(kind)),
+        };
+        for chunk in chunks {
+            list.subsets.extend_from_slice(chunk.subset.numbers());
+            list.masks.extend_from_slice(chunk.array.masks);
+            list.values.extend_from_slice(chunk.array.values);
+            list.offsets.extend_from_slice(chunk.array.offsets);
+        }
+        // Numbers of one subset must not be taken for those of the next: one number alone is no subset of any shape.
+        if chunks.iter().any(|chunk| chunk.subset.numbers().len() != 2 * shape.len()) {
+            list.subsets = vec![0];
+        }
+        list
+    }
+
+    fn merge(&self, kind: Kind, shape: &[u64], out: &mut Lent<'_>) -> Result<Room, Refusal> {
+        let all = Content { masks: &self.masks, values: &self.values, offsets: &self.offsets };
+        if self.agrees {
+            return given(ffi::merge(kind, shape, &self.subsets, all, out));
+        }
+        // Nor must the bytes of one chunk be taken for those of the next. Nothing is lent, so nothing is written.
+        let mut nothing = Lent { masks: &mut [], values: &mut [], offsets: &mut [] };
+        match given(ffi::merge(kind, shape, &self.subsets, all, &mut nothing)) {
+            Err(refusal @ (Refusal::Kind | Refusal::Shape | Refusal::Subset)) => Err(refusal),
+            _ => Err(Refusal::Content),
         }
     }
-    // Numbers of one subset must not be taken for those of the next: one number alone is no subset of any shape.
-    if chunks.iter().any(|chunk| chunk.subset.numbers().len() != 2 * shape.len()) {
-        subsets = vec![0];
-    }
-    let cells = sizes::cells(shape).unwrap_or(0);
-    let lent = Lent::new(
-        sizes::masks(kind, cells),
-        sizes::values(kind, cells, sizes::limited(bytes).min(values.len())),
-        sizes::offsets(kind, cells),
-    );
-    let all = Content { masks: &masks, values: &values, offsets: &offsets };
-    let answer = given(ffi::merge(kind, shape, &subsets, all, lent));
-    // Nor the bytes of one chunk for those of the next.
-    if !chunks.iter().all(|chunk| chunk.agrees(kind)) {
-        return Err(match answer {
-            Err(refusal @ (Refusal::Kind | Refusal::Shape | Refusal::Subset)) => refusal,
-            _ => Refusal::Content,
-        });
-    }
-    Ok(array(kind, shape, answer?))
+}
+
+/// A list of chunks into one array. Together the subsets hold each cell once; their order is free.
+///
+/// # Errors
+///
+/// In this order `Kind`, `Shape`, `Subset`, `Content`, `Size`, `Cover`.
+///
+/// ```
+/// use durpaxeta::{extract, merge, Array, Cell, Chunk, Kind, Order, Refusal, Subset};
+///
+/// let kind = Kind::fixed(1, 1, Order::Little);
+/// let table = Array::from_cells(kind, &[3], &[Cell::Value(b"a"), Cell::Null { level: 1 }, Cell::Value(b"c")])?;
+/// let (low, high) = (Subset::new(&[0], &[1])?, Subset::new(&[1], &[2])?);
+/// let parts = (extract(&table, &low)?, extract(&table, &high)?);
+/// assert_eq!(merge(kind, &[3], &[Chunk::new(&high, &parts.1), Chunk::new(&low, &parts.0)])?, table);
+/// assert_eq!(merge(kind, &[3], &[Chunk::new(&high, &parts.1)]), Err(Refusal::Cover));
+/// # Ok::<(), Refusal>(())
+/// ```
+pub fn merge(kind: Kind, shape: &[u64], chunks: &[Chunk<'_>]) -> Result<Array, Refusal> {
+    let list = ChunkList::new(kind, shape, chunks);
+    let of_cells = |chunk: &Chunk<'_>| match chunk.array.offsets {
+        [first, .., last] => last.saturating_sub(*first),
+        _ => 0,
+    };
+    let bytes = chunks.iter().map(of_cells).fold(0, u64::saturating_add);
+    let room = kind.array_room(cell_count(shape), sizes::limited(bytes).min(list.values.len()));
+    lend(kind, shape, room, |out| list.merge(kind, shape, out))
+}
+
+/// [`merge`] into lent slices; answers the array in them. [`Kind::array_room`] tells how long they must be. The chunks are laid
+/// end to end in memory of its own first.
+///
+/// # Errors
+///
+/// Those of [`merge`], then `Output` where a slice is too short. A refusal changes no element of them.
+///
+/// ```
+/// use durpaxeta::{merge_into, Array, Cell, Chunk, Kind, Lent, Order, Subset};
+///
+/// let kind = Kind::fixed(0, 1, Order::Little);
+/// let (a, b) = (Subset::new(&[0], &[1])?, Subset::new(&[1], &[1])?);
+/// let one = |cell| Array::from_cells(kind, &[1], &[Cell::Value(cell)]);
+/// let parts = (one(b"a")?, one(b"b")?);
+/// let mut values = [0; 2];
+/// let out = Lent { masks: &mut [], values: &mut values, offsets: &mut [] };
+/// let table = merge_into(kind, &[2], &[Chunk::new(&b, &parts.1), Chunk::new(&a, &parts.0)], out)?;
+/// assert_eq!(table.values, b"ab");
+/// # Ok::<(), durpaxeta::Refusal>(())
+/// ```
+pub fn merge_into<'o>(
+    kind: Kind,
+    shape: &'o [u64],
+    chunks: &[Chunk<'_>],
+    mut out: Lent<'o>,
+) -> Result<ArrayRef<'o>, Refusal> {
+    let wrote = ChunkList::new(kind, shape, chunks).merge(kind, shape, &mut out)?;
+    Ok(out.array(kind, shape, wrote))
 }
 
 /// The cells of a subset out of stored ragged values of depth 0: `decode`, then `extract`, in one step.
 ///
-/// Refused, in this order, with `Shape`, `Subset`, `Short`, `Length`, `Falling`, `Size`.
+/// # Errors
+///
+/// In this order `Shape`, `Subset`, `Short`, `Length`, `Falling`, `Size`.
+///
+/// ```
+/// use durpaxeta::{encode, partial_decode, Array, Cell, Kind, Place, Subset, Width};
+///
+/// let cells = [Cell::Value(b"0-3"), Cell::Value(b""), Cell::Value(b"8")];
+/// let stored = encode(&Array::from_cells(Kind::ragged(0, Width::Four, Place::End), &[3], &cells)?)?;
+/// let part = partial_decode(Width::Four, Place::End, &[3], &Subset::new(&[1], &[2])?, &stored)?;
+/// assert!(part.cells().eq(cells[1..].iter().copied()));
+/// # Ok::<(), durpaxeta::Refusal>(())
+/// ```
 pub fn partial_decode(
     width: Width,
     place: Place,
@@ -148,23 +366,43 @@ pub fn partial_decode(
     subset: &Subset,
     bytes: &[u8],
 ) -> Result<Array, Refusal> {
+    let kind = Kind::ragged(0, width, place);
     let cells = sizes::subset_cells(shape, subset.numbers()).unwrap_or(0);
-    let lent = Lent::new(0, sizes::stored_at_most(bytes), cells + 1);
-    let lent = given(ffi::partial_decode(width, place, shape, subset.numbers(), bytes, lent))?;
-    Ok(array(Kind::ragged(0, width, place), subset.lengths(), lent))
+    lend(kind, subset.lengths(), kind.array_room(cells, bytes.len()), |out| {
+        given(ffi::partial_decode(width, place, shape, subset.numbers(), bytes, out))
+    })
 }
 
 /// Reverses the bytes of each whole cell, in place, and answers how many bytes the whole cells have.
 ///
-/// Refused with `Kind` where the size is 0 or over 64.
+/// # Errors
+///
+/// `Kind` where the size is 0 or over 64; the bytes stay as they are.
+///
+/// ```
+/// let mut bytes = [1, 2, 3, 4, 5];
+/// assert_eq!(durpaxeta::reverse_endianness(2, &mut bytes)?, 4);
+/// assert_eq!(bytes, [2, 1, 4, 3, 5]);
+/// # Ok::<(), durpaxeta::Refusal>(())
+/// ```
 pub fn reverse_endianness(size: u64, bytes: &mut [u8]) -> Result<usize, Refusal> {
-    given(ffi::reverse_endianness(size, bytes)).map(|length| length as usize)
+    given(ffi::reverse_endianness(size, bytes))
 }
 
 /// The numbers of a subset's cells, in row order.
 ///
-/// Refused, in this order, with `Shape`, `Subset`.
+/// # Errors
+///
+/// In this order `Shape`, `Subset`.
+///
+/// ```
+/// use durpaxeta::subset_cells;
+/// assert_eq!(subset_cells(&[2, 3], &"0..2,1..3".parse()?)?, [1, 2, 4, 5]);
+/// # Ok::<(), Box<dyn std::error::Error>>(())
+/// ```
 pub fn subset_cells(shape: &[u64], subset: &Subset) -> Result<Vec<u64>, Refusal> {
-    let room = sizes::subset_cells(shape, subset.numbers()).unwrap_or(0);
-    given(ffi::subset_cells(shape, subset.numbers(), room))
+    let mut cells = vec![0; sizes::subset_cells(shape, subset.numbers()).unwrap_or(0)];
+    let length = given(ffi::subset_cells(shape, subset.numbers(), &mut cells))?;
+    cut(&mut cells, length);
+    Ok(cells)
 }

@@ -1,7 +1,7 @@
 //! The archive's functions over slices. The only unsafe code of this crate.
 #![allow(unsafe_code)]
 
-use crate::{Kind, Order, Place, Values, Width};
+use crate::{Kind, Lent, Order, Place, Room, Values, Width};
 
 /// `dpx_kind` of durpaxeta.h.
 #[repr(C)]
@@ -166,32 +166,6 @@ pub struct Content<'a> {
     pub offsets: &'a [u64],
 }
 
-/// Outputs lent.
-pub struct Lent {
-    pub masks: Vec<u8>,
-    pub values: Vec<u8>,
-    pub offsets: Vec<u64>,
-}
-
-impl Lent {
-    pub fn new(masks: usize, values: usize, offsets: usize) -> Lent {
-        Lent { masks: vec![0; masks], values: vec![0; values], offsets: vec![0; offsets] }
-    }
-
-    /// Cut to the lengths that success named.
-    fn cut(mut self, masks: u64, values: u64, offsets: u64) -> Lent {
-        cut(&mut self.masks, masks);
-        cut(&mut self.values, values);
-        cut(&mut self.offsets, offsets);
-        self
-    }
-}
-
-fn cut<T>(list: &mut Vec<T>, length: u64) {
-    list.truncate(length as usize);
-    list.shrink_to_fit();
-}
-
 /// The answer: what success gives, or the number of the refusal.
 pub type Answer<T> = Result<T, u32>;
 
@@ -202,12 +176,15 @@ fn answer(number: u32) -> Answer<()> {
     }
 }
 
-// SAFETY of all calls below: each pointer and count come from one slice or vector that lives through the call; outputs are
-// borrowed mutably or owned here, so they overlap nothing; `lengths` has the elements that durpaxeta.h asks for; the archive
-// keeps no pointer.
+/// The lengths that success named.
+fn room(masks: u64, values: u64, offsets: u64) -> Room {
+    Room { masks: masks as usize, values: values as usize, offsets: offsets as usize }
+}
 
-pub fn encode(kind: Kind, shape: &[u64], content: Content<'_>, room: usize) -> Answer<Vec<u8>> {
-    let mut out = vec![0; room];
+// SAFETY of all calls below: each pointer and count come from one slice that lives through the call; outputs are borrowed
+// mutably, so they overlap nothing; `lengths` has the elements that durpaxeta.h asks for; the archive keeps no pointer.
+
+pub fn encode(kind: Kind, shape: &[u64], content: Content<'_>, out: &mut [u8]) -> Answer<usize> {
     let mut lengths = [0; 1];
     let number = unsafe {
         dpx_encode(
@@ -226,11 +203,10 @@ pub fn encode(kind: Kind, shape: &[u64], content: Content<'_>, room: usize) -> A
         )
     };
     answer(number)?;
-    cut(&mut out, lengths[0]);
-    Ok(out)
+    Ok(lengths[0] as usize)
 }
 
-pub fn decode(kind: Kind, shape: &[u64], bytes: &[u8], mut lent: Lent) -> Answer<Lent> {
+pub fn decode(kind: Kind, shape: &[u64], bytes: &[u8], out: &mut Lent<'_>) -> Answer<Room> {
     let mut lengths = [0; 3];
     let number = unsafe {
         dpx_decode(
@@ -239,38 +215,38 @@ pub fn decode(kind: Kind, shape: &[u64], bytes: &[u8], mut lent: Lent) -> Answer
             shape.len(),
             bytes.as_ptr(),
             bytes.len(),
-            lent.masks.as_mut_ptr(),
-            lent.masks.len(),
-            lent.values.as_mut_ptr(),
-            lent.values.len(),
-            lent.offsets.as_mut_ptr(),
-            lent.offsets.len(),
+            out.masks.as_mut_ptr(),
+            out.masks.len(),
+            out.values.as_mut_ptr(),
+            out.values.len(),
+            out.offsets.as_mut_ptr(),
+            out.offsets.len(),
             lengths.as_mut_ptr(),
         )
     };
     answer(number)?;
-    Ok(lent.cut(lengths[0], lengths[1], lengths[2]))
+    Ok(room(lengths[0], lengths[1], lengths[2]))
 }
 
-pub fn decode_interleaved(cells: u64, bytes: &[u8], mut lent: Lent) -> Answer<Lent> {
+pub fn decode_interleaved(cells: u64, bytes: &[u8], out: &mut Lent<'_>) -> Answer<Room> {
     let mut lengths = [0; 2];
     let number = unsafe {
         dpx_decode_interleaved(
             cells,
             bytes.as_ptr(),
             bytes.len(),
-            lent.values.as_mut_ptr(),
-            lent.values.len(),
-            lent.offsets.as_mut_ptr(),
-            lent.offsets.len(),
+            out.values.as_mut_ptr(),
+            out.values.len(),
+            out.offsets.as_mut_ptr(),
+            out.offsets.len(),
             lengths.as_mut_ptr(),
         )
     };
     answer(number)?;
-    Ok(lent.cut(0, lengths[0], lengths[1]))
+    Ok(room(0, lengths[0], lengths[1]))
 }
 
-pub fn extract(kind: Kind, shape: &[u64], subset: &[u64], content: Content<'_>, mut lent: Lent) -> Answer<Lent> {
+pub fn extract(kind: Kind, shape: &[u64], subset: &[u64], content: Content<'_>, out: &mut Lent<'_>) -> Answer<Room> {
     let mut lengths = [0; 3];
     let number = unsafe {
         dpx_extract(
@@ -285,20 +261,20 @@ pub fn extract(kind: Kind, shape: &[u64], subset: &[u64], content: Content<'_>, 
             content.values.len(),
             content.offsets.as_ptr(),
             content.offsets.len(),
-            lent.masks.as_mut_ptr(),
-            lent.masks.len(),
-            lent.values.as_mut_ptr(),
-            lent.values.len(),
-            lent.offsets.as_mut_ptr(),
-            lent.offsets.len(),
+            out.masks.as_mut_ptr(),
+            out.masks.len(),
+            out.values.as_mut_ptr(),
+            out.values.len(),
+            out.offsets.as_mut_ptr(),
+            out.offsets.len(),
             lengths.as_mut_ptr(),
         )
     };
     answer(number)?;
-    Ok(lent.cut(lengths[0], lengths[1], lengths[2]))
+    Ok(room(lengths[0], lengths[1], lengths[2]))
 }
 
-pub fn merge(kind: Kind, shape: &[u64], subsets: &[u64], content: Content<'_>, mut lent: Lent) -> Answer<Lent> {
+pub fn merge(kind: Kind, shape: &[u64], subsets: &[u64], content: Content<'_>, out: &mut Lent<'_>) -> Answer<Room> {
     let mut lengths = [0; 3];
     let number = unsafe {
         dpx_merge(
@@ -313,17 +289,17 @@ pub fn merge(kind: Kind, shape: &[u64], subsets: &[u64], content: Content<'_>, m
             content.values.len(),
             content.offsets.as_ptr(),
             content.offsets.len(),
-            lent.masks.as_mut_ptr(),
-            lent.masks.len(),
-            lent.values.as_mut_ptr(),
-            lent.values.len(),
-            lent.offsets.as_mut_ptr(),
-            lent.offsets.len(),
+            out.masks.as_mut_ptr(),
+            out.masks.len(),
+            out.values.as_mut_ptr(),
+            out.values.len(),
+            out.offsets.as_mut_ptr(),
+            out.offsets.len(),
             lengths.as_mut_ptr(),
         )
     };
     answer(number)?;
-    Ok(lent.cut(lengths[0], lengths[1], lengths[2]))
+    Ok(room(lengths[0], lengths[1], lengths[2]))
 }
 
 pub fn partial_decode(
@@ -332,8 +308,8 @@ pub fn partial_decode(
     shape: &[u64],
     subset: &[u64],
     bytes: &[u8],
-    mut lent: Lent,
-) -> Answer<Lent> {
+    out: &mut Lent<'_>,
+) -> Answer<Room> {
     let mut lengths = [0; 2];
     let number = unsafe {
         dpx_partial_decode(
@@ -345,25 +321,24 @@ pub fn partial_decode(
             subset.len(),
             bytes.as_ptr(),
             bytes.len(),
-            lent.values.as_mut_ptr(),
-            lent.values.len(),
-            lent.offsets.as_mut_ptr(),
-            lent.offsets.len(),
+            out.values.as_mut_ptr(),
+            out.values.len(),
+            out.offsets.as_mut_ptr(),
+            out.offsets.len(),
             lengths.as_mut_ptr(),
         )
     };
     answer(number)?;
-    Ok(lent.cut(0, lengths[0], lengths[1]))
+    Ok(room(0, lengths[0], lengths[1]))
 }
 
-pub fn reverse_endianness(size: u64, bytes: &mut [u8]) -> Answer<u64> {
+pub fn reverse_endianness(size: u64, bytes: &mut [u8]) -> Answer<usize> {
     let mut lengths = [0; 1];
     answer(unsafe { dpx_reverse_endianness(size, bytes.as_mut_ptr(), bytes.len(), lengths.as_mut_ptr()) })?;
-    Ok(lengths[0])
+    Ok(lengths[0] as usize)
 }
 
-pub fn subset_cells(shape: &[u64], subset: &[u64], room: usize) -> Answer<Vec<u64>> {
-    let mut cells = vec![0; room];
+pub fn subset_cells(shape: &[u64], subset: &[u64], cells: &mut [u64]) -> Answer<usize> {
     let mut lengths = [0; 1];
     answer(unsafe {
         dpx_subset_cells(
@@ -376,6 +351,5 @@ pub fn subset_cells(shape: &[u64], subset: &[u64], room: usize) -> Answer<Vec<u6
             lengths.as_mut_ptr(),
         )
     })?;
-    cut(&mut cells, lengths[0]);
-    Ok(cells)
+    Ok(lengths[0] as usize)
 }

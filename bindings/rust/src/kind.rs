@@ -1,6 +1,6 @@
 //! The kind of a table: its depth, and whether values are fixed or ragged.
 
-use std::fmt;
+use crate::{sizes, Room};
 
 /// Order of the bytes of a stored fixed cell. In memory a cell is always in little order.
 #[derive(Clone, Copy, Debug, PartialEq, Eq, Hash)]
@@ -22,7 +22,11 @@ pub enum Width {
 
 impl Width {
     /// 4 or 8.
-    pub fn bytes(self) -> usize {
+    ///
+    /// ```
+    /// assert_eq!(durpaxeta::Width::Eight.bytes(), 8);
+    /// ```
+    pub const fn bytes(self) -> usize {
         match self {
             Width::Four => 4,
             Width::Eight => 8,
@@ -59,6 +63,17 @@ pub enum Values {
 }
 
 /// The kind of a table. Its numbers may be out of range; a call then answers [`Refusal::Kind`](crate::Refusal::Kind).
+///
+/// As text it is what the command `durpaxeta` takes for `--kind`:
+///
+/// ```
+/// use durpaxeta::{Kind, Order, Place, Width};
+///
+/// let kind: Kind = "depth 1, ragged, width 4, index at start".parse()?;
+/// assert_eq!(kind, Kind::ragged(1, Width::Four, Place::Start));
+/// assert_eq!(Kind::fixed(0, 2, Order::Little).to_string(), "depth 0, fixed, size 2, little order");
+/// # Ok::<(), durpaxeta::TextError>(())
+/// ```
 #[derive(Clone, Copy, Debug, PartialEq, Eq, Hash)]
 #[non_exhaustive]
 pub struct Kind {
@@ -70,40 +85,57 @@ pub struct Kind {
 
 impl Kind {
     /// A kind of fixed cells.
+    ///
+    /// ```
+    /// use durpaxeta::{Kind, Order};
+    /// assert_eq!(Kind::fixed(1, 2, Order::Big).to_string(), "depth 1, fixed, size 2, big order");
+    /// ```
     pub const fn fixed(depth: u64, size: u64, order: Order) -> Kind {
         Kind { depth, values: Values::Fixed { size, order } }
     }
 
     /// A kind of ragged cells.
+    ///
+    /// ```
+    /// use durpaxeta::{Kind, Place, Width};
+    /// assert_eq!(Kind::ragged(0, Width::Eight, Place::End).to_string(), "depth 0, ragged, width 8, index at end");
+    /// ```
     pub const fn ragged(depth: u64, width: Width, place: Place) -> Kind {
         Kind { depth, values: Values::Ragged { width, place } }
     }
 
     /// Whether cells have any length, and offsets.
+    ///
+    /// ```
+    /// use durpaxeta::{Kind, Order};
+    /// assert!(!Kind::fixed(1, 2, Order::Big).is_ragged());
+    /// ```
     pub const fn is_ragged(self) -> bool {
         matches!(self.values, Values::Ragged { .. })
     }
-}
 
-impl fmt::Display for Kind {
-    /// For example `depth 1, ragged, width 4, index at start` or `depth 0, fixed, size 2, little order`.
-    fn fmt(&self, f: &mut fmt::Formatter<'_>) -> fmt::Result {
-        write!(f, "depth {}, ", self.depth)?;
-        match self.values {
-            Values::Fixed { size, order } => {
-                let order = match order {
-                    Order::Little => "little",
-                    Order::Big => "big",
-                };
-                write!(f, "fixed, size {size}, {order} order")
-            }
-            Values::Ragged { width, place } => {
-                let place = match place {
-                    Place::Start => "start",
-                    Place::End => "end",
-                };
-                write!(f, "ragged, width {}, index at {place}", width.bytes())
-            }
-        }
+    /// The room that an array of that many cells needs: of [`decode_into`](crate::decode_into) with `bytes` stored bytes, of
+    /// [`extract_into`](crate::extract_into) and [`merge_into`](crate::merge_into) with `bytes` value bytes. All of it is used
+    /// but for ragged values, which may be shorter. What a call refuses has little room or none.
+    ///
+    /// ```
+    /// use durpaxeta::{cell_count, Kind, Order, Room};
+    /// let kind = Kind::fixed(2, 4, Order::Little);
+    /// assert_eq!(kind.array_room(cell_count(&[2, 3]), 0), Room { masks: 12, values: 24, offsets: 0 });
+    /// ```
+    pub fn array_room(self, cells: usize, bytes: usize) -> Room {
+        sizes::array(self, cells, bytes)
+    }
+
+    /// The most bytes that [`encode_into`](crate::encode_into) writes for an array of that many cells; of ragged ones with
+    /// `value_bytes` value bytes. Exactly as many are written where no cell is null.
+    ///
+    /// ```
+    /// use durpaxeta::{Kind, Place, Width};
+    /// let kind = Kind::ragged(1, Width::Four, Place::Start);
+    /// assert_eq!(kind.stored_room(3, 10), (16 + 3) + 8 + 4 * 4 + 10);
+    /// ```
+    pub fn stored_room(self, cells: usize, value_bytes: usize) -> usize {
+        sizes::stored(self, cells, value_bytes)
     }
 }

@@ -3,6 +3,8 @@
 //! A cell of a table is null at some level, or it has a value; the value may be empty. [`Cell`] tells the two apart.
 //! This crate wraps the archive `libdurpaxeta.a`: it lends the outputs, sized by itself, and hands back owned results.
 //! Every function answers a result or one [`Refusal`], which knows its number, its meaning and who causes it.
+//! [`encode_into`], [`decode_into`], [`extract_into`] and [`merge_into`] write into slices that the caller lends instead.
+//! The crate needs `core` and `alloc` only.
 //!
 //! Masks come before values, and values before offsets, everywhere.
 //!
@@ -20,23 +22,31 @@
 //! # Ok::<(), durpaxeta::Refusal>(())
 //! ```
 
+#![no_std]
 #![deny(unsafe_code, missing_docs)]
+
+extern crate alloc;
 
 mod array;
 mod calls;
 mod ffi;
 mod kind;
+mod lent;
 mod refusal;
 mod sizes;
 mod subset;
+mod text;
 
-pub use array::{Array, ArrayRef, Cell, RaggedValues};
+pub use array::{Array, ArrayRef, Cell, Cells, RaggedValues};
 pub use calls::{
-    decode, decode_interleaved, encode, extract, merge, partial_decode, reverse_endianness, subset_cells, Chunk,
+    decode, decode_interleaved, decode_into, encode, encode_into, extract, extract_into, merge, merge_into,
+    partial_decode, reverse_endianness, subset_cells, Chunk,
 };
 pub use kind::{Kind, Order, Place, Values, Width};
-pub use refusal::{Blame, Refusal};
+pub use lent::{cell_count, Lent, Room};
+pub use refusal::{Blame, Refusal, UnknownRefusal};
 pub use subset::Subset;
+pub use text::{read_number, TextError};
 
 /// Most mask levels of a kind.
 pub const MAX_DEPTH: u64 = 4;

@@ -3,7 +3,7 @@
 //! Where an input is wrong the archive refuses it before it looks at an output, so any length will do there: these
 //! functions then answer little or nothing, and never a number that the inputs do not bear out.
 
-use crate::{Kind, Values, MAX_CELLS, MAX_DEPTH, MAX_SIDES, MAX_SIZE, MAX_VALUE_BYTES};
+use crate::{Kind, Room, Values, MAX_CELLS, MAX_DEPTH, MAX_SIDES, MAX_SIZE, MAX_VALUE_BYTES};
 
 /// Cells of a shape; None where the shape is refused.
 pub fn cells(shape: &[u64]) -> Option<usize> {
@@ -73,11 +73,6 @@ pub fn limited(bytes: u64) -> usize {
     }
 }
 
-/// Value bytes that stored bytes can hold at most.
-pub fn stored_at_most(bytes: &[u8]) -> usize {
-    bytes.len().min(MAX_VALUE_BYTES as usize)
-}
-
 /// Mask bytes of that many cells; 0 where the depth is refused.
 pub fn masks(kind: Kind, cells: usize) -> usize {
     if kind.depth <= MAX_DEPTH {
@@ -105,12 +100,32 @@ pub fn offsets(kind: Kind, cells: usize) -> usize {
     }
 }
 
+/// Masks, values and offsets of that many cells; the values of ragged ones at most `bytes` long.
+pub fn array(kind: Kind, cells: usize, bytes: usize) -> Room {
+    if cells as u64 > MAX_CELLS {
+        return Room::default();
+    }
+    Room {
+        masks: masks(kind, cells),
+        values: values(kind, cells, bytes.min(MAX_VALUE_BYTES as usize)),
+        offsets: offsets(kind, cells),
+    }
+}
+
+/// Stored bytes of one level's mask.
+fn stored_mask(_: Kind, cells: usize) -> usize {
+    cells
+}
+
 /// Stored bytes of an array at most: for each level 16 and its mask; 8, the index and the values.
-pub fn stored(kind: Kind, masks: &[u8], values: &[u8], offsets: &[u64]) -> usize {
-    let frames = 16 * kind.depth.min(MAX_DEPTH) as usize + masks.len();
+pub fn stored(kind: Kind, cells: usize, value_bytes: usize) -> usize {
+    let array = array(kind, cells, value_bytes);
+    if array.values + array.offsets == 0 || kind.depth > MAX_DEPTH {
+        return 0;
+    }
     let index = match kind.values {
         Values::Fixed { .. } => 0,
-        Values::Ragged { width, .. } => 8 + width.bytes() * offsets.len(),
+        Values::Ragged { width, .. } => 8 + width.bytes() * array.offsets,
     };
-    frames + index + values.len()
+    kind.depth as usize * (16 + stored_mask(kind, cells)) + array.values + index
 }

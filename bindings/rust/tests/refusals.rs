@@ -29,16 +29,19 @@ fn le(numbers: &[u64], width: usize, then: &[u8]) -> Vec<u8> {
 
 #[test]
 fn numbers_messages_and_blame() {
-    for (position, refusal) in Refusal::ALL.into_iter().enumerate() {
+    for (position, &refusal) in Refusal::ALL.iter().enumerate() {
         assert_eq!(refusal.number() as usize, position + 1);
-        assert_eq!(Refusal::from_number(refusal.number()), Some(refusal));
+        assert_eq!(Refusal::try_from(refusal.number()), Ok(refusal));
         assert!(!refusal.message().is_empty());
         assert!(refusal.to_string().starts_with(&format!("refusal {}: {}", refusal.number(), refusal.message())));
         assert!(refusal.to_string().contains(&refusal.blame().to_string()));
     }
-    assert_eq!(Refusal::from_number(0), None);
-    assert_eq!(Refusal::from_number(13), None);
-    let of = |blame| Refusal::ALL.into_iter().filter(|r| r.blame() == blame).map(Refusal::number).collect::<Vec<_>>();
+    for number in [0, Refusal::ALL.len() as u32 + 1, u32::MAX] {
+        assert_eq!(Refusal::try_from(number), Err(UnknownRefusal(number)));
+    }
+    assert_eq!(UnknownRefusal(0).to_string(), "no refusal has the number 0");
+    let all = Refusal::ALL.iter().copied();
+    let of = |blame| all.clone().filter(|r| r.blame() == blame).map(Refusal::number).collect::<Vec<_>>();
     assert_eq!(of(Blame::Describer), [1, 2, 3]);
     assert_eq!(of(Blame::Supplier), [4, 5, 12]);
     assert_eq!(of(Blame::Storer), [7, 8, 9, 10, 11]);

@@ -22,3 +22,8 @@ went-on (refuses k) f e = absurd (never-gives e)
 
 pub same-given : {A : Type 0} {x y : A} → gives x ≡ gives y → x ≡ y
 same-given e = cc
+
+-- a test, and then what goes on from what it lets through
+pub then-unless : {A B : Type 0} (b : Bool) (k : ℕ) (x : A) (f : A → Answer B) → andThen (unless b k (gives x)) f ≡ unless b k (f x)
+then-unless true k x f = refl
+then-unless false k x f = refl

@@ -17,3 +17,4 @@ pub mod Limits
 pub mod SubsetLists
 pub mod Reversed
 pub mod CellAnswers
+pub mod Refusals

@@ -8,8 +8,10 @@ pub mod Subset
 pub mod Offsets
 pub mod Cells
 pub mod Content
+pub mod Places
 pub mod Buffers
 pub mod Meaning
 pub mod Outcome
 pub mod Rows
 pub mod Calls
+pub mod Refusals

@@ -1,25 +1,28 @@
--- Demand 3's hypotheses can be met: a ragged array of depth 2 with packed masks in a shape of 2 × 3, cut into two subsets, with an empty Q.
+-- Demand 3's hypotheses can be met: a ragged array of depth 2 with packed masks in a shape of 2 × 3, cut into two subsets, with an empty
+-- Q. And those of partial_decode as decode, then extract: document 01's 34 bytes.
 -- Assumes nothing.
 use mathlib.Core.Path.{_≡_, refl}
-use mathlib.Core.Logic.{inl}
+use mathlib.Core.Logic.{inl, inr}
 use Prim.Native.Nat.{ℕ, zero, suc}
 use native.Mathlib.Omega.{arith}
 use mathlib.Core.List.{List, [], _∷_}
 use lib.Dec.{lit≤}
 use Rattle.array.specs.Answer.{gives, andThen}
 use Rattle.array.specs.Limits.{mostBytes, mostCells}
-use Rattle.array.specs.Bytes.{le}
-use Rattle.array.specs.Kind.{Kind, asBits, ragged, atEnd}
+use Rattle.array.specs.Bytes.{le, unle}
+use Rattle.array.specs.Kind.{Kind, asBits, ragged, atStart, atEnd}
 use Rattle.array.specs.Content.{Content, Valid}
 use Rattle.array.specs.Buffers.{lengthsOf, Enough}
 use Rattle.codec.specs.Frame.{wrap, frame}
-use Rattle.codec.specs.Ragged.{putRagged}
+use Rattle.codec.specs.Ragged.{putRagged, getRagged}
 use Rattle.codec.specs.Values.{putValues}
-use Rattle.codec.specs.Calls.{written}
-use Rattle.chunks.specs.Calls.{extracted}
+use Rattle.codec.specs.Calls.{written, readIn, decodeAnswer, decoded}
+use Rattle.chunks.specs.Calls.{extracted, partiallyDecoded}
 use Rattle.chunks.specs.Demand.{taken, whole, Entry, EntryOk, Covers, subsetsIn, wholeWay}
-use Rattle.chunks.specs.Lines.{lent, old}
+use Rattle.chunks.specs.Lines.{lent, lentRagged, old, bytes34}
+use Rattle.chunks.specs.ReadThenCut.{withoutMasks, readThenCut, LongEnough}
 use Rattle.chunks.proofs.Demand.{demand3}
+use Rattle.chunks.proofs.ReadThenCut.{partial-decode}
 
 abbrev kind : Kind
 kind = record { depth = 2; masks = asBits; form = ragged 4 atEnd }
@@ -105,3 +108,15 @@ empty-cut =
     demand3 kind shape table valid entries (wide-ok, (narrow-ok, tt)) covers (lent 12 4 7) enough .1
     (0 ∷ 3 ∷ 2 ∷ 0 ∷ []) (record { counted = refl; fits = omega arith }) (lent 0 0 1)
     (record { for-masks = lit≤ tt; for-values = lit≤ tt; for-offsets = lit≤ tt })
+
+-- the first of the two cells of the 34 bytes
+
+abbrev firstOfTwo : List ℕ
+firstOfTwo = 0 ∷ 1 ∷ []
+
+long-enough : LongEnough 8 atStart (2 ∷ []) bytes34 (lent 0 2 3)
+unfolding mostBytes mostCells unle getRagged readIn decodeAnswer decoded
+long-enough e = let never : _≡_ {A = ℕ} 0 1 = cc in omega arith
+
+pub first-cell : partiallyDecoded 8 atStart (2 ∷ []) firstOfTwo bytes34 (lentRagged 3 3) ≡ withoutMasks (readThenCut 8 atStart (2 ∷ []) bytes34 firstOfTwo (lent 0 2 3) (lent 0 3 3))
+first-cell = partial-decode 8 atStart (inr refl) (2 ∷ []) bytes34 (lent 0 2 3) long-enough firstOfTwo (lent 0 3 3) .else-equal (λ sh. record { counted = refl; fits = omega arith })

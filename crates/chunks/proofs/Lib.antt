@@ -5,4 +5,7 @@ pub mod Calls
 pub mod Idle
 pub mod Demand
 pub mod Lines
+pub mod Refusals
+pub mod Demand1
+pub mod ReadThenCut
 pub mod Instance

@@ -60,8 +60,7 @@ raggedCut w p shape ns x =
 
 unfoldable pub partialAnswer : ℕ → Place → List ℕ → List ℕ → List ℕ → RaggedLengths → Answer RaggedContent
 partialAnswer w p shape ns s room =
-    unless (shapeTest shape) 2
-    (unless (numbersTest shape ns) 3
+    unless (shapeTest shape) 2 (unless (numbersTest shape ns) 3
     (andThen (getRagged w p s (volume shape)) (λ x.
     unless (raggedEnoughTest (raggedCut w p shape ns x) room) 6 (gives (raggedCut w p shape ns x)))))
 

@@ -2,6 +2,7 @@
 -- planes, outermost first, and its own offsets, counted from the start of its own value bytes.
 -- Assumes nothing.
 use Prim.Native.Nat.{ℕ, suc, _*_}
+use mathlib.Core.Path.{_≡_}
 use mathlib.Core.Bool.{Bool, _&&_}
 use mathlib.Core.List.{List, [], _∷_, _++_}
 use lib.ListN.{length, take, drop}
@@ -48,6 +49,11 @@ laterChunks k m c =
     }
 
 -- ---- the cells of all chunks, in the list's order; refusal 4 where a chunk breaks the array's rules or something is left over
+
+pub record Nothing (c : Content) : Type 0 where
+  pub no-masks : length (c .masks) ≡ 0
+  pub no-values : length (c .values) ≡ 0
+  pub no-offsets : length (c .offsets) ≡ 0
 
 abbrev pub nothingTest : Content → Bool
 nothingTest c = eqb (length (c .masks)) 0 && eqb (length (c .values)) 0 && eqb (length (c .offsets)) 0

@@ -4,3 +4,6 @@ pub mod Chunks
 pub mod Calls
 pub mod Demand
 pub mod Lines
+pub mod Refusals
+pub mod Demand1
+pub mod ReadThenCut

@@ -7,3 +7,5 @@ pub mod RoundTrip
 pub mod Marks
 pub mod SpreadLaws
 pub mod Returns
+pub mod Refusals
+pub mod Accepted

@@ -6,3 +6,4 @@ pub mod Length
 pub mod Interleaved
 pub mod Calls
 pub mod Spread
+pub mod Refusals

@@ -2,6 +2,8 @@
 -- Place start: index length (8 bytes), index, data. Place end: data, index, index length.
 -- Assumes nothing.
 use Prim.Native.Nat.{ℕ, zero, suc, _-_, _*_}
+use mathlib.Core.Path.{_≡_}
+use mathlib.Core.Logic.{_⊎_}
 use mathlib.Core.List.{List, [], _++_, map}
 use mathlib.Core.Bool.{Bool, true}
 use lib.ListN.{length, take, drop}
@@ -38,7 +40,10 @@ putRagged w p c = put p (le 8 (length (indexOf w (c .offsets)))) (put p (indexOf
 
 -- ---- reading
 
--- with a last offset of 0 the data is not looked at
+-- with a last offset of 0 the data is not looked at: the rule for n data bytes, and the test of it
+abbrev pub DataOk : ℕ → ℕ → Type 0
+DataOk o n = (o ≡ 0) ⊎ (o ≡ n)
+
 abbrev pub dataTest : ℕ → ℕ → Bool
 dataTest zero n = true
 dataTest (suc o) n = eqb (suc o) n

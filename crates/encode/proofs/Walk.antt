@@ -13,12 +13,13 @@ use Rattle.array.specs.Kind.{Kind, Form, fixed, ragged}
 use Rattle.array.specs.Offsets.{slices, slicesFrom}
 use Rattle.array.specs.Cells.{Value, Cell, maskOf, setTest}
 use Rattle.array.specs.Content.{Content, ContentOk, ValuesOk, pairUp, attach, valuesIn, cellsOf}
+use Rattle.array.proofs.Lists.{from-suc}
 use Rattle.codec.specs.Mask.{byteMask}
 use Rattle.codec.specs.Frame.{keep, wrap, unlessNone, frame}
 use Rattle.codec.specs.Values.{putValues}
 use Rattle.codec.specs.Calls.{written, storedForm}
 use Rattle.gather.specs.Live.{maskAt, liveTest, liveAt}
-use Rattle.gather.proofs.Numbered.{from-suc, plane-at, pieces-at, live-all}
+use Rattle.gather.proofs.Numbered.{plane-at, pieces-at, live-all}
 use Rattle.gather_ragged.specs.Slices.{sliceAt}
 use Rattle.encode.specs.Stored.{valueAt, storedFrom, storedBy}
 

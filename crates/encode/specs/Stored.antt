@@ -19,10 +19,6 @@ use Rattle.gather.specs.Live.{maskAt, liveAt}
 use Rattle.gather.specs.Pieces.{pieceAt}
 use Rattle.gather_ragged.specs.Slices.{sliceAt, spansOf}
 
--- the content that three slices hold
-abbrev pub contentIn : List ℕ → List ℕ → List ℕ → Content
-contentIn masks values offsets = record { masks = masks; values = values; offsets = offsets }
-
 -- the value of cell i
 abbrev pub valueAt : Form → Content → ℕ → Value
 valueAt (fixed k o) c i = pieceAt k (c .values) i

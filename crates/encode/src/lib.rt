@@ -13,10 +13,10 @@ mod write;
 
 ghost use mathlib.Core.Path.{_≡_};
 ghost use Rattle.array.specs.Meaning.{kindOf};
-ghost use Rattle.array.specs.Outcome.{outcome};
+ghost use Rattle.array.specs.Outcome.{outcome, contentArray};
 ghost use Rattle.codec.specs.Calls.{storedForm, encoded};
 ghost use Rattle.encode.specs.Ready.{Encodable};
-ghost use Rattle.encode.specs.Stored.{contentIn, storedOver};
+ghost use Rattle.encode.specs.Stored.{storedOver};
 
 // Writes an array into its stored form. Refusals 1, 2, 4, 5 and 6, in this order; nothing is stored before the last check.
 pub fn encode(
@@ -51,8 +51,8 @@ fn encode_valid(
     offsets: &[u64],
     out: &mut [u8],
 ) -> Written
-    requires { ⌜ Encodable (kindOf kind) cells (contentIn (now masks) (now values) (now offsets)) ⌝ }
-    ensures { λ r. ⌜ outcome r (now (out .exit)) ≡ storedOver (storedForm (kindOf kind) cells (contentIn (now (masks .entry)) (now (values .entry)) (now (offsets .entry)))) (now (out .entry)) ⌝ }
+    requires { ⌜ Encodable (kindOf kind) cells (contentArray (now masks) (now values) (now offsets)) ⌝ }
+    ensures { λ r. ⌜ outcome r (now (out .exit)) ≡ storedOver (storedForm (kindOf kind) cells (contentArray (now (masks .entry)) (now (values .entry)) (now (offsets .entry)))) (now (out .entry)) ⌝ }
 {
     let form = kind.values;
     let depth = kind.depth as usize;

@@ -7,9 +7,10 @@ ghost use Prim.Native.Nat.{_+_, _≤_};
 ghost use lib.ListN.{length};
 ghost use Rattle.array.specs.Buffers.{overAt};
 ghost use Rattle.array.specs.Meaning.{formOf};
+ghost use Rattle.array.specs.Outcome.{contentArray};
 ghost use Rattle.gather.specs.Live.{liveAt};
 ghost use Rattle.encode.specs.Ready.{Measured, Ready};
-ghost use Rattle.encode.specs.Stored.{contentIn, valuesFrom, valuesLengthAt};
+ghost use Rattle.encode.specs.Stored.{valuesFrom, valuesLengthAt};
 
 // How long the values of the `count` cells that the level counts are when written.
 pub fn values_length(
@@ -46,10 +47,10 @@ pub fn put_values(
     count: usize,
 ) -> usize
     requires counted { ⌜ count ≡ length (liveAt cells (now masks) level) ⌝ }
-    requires ready { ⌜ Ready (formOf form) cells (contentIn (now masks) (now values) (now offsets)) level ⌝ }
-    requires room { ⌜ at + length (valuesFrom (formOf form) cells (contentIn (now masks) (now values) (now offsets)) level) ≤ length (now out) ⌝ }
-    ensures wrote { λ r. ⌜ r ≡ length (valuesFrom (formOf form) cells (contentIn (now (masks .entry)) (now (values .entry)) (now (offsets .entry))) level) ⌝ }
-    ensures bytes { λ _. ⌜ now (out .exit) ≡ overAt at (valuesFrom (formOf form) cells (contentIn (now (masks .entry)) (now (values .entry)) (now (offsets .entry))) level) (now (out .entry)) ⌝ }
+    requires ready { ⌜ Ready (formOf form) cells (contentArray (now masks) (now values) (now offsets)) level ⌝ }
+    requires room { ⌜ at + length (valuesFrom (formOf form) cells (contentArray (now masks) (now values) (now offsets)) level) ≤ length (now out) ⌝ }
+    ensures wrote { λ r. ⌜ r ≡ length (valuesFrom (formOf form) cells (contentArray (now (masks .entry)) (now (values .entry)) (now (offsets .entry))) level) ⌝ }
+    ensures bytes { λ _. ⌜ now (out .exit) ≡ overAt at (valuesFrom (formOf form) cells (contentArray (now (masks .entry)) (now (values .entry)) (now (offsets .entry))) level) (now (out .entry)) ⌝ }
 {
     match form {
         Values::Fixed(size, order) => {

@@ -10,9 +10,10 @@ ghost use Prim.Native.Nat.{_+_, _≤_};
 ghost use lib.ListN.{length};
 ghost use Rattle.array.specs.Buffers.{over, overAt};
 ghost use Rattle.array.specs.Meaning.{formOf};
+ghost use Rattle.array.specs.Outcome.{contentArray};
 ghost use Rattle.gather.specs.Live.{liveAt};
 ghost use Rattle.encode.specs.Ready.{Ready};
-ghost use Rattle.encode.specs.Stored.{contentIn, storedFrom, frameFrom, storedBy};
+ghost use Rattle.encode.specs.Stored.{storedFrom, frameFrom, storedBy};
 
 // Writes the content of the cells that the level counts, `left` levels being left; says how many bytes it wrote.
 pub fn write_content(
@@ -26,10 +27,10 @@ pub fn write_content(
     level: usize,
     left: usize,
 ) -> usize
-    requires ready { ⌜ Ready (formOf form) cells (contentIn (now masks) (now values) (now offsets)) (level + left) ⌝ }
-    requires room { ⌜ at + length (storedFrom (formOf form) cells (contentIn (now masks) (now values) (now offsets)) left level) ≤ length (now out) ⌝ }
-    ensures wrote { λ r. ⌜ r ≡ length (storedFrom (formOf form) cells (contentIn (now (masks .entry)) (now (values .entry)) (now (offsets .entry))) left level) ⌝ }
-    ensures bytes { λ _. ⌜ now (out .exit) ≡ overAt at (storedFrom (formOf form) cells (contentIn (now (masks .entry)) (now (values .entry)) (now (offsets .entry))) left level) (now (out .entry)) ⌝ }
+    requires ready { ⌜ Ready (formOf form) cells (contentArray (now masks) (now values) (now offsets)) (level + left) ⌝ }
+    requires room { ⌜ at + length (storedFrom (formOf form) cells (contentArray (now masks) (now values) (now offsets)) left level) ≤ length (now out) ⌝ }
+    ensures wrote { λ r. ⌜ r ≡ length (storedFrom (formOf form) cells (contentArray (now (masks .entry)) (now (values .entry)) (now (offsets .entry))) left level) ⌝ }
+    ensures bytes { λ _. ⌜ now (out .exit) ≡ overAt at (storedFrom (formOf form) cells (contentArray (now (masks .entry)) (now (values .entry)) (now (offsets .entry))) left level) (now (out .entry)) ⌝ }
 {
     let count = live::count_live(masks, cells, level);
     if count == 0 {
@@ -66,10 +67,10 @@ fn write_frame(
     count: usize,
 ) -> usize
     requires counted { ⌜ count ≡ length (liveAt cells (now masks) level) ⌝ }
-    requires ready { ⌜ Ready (formOf form) cells (contentIn (now masks) (now values) (now offsets)) (level + 1 + below) ⌝ }
-    requires room { ⌜ at + length (frameFrom (formOf form) cells (contentIn (now masks) (now values) (now offsets)) below level) ≤ length (now out) ⌝ }
-    ensures wrote { λ r. ⌜ r ≡ length (frameFrom (formOf form) cells (contentIn (now (masks .entry)) (now (values .entry)) (now (offsets .entry))) below level) ⌝ }
-    ensures bytes { λ _. ⌜ now (out .exit) ≡ overAt at (frameFrom (formOf form) cells (contentIn (now (masks .entry)) (now (values .entry)) (now (offsets .entry))) below level) (now (out .entry)) ⌝ }
+    requires ready { ⌜ Ready (formOf form) cells (contentArray (now masks) (now values) (now offsets)) (level + 1 + below) ⌝ }
+    requires room { ⌜ at + length (frameFrom (formOf form) cells (contentArray (now masks) (now values) (now offsets)) below level) ≤ length (now out) ⌝ }
+    ensures wrote { λ r. ⌜ r ≡ length (frameFrom (formOf form) cells (contentArray (now (masks .entry)) (now (values .entry)) (now (offsets .entry))) below level) ⌝ }
+    ensures bytes { λ _. ⌜ now (out .exit) ≡ overAt at (frameFrom (formOf form) cells (contentArray (now (masks .entry)) (now (values .entry)) (now (offsets .entry))) below level) (now (out .entry)) ⌝ }
 {
     let start = at + 16;
     let mask = mask::mask_length(count);
@@ -100,9 +101,9 @@ pub fn write_stored(
     masks: &[u8],
     cells: usize,
 )
-    requires ready { ⌜ Ready (formOf form) cells (contentIn (now masks) (now values) (now offsets)) depth ⌝ }
-    requires room { ⌜ length (storedBy (formOf form) cells (contentIn (now masks) (now values) (now offsets)) depth) ≤ length (now out) ⌝ }
-    ensures { λ _. ⌜ now (out .exit) ≡ over (storedBy (formOf form) cells (contentIn (now (masks .entry)) (now (values .entry)) (now (offsets .entry))) depth) (now (out .entry)) ⌝ }
+    requires ready { ⌜ Ready (formOf form) cells (contentArray (now masks) (now values) (now offsets)) depth ⌝ }
+    requires room { ⌜ length (storedBy (formOf form) cells (contentArray (now masks) (now values) (now offsets)) depth) ≤ length (now out) ⌝ }
+    ensures { λ _. ⌜ now (out .exit) ≡ over (storedBy (formOf form) cells (contentArray (now (masks .entry)) (now (values .entry)) (now (offsets .entry))) depth) (now (out .entry)) ⌝ }
 {
     if 0 < depth {
         write_content(out, 0, form, values, offsets, masks, cells, 0, depth);

@@ -111,23 +111,11 @@ said-next x s at n j h l =
     drop-cons said j 0 (omega (arith, length-said x s at n h))
     ∙ ap₂ (λ (b k : ℕ). b ∷ drop k said) (ap (λ (m : List ℕ). getD m j 0) (said-is x s at n h) ∙ getD-take n (saidFrom x (drop at s)) j 0 l) (sym (add-one j))
 
--- ---- a byte of bits, from its highest on
+-- ---- the bit that a mask byte says
 
 pub bit-one : (b : ℕ) → countSet (b ∷ []) ≡ bitOf b
 bit-one zero = refl
 bit-one (suc b) = refl
-
-number-head : (bs : List ℕ) → number 2 bs ≡ getD bs 0 0 + 2 * number 2 (drop 1 bs)
-number-head [] = refl
-number-head (b ∷ bs) = refl
-
-pub number-from : (bs : List ℕ) (k : ℕ) → number 2 (drop k bs) ≡ getD bs k 0 + 2 * number 2 (drop (k + 1) bs)
-number-from bs k =
-    let e : k + 0 ≡ k = omega arith in
-    number-head (drop k bs) ∙ ap₂ (λ (b r : ℕ). b + 2 * r) (getD-drop k bs 0 0 ∙ ap (λ (i : ℕ). getD bs i 0) e) (ap (number 2) (drop-drop 1 k bs))
-
-pub number-past : (bs : List ℕ) (k : ℕ) → length bs ≤ k → number 2 (drop k bs) ≡ 0
-number-past bs k h = ap (number 2) (drop-of-length-le bs h)
 
 -- ---- the check of a mask: it passes, or its refusal is given
 

@@ -11,8 +11,22 @@ ghost use Rattle.mask.specs.Marks.{saidMask};
 
 // Four bits as four bytes: bit k of the place is byte k of the number there.
 const FOUR_BYTES: [u32; 16] = [
-    0, 1, 256, 257, 65536, 65537, 65792, 65793, 16777216, 16777217, 16777472, 16777473, 16842752,
-    16842753, 16843008, 16843009,
+    0,
+    1,
+    256,
+    257,
+    65536,
+    65537,
+    65792,
+    65793,
+    16777216,
+    16777217,
+    16777472,
+    16777473,
+    16842752,
+    16842753,
+    16843008,
+    16843009,
 ];
 
 fn four_bytes(i: u8) -> u32

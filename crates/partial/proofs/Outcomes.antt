@@ -13,17 +13,17 @@ use Rattle.array.specs.Shape.{volume, shapeTest}
 use Rattle.array.specs.Subset.{subsetOf, numbersTest, cellsIn}
 use Rattle.array.specs.Cells.{Value}
 use Rattle.array.specs.Offsets.{offsetsOf}
-use Rattle.array.specs.Content.{RaggedContent, sizeTest}
+use Rattle.array.specs.Content.{RaggedContent, sizeTest, endToEnd}
 use Rattle.array.specs.Buffers.{RaggedLengths, raggedLengthsOf, RaggedEnough, raggedEnoughTest, over, raggedOutcome}
 use Rattle.array.specs.Outcome.{contentRagged}
 use Rattle.array.proofs.Rules.{ragged-enough-test, ragged-enough-ok, numbers-ok}
 use Rattle.codec.specs.Ragged.{getRagged}
-use Rattle.stored.specs.Index.{indexIn, limited}
-use Rattle.stored.proofs.IndexLaws.{index-limited}
-use Rattle.stored.proofs.CheckedIndex.{span-refused}
+use Rattle.stored.specs.declared.vlen.Index.{Index}
+use Rattle.stored.specs.Index.{foundIn}
+use Rattle.stored.proofs.CheckedIndex.{found-refused}
 use Rattle.chunks.specs.Calls.{raggedCut, partialAnswer, partiallyDecoded}
 use Rattle.extract.specs.Places.{valuesAt}
-use Rattle.partial.specs.Stored.{storedAt, endToEnd, cutAnswer}
+use Rattle.partial.specs.Stored.{storedAt, cutAnswer}
 use Rattle.partial.proofs.Stored.{readAt, Read, read-cut}
 
 -- nothing is stored
@@ -85,20 +85,18 @@ module _ (w : ℕ) (p : Place) (shape ns s : List ℕ) (old : RaggedContent) whe
     no-subset eb = sym (answered true false (getRagged w p s (volume shape)) ea eb refl)
 
     module _ (eb : numbersTest shape ns ≡ true) where
-      pub not-read : (e : ℕ) → indexIn w p s (volume shape) ≡ refuses e → refused e old ≡ partiallyDecoded w p shape ns s old
-      not-read e h =
-          let r = span-refused (getRagged w p s (volume shape)) e (sym (index-limited w p s (volume shape)) ∙ ap limited h) in
-          sym (answered true true (refuses e) ea eb r)
+      pub not-read : (e : ℕ) → foundIn w p s 0 (volume shape) ≡ refuses e → refused e old ≡ partiallyDecoded w p shape ns s old
+      not-read e h = sym (answered true true (refuses e) ea eb (found-refused w p s 0 (volume shape) e h))
 
-      pub cut-read : (index source l : ℕ) → Read w p s (volume shape) index source l
-          → raggedOutcome (cutAnswer l (valuesAt (storedAt w s index) (drop source s) (cellsIn shape (subsetOf (length shape) ns))) (raggedLengthsOf old)) old
+      pub cut-read : (i : Index) → Read w p s (volume shape) i
+          → raggedOutcome (cutAnswer (i .last) (valuesAt (storedAt w s (i .index)) (drop (i .from) s) (cellsIn shape (subsetOf (length shape) ns))) (raggedLengthsOf old)) old
           ≡ partiallyDecoded w p shape ns s old
-      cut-read index source l r =
-          let x : RaggedContent = readAt w s (volume shape) index source in
-          sym (answered true true (unless (sizeTest l) 5 (gives x)) ea eb (r .gave)
-          ∙ ap (λ (a : Answer RaggedContent). raggedOutcome a old) (go (sizeTest l) x)
-          ∙ ap (λ (c : RaggedContent). raggedOutcome (unless (sizeTest l) 5 (unless (raggedEnoughTest c (raggedLengthsOf old)) 6 (gives c))) old)
-          (read-cut w p shape ns s index source l r (numbers-ok shape ns eb .fits)))
+      cut-read i r =
+          let x : RaggedContent = readAt w s (volume shape) (i .index) (i .from) in
+          sym (answered true true (unless (sizeTest (i .last)) 5 (gives x)) ea eb (r .gave)
+          ∙ ap (λ (a : Answer RaggedContent). raggedOutcome a old) (go (sizeTest (i .last)) x)
+          ∙ ap (λ (c : RaggedContent). raggedOutcome (unless (sizeTest (i .last)) 5 (unless (raggedEnoughTest c (raggedLengthsOf old)) 6 (gives c))) old)
+          (read-cut shape ns r (numbers-ok shape ns eb .fits)))
         where
           go : (b : Bool) (x : RaggedContent) → andThen (unless b 5 (gives x)) cutOr ≡ unless b 5 (cutOr x)
           go true x = refl

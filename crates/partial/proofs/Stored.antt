@@ -3,7 +3,7 @@
 -- Assumes nothing.
 use mathlib.Core.Path.{_≡_, refl, sym, ap, ap₂, _∙_, subst}
 use Prim.Native.Nat.{ℕ, zero, suc, _+_, _-_, _*_, _≤_, _<_}
-use native.Mathlib.Nat.{zero-mul, suc-mul, zero-add, sub-zero, mul-le-mul-right}
+use native.Mathlib.Nat.{zero-mul, suc-mul, mul-le-mul-right}
 use native.Mathlib.Omega.{arith}
 use mathlib.Core.List.{List, [], _∷_}
 use lib.ListN.{length, take, drop, getD, length-drop, length-map}
@@ -16,19 +16,21 @@ use Rattle.array.specs.Shape.{volume}
 use Rattle.array.specs.Subset.{SubsetOk, subsetOf, cellsIn}
 use Rattle.array.specs.Cells.{Value}
 use Rattle.array.specs.Offsets.{last, lastFrom, Rising, RisingFrom}
-use Rattle.array.specs.Content.{Content, RaggedContent, unmasked, ValuesOk, sizeTest}
+use Rattle.array.specs.Content.{Content, RaggedContent, unmasked, ValuesOk, sizeTest, endToEnd}
+use Rattle.array.specs.Places.{offsetAt}
 use Rattle.array.proofs.Lists.{length-pieces, take-within}
 use Rattle.valid.proofs.CheckLaws as check
 use Rattle.array.proofs.SubsetLaws.{cellsIn-below}
 use Rattle.codec.specs.Ragged.{getRagged}
-use Rattle.stored.specs.Index.{offsetsIn, indexIn, indexAt, dataAt}
+use Rattle.stored.specs.declared.vlen.Index.{Index}
+use Rattle.stored.specs.Index.{offsetsIn, foundIn, raggedAt, IndexWithin}
 use Rattle.stored.proofs.CheckedIndex.{IndexFound, index-found}
 use Rattle.chunks.specs.Calls.{raggedCut}
-use Rattle.extract.specs.Places.{offsetAt, Rises, valuesAt}
+use Rattle.extract.specs.Places.{Rises, valuesAt}
 use Rattle.extract.proofs.Places.{run-below}
 use Rattle.extract.proofs.Forms.{begins-rise}
 use Rattle.extract.proofs.Closing.{cut-is}
-use Rattle.partial.specs.Stored.{storedAt, endToEnd, DataAsked}
+use Rattle.partial.specs.Stored.{storedAt, DataAsked}
 
 -- ---- offset j of an index
 
@@ -54,75 +56,58 @@ offset-room w n j index l h r = omega (arith, mul-le-mul-right {m = j} {n = n} w
 abbrev pub readAt : ℕ → List ℕ → ℕ → ℕ → ℕ → RaggedContent
 readAt w s n index source = record { values = take (storedAt w s index n) (drop source s); offsets = offsetsIn w (suc n) (drop index s) }
 
-pub record Read (w : ℕ) (p : Place) (s : List ℕ) (n index source l : ℕ) : Type 0 where
-  pub stored : DataAsked w s index source n
-  pub gave : getRagged w p s n ≡ unless (sizeTest l) 5 (gives (readAt w s n index source))
-  pub keeps : ValuesOk (ragged w p) n (unmasked (readAt w s n index source))
+pub record Read (w : ℕ) (p : Place) (s : List ℕ) (n : ℕ) (i : Index) : Type 0 where
+  pub stored : DataAsked w s (i .index) (i .from) n
+  pub gave : getRagged w p s n ≡ unless (sizeTest (i .last)) 5 (gives (readAt w s n (i .index) (i .from)))
+  pub keeps : ValuesOk (ragged w p) n (unmasked (readAt w s n (i .index) (i .from)))
 
-module _ (w : ℕ) (p : Place) (s : List ℕ) (n index source : ℕ) where
+module _ (w : ℕ) (p : Place) (s : List ℕ) (i : Index) where
+  abbrev cells : ℕ
+  cells = i .cells
+
   abbrev os : List ℕ
-  os = offsetsIn w (suc n) (drop index s)
+  os = offsetsIn w (suc cells) (drop (i .index) s)
 
-  many : length os ≡ suc n
-  many = length-map (pieces w (suc n) (drop index s)) unle ∙ length-pieces w (suc n) (drop index s)
+  many : length os ≡ suc cells
+  many = length-map (pieces w (suc cells) (drop (i .index) s)) unle ∙ length-pieces w (suc cells) (drop (i .index) s)
 
-  last-stored : last os ≡ storedAt w s index n
-  last-stored = check.last-at os n many ∙ stored-is w n s index n (omega arith)
+  last-stored : last os ≡ storedAt w s (i .index) cells
+  last-stored = check.last-at os cells many ∙ stored-is w cells s (i .index) cells (omega arith)
 
-  by-places : (l : ℕ) → l ≡ last os → index + (w + n * w) ≤ length s → source + l ≤ length s → Rising os
-      → getRagged w p s n ≡ unless (sizeTest l) 5 (gives (record { values = take l (drop source s); offsets = os })) → Read w p s n index source l
-  by-places l el hi hs up g =
-      let e : l ≡ storedAt w s index n = el ∙ last-stored in
-      let ok : ValuesOk (ragged w p) n (unmasked (readAt w s n index source)) =
-      (many, up, last-stored ∙ sym (length-take-le (storedAt w s index n) (drop source s) (omega (arith, length-drop source s)))) in
+  by-places : IndexWithin w s i → i .first ≡ unle (take w (drop (i .index) s)) → getRagged w p s cells ≡ unless (sizeTest (i .last)) 5 (gives (raggedAt w s i)) → Read w p s cells i
+  by-places h first-is g =
+      let after : drop (i .index + w) s ≡ drop w (drop (i .index) s) = sym (drop-drop w (i .index) s) in
+      let e : i .last ≡ storedAt w s (i .index) cells =
+      h .last-is ∙ ap₂ (λ (x : ℕ) (y : List ℕ). lastFrom x (offsetsIn w cells y)) first-is after ∙ last-stored in
+      let up : Rising os =
+      subst (λ (x : ℕ). RisingFrom x (offsetsIn w cells (drop w (drop (i .index) s)))) first-is
+      (subst (λ (y : List ℕ). RisingFrom (i .first) (offsetsIn w cells y)) after (h .rising)) in
+      let ok : ValuesOk (ragged w p) cells (unmasked (readAt w s cells (i .index) (i .from))) =
+      (many, up, last-stored ∙ sym (length-take-le (storedAt w s (i .index) cells) (drop (i .from) s) (omega (arith, length-drop (i .from) s, h .data-room)))) in
       record {
         stored = record {
           index-asked = record {
-            room = hi;
-            rises = λ j h.
+            room = h .index-room;
+            rises = λ j l.
                 omega (
                   arith,
-                  begins-rise (ragged w p) n (unmasked (readAt w s n index source)) ok j h,
-                  stored-is w n s index j (omega arith),
-                  stored-is w n s index (suc j) (omega arith),
+                  begins-rise (ragged w p) cells (unmasked (readAt w s cells (i .index) (i .from))) ok j l,
+                  stored-is w cells s (i .index) j (omega arith),
+                  stored-is w cells s (i .index) (suc j) (omega arith),
                 );
-            few-bytes = omega arith;
+            few-bytes = omega (arith, h .data-room);
           };
-          data-room = omega arith;
+          data-room = omega (arith, h .data-room);
         };
-        gave = g ∙ ap (λ (i : ℕ). unless (sizeTest l) 5 (gives (record { values = take i (drop source s); offsets = os }))) e;
+        gave = g ∙ ap (λ (l : ℕ). unless (sizeTest (i .last)) 5 (gives (record { values = take l (drop (i .from) s); offsets = os }))) e;
         keeps = ok;
       }
 
 -- the check's answer says where they lie
-module _ (w : ℕ) (p : Place) (s : List ℕ) (n f l : ℕ) (h : indexIn w p s n ≡ gives (f, l)) where
-  abbrev index : ℕ
-  index = 0 + indexAt p (length s - 0) (w + n * w)
-
-  abbrev source : ℕ
-  source = 0 + dataAt p (w + n * w)
-
-  found : IndexFound w n s 0 p f l
-  found = index-found w n s 0 p f l (omega arith) h
-
-  read-from : Read w p s n index source l
-  read-from =
-      let c = found in
-      let after : drop (index + w) s ≡ drop w (drop index s) = sym (drop-drop w index s) in
-      by-places w p s n index source l
-      (c .within .last-is ∙ ap₂ (λ (x : ℕ) (y : List ℕ). lastFrom x (offsetsIn w n y)) (c .first-is) after)
-      (c .within .index-room) (c .within .data-room)
-      (subst (λ (x : ℕ). RisingFrom x (offsetsIn w n (drop w (drop index s)))) (c .first-is) (subst (λ (y : List ℕ). RisingFrom f (offsetsIn w n y)) after (c .within .rising))) (c .gave)
-
-  -- the index fits
-  pub read-room : 8 + (w + n * w) ≤ length s
-  read-room = omega (arith, found .long, found .fits)
-
-  pub read-at : (i d : ℕ) → i ≡ indexAt p (length s) (w + n * w) → d ≡ dataAt p (w + n * w) → Read w p s n i d l
-  read-at i d ei ed =
-      let qi : index ≡ i = zero-add (indexAt p (length s - 0) (w + n * w)) ∙ ap (λ (k : ℕ). indexAt p k (w + n * w)) (sub-zero (length s)) ∙ sym ei in
-      let qd : source ≡ d = zero-add (dataAt p (w + n * w)) ∙ sym ed in
-      subst (λ (x : ℕ). Read w p s n x d l) qi (subst (λ (x : ℕ). Read w p s n index x l) qd read-from)
+pub read-found : (w : ℕ) (p : Place) (s : List ℕ) (n : ℕ) (i : Index) → foundIn w p s 0 n ≡ gives i → Read w p s n i
+read-found w p s n i h =
+    let c : IndexFound w p s 0 n i = index-found w p s 0 n i (omega arith) h in
+    subst (λ (m : ℕ). Read w p s m i) (c .cells-are) (by-places w p s i (c .within) (c .first-is) (ap (getRagged w p s) (c .cells-are) ∙ c .gave))
 
 -- ---- the cut
 
@@ -138,14 +123,15 @@ values-same off to n q r e (j ∷ js) a =
     (ap₂ (λ (x y : ℕ). take (x - y) (drop y (take (to n) q))) (e (suc j) (omega arith)) (e j (omega arith)) ∙ take-within (to j) (to (suc j) - to j) (to n) q (omega arith))
     (values-same off to n q r e js (a .1))
 
-pub read-cut : (w : ℕ) (p : Place) (shape ns s : List ℕ) (index source l : ℕ) → Read w p s (volume shape) index source l → SubsetOk shape (subsetOf (length shape) ns)
-    → raggedCut w p shape ns (readAt w s (volume shape) index source)
-    ≡ endToEnd (valuesAt (storedAt w s index) (drop source s) (cellsIn shape (subsetOf (length shape) ns)))
-read-cut w p shape ns s index source l r ok =
+pub read-cut : {w : ℕ} {p : Place} {s : List ℕ} {i : Index} (shape ns : List ℕ) → Read w p s (volume shape) i → SubsetOk shape (subsetOf (length shape) ns)
+    → raggedCut w p shape ns (readAt w s (volume shape) (i .index) (i .from))
+    ≡ endToEnd (valuesAt (storedAt w s (i .index)) (drop (i .from) s) (cellsIn shape (subsetOf (length shape) ns)))
+read-cut {w} {p} {s} {i} shape ns r ok =
     let n : ℕ = volume shape in
-    let x : RaggedContent = readAt w s n index source in
+    let x : RaggedContent = readAt w s n (i .index) (i .from) in
     let js : List ℕ = cellsIn shape (subsetOf (length shape) ns) in
     ap (λ (c : Content). record { values = c .values; offsets = c .offsets })
     (cut-is (byteKind 0 (ragged w p)) shape (unmasked x) (record { masks-fit = sym (zero-mul n); values-fit = r .keeps }) (subsetOf (length shape) ns) ok)
     ∙ ap endToEnd
-    (values-same (offsetAt (x .offsets)) (storedAt w s index) n (drop source s) (r .stored .index-asked .rises) (stored-is w n s index) js (cellsIn-below shape (subsetOf (length shape) ns) ok))
+    (values-same (offsetAt (x .offsets)) (storedAt w s (i .index)) n (drop (i .from) s) (r .stored .index-asked .rises) (stored-is w n s (i .index)) js
+    (cellsIn-below shape (subsetOf (length shape) ns) ok))

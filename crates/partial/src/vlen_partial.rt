@@ -8,6 +8,7 @@ use array::refusal;
 use buffer::copy;
 use buffer::field;
 use stored::vlen;
+use stored::vlen::Index;
 use stored::vlen::Indexed;
 use valid::shape::Cells;
 ghost use mathlib.Core.Path.{_≡_};
@@ -161,9 +162,7 @@ fn copy_ragged(
 // offset, not by what is cut.
 fn cut_stored(
     bytes: &[u8],
-    index: usize,
-    source: usize,
-    last: u64,
+    found: Index,
     width: IndexWidth,
     shape: &[u64],
     starts: &[u64],
@@ -171,12 +170,14 @@ fn cut_stored(
     values: &mut [u8],
     offsets: &mut [u64],
 ) -> WrittenRagged
-    requires { ⌜ SubsetAsked (now shape) (now starts) (now lens) (volume (now lens)) × DataAsked (widthOf width) (now bytes) index source (volume (now shape)) ⌝ }
+    requires { ⌜ SubsetAsked (now shape) (now starts) (now lens) (volume (now lens)) × DataAsked (widthOf width) (now bytes) (found .index) (found .from) (volume (now shape)) ⌝ }
     ensures { λ r. ⌜ outcomeRagged r (now (values .exit)) (now (offsets .exit))
-        ≡ raggedOutcome (cutAnswer last (valuesAt (storedAt (widthOf width) (now (bytes .entry)) index) (drop source (now (bytes .entry)))
+        ≡ raggedOutcome (cutAnswer (found .last) (valuesAt (storedAt (widthOf width) (now (bytes .entry)) (found .index)) (drop (found .from) (now (bytes .entry)))
         (cellsIn (now (shape .entry)) (pairs (now (starts .entry)) (now (lens .entry))))) (raggedLengthsOf (contentRagged (now (values .entry)) (now (offsets .entry)))))
         (contentRagged (now (values .entry)) (now (offsets .entry))) ⌝ }
 {
+    let index = found.index;
+    let last = found.last;
     let count = subset::volume_of(lens) as usize;
     let need = count_bytes(bytes, index, width, shape, starts, lens, count);
     if vlen::too_large(last) {
@@ -194,7 +195,7 @@ fn cut_stored(
         offsets,
         bytes,
         index,
-        source,
+        found.from,
         width,
         shape,
         starts,
@@ -226,16 +227,11 @@ pub fn partial_decode(
     let found = vlen::find_index(bytes, 0, cells, width, place);
     match found {
         Indexed::Refused(e) => WrittenRagged::Refused(e),
-        Indexed::Span(_, last) => {
-            let size = vlen::index_length(cells, width);
-            let index = vlen::index_at(place, bytes.len(), size);
-            let source = vlen::data_at(place, size);
+        Indexed::Found(index) => {
             let sides = shape.len();
             cut_stored(
                 bytes,
                 index,
-                source,
-                last,
                 width,
                 shape,
                 &subset[0..sides],

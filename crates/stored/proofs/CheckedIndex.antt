@@ -9,19 +9,41 @@ use lib.Dec.{eqb, ltb}
 use lib.ListN.{length, take, drop, length-drop}
 use lib.Seq.{length-take-le, drop-drop, take-take, take-all}
 use borrow.Author.Tests.{eqb-true, ltb-true, ltb-false}
-use Rattle.array.specs.Answer.{Answer, gives, refuses, unless}
+use Rattle.array.specs.Answer.{Answer, gives, refuses, unless, mapAnswer}
 use Rattle.array.specs.Bytes.{unle}
 use Rattle.array.specs.Kind.{Place, atStart, atEnd}
 use Rattle.array.specs.Offsets.{last, lastFrom, RisingFrom, risingTest}
 use Rattle.array.specs.Content.{RaggedContent, sizeTest}
 use Rattle.array.proofs.Rules.{rising-ok}
 use Rattle.codec.specs.Ragged.{dataTest, dataFor, checkRagged, getRagged}
-use Rattle.stored.specs.Index.{offsetsIn, first, spanOf, readBy, indexedBy, indexCheck, indexIn, limited, spanIn, lengthAt, indexAt, dataAt, IndexWithin}
-use Rattle.stored.proofs.IndexLaws.{checkedAt, read-none, read-short, read-at, index-limited}
+use Rattle.stored.specs.declared.vlen.Index.{Index}
+use Rattle.stored.specs.Index.{offsetsIn, first, spanOf, readBy, indexedBy, indexCheck, indexIn, spanIn, lengthAt, indexAt, dataAt, located, foundIn, checkedIn, raggedAt, IndexWithin}
+use Rattle.stored.proofs.IndexLaws.{checkedAt, read-none, read-short, read-at, limitedIndex, found-limited}
 
-pub span-refused : (a : Answer RaggedContent) (e : ℕ) → spanIn a ≡ refuses e → a ≡ refuses e
-span-refused (gives x) e h = let z : _≡_ {A = ℕ} 0 1 = cc in absurd (omega arith)
-span-refused (refuses k) e h = cc
+-- ---- of a part of an answer to the answer
+
+map-refused : {A B : Type 0} (f : A → B) (a : Answer A) (e : ℕ) → mapAnswer f a ≡ refuses e → a ≡ refuses e
+map-refused f (gives x) e h = let z : _≡_ {A = ℕ} 0 1 = cc in absurd (omega arith)
+map-refused f (refuses k) e h = cc
+
+record Mapped {A B : Type 0} (f : A → B) (a : Answer A) (b : B) : Type 0 where
+  from : A
+  gave : a ≡ gives from
+  same : f from ≡ b
+
+map-given : {A B : Type 0} (f : A → B) (a : Answer A) (b : B) → mapAnswer f a ≡ gives b → Mapped f a b
+map-given f (gives x) b h = record { from = x; gave = refl; same = cc }
+map-given f (refuses k) b h = let z : _≡_ {A = ℕ} 0 1 = cc in absurd (omega arith)
+
+-- what was refused before the limit, and within it, the reader refuses too
+pub checked-refused : (w : ℕ) (p : Place) (s : List ℕ) (at n e : ℕ) → checkedIn w p s at n ≡ refuses e → getRagged w p (drop at s) n ≡ refuses e
+unfolding checkedIn
+checked-refused w p s at n e h = map-refused (λ c. spanOf (c .offsets)) (getRagged w p (drop at s) n) e (map-refused (located w p s at n) (spanIn (getRagged w p (drop at s) n)) e h)
+
+pub found-refused : (w : ℕ) (p : Place) (s : List ℕ) (at n e : ℕ) → foundIn w p s at n ≡ refuses e → getRagged w p (drop at s) n ≡ refuses e
+found-refused w p s at n e h = checked-refused w p s at n e (sym (found-limited w p s at n) ∙ ap limitedIndex h)
+
+-- ---- a check that was passed
 
 -- the data is as long as the last offset says, and is not looked at where that is 0
 data-taken : (l : ℕ) (d : List ℕ) → dataTest l (length d) ≡ true → (dataFor l d ≡ take l d) × (l ≤ length d)
@@ -74,7 +96,8 @@ fits-at w k q p f l h = go (ltb (length q) 8) refl
         let m : w + k * w ≤ length q - 8 = ltb-false (length q - 8) (w + k * w) e in
         by (eqb (unle (take 8 (drop (lengthAt p (length q)) q))) (w + k * w)) (read-at checkRagged w k q g m p) (sym (read-at indexCheck w k q g m p) ∙ h) m
       where
-        by : (t : Bool) → readBy checkRagged w p q k ≡ unless t 8 (checkedAt checkRagged w k q p) → unless t 8 (checkedAt indexCheck w k q p) ≡ gives (f, l) → w + k * w ≤ length q - 8 → Fits w k q p f l
+        by : (t : Bool) → readBy checkRagged w p q k ≡ unless t 8 (checkedAt checkRagged w k q p) → unless t 8 (checkedAt indexCheck w k q p) ≡ gives (f, l)
+            → w + k * w ≤ length q - 8 → Fits w k q p f l
         by true a b m = record { long = g; index-fits = m; span = b; by-position = a }
         by false a b m = let z : _≡_ {A = ℕ} 0 1 = cc in absurd (omega arith)
 
@@ -84,27 +107,21 @@ fits-at w k q p f l h = go (ltb (length q) 8) refl
         let z : _≡_ {A = ℕ} 0 1 = cc in absurd (omega arith)
     go false e = fits (ltb-false (length q) 8 e) (ltb (length q - 8) (w + k * w)) refl
 
--- values of k cells that are read from the bytes from `at` on, their last offset l
-abbrev pub raggedAt : ℕ → ℕ → List ℕ → ℕ → Place → ℕ → RaggedContent
-raggedAt w k s at p l = record {
-  values = take l (drop (at + dataAt p (w + k * w)) s);
-  offsets = offsetsIn w (suc k) (drop (at + indexAt p (length s - at) (w + k * w)) s);
-}
+-- ---- an index that was found
 
--- an index of k + 1 offsets that was found there, where the reader's answer is r
-pub record IndexThere (w k : ℕ) (s : List ℕ) (at : ℕ) (p : Place) (f l : ℕ) (r : Answer RaggedContent) : Type 0 where
-  pub long : 8 ≤ length s - at
-  pub fits : w + k * w ≤ length s - at - 8
-  pub within : IndexWithin w s k (at + indexAt p (length s - at) (w + k * w)) (at + dataAt p (w + k * w)) f l
-  pub first-is : f ≡ unle (take w (drop (at + indexAt p (length s - at) (w + k * w)) s))
-  pub gave : getRagged w p (drop at s) k ≡ r
+-- where the reader's answer is r
+pub record IndexThere (w : ℕ) (p : Place) (s : List ℕ) (at n : ℕ) (i : Index) (r : Answer RaggedContent) : Type 0 where
+  pub cells-are : i .cells ≡ n
+  pub within : IndexWithin w s i
+  pub first-is : i .first ≡ unle (take w (drop (i .index) s))
+  pub gave : getRagged w p (drop at s) n ≡ r
 
 -- before the limit, and within it
-abbrev pub IndexFound : ℕ → ℕ → List ℕ → ℕ → Place → ℕ → ℕ → Type 0
-IndexFound w k s at p f l = IndexThere w k s at p f l (unless (sizeTest l) 5 (gives (raggedAt w k s at p l)))
+abbrev pub IndexFound : ℕ → Place → List ℕ → ℕ → ℕ → Index → Type 0
+IndexFound w p s at n i = IndexThere w p s at n i (unless (sizeTest (i .last)) 5 (gives (raggedAt w s i)))
 
-abbrev pub IndexChecked : ℕ → ℕ → List ℕ → ℕ → Place → ℕ → ℕ → Type 0
-IndexChecked w k s at p f l = IndexThere w k s at p f l (gives (raggedAt w k s at p l))
+abbrev pub IndexChecked : ℕ → Place → List ℕ → ℕ → ℕ → Index → Type 0
+IndexChecked w p s at n i = IndexThere w p s at n i (gives (raggedAt w s i))
 
 pub index-within : (p : Place) (m i : ℕ) → 8 ≤ m → i ≤ m - 8 → indexAt p m i + i ≤ m
 index-within atStart m i h g = omega arith
@@ -114,67 +131,92 @@ pub data-within : (p : Place) (m i : ℕ) → 8 ≤ m → i ≤ m - 8 → dataAt
 data-within atStart m i h g = omega arith
 data-within atEnd m i h g = omega arith
 
-pub index-found : (w k : ℕ) (s : List ℕ) (at : ℕ) (p : Place) (f l : ℕ) → at ≤ length s → indexIn w p (drop at s) k ≡ gives (f, l) → IndexFound w k s at p f l
-index-found w k s at p f l ha h =
-    let q : List ℕ = drop at s in
-    let m : ℕ = length s - at in
-    let i : ℕ = w + k * w in
-    let lq : length q ≡ m = length-drop at s in
-    let a : Fits w k q p f l = fits-at w k q p f l h in
-    let os : List ℕ = offsetsIn w (suc k) (drop (indexAt p (length q) i) q) in
-    let d : List ℕ = take (length q - 8 - i) (drop (dataAt p i) q) in
-    let c : Passes os d f l = passes os d f l (a .span) in
-    let ed : drop (indexAt p (length q) i) q ≡ drop (at + indexAt p m i) s = drop-drop (indexAt p (length q) i) at s ∙ ap (λ (j : ℕ). drop (at + indexAt p j i) s) lq in
-    let ei : os ≡ offsetsIn w (suc k) (drop (at + indexAt p m i) s) = ap (offsetsIn w (suc k)) ed in
-    let ew : drop w (drop (at + indexAt p m i) s) ≡ drop (at + indexAt p m i + w) s = drop-drop w (at + indexAt p m i) s in
-    let ff : f ≡ unle (take w (drop (at + indexAt p m i) s)) = c .first-is ∙ ap (λ (x : List ℕ). unle (take w x)) ed in
-    let ld : length d ≡ length q - 8 - i = length-take-le (length q - 8 - i) (drop (dataAt p i) q) (omega (arith, length-drop (dataAt p i) q, data-within p (length q) i (a .long) (a .index-fits))) in
-    let dt = data-taken l d (c .fits) in
-    let ll : l ≤ length q - 8 - i = omega (arith, dt .1, ld) in
-    let rs : RisingFrom f (offsetsIn w k (drop (at + indexAt p m i + w) s)) =
-    subst (λ (x : ℕ). RisingFrom x (offsetsIn w k (drop (at + indexAt p m i + w) s))) (sym ff)
-    (subst (λ (x : List ℕ). RisingFrom (unle (take w (drop (at + indexAt p m i) s))) (offsetsIn w k x)) ew
-    (rising-ok (offsetsIn w (suc k) (drop (at + indexAt p m i) s)) (sym (ap risingTest ei) ∙ c .rising))) in
-    let la : l ≡ lastFrom f (offsetsIn w k (drop (at + indexAt p m i + w) s)) =
-    c .last-is ∙ ap last ei ∙ ap₂ (λ (x : ℕ) (y : List ℕ). lastFrom x (offsetsIn w k y)) (sym ff) ew in
-    record {
-      long = omega (arith, a .long);
-      fits = omega (arith, a .index-fits);
-      within = record {
-        index-room = omega (arith, index-within p m i (omega (arith, a .long)) (omega (arith, a .index-fits)));
-        data-room = omega (arith, data-within p m i (omega (arith, a .long)) (omega (arith, a .index-fits)));
-        rising = rs;
-        last-is = la;
-      };
-      first-is = ff;
-      gave = a .by-position ∙ c .gave
-          ∙ ap₂ (λ (x y : List ℕ). unless (sizeTest l) 5 (gives (record { values = y; offsets = x }))) ei
-          (dt .0 ∙ take-take l (length q - 8 - i) (drop (dataAt p i) q) ll ∙ ap (take l) (drop-drop (dataAt p i) at s));
-    }
+module _ (w n : ℕ) (s : List ℕ) (at : ℕ) (p : Place) (f l : ℕ) (ha : at ≤ length s) (h : indexIn w p (drop at s) n ≡ gives (f, l)) where
+  abbrev size : ℕ
+  size = w + n * w
+
+  abbrev bytes : List ℕ
+  bytes = drop at s
+
+  abbrev index : ℕ
+  index = at + indexAt p (length s - at) size
+
+  abbrev from : ℕ
+  from = at + dataAt p size
+
+  fitted : Fits w n bytes p f l
+  fitted = fits-at w n bytes p f l h
+
+  -- the offsets and the data of the bytes from `at` on, by positions in s
+  abbrev offsets : List ℕ
+  offsets = offsetsIn w (suc n) (drop (indexAt p (length bytes) size) bytes)
+
+  abbrev datas : List ℕ
+  datas = take (length bytes - 8 - size) (drop (dataAt p size) bytes)
+
+  index-drop : drop (indexAt p (length bytes) size) bytes ≡ drop index s
+  index-drop = drop-drop (indexAt p (length bytes) size) at s ∙ ap (λ (j : ℕ). drop (at + indexAt p j size) s) (length-drop at s)
+
+  offsets-are : offsets ≡ offsetsIn w (suc n) (drop index s)
+  offsets-are = ap (offsetsIn w (suc n)) index-drop
+
+  checked : Passes offsets datas f l
+  checked = passes offsets datas f l (fitted .span)
+
+  first-at : f ≡ unle (take w (drop index s))
+  first-at = checked .first-is ∙ ap (λ (x : List ℕ). unle (take w x)) index-drop
+
+  next-drop : drop w (drop index s) ≡ drop (index + w) s
+  next-drop = drop-drop w index s
+
+  datas-long : length datas ≡ length bytes - 8 - size
+  datas-long =
+      length-take-le (length bytes - 8 - size) (drop (dataAt p size) bytes)
+      (omega (arith, length-drop (dataAt p size) bytes, data-within p (length bytes) size (fitted .long) (fitted .index-fits)))
+
+  few : l ≤ length bytes - 8 - size
+  few = omega (arith, data-taken l datas (checked .fits) .1, datas-long)
+
+  data-is : dataFor l datas ≡ take l (drop from s)
+  data-is =
+      data-taken l datas (checked .fits) .0 ∙ take-take l (length bytes - 8 - size) (drop (dataAt p size) bytes) few ∙ ap (take l) (drop-drop (dataAt p size) at s)
+
+  there : IndexFound w p s at n (located w p s at n (f, l))
+  there =
+      let long : length bytes ≡ length s - at = length-drop at s in
+      let m : ℕ = length s - at in
+      let inside = index-within p m size (omega (arith, fitted .long)) (omega (arith, fitted .index-fits)) in
+      let behind = data-within p m size (omega (arith, fitted .long)) (omega (arith, fitted .index-fits)) in
+      record {
+        cells-are = refl;
+        within = record {
+          index-room = omega (arith, inside);
+          data-room = omega (arith, behind, few);
+          rising = subst (λ (x : ℕ). RisingFrom x (offsetsIn w n (drop (index + w) s))) (sym first-at)
+              (subst (λ (x : List ℕ). RisingFrom (unle (take w (drop index s))) (offsetsIn w n x)) next-drop
+              (rising-ok (offsetsIn w (suc n) (drop index s)) (sym (ap risingTest offsets-are) ∙ checked .rising)));
+          last-is = checked .last-is ∙ ap last offsets-are ∙ ap₂ (λ (x : ℕ) (y : List ℕ). lastFrom x (offsetsIn w n y)) (sym first-at) next-drop;
+        };
+        first-is = first-at;
+        gave = fitted .by-position ∙ checked .gave ∙ ap₂ (λ (x y : List ℕ). unless (sizeTest l) 5 (gives (record { values = y; offsets = x }))) offsets-are data-is;
+      }
+
+pub index-found : (w : ℕ) (p : Place) (s : List ℕ) (at n : ℕ) (i : Index) → at ≤ length s → foundIn w p s at n ≡ gives i → IndexFound w p s at n i
+unfolding foundIn
+index-found w p s at n i ha h =
+    let m = map-given (located w p s at n) (indexIn w p (drop at s) n) i h in
+    subst (IndexFound w p s at n) (m .same) (there w n s at p (m .from .0) (m .from .1) ha (m .gave))
 
 -- what was not limited was found, and has few enough bytes
-within-limit : (a : Answer (ℕ × ℕ)) (f l : ℕ) → limited a ≡ gives (f, l) → (a ≡ gives (f, l)) × (sizeTest l ≡ true)
-within-limit (refuses e) f l h = let z : _≡_ {A = ℕ} 0 1 = cc in absurd (omega arith)
-within-limit (gives x) f l h = go (sizeTest (x .1)) refl h
+within-limit : (a : Answer Index) (i : Index) → limitedIndex a ≡ gives i → (a ≡ gives i) × (sizeTest (i .last) ≡ true)
+within-limit (refuses e) i h = let z : _≡_ {A = ℕ} 0 1 = cc in absurd (omega arith)
+within-limit (gives x) i h = go (sizeTest (x .last)) refl h
   where
-    go : (t : Bool) → sizeTest (x .1) ≡ t → unless t 5 (gives x) ≡ gives (f, l) → (gives x ≡ gives (f, l)) × (sizeTest l ≡ true)
-    go true e q = let same : x ≡ (f, l) = cc in (q, ap (λ (y : ℕ × ℕ). sizeTest (y .1)) (sym same) ∙ e)
+    go : (t : Bool) → sizeTest (x .last) ≡ t → unless t 5 (gives x) ≡ gives i → (gives x ≡ gives i) × (sizeTest (i .last) ≡ true)
+    go true e q = let same : x ≡ i = cc in (q, ap (λ (y : Index). sizeTest (y .last)) (sym same) ∙ e)
     go false e q = let z : _≡_ {A = ℕ} 0 1 = cc in absurd (omega arith)
 
-pub index-checked : (w k : ℕ) (s : List ℕ) (at : ℕ) (p : Place) (f l : ℕ) → at ≤ length s → spanIn (getRagged w p (drop at s) k) ≡ gives (f, l) → IndexChecked w k s at p f l
-index-checked w k s at p f l ha h =
-    let t = within-limit (indexIn w p (drop at s) k) f l (index-limited w p (drop at s) k ∙ h) in
-    subst (IndexThere w k s at p f l) (ap (λ (b : Bool). unless b 5 (gives (raggedAt w k s at p l))) (t .1)) (index-found w k s at p f l ha (t .0))
-
--- the same, where the index and the data are at positions that were worked out in another way
-pub record IndexPlaced (w k : ℕ) (s : List ℕ) (at : ℕ) (p : Place) (index from f l : ℕ) : Type 0 where
-  pub within : IndexWithin w s k index from f l
-  pub first-is : f ≡ unle (take w (drop index s))
-  pub gave : getRagged w p (drop at s) k ≡ gives (record { values = take l (drop from s); offsets = offsetsIn w (suc k) (drop index s) })
-
-pub index-placed : {w k : ℕ} {s : List ℕ} {at : ℕ} {p : Place} {f l : ℕ} → IndexChecked w k s at p f l → (index from : ℕ)
-    → at + indexAt p (length s - at) (w + k * w) ≡ index → at + dataAt p (w + k * w) ≡ from → IndexPlaced w k s at p index from f l
-index-placed {w} {k} {s} {at} {p} {f} {l} c index from ei ef =
-    subst (λ (x : ℕ). IndexPlaced w k s at p x from f l) ei
-    (subst (λ (x : ℕ). IndexPlaced w k s at p (at + indexAt p (length s - at) (w + k * w)) x f l) ef
-    (record { within = c .within; first-is = c .first-is; gave = c .gave }))
+pub index-checked : (w : ℕ) (p : Place) (s : List ℕ) (at n : ℕ) (i : Index) → at ≤ length s → checkedIn w p s at n ≡ gives i → IndexChecked w p s at n i
+index-checked w p s at n i ha h =
+    let t = within-limit (foundIn w p s at n) i (found-limited w p s at n ∙ h) in
+    subst (IndexThere w p s at n i) (ap (λ (b : Bool). unless b 5 (gives (raggedAt w s i))) (t .1)) (index-found w p s at n i ha (t .0))

@@ -1,10 +1,10 @@
--- The check of ragged values (document 01, item 4): the first and the last offset of their index, or the refusal; and where the index
--- length, the index and the data lie.
+-- The check of ragged values (document 01, item 4): where their index and their data lie, and the first and the last offset; or the
+-- refusal.
 -- Assumes nothing.
 use Prim.Native.Nat.{ℕ, suc, _+_, _-_, _*_, _≤_}
 use mathlib.Core.Path.{_≡_}
 use mathlib.Core.List.{List, [], _∷_, map}
-use lib.ListN.{length, drop}
+use lib.ListN.{length, take, drop}
 use lib.Dec.{leb, eqb}
 use Rattle.array.specs.Answer.{Answer, gives, refuses, unless, andThen, mapAnswer}
 use Rattle.array.specs.Lists.{pieces}
@@ -12,9 +12,10 @@ use Rattle.array.specs.Bytes.{unle}
 use Rattle.array.specs.Kind.{Place, atStart, atEnd}
 use Rattle.array.specs.Offsets.{last, lastFrom, RisingFrom, risingTest}
 use Rattle.array.specs.Content.{RaggedContent, sizeTest}
-use Rattle.codec.specs.Ragged.{dataTest, partOf, leftOf}
+use Rattle.codec.specs.Ragged.{dataTest, partOf, leftOf, getRagged}
+use Rattle.stored.specs.declared.vlen.Index.{Index}
 use Rattle.stored.specs.declared.vlen.Indexed.{Indexed}
-use Rattle.stored.specs.declared.vlen.Indexed.the-variants.{Span, Refused}
+use Rattle.stored.specs.declared.vlen.Indexed.the-variants.{Found, Refused}
 
 -- the first n offsets of width w that the bytes hold
 abbrev pub offsetsIn : ℕ → ℕ → List ℕ → List ℕ
@@ -55,12 +56,8 @@ limited a = andThen a (λ x. unless (sizeTest (x .1)) 5 (gives x))
 abbrev pub spanIn : Answer RaggedContent → Answer (ℕ × ℕ)
 spanIn a = mapAnswer (λ c. spanOf (c .offsets)) a
 
--- what the declared answer means
-abbrev pub toldIndex : Indexed → Answer (ℕ × ℕ)
-toldIndex (Span f l) = gives (f, l)
-toldIndex (Refused e) = refuses e
+-- ---- where the index length, the index and the data lie, in l bytes with an index of i
 
--- where the index length, the index and the data lie, in l bytes with an index of i
 abbrev pub lengthAt : Place → ℕ → ℕ
 lengthAt atStart l = 0
 lengthAt atEnd l = l - 8
@@ -73,9 +70,34 @@ abbrev pub dataAt : Place → ℕ → ℕ
 dataAt atStart i = 8 + i
 dataAt atEnd i = 0
 
--- a checked index of k + 1 offsets at `index`, with its data at `from`
-pub record IndexWithin (w : ℕ) (s : List ℕ) (k index from first last : ℕ) : Type 0 where
-  pub index-room : index + (w + k * w) ≤ length s
-  pub data-room : from + last ≤ length s
-  pub rising : RisingFrom first (offsetsIn w k (drop (index + w) s))
-  pub last-is : last ≡ lastFrom first (offsetsIn w k (drop (index + w) s))
+-- ---- what was found: n cells, the index at `index`, the data at `from`, and the value bytes x that the offsets span
+
+abbrev pub indexWith : ℕ → ℕ → ℕ → ℕ × ℕ → Index
+indexWith n index from x = record { cells = n; index = index; from = from; first = x .0; last = x .1 }
+
+-- in the bytes from `at` on to the end
+abbrev pub located : ℕ → Place → List ℕ → ℕ → ℕ → ℕ × ℕ → Index
+located w p s at n x = indexWith n (at + indexAt p (length s - at) (w + n * w)) (at + dataAt p (w + n * w)) x
+
+-- the index of the ragged values of n cells that lie there, before it is limited and after
+unfoldable pub foundIn : ℕ → Place → List ℕ → ℕ → ℕ → Answer Index
+foundIn w p s at n = mapAnswer (located w p s at n) (indexIn w p (drop at s) n)
+
+unfoldable pub checkedIn : ℕ → Place → List ℕ → ℕ → ℕ → Answer Index
+checkedIn w p s at n = mapAnswer (located w p s at n) (spanIn (getRagged w p (drop at s) n))
+
+-- what the declared answer means
+abbrev pub toldIndex : Indexed → Answer Index
+toldIndex (Found i) = gives i
+toldIndex (Refused e) = refuses e
+
+-- the values of a checked index
+abbrev pub raggedAt : ℕ → List ℕ → Index → RaggedContent
+raggedAt w s i = record { values = take (i .last) (drop (i .from) s); offsets = offsetsIn w (suc (i .cells)) (drop (i .index) s) }
+
+-- it lies within the bytes, as its data does, and its offsets never fall
+pub record IndexWithin (w : ℕ) (s : List ℕ) (i : Index) : Type 0 where
+  pub index-room : i .index + (w + i .cells * w) ≤ length s
+  pub data-room : i .from + i .last ≤ length s
+  pub rising : RisingFrom (i .first) (offsetsIn w (i .cells) (drop (i .index + w) s))
+  pub last-is : i .last ≡ lastFrom (i .first) (offsetsIn w (i .cells) (drop (i .index + w) s))

@@ -1,4 +1,3 @@
-pub mod Marks
 pub mod Walk
 pub mod Stored
 pub mod Index

@@ -1,4 +1,3 @@
-// Layer 2: stored bytes, checked: masks, frames, the index of ragged values. It stores no array.
-pub mod mask;
+// Layer 2: stored bytes, checked: frames, and the index of ragged values. It stores no array.
 pub mod optional;
 pub mod vlen;

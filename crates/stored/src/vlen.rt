@@ -12,22 +12,31 @@ ghost use mathlib.Core.Path.{_≡_};
 ghost use mathlib.Core.Bool.{not};
 ghost use Prim.Native.Nat.{suc, _+_, _-_, _*_, _≤_, _<_};
 ghost use lib.ListN.{length, drop};
+ghost use Rattle.array.specs.Answer.{mapAnswer};
 ghost use Rattle.array.specs.Limits.{mostCells};
 ghost use Rattle.array.specs.Meaning.{widthOf, placeOf};
 ghost use Rattle.array.specs.Offsets.{risingTest};
 ghost use Rattle.array.specs.Content.{sizeTest};
 ghost use Rattle.buffer.specs.Field.{fieldAt, toldField};
-ghost use Rattle.codec.specs.Ragged.{dataTest, getRagged};
-ghost use Rattle.stored.specs.Index.{offsetsIn, indexedBy, indexIn, spanIn, lengthAt, indexAt, dataAt, toldIndex};
+ghost use Rattle.codec.specs.Ragged.{dataTest};
+ghost use Rattle.stored.specs.Index.{offsetsIn, indexedBy, lengthAt, indexAt, dataAt, indexWith, foundIn, checkedIn, toldIndex};
 
-// The first and the last offset of an index that passed the check.
+// An index that was found: how many cells it has, where it and the data lie, its first and its last offset.
+pub struct Index {
+    pub cells: usize,
+    pub index: usize,
+    pub from: usize,
+    pub first: u64,
+    pub last: u64,
+}
+
 pub enum Indexed {
-    Span(u64, u64),
+    Found(Index),
     Refused(u8),
 }
 
 // Bytes of the index of n cells.
-pub fn index_length(n: usize, width: IndexWidth) -> usize
+fn index_length(n: usize, width: IndexWidth) -> usize
     requires { ⌜ n ≤ mostCells ⌝ }
     ensures { λ r. ⌜ r ≡ widthOf width + n * widthOf width ⌝ }
 {
@@ -69,7 +78,7 @@ pub fn data_at(place: IndexPlace, size: usize) -> usize
 }
 
 // Whether the n + 1 offsets from `at` on never fall.
-pub fn never_falls(s: &[u8], at: usize, n: usize, width: IndexWidth) -> bool
+fn never_falls(s: &[u8], at: usize, n: usize, width: IndexWidth) -> bool
     requires { ⌜ at + (widthOf width + n * widthOf width) ≤ length (now s) ⌝ }
     ensures { λ r. ⌜ r ≡ risingTest (offsetsIn (widthOf width) (suc n) (drop at (now (s .entry)))) ⌝ }
 {
@@ -90,7 +99,7 @@ pub fn never_falls(s: &[u8], at: usize, n: usize, width: IndexWidth) -> bool
 }
 
 // With a last offset of 0 the data is not looked at.
-pub fn data_fits(last: u64, count: usize) -> bool
+fn data_fits(last: u64, count: usize) -> bool
     ensures { λ r. ⌜ r ≡ dataTest last count ⌝ }
 {
     if last == 0 {
@@ -106,20 +115,33 @@ pub fn too_large(bytes: u64) -> bool
     bytes > array_bytes::MOST_BYTES as u64
 }
 
-// Checks the index at `at` for n cells, with `count` bytes of data.
-pub fn check_index(s: &[u8], at: usize, n: usize, width: IndexWidth, count: usize) -> Indexed
-    requires { ⌜ at + (widthOf width + n * widthOf width) ≤ length (now s) ⌝ }
-    ensures { λ r. ⌜ toldIndex r ≡ indexedBy (offsetsIn (widthOf width) (suc n) (drop at (now (s .entry)))) count ⌝ }
+// Checks the index at `index` for n cells, with `count` bytes of data from `from` on.
+fn check_index(
+    s: &[u8],
+    index: usize,
+    from: usize,
+    n: usize,
+    width: IndexWidth,
+    count: usize,
+) -> Indexed
+    requires { ⌜ index + (widthOf width + n * widthOf width) ≤ length (now s) ⌝ }
+    ensures { λ r. ⌜ toldIndex r ≡ mapAnswer (indexWith n index from) (indexedBy (offsetsIn (widthOf width) (suc n) (drop index (now (s .entry)))) count) ⌝ }
 {
     let w = width_bytes(width);
-    let last = le_at(s, at + n * w, width);
+    let last = le_at(s, index + n * w, width);
     if !data_fits(last, count) {
         return Indexed::Refused(refusal::LENGTH);
     }
-    if !never_falls(s, at, n, width) {
+    if !never_falls(s, index, n, width) {
         return Indexed::Refused(refusal::FALLING);
     }
-    Indexed::Span(le_at(s, at, width), last)
+    Indexed::Found(Index {
+        cells: n,
+        index,
+        from,
+        first: le_at(s, index, width),
+        last,
+    })
 }
 
 // The index length of the ragged values that lie from `at` to the end, or refusal 7 where they are too short for it.
@@ -138,36 +160,38 @@ fn read_length(s: &[u8], at: usize, place: IndexPlace) -> Field
 // at: no other answer is possible there.
 pub fn find_index(s: &[u8], at: usize, n: usize, width: IndexWidth, place: IndexPlace) -> Indexed
     requires { ⌜ (n ≤ mostCells) × (at ≤ length (now s)) ⌝ }
-    ensures { λ r. ⌜ toldIndex r ≡ indexIn (widthOf width) (placeOf place) (drop at (now (s .entry))) n ⌝ }
+    ensures { λ r. ⌜ toldIndex r ≡ foundIn (widthOf width) (placeOf place) (now (s .entry)) at n ⌝ }
 {
     let Field::Value(l) = read_length(s, at, place) else {
         return Indexed::Refused(refusal::SHORT);
     };
     let size = s.len() - at;
     let left = size - 8;
-    let index = index_length(n, width);
-    if left < index {
+    let length = index_length(n, width);
+    if left < length {
         return Indexed::Refused(refusal::LENGTH);
     }
-    if l != index as u64 {
+    if l != length as u64 {
         return Indexed::Refused(refusal::LENGTH);
     }
-    check_index(s, at + index_at(place, size, index), n, width, left - index)
+    let index = at + index_at(place, size, length);
+    let from = at + data_at(place, length);
+    check_index(s, index, from, n, width, left - length)
 }
 
 // Checks the ragged values of n cells that lie from `at` to the end: their index, and then how many bytes they have.
 pub fn check_ragged(s: &[u8], at: usize, n: usize, width: IndexWidth, place: IndexPlace) -> Indexed
     requires { ⌜ (n ≤ mostCells) × (at ≤ length (now s)) ⌝ }
-    ensures { λ r. ⌜ toldIndex r ≡ spanIn (getRagged (widthOf width) (placeOf place) (drop at (now (s .entry))) n) ⌝ }
+    ensures { λ r. ⌜ toldIndex r ≡ checkedIn (widthOf width) (placeOf place) (now (s .entry)) at n ⌝ }
 {
     let found = find_index(s, at, n, width, place);
     match found {
         Indexed::Refused(e) => Indexed::Refused(e),
-        Indexed::Span(first, last) => {
-            if too_large(last) {
+        Indexed::Found(index) => {
+            if too_large(index.last) {
                 return Indexed::Refused(refusal::SIZE);
             }
-            Indexed::Span(first, last)
+            Indexed::Found(index)
         }
     }
 }

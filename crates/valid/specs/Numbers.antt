@@ -52,6 +52,6 @@ within f = unless (formTest f) 1 (gives f)
 abbrev pub numberedIndex : ℕ → ℕ → Answer Form
 numberedIndex width place = andThen (raggedOf width place) within
 
-abbrev pub toldIndex : index.IndexRead → Answer Form
-toldIndex (index.IndexRead.Index w p) = gives (ragged (widthOf w) (placeOf p))
-toldIndex (index.IndexRead.Refused e) = refuses e
+abbrev pub toldForm : index.IndexRead → Answer Form
+toldForm (index.IndexRead.Index w p) = gives (ragged (widthOf w) (placeOf p))
+toldForm (index.IndexRead.Refused e) = refuses e

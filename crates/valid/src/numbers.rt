@@ -9,8 +9,13 @@ use array::kind::Kind;
 use array::refusal;
 ghost use mathlib.Core.Path.{_≡_};
 ghost use Rattle.array.specs.Answer.{andThen};
+<<<<<<< HEAD
 ghost use Rattle.array.specs.Meaning.{kindOf, widthOf};
 ghost use Rattle.valid.specs.Numbers.{fixedOf, raggedOf, kindWith, maskedBy, toldKind, numberedByteKind, numberedKind, toldIndex, numberedIndex};
+=======
+ghost use Rattle.array.specs.Meaning.{widthOf};
+ghost use Rattle.valid.specs.Numbers.{fixedOf, raggedOf, kindWith, toldKind, numberedKind, toldForm, numberedIndex};
+>>>>>>> r1
 
 // What numbers say: a kind, or the number of the refusal.
 pub enum KindRead {
@@ -98,7 +103,7 @@ pub enum IndexRead {
 
 // The index that the numbers say: width 4 or 8; place 0 start, 1 end.
 pub fn index_from_numbers(width: u64, place: u64) -> IndexRead
-    ensures { λ r. ⌜ toldIndex r ≡ numberedIndex width place ⌝ }
+    ensures { λ r. ⌜ toldForm r ≡ numberedIndex width place ⌝ }
 {
     match width {
         4 => index_of_width(IndexWidth::Four, place),
@@ -108,7 +113,7 @@ pub fn index_from_numbers(width: u64, place: u64) -> IndexRead
 }
 
 fn index_of_width(width: IndexWidth, place: u64) -> IndexRead
-    ensures { λ r. ⌜ toldIndex r ≡ numberedIndex (widthOf width) place ⌝ }
+    ensures { λ r. ⌜ toldForm r ≡ numberedIndex (widthOf width) place ⌝ }
 {
     match place {
         0 => IndexRead::Index(width, IndexPlace::Start),

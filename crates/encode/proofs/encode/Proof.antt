@@ -8,9 +8,9 @@ use Rattle.array.specs.Content.{Content}
 use Rattle.array.specs.Kind.{kindTest}
 use Rattle.array.specs.Limits.{mostCells}
 use Rattle.array.specs.Meaning.{kindOf}
+use Rattle.array.specs.Outcome.{contentArray}
 use Rattle.valid.specs.ShapeCells.{toldCells, shapeAnswer}
 use Rattle.valid.proofs.ShapeLaws.{counted}
-use Rattle.encode.specs.Stored.{contentIn}
 use Rattle.encode.proofs.Encodes.{encode-kind, encode-shape, encode-content, encode-encodable, encode-rest}
 use borrow.Author.Needs.{needs}
 use Rattle.encode.proofs.encode.Statement.{statement}
@@ -28,7 +28,7 @@ check-kind-requires c κs = search needs
 returns : tie.Need-returns
 returns c =
     let a = c .before .before .before .before .before .before .before .args in
-    let v : Content = contentIn (a .masks .now) (a .values .now) (a .offsets .now) in
+    let v : Content = contentArray (a .masks .now) (a .values .now) (a .offsets .now) in
     encode-kind (kindOf (a .kind)) (a .shape .now) v (a .out .now) (sym (c .before .check-kind .ensures) ∙ not-true (c .before .check-kind .result) (c .if1 .taken))
 
 shape-cells-requires : tie.Need-shape-cells-requires
@@ -43,7 +43,7 @@ enum-told c = search needs
 returns-2 : tie.Need-returns-2
 returns-2 c =
     let a = c .before .before .before .before .before .before .before .before .before .before .args in
-    let v : Content = contentIn (a .masks .now) (a .values .now) (a .offsets .now) in
+    let v : Content = contentArray (a .masks .now) (a .values .now) (a .offsets .now) in
     encode-shape (kindOf (a .kind)) (a .shape .now) v (a .out .now) (sound (c .before .before .before)) (sym (ap toldCells (c .enum-told .given .1)) ∙ c .before .before .shape-cells .ensures)
 
 check-array-requires : tie.Need-check-array-requires
@@ -59,13 +59,13 @@ enum-told-2 c = search needs
 encode-valid-requires : tie.Need-encode-valid-requires
 encode-valid-requires c κs =
     let a = c .before .before .before .before .before .before .before .before .before .before .before .before .before .before .before .args in
-    let v : Content = contentIn (a .masks .now) (a .values .now) (a .offsets .now) in
+    let v : Content = contentArray (a .masks .now) (a .values .now) (a .offsets .now) in
     encode-encodable (kindOf (a .kind)) (a .shape .now) v (a .out .now) (sound (c .before .before .before .before .before .before .before .before)) (shaped (c .before .before .before .before .before)) (c .before .before .before .check-array .result) (c .before .before .before .check-array .ensures) (c .before .enum-told2 .given .1)
 
 returns-3 : tie.Need-returns-3
 returns-3 c =
     let a = c .before .before .before .before .before .before .before .before .before .before .before .before .before .before .before .args in
-    let v : Content = contentIn (a .masks .now) (a .values .now) (a .offsets .now) in
+    let v : Content = contentArray (a .masks .now) (a .values .now) (a .offsets .now) in
     encode-content (kindOf (a .kind)) (a .shape .now) v (a .out .now) (sound (c .before .before .before .before .before .before .before .before)) (shaped (c .before .before .before .before .before)) (c .before .before .before .check-array .result) (c .before .before .before .check-array .ensures) (c .before .checked .given .1)
 
 same-length : tie.Need-same-length
@@ -74,7 +74,7 @@ same-length c = search needs
 returns-4 : tie.Need-returns-4
 returns-4 c =
     let a = c .before .before .before .before .before .before .before .before .before .before .before .before .before .before .before .before .before .before .args in
-    let v : Content = contentIn (a .masks .now) (a .values .now) (a .offsets .now) in
+    let v : Content = contentArray (a .masks .now) (a .values .now) (a .offsets .now) in
     c .before .before .encode-valid .ensures ∙ encode-rest (kindOf (a .kind)) (a .shape .now) v (a .out .now) (sound (c .before .before .before .before .before .before .before .before .before .before .before)) (shaped (c .before .before .before .before .before .before .before .before)) (c .before .before .before .before .before .before .check-array .result) (c .before .before .before .before .before .before .check-array .ensures) (c .before .before .before .before .enum-told2 .given .1)
 
 pub encode-spec : {M : Type 1} → statement M

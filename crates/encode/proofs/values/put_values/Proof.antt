@@ -4,8 +4,9 @@ use mathlib.Core.Path.{ap}
 use native.Mathlib.Omega.{arith}
 use lib.ListN.{length}
 use Rattle.array.specs.Meaning.{formOf}
+use Rattle.array.specs.Outcome.{contentArray}
 use Rattle.gather.proofs.Placing.{laid-as}
-use Rattle.encode.specs.Stored.{contentIn, valuesFrom}
+use Rattle.encode.specs.Stored.{valuesFrom}
 use Rattle.encode.proofs.Framing.{told-as}
 use Rattle.encode.proofs.Forms.{ready-planes, fixed-source, fixed-writes, fixed-wrote, offsets-fit, offsets-end, ragged-writes}
 use borrow.Author.Needs.{needs}
@@ -58,7 +59,7 @@ returns-2 : tie.Need-returns-2
 returns-2 c =
     let a = c .before .before .before .before .before .before .before .before .before .before .before .args in
     let e = ragged-writes (a .form) (c .before .before .before .before .before .before .before .before .before .before .before .pre .1 .0) (c .before .before .before .before .before .form2 .given .1) in
-    told-as _ (valuesFrom (formOf (a .form)) (a .cells) (contentIn (a .masks .now) (a .values .now) (a .offsets .now)) (a .level)) (a .at) (a .out .now) (c .before .before .put-ragged .ensures) e
+    told-as _ (valuesFrom (formOf (a .form)) (a .cells) (contentArray (a .masks .now) (a .values .now) (a .offsets .now)) (a .level)) (a .at) (a .out .now) (c .before .before .put-ragged .ensures) e
 
 pub put-values-spec : {M : Type 1} → statement M
 put-values-spec =

@@ -9,9 +9,10 @@ use native.Mathlib.Omega.{arith}
 use lib.ListN.{length, length-map}
 use Rattle.array.specs.Meaning.{formOf}
 use Rattle.array.specs.Content.{Content}
+use Rattle.array.specs.Outcome.{contentArray}
 use Rattle.gather.specs.Live.{maskAt, liveAt}
 use Rattle.encode.specs.Ready.{Ready}
-use Rattle.encode.specs.Stored.{contentIn, valuesFrom, storedFrom, frameFrom}
+use Rattle.encode.specs.Stored.{valuesFrom, storedFrom, frameFrom}
 use Rattle.gather.proofs.Placing.{at-none, laid-as}
 use Rattle.encode.proofs.Framing.{told-as, frame-laid}
 use Rattle.encode.proofs.Levels.{stored-none, stored-values, stored-frame, frame-long, frame-wrote}
@@ -69,10 +70,10 @@ claims-write-frame t = (mask-length-reads.Asked, mask-length-reads.Learnt, write
 some : (t : ℕ) (c : write-content-lts.Else1 (claims-write-content t) (write-content-at t) write-content.Post) → length (liveAt (c .before .before .before .before .before .before .args .cells) (c .before .before .before .before .before .before .args .masks .now) (c .before .before .before .before .before .before .args .level)) ≢ 0
 some t c = λ z. c .if1 .left (c .before .count-live .ensures ∙ z)
 
-long : (t : ℕ) (c : write-frame-lts.Start (claims-write-frame t) (write-frame-at t) write-frame.Post) → c .args .at + (16 + c .args .count + length (storedFrom (formOf (c .args .form)) (c .args .cells) (contentIn (c .args .masks .now) (c .args .values .now) (c .args .offsets .now)) (c .args .below) (c .args .level + 1))) ≤ length (c .args .out .now)
-long t c = let a = c .args in omega (arith, c .pre .1 .1 .1, c .pre .1 .0, frame-long (formOf (a .form)) (a .cells) (contentIn (a .masks .now) (a .values .now) (a .offsets .now)) (a .level) (a .below))
+long : (t : ℕ) (c : write-frame-lts.Start (claims-write-frame t) (write-frame-at t) write-frame.Post) → c .args .at + (16 + c .args .count + length (storedFrom (formOf (c .args .form)) (c .args .cells) (contentArray (c .args .masks .now) (c .args .values .now) (c .args .offsets .now)) (c .args .below) (c .args .level + 1))) ≤ length (c .args .out .now)
+long t c = let a = c .args in omega (arith, c .pre .1 .1 .1, c .pre .1 .0, frame-long (formOf (a .form)) (a .cells) (contentArray (a .masks .now) (a .values .now) (a .offsets .now)) (a .level) (a .below))
 
-next : (t : ℕ) (c : write-frame-lts.Start (claims-write-frame t) (write-frame-at t) write-frame.Post) → Ready (formOf (c .args .form)) (c .args .cells) (contentIn (c .args .masks .now) (c .args .values .now) (c .args .offsets .now)) (c .args .level + 1)
+next : (t : ℕ) (c : write-frame-lts.Start (claims-write-frame t) (write-frame-at t) write-frame.Post) → Ready (formOf (c .args .form)) (c .args .cells) (contentArray (c .args .masks .now) (c .args .values .now) (c .args .offsets .now)) (c .args .level + 1)
 next t c = ready-here (c .args .level + 1) (c .args .below) (c .pre .1 .1 .0)
 
 write-content-count-live-requires : (t : ℕ) → write-content-lts.Need-count-live-requires (claims-write-content t) (write-content-at t) write-content.Post
@@ -81,14 +82,14 @@ write-content-count-live-requires t c κs = let a = c .before .before .before .b
 write-content-returns : (t : ℕ) → write-content-lts.Need-returns (claims-write-content t) (write-content-at t) write-content.Post
 write-content-returns t c =
     let a = c .before .before .before .before .before .before .args in
-    let v : Content = contentIn (a .masks .now) (a .values .now) (a .offsets .now) in
+    let v : Content = contentArray (a .masks .now) (a .values .now) (a .offsets .now) in
     let e : storedFrom (formOf (a .form)) (a .cells) v (a .left) (a .level) ≡ [] = stored-none (formOf (a .form)) (a .cells) v (a .level) (a .left) (sym (c .before .count-live .ensures) ∙ c .if1 .taken) in
     (ap length (sym e), laid-as (a .at) (a .out .now) (at-none (a .at) (a .out .now) (omega (arith, c .before .before .before .before .before .before .pre .1 .1))) (sym e))
 
 write-content-put-values-requires : (t : ℕ) → write-content-lts.Need-put-values-requires (claims-write-content t) (write-content-at t) write-content.Post
 write-content-put-values-requires t c κs =
     let a = c .before .before .before .before .before .before .before .before .args in
-    let v : Content = contentIn (a .masks .now) (a .values .now) (a .offsets .now) in
+    let v : Content = contentArray (a .masks .now) (a .values .now) (a .offsets .now) in
     (c .before .before .before .count-live .ensures, (ready-here (a .level) (a .left) (c .before .before .before .before .before .before .before .before .pre .1 .0), omega (arith, c .before .before .before .before .before .before .before .before .pre .1 .1, ap length (stored-values (formOf (a .form)) (a .cells) v (a .level) (a .left) (c .before .if2 .taken) (some t (c .before .before))))))
 
 write-content-same-length : (t : ℕ) → write-content-lts.Need-same-length (claims-write-content t) (write-content-at t) write-content.Post
@@ -97,7 +98,7 @@ write-content-same-length t c = search needs
 write-content-returns-2 : (t : ℕ) → write-content-lts.Need-returns-2 (claims-write-content t) (write-content-at t) write-content.Post
 write-content-returns-2 t c =
     let a = c .before .before .before .before .before .before .before .before .before .before .before .args in
-    let v : Content = contentIn (a .masks .now) (a .values .now) (a .offsets .now) in
+    let v : Content = contentArray (a .masks .now) (a .values .now) (a .offsets .now) in
     let e = stored-values (formOf (a .form)) (a .cells) v (a .level) (a .left) (c .before .before .before .before .if2 .taken) (some t (c .before .before .before .before .before)) in
     told-as (valuesFrom (formOf (a .form)) (a .cells) v (a .level)) (storedFrom (formOf (a .form)) (a .cells) v (a .left) (a .level)) (a .at) (a .out .now) (c .before .before .put-values .ensures) (sym e)
 
@@ -107,7 +108,7 @@ write-content-sub-write-frame t c = pos-of-ne-zero (c .before .if2 .left)
 write-content-write-frame-requires : (t : ℕ) → write-content-lts.Need-write-frame-requires (claims-write-content t) (write-content-at t) write-content.Post
 write-content-write-frame-requires t c κs =
     let a = c .before .before .before .before .before .before .before .before .args in
-    let v : Content = contentIn (a .masks .now) (a .values .now) (a .offsets .now) in
+    let v : Content = contentArray (a .masks .now) (a .values .now) (a .offsets .now) in
     let p : 0 < a .left = pos-of-ne-zero (c .before .if2 .left) in
     (omega (arith, c .before .before .before .before .before .before .before .before .pre .0), (c .before .before .before .count-live .ensures, (ready-next (a .level) (a .left) (c .before .before .before .before .before .before .before .before .pre .1 .0) (c .before .if2 .left), omega (arith, c .before .before .before .before .before .before .before .before .pre .1 .1, ap length (stored-frame (formOf (a .form)) (a .cells) v (a .level) (a .left) (c .before .if2 .left) (some t (c .before .before)))))))
 
@@ -117,7 +118,7 @@ write-content-same-length-2 t c = search needs
 write-content-returns-3 : (t : ℕ) → write-content-lts.Need-returns-3 (claims-write-content t) (write-content-at t) write-content.Post
 write-content-returns-3 t c =
     let a = c .before .before .before .before .before .before .before .before .before .before .before .args in
-    let v : Content = contentIn (a .masks .now) (a .values .now) (a .offsets .now) in
+    let v : Content = contentArray (a .masks .now) (a .values .now) (a .offsets .now) in
     let e = stored-frame (formOf (a .form)) (a .cells) v (a .level) (a .left) (c .before .before .before .before .if2 .left) (some t (c .before .before .before .before .before)) in
     told-as (frameFrom (formOf (a .form)) (a .cells) v (a .left - 1) (a .level)) (storedFrom (formOf (a .form)) (a .cells) v (a .left) (a .level)) (a .at) (a .out .now) (c .before .before .write-frame .ensures) (sym e)
 
@@ -160,7 +161,7 @@ write-frame-same-length t c = search needs
 write-frame-returns : (t : ℕ) → write-frame-lts.Need-returns (claims-write-frame t) (write-frame-at t) write-frame.Post
 write-frame-returns t c =
     let a = c .before .before .before .before .before .before .before .before .before .before .before .before .before .before .before .before .before .before .before .before .before .args in
-    let v : Content = contentIn (a .masks .now) (a .values .now) (a .offsets .now) in (
+    let v : Content = contentArray (a .masks .now) (a .values .now) (a .offsets .now) in (
       frame-wrote (formOf (a .form)) (a .cells) v (a .level) (a .below) (c .before .before .before .before .before .before .before .before .before .before .before .before .before .before .before .before .mask-length .ensures ∙ c .before .before .before .before .before .before .before .before .before .before .before .before .before .before .before .before .before .before .before .before .before .pre .1 .0) (c .before .before .before .before .before .before .before .before .before .before .before .before .before .before .write-content .ensures .0),
       frame-laid (a .at) (map (maskAt (a .cells) (a .masks .now) (a .level)) (liveAt (a .cells) (a .masks .now) (a .level))) (storedFrom (formOf (a .form)) (a .cells) v (a .below) (a .level + 1)) (a .out .now)
           (length-map (liveAt (a .cells) (a .masks .now) (a .level)) (maskAt (a .cells) (a .masks .now) (a .level)) ∙ sym (c .before .before .before .before .before .before .before .before .before .before .before .before .before .before .before .before .mask-length .ensures ∙ c .before .before .before .before .before .before .before .before .before .before .before .before .before .before .before .before .before .before .before .before .before .pre .1 .0)) (sym (c .before .before .before .before .before .before .before .before .before .before .before .before .before .before .write-content .ensures .0))

@@ -5,8 +5,8 @@ use native.Mathlib.Omega.{arith}
 use lib.ListN.{length}
 use Rattle.array.specs.Content.{Content}
 use Rattle.array.specs.Meaning.{formOf}
+use Rattle.array.specs.Outcome.{contentArray}
 use Rattle.gather.proofs.Placing.{laid-as}
-use Rattle.encode.specs.Stored.{contentIn}
 use Rattle.encode.proofs.Levels.{stored-by-long}
 use Rattle.encode.proofs.Forms.{ready-all, fixed-source, length-copied, stored-copied, stored-deep, stored-plain}
 use borrow.Author.Needs.{needs}
@@ -14,7 +14,7 @@ use Rattle.encode.proofs.write.write_stored.Statement.{statement}
 use Rattle.encode.proofs.write.write_stored.Tie as tie
 
 abbrev held : tie.Start → Content
-held c = contentIn (c .args .masks .now) (c .args .values .now) (c .args .offsets .now)
+held c = contentArray (c .args .masks .now) (c .args .values .now) (c .args .offsets .now)
 
 write-content-requires : tie.Need-write-content-requires
 write-content-requires c κs = let a = c .before .before .before .before .before .before .args in (ready-all (c .before .before .before .before .before .before .pre .0), omega (arith, c .before .before .before .before .before .before .pre .1, ap length (stored-deep (formOf (a .form)) (a .cells) (held (c .before .before .before .before .before .before)) (a .depth) (c .before .if1 .taken))))

@@ -1,39 +1,47 @@
+-- `mask::unpack::unpack_some` meets its contract: the first of the eight mask bytes that its byte says.
+-- Assumes nothing.
+use mathlib.Core.Path.{_≡_, sym, ap, _∙_}
+use mathlib.Core.List.{List}
+use Prim.Native.Nat.{ℕ}
+use native.Mathlib.Omega.{arith}
+use lib.ListN.{take, length, replicate}
+use Rattle.array.specs.Bytes.{digits}
+use Rattle.array.specs.Buffers.{overAt}
+use Rattle.array.proofs.Bytes.{length-digits}
+use Rattle.mask.proofs.Words.{laid-block}
 use borrow.Author.Needs.{needs}
 use Rattle.mask.proofs.unpack.unpack_some.Statement.{statement}
 use Rattle.mask.proofs.unpack.unpack_some.Tie as tie
-use Rattle.mask.proofs.unpack.unpack_some.Reads as reads
-use Rattle.mask.proofs.unpack.unpack_some.Lts as lts
-use Rattle.buffer.proofs.copy.copy_bytes.Reads as copy-bytes-reads
-use Rattle.buffer.proofs.field.put_u64.Reads as put-u64-reads
-use Rattle.mask.proofs.unpack.eight_bytes.Reads as eight-bytes-reads
 
--- src/unpack.rt:51:20
 slice-aggregate-put-u64 : tie.Need-slice-aggregate-put-u64
 slice-aggregate-put-u64 c = search needs
 
--- src/unpack.rt:51:35
 eight-bytes-requires : tie.Need-eight-bytes-requires
 eight-bytes-requires c κs = search needs
 
--- src/unpack.rt:51:5
 put-u64-requires : tie.Need-put-u64-requires
 put-u64-requires c κs = search needs
 
--- src/unpack.rt:52:34
 slice-aggregate-copy-bytes : tie.Need-slice-aggregate-copy-bytes
 slice-aggregate-copy-bytes c = search needs
 
--- src/unpack.rt:52:5
 copy-bytes-requires : tie.Need-copy-bytes-requires
 copy-bytes-requires c κs = search needs
 
--- src/unpack.rt:46:1
 same-length : tie.Need-same-length
 same-length c = search needs
 
--- src/unpack.rt:46:1
 returns : tie.Need-returns
-returns c = ?
+returns c =
+    let call = c .before .before in
+    let put = call .before .before .before .before in
+    let a = put .before .before .before .before .args in
+    let bits : List ℕ = digits 2 8 (a .b) in
+    let laid : put .put-u64 .last .0 ≡ overAt 0 bits (replicate 8 0) =
+    put .put-u64 .ensures ∙ ap (λ (x : List ℕ). overAt 0 x (replicate 8 0)) (put .before .eight-bytes .ensures) in
+    call .copy-bytes .ensures
+    ∙ ap (λ (x : List ℕ). overAt (a .to) x (a .planes .now))
+    (ap (take (a .count)) laid ∙ laid-block bits (replicate 8 0) (a .count) (omega (arith, length-digits 2 8 (a .b), put .before .before .before .before .pre .1)))
 
 pub unpack-some-spec : {M : Type 1} → statement M
 unpack-some-spec =

@@ -24,6 +24,13 @@ Inv-loop values₀ offsets₀ bytes index source width shape starts lens count l
 abbrev μ-loop : tie.MeasureT-loop
 μ-loop values₀ offsets₀ bytes index source width shape starts lens count last n at₀ total₀ values offsets at total = count - at
 
+-- where the values came back, and past the slices' own places
+abbrev given-back : tie.After-values Inv-loop μ-loop → tie.After-offset-at2 Inv-loop μ-loop
+given-back c = c .before .before .before
+
+abbrev entry : tie.After-shared-slice-known2 Inv-loop μ-loop → tie.Start Inv-loop μ-loop
+entry c = c .before .before .before .before
+
 -- where the function starts, the subset's cells, how long a row is, where a cell begins
 abbrev Start : Type 0
 Start = tie.Start Inv-loop μ-loop
@@ -61,7 +68,7 @@ abbrev Head : Type 0
 Head = tie.At-loop Inv-loop μ-loop
 
 abbrev begun : Head → Start
-begun l = l .before .before .before .before .before .before .before .before
+begun l = entry (l .before .before .before .before)
 
 same : (l : Head) → length (l .loop .values) ≡ length (begun l .args .values .now)
 same l =
@@ -85,8 +92,8 @@ abbrev start : Known → Start
 start k = begun (head k)
 
 next : (k : Known)
-    → NextRow (off (start k)) (start k .args .bytes .now) (start k .args .source) (full (start k)) (head k .loop .values) (head k .loop .offsets) (start k .args .count) (row (start k)) (head k .loop .at)
-    (head k .loop .total) (k .cell-at .result)
+    → NextRow (off (start k)) (start k .args .bytes .now) (start k .args .source) (full (start k)) (head k .loop .values) (head k .loop .offsets)
+    (start k .args .count) (row (start k)) (head k .loop .at) (head k .loop .total) (k .cell-at .result)
 next k =
     let a = start k in
     let l = head k in
@@ -94,17 +101,17 @@ next k =
     (l .loop .total) (l .loop .inv) (full a) (a .pre .1 .stored .index-asked .rises) (below a) (a .pre .1 .stored .data-room) (k .before .loop-test .taken) (k .cell-at .result) (k .cell-at .ensures)
 
 sub-last : tie.Need-sub-last Inv-loop μ-loop
-sub-last c = let a = c .before .before .before .before .before .before in omega (arith, asked-lengths _ _ _ _ (a .pre .0))
+sub-last c = let a = entry (c .before .before) in omega (arith, asked-lengths _ _ _ _ (a .pre .0))
 
 mul-n : tie.Need-mul-n Inv-loop μ-loop
 mul-n c = omega arith
 
 shared-slice-read-n : tie.Need-shared-slice-read-n Inv-loop μ-loop
-shared-slice-read-n c = let a = c .before .before .before .before .before .before .before in omega (arith, asked-lengths _ _ _ _ (a .pre .0))
+shared-slice-read-n c = let a = entry (c .before .before .before) in omega (arith, asked-lengths _ _ _ _ (a .pre .0))
 
 loop-holds : tie.Need-loop-holds Inv-loop μ-loop
 loop-holds c =
-    let a = c .before .before .before .before .before .before .before in
+    let a = entry (c .before .before .before) in
     ragged-begins (off a) (values a) (cells a) (a .args .values .now) (a .args .offsets .now) (a .args .count) (row a) (asked-left _ _ _ _ (a .pre .0)) (a .pre .1 .room) (a .pre .1 .room-offsets)
 
 cell-at-requires : tie.Need-cell-at-requires Inv-loop μ-loop
@@ -144,12 +151,12 @@ copy-bytes-requires c κs =
 
 add-store-ends : tie.Need-add-store-ends Inv-loop μ-loop
 add-store-ends c =
-    let k = known (c .before .before .before .before .before) in
+    let k = known (given-back (c .before .before)) in
     omega (arith, next k .left, asked-few _ _ _ _ (start k .pre .0))
 
 store-ends-requires : tie.Need-store-ends-requires Inv-loop μ-loop
 store-ends-requires c κs =
-    let k = known (c .before .before .before .before .before) in
+    let k = known (given-back (c .before .before)) in
     let a = start k in (
       next k .room-offsets,
       record {
@@ -165,7 +172,7 @@ abbrev Stored : Type 0
 Stored = tie.After-store-ends Inv-loop μ-loop
 
 abbrev ended : Stored → Ended
-ended d = d .before .before .before .before .before .before
+ended d = given-back (d .before .before .before)
 
 add-total : tie.Need-add-total Inv-loop μ-loop
 add-total c =

@@ -1,4 +1,4 @@
--- `count_bytes` meets its contract: the rows before `at` are counted (proofs/Counting).
+-- `count_bytes` meets its contract: the rows before `at` are counted (proofs/Counting of extract).
 -- Assumes nothing.
 use Prim.Native.Nat.{ℕ, _+_, _-_, _≤_, _<_}
 use mathlib.Core.Path.{ap, ap₂, _∙_}
@@ -13,9 +13,9 @@ use Rattle.subset.proofs.Rows.{left-some, left-within, left-room}
 use Rattle.extract.specs.Places.{bytesAt}
 use Rattle.extract.proofs.Places.{run-rises}
 use Rattle.extract.proofs.Walk.{asked-left, asked-below, asked-lengths, asked-few}
+use Rattle.extract.proofs.Counting.{bytes-most, Counting, counting-begins, counting-ends, counting-more}
 use Rattle.partial.specs.Stored.{storedAt}
 use Rattle.partial.proofs.Stored.{offset-room}
-use Rattle.partial.proofs.Counting.{bytes-most, Counting, counting-begins, counting-ends, counting-more}
 use Rattle.partial.proofs.vlen_partial.count_bytes.Statement.{statement}
 use Rattle.partial.proofs.vlen_partial.count_bytes.Tie as tie
 
@@ -24,6 +24,10 @@ Inv-loop bytes index width shape starts lens count last n at₀ total₀ at tota
 
 abbrev μ-loop : tie.MeasureT-loop
 μ-loop bytes index width shape starts lens count last n at₀ total₀ at total = count - at
+
+-- past the slices' own places
+abbrev entry : tie.After-shared-slice-known4 Inv-loop μ-loop → tie.Start Inv-loop μ-loop
+entry c = c .before .before .before .before
 
 -- where the function starts, the subset's cells, how long a row is, where a cell begins
 abbrev Start : Type 0
@@ -49,7 +53,7 @@ abbrev head : Known → tie.At-loop Inv-loop μ-loop
 head k = k .before .before
 
 abbrev start : Known → Start
-start k = head k .before .before .before .before .before .before
+start k = entry (head k .before .before)
 
 inside : (k : Known) → k .cell-at .result + row (start k) ≤ full (start k)
 inside k =
@@ -73,14 +77,14 @@ mul-n : tie.Need-mul-n Inv-loop μ-loop
 mul-n c = omega arith
 
 shared-slice-read-n : tie.Need-shared-slice-read-n Inv-loop μ-loop
-shared-slice-read-n c = let a = c .before .before .before .before .before in omega (arith, asked-lengths _ _ _ _ (a .pre .0))
+shared-slice-read-n c = let a = entry (c .before) in omega (arith, asked-lengths _ _ _ _ (a .pre .0))
 
 loop-holds : tie.Need-loop-holds Inv-loop μ-loop
-loop-holds c = let a = c .before .before .before .before .before in counting-begins (off a) (cells a) (a .args .count) (row a) (asked-left _ _ _ _ (a .pre .0))
+loop-holds c = let a = entry (c .before) in counting-begins (off a) (cells a) (a .args .count) (row a) (asked-left _ _ _ _ (a .pre .0))
 
 cell-at-requires : tie.Need-cell-at-requires Inv-loop μ-loop
 cell-at-requires c κs =
-    let a = c .before .before .before .before .before .before .before in
+    let a = entry (c .before .before .before) in
     (a .pre .0 .shaped, a .pre .0 .within, omega (arith, a .pre .0 .counted))
 
 offset-at-requires : tie.Need-offset-at-requires Inv-loop μ-loop
@@ -137,7 +141,7 @@ loop-again c = counted c
 returns : tie.Need-returns Inv-loop μ-loop
 returns c =
     let l = c .before in
-    let a = l .before .before .before .before .before .before in
+    let a = entry (l .before .before) in
     counting-ends (off a) (cells a) (a .args .count) (row a) (l .loop .at) (l .loop .total) (l .loop .inv) (c .loop-test .left)
 
 pub count-bytes-spec : {M : Type 1} → statement M

@@ -25,21 +25,25 @@ use Rattle.partial.proofs.Outcomes.{too-many, no-values, no-offsets, al
 use Rattle.partial.proofs.vlen_partial.cut_stored.Statement.{statement}
 use Rattle.partial.proofs.vlen_partial.cut_stored.Tie as tie
 
+-- past the slices' own places
+abbrev entry : tie.After-shared-slice-known4 → tie.Start
+entry c = c .before .before .before .before
+
 -- once the cells of the subset are counted: the start, the values of the cut, the outputs
 abbrev Counted : Type 0
 Counted = tie.After-volume-of
 
 abbrev start : Counted → tie.Start
-start v = v .before .before .before .before .before .before .before
+start v = entry (v .before .before .before)
 
 abbrev off : Counted → ℕ → ℕ
-off v = let a = start v .args in storedAt (widthOf (a .width)) (a .bytes .now) (a .index)
+off v = let a = start v .args in storedAt (widthOf (a .width)) (a .bytes .now) (a .found .index)
 
 abbrev cells : Counted → List ℕ
 cells v = let a = start v .args in cellsIn (a .shape .now) (pairs (a .starts .now) (a .lens .now))
 
 abbrev cut : Counted → List Value
-cut v = let a = start v .args in valuesAt (off v) (drop (a .source) (a .bytes .now)) (cells v)
+cut v = let a = start v .args in valuesAt (off v) (drop (a .found .from) (a .bytes .now)) (cells v)
 
 abbrev outputs : Counted → RaggedContent
 outputs v = contentRagged (start v .args .values .now) (start v .args .offsets .now)
@@ -52,17 +56,17 @@ values-need : (b : tie.After-count-bytes) → length (joined (cut (b .before))) 
 values-need b =
     let v = b .before in
     let a = start v .args in
-    need-values (a .shape .now) (a .starts .now) (a .lens .now) (v .volume-of .result) (asked v) (widthOf (a .width)) (a .bytes .now) (a .index) (a .source) (start v .pre .1)
+    need-values (a .shape .now) (a .starts .now) (a .lens .now) (v .volume-of .result) (asked v) (widthOf (a .width)) (a .bytes .now) (a .found .index) (a .found .from) (start v .pre .1)
     ∙ sym (b .count-bytes .ensures)
 
 offsets-need : (v : Counted) → length (offsetsOf (cut v)) ≡ v .volume-of .result + 1
 offsets-need v =
     let a = start v .args in
-    need-offsets (a .shape .now) (a .starts .now) (a .lens .now) (v .volume-of .result) (asked v) (off v) (drop (a .source) (a .bytes .now))
+    need-offsets (a .shape .now) (a .starts .now) (a .lens .now) (v .volume-of .result) (asked v) (off v) (drop (a .found .from) (a .bytes .now))
 
 volume-of-requires : tie.Need-volume-of-requires
 volume-of-requires c κs =
-    let s = c .before .before .before .before .before .before in
+    let s = entry (c .before .before) in
     few-within (s .args .shape .now) (s .args .starts .now) (s .args .lens .now) (s .pre .0 .shaped) (s .pre .0 .within)
 
 count-bytes-requires : tie.Need-count-bytes-requires
@@ -72,9 +76,9 @@ count-bytes-requires c κs = (asked c, start c .pre .1 .index-asked)
 abbrev counted : tie.Else1 → tie.After-count-bytes
 counted e = e .before .before
 
-size-passes : (e : tie.Else1) → sizeTest (start (counted e .before) .args .last) ≡ true
+size-passes : (e : tie.Else1) → sizeTest (start (counted e .before) .args .found .last) ≡ true
 size-passes e =
-    not-false (sizeTest (start (counted e .before) .args .last)) (sym (e .before .too-large .ensures) ∙ e .if1 .left)
+    not-false (sizeTest (start (counted e .before) .args .found .last)) (sym (e .before .too-large .ensures) ∙ e .if1 .left)
 
 too-large-requires : tie.Need-too-large-requires
 too-large-requires c κs = search needs
@@ -83,7 +87,7 @@ returns : tie.Need-returns
 returns c =
     let t = c .before in
     let v = t .before .before in
-    let l = start v .args .last in
+    let l = start v .args .found .last in
     too-many l (cut v) (outputs v) (not-true (sizeTest l) (sym (t .too-large .ensures) ∙ c .if1 .taken))
 
 returns-2 : tie.Need-returns-2
@@ -91,7 +95,7 @@ returns-2 c =
     let e = c .before in
     let b = counted e in
     let v = b .before in
-    no-values (start v .args .last) (cut v) (outputs v) (size-passes e) (b .count-bytes .result) (values-need b) (c .if2 .taken)
+    no-values (start v .args .found .last) (cut v) (outputs v) (size-passes e) (b .count-bytes .result) (values-need b) (c .if2 .taken)
 
 add-numbers : tie.Need-add-numbers
 add-numbers c = let v = counted (c .before) .before in omega (arith, asked-few _ _ _ _ (asked v))
@@ -100,7 +104,7 @@ returns-3 : tie.Need-returns-3
 returns-3 c =
     let e = c .before .before in
     let v = counted e .before in
-    no-offsets (start v .args .last) (cut v) (outputs v) (size-passes e) (v .volume-of .result + 1) (offsets-need v) (c .if3 .taken)
+    no-offsets (start v .args .found .last) (cut v) (outputs v) (size-passes e) (v .volume-of .result + 1) (offsets-need v) (c .if3 .taken)
 
 copy-ragged-requires : tie.Need-copy-ragged-requires
 copy-ragged-requires c κs =
@@ -130,7 +134,7 @@ returns-4 c =
     let e = n .before in
     let b = counted e in
     let v = b .before in
-    all-put (start v .args .last) (cut v) (outputs v) (size-passes e) (b .count-bytes .result) (v .volume-of .result + 1) (values-need b) (offsets-need v) (n .if2 .left) (o .if3 .left)
+    all-put (start v .args .found .last) (cut v) (outputs v) (size-passes e) (b .count-bytes .result) (v .volume-of .result + 1) (values-need b) (offsets-need v) (n .if2 .left) (o .if3 .left)
     (r .copy-ragged .last .0) (r .copy-ragged .last .1 .0) (r .copy-ragged .ensures .0) (r .copy-ragged .ensures .1)
 
 pub cut-stored-spec : {M : Type 1} → statement M

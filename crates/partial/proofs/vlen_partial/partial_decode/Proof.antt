@@ -1,6 +1,6 @@
 -- `partial_decode` meets its contract: each refusal in its order (proofs/Outcomes), then the cut of what the check found (proofs/Stored).
 -- Assumes nothing.
-use Prim.Native.Nat.{ℕ, _+_, _*_, _≤_}
+use Prim.Native.Nat.{ℕ}
 use mathlib.Core.Path.{_≡_, refl, sym, ap, _∙_}
 use mathlib.Core.Bool.{true}
 use mathlib.Core.List.{List}
@@ -8,12 +8,12 @@ use native.Mathlib.Omega.{arith}
 use borrow.Author.Needs.{needs}
 use borrow.Author.Tests.{not-true, not-false}
 use lib.ListN.{length, drop}
-use Rattle.array.specs.Answer.{gives}
 use Rattle.array.specs.Limits.{mostCells}
 use Rattle.array.specs.Kind.{Place}
 use Rattle.array.specs.Shape.{volume}
 use Rattle.valid.specs.ShapeCells.{toldCells}
 use Rattle.array.specs.Subset.{Subset, numbersTest, NumbersOk, cellsIn}
+use Rattle.array.specs.Cells.{Value}
 use Rattle.array.specs.Content.{RaggedContent}
 use Rattle.array.specs.Buffers.{raggedLengthsOf, raggedOutcome}
 use Rattle.array.specs.Meaning.{widthOf, placeOf}
@@ -21,13 +21,21 @@ use Rattle.array.specs.Outcome.{contentRagged}
 use Rattle.array.proofs.Rules.{numbers-ok}
 use Rattle.valid.proofs.ShapeLaws.{Counted, counted, not-counted}
 use Rattle.array.proofs.SubsetLists.{subset-parts, within-parts}
-use Rattle.stored.specs.Index.{indexIn, toldIndex, indexAt, dataAt}
+use Rattle.stored.specs.declared.vlen.Index.{Index}
+use Rattle.stored.specs.Index.{foundIn, toldIndex}
 use Rattle.extract.specs.Places.{valuesAt}
 use Rattle.partial.specs.Stored.{storedAt, cutAnswer}
-use Rattle.partial.proofs.Stored.{Read, read-room, read-at}
+use Rattle.partial.proofs.Stored.{Read, read-found}
 use Rattle.partial.proofs.Outcomes.{no-shape, no-subset, not-read, cut-read}
 use Rattle.partial.proofs.vlen_partial.partial_decode.Statement.{statement}
 use Rattle.partial.proofs.vlen_partial.partial_decode.Tie as tie
+
+-- past the slices' own places, and where the shape was asked for its cells
+abbrev entry : tie.After-slice-known → tie.Start
+entry c = c .before .before .before .before
+
+abbrev asked : tie.After-shape-cells → tie.Start
+asked k = entry (k .before .before)
 
 -- where the function starts: the width and the place of the index, what is handed over, the outputs
 abbrev width : tie.Start → ℕ
@@ -53,7 +61,7 @@ abbrev Shaped : Type 0
 Shaped = tie.After-known-told
 
 abbrev start : Shaped → tie.Start
-start m = m .before .before .before .before .before .before .before .before .before
+start m = asked (m .before .before .before)
 
 abbrev cells : Shaped → ℕ
 cells m = m .before .cells .given .0 .0
@@ -76,10 +84,10 @@ Checked = tie.After-find-index
 abbrev begun : Checked → tie.Start
 begun k = start (told (k .before))
 
-checks : (k : Checked) → toldIndex (k .find-index .result) ≡ indexIn (width (begun k)) (place (begun k)) (bytes (begun k)) (volume (shape (begun k)))
+checks : (k : Checked) → toldIndex (k .find-index .result) ≡ foundIn (width (begun k)) (place (begun k)) (bytes (begun k)) 0 (volume (shape (begun k)))
 checks k =
     let s = begun k in
-    k .find-index .ensures ∙ ap (λ (n : ℕ). indexIn (width s) (place s) (bytes s) n) (shaped (told (k .before)) .is)
+    k .find-index .ensures ∙ ap (foundIn (width s) (place s) (bytes s) 0) (shaped (told (k .before)) .is)
 
 -- the index was found
 abbrev Found : Type 0
@@ -88,31 +96,17 @@ Found = tie.After-known-told3
 abbrev checked : Found → Checked
 checked f = f .before .before .before
 
-span : (f : Found) → let s = begun (checked f) in
-    indexIn (width s) (place s) (bytes s) (volume (shape s)) ≡ gives (f .before .found2 .given .0 .0, f .before .found2 .given .0 .1 .0)
-span f = sym (checks (checked f)) ∙ ap toldIndex (f .before .found2 .given .1)
+-- and the parts of the subset lent
+abbrev lent : tie.After-cut-stored-arg4 → Found
+lent c = c .before .before .before .before
 
--- how long it is, and where it and the data lie
-size : (i : tie.After-index-length) → let s = begun (checked (i .before)) in i .index-length .result ≡ width s + volume (shape s) * width s
-size i =
-    let k = checked (i .before) in
-    let s = begun k in
-    i .index-length .ensures ∙ ap (λ (n : ℕ). width s + n * width s) (shaped (told (k .before)) .is)
+abbrev index : Found → Index
+index f = f .before .found2 .given .0 .0
 
-fits : (i : tie.After-index-length) → 8 + i .index-length .result ≤ length (bytes (begun (checked (i .before))))
-fits i =
-    let f = i .before in
+read : (f : Found) → let s = begun (checked f) in Read (width s) (place s) (bytes s) (volume (shape s)) (index f)
+read f =
     let s = begun (checked f) in
-    omega (arith, size i, read-room (width s) (place s) (bytes s) (volume (shape s)) _ _ (span f))
-
-read : (d : tie.After-data-at) → let s = begun (checked (d .before .before .before)) in
-    Read (width s) (place s) (bytes s) (volume (shape s)) (d .before .index-at .result) (d .data-at .result) (d .before .before .before .before .found2 .given .0 .1 .0)
-read d =
-    let i = d .before .before in
-    let f = i .before in
-    let s = begun (checked f) in
-    read-at (width s) (place s) (bytes s) (volume (shape s)) _ _ (span f) (d .before .index-at .result) (d .data-at .result)
-    (d .before .index-at .ensures ∙ ap (indexAt (place s) (length (bytes s))) (size i)) (d .data-at .ensures ∙ ap (dataAt (place s)) (size i))
+    read-found (width s) (place s) (bytes s) (volume (shape s)) (index f) (sym (checks (checked f)) ∙ ap toldIndex (f .before .found2 .given .1))
 
 shape-cells-requires : tie.Need-shape-cells-requires
 shape-cells-requires c κs = search needs
@@ -126,7 +120,7 @@ enum-told c = search needs
 returns : tie.Need-returns
 returns c =
     let m = c .before .before in
-    let s = m .before .before .before .before .before .before in
+    let s = asked m in
     no-shape (width s) (place s) (shape s) (numbers s) (bytes s) (outputs s)
     (not-counted (shape s) (c .enum-told .given .0 .0) (sym (ap toldCells (c .enum-told .given .1)) ∙ m .shape-cells .ensures) .0)
 
@@ -150,16 +144,6 @@ enum-known-found c = search needs
 enum-known-found-2 : tie.Need-enum-known-found-2
 enum-known-found-2 c = search needs
 
-index-length-requires : tie.Need-index-length-requires
-unfolding mostCells
-index-length-requires c κs = shaped (told (checked c .before)) .few
-
-index-at-requires : tie.Need-index-at-requires
-index-at-requires c κs = fits c
-
-data-at-requires : tie.Need-data-at-requires
-data-at-requires c κs = omega (arith, fits (c .before))
-
 sub-cut-stored : tie.Need-sub-cut-stored
 sub-cut-stored c = search needs
 
@@ -167,26 +151,26 @@ part-cut-stored-start : tie.Need-part-cut-stored-start
 part-cut-stored-start c = search needs
 
 part-cut-stored-end : tie.Need-part-cut-stored-end
-part-cut-stored-end c = omega (arith, fitting (checked (c .before .before .before) .before) .counted)
+part-cut-stored-end c = omega (arith, fitting (checked c .before) .counted)
 
 mul-cut-stored : tie.Need-mul-cut-stored
 mul-cut-stored c = search needs
 
 sub-cut-stored-2 : tie.Need-sub-cut-stored-2
-sub-cut-stored-2 c = omega (arith, fitting (checked (c .before .before .before .before) .before) .counted)
+sub-cut-stored-2 c = omega (arith, fitting (checked (c .before) .before) .counted)
 
 part-cut-stored-start-2 : tie.Need-part-cut-stored-start-2
-part-cut-stored-start-2 c = omega (arith, fitting (checked (c .before .before .before .before) .before) .counted)
+part-cut-stored-start-2 c = omega (arith, fitting (checked (c .before) .before) .counted)
 
 part-cut-stored-end-2 : tie.Need-part-cut-stored-end-2
 part-cut-stored-end-2 c = search needs
 
 cut-stored-requires : tie.Need-cut-stored-requires
 cut-stored-requires c κs =
-    let d = c .before .before .before .before in
-    let e = checked (d .before .before .before) .before in
+    let f = lent c in
+    let e = checked f .before in
     let s = start (told e) in
-    (record { shaped = shaped (told e) .shaped; within = within-parts (shape s) (numbers s) (fitting e); counted = refl }, read d .stored)
+    (record { shaped = shaped (told e) .shaped; within = within-parts (shape s) (numbers s) (fitting e); counted = refl }, read f .stored)
 
 returns-3 : tie.Need-returns-3
 returns-3 c =
@@ -205,16 +189,14 @@ same-length-2 c = search needs
 returns-4 : tie.Need-returns-4
 returns-4 c =
     let r = c .before .before .before .before in
-    let d = r .before .before .before .before .before in
-    let e = checked (d .before .before .before) .before in
+    let f = lent (r .before) in
+    let i = index f in
+    let e = checked f .before in
     let s = start (told e) in
-    let index = d .before .index-at .result in
-    let source = d .data-at .result in
-    let last = d .before .before .before .before .found2 .given .0 .1 .0 in
+    let cut : Subset → List Value = λ b. valuesAt (storedAt (width s) (bytes s) (i .index)) (drop (i .from) (bytes s)) (cellsIn (shape s) b) in
     r .cut-stored .ensures
-    ∙ ap (λ (b : Subset). raggedOutcome (cutAnswer last (valuesAt (storedAt (width s) (bytes s) index) (drop source (bytes s)) (cellsIn (shape s) b)) (raggedLengthsOf (outputs s))) (outputs s))
-    (subset-parts (length (shape s)) (numbers s))
-    ∙ cut-read (width s) (place s) (shape s) (numbers s) (bytes s) (outputs s) (shaped (told e) .passes) (subset-passes e) index source last (read d)
+    ∙ ap (λ (b : Subset). raggedOutcome (cutAnswer (i .last) (cut b) (raggedLengthsOf (outputs s))) (outputs s)) (subset-parts (length (shape s)) (numbers s))
+    ∙ cut-read (width s) (place s) (shape s) (numbers s) (bytes s) (outputs s) (shaped (told e) .passes) (subset-passes e) i (read f)
 
 pub partial-decode-spec : {M : Type 1} → statement M
 partial-decode-spec =
@@ -229,9 +211,6 @@ partial-decode-spec =
     find-index-requires
     enum-known-found
     enum-known-found-2
-    index-length-requires
-    index-at-requires
-    data-at-requires
     sub-cut-stored
     part-cut-stored-start
     part-cut-stored-end

@@ -21,6 +21,10 @@ Inv-loop out₀ to bytes index width first n total begin i₀ out i =
 abbrev μ-loop : tie.MeasureT-loop
 μ-loop out₀ to bytes index width first n total begin i₀ out i = n - i
 
+-- at the loop's head
+abbrev begun : tie.At-loop Inv-loop μ-loop → tie.Start Inv-loop μ-loop
+begun c = c .before .before .before .before
+
 -- where the function starts, where a cell begins, where it ends in the output
 abbrev Start : Type 0
 Start = tie.Start Inv-loop μ-loop
@@ -40,7 +44,7 @@ abbrev Inside : Type 0
 Inside = tie.In-loop Inv-loop μ-loop
 
 abbrev start : Inside → Start
-start i = i .before .before .before .before .before
+start i = begun (i .before)
 
 -- the next end lies between the row's begin and its end
 above : (i : Inside) → off (start i) (start i .args .first) ≤ off (start i) (start i .args .first + i .before .loop .i + 1)
@@ -118,13 +122,13 @@ loop-again c =
 same-length : tie.Need-same-length Inv-loop μ-loop
 same-length c =
     let l = c .before in
-    let a = l .before .before .before .before in
+    let a = begun l in
     images-same (ended a) (a .args .out .now) (a .args .to) (a .args .first) (a .args .n) (l .loop .out) (l .loop .i) (l .loop .inv)
 
 returns : tie.Need-returns Inv-loop μ-loop
 returns c =
     let l = c .before in
-    let a = l .before .before .before .before in
+    let a = begun l in
     images-end (ended a) (a .args .out .now) (a .args .to) (a .args .first) (a .args .n) (l .loop .out) (l .loop .i) (l .loop .inv) (c .loop-test .left)
 
 pub store-ends-spec : {M : Type 1} → statement M

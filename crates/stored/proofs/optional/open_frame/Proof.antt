@@ -1,26 +1,66 @@
 -- `open_frame` meets its contract: each answer by the fields that were read (Opening).
 -- Assumes nothing.
-use mathlib.Core.Path.{_≡_, sym, ap, _∙_}
-use Prim.Native.Nat.{_+_, _≤_}
+use mathlib.Core.Path.{sym, ap, _∙_}
+use mathlib.Core.List.{List}
+use Prim.Native.Nat.{ℕ}
 use native.Mathlib.Omega.{arith}
-use lib.ListN.{length}
 use borrow.Author.Needs.{needs}
-use Rattle.array.specs.Answer.{gives}
-use Rattle.buffer.specs.Field.{fieldAt, toldField}
-use Rattle.stored.proofs.Opening.{short-first, short-second, room-for, by-mask, by-total, by-count}
+use Rattle.array.specs.Meaning.{masksOf}
+use Rattle.buffer.specs.Field.{toldField}
+use Rattle.codec.specs.Mask.{MaskForm, maskForm}
+use Rattle.stored.proofs.Opening.{short-first, short-second, Fields, fields-read, by-mask, by-total, by-count}
 use Rattle.stored.proofs.optional.open_frame.Statement.{statement}
 use Rattle.stored.proofs.optional.open_frame.Tie as tie
 
-mask-is : (c : tie.After-known-told2) → fieldAt 8 7 (c .before .before .before .before .before .before .before .before .before .args .s .now) (c .before .before .before .before .before .before .before .before .before .args .at) ≡ gives (c .before .before .before .before .before .mask .given .0 .0)
-mask-is c = sym (c .before .before .before .before .before .before .before .read-u64 .ensures) ∙ ap toldField (c .before .before .before .before .before .mask .given .1)
+-- where the function starts: the form of the mask, and the bytes
+abbrev form : tie.Start → MaskForm
+form s = maskForm (masksOf (s .args .form))
 
-content-is : (c : tie.After-known-told2) → fieldAt 8 7 (c .before .before .before .before .before .before .before .before .before .args .s .now) (c .before .before .before .before .before .before .before .before .before .args .at + 8) ≡ gives (c .before .content .given .0 .0)
-content-is c = sym (c .before .before .before .read-u642 .ensures) ∙ ap toldField (c .before .content .given .1)
+abbrev bytes : tie.Start → List ℕ
+bytes s = s .args .s .now
 
-room : (c : tie.After-known-told2) → c .before .before .before .before .before .before .before .before .before .args .at + 16 ≤ length (c .before .before .before .before .before .before .before .before .before .args .s .now)
-room c =
-    let args = c .before .before .before .before .before .before .before .before .before .args in
-    room-for (args .s .now) (args .at) (args .cells) (c .before .before .before .before .before .before .before .before .before .pre .0) (c .before .before .before .before .before .mask .given .0 .0) (c .before .content .given .0 .0) (mask-is c) (content-is c)
+-- the first length was read and the second asked for
+abbrev Second : Type 0
+Second = tie.After-read-u642
+
+abbrev first : Second → tie.After-read-u64
+first r = r .before .before .before .before
+
+abbrev asked : Second → tie.Start
+asked r = first r .before .before
+
+-- both were read
+abbrev Read : Type 0
+Read = tie.After-known-told2
+
+abbrev second : Read → Second
+second k = k .before .before .before
+
+abbrev start : Read → tie.Start
+start k = asked (second k)
+
+abbrev mask : Read → ℕ
+mask k = second k .before .before .mask .given .0 .0
+
+abbrev content : Read → ℕ
+content k = k .before .content .given .0 .0
+
+fields : (k : Read) → Fields (bytes (start k)) (start k .args .at) (mask k) (content k)
+fields k =
+    let s = start k in
+    fields-read (bytes s) (s .args .at) (mask k) (content k) (s .pre .0)
+    (sym (first (second k) .read-u64 .ensures) ∙ ap toldField (second k .before .before .mask .given .1))
+    (sym (second k .read-u642 .ensures) ∙ ap toldField (k .before .content .given .1))
+
+-- what the mask's length has to be
+abbrev Sized : Type 0
+Sized = tie.After-mask-length
+
+abbrev read : Sized → Read
+read z = z .before
+
+abbrev begun : Sized → tie.Start
+begun z = start (read z)
 
 read-u64-requires : tie.Need-read-u64-requires
 read-u64-requires c κs = search needs
@@ -33,8 +73,9 @@ enum-told c = search needs
 
 returns : tie.Need-returns
 returns c =
-    let args = c .before .before .before .before .args in
-    short-first (args .s .now) (args .at) (args .cells) (c .before .before .before .before .pre .0) _ (sym (c .before .before .read-u64 .ensures) ∙ ap toldField (c .enum-told .given .1))
+    let r = c .before .before in
+    let s = r .before .before in
+    short-first (form s) (bytes s) (s .args .at) (s .args .cells) _ (sym (r .read-u64 .ensures) ∙ ap toldField (c .enum-told .given .1))
 
 add-read-u64 : tie.Need-add-read-u64
 add-read-u64 c = search needs
@@ -50,44 +91,44 @@ enum-told-2 c = search needs
 
 returns-2 : tie.Need-returns-2
 returns-2 c =
-    let args = c .before .before .before .before .before .before .before .before .args in
-    short-second (args .s .now) (args .at) (args .cells) (c .before .before .before .before .before .before .before .before .pre .0) _ (sym (c .before .before .read-u642 .ensures) ∙ ap toldField (c .enum-told2 .given .1))
+    let r = c .before .before in
+    let s = asked r in
+    short-second (form s) (bytes s) (s .args .at) (s .args .cells) _ (sym (r .read-u642 .ensures) ∙ ap toldField (c .enum-told2 .given .1))
 
 add-start : tie.Need-add-start
 add-start c = search needs
 
 sub-left : tie.Need-sub-left
-sub-left c = omega (arith, (room c))
+sub-left c = omega (arith, fields c .room)
 
 mask-length-requires : tie.Need-mask-length-requires
 mask-length-requires c κs = search needs
 
 returns-3 : tie.Need-returns-3
 returns-3 c =
-    let args = c .before .before .before .before .before .before .before .before .before .before .before .args in
-    let mask-length = c .before .mask-length in
-    by-mask (args .s .now) (args .at) (args .cells) (c .before .before .before .before .before .before .before .before .before .before .before .pre .0) (c .before .before .before .before .before .before .before .mask .given .0 .0) (c .before .before .before .content .given .0 .0) (mask-is (c .before .before)) (content-is (c .before .before)) (mask-length .result) (mask-length .ensures) (c .if1 .taken)
+    let z = c .before in
+    by-mask (fields (read z)) (form (begun z)) (begun z .args .cells) (z .mask-length .ensures) (c .if1 .taken)
 
 returns-4 : tie.Need-returns-4
 returns-4 c =
-    let args = c .before .before .before .before .before .before .before .before .before .before .before .before .args in
-    let mask-length = c .before .before .mask-length in
-    by-total (args .s .now) (args .at) (args .cells) (c .before .before .before .before .before .before .before .before .before .before .before .before .pre .0) (c .before .before .before .before .before .before .before .before .mask .given .0 .0) (c .before .before .before .before .content .given .0 .0) (mask-is (c .before .before .before)) (content-is (c .before .before .before)) (mask-length .result) (mask-length .ensures) (c .before .if1 .left) (λ e. omega arith)
+    let z = c .before .before in
+    by-total (fields (read z)) (form (begun z)) (begun z .args .cells) (z .mask-length .ensures) (c .before .if1 .left) (λ e. omega arith)
 
 returns-5 : tie.Need-returns-5
 returns-5 c =
-    let args = c .before .before .before .before .before .before .before .before .before .before .before .before .before .args in
-    let mask-length = c .before .before .before .mask-length in
-    by-total (args .s .now) (args .at) (args .cells) (c .before .before .before .before .before .before .before .before .before .before .before .before .before .pre .0) (c .before .before .before .before .before .before .before .before .before .mask .given .0 .0) (c .before .before .before .before .before .content .given .0 .0) (mask-is (c .before .before .before .before)) (content-is (c .before .before .before .before)) (mask-length .result) (mask-length .ensures) (c .before .before .if1 .left) (λ e. omega arith)
+    let z = c .before .before .before in
+    by-total (fields (read z)) (form (begun z)) (begun z .args .cells) (z .mask-length .ensures) (c .before .before .if1 .left) (λ e. omega arith)
 
 check-mask-requires : tie.Need-check-mask-requires
-check-mask-requires c κs = omega (arith, (room (c .before .before .before .before)), c .before .before .before .mask-length .ensures)
+check-mask-requires c κs =
+    let z = c .before .before .before in
+    omega (arith, fields (read z) .room, z .mask-length .ensures)
 
 returns-6 : tie.Need-returns-6
 returns-6 c =
-    let args = c .before .before .before .before .before .before .before .before .before .before .before .before .before .before .args in
-    let mask-length = c .before .before .before .before .mask-length in
-    c .check-mask .ensures ∙ by-count (args .s .now) (args .at) (args .cells) (c .before .before .before .before .before .before .before .before .before .before .before .before .before .before .pre .0) (c .before .before .before .before .before .before .before .before .before .before .mask .given .0 .0) (c .before .before .before .before .before .before .content .given .0 .0) (mask-is (c .before .before .before .before .before)) (content-is (c .before .before .before .before .before)) (mask-length .result) (mask-length .ensures) (c .before .before .before .if1 .left) (omega arith)
+    let e = c .before .before .before in
+    let z = e .before in
+    c .check-mask .ensures ∙ by-count (fields (read z)) (form (begun z)) (begun z .args .cells) (z .mask-length .ensures) (e .if1 .left) (omega arith)
 
 pub open-frame-spec : {M : Type 1} → statement M
 open-frame-spec =

@@ -2,76 +2,104 @@
 -- Assumes nothing.
 use mathlib.Core.Path.{_≡_, sym, ap, _∙_}
 use mathlib.Core.Bool.{true}
+use mathlib.Core.List.{List}
 use Prim.Native.Nat.{ℕ, suc, _+_, _*_}
 use native.Mathlib.Omega.{arith}
 use lib.ListN.{take, drop}
 use borrow.Author.Tests.{not-true, not-false}
 use borrow.Author.Needs.{needs}
+use Rattle.array.specs.Answer.{Answer, mapAnswer}
 use Rattle.array.specs.Bytes.{unle}
 use Rattle.array.specs.Meaning.{widthOf}
 use Rattle.array.specs.Offsets.{last, risingTest}
 use Rattle.codec.specs.Ragged.{dataTest}
-use Rattle.stored.specs.Index.{offsetsIn}
+use Rattle.stored.specs.declared.vlen.Index.{Index}
+use Rattle.stored.specs.Index.{offsetsIn, indexWith}
 use Rattle.stored.proofs.IndexLaws.{last-at, by-data, by-rising, by-span}
 use Rattle.stored.proofs.vlen.check_index.Statement.{statement}
 use Rattle.stored.proofs.vlen.check_index.Tie as tie
 
-times-is : (c : tie.After-width-bytes) → c .before .before .args .n * c .width-bytes .result ≡ c .before .before .args .n * widthOf (c .before .before .args .width)
-times-is c = ap (λ (x : ℕ). c .before .before .args .n * x) (c .width-bytes .ensures)
+-- where the function starts: the width, the offsets of the index, and what is told of their span
+abbrev width : tie.Start → ℕ
+width s = widthOf (s .args .width)
 
-last-is : (c : tie.After-le-at) → c .le-at .result ≡ last (offsetsIn (widthOf (c .before .before .before .args .width)) (suc (c .before .before .before .args .n)) (drop (c .before .before .before .args .at) (c .before .before .before .args .s .now)))
-last-is c =
-    let args = c .before .before .before .args in
-    last-at (widthOf (args .width)) (args .n) (args .s .now) (args .at) (c .le-at .result)
-    (c .le-at .ensures ∙ ap (λ (x : ℕ). unle (take (widthOf (args .width)) (drop (args .at + x) (args .s .now)))) (times-is (c .before)))
+abbrev offsets : tie.Start → List ℕ
+offsets s = offsetsIn (width s) (suc (s .args .n)) (drop (s .args .index) (s .args .s .now))
 
-data-is : (c : tie.Else1) → dataTest (c .before .before .le-at .result) (c .before .before .before .before .before .args .count) ≡ true
-data-is c =
-    let data-fits = c .before .data-fits in
-    sym (data-fits .ensures) ∙ not-false (data-fits .result) (c .if1 .left)
+abbrev told : tie.Start → Answer (ℕ × ℕ) → Answer Index
+told s a = mapAnswer (indexWith (s .args .n) (s .args .index) (s .args .from)) a
 
-rise-is : (c : tie.Else2) → risingTest (offsetsIn (widthOf (c .before .before .before .before .before .before .before .args .width)) (suc (c .before .before .before .before .before .before .before .args .n)) (drop (c .before .before .before .before .before .before .before .args .at) (c .before .before .before .before .before .before .before .args .s .now))) ≡ true
-rise-is c =
-    let never-falls = c .before .never-falls in
-    sym (never-falls .ensures) ∙ not-false (never-falls .result) (c .if2 .left)
+abbrev begun : tie.After-width-bytes → tie.Start
+begun b = b .before .before
+
+times-is : (b : tie.After-width-bytes) → begun b .args .n * b .width-bytes .result ≡ begun b .args .n * width (begun b)
+times-is b = ap (λ (x : ℕ). begun b .args .n * x) (b .width-bytes .ensures)
+
+-- the last offset was read
+abbrev Read : Type 0
+Read = tie.After-le-at
+
+abbrev start : Read → tie.Start
+start k = begun (k .before)
+
+last-is : (k : Read) → k .le-at .result ≡ last (offsets (start k))
+last-is k =
+    let s = start k in
+    let a = s .args in
+    last-at (width s) (a .n) (a .s .now) (a .index) (k .le-at .result)
+    (k .le-at .ensures ∙ ap (λ (x : ℕ). unle (take (width s) (drop (a .index + x) (a .s .now)))) (times-is (k .before)))
+
+-- the data fits it, and the offsets never fall
+data-is : (c : tie.Else1) → let k = c .before .before in dataTest (k .le-at .result) (start k .args .count) ≡ true
+data-is c = let fits = c .before .data-fits in sym (fits .ensures) ∙ not-false (fits .result) (c .if1 .left)
+
+abbrev read : tie.After-never-falls → Read
+read f = f .before .before .before
+
+rise-is : (c : tie.Else2) → risingTest (offsets (start (read (c .before)))) ≡ true
+rise-is c = let falls = c .before .never-falls in sym (falls .ensures) ∙ not-false (falls .result) (c .if2 .left)
 
 width-bytes-requires : tie.Need-width-bytes-requires
 width-bytes-requires c κs = search needs
 
 mul-le-at : tie.Need-mul-le-at
-mul-le-at c = omega (arith, (times-is c))
+mul-le-at c = omega (arith, times-is c)
 
 add-le-at : tie.Need-add-le-at
-add-le-at c = omega (arith, (times-is c))
+add-le-at c = omega (arith, times-is c)
 
 le-at-requires : tie.Need-le-at-requires
-le-at-requires c κs = omega (arith, (times-is c))
+le-at-requires c κs = omega (arith, times-is c)
 
 data-fits-requires : tie.Need-data-fits-requires
 data-fits-requires c κs = search needs
 
 returns : tie.Need-returns
 returns c =
-    let args = c .before .before .before .before .before .args in
-    let data-fits = c .before .data-fits in
-    by-data (offsetsIn (widthOf (args .width)) (suc (args .n)) (drop (args .at) (args .s .now))) (args .count) (c .before .before .le-at .result) (last-is (c .before .before)) (sym (data-fits .ensures) ∙ not-true (data-fits .result) (c .if1 .taken))
+    let fits = c .before .data-fits in
+    let k = c .before .before in
+    let s = start k in
+    ap (told s) (by-data (offsets s) (s .args .count) (last-is k) (sym (fits .ensures) ∙ not-true (fits .result) (c .if1 .taken)))
 
 never-falls-requires : tie.Need-never-falls-requires
 never-falls-requires c κs = search needs
 
 returns-2 : tie.Need-returns-2
 returns-2 c =
-    let args = c .before .before .before .before .before .before .before .args in
-    let never-falls = c .before .never-falls in
-    by-rising (offsetsIn (widthOf (args .width)) (suc (args .n)) (drop (args .at) (args .s .now))) (args .count) (c .before .before .before .before .le-at .result) (last-is (c .before .before .before .before)) (data-is (c .before .before)) (sym (never-falls .ensures) ∙ not-true (never-falls .result) (c .if2 .taken))
+    let falls = c .before .never-falls in
+    let k = read (c .before) in
+    let s = start k in
+    ap (told s) (by-rising (offsets s) (s .args .count) (last-is k) (data-is (c .before .before)) (sym (falls .ensures) ∙ not-true (falls .result) (c .if2 .taken)))
 
 le-at-requires-2 : tie.Need-le-at-requires-2
 le-at-requires-2 c κs = search needs
 
 returns-3 : tie.Need-returns-3
 returns-3 c =
-    let args = c .before .before .before .before .before .before .before .before .args in
-    by-span (offsetsIn (widthOf (args .width)) (suc (args .n)) (drop (args .at) (args .s .now))) (args .count) (c .before .before .before .before .before .le-at .result) (last-is (c .before .before .before .before .before)) (data-is (c .before .before .before)) (rise-is (c .before)) (c .le-at2 .result) (c .le-at2 .ensures)
+    let f = c .before .before in
+    let k = read f in
+    let s = start k in
+    ap (told s) (by-span (offsets s) (s .args .count) (last-is k) (data-is (f .before)) (rise-is (c .before)) (c .le-at2 .result) (c .le-at2 .ensures))
 
 pub check-index-spec : {M : Type 1} → statement M
 check-index-spec =

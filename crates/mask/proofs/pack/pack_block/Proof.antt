@@ -1,0 +1,70 @@
+-- `mask::pack::pack_block` meets its contract: the bits, laid over a block of zeros, are what they are padded to (Words).
+-- Assumes nothing.
+use mathlib.Core.Path.{_≡_, sym, ap, ap₂, subst⁻¹, _∙_}
+use mathlib.Core.List.{List, map}
+use Prim.Native.Nat.{ℕ, _+_, _*_, _≤_, _<_}
+use native.Mathlib.Omega.{arith}
+use lib.ListN.{length, take, drop, replicate}
+use Rattle.array.specs.Lists.{All, pieces}
+use Rattle.array.specs.Bytes.{number}
+use Rattle.array.specs.Buffers.{overAt}
+use Rattle.array.specs.Cells.{bitOf}
+use Rattle.codec.specs.Mask.{bytesFor}
+use Rattle.codec.proofs.Masks.{bits-of-marks}
+use Rattle.mask.proofs.Words.{length-part-bits, block-bits, block-packed}
+use borrow.Author.Needs.{needs}
+use Rattle.mask.proofs.pack.pack_block.Statement.{statement}
+use Rattle.mask.proofs.pack.pack_block.Tie as tie
+
+-- the bits of the cells at hand
+abbrev bits : tie.Start → List ℕ
+bits c = map bitOf (take (c .args .count) (drop (c .args .at) (c .args .planes .now)))
+
+length-bits : (c : tie.Start) → length (bits c) ≡ c .args .count
+length-bits c = length-part-bits (c .args .planes .now) (c .args .at) (c .args .count) (c .pre .1)
+
+slice-aggregate-put-bits : tie.Need-slice-aggregate-put-bits
+slice-aggregate-put-bits c = search needs
+
+put-bits-requires : tie.Need-put-bits-requires
+put-bits-requires c κs = search needs
+
+slice-aggregate-pack-words : tie.Need-slice-aggregate-pack-words
+slice-aggregate-pack-words c = search needs
+
+bytes-for-requires : tie.Need-bytes-for-requires
+bytes-for-requires c κs = search needs
+
+pack-words-requires : tie.Need-pack-words-requires
+pack-words-requires c κs =
+    let put = c .before .before .before .before in
+    let start = put .before .before .before .before in (
+      omega (arith, c .bytes-for .ensures, start .pre .0),
+      omega (arith, c .bytes-for .ensures, start .pre .2, put .put-bits .kept .0),
+      subst⁻¹ (All (λ b. b < 2)) (put .put-bits .ensures) (block-bits (bits start) (bits-of-marks (take (start .args .count) (drop (start .args .at) (start .args .planes .now))))),
+    )
+
+same-length : tie.Need-same-length
+same-length c = search needs
+
+returns : tie.Need-returns
+returns c =
+    let call = c .before .before in
+    let put = call .before .before .before .before .before in
+    let start = put .before .before .before .before in
+    let count : call .before .bytes-for .result ≡ bytesFor (length (bits start)) = call .before .bytes-for .ensures ∙ ap bytesFor (sym (length-bits start)) in
+    call .pack-words .ensures
+    ∙ ap (λ (m : List ℕ). overAt (start .args .to) m (start .args .out .now))
+    (ap₂ (λ (k : ℕ) (b : List ℕ). map (number 2) (pieces 8 k b)) count (put .put-bits .ensures) ∙ block-packed (bits start) (omega (arith, length-bits start, start .pre .2)))
+
+pub pack-block-spec : {M : Type 1} → statement M
+pack-block-spec =
+    tie.close
+    (tie.spec
+    slice-aggregate-put-bits
+    put-bits-requires
+    slice-aggregate-pack-words
+    bytes-for-requires
+    pack-words-requires
+    same-length
+    returns)
