@@ -175,19 +175,8 @@ fn content(rng: &mut Rng, kind: [u64; 5], cells: usize) -> Content {
     Content { masks, values, offsets }
 }
 
-/// A plane as a kind of this mask form stores it.
-fn stored_mask(masks: u64, plane: &[u8]) -> Vec<u8> {
-    if masks == 0 {
-        return plane.to_vec();
-    }
-    let mut mask = vec![0; plane.len().div_ceil(8)];
-    for i in (0..plane.len()).filter(|&i| plane[i] != 0) {
-        mask[i / 8] |= 1 << (i % 8);
-    }
-    mask
-}
 fn frame(masks: u64, plane: &[u8], content: &[u8]) -> Vec<u8> {
-    let mask = &stored_mask(masks, plane)[..];
+    let mask = &judge::write_mask(masks == 1, plane)[..];
     let (m, c) = ((mask.len() as u64).to_le_bytes(), (content.len() as u64).to_le_bytes());
     [&m[..], &c, mask, content].concat()
 }
@@ -312,28 +301,23 @@ fn put_number(bytes: &mut [u8], at: usize, width: usize, number: u64) {
         bytes[at..at + width].copy_from_slice(&number.to_le_bytes()[..width]);
     }
 }
-/// The length of a stored mask.
-fn stored_length(masks: u64, cells: usize) -> usize {
-    if masks == 0 { cells } else { cells.div_ceil(8) }
-}
 /// Lengths of a frame that agree with its bytes only where their sum is cut to 64 bits (or 32).
-fn wrap_frame(rng: &mut Rng, bytes: &[u8], masks: u64, cells: usize) -> Vec<u8> {
-    let cells = stored_length(masks, cells);
+fn wrap_frame(rng: &mut Rng, bytes: &[u8], mask_length: usize) -> Vec<u8> {
     let mut copy = bytes.to_vec();
     if copy.len() < 16 {
         return copy;
     }
     if rng.below(2) == 0 {
         // the mask length is right and the bytes end before the mask does
-        copy.truncate(16 + rng.below(cells.min(copy.len() - 16) + 1));
-        put_number(&mut copy, 0, 8, cells as u64);
-        let content = (copy.len() as u64 - 16).wrapping_sub(cells as u64);
+        copy.truncate(16 + rng.below(mask_length.min(copy.len() - 16) + 1));
+        put_number(&mut copy, 0, 8, mask_length as u64);
+        let content = (copy.len() as u64 - 16).wrapping_sub(mask_length as u64);
         put_number(&mut copy, 8, 8, content);
     } else {
         let mask = match rng.below(4) {
             0 => (copy.len() as u64 - 15).wrapping_add(rng.below(20) as u64),
             1 => (rng.below(20) as u64).wrapping_neg(),
-            2 => cells as u64 + (1 << 32),
+            2 => mask_length as u64 + (1 << 32),
             _ => a_number(rng),
         };
         put_number(&mut copy, 0, 8, mask);
@@ -345,7 +329,7 @@ fn wrap_frame(rng: &mut Rng, bytes: &[u8], masks: u64, cells: usize) -> Vec<u8> 
 fn damaged(rng: &mut Rng, bytes: &[u8], masks: u64, cells: usize) -> Vec<u8> {
     let mut copy = bytes.to_vec();
     let length = copy.len();
-    let mask = stored_length(masks, cells);
+    let mask_length = judge::mask_bytes(masks == 1, cells);
     match rng.below(10) {
         0 if length > 0 => {
             let at = rng.below(length);
@@ -358,7 +342,7 @@ fn damaged(rng: &mut Rng, bytes: &[u8], masks: u64, cells: usize) -> Vec<u8> {
         }
         3 => {
             // a number where a field begins: a frame's lengths, the index length at either end, an offset
-            let at = rng.pick(&[0, 8, length.saturating_sub(8), 16 + mask, 24 + mask]);
+            let at = rng.pick(&[0, 8, length.saturating_sub(8), 16 + mask_length, 24 + mask_length]);
             let n = a_number(rng);
             put_number(&mut copy, at, 8, n);
         }
@@ -368,7 +352,7 @@ fn damaged(rng: &mut Rng, bytes: &[u8], masks: u64, cells: usize) -> Vec<u8> {
             let n = a_number(rng);
             put_number(&mut copy, at, width, n);
         }
-        5 | 6 => copy = wrap_frame(rng, bytes, masks, cells),
+        5 | 6 => copy = wrap_frame(rng, bytes, mask_length),
         7 if length > 0 => {
             copy.remove(rng.below(length));
         }

@@ -213,7 +213,7 @@ fn write_content(kind: Kind, planes: &[Vec<u8>], values: &[Vec<u8>]) -> Vec<u8> 
 }
 
 /// A plane as it is stored: just as it is, or a bit a cell, the lowest bit of a byte first, and unused bits 0.
-fn write_mask(packed: bool, plane: &[u8]) -> Vec<u8> {
+pub fn write_mask(packed: bool, plane: &[u8]) -> Vec<u8> {
     if !packed {
         return plane.to_vec();
     }
@@ -304,7 +304,7 @@ fn read_content(kind: Kind, depth: usize, cells: usize, bytes: &[u8]) -> Result<
 }
 
 /// The bytes of a stored mask of so many cells.
-fn mask_bytes(packed: bool, cells: usize) -> usize {
+pub fn mask_bytes(packed: bool, cells: usize) -> usize {
     if packed { cells.div_ceil(8) } else { cells }
 }
 
