@@ -9,13 +9,8 @@ use array::kind::Kind;
 use array::refusal;
 ghost use mathlib.Core.Path.{_≡_};
 ghost use Rattle.array.specs.Answer.{andThen};
-<<<<<<< HEAD
 ghost use Rattle.array.specs.Meaning.{kindOf, widthOf};
-ghost use Rattle.valid.specs.Numbers.{fixedOf, raggedOf, kindWith, maskedBy, toldKind, numberedByteKind, numberedKind, toldIndex, numberedIndex};
-=======
-ghost use Rattle.array.specs.Meaning.{widthOf};
-ghost use Rattle.valid.specs.Numbers.{fixedOf, raggedOf, kindWith, toldKind, numberedKind, toldForm, numberedIndex};
->>>>>>> r1
+ghost use Rattle.valid.specs.Numbers.{fixedOf, raggedOf, kindWith, maskedBy, toldKind, numberedByteKind, numberedKind, toldForm, numberedIndex};
 
 // What numbers say: a kind, or the number of the refusal.
 pub enum KindRead {
