@@ -12,7 +12,7 @@ rt staticlib ffi 2>&1 | tee build/rt-lib.log | while IFS= read -r line; do
             echo "${line#rt: }, $left left"
             ;;
         'rt: target/staticlib/libffi.a has '*) echo 'ffi proved and built, 0 left' ;;
-        *': proved' | 'library '* | 'logic '* | 'logic='*) ;;
+        *': proved' | 'library '* | 'logic '* | 'logic='* | 'note: '* | *': note: '*) ;;
         *) printf '%s\n' "$line" ;;
     esac
 done

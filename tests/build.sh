@@ -21,6 +21,8 @@ echo "$*" >> ../asked
 echo 'fn array::kind::fixed: proved'
 echo 'library std: modules loaded=0 checked=0'
 echo 'logic=proved functions=3'
+echo 'crates/array/proofs/Proof.antt:1:1: note: large solution: a term'
+echo 'note: no function with a body is declared, so nothing was lowered'
 echo 'rt: array proved (3 s)' >&2
 if [ -e ../fails ]; then
     echo 'crates/buffer/src/lib.rt:1:1: error: a fact fails' >&2

@@ -19,7 +19,7 @@ for path in $named; do
 done
 
 # pages, headers, scripts, tests and data
-for path in $(grep -ohP '(?<![/\w])(docs|include|tests|tool|demo|bench|bindings|oracle)/[\w./-]*\.(md|h|sh|rs|c|py|txt|toml)\b' "${pages[@]}" | sort -u); do
+for path in $(grep -ohP '(?<![/\w])(docs|include|tests|tool|demo|bench|bindings|oracle|package)/[\w./-]*\.(md|h|sh|rs|c|py|txt|toml)\b' "${pages[@]}" | sort -u); do
     [ -f "$path" ] || wrong "$path is named and is not there"
 done
 
@@ -83,7 +83,7 @@ while IFS='|' read -r _ call _ _ _ list _; do
     [ "$header" = "$list" ] || wrong "$call has the refusals $header in include/durpaxeta.h, $list in rule S6.1"
 done <<< "$calls"
 
-version=$(sed -n 's/^version = "\(.*\)"$/\1/p' bindings/rust/Cargo.toml)
+version=$(cat VERSION)
 newest=$(sed -n 's/^## \([0-9.]*\).*/\1/p' CHANGELOG.md | head -n 1)
 [ "$newest" = "$version" ] || wrong "the newest heading of CHANGELOG.md is '$newest', the version '$version'"
 

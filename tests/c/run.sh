@@ -35,11 +35,11 @@ else
 fi
 
 echo "what the header defines, C11 and C++17"
-gcc -std=c11 -O2 "${every[@]}" "${c[@]}" -o "$out/helpers" tests/c/helpers.c "$lib"
-"$out/helpers"
-g++ -std=c++17 -O2 "${every[@]}" "${cpp[@]}" -c -o "$out/helpers.o" tests/c/helpers.c
-g++ -o "$out/helpers-cpp" "$out/helpers.o" "$lib"
-"$out/helpers-cpp"
+gcc -std=c11 -O2 "${every[@]}" "${c[@]}" -o "$out/inline" tests/c/inline.c "$lib"
+"$out/inline"
+g++ -std=c++17 -O2 "${every[@]}" "${cpp[@]}" -c -o "$out/inline.o" tests/c/inline.c
+g++ -o "$out/inline-cpp" "$out/inline.o" "$lib"
+"$out/inline-cpp"
 
 echo "plain"
 gcc -std=c11 -O2 "${warnings[@]}" -o "$out/test" tests/c/test.c "$lib"
@@ -50,13 +50,13 @@ gcc -std=c11 -O2 "${warnings[@]}" -o "$out/stack" tests/c/stack.c "$lib"
 "$out/stack"
 
 echo "valgrind"
-for test in test helpers; do
+for test in test inline; do
     gcc -std=c11 -O1 -g "${warnings[@]}" -o "$out/$test-valgrind" "tests/c/$test.c" "$lib"
     valgrind --quiet --error-exitcode=1 --leak-check=full --track-origins=yes "$out/$test-valgrind"
 done
 
 echo "address and undefined behaviour sanitizers"
-for test in test helpers; do
+for test in test inline; do
     gcc -std=c11 -O1 -g "${warnings[@]}" -fsanitize=address,undefined -fno-sanitize-recover=all -o "$out/$test-sanitized" \
         "tests/c/$test.c" "$lib"
     "$out/$test-sanitized"

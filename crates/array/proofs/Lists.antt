@@ -1,7 +1,7 @@
 -- Lists: a rule for every element, map, pieces laid end to end and taken apart again.
 -- Assumes nothing.
 use mathlib.Core.Path.{_≡_, refl, sym, ap, ap₂, _∙_}
-use Prim.Native.Nat.{ℕ, zero, suc, _+_, _*_, _≤_}
+use Prim.Native.Nat.{ℕ, zero, suc, _+_, _*_, _≤_, _<_}
 use native.Mathlib.Nat.{zero-mul, suc-mul, add-comm}
 use native.Mathlib.Omega.{arith}
 use mathlib.Core.List.{List, [], _∷_, _++_, map, append-assoc}
@@ -10,6 +10,24 @@ use lib.Seq.{take-at, drop-at, take-take, length-take-le}
 use Rattle.array.specs.Lists.{from, joined, pieces, All}
 
 module _ {A : Type 0} where
+  -- ---- maps over a run of numbers
+
+  pub map-from : (f g : ℕ → A) (a n : ℕ) → ((i : ℕ) → i < a + n → f i ≡ g i) → map f (from a n) ≡ map g (from a n)
+  map-from f g a zero e = refl
+  map-from f g a (suc n) e =
+      ap₂ (λ (x : A) (r : List A). x ∷ r) (e a (omega arith)) (map-from f g (suc a) n (λ i h. e i (omega arith)))
+
+  pub from-suc : (f : ℕ → A) (a n : ℕ) → map f (from (suc a) n) ≡ map (λ i. f (suc i)) (from a n)
+  from-suc f a zero = refl
+  from-suc f a (suc n) = ap (λ (r : List A). f (suc a) ∷ r) (from-suc f (suc a) n)
+
+  -- every element in its place is the list
+  pub in-place : (z : A) (xs : List A) → map (λ i. getD xs i z) (from 0 (length xs)) ≡ xs
+  in-place z [] = refl
+  in-place z (x ∷ xs) = ap (λ (r : List A). x ∷ r) (from-suc (λ i. getD (x ∷ xs) i z) 0 (length xs) ∙ in-place z xs)
+
+  -- ---- a rule for every element
+
   pub All-map : (P Q : A → Type 0) → ((a : A) → P a → Q a) → (xs : List A) → All P xs → All Q xs
   All-map P Q f [] p = tt
   All-map P Q f (x ∷ xs) p = (f x (p .0), All-map P Q f xs (p .1))

@@ -24,6 +24,10 @@ pub record RaggedContent : Type 0 where
   pub values : List ℕ
   pub offsets : List ℕ
 
+-- values laid end to end from offset 0
+abbrev pub endToEnd : List Value → RaggedContent
+endToEnd vs = record { values = joined vs; offsets = offsetsOf vs }
+
 abbrev pub unmasked : RaggedContent → Content
 unmasked c = record { masks = []; values = c .values; offsets = c .offsets }
 

@@ -8,6 +8,7 @@ pub mod Subset
 pub mod Offsets
 pub mod Cells
 pub mod Content
+pub mod Places
 pub mod Buffers
 pub mod Meaning
 pub mod Outcome

@@ -1,6 +1,6 @@
 -- Cutting and merging lists of any element type.
 -- Assumes nothing.
-use mathlib.Core.Path.{_≡_, refl, sym, ap, ap₂, _∙_}
+use mathlib.Core.Path.{_≡_, refl, sym, ap, _∙_}
 use Prim.Native.Nat.{ℕ, zero, suc, _+_, _<_, _≤_}
 use native.Mathlib.Nat.{not-suc-le-zero}
 use native.Mathlib.Omega.{arith}
@@ -11,26 +11,14 @@ use lib.Dec.{eqb}
 use lib.Arith.{lt-of-le-ne}
 use borrow.Author.Tests.{eq-eqb, eqb-true, eqb-false}
 use Rattle.array.specs.Lists.{from, pick, every, count}
-use Rattle.array.proofs.Lists.{map-map, map-cong}
+use Rattle.array.proofs.Lists.{map-map, map-cong, map-from, in-place}
 use Rattle.array.proofs.Rules.{both, left-of, right-of}
 use Rattle.chunks.specs.Gather.{gather, lookup, putBack, Once, onceTest}
 
 module _ {A : Type 0} where
-  -- ---- maps over a run of numbers
-
-  pub map-from : (f g : ℕ → A) (a n : ℕ) → ((i : ℕ) → i < a + n → f i ≡ g i) → map f (from a n) ≡ map g (from a n)
-  map-from f g a zero e = refl
-  map-from f g a (suc n) e =
-      ap₂ (λ (x : A) (r : List A). x ∷ r) (e a (omega arith)) (map-from f g (suc a) n (λ i h. e i (omega arith)))
-
-  pub from-suc : (f : ℕ → A) (a n : ℕ) → map f (from (suc a) n) ≡ map (λ i. f (suc i)) (from a n)
-  from-suc f a zero = refl
-  from-suc f a (suc n) = ap (λ (r : List A). f (suc a) ∷ r) (from-suc f (suc a) n)
-
   -- every element in its place is the list
   pub gather-all : (z : A) (xs : List A) → gather z xs (from 0 (length xs)) ≡ xs
-  gather-all z [] = refl
-  gather-all z (x ∷ xs) = ap (λ (r : List A). x ∷ r) (from-suc (λ i. getD (x ∷ xs) i z) 0 (length xs) ∙ gather-all z xs)
+  gather-all z xs = in-place z xs
 
   -- ---- merging what was gathered
 

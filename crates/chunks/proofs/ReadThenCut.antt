@@ -18,10 +18,11 @@ use Rattle.codec.specs.Ragged.{getRagged}
 use Rattle.codec.specs.Calls.{readIn, decodeAnswer, decoded}
 use Rattle.codec.proofs.Accepted.{read-content, read-small}
 use Rattle.chunks.specs.Cut.{cutOf}
-use Rattle.chunks.specs.Calls.{extractAnswer, extracted, raggedCut, partialAnswer, partiallyDecoded}
+use Rattle.chunks.specs.Calls.{extractAnswer, extracted, partiallyDecoded}
 use Rattle.chunks.specs.Demand.{Taken, whole}
 use Rattle.chunks.specs.ReadThenCut.{raggedOf, withoutMasks, nextCall, flat, readThenCut, LongEnough, PartialDecode}
 use Rattle.chunks.proofs.Calls.{taken-content}
+use Rattle.chunks.proofs.Refusals.{cutOrSix, subset-first}
 
 module _ (w : ℕ) (p : Place) (ok : FormOk (ragged w p)) (shape ns s : List ℕ) (read out : Content) where
   abbrev kind : Kind
@@ -34,13 +35,15 @@ module _ (w : ℕ) (p : Place) (ok : FormOk (ragged w p)) (shape ns s : List ℕ
   kind-passes = record { shallow = lit≤ tt; sound = ok }
 
   -- partial_decode and decode by what their tests say and what is read
-  abbrev cutOrSix : RaggedContent → Answer RaggedContent
-  cutOrSix x = unless (raggedEnoughTest (raggedCut w p shape ns x) (raggedLengthsOf (raggedOf out))) 6 (gives (raggedCut w p shape ns x))
+  abbrev given : RaggedContent → Answer RaggedContent
+  given x = cutOrSix w p shape ns s (raggedOf out) x
 
   partial-is : (a b : Bool) (g : Answer RaggedContent) → shapeTest shape ≡ a → numbersTest shape ns ≡ b → stored ≡ g
-      → partiallyDecoded w p shape ns s (raggedOf out) ≡ raggedOutcome (unless a 2 (unless b 3 (andThen g cutOrSix))) (raggedOf out)
-  unfolding partiallyDecoded partialAnswer
-  partial-is a b g ea eb eg = rw (ea, eb, eg)
+      → partiallyDecoded w p shape ns s (raggedOf out) ≡ raggedOutcome (unless a 2 (unless b 3 (andThen g given))) (raggedOf out)
+  unfolding partiallyDecoded
+  partial-is a b g ea eb eg =
+      ap (λ (y : Answer RaggedContent). raggedOutcome y (raggedOf out)) (subset-first w p shape ns s (raggedOf out) b eb)
+      ∙ rw (ea, eg)
 
   decode-is : (a : Bool) (g : Answer RaggedContent) → shapeTest shape ≡ a → stored ≡ g
       → decodeAnswer kind shape s (lengthsOf read)
@@ -50,7 +53,7 @@ module _ (w : ℕ) (p : Place) (ok : FormOk (ragged w p)) (shape ns s : List ℕ
 
   -- extract of what was read: neither 4 nor 5, and 6 as in partial_decode
   extract-is : (x : RaggedContent) → stored ≡ gives x → shapeTest shape ≡ true → numbersTest shape ns ≡ true
-      → withoutMasks (extracted kind shape ns (unmasked x) out) ≡ raggedOutcome (cutOrSix x) (raggedOf out)
+      → withoutMasks (extracted kind shape ns (unmasked x) out) ≡ raggedOutcome (given x) (raggedOf out)
   unfolding extracted extractAnswer
   extract-is x eg ea eb =
       let cut : Content = cutOf kind shape (unmasked x) (subsetOf (length shape) ns) in

@@ -17,7 +17,7 @@ use Rattle.array.specs.Kind.{Kind, Masks, Place, ragged}
 use Rattle.array.specs.Shape.{volume}
 use Rattle.array.specs.Offsets.{offsetsOf}
 use Rattle.array.specs.Cells.{Value}
-use Rattle.array.specs.Content.{Content, RaggedContent, Valid, valuesIn, sizeTest}
+use Rattle.array.specs.Content.{Content, RaggedContent, endToEnd, Valid, valuesIn, sizeTest}
 use Rattle.array.specs.Buffers.{RaggedLengths, raggedLengthsOf, RaggedEnough, raggedEnoughTest, listOutcome, raggedOutcome}
 use Rattle.array.proofs.Answers.{pass}
 use Rattle.array.proofs.Bytes.{length-le, unle-le}
@@ -27,7 +27,6 @@ use Rattle.array.proofs.LayoutLaws.{values-length, values-total}
 use Rattle.codec.specs.Interleaved.{interleavedCells, putCells, putInterleaved, interleavedLength}
 use Rattle.codec.specs.Calls.{interleavedAnswer, interleavedDecoded, encodeInterleavedAnswer, interleavedEncoded}
 use Rattle.codec.specs.Older.{flatKind, restRagged, OlderReturns}
-use Rattle.codec.proofs.Values.{endToEnd}
 
 -- a cell's length fits its field
 abbrev pub FieldFits : Value → Type 0

@@ -10,7 +10,7 @@ use Rattle.array.specs.Limits.{mostBytes}
 use Rattle.array.specs.Lists.{joined}
 use Rattle.array.specs.Kind.{Kind, Masks, Form, fixed, ragged, FormOk, nullOf}
 use Rattle.array.specs.Cells.{Value, Cell}
-use Rattle.array.specs.Content.{RaggedContent, unmasked, leaves, layout, seen}
+use Rattle.array.specs.Content.{RaggedContent, unmasked, leaves, layout, endToEnd, seen}
 use Rattle.array.proofs.Lists.{map-id}
 use Rattle.array.proofs.Sizes.{SizedAs}
 use Rattle.array.proofs.LayoutLaws.{cells-layout, Good}
@@ -22,7 +22,7 @@ use Rattle.codec.specs.Calls.{written, storedForm, readIn}
 use Rattle.array.proofs.SeenLaws.{restSeen}
 use Rattle.codec.proofs.Frames.{back}
 use Rattle.codec.proofs.Masks.{mask-laws}
-use Rattle.codec.proofs.Values.{endToEnd, back-offsets, back-values}
+use Rattle.codec.proofs.Values.{back-offsets, back-values}
 use Rattle.codec.proofs.Lengths.{bytes-live, sized-live}
 
 written-layout : (mf : MaskForm) (f : Form) (d : ℕ) (xs : List (Cell d)) → written mf f d xs (layout f d xs) ≡ frame mf (putValues f) d xs

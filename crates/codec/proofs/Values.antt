@@ -14,9 +14,9 @@ use Rattle.array.specs.Limits.{mostBytes}
 use Rattle.array.specs.Lists.{joined, pieces}
 use Rattle.array.specs.Bytes.{le}
 use Rattle.array.specs.Kind.{Place, Form, fixed, ragged, FormOk, Order, little, big, ordered}
-use Rattle.array.specs.Offsets.{offsetsOf, slices}
+use Rattle.array.specs.Offsets.{slices}
 use Rattle.array.specs.Cells.{Value}
-use Rattle.array.specs.Content.{RaggedContent}
+use Rattle.array.specs.Content.{RaggedContent, endToEnd}
 use Rattle.array.proofs.Bytes.{length-le}
 use Rattle.array.proofs.Lists.{Sized, All-map, All-image, length-joined, pieces-joined}
 use Rattle.array.proofs.Offsets.{length-ends, rising-ends, last-ends, slices-offsets}
@@ -49,9 +49,6 @@ fits-width w (inl e) = rw e (lit< tt)
 fits-width w (inr e) = rw e (lit< tt)
 
 -- the ragged content of values that lie end to end from offset 0
-abbrev pub endToEnd : List Value → RaggedContent
-endToEnd vs = record { values = joined vs; offsets = offsetsOf vs }
-
 pub back-offsets : (w : ℕ) (p : Place) → (w ≡ 4) ⊎ (w ≡ 8) → (vs : List Value) → length (joined vs) ≤ mostBytes
     → length (putRagged w p (endToEnd vs)) < 256 ^ 8 → getRagged w p (putRagged w p (endToEnd vs)) (length vs) ≡ gives (endToEnd vs)
 back-offsets w p ok vs g h =

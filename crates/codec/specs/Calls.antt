@@ -10,9 +10,8 @@ use Rattle.array.specs.Lists.{joined}
 use Rattle.array.specs.Bytes.{unle}
 use Rattle.array.specs.Kind.{Kind, Form, fixed, ragged, nullOf, kindTest}
 use Rattle.array.specs.Shape.{volume, shapeTest}
-use Rattle.array.specs.Offsets.{offsetsOf}
 use Rattle.array.specs.Cells.{Cell}
-use Rattle.array.specs.Content.{Content, RaggedContent, unmasked, layout, cellsOf, valuesIn, contentTest, sizeTest}
+use Rattle.array.specs.Content.{Content, RaggedContent, endToEnd, unmasked, layout, cellsOf, valuesIn, contentTest, sizeTest}
 use Rattle.array.specs.Buffers.{Lengths, RaggedLengths, lengthsOf, raggedLengthsOf, enoughTest, raggedEnoughTest, listOutcome, raggedOutcome, contentOutcome}
 use Rattle.codec.specs.Mask.{MaskForm, maskForm}
 use Rattle.codec.specs.Frame.{frame, readFrame}
@@ -73,7 +72,7 @@ interleavedAnswer n s room =
     (unless (leb (4 * suc n) (length s)) 7
     (unless (eqb (unle (take 4 s)) n) 9
     (andThen (interleavedCells n (drop 4 s)) (λ vs.
-    let c : RaggedContent = record { values = joined vs; offsets = offsetsOf vs } in
+    let c : RaggedContent = endToEnd vs in
     unless (sizeTest (length (joined vs))) 5
     (unless (raggedEnoughTest c room) 6 (gives c))))))
 

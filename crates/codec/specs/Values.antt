@@ -7,13 +7,14 @@ use lib.Dec.{eqb}
 use Rattle.array.specs.Answer.{Answer, gives, unless, andThen}
 use Rattle.array.specs.Lists.{joined, pieces}
 use Rattle.array.specs.Kind.{Form, fixed, ragged, ordered}
-use Rattle.array.specs.Offsets.{offsetsOf, slices}
+use Rattle.array.specs.Offsets.{slices}
 use Rattle.array.specs.Cells.{Value}
+use Rattle.array.specs.Content.{endToEnd}
 use Rattle.codec.specs.Ragged.{putRagged, getRagged}
 
 unfoldable pub putValues : Form → List Value → List ℕ
 putValues (fixed k o) vs = joined (map (ordered o) vs)
-putValues (ragged w p) vs = putRagged w p (record { values = joined vs; offsets = offsetsOf vs })
+putValues (ragged w p) vs = putRagged w p (endToEnd vs)
 
 unfoldable pub getValues : Form → List ℕ → ℕ → Answer (List Value)
 getValues (fixed k o) s n = unless (eqb (length s) (n * k)) 8 (gives (map (ordered o) (pieces k n s)))

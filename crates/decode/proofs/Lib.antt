@@ -1,6 +1,6 @@
 pub mod Outcomes
 pub mod FixedLaws
-pub mod NestedLaws
-pub mod NestedWritten
+pub mod RaggedLaws
+pub mod RaggedWritten
 pub mod Small
 pub mod Stages

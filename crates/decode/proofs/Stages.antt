@@ -1,24 +1,23 @@
 -- The stages of the call: what it leaves behind where the kind or the shape is refused, and that else the reading decides.
 -- Assumes nothing.
-use mathlib.Core.Path.{_≡_, refl, sym, ap₂, _∙_, subst}
+use mathlib.Core.Path.{_≡_, refl, sym, subst}
 use mathlib.Core.Bool.{Bool, true, false}
 use mathlib.Core.List.{List, [], _∷_}
 use Prim.Native.Nat.{ℕ, _≤_}
 use native.Mathlib.Nat.{le-refl, mul-le-mul}
 use native.Mathlib.Omega.{arith}
 use Rattle.array.specs.declared.answer.WrittenArray.the-variants.{Refused}
-use Rattle.array.specs.Answer.{gives, refuses, andThen, unless}
+use Rattle.array.specs.Answer.{gives, refuses, unless}
 use Rattle.array.specs.Limits.{mostCells}
 use Rattle.array.specs.Lists.{All}
 use Rattle.array.specs.Kind.{Kind, Form, kindTest}
 use Rattle.array.specs.Shape.{volume, shapeTest}
 use Rattle.valid.specs.ShapeCells.{shapeAnswer}
-use Rattle.array.specs.Buffers.{contentOutcome}
 use Rattle.array.proofs.Rules.{shape-ok}
-use Rattle.codec.specs.Mask.{byteMask}
+use Rattle.codec.specs.Mask.{maskForm}
 use Rattle.codec.specs.Calls.{readIn, decodeAnswer, decoded}
 use Rattle.array.specs.Outcome.{contentArray, outcomeArray}
-use Rattle.decode.specs.Outcomes.{ifEnough, readOutcome}
+use Rattle.decode.specs.Outcomes.{readOutcome}
 
 -- what the shape's count says
 pub record ShapeCounted (shape : List ℕ) (n : ℕ) : Type 0 where
@@ -62,8 +61,7 @@ module _ (k : Kind) (shape s m v o : List ℕ) where
     unfolding decoded decodeAnswer
     by-shape f = rw (e, f)
 
-    pub by-reading : (n : ℕ) → ShapeCounted shape n → (f : Form) → k .form ≡ f → readOutcome (contentArray m v o) (readIn byteMask f (k .depth) n s) ≡ decoded k shape s (contentArray m v o)
+    pub by-reading : (n : ℕ) → ShapeCounted shape n → (f : Form) → k .form ≡ f
+        → decoded k shape s (contentArray m v o) ≡ readOutcome (contentArray m v o) (readIn (maskForm (k .masks)) f (k .depth) n s)
     unfolding decoded decodeAnswer
-    by-reading n c f ef =
-        ap₂ (λ (g : Form) (j : ℕ). readOutcome (contentArray m v o) (readIn byteMask g (k .depth) j s)) (sym ef) (c .is)
-        ∙ ap₂ (λ (x y : Bool). contentOutcome (unless x 1 (unless y 2 (andThen (readIn byteMask (k .form) (k .depth) (volume shape) s) (ifEnough (contentArray m v o))))) (contentArray m v o)) (sym e) (sym (c .passes))
+    by-reading n c f ef = rw (e, c .passes, ef, c .is)

@@ -1,52 +1,60 @@
--- What is read once the walk and the check have passed, by positions in the stored bytes s, for n cells; and what the copying rests on.
+-- What is read once the walk and the check have passed (document 01, items 4 and 5), by positions in the stored bytes s, for n cells
+-- below d levels whose masks lie as mf or x says; and what the copying rests on.
 -- Assumes nothing.
 use Prim.Native.Nat.{ℕ, zero, suc, _+_, _*_, _≤_}
 use mathlib.Core.Path.{_≡_}
 use mathlib.Core.List.{List, [], map}
 use lib.ListN.{length, take, drop, replicate}
+use Rattle.array.specs.Answer.{gives}
 use Rattle.array.specs.Limits.{mostCells, mostDepth, mostSize}
 use Rattle.array.specs.Lists.{pieces}
-use Rattle.array.specs.Kind.{Order, fixed, ragged, atStart, ordered}
-use Rattle.array.specs.Offsets.{RisingFrom, lastFrom, slicesFrom}
-use Rattle.array.specs.Content.{Content, layout}
+use Rattle.array.specs.Kind.{Masks, Order, fixed, ragged, atStart, ordered}
+use Rattle.array.specs.Offsets.{slicesFrom}
+use Rattle.array.specs.Content.{Content, unmasked, layout}
+use Rattle.codec.specs.Mask.{MaskForm, maskForm}
+use Rattle.stored.specs.declared.vlen.Index.{Index}
+use Rattle.stored.specs.Walk.{valuesAt, walked}
 use Rattle.stored.specs.Stored.{cellsFrom, MasksWithin, innermostCount}
-use Rattle.stored.specs.Index.{offsetsIn}
-use Rattle.array.specs.Outcome.{contentArray}
+use Rattle.stored.specs.Index.{offsetsIn, raggedAt, IndexWithin}
+use Rattle.decode.specs.declared.fixed.Found.{Found}
 
--- ---- fixed values: k of them stored from `at` on
-
-unfoldable pub fixedFrom : ℕ → Order → ℕ → List ℕ → ℕ → ℕ → ℕ → Content
-fixedFrom size o d s n at k = layout (fixed size o) d (cellsFrom (replicate size 0) d s 0 n (map (ordered o) (pieces size k (drop at s))))
-
-pub record FixedWithin (d : ℕ) (s : List ℕ) (n at k size : ℕ) : Type 0 where
+-- the limits, checked before anything is read
+pub record Limited (d n : ℕ) : Type 0 where
   pub some : 1 ≤ n
   pub few : n ≤ mostCells
   pub shallow : d ≤ mostDepth
+
+-- ---- fixed values, from where they were found on
+
+unfoldable pub fixedFrom : MaskForm → ℕ → Order → ℕ → List ℕ → ℕ → Found → Content
+fixedFrom mf size o d s n f =
+    layout (fixed size o) d (cellsFrom mf (replicate size 0) d s 0 n (map (ordered o) (pieces size (f .cells) (drop (f .at) s))))
+
+pub record FixedFound (x : Masks) (size d : ℕ) (s : List ℕ) (n : ℕ) (f : Found) : Type 0 where
+  pub limits : Limited d n
   pub small : size ≤ mostSize
-  pub masks : MasksWithin d s 0 n
-  pub count : k ≡ innermostCount d s n
-  pub room : at + k * size ≤ length s
+  pub walk : walked (maskForm x) d s 0 n ≡ gives (valuesAt (f .at) (f .cells))
 
--- ---- ragged values below masks: k of them, whose ends are stored from `ends` on, the first beginning at `first`; their bytes from
--- `from` on, up to `last`
+pub record FixedWithin (x : Masks) (size d : ℕ) (s : List ℕ) (n : ℕ) (f : Found) : Type 0 where
+  pub limits : Limited d n
+  pub small : size ≤ mostSize
+  pub masks : MasksWithin (maskForm x) d s 0 n
+  pub count : f .cells ≡ innermostCount (maskForm x) d s n
+  pub room : f .at + f .cells * size ≤ length s
 
-unfoldable pub nestedFrom : ℕ → ℕ → List ℕ → ℕ → ℕ → ℕ → ℕ → ℕ → ℕ → Content
-nestedFrom d w s n ends from k first last = layout (ragged w atStart) d (cellsFrom [] d s 0 n (slicesFrom first (offsetsIn w k (drop ends s)) (take last (drop from s))))
+-- ---- ragged values with the index i that was found: below masks they lie end to end, and with no mask they are as they are stored
 
-pub record NestedWithin (d w : ℕ) (s : List ℕ) (n ends from k first last : ℕ) : Type 0 where
-  pub some : 1 ≤ n
-  pub few : n ≤ mostCells
-  pub shallow : d ≤ mostDepth
-  pub deep : 1 ≤ d
-  pub masks : MasksWithin d s 0 n
-  pub count : k ≡ innermostCount d s n
-  pub ends-room : ends + k * w ≤ length s
-  pub rising : RisingFrom first (offsetsIn w k (drop ends s))
-  pub last-is : last ≡ lastFrom first (offsetsIn w k (drop ends s))
-  pub room : from + last ≤ length s
+unfoldable pub nestedFrom : MaskForm → ℕ → ℕ → List ℕ → ℕ → Index → Content
+nestedFrom mf w d s n i =
+    layout (ragged w atStart) d
+    (cellsFrom mf [] d s 0 n (slicesFrom (i .first) (offsetsIn w (i .cells) (drop (i .index + w) s)) (take (i .last) (drop (i .from) s))))
 
--- ---- ragged values: at depth 0 the offsets and the bytes as they are, else end to end below the masks
+unfoldable pub raggedFrom : MaskForm → ℕ → ℕ → List ℕ → ℕ → Index → Content
+raggedFrom mf w zero s n i = unmasked (raggedAt w s i)
+raggedFrom mf w (suc d) s n i = nestedFrom mf w (suc d) s n i
 
-unfoldable pub raggedFrom : ℕ → ℕ → List ℕ → ℕ → ℕ → ℕ → ℕ → ℕ → ℕ → Content
-raggedFrom zero w s n index from k first last = contentArray [] (take last (drop from s)) (offsetsIn w (suc k) (drop index s))
-raggedFrom (suc d) w s n index from k first last = nestedFrom (suc d) w s n (index + w) from k first last
+pub record RaggedWithin (x : Masks) (w d : ℕ) (s : List ℕ) (n : ℕ) (i : Index) : Type 0 where
+  pub limits : Limited d n
+  pub masks : MasksWithin (maskForm x) d s 0 n
+  pub count : i .cells ≡ innermostCount (maskForm x) d s n
+  pub index : IndexWithin w s i

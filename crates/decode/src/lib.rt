@@ -32,28 +32,13 @@ pub fn decode(
     let Cells::Count(n) = shape_cells(shape) else {
         return WrittenArray::Refused(refusal::SHAPE);
     };
-    let depth = kind.depth as usize;
     let form = kind.values;
     match form {
-        Values::Fixed(size, order) => fixed::decode_fixed(
-            bytes,
-            n,
-            depth,
-            size as usize,
-            order,
-            masks,
-            values,
-            offsets,
-        ),
-        Values::Ragged(width, place) => ragged::decode_ragged(
-            bytes,
-            n,
-            depth,
-            width,
-            place,
-            masks,
-            values,
-            offsets,
-        ),
+        Values::Fixed(size, order) => {
+            fixed::decode_fixed(kind, size as usize, order, n, bytes, masks, values)
+        }
+        Values::Ragged(width, place) => {
+            ragged::decode_ragged(kind, width, place, n, bytes, masks, values, offsets)
+        }
     }
 }

@@ -2,6 +2,7 @@
 use array::answer::WrittenArray;
 use array::kind::IndexPlace;
 use array::kind::IndexWidth;
+use array::kind::Kind;
 use array::kind::width_bytes;
 use array::refusal;
 use buffer::copy::copy_many;
@@ -10,45 +11,40 @@ use spread::offsets::copy_offsets;
 use spread::offsets::spread_offsets;
 use stored::optional::Walked;
 use stored::optional::walk_content;
+use stored::vlen::Index;
 use stored::vlen::Indexed;
 use stored::vlen::check_ragged;
-use stored::vlen::data_at;
-use stored::vlen::index_at;
-use stored::vlen::index_length;
 ghost use mathlib.Core.Path.{_≡_};
-ghost use mathlib.Core.List.{[]};
-ghost use Prim.Native.Nat.{suc, _+_, _*_, _≤_};
-ghost use lib.ListN.{length, take, drop};
+ghost use mathlib.Core.List.{List};
+ghost use Prim.Native.Nat.{ℕ, _≤_};
 ghost use Rattle.array.specs.Answer.{gives};
-ghost use Rattle.array.specs.Limits.{mostCells, mostDepth};
+ghost use Rattle.array.specs.Limits.{mostCells};
 ghost use Rattle.array.specs.Kind.{ragged};
-ghost use Rattle.array.specs.Meaning.{widthOf, placeOf};
-ghost use Rattle.codec.specs.Mask.{byteMask};
-ghost use Rattle.stored.specs.Stored.{MasksWithin, innermostCount};
-ghost use Rattle.stored.specs.Index.{offsetsIn, IndexWithin};
-ghost use Rattle.codec.specs.Calls.{readIn};
+ghost use Rattle.array.specs.Content.{unmasked};
+ghost use Rattle.array.specs.Meaning.{widthOf, placeOf, masksOf};
 ghost use Rattle.array.specs.Outcome.{contentArray, outcomeArray};
+ghost use Rattle.codec.specs.Mask.{maskForm};
+ghost use Rattle.codec.specs.Calls.{readIn};
+ghost use Rattle.stored.specs.Index.{raggedAt, IndexWithin};
 ghost use Rattle.decode.specs.Outcomes.{readOutcome};
-ghost use Rattle.decode.specs.Reads.{nestedFrom, NestedWithin, raggedFrom};
+ghost use Rattle.decode.specs.Reads.{Limited, nestedFrom, raggedFrom, RaggedWithin};
 
-// Values with no mask: offsets and bytes just as they are, the index at `index` and the data at `from`.
+// Values with no mask: offsets and bytes just as they are. What is lent for masks stays.
 pub fn write_flat(
-    s: &[u8],
-    n: usize,
     width: IndexWidth,
-    index: usize,
-    from: usize,
-    last: u64,
-    masks: &mut [u8],
+    s: &[u8],
+    found: Index,
     values: &mut [u8],
     offsets: &mut [u64],
 ) -> WrittenArray
-    requires { ⌜ (n ≤ mostCells) × (index + (widthOf width + n * widthOf width) ≤ length (now s)) × (from + last ≤ length (now s)) ⌝ }
-    ensures { λ r. ⌜ outcomeArray r (now (masks .exit)) (now (values .exit)) (now (offsets .exit))
-        ≡ readOutcome (contentArray (now (masks .entry)) (now (values .entry)) (now (offsets .entry)))
-        (gives (contentArray [] (take last (drop from (now (s .entry)))) (offsetsIn (widthOf width) (suc n) (drop index (now (s .entry)))))) ⌝ }
+    requires { ⌜ (found .cells ≤ mostCells) × IndexWithin (widthOf width) (now s) found ⌝ }
+    ensures { λ r. ⌜ ((masks : List ℕ) → outcomeArray r masks (now (values .exit)) (now (offsets .exit))
+        ≡ readOutcome (contentArray masks (now (values .entry)) (now (offsets .entry))) (gives (unmasked (raggedAt (widthOf width) (now (s .entry)) found)))) ⌝ }
 {
-    let bytes = last as usize;
+    let n = found.cells;
+    let index = found.index;
+    let from = found.from;
+    let bytes = found.last as usize;
     let count = n + 1;
     if values.len() < bytes {
         return WrittenArray::Refused(refusal::OUTPUT);
@@ -56,33 +52,36 @@ pub fn write_flat(
     if offsets.len() < count {
         return WrittenArray::Refused(refusal::OUTPUT);
     }
-    copy_offsets(offsets, s, index, n, width);
     copy_many(values, 0, s, from, bytes);
+    copy_offsets(offsets, s, index, n, width);
     WrittenArray::Lengths(0, bytes, count)
 }
 
-// Values below masks, end to end from 0: the ends of the set cells are stored at `ends`, their bytes lie from `from` + first to `from` + last.
+// Values below masks, end to end from 0: the bytes from the first offset up to the last, and the ends of the set cells.
 pub fn write_nested(
-    s: &[u8],
-    n: usize,
-    depth: usize,
+    kind: Kind,
     width: IndexWidth,
-    ends: usize,
-    from: usize,
-    cells: usize,
-    first: u64,
-    last: u64,
+    n: usize,
+    s: &[u8],
+    found: Index,
     masks: &mut [u8],
     values: &mut [u8],
     offsets: &mut [u64],
 ) -> WrittenArray
-    requires { ⌜ NestedWithin depth (widthOf width) (now s) n ends from cells first last ⌝ }
+    requires within { ⌜ RaggedWithin (masksOf (kind .masks)) (widthOf width) (kind .depth) (now s) n found ⌝ }
+    requires deep { ⌜ 1 ≤ kind .depth ⌝ }
     ensures { λ r. ⌜ outcomeArray r (now (masks .exit)) (now (values .exit)) (now (offsets .exit))
         ≡ readOutcome (contentArray (now (masks .entry)) (now (values .entry)) (now (offsets .entry)))
-        (gives (nestedFrom depth (widthOf width) (now (s .entry)) n ends from cells first last)) ⌝ }
+        (gives (nestedFrom (maskForm (masksOf (kind .masks))) (widthOf width) (kind .depth) (now (s .entry)) n found)) ⌝ }
 {
+    let form = kind.masks;
+    let depth = kind.depth as usize;
+    let cells = found.cells;
+    let first = found.first;
+    let ends = found.index + width_bytes(width);
+    let start = found.from + first as usize;
     let planes = depth * n;
-    let bytes = (last - first) as usize;
+    let bytes = (found.last - first) as usize;
     let count = n + 1;
     if masks.len() < planes {
         return WrittenArray::Refused(refusal::OUTPUT);
@@ -93,96 +92,71 @@ pub fn write_nested(
     if offsets.len() < count {
         return WrittenArray::Refused(refusal::OUTPUT);
     }
-    place_planes(masks, n, depth, s);
-    spread_offsets(offsets, masks, planes - n, n, s, ends, width, first, cells);
-    let start = from + first as usize;
+    place_planes(form, masks, n, depth, s);
     copy_many(values, 0, s, start, bytes);
+    spread_offsets(offsets, masks, planes - n, n, s, ends, width, first, cells);
     WrittenArray::Lengths(planes, bytes, count)
 }
 
 // Writes what the walk and the check found.
 pub fn write_ragged(
-    s: &[u8],
-    n: usize,
-    depth: usize,
+    kind: Kind,
     width: IndexWidth,
-    index: usize,
-    from: usize,
-    cells: usize,
-    first: u64,
-    last: u64,
+    n: usize,
+    s: &[u8],
+    found: Index,
     masks: &mut [u8],
     values: &mut [u8],
     offsets: &mut [u64],
 ) -> WrittenArray
-    requires { ⌜ (1 ≤ n) × (n ≤ mostCells) × (depth ≤ mostDepth) × MasksWithin depth (now s) 0 n × (cells ≡ innermostCount depth (now s) n)
-        × IndexWithin (widthOf width) (now s) cells index from first last ⌝ }
+    requires { ⌜ RaggedWithin (masksOf (kind .masks)) (widthOf width) (kind .depth) (now s) n found ⌝ }
     ensures { λ r. ⌜ outcomeArray r (now (masks .exit)) (now (values .exit)) (now (offsets .exit))
         ≡ readOutcome (contentArray (now (masks .entry)) (now (values .entry)) (now (offsets .entry)))
-        (gives (raggedFrom depth (widthOf width) (now (s .entry)) n index from cells first last)) ⌝ }
+        (gives (raggedFrom (maskForm (masksOf (kind .masks))) (widthOf width) (kind .depth) (now (s .entry)) n found)) ⌝ }
 {
-    if depth == 0 {
-        write_flat(s, cells, width, index, from, last, masks, values, offsets)
+    if kind.depth == 0 {
+        write_flat(width, s, found, values, offsets)
     } else {
-        write_nested(
-            s,
-            n,
-            depth,
-            width,
-            index + width_bytes(width),
-            from,
-            cells,
-            first,
-            last,
-            masks,
-            values,
-            offsets,
-        )
+        write_nested(kind, width, n, s, found, masks, values, offsets)
     }
 }
 
 // Reads an array of n cells with ragged values.
 pub fn decode_ragged(
-    s: &[u8],
-    n: usize,
-    depth: usize,
+    kind: Kind,
     width: IndexWidth,
     place: IndexPlace,
+    n: usize,
+    s: &[u8],
     masks: &mut [u8],
     values: &mut [u8],
     offsets: &mut [u64],
 ) -> WrittenArray
-    requires { ⌜ (1 ≤ n) × (n ≤ mostCells) × (depth ≤ mostDepth) ⌝ }
+    requires { ⌜ Limited (kind .depth) n ⌝ }
     ensures { λ r. ⌜ outcomeArray r (now (masks .exit)) (now (values .exit)) (now (offsets .exit))
         ≡ readOutcome (contentArray (now (masks .entry)) (now (values .entry)) (now (offsets .entry)))
-        (readIn byteMask (ragged (widthOf width) (placeOf place)) depth n (now (s .entry))) ⌝ }
+        (readIn (maskForm (masksOf (kind .masks))) (ragged (widthOf width) (placeOf place)) (kind .depth) n (now (s .entry))) ⌝ }
 {
-    let walk = walk_content(s, 0, n, depth);
+    let form = kind.masks;
+    let walk = walk_content(form, s, 0, n, kind.depth as usize);
     match walk {
         Walked::Refused(e) => WrittenArray::Refused(e),
-        Walked::NoneSet => write_nested(s, n, depth, width, 0, 0, 0, 0, 0, masks, values, offsets),
+        Walked::NoneSet => {
+            let none = Index {
+                cells: 0,
+                index: 0,
+                from: 0,
+                first: 0,
+                last: 0,
+            };
+            write_nested(kind, width, n, s, none, masks, values, offsets)
+        }
         Walked::Values(at, cells) => {
             let checked = check_ragged(s, at, cells, width, place);
             match checked {
                 Indexed::Refused(e) => WrittenArray::Refused(e),
-                Indexed::Span(first, last) => {
-                    let size = index_length(cells, width);
-                    let index = at + index_at(place, s.len() - at, size);
-                    let from = at + data_at(place, size);
-                    write_ragged(
-                        s,
-                        n,
-                        depth,
-                        width,
-                        index,
-                        from,
-                        cells,
-                        first,
-                        last,
-                        masks,
-                        values,
-                        offsets,
-                    )
+                Indexed::Found(found) => {
+                    write_ragged(kind, width, n, s, found, masks, values, offsets)
                 }
             }
         }

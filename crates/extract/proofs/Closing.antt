@@ -14,12 +14,13 @@ use Rattle.array.specs.Subset.{Subset, SubsetOk, cellsIn}
 use Rattle.array.specs.Cells.{Value, Cell, maskOf, leaf, blank}
 use Rattle.array.specs.Offsets.{slices, slicesFrom}
 use Rattle.array.specs.Content.{Content, ContentOk, ValuesOk, masksOf, leaves, offsetsFor, pairUp, attach, valuesIn, cellsOf, nullCell}
+use Rattle.array.specs.Places.{fixedAt, offsetAt}
 use Rattle.array.proofs.SubsetLaws.{cellsIn-below}
 use Rattle.array.proofs.LayoutLaws.{content-path, inners-pairUp, first-plane, later-planes, length-attach, leaves-attach, values-length}
 use Rattle.chunks.specs.Gather.{gather}
 use Rattle.chunks.specs.Cut.{cutOf}
 use Rattle.chunks.proofs.Gather.{gather-map}
-use Rattle.extract.specs.Places.{fixedAt, offsetAt, beginsAt, valueAt, valuesAt, planesAt}
+use Rattle.extract.specs.Places.{beginsAt, valueAt, valuesAt, planesAt}
 use Rattle.extract.proofs.Places.{fixed-step}
 
 -- what is gathered at places below n, by what stands there

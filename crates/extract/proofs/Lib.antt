@@ -1,4 +1,5 @@
 pub mod Places
+pub mod Counting
 pub mod Walk
 pub mod Closing
 pub mod Forms

@@ -11,7 +11,8 @@ use lib.Seq.{take-add, drop-drop, length-take-le}
 use Rattle.array.specs.Lists.{from, joined, All}
 use Rattle.array.specs.Cells.{Value}
 use Rattle.array.specs.Offsets.{ends}
-use Rattle.extract.specs.Places.{fixedAt, Rises, stepAt, valueAt, bytesAt, valuesAt}
+use Rattle.array.specs.Places.{fixedAt}
+use Rattle.extract.specs.Places.{Rises, stepAt, valueAt, bytesAt, valuesAt}
 
 -- ---- lists of values, one part after another
 

@@ -7,21 +7,22 @@ use native.Mathlib.Numerals.{add-one}
 use native.Mathlib.Omega.{arith}
 use mathlib.Core.List.{List, [], _∷_, _++_, map}
 use lib.ListN.{length, take, drop, getD, set, length-append, length-map}
-use Rattle.array.specs.Limits.{mostBytes, mostCells}
+use Rattle.array.specs.Limits.{mostCells}
 use Rattle.array.specs.Lists.{from, joined, All}
 use Rattle.array.specs.Shape.{volume}
 use Rattle.array.specs.Subset.{pairs, cellsIn}
 use Rattle.array.specs.Offsets.{ends}
 use Rattle.array.specs.Buffers.{over, overAt}
+use Rattle.array.specs.Places.{fixedAt}
 use Rattle.array.proofs.Lists.{map-append, joined-append, length-from}
 use Rattle.array.proofs.Offsets.{length-ends}
 use Rattle.array.proofs.Over.{over-store, over-again}
 use Rattle.array.proofs.Laying.{Laying, laying-begins, laying-same, laying-ends, laying-left, laying-part, laying-store, laying-is, laying-room}
 use Rattle.subset.proofs.Index.{few-drop, few-within}
 use Rattle.subset.proofs.Rows.{within-cells, within-below, Left, left-begins, left-next, left-more, left-ends, left-room, left-within}
-use Rattle.extract.specs.Places.{fixedAt, Rises, stepAt, bytesAt, valuesAt, planesAt}
+use Rattle.extract.specs.Places.{Rises, stepAt, valuesAt, planesAt}
 use Rattle.extract.specs.Asked.{SubsetAsked}
-use Rattle.extract.proofs.Places.{ends-append, bytes-append, fixed-rises, fixed-total, run-rises, run-below, run-bytes, run-long, run-total, run-ends, bytes-long}
+use Rattle.extract.proofs.Places.{ends-append, fixed-rises, fixed-total, run-rises, run-below, run-bytes, run-long, run-ends, bytes-long}
 
 -- ---- what a subset that is asked for has
 
@@ -226,35 +227,6 @@ module _ (base k v : ℕ) (s cs : List ℕ) (p : All (λ j. j < v) cs) (l : base
 
     pub fixed-copied : (out′ : List ℕ) → out′ ≡ overAt (to + done) (take (n * k) (drop (base + b * k) s)) out → Copied (fixedAt base k) s cs d to out′ cells n (at + n) (done + n * k)
     fixed-copied out′ r = row-copied (fixedAt base k) v (fixed-rises base k v) s cs p l cells n at g h d to out done c (base + b * k) (n * k) fixed-begin fixed-between out′ r
-
--- ---- how many bytes: the cells before `at` have so many
-
-pub record Summed (off : ℕ → ℕ) (cs : List ℕ) (cells n at total : ℕ) : Type 0 where
-  pub geo : Left cs cells n at
-  pub same : bytesAt off cs ≡ total + bytesAt off (drop at cs)
-  pub small : total ≤ at * 16777216
-
-pub summed-begins : (off : ℕ → ℕ) (cs : List ℕ) (cells n : ℕ) → Left cs cells n 0 → Summed off cs cells n 0 0
-summed-begins off cs cells n g = record { geo = g; same = omega arith; small = omega arith }
-
-pub summed-ends : (off : ℕ → ℕ) (cs : List ℕ) (cells n at total : ℕ) → Summed off cs cells n at total → cells ≤ at → total ≡ bytesAt off cs
-summed-ends off cs cells n at total c h = omega (arith, c .same, ap (bytesAt off) (left-ends cs cells n at (c .geo) h))
-
-pub summed-more : (off : ℕ → ℕ) (v : ℕ) (r : Rises off v) (cs : List ℕ) (p : All (λ j. j < v) cs) → off v ≤ mostBytes → (cells n at total : ℕ)
-    → (c : Summed off cs cells n at total) → at < cells → (k : ℕ) → k ≡ off (getD cs at 0 + n) - off (getD cs at 0) → Summed off cs cells n (at + n) (total + k)
-unfolding mostBytes
-summed-more off v r cs p l cells n at total c h k e =
-    let a : ℕ = getD cs at 0 in
-    let w : a + n ≤ v = left-room cs cells n at (c .geo) h v p in
-    let t : bytesAt off (drop at cs) ≡ k + bytesAt off (drop (at + n) cs) =
-    ap (bytesAt off) (left-next cs cells n at (c .geo) h) ∙ bytes-append off (from a n) (drop (at + n) cs)
-    ∙ ap (λ (x : ℕ). x + bytesAt off (drop (at + n) cs)) (run-total off v r a n w ∙ sym e) in
-    let top : off (a + n) ≤ off v = run-below off v r a n w in
-    record {
-      geo = left-more cs cells n at (c .geo) h;
-      same = omega (arith, c .same, t);
-      small = omega (arith, c .small, c .geo .some (omega arith));
-    }
 
 -- ---- level by level: l of d planes are copied
 

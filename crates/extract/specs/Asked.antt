@@ -10,7 +10,8 @@ use Rattle.array.specs.Kind.{Kind, Form, fixed, ragged}
 use Rattle.array.specs.Shape.{volume, ShapeOk}
 use Rattle.array.specs.Rows.{Within}
 use Rattle.array.specs.Content.{Content, ContentOk, offsetsFor}
-use Rattle.extract.specs.Places.{beginsAt, offsetAt, Rises, valuesAt}
+use Rattle.array.specs.Places.{offsetAt}
+use Rattle.extract.specs.Places.{beginsAt, Rises, valuesAt}
 
 -- a subset of so many cells, within its shape
 pub record SubsetAsked (shape starts lens : List ℕ) (count : ℕ) : Type 0 where

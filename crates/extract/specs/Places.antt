@@ -3,17 +3,11 @@
 -- Assumes nothing.
 use Prim.Native.Nat.{ℕ, zero, suc, _+_, _-_, _*_, _≤_, _<_}
 use mathlib.Core.List.{List, [], _∷_, _++_, map}
-use lib.ListN.{take, drop, getD}
+use lib.ListN.{take, drop}
 use Rattle.array.specs.Lists.{joined}
 use Rattle.array.specs.Kind.{Form, fixed, ragged}
 use Rattle.array.specs.Cells.{Value}
-
--- cells of k bytes, the first at base
-abbrev pub fixedAt : ℕ → ℕ → ℕ → ℕ
-fixedAt base k j = base + j * k
-
-abbrev pub offsetAt : List ℕ → ℕ → ℕ
-offsetAt os j = getD os j 0
+use Rattle.array.specs.Places.{fixedAt, offsetAt}
 
 abbrev pub beginsAt : Form → List ℕ → ℕ → ℕ
 beginsAt (fixed k o) os = fixedAt 0 k

@@ -1,16 +1,16 @@
 -- Lists by the numbers of their elements: planes, pieces, and the cells that level 0 counts.
 -- Assumes nothing.
-use mathlib.Core.Path.{_≡_, refl, sym, ap, ap₂, _∙_}
-use Prim.Native.Nat.{ℕ, zero, suc, _+_, _*_, _<_, _≤_}
+use mathlib.Core.Path.{_≡_, refl, sym, ap, _∙_}
+use Prim.Native.Nat.{ℕ, zero, suc, _+_, _*_, _≤_}
 use native.Mathlib.Nat.{suc-mul}
 use native.Mathlib.Omega.{arith}
 use mathlib.Core.Bool.{true}
-use mathlib.Core.List.{List, [], _∷_, map}
+use mathlib.Core.List.{List, _∷_, map}
 use lib.ListN.{length, getD, take, drop, length-drop}
 use lib.Seq.{getD-drop, getD-take, drop-drop, length-take-le}
 use Rattle.array.specs.Lists.{from, pieces}
 use Rattle.array.specs.Cells.{Value}
-use Rattle.array.proofs.Lists.{All-of}
+use Rattle.array.proofs.Lists.{All-of, map-from, in-place}
 use Rattle.array.proofs.Geometry.{passing-all}
 use Rattle.gather.specs.Live.{maskAt, liveAt}
 use Rattle.gather.specs.Pieces.{pieceAt}
@@ -18,19 +18,6 @@ use Rattle.gather.specs.Pieces.{pieceAt}
 -- ---- lists by their elements
 
 module _ {A : Type 0} where
-  pub map-from : (f g : ℕ → A) (a n : ℕ) → ((i : ℕ) → i < a + n → f i ≡ g i) → map f (from a n) ≡ map g (from a n)
-  map-from f g a zero e = refl
-  map-from f g a (suc n) e =
-      ap₂ (λ (x : A) (r : List A). x ∷ r) (e a (omega arith)) (map-from f g (suc a) n (λ i h. e i (omega arith)))
-
-  pub from-suc : (f : ℕ → A) (a n : ℕ) → map f (from (suc a) n) ≡ map (λ i. f (suc i)) (from a n)
-  from-suc f a zero = refl
-  from-suc f a (suc n) = ap (λ (r : List A). f (suc a) ∷ r) (from-suc f (suc a) n)
-
-  in-place : (z : A) (xs : List A) → map (λ i. getD xs i z) (from 0 (length xs)) ≡ xs
-  in-place z [] = refl
-  in-place z (x ∷ xs) = ap (λ (r : List A). x ∷ r) (from-suc (λ i. getD (x ∷ xs) i z) 0 (length xs) ∙ in-place z xs)
-
   pub by-index : (z : A) (xs : List A) (n : ℕ) → length xs ≡ n → xs ≡ map (λ i. getD xs i z) (from 0 n)
   by-index z xs n e = sym (in-place z xs) ∙ ap (λ (m : ℕ). map (λ i. getD xs i z) (from 0 m)) e
 

@@ -13,10 +13,10 @@ use Rattle.array.specs.Lists.{pick, from, joined, passing}
 use Rattle.array.specs.Buffers.{overAt}
 use Rattle.array.specs.Bytes.{le}
 use Rattle.array.proofs.Bytes.{length-le}
-use Rattle.array.proofs.Lists.{map-cong, map-id, map-map}
+use Rattle.array.proofs.Lists.{map-cong, map-id, map-map, from-suc}
 use Rattle.array.proofs.Laying.{Laying, laying-begins, laying-same, laying-left, laying-ends, laying-part, laying-is}
 use Rattle.codec.specs.Ragged.{indexOf}
-use Rattle.gather.proofs.Numbered.{from-suc, by-index}
+use Rattle.gather.proofs.Numbered.{by-index}
 use Rattle.gather.proofs.Packing.{Packing, packing-begins, packing-same, packing-ends, packing-cell, packing-room, packing-more}
 use Rattle.gather_ragged.specs.Slices.{Offsets, spanAt, endsAt, NoneBelow, lessBy}
 use Rattle.gather_ragged.proofs.Spans.{step-le, range-le}

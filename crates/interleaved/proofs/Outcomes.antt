@@ -20,7 +20,7 @@ use Rattle.array.specs.Buffers.{RaggedLengths, raggedLengthsOf, over, raggedOut
 use Rattle.array.specs.Outcome.{contentRagged}
 use Rattle.array.proofs.Offsets.{length-ends}
 use Rattle.codec.specs.Calls.{interleavedAnswer, interleavedDecoded}
-use Rattle.interleaved.specs.Walk.{totalOf, storedCells, walkAnswer, given, found, Walked, cellsAnswer}
+use Rattle.interleaved.specs.Walk.{totalOf, storedCells, walkAnswer, given, found, Walked, foundAnswer}
 use Rattle.interleaved.proofs.Steps.{never, length-cells}
 
 -- a refusal leaves the outputs as they were
@@ -39,7 +39,7 @@ zero-ends (v ∷ vs) e =
 
 module _ {n : ℕ} {s : List ℕ} {sum : ℕ} (w : Walked n s sum) (old : RaggedContent) where
   abbrev cellsOutcome : Outcome RaggedLengths RaggedContent
-  cellsOutcome = raggedOutcome (cellsAnswer (found n s) (raggedLengthsOf old)) old
+  cellsOutcome = raggedOutcome (foundAnswer (found n s) (raggedLengthsOf old)) old
 
   -- one offset more than cells
   count : length (offsetsOf (found n s)) ≡ n + 1
@@ -124,6 +124,6 @@ module _ (n : ℕ) (s : List ℕ) (old : RaggedContent) where
         past-end e w = rw (le-leb n mostCells h, room, eq-eqb (unle (take 4 s)) n f, walk-refused n s e w)
 
         pub all-found : (sum : ℕ) → gives sum ≡ walkAnswer n s → {o : Outcome RaggedLengths RaggedContent}
-            → o ≡ raggedOutcome (cellsAnswer (found n s) (raggedLengthsOf old)) old → o ≡ interleavedDecoded n s old
+            → o ≡ raggedOutcome (foundAnswer (found n s) (raggedLengthsOf old)) old → o ≡ interleavedDecoded n s old
         unfolding interleavedDecoded interleavedAnswer
         all-found sum w e = rw (le-leb n mostCells h, room, eq-eqb (unle (take 4 s)) n f, walk-found n s sum h w .all) e

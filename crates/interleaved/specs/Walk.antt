@@ -7,9 +7,8 @@ use lib.ListN.{length, drop}
 use Rattle.array.specs.Answer.{Answer, gives, refuses, unless, mapAnswer}
 use Rattle.array.specs.Limits.{mostCells}
 use Rattle.array.specs.Lists.{joined}
-use Rattle.array.specs.Offsets.{offsetsOf}
 use Rattle.array.specs.Cells.{Value}
-use Rattle.array.specs.Content.{RaggedContent, sizeTest}
+use Rattle.array.specs.Content.{RaggedContent, endToEnd, sizeTest}
 use Rattle.array.specs.Buffers.{RaggedLengths, raggedEnoughTest}
 use Rattle.codec.specs.Interleaved.{interleavedCells}
 use Rattle.interleaved.specs.declared.vlen_v2.Walk.{Walk}
@@ -26,9 +25,9 @@ totalOf vs = length (joined vs)
 abbrev pub walkAnswer : ℕ → List ℕ → Answer ℕ
 walkAnswer n s = mapAnswer totalOf (storedCells n s)
 
-abbrev pub toldWalk : Walk → Answer ℕ
-toldWalk (Walk.Sum n) = gives n
-toldWalk (Walk.Refused e) = refuses e
+abbrev pub toldSum : Walk → Answer ℕ
+toldSum (Walk.Sum n) = gives n
+toldSum (Walk.Refused e) = refuses e
 
 -- the cells, where the walk refused nothing
 abbrev pub given : Answer (List Value) → List Value
@@ -48,8 +47,5 @@ pub record Walked (n : ℕ) (s : List ℕ) (sum : ℕ) : Type 0 where
   pub total : sum ≡ totalOf (found n s)
 
 -- what becomes of the cells: 5, and last 6
-abbrev pub cellsContent : List Value → RaggedContent
-cellsContent vs = record { values = joined vs; offsets = offsetsOf vs }
-
-abbrev pub cellsAnswer : List Value → RaggedLengths → Answer RaggedContent
-cellsAnswer vs room = unless (sizeTest (totalOf vs)) 5 (unless (raggedEnoughTest (cellsContent vs) room) 6 (gives (cellsContent vs)))
+abbrev pub foundAnswer : List Value → RaggedLengths → Answer RaggedContent
+foundAnswer vs room = unless (sizeTest (totalOf vs)) 5 (unless (raggedEnoughTest (endToEnd vs) room) 6 (gives (endToEnd vs)))

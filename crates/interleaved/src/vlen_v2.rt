@@ -16,7 +16,7 @@ ghost use Rattle.array.specs.Offsets.{offsetsOf};
 ghost use Rattle.array.specs.Buffers.{over, raggedOutcome, raggedLengthsOf};
 ghost use Rattle.array.specs.Outcome.{contentRagged, outcomeRagged};
 ghost use Rattle.codec.specs.Calls.{interleavedDecoded};
-ghost use Rattle.interleaved.specs.Walk.{toldWalk, walkAnswer, totalOf, found, Found, Walked, cellsAnswer};
+ghost use Rattle.interleaved.specs.Walk.{toldSum, walkAnswer, totalOf, found, Found, Walked, foundAnswer};
 
 // What the checking walk over the stored cells finds: how many value bytes they have, or the refusal.
 pub enum Walk {
@@ -27,7 +27,7 @@ pub enum Walk {
 // Each length is held against what is left, so that no position wraps; the sum stays below the position.
 // An empty cell, and one as long as the one before, has a branch of its own: there the next place does not wait for the length.
 fn walk_cells(bytes: &[u8], cells: usize) -> Walk
-    ensures { λ r. ⌜ toldWalk r ≡ walkAnswer cells (now (bytes .entry)) ⌝ }
+    ensures { λ r. ⌜ toldSum r ≡ walkAnswer cells (now (bytes .entry)) ⌝ }
 {
     let mut left = cells;
     let mut at: usize = 4;
@@ -94,7 +94,7 @@ fn write_cells(
 ) -> WrittenRagged
     requires { ⌜ Walked cells (now bytes) sum ⌝ }
     ensures { λ r. ⌜ outcomeRagged r (now (values .exit)) (now (offsets .exit))
-        ≡ raggedOutcome (cellsAnswer (found cells (now (bytes .entry))) (raggedLengthsOf (contentRagged (now (values .entry)) (now (offsets .entry)))))
+        ≡ raggedOutcome (foundAnswer (found cells (now (bytes .entry))) (raggedLengthsOf (contentRagged (now (values .entry)) (now (offsets .entry)))))
         (contentRagged (now (values .entry)) (now (offsets .entry))) ⌝ }
 {
     if sum > array_bytes::MOST_BYTES {

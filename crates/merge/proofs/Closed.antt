@@ -16,11 +16,12 @@ use Rattle.array.specs.Cells.{Cell, blank}
 use Rattle.array.specs.Content.{Content, leaves}
 use Rattle.array.specs.Buffers.{Lengths, lengthsOf, enoughTest, over, contentOutcome}
 use Rattle.array.specs.Outcome.{contentArray}
+use Rattle.array.specs.Places.{fixedAt, offsetAt}
 use Rattle.chunks.specs.Chunks.{mergeOf}
 use Rattle.cover.proofs.SubsetWalk.{all-inside}
-use Rattle.merge_stores.specs.Scatter.{scatter, places, fixedAt}
+use Rattle.merge_stores.specs.Scatter.{scatter, places}
 use Rattle.merge_stores.specs.Store.{parts, masksMerged, MasksAsked, PartsAsked}
-use Rattle.merge_stores.specs.Ragged.{offsetAt, raggedParts, offsetsMerged, RaggedMergeAsked}
+use Rattle.merge_stores.specs.Ragged.{raggedParts, offsetsMerged, RaggedMergeAsked}
 use Rattle.merge_stores.proofs.Closing.{masks-close, fixed-close, offsets-close, values-close}
 use Rattle.merge_stores.proofs.RaggedAsks.{ragged-asked}
 use Rattle.merge.specs.Merge.{Sizes, storeAnswer, MergeAsked}

@@ -15,7 +15,7 @@ use Rattle.array.specs.Shape.{volume}
 use Rattle.array.specs.Subset.{Subset, SubsetOk, cellsOfAll}
 use Rattle.array.specs.Cells.{Value, Cell, leaf, blank}
 use Rattle.array.specs.Content.{Content, masksOf, leaves}
-use Rattle.array.proofs.Lists.{All-of, All-image, length-from, length-joined}
+use Rattle.array.proofs.Lists.{All-of, All-image, length-from, length-joined, map-from}
 use Rattle.array.proofs.Sizes.{null-sized}
 use Rattle.array.proofs.Offsets.{length-ends}
 use Rattle.array.proofs.RestLaws.{leaf-blank}
@@ -23,7 +23,6 @@ use Rattle.array.proofs.LayoutLaws.{length-masksOf}
 use Rattle.array.proofs.SubsetLaws.{all-below}
 use Rattle.chunks.specs.Gather.{lookup, putBack, Once}
 use Rattle.chunks.specs.Chunks.{chunkCells}
-use Rattle.chunks.proofs.Gather.{map-from}
 use Rattle.merge_stores.specs.Ragged.{sum}
 use Rattle.merge_stores.proofs.Blocks as blocks
 use Rattle.merge_stores.proofs.Levels.{putBack-map, length-all}

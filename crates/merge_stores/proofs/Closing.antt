@@ -15,15 +15,15 @@ use Rattle.array.specs.Lists.{All, joined, pieces, from, count}
 use Rattle.array.specs.Offsets.{offsetsOf}
 use Rattle.array.specs.Shape.{volume}
 use Rattle.array.specs.Subset.{Subset, lengths, cellsOfAll, SubsetOk}
+use Rattle.array.specs.Places.{fixedAt, offsetAt}
 use Rattle.array.proofs.LayoutLaws.{leaves-attach, length-attach, values-length, values-sized}
-use Rattle.array.proofs.Lists.{map-append, joined-append, All-append}
+use Rattle.array.proofs.Lists.{map-append, joined-append, All-append, map-from}
 use Rattle.array.proofs.SubsetLaws.{all-below}
 use Rattle.array.proofs.Sums.{sumOf, sum-count}
 use Rattle.chunks.specs.Chunks.{firstChunk, laterChunks, chunkCells, nothingTest}
 use Rattle.chunks.specs.Gather.{lookup, putBack, Once}
-use Rattle.chunks.proofs.Gather.{map-from}
-use Rattle.merge_stores.specs.Ragged.{offsetAt, sums, sum, raggedParts, stepParts}
-use Rattle.merge_stores.specs.Scatter.{scatter, places, fixedAt}
+use Rattle.merge_stores.specs.Ragged.{sums, sum, raggedParts, stepParts}
+use Rattle.merge_stores.specs.Scatter.{scatter, places}
 use Rattle.merge_stores.specs.Store.{parts, levelAt, masksMerged, cellsTotal}
 use Rattle.merge_stores.proofs.Blocks.{fixed-block}
 use Rattle.merge_stores.proofs.FirstChunk.{first-of}

@@ -10,11 +10,12 @@ use lib.Seq.{length-take-le, drop-drop, getD-drop}
 use Rattle.array.specs.Rows.{nextSubsets}
 use Rattle.array.specs.Shape.{volume}
 use Rattle.array.specs.Subset.{Subset, lengths, cellsIn, cellsOfAll, pairs}
+use Rattle.array.specs.Places.{fixedAt, offsetAt}
 use Rattle.array.proofs.SubsetLaws.{length-cellsIn}
 use Rattle.array.proofs.SubsetLists.{startsAt, lengthsAt}
 use Rattle.cover.proofs.SubsetWalk.{SubsetsLeft, rest, rest-begins, rest-ends, subsets-begin, subsets-more, subset-now, now-within, now-lengths}
-use Rattle.merge_stores.specs.Ragged.{offsetAt, steps, stepParts, LengthsAsked, LengthChunks, LengthsAllAsked}
-use Rattle.merge_stores.specs.Scatter.{scatter, places, fixedAt}
+use Rattle.merge_stores.specs.Ragged.{steps, stepParts, LengthsAsked, LengthChunks, LengthsAllAsked}
+use Rattle.merge_stores.specs.Scatter.{scatter, places}
 use Rattle.merge_stores.proofs.PartsStored.{scatter-enough, length-places}
 use Rattle.merge_stores.proofs.RaggedTies.{length-steps}
 use Rattle.merge_stores.proofs.Scattering.{length-scatter, scatter-then, places-append}

@@ -16,13 +16,13 @@ use Rattle.array.specs.Kind.{byteKind, Kind, Form}
 use Rattle.array.specs.Lists.{All, joined, from, pick}
 use Rattle.array.specs.Shape.{volume}
 use Rattle.array.specs.Subset.{Subset, lengths, cellsIn, cellsOfAll, SubsetOk}
+use Rattle.array.specs.Places.{fixedAt}
 use Rattle.array.proofs.LayoutLaws.{inners-pairUp, length-attach, values-length}
-use Rattle.array.proofs.Lists.{map-append, map-map, map-cong, take-within}
+use Rattle.array.proofs.Lists.{map-append, map-map, map-cong, take-within, from-suc}
 use Rattle.array.proofs.SubsetLaws.{length-cellsIn}
 use Rattle.chunks.specs.Chunks.{firstChunk, laterChunks, chunkCells, nothingTest}
 use Rattle.chunks.specs.Gather.{lookup, putBack, Once}
-use Rattle.chunks.proofs.Gather.{from-suc}
-use Rattle.merge_stores.specs.Scatter.{scatter, places, fixedAt}
+use Rattle.merge_stores.specs.Scatter.{scatter, places}
 use Rattle.merge_stores.specs.Store.{parts, levelAt, cellsTotal}
 use Rattle.merge_stores.proofs.Blocks.{fixed-block}
 use Rattle.merge_stores.proofs.FirstChunk.{first-of}

@@ -12,11 +12,12 @@ use Rattle.array.specs.Lists.{All, joined, from}
 use Rattle.array.specs.Rows.{nextSubsets}
 use Rattle.array.specs.Shape.{volume}
 use Rattle.array.specs.Subset.{Subset, cellsOfAll, SubsetOk}
+use Rattle.array.specs.Places.{fixedAt}
 use Rattle.array.proofs.Lists.{map-append, joined-append, length-from}
 use Rattle.array.proofs.SubsetLaws.{all-below}
 use Rattle.chunks.specs.Gather.{putBack}
 use Rattle.cover.proofs.SubsetWalk.{all-inside}
-use Rattle.merge_stores.specs.Scatter.{scatter, places, fixedAt}
+use Rattle.merge_stores.specs.Scatter.{scatter, places}
 use Rattle.merge_stores.specs.Store.{parts, cellsTotal, masksMerged, MasksAsked, PartsAsked}
 use Rattle.merge_stores.proofs.Levels.{level-block, length-parts, length-all}
 use Rattle.merge_stores.proofs.Scattering.{from-append, length-scatter}

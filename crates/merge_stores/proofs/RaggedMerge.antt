@@ -13,9 +13,10 @@ use borrow.Author.Tests.{eq-eqb}
 use Rattle.array.specs.Cells.{Value}
 use Rattle.array.specs.Lists.{All, joined, from, pick, count}
 use Rattle.array.specs.Offsets.{ends, offsetsOf}
+use Rattle.array.specs.Places.{offsetAt}
 use Rattle.array.proofs.Lists.{length-from}
 use Rattle.chunks.specs.Gather.{lookup, putBack, Once}
-use Rattle.merge_stores.specs.Ragged.{offsetAt, sums, sum}
+use Rattle.merge_stores.specs.Ragged.{sums, sum}
 use Rattle.merge_stores.specs.Scatter.{scatter, places}
 use Rattle.merge_stores.proofs.Blocks.{sum-append, Beside, merged-block}
 use Rattle.merge_stores.proofs.Levels.{putBack-map}

@@ -11,10 +11,11 @@ use Rattle.array.specs.Buffers.{overAt}
 use Rattle.array.specs.Lists.{from}
 use Rattle.array.specs.Shape.{volume}
 use Rattle.array.specs.Subset.{cellsIn, pairs}
+use Rattle.array.specs.Places.{offsetAt}
 use Rattle.array.proofs.Lists.{length-from}
 use Rattle.subset.proofs.Rows.{Left, left-next, left-within, left-room, within-below}
 use Rattle.array.proofs.SubsetLaws.{length-cellsIn, lengths-pairs}
-use Rattle.merge_stores.specs.Ragged.{offsetAt, RisesFor, RaggedAsked}
+use Rattle.merge_stores.specs.Ragged.{RisesFor, RaggedAsked}
 use Rattle.merge_stores.proofs.RowsStored.{Store, store-begins, store-more}
 use Rattle.merge_stores.proofs.Scattering.{Steps}
 

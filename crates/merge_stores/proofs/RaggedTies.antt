@@ -16,12 +16,13 @@ use Rattle.array.specs.Lists.{All, joined}
 use Rattle.array.specs.Offsets.{last, lastFrom, Rising, RisingFrom, slices, slicesFrom}
 use Rattle.array.specs.Shape.{volume}
 use Rattle.array.specs.Subset.{Subset, lengths, cellsIn, cellsOfAll, SubsetOk}
+use Rattle.array.specs.Places.{offsetAt}
 use Rattle.array.proofs.LayoutLaws.{leaves-attach, values-length}
 use Rattle.array.proofs.Lists.{map-append, joined-append, take-within}
 use Rattle.array.proofs.Offsets.{rising-le}
 use Rattle.array.proofs.SubsetLaws.{length-cellsIn}
 use Rattle.chunks.specs.Chunks.{firstChunk, laterChunks, chunkCells, nothingTest}
-use Rattle.merge_stores.specs.Ragged.{offsetAt, RisesFor, RaggedChunks, raggedParts, stepsFrom, steps, stepParts}
+use Rattle.merge_stores.specs.Ragged.{RisesFor, RaggedChunks, raggedParts, stepsFrom, steps, stepParts}
 use Rattle.merge_stores.proofs.FirstChunk.{first-of}
 
 -- ---- values between offsets that never fall

@@ -11,12 +11,13 @@ use Rattle.array.specs.Lists.{All, from}
 use Rattle.array.specs.Rows.{nextSubsets}
 use Rattle.array.specs.Shape.{volume}
 use Rattle.array.specs.Subset.{Subset, cellsOfAll, SubsetOk}
+use Rattle.array.specs.Places.{fixedAt, offsetAt}
 use Rattle.array.proofs.Lists.{length-from}
 use Rattle.array.proofs.SubsetLaws.{all-below}
 use Rattle.chunks.specs.Gather.{lookup, putBack}
 use Rattle.cover.proofs.SubsetWalk.{all-inside}
-use Rattle.merge_stores.specs.Ragged.{offsetAt, sums, sum, stepParts, offsetsMerged, RaggedMergeAsked, RaggedAllAsked}
-use Rattle.merge_stores.specs.Scatter.{scatter, places, fixedAt}
+use Rattle.merge_stores.specs.Ragged.{sums, sum, stepParts, offsetsMerged, RaggedMergeAsked, RaggedAllAsked}
+use Rattle.merge_stores.specs.Scatter.{scatter, places}
 use Rattle.merge_stores.proofs.Blocks.{sum-append}
 use Rattle.merge_stores.proofs.Levels.{level-block}
 use Rattle.merge_stores.proofs.RaggedMerge.{offset-is, length-sums}

@@ -9,9 +9,10 @@ use lib.ListN.{length, getD, take, drop, length-drop}
 use lib.Seq.{paste, length-paste, drop-drop}
 use Rattle.array.specs.Lists.{from}
 use Rattle.array.specs.Buffers.{overAt}
+use Rattle.array.specs.Places.{fixedAt}
 use Rattle.array.proofs.Over.{paste-over}
 use Rattle.subset.proofs.Rows.{Left, left-next, left-more, left-ends}
-use Rattle.merge_stores.specs.Scatter.{scatter, places, fixedAt}
+use Rattle.merge_stores.specs.Scatter.{scatter, places}
 use Rattle.merge_stores.proofs.Scattering.{scatter-next, places-append, places-run, Steps}
 
 -- the rows before `at` are stored, `done` bytes of the chunk

@@ -11,10 +11,10 @@ use lib.Seq.{paste, take-suc-set, drop-set-lt, append-snoc, length-take-le, getD
 use lib.Dec.{eqb}
 use borrow.Author.Tests.{eqb-true, eqb-false}
 use Rattle.array.specs.Lists.{from, pick, count}
-use Rattle.array.proofs.Lists.{length-from}
+use Rattle.array.proofs.Lists.{length-from, map-from}
 use Rattle.array.proofs.Geometry as geometry
 use Rattle.chunks.specs.Gather.{lookup, putBack}
-use Rattle.chunks.proofs.Gather.{map-from, gather-all}
+use Rattle.chunks.proofs.Gather.{gather-all}
 use Rattle.merge_stores.specs.Scatter.{scatter, places}
 
 -- ---- scatter

@@ -8,12 +8,9 @@ use Rattle.array.specs.Limits.{mostBytes}
 use Rattle.array.specs.Shape.{volume, ShapeOk}
 use Rattle.array.specs.Subset.{Subset, lengths, pairs, cellsIn, cellsOfAll}
 use Rattle.array.specs.Rows.{Within, nextSubsets}
+use Rattle.array.specs.Places.{offsetAt}
 use Rattle.chunks.specs.Gather.{putBack, Once}
 use Rattle.cover.specs.Asked.{SubsetsOk}
-
--- offset j: where cell j begins
-abbrev pub offsetAt : List ℕ → ℕ → ℕ
-offsetAt os j = getD os j 0
 
 -- ---- value bytes
 

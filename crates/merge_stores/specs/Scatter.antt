@@ -1,6 +1,6 @@
 -- A merge by stores (document 01, item 6): each element is stored at its place.
 -- Assumes nothing.
-use Prim.Native.Nat.{ℕ, suc, _+_, _-_, _*_}
+use Prim.Native.Nat.{ℕ, suc, _-_}
 use mathlib.Core.List.{List, [], _∷_, _++_}
 use lib.ListN.{set}
 use Rattle.array.specs.Lists.{from}
@@ -14,7 +14,3 @@ scatter acc (j ∷ js) (x ∷ xs) = scatter (set acc j x) js xs
 abbrev pub places : (ℕ → ℕ) → List ℕ → List ℕ
 places off [] = []
 places off (j ∷ js) = from (off j) (off (suc j) - off j) ++ places off js
-
--- cells of k bytes each, from base on
-abbrev pub fixedAt : ℕ → ℕ → ℕ → ℕ
-fixedAt base k j = base + j * k

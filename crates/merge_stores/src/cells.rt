@@ -6,7 +6,8 @@ ghost use lib.ListN.{length, drop};
 ghost use Rattle.array.specs.Shape.{volume};
 ghost use Rattle.array.specs.Subset.{pairs, cellsIn, cellsOfAll};
 ghost use Rattle.array.specs.Rows.{nextSubsets};
-ghost use Rattle.merge_stores.specs.Scatter.{scatter, places, fixedAt};
+ghost use Rattle.array.specs.Places.{fixedAt};
+ghost use Rattle.merge_stores.specs.Scatter.{scatter, places};
 ghost use Rattle.merge_stores.specs.Store.{parts, masksMerged, StoreAsked, PartsAsked, MasksAsked};
 
 // Stores a chunk's `cells` cells of `size` bytes, which lie in `src` from `first` on, at their places in `out`, where cell 0 lies at `base`.

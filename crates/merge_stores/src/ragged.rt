@@ -8,8 +8,9 @@ ghost use Rattle.array.specs.Buffers.{overAt};
 ghost use Rattle.array.specs.Shape.{volume};
 ghost use Rattle.array.specs.Subset.{pairs, cellsIn, cellsOfAll};
 ghost use Rattle.array.specs.Rows.{nextSubsets};
-ghost use Rattle.merge_stores.specs.Scatter.{scatter, places, fixedAt};
-ghost use Rattle.merge_stores.specs.Ragged.{offsetAt, raggedParts, steps, stepParts, sums, sum, offsetsMerged};
+ghost use Rattle.array.specs.Places.{fixedAt, offsetAt};
+ghost use Rattle.merge_stores.specs.Scatter.{scatter, places};
+ghost use Rattle.merge_stores.specs.Ragged.{raggedParts, steps, stepParts, sums, sum, offsetsMerged};
 ghost use Rattle.merge_stores.specs.Ragged.{RisesFor, LengthsAsked, LengthsAllAsked, RaggedAsked, RaggedAllAsked, RaggedMergeAsked};
 
 // The lengths of n neighbours, from their offsets.

@@ -1,4 +1,3 @@
 pub mod Stored
 pub mod Rows
-pub mod Counting
 pub mod Outcomes

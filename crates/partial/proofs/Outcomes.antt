@@ -13,7 +13,7 @@ use Rattle.array.specs.Shape.{volume, shapeTest}
 use Rattle.array.specs.Subset.{subsetOf, numbersTest, cellsIn}
 use Rattle.array.specs.Cells.{Value}
 use Rattle.array.specs.Offsets.{offsetsOf}
-use Rattle.array.specs.Content.{RaggedContent, sizeTest}
+use Rattle.array.specs.Content.{RaggedContent, sizeTest, endToEnd}
 use Rattle.array.specs.Buffers.{RaggedLengths, raggedLengthsOf, RaggedEnough, raggedEnoughTest, over, raggedOutcome}
 use Rattle.array.specs.Outcome.{contentRagged}
 use Rattle.array.proofs.Rules.{ragged-enough-test, ragged-enough-ok, numbers-ok}
@@ -23,7 +23,7 @@ use Rattle.stored.specs.Index.{foundIn}
 use Rattle.stored.proofs.CheckedIndex.{found-refused}
 use Rattle.chunks.specs.Calls.{raggedCut, partialAnswer, partiallyDecoded}
 use Rattle.extract.specs.Places.{valuesAt}
-use Rattle.partial.specs.Stored.{storedAt, endToEnd, cutAnswer}
+use Rattle.partial.specs.Stored.{storedAt, cutAnswer}
 use Rattle.partial.proofs.Stored.{readAt, Read, read-cut}
 
 -- nothing is stored

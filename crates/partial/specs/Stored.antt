@@ -9,18 +9,13 @@ use Rattle.array.specs.Lists.{joined}
 use Rattle.array.specs.Bytes.{unle}
 use Rattle.array.specs.Shape.{volume}
 use Rattle.array.specs.Cells.{Value}
-use Rattle.array.specs.Offsets.{offsetsOf}
-use Rattle.array.specs.Content.{RaggedContent, sizeTest}
+use Rattle.array.specs.Content.{RaggedContent, endToEnd, sizeTest}
 use Rattle.array.specs.Buffers.{RaggedLengths, raggedEnoughTest}
 use Rattle.extract.specs.Places.{Rises, valuesAt}
 
 -- offset j of an index of width w
 unfoldable pub storedAt : ℕ → List ℕ → ℕ → ℕ → ℕ
 storedAt w s index j = unle (take w (drop (index + j * w) s))
-
--- values end to end from offset 0
-abbrev pub endToEnd : List Value → RaggedContent
-endToEnd vs = record { values = joined vs; offsets = offsetsOf vs }
 
 -- values that are cut: 5 by the last stored offset, whatever they are, and 6 for outputs that are too short for them
 abbrev pub cutAnswer : ℕ → List Value → RaggedLengths → Answer RaggedContent

@@ -9,14 +9,17 @@ use native.Mathlib.Nat.{suc-mul, zero-mul}
 use native.Mathlib.Numerals.{sub-one}
 use lib.ListN.{length, take, drop, replicate, length-append, length-drop, replicate-append-replicate, take-append-drop}
 use lib.Seq.{length-take-le, take-at, drop-at}
+use Rattle.array.specs.Kind.{Masks}
 use Rattle.array.specs.Buffers.{over, overAt}
 use Rattle.array.proofs.Over.{over-again, over-at-length}
+use Rattle.codec.specs.Mask.{MaskForm, maskForm}
 use Rattle.codec.specs.Frame.{countSet}
 use Rattle.codec.specs.Spread.{spread}
-use Rattle.stored.specs.Stored.{maskIn, storedMasks, planesBelow, MasksWithin}
 use Rattle.codec.proofs.Marks.{count-zeros}
-use Rattle.codec.proofs.SpreadLaws.{length-spread, spread-take, spread-none, count-spread}
-use Rattle.planes.specs.Within.{LevelsWithin}
+use Rattle.codec.proofs.SpreadLaws.{length-spread, spread-none, count-spread}
+use Rattle.stored.specs.Stored.{maskIn, contentAt, storedMasks, planesBelow, MaskPassed, MasksWithin}
+use Rattle.stored.proofs.Walks.{mask-long}
+use Rattle.planes.specs.Within.{PlaneWithin, LevelsWithin}
 
 -- k rows of n, all but the first
 pub times-first : (k n : ℕ) → k ≢ 0 → k * n ≡ (k - 1) * n + n
@@ -29,47 +32,50 @@ some-of (suc n) f = omega arith
 
 -- ---- the planes below a plane
 
-below-none : (d : ℕ) (p s : List ℕ) (at n : ℕ) → countSet p ≡ 0 → planesBelow p d s at n ≡ replicate (d * length p) 0
-unfolding planesBelow storedMasks
-below-none zero p s at n e = ap (λ (k : ℕ). replicate {A = ℕ} k 0) (sym (zero-mul (length p)))
-below-none (suc d) p s at n e =
-    let m : List ℕ = maskIn s at n in
-    let q : List ℕ = spread 0 p m in
-    let eq : q ≡ replicate (length p) 0 = spread-none 0 p m e in
-    let lq : length q ≡ length p = length-spread 0 p m in
-    let cq : countSet q ≡ 0 = ap countSet eq ∙ count-zeros (length p) in
-    let k : length p + d * length p ≡ suc d * length p = omega (arith, suc-mul d (length p)) in
-    ap₂ (λ (a b : List ℕ). a ++ b) eq (below-none d q s (at + (16 + n)) (countSet m) cq ∙ ap (λ (j : ℕ). replicate {A = ℕ} (d * j) 0) lq)
-    ∙ replicate-append-replicate (length p) (d * length p) 0 ∙ ap (λ (j : ℕ). replicate {A = ℕ} j 0) k
+module _ (mf : MaskForm) where
+  below-none : (d : ℕ) (p s : List ℕ) (at n : ℕ) → countSet p ≡ 0 → planesBelow mf p d s at n ≡ replicate (d * length p) 0
+  unfolding planesBelow storedMasks
+  below-none zero p s at n e = ap (λ (k : ℕ). replicate {A = ℕ} k 0) (sym (zero-mul (length p)))
+  below-none (suc d) p s at n e =
+      let m : List ℕ = maskIn mf s at n in
+      let q : List ℕ = spread 0 p m in
+      let eq : q ≡ replicate (length p) 0 = spread-none 0 p m e in
+      let lq : length q ≡ length p = length-spread 0 p m in
+      let cq : countSet q ≡ 0 = ap countSet eq ∙ count-zeros (length p) in
+      let k : length p + d * length p ≡ suc d * length p = omega (arith, suc-mul d (length p)) in
+      ap₂ (λ (a b : List ℕ). a ++ b) eq (below-none d q s (contentAt mf at n) (countSet m) cq ∙ ap (λ (j : ℕ). replicate {A = ℕ} (d * j) 0) lq)
+      ∙ replicate-append-replicate (length p) (d * length p) 0 ∙ ap (λ (j : ℕ). replicate {A = ℕ} j 0) k
 
-pub below-length : (d : ℕ) (p s : List ℕ) (at n : ℕ) → length (planesBelow p d s at n) ≡ d * length p
-unfolding planesBelow storedMasks
-below-length zero p s at n = sym (zero-mul (length p))
-below-length (suc d) p s at n =
-    let m : List ℕ = maskIn s at n in
-    let q : List ℕ = spread 0 p m in
-    let lq : length q ≡ length p = length-spread 0 p m in
-    let ih : length (planesBelow q d s (at + (16 + n)) (countSet m)) ≡ d * length p = below-length d q s (at + (16 + n)) (countSet m) ∙ ap (λ (j : ℕ). d * j) lq in
-    length-append q (planesBelow q d s (at + (16 + n)) (countSet m)) ∙ omega (arith, suc-mul d (length p))
+  pub below-length : (d : ℕ) (p s : List ℕ) (at n : ℕ) → length (planesBelow mf p d s at n) ≡ d * length p
+  unfolding planesBelow storedMasks
+  below-length zero p s at n = sym (zero-mul (length p))
+  below-length (suc d) p s at n =
+      let m : List ℕ = maskIn mf s at n in
+      let q : List ℕ = spread 0 p m in
+      let lq : length q ≡ length p = length-spread 0 p m in
+      let ih : length (planesBelow mf q d s (contentAt mf at n) (countSet m)) ≡ d * length p = below-length d q s (contentAt mf at n) (countSet m) ∙ ap (λ (j : ℕ). d * j) lq in
+      length-append q (planesBelow mf q d s (contentAt mf at n) (countSet m)) ∙ omega (arith, suc-mul d (length p))
 
-below-step : (left : ℕ) (p s : List ℕ) (at n : ℕ) → left ≢ 0
-    → planesBelow p left s at n ≡ spread 0 p (maskIn s at n) ++ planesBelow (spread 0 p (maskIn s at n)) (left - 1) s (at + (16 + n)) (countSet (maskIn s at n))
-unfolding planesBelow storedMasks
-below-step zero p s at n f = absurd (f refl)
-below-step (suc d) p s at n f =
-    ap (λ (j : ℕ). spread 0 p (maskIn s at n) ++ planesBelow (spread 0 p (maskIn s at n)) j s (at + (16 + n)) (countSet (maskIn s at n))) (sym (sub-one (suc d)))
+  below-step : (left : ℕ) (p s : List ℕ) (at n : ℕ) → left ≢ 0
+      → planesBelow mf p left s at n
+      ≡ spread 0 p (maskIn mf s at n) ++ planesBelow mf (spread 0 p (maskIn mf s at n)) (left - 1) s (contentAt mf at n) (countSet (maskIn mf s at n))
+  unfolding planesBelow storedMasks
+  below-step zero p s at n f = absurd (f refl)
+  below-step (suc d) p s at n f =
+      ap (λ (j : ℕ). spread 0 p (maskIn mf s at n) ++ planesBelow mf (spread 0 p (maskIn mf s at n)) j s (contentAt mf at n) (countSet (maskIn mf s at n)))
+      (sym (sub-one (suc d)))
 
--- ---- masks within the bytes
+  -- ---- masks within the bytes
 
-pub within-now : (left : ℕ) (s : List ℕ) (at n : ℕ) → MasksWithin left s at n → left ≢ 0 → n ≢ 0 → at + (16 + n) ≤ length s
-unfolding MasksWithin
-within-now zero s at n h f g = absurd (f refl)
-within-now (suc d) s at n h f g = h .0 (some-of n g)
+  pub within-now : (left : ℕ) (s : List ℕ) (at n : ℕ) → MasksWithin mf left s at n → left ≢ 0 → n ≢ 0 → MaskPassed mf s at n
+  unfolding MasksWithin
+  within-now zero s at n h f g = absurd (f refl)
+  within-now (suc d) s at n h f g = h .0 (some-of n g)
 
-pub within-next : (left : ℕ) (s : List ℕ) (at n : ℕ) → MasksWithin left s at n → left ≢ 0 → MasksWithin (left - 1) s (at + (16 + n)) (countSet (maskIn s at n))
-unfolding MasksWithin
-within-next zero s at n h f = absurd (f refl)
-within-next (suc d) s at n h f = subst (λ (j : ℕ). MasksWithin j s (at + (16 + n)) (countSet (maskIn s at n))) (sym (sub-one (suc d))) (h .1)
+  pub within-next : (left : ℕ) (s : List ℕ) (at n : ℕ) → MasksWithin mf left s at n → left ≢ 0 → MasksWithin mf (left - 1) s (contentAt mf at n) (countSet (maskIn mf s at n))
+  unfolding MasksWithin
+  within-next zero s at n h f = absurd (f refl)
+  within-next (suc d) s at n h f = subst (λ (j : ℕ). MasksWithin mf j s (contentAt mf at n) (countSet (maskIn mf s at n))) (sym (sub-one (suc d))) (h .1)
 
 -- ---- a level: the plane above is the last that lies before `to` in d
 
@@ -81,71 +87,67 @@ plane-again d q to n h e =
     ∙ ap (take n) (drop-at (take to d) (q ++ drop (length (take to d ++ q)) d) to lt)
     ∙ take-at q (drop (length (take to d ++ q)) d) n e
 
-module _ {d : List ℕ} {n to left : ℕ} {s : List ℕ} {at cells : ℕ} (l : LevelsWithin d n to left s at cells) where
+module _ {x : Masks} {d : List ℕ} {n to left : ℕ} {s : List ℕ} {at cells : ℕ} (l : LevelsWithin x d n to left s at cells) where
   above-long : length (take n (drop (to - n) d)) ≡ n
   above-long = length-take-le n (drop (to - n) d) (omega (arith, length-drop (to - n) d, l .above, l .room))
 
-  pub levels-none : left ≡ 0 → d ≡ overAt to (planesBelow (take n (drop (to - n) d)) left s at cells) d
+  pub levels-none : left ≡ 0 → d ≡ overAt to (planesBelow (maskForm x) (take n (drop (to - n) d)) left s at cells) d
   unfolding planesBelow storedMasks
   levels-none e =
-      sym (ap (λ (j : ℕ). overAt to (planesBelow (take n (drop (to - n) d)) j s at cells) d) e
+      sym (ap (λ (j : ℕ). overAt to (planesBelow (maskForm x) (take n (drop (to - n) d)) j s at cells) d) e
       ∙ ap (λ (l : List ℕ). over l d) (append-nil (take to d)) ∙ ap (λ (j : ℕ). take to d ++ drop j d) (length-take-le to d (omega (arith, l .room))) ∙ take-append-drop to d)
 
-  pub levels-null : cells ≡ 0 → (out : List ℕ) → out ≡ overAt to (replicate (left * n) 0) d → out ≡ overAt to (planesBelow (take n (drop (to - n) d)) left s at cells) d
+  pub levels-null : cells ≡ 0 → (out : List ℕ) → out ≡ overAt to (replicate (left * n) 0) d → out ≡ overAt to (planesBelow (maskForm x) (take n (drop (to - n) d)) left s at cells) d
   levels-null e out eo =
       eo ∙ ap (λ (l : List ℕ). overAt to l d)
-      (ap (λ (j : ℕ). replicate {A = ℕ} (left * j) 0) (sym above-long) ∙ sym (below-none left (take n (drop (to - n) d)) s at cells (sym (l .count) ∙ e)))
+      (ap (λ (j : ℕ). replicate {A = ℕ} (left * j) 0) (sym above-long) ∙ sym (below-none (maskForm x) left (take n (drop (to - n) d)) s at cells (sym (l .count) ∙ e)))
 
   module _ (f : left ≢ 0) (g : cells ≢ 0) where
-    pub levels-room : at + (16 + cells) ≤ length s
-    levels-room = within-now left s at cells (l .within) f g
+    pub levels-mask : MaskPassed (maskForm x) s at cells
+    levels-mask = within-now (maskForm x) left s at cells (l .within) f g
 
     pub levels-fits : to + n + (left - 1) * n ≤ length d
     levels-fits = omega (arith, l .room, times-first left n f)
 
-    mask-long : length (maskIn s at cells) ≡ countSet (take n (drop (to - n) d))
-    mask-long = length-take-le cells (drop (at + 16) s) (omega (arith, length-drop (at + 16) s, levels-room)) ∙ l .count
-
-    spread-mask : spread 0 (take n (drop (to - n) d)) (drop (at + 16) s) ≡ spread 0 (take n (drop (to - n) d)) (maskIn s at cells)
-    spread-mask =
-        sym (ap (λ (k : ℕ). spread 0 (take n (drop (to - n) d)) (take k (drop (at + 16) s))) (l .count) ∙ spread-take 0 (take n (drop (to - n) d)) (drop (at + 16) s))
+    pub levels-plane : PlaneWithin x d (to - n) to n s (at + 16) cells
+    levels-plane = record { apart = omega (arith, l .above); room = omega (arith, levels-fits); count = l .count; stored = omega (arith, levels-mask .room) }
 
     -- z is the mask's length, `out` has the next plane, and `set` counts its mask
-    module _ (z : ℕ) (ez : z ≡ cells) (out : List ℕ) (eo : out ≡ overAt to (spread 0 (take n (drop (to - n) d)) (drop (at + 16) s)) d)
-        (set : ℕ) (set-is : set ≡ countSet (maskIn s at cells)) where
-      long : length (spread 0 (take n (drop (to - n) d)) (maskIn s at cells)) ≡ n
-      long = length-spread 0 (take n (drop (to - n) d)) (maskIn s at cells) ∙ above-long
+    module _ {z : ℕ} (ez : z ≡ maskForm x .size cells) {out : List ℕ} (eo : out ≡ overAt to (spread 0 (take n (drop (to - n) d)) (maskIn (maskForm x) s at cells)) d)
+        {set : ℕ} (set-is : set ≡ countSet (maskIn (maskForm x) s at cells)) where
+      long : length (spread 0 (take n (drop (to - n) d)) (maskIn (maskForm x) s at cells)) ≡ n
+      long = length-spread 0 (take n (drop (to - n) d)) (maskIn (maskForm x) s at cells) ∙ above-long
 
-      out-is : out ≡ overAt to (spread 0 (take n (drop (to - n) d)) (maskIn s at cells)) d
-      out-is = eo ∙ ap (λ (q : List ℕ). overAt to q d) spread-mask
-
-      next-plane : take n (drop (to + n - n) out) ≡ spread 0 (take n (drop (to - n) d)) (maskIn s at cells)
+      next-plane : take n (drop (to + n - n) out) ≡ spread 0 (take n (drop (to - n) d)) (maskIn (maskForm x) s at cells)
       next-plane =
           let e : to + n - n ≡ to = omega arith in
-          ap₂ (λ (k : ℕ) (o : List ℕ). take n (drop k o)) e out-is ∙ plane-again d (spread 0 (take n (drop (to - n) d)) (maskIn s at cells)) to n (omega (arith, l .room)) long
+          ap₂ (λ (k : ℕ) (o : List ℕ). take n (drop k o)) e eo
+          ∙ plane-again d (spread 0 (take n (drop (to - n) d)) (maskIn (maskForm x) s at cells)) to n (omega (arith, l .room)) long
 
       same : length out ≡ length d
-      same = ap length out-is ∙ over-at-length to (spread 0 (take n (drop (to - n) d)) (maskIn s at cells)) d (omega (arith, long, levels-fits))
+      same = ap length eo ∙ over-at-length to (spread 0 (take n (drop (to - n) d)) (maskIn (maskForm x) s at cells)) d (omega (arith, long, levels-fits))
 
-      pub levels-next : LevelsWithin out n (to + n) (left - 1) s (at + 16 + z) set
+      pub levels-next : LevelsWithin x out n (to + n) (left - 1) s (at + 16 + z) set
       levels-next =
-          let e : at + (16 + cells) ≡ at + 16 + z = omega arith in
+          let e : contentAt (maskForm x) at cells ≡ at + 16 + z = omega arith in
+          let lm : length (maskIn (maskForm x) s at cells) ≡ countSet (take n (drop (to - n) d)) = mask-long x levels-mask ∙ l .count in
           record {
             above = omega arith;
             room = omega (arith, same, levels-fits);
-            count = set-is ∙ sym (ap countSet next-plane ∙ count-spread (take n (drop (to - n) d)) (maskIn s at cells) mask-long);
-            within = subst (λ (k : ℕ). MasksWithin (left - 1) s k set) e
-                (subst (λ (k : ℕ). MasksWithin (left - 1) s (at + (16 + cells)) k) (sym set-is) (within-next left s at cells (l .within) f));
+            count = set-is ∙ sym (ap countSet next-plane ∙ count-spread (take n (drop (to - n) d)) (maskIn (maskForm x) s at cells) lm);
+            within = subst (λ (k : ℕ). MasksWithin (maskForm x) (left - 1) s k set) e
+                (subst (MasksWithin (maskForm x) (left - 1) s (contentAt (maskForm x) at cells)) (sym set-is) (within-next (maskForm x) left s at cells (l .within) f));
           }
 
-      pub levels-done : (out′ : List ℕ) → out′ ≡ overAt (to + n) (planesBelow (take n (drop (to + n - n) out)) (left - 1) s (at + 16 + z) set) out
-          → out′ ≡ overAt to (planesBelow (take n (drop (to - n) d)) left s at cells) d
+      pub levels-done : (out′ : List ℕ) → out′ ≡ overAt (to + n) (planesBelow (maskForm x) (take n (drop (to + n - n) out)) (left - 1) s (at + 16 + z) set) out
+          → out′ ≡ overAt to (planesBelow (maskForm x) (take n (drop (to - n) d)) left s at cells) d
       levels-done out′ e =
-          let q : List ℕ = spread 0 (take n (drop (to - n) d)) (maskIn s at cells) in
-          let y : List ℕ = planesBelow q (left - 1) s (at + (16 + cells)) (countSet (maskIn s at cells)) in
-          let ea : at + 16 + z ≡ at + (16 + cells) = omega arith in
-          let ey : planesBelow (take n (drop (to + n - n) out)) (left - 1) s (at + 16 + z) set ≡ y =
-          ap₂ (λ (p : List ℕ) (k : ℕ). planesBelow p (left - 1) s k set) next-plane ea ∙ ap (planesBelow q (left - 1) s (at + (16 + cells))) set-is in
+          let q : List ℕ = spread 0 (take n (drop (to - n) d)) (maskIn (maskForm x) s at cells) in
+          let y : List ℕ = planesBelow (maskForm x) q (left - 1) s (contentAt (maskForm x) at cells) (countSet (maskIn (maskForm x) s at cells)) in
+          let ea : at + 16 + z ≡ contentAt (maskForm x) at cells = omega arith in
+          let ey : planesBelow (maskForm x) (take n (drop (to + n - n) out)) (left - 1) s (at + 16 + z) set ≡ y =
+          ap₂ (λ (p : List ℕ) (k : ℕ). planesBelow (maskForm x) p (left - 1) s k set) next-plane ea
+          ∙ ap (planesBelow (maskForm x) q (left - 1) s (contentAt (maskForm x) at cells)) set-is in
           let lf : length (take to d ++ q) ≡ to + n = omega (arith, length-append (take to d) q, length-take-le to d (omega (arith, l .room)), long) in
-          e ∙ ap₂ (overAt (to + n)) ey out-is ∙ over-again (take to d ++ q) y d (to + n) lf ∙ ap (λ (l : List ℕ). over l d) (append-assoc (take to d) q y)
-          ∙ ap (λ (l : List ℕ). overAt to l d) (sym (below-step left (take n (drop (to - n) d)) s at cells f))
+          e ∙ ap₂ (overAt (to + n)) ey eo ∙ over-again (take to d ++ q) y d (to + n) lf ∙ ap (λ (l : List ℕ). over l d) (append-assoc (take to d) q y)
+          ∙ ap (λ (l : List ℕ). overAt to l d) (sym (below-step (maskForm x) left (take n (drop (to - n) d)) s at cells f))

@@ -1,22 +1,39 @@
--- What the placing of mask planes rests on.
+-- Mask planes as they are read (document 01, item 5: the planes follow each other, outermost first), and what their placing rests on.
 -- Assumes nothing.
 use Prim.Native.Nat.{ℕ, _+_, _-_, _*_, _≤_}
 use mathlib.Core.Path.{_≡_}
-use mathlib.Core.List.{List}
+use mathlib.Core.List.{List, _++_}
 use lib.ListN.{length, take, drop}
+use Rattle.array.specs.Kind.{Masks}
+use Rattle.codec.specs.Mask.{MaskForm, maskForm}
 use Rattle.codec.specs.Frame.{countSet}
-use Rattle.stored.specs.Stored.{MasksWithin}
+use Rattle.codec.specs.Spread.{innermostPlane}
+use Rattle.stored.specs.Stored.{maskIn, contentAt, storedMasks, planesBelow, MasksWithin}
+
+-- the planes of d + 1 levels of n cells, the first frame at the front of s, and the innermost of them
+abbrev pub planesIn : MaskForm → List ℕ → ℕ → ℕ → List ℕ
+planesIn mf s n d = maskIn mf s 0 n ++ planesBelow mf (maskIn mf s 0 n) d s (contentAt mf 0 n) (countSet (maskIn mf s 0 n))
+
+abbrev pub innermostIn : MaskForm → List ℕ → ℕ → ℕ → List ℕ
+innermostIn mf s n d = innermostPlane (maskIn mf s 0 n) (storedMasks mf d s (contentAt mf 0 n) (countSet (maskIn mf s 0 n)))
+
+-- the plane of n cells at `from`, in which `cells` are set, and room for the one below it at `to`, whose stored mask is at `at`
+pub record PlaneWithin (x : Masks) (masks : List ℕ) (from to n : ℕ) (s : List ℕ) (at cells : ℕ) : Type 0 where
+  pub apart : from + n ≤ to
+  pub room : to + n ≤ length masks
+  pub count : cells ≡ countSet (take n (drop from masks))
+  pub stored : at + maskForm x .size cells ≤ length s
 
 -- `left` levels below the plane that ends at `to`, in which `cells` are set, the next frame being at `at`
-pub record LevelsWithin (masks : List ℕ) (n to left : ℕ) (s : List ℕ) (at cells : ℕ) : Type 0 where
+pub record LevelsWithin (x : Masks) (masks : List ℕ) (n to left : ℕ) (s : List ℕ) (at cells : ℕ) : Type 0 where
   pub above : n ≤ to
   pub room : to + left * n ≤ length masks
   pub count : cells ≡ countSet (take n (drop (to - n) masks))
-  pub within : MasksWithin left s at cells
+  pub within : MasksWithin (maskForm x) left s at cells
 
 -- all levels, the first frame at the front of s
-pub record PlanesWithin (masks : List ℕ) (n depth : ℕ) (s : List ℕ) : Type 0 where
+pub record PlanesWithin (x : Masks) (masks : List ℕ) (n depth : ℕ) (s : List ℕ) : Type 0 where
   pub some : 1 ≤ n
   pub deep : 1 ≤ depth
   pub room : depth * n ≤ length masks
-  pub within : MasksWithin depth s 0 n
+  pub within : MasksWithin (maskForm x) depth s 0 n

@@ -11,18 +11,18 @@ unfoldable pub glyphOf : ℕ → ℕ
 glyphOf d = cond (ltb d 10) (48 + d) (55 + d)
 
 -- how many of the first elements equal x
-unfoldable pub runOf : ℕ → List ℕ → ℕ
-runOf x [] = zero
-runOf x (y ∷ ys) = cond (eqb y x) (suc (runOf x ys)) zero
+unfoldable pub equalRun : ℕ → List ℕ → ℕ
+equalRun x [] = zero
+equalRun x (y ∷ ys) = cond (eqb y x) (suc (equalRun x ys)) zero
 
 -- five and more equal elements are shown as a run, fewer one by one
 unfoldable pub shownOf : ℕ → ℕ
 shownOf n = cond (ltb n 5) 1 n
 
 -- how many elements at the front of a list are shown as one part
-unfoldable pub partOf : List ℕ → ℕ
+unfoldable pub shownPart : List ℕ → ℕ
 unfolding shownOf
-partOf s = shownOf (runOf (getD s 0 0) s)
+shownPart s = shownOf (equalRun (getD s 0 0) s)
 
 -- a place that is not behind `from`, nor past the end
 pub record Onward (from to end : ℕ) : Type 0 where

@@ -2,7 +2,7 @@
 ghost use mathlib.Core.Path.{_≡_};
 ghost use Prim.Native.Nat.{_≤_, _<_};
 ghost use lib.ListN.{length, drop, set};
-ghost use Rattle.print.specs.Print.{Onward, glyphOf, shownOf, partOf};
+ghost use Rattle.print.specs.Print.{Onward, glyphOf, shownOf, shownPart};
 
 // From so many equal ones on a list shows a run.
 const LONG_RUN: usize = 5;
@@ -67,7 +67,7 @@ fn put_hex(text: &mut [u8], at: usize, b: u8) -> usize
 // How many equal bytes from `at` on are shown as one part: a long run, or one.
 fn run_of_bytes(s: &[u8], at: usize) -> usize
     requires { ⌜ at < length (now s) ⌝ }
-    ensures { λ r. ⌜ r ≡ partOf (drop at (now (s .entry))) ⌝ }
+    ensures { λ r. ⌜ r ≡ shownPart (drop at (now (s .entry))) ⌝ }
 {
     let mut i = at;
     while i < s.len() {
@@ -81,7 +81,7 @@ fn run_of_bytes(s: &[u8], at: usize) -> usize
 
 fn run_of_numbers(s: &[u64], at: usize) -> usize
     requires { ⌜ at < length (now s) ⌝ }
-    ensures { λ r. ⌜ r ≡ partOf (drop at (now (s .entry))) ⌝ }
+    ensures { λ r. ⌜ r ≡ shownPart (drop at (now (s .entry))) ⌝ }
 {
     let mut i = at;
     while i < s.len() {

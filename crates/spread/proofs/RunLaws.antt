@@ -10,27 +10,27 @@ use lib.ListN.{length, take, drop, getD, drop-of-length-le}
 use lib.Seq.{drop-cons}
 use Rattle.array.specs.Cells.{setTest}
 use Rattle.codec.specs.Frame.{countSet}
-use Rattle.spread.specs.Runs.{runOf}
+use Rattle.spread.specs.Runs.{markRun}
 
-pub run-within : (b : Bool) (p : List ℕ) → runOf b p ≤ length p
+pub run-within : (b : Bool) (p : List ℕ) → markRun b p ≤ length p
 run-within b [] = omega arith
 run-within true (zero ∷ p) = omega arith
 run-within true (suc m ∷ p) = omega (arith, run-within true p)
 run-within false (zero ∷ p) = omega (arith, run-within false p)
 run-within false (suc m ∷ p) = omega arith
 
-pub null-run : (p : List ℕ) → countSet (take (runOf false p) p) ≡ 0
+pub null-run : (p : List ℕ) → countSet (take (markRun false p) p) ≡ 0
 null-run [] = refl
 null-run (zero ∷ p) = null-run p
 null-run (suc m ∷ p) = refl
 
-pub set-run : (p : List ℕ) → countSet (take (runOf true p) p) ≡ runOf true p
+pub set-run : (p : List ℕ) → countSet (take (markRun true p) p) ≡ markRun true p
 set-run [] = refl
 set-run (zero ∷ p) = refl
 set-run (suc m ∷ p) = ap suc (set-run p)
 
 -- behind a null run comes a set one, where any byte is set
-pub some-run : (p : List ℕ) → 0 < countSet p → 0 < runOf true (drop (runOf false p) p)
+pub some-run : (p : List ℕ) → 0 < countSet p → 0 < markRun true (drop (markRun false p) p)
 some-run [] h = absurd (omega arith)
 some-run (zero ∷ p) h = some-run p h
 some-run (suc m ∷ p) h = omega arith
@@ -39,23 +39,23 @@ some-run (suc m ∷ p) h = omega arith
 pub record Running (b : Bool) (p : List ℕ) (i e : ℕ) : Type 0 where
   pub begun : i ≤ e
   pub within : e ≤ length p
-  pub left : e - i + runOf b (drop e p) ≡ runOf b (drop i p)
+  pub left : e - i + markRun b (drop e p) ≡ markRun b (drop i p)
 
 pub running-begins : (b : Bool) (p : List ℕ) (i : ℕ) → i ≤ length p → Running b p i i
 running-begins b p i h = record { begun = omega arith; within = h; left = omega arith }
 
 module _ {b : Bool} {p : List ℕ} {i e : ℕ} (r : Running b p i e) where
-  pub running-ends : length p ≤ e → e - i ≡ runOf b (drop i p)
-  running-ends h = omega (arith, r .left, ap (runOf b) (drop-of-length-le p {i = e} h))
+  pub running-ends : length p ≤ e → e - i ≡ markRun b (drop i p)
+  running-ends h = omega (arith, r .left, ap (markRun b) (drop-of-length-le p {i = e} h))
 
   module _ (h : e < length p) (t : Bool) (et : t ≡ setTest (getD p e 0)) where
     at-e : drop e p ≡ getD p e 0 ∷ drop (e + 1) p
     at-e = drop-cons p e 0 h ∙ ap (λ (k : ℕ). getD p e 0 ∷ drop k p) (sym (add-one e))
 
-    pub running-stops : not (Bool·beq t b) ≡ true → e - i ≡ runOf b (drop i p)
-    running-stops f = omega (arith, r .left, ap (runOf b) at-e, go b (getD p e 0) (ap (λ (u : Bool). not (Bool·beq u b)) (sym et) ∙ f))
+    pub running-stops : not (Bool·beq t b) ≡ true → e - i ≡ markRun b (drop i p)
+    running-stops f = omega (arith, r .left, ap (markRun b) at-e, go b (getD p e 0) (ap (λ (u : Bool). not (Bool·beq u b)) (sym et) ∙ f))
       where
-        go : (b : Bool) (m : ℕ) → not (Bool·beq (setTest m) b) ≡ true → runOf b (m ∷ drop (e + 1) p) ≡ 0
+        go : (b : Bool) (m : ℕ) → not (Bool·beq (setTest m) b) ≡ true → markRun b (m ∷ drop (e + 1) p) ≡ 0
         go true zero f = refl
         go true (suc m) f = cc
         go false zero f = cc
@@ -65,10 +65,10 @@ module _ {b : Bool} {p : List ℕ} {i e : ℕ} (r : Running b p i e) where
     running-more f = record {
       begun = omega (arith, r .begun);
       within = omega arith;
-      left = omega (arith, r .begun, r .left, ap (runOf b) at-e, go b (getD p e 0) (ap (λ (u : Bool). not (Bool·beq u b)) (sym et) ∙ f));
+      left = omega (arith, r .begun, r .left, ap (markRun b) at-e, go b (getD p e 0) (ap (λ (u : Bool). not (Bool·beq u b)) (sym et) ∙ f));
     }
       where
-        go : (b : Bool) (m : ℕ) → not (Bool·beq (setTest m) b) ≡ false → runOf b (m ∷ drop (e + 1) p) ≡ suc (runOf b (drop (e + 1) p))
+        go : (b : Bool) (m : ℕ) → not (Bool·beq (setTest m) b) ≡ false → markRun b (m ∷ drop (e + 1) p) ≡ suc (markRun b (drop (e + 1) p))
         go true zero f = cc
         go true (suc m) f = refl
         go false zero f = refl

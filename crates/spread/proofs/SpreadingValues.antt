@@ -23,7 +23,7 @@ use Rattle.codec.specs.Spread.{spread}
 use Rattle.codec.proofs.Marks.{null-byte, set-byte, count-le, count-block}
 use Rattle.codec.proofs.SpreadLaws.{length-spread}
 use Rattle.word.proofs.Words.{le-zero}
-use Rattle.spread.specs.Runs.{runOf}
+use Rattle.spread.specs.Runs.{markRun}
 use Rattle.spread.specs.Next.{ifSet, nextAt, wordAt}
 use Rattle.spread.specs.Values.{ValuesWithin}
 use Rattle.spread.proofs.PlaneLaws.{planeAt, plane-length}
@@ -171,18 +171,18 @@ values-all {size} {o} {p} {s} {d} {at} {cells} v n en ec out eo =
 -- ---- a null run and a set run more
 
 module _ {size : ℕ} {o : Order} {p s d : List ℕ} {at cells : ℕ} {out : List ℕ} {i k : ℕ} (v : SpreadingValues size o p s d at cells out i k) (r : ℕ) where
-  module _ (e : r ≡ runOf false (drop i p)) where
+  module _ (e : r ≡ markRun false (drop i p)) where
     pub nulls-fit : i + r ≤ length p
     nulls-fit = omega (arith, run-within false (drop i p), length-drop i p, v .within)
 
     pub nulls-laid : (out′ : List ℕ) → out′ ≡ overAt (i * size) (replicate (r * size) 0) out → SpreadingValues size o p s d at cells out′ (i + r) k
     nulls-laid out′ eo = values-nulls v r nulls-fit (ap (λ (r : ℕ). countSet (take r (drop i p))) e ∙ null-run (drop i p)) out′ eo
 
-    pub sets-some : k < cells → (q : ℕ) → q ≡ runOf true (drop (i + r) p) → 0 < q
+    pub sets-some : k < cells → (q : ℕ) → q ≡ markRun true (drop (i + r) p) → 0 < q
     sets-some h q eq =
-        omega (arith, some-run (drop i p) (omega (arith, v .count)), ap (λ (r : ℕ). runOf true (drop r (drop i p))) e, ap (runOf true) (drop-drop r i p))
+        omega (arith, some-run (drop i p) (omega (arith, v .count)), ap (λ (r : ℕ). markRun true (drop r (drop i p))) e, ap (markRun true) (drop-drop r i p))
 
-  module _ (e : r ≡ runOf true (drop i p)) where
+  module _ (e : r ≡ markRun true (drop i p)) where
     set-count : countSet (take r (drop i p)) ≡ r
     set-count = ap (λ (r : ℕ). countSet (take r (drop i p))) e ∙ set-run (drop i p) ∙ sym e
 

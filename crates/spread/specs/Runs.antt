@@ -13,6 +13,6 @@ runBy false isNull n = suc n
 runBy false isSet n = zero
 
 -- how many bytes of a mask are all set, or all null, from the first on
-abbrev pub runOf : Bool → List ℕ → ℕ
-runOf set [] = zero
-runOf set (m ∷ p) = runBy set (markOf m) (runOf set p)
+abbrev pub markRun : Bool → List ℕ → ℕ
+markRun set [] = zero
+markRun set (m ∷ p) = runBy set (markOf m) (markRun set p)

@@ -1,8 +1,8 @@
 // One cell of a plane, by its mark: a set cell takes the next stored one.
-use stored::mask::Mark;
+use mask::mark::Mark;
 ghost use mathlib.Core.Path.{_≡_};
 ghost use Prim.Native.Nat.{_<_};
-ghost use Rattle.stored.specs.Marks.{toldMark};
+ghost use Rattle.mask.specs.Marks.{toldMark};
 ghost use Rattle.spread.specs.Next.{ifSet, nextAt};
 
 // Where the next stored one is, each having `size` bytes.

@@ -5,7 +5,7 @@ use array::kind::IndexWidth;
 use array::kind::width_bytes;
 use buffer::copy::fill_numbers;
 use buffer::field::le_at;
-use stored::mask::mark_of;
+use mask::mark::mark_of;
 ghost use mathlib.Core.Path.{_≡_};
 ghost use mathlib.Core.List.{_∷_};
 ghost use Prim.Native.Nat.{suc, _+_, _*_, _≤_};

@@ -4,7 +4,7 @@ use crate::next::skip;
 use crate::words::next_word;
 use array::kind::ByteOrder;
 use buffer::copy::fill_bytes;
-use stored::mask::mark_of;
+use mask::mark::mark_of;
 use word::put_word;
 ghost use mathlib.Core.Path.{_≡_};
 ghost use mathlib.Core.List.{_++_};

@@ -1,14 +1,14 @@
 // Runs of cells with one mark.
-use stored::mask::is_set;
+use mask::mark::is_set;
 ghost use mathlib.Core.Path.{_≡_};
 ghost use Prim.Native.Nat.{_+_, _≤_};
 ghost use lib.ListN.{length, take, drop};
-ghost use Rattle.spread.specs.Runs.{runOf};
+ghost use Rattle.spread.specs.Runs.{markRun};
 
 // How many cells from i on, of the n cells of the plane at `from`, are all set, or all null.
 pub fn run_length(masks: &[u8], from: usize, n: usize, i: usize, set: bool) -> usize
     requires { ⌜ (from + n ≤ length (now masks)) × (i ≤ n) ⌝ }
-    ensures { λ r. ⌜ r ≡ runOf set (drop i (take n (drop from (now (masks .entry))))) ⌝ }
+    ensures { λ r. ⌜ r ≡ markRun set (drop i (take n (drop from (now (masks .entry))))) ⌝ }
 {
     let mut e = i;
     while e < n {

@@ -3,7 +3,7 @@ use crate::next::number_if;
 use crate::next::skip;
 use array::kind::ByteOrder;
 use buffer::copy::fill_bytes;
-use stored::mask::mark_of;
+use mask::mark::mark_of;
 use word::put_word;
 use word::word_at;
 ghost use mathlib.Core.Path.{_≡_};

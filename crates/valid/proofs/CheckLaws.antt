@@ -16,7 +16,7 @@ use Rattle.array.specs.Answer.{Answer, gives, refuses, unless, andThen}
 use Rattle.array.specs.Kind.{Kind, Form, fixed, ragged, Order, Place}
 use Rattle.array.specs.Offsets.{last, lastFrom, risingTest, risingFromTest}
 use Rattle.array.specs.Content.{Content, ContentOk, contentTest, valuesTest, sizeTest}
-use Rattle.valid.specs.Check.{contentTestBy, valuesTestBy, checkAnswer, toldChecked}
+use Rattle.valid.specs.Check.{contentTestBy, valuesTestBy, contentAnswer, toldChecked}
 use Rattle.array.specs.Meaning.{formOf, kindOf}
 use Rattle.array.specs.declared.kind.Kind as declared
 use Rattle.array.specs.declared.kind.Values.{Values}
@@ -130,24 +130,24 @@ content-by k n c = ap (λ (b : Bool). eqb (length (c .masks)) (k .depth * n) && 
 -- ---- what a check answers: one law for each answer
 
 module _ (k : Kind) (n masks values : ℕ) (os : List ℕ) (fits : Bool) (e : fits ≡ contentTestBy k n masks values os) where
-  pub check-four : not fits ≡ true → refuses 4 ≡ checkAnswer k n masks values os
+  pub check-four : not fits ≡ true → refuses 4 ≡ contentAnswer k n masks values os
   check-four h = ap (λ (b : Bool). unless b 4 (unless (sizeTest values) 5 (gives (tt {0})))) (sym (not-true fits h) ∙ e)
 
   module _ (h : not fits ≡ false) where
-    then-size : (b : Bool) → sizeTest values ≡ b → unless b 5 (gives (tt {0})) ≡ checkAnswer k n masks values os
+    then-size : (b : Bool) → sizeTest values ≡ b → unless b 5 (gives (tt {0})) ≡ contentAnswer k n masks values os
     then-size b f = ap₂ (λ (a b : Bool). unless a 4 (unless b 5 (gives (tt {0})))) (sym (not-false fits h) ∙ e) (sym f)
 
-    pub check-five : mostBytes < values → refuses 5 ≡ checkAnswer k n masks values os
+    pub check-five : mostBytes < values → refuses 5 ≡ contentAnswer k n masks values os
     check-five l = then-size false (lt-leb values mostBytes l)
 
-    pub check-gives : values ≤ mostBytes → gives tt ≡ checkAnswer k n masks values os
+    pub check-gives : values ≤ mostBytes → gives tt ≡ contentAnswer k n masks values os
     check-gives l = then-size true (le-leb values mostBytes l)
 
 -- ---- what the answer says of an array
 
 -- the check of an array
 abbrev pub checkOf : Kind → ℕ → Content → Answer (Unit {0})
-checkOf k n c = checkAnswer k n (length (c .masks)) (length (c .values)) (c .offsets)
+checkOf k n c = contentAnswer k n (length (c .masks)) (length (c .values)) (c .offsets)
 
 -- a call with 4 and 5 before the rest of it
 abbrev pub unlessKept : {A : Type 0} → Kind → ℕ → Content → Answer A → Answer A

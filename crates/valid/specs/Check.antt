@@ -22,8 +22,8 @@ abbrev pub contentTestBy : Kind → ℕ → ℕ → ℕ → List ℕ → Bool
 contentTestBy k n masks values os = eqb masks (k .depth * n) && valuesTestBy (k .form) n values os
 
 -- 4, then 5
-abbrev pub checkAnswer : Kind → ℕ → ℕ → ℕ → List ℕ → Answer (Unit {0})
-checkAnswer k n masks values os = unless (contentTestBy k n masks values os) 4 (unless (sizeTest values) 5 (gives tt))
+abbrev pub contentAnswer : Kind → ℕ → ℕ → ℕ → List ℕ → Answer (Unit {0})
+contentAnswer k n masks values os = unless (contentTestBy k n masks values os) 4 (unless (sizeTest values) 5 (gives tt))
 
 -- what a check answered
 abbrev pub toldChecked : Checked → Answer (Unit {0})

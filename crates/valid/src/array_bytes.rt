@@ -7,7 +7,7 @@ ghost use lib.Dec.{leb};
 ghost use Rattle.array.specs.Limits.{mostCells};
 ghost use Rattle.array.specs.Offsets.{risingTest};
 ghost use Rattle.array.specs.Meaning.{kindOf};
-ghost use Rattle.valid.specs.Check.{contentTestBy, checkAnswer, toldChecked};
+ghost use Rattle.valid.specs.Check.{contentTestBy, contentAnswer, toldChecked};
 use array::kind::Kind;
 use array::kind::Values;
 use array::refusal;
@@ -80,7 +80,7 @@ pub fn check_array(
     offsets: &[u64],
 ) -> Checked
     requires { ⌜ cells ≤ mostCells ⌝ }
-    ensures { λ r. ⌜ toldChecked r ≡ checkAnswer (kindOf kind) cells masks values (now (offsets .entry)) ⌝ }
+    ensures { λ r. ⌜ toldChecked r ≡ contentAnswer (kindOf kind) cells masks values (now (offsets .entry)) ⌝ }
 {
     if !content_fits(kind, cells, masks, values, offsets) {
         return Checked::Refused(refusal::CONTENT);

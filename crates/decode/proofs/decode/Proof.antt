@@ -2,121 +2,132 @@
 -- Assumes nothing.
 use mathlib.Core.Path.{_≡_, sym, ap, _∙_, subst}
 use mathlib.Core.Bool.{true}
+use Prim.Native.Nat.{ℕ}
 use borrow.Author.Tests.{not-true, not-false}
 use borrow.Author.Needs.{needs}
-use Rattle.array.specs.Kind.{fixed, ragged, FormOk, KindOk, kindTest}
-use Rattle.array.specs.Meaning.{kindOf, formOf, orderOf, widthOf, placeOf}
-use Rattle.valid.specs.ShapeCells.{toldCells}
+use Rattle.array.specs.Kind.{Form, fixed, FormOk, KindOk, kindTest}
+use Rattle.array.specs.Meaning.{kindOf, formOf, masksOf, orderOf}
+use Rattle.array.specs.Content.{Content}
+use Rattle.array.specs.Outcome.{contentArray}
 use Rattle.array.proofs.Rules.{kind-ok}
+use Rattle.codec.specs.Mask.{maskForm}
+use Rattle.codec.specs.Calls.{readIn, decoded}
+use Rattle.valid.specs.ShapeCells.{toldCells}
+use Rattle.decode.specs.Outcomes.{readOutcome}
+use Rattle.decode.specs.Reads.{Limited}
 use Rattle.decode.proofs.Stages.{ShapeCounted, shape-counted, shape-refused, by-kind, by-shape, by-reading}
 use Rattle.decode.proofs.decode.Statement.{statement}
 use Rattle.decode.proofs.decode.Tie as tie
 
-kind-is : (c : tie.Else1) → kindTest (kindOf (c .before .before .before .before .before .before .before .args .kind)) ≡ true
-kind-is c =
-    let check-kind = c .before .check-kind in
-    sym (check-kind .ensures) ∙ not-false (check-kind .result) (c .if1 .left)
+-- ---- places
 
-counted : (c : tie.After-known-told) → ShapeCounted (c .before .before .before .before .before .before .before .before .before .before .before .args .shape .now) (c .before .n .given .0 .0)
-counted c = shape-counted (c .before .before .before .before .before .before .before .before .before .before .before .args .shape .now) (c .before .n .given .0 .0) (sym (c .before .before .before .shape-cells .ensures) ∙ ap toldCells (c .before .n .given .1))
+abbrev entry : tie.After-slice-known3 → tie.Start
+entry c = let read = c .before .before .before in read .before .before
 
-check-kind-requires : tie.Need-check-kind-requires
-check-kind-requires c κs = search needs
+abbrev begun : tie.Else1 → tie.Start
+begun c = entry (c .before .before)
+
+abbrev counting : tie.After-known-told → tie.After-shape-cells
+counting c = c .before .before .before
+
+abbrev cells : tie.After-known-told → ℕ
+cells c = c .before .n .given .0 .0
+
+abbrev start : tie.After-known-told → tie.Start
+start c = begun (counting c .before)
+
+abbrev fixed-form : tie.After-decode-fixed → tie.After-form
+fixed-form c = c .before .before .before .before
+
+abbrev ragged-form : tie.After-decode-ragged-arg3 → tie.After-form2
+ragged-form c = c .before .before .before .before
+
+abbrev lent : tie.Start → Content
+lent c = contentArray (c .args .masks .now) (c .args .values .now) (c .args .offsets .now)
+
+-- ---- what was checked
+
+kind-is : (c : tie.Else1) → kindTest (kindOf (begun c .args .kind)) ≡ true
+kind-is c = sym (c .before .check-kind .ensures) ∙ not-false (c .before .check-kind .result) (c .if1 .left)
+
+sound : (c : tie.Else1) → KindOk (kindOf (begun c .args .kind))
+sound c = kind-ok (kindOf (begun c .args .kind)) (kind-is c)
+
+counted : (c : tie.After-known-told) → ShapeCounted (start c .args .shape .now) (cells c)
+counted c = shape-counted (start c .args .shape .now) (cells c) (sym (counting c .shape-cells .ensures) ∙ ap toldCells (c .before .n .given .1))
+
+limits : (c : tie.After-known-told) → Limited (start c .args .kind .depth) (cells c)
+limits c = record { some = counted c .some; few = counted c .few; shallow = sound (counting c .before) .shallow }
+
+-- what is left behind then, by the reading
+read : (c : tie.After-known-told) {f : Form} → formOf (start c .args .kind .values) ≡ f
+    → decoded (kindOf (start c .args .kind)) (start c .args .shape .now) (start c .args .bytes .now) (lent (start c))
+    ≡ readOutcome (lent (start c)) (readIn (maskForm (masksOf (start c .args .kind .masks))) f (start c .args .kind .depth) (cells c) (start c .args .bytes .now))
+read c {f} e =
+    let a = start c .args in
+    by-reading (kindOf (a .kind)) (a .shape .now) (a .bytes .now) (a .masks .now) (a .values .now) (a .offsets .now) (kind-is (counting c .before)) (cells c) (counted c) f e
+
+-- ---- answers
 
 returns : tie.Need-returns
 returns c =
-    let args = c .before .before .before .before .before .before .before .args in
-    let check-kind = c .before .check-kind in
-    by-kind (kindOf (args .kind)) (args .shape .now) (args .bytes .now) (args .masks .now) (args .values .now) (args .offsets .now) (sym (check-kind .ensures) ∙ not-true (check-kind .result) (c .if1 .taken))
-
-shape-cells-requires : tie.Need-shape-cells-requires
-shape-cells-requires c κs = search needs
-
-enum-known-n : tie.Need-enum-known-n
-enum-known-n c = search needs
-
-enum-told : tie.Need-enum-told
-enum-told c = search needs
+    let check = c .before .check-kind in
+    let a = entry (c .before .before) .args in
+    by-kind (kindOf (a .kind)) (a .shape .now) (a .bytes .now) (a .masks .now) (a .values .now) (a .offsets .now) (sym (check .ensures) ∙ not-true (check .result) (c .if1 .taken))
 
 returns-2 : tie.Need-returns-2
 returns-2 c =
-    let args = c .before .before .before .before .before .before .before .before .before .before .args in
-    by-shape (kindOf (args .kind)) (args .shape .now) (args .bytes .now) (args .masks .now) (args .values .now) (args .offsets .now) (kind-is (c .before .before .before)) (shape-refused (args .shape .now) _ (sym (c .before .before .shape-cells .ensures) ∙ ap toldCells (c .enum-told .given .1)))
-
-cast-depth : tie.Need-cast-depth
-cast-depth c = search needs
-
-enum-known-form : tie.Need-enum-known-form
-enum-known-form c = search needs
-
-cast-decode-fixed : tie.Need-cast-decode-fixed
-cast-decode-fixed c = search needs
+    let count = c .before .before in
+    let a = begun (count .before) .args in
+    by-shape (kindOf (a .kind)) (a .shape .now) (a .bytes .now) (a .masks .now) (a .values .now) (a .offsets .now) (kind-is (count .before))
+    (shape-refused (a .shape .now) _ (sym (count .shape-cells .ensures) ∙ ap toldCells (c .enum-told .given .1)))
 
 decode-fixed-requires : tie.Need-decode-fixed-requires
 decode-fixed-requires c κs =
-    let args = c .before .before .before .before .before .before .before .before .before .before .before .before .before .before .before .before .before .before .args in
-    let form = c .before .before .before .before .form in
-    let ok : KindOk (kindOf (args .kind)) = kind-ok (kindOf (args .kind)) (kind-is (c .before .before .before .before .before .before .before .before .before .before .before)) in
-    let sized : FormOk (fixed (form .given .0 .0) (orderOf (form .given .0 .1 .0))) = subst FormOk (ap formOf (form .given .1)) (ok .sound) in
-    ((counted (c .before .before .before .before .before .before .before)) .some, (counted (c .before .before .before .before .before .before .before)) .few, ok .shallow, sized .1)
-
-enum-known-form-2 : tie.Need-enum-known-form-2
-enum-known-form-2 c = search needs
+    let form = c .before .before .before in
+    let here = form .before .before in
+    let given = form .form .given in
+    let sized : FormOk (fixed (given .0 .0) (orderOf (given .0 .1 .0))) = subst FormOk (ap formOf (given .1)) (sound (counting here .before) .sound) in
+    (limits here, sized .1)
 
 decode-ragged-requires : tie.Need-decode-ragged-requires
-decode-ragged-requires c κs = ((counted (c .before .before .before .before .before .before .before)) .some, (counted (c .before .before .before .before .before .before .before)) .few, kind-ok (kindOf (c .before .before .before .before .before .before .before .before .before .before .before .before .before .before .before .before .before .before .args .kind)) (kind-is (c .before .before .before .before .before .before .before .before .before .before .before)) .shallow)
-
-same-length : tie.Need-same-length
-same-length c = search needs
-
-same-length-2 : tie.Need-same-length-2
-same-length-2 c = search needs
-
-same-length-3 : tie.Need-same-length-3
-same-length-3 c = search needs
+decode-ragged-requires c κs = limits (ragged-form c .before .before)
 
 returns-3 : tie.Need-returns-3
 returns-3 c =
-    let args = c .before .before .before .before .before .before .before .before .before .before .before .before .before .before .before .before .before .before .before .before .before .before .before .before .before .args in
-    let form = c .before .before .before .before .before .before .before .before .before .before .before .form in
-    c .before .before .before .before .before .before .decode-fixed .ensures ∙ by-reading (kindOf (args .kind)) (args .shape .now) (args .bytes .now) (args .masks .now) (args .values .now) (args .offsets .now) (kind-is (c .before .before .before .before .before .before .before .before .before .before .before .before .before .before .before .before .before .before)) (c .before .before .before .before .before .before .before .before .before .before .before .before .before .before .before .n .given .0 .0) (counted (c .before .before .before .before .before .before .before .before .before .before .before .before .before .before)) (fixed (form .given .0 .0) (orderOf (form .given .0 .1 .0))) (ap formOf (form .given .1))
-
-same-length-4 : tie.Need-same-length-4
-same-length-4 c = search needs
-
-same-length-5 : tie.Need-same-length-5
-same-length-5 c = search needs
-
-same-length-6 : tie.Need-same-length-6
-same-length-6 c = search needs
+    let wrote = c .before .before .before .before in
+    let form = fixed-form wrote in
+    let here = form .before .before in
+    let a = start here .args in
+    rw (read here (ap formOf (form .form .given .1))) (wrote .decode-fixed .ensures (a .offsets .now))
 
 returns-4 : tie.Need-returns-4
 returns-4 c =
-    let args = c .before .before .before .before .before .before .before .before .before .before .before .before .before .before .before .before .before .before .before .before .before .before .before .before .before .args in
-    let form2 = c .before .before .before .before .before .before .before .before .before .before .before .form2 in
-    c .before .before .before .before .before .before .decode-ragged .ensures ∙ by-reading (kindOf (args .kind)) (args .shape .now) (args .bytes .now) (args .masks .now) (args .values .now) (args .offsets .now) (kind-is (c .before .before .before .before .before .before .before .before .before .before .before .before .before .before .before .before .before .before)) (c .before .before .before .before .before .before .before .before .before .before .before .before .before .before .before .n .given .0 .0) (counted (c .before .before .before .before .before .before .before .before .before .before .before .before .before .before)) (ragged (widthOf (form2 .given .0 .0)) (placeOf (form2 .given .0 .1 .0))) (ap formOf (form2 .given .1))
+    let copied = c .before .before .before .before in
+    let wrote = copied .before .before in
+    let form = ragged-form (wrote .before) in
+    let here = form .before .before in
+    rw (read here (ap formOf (form .form2 .given .1))) (wrote .decode-ragged .ensures)
 
 pub decode-spec : {M : Type 1} → statement M
 decode-spec =
     tie.close
     (tie.spec
-    check-kind-requires
+    (λ c κs. search needs)
     returns
-    shape-cells-requires
-    enum-known-n
-    enum-told
+    (λ c κs. search needs)
+    (λ c. search needs)
+    (λ c. search needs)
     returns-2
-    cast-depth
-    enum-known-form
-    cast-decode-fixed
+    (λ c. search needs)
+    (λ c. search needs)
     decode-fixed-requires
-    enum-known-form-2
+    (λ c. search needs)
     decode-ragged-requires
-    same-length
-    same-length-2
-    same-length-3
+    (λ c. search needs)
+    (λ c. search needs)
     returns-3
-    same-length-4
-    same-length-5
-    same-length-6
+    (λ c. search needs)
+    (λ c. search needs)
+    (λ c. search needs)
     returns-4)

@@ -6,19 +6,22 @@ use lib.ListN.{length}
 use borrow.Author.Needs.{needs}
 use borrow.Fn.Kinds.{In}
 use borrow.Fn.PlainCycle.{Measures, is, falls, and}
+use Rattle.array.specs.Meaning.{masksOf}
 use Rattle.buffer.proofs.copy.fill_bytes.Reads as fill-bytes-reads
-use Rattle.planes.proofs.Levels.{levels-none, levels-null, levels-room, levels-fits, levels-next, levels-done}
+use Rattle.codec.specs.Mask.{maskForm}
+use Rattle.mask.proofs.form.count_stored.Reads as count-stored-reads
+use Rattle.mask.proofs.form.mask_length.Reads as mask-length-reads
+use Rattle.stored.specs.Stored.{MaskPassed}
+use Rattle.planes.proofs.Levels.{levels-none, levels-null, levels-mask, levels-fits, levels-plane, levels-next, levels-done}
 use Rattle.planes.proofs.place_levels.Reads as place-levels
 use Rattle.planes.proofs.place_levels.Kinds as place-levels-kinds
-use Rattle.planes.proofs.+place_levels.Lts-place_levels as place-levels-lts
-use Rattle.stored.proofs.mask.count_stored.Reads as count-stored-reads
-use Rattle.stored.proofs.mask.mask_length.Reads as mask-length-reads
+use Rattle.planes.proofs.+place_levels.Lts-place_levels as lts
 use Rattle.planes.proofs.place_plane.Reads as place-plane-reads
 use Rattle.planes.proofs.+place_levels.{statement}
 use Rattle.planes.proofs.+place_levels.Tie.{close}
 
 abbrev μ-place-levels : Measures 2 place-levels-kinds.ps ℕ
-μ-place-levels κs a = a .1 .1 .1 .0
+μ-place-levels κs a = a .1 .1 .1 .1 .0
 
 abbrev place-levels-at : ℕ → In 2 place-levels-kinds.ps
 place-levels-at t =
@@ -33,88 +36,123 @@ place-levels-below t =
     place-levels.Pre
 
 -- the readings of what each member calls
-abbrev claims-place-levels : ℕ → place-levels-lts.Claims
-claims-place-levels t = (fill-bytes-reads.Asked, fill-bytes-reads.Learnt, mask-length-reads.Asked, mask-length-reads.Learnt, place-plane-reads.Asked, place-plane-reads.Learnt, count-stored-reads.Asked, count-stored-reads.Learnt, place-levels-below t, place-levels.Post)
+abbrev claims : ℕ → lts.Claims
+claims t = (
+  fill-bytes-reads.Asked,
+  fill-bytes-reads.Learnt,
+  mask-length-reads.Asked,
+  mask-length-reads.Learnt,
+  place-plane-reads.Asked,
+  place-plane-reads.Learnt,
+  count-stored-reads.Asked,
+  count-stored-reads.Learnt,
+  place-levels-below t,
+  place-levels.Post,
+)
 
-fits : (t : ℕ) (c : place-levels-lts.Else2 (claims-place-levels t) (place-levels-at t) place-levels.Post) → c .before .before .before .before .args .to + c .before .before .before .before .args .n + (c .before .before .before .before .args .left - 1) * c .before .before .before .before .args .n ≤ length (c .before .before .before .before .args .masks .now)
-fits t c = levels-fits (c .before .before .before .before .pre .1) (c .before .if1 .left) (c .if2 .left)
+module _ (t : ℕ) where
+  -- ---- places
 
-room : (t : ℕ) (c : place-levels-lts.Else2 (claims-place-levels t) (place-levels-at t) place-levels.Post) → c .before .before .before .before .args .at + (16 + c .before .before .before .before .args .cells) ≤ length (c .before .before .before .before .args .s .now)
-room t c = levels-room (c .before .before .before .before .pre .1) (c .before .if1 .left) (c .if2 .left)
+  abbrev Start : Type 0
+  Start = lts.Start (claims t) (place-levels-at t) place-levels.Post
 
-place-levels-returns : (t : ℕ) → place-levels-lts.Need-returns (claims-place-levels t) (place-levels-at t) place-levels.Post
-place-levels-returns t c = levels-none (c .before .before .before .pre .1) (c .if1 .taken)
+  -- some level and some cell is left
+  abbrev Left : Type 0
+  Left = lts.Else2 (claims t) (place-levels-at t) place-levels.Post
 
-place-levels-mul-fill-bytes : (t : ℕ) → place-levels-lts.Need-mul-fill-bytes (claims-place-levels t) (place-levels-at t) place-levels.Post
-place-levels-mul-fill-bytes t c = omega (arith, c .before .before .before .before .before .pre .1 .room)
+  abbrev Counted : Type 0
+  Counted = lts.After-count-stored (claims t) (place-levels-at t) place-levels.Post
 
-place-levels-fill-bytes-requires : (t : ℕ) → place-levels-lts.Need-fill-bytes-requires (claims-place-levels t) (place-levels-at t) place-levels.Post
-place-levels-fill-bytes-requires t c κs = omega (arith, c .before .before .before .before .before .pre .1 .room)
+  abbrev entry : Left → Start
+  entry c = c .before .before .before .before
 
-place-levels-same-length : (t : ℕ) → place-levels-lts.Need-same-length (claims-place-levels t) (place-levels-at t) place-levels.Post
-place-levels-same-length t c = search needs
+  abbrev Laid : Type 0
+  Laid = lts.After-place-plane (claims t) (place-levels-at t) place-levels.Post
 
-place-levels-returns-2 : (t : ℕ) → place-levels-lts.Need-returns-2 (claims-place-levels t) (place-levels-at t) place-levels.Post
-place-levels-returns-2 t c = levels-null (c .before .before .before .before .before .before .before .before .pre .1) (c .before .before .before .before .if2 .taken) _ (c .before .before .fill-bytes .ensures)
+  abbrev left : Laid → Left
+  left c = c .before .before .before
 
-place-levels-add-mask : (t : ℕ) → place-levels-lts.Need-add-mask (claims-place-levels t) (place-levels-at t) place-levels.Post
-place-levels-add-mask t c = omega (arith, (room t c))
+  abbrev laid : Counted → Laid
+  laid c = c .before .before .before
 
-place-levels-mask-length-requires : (t : ℕ) → place-levels-lts.Need-mask-length-requires (claims-place-levels t) (place-levels-at t) place-levels.Post
-place-levels-mask-length-requires t c κs = search needs
+  abbrev counted : lts.After-slice-known4 (claims t) (place-levels-at t) place-levels.Post → Counted
+  counted c = c .before .before .before .before
 
-place-levels-add-end : (t : ℕ) → place-levels-lts.Need-add-end (claims-place-levels t) (place-levels-at t) place-levels.Post
-place-levels-add-end t c = omega (arith, (room t (c .before)), c .mask-length .ensures)
+  abbrev nulled : lts.After-slice-known2 (claims t) (place-levels-at t) place-levels.Post → lts.Then2 (claims t) (place-levels-at t) place-levels.Post
+  nulled c = c .before .before .before .before
 
-place-levels-sub-place-plane : (t : ℕ) → place-levels-lts.Need-sub-place-plane (claims-place-levels t) (place-levels-at t) place-levels.Post
-place-levels-sub-place-plane t c = omega (arith, c .before .before .before .before .before .before .pre .1 .above)
+  -- ---- answers
 
-place-levels-place-plane-requires : (t : ℕ) → place-levels-lts.Need-place-plane-requires (claims-place-levels t) (place-levels-at t) place-levels.Post
-place-levels-place-plane-requires t c κs =
-    let pre = c .before .before .before .before .before .before .pre in
-    (omega (arith, pre .1 .above), omega (arith, (fits t (c .before .before))), pre .1 .count, omega (arith, (room t (c .before .before))))
+  fits : (c : Left) → entry c .args .to + entry c .args .n + (entry c .args .left - 1) * entry c .args .n ≤ length (entry c .args .masks .now)
+  fits c = levels-fits (entry c .pre .1) (c .before .if1 .left) (c .if2 .left)
 
-place-levels-count-stored-requires : (t : ℕ) → place-levels-lts.Need-count-stored-requires (claims-place-levels t) (place-levels-at t) place-levels.Post
-place-levels-count-stored-requires t c κs = omega (arith, (room t (c .before .before .before .before .before)))
+  mask : (c : Left) → MaskPassed (maskForm (masksOf (entry c .args .form))) (entry c .args .s .now) (entry c .args .at) (entry c .args .cells)
+  mask c = levels-mask (entry c .pre .1) (c .before .if1 .left) (c .if2 .left)
 
-place-levels-add-place-levels : (t : ℕ) → place-levels-lts.Need-add-place-levels (claims-place-levels t) (place-levels-at t) place-levels.Post
-place-levels-add-place-levels t c = omega (arith, (fits t (c .before .before .before .before .before .before .before)))
+  returns : lts.Need-returns (claims t) (place-levels-at t) place-levels.Post
+  returns c = levels-none (c .before .before .before .pre .1) (c .if1 .taken)
 
-place-levels-sub-place-levels : (t : ℕ) → place-levels-lts.Need-sub-place-levels (claims-place-levels t) (place-levels-at t) place-levels.Post
-place-levels-sub-place-levels t c = search needs
+  mul-fill-bytes : lts.Need-mul-fill-bytes (claims t) (place-levels-at t) place-levels.Post
+  mul-fill-bytes c = let start = c .before .before .before .before in omega (arith, start .before .pre .1 .room)
 
-place-levels-place-levels-requires : (t : ℕ) → place-levels-lts.Need-place-levels-requires (claims-place-levels t) (place-levels-at t) place-levels.Post
-place-levels-place-levels-requires t c κs =
-    let mask-length = c .before .before .before .before .before .before .mask-length in
-    let place-plane = c .before .before .before .before .place-plane in
-    let count-stored = c .before .count-stored in
-    (omega arith, levels-next (c .before .before .before .before .before .before .before .before .before .before .before .pre .1) (c .before .before .before .before .before .before .before .before .if1 .left) (c .before .before .before .before .before .before .before .if2 .left) (mask-length .result) (mask-length .ensures) (place-plane .last .0) (place-plane .ensures) (count-stored .result) (count-stored .ensures))
+  fill-bytes-requires : lts.Need-fill-bytes-requires (claims t) (place-levels-at t) place-levels.Post
+  fill-bytes-requires c κs = let start = c .before .before .before .before in omega (arith, start .before .pre .1 .room)
 
-place-levels-same-length-2 : (t : ℕ) → place-levels-lts.Need-same-length-2 (claims-place-levels t) (place-levels-at t) place-levels.Post
-place-levels-same-length-2 t c = search needs
+  returns-2 : lts.Need-returns-2 (claims t) (place-levels-at t) place-levels.Post
+  returns-2 c = levels-null (nulled c .before .before .before .before .pre .1) (nulled c .if2 .taken) _ (c .before .before .fill-bytes .ensures)
 
-place-levels-returns-3 : (t : ℕ) → place-levels-lts.Need-returns-3 (claims-place-levels t) (place-levels-at t) place-levels.Post
-place-levels-returns-3 t c =
-    let mask-length = c .before .before .before .before .before .before .before .before .before .mask-length in
-    let place-plane = c .before .before .before .before .before .before .before .place-plane in
-    let count-stored = c .before .before .before .before .count-stored in
-    levels-done (c .before .before .before .before .before .before .before .before .before .before .before .before .before .before .pre .1) (c .before .before .before .before .before .before .before .before .before .before .before .if1 .left) (c .before .before .before .before .before .before .before .before .before .before .if2 .left) (mask-length .result) (mask-length .ensures) (place-plane .last .0) (place-plane .ensures) (count-stored .result) (count-stored .ensures) _ (c .before .before .place-levels .ensures)
+  add-mask : lts.Need-add-mask (claims t) (place-levels-at t) place-levels.Post
+  add-mask c = omega (arith, mask c .room)
+
+  add-end : lts.Need-add-end (claims t) (place-levels-at t) place-levels.Post
+  add-end c = omega (arith, mask (c .before) .room, c .mask-length .ensures)
+
+  sub-place-plane : lts.Need-sub-place-plane (claims t) (place-levels-at t) place-levels.Post
+  sub-place-plane c = omega (arith, entry (c .before .before) .pre .1 .above)
+
+  place-plane-requires : lts.Need-place-plane-requires (claims t) (place-levels-at t) place-levels.Post
+  place-plane-requires c κs =
+      let some = c .before .before in
+      levels-plane (entry some .pre .1) (some .before .if1 .left) (some .if2 .left)
+
+  count-stored-requires : lts.Need-count-stored-requires (claims t) (place-levels-at t) place-levels.Post
+  count-stored-requires c κs =
+      let some = left (c .before .before) in
+      (omega (arith, mask some .room), mask some .passed)
+
+  add-place-levels : lts.Need-add-place-levels (claims t) (place-levels-at t) place-levels.Post
+  add-place-levels c = omega (arith, fits (left (laid (c .before))))
+
+  place-levels-requires : lts.Need-place-levels-requires (claims t) (place-levels-at t) place-levels.Post
+  place-levels-requires c κs =
+      let here = laid (c .before) in
+      let some = left here in (
+        omega arith,
+        levels-next (entry some .pre .1) (some .before .if1 .left) (some .if2 .left) (here .before .before .mask-length .ensures) (here .place-plane .ensures) (c .before .count-stored .ensures),
+      )
+
+  returns-3 : lts.Need-returns-3 (claims t) (place-levels-at t) place-levels.Post
+  returns-3 c =
+      let here = laid (counted c) in
+      let some = left here in
+      levels-done (entry some .pre .1) (some .before .if1 .left) (some .if2 .left) (here .before .before .mask-length .ensures) (here .place-plane .ensures) (counted c .count-stored .ensures) _
+      (c .before .before .place-levels .ensures)
 
 pub +place-levels-spec : {M : Type 1} → statement M
-+place-levels-spec = close μ-place-levels λ t. place-levels-lts.spec (claims-place-levels t) (place-levels-at t) place-levels.Post
-    (place-levels-returns t)
-    (place-levels-mul-fill-bytes t)
-    (place-levels-fill-bytes-requires t)
-    (place-levels-same-length t)
-    (place-levels-returns-2 t)
-    (place-levels-add-mask t)
-    (place-levels-mask-length-requires t)
-    (place-levels-add-end t)
-    (place-levels-sub-place-plane t)
-    (place-levels-place-plane-requires t)
-    (place-levels-count-stored-requires t)
-    (place-levels-add-place-levels t)
-    (place-levels-sub-place-levels t)
-    (place-levels-place-levels-requires t)
-    (place-levels-same-length-2 t)
-    (place-levels-returns-3 t)
++place-levels-spec = close μ-place-levels λ t. lts.spec (claims t) (place-levels-at t) place-levels.Post
+    (returns t)
+    (mul-fill-bytes t)
+    (fill-bytes-requires t)
+    (λ c. search needs)
+    (returns-2 t)
+    (add-mask t)
+    (λ c κs. search needs)
+    (add-end t)
+    (sub-place-plane t)
+    (place-plane-requires t)
+    (count-stored-requires t)
+    (add-place-levels t)
+    (λ c. search needs)
+    (place-levels-requires t)
+    (λ c. search needs)
+    (returns-3 t)

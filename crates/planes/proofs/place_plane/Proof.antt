@@ -1,96 +1,106 @@
 -- `place_plane` meets its contract, by the laws of Placing.
 -- Assumes nothing.
-use mathlib.Core.Path.{_≡_, ap, _∙_}
-use Prim.Native.Nat.{ℕ, _-_, _<_}
+use mathlib.Core.Path.{_≡_, _∙_}
+use Prim.Native.Nat.{_-_}
 use native.Mathlib.Omega.{arith}
 use lib.ListN.{length}
 use borrow.Author.Needs.{needs}
-use Rattle.stored.specs.Marks.{toldMark}
-use Rattle.spread.specs.Next.{ifSet}
+use Rattle.array.specs.Meaning.{masksOf}
+use Rattle.mask.specs.Marks.{toldMark}
 use Rattle.spread.proofs.PlaneLaws.{next-most}
-use Rattle.planes.proofs.Placing.{Placing, placing-begins, placing-all, placing-same, placing-ends, placing-inside, placing-more}
+use Rattle.planes.proofs.Placing.{Placing, Turn, byte-within, placing-begins, placing-fits, placing-all, placing-same, placing-ends, placing-turn, placing-more}
 use Rattle.planes.proofs.place_plane.Statement.{statement}
 use Rattle.planes.proofs.place_plane.Tie as tie
 
 abbrev Inv-loop : tie.InvT-loop
-Inv-loop masks₀ from to n s at cells i₀ j₀ masks i j = Placing masks₀ from to n s at cells masks i j
+Inv-loop form masks₀ from to n s at cells i₀ j₀ masks i j = Placing (masksOf form) masks₀ from to n s at cells masks i j
 
 abbrev μ-loop : tie.MeasureT-loop
-μ-loop masks₀ from to n s at cells i₀ j₀ masks i j = n - i
+μ-loop form masks₀ from to n s at cells i₀ j₀ masks i j = n - i
 
-same : (c : tie.At-loop Inv-loop μ-loop) → length (c .loop .masks) ≡ length (c .before .before .before .before .args .masks .now)
+-- ---- places
+
+abbrev Head : Type 0
+Head = tie.At-loop Inv-loop μ-loop
+
+abbrev entry : Head → tie.Start Inv-loop μ-loop
+entry c = c .before .before .before .before
+
+abbrev marked : tie.After-skip Inv-loop μ-loop → tie.After-mark-of Inv-loop μ-loop
+marked c = c .before .before
+
+abbrev turned : tie.After-mark-of Inv-loop μ-loop → tie.In-loop Inv-loop μ-loop
+turned c = c .before .before .before
+
+abbrev filled : tie.After-slice-known4 Inv-loop μ-loop → tie.After-loop Inv-loop μ-loop
+filled c = c .before .before .before .before
+
+-- ---- what a turn rests on
+
+turn : (c : tie.In-loop Inv-loop μ-loop) → Turn (entry (c .before) .args .from) (entry (c .before) .args .to) (entry (c .before) .args .n) (c .before .loop .masks) (c .before .loop .i)
+turn c = placing-turn (c .before .loop .inv) (c .loop-test .taken)
+
+same : (c : Head) → length (c .loop .masks) ≡ length (entry c .args .masks .now)
 same c = placing-same (c .loop .inv)
 
-inside : (c : tie.In-loop Inv-loop μ-loop) → c .before .loop .i < c .before .before .before .before .before .args .n
-inside c = placing-inside (c .before .loop .inv) (c .loop-test .taken)
+-- ---- answers
 
 copy-to-plane-requires : tie.Need-copy-to-plane-requires Inv-loop μ-loop
-copy-to-plane-requires c κs =
-    let pre = c .before .before .before .before .pre in
-    (pre .1, omega (arith, pre .3, c .before .if1 .taken))
-
-same-length : tie.Need-same-length Inv-loop μ-loop
-same-length c = search needs
+copy-to-plane-requires c κs = placing-fits (c .before .before .before .before .pre) (c .before .if1 .taken)
 
 returns : tie.Need-returns Inv-loop μ-loop
 returns c =
-    let args = c .before .before .before .before .before .before .before .args in
-    let pre = c .before .before .before .before .before .before .before .pre in
-    placing-all (args .masks .now) (args .from) (args .to) (args .n) (args .s .now) (args .at) (args .cells) (pre .0) (pre .1) (pre .2) (pre .3) (c .before .before .before .before .if1 .taken) _ (c .before .before .copy-to-plane .ensures)
+    let then = c .before .before .before .before in
+    placing-all (then .before .before .before .pre) (then .if1 .taken) _ (c .before .before .copy-to-plane .ensures)
 
 loop-holds : tie.Need-loop-holds Inv-loop μ-loop
-loop-holds c =
-    let args = c .before .before .before .args in
-    let pre = c .before .before .before .pre in
-    placing-begins (args .masks .now) (args .from) (args .to) (args .n) (args .s .now) (args .at) (args .cells) (pre .0) (pre .1) (pre .2) (pre .3)
+loop-holds c = placing-begins (c .before .before .before .pre)
 
-stored-byte-requires : tie.Need-stored-byte-requires Inv-loop μ-loop
-stored-byte-requires c κs = omega (arith, c .before .loop .inv .enough, c .loop-test .taken)
+said-byte-requires : tie.Need-said-byte-requires Inv-loop μ-loop
+said-byte-requires c κs = byte-within (c .before .loop .inv .start) _ (c .loop-test .taken)
 
 add-mark-of : tie.Need-add-mark-of Inv-loop μ-loop
-add-mark-of c = omega (arith, (same (c .before .before)), (inside (c .before)), c .before .before .before .before .before .before .pre)
+add-mark-of c = omega (arith, turn (c .before))
 
 slice-read-mark-of : tie.Need-slice-read-mark-of Inv-loop μ-loop
-slice-read-mark-of c = omega (arith, (same (c .before .before .before)), (inside (c .before .before)), c .before .before .before .before .before .before .before .pre)
-
-mark-of-requires : tie.Need-mark-of-requires Inv-loop μ-loop
-mark-of-requires c κs = search needs
-
-byte-if-requires : tie.Need-byte-if-requires Inv-loop μ-loop
-byte-if-requires c κs = search needs
+slice-read-mark-of c = omega (arith, turn (c .before .before))
 
 add-masks : tie.Need-add-masks Inv-loop μ-loop
-add-masks c = omega (arith, (same (c .before .before .before .before .before)), (inside (c .before .before .before .before)), c .before .before .before .before .before .before .before .before .before .pre)
+add-masks c = omega (arith, turn (turned (c .before)))
 
 slice-write-masks : tie.Need-slice-write-masks Inv-loop μ-loop
-slice-write-masks c = omega (arith, (same (c .before .before .before .before .before)), (inside (c .before .before .before .before)), c .before .before .before .before .before .before .before .before .before .pre)
+slice-write-masks c = omega (arith, turn (turned (c .before)))
 
 skip-requires : tie.Need-skip-requires Inv-loop μ-loop
-skip-requires c κs = omega (arith, next-most (toldMark (c .before .mark-of .result)) _ _ (c .before .before .before .before .loop-test .taken))
+skip-requires c κs = omega (arith, next-most (toldMark (c .before .mark-of .result)) _ _ (turned (c .before) .loop-test .taken))
 
 add-i : tie.Need-add-i Inv-loop μ-loop
-add-i c = omega (arith, (same (c .before .before .before .before .before .before)), (inside (c .before .before .before .before .before)), c .before .before .before .before .before .before .before .before .before .before .pre)
+add-i c = omega (arith, turn (turned (marked c)))
 
 loop-less : tie.Need-loop-less Inv-loop μ-loop
-loop-less c = omega (arith, (inside (c .before .before .before .before .before)))
+loop-less c = omega (arith, turn (turned (marked c)))
 
 loop-again : tie.Need-loop-again Inv-loop μ-loop
-loop-again c = rw (c .skip .ensures) (placing-more (c .before .before .before .before .before .before .loop .inv) (c .before .before .before .before .before .loop-test .taken) (toldMark (c .before .before .mark-of .result)) (c .before .before .mark-of .ensures) (c .before .byte-if .result) (c .before .byte-if .ensures ∙ ap (λ (b : ℕ). ifSet (toldMark (c .before .before .mark-of .result)) b 0) (c .before .before .before .before .stored-byte .ensures)))
+loop-again c =
+    let mark = marked c .mark-of in
+    let in-turn = turned (marked c) in
+    rw (c .skip .ensures)
+    (placing-more (in-turn .before .loop .inv) (in-turn .loop-test .taken) (toldMark (mark .result)) (mark .ensures) _ _ (marked c .before .before .said-byte .ensures) (c .before .byte-if .ensures))
 
 add-fill-bytes : tie.Need-add-fill-bytes Inv-loop μ-loop
-add-fill-bytes c = omega (arith, (same (c .before .before)), c .before .before .loop .inv .within, c .before .before .before .before .before .before .pre)
+add-fill-bytes c = omega (arith, same (c .before .before), c .before .before .loop .inv .within, c .before .before .loop .inv .start)
 
 sub-fill-bytes : tie.Need-sub-fill-bytes Inv-loop μ-loop
 sub-fill-bytes c = omega (arith, c .before .before .loop .inv .within)
 
 fill-bytes-requires : tie.Need-fill-bytes-requires Inv-loop μ-loop
-fill-bytes-requires c κs = omega (arith, (same (c .before .before)), c .before .before .loop .inv .within, c .before .before .before .before .before .before .pre)
+fill-bytes-requires c κs = omega (arith, same (c .before .before), c .before .before .loop .inv .within, c .before .before .loop .inv .start)
 
 same-length-2 : tie.Need-same-length-2 Inv-loop μ-loop
-same-length-2 c = c .before .before .fill-bytes .kept .0 ∙ (same (c .before .before .before .before .before))
+same-length-2 c = c .before .before .fill-bytes .kept .0 ∙ same (filled c .before)
 
 returns-2 : tie.Need-returns-2 Inv-loop μ-loop
-returns-2 c = placing-ends (c .before .before .before .before .before .loop .inv) (c .before .before .before .before .loop-test .left) _ (c .before .before .fill-bytes .ensures)
+returns-2 c = placing-ends (filled c .before .loop .inv) (filled c .loop-test .left) _ (c .before .before .fill-bytes .ensures)
 
 pub place-plane-spec : {M : Type 1} → statement M
 place-plane-spec =
@@ -99,14 +109,14 @@ place-plane-spec =
     Inv-loop
     μ-loop
     copy-to-plane-requires
-    same-length
+    (λ c. search needs)
     returns
     loop-holds
-    stored-byte-requires
+    said-byte-requires
     add-mark-of
     slice-read-mark-of
-    mark-of-requires
-    byte-if-requires
+    (λ c κs. search needs)
+    (λ c κs. search needs)
     add-masks
     slice-write-masks
     skip-requires

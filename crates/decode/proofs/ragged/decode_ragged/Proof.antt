@@ -1,167 +1,159 @@
--- `decode_ragged` meets its contract: the reader's answer by the walk and the check (NestedLaws), and what the copying rests on.
+-- `decode_ragged` meets its contract: the reader's answer by the walk and the check (RaggedLaws), and what the copying rests on.
 -- Assumes nothing.
 use mathlib.Core.Path.{_≡_, sym, ap, _∙_}
-use Prim.Native.Nat.{_+_, _-_, _≤_}
+use Prim.Native.Nat.{ℕ, _≤_}
 use native.Mathlib.Nat.{le-trans}
 use native.Mathlib.Omega.{arith}
 use lib.ListN.{length}
 use borrow.Author.Needs.{needs}
 use Rattle.array.specs.Answer.{gives}
-use Rattle.array.specs.Meaning.{widthOf, placeOf}
-use Rattle.array.specs.Outcome.{contentArray}
-use Rattle.stored.specs.Walk.{walked, valuesAt, toldWalk}
-use Rattle.stored.specs.Index.{indexAt, dataAt, toldIndex}
-use Rattle.stored.proofs.Walks.{WalkPassed, walk-values, values-flat, passed-count}
-use Rattle.stored.proofs.CheckedIndex.{span-refused, IndexChecked, index-checked, IndexPlaced, index-placed, index-within, data-within}
-use Rattle.decode.specs.Outcomes.{readOutcome}
-use Rattle.decode.proofs.NestedLaws.{none-within, ragged-refused, ragged-none-set, ragged-wrong, ragged-given}
+use Rattle.array.specs.Meaning.{widthOf, placeOf, masksOf}
+use Rattle.codec.specs.Mask.{maskForm}
+use Rattle.stored.specs.Walk.{valuesAt, walked, toldWalk}
+use Rattle.stored.specs.Index.{checkedIn, toldIndex}
+use Rattle.stored.proofs.Walks.{WalkPassed, walk-values, none-deep}
+use Rattle.stored.proofs.IndexLaws.{width-most}
+use Rattle.stored.proofs.CheckedIndex.{IndexChecked, index-checked, checked-refused}
+use Rattle.decode.proofs.RaggedLaws.{none-within, some-within, ragged-refused, ragged-none-set, ragged-wrong, ragged-given}
 use Rattle.decode.proofs.ragged.decode_ragged.Statement.{statement}
 use Rattle.decode.proofs.ragged.decode_ragged.Tie as tie
 
--- what the walk found
-walk-is : (c : tie.After-known-told2) → walked (c .before .before .before .before .before .before .before .before .args .depth) (c .before .before .before .before .before .before .before .before .args .s .now) 0 (c .before .before .before .before .before .before .before .before .args .n) ≡ gives (valuesAt (c .before .walk2 .given .0 .0) (c .before .walk2 .given .0 .1 .0))
-walk-is c = sym (c .before .before .before .walk-content .ensures) ∙ ap toldWalk (c .before .walk2 .given .1)
+-- ---- places
 
-passed : (c : tie.After-known-told2) → WalkPassed (c .before .before .before .before .before .before .before .before .args .depth) (c .before .before .before .before .before .before .before .before .args .s .now) 0 (c .before .before .before .before .before .before .before .before .args .n) (c .before .walk2 .given .0 .1 .0) × (c .before .walk2 .given .0 .0 ≤ length (c .before .before .before .before .before .before .before .before .args .s .now))
-passed c = walk-values (c .before .before .before .before .before .before .before .before .args .depth) (c .before .before .before .before .before .before .before .before .args .s .now) 0 (c .before .before .before .before .before .before .before .before .args .n) (c .before .walk2 .given .0 .0) (c .before .walk2 .given .0 .1 .0) (omega arith) (walk-is c)
+abbrev entry : tie.After-slice-known3 → tie.Start
+entry c = c .before .before .before .before
 
--- what the check found
-checked-is : (c : tie.After-known-told4)
-    → IndexChecked (widthOf (c .before .before .before .before .before .before .before .before .before .before .before .before .args .width)) (c .before .before .before .before .before .walk2 .given .0 .1 .0) (c .before .before .before .before .before .before .before .before .before .before .before .before .args .s .now) (c .before .before .before .before .before .walk2 .given .0 .0) (placeOf (c .before .before .before .before .before .before .before .before .before .before .before .before .args .place)) (c .before .checked2 .given .0 .0) (c .before .checked2 .given .0 .1 .0)
+abbrev begun : tie.After-walk-content → tie.Start
+begun c = entry (c .before .before)
+
+abbrev none : tie.After-write-nested-arg3 → tie.After-enum-told
+none c = c .before .before .before
+
+abbrev looked : tie.After-check-ragged → tie.After-walk2
+looked c = c .before .before
+
+abbrev found : tie.After-write-ragged-arg3 → tie.After-checked2
+found c = c .before .before .before .before
+
+-- ---- the walk and the check
+
+walk-is : (c : tie.After-walk-content)
+    → walked (maskForm (masksOf (begun c .args .kind .masks))) (begun c .args .kind .depth) (begun c .args .s .now) 0 (begun c .args .n) ≡ toldWalk (c .walk-content .result)
+walk-is c = sym (c .walk-content .ensures)
+
+abbrev start : tie.After-walk2 → tie.Start
+start c = begun (c .before .before)
+
+abbrev at : tie.After-walk2 → ℕ
+at c = c .walk2 .given .0 .0
+
+abbrev cells : tie.After-walk2 → ℕ
+cells c = c .walk2 .given .0 .1 .0
+
+values-are : (c : tie.After-walk2)
+    → walked (maskForm (masksOf (start c .args .kind .masks))) (start c .args .kind .depth) (start c .args .s .now) 0 (start c .args .n) ≡ gives (valuesAt (at c) (cells c))
+values-are c = walk-is (c .before .before) ∙ ap toldWalk (c .walk2 .given .1)
+
+passed : (c : tie.After-walk2)
+    → WalkPassed (masksOf (start c .args .kind .masks)) (start c .args .kind .depth) (start c .args .s .now) 0 (start c .args .n) (cells c) × (at c ≤ length (start c .args .s .now))
+passed c =
+    let a = start c .args in
+    walk-values (masksOf (a .kind .masks)) (a .kind .depth) (a .s .now) 0 (a .n) (at c) (cells c) (omega arith) (values-are c)
+
+check-is : (c : tie.After-check-ragged) → checkedIn (widthOf (start (looked c) .args .width)) (placeOf (start (looked c) .args .place)) (start (looked c) .args .s .now)
+    (at (looked c)) (cells (looked c)) ≡ toldIndex (c .check-ragged .result)
+check-is c = sym (c .check-ragged .ensures)
+
+abbrev walk-of : tie.After-checked2 → tie.After-walk2
+walk-of c = looked (c .before .before)
+
+checked-is : (c : tie.After-checked2) → IndexChecked (widthOf (start (walk-of c) .args .width)) (placeOf (start (walk-of c) .args .place)) (start (walk-of c) .args .s .now)
+    (at (walk-of c)) (cells (walk-of c)) (c .checked2 .given .0 .0)
 checked-is c =
-    index-checked (widthOf (c .before .before .before .before .before .before .before .before .before .before .before .before .args .width)) (c .before .before .before .before .before .walk2 .given .0 .1 .0) (c .before .before .before .before .before .before .before .before .before .before .before .before .args .s .now) (c .before .before .before .before .before .walk2 .given .0 .0) (placeOf (c .before .before .before .before .before .before .before .before .before .before .before .before .args .place)) (c .before .checked2 .given .0 .0) (c .before .checked2 .given .0 .1 .0)
-    ((passed (c .before .before .before .before)) .1) (sym (c .before .before .before .check-ragged .ensures) ∙ ap toldIndex (c .before .checked2 .given .1))
+    let w = walk-of c in
+    let a = start w .args in
+    index-checked (widthOf (a .width)) (placeOf (a .place)) (a .s .now) (at w) (cells w) (c .checked2 .given .0 .0) (passed w .1)
+    (check-is (c .before .before) ∙ ap toldIndex (c .checked2 .given .1))
 
-placed : (c : tie.After-data-at)
-    → IndexPlaced (widthOf (c .before .before .before .before .before .before .before .before .before .before .before .before .before .before .before .args .width)) (c .before .before .before .before .before .before .before .before .walk2 .given .0 .1 .0) (c .before .before .before .before .before .before .before .before .before .before .before .before .before .before .before .args .s .now) (c .before .before .before .before .before .before .before .before .walk2 .given .0 .0) (placeOf (c .before .before .before .before .before .before .before .before .before .before .before .before .before .before .before .args .place))
-    (c .before .before .before .before .before .before .before .before .walk2 .given .0 .0 + c .before .index-at .result) (c .before .before .before .before .before .before .before .before .walk2 .given .0 .0 + c .data-at .result) (c .before .before .before .before .checked2 .given .0 .0) (c .before .before .before .before .checked2 .given .0 .1 .0)
-placed c =
-    index-placed (checked-is (c .before .before .before)) (c .before .before .before .before .before .before .before .before .walk2 .given .0 .0 + c .before .index-at .result) (c .before .before .before .before .before .before .before .before .walk2 .given .0 .0 + c .data-at .result)
-    (ap (λ i. c .before .before .before .before .before .before .before .before .walk2 .given .0 .0 + i) (sym (c .before .index-at .ensures ∙ ap (indexAt (placeOf (c .before .before .before .before .before .before .before .before .before .before .before .before .before .before .before .args .place)) (length (c .before .before .before .before .before .before .before .before .before .before .before .before .before .before .before .args .s .now) - c .before .before .before .before .before .before .before .before .walk2 .given .0 .0)) (c .before .before .index-length .ensures))))
-    (ap (λ i. c .before .before .before .before .before .before .before .before .walk2 .given .0 .0 + i) (sym (c .data-at .ensures ∙ ap (dataAt (placeOf (c .before .before .before .before .before .before .before .before .before .before .before .before .before .before .before .args .place))) (c .before .before .index-length .ensures))))
-
-walk-content-requires : tie.Need-walk-content-requires
-walk-content-requires c κs = search needs
-
-enum-known-walk : tie.Need-enum-known-walk
-enum-known-walk c = search needs
-
-enum-told : tie.Need-enum-told
-enum-told c = search needs
+-- ---- answers
 
 write-nested-requires : tie.Need-write-nested-requires
-write-nested-requires c κs = none-within (c .before .before .before .before .before .before .before .before .before .before .args .depth) (widthOf (c .before .before .before .before .before .before .before .before .before .before .args .width)) (c .before .before .before .before .before .before .before .before .before .before .args .s .now) (c .before .before .before .before .before .before .before .before .before .before .args .n) (c .before .before .before .before .before .before .before .before .before .before .pre .0) (c .before .before .before .before .before .before .before .before .before .before .pre .1) (c .before .before .before .before .before .before .before .before .before .before .pre .2) (sym (c .before .before .before .before .before .walk-content .ensures) ∙ ap toldWalk (c .before .before .before .enum-told .given .1))
-
-enum-known-walk-2 : tie.Need-enum-known-walk-2
-enum-known-walk-2 c = search needs
+write-nested-requires c κs =
+    let told = none c in
+    let walk = told .before .before in
+    let a = begun walk .args in
+    let e = walk-is walk ∙ ap toldWalk (told .enum-told .given .1) in (
+      none-within (masksOf (a .kind .masks)) (a .s .now) (begun walk .pre) (widthOf (a .width)) (width-most (a .width)) e,
+      none-deep (maskForm (masksOf (a .kind .masks))) (a .kind .depth) (a .s .now) 0 (a .n) e,
+    )
 
 check-ragged-requires : tie.Need-check-ragged-requires
-check-ragged-requires c κs = (le-trans ((passed c) .0 .few) (c .before .before .before .before .before .before .before .before .pre .1), (passed c) .1)
-
-enum-known-checked : tie.Need-enum-known-checked
-enum-known-checked c = search needs
-
-enum-known-checked-2 : tie.Need-enum-known-checked-2
-enum-known-checked-2 c = search needs
-
-index-length-requires : tie.Need-index-length-requires
-index-length-requires c κs = le-trans ((passed (c .before .before .before .before)) .0 .few) (c .before .before .before .before .before .before .before .before .before .before .before .before .pre .1)
-
-sub-index-at : tie.Need-sub-index-at
-sub-index-at c = omega (arith, (passed (c .before .before .before .before .before)) .1)
-
-index-at-requires : tie.Need-index-at-requires
-index-at-requires c κs = omega (arith, (checked-is (c .before)) .fits, (checked-is (c .before)) .long, c .index-length .ensures)
-
-add-index : tie.Need-add-index
-add-index c =
-    omega (
-      arith,
-      c .index-at .ensures,
-      (passed (c .before .before .before .before .before .before)) .1,
-      index-within (placeOf (c .before .before .before .before .before .before .before .before .before .before .before .before .before .before .args .place)) (length (c .before .before .before .before .before .before .before .before .before .before .before .before .before .before .args .s .now) - c .before .before .before .before .before .before .before .walk2 .given .0 .0) (c .before .index-length .result) ((checked-is (c .before .before)) .long)
-          (omega (arith, (checked-is (c .before .before)) .fits, c .before .index-length .ensures)),
-    )
-
-data-at-requires : tie.Need-data-at-requires
-data-at-requires c κs = omega (arith, (checked-is (c .before .before)) .fits, (checked-is (c .before .before)) .long, c .before .index-length .ensures)
-
-add-from : tie.Need-add-from
-add-from c =
-    omega (
-      arith,
-      c .data-at .ensures,
-      (passed (c .before .before .before .before .before .before .before)) .1,
-      data-within (placeOf (c .before .before .before .before .before .before .before .before .before .before .before .before .before .before .before .args .place)) (length (c .before .before .before .before .before .before .before .before .before .before .before .before .before .before .before .args .s .now) - c .before .before .before .before .before .before .before .before .walk2 .given .0 .0) (c .before .before .index-length .result) ((checked-is (c .before .before .before)) .long)
-          (omega (arith, (checked-is (c .before .before .before)) .fits, c .before .before .index-length .ensures)),
-    )
+check-ragged-requires c κs = (le-trans (passed (c .before) .0 .few) (start (c .before) .pre .few), passed (c .before) .1)
 
 write-ragged-requires : tie.Need-write-ragged-requires
 write-ragged-requires c κs =
-    (c .before .before .before .before .before .before .before .before .before .before .before .before .before .before .before .before .before .before .pre .0, c .before .before .before .before .before .before .before .before .before .before .before .before .before .before .before .before .before .before .pre .1, c .before .before .before .before .before .before .before .before .before .before .before .before .before .before .before .before .before .before .pre .2, (passed (c .before .before .before .before .before .before .before .before .before .before)) .0 .within, passed-count (c .before .before .before .before .before .before .before .before .before .before .before .before .before .before .before .before .before .before .args .depth) (c .before .before .before .before .before .before .before .before .before .before .before .before .before .before .before .before .before .before .args .s .now) (c .before .before .before .before .before .before .before .before .before .before .before .before .before .before .before .before .before .before .args .n) (c .before .before .before .before .before .before .before .before .before .before .before .walk2 .given .0 .1 .0) (c .before .before .before .before .before .before .before .before .before .before .before .before .before .before .before .before .before .before .pre .0) ((passed (c .before .before .before .before .before .before .before .before .before .before)) .0) (values-flat (c .before .before .before .before .before .before .before .before .before .before .before .before .before .before .before .before .before .before .args .depth) (c .before .before .before .before .before .before .before .before .before .before .before .before .before .before .before .before .before .before .args .s .now) 0 (c .before .before .before .before .before .before .before .before .before .before .before .before .before .before .before .before .before .before .args .n) (c .before .before .before .before .before .before .before .before .before .before .before .walk2 .given .0 .0) (c .before .before .before .before .before .before .before .before .before .before .before .walk2 .given .0 .1 .0) (walk-is (c .before .before .before .before .before .before .before .before .before .before))), (placed (c .before .before .before)) .within)
+    let w = walk-of (found c) in
+    let a = start w .args in
+    some-within (masksOf (a .kind .masks)) (a .s .now) (start w .pre) (widthOf (a .width)) (placeOf (a .place)) (at w) (cells w) _ (values-are w) (checked-is (found c))
 
 returns : tie.Need-returns
 returns c =
-    ap (readOutcome (contentArray (c .before .before .before .before .before .before .before .before .args .masks .now) (c .before .before .before .before .before .before .before .before .args .values .now) (c .before .before .before .before .before .before .before .before .args .offsets .now))) (sym (ragged-refused (widthOf (c .before .before .before .before .before .before .before .before .args .width)) (placeOf (c .before .before .before .before .before .before .before .before .args .place)) (c .before .before .before .before .before .before .before .before .args .s .now) (c .before .before .before .before .before .before .before .before .args .n) (c .before .before .before .before .before .before .before .before .args .depth) (c .before .walk .given .0 .0) (sym (c .before .before .before .walk-content .ensures) ∙ ap toldWalk (c .before .walk .given .1))))
-
-same-length : tie.Need-same-length
-same-length c = search needs
-
-same-length-2 : tie.Need-same-length-2
-same-length-2 c = search needs
-
-same-length-3 : tie.Need-same-length-3
-same-length-3 c = search needs
+    let walk = c .before .before .before in
+    let a = begun walk .args in
+    rw (ragged-refused (maskForm (masksOf (a .kind .masks))) (widthOf (a .width)) (placeOf (a .place)) (a .s .now) (a .n) (a .kind .depth) _ (walk-is walk ∙ ap toldWalk (c .before .walk .given .1)))
 
 returns-2 : tie.Need-returns-2
 returns-2 c =
-    c .before .before .before .before .before .before .write-nested .ensures ∙ ap (readOutcome (contentArray (c .before .before .before .before .before .before .before .before .before .before .before .before .before .before .before .before .before .args .masks .now) (c .before .before .before .before .before .before .before .before .before .before .before .before .before .before .before .before .before .args .values .now) (c .before .before .before .before .before .before .before .before .before .before .before .before .before .before .before .before .before .args .offsets .now))) (sym (ragged-none-set (widthOf (c .before .before .before .before .before .before .before .before .before .before .before .before .before .before .before .before .before .args .width)) (placeOf (c .before .before .before .before .before .before .before .before .before .before .before .before .before .before .before .before .before .args .place)) (c .before .before .before .before .before .before .before .before .before .before .before .before .before .before .before .before .before .args .s .now) (c .before .before .before .before .before .before .before .before .before .before .before .before .before .before .before .before .before .args .n) (c .before .before .before .before .before .before .before .before .before .before .before .before .before .before .before .before .before .args .depth) (sym (c .before .before .before .before .before .before .before .before .before .before .before .before .walk-content .ensures) ∙ ap toldWalk (c .before .before .before .before .before .before .before .before .before .before .enum-told .given .1))))
+    let copied = c .before .before .before .before in
+    let wrote = copied .before .before in
+    let told = none (wrote .before) in
+    let walk = told .before .before in
+    let a = begun walk .args in
+    rw
+    (ragged-none-set (maskForm (masksOf (a .kind .masks))) (widthOf (a .width)) (placeOf (a .place)) (a .s .now) (a .n) (a .kind .depth) (walk-is walk ∙ ap toldWalk (told .enum-told .given .1)))
+    (wrote .write-nested .ensures)
 
 returns-3 : tie.Need-returns-3
 returns-3 c =
-    ap (readOutcome (contentArray (c .before .before .before .before .before .before .before .before .before .before .before .before .args .masks .now) (c .before .before .before .before .before .before .before .before .before .before .before .before .args .values .now) (c .before .before .before .before .before .before .before .before .before .before .before .before .args .offsets .now)))
-    (sym (ragged-wrong (widthOf (c .before .before .before .before .before .before .before .before .before .before .before .before .args .width)) (placeOf (c .before .before .before .before .before .before .before .before .before .before .before .before .args .place)) (c .before .before .before .before .before .before .before .before .before .before .before .before .args .s .now) (c .before .before .before .before .before .before .before .before .before .before .before .before .args .n) (c .before .before .before .before .before .before .before .before .before .before .before .before .args .depth) (c .before .before .before .before .before .walk2 .given .0 .0) (c .before .before .before .before .before .walk2 .given .0 .1 .0) (c .before .checked .given .0 .0) (walk-is (c .before .before .before .before)) (span-refused _ _ (sym (c .before .before .before .check-ragged .ensures) ∙ ap toldIndex (c .before .checked .given .1)))))
-
-same-length-4 : tie.Need-same-length-4
-same-length-4 c = search needs
-
-same-length-5 : tie.Need-same-length-5
-same-length-5 c = search needs
-
-same-length-6 : tie.Need-same-length-6
-same-length-6 c = search needs
+    let check = c .before .before .before in
+    let w = looked check in
+    let a = start w .args in
+    rw
+    (ragged-wrong (maskForm (masksOf (a .kind .masks))) (widthOf (a .width)) (placeOf (a .place)) (a .s .now) (a .n) (a .kind .depth) (at w) (cells w) _ (values-are w)
+    (checked-refused (widthOf (a .width)) (placeOf (a .place)) (a .s .now) (at w) (cells w) _ (check-is check ∙ ap toldIndex (c .before .checked .given .1))))
 
 returns-4 : tie.Need-returns-4
 returns-4 c =
-    c .before .before .before .before .before .before .write-ragged .ensures ∙ ap (readOutcome (contentArray (c .before .before .before .before .before .before .before .before .before .before .before .before .before .before .before .before .before .before .before .before .before .before .before .before .before .args .masks .now) (c .before .before .before .before .before .before .before .before .before .before .before .before .before .before .before .before .before .before .before .before .before .before .before .before .before .args .values .now) (c .before .before .before .before .before .before .before .before .before .before .before .before .before .before .before .before .before .before .before .before .before .before .before .before .before .args .offsets .now)))
-    (sym (ragged-given (widthOf (c .before .before .before .before .before .before .before .before .before .before .before .before .before .before .before .before .before .before .before .before .before .before .before .before .before .args .width)) (placeOf (c .before .before .before .before .before .before .before .before .before .before .before .before .before .before .before .before .before .before .before .before .before .before .before .before .before .args .place)) (c .before .before .before .before .before .before .before .before .before .before .before .before .before .before .before .before .before .before .before .before .before .before .before .before .before .args .s .now) (c .before .before .before .before .before .before .before .before .before .before .before .before .before .before .before .before .before .before .before .before .before .before .before .before .before .args .n) (c .before .before .before .before .before .before .before .before .before .before .before .before .before .before .before .before .before .before .before .before .before .before .before .before .before .args .depth) (c .before .before .before .before .before .before .before .before .before .before .before .before .before .before .before .before .before .before .walk2 .given .0 .0) (c .before .before .before .before .before .before .before .before .before .before .before .before .before .before .before .before .before .before .walk2 .given .0 .1 .0) (c .before .before .before .before .before .before .before .before .before .before .before .before .before .before .checked2 .given .0 .0) (c .before .before .before .before .before .before .before .before .before .before .before .before .before .before .checked2 .given .0 .1 .0) _ _ (walk-is (c .before .before .before .before .before .before .before .before .before .before .before .before .before .before .before .before .before)) ((placed (c .before .before .before .before .before .before .before .before .before .before)) .first-is) ((placed (c .before .before .before .before .before .before .before .before .before .before)) .gave)))
+    let copied = c .before .before .before .before in
+    let wrote = copied .before .before in
+    let here = found (wrote .before) in
+    let w = walk-of here in
+    let a = start w .args in
+    rw
+    (ragged-given (maskForm (masksOf (a .kind .masks))) (widthOf (a .width)) (placeOf (a .place)) (a .s .now) (a .n) (a .kind .depth) (at w) (cells w) _ (values-are w) (checked-is here))
+    (wrote .write-ragged .ensures)
 
 pub decode-ragged-spec : {M : Type 1} → statement M
 decode-ragged-spec =
     tie.close
     (tie.spec
-    walk-content-requires
-    enum-known-walk
-    enum-told
+    (λ c. search needs)
+    (λ c κs. search needs)
+    (λ c. search needs)
+    (λ c. search needs)
     write-nested-requires
-    enum-known-walk-2
+    (λ c. search needs)
     check-ragged-requires
-    enum-known-checked
-    enum-known-checked-2
-    index-length-requires
-    sub-index-at
-    index-at-requires
-    add-index
-    data-at-requires
-    add-from
+    (λ c. search needs)
+    (λ c. search needs)
     write-ragged-requires
     returns
-    same-length
-    same-length-2
-    same-length-3
+    (λ c. search needs)
+    (λ c. search needs)
+    (λ c. search needs)
     returns-2
     returns-3
-    same-length-4
-    same-length-5
-    same-length-6
+    (λ c. search needs)
+    (λ c. search needs)
+    (λ c. search needs)
     returns-4)

@@ -8,8 +8,8 @@ use lib.ListN.{length, getD}
 use Rattle.array.specs.Lists.{All}
 use Rattle.array.specs.Shape.{volume}
 use Rattle.array.specs.Subset.{pairs, cellsIn}
+use Rattle.array.specs.Places.{fixedAt}
 use Rattle.subset.proofs.Rows.{left-some, left-within}
-use Rattle.extract.specs.Places.{fixedAt}
 use Rattle.extract.proofs.Walk.{asked-left, asked-below, asked-count, asked-lengths, asked-few, Copied, copied-begins, copied-same, copied-ends, fixed-long, fixed-source, fixed-room, fixed-copied}
 use Rattle.extract.proofs.cells.copy_cells.Statement.{statement}
 use Rattle.extract.proofs.cells.copy_cells.Tie as tie

@@ -8,8 +8,8 @@ use lib.ListN.{length, getD}
 use Rattle.array.specs.Lists.{All}
 use Rattle.array.specs.Shape.{volume}
 use Rattle.array.specs.Subset.{pairs, cellsIn}
+use Rattle.array.specs.Places.{offsetAt}
 use Rattle.subset.proofs.Rows.{left-some, left-within}
-use Rattle.extract.specs.Places.{offsetAt}
 use Rattle.extract.proofs.Walk.{asked-left, asked-below, asked-lengths, asked-few, Ragged, ragged-begins, ragged-same, ragged-same-offsets, ragged-values, ragged-offsets, ragged-within, ragged-rises, ragged-source, ragged-room, ragged-room-offsets, ragged-more}
 use Rattle.extract.proofs.ragged.copy_rows.Statement.{statement}
 use Rattle.extract.proofs.ragged.copy_rows.Tie as tie

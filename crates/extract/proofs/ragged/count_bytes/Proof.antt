@@ -1,4 +1,4 @@
--- `count_bytes` meets its contract: the rows before `at` are counted (proofs/Walk).
+-- `count_bytes` meets its contract: the rows before `at` are counted (proofs/Counting).
 -- Assumes nothing.
 use Prim.Native.Nat.{ℕ, _+_, _-_, _*_, _≤_, _<_}
 use mathlib.Core.Path.{ap}
@@ -8,15 +8,17 @@ use lib.ListN.{length, getD}
 use Rattle.array.specs.Limits.{mostBytes}
 use Rattle.array.specs.Shape.{volume}
 use Rattle.array.specs.Subset.{pairs, cellsIn}
+use Rattle.array.specs.Places.{offsetAt}
 use Rattle.subset.proofs.Rows.{left-some, left-within, left-room}
-use Rattle.extract.specs.Places.{offsetAt}
-use Rattle.extract.proofs.Places.{run-rises, run-below}
-use Rattle.extract.proofs.Walk.{asked-left, asked-below, asked-lengths, asked-few, Summed, summed-begins, summed-more, summed-ends}
+use Rattle.extract.specs.Places.{bytesAt}
+use Rattle.extract.proofs.Places.{run-rises}
+use Rattle.extract.proofs.Walk.{asked-left, asked-below, asked-lengths, asked-few}
+use Rattle.extract.proofs.Counting.{bytes-most, Counting, counting-begins, counting-ends, counting-more}
 use Rattle.extract.proofs.ragged.count_bytes.Statement.{statement}
 use Rattle.extract.proofs.ragged.count_bytes.Tie as tie
 
 abbrev Inv-loop : tie.InvT-loop
-Inv-loop offsets shape starts lens count last n at₀ total₀ at total = Summed (offsetAt offsets) (cellsIn shape (pairs starts lens)) count n at total
+Inv-loop offsets shape starts lens count last n at₀ total₀ at total = Counting (offsetAt offsets) (cellsIn shape (pairs starts lens)) count n at total
 
 abbrev μ-loop : tie.MeasureT-loop
 μ-loop offsets shape starts lens count last n at₀ total₀ at total = count - at
@@ -56,9 +58,19 @@ inside k =
 rises : (k : Known) → off (start k) (k .cell-at .result) ≤ off (start k) (k .cell-at .result + row (start k))
 rises k = let a = start k in run-rises (off a) (volume (a .args .shape .now)) (a .pre .1 .rises) (k .cell-at .result) (row a) (inside k)
 
-small : (k : Known) → off (start k) (k .cell-at .result + row (start k)) ≤ 16777216
+counted : (k : Known) → let a = start k in
+    let l = k .before .before in
+    Counting (off a) (cells a) (a .args .count) (row a) (l .loop .at + row a) (l .loop .total + (off a (k .cell-at .result + row a) - off a (k .cell-at .result)))
+counted k =
+    let a = start k in
+    let l = k .before .before in
+    counting-more (off a) (cells a) (a .args .count) (row a) (l .loop .at) (l .loop .total) (l .loop .inv) (volume (a .args .shape .now)) (a .pre .1 .rises) (asked-below _ _ _ _ (a .pre .0))
+    (k .before .loop-test .taken) (off a (k .cell-at .result + row a) - off a (k .cell-at .result)) (ap (λ (x : ℕ). off a (x + row a) - off a x) (k .cell-at .ensures))
+
+-- no more than all cells have
+small : (a : Start) → bytesAt (off a) (cells a) ≤ 16777216
 unfolding mostBytes
-small k = let a = start k in omega (arith, run-below (off a) (volume (a .args .shape .now)) (a .pre .1 .rises) (k .cell-at .result) (row a) (inside k), a .pre .1 .small)
+small a = omega (arith, bytes-most (off a) (a .args .shape .now) (pairs (a .args .starts .now) (a .args .lens .now)) (a .pre .1 .rises) (a .pre .0 .within .inside), a .pre .1 .small)
 
 within : (k : Known) → k .before .before .loop .at + row (start k) ≤ start k .args .count
 within k = let a = start k in left-within (cells a) (a .args .count) (row a) (k .before .before .loop .at) (k .before .before .loop .inv .geo) (k .before .loop-test .taken)
@@ -73,7 +85,7 @@ shared-slice-read-n : tie.Need-shared-slice-read-n Inv-loop μ-loop
 shared-slice-read-n c = let a = c .before .before .before .before .before in omega (arith, asked-lengths _ _ _ _ (a .pre .0))
 
 loop-holds : tie.Need-loop-holds Inv-loop μ-loop
-loop-holds c = let a = c .before .before .before .before .before in summed-begins (off a) (cells a) (a .args .count) (row a) (asked-left _ _ _ _ (a .pre .0))
+loop-holds c = let a = c .before .before .before .before .before in counting-begins (off a) (cells a) (a .args .count) (row a) (asked-left _ _ _ _ (a .pre .0))
 
 cell-at-requires : tie.Need-cell-at-requires Inv-loop μ-loop
 cell-at-requires c κs =
@@ -99,9 +111,7 @@ sub-total : tie.Need-sub-total Inv-loop μ-loop
 sub-total c = rises (c .before .before)
 
 add-total : tie.Need-add-total Inv-loop μ-loop
-add-total c =
-    let k = c .before .before in
-    omega (arith, small k, k .before .before .loop .inv .small, within k, asked-few _ _ _ _ (start k .pre .0))
+add-total c = let k = c .before .before in omega (arith, counted k .same, small (start k))
 
 add-at : tie.Need-add-at Inv-loop μ-loop
 add-at c = let k = c .before .before in omega (arith, within k, asked-few _ _ _ _ (start k .pre .0))
@@ -114,18 +124,13 @@ loop-less c =
     omega (arith, within k, left-some (cells a) (a .args .count) (row a) (l .loop .at) (l .loop .inv .geo) (k .before .loop-test .taken))
 
 loop-again : tie.Need-loop-again Inv-loop μ-loop
-loop-again c =
-    let k = c .before .before in
-    let a = start k in
-    let l = k .before .before in
-    summed-more (off a) (volume (a .args .shape .now)) (a .pre .1 .rises) (cells a) (asked-below _ _ _ _ (a .pre .0)) (a .pre .1 .small) (a .args .count) (row a) (l .loop .at) (l .loop .total)
-    (l .loop .inv) (k .before .loop-test .taken) (off a (k .cell-at .result + row a) - off a (k .cell-at .result)) (ap (λ (x : ℕ). off a (x + row a) - off a x) (k .cell-at .ensures))
+loop-again c = counted (c .before .before)
 
 returns : tie.Need-returns Inv-loop μ-loop
 returns c =
     let l = c .before in
     let a = l .before .before .before .before .before .before in
-    summed-ends (off a) (cells a) (a .args .count) (row a) (l .loop .at) (l .loop .total) (l .loop .inv) (c .loop-test .left)
+    counting-ends (off a) (cells a) (a .args .count) (row a) (l .loop .at) (l .loop .total) (l .loop .inv) (c .loop-test .left)
 
 pub count-bytes-spec : {M : Type 1} → statement M
 count-bytes-spec =

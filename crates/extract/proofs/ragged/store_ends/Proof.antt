@@ -5,7 +5,7 @@ use mathlib.Core.Path.{_≡_, ap}
 use native.Mathlib.Omega.{arith}
 use native.Mathlib.Numerals.{add-one}
 use lib.ListN.{length}
-use Rattle.extract.specs.Places.{offsetAt}
+use Rattle.array.specs.Places.{offsetAt}
 use Rattle.extract.proofs.Places.{run-rises, run-below}
 use Rattle.extract.proofs.Walk.{ImagesLaid, images-begin, images-same, images-end, images-room, images-more}
 use Rattle.extract.proofs.ragged.store_ends.Statement.{statement}

@@ -4,7 +4,7 @@ use mathlib.Core.Path.{sym, ap, _∙_}
 use native.Mathlib.Omega.{arith}
 use borrow.Author.Needs.{needs}
 use Rattle.array.specs.Limits.{mostCells}
-use Rattle.interleaved.specs.Walk.{toldWalk}
+use Rattle.interleaved.specs.Walk.{toldSum}
 use Rattle.interleaved.proofs.Outcomes.{many-cells, few-bytes, other-count, past-end, walk-found, all-found}
 use Rattle.interleaved.proofs.vlen_v2.decode_interleaved.Statement.{statement}
 use Rattle.interleaved.proofs.vlen_v2.decode_interleaved.Tie as tie
@@ -43,14 +43,14 @@ write-cells-requires : tie.Need-write-cells-requires
 unfolding mostCells
 write-cells-requires c κs =
     let walk = c .before .before .before in
-    walk-found _ _ _ (walk .before .before .before .before .before .before .if1 .left) (sym (ap toldWalk (walk .walk2 .given .1)) ∙ walk .before .before .walk-cells .ensures)
+    walk-found _ _ _ (walk .before .before .before .before .before .before .if1 .left) (sym (ap toldSum (walk .walk2 .given .1)) ∙ walk .before .before .walk-cells .ensures)
 
 returns-4 : tie.Need-returns-4
 unfolding mostCells
 returns-4 c =
     let same = c .before .before .before .before in
     past-end _ _ _ (same .before .before .before .if1 .left) (same .before .before .if2 .left) (sym (same .before .le4-at .ensures) ∙ same .if3 .left) _
-    (sym (ap toldWalk (c .before .walk .given .1)) ∙ c .before .before .before .walk-cells .ensures)
+    (sym (ap toldSum (c .before .walk .given .1)) ∙ c .before .before .before .walk-cells .ensures)
 
 same-length : tie.Need-same-length
 same-length c = search needs
@@ -64,7 +64,7 @@ returns-5 c =
     let walk = c .before .before .before .before .before .before .before .before in
     let same = walk .before .before .before in
     all-found _ _ _ (same .before .before .before .if1 .left) (same .before .before .if2 .left) (sym (same .before .le4-at .ensures) ∙ same .if3 .left) _
-    (sym (ap toldWalk (walk .walk2 .given .1)) ∙ walk .before .before .walk-cells .ensures) (c .before .before .before .before .write-cells .ensures)
+    (sym (ap toldSum (walk .walk2 .given .1)) ∙ walk .before .before .walk-cells .ensures) (c .before .before .before .before .write-cells .ensures)
 
 pub decode-interleaved-spec : {M : Type 1} → statement M
 decode-interleaved-spec =

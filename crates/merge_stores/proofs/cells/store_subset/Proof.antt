@@ -9,9 +9,9 @@ use borrow.Author.Needs.{needs}
 use lib.ListN.{length, getD, drop}
 use Rattle.array.specs.Shape.{volume}
 use Rattle.array.specs.Subset.{cellsIn, pairs}
+use Rattle.array.specs.Places.{fixedAt}
 use Rattle.subset.proofs.Index.{few-drop, few-within}
 use Rattle.subset.proofs.Rows.{left-some, within-below, left-begins, left-within, left-room}
-use Rattle.merge_stores.specs.Scatter.{fixedAt}
 use Rattle.merge_stores.proofs.RowsStored.{Store, store-begins, store-ends, fixed-more, fixed-room}
 use Rattle.merge_stores.proofs.cells.store_subset.Statement.{statement}
 use Rattle.merge_stores.proofs.cells.store_subset.Tie as tie

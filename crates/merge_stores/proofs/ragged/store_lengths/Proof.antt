@@ -8,10 +8,10 @@ use borrow.Author.Needs.{needs}
 use lib.ListN.{length, getD, drop}
 use Rattle.array.specs.Shape.{volume}
 use Rattle.array.specs.Subset.{cellsIn, pairs}
+use Rattle.array.specs.Places.{fixedAt, offsetAt}
 use Rattle.subset.proofs.Index.{few-drop, few-within}
 use Rattle.subset.proofs.Rows.{left-some, within-below, left-begins, left-within, left-room}
-use Rattle.merge_stores.specs.Ragged.{steps, offsetAt, RisesFor}
-use Rattle.merge_stores.specs.Scatter.{fixedAt}
+use Rattle.merge_stores.specs.Ragged.{steps, RisesFor}
 use Rattle.merge_stores.proofs.LengthRows.{unit-more}
 use Rattle.merge_stores.proofs.RaggedTies.{length-steps}
 use Rattle.merge_stores.proofs.RowsStored.{Store, store-begins, store-ends}

@@ -8,9 +8,9 @@ use borrow.Author.Needs.{needs}
 use lib.ListN.{length, getD, drop}
 use Rattle.array.specs.Shape.{volume}
 use Rattle.array.specs.Subset.{cellsIn, pairs}
+use Rattle.array.specs.Places.{offsetAt}
 use Rattle.subset.proofs.Index.{few-drop, few-within}
 use Rattle.subset.proofs.Rows.{left-some, left-begins}
-use Rattle.merge_stores.specs.Ragged.{offsetAt}
 use Rattle.merge_stores.proofs.RaggedRows.{ragged-begins, ragged-within, ragged-cell, run-falls-not, run-room, run-enough, ragged-more}
 use Rattle.merge_stores.proofs.RowsStored.{Store, store-ends}
 use Rattle.merge_stores.proofs.ragged.store_ragged.Statement.{statement}

@@ -1,4 +1,4 @@
--- `count_bytes` meets its contract: the rows before `at` are counted (proofs/Counting).
+-- `count_bytes` meets its contract: the rows before `at` are counted (proofs/Counting of extract).
 -- Assumes nothing.
 use Prim.Native.Nat.{ℕ, _+_, _-_, _≤_, _<_}
 use mathlib.Core.Path.{ap, ap₂, _∙_}
@@ -13,9 +13,9 @@ use Rattle.subset.proofs.Rows.{left-some, left-within, left-room}
 use Rattle.extract.specs.Places.{bytesAt}
 use Rattle.extract.proofs.Places.{run-rises}
 use Rattle.extract.proofs.Walk.{asked-left, asked-below, asked-lengths, asked-few}
+use Rattle.extract.proofs.Counting.{bytes-most, Counting, counting-begins, counting-ends, counting-more}
 use Rattle.partial.specs.Stored.{storedAt}
 use Rattle.partial.proofs.Stored.{offset-room}
-use Rattle.partial.proofs.Counting.{bytes-most, Counting, counting-begins, counting-ends, counting-more}
 use Rattle.partial.proofs.vlen_partial.count_bytes.Statement.{statement}
 use Rattle.partial.proofs.vlen_partial.count_bytes.Tie as tie
 
