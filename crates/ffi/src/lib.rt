@@ -173,7 +173,14 @@ pub extern "C" fn dpx_encode_interleaved(
     match read {
         KindRead::Refused(e) => e as u32,
         KindRead::Kind(k) => {
-            let answer = interleaved::write::encode_interleaved(k, shape, masks, values, offsets, out);
+            let answer = interleaved::write::encode_interleaved(
+                k,
+                shape,
+                masks,
+                values,
+                offsets,
+                out,
+            );
             put_length(answer, lengths)
         }
     }
