@@ -10,7 +10,8 @@ use crate::stored::{cells, given_kind, given_shape, missing_kind, missing_shape,
 use crate::watch::Watch;
 use crate::{explain, help, json, words, worksheet};
 use durpaxeta::{
-    decode, encode, extract, merge, partial_decode, subset_cells, Array, Cell, Chunk, Kind, Refusal, Subset, Values,
+    decode, encode, encode_interleaved, extract, merge, partial_decode, subset_cells, Array, Cell, Chunk, Kind,
+    Refusal, Subset, Values,
 };
 use std::ffi::{OsStr, OsString};
 use std::fs;
@@ -55,7 +56,7 @@ const COMMANDS: [Command; 8] = [
     Command {
         name: "convert",
         help: help::CONVERT,
-        options: &["--kind", "--shape", "--describe", "--no-clobber"],
+        options: &["--kind", "--shape", "--to-interleaved", "--describe", "--no-clobber"],
         files: &["IN", "OUT"],
         run: convert,
     },
@@ -156,6 +157,17 @@ fn dropped(input: &Input, walk: &Walk) {
     }
 }
 
+/// Refuses to leave a wrong description beside what is written.
+fn not_described(table: &Output, beside: &OsStr, advice: &str) -> Result<(), Failure> {
+    match table.is_file() && fs::symlink_metadata(beside).is_ok() {
+        true => {
+            let beside = beside.to_string_lossy();
+            Err(Failure::usage(format!("{beside} is there and would no longer be right: {advice}")))
+        }
+        false => Ok(()),
+    }
+}
+
 /// Stores an array in a file, and describes it where that is asked for.
 fn store(
     array: &Array,
@@ -172,13 +184,10 @@ fn store(
     }
     let description = match arguments.describe {
         true => Some(Output::new(&beside, arguments.no_clobber, inputs)?),
-        false if table.is_file() && fs::symlink_metadata(&beside).is_ok() => {
-            return Err(Failure::usage(format!(
-                "{} is there and would no longer be right: give --describe to write it anew, or remove it",
-                beside.to_string_lossy()
-            )));
+        false => {
+            not_described(&table, &beside, "give --describe to write it anew, or remove it")?;
+            None
         }
-        false => None,
     };
     if let Some(description) = &description {
         if !description.is_file() || (table.identity().is_some() && table.identity() == description.identity()) {
@@ -317,9 +326,12 @@ fn uncovered(shape: &[u64], subsets: &[Subset]) -> Option<String> {
 }
 
 fn convert(arguments: &Arguments, watch: &Watch) -> Result<u8, Failure> {
+    if arguments.to_interleaved {
+        return convert_back(arguments, watch);
+    }
     let kind = given_kind(arguments)?.ok_or_else(|| missing_kind(""))?;
     let example = "for example --kind \"depth 0, ragged, width 8, index at start\"";
-    if kind.depth != 0 || !kind.is_ragged() {
+    if !has_older_form(kind) {
         return Err(Failure::usage(format!("convert writes ragged values of depth 0, not \"{kind}\"; {example}")));
     }
     let old = Interleaved::read(&arguments.files[0], "convert", arguments, watch)?;
@@ -330,6 +342,35 @@ fn convert(arguments: &Arguments, watch: &Watch) -> Result<u8, Failure> {
     let array = Array { kind, shape: old.shape, masks: Vec::new(), values: values.values, offsets: values.offsets };
     store(&array, &old.input.name, &arguments.files[1], &[&old.input], arguments, watch)?;
     dropped(&old.input, &walk);
+    Ok(0)
+}
+
+/// The older form has no masks, and cells of any length.
+fn has_older_form(kind: Kind) -> bool {
+    kind.depth == 0 && kind.is_ragged()
+}
+
+fn convert_back(arguments: &Arguments, watch: &Watch) -> Result<u8, Failure> {
+    if arguments.describe {
+        let what = "--describe tells the kind of a table, and the older form has none: leave out --describe";
+        return Err(Failure::usage(what));
+    }
+    let stored = Stored::named(arguments, false, watch)?;
+    let (kind, name) = (stored.kind, &stored.input.name);
+    if !has_older_form(kind) {
+        let what = format!("{name}: the older form has no masks and takes ragged values of depth 0, not \"{kind}\"");
+        return Err(Failure::usage(what));
+    }
+    let path = &arguments.files[1];
+    let out = Output::new(path, arguments.no_clobber, &stored.inputs().collect::<Vec<_>>())?;
+    not_described(&out, &describe::beside(path), "remove it")?;
+    let old = encode_interleaved(&stored.decode()?).map_err(|refusal| Failure::Refused {
+        refusal,
+        subject: name.clone(),
+        detail: None,
+    })?;
+    output::write(&[(out, &old[..])], watch)?;
+    dropped(&stored.input, &stored.walk());
     Ok(0)
 }
 

@@ -8,7 +8,7 @@ pub const GENERAL: &str = r#"durpaxeta: stored tables of optional and variable-l
   durpaxeta write    makes a stored table from a worksheet
   durpaxeta cut      takes a subset of the cells out of a stored table
   durpaxeta merge    puts parts together into one stored table
-  durpaxeta convert  makes a stored table from the older, interleaved form
+  durpaxeta convert  makes a stored table from the older, interleaved form, or that form from a table
   durpaxeta check    says whether a file is a valid table, and if not, why and at which byte
   durpaxeta explain  prints the stored bytes, field by field, with what they are
   durpaxeta example  prints a worksheet to begin with
@@ -139,15 +139,22 @@ Examples:
 "#;
 
 pub const CONVERT: &str = r#"durpaxeta convert --kind KIND --shape SHAPE [--describe] [--no-clobber] IN OUT
+durpaxeta convert --to-interleaved [--kind KIND --shape SHAPE] [--no-clobber] IN OUT
 
 Reads the older, interleaved form (Zarr V2: a count, then for each cell a length and its bytes) and stores its values as
 ragged values. The older form has no masks, so the kind is a ragged one of depth 0. Bytes after the last cell are left out,
 and standard error says how many.
 
+With --to-interleaved it goes the other way: IN is a stored table, ragged and of depth 0, and OUT gets its cells in the older
+form, for readers of Zarr V2. Data before the first offset is left out. Kind and shape may be left out where IN.dpx says
+them. The older form has no description.
+
 Examples:
   printf '\002\000\000\000\001\000\000\000A\000\000\000\000' > old.bin
   durpaxeta convert --kind "depth 0, ragged, width 8, index at start" --shape 2 --describe old.bin new.bin
   durpaxeta show new.bin
+  durpaxeta convert --to-interleaved new.bin again.bin
+  cmp old.bin again.bin
 "#;
 
 pub const CHECK: &str = r#"durpaxeta check [--kind KIND --shape SHAPE] [--strict] FILE

@@ -159,6 +159,17 @@ fn converted() {
     for kind in ["depth 1, ragged, width 4, index at end", "depth 0, fixed, size 1, little order"] {
         assert_eq!(run(&folder, &["convert", "--kind", kind, "--shape", "2", "-", "-"], &old).status, 64);
     }
+    // And back again, without the byte behind the last cell.
+    let back = ["convert", "--to-interleaved", "--kind", kind, "--shape", "2", "-", "-"];
+    let again = run(&folder, &back, &run(&folder, &convert, &old).out);
+    assert_eq!((again.status, &again.out[..], again.err.as_str()), (0, &old[..13], ""));
+    let damaged = run(&folder, &back, b"A");
+    assert_eq!((damaged.status, damaged.out.len()), (7, 0));
+    for kind in ["depth 1, ragged, width 4, index at end", "depth 0, fixed, size 1, little order"] {
+        let said = run(&folder, &["convert", "--to-interleaved", "--kind", kind, "--shape", "2", "-", "-"], b"AB");
+        assert_eq!((said.status, said.out.len()), (64, 0));
+        assert!(said.err.contains("the older form has no masks"), "{}", said.err);
+    }
     let checked = run(&folder, &["check", "--interleaved", "--shape", "2", "-"], &old);
     assert_eq!(checked.status, 0);
     assert!(checked.text().contains("14 bytes, 1 of them in no cell"), "{}", checked.text());

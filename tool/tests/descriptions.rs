@@ -65,6 +65,13 @@ fn kind_and_shape_come_from_it() {
     fs::write(folder.join("old.bin"), [1, 0, 0, 0, 1, 0, 0, 0, b'A']).unwrap();
     good(&folder, &["convert", "--kind", LONG, "--shape", "1", "--describe", "old.bin", "new.bin"]);
     assert!(good(&folder, &["show", "new.bin"]).text().contains("0 | - | value \"A\"\n"));
+    // Back again by that description. It is not left beside what it does not describe, and the older form gets none.
+    good(&folder, &["convert", "--to-interleaved", "new.bin", "again.bin"]);
+    assert_eq!(fs::read(folder.join("again.bin")).unwrap(), fs::read(folder.join("old.bin")).unwrap());
+    let (code, err) = status(&folder, &["convert", "--to-interleaved", "new.bin", "all.bin"]);
+    assert!(code == 64 && err.contains("all.bin.dpx is there and would no longer be right: remove it"), "{err}");
+    let (code, err) = status(&folder, &["convert", "--to-interleaved", "--describe", "new.bin", "no.bin"]);
+    assert!(code == 64 && err.contains("the older form has none"), "{err}");
     // Standard input has none, so all must be said; and a merge needs the whole's shape.
     assert_eq!(status(&folder, &["show", "-"]).0, 64);
     assert_eq!(status(&folder, &[&["merge"][..], &parts, &["no.bin"]].concat()).0, 64);

@@ -66,6 +66,12 @@ fn what_is_dropped_is_told() {
     assert_eq!((said.status, said.err.as_str()), (0, told));
     let said = run(&folder, &convert, &le(&[1, 1], 4, b"A"));
     assert_eq!((said.status, said.err.as_str()), (0, ""));
+    // Data before the first offset is in no cell of the older form either.
+    let late = le(&[8], 8, &le(&[1, 2], 4, b"AB"));
+    let said = run(&folder, &["convert", "--to-interleaved", "--kind", FLAT, "--shape", "1", "-", "late.bin"], &late);
+    let told = "durpaxeta: standard input: 1 of the 18 stored bytes is in no cell: left out\n";
+    assert_eq!((said.status, said.err.as_str()), (0, told));
+    assert_eq!(fs::read(folder.join("late.bin")).unwrap(), le(&[1, 1], 4, b"B"));
     // Cells that a subset does not hold are no such bytes.
     affinity(&folder);
     good(&folder, &["cut", "--kind", KIND, "--shape", "2x2", "--subset", "1..2,0..2", "guests.bin", "row.bin"]);
