@@ -57,13 +57,14 @@ record: $(O)/driver
 	@mv $(O)/answers.txt oracle/data/answers.txt
 	@wc -lc oracle/data/answers.txt
 
-# The published vectors, made anew with the Debian package python3-numcodecs.
+# The published vectors, made anew with the Debian package python3-numcodecs; and the archive's interleaved form, read by it.
 .PHONY: vectors
-vectors:
+vectors: $(OBJECT)
 	@mkdir -p $(O)
 	@/usr/bin/python3 oracle/data/vectors.py > $(O)/vectors.txt
 	@mv $(O)/vectors.txt oracle/data/vectors.txt
 	@wc -lc oracle/data/vectors.txt
+	@/usr/bin/python3 oracle/data/readers.py $(OBJECT)
 
 $(O)/bench: $(wildcard bench/*.rs) oracle/driver/archive.rs oracle/driver/rng.rs $(O)/.rust
 	@$(RUSTC) -C opt-level=3 -L $(O) --extern standin_release=$(O)/libstandin_release.rlib -o $@ bench/main.rs

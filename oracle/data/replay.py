@@ -8,7 +8,7 @@ have eight places each."""
 import os
 import sys
 
-LETTERS = {1: "e", 2: "d", 3: "i", 4: "x", 5: "m", 6: "p", 7: "r", 8: "s"}
+LETTERS = {1: "e", 2: "d", 3: "i", 4: "x", 5: "m", 6: "p", 7: "r", 8: "s", 9: "o"}
 LONG_RUN = 5
 
 
@@ -63,7 +63,7 @@ def request(w):
     """The request in the program's words, its results, and the kinds of them."""
     call = w.number()
     fields = []
-    if call in (1, 2, 4, 5):
+    if call in (1, 2, 4, 5, 9):
         depth, form, size, order, mask = (w.number() for _ in range(5))
         if mask:
             return None
@@ -79,12 +79,12 @@ def request(w):
         fields.append(decimals(w.numbers()))
     if call in (4, 5, 6, 8):
         fields.append(decimals(w.numbers()))
-    if call in (1, 4, 5):
+    if call in (1, 4, 5, 9):
         fields += [hexes(w.bytes()), hexes(w.bytes()), decimals(w.numbers())]
     if call in (2, 3, 6, 7):
         fields.append(hexes(w.bytes()))
     answer = w.number()
-    kinds = {1: "b", 2: "bbn", 3: "bn", 4: "bbn", 5: "bbn", 6: "bn", 7: "b", 8: "n"}[call]
+    kinds = {1: "b", 2: "bbn", 3: "bn", 4: "bbn", 5: "bbn", 6: "bn", 7: "b", 8: "n", 9: "b"}[call]
     if answer:
         lengths, lists = [8] * len(kinds), None
     elif call == 7:

@@ -1,5 +1,6 @@
 #!/usr/bin/python3
-"""Writes vectors.txt: the interleaved form as numcodecs writes it, and what numcodecs itself decodes from it.
+"""Writes vectors.txt: the interleaved form as numcodecs writes it, for encode_interleaved, and what numcodecs itself decodes from it, for
+decode_interleaved.
 
 Needs the Debian package python3-numcodecs. The form of a line is told in README.md.
 """
@@ -37,6 +38,26 @@ def line(cells, stored, answer):
     text = " ".join(words)
     assert len(text) <= 4096, len(text)
     print(text)
+
+
+def listed(numbers):
+    return " ".join(map(str, [len(numbers)] + numbers))
+
+
+def listed_bytes(some):
+    return " ".join([str(len(some))] + ([some.hex()] if some else []))
+
+
+def written(items, stored, width, place, before):
+    """The items as ragged values of depth 0, behind bytes that no cell has, and what numcodecs writes for them."""
+    offsets = [len(before)]
+    for item in items:
+        offsets.append(offsets[-1] + len(item))
+    kind = "0 1 %d %d 0" % (width, place)
+    words = ["9", kind, listed([len(items)]), "0", listed_bytes(before + b"".join(items)), listed(offsets), "0", listed_bytes(stored)]
+    text = " ".join(words)
+    if len(text) <= 4096:
+        print(text)
 
 
 def as_bytes(item):
@@ -96,6 +117,12 @@ def main():
             cut = stored[: len(stored) - rng.randint(1, len(decoded[-1]))]
             assert refused(VLenBytes(), cut)
             line(len(decoded), cut, 7 if len(cut) < 4 * (1 + len(decoded)) else 11)
+
+    print("# what numcodecs writes for the items of an array; bytes before the first offset are in no item")
+    for number, (stored, decoded) in enumerate(whole):
+        if decoded:
+            before = b"" if number % 3 else rng.randbytes(rng.randint(1, 9))
+            written(decoded, stored, 4 + 4 * (number % 2), number // 2 % 2, before)
 
 
 main()

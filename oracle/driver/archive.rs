@@ -1,4 +1,4 @@
-//! The archive under test, loaded as a shared object: the eight functions of durpaxeta.h.
+//! The archive under test, loaded as a shared object: the nine functions of durpaxeta.h.
 
 use std::ffi::{CStr, CString, c_char, c_int, c_void};
 
@@ -29,7 +29,7 @@ type PartialCall = unsafe extern "C" fn(u64, u64, In64, usize, In64, usize, In8,
 type ReverseCall = unsafe extern "C" fn(u64, Out8, usize, Out64) -> u32;
 type CellsCall = unsafe extern "C" fn(In64, usize, In64, usize, Out64, usize, Out64) -> u32;
 
-/// The eight functions.
+/// The nine functions.
 #[derive(Clone, Copy)]
 pub struct Archive {
     pub encode: EncodeCall,
@@ -40,6 +40,7 @@ pub struct Archive {
     pub partial_decode: PartialCall,
     pub reverse_endianness: ReverseCall,
     pub subset_cells: CellsCall,
+    pub encode_interleaved: EncodeCall,
 }
 impl Archive {
     pub fn load(path: &str) -> Result<Archive, String> {
@@ -64,6 +65,7 @@ impl Archive {
                 partial_decode: transmute::<*mut c_void, PartialCall>(find(c"dpx_partial_decode")?),
                 reverse_endianness: transmute::<*mut c_void, ReverseCall>(find(c"dpx_reverse_endianness")?),
                 subset_cells: transmute::<*mut c_void, CellsCall>(find(c"dpx_subset_cells")?),
+                encode_interleaved: transmute::<*mut c_void, EncodeCall>(find(c"dpx_encode_interleaved")?),
             })
         }
     }

@@ -420,7 +420,7 @@ fn damaged_content(rng: &mut Rng, c: &Content) -> Content {
 fn faulty(rng: &mut Rng, request: &Request) -> Request {
     let mut r = request.clone();
     match &mut r {
-        Encode { kind, shape, masks, values, offsets } => {
+        Encode { kind, shape, masks, values, offsets } | EncodeInterleaved { kind, shape, masks, values, offsets } => {
             faulty_head(rng, kind, shape);
             faulty_content(rng, masks, values, offsets);
         }
@@ -491,6 +491,18 @@ fn faulty_stored(rng: &mut Rng, masks: u64, bytes: &mut Vec<u8>) {
 
 fn encode(kind: [u64; 5], shape: &[u64], c: &Content) -> Request {
     Encode { kind, shape: shape.to_vec(), masks: c.masks.clone(), values: c.values.clone(), offsets: c.offsets.clone() }
+}
+/// `encode_interleaved`, and what is written read again: by the Rust, too.
+fn ask_interleaved(sink: &mut dyn Sink, kind: [u64; 5], shape: &[u64], c: &Content) {
+    let request = encode_interleaved(kind, shape, c);
+    if let Ok(r) = request.judged() {
+        sink.ask(DecodeInterleaved { cells: cells_of(shape) as u64, bytes: r.values });
+    }
+    sink.ask(request);
+}
+fn encode_interleaved(kind: [u64; 5], shape: &[u64], c: &Content) -> Request {
+    let Encode { kind, shape, masks, values, offsets } = encode(kind, shape, c) else { unreachable!() };
+    EncodeInterleaved { kind, shape, masks, values, offsets }
 }
 fn decode(kind: [u64; 5], shape: &[u64], bytes: &[u8]) -> Request {
     Decode { kind, shape: shape.to_vec(), bytes: bytes.to_vec() }
@@ -662,6 +674,25 @@ fn exhaustive_strings(sink: &mut dyn Sink, rng: &mut Rng) {
             }
         }
     }
+    // and written: small lengths behind small first offsets in all ways, each width, place and mask form, at depth 1 too
+    for cells in 1..=4 {
+        for lengths in lists(4, cells) {
+            for first in 0..=2 {
+                let mut offsets = vec![first];
+                for length in &lengths {
+                    offsets.push(offsets[offsets.len() - 1] + length);
+                }
+                let c = Content { masks: vec![], values: (1..=offsets[cells] as u8).collect(), offsets };
+                let shape = shape_of(rng, cells);
+                for (width, place) in RAGGED {
+                    ask_interleaved(sink, ragged(0, width, place), &shape, &c);
+                }
+                ask_interleaved(sink, packed(ragged(0, 4, 0)), &shape, &c);
+                ask_interleaved(sink, ragged(1, 4, 0), &shape, &Content { masks: vec![1; cells], ..c.clone() });
+                ask_interleaved(sink, ragged(0, 4, 0), &shape, &Content { masks: vec![1; cells], ..c });
+            }
+        }
+    }
     for s in strings(&[0, 1, 4, 0xFF], 5) {
         for cells in 0..=1_u64 {
             let bytes = [&(cells as u32).to_le_bytes()[..], &s].concat();
@@ -781,6 +812,7 @@ fn limits(sink: &mut dyn Sink, rng: &mut Rng) {
                 k[at] = n;
                 for shape in [vec![2], vec![0], vec![]] {
                     sink.ask(encode(k, &shape, &c));
+                    sink.ask(encode_interleaved(k, &shape, &c));
                     sink.ask(decode(k, &shape, &[]));
                     sink.ask(extract(k, &shape, &[0, 2], &c));
                     sink.ask(merge(k, &shape, &[(vec![0, 2], c.clone())]));
@@ -816,6 +848,7 @@ fn limits(sink: &mut dyn Sink, rng: &mut Rng) {
         let none = Content { masks: vec![], values: vec![], offsets: vec![] };
         sink.ask(encode(fixed(0, 1, 0), shape, &none));
         sink.ask(encode(ragged(0, 8, 0), shape, &Content { offsets: vec![0], ..none.clone() }));
+        sink.ask(encode_interleaved(ragged(0, 8, 0), shape, &Content { offsets: vec![0], ..none.clone() }));
         sink.ask(extract(fixed(0, 1, 0), shape, &at_0, &none));
         sink.ask(merge(fixed(0, 1, 0), shape, &[]));
         sink.ask(partial_decode(ragged(0, 4, 0), shape, &at_0, &ragged_string(4, 0, &[0], &[])));
@@ -873,6 +906,7 @@ fn limits(sink: &mut dyn Sink, rng: &mut Rng) {
                 for width in [4, 8] {
                     sink.ask(encode(ragged(0, width, 0), &[1], &c));
                 }
+                ask_interleaved(sink, ragged(0, 4, 0), &[1], &c);
                 sink.ask(extract(ragged(0, 8, 0), &[1], &[0, 1], &c));
                 sink.ask(extract(ragged(0, 8, 0), &[1], &[1, 0], &c));
             }
@@ -955,6 +989,8 @@ fn blocks(sink: &mut dyn Sink, rng: &mut Rng) {
     for cells in counts {
         let bytes = interleaved(rng, cells);
         sink.ask(DecodeInterleaved { cells: cells as u64, bytes });
+        let c = content(rng, ragged(0, 4, 0), cells);
+        ask_interleaved(sink, ragged(0, 4, 0), &shape_of(rng, cells), &c);
     }
 }
 
@@ -998,6 +1034,8 @@ fn many_cells(sink: &mut dyn Sink, rng: &mut Rng) {
         let lengths = value_lengths(rng, cells);
         let bytes = interleaved_of(rng, &lengths);
         sink.ask(DecodeInterleaved { cells: cells as u64, bytes });
+        let c = content(rng, ragged(0, 8, 1), cells);
+        ask_interleaved(sink, ragged(0, 8, 1), &[cells as u64], &c);
     }
     // one subset for each cell, in any order; then one cell missed, one held twice
     for kind in [fixed(1, 2, 0), ragged(1, 4, 0)] {
@@ -1027,6 +1065,8 @@ fn many_bytes(sink: &mut dyn Sink, rng: &mut Rng) {
         sink.ask(encode(ragged(1, 4, 1), &[1], &Content { masks: vec![9], ..whole.clone() }));
         sink.ask(encode(ragged(1, 4, 1), &[1], &Content { masks: vec![0], ..whole.clone() }));
         sink.ask(encode(kind, &[1], &Content { offsets: vec![end, end], ..whole.clone() }));
+        ask_interleaved(sink, kind, &[1], &whole);
+        ask_interleaved(sink, kind, &[1], &late);
         sink.ask(extract(kind, &[1], &[0, 1], &whole));
         sink.ask(extract(kind, &[1], &[1, 0], &whole));
         sink.ask(merge(kind, &[1], &[(vec![0, 1], whole.clone())]));
@@ -1149,6 +1189,26 @@ fn random_array(sink: &mut dyn Sink, rng: &mut Rng, masks: u64) {
     sink.ask(subset_cells(&shape, &b));
 }
 
+/// The interleaved form written, of any kind; behind the others, so that `random` draws as it did.
+pub fn random_older(sink: &mut dyn Sink, rng: &mut Rng) {
+    let (depth, masks) = (rng.below(3), rng.below(2) as u64);
+    let kind = any_kind(rng, depth, masks);
+    let shape = any_shape(rng);
+    ask_interleaved(sink, kind, &shape, &content(rng, kind, cells_of(&shape)));
+    let (width, place) = rng.pick(&RAGGED);
+    let kind = ragged(0, width, place);
+    let c = content(rng, kind, cells_of(&shape));
+    ask_interleaved(sink, kind, &shape, &c);
+    ask_with_faults(sink, rng, encode_interleaved(kind, &shape, &c));
+    for _ in 0..3 {
+        let bad = damaged_content(rng, &c);
+        sink.ask(encode_interleaved(kind, &shape, &bad));
+    }
+    let (k, s) = (damaged_kind(rng, kind), damaged_numbers(rng, &shape));
+    sink.ask(encode_interleaved(k, &shape, &c));
+    sink.ask(encode_interleaved(kind, &s, &c));
+}
+
 fn random_merge(sink: &mut dyn Sink, rng: &mut Rng, masks: u64) {
     let depth = rng.below(5);
     let kind = any_kind(rng, depth, masks);
@@ -1233,6 +1293,7 @@ pub fn all(sink: &mut dyn Sink, seed: u64, requests: u64) {
     for _ in 0..200 {
         random(sink, rng);
         random_packed(sink, rng);
+        random_older(sink, rng);
     }
     limits(sink, rng);
     blocks(sink, rng);
@@ -1249,6 +1310,7 @@ pub fn all(sink: &mut dyn Sink, seed: u64, requests: u64) {
         turn += 1;
         if turn % 3 == 0 {
             random_packed(sink, rng);
+            random_older(sink, rng);
         }
     }
 }

@@ -140,20 +140,23 @@ impl Guarded {
         let a = &self.archive;
         unsafe {
             match request {
-                Encode { kind, shape, masks, values, offsets } => (a.encode)(
-                    c_kind(kind),
-                    n1.put(shape),
-                    shape.len(),
-                    b1.put(masks),
-                    masks.len(),
-                    b2.put(values),
-                    values.len(),
-                    n3.put(offsets),
-                    offsets.len(),
-                    v,
-                    lent[1],
-                    n,
-                ),
+                Encode { kind, shape, masks, values, offsets } | EncodeInterleaved { kind, shape, masks, values, offsets } => {
+                    let call = if let Encode { .. } = request { a.encode } else { a.encode_interleaved };
+                    call(
+                        c_kind(kind),
+                        n1.put(shape),
+                        shape.len(),
+                        b1.put(masks),
+                        masks.len(),
+                        b2.put(values),
+                        values.len(),
+                        n3.put(offsets),
+                        offsets.len(),
+                        v,
+                        lent[1],
+                        n,
+                    )
+                }
                 Decode { kind, shape, bytes } => (a.decode)(
                     c_kind(kind),
                     n1.put(shape),
@@ -242,7 +245,7 @@ impl Guarded {
         let [n1, n2, n3] = &self.numbers;
         let [b1, b2] = &self.bytes;
         let kept = match request {
-            Encode { shape, masks, values, offsets, .. } => {
+            Encode { shape, masks, values, offsets, .. } | EncodeInterleaved { shape, masks, values, offsets, .. } => {
                 n1.holds(shape) && b1.holds(masks) && b2.holds(values) && n3.holds(offsets)
             }
             Decode { shape, bytes, .. } => n1.holds(shape) && b1.holds(bytes),

@@ -30,7 +30,7 @@ pub fn request_line(request: &Request) -> String {
     put_number(&mut line, request.call() as u64 + 1);
     let l = &mut line;
     match request {
-        Encode { kind, shape, masks, values, offsets } => {
+        Encode { kind, shape, masks, values, offsets } | EncodeInterleaved { kind, shape, masks, values, offsets } => {
             kind.iter().for_each(|&n| put_number(l, n));
             put_numbers(l, shape);
             put_bytes(l, masks);
@@ -151,6 +151,13 @@ pub fn parse(text: &str) -> Result<(Request, Option<Outcome>), String> {
         }
         7 => ReverseEndianness { size: w.number()?, bytes: w.bytes()? },
         8 => SubsetCells { shape: w.numbers()?, subset: w.numbers()? },
+        9 => EncodeInterleaved {
+            kind: w.kind()?,
+            shape: w.numbers()?,
+            masks: w.bytes()?,
+            values: w.bytes()?,
+            offsets: w.numbers()?,
+        },
         n => return Err(format!("no such call: {n}")),
     };
     if w.0.clone().next().is_none() {

@@ -65,8 +65,8 @@ struct Compare {
 const ANSWERS: usize = 14;
 #[derive(Default)]
 struct Counts {
-    requests: [[u64; ANSWERS]; 8],
-    calls: [[u64; ANSWERS]; 8],
+    requests: [[u64; ANSWERS]; CALLS.len()],
+    calls: [[u64; ANSWERS]; CALLS.len()],
     /// Requests of kinds with packed masks.
     packed: u64,
     /// Requests that each build of the Rust answered: by its own function, as ragged cells.

@@ -12,15 +12,26 @@ pub enum Request {
     PartialDecode { width: u64, place: u64, shape: Vec<u64>, subset: Vec<u64>, bytes: Vec<u8> },
     ReverseEndianness { size: u64, bytes: Vec<u8> },
     SubsetCells { shape: Vec<u64>, subset: Vec<u64> },
+    EncodeInterleaved { kind: KindNumbers, shape: Vec<u64>, masks: Vec<u8>, values: Vec<u8>, offsets: Vec<u64> },
 }
 use Request::*;
 
-pub const CALLS: [&str; 8] =
-    ["encode", "decode", "decode_interleaved", "extract", "merge", "partial_decode", "reverse_endianness", "subset_cells"];
+/// In the order of the numbers that they have in oracle/data: a new call is the last.
+pub const CALLS: [&str; 9] = [
+    "encode",
+    "decode",
+    "decode_interleaved",
+    "extract",
+    "merge",
+    "partial_decode",
+    "reverse_endianness",
+    "subset_cells",
+    "encode_interleaved",
+];
 
 /// The refusals that a call can give, by docs/DECISIONS.md, part 0. At the C boundary width and place come as numbers, so
 /// `partial_decode` has 1 as well.
-pub const REFUSALS: [&[u32]; 8] = [
+pub const REFUSALS: [&[u32]; 9] = [
     &[1, 2, 4, 5, 6],
     &[1, 2, 7, 8, 13, 10, 5, 6],
     &[2, 7, 9, 11, 5, 6],
@@ -29,6 +40,7 @@ pub const REFUSALS: [&[u32]; 8] = [
     &[1, 2, 3, 7, 8, 10, 5, 6],
     &[1],
     &[2, 3, 6],
+    &[1, 2, 4, 5, 6],
 ];
 
 /// Results by slot: a call uses some of masks (or none), values (the stored bytes of `encode`, the bytes of `reverse_endianness`)
@@ -60,13 +72,18 @@ impl Request {
             PartialDecode { .. } => 5,
             ReverseEndianness { .. } => 6,
             SubsetCells { .. } => 7,
+            EncodeInterleaved { .. } => 8,
         }
     }
 
     /// Of a kind whose stored masks are packed.
     pub fn packed(&self) -> bool {
         match self {
-            Encode { kind, .. } | Decode { kind, .. } | Extract { kind, .. } | Merge { kind, .. } => kind[4] == 1,
+            Encode { kind, .. }
+            | Decode { kind, .. }
+            | Extract { kind, .. }
+            | Merge { kind, .. }
+            | EncodeInterleaved { kind, .. } => kind[4] == 1,
             _ => false,
         }
     }
@@ -82,6 +99,7 @@ impl Request {
             [false, true, true],
             [false, true, false],
             [false, false, true],
+            [false, true, false],
         ][self.call()]
     }
 
@@ -107,13 +125,19 @@ impl Request {
             SubsetCells { shape, subset } => {
                 judge::subset_cells(shape, subset).map(|offsets| Results { offsets, ..Results::default() })
             }
+            EncodeInterleaved { kind, shape, masks, values, offsets } => {
+                let stored = judge::encode_interleaved(*kind, shape, masks, values, offsets);
+                stored.map(|values| Results { values, ..Results::default() })
+            }
         }
     }
 
     /// About how much there is to handle.
     pub fn weight(&self) -> usize {
         match self {
-            Encode { shape, masks, values, offsets, .. } => shape.len() + masks.len() + values.len() + offsets.len(),
+            Encode { shape, masks, values, offsets, .. } | EncodeInterleaved { shape, masks, values, offsets, .. } => {
+                shape.len() + masks.len() + values.len() + offsets.len()
+            }
             Extract { shape, masks, values, offsets, .. } => shape.len() + masks.len() + values.len() + offsets.len(),
             Merge { subsets, masks, values, offsets, .. } => subsets.len() + masks.len() + values.len() + offsets.len(),
             Decode { bytes, .. }

@@ -155,6 +155,36 @@ pub unsafe extern "C" fn dpx_decode_interleaved(
 }
 
 #[unsafe(no_mangle)]
+pub unsafe extern "C" fn dpx_encode_interleaved(
+    kind: DpxKind,
+    shape: *const u64,
+    shape_count: usize,
+    masks: *const u8,
+    masks_count: usize,
+    values: *const u8,
+    values_count: usize,
+    offsets: *const u64,
+    offsets_count: usize,
+    out: *mut u8,
+    out_count: usize,
+    lengths: *mut u64,
+) -> u32 {
+    number((|| unsafe {
+        let bytes = encode_interleaved(
+            kind.numbers(),
+            given(shape, shape_count),
+            given(masks, masks_count),
+            given(values, values_count),
+            given(offsets, offsets_count),
+        )?;
+        fits(&[bytes.len()], &[out_count])?;
+        put(&bytes, out);
+        put(&[bytes.len() as u64], lengths);
+        Ok(())
+    })())
+}
+
+#[unsafe(no_mangle)]
 pub unsafe extern "C" fn dpx_extract(
     kind: DpxKind,
     shape: *const u64,

@@ -1,4 +1,4 @@
-//! The judge: what document 01, document 02's request 1 and docs/DECISIONS.md say of the eight calls, as plain code.
+//! The judge: what document 01, document 02's requests 1 and 2 and docs/DECISIONS.md say of the nine calls, as plain code.
 //!
 //! Each function takes what the call takes, as numbers and slices, and gives the result or the refusal number. Outputs are not lent:
 //! `fits` says where a lent output is too short (6), and c.rs puts a result into lent outputs.
@@ -415,6 +415,29 @@ pub fn decode_interleaved(cells: u64, bytes: &[u8]) -> Result<Array, Refusal> {
         return Err(5);
     }
     Ok(Array { masks: vec![], values: values.concat(), offsets })
+}
+
+// ---------------------------------------------------------------- encode_interleaved
+
+pub fn encode_interleaved(
+    k: KindNumbers,
+    shape: &[u64],
+    masks: &[u8],
+    values: &[u8],
+    offsets: &[u64],
+) -> Result<Vec<u8>, Refusal> {
+    let kind = kind(k)?;
+    if kind.depth != 0 || matches!(kind.form, Form::Fixed { .. }) {
+        return Err(1);
+    }
+    let cells = shape_cells(shape)?;
+    check_array(kind, cells, masks, values, offsets)?;
+    let mut bytes = (cells as u32).to_le_bytes().to_vec();
+    for value in cell_values(kind.form, cells, values, offsets) {
+        bytes.extend((value.len() as u32).to_le_bytes());
+        bytes.extend(value);
+    }
+    Ok(bytes)
 }
 
 // ---------------------------------------------------------------- extract, merge, partial_decode
