@@ -1,4 +1,4 @@
-//! What the machine allows: the older form of ragged values read by bare loops over the C library's memcpy.
+//! What the machine allows: the older form of ragged values read by bare loops over the C library's memcpy; and the loop that others would write.
 
 fn length_at(bytes: &[u8], at: usize) -> usize {
     u32::from_le_bytes(bytes[at..at + 4].try_into().unwrap()) as usize
@@ -37,4 +37,15 @@ fn lengths_walk(bytes: &[u8]) {
 pub fn two_walks(bytes: &[u8], values: &mut [u8], offsets: &mut [u64]) -> usize {
     lengths_walk(bytes);
     one_walk(bytes, values, offsets)
+}
+
+/// The older form written by a plain loop: the buffer is used again, so it has its room already.
+pub fn write_older(values: &[u8], offsets: &[u64], out: &mut Vec<u8>) {
+    out.clear();
+    out.extend_from_slice(&(offsets.len() as u32 - 1).to_le_bytes());
+    for pair in offsets.windows(2) {
+        let value = &values[pair[0] as usize..pair[1] as usize];
+        out.extend_from_slice(&(value.len() as u32).to_le_bytes());
+        out.extend_from_slice(value);
+    }
 }

@@ -121,6 +121,16 @@ pub fn input(kind: [u64; 5], shape: Vec<u64>, mask: Mask, values: Values) -> Inp
     };
     Input { kind, shape, subsets: vec![], masks, values, offsets }
 }
+/// A ragged array of depth 0 whose values have these lengths.
+pub fn of_lengths(cells: usize, length: impl Fn(&mut Rng) -> u64) -> Input {
+    let rng = &mut Rng(11);
+    let mut offsets = vec![0];
+    for _ in 0..cells {
+        offsets.push(offsets.last().unwrap() + length(rng));
+    }
+    let values = rng.bytes(offsets[cells] as usize);
+    Input { kind: ragged(0, 8, 0), shape: square(cells), subsets: vec![], masks: vec![], values, offsets }
+}
 /// A chunk list of `count` equal subsets over so many cells. A subset's masks are its part of the whole array's.
 pub fn chunk_list(depth: u64, cells: usize, count: usize, mask: Mask, values: Values) -> Input {
     let rng = &mut Rng(9);

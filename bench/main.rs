@@ -7,7 +7,8 @@
 //! hands back what it borrowed (plain values, little order, depth 0), its result is copied to a reused buffer, so that both leave it in the
 //! caller's memory. Kinds, shapes and chunk lists are built before the clock starts. The Rust is built with opt-level 3 over the stand-in chain,
 //! which does less than the listed one.
-//! Packed masks, which the Rust does not have, are timed against masks of bytes, both ours.
+//! Packed masks, which the Rust does not have, are timed against masks of bytes, both ours. encode_interleaved, which it does not have either, is timed
+//! against a plain Rust loop with a reused buffer (bounds.rs).
 
 #[path = "../oracle/driver/archive.rs"]
 #[allow(dead_code)]
@@ -50,10 +51,12 @@ enum Call<'a> {
     Partial(&'a Input, &'a [u64], &'a [u8]),
     Reverse(u64, usize),
     Cells(&'a [u64], &'a [u64]),
+    Older(&'a Input),
     Memcpy(&'a [u8]),
 }
 use Call::*;
 const CALLS: [&str; 7] = ["encode", "decode", "decode_interleaved", "extract", "merge", "partial_decode", "reverse_endianness"];
+const OLDER: &str = "encode_interleaved";
 impl Call<'_> {
     fn name(&self) -> &'static str {
         match self {
@@ -64,6 +67,7 @@ impl Call<'_> {
             Merge(..) => CALLS[4],
             Partial(..) => CALLS[5],
             Reverse(..) => CALLS[6],
+            Older(..) => OLDER,
             Memcpy(..) | Cells(..) => "",
         }
     }
@@ -79,6 +83,11 @@ fn ours(a: &Archive, call: Call, l: &mut Lent) {
         match call {
             #[rustfmt::skip]
             Encode(i) => (a.encode)(
+                c_kind(&i.kind), i.shape.as_ptr(), i.shape.len(), i.masks.as_ptr(), i.masks.len(),
+                i.values.as_ptr(), i.values.len(), i.offsets.as_ptr(), i.offsets.len(), v, vl, n,
+            ),
+            #[rustfmt::skip]
+            Older(i) => (a.encode_interleaved)(
                 c_kind(&i.kind), i.shape.as_ptr(), i.shape.len(), i.masks.as_ptr(), i.masks.len(),
                 i.values.as_ptr(), i.values.len(), i.offsets.as_ptr(), i.offsets.len(), v, vl, n,
             ),
@@ -203,6 +212,8 @@ struct Bench {
     rows: Vec<Row>,
     /// Packed masks beside masks of bytes, which stand where other rows have the Rust.
     packed: Vec<Row>,
+    /// encode_interleaved beside a plain loop, which stands where other rows have the Rust.
+    older: Vec<Row>,
 }
 
 fn keep<T>(result: T) {
@@ -221,6 +232,7 @@ impl Bench {
             Partial(i, q, s) => timed(move || ours(&a, Partial(i, q, s), &mut l)),
             Reverse(size, length) => timed(move || ours(&a, Reverse(size, length), &mut l)),
             Cells(shape, q) => timed(move || ours(&a, Cells(shape, q), &mut l)),
+            Older(i) => timed(move || ours(&a, Older(i), &mut l)),
             Memcpy(s) => timed(move || ours(&a, Memcpy(s), &mut l)),
         }
     }
@@ -381,6 +393,22 @@ impl Bench {
         self.packed_row(Encode(&bits), Encode(i), i, what);
         let stored = [self.stored(&bits), self.stored(i)];
         self.packed_row(Decode(&bits, &stored[0]), Decode(i, &stored[1]), i, what);
+    }
+
+    /// The loop writes the same, then the clock.
+    fn older_row(&mut self, i: &Input, what: &str) {
+        let mut reused = vec![];
+        bounds::write_older(&i.values, &i.offsets, &mut reused);
+        let mut lent = Lent::new();
+        ours(&self.archive, Older(i), &mut lent);
+        assert!(lent.values[..lent.lengths[0] as usize] == reused[..], "not the same: {OLDER} {what}");
+        let plain = timed(|| {
+            bounds::write_older(black_box(&i.values), black_box(&i.offsets), &mut reused);
+            black_box(&mut reused);
+        });
+        let [ours, rust] = self.turns(Older(i), plain, 1.0);
+        let (kind, what, column) = (String::new(), what.to_string(), cells_of(&i.shape).to_string());
+        self.older.push(Row { call: OLDER, below: false, kind, what, column, rust, ours, held: None });
     }
 
     fn interleaved(&mut self, cells: usize, values: Values) {
@@ -569,13 +597,29 @@ fn packed_rows(b: &mut Bench) {
         }
     }
 }
+/// The older form written: values as elsewhere, and of other lengths.
+fn older_rows(b: &mut Bench) {
+    for cells in CELLS {
+        for values in VALUES {
+            b.older_row(&input(ragged(0, 8, 0), square(cells), Mask::Full, values), values.name());
+        }
+        for most in [16, 40, 64, 250] {
+            b.older_row(&of_lengths(cells, |rng| rng.below(most + 1) as u64), &format!("0 to {most} bytes"));
+        }
+        b.older_row(&of_lengths(cells, |rng| if rng.once_in(2) { 0 } else { 5 }), "half of them empty");
+        if cells <= 4096 {
+            b.older_row(&of_lengths(cells, |_| 1000), "1000 bytes");
+            b.older_row(&of_lengths(cells, |_| 4096), "4096 bytes");
+        }
+    }
+}
 /// In the middle of two sides.
 fn quarter(shape: &[u64]) -> [u64; 4] {
     [shape[0] / 4, shape[1] / 4, shape[0] / 2, shape[1] / 2]
 }
 
 /// Large copies beside memcpy; the ratios.
-fn copies(b: &mut Bench) -> [f64; 9] {
+fn copies(b: &mut Bench) -> [f64; 11] {
     println!("\nLarge plain copies against memcpy of the same number of value bytes. Ratio: memcpy's time over ours.\n");
     println!("| call | bytes | memcpy, ns | ours, ns | ratio |\n|---|---|---|---|---|");
     let plain = input(fixed(0, 64, 0), vec![65_536], Mask::Full, Values::Short);
@@ -585,6 +629,7 @@ fn copies(b: &mut Bench) -> [f64; 9] {
     one.values = Rng(1).bytes(16_777_216);
     one.offsets = vec![0, 16_777_216];
     let one_stored = door::encode(four(&one.kind), &one.shape, &[], &one.values, &one.offsets).unwrap();
+    let long = of_lengths(4096, |_| 4096);
     let mut listed = input(fixed(0, 64, 0), vec![65_536], Mask::Full, Values::Short);
     listed.subsets = vec![0, 65_536];
     [
@@ -597,6 +642,8 @@ fn copies(b: &mut Bench) -> [f64; 9] {
         b.to_memcpy("encode d0 R(8, start), one cell", Encode(&one), &one.values),
         b.to_memcpy("decode d0 R(8, start), one cell", Decode(&one, &one_stored), &one.values),
         b.to_memcpy("partial_decode R(8, start), one cell", Partial(&one, &[0, 1], &one_stored), &one.values),
+        b.to_memcpy("encode_interleaved, one cell", Older(&one), &one.values),
+        b.to_memcpy("encode_interleaved, cells of 4096 bytes", Older(&long), &long.values),
     ]
 }
 
@@ -663,6 +710,12 @@ fn growth(b: &mut Bench) {
             g.add(CALLS[2], values.name().to_string(), b.per(Interleaved(*cells as u64, &stored), *cells));
         }
     }
+    for values in VALUES {
+        for cells in &counts {
+            let i = input(ragged(0, 8, 0), square(*cells), Mask::Full, values);
+            g.add(OLDER, values.name().to_string(), b.per(Older(&i), *cells));
+        }
+    }
     for kind in (0..=4).flat_map(kinds) {
         for (i, cells) in inputs(kind) {
             g.add(CALLS[3], named(&kind), b.per(Extract(&i, &quarter(&i.shape)), cells / 4));
@@ -691,7 +744,7 @@ fn growth(b: &mut Bench) {
         g.add("subset_cells", "all".to_string(), b.per(Cells(&shape, &[0, 0, shape[0], shape[1]]), *cells));
     }
     println!(
-        "\nHow our cost grows: nanoseconds a cell. Half masks; short values but in decode_interleaved; extract and partial_decode of a quarter"
+        "\nHow our cost grows: nanoseconds a cell. Half masks; short values but in the interleaved form; extract and partial_decode of a quarter"
     );
     println!("of the cells, a cell of that quarter; merge of subsets of 16 cells.\n");
     g.print("cells");
@@ -812,11 +865,14 @@ fn main() {
     let args: Vec<String> = std::env::args().skip(1).collect();
     let archive = Archive::load(&args[0]).unwrap();
     let rounds = args.get(1).map_or(25, |n| n.parse().unwrap());
-    let mut b = Bench { archive, rounds, rows: vec![], packed: vec![] };
+    let mut b = Bench { archive, rounds, rows: vec![], packed: vec![], older: vec![] };
     rows(&mut b);
     ratios(&b.rows);
     packed_rows(&mut b);
     packed_ratios(&b.packed);
+    older_rows(&mut b);
+    println!("\n`{OLDER}`, by cells. Ratio: the time of a plain Rust loop with a reused buffer over ours.\n");
+    table(&b.older.iter().collect::<Vec<_>>());
     let copies = copies(&mut b);
     growth(&mut b);
 
@@ -857,10 +913,24 @@ fn main() {
         mean(&bits),
         least(&bits)
     );
+    let older: Vec<f64> = b.older.iter().map(Row::ratio).collect();
+    let slower = older.iter().filter(|ratio| **ratio < 1.0).count();
+    println!(
+        "{OLDER} no slower than a plain loop: {} ({} rows, geometric mean {:.2}, {slower} under 1.0, least {:.2})",
+        said(slower == 0),
+        older.len(),
+        mean(&older),
+        least(&older)
+    );
     println!("large plain copies at 0.7 of memcpy or more: {} (least {:.2})", said(least(&copies) >= 0.7), least(&copies));
     if let Some(file) = args.get(2) {
-        let lines: Vec<String> =
-            b.rows.iter().map(whole).chain(b.packed.iter().map(|row| whole(row) + " packed, against bytes |")).collect();
+        let lines: Vec<String> = b
+            .rows
+            .iter()
+            .map(whole)
+            .chain(b.packed.iter().map(|row| whole(row) + " packed, against bytes |"))
+            .chain(b.older.iter().map(whole))
+            .collect();
         std::fs::write(file, lines.join("\n") + "\n").unwrap();
     }
 }
