@@ -15,7 +15,7 @@ enum { PROMISED = 16 * 1024, ROOM = 256 * 1024, CELLS = 4096, FILL = 0xA5 };
 
 static uint64_t shape[1] = {CELLS}, whole[2] = {0, CELLS}, subsets[2 * CELLS], offsets[CELLS + 1], chunk_offsets[2 * CELLS];
 static uint64_t out_offsets[CELLS + 1], lengths[3];
-static uint8_t masks[4 * CELLS], values[CELLS], stored[16 * CELLS], plain[16 * CELLS], old[8 * CELLS];
+static uint8_t masks[4 * CELLS], values[CELLS], stored[16 * CELLS], plain[16 * CELLS], old[8 * CELLS], anew[8 * CELLS];
 static uint8_t out_masks[4 * CELLS], out_values[CELLS], turned[CELLS];
 static uint64_t stored_len, plain_len, old_len;
 static uint32_t answer;
@@ -45,7 +45,7 @@ static void decode_interleaved(void)
 
 static void encode_interleaved(void)
 {
-    answer = dpx_encode_interleaved(flat, shape, 1, NULL, 0, values, CELLS, offsets, CELLS + 1, plain, sizeof plain, &plain_len);
+    answer = dpx_encode_interleaved(flat, shape, 1, NULL, 0, values, CELLS, offsets, CELLS + 1, anew, sizeof anew, lengths);
 }
 
 static void extract(void)

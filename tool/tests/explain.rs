@@ -35,6 +35,7 @@ fn the_pictures_of_the_page() {
         (KIND, "1"),
         (KIND, "1"),
         ("", "2"),
+        ("", "1"),
     ];
     let pictures: Vec<&str> = page.split("```bytes\n").skip(1).map(|rest| rest.split("```").next().unwrap()).collect();
     assert_eq!(pictures.len(), tables.len());
