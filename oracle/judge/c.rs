@@ -77,6 +77,17 @@ unsafe fn deliver_two(
     answer
 }
 
+/// Written bytes into one lent output.
+unsafe fn deliver_bytes(bytes: Result<Vec<u8>, Refusal>, out: (*mut u8, usize), lengths: *mut u64) -> u32 {
+    number((|| unsafe {
+        let bytes = bytes?;
+        fits(&[bytes.len()], &[out.1])?;
+        put(&bytes, out.0);
+        put(&[bytes.len() as u64], lengths);
+        Ok(())
+    })())
+}
+
 #[unsafe(no_mangle)]
 pub unsafe extern "C" fn dpx_encode(
     kind: DpxKind,
@@ -92,19 +103,19 @@ pub unsafe extern "C" fn dpx_encode(
     out_count: usize,
     lengths: *mut u64,
 ) -> u32 {
-    number((|| unsafe {
-        let bytes = encode(
-            kind.numbers(),
-            given(shape, shape_count),
-            given(masks, masks_count),
-            given(values, values_count),
-            given(offsets, offsets_count),
-        )?;
-        fits(&[bytes.len()], &[out_count])?;
-        put(&bytes, out);
-        put(&[bytes.len() as u64], lengths);
-        Ok(())
-    })())
+    unsafe {
+        deliver_bytes(
+            encode(
+                kind.numbers(),
+                given(shape, shape_count),
+                given(masks, masks_count),
+                given(values, values_count),
+                given(offsets, offsets_count),
+            ),
+            (out, out_count),
+            lengths,
+        )
+    }
 }
 
 #[unsafe(no_mangle)]
@@ -169,19 +180,19 @@ pub unsafe extern "C" fn dpx_encode_interleaved(
     out_count: usize,
     lengths: *mut u64,
 ) -> u32 {
-    number((|| unsafe {
-        let bytes = encode_interleaved(
-            kind.numbers(),
-            given(shape, shape_count),
-            given(masks, masks_count),
-            given(values, values_count),
-            given(offsets, offsets_count),
-        )?;
-        fits(&[bytes.len()], &[out_count])?;
-        put(&bytes, out);
-        put(&[bytes.len() as u64], lengths);
-        Ok(())
-    })())
+    unsafe {
+        deliver_bytes(
+            encode_interleaved(
+                kind.numbers(),
+                given(shape, shape_count),
+                given(masks, masks_count),
+                given(values, values_count),
+                given(offsets, offsets_count),
+            ),
+            (out, out_count),
+            lengths,
+        )
+    }
 }
 
 #[unsafe(no_mangle)]
