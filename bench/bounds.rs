@@ -39,13 +39,21 @@ pub fn two_walks(bytes: &[u8], values: &mut [u8], offsets: &mut [u64]) -> usize 
     one_walk(bytes, values, offsets)
 }
 
-/// The older form written by a plain loop: the buffer is used again, so it has its room already.
-pub fn write_older(values: &[u8], offsets: &[u64], out: &mut Vec<u8>) {
+/// The older form written by the plain loop that one would write for it: what does not fit together is an error, the buffer is used again and has
+/// its room already. Not inlined, as a library's function would not be.
+#[inline(never)]
+pub fn write_older(shape: &[u64], values: &[u8], offsets: &[u64], out: &mut Vec<u8>) -> Result<(), &'static str> {
+    let cells = shape.iter().try_fold(1, |cells: u64, side| cells.checked_mul(*side)).filter(|cells| *cells <= 65_536);
+    let cells = cells.ok_or("too many cells")?;
+    if offsets.len() as u64 != cells + 1 {
+        return Err("not one offset more than cells");
+    }
     out.clear();
-    out.extend_from_slice(&(offsets.len() as u32 - 1).to_le_bytes());
+    out.extend_from_slice(&(cells as u32).to_le_bytes());
     for pair in offsets.windows(2) {
-        let value = &values[pair[0] as usize..pair[1] as usize];
+        let value = values.get(pair[0] as usize..pair[1] as usize).ok_or("offsets beyond the values, or that fall")?;
         out.extend_from_slice(&(value.len() as u32).to_le_bytes());
         out.extend_from_slice(value);
     }
+    Ok(())
 }

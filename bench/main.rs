@@ -398,12 +398,12 @@ impl Bench {
     /// The loop writes the same, then the clock.
     fn older_row(&mut self, i: &Input, what: &str) {
         let mut reused = vec![];
-        bounds::write_older(&i.values, &i.offsets, &mut reused);
+        bounds::write_older(&i.shape, &i.values, &i.offsets, &mut reused).unwrap();
         let mut lent = Lent::new();
         ours(&self.archive, Older(i), &mut lent);
         assert!(lent.values[..lent.lengths[0] as usize] == reused[..], "not the same: {OLDER} {what}");
         let plain = timed(|| {
-            bounds::write_older(black_box(&i.values), black_box(&i.offsets), &mut reused);
+            bounds::write_older(&i.shape, black_box(&i.values), black_box(&i.offsets), &mut reused).unwrap();
             black_box(&mut reused);
         });
         let [ours, rust] = self.turns(Older(i), plain, 1.0);
