@@ -11,22 +11,35 @@ use Rattle.gather.proofs.live.live_mark.Tie as tie
 four : (c : tie.At-match-rest) → c .before .before .args .level ≡ 4
 four c = deepest (c .before .before .pre .1) (c .match .rest .0 .0 .0 .1) (c .match .rest .0 .0 .1) (c .match .rest .0 .1) (c .match .rest .1)
 
-both-2 : (c : tie.After-mark-at3) → c .before .mark-at2 .result * c .mark-at3 .result ≡ liveOne (c .before .before .before .before .args .cells) (c .before .before .before .before .args .masks .now) 2 (c .before .before .before .before .args .i)
-both-2 c = let a = c .before .before .before .before .args in mark-more (a .cells) (a .masks .now) (a .i) 1 (mark-one (a .cells) (a .masks .now) (a .i) (c .before .mark-at2 .ensures) refl) (c .mark-at3 .ensures) refl
+both-2 : (c : tie.After-mark-at3) → c .before .mark-at2 .result * c .mark-at3 .result ≡ liveOne (c .before .before .before .before .args .cells)
+    (c .before .before .before .before .args .masks .now) 2 (c .before .before .before .before .args .i)
+both-2 c =
+    let a = c .before .before .before .before .args in
+    mark-more (a .cells) (a .masks .now) (a .i) 1 (mark-one (a .cells) (a .masks .now) (a .i) (c .before .mark-at2 .ensures) refl) (c .mark-at3 .ensures) refl
 
-both-3 : (c : tie.After-mark-at5) → c .before .mark-at4 .result * c .mark-at5 .result ≡ liveOne (c .before .before .before .before .args .cells) (c .before .before .before .before .args .masks .now) 2 (c .before .before .before .before .args .i)
-both-3 c = let a = c .before .before .before .before .args in mark-more (a .cells) (a .masks .now) (a .i) 1 (mark-one (a .cells) (a .masks .now) (a .i) (c .before .mark-at4 .ensures) refl) (c .mark-at5 .ensures) refl
+both-3 : (c : tie.After-mark-at5) → c .before .mark-at4 .result * c .mark-at5 .result ≡ liveOne (c .before .before .before .before .args .cells)
+    (c .before .before .before .before .args .masks .now) 2 (c .before .before .before .before .args .i)
+both-3 c =
+    let a = c .before .before .before .before .args in
+    mark-more (a .cells) (a .masks .now) (a .i) 1 (mark-one (a .cells) (a .masks .now) (a .i) (c .before .mark-at4 .ensures) refl) (c .mark-at5 .ensures) refl
 
-all-3 : (c : tie.After-mark-at6) → c .before .before .mark-at4 .result * c .before .mark-at5 .result * c .mark-at6 .result ≡ liveOne (c .before .before .before .before .before .args .cells) (c .before .before .before .before .before .args .masks .now) 3 (c .before .before .before .before .before .args .i)
+all-3 : (c : tie.After-mark-at6) → c .before .before .mark-at4 .result * c .before .mark-at5 .result * c .mark-at6 .result ≡ liveOne
+    (c .before .before .before .before .before .args .cells) (c .before .before .before .before .before .args .masks .now) 3 (c .before .before .before .before .before .args .i)
 all-3 c = let a = c .before .before .before .before .before .args in mark-more (a .cells) (a .masks .now) (a .i) 2 (both-3 (c .before)) (c .mark-at6 .ensures) refl
 
-both-4 : (c : tie.After-mark-at8) → c .before .mark-at7 .result * c .mark-at8 .result ≡ liveOne (c .before .before .before .before .args .cells) (c .before .before .before .before .args .masks .now) 2 (c .before .before .before .before .args .i)
-both-4 c = let a = c .before .before .before .before .args in mark-more (a .cells) (a .masks .now) (a .i) 1 (mark-one (a .cells) (a .masks .now) (a .i) (c .before .mark-at7 .ensures) refl) (c .mark-at8 .ensures) refl
+both-4 : (c : tie.After-mark-at8) → c .before .mark-at7 .result * c .mark-at8 .result ≡ liveOne (c .before .before .before .before .args .cells)
+    (c .before .before .before .before .args .masks .now) 2 (c .before .before .before .before .args .i)
+both-4 c =
+    let a = c .before .before .before .before .args in
+    mark-more (a .cells) (a .masks .now) (a .i) 1 (mark-one (a .cells) (a .masks .now) (a .i) (c .before .mark-at7 .ensures) refl) (c .mark-at8 .ensures) refl
 
-three-4 : (c : tie.After-mark-at9) → c .before .before .mark-at7 .result * c .before .mark-at8 .result * c .mark-at9 .result ≡ liveOne (c .before .before .before .before .before .args .cells) (c .before .before .before .before .before .args .masks .now) 3 (c .before .before .before .before .before .args .i)
+three-4 : (c : tie.After-mark-at9) → c .before .before .mark-at7 .result * c .before .mark-at8 .result * c .mark-at9 .result ≡ liveOne
+    (c .before .before .before .before .before .args .cells) (c .before .before .before .before .before .args .masks .now) 3 (c .before .before .before .before .before .args .i)
 three-4 c = let a = c .before .before .before .before .before .args in mark-more (a .cells) (a .masks .now) (a .i) 2 (both-4 (c .before)) (c .mark-at9 .ensures) refl
 
-all-4 : (c : tie.After-mark-at10) → c .before .before .before .mark-at7 .result * c .before .before .mark-at8 .result * c .before .mark-at9 .result * c .mark-at10 .result ≡ liveOne (c .before .before .before .before .before .before .args .cells) (c .before .before .before .before .before .before .args .masks .now) 4 (c .before .before .before .before .before .before .args .i)
+all-4 : (c : tie.After-mark-at10) → c .before .before .before .mark-at7 .result * c .before .before .mark-at8 .result * c .before .mark-at9 .result * c .mark-at10 .result ≡ liveOne
+    (c .before .before .before .before .before .before .args .cells) (c .before .before .before .before .before .before .args .masks .now) 4
+    (c .before .before .before .before .before .before .args .i)
 all-4 c = let a = c .before .before .before .before .before .before .args in mark-more (a .cells) (a .masks .now) (a .i) 3 (three-4 (c .before)) (c .mark-at10 .ensures) refl
 
 mark-at-requires : tie.Need-mark-at-requires
@@ -84,13 +97,18 @@ returns-2 : tie.Need-returns-2
 returns-2 c = let a = c .before .before .before .args in mark-one (a .cells) (a .masks .now) (a .i) (c .mark-at .ensures) (c .before .match .keys2)
 
 returns-3 : tie.Need-returns-3
-returns-3 c = let a = c .before .before .before .before .args in mark-more (a .cells) (a .masks .now) (a .i) 1 (mark-one (a .cells) (a .masks .now) (a .i) (c .before .mark-at2 .ensures) refl) (c .mark-at3 .ensures) (c .before .before .match .keys3)
+returns-3 c =
+    let a = c .before .before .before .before .args in
+    mark-more (a .cells) (a .masks .now) (a .i) 1 (mark-one (a .cells) (a .masks .now) (a .i) (c .before .mark-at2 .ensures) refl) (c .mark-at3 .ensures) (c .before .before .match .keys3)
 
 returns-4 : tie.Need-returns-4
-returns-4 c = let a = c .before .before .before .before .before .args in mark-more (a .cells) (a .masks .now) (a .i) 2 (both-3 (c .before)) (c .mark-at6 .ensures) (c .before .before .before .match .keys4)
+returns-4 c =
+    let a = c .before .before .before .before .before .args in mark-more (a .cells) (a .masks .now) (a .i) 2 (both-3 (c .before)) (c .mark-at6 .ensures) (c .before .before .before .match .keys4)
 
 returns-5 : tie.Need-returns-5
-returns-5 c = let a = c .before .before .before .before .before .before .args in mark-more (a .cells) (a .masks .now) (a .i) 3 (three-4 (c .before)) (c .mark-at10 .ensures) (four (c .before .before .before .before))
+returns-5 c =
+    let a = c .before .before .before .before .before .before .args in
+    mark-more (a .cells) (a .masks .now) (a .i) 3 (three-4 (c .before)) (c .mark-at10 .ensures) (four (c .before .before .before .before))
 
 pub live-mark-spec : {M : Type 1} → statement M
 live-mark-spec =

@@ -35,7 +35,12 @@ sub-result-2 c = omega arith
 returns-2 : tie.Need-returns-2 Inv-loop μ-loop
 returns-2 c =
     let a = c .before .before .before .before .before .before .args in
-    omega (arith, c .before .before .before .loop .inv .2, run-stops (liveTest (a .cells) (a .masks .now) (a .level)) (c .before .before .before .loop .j) (a .cells) (c .before .before .loop-test .taken) (zero-false (liveTest (a .cells) (a .masks .now) (a .level) (c .before .before .before .loop .j)) (sym (c .before .live-mark .ensures) ∙ c .if2 .taken)))
+    omega (
+      arith,
+      c .before .before .before .loop .inv .2,
+      run-stops (liveTest (a .cells) (a .masks .now) (a .level)) (c .before .before .before .loop .j) (a .cells)
+          (c .before .before .loop-test .taken) (zero-false (liveTest (a .cells) (a .masks .now) (a .level) (c .before .before .before .loop .j)) (sym (c .before .live-mark .ensures) ∙ c .if2 .taken)),
+    )
 
 add-j : tie.Need-add-j Inv-loop μ-loop
 add-j c = omega arith
@@ -48,14 +53,22 @@ loop-again c =
     let a = c .before .before .before .before .before .before .args in (
       omega arith,
       omega arith,
-      omega (arith, c .before .before .before .loop .inv .2, run-goes (liveTest (a .cells) (a .masks .now) (a .level)) (c .before .before .before .loop .j) (a .cells) (c .before .before .loop-test .taken) (one-true (liveTest (a .cells) (a .masks .now) (a .level) (c .before .before .before .loop .j)) (λ z. c .if2 .left (c .before .live-mark .ensures ∙ z)))),
+      omega (
+        arith,
+        c .before .before .before .loop .inv .2,
+        run-goes (liveTest (a .cells) (a .masks .now) (a .level)) (c .before .before .before .loop .j) (a .cells)
+            (c .before .before .loop-test .taken) (one-true (liveTest (a .cells) (a .masks .now) (a .level) (c .before .before .before .loop .j))
+            (λ z. c .if2 .left (c .before .live-mark .ensures ∙ z))),
+      ),
     )
 
 sub-result-3 : tie.Need-sub-result-3 Inv-loop μ-loop
 sub-result-3 c = omega arith
 
 returns-3 : tie.Need-returns-3 Inv-loop μ-loop
-returns-3 c = let a = c .before .before .before .before .args in omega (arith, c .before .loop .inv .2, run-none (liveTest (a .cells) (a .masks .now) (a .level)) (c .before .loop .j) (a .cells) (c .loop-test .left))
+returns-3 c =
+    let a = c .before .before .before .before .args in
+    omega (arith, c .before .loop .inv .2, run-none (liveTest (a .cells) (a .masks .now) (a .level)) (c .before .loop .j) (a .cells) (c .loop-test .left))
 
 pub live-run-spec : {M : Type 1} → statement M
 live-run-spec =
