@@ -123,7 +123,8 @@ module _ {t : ℕ → Bool} {n : ℕ} {g : ℕ → List ℕ} {k : ℕ} {d : List
               sized = p .sized;
               clean = out′;
               junk = [];
-              laid = laying-part (wholeOf t n g) d to (p .clean) (done * k) (g i) (joined (map g rest)) (laying-is (p .laid) (ap (λ (is : List ℕ). joined (map g is)) es)) out′ q (done′ * k) (omega (arith, long));
+              laid = laying-part (wholeOf t n g) d to (p .clean) (done * k) (g i) (joined (map g rest)) (laying-is (p .laid) (ap (λ (is : List ℕ). joined (map g is)) es)) out′ q
+                  (done′ * k) (omega (arith, long));
               here = at-none (to + done′ * k) out′ (omega (arith, fits, p .laid .room, kept));
               short = omega arith;
               inside = omega (arith, fits);
