@@ -21,7 +21,7 @@ ghost use Rattle.planes.specs.Within.{PlaneWithin, LevelsWithin, PlanesW
 
 // Spreads the stored mask at `at` over the plane of n cells at `from`, in which `cells` are set, into the plane at `to` behind it.
 // A byte is read for every cell until all are placed, so that no branch goes by the plane.
-pub fn place_plane(
+fn place_plane(
     form: MaskForm,
     masks: &mut [u8],
     from: usize,
@@ -52,7 +52,7 @@ pub fn place_plane(
 }
 
 // Places the planes below the one that ends at `to`, in which `cells` are set: `left` levels, the next frame being at `at`.
-pub fn place_levels(
+fn place_levels(
     form: MaskForm,
     masks: &mut [u8],
     n: usize,
