@@ -176,20 +176,21 @@ struct Held {
     loops: String,
 }
 
-/// One row: what was called with, the column it stands in, and nanoseconds a call. Rows below masks have a table of their own.
+/// One row: what was called with, the column it stands in, and nanoseconds a call of the other side (the Rust; beside packed masks our masks of
+/// bytes) and of ours. Rows below masks have a table of their own.
 struct Row {
     call: &'static str,
     below: bool,
     kind: String,
     what: String,
     column: String,
-    rust: f64,
+    other: f64,
     ours: f64,
     held: Option<Held>,
 }
 impl Row {
     fn ratio(&self) -> f64 {
-        self.rust / self.ours
+        self.other / self.ours
     }
     /// Whether its bound keeps it under 1.0.
     fn at_bound(&self) -> bool {
@@ -201,7 +202,7 @@ struct Bench {
     archive: Archive,
     rounds: u32,
     rows: Vec<Row>,
-    /// Packed masks beside masks of bytes, which stand where other rows have the Rust.
+    /// Packed masks beside masks of bytes.
     packed: Vec<Row>,
 }
 
@@ -260,7 +261,7 @@ impl Bench {
             _ => None,
         };
         let held = bound.filter(|_| ours > rust).map(|bound| self.held(call, bound));
-        self.rows.push(Row { call: call_name, below, kind, what, column, rust, ours, held });
+        self.rows.push(Row { call: call_name, below, kind, what, column, other: rust, ours, held });
     }
 
     /// Our checks alone: the values' output is too short, which is seen last.
@@ -370,10 +371,10 @@ impl Bench {
             });
             assert!(read[0] == read[1], "packed masks read otherwise: {} {what}", kind_name(&i.kind));
         }
-        let [ours, rust] = self.turns(packed, self.ours(bytes), 1.0);
+        let [ours, other] = self.turns(packed, self.ours(bytes), 1.0);
         let column = format!("d{} {}", i.kind[0], cells_of(&i.shape));
         let (kind, what) = (kind_name(&i.kind), what.to_string());
-        self.packed.push(Row { call: packed.name(), below: true, kind, what, column, rust, ours, held: None });
+        self.packed.push(Row { call: packed.name(), below: true, kind, what, column, other, ours, held: None });
     }
 
     fn packed_and_bytes(&mut self, i: &Input, what: &str) {
@@ -744,8 +745,8 @@ fn least(list: &[f64]) -> f64 {
     list.iter().copied().fold(f64::MAX, f64::min)
 }
 fn whole(row: &Row) -> String {
-    let Row { call, kind, what, column, rust, ours, .. } = row;
-    format!("| {call} | {kind} | {what} | {column} | {} | {} | {:.2} |", nanoseconds(*rust), nanoseconds(*ours), row.ratio())
+    let Row { call, kind, what, column, other, ours, .. } = row;
+    format!("| {call} | {kind} | {what} | {column} | {} | {} | {:.2} |", nanoseconds(*other), nanoseconds(*ours), row.ratio())
 }
 
 /// Ratios by kind and column.
