@@ -30,6 +30,7 @@ pub struct Index {
     pub last: u64,
 }
 
+// What the check of ragged values tells.
 pub enum Indexed {
     Found(Index),
     Refused(u8),
