@@ -161,8 +161,8 @@ impl Picture<'_> {
             Part::ContentLength { level, says } => format!("level {level}, content length: {says}"),
             Part::Mask { level, form, cells } => {
                 let last = part.end == bytes.len();
-                let (set, null): (Vec<usize>, Vec<usize>) = locate::places(*form, part, cells.len())
-                    .partition(|&place| locate::is_set(*form, bytes, place));
+                let (set, null): (Vec<usize>, Vec<usize>) =
+                    locate::places(*form, part, cells.len()).partition(|&place| locate::is_set(*form, bytes, place));
                 let named = |places: &[usize]| {
                     let bits = match form {
                         MaskForm::Bytes => String::new(),

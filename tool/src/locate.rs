@@ -129,7 +129,9 @@ impl Walk {
     /// The first mask byte other than 00 and 01, and its level. Bits say no more than set or null.
     pub fn loose_mask(&self, bytes: &[u8]) -> Option<(usize, u64)> {
         self.fields.iter().find_map(|field| match field.part {
-            Part::Mask { level, form: MaskForm::Bytes, .. } => field.range().find(|&at| bytes[at] > 1).map(|at| (at, level)),
+            Part::Mask { level, form: MaskForm::Bytes, .. } => {
+                field.range().find(|&at| bytes[at] > 1).map(|at| (at, level))
+            }
             _ => None,
         })
     }
@@ -297,7 +299,10 @@ impl Walker<'_> {
         }
         let verb = if bits.len() == 1 { "is" } else { "are" };
         let (count, bits) = (cells_text(cells), bits_text(&bits));
-        let what = format!("the mask of level {level} ends there; it has {count}, and of its last byte, {byte:02X}, the unused {bits} {verb} not 0");
+        let what = format!(
+            "the mask of level {level} ends there; it has {count}, and of its last byte, {byte:02X}, the unused {bits} {verb} \
+             not 0"
+        );
         stop(Refusal::UnusedBits, last, what)
     }
 
@@ -488,7 +493,8 @@ mod tests {
             (
                 13,
                 16,
-                "the mask of level 1 ends there; it has 3 cells, and of its last byte, 0B, the unused bit 3 is not 0".into()
+                "the mask of level 1 ends there; it has 3 cells, and of its last byte, 0B, the unused bit 3 is not 0"
+                    .into()
             )
         );
         assert_eq!(

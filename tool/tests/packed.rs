@@ -47,8 +47,12 @@ fn through_every_command() {
     good(&folder, &[&["merge", "--shape", "2x2"][..], &parts, &["all.bin"]].concat());
     assert_eq!(fs::read(folder.join("all.bin")).unwrap(), stored);
     // Parts of the two mask forms are parts of two kinds.
-    good(&folder, &["cut", "--kind", KIND, "--shape", "2x2", "--subset", "0..1,0..2", "--describe", "guests.bin", "bytes.bin"]);
-    let two = ["merge", "--shape", "2x2", "--part", "1..2,0..2", "row1.bin", "--part", "0..1,0..2", "bytes.bin", "no.bin"];
+    good(
+        &folder,
+        &["cut", "--kind", KIND, "--shape", "2x2", "--subset", "0..1,0..2", "--describe", "guests.bin", "bytes.bin"],
+    );
+    let two =
+        ["merge", "--shape", "2x2", "--part", "1..2,0..2", "row1.bin", "--part", "0..1,0..2", "bytes.bin", "no.bin"];
     assert_eq!(run(&folder, &two, b"").status, 67);
 
     let checked = good(&folder, &[&["check", "--strict"][..], &table, &["packed.bin"]].concat());
@@ -107,7 +111,11 @@ fn unused_bits() {
         assert!(explained.text().contains(line), "{line}{}", explained.text());
     }
     for command in ["show", "cut"] {
-        let more = if command == "cut" { &["--subset", "0..1", "--kind", kind, "--shape", "3", "damaged.bin", "no.bin"][..] } else { &table };
+        let more = if command == "cut" {
+            &["--subset", "0..1", "--kind", kind, "--shape", "3", "damaged.bin", "no.bin"][..]
+        } else {
+            &table
+        };
         let said = run(&folder, &[&[command], more].concat(), b"");
         assert_eq!(said.status, 13, "{}", said.err);
     }
