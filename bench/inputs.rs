@@ -8,17 +8,19 @@ pub enum Mask {
     Full,
     Half,
     Clustered,
+    Sparse,
 }
 pub const MASKS: [Mask; 4] = [Mask::Empty, Mask::Full, Mask::Half, Mask::Clustered];
 impl Mask {
     pub fn name(self) -> &'static str {
-        ["empty mask", "full mask", "half mask", "clustered mask"][self as usize]
+        ["empty mask", "full mask", "half mask", "clustered mask", "sparse mask"][self as usize]
     }
     pub fn plane(self, rng: &mut Rng, cells: usize) -> Vec<u8> {
         match self {
             Mask::Empty => vec![0; cells],
             Mask::Full => vec![1; cells],
             Mask::Half => (0..cells).map(|_| rng.below(2) as u8).collect(),
+            Mask::Sparse => (0..cells).map(|_| u8::from(rng.once_in(32))).collect(),
             Mask::Clustered => {
                 let mut mask = vec![];
                 let mut set = 1;
@@ -70,6 +72,18 @@ pub fn fixed(depth: u64, size: u64, order: u64) -> [u64; 5] {
 }
 pub fn ragged(depth: u64, width: u64, place: u64) -> [u64; 5] {
     [depth, 1, width, place, 0]
+}
+/// The same array of the kind with packed masks.
+pub fn packed(i: &Input) -> Input {
+    let Input { kind: [depth, form, size, order, _], shape, subsets, masks, values, offsets } = i;
+    Input {
+        kind: [*depth, *form, *size, *order, 1],
+        shape: shape.clone(),
+        subsets: subsets.clone(),
+        masks: masks.clone(),
+        values: values.clone(),
+        offsets: offsets.clone(),
+    }
 }
 pub fn four(k: &[u64; 5]) -> [u64; 4] {
     [k[0], k[1], k[2], k[3]]

@@ -7,6 +7,7 @@
 //! hands back what it borrowed (plain values, little order, depth 0), its result is copied to a reused buffer, so that both leave it in the
 //! caller's memory. Kinds, shapes and chunk lists are built before the clock starts. The Rust is built with opt-level 3 over the stand-in chain,
 //! which does less than the listed one.
+//! Packed masks, which the Rust does not have, are timed against masks of bytes, both ours.
 
 #[path = "../oracle/driver/archive.rs"]
 #[allow(dead_code)]
@@ -200,6 +201,8 @@ struct Bench {
     archive: Archive,
     rounds: u32,
     rows: Vec<Row>,
+    /// Packed masks beside masks of bytes, which stand where other rows have the Rust.
+    packed: Vec<Row>,
 }
 
 fn keep<T>(result: T) {
@@ -347,6 +350,37 @@ impl Bench {
             keep(array);
         });
         self.row(name(), Decode(i, &stored), rust, back);
+    }
+
+    /// What we store of an array.
+    fn stored(&self, i: &Input) -> Vec<u8> {
+        let mut lent = Lent::new();
+        ours(&self.archive, Encode(i), &mut lent);
+        lent.values[..lent.lengths[0] as usize].to_vec()
+    }
+
+    /// Packed masks and masks of bytes read as the same array, then the clock.
+    fn packed_row(&mut self, packed: Call, bytes: Call, i: &Input, what: &str) {
+        if let Decode(..) = packed {
+            let read = [packed, bytes].map(|call| {
+                let mut lent = Lent::new();
+                ours(&self.archive, call, &mut lent);
+                let [m, v, o] = lent.lengths.map(|n| n as usize);
+                (lent.masks[..m].to_vec(), lent.values[..v].to_vec(), lent.offsets[..o].to_vec())
+            });
+            assert!(read[0] == read[1], "packed masks read otherwise: {} {what}", kind_name(&i.kind));
+        }
+        let [ours, rust] = self.turns(packed, self.ours(bytes), 1.0);
+        let column = format!("d{} {}", i.kind[0], cells_of(&i.shape));
+        let (kind, what) = (kind_name(&i.kind), what.to_string());
+        self.packed.push(Row { call: packed.name(), below: true, kind, what, column, rust, ours, held: None });
+    }
+
+    fn packed_and_bytes(&mut self, i: &Input, what: &str) {
+        let bits = packed(i);
+        self.packed_row(Encode(&bits), Encode(i), i, what);
+        let stored = [self.stored(&bits), self.stored(i)];
+        self.packed_row(Decode(&bits, &stored[0]), Decode(i, &stored[1]), i, what);
     }
 
     fn interleaved(&mut self, cells: usize, values: Values) {
@@ -513,6 +547,25 @@ fn rows(b: &mut Bench) {
             if !CELLS.contains(&(length / size as usize)) {
                 b.reverse(size, length, format!("{length} bytes"));
             }
+        }
+    }
+}
+/// Masks of one bit a cell, at each depth.
+fn packed_rows(b: &mut Bench) {
+    let mut below = |kind: fn(u64, u64, u64) -> [u64; 5], (size, order), mask: Mask, what: &str| {
+        for depth in 1..=4 {
+            for cells in [4096, 65_536] {
+                b.packed_and_bytes(&input(kind(depth, size, order), square(cells), mask, Values::Short), what);
+            }
+        }
+    };
+    for mask in [Mask::Half, Mask::Full, Mask::Clustered, Mask::Sparse, Mask::Empty] {
+        for size in SIZES {
+            below(fixed, (size, 0), mask, mask.name());
+        }
+        below(fixed, (8, 1), mask, mask.name());
+        for kind in [(4, 1), (8, 0)] {
+            below(ragged, kind, mask, mask.name());
         }
     }
 }
@@ -695,21 +748,33 @@ fn whole(row: &Row) -> String {
     format!("| {call} | {kind} | {what} | {column} | {} | {} | {:.2} |", nanoseconds(*rust), nanoseconds(*ours), row.ratio())
 }
 
+/// Ratios by kind and column.
+fn table(rows: &[&Row]) {
+    let mut columns: Vec<&str> = vec![];
+    let mut lines: Vec<(&str, &str)> = vec![];
+    for row in rows {
+        if !columns.contains(&&row.column[..]) {
+            columns.push(&row.column);
+        }
+        if !lines.contains(&(&row.kind[..], &row.what[..])) {
+            lines.push((&row.kind, &row.what));
+        }
+    }
+    println!("| kind | with | {} |\n|---|---|{}", columns.join(" | "), "---|".repeat(columns.len()));
+    for (kind, what) in lines {
+        let cells = columns.iter().map(|column| {
+            let row = rows.iter().find(|row| (&row.kind[..], &row.what[..], &row.column[..]) == (kind, what, *column));
+            row.map_or(String::new(), |row| figure(row.ratio()))
+        });
+        println!("| {kind} | {what} | {} |", cells.collect::<Vec<_>>().join(" | "));
+    }
+}
+
 /// A table of ratios for each call; for those below masks one more.
 fn ratios(rows: &[Row]) {
     println!("Ratio: the Rust's time over ours.");
     for (call, below) in CALLS.into_iter().flat_map(|call| [(call, false), (call, true)]) {
         let rows: Vec<&Row> = rows.iter().filter(|row| (row.call, row.below) == (call, below)).collect();
-        let mut columns: Vec<&str> = vec![];
-        let mut lines: Vec<(&str, &str)> = vec![];
-        for row in &rows {
-            if !columns.contains(&&row.column[..]) {
-                columns.push(&row.column);
-            }
-            if !lines.contains(&(&row.kind[..], &row.what[..])) {
-                lines.push((&row.kind, &row.what));
-            }
-        }
         if rows.is_empty() {
             continue;
         }
@@ -723,24 +788,35 @@ fn ratios(rows: &[Row]) {
             _ => "by cells",
         };
         println!("\n`{call}`{}, {head}:\n", if below { " below masks" } else { "" });
-        println!("| kind | with | {} |\n|---|---|{}", columns.join(" | "), "---|".repeat(columns.len()));
-        for (kind, what) in lines {
-            let cells = columns.iter().map(|column| {
-                let row = rows.iter().find(|row| (&row.kind[..], &row.what[..], &row.column[..]) == (kind, what, *column));
-                row.map_or(String::new(), |row| figure(row.ratio()))
-            });
-            println!("| {kind} | {what} | {} |", cells.collect::<Vec<_>>().join(" | "));
-        }
+        table(&rows);
     }
+}
+
+/// Packed masks: a table of ratios for each call, the worst row, and each that is slower than the byte form's.
+fn packed_ratios(rows: &[Row]) {
+    println!("\nPacked masks. Ratio: the byte form's time over the packed form's, both ours.");
+    for call in [CALLS[0], CALLS[1]] {
+        println!("\n`{call}` with packed masks, by depth and cells:\n");
+        table(&rows.iter().filter(|row| row.call == call).collect::<Vec<_>>());
+    }
+    println!("\nThe worst row of each, then all under 1.0:\n");
+    println!("| call | kind | with | at | bytes, ns | packed, ns | ratio |\n|---|---|---|---|---|---|---|");
+    for call in [CALLS[0], CALLS[1]] {
+        let worst = rows.iter().filter(|row| row.call == call).min_by(|a, b| a.ratio().total_cmp(&b.ratio()));
+        worst.iter().for_each(|row| println!("{}", whole(row)));
+    }
+    rows.iter().filter(|row| row.ratio() < 1.0).for_each(|row| println!("{}", whole(row)));
 }
 
 fn main() {
     let args: Vec<String> = std::env::args().skip(1).collect();
     let archive = Archive::load(&args[0]).unwrap();
     let rounds = args.get(1).map_or(25, |n| n.parse().unwrap());
-    let mut b = Bench { archive, rounds, rows: vec![] };
+    let mut b = Bench { archive, rounds, rows: vec![], packed: vec![] };
     rows(&mut b);
     ratios(&b.rows);
+    packed_rows(&mut b);
+    packed_ratios(&b.packed);
     let copies = copies(&mut b);
     growth(&mut b);
 
@@ -772,9 +848,19 @@ fn main() {
     println!("\n{} rows, geometric mean {:.2}, best of {rounds} rounds", all.len(), mean(&all));
     println!("no row under 1.0 but at its bound: {} ({} under, {beyond} of them not so)", said(beyond == 0), under.len());
     println!("geometric mean 2.0 or more: {}", said(mean(&all) >= 2.0));
+    let bits: Vec<f64> = b.packed.iter().map(Row::ratio).collect();
+    let slower = bits.iter().filter(|ratio| **ratio < 1.0).count();
+    println!(
+        "packed masks no slower than masks of bytes: {} ({} rows, geometric mean {:.2}, {slower} under 1.0, least {:.2})",
+        said(slower == 0),
+        bits.len(),
+        mean(&bits),
+        least(&bits)
+    );
     println!("large plain copies at 0.7 of memcpy or more: {} (least {:.2})", said(least(&copies) >= 0.7), least(&copies));
     if let Some(file) = args.get(2) {
-        let lines: Vec<String> = b.rows.iter().map(whole).collect();
+        let lines: Vec<String> =
+            b.rows.iter().map(whole).chain(b.packed.iter().map(|row| whole(row) + " packed, against bytes |")).collect();
         std::fs::write(file, lines.join("\n") + "\n").unwrap();
     }
 }

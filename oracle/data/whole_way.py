@@ -1,10 +1,11 @@
 #!/usr/bin/env python3
-"""Makes the tables that the program crates/whole_way reads, and says by document 01's rules what it must print of them.
+"""Makes the tables that the program crates/whole_way reads, and says by the rules of document 01, and of document 02's request 1, what it
+must print of them.
 
     whole_way.py    writes crates/whole_way/stdin and crates/whole_way/stdout
 
 Here a table is a list of cells, each with its mask bytes and its value. Expected are the rest form of these cells, and of the cells of a
-subset, laid out; nothing is written to a stored form, read from one or merged, and no answer of the program is looked at. The draws
+subset, laid out, with every set mask byte as 01 where masks are packed; nothing is written to a stored form, read from one or merged, and no answer of the program is looked at. The draws
 have a fixed seed, so the files come out the same each time."""
 import itertools
 import math
@@ -24,7 +25,7 @@ LONG_RUN = 5
 rng = random.Random(20)
 
 
-# ---- kinds: depth, form (0 fixed, 1 ragged), size or width, order (0 little, 1 big) or place (0 start, 1 end)
+# ---- kinds: depth, form (0 fixed, 1 ragged), size or width, order (0 little, 1 big) or place (0 start, 1 end); 1 behind them: packed masks
 
 
 def kinds():
@@ -37,14 +38,26 @@ def kinds():
                 yield depth, 1, width, place
 
 
+def packed_kinds():
+    """Every second kind: of a size or width one order or place, by turns."""
+    for i, kind in enumerate(kinds()):
+        if kind[3] == i // 2 % 2:
+            yield (*kind, 1)
+
+
+def is_packed(kind):
+    return len(kind) == 5
+
+
 def in_words(kind):
-    depth, form, size, order = kind
+    depth, form, size, order = kind[:4]
+    packed = ", packed masks" if is_packed(kind) else ""
     if form:
-        return f"depth {depth}, ragged, width {size}, index at the {('start', 'end')[order]}"
-    return f"depth {depth}, fixed, size {size}, {('little', 'big')[order]} order"
+        return f"depth {depth}, ragged, width {size}, index at the {('start', 'end')[order]}{packed}"
+    return f"depth {depth}, fixed, size {size}, {('little', 'big')[order]} order{packed}"
 
 
-# ---- document 01: the rest form, cell by cell; the cells of a subset; content
+# ---- the rest form, cell by cell; the cells of a subset; content
 
 
 def empty_value(kind):
@@ -55,7 +68,8 @@ def rest(kind, cell):
     masks, value = cell
     kept, live = [], True
     for byte in masks:
-        kept.append(byte if live else 0)
+        said = min(byte, 1) if is_packed(kind) else byte
+        kept.append(said if live else 0)
         live = live and byte != 0
     if live:
         return kept, value
@@ -170,7 +184,7 @@ def none(shape):
 
 
 def draw_value(kind):
-    _, form, size, _ = kind
+    form, size = kind[1:3]
     if form:
         n = rng.choice((0, 1, 1, 2, 3, 5, 5, 260))
         return bytes([rng.randint(1, 255)]) * n if n > 5 else bytes(rng.randint(1, 255) for _ in range(n))
@@ -288,32 +302,63 @@ HEAD = [
 ]
 
 
-def main():
-    asked, given, differ, number = list(HEAD), list(HEAD), 0, 0
-    for i, kind in enumerate(kinds()):
-        asked.append("# " + in_words(kind))
-        given.append(asked[-1])
+PACKED = [
+    "# Packed masks: every second kind, one table of each. Set mask bytes come out as 01.",
+    "#",
+]
+
+
+class Tables:
+    """What is asked and what must be given, line by line."""
+
+    def __init__(self):
+        self.asked, self.given, self.number, self.differ = [], [], 0, 0
+
+    def say(self, *lines):
+        self.asked += lines
+        self.given += lines
+
+    def refused(self, why, lists, refusal):
+        self.say("# refused: " + why)
+        self.number += 1
+        self.asked.append("w " + lists + "; -")
+        self.given += [f"{self.number}: kind {lists.split()[0]}", f"outcome: refused {refusal}"]
+
+    def add(self, kind, cover, sides, style, fewest):
+        """A table of so many sides, and of so many cells or more where there is one."""
         most = 24 if kind[1] or kind[2] <= 4 else 12 if kind[2] <= 16 else 6
+        least = 1 if cover is one else 2
+        shapes = [s for s in SHAPES[sides] if least <= math.prod(s) <= most]
+        shape = rng.choice([s for s in shapes if math.prod(s) >= fewest] or shapes)
+        cells = draw_cells(kind, math.prod(shape), style)
+        before = bytes(rng.randint(1, 255) for _ in range(rng.choice((0, 0, 1, 3)))) if kind[1] else b""
+        subsets = covering(cover, shape, least)
+        cuts = [one(shape)[0], cell(shape), some(shape), none(shape)]
+        self.number += 1
+        self.asked.append(request(kind, shape, subsets, cells, before, cuts))
+        self.given += answer(self.number, kind, shape, cells, cuts)
+        self.differ += content(kind, cells, before) != content(kind, [rest(kind, c) for c in cells])
+
+
+def main():
+    tables = Tables()
+    tables.say(*HEAD)
+    for i, kind in enumerate(kinds()):
+        tables.say("# " + in_words(kind))
         for j, cover in enumerate(COVERS):
-            least = 1 if cover is one else 2
-            shape = rng.choice([s for s in SHAPES[1 + (i + j) % 4] if least <= math.prod(s) <= most])
-            cells = draw_cells(kind, math.prod(shape), STYLES[(i + j) % 5])
-            before = bytes(rng.randint(1, 255) for _ in range(rng.choice((0, 0, 1, 3)))) if kind[1] else b""
-            subsets = covering(cover, shape, least)
-            cuts = [one(shape)[0], cell(shape), some(shape), none(shape)]
-            number += 1
-            asked.append(request(kind, shape, subsets, cells, before, cuts))
-            given += answer(number, kind, shape, cells, cuts)
-            differ += content(kind, cells, before) != content(kind, [rest(kind, c) for c in cells])
-    for why, lists, refusal in REFUSED:
-        asked += ["# refused: " + why, "w " + lists + "; -"]
-        number += 1
-        given += ["# refused: " + why, f"{number}: kind {lists.split()[0]}", f"outcome: refused {refusal}"]
+            tables.add(kind, cover, 1 + (i + j) % 4, STYLES[(i + j) % 5], 1)
+    for refused in REFUSED:
+        tables.refused(*refused)
+    tables.say(*PACKED)
+    for i, kind in enumerate(packed_kinds()):
+        tables.say("# " + in_words(kind))
+        # by turns, so that each comes with each; masks of more than one byte where cells are small
+        tables.add(kind, COVERS[i % 5], 1 + i % 4, STYLES[i // 5 % 5], 9)
     out = os.path.join(os.path.dirname(os.path.abspath(__file__)), "..", "..", "crates", "whole_way")
-    for name, lines in (("stdin", asked), ("stdout", given)):
+    for name, lines in (("stdin", tables.asked), ("stdout", tables.given)):
         with open(os.path.join(out, name), "w") as file:
             file.write("\n".join(lines) + "\n")
-    print(number, "tables,", differ, "of them not in rest form")
+    print(tables.number, "tables,", tables.differ, "of them not in rest form")
 
 
 main()

@@ -20,18 +20,24 @@ fn ragged(depth: usize, width: u64, place: u64) -> [u64; 5] {
 const RAGGED: [(u64, u64); 4] = [(4, 0), (4, 1), (8, 0), (8, 1)];
 const SIZES: [u64; 17] = [1, 1, 2, 2, 3, 4, 5, 7, 8, 9, 15, 16, 17, 32, 33, 63, 64];
 
+/// The same kind with packed masks.
+fn packed(kind: [u64; 5]) -> [u64; 5] {
+    [kind[0], kind[1], kind[2], kind[3], 1]
+}
 /// A kind with the same values at another depth.
 fn at_depth(kind: [u64; 5], depth: usize) -> [u64; 5] {
     [depth as u64, kind[1], kind[2], kind[3], kind[4]]
 }
-fn any_kind(rng: &mut Rng, depth: usize) -> [u64; 5] {
-    if rng.below(2) == 0 {
+fn any_kind(rng: &mut Rng, depth: usize, masks: u64) -> [u64; 5] {
+    let mut kind = if rng.below(2) == 0 {
         let (width, place) = rng.pick(&RAGGED);
         ragged(depth, width, place)
     } else {
         let size = if rng.once_in(4) { 1 + rng.below(64) as u64 } else { rng.pick(&SIZES) };
         fixed(depth, size, rng.below(2) as u64)
-    }
+    };
+    kind[4] = masks;
+    kind
 }
 /// A shape of exactly `cells` cells.
 fn shape_of(rng: &mut Rng, cells: usize) -> Vec<u64> {
@@ -169,7 +175,8 @@ fn content(rng: &mut Rng, kind: [u64; 5], cells: usize) -> Content {
     Content { masks, values, offsets }
 }
 
-fn frame(mask: &[u8], content: &[u8]) -> Vec<u8> {
+fn frame(masks: u64, plane: &[u8], content: &[u8]) -> Vec<u8> {
+    let mask = &judge::write_mask(masks == 1, plane)[..];
     let (m, c) = ((mask.len() as u64).to_le_bytes(), (content.len() as u64).to_le_bytes());
     [&m[..], &c, mask, content].concat()
 }
@@ -192,7 +199,7 @@ fn stored(rng: &mut Rng, kind: [u64; 5], cells: usize) -> Vec<u8> {
         } else {
             vec![]
         };
-        return frame(&mask, &content);
+        return frame(kind[4], &mask, &content);
     }
     if kind[1] == 0 {
         return rng.bytes(cells * kind[2] as usize);
@@ -206,14 +213,14 @@ fn stored(rng: &mut Rng, kind: [u64; 5], cells: usize) -> Vec<u8> {
     ragged_string(kind[2], kind[3], &offsets, &data)
 }
 /// `levels` frames around a content of `cells` cells; the cells of the outermost.
-fn wrapped(rng: &mut Rng, levels: usize, cells: usize, content: Vec<u8>) -> (Vec<u8>, usize) {
+fn wrapped(rng: &mut Rng, masks: u64, levels: usize, cells: usize, content: Vec<u8>) -> (Vec<u8>, usize) {
     let (mut bytes, mut cells) = (content, cells);
     for _ in 0..levels {
         let mut mask: Vec<u8> = (0..cells).map(|_| mask_byte(rng)).collect();
         let nulls = rng.pick(&[0, 0, 1, 2]);
         mask.extend(vec![0; nulls]);
         rng.shuffle(&mut mask);
-        bytes = frame(&mask, &bytes);
+        bytes = frame(masks, &mask, &bytes);
         cells = mask.len();
     }
     (bytes, cells)
@@ -295,22 +302,22 @@ fn put_number(bytes: &mut [u8], at: usize, width: usize, number: u64) {
     }
 }
 /// Lengths of a frame that agree with its bytes only where their sum is cut to 64 bits (or 32).
-fn wrap_frame(rng: &mut Rng, bytes: &[u8], cells: usize) -> Vec<u8> {
+fn wrap_frame(rng: &mut Rng, bytes: &[u8], mask_length: usize) -> Vec<u8> {
     let mut copy = bytes.to_vec();
     if copy.len() < 16 {
         return copy;
     }
     if rng.below(2) == 0 {
         // the mask length is right and the bytes end before the mask does
-        copy.truncate(16 + rng.below(cells.min(copy.len() - 16) + 1));
-        put_number(&mut copy, 0, 8, cells as u64);
-        let content = (copy.len() as u64 - 16).wrapping_sub(cells as u64);
+        copy.truncate(16 + rng.below(mask_length.min(copy.len() - 16) + 1));
+        put_number(&mut copy, 0, 8, mask_length as u64);
+        let content = (copy.len() as u64 - 16).wrapping_sub(mask_length as u64);
         put_number(&mut copy, 8, 8, content);
     } else {
         let mask = match rng.below(4) {
             0 => (copy.len() as u64 - 15).wrapping_add(rng.below(20) as u64),
             1 => (rng.below(20) as u64).wrapping_neg(),
-            2 => cells as u64 + (1 << 32),
+            2 => mask_length as u64 + (1 << 32),
             _ => a_number(rng),
         };
         put_number(&mut copy, 0, 8, mask);
@@ -319,9 +326,10 @@ fn wrap_frame(rng: &mut Rng, bytes: &[u8], cells: usize) -> Vec<u8> {
     }
     copy
 }
-fn damaged(rng: &mut Rng, bytes: &[u8], cells: usize) -> Vec<u8> {
+fn damaged(rng: &mut Rng, bytes: &[u8], masks: u64, cells: usize) -> Vec<u8> {
     let mut copy = bytes.to_vec();
     let length = copy.len();
+    let mask_length = judge::mask_bytes(masks == 1, cells);
     match rng.below(10) {
         0 if length > 0 => {
             let at = rng.below(length);
@@ -334,7 +342,7 @@ fn damaged(rng: &mut Rng, bytes: &[u8], cells: usize) -> Vec<u8> {
         }
         3 => {
             // a number where a field begins: a frame's lengths, the index length at either end, an offset
-            let at = rng.pick(&[0, 8, length.saturating_sub(8), 16 + cells, 24 + cells]);
+            let at = rng.pick(&[0, 8, length.saturating_sub(8), 16 + mask_length, 24 + mask_length]);
             let n = a_number(rng);
             put_number(&mut copy, at, 8, n);
         }
@@ -344,7 +352,7 @@ fn damaged(rng: &mut Rng, bytes: &[u8], cells: usize) -> Vec<u8> {
             let n = a_number(rng);
             put_number(&mut copy, at, width, n);
         }
-        5 | 6 => copy = wrap_frame(rng, bytes, cells),
+        5 | 6 => copy = wrap_frame(rng, bytes, mask_length),
         7 if length > 0 => {
             copy.remove(rng.below(length));
         }
@@ -418,13 +426,13 @@ fn faulty(rng: &mut Rng, request: &Request) -> Request {
         }
         Decode { kind, shape, bytes } => {
             faulty_head(rng, kind, shape);
-            faulty_stored(rng, bytes);
+            faulty_stored(rng, kind[4], bytes);
         }
         DecodeInterleaved { cells, bytes } => {
             if rng.once_in(3) {
                 *cells = a_number(rng);
             }
-            faulty_stored(rng, bytes);
+            faulty_stored(rng, 0, bytes);
         }
         Extract { kind, shape, subset, masks, values, offsets }
         | Merge { kind, shape, subsets: subset, masks, values, offsets } => {
@@ -441,7 +449,7 @@ fn faulty(rng: &mut Rng, request: &Request) -> Request {
             if rng.once_in(3) {
                 *subset = damaged_numbers(rng, subset);
             }
-            faulty_stored(rng, bytes);
+            faulty_stored(rng, 0, bytes);
         }
         ReverseEndianness { size, .. } => *size = a_number(rng),
         SubsetCells { shape, subset } => {
@@ -472,10 +480,10 @@ fn faulty_content(rng: &mut Rng, masks: &mut Vec<u8>, values: &mut Vec<u8>, offs
         *offsets = damaged_numbers(rng, offsets);
     }
 }
-fn faulty_stored(rng: &mut Rng, bytes: &mut Vec<u8>) {
+fn faulty_stored(rng: &mut Rng, masks: u64, bytes: &mut Vec<u8>) {
     if rng.once_in(2) {
         let cells = 1 + rng.below(4);
-        *bytes = damaged(rng, bytes, cells);
+        *bytes = damaged(rng, bytes, masks, cells);
     }
 }
 
@@ -554,7 +562,9 @@ fn exhaustive_masks(sink: &mut dyn Sink, rng: &mut Rng) {
                     for order in [0, 1] {
                         let values = (1..=cells as u8 * size).collect();
                         let c = Content { masks: masks.clone(), values, offsets: vec![] };
-                        both(fixed(depth, u64::from(size), order), &c);
+                        let kind = fixed(depth, u64::from(size), order);
+                        both(kind, &c);
+                        both(packed(kind), &c);
                     }
                 }
                 for list in lists(lengths, cells) {
@@ -569,6 +579,7 @@ fn exhaustive_masks(sink: &mut dyn Sink, rng: &mut Rng) {
                     for (width, place) in RAGGED {
                         both(ragged(depth, width, place), &c);
                     }
+                    both(packed(ragged(depth, 4, 0)), &c);
                 }
             }
         }
@@ -581,14 +592,14 @@ fn exhaustive_strings(sink: &mut dyn Sink, rng: &mut Rng) {
     for n in 0..=0xFFFF_u16 {
         sink.ask(decode(fixed(0, 2, 1), &[1], &n.to_le_bytes()));
     }
-    let kinds = [fixed(0, 1, 0), fixed(0, 2, 1), fixed(0, 3, 1), ragged(0, 4, 0), ragged(0, 8, 1)];
+    let kinds = [fixed(0, 1, 0), fixed(0, 2, 1), fixed(0, 3, 1), ragged(0, 4, 0), ragged(0, 8, 1), packed(fixed(0, 1, 0))];
     let short = strings(&[0, 1, 2, 0xFF], 4);
     for levels in 0..=4 {
         for inner in 0..=4 - levels {
             for kind in kinds {
                 for cells in 1..=3 {
                     for s in &short {
-                        let (bytes, cells) = wrapped(rng, levels, cells, s.clone());
+                        let (bytes, cells) = wrapped(rng, kind[4], levels, cells, s.clone());
                         sink.ask(decode(at_depth(kind, levels + inner), &[cells as u64], &bytes));
                     }
                 }
@@ -603,6 +614,7 @@ fn exhaustive_strings(sink: &mut dyn Sink, rng: &mut Rng) {
                     bytes.extend(content_length.to_le_bytes());
                     bytes.extend(s);
                     sink.ask(decode(fixed(1, 1, 0), &[cells], &bytes));
+                    sink.ask(decode(packed(fixed(1, 1, 0)), &[cells], &bytes));
                 }
             }
         }
@@ -614,7 +626,7 @@ fn exhaustive_strings(sink: &mut dyn Sink, rng: &mut Rng) {
                 for data in 0..=4 {
                     let s = ragged_string(width, place, &offsets, &b"wxyz"[..data]);
                     for levels in 0..=2 {
-                        let (bytes, outer) = wrapped(rng, levels, cells, s.clone());
+                        let (bytes, outer) = wrapped(rng, 0, levels, cells, s.clone());
                         sink.ask(decode(ragged(levels, width, place), &[outer as u64], &bytes));
                     }
                     let subset = inside(rng, &[cells as u64]);
@@ -658,6 +670,45 @@ fn exhaustive_strings(sink: &mut dyn Sink, rng: &mut Rng) {
     }
 }
 
+/// Packed masks of up to ten cells in all ways, written and read back; and every last byte of a mask, read with the content of the cells
+/// that its used bits set, with none, with one byte more, and behind lengths of the mask that are one too few and too many.
+fn exhaustive_packed(sink: &mut dyn Sink, rng: &mut Rng) {
+    for cells in 1..=10 {
+        for set in 0..1_u64 << cells {
+            let plane: Vec<u8> = (0..cells).map(|i| if set >> i & 1 == 1 { mask_byte(rng) } else { 0 }).collect();
+            for kind in [packed(fixed(1, 1, 0)), packed(ragged(1, 4, 1))] {
+                let c = Content { masks: plane.clone(), ..content(rng, kind, cells) };
+                let shape = shape_of(rng, cells);
+                let request = encode(kind, &shape, &c);
+                if let Ok(r) = request.judged() {
+                    sink.ask(decode(kind, &shape, &r.values));
+                }
+                sink.ask(request);
+            }
+        }
+    }
+    for cells in 1..=17_usize {
+        for last in 0..=0xFF {
+            let mut mask: Vec<u8> = (0..cells.div_ceil(8)).map(|_| rng.byte()).collect();
+            *mask.last_mut().unwrap() = last;
+            let set = (0..cells).filter(|i| mask[i / 8] >> (i % 8) & 1 == 1).count();
+            let contents = [vec![7; set], vec![], vec![7; set + 1]];
+            let shorter = mask[..mask.len() - 1].to_vec();
+            let longer = [&mask[..], &[last]].concat();
+            let frames =
+                contents.iter().map(|content| (&mask, content)).chain([(&shorter, &contents[0]), (&longer, &contents[0])]);
+            for (mask, content) in frames {
+                // the bytes are stored as they are, whatever the kind says of them
+                let s = frame(0, mask, content);
+                sink.ask(decode(packed(fixed(1, 1, 0)), &[cells as u64], &s));
+                let levels = 1 + rng.below(3);
+                let (bytes, outer) = wrapped(rng, 1, levels, cells, s);
+                sink.ask(decode(packed(fixed(1 + levels, 1, 0)), &[outer as u64], &bytes));
+            }
+        }
+    }
+}
+
 /// All subsets of small shapes, those outside too; all lists of up to four subsets.
 fn exhaustive_subsets(sink: &mut dyn Sink, rng: &mut Rng) {
     let mut shapes: Vec<Vec<u64>> = (1..=5).map(|side| vec![side]).collect();
@@ -672,8 +723,8 @@ fn exhaustive_subsets(sink: &mut dyn Sink, rng: &mut Rng) {
         for subset in lists(most, 2 * shape.len()) {
             sink.ask(subset_cells(shape, &subset));
             if shape.len() < 3 {
-                let depth = rng.below(5);
-                let kind = any_kind(rng, depth);
+                let (depth, masks) = (rng.below(5), rng.below(2) as u64);
+                let kind = any_kind(rng, depth, masks);
                 let c = content(rng, kind, cells_of(shape));
                 sink.ask(extract(kind, shape, &subset, &c));
                 let (width, place) = rng.pick(&RAGGED);
@@ -691,8 +742,8 @@ fn exhaustive_subsets(sink: &mut dyn Sink, rng: &mut Rng) {
             .collect();
         for count in 0..=most {
             for picks in lists(all.len() as u64, count) {
-                let depth = rng.below(3);
-                let kind = any_kind(rng, depth);
+                let (depth, masks) = (rng.below(3), rng.below(2) as u64);
+                let kind = any_kind(rng, depth, masks);
                 let list: Vec<(Vec<u64>, Content)> = picks
                     .iter()
                     .map(|&i| {
@@ -720,7 +771,8 @@ fn exhaustive_reversal(sink: &mut dyn Sink, rng: &mut Rng) {
 
 fn limits(sink: &mut dyn Sink, rng: &mut Rng) {
     // every number of a kind, alone and together with other faults
-    let good = [fixed(0, 1, 0), fixed(2, 3, 1), ragged(0, 4, 0), ragged(1, 8, 1)];
+    let good =
+        [fixed(0, 1, 0), fixed(2, 3, 1), ragged(0, 4, 0), ragged(1, 8, 1), packed(fixed(0, 1, 0)), packed(ragged(1, 8, 1))];
     for kind in good {
         let c = content(rng, kind, 2);
         for at in 0..5 {
@@ -834,7 +886,7 @@ fn limits(sink: &mut dyn Sink, rng: &mut Rng) {
         }
         // every number in every field of a frame and of an index
         for (depth, cells) in [(1, 1), (2, 1), (1, 3), (4, 2)] {
-            for kind in [fixed(depth, 1, 0), ragged(depth, 4, 0), ragged(depth, 8, 1)] {
+            for kind in [fixed(depth, 1, 0), ragged(depth, 4, 0), ragged(depth, 8, 1), packed(ragged(depth, 4, 0))] {
                 let s = stored(rng, kind, cells);
                 for at in 0..s.len().saturating_sub(7) {
                     let mut copy = s.clone();
@@ -863,8 +915,9 @@ fn blocks(sink: &mut dyn Sink, rng: &mut Rng) {
     for size in 1..=64 {
         kinds.extend([fixed(0, size, 0), fixed(0, size, 1)]);
     }
+    kinds.extend(kinds.clone().into_iter().map(packed));
     for kind in kinds {
-        for depth in 0..=4 {
+        for depth in kind[4] as usize..=4 {
             let kind = at_depth(kind, depth);
             let cells = rng.pick(&counts);
             let shape = shape_of(rng, cells);
@@ -917,6 +970,8 @@ fn many_cells(sink: &mut dyn Sink, rng: &mut Rng) {
         (vec![256, 256], fixed(0, 8, 0)),
         (vec![16, 16, 16, 16], ragged(4, 4, 0)),
         (vec![1, 65_536], ragged(0, 8, 1)),
+        (vec![256, 256], packed(fixed(2, 8, 0))),
+        (vec![16, 16, 16, 16], packed(ragged(4, 8, 1))),
     ] {
         let c = content(rng, kind, CELLS);
         let subset = inside(rng, &shape);
@@ -990,11 +1045,11 @@ fn many_bytes(sink: &mut dyn Sink, rng: &mut Rng) {
                 if place == 0 {
                     sink.ask(partial_decode(ragged(0, width, place), &[1], &[0, 1], &s));
                     sink.ask(partial_decode(ragged(0, width, place), &[1], &[0, 0], &s));
-                    sink.ask(decode(ragged(1, width, place), &[1], &frame(&[1], &s)));
+                    sink.ask(decode(ragged(1, width, place), &[1], &frame(0, &[1], &s)));
                 }
             }
         }
-        sink.ask(decode(ragged(1, 8, 0), &[1], &frame(&[0], values)));
+        sink.ask(decode(ragged(1, 8, 0), &[1], &frame(0, &[0], values)));
         sink.ask(decode(ragged(0, 8, 0), &[1], &ragged_string(8, 0, &[end, end - 1], &values[1..])));
         let mut s = 1_u32.to_le_bytes().to_vec();
         s.extend((bytes as u32).to_le_bytes());
@@ -1023,9 +1078,9 @@ fn ask_with_faults(sink: &mut dyn Sink, rng: &mut Rng, request: Request) {
     sink.ask(request);
 }
 
-fn random_decode(sink: &mut dyn Sink, rng: &mut Rng) {
+fn random_decode(sink: &mut dyn Sink, rng: &mut Rng, masks: u64) {
     let depth = rng.below(5);
-    let kind = any_kind(rng, depth);
+    let kind = any_kind(rng, depth, masks);
     let levels = rng.below(depth + 1);
     let inner = at_depth(kind, depth - levels);
     let cells = if rng.once_in(20) { 1 + rng.below(60) } else { 1 + rng.below(6) };
@@ -1035,14 +1090,14 @@ fn random_decode(sink: &mut dyn Sink, rng: &mut Rng) {
         copies.extend(each_damage(&good));
     } else {
         for _ in 0..8 {
-            copies.push(damaged(rng, &good, cells));
+            copies.push(damaged(rng, &good, masks, cells));
         }
-        let twice = damaged(rng, &good, cells);
-        copies.push(damaged(rng, &twice, cells));
+        let twice = damaged(rng, &good, masks, cells);
+        copies.push(damaged(rng, &twice, masks, cells));
     }
     for s in copies {
         let partial = depth == 0 && kind[1] == 1;
-        let (bytes, outer) = wrapped(rng, levels, cells, s);
+        let (bytes, outer) = wrapped(rng, masks, levels, cells, s);
         let shape = shape_of(rng, outer);
         if partial {
             let subset = inside(rng, &shape);
@@ -1062,9 +1117,9 @@ fn random_decode(sink: &mut dyn Sink, rng: &mut Rng) {
     }
 }
 
-fn random_array(sink: &mut dyn Sink, rng: &mut Rng) {
+fn random_array(sink: &mut dyn Sink, rng: &mut Rng, masks: u64) {
     let depth = rng.below(5);
-    let kind = any_kind(rng, depth);
+    let kind = any_kind(rng, depth, masks);
     let shape = any_shape(rng);
     let c = content(rng, kind, cells_of(&shape));
     let subset = inside(rng, &shape);
@@ -1094,9 +1149,9 @@ fn random_array(sink: &mut dyn Sink, rng: &mut Rng) {
     sink.ask(subset_cells(&shape, &b));
 }
 
-fn random_merge(sink: &mut dyn Sink, rng: &mut Rng) {
+fn random_merge(sink: &mut dyn Sink, rng: &mut Rng, masks: u64) {
     let depth = rng.below(5);
-    let kind = any_kind(rng, depth);
+    let kind = any_kind(rng, depth, masks);
     let shape = any_shape(rng);
     let sides = shape.len();
     let mut list: Vec<(Vec<u64>, Content)> = partition(rng, &shape)
@@ -1144,7 +1199,7 @@ fn random_interleaved(sink: &mut dyn Sink, rng: &mut Rng) {
         copies.extend(each_damage(&good));
     } else {
         for _ in 0..6 {
-            copies.push(damaged(rng, &good, cells));
+            copies.push(damaged(rng, &good, 0, cells));
         }
         let mut field = good.clone();
         let n = a_number(rng);
@@ -1159,11 +1214,17 @@ fn random_interleaved(sink: &mut dyn Sink, rng: &mut Rng) {
     ask_with_faults(sink, rng, DecodeInterleaved { cells: cells as u64, bytes: good });
 }
 
+/// Of kinds with masks of bytes: what is recorded of the Rust.
 pub fn random(sink: &mut dyn Sink, rng: &mut Rng) {
-    random_decode(sink, rng);
-    random_array(sink, rng);
-    random_merge(sink, rng);
+    random_decode(sink, rng, 0);
+    random_array(sink, rng, 0);
+    random_merge(sink, rng, 0);
     random_interleaved(sink, rng);
+}
+fn random_packed(sink: &mut dyn Sink, rng: &mut Rng) {
+    random_decode(sink, rng, 1);
+    random_array(sink, rng, 1);
+    random_merge(sink, rng, 1);
 }
 
 /// Everything, and random ones until `requests` have been asked.
@@ -1171,6 +1232,7 @@ pub fn all(sink: &mut dyn Sink, seed: u64, requests: u64) {
     let rng = &mut Rng(seed);
     for _ in 0..200 {
         random(sink, rng);
+        random_packed(sink, rng);
     }
     limits(sink, rng);
     blocks(sink, rng);
@@ -1180,7 +1242,13 @@ pub fn all(sink: &mut dyn Sink, seed: u64, requests: u64) {
     exhaustive_subsets(sink, rng);
     exhaustive_masks(sink, rng);
     exhaustive_strings(sink, rng);
+    exhaustive_packed(sink, rng);
+    let mut turn = 0;
     while sink.asked() < requests {
         random(sink, rng);
+        turn += 1;
+        if turn % 3 == 0 {
+            random_packed(sink, rng);
+        }
     }
 }

@@ -62,11 +62,13 @@ struct Compare {
     stop_at_first: bool,
     counts: Counts,
 }
-const ANSWERS: usize = 13;
+const ANSWERS: usize = 14;
 #[derive(Default)]
 struct Counts {
     requests: [[u64; ANSWERS]; 8],
     calls: [[u64; ANSWERS]; 8],
+    /// Requests of kinds with packed masks.
+    packed: u64,
     /// Requests that each build of the Rust answered: by its own function, as ragged cells.
     compared: [u64; 2],
     /// By build and refusal: errors and panics of the Rust.
@@ -183,6 +185,7 @@ impl Compare {
 
     fn hold(&mut self, request: &Request, judged: &Outcome) {
         NOW.fetch_add(1, Ordering::Relaxed);
+        self.counts.packed += u64::from(request.packed());
         self.counts.requests[request.call()][judged.as_ref().err().copied().unwrap_or(0) as usize] += 1;
         let observed = self.lent_in_all_ways(request, judged);
         if in_domain(judged) {
@@ -220,7 +223,12 @@ impl Compare {
             });
             println!("{:<26}{}", build.name, cells.concat());
         }
-        println!("\n{} requests, {} calls of the archive, {seconds:.0} s", self.asked(), self.guarded.calls);
+        println!(
+            "\n{} requests, {} of them with packed masks, {} calls of the archive, {seconds:.0} s",
+            self.asked(),
+            self.counts.packed,
+            self.guarded.calls
+        );
         println!(
             "in the domain and compared with each of {} builds of the Rust: {} by its own functions, {} as ragged cells of one size",
             BUILDS.len(),

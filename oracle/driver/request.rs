@@ -22,7 +22,7 @@ pub const CALLS: [&str; 8] =
 /// `partial_decode` has 1 as well.
 pub const REFUSALS: [&[u32]; 8] = [
     &[1, 2, 4, 5, 6],
-    &[1, 2, 7, 8, 10, 5, 6],
+    &[1, 2, 7, 8, 13, 10, 5, 6],
     &[2, 7, 9, 11, 5, 6],
     &[1, 2, 3, 4, 5, 6],
     &[1, 2, 3, 4, 5, 12, 6],
@@ -60,6 +60,14 @@ impl Request {
             PartialDecode { .. } => 5,
             ReverseEndianness { .. } => 6,
             SubsetCells { .. } => 7,
+        }
+    }
+
+    /// Of a kind whose stored masks are packed.
+    pub fn packed(&self) -> bool {
+        match self {
+            Encode { kind, .. } | Decode { kind, .. } | Extract { kind, .. } | Merge { kind, .. } => kind[4] == 1,
+            _ => false,
         }
     }
 

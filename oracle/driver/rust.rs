@@ -58,11 +58,12 @@ pub enum Body {
     Own,
     /// Extract and merge of fixed kinds and the masks of extract have no body there. They are asked for as ragged cells of one size.
     AsRagged,
-    /// `subset_cells`: the indexers are not listed.
+    /// `subset_cells`: the indexers are not listed. Kinds with packed masks: the Rust has masks of bytes only.
     None,
 }
 pub fn body(request: &Request) -> Body {
     match request {
+        _ if request.packed() => Body::None,
         Extract { kind, .. } if kind[1] == 0 || kind[0] > 0 => Body::AsRagged,
         Merge { kind, .. } if kind[1] == 0 => Body::AsRagged,
         SubsetCells { .. } => Body::None,

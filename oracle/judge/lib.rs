@@ -1,4 +1,4 @@
-//! The judge: what document 01 and docs/DECISIONS.md say of the eight calls, as plain code.
+//! The judge: what document 01, document 02's request 1 and docs/DECISIONS.md say of the eight calls, as plain code.
 //!
 //! Each function takes what the call takes, as numbers and slices, and gives the result or the refusal number. Outputs are not lent:
 //! `fits` says where a lent output is too short (6), and c.rs puts a result into lent outputs.
@@ -12,7 +12,7 @@ pub const MAX_VALUE_BYTES: u64 = 16_777_216;
 
 pub type Refusal = u32;
 
-/// depth, form (0 fixed, 1 ragged), size or width, order (1 big) or place (1 end), mask form (0).
+/// depth, form (0 fixed, 1 ragged), size or width, order (1 big) or place (1 end), mask form (0 bytes, 1 packed).
 pub type KindNumbers = [u64; 5];
 
 #[derive(Clone, Copy, Debug, PartialEq)]
@@ -24,6 +24,8 @@ pub enum Form {
 #[derive(Clone, Copy, Debug, PartialEq)]
 pub struct Kind {
     pub depth: usize,
+    /// Stored masks have one bit a cell.
+    pub packed: bool,
     pub form: Form,
 }
 
@@ -52,7 +54,7 @@ fn cell_size(size: u64) -> Result<usize, Refusal> {
 }
 
 pub fn kind([depth, form, size, order, mask]: KindNumbers) -> Result<Kind, Refusal> {
-    if depth > MAX_DEPTH || mask != 0 {
+    if depth > MAX_DEPTH || mask > 1 {
         return Err(1);
     }
     let form = match form {
@@ -60,7 +62,7 @@ pub fn kind([depth, form, size, order, mask]: KindNumbers) -> Result<Kind, Refus
         1 => width_and_place(size, order)?,
         _ => return Err(1),
     };
-    Ok(Kind { depth: depth as usize, form })
+    Ok(Kind { depth: depth as usize, packed: mask == 1, form })
 }
 
 /// The number of cells of a shape. Each side is limited before it is multiplied.
@@ -161,7 +163,7 @@ fn offsets_from_0(values: &[Vec<u8>]) -> Vec<u64> {
 }
 
 /// An array of these planes and values, ragged ones end to end from offset 0.
-fn packed(form: Form, planes: &[Vec<u8>], values: &[Vec<u8>]) -> Array {
+fn array_of(form: Form, planes: &[Vec<u8>], values: &[Vec<u8>]) -> Array {
     let offsets = match form {
         Form::Fixed { .. } => vec![],
         Form::Ragged { .. } => offsets_from_0(values),
@@ -187,26 +189,35 @@ pub fn encode(k: KindNumbers, shape: &[u64], masks: &[u8], values: &[u8], offset
         return Ok(write_ragged(width, end, offsets, values)); // just as they are
     }
     let planes = planes(kind.depth, cells, masks);
-    Ok(write_content(kind.form, &planes, &cell_values(kind.form, cells, values, offsets)))
+    Ok(write_content(kind, &planes, &cell_values(kind.form, cells, values, offsets)))
 }
 
 /// A frame of the outermost plane given; with no plane left, the values.
-fn write_content(form: Form, planes: &[Vec<u8>], values: &[Vec<u8>]) -> Vec<u8> {
+fn write_content(kind: Kind, planes: &[Vec<u8>], values: &[Vec<u8>]) -> Vec<u8> {
     let Some((mask, inner)) = planes.split_first() else {
-        return write_values(form, values);
+        return write_values(kind.form, values);
     };
     let set = set_cells(mask);
     let mut content = vec![];
     if !set.is_empty() {
         let inner: Vec<Vec<u8>> = inner.iter().map(|plane| pick(plane, &set)).collect();
-        content = write_content(form, &inner, &pick(values, &set));
+        content = write_content(kind, &inner, &pick(values, &set));
     }
+    let mask = write_mask(kind.packed, mask);
     let mut bytes = vec![];
     bytes.extend((mask.len() as u64).to_le_bytes());
     bytes.extend((content.len() as u64).to_le_bytes());
     bytes.extend(mask);
     bytes.extend(content);
     bytes
+}
+
+/// A plane as it is stored: just as it is, or a bit a cell, the lowest bit of a byte first, and unused bits 0.
+pub fn write_mask(packed: bool, plane: &[u8]) -> Vec<u8> {
+    if !packed {
+        return plane.to_vec();
+    }
+    plane.chunks(8).map(|eight| set_cells(eight).iter().map(|i| 1 << i).sum()).collect()
 }
 
 fn write_values(form: Form, values: &[Vec<u8>]) -> Vec<u8> {
@@ -249,8 +260,8 @@ pub fn decode(k: KindNumbers, shape: &[u64], bytes: &[u8]) -> Result<Array, Refu
         let (values, offsets) = read_ragged(width, end, cells, bytes)?;
         return Ok(Array { masks: vec![], values, offsets }); // just as they are
     }
-    let (planes, values) = read_content(kind.form, kind.depth, cells, bytes)?;
-    Ok(packed(kind.form, &planes, &values))
+    let (planes, values) = read_content(kind, kind.depth, cells, bytes)?;
+    Ok(array_of(kind.form, &planes, &values))
 }
 
 fn le(bytes: &[u8]) -> u64 {
@@ -258,9 +269,9 @@ fn le(bytes: &[u8]) -> u64 {
 }
 
 /// A frame of `depth` levels over `cells` cells; at depth 0 the values.
-fn read_content(form: Form, depth: usize, cells: usize, bytes: &[u8]) -> Result<(Vec<Vec<u8>>, Vec<Vec<u8>>), Refusal> {
+fn read_content(kind: Kind, depth: usize, cells: usize, bytes: &[u8]) -> Result<(Vec<Vec<u8>>, Vec<Vec<u8>>), Refusal> {
     if depth == 0 {
-        return Ok((vec![], read_values(form, cells, bytes)?));
+        return Ok((vec![], read_values(kind.form, cells, bytes)?));
     }
     if bytes.len() < 16 {
         return Err(7);
@@ -270,25 +281,43 @@ fn read_content(form: Form, depth: usize, cells: usize, bytes: &[u8]) -> Result<
     if 16 + mask_length + content_length != bytes.len() as u128 {
         return Err(8);
     }
-    if mask_length != cells as u128 {
+    if mask_length != mask_bytes(kind.packed, cells) as u128 {
         return Err(8);
     }
-    let (mask, content) = bytes[16..].split_at(cells);
-    let set = set_cells(mask);
+    let (mask, content) = bytes[16..].split_at(mask_bytes(kind.packed, cells));
+    let plane = read_mask(kind.packed, cells, mask)?;
+    let set = set_cells(&plane);
     let (inner, set_values) = if set.is_empty() {
         (vec![vec![]; depth - 1], vec![]) // the content is not looked at
     } else {
-        read_content(form, depth - 1, set.len(), content)?
+        read_content(kind, depth - 1, set.len(), content)?
     };
-    let mut planes = vec![mask.to_vec()];
+    let mut planes = vec![plane];
     for plane in inner {
         planes.push(spread(cells, &set, &plane, 0));
     }
-    let null = match form {
+    let null = match kind.form {
         Form::Fixed { size, .. } => vec![0; size],
         Form::Ragged { .. } => vec![],
     };
     Ok((planes, spread(cells, &set, &set_values, null)))
+}
+
+/// The bytes of a stored mask of so many cells.
+pub fn mask_bytes(packed: bool, cells: usize) -> usize {
+    if packed { cells.div_ceil(8) } else { cells }
+}
+
+/// What a stored mask says of its cells: its bytes, or 01 for each set bit. 13 where a bit past these cells is set.
+fn read_mask(packed: bool, cells: usize, mask: &[u8]) -> Result<Vec<u8>, Refusal> {
+    if !packed {
+        return Ok(mask.to_vec());
+    }
+    let bit = |i: usize| mask[i / 8] >> (i % 8) & 1;
+    if (cells..8 * mask.len()).any(|i| bit(i) == 1) {
+        return Err(13);
+    }
+    Ok((0..cells).map(bit).collect())
 }
 
 /// The list's entries in the places `set`, `null` elsewhere.
@@ -404,7 +433,7 @@ pub fn extract(
     check_array(kind, cells, masks, values, offsets)?;
     let planes: Vec<Vec<u8>> = planes(kind.depth, cells, masks).iter().map(|plane| pick(plane, &picked)).collect();
     let values = cell_values(kind.form, cells, values, offsets);
-    Ok(packed(kind.form, &planes, &pick(&values, &picked)))
+    Ok(array_of(kind.form, &planes, &pick(&values, &picked)))
 }
 
 /// A chunk list, chunk by chunk: all planes of a chunk, its values, its own offsets.
@@ -503,7 +532,7 @@ pub fn merge(
         masks = &masks[kind.depth * chunk.len()..];
         values = &values[value_bytes..];
     }
-    Ok(packed(kind.form, &merged_planes, &merged_values))
+    Ok(array_of(kind.form, &merged_planes, &merged_values))
 }
 
 /// Ragged values of depth 0: decode, then extract.
@@ -512,7 +541,7 @@ pub fn partial_decode(width: u64, place: u64, shape: &[u64], subset: &[u64], byt
     let cells = shape_cells(shape)?;
     let picked = cells_of_subset(shape, subset)?;
     let values = read_values(form, cells, bytes)?;
-    Ok(packed(form, &[], &pick(&values, &picked)))
+    Ok(array_of(form, &[], &pick(&values, &picked)))
 }
 
 // ---------------------------------------------------------------- reverse_endianness, subset_cells

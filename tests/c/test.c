@@ -209,10 +209,10 @@ static void test_kind(void)
     const dpx_kind bad[] = {
         kind_of(5, DPX_FIXED, 1, 0, 0),   kind_of(UINT64_MAX, DPX_FIXED, 1, 0, 0), kind_of(0, 2, 1, 0, 0),
         kind_of(0, DPX_FIXED, 0, 0, 0),   kind_of(0, DPX_FIXED, 65, 0, 0),         kind_of(0, DPX_FIXED, 257, 0, 0),
-        kind_of(0, DPX_FIXED, 1, 2, 0),   kind_of(0, DPX_FIXED, 1, 0, 1),          kind_of(0, DPX_RAGGED, 0, 0, 0),
+        kind_of(0, DPX_FIXED, 1, 2, 0),   kind_of(0, DPX_FIXED, 1, 0, 2),          kind_of(0, DPX_RAGGED, 0, 0, 0),
         kind_of(0, DPX_RAGGED, 5, 0, 0),  kind_of(0, DPX_RAGGED, 16, 0, 0),        kind_of(0, DPX_RAGGED, 4, 2, 0),
-        kind_of(0, DPX_RAGGED, 4, 0, 1),  kind_of(5, DPX_RAGGED, 4, 0, 0),         kind_of(256, DPX_RAGGED, 4, 0, 0),
-        kind_of(0, UINT64_C(1) << 32, 1, 0, 0),
+        kind_of(0, DPX_RAGGED, 4, 0, 2),  kind_of(5, DPX_RAGGED, 4, 0, 0),         kind_of(256, DPX_RAGGED, 4, 0, 0),
+        kind_of(0, UINT64_C(1) << 32, 1, 0, 0), kind_of(1, DPX_FIXED, 1, 0, UINT64_MAX),
     };
     size_t i;
 
@@ -438,6 +438,101 @@ static void test_decode(void)
     REFUSED(dpx_decode(r4e, NUMBERS(2), BYTES('A', 'B', LE4(0), LE4(2), LE4(2), LE8(12)), OUT3), DPX_OUTPUT);
     lend(0, 2, 3);
     GIVES(dpx_decode(r4e, NUMBERS(2), BYTES('A', 'B', LE4(0), LE4(2), LE4(2), LE8(12)), OUT3), NONE, TEXT("AB"), NUMBERS(0, 2, 2));
+    release();
+}
+
+/* ------------------------------------------------------------------------------------------------- packed masks */
+
+enum { PACKED = 1, UNUSED_BITS = 13 };
+
+/* Written packed and as bytes, both read back: the same values, and masks of 01 where those of bytes are as they were. */
+static void packed_round_trip(size_t cells, size_t one_in)
+{
+    const uint64_t all[1] = {cells};
+    const dpx_kind bytes = kind_of(2, DPX_FIXED, 3, DPX_BIG, 0), packed = kind_of(2, DPX_FIXED, 3, DPX_BIG, PACKED);
+    const size_t room = 2 * (16 + cells) + 3 * cells;
+    uint8_t *masks = block(2 * cells), *values = block(3 * cells), *stored = block(room), *packed_stored = block(room);
+    uint64_t length = 0, packed_length = 0;
+    size_t i, outer = 0, left = 0;
+
+    for (i = 0; i < cells; i++) {
+        masks[i] = i % one_in == 0 ? (uint8_t)(1 + i % 255) : 0;
+        masks[cells + i] = i % 3 == 1 ? 0 : (uint8_t)(255 - i % 255);
+        outer += masks[i] != 0;
+        left += masks[i] != 0 && masks[cells + i] != 0;
+    }
+    for (i = 0; i < 3 * cells; i++)
+        values[i] = (uint8_t)(i * 7 + 1);
+    ANSWERS(dpx_encode(bytes, all, 1, masks, 2 * cells, values, 3 * cells, NONE, stored, room, &length), DPX_OK);
+    ANSWERS(dpx_encode(packed, all, 1, masks, 2 * cells, values, 3 * cells, NONE, packed_stored, room, &packed_length), DPX_OK);
+    CHECK(length == 32 + cells + outer + 3 * left);
+    CHECK(packed_length == 32 + (cells + 7) / 8 + (outer + 7) / 8 + 3 * left);
+
+    lend(2 * cells, 3 * cells, 0);
+    ANSWERS(dpx_decode(bytes, all, 1, stored, length, OUT3), DPX_OK);
+    for (i = 0; i < 2 * cells; i++)
+        masks[i] = out.masks[i] != 0;
+    memcpy(values, out.values, 3 * cells);
+    lend(2 * cells, 3 * cells, 0);
+    GIVES(dpx_decode(packed, all, 1, packed_stored, packed_length, OUT3), masks, 2 * cells, values, 3 * cells, NONE);
+    release();
+}
+
+static void test_packed(void)
+{
+    const size_t counts[] = {1, 2, 7, 8, 9, 15, 16, 17, 63, 64, 65, 255, 256, 257, 1000, DPX_MAX_CELLS};
+    const dpx_kind f1 = kind_of(1, DPX_FIXED, 1, DPX_LITTLE, PACKED), f2 = kind_of(2, DPX_FIXED, 1, DPX_LITTLE, PACKED);
+    const dpx_kind r4 = kind_of(1, DPX_RAGGED, 4, DPX_START, PACKED);
+    size_t i;
+
+    for (i = 0; i < sizeof counts / sizeof counts[0]; i++) {
+        packed_round_trip(counts[i], 1);
+        packed_round_trip(counts[i], 2);
+        packed_round_trip(counts[i], 13);
+    }
+
+    /* The lowest bit first; two bytes for nine cells; any byte but 00 is set, and reads as 01. */
+    lend(0, 21, 0);
+    STORES(dpx_encode(f1, NUMBERS(9), BYTES(1, 2, 0, 0, 0, 0, 0, 0, 255), BYTES(1, 2, 3, 4, 5, 6, 7, 8, 9), NONE, OUT1),
+           BYTES(LE8(2), LE8(3), 3, 1, 1, 2, 9));
+    lend(9, 9, 0);
+    GIVES(dpx_decode(f1, NUMBERS(9), BYTES(LE8(2), LE8(3), 3, 1, 1, 2, 9), OUT3), BYTES(1, 1, 0, 0, 0, 0, 0, 0, 1),
+          BYTES(1, 2, 0, 0, 0, 0, 0, 0, 9), NONE);
+    lend(0, 40, 0);
+    STORES(dpx_encode(r4, NUMBERS(2), BYTES(0, 2), TEXT("AB"), NUMBERS(0, 1, 2), OUT1),
+           BYTES(LE8(1), LE8(17), 2, LE8(8), LE4(0), LE4(1), 'B'));
+    lend(2, 1, 3);
+    GIVES(dpx_decode(r4, NUMBERS(2), BYTES(LE8(1), LE8(17), 2, LE8(8), LE4(0), LE4(1), 'B'), OUT3), BYTES(0, 1), TEXT("B"),
+          NUMBERS(0, 0, 1));
+    /* Eight of nine cells are set above: the inner mask has no unused bits. */
+    lend(18, 9, 0);
+    GIVES(dpx_decode(f2, NUMBERS(9), BYTES(LE8(2), LE8(25), 255, 0, LE8(1), LE8(8), 255, 1, 2, 3, 4, 5, 6, 7, 8), OUT3),
+          BYTES(1, 1, 1, 1, 1, 1, 1, 1, 0, 1, 1, 1, 1, 1, 1, 1, 1, 0), BYTES(1, 2, 3, 4, 5, 6, 7, 8, 0), NONE);
+    /* At depth 0 the mask form is idle; an extract keeps the mask bytes. */
+    lend(0, 1, 0);
+    STORES(dpx_encode(kind_of(0, DPX_FIXED, 1, 0, PACKED), NUMBERS(1), NONE, BYTES(7), NONE, OUT1), BYTES(7));
+    lend(1, 1, 0);
+    GIVES(dpx_extract(f1, NUMBERS(2), NUMBERS(1, 1), BYTES(1, 2), BYTES(7, 8), NONE, OUT3), BYTES(2), BYTES(8), NONE);
+    release();
+
+    /* 13 of a mask, after its lengths and before its content; every output is too short as well. */
+    lend(0, 0, 0);
+    REFUSED(dpx_decode(f1, NUMBERS(1), BYTES(LE8(1), LE8(1), 3, 7), OUT3), UNUSED_BITS);
+    REFUSED(dpx_decode(f1, NUMBERS(1), BYTES(LE8(1), LE8(1), 2, 7), OUT3), UNUSED_BITS);
+    REFUSED(dpx_decode(f1, NUMBERS(1), BYTES(LE8(1), LE8(0), 128), OUT3), UNUSED_BITS);
+    REFUSED(dpx_decode(f1, NUMBERS(9), BYTES(LE8(2), LE8(0), 0, 2), OUT3), UNUSED_BITS);
+    REFUSED(dpx_decode(f1, NUMBERS(1), BYTES(LE8(1), LE8(5), 3, 1, 2, 3, 4, 5), OUT3), UNUSED_BITS);
+    REFUSED(dpx_decode(f2, NUMBERS(8), BYTES(LE8(1), LE8(18), 1, LE8(1), LE8(1), 3, 7), OUT3), UNUSED_BITS);
+    REFUSED(dpx_decode(r4, NUMBERS(1), BYTES(LE8(1), LE8(8), 3, FF8), OUT3), UNUSED_BITS);
+    REFUSED(dpx_decode(f1, NUMBERS(1), BYTES(LE8(1), LE8(2), 3), OUT3), DPX_LENGTH);
+    REFUSED(dpx_decode(f1, NUMBERS(1), BYTES(LE8(2), LE8(0), 3, 0), OUT3), DPX_LENGTH);
+    REFUSED(dpx_decode(f1, NUMBERS(2), BYTES(LE8(2), LE8(2), 1, 1, 7, 8), OUT3), DPX_LENGTH);
+    REFUSED(dpx_decode(f1, NUMBERS(9), BYTES(LE8(1), LE8(8), 255, 1, 2, 3, 4, 5, 6, 7, 8), OUT3), DPX_LENGTH);
+    /* 4: planes handed over are bytes. */
+    REFUSED(dpx_encode(f1, NUMBERS(2), BYTES(3), BYTES(7, 8), NONE, OUT1), DPX_CONTENT);
+    /* 6: and so are those read. */
+    lend(1, 9, 0);
+    REFUSED(dpx_decode(f1, NUMBERS(2), BYTES(LE8(1), LE8(2), 3, 7, 8), OUT3), DPX_OUTPUT);
     release();
 }
 
@@ -862,6 +957,7 @@ int main(void)
     test_shape();
     test_encode();
     test_decode();
+    test_packed();
     test_interleaved();
     test_extract();
     test_merge();

@@ -1,7 +1,7 @@
 -- Ragged values with their index (document 01, item 4), for any width of an offset and for both places of the index.
 -- Place start: index length (8 bytes), index, data. Place end: data, index, index length.
 -- Assumes nothing.
-use Prim.Native.Nat.{ℕ, zero, suc, _-_, _*_}
+use Prim.Native.Nat.{ℕ, zero, suc, _+_, _-_, _*_}
 use mathlib.Core.Path.{_≡_}
 use mathlib.Core.Logic.{_⊎_}
 use mathlib.Core.List.{List, [], _++_, map}
@@ -37,6 +37,20 @@ indexOf w os = joined (map (le w) os)
 
 unfoldable pub putRagged : ℕ → Place → RaggedContent → List ℕ
 putRagged w p c = put p (le 8 (length (indexOf w (c .offsets)))) (put p (indexOf w (c .offsets)) (c .values))
+
+-- ---- where the index length, the index and the data lie, in l bytes with an index of i
+
+abbrev pub lengthAt : Place → ℕ → ℕ
+lengthAt atStart l = 0
+lengthAt atEnd l = l - 8
+
+abbrev pub indexAt : Place → ℕ → ℕ → ℕ
+indexAt atStart l i = 8
+indexAt atEnd l i = l - 8 - i
+
+abbrev pub dataAt : Place → ℕ → ℕ
+dataAt atStart i = 8 + i
+dataAt atEnd i = 0
 
 -- ---- reading
 

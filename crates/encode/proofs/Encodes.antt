@@ -2,7 +2,6 @@
 -- Assumes nothing.
 use mathlib.Core.Path.{_≡_, sym, ap, ap₂, _∙_, subst}
 use Prim.Native.Nat.{ℕ, _<_, _≤_}
-use native.Mathlib.Nat.{le-of-eq}
 use mathlib.Core.Bool.{Bool, true, false}
 use mathlib.Core.List.{List}
 use lib.ListN.{length}
@@ -20,11 +19,10 @@ use Rattle.valid.proofs.CheckLaws.{checkOf, unlessKept, KeepsRules, check-refus
 use Rattle.array.proofs.Rules.{kind-ok}
 use Rattle.valid.proofs.ShapeLaws.{Counted, counted, not-counted}
 use Rattle.codec.specs.Calls.{storedForm, encodeAnswer, encoded}
-use Rattle.encode.specs.Ready.{Measured, Ready, Encodable}
+use Rattle.encode.specs.Ready.{Encodable}
 use Rattle.encode.specs.Stored.{storedBy, storedOver, storedLength}
 use Rattle.encode.proofs.Walk.{stored-by}
 use Rattle.encode.proofs.Levels.{stored-by-long}
-use Rattle.encode.proofs.Forms.{ready-measured}
 
 -- a refusal leaves the output as it was
 abbrev pub refused : ℕ → List ℕ → Outcome ℕ (List ℕ)
@@ -75,39 +73,26 @@ module _ (k : Kind) (shape : List ℕ) (c : Content) (out : List ℕ) where
 -- ---- refusal 6, or the stored form
 
 module _ {k : Kind} {n : ℕ} {c : Content} (h : Encodable k n c) where
-  pub encodable-ready : Ready (k .form) n c (k .depth)
-  encodable-ready = record {
-    sound = h .kind .sound;
-    shallow = h .kind .shallow;
-    few = h .few;
-    planes = le-of-eq (sym (h .content .masks-fit));
-    fit = h .content .values-fit;
-    small = h .small;
-  }
-
-  pub encodable-measured : Measured (k .form) n (c .masks) (c .offsets) (k .depth)
-  encodable-measured = ready-measured (k .form) encodable-ready
-
-  is-stored : storedForm k n c ≡ storedBy (k .form) n c (k .depth)
+  is-stored : storedForm k n c ≡ storedBy k n c
   is-stored = stored-by k n c (h .content) (h .some)
 
-  module _ (out : List ℕ) {need : ℕ} (e : need ≡ storedLength (k .form) n (c .masks) (length (c .values)) (c .offsets) (k .depth)) where
-    need-is : length (storedBy (k .form) n c (k .depth)) ≡ need
-    need-is = stored-by-long (k .form) n c (k .depth) (h .content .values-fit) ∙ sym e
+  module _ (out : List ℕ) {need : ℕ} (e : need ≡ storedLength k n (c .masks) (length (c .values)) (c .offsets)) where
+    need-is : length (storedBy k n c) ≡ need
+    need-is = stored-by-long k n c (h .content .values-fit) ∙ sym e
 
-    pub encode-room : need ≤ length out → length (storedBy (k .form) n c (k .depth)) ≤ length out
+    pub encode-room : need ≤ length out → length (storedBy k n c) ≤ length out
     encode-room g = subst (λ (m : ℕ). m ≤ length out) (sym need-is) g
 
     pub encode-short : length out < need → refused 6 out ≡ storedOver (storedForm k n c) out
     encode-short g =
-        let s : List ℕ = storedBy (k .form) n c (k .depth) in
+        let s : List ℕ = storedBy k n c in
         ap (λ (b : Bool). listOutcome (unless b 6 (gives s)) out) (sym (lt-leb (length s) (length out) (subst (λ (m : ℕ). length out < m) (sym need-is) g)))
         ∙ ap (λ (x : List ℕ). storedOver x out) (sym is-stored)
 
-    pub encode-written : need ≤ length out → {out′ : List ℕ} → out′ ≡ over (storedBy (k .form) n c (k .depth)) out
+    pub encode-written : need ≤ length out → {out′ : List ℕ} → out′ ≡ over (storedBy k n c) out
         → _≡_ {A = Outcome ℕ (List ℕ)} (record { answer = gives need; buffers = out′ }) (storedOver (storedForm k n c) out)
     encode-written g {out′} eo =
-        let s : List ℕ = storedBy (k .form) n c (k .depth) in
+        let s : List ℕ = storedBy k n c in
         ap₂ (λ (m : ℕ) (o : List ℕ). record { answer = gives m; buffers = o }) (sym need-is) eo
         ∙ ap (λ (b : Bool). listOutcome (unless b 6 (gives s)) out) (sym (le-leb (length s) (length out) (encode-room g)))
         ∙ ap (λ (x : List ℕ). storedOver x out) (sym is-stored)

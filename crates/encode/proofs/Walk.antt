@@ -13,15 +13,15 @@ use Rattle.array.specs.Kind.{Kind, Form, fixed, ragged}
 use Rattle.array.specs.Offsets.{slices, slicesFrom}
 use Rattle.array.specs.Cells.{Value, Cell, maskOf, setTest}
 use Rattle.array.specs.Content.{Content, ContentOk, ValuesOk, pairUp, attach, valuesIn, cellsOf}
-use Rattle.array.proofs.Lists.{from-suc}
-use Rattle.codec.specs.Mask.{byteMask}
+use Rattle.codec.specs.Mask.{MaskForm, maskForm}
 use Rattle.codec.specs.Frame.{keep, wrap, unlessNone, frame}
 use Rattle.codec.specs.Values.{putValues}
 use Rattle.codec.specs.Calls.{written, storedForm}
-use Rattle.gather.specs.Live.{maskAt, liveTest, liveAt}
+use Rattle.gather.specs.Live.{maskAt, masksAt, liveTest, liveAt}
+use Rattle.array.proofs.Lists.{from-suc}
 use Rattle.gather.proofs.Numbered.{plane-at, pieces-at, live-all}
 use Rattle.gather_ragged.specs.Slices.{sliceAt}
-use Rattle.encode.specs.Stored.{valueAt, storedFrom, storedBy}
+use Rattle.encode.specs.Stored.{levelOf, valueAt, storedFrom, storedWhole, storedBy}
 
 pairUp-map : {A : Type 0} (f : ℕ → ℕ) (g : ℕ → A) (is : List ℕ) → pairUp (map f is) (map g is) ≡ map (λ i. (f i, g i)) is
 pairUp-map f g [] = refl
@@ -93,35 +93,46 @@ module _ (n : ℕ) (masks : List ℕ) (val : ℕ → Value) where
       go true (suc m) q e = rw q (ap (λ (r : List (Cell d)). cellAt n masks val d (suc l) j ∷ r) e)
       go false m q e = e
 
--- a content from level l inwards is the frame of the cells that the level counts
-from-frame : (f : Form) (n : ℕ) (c : Content) (d l : ℕ)
-    → unlessNone (frame byteMask (putValues f) d) (map (cellAt n (c .masks) (valueAt f c) d l) (liveAt n (c .masks) l)) ≡ storedFrom f n c d l
-unfolding storedFrom frame
-from-frame f n c zero l = unless-map (valueAt f c) (putValues f) (λ is. putValues f (map (valueAt f c) is)) (liveAt n (c .masks) l) refl
-from-frame f n c (suc d) l =
-    unless-map (cellAt n (c .masks) (valueAt f c) (suc d) l) (frame byteMask (putValues f) (suc d))
-    (λ is. wrap (map (maskAt n (c .masks) l) is) (storedFrom f n c d (suc l))) (liveAt n (c .masks) l)
-    (ap₂ wrap (masks-at n (c .masks) (valueAt f c) d l (liveAt n (c .masks) l))
-    (ap (unlessNone (frame byteMask (putValues f) d)) (keep-at n (c .masks) (valueAt f c) d l (from 0 n)) ∙ from-frame f n c d (suc l)))
+-- a content with so many levels left is the frame of the cells that the level counts
+module _ (k : Kind) (n : ℕ) (c : Content) where
+  abbrev framed : (d : ℕ) → List (Cell d) → List ℕ
+  framed d cs = frame (maskForm (k .masks)) (putValues (k .form)) d cs
+
+  -- cell i from level l inwards
+  abbrev cell : (d l : ℕ) → ℕ → Cell d
+  cell d l i = cellAt n (c .masks) (valueAt (k .form) c) d l i
+
+  from-frame : (d : ℕ) → d ≤ k .depth → unlessNone (framed d) (map (cell d (levelOf k d)) (liveAt n (c .masks) (levelOf k d))) ≡ storedFrom k n c d
+  unfolding storedFrom frame
+  from-frame zero h =
+      let e : levelOf k zero ≡ k .depth = omega arith in
+      unless-map (valueAt (k .form) c) (putValues (k .form)) (λ is. putValues (k .form) (map (valueAt (k .form) c) is)) (liveAt n (c .masks) (levelOf k zero)) refl
+      ∙ ap (λ (l : ℕ). unlessNone (λ is. putValues (k .form) (map (valueAt (k .form) c) is)) (liveAt n (c .masks) l)) e
+  from-frame (suc d) h =
+      let l : ℕ = levelOf k (suc d) in
+      let e : suc l ≡ levelOf k d = omega arith in
+      unless-map (cell (suc d) l) (framed (suc d)) (λ is. wrap (maskForm (k .masks) .put (masksAt n (c .masks) l is)) (storedFrom k n c d)) (liveAt n (c .masks) l)
+      (ap₂ (λ (ms ct : List ℕ). wrap (maskForm (k .masks) .put ms) ct) (masks-at n (c .masks) (valueAt (k .form) c) d l (liveAt n (c .masks) l))
+      (ap (unlessNone (framed d)) (keep-at n (c .masks) (valueAt (k .form) c) d l (from 0 n) ∙ ap (λ (j : ℕ). map (cell d j) (liveAt n (c .masks) j)) e)
+      ∙ from-frame d (omega arith)))
 
 unless-some : {A : Type 0} (f : List A → List ℕ) (g : ℕ → A) (n : ℕ) → 1 ≤ n → unlessNone f (map g (from 0 n)) ≡ f (map g (from 0 n))
 unless-some f g zero h = absurd (omega arith)
 unless-some f g (suc n) h = refl
 
-pub stored-by : (k : Kind) (n : ℕ) (c : Content) → ContentOk k n c → 1 ≤ n → storedForm k n c ≡ storedBy (k .form) n c (k .depth)
+-- with ragged values of depth 0 as they are
+written-whole : (mf : MaskForm) (f : Form) (d : ℕ) (cs : List (Cell d)) (c : Content) {s : List ℕ} → frame mf (putValues f) d cs ≡ s → written mf f d cs c ≡ storedWhole f d c s
 unfolding written
-stored-by k n c ok some = go (k .form) (k .depth) (cellsOf k n c) (cells-at k n c ok)
-  where
-    whole : (f : Form) (d : ℕ) (cs : List (Cell d)) → cs ≡ map (cellAt n (c .masks) (valueAt f c) d 0) (from 0 n)
-        → frame byteMask (putValues f) d cs ≡ storedFrom f n c d 0
-    whole f d cs e =
-        ap (frame byteMask (putValues f) d) e
-        ∙ sym (unless-some (frame byteMask (putValues f) d) (cellAt n (c .masks) (valueAt f c) d 0) n some)
-        ∙ ap (λ (is : List ℕ). unlessNone (frame byteMask (putValues f) d) (map (cellAt n (c .masks) (valueAt f c) d 0) is)) (sym (live-all n (c .masks)))
-        ∙ from-frame f n c d 0
+written-whole mf (fixed s o) d cs c e = e
+written-whole mf (ragged w p) zero cs c e = refl
+written-whole mf (ragged w p) (suc d) cs c e = e
 
-    go : (f : Form) (d : ℕ) (cs : List (Cell d)) → cs ≡ map (cellAt n (c .masks) (valueAt f c) d 0) (from 0 n)
-        → written byteMask f d cs c ≡ storedBy f n c d
-    go (fixed s o) d cs e = whole (fixed s o) d cs e
-    go (ragged w p) zero cs e = refl
-    go (ragged w p) (suc d) cs e = whole (ragged w p) (suc d) cs e
+pub stored-by : (k : Kind) (n : ℕ) (c : Content) → ContentOk k n c → 1 ≤ n → storedForm k n c ≡ storedBy k n c
+stored-by k n c ok some =
+    let z : 0 ≡ levelOf k (k .depth) = omega arith in
+    written-whole (maskForm (k .masks)) (k .form) (k .depth) (cellsOf k n c) c
+    (ap (framed k n c (k .depth)) (cells-at k n c ok)
+    ∙ sym (unless-some (framed k n c (k .depth)) (cell k n c (k .depth) 0) n some)
+    ∙ ap (λ (is : List ℕ). unlessNone (framed k n c (k .depth)) (map (cell k n c (k .depth) 0) is)) (sym (live-all n (c .masks)))
+    ∙ ap (λ (l : ℕ). unlessNone (framed k n c (k .depth)) (map (cell k n c (k .depth) l) (liveAt n (c .masks) l))) z
+    ∙ from-frame k n c (k .depth) (omega arith))

@@ -1,48 +1,58 @@
--- What is written from a level inwards (document 01, item 5), by the numbers of the cells. proofs/Walk has that from level 0 it is the
--- stored form of the array.
+-- What is written with so many levels left (document 01, item 5), by the numbers of the cells. proofs/Walk has that with all levels left
+-- it is the stored form of the array.
 -- Assumes nothing.
-use Prim.Native.Nat.{ℕ, zero, suc, _+_, _*_}
+use Prim.Native.Nat.{ℕ, zero, suc, _+_, _-_, _*_}
 use mathlib.Core.List.{List, map}
 use lib.ListN.{length}
 use lib.Dec.{leb}
 use Rattle.array.specs.Answer.{gives, unless, Outcome}
 use Rattle.array.specs.Buffers.{listOutcome}
 use Rattle.array.specs.Cells.{Value}
-use Rattle.array.specs.Kind.{Form, fixed, ragged}
+use Rattle.array.specs.Kind.{Kind, Form, fixed, ragged}
 use Rattle.array.specs.Content.{Content}
-use Rattle.codec.specs.Mask.{byteMask}
+use Rattle.codec.specs.Mask.{maskForm}
 use Rattle.codec.specs.Frame.{unlessNone, wrap}
 use Rattle.codec.specs.Ragged.{putRagged}
 use Rattle.codec.specs.Values.{putValues}
 use Rattle.codec.specs.Length.{raggedLength}
-use Rattle.gather.specs.Live.{maskAt, liveAt}
+use Rattle.gather.specs.Live.{masksAt, liveAt, liveMask}
 use Rattle.gather.specs.Pieces.{pieceAt}
 use Rattle.gather_ragged.specs.Slices.{sliceAt, spansOf}
+
+-- the level that has so many levels left, itself among them
+abbrev pub levelOf : Kind → ℕ → ℕ
+levelOf k left = k .depth - left
 
 -- the value of cell i
 abbrev pub valueAt : Form → Content → ℕ → Value
 valueAt (fixed k o) c i = pieceAt k (c .values) i
 valueAt (ragged w p) c i = sliceAt (c .offsets) (c .values) i
 
--- the values of the cells that level l counts
-abbrev pub valuesFrom : Form → ℕ → Content → ℕ → List ℕ
-valuesFrom f n c l = putValues f (map (valueAt f c) (liveAt n (c .masks) l))
+-- the values of the cells that every level sets
+abbrev pub valuesFrom : Kind → ℕ → Content → List ℕ
+valuesFrom k n c = putValues (k .form) (map (valueAt (k .form) c) (liveAt n (c .masks) (k .depth)))
 
--- a content of the cells that level l counts, d levels being left: a frame, or the values; nothing where none is left
-unfoldable pub storedFrom : Form → ℕ → Content → (d l : ℕ) → List ℕ
-storedFrom f n c zero l = unlessNone (λ is. putValues f (map (valueAt f c) is)) (liveAt n (c .masks) l)
-storedFrom f n c (suc d) l =
-    unlessNone (λ is. wrap (byteMask .put (map (maskAt n (c .masks) l) is)) (storedFrom f n c d (suc l))) (liveAt n (c .masks) l)
+-- a content of the cells that a level counts: a frame, or the values; nothing where no cell is left
+unfoldable pub storedFrom : Kind → ℕ → Content → (left : ℕ) → List ℕ
+storedFrom k n c zero = unlessNone (λ is. putValues (k .form) (map (valueAt (k .form) c) is)) (liveAt n (c .masks) (k .depth))
+storedFrom k n c (suc left) =
+    unlessNone (λ is. wrap (maskForm (k .masks) .put (masksAt n (c .masks) (levelOf k (suc left)) is)) (storedFrom k n c left)) (liveAt n (c .masks) (levelOf k (suc left)))
 
--- the frame of the cells that level l counts, d levels being left below it
-abbrev pub frameFrom : Form → ℕ → Content → (d l : ℕ) → List ℕ
-frameFrom f n c d l = wrap (byteMask .put (map (maskAt n (c .masks) l) (liveAt n (c .masks) l))) (storedFrom f n c d (l + 1))
+-- the stored mask of a level, and its frame
+abbrev pub maskFrom : Kind → ℕ → Content → ℕ → List ℕ
+maskFrom k n c left = liveMask (k .masks) n (c .masks) (levelOf k left)
 
--- at depth 0 ragged values are written as they are, and all else is written from level 0
-abbrev pub storedBy : Form → ℕ → Content → (d : ℕ) → List ℕ
-storedBy (fixed k o) n c d = storedFrom (fixed k o) n c d 0
-storedBy (ragged w p) n c zero = putRagged w p (record { values = c .values; offsets = c .offsets })
-storedBy (ragged w p) n c (suc d) = storedFrom (ragged w p) n c (suc d) 0
+abbrev pub frameFrom : Kind → ℕ → Content → ℕ → List ℕ
+frameFrom k n c left = wrap (maskFrom k n c left) (storedFrom k n c (left - 1))
+
+-- at depth 0 ragged values are written as they are, and all else is written from the outermost level on
+abbrev pub storedWhole : Form → (d : ℕ) → Content → List ℕ → List ℕ
+storedWhole (fixed k o) d c s = s
+storedWhole (ragged w p) zero c s = putRagged w p (record { values = c .values; offsets = c .offsets })
+storedWhole (ragged w p) (suc d) c s = s
+
+abbrev pub storedBy : Kind → ℕ → Content → List ℕ
+storedBy k n c = storedWhole (k .form) (k .depth) c (storedFrom k n c (k .depth))
 
 -- bytes over an output: refusal 6 where it is too short
 abbrev pub storedOver : List ℕ → List ℕ → Outcome ℕ (List ℕ)
@@ -59,12 +69,17 @@ abbrev pub valuesLengthAt : Form → List ℕ → List ℕ → ℕ
 valuesLengthAt (fixed k o) os is = length is * k
 valuesLengthAt (ragged w p) os is = raggedLength w (length is) (spansOf os is)
 
-unfoldable pub lengthFrom : Form → ℕ → List ℕ → List ℕ → (d l : ℕ) → ℕ
-lengthFrom f n masks os zero l = orNothing (length (liveAt n masks l)) (valuesLengthAt f os (liveAt n masks l))
-lengthFrom f n masks os (suc d) l = orNothing (length (liveAt n masks l)) (16 + byteMask .size (length (liveAt n masks l)) + lengthFrom f n masks os d (suc l))
+unfoldable pub lengthFrom : Kind → ℕ → List ℕ → List ℕ → (left : ℕ) → ℕ
+lengthFrom k n masks os zero = orNothing (length (liveAt n masks (k .depth))) (valuesLengthAt (k .form) os (liveAt n masks (k .depth)))
+lengthFrom k n masks os (suc left) =
+    let count = length (liveAt n masks (levelOf k (suc left))) in
+    orNothing count (16 + maskForm (k .masks) .size count + lengthFrom k n masks os left)
 
 -- of the whole stored form, the array having so many value bytes
-abbrev pub storedLength : Form → ℕ → List ℕ → ℕ → List ℕ → (d : ℕ) → ℕ
-storedLength (fixed k o) n masks bytes os d = lengthFrom (fixed k o) n masks os d 0
-storedLength (ragged w p) n masks bytes os zero = raggedLength w n bytes
-storedLength (ragged w p) n masks bytes os (suc d) = lengthFrom (ragged w p) n masks os (suc d) 0
+abbrev pub lengthWhole : Form → (d n bytes : ℕ) → ℕ → ℕ
+lengthWhole (fixed k o) d n bytes x = x
+lengthWhole (ragged w p) zero n bytes x = raggedLength w n bytes
+lengthWhole (ragged w p) (suc d) n bytes x = x
+
+abbrev pub storedLength : Kind → ℕ → List ℕ → ℕ → List ℕ → ℕ
+storedLength k n masks bytes os = lengthWhole (k .form) (k .depth) n bytes (lengthFrom k n masks os (k .depth))

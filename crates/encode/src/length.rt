@@ -1,54 +1,47 @@
 // The written length: the sum over the levels, outermost first.
 use crate::values;
 use array::kind;
+use array::kind::Kind;
 use array::kind::Values;
 use gather::live;
-use stored::mask;
+use mask::form;
 ghost use mathlib.Core.Path.{_≡_};
-ghost use Prim.Native.Nat.{_+_, _≤_};
+ghost use Prim.Native.Nat.{_≤_};
 ghost use Rattle.array.specs.Limits.{mostBytes};
-ghost use Rattle.array.specs.Meaning.{formOf};
+ghost use Rattle.array.specs.Meaning.{kindOf};
 ghost use Rattle.encode.specs.Ready.{Measured};
 ghost use Rattle.encode.specs.Stored.{lengthFrom, storedLength};
 
-// From a level inwards, `left` levels being left: 16 + the cells that it counts, or nothing where none are left.
-pub fn content_length(
-    form: Values,
-    offsets: &[u64],
-    masks: &[u8],
-    cells: usize,
-    level: usize,
-    left: usize,
-) -> usize
-    requires { ⌜ Measured (formOf form) cells (now masks) (now offsets) (level + left) ⌝ }
-    ensures { λ r. ⌜ r ≡ lengthFrom (formOf form) cells (now (masks .entry)) (now (offsets .entry)) left level ⌝ }
+// With so many levels left: 16 + the stored mask of the cells that the level counts + what is below, or nothing where no cell is left.
+pub fn content_length(kind: Kind, cells: usize, masks: &[u8], offsets: &[u64], left: usize) -> usize
+    requires ready { ⌜ Measured (kindOf kind) cells (now masks) (now offsets) ⌝ }
+    requires within { ⌜ left ≤ kindOf kind .depth ⌝ }
+    ensures { λ r. ⌜ r ≡ lengthFrom (kindOf kind) cells (now (masks .entry)) (now (offsets .entry)) left ⌝ }
 {
+    let level = kind.depth as usize - left;
     let count = live::count_live(masks, cells, level);
     if count == 0 {
         return 0;
     }
     if left == 0 {
-        return values::values_length(form, offsets, masks, cells, level, count);
+        return values::values_length(kind, cells, masks, offsets, count);
     }
-    16 + mask::mask_length(count) + content_length(form, offsets, masks, cells, level + 1, left - 1)
+    let form = kind.masks;
+    let mask = form::mask_length(form, count);
+    16 + mask + content_length(kind, cells, masks, offsets, left - 1)
 }
 
 // The written length of valid content of `cells` cells with so many value bytes. At depth 0 all of these are written.
-pub fn stored_length(
-    form: Values,
-    depth: usize,
-    cells: usize,
-    masks: &[u8],
-    bytes: usize,
-    offsets: &[u64],
-) -> usize
-    requires ready { ⌜ Measured (formOf form) cells (now masks) (now offsets) depth ⌝ }
+pub fn stored_length(kind: Kind, cells: usize, masks: &[u8], bytes: usize, offsets: &[u64]) -> usize
+    requires ready { ⌜ Measured (kindOf kind) cells (now masks) (now offsets) ⌝ }
     requires small { ⌜ bytes ≤ mostBytes ⌝ }
-    ensures { λ r. ⌜ r ≡ storedLength (formOf form) cells (now (masks .entry)) bytes (now (offsets .entry)) depth ⌝ }
+    ensures { λ r. ⌜ r ≡ storedLength (kindOf kind) cells (now (masks .entry)) bytes (now (offsets .entry)) ⌝ }
 {
+    let depth = kind.depth as usize;
     if 0 < depth {
-        return content_length(form, offsets, masks, cells, 0, depth);
+        return content_length(kind, cells, masks, offsets, depth);
     }
+    let form = kind.values;
     match form {
         Values::Fixed(size, _) => cells * (size as usize),
         Values::Ragged(width, _) => 8 + kind::width_bytes(width) * (cells + 1) + bytes,

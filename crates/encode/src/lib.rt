@@ -13,7 +13,7 @@ mod write;
 
 ghost use mathlib.Core.Path.{_≡_};
 ghost use Rattle.array.specs.Meaning.{kindOf};
-ghost use Rattle.array.specs.Outcome.{outcome, contentArray};
+ghost use Rattle.array.specs.Outcome.{contentArray, outcome};
 ghost use Rattle.codec.specs.Calls.{storedForm, encoded};
 ghost use Rattle.encode.specs.Ready.{Encodable};
 ghost use Rattle.encode.specs.Stored.{storedOver};
@@ -27,7 +27,7 @@ pub fn encode(
     offsets: &[u64],
     out: &mut [u8],
 ) -> Written
-    ensures { λ r. ⌜ outcome r (now (out .exit)) ≡ encoded (kindOf kind) (now (shape .entry)) (record { masks = now (masks .entry); values = now (values .entry); offsets = now (offsets .entry) }) (now (out .entry)) ⌝ }
+    ensures { λ r. ⌜ outcome r (now (out .exit)) ≡ encoded (kindOf kind) (now (shape .entry)) (contentArray (now (masks .entry)) (now (values .entry)) (now (offsets .entry))) (now (out .entry)) ⌝ }
 {
     if !valid::kind::check_kind(kind) {
         return Written::Refused(refusal::KIND);
@@ -54,12 +54,10 @@ fn encode_valid(
     requires { ⌜ Encodable (kindOf kind) cells (contentArray (now masks) (now values) (now offsets)) ⌝ }
     ensures { λ r. ⌜ outcome r (now (out .exit)) ≡ storedOver (storedForm (kindOf kind) cells (contentArray (now (masks .entry)) (now (values .entry)) (now (offsets .entry)))) (now (out .entry)) ⌝ }
 {
-    let form = kind.values;
-    let depth = kind.depth as usize;
-    let need = length::stored_length(form, depth, cells, masks, values.len(), offsets);
+    let need = length::stored_length(kind, cells, masks, values.len(), offsets);
     if out.len() < need {
         return Written::Refused(refusal::OUTPUT);
     }
-    write::write_stored(out, form, depth, values, offsets, masks, cells);
+    write::write_stored(out, kind, cells, masks, values, offsets);
     Written::Length(need)
 }

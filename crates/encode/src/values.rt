@@ -1,30 +1,26 @@
-// The innermost content: values of one size, or ragged values.
+// The innermost content: values of one size, or ragged values, of the `count` cells that every level sets.
 use array::kind;
+use array::kind::Kind;
 use array::kind::Values;
 use gather::cells;
 ghost use mathlib.Core.Path.{_≡_};
 ghost use Prim.Native.Nat.{_+_, _≤_};
 ghost use lib.ListN.{length};
 ghost use Rattle.array.specs.Buffers.{overAt};
-ghost use Rattle.array.specs.Meaning.{formOf};
+ghost use Rattle.array.specs.Meaning.{kindOf};
 ghost use Rattle.array.specs.Outcome.{contentArray};
 ghost use Rattle.gather.specs.Live.{liveAt};
-ghost use Rattle.encode.specs.Ready.{Measured, Ready};
+ghost use Rattle.encode.specs.Ready.{Measured, Encodable};
 ghost use Rattle.encode.specs.Stored.{valuesFrom, valuesLengthAt};
 
-// How long the values of the `count` cells that the level counts are when written.
-pub fn values_length(
-    form: Values,
-    offsets: &[u64],
-    masks: &[u8],
-    cells: usize,
-    level: usize,
-    count: usize,
-) -> usize
-    requires counted { ⌜ count ≡ length (liveAt cells (now masks) level) ⌝ }
-    requires ready { ⌜ Measured (formOf form) cells (now masks) (now offsets) level ⌝ }
-    ensures { λ r. ⌜ r ≡ valuesLengthAt (formOf form) (now (offsets .entry)) (liveAt cells (now (masks .entry)) level) ⌝ }
+// How long these values are when written.
+pub fn values_length(kind: Kind, cells: usize, masks: &[u8], offsets: &[u64], count: usize) -> usize
+    requires counted { ⌜ count ≡ length (liveAt cells (now masks) (kindOf kind .depth)) ⌝ }
+    requires ready { ⌜ Measured (kindOf kind) cells (now masks) (now offsets) ⌝ }
+    ensures { λ r. ⌜ r ≡ valuesLengthAt (kindOf kind .form) (now (offsets .entry)) (liveAt cells (now (masks .entry)) (kindOf kind .depth)) ⌝ }
 {
+    let level = kind.depth as usize;
+    let form = kind.values;
     match form {
         Values::Fixed(size, _) => count * (size as usize),
         Values::Ragged(width, _) => {
@@ -34,24 +30,25 @@ pub fn values_length(
     }
 }
 
-// Writes these values; says how many bytes it wrote.
+// Writes them; says how many bytes it wrote.
 pub fn put_values(
     out: &mut [u8],
     at: usize,
-    form: Values,
+    kind: Kind,
+    cells: usize,
+    masks: &[u8],
     values: &[u8],
     offsets: &[u64],
-    masks: &[u8],
-    cells: usize,
-    level: usize,
     count: usize,
 ) -> usize
-    requires counted { ⌜ count ≡ length (liveAt cells (now masks) level) ⌝ }
-    requires ready { ⌜ Ready (formOf form) cells (contentArray (now masks) (now values) (now offsets)) level ⌝ }
-    requires room { ⌜ at + length (valuesFrom (formOf form) cells (contentArray (now masks) (now values) (now offsets)) level) ≤ length (now out) ⌝ }
-    ensures wrote { λ r. ⌜ r ≡ length (valuesFrom (formOf form) cells (contentArray (now (masks .entry)) (now (values .entry)) (now (offsets .entry))) level) ⌝ }
-    ensures bytes { λ _. ⌜ now (out .exit) ≡ overAt at (valuesFrom (formOf form) cells (contentArray (now (masks .entry)) (now (values .entry)) (now (offsets .entry))) level) (now (out .entry)) ⌝ }
+    requires counted { ⌜ count ≡ length (liveAt cells (now masks) (kindOf kind .depth)) ⌝ }
+    requires ready { ⌜ Encodable (kindOf kind) cells (contentArray (now masks) (now values) (now offsets)) ⌝ }
+    requires room { ⌜ at + length (valuesFrom (kindOf kind) cells (contentArray (now masks) (now values) (now offsets))) ≤ length (now out) ⌝ }
+    ensures wrote { λ r. ⌜ r ≡ length (valuesFrom (kindOf kind) cells (contentArray (now (masks .entry)) (now (values .entry)) (now (offsets .entry)))) ⌝ }
+    ensures bytes { λ _. ⌜ now (out .exit) ≡ overAt at (valuesFrom (kindOf kind) cells (contentArray (now (masks .entry)) (now (values .entry)) (now (offsets .entry)))) (now (out .entry)) ⌝ }
 {
+    let level = kind.depth as usize;
+    let form = kind.values;
     match form {
         Values::Fixed(size, order) => {
             let k = size as usize;

@@ -16,7 +16,8 @@ ghost use Rattle.codec.specs.Calls.{encoded, decoded, interleavedDecoded};
 ghost use Rattle.chunks.specs.Calls.{extracted, merged, partiallyDecoded};
 ghost use Rattle.ffi.specs.Exported.{handed, withGiven, byIndex, statusOf, oneLength, twoLengths, threeLengths, exportOne, exportTwo, exportThree};
 
-// A kind as numbers: form 0 fixed, 1 ragged; size is the cell size or the index width; order 0 little or start, 1 big or end; mask 0.
+// A kind as numbers: form 0 fixed, 1 ragged; size is the cell size or the index width; order 0 little or start, 1 big or end; mask 0
+// bytes, 1 packed.
 #[repr(C)]
 pub struct DpxKind {
     pub depth: u64,

@@ -4,3 +4,4 @@ pub mod LiveMarks
 pub mod Placing
 pub mod Gathering
 pub mod Packing
+pub mod Blocks

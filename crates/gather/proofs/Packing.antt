@@ -3,13 +3,13 @@
 -- Assumes nothing.
 use mathlib.Core.Path.{_≡_, refl, sym, ap, _∙_, subst}
 use Prim.Native.Nat.{ℕ, suc, _+_, _-_, _*_, _<_, _≤_}
-use native.Mathlib.Nat.{zero-mul, one-mul, mul-one, suc-mul, mul-le-mul-right}
+use native.Mathlib.Nat.{zero-mul, one-mul, suc-mul, mul-le-mul-right}
 use native.Mathlib.Numerals.{add-one}
 use native.Mathlib.Omega.{arith}
 use mathlib.Core.Bool.{Bool, true, false}
-use mathlib.Core.List.{List, [], _∷_, _++_, map, append-assoc}
-use lib.ListN.{length, take, drop, set, length-append, length-drop, length-map}
-use lib.Seq.{set-split, length-take-le}
+use mathlib.Core.List.{List, [], _∷_, map}
+use lib.ListN.{length, take, drop, length-drop, length-map}
+use lib.Seq.{length-take-le}
 use Rattle.array.specs.Lists.{pick, from, joined, pieces, passing}
 use Rattle.array.specs.Buffers.{overAt}
 use Rattle.array.specs.Kind.{Order, ordered}
@@ -18,7 +18,7 @@ use Rattle.array.proofs.Geometry.{All-from}
 use Rattle.array.proofs.Over.{over-at-length}
 use Rattle.array.proofs.Sizes.{length-ordered}
 use Rattle.array.proofs.Laying.{Laying, laying-same, laying-left, laying-ends, laying-part, laying-is}
-use Rattle.gather.specs.Live.{maskAt, liveTest, liveOne, liveAt, Planes}
+use Rattle.gather.specs.Live.{maskAt, liveTest, liveAt, Planes}
 use Rattle.gather.specs.Pieces.{orderedAt, piecesAt}
 use Rattle.gather.proofs.Numbered.{plane-at}
 use Rattle.gather.proofs.Runs.{passing-le, passing-start, All-passing, all-counted}
@@ -26,7 +26,7 @@ use Rattle.gather.proofs.LiveMarks.{passing-next}
 use Rattle.gather.proofs.Placing.{at-none, at-again}
 use Rattle.gather.proofs.Gathering.{wholeOf, leftFrom, gathering-begins, run-pieces}
 
-none-left : (l : List ℕ) → length l ≡ 0 → l ≡ []
+pub none-left : (l : List ℕ) → length l ≡ 0 → l ≡ []
 none-left [] e = refl
 none-left (x ∷ l) e = absurd (omega arith)
 
@@ -169,7 +169,7 @@ pub all-long : (o : Order) (k : ℕ) (s : List ℕ) (t : ℕ → Bool) (n : ℕ)
     → length (piecesAt o k s (passing t (from 0 n))) ≡ n * k
 all-long o k s t n h ec en = pieces-long o k s t n h ∙ ap (λ (m : ℕ). m * k) (sym ec ∙ en)
 
--- ---- mask bytes, which are pieces of size 1
+-- ---- the plane of a level
 
 module _ {n : ℕ} {masks : List ℕ} (l : ℕ) (h : Planes n masks (l + 1)) where
   pub mask-plane : l * n + n ≤ length masks
@@ -180,34 +180,3 @@ module _ {n : ℕ} {masks : List ℕ} (l : ℕ) (h : Planes n masks (l + 1)) whe
 
   pub mask-all : {count : ℕ} → count ≡ length (liveAt n masks l) → count ≡ n → take n (drop (l * n) masks) ≡ map (maskAt n masks l) (liveAt n masks l)
   mask-all ec en = plane-at n masks l mask-plane ∙ ap (map (maskAt n masks l)) (sym (all-counted (liveTest n masks l) n (sym ec ∙ en)))
-
-pub singles : (f : ℕ → ℕ) (is : List ℕ) → joined (map (λ i. f i ∷ []) is) ≡ map f is
-singles f [] = refl
-singles f (i ∷ is) = ap (λ (r : List ℕ). f i ∷ r) (singles f is)
-
-pub store-over : (j x : ℕ) (out : List ℕ) → j < length out → set out j x ≡ overAt j (x ∷ []) out
-store-over j x out h =
-    let m : length (take j out ++ (x ∷ [])) ≡ suc j = omega (arith, length-append (take j out) (x ∷ []), length-take-le j out (omega arith)) in
-    set-split out j x h ∙ sym (append-assoc (take j out) (x ∷ []) (drop (length (take j out ++ (x ∷ []))) out) ∙ ap (λ (a : ℕ). take j out ++ (x ∷ drop a out)) m)
-
--- what the mask's loop goes by
-abbrev pub MaskPacking : ℕ → List ℕ → ℕ → List ℕ → ℕ → List ℕ → ℕ → ℕ → Type 0
-MaskPacking n masks l d to out i done = Packing (liveTest n masks l) n (λ j. maskAt n masks l j ∷ []) 1 d to out i done
-
-module _ (n : ℕ) (masks : List ℕ) (l : ℕ) where
-  pub masks-begin : {d : List ℕ} {to count : ℕ} → count ≡ length (liveAt n masks l) → to + count ≤ length d → MaskPacking n masks l d to d 0 0
-  masks-begin {d} {to} ec h =
-      packing-begins (λ j q. refl)
-      (omega (arith, ap length (singles (maskAt n masks l) (liveAt n masks l)), length-map (liveAt n masks l) (maskAt n masks l)))
-
-  module _ {d : List ℕ} {to : ℕ} {out : List ℕ} {i done : ℕ} (p : MaskPacking n masks l d to out i done) where
-    pub masks-room : done < length (liveAt n masks l) → to + done < length out
-    masks-room h = omega (arith, packing-room p h, mul-one done)
-
-    pub masks-more : (h : done < length (liveAt n masks l)) {out′ : List ℕ} → out′ ≡ set out (to + done) (maskAt n masks l i) → {done′ : ℕ} → done′ ≡ done + liveOne n masks l i
-        → MaskPacking n masks l d to out′ (i + 1) done′
-    masks-more h eo ed =
-        packing-more p h (eo ∙ store-over (to + done) (maskAt n masks l i) out (masks-room h) ∙ ap (λ (m : ℕ). overAt (to + m) (maskAt n masks l i ∷ []) out) (sym (mul-one done))) ed
-
-    pub masks-end : length (liveAt n masks l) ≤ done → out ≡ overAt to (map (maskAt n masks l) (liveAt n masks l)) d
-    masks-end h = packing-ends p h ∙ ap (λ (x : List ℕ). overAt to x d) (singles (maskAt n masks l) (liveAt n masks l))

@@ -2,12 +2,16 @@
 -- goes by places speaks of. Crate encode has that these are the cells of the definitions.
 -- Assumes nothing.
 use Prim.Native.Nat.{ℕ, zero, suc, _+_, _-_, _*_, _≤_}
+use mathlib.Core.Path.{_≡_}
 use mathlib.Core.Bool.{Bool, true, _&&_}
-use mathlib.Core.List.{List}
-use lib.ListN.{length, getD}
+use mathlib.Core.List.{List, map}
+use lib.ListN.{length, getD, take, drop}
 use Rattle.array.specs.Limits.{mostCells, mostDepth}
 use Rattle.array.specs.Lists.{pick, from, passing}
+use Rattle.array.specs.Buffers.{over}
+use Rattle.array.specs.Kind.{Masks}
 use Rattle.array.specs.Cells.{setTest}
+use Rattle.codec.specs.Mask.{maskForm}
 
 -- the mask byte of cell i at level l, of n cells
 abbrev pub maskAt : ℕ → List ℕ → ℕ → ℕ → ℕ
@@ -42,3 +46,15 @@ pub record Planes (n : ℕ) (masks : List ℕ) (l : ℕ) : Type 0 where
   pub shallow : l ≤ mostDepth
   pub few : n ≤ mostCells
   pub planes : l * n ≤ length masks
+
+-- the mask bytes of cells in a list, and the stored mask of the cells that level l counts
+abbrev pub masksAt : ℕ → List ℕ → ℕ → List ℕ → List ℕ
+masksAt n masks l is = map (maskAt n masks l) is
+
+abbrev pub liveMask : Masks → ℕ → List ℕ → ℕ → List ℕ
+liveMask x n masks l = maskForm x .put (masksAt n masks l (liveAt n masks l))
+
+-- of the cells from i on that level l counts, the mask bytes of the first m lie over a block, and those behind them begin at r
+pub record Gathered (n : ℕ) (masks : List ℕ) (l : ℕ) (block : List ℕ) (i m : ℕ) (block′ : List ℕ) (r : ℕ) : Type 0 where
+  pub bytes : block′ ≡ over (masksAt n masks l (take m (liveFrom n masks l i))) block
+  pub behind : liveFrom n masks l r ≡ drop m (liveFrom n masks l i)

@@ -13,8 +13,7 @@ use Rattle.array.specs.Bytes.{le}
 use Rattle.array.specs.Kind.{Place, ragged}
 use Rattle.array.specs.Offsets.{last, offsetsOf}
 use Rattle.array.proofs.Bytes.{length-le}
-use Rattle.stored.specs.Index.{dataAt, indexAt, lengthAt}
-use Rattle.codec.specs.Ragged.{put, indexOf, putRagged}
+use Rattle.codec.specs.Ragged.{put, indexOf, putRagged, lengthAt, indexAt, dataAt}
 use Rattle.codec.specs.Values.{putValues}
 use Rattle.codec.proofs.Ragged.{length-put, length-index}
 use Rattle.codec.proofs.Values.{ragged-length}

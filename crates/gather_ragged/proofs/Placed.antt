@@ -10,8 +10,7 @@ use Rattle.array.specs.Bytes.{le}
 use Rattle.array.specs.Kind.{Place, atStart, atEnd}
 use Rattle.array.specs.Content.{RaggedContent}
 use Rattle.array.proofs.Bytes.{length-le}
-use Rattle.stored.specs.Index.{dataAt, indexAt, lengthAt}
-use Rattle.codec.specs.Ragged.{indexOf, putRagged}
+use Rattle.codec.specs.Ragged.{indexOf, putRagged, lengthAt, indexAt, dataAt}
 use Rattle.gather.proofs.Placing.{at-front, at-behind}
 
 -- values that begin at `at`, with so many bytes of index and of data

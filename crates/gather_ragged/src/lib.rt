@@ -4,7 +4,7 @@ use array::kind::IndexPlace;
 use array::kind::IndexWidth;
 use buffer::copy;
 use buffer::field;
-use stored::vlen;
+use codec::place;
 
 pub mod data;
 mod index;
@@ -42,12 +42,12 @@ pub fn put_ragged(
     ensures bytes { λ _. ⌜ now (out .exit) ≡ overAt at (putValues (ragged (widthOf width) (placeOf place)) (map (sliceAt (now (offsets .entry)) (now (values .entry))) (liveAt cells (now (masks .entry)) level))) (now (out .entry)) ⌝ }
 {
     let index = kind::width_bytes(width) * (count + 1);
-    let data = at + vlen::data_at(place, index);
+    let data = at + place::data_at(place, index);
     let bytes = data::put_live_data(out, data, values, offsets, masks, cells, level);
     let stored = 8 + index + bytes;
-    let start = at + vlen::index_at(place, stored, index);
+    let start = at + place::index_at(place, stored, index);
     index::put_live_index(out, start, width, offsets, masks, cells, level, count);
-    let field = at + vlen::length_at(place, stored);
+    let field = at + place::length_at(place, stored);
     field::put_u64(out, field, index as u64);
     stored
 }
@@ -65,11 +65,11 @@ pub fn put_plain(
 {
     let bytes = values.len();
     let index = kind::width_bytes(width) * offsets.len();
-    let data = vlen::data_at(place, index);
+    let data = place::data_at(place, index);
     copy::copy_many(out, data, values, 0, bytes);
     let stored = 8 + index + bytes;
-    let start = vlen::index_at(place, stored, index);
+    let start = place::index_at(place, stored, index);
     index::put_index(out, start, width, offsets, 0);
-    let field = vlen::length_at(place, stored);
+    let field = place::length_at(place, stored);
     field::put_u64(out, field, index as u64);
 }

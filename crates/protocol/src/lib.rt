@@ -12,7 +12,8 @@
 //     # a comment is printed as it is
 //
 // A list is `-` where it is empty; numbers are decimal and joined by commas, bytes hexadecimal; COUNT*X is a run, and `+` joins runs
-// and plain parts. KIND is depth,form,size,order; form 0 is fixed and 1 ragged. ROOMS are the lengths of the outputs to lend.
+// and plain parts. KIND is depth,form,size,order, and the mask form where it is named: form 0 is fixed and 1 ragged, masks 0 bytes
+// and 1 packed. ROOMS are the lengths of the outputs to lend.
 // An answer is `refused N`, or `ok LENGTHS: LISTS` with the outputs up to those lengths, masks before values before offsets.
 // Outputs are filled with EE beforehand; `spoilt` says that a byte beyond the lengths, or any after a refusal, has changed.
 mod calls;

@@ -19,8 +19,18 @@ fn out_of_range(kind: Kind, e: u8) -> KindRead
     KindRead::Kind(kind)
 }
 
+// The same with the mask form that a number says.
+fn masked_out_of_range(kind: Kind, mask: u64, e: u8) -> KindRead
+    ensures { λ r. ⌜ Beyond r e ⌝ }
+{
+    match numbers::masked_from_number(kind, mask) {
+        KindRead::Kind(k) => out_of_range(k, e),
+        KindRead::Refused(_) => KindRead::Refused(e),
+    }
+}
+
 // Numbers that say no kind may still make one that is out of range. It is handed over, so that the call itself is seen to refuse it.
-fn kind_beyond(depth: u64, form: u64, size: u64, order: u64, e: u8) -> KindRead
+fn kind_beyond(depth: u64, form: u64, size: u64, order: u64, mask: u64, e: u8) -> KindRead
     ensures { λ r. ⌜ Beyond r e ⌝ }
 {
     if depth > 255 {
@@ -30,7 +40,7 @@ fn kind_beyond(depth: u64, form: u64, size: u64, order: u64, e: u8) -> KindRead
         let index = numbers::index_from_numbers(size, order);
         return match index {
             IndexRead::Index(width, place) => {
-                out_of_range(kind::ragged(depth as u8, width, place), e)
+                masked_out_of_range(kind::ragged(depth as u8, width, place), mask, e)
             }
             IndexRead::Refused(_) => KindRead::Refused(e),
         };
@@ -38,25 +48,30 @@ fn kind_beyond(depth: u64, form: u64, size: u64, order: u64, e: u8) -> KindRead
     if size > 255 {
         return KindRead::Refused(e);
     }
-    out_of_range(kind::fixed(depth as u8, size as u8, ByteOrder::Little), e)
+    masked_out_of_range(
+        kind::fixed(depth as u8, size as u8, ByteOrder::Little),
+        mask,
+        e,
+    )
 }
 
-// The kind that four numbers say.
-fn kind_of(depth: u64, form: u64, size: u64, order: u64) -> KindRead
-    ensures { λ r. ⌜ Asked (numberedKind depth form size order 0) r ⌝ }
+// The kind that five numbers say.
+fn kind_of(depth: u64, form: u64, size: u64, order: u64, mask: u64) -> KindRead
+    ensures { λ r. ⌜ Asked (numberedKind depth form size order mask) r ⌝ }
 {
-    match numbers::kind_from_numbers(depth, form, size, order, 0) {
+    match numbers::kind_from_numbers(depth, form, size, order, mask) {
         KindRead::Kind(k) => KindRead::Kind(k),
-        KindRead::Refused(e) => kind_beyond(depth, form, size, order, e),
+        KindRead::Refused(e) => kind_beyond(depth, form, size, order, mask, e),
     }
 }
 
-// The kind that a head of four numbers says.
+// The kind that a head of four or five numbers says: without a mask form its masks are bytes.
 pub fn head_kind(head: &[u64]) -> KindRead {
     kind_of(
         number_at(head, 0),
         number_at(head, 1),
         number_at(head, 2),
         number_at(head, 3),
+        number_at(head, 4),
     )
 }

@@ -6,10 +6,11 @@ use text::scan;
 use text::scan::Filled;
 use text::scan::part_of_bytes;
 
-// The lists of a line, in their order: so many numbers at the head; shape; subset; masks; values or stored bytes; offsets; and so
-// many lengths of outputs.
+// The lists of a line, in their order: so many numbers at the head, or so many more; shape; subset; masks; values or stored bytes;
+// offsets; and so many lengths of outputs.
 struct Fields {
     pub head: usize,
+    pub more: usize,
     pub shape: bool,
     pub subset: bool,
     pub masks: bool,
@@ -23,10 +24,11 @@ enum Line {
     Unknown,
 }
 
-// Calls that take a kind.
+// Calls that take a kind: four numbers, or five where its mask form is named.
 fn of_kind(subset: bool, array: bool, rooms: usize) -> Line {
     Line::Request(Fields {
         head: 4,
+        more: 1,
         shape: true,
         subset,
         masks: array,
@@ -40,6 +42,7 @@ fn of_kind(subset: bool, array: bool, rooms: usize) -> Line {
 fn of_numbers(head: usize, shape: bool, values: bool, rooms: usize) -> Line {
     Line::Request(Fields {
         head,
+        more: 0,
         shape,
         subset: shape,
         masks: false,
@@ -187,7 +190,7 @@ fn complete(f: Fields, q: Request, at: usize, length: usize) -> Parsed {
     if at != length {
         return Parsed::Bad;
     }
-    if q.shape != f.head {
+    if num::wrapping_sub_usize(q.shape, f.head) > f.more {
         return Parsed::Bad;
     }
     if num::wrapping_sub_usize(q.numbers, q.rooms) != f.rooms {
@@ -217,6 +220,7 @@ fn parse(line: &[u8], f: Fields, numbers: &mut [u64], bytes: &mut [u8]) -> Parse
 fn table_fields() -> Fields {
     Fields {
         head: 4,
+        more: 1,
         shape: true,
         subset: true,
         masks: true,

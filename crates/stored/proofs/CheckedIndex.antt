@@ -15,9 +15,9 @@ use Rattle.array.specs.Kind.{Place, atStart, atEnd}
 use Rattle.array.specs.Offsets.{last, lastFrom, RisingFrom, risingTest}
 use Rattle.array.specs.Content.{RaggedContent, sizeTest}
 use Rattle.array.proofs.Rules.{rising-ok}
-use Rattle.codec.specs.Ragged.{dataTest, dataFor, checkRagged, getRagged}
+use Rattle.codec.specs.Ragged.{dataTest, dataFor, checkRagged, getRagged, lengthAt, indexAt, dataAt}
 use Rattle.stored.specs.declared.vlen.Index.{Index}
-use Rattle.stored.specs.Index.{offsetsIn, first, spanOf, readBy, indexedBy, indexCheck, indexIn, spanIn, lengthAt, indexAt, dataAt, located, foundIn, checkedIn, raggedAt, IndexWithin}
+use Rattle.stored.specs.Index.{offsetsIn, first, spanOf, readBy, indexedBy, indexCheck, indexIn, spanIn, located, foundIn, checkedIn, raggedAt, IndexWithin}
 use Rattle.stored.proofs.IndexLaws.{checkedAt, read-none, read-short, read-at, limitedIndex, found-limited}
 
 -- ---- of a part of an answer to the answer

@@ -22,9 +22,9 @@ use Rattle.array.specs.declared.kind.IndexWidth.the-variants.{Four, Eight}
 use Rattle.array.specs.Meaning.{widthOf}
 use Rattle.array.specs.Offsets.{last, risingTest, risingFromTest}
 use Rattle.array.specs.Content.{RaggedContent, sizeTest}
-use Rattle.codec.specs.Ragged.{dataTest, dataFor, checkRagged, getRagged, partOf, leftOf}
+use Rattle.codec.specs.Ragged.{dataTest, dataFor, checkRagged, getRagged, partOf, leftOf, lengthAt, indexAt, dataAt}
 use Rattle.stored.specs.declared.vlen.Index.{Index}
-use Rattle.stored.specs.Index.{offsetsIn, first, spanOf, openBy, readBy, indexedBy, indexCheck, indexIn, limited, spanIn, lengthAt, indexAt, dataAt, located, foundIn, checkedIn}
+use Rattle.stored.specs.Index.{offsetsIn, first, spanOf, openBy, readBy, indexedBy, indexCheck, indexIn, limited, spanIn, located, foundIn, checkedIn}
 
 pub width-most : (w : IndexWidth) → widthOf w ≤ 8
 width-most Four = omega arith

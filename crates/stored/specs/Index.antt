@@ -12,7 +12,7 @@ use Rattle.array.specs.Bytes.{unle}
 use Rattle.array.specs.Kind.{Place, atStart, atEnd}
 use Rattle.array.specs.Offsets.{last, lastFrom, RisingFrom, risingTest}
 use Rattle.array.specs.Content.{RaggedContent, sizeTest}
-use Rattle.codec.specs.Ragged.{dataTest, partOf, leftOf, getRagged}
+use Rattle.codec.specs.Ragged.{dataTest, partOf, leftOf, getRagged, indexAt, dataAt}
 use Rattle.stored.specs.declared.vlen.Index.{Index}
 use Rattle.stored.specs.declared.vlen.Indexed.{Indexed}
 use Rattle.stored.specs.declared.vlen.Indexed.the-variants.{Found, Refused}
@@ -55,20 +55,6 @@ limited a = andThen a (λ x. unless (sizeTest (x .1)) 5 (gives x))
 -- what the check tells of the reader's answer
 abbrev pub spanIn : Answer RaggedContent → Answer (ℕ × ℕ)
 spanIn a = mapAnswer (λ c. spanOf (c .offsets)) a
-
--- ---- where the index length, the index and the data lie, in l bytes with an index of i
-
-abbrev pub lengthAt : Place → ℕ → ℕ
-lengthAt atStart l = 0
-lengthAt atEnd l = l - 8
-
-abbrev pub indexAt : Place → ℕ → ℕ → ℕ
-indexAt atStart l i = 8
-indexAt atEnd l i = l - 8 - i
-
-abbrev pub dataAt : Place → ℕ → ℕ
-dataAt atStart i = 8 + i
-dataAt atEnd i = 0
 
 -- ---- what was found: n cells, the index at `index`, the data at `from`, and the value bytes x that the offsets span
 

@@ -1,5 +1,4 @@
-// Ragged values with their index: where its parts lie, and the check. It stores nothing.
-// Place start: 8-byte index length, index, data. Place end: data, index, index length. The index is n + 1 offsets for n cells.
+// Ragged values with their index: the check. It stores nothing. The index is n + 1 offsets for n cells.
 use array::kind::IndexPlace;
 use array::kind::IndexWidth;
 use array::kind::width_bytes;
@@ -7,6 +6,9 @@ use array::refusal;
 use buffer::field::Field;
 use buffer::field::le_at;
 use buffer::field::read_u64;
+use codec::place::data_at;
+use codec::place::index_at;
+use codec::place::length_at;
 use valid::array_bytes;
 ghost use mathlib.Core.Path.{_≡_};
 ghost use mathlib.Core.Bool.{not};
@@ -18,8 +20,8 @@ ghost use Rattle.array.specs.Meaning.{widthOf, placeOf};
 ghost use Rattle.array.specs.Offsets.{risingTest};
 ghost use Rattle.array.specs.Content.{sizeTest};
 ghost use Rattle.buffer.specs.Field.{fieldAt, toldField};
-ghost use Rattle.codec.specs.Ragged.{dataTest};
-ghost use Rattle.stored.specs.Index.{offsetsIn, indexedBy, lengthAt, indexAt, dataAt, indexWith, foundIn, checkedIn, toldIndex};
+ghost use Rattle.codec.specs.Ragged.{dataTest, lengthAt};
+ghost use Rattle.stored.specs.Index.{offsetsIn, indexedBy, indexWith, foundIn, checkedIn, toldIndex};
 
 // An index that was found: how many cells it has, where it and the data lie, its first and its last offset.
 pub struct Index {
@@ -43,39 +45,6 @@ fn index_length(n: usize, width: IndexWidth) -> usize
 {
     let w = width_bytes(width);
     w + n * w
-}
-
-// Where the index length lies, in so many stored bytes.
-pub fn length_at(place: IndexPlace, stored: usize) -> usize
-    requires { ⌜ 8 ≤ stored ⌝ }
-    ensures { λ r. ⌜ r ≡ lengthAt (placeOf place) stored ⌝ }
-{
-    match place {
-        IndexPlace::Start => 0,
-        IndexPlace::End => stored - 8,
-    }
-}
-
-// Where the index lies, `size` bytes of it, in so many stored bytes.
-pub fn index_at(place: IndexPlace, stored: usize, size: usize) -> usize
-    requires { ⌜ 8 + size ≤ stored ⌝ }
-    ensures { λ r. ⌜ r ≡ indexAt (placeOf place) stored size ⌝ }
-{
-    match place {
-        IndexPlace::Start => 8,
-        IndexPlace::End => stored - 8 - size,
-    }
-}
-
-// Where the data lies.
-pub fn data_at(place: IndexPlace, size: usize) -> usize
-    requires { ⌜ 8 + size < 18446744073709551616 ⌝ }
-    ensures { λ r. ⌜ r ≡ dataAt (placeOf place) size ⌝ }
-{
-    match place {
-        IndexPlace::Start => 8 + size,
-        IndexPlace::End => 0,
-    }
 }
 
 // Whether the n + 1 offsets from `at` on never fall.

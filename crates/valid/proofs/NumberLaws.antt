@@ -7,11 +7,11 @@ use Prim.Native.Nat.{ℕ, zero, suc, _≤_, _<_}
 use native.Mathlib.Omega.{arith}
 use borrow.Author.Tests.{le-leb, lt-leb, ne-eqb}
 use Rattle.array.specs.Answer.{Answer, gives, refuses, andThen, mapAnswer}
-use Rattle.array.specs.Kind.{byteKind, Kind, Form, fixed, ragged, Order, Place, atStart, atEnd, formTest}
+use Rattle.array.specs.Kind.{byteKind, Kind, Form, fixed, ragged, asBits, Order, Place, atStart, atEnd, formTest}
 use Rattle.array.specs.declared.kind.IndexWidth.{IndexWidth}
 use Rattle.array.specs.declared.kind.IndexWidth.the-variants.{Four, Eight}
 use Rattle.array.specs.Meaning.{widthOf}
-use Rattle.valid.specs.Numbers.{oneOf, fixedOf, raggedOf, formNumbered, kindWith, numberedKind, numberedIndex}
+use Rattle.valid.specs.Numbers.{oneOf, fixedOf, raggedOf, formNumbered, kindWith, maskedBy, numberedByteKind, numberedKind, numberedIndex}
 
 -- one of two forms g a and g b, by the number n
 module _ {A : Type 0} (g : A → Form) (a b : A) (depth n : ℕ) where
@@ -55,34 +55,49 @@ width-fits Eight p = refl
 
 -- ---- the whole
 
-module _ (depth form size order mask : ℕ) where
-  pub depth-over : 4 < depth → refuses 1 ≡ numberedKind depth form size order mask
-  unfolding numberedKind
+module _ (depth form size order : ℕ) where
+  pub depth-over : 4 < depth → refuses 1 ≡ numberedByteKind depth form size order
   depth-over h = rw (lt-leb depth 4 h)
 
   module _ (d : depth ≤ 4) where
-    pub mask-unknown : mask ≢ 0 → refuses 1 ≡ numberedKind depth form size order mask
-    unfolding numberedKind
-    mask-unknown h = rw (le-leb depth 4 d, ne-eqb mask 0 h)
+    by-form : andThen (formNumbered form size order) (kindWith depth) ≡ numberedByteKind depth form size order
+    by-form = rw (le-leb depth 4 d)
 
-    module _ (m : mask ≡ 0) where
-      by-form : andThen (formNumbered form size order) (kindWith depth) ≡ numberedKind depth form size order mask
-      unfolding numberedKind
-      by-form = rw (le-leb depth 4 d, m)
+    pub form-fixed : form ≡ 0 → andThen (fixedOf size order) (kindWith depth) ≡ numberedByteKind depth form size order
+    form-fixed e = ap (λ (f : ℕ). andThen (formNumbered f size order) (kindWith depth)) (sym e) ∙ by-form
 
-      pub form-fixed : form ≡ 0 → andThen (fixedOf size order) (kindWith depth) ≡ numberedKind depth form size order mask
-      form-fixed e = ap (λ (f : ℕ). andThen (formNumbered f size order) (kindWith depth)) (sym e) ∙ by-form
+    pub form-ragged : form ≡ 1 → andThen (raggedOf size order) (kindWith depth) ≡ numberedByteKind depth form size order
+    form-ragged e = ap (λ (f : ℕ). andThen (formNumbered f size order) (kindWith depth)) (sym e) ∙ by-form
 
-      pub form-ragged : form ≡ 1 → andThen (raggedOf size order) (kindWith depth) ≡ numberedKind depth form size order mask
-      form-ragged e = ap (λ (f : ℕ). andThen (formNumbered f size order) (kindWith depth)) (sym e) ∙ by-form
+    pub form-unknown : form ≢ 0 → form ≢ 1 → refuses 1 ≡ numberedByteKind depth form size order
+    form-unknown p q = go form p q ∙ by-form
+      where
+        go : (f : ℕ) → f ≢ 0 → f ≢ 1 → refuses 1 ≡ andThen (formNumbered f size order) (kindWith depth)
+        go zero p q = absurd (p refl)
+        go (suc zero) p q = absurd (q refl)
+        go (suc (suc f)) p q = refl
 
-      pub form-unknown : form ≢ 0 → form ≢ 1 → refuses 1 ≡ numberedKind depth form size order mask
-      form-unknown p q = go form p q ∙ by-form
-        where
-          go : (f : ℕ) → f ≢ 0 → f ≢ 1 → refuses 1 ≡ andThen (formNumbered f size order) (kindWith depth)
-          go zero p q = absurd (p refl)
-          go (suc zero) p q = absurd (q refl)
-          go (suc (suc f)) p q = refl
+-- ---- the mask form
+
+pub mask-bytes : (k : Kind) (n : ℕ) → n ≡ 0 → gives k ≡ maskedBy n k
+mask-bytes k n e = rw e
+
+pub mask-bits : (k : Kind) (n : ℕ) → n ≡ 1 → gives (record { depth = k .depth; masks = asBits; form = k .form }) ≡ maskedBy n k
+mask-bits k n e = rw e
+
+pub mask-unknown : (k : Kind) (n : ℕ) → n ≢ 0 → n ≢ 1 → refuses 1 ≡ maskedBy n k
+mask-unknown k zero p q = absurd (p refl)
+mask-unknown k (suc zero) p q = absurd (q refl)
+mask-unknown k (suc (suc n)) p q = refl
+
+module _ (depth form size order mask : ℕ) where
+  pub kind-given : (k : Kind) → gives k ≡ numberedByteKind depth form size order → maskedBy mask k ≡ numberedKind depth form size order mask
+  unfolding numberedKind
+  kind-given k e = ap (λ (a : Answer Kind). andThen a (maskedBy mask)) e
+
+  pub kind-refused : (n : ℕ) → refuses n ≡ numberedByteKind depth form size order → refuses n ≡ numberedKind depth form size order mask
+  unfolding numberedKind
+  kind-refused n e = ap (λ (a : Answer Kind). andThen a (maskedBy mask)) e
 
 -- ---- width and place alone
 

@@ -1,5 +1,6 @@
--- A kind told by numbers: depth, form, size, order and mask form (document 01, The array). Form 0 is fixed and 1 ragged; size is the
--- cell size or the index width; order 0 is little or start, 1 big or end; 0 is the only mask form. A number outside its range is refusal 1.
+-- A kind told by numbers: depth, form, size, order and mask form (document 01, The array; document 02, request 1). Form 0 is fixed and 1
+-- ragged; size is the cell size or the index width; order 0 is little or start, 1 big or end; mask form 0 is bytes and 1 packed. A number
+-- outside its range is refusal 1.
 -- Assumes nothing.
 use Prim.Native.Nat.{ℕ, zero, suc}
 use lib.Dec.{leb, eqb}
@@ -7,7 +8,7 @@ use Rattle.valid.specs.declared.numbers.KindRead as declared
 use Rattle.valid.specs.declared.numbers.IndexRead as index
 use Rattle.array.specs.Answer.{Answer, gives, refuses, andThen, unless, mapAnswer}
 use Rattle.array.specs.Limits.{mostDepth}
-use Rattle.array.specs.Kind.{Kind, Form, fixed, ragged, byteKind, little, big, atStart, atEnd, formTest}
+use Rattle.array.specs.Kind.{Kind, Form, fixed, ragged, byteKind, asBits, little, big, atStart, atEnd, formTest}
 use Rattle.array.specs.Meaning.{kindOf, widthOf, placeOf}
 
 -- the first of two is number 0, the second number 1
@@ -29,11 +30,15 @@ formNumbered form size order = andThen (oneOf (fixedOf size order) (raggedOf siz
 abbrev pub kindWith : ℕ → Form → Answer Kind
 kindWith depth f = unless (formTest f) 1 (gives (byteKind depth f))
 
+abbrev pub numberedByteKind : ℕ → ℕ → ℕ → ℕ → Answer Kind
+numberedByteKind depth form size order = unless (leb depth mostDepth) 1 (andThen (formNumbered form size order) (kindWith depth))
+
+-- the kind as it is, or with its stored masks packed
+abbrev pub maskedBy : ℕ → Kind → Answer Kind
+maskedBy mask k = oneOf k (record { depth = k .depth; masks = asBits; form = k .form }) mask
+
 unfoldable pub numberedKind : ℕ → ℕ → ℕ → ℕ → ℕ → Answer Kind
-numberedKind depth form size order mask =
-    unless (leb depth mostDepth) 1
-    (unless (eqb mask 0) 1
-    (andThen (formNumbered form size order) (kindWith depth)))
+numberedKind depth form size order mask = andThen (numberedByteKind depth form size order) (maskedBy mask)
 
 -- what the declared answer means
 abbrev pub toldKind : declared.KindRead → Answer Kind

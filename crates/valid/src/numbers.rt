@@ -9,8 +9,8 @@ use array::kind::Kind;
 use array::refusal;
 ghost use mathlib.Core.Path.{_≡_};
 ghost use Rattle.array.specs.Answer.{andThen};
-ghost use Rattle.array.specs.Meaning.{widthOf};
-ghost use Rattle.valid.specs.Numbers.{fixedOf, raggedOf, kindWith, toldKind, numberedKind, toldForm, numberedIndex};
+ghost use Rattle.array.specs.Meaning.{kindOf, widthOf};
+ghost use Rattle.valid.specs.Numbers.{fixedOf, raggedOf, kindWith, maskedBy, toldKind, numberedByteKind, numberedKind, toldForm, numberedIndex};
 
 // What numbers say: a kind, or the number of the refusal.
 pub enum KindRead {
@@ -19,14 +19,32 @@ pub enum KindRead {
 }
 
 // The kind that the numbers say: form 0 fixed or 1 ragged; cell size or index width; order 0 little or start, 1 big or end;
-// 0 for masks of one byte a cell, the only mask form.
+// masks 0 a byte a cell, 1 packed.
 pub fn kind_from_numbers(depth: u64, form: u64, size: u64, order: u64, mask: u64) -> KindRead
     ensures { λ r. ⌜ toldKind r ≡ numberedKind depth form size order mask ⌝ }
 {
-    if depth > MOST_DEPTH as u64 {
-        return KindRead::Refused(refusal::KIND);
+    match byte_kind_from_numbers(depth, form, size, order) {
+        KindRead::Refused(e) => KindRead::Refused(e),
+        KindRead::Kind(kind) => masked_from_number(kind, mask),
     }
-    if mask != 0 {
+}
+
+// The kind as it is, or packed.
+pub fn masked_from_number(kind: Kind, mask: u64) -> KindRead
+    ensures { λ r. ⌜ toldKind r ≡ maskedBy mask (kindOf kind) ⌝ }
+{
+    match mask {
+        0 => KindRead::Kind(kind),
+        1 => KindRead::Kind(kind::packed(kind)),
+        _ => KindRead::Refused(refusal::KIND),
+    }
+}
+
+// Masks of one byte a cell.
+fn byte_kind_from_numbers(depth: u64, form: u64, size: u64, order: u64) -> KindRead
+    ensures { λ r. ⌜ toldKind r ≡ numberedByteKind depth form size order ⌝ }
+{
+    if depth > MOST_DEPTH as u64 {
         return KindRead::Refused(refusal::KIND);
     }
     match form {

@@ -16,20 +16,42 @@ use borrow.Author.Needs.{needs}
 use Rattle.encode.proofs.encode.Statement.{statement}
 use Rattle.encode.proofs.encode.Tie as tie
 
-sound : (c : tie.Else1) → kindTest (kindOf (c .before .before .before .before .before .before .before .args .kind)) ≡ true
+abbrev start : tie.After-check-kind → tie.Start
+start k = let c = k .before .before .before in c .before .before .before
+
+-- the kind is sound; the shape's cells are known; the array is checked
+abbrev kind-sound : tie.Else1 → tie.Start
+kind-sound c = start (c .before)
+
+abbrev shaped : tie.After-shape-cells → tie.Start
+shaped c = kind-sound (c .before)
+
+abbrev cells : tie.After-cells → tie.After-shape-cells
+cells c = c .before .before
+
+abbrev cells-of : tie.After-check-array → tie.After-cells
+cells-of c = c .before .before
+
+abbrev checked : tie.After-check-array → tie.Start
+checked c = shaped (cells (cells-of c))
+
+abbrev held : tie.Start → Content
+held s = contentArray (s .args .masks .now) (s .args .values .now) (s .args .offsets .now)
+
+sound : (c : tie.Else1) → kindTest (kindOf (kind-sound c .args .kind)) ≡ true
 sound c = sym (c .before .check-kind .ensures) ∙ not-false (c .before .check-kind .result) (c .if1 .left)
 
-shaped : (c : tie.After-cells) → gives (c .cells .given .0 .0) ≡ shapeAnswer (c .before .before .before .before .before .before .before .before .before .before .args .shape .now)
-shaped c = sym (ap toldCells (c .cells .given .1)) ∙ c .before .before .shape-cells .ensures
+shape-is : (c : tie.After-cells) → gives (c .cells .given .0 .0) ≡ shapeAnswer (shaped (cells c) .args .shape .now)
+shape-is c = sym (ap toldCells (c .cells .given .1)) ∙ cells c .shape-cells .ensures
 
 check-kind-requires : tie.Need-check-kind-requires
 check-kind-requires c κs = search needs
 
 returns : tie.Need-returns
 returns c =
-    let a = c .before .before .before .before .before .before .before .args in
-    let v : Content = contentArray (a .masks .now) (a .values .now) (a .offsets .now) in
-    encode-kind (kindOf (a .kind)) (a .shape .now) v (a .out .now) (sym (c .before .check-kind .ensures) ∙ not-true (c .before .check-kind .result) (c .if1 .taken))
+    let k = c .before .check-kind in
+    let s = start (c .before) in
+    encode-kind (kindOf (s .args .kind)) (s .args .shape .now) (held s) (s .args .out .now) (sym (k .ensures) ∙ not-true (k .result) (c .if1 .taken))
 
 shape-cells-requires : tie.Need-shape-cells-requires
 shape-cells-requires c κs = search needs
@@ -42,13 +64,13 @@ enum-told c = search needs
 
 returns-2 : tie.Need-returns-2
 returns-2 c =
-    let a = c .before .before .before .before .before .before .before .before .before .before .args in
-    let v : Content = contentArray (a .masks .now) (a .values .now) (a .offsets .now) in
-    encode-shape (kindOf (a .kind)) (a .shape .now) v (a .out .now) (sound (c .before .before .before)) (sym (ap toldCells (c .enum-told .given .1)) ∙ c .before .before .shape-cells .ensures)
+    let n = c .before .before in
+    let s = shaped n in
+    encode-shape (kindOf (s .args .kind)) (s .args .shape .now) (held s) (s .args .out .now) (sound (n .before)) (sym (ap toldCells (c .enum-told .given .1)) ∙ n .shape-cells .ensures)
 
 check-array-requires : tie.Need-check-array-requires
 unfolding mostCells
-check-array-requires c κs = counted (c .before .before .before .before .before .before .before .before .before .before .before .args .shape .now) (c .before .cells .given .0 .0) (shaped (c .before)) .few
+check-array-requires c κs = let n = c .before in counted (shaped (cells n) .args .shape .now) (n .cells .given .0 .0) (shape-is n) .few
 
 enum-known-checked : tie.Need-enum-known-checked
 enum-known-checked c = search needs
@@ -58,24 +80,32 @@ enum-told-2 c = search needs
 
 encode-valid-requires : tie.Need-encode-valid-requires
 encode-valid-requires c κs =
-    let a = c .before .before .before .before .before .before .before .before .before .before .before .before .before .before .before .args in
-    let v : Content = contentArray (a .masks .now) (a .values .now) (a .offsets .now) in
-    encode-encodable (kindOf (a .kind)) (a .shape .now) v (a .out .now) (sound (c .before .before .before .before .before .before .before .before)) (shaped (c .before .before .before .before .before)) (c .before .before .before .check-array .result) (c .before .before .before .check-array .ensures) (c .before .enum-told2 .given .1)
+    let v = c .before .before .before in
+    let n = cells-of v in
+    let s = checked v in
+    encode-encodable (kindOf (s .args .kind)) (s .args .shape .now) (held s) (s .args .out .now) (sound (cells n .before)) (shape-is n) (v .check-array .result) (v .check-array .ensures)
+    (c .before .enum-told2 .given .1)
 
 returns-3 : tie.Need-returns-3
 returns-3 c =
-    let a = c .before .before .before .before .before .before .before .before .before .before .before .before .before .before .before .args in
-    let v : Content = contentArray (a .masks .now) (a .values .now) (a .offsets .now) in
-    encode-content (kindOf (a .kind)) (a .shape .now) v (a .out .now) (sound (c .before .before .before .before .before .before .before .before)) (shaped (c .before .before .before .before .before)) (c .before .before .before .check-array .result) (c .before .before .before .check-array .ensures) (c .before .checked .given .1)
+    let v = c .before .before .before in
+    let n = cells-of v in
+    let s = checked v in
+    encode-content (kindOf (s .args .kind)) (s .args .shape .now) (held s) (s .args .out .now) (sound (cells n .before)) (shape-is n) (v .check-array .result) (v .check-array .ensures)
+    (c .before .checked .given .1)
 
 same-length : tie.Need-same-length
 same-length c = search needs
 
 returns-4 : tie.Need-returns-4
 returns-4 c =
-    let a = c .before .before .before .before .before .before .before .before .before .before .before .before .before .before .before .before .before .before .args in
-    let v : Content = contentArray (a .masks .now) (a .values .now) (a .offsets .now) in
-    c .before .before .encode-valid .ensures ∙ encode-rest (kindOf (a .kind)) (a .shape .now) v (a .out .now) (sound (c .before .before .before .before .before .before .before .before .before .before .before)) (shaped (c .before .before .before .before .before .before .before .before)) (c .before .before .before .before .before .before .check-array .result) (c .before .before .before .before .before .before .check-array .ensures) (c .before .before .before .before .enum-told2 .given .1)
+    let e = c .before .before .before .before in
+    let v = e .before .before in
+    let n = cells-of v in
+    let s = checked v in
+    c .before .before .encode-valid .ensures
+    ∙ encode-rest (kindOf (s .args .kind)) (s .args .shape .now) (held s) (s .args .out .now) (sound (cells n .before)) (shape-is n) (v .check-array .result) (v .check-array .ensures)
+    (e .enum-told2 .given .1)
 
 pub encode-spec : {M : Type 1} → statement M
 encode-spec =

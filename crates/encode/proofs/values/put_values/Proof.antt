@@ -3,15 +3,38 @@
 use mathlib.Core.Path.{ap}
 use native.Mathlib.Omega.{arith}
 use lib.ListN.{length}
-use Rattle.array.specs.Meaning.{formOf}
+use Rattle.array.specs.Content.{Content}
+use Rattle.array.specs.Meaning.{kindOf}
 use Rattle.array.specs.Outcome.{contentArray}
 use Rattle.gather.proofs.Placing.{laid-as}
 use Rattle.encode.specs.Stored.{valuesFrom}
 use Rattle.encode.proofs.Framing.{told-as}
-use Rattle.encode.proofs.Forms.{ready-planes, fixed-source, fixed-writes, fixed-wrote, offsets-fit, offsets-end, ragged-writes}
+use Rattle.encode.proofs.Forms.{encodable-planes, fixed-source, fixed-writes, fixed-wrote, offsets-fit, offsets-end, ragged-writes}
 use borrow.Author.Needs.{needs}
 use Rattle.encode.proofs.values.put_values.Statement.{statement}
 use Rattle.encode.proofs.values.put_values.Tie as tie
+
+abbrev start : tie.After-struct-known → tie.Start
+start c = let k = c .before .before .before in k .before .before
+
+-- the form is known
+abbrev of-fixed : tie.After-form → tie.Start
+of-fixed f = start (f .before .before)
+
+abbrev of-ragged : tie.After-form2 → tie.Start
+of-ragged f = start (f .before .before)
+
+abbrev fixed-form : tie.After-put-live-arg → tie.After-form
+fixed-form c = c .before .before
+
+abbrev ragged-form : tie.After-put-ragged-arg → tie.After-form2
+ragged-form c = c .before .before
+
+abbrev held : tie.Start → Content
+held s = contentArray (s .args .masks .now) (s .args .values .now) (s .args .offsets .now)
+
+cast-level : tie.Need-cast-level
+cast-level c = search needs
 
 enum-known-form : tie.Need-enum-known-form
 enum-known-form c = search needs
@@ -21,25 +44,32 @@ cast-k c = search needs
 
 put-live-requires : tie.Need-put-live-requires
 put-live-requires c κs =
-    let a = c .before .before .before .before .before .before .before .before .args in
-    let r = c .before .before .before .before .before .before .before .before .pre .1 .0 in
-    (ready-planes r, c .before .before .before .before .before .before .before .before .pre .0, fixed-source (a .form) r (c .before .before .form .given .1), omega (arith, c .before .before .before .before .before .before .before .before .pre .1 .1, ap length (fixed-writes (a .form) r (c .before .before .form .given .1))))
+    let f = fixed-form c in
+    let s = of-fixed f in
+    let k = s .args .kind in
+    let r = s .pre .1 .0 in
+    (encodable-planes r, s .pre .0, fixed-source k r (f .form .given .1), omega (arith, s .pre .1 .1, ap length (fixed-writes k r (f .form .given .1))))
 
 mul-result : tie.Need-mul-result
-mul-result c = let a = c .before .before .before .before .before .before .before .before .before .before .before .args in omega (arith, c .before .before .before .before .before .before .before .before .before .before .before .pre .1 .1, fixed-wrote (a .form) (c .before .before .before .before .before .before .before .before .before .before .before .pre .1 .0) (c .before .before .before .before .before .form .given .1) (c .before .before .before .before .before .before .before .before .before .before .before .pre .0))
+mul-result c =
+    let f = fixed-form (c .before .before .before) in
+    let s = of-fixed f in
+    omega (arith, s .pre .1 .1, fixed-wrote (s .args .kind) (s .pre .1 .0) (f .form .given .1) (s .pre .0))
 
 enum-known-form-2 : tie.Need-enum-known-form-2
 enum-known-form-2 c = search needs
 
 put-ragged-requires : tie.Need-put-ragged-requires
 put-ragged-requires c κs =
-    let a = c .before .before .before .before .before .before .before .before .args in
-    let r = c .before .before .before .before .before .before .before .before .pre .1 .0 in (
-      ready-planes r,
-      c .before .before .before .before .before .before .before .before .pre .0,
-      offsets-fit (a .form) r (c .before .before .form2 .given .1),
-      offsets-end (a .form) r (c .before .before .form2 .given .1),
-      omega (arith, c .before .before .before .before .before .before .before .before .pre .1 .1, ap length (ragged-writes (a .form) r (c .before .before .form2 .given .1))),
+    let f = ragged-form c in
+    let s = of-ragged f in
+    let k = s .args .kind in
+    let r = s .pre .1 .0 in (
+      encodable-planes r,
+      s .pre .0,
+      offsets-fit k r (f .form2 .given .1),
+      offsets-end k r (f .form2 .given .1),
+      omega (arith, s .pre .1 .1, ap length (ragged-writes k r (f .form2 .given .1))),
     )
 
 same-length : tie.Need-same-length
@@ -47,24 +77,27 @@ same-length c = search needs
 
 returns : tie.Need-returns
 returns c =
-    let a = c .before .before .before .before .before .before .before .before .before .before .before .args in (
-      fixed-wrote (a .form) (c .before .before .before .before .before .before .before .before .before .before .before .pre .1 .0) (c .before .before .before .before .before .form .given .1) (c .before .before .before .before .before .before .before .before .before .before .before .pre .0),
-      laid-as (a .at) (a .out .now) (c .before .before .put-live .ensures) (fixed-writes (a .form) (c .before .before .before .before .before .before .before .before .before .before .before .pre .1 .0) (c .before .before .before .before .before .form .given .1)),
-    )
+    let f = fixed-form (c .before .before .before) in
+    let s = of-fixed f in
+    let a = s .args in
+    let r = s .pre .1 .0 in
+    (fixed-wrote (a .kind) r (f .form .given .1) (s .pre .0), laid-as (a .at) (a .out .now) (c .before .before .put-live .ensures) (fixed-writes (a .kind) r (f .form .given .1)))
 
 same-length-2 : tie.Need-same-length-2
 same-length-2 c = search needs
 
 returns-2 : tie.Need-returns-2
 returns-2 c =
-    let a = c .before .before .before .before .before .before .before .before .before .before .before .args in
-    let e = ragged-writes (a .form) (c .before .before .before .before .before .before .before .before .before .before .before .pre .1 .0) (c .before .before .before .before .before .form2 .given .1) in
-    told-as _ (valuesFrom (formOf (a .form)) (a .cells) (contentArray (a .masks .now) (a .values .now) (a .offsets .now)) (a .level)) (a .at) (a .out .now) (c .before .before .put-ragged .ensures) e
+    let f = ragged-form (c .before .before .before) in
+    let s = of-ragged f in
+    let a = s .args in
+    told-as _ (valuesFrom (kindOf (a .kind)) (a .cells) (held s)) (a .at) (a .out .now) (c .before .before .put-ragged .ensures) (ragged-writes (a .kind) (s .pre .1 .0) (f .form2 .given .1))
 
 pub put-values-spec : {M : Type 1} → statement M
 put-values-spec =
     tie.close
     (tie.spec
+    cast-level
     enum-known-form
     cast-k
     put-live-requires

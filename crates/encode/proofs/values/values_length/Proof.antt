@@ -1,11 +1,33 @@
 -- `encode::values::values_length` meets its contract: a case for each form.
 -- Assumes nothing.
-use native.Mathlib.Omega.{arith}
 use mathlib.Core.Path.{refl}
+use Prim.Native.Nat.{_+_, _*_, _≤_}
+use native.Mathlib.Omega.{arith}
 use Rattle.encode.proofs.Forms.{measured-planes, count-small, fixed-length, fixed-small, ragged-offsets, ragged-length, ragged-small}
 use borrow.Author.Needs.{needs}
 use Rattle.encode.proofs.values.values_length.Statement.{statement}
 use Rattle.encode.proofs.values.values_length.Tie as tie
+
+abbrev start : tie.After-struct-known → tie.Start
+start c = c .before .before .before
+
+-- the form is known
+abbrev of-fixed : tie.After-form → tie.Start
+of-fixed f = start (f .before .before)
+
+abbrev of-ragged : tie.After-form2 → tie.Start
+of-ragged f = start (f .before .before)
+
+abbrev form : tie.After-width-bytes → tie.After-form2
+form w = w .before .before
+
+index-small : (w : tie.After-width-bytes) → 8 + w .width-bytes .result * (of-ragged (form w) .args .count + 1) ≤ 17301520
+index-small w =
+    let s = of-ragged (form w) in
+    omega (arith, ragged-small (s .args .kind) (s .pre .1) (s .pre .0) (form w .form2 .given .1) (w .width-bytes .ensures) refl)
+
+cast-level : tie.Need-cast-level
+cast-level c = search needs
 
 enum-known-form : tie.Need-enum-known-form
 enum-known-form c = search needs
@@ -14,7 +36,7 @@ cast-result : tie.Need-cast-result
 cast-result c = search needs
 
 mul-result : tie.Need-mul-result
-mul-result c = let a = c .before .before .before .before .before .args in omega (arith, fixed-small (a .form) (c .before .before .before .before .before .pre .1) (c .before .before .before .before .before .pre .0) (c .before .form .given .1))
+mul-result c = let s = of-fixed (c .before) in omega (arith, fixed-small (s .args .kind) (s .pre .1) (s .pre .0) (c .before .form .given .1))
 
 enum-known-form-2 : tie.Need-enum-known-form-2
 enum-known-form-2 c = search needs
@@ -23,30 +45,39 @@ width-bytes-requires : tie.Need-width-bytes-requires
 width-bytes-requires c κs = search needs
 
 add-index : tie.Need-add-index
-add-index c = let a = c .before .before .before .before .before .before .args in omega (arith, count-small (a .form) (c .before .before .before .before .before .before .pre .1) (c .before .before .before .before .before .before .pre .0))
+add-index c = let s = of-ragged (form c) in omega (arith, count-small (s .args .kind) (s .pre .1) (s .pre .0))
 
 mul-index : tie.Need-mul-index
-mul-index c = let a = c .before .before .before .before .before .before .args in omega (arith, ragged-small (a .form) (c .before .before .before .before .before .before .pre .1) (c .before .before .before .before .before .before .pre .0) (c .before .before .form2 .given .1) (c .width-bytes .ensures) refl)
+mul-index c = omega (arith, index-small c)
 
 add-result : tie.Need-add-result
-add-result c = let a = c .before .before .before .before .before .before .args in omega (arith, ragged-small (a .form) (c .before .before .before .before .before .before .pre .1) (c .before .before .before .before .before .before .pre .0) (c .before .before .form2 .given .1) (c .width-bytes .ensures) refl)
+add-result c = omega (arith, index-small c)
 
 live-bytes-requires : tie.Need-live-bytes-requires
-live-bytes-requires c κs = let a = c .before .before .before .before .before .before .args in (measured-planes (c .before .before .before .before .before .before .pre .1), ragged-offsets (a .form) (c .before .before .before .before .before .before .pre .1) (c .before .before .before .before .before .before .pre .0) (c .before .before .form2 .given .1))
+live-bytes-requires c κs =
+    let s = of-ragged (form c) in
+    (measured-planes (s .pre .1), ragged-offsets (s .args .kind) (s .pre .1) (s .pre .0) (form c .form2 .given .1))
 
 add-result-2 : tie.Need-add-result-2
-add-result-2 c = let a = c .before .before .before .before .before .before .before .args in omega (arith, ragged-small (a .form) (c .before .before .before .before .before .before .before .pre .1) (c .before .before .before .before .before .before .before .pre .0) (c .before .before .before .form2 .given .1) (c .before .width-bytes .ensures) (c .live-bytes .ensures))
+add-result-2 c =
+    let w = c .before in
+    let s = of-ragged (form w) in
+    omega (arith, ragged-small (s .args .kind) (s .pre .1) (s .pre .0) (form w .form2 .given .1) (w .width-bytes .ensures) (c .live-bytes .ensures))
 
 returns : tie.Need-returns
-returns c = fixed-length (c .before .before .before .before .before .args .form) (c .before .before .before .before .before .pre .1) (c .before .before .before .before .before .pre .0) (c .before .form .given .1)
+returns c = let s = of-fixed (c .before) in fixed-length (s .args .kind) (s .pre .1) (s .pre .0) (c .before .form .given .1)
 
 returns-2 : tie.Need-returns-2
-returns-2 c = ragged-length (c .before .before .before .before .before .before .before .args .form) (c .before .before .before .before .before .before .before .pre .1) (c .before .before .before .before .before .before .before .pre .0) (c .before .before .before .form2 .given .1) (c .before .width-bytes .ensures) (c .live-bytes .ensures)
+returns-2 c =
+    let w = c .before in
+    let s = of-ragged (form w) in
+    ragged-length (s .args .kind) (s .pre .1) (s .pre .0) (form w .form2 .given .1) (w .width-bytes .ensures) (c .live-bytes .ensures)
 
 pub values-length-spec : {M : Type 1} → statement M
 values-length-spec =
     tie.close
     (tie.spec
+    cast-level
     enum-known-form
     cast-result
     mul-result

@@ -1,76 +1,126 @@
--- `gather::cells::put_live_mask` meets its contract: by the laws of Packing.
+-- `gather::cells::put_live_mask` meets its contract: by the laws of Blocks.
 -- Assumes nothing.
 use borrow.Author.Needs.{needs}
-use mathlib.Core.Path.{_≡_, ap}
-use Prim.Native.Nat.{ℕ, _<_, _+_, _-_}
+use mathlib.Core.Path.{_≡_, refl, sym, _∙_}
+use Prim.Native.Nat.{ℕ, _+_, _-_, _%_, _<_, _≤_}
 use native.Mathlib.Omega.{arith}
 use lib.ListN.{length}
 use Rattle.array.specs.Limits.{mostCells}
+use Rattle.array.specs.Meaning.{masksOf}
 use Rattle.gather.specs.Live.{liveAt}
 use Rattle.gather.proofs.Runs.{live-le}
-use Rattle.gather.proofs.LiveMarks.{mark-le}
-use Rattle.gather.proofs.Packing.{MaskPacking, packing-same, packing-cell, mask-plane, mask-planes, masks-begin, masks-room, masks-more, masks-end}
+use Rattle.gather.proofs.Blocks.{Blocks, blocks-begin, blocks-same, blocks-end, block-fits, block-room, blocks-more}
 use Rattle.gather.proofs.cells.put_live_mask.Statement.{statement}
 use Rattle.gather.proofs.cells.put_live_mask.Tie as tie
 
 abbrev Inv-loop : tie.InvT-loop
-Inv-loop out₀ to masks cells level count at i₀ done₀ out i done = MaskPacking cells masks level out₀ to out i done
+Inv-loop form out₀ to masks cells level count block₀ i₀ done₀ out block i done = (length block ≡ 256) × Blocks (masksOf form) cells masks level out₀ to out i done
 
 abbrev μ-loop : tie.MeasureT-loop
-μ-loop out₀ to masks cells level count at i₀ done₀ out i done = cells - i
+μ-loop form out₀ to masks cells level count block₀ i₀ done₀ out block i done = count - done
 
-same : (c : tie.At-loop Inv-loop μ-loop) → length (c .loop .out) ≡ length (c .before .before .before .args .out .now)
-same c = packing-same (c .loop .inv)
+abbrev Start : Type 0
+Start = tie.Start Inv-loop μ-loop
 
-more : (c : tie.In-loop Inv-loop μ-loop) → c .before .loop .done < length (liveAt (c .before .before .before .before .args .cells) (c .before .before .before .before .args .masks .now) (c .before .before .before .before .args .level))
-more c = omega (arith, c .loop-test .taken, c .before .before .before .before .pre .1)
+abbrev Loop : Type 0
+Loop = tie.At-loop Inv-loop μ-loop
 
-cell : (c : tie.In-loop Inv-loop μ-loop) → c .before .loop .i < c .before .before .before .before .args .cells
-cell c = packing-cell (c .before .loop .inv) (more c)
+-- the next block's cells are counted; they are gathered
+abbrev Counted : Type 0
+Counted = tie.After-block-cells Inv-loop μ-loop
 
-room : (c : tie.In-loop Inv-loop μ-loop) → c .before .before .before .before .args .to + c .before .loop .done < length (c .before .loop .out)
-room c = let a = c .before .before .before .before .args in masks-room (a .cells) (a .masks .now) (a .level) (c .before .loop .inv) (more c)
+abbrev Filled : Type 0
+Filled = tie.After-gather-masks Inv-loop μ-loop
 
-mul-at : tie.Need-mul-at Inv-loop μ-loop
-mul-at c = let a = c .before .before .args in omega (arith, mask-plane (a .level) (c .before .before .pre .0))
+abbrev start : Loop → Start
+start l = l .before .before .before
+
+abbrev loop : Counted → Loop
+loop k = k .before .before
+
+abbrev counted : Filled → Counted
+counted g = g .before .before
+
+abbrev filled : tie.After-block3 Inv-loop μ-loop → Filled
+filled c = c .before .before .before .before
+
+abbrev stored : tie.After-slice-known2 Inv-loop μ-loop → tie.After-block3 Inv-loop μ-loop
+stored c = c .before .before .before
+
+some : (k : Counted) → 1 ≤ k .block-cells .result
+some k = omega (arith, k .block-cells .ensures, k .before .loop-test .taken)
+
+abbrev all : Start → ℕ
+all s = length (liveAt (s .args .cells) (s .args .masks .now) (s .args .level))
+
+fits : (k : Counted) → loop k .loop .done + k .block-cells .result ≤ all (start (loop k))
+fits k = omega (arith, k .block-cells .ensures, k .before .loop-test .taken, start (loop k) .pre .1)
+
+eights : (k : Counted) → loop k .loop .done + k .block-cells .result < all (start (loop k)) → k .block-cells .result % 8 ≡ 0
+eights k h = omega (arith, k .block-cells .ensures, k .before .loop-test .taken, start (loop k) .pre .1)
+
+long : (g : Filled) → length (g .gather-masks .last .0) ≡ 256
+long g = g .gather-masks .kept .0 ∙ loop (counted g) .loop .inv .0
 
 loop-holds : tie.Need-loop-holds Inv-loop μ-loop
-loop-holds c = let a = c .before .before .args in masks-begin (a .cells) (a .masks .now) (a .level) (c .before .before .pre .1) (c .before .before .pre .2)
+loop-holds c = (refl, blocks-begin (c .before .before .pre .1) (c .before .before .pre .2))
 
-add-put-byte : tie.Need-add-put-byte Inv-loop μ-loop
-add-put-byte c = let a = c .before .before .before .before .before .args in omega (arith, mask-plane (a .level) (c .before .before .before .before .before .pre .0), (cell (c .before)))
+sub-block-cells : tie.Need-sub-block-cells Inv-loop μ-loop
+sub-block-cells c = omega (arith, c .loop-test .taken)
 
-shared-slice-read-put-byte : tie.Need-shared-slice-read-put-byte Inv-loop μ-loop
-shared-slice-read-put-byte c = let a = c .before .before .before .before .before .before .args in omega (arith, mask-plane (a .level) (c .before .before .before .before .before .before .pre .0), (cell (c .before .before)))
+block-cells-requires : tie.Need-block-cells-requires Inv-loop μ-loop
+block-cells-requires c κs = search needs
 
-put-byte-requires : tie.Need-put-byte-requires Inv-loop μ-loop
-put-byte-requires c κs = omega (arith, (room (c .before .before)))
+slice-aggregate-gather-masks : tie.Need-slice-aggregate-gather-masks Inv-loop μ-loop
+slice-aggregate-gather-masks c = sym (loop (c .before) .loop .inv .0)
 
-live-mark-requires : tie.Need-live-mark-requires Inv-loop μ-loop
-live-mark-requires c κs = let a = c .before .before .before .before .before .before .before .before .before .args in omega (arith, (cell (c .before .before .before .before .before)), mask-planes (a .level) (c .before .before .before .before .before .before .before .before .before .pre .0) .shallow, mask-planes (a .level) (c .before .before .before .before .before .before .before .before .before .pre .0) .planes)
+gather-masks-requires : tie.Need-gather-masks-requires Inv-loop μ-loop
+gather-masks-requires c κs =
+    let k = c .before in
+    let l = loop k in
+    (start l .pre .0, block-fits (l .loop .inv .1) (some k) (fits k) (eights k), omega (arith, k .block-cells .ensures, l .loop .inv .0))
 
-cast-done : tie.Need-cast-done Inv-loop μ-loop
-cast-done c = search needs
+mask-length-requires : tie.Need-mask-length-requires Inv-loop μ-loop
+mask-length-requires c κs = search needs
+
+add-put-plane : tie.Need-add-put-plane Inv-loop μ-loop
+add-put-plane c =
+    let g = c .before .before .before in
+    let k = counted g in
+    omega (arith, c .mask-length .ensures, block-room (loop k .loop .inv .1) (some k) (fits k) (eights k) (g .gather-masks .ensures))
+
+slice-aggregate-put-plane : tie.Need-slice-aggregate-put-plane Inv-loop μ-loop
+slice-aggregate-put-plane c = sym (long (filled c))
+
+put-plane-requires : tie.Need-put-plane-requires Inv-loop μ-loop
+put-plane-requires c κs =
+    let g = filled c in
+    let k = counted g in
+    (omega (arith, c .before .mask-length .ensures, block-room (loop k .loop .inv .1) (some k) (fits k) (eights k) (g .gather-masks .ensures)), omega (arith, long g, k .block-cells .ensures))
 
 add-done : tie.Need-add-done Inv-loop μ-loop
 unfolding mostCells
-add-done c = let a = c .before .before .before .before .before .before .before .before .before .before .args in omega (arith, (more (c .before .before .before .before .before .before)), live-le (a .cells) (a .masks .now) (a .level), c .before .before .before .before .before .before .before .before .before .before .pre .0 .few, mark-le (a .cells) (a .masks .now) (c .before .before .before .before .before .before .before .loop .i) (a .level) (c .live-mark .ensures))
-
-add-i : tie.Need-add-i Inv-loop μ-loop
-unfolding mostCells
-add-i c = omega (arith, (cell (c .before .before .before .before .before .before)), c .before .before .before .before .before .before .before .before .before .before .pre .0 .few)
+add-done c =
+    let k = counted (filled (stored c)) in
+    let s = start (loop k) in
+    omega (arith, k .block-cells .ensures, k .before .loop-test .taken, s .pre .1, s .pre .0 .few, live-le (s .args .cells) (s .args .masks .now) (s .args .level))
 
 loop-less : tie.Need-loop-less Inv-loop μ-loop
-loop-less c = omega (arith, (cell (c .before .before .before .before .before .before)))
+loop-less c =
+    let k = counted (filled (stored c)) in
+    omega (arith, some k, k .before .loop-test .taken)
 
 loop-again : tie.Need-loop-again Inv-loop μ-loop
-loop-again c = let a = c .before .before .before .before .before .before .before .before .before .before .args in masks-more (a .cells) (a .masks .now) (a .level) (c .before .before .before .before .before .before .before .loop .inv) (more (c .before .before .before .before .before .before)) (c .before .before .before .put-byte .ensures) (ap (λ (m : ℕ). c .before .before .before .before .before .before .before .loop .done + m) (c .live-mark .ensures))
+loop-again c =
+    let g = filled (stored c) in
+    let k = counted g in
+    (long g, blocks-more (loop k .loop .inv .1) (some k) (fits k) (eights k) (g .gather-masks .ensures) (stored c .before .mask-length .ensures) (c .before .before .put-plane .ensures))
 
 same-length : tie.Need-same-length Inv-loop μ-loop
-same-length c = (same (c .before))
+same-length c = blocks-same (c .before .loop .inv .1)
 
 returns : tie.Need-returns Inv-loop μ-loop
-returns c = let a = c .before .before .before .before .args in masks-end (a .cells) (a .masks .now) (a .level) (c .before .loop .inv) (omega (arith, c .loop-test .left, c .before .before .before .before .pre .1))
+returns c = blocks-end (c .before .loop .inv .1) (omega (arith, c .loop-test .left, start (c .before) .pre .1))
 
 pub put-live-mask-spec : {M : Type 1} → statement M
 put-live-mask-spec =
@@ -78,15 +128,16 @@ put-live-mask-spec =
     (tie.spec
     Inv-loop
     μ-loop
-    mul-at
     loop-holds
-    add-put-byte
-    shared-slice-read-put-byte
-    put-byte-requires
-    live-mark-requires
-    cast-done
+    sub-block-cells
+    block-cells-requires
+    slice-aggregate-gather-masks
+    gather-masks-requires
+    mask-length-requires
+    add-put-plane
+    slice-aggregate-put-plane
+    put-plane-requires
     add-done
-    add-i
     loop-less
     loop-again
     same-length

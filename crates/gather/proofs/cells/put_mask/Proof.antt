@@ -1,47 +1,57 @@
 -- `gather::cells::put_mask` meets its contract: where every cell is counted, the mask is the plane; each level has the loop of its own.
 -- Assumes nothing.
 use mathlib.Core.Path.{_≡_, sym, ap, _∙_, subst}
-use mathlib.Core.List.{List, map}
+use mathlib.Core.List.{List}
 use Prim.Native.Nat.{ℕ, _+_, _≤_}
 use native.Mathlib.Omega.{arith}
 use lib.ListN.{length}
 use borrow.Author.Needs.{needs}
 use Rattle.array.specs.Buffers.{overAt}
-use Rattle.codec.specs.Mask.{byteMask}
-use Rattle.gather.specs.Live.{maskAt, liveAt, Planes}
+use Rattle.array.specs.Meaning.{masksOf}
+use Rattle.codec.specs.Mask.{maskForm}
+use Rattle.gather.specs.Live.{liveAt, liveMask, Planes}
 use Rattle.gather.proofs.Placing.{laid-as}
 use Rattle.gather.proofs.Packing.{mask-plane, mask-all}
 use Rattle.gather.proofs.cells.put_mask.Statement.{statement}
 use Rattle.gather.proofs.cells.put_mask.Tie as tie
 
-asked : (c : tie.Start) (l : ℕ) → c .args .level ≡ l
-    → Planes (c .args .cells) (c .args .masks .now) (l + 1) × (c .args .count ≡ length (liveAt (c .args .cells) (c .args .masks .now) l))
-    × (c .args .to + byteMask .size (c .args .count) ≤ length (c .args .out .now))
-asked c l e =
-    (subst (λ (k : ℕ). Planes (c .args .cells) (c .args .masks .now) (k + 1)) e (c .pre .0), c .pre .1 ∙ ap (λ (k : ℕ). length (liveAt (c .args .cells) (c .args .masks .now) k)) e, c .pre .2)
+-- what the loop of level l asks, and gives
+asked : (s : tie.Start) (l : ℕ) → s .args .level ≡ l
+    → Planes (s .args .cells) (s .args .masks .now) (l + 1) × (s .args .count ≡ length (liveAt (s .args .cells) (s .args .masks .now) l))
+    × (s .args .to + maskForm (masksOf (s .args .form)) .size (s .args .count) ≤ length (s .args .out .now))
+asked s l e =
+    let a = s .args in
+    (subst (λ (k : ℕ). Planes (a .cells) (a .masks .now) (k + 1)) e (s .pre .0), s .pre .1 ∙ ap (λ (k : ℕ). length (liveAt (a .cells) (a .masks .now) k)) e, s .pre .2)
 
--- the mask that the level has
-abbrev mask : tie.Start → ℕ → List ℕ
-mask c l = byteMask .put (map (maskAt (c .args .cells) (c .args .masks .now) l) (liveAt (c .args .cells) (c .args .masks .now) l))
+abbrev laid : tie.Start → ℕ → List ℕ
+laid s l = overAt (s .args .to) (liveMask (masksOf (s .args .form)) (s .args .cells) (s .args .masks .now) l) (s .args .out .now)
 
-given : (c : tie.Start) (l : ℕ) → c .args .level ≡ l → {o : List ℕ} → o ≡ overAt (c .args .to) (mask c l) (c .args .out .now)
-    → o ≡ overAt (c .args .to) (mask c (c .args .level)) (c .args .out .now)
-given c l e q = q ∙ ap (λ (k : ℕ). overAt (c .args .to) (mask c k) (c .args .out .now)) (sym e)
+given : (s : tie.Start) (l : ℕ) → s .args .level ≡ l → {o : List ℕ} → o ≡ laid s l → o ≡ laid s (s .args .level)
+given s l e q = q ∙ ap (laid s) (sym e)
+
+abbrev whole : tie.Then1 → tie.Start
+whole c = c .before .before .before
+
+abbrev parted : tie.Else1 → tie.Start
+parted c = c .before .before .before
 
 mul-put-plane : tie.Need-mul-put-plane
-mul-put-plane c = let a = c .before .before .before .before .args in omega (arith, mask-plane (a .level) (c .before .before .before .before .pre .0))
+mul-put-plane c = search needs
 
 put-plane-requires : tie.Need-put-plane-requires
-put-plane-requires c κs = let a = c .before .before .before .before .args in omega (arith, mask-plane (a .level) (c .before .before .before .before .pre .0), c .before .if1 .taken, c .before .before .before .before .pre .2)
+put-plane-requires c κs =
+    let s = whole (c .before) in
+    let x = masksOf (s .args .form) in
+    (omega (arith, ap (maskForm x .size) (c .before .if1 .taken), s .pre .2), omega (arith, mask-plane (s .args .level) (s .pre .0)))
 
 put-live-mask-requires : tie.Need-put-live-mask-requires
-put-live-mask-requires c κs = asked (c .before .before .before .before .before) 1 (c .before .match .keys1)
+put-live-mask-requires c κs = asked (parted (c .before .before)) 1 (c .before .match .keys1)
 
 put-live-mask-requires-2 : tie.Need-put-live-mask-requires-2
-put-live-mask-requires-2 c κs = asked (c .before .before .before .before .before) 2 (c .before .match .keys2)
+put-live-mask-requires-2 c κs = asked (parted (c .before .before)) 2 (c .before .match .keys2)
 
 put-live-mask-requires-3 : tie.Need-put-live-mask-requires-3
-put-live-mask-requires-3 c κs = asked (c .before .before .before .before .before) 3 (c .before .match .keys3)
+put-live-mask-requires-3 c κs = asked (parted (c .before .before)) 3 (c .before .match .keys3)
 
 put-live-mask-requires-4 : tie.Need-put-live-mask-requires-4
 put-live-mask-requires-4 c κs = search needs
@@ -50,25 +60,29 @@ same-length : tie.Need-same-length
 same-length c = search needs
 
 returns : tie.Need-returns
-returns c = let a = c .before .before .before .before .before .before .before .args in laid-as (a .to) (a .out .now) (c .before .before .put-plane .ensures) (mask-all (a .level) (c .before .before .before .before .before .before .before .pre .0) (c .before .before .before .before .before .before .before .pre .1) (c .before .before .before .before .if1 .taken))
+returns c =
+    let t = c .before .before .before .before in
+    let s = whole t in
+    let a = s .args in
+    laid-as (a .to) (a .out .now) (c .before .before .put-plane .ensures) (ap (maskForm (masksOf (a .form)) .put) (mask-all (a .level) (s .pre .0) (s .pre .1) (t .if1 .taken)))
 
 same-length-2 : tie.Need-same-length-2
 same-length-2 c = search needs
 
 returns-2 : tie.Need-returns-2
-returns-2 c = given (c .before .before .before .before .before .before .before .before) 1 (c .before .before .before .before .match .keys1) (c .before .before .put-live-mask .ensures)
+returns-2 c = let m = c .before .before .before .before in given (parted (m .before)) 1 (m .match .keys1) (c .before .before .put-live-mask .ensures)
 
 same-length-3 : tie.Need-same-length-3
 same-length-3 c = search needs
 
 returns-3 : tie.Need-returns-3
-returns-3 c = given (c .before .before .before .before .before .before .before .before) 2 (c .before .before .before .before .match .keys2) (c .before .before .put-live-mask2 .ensures)
+returns-3 c = let m = c .before .before .before .before in given (parted (m .before)) 2 (m .match .keys2) (c .before .before .put-live-mask2 .ensures)
 
 same-length-4 : tie.Need-same-length-4
 same-length-4 c = search needs
 
 returns-4 : tie.Need-returns-4
-returns-4 c = given (c .before .before .before .before .before .before .before .before) 3 (c .before .before .before .before .match .keys3) (c .before .before .put-live-mask3 .ensures)
+returns-4 c = let m = c .before .before .before .before in given (parted (m .before)) 3 (m .match .keys3) (c .before .before .put-live-mask3 .ensures)
 
 same-length-5 : tie.Need-same-length-5
 same-length-5 c = search needs

@@ -12,8 +12,9 @@ use Rattle.array.specs.Kind.{Place}
 use Rattle.array.specs.Meaning.{widthOf, placeOf}
 use Rattle.buffer.specs.Field.{toldField}
 use Rattle.buffer.proofs.Fields.{field-value, field-refused}
+use Rattle.codec.specs.Ragged.{lengthAt, indexAt, dataAt}
 use Rattle.stored.specs.declared.vlen.Index.{Index}
-use Rattle.stored.specs.Index.{offsetsIn, indexedBy, indexCheck, indexIn, lengthAt, indexAt, dataAt, indexWith, located, foundIn}
+use Rattle.stored.specs.Index.{offsetsIn, indexedBy, indexCheck, indexIn, indexWith, located, foundIn}
 use Rattle.stored.proofs.IndexLaws.{length-short, read-none, read-short, found-other, found-index}
 use Rattle.stored.proofs.CheckedIndex.{index-within, data-within}
 use Rattle.stored.proofs.vlen.find_index.Statement.{statement}

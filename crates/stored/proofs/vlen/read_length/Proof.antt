@@ -8,7 +8,7 @@ use borrow.Author.Needs.{needs}
 use Rattle.array.specs.Meaning.{placeOf}
 use Rattle.buffer.specs.Field.{fieldAt}
 use Rattle.buffer.proofs.Fields.{field-short}
-use Rattle.stored.specs.Index.{lengthAt}
+use Rattle.codec.specs.Ragged.{lengthAt}
 use Rattle.stored.proofs.IndexLaws.{length-within}
 use Rattle.stored.proofs.vlen.read_length.Statement.{statement}
 use Rattle.stored.proofs.vlen.read_length.Tie as tie

@@ -1,52 +1,47 @@
--- `valid::numbers::kind_from_numbers`: each number outside its range by its law, the two forms by the callees.
+-- `valid::numbers::kind_from_numbers`: the kind with masks of bytes by its callee, its mask form by another.
 -- Assumes nothing.
-use mathlib.Core.Path.{_∙_}
+use mathlib.Core.Path.{sym, ap, _∙_}
 use borrow.Author.Needs.{needs}
-use Rattle.valid.proofs.NumberLaws.{depth-over, mask-unknown, form-fixed, form-ragged, form-unknown}
+use Rattle.array.specs.Meaning.{kindOf}
+use Rattle.valid.specs.Numbers.{toldKind}
+use Rattle.valid.proofs.NumberLaws.{kind-given, kind-refused}
 use Rattle.valid.proofs.numbers.kind_from_numbers.Statement.{statement}
 use Rattle.valid.proofs.numbers.kind_from_numbers.Tie as tie
 
-cast-if1 : tie.Need-cast-if1
-cast-if1 c = search needs
+byte-kind-from-numbers-requires : tie.Need-byte-kind-from-numbers-requires
+byte-kind-from-numbers-requires c κs = search needs
+
+enum-known-e : tie.Need-enum-known-e
+enum-known-e c = search needs
+
+enum-known-kind : tie.Need-enum-known-kind
+enum-known-kind c = search needs
+
+masked-from-number-requires : tie.Need-masked-from-number-requires
+masked-from-number-requires c κs = search needs
 
 returns : tie.Need-returns
-returns c = let a = c .before .args in depth-over (a .depth) (a .form) (a .size) (a .order) (a .mask) (c .if1 .taken)
+returns c =
+    let m = c .before .before .before in
+    let a = m .before .args in
+    kind-refused (a .depth) (a .form) (a .size) (a .order) (a .mask) (c .before .e .given .0 .0)
+    (sym (ap toldKind (c .before .e .given .1)) ∙ m .byte-kind-from-numbers .ensures)
 
 returns-2 : tie.Need-returns-2
-returns-2 c = let a = c .before .before .args in mask-unknown (a .depth) (a .form) (a .size) (a .order) (a .mask) (c .before .if1 .left) (c .if2 .taken)
-
-cast-fixed-from-numbers : tie.Need-cast-fixed-from-numbers
-cast-fixed-from-numbers c = search needs
-
-fixed-from-numbers-requires : tie.Need-fixed-from-numbers-requires
-fixed-from-numbers-requires c κs = search needs
-
-cast-ragged-from-numbers : tie.Need-cast-ragged-from-numbers
-cast-ragged-from-numbers c = search needs
-
-ragged-from-numbers-requires : tie.Need-ragged-from-numbers-requires
-ragged-from-numbers-requires c κs = search needs
-
-returns-3 : tie.Need-returns-3
-returns-3 c = let a = c .before .before .before .before .args in c .fixed-from-numbers .ensures ∙ form-fixed (a .depth) (a .form) (a .size) (a .order) (a .mask) (c .before .before .before .if1 .left) (c .before .before .if2 .left) (c .before .match .keys1)
-
-returns-4 : tie.Need-returns-4
-returns-4 c = let a = c .before .before .before .before .args in c .ragged-from-numbers .ensures ∙ form-ragged (a .depth) (a .form) (a .size) (a .order) (a .mask) (c .before .before .before .if1 .left) (c .before .before .if2 .left) (c .before .match .keys2)
-
-returns-5 : tie.Need-returns-5
-returns-5 c = let a = c .before .before .before .args in form-unknown (a .depth) (a .form) (a .size) (a .order) (a .mask) (c .before .before .if1 .left) (c .before .if2 .left) (c .match .rest .0 .1) (c .match .rest .1)
+returns-2 c =
+    let k = c .before .before .kind in
+    let m = c .before .before .before .before in
+    let a = m .before .args in
+    c .masked-from-number .ensures
+    ∙ kind-given (a .depth) (a .form) (a .size) (a .order) (a .mask) (kindOf (k .given .0 .0)) (sym (ap toldKind (k .given .1)) ∙ m .byte-kind-from-numbers .ensures)
 
 pub kind-from-numbers-spec : {M : Type 1} → statement M
 kind-from-numbers-spec =
     tie.close
     (tie.spec
-    cast-if1
+    byte-kind-from-numbers-requires
+    enum-known-e
+    enum-known-kind
+    masked-from-number-requires
     returns
-    returns-2
-    cast-fixed-from-numbers
-    fixed-from-numbers-requires
-    cast-ragged-from-numbers
-    ragged-from-numbers-requires
-    returns-3
-    returns-4
-    returns-5)
+    returns-2)

@@ -1,8 +1,8 @@
--- `index_at` meets its contract, place by place.
+-- `codec::place::index_at` meets its contract, place by place.
 -- Assumes nothing.
 use borrow.Author.Needs.{needs}
-use Rattle.stored.proofs.vlen.index_at.Statement.{statement}
-use Rattle.stored.proofs.vlen.index_at.Tie as tie
+use Rattle.codec.proofs.place.index_at.Statement.{statement}
+use Rattle.codec.proofs.place.index_at.Tie as tie
 
 enum-told : tie.Need-enum-told
 enum-told c = search needs
