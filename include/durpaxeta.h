@@ -318,9 +318,10 @@ uint32_t dpx_encode(dpx_kind kind,
 /*
  * Stored bytes to array.
  *
- * `bytes` is the whole stored table, neither more nor less. A set cell of a packed mask comes out as 01. Below a null every
- * mask byte comes out as 00, a fixed value as zero bytes and a ragged one as no bytes. From depth 1 on ragged values come out end to end from offset 0; at depth 0
- * offsets and value bytes come out as they are stored, but where the last offset is 0: there no value bytes come out.
+ * `bytes` is the whole stored table, neither more nor less. A set cell of a packed mask comes out as 01. Below a null
+ * every mask byte comes out as 00, a fixed value as zero bytes and a ragged one as no bytes. From depth 1 on ragged values
+ * come out end to end from offset 0; at depth 0 offsets and value bytes come out as they are stored, but where the last
+ * offset is 0: there no value bytes come out.
  * Enough room: dpx_array_room. That is depth * cells masks; fixed: cells * size values; ragged: bytes_len values and
  * cells + 1 offsets.
  *

@@ -18,8 +18,8 @@ pub const GENERAL: &str = r#"durpaxeta: stored tables of optional and variable-l
 A stored table does not say its kind or its shape. You do, or its description does (FILE.dpx, written by --describe):
 
   --kind "depth 2, ragged, width 4, index at start"    cells of any length
-  --kind "depth 1, fixed, size 2, little order"        cells of 2 bytes; or: big order
   --kind "depth 2, packed masks, ragged, width 4, index at start"    the same, its stored masks a bit a cell
+  --kind "depth 1, fixed, size 2, little order"        cells of 2 bytes; or: big order
   --shape 2x3                                          2 rows of 3 cells
   --subset 0..2,1..3                                   rows 0 and 1, columns 1 and 2: the end is not included
 
@@ -92,7 +92,8 @@ Makes a stored table from a worksheet. The worksheet says its kind and its shape
   1,1 | 01 00 | null at level 2   # not set, one level deeper
 
 A line is the coordinates, the mask byte of each level in hex (00 is null, any other byte is set; at depth 0 a -), and
-what the cell is: null at level N, value "text" or value hex 0A 0B. Masks and words must agree. In a text \" \\ \n \t \r
+what the cell is: null at level N, value "text" or value hex 0A 0B. Masks and words must agree. A kind with packed masks
+stores a set byte as a bit, which is shown as 01. In a text \" \\ \n \t \r
 and \x0A stand for one byte; other characters for their bytes in UTF-8. Every cell stands in one line; their order is free.
 # begins a comment.
 

@@ -84,9 +84,14 @@ fn mask_bytes_become_01() {
     assert_eq!(stored.out, le(&[1, 18], 8, &[&[1][..], &le(&[1, 1], 8, &[1, 10])].concat()));
     let shown = run(&folder, &["show", "--kind", kind, "--shape", "1", "-"], &stored.out);
     assert!(shown.text().contains("0 | 01 01 | value hex 0A\n"), "{}", shown.text());
-    // At depth 0 the words say nothing.
+    // At depth 0 the words say nothing, but stay.
     let flat = "depth 0, packed masks, fixed, size 1, little order";
     assert_eq!(run(&folder, &["write", "-", "-"], sheet(flat, "-").as_bytes()).out, [10]);
+    let ragged = "depth 0, packed masks, ragged, width 4, index at start";
+    fs::write(folder.join("flat.txt"), sheet(ragged, "-")).unwrap();
+    good(&folder, &["write", "--describe", "flat.txt", "flat.bin"]);
+    good(&folder, &["cut", "--subset", "0..1", "--describe", "flat.bin", "cut.bin"]);
+    assert_eq!(fs::read(folder.join("cut.bin.dpx")).unwrap(), fs::read(folder.join("flat.bin.dpx")).unwrap());
 }
 
 #[test]
