@@ -6,11 +6,9 @@ use Rattle.array.specs.Answer.{Answer, gives, refuses}
 use borrow.Author.Tests.{not-true, not-false}
 use Rattle.mask.proofs.Said.{counted-passed, counted-failed}
 use Rattle.array.specs.declared.kind.MaskForm.the-variants.{Packed}
-use mathlib.Core.List.{List}
 use Prim.Native.Nat.{ℕ, _+_, _-_, _≤_}
-use native.Mathlib.Omega.{arith}
-use lib.ListN.{length, take, drop}
-use Rattle.array.specs.Kind.{Masks, asBytes, asBits}
+use lib.ListN.{length}
+use Rattle.array.specs.Kind.{Masks}
 use Rattle.array.specs.Meaning.{masksOf}
 use Rattle.codec.specs.Mask.{maskForm, byteMask, packedMask, bytesFor}
 use Rattle.codec.specs.Frame.{countSet}

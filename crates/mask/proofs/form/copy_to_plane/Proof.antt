@@ -2,10 +2,8 @@
 -- Assumes nothing.
 use mathlib.Core.Path.{_≡_, sym, ap, subst, _∙_}
 use Rattle.array.specs.declared.kind.MaskForm.{MaskForm}
-use mathlib.Core.List.{List}
-use Prim.Native.Nat.{ℕ, _+_, _-_, _≤_}
-use native.Mathlib.Omega.{arith}
-use lib.ListN.{length, take, drop}
+use Prim.Native.Nat.{_+_, _-_, _≤_}
+use lib.ListN.{length}
 use Rattle.array.specs.Kind.{Masks}
 use Rattle.array.specs.Meaning.{masksOf}
 use Rattle.array.specs.Buffers.{overAt}

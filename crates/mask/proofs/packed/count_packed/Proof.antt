@@ -1,10 +1,10 @@
 -- `mask::packed::count_packed` meets its contract. The invariant: what is counted and the set bits of what is left make the set bits of the mask.
 -- Assumes nothing.
-use mathlib.Core.Path.{_≡_, sym, ap, _∙_}
-use Prim.Native.Nat.{ℕ, _+_, _-_, _*_, _≤_, _<_}
+use mathlib.Core.Path.{_≡_}
+use Prim.Native.Nat.{ℕ, _+_, _-_, _≤_}
 use native.Mathlib.Omega.{arith}
 use borrow.Author.Needs.{needs}
-use lib.ListN.{length, drop, take}
+use lib.ListN.{drop}
 use Rattle.array.proofs.Sums.{sumOf}
 use Rattle.codec.specs.Mask.{packedMask}
 use Rattle.codec.specs.Frame.{setBits}

@@ -1,6 +1,6 @@
 -- `mask::unpack::eight_bytes` meets its contract: the four lowest bits, and the four highest (Words).
 -- Assumes nothing.
-use mathlib.Core.Path.{_≡_, ap, ap₂, _∙_}
+use mathlib.Core.Path.{ap₂, _∙_}
 use Prim.Native.Nat.{ℕ, _+_, _*_}
 use native.Mathlib.Omega.{arith}
 use Rattle.array.specs.Bytes.{le}
