@@ -373,7 +373,7 @@ impl Bench {
             });
             assert!(read[0] == read[1], "packed masks read otherwise: {} {what}", kind_name(&i.kind));
         }
-        let [ours, other] = self.turns(packed, self.ours(bytes), 1.0, 1.25);
+        let [ours, other] = self.turns(packed, self.ours(bytes), 1.0, 1.05);
         let column = format!("d{} {}", i.kind[0], cells_of(&i.shape));
         let (kind, what) = (kind_name(&i.kind), what.to_string());
         self.packed.push(Row { call: packed.name(), below: true, kind, what, column, other, ours, held: None });
