@@ -228,10 +228,12 @@ impl Bench {
 
     /// Ours and another, by turns. Where a buffer lies, or what else the machine does, can cost more than the call: while ours takes more than
     /// `limit` of the other's time, both are tried again a little later, ours with outputs elsewhere, up to eleven times, and the best of each counts.
-    fn turns(&self, call: Call, mut other: Timed, limit: f64) -> [f64; 2] {
+    /// Not where it takes more than `hopeless` of it: no noise explains that.
+    fn turns(&self, call: Call, mut other: Timed, limit: f64, hopeless: f64) -> [f64; 2] {
         let mut elsewhere = vec![];
         let mut times = [f64::MAX; 2];
-        while elsewhere.is_empty() || times[0] > limit * times[1] && elsewhere.len() < 12 {
+        let again = |[ours, other]: [f64; 2]| ours > limit * other && ours <= hopeless * other;
+        while elsewhere.is_empty() || again(times) && elsewhere.len() < 12 {
             if !elsewhere.is_empty() {
                 std::thread::sleep(Duration::from_millis(500));
             }
@@ -253,7 +255,7 @@ impl Bench {
         let [kind, what, column] = name;
         let call_name = call.name();
         assert!((m, v, o) == (&same.0[..], &same.1[..], &same.2[..]), "not the same: {call_name} {kind} {what} {column}");
-        let [ours, rust] = self.turns(call, rust, 1.0);
+        let [ours, rust] = self.turns(call, rust, 1.0, f64::MAX);
         let below = matches!(call, Encode(i) | Decode(i, _) if i.kind[0] > 0);
         let bound = match call {
             Encode(i) | Decode(i, _) if i.kind[..2] == [0, 0] && i.kind[3] == 0 => Some(Bound::Copy(&i.values)),
@@ -299,7 +301,7 @@ impl Bench {
                     to[..from.len()].copy_from_slice(black_box(from));
                     black_box(&mut to);
                 });
-                let [ours, memcpy] = self.turns(call, memcpy, slack);
+                let [ours, memcpy] = self.turns(call, memcpy, slack, f64::MAX);
                 let checks = best(&mut [self.checks(call)], self.rounds)[0];
                 let loops =
                     format!("memcpy of {} bytes {}, our checks alone {}", from.len(), nanoseconds(memcpy), nanoseconds(checks));
@@ -313,7 +315,7 @@ impl Bench {
                         black_box(&mut lent);
                     })
                 };
-                let [ours, bound] = self.turns(call, side(bounds::two_walks), slack);
+                let [ours, bound] = self.turns(call, side(bounds::two_walks), slack, f64::MAX);
                 let others = best(&mut [side(bounds::one_walk), self.checks(call)], self.rounds);
                 let [one, two, checks] = [others[0], bound, others[1]].map(nanoseconds);
                 let loops = format!("all lengths before the first store {two}, one walk {one}, our checks alone {checks}");
@@ -371,7 +373,7 @@ impl Bench {
             });
             assert!(read[0] == read[1], "packed masks read otherwise: {} {what}", kind_name(&i.kind));
         }
-        let [ours, other] = self.turns(packed, self.ours(bytes), 1.0);
+        let [ours, other] = self.turns(packed, self.ours(bytes), 1.0, 1.05);
         let column = format!("d{} {}", i.kind[0], cells_of(&i.shape));
         let (kind, what) = (kind_name(&i.kind), what.to_string());
         self.packed.push(Row { call: packed.name(), below: true, kind, what, column, other, ours, held: None });
