@@ -3,12 +3,11 @@
 use mathlib.Core.Path.{_≡_, refl, sym, ap, ap₂, _∙_}
 use Prim.Native.Nat.{ℕ, zero, suc, _+_, _*_, _/_, _%_, _^_, _<_, _≤_}
 use native.Mathlib.Omega.{arith}
-use native.Mathlib.Numerals.{add-one}
 use mathlib.Core.Bool.{Bool, true, false}
 use mathlib.Core.Logic.{_≢_}
 use mathlib.Core.List.{List, [], _∷_, _++_, map}
 use lib.ListN.{length, take, drop, getD, length-take, length-drop, drop-of-length-le, take-append-drop}
-use lib.Seq.{length-take-le, take-append-le, take-suc, drop-cons, getD-drop, getD-take}
+use lib.Seq.{length-take-le, take-append-le, take-suc, getD-drop}
 use lib.Dec.{eqb}
 use Rattle.array.specs.Answer.{gives, refuses, unless, andThen}
 use Rattle.array.specs.Kind.{Masks, asBytes, asBits}
@@ -21,6 +20,7 @@ use Rattle.codec.specs.Mask.{MaskForm, maskForm, packedMask, bytesFor, bitsOf}
 use Rattle.codec.specs.Frame.{countSet, setBits}
 use Rattle.codec.proofs.Marks.{count-le}
 use Rattle.codec.proofs.Masks.{length-bits, packed-test, count-packed}
+use Rattle.mask.specs.Bits.{bitsIn}
 use Rattle.mask.specs.Marks.{storedMask, saidMask, countedIn}
 
 pub bits-append : (s t : List ℕ) → bitsOf (s ++ t) ≡ bitsOf s ++ bitsOf t
@@ -42,6 +42,10 @@ length-said asBytes s at n h = length-take-le n (drop at s) h
 length-said asBits s at n h = ap length (said-packed s at n h) ∙ length-take-le n (bitsOf (drop at s)) (omega (arith, length-bits (drop at s)))
 
 -- ---- a packed mask by its bytes
+
+bits-sum : (s : List ℕ) → bitsIn s ≡ sumOf setBits s
+bits-sum [] = refl
+bits-sum (b ∷ s) = ap (λ (n : ℕ). setBits b + n) (bits-sum s)
 
 module _ (s : List ℕ) (at n : ℕ) (h : at + bytesFor n ≤ length s) where
   room : bytesFor n ≤ length (drop at s)
@@ -66,30 +70,14 @@ module _ (s : List ℕ) (at n : ℕ) (h : at + bytesFor n ≤ length s) where
       sym (ap₂ (λ (m : List ℕ) (i : ℕ). packedMask .test m i) mask cells
       ∙ packed-test (take k (drop at s)) (getD s (at + k) 0) k (n % 8) (length-take-le k (drop at s) (omega (arith, room))) b)
 
-  -- the set bits of its bytes, from byte i on
-  abbrev bitsLeft : ℕ → ℕ
-  bitsLeft i = sumOf setBits (drop i (storedMask packedMask s at n))
+  -- of a mask that passes its test, the set bits of its bytes are its set cells, and no more than its cells
+  pub count-left : packedMask .test (storedMask packedMask s at n) n ≡ true → bitsIn (storedMask packedMask s at n) ≡ countSet (saidMask packedMask s at n)
+  count-left e = let mask : List ℕ = storedMask packedMask s at n in bits-sum mask ∙ sym (count-packed mask n e)
 
-  pub bits-next : (i : ℕ) → i < bytesFor n → bitsLeft i ≡ setBits (getD s (at + i) 0) + bitsLeft (i + 1)
-  bits-next i l =
-      let mask : List ℕ = storedMask packedMask s at n in
-      let size : length mask ≡ bytesFor n = length-take-le (bytesFor n) (drop at s) room in
-      let byte : getD mask i 0 ≡ getD s (at + i) 0 = getD-take (bytesFor n) (drop at s) i 0 l ∙ getD-drop at s i 0 in
-      ap (sumOf setBits) (drop-cons mask i 0 (omega arith)) ∙ ap₂ (λ (b k : ℕ). setBits b + sumOf setBits (drop k mask)) byte (sym (add-one i))
-
-  pub bits-end : (i : ℕ) → bytesFor n ≤ i → bitsLeft i ≡ 0
-  bits-end i l =
-      let mask : List ℕ = storedMask packedMask s at n in
-      ap (sumOf setBits) (drop-of-length-le mask {i = i} (omega (arith, length-take-le (bytesFor n) (drop at s) room)))
-
-  -- of a mask that passes its test, no more than its cells
-  pub bits-few : packedMask .test (storedMask packedMask s at n) n ≡ true → bitsLeft 0 ≤ n
+  pub bits-few : packedMask .test (storedMask packedMask s at n) n ≡ true → bitsIn (storedMask packedMask s at n) ≤ n
   bits-few e =
       let mask : List ℕ = storedMask packedMask s at n in
-      omega (arith, count-packed mask n e, count-le (take n (bitsOf mask)), length-take n (bitsOf mask))
-
-  pub count-left : packedMask .test (storedMask packedMask s at n) n ≡ true → bitsLeft 0 ≡ countSet (saidMask packedMask s at n)
-  count-left e = sym (count-packed (storedMask packedMask s at n) n e)
+      omega (arith, count-left e, count-le (take n (bitsOf mask)), length-take n (bitsOf mask))
 
 -- ---- the bit that a mask byte says
 

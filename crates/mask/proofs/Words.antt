@@ -46,20 +46,10 @@ word-packed bs l p =
 
 -- ---- reading
 
-abbrev fourBytes : List ℕ
-fourBytes =
-    0 ∷ 1 ∷ 256 ∷ 257 ∷ 65536 ∷ 65537 ∷ 65792 ∷ 65793 ∷
-    16777216 ∷ 16777217 ∷ 16777472 ∷ 16777473 ∷ 16842752 ∷ 16842753 ∷ 16843008 ∷ 16843009 ∷ []
-
--- an entry is the number whose bytes are the bits of its place
-four : fourBytes ≡ map (λ i. number 256 (digits 2 4 i)) (from 0 16)
-four = refl
-
-pub four-at : (i : ℕ) → i < 16 → getD fourBytes i 0 ≡ number 256 (digits 2 4 i)
-four-at = entry (λ i. number 256 (digits 2 4 i)) 0 fourBytes 16 four
-
 abbrev eightOf : ℕ → ℕ
-eightOf b = number 256 (digits 2 4 (b % 16)) + 4294967296 * number 256 (digits 2 4 (b / 16))
+eightOf v =
+    v % 2 + 256 * (v / 2 % 2) + 65536 * (v / 4 % 2) + 16777216 * (v / 8 % 2)
+    + 4294967296 * (v / 16 % 2 + 256 * (v / 32 % 2) + 65536 * (v / 64 % 2) + 16777216 * (v / 128 % 2))
 
 eight : map (λ b. digits 256 8 (eightOf b)) (from 0 256) ≡ map (digits 2 8) (from 0 256)
 eight = refl

@@ -1,5 +1,5 @@
 // Packed masks, checked and counted: cell i is bit i mod 8 of byte i / 8, the lowest bit first. Bits after the last cell are 0.
-use crate::bits::set_bits;
+use crate::bits::count_bits;
 ghost use mathlib.Core.Path.{_≡_};
 ghost use mathlib.Core.Bool.{true};
 ghost use Prim.Native.Nat.{_+_, _≤_};
@@ -32,12 +32,5 @@ pub fn count_packed(s: &[u8], at: usize, n: usize) -> usize
     requires { ⌜ (at + bytesFor n ≤ length (now s)) × (packedMask .test (storedMask packedMask (now s) at n) n ≡ true) ⌝ }
     ensures { λ r. ⌜ r ≡ countSet (saidMask packedMask (now (s .entry)) at n) ⌝ }
 {
-    let size = bytes_for(n);
-    let mut set: usize = 0;
-    let mut i = 0;
-    while i < size {
-        set += set_bits(s[at + i]) as usize;
-        i += 1;
-    }
-    set
+    count_bits(s, at, bytes_for(n))
 }
