@@ -2,10 +2,11 @@
 -- Assumes nothing.
 use mathlib.Core.Path.{_≡_, refl, sym, ap, ap₂, _∙_}
 use Prim.Native.Nat.{ℕ, zero, suc, _+_, _-_, _*_, _/_, _%_, _^_, _<_}
-use native.Mathlib.Nat.{mod-add-div, mod-eq-of-lt, mod-lt, add-mul-mod-self-left, add-mul-div-left, div-eq-of-lt, div-lt-iff-lt-mul, pow-zero, pow-suc, zero-lt-suc, zero-add, div-one, div-div-eq-div-mul, pow-succ', sub-zero, zero-div, mul-zero, mul-one, mul-comm, mul-assoc, mul-add}
+use native.Mathlib.Nat.{mod-add-div, mod-eq-of-lt, mod-lt, add-mul-mod-self-left, add-mul-div-left, div-eq-of-lt, div-lt-iff-lt-mul, pow-zero}
+use native.Mathlib.Nat.{pow-suc, zero-lt-suc, zero-add, div-one, div-div-eq-div-mul, pow-succ', sub-zero, zero-div, mul-zero}
 use native.Mathlib.Omega.{arith}
 use mathlib.Core.List.{List, [], _∷_, _++_}
-use lib.ListN.{length, drop, getD, replicate}
+use lib.ListN.{length, drop, replicate}
 use lib.Arith.{lt-one}
 use Rattle.array.specs.Lists.{All}
 use Rattle.array.specs.Bytes.{digits, number, le, unle}

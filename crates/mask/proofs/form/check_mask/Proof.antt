@@ -47,7 +47,11 @@ returns c =
     (counted-failed packedMask (storedMask packedMask (start .args .s .now) (start .args .at) (start .args .n)) (start .args .n) failed)
 
 count-packed-requires : tie.Need-count-packed-requires
-count-packed-requires c κs = (packed-room (c .before .before .before .before .before) (c .before .before .enum-told2 .given .1), sym (c .before .unused-clear .ensures) ∙ not-false (c .before .unused-clear .result) (c .if1 .left))
+count-packed-requires c κs = (
+  packed-room (c .before .before .before .before .before) (c .before .before .enum-told2 .given .1),
+  sym (c .before .unused-clear .ensures) ∙ not-false
+      (c .before .unused-clear .result) (c .if1 .left),
+)
 
 returns-2 : tie.Need-returns-2
 returns-2 c =
