@@ -185,20 +185,21 @@ struct Held {
     loops: String,
 }
 
-/// One row: what was called with, the column it stands in, and nanoseconds a call. Rows below masks have a table of their own.
+/// One row: what was called with, the column it stands in, and nanoseconds a call of the other side (the Rust; beside packed masks our masks of
+/// bytes) and of ours. Rows below masks have a table of their own.
 struct Row {
     call: &'static str,
     below: bool,
     kind: String,
     what: String,
     column: String,
-    rust: f64,
+    other: f64,
     ours: f64,
     held: Option<Held>,
 }
 impl Row {
     fn ratio(&self) -> f64 {
-        self.rust / self.ours
+        self.other / self.ours
     }
     /// Whether its bound keeps it under 1.0.
     fn at_bound(&self) -> bool {
@@ -210,7 +211,7 @@ struct Bench {
     archive: Archive,
     rounds: u32,
     rows: Vec<Row>,
-    /// Packed masks beside masks of bytes, which stand where other rows have the Rust.
+    /// Packed masks beside masks of bytes.
     packed: Vec<Row>,
     /// encode_interleaved beside a plain loop, which stands where other rows have the Rust.
     older: Vec<Row>,
@@ -239,10 +240,12 @@ impl Bench {
 
     /// Ours and another, by turns. Where a buffer lies, or what else the machine does, can cost more than the call: while ours takes more than
     /// `limit` of the other's time, both are tried again a little later, ours with outputs elsewhere, up to eleven times, and the best of each counts.
-    fn turns(&self, call: Call, mut other: Timed, limit: f64) -> [f64; 2] {
+    /// Not where it takes more than `hopeless` of it: no noise explains that.
+    fn turns(&self, call: Call, mut other: Timed, limit: f64, hopeless: f64) -> [f64; 2] {
         let mut elsewhere = vec![];
         let mut times = [f64::MAX; 2];
-        while elsewhere.is_empty() || times[0] > limit * times[1] && elsewhere.len() < 12 {
+        let again = |[ours, other]: [f64; 2]| ours > limit * other && ours <= hopeless * other;
+        while elsewhere.is_empty() || again(times) && elsewhere.len() < 12 {
             if !elsewhere.is_empty() {
                 std::thread::sleep(Duration::from_millis(500));
             }
@@ -264,7 +267,7 @@ impl Bench {
         let [kind, what, column] = name;
         let call_name = call.name();
         assert!((m, v, o) == (&same.0[..], &same.1[..], &same.2[..]), "not the same: {call_name} {kind} {what} {column}");
-        let [ours, rust] = self.turns(call, rust, 1.0);
+        let [ours, rust] = self.turns(call, rust, 1.0, f64::MAX);
         let below = matches!(call, Encode(i) | Decode(i, _) if i.kind[0] > 0);
         let bound = match call {
             Encode(i) | Decode(i, _) if i.kind[..2] == [0, 0] && i.kind[3] == 0 => Some(Bound::Copy(&i.values)),
@@ -272,7 +275,7 @@ impl Bench {
             _ => None,
         };
         let held = bound.filter(|_| ours > rust).map(|bound| self.held(call, bound));
-        self.rows.push(Row { call: call_name, below, kind, what, column, rust, ours, held });
+        self.rows.push(Row { call: call_name, below, kind, what, column, other: rust, ours, held });
     }
 
     /// Our checks alone: the values' output is too short, which is seen last.
@@ -310,7 +313,7 @@ impl Bench {
                     to[..from.len()].copy_from_slice(black_box(from));
                     black_box(&mut to);
                 });
-                let [ours, memcpy] = self.turns(call, memcpy, slack);
+                let [ours, memcpy] = self.turns(call, memcpy, slack, f64::MAX);
                 let checks = best(&mut [self.checks(call)], self.rounds)[0];
                 let loops =
                     format!("memcpy of {} bytes {}, our checks alone {}", from.len(), nanoseconds(memcpy), nanoseconds(checks));
@@ -324,7 +327,7 @@ impl Bench {
                         black_box(&mut lent);
                     })
                 };
-                let [ours, bound] = self.turns(call, side(bounds::two_walks), slack);
+                let [ours, bound] = self.turns(call, side(bounds::two_walks), slack, f64::MAX);
                 let others = best(&mut [side(bounds::one_walk), self.checks(call)], self.rounds);
                 let [one, two, checks] = [others[0], bound, others[1]].map(nanoseconds);
                 let loops = format!("all lengths before the first store {two}, one walk {one}, our checks alone {checks}");
@@ -382,10 +385,10 @@ impl Bench {
             });
             assert!(read[0] == read[1], "packed masks read otherwise: {} {what}", kind_name(&i.kind));
         }
-        let [ours, rust] = self.turns(packed, self.ours(bytes), 1.0);
+        let [ours, other] = self.turns(packed, self.ours(bytes), 1.0, 1.05);
         let column = format!("d{} {}", i.kind[0], cells_of(&i.shape));
         let (kind, what) = (kind_name(&i.kind), what.to_string());
-        self.packed.push(Row { call: packed.name(), below: true, kind, what, column, rust, ours, held: None });
+        self.packed.push(Row { call: packed.name(), below: true, kind, what, column, other, ours, held: None });
     }
 
     fn packed_and_bytes(&mut self, i: &Input, what: &str) {
@@ -797,8 +800,8 @@ fn least(list: &[f64]) -> f64 {
     list.iter().copied().fold(f64::MAX, f64::min)
 }
 fn whole(row: &Row) -> String {
-    let Row { call, kind, what, column, rust, ours, .. } = row;
-    format!("| {call} | {kind} | {what} | {column} | {} | {} | {:.2} |", nanoseconds(*rust), nanoseconds(*ours), row.ratio())
+    let Row { call, kind, what, column, other, ours, .. } = row;
+    format!("| {call} | {kind} | {what} | {column} | {} | {} | {:.2} |", nanoseconds(*other), nanoseconds(*ours), row.ratio())
 }
 
 /// Ratios by kind and column.

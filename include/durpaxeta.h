@@ -6,10 +6,11 @@
  *
  * A TABLE is a kind, a shape and its content.
  *
- *   kind     dpx_kind, below: how many mask levels, and fixed or ragged values.
+ *   kind     dpx_kind, below: how many mask levels, how stored masks lie, and fixed or ragged values.
  *   shape    1 to 4 sides, each at least 1, at most 65,536 cells. Cells are numbered row by row, the last side fastest.
  *   masks    one plane for each level, outermost first, one byte a cell, end to end: depth * cells bytes.
  *            00 is null, any other byte is set and kept as it is. A cell that is null at one level has no value.
+ *            Stored masks may be packed, a bit a cell; these planes never are. What is read from bits is 00 or 01.
  *   values   the value bytes. Fixed: cells * size bytes. Ragged: all values, one after the other.
  *   offsets  ragged only: cells + 1 numbers. Cell i has the value bytes from offsets[i] up to offsets[i + 1].
  *            They never fall, and the last is the count of value bytes. A fixed kind has none.
@@ -54,9 +55,9 @@ extern "C" {
 
 /* The version, as three numbers, as text, and as one number that grows with it: #if DPX_VERSION_NUMBER >= 1002003 */
 #define DPX_VERSION_MAJOR 0
-#define DPX_VERSION_MINOR 1
+#define DPX_VERSION_MINOR 2
 #define DPX_VERSION_PATCH 0
-#define DPX_VERSION "0.1.0"
+#define DPX_VERSION "0.2.0"
 #define DPX_VERSION_NUMBER (DPX_VERSION_MAJOR * 1000000 + DPX_VERSION_MINOR * 1000 + DPX_VERSION_PATCH)
 
 /* Limits. One more of any of these is refused. */
@@ -87,6 +88,7 @@ enum dpx_refusal {
     DPX_COUNT = 9,     /* the older form counts another number of cells */
     DPX_FALLING = 10,  /* stored offsets fall */
     DPX_PAST_END = 11, /* older form: a length field or a cell runs past the end */
+    DPX_UNUSED_BITS = 13, /* a packed mask has a bit after its last cell that is not 0 */
 
     /* Whoever lends the output. */
     DPX_OUTPUT = 6 /* an output is shorter than the result needs */
@@ -118,6 +120,7 @@ static inline const char *dpx_refusal_text(uint32_t refusal)
     case DPX_FALLING: return "refusal 10: stored offsets fall" DPX_STORER;
     case DPX_PAST_END: return "refusal 11: interleaved form: a length field or a cell runs past the end" DPX_STORER;
     case DPX_COVER: return "refusal 12: the subsets of the merge miss a cell or hold one twice" DPX_SUPPLIER;
+    case DPX_UNUSED_BITS: return "refusal 13: a packed mask has a bit after its last cell that is not 0" DPX_STORER;
     default: return "no answer of this version";
     }
 }
@@ -130,17 +133,17 @@ static inline const char *dpx_refusal_text(uint32_t refusal)
 enum dpx_form { DPX_FIXED = 0, DPX_RAGGED = 1 };
 enum dpx_order { DPX_LITTLE = 0, DPX_BIG = 1 }; /* order of the bytes of a stored fixed cell */
 enum dpx_place { DPX_START = 0, DPX_END = 1 };  /* where the index of stored ragged values lies */
-enum dpx_mask { DPX_MASK_BYTES = 0 };           /* one mask byte a cell: the only mask form */
+enum dpx_mask { DPX_MASK_BYTES = 0, DPX_MASK_PACKED = 1 }; /* a byte or a bit for each cell of a stored mask */
 
 /*
- * A kind, passed by value. Make one with dpx_fixed or dpx_ragged.
+ * A kind, passed by value. Make one with dpx_fixed or dpx_ragged, and dpx_packed of it where stored masks are packed.
  */
 typedef struct dpx_kind {
     uint64_t depth; /* mask levels, 0 to 4 */
     uint64_t form;  /* DPX_FIXED or DPX_RAGGED */
     uint64_t size;  /* fixed: bytes of a cell, 1 to 64. ragged: bytes of a stored offset, 4 or 8 */
     uint64_t order; /* fixed: DPX_LITTLE or DPX_BIG. ragged: DPX_START or DPX_END */
-    uint64_t mask;  /* DPX_MASK_BYTES */
+    uint64_t mask;  /* DPX_MASK_BYTES or DPX_MASK_PACKED. At depth 0 there is no mask, and either is the same */
 } dpx_kind;
 
 /* Fixed cells of `size` bytes. In memory a cell is always in little order; `order` is that of the stored bytes. */
@@ -164,6 +167,16 @@ static inline dpx_kind dpx_ragged(uint64_t depth, uint64_t width, enum dpx_place
     kind.size = width;
     kind.order = place;
     kind.mask = DPX_MASK_BYTES;
+    return kind;
+}
+
+/*
+ * The same kind with its stored masks packed: cell i of a level is bit i % 8 of byte i / 8, the lowest bit first, where i
+ * counts the cells that have a place in that mask. Only dpx_encode and dpx_decode look at it.
+ */
+static inline dpx_kind dpx_packed(dpx_kind kind)
+{
+    kind.mask = DPX_MASK_PACKED;
     return kind;
 }
 
@@ -217,6 +230,7 @@ static inline size_t dpx_mask_room(dpx_kind kind, uint64_t cells)
 {
     switch (kind.mask) {
     case DPX_MASK_BYTES: return cells;
+    case DPX_MASK_PACKED: return (cells + 7) / 8;
     default: return 0;
     }
 }
@@ -285,7 +299,8 @@ static inline dpx_cell dpx_get_cell(dpx_kind kind, uint64_t cells,
  * Array to stored bytes.
  *
  * Writes the stored form to `out`. Values below a null are not stored. Fixed values of big order are stored with the
- * bytes of each cell reversed. At depth 0 all else is stored as it is.
+ * bytes of each cell reversed. A packed mask has bit 1 for every set mask byte, and 0 in the bits after its last cell. At
+ * depth 0 all else is stored as it is.
  * Enough room: dpx_stored_room.
  *
  *   lengths[0]   stored bytes written
@@ -309,9 +324,10 @@ uint32_t dpx_encode(dpx_kind kind,
 /*
  * Stored bytes to array.
  *
- * `bytes` is the whole stored table, neither more nor less. Below a null every mask byte comes out as 00, a fixed value
- * as zero bytes and a ragged one as no bytes. From depth 1 on ragged values come out end to end from offset 0; at depth 0
- * offsets and value bytes come out as they are stored, but where the last offset is 0: there no value bytes come out.
+ * `bytes` is the whole stored table, neither more nor less. A set cell of a packed mask comes out as 01. Below a null
+ * every mask byte comes out as 00, a fixed value as zero bytes and a ragged one as no bytes. From depth 1 on ragged values
+ * come out end to end from offset 0; at depth 0 offsets and value bytes come out as they are stored, but where the last
+ * offset is 0: there no value bytes come out.
  * Enough room: dpx_array_room. That is depth * cells masks; fixed: cells * size values; ragged: bytes_len values and
  * cells + 1 offsets.
  *
@@ -325,7 +341,9 @@ uint32_t dpx_encode(dpx_kind kind,
  *   for each level, the outermost first, as long as a cell is set above it:
  *   7 DPX_SHORT    whoever stored the bytes: under 16 bytes for the frame
  *   8 DPX_LENGTH   whoever stored the bytes: 16 and the two lengths are not the bytes there, or the mask length is not the
- *                  count of cells set above
+ *                  count of cells set above; packed: not that count divided by 8, rounded up
+ *  13 DPX_UNUSED_BITS  whoever stored the bytes: in the last byte of a packed mask, a bit after the last of those cells is
+ *                  not 0
  *   then, if a cell is set at all levels, of ragged values:
  *   7 DPX_SHORT    whoever stored the bytes: under 8 bytes
  *   8 DPX_LENGTH   whoever stored the bytes: the index is longer than the bytes, or not width * (cells + 1); or the last

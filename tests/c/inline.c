@@ -34,7 +34,7 @@ static void texts(void)
         for (other = 1; other < number; other++)
             CHECK(strcmp(text, dpx_refusal_text(other)) != 0);
     }
-    CHECK(number > DPX_COVER);
+    CHECK(number > DPX_UNUSED_BITS);
 }
 
 static void counts(void)
@@ -50,6 +50,25 @@ static void counts(void)
     CHECK(dpx_cell_count(first, 1) == 0);
     CHECK(dpx_cell_count(five, 5) == 0);
     CHECK(dpx_cell_count(NULL, 0) == 0);
+}
+
+/* A byte or a bit a cell. All else of a packed kind stays. */
+static void mask_forms(void)
+{
+    const dpx_kind bytes = dpx_ragged(2, 8, DPX_END), packed = dpx_packed(bytes);
+    const uint64_t cells[] = {0, 1, 7, 8, 9, 16, 17, DPX_MAX_CELLS}, packed_bytes[] = {0, 1, 1, 1, 2, 2, 3, DPX_MAX_CELLS / 8};
+    dpx_kind other = bytes;
+    size_t i;
+    CHECK(bytes.mask == DPX_MASK_BYTES && packed.mask == DPX_MASK_PACKED && dpx_packed(packed).mask == DPX_MASK_PACKED);
+    CHECK(packed.depth == 2 && packed.form == DPX_RAGGED && packed.size == 8 && packed.order == DPX_END);
+    for (i = 0; i < sizeof cells / sizeof cells[0]; i++) {
+        CHECK(dpx_mask_room(bytes, cells[i]) == cells[i]);
+        CHECK(dpx_mask_room(packed, cells[i]) == packed_bytes[i]);
+    }
+    CHECK(dpx_stored_room(packed, 9, 5) == 2 * (16 + 2) + 8 + 8 * 10 + 5);
+    CHECK(dpx_array_room(packed, 9, 5).masks == 18); /* planes stay a byte a cell */
+    other.mask = 2;
+    CHECK(dpx_mask_room(other, 9) == 0);
 }
 
 /* One kind: six cells, all set; then one of them null at each level in turn. A ragged cell 0 is empty. */
@@ -160,11 +179,15 @@ int main(void)
     versions();
     texts();
     counts();
+    mask_forms();
     for (depth = 0; depth <= DPX_MAX_DEPTH; depth++) {
-        kind_of(dpx_fixed(depth, 1, DPX_LITTLE));
-        kind_of(dpx_fixed(depth, DPX_MAX_SIZE, DPX_BIG));
-        kind_of(dpx_ragged(depth, 4, DPX_START));
-        kind_of(dpx_ragged(depth, 8, DPX_END));
+        const dpx_kind kinds[] = {dpx_fixed(depth, 1, DPX_LITTLE), dpx_fixed(depth, DPX_MAX_SIZE, DPX_BIG), dpx_ragged(depth, 4, DPX_START),
+                                  dpx_ragged(depth, 8, DPX_END)};
+        size_t i;
+        for (i = 0; i < sizeof kinds / sizeof kinds[0]; i++) {
+            kind_of(kinds[i]);
+            kind_of(dpx_packed(kinds[i]));
+        }
     }
     boxes();
     edges();

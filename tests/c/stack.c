@@ -23,20 +23,29 @@ static uint32_t answer;
 static const dpx_kind nested = {4, DPX_RAGGED, 8, DPX_END, DPX_MASK_BYTES};
 static const dpx_kind flat = {0, DPX_RAGGED, 4, DPX_START, DPX_MASK_BYTES};
 
-static void encode_nested(void)
+static void encode_kind(dpx_kind kind)
 {
-    answer = dpx_encode(nested, shape, 1, masks, 4 * CELLS, values, CELLS, offsets, CELLS + 1, stored, sizeof stored, &stored_len);
+    answer = dpx_encode(kind, shape, 1, masks, 4 * CELLS, values, CELLS, offsets, CELLS + 1, stored, sizeof stored, &stored_len);
 }
+
+static void encode_nested(void) { encode_kind(nested); }
+
+static void encode_packed(void) { encode_kind(dpx_packed(nested)); }
 
 static void encode_flat(void)
 {
     answer = dpx_encode(flat, shape, 1, NULL, 0, values, CELLS, offsets, CELLS + 1, plain, sizeof plain, &plain_len);
 }
 
-static void decode(void)
+/* What was encoded last. */
+static void decode_kind(dpx_kind kind)
 {
-    answer = dpx_decode(nested, shape, 1, stored, stored_len, out_masks, 4 * CELLS, out_values, CELLS, out_offsets, CELLS + 1, lengths);
+    answer = dpx_decode(kind, shape, 1, stored, stored_len, out_masks, 4 * CELLS, out_values, CELLS, out_offsets, CELLS + 1, lengths);
 }
+
+static void decode_nested(void) { decode_kind(nested); }
+
+static void decode_packed(void) { decode_kind(dpx_packed(nested)); }
 
 static void decode_interleaved(void)
 {
@@ -97,7 +106,8 @@ int main(void)
     static const struct {
         const char *name;
         void (*call)(void);
-    } calls[] = {{"encode", encode_nested},       {"encode, depth 0", encode_flat}, {"decode", decode},
+    } calls[] = {{"encode", encode_nested},       {"encode, depth 0", encode_flat}, {"decode", decode_nested},
+                 {"encode, packed", encode_packed}, {"decode, packed", decode_packed},
                  {"decode_interleaved", decode_interleaved}, {"encode_interleaved", encode_interleaved},
                  {"extract", extract},          {"merge", merge},
                  {"partial_decode", partial_decode}, {"reverse_endianness", reverse_endianness}, {"subset_cells", subset_cells}};
@@ -111,6 +121,7 @@ int main(void)
         values[i] = (uint8_t)i;
     }
     memset(masks, 1, sizeof masks);
+    masks[0] = 0; /* so that inner levels have fewer cells */
     old[0] = CELLS & 255;
     old[1] = CELLS >> 8;
     old_len = 4;

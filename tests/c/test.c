@@ -445,13 +445,11 @@ static void test_decode(void)
 
 /* ------------------------------------------------------------------------------------------------- packed masks */
 
-enum { PACKED = 1, UNUSED_BITS = 13 };
-
 /* Written packed and as bytes, both read back: the same values, and masks of 01 where those of bytes are as they were. */
 static void packed_round_trip(size_t cells, size_t one_in)
 {
     const uint64_t all[1] = {cells};
-    const dpx_kind bytes = kind_of(2, DPX_FIXED, 3, DPX_BIG, 0), packed = kind_of(2, DPX_FIXED, 3, DPX_BIG, PACKED);
+    const dpx_kind bytes = kind_of(2, DPX_FIXED, 3, DPX_BIG, 0), packed = kind_of(2, DPX_FIXED, 3, DPX_BIG, DPX_MASK_PACKED);
     const size_t room = 2 * (16 + cells) + 3 * cells;
     uint8_t *masks = block(2 * cells), *values = block(3 * cells), *stored = block(room), *packed_stored = block(room);
     uint64_t length = 0, packed_length = 0;
@@ -483,8 +481,8 @@ static void packed_round_trip(size_t cells, size_t one_in)
 static void test_packed(void)
 {
     const size_t counts[] = {1, 2, 7, 8, 9, 15, 16, 17, 63, 64, 65, 255, 256, 257, 1000, DPX_MAX_CELLS};
-    const dpx_kind f1 = kind_of(1, DPX_FIXED, 1, DPX_LITTLE, PACKED), f2 = kind_of(2, DPX_FIXED, 1, DPX_LITTLE, PACKED);
-    const dpx_kind r4 = kind_of(1, DPX_RAGGED, 4, DPX_START, PACKED);
+    const dpx_kind f1 = kind_of(1, DPX_FIXED, 1, DPX_LITTLE, DPX_MASK_PACKED), f2 = kind_of(2, DPX_FIXED, 1, DPX_LITTLE, DPX_MASK_PACKED);
+    const dpx_kind r4 = kind_of(1, DPX_RAGGED, 4, DPX_START, DPX_MASK_PACKED);
     size_t i;
 
     for (i = 0; i < sizeof counts / sizeof counts[0]; i++) {
@@ -512,20 +510,20 @@ static void test_packed(void)
           BYTES(1, 1, 1, 1, 1, 1, 1, 1, 0, 1, 1, 1, 1, 1, 1, 1, 1, 0), BYTES(1, 2, 3, 4, 5, 6, 7, 8, 0), NONE);
     /* At depth 0 the mask form is idle; an extract keeps the mask bytes. */
     lend(0, 1, 0);
-    STORES(dpx_encode(kind_of(0, DPX_FIXED, 1, 0, PACKED), NUMBERS(1), NONE, BYTES(7), NONE, OUT1), BYTES(7));
+    STORES(dpx_encode(kind_of(0, DPX_FIXED, 1, 0, DPX_MASK_PACKED), NUMBERS(1), NONE, BYTES(7), NONE, OUT1), BYTES(7));
     lend(1, 1, 0);
     GIVES(dpx_extract(f1, NUMBERS(2), NUMBERS(1, 1), BYTES(1, 2), BYTES(7, 8), NONE, OUT3), BYTES(2), BYTES(8), NONE);
     release();
 
     /* 13 of a mask, after its lengths and before its content; every output is too short as well. */
     lend(0, 0, 0);
-    REFUSED(dpx_decode(f1, NUMBERS(1), BYTES(LE8(1), LE8(1), 3, 7), OUT3), UNUSED_BITS);
-    REFUSED(dpx_decode(f1, NUMBERS(1), BYTES(LE8(1), LE8(1), 2, 7), OUT3), UNUSED_BITS);
-    REFUSED(dpx_decode(f1, NUMBERS(1), BYTES(LE8(1), LE8(0), 128), OUT3), UNUSED_BITS);
-    REFUSED(dpx_decode(f1, NUMBERS(9), BYTES(LE8(2), LE8(0), 0, 2), OUT3), UNUSED_BITS);
-    REFUSED(dpx_decode(f1, NUMBERS(1), BYTES(LE8(1), LE8(5), 3, 1, 2, 3, 4, 5), OUT3), UNUSED_BITS);
-    REFUSED(dpx_decode(f2, NUMBERS(8), BYTES(LE8(1), LE8(18), 1, LE8(1), LE8(1), 3, 7), OUT3), UNUSED_BITS);
-    REFUSED(dpx_decode(r4, NUMBERS(1), BYTES(LE8(1), LE8(8), 3, FF8), OUT3), UNUSED_BITS);
+    REFUSED(dpx_decode(f1, NUMBERS(1), BYTES(LE8(1), LE8(1), 3, 7), OUT3), DPX_UNUSED_BITS);
+    REFUSED(dpx_decode(f1, NUMBERS(1), BYTES(LE8(1), LE8(1), 2, 7), OUT3), DPX_UNUSED_BITS);
+    REFUSED(dpx_decode(f1, NUMBERS(1), BYTES(LE8(1), LE8(0), 128), OUT3), DPX_UNUSED_BITS);
+    REFUSED(dpx_decode(f1, NUMBERS(9), BYTES(LE8(2), LE8(0), 0, 2), OUT3), DPX_UNUSED_BITS);
+    REFUSED(dpx_decode(f1, NUMBERS(1), BYTES(LE8(1), LE8(5), 3, 1, 2, 3, 4, 5), OUT3), DPX_UNUSED_BITS);
+    REFUSED(dpx_decode(f2, NUMBERS(8), BYTES(LE8(1), LE8(18), 1, LE8(1), LE8(1), 3, 7), OUT3), DPX_UNUSED_BITS);
+    REFUSED(dpx_decode(r4, NUMBERS(1), BYTES(LE8(1), LE8(8), 3, FF8), OUT3), DPX_UNUSED_BITS);
     REFUSED(dpx_decode(f1, NUMBERS(1), BYTES(LE8(1), LE8(2), 3), OUT3), DPX_LENGTH);
     REFUSED(dpx_decode(f1, NUMBERS(1), BYTES(LE8(2), LE8(0), 3, 0), OUT3), DPX_LENGTH);
     REFUSED(dpx_decode(f1, NUMBERS(2), BYTES(LE8(2), LE8(2), 1, 1, 7, 8), OUT3), DPX_LENGTH);

@@ -248,8 +248,8 @@ fn cut(arguments: &Arguments, watch: &Watch) -> Result<u8, Failure> {
     let name = &stored.input.name;
     let cut = match (stored.kind.depth, stored.kind.values) {
         (0, Values::Ragged { width, place }) => {
-            partial_decode(width, place, &stored.shape, &subset, &stored.input.bytes)
-                .map_err(|refusal| stored.refused(refusal))?
+            let cut = partial_decode(width, place, &stored.shape, &subset, &stored.input.bytes);
+            Array { kind: stored.kind, ..cut.map_err(|refusal| stored.refused(refusal))? }
         }
         _ => extract(&stored.decode()?, &subset).map_err(|refusal| Failure::Refused {
             refusal,

@@ -3,7 +3,7 @@
 use crate::literal;
 use crate::locate::{self, Field, Part, Walk};
 use crate::words;
-use durpaxeta::{Kind, Order, Values};
+use durpaxeta::{Kind, MaskForm, Order, Values};
 use std::fmt::Write;
 use std::ops::Range;
 
@@ -71,8 +71,9 @@ impl Picture<'_> {
         let _ = writeln!(self.text, "{:>width$} | {:<column$} | {what}", "..", "..");
     }
 
-    fn refused(&self, at: usize) -> bool {
-        self.walk.stop.as_ref().is_some_and(|stop| stop.at == at)
+    /// Whether reading stopped in these bytes.
+    fn refused(&self, range: Range<usize>) -> bool {
+        self.walk.stop.as_ref().is_some_and(|stop| range.contains(&stop.at))
     }
 
     /// Bytes that belong to no field, because reading stopped before.
@@ -86,7 +87,7 @@ impl Picture<'_> {
             true => format!("not read: {count} bytes, of which these are the first"),
             false => "not read".into(),
         };
-        self.line(range.start, &literal::spaced(&self.bytes[shown]), &what, self.refused(range.start));
+        self.line(range.start, &literal::spaced(&self.bytes[shown]), &what, self.refused(range.start..range.start + 1));
     }
 
     /// Fields of one sort: the first, the last, the one that is refused, and how many stand between.
@@ -94,7 +95,7 @@ impl Picture<'_> {
         let long = fields.len() > FIRST + LAST + 1;
         let mut skipped = 0;
         for (number, field) in fields.iter().enumerate() {
-            if long && number >= FIRST && number + LAST < fields.len() && !self.refused(field.at) {
+            if long && number >= FIRST && number + LAST < fields.len() && !self.refused(field.range()) {
                 skipped += 1;
                 continue;
             }
@@ -108,26 +109,40 @@ impl Picture<'_> {
 
     fn field(&mut self, field: &Field) {
         let range = field.range();
-        let lines = field.length.div_ceil(LINE);
+        // A byte of a packed mask has eight cells, and a line for itself.
+        let length = if matches!(field.part, Part::Mask { form: MaskForm::Packed, .. }) { 1 } else { LINE };
+        let lines = field.length.div_ceil(length);
         let shown = if lines > LINES { LINES - 1 } else { lines };
         for number in 0..shown {
-            let from = LINE * number;
-            let part = from..field.length.min(from + LINE);
-            let bytes = literal::spaced(&self.bytes[range.start + part.start..range.start + part.end]);
-            let what = self.what(field, number, part);
-            self.line(range.start + from, &bytes, &what, number == 0 && self.refused(field.at));
+            self.part(field, number, length);
         }
-        if shown < lines {
+        // The last line, too, where reading stopped in it.
+        let last = range.start + length * (lines - 1)..range.end;
+        let end = if shown < lines && self.refused(last.clone()) { last.start } else { range.end };
+        let skipped = end - (range.start + length * shown).min(end);
+        if skipped > 0 {
             let what = match &field.part {
-                Part::Mask { level, cells } => {
+                Part::Mask { level, form, cells } => {
                     let mask = &self.bytes[range];
-                    let set = (0..cells.len()).filter(|&place| locate::is_set(mask, place)).count();
+                    let set = (0..cells.len()).filter(|&place| locate::is_set(*form, mask, place)).count();
                     format!("; level {level}, mask: {set} of {} cells are set", cells.len())
                 }
                 _ => String::new(),
             };
-            self.more(format!("{} bytes more{what}", field.length - LINE * shown));
+            self.more(format!("{skipped} bytes more{what}"));
         }
+        if end == last.start {
+            self.part(field, lines - 1, length);
+        }
+    }
+
+    /// One line of a field.
+    fn part(&mut self, field: &Field, number: usize, length: usize) {
+        let part = length * number..field.length.min(length * (number + 1));
+        let range = field.at + part.start..field.at + part.end;
+        let bytes = literal::spaced(&self.bytes[range.clone()]);
+        let what = self.what(field, number, part);
+        self.line(range.start, &bytes, &what, self.refused(range));
     }
 
     fn cell(&self, cell: usize) -> String {
@@ -144,18 +159,33 @@ impl Picture<'_> {
         match &field.part {
             Part::MaskLength { level, says } => format!("level {level}, mask length: {says}"),
             Part::ContentLength { level, says } => format!("level {level}, content length: {says}"),
-            Part::Mask { level, cells } => {
+            Part::Mask { level, form, cells } => {
+                let last = part.end == bytes.len();
                 let (set, null): (Vec<usize>, Vec<usize>) =
-                    locate::places(part).partition(|&place| locate::is_set(bytes, place));
+                    locate::places(*form, part, cells.len()).partition(|&place| locate::is_set(*form, bytes, place));
                 let named = |places: &[usize]| {
+                    let bits = match form {
+                        MaskForm::Bytes => String::new(),
+                        MaskForm::Packed => {
+                            let bits: Vec<usize> = places.iter().map(|place| place % locate::BITS).collect();
+                            format!("{}: ", locate::bits_text(&bits))
+                        }
+                    };
                     let cells: Vec<usize> = places.iter().map(|&place| cells[place]).collect();
-                    format!("cell{} {}", if cells.len() == 1 { "" } else { "s" }, self.cells(&cells))
+                    format!("{bits}cell{} {}", if cells.len() == 1 { "" } else { "s" }, self.cells(&cells))
                 };
-                match (&set[..], &null[..]) {
-                    (set, []) => format!("level {level}, mask: {} set", named(set)),
-                    ([], null) => format!("level {level}, mask: {} null", named(null)),
-                    (set, null) => format!("level {level}, mask: {} set, {} null", named(set), named(null)),
+                let mut parts = Vec::new();
+                if !set.is_empty() {
+                    parts.push(format!("{} set", named(&set)));
                 }
+                if !null.is_empty() {
+                    parts.push(format!("{} null", named(&null)));
+                }
+                let unused: Vec<usize> = locate::unused_bits(*form, cells.len()).filter(|_| last).collect();
+                if !unused.is_empty() {
+                    parts.push(format!("{} unused", locate::bits_text(&unused)));
+                }
+                format!("level {level}, mask: {}", parts.join(", "))
             }
             Part::Plain { cell } if line == 0 => {
                 let before = if self.kind.is_some_and(|kind| kind.depth > 0) { "content: " } else { "" };

@@ -18,6 +18,7 @@ pub const GENERAL: &str = r#"durpaxeta: stored tables of optional and variable-l
 A stored table does not say its kind or its shape. You do, or its description does (FILE.dpx, written by --describe):
 
   --kind "depth 2, ragged, width 4, index at start"    cells of any length
+  --kind "depth 2, packed masks, ragged, width 4, index at start"    the same, its stored masks a bit a cell
   --kind "depth 1, fixed, size 2, little order"        cells of 2 bytes; or: big order
   --shape 2x3                                          2 rows of 3 cells
   --subset 0..2,1..3                                   rows 0 and 1, columns 1 and 2: the end is not included
@@ -38,7 +39,7 @@ Where write, cut, merge and convert write to:
 
 Exit status:
   0         all went well, and all of it was delivered
-  1 to 12   the number of the refusal, whether or not anyone read the words to it
+  1 to 13   the number of the refusal, whether or not anyone read the words to it
   64        a wrong command line, or an output that is also an input
   65        a worksheet that cannot be read
   66        a description that cannot be read
@@ -91,7 +92,8 @@ Makes a stored table from a worksheet. The worksheet says its kind and its shape
   1,1 | 01 00 | null at level 2   # not set, one level deeper
 
 A line is the coordinates, the mask byte of each level in hex (00 is null, any other byte is set; at depth 0 a -), and
-what the cell is: null at level N, value "text" or value hex 0A 0B. Masks and words must agree. In a text \" \\ \n \t \r
+what the cell is: null at level N, value "text" or value hex 0A 0B. Masks and words must agree. A kind with packed masks
+stores a set byte as a bit, which is shown as 01. In a text \" \\ \n \t \r
 and \x0A stand for one byte; other characters for their bytes in UTF-8. Every cell stands in one line; their order is free.
 # begins a comment.
 
@@ -180,7 +182,7 @@ pub const EXPLAIN: &str = r#"durpaxeta explain [--kind KIND --shape SHAPE] FILE
 durpaxeta explain --interleaved --shape SHAPE FILE
 
 Prints the stored bytes field by field: position, bytes, what they are. Masks come before values; each mask line names its
-cells. Long parts are shortened with a count. Of a damaged file all is printed up to the field that is refused, then the
+cells, and of a packed mask the bit of each. Long parts are shortened with a count. Of a damaged file all is printed up to the field that is refused, then the
 refusal and whose it is. The exit status is that of check. With --interleaved the file is read as the older, interleaved form.
 Kind and shape may be left out where FILE.dpx says them; a file that is not the one described is explained, too.
 

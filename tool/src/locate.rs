@@ -3,7 +3,7 @@
 //! The library answers with a number alone. This module walks the same bytes and names the fields. It decides nothing:
 //! where it stops is used only where it comes to the library's refusal.
 
-use durpaxeta::{Kind, Place, Refusal, Values, Width, MAX_VALUE_BYTES};
+use durpaxeta::{Kind, MaskForm, Place, Refusal, Values, Width, MAX_VALUE_BYTES};
 use std::ops::Range;
 
 /// Where reading stops, and why.
@@ -48,6 +48,7 @@ pub enum Part {
     /// `cells` are those that have a place in this mask, in their order.
     Mask {
         level: u64,
+        form: MaskForm,
         cells: Vec<usize>,
     },
     /// A fixed value.
@@ -125,10 +126,12 @@ impl Walk {
         self.unused().map(|(field, _)| field.length).sum()
     }
 
-    /// The first mask byte other than 00 and 01, and its level.
+    /// The first mask byte other than 00 and 01, and its level. Bits say no more than set or null.
     pub fn loose_mask(&self, bytes: &[u8]) -> Option<(usize, u64)> {
         self.fields.iter().find_map(|field| match field.part {
-            Part::Mask { level, .. } => field.range().find(|&at| bytes[at] > 1).map(|at| (at, level)),
+            Part::Mask { level, form: MaskForm::Bytes, .. } => {
+                field.range().find(|&at| bytes[at] > 1).map(|at| (at, level))
+            }
             _ => None,
         })
     }
@@ -150,19 +153,44 @@ pub fn interleaved(cells: usize, bytes: &[u8]) -> Walk {
 
 // ----------------------------------------------------------------------------------------------- how a mask lies
 
-/// Bytes of the mask of so many cells: one for each.
-fn mask_length(cells: usize) -> usize {
-    cells
+/// Cells of a byte of a packed mask, the lowest bit first.
+pub const BITS: usize = 8;
+
+/// Bytes of the mask of so many cells.
+fn mask_length(form: MaskForm, cells: usize) -> usize {
+    match form {
+        MaskForm::Bytes => cells,
+        MaskForm::Packed => cells.div_ceil(BITS),
+    }
 }
 
-/// Whether the cell at a place of a mask is set: any byte but 00.
-pub fn is_set(mask: &[u8], place: usize) -> bool {
-    mask[place] != 0
+/// Whether the cell at a place of a mask is set: any byte but 00, or a bit that is 1.
+pub fn is_set(form: MaskForm, mask: &[u8], place: usize) -> bool {
+    match form {
+        MaskForm::Bytes => mask[place] != 0,
+        MaskForm::Packed => mask[place / BITS] >> (place % BITS) & 1 == 1,
+    }
 }
 
-/// The places of a mask that lie in these of its bytes.
-pub fn places(bytes: Range<usize>) -> Range<usize> {
-    bytes
+/// The places of a mask of so many cells that lie in these of its bytes.
+pub fn places(form: MaskForm, bytes: Range<usize>, cells: usize) -> Range<usize> {
+    match form {
+        MaskForm::Bytes => bytes,
+        MaskForm::Packed => BITS * bytes.start..cells.min(BITS * bytes.end),
+    }
+}
+
+/// The bits of a packed mask after those of its cells, numbered in its last byte.
+pub fn unused_bits(form: MaskForm, cells: usize) -> Range<usize> {
+    match form {
+        MaskForm::Packed if cells % BITS != 0 => cells % BITS..BITS,
+        _ => 0..0,
+    }
+}
+
+pub fn bits_text(bits: &[usize]) -> String {
+    let numbers: Vec<String> = bits.iter().map(usize::to_string).collect();
+    format!("bit{} {}", if bits.len() == 1 { "" } else { "s" }, numbers.join(" "))
 }
 
 // -------------------------------------------------------------------------------------------------- the fields
@@ -204,10 +232,12 @@ impl Walker<'_> {
     fn table(&mut self, kind: Kind, mut cells: Vec<usize>) -> Result<(), Stop> {
         let mut at = 0;
         for level in 1..=kind.depth {
-            let mask = self.frame(level, cells.len(), at)?;
-            let set = (0..cells.len()).filter(|&place| is_set(&self.bytes[mask.clone()], place));
+            let (form, count) = (kind.masks, cells.len());
+            let mask = self.frame(form, level, count, at)?;
+            let set = (0..count).filter(|&place| is_set(form, &self.bytes[mask.clone()], place));
             let set = set.map(|place| cells[place]).collect();
-            self.field(mask.start, mask.len(), Part::Mask { level, cells });
+            self.field(mask.start, mask.len(), Part::Mask { level, form, cells });
+            self.unused_bits(form, level, count, mask.end - 1)?;
             (at, cells) = (mask.end, set);
             if cells.is_empty() {
                 self.field(at, self.left(at), Part::Unused(Unused::Content { level }));
@@ -221,7 +251,7 @@ impl Walker<'_> {
     }
 
     /// The two lengths of a frame; answers where its mask lies.
-    fn frame(&mut self, level: u64, cells: usize, at: usize) -> Result<Range<usize>, Stop> {
+    fn frame(&mut self, form: MaskForm, level: u64, cells: usize, at: usize) -> Result<Range<usize>, Stop> {
         let left = self.left(at);
         if left < 16 {
             stop(
@@ -234,11 +264,16 @@ impl Walker<'_> {
         }
         let (mask, content) = (self.number(at, 8), self.number(at + 8, 8));
         self.field(at, 8, Part::MaskLength { level, says: mask });
-        if mask != mask_length(cells) as u64 {
+        let need = mask_length(form, cells);
+        if mask != need as u64 {
+            let packed = match form {
+                MaskForm::Bytes => String::new(),
+                MaskForm::Packed => format!(", and their bits take {need}"),
+            };
             stop(
                 Refusal::Length,
                 at,
-                format!("the mask length of level {level} says {mask}; that level has {}", cells_text(cells)),
+                format!("the mask length of level {level} says {mask}; that level has {}{packed}", cells_text(cells)),
             )?;
         }
         self.field(at + 8, 8, Part::ContentLength { level, says: content });
@@ -252,7 +287,23 @@ impl Walker<'_> {
                 ),
             )?;
         }
-        Ok(at + 16..at + 16 + mask_length(cells))
+        Ok(at + 16..at + 16 + need)
+    }
+
+    /// The bits that no cell has, in the last byte of a mask.
+    fn unused_bits(&self, form: MaskForm, level: u64, cells: usize, last: usize) -> Result<(), Stop> {
+        let byte = self.bytes[last];
+        let bits: Vec<usize> = unused_bits(form, cells).filter(|bit| byte >> bit & 1 == 1).collect();
+        if bits.is_empty() {
+            return Ok(());
+        }
+        let verb = if bits.len() == 1 { "is" } else { "are" };
+        let (count, bits) = (cells_text(cells), bits_text(&bits));
+        let what = format!(
+            "the mask of level {level} ends there; it has {count}, and of its last byte, {byte:02X}, the unused {bits} {verb} \
+             not 0"
+        );
+        stop(Refusal::UnusedBits, last, what)
     }
 
     fn plain(&mut self, size: u64, cells: &[usize], at: usize) -> Result<(), Stop> {
@@ -417,6 +468,58 @@ mod tests {
         assert_eq!(at(table(kind, 4, &[])), Some((7, 0)));
         assert_eq!(at(table(kind, 4, &stored[..15])), Some((7, 0)));
         assert_eq!(at(table(kind, 4, &stored[..63])), Some((8, 8)));
+    }
+
+    /// Three cells take a byte; the length, then the unused bits, then the content.
+    #[test]
+    fn a_packed_mask() {
+        let kind = Kind::fixed(2, 1, Order::Little).packed();
+        let cells = [Cell::Value(b"a"), Cell::Null { level: 2 }, Cell::Null { level: 1 }];
+        let stored = encode(&Array::from_cells(kind, &[3], &cells).unwrap()).unwrap();
+        assert_eq!((stored.len(), stored[16], stored[33]), (35, 0b011, 0b01));
+        assert_eq!(at(table(kind, 3, &stored)), None);
+        let with = |position: usize, byte: u8| {
+            let mut bytes = stored.clone();
+            bytes[position] = byte;
+            table(kind, 3, &bytes).stop
+        };
+        let told = |stop: Option<Stop>| stop.map(|stop| (stop.refusal.number(), stop.at, stop.what)).unwrap();
+        assert_eq!(
+            told(with(0, 3)),
+            (8, 0, "the mask length of level 1 says 3; that level has 3 cells, and their bits take 1".into())
+        );
+        assert_eq!(
+            told(with(16, 0b1011)),
+            (
+                13,
+                16,
+                "the mask of level 1 ends there; it has 3 cells, and of its last byte, 0B, the unused bit 3 is not 0"
+                    .into()
+            )
+        );
+        assert_eq!(
+            told(with(33, 0b1000_0101)),
+            (
+                13,
+                33,
+                "the mask of level 2 ends there; it has 2 cells, and of its last byte, 85, the unused bits 2 7 are not 0"
+                    .into()
+            )
+        );
+        assert_eq!(with(33, 0b11).map(|stop| (stop.refusal.number(), stop.at)), Some((8, 34)));
+        // 02 is null, then set, but no loose byte.
+        assert_eq!(table(kind, 3, &stored).loose_mask(&stored), None);
+        let mut other = stored.clone();
+        other[33] = 0b10;
+        assert_eq!(table(kind, 3, &other).loose_mask(&other), None);
+        // A full byte has no unused bits.
+        let full = Kind::fixed(1, 1, Order::Little).packed();
+        let frame = |mask: &[u8], content: &[u8]| {
+            let lengths = [mask.len() as u64, content.len() as u64].map(u64::to_le_bytes).concat();
+            [&lengths[..], mask, content].concat()
+        };
+        assert_eq!(at(table(full, 8, &frame(&[255], b"abcdefgh"))), None);
+        assert_eq!(at(table(full, 9, &frame(&[255, 2], b"abcdefgh"))), Some((13, 17)));
     }
 
     #[test]

@@ -22,6 +22,8 @@ pub fn damaged(round: usize, draw: &mut impl FnMut(usize) -> usize) -> (Kind, Ve
         Kind::ragged(4, Width::Eight, Place::End),
         Kind::fixed(0, 3, Order::Big),
         Kind::fixed(3, 2, Order::Little),
+        Kind::ragged(2, Width::Four, Place::Start).packed(),
+        Kind::fixed(3, 2, Order::Little).packed(),
     ];
     let kind = kinds[round % kinds.len()];
     let depth = kind.depth as usize;

@@ -36,6 +36,8 @@ fn the_pictures_of_the_page() {
         (KIND, "1"),
         ("", "2"),
         ("", "1"),
+        ("depth 1, packed masks, fixed, size 2, little order", "3"),
+        ("depth 2, packed masks, fixed, size 1, little order", "9"),
     ];
     let pictures: Vec<&str> = page.split("```bytes\n").skip(1).map(|rest| rest.split("```").next().unwrap()).collect();
     assert_eq!(pictures.len(), tables.len());

@@ -1,7 +1,7 @@
 //! The archive's functions over slices. The only unsafe code of this crate.
 #![allow(unsafe_code)]
 
-use crate::{Kind, Lent, Order, Place, Room, Values, Width};
+use crate::{Kind, Lent, MaskForm, Order, Place, Room, Values, Width};
 
 /// `dpx_kind` of durpaxeta.h.
 #[repr(C)]
@@ -20,7 +20,14 @@ impl From<Kind> for RawKind {
             Values::Fixed { size, order } => (0, size, number_of_order(order)),
             Values::Ragged { width, place } => (1, number_of_width(width), number_of_place(place)),
         };
-        RawKind { depth: kind.depth, form, size, order, mask: 0 }
+        RawKind { depth: kind.depth, form, size, order, mask: number_of_masks(kind.masks) }
+    }
+}
+
+fn number_of_masks(masks: MaskForm) -> u64 {
+    match masks {
+        MaskForm::Bytes => 0,
+        MaskForm::Packed => 1,
     }
 }
 

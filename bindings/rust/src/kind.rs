@@ -1,4 +1,4 @@
-//! The kind of a table: its depth, and whether values are fixed or ragged.
+//! The kind of a table: its depth, how stored masks lie, and whether values are fixed or ragged.
 
 use crate::{sizes, Room};
 
@@ -43,6 +43,15 @@ pub enum Place {
     End,
 }
 
+/// How a stored mask lies. Mask planes in memory are always a byte a cell.
+#[derive(Clone, Copy, Debug, PartialEq, Eq, Hash)]
+pub enum MaskForm {
+    /// A byte for each cell: 00 is null, any other byte is set.
+    Bytes,
+    /// A bit for each cell, the lowest of a byte first.
+    Packed,
+}
+
 /// How the values of a table are stored.
 #[derive(Clone, Copy, Debug, PartialEq, Eq, Hash)]
 pub enum Values {
@@ -72,6 +81,7 @@ pub enum Values {
 /// let kind: Kind = "depth 1, ragged, width 4, index at start".parse()?;
 /// assert_eq!(kind, Kind::ragged(1, Width::Four, Place::Start));
 /// assert_eq!(Kind::fixed(0, 2, Order::Little).to_string(), "depth 0, fixed, size 2, little order");
+/// assert_eq!(kind.packed().to_string(), "depth 1, packed masks, ragged, width 4, index at start");
 /// # Ok::<(), durpaxeta::TextError>(())
 /// ```
 #[derive(Clone, Copy, Debug, PartialEq, Eq, Hash)]
@@ -79,29 +89,48 @@ pub enum Values {
 pub struct Kind {
     /// Mask levels, 0 to 4.
     pub depth: u64,
+    /// How stored masks lie. At depth 0 there are none, and either form is the same.
+    pub masks: MaskForm,
     /// Fixed or ragged.
     pub values: Values,
 }
 
 impl Kind {
-    /// A kind of fixed cells.
+    /// A kind of fixed cells. Stored masks are a byte a cell.
     ///
     /// ```
     /// use durpaxeta::{Kind, Order};
     /// assert_eq!(Kind::fixed(1, 2, Order::Big).to_string(), "depth 1, fixed, size 2, big order");
     /// ```
     pub const fn fixed(depth: u64, size: u64, order: Order) -> Kind {
-        Kind { depth, values: Values::Fixed { size, order } }
+        Kind { depth, masks: MaskForm::Bytes, values: Values::Fixed { size, order } }
     }
 
-    /// A kind of ragged cells.
+    /// A kind of ragged cells. Stored masks are a byte a cell.
     ///
     /// ```
     /// use durpaxeta::{Kind, Place, Width};
     /// assert_eq!(Kind::ragged(0, Width::Eight, Place::End).to_string(), "depth 0, ragged, width 8, index at end");
     /// ```
     pub const fn ragged(depth: u64, width: Width, place: Place) -> Kind {
-        Kind { depth, values: Values::Ragged { width, place } }
+        Kind { depth, masks: MaskForm::Bytes, values: Values::Ragged { width, place } }
+    }
+
+    /// The same kind with its stored masks packed, a bit a cell. Only [`encode`](crate::encode) and
+    /// [`decode`](crate::decode) look at it; a set cell is then read as 01, whatever byte was written.
+    ///
+    /// ```
+    /// use durpaxeta::{decode, encode, Array, Kind, Order};
+    ///
+    /// let kind = Kind::fixed(1, 1, Order::Little).packed();
+    /// let table = Array { kind, shape: vec![3], masks: vec![1, 0, 2], values: b"abc".to_vec(), offsets: vec![] };
+    /// let stored = encode(&table)?;
+    /// assert_eq!(stored, [1, 0, 0, 0, 0, 0, 0, 0, 2, 0, 0, 0, 0, 0, 0, 0, 0b101, b'a', b'c']);
+    /// assert_eq!(decode(kind, &[3], &stored)?.masks, [1, 0, 1]);
+    /// # Ok::<(), durpaxeta::Refusal>(())
+    /// ```
+    pub const fn packed(self) -> Kind {
+        Kind { masks: MaskForm::Packed, ..self }
     }
 
     /// Whether cells have any length, and offsets.
@@ -134,6 +163,7 @@ impl Kind {
     /// use durpaxeta::{Kind, Place, Width};
     /// let kind = Kind::ragged(1, Width::Four, Place::Start);
     /// assert_eq!(kind.stored_room(3, 10), (16 + 3) + 8 + 4 * 4 + 10);
+    /// assert_eq!(kind.packed().stored_room(3, 10), (16 + 1) + 8 + 4 * 4 + 10);
     /// ```
     pub fn stored_room(self, cells: usize, value_bytes: usize) -> usize {
         sizes::stored(self, cells, value_bytes)

@@ -43,7 +43,7 @@ pub use calls::{
     decode, decode_interleaved, decode_into, encode, encode_interleaved, encode_interleaved_into, encode_into, extract,
     extract_into, merge, merge_into, partial_decode, reverse_endianness, subset_cells, Chunk,
 };
-pub use kind::{Kind, Order, Place, Values, Width};
+pub use kind::{Kind, MaskForm, Order, Place, Values, Width};
 pub use lent::{cell_count, Lent, Room};
 pub use refusal::{Blame, Refusal, UnknownRefusal};
 pub use subset::Subset;

@@ -61,6 +61,7 @@ refusals! {
     Falling = 10, Storer, "stored offsets fall";
     PastEnd = 11, Storer, "interleaved form: a length field or a cell runs past the end";
     Cover = 12, Supplier, "the subsets of the merge miss a cell or hold one twice";
+    UnusedBits = 13, Storer, "a packed mask has a bit after its last cell that is not 0";
 }
 
 /// Who causes a refusal.

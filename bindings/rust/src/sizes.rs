@@ -3,7 +3,7 @@
 //! Where an input is wrong the archive refuses it before it looks at an output, so any length will do there: these
 //! functions then answer little or nothing, and never a number that the inputs do not bear out.
 
-use crate::{Kind, Room, Values, MAX_CELLS, MAX_DEPTH, MAX_SIDES, MAX_SIZE, MAX_VALUE_BYTES};
+use crate::{Kind, MaskForm, Room, Values, MAX_CELLS, MAX_DEPTH, MAX_SIDES, MAX_SIZE, MAX_VALUE_BYTES};
 
 /// Cells of a shape; None where the shape is refused.
 pub fn cells(shape: &[u64]) -> Option<usize> {
@@ -121,8 +121,11 @@ pub fn array(kind: Kind, cells: usize, bytes: usize) -> Room {
 }
 
 /// Stored bytes of one level's mask.
-fn stored_mask(_: Kind, cells: usize) -> usize {
-    cells
+fn stored_mask(kind: Kind, cells: usize) -> usize {
+    match kind.masks {
+        MaskForm::Bytes => cells,
+        MaskForm::Packed => cells.div_ceil(8),
+    }
 }
 
 /// Stored bytes of an array at most: for each level 16 and its mask; 8, the index and the values.

@@ -1,6 +1,6 @@
 //! Kinds and subsets as text.
 
-use crate::{Kind, Order, Place, Refusal, Subset, Values, Width};
+use crate::{Kind, MaskForm, Order, Place, Refusal, Subset, Values, Width};
 use alloc::format;
 use alloc::string::String;
 use alloc::vec::Vec;
@@ -53,9 +53,13 @@ const KIND_EXAMPLES: &str =
     "write for example \"depth 1, ragged, width 4, index at start\" or \"depth 0, fixed, size 2, little order\"";
 
 impl fmt::Display for Kind {
-    /// For example `depth 1, ragged, width 4, index at start` or `depth 0, fixed, size 2, little order`.
+    /// For example `depth 1, ragged, width 4, index at start` or `depth 2, packed masks, fixed, size 2, little order`. Masks of
+    /// a byte a cell are not named.
     fn fmt(&self, f: &mut fmt::Formatter<'_>) -> fmt::Result {
         write!(f, "depth {}, ", self.depth)?;
+        if self.masks == MaskForm::Packed {
+            f.write_str("packed masks, ")?;
+        }
         match self.values {
             Values::Fixed { size, order } => {
                 let order = match order {
@@ -79,6 +83,7 @@ impl fmt::Display for Kind {
 #[derive(Default)]
 struct Said {
     depth: Option<u64>,
+    packed: Option<()>,
     ragged: Option<bool>,
     size: Option<u64>,
     order: Option<Order>,
@@ -102,6 +107,7 @@ impl Said {
         let number = |text: &str| read_number(text).ok_or_else(|| format!("has no number in \"{part}\""));
         let free = match words[..] {
             ["depth", n] => fill(&mut self.depth, number(n)?),
+            ["packed", "masks"] => fill(&mut self.packed, ()),
             ["fixed"] => fill(&mut self.ragged, false),
             ["ragged"] => fill(&mut self.ragged, true),
             ["size", n] | ["size", n, "byte" | "bytes"] => fill(&mut self.size, number(n)?),
@@ -121,6 +127,13 @@ impl Said {
 
     /// The kind that was said, None where its width is none; `wrong` tells of what is missing or too much.
     fn kind(self, wrong: impl Fn(&str) -> TextError) -> Result<Option<Kind>, TextError> {
+        let packed = self.packed.is_some();
+        let kind = self.in_bytes(wrong)?;
+        Ok(if packed { kind.map(Kind::packed) } else { kind })
+    }
+
+    /// That kind with masks of a byte a cell.
+    fn in_bytes(self, wrong: impl Fn(&str) -> TextError) -> Result<Option<Kind>, TextError> {
         let depth = self.depth.ok_or_else(|| wrong("does not say the depth"))?;
         if !self.ragged.ok_or_else(|| wrong("says neither fixed nor ragged"))? {
             if self.width.is_some() || self.place.is_some() {

@@ -52,22 +52,40 @@ fn pictures_are_real() {
         encode_interleaved(&Array::from_cells(start(0), &[2], &[a, empty]).unwrap()).unwrap(),
         encode_interleaved(&late).unwrap(),
     ];
+    let numbers: Vec<u8> = (1..=9).collect();
+    let nine: Vec<Cell<'_>> = (0..9)
+        .map(|cell| match cell {
+            0 | 7 => Cell::Value(&numbers[cell..=cell]),
+            8 => null1,
+            _ => null2,
+        })
+        .collect();
+    let packed = [
+        stored(fixed(1, 2).packed(), &[3], &[Cell::Value(&[10, 11]), null1, Cell::Value(&[14, 15])]),
+        stored(fixed(2, 1).packed(), &[9], &nine),
+    ];
     let pictures = pictures();
-    assert_eq!(pictures.len(), wanted.len());
-    for (number, (picture, wanted)) in pictures.iter().zip(&wanted).enumerate() {
+    assert_eq!(pictures.len(), wanted.len() + packed.len());
+    for (number, (picture, wanted)) in pictures.iter().zip(wanted.iter().chain(&packed)).enumerate() {
         assert_eq!(picture, wanted, "picture {number}");
     }
     let interleaved = decode_interleaved(2, &pictures[13]).unwrap();
     assert_eq!((interleaved.cell(0), interleaved.cell(1)), (Some(&b"A"[..]), Some(&b""[..])));
 
     let lengths: Vec<usize> = pictures.iter().map(Vec::len).collect();
-    assert_eq!(lengths, [4, 4, 22, 34, 18, 23, 19, 38, 64, 51, 50, 34, 17, 13, 9]);
+    assert_eq!(lengths, [4, 4, 22, 34, 18, 23, 19, 38, 64, 51, 50, 34, 17, 13, 9, 21, 37]);
 }
 
 #[test]
 fn answers_of_the_questions() {
     let one = Kind::ragged(1, Width::Four, Place::Start);
     assert_eq!(stored(one, &[2], &[Cell::Null { level: 1 }; 2]).len(), 18);
+    // Part 12: one cell reads alike in both forms of masks.
+    for cell in [Cell::Value(b"A"), Cell::Null { level: 1 }] {
+        let alike = stored(one, &[1], &[cell]);
+        assert_eq!(alike, stored(one.packed(), &[1], &[cell]));
+        assert_eq!(decode(one.packed(), &[1], &alike).unwrap().cell(0), Some(cell));
+    }
     let kind = Kind::ragged(2, Width::Four, Place::Start);
     let mut affinity = pictures()[8].clone();
     affinity[51] = 4;

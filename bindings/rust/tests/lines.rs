@@ -187,6 +187,35 @@ fn cuts_of_stored_values() {
     assert_eq!(none, Ok(array(kind, &[0, 2], &[], b"", &[0])));
 }
 
+/// S10.13 to S10.18.
+#[test]
+fn packed_masks() {
+    let kind = fixed(1, 1).packed();
+    let values: Vec<u8> = (1..=9).collect();
+    let stored = encode(&array(kind, &[9], &[1, 0, 2, 0, 0, 0, 0, 0, 255], &values, &[])).unwrap();
+    assert_eq!(stored, bytes("0200000000000000 0300000000000000 0501 010309"));
+    let read = array(kind, &[9], &[1, 0, 1, 0, 0, 0, 0, 0, 1], &[1, 0, 3, 0, 0, 0, 0, 0, 9], &[]);
+    assert_eq!(decode(kind, &[9], &stored), Ok(read));
+    for (hex, refusal) in [
+        ("0100000000000000 0200000000000000 03 0707", Refusal::UnusedBits),
+        ("0200000000000000 0100000000000000 0102 07", Refusal::Length),
+        ("0100000000000000 0200000000000000 03", Refusal::Length),
+        ("0200000000000000 0000000000000000 0300", Refusal::Length),
+        ("0100000000000000 0500000000000000 02 0102030405", Refusal::UnusedBits),
+    ] {
+        assert_eq!(decode(kind, &[1], &bytes(hex)), Err(refusal), "{hex}");
+    }
+    let kind = fixed(2, 1).packed();
+    let masks = [1, 1, 1, 1, 1, 1, 1, 1, 0, 1, 1, 1, 1, 1, 1, 1, 1, 0];
+    let table = array(kind, &[9], &masks, &[1, 2, 3, 4, 5, 6, 7, 8, 0], &[]);
+    let stored = encode(&table).unwrap();
+    assert_eq!((&stored[16..18], stored[34]), (&[255, 0][..], 255));
+    assert_eq!(decode(kind, &[9], &stored), Ok(table));
+    // A cut keeps the mask byte itself.
+    let two = array(fixed(1, 1).packed(), &[1], &[2], &[7], &[]);
+    assert_eq!(extract(&two, &subset(&[0, 1])), Ok(two));
+}
+
 #[test]
 fn words_of_kinds() {
     assert_eq!(ragged(1, Width::Four, Place::Start).to_string(), "depth 1, ragged, width 4, index at start");

@@ -44,7 +44,7 @@ fn numbers_messages_and_blame() {
     let of = |blame| all.clone().filter(|r| r.blame() == blame).map(Refusal::number).collect::<Vec<_>>();
     assert_eq!(of(Blame::Describer), [1, 2, 3]);
     assert_eq!(of(Blame::Supplier), [4, 5, 12]);
-    assert_eq!(of(Blame::Storer), [7, 8, 9, 10, 11]);
+    assert_eq!(of(Blame::Storer), [7, 8, 9, 10, 11, 13]);
     assert_eq!(of(Blame::Lender), [6]);
 }
 
@@ -202,9 +202,11 @@ fn chunks_are_tested_one_by_one() {
     assert_eq!(merge(f1(0), &[2], &[Chunk::new(&three, &a), Chunk::new(&one, &a)]), Err(Refusal::Subset));
     let both = subset(&[0, 1, 1, 1]);
     assert_eq!(merge(f1(0), &[2], &[Chunk::new(&both, &long)]), Err(Refusal::Subset));
-    // Order, width and place of a chunk do not matter.
+    // Order, width, place and mask form of a chunk do not matter.
     let big = array(Kind::fixed(0, 1, Order::Big), &[1], &[], b"a", &[]);
     assert_eq!(merge(f1(0), &[1], &[Chunk::new(&first, &big)]), Ok(chunk(b"a")));
+    let packed = array(f1(0).packed(), &[1], &[], b"a", &[]);
+    assert_eq!(merge(f1(0), &[1], &[Chunk::new(&first, &packed)]), Ok(chunk(b"a")));
 }
 
 #[test]
@@ -246,6 +248,40 @@ fn stored_frames() {
     let inner = le(&[2, 0], 8, &[0, 0]);
     let outer = le(&[2, 18], 8, &[1, 0]);
     assert_eq!(decode(f1(2), &[2], &[outer, inner].concat()), Err(Refusal::Length));
+}
+
+/// 13 comes after the lengths of its frame and before its content; the bits are those after the cells of that level.
+#[test]
+fn unused_bits() {
+    let (one, two, ragged) = (f1(1).packed(), f1(2).packed(), r4(1).packed());
+    let inner = |mask: u8| le(&[1, 1], 8, &[mask, 7]);
+    let cases: [(Kind, u64, Vec<u8>, Refusal); 13] = [
+        (one, 1, le(&[1, 1], 8, &[0b11, 7]), Refusal::UnusedBits),
+        (one, 1, le(&[1, 0], 8, &[0b1000_0000]), Refusal::UnusedBits),
+        (one, 7, le(&[1, 0], 8, &[0b1000_0000]), Refusal::UnusedBits),
+        (one, 9, le(&[2, 0], 8, &[0, 0b10]), Refusal::UnusedBits),
+        (one, 1, le(&[1, 1], 8, &[0b10, b'x']), Refusal::UnusedBits),
+        (one, 1, le(&[1, 5], 8, &[0b11, 1, 2, 3, 4, 5]), Refusal::UnusedBits),
+        (ragged, 1, le(&[1, 3], 8, &[0b11, 1, 2, 3]), Refusal::UnusedBits),
+        (two, 8, le(&[1, 18], 8, &[&[1][..], &inner(0b11)].concat()), Refusal::UnusedBits),
+        (one, 1, le(&[1, 2], 8, &[0b11]), Refusal::Length),
+        (one, 1, le(&[2, 0], 8, &[0b11, 0]), Refusal::Length),
+        (one, 2, le(&[2, 2], 8, &[1, 1, 7, 8]), Refusal::Length),
+        (one, 9, le(&[1, 8], 8, &[255, 1, 2, 3, 4, 5, 6, 7, 8]), Refusal::Length),
+        (one, 1, le(&[1, 0], 8, &[1]), Refusal::Length),
+    ];
+    for (kind, cells, bytes, refusal) in cases {
+        assert_eq!(decode(kind, &[cells], &bytes), Err(refusal), "{kind}: {bytes:02X?}");
+    }
+    // Eight cells fill a byte, also where the shape has nine.
+    let full = decode(one, &[8], &le(&[1, 8], 8, &[255, 1, 2, 3, 4, 5, 6, 7, 8])).unwrap();
+    assert_eq!(full.masks, [1; 8]);
+    let inner = le(&[1, 8], 8, &[255, 1, 2, 3, 4, 5, 6, 7, 8]);
+    let nine = decode(two, &[9], &le(&[2, 25], 8, &[&[255, 0][..], &inner].concat())).unwrap();
+    assert_eq!((nine.cell(7), nine.cell(8)), (Some(Cell::Value(&[8])), Some(Cell::Null { level: 1 })));
+    // At depth 0 the form is idle, and what is handed over is a byte a cell.
+    assert_eq!(encode(&array(f1(0).packed(), &[1], &[], b"a", &[])), Ok(b"a".to_vec()));
+    assert_eq!(encode(&array(one, &[2], &[3], b"ab", &[])), Err(Refusal::Content));
 }
 
 #[test]

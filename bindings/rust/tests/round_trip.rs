@@ -1,5 +1,5 @@
-//! Arrays drawn at random: cut up, stored, read back and put together they are their rest form; and whatever is handed
-//! over, no call ever complains of an output.
+//! Arrays drawn at random: cut up, stored, read back and put together they are their rest form, with packed masks every set
+//! byte as 01; and whatever is handed over, no call ever complains of an output.
 
 use durpaxeta::*;
 
@@ -24,13 +24,19 @@ impl Draws {
 
     fn kind(&mut self) -> Kind {
         let depth = self.below(5);
-        match self.below(2) {
+        let packed = self.one_in(2);
+        let kind = match self.below(2) {
             0 => Kind::fixed(depth, 1 + self.below(9), if self.one_in(2) { Order::Big } else { Order::Little }),
             _ => Kind::ragged(
                 depth,
                 if self.one_in(2) { Width::Four } else { Width::Eight },
                 if self.one_in(2) { Place::Start } else { Place::End },
             ),
+        };
+        if packed {
+            kind.packed()
+        } else {
+            kind
         }
     }
 
@@ -118,6 +124,15 @@ fn rest(array: &Array) -> Array {
     rest
 }
 
+/// What comes back of an array that was stored: its rest form; of a packed mask a set cell is 01.
+fn returned(array: &Array) -> Array {
+    let mut rest = rest(array);
+    if array.kind.masks == MaskForm::Packed {
+        rest.masks.iter_mut().for_each(|mask| *mask = u8::from(*mask != 0));
+    }
+    rest
+}
+
 #[test]
 fn cut_stored_read_and_merged() {
     let mut draws = Draws(0x9E37_79B9_7F4A_7C15);
@@ -135,16 +150,16 @@ fn cut_stored_read_and_merged() {
         let chunks: Vec<Chunk<'_>> =
             subsets.iter().zip(&read).map(|(subset, array)| Chunk::new(subset, array)).collect();
         let merged = merge(kind, &shape, &chunks).unwrap();
-        assert_eq!(merged, rest(&table), "{table:?} {subsets:?}");
+        assert_eq!(merged, returned(&table), "{table:?} {subsets:?}");
         let query = draws.subset(&shape);
         let cut = extract(&table, &query).unwrap();
-        assert_eq!(extract(&merged, &query).unwrap(), rest(&cut), "{table:?} {query:?}");
+        assert_eq!(extract(&merged, &query).unwrap(), returned(&cut), "{table:?} {query:?}");
         // Written and read at once.
         let back = decode(kind, &shape, &encode(&table).unwrap()).unwrap();
-        assert_eq!(back, if kind.depth == 0 { table.clone() } else { rest(&table) });
+        assert_eq!(back, if kind.depth == 0 { table.clone() } else { returned(&table) });
         if let (0, Values::Ragged { width, place }) = (kind.depth, kind.values) {
             let part = partial_decode(width, place, &shape, &query, &encode(&table).unwrap());
-            assert_eq!(part, Ok(cut));
+            assert_eq!(part.map(|part| (part.values, part.offsets)), Ok((cut.values, cut.offsets)));
         }
     }
 }
@@ -181,7 +196,7 @@ fn interleaved_cells_return() {
 #[test]
 fn outputs_are_never_short() {
     let mut draws = Draws(4242);
-    let mut refused = [0; 13];
+    let mut refused = [0; 14];
     for _ in 0..20_000 {
         let (kind, mut shape) = (draws.kind(), draws.shape());
         let mut table = draws.array(kind, &shape);
@@ -235,7 +250,7 @@ fn outputs_are_never_short() {
         }
     }
     assert_eq!(refused[6], 0, "an output was too short");
-    for number in [2, 3, 4, 7, 8, 9, 10, 12] {
+    for number in [2, 3, 4, 7, 8, 9, 10, 12, 13] {
         assert!(refused[number] > 0, "refusal {number} was never met");
     }
 }

@@ -13,6 +13,8 @@ fn kinds() -> Vec<Kind> {
             kinds.extend([Width::Four, Width::Eight].map(|width| Kind::ragged(depth, width, place)));
         }
     }
+    let packed: Vec<Kind> = kinds.iter().map(|kind| kind.packed()).collect();
+    kinds.extend(packed);
     kinds
 }
 
@@ -37,6 +39,11 @@ fn kinds_in_other_words() {
         ["depth 0, fixed, size 2, big order", "depth 0,fixed,size 2 bytes,big-endian", "big,size 2,fixed,depth 0"]
     {
         assert_eq!(text.parse(), Ok(fixed), "{text}");
+    }
+    let packed = "depth 1, packed masks, ragged, width 4, index at start";
+    assert_eq!(ragged.packed().to_string(), packed);
+    for text in [packed, "depth 1,ragged,width 4,index at start,Packed  Masks"] {
+        assert_eq!(text.parse(), Ok(ragged.packed()), "{text}");
     }
     // Left to the calls.
     let large: Kind = "depth 99999999999999999999, fixed, size 65, little".parse().unwrap();
@@ -64,6 +71,9 @@ fn words_that_are_no_kind() {
         ("depth 1, depth 1, fixed, size 2, little", "says twice what \"depth 1\" says"),
         ("depth 1, fixed, ragged, size 2, little", "says twice what \"ragged\" says"),
         ("depth 1, fixed, size 2, little, quickly", "has \"quickly\", which says nothing here"),
+        ("depth 1, packed masks, fixed, size 2, little, packed masks", "says twice what \"packed masks\" says"),
+        ("depth 1, packed, fixed, size 2, little", "has \"packed\", which says nothing here"),
+        ("packed masks", "does not say the depth"),
         ("depth 1, fixed, size 2, little,", "has \"\", which says nothing here"),
     ] {
         let said = match text.parse::<Kind>() {

@@ -2,10 +2,11 @@
 -- Assumes nothing.
 use mathlib.Core.Path.{_≡_, refl, sym, ap, ap₂, _∙_}
 use Prim.Native.Nat.{ℕ, zero, suc, _+_, _-_, _*_, _/_, _%_, _^_, _<_}
-use native.Mathlib.Nat.{mod-add-div, mod-eq-of-lt, mod-lt, add-mul-mod-self-left, add-mul-div-left, div-eq-of-lt, div-lt-iff-lt-mul, pow-zero, pow-suc, zero-lt-suc, zero-add, div-one, div-div-eq-div-mul, pow-succ', sub-zero, zero-div, mul-zero, mul-one, mul-comm, mul-assoc, mul-add}
+use native.Mathlib.Nat.{mod-add-div, mod-eq-of-lt, mod-lt, add-mul-mod-self-left, add-mul-div-left, div-eq-of-lt, div-lt-iff-lt-mul, pow-zero}
+use native.Mathlib.Nat.{pow-suc, zero-lt-suc, zero-add, div-one, div-div-eq-div-mul, pow-succ', sub-zero, zero-div, mul-zero}
 use native.Mathlib.Omega.{arith}
 use mathlib.Core.List.{List, [], _∷_, _++_}
-use lib.ListN.{length, drop, getD, replicate}
+use lib.ListN.{length, drop, replicate}
 use lib.Arith.{lt-one}
 use Rattle.array.specs.Lists.{All}
 use Rattle.array.specs.Bytes.{digits, number, le, unle}
@@ -44,13 +45,6 @@ module _ (b : ℕ) where
     digits-below zero n = tt
     digits-below (suc w) n = (mod-lt n some, digits-below w (n / b))
 
-  -- digit i
-  pub digit-at : (w n i : ℕ) → i < w → getD (digits b w n) i 0 ≡ n / b ^ i % b
-  digit-at zero n i h = absurd (omega arith)
-  digit-at (suc w) n zero h = ap (λ (x : ℕ). x % b) (sym (ap (λ (x : ℕ). n / x) (pow-zero b) ∙ div-one n))
-  digit-at (suc w) n (suc i) h =
-      digit-at w (n / b) i (omega arith) ∙ ap (λ (x : ℕ). x % b) (div-div-eq-div-mul n b (b ^ i) ∙ ap (λ (x : ℕ). n / x) (sym (pow-succ' b i)))
-
   -- the digits from i on
   pub drop-digits : (w n i : ℕ) → drop i (digits b w n) ≡ digits b (w - i) (n / b ^ i)
   drop-digits w n zero = ap₂ (digits b) (sym (sub-zero w)) (sym (ap (λ (x : ℕ). n / x) (pow-zero b) ∙ div-one n))
@@ -59,17 +53,11 @@ module _ (b : ℕ) where
       let e : suc w - suc i ≡ w - i = omega arith in
       drop-digits w (n / b) i ∙ ap₂ (digits b) (sym e) (div-div-eq-div-mul n b (b ^ i) ∙ ap (λ (x : ℕ). n / x) (sym (pow-succ' b i)))
 
-  -- zeros after the highest digit add nothing, and a digit after it adds itself so many places up
+  -- zeros after the highest digit add nothing
   pub number-zeros : (ds : List ℕ) (k : ℕ) → number b (ds ++ replicate k 0) ≡ number b ds
   number-zeros [] zero = refl
   number-zeros [] (suc k) = ap (λ (x : ℕ). 0 + b * x) (number-zeros [] k) ∙ omega (arith, mul-zero b)
   number-zeros (d ∷ ds) k = ap (λ (x : ℕ). d + b * x) (number-zeros ds k)
-
-  pub number-snoc : (ds : List ℕ) (d : ℕ) → number b (ds ++ (d ∷ [])) ≡ number b ds + d * b ^ length ds
-  number-snoc [] d = omega (arith, mul-zero b, ap (λ (x : ℕ). d * x) (pow-zero b), mul-one d)
-  number-snoc (c ∷ ds) d =
-      ap (λ (x : ℕ). c + b * x) (number-snoc ds d) ∙ ap (λ (x : ℕ). c + x) (mul-add b (number b ds) (d * b ^ length ds))
-      ∙ omega (arith, sym (mul-assoc b d (b ^ length ds)) ∙ ap (λ (x : ℕ). x * b ^ length ds) (mul-comm b d) ∙ mul-assoc d b (b ^ length ds) ∙ ap (λ (x : ℕ). d * x) (sym (pow-succ' b (length ds))))
 
 -- ---- bytes
 

@@ -41,7 +41,8 @@ module _ (want d : List ℕ) (to : ℕ) (out : List ℕ) (i : ℕ) where
   pub laying-part : (g r : List ℕ) → Laying want d to out i (g ++ r) → (out′ : List ℕ) → out′ ≡ overAt (to + i) g out → (j : ℕ) → j ≡ i + length g → Laying want d to out′ j r
   laying-part g r l out′ e j ej =
       let lw : i + (length g + length r) ≡ length want = omega (arith, laying-left (g ++ r) l, length-append g r) in
-      let tk : take (i + length g) want ≡ take i want ++ g = take-add i (length g) want ∙ ap (λ (w : List ℕ). take i want ++ take (length g) w) (l .left) ∙ ap (λ (w : List ℕ). take i want ++ w) (take-at g r (length g) refl) in
+      let tk : take (i + length g) want ≡ take i want ++ g = take-add i (length g) want ∙ ap (λ (w : List ℕ). take i want ++ take (length g) w) (l .left) ∙ ap
+      (λ (w : List ℕ). take i want ++ w) (take-at g r (length g) refl) in
       let dr : drop (i + length g) want ≡ r = sym (drop-drop (length g) i want) ∙ ap (drop (length g)) (l .left) ∙ drop-at g r (length g) refl in
       record {
         room = l .room;

@@ -22,7 +22,8 @@ pub over-again : (f g d : List ℕ) (k : ℕ) → length f ≡ k → overAt k g 
 over-again f g d k e =
     let a : take k (over f d) ≡ f = take-at f (drop (length f) d) k e in
     let b : drop (length (f ++ g)) (f ++ drop (length f) d) ≡ drop (length (f ++ g)) d =
-    ap (λ (j : ℕ). drop j (f ++ drop (length f) d)) (length-append f g) ∙ drop-append-add f (drop (length f) d) (length g) ∙ drop-drop (length g) (length f) d ∙ ap (λ (j : ℕ). drop j d) (sym (length-append f g)) in
+    ap (λ (j : ℕ). drop j (f ++ drop (length f) d)) (length-append f g) ∙ drop-append-add f (drop (length f) d) (length g) ∙ drop-drop (length g) (length f) d ∙ ap
+    (λ (j : ℕ). drop j d) (sym (length-append f g)) in
     ap (λ (l : List ℕ). over (l ++ g) (over f d)) a ∙ ap (λ (l : List ℕ). (f ++ g) ++ l) b
 
 -- one element stored right behind it

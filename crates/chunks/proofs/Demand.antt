@@ -11,7 +11,7 @@ use Rattle.array.specs.Lists.{joined, All, count}
 use Rattle.array.specs.Kind.{Kind, Form, nullOf}
 use Rattle.array.specs.Shape.{volume, ShapeOk}
 use Rattle.array.specs.Subset.{Subset, lengths, subsetOf, subsetsOf, SubsetOk, FullOk, NumbersOk, ManyOk, cellsIn, cellsOfAll}
-use Rattle.array.specs.Cells.{Cell, leaf, rest}
+use Rattle.array.specs.Cells.{Cell, leaf}
 use Rattle.array.specs.Content.{Content, Valid, cellsOf, contentTest, sizeTest, leaves, layout, nullCell, returnForm, seen}
 use Rattle.array.specs.Buffers.{Lengths, lengthsOf, Enough, enoughTest}
 use Rattle.array.proofs.Answers.{pass}
@@ -208,7 +208,8 @@ module _ (k : Kind) (shape : List ℕ) (c : Content) (v : Valid k shape c) where
       let g : Good k (length all) cs = good-rest (seen (k .masks)) k (length all) (gather (nullCell k) own all) (good-gather k size own good-own all (all-below shape bs fit) o′) in
       pass 1 (kind-test k (v .kind)) (pass 2 (shape-test shape (v .shaped)) (pass 3 (many-test shape (joined (numbersIn es)) (many es s))
       (ap (λ (bs′ : List Subset). andThen (chunkCells k bs′ (chunks bs)) (λ xs.
-      unless (sizeTest (length (joined (leaves d xs)))) 5 (unless (onceTest size (cellsOfAll shape bs′)) 12 (unless (enoughTest (mergeOf k shape bs′ xs) r) 6 (gives (mergeOf k shape bs′ xs)))))) (subsets-are es s)
+      unless (sizeTest (length (joined (leaves d xs)))) 5
+      (unless (onceTest size (cellsOfAll shape bs′)) 12 (unless (enoughTest (mergeOf k shape bs′ xs) r) 6 (gives (mergeOf k shape bs′ xs)))))) (subsets-are es s)
       ∙ ap (λ (a : Answer (List (Cell d))). andThen a (λ xs.
       unless (sizeTest (length (joined (leaves d xs)))) 5 (unless (onceTest size all) 12 (unless (enoughTest (mergeOf k shape bs xs) r) 6 (gives (mergeOf k shape bs xs)))))) (chunk-cells bs fit o′)
       ∙ pass 5 (size-test (length (joined (leaves d cs))) (g .small)) (pass 12 (once-test size all o)
@@ -238,7 +239,8 @@ module _ (k : Kind) (shape : List ℕ) (c : Content) (v : Valid k shape c) where
       ap (λ (x : Content). cutOf k shape x q) (sym outcome-is)
       ∙ ap (λ (ys : List (Cell d)). layout (k .form) d (gather (nullCell k) ys (cellsIn shape q))) (cells-layout k size (map resting own) (good-outcome .counted) (good-outcome .sized))
       ∙ ap (layout (k .form) d) (sym (gather-rest (cellsIn shape q))) ∙ sym (rest-of-cut Q p) in
-      extract-gives k shape (returnForm k size c) (subst (Valid k shape) outcome-is (valid-layout k (v .kind) shape (v .shaped) (map resting own) good-outcome)) Q p r (subst (λ (x : Content). Enough x r) (sym same) e)
+      extract-gives k shape (returnForm k size c) (subst (Valid k shape) outcome-is (valid-layout k (v .kind) shape (v .shaped) (map resting own) good-outcome)) Q p r
+      (subst (λ (x : Content). Enough x r) (sym same) e)
       ∙ ap gives same
 
 pub demand3 : Demand3

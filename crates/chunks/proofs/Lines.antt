@@ -13,7 +13,8 @@ use Rattle.chunks.specs.Calls.{extractAnswer, extracted}
 use Rattle.chunks.specs.Lines.{Lines}
 
 pub lines : Lines
-unfolding mostBytes mostCells le unle reverseAnswer endiannessReversed cellsAnswer subsetCells wrap frame readFrame putRagged getRagged putValues getValues interleavedCells written encodeAnswer encoded readIn decodeAnswer decoded interleavedAnswer interleavedDecoded putCells putInterleaved encodeInterleavedAnswer interleavedEncoded extractAnswer extracted
+unfolding mostBytes mostCells le unle reverseAnswer endiannessReversed cellsAnswer subsetCells wrap frame readFrame putRagged getRagged putValues getValues interleavedCells written
+    encodeAnswer encoded readIn decodeAnswer decoded interleavedAnswer interleavedDecoded putCells putInterleaved encodeInterleavedAnswer interleavedEncoded extractAnswer extracted
 lines = record {
   writes-23 = refl;
   reads-23 = refl;

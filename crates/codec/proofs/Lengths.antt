@@ -26,7 +26,8 @@ use Rattle.codec.proofs.Values.{ragged-length, values-length, length-pu
 
 -- ---- the sum over the levels
 
-pub frame-length : (mf : MaskForm) → ((ms : List ℕ) → length (mf .put ms) ≡ mf .size (length ms)) → (f : Form) (d : ℕ) (cs : List (Cell d)) → All (λ c. OfSize f (leaf d c)) cs → length (frame mf (putValues f) d cs) ≡ frameLength mf f d cs
+pub frame-length : (mf : MaskForm) → ((ms : List ℕ) → length (mf .put ms) ≡ mf .size (length ms)) → (f : Form) (d : ℕ) (cs : List (Cell d)) → All (λ c. OfSize f (leaf d c)) cs
+    → length (frame mf (putValues f) d cs) ≡ frameLength mf f d cs
 unfolding frame frameLength
 frame-length mf lm f zero cs s = values-length f cs s
 frame-length mf lm f (suc d) cs s =

@@ -2,12 +2,12 @@
 -- Assumes nothing.
 use mathlib.Core.Path.{_≡_, refl, sym, ap, ap₂, _∙_}
 use Prim.Native.Nat.{ℕ, zero, suc, _+_, _-_, _*_, _/_, _%_, _^_, _<_, _≤_}
-use native.Mathlib.Nat.{le-refl, zero-lt-suc, zero-div, div-add-mod', pow-zero, pow-suc}
+use native.Mathlib.Nat.{le-refl, zero-lt-suc, pow-zero, pow-suc}
 use native.Mathlib.Omega.{arith}
 use mathlib.Core.Bool.{Bool, true, false, _&&_}
 use mathlib.Core.List.{List, [], _∷_, _++_, map, append-nil}
-use lib.ListN.{length, take, drop, replicate, getD, length-append, length-map, length-drop, length-replicate, drop-of-length-le, take-append-drop, List·getD-append}
-use lib.Seq.{drop-append-add, take-at, drop-at, take-all, take-append-le, drop-append-le, getD-append-add}
+use lib.ListN.{length, take, drop, replicate, length-append, length-map, length-drop, length-replicate, drop-of-length-le, take-append-drop}
+use lib.Seq.{drop-append-add, take-at, drop-at, take-all, take-append-le, drop-append-le}
 use lib.Dec.{leb, eqb}
 use borrow.Author.Tests.{eq-eqb, eqb-true, eqb-false, leb-true, leb-false}
 use Rattle.array.specs.Lists.{joined, pieces, All, every}
@@ -15,7 +15,7 @@ use Rattle.array.specs.Bytes.{digits, number}
 use Rattle.array.specs.Kind.{Masks, asBytes, asBits}
 use Rattle.array.specs.Cells.{bitOf}
 use Rattle.array.specs.Content.{seen}
-use Rattle.array.proofs.Bytes.{digits-number, length-digits, digit-at, drop-digits, div-below, number-zeros}
+use Rattle.array.proofs.Bytes.{digits-number, length-digits, drop-digits, div-below, number-zeros}
 use Rattle.array.proofs.Lists.{Sized, All-append, All-image, All-of, map-append, joined-append, length-joined, All-take, All-drop, map-id, length-pieces, sized-pieces, joined-pieces}
 use Rattle.array.proofs.Rules.{left-of, right-of}
 use Rattle.array.proofs.Sums.{sumOf}
@@ -122,19 +122,7 @@ pack-append (suc k) bs cs e =
     ∙ ap (λ (r : List ℕ). number 2 (take 8 bs) ∷ r) (pack-append k (drop 8 bs) cs (length-drop 8 bs ∙ omega arith))
     ∙ ap (λ (r : List ℕ). r ++ packBits cs) (sym (pack-next bs (omega arith)))
 
--- ---- by cell, as code speaks of a packed mask: bit i mod 8 of byte i / 8, and set bits by bytes
-
-bit-in : (s : List ℕ) (j r : ℕ) → r < 8 → getD (bitsOf s) (j * 8 + r) 0 ≡ getD s j 0 / 2 ^ r % 2
-bit-in [] j r h = sym (ap (λ (x : ℕ). x % 2) (zero-div (2 ^ r)))
-bit-in (b ∷ s) zero r h =
-    let e : 0 * 8 + r ≡ r = omega arith in
-    ap (λ (k : ℕ). getD (digits 2 8 b ++ bitsOf s) k 0) e ∙ List·getD-append (digits 2 8 b) (bitsOf s) 0 r (omega (arith, length-digits 2 8 b)) ∙ digit-at 2 8 b r h
-bit-in (b ∷ s) (suc j) r h =
-    let e : suc j * 8 + r ≡ length (digits 2 8 b) + (j * 8 + r) = omega (arith, length-digits 2 8 b) in
-    ap (λ (k : ℕ). getD (digits 2 8 b ++ bitsOf s) k 0) e ∙ getD-append-add (digits 2 8 b) (bitsOf s) (j * 8 + r) 0 ∙ bit-in s j r h
-
-pub bit-at : (s : List ℕ) (i : ℕ) → getD (bitsOf s) i 0 ≡ getD s (i / 8) 0 / 2 ^ (i % 8) % 2
-bit-at s i = ap (λ (k : ℕ). getD (bitsOf s) k 0) (sym (div-add-mod' i 8)) ∙ bit-in s (i / 8) (i % 8) (omega arith)
+-- ---- set bits and unused bits by bytes, as code speaks of a packed mask
 
 pub count-bits : (s : List ℕ) → countSet (bitsOf s) ≡ sumOf setBits s
 count-bits [] = refl

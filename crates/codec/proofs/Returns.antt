@@ -78,7 +78,8 @@ module _ (x : Masks) (n : ℕ) (c : Content) (few : n ≤ mostCells) (bytes : le
       → length (c .masks) ≡ d * n → ValuesOk f n c → (FromZero f c → layout f d cs ≡ c)
       → readIn (maskForm x) f d n (written (maskForm x) f d cs c) ≡ gives (byDepth d c (withMasks (seen x) (layout f d (map (rest (nullOf f) d) cs))))
   unfolding readIn written
-  returns-by (fixed k o) zero cs ok sh ct sz sm em v back = framed-returns x (fixed k o) zero n cs ok sh ct few sz sm ∙ ap gives (ap (withMasks (seen x)) (ap (layout (fixed k o) zero) (map-id cs)) ∙ back tt)
+  returns-by (fixed k o) zero cs ok sh ct sz sm em v back =
+      framed-returns x (fixed k o) zero n cs ok sh ct few sz sm ∙ ap gives (ap (withMasks (seen x)) (ap (layout (fixed k o) zero) (map-id cs)) ∙ back tt)
   returns-by (fixed k o) (suc d) cs ok sh ct sz sm em v back = framed-returns x (fixed k o) (suc d) n cs ok sh ct few sz sm
   returns-by (ragged w p) zero cs ok sh ct sz sm em v back = flat-returns w p n c ok em v few bytes
   returns-by (ragged w p) (suc d) cs ok sh ct sz sm em v back = framed-returns x (ragged w p) (suc d) n cs ok sh ct few sz sm

@@ -28,7 +28,7 @@ pub struct Found {
 }
 
 // Writes what the walk found, for an array of n cells.
-pub fn write_fixed(
+fn write_fixed(
     kind: Kind,
     size: usize,
     order: ByteOrder,

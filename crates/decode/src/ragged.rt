@@ -30,7 +30,7 @@ ghost use Rattle.decode.specs.Outcomes.{readOutcome};
 ghost use Rattle.decode.specs.Reads.{Limited, nestedFrom, raggedFrom, RaggedWithin};
 
 // Values with no mask: offsets and bytes just as they are. What is lent for masks stays.
-pub fn write_flat(
+fn write_flat(
     width: IndexWidth,
     s: &[u8],
     found: Index,
@@ -58,7 +58,7 @@ pub fn write_flat(
 }
 
 // Values below masks, end to end from 0: the bytes from the first offset up to the last, and the ends of the set cells.
-pub fn write_nested(
+fn write_nested(
     kind: Kind,
     width: IndexWidth,
     n: usize,
@@ -99,7 +99,7 @@ pub fn write_nested(
 }
 
 // Writes what the walk and the check found.
-pub fn write_ragged(
+fn write_ragged(
     kind: Kind,
     width: IndexWidth,
     n: usize,

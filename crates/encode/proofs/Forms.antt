@@ -2,7 +2,7 @@
 -- Assumes nothing.
 use mathlib.Core.Path.{_≡_, refl, sym, ap, ap₂, _∙_, subst}
 use Prim.Native.Nat.{ℕ, zero, suc, _+_, _-_, _*_, _<_, _≤_}
-use native.Mathlib.Nat.{mul-le-mul-right, le-trans, le-of-eq}
+use native.Mathlib.Nat.{le-of-eq}
 use native.Mathlib.Numerals.{add-one}
 use native.Mathlib.Omega.{arith}
 use mathlib.Core.List.{List, map}
@@ -30,10 +30,7 @@ use Rattle.encode.specs.Stored.{valueAt, valuesFrom, storedFrom, storedW
 use Rattle.gather.proofs.Runs.{live-le}
 use Rattle.encode.proofs.Levels.{NarrowOk, values-small, fixed-put, fixed-long, plain-length, plain-stored}
 
--- ---- the masks of the levels above one
-
-pub planes-to : {n : ℕ} {masks : List ℕ} {d l : ℕ} → Planes n masks d → l ≤ d → Planes n masks l
-planes-to {n} {masks} {d} {l} p h = record { shallow = omega (arith, p .shallow); few = p .few; planes = le-trans (mul-le-mul-right {m = l} {n = d} n h) (p .planes) }
+-- ---- the masks of all levels
 
 pub measured-planes : {k : Kind} {n : ℕ} {masks os : List ℕ} → Measured k n masks os → Planes n masks (k .depth)
 measured-planes m = record { shallow = m .shallow; few = m .few; planes = m .planes }

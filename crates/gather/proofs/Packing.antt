@@ -123,7 +123,8 @@ module _ {t : ℕ → Bool} {n : ℕ} {g : ℕ → List ℕ} {k : ℕ} {d : List
               sized = p .sized;
               clean = out′;
               junk = [];
-              laid = laying-part (wholeOf t n g) d to (p .clean) (done * k) (g i) (joined (map g rest)) (laying-is (p .laid) (ap (λ (is : List ℕ). joined (map g is)) es)) out′ q (done′ * k) (omega (arith, long));
+              laid = laying-part (wholeOf t n g) d to (p .clean) (done * k) (g i) (joined (map g rest)) (laying-is (p .laid) (ap (λ (is : List ℕ). joined (map g is)) es)) out′ q
+                  (done′ * k) (omega (arith, long));
               here = at-none (to + done′ * k) out′ (omega (arith, fits, p .laid .room, kept));
               short = omega arith;
               inside = omega (arith, fits);
@@ -169,14 +170,15 @@ pub all-long : (o : Order) (k : ℕ) (s : List ℕ) (t : ℕ → Bool) (n : ℕ)
     → length (piecesAt o k s (passing t (from 0 n))) ≡ n * k
 all-long o k s t n h ec en = pieces-long o k s t n h ∙ ap (λ (m : ℕ). m * k) (sym ec ∙ en)
 
--- ---- the plane of a level
+-- ---- the planes of levels
+
+-- of fewer levels
+pub planes-to : {n : ℕ} {masks : List ℕ} {d l : ℕ} → Planes n masks d → l ≤ d → Planes n masks l
+planes-to {n} {masks} {d} {l} p h = record { shallow = omega (arith, p .shallow); few = p .few; planes = omega (arith, p .planes, mul-le-mul-right {m = l} {n = d} n h) }
 
 module _ {n : ℕ} {masks : List ℕ} (l : ℕ) (h : Planes n masks (l + 1)) where
   pub mask-plane : l * n + n ≤ length masks
   mask-plane = omega (arith, h .planes, suc-mul l n, ap (λ (m : ℕ). m * n) (add-one l))
-
-  pub mask-planes : Planes n masks l
-  mask-planes = record { shallow = omega (arith, h .shallow); few = h .few; planes = omega (arith, mask-plane) }
 
   pub mask-all : {count : ℕ} → count ≡ length (liveAt n masks l) → count ≡ n → take n (drop (l * n) masks) ≡ map (maskAt n masks l) (liveAt n masks l)
   mask-all ec en = plane-at n masks l mask-plane ∙ ap (map (maskAt n masks l)) (sym (all-counted (liveTest n masks l) n (sym ec ∙ en)))

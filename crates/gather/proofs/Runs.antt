@@ -105,7 +105,8 @@ all-counted t n e = go (from 0 n) (e ∙ sym (length-from 0 n))
     go [] e = refl
     go (x ∷ xs) e = one (t x) e (go xs)
       where
-        one : (b : Bool) → length (pick b (x ∷ passing t xs) (passing t xs)) ≡ suc (length xs) → (length (passing t xs) ≡ length xs → passing t xs ≡ xs) → pick b (x ∷ passing t xs) (passing t xs) ≡ x ∷ xs
+        one : (b : Bool) → length (pick b (x ∷ passing t xs) (passing t xs)) ≡ suc (length xs) → (length (passing t xs) ≡ length xs → passing t xs ≡ xs)
+            → pick b (x ∷ passing t xs) (passing t xs) ≡ x ∷ xs
         one true q ih = ap (λ (l : List ℕ). x ∷ l) (ih (omega arith))
         one false q ih = absurd (omega (arith, passing-le t xs))
 

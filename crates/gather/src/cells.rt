@@ -82,6 +82,32 @@ fn put_live_words(
     }
 }
 
+// The same by level: where the level is a constant, the loop is compiled for it and does not ask for it at each cell.
+fn put_level_words(
+    out: &mut [u8],
+    to: usize,
+    s: &[u8],
+    size: usize,
+    order: ByteOrder,
+    masks: &[u8],
+    cells: usize,
+    level: usize,
+    count: usize,
+)
+    requires { ⌜ Planes cells (now masks) level × (count ≡ length (liveAt cells (now masks) level))
+        × (wordTest size ≡ true) × (cells * size ≤ length (now s))
+        × (to + length (piecesAt (orderOf order) size (now s) (liveAt cells (now masks) level)) ≤ length (now out)) ⌝ }
+    ensures { λ _. ⌜ now (out .exit) ≡ overAt to (piecesAt (orderOf order) size (now (s .entry)) (liveAt cells (now (masks .entry)) level)) (now (out .entry)) ⌝ }
+{
+    match level {
+        1 => put_live_words(out, to, s, size, order, masks, cells, 1, count),
+        2 => put_live_words(out, to, s, size, order, masks, cells, 2, count),
+        3 => put_live_words(out, to, s, size, order, masks, cells, 3, count),
+        4 => put_live_words(out, to, s, size, order, masks, cells, 4, count),
+        _ => put_live_words(out, to, s, size, order, masks, cells, level, count),
+    }
+}
+
 // Of cells of one size, the `count` that the level counts. Each size of a word has a loop of its own.
 pub fn put_live(
     out: &mut [u8],
@@ -103,10 +129,10 @@ pub fn put_live(
         cells::copy_cells(out, to, s, 0, size, order, cells);
     } else {
         match size {
-            1 => put_live_words(out, to, s, 1, order, masks, cells, level, count),
-            2 => put_live_words(out, to, s, 2, order, masks, cells, level, count),
-            4 => put_live_words(out, to, s, 4, order, masks, cells, level, count),
-            8 => put_live_words(out, to, s, 8, order, masks, cells, level, count),
+            1 => put_level_words(out, to, s, 1, order, masks, cells, level, count),
+            2 => put_level_words(out, to, s, 2, order, masks, cells, level, count),
+            4 => put_level_words(out, to, s, 4, order, masks, cells, level, count),
+            8 => put_level_words(out, to, s, 8, order, masks, cells, level, count),
             _ => put_live_runs(out, to, s, size, order, masks, cells, level),
         }
     }

@@ -1,59 +1,51 @@
--- A stored mask by its place, over its form: what it says of n cells is the first n of what its bytes say.
+-- A stored mask by its place, over its form: what it says, its unused bits, and how many cells it sets.
 -- Assumes nothing.
 use mathlib.Core.Path.{_≡_, refl, sym, ap, ap₂, _∙_}
-use Prim.Native.Nat.{ℕ, zero, suc, _+_, _-_, _*_, _/_, _%_, _^_, _<_, _≤_}
-use native.Mathlib.Nat.{div-add-mod'}
+use Prim.Native.Nat.{ℕ, zero, suc, _+_, _*_, _/_, _%_, _^_, _<_, _≤_}
 use native.Mathlib.Omega.{arith}
-use native.Mathlib.Numerals.{add-one}
 use mathlib.Core.Bool.{Bool, true, false}
 use mathlib.Core.Logic.{_≢_}
 use mathlib.Core.List.{List, [], _∷_, _++_, map}
 use lib.ListN.{length, take, drop, getD, length-take, length-drop, drop-of-length-le, take-append-drop}
-use lib.Seq.{length-take-le, take-append-le, take-suc, drop-cons, drop-drop, getD-drop, getD-take}
+use lib.Seq.{length-take-le, take-append-le, take-suc, getD-drop}
 use lib.Dec.{eqb}
 use Rattle.array.specs.Answer.{gives, refuses, unless, andThen}
 use Rattle.array.specs.Kind.{Masks, asBytes, asBits}
 use Rattle.array.specs.Lists.{joined, every}
-use Rattle.array.specs.Bytes.{digits, number}
+use Rattle.array.specs.Bytes.{digits}
 use Rattle.array.specs.Cells.{bitOf}
 use Rattle.array.proofs.Lists.{map-append, joined-append}
 use Rattle.array.proofs.Sums.{sumOf}
 use Rattle.codec.specs.Mask.{MaskForm, maskForm, packedMask, bytesFor, bitsOf}
 use Rattle.codec.specs.Frame.{countSet, setBits}
 use Rattle.codec.proofs.Marks.{count-le}
-use Rattle.codec.proofs.Masks.{length-bits, bit-at, packed-test, count-packed}
-use Rattle.mask.specs.Marks.{storedMask, saidMask, saidFrom, saidPlace, countedIn}
+use Rattle.codec.proofs.Masks.{length-bits, packed-test, count-packed}
+use Rattle.mask.specs.Bits.{bitsIn}
+use Rattle.mask.specs.Marks.{storedMask, saidMask, countedIn}
 
 pub bits-append : (s t : List ℕ) → bitsOf (s ++ t) ≡ bitsOf s ++ bitsOf t
 bits-append s t = ap joined (map-append (digits 2 8) s t) ∙ joined-append (map (digits 2 8) s) (map (digits 2 8) t)
 
 -- the first bits of the first bytes are the first bits
-pub bits-take : (k n : ℕ) (s : List ℕ) → n ≤ k * 8 → k ≤ length s → take n (bitsOf (take k s)) ≡ take n (bitsOf s)
+bits-take : (k n : ℕ) (s : List ℕ) → n ≤ k * 8 → k ≤ length s → take n (bitsOf (take k s)) ≡ take n (bitsOf s)
 bits-take k n s h l =
     let e : bitsOf s ≡ bitsOf (take k s) ++ bitsOf (drop k s) = ap bitsOf (sym (take-append-drop k s)) ∙ bits-append (take k s) (drop k s) in
     sym (ap (take n) e ∙ take-append-le n (bitsOf (take k s)) (bitsOf (drop k s)) (omega (arith, length-bits (take k s), length-take-le k s l)))
 
-pub said-is : (x : Masks) (s : List ℕ) (at n : ℕ) → maskForm x .size n ≤ length (drop at s) → saidMask (maskForm x) s at n ≡ take n (saidFrom x (drop at s))
-said-is asBytes s at n h = refl
-said-is asBits s at n h = bits-take (bytesFor n) n (drop at s) (omega arith) h
+-- what a packed mask of n cells says: the first n bits from its place on
+pub said-packed : (s : List ℕ) (at n : ℕ) → bytesFor n ≤ length (drop at s) → saidMask packedMask s at n ≡ take n (bitsOf (drop at s))
+said-packed s at n h = bits-take (bytesFor n) n (drop at s) (omega arith) h
 
--- as many as its cells
-pub length-said-from : (x : Masks) (s : List ℕ) (n : ℕ) → maskForm x .size n ≤ length s → n ≤ length (saidFrom x s)
-length-said-from asBytes s n h = h
-length-said-from asBits s n h = omega (arith, length-bits s)
-
+-- a mask says as many bytes as it has cells
 pub length-said : (x : Masks) (s : List ℕ) (at n : ℕ) → maskForm x .size n ≤ length (drop at s) → length (saidMask (maskForm x) s at n) ≡ n
-length-said x s at n h = ap length (said-is x s at n h) ∙ length-take-le n (saidFrom x (drop at s)) (length-said-from x (drop at s) n h)
-
--- the byte of a cell lies within the mask
-pub place-within : (x : Masks) (j n : ℕ) → j < n → saidPlace x j < maskForm x .size n
-place-within asBytes j n h = h
-place-within asBits j n h = omega arith
+length-said asBytes s at n h = length-take-le n (drop at s) h
+length-said asBits s at n h = ap length (said-packed s at n h) ∙ length-take-le n (bitsOf (drop at s)) (omega (arith, length-bits (drop at s)))
 
 -- ---- a packed mask by its bytes
 
-pub bit-in-byte : (s : List ℕ) (at j : ℕ) → getD s (at + j / 8) 0 / 2 ^ (j % 8) % 2 ≡ getD (bitsOf (drop at s)) j 0
-bit-in-byte s at j = ap (λ (b : ℕ). b / 2 ^ (j % 8) % 2) (sym (getD-drop at s (j / 8) 0)) ∙ sym (bit-at (drop at s) j)
+bits-sum : (s : List ℕ) → bitsIn s ≡ sumOf setBits s
+bits-sum [] = refl
+bits-sum (b ∷ s) = ap (λ (n : ℕ). setBits b + n) (bits-sum s)
 
 module _ (s : List ℕ) (at n : ℕ) (h : at + bytesFor n ≤ length s) where
   room : bytesFor n ≤ length (drop at s)
@@ -78,38 +70,14 @@ module _ (s : List ℕ) (at n : ℕ) (h : at + bytesFor n ≤ length s) where
       sym (ap₂ (λ (m : List ℕ) (i : ℕ). packedMask .test m i) mask cells
       ∙ packed-test (take k (drop at s)) (getD s (at + k) 0) k (n % 8) (length-take-le k (drop at s) (omega (arith, room))) b)
 
-  -- the set bits of its bytes, from byte i on
-  abbrev bitsLeft : ℕ → ℕ
-  bitsLeft i = sumOf setBits (drop i (storedMask packedMask s at n))
+  -- of a mask that passes its test, the set bits of its bytes are its set cells, and no more than its cells
+  pub count-left : packedMask .test (storedMask packedMask s at n) n ≡ true → bitsIn (storedMask packedMask s at n) ≡ countSet (saidMask packedMask s at n)
+  count-left e = let mask : List ℕ = storedMask packedMask s at n in bits-sum mask ∙ sym (count-packed mask n e)
 
-  pub bits-next : (i : ℕ) → i < bytesFor n → bitsLeft i ≡ setBits (getD s (at + i) 0) + bitsLeft (i + 1)
-  bits-next i l =
-      let mask : List ℕ = storedMask packedMask s at n in
-      let size : length mask ≡ bytesFor n = length-take-le (bytesFor n) (drop at s) room in
-      let byte : getD mask i 0 ≡ getD s (at + i) 0 = getD-take (bytesFor n) (drop at s) i 0 l ∙ getD-drop at s i 0 in
-      ap (sumOf setBits) (drop-cons mask i 0 (omega arith)) ∙ ap₂ (λ (b k : ℕ). setBits b + sumOf setBits (drop k mask)) byte (sym (add-one i))
-
-  pub bits-end : (i : ℕ) → bytesFor n ≤ i → bitsLeft i ≡ 0
-  bits-end i l =
-      let mask : List ℕ = storedMask packedMask s at n in
-      ap (sumOf setBits) (drop-of-length-le mask {i = i} (omega (arith, length-take-le (bytesFor n) (drop at s) room)))
-
-  -- of a mask that passes its test, no more than its cells
-  pub bits-few : packedMask .test (storedMask packedMask s at n) n ≡ true → bitsLeft 0 ≤ n
+  pub bits-few : packedMask .test (storedMask packedMask s at n) n ≡ true → bitsIn (storedMask packedMask s at n) ≤ n
   bits-few e =
       let mask : List ℕ = storedMask packedMask s at n in
-      omega (arith, count-packed mask n e, count-le (take n (bitsOf mask)), length-take n (bitsOf mask))
-
-  pub count-left : packedMask .test (storedMask packedMask s at n) n ≡ true → bitsLeft 0 ≡ countSet (saidMask packedMask s at n)
-  count-left e = sym (count-packed (storedMask packedMask s at n) n e)
-
--- what is said of the cells from j on begins with that of cell j
-pub said-next : (x : Masks) (s : List ℕ) (at n j : ℕ) → maskForm x .size n ≤ length (drop at s) → j < n
-    → drop j (saidMask (maskForm x) s at n) ≡ getD (saidFrom x (drop at s)) j 0 ∷ drop (j + 1) (saidMask (maskForm x) s at n)
-said-next x s at n j h l =
-    let said : List ℕ = saidMask (maskForm x) s at n in
-    drop-cons said j 0 (omega (arith, length-said x s at n h))
-    ∙ ap₂ (λ (b k : ℕ). b ∷ drop k said) (ap (λ (m : List ℕ). getD m j 0) (said-is x s at n h) ∙ getD-take n (saidFrom x (drop at s)) j 0 l) (sym (add-one j))
+      omega (arith, count-left e, count-le (take n (bitsOf mask)), length-take n (bitsOf mask))
 
 -- ---- the bit that a mask byte says
 

@@ -16,7 +16,6 @@ use Rattle.array.specs.Lists.{All, from, pieces}
 use Rattle.array.specs.Bytes.{digits, number, le, unle}
 use Rattle.array.specs.Buffers.{over, overAt}
 use Rattle.array.specs.Cells.{bitOf}
-use Rattle.array.specs.Kind.{asBits}
 use Rattle.array.proofs.Lists.{map-id, map-append, All-append, All-take, All-drop, take-within}
 use Rattle.array.proofs.Bytes.{digits-number, length-digits}
 use Rattle.array.proofs.Over.{over-again}
@@ -24,7 +23,7 @@ use Rattle.codec.specs.Mask.{packedMask, bytesFor, bitsOf, padded, packBits}
 use Rattle.codec.proofs.Masks.{length-bits, bits-zeros, length-padded, length-packed, pack-append}
 use Rattle.mask.specs.Marks.{saidMask, packedWord}
 use Rattle.mask.proofs.Entries.{entry}
-use Rattle.mask.proofs.Said.{bits-append, said-is}
+use Rattle.mask.proofs.Said.{bits-append, said-packed}
 
 -- ---- packing
 
@@ -47,20 +46,10 @@ word-packed bs l p =
 
 -- ---- reading
 
-abbrev fourBytes : List ℕ
-fourBytes =
-    0 ∷ 1 ∷ 256 ∷ 257 ∷ 65536 ∷ 65537 ∷ 65792 ∷ 65793 ∷
-    16777216 ∷ 16777217 ∷ 16777472 ∷ 16777473 ∷ 16842752 ∷ 16842753 ∷ 16843008 ∷ 16843009 ∷ []
-
--- an entry is the number whose bytes are the bits of its place
-four : fourBytes ≡ map (λ i. number 256 (digits 2 4 i)) (from 0 16)
-four = refl
-
-pub four-at : (i : ℕ) → i < 16 → getD fourBytes i 0 ≡ number 256 (digits 2 4 i)
-four-at = entry (λ i. number 256 (digits 2 4 i)) 0 fourBytes 16 four
-
 abbrev eightOf : ℕ → ℕ
-eightOf b = number 256 (digits 2 4 (b % 16)) + 4294967296 * number 256 (digits 2 4 (b / 16))
+eightOf v =
+    v % 2 + 256 * (v / 2 % 2) + 65536 * (v / 4 % 2) + 16777216 * (v / 8 % 2)
+    + 4294967296 * (v / 16 % 2 + 256 * (v / 32 % 2) + 65536 * (v / 64 % 2) + 16777216 * (v / 128 % 2))
 
 eight : map (λ b. digits 256 8 (eightOf b)) (from 0 256) ≡ map (digits 2 8) (from 0 256)
 eight = refl
@@ -114,7 +103,7 @@ module _ (s : List ℕ) (at n : ℕ) (h : at + bytesFor n ≤ length s) where
   room = omega (arith, length-drop at s)
 
   pub said-whole : n % 8 ≡ 0 → saidMask packedMask s at n ≡ bitsOf (take (n / 8) (drop at s))
-  said-whole e = said-is asBits s at n room ∙ cells ∙ ap (λ (r : ℕ). bitsOf (take (n / 8) (drop at s)) ++ take r (bitsOf (drop (n / 8) (drop at s)))) e ∙ append-nil _
+  said-whole e = said-packed s at n room ∙ cells ∙ ap (λ (r : ℕ). bitsOf (take (n / 8) (drop at s)) ++ take r (bitsOf (drop (n / 8) (drop at s)))) e ∙ append-nil _
 
   pub said-some : 0 < n % 8 → saidMask packedMask s at n ≡ bitsOf (take (n / 8) (drop at s)) ++ take (n % 8) (digits 2 8 (getD s (at + n / 8) 0))
   said-some l =
@@ -122,7 +111,7 @@ module _ (s : List ℕ) (at n : ℕ) (h : at + bytesFor n ≤ length s) where
       let rest : List ℕ = bitsOf (drop (suc k) (drop at s)) in
       let b : ℕ = getD (drop at s) k 0 in
       let last : bitsOf (drop k (drop at s)) ≡ digits 2 8 b ++ rest = ap bitsOf (drop-cons (drop at s) k 0 (omega (arith, room))) in
-      said-is asBits s at n room ∙ cells
+      said-packed s at n room ∙ cells
       ∙ ap (λ (r : List ℕ). bitsOf (take k (drop at s)) ++ r)
       (ap (take (n % 8)) last ∙ take-append-le (n % 8) (digits 2 8 b) rest (omega (arith, length-digits 2 8 b))
       ∙ ap (λ (x : ℕ). take (n % 8) (digits 2 8 x)) (getD-drop at s k 0))

@@ -5,8 +5,7 @@ use mathlib.Core.List.{List}
 use lib.ListN.{take, drop}
 use Rattle.array.specs.Answer.{Answer, gives, refuses, andThen}
 use Rattle.array.specs.Cells.{Mark, isNull, isSet}
-use Rattle.array.specs.Kind.{Masks, asBytes, asBits}
-use Rattle.codec.specs.Mask.{MaskForm, getMask, bitsOf}
+use Rattle.codec.specs.Mask.{MaskForm, getMask}
 use Rattle.codec.specs.Frame.{countSet}
 use Rattle.mask.specs.declared.mark.Mark as marks
 use Rattle.mask.specs.declared.form.Counted as counts
@@ -21,15 +20,6 @@ storedMask mf s at n = take (mf .size n) (drop at s)
 
 abbrev pub saidMask : MaskForm → List ℕ → ℕ → ℕ → List ℕ
 saidMask mf s at n = mf .said (storedMask mf s at n) n
-
--- the mask bytes that stored bytes say, all of them, and the byte in which the one of cell j lies
-abbrev pub saidFrom : Masks → List ℕ → List ℕ
-saidFrom asBytes s = s
-saidFrom asBits s = bitsOf s
-
-abbrev pub saidPlace : Masks → ℕ → ℕ
-saidPlace asBytes j = j
-saidPlace asBits j = j / 8
 
 -- the stored mask of n cells, got back or refused: how many of them it sets
 abbrev pub countedIn : MaskForm → List ℕ → ℕ → Answer ℕ

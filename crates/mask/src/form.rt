@@ -8,13 +8,13 @@ use array::refusal;
 use buffer::copy;
 ghost use mathlib.Core.Path.{_≡_};
 ghost use mathlib.Core.Bool.{true};
-ghost use Prim.Native.Nat.{_+_, _≤_, _<_};
-ghost use lib.ListN.{length, getD, take, drop};
+ghost use Prim.Native.Nat.{_+_, _≤_};
+ghost use lib.ListN.{length, take, drop};
 ghost use Rattle.array.specs.Buffers.{overAt};
 ghost use Rattle.array.specs.Meaning.{masksOf};
 ghost use Rattle.codec.specs.Mask.{maskForm};
 ghost use Rattle.codec.specs.Frame.{countSet};
-ghost use Rattle.mask.specs.Marks.{storedMask, saidMask, saidFrom, saidPlace, countedIn, toldCounted};
+ghost use Rattle.mask.specs.Marks.{storedMask, saidMask, countedIn, toldCounted};
 
 // Stored bytes of the mask of so many cells.
 pub fn mask_length(form: MaskForm, cells: usize) -> usize
@@ -23,17 +23,6 @@ pub fn mask_length(form: MaskForm, cells: usize) -> usize
     match form {
         MaskForm::Bytes => cells,
         MaskForm::Packed => packed::bytes_for(cells),
-    }
-}
-
-// The mask byte that the stored mask at `at` says of cell j.
-pub fn said_byte(form: MaskForm, s: &[u8], at: usize, j: usize) -> u8
-    requires { ⌜ at + saidPlace (masksOf form) j < length (now s) ⌝ }
-    ensures { λ r. ⌜ r ≡ getD (saidFrom (masksOf form) (drop at (now (s .entry)))) j 0 ⌝ }
-{
-    match form {
-        MaskForm::Bytes => s[at + j],
-        MaskForm::Packed => packed::bit_at(s, at, j),
     }
 }
 

@@ -1,10 +1,10 @@
 // Packed masks, checked and counted: cell i is bit i mod 8 of byte i / 8, the lowest bit first. Bits after the last cell are 0.
-use crate::bits::set_bits;
+use crate::bits::count_bits;
 ghost use mathlib.Core.Path.{_≡_};
 ghost use mathlib.Core.Bool.{true};
-ghost use Prim.Native.Nat.{_+_, _/_, _≤_, _<_};
-ghost use lib.ListN.{length, getD, drop};
-ghost use Rattle.codec.specs.Mask.{bytesFor, bitsOf, packedMask};
+ghost use Prim.Native.Nat.{_+_, _≤_};
+ghost use lib.ListN.{length};
+ghost use Rattle.codec.specs.Mask.{bytesFor, packedMask};
 ghost use Rattle.codec.specs.Frame.{countSet};
 ghost use Rattle.mask.specs.Marks.{storedMask, saidMask};
 
@@ -13,14 +13,6 @@ pub fn bytes_for(n: usize) -> usize
     ensures { λ r. ⌜ r ≡ bytesFor n ⌝ }
 {
     n / 8 + (n % 8 + 7) / 8
-}
-
-// Bit j of the bytes from `at` on.
-pub fn bit_at(s: &[u8], at: usize, j: usize) -> u8
-    requires { ⌜ at + j / 8 < length (now s) ⌝ }
-    ensures { λ r. ⌜ r ≡ getD (bitsOf (drop at (now (s .entry)))) j 0 ⌝ }
-{
-    (s[at + j / 8] >> (j % 8)) % 2
 }
 
 // Whether the bits after the n cells of the mask at `at` are 0. Only its last byte can have any.
@@ -40,12 +32,5 @@ pub fn count_packed(s: &[u8], at: usize, n: usize) -> usize
     requires { ⌜ (at + bytesFor n ≤ length (now s)) × (packedMask .test (storedMask packedMask (now s) at n) n ≡ true) ⌝ }
     ensures { λ r. ⌜ r ≡ countSet (saidMask packedMask (now (s .entry)) at n) ⌝ }
 {
-    let size = bytes_for(n);
-    let mut set: usize = 0;
-    let mut i = 0;
-    while i < size {
-        set += set_bits(s[at + i]) as usize;
-        i += 1;
-    }
-    set
+    count_bits(s, at, bytes_for(n))
 }

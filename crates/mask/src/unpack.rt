@@ -2,46 +2,21 @@
 use buffer::copy;
 use buffer::field;
 ghost use mathlib.Core.Path.{_≡_};
-ghost use Prim.Native.Nat.{_+_, _*_, _≤_, _<_};
+ghost use Prim.Native.Nat.{_+_, _*_, _≤_};
 ghost use lib.ListN.{length, take, drop};
 ghost use Rattle.array.specs.Buffers.{overAt};
-ghost use Rattle.array.specs.Bytes.{digits, number, le};
+ghost use Rattle.array.specs.Bytes.{digits, le};
 ghost use Rattle.codec.specs.Mask.{bytesFor, bitsOf, packedMask};
 ghost use Rattle.mask.specs.Marks.{saidMask};
-
-// Four bits as four bytes: bit k of the place is byte k of the number there.
-const FOUR_BYTES: [u32; 16] = [
-    0,
-    1,
-    256,
-    257,
-    65536,
-    65537,
-    65792,
-    65793,
-    16777216,
-    16777217,
-    16777472,
-    16777473,
-    16842752,
-    16842753,
-    16843008,
-    16843009,
-];
-
-fn four_bytes(i: u8) -> u32
-    requires { ⌜ i < 16 ⌝ }
-    ensures { λ r. ⌜ r ≡ number 256 (digits 2 4 i) ⌝ }
-{
-    let place = i as usize;
-    FOUR_BYTES[place]
-}
 
 // The eight mask bytes that b says, as the number whose bytes they are.
 fn eight_bytes(b: u8) -> u64
     ensures { λ r. ⌜ le 8 r ≡ digits 2 8 b ⌝ }
 {
-    four_bytes(b % 16) as u64 + 4294967296 * (four_bytes(b / 16) as u64)
+    let v = b as u64;
+    let low = v % 2 + 256 * (v / 2 % 2) + 65536 * (v / 4 % 2) + 16777216 * (v / 8 % 2);
+    let high = v / 16 % 2 + 256 * (v / 32 % 2) + 65536 * (v / 64 % 2) + 16777216 * (v / 128 % 2);
+    low + 4294967296 * high
 }
 
 // The cells of whole bytes.

@@ -8,7 +8,7 @@ use native.Mathlib.Omega.{arith}
 use native.Mathlib.Nat.{suc-mul, zero-mul}
 use native.Mathlib.Numerals.{sub-one}
 use lib.ListN.{length, take, drop, replicate, length-append, length-drop, replicate-append-replicate, take-append-drop}
-use lib.Seq.{length-take-le, take-at, drop-at}
+use lib.Seq.{length-take-le}
 use Rattle.array.specs.Kind.{Masks}
 use Rattle.array.specs.Buffers.{over, overAt}
 use Rattle.array.proofs.Over.{over-again, over-at-length}
@@ -20,6 +20,7 @@ use Rattle.codec.proofs.SpreadLaws.{length-spread, spread-none, count-spread}
 use Rattle.stored.specs.Stored.{maskIn, contentAt, storedMasks, planesBelow, MaskPassed, MasksWithin}
 use Rattle.stored.proofs.Walks.{mask-long}
 use Rattle.planes.specs.Within.{PlaneWithin, LevelsWithin}
+use Rattle.planes.proofs.Placing.{plane-again}
 
 -- k rows of n, all but the first
 pub times-first : (k n : ℕ) → k ≢ 0 → k * n ≡ (k - 1) * n + n
@@ -79,14 +80,6 @@ module _ (mf : MaskForm) where
 
 -- ---- a level: the plane above is the last that lies before `to` in d
 
--- the plane that was laid, read again
-plane-again : (d q : List ℕ) (to n : ℕ) → to ≤ length d → length q ≡ n → take n (drop to (overAt to q d)) ≡ q
-plane-again d q to n h e =
-    let lt : length (take to d) ≡ to = length-take-le to d h in
-    ap (λ (l : List ℕ). take n (drop to l)) (append-assoc (take to d) q (drop (length (take to d ++ q)) d))
-    ∙ ap (take n) (drop-at (take to d) (q ++ drop (length (take to d ++ q)) d) to lt)
-    ∙ take-at q (drop (length (take to d ++ q)) d) n e
-
 module _ {x : Masks} {d : List ℕ} {n to left : ℕ} {s : List ℕ} {at cells : ℕ} (l : LevelsWithin x d n to left s at cells) where
   above-long : length (take n (drop (to - n) d)) ≡ n
   above-long = length-take-le n (drop (to - n) d) (omega (arith, length-drop (to - n) d, l .above, l .room))
@@ -110,7 +103,10 @@ module _ {x : Masks} {d : List ℕ} {n to left : ℕ} {s : List ℕ} {at cells :
     levels-fits = omega (arith, l .room, times-first left n f)
 
     pub levels-plane : PlaneWithin x d (to - n) to n s (at + 16) cells
-    levels-plane = record { apart = omega (arith, l .above); room = omega (arith, levels-fits); count = l .count; stored = omega (arith, levels-mask .room) }
+    levels-plane = record {
+      planes = record { apart = omega (arith, l .above); room = omega (arith, levels-fits); count = l .count };
+      stored = omega (arith, levels-mask .room);
+    }
 
     -- z is the mask's length, `out` has the next plane, and `set` counts its mask
     module _ {z : ℕ} (ez : z ≡ maskForm x .size cells) {out : List ℕ} (eo : out ≡ overAt to (spread 0 (take n (drop (to - n) d)) (maskIn (maskForm x) s at cells)) d)

@@ -17,11 +17,15 @@ planesIn mf s n d = maskIn mf s 0 n ++ planesBelow mf (maskIn mf s 0 n) d s (con
 abbrev pub innermostIn : MaskForm → List ℕ → ℕ → ℕ → List ℕ
 innermostIn mf s n d = innermostPlane (maskIn mf s 0 n) (storedMasks mf d s (contentAt mf 0 n) (countSet (maskIn mf s 0 n)))
 
--- the plane of n cells at `from`, in which `cells` are set, and room for the one below it at `to`, whose stored mask is at `at`
-pub record PlaneWithin (x : Masks) (masks : List ℕ) (from to n : ℕ) (s : List ℕ) (at cells : ℕ) : Type 0 where
+-- the plane of n cells at `from`, in which `cells` are set, and behind it the one at `to`
+pub record LaidWithin (masks : List ℕ) (from to n cells : ℕ) : Type 0 where
   pub apart : from + n ≤ to
   pub room : to + n ≤ length masks
   pub count : cells ≡ countSet (take n (drop from masks))
+
+-- the same, where the stored mask of the plane at `to` is at `at`
+pub record PlaneWithin (x : Masks) (masks : List ℕ) (from to n : ℕ) (s : List ℕ) (at cells : ℕ) : Type 0 where
+  pub planes : LaidWithin masks from to n cells
   pub stored : at + maskForm x .size cells ≤ length s
 
 -- `left` levels below the plane that ends at `to`, in which `cells` are set, the next frame being at `at`

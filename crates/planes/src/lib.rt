@@ -4,7 +4,6 @@ use buffer::copy::fill_bytes;
 use mask::form::copy_to_plane;
 use mask::form::count_stored;
 use mask::form::mask_length;
-use mask::form::said_byte;
 use mask::mark::mark_of;
 use spread::next::byte_if;
 use spread::next::skip;
@@ -17,11 +16,30 @@ ghost use Rattle.codec.specs.Mask.{maskForm};
 ghost use Rattle.codec.specs.Spread.{spread};
 ghost use Rattle.mask.specs.Marks.{saidMask};
 ghost use Rattle.stored.specs.Stored.{planesBelow};
-ghost use Rattle.planes.specs.Within.{PlaneWithin, LevelsWithin, PlanesWithin, planesIn};
+ghost use Rattle.planes.specs.Within.{LaidWithin, PlaneWithin, LevelsWithin, PlanesWithin, planesIn};
+
+// Spreads the `cells` mask bytes at the end of the plane at `to` over the plane of n cells at `from`, in which as many are set. A byte is
+// read for every cell until all are placed, so that no branch goes by the plane; none is stored before those that are left are read.
+fn spread_laid(masks: &mut [u8], from: usize, to: usize, n: usize, cells: usize)
+    requires { ⌜ LaidWithin (now masks) from to n cells ⌝ }
+    ensures { λ _. ⌜ now (masks .exit)
+        ≡ overAt to (spread 0 (take n (drop from (now (masks .entry)))) (take cells (drop (to + (n - cells)) (now (masks .entry))))) (now (masks .entry)) ⌝ }
+{
+    let laid = to + (n - cells);
+    let mut i = 0;
+    let mut j = 0;
+    while j < cells {
+        let b = masks[laid + j];
+        let mark = mark_of(masks[from + i]);
+        masks[to + i] = byte_if(mark, b);
+        j = skip(mark, j, 1);
+        i += 1;
+    }
+    fill_bytes(masks, to + i, n - i, 0);
+}
 
 // Spreads the stored mask at `at` over the plane of n cells at `from`, in which `cells` are set, into the plane at `to` behind it.
-// A byte is read for every cell until all are placed, so that no branch goes by the plane.
-pub fn place_plane(
+fn place_plane(
     form: MaskForm,
     masks: &mut [u8],
     from: usize,
@@ -35,24 +53,14 @@ pub fn place_plane(
     ensures { λ _. ⌜ now (masks .exit)
         ≡ overAt to (spread 0 (take n (drop from (now (masks .entry)))) (saidMask (maskForm (masksOf form)) (now (s .entry)) at cells)) (now (masks .entry)) ⌝ }
 {
-    if cells == n {
-        copy_to_plane(form, masks, to, s, at, n);
-        return;
+    copy_to_plane(form, masks, to + (n - cells), s, at, cells);
+    if cells < n {
+        spread_laid(masks, from, to, n, cells);
     }
-    let mut i = 0;
-    let mut j = 0;
-    while j < cells {
-        let b = said_byte(form, s, at, j);
-        let mark = mark_of(masks[from + i]);
-        masks[to + i] = byte_if(mark, b);
-        j = skip(mark, j, 1);
-        i += 1;
-    }
-    fill_bytes(masks, to + i, n - i, 0);
 }
 
 // Places the planes below the one that ends at `to`, in which `cells` are set: `left` levels, the next frame being at `at`.
-pub fn place_levels(
+fn place_levels(
     form: MaskForm,
     masks: &mut [u8],
     n: usize,

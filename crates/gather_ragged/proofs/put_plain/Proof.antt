@@ -14,8 +14,11 @@ use borrow.Author.Needs.{needs}
 use Rattle.gather_ragged.proofs.put_plain.Statement.{statement}
 use Rattle.gather_ragged.proofs.put_plain.Tie as tie
 
-room : (c : tie.After-width-bytes) → 0 + (8 + c .width-bytes .result * length (c .before .before .before .before .args .offsets .now) + length (c .before .before .before .before .args .values .now)) ≤ length (c .before .before .before .before .args .out .now)
-room c = let a = c .before .before .before .before .args in omega (arith, c .before .before .before .before .pre, plain-long (widthOf (a .width)) (placeOf (a .place)) (a .offsets .now) (a .values .now) (c .width-bytes .ensures))
+room : (c : tie.After-width-bytes) → 0 + (8 + c .width-bytes .result * length (c .before .before .before .before .args .offsets .now) + length
+    (c .before .before .before .before .args .values .now)) ≤ length (c .before .before .before .before .args .out .now)
+room c =
+    let a = c .before .before .before .before .args in
+    omega (arith, c .before .before .before .before .pre, plain-long (widthOf (a .width)) (placeOf (a .place)) (a .offsets .now) (a .values .now) (c .width-bytes .ensures))
 
 width-bytes-requires : tie.Need-width-bytes-requires
 width-bytes-requires c κs = search needs
@@ -27,7 +30,13 @@ data-at-requires : tie.Need-data-at-requires
 data-at-requires c κs = omega (arith, room c)
 
 copy-many-requires : tie.Need-copy-many-requires
-copy-many-requires c κs = let a = c .before .before .before .before .before .before .args in omega (arith, data-room (placeOf (a .place)) 0 (c .before .before .width-bytes .result * length (a .offsets .now)) (length (a .values .now)) (room (c .before .before)) (c .before .data-at .ensures))
+copy-many-requires c κs =
+    let a = c .before .before .before .before .before .before .args in
+    omega (
+      arith,
+      data-room (placeOf (a .place)) 0 (c .before .before .width-bytes .result * length (a .offsets .now)) (length (a .values .now)) (room (c .before .before))
+          (c .before .data-at .ensures),
+    )
 
 add-stored : tie.Need-add-stored
 add-stored c = omega (arith, room (c .before .before .before .before .before))
@@ -44,7 +53,8 @@ put-index-requires c κs =
       λ i h. omega arith,
       omega (
         arith,
-        index-room (placeOf (a .place)) 0 (c .before .before .before .before .before .before .before .width-bytes .result * length (a .offsets .now)) (length (a .values .now)) (room (c .before .before .before .before .before .before .before)) (c .before .index-at .ensures),
+        index-room (placeOf (a .place)) 0 (c .before .before .before .before .before .before .before .width-bytes .result * length (a .offsets .now)) (length (a .values .now))
+            (room (c .before .before .before .before .before .before .before)) (c .before .index-at .ensures),
         plain-index (widthOf (a .width)) (placeOf (a .place)) (a .offsets .now) (a .values .now) (c .before .before .before .before .before .before .before .width-bytes .ensures),
         ap (λ (os : List ℕ). length (indexOf (widthOf (a .width)) os)) (less-none (a .offsets .now)),
         c .before .before .before .before .copy-many .kept .0,
@@ -59,7 +69,8 @@ put-u64-requires c κs =
     let a = c .before .before .before .before .before .before .before .before .before .before .before .before .before .before .before .before .args in
     omega (
       arith,
-      length-room (placeOf (a .place)) 0 (c .before .before .before .before .before .before .before .before .before .before .before .before .width-bytes .result * length (a .offsets .now)) (length (a .values .now)) (room (c .before .before .before .before .before .before .before .before .before .before .before .before)) (c .before .length-at .ensures),
+      length-room (placeOf (a .place)) 0 (c .before .before .before .before .before .before .before .before .before .before .before .before .width-bytes .result * length
+          (a .offsets .now)) (length (a .values .now)) (room (c .before .before .before .before .before .before .before .before .before .before .before .before)) (c .before .length-at .ensures),
       c .before .before .before .before .before .before .before .before .before .copy-many .kept .0,
       c .before .before .before .before .put-index .kept .0,
     )
@@ -70,8 +81,13 @@ same-length c = search needs
 returns : tie.Need-returns
 returns c =
     let a = c .before .before .before .before .before .before .before .before .before .before .before .before .before .before .before .before .before .before .before .args in
-    plain-put (widthOf (a .width)) (placeOf (a .place)) (a .offsets .now) (a .values .now) (c .before .before .before .before .before .before .before .before .before .before .before .before .before .before .before .width-bytes .ensures) (a .out .now) (c .before .before .before .before .before .before .before .before .before .before .before .before .before .before .before .before .before .before .before .pre)
-    (c .before .before .before .before .before .before .before .before .before .before .before .before .before .before .data-at .ensures) (c .before .before .before .before .before .before .before .before .before .before .before .before .copy-many .ensures) (c .before .before .before .before .before .before .before .before .before .index-at .ensures) (c .before .before .before .before .before .before .before .put-index .ensures) (c .before .before .before .before .length-at .ensures) (c .before .before .put-u64 .ensures)
+    plain-put (widthOf (a .width)) (placeOf (a .place)) (a .offsets .now) (a .values .now)
+    (c .before .before .before .before .before .before .before .before .before .before .before .before .before .before .before .width-bytes .ensures) (a .out .now)
+    (c .before .before .before .before .before .before .before .before .before .before .before .before .before .before .before .before .before .before .before .pre)
+    (c .before .before .before .before .before .before .before .before .before .before .before .before .before .before .data-at .ensures)
+    (c .before .before .before .before .before .before .before .before .before .before .before .before .copy-many .ensures)
+    (c .before .before .before .before .before .before .before .before .before .index-at .ensures) (c .before .before .before .before .before .before .before .put-index .ensures)
+    (c .before .before .before .before .length-at .ensures) (c .before .before .put-u64 .ensures)
 
 pub put-plain-spec : {M : Type 1} → statement M
 put-plain-spec =

@@ -1,130 +1,43 @@
--- `place_plane` meets its contract, by the laws of Placing.
+-- `place_plane` meets its contract: the mask laid at the plane's end, and spread from there (Placing).
 -- Assumes nothing.
-use mathlib.Core.Path.{_≡_, _∙_}
-use Prim.Native.Nat.{_-_}
 use native.Mathlib.Omega.{arith}
-use lib.ListN.{length}
 use borrow.Author.Needs.{needs}
-use Rattle.array.specs.Meaning.{masksOf}
-use Rattle.mask.specs.Marks.{toldMark}
-use Rattle.spread.proofs.PlaneLaws.{next-most}
-use Rattle.planes.proofs.Placing.{Placing, Turn, byte-within, placing-begins, placing-fits, placing-all, placing-same, placing-ends, placing-turn, placing-more}
+use Rattle.planes.proofs.Placing.{few, mask-fits, laid-within, laid-spread, laid-all}
 use Rattle.planes.proofs.place_plane.Statement.{statement}
 use Rattle.planes.proofs.place_plane.Tie as tie
 
-abbrev Inv-loop : tie.InvT-loop
-Inv-loop form masks₀ from to n s at cells i₀ j₀ masks i j = Placing (masksOf form) masks₀ from to n s at cells masks i j
-
-abbrev μ-loop : tie.MeasureT-loop
-μ-loop form masks₀ from to n s at cells i₀ j₀ masks i j = n - i
-
 -- ---- places
 
-abbrev Head : Type 0
-Head = tie.At-loop Inv-loop μ-loop
+abbrev entry : tie.After-copy-to-plane-arg → tie.Start
+entry c = c .before .before .before
 
-abbrev entry : Head → tie.Start Inv-loop μ-loop
-entry c = c .before .before .before .before
-
-abbrev marked : tie.After-skip Inv-loop μ-loop → tie.After-mark-of Inv-loop μ-loop
-marked c = c .before .before
-
-abbrev turned : tie.After-mark-of Inv-loop μ-loop → tie.In-loop Inv-loop μ-loop
-turned c = c .before .before .before
-
-abbrev filled : tie.After-slice-known4 Inv-loop μ-loop → tie.After-loop Inv-loop μ-loop
-filled c = c .before .before .before .before
-
--- ---- what a turn rests on
-
-turn : (c : tie.In-loop Inv-loop μ-loop) → Turn (entry (c .before) .args .from) (entry (c .before) .args .to) (entry (c .before) .args .n) (c .before .loop .masks) (c .before .loop .i)
-turn c = placing-turn (c .before .loop .inv) (c .loop-test .taken)
-
-same : (c : Head) → length (c .loop .masks) ≡ length (entry c .args .masks .now)
-same c = placing-same (c .loop .inv)
+abbrev laid : tie.After-slice-known2 → tie.After-copy-to-plane
+laid c = c .before .before
 
 -- ---- answers
 
-copy-to-plane-requires : tie.Need-copy-to-plane-requires Inv-loop μ-loop
-copy-to-plane-requires c κs = placing-fits (c .before .before .before .before .pre) (c .before .if1 .taken)
+sub-copy-to-plane : tie.Need-sub-copy-to-plane
+sub-copy-to-plane c = omega (arith, few (entry c .pre .planes))
 
-returns : tie.Need-returns Inv-loop μ-loop
+copy-to-plane-requires : tie.Need-copy-to-plane-requires
+copy-to-plane-requires c κs = (mask-fits (entry c .pre), entry c .pre .stored)
+
+spread-laid-requires : tie.Need-spread-laid-requires
+spread-laid-requires c κs =
+    let mask = laid (c .before .before) in
+    laid-within (entry (mask .before) .pre) (mask .copy-to-plane .ensures)
+
+returns : tie.Need-returns
 returns c =
-    let then = c .before .before .before .before in
-    placing-all (then .before .before .before .pre) (then .if1 .taken) _ (c .before .before .copy-to-plane .ensures)
+    let wrote = c .before .before in
+    let mask = laid (wrote .before .before .before) in
+    laid-spread (entry (mask .before) .pre) (mask .copy-to-plane .ensures) (wrote .spread-laid .ensures)
 
-loop-holds : tie.Need-loop-holds Inv-loop μ-loop
-loop-holds c = placing-begins (c .before .before .before .pre)
-
-said-byte-requires : tie.Need-said-byte-requires Inv-loop μ-loop
-said-byte-requires c κs = byte-within (c .before .loop .inv .start) _ (c .loop-test .taken)
-
-add-mark-of : tie.Need-add-mark-of Inv-loop μ-loop
-add-mark-of c = omega (arith, turn (c .before))
-
-slice-read-mark-of : tie.Need-slice-read-mark-of Inv-loop μ-loop
-slice-read-mark-of c = omega (arith, turn (c .before .before))
-
-add-masks : tie.Need-add-masks Inv-loop μ-loop
-add-masks c = omega (arith, turn (turned (c .before)))
-
-slice-write-masks : tie.Need-slice-write-masks Inv-loop μ-loop
-slice-write-masks c = omega (arith, turn (turned (c .before)))
-
-skip-requires : tie.Need-skip-requires Inv-loop μ-loop
-skip-requires c κs = omega (arith, next-most (toldMark (c .before .mark-of .result)) _ _ (turned (c .before) .loop-test .taken))
-
-add-i : tie.Need-add-i Inv-loop μ-loop
-add-i c = omega (arith, turn (turned (marked c)))
-
-loop-less : tie.Need-loop-less Inv-loop μ-loop
-loop-less c = omega (arith, turn (turned (marked c)))
-
-loop-again : tie.Need-loop-again Inv-loop μ-loop
-loop-again c =
-    let mark = marked c .mark-of in
-    let in-turn = turned (marked c) in
-    rw (c .skip .ensures)
-    (placing-more (in-turn .before .loop .inv) (in-turn .loop-test .taken) (toldMark (mark .result)) (mark .ensures) _ _ (marked c .before .before .said-byte .ensures) (c .before .byte-if .ensures))
-
-add-fill-bytes : tie.Need-add-fill-bytes Inv-loop μ-loop
-add-fill-bytes c = omega (arith, same (c .before .before), c .before .before .loop .inv .within, c .before .before .loop .inv .start)
-
-sub-fill-bytes : tie.Need-sub-fill-bytes Inv-loop μ-loop
-sub-fill-bytes c = omega (arith, c .before .before .loop .inv .within)
-
-fill-bytes-requires : tie.Need-fill-bytes-requires Inv-loop μ-loop
-fill-bytes-requires c κs = omega (arith, same (c .before .before), c .before .before .loop .inv .within, c .before .before .loop .inv .start)
-
-same-length-2 : tie.Need-same-length-2 Inv-loop μ-loop
-same-length-2 c = c .before .before .fill-bytes .kept .0 ∙ same (filled c .before)
-
-returns-2 : tie.Need-returns-2 Inv-loop μ-loop
-returns-2 c = placing-ends (filled c .before .loop .inv) (filled c .loop-test .left) _ (c .before .before .fill-bytes .ensures)
+returns-2 : tie.Need-returns-2
+returns-2 c =
+    let mask = laid (c .before) in
+    laid-all (entry (mask .before) .pre) (mask .copy-to-plane .ensures) (c .if1 .left)
 
 pub place-plane-spec : {M : Type 1} → statement M
 place-plane-spec =
-    tie.close
-    (tie.spec
-    Inv-loop
-    μ-loop
-    copy-to-plane-requires
-    (λ c. search needs)
-    returns
-    loop-holds
-    said-byte-requires
-    add-mark-of
-    slice-read-mark-of
-    (λ c κs. search needs)
-    (λ c κs. search needs)
-    add-masks
-    slice-write-masks
-    skip-requires
-    add-i
-    loop-less
-    loop-again
-    add-fill-bytes
-    sub-fill-bytes
-    fill-bytes-requires
-    same-length-2
-    returns-2)
+    tie.close (tie.spec sub-copy-to-plane (λ c. search needs) copy-to-plane-requires spread-laid-requires (λ c. search needs) returns (λ c. search needs) returns-2)

@@ -1,5 +1,6 @@
 -- `write_found` meets its contract: the reader's answer by what the walk found (FixedLaws), and what the copying rests on.
 -- Assumes nothing.
+use mathlib.Core.Path.{refl}
 use native.Mathlib.Omega.{arith}
 use borrow.Author.Needs.{needs}
 use Rattle.array.specs.Meaning.{orderOf}
@@ -24,7 +25,7 @@ mul-if1 : tie.Need-mul-if1
 mul-if1 c = omega (arith, found-small (entry (c .before) .pre))
 
 returns : tie.Need-returns
-returns c = let start = entry (c .before .before) in λ offsets. rw (fixed-length (orderOf (start .args .order)) (start .pre) (c .if1 .taken))
+returns c = let start = entry (c .before .before) in λ offsets. rw (fixed-length (orderOf (start .args .order)) (start .pre) (c .if1 .taken)) refl
 
 write-fixed-requires : tie.Need-write-fixed-requires
 write-fixed-requires c κs = let fits = c .before .before in some-within (entry (fits .before .before) .pre) (fits .if1 .left)

@@ -11,10 +11,11 @@ use Rattle.array.specs.Meaning.{masksOf, formOf, kindOf}
 use Rattle.codec.specs.Mask.{maskForm}
 use Rattle.codec.proofs.Masks.{mask-laws}
 use Rattle.gather.specs.Live.{liveAt}
+use Rattle.gather.proofs.Packing.{planes-to}
 use Rattle.gather.proofs.Runs.{live-le}
 use Rattle.encode.specs.Stored.{levelOf, valuesLengthAt}
 use Rattle.encode.proofs.Levels.{length-none, length-values, length-frame, length-small}
-use Rattle.encode.proofs.Forms.{planes-to, measured-planes, narrow-of}
+use Rattle.encode.proofs.Forms.{measured-planes, narrow-of}
 use borrow.Author.Needs.{needs}
 use borrow.Fn.Kinds.{In}
 use borrow.Fn.PlainCycle.{Measures, is, falls, and}

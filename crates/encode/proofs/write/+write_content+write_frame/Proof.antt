@@ -15,11 +15,12 @@ use Rattle.codec.specs.Mask.{maskForm}
 use Rattle.codec.proofs.Frames.{length-wrap}
 use Rattle.gather.specs.Live.{liveAt}
 use Rattle.gather.proofs.Blocks.{live-mask-long}
+use Rattle.gather.proofs.Packing.{planes-to}
 use Rattle.gather.proofs.Placing.{at-none, laid-as}
 use Rattle.encode.specs.Stored.{levelOf, valuesFrom, storedFrom, maskFrom, frameFrom}
 use Rattle.encode.proofs.Framing.{told-as, frame-laid}
 use Rattle.encode.proofs.Levels.{stored-none, stored-values, stored-frame}
-use Rattle.encode.proofs.Forms.{planes-to, encodable-planes}
+use Rattle.encode.proofs.Forms.{encodable-planes}
 use borrow.Author.Needs.{needs}
 use borrow.Fn.Kinds.{In}
 use borrow.Fn.PlainCycle.{Measures, is, falls, and}

@@ -6,7 +6,7 @@ use Prim.Native.Nat.{ℕ, _+_, _-_, _<_}
 use native.Mathlib.Omega.{arith}
 use Rattle.array.specs.Limits.{mostCells}
 use Rattle.gather.proofs.LiveMarks.{mark-le}
-use Rattle.gather.proofs.Packing.{mask-plane, mask-planes}
+use Rattle.gather.proofs.Packing.{mask-plane, planes-to}
 use Rattle.gather.proofs.Blocks.{Picking, picking-begins, picking-cell, picking-more, picking-ends}
 use Rattle.gather.proofs.cells.gather_masks.Statement.{statement}
 use Rattle.gather.proofs.cells.gather_masks.Tie as tie
@@ -47,7 +47,7 @@ slice-write-block c = let p = c .before .before .loop .inv in omega (arith, c .b
 live-mark-requires : tie.Need-live-mark-requires Inv-loop μ-loop
 live-mark-requires c κs =
     let s = start (c .before .before) in
-    let p = mask-planes (s .args .level) (s .pre .0) in
+    let p = planes-to {l = s .args .level} (s .pre .0) (omega arith) in
     (cell (c .before), p .shallow, p .planes)
 
 cast-done : tie.Need-cast-done Inv-loop μ-loop

@@ -1,7 +1,8 @@
 -- `gather::cells::put_live` meets its contract: where every cell is counted, they lie end to end; else a case for each size of a word.
 -- Assumes nothing.
-use mathlib.Core.Path.{refl, sym, ap, _∙_}
-use Prim.Native.Nat.{ℕ, _*_}
+use mathlib.Core.Path.{_≡_, refl, sym, ap, _∙_, subst}
+use mathlib.Core.List.{List}
+use Prim.Native.Nat.{ℕ, _+_, _*_, _≤_}
 use native.Mathlib.Omega.{arith}
 use lib.ListN.{length}
 use Rattle.array.specs.Buffers.{overAt}
@@ -14,20 +15,54 @@ use borrow.Author.Needs.{needs}
 use Rattle.gather.proofs.cells.put_live.Statement.{statement}
 use Rattle.gather.proofs.cells.put_live.Tie as tie
 
+abbrev whole : tie.Then1 → tie.Start
+whole c = c .before .before .before .before
+
+abbrev parted : tie.Else1 → tie.Start
+parted c = c .before .before .before .before
+
+-- the pieces of size k of the cells that the level counts
+abbrev pieces : tie.Start → ℕ → List ℕ
+pieces s k = piecesAt (orderOf (s .args .order)) k (s .args .s .now) (liveAt (s .args .cells) (s .args .masks .now) (s .args .level))
+
+-- the room that the loop of size k asks, and what it gives
+room : (s : tie.Start) (k : ℕ) → s .args .size ≡ k → (s .args .cells * k ≤ length (s .args .s .now)) × (s .args .to + length (pieces s k) ≤ length (s .args .out .now))
+room s k e = subst (λ (j : ℕ). (s .args .cells * j ≤ length (s .args .s .now)) × (s .args .to + length (pieces s j) ≤ length (s .args .out .now))) e (s .pre .2, s .pre .3)
+
+given : (s : tie.Start) (k : ℕ) → s .args .size ≡ k → {o : List ℕ} → o ≡ overAt (s .args .to) (pieces s k) (s .args .out .now)
+    → o ≡ overAt (s .args .to) (pieces s (s .args .size)) (s .args .out .now)
+given s k e q = q ∙ ap (λ (j : ℕ). overAt (s .args .to) (pieces s j) (s .args .out .now)) (sym e)
+
 copy-cells-requires : tie.Need-copy-cells-requires
-copy-cells-requires c κs = let a = c .before .before .before .before .before .args in (omega (arith, c .before .before .before .before .before .pre .3, all-long (orderOf (a .order)) (a .size) (a .s .now) (liveTest (a .cells) (a .masks .now) (a .level)) (a .cells) (c .before .before .before .before .before .pre .2) (c .before .before .before .before .before .pre .1) (c .before .if1 .taken)), omega (arith, c .before .before .before .before .before .pre .2))
+copy-cells-requires c κs =
+    let s = whole (c .before) in
+    let a = s .args in
+    let long = all-long (orderOf (a .order)) (a .size) (a .s .now) (liveTest (a .cells) (a .masks .now) (a .level)) (a .cells) (s .pre .2) (s .pre .1) (c .before .if1 .taken) in
+    (omega (arith, s .pre .3, long), omega (arith, s .pre .2))
 
-put-live-words-requires : tie.Need-put-live-words-requires
-put-live-words-requires c κs = let a = c .before .before .before .before .before .before .args in (c .before .before .before .before .before .before .pre .0, c .before .before .before .before .before .before .pre .1, refl, omega (arith, c .before .before .before .before .before .before .pre .2, ap (λ (k : ℕ). a .cells * k) (c .before .match .keys1)), omega (arith, c .before .before .before .before .before .before .pre .3, ap (λ (k : ℕ). length (piecesAt (orderOf (a .order)) k (a .s .now) (liveAt (a .cells) (a .masks .now) (a .level)))) (c .before .match .keys1)))
+put-level-words-requires : tie.Need-put-level-words-requires
+put-level-words-requires c κs =
+    let s = parted (c .before .before) in
+    let r = room s 1 (c .before .match .keys1) in
+    (s .pre .0, s .pre .1, refl, r .0, r .1)
 
-put-live-words-requires-2 : tie.Need-put-live-words-requires-2
-put-live-words-requires-2 c κs = let a = c .before .before .before .before .before .before .args in (c .before .before .before .before .before .before .pre .0, c .before .before .before .before .before .before .pre .1, refl, omega (arith, c .before .before .before .before .before .before .pre .2, ap (λ (k : ℕ). a .cells * k) (c .before .match .keys2)), omega (arith, c .before .before .before .before .before .before .pre .3, ap (λ (k : ℕ). length (piecesAt (orderOf (a .order)) k (a .s .now) (liveAt (a .cells) (a .masks .now) (a .level)))) (c .before .match .keys2)))
+put-level-words-requires-2 : tie.Need-put-level-words-requires-2
+put-level-words-requires-2 c κs =
+    let s = parted (c .before .before) in
+    let r = room s 2 (c .before .match .keys2) in
+    (s .pre .0, s .pre .1, refl, r .0, r .1)
 
-put-live-words-requires-3 : tie.Need-put-live-words-requires-3
-put-live-words-requires-3 c κs = let a = c .before .before .before .before .before .before .args in (c .before .before .before .before .before .before .pre .0, c .before .before .before .before .before .before .pre .1, refl, omega (arith, c .before .before .before .before .before .before .pre .2, ap (λ (k : ℕ). a .cells * k) (c .before .match .keys3)), omega (arith, c .before .before .before .before .before .before .pre .3, ap (λ (k : ℕ). length (piecesAt (orderOf (a .order)) k (a .s .now) (liveAt (a .cells) (a .masks .now) (a .level)))) (c .before .match .keys3)))
+put-level-words-requires-3 : tie.Need-put-level-words-requires-3
+put-level-words-requires-3 c κs =
+    let s = parted (c .before .before) in
+    let r = room s 4 (c .before .match .keys3) in
+    (s .pre .0, s .pre .1, refl, r .0, r .1)
 
-put-live-words-requires-4 : tie.Need-put-live-words-requires-4
-put-live-words-requires-4 c κs = let a = c .before .before .before .before .before .before .args in (c .before .before .before .before .before .before .pre .0, c .before .before .before .before .before .before .pre .1, refl, omega (arith, c .before .before .before .before .before .before .pre .2, ap (λ (k : ℕ). a .cells * k) (c .before .match .keys4)), omega (arith, c .before .before .before .before .before .before .pre .3, ap (λ (k : ℕ). length (piecesAt (orderOf (a .order)) k (a .s .now) (liveAt (a .cells) (a .masks .now) (a .level)))) (c .before .match .keys4)))
+put-level-words-requires-4 : tie.Need-put-level-words-requires-4
+put-level-words-requires-4 c κs =
+    let s = parted (c .before .before) in
+    let r = room s 8 (c .before .match .keys4) in
+    (s .pre .0, s .pre .1, refl, r .0, r .1)
 
 put-live-runs-requires : tie.Need-put-live-runs-requires
 put-live-runs-requires c κs = search needs
@@ -36,43 +71,36 @@ same-length : tie.Need-same-length
 same-length c = search needs
 
 returns : tie.Need-returns
-returns c = let a = c .before .before .before .before .before .before .before .before .args in laid-as (a .to) (a .out .now) (c .before .before .copy-cells .ensures) (all-pieces (orderOf (a .order)) (a .size) (a .s .now) (liveTest (a .cells) (a .masks .now) (a .level)) (a .cells) (c .before .before .before .before .before .before .before .before .pre .1) (c .before .before .before .before .if1 .taken))
+returns c =
+    let t = c .before .before .before .before in
+    let s = whole t in
+    let a = s .args in
+    laid-as (a .to) (a .out .now) (c .before .before .copy-cells .ensures)
+    (all-pieces (orderOf (a .order)) (a .size) (a .s .now) (liveTest (a .cells) (a .masks .now) (a .level)) (a .cells) (s .pre .1) (t .if1 .taken))
 
 same-length-2 : tie.Need-same-length-2
 same-length-2 c = search needs
 
 returns-2 : tie.Need-returns-2
-returns-2 c =
-    let a = c .before .before .before .before .before .before .before .before .before .args in
-    _∙_ {b = overAt (a .to) (piecesAt (orderOf (a .order)) 1 (a .s .now) (liveAt (a .cells) (a .masks .now) (a .level))) (a .out .now)} (c .before .before .put-live-words .ensures)
-    (ap (λ (k : ℕ). overAt (a .to) (piecesAt (orderOf (a .order)) k (a .s .now) (liveAt (a .cells) (a .masks .now) (a .level))) (a .out .now)) (sym (c .before .before .before .before .match .keys1)))
+returns-2 c = let m = c .before .before .before .before in given (parted (m .before)) 1 (m .match .keys1) (c .before .before .put-level-words .ensures)
 
 same-length-3 : tie.Need-same-length-3
 same-length-3 c = search needs
 
 returns-3 : tie.Need-returns-3
-returns-3 c =
-    let a = c .before .before .before .before .before .before .before .before .before .args in
-    _∙_ {b = overAt (a .to) (piecesAt (orderOf (a .order)) 2 (a .s .now) (liveAt (a .cells) (a .masks .now) (a .level))) (a .out .now)} (c .before .before .put-live-words2 .ensures)
-    (ap (λ (k : ℕ). overAt (a .to) (piecesAt (orderOf (a .order)) k (a .s .now) (liveAt (a .cells) (a .masks .now) (a .level))) (a .out .now)) (sym (c .before .before .before .before .match .keys2)))
+returns-3 c = let m = c .before .before .before .before in given (parted (m .before)) 2 (m .match .keys2) (c .before .before .put-level-words2 .ensures)
 
 same-length-4 : tie.Need-same-length-4
 same-length-4 c = search needs
 
 returns-4 : tie.Need-returns-4
-returns-4 c =
-    let a = c .before .before .before .before .before .before .before .before .before .args in
-    _∙_ {b = overAt (a .to) (piecesAt (orderOf (a .order)) 4 (a .s .now) (liveAt (a .cells) (a .masks .now) (a .level))) (a .out .now)} (c .before .before .put-live-words3 .ensures)
-    (ap (λ (k : ℕ). overAt (a .to) (piecesAt (orderOf (a .order)) k (a .s .now) (liveAt (a .cells) (a .masks .now) (a .level))) (a .out .now)) (sym (c .before .before .before .before .match .keys3)))
+returns-4 c = let m = c .before .before .before .before in given (parted (m .before)) 4 (m .match .keys3) (c .before .before .put-level-words3 .ensures)
 
 same-length-5 : tie.Need-same-length-5
 same-length-5 c = search needs
 
 returns-5 : tie.Need-returns-5
-returns-5 c =
-    let a = c .before .before .before .before .before .before .before .before .before .args in
-    _∙_ {b = overAt (a .to) (piecesAt (orderOf (a .order)) 8 (a .s .now) (liveAt (a .cells) (a .masks .now) (a .level))) (a .out .now)} (c .before .before .put-live-words4 .ensures)
-    (ap (λ (k : ℕ). overAt (a .to) (piecesAt (orderOf (a .order)) k (a .s .now) (liveAt (a .cells) (a .masks .now) (a .level))) (a .out .now)) (sym (c .before .before .before .before .match .keys4)))
+returns-5 c = let m = c .before .before .before .before in given (parted (m .before)) 8 (m .match .keys4) (c .before .before .put-level-words4 .ensures)
 
 same-length-6 : tie.Need-same-length-6
 same-length-6 c = search needs
@@ -85,10 +113,10 @@ put-live-spec =
     tie.close
     (tie.spec
     copy-cells-requires
-    put-live-words-requires
-    put-live-words-requires-2
-    put-live-words-requires-3
-    put-live-words-requires-4
+    put-level-words-requires
+    put-level-words-requires-2
+    put-level-words-requires-3
+    put-level-words-requires-4
     put-live-runs-requires
     same-length
     returns

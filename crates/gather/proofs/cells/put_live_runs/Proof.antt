@@ -17,23 +17,38 @@ Inv-loop out₀ to s size order masks cells level i₀ done₀ out i done = Stor
 abbrev μ-loop : tie.MeasureT-loop
 μ-loop out₀ to s size order masks cells level i₀ done₀ out i done = cells - i
 
+-- places that the answers go back to
+abbrev start-of-loop : tie.At-loop Inv-loop μ-loop → tie.Start Inv-loop μ-loop
+start-of-loop c = c .before .before .before .before
+
+abbrev in-loop-of-out : tie.After-out Inv-loop μ-loop → tie.In-loop Inv-loop μ-loop
+in-loop-of-out c = c .before .before .before .before
+
+abbrev loop-of-copy-cells : tie.After-copy-cells Inv-loop μ-loop → tie.At-loop Inv-loop μ-loop
+loop-of-copy-cells c = c .before .before .before .before
+
+abbrev start-of-copy-cells : tie.After-copy-cells Inv-loop μ-loop → tie.Start Inv-loop μ-loop
+start-of-copy-cells c = start-of-loop (c .before .before .before .before)
+
 same : (c : tie.At-loop Inv-loop μ-loop) → length (c .loop .out) ≡ length (c .before .before .before .before .args .out .now)
 same c = storing-same (c .loop .inv)
 
-within : (c : tie.After-live-run Inv-loop μ-loop) → c .before .before .loop .i + c .live-run .result ≤ c .before .before .before .before .before .before .args .cells
+within : (c : tie.After-live-run Inv-loop μ-loop) → c .before .before .loop .i + c .live-run .result ≤ start-of-loop (c .before .before) .args .cells
 within c = storing-within (c .before .before .loop .inv) (c .live-run .ensures) (c .before .loop-test .taken)
 
-source : (c : tie.After-live-run Inv-loop μ-loop) → c .before .before .loop .i * c .before .before .before .before .before .before .args .size + c .live-run .result * c .before .before .before .before .before .before .args .size ≤ length (c .before .before .before .before .before .before .args .s .now)
+source : (c : tie.After-live-run Inv-loop μ-loop) → c .before .before .loop .i * start-of-loop (c .before .before) .args .size + c .live-run .result * start-of-loop
+    (c .before .before) .args .size ≤ length (start-of-loop (c .before .before) .args .s .now)
 source c = storing-source (c .before .before .loop .inv) (c .live-run .ensures) (c .before .loop-test .taken)
 
-room : (c : tie.After-live-run Inv-loop μ-loop) → c .before .before .before .before .before .before .args .to + c .before .before .loop .done + c .live-run .result * c .before .before .before .before .before .before .args .size ≤ length (c .before .before .loop .out)
+room : (c : tie.After-live-run Inv-loop μ-loop) → start-of-loop (c .before .before) .args .to + c .before .before .loop .done + c .live-run .result * start-of-loop
+    (c .before .before) .args .size ≤ length (c .before .before .loop .out)
 room c = storing-room (c .before .before .loop .inv) (c .live-run .ensures) (c .before .loop-test .taken)
 
 loop-holds : tie.Need-loop-holds Inv-loop μ-loop
 loop-holds c = storing-begins (c .before .before .before .pre .1) (c .before .before .before .pre .2)
 
 live-run-requires : tie.Need-live-run-requires Inv-loop μ-loop
-live-run-requires c κs = omega (arith, c .before .before .before .before .before .pre .0 .shallow, c .before .before .before .before .before .pre .0 .planes)
+live-run-requires c κs = omega (arith, start-of-loop (c .before) .pre .0 .shallow, start-of-loop (c .before) .pre .0 .planes)
 
 add-copy-cells : tie.Need-add-copy-cells Inv-loop μ-loop
 add-copy-cells c = omega (arith, room (c .before), same (c .before .before .before))
@@ -48,21 +63,23 @@ mul-done : tie.Need-mul-done Inv-loop μ-loop
 mul-done c = omega (arith, source (c .before .before .before .before))
 
 add-done : tie.Need-add-done Inv-loop μ-loop
-add-done c = omega (arith, room (c .before .before .before .before), same (c .before .before .before .before .before .before))
+add-done c = omega (arith, room (c .before .before .before .before), same (loop-of-copy-cells (c .before .before)))
 
 add-i : tie.Need-add-i Inv-loop μ-loop
 unfolding mostCells
-add-i c = omega (arith, within (c .before .before .before .before), c .before .before .before .before .before .before .before .before .before .before .pre .0 .few)
+add-i c = omega (arith, within (c .before .before .before .before), start-of-copy-cells (c .before .before) .pre .0 .few)
 
 add-i-2 : tie.Need-add-i-2 Inv-loop μ-loop
 unfolding mostCells
-add-i-2 c = omega (arith, within (c .before .before .before .before), c .before .before .before .before .before .before .before .before .before .before .pre .0 .few)
+add-i-2 c = omega (arith, within (c .before .before .before .before), start-of-copy-cells (c .before .before) .pre .0 .few)
 
 loop-less : tie.Need-loop-less Inv-loop μ-loop
 loop-less c = omega arith
 
 loop-again : tie.Need-loop-again Inv-loop μ-loop
-loop-again c = storing-more (c .before .before .before .before .before .before .loop .inv) (c .before .before .before .before .live-run .ensures) (c .before .before .before .before .before .loop-test .taken) (c .before .before .copy-cells .ensures)
+loop-again c =
+    storing-more (loop-of-copy-cells (c .before .before) .loop .inv) (c .before .before .before .before .live-run .ensures) (in-loop-of-out (c .before) .loop-test .taken)
+    (c .before .before .copy-cells .ensures)
 
 same-length : tie.Need-same-length Inv-loop μ-loop
 same-length c = same (c .before)

@@ -1,7 +1,7 @@
 -- `gather::cells::put_live_words` meets its contract: by the laws of Packing.
 -- Assumes nothing.
 use borrow.Author.Needs.{needs}
-use mathlib.Core.Path.{_≡_, ap, _∙_}
+use mathlib.Core.Path.{ap, _∙_}
 use Prim.Native.Nat.{ℕ, _≤_, _<_, _+_, _*_, _-_}
 use native.Mathlib.Omega.{arith}
 use lib.ListN.{length}
@@ -23,64 +23,101 @@ Inv-loop out₀ to s size order masks cells level count i₀ done₀ out i done 
 abbrev μ-loop : tie.MeasureT-loop
 μ-loop out₀ to s size order masks cells level count i₀ done₀ out i done = cells - i
 
-same : (c : tie.At-loop Inv-loop μ-loop) → length (c .loop .out) ≡ length (c .before .before .before .before .args .out .now)
-same c = packing-same (c .loop .inv)
+abbrev Loop : Type 0
+Loop = tie.At-loop Inv-loop μ-loop
 
-more : (c : tie.In-loop Inv-loop μ-loop) → c .before .loop .done < length (liveAt (c .before .before .before .before .before .args .cells) (c .before .before .before .before .before .args .masks .now) (c .before .before .before .before .before .args .level))
-more c = omega (arith, c .loop-test .taken, c .before .before .before .before .before .pre .1)
+abbrev Turn : Type 0
+Turn = tie.In-loop Inv-loop μ-loop
 
-cell : (c : tie.In-loop Inv-loop μ-loop) → c .before .loop .i < c .before .before .before .before .before .args .cells
+abbrev Marked : Type 0
+Marked = tie.After-live-mark Inv-loop μ-loop
+
+abbrev start : Loop → tie.Start Inv-loop μ-loop
+start l = l .before .before .before .before
+
+-- the word is read; it is written
+abbrev read : tie.After-put-word-arg Inv-loop μ-loop → Turn
+read c = c .before .before
+
+abbrev wrote : tie.After-slice-known2 Inv-loop μ-loop → tie.After-put-word Inv-loop μ-loop
+wrote c = c .before .before
+
+abbrev turn : Marked → Turn
+turn m = read (wrote (m .before) .before)
+
+more : (c : Turn) → c .before .loop .done < length (liveAt (start (c .before) .args .cells) (start (c .before) .args .masks .now) (start (c .before) .args .level))
+more c = omega (arith, c .loop-test .taken, start (c .before) .pre .1)
+
+cell : (c : Turn) → c .before .loop .i < start (c .before) .args .cells
 cell c = packing-cell (c .before .loop .inv) (more c)
 
-source : (c : tie.In-loop Inv-loop μ-loop) → c .before .loop .i * c .before .before .before .before .before .args .size + c .before .before .before .before .before .args .size ≤ length (c .before .before .before .before .before .args .s .now)
-source c = piece-in (c .before .before .before .before .before .args .size) (cell c) (c .before .before .before .before .before .pre .3)
+source : (c : Turn) → c .before .loop .i * start (c .before) .args .size + start (c .before) .args .size ≤ length (start (c .before) .args .s .now)
+source c = let s = start (c .before) in piece-in (s .args .size) (cell c) (s .pre .3)
 
-room : (c : tie.In-loop Inv-loop μ-loop) → c .before .before .before .before .before .args .to + c .before .loop .done * c .before .before .before .before .before .args .size + c .before .before .before .before .before .args .size ≤ length (c .before .loop .out)
+room : (c : Turn) → start (c .before) .args .to + c .before .loop .done * start (c .before) .args .size + start (c .before) .args .size ≤ length (c .before .loop .out)
 room c = packing-room (c .before .loop .inv) (more c)
 
 loop-holds : tie.Need-loop-holds Inv-loop μ-loop
-loop-holds c = let a = c .before .before .before .args in packing-begins (pieces-sized (orderOf (a .order)) (a .size) (a .cells) (a .s .now) (c .before .before .before .pre .3)) (c .before .before .before .pre .4)
+loop-holds c =
+    let s = c .before .before .before in
+    let a = s .args in
+    packing-begins (pieces-sized (orderOf (a .order)) (a .size) (a .cells) (a .s .now) (s .pre .3)) (s .pre .4)
 
 mul-word-at : tie.Need-mul-word-at Inv-loop μ-loop
-mul-word-at c = omega (arith, (source c))
+mul-word-at c = omega (arith, source c)
 
 word-at-requires : tie.Need-word-at-requires Inv-loop μ-loop
-word-at-requires c κs = (c .before .before .before .before .before .pre .2, (source c))
+word-at-requires c κs = (start (c .before) .pre .2, source c)
 
 mul-put-word : tie.Need-mul-put-word Inv-loop μ-loop
-mul-put-word c = omega (arith, (room (c .before .before)), (same (c .before .before .before)))
+mul-put-word c = omega (arith, room (read c), packing-same (read c .before .loop .inv))
 
 add-put-word : tie.Need-add-put-word Inv-loop μ-loop
-add-put-word c = omega (arith, (room (c .before .before)), (same (c .before .before .before)))
+add-put-word c = omega (arith, room (read c), packing-same (read c .before .loop .inv))
 
 put-word-requires : tie.Need-put-word-requires Inv-loop μ-loop
-put-word-requires c κs = (c .before .before .before .before .before .before .before .pre .2, omega (arith, (room (c .before .before))))
+put-word-requires c κs = (start (read c .before) .pre .2, room (read c))
 
 live-mark-requires : tie.Need-live-mark-requires Inv-loop μ-loop
-live-mark-requires c κs = omega (arith, (cell (c .before .before .before .before .before)), c .before .before .before .before .before .before .before .before .before .before .pre .0 .shallow, c .before .before .before .before .before .before .before .before .before .before .pre .0 .planes)
+live-mark-requires c κs =
+    let t = read (wrote c .before) in
+    let p = start (t .before) .pre .0 in
+    (cell t, p .shallow, p .planes)
 
 cast-done : tie.Need-cast-done Inv-loop μ-loop
 cast-done c = search needs
 
 add-done : tie.Need-add-done Inv-loop μ-loop
 unfolding mostCells
-add-done c = let a = c .before .before .before .before .before .before .before .before .before .before .before .args in omega (arith, (more (c .before .before .before .before .before .before)), live-le (a .cells) (a .masks .now) (a .level), c .before .before .before .before .before .before .before .before .before .before .before .pre .0 .few, mark-le (a .cells) (a .masks .now) (c .before .before .before .before .before .before .before .loop .i) (a .level) (c .live-mark .ensures))
+add-done c =
+    let t = turn c in
+    let s = start (t .before) in
+    let a = s .args in
+    let one = mark-le (a .cells) (a .masks .now) (t .before .loop .i) (a .level) (c .live-mark .ensures) in
+    omega (arith, more t, live-le (a .cells) (a .masks .now) (a .level), s .pre .0 .few, one)
 
 add-i : tie.Need-add-i Inv-loop μ-loop
 unfolding mostCells
-add-i c = omega (arith, (cell (c .before .before .before .before .before .before)), c .before .before .before .before .before .before .before .before .before .before .before .pre .0 .few)
+add-i c = omega (arith, cell (turn c), start (turn c .before) .pre .0 .few)
 
 loop-less : tie.Need-loop-less Inv-loop μ-loop
-loop-less c = omega (arith, (cell (c .before .before .before .before .before .before)))
+loop-less c = omega (arith, cell (turn c))
 
 loop-again : tie.Need-loop-again Inv-loop μ-loop
-loop-again c = let a = c .before .before .before .before .before .before .before .before .before .before .before .args in packing-more (c .before .before .before .before .before .before .before .loop .inv) (more (c .before .before .before .before .before .before)) (c .before .before .before .put-word .ensures ∙ ap (λ (x : List ℕ). overAt (a .to + c .before .before .before .before .before .before .before .loop .done * a .size) x (c .before .before .before .before .before .before .before .loop .out)) (c .before .before .before .before .before .word-at .ensures)) (ap (λ (m : ℕ). c .before .before .before .before .before .before .before .loop .done + m) (c .live-mark .ensures))
+loop-again c =
+    let t = turn c in
+    let l = t .before in
+    let a = start l .args in
+    let p = wrote (c .before) in
+    packing-more (l .loop .inv) (more t)
+    (p .put-word .ensures ∙ ap (λ (x : List ℕ). overAt (a .to + l .loop .done * a .size) x (l .loop .out)) (p .before .before .word-at .ensures))
+    (ap (λ (m : ℕ). l .loop .done + m) (c .live-mark .ensures))
 
 same-length : tie.Need-same-length Inv-loop μ-loop
-same-length c = (same (c .before))
+same-length c = packing-same (c .before .loop .inv)
 
 returns : tie.Need-returns Inv-loop μ-loop
-returns c = packing-ends (c .before .loop .inv) (omega (arith, c .loop-test .left, c .before .before .before .before .before .pre .1))
+returns c = packing-ends (c .before .loop .inv) (omega (arith, c .loop-test .left, start (c .before) .pre .1))
 
 pub put-live-words-spec : {M : Type 1} → statement M
 put-live-words-spec =

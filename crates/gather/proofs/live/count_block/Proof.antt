@@ -34,7 +34,8 @@ loop-less : tie.Need-loop-less Inv-loop μ-loop
 loop-less c = omega arith
 
 loop-again : tie.Need-loop-again Inv-loop μ-loop
-loop-again c = let a = c .before .before .before .before .args in omega (arith, (few c), c .live-mark .ensures, live-next (a .cells) (a .masks .now) (a .level) (c .before .before .loop .i) (omega arith))
+loop-again c =
+    let a = c .before .before .before .before .args in omega (arith, (few c), c .live-mark .ensures, live-next (a .cells) (a .masks .now) (a .level) (c .before .before .loop .i) (omega arith))
 
 returns : tie.Need-returns Inv-loop μ-loop
 returns c = let a = c .before .before .before .args in let e : c .before .loop .i ≡ a .end = omega arith in omega (arith, ap (λ (k : ℕ). length (liveFrom (a .cells) (a .masks .now) (a .level) k)) e)

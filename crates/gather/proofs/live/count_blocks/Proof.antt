@@ -32,7 +32,10 @@ cast-n c = search needs
 
 add-n : tie.Need-add-n Inv-loop μ-loop
 unfolding mostCells
-add-n c = let a = c .before .before .before .before .before .args in omega (arith, c .count-block .ensures, c .before .before .before .before .before .pre .few, live-le (a .cells) (a .masks .now) (a .level))
+add-n c =
+    let l = c .before .before .before in
+    let s = l .before .before in
+    omega (arith, c .count-block .ensures, s .pre .few, live-le (s .args .cells) (s .args .masks .now) (s .args .level))
 
 loop-less : tie.Need-loop-less Inv-loop μ-loop
 loop-less c = omega (arith, c .before .block-end .ensures)

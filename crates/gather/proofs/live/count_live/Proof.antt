@@ -28,7 +28,9 @@ returns : tie.Need-returns
 returns c = let a = c .before .before .args in count-all (a .cells) (a .masks .now) (a .level) (c .match .keys1)
 
 returns-2 : tie.Need-returns-2
-returns-2 c = let a = c .before .before .before .before .args in c .count-set .ensures ∙ count-one (a .cells) (a .masks .now) (a .level) (c .before .before .match .keys2) (c .before .before .before .before .pre .planes)
+returns-2 c =
+    let a = c .before .before .before .before .args in
+    c .count-set .ensures ∙ count-one (a .cells) (a .masks .now) (a .level) (c .before .before .match .keys2) (c .before .before .before .before .pre .planes)
 
 returns-3 : tie.Need-returns-3
 returns-3 c = c .count-blocks .ensures

@@ -45,25 +45,33 @@ same-length : tie.Need-same-length
 same-length c = search needs
 
 returns : tie.Need-returns
-returns c = given (c .before .before .before .before .before .before .before .before .before) 1 (c .before .before .before .before .match .keys1) (c .before .before .put-live-runs .ensures .0) (c .before .before .put-live-runs .ensures .1)
+returns c =
+    given (c .before .before .before .before .before .before .before .before .before) 1 (c .before .before .before .before .match .keys1) (c .before .before .put-live-runs .ensures .0)
+    (c .before .before .put-live-runs .ensures .1)
 
 same-length-2 : tie.Need-same-length-2
 same-length-2 c = search needs
 
 returns-2 : tie.Need-returns-2
-returns-2 c = given (c .before .before .before .before .before .before .before .before .before) 2 (c .before .before .before .before .match .keys2) (c .before .before .put-live-runs2 .ensures .0) (c .before .before .put-live-runs2 .ensures .1)
+returns-2 c =
+    given (c .before .before .before .before .before .before .before .before .before) 2 (c .before .before .before .before .match .keys2)
+    (c .before .before .put-live-runs2 .ensures .0) (c .before .before .put-live-runs2 .ensures .1)
 
 same-length-3 : tie.Need-same-length-3
 same-length-3 c = search needs
 
 returns-3 : tie.Need-returns-3
-returns-3 c = given (c .before .before .before .before .before .before .before .before .before) 3 (c .before .before .before .before .match .keys3) (c .before .before .put-live-runs3 .ensures .0) (c .before .before .put-live-runs3 .ensures .1)
+returns-3 c =
+    given (c .before .before .before .before .before .before .before .before .before) 3 (c .before .before .before .before .match .keys3)
+    (c .before .before .put-live-runs3 .ensures .0) (c .before .before .put-live-runs3 .ensures .1)
 
 same-length-4 : tie.Need-same-length-4
 same-length-4 c = search needs
 
 returns-4 : tie.Need-returns-4
-returns-4 c = given (c .before .before .before .before .before .before .before .before .before) 4 (c .before .before .before .before .match .keys4) (c .before .before .put-live-runs4 .ensures .0) (c .before .before .put-live-runs4 .ensures .1)
+returns-4 c =
+    given (c .before .before .before .before .before .before .before .before .before) 4 (c .before .before .before .before .match .keys4)
+    (c .before .before .put-live-runs4 .ensures .0) (c .before .before .put-live-runs4 .ensures .1)
 
 same-length-5 : tie.Need-same-length-5
 same-length-5 c = search needs

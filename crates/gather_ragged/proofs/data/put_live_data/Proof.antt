@@ -13,7 +13,8 @@ none-has-bytes-requires c κs = search needs
 returns : tie.Need-returns
 returns c =
     let s = c .before .before .before .before .before .before in
-    none-written (s .args .masks .now) (s .args .level) (s .pre .1) (s .args .values .now) (s .pre .2) (eqb-true _ _ (sym (c .before .none-has-bytes .ensures) ∙ c .if1 .taken)) (s .args .to) (s .args .out .now) (s .pre .3)
+    none-written (s .args .masks .now) (s .args .level) (s .pre .1) (s .args .values .now) (s .pre .2) (eqb-true _ _ (sym (c .before .none-has-bytes .ensures) ∙ c .if1 .taken))
+    (s .args .to) (s .args .out .now) (s .pre .3)
 
 put-level-runs-requires : tie.Need-put-level-runs-requires
 put-level-runs-requires c κs = search needs

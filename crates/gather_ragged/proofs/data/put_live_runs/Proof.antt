@@ -7,7 +7,8 @@ use lib.ListN.{length, getD}
 use borrow.Author.Needs.{needs}
 use Rattle.array.specs.Limits.{mostCells}
 use Rattle.gather.specs.Live.{liveTest}
-use Rattle.gather_ragged.proofs.Slicing.{Slicing, slicing-begins, slicing-same, slicing-ends, slicing-wrote, slicing-skip, slicing-inside, slicing-rises, slicing-source, slicing-room, slicing-more}
+use Rattle.gather_ragged.proofs.Slicing.{Slicing, slicing-begins, slicing-same, slicing-ends, slicing-wrote}
+use Rattle.gather_ragged.proofs.Slicing.{slicing-skip, slicing-inside, slicing-rises, slicing-source, slicing-room, slicing-more}
 use Rattle.gather_ragged.proofs.data.put_live_runs.Statement.{statement}
 use Rattle.gather_ragged.proofs.data.put_live_runs.Tie as tie
 
@@ -20,13 +21,19 @@ abbrev μ-loop : tie.MeasureT-loop
 same : (c : tie.At-loop Inv-loop μ-loop) → length (c .loop .out) ≡ length (c .before .before .before .before .before .args .out .now)
 same c = slicing-same (c .loop .inv)
 
-inside : (c : tie.After-live-run Inv-loop μ-loop) → c .before .before .before .before .loop .i + c .live-run .result < length (c .before .before .before .before .before .before .before .before .before .args .offsets .now)
+inside : (c : tie.After-live-run Inv-loop μ-loop) → c .before .before .before .before .loop .i + c .live-run .result < length
+    (c .before .before .before .before .before .before .before .before .before .args .offsets .now)
 inside c = slicing-inside (c .before .before .before .before .loop .inv) (c .live-run .ensures) (c .before .before .before .loop-test .taken)
 
-rises : (c : tie.After-live-run Inv-loop μ-loop) → getD (c .before .before .before .before .before .before .before .before .before .args .offsets .now) (c .before .before .before .before .loop .i) 0 ≤ getD (c .before .before .before .before .before .before .before .before .before .args .offsets .now) (c .before .before .before .before .loop .i + c .live-run .result) 0
+rises : (c : tie.After-live-run Inv-loop μ-loop) → getD (c .before .before .before .before .before .before .before .before .before .args .offsets .now)
+    (c .before .before .before .before .loop .i) 0 ≤ getD (c .before .before .before .before .before .before .before .before .before .args .offsets .now)
+    (c .before .before .before .before .loop .i + c .live-run .result) 0
 rises c = slicing-rises (c .before .before .before .before .loop .inv) (c .live-run .ensures) (c .before .before .before .loop-test .taken)
 
-room : (c : tie.After-live-run Inv-loop μ-loop) → c .before .before .before .before .before .before .before .before .before .args .to + c .before .before .before .before .loop .done + (getD (c .before .before .before .before .before .before .before .before .before .args .offsets .now) (c .before .before .before .before .loop .i + c .live-run .result) 0 - getD (c .before .before .before .before .before .before .before .before .before .args .offsets .now) (c .before .before .before .before .loop .i) 0) ≤ length (c .before .before .before .before .loop .out)
+room : (c : tie.After-live-run Inv-loop μ-loop) → c .before .before .before .before .before .before .before .before .before .args .to + c .before .before .before .before .loop .done +
+    (getD (c .before .before .before .before .before .before .before .before .before .args .offsets .now) (c .before .before .before .before .loop .i + c .live-run .result) 0 - getD
+    (c .before .before .before .before .before .before .before .before .before .args .offsets .now) (c .before .before .before .before .loop .i) 0) ≤ length
+    (c .before .before .before .before .loop .out)
 room c = slicing-room (c .before .before .before .before .loop .inv) (c .live-run .ensures) (c .before .before .before .loop-test .taken)
 
 loop-holds : tie.Need-loop-holds Inv-loop μ-loop
@@ -45,7 +52,8 @@ loop-again : tie.Need-loop-again Inv-loop μ-loop
 loop-again c = slicing-skip (c .before .before .before .loop .inv) (c .before .before .loop-test .taken) (c .before .live-mark .ensures) (c .if1 .taken)
 
 live-run-requires : tie.Need-live-run-requires Inv-loop μ-loop
-live-run-requires c κs = omega (arith, c .before .before .before .before .before .before .before .before .pre .0 .shallow, c .before .before .before .before .before .before .before .before .pre .0 .planes)
+live-run-requires c κs =
+    omega (arith, c .before .before .before .before .before .before .before .before .pre .0 .shallow, c .before .before .before .before .before .before .before .before .pre .0 .planes)
 
 mul-start : tie.Need-mul-start Inv-loop μ-loop
 mul-start c = search needs
@@ -58,7 +66,14 @@ add-end c = omega (arith, (inside (c .before)))
 
 mul-end : tie.Need-mul-end Inv-loop μ-loop
 unfolding mostCells
-mul-end c = omega (arith, (inside (c .before)), c .before .before .before .before .before .before .before .before .before .before .pre .0 .few, c .before .before .before .before .before .before .before .before .before .before .pre .1 .counted)
+mul-end c =
+    omega (
+      arith,
+      (inside (c .before)),
+      c .before .before .before .before .before .before .before .before .before .before .pre .0 .few,
+      c .before .before .before .before .before
+          .before .before .before .before .before .pre .1 .counted,
+    )
 
 shared-slice-read-end : tie.Need-shared-slice-read-end Inv-loop μ-loop
 shared-slice-read-end c = (inside (c .before .before))
@@ -70,7 +85,15 @@ sub-copy-bytes : tie.Need-sub-copy-bytes Inv-loop μ-loop
 sub-copy-bytes c = (rises (c .before .before .before))
 
 copy-bytes-requires : tie.Need-copy-bytes-requires Inv-loop μ-loop
-copy-bytes-requires c κs = omega (arith, (room (c .before .before .before)), (same (c .before .before .before .before .before .before .before)), (rises (c .before .before .before)), slicing-source (c .before .before .before .before .before .before .before .loop .inv) (c .before .before .before .live-run .ensures) (c .before .before .before .before .before .before .loop-test .taken))
+copy-bytes-requires c κs =
+    omega (
+      arith,
+      (room (c .before .before .before)),
+      (same (c .before .before .before .before .before .before .before)),
+      (rises (c .before .before .before)),
+      slicing-source
+          (c .before .before .before .before .before .before .before .loop .inv) (c .before .before .before .live-run .ensures) (c .before .before .before .before .before .before .loop-test .taken),
+    )
 
 sub-done : tie.Need-sub-done Inv-loop μ-loop
 sub-done c = (rises (c .before .before .before .before .before .before))
@@ -80,17 +103,33 @@ add-done c = omega (arith, (room (c .before .before .before .before .before .bef
 
 add-i-2 : tie.Need-add-i-2 Inv-loop μ-loop
 unfolding mostCells
-add-i-2 c = omega (arith, (inside (c .before .before .before .before .before .before)), c .before .before .before .before .before .before .before .before .before .before .before .before .before .before .before .pre .0 .few, c .before .before .before .before .before .before .before .before .before .before .before .before .before .before .before .pre .1 .counted)
+add-i-2 c =
+    omega (
+      arith,
+      (inside (c .before .before .before .before .before .before)),
+      c .before .before .before .before .before .before .before .before .before .before .before .before
+          .before .before .before .pre .0 .few,
+      c .before .before .before .before .before .before .before .before .before .before .before .before .before .before .before .pre .1 .counted,
+    )
 
 add-i-3 : tie.Need-add-i-3 Inv-loop μ-loop
 unfolding mostCells
-add-i-3 c = omega (arith, (inside (c .before .before .before .before .before .before)), c .before .before .before .before .before .before .before .before .before .before .before .before .before .before .before .pre .0 .few, c .before .before .before .before .before .before .before .before .before .before .before .before .before .before .before .pre .1 .counted)
+add-i-3 c =
+    omega (
+      arith,
+      (inside (c .before .before .before .before .before .before)),
+      c .before .before .before .before .before .before .before .before .before .before .before .before
+          .before .before .before .pre .0 .few,
+      c .before .before .before .before .before .before .before .before .before .before .before .before .before .before .before .pre .1 .counted,
+    )
 
 loop-less-2 : tie.Need-loop-less-2 Inv-loop μ-loop
 loop-less-2 c = omega arith
 
 loop-again-2 : tie.Need-loop-again-2 Inv-loop μ-loop
-loop-again-2 c = slicing-more (c .before .before .before .before .before .before .before .before .before .before .loop .inv) (c .before .before .before .before .before .before .live-run .ensures) (c .before .before .before .before .before .before .before .before .before .loop-test .taken) (c .before .before .copy-bytes .ensures)
+loop-again-2 c =
+    slicing-more (c .before .before .before .before .before .before .before .before .before .before .loop .inv) (c .before .before .before .before .before .before .live-run .ensures)
+    (c .before .before .before .before .before .before .before .before .before .loop-test .taken) (c .before .before .copy-bytes .ensures)
 
 same-length : tie.Need-same-length Inv-loop μ-loop
 same-length c = (same (c .before))

@@ -48,10 +48,22 @@ sub-total : tie.Need-sub-total Inv-loop μ-loop
 sub-total c = summing-rises (c .before .before .before .before .loop .inv) (c .before .before .before .loop-test .taken)
 
 mul-total : tie.Need-mul-total Inv-loop μ-loop
-mul-total c = omega (arith, summing-fits (c .before .before .before .before .loop .inv) (c .before .before .before .loop-test .taken) (c .before .before .live-mark .ensures), c .shared-slice-known4 .given (c .before .before .before .before .loop .i + 1))
+mul-total c =
+    omega (
+      arith,
+      summing-fits (c .before .before .before .before .loop .inv) (c .before .before .before .loop-test .taken)
+          (c .before .before .live-mark .ensures),
+      c .shared-slice-known4 .given (c .before .before .before .before .loop .i + 1),
+    )
 
 add-total : tie.Need-add-total Inv-loop μ-loop
-add-total c = omega (arith, summing-fits (c .before .before .before .before .loop .inv) (c .before .before .before .loop-test .taken) (c .before .before .live-mark .ensures), c .shared-slice-known4 .given (c .before .before .before .before .loop .i + 1))
+add-total c =
+    omega (
+      arith,
+      summing-fits (c .before .before .before .before .loop .inv) (c .before .before .before .loop-test .taken)
+          (c .before .before .live-mark .ensures),
+      c .shared-slice-known4 .given (c .before .before .before .before .loop .i + 1),
+    )
 
 add-i : tie.Need-add-i Inv-loop μ-loop
 add-i c = omega (arith, (inside (c .before .before .before)))

@@ -19,7 +19,8 @@ abbrev μ-loop : tie.MeasureT-loop
 same : (c : tie.At-loop Inv-loop μ-loop) → length (c .loop .out) ≡ length (c .before .before .before .args .out .now)
 same c = listing-same (c .loop .inv)
 
-room : (c : tie.In-loop Inv-loop μ-loop) → c .before .before .before .before .args .to + c .before .loop .done + widthOf (c .before .before .before .before .args .width) ≤ length (c .before .loop .out)
+room : (c : tie.In-loop Inv-loop μ-loop) → c .before .before .before .before .args .to + c .before .loop .done + widthOf (c .before .before .before .before .args .width) ≤ length
+    (c .before .loop .out)
 room c = listing-room (c .before .loop .inv) (c .loop-test .taken)
 
 loop-holds : tie.Need-loop-holds Inv-loop μ-loop
@@ -53,7 +54,9 @@ loop-less : tie.Need-loop-less Inv-loop μ-loop
 loop-less c = omega arith
 
 loop-again : tie.Need-loop-again Inv-loop μ-loop
-loop-again c = listing-more (c .before .before .before .before .before .before .before .loop .inv) (c .before .before .before .before .before .before .loop-test .taken) (c .before .before .before .put-offset .ensures) (c .width-bytes .ensures)
+loop-again c =
+    listing-more (c .before .before .before .before .before .before .before .loop .inv) (c .before .before .before .before .before .before .loop-test .taken)
+    (c .before .before .before .put-offset .ensures) (c .width-bytes .ensures)
 
 same-length : tie.Need-same-length Inv-loop μ-loop
 same-length c = same (c .before)

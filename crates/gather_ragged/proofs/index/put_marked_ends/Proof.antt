@@ -23,7 +23,9 @@ abbrev μ-loop : tie.MeasureT-loop
 same : (c : tie.At-loop Inv-loop μ-loop) → length (c .loop .out) ≡ length (c .before .before .before .before .before .args .out .now)
 same c = indexing-same (c .loop .inv)
 
-more : (c : tie.In-loop Inv-loop μ-loop) → c .before .loop .done < length (liveAt (c .before .before .before .before .before .before .args .cells) (c .before .before .before .before .before .before .args .masks .now) (c .before .before .before .before .before .before .args .level))
+more : (c : tie.In-loop Inv-loop μ-loop) → c .before .loop .done < length
+    (liveAt (c .before .before .before .before .before .before .args .cells) (c .before .before .before .before .before .before .args .masks .now)
+    (c .before .before .before .before .before .before .args .level))
 more c = omega (arith, c .loop-test .taken, c .before .before .before .before .before .before .pre .1)
 
 within : (c : tie.In-loop Inv-loop μ-loop) → c .before .loop .i < c .before .before .before .before .before .before .args .cells
@@ -32,10 +34,12 @@ within c = indexing-inside (c .before .loop .inv) (more c)
 inside : (c : tie.In-loop Inv-loop μ-loop) → c .before .loop .i + 1 < length (c .before .before .before .before .before .before .args .offsets .now)
 inside c = summing-inside (c .before .loop .inv .sums) (within c)
 
-wide : (c : tie.In-loop Inv-loop μ-loop) → c .before .loop .done * c .before .before .width-bytes .result ≡ c .before .loop .done * widthOf (c .before .before .before .before .before .before .args .width)
+wide : (c : tie.In-loop Inv-loop μ-loop) → c .before .loop .done * c .before .before .width-bytes .result ≡ c .before .loop .done * widthOf
+    (c .before .before .before .before .before .before .args .width)
 wide c = ap (λ (w : ℕ). c .before .loop .done * w) (c .before .before .width-bytes .ensures)
 
-room : (c : tie.In-loop Inv-loop μ-loop) → c .before .before .before .before .before .before .args .to + c .before .loop .done * widthOf (c .before .before .before .before .before .before .args .width) + widthOf (c .before .before .before .before .before .before .args .width) ≤ length (c .before .loop .out)
+room : (c : tie.In-loop Inv-loop μ-loop) → c .before .before .before .before .before .before .args .to + c .before .loop .done * widthOf
+    (c .before .before .before .before .before .before .args .width) + widthOf (c .before .before .before .before .before .before .args .width) ≤ length (c .before .loop .out)
 room c = indexing-room (c .before .loop .inv) (more c)
 
 width-bytes-requires : tie.Need-width-bytes-requires Inv-loop μ-loop
@@ -62,7 +66,14 @@ add-end c = omega (arith, (inside (c .before .before)))
 
 mul-end : tie.Need-mul-end Inv-loop μ-loop
 unfolding mostCells
-mul-end c = omega (arith, (inside (c .before .before)), c .before .before .before .before .before .before .before .before .pre .0 .few, c .before .before .before .before .before .before .before .before .pre .2 .counted)
+mul-end c =
+    omega (
+      arith,
+      (inside (c .before .before)),
+      c .before .before .before .before .before .before .before .before .pre .0 .few,
+      c .before .before .before .before .before .before
+          .before .before .pre .2 .counted,
+    )
 
 shared-slice-read-end : tie.Need-shared-slice-read-end Inv-loop μ-loop
 shared-slice-read-end c = (inside (c .before .before .before))
@@ -71,10 +82,22 @@ sub-bytes : tie.Need-sub-bytes Inv-loop μ-loop
 sub-bytes c = summing-rises (c .before .before .before .before .loop .inv .sums) (within (c .before .before .before))
 
 mul-bytes : tie.Need-mul-bytes Inv-loop μ-loop
-mul-bytes c = omega (arith, summing-fits (c .before .before .before .before .loop .inv .sums) (within (c .before .before .before)) (c .before .before .live-mark .ensures), c .shared-slice-known4 .given (c .before .before .before .before .loop .i + 1))
+mul-bytes c =
+    omega (
+      arith,
+      summing-fits (c .before .before .before .before .loop .inv .sums) (within (c .before .before .before))
+          (c .before .before .live-mark .ensures),
+      c .shared-slice-known4 .given (c .before .before .before .before .loop .i + 1),
+    )
 
 add-total : tie.Need-add-total Inv-loop μ-loop
-add-total c = omega (arith, summing-fits (c .before .before .before .before .loop .inv .sums) (within (c .before .before .before)) (c .before .before .live-mark .ensures), c .shared-slice-known4 .given (c .before .before .before .before .loop .i + 1))
+add-total c =
+    omega (
+      arith,
+      summing-fits (c .before .before .before .before .loop .inv .sums) (within (c .before .before .before))
+          (c .before .before .live-mark .ensures),
+      c .shared-slice-known4 .given (c .before .before .before .before .loop .i + 1),
+    )
 
 mul-put-offset : tie.Need-mul-put-offset Inv-loop μ-loop
 mul-put-offset c = omega (arith, (room (c .before .before .before .before)), (same (c .before .before .before .before .before)), (wide (c .before .before .before .before)))
@@ -86,7 +109,13 @@ put-offset-requires : tie.Need-put-offset-requires Inv-loop μ-loop
 put-offset-requires c κs = omega (arith, (room (c .before .before .before .before)), (wide (c .before .before .before .before)))
 
 add-done : tie.Need-add-done Inv-loop μ-loop
-add-done c = let a = c .before .before .before .before .before .before .before .before .before .before .before .before .before .args in omega (arith, mark-le (a .cells) (a .masks .now) (c .before .before .before .before .before .before .before .before .loop .i) (a .level) (c .before .before .before .before .before .before .live-mark .ensures))
+add-done c =
+    let a = c .before .before .before .before .before .before .before .before .before .before .before .before .before .args in
+    omega (
+      arith,
+      mark-le (a .cells) (a .masks .now) (c .before .before .before .before .before .before .before .before .loop .i) (a .level)
+          (c .before .before .before .before .before .before .live-mark .ensures),
+    )
 
 add-i : tie.Need-add-i Inv-loop μ-loop
 add-i c = omega (arith, (inside (c .before .before .before .before .before .before .before)))
@@ -95,7 +124,10 @@ loop-less : tie.Need-loop-less Inv-loop μ-loop
 loop-less c = omega (arith, (within (c .before .before .before .before .before .before .before)))
 
 loop-again : tie.Need-loop-again Inv-loop μ-loop
-loop-again c = indexing-more (c .before .before .before .before .before .before .before .before .loop .inv) (more (c .before .before .before .before .before .before .before)) (c .before .before .before .before .before .before .live-mark .ensures) (c .before .before .before .before .before .before .before .before .before .width-bytes .ensures) (c .before .before .put-offset .ensures)
+loop-again c =
+    indexing-more (c .before .before .before .before .before .before .before .before .loop .inv) (more (c .before .before .before .before .before .before .before))
+    (c .before .before .before .before .before .before .live-mark .ensures) (c .before .before .before .before .before .before .before .before .before .width-bytes .ensures)
+    (c .before .before .put-offset .ensures)
 
 same-length : tie.Need-same-length Inv-loop μ-loop
 same-length c = (same (c .before))

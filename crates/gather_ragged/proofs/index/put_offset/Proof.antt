@@ -26,13 +26,17 @@ same-length : tie.Need-same-length
 same-length c = search needs
 
 returns : tie.Need-returns
-returns c = let a = c .before .before .before .before .before .before .before .args in c .before .before .put-u32 .ensures ∙ ap (λ (w : ℕ). overAt (a .at) (le w (a .v)) (a .out .now)) (sym (ap widthOf (c .before .before .before .before .enum-told .given .1)))
+returns c =
+    let a = c .before .before .before .before .before .before .before .args in
+    c .before .before .put-u32 .ensures ∙ ap (λ (w : ℕ). overAt (a .at) (le w (a .v)) (a .out .now)) (sym (ap widthOf (c .before .before .before .before .enum-told .given .1)))
 
 same-length-2 : tie.Need-same-length-2
 same-length-2 c = search needs
 
 returns-2 : tie.Need-returns-2
-returns-2 c = let a = c .before .before .before .before .before .before .before .args in c .before .before .put-u64 .ensures ∙ ap (λ (w : ℕ). overAt (a .at) (le w (a .v)) (a .out .now)) (sym (ap widthOf (c .before .before .before .before .enum-told2 .given .1)))
+returns-2 c =
+    let a = c .before .before .before .before .before .before .before .args in
+    c .before .before .put-u64 .ensures ∙ ap (λ (w : ℕ). overAt (a .at) (le w (a .v)) (a .out .now)) (sym (ap widthOf (c .before .before .before .before .enum-told2 .given .1)))
 
 pub put-offset-spec : {M : Type 1} → statement M
 put-offset-spec =

@@ -6,11 +6,9 @@ use Rattle.array.specs.Answer.{Answer, gives, refuses}
 use borrow.Author.Tests.{not-true, not-false}
 use Rattle.mask.proofs.Said.{counted-passed, counted-failed}
 use Rattle.array.specs.declared.kind.MaskForm.the-variants.{Packed}
-use mathlib.Core.List.{List}
 use Prim.Native.Nat.{ℕ, _+_, _-_, _≤_}
-use native.Mathlib.Omega.{arith}
-use lib.ListN.{length, take, drop}
-use Rattle.array.specs.Kind.{Masks, asBytes, asBits}
+use lib.ListN.{length}
+use Rattle.array.specs.Kind.{Masks}
 use Rattle.array.specs.Meaning.{masksOf}
 use Rattle.codec.specs.Mask.{maskForm, byteMask, packedMask, bytesFor}
 use Rattle.codec.specs.Frame.{countSet}
@@ -49,7 +47,11 @@ returns c =
     (counted-failed packedMask (storedMask packedMask (start .args .s .now) (start .args .at) (start .args .n)) (start .args .n) failed)
 
 count-packed-requires : tie.Need-count-packed-requires
-count-packed-requires c κs = (packed-room (c .before .before .before .before .before) (c .before .before .enum-told2 .given .1), sym (c .before .unused-clear .ensures) ∙ not-false (c .before .unused-clear .result) (c .if1 .left))
+count-packed-requires c κs = (
+  packed-room (c .before .before .before .before .before) (c .before .before .enum-told2 .given .1),
+  sym (c .before .unused-clear .ensures) ∙ not-false
+      (c .before .unused-clear .result) (c .if1 .left),
+)
 
 returns-2 : tie.Need-returns-2
 returns-2 c =

@@ -2,10 +2,8 @@
 -- Assumes nothing.
 use mathlib.Core.Path.{_≡_, sym, ap, subst, _∙_}
 use Rattle.array.specs.declared.kind.MaskForm.{MaskForm}
-use mathlib.Core.List.{List}
-use Prim.Native.Nat.{ℕ, _+_, _-_, _≤_}
-use native.Mathlib.Omega.{arith}
-use lib.ListN.{length, take, drop}
+use Prim.Native.Nat.{_+_, _-_, _≤_}
+use lib.ListN.{length}
 use Rattle.array.specs.Kind.{Masks}
 use Rattle.array.specs.Meaning.{masksOf}
 use Rattle.array.specs.Buffers.{overAt}
@@ -37,7 +35,8 @@ same-length c = search needs
 returns : tie.Need-returns
 returns c =
     let a = c .before .before .before .before .before .before .before .before .args in
-    c .before .before .copy-many .ensures ∙ sym (ap (λ (x : Masks). overAt (a .to) (saidMask (maskForm x) (a .s .now) (a .at) (a .n)) (a .planes .now)) (ap masksOf (c .before .before .before .before .enum-told .given .1)))
+    c .before .before .copy-many .ensures ∙ sym
+    (ap (λ (x : Masks). overAt (a .to) (saidMask (maskForm x) (a .s .now) (a .at) (a .n)) (a .planes .now)) (ap masksOf (c .before .before .before .before .enum-told .given .1)))
 
 same-length-2 : tie.Need-same-length-2
 same-length-2 c = search needs
@@ -45,7 +44,8 @@ same-length-2 c = search needs
 returns-2 : tie.Need-returns-2
 returns-2 c =
     let a = c .before .before .before .before .before .before .before .before .args in
-    c .before .before .unpack .ensures ∙ sym (ap (λ (x : Masks). overAt (a .to) (saidMask (maskForm x) (a .s .now) (a .at) (a .n)) (a .planes .now)) (ap masksOf (c .before .before .before .before .enum-told2 .given .1)))
+    c .before .before .unpack .ensures ∙ sym (ap (λ (x : Masks). overAt (a .to) (saidMask (maskForm x) (a .s .now) (a .at) (a .n)) (a .planes .now))
+    (ap masksOf (c .before .before .before .before .enum-told2 .given .1)))
 
 pub copy-to-plane-spec : {M : Type 1} → statement M
 copy-to-plane-spec =

@@ -2,9 +2,7 @@
 -- Assumes nothing.
 use mathlib.Core.Path.{_≡_, sym, ap, subst, _∙_}
 use Rattle.array.specs.declared.kind.MaskForm.{MaskForm}
-use mathlib.Core.List.{List}
-use Prim.Native.Nat.{ℕ, _+_, _-_, _≤_}
-use native.Mathlib.Omega.{arith}
+use Prim.Native.Nat.{_+_, _-_, _≤_}
 use lib.ListN.{length, take, drop}
 use Rattle.array.specs.Kind.{Masks}
 use Rattle.array.specs.Meaning.{masksOf}
@@ -36,7 +34,8 @@ same-length c = search needs
 returns : tie.Need-returns
 returns c =
     let a = c .before .before .before .before .before .before .before .before .args in
-    c .before .before .copy-many .ensures ∙ sym (ap (λ (x : Masks). overAt (a .to) (maskForm x .put (take (a .n) (drop (a .at) (a .planes .now)))) (a .out .now)) (ap masksOf (c .before .before .before .before .enum-told .given .1)))
+    c .before .before .copy-many .ensures ∙ sym
+    (ap (λ (x : Masks). overAt (a .to) (maskForm x .put (take (a .n) (drop (a .at) (a .planes .now)))) (a .out .now)) (ap masksOf (c .before .before .before .before .enum-told .given .1)))
 
 same-length-2 : tie.Need-same-length-2
 same-length-2 c = search needs
@@ -44,7 +43,8 @@ same-length-2 c = search needs
 returns-2 : tie.Need-returns-2
 returns-2 c =
     let a = c .before .before .before .before .before .before .before .before .args in
-    c .before .before .pack .ensures ∙ sym (ap (λ (x : Masks). overAt (a .to) (maskForm x .put (take (a .n) (drop (a .at) (a .planes .now)))) (a .out .now)) (ap masksOf (c .before .before .before .before .enum-told2 .given .1)))
+    c .before .before .pack .ensures ∙ sym (ap (λ (x : Masks). overAt (a .to) (maskForm x .put (take (a .n) (drop (a .at) (a .planes .now)))) (a .out .now))
+    (ap masksOf (c .before .before .before .before .enum-told2 .given .1)))
 
 pub put-plane-spec : {M : Type 1} → statement M
 put-plane-spec =

@@ -1,16 +1,16 @@
 -- `mask::pack::pack` meets its contract. The invariant: the bytes of the cells so far lie there, whole ones while cells are left, and those of the others are left.
 -- Assumes nothing.
 use mathlib.Core.Path.{_≡_, sym, ap, _∙_}
-use mathlib.Core.List.{List, [], _++_, map}
-use Prim.Native.Nat.{ℕ, _+_, _-_, _*_, _/_, _%_, _≤_, _<_}
+use mathlib.Core.List.{List, [], map}
+use Prim.Native.Nat.{ℕ, _+_, _-_, _/_, _%_, _≤_, _<_}
 use native.Mathlib.Omega.{arith}
-use lib.ListN.{length, take, drop, length-map}
+use lib.ListN.{length, take, drop}
 use Rattle.array.specs.Cells.{bitOf}
 use Rattle.array.specs.Buffers.{overAt}
 use Rattle.array.proofs.Laying.{Laying, laying-begins, laying-same, laying-part, laying-is, laying-ends}
 use Rattle.codec.specs.Mask.{packBits, bytesFor}
 use Rattle.codec.proofs.Masks.{length-packed}
-use Rattle.mask.proofs.Words.{length-part-bits, packedFrom, length-packed-from, packed-next, packed-end}
+use Rattle.mask.proofs.Words.{length-part-bits, length-packed-from, packed-next, packed-end}
 use borrow.Author.Needs.{needs}
 use Rattle.mask.proofs.pack.pack.Statement.{statement}
 use Rattle.mask.proofs.pack.pack.Tie as tie

@@ -2,9 +2,9 @@
 -- Assumes nothing.
 use mathlib.Core.Path.{_≡_, sym, ap, ap₂, subst⁻¹, _∙_}
 use mathlib.Core.List.{List, map}
-use Prim.Native.Nat.{ℕ, _+_, _*_, _≤_, _<_}
+use Prim.Native.Nat.{ℕ, _<_}
 use native.Mathlib.Omega.{arith}
-use lib.ListN.{length, take, drop, replicate}
+use lib.ListN.{length, take, drop}
 use Rattle.array.specs.Lists.{All, pieces}
 use Rattle.array.specs.Bytes.{number}
 use Rattle.array.specs.Buffers.{overAt}

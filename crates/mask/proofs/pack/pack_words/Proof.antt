@@ -2,7 +2,7 @@
 -- Assumes nothing.
 use mathlib.Core.Path.{_≡_, sym, ap, _∙_}
 use mathlib.Core.List.{List, [], _∷_, map}
-use Prim.Native.Nat.{ℕ, _+_, _-_, _*_, _≤_, _<_}
+use Prim.Native.Nat.{ℕ, _+_, _-_, _*_, _≤_}
 use native.Mathlib.Omega.{arith}
 use lib.ListN.{length, take, drop, length-map}
 use Rattle.array.specs.Lists.{pieces}
@@ -11,7 +11,7 @@ use Rattle.array.specs.Bytes.{number, unle}
 use Rattle.array.proofs.Lists.{length-pieces}
 use Rattle.array.proofs.Laying.{Laying, laying-begins, laying-same, laying-store, laying-is, laying-ends}
 use Rattle.mask.specs.Marks.{packedWord}
-use Rattle.mask.proofs.Words.{wordsFrom, words-next, words-end}
+use Rattle.mask.proofs.Words.{words-next, words-end}
 use borrow.Author.Needs.{needs}
 use Rattle.mask.proofs.pack.pack_words.Statement.{statement}
 use Rattle.mask.proofs.pack.pack_words.Tie as tie

@@ -1,83 +1,35 @@
--- `mask::packed::count_packed` meets its contract. The invariant: what is counted and the set bits of what is left make the set bits of the mask.
+-- `mask::packed::count_packed` meets its contract: the set bits of a mask that passes its test are its set cells (Said).
 -- Assumes nothing.
-use mathlib.Core.Path.{_≡_, sym, ap, _∙_}
-use Prim.Native.Nat.{ℕ, _+_, _-_, _*_, _≤_, _<_}
+use mathlib.Core.Path.{_≡_, ap, _∙_}
+use Prim.Native.Nat.{ℕ}
 use native.Mathlib.Omega.{arith}
+use lib.ListN.{take, drop}
+use Rattle.codec.specs.Mask.{bytesFor}
+use Rattle.mask.specs.Bits.{bitsIn}
+use Rattle.mask.proofs.Said.{count-left, bits-few}
 use borrow.Author.Needs.{needs}
-use lib.ListN.{length, drop, take}
-use Rattle.array.proofs.Sums.{sumOf}
-use Rattle.codec.specs.Mask.{packedMask}
-use Rattle.codec.specs.Frame.{setBits}
-use Rattle.mask.specs.Marks.{storedMask}
-use Rattle.mask.proofs.Said.{bits-next, bits-few, bits-end, count-left}
 use Rattle.mask.proofs.packed.count_packed.Statement.{statement}
 use Rattle.mask.proofs.packed.count_packed.Tie as tie
 
-abbrev Inv-loop : tie.InvT-loop
-Inv-loop s at n size set₀ i₀ set i =
-    (i ≤ size) × (set + sumOf setBits (drop i (storedMask packedMask s at n)) ≡ sumOf setBits (storedMask packedMask s at n))
-
-abbrev μ-loop : tie.MeasureT-loop
-μ-loop s at n size set₀ i₀ set i = size - i
-
-bytes-for-requires : tie.Need-bytes-for-requires Inv-loop μ-loop
+bytes-for-requires : tie.Need-bytes-for-requires
 bytes-for-requires c κs = search needs
 
-loop-holds : tie.Need-loop-holds Inv-loop μ-loop
-loop-holds c = omega arith
+-- the bytes that are counted are the mask
+counted : (c : tie.After-bytes-for) → let a = c .before .before .args in
+    bitsIn (take (c .bytes-for .result) (drop (a .at) (a .s .now))) ≡ bitsIn (take (bytesFor (a .n)) (drop (a .at) (a .s .now)))
+counted c = let a = c .before .before .args in ap (λ (k : ℕ). bitsIn (take k (drop (a .at) (a .s .now)))) (c .bytes-for .ensures)
 
-add-set-bits : tie.Need-add-set-bits Inv-loop μ-loop
-add-set-bits c = omega (arith, c .before .before .bytes-for .ensures)
+count-bits-requires : tie.Need-count-bits-requires
+count-bits-requires c κs =
+    let start = c .before .before in
+    let a = start .args in
+    omega (arith, c .bytes-for .ensures, start .pre .0, counted c, bits-few (a .s .now) (a .at) (a .n) (start .pre .0) (start .pre .1), start .fits .n)
 
-shared-slice-read-set-bits : tie.Need-shared-slice-read-set-bits Inv-loop μ-loop
-shared-slice-read-set-bits c = omega (arith, c .before .before .before .bytes-for .ensures)
-
-set-bits-requires : tie.Need-set-bits-requires Inv-loop μ-loop
-set-bits-requires c κs = search needs
-
-cast-set : tie.Need-cast-set Inv-loop μ-loop
-cast-set c = search needs
-
-add-set : tie.Need-add-set Inv-loop μ-loop
-add-set c =
-    let a = c .before .before .before .before .before .before .args in
-    let i : ℕ = c .before .before .before .loop .i in
-    let pre = c .before .before .before .before .before .before .pre in
-    omega (arith, c .set-bits .ensures, bits-next (a .s .now) (a .at) (a .n) (pre .0) i (omega (arith, c .before .before .before .before .bytes-for .ensures)), bits-few (a .s .now) (a .at) (a .n) (pre .0) (pre .1))
-
-add-i : tie.Need-add-i Inv-loop μ-loop
-add-i c = omega arith
-
-loop-less : tie.Need-loop-less Inv-loop μ-loop
-loop-less c = omega arith
-
-loop-again : tie.Need-loop-again Inv-loop μ-loop
-loop-again c =
-    let a = c .before .before .before .before .before .before .args in
-    let i : ℕ = c .before .before .before .loop .i in
-    let pre = c .before .before .before .before .before .before .pre in
-    omega (arith, c .set-bits .ensures, bits-next (a .s .now) (a .at) (a .n) (pre .0) i (omega (arith, c .before .before .before .before .bytes-for .ensures)))
-
-returns : tie.Need-returns Inv-loop μ-loop
+returns : tie.Need-returns
 returns c =
-    let a = c .before .before .before .before .args in
-    let pre = c .before .before .before .before .pre in
-    omega (arith, count-left (a .s .now) (a .at) (a .n) (pre .0) (pre .1), bits-end (a .s .now) (a .at) (a .n) (pre .0) (c .before .loop .i) (omega (arith, c .before .before .bytes-for .ensures)))
+    let start = c .before .before .before in
+    let a = start .args in
+    c .count-bits .ensures ∙ counted (c .before) ∙ count-left (a .s .now) (a .at) (a .n) (start .pre .0) (start .pre .1)
 
 pub count-packed-spec : {M : Type 1} → statement M
-count-packed-spec =
-    tie.close
-    (tie.spec
-    Inv-loop
-    μ-loop
-    bytes-for-requires
-    loop-holds
-    add-set-bits
-    shared-slice-read-set-bits
-    set-bits-requires
-    cast-set
-    add-set
-    add-i
-    loop-less
-    loop-again
-    returns)
+count-packed-spec = tie.close (tie.spec bytes-for-requires count-bits-requires returns)

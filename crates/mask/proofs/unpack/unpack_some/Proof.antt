@@ -1,10 +1,10 @@
 -- `mask::unpack::unpack_some` meets its contract: the first of the eight mask bytes that its byte says.
 -- Assumes nothing.
-use mathlib.Core.Path.{_≡_, sym, ap, _∙_}
+use mathlib.Core.Path.{_≡_, ap, _∙_}
 use mathlib.Core.List.{List}
 use Prim.Native.Nat.{ℕ}
 use native.Mathlib.Omega.{arith}
-use lib.ListN.{take, length, replicate}
+use lib.ListN.{take, replicate}
 use Rattle.array.specs.Bytes.{digits}
 use Rattle.array.specs.Buffers.{overAt}
 use Rattle.array.proofs.Bytes.{length-digits}
