@@ -409,9 +409,9 @@ impl Bench {
             bounds::write_older(&i.shape, black_box(&i.values), black_box(&i.offsets), &mut reused).unwrap();
             black_box(&mut reused);
         });
-        let [ours, rust] = self.turns(Older(i), plain, 1.0);
+        let [ours, other] = self.turns(Older(i), plain, 1.0, f64::MAX);
         let (kind, what, column) = (String::new(), what.to_string(), cells_of(&i.shape).to_string());
-        self.older.push(Row { call: OLDER, below: false, kind, what, column, rust, ours, held: None });
+        self.older.push(Row { call: OLDER, below: false, kind, what, column, other, ours, held: None });
     }
 
     fn interleaved(&mut self, cells: usize, values: Values) {
