@@ -1,15 +1,15 @@
 -- Eight cells a step: a word of mask bytes 00 and 01 is packed into its byte, and a byte is read into such a word. Each rule is
 -- computed over all entries.
 -- Assumes nothing.
-use mathlib.Core.Path.{_≡_, refl, sym, ap, ap₂, _∙_}
+use mathlib.Core.Path.{_≡_, refl, sym, ap, ap₂, _∙_, subst}
 use Prim.Native.Nat.{ℕ, zero, suc, _+_, _-_, _*_, _/_, _%_, _^_, _<_, _≤_, min}
 use native.Mathlib.Nat.{pow-zero, pow-suc, zero-lt-suc, zero-add, suc-mul}
 use native.Mathlib.Omega.{arith}
 use native.Mathlib.Numerals.{add-one}
 use mathlib.Core.Bool.{Bool, true, false}
 use mathlib.Core.List.{List, [], _∷_, _++_, map, append-nil, append-assoc}
-use lib.ListN.{length, getD, take, drop, replicate, length-append, length-map, length-drop, length-replicate, drop-of-length-le, take-append-drop}
-use lib.Seq.{take-take, take-append-le, drop-append-le, take-append-add, length-take-le, drop-cons, drop-drop, drop-at, getD-take, getD-drop}
+use lib.ListN.{length, getD, take, drop, replicate, length-append, length-map, length-drop, length-replicate, drop-of-length-le, take-append-drop, replicate-append-replicate}
+use lib.Seq.{take-take, take-add, take-append-le, drop-append-le, take-append-add, length-take-le, drop-cons, drop-drop, drop-at, getD-take, getD-drop}
 use lib.Dec.{leb}
 use lib.Bits.{bitAnd}
 use borrow.Author.Tests.{leb-true, leb-false}
@@ -18,7 +18,7 @@ use Rattle.array.specs.Bytes.{digits, number, le, unle}
 use Rattle.array.specs.Buffers.{over, overAt}
 use Rattle.array.specs.Cells.{bitOf}
 use Rattle.array.proofs.Lists.{map-id, map-append, All-append, All-take, All-drop, take-within}
-use Rattle.array.proofs.Bytes.{digits-number, length-digits}
+use Rattle.array.proofs.Bytes.{digits-number, length-digits, le-unle}
 use Rattle.array.proofs.Over.{over-again}
 use Rattle.codec.specs.Mask.{packedMask, bytesFor, bitsOf, padded, packBits}
 use Rattle.codec.proofs.Masks.{length-bits, bits-zeros, length-padded, length-packed, pack-append}
@@ -61,6 +61,58 @@ unfolding le
 eight-at b h =
     let all : List (List ℕ) = map (λ k. digits 256 8 (eightOf k)) (from 0 256) in
     sym (entry (λ k. digits 256 8 (eightOf k)) [] all 256 refl b h) ∙ entry (digits 2 8) [] all 256 eight b h
+
+-- ---- bytes that are all alike
+
+-- what holds below i and at i holds below i + 1
+pub one-more : {P : ℕ → Type 0} (i : ℕ) → ((j : ℕ) → j < i → P j) → P i → (j : ℕ) → j < i + 1 → P j
+one-more {P} i f p j h = go (leb i j) refl
+  where
+    go : (c : Bool) → leb i j ≡ c → P j
+    go true e = let q : i ≡ j = omega (arith, leb-true i j e) in subst P q p
+    go false e = f j (leb-false i j e)
+
+slice-all : (s : List ℕ) → ((i : ℕ) → getD s i 0 < 256) → All (λ b. b < 256) s
+slice-all [] f = tt
+slice-all (b ∷ s) f = (f 0, slice-all s (λ i. f (suc i)))
+
+-- the cells of `count` times eight bytes, each eight of which are the number w
+module _ (s : List ℕ) (f : (i : ℕ) → getD s i 0 < 256) {w v : ℕ} (e : bitsOf (le 8 w) ≡ replicate 64 v) where
+  eight-are : (at : ℕ) → at + 8 ≤ length s → unle (take 8 (drop at s)) ≡ w → bitsOf (take 8 (drop at s)) ≡ replicate 64 v
+  eight-are at h g =
+      let bs : List ℕ = take 8 (drop at s) in
+      let l : length bs ≡ 8 = length-take-le 8 (drop at s) (omega (arith, length-drop at s)) in
+      let p : All (λ b. b < 256) bs = All-take (λ b. b < 256) 8 (drop at s) (All-drop (λ b. b < 256) at s (slice-all s f)) in
+      ap bitsOf (sym (le-unle bs p) ∙ ap₂ le l g) ∙ e
+
+  pub words-are : (count at : ℕ) → at + count * 8 ≤ length s → ((i : ℕ) → i < count → unle (take 8 (drop (at + i * 8) s)) ≡ w)
+      → bitsOf (take (count * 8) (drop at s)) ≡ replicate (count * 64) v
+  words-are zero at h g = refl
+  words-are (suc k) at h g =
+      let a : suc k * 8 ≡ 8 + k * 8 = omega arith in
+      let b : 64 + k * 64 ≡ suc k * 64 = omega arith in
+      let z : at + 0 * 8 ≡ at = omega arith in
+      let first : unle (take 8 (drop at s)) ≡ w = ap (λ (j : ℕ). unle (take 8 (drop j s))) (sym z) ∙ g 0 (omega arith) in
+      let next : (i : ℕ) → i < k → unle (take 8 (drop (at + 8 + i * 8) s)) ≡ w =
+      λ i q. let m : at + 8 + i * 8 ≡ at + suc i * 8 = omega arith in ap (λ (j : ℕ). unle (take 8 (drop j s))) m ∙ g (suc i) (omega arith) in
+      ap (λ (j : ℕ). bitsOf (take j (drop at s))) a ∙ ap bitsOf (take-add 8 (k * 8) (drop at s)) ∙ bits-append (take 8 (drop at s)) (take (k * 8) (drop 8 (drop at s)))
+      ∙ ap₂ (λ (x y : List ℕ). x ++ y) (eight-are at (omega arith) first) (ap (λ (r : List ℕ). bitsOf (take (k * 8) r)) (drop-drop 8 at s) ∙ words-are k (at + 8) (omega arith) next)
+      ∙ replicate-append-replicate 64 (k * 64) v ∙ ap (λ (j : ℕ). replicate {A = ℕ} j v) b
+
+-- the cells of the first k bytes, and of the others
+pub bits-parts : (s : List ℕ) (at k n : ℕ) → k ≤ n → bitsOf (take k (drop at s)) ++ bitsOf (take (n - k) (drop (at + k) s)) ≡ bitsOf (take n (drop at s))
+bits-parts s at k n h =
+    let e : k + (n - k) ≡ n = omega arith in
+    sym (bits-append (take k (drop at s)) (take (n - k) (drop (at + k) s)))
+    ∙ ap bitsOf (ap (λ (r : List ℕ). take k (drop at s) ++ take (n - k) r) (sym (drop-drop k at s)) ∙ sym (take-add k (n - k) (drop at s)) ∙ ap (λ (j : ℕ). take j (drop at s)) e)
+
+pub null-words : bitsOf (le 8 0) ≡ replicate 64 0
+unfolding le
+null-words = refl
+
+pub set-words : bitsOf (le 8 18446744073709551615) ≡ replicate 64 1
+unfolding le
+set-words = refl
 
 -- ---- a plane and a packed mask, part by part
 

@@ -2,10 +2,11 @@
 use buffer::copy;
 use buffer::field;
 ghost use mathlib.Core.Path.{_≡_};
-ghost use Prim.Native.Nat.{_+_, _*_, _≤_};
-ghost use lib.ListN.{length, take, drop};
+ghost use mathlib.Core.Bool.{true};
+ghost use Prim.Native.Nat.{ℕ, _+_, _*_, _≤_, _<_};
+ghost use lib.ListN.{length, take, drop, replicate};
 ghost use Rattle.array.specs.Buffers.{overAt};
-ghost use Rattle.array.specs.Bytes.{digits, le};
+ghost use Rattle.array.specs.Bytes.{digits, le, unle};
 ghost use Rattle.codec.specs.Mask.{bytesFor, bitsOf, packedMask};
 ghost use Rattle.mask.specs.Marks.{saidMask};
 
@@ -29,6 +30,62 @@ fn unpack_whole(planes: &mut [u8], to: usize, s: &[u8], at: usize, whole: usize)
     }
 }
 
+// Whether the `count` numbers of eight bytes from `at` on are all `word`.
+fn all_words(s: &[u8], at: usize, count: usize, word: u64) -> bool
+    requires { ⌜ at + count * 8 ≤ length (now s) ⌝ }
+    ensures { λ r. ⌜ (r ≡ true → (i : ℕ) → i < count → unle (take 8 (drop (at + i * 8) (now (s .entry)))) ≡ word) ⌝ }
+{
+    let mut i = 0;
+    while i < count {
+        if field::le8_at(s, at + i * 8) != word {
+            return false;
+        }
+        i += 1;
+    }
+    true
+}
+
+// The cells of whole bytes, of which the first `words` times eight say `mark` alone.
+fn unpack_run(
+    planes: &mut [u8],
+    to: usize,
+    s: &[u8],
+    at: usize,
+    whole: usize,
+    words: usize,
+    mark: u8,
+)
+    requires { ⌜ (to + whole * 8 ≤ length (now planes)) × (at + whole ≤ length (now s)) × (words * 8 ≤ whole)
+        × (bitsOf (take (words * 8) (drop at (now s))) ≡ replicate (words * 64) mark) ⌝ }
+    ensures { λ _. ⌜ now (planes .exit) ≡ overAt to (bitsOf (take whole (drop at (now (s .entry))))) (now (planes .entry)) ⌝ }
+{
+    copy::fill_bytes(planes, to, words * 64, mark);
+    unpack_whole(
+        planes,
+        to + words * 64,
+        s,
+        at + words * 8,
+        whole - words * 8,
+    );
+}
+
+// The cells of whole bytes. Bytes that are all 00 or all FF go as one run.
+fn unpack_bytes(planes: &mut [u8], to: usize, s: &[u8], at: usize, whole: usize)
+    requires { ⌜ (to + whole * 8 ≤ length (now planes)) × (at + whole ≤ length (now s)) ⌝ }
+    ensures { λ _. ⌜ now (planes .exit) ≡ overAt to (bitsOf (take whole (drop at (now (s .entry))))) (now (planes .entry)) ⌝ }
+{
+    let words = whole / 8;
+    if all_words(s, at, words, 0) {
+        unpack_run(planes, to, s, at, whole, words, 0);
+        return;
+    }
+    if all_words(s, at, words, 18446744073709551615) {
+        unpack_run(planes, to, s, at, whole, words, 1);
+        return;
+    }
+    unpack_whole(planes, to, s, at, whole);
+}
+
 // The first `count` cells of a byte.
 fn unpack_some(planes: &mut [u8], to: usize, b: u8, count: usize)
     requires { ⌜ (to + count ≤ length (now planes)) × (count ≤ 8) ⌝ }
@@ -45,7 +102,7 @@ pub fn unpack(planes: &mut [u8], to: usize, s: &[u8], at: usize, n: usize)
     ensures { λ _. ⌜ now (planes .exit) ≡ overAt to (saidMask packedMask (now (s .entry)) at n) (now (planes .entry)) ⌝ }
 {
     let whole = n / 8;
-    unpack_whole(planes, to, s, at, whole);
+    unpack_bytes(planes, to, s, at, whole);
     let rest = n % 8;
     if 0 < rest {
         unpack_some(planes, to + whole * 8, s[at + whole], rest);

@@ -13,8 +13,8 @@ use borrow.Author.Needs.{needs}
 use Rattle.mask.proofs.unpack.unpack.Statement.{statement}
 use Rattle.mask.proofs.unpack.unpack.Tie as tie
 
-unpack-whole-requires : tie.Need-unpack-whole-requires
-unpack-whole-requires c κs = search needs
+unpack-bytes-requires : tie.Need-unpack-bytes-requires
+unpack-bytes-requires c κs = search needs
 
 mul-unpack-some : tie.Need-mul-unpack-some
 mul-unpack-some c = search needs
@@ -44,7 +44,7 @@ returns c =
     let xs : List ℕ = bitsOf (take (a .n / 8) (drop (a .at) (a .s .now))) in
     let ys : List ℕ = take (a .n % 8) (digits 2 8 (getD (a .s .now) (a .at + a .n / 8) 0)) in
     over-parts (a .to) (a .n / 8 * 8) xs ys (a .planes .now) (length-whole (a .s .now) (a .at) (a .n / 8) (omega (arith, start .pre .1))) (omega (arith, start .pre .0))
-    (whole .unpack-whole .ensures) (some .unpack-some .ensures)
+    (whole .unpack-bytes .ensures) (some .unpack-some .ensures)
     ∙ ap (λ (m : List ℕ). overAt (a .to) m (a .planes .now)) (sym (said-some (a .s .now) (a .at) (a .n) (start .pre .1) (branch .if1 .taken)))
 
 same-length-2 : tie.Need-same-length-2
@@ -55,14 +55,14 @@ returns-2 c =
     let whole = c .before .before .before in
     let start = whole .before .before .before .before in
     let a = start .args in
-    whole .unpack-whole .ensures
+    whole .unpack-bytes .ensures
     ∙ ap (λ (m : List ℕ). overAt (a .to) m (a .planes .now)) (sym (said-whole (a .s .now) (a .at) (a .n) (start .pre .1) (omega (arith, c .if1 .left))))
 
 pub unpack-spec : {M : Type 1} → statement M
 unpack-spec =
     tie.close
     (tie.spec
-    unpack-whole-requires
+    unpack-bytes-requires
     mul-unpack-some
     add-unpack-some
     add-unpack-some-2
