@@ -17,9 +17,9 @@ use Rattle.array.proofs.Bytes.{length-le}
 use Rattle.array.proofs.Offsets.{rising-le, length-slicesFrom, joined-slices}
 use Rattle.codec.specs.Interleaved.{putCells, putInterleaved, interleavedLength}
 use Rattle.codec.proofs.Older.{length-cells, length-interleaved}
-use Rattle.interleaved.specs.Cell.{reached}
+use Rattle.interleaved.specs.Cell.{Copied}
 use Rattle.interleaved.specs.Held.{Held, interleavedOf}
-use Rattle.interleaved.proofs.Placing.{Placing, placing-begins, placing-is, placing-left, placing-ends, placing-part, reached-room, reached-front, reached-long}
+use Rattle.interleaved.proofs.Placing.{Placing, placing-begins, placing-is, placing-left, placing-ends, placing-part, placing-cell}
 
 -- ---- the offsets, from the first on
 
@@ -186,24 +186,6 @@ module _ {n : ℕ} {s os d out : List ℕ} {start i at : ℕ} (c : Storing n s o
           (stored (subst (λ (k : ℕ). Placing (interleavedOf s os) d out₁ k rest) (omega arith) p)))
 
       -- the cell is copied, with what lies behind it
-      pub storing-more : {out₂ : List ℕ} → out₂ ≡ overAt (at + 4) (reached (end - start) (length s - start) (drop start s)) out₁
+      pub storing-more : {out₂ : List ℕ} → Copied (end - start) (length s - start) (drop start s) (at + 4) out₁ out₂
           → Storing n s os d out₂ end (i + 1) (at + 4 + (end - start))
-      storing-more {out₂} f =
-          stored
-          (subst (λ (k : ℕ). Placing (interleavedOf s os) d out₂ (at + 4 + k) rest) long
-          (placing-part cell rest cell-left copied fits enough front out₂ f))
-        where
-          copied : List ℕ
-          copied = reached (end - start) (length s - start) (drop start s)
-
-          inside : end - start ≤ length s - start
-          inside = omega (arith, storing-rises)
-
-          fits : at + 4 + length copied ≤ length (interleavedOf s os)
-          fits = omega (arith, reached-room (end - start) (length s - start) (drop start s), storing-room)
-
-          enough : length cell ≤ length copied
-          enough = omega (arith, long, reached-long (end - start) (length s - start) (drop start s) inside (omega (arith, length-drop start s, storing-rises)))
-
-          front : take (length cell) copied ≡ cell
-          front = ap (λ (k : ℕ). take k copied) long ∙ reached-front (end - start) (length s - start) (drop start s) inside
+      storing-more f = stored (placing-cell cell-left (omega (arith, length-drop start s, storing-rises)) storing-room f)

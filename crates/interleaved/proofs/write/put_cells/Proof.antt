@@ -96,7 +96,6 @@ copy-cell-requires : tie.Need-copy-cell-requires Inv-loop μ-loop
 copy-cell-requires c κs =
     let t = c .before .before .before .before in
     let inv = head t .loop .inv in (
-      c .before .if1 .taken,
       omega (arith, storing-rises inv (within t)),
       omega (arith, storing-output inv (within t), stored-same inv (within t) (t .put-u322 .ensures) (omega arith), storing-same inv),
       omega (arith, storing-rises inv (within t)),
