@@ -127,6 +127,10 @@ module _ {n : ℕ} {s os d out : List ℕ} {start i at : ℕ} (c : Storing n s o
     closes : lastFrom end later ≡ length s
     closes = ap (lastFrom start) (sym next) ∙ c .ended
 
+    -- the last offset ends the values
+    pub storing-last : n ≤ i + 1 → end ≡ length s
+    storing-last g = ap (lastFrom end) (sym (drop-of-length-le os {i = i + 1 + 1} (omega (arith, c .counted)))) ∙ closes
+
     pub storing-rises : (start ≤ end) × (end ≤ length s)
     storing-rises = (rises .0, omega (arith, rising-le end later (rises .1), closes))
 
@@ -189,3 +193,27 @@ module _ {n : ℕ} {s os d out : List ℕ} {start i at : ℕ} (c : Storing n s o
       pub storing-more : {out₂ : List ℕ} → Copied (end - start) (length s - start) (drop start s) (at + 4) out₁ out₂
           → Storing n s os d out₂ end (i + 1) (at + 4 + (end - start))
       storing-more f = stored (placing-cell cell-left (omega (arith, length-drop start s, storing-rises)) storing-room f)
+
+-- ---- one cell
+
+-- count, length and bytes of the one cell are stored, or count and length where it is empty
+module _ {s os : List ℕ} (h : Held 1 s os) (d : List ℕ) (room : length (interleavedOf s os) ≤ length d) {v : ℕ} {out out₁ : List ℕ}
+    (e : out ≡ overAt 0 (le 4 1) d) (f : out₁ ≡ overAt 4 (le 4 v) out) (g : v ≡ length s - getD os 0 0) where
+  abbrev begun : Storing 1 s os out out (getD os 0 0) 0 4
+  begun = storing-begins h d room e
+
+  size : v ≡ getD os 1 0 - getD os 0 0
+  size = omega (arith, storing-last begun (omega arith) (omega arith))
+
+  pub one-same : length out₁ ≡ length d
+  one-same = stored-same begun (omega arith) f size ∙ count-same h d room e
+
+  pub one-empty : v ≤ 0 → out₁ ≡ over (interleavedOf s os) d
+  one-empty z = storing-done h d room e (storing-ends (storing-none begun (omega arith) f size (omega (arith, size))) (omega arith))
+
+  pub one-copied : {out₂ : List ℕ} → out₂ ≡ overAt 8 (take v (drop (getD os 0 0) s)) out₁ → out₂ ≡ over (interleavedOf s os) d
+  one-copied {out₂} c =
+      storing-done h d room e
+      (storing-ends
+      (storing-more begun (omega arith) f size (record { count = v; enough = omega (arith, size); fits = omega (arith, storing-last begun (omega arith) (omega arith)); done = c }))
+      (omega arith))
