@@ -1,7 +1,7 @@
 // One cell, copied.
 use buffer::copy;
 ghost use mathlib.Core.Path.{_≡_};
-ghost use Prim.Native.Nat.{_+_, _≤_};
+ghost use Prim.Native.Nat.{_+_, _<_, _≤_};
 ghost use lib.ListN.{length, take, drop};
 ghost use Rattle.array.specs.Buffers.{overAt};
 ghost use Rattle.interleaved.specs.Cell.{Copied};
@@ -45,9 +45,9 @@ fn copy_blocks(values: &mut [u8], to: usize, bytes: &[u8], at: usize, size: usiz
     }
 }
 
-// Copies a cell of `size` bytes, a short one in blocks where there is room. Above that memmove is faster, as it knows the widest stores of
+// Copies a cell that is written, a short one in blocks where there is room. Above that memmove is faster, as it knows the widest stores of
 // the machine.
-pub fn copy_cell(values: &mut [u8], to: usize, bytes: &[u8], at: usize, size: usize, room: usize)
+pub fn put_cell(values: &mut [u8], to: usize, bytes: &[u8], at: usize, size: usize, room: usize)
     requires { ⌜ (size ≤ room) × (to + room ≤ length (now values)) × (at + room ≤ length (now bytes)) ⌝ }
     ensures { λ _. ⌜ Copied size room (drop at (now (bytes .entry))) to (now (values .entry)) (now (values .exit)) ⌝ }
 {
@@ -58,4 +58,18 @@ pub fn copy_cell(values: &mut [u8], to: usize, bytes: &[u8], at: usize, size: us
         }
     }
     copy_exactly(values, to, bytes, at, size);
+}
+
+// Copies a cell that is read, and what lies behind it, up to a whole number of blocks or to the end of the room. The loop that reads has
+// so much to hold that a call in it costs more than memmove gives.
+pub fn copy_cell(values: &mut [u8], to: usize, bytes: &[u8], at: usize, size: usize, room: usize)
+    requires { ⌜ (0 < size) × (size ≤ room) × (to + room ≤ length (now values)) × (at + room ≤ length (now bytes)) ⌝ }
+    ensures { λ _. ⌜ Copied size room (drop at (now (bytes .entry))) to (now (values .entry)) (now (values .exit)) ⌝ }
+{
+    let blocks = (size - 1) / 32 * 32 + 32;
+    if room < blocks {
+        copy::copy_bytes(values, to, bytes, at, room);
+    } else {
+        copy::copy_bytes(values, to, bytes, at, blocks);
+    }
 }

@@ -57,7 +57,7 @@ fn put_cells(out: &mut [u8], values: &[u8], offsets: &[u64], cells: usize)
         field::put_u32(out, at, size as u64);
         at += 4;
         if 0 < size {
-            cell::copy_cell(out, at, values, start, size, values.len() - start);
+            cell::put_cell(out, at, values, start, size, values.len() - start);
             at += size;
             start = end;
         }

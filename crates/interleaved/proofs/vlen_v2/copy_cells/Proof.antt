@@ -56,6 +56,7 @@ copy-cell-requires : tie.Need-copy-cell-requires Inv-loop μ-loop
 copy-cell-requires c κs =
     let read = c .before .before in
     let start = read .before .before .before .before .before .before in (
+      c .before .if1 .taken,
       room read .1,
       omega (arith, room read, start .pre .2, read .before .before .loop .inv .placed .same),
       copy-source (read .before .before .loop .inv) (read .before .loop-test .taken) (read .le4-at .result) (read .le4-at .ensures) (start .args .sum) (start .pre .1),
