@@ -11,7 +11,7 @@ use Rattle.array.specs.Answer.{Answer, gives, refuses, andThen, mapAnswer}
 use Rattle.array.specs.Lists.{joined}
 use Rattle.array.specs.Offsets.{ends, offsetsOf}
 use Rattle.array.specs.Cells.{Value}
-use Rattle.array.specs.Buffers.{over, overAt}
+use Rattle.array.specs.Buffers.{over}
 use Rattle.array.proofs.Offsets.{length-ends}
 use Rattle.array.proofs.Laying.{Laying, laying-begins, laying-same, laying-ends, laying-store, laying-is, laying-room}
 use Rattle.codec.specs.Interleaved.{interleavedCells}

@@ -2,7 +2,7 @@
 -- Assumes nothing.
 use mathlib.Core.Path.{_≡_, refl, sym, ap, _∙_, subst}
 use Prim.Native.Nat.{ℕ, suc, _+_, _-_, _*_, _<_, _≤_}
-use native.Mathlib.Nat.{le-refl, le-trans}
+use native.Mathlib.Nat.{le-refl}
 use native.Mathlib.Numerals.{add-one}
 use native.Mathlib.Omega.{arith}
 use mathlib.Core.List.{List, [], _∷_, _++_}
@@ -15,7 +15,7 @@ use Rattle.array.specs.Cells.{Value}
 use Rattle.array.specs.Buffers.{over, overAt}
 use Rattle.array.proofs.Bytes.{length-le}
 use Rattle.array.proofs.Offsets.{rising-le, length-slicesFrom, joined-slices}
-use Rattle.codec.specs.Interleaved.{putCells, putInterleaved, interleavedLength}
+use Rattle.codec.specs.Interleaved.{putCells, putInterleaved}
 use Rattle.codec.proofs.Older.{length-cells, length-interleaved}
 use Rattle.interleaved.specs.Cell.{Copied}
 use Rattle.interleaved.specs.Held.{Held, interleavedOf}

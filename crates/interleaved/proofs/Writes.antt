@@ -6,14 +6,14 @@ use native.Mathlib.Omega.{arith}
 use mathlib.Core.Bool.{Bool, true, false}
 use mathlib.Core.List.{List}
 use lib.ListN.{length}
-use lib.Dec.{leb, eqb}
+use lib.Dec.{leb}
 use borrow.Author.Tests.{le-leb, lt-leb, eq-eqb, ne-eqb}
 use Rattle.array.specs.Answer.{Answer, gives, refuses, unless, Outcome}
 use Rattle.array.specs.Limits.{mostBytes, mostCells}
 use Rattle.array.specs.Kind.{Kind, kindTest, Form, fixed, ragged}
 use Rattle.array.specs.Offsets.{slices}
 use Rattle.array.specs.Cells.{Value}
-use Rattle.array.specs.Content.{Content, ContentOk, ValuesOk, valuesIn}
+use Rattle.array.specs.Content.{Content, ValuesOk, valuesIn}
 use Rattle.array.specs.Buffers.{over, listOutcome}
 use Rattle.array.specs.Meaning.{formOf, kindOf}
 use Rattle.array.specs.declared.kind.Kind as declared
@@ -21,7 +21,7 @@ use Rattle.array.specs.declared.kind.Values.{Values}
 use Rattle.valid.specs.declared.array_bytes.Checked.{Checked}
 use Rattle.valid.specs.Check.{toldChecked}
 use Rattle.valid.specs.ShapeCells.{shapeAnswer}
-use Rattle.valid.proofs.CheckLaws.{checkOf, unlessKept, KeepsRules, check-refused, check-valid}
+use Rattle.valid.proofs.CheckLaws.{checkOf, KeepsRules, check-refused, check-valid}
 use Rattle.valid.proofs.ShapeLaws.{Counted, counted, not-counted}
 use Rattle.codec.specs.Interleaved.{putInterleaved, IsRagged, raggedTest, interleavedTest}
 use Rattle.codec.specs.Calls.{interleavedForm, encodeInterleavedAnswer, interleavedEncoded}

@@ -1,6 +1,6 @@
 -- `interleaved::cell::copy_blocks` meets its contract, by the laws of Placing.
 -- Assumes nothing.
-use Prim.Native.Nat.{_+_, _-_}
+use Prim.Native.Nat.{_-_}
 use native.Mathlib.Omega.{arith}
 use borrow.Author.Needs.{needs}
 use Rattle.interleaved.proofs.Placing.{Blocks, blocks-begin, blocks-same, blocks-next, blocks-end}
