@@ -70,7 +70,14 @@ pub fn write_older(shape: &[u64], values: &[u8], offsets: &[u64], out: &mut Vec<
 
 /// The same loop behind the checks of our call: the same refusals in the same order, and a refusal leaves the buffer as it was.
 #[inline(never)]
-pub fn write_checked(kind: &[u64; 5], shape: &[u64], masks: &[u8], values: &[u8], offsets: &[u64], out: &mut Vec<u8>) -> Result<(), &'static str> {
+pub fn write_checked(
+    kind: &[u64; 5],
+    shape: &[u64],
+    masks: &[u8],
+    values: &[u8],
+    offsets: &[u64],
+    out: &mut Vec<u8>,
+) -> Result<(), &'static str> {
     let [depth, form, width, place, mask] = *kind;
     if depth > 0 || form != 1 || !matches!(width, 4 | 8) || place > 1 || mask > 1 {
         return Err("not a ragged kind of depth 0");
@@ -79,7 +86,11 @@ pub fn write_checked(kind: &[u64; 5], shape: &[u64], masks: &[u8], values: &[u8]
         return Err("not a shape");
     }
     let cells = cells_of(shape)?;
-    if !masks.is_empty() || offsets.len() as u64 != cells + 1 || !offsets.is_sorted() || offsets[cells as usize] != values.len() as u64 {
+    if !masks.is_empty()
+        || offsets.len() as u64 != cells + 1
+        || !offsets.is_sorted()
+        || offsets[cells as usize] != values.len() as u64
+    {
         return Err("not the content of this kind");
     }
     if values.len() > 16_777_216 {

@@ -420,7 +420,8 @@ impl Bench {
         };
         self.older.push(row(self.turns(Older(i), plain, 1.0, f64::MAX)));
         let checked = timed(|| {
-            bounds::write_checked(black_box(kind), shape, masks, black_box(&i.values), black_box(&i.offsets), &mut again).unwrap();
+            bounds::write_checked(black_box(kind), shape, masks, black_box(&i.values), black_box(&i.offsets), &mut again)
+                .unwrap();
             black_box(&mut again);
         });
         self.checked.push(row(self.turns(Older(i), checked, 1.0, f64::MAX)));
@@ -673,12 +674,15 @@ fn copies_head() {
 }
 fn older_copies(b: &mut Bench) -> Vec<f64> {
     let mut ratios = vec![];
-    for (what, i) in [("one cell", one_long()), ("cells of 4096 bytes", of_lengths(4096, |_| 4096)), ("cells of 1000 bytes", of_lengths(4096, |_| 1000))] {
+    for (what, i) in [
+        ("one cell", one_long()),
+        ("cells of 4096 bytes", of_lengths(4096, |_| 4096)),
+        ("cells of 1000 bytes", of_lengths(4096, |_| 1000)),
+    ] {
         ratios.push(b.to_memcpy(&format!("{OLDER}, {what}"), Older(&i), &i.values));
     }
     ratios
 }
-
 
 // ---------------------------------------------------------------- how our cost grows
 
