@@ -26,7 +26,7 @@ pub record Lines : Type 0 where
   pub first-draw : draw 0 ≡ record { made = 15470; state = 1013904223 }
   -- depth 0, size 1
   pub one-byte : loadOf (byteKind 0 (fixed 1 little)) (1 ∷ []) 0 ≡ array [] (0x6E ∷ []) []
-  -- all of cell 0 comes before cell 1, and a null draws no byte: the masks first would give 01 01, and a byte drawn for it shows in a third cell
+  -- all of a cell is drawn before the next one, and a null draws no byte: both show in a third cell
   pub two-cells : loadOf masked (2 ∷ []) 0 ≡ array (1 ∷ 0 ∷ []) (0x50 ∷ 0 ∷ []) []
   pub three-cells : loadOf masked (3 ∷ []) 0 ≡ array (1 ∷ 0 ∷ 1 ∷ []) (0x50 ∷ 0 ∷ 0x52 ∷ []) []
   -- depth 2, ragged: nulls at both levels
