@@ -14,7 +14,7 @@ use Rattle.array.specs.Buffers.{overAt}
 use Rattle.load.specs.Generator.{Drew, draw, drawBytes}
 use Rattle.load.specs.Load.{levelBy, drawValue, drawCell}
 use Rattle.load.proofs.Drawn.{drawn-length}
-use Rattle.generate.specs.Cells.{levelsBy, setLevels, markBy, levelMarks, marks, lengthy, lengthDrawn}
+use Rattle.generate.specs.Cells.{levelsBy, setLevels, levelMarks, marks, lengthy, lengthDrawn}
 
 -- one more of n
 pub next-of : {n i : ℕ} → i < n → n - i ≡ suc (n - (i + 1))

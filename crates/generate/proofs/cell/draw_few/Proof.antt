@@ -1,10 +1,8 @@
 -- `cell::draw_few` meets its contract, by the laws of Drawing.
 -- Assumes nothing.
-use mathlib.Core.Path.{_≡_, sym, ap, _∙_}
-use Prim.Native.Nat.{ℕ, _-_}
+use Prim.Native.Nat.{_-_}
 use native.Mathlib.Omega.{arith}
 use borrow.Author.Needs.{needs}
-use Rattle.load.specs.Generator.{Drew}
 use Rattle.generate.proofs.Drawing.{Storing, store-begins, store-more, store-same, store-room, store-ends, skip-ends}
 use Rattle.generate.proofs.cell.draw_few.Statement.{statement}
 use Rattle.generate.proofs.cell.draw_few.Tie as tie

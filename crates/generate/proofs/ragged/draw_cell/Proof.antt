@@ -1,8 +1,7 @@
 -- `ragged::draw_cell` meets its contract: levels, mask bytes and value are those of the cell (Drawing).
 -- Assumes nothing.
 use mathlib.Core.Path.{_≡_, sym, ap, _∙_}
-use mathlib.Core.List.{List, []}
-use Prim.Native.Nat.{ℕ}
+use mathlib.Core.List.{[]}
 use native.Mathlib.Omega.{arith}
 use borrow.Author.Needs.{needs}
 use Rattle.array.specs.Cells.{Value}
