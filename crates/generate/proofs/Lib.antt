@@ -1,0 +1,5 @@
+pub mod Ahead
+pub mod Drawing
+pub mod Columns
+pub mod Making
+pub mod Stages
