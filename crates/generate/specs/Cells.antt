@@ -1,4 +1,4 @@
--- docs/SPEC.md, part 11 (S11.2): a cell drawn in the order of the code: how many of its levels are set, then its value. And where its mask
+-- docs/SPEC.md, part 12 (S12.2): a cell drawn in the order of the code: how many of its levels are set, then its value. And where its mask
 -- bytes go.
 -- Assumes nothing.
 use Prim.Native.Nat.{ℕ, zero, suc, _+_, _-_, _%_}
