@@ -14,7 +14,7 @@ use Rattle.array.proofs.Lists.{All-map, All-image}
 use Rattle.array.proofs.Sizes.{OfSize, null-sized}
 use Rattle.array.proofs.RestLaws.{leaf-blank}
 use Rattle.load.specs.Generator.{Drew, draw, drawBytes}
-use Rattle.load.specs.Load.{drawValue, levelBy, drawCell, drawCells}
+use Rattle.load.specs.Load.{lengthBy, drawValue, levelBy, drawCell, drawCells}
 
 abbrev Bytes : Value → Type 0
 Bytes v = All (λ b. b < 256) v
@@ -22,12 +22,12 @@ Bytes v = All (λ b. b < 256) v
 pub drawn-length : (n s : ℕ) → length (drawBytes n s .made) ≡ n
 unfolding drawBytes
 drawn-length zero s = refl
-drawn-length (suc n) s = ap suc (drawn-length n (draw s .state))
+drawn-length (suc n) s = ap suc (drawn-length n _)
 
 drawn-bytes : (n s : ℕ) → Bytes (drawBytes n s .made)
 unfolding drawBytes
 drawn-bytes zero s = tt
-drawn-bytes (suc n) s = (mod-lt (draw s .made) (zero-lt-suc 255), drawn-bytes n (draw s .state))
+drawn-bytes (suc n) s = (mod-lt (draw s .made) (zero-lt-suc 255), drawn-bytes n _)
 
 -- ---- values
 
@@ -47,10 +47,8 @@ pub record DrawnValue (f : Form) (v : Value) : Type 0 where
 
 drawn-value : (f : Form) (s : ℕ) → DrawnValue f (drawValue f s .made)
 unfolding drawValue
-drawn-value (fixed k o) s = record { sized = drawn-length k s; short = omega (arith, drawn-length k s); bytes = drawn-bytes k s }
-drawn-value (ragged w p) s =
-    let n : ℕ = draw s .made % 9 in
-    record { sized = tt; short = omega (arith, drawn-length n (draw s .state), mod-lt (draw s .made) (zero-lt-suc 8)); bytes = drawn-bytes n (draw s .state) }
+drawn-value (fixed k o) s = record { sized = drawn-length k s; short = simp drawn-length (omega arith); bytes = drawn-bytes k s }
+drawn-value (ragged w p) s = record { sized = tt; short = simp drawn-length (omega arith); bytes = drawn-bytes (lengthBy (draw s .made)) (draw s .state) }
 
 zero-bytes : (k : ℕ) → Bytes (replicate k 0)
 zero-bytes zero = tt
@@ -81,12 +79,12 @@ drawn-cell f (suc d) s = level (draw s .made % 4) _ (drawn-cell f d (draw s .sta
 pub drawn-cells : (f : Form) (d n s : ℕ) → All (DrawnCell f d) (drawCells f d n s .made)
 unfolding drawCells
 drawn-cells f d zero s = tt
-drawn-cells f d (suc n) s = (drawn-cell f d s, drawn-cells f d n (drawCell f d s .state))
+drawn-cells f d (suc n) s = (drawn-cell f d s, drawn-cells f d n _)
 
 pub drawn-count : (f : Form) (d n s : ℕ) → length (drawCells f d n s .made) ≡ n
 unfolding drawCells
 drawn-count f d zero s = refl
-drawn-count f d (suc n) s = ap suc (drawn-count f d n (drawCell f d s .state))
+drawn-count f d (suc n) s = ap suc (drawn-count f d n _)
 
 pub short-total : (m : ℕ) (vs : List Value) → All (λ v. length v ≤ m) vs → length (joined vs) ≤ length vs * m
 short-total m [] p = omega arith
@@ -112,6 +110,4 @@ module _ (f g : Form) (e : (s : ℕ) → drawValue f s ≡ drawValue g s) (z : n
   pub same-cells : (d n s : ℕ) → drawCells f d n s ≡ drawCells g d n s
   unfolding drawCells
   same-cells d zero s = refl
-  same-cells d (suc n) s =
-      ap (λ (c : Drew (Cell d)). record { made = c .made ∷ drawCells f d n (c .state) .made; state = drawCells f d n (c .state) .state }) (same-cell d s)
-      ∙ ap (λ (r : Drew (List (Cell d))). record { made = drawCell g d s .made ∷ r .made; state = r .state }) (same-cells d n (drawCell g d s .state))
+  same-cells d (suc n) s = simp (same-cell, same-cells d n)

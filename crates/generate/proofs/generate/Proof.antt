@@ -98,8 +98,8 @@ returns-3 c =
     let form = fixed-form made in
     let here = form .before .before .before in
     let size = form .form .given .0 .0 in
-    made .make-fixed .ensures (start here .args .offsets .now)
-    ∙ sym (drawn here (sized size) (subst (λ (f : Form). SameSize f (sized size)) (sym (ap formOf (form .form .given .1))) refl))
+    rw (drawn here (sized size) (subst (λ (f : Form). SameSize f (sized size)) (sym (ap formOf (form .form .given .1))) refl))
+    (made .make-fixed .ensures (start here .args .offsets .now))
 
 returns-4 : tie.Need-returns-4
 returns-4 c =
@@ -107,7 +107,7 @@ returns-4 c =
     let made = copied .before .before .before .before in
     let form = ragged-form (made .before) in
     let here = form .before .before .before in
-    made .make-ragged .ensures ∙ sym (drawn here lengthy (subst (λ (f : Form). SameSize f lengthy) (sym (ap formOf (form .enum-told2 .given .1))) tt))
+    rw (drawn here lengthy (subst (λ (f : Form). SameSize f lengthy) (sym (ap formOf (form .enum-told2 .given .1))) tt)) (made .make-ragged .ensures)
 
 pub generate-spec : {M : Type 1} → statement M
 generate-spec =

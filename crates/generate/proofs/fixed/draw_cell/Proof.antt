@@ -1,8 +1,6 @@
 -- `fixed::draw_cell` meets its contract: levels, mask bytes and value are those of the cell (Drawing).
 -- Assumes nothing.
 use mathlib.Core.Path.{_≡_, sym, ap, _∙_}
-use mathlib.Core.List.{List}
-use Prim.Native.Nat.{ℕ}
 use borrow.Author.Needs.{needs}
 use Rattle.array.specs.Cells.{Value}
 use Rattle.array.specs.Buffers.{overAt}
@@ -32,7 +30,7 @@ cell c = let a = start c .args in cell-of (sized (a .size)) (a .depth) (a .first
 
 planes : (c : tie.After-put-marks) → let a = start c .args in
     c .put-marks .last .0 ≡ column (a .n) (a .at) (marks (a .depth) (drawCell (sized (a .size)) (a .depth) (a .first .state) .made)) (a .masks .now)
-planes c = let a = start c .args in c .put-marks .ensures ∙ sym (ap (λ (ms : List ℕ). column (a .n) (a .at) ms (a .masks .now)) (cell c .marked))
+planes c = rw (cell c .marked) (c .put-marks .ensures)
 
 -- ---- answers
 

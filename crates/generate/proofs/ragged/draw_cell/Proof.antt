@@ -27,10 +27,7 @@ marked c = c .before .before
 
 planes : (c : tie.After-put-marks) → let a = start c .args in
     c .put-marks .last .0 ≡ column (a .n) (a .at) (marks (a .depth) (drawCell lengthy (a .depth) (a .first .state) .made)) (a .masks .now)
-planes c =
-    let a = start c .args in
-    c .put-marks .ensures
-    ∙ sym (ap (λ (ms : List ℕ). column (a .n) (a .at) ms (a .masks .now)) (cell-of lengthy (a .depth) (a .first .state) (levels c .draw-levels .ensures) .marked))
+planes c = let a = start c .args in rw (cell-of lengthy (a .depth) (a .first .state) (levels c .draw-levels .ensures) .marked) (c .put-marks .ensures)
 
 -- ---- answers
 
