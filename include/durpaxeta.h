@@ -2,7 +2,7 @@
  * Durpaxeta: tables of optional and variable-length cells in one checked byte layout.
  *
  * Link with libdurpaxeta.a (x86-64). Nothing else is needed but memmove and memset, as of any C library.
- * The archive has the nine calls. All else is static inline here: kinds, answers in words, room for outputs, cells.
+ * The archive has the ten calls. All else is static inline here: kinds, answers in words, room for outputs, cells.
  *
  * A TABLE is a kind, a shape and its content.
  *
@@ -55,9 +55,9 @@ extern "C" {
 
 /* The version, as three numbers, as text, and as one number that grows with it: #if DPX_VERSION_NUMBER >= 1002003 */
 #define DPX_VERSION_MAJOR 0
-#define DPX_VERSION_MINOR 2
+#define DPX_VERSION_MINOR 3
 #define DPX_VERSION_PATCH 0
-#define DPX_VERSION "0.2.0"
+#define DPX_VERSION "0.3.0"
 #define DPX_VERSION_NUMBER (DPX_VERSION_MAJOR * 1000000 + DPX_VERSION_MINOR * 1000 + DPX_VERSION_PATCH)
 
 /* Limits. One more of any of these is refused. */
@@ -206,6 +206,7 @@ typedef struct dpx_room {
  *   dpx_decode              cells of the shape,  bytes: bytes_len
  *   dpx_extract             cells of the subset, bytes: values_len
  *   dpx_merge               cells of the shape,  bytes: values_len
+ *   dpx_generate            cells of the shape,  bytes: 8 * cells
  *   dpx_partial_decode      cells of the subset, bytes: bytes_len, kind: ragged, depth 0
  *   dpx_decode_interleaved  its cells,           bytes: bytes_len, kind: ragged, depth 0
  * All of it is used but for ragged values, which may be shorter.
@@ -411,6 +412,34 @@ uint32_t dpx_encode_interleaved(dpx_kind kind,
                                 const uint64_t *offsets, size_t offsets_len,
                                 uint8_t *out, size_t out_len,
                                 uint64_t lengths[1]);
+
+/*
+ * A load: the array that a kind, a shape and a start number determine, the same on every machine.
+ *
+ * The state is the start number at first. Each draw makes the next state, 1,664,525 * state + 1,013,904,223 in 32 bits, and
+ * is that state's upper 16 bits. Cell by cell in row order: for each level, the outermost first, one draw says null if it is
+ * 0 mod 4, else set (01). The first null ends the cell: 00 in the masks below, zero bytes or no bytes as its value, and
+ * nothing is drawn for them. Of a cell that is set at all levels a ragged value draws its length mod 9; then each value byte is
+ * a draw mod 256. Width, place, byte order and mask form change nothing.
+ * Enough room: dpx_array_room with 8 * cells. That is depth * cells masks; fixed: cells * size values; ragged: 8 * cells
+ * values and cells + 1 offsets. Ragged values may be fewer; an output that holds just them will do, and takes a second run.
+ *
+ *   lengths[0]   mask bytes written: depth * cells
+ *   lengths[1]   value bytes written
+ *   lengths[2]   offsets written: cells + 1, or 0 for a fixed kind
+ *
+ * Refusals, in this order:
+ *   1 DPX_KIND     whoever describes the table
+ *   2 DPX_SHAPE    whoever describes the table
+ *   6 DPX_OUTPUT   whoever lends the outputs
+ */
+uint32_t dpx_generate(dpx_kind kind,
+                      const uint64_t *shape, size_t shape_len,
+                      uint32_t start,
+                      uint8_t *out_masks, size_t out_masks_len,
+                      uint8_t *out_values, size_t out_values_len,
+                      uint64_t *out_offsets, size_t out_offsets_len,
+                      uint64_t lengths[3]);
 
 /*
  * The cells of a subset out of an array.

@@ -35,12 +35,13 @@ dpx_decode_interleaved
 dpx_encode
 dpx_encode_interleaved
 dpx_extract
+dpx_generate
 dpx_merge
 dpx_partial_decode
 dpx_reverse_endianness
 dpx_subset_cells
 END
-echo 'the nine calls, and nothing else'
+echo 'the ten calls, and nothing else'
 
 say 'C interface'
 tests/c/run.sh

@@ -1,4 +1,4 @@
-//! The archive under test, loaded as a shared object: the nine functions of durpaxeta.h.
+//! The archive under test, loaded as a shared object: the ten functions of durpaxeta.h.
 
 use std::ffi::{CStr, CString, c_char, c_int, c_void};
 
@@ -21,6 +21,7 @@ type Out8 = *mut u8;
 type Out64 = *mut u64;
 type EncodeCall = unsafe extern "C" fn(DpxKind, In64, usize, In8, usize, In8, usize, In64, usize, Out8, usize, Out64) -> u32;
 type DecodeCall = unsafe extern "C" fn(DpxKind, In64, usize, In8, usize, Out8, usize, Out8, usize, Out64, usize, Out64) -> u32;
+type GenerateCall = unsafe extern "C" fn(DpxKind, In64, usize, u32, Out8, usize, Out8, usize, Out64, usize, Out64) -> u32;
 type InterleavedCall = unsafe extern "C" fn(u64, In8, usize, Out8, usize, Out64, usize, Out64) -> u32;
 #[rustfmt::skip]
 type ExtractCall = unsafe extern "C" fn(DpxKind, In64, usize, In64, usize, In8, usize, In8, usize, In64, usize, Out8, usize, Out8, usize, Out64, usize, Out64) -> u32;
@@ -29,7 +30,7 @@ type PartialCall = unsafe extern "C" fn(u64, u64, In64, usize, In64, usize, In8,
 type ReverseCall = unsafe extern "C" fn(u64, Out8, usize, Out64) -> u32;
 type CellsCall = unsafe extern "C" fn(In64, usize, In64, usize, Out64, usize, Out64) -> u32;
 
-/// The nine functions.
+/// The ten functions.
 #[derive(Clone, Copy)]
 pub struct Archive {
     pub encode: EncodeCall,
@@ -41,6 +42,7 @@ pub struct Archive {
     pub reverse_endianness: ReverseCall,
     pub subset_cells: CellsCall,
     pub encode_interleaved: EncodeCall,
+    pub generate: GenerateCall,
 }
 impl Archive {
     pub fn load(path: &str) -> Result<Archive, String> {
@@ -66,6 +68,7 @@ impl Archive {
                 reverse_endianness: transmute::<*mut c_void, ReverseCall>(find(c"dpx_reverse_endianness")?),
                 subset_cells: transmute::<*mut c_void, CellsCall>(find(c"dpx_subset_cells")?),
                 encode_interleaved: transmute::<*mut c_void, EncodeCall>(find(c"dpx_encode_interleaved")?),
+                generate: transmute::<*mut c_void, GenerateCall>(find(c"dpx_generate")?),
             })
         }
     }

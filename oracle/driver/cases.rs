@@ -458,6 +458,7 @@ fn faulty(rng: &mut Rng, request: &Request) -> Request {
             }
             *subset = damaged_numbers(rng, subset);
         }
+        Generate { kind, shape, .. } => faulty_head(rng, kind, shape),
     }
     r
 }
@@ -533,6 +534,9 @@ fn partial_decode(kind: [u64; 5], shape: &[u64], subset: &[u64], bytes: &[u8]) -
 fn subset_cells(shape: &[u64], subset: &[u64]) -> Request {
     SubsetCells { shape: shape.to_vec(), subset: subset.to_vec() }
 }
+fn generate(kind: [u64; 5], shape: &[u64], start: u32) -> Request {
+    Generate { kind, shape: shape.to_vec(), start }
+}
 
 // ---------------------------------------------------------------- exhaustive
 
@@ -550,6 +554,15 @@ fn strings(alphabet: &[u8], length: usize) -> Vec<Vec<u8>> {
         .flat_map(|n| lists(alphabet.len() as u64, n))
         .map(|list| list.iter().map(|&i| alphabet[i as usize]).collect())
         .collect()
+}
+
+/// Loads of few cells and of each depth and mask form, with any start number.
+fn loads(sink: &mut dyn Sink, rng: &mut Rng) {
+    for turn in 0..102_000 {
+        let kind = any_kind(rng, turn % 5, turn as u64 / 5 % 2);
+        let cells = 1 + rng.below(12);
+        sink.ask(generate(kind, &shape_of(rng, cells), rng.next() as u32));
+    }
 }
 
 /// Null or set in all ways, for up to four cells and eight mask bytes; all short lengths. Written and read back.
@@ -817,6 +830,7 @@ fn limits(sink: &mut dyn Sink, rng: &mut Rng) {
                     sink.ask(extract(k, &shape, &[0, 2], &c));
                     sink.ask(merge(k, &shape, &[(vec![0, 2], c.clone())]));
                     sink.ask(partial_decode(k, &shape, &[0, 2], &[0; 8]));
+                    sink.ask(generate(k, &shape, n as u32));
                 }
                 sink.ask(ReverseEndianness { size: n, bytes: vec![1; 65] });
             }
@@ -852,6 +866,7 @@ fn limits(sink: &mut dyn Sink, rng: &mut Rng) {
         sink.ask(extract(fixed(0, 1, 0), shape, &at_0, &none));
         sink.ask(merge(fixed(0, 1, 0), shape, &[]));
         sink.ask(partial_decode(ragged(0, 4, 0), shape, &at_0, &ragged_string(4, 0, &[0], &[])));
+        sink.ask(generate(ragged(1, 4, 0), shape, a_start(rng)));
     }
     // starts and lengths, with sums that leave 64 bits
     for side in [1, 2, 65_536] {
@@ -957,6 +972,7 @@ fn blocks(sink: &mut dyn Sink, rng: &mut Rng) {
             let shape = shape_of(rng, cells);
             let c = content(rng, kind, cells);
             sink.ask(encode(kind, &shape, &c));
+            ask_load(sink, kind, &shape, a_start(rng));
             let cells = rng.pick(&counts);
             let bytes = stored(rng, kind, cells);
             let shape = shape_of(rng, cells);
@@ -1026,6 +1042,8 @@ fn many_cells(sink: &mut dyn Sink, rng: &mut Rng) {
             .collect();
         sink.ask(merge(kind, &shape, &list));
         sink.ask(encode(kind, &[65_537], &content(rng, kind, CELLS + 1)));
+        ask_load(sink, kind, &shape, a_start(rng));
+        sink.ask(generate(kind, &[65_537], a_start(rng)));
         if kind[1] == 1 && kind[0] == 0 {
             sink.ask(partial_decode(kind, &shape, &subset, &s));
         }
@@ -1209,6 +1227,32 @@ pub fn random_older(sink: &mut dyn Sink, rng: &mut Rng) {
     sink.ask(encode_interleaved(kind, &s, &c));
 }
 
+/// Start numbers about the ends of 16, 31 and 32 bits, and any.
+fn a_start(rng: &mut Rng) -> u32 {
+    if rng.below(2) == 0 { a_number(rng) as u32 } else { rng.next() as u32 }
+}
+/// A load, and what is written of it: by the Rust, too.
+fn ask_load(sink: &mut dyn Sink, kind: [u64; 5], shape: &[u64], start: u32) {
+    let request = generate(kind, shape, start);
+    if let Ok(r) = request.judged() {
+        sink.ask(encode(kind, shape, &Content { masks: r.masks, values: r.values, offsets: r.offsets }));
+    }
+    sink.ask(request);
+}
+/// Behind the others, so that `random` draws as it did.
+fn random_load(sink: &mut dyn Sink, rng: &mut Rng) {
+    let (depth, masks) = (rng.below(5), rng.below(2) as u64);
+    let kind = any_kind(rng, depth, masks);
+    let shape = any_shape(rng);
+    let start = a_start(rng);
+    ask_load(sink, kind, &shape, start);
+    ask_with_faults(sink, rng, generate(kind, &shape, start.wrapping_add(1)));
+    let (k, s) = (damaged_kind(rng, kind), damaged_numbers(rng, &shape));
+    sink.ask(generate(k, &shape, start));
+    sink.ask(generate(kind, &s, start));
+    sink.ask(generate(k, &s, start));
+}
+
 fn random_merge(sink: &mut dyn Sink, rng: &mut Rng, masks: u64) {
     let depth = rng.below(5);
     let kind = any_kind(rng, depth, masks);
@@ -1294,6 +1338,7 @@ pub fn all(sink: &mut dyn Sink, seed: u64, requests: u64) {
         random(sink, rng);
         random_packed(sink, rng);
         random_older(sink, rng);
+        random_load(sink, rng);
     }
     limits(sink, rng);
     blocks(sink, rng);
@@ -1304,6 +1349,7 @@ pub fn all(sink: &mut dyn Sink, seed: u64, requests: u64) {
     exhaustive_masks(sink, rng);
     exhaustive_strings(sink, rng);
     exhaustive_packed(sink, rng);
+    loads(sink, rng);
     let mut turn = 0;
     while sink.asked() < requests {
         random(sink, rng);
@@ -1311,6 +1357,7 @@ pub fn all(sink: &mut dyn Sink, seed: u64, requests: u64) {
         if turn % 3 == 0 {
             random_packed(sink, rng);
             random_older(sink, rng);
+            random_load(sink, rng);
         }
     }
 }

@@ -220,6 +220,9 @@ impl Guarded {
                 SubsetCells { shape, subset } => {
                     (a.subset_cells)(n1.put(shape), shape.len(), n2.put(subset), subset.len(), o, lent[2], n)
                 }
+                Generate { kind, shape, start } => {
+                    (a.generate)(c_kind(kind), n1.put(shape), shape.len(), *start, m, lent[0], v, lent[1], o, lent[2], n)
+                }
             }
         }
     }
@@ -257,6 +260,7 @@ impl Guarded {
             PartialDecode { shape, subset, bytes, .. } => n1.holds(shape) && n2.holds(subset) && b1.holds(bytes),
             ReverseEndianness { .. } => true,
             SubsetCells { shape, subset } => n1.holds(shape) && n2.holds(subset),
+            Generate { shape, .. } => n1.holds(shape),
         };
         if kept { None } else { Some("an input was changed") }
     }

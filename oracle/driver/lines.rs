@@ -70,6 +70,11 @@ pub fn request_line(request: &Request) -> String {
             put_numbers(l, shape);
             put_numbers(l, subset);
         }
+        Generate { kind, shape, start } => {
+            kind.iter().for_each(|&n| put_number(l, n));
+            put_numbers(l, shape);
+            put_number(l, u64::from(*start));
+        }
     }
     line
 }
@@ -157,6 +162,11 @@ pub fn parse(text: &str) -> Result<(Request, Option<Outcome>), String> {
             masks: w.bytes()?,
             values: w.bytes()?,
             offsets: w.numbers()?,
+        },
+        10 => Generate {
+            kind: w.kind()?,
+            shape: w.numbers()?,
+            start: w.number()?.try_into().map_err(|_| "a start number has 32 bits")?,
         },
         n => return Err(format!("no such call: {n}")),
     };

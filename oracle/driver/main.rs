@@ -23,6 +23,7 @@ use guarded::Guarded;
 use request::{CALLS, Outcome, REFUSALS, Request};
 use rng::Rng;
 use rust::{BUILDS, Body, body};
+use std::collections::HashSet;
 use std::sync::atomic::{AtomicU64, Ordering};
 use std::time::Instant;
 
@@ -69,6 +70,8 @@ struct Counts {
     calls: [[u64; ANSWERS]; CALLS.len()],
     /// Requests of kinds with packed masks.
     packed: u64,
+    /// Kinds, shapes and start numbers of loads that were asked for.
+    loads: HashSet<String>,
     /// Requests that each build of the Rust answered: by its own function, as ragged cells.
     compared: [u64; 2],
     /// By build and refusal: errors and panics of the Rust.
@@ -151,12 +154,30 @@ impl Compare {
                 if needs != [0; 3] {
                     self.call(request, [0; 3], judged);
                 }
+                if let Request::Generate { shape, .. } = request {
+                    self.room_for_any_load(request, shape.iter().product::<u64>() as usize, more, judged);
+                }
             }
             Err(_) => {
                 self.call(request, some, judged);
             }
         }
         exact
+    }
+
+    /// With 8 value bytes a cell a ragged load fits, whatever is drawn; with one byte less that is not known beforehand.
+    fn room_for_any_load(&mut self, request: &Request, cells: usize, more: [usize; 3], judged: &Outcome) {
+        let needs = needs(request, judged);
+        let room = [more[0], more[1].max(8 * cells), more[2]];
+        self.call(request, room, judged);
+        self.call(request, [room[0], needs[1].max(8 * cells - 1), room[2]], judged);
+        for i in [0, 2] {
+            if needs[i] > 0 {
+                let mut short = room;
+                short[i] = needs[i] - 1;
+                self.call(request, short, judged);
+            }
+        }
     }
 
     fn with_the_rust(&mut self, request: &Request, judged: &Outcome, observed: &Outcome) {
@@ -186,6 +207,9 @@ impl Compare {
     fn hold(&mut self, request: &Request, judged: &Outcome) {
         NOW.fetch_add(1, Ordering::Relaxed);
         self.counts.packed += u64::from(request.packed());
+        if let (Request::Generate { .. }, Ok(_)) = (request, judged) {
+            self.counts.loads.insert(lines::request_line(request));
+        }
         self.counts.requests[request.call()][judged.as_ref().err().copied().unwrap_or(0) as usize] += 1;
         let observed = self.lent_in_all_ways(request, judged);
         if in_domain(judged) {
@@ -229,6 +253,7 @@ impl Compare {
             self.counts.packed,
             self.guarded.calls
         );
+        println!("loads of {} different kinds, shapes and start numbers", self.counts.loads.len());
         println!(
             "in the domain and compared with each of {} builds of the Rust: {} by its own functions, {} as ragged cells of one size",
             BUILDS.len(),

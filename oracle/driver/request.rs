@@ -13,11 +13,12 @@ pub enum Request {
     ReverseEndianness { size: u64, bytes: Vec<u8> },
     SubsetCells { shape: Vec<u64>, subset: Vec<u64> },
     EncodeInterleaved { kind: KindNumbers, shape: Vec<u64>, masks: Vec<u8>, values: Vec<u8>, offsets: Vec<u64> },
+    Generate { kind: KindNumbers, shape: Vec<u64>, start: u32 },
 }
 use Request::*;
 
 /// In the order of the numbers that they have in oracle/data: a new call is the last.
-pub const CALLS: [&str; 9] = [
+pub const CALLS: [&str; 10] = [
     "encode",
     "decode",
     "decode_interleaved",
@@ -27,11 +28,12 @@ pub const CALLS: [&str; 9] = [
     "reverse_endianness",
     "subset_cells",
     "encode_interleaved",
+    "generate",
 ];
 
 /// The refusals that a call can give, by docs/DECISIONS.md, part 0. At the C boundary width and place come as numbers, so
 /// `partial_decode` has 1 as well.
-pub const REFUSALS: [&[u32]; 9] = [
+pub const REFUSALS: [&[u32]; 10] = [
     &[1, 2, 4, 5, 6],
     &[1, 2, 7, 8, 13, 10, 5, 6],
     &[2, 7, 9, 11, 5, 6],
@@ -41,6 +43,7 @@ pub const REFUSALS: [&[u32]; 9] = [
     &[1],
     &[2, 3, 6],
     &[1, 2, 4, 5, 6],
+    &[1, 2, 6],
 ];
 
 /// Results by slot: a call uses some of masks (or none), values (the stored bytes of `encode`, the bytes of `reverse_endianness`)
@@ -73,6 +76,7 @@ impl Request {
             ReverseEndianness { .. } => 6,
             SubsetCells { .. } => 7,
             EncodeInterleaved { .. } => 8,
+            Generate { .. } => 9,
         }
     }
 
@@ -83,7 +87,8 @@ impl Request {
             | Decode { kind, .. }
             | Extract { kind, .. }
             | Merge { kind, .. }
-            | EncodeInterleaved { kind, .. } => kind[4] == 1,
+            | EncodeInterleaved { kind, .. }
+            | Generate { kind, .. } => kind[4] == 1,
             _ => false,
         }
     }
@@ -100,6 +105,7 @@ impl Request {
             [false, true, false],
             [false, false, true],
             [false, true, false],
+            [true, true, true],
         ][self.call()]
     }
 
@@ -129,6 +135,7 @@ impl Request {
                 let stored = judge::encode_interleaved(*kind, shape, masks, values, offsets);
                 stored.map(|values| Results { values, ..Results::default() })
             }
+            Generate { kind, shape, start } => judge::generate(*kind, shape, *start).map(Results::from),
         }
     }
 
@@ -144,7 +151,7 @@ impl Request {
             | DecodeInterleaved { bytes, .. }
             | PartialDecode { bytes, .. }
             | ReverseEndianness { bytes, .. } => bytes.len(),
-            SubsetCells { .. } => 0,
+            SubsetCells { .. } | Generate { .. } => 0,
         }
     }
 }

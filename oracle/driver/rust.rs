@@ -58,7 +58,8 @@ pub enum Body {
     Own,
     /// Extract and merge of fixed kinds and the masks of extract have no body there. They are asked for as ragged cells of one size.
     AsRagged,
-    /// `subset_cells`: the indexers are not listed. `encode_interleaved`: vlen_v2.rs only reads. Kinds with packed masks: the Rust has masks of bytes only.
+    /// `subset_cells`: the indexers are not listed. `encode_interleaved`: vlen_v2.rs only reads. `generate`: there is no load. Kinds with
+    /// packed masks: the Rust has masks of bytes only.
     None,
 }
 pub fn body(request: &Request) -> Body {
@@ -66,7 +67,7 @@ pub fn body(request: &Request) -> Body {
         _ if request.packed() => Body::None,
         Extract { kind, .. } if kind[1] == 0 || kind[0] > 0 => Body::AsRagged,
         Merge { kind, .. } if kind[1] == 0 => Body::AsRagged,
-        SubsetCells { .. } | EncodeInterleaved { .. } => Body::None,
+        SubsetCells { .. } | EncodeInterleaved { .. } | Generate { .. } => Body::None,
         _ => Body::Own,
     }
 }
@@ -113,7 +114,7 @@ impl Build {
                 let whole = bytes.len() as u64 / size * size;
                 Ok(Results { values, whole, ..Results::default() })
             }
-            SubsetCells { .. } | EncodeInterleaved { .. } => unreachable!(),
+            SubsetCells { .. } | EncodeInterleaved { .. } | Generate { .. } => unreachable!(),
         }
     }
 }

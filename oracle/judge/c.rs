@@ -196,6 +196,31 @@ pub unsafe extern "C" fn dpx_encode_interleaved(
 }
 
 #[unsafe(no_mangle)]
+pub unsafe extern "C" fn dpx_generate(
+    kind: DpxKind,
+    shape: *const u64,
+    shape_count: usize,
+    start: u32,
+    out_masks: *mut u8,
+    out_masks_count: usize,
+    out_values: *mut u8,
+    out_values_count: usize,
+    out_offsets: *mut u64,
+    out_offsets_count: usize,
+    lengths: *mut u64,
+) -> u32 {
+    unsafe {
+        deliver(
+            generate(kind.numbers(), given(shape, shape_count), start),
+            (out_masks, out_masks_count),
+            (out_values, out_values_count),
+            (out_offsets, out_offsets_count),
+            lengths,
+        )
+    }
+}
+
+#[unsafe(no_mangle)]
 pub unsafe extern "C" fn dpx_extract(
     kind: DpxKind,
     shape: *const u64,

@@ -1,4 +1,4 @@
-//! The judge: what document 01, document 02's requests 1 and 2 and docs/DECISIONS.md say of the nine calls, as plain code.
+//! The judge: what document 01, document 02's requests 1 to 3 and docs/DECISIONS.md say of the ten calls, as plain code.
 //!
 //! Each function takes what the call takes, as numbers and slices, and gives the result or the refusal number. Outputs are not lent:
 //! `fits` says where a lent output is too short (6), and c.rs puts a result into lent outputs.
@@ -438,6 +438,41 @@ pub fn encode_interleaved(
         bytes.extend(value);
     }
     Ok(bytes)
+}
+
+// ---------------------------------------------------------------- generate
+
+/// The generator's state. A draw makes the next one, and is its upper half.
+struct Draws(u64);
+
+impl Draws {
+    fn draw(&mut self) -> u64 {
+        self.0 = (1_664_525 * self.0 + 1_013_904_223) % 4_294_967_296;
+        self.0 / 65_536
+    }
+}
+
+pub fn generate(k: KindNumbers, shape: &[u64], start: u32) -> Result<Array, Refusal> {
+    let kind = kind(k)?;
+    let cells = shape_cells(shape)?;
+    let mut draws = Draws(u64::from(start));
+    let mut planes = vec![vec![0; cells]; kind.depth];
+    let mut values = vec![];
+    for cell in 0..cells {
+        let mut set = 0;
+        while set < kind.depth && draws.draw() % 4 != 0 {
+            planes[set][cell] = 1;
+            set += 1;
+        }
+        let null = set < kind.depth;
+        let length = match kind.form {
+            Form::Fixed { size, .. } => size as u64,
+            Form::Ragged { .. } if null => 0,
+            Form::Ragged { .. } => draws.draw() % 9,
+        };
+        values.push((0..length).map(|_| if null { 0 } else { (draws.draw() % 256) as u8 }).collect());
+    }
+    Ok(array_of(kind.form, &planes, &values))
 }
 
 // ---------------------------------------------------------------- extract, merge, partial_decode

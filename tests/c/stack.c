@@ -16,7 +16,7 @@ enum { PROMISED = 16 * 1024, ROOM = 256 * 1024, CELLS = 4096, FILL = 0xA5 };
 static uint64_t shape[1] = {CELLS}, whole[2] = {0, CELLS}, subsets[2 * CELLS], offsets[CELLS + 1], chunk_offsets[2 * CELLS];
 static uint64_t out_offsets[CELLS + 1], lengths[3];
 static uint8_t masks[4 * CELLS], values[CELLS], stored[16 * CELLS], plain[16 * CELLS], old[8 * CELLS], anew[8 * CELLS];
-static uint8_t out_masks[4 * CELLS], out_values[CELLS], turned[CELLS];
+static uint8_t out_masks[4 * CELLS], out_values[CELLS], turned[CELLS], load[64 * CELLS];
 static uint64_t stored_len, plain_len, old_len;
 static uint32_t answer;
 
@@ -55,6 +55,22 @@ static void decode_interleaved(void)
 static void encode_interleaved(void)
 {
     answer = dpx_encode_interleaved(flat, shape, 1, NULL, 0, values, CELLS, offsets, CELLS + 1, anew, sizeof anew, lengths);
+}
+
+/* One run, and two: an output of 8 bytes a cell, and a shorter one. */
+static void generate_once(void)
+{
+    answer = dpx_generate(nested, shape, 1, 7, out_masks, 4 * CELLS, load, 8 * CELLS, out_offsets, CELLS + 1, lengths);
+}
+
+static void generate_twice(void)
+{
+    answer = dpx_generate(nested, shape, 1, 7, out_masks, 4 * CELLS, load, 8 * CELLS - 1, out_offsets, CELLS + 1, lengths);
+}
+
+static void generate_fixed(void)
+{
+    answer = dpx_generate(dpx_fixed(4, 64, DPX_BIG), shape, 1, 7, out_masks, 4 * CELLS, load, sizeof load, NULL, 0, lengths);
 }
 
 static void extract(void)
@@ -109,6 +125,7 @@ int main(void)
     } calls[] = {{"encode", encode_nested},       {"encode, depth 0", encode_flat}, {"decode", decode_nested},
                  {"encode, packed", encode_packed}, {"decode, packed", decode_packed},
                  {"decode_interleaved", decode_interleaved}, {"encode_interleaved", encode_interleaved},
+                 {"generate", generate_once},   {"generate, two runs", generate_twice}, {"generate, fixed", generate_fixed},
                  {"extract", extract},          {"merge", merge},
                  {"partial_decode", partial_decode}, {"reverse_endianness", reverse_endianness}, {"subset_cells", subset_cells}};
     size_t i, idle, failed = 0;

@@ -226,6 +226,7 @@ static void test_kind(void)
         REFUSED(dpx_encode(bad[i], NUMBERS(0), NONE, NONE, NONE, OUT1), DPX_KIND);
         REFUSED(dpx_decode(bad[i], NUMBERS(0), NONE, OUT3), DPX_KIND);
         REFUSED(dpx_encode_interleaved(bad[i], NUMBERS(0), NONE, NONE, NONE, OUT1), DPX_KIND);
+        REFUSED(dpx_generate(bad[i], NUMBERS(0), 0, OUT3), DPX_KIND);
         REFUSED(dpx_extract(bad[i], NUMBERS(0), NONE, NONE, NONE, NONE, OUT3), DPX_KIND);
         REFUSED(dpx_merge(bad[i], NUMBERS(0), NONE, NONE, NONE, NONE, OUT3), DPX_KIND);
         release();
@@ -246,6 +247,7 @@ static void refuse_shape(const uint64_t *shape, size_t sides)
     REFUSED(dpx_encode(dpx_fixed(0, 1, DPX_LITTLE), shape, sides, NONE, NONE, NONE, OUT1), DPX_SHAPE);
     REFUSED(dpx_decode(dpx_fixed(0, 1, DPX_LITTLE), shape, sides, NONE, OUT3), DPX_SHAPE);
     REFUSED(dpx_encode_interleaved(dpx_ragged(0, 4, DPX_START), shape, sides, NONE, NONE, NONE, OUT1), DPX_SHAPE);
+    REFUSED(dpx_generate(dpx_ragged(1, 4, DPX_START), shape, sides, 0, OUT3), DPX_SHAPE);
     REFUSED(dpx_extract(dpx_fixed(0, 1, DPX_LITTLE), shape, sides, NONE, NONE, NONE, NONE, OUT3), DPX_SHAPE);
     REFUSED(dpx_merge(dpx_fixed(0, 1, DPX_LITTLE), shape, sides, NONE, NONE, NONE, NONE, OUT3), DPX_SHAPE);
     REFUSED(dpx_partial_decode(4, DPX_START, shape, sides, NONE, NONE, OUT2), DPX_SHAPE);
@@ -600,6 +602,93 @@ static void test_encode_interleaved(void)
     REFUSED(dpx_encode_interleaved(r4, NUMBERS(2), NONE, TEXT("AB"), NUMBERS(0, 3, 2), OUT1), DPX_CONTENT);
     REFUSED(dpx_encode_interleaved(r4, NUMBERS(1), NONE, TEXT("A"), NONE, OUT1), DPX_CONTENT);
     REFUSED(dpx_encode_interleaved(r4, NUMBERS(1), NONE, TEXT("A"), NUMBERS(0, 1), OUT1), DPX_OUTPUT);
+    release();
+}
+
+/* ------------------------------------------------------------------------------------------------------ generate */
+
+static void test_generate(void)
+{
+    const dpx_kind f1 = dpx_fixed(1, 1, DPX_LITTLE), r4 = dpx_ragged(0, 4, DPX_START), r1 = dpx_ragged(1, 4, DPX_START);
+
+    /* Exactly enough room. Cell by cell, and nothing is drawn below a null. */
+    lend(0, 1, 0);
+    GIVES(dpx_generate(dpx_fixed(0, 1, DPX_LITTLE), NUMBERS(1), 0, OUT3), NONE, BYTES(0x6E), NONE);
+    GIVES(dpx_generate(dpx_fixed(0, 1, DPX_LITTLE), NUMBERS(1), UINT32_MAX, OUT3), NONE, BYTES(0x55), NONE);
+    lend(2, 2, 0);
+    GIVES(dpx_generate(f1, NUMBERS(2), 0, OUT3), BYTES(1, 0), BYTES(0x50, 0), NONE);
+    lend(3, 3, 0);
+    GIVES(dpx_generate(f1, NUMBERS(1, 3), 0, OUT3), BYTES(1, 0, 1), BYTES(0x50, 0, 0x52), NONE);
+    lend(6, 6, 0);
+    GIVES(dpx_generate(dpx_fixed(2, 2, DPX_LITTLE), NUMBERS(3), 0, OUT3), BYTES(1, 0, 1, 0, 0, 1), BYTES(0, 0, 0, 0, 0x2E, 0xFE), NONE);
+    lend(2, 9, 3);
+    GIVES(dpx_generate(r1, NUMBERS(2), 0, OUT3), BYTES(1, 1), BYTES(0xCC, 0xF9, 0x52, 0x2E, 0xFD, 0xF0, 0xF6, 0xD1, 0x23),
+          NUMBERS(0, 4, 9));
+    /* A load of no value bytes. */
+    lend(8, 0, 5);
+    GIVES(dpx_generate(dpx_ragged(2, 4, DPX_START), NUMBERS(4), 1, OUT3), BYTES(0, 0, 1, 0, 0, 0, 1, 0), NONE, NUMBERS(0, 0, 0, 0, 0));
+    release();
+
+    /* More room than needed, 8 bytes a cell and one less; outputs that the kind does not use. Order, width, place and mask form are idle. */
+    lend(3, 16, 5);
+    GIVES(dpx_generate(dpx_packed(dpx_ragged(1, 8, DPX_END)), NUMBERS(2), 0, OUT3), BYTES(1, 1),
+          BYTES(0xCC, 0xF9, 0x52, 0x2E, 0xFD, 0xF0, 0xF6, 0xD1, 0x23), NUMBERS(0, 4, 9));
+    lend(2, 15, 3);
+    GIVES(dpx_generate(r1, NUMBERS(2), 0, OUT3), BYTES(1, 1), BYTES(0xCC, 0xF9, 0x52, 0x2E, 0xFD, 0xF0, 0xF6, 0xD1, 0x23),
+          NUMBERS(0, 4, 9));
+    lend(5, 12, 3);
+    GIVES(dpx_generate(r4, NUMBERS(2), 0, OUT3), NONE, BYTES(0x50, 0xCC, 0xF9, 0x52, 0x2E, 0xFE, 0xD9, 0xFD, 0xF6, 0xD1, 0x23, 0x96),
+          NUMBERS(0, 8, 12));
+    lend(3, 4, 6);
+    GIVES(dpx_generate(dpx_packed(dpx_fixed(1, 1, DPX_BIG)), NUMBERS(2), 0, OUT3), BYTES(1, 0), BYTES(0x50, 0), NONE);
+    release();
+
+    /* 6, each output one short; the values also where they are the shorter part, and where masks or offsets are short beside 8 bytes a cell. */
+    lend(1, 9, 3);
+    REFUSED(dpx_generate(r1, NUMBERS(2), 0, OUT3), DPX_OUTPUT);
+    lend(2, 8, 3);
+    REFUSED(dpx_generate(r1, NUMBERS(2), 0, OUT3), DPX_OUTPUT);
+    lend(2, 9, 2);
+    REFUSED(dpx_generate(r1, NUMBERS(2), 0, OUT3), DPX_OUTPUT);
+    lend(1, 16, 3);
+    REFUSED(dpx_generate(r1, NUMBERS(2), 0, OUT3), DPX_OUTPUT);
+    lend(2, 16, 2);
+    REFUSED(dpx_generate(r1, NUMBERS(2), 0, OUT3), DPX_OUTPUT);
+    lend(1, 2, 0);
+    REFUSED(dpx_generate(f1, NUMBERS(2), 0, OUT3), DPX_OUTPUT);
+    lend(2, 1, 0);
+    REFUSED(dpx_generate(f1, NUMBERS(2), 0, OUT3), DPX_OUTPUT);
+    lend(0, 0, 0);
+    REFUSED(dpx_generate(r4, NUMBERS(2), 0, OUT3), DPX_OUTPUT);
+    /* 1 before 2 before 6. */
+    REFUSED(dpx_generate(dpx_ragged(1, 5, DPX_START), NUMBERS(0), 0, OUT3), DPX_KIND);
+    REFUSED(dpx_generate(r1, NONE, 0, OUT3), DPX_SHAPE);
+    release();
+}
+
+/* 65,536 cells: what is written, read and written again is the load; both ways to lend the output give the same. */
+static void test_large_load(void)
+{
+    const dpx_kind kind = dpx_ragged(4, 4, DPX_START);
+    const uint64_t all[1] = {DPX_MAX_CELLS};
+    const size_t cells = DPX_MAX_CELLS, room = dpx_stored_room(kind, cells, 8 * cells);
+    uint8_t *masks = block(4 * cells), *values = block(8 * cells), *stored = block(room), *back = block(8 * cells);
+    uint64_t *offsets = block(8 * (cells + 1)), lengths[3], again[3], stored_len;
+
+    ANSWERS(dpx_generate(kind, all, 1, 7, masks, 4 * cells, values, 8 * cells, offsets, cells + 1, lengths), DPX_OK);
+    CHECK(lengths[0] == 4 * cells && lengths[1] == offsets[cells] && lengths[2] == cells + 1);
+    ANSWERS(dpx_encode(kind, all, 1, masks, lengths[0], values, lengths[1], offsets, lengths[2], stored, room, &stored_len), DPX_OK);
+    memcpy(back, values, lengths[1]);
+    memset(values, FILL, 8 * cells);
+    ANSWERS(dpx_generate(kind, all, 1, 7, masks, 4 * cells, values, lengths[1] - 1, offsets, cells + 1, again), DPX_OUTPUT);
+    CHECK(filled(values, 8 * cells));
+    ANSWERS(dpx_generate(kind, all, 1, 7, masks, 4 * cells, values, lengths[1], offsets, cells + 1, again), DPX_OK);
+    CHECK(memcmp(again, lengths, sizeof again) == 0 && memcmp(values, back, lengths[1]) == 0);
+    CHECK(filled(values + lengths[1], 8 * cells - lengths[1]));
+    ANSWERS(dpx_decode(kind, all, 1, stored, stored_len, masks, 4 * cells, back, 8 * cells, offsets, cells + 1, again), DPX_OK);
+    CHECK(memcmp(again, lengths, sizeof again) == 0 && memcmp(values, back, lengths[1]) == 0);
+    ANSWERS(dpx_encode(kind, all, 1, masks, again[0], back, again[1], offsets, again[2], stored, room, lengths), DPX_OK);
+    CHECK(lengths[0] == stored_len);
     release();
 }
 
@@ -1006,6 +1095,8 @@ int main(void)
     test_packed();
     test_interleaved();
     test_encode_interleaved();
+    test_generate();
+    test_large_load();
     test_extract();
     test_merge();
     test_partial();

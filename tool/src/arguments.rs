@@ -10,6 +10,7 @@ pub struct Arguments {
     pub kind: Option<String>,
     pub shape: Option<String>,
     pub subset: Option<String>,
+    pub start: Option<String>,
     /// Subset and file of each part of a merge.
     pub parts: Vec<(String, OsString)>,
     pub hex: bool,
@@ -82,6 +83,7 @@ pub fn parse(command: &str, options: &[&str], files: &[&str], words: Vec<OsStrin
             }
             "--kind" => once(&mut arguments.kind, option, value)?,
             "--shape" => once(&mut arguments.shape, option, value)?,
+            "--start" => once(&mut arguments.start, option, value)?,
             _ => once(&mut arguments.subset, option, value)?,
         }
     }

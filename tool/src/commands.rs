@@ -10,8 +10,8 @@ use crate::stored::{cells, given_kind, given_shape, missing_kind, missing_shape,
 use crate::watch::Watch;
 use crate::{explain, help, json, words, worksheet};
 use durpaxeta::{
-    decode, encode, encode_interleaved, extract, merge, partial_decode, subset_cells, Array, Cell, Chunk, Kind,
-    Refusal, Subset, Values,
+    decode, encode, encode_interleaved, extract, generate, merge, partial_decode, subset_cells, Array, Cell, Chunk,
+    Kind, Refusal, Subset, Values,
 };
 use std::ffi::{OsStr, OsString};
 use std::fs;
@@ -24,7 +24,7 @@ struct Command {
     run: fn(&Arguments, &Watch) -> Result<u8, Failure>,
 }
 
-const COMMANDS: [Command; 8] = [
+const COMMANDS: [Command; 9] = [
     Command {
         name: "show",
         help: help::SHOW,
@@ -59,6 +59,13 @@ const COMMANDS: [Command; 8] = [
         options: &["--kind", "--shape", "--to-interleaved", "--describe", "--no-clobber"],
         files: &["IN", "OUT"],
         run: convert,
+    },
+    Command {
+        name: "generate",
+        help: help::GENERATE,
+        options: &["--kind", "--shape", "--start", "--describe", "--no-clobber"],
+        files: &["OUT"],
+        run: make_load,
     },
     Command {
         name: "check",
@@ -371,6 +378,19 @@ fn convert_back(arguments: &Arguments, watch: &Watch) -> Result<u8, Failure> {
     })?;
     output::write(&[(out, &old[..])], watch)?;
     dropped(&stored.input, &stored.walk());
+    Ok(0)
+}
+
+fn make_load(arguments: &Arguments, watch: &Watch) -> Result<u8, Failure> {
+    let kind = given_kind(arguments)?.ok_or_else(|| missing_kind(""))?;
+    let shape = given_shape(arguments)?.ok_or_else(|| missing_shape(""))?;
+    let start = arguments.start.as_ref().ok_or_else(|| Failure::usage("--start is missing; for example --start 7"))?;
+    let load = generate(kind, &shape, words::start(start)?).map_err(|refusal| Failure::Refused {
+        refusal,
+        subject: "generate".into(),
+        detail: None,
+    })?;
+    store(&load, "generate", &arguments.files[0], &[], arguments, watch)?;
     Ok(0)
 }
 

@@ -4,14 +4,15 @@ pub const VERSION: &str = concat!("durpaxeta ", env!("CARGO_PKG_VERSION"), "\n")
 
 pub const GENERAL: &str = r#"durpaxeta: stored tables of optional and variable-length cells
 
-  durpaxeta show     prints a stored table as a worksheet, one cell a line, or as JSON
-  durpaxeta write    makes a stored table from a worksheet
-  durpaxeta cut      takes a subset of the cells out of a stored table
-  durpaxeta merge    puts parts together into one stored table
-  durpaxeta convert  makes a stored table from the older, interleaved form, or that form from a table
-  durpaxeta check    says whether a file is a valid table, and if not, why and at which byte
-  durpaxeta explain  prints the stored bytes, field by field, with what they are
-  durpaxeta example  prints a worksheet to begin with
+  durpaxeta show      prints a stored table as a worksheet, one cell a line, or as JSON
+  durpaxeta write     makes a stored table from a worksheet
+  durpaxeta cut       takes a subset of the cells out of a stored table
+  durpaxeta merge     puts parts together into one stored table
+  durpaxeta convert   makes a stored table from the older, interleaved form, or that form from a table
+  durpaxeta generate  makes a stored table from a start number, the same on every machine
+  durpaxeta check     says whether a file is a valid table, and if not, why and at which byte
+  durpaxeta explain   prints the stored bytes, field by field, with what they are
+  durpaxeta example   prints a worksheet to begin with
 
 'durpaxeta help COMMAND' or 'durpaxeta COMMAND --help' tells more about each; 'durpaxeta help' prints this page.
 
@@ -26,7 +27,7 @@ A stored table does not say its kind or its shape. You do, or its description do
 Depth is the number of mask levels. Level 1 is the outermost. Bytes are counted from 0.
 A file name of - is standard input or standard output. Inputs of over 268,435,456 bytes are not read.
 
-Where write, cut, merge and convert write to:
+Where write, cut, merge, convert and generate write to:
   A file is replaced whole or stays as it was. What is written goes to a temporary file in the same folder, is synced, and
   then takes the place of the old file, with its mode. On an error, or on a signal that ends the command, nothing is left
   of it. (Power loss can leave a file named .durpaxeta-NUMBER-NUMBER, which may be removed.)
@@ -157,6 +158,21 @@ Examples:
   durpaxeta show new.bin
   durpaxeta convert --to-interleaved new.bin again.bin
   cmp old.bin again.bin
+"#;
+
+pub const GENERATE: &str = r#"durpaxeta generate --kind KIND --shape SHAPE --start NUMBER [--describe] [--no-clobber] OUT
+
+Makes a load: a stored table of that kind and shape whose cells are drawn from a start number, 0 to 4294967295. The same kind,
+shape and start number give the same bytes on every machine, so two rooms can compare a file by its checksum, which --describe
+writes. About one mask byte in four is null; a ragged value has 0 to 8 bytes. docs/FORMAT.md, part 13, tells what is drawn.
+'durpaxeta show' prints the load as a worksheet.
+
+Examples:
+  durpaxeta generate --kind "depth 1, fixed, size 1, little order" --shape 2 --start 0 two.bin
+  durpaxeta show --kind "depth 1, fixed, size 1, little order" --shape 2 two.bin
+  durpaxeta generate --kind "depth 2, ragged, width 4, index at start" --shape 256x256 --start 7 --describe load.bin
+  cat load.bin.dpx
+  durpaxeta check --strict load.bin
 "#;
 
 pub const CHECK: &str = r#"durpaxeta check [--kind KIND --shape SHAPE] [--strict] FILE

@@ -40,6 +40,12 @@ pub fn shape_text(shape: &[u64]) -> String {
     shape.iter().map(u64::to_string).collect::<Vec<_>>().join("x")
 }
 
+/// Reads a start number, which has 32 bits.
+pub fn start(text: &str) -> Result<u32, Failure> {
+    let start = number(text.trim()).and_then(|number| u32::try_from(number).ok());
+    start.ok_or_else(|| Failure::usage(format!("\"{text}\" is no start number; write 0 to 4294967295")))
+}
+
 /// Reads a subset: `0..2,1..3`, one range for each side, the end not included.
 pub fn subset(text: &str) -> Result<Subset, Failure> {
     text.parse().map_err(|error| told(error, format!("subset {text}")))
@@ -103,6 +109,14 @@ mod tests {
         assert_eq!(shape_text(&[2, 3]), "2x3");
         for text in ["", "x", "2x", "2,3", "-1", "+2", "2.0", "two"] {
             assert_eq!(shape(text).unwrap_err().status(), 64, "{text}");
+        }
+    }
+
+    #[test]
+    fn start_numbers() {
+        assert_eq!((start("0").unwrap(), start(" 4294967295").unwrap()), (0, u32::MAX));
+        for text in ["", "-1", "+1", "1.0", "0x10", "4294967296", "99999999999999999999", "seven"] {
+            assert_eq!(start(text).unwrap_err().status(), 64, "{text}");
         }
     }
 

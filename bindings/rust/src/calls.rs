@@ -1,4 +1,4 @@
-//! The nine calls, and those of them that write into lent slices.
+//! The ten calls, and those of them that write into lent slices.
 
 use crate::ffi::{self, Answer, Content};
 use crate::{
@@ -197,6 +197,53 @@ pub fn encode_interleaved_into<'a, 'o>(array: impl Into<ArrayRef<'a>>, out: &'o 
     let array = array.into();
     let length = given(ffi::encode_interleaved(array.kind, array.shape, content(array), out))?;
     Ok(&out[..length])
+}
+
+/// A load: the table that a kind, a shape and a start number determine, the same on every machine. docs/FORMAT.md tells what is
+/// drawn; width, place, order and mask form change nothing.
+///
+/// # Errors
+///
+/// In this order `Kind`, `Shape`.
+///
+/// ```
+/// use durpaxeta::{generate, Kind, Order, Place, Width};
+///
+/// let load = generate(Kind::fixed(1, 1, Order::Little), &[2], 0)?;
+/// assert_eq!((load.masks, load.values), (vec![1, 0], vec![0x50, 0]));
+/// let load = generate(Kind::ragged(0, Width::Four, Place::Start), &[2], 0)?;
+/// assert_eq!(load.offsets, [0, 8, 12]);
+/// # Ok::<(), durpaxeta::Refusal>(())
+/// ```
+pub fn generate(kind: Kind, shape: &[u64], start: u32) -> Result<Array, Refusal> {
+    let cells = cell_count(shape);
+    let room = kind.array_room(cells, 8 * cells);
+    lend(kind, shape, room, |out| given(ffi::generate(kind, shape, start, out)))
+}
+
+/// [`generate`] into lent slices; answers the array in them. [`Kind::array_room`] with 8 bytes for each cell tells how long they may
+/// have to be. Ragged values can be fewer; a slice that holds just them will do, and takes a second run.
+///
+/// # Errors
+///
+/// Those of [`generate`], then `Output` where a slice is too short. A refusal changes no element of them.
+///
+/// ```
+/// use durpaxeta::{generate_into, Cell, Kind, Lent, Place, Refusal, Width};
+///
+/// let kind = Kind::ragged(1, Width::Four, Place::Start);
+/// let (mut masks, mut values, mut offsets) = ([0; 2], [0; 9], [0; 3]);
+/// let out = Lent { masks: &mut masks, values: &mut values, offsets: &mut offsets };
+/// let load = generate_into(kind, &[2], 0, out)?;
+/// assert_eq!(load.cell(0), Some(Cell::Value(&[0xCC, 0xF9, 0x52, 0x2E])));
+///
+/// let out = Lent { masks: &mut masks, values: &mut values[..8], offsets: &mut offsets };
+/// assert_eq!(generate_into(kind, &[2], 0, out), Err(Refusal::Output));
+/// # Ok::<(), Refusal>(())
+/// ```
+pub fn generate_into<'o>(kind: Kind, shape: &'o [u64], start: u32, mut out: Lent<'o>) -> Result<ArrayRef<'o>, Refusal> {
+    let wrote = given(ffi::generate(kind, shape, start, &mut out))?;
+    Ok(out.array(kind, shape, wrote))
 }
 
 /// The cells of a subset out of an array. What lies below a null is kept. The outcome's shape is the subset's lengths;

@@ -109,6 +109,20 @@ extern "C" {
         lengths: *mut u64,
     ) -> u32;
 
+    fn dpx_generate(
+        kind: RawKind,
+        shape: *const u64,
+        shape_len: usize,
+        start: u32,
+        out_masks: *mut u8,
+        out_masks_len: usize,
+        out_values: *mut u8,
+        out_values_len: usize,
+        out_offsets: *mut u64,
+        out_offsets_len: usize,
+        lengths: *mut u64,
+    ) -> u32;
+
     fn dpx_extract(
         kind: RawKind,
         shape: *const u64,
@@ -278,6 +292,27 @@ pub fn decode_interleaved(cells: u64, bytes: &[u8], out: &mut Lent<'_>) -> Answe
 
 pub fn encode_interleaved(kind: Kind, shape: &[u64], content: Content<'_>, out: &mut [u8]) -> Answer<usize> {
     write_array!(dpx_encode_interleaved, kind, shape, content, out)
+}
+
+pub fn generate(kind: Kind, shape: &[u64], start: u32, out: &mut Lent<'_>) -> Answer<Room> {
+    let mut lengths = [0; 3];
+    let number = unsafe {
+        dpx_generate(
+            kind.into(),
+            shape.as_ptr(),
+            shape.len(),
+            start,
+            out.masks.as_mut_ptr(),
+            out.masks.len(),
+            out.values.as_mut_ptr(),
+            out.values.len(),
+            out.offsets.as_mut_ptr(),
+            out.offsets.len(),
+            lengths.as_mut_ptr(),
+        )
+    };
+    answer(number)?;
+    Ok(room(lengths[0], lengths[1], lengths[2]))
 }
 
 pub fn extract(kind: Kind, shape: &[u64], subset: &[u64], content: Content<'_>, out: &mut Lent<'_>) -> Answer<Room> {

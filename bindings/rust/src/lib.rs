@@ -3,8 +3,8 @@
 //! A cell of a table is null at some level, or it has a value; the value may be empty. [`Cell`] tells the two apart.
 //! This crate wraps the archive `libdurpaxeta.a`: it lends the outputs, sized by itself, and hands back owned results.
 //! Every function answers a result or one [`Refusal`], which knows its number, its meaning and who causes it.
-//! [`encode_into`], [`encode_interleaved_into`], [`decode_into`], [`extract_into`] and [`merge_into`] write into slices that the
-//! caller lends instead.
+//! [`encode_into`], [`encode_interleaved_into`], [`decode_into`], [`extract_into`], [`merge_into`] and [`generate_into`] write into
+//! slices that the caller lends instead.
 //! The crate needs `core` and `alloc` only.
 //!
 //! Masks come before values, and values before offsets, everywhere.
@@ -41,7 +41,7 @@ mod text;
 pub use array::{Array, ArrayRef, Cell, Cells, RaggedValues};
 pub use calls::{
     decode, decode_interleaved, decode_into, encode, encode_interleaved, encode_interleaved_into, encode_into, extract,
-    extract_into, merge, merge_into, partial_decode, reverse_endianness, subset_cells, Chunk,
+    extract_into, generate, generate_into, merge, merge_into, partial_decode, reverse_endianness, subset_cells, Chunk,
 };
 pub use kind::{Kind, MaskForm, Order, Place, Values, Width};
 pub use lent::{cell_count, Lent, Room};

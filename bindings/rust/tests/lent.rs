@@ -107,6 +107,19 @@ fn interleaved() {
     assert!(out.iter().all(|byte| *byte == FILL));
 }
 
+/// A load into slices that hold just it, and into ones for any load of that kind and shape.
+#[test]
+fn loads() {
+    for kind in kinds() {
+        for start in [0, 1, 77, u32::MAX] {
+            let load = generate(kind, &[2, 3], start).unwrap();
+            exactly(&load, |out| generate_into(kind, &[2, 3], start, out).map(ArrayRef::to_array));
+            let mut slices = Slices::new(kind.array_room(6, 8 * 6));
+            assert_eq!(generate_into(kind, &[2, 3], start, slices.lend()), Ok(load.view()));
+        }
+    }
+}
+
 /// Where no cell is null the room for the stored bytes is what they take.
 #[test]
 fn stored_room_is_exact() {

@@ -171,6 +171,10 @@ fn depth_size_and_cells() {
     assert_eq!(merge(largest, &shape, &[Chunk::new(&whole, &table)]).as_ref(), Ok(&table));
     assert_eq!(subset_cells(&shape, &whole).unwrap().len(), 65_536);
     assert_eq!(decode_interleaved(65_536, &interleaved(&[0; 65_536])).unwrap().cell_count(), 65_536);
+    let load = generate(largest, &shape, u32::MAX).unwrap();
+    assert_eq!((load.masks.len(), load.values.len()), (4 * 65_536, 64 * 65_536));
+    let load = generate(Kind::ragged(4, Width::Four, Place::Start), &shape, 0).unwrap();
+    assert_eq!((load.masks.len(), load.offsets.len()), (4 * 65_536, 65_537));
 
     assert_eq!(encode(&Array { kind: Kind::fixed(5, 64, Order::Big), ..table.clone() }), Err(Refusal::Kind));
     assert_eq!(encode(&Array { kind: Kind::fixed(4, 65, Order::Big), ..table.clone() }), Err(Refusal::Kind));

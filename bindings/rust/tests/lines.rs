@@ -216,6 +216,24 @@ fn packed_masks() {
     assert_eq!(extract(&two, &subset(&[0, 1])), Ok(two));
 }
 
+/// S12.5 to S12.8.
+#[test]
+fn loads() {
+    let load = |kind, cells, start| {
+        let load = generate(kind, &[cells], start).unwrap();
+        (load.masks, load.values, load.offsets)
+    };
+    assert_eq!(load(fixed(0, 1), 1, 0), (vec![], bytes("6E"), vec![]));
+    assert_eq!(load(fixed(1, 1), 2, 0), (vec![1, 0], bytes("50 00"), vec![]));
+    assert_eq!(load(fixed(1, 1), 3, 0), (vec![1, 0, 1], bytes("50 00 52"), vec![]));
+    let two = ragged(0, Width::Four, Place::Start);
+    assert_eq!(load(two, 2, 0), (vec![], bytes("50CCF9522EFED9FD F6D12396"), vec![0, 8, 12]));
+    // Width, place, order and mask form change nothing.
+    assert_eq!(load(two, 2, 0), load(ragged(0, Width::Eight, Place::End).packed(), 2, 0));
+    assert_eq!(load(fixed(2, 3), 9, 5), load(Kind::fixed(2, 3, Order::Big).packed(), 9, 5));
+    assert_ne!(load(fixed(2, 3), 9, 5), load(fixed(2, 3), 9, 6));
+}
+
 #[test]
 fn words_of_kinds() {
     assert_eq!(ragged(1, Width::Four, Place::Start).to_string(), "depth 1, ragged, width 4, index at start");

@@ -62,6 +62,7 @@ fn kind_comes_first() {
         assert_eq!(encode(&array(kind, &[0], &[1], b"a", &[5])), Err(Refusal::Kind));
         assert_eq!(encode_interleaved(&array(kind, &[0], &[1], b"a", &[5])), Err(Refusal::Kind));
         assert_eq!(decode(kind, &[0], &[]), Err(Refusal::Kind));
+        assert_eq!(generate(kind, &[0], 0), Err(Refusal::Kind));
         assert_eq!(extract(&array(kind, &[0], &[], &[], &[]), &subset(&[])), Err(Refusal::Kind));
         assert_eq!(merge(kind, &[0], &[]), Err(Refusal::Kind));
         let chunk = array(kind, &[1], &[], b"a", &[]);
@@ -96,6 +97,7 @@ fn shape_comes_next() {
         assert_eq!(encode(&array(f1(0), shape, &[1], &[], &[])), Err(Refusal::Shape));
         assert_eq!(encode_interleaved(&array(r4(0), shape, &[1], &[], &[])), Err(Refusal::Shape));
         assert_eq!(decode(f1(0), shape, &[]), Err(Refusal::Shape));
+        assert_eq!(generate(r4(1), shape, 0), Err(Refusal::Shape));
         assert_eq!(extract(&array(r4(0), shape, &[], &[], &[]), &subset(&[9])), Err(Refusal::Shape));
         assert_eq!(merge(f1(0), shape, &[]), Err(Refusal::Shape));
         assert_eq!(

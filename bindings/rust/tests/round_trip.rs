@@ -176,6 +176,18 @@ fn cells_make_the_rest_form() {
     }
 }
 
+/// A load is valid and its own rest form, so it comes back as it was.
+#[test]
+fn loads_return() {
+    let mut draws = Draws(3);
+    for _ in 0..2_000 {
+        let (kind, shape) = (draws.kind(), draws.shape());
+        let load = generate(kind, &shape, draws.below(1 << 32) as u32).unwrap();
+        assert_eq!(load, rest(&load));
+        assert_eq!(decode(kind, &shape, &encode(&load).unwrap()), Ok(load));
+    }
+}
+
 /// In the interleaved form the cells come back, from offset 0.
 #[test]
 fn interleaved_cells_return() {
@@ -244,6 +256,7 @@ fn outputs_are_never_short() {
             decode_interleaved(draws.below(4), &stored).err(),
             encode_interleaved(&table).err(),
             subset_cells(&shape, &subset).err(),
+            generate(kind, &shape, draws.below(1 << 32) as u32).err(),
         ];
         for refusal in answers.into_iter().flatten() {
             refused[refusal.number() as usize] += 1;

@@ -13,6 +13,7 @@ ghost use Rattle.array.specs.Outcome.{contentArray, contentRagged};
 ghost use Rattle.array.specs.Calls.{endiannessReversed};
 ghost use Rattle.array.specs.Calls.{subsetCells};
 ghost use Rattle.codec.specs.Calls.{encoded, decoded, interleavedDecoded, interleavedEncoded};
+ghost use Rattle.load.specs.Calls.{generated};
 ghost use Rattle.chunks.specs.Calls.{extracted, merged, partiallyDecoded};
 ghost use Rattle.ffi.specs.Exported.{handed, withGiven, byIndex, statusOf, oneLength, twoLengths, threeLengths, exportOne, exportTwo, exportThree};
 
@@ -182,6 +183,37 @@ pub extern "C" fn dpx_encode_interleaved(
                 out,
             );
             put_length(answer, lengths)
+        }
+    }
+}
+
+#[no_mangle]
+pub extern "C" fn dpx_generate(
+    kind: DpxKind,
+    shape: &[u64],
+    start: u32,
+    masks: &mut [u8],
+    values: &mut [u8],
+    offsets: &mut [u64],
+    lengths: &mut [u64; 3],
+) -> u32
+    ensures { λ r. ⌜ handed r (now (lengths .exit)) (contentArray (now (masks .exit)) (now (values .exit)) (now (offsets .exit)))
+        ≡ exportThree (withGiven (numberedKind (kind .depth) (kind .form) (kind .size) (kind .order) (kind .mask))
+        (contentArray (now (masks .entry)) (now (values .entry)) (now (offsets .entry)))
+        (λ k. generated k (now (shape .entry)) start (contentArray (now (masks .entry)) (now (values .entry)) (now (offsets .entry))))) (now (lengths .entry)) ⌝ }
+{
+    let read = valid::numbers::kind_from_numbers(
+        kind.depth,
+        kind.form,
+        kind.size,
+        kind.order,
+        kind.mask,
+    );
+    match read {
+        KindRead::Refused(e) => e as u32,
+        KindRead::Kind(k) => {
+            let answer = generate::generate(k, shape, start, masks, values, offsets);
+            put_three_lengths(answer, lengths)
         }
     }
 }

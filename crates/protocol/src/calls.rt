@@ -6,6 +6,7 @@ use interleaved::write;
 use partial::vlen_partial;
 use requests::Request;
 use requests::asked::head_kind;
+use requests::start_of;
 use responses::told::offsets_told;
 use responses::told::ragged_told;
 use responses::told::values_told;
@@ -40,6 +41,7 @@ fn run_kind(
             values,
         )),
         b'd' => decode::decode(kind, shape, in_values, masks, values, offsets),
+        b'g' => generate::generate(kind, shape, start_of(subset), masks, values, offsets),
         b'x' => extract::extract(
             kind,
             shape,

@@ -4,6 +4,7 @@ pub mod asked;
 use std::num;
 use text::scan;
 use text::scan::Filled;
+use text::scan::number_at;
 use text::scan::part_of_bytes;
 
 // The lists of a line, in their order: so many numbers at the head, or so many more; shape; subset; masks; values or stored bytes;
@@ -38,6 +39,20 @@ fn of_kind(subset: bool, array: bool, rooms: usize) -> Line {
     })
 }
 
+// A load: a kind, a shape and, where other calls have a subset, the start number.
+fn of_load() -> Line {
+    Line::Request(Fields {
+        head: 4,
+        more: 1,
+        shape: true,
+        subset: true,
+        masks: false,
+        values: false,
+        offsets: false,
+        rooms: 3,
+    })
+}
+
 // Calls that take none, and no array.
 fn of_numbers(head: usize, shape: bool, values: bool, rooms: usize) -> Line {
     Line::Request(Fields {
@@ -60,6 +75,7 @@ fn line_of(letter: u8) -> Line {
         b'd' => of_kind(false, false, 3),
         b'x' => of_kind(true, true, 3),
         b'm' => of_kind(true, true, 3),
+        b'g' => of_load(),
         b'i' => of_numbers(1, false, true, 2),
         b'p' => of_numbers(2, true, true, 2),
         b'r' => of_numbers(1, false, true, 0),
@@ -271,10 +287,36 @@ pub fn letter_of(line: &[u8]) -> u8 {
     line[0]
 }
 
+// The start number of a load, in the subset's place.
+pub fn start_of(subset: &[u64]) -> u32 {
+    let start = number_at(subset, 0);
+    if start > 4294967295 {
+        return 0;
+    }
+    start as u32
+}
+
+// A request for a load has one start number, of 32 bits.
+fn with_start(q: Request, numbers: &[u64]) -> Parsed {
+    if num::wrapping_sub_usize(q.offsets, q.subset) != 1 {
+        return Parsed::Bad;
+    }
+    if number_at(numbers, q.subset) > 4294967295 {
+        return Parsed::Bad;
+    }
+    Parsed::Request(q)
+}
+
 // Reads a line that calls for what its letter says.
 pub fn read_line(letter: u8, line: &[u8], numbers: &mut [u64], bytes: &mut [u8]) -> Parsed {
-    match line_of(letter) {
-        Line::Unknown => Parsed::Bad,
-        Line::Request(f) => parse(line, f, numbers, bytes),
+    let Line::Request(f) = line_of(letter) else {
+        return Parsed::Bad;
+    };
+    let Parsed::Request(q) = parse(line, f, numbers, bytes) else {
+        return Parsed::Bad;
+    };
+    if letter == b'g' {
+        return with_start(q, numbers);
     }
+    Parsed::Request(q)
 }
