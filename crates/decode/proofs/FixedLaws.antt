@@ -6,7 +6,7 @@ use mathlib.Core.Bool.{Bool, true, false}
 use mathlib.Core.List.{List, [], map}
 use Prim.Native.Nat.{ℕ, zero, suc, _+_, _-_, _*_, _≤_, _<_}
 use native.Mathlib.Omega.{arith}
-use native.Mathlib.Nat.{zero-mul, le-trans}
+use native.Mathlib.Nat.{zero-mul, sub-zero, le-trans}
 use lib.Dec.{eqb}
 use lib.ListN.{length, take, drop, replicate, length-drop}
 use borrow.Author.Tests.{eq-eqb, ne-eqb}
@@ -41,7 +41,7 @@ use Rattle.decode.proofs.Outcomes.{short-masks, short-values, all-writt
 use Rattle.decode.proofs.Small.{bytes-small}
 
 -- with no mask the walk is at the values at once
-pub walk-flat : (mf : MaskForm) (d : ℕ) (s : List ℕ) (n : ℕ) → d ≡ 0 → walked mf d s 0 n ≡ gives (valuesAt 0 n)
+walk-flat : (mf : MaskForm) (d : ℕ) (s : List ℕ) (n : ℕ) → d ≡ 0 → walked mf d s 0 n ≡ gives (valuesAt 0 n)
 unfolding walked
 walk-flat mf zero s n e = refl
 walk-flat mf (suc d) s n e = absurd (omega arith)
@@ -72,7 +72,7 @@ module _ (o : Order) {x : Masks} {size d : ℕ} {s : List ℕ} {n : ℕ} {f : Fo
       ap joined (leaves-are (maskForm x) (replicate size 0) s n d stored g)
       ∙ ap (λ (c : ℕ). joined (spread (replicate size 0) plane (map (ordered o) (pieces size c (drop (f .at) s))))) (fixed-count g)
 
-  pub flat-count : d ≡ 0 → f .cells ≡ n
+  flat-count : d ≡ 0 → f .cells ≡ n
   unfolding innermostCount
   flat-count e = r .count ∙ ap (λ (j : ℕ). innermostCount (maskForm x) j s n) e
 
@@ -125,7 +125,7 @@ module _ (o : Order) {x : Masks} {size d : ℕ} {s : List ℕ} {n : ℕ} {f : Fo
         all-written (content o r) m v off (omega arith) (omega arith) (omega arith) (d * n) (n * size) 0 m′ v′ off (sym lm) (sym lv) (sym lo) em ev
         (ap (λ (p : List ℕ). over p off) (sym (no-offsets o r)))
 
-    pub flat-written : d ≡ 0 → {v′ : List ℕ} → v′ ≡ over (cellsLeft size o s (f .cells) (f .at)) v → (off : List ℕ)
+    flat-written : d ≡ 0 → {v′ : List ℕ} → v′ ≡ over (cellsLeft size o s (f .cells) (f .at)) v → (off : List ℕ)
         → outcomeArray (Lengths (d * n) (n * size) 0) m v′ off ≡ readOutcome (contentArray m v off) (gives (content o r))
     flat-written e {v′} ev = written m v′ (ap (λ (p : List ℕ). over p m) (sym (flat-masks o r e))) (ev ∙ ap (λ (p : List ℕ). over p v) (sym (flat-values o r e)))
 
@@ -228,3 +228,25 @@ module _ (o : Order) {x : Masks} {size d : ℕ} {s : List ℕ} {n : ℕ} {f : Fo
   pub fixed-given : length s - f .at ≡ f .cells * size → readIn (maskForm x) (fixed size o) d n s ≡ gives (fixedFrom (maskForm x) size o d s n f)
   unfolding fixedFrom
   fixed-given g = by-length true (eq-eqb (length (drop (f .at) s)) (f .cells * size) (length-drop (f .at) s ∙ g))
+
+-- ---- with no mask the values are all that is stored
+
+module _ (o : Order) (x : Masks) {size : ℕ} (s : List ℕ) {n : ℕ} (l : Limited 0 n) (h : size ≤ mostSize) where
+  abbrev plain : FixedFound x size 0 s n (record { at = 0; cells = n })
+  plain = record { limits = l; small = h; walk = walk-flat (maskForm x) 0 s n refl }
+
+  pub plain-length : length s ≢ n * size → readIn (maskForm x) (fixed size o) 0 n s ≡ refuses 8
+  plain-length g = fixed-length o plain (λ e. g (sym (sub-zero (length s)) ∙ e))
+
+  module _ (e : length s ≡ n * size) (m v off : List ℕ) where
+    all : length s - 0 ≡ n * size
+    all = sub-zero (length s) ∙ e
+
+    pub plain-short : length v < n * size → outcomeArray (Refused 6) m v off ≡ readOutcome (contentArray m v off) (readIn (maskForm x) (fixed size o) 0 n s)
+    plain-short k = rw (fixed-given o plain all) (fixed-short-values o (some-within plain all) m v k off)
+
+    pub plain-written : n * size ≤ length v → {v′ : List ℕ} → v′ ≡ over (cellsLeft size o s n 0) v
+        → outcomeArray (Lengths 0 (n * size) 0) m v′ off ≡ readOutcome (contentArray m v off) (readIn (maskForm x) (fixed size o) 0 n s)
+    plain-written k {v′} ev =
+        rw (fixed-given o plain all)
+        (ap (λ (j : ℕ). outcomeArray (Lengths j (n * size) 0) m v′ off) (sym (zero-mul n)) ∙ flat-written o (some-within plain all) m v (omega (arith, zero-mul n)) k refl ev off)

@@ -24,7 +24,7 @@ use Rattle.codec.specs.Calls.{readIn}
 use Rattle.codec.proofs.SpreadLaws.{length-spread}
 use Rattle.stored.specs.declared.vlen.Index.{Index}
 use Rattle.stored.specs.Walk.{Innermost, valuesAt, noneSet, walked}
-use Rattle.stored.specs.Stored.{cellsFrom, answerBy, innermostCount}
+use Rattle.stored.specs.Stored.{cellsFrom, answerBy}
 use Rattle.stored.specs.Index.{offsetsIn, raggedAt}
 use Rattle.stored.proofs.Reading.{read-walked}
 use Rattle.stored.proofs.Walks.{walk-values, walk-none, values-flat, none-deep, passed-count}
@@ -35,7 +35,7 @@ use Rattle.spread.proofs.CopyingOffsets.{length-offsets}
 use Rattle.planes.specs.Within.{planesIn, innermostIn}
 use Rattle.planes.proofs.Levels.{within-now}
 use Rattle.planes.proofs.AllPlanes.{masks-are, leaves-are, count-are, planes-long, innermost-long}
-use Rattle.decode.specs.Reads.{Limited, nestedFrom, raggedFrom, RaggedWithin}
+use Rattle.decode.specs.Reads.{Limited, nestedFrom, RaggedWithin}
 
 -- ---- values end to end below masks
 
@@ -148,25 +148,6 @@ module _ {x : Masks} {w d : ℕ} {s : List ℕ} {n : ℕ} {i : Index} (r : Ragge
       let lp : length vs ≡ n = length-spread [] plane stored ∙ innermost-long x s n d (r .limits .some) (r .masks) g in
       ap (λ (v : List Value). length (offsetsOf v)) (leaves-are (maskForm x) [] s n d stored g) ∙ omega (arith, length-ends 0 vs, lp)
 
--- ---- with masks or without
-
-module _ (mf : MaskForm) (w d : ℕ) (s : List ℕ) (n : ℕ) (i : Index) where
-  pub given-flat : d ≡ 0 → raggedFrom mf w d s n i ≡ unmasked (raggedAt w s i)
-  unfolding raggedFrom
-  given-flat e = ap (λ (j : ℕ). raggedFrom mf w j s n i) e
-
-  pub given-nested : d ≢ 0 → raggedFrom mf w d s n i ≡ nestedFrom mf w d s n i
-  unfolding raggedFrom
-  given-nested f = go d f
-    where
-      go : (j : ℕ) → j ≢ 0 → raggedFrom mf w j s n i ≡ nestedFrom mf w j s n i
-      go zero g = absurd (g refl)
-      go (suc j) g = refl
-
-pub flat-cells : {x : Masks} {w d : ℕ} {s : List ℕ} {n : ℕ} {i : Index} → RaggedWithin x w d s n i → d ≡ 0 → i .cells ≡ n
-unfolding innermostCount
-flat-cells {x} {w} {d} {s} {n} r e = r .count ∙ ap (λ (j : ℕ). innermostCount (maskForm x) j s n) e
-
 -- ---- what the copying rests on, by the walk and the check
 
 -- where no cell is set there is nothing stored
@@ -213,44 +194,40 @@ module _ (mf : MaskForm) (w : ℕ) (p : Place) (s : List ℕ) (n : ℕ) where
       ap (laidOut (suc d))
       (read-walked mf [] (getValues form) (suc d) s 0 n ∙ ap (λ (z : Answer Innermost). andThen z (answerBy mf [] (getValues form) (suc d) s 0 n)) e)
 
-  flat-at : (a k : ℕ) → walked mf zero s 0 n ≡ gives (valuesAt a k) → (0 ≡ a) × (n ≡ k)
-  unfolding walked
-  flat-at a k h = (cc, cc)
+  pub ragged-refused : (d e : ℕ) → d ≢ 0 → walked mf d s 0 n ≡ refuses e → readIn mf form d n s ≡ refuses e
+  ragged-refused zero e f h = absurd (f refl)
+  ragged-refused (suc d) e f h = reads d (refuses e) h
 
-  flat-never : (y : Answer Innermost) → walked mf zero s 0 n ≡ y → ((a k : ℕ) → y ≡ gives (valuesAt a k) → ⊥) → ⊥
-  unfolding walked
-  flat-never y h f = f 0 n (sym h)
-
-  pub ragged-refused : (d e : ℕ) → walked mf d s 0 n ≡ refuses e → readIn mf form d n s ≡ refuses e
-  ragged-refused zero e h = absurd (flat-never (refuses e) h (λ a k q. let z : _≡_ {A = ℕ} 0 1 = cc in omega arith))
-  ragged-refused (suc d) e h = reads d (refuses e) h
-
-  pub ragged-none-set : (d : ℕ) → walked mf d s 0 n ≡ gives noneSet → readIn mf form d n s ≡ gives (nestedFrom mf w d s n nothing)
+  pub ragged-none-set : (d : ℕ) → d ≢ 0 → walked mf d s 0 n ≡ gives noneSet → readIn mf form d n s ≡ gives (nestedFrom mf w d s n nothing)
   unfolding nestedFrom
-  ragged-none-set zero h = absurd (flat-never (gives noneSet) h (λ a k q. let z : _≡_ {A = ℕ} 0 1 = cc in omega arith))
-  ragged-none-set (suc d) h = reads d (gives noneSet) h
+  ragged-none-set zero f h = absurd (f refl)
+  ragged-none-set (suc d) f h = reads d (gives noneSet) h
 
-  -- the reader of the values that the walk found
-  flat-read : (a k : ℕ) (y : Answer RaggedContent) → walked mf zero s 0 n ≡ gives (valuesAt a k) → getRagged w p (drop a s) k ≡ y
-      → readIn mf form zero n s ≡ andThen y (λ c. gives (unmasked c))
+  -- the reader of the values y: with no mask, and as the walk found them
+  flat-read : (y : Answer RaggedContent) → getRagged w p s n ≡ y → readIn mf form zero n s ≡ andThen y (λ c. gives (unmasked c))
   unfolding readIn
-  flat-read a k y h g =
-      let q = flat-at a k h in
-      ap (λ (z : Answer RaggedContent). andThen z (λ c. gives (unmasked c))) (ap₂ (λ (i j : ℕ). getRagged w p (drop i s) j) (q .0) (q .1) ∙ g)
+  flat-read y g = ap (λ (z : Answer RaggedContent). andThen z (λ c. gives (unmasked c))) g
 
   deep-read : (d a k : ℕ) (y : Answer RaggedContent) → walked mf (suc d) s 0 n ≡ gives (valuesAt a k) → getRagged w p (drop a s) k ≡ y
       → readIn mf form (suc d) n s ≡ given (suc d) y
   unfolding getValues
   deep-read d a k y h g = reads d (gives (valuesAt a k)) h ∙ ap (given (suc d)) g
 
-  pub ragged-wrong : (d a k e : ℕ) → walked mf d s 0 n ≡ gives (valuesAt a k) → getRagged w p (drop a s) k ≡ refuses e → readIn mf form d n s ≡ refuses e
-  ragged-wrong zero a k e h g = flat-read a k (refuses e) h g
-  ragged-wrong (suc d) a k e h g = deep-read d a k (refuses e) h g
+  pub flat-wrong : (e : ℕ) → getRagged w p s n ≡ refuses e → readIn mf form 0 n s ≡ refuses e
+  flat-wrong e g = flat-read (refuses e) g
 
-  pub ragged-given : (d a k : ℕ) (i : Index) → walked mf d s 0 n ≡ gives (valuesAt a k) → IndexChecked w p s a k i → readIn mf form d n s ≡ gives (raggedFrom mf w d s n i)
-  unfolding raggedFrom nestedFrom
-  ragged-given zero a k i h c = flat-read a k (gives (raggedAt w s i)) h (c .gave)
-  ragged-given (suc d) a k i h c =
+  pub flat-given : (i : Index) → IndexChecked w p s 0 n i → readIn mf form 0 n s ≡ gives (unmasked (raggedAt w s i))
+  flat-given i c = flat-read (gives (raggedAt w s i)) (c .gave)
+
+  pub ragged-wrong : (d a k e : ℕ) → d ≢ 0 → walked mf d s 0 n ≡ gives (valuesAt a k) → getRagged w p (drop a s) k ≡ refuses e → readIn mf form d n s ≡ refuses e
+  ragged-wrong zero a k e f h g = absurd (f refl)
+  ragged-wrong (suc d) a k e f h g = deep-read d a k (refuses e) h g
+
+  pub ragged-given : (d a k : ℕ) (i : Index) → d ≢ 0 → walked mf d s 0 n ≡ gives (valuesAt a k) → IndexChecked w p s a k i
+      → readIn mf form d n s ≡ gives (nestedFrom mf w d s n i)
+  unfolding nestedFrom
+  ragged-given zero a k i f h c = absurd (f refl)
+  ragged-given (suc d) a k i f h c =
       deep-read d a k (gives (raggedAt w s i)) h (c .gave)
       ∙ ap₂ (λ (f : ℕ) (y : List ℕ). laidOut (suc d) (gives (cellsFrom mf [] (suc d) s 0 n (slicesFrom f (offsetsIn w (i .cells) y) (take (i .last) (drop (i .from) s))))))
       (sym (c .first-is)) (drop-drop w (i .index) s)

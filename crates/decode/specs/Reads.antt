@@ -1,7 +1,7 @@
 -- What is read once the walk and the check have passed (document 01, items 4 and 5), by positions in the stored bytes s, for n cells
 -- below d levels whose masks lie as mf or x says; and what the copying rests on.
 -- Assumes nothing.
-use Prim.Native.Nat.{ℕ, zero, suc, _+_, _*_, _≤_}
+use Prim.Native.Nat.{ℕ, _+_, _*_, _≤_}
 use mathlib.Core.Path.{_≡_}
 use mathlib.Core.List.{List, [], map}
 use lib.ListN.{length, take, drop, replicate}
@@ -10,12 +10,12 @@ use Rattle.array.specs.Limits.{mostCells, mostDepth, mostSize}
 use Rattle.array.specs.Lists.{pieces}
 use Rattle.array.specs.Kind.{Masks, Order, fixed, ragged, atStart, ordered}
 use Rattle.array.specs.Offsets.{slicesFrom}
-use Rattle.array.specs.Content.{Content, unmasked, layout}
+use Rattle.array.specs.Content.{Content, layout}
 use Rattle.codec.specs.Mask.{MaskForm, maskForm}
 use Rattle.stored.specs.declared.vlen.Index.{Index}
 use Rattle.stored.specs.Walk.{valuesAt, walked}
 use Rattle.stored.specs.Stored.{cellsFrom, MasksWithin, innermostCount}
-use Rattle.stored.specs.Index.{offsetsIn, raggedAt, IndexWithin}
+use Rattle.stored.specs.Index.{offsetsIn, IndexWithin}
 use Rattle.decode.specs.declared.fixed.Found.{Found}
 
 -- the limits, checked before anything is read
@@ -42,16 +42,12 @@ pub record FixedWithin (x : Masks) (size d : ℕ) (s : List ℕ) (n : ℕ) (f : 
   pub count : f .cells ≡ innermostCount (maskForm x) d s n
   pub room : f .at + f .cells * size ≤ length s
 
--- ---- ragged values with the index i that was found: below masks they lie end to end, and with no mask they are as they are stored
+-- ---- ragged values below masks, with the index i that was found: they lie end to end
 
 unfoldable pub nestedFrom : MaskForm → ℕ → ℕ → List ℕ → ℕ → Index → Content
 nestedFrom mf w d s n i =
     layout (ragged w atStart) d
     (cellsFrom mf [] d s 0 n (slicesFrom (i .first) (offsetsIn w (i .cells) (drop (i .index + w) s)) (take (i .last) (drop (i .from) s))))
-
-unfoldable pub raggedFrom : MaskForm → ℕ → ℕ → List ℕ → ℕ → Index → Content
-raggedFrom mf w zero s n i = unmasked (raggedAt w s i)
-raggedFrom mf w (suc d) s n i = nestedFrom mf w (suc d) s n i
 
 pub record RaggedWithin (x : Masks) (w d : ℕ) (s : List ℕ) (n : ℕ) (i : Index) : Type 0 where
   pub limits : Limited d n

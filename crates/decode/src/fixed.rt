@@ -1,9 +1,9 @@
 // Arrays of fixed values: the walk, then the need, and then the copying. They have no offsets: what is lent for them stays.
+use crate::plain::read_plain;
 use array::answer::WrittenArray;
 use array::kind::ByteOrder;
 use array::kind::Kind;
 use array::refusal;
-use endian::cells::copy_cells;
 use planes::place_planes;
 use spread::values::spread_values;
 use stored::optional::Walked;
@@ -38,7 +38,8 @@ fn write_fixed(
     masks: &mut [u8],
     values: &mut [u8],
 ) -> WrittenArray
-    requires { ⌜ FixedWithin (masksOf (kind .masks)) size (kind .depth) (now s) n found ⌝ }
+    requires within { ⌜ FixedWithin (masksOf (kind .masks)) size (kind .depth) (now s) n found ⌝ }
+    requires deep { ⌜ 1 ≤ kind .depth ⌝ }
     ensures { λ r. ⌜ ((offsets : List ℕ) → outcomeArray r (now (masks .exit)) (now (values .exit)) offsets
         ≡ readOutcome (contentArray (now (masks .entry)) (now (values .entry)) offsets)
         (gives (fixedFrom (maskForm (masksOf (kind .masks))) size (orderOf order) (kind .depth) (now (s .entry)) n found))) ⌝ }
@@ -54,10 +55,6 @@ fn write_fixed(
     }
     if values.len() < bytes {
         return WrittenArray::Refused(refusal::OUTPUT);
-    }
-    if depth == 0 {
-        copy_cells(values, 0, s, at, size, order, cells);
-        return WrittenArray::Lengths(planes, bytes, 0);
     }
     place_planes(form, masks, n, depth, s);
     spread_values(values, masks, planes - n, n, s, at, size, order, cells);
@@ -75,7 +72,8 @@ fn write_found(
     masks: &mut [u8],
     values: &mut [u8],
 ) -> WrittenArray
-    requires { ⌜ FixedFound (masksOf (kind .masks)) size (kind .depth) (now s) n found ⌝ }
+    requires found { ⌜ FixedFound (masksOf (kind .masks)) size (kind .depth) (now s) n found ⌝ }
+    requires deep { ⌜ 1 ≤ kind .depth ⌝ }
     ensures { λ r. ⌜ ((offsets : List ℕ) → outcomeArray r (now (masks .exit)) (now (values .exit)) offsets
         ≡ readOutcome (contentArray (now (masks .entry)) (now (values .entry)) offsets)
         (readIn (maskForm (masksOf (kind .masks))) (fixed size (orderOf order)) (kind .depth) n (now (s .entry)))) ⌝ }
@@ -86,7 +84,7 @@ fn write_found(
     write_fixed(kind, size, order, n, s, found, masks, values)
 }
 
-// Reads an array of n cells of a fixed size. With no mask there is nothing to walk.
+// Reads an array of n cells of a fixed size.
 pub fn decode_fixed(
     kind: Kind,
     size: usize,
@@ -104,16 +102,7 @@ pub fn decode_fixed(
     let form = kind.masks;
     let depth = kind.depth as usize;
     if depth == 0 {
-        return write_found(
-            kind,
-            size,
-            order,
-            n,
-            s,
-            Found { at: 0, cells: n },
-            masks,
-            values,
-        );
+        return read_plain(size, order, n, s, values);
     }
     let walk = walk_content(form, s, 0, n, depth);
     match walk {

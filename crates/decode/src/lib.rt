@@ -1,5 +1,6 @@
 // Reading a stored array into lent masks, values and offsets: the public call `decode`.
 mod fixed;
+mod plain;
 mod ragged;
 
 use array::answer::WrittenArray;

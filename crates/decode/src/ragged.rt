@@ -19,7 +19,7 @@ ghost use mathlib.Core.List.{List};
 ghost use Prim.Native.Nat.{ℕ, _≤_};
 ghost use Rattle.array.specs.Answer.{gives};
 ghost use Rattle.array.specs.Limits.{mostCells};
-ghost use Rattle.array.specs.Kind.{ragged};
+ghost use Rattle.array.specs.Kind.{Masks, ragged};
 ghost use Rattle.array.specs.Content.{unmasked};
 ghost use Rattle.array.specs.Meaning.{widthOf, placeOf, masksOf};
 ghost use Rattle.array.specs.Outcome.{contentArray, outcomeArray};
@@ -27,7 +27,7 @@ ghost use Rattle.codec.specs.Mask.{maskForm};
 ghost use Rattle.codec.specs.Calls.{readIn};
 ghost use Rattle.stored.specs.Index.{raggedAt, IndexWithin};
 ghost use Rattle.decode.specs.Outcomes.{readOutcome};
-ghost use Rattle.decode.specs.Reads.{Limited, nestedFrom, raggedFrom, RaggedWithin};
+ghost use Rattle.decode.specs.Reads.{Limited, nestedFrom, RaggedWithin};
 
 // Values with no mask: offsets and bytes just as they are. What is lent for masks stays.
 fn write_flat(
@@ -98,26 +98,23 @@ fn write_nested(
     WrittenArray::Lengths(planes, bytes, count)
 }
 
-// Writes what the walk and the check found.
-fn write_ragged(
-    kind: Kind,
+// Reads n ragged values with no mask: there is nothing to walk.
+fn read_flat(
     width: IndexWidth,
+    place: IndexPlace,
     n: usize,
     s: &[u8],
-    found: Index,
-    masks: &mut [u8],
     values: &mut [u8],
     offsets: &mut [u64],
 ) -> WrittenArray
-    requires { ⌜ RaggedWithin (masksOf (kind .masks)) (widthOf width) (kind .depth) (now s) n found ⌝ }
-    ensures { λ r. ⌜ outcomeArray r (now (masks .exit)) (now (values .exit)) (now (offsets .exit))
-        ≡ readOutcome (contentArray (now (masks .entry)) (now (values .entry)) (now (offsets .entry)))
-        (gives (raggedFrom (maskForm (masksOf (kind .masks))) (widthOf width) (kind .depth) (now (s .entry)) n found)) ⌝ }
+    requires { ⌜ n ≤ mostCells ⌝ }
+    ensures { λ r. ⌜ ((x : Masks) (masks : List ℕ) → outcomeArray r masks (now (values .exit)) (now (offsets .exit))
+        ≡ readOutcome (contentArray masks (now (values .entry)) (now (offsets .entry))) (readIn (maskForm x) (ragged (widthOf width) (placeOf place)) 0 n (now (s .entry)))) ⌝ }
 {
-    if kind.depth == 0 {
-        write_flat(width, s, found, values, offsets)
-    } else {
-        write_nested(kind, width, n, s, found, masks, values, offsets)
+    let checked = check_ragged(s, 0, n, width, place);
+    match checked {
+        Indexed::Refused(e) => WrittenArray::Refused(e),
+        Indexed::Found(found) => write_flat(width, s, found, values, offsets),
     }
 }
 
@@ -138,7 +135,11 @@ pub fn decode_ragged(
         (readIn (maskForm (masksOf (kind .masks))) (ragged (widthOf width) (placeOf place)) (kind .depth) n (now (s .entry))) ⌝ }
 {
     let form = kind.masks;
-    let walk = walk_content(form, s, 0, n, kind.depth as usize);
+    let depth = kind.depth as usize;
+    if depth == 0 {
+        return read_flat(width, place, n, s, values, offsets);
+    }
+    let walk = walk_content(form, s, 0, n, depth);
     match walk {
         Walked::Refused(e) => WrittenArray::Refused(e),
         Walked::NoneSet => {
@@ -156,7 +157,7 @@ pub fn decode_ragged(
             match checked {
                 Indexed::Refused(e) => WrittenArray::Refused(e),
                 Indexed::Found(found) => {
-                    write_ragged(kind, width, n, s, found, masks, values, offsets)
+                    write_nested(kind, width, n, s, found, masks, values, offsets)
                 }
             }
         }

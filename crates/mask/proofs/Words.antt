@@ -9,8 +9,9 @@ use native.Mathlib.Numerals.{add-one}
 use mathlib.Core.Bool.{Bool, true, false}
 use mathlib.Core.List.{List, [], _∷_, _++_, map, append-nil, append-assoc}
 use lib.ListN.{length, getD, take, drop, replicate, length-append, length-map, length-drop, length-replicate, drop-of-length-le, take-append-drop}
-use lib.Seq.{take-append-le, drop-append-le, take-append-add, length-take-le, drop-cons, drop-drop, drop-at, getD-take, getD-drop}
+use lib.Seq.{take-take, take-append-le, drop-append-le, take-append-add, length-take-le, drop-cons, drop-drop, drop-at, getD-take, getD-drop}
 use lib.Dec.{leb}
+use lib.Bits.{bitAnd}
 use borrow.Author.Tests.{leb-true, leb-false}
 use Rattle.array.specs.Lists.{All, from, pieces}
 use Rattle.array.specs.Bytes.{digits, number, le, unle}
@@ -27,7 +28,10 @@ use Rattle.mask.proofs.Said.{bits-append, said-packed}
 
 -- ---- packing
 
-packs : map (λ x. packedWord (number 256 (digits 2 8 x))) (from 0 256) ≡ from 0 256
+abbrev halves : List ℕ → ℕ
+halves bs = packedWord (number 256 (take 4 bs)) (number 256 (take 4 (drop 4 bs)))
+
+packs : map (λ x. halves (digits 2 8 x)) (from 0 256) ≡ from 0 256
 packs = refl
 
 -- bits make a number below the power of two
@@ -35,21 +39,19 @@ number-below : (bs : List ℕ) → All (λ b. b < 2) bs → number 2 bs < 2 ^ le
 number-below [] p = rw pow-zero (zero-lt-suc 0)
 number-below (b ∷ bs) p = let l : number 2 bs < 2 ^ length bs = number-below bs (p .1) in rw pow-suc (omega (arith, p .0))
 
-pub word-packed : (bs : List ℕ) → length bs ≡ 8 → All (λ b. b < 2) bs → packedWord (unle bs) ≡ number 2 bs
+pub word-packed : (bs : List ℕ) → length bs ≡ 8 → All (λ b. b < 2) bs → packedWord (unle (take 4 bs)) (unle (take 4 (drop 4 bs))) ≡ number 2 bs
 unfolding unle
 word-packed bs l p =
     let x : ℕ = number 2 bs in
     let few : x < 256 = rw l at (number-below bs p) in
     let bits : digits 2 8 x ≡ bs = ap (λ (k : ℕ). digits 2 k x) (sym l) ∙ digits-number 2 (zero-lt-suc 1) bs p in
-    ap (λ (ds : List ℕ). packedWord (number 256 ds)) (sym bits)
-    ∙ sym (entry (λ i. packedWord (number 256 (digits 2 8 i))) 0 (from 0 256) 256 (sym packs) x few) ∙ entry (λ i. i) 0 (from 0 256) 256 (sym (map-id (from 0 256))) x few
+    ap halves (sym bits)
+    ∙ sym (entry (λ i. halves (digits 2 8 i)) 0 (from 0 256) 256 (sym packs) x few) ∙ entry (λ i. i) 0 (from 0 256) 256 (sym (map-id (from 0 256))) x few
 
 -- ---- reading
 
 abbrev eightOf : ℕ → ℕ
-eightOf v =
-    v % 2 + 256 * (v / 2 % 2) + 65536 * (v / 4 % 2) + 16777216 * (v / 8 % 2)
-    + 4294967296 * (v / 16 % 2 + 256 * (v / 32 % 2) + 65536 * (v / 64 % 2) + 16777216 * (v / 128 % 2))
+eightOf b = bitAnd ((bitAnd (b * 72340172838076673) 9241421688590303745 + 9187201950435737471) / 128) 72340172838076673
 
 eight : map (λ b. digits 256 8 (eightOf b)) (from 0 256) ≡ map (digits 2 8) (from 0 256)
 eight = refl
@@ -127,15 +129,19 @@ module _ (block : List ℕ) (count : ℕ) (p : All (λ b. b < 2) block) (h : cou
   abbrev pub wordsFrom : ℕ → List ℕ
   wordsFrom i = map (number 2) (pieces 8 (count - i) (drop (i * 8) block))
 
-  pub words-next : (i : ℕ) → i < count → wordsFrom i ≡ packedWord (unle (take 8 (drop (i * 8) block))) ∷ wordsFrom (i + 1)
+  pub words-next : (i : ℕ) → i < count
+      → wordsFrom i ≡ packedWord (unle (take 4 (drop (i * 8) block))) (unle (take 4 (drop (i * 8 + 4) block))) ∷ wordsFrom (i + 1)
   words-next i l =
       let k : count - i ≡ suc (count - (i + 1)) = omega arith in
       let e : i * 8 + 8 ≡ (i + 1) * 8 = omega arith in
       let bs : List ℕ = take 8 (drop (i * 8) block) in
+      let low : take 4 bs ≡ take 4 (drop (i * 8) block) = take-take 4 8 (drop (i * 8) block) (omega arith) in
+      let high : take 4 (drop 4 bs) ≡ take 4 (drop (i * 8 + 4) block) = take-within 4 4 8 (drop (i * 8) block) (omega arith) ∙ ap (take 4) (drop-drop 4 (i * 8) block) in
       ap (λ (j : ℕ). map (number 2) (pieces 8 j (drop (i * 8) block))) k
       ∙ ap₂ (λ (x : ℕ) (r : List ℕ). x ∷ map (number 2) (pieces 8 (count - (i + 1)) r))
       (sym (word-packed bs (length-take-le 8 (drop (i * 8) block) (omega (arith, length-drop (i * 8) block)))
-      (All-take (λ b. b < 2) 8 (drop (i * 8) block) (All-drop (λ b. b < 2) (i * 8) block p))))
+      (All-take (λ b. b < 2) 8 (drop (i * 8) block) (All-drop (λ b. b < 2) (i * 8) block p)))
+      ∙ ap₂ (λ (a b : List ℕ). packedWord (unle a) (unle b)) low high)
       (drop-drop 8 (i * 8) block ∙ ap (λ (j : ℕ). drop j block) e)
 
   pub words-end : (i : ℕ) → count ≤ i → wordsFrom i ≡ []

@@ -23,6 +23,6 @@ abbrev pub toldCounted : counts.Counted → Answer ℕ
 toldCounted (counts.Counted.Cells k) = gives k
 toldCounted (counts.Counted.Refused e) = refuses e
 
--- the byte whose bits are the bytes of v, where these are 0 or 1: proofs/Words has that law
-abbrev pub packedWord : ℕ → ℕ
-packedWord v = v % 4294967296 * 16909320 / 16777216 % 16 + 16 * (v / 4294967296 * 16909320 / 16777216 % 16)
+-- the byte whose bits are the bytes of two halves of four, where these are 0 or 1: proofs/Words has that law
+abbrev pub packedWord : ℕ → ℕ → ℕ
+packedWord low high = (low % 4294967296 + 16 * (high % 4294967296)) * 16909320 / 16777216 % 256

@@ -9,14 +9,12 @@ ghost use Rattle.array.specs.Bytes.{digits, le};
 ghost use Rattle.codec.specs.Mask.{bytesFor, bitsOf, packedMask};
 ghost use Rattle.mask.specs.Marks.{saidMask};
 
-// The eight mask bytes that b says, as the number whose bytes they are.
+// The eight mask bytes that b says, as the number whose bytes they are: byte i of the product keeps bit i of b, and becomes 1 where that is set.
 fn eight_bytes(b: u8) -> u64
     ensures { λ r. ⌜ le 8 r ≡ digits 2 8 b ⌝ }
 {
-    let v = b as u64;
-    let low = v % 2 + 256 * (v / 2 % 2) + 65536 * (v / 4 % 2) + 16777216 * (v / 8 % 2);
-    let high = v / 16 % 2 + 256 * (v / 32 % 2) + 65536 * (v / 64 % 2) + 16777216 * (v / 128 % 2);
-    low + 4294967296 * high
+    let bits = b as u64 * 72340172838076673 & 9241421688590303745;
+    (bits + 9187201950435737471) / 128 & 72340172838076673
 }
 
 // The cells of whole bytes.

@@ -2,7 +2,7 @@
 -- Assumes nothing.
 use mathlib.Core.Path.{_≡_, refl, sym, ap, ap₂, _∙_, subst}
 use mathlib.Core.Logic.{_≢_}
-use mathlib.Core.List.{List, [], _∷_, _++_}
+use mathlib.Core.List.{List, [], _∷_, _++_, append-nil}
 use Prim.Native.Nat.{ℕ, zero, suc, _+_, _-_, _*_, _≤_}
 use native.Mathlib.Omega.{arith}
 use native.Mathlib.Nat.{suc-mul, zero-mul}
@@ -39,6 +39,14 @@ module _ {x : Masks} {d : List ℕ} {n depth : ℕ} {s : List ℕ} (p : PlanesWi
 
   long : length (maskIn (maskForm x) s 0 n) ≡ n
   long = mask-long x first-mask
+
+  -- one level is the first plane
+  pub planes-one : depth ≡ 1 → (out : List ℕ) → out ≡ overAt 0 (saidMask (maskForm x) s 16 n) d → out ≡ over (planesIn (maskForm x) s n (depth - 1)) d
+  unfolding planesBelow storedMasks
+  planes-one e out eo =
+      let none : depth - 1 ≡ 0 = omega arith in
+      let m : List ℕ = maskIn (maskForm x) s 0 n in
+      eo ∙ ap (λ (q : List ℕ). over q d) (sym (ap (planesIn (maskForm x) s n) none ∙ append-nil m))
 
   -- z is the mask's length, `out` has the first plane, and `set` counts it
   module _ {z : ℕ} (ez : z ≡ maskForm x .size n) {out : List ℕ} (eo : out ≡ overAt 0 (saidMask (maskForm x) s 16 n) d)

@@ -66,6 +66,11 @@ module _ (mf : MaskForm) where
       ap (λ (j : ℕ). spread 0 p (maskIn mf s at n) ++ planesBelow mf (spread 0 p (maskIn mf s at n)) j s (contentAt mf at n) (countSet (maskIn mf s at n)))
       (sym (sub-one (suc d)))
 
+  below-last : (left : ℕ) (p s : List ℕ) (at n : ℕ) → left ≡ 1 → planesBelow mf p left s at n ≡ spread 0 p (maskIn mf s at n)
+  unfolding planesBelow storedMasks
+  below-last left p s at n e =
+      ap (λ (k : ℕ). planesBelow mf p k s at n) e ∙ append-nil (spread 0 p (maskIn mf s at n))
+
   -- ---- masks within the bytes
 
   pub within-now : (left : ℕ) (s : List ℕ) (at n : ℕ) → MasksWithin mf left s at n → left ≢ 0 → n ≢ 0 → MaskPassed mf s at n
@@ -107,6 +112,11 @@ module _ {x : Masks} {d : List ℕ} {n to left : ℕ} {s : List ℕ} {at cells :
       planes = record { apart = omega (arith, l .above); room = omega (arith, levels-fits); count = l .count };
       stored = omega (arith, levels-mask .room);
     }
+
+    -- the last level is its plane
+    pub levels-last : left ≡ 1 → (out : List ℕ) → out ≡ overAt to (spread 0 (take n (drop (to - n) d)) (maskIn (maskForm x) s at cells)) d
+        → out ≡ overAt to (planesBelow (maskForm x) (take n (drop (to - n) d)) left s at cells) d
+    levels-last e out eo = eo ∙ ap (λ (q : List ℕ). overAt to q d) (sym (below-last (maskForm x) left (take n (drop (to - n) d)) s at cells e))
 
     -- z is the mask's length, `out` has the next plane, and `set` counts its mask
     module _ {z : ℕ} (ez : z ≡ maskForm x .size cells) {out : List ℕ} (eo : out ≡ overAt to (spread 0 (take n (drop (to - n) d)) (maskIn (maskForm x) s at cells)) d)

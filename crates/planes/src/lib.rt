@@ -84,6 +84,10 @@ fn place_levels(
     let mask = at + 16;
     let end = mask + mask_length(form, cells);
     place_plane(form, masks, to - n, to, n, s, mask, cells);
+    // no level below asks how many the last one sets
+    if left == 1 {
+        return;
+    }
     let set = count_stored(form, s, mask, cells);
     place_levels(form, masks, n, to + n, left - 1, s, end, set);
 }
@@ -95,6 +99,9 @@ pub fn place_planes(form: MaskForm, masks: &mut [u8], n: usize, depth: usize, s:
 {
     let end = 16 + mask_length(form, n);
     copy_to_plane(form, masks, 0, s, 16, n);
+    if depth == 1 {
+        return;
+    }
     let set = count_stored(form, s, 16, n);
     place_levels(form, masks, n, n, depth - 1, s, end, set);
 }

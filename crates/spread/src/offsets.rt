@@ -9,9 +9,9 @@ use mask::mark::mark_of;
 ghost use mathlib.Core.Path.{_≡_};
 ghost use mathlib.Core.List.{_∷_};
 ghost use Prim.Native.Nat.{suc, _+_, _*_, _≤_};
-ghost use lib.ListN.{length, take, drop};
+ghost use lib.ListN.{length, take, drop, replicate};
 ghost use Rattle.array.specs.Lists.{All};
-ghost use Rattle.array.specs.Buffers.{over};
+ghost use Rattle.array.specs.Buffers.{over, overAt};
 ghost use Rattle.array.specs.Meaning.{widthOf};
 ghost use Rattle.codec.specs.Frame.{countSet};
 ghost use Rattle.stored.specs.Index.{offsetsIn};
@@ -32,6 +32,18 @@ pub fn copy_offsets(offsets: &mut [u64], s: &[u8], at: usize, n: usize, width: I
         j += w;
         i += 1;
         left -= 1;
+    }
+}
+
+// The offset behind the last set cell, for the `count` from `to` on. Where it is 0, zeros go as bytes do, which is faster.
+fn fill_ends(offsets: &mut [u64], to: usize, count: usize, end: u64)
+    requires { ⌜ to + count ≤ length (now offsets) ⌝ }
+    ensures { λ _. ⌜ now (offsets .exit) ≡ overAt to (replicate count end) (now (offsets .entry)) ⌝ }
+{
+    if end == 0 {
+        fill_numbers(offsets, to, count, 0);
+    } else {
+        fill_numbers(offsets, to, count, end);
     }
 }
 
@@ -65,5 +77,5 @@ pub fn spread_offsets(
         k = skip(mark, k, 1);
         i += 1;
     }
-    fill_numbers(offsets, i, n + 1 - i, end);
+    fill_ends(offsets, i, n + 1 - i, end);
 }

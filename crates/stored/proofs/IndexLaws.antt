@@ -3,7 +3,7 @@
 -- Assumes nothing.
 use mathlib.Core.Path.{_≡_, refl, sym, ap, ap₂, _∙_}
 use mathlib.Core.List.{List, [], _∷_, map}
-use mathlib.Core.Bool.{Bool, true, false, not, _&&_}
+use mathlib.Core.Bool.{Bool, true, false, not, _&&_, and-true}
 use Prim.Native.Nat.{ℕ, zero, suc, _+_, _-_, _*_, _≤_, _<_}
 use native.Mathlib.Omega.{arith}
 use native.Mathlib.Nat.{suc-mul, zero-mul, mul-comm}
@@ -71,6 +71,12 @@ module _ {w n : ℕ} {s : List ℕ} {at prev p left : ℕ} (r : Rises w n s at p
     room = omega (arith, rises-room);
     rest = next-is next e ∙ ap (λ (b : Bool). b && risingFromTest next (offsetsIn w (left - 1) (drop (p + w + w) s))) (le-leb prev next f);
   }
+
+  -- with one left, its offset decides
+  pub rises-last : (next : ℕ) → next ≡ unle (take w (drop (p + w) s)) → left ≡ 1 → leb prev next ≡ risingTest (offsetsIn w (suc n) (drop at s))
+  rises-last next e f =
+      let none : left - 1 ≡ 0 = omega arith in
+      sym (next-is next e ∙ ap (λ (k : ℕ). leb prev next && risingFromTest next (offsetsIn w k (drop (p + w + w) s))) none ∙ and-true (leb prev next))
 
 pub rises-end : {w n : ℕ} {s : List ℕ} {at prev p left : ℕ} → Rises w n s at prev p left → left ≡ 0 → true ≡ risingTest (offsetsIn w (suc n) (drop at s))
 rises-end {w} {n} {s} {at} {prev} {p} {left} r e = sym (r .rest ∙ ap (λ (k : ℕ). risingFromTest prev (offsetsIn w k (drop (p + w) s))) e)

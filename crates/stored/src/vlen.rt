@@ -47,7 +47,7 @@ fn index_length(n: usize, width: IndexWidth) -> usize
     w + n * w
 }
 
-// Whether the n + 1 offsets from `at` on never fall.
+// Whether the n + 1 offsets from `at` on never fall. Two a turn: a shorter loop is as fast only where it lies within one line of 64 bytes.
 fn never_falls(s: &[u8], at: usize, n: usize, width: IndexWidth) -> bool
     requires { ⌜ at + (widthOf width + n * widthOf width) ≤ length (now s) ⌝ }
     ensures { λ r. ⌜ r ≡ risingTest (offsetsIn (widthOf width) (suc n) (drop at (now (s .entry)))) ⌝ }
@@ -56,16 +56,23 @@ fn never_falls(s: &[u8], at: usize, n: usize, width: IndexWidth) -> bool
     let mut prev = le_at(s, at, width);
     let mut p = at;
     let mut left = n;
-    while 0 < left {
+    while 1 < left {
         p += w;
         let next = le_at(s, p, width);
         if next < prev {
             return false;
         }
-        prev = next;
-        left -= 1;
+        p += w;
+        prev = le_at(s, p, width);
+        if prev < next {
+            return false;
+        }
+        left -= 2;
     }
-    true
+    if left == 0 {
+        return true;
+    }
+    prev <= le_at(s, p + w, width)
 }
 
 // With a last offset of 0 the data is not looked at.

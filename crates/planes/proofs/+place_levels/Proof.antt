@@ -12,7 +12,7 @@ use Rattle.codec.specs.Mask.{maskForm}
 use Rattle.mask.proofs.form.count_stored.Reads as count-stored-reads
 use Rattle.mask.proofs.form.mask_length.Reads as mask-length-reads
 use Rattle.stored.specs.Stored.{MaskPassed}
-use Rattle.planes.proofs.Levels.{levels-none, levels-null, levels-mask, levels-fits, levels-plane, levels-next, levels-done}
+use Rattle.planes.proofs.Levels.{levels-none, levels-null, levels-mask, levels-fits, levels-plane, levels-last, levels-next, levels-done}
 use Rattle.planes.proofs.place_levels.Reads as place-levels
 use Rattle.planes.proofs.place_levels.Kinds as place-levels-kinds
 use Rattle.planes.proofs.+place_levels.Lts-place_levels as lts
@@ -73,7 +73,7 @@ module _ (t : ℕ) where
   left c = c .before .before .before
 
   abbrev laid : Counted → Laid
-  laid c = c .before .before .before
+  laid c = c .before .before .before .before
 
   abbrev counted : lts.After-slice-known4 (claims t) (place-levels-at t) place-levels.Post → Counted
   counted c = c .before .before .before .before
@@ -117,7 +117,7 @@ module _ (t : ℕ) where
 
   count-stored-requires : lts.Need-count-stored-requires (claims t) (place-levels-at t) place-levels.Post
   count-stored-requires c κs =
-      let some = left (c .before .before) in
+      let some = left (c .before .before .before) in
       (omega (arith, mask some .room), mask some .passed)
 
   add-place-levels : lts.Need-add-place-levels (claims t) (place-levels-at t) place-levels.Post
@@ -133,6 +133,12 @@ module _ (t : ℕ) where
 
   returns-3 : lts.Need-returns-3 (claims t) (place-levels-at t) place-levels.Post
   returns-3 c =
+      let here = c .before .before .before in
+      let some = left here in
+      levels-last (entry some .pre .1) (some .before .if1 .left) (some .if2 .left) (c .if3 .taken) _ (here .place-plane .ensures)
+
+  returns-4 : lts.Need-returns-4 (claims t) (place-levels-at t) place-levels.Post
+  returns-4 c =
       let here = laid (counted c) in
       let some = left here in
       levels-done (entry some .pre .1) (some .before .if1 .left) (some .if2 .left) (here .before .before .mask-length .ensures) (here .place-plane .ensures) (counted c .count-stored .ensures) _
@@ -150,9 +156,11 @@ pub +place-levels-spec : {M : Type 1} → statement M
     (add-end t)
     (sub-place-plane t)
     (place-plane-requires t)
+    (λ c. search needs)
+    (returns-3 t)
     (count-stored-requires t)
     (add-place-levels t)
     (λ c. search needs)
     (place-levels-requires t)
     (λ c. search needs)
-    (returns-3 t)
+    (returns-4 t)

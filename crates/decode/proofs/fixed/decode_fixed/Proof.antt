@@ -1,11 +1,12 @@
 -- `decode_fixed` meets its contract: the reader's answer by the walk (FixedLaws), and what the copying rests on.
 -- Assumes nothing.
 use mathlib.Core.Path.{_≡_, sym, ap, _∙_}
+use native.Mathlib.Omega.{arith}
 use borrow.Author.Needs.{needs}
 use Rattle.array.specs.Meaning.{orderOf, masksOf}
 use Rattle.codec.specs.Mask.{maskForm}
 use Rattle.stored.specs.Walk.{walked, toldWalk}
-use Rattle.decode.proofs.FixedLaws.{walk-flat, none-within, fixed-refused, fixed-none}
+use Rattle.decode.proofs.FixedLaws.{none-within, fixed-refused, fixed-none}
 use Rattle.decode.proofs.fixed.decode_fixed.Statement.{statement}
 use Rattle.decode.proofs.fixed.decode_fixed.Tie as tie
 
@@ -20,7 +21,7 @@ begun c = entry (c .before .before)
 abbrev none : tie.After-write-fixed-arg2 → tie.After-enum-told
 none c = c .before .before
 
-abbrev found : tie.After-write-found-arg4 → tie.After-walk2
+abbrev found : tie.After-write-found-arg2 → tie.After-walk2
 found c = c .before .before .before
 
 -- ---- the walk
@@ -31,29 +32,25 @@ walk-is c = sym (c .walk-content .ensures)
 
 -- ---- answers
 
-write-found-requires : tie.Need-write-found-requires
-write-found-requires c κs =
-    let flat = c .before .before in
-    let start = entry (flat .before) in
-    record {
-      limits = start .pre .0;
-      small = start .pre .1;
-      walk = walk-flat (maskForm (masksOf (start .args .kind .masks))) (start .args .kind .depth) (start .args .s .now) (start .args .n) (flat .if1 .taken);
-    }
-
 returns : tie.Need-returns
-returns c = c .before .before .before .before .write-found .ensures
+returns c =
+    let read = c .before .before in
+    let flat = read .before .before in
+    let a = entry (flat .before) .args in
+    λ offsets. rw (flat .if1 .taken) (read .read-plain .ensures (masksOf (a .kind .masks)) (a .masks .now) offsets)
 
 write-fixed-requires : tie.Need-write-fixed-requires
 write-fixed-requires c κs =
     let told = none c in
-    let walk = told .before .before in
-    none-within (masksOf (begun walk .args .kind .masks)) (begun walk .args .s .now) (begun walk .pre .0) (begun walk .pre .1) (walk-is walk ∙ ap toldWalk (told .enum-told .given .1))
+    let walk = told .before .before in (
+      none-within (masksOf (begun walk .args .kind .masks)) (begun walk .args .s .now) (begun walk .pre .0) (begun walk .pre .1) (walk-is walk ∙ ap toldWalk (told .enum-told .given .1)),
+      omega (arith, walk .before .if1 .left),
+    )
 
-write-found-requires-2 : tie.Need-write-found-requires-2
-write-found-requires-2 c κs =
+write-found-requires : tie.Need-write-found-requires
+write-found-requires c κs =
     let walk = found c .before .before in
-    record { limits = begun walk .pre .0; small = begun walk .pre .1; walk = walk-is walk ∙ ap toldWalk (found c .walk2 .given .1) }
+    (record { limits = begun walk .pre .0; small = begun walk .pre .1; walk = walk-is walk ∙ ap toldWalk (found c .walk2 .given .1) }, omega (arith, walk .before .if1 .left))
 
 returns-2 : tie.Need-returns-2
 returns-2 c =
@@ -72,15 +69,14 @@ returns-3 c =
     (wrote .write-fixed .ensures offsets)
 
 returns-4 : tie.Need-returns-4
-returns-4 c = c .before .before .before .before .write-found2 .ensures
+returns-4 c = c .before .before .before .before .write-found .ensures
 
 pub decode-fixed-spec : {M : Type 1} → statement M
 decode-fixed-spec =
     tie.close
     (tie.spec
     (λ c. search needs)
-    write-found-requires
-    (λ c. search needs)
+    (λ c κs. search needs)
     (λ c. search needs)
     returns
     (λ c κs. search needs)
@@ -88,7 +84,7 @@ decode-fixed-spec =
     (λ c. search needs)
     write-fixed-requires
     (λ c. search needs)
-    write-found-requires-2
+    write-found-requires
     returns-2
     (λ c. search needs)
     (λ c. search needs)

@@ -1,13 +1,12 @@
 -- `write_fixed` meets its contract, by the laws of FixedLaws.
 -- Assumes nothing.
-use mathlib.Core.Path.{ap}
-use Prim.Native.Nat.{ℕ, _*_}
+use mathlib.Core.Logic.{_≢_}
 use native.Mathlib.Omega.{arith}
 use borrow.Author.Needs.{needs}
 use Rattle.array.specs.Meaning.{orderOf}
 use Rattle.planes.proofs.Levels.{times-first}
 use Rattle.decode.proofs.Small.{planes-small, bytes-small}
-use Rattle.decode.proofs.FixedLaws.{flat-count, fixed-short-masks, fixed-short-values, flat-written, values-within, deep-written}
+use Rattle.decode.proofs.FixedLaws.{fixed-short-masks, fixed-short-values, values-within, deep-written}
 use Rattle.decode.proofs.fixed.write_fixed.Statement.{statement}
 use Rattle.decode.proofs.fixed.write_fixed.Tie as tie
 
@@ -20,63 +19,53 @@ entry c = c .before .before .before .before
 abbrev enough : tie.Else2 → tie.Start
 enough c = entry (c .before .before)
 
-abbrev deep : tie.After-place-planes → tie.Else3
-deep c = c .before .before
+abbrev long : tie.After-place-planes → tie.Else2
+long c = c .before .before
 
 abbrev placed : tie.After-spread-values-arg2 → tie.After-place-planes
 placed c = c .before .before .before .before
 
+-- ---- of the arguments
+
+deep : (c : tie.Start) → c .args .kind .depth ≢ 0
+deep c e = absurd (omega (arith, c .pre .1))
+
 -- ---- answers
 
 mul-planes : tie.Need-mul-planes
-mul-planes c = let l = entry c .pre .limits in omega (arith, planes-small (entry c .args .kind .depth) (entry c .args .n) (l .shallow) (l .few))
+mul-planes c = let l = entry c .pre .0 .limits in omega (arith, planes-small (entry c .args .kind .depth) (entry c .args .n) (l .shallow) (l .few))
 
 mul-bytes : tie.Need-mul-bytes
-mul-bytes c = omega (arith, bytes-small (entry c .args .n) (entry c .args .size) (entry c .pre .limits .few) (entry c .pre .small))
+mul-bytes c = omega (arith, bytes-small (entry c .args .n) (entry c .args .size) (entry c .pre .0 .limits .few) (entry c .pre .0 .small))
 
 returns : tie.Need-returns
-returns c = let a = entry (c .before) .args in fixed-short-masks (orderOf (a .order)) (entry (c .before) .pre) (a .masks .now) (a .values .now) (c .if1 .taken)
+returns c = let a = entry (c .before) .args in fixed-short-masks (orderOf (a .order)) (entry (c .before) .pre .0) (a .masks .now) (a .values .now) (c .if1 .taken)
 
 returns-2 : tie.Need-returns-2
 returns-2 c =
     let start = entry (c .before .before) in
-    fixed-short-values (orderOf (start .args .order)) (start .pre) (start .args .masks .now) (start .args .values .now) (c .if2 .taken)
-
-copy-cells-requires : tie.Need-copy-cells-requires
-copy-cells-requires c κs =
-    let long = c .before .before in
-    let start = enough long in
-    (omega (arith, long .if2 .left, ap (λ (j : ℕ). j * start .args .size) (flat-count (orderOf (start .args .order)) (start .pre) (c .before .if3 .taken))), start .pre .room)
-
-returns-3 : tie.Need-returns-3
-returns-3 c =
-    let flat = c .before .before .before .before in
-    let start = enough (flat .before) in
-    flat-written (orderOf (start .args .order)) (start .pre) (start .args .masks .now) (start .args .values .now) (flat .before .before .if1 .left) (flat .before .if2 .left) (flat .if3 .taken)
-    (c .before .before .copy-cells .ensures)
+    fixed-short-values (orderOf (start .args .order)) (start .pre .0) (start .args .masks .now) (start .args .values .now) (c .if2 .taken)
 
 sub-spread-values : tie.Need-sub-spread-values
 sub-spread-values c =
-    let here = deep (placed c) in
-    omega (arith, times-first (enough (here .before) .args .kind .depth) (enough (here .before) .args .n) (here .if3 .left))
+    let start = enough (long (placed c)) in
+    omega (arith, times-first (start .args .kind .depth) (start .args .n) (deep start))
 
 spread-values-requires : tie.Need-spread-values-requires
 spread-values-requires c κs =
     let planes = placed c .place-planes in
-    let here = deep (placed c) in
-    let long = here .before in
-    let start = enough long in
-    values-within (orderOf (start .args .order)) (start .pre) (start .args .masks .now) (start .args .values .now) (long .before .if1 .left) (long .if2 .left) (here .if3 .left)
+    let fits = long (placed c) in
+    let start = enough fits in
+    values-within (orderOf (start .args .order)) (start .pre .0) (start .args .masks .now) (start .args .values .now) (fits .before .if1 .left) (fits .if2 .left) (deep start)
     (planes .ensures) (planes .kept .1 .0)
 
-returns-4 : tie.Need-returns-4
-returns-4 c =
+returns-3 : tie.Need-returns-3
+returns-3 c =
     let spread = c .before .before in
     let planes = placed (spread .before) .place-planes in
-    let here = deep (placed (spread .before)) in
-    let long = here .before in
-    let start = enough long in
-    deep-written (orderOf (start .args .order)) (start .pre) (start .args .masks .now) (start .args .values .now) (long .before .if1 .left) (long .if2 .left) (here .if3 .left) (planes .ensures)
+    let fits = long (placed (spread .before)) in
+    let start = enough fits in
+    deep-written (orderOf (start .args .order)) (start .pre .0) (start .args .masks .now) (start .args .values .now) (fits .before .if1 .left) (fits .if2 .left) (deep start) (planes .ensures)
     (spread .spread-values .ensures)
 
 pub write-fixed-spec : {M : Type 1} → statement M
@@ -88,12 +77,9 @@ write-fixed-spec =
     mul-bytes
     returns
     returns-2
-    copy-cells-requires
-    (λ c. search needs)
-    returns-3
     (λ c κs. search needs)
     sub-spread-values
     spread-values-requires
     (λ c. search needs)
     (λ c. search needs)
-    returns-4)
+    returns-3)

@@ -1,6 +1,6 @@
 -- `mask::pack::pack_words` meets its contract. The invariant: the first i bytes lie there, and those of the other words are left.
 -- Assumes nothing.
-use mathlib.Core.Path.{_≡_, sym, ap, _∙_}
+use mathlib.Core.Path.{_≡_, sym, ap, ap₂, _∙_}
 use mathlib.Core.List.{List, [], _∷_, map}
 use Prim.Native.Nat.{ℕ, _+_, _-_, _*_, _≤_}
 use native.Mathlib.Omega.{arith}
@@ -47,11 +47,20 @@ loop-holds c =
     laying-begins want (a .out .now) (a .to) (omega (arith, start .pre .0, length-map (pieces 8 (a .count) (a .block .now)) (number 2), length-pieces 8 (a .count) (a .block .now))) in
     (omega arith, laying-is begins (sym (ap (λ (k : ℕ). map (number 2) (pieces 8 k (a .block .now))) (sub-zero (a .count)))))
 
-mul-le8-at : tie.Need-mul-le8-at Inv-loop μ-loop
-mul-le8-at c = omega arith
+mul-le4-at : tie.Need-mul-le4-at Inv-loop μ-loop
+mul-le4-at c = omega arith
 
-le8-at-requires : tie.Need-le8-at-requires Inv-loop μ-loop
-le8-at-requires c κs = omega arith
+le4-at-requires : tie.Need-le4-at-requires Inv-loop μ-loop
+le4-at-requires c κs = omega arith
+
+mul-le4-at-2 : tie.Need-mul-le4-at-2 Inv-loop μ-loop
+mul-le4-at-2 c = omega arith
+
+add-le4-at : tie.Need-add-le4-at Inv-loop μ-loop
+add-le4-at c = omega arith
+
+le4-at-requires-2 : tie.Need-le4-at-requires-2 Inv-loop μ-loop
+le4-at-requires-2 c κs = omega arith
 
 packed-word-requires : tie.Need-packed-word-requires Inv-loop μ-loop
 packed-word-requires c κs = search needs
@@ -60,7 +69,7 @@ add-out : tie.Need-add-out Inv-loop μ-loop
 add-out c = omega arith
 
 slice-write-out : tie.Need-slice-write-out Inv-loop μ-loop
-slice-write-out c = omega (arith, same (c .before .before .before))
+slice-write-out c = omega (arith, same (c .before .before .before .before))
 
 add-i : tie.Need-add-i Inv-loop μ-loop
 add-i c = omega arith
@@ -70,12 +79,14 @@ loop-less c = omega arith
 
 loop-again : tie.Need-loop-again Inv-loop μ-loop
 loop-again c =
-    let head = c .before .before .before in
+    let head = c .before .before .before .before in
     let start = begun head in
     let a = start .args in
     let i : ℕ = head .loop .i in
     let rest : List ℕ = bytesFrom (a .block .now) (a .count) (i + 1) in
-    let word : packedWord (unle (take 8 (drop (i * 8) (a .block .now)))) ≡ c .packed-word .result = ap packedWord (sym (c .before .le8-at .ensures)) ∙ sym (c .packed-word .ensures) in
+    let block : List ℕ = a .block .now in
+    let word : packedWord (unle (take 4 (drop (i * 8) block))) (unle (take 4 (drop (i * 8 + 4) block))) ≡ c .packed-word .result =
+    ap₂ packedWord (sym (c .before .before .le4-at .ensures)) (sym (c .before .le4-at2 .ensures)) ∙ sym (c .packed-word .ensures) in
     let next : bytesFrom (a .block .now) (a .count) i ≡ c .packed-word .result ∷ rest =
     words-next (a .block .now) (a .count) (start .pre .2) (start .pre .1) i (omega arith) ∙ ap (λ (b : ℕ). b ∷ rest) word in
     (omega arith, laying-store (map (number 2) (pieces 8 (a .count) (a .block .now))) (a .out .now) (a .to) (head .loop .out) i (c .packed-word .result) rest (laying-is (head .loop .inv .1) next))
@@ -98,8 +109,11 @@ pack-words-spec =
     Inv-loop
     μ-loop
     loop-holds
-    mul-le8-at
-    le8-at-requires
+    mul-le4-at
+    le4-at-requires
+    mul-le4-at-2
+    add-le4-at
+    le4-at-requires-2
     packed-word-requires
     add-out
     slice-write-out

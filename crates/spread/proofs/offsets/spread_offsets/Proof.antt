@@ -106,22 +106,22 @@ loop-again c =
     rw (c .skip .ensures) (ends-more (loop .inv) (c .before .before .before .before .before .loop-test .taken) (toldMark (c .before .before .mark-of .result)) (mark-is (c .before .before)) (c .before .number-if .result)
     (c .before .number-if .ensures ∙ ap (λ (e : ℕ). ifSet (toldMark (c .before .before .mark-of .result)) (e - c .before .before .before .before .before .before .before .before .before .before .before .args .first) (loop .end)) (end-is (c .before .before .before .before))))
 
-add-fill-numbers : tie.Need-add-fill-numbers Inv-loop μ-loop
-add-fill-numbers c = omega (arith, c .before .before .before .before .before .before .before .pre .1)
+add-fill-ends : tie.Need-add-fill-ends Inv-loop μ-loop
+add-fill-ends c = omega (arith, c .before .before .before .before .before .before .before .pre .1)
 
-sub-fill-numbers : tie.Need-sub-fill-numbers Inv-loop μ-loop
-sub-fill-numbers c = omega (arith, (long (c .before .before .before .before .before .before .before)), c .before .before .loop .inv .within)
+sub-fill-ends : tie.Need-sub-fill-ends Inv-loop μ-loop
+sub-fill-ends c = omega (arith, (long (c .before .before .before .before .before .before .before)), c .before .before .loop .inv .within)
 
-fill-numbers-requires : tie.Need-fill-numbers-requires Inv-loop μ-loop
-fill-numbers-requires c κs = omega (arith, (long (c .before .before .before .before .before .before .before)), (same (c .before .before)), c .before .before .loop .inv .within, c .before .before .before .before .before .before .before .pre .1)
+fill-ends-requires : tie.Need-fill-ends-requires Inv-loop μ-loop
+fill-ends-requires c κs = omega (arith, (long (c .before .before .before .before .before .before .before)), (same (c .before .before)), c .before .before .loop .inv .within, c .before .before .before .before .before .before .before .pre .1)
 
 same-length : tie.Need-same-length Inv-loop μ-loop
-same-length c = c .before .before .fill-numbers .kept .0 ∙ (same (c .before .before .before .before .before))
+same-length c = c .before .before .fill-ends .kept .0 ∙ (same (c .before .before .before .before .before))
 
 returns : tie.Need-returns Inv-loop μ-loop
 returns c =
     let args = c .before .before .before .before .before .before .before .before .before .before .args in
-    ends-end (c .before .before .before .before .before .loop .inv) (c .before .before .before .before .loop-test .left) (args .n) (long (c .before .before .before .before .before .before .before .before .before .before)) _ (c .before .before .fill-numbers .ensures)
+    ends-end (c .before .before .before .before .before .loop .inv) (c .before .before .before .before .loop-test .left) (args .n) (long (c .before .before .before .before .before .before .before .before .before .before)) _ (c .before .before .fill-ends .ensures)
     ∙ ap (λ (w : ℕ). over (endsOf w (args .first) (planeAt (args .from) (args .n) (args .masks .now)) (args .s .now) (args .at)) (args .offsets .now)) (c .before .before .before .before .before .before .width-bytes .ensures)
 
 pub spread-offsets-spec : {M : Type 1} → statement M
@@ -146,8 +146,8 @@ spread-offsets-spec =
     add-i
     loop-less
     loop-again
-    add-fill-numbers
-    sub-fill-numbers
-    fill-numbers-requires
+    add-fill-ends
+    sub-fill-ends
+    fill-ends-requires
     same-length
     returns)

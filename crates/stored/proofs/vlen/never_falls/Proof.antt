@@ -3,14 +3,14 @@
 use mathlib.Core.Path.{_≡_, sym, ap, _∙_, subst}
 use mathlib.Core.Bool.{Bool}
 use mathlib.Core.List.{List}
-use Prim.Native.Nat.{ℕ, suc, _+_, _*_, _≤_}
+use Prim.Native.Nat.{ℕ, suc, _+_, _-_, _*_, _≤_, _<_}
 use native.Mathlib.Omega.{arith}
 use lib.ListN.{length, take, drop}
 use borrow.Author.Needs.{needs}
 use Rattle.array.specs.Bytes.{unle}
 use Rattle.array.specs.Offsets.{risingTest}
 use Rattle.stored.specs.Index.{offsetsIn}
-use Rattle.stored.proofs.IndexLaws.{Rises, rises-start, rises-room, rises-falls, rises-more, rises-end}
+use Rattle.stored.proofs.IndexLaws.{Rises, rises-start, rises-room, rises-falls, rises-more, rises-last, rises-end}
 use Rattle.stored.proofs.vlen.never_falls.Statement.{statement}
 use Rattle.stored.proofs.vlen.never_falls.Tie as tie
 
@@ -44,8 +44,11 @@ width l = wide l .width-bytes .result
 abbrev Turn : Type 0
 Turn = tie.In-loop Inv-loop μ-loop
 
+some : (u : Turn) → 0 < u .before .loop .left
+some u = omega arith
+
 room : (u : Turn) → let l = u .before in l .loop .p + width l + width l ≤ length (bytes (wide l))
-room u = omega (arith, rises-room (u .before .loop .inv) (u .loop-test .taken))
+room u = omega (arith, rises-room (u .before .loop .inv) (some u))
 
 abbrev Next : Type 0
 Next = tie.After-le-at2 Inv-loop μ-loop
@@ -54,6 +57,45 @@ next-is : (k : Next) → let l = k .before .before in k .le-at2 .result ≡ unle
 next-is k =
     let l = k .before .before in
     k .le-at2 .ensures ∙ ap (λ (x : ℕ). unle (take x (drop (l .loop .p + width l) (bytes (wide l))))) (sym (wide l .width-bytes .ensures))
+
+-- the turn's first offset does not fall
+abbrev First : Type 0
+First = tie.Else1 Inv-loop μ-loop
+
+abbrev turn : First → Turn
+turn f = f .before .before
+
+first : (f : First) → let l = turn f .before in let a = wide l .before .before .args in
+    Rises (width l) (a .n) (bytes (wide l)) (a .at) (f .before .le-at2 .result) (l .loop .p + width l) (l .loop .left - 1)
+first f = rises-more (turn f .before .loop .inv) (some (turn f)) _ (next-is (f .before)) (f .if1 .left)
+
+more : (f : First) → 0 < turn f .before .loop .left - 1
+more f = omega (arith, turn f .loop-test .taken)
+
+room-2 : (f : First) → let l = turn f .before in l .loop .p + width l + width l + width l ≤ length (bytes (wide l))
+room-2 f = omega (arith, rises-room (first f) (more f))
+
+abbrev Second : Type 0
+Second = tie.After-le-at3 Inv-loop μ-loop
+
+second-is : (m : Second) → let l = turn (m .before) .before in
+    m .le-at3 .result ≡ unle (take (width l) (drop (l .loop .p + width l + width l) (bytes (wide l))))
+second-is m =
+    let l = turn (m .before) .before in
+    m .le-at3 .ensures ∙ ap (λ (x : ℕ). unle (take x (drop (l .loop .p + width l + width l) (bytes (wide l))))) (sym (wide l .width-bytes .ensures))
+
+-- one offset is left behind the loop
+abbrev Last : Type 0
+Last = tie.Else3 Inv-loop μ-loop
+
+abbrev end : Last → Head
+end e = e .before .before
+
+one : (e : Last) → end e .loop .left ≡ 1
+one e = omega arith
+
+last-room : (e : Last) → end e .loop .p + width (end e) + width (end e) ≤ length (bytes (wide (end e)))
+last-room e = omega (arith, rises-room (end e .loop .inv) (omega (arith, one e)))
 
 width-bytes-requires : tie.Need-width-bytes-requires Inv-loop μ-loop
 width-bytes-requires c κs = search needs
@@ -81,24 +123,52 @@ returns c =
     let k = c .before in
     let u = k .before in
     let b = wide (u .before) in
-    rises-falls (u .before .loop .inv) (u .loop-test .taken) _ (next-is k) (c .if1 .taken) ∙ ap (tested b) (b .width-bytes .ensures)
+    rises-falls (u .before .loop .inv) (some u) _ (next-is k) (c .if1 .taken) ∙ ap (tested b) (b .width-bytes .ensures)
 
-sub-left : tie.Need-sub-left Inv-loop μ-loop
-sub-left c = search needs
+add-p-2 : tie.Need-add-p-2 Inv-loop μ-loop
+add-p-2 c = omega (arith, room-2 c)
 
-loop-less : tie.Need-loop-less Inv-loop μ-loop
-loop-less c = omega arith
-
-loop-again : tie.Need-loop-again Inv-loop μ-loop
-loop-again c =
-    let k = c .before in
-    let u = k .before in
-    rises-more (u .before .loop .inv) (u .loop-test .taken) _ (next-is k) (c .if1 .left)
+le-at-requires-3 : tie.Need-le-at-requires-3 Inv-loop μ-loop
+le-at-requires-3 c κs = omega (arith, room-2 c, wide (turn c .before) .width-bytes .ensures)
 
 returns-2 : tie.Need-returns-2 Inv-loop μ-loop
 returns-2 c =
-    let l = c .before in
-    rises-end (l .loop .inv) (omega arith) ∙ ap (tested (wide l)) (wide l .width-bytes .ensures)
+    let m = c .before in
+    let b = wide (turn (m .before) .before) in
+    rises-falls (first (m .before)) (more (m .before)) _ (second-is m) (c .if2 .taken) ∙ ap (tested b) (b .width-bytes .ensures)
+
+sub-left : tie.Need-sub-left Inv-loop μ-loop
+sub-left c = omega (arith, turn (c .before .before) .loop-test .taken)
+
+loop-less : tie.Need-loop-less Inv-loop μ-loop
+loop-less c = omega (arith, turn (c .before .before) .loop-test .taken)
+
+loop-again : tie.Need-loop-again Inv-loop μ-loop
+loop-again c =
+    let m = c .before in
+    let l = turn (m .before) .before in
+    let a = wide l .before .before .args in
+    let two : l .loop .left - 1 - 1 ≡ l .loop .left - 2 = omega arith in
+    subst (Rises (width l) (a .n) (bytes (wide l)) (a .at) (m .le-at3 .result) (l .loop .p + width l + width l)) two
+    (rises-more (first (m .before)) (more (m .before)) _ (second-is m) (c .if2 .left))
+
+returns-3 : tie.Need-returns-3 Inv-loop μ-loop
+returns-3 c =
+    let l = c .before .before in
+    rises-end (l .loop .inv) (c .if3 .taken) ∙ ap (tested (wide l)) (wide l .width-bytes .ensures)
+
+add-le-at : tie.Need-add-le-at Inv-loop μ-loop
+add-le-at c = omega (arith, last-room c)
+
+le-at-requires-4 : tie.Need-le-at-requires-4 Inv-loop μ-loop
+le-at-requires-4 c κs = omega (arith, last-room c, wide (end c) .width-bytes .ensures)
+
+returns-4 : tie.Need-returns-4 Inv-loop μ-loop
+returns-4 c =
+    let l = end (c .before) in
+    let last-is : c .le-at4 .result ≡ unle (take (width l) (drop (l .loop .p + width l) (bytes (wide l)))) =
+    c .le-at4 .ensures ∙ ap (λ (x : ℕ). unle (take x (drop (l .loop .p + width l) (bytes (wide l))))) (sym (wide l .width-bytes .ensures)) in
+    rises-last (l .loop .inv) (omega (arith, one (c .before))) _ last-is (one (c .before)) ∙ ap (tested (wide l)) (wide l .width-bytes .ensures)
 
 pub never-falls-spec : {M : Type 1} → statement M
 never-falls-spec =
@@ -112,7 +182,13 @@ never-falls-spec =
     add-p
     le-at-requires-2
     returns
+    add-p-2
+    le-at-requires-3
+    returns-2
     sub-left
     loop-less
     loop-again
-    returns-2)
+    returns-3
+    add-le-at
+    le-at-requires-4
+    returns-4)
