@@ -1,4 +1,4 @@
 pub mod Entries
-pub mod Table
+pub mod Ones
 pub mod Said
 pub mod Words
