@@ -18,3 +18,5 @@ pub mod SubsetLists
 pub mod Reversed
 pub mod CellAnswers
 pub mod Refusals
+pub mod Resting
+pub mod Putting

@@ -15,7 +15,8 @@ use Rattle.array.specs.Content.{Content, Valid, layout}
 use Rattle.array.specs.Buffers.{Lengths, Enough, enoughTest, listOutcome, contentOutcome}
 use Rattle.array.proofs.Answers.{pass}
 use Rattle.array.proofs.Rules.{kind-test, shape-test, numbers-test, rest-passes, enough-test}
-use Rattle.array.proofs.LayoutLaws.{content-path, Good, good-layout}
+use Rattle.array.proofs.LayoutLaws.{content-path, Good}
+use Rattle.array.proofs.Resting.{laid-valid}
 use Rattle.array.proofs.Over.{take-over}
 use Rattle.codec.specs.Mask.{maskForm}
 use Rattle.codec.specs.Frame.{frame}
@@ -61,7 +62,7 @@ module _ (k : Kind) (ok : KindOk k) (shape : List ℕ) (sh : ShapeOk shape) (xs 
   stored = frame (maskForm (k .masks)) (putValues (k .form)) (k .depth) xs
 
   pub valid-layout : Valid k shape here
-  valid-layout = record { kind = ok; shaped = sh; content = good-layout k (volume shape) xs g; small = g .small }
+  valid-layout = laid-valid ok sh g
 
   pub encode-gives : (r : ℕ) → length (storedForm k (volume shape) here) ≤ r → encodeAnswer k shape here r ≡ gives stored
   unfolding encodeAnswer

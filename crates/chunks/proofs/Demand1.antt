@@ -22,6 +22,8 @@ use Rattle.codec.specs.Frame.{countSet}
 use Rattle.codec.specs.Calls.{encodeAnswer, encoded, decodeAnswer, decoded, interleavedAnswer, interleavedDecoded, encodeInterleavedAnswer, interleavedEncoded}
 use Rattle.codec.specs.Refusals.{maskRules, contentRules, frameRules, cellRules}
 use Rattle.codec.proofs.Refusals as codec
+use Rattle.load.specs.Calls.{generateAnswer, generated}
+use Rattle.load.proofs.Refusals as load
 use Rattle.chunks.specs.Chunks.{laterChunks}
 use Rattle.chunks.specs.Calls.{extractAnswer, extracted, mergeAnswer, merged, partialAnswer, partiallyDecoded}
 use Rattle.chunks.specs.Refusals.{chunkRules}
@@ -96,7 +98,7 @@ module _ {rs : List Rule} (ns : List ℕ) where
 -- ---- the demand
 
 pub demand1 : Demand1
-unfolding encoded decoded interleavedDecoded interleavedEncoded extracted merged partiallyDecoded endiannessReversed subsetCells
+unfolding encoded decoded interleavedDecoded interleavedEncoded extracted merged partiallyDecoded endiannessReversed subsetCells generated
 demand1 = record {
   encode = λ k shape c out. list-answered _ (encodeAnswer k shape c (length out)) out (codec.refusals .encode k shape c out) refl;
   decode = λ k shape s out. content-answered _ (decodeAnswer k shape s (lengthsOf out)) out (codec.refusals .decode k shape s out)
@@ -110,4 +112,5 @@ demand1 = record {
   partial-decode = λ w p shape ns s out. ragged-answered _ (partialAnswer w p shape ns s (raggedLengthsOf out)) out (chunks.refusals .partial-decode w p shape ns s out) refl;
   reverse-endianness = λ k s. reverse-answered _ (reverseAnswer k s) k s (array.refusals .reverse-endianness k s) refl;
   subset-cells = λ shape ns out. list-answered _ (cellsAnswer shape ns (length out)) out (array.refusals .subset-cells shape ns out) refl;
+  generate = λ k shape s out. content-answered _ (generateAnswer k shape s (lengthsOf out)) out (load.refusals .generate k shape s out) refl;
 }

@@ -11,6 +11,7 @@ use Rattle.array.specs.Kind.{Kind, Place}
 use Rattle.array.specs.Content.{Content, RaggedContent}
 use Rattle.array.specs.Calls.{endiannessReversed, subsetCells}
 use Rattle.codec.specs.Calls.{encoded, decoded, interleavedDecoded, interleavedEncoded}
+use Rattle.load.specs.Calls.{generated}
 use Rattle.chunks.specs.Calls.{extracted, merged, partiallyDecoded}
 
 -- ---- the numbers of each call, in the order of their tests
@@ -42,6 +43,9 @@ reverseNumbers = 1 ∷ []
 abbrev pub subsetNumbers : List ℕ
 subsetNumbers = 2 ∷ 3 ∷ 6 ∷ []
 
+abbrev pub generateNumbers : List ℕ
+generateNumbers = 1 ∷ 2 ∷ 6 ∷ []
+
 -- ---- the claim
 
 -- whether a number stands in the list
@@ -66,3 +70,4 @@ pub record Demand1 : Type 0 where
   pub partial-decode : (w : ℕ) (p : Place) (shape ns s : List ℕ) (out : RaggedContent) → Answered partialNumbers out (partiallyDecoded w p shape ns s out)
   pub reverse-endianness : (k : ℕ) (s : List ℕ) → Answered reverseNumbers s (endiannessReversed k s)
   pub subset-cells : (shape ns out : List ℕ) → Answered subsetNumbers out (subsetCells shape ns out)
+  pub generate : (k : Kind) (shape : List ℕ) (s : ℕ) (out : Content) → Answered generateNumbers out (generated k shape s out)

@@ -2,57 +2,22 @@
 -- Assumes nothing.
 use mathlib.Core.Path.{_≡_, refl, sym, ap, ap₂, _∙_}
 use mathlib.Core.Bool.{Bool, true, false}
-use Prim.Native.Nat.{ℕ, _≤_, _<_}
-use native.Mathlib.Omega.{arith}
+use Prim.Native.Nat.{ℕ}
 use mathlib.Core.List.{List}
 use lib.ListN.{length}
 use Rattle.valid.specs.declared.array_bytes.Checked.{Checked}
-use Rattle.array.specs.Answer.{Answer, gives, refuses, unless, Outcome}
+use Rattle.array.specs.Answer.{Answer, gives, unless}
 use Rattle.array.specs.Kind.{Kind, kindTest}
 use Rattle.array.specs.Shape.{volume, shapeTest}
 use Rattle.array.specs.Subset.{subsetOf, numbersTest}
 use Rattle.array.specs.Content.{Content}
-use Rattle.array.specs.Buffers.{Lengths, lengthsOf, Enough, enoughTest, over, contentOutcome}
-use Rattle.array.specs.Outcome.{contentArray}
+use Rattle.array.specs.Buffers.{lengthsOf, enoughTest, contentOutcome}
+use Rattle.array.specs.Outcome.{putInto}
 use Rattle.valid.specs.Check.{toldChecked}
-use Rattle.array.proofs.Rules.{enough-test, enough-ok}
+use Rattle.array.proofs.Putting.{refused}
 use Rattle.valid.proofs.CheckLaws.{checkOf, unlessKept, check-refused, check-valid}
 use Rattle.chunks.specs.Cut.{cutOf}
 use Rattle.chunks.specs.Calls.{extracted, extractAnswer}
-use Rattle.extract.specs.Outcome.{putInto}
-
--- nothing is stored
-abbrev pub refused : ℕ → Content → Outcome Lengths Content
-refused number out = record { answer = refuses number; buffers = out }
-
--- ---- outputs long enough, or 6
-
-module _ (c out : Content) where
-  not-enough : (Enough c (lengthsOf out) → ⊥) → refused 6 out ≡ putInto c out
-  not-enough f = go (enoughTest c (lengthsOf out)) refl
-    where
-      go : (b : Bool) → enoughTest c (lengthsOf out) ≡ b → refused 6 out ≡ putInto c out
-      go true e = absurd (f (enough-ok c (lengthsOf out) e))
-      go false e = ap (λ (b : Bool). contentOutcome (unless b 6 (gives c)) out) (sym e)
-
-  pub no-masks : (m : ℕ) → length (c .masks) ≡ m → length (out .masks) < m → refused 6 out ≡ putInto c out
-  no-masks m e h = not-enough (λ r. omega (arith, r .for-masks))
-
-  pub no-values : (v : ℕ) → length (c .values) ≡ v → length (out .values) < v → refused 6 out ≡ putInto c out
-  no-values v e h = not-enough (λ r. omega (arith, r .for-values))
-
-  pub no-offsets : (o : ℕ) → length (c .offsets) ≡ o → length (out .offsets) < o → refused 6 out ≡ putInto c out
-  no-offsets o e h = not-enough (λ r. omega (arith, r .for-offsets))
-
-  pub put : (m v o : ℕ) → length (c .masks) ≡ m → length (c .values) ≡ v → length (c .offsets) ≡ o
-      → m ≤ length (out .masks) → v ≤ length (out .values) → o ≤ length (out .offsets)
-      → (ms vs os : List ℕ) → ms ≡ over (c .masks) (out .masks) → vs ≡ over (c .values) (out .values) → os ≡ over (c .offsets) (out .offsets)
-      → _≡_ {A = Outcome Lengths Content} (record { answer = gives (record { masks = m; values = v; offsets = o }); buffers = contentArray ms vs os }) (putInto c out)
-  put m v o em ev eo hm hv ho ms vs os rm rv ro =
-      let t : enoughTest c (lengthsOf out) ≡ true =
-      enough-test c (lengthsOf out) (record { for-masks = omega arith; for-values = omega arith; for-offsets = omega arith }) in
-      (λ i. record { answer = gives (record { masks = sym em i; values = sym ev i; offsets = sym eo i }); buffers = contentArray (rm i) (rv i) (ro i) })
-      ∙ ap (λ (b : Bool). contentOutcome (unless b 6 (gives c)) out) (sym t)
 
 -- ---- the call
 

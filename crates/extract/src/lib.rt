@@ -13,12 +13,11 @@ ghost use Rattle.array.specs.Shape.{volume};
 ghost use Rattle.array.specs.Subset.{pairs, cellsIn};
 ghost use Rattle.array.specs.Content.{offsetsFor};
 ghost use Rattle.array.specs.Buffers.{over};
-ghost use Rattle.array.specs.Outcome.{contentArray, outcomeArray};
+ghost use Rattle.array.specs.Outcome.{contentArray, outcomeArray, putInto};
 ghost use Rattle.array.specs.Meaning.{formOf, kindOf};
 ghost use Rattle.chunks.specs.Chunks.{offsetCount};
 ghost use Rattle.chunks.specs.Cut.{cutOf};
 ghost use Rattle.chunks.specs.Calls.{extracted};
-ghost use Rattle.extract.specs.Outcome.{putInto};
 ghost use Rattle.extract.specs.Places.{beginsAt, bytesAt, valuesAt};
 ghost use Rattle.extract.specs.Asked.{SubsetAsked, OffsetsFor, ValuesAsked, ArrayAsked};
 

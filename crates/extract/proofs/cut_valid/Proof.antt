@@ -19,7 +19,7 @@ use Rattle.chunks.specs.Cut.{cutOf}
 use Rattle.extract.specs.Asked.{SubsetAsked, ArrayAsked}
 use Rattle.extract.proofs.Walk.{asked-few}
 use Rattle.extract.proofs.Cutting.{cut-masks, cut-values, cut-offsets, cut-masks-long, cut-values-long, cut-offsets-long, cut-planes-asked, cut-offsets-for, cut-values-asked}
-use Rattle.extract.proofs.Outcomes.{no-masks, no-values, no-offsets, put}
+use Rattle.array.proofs.Putting.{no-masks, no-values, no-offsets, put}
 use Rattle.extract.proofs.cut_valid.Statement.{statement}
 use Rattle.extract.proofs.cut_valid.Tie as tie
 

@@ -22,7 +22,7 @@ use Rattle.valid.proofs.ShapeLaws.{Counted, counted, not-counted}
 use Rattle.array.proofs.SubsetLists.{subset-parts, within-parts}
 use Rattle.valid.proofs.CheckLaws.{checkOf, KeepsRules, check-valid}
 use Rattle.chunks.specs.Cut.{cutOf}
-use Rattle.extract.specs.Outcome.{putInto}
+use Rattle.array.specs.Outcome.{putInto}
 use Rattle.extract.proofs.Outcomes.{no-kind, no-shape, no-subset, not-kept, kept}
 use Rattle.extract.proofs.extract.Statement.{statement}
 use Rattle.extract.proofs.extract.Tie as tie

@@ -1,0 +1,3 @@
+pub mod Generator
+pub mod Cells
+pub mod Room

@@ -1,0 +1,27 @@
+-- What the code needs to be there: places for the bytes it draws (docs/SPEC.md, part 12, S12.3).
+-- Assumes nothing.
+use Prim.Native.Nat.{ℕ, _+_, _*_, _<_, _≤_}
+use mathlib.Core.List.{List}
+use lib.ListN.{length}
+
+-- a place in each of so many planes of n cells
+pub record Column (n at levels : ℕ) (out : List ℕ) : Type 0 where
+  pub within : at + levels * n < n + length out
+  pub small : at + levels * n ≤ 1048576
+
+-- limits of a load
+pub record Limited (depth n : ℕ) : Type 0 where
+  pub shallow : depth ≤ 4
+  pub few : n ≤ 65536
+
+-- outputs that hold n cells of a fixed size
+pub record FixedRoom (depth n size : ℕ) (masks values : List ℕ) : Type 0 where
+  pub for-masks : depth * n ≤ length masks
+  pub for-values : n * size ≤ length values
+  pub narrow : size ≤ 64
+
+-- outputs that hold n ragged cells of so many bytes
+pub record RaggedRoom (depth n bytes : ℕ) (masks values offsets : List ℕ) : Type 0 where
+  pub for-masks : depth * n ≤ length masks
+  pub for-values : bytes ≤ length values
+  pub for-offsets : n + 1 ≤ length offsets

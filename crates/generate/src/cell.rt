@@ -1,0 +1,86 @@
+// What a cell draws: its levels from the outermost, up to the first null, and value bytes.
+use crate::generator::Generator;
+ghost use mathlib.Core.Path.{_≡_};
+ghost use Prim.Native.Nat.{_+_, _-_, _≤_};
+ghost use lib.ListN.{length};
+ghost use Rattle.array.specs.Buffers.{overAt};
+ghost use Rattle.load.specs.Generator.{drawBytes};
+ghost use Rattle.generate.specs.Cells.{setLevels, markBy, levelMarks, column};
+ghost use Rattle.generate.specs.Room.{Column};
+ghost use Rattle.generate.specs.Generator.{drewLevels};
+
+// How many levels are set, and the generator after the last draw for them.
+pub struct Levels {
+    pub set: usize,
+    pub next: Generator,
+}
+
+// Draws the levels of a cell. A null ends it: nothing is drawn for what is below.
+pub fn draw_levels(first: Generator, depth: usize) -> Levels
+    ensures { λ r. ⌜ drewLevels r ≡ setLevels depth (first .state) ⌝ }
+{
+    let mut g = first;
+    let mut set: usize = 0;
+    while set < depth {
+        let drawn = g.draw();
+        let next = drawn.next;
+        if drawn.draw % 4 == 0 {
+            return Levels { set, next };
+        }
+        g = next;
+        set += 1;
+    }
+    Levels { set, next: g }
+}
+
+// The mask byte of a level: the levels that are set are the outer ones.
+fn mark_at(level: usize, set: usize) -> u8
+    ensures { λ r. ⌜ r ≡ markBy (set - level) ⌝ }
+{
+    if level < set { 1 } else { 0 }
+}
+
+// Stores the mask bytes of the cell `at`: 01 in the planes of its `set` outer levels, and 00 in those below.
+pub fn put_marks(masks: &mut [u8], at: usize, cells: usize, depth: usize, set: usize)
+    requires { ⌜ Column cells at depth (now masks) ⌝ }
+    ensures { λ _. ⌜ now (masks .exit) ≡ column cells at (levelMarks depth set) (now (masks .entry)) ⌝ }
+{
+    let mut place = at;
+    let mut level: usize = 0;
+    while level < depth {
+        masks[place] = mark_at(level, set);
+        place += cells;
+        level += 1;
+    }
+}
+
+// Draws n value bytes.
+pub fn draw_bytes(first: Generator, values: &mut [u8], to: usize, n: usize) -> Generator
+    requires { ⌜ to + n ≤ length (now values) ⌝ }
+    ensures draws { λ r. ⌜ r .state ≡ drawBytes n (first .state) .state ⌝ }
+    ensures stores { λ _. ⌜ now (values .exit) ≡ overAt to (drawBytes n (first .state) .made) (now (values .entry)) ⌝ }
+{
+    let mut g = first;
+    let mut i: usize = 0;
+    while i < n {
+        let drawn = g.draw();
+        values[to + i] = (drawn.draw % 256) as u8;
+        g = drawn.next;
+        i += 1;
+    }
+    g
+}
+
+// Draws n value bytes that nobody keeps.
+pub fn skip_bytes(first: Generator, n: usize) -> Generator
+    ensures { λ r. ⌜ r .state ≡ drawBytes n (first .state) .state ⌝ }
+{
+    let mut g = first;
+    let mut i: usize = 0;
+    while i < n {
+        let drawn = g.draw();
+        g = drawn.next;
+        i += 1;
+    }
+    g
+}

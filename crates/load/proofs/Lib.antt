@@ -1,0 +1,5 @@
+pub mod Drawn
+pub mod Law
+pub mod Refusals
+pub mod Lines
+pub mod Instance
