@@ -39,15 +39,9 @@ pub fn two_walks(bytes: &[u8], values: &mut [u8], offsets: &mut [u64]) -> usize 
     one_walk(bytes, values, offsets)
 }
 
-/// The older form written by the plain loop that one would write for it: what does not fit together is an error, the buffer is used again and has
-/// its room already. Not inlined, as a library's function would not be.
-#[inline(never)]
-pub fn write_older(shape: &[u64], values: &[u8], offsets: &[u64], out: &mut Vec<u8>) -> Result<(), &'static str> {
-    let cells = shape.iter().try_fold(1, |cells: u64, side| cells.checked_mul(*side)).filter(|cells| *cells <= 65_536);
-    let cells = cells.ok_or("too many cells")?;
-    if offsets.len() as u64 != cells + 1 {
-        return Err("not one offset more than cells");
-    }
+/// The loop that writes the older form: the buffer is used again and has its room already.
+#[inline(always)]
+fn put_older(cells: u64, values: &[u8], offsets: &[u64], out: &mut Vec<u8>) -> Result<(), &'static str> {
     out.clear();
     out.extend_from_slice(&(cells as u32).to_le_bytes());
     for pair in offsets.windows(2) {
@@ -56,4 +50,43 @@ pub fn write_older(shape: &[u64], values: &[u8], offsets: &[u64], out: &mut Vec<
         out.extend_from_slice(value);
     }
     Ok(())
+}
+
+fn cells_of(shape: &[u64]) -> Result<u64, &'static str> {
+    let cells = shape.iter().try_fold(1, |cells: u64, side| cells.checked_mul(*side)).filter(|cells| *cells <= 65_536);
+    cells.ok_or("too many cells")
+}
+
+/// The older form written by the plain loop that one would write for it: what does not fit together is an error, found on the way or not at all (values
+/// behind the last offset). Not inlined, as a library's function would not be.
+#[inline(never)]
+pub fn write_older(shape: &[u64], values: &[u8], offsets: &[u64], out: &mut Vec<u8>) -> Result<(), &'static str> {
+    let cells = cells_of(shape)?;
+    if offsets.len() as u64 != cells + 1 {
+        return Err("not one offset more than cells");
+    }
+    put_older(cells, values, offsets, out)
+}
+
+/// The same loop behind the checks of our call: the same refusals in the same order, and a refusal leaves the buffer as it was.
+#[inline(never)]
+pub fn write_checked(kind: &[u64; 5], shape: &[u64], masks: &[u8], values: &[u8], offsets: &[u64], out: &mut Vec<u8>) -> Result<(), &'static str> {
+    let [depth, form, width, place, mask] = *kind;
+    if depth > 0 || form != 1 || !matches!(width, 4 | 8) || place > 1 || mask > 1 {
+        return Err("not a ragged kind of depth 0");
+    }
+    if !(1..=4).contains(&shape.len()) || shape.contains(&0) {
+        return Err("not a shape");
+    }
+    let cells = cells_of(shape)?;
+    if !masks.is_empty() || offsets.len() as u64 != cells + 1 || !offsets.is_sorted() || offsets[cells as usize] != values.len() as u64 {
+        return Err("not the content of this kind");
+    }
+    if values.len() > 16_777_216 {
+        return Err("too many value bytes");
+    }
+    if out.capacity() < 4 + 4 * cells as usize + (values.len() - offsets[0] as usize) {
+        return Err("no room");
+    }
+    put_older(cells, values, offsets, out)
 }

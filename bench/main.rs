@@ -1,6 +1,6 @@
 //! The archive's and the Rust's times, in one process: the two by turns, the best of many rounds each.
 //!
-//!   bench OBJECT [ROUNDS [FILE]]     FILE: every row with its times
+//!   bench OBJECT [ROUNDS [FILE [interleaved]]]     FILE: every row with its times; interleaved: the rows of the interleaved form alone
 //!
 //! Both get the same inputs, borrowed. The archive writes to lent outputs, reused from call to call. The Rust allocates: its results, and
 //! inside encode and decode a part of the array for each level, the index and the data; giving that memory back is in its time. Where it
@@ -8,7 +8,7 @@
 //! caller's memory. Kinds, shapes and chunk lists are built before the clock starts. The Rust is built with opt-level 3 over the stand-in chain,
 //! which does less than the listed one.
 //! Packed masks, which the Rust does not have, are timed against masks of bytes, both ours. encode_interleaved, which it does not have either, is timed
-//! against a plain Rust loop with a reused buffer (bounds.rs).
+//! against a plain Rust loop with a reused buffer, and against that loop behind the same checks (bounds.rs).
 
 #[path = "../oracle/driver/archive.rs"]
 #[allow(dead_code)]
@@ -215,6 +215,8 @@ struct Bench {
     packed: Vec<Row>,
     /// encode_interleaved beside a plain loop, which stands where other rows have the Rust.
     older: Vec<Row>,
+    /// The same beside that loop behind our checks.
+    checked: Vec<Row>,
 }
 
 fn keep<T>(result: T) {
@@ -398,20 +400,30 @@ impl Bench {
         self.packed_row(Decode(&bits, &stored[0]), Decode(i, &stored[1]), i, what);
     }
 
-    /// The loop writes the same, then the clock.
+    /// The loops write the same, then the clock.
     fn older_row(&mut self, i: &Input, what: &str) {
-        let mut reused = vec![];
-        bounds::write_older(&i.shape, &i.values, &i.offsets, &mut reused).unwrap();
+        let Input { kind, shape, masks, .. } = i;
+        let (mut reused, mut again) = (vec![], Vec::with_capacity(20_000_000));
+        bounds::write_older(shape, &i.values, &i.offsets, &mut reused).unwrap();
+        bounds::write_checked(kind, shape, masks, &i.values, &i.offsets, &mut again).unwrap();
         let mut lent = Lent::new();
         ours(&self.archive, Older(i), &mut lent);
-        assert!(lent.values[..lent.lengths[0] as usize] == reused[..], "not the same: {OLDER} {what}");
+        let written = &lent.values[..lent.lengths[0] as usize];
+        assert!(written == &reused[..] && written == &again[..], "not the same: {OLDER} {what}");
         let plain = timed(|| {
-            bounds::write_older(&i.shape, black_box(&i.values), black_box(&i.offsets), &mut reused).unwrap();
+            bounds::write_older(shape, black_box(&i.values), black_box(&i.offsets), &mut reused).unwrap();
             black_box(&mut reused);
         });
-        let [ours, other] = self.turns(Older(i), plain, 1.0, f64::MAX);
-        let (kind, what, column) = (String::new(), what.to_string(), cells_of(&i.shape).to_string());
-        self.older.push(Row { call: OLDER, below: false, kind, what, column, other, ours, held: None });
+        let row = |[ours, other]: [f64; 2]| {
+            let (kind, what, column) = (String::new(), what.to_string(), cells_of(shape).to_string());
+            Row { call: OLDER, below: false, kind, what, column, other, ours, held: None }
+        };
+        self.older.push(row(self.turns(Older(i), plain, 1.0, f64::MAX)));
+        let checked = timed(|| {
+            bounds::write_checked(black_box(kind), shape, masks, black_box(&i.values), black_box(&i.offsets), &mut again).unwrap();
+            black_box(&mut again);
+        });
+        self.checked.push(row(self.turns(Older(i), checked, 1.0, f64::MAX)));
     }
 
     fn interleaved(&mut self, cells: usize, values: Values) {
@@ -524,11 +536,7 @@ fn rows(b: &mut Bench) {
             }
         }
     }
-    for cells in CELLS {
-        for values in VALUES {
-            b.interleaved(cells, values);
-        }
-    }
+    interleaved_rows(b);
     for (width, place) in ragged_kinds {
         for values in VALUES {
             let arrays = CELLS.map(|cells| input(ragged(0, width, place), square(cells), Mask::Full, values));
@@ -581,6 +589,13 @@ fn rows(b: &mut Bench) {
         }
     }
 }
+fn interleaved_rows(b: &mut Bench) {
+    for cells in CELLS {
+        for values in VALUES {
+            b.interleaved(cells, values);
+        }
+    }
+}
 /// Masks of one bit a cell, at each depth.
 fn packed_rows(b: &mut Bench) {
     let mut below = |kind: fn(u64, u64, u64) -> [u64; 5], (size, order), mask: Mask, what: &str| {
@@ -622,20 +637,16 @@ fn quarter(shape: &[u64]) -> [u64; 4] {
 }
 
 /// Large copies beside memcpy; the ratios.
-fn copies(b: &mut Bench) -> [f64; 11] {
-    println!("\nLarge plain copies against memcpy of the same number of value bytes. Ratio: memcpy's time over ours.\n");
-    println!("| call | bytes | memcpy, ns | ours, ns | ratio |\n|---|---|---|---|---|");
+fn copies(b: &mut Bench) -> Vec<f64> {
     let plain = input(fixed(0, 64, 0), vec![65_536], Mask::Full, Values::Short);
     let masked = input(fixed(1, 64, 0), vec![65_536], Mask::Full, Values::Short);
     let masked_stored = door::encode(four(&masked.kind), &masked.shape, &masked.masks, &masked.values, &[]).unwrap();
-    let mut one = input(ragged(0, 8, 0), vec![1], Mask::Full, Values::Empty);
-    one.values = Rng(1).bytes(16_777_216);
-    one.offsets = vec![0, 16_777_216];
+    let one = one_long();
     let one_stored = door::encode(four(&one.kind), &one.shape, &[], &one.values, &one.offsets).unwrap();
-    let long = of_lengths(4096, |_| 4096);
     let mut listed = input(fixed(0, 64, 0), vec![65_536], Mask::Full, Values::Short);
     listed.subsets = vec![0, 65_536];
-    [
+    copies_head();
+    let mut ratios = vec![
         b.to_memcpy("encode d0 F(64, little)", Encode(&plain), &plain.values),
         b.to_memcpy("decode d0 F(64, little)", Decode(&plain, &plain.values), &plain.values),
         b.to_memcpy("extract d0 F(64, little), all cells", Extract(&plain, &[0, 65_536]), &plain.values),
@@ -645,10 +656,29 @@ fn copies(b: &mut Bench) -> [f64; 11] {
         b.to_memcpy("encode d0 R(8, start), one cell", Encode(&one), &one.values),
         b.to_memcpy("decode d0 R(8, start), one cell", Decode(&one, &one_stored), &one.values),
         b.to_memcpy("partial_decode R(8, start), one cell", Partial(&one, &[0, 1], &one_stored), &one.values),
-        b.to_memcpy("encode_interleaved, one cell", Older(&one), &one.values),
-        b.to_memcpy("encode_interleaved, cells of 4096 bytes", Older(&long), &long.values),
-    ]
+    ];
+    ratios.extend(older_copies(b));
+    ratios
 }
+/// One cell of all the bytes that there may be.
+fn one_long() -> Input {
+    let mut one = input(ragged(0, 8, 0), vec![1], Mask::Full, Values::Empty);
+    one.values = Rng(1).bytes(16_777_216);
+    one.offsets = vec![0, 16_777_216];
+    one
+}
+fn copies_head() {
+    println!("\nLarge plain copies against memcpy of the same number of value bytes. Ratio: memcpy's time over ours.\n");
+    println!("| call | bytes | memcpy, ns | ours, ns | ratio |\n|---|---|---|---|---|");
+}
+fn older_copies(b: &mut Bench) -> Vec<f64> {
+    let mut ratios = vec![];
+    for (what, i) in [("one cell", one_long()), ("cells of 4096 bytes", of_lengths(4096, |_| 4096)), ("cells of 1000 bytes", of_lengths(4096, |_| 1000))] {
+        ratios.push(b.to_memcpy(&format!("{OLDER}, {what}"), Older(&i), &i.values));
+    }
+    ratios
+}
+
 
 // ---------------------------------------------------------------- how our cost grows
 
@@ -864,29 +894,9 @@ fn packed_ratios(rows: &[Row]) {
     rows.iter().filter(|row| row.ratio() < 1.0).for_each(|row| println!("{}", whole(row)));
 }
 
-fn main() {
-    let args: Vec<String> = std::env::args().skip(1).collect();
-    let archive = Archive::load(&args[0]).unwrap();
-    let rounds = args.get(1).map_or(25, |n| n.parse().unwrap());
-    let mut b = Bench { archive, rounds, rows: vec![], packed: vec![], older: vec![] };
-    rows(&mut b);
-    ratios(&b.rows);
-    packed_rows(&mut b);
-    packed_ratios(&b.packed);
-    older_rows(&mut b);
-    println!("\n`{OLDER}`, by cells. Ratio: the time of a plain Rust loop with a reused buffer over ours.\n");
-    table(&b.older.iter().collect::<Vec<_>>());
-    let copies = copies(&mut b);
-    growth(&mut b);
-
-    let all: Vec<f64> = b.rows.iter().map(Row::ratio).collect();
-    println!("\nBy call:\n\n| call | rows | geometric mean | least | rows under 1.0 |\n|---|---|---|---|---|");
-    for call in CALLS {
-        let list: Vec<f64> = b.rows.iter().filter(|row| row.call == call).map(Row::ratio).collect();
-        let under = list.iter().filter(|r| **r < 1.0).count();
-        println!("| {call} | {} | {:.2} | {:.2} | {under} |", list.len(), mean(&list), least(&list));
-    }
-    let under: Vec<&Row> = b.rows.iter().filter(|row| row.ratio() < 1.0).collect();
+/// Rows under 1.0, and beside their bounds those that have one.
+fn under_one(rows: &[Row]) -> Vec<&Row> {
+    let under: Vec<&Row> = rows.iter().filter(|row| row.ratio() < 1.0).collect();
     if !under.is_empty() {
         println!("\nRows under 1.0:\n\n| call | kind | with | at | Rust, ns | ours, ns | ratio |\n|---|---|---|---|---|---|---|");
         under.iter().for_each(|row| println!("{}", whole(row)));
@@ -902,8 +912,66 @@ fn main() {
             }
         }
     }
+    under
+}
+
+fn said(met: bool) -> &'static str {
+    if met { "met" } else { "not met" }
+}
+
+/// encode_interleaved: a table of ratios for each of the two loops.
+fn older_tables(b: &mut Bench) {
+    older_rows(b);
+    for (rows, behind) in [(&b.older, ""), (&b.checked, ", behind the same checks,")] {
+        println!("\n`{OLDER}`, by cells. Ratio: the time of a plain Rust loop with a reused buffer{behind} over ours.\n");
+        table(&rows.iter().collect::<Vec<_>>());
+    }
+}
+fn older_said(b: &Bench) {
+    for (rows, behind) in [(&b.older, ""), (&b.checked, " behind the same checks")] {
+        let ratios: Vec<f64> = rows.iter().map(Row::ratio).collect();
+        let slower = ratios.iter().filter(|ratio| **ratio < 1.0).count();
+        let (mean, least, met) = (mean(&ratios), least(&ratios), said(slower == 0));
+        println!(
+            "{OLDER} no slower than a plain loop{behind}: {met} ({} rows, geometric mean {mean:.2}, {slower} under 1.0, least {least:.2})",
+            ratios.len()
+        );
+    }
+}
+
+fn main() {
+    let args: Vec<String> = std::env::args().skip(1).collect();
+    let archive = Archive::load(&args[0]).unwrap();
+    let rounds = args.get(1).map_or(25, |n| n.parse().unwrap());
+    let mut b = Bench { archive, rounds, rows: vec![], packed: vec![], older: vec![], checked: vec![] };
+    if args.get(3).is_some_and(|only| only == "interleaved") {
+        interleaved_rows(&mut b);
+        ratios(&b.rows);
+        older_tables(&mut b);
+        copies_head();
+        older_copies(&mut b);
+        println!();
+        under_one(&b.rows);
+        older_said(&b);
+        return;
+    }
+    rows(&mut b);
+    ratios(&b.rows);
+    packed_rows(&mut b);
+    packed_ratios(&b.packed);
+    older_tables(&mut b);
+    let copies = copies(&mut b);
+    growth(&mut b);
+
+    let all: Vec<f64> = b.rows.iter().map(Row::ratio).collect();
+    println!("\nBy call:\n\n| call | rows | geometric mean | least | rows under 1.0 |\n|---|---|---|---|---|");
+    for call in CALLS {
+        let list: Vec<f64> = b.rows.iter().filter(|row| row.call == call).map(Row::ratio).collect();
+        let under = list.iter().filter(|r| **r < 1.0).count();
+        println!("| {call} | {} | {:.2} | {:.2} | {under} |", list.len(), mean(&list), least(&list));
+    }
+    let under = under_one(&b.rows);
     let beyond = under.iter().filter(|row| !row.at_bound()).count();
-    let said = |met: bool| if met { "met" } else { "not met" };
     println!("\n{} rows, geometric mean {:.2}, best of {rounds} rounds", all.len(), mean(&all));
     println!("no row under 1.0 but at its bound: {} ({} under, {beyond} of them not so)", said(beyond == 0), under.len());
     println!("geometric mean 2.0 or more: {}", said(mean(&all) >= 2.0));
@@ -916,15 +984,7 @@ fn main() {
         mean(&bits),
         least(&bits)
     );
-    let older: Vec<f64> = b.older.iter().map(Row::ratio).collect();
-    let slower = older.iter().filter(|ratio| **ratio < 1.0).count();
-    println!(
-        "{OLDER} no slower than a plain loop: {} ({} rows, geometric mean {:.2}, {slower} under 1.0, least {:.2})",
-        said(slower == 0),
-        older.len(),
-        mean(&older),
-        least(&older)
-    );
+    older_said(&b);
     println!("large plain copies at 0.7 of memcpy or more: {} (least {:.2})", said(least(&copies) >= 0.7), least(&copies));
     if let Some(file) = args.get(2) {
         let lines: Vec<String> = b
@@ -933,6 +993,7 @@ fn main() {
             .map(whole)
             .chain(b.packed.iter().map(|row| whole(row) + " packed, against bytes |"))
             .chain(b.older.iter().map(whole))
+            .chain(b.checked.iter().map(|row| whole(row) + " behind the same checks |"))
             .collect();
         std::fs::write(file, lines.join("\n") + "\n").unwrap();
     }

@@ -11,14 +11,14 @@ use Rattle.array.specs.Answer.{Answer, gives, refuses, andThen, mapAnswer}
 use Rattle.array.specs.Lists.{joined}
 use Rattle.array.specs.Offsets.{ends, offsetsOf}
 use Rattle.array.specs.Cells.{Value}
-use Rattle.array.specs.Buffers.{over, overAt}
+use Rattle.array.specs.Buffers.{over}
 use Rattle.array.proofs.Offsets.{length-ends}
 use Rattle.array.proofs.Laying.{Laying, laying-begins, laying-same, laying-ends, laying-store, laying-is, laying-room}
 use Rattle.codec.specs.Interleaved.{interleavedCells}
-use Rattle.interleaved.specs.Cell.{reached}
+use Rattle.interleaved.specs.Cell.{Copied}
 use Rattle.interleaved.specs.Walk.{totalOf, storedCells, walkAnswer, found, Found}
 use Rattle.interleaved.proofs.Steps.{lengthAt, field-past, cell-past, cell-next, Cell, cell-at, length-cells, cells-room}
-use Rattle.interleaved.proofs.Placing.{Placing, placing-begins, placing-is, placing-left, placing-ends, placing-part, reached-room, reached-front, reached-long}
+use Rattle.interleaved.proofs.Placing.{Placing, placing-begins, placing-is, placing-left, placing-ends, placing-cell}
 
 -- ---- walk_cells
 
@@ -202,18 +202,5 @@ module _ {n : ℕ} {s vs₀ vs os₀ os : List ℕ} {i at to : ℕ} (c : Copying
         copy-source =
             omega (arith, cells-room (n - i) (drop at s) (c .cells) (c .stored), length-drop at s, placing-left (c .placed), copy-field)
 
-        pub copy-more : (vs′ : List ℕ) → vs′ ≡ overAt to (reached v (sum - to) (drop (at + 4) s)) vs
-            → Copying n s vs₀ vs′ os₀ (set os i to) (i + 1) (at + 4 + v) (to + v)
-        copy-more vs′ f =
-            goes-on vs′
-            (subst (λ (k : ℕ). Placing (joined (found n s)) vs₀ vs′ (to + k) (joined (cell .others))) long
-            (placing-part part (joined (cell .others)) here (reached v (sum - to) (drop (at + 4) s)) fits enough first vs′ f))
-          where
-            fits : to + length (reached v (sum - to) (drop (at + 4) s)) ≤ length (joined (found n s))
-            fits = omega (arith, reached-room v (sum - to) (drop (at + 4) s), copy-fits, t)
-
-            enough : length part ≤ length (reached v (sum - to) (drop (at + 4) s))
-            enough = omega (arith, reached-long v (sum - to) (drop (at + 4) s) (copy-fits .1) (omega (arith, length-drop (at + 4) s, copy-cell)), long)
-
-            first : take (length part) (reached v (sum - to) (drop (at + 4) s)) ≡ part
-            first = ap (λ (k : ℕ). take k (reached v (sum - to) (drop (at + 4) s))) long ∙ reached-front v (sum - to) (drop (at + 4) s) (copy-fits .1)
+        pub copy-more : (vs′ : List ℕ) → Copied v (sum - to) (drop (at + 4) s) to vs vs′ → Copying n s vs₀ vs′ os₀ (set os i to) (i + 1) (at + 4 + v) (to + v)
+        copy-more vs′ f = goes-on vs′ (placing-cell here (omega (arith, length-drop (at + 4) s, copy-cell)) (omega (arith, copy-fits, t)) f)

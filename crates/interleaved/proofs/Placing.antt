@@ -1,15 +1,16 @@
 -- A loop that writes each part with some of what lies behind it, which the later parts write over: what stands for good, and what is left to write.
 -- Assumes nothing.
-use mathlib.Core.Path.{_≡_, refl, sym, ap, ap₂, _∙_}
-use mathlib.Core.List.{List, [], _++_}
-use Prim.Native.Nat.{ℕ, _+_, _-_, _≤_}
+use mathlib.Core.Path.{_≡_, refl, sym, ap, ap₂, _∙_, subst}
+use mathlib.Core.List.{List, [], _++_, append-assoc}
+use Prim.Native.Nat.{ℕ, _+_, _-_, _<_, _≤_}
 use native.Mathlib.Omega.{arith}
 use native.Mathlib.Nat.{min-le-left, min-le-right}
 use lib.ListN.{length, take, drop, length-append, length-drop, length-take, take-append-drop}
 use lib.Seq.{drop-drop, take-all, take-add, take-take, take-at, drop-at, length-take-le, take-append-le, take-append-add, drop-append-add}
 use Rattle.array.specs.Buffers.{over, overAt}
-use Rattle.array.proofs.Over.{over-at-length}
-use Rattle.interleaved.specs.Cell.{blocks, reached}
+use Rattle.array.proofs.Over.{over-again, over-at-length}
+use Rattle.array.proofs.Laying.{laying-begins}
+use Rattle.interleaved.specs.Cell.{Copied}
 
 -- the first `to` of `want` stand in what was d, what lies beyond `want` is as it was, and r is left
 pub record Placing (want d out : List ℕ) (to : ℕ) (r : List ℕ) : Type 0 where
@@ -63,28 +64,64 @@ module _ {want d out : List ℕ} {to : ℕ} where
       split : length want ≡ length (take to out ++ s) + (length want - length (take to out ++ s))
       split = omega (arith, long)
 
--- ---- what is copied with a cell
+  -- a cell, the first k of s, is copied with some of what lies behind it
+  pub placing-cell : {k room : ℕ} {s r : List ℕ} → Placing want d out to (take k s ++ r) → k ≤ length s → to + room ≤ length want
+      → {out′ : List ℕ} → Copied k room s to out out′ → Placing want d out′ (to + k) r
+  placing-cell {k} {room} {s} {r} p g h {out′} c =
+      subst (λ (m : ℕ). Placing want d out′ (to + m) r) long (placing-part (take k s) r p copied fits enough first out′ (c .done))
+    where
+      copied : List ℕ
+      copied = take (c .count) s
 
-length-part : (n : ℕ) (l : List ℕ) → (length (take n l) ≤ n) × (length (take n l) ≤ length l)
-length-part n l = (omega (arith, length-take n l, min-le-left n (length l)), omega (arith, length-take n l, min-le-right n (length l)))
+      long : length (take k s) ≡ k
+      long = length-take-le k s g
 
-module _ (k room : ℕ) (s : List ℕ) where
-  -- no more than there is room for
-  pub reached-room : length (reached k room s) ≤ room
-  reached-room = omega (arith, length-part (blocks k) (take room s), length-part room s)
+      front : take k copied ≡ take k s
+      front = take-take k (c .count) s (c .enough)
 
-  module _ (h : k ≤ room) where
-    -- the cell first
-    pub reached-front : take k (reached k room s) ≡ take k s
-    reached-front = take-take k (blocks k) (take room s) (omega arith) ∙ take-take k room s h
+      fits : to + length copied ≤ length want
+      fits = omega (arith, length-take (c .count) s, min-le-left (c .count) (length s), c .fits)
 
-    pub reached-long : k ≤ length s → k ≤ length (reached k room s)
-    reached-long g = omega (arith, length-part k (reached k room s), ap length reached-front, length-take-le k s g)
+      enough : length (take k s) ≤ length copied
+      enough = omega (arith, ap length front, length-take k copied, min-le-right k (length copied))
 
-  -- in one copy
-  module _ (to : ℕ) (out : List ℕ) {out′ : List ℕ} where
-    pub copied-all : room ≤ blocks k → out′ ≡ overAt to (take room s) out → out′ ≡ overAt to (reached k room s) out
-    copied-all h e = e ∙ ap (λ (l : List ℕ). overAt to l out) (sym (take-all (blocks k) (take room s) (omega (arith, length-part room s))))
+      first : take (length (take k s)) copied ≡ take k s
+      first = ap (λ (m : ℕ). take m copied) long ∙ front
 
-    pub copied-blocks : blocks k ≤ room → out′ ≡ overAt to (take (blocks k) s) out → out′ ≡ overAt to (reached k room s) out
-    copied-blocks h e = e ∙ ap (λ (l : List ℕ). overAt to l out) (sym (take-take (blocks k) room s h))
+-- ---- a cell in blocks
+
+-- `done` bytes of s from `at` on were copied, k of them with some more
+pub record Blocks (k : ℕ) (s : List ℕ) (at to : ℕ) (out out′ : List ℕ) (done : ℕ) : Type 0 where
+  pub most : done ≤ k + 31
+  pub are : out′ ≡ overAt to (take done (drop at s)) out
+
+pub blocks-begin : (k : ℕ) (s : List ℕ) (at to : ℕ) (out : List ℕ) → to ≤ length out → Blocks k s at to out out 0
+blocks-begin k s at to out h = record { most = omega arith; are = laying-begins [] out to (omega arith) .here }
+
+module _ {k : ℕ} {s : List ℕ} {at to : ℕ} {out out′ : List ℕ} {done : ℕ} (b : Blocks k s at to out out′ done) where
+  pub blocks-same : to + (k + 31) ≤ length out → length out′ ≡ length out
+  blocks-same h =
+      let part = take done (drop at s) in
+      ap length (b .are) ∙ over-at-length to part out (omega (arith, b .most, length-take done (drop at s), min-le-left done (length (drop at s))))
+
+  pub blocks-next : done < k → to ≤ length out → at + done ≤ length s → {out″ : List ℕ} → out″ ≡ overAt (to + done) (take 32 (drop (at + done) s)) out′
+      → Blocks k s at to out out″ (done + 32)
+  blocks-next h g l e = record {
+    most = omega arith;
+    are =
+        e ∙ ap₂ (λ (w v : List ℕ). overAt (to + done) (take 32 w) v) (sym (drop-drop done at s)) (b .are)
+        ∙ over-again (take to out ++ part) more out (to + done) (omega (arith, length-append (take to out) part, length-take-le to out g, long))
+        ∙ ap (λ (w : List ℕ). over w out) (append-assoc (take to out) part more ∙ ap (λ (w : List ℕ). take to out ++ w) (sym (take-add done 32 (drop at s))));
+  }
+    where
+      part : List ℕ
+      part = take done (drop at s)
+
+      more : List ℕ
+      more = take 32 (drop done (drop at s))
+
+      long : length part ≡ done
+      long = length-take-le done (drop at s) (omega (arith, length-drop at s))
+
+  pub blocks-end : {room : ℕ} → k + 31 ≤ room → k ≤ done → Copied k room (drop at s) to out out′
+  blocks-end h g = record { count = done; enough = g; fits = omega (arith, b .most); done = b .are }

@@ -2,7 +2,7 @@
 -- Assumes nothing.
 use mathlib.Core.Path.{_≡_, refl, sym, ap, _∙_, subst}
 use Prim.Native.Nat.{ℕ, suc, _+_, _-_, _*_, _<_, _≤_}
-use native.Mathlib.Nat.{le-refl, le-trans}
+use native.Mathlib.Nat.{le-refl}
 use native.Mathlib.Numerals.{add-one}
 use native.Mathlib.Omega.{arith}
 use mathlib.Core.List.{List, [], _∷_, _++_}
@@ -15,11 +15,11 @@ use Rattle.array.specs.Cells.{Value}
 use Rattle.array.specs.Buffers.{over, overAt}
 use Rattle.array.proofs.Bytes.{length-le}
 use Rattle.array.proofs.Offsets.{rising-le, length-slicesFrom, joined-slices}
-use Rattle.codec.specs.Interleaved.{putCells, putInterleaved, interleavedLength}
+use Rattle.codec.specs.Interleaved.{putCells, putInterleaved}
 use Rattle.codec.proofs.Older.{length-cells, length-interleaved}
-use Rattle.interleaved.specs.Cell.{reached}
+use Rattle.interleaved.specs.Cell.{Copied}
 use Rattle.interleaved.specs.Held.{Held, interleavedOf}
-use Rattle.interleaved.proofs.Placing.{Placing, placing-begins, placing-is, placing-left, placing-ends, placing-part, reached-room, reached-front, reached-long}
+use Rattle.interleaved.proofs.Placing.{Placing, placing-begins, placing-is, placing-left, placing-ends, placing-part, placing-cell}
 
 -- ---- the offsets, from the first on
 
@@ -127,6 +127,10 @@ module _ {n : ℕ} {s os d out : List ℕ} {start i at : ℕ} (c : Storing n s o
     closes : lastFrom end later ≡ length s
     closes = ap (lastFrom start) (sym next) ∙ c .ended
 
+    -- the last offset ends the values
+    pub storing-last : n ≤ i + 1 → end ≡ length s
+    storing-last g = ap (lastFrom end) (sym (drop-of-length-le os {i = i + 1 + 1} (omega (arith, c .counted)))) ∙ closes
+
     pub storing-rises : (start ≤ end) × (end ≤ length s)
     storing-rises = (rises .0, omega (arith, rising-le end later (rises .1), closes))
 
@@ -186,24 +190,30 @@ module _ {n : ℕ} {s os d out : List ℕ} {start i at : ℕ} (c : Storing n s o
           (stored (subst (λ (k : ℕ). Placing (interleavedOf s os) d out₁ k rest) (omega arith) p)))
 
       -- the cell is copied, with what lies behind it
-      pub storing-more : {out₂ : List ℕ} → out₂ ≡ overAt (at + 4) (reached (end - start) (length s - start) (drop start s)) out₁
+      pub storing-more : {out₂ : List ℕ} → Copied (end - start) (length s - start) (drop start s) (at + 4) out₁ out₂
           → Storing n s os d out₂ end (i + 1) (at + 4 + (end - start))
-      storing-more {out₂} f =
-          stored
-          (subst (λ (k : ℕ). Placing (interleavedOf s os) d out₂ (at + 4 + k) rest) long
-          (placing-part cell rest cell-left copied fits enough front out₂ f))
-        where
-          copied : List ℕ
-          copied = reached (end - start) (length s - start) (drop start s)
+      storing-more f = stored (placing-cell cell-left (omega (arith, length-drop start s, storing-rises)) storing-room f)
 
-          inside : end - start ≤ length s - start
-          inside = omega (arith, storing-rises)
+-- ---- one cell
 
-          fits : at + 4 + length copied ≤ length (interleavedOf s os)
-          fits = omega (arith, reached-room (end - start) (length s - start) (drop start s), storing-room)
+-- count, length and bytes of the one cell are stored, or count and length where it is empty
+module _ {s os : List ℕ} (h : Held 1 s os) (d : List ℕ) (room : length (interleavedOf s os) ≤ length d) {v : ℕ} {out out₁ : List ℕ}
+    (e : out ≡ overAt 0 (le 4 1) d) (f : out₁ ≡ overAt 4 (le 4 v) out) (g : v ≡ length s - getD os 0 0) where
+  abbrev begun : Storing 1 s os out out (getD os 0 0) 0 4
+  begun = storing-begins h d room e
 
-          enough : length cell ≤ length copied
-          enough = omega (arith, long, reached-long (end - start) (length s - start) (drop start s) inside (omega (arith, length-drop start s, storing-rises)))
+  size : v ≡ getD os 1 0 - getD os 0 0
+  size = omega (arith, storing-last begun (omega arith) (omega arith))
 
-          front : take (length cell) copied ≡ cell
-          front = ap (λ (k : ℕ). take k copied) long ∙ reached-front (end - start) (length s - start) (drop start s) inside
+  pub one-same : length out₁ ≡ length d
+  one-same = stored-same begun (omega arith) f size ∙ count-same h d room e
+
+  pub one-empty : v ≤ 0 → out₁ ≡ over (interleavedOf s os) d
+  one-empty z = storing-done h d room e (storing-ends (storing-none begun (omega arith) f size (omega (arith, size))) (omega arith))
+
+  pub one-copied : {out₂ : List ℕ} → out₂ ≡ overAt 8 (take v (drop (getD os 0 0) s)) out₁ → out₂ ≡ over (interleavedOf s os) d
+  one-copied {out₂} c =
+      storing-done h d room e
+      (storing-ends
+      (storing-more begun (omega arith) f size (record { count = v; enough = omega (arith, size); fits = omega (arith, storing-last begun (omega arith) (omega arith)); done = c }))
+      (omega arith))

@@ -6,14 +6,14 @@ use native.Mathlib.Omega.{arith}
 use mathlib.Core.Bool.{Bool, true, false}
 use mathlib.Core.List.{List}
 use lib.ListN.{length}
-use lib.Dec.{leb, eqb}
+use lib.Dec.{leb}
 use borrow.Author.Tests.{le-leb, lt-leb, eq-eqb, ne-eqb}
 use Rattle.array.specs.Answer.{Answer, gives, refuses, unless, Outcome}
 use Rattle.array.specs.Limits.{mostBytes, mostCells}
 use Rattle.array.specs.Kind.{Kind, kindTest, Form, fixed, ragged}
 use Rattle.array.specs.Offsets.{slices}
 use Rattle.array.specs.Cells.{Value}
-use Rattle.array.specs.Content.{Content, ContentOk, ValuesOk, valuesIn}
+use Rattle.array.specs.Content.{Content, ValuesOk, valuesIn}
 use Rattle.array.specs.Buffers.{over, listOutcome}
 use Rattle.array.specs.Meaning.{formOf, kindOf}
 use Rattle.array.specs.declared.kind.Kind as declared
@@ -21,12 +21,12 @@ use Rattle.array.specs.declared.kind.Values.{Values}
 use Rattle.valid.specs.declared.array_bytes.Checked.{Checked}
 use Rattle.valid.specs.Check.{toldChecked}
 use Rattle.valid.specs.ShapeCells.{shapeAnswer}
-use Rattle.valid.proofs.CheckLaws.{checkOf, unlessKept, KeepsRules, check-refused, check-valid}
+use Rattle.valid.proofs.CheckLaws.{checkOf, KeepsRules, check-refused, check-valid}
 use Rattle.valid.proofs.ShapeLaws.{Counted, counted, not-counted}
 use Rattle.codec.specs.Interleaved.{putInterleaved, IsRagged, raggedTest, interleavedTest}
 use Rattle.codec.specs.Calls.{interleavedForm, encodeInterleavedAnswer, interleavedEncoded}
 use Rattle.codec.proofs.Refusals.{interleaved-ok}
-use Rattle.interleaved.specs.Held.{Held, interleavedOf, writtenOver}
+use Rattle.interleaved.specs.Held.{Held, interleavedOf, writtenOver, encodedCells}
 
 -- ---- is_interleaved
 
@@ -66,36 +66,30 @@ module _ (k : Kind) (shape : List ℕ) (c : Content) (out : List ℕ) where
     unfolding interleavedEncoded encodeInterleavedAnswer
     write-shape {number} e = rw (p, not-counted shape number e .0)
 
-    module _ {n : ℕ} (q : gives n ≡ shapeAnswer shape) (r : Checked) (f : toldChecked r ≡ checkOf k n c) where
-      -- the rest, once kind and shape have passed
-      whole : ℕ → Answer (List ℕ)
-      whole m = unless (leb (length (interleavedForm k m c)) (length out)) 6 (gives (interleavedForm k m c))
+    -- the rest, once kind and shape have passed
+    pub write-past : {n : ℕ} → gives n ≡ shapeAnswer shape → encodedCells k n c out ≡ interleavedEncoded k shape c out
+    unfolding interleavedEncoded encodeInterleavedAnswer
+    write-past {n} q =
+        let s : Counted shape n = counted shape n q in
+        sym (rw (p, s .passes) (ap (λ (m : ℕ). encodedCells k m c out) (sym (s .is))))
 
-      pub write-content : {number : ℕ} → r ≡ Checked.Refused number → refusedList number out ≡ interleavedEncoded k shape c out
-      unfolding interleavedEncoded encodeInterleavedAnswer whole
-      write-content {number} e =
-          let s : Counted shape n = counted shape n q in
-          sym
-          (rw (p, s .passes)
-          (ap (λ (a : Answer (List ℕ)). listOutcome a out)
-          (ap (λ (m : ℕ). unlessKept k m c (whole m)) (sym (s .is)) ∙ check-refused k n c r f (whole n) number e)))
+module _ (k : Kind) (n : ℕ) (c : Content) (out : List ℕ) (r : Checked) (f : toldChecked r ≡ checkOf k n c) where
+  pub write-content : {number : ℕ} → r ≡ Checked.Refused number → refusedList number out ≡ encodedCells k n c out
+  write-content {number} e =
+      let stored : List ℕ = interleavedForm k n c in
+      sym (ap (λ (a : Answer (List ℕ)). listOutcome a out) (check-refused k n c r f (unless (leb (length stored) (length out)) 6 (gives stored)) number e))
 
-      pub write-held : r ≡ Checked.Valid → Held n (c .values) (c .offsets)
-      unfolding mostCells
-      write-held e =
-          let s : Counted shape n = counted shape n q in
-          let h : KeepsRules k n c = check-valid k n c r f e in
-          ragged-held (k .form) (interleaved-ok k p .is-ragged) n c (h .content .values-fit) (s .few) (h .small)
+  module _ (p : interleavedTest k ≡ true) (e : r ≡ Checked.Valid) where
+    pub write-held : n ≤ mostCells → Held n (c .values) (c .offsets)
+    write-held few =
+        let h : KeepsRules k n c = check-valid k n c r f e in
+        ragged-held (k .form) (interleaved-ok k p .is-ragged) n c (h .content .values-fit) few (h .small)
 
-      pub write-rest : r ≡ Checked.Valid → writtenOver (interleavedOf (c .values) (c .offsets)) out ≡ interleavedEncoded k shape c out
-      unfolding interleavedEncoded encodeInterleavedAnswer whole
-      write-rest e =
-          let s : Counted shape n = counted shape n q in
-          let h : KeepsRules k n c = check-valid k n c r f e in
-          ap (λ (vs : List Value). writtenOver (putInterleaved vs) out) (ragged-values (k .form) (interleaved-ok k p .is-ragged) n c)
-          ∙ sym
-          (rw (p, s .passes)
-          (ap (λ (m : ℕ). listOutcome (unlessKept k m c (whole m)) out) (sym (s .is)) ∙ rw (h .content-passes, h .size-passes)))
+    pub write-rest : writtenOver (interleavedOf (c .values) (c .offsets)) out ≡ encodedCells k n c out
+    write-rest =
+        let h : KeepsRules k n c = check-valid k n c r f e in
+        ap (λ (vs : List Value). writtenOver (putInterleaved vs) out) (ragged-values (k .form) (interleaved-ok k p .is-ragged) n c)
+        ∙ sym (rw (h .content-passes, h .size-passes))
 
 -- ---- refusal 6, or the cells
 

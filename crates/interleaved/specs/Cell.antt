@@ -1,13 +1,14 @@
--- What is copied with a cell: the whole blocks that it lies in, as far as there is room. What lies beyond the cell, the next ones write over.
+-- What is copied with a cell: its bytes, and as much of what lies behind them as is convenient and there is room for. The next cells write over that.
 -- Assumes nothing.
-use Prim.Native.Nat.{ℕ, _+_, _-_, _*_, _/_}
+use Prim.Native.Nat.{ℕ, _≤_}
+use mathlib.Core.Path.{_≡_}
 use mathlib.Core.List.{List}
 use lib.ListN.{take}
+use Rattle.array.specs.Buffers.{overAt}
 
--- the whole blocks of 32 bytes that a cell of k bytes, one or more, lies in
-abbrev pub blocks : ℕ → ℕ
-blocks k = (k - 1) / 32 * 32 + 32
-
--- what is copied with it: these, or all that there is room for
-abbrev pub reached : ℕ → ℕ → List ℕ → List ℕ
-reached k room s = take (blocks k) (take room s)
+-- a cell is the first k of s; it was copied to the place `to` of what was out
+pub record Copied (k room : ℕ) (s : List ℕ) (to : ℕ) (out out′ : List ℕ) : Type 0 where
+  pub count : ℕ
+  pub enough : k ≤ count
+  pub fits : count ≤ room
+  pub done : out′ ≡ overAt to (take count s) out

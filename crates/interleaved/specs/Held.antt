@@ -7,9 +7,12 @@ use lib.ListN.{length}
 use lib.Dec.{leb}
 use Rattle.array.specs.Answer.{gives, unless, Outcome}
 use Rattle.array.specs.Limits.{mostBytes, mostCells}
+use Rattle.array.specs.Kind.{Kind}
 use Rattle.array.specs.Offsets.{last, Rising, slices}
+use Rattle.array.specs.Content.{Content, contentTest, sizeTest}
 use Rattle.array.specs.Buffers.{listOutcome}
 use Rattle.codec.specs.Interleaved.{putInterleaved}
+use Rattle.codec.specs.Calls.{interleavedForm}
 
 pub record Held (n : ℕ) (s os : List ℕ) : Type 0 where
   pub few : n ≤ mostCells
@@ -25,3 +28,9 @@ interleavedOf s os = putInterleaved (slices os s)
 -- bytes over an output: refusal 6 where it is too short
 abbrev pub writtenOver : List ℕ → List ℕ → Outcome ℕ (List ℕ)
 writtenOver s out = listOutcome (unless (leb (length s) (length out)) 6 (gives s)) out
+
+-- what becomes of an array whose kind and shape are sound: 4, 5, and last 6
+abbrev pub encodedCells : Kind → ℕ → Content → List ℕ → Outcome ℕ (List ℕ)
+encodedCells k n c out =
+    let stored = interleavedForm k n c in
+    listOutcome (unless (contentTest k n c) 4 (unless (sizeTest (length (c .values))) 5 (unless (leb (length stored) (length out)) 6 (gives stored)))) out

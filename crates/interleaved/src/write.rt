@@ -13,12 +13,14 @@ use valid::shape::Cells;
 ghost use mathlib.Core.Path.{_≡_};
 ghost use Prim.Native.Nat.{_≤_};
 ghost use lib.ListN.{length};
+ghost use mathlib.Core.Bool.{true};
+ghost use Rattle.array.specs.Limits.{mostCells};
 ghost use Rattle.array.specs.Meaning.{kindOf};
-ghost use Rattle.array.specs.Outcome.{outcome};
+ghost use Rattle.array.specs.Outcome.{outcome, contentArray};
 ghost use Rattle.array.specs.Buffers.{over};
 ghost use Rattle.codec.specs.Interleaved.{interleavedTest};
 ghost use Rattle.codec.specs.Calls.{interleavedEncoded};
-ghost use Rattle.interleaved.specs.Held.{Held, interleavedOf, writtenOver};
+ghost use Rattle.interleaved.specs.Held.{Held, interleavedOf, writtenOver, encodedCells};
 
 // Whether arrays of this kind have an interleaved form: ragged values with no mask. Width, place and mask form say nothing of it.
 fn is_interleaved(kind: Kind) -> bool
@@ -55,7 +57,7 @@ fn put_cells(out: &mut [u8], values: &[u8], offsets: &[u64], cells: usize)
         field::put_u32(out, at, size as u64);
         at += 4;
         if 0 < size {
-            cell::copy_cell(out, at, values, start, size, values.len() - start);
+            cell::put_cell(out, at, values, start, size, values.len() - start);
             at += size;
             start = end;
         }
@@ -74,6 +76,58 @@ fn write_cells(cells: usize, values: &[u8], offsets: &[u64], out: &mut [u8]) -> 
     }
     put_cells(out, values, offsets, cells);
     Written::Length(need)
+}
+
+// The same of one cell, with no loop.
+fn write_one(values: &[u8], offsets: &[u64], out: &mut [u8]) -> Written
+    requires { ⌜ Held 1 (now values) (now offsets) ⌝ }
+    ensures { λ r. ⌜ outcome r (now (out .exit)) ≡ writtenOver (interleavedOf (now (values .entry)) (now (offsets .entry))) (now (out .entry)) ⌝ }
+{
+    let start = offsets[0] as usize;
+    let size = values.len() - start;
+    let need = 8 + size;
+    if out.len() < need {
+        return Written::Refused(refusal::OUTPUT);
+    }
+    field::put_u32(out, 0, 1);
+    field::put_u32(out, 4, size as u64);
+    if 0 < size {
+        cell::copy_exactly(out, 8, values, start, size);
+    }
+    Written::Length(need)
+}
+
+// Kind and shape are sound: refusals 4, 5 and 6, or the form.
+fn encode_cells(
+    kind: Kind,
+    cells: usize,
+    masks: &[u8],
+    values: &[u8],
+    offsets: &[u64],
+    out: &mut [u8],
+) -> Written
+    requires { ⌜ (interleavedTest (kindOf kind) ≡ true) × (cells ≤ mostCells) ⌝ }
+    ensures { λ r. ⌜ outcome r (now (out .exit))
+        ≡ encodedCells (kindOf kind) cells (contentArray (now (masks .entry)) (now (values .entry)) (now (offsets .entry))) (now (out .entry)) ⌝ }
+{
+    let checked = array_bytes::check_array(kind, cells, masks.len(), values.len(), offsets);
+    match checked {
+        Checked::Refused(number) => Written::Refused(number),
+        Checked::Valid => write_cells(cells, values, offsets, out),
+    }
+}
+
+// The same of one cell. Here the compiler knows the count, and the walk over the offsets becomes one test.
+fn encode_one(kind: Kind, masks: &[u8], values: &[u8], offsets: &[u64], out: &mut [u8]) -> Written
+    requires { ⌜ interleavedTest (kindOf kind) ≡ true ⌝ }
+    ensures { λ r. ⌜ outcome r (now (out .exit))
+        ≡ encodedCells (kindOf kind) 1 (contentArray (now (masks .entry)) (now (values .entry)) (now (offsets .entry))) (now (out .entry)) ⌝ }
+{
+    let checked = array_bytes::check_array(kind, 1, masks.len(), values.len(), offsets);
+    match checked {
+        Checked::Refused(e) => Written::Refused(e),
+        Checked::Valid => write_one(values, offsets, out),
+    }
 }
 
 // Writes a ragged array of depth 0 in the interleaved form. Refusals 1, 2, 4, 5 and 6, in this order; nothing is stored before the
@@ -95,9 +149,8 @@ pub fn encode_interleaved(
     let Cells::Count(cells) = shape::shape_cells(shape) else {
         return Written::Refused(refusal::SHAPE);
     };
-    let checked = array_bytes::check_array(kind, cells, masks.len(), values.len(), offsets);
-    match checked {
-        Checked::Refused(number) => Written::Refused(number),
-        Checked::Valid => write_cells(cells, values, offsets, out),
+    if cells == 1 {
+        return encode_one(kind, masks, values, offsets, out);
     }
+    encode_cells(kind, cells, masks, values, offsets, out)
 }

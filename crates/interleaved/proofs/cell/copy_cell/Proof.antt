@@ -1,9 +1,8 @@
--- `interleaved::cell::copy_cell` meets its contract: in either case the bytes reached.
+-- `interleaved::cell::copy_cell` meets its contract: all the room, or whole blocks, and in either case the cell first.
 -- Assumes nothing.
+use Prim.Native.Nat.{_+_, _-_, _*_, _/_}
 use native.Mathlib.Omega.{arith}
-use lib.ListN.{drop}
 use borrow.Author.Needs.{needs}
-use Rattle.interleaved.proofs.Placing.{copied-all, copied-blocks}
 use Rattle.interleaved.proofs.cell.copy_cell.Statement.{statement}
 use Rattle.interleaved.proofs.cell.copy_cell.Tie as tie
 
@@ -26,10 +25,7 @@ same-length : tie.Need-same-length
 same-length c = search needs
 
 returns : tie.Need-returns
-returns c =
-    let args = c .before .before .before .before .before .before .before .args in
-    copied-all (args .size) (args .room) (drop (args .at) (args .bytes .now)) (args .to) (args .values .now)
-    (omega (arith, c .before .before .before .before .if1 .taken)) (c .before .before .copy-bytes .ensures)
+returns c = search needs
 
 same-length-2 : tie.Need-same-length-2
 same-length-2 c = search needs
@@ -37,8 +33,12 @@ same-length-2 c = search needs
 returns-2 : tie.Need-returns-2
 returns-2 c =
     let args = c .before .before .before .before .before .before .before .args in
-    copied-blocks (args .size) (args .room) (drop (args .at) (args .bytes .now)) (args .to) (args .values .now)
-    (c .before .before .before .before .if1 .left) (c .before .before .copy-bytes2 .ensures)
+    record {
+      count = (args .size - 1) / 32 * 32 + 32;
+      enough = omega arith;
+      fits = c .before .before .before .before .if1 .left;
+      done = c .before .before .copy-bytes2 .ensures;
+    }
 
 pub copy-cell-spec : {M : Type 1} → statement M
 copy-cell-spec =

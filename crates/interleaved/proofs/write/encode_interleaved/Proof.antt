@@ -12,11 +12,11 @@ use Rattle.array.specs.Content.{Content}
 use Rattle.valid.specs.ShapeCells.{toldCells, shapeAnswer}
 use Rattle.valid.proofs.ShapeLaws.{counted}
 use Rattle.codec.specs.Interleaved.{interleavedTest}
-use Rattle.interleaved.proofs.Writes.{write-kind, write-shape, write-content, write-held, write-rest}
+use Rattle.interleaved.proofs.Writes.{write-kind, write-shape, write-past}
 use Rattle.interleaved.proofs.write.encode_interleaved.Statement.{statement}
 use Rattle.interleaved.proofs.write.encode_interleaved.Tie as tie
 
--- ---- places: the start, the kind asked for, the kind found right, the cells counted, the array checked
+-- ---- places: the start, the kind asked for, the kind found right, the cells counted
 
 abbrev entry : tie.After-shared-slice-known4 → tie.Start
 entry c = c .before .before .before .before
@@ -26,9 +26,6 @@ start c = entry (c .before .before)
 
 abbrev right : tie.After-cells → tie.Else1
 right c = c .before .before .before
-
-abbrev cells : tie.After-check-array → tie.After-cells
-cells c = c .before .before
 
 -- the array that is handed over
 abbrev content : tie.Start → Content
@@ -65,41 +62,35 @@ returns-2 c =
     write-shape (kindOf (s .args .kind)) (s .args .shape .now) (content s) (s .args .out .now) (sound kind)
     (sym (ap toldCells (c .enum-told .given .1)) ∙ c .before .before .shape-cells .ensures)
 
-check-array-requires : tie.Need-check-array-requires
-unfolding mostCells
-check-array-requires c κs = counted (start (right (c .before) .before) .args .shape .now) (c .before .cells .given .0 .0) (shaped (c .before)) .few
-
-enum-known-checked : tie.Need-enum-known-checked
-enum-known-checked c = search needs
-
-enum-told-2 : tie.Need-enum-told-2
-enum-told-2 c = search needs
-
-write-cells-requires : tie.Need-write-cells-requires
-write-cells-requires c κs =
-    let k = c .before .before .before in
-    let s = start (right (cells k) .before) in
-    write-held (kindOf (s .args .kind)) (s .args .shape .now) (content s) (s .args .out .now) (sound (right (cells k))) (shaped (cells k))
-    (k .check-array .result) (k .check-array .ensures) (c .before .enum-told2 .given .1)
-
-returns-3 : tie.Need-returns-3
-returns-3 c =
-    let k = c .before .before .before in
-    let s = start (right (cells k) .before) in
-    write-content (kindOf (s .args .kind)) (s .args .shape .now) (content s) (s .args .out .now) (sound (right (cells k))) (shaped (cells k))
-    (k .check-array .result) (k .check-array .ensures) (c .before .checked .given .1)
+encode-one-requires : tie.Need-encode-one-requires
+encode-one-requires c κs = sound (right (c .before .before .before))
 
 same-length : tie.Need-same-length
 same-length c = search needs
 
+returns-3 : tie.Need-returns-3
+returns-3 c =
+    let k = c .before .before .before .before .before .before in
+    let s = start (right k .before) in
+    c .before .before .encode-one .ensures
+    ∙ write-past (kindOf (s .args .kind)) (s .args .shape .now) (content s) (s .args .out .now) (sound (right k))
+    (ap gives (sym (c .before .before .before .before .if2 .taken)) ∙ shaped k)
+
+encode-cells-requires : tie.Need-encode-cells-requires
+unfolding mostCells
+encode-cells-requires c κs =
+    let k = c .before .before .before in
+    (sound (right k), counted (start (right k .before) .args .shape .now) (k .cells .given .0 .0) (shaped k) .few)
+
+same-length-2 : tie.Need-same-length-2
+same-length-2 c = search needs
+
 returns-4 : tie.Need-returns-4
 returns-4 c =
-    let told = c .before .before .before .before in
-    let k = told .before .before in
-    let s = start (right (cells k) .before) in
-    c .before .before .write-cells .ensures
-    ∙ write-rest (kindOf (s .args .kind)) (s .args .shape .now) (content s) (s .args .out .now) (sound (right (cells k))) (shaped (cells k))
-    (k .check-array .result) (k .check-array .ensures) (told .enum-told2 .given .1)
+    let k = c .before .before .before .before .before .before in
+    let s = start (right k .before) in
+    c .before .before .encode-cells .ensures
+    ∙ write-past (kindOf (s .args .kind)) (s .args .shape .now) (content s) (s .args .out .now) (sound (right k)) (shaped k)
 
 pub encode-interleaved-spec : {M : Type 1} → statement M
 encode-interleaved-spec =
@@ -111,10 +102,9 @@ encode-interleaved-spec =
     enum-known-cells
     enum-told
     returns-2
-    check-array-requires
-    enum-known-checked
-    enum-told-2
-    write-cells-requires
-    returns-3
+    encode-one-requires
     same-length
+    returns-3
+    encode-cells-requires
+    same-length-2
     returns-4)

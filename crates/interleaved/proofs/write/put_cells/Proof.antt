@@ -87,16 +87,15 @@ add-at c =
     let t = c .before .before in
     omega (arith, storing-room (head t .loop .inv) (within t), long (head t))
 
-sub-copy-cell : tie.Need-sub-copy-cell Inv-loop μ-loop
-sub-copy-cell c =
+sub-put-cell : tie.Need-sub-put-cell Inv-loop μ-loop
+sub-put-cell c =
     let t = c .before .before .before .before in
     omega (arith, storing-rises (head t .loop .inv) (within t))
 
-copy-cell-requires : tie.Need-copy-cell-requires Inv-loop μ-loop
-copy-cell-requires c κs =
+put-cell-requires : tie.Need-put-cell-requires Inv-loop μ-loop
+put-cell-requires c κs =
     let t = c .before .before .before .before in
     let inv = head t .loop .inv in (
-      c .before .if1 .taken,
       omega (arith, storing-rises inv (within t)),
       omega (arith, storing-output inv (within t), stored-same inv (within t) (t .put-u322 .ensures) (omega arith), storing-same inv),
       omega (arith, storing-rises inv (within t)),
@@ -113,7 +112,7 @@ loop-less c = omega arith
 loop-again : tie.Need-loop-again Inv-loop μ-loop
 loop-again c =
     let t = c .before .before .before .before .before .before .before in
-    storing-more (head t .loop .inv) (within t) (t .put-u322 .ensures) (omega arith) (c .before .before .copy-cell .ensures)
+    storing-more (head t .loop .inv) (within t) (t .put-u322 .ensures) (omega arith) (c .before .before .put-cell .ensures)
 
 loop-less-2 : tie.Need-loop-less-2 Inv-loop μ-loop
 loop-less-2 c = omega arith
@@ -148,8 +147,8 @@ put-cells-spec =
     sub-size
     put-u32-requires-2
     add-at
-    sub-copy-cell
-    copy-cell-requires
+    sub-put-cell
+    put-cell-requires
     add-at-2
     loop-less
     loop-again

@@ -1,0 +1,66 @@
+-- `interleaved::write::encode_one` meets its contract, by the laws of Writes.
+-- Assumes nothing.
+use mathlib.Core.Path.{_∙_}
+use native.Mathlib.Omega.{arith}
+use borrow.Author.Needs.{needs}
+use Rattle.array.specs.Limits.{mostCells}
+use Rattle.array.specs.Meaning.{kindOf}
+use Rattle.array.specs.Outcome.{contentArray}
+use Rattle.array.specs.Content.{Content}
+use Rattle.interleaved.proofs.Writes.{write-content, write-held, write-rest}
+use Rattle.interleaved.proofs.write.encode_one.Statement.{statement}
+use Rattle.interleaved.proofs.write.encode_one.Tie as tie
+
+-- the start, from the place where the array is checked
+abbrev start : tie.After-check-array → tie.Start
+start k = k .before .before .before .before .before
+
+-- the array that is handed over
+abbrev content : tie.Start → Content
+content s = contentArray (s .args .masks .now) (s .args .values .now) (s .args .offsets .now)
+
+check-array-requires : tie.Need-check-array-requires
+unfolding mostCells
+check-array-requires c κs = omega arith
+
+enum-known-checked : tie.Need-enum-known-checked
+enum-known-checked c = search needs
+
+enum-told : tie.Need-enum-told
+enum-told c = search needs
+
+write-one-requires : tie.Need-write-one-requires
+unfolding mostCells
+write-one-requires c κs =
+    let k = c .before .before .before in
+    let s = start k in
+    write-held (kindOf (s .args .kind)) 1 (content s) (s .args .out .now) (k .check-array .result) (k .check-array .ensures) (s .pre) (c .before .enum-told .given .1) (omega arith)
+
+returns : tie.Need-returns
+returns c =
+    let k = c .before .before .before in
+    let s = start k in
+    write-content (kindOf (s .args .kind)) 1 (content s) (s .args .out .now) (k .check-array .result) (k .check-array .ensures) (c .before .checked .given .1)
+
+same-length : tie.Need-same-length
+same-length c = search needs
+
+returns-2 : tie.Need-returns-2
+returns-2 c =
+    let told = c .before .before .before .before in
+    let k = told .before .before in
+    let s = start k in
+    c .before .before .write-one .ensures
+    ∙ write-rest (kindOf (s .args .kind)) 1 (content s) (s .args .out .now) (k .check-array .result) (k .check-array .ensures) (s .pre) (told .enum-told .given .1)
+
+pub encode-one-spec : {M : Type 1} → statement M
+encode-one-spec =
+    tie.close
+    (tie.spec
+    check-array-requires
+    enum-known-checked
+    enum-told
+    write-one-requires
+    returns
+    same-length
+    returns-2)
