@@ -6,12 +6,12 @@ use Prim.Native.Nat.{ℕ, _+_, _-_, _*_, _<_, _≤_}
 use native.Mathlib.Nat.{add-assoc, zero-add, add-zero}
 use native.Mathlib.Omega.{arith}
 use mathlib.Core.Bool.{Bool, true, false, _&&_}
-use mathlib.Core.List.{List, []}
+use mathlib.Core.List.{List}
 use lib.ListN.{length, take, drop, length-drop}
 use lib.Dec.{eqb}
 use lib.Seq.{drop-drop, take-all}
 use borrow.Author.Tests.{eq-eqb, ne-eqb}
-use Rattle.array.specs.Answer.{Answer, gives, refuses, andThen, unless}
+use Rattle.array.specs.Answer.{Answer, gives, refuses, unless}
 use Rattle.array.specs.Content.{Content, arrayTest}
 use Rattle.array.specs.Kind.{byteKind, Kind, Form}
 use Rattle.array.specs.Rows.{nextSubsets}
@@ -19,7 +19,7 @@ use Rattle.array.specs.Shape.{volume}
 use Rattle.array.specs.Subset.{Subset, pairs}
 use Rattle.array.proofs.LayoutLaws.{content-path}
 use Rattle.array.proofs.SubsetLists.{startsAt, lengthsAt}
-use Rattle.chunks.specs.Chunks.{firstChunk, laterChunks, nothingTest}
+use Rattle.chunks.specs.Chunks.{firstChunk, laterChunks}
 use Rattle.cover.specs.Asked.{SubsetsOk}
 use Rattle.cover.proofs.SubsetWalk.{SubsetsLeft, rest, rest-begins, rest-ends, subsets-begin, subsets-more, subset-now, now-lengths}
 use Rattle.merge.specs.Chunks.{takes, chunkAnswer, chunkTotal}
@@ -136,15 +136,6 @@ module _ {f : Form} {d : ℕ} {sh flat : List ℕ} {count : ℕ} {c : Content} {
       fitting : Fitting f d m here taken unused numbers
       fitting = chunk-fits f d m here (r ∙ ap (chunkAnswer k m) (lent-left c p v o))
 
-      pub masks-taken : p + d * m ≤ length (c .masks)
-      masks-taken = omega (arith, fitting .held .masks, length-drop p (c .masks), w .masks)
-
-      pub values-taken : v + taken ≤ length (c .values)
-      values-taken = omega (arith, fitting .held .values, fitting .size .is-taken, length-drop v (c .values), w .values)
-
-      pub offsets-taken : o + numbers ≤ length (c .offsets)
-      offsets-taken = omega (arith, fitting .held .offsets, fitting .size .is-numbers, length-drop o (c .offsets), w .offsets)
-
       pub unused-inside : unused ≤ taken
       unused-inside = omega (arith, fitting .held .inside, fitting .size .is-taken, fitting .size .is-unused)
 
@@ -158,9 +149,9 @@ module _ {f : Form} {d : ℕ} {sh flat : List ℕ} {count : ℕ} {c : Content} {
       pub walked-more : Walked f d sh flat count c (i + 1) (at + length sh + length sh) (p + d * m) (v + taken) (o + numbers) (sum + (taken - unused))
       walked-more = record {
         geo = subsets-more sh flat count i at (w .geo) h;
-        masks = masks-taken;
-        values = values-taken;
-        offsets = offsets-taken;
+        masks = omega (arith, fitting .held .masks, length-drop p (c .masks), w .masks);
+        values = omega (arith, fitting .held .values, fitting .size .is-taken, length-drop v (c .values), w .values);
+        offsets = omega (arith, fitting .held .offsets, fitting .size .is-numbers, length-drop o (c .offsets), w .offsets);
         bounded = omega (arith, w .bounded);
         same =
             turn-by true (fitting .test)

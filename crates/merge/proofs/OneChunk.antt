@@ -1,6 +1,6 @@
 -- The check of one chunk: what a chunk that keeps the rules says of what is left, and one law for each answer.
 -- Assumes nothing.
-use mathlib.Core.Path.{_≡_, refl, sym, ap, ap₂, _∙_}
+use mathlib.Core.Path.{_≡_, refl, sym, ap, _∙_}
 use Prim.Native.Nat.{ℕ, suc, _+_, _-_, _*_, _<_, _≤_}
 use native.Mathlib.Nat.{min-le-right}
 use native.Mathlib.Numerals.{add-one}
@@ -10,7 +10,7 @@ use mathlib.Core.List.{List, [], _∷_}
 use lib.ListN.{length, getD, take, length-take}
 use lib.Dec.{leb}
 use borrow.Author.Tests.{leb-true, leb-false, le-leb, lt-leb, not-true, not-false}
-use Rattle.array.specs.Answer.{Answer, gives, refuses, unless}
+use Rattle.array.specs.Answer.{refuses, unless}
 use Rattle.array.specs.Content.{Content, ContentOk, arrayTest}
 use Rattle.array.specs.Kind.{byteKind, Form, fixed, ragged, Order, Place}
 use Rattle.array.specs.Offsets.{last, Rising}

@@ -99,9 +99,13 @@ pub fn check_chunks(
         let mid = at + d;
         let end = mid + d;
         let m = subset::volume_of(&subsets[mid..end]) as usize;
-        let Chunk::Takes(bytes, unused, numbers) =
-            check_chunk(kind, m, &masks[p..], &values[v..], &offsets[o..])
-        else {
+        let Chunk::Takes(bytes, unused, numbers) = check_chunk(
+            kind,
+            m,
+            &masks[p..],
+            &values[v..],
+            &offsets[o..],
+        ) else {
             return Total::Refused;
         };
         p += depth * m;

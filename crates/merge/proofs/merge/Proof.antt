@@ -2,7 +2,6 @@
 -- Assumes nothing.
 use mathlib.Core.Path.{_≡_, sym, ap, _∙_}
 use borrow.Author.Needs.{needs}
-use lib.ListN.{length}
 use Rattle.array.specs.Answer.{gives}
 use Rattle.array.specs.Kind.{Form}
 use Rattle.array.specs.Meaning.{formOf, kindOf}

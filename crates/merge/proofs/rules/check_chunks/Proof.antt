@@ -17,7 +17,7 @@ use Rattle.subset.proofs.Index.{few-within, few-drop}
 use Rattle.array.proofs.SubsetLists.{startsAt, lengthsAt}
 use Rattle.cover.proofs.SubsetWalk.{next-room, now-within}
 use Rattle.merge.specs.Chunks.{takes, chunkAnswer, toldChunk}
-use Rattle.merge.proofs.ChunkWalk.{lent, Walked, walked-begins, masks-left, values-left, offsets-left, none-left, walked-bad, masks-taken, values-taken, offsets-taken, unused-inside, walked-more}
+use Rattle.merge.proofs.ChunkWalk.{lent, Walked, walked-begins, masks-left, values-left, offsets-left, none-left, walked-bad, unused-inside, walked-more}
 use Rattle.merge.proofs.rules.check_chunks.Statement.{statement}
 use Rattle.merge.proofs.rules.check_chunks.Tie as tie
 
@@ -80,6 +80,9 @@ cells c = counted (checked c) .volume-of .result
 
 in-loop : (c : Told) → head c .loop .i < start (head c) .args .count
 in-loop c = counted (checked c) .before .before .loop-test .taken
+
+sized : (c : Told) → cells c ≡ volume (lens (head c) (in-loop c))
+sized c = counted (checked c) .volume-of .ensures
 
 got : (c : Told) → let l = head c in let a = start l in
     takes (c .before .bytes .given .0 .0) (c .before .bytes .given .0 .1 .0) (c .before .bytes .given .0 .1 .1 .0)
@@ -166,22 +169,22 @@ returns c =
 mul-p : tie.Need-mul-p Inv-loop μ-loop
 mul-p c =
     let l = head c in
-    omega (arith, small-product (start l .args .kind .depth) (cells c) (omega arith) (omega (arith, counted (checked c) .volume-of .ensures, small l (in-loop c))))
+    omega (arith, small-product (start l .args .kind .depth) (cells c) (omega arith) (omega (arith, sized c, small l (in-loop c))))
 
 add-p : tie.Need-add-p Inv-loop μ-loop
-add-p c = omega (arith, masks-taken (head c .loop .inv) (in-loop c) (counted (checked c) .volume-of .ensures) (got c))
+add-p c = omega (arith, walked-more (head c .loop .inv) (in-loop c) (sized c) (got c) .masks)
 
 add-v : tie.Need-add-v Inv-loop μ-loop
-add-v c = omega (arith, values-taken (head c .loop .inv) (in-loop c) (counted (checked c) .volume-of .ensures) (got c))
+add-v c = omega (arith, walked-more (head c .loop .inv) (in-loop c) (sized c) (got c) .values)
 
 add-o : tie.Need-add-o Inv-loop μ-loop
-add-o c = omega (arith, offsets-taken (head c .loop .inv) (in-loop c) (counted (checked c) .volume-of .ensures) (got c))
+add-o c = omega (arith, walked-more (head c .loop .inv) (in-loop c) (sized c) (got c) .offsets)
 
 sub-sum : tie.Need-sub-sum Inv-loop μ-loop
-sub-sum c = unused-inside (head c .loop .inv) (in-loop c) (counted (checked c) .volume-of .ensures) (got c)
+sub-sum c = unused-inside (head c .loop .inv) (in-loop c) (sized c) (got c)
 
 add-sum : tie.Need-add-sum Inv-loop μ-loop
-add-sum c = omega (arith, values-taken (head c .loop .inv) (in-loop c) (counted (checked c) .volume-of .ensures) (got c), head c .loop .inv .bounded)
+add-sum c = omega (arith, walked-more (head c .loop .inv) (in-loop c) (sized c) (got c) .values, head c .loop .inv .bounded)
 
 add-i : tie.Need-add-i Inv-loop μ-loop
 add-i c = omega arith
@@ -190,7 +193,7 @@ loop-less : tie.Need-loop-less Inv-loop μ-loop
 loop-less c = omega arith
 
 loop-again : tie.Need-loop-again Inv-loop μ-loop
-loop-again c = walked-more (head c .loop .inv) (in-loop c) (counted (checked c) .volume-of .ensures) (got c)
+loop-again c = walked-more (head c .loop .inv) (in-loop c) (sized c) (got c)
 
 returns-2 : tie.Need-returns-2 Inv-loop μ-loop
 returns-2 c = masks-left (c .before .before .loop .inv) (omega arith) (search needs)
