@@ -99,13 +99,8 @@ pub fn check_chunks(
         let mid = at + d;
         let end = mid + d;
         let m = subset::volume_of(&subsets[mid..end]) as usize;
-        let Chunk::Takes(bytes, unused, numbers) = check_chunk(
-            kind,
-            m,
-            &masks[p..],
-            &values[v..],
-            &offsets[o..],
-        ) else {
+        let chunk = check_chunk(kind, m, &masks[p..], &values[v..], &offsets[o..]);
+        let Chunk::Takes(bytes, unused, numbers) = chunk else {
             return Total::Refused;
         };
         p += depth * m;

@@ -85,9 +85,9 @@ sized : (c : Told) → cells c ≡ volume (lens (head c) (in-loop c))
 sized c = counted (checked c) .volume-of .ensures
 
 got : (c : Told) → let l = head c in let a = start l in
-    takes (c .before .bytes .given .0 .0) (c .before .bytes .given .0 .1 .0) (c .before .bytes .given .0 .1 .1 .0)
+    takes (c .before .chunk .given .0 .0) (c .before .chunk .given .0 .1 .0) (c .before .chunk .given .0 .1 .1 .0)
     ≡ chunkAnswer (byteKind (a .args .kind .depth) (formOf (a .args .kind .values))) (cells c) (lent (handed a) (l .loop .p) (l .loop .v) (l .loop .o))
-got c = sym (ap toldChunk (c .before .bytes .given .1)) ∙ checked c .check-chunk .ensures
+got c = sym (ap toldChunk (c .before .chunk .given .1)) ∙ checked c .check-chunk .ensures
 
 cast-depth : tie.Need-cast-depth Inv-loop μ-loop
 cast-depth c = search needs
@@ -154,8 +154,8 @@ part-check-chunk-end-3 c = omega (arith, turn (c .before .before) .loop .inv .of
 check-chunk-requires : tie.Need-check-chunk-requires Inv-loop μ-loop
 check-chunk-requires c κs = let v = c .before .before .before in omega (arith, v .volume-of .ensures, small (turn v) (v .before .before .loop-test .taken))
 
-enum-known-bytes : tie.Need-enum-known-bytes Inv-loop μ-loop
-enum-known-bytes c = search needs
+enum-known-chunk : tie.Need-enum-known-chunk Inv-loop μ-loop
+enum-known-chunk c = search needs
 
 enum-told : tie.Need-enum-told Inv-loop μ-loop
 enum-told c = search needs
@@ -233,7 +233,7 @@ check-chunks-spec =
     part-check-chunk-start-3
     part-check-chunk-end-3
     check-chunk-requires
-    enum-known-bytes
+    enum-known-chunk
     enum-told
     returns
     mul-p
