@@ -8,13 +8,14 @@ use mathlib.Core.List.{List, [], _∷_}
 use lib.ListN.{length, take, drop, length-append, length-map, length-drop}
 use lib.Seq.{take-at, drop-at, length-take-le}
 use Rattle.array.specs.Limits.{mostBytes}
-use Rattle.array.specs.Lists.{joined, pieces}
+use Rattle.array.specs.Lists.{joined, pieces, All}
 use Rattle.array.specs.Kind.{Kind, Form, fixed, ragged}
 use Rattle.array.specs.Offsets.{last, Rising, slices}
-use Rattle.array.specs.Cells.{Value, Cell, maskOf, leaf, inners}
-use Rattle.array.specs.Content.{Content, masksOf, leaves, layout, pairUp, attach, valuesIn, cellsOf, ValuesOk, ContentOk}
-use Rattle.array.proofs.Lists.{All-of, length-joined, pieces-joined, length-pieces, sized-pieces, map-map, map-id}
+use Rattle.array.specs.Cells.{Value, Cell, Strict, maskOf, leaf, inners}
+use Rattle.array.specs.Content.{Content, masksOf, leaves, layout, pairUp, attach, valuesIn, cellsOf, ValuesOk, ContentOk, ArrayOk}
+use Rattle.array.proofs.Lists.{All-of, All-map, All-append, All-image, All-take, All-drop, length-joined, pieces-joined, length-pieces, sized-pieces, map-map, map-id}
 use Rattle.array.proofs.Offsets.{length-ends, rising-ends, last-ends, slices-offsets, length-slicesFrom, total-slicesFrom}
+use Rattle.array.proofs.RestLaws.{StrictCell}
 use Rattle.array.proofs.Sizes.{OfSize, SizedAs}
 
 -- contents are equal by their parts
@@ -65,7 +66,17 @@ layout-values-ok (fixed k o) n d cs e p = (length-joined k (leaves d cs) p ∙ a
 layout-values-ok (ragged w q) n d cs e p =
     (ap suc (length-ends 0 (leaves d cs) ∙ length-map cs (leaf d) ∙ e), rising-ends 0 (leaves d cs), last-ends 0 (leaves d cs) ∙ zero-add (length (joined (leaves d cs))))
 
-pub layout-ok : (k : Kind) (n : ℕ) (cs : List (Cell (k .depth))) → length cs ≡ n → SizedAs (k .form) (leaves (k .depth) cs)
+pub strict-mask : {A : Type 0} (P : A → Type 0) (cs : List (ℕ × A)) → All (λ c. Strict (c .0) × P (c .1)) cs → All Strict (maskOf cs)
+strict-mask P [] p = tt
+strict-mask P (c ∷ cs) p = (p .0 .0, strict-mask P cs (p .1))
+
+strict-masks : (d : ℕ) (cs : List (Cell d)) → All (StrictCell d) cs → All Strict (masksOf d cs)
+strict-masks zero cs p = tt
+strict-masks (suc d) cs p =
+    All-append Strict (maskOf cs) (masksOf d (inners cs)) (strict-mask (StrictCell d) cs p)
+    (strict-masks d (inners cs) (All-image (StrictCell d) (λ c. c .1) cs (All-map (StrictCell (suc d)) (λ c. StrictCell d (c .1)) (λ c q. q .1) cs p)))
+
+layout-ok : (k : Kind) (n : ℕ) (cs : List (Cell (k .depth))) → length cs ≡ n → SizedAs (k .form) (leaves (k .depth) cs)
     → ContentOk k n (layout (k .form) (k .depth) cs)
 layout-ok k n cs e p = record {
   masks-fit = length-masksOf (k .depth) cs ∙ ap (λ (m : ℕ). k .depth * m) e;
@@ -133,14 +144,26 @@ cells-sized k n c ok =
     subst (SizedAs (k .form)) (sym (leaves-attach n vs (values-length (k .form) n c (ok .values-fit)) (k .depth) (c .masks) (ok .masks-fit)))
     (values-sized (k .form) n c (ok .values-fit))
 
+strict-pairUp : {A : Type 0} (P : A → Type 0) (ms : List ℕ) (xs : List A) → All Strict ms → All P xs → All (λ c. Strict (c .0) × P (c .1)) (pairUp ms xs)
+strict-pairUp P [] xs p q = tt
+strict-pairUp P (m ∷ ms) [] p q = tt
+strict-pairUp P (m ∷ ms) (x ∷ xs) p q = ((p .0, q .0), strict-pairUp P ms xs (p .1) (q .1))
+
+strict-attach : (d n : ℕ) (ps : List ℕ) (vs : List Value) → All Strict ps → All (StrictCell d) (attach d n ps vs)
+strict-attach zero n ps vs p = All-of (StrictCell zero) (λ v. tt) vs
+strict-attach (suc d) n ps vs p =
+    strict-pairUp (StrictCell d) (take n ps) (attach d n (drop n ps) vs) (All-take Strict n ps p) (strict-attach d n (drop n ps) vs (All-drop Strict n ps p))
+
 -- what the laws ask of a list of cells
 pub record Good (k : Kind) (n : ℕ) (cs : List (Cell (k .depth))) : Type 0 where
   pub counted : length cs ≡ n
   pub sized : SizedAs (k .form) (leaves (k .depth) cs)
   pub small : length (joined (leaves (k .depth) cs)) ≤ mostBytes
+  pub strict : All (StrictCell (k .depth)) cs
 
-pub good-cells : (k : Kind) (n : ℕ) (c : Content) → ContentOk k n c → length (c .values) ≤ mostBytes → Good k n (cellsOf k n c)
-good-cells k n c ok h =
+pub good-cells : (k : Kind) (n : ℕ) (c : Content) → ArrayOk k n c → length (c .values) ≤ mostBytes → Good k n (cellsOf k n c)
+good-cells k n c array h =
+    let ok : ContentOk k n c = array .fits in
     let vs : List Value = valuesIn (k .form) n c in
     let ev : length vs ≡ n = values-length (k .form) n c (ok .values-fit) in
     let el : leaves (k .depth) (cellsOf k n c) ≡ vs = leaves-attach n vs ev (k .depth) (c .masks) (ok .masks-fit) in
@@ -148,4 +171,9 @@ good-cells k n c ok h =
       counted = length-attach n vs ev (k .depth) (c .masks) (ok .masks-fit);
       sized = cells-sized k n c ok;
       small = subst (λ (us : List Value). length (joined us) ≤ mostBytes) (sym el) (le-trans (values-total (k .form) n c (ok .values-fit)) h);
+      strict = strict-attach (k .depth) n (c .masks) vs (array .strict);
     }
+
+-- laid out, they are an array's content
+pub good-layout : (k : Kind) (n : ℕ) (cs : List (Cell (k .depth))) → Good k n cs → ArrayOk k n (layout (k .form) (k .depth) cs)
+good-layout k n cs g = record { fits = layout-ok k n cs (g .counted) (g .sized); strict = strict-masks (k .depth) cs (g .strict) }

@@ -10,7 +10,7 @@ pub mod Geometry
 pub mod LayoutLaws
 pub mod Inverse
 pub mod RestLaws
-pub mod SeenLaws
+pub mod Marks
 pub mod Over
 pub mod Laying
 pub mod Limits

@@ -9,10 +9,12 @@ use lib.ListN.{length}
 use lib.Dec.{leb, eqb}
 use borrow.Author.Tests.{le-leb, leb-true, eq-eqb, eqb-true}
 use Rattle.array.specs.Answer.{Answer, gives, unless, andThen, mapAnswer}
-use Rattle.array.specs.Kind.{fixed, little}
+use Rattle.array.specs.Limits.{mostBytes}
+use Rattle.array.specs.Kind.{Kind, fixed, little}
+use Rattle.array.specs.Content.{Content, ArrayOk, unlessKept}
 use Rattle.array.specs.Calls.{reverseAnswer, endiannessReversed, cellsAnswer, subsetCells}
 use Rattle.array.specs.Refusals.{Rule, InOrder, success, broken, kept, Given, Refusals}
-use Rattle.array.proofs.Rules.{form-test, form-ok, shape-test, shape-ok, numbers-test, numbers-ok}
+use Rattle.array.proofs.Rules.{form-test, form-ok, shape-test, shape-ok, numbers-test, numbers-ok, array-test, array-ok, size-test, size-ok}
 
 -- ---- how a call is put together
 
@@ -35,6 +37,11 @@ stage-eq k m n h = stage k (eq-eqb m n) (eqb-true m n) h
 pub stage-given : {A B : Type 0} {Q : B → Type 0} {x : B} {b : Answer B} {t : Bool} {rs : List Rule} {a : Answer A} (k : ℕ) → b ≡ gives x
     → (Q x → t ≡ true) → (t ≡ true → Q x) → InOrder rs a → InOrder ((k, Given b Q) ∷ rs) (unless t k a)
 stage-given {Q = Q} {x = x} k e test ok h = stage k (λ g. test (g .keeps x e)) (λ p. record { keeps = λ y q. let same : x ≡ y = cc in subst Q same (ok p) }) h
+
+-- an array that is handed over
+pub stage-array : {A : Type 0} {rs : List Rule} {a : Answer A} (k : Kind) (n : ℕ) (c : Content) → InOrder rs a
+    → InOrder ((4, ArrayOk k n c) ∷ (5, length (c .values) ≤ mostBytes) ∷ rs) (unlessKept k n c a)
+stage-array k n c h = stage 4 (array-test k n c) (array-ok k n c) (stage 5 (size-test (length (c .values))) (size-ok (length (c .values))) h)
 
 -- one step, and then what follows it
 pub and-then : {A B : Type 0} {rs ss : List Rule} {a : Answer A} {f : A → Answer B} → InOrder rs a → ((x : A) → a ≡ gives x → InOrder ss (f x))

@@ -3,9 +3,10 @@
 -- Assumes nothing.
 use mathlib.Core.Path.{_≡_, refl, ap}
 use Prim.Native.Nat.{ℕ, zero, suc}
+use native.Mathlib.Omega.{arith}
 use mathlib.Core.Bool.{Bool, true, _&&_}
 use Rattle.array.specs.Lists.{pick}
-use Rattle.array.specs.Cells.{Value, Cell, setTest, leaf, blank, restOne, rest}
+use Rattle.array.specs.Cells.{Value, Cell, Strict, setTest, leaf, blank, restOne, rest}
 
 -- the mask byte of level l, outermost first; 0 past the innermost
 abbrev pub maskAt : (d l : ℕ) → Cell d → ℕ
@@ -39,13 +40,15 @@ module _ (z : Value) where
     where
       one : (m : ℕ) → restOne z (blank z d) (rest z d) m (c .1) .0 ≡ m
       one zero = refl
-      one (suc m) = refl
+      one (suc zero) = refl
+      one (suc (suc m)) = refl
   rest-mask (suc d) (suc l) c = one (c .0) (rest-mask d l (c .1))
     where
       one : (m : ℕ) → maskAt d l (rest z d (c .1)) ≡ pick (outerSet d l (c .1)) (maskAt d l (c .1)) 0
           → maskAt d l (restOne z (blank z d) (rest z d) m (c .1) .1) ≡ pick (setTest m && outerSet d l (c .1)) (maskAt d l (c .1)) 0
       one zero e = mask-blank d l
-      one (suc m) e = e
+      one (suc zero) e = e
+      one (suc (suc m)) e = mask-blank d l
 
   pub rest-value : (d : ℕ) (c : Cell d) → leaf d (rest z d c) ≡ pick (outerSet d d c) (leaf d c) z
   rest-value zero c = refl
@@ -54,7 +57,8 @@ module _ (z : Value) where
       one : (m : ℕ) → leaf d (rest z d (c .1)) ≡ pick (outerSet d d (c .1)) (leaf d (c .1)) z
           → leaf d (restOne z (blank z d) (rest z d) m (c .1) .1) ≡ pick (setTest m && outerSet d d (c .1)) (leaf d (c .1)) z
       one zero e = leaf-of-blank d
-      one (suc m) e = e
+      one (suc zero) e = e
+      one (suc (suc m)) e = leaf-of-blank d
 
   -- the rest form of a rest form is itself
   pub rest-again : (d : ℕ) (c : Cell d) → rest z d (rest z d c) ≡ rest z d c
@@ -64,7 +68,8 @@ module _ (z : Value) where
       one : (m : ℕ) → rest z d (rest z d (c .1)) ≡ rest z d (c .1)
           → rest z (suc d) (restOne z (blank z d) (rest z d) m (c .1)) ≡ restOne z (blank z d) (rest z d) m (c .1)
       one zero e = refl
-      one (suc m) e = ap (λ (r : Cell d). (suc m, r)) e
+      one (suc zero) e = ap (λ (r : Cell d). (1, r)) e
+      one (suc (suc m)) e = refl
 
   -- what holds of a null's value and of a cell's value holds of its value in rest form
   pub leaf-blank : (P : Value → Type 0) (d : ℕ) → P z → P (leaf d (blank z d))
@@ -77,4 +82,25 @@ module _ (z : Value) where
     where
       one : (m : ℕ) → P (leaf d (rest z d (c .1))) → P (leaf (suc d) (restOne z (blank z d) (rest z d) m (c .1)))
       one zero h = leaf-blank P d p
-      one (suc m) h = h
+      one (suc zero) h = h
+      one (suc (suc m)) h = leaf-blank P d p
+
+-- ---- mask bytes that keep their rule
+
+-- every mask byte of a cell is 00 or 01
+abbrev pub StrictCell : (d : ℕ) → Cell d → Type 0
+StrictCell zero v = Unit {0}
+StrictCell (suc d) c = Strict (c .0) × StrictCell d (c .1)
+
+pub strict-blank : (z : Value) (d : ℕ) → StrictCell d (blank z d)
+strict-blank z zero = tt
+strict-blank z (suc d) = (omega arith, strict-blank z d)
+
+pub strict-rest : (z : Value) (d : ℕ) (c : Cell d) → StrictCell d c → StrictCell d (rest z d c)
+strict-rest z zero c p = tt
+strict-rest z (suc d) c p = one (c .0) (p .0) (strict-rest z d (c .1) (p .1))
+  where
+    one : (m : ℕ) → Strict m → StrictCell d (rest z d (c .1)) → StrictCell (suc d) (restOne z (blank z d) (rest z d) m (c .1))
+    one zero q r = (q, strict-blank z d)
+    one (suc zero) q r = (q, r)
+    one (suc (suc m)) q r = (q, strict-blank z d)

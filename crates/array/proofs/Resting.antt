@@ -8,12 +8,12 @@ use Rattle.array.specs.Kind.{Kind, KindOk, nullOf}
 use Rattle.array.specs.Shape.{volume, ShapeOk}
 use Rattle.array.specs.Cells.{Cell, rest}
 use Rattle.array.specs.Content.{Valid, layout, restForm}
-use Rattle.array.proofs.LayoutLaws.{Good, layout-ok, cells-layout}
+use Rattle.array.proofs.LayoutLaws.{Good, good-layout, cells-layout}
 
 pub laid-valid : {k : Kind} {shape : List ℕ} {cs : List (Cell (k .depth))} → KindOk k → ShapeOk shape → Good k (volume shape) cs
     → Valid k shape (layout (k .form) (k .depth) cs)
 laid-valid {k} {shape} {cs} ok sh g =
-    record { kind = ok; shaped = sh; content = layout-ok k (volume shape) cs (g .counted) (g .sized); small = g .small }
+    record { kind = ok; shaped = sh; content = good-layout k (volume shape) cs g; small = g .small }
 
 map-same : {A : Type 0} (f : A → A) (xs : List A) → All (λ x. f x ≡ x) xs → map f xs ≡ xs
 map-same f [] p = refl

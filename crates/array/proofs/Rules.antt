@@ -2,20 +2,24 @@
 -- Assumes nothing.
 use mathlib.Core.Path.{_≡_, refl}
 use mathlib.Core.Logic.{_⊎_, inl, inr}
-use Prim.Native.Nat.{ℕ, suc, _+_, _*_, _%_, _≤_}
+use Prim.Native.Nat.{ℕ, zero, suc, _+_, _*_, _%_, _≤_}
+use native.Mathlib.Omega.{arith}
 use mathlib.Core.Bool.{Bool, true, false, _&&_, _||_, false≢true}
 use mathlib.Core.List.{List, [], _∷_}
 use lib.ListN.{length}
 use lib.Dec.{leb, eqb}
 use borrow.Author.Tests.{le-leb, eq-eqb, leb-true, eqb-true}
+use Rattle.array.specs.Answer.{Answer}
 use Rattle.array.specs.Limits.{mostBytes, mostCells}
 use Rattle.array.specs.Lists.{All, every}
 use Rattle.array.specs.Kind.{Kind, KindOk, kindTest, Form, fixed, ragged, FormOk, formTest}
 use Rattle.array.specs.Shape.{volume, ShapeOk, shapeTest}
 use Rattle.array.specs.Subset.{Subset, lengths, subsetOf, subsetsOf, SubsetOk, subsetTest, FullOk, fullTest, NumbersOk, numbersTest, ManyOk, manyTest}
 use Rattle.array.specs.Offsets.{last, Rising, RisingFrom, risingTest, risingFromTest}
-use Rattle.array.specs.Content.{Content, RaggedContent, ContentOk, contentTest, ValuesOk, valuesTest, sizeTest}
+use Rattle.array.specs.Cells.{Strict, strictTest}
+use Rattle.array.specs.Content.{Content, RaggedContent, ContentOk, contentTest, MasksOk, masksTest, ArrayOk, arrayTest, unlessKept, ValuesOk, valuesTest, sizeTest}
 use Rattle.array.specs.Buffers.{Lengths, Enough, enoughTest, RaggedLengths, RaggedEnough, raggedEnoughTest}
+use Rattle.array.proofs.Answers.{pass}
 
 -- ---- tests of several parts
 
@@ -150,6 +154,22 @@ values-test (fixed k o) n c p = both (eq-eqb (length (c .values)) (n * k) (p .0)
 values-test (ragged w q) n c p =
     both (both (eq-eqb (length (c .offsets)) (suc n) (p .0)) (rising-test (c .offsets) (p .1))) (eq-eqb (last (c .offsets)) (length (c .values)) (p .2))
 
+pub strict-test : (m : ℕ) → Strict m → strictTest m ≡ true
+strict-test zero p = refl
+strict-test (suc zero) p = refl
+strict-test (suc (suc m)) p = absurd (omega arith)
+
+pub strict-ok : (m : ℕ) → strictTest m ≡ true → Strict m
+strict-ok zero e = omega arith
+strict-ok (suc zero) e = omega arith
+strict-ok (suc (suc m)) e = absurd (false≢true e)
+
+pub masks-test : (c : Content) → MasksOk c → masksTest c ≡ true
+masks-test c p = every-all Strict strictTest strict-test (c .masks) p
+
+pub masks-ok : (c : Content) → masksTest c ≡ true → MasksOk c
+masks-ok c e = all-every Strict strictTest strict-ok (c .masks) e
+
 pub content-test : (k : Kind) (n : ℕ) (c : Content) → ContentOk k n c → contentTest k n c ≡ true
 content-test k n c p = both (eq-eqb (length (c .masks)) (k .depth * n) (p .masks-fit)) (values-test (k .form) n c (p .values-fit))
 
@@ -171,6 +191,12 @@ content-ok k n c e =
     let b : Bool = valuesTest (k .form) n c in
     record { masks-fit = eqb-true (length (c .masks)) (k .depth * n) (left-of a b e); values-fit = values-ok (k .form) n c (right-of a b e) }
 
+pub array-test : (k : Kind) (n : ℕ) (c : Content) → ArrayOk k n c → arrayTest k n c ≡ true
+array-test k n c p = both (content-test k n c (p .fits)) (masks-test c (p .strict))
+
+pub array-ok : (k : Kind) (n : ℕ) (c : Content) → arrayTest k n c ≡ true → ArrayOk k n c
+array-ok k n c e = record { fits = content-ok k n c (left-of (contentTest k n c) (masksTest c) e); strict = masks-ok c (right-of (contentTest k n c) (masksTest c) e) }
+
 -- ---- 5: size
 
 pub size-test : (n : ℕ) → n ≤ mostBytes → sizeTest n ≡ true
@@ -178,6 +204,10 @@ size-test n h = le-leb n mostBytes h
 
 pub size-ok : (n : ℕ) → sizeTest n ≡ true → n ≤ mostBytes
 size-ok n e = leb-true n mostBytes e
+
+-- an array that keeps them lets the rest of a call through
+pub rest-passes : {A : Type 0} (k : Kind) (n : ℕ) (c : Content) → ArrayOk k n c → length (c .values) ≤ mostBytes → {a b : Answer A} → a ≡ b → unlessKept k n c a ≡ b
+rest-passes k n c p s e = pass 4 (array-test k n c p) (pass 5 (size-test (length (c .values)) s) e)
 
 -- ---- 6: outputs
 

@@ -1,7 +1,7 @@
 -- Cells, and their rest form (document 01, The array). A cell of depth d is its mask bytes, outermost first, and its value: by
 -- recursion on the depth, so that a cell of depth d + 1 is a mask byte and a cell of depth d.
 -- Assumes nothing.
-use Prim.Native.Nat.{ℕ, zero, suc}
+use Prim.Native.Nat.{ℕ, zero, suc, _≤_}
 use mathlib.Core.Bool.{Bool, true, false}
 use mathlib.Core.List.{List, [], _∷_, map}
 
@@ -12,17 +12,31 @@ abbrev pub Cell : ℕ → Type 0
 Cell zero = Value
 Cell (suc d) = ℕ × Cell d
 
--- what a mask byte says: 0 is null, any other byte is set
+-- what a mask byte says: 00 is null, 01 is set, and no other byte is one (document 02, request 5)
 pub data Mark : Type 0 where
-  isNull isSet : Mark
+  isNull isSet isOther : Mark
 
 abbrev pub markOf : ℕ → Mark
 markOf zero = isNull
-markOf (suc m) = isSet
+markOf (suc zero) = isSet
+markOf (suc (suc m)) = isOther
+
+-- the rule for a mask byte, and the test of it: refusal 4 of what is handed over, 14 of what is stored
+abbrev pub Strict : ℕ → Type 0
+Strict m = m ≤ 1
+
+abbrev pub strictBy : Mark → Bool
+strictBy isNull = true
+strictBy isSet = true
+strictBy isOther = false
+
+abbrev pub strictTest : ℕ → Bool
+strictTest m = strictBy (markOf m)
 
 abbrev pub setTestBy : Mark → Bool
 setTestBy isNull = false
 setTestBy isSet = true
+setTestBy isOther = false
 
 abbrev pub setTest : ℕ → Bool
 setTest m = setTestBy (markOf m)
@@ -31,6 +45,7 @@ setTest m = setTestBy (markOf m)
 abbrev pub bitBy : Mark → ℕ
 bitBy isNull = 0
 bitBy isSet = 1
+bitBy isOther = 0
 
 abbrev pub bitOf : ℕ → ℕ
 bitOf m = bitBy (markOf m)
@@ -55,10 +70,11 @@ module _ (z : Value) where
   blank zero = z
   blank (suc d) = (zero, blank d)
 
-  -- a set mask byte stays and f goes on below it; below a null stands b
+  -- a mask byte stays; below a set one f goes on, below any other stands b
   abbrev pub restBy : {A : Type 0} → Mark → A → (A → A) → ℕ → A → ℕ × A
   restBy isNull b f m a = (zero, b)
   restBy isSet b f m a = (m, f a)
+  restBy isOther b f m a = (m, b)
 
   abbrev pub restOne : {A : Type 0} → A → (A → A) → ℕ → A → ℕ × A
   restOne b f m a = restBy (markOf m) b f m a

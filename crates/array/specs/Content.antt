@@ -6,12 +6,13 @@ use mathlib.Core.List.{List, [], _∷_, _++_, map}
 use mathlib.Core.Bool.{Bool, _&&_}
 use lib.ListN.{length, take, drop}
 use lib.Dec.{leb, eqb}
+use Rattle.array.specs.Answer.{Answer, unless}
 use Rattle.array.specs.Limits.{mostBytes}
-use Rattle.array.specs.Lists.{joined, pieces}
-use Rattle.array.specs.Kind.{Kind, KindOk, Form, fixed, ragged, nullOf, Masks, asBytes, asBits}
+use Rattle.array.specs.Lists.{joined, pieces, All, every}
+use Rattle.array.specs.Kind.{Kind, KindOk, Form, fixed, ragged, nullOf}
 use Rattle.array.specs.Shape.{volume, ShapeOk}
 use Rattle.array.specs.Offsets.{last, Rising, risingTest, offsetsOf, slices}
-use Rattle.array.specs.Cells.{Value, Cell, bitOf, maskOf, inners, leaf, rest, blank}
+use Rattle.array.specs.Cells.{Value, Cell, Strict, strictTest, maskOf, inners, leaf, rest, blank}
 
 -- the mask planes laid end to end, outermost first; the value bytes; the offsets
 pub record Content : Type 0 where
@@ -84,15 +85,34 @@ pub record ContentOk (k : Kind) (n : ℕ) (c : Content) : Type 0 where
 abbrev pub contentTest : Kind → ℕ → Content → Bool
 contentTest k n c = eqb (length (c .masks)) (k .depth * n) && valuesTest (k .form) n c
 
+-- the rule for mask bytes, hidden ones too (document 02, request 5)
+abbrev pub MasksOk : Content → Type 0
+MasksOk c = All Strict (c .masks)
+
+abbrev pub masksTest : Content → Bool
+masksTest c = every strictTest (c .masks)
+
+-- all rules for an array of n cells, and for a chunk: refusal 4
+pub record ArrayOk (k : Kind) (n : ℕ) (c : Content) : Type 0 where
+  pub fits : ContentOk k n c
+  pub strict : MasksOk c
+
+abbrev pub arrayTest : Kind → ℕ → Content → Bool
+arrayTest k n c = contentTest k n c && masksTest c
+
 -- at most so many value bytes: refusal 5
 abbrev pub sizeTest : ℕ → Bool
 sizeTest bytes = leb bytes mostBytes
+
+-- an array that is handed over: 4, then 5, then the rest of the call
+abbrev pub unlessKept : {A : Type 0} → Kind → ℕ → Content → Answer A → Answer A
+unlessKept k n c rest = unless (arrayTest k n c) 4 (unless (sizeTest (length (c .values))) 5 rest)
 
 -- a valid array
 pub record Valid (k : Kind) (shape : List ℕ) (c : Content) : Type 0 where
   pub kind : KindOk k
   pub shaped : ShapeOk shape
-  pub content : ContentOk k (volume shape) c
+  pub content : ArrayOk k (volume shape) c
   pub small : length (c .values) ≤ mostBytes
 
 -- ---- the rest form
@@ -104,18 +124,3 @@ nullCell k = blank (nullOf (k .form)) (k .depth)
 -- the rest form of content of n cells
 abbrev pub restForm : Kind → ℕ → Content → Content
 restForm k n c = layout (k .form) (k .depth) (map (rest (nullOf (k .form)) (k .depth)) (cellsOf k n c))
-
--- ---- what comes back of what was stored
-
--- a mask byte that was stored: bytes keep it, a bit says 01 for every set one
-abbrev pub seen : Masks → ℕ → ℕ
-seen asBytes m = m
-seen asBits m = bitOf m
-
--- what f makes of each mask byte
-abbrev pub withMasks : (ℕ → ℕ) → Content → Content
-withMasks f c = record { masks = map f (c .masks); values = c .values; offsets = c .offsets }
-
--- the rest form with its mask bytes as they were stored
-abbrev pub returnForm : Kind → ℕ → Content → Content
-returnForm k n c = withMasks (seen (k .masks)) (restForm k n c)

@@ -6,6 +6,7 @@ pub mod Kind
 pub mod Shape
 pub mod Subset
 pub mod Offsets
+pub mod Others
 pub mod Cells
 pub mod Content
 pub mod Places

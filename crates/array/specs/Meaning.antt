@@ -1,4 +1,4 @@
--- What the declared types of the code mean: the kind, and the answers, each case with document 01's number or lengths.
+-- What the declared types of the code mean: the kind, the mark of a mask byte, and the answers, each case with document 01's number or lengths.
 -- Assumes nothing.
 use Prim.Native.Nat.{ℕ}
 use Rattle.array.specs.declared.kind.ByteOrder.{ByteOrder}
@@ -12,11 +12,13 @@ use Rattle.array.specs.declared.kind.MaskForm.the-variants.{Bytes, Packe
 use Rattle.array.specs.declared.kind.Values.{Values}
 use Rattle.array.specs.declared.kind.Values.the-variants.{Fixed, Ragged}
 use Rattle.array.specs.declared.kind.Kind as declared
+use Rattle.array.specs.declared.mark.Mark as marks
 use Rattle.array.specs.declared.answer.Written as one
 use Rattle.array.specs.declared.answer.WrittenRagged as two
 use Rattle.array.specs.declared.answer.WrittenArray as three
 use Rattle.array.specs.Answer.{Answer, gives, refuses}
 use Rattle.array.specs.Kind.{Kind, Form, fixed, ragged, Order, little, big, Place, atStart, atEnd, Masks, asBytes, asBits}
+use Rattle.array.specs.Cells.{Mark, isNull, isSet, isOther}
 use Rattle.array.specs.Buffers.{Lengths, RaggedLengths}
 
 abbrev pub orderOf : ByteOrder → Order
@@ -41,6 +43,11 @@ formOf (Ragged w p) = ragged (widthOf w) (placeOf p)
 
 abbrev pub kindOf : declared.Kind → Kind
 kindOf k = record { depth = k .depth; masks = masksOf (k .masks); form = formOf (k .values) }
+
+abbrev pub toldMark : marks.Mark → Mark
+toldMark marks.Mark.Null = isNull
+toldMark marks.Mark.Set = isSet
+toldMark marks.Mark.Other = isOther
 
 -- one length: encode, reverse_endianness, subset_cells
 abbrev pub told : one.Written → Answer ℕ

@@ -11,7 +11,7 @@ pub const SUBSET: u8 = 3;
 
 // Whoever hands over an array or a chunk list.
 
-// Mask, value, offset or chunk lengths disagree, or offsets break their rule.
+// Mask, value, offset or chunk lengths disagree, offsets break their rule, or a mask byte is over 01.
 pub const CONTENT: u8 = 4;
 // Over 16,777,216 value bytes.
 pub const SIZE: u8 = 5;
@@ -37,3 +37,5 @@ pub const FALLING: u8 = 10;
 pub const PAST_END: u8 = 11;
 // A packed mask with an unused bit that is not 0.
 pub const UNUSED_BITS: u8 = 13;
+// A stored mask byte over 01.
+pub const MASK_BYTE: u8 = 14;

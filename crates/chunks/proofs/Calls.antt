@@ -10,14 +10,13 @@ use Rattle.array.specs.Answer.{Answer, gives, refuses, andThen, unless}
 use Rattle.array.specs.Kind.{Kind, KindOk, nullOf}
 use Rattle.array.specs.Shape.{volume, ShapeOk}
 use Rattle.array.specs.Subset.{subsetOf, NumbersOk}
-use Rattle.array.specs.Cells.{Cell}
-use Rattle.array.specs.Content.{Content, Valid, layout, seen}
+use Rattle.array.specs.Cells.{Cell, rest}
+use Rattle.array.specs.Content.{Content, Valid, layout}
 use Rattle.array.specs.Buffers.{Lengths, Enough, enoughTest, listOutcome, contentOutcome}
 use Rattle.array.proofs.Answers.{pass}
-use Rattle.array.proofs.Rules.{kind-test, shape-test, numbers-test, content-test, size-test, enough-test}
+use Rattle.array.proofs.Rules.{kind-test, shape-test, numbers-test, rest-passes, enough-test}
 use Rattle.array.proofs.LayoutLaws.{content-path, Good}
 use Rattle.array.proofs.Resting.{laid-valid}
-use Rattle.array.proofs.SeenLaws.{restSeen}
 use Rattle.array.proofs.Over.{take-over}
 use Rattle.codec.specs.Mask.{maskForm}
 use Rattle.codec.specs.Frame.{frame}
@@ -47,8 +46,8 @@ pub extract-gives : (k : Kind) (shape : List ℕ) (c : Content) → Valid k shap
     → Enough (cutOf k shape c (subsetOf (length shape) ns)) r → extractAnswer k shape ns c r ≡ gives (cutOf k shape c (subsetOf (length shape) ns))
 unfolding extractAnswer
 extract-gives k shape c v ns p r e =
-    pass 1 (kind-test k (v .kind)) (pass 2 (shape-test shape (v .shaped)) (pass 3 (numbers-test shape ns p) (pass 4 (content-test k (volume shape) c (v .content))
-    (pass 5 (size-test (length (c .values)) (v .small)) (pass 6 (enough-test (cutOf k shape c (subsetOf (length shape) ns)) r e) refl)))))
+    pass 1 (kind-test k (v .kind)) (pass 2 (shape-test shape (v .shaped)) (pass 3 (numbers-test shape ns p)
+    (rest-passes k (volume shape) c (v .content) (v .small) (pass 6 (enough-test (cutOf k shape c (subsetOf (length shape) ns)) r e) refl))))
 
 -- ---- encode and decode, on cells that were laid out
 
@@ -57,7 +56,7 @@ module _ (k : Kind) (ok : KindOk k) (shape : List ℕ) (sh : ShapeOk shape) (xs 
   here = layout (k .form) (k .depth) xs
 
   abbrev resting : Content
-  resting = layout (k .form) (k .depth) (map (restSeen (nullOf (k .form)) (seen (k .masks)) (k .depth)) xs)
+  resting = layout (k .form) (k .depth) (map (rest (nullOf (k .form)) (k .depth)) xs)
 
   abbrev stored : List ℕ
   stored = frame (maskForm (k .masks)) (putValues (k .form)) (k .depth) xs
@@ -68,8 +67,8 @@ module _ (k : Kind) (ok : KindOk k) (shape : List ℕ) (sh : ShapeOk shape) (xs 
   pub encode-gives : (r : ℕ) → length (storedForm k (volume shape) here) ≤ r → encodeAnswer k shape here r ≡ gives stored
   unfolding encodeAnswer
   encode-gives r e =
-      pass 1 (kind-test k ok) (pass 2 (shape-test shape sh) (pass 4 (content-test k (volume shape) here (valid-layout .content))
-      (pass 5 (size-test (length (here .values)) (g .small)) (pass 6 (le-leb (length (storedForm k (volume shape) here)) r e) (ap gives (stored-layout k (volume shape) xs g))))))
+      pass 1 (kind-test k ok) (pass 2 (shape-test shape sh) (rest-passes k (volume shape) here (valid-layout .content) (g .small)
+      (pass 6 (le-leb (length (storedForm k (volume shape) here)) r e) (ap gives (stored-layout k (volume shape) xs g)))))
 
   pub decode-gives : (r : Lengths) → Enough resting r → decodeAnswer k shape stored r ≡ gives resting
   unfolding decodeAnswer
@@ -77,5 +76,6 @@ module _ (k : Kind) (ok : KindOk k) (shape : List ℕ) (sh : ShapeOk shape) (xs 
       let fits : length stored < 256 ^ 8 = frame-small (k .masks) (k .form) (ok .sound) (k .depth) xs (ok .shallow) (omega (arith, g .counted, sh .few-cells)) (g .small) in
       pass 1 (kind-test k ok) (pass 2 (shape-test shape sh)
       (ap (λ (a : Answer Content). andThen a (λ c. unless (enoughTest c r) 6 (gives c)))
-      (ap (λ (n : ℕ). readIn (maskForm (k .masks)) (k .form) (k .depth) n stored) (sym (g .counted)) ∙ read-layout (k .masks) (k .form) (k .depth) xs (ok .sound) (g .sized) (g .small) fits)
+      (ap (λ (n : ℕ). readIn (maskForm (k .masks)) (k .form) (k .depth) n stored) (sym (g .counted))
+      ∙ read-layout (k .masks) (k .form) (k .depth) xs (ok .sound) (g .sized) (g .strict) (g .small) fits)
       ∙ pass 6 (enough-test resting r e) refl))

@@ -11,19 +11,18 @@ use Rattle.array.specs.Lists.{joined, All, count}
 use Rattle.array.specs.Kind.{Kind, Form, nullOf}
 use Rattle.array.specs.Shape.{volume, ShapeOk}
 use Rattle.array.specs.Subset.{Subset, lengths, subsetOf, subsetsOf, SubsetOk, FullOk, NumbersOk, ManyOk, cellsIn, cellsOfAll}
-use Rattle.array.specs.Cells.{Cell, leaf}
-use Rattle.array.specs.Content.{Content, Valid, cellsOf, contentTest, sizeTest, leaves, layout, nullCell, returnForm, seen}
+use Rattle.array.specs.Cells.{Cell, leaf, rest}
+use Rattle.array.specs.Content.{Content, Valid, cellsOf, arrayTest, sizeTest, leaves, layout, nullCell, restForm}
 use Rattle.array.specs.Buffers.{Lengths, lengthsOf, Enough, enoughTest}
 use Rattle.array.proofs.Answers.{pass}
 use Rattle.array.proofs.Lists.{Sized, All-map, All-image, All-getD, All-of, length-joined, map-append}
 use Rattle.array.proofs.Sums.{count-append}
-use Rattle.array.proofs.Rules.{kind-test, shape-test, many-test, content-test, size-test, enough-test}
+use Rattle.array.proofs.Rules.{kind-test, shape-test, many-test, array-test, size-test, enough-test}
 use Rattle.array.proofs.Sizes.{OfSize, SizedAs, null-sized}
 use Rattle.array.proofs.SubsetLaws.{length-cellsIn, cellsIn-below, all-below, subset-shape, lengths-subset, subsets-joined}
 use Rattle.array.proofs.Geometry.{count-all}
-use Rattle.array.proofs.LayoutLaws.{cells-layout, layout-ok, Good, good-cells}
-use Rattle.array.proofs.RestLaws.{leaf-blank}
-use Rattle.array.proofs.SeenLaws.{seen-null, restSeen, rest-seen-blank, layout-rest-seen}
+use Rattle.array.proofs.LayoutLaws.{cells-layout, Good, good-cells, good-layout}
+use Rattle.array.proofs.RestLaws.{rest-blank, leaf-blank}
 use Rattle.codec.specs.Calls.{encoded, decoded, encodeAnswer, decodeAnswer}
 use Rattle.codec.proofs.Lengths.{All-leaves}
 use Rattle.chunks.specs.Gather.{gather, putBack, Once, onceTest}
@@ -50,7 +49,7 @@ module _ (k : Kind) (shape : List ℕ) (c : Content) (v : Valid k shape c) where
   own = cellsOf k size c
 
   abbrev resting : Cell d → Cell d
-  resting = restSeen (nullOf (k .form)) (seen (k .masks)) d
+  resting = rest (nullOf (k .form)) d
 
   good-own : Good k size own
   good-own = good-cells k size c (v .content) (v .small)
@@ -78,8 +77,7 @@ module _ (k : Kind) (shape : List ℕ) (c : Content) (v : Valid k shape c) where
       (All-image (λ (x : Cell d). OfSize f (leaf d x)) (λ i. getD own i nc) (cellsIn shape q)
       (All-of (λ i. OfSize f (leaf d (getD own i nc)))
       (All-getD (λ (x : Cell d). OfSize f (leaf d x)) nc (leaf-blank (nullOf f) (OfSize f) d (null-sized f)) own (All-leaves (OfSize f) d own (good-own .sized))) (cellsIn shape q))) in
-      ap (λ (ls : List ℕ). returnForm k (volume ls) (cutOf k shape c q)) (sym (lengths-subset sides ns (p .counted)))
-      ∙ sym (layout-rest-seen (nullOf f) (seen (k .masks)) f d (cellsOf k (volume (lengths q)) (cutOf k shape c q)))
+      ap (λ (ls : List ℕ). restForm k (volume ls) (cutOf k shape c q)) (sym (lengths-subset sides ns (p .counted)))
       ∙ ap (λ (ys : List (Cell d)). layout f d (map resting ys))
       (cells-layout k (volume (lengths q)) (cellsAt k shape c q) (length-map (cellsIn shape q) (λ i. getD own i nc) ∙ length-cellsIn shape q (p .fits)) sized)
 
@@ -136,10 +134,10 @@ module _ (k : Kind) (shape : List ℕ) (c : Content) (v : Valid k shape c) where
   chunk-cells (b ∷ bs) p o =
       let m : ℕ = volume (lengths b) in
       let xs : List (Cell d) = map resting (cellsAt k shape c b) in
-      let g : Good k m xs = good-rest (seen (k .masks)) k m (cellsAt k shape c b) (good-subset b (p .0) (once-first b bs o)) in
+      let g : Good k m xs = good-rest k m (cellsAt k shape c b) (good-subset b (p .0) (once-first b bs o)) in
       let t : Content = chunks bs in
-      ap₂ (λ (x y : Content). unless (contentTest k m x) 4 (andThen (chunkCells k bs y) (λ cs. gives (cellsOf k m x ++ cs)))) (first-chunk k m xs g t) (later-chunks k m xs g t)
-      ∙ pass 4 (content-test k m (layout (k .form) d xs) (layout-ok k m xs (g .counted) (g .sized))) refl
+      ap₂ (λ (x y : Content). unless (arrayTest k m x) 4 (andThen (chunkCells k bs y) (λ cs. gives (cellsOf k m x ++ cs)))) (first-chunk k m xs g t) (later-chunks k m xs g t)
+      ∙ pass 4 (array-test k m (layout (k .form) d xs) (good-layout k m xs g)) refl
       ∙ ap (λ (a : Answer (List (Cell d))). andThen a (λ cs. gives (cellsOf k m (layout (k .form) d xs) ++ cs))) (chunk-cells bs (p .1) (once-later b bs o))
       ∙ ap (λ (ys : List (Cell d)). gives (ys ++ map resting (gather (nullCell k) own (cellsOfAll shape bs)))) (cells-layout k m xs (g .counted) (g .sized))
       ∙ ap gives (sym (map-append resting (cellsAt k shape c b) (gather (nullCell k) own (cellsOfAll shape bs)))
@@ -149,7 +147,7 @@ module _ (k : Kind) (shape : List ℕ) (c : Content) (v : Valid k shape c) where
 
   -- what was cut, read back and gathered again is the rest form
   gather-rest : (js : List ℕ) → map resting (gather (nullCell k) own js) ≡ gather (nullCell k) (map resting own) js
-  gather-rest js = sym (gather-map resting (nullCell k) own js) ∙ ap (λ (x : Cell d). gather x (map resting own) js) (rest-seen-blank (seen (k .masks)) (seen-null (k .masks)) (nullOf (k .form)) d)
+  gather-rest js = sym (gather-map resting (nullCell k) own js) ∙ ap (λ (x : Cell d). gather x (map resting own) js) (rest-blank (nullOf (k .form)) d)
 
   put-back : (js : List ℕ) → Once size js → putBack (nullCell k) size js (map resting (gather (nullCell k) own js)) ≡ map resting own
   put-back js o =
@@ -193,11 +191,8 @@ module _ (k : Kind) (shape : List ℕ) (c : Content) (v : Valid k shape c) where
 
   -- ---- the whole way
 
-  outcome-is : layout (k .form) d (map resting own) ≡ returnForm k size c
-  outcome-is = layout-rest-seen (nullOf (k .form)) (seen (k .masks)) (k .form) d own
-
-  merge-gives : (es : List Entry) → All (EntryOk k shape c) es → Once size (cellsOfAll shape (subsetsIn shape es)) → (r : Lengths) → Enough (returnForm k size c) r
-      → mergeAnswer k shape (joined (numbersIn es)) (chunks (subsetsIn shape es)) r ≡ gives (returnForm k size c)
+  merge-gives : (es : List Entry) → All (EntryOk k shape c) es → Once size (cellsOfAll shape (subsetsIn shape es)) → (r : Lengths) → Enough (restForm k size c) r
+      → mergeAnswer k shape (joined (numbersIn es)) (chunks (subsetsIn shape es)) r ≡ gives (restForm k size c)
   unfolding mergeAnswer
   merge-gives es s o r e =
       let bs : List Subset = subsetsIn shape es in
@@ -205,7 +200,7 @@ module _ (k : Kind) (shape : List ℕ) (c : Content) (v : Valid k shape c) where
       let fit : All (SubsetOk shape) bs = fit-subsets es s in
       let cs : List (Cell d) = map resting (gather (nullCell k) own all) in
       let o′ : AtMostOnce all = λ i h. le-of-eq (o i h) in
-      let g : Good k (length all) cs = good-rest (seen (k .masks)) k (length all) (gather (nullCell k) own all) (good-gather k size own good-own all (all-below shape bs fit) o′) in
+      let g : Good k (length all) cs = good-rest k (length all) (gather (nullCell k) own all) (good-gather k size own good-own all (all-below shape bs fit) o′) in
       pass 1 (kind-test k (v .kind)) (pass 2 (shape-test shape (v .shaped)) (pass 3 (many-test shape (joined (numbersIn es)) (many es s))
       (ap (λ (bs′ : List Subset). andThen (chunkCells k bs′ (chunks bs)) (λ xs.
       unless (sizeTest (length (joined (leaves d xs)))) 5
@@ -214,11 +209,10 @@ module _ (k : Kind) (shape : List ℕ) (c : Content) (v : Valid k shape c) where
       unless (sizeTest (length (joined (leaves d xs)))) 5 (unless (onceTest size all) 12 (unless (enoughTest (mergeOf k shape bs xs) r) 6 (gives (mergeOf k shape bs xs)))))) (chunk-cells bs fit o′)
       ∙ pass 5 (size-test (length (joined (leaves d cs))) (g .small)) (pass 12 (once-test size all o)
       (ap (λ (xs : List (Cell d)). unless (enoughTest (layout (k .form) d xs) r) 6 (gives (layout (k .form) d xs))) (put-back all o)
-      ∙ ap (λ (x : Content). unless (enoughTest x r) 6 (gives x)) outcome-is
-      ∙ pass 6 (enough-test (returnForm k size c) r e) refl)))))
+      ∙ pass 6 (enough-test (restForm k size c) r e) refl)))))
 
-  pub whole-way : (es : List Entry) → All (EntryOk k shape c) es → Covers shape (subsetsIn shape es) → (out : Content) → Enough (returnForm k size c) (lengthsOf out)
-      → wholeWay k shape c es out ≡ gives (whole (returnForm k size c))
+  pub whole-way : (es : List Entry) → All (EntryOk k shape c) es → Covers shape (subsetsIn shape es) → (out : Content) → Enough (restForm k size c) (lengthsOf out)
+      → wholeWay k shape c es out ≡ gives (whole (restForm k size c))
   unfolding merged
   whole-way es s o out e =
       let once : Once size (cellsOfAll shape (subsetsIn shape es)) = once-each es s o in
@@ -229,27 +223,26 @@ module _ (k : Kind) (shape : List ℕ) (c : Content) (v : Valid k shape c) where
   -- ---- the cut of Q
 
   good-outcome : Good k size (map resting own)
-  good-outcome = good-rest (seen (k .masks)) k size own good-own
+  good-outcome = good-rest k size own good-own
 
   pub cut-gives : (Q : List ℕ) → NumbersOk shape Q → (r : Lengths) → Enough (restOfCut k shape c Q) r
-      → extractAnswer k shape Q (returnForm k size c) r ≡ gives (restOfCut k shape c Q)
+      → extractAnswer k shape Q (restForm k size c) r ≡ gives (restOfCut k shape c Q)
   cut-gives Q p r e =
       let q : Subset = subsetOf sides Q in
-      let same : cutOf k shape (returnForm k size c) q ≡ restOfCut k shape c Q =
-      ap (λ (x : Content). cutOf k shape x q) (sym outcome-is)
-      ∙ ap (λ (ys : List (Cell d)). layout (k .form) d (gather (nullCell k) ys (cellsIn shape q))) (cells-layout k size (map resting own) (good-outcome .counted) (good-outcome .sized))
+      let same : cutOf k shape (restForm k size c) q ≡ restOfCut k shape c Q =
+      ap (λ (ys : List (Cell d)). layout (k .form) d (gather (nullCell k) ys (cellsIn shape q))) (cells-layout k size (map resting own) (good-outcome .counted) (good-outcome .sized))
       ∙ ap (layout (k .form) d) (sym (gather-rest (cellsIn shape q))) ∙ sym (rest-of-cut Q p) in
-      extract-gives k shape (returnForm k size c) (subst (Valid k shape) outcome-is (valid-layout k (v .kind) shape (v .shaped) (map resting own) good-outcome)) Q p r
+      extract-gives k shape (restForm k size c) (valid-layout k (v .kind) shape (v .shaped) (map resting own) good-outcome) Q p r
       (subst (λ (x : Content). Enough x r) (sym same) e)
       ∙ ap gives same
 
 pub demand3 : Demand3
 unfolding extracted
 demand3 k shape A v es s o out e =
-    let first : wholeWay k shape A es out ≡ gives (whole (returnForm k (volume shape) A)) = whole-way k shape A v es s o out e in (
+    let first : wholeWay k shape A es out ≡ gives (whole (restForm k (volume shape) A)) = whole-way k shape A v es s o out e in (
       first,
       λ Q p outQ f.
           ap (λ (a : Answer Taken). andThen a (λ m. taken (extracted k shape Q (m .content) outQ))) first
-          ∙ taken-content (extractAnswer k shape Q (returnForm k (volume shape) A) (lengthsOf outQ)) outQ
+          ∙ taken-content (extractAnswer k shape Q (restForm k (volume shape) A) (lengthsOf outQ)) outQ
           ∙ ap (λ (a : Answer Content). andThen a (λ x. gives (whole x))) (cut-gives k shape A v Q p (lengthsOf outQ) f),
     )

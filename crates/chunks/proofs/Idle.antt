@@ -10,7 +10,7 @@ use Rattle.array.specs.Kind.{Kind, byteKind, kindTest}
 use Rattle.array.specs.Shape.{volume, shapeTest}
 use Rattle.array.specs.Subset.{Subset, lengths, subsetsOf, manyTest, cellsOfAll}
 use Rattle.array.specs.Cells.{Cell}
-use Rattle.array.specs.Content.{Content, cellsOf, contentTest, leaves, sizeTest}
+use Rattle.array.specs.Content.{Content, cellsOf, arrayTest, leaves, sizeTest}
 use Rattle.array.specs.Buffers.{lengthsOf, enoughTest, contentOutcome}
 use Rattle.chunks.specs.Gather.{onceTest}
 use Rattle.chunks.specs.Chunks.{firstChunk, laterChunks, chunkCells, mergeOf}
@@ -25,7 +25,7 @@ module _ (k : Kind) where
   cells-idle [] c = refl
   cells-idle (b ∷ bs) c =
       let m : ℕ = volume (lengths b) in
-      ap (λ (a : Answer (List (Cell (k .depth)))). unless (contentTest k m (firstChunk k m c)) 4 (andThen a (λ cs. gives (cellsOf k m (firstChunk k m c) ++ cs))))
+      ap (λ (a : Answer (List (Cell (k .depth)))). unless (arrayTest k m (firstChunk k m c)) 4 (andThen a (λ cs. gives (cellsOf k m (firstChunk k m c) ++ cs))))
       (cells-idle bs (laterChunks k m c))
 
   pub extracted-idle : (shape ns : List ℕ) (c out : Content) → extracted k shape ns c out ≡ extracted inBytes shape ns c out

@@ -12,13 +12,13 @@ use Rattle.array.specs.Limits.{mostBytes, mostCells}
 use Rattle.array.specs.Bytes.{le, unle}
 use Rattle.array.specs.Kind.{Kind, asBytes, asBits, ragged, atStart, atEnd}
 use Rattle.array.specs.Content.{Content, Valid}
-use Rattle.array.specs.Buffers.{lengthsOf, raggedLengthsOf, Enough, RaggedEnough}
+use Rattle.array.specs.Buffers.{lengthsOf, Enough}
 use Rattle.codec.specs.Frame.{wrap, frame}
 use Rattle.codec.specs.Ragged.{putRagged, getRagged}
 use Rattle.codec.specs.Values.{putValues}
 use Rattle.codec.specs.Interleaved.{putCells, putInterleaved}
 use Rattle.codec.specs.Calls.{written, readIn, decodeAnswer, decoded, interleavedDecoded, interleavedEncoded}
-use Rattle.codec.specs.Older.{flatKind, restRagged, OlderWay}
+use Rattle.codec.specs.Older.{flatKind, OlderWay}
 use Rattle.codec.proofs.Older.{older-returns}
 use Rattle.chunks.specs.Calls.{extracted, partiallyDecoded}
 use Rattle.chunks.specs.Demand.{taken, whole, Entry, EntryOk, Covers, subsetsIn, wholeWay}
@@ -36,7 +36,7 @@ shape = 2 ∷ 3 ∷ []
 -- cell 1 is null at the outer level, cell 2 at the inner one; one byte lies before the first offset
 abbrev table : Content
 table = record {
-  masks = 1 ∷ 0 ∷ 7 ∷ 1 ∷ 1 ∷ 255 ∷ 1 ∷ 1 ∷ 0 ∷ 1 ∷ 9 ∷ 1 ∷ [];
+  masks = 1 ∷ 0 ∷ 1 ∷ 1 ∷ 1 ∷ 1 ∷ 1 ∷ 1 ∷ 0 ∷ 1 ∷ 1 ∷ 1 ∷ [];
   values = 99 ∷ 1 ∷ 2 ∷ 3 ∷ 4 ∷ 5 ∷ 6 ∷ [];
   offsets = 1 ∷ 2 ∷ 3 ∷ 4 ∷ 4 ∷ 6 ∷ 7 ∷ [];
 }
@@ -51,7 +51,7 @@ narrow = record { subset = 0 ∷ 0 ∷ 2 ∷ 1 ∷ []; cut = lent 4 2 3; stored 
 abbrev entries : List Entry
 entries = wide ∷ narrow ∷ []
 
--- the rest form: the cells 1 and 2 have lost their values, and cell 1 its inner mask; every set mask byte is 01
+-- the rest form: the cells 1 and 2 have lost their values, and cell 1 its inner mask
 abbrev resting : Content
 resting = record {
   masks = 1 ∷ 0 ∷ 1 ∷ 1 ∷ 1 ∷ 1 ∷ 1 ∷ 0 ∷ 0 ∷ 1 ∷ 1 ∷ 1 ∷ [];
@@ -64,7 +64,7 @@ unfolding mostBytes mostCells
 valid = record {
   kind = record { shallow = lit≤ tt; sound = inl refl };
   shaped = record { some-sides = lit≤ tt; few-sides = lit≤ tt; sides = omega arith; few-cells = lit≤ tt };
-  content = record { masks-fit = refl; values-fit = (refl, omega arith, refl) };
+  content = record { fits = record { masks-fit = refl; values-fit = (refl, omega arith, refl) }; strict = omega arith };
   small = lit≤ tt;
 }
 
@@ -134,7 +134,7 @@ unfolding mostBytes mostCells
 late-valid = record {
   kind = record { shallow = lit≤ tt; sound = inl refl };
   shaped = record { some-sides = lit≤ tt; few-sides = lit≤ tt; sides = omega arith; few-cells = lit≤ tt };
-  content = record { masks-fit = refl; values-fit = (refl, omega arith, refl) };
+  content = record { fits = record { masks-fit = refl; values-fit = (refl, omega arith, refl) }; strict = tt };
   small = lit≤ tt;
 }
 

@@ -9,12 +9,14 @@ use Rattle.codec.specs.Ragged.{putRagged, getRagged}
 use Rattle.codec.specs.Values.{putValues, getValues}
 use Rattle.codec.specs.Interleaved.{interleavedCells, putCells, putInterleaved}
 use Rattle.codec.specs.Calls.{written, encodeAnswer, encoded, readIn, decodeAnswer, decoded, interleavedAnswer, interleavedDecoded, encodeInterleavedAnswer, interleavedEncoded}
-use Rattle.chunks.specs.Calls.{extractAnswer, extracted}
+use Rattle.chunks.specs.Chunks.{chunkCells}
+use Rattle.chunks.specs.Calls.{extractAnswer, extracted, mergeAnswer, merged}
 use Rattle.chunks.specs.Lines.{Lines}
 
 pub lines : Lines
 unfolding mostBytes mostCells le unle reverseAnswer endiannessReversed cellsAnswer subsetCells wrap frame readFrame putRagged getRagged putValues getValues interleavedCells written
     encodeAnswer encoded readIn decodeAnswer decoded interleavedAnswer interleavedDecoded putCells putInterleaved encodeInterleavedAnswer interleavedEncoded extractAnswer extracted
+    chunkCells mergeAnswer merged
 lines = record {
   writes-23 = refl;
   reads-23 = refl;
@@ -48,4 +50,10 @@ lines = record {
   older-fixed = refl;
   older-masks = refl;
   older-room = refl;
+  stored-02 = refl;
+  whole-mask-first = refl;
+  hidden-02 = refl;
+  packed-02 = refl;
+  cut-02 = refl;
+  chunk-02 = refl;
 }

@@ -13,7 +13,7 @@ use Rattle.array.specs.Subset.{subsetOf, NumbersOk, numbersTest}
 use Rattle.array.specs.Content.{Content, RaggedContent, unmasked}
 use Rattle.array.specs.Buffers.{Lengths, lengthsOf, raggedLengthsOf, enoughTest, raggedEnoughTest, raggedOutcome, contentOutcome}
 use Rattle.array.proofs.Answers.{pass}
-use Rattle.array.proofs.Rules.{kind-test, shape-test, shape-ok, numbers-test, numbers-ok, content-test, size-test}
+use Rattle.array.proofs.Rules.{kind-test, shape-test, shape-ok, numbers-test, numbers-ok, rest-passes}
 use Rattle.codec.specs.Ragged.{getRagged}
 use Rattle.codec.specs.Calls.{readIn, decodeAnswer, decoded}
 use Rattle.codec.proofs.Accepted.{read-content, read-small}
@@ -60,8 +60,7 @@ module _ (w : ℕ) (p : Place) (ok : FormOk (ragged w p)) (shape ns s : List ℕ
       let room : Lengths = lengthsOf out in
       let answer : extractAnswer kind shape ns (unmasked x) room ≡ unless (enoughTest cut room) 6 (gives cut) =
       pass 1 (kind-test kind kind-passes) (pass 2 ea (pass 3 eb
-      (pass 4 (content-test kind (volume shape) (unmasked x) (read-content w p s (volume shape) x eg))
-      (pass 5 (size-test (length (x .values)) (read-small w p s (volume shape) x eg)) refl)))) in
+      (rest-passes kind (volume shape) (unmasked x) (read-content w p s (volume shape) x eg) (read-small w p s (volume shape) x eg) refl))) in
       let six : enoughTest cut room ≡ raggedEnoughTest (raggedOf cut) (raggedLengthsOf (raggedOf out)) =
       ap (λ (t : Bool). t && leb (length (cut .values)) (room .values) && leb (length (cut .offsets)) (room .offsets)) (leb·zero (room .masks)) in
       ap (λ (a : Answer Content). withoutMasks (contentOutcome a out)) (answer ∙ ap (λ (t : Bool). unless t 6 (gives cut)) six)

@@ -15,9 +15,9 @@ use Rattle.array.specs.Subset.{Subset, lengths, subsetsOf, numbersTest, cellsOf
 use Rattle.array.specs.Content.{Content, RaggedContent, cellsOf, leaves}
 use Rattle.array.specs.Buffers.{RaggedLengths, lengthsOf, raggedLengthsOf, raggedEnoughTest}
 use Rattle.array.specs.Refusals.{InOrder, success}
-use Rattle.array.proofs.Refusals.{stage, stage-given, and-then, named}
+use Rattle.array.proofs.Refusals.{stage, stage-given, stage-array, and-then, named}
 use Rattle.array.proofs.Rules.{both, left-of, right-of}
-use Rattle.array.proofs.Rules.{kind-test, kind-ok, shape-test, shape-ok, numbers-test, numbers-ok, many-test, many-ok, content-test, content-ok}
+use Rattle.array.proofs.Rules.{kind-test, kind-ok, shape-test, shape-ok, numbers-test, numbers-ok, many-test, many-ok, array-test, array-ok}
 use Rattle.array.proofs.Rules.{size-test, size-ok, enough-test, enough-ok, ragged-enough-test, ragged-enough-ok}
 use Rattle.codec.specs.Ragged.{getRagged}
 use Rattle.codec.proofs.Refusals.{ragged-order}
@@ -48,7 +48,7 @@ unfolding chunkCells
 chunk-order k [] c = stage 4 (nothing-test c) (nothing-ok c) success
 chunk-order k (b ∷ bs) c =
     let m : ℕ = volume (lengths b) in
-    stage 4 (content-test k m (firstChunk k m c)) (content-ok k m (firstChunk k m c))
+    stage 4 (array-test k m (firstChunk k m c)) (array-ok k m (firstChunk k m c))
     (named (λ cs. cellsOf k m (firstChunk k m c) ++ cs) (chunk-order k bs (laterChunks k m c)))
 
 -- ---- partial_decode: 3 before what is read, and 6 behind it
@@ -83,9 +83,8 @@ refusals = record {
       (stage 1 (kind-test k) (kind-ok k)
       (stage 2 (shape-test shape) (shape-ok shape)
       (stage 3 (numbers-test shape ns) (numbers-ok shape ns)
-      (stage 4 (content-test k (volume shape) c) (content-ok k (volume shape) c)
-      (stage 5 (size-test (length (c .values))) (size-ok (length (c .values)))
-      (stage 6 (enough-test _ (lengthsOf out)) (enough-ok _ (lengthsOf out)) success))))));
+      (stage-array k (volume shape) c
+      (stage 6 (enough-test _ (lengthsOf out)) (enough-ok _ (lengthsOf out)) success)))));
   merge = λ k shape ns c out.
       let bs : List Subset = subsetsOf (length shape) ns in
       let all : List ℕ = cellsOfAll shape bs in

@@ -9,7 +9,7 @@ use Rattle.array.specs.Kind.{Kind, Place, ragged, byteKind}
 use Rattle.array.specs.Shape.{volume, shapeTest}
 use Rattle.array.specs.Kind.{kindTest}
 use Rattle.array.specs.Subset.{subsetOf, subsetsOf, numbersTest, manyTest, cellsOfAll}
-use Rattle.array.specs.Content.{Content, RaggedContent, unmasked, leaves, contentTest, sizeTest}
+use Rattle.array.specs.Content.{Content, RaggedContent, unmasked, leaves, sizeTest, unlessKept}
 use Rattle.array.specs.Buffers.{Lengths, RaggedLengths, lengthsOf, raggedLengthsOf, enoughTest, raggedEnoughTest, raggedOutcome, contentOutcome}
 use Rattle.codec.specs.Ragged.{getRagged}
 use Rattle.chunks.specs.Gather.{onceTest}
@@ -24,9 +24,8 @@ extractAnswer k shape ns c room =
     unless (kindTest k) 1
     (unless (shapeTest shape) 2
     (unless (numbersTest shape ns) 3
-    (unless (contentTest k (volume shape) c) 4
-    (unless (sizeTest (length (c .values))) 5
-    (unless (enoughTest cut room) 6 (gives cut))))))
+    (unlessKept k (volume shape) c
+    (unless (enoughTest cut room) 6 (gives cut)))))
 
 unfoldable pub extracted : Kind → List ℕ → List ℕ → Content → Content → Outcome Lengths Content
 unfolding extractAnswer

@@ -13,7 +13,7 @@ use Rattle.array.specs.Shape.{volume}
 use Rattle.array.specs.Subset.{Subset, lengths, cellsOfAll}
 use Rattle.array.specs.Offsets.{last}
 use Rattle.array.specs.Cells.{Cell}
-use Rattle.array.specs.Content.{Content, layout, cellsOf, contentTest, nullCell}
+use Rattle.array.specs.Content.{Content, layout, cellsOf, arrayTest, nullCell}
 use Rattle.chunks.specs.Gather.{putBack}
 
 abbrev pub noContent : Content
@@ -62,7 +62,7 @@ unfoldable pub chunkCells : (k : Kind) → List Subset → Content → Answer (L
 chunkCells k [] c = unless (nothingTest c) 4 (gives [])
 chunkCells k (b ∷ bs) c =
     let m = volume (lengths b) in
-    unless (contentTest k m (firstChunk k m c)) 4
+    unless (arrayTest k m (firstChunk k m c)) 4
     (andThen (chunkCells k bs (laterChunks k m c)) (λ cs. gives (cellsOf k m (firstChunk k m c) ++ cs)))
 
 -- the chunks' cells, each in its place of the shape

@@ -1,6 +1,6 @@
 -- Demand 3, as one claim over the calls and the buffers lent to them: any valid array A, cut into any list of subsets that covers it,
 -- each cut written, read back, all merged. Nothing is refused, the outcome is A's rest form, and cutting any subset Q from the
--- outcome gives the rest form of Q cut from A; with packed masks every set mask byte of both is 01 (document 02, request 1). Compared are masks, value bytes, offsets and the lengths that success names.
+-- outcome gives the rest form of Q cut from A. Compared are masks, value bytes, offsets and the lengths that success names.
 -- Assumes nothing.
 use Prim.Native.Nat.{ℕ, _≤_, _<_}
 use mathlib.Core.Path.{_≡_}
@@ -11,7 +11,7 @@ use Rattle.array.specs.Lists.{joined, All, countPassing}
 use Rattle.array.specs.Kind.{Kind}
 use Rattle.array.specs.Shape.{volume}
 use Rattle.array.specs.Subset.{Subset, subsetOf, NumbersOk, coordinates, insideTest}
-use Rattle.array.specs.Content.{Content, Valid, returnForm}
+use Rattle.array.specs.Content.{Content, Valid, restForm}
 use Rattle.array.specs.Buffers.{Lengths, lengthsOf, Enough}
 use Rattle.codec.specs.Calls.{storedForm, encoded, decoded}
 use Rattle.chunks.specs.Cut.{cutOf}
@@ -50,12 +50,12 @@ abbrev pub shapeOf : List ℕ → List ℕ → List ℕ
 shapeOf shape ns = drop (length shape) ns
 
 module _ (k : Kind) (shape : List ℕ) (A : Content) where
-  -- Q cut from A, and its rest form as stored masks keep it: made from A by document 01's rules, not from an answer
+  -- Q cut from A, and its rest form: made from A by document 01's rules, not from an answer
   abbrev pub cutFrom : List ℕ → Content
   cutFrom Q = cutOf k shape A (subsetOf (length shape) Q)
 
   abbrev pub restOfCut : List ℕ → Content
-  restOfCut Q = returnForm k (volume (shapeOf shape Q)) (cutFrom Q)
+  restOfCut Q = restForm k (volume (shapeOf shape Q)) (cutFrom Q)
 
   -- cut from A; the cut as it came written, with A's kind and the subset's lengths as shape; exactly these bytes read
   abbrev pub oneWay : Entry → Answer Content
@@ -95,7 +95,7 @@ abbrev pub Demand3 : Type 0
 Demand3 =
     (k : Kind) (shape : List ℕ) (A : Content) → Valid k shape A
     → (es : List Entry) → All (EntryOk k shape A) es → Covers shape (subsetsIn shape es)
-    → (out : Content) → Enough (returnForm k (volume shape) A) (lengthsOf out)
-    → (wholeWay k shape A es out ≡ gives (whole (returnForm k (volume shape) A)))
+    → (out : Content) → Enough (restForm k (volume shape) A) (lengthsOf out)
+    → (wholeWay k shape A es out ≡ gives (whole (restForm k (volume shape) A)))
     × ((Q : List ℕ) → NumbersOk shape Q → (outQ : Content) → Enough (restOfCut k shape A Q) (lengthsOf outQ)
     → andThen (wholeWay k shape A es out) (λ m. taken (extracted k shape Q (m .content) outQ)) ≡ gives (whole (restOfCut k shape A Q)))

@@ -20,7 +20,7 @@ abbrev pub encodeNumbers : List ℕ
 encodeNumbers = 1 ∷ 2 ∷ 4 ∷ 5 ∷ 6 ∷ []
 
 abbrev pub decodeNumbers : List ℕ
-decodeNumbers = 1 ∷ 2 ∷ 7 ∷ 8 ∷ 13 ∷ 10 ∷ 5 ∷ 6 ∷ []
+decodeNumbers = 1 ∷ 2 ∷ 7 ∷ 8 ∷ 13 ∷ 14 ∷ 10 ∷ 5 ∷ 6 ∷ []
 
 abbrev pub interleavedNumbers : List ℕ
 interleavedNumbers = 2 ∷ 7 ∷ 9 ∷ 11 ∷ 5 ∷ 6 ∷ []

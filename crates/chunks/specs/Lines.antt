@@ -11,7 +11,7 @@ use Rattle.array.specs.Content.{Content, RaggedContent, cellsOf}
 use Rattle.array.specs.Buffers.{Lengths, RaggedLengths}
 use Rattle.array.specs.Calls.{endiannessReversed, subsetCells}
 use Rattle.codec.specs.Calls.{encoded, decoded, interleavedDecoded, interleavedEncoded}
-use Rattle.chunks.specs.Calls.{extracted}
+use Rattle.chunks.specs.Calls.{extracted, merged}
 
 -- ---- lent outputs, and what is left in them
 
@@ -70,6 +70,9 @@ bytes-big = u64 1 ++ (u64 2 ++ (1 ∷ 0x0B ∷ 0x0A ∷ []))
 
 abbrev pub depth2 : Kind
 depth2 = byteKind 2 (fixed 1 little)
+
+abbrev pub byte1 : Kind
+byte1 = byteKind 1 (fixed 1 little)
 
 abbrev pub bytes38 : List ℕ
 bytes38 = u64 3 ++ (u64 19 ++ (1 ∷ 1 ∷ 0 ∷ (u64 2 ++ (u64 1 ++ (1 ∷ 0 ∷ 7 ∷ [])))))
@@ -145,7 +148,7 @@ pub record Lines : Type 0 where
   pub writes-big : encoded big1 (1 ∷ []) (array (1 ∷ []) (0x0A ∷ 0x0B ∷ []) []) (old 20) ≡ wrote 19 bytes-big
   pub reads-big : decoded big1 (1 ∷ []) bytes-big (lent 2 3 1) ≡ gave 1 2 0 (1 ∷ []) (0x0A ∷ 0x0B ∷ []) []
   -- document 02, request 1: packed masks; a set cell reads as 01; a bit after the last cell that is set is 13, after the mask's length and before the content
-  pub writes-packed : encoded packed1 (9 ∷ []) (array (1 ∷ 0 ∷ 2 ∷ 0 ∷ 0 ∷ 0 ∷ 0 ∷ 0 ∷ 255 ∷ []) nine []) (old 22) ≡ wrote 21 bytes21
+  pub writes-packed : encoded packed1 (9 ∷ []) (array (1 ∷ 0 ∷ 1 ∷ 0 ∷ 0 ∷ 0 ∷ 0 ∷ 0 ∷ 1 ∷ []) nine []) (old 22) ≡ wrote 21 bytes21
   pub reads-packed : decoded packed1 (9 ∷ []) bytes21 (lent 10 10 1) ≡ gave 9 9 0 (1 ∷ 0 ∷ 1 ∷ 0 ∷ 0 ∷ 0 ∷ 0 ∷ 0 ∷ 1 ∷ []) (1 ∷ 0 ∷ 3 ∷ 0 ∷ 0 ∷ 0 ∷ 0 ∷ 0 ∷ 9 ∷ []) []
   pub unused-bit : decoded packed1 (1 ∷ []) (u64 1 ++ (u64 2 ++ (3 ∷ 7 ∷ 7 ∷ []))) (lent 1 1 0) ≡ record { answer = refuses 13; buffers = lent 1 1 0 }
   pub packed-long : decoded packed1 (1 ∷ []) (u64 2 ++ (u64 1 ++ (1 ∷ 2 ∷ 7 ∷ []))) (lent 1 1 0) ≡ record { answer = refuses 8; buffers = lent 1 1 0 }
@@ -157,3 +160,10 @@ pub record Lines : Type 0 where
   pub older-fixed : interleavedEncoded (byteKind 0 (fixed 1 little)) (1 ∷ []) (array [] (7 ∷ []) []) (old 9) ≡ record { answer = refuses 1; buffers = old 9 }
   pub older-masks : interleavedEncoded raggedEnd (1 ∷ []) (array (1 ∷ []) [] (0 ∷ 0 ∷ [])) (old 9) ≡ record { answer = refuses 4; buffers = old 9 }
   pub older-room : interleavedEncoded raggedEnd (1 ∷ []) (array [] [] (0 ∷ 0 ∷ [])) (old 7) ≡ record { answer = refuses 6; buffers = old 7 }
+  -- document 02, request 5: a stored mask byte over 01 is 14, after the mask's length and before the content; handed over it is 4, hidden or not
+  pub stored-02 : decoded byte1 (1 ∷ []) (u64 1 ++ (u64 1 ++ (2 ∷ 7 ∷ []))) (lent 1 1 0) ≡ record { answer = refuses 14; buffers = lent 1 1 0 }
+  pub whole-mask-first : decoded depth2 (2 ∷ []) (u64 2 ++ (u64 1 ++ (1 ∷ 2 ∷ 0x78 ∷ []))) (lent 4 2 0) ≡ record { answer = refuses 14; buffers = lent 4 2 0 }
+  pub hidden-02 : encoded depth2 (1 ∷ []) (array (0 ∷ 2 ∷ []) (7 ∷ []) []) (old 40) ≡ record { answer = refuses 4; buffers = old 40 }
+  pub packed-02 : encoded packed1 (1 ∷ []) (array (2 ∷ []) (7 ∷ []) []) (old 40) ≡ record { answer = refuses 4; buffers = old 40 }
+  pub cut-02 : extracted byte1 (2 ∷ []) (0 ∷ 1 ∷ []) (array (1 ∷ 2 ∷ []) (7 ∷ 8 ∷ []) []) (lent 1 1 0) ≡ record { answer = refuses 4; buffers = lent 1 1 0 }
+  pub chunk-02 : merged byte1 (2 ∷ []) (0 ∷ 1 ∷ 0 ∷ 1 ∷ []) (array (1 ∷ 2 ∷ []) (7 ∷ 8 ∷ []) []) (lent 2 2 0) ≡ record { answer = refuses 4; buffers = lent 2 2 0 }

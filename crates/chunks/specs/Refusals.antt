@@ -9,7 +9,7 @@ use Rattle.array.specs.Lists.{joined}
 use Rattle.array.specs.Kind.{Kind, KindOk, Place}
 use Rattle.array.specs.Shape.{volume, ShapeOk}
 use Rattle.array.specs.Subset.{Subset, lengths, subsetOf, subsetsOf, NumbersOk, ManyOk, cellsOfAll}
-use Rattle.array.specs.Content.{Content, RaggedContent, ContentOk, leaves}
+use Rattle.array.specs.Content.{Content, RaggedContent, ArrayOk, leaves}
 use Rattle.array.specs.Buffers.{lengthsOf, raggedLengthsOf, Enough, RaggedEnough}
 use Rattle.array.specs.Refusals.{Rule, InOrder, Given}
 use Rattle.codec.specs.Ragged.{getRagged}
@@ -23,13 +23,13 @@ abbrev pub chunkRules : Kind → List Subset → Content → List Rule
 chunkRules k [] c = (4, Nothing c) ∷ []
 chunkRules k (b ∷ bs) c =
     let m = volume (lengths b) in
-    (4, ContentOk k m (firstChunk k m c)) ∷ chunkRules k bs (laterChunks k m c)
+    (4, ArrayOk k m (firstChunk k m c)) ∷ chunkRules k bs (laterChunks k m c)
 
 -- ---- the calls
 
 abbrev pub extractRules : Kind → List ℕ → List ℕ → Content → Content → List Rule
 extractRules k shape ns c out =
-    (1, KindOk k) ∷ (2, ShapeOk shape) ∷ (3, NumbersOk shape ns) ∷ (4, ContentOk k (volume shape) c) ∷ (5, length (c .values) ≤ mostBytes)
+    (1, KindOk k) ∷ (2, ShapeOk shape) ∷ (3, NumbersOk shape ns) ∷ (4, ArrayOk k (volume shape) c) ∷ (5, length (c .values) ≤ mostBytes)
     ∷ (6, Enough (cutOf k shape c (subsetOf (length shape) ns)) (lengthsOf out)) ∷ []
 
 abbrev pub mergeRules : Kind → List ℕ → List ℕ → Content → Content → List Rule

@@ -14,7 +14,7 @@ use Rattle.array.specs.Lists.{pieces}
 use Rattle.array.specs.Bytes.{unle}
 use Rattle.array.specs.Kind.{Place, ragged, byteKind}
 use Rattle.array.specs.Offsets.{last, Rising}
-use Rattle.array.specs.Content.{RaggedContent, unmasked, ContentOk}
+use Rattle.array.specs.Content.{RaggedContent, unmasked, ArrayOk}
 use Rattle.array.proofs.Lists.{length-pieces}
 use Rattle.array.proofs.Refusals.{Kept, all-kept}
 use Rattle.codec.specs.Ragged.{partOf, leftOf, getRagged, DataOk, dataFor}
@@ -62,8 +62,8 @@ module _ (w : ℕ) (p : Place) (s : List ℕ) (n : ℕ) (c : RaggedContent) (e :
       subst (RaggedOk n) same
       (length-map (pieces w (suc n) (partOf p indexLength behind)) unle ∙ length-pieces w (suc n) (partOf p indexLength behind), of-data .1 .0, ended, omega (arith, of-data .1 .1 .0))
 
-  pub read-content : ContentOk (byteKind 0 (ragged w p)) n (unmasked c)
-  read-content = record { masks-fit = sym (zero-mul n); values-fit = (ragged-ok .0, ragged-ok .1, ragged-ok .2) }
+  pub read-content : ArrayOk (byteKind 0 (ragged w p)) n (unmasked c)
+  read-content = record { fits = record { masks-fit = sym (zero-mul n); values-fit = (ragged-ok .0, ragged-ok .1, ragged-ok .2) }; strict = tt }
 
   pub read-small : length (c .values) ≤ mostBytes
   read-small = ragged-ok .3

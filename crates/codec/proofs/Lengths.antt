@@ -47,7 +47,8 @@ sum-keep {A} f (c ∷ cs) = one (c .0) (sum-keep f cs)
   where
     one : (m : ℕ) → sumOf f (keep cs) ≤ sumOf (λ x. f (x .1)) cs → sumOf f (keepOne m (c .1) (keep cs)) ≤ f (c .1) + sumOf (λ x. f (x .1)) cs
     one zero h = omega arith
-    one (suc m) h = omega arith
+    one (suc zero) h = omega arith
+    one (suc (suc m)) h = omega arith
 
 -- the value bytes of cells, as a sum
 pub bytes-sum : (d : ℕ) (cs : List (Cell d)) → length (joined (leaves d cs)) ≡ sumOf (λ c. length (leaf d c)) cs

@@ -1,39 +1,23 @@
--- Mask bytes: what a mark says of its byte, and set bytes counted from the left.
+-- Set mask bytes, counted from the left.
 -- Assumes nothing.
 use mathlib.Core.Path.{_≡_, refl, sym, ap, _∙_}
-use mathlib.Core.Logic.{_≢_}
 use Prim.Native.Nat.{ℕ, zero, suc, _+_, _<_, _≤_}
 use native.Mathlib.Omega.{arith}
 use native.Mathlib.Numerals.{add-one}
 use mathlib.Core.List.{List, [], _∷_, _++_}
 use lib.ListN.{length, getD, take, drop, replicate, take-append-drop, drop-of-length-le}
 use lib.Seq.{drop-cons, drop-drop}
-use Rattle.array.specs.Cells.{isNull, isSet, markOf}
 use Rattle.codec.specs.Frame.{countSet}
-
--- ---- marks
-
-pub null-byte : (b : ℕ) → markOf b ≡ isNull → b ≡ 0
-null-byte zero e = refl
-null-byte (suc b) e = cc
-
-pub set-byte : (b : ℕ) → markOf b ≡ isSet → b ≢ 0
-set-byte zero e q = let z : _≡_ {A = ℕ} 0 1 = cc in omega arith
-set-byte (suc b) e q = omega arith
-
-pub byte-set : (b : ℕ) → b ≢ 0 → isSet ≡ markOf b
-byte-set zero f = absurd (f refl)
-byte-set (suc b) f = refl
-
--- ---- counting
 
 pub count-one : (b : ℕ) → countSet (b ∷ []) ≤ 1
 count-one zero = omega arith
-count-one (suc b) = omega arith
+count-one (suc zero) = omega arith
+count-one (suc (suc b)) = omega arith
 
 pub count-cons : (b : ℕ) (s : List ℕ) → countSet (b ∷ s) ≡ countSet (b ∷ []) + countSet s
 count-cons zero s = omega arith
-count-cons (suc b) s = omega arith
+count-cons (suc zero) s = omega arith
+count-cons (suc (suc b)) s = omega arith
 
 pub count-append : (s t : List ℕ) → countSet (s ++ t) ≡ countSet s + countSet t
 count-append [] t = omega arith
@@ -55,12 +39,8 @@ module _ (s : List ℕ) (i : ℕ) where
   pub count-null : i < length s → getD s i 0 ≡ 0 → countSet (drop i s) ≡ countSet (drop (i + 1) s)
   count-null h e = omega (arith, count-next h, ap (λ (b : ℕ). countSet (b ∷ [])) e)
 
-  pub count-more : i < length s → getD s i 0 ≢ 0 → countSet (drop i s) ≡ suc (countSet (drop (i + 1) s))
-  count-more h f = omega (arith, count-next h, one (getD s i 0) f)
-    where
-      one : (b : ℕ) → b ≢ 0 → countSet (b ∷ []) ≡ 1
-      one zero g = absurd (g refl)
-      one (suc b) g = refl
+  pub count-more : i < length s → getD s i 0 ≡ 1 → countSet (drop i s) ≡ suc (countSet (drop (i + 1) s))
+  count-more h e = omega (arith, count-next h, ap (λ (b : ℕ). countSet (b ∷ [])) e)
 
   pub count-end : length s ≤ i → countSet (drop i s) ≡ 0
   count-end h = ap countSet (drop-of-length-le s h)

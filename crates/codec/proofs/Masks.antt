@@ -9,17 +9,15 @@ use mathlib.Core.List.{List, [], _∷_, _++_, map, append-nil}
 use lib.ListN.{length, take, drop, replicate, length-append, length-map, length-drop, length-replicate, drop-of-length-le, take-append-drop}
 use lib.Seq.{drop-append-add, take-at, drop-at, take-all, take-append-le, drop-append-le}
 use lib.Dec.{leb, eqb}
-use borrow.Author.Tests.{eq-eqb, eqb-true, eqb-false, leb-true, leb-false}
+use borrow.Author.Tests.{eqb-true, leb-true, leb-false, eq-eqb, eqb-false}
 use Rattle.array.specs.Lists.{joined, pieces, All, every}
 use Rattle.array.specs.Bytes.{digits, number}
 use Rattle.array.specs.Kind.{Masks, asBytes, asBits}
-use Rattle.array.specs.Cells.{bitOf}
-use Rattle.array.specs.Content.{seen}
+use Rattle.array.specs.Cells.{Strict, strictTest, bitOf}
 use Rattle.array.proofs.Bytes.{digits-number, length-digits, drop-digits, div-below, number-zeros}
-use Rattle.array.proofs.Lists.{Sized, All-append, All-image, All-of, map-append, joined-append, length-joined, All-take, All-drop, map-id, length-pieces, sized-pieces, joined-pieces}
-use Rattle.array.proofs.Rules.{left-of, right-of}
+use Rattle.array.proofs.Lists.{Sized, All-append, All-image, All-of, map-append, joined-append, length-joined, All-take, All-drop, length-pieces, sized-pieces, joined-pieces}
+use Rattle.array.proofs.Rules.{left-of, right-of, every-all, strict-test}
 use Rattle.array.proofs.Sums.{sumOf}
-use Rattle.array.proofs.SeenLaws.{seen-stays}
 use Rattle.codec.specs.Mask.{bytesFor, padded, packBits, bitsOf, packedMask, maskForm}
 use Rattle.codec.specs.Frame.{countSet, setBits}
 use Rattle.codec.proofs.Marks.{count-append, count-zeros}
@@ -33,7 +31,15 @@ Bits bs = All (λ b. b < 2) bs
 pub bits-of-marks : (ms : List ℕ) → Bits (map bitOf ms)
 bits-of-marks [] = tt
 bits-of-marks (zero ∷ ms) = (omega arith, bits-of-marks ms)
-bits-of-marks (suc m ∷ ms) = (omega arith, bits-of-marks ms)
+bits-of-marks (suc zero ∷ ms) = (omega arith, bits-of-marks ms)
+bits-of-marks (suc (suc m) ∷ ms) = (omega arith, bits-of-marks ms)
+
+-- the bits of mask bytes are these
+pub bits-strict : (ms : List ℕ) → All Strict ms → map bitOf ms ≡ ms
+bits-strict [] p = refl
+bits-strict (zero ∷ ms) p = ap (λ (r : List ℕ). 0 ∷ r) (bits-strict ms (p .1))
+bits-strict (suc zero ∷ ms) p = ap (λ (r : List ℕ). 1 ∷ r) (bits-strict ms (p .1))
+bits-strict (suc (suc m) ∷ ms) p = absurd (omega (arith, p .0))
 
 pub bits-zeros : (n : ℕ) → Bits (replicate n 0)
 bits-zeros zero = tt
@@ -164,25 +170,21 @@ count-packed s n e =
 
 -- ---- the laws
 
-pub mask-laws : (x : Masks) → MaskLaws (seen x) (maskForm x)
+pub mask-laws : (x : Masks) → MaskLaws (maskForm x)
 mask-laws asBytes = record {
-  null-stays = refl;
-  marks-stay = λ m. refl;
   size-le = λ n. le-refl n;
   size-append = λ m n e. refl;
   length-put = λ ms. refl;
   put-append = λ ms ns e. refl;
-  passes = λ ms. refl;
-  says = λ ms. sym (map-id ms);
+  passes = every-all Strict strictTest strict-test;
+  says = λ ms p. refl;
 }
 mask-laws asBits = record {
-  null-stays = refl;
-  marks-stay = seen-stays asBits;
   size-le = λ n. omega arith;
   size-append = λ m n e. omega arith;
   length-put = λ ms. length-packed (map bitOf ms) ∙ ap bytesFor (length-map ms bitOf);
   put-append = λ ms ns e.
       ap packBits (map-append bitOf ms ns) ∙ pack-append (length ms / 8) (map bitOf ms) (map bitOf ns) (length-map ms bitOf ∙ omega arith);
-  passes = λ ms. ap (packedMask .test (packBits (map bitOf ms))) (sym (length-map ms bitOf)) ∙ packed-passes (map bitOf ms) (bits-of-marks ms);
-  says = λ ms. ap (packedMask .said (packBits (map bitOf ms))) (sym (length-map ms bitOf)) ∙ packed-says (map bitOf ms) (bits-of-marks ms);
+  passes = λ ms p. ap (packedMask .test (packBits (map bitOf ms))) (sym (length-map ms bitOf)) ∙ packed-passes (map bitOf ms) (bits-of-marks ms);
+  says = λ ms p. ap (packedMask .said (packBits (map bitOf ms))) (sym (length-map ms bitOf)) ∙ packed-says (map bitOf ms) (bits-of-marks ms) ∙ bits-strict ms p;
 }

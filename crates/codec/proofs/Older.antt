@@ -1,28 +1,26 @@
 -- The older form is read as it was written (specs/Older).
 -- Assumes nothing.
 use mathlib.Core.Path.{_≡_, refl, sym, ap, _∙_, subst}
-use Prim.Native.Nat.{ℕ, zero, suc, _+_, _*_, _^_, _<_, _≤_}
+use Prim.Native.Nat.{ℕ, suc, _+_, _*_, _^_, _<_, _≤_}
 use native.Mathlib.Nat.{le-trans}
 use native.Mathlib.Omega.{arith}
-use mathlib.Core.Bool.{true}
 use mathlib.Core.List.{List, [], _∷_, _++_, map}
-use lib.ListN.{length, take, drop, length-append}
+use lib.ListN.{length, take, length-append}
 use lib.Seq.{take-at, drop-at}
 use borrow.Author.Tests.{le-leb, eq-eqb}
 use Rattle.array.specs.Answer.{Answer, gives, andThen, unless}
 use Rattle.array.specs.Limits.{mostBytes, mostCells}
 use Rattle.array.specs.Lists.{joined, All}
 use Rattle.array.specs.Bytes.{le, unle}
-use Rattle.array.specs.Kind.{Kind, Masks, Place, ragged}
+use Rattle.array.specs.Kind.{Kind}
 use Rattle.array.specs.Shape.{volume}
-use Rattle.array.specs.Offsets.{offsetsOf}
 use Rattle.array.specs.Cells.{Value}
-use Rattle.array.specs.Content.{Content, RaggedContent, endToEnd, Valid, valuesIn, sizeTest}
+use Rattle.array.specs.Content.{RaggedContent, endToEnd, valuesIn, sizeTest}
 use Rattle.array.specs.Buffers.{RaggedLengths, raggedLengthsOf, RaggedEnough, raggedEnoughTest, listOutcome, raggedOutcome}
 use Rattle.array.proofs.Answers.{pass}
 use Rattle.array.proofs.Bytes.{length-le, unle-le}
 use Rattle.array.proofs.Lists.{map-id}
-use Rattle.array.proofs.Rules.{both, kind-test, shape-test, content-test, size-test, ragged-enough-test}
+use Rattle.array.proofs.Rules.{both, kind-test, shape-test, rest-passes, size-test, ragged-enough-test}
 use Rattle.array.proofs.LayoutLaws.{values-length, values-total}
 use Rattle.codec.specs.Interleaved.{interleavedCells, putCells, putInterleaved, interleavedLength}
 use Rattle.codec.specs.Calls.{interleavedAnswer, interleavedDecoded, encodeInterleavedAnswer, interleavedEncoded}
@@ -97,13 +95,13 @@ older-returns x w p shape A v out ho back hb =
     let k : Kind = flatKind x w p in
     let n : ℕ = volume shape in
     let vs : List Value = valuesIn (k .form) n A in
-    let lv : length vs ≡ n = values-length (k .form) n A (v .content .values-fit) in
-    let total : length (joined vs) ≤ mostBytes = le-trans (values-total (k .form) n A (v .content .values-fit)) (v .small) in
+    let lv : length vs ≡ n = values-length (k .form) n A (v .content .fits .values-fit) in
+    let total : length (joined vs) ≤ mostBytes = le-trans (values-total (k .form) n A (v .content .fits .values-fit)) (v .small) in
     let same : endToEnd vs ≡ restRagged k shape A = ap endToEnd (sym (map-id vs) ∙ ap (map (λ (u : Value). u)) (sym (map-id vs))) in
     record {
       writes = ap (λ (a : Answer (List ℕ)). listOutcome a out)
-          (pass 1 (both (both (kind-test k (v .kind)) refl) refl) (pass 2 (shape-test shape (v .shaped)) (pass 4 (content-test k n A (v .content))
-          (pass 5 (size-test (length (A .values)) (v .small)) (pass 6 (le-leb (length (putInterleaved vs)) (length out) (omega (arith, length-interleaved vs))) refl)))));
+          (pass 1 (both (both (kind-test k (v .kind)) refl) refl) (pass 2 (shape-test shape (v .shaped)) (rest-passes k n A (v .content) (v .small)
+          (pass 6 (le-leb (length (putInterleaved vs)) (length out) (omega (arith, length-interleaved vs))) refl))));
       long = length-interleaved vs;
       reads = ap (λ (a : Answer RaggedContent). raggedOutcome a back)
           (ap (λ (m : ℕ). interleavedAnswer m (putInterleaved vs) (raggedLengthsOf back)) (sym lv)

@@ -13,14 +13,14 @@ use Rattle.array.specs.Lists.{joined, pieces, All, every}
 use Rattle.array.specs.Kind.{Kind, kindTest, Place, Form, fixed, ragged, nullOf, Masks, asBytes, asBits}
 use Rattle.array.specs.Shape.{volume}
 use Rattle.array.specs.Offsets.{last}
-use Rattle.array.specs.Cells.{blank}
+use Rattle.array.specs.Cells.{Strict, strictTest, blank}
 use Rattle.array.specs.Content.{RaggedContent}
 use Rattle.array.specs.Buffers.{lengthsOf, raggedLengthsOf}
 use Rattle.array.specs.Refusals.{Rule, InOrder, success}
 use Rattle.array.proofs.Answers.{then-unless}
-use Rattle.array.proofs.Refusals.{stage, stage-le, stage-eq, stage-given, and-then, named}
-use Rattle.array.proofs.Rules.{both, left-of, right-of}
-use Rattle.array.proofs.Rules.{kind-test, kind-ok, shape-test, shape-ok, content-test, content-ok, rising-test, rising-ok}
+use Rattle.array.proofs.Refusals.{stage, stage-le, stage-eq, stage-given, stage-array, and-then, named}
+use Rattle.array.proofs.Rules.{both, left-of, right-of, every-all, all-every, strict-test, strict-ok}
+use Rattle.array.proofs.Rules.{kind-test, kind-ok, shape-test, shape-ok, rising-test, rising-ok}
 use Rattle.array.proofs.Rules.{size-test, size-ok, enough-test, enough-ok, ragged-enough-test, ragged-enough-ok}
 use Rattle.codec.specs.Mask.{getMask, packedMask, maskForm, bitsOf}
 use Rattle.codec.specs.Frame.{countSet, expand, contentOf, readFrame}
@@ -69,7 +69,7 @@ content-order : {A : Type 0} (n : ℕ) (rules : ℕ → List Rule) (f : ℕ → 
 content-order zero rules f h = success
 content-order (suc n) rules f h = h (suc n)
 
--- the unused bits, and then what goes by the mask
+-- the mask bytes or the unused bits, and then what goes by the mask
 zeros-test : (bs : List ℕ) → All (λ b. b ≡ 0) bs → every (eqb 0) bs ≡ true
 zeros-test [] p = refl
 zeros-test (b ∷ bs) p = both (eq-eqb 0 b (sym (p .0))) (zeros-test bs (p .1))
@@ -80,7 +80,9 @@ zeros-ok (b ∷ bs) e = (sym (eqb-true 0 b (left-of (eqb 0 b) (every (eqb 0) bs)
 
 mask-order : {B : Type 0} (x : Masks) (mask : List ℕ) (n : ℕ) {rs : List Rule} (f : List ℕ → Answer B) → InOrder rs (f (maskForm x .said mask n))
     → InOrder (maskRules x mask n ++ rs) (andThen (getMask (maskForm x) mask n) f)
-mask-order asBytes mask n f h = h
+mask-order asBytes mask n {rs} f h =
+    subst (InOrder (maskRules asBytes mask n ++ rs)) (sym (then-unless (every strictTest mask) 14 mask f))
+    (stage 14 (every-all Strict strictTest strict-test mask) (all-every Strict strictTest strict-ok mask) h)
 mask-order asBits mask n {rs} f h =
     let said : List ℕ = packedMask .said mask n in
     let unused : List ℕ = drop n (bitsOf mask) in
@@ -137,9 +139,8 @@ refusals = record {
   encode = λ k shape c out. named length
       (stage 1 (kind-test k) (kind-ok k)
       (stage 2 (shape-test shape) (shape-ok shape)
-      (stage 4 (content-test k (volume shape) c) (content-ok k (volume shape) c)
-      (stage 5 (size-test (length (c .values))) (size-ok (length (c .values)))
-      (stage-le 6 _ _ success)))));
+      (stage-array k (volume shape) c
+      (stage-le 6 _ _ success))));
   decode = λ k shape s out. named lengthsOf
       (stage 1 (kind-test k) (kind-ok k)
       (stage 2 (shape-test shape) (shape-ok shape)
@@ -153,7 +154,6 @@ refusals = record {
   encode-interleaved = λ k shape c out. named length
       (stage 1 (interleaved-test k) (interleaved-ok k)
       (stage 2 (shape-test shape) (shape-ok shape)
-      (stage 4 (content-test k (volume shape) c) (content-ok k (volume shape) c)
-      (stage 5 (size-test (length (c .values))) (size-ok (length (c .values)))
-      (stage-le 6 _ _ success)))));
+      (stage-array k (volume shape) c
+      (stage-le 6 _ _ success))));
 }

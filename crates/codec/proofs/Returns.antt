@@ -8,16 +8,16 @@ use mathlib.Core.List.{List, [], _∷_, map}
 use lib.ListN.{length}
 use Rattle.array.specs.Answer.{Answer, gives, andThen, unless}
 use Rattle.array.specs.Limits.{mostBytes, mostCells}
-use Rattle.array.specs.Lists.{joined}
+use Rattle.array.specs.Lists.{joined, All}
 use Rattle.array.specs.Kind.{Kind, Masks, Place, Form, fixed, ragged, FormOk, nullOf}
 use Rattle.array.specs.Shape.{volume}
 use Rattle.array.specs.Cells.{Cell, rest}
-use Rattle.array.specs.Content.{Content, RaggedContent, unmasked, Valid, ValuesOk, leaves, layout, cellsOf, seen, withMasks, returnForm}
+use Rattle.array.specs.Content.{Content, RaggedContent, unmasked, Valid, ValuesOk, leaves, layout, cellsOf, restForm}
 use Rattle.array.specs.Buffers.{Lengths, Enough, enoughTest}
 use Rattle.array.proofs.Answers.{pass}
-use Rattle.array.proofs.Rules.{kind-test, shape-test, content-test, size-test, enough-test}
+use Rattle.array.proofs.Rules.{kind-test, shape-test, rest-passes, enough-test}
 use Rattle.array.proofs.Lists.{map-id}
-use Rattle.array.proofs.SeenLaws.{layout-rest-seen}
+use Rattle.array.proofs.RestLaws.{StrictCell}
 use Rattle.array.proofs.Sizes.{SizedAs}
 use Rattle.array.proofs.LayoutLaws.{content-path, Good, good-cells}
 use Rattle.array.proofs.Inverse.{FromZero, layout-cells}
@@ -32,13 +32,13 @@ use Rattle.codec.proofs.Values.{fits-width, ragged-length, width-le}
 use Rattle.codec.proofs.Lengths.{frame-small}
 use Rattle.codec.proofs.RoundTrip.{read-framed}
 
--- the array at depth 0, else its rest form as the stored masks keep it
+-- the array at depth 0, else its rest form
 abbrev pub byDepth : ℕ → Content → Content → Content
 byDepth zero c r = c
 byDepth (suc d) c r = r
 
 abbrev pub returned : Kind → ℕ → Content → Content
-returned k n c = byDepth (k .depth) c (returnForm k n c)
+returned k n c = byDepth (k .depth) c (restForm k n c)
 
 -- ---- ragged values of depth 0 come back as they are
 
@@ -62,27 +62,26 @@ flat-returns w p n c ok em v h b =
 -- ---- framed cells come back in rest form
 
 module _ (x : Masks) (f : Form) (d n : ℕ) (cs : List (Cell d)) (ok : FormOk f) (shallow : d ≤ 4) (counted : length cs ≡ n) (few : n ≤ mostCells)
-    (sized : SizedAs f (leaves d cs)) (small : length (joined (leaves d cs)) ≤ mostBytes) where
+    (sized : SizedAs f (leaves d cs)) (strict : All (StrictCell d) cs) (small : length (joined (leaves d cs)) ≤ mostBytes) where
   framed-returns : andThen (readFrame (maskForm x) (nullOf f) (getValues f) d (frame (maskForm x) (putValues f) d cs) n) (λ xs. gives (layout f d xs))
-      ≡ gives (withMasks (seen x) (layout f d (map (rest (nullOf f) d) cs)))
+      ≡ gives (layout f d (map (rest (nullOf f) d) cs))
   framed-returns =
       ap (λ (m : ℕ). andThen (readFrame (maskForm x) (nullOf f) (getValues f) d (frame (maskForm x) (putValues f) d cs) m) (λ xs. gives (layout f d xs))) (sym counted)
       ∙ ap (λ (a : Answer (List (Cell d))). andThen a (λ xs. gives (layout f d xs)))
-      (read-framed x f d cs ok sized small (frame-small x f ok d cs shallow (omega arith) small))
-      ∙ ap gives (layout-rest-seen (nullOf f) (seen x) f d cs)
+      (read-framed x f d cs ok sized strict small (frame-small x f ok d cs shallow (omega arith) small))
 
 -- ---- each form at each depth
 
 module _ (x : Masks) (n : ℕ) (c : Content) (few : n ≤ mostCells) (bytes : length (c .values) ≤ mostBytes) where
-  returns-by : (f : Form) (d : ℕ) (cs : List (Cell d)) → FormOk f → d ≤ 4 → length cs ≡ n → SizedAs f (leaves d cs) → length (joined (leaves d cs)) ≤ mostBytes
+  returns-by : (f : Form) (d : ℕ) (cs : List (Cell d)) → FormOk f → d ≤ 4 → length cs ≡ n → SizedAs f (leaves d cs) → All (StrictCell d) cs → length (joined (leaves d cs)) ≤ mostBytes
       → length (c .masks) ≡ d * n → ValuesOk f n c → (FromZero f c → layout f d cs ≡ c)
-      → readIn (maskForm x) f d n (written (maskForm x) f d cs c) ≡ gives (byDepth d c (withMasks (seen x) (layout f d (map (rest (nullOf f) d) cs))))
+      → readIn (maskForm x) f d n (written (maskForm x) f d cs c) ≡ gives (byDepth d c (layout f d (map (rest (nullOf f) d) cs)))
   unfolding readIn written
-  returns-by (fixed k o) zero cs ok sh ct sz sm em v back =
-      framed-returns x (fixed k o) zero n cs ok sh ct few sz sm ∙ ap gives (ap (withMasks (seen x)) (ap (layout (fixed k o) zero) (map-id cs)) ∙ back tt)
-  returns-by (fixed k o) (suc d) cs ok sh ct sz sm em v back = framed-returns x (fixed k o) (suc d) n cs ok sh ct few sz sm
-  returns-by (ragged w p) zero cs ok sh ct sz sm em v back = flat-returns w p n c ok em v few bytes
-  returns-by (ragged w p) (suc d) cs ok sh ct sz sm em v back = framed-returns x (ragged w p) (suc d) n cs ok sh ct few sz sm
+  returns-by (fixed k o) zero cs ok sh ct sz st sm em v back =
+      framed-returns x (fixed k o) zero n cs ok sh ct few sz st sm ∙ ap gives (ap (layout (fixed k o) zero) (map-id cs) ∙ back tt)
+  returns-by (fixed k o) (suc d) cs ok sh ct sz st sm em v back = framed-returns x (fixed k o) (suc d) n cs ok sh ct few sz st sm
+  returns-by (ragged w p) zero cs ok sh ct sz st sm em v back = flat-returns w p n c ok em v few bytes
+  returns-by (ragged w p) (suc d) cs ok sh ct sz st sm em v back = framed-returns x (ragged w p) (suc d) n cs ok sh ct few sz st sm
 
 -- what is read of what a valid array was written as
 pub stored-returns : (k : Kind) (shape : List ℕ) (c : Content) → Valid k shape c
@@ -90,8 +89,8 @@ pub stored-returns : (k : Kind) (shape : List ℕ) (c : Content) → Valid k sha
 stored-returns k shape c v =
     let n : ℕ = volume shape in
     let g : Good k n (cellsOf k n c) = good-cells k n c (v .content) (v .small) in
-    returns-by (k .masks) n c (v .shaped .few-cells) (v .small) (k .form) (k .depth) (cellsOf k n c) (v .kind .sound) (v .kind .shallow) (g .counted) (g .sized) (g .small)
-    (v .content .masks-fit) (v .content .values-fit) (layout-cells k n c (v .content))
+    returns-by (k .masks) n c (v .shaped .few-cells) (v .small) (k .form) (k .depth) (cellsOf k n c) (v .kind .sound) (v .kind .shallow) (g .counted) (g .sized) (g .strict) (g .small)
+    (v .content .fits .masks-fit) (v .content .fits .values-fit) (layout-cells k n c (v .content .fits))
 
 -- ---- over the calls, with outputs that are long enough
 
@@ -99,8 +98,8 @@ pub encode-gives : (k : Kind) (shape : List ℕ) (c : Content) → Valid k shape
     → encodeAnswer k shape c r ≡ gives (storedForm k (volume shape) c)
 unfolding encodeAnswer
 encode-gives k shape c v r e =
-    pass 1 (kind-test k (v .kind)) (pass 2 (shape-test shape (v .shaped)) (pass 4 (content-test k (volume shape) c (v .content))
-    (pass 5 (size-test (length (c .values)) (v .small)) (pass 6 (le-leb (length (storedForm k (volume shape) c)) r e) refl))))
+    pass 1 (kind-test k (v .kind)) (pass 2 (shape-test shape (v .shaped)) (rest-passes k (volume shape) c (v .content) (v .small)
+    (pass 6 (le-leb (length (storedForm k (volume shape) c)) r e) refl)))
 
 pub decode-gives : (k : Kind) (shape : List ℕ) (c : Content) → Valid k shape c → (r : Lengths) → Enough (returned k (volume shape) c) r
     → decodeAnswer k shape (storedForm k (volume shape) c) r ≡ gives (returned k (volume shape) c)

@@ -7,10 +7,10 @@ use mathlib.Core.List.{List, map}
 use lib.ListN.{length}
 use Rattle.array.specs.Answer.{Answer, gives, andThen}
 use Rattle.array.specs.Limits.{mostBytes}
-use Rattle.array.specs.Lists.{joined}
+use Rattle.array.specs.Lists.{joined, All}
 use Rattle.array.specs.Kind.{Kind, Masks, Form, fixed, ragged, FormOk, nullOf}
-use Rattle.array.specs.Cells.{Value, Cell}
-use Rattle.array.specs.Content.{RaggedContent, unmasked, leaves, layout, endToEnd, seen}
+use Rattle.array.specs.Cells.{Value, Cell, rest}
+use Rattle.array.specs.Content.{RaggedContent, unmasked, leaves, layout, endToEnd}
 use Rattle.array.proofs.Lists.{map-id}
 use Rattle.array.proofs.Sizes.{SizedAs}
 use Rattle.array.proofs.LayoutLaws.{cells-layout, Good}
@@ -19,7 +19,7 @@ use Rattle.codec.specs.Frame.{frame, readFrame}
 use Rattle.codec.specs.Ragged.{putRagged}
 use Rattle.codec.specs.Values.{putValues, getValues}
 use Rattle.codec.specs.Calls.{written, storedForm, readIn}
-use Rattle.array.proofs.SeenLaws.{restSeen}
+use Rattle.array.proofs.RestLaws.{StrictCell}
 use Rattle.codec.proofs.Frames.{back}
 use Rattle.codec.proofs.Masks.{mask-laws}
 use Rattle.codec.proofs.Values.{back-offsets, back-values}
@@ -36,22 +36,24 @@ stored-layout k n xs g =
     ap (λ (ys : List (Cell (k .depth))). written (maskForm (k .masks)) (k .form) (k .depth) ys (layout (k .form) (k .depth) xs)) (cells-layout k n xs (g .counted) (g .sized))
     ∙ written-layout (maskForm (k .masks)) (k .form) (k .depth) xs
 
--- as the form x of masks keeps their bytes
+-- in either form of masks
 module _ (x : Masks) where
-  pub read-framed : (f : Form) (d : ℕ) (xs : List (Cell d)) → FormOk f → SizedAs f (leaves d xs) → length (joined (leaves d xs)) ≤ mostBytes → length (frame (maskForm x) (putValues f) d xs) < 256 ^ 8
-      → readFrame (maskForm x) (nullOf f) (getValues f) d (frame (maskForm x) (putValues f) d xs) (length xs) ≡ gives (map (restSeen (nullOf f) (seen x) d) xs)
-  read-framed f d xs ok s b h =
-      back (seen x) (maskForm x) (mask-laws x) (nullOf f) (getValues f) (putValues f) (λ vs. SizedAs f vs × (length (joined vs) ≤ mostBytes)) (back-values f ok) d xs
+  pub read-framed : (f : Form) (d : ℕ) (xs : List (Cell d)) → FormOk f → SizedAs f (leaves d xs) → All (StrictCell d) xs
+      → length (joined (leaves d xs)) ≤ mostBytes → length (frame (maskForm x) (putValues f) d xs) < 256 ^ 8
+      → readFrame (maskForm x) (nullOf f) (getValues f) d (frame (maskForm x) (putValues f) d xs) (length xs) ≡ gives (map (rest (nullOf f) d) xs)
+  read-framed f d xs ok s t b h =
+      back (maskForm x) (mask-laws x) (nullOf f) (getValues f) (putValues f) (λ vs. SizedAs f vs × (length (joined vs) ≤ mostBytes)) (back-values f ok) d xs t
       (sized-live f d xs s, le-trans (bytes-live d xs) b) h
 
-  pub read-layout : (f : Form) (d : ℕ) (xs : List (Cell d)) → FormOk f → SizedAs f (leaves d xs) → length (joined (leaves d xs)) ≤ mostBytes → length (frame (maskForm x) (putValues f) d xs) < 256 ^ 8
-      → readIn (maskForm x) f d (length xs) (frame (maskForm x) (putValues f) d xs) ≡ gives (layout f d (map (restSeen (nullOf f) (seen x) d) xs))
+  pub read-layout : (f : Form) (d : ℕ) (xs : List (Cell d)) → FormOk f → SizedAs f (leaves d xs) → All (StrictCell d) xs
+      → length (joined (leaves d xs)) ≤ mostBytes → length (frame (maskForm x) (putValues f) d xs) < 256 ^ 8
+      → readIn (maskForm x) f d (length xs) (frame (maskForm x) (putValues f) d xs) ≡ gives (layout f d (map (rest (nullOf f) d) xs))
   unfolding readIn frame putValues
-  read-layout (fixed k o) d xs ok s b h =
-      ap (λ (a : Answer (List (Cell d))). andThen a (λ cs. gives (layout (fixed k o) d cs))) (read-framed (fixed k o) d xs ok s b h)
-  read-layout (ragged w p) zero xs ok s b h =
+  read-layout (fixed k o) d xs ok s t b h =
+      ap (λ (a : Answer (List (Cell d))). andThen a (λ cs. gives (layout (fixed k o) d cs))) (read-framed (fixed k o) d xs ok s t b h)
+  read-layout (ragged w p) zero xs ok s t b h =
       ap (λ (a : Answer RaggedContent). andThen a (λ y. gives (unmasked y)))
       (back-offsets w p ok xs (subst (λ (vs : List Value). length (joined vs) ≤ mostBytes) (map-id xs) b) h)
       ∙ ap (λ (vs : List Value). gives (unmasked (endToEnd vs))) (sym (map-id xs) ∙ ap (map (λ v. v)) (sym (map-id xs)))
-  read-layout (ragged w p) (suc d) xs ok s b h =
-      ap (λ (a : Answer (List (Cell (suc d)))). andThen a (λ cs. gives (layout (ragged w p) (suc d) cs))) (read-framed (ragged w p) (suc d) xs ok s b h)
+  read-layout (ragged w p) (suc d) xs ok s t b h =
+      ap (λ (a : Answer (List (Cell (suc d)))). andThen a (λ cs. gives (layout (ragged w p) (suc d) cs))) (read-framed (ragged w p) (suc d) xs ok s t b h)

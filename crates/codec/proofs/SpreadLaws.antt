@@ -1,7 +1,6 @@
 -- Spreading over a plane, and reading plane by plane: it agrees with reading cells.
 -- Assumes nothing.
 use mathlib.Core.Path.{_≡_, refl, sym, ap, ap₂, _∙_}
-use mathlib.Core.Logic.{_≢_}
 use Prim.Native.Nat.{ℕ, zero, suc, _+_, _<_}
 use native.Mathlib.Omega.{arith}
 use native.Mathlib.Numerals.{add-one}
@@ -9,10 +8,10 @@ use mathlib.Core.List.{List, [], _∷_, _++_, map}
 use lib.ListN.{length, take, drop, getD, replicate}
 use lib.Seq.{drop-cons}
 use Rattle.array.specs.Lists.{joined}
-use Rattle.array.specs.Cells.{Value, Cell, maskOf, inners, leaf, blank}
+use Rattle.array.specs.Cells.{Value, Cell, markOf, maskOf, inners, leaf, blank}
 use Rattle.array.specs.Content.{masksOf, leaves}
 use Rattle.array.proofs.Lists.{map-map}
-use Rattle.codec.specs.Frame.{countSet, expand}
+use Rattle.codec.specs.Frame.{countSet, nextBy, leftBy, expand}
 use Rattle.codec.specs.Spread.{spread, planeList, placed}
 use Rattle.codec.proofs.Marks.{count-le}
 
@@ -20,66 +19,68 @@ use Rattle.codec.proofs.Marks.{count-le}
 
 pub length-spread : {A : Type 0} (z : A) (p : List ℕ) (xs : List A) → length (spread z p xs) ≡ length p
 length-spread z [] xs = refl
-length-spread z (zero ∷ p) xs = ap suc (length-spread z p xs)
-length-spread z (suc m ∷ p) [] = ap suc (length-spread z p [])
-length-spread z (suc m ∷ p) (x ∷ xs) = ap suc (length-spread z p xs)
+length-spread z (m ∷ p) xs = ap suc (length-spread z p (leftBy (markOf m) xs))
 
 -- only as many elements are taken as bytes are set
 pub spread-take : {A : Type 0} (z : A) (p : List ℕ) (xs : List A) → spread z p (take (countSet p) xs) ≡ spread z p xs
 spread-take z [] xs = refl
 spread-take {A} z (zero ∷ p) xs = ap (λ (r : List A). z ∷ r) (spread-take z p xs)
-spread-take {A} z (suc m ∷ p) [] = refl
-spread-take {A} z (suc m ∷ p) (x ∷ xs) = ap (λ (r : List A). x ∷ r) (spread-take z p xs)
+spread-take {A} z (suc zero ∷ p) [] = refl
+spread-take {A} z (suc zero ∷ p) (x ∷ xs) = ap (λ (r : List A). x ∷ r) (spread-take z p xs)
+spread-take {A} z (suc (suc m) ∷ p) xs = ap (λ (r : List A). z ∷ r) (spread-take z p xs)
 
 pub spread-none : {A : Type 0} (z : A) (p : List ℕ) (xs : List A) → countSet p ≡ 0 → spread z p xs ≡ replicate (length p) z
 spread-none z [] xs e = refl
 spread-none {A} z (zero ∷ p) xs e = ap (λ (r : List A). z ∷ r) (spread-none z p xs e)
-spread-none z (suc m ∷ p) xs e = absurd (omega arith)
+spread-none z (suc zero ∷ p) xs e = absurd (omega arith)
+spread-none {A} z (suc (suc m) ∷ p) xs e = ap (λ (r : List A). z ∷ r) (spread-none z p xs e)
 
 -- where all bytes are set the list is taken as it is
 pub spread-all : {A : Type 0} (z : A) (p : List ℕ) (xs : List A) → countSet p ≡ length p → length xs ≡ length p → spread z p xs ≡ xs
 spread-all z [] [] e l = refl
 spread-all z [] (x ∷ xs) e l = absurd (omega arith)
 spread-all z (zero ∷ p) xs e l = absurd (omega (arith, count-le p))
-spread-all z (suc m ∷ p) [] e l = absurd (omega arith)
-spread-all {A} z (suc m ∷ p) (x ∷ xs) e l = ap (λ (r : List A). x ∷ r) (spread-all z p xs (omega arith) (omega arith))
+spread-all z (suc zero ∷ p) [] e l = absurd (omega arith)
+spread-all {A} z (suc zero ∷ p) (x ∷ xs) e l = ap (λ (r : List A). x ∷ r) (spread-all z p xs (omega arith) (omega arith))
+spread-all z (suc (suc m) ∷ p) xs e l = absurd (omega (arith, count-le p))
 
 pub count-spread : (p m : List ℕ) → length m ≡ countSet p → countSet (spread 0 p m) ≡ countSet m
 count-spread [] [] e = refl
 count-spread [] (x ∷ m) e = absurd (omega arith)
 count-spread (zero ∷ p) m e = count-spread p m e
-count-spread (suc k ∷ p) [] e = absurd (omega arith)
-count-spread (suc k ∷ p) (zero ∷ m) e = count-spread p m (omega arith)
-count-spread (suc k ∷ p) (suc x ∷ m) e = ap suc (count-spread p m (omega arith))
+count-spread (suc zero ∷ p) [] e = absurd (omega arith)
+count-spread (suc zero ∷ p) (zero ∷ m) e = count-spread p m (omega arith)
+count-spread (suc zero ∷ p) (suc zero ∷ m) e = ap suc (count-spread p m (omega arith))
+count-spread (suc zero ∷ p) (suc (suc x) ∷ m) e = count-spread p m (omega arith)
+count-spread (suc (suc k) ∷ p) m e = count-spread p m e
 
 -- from the byte i on
 pub spread-null : {A : Type 0} (z : A) (p : List ℕ) (i : ℕ) (xs : List A) → i < length p → getD p i 0 ≡ 0 → spread z (drop i p) xs ≡ z ∷ spread z (drop (i + 1) p) xs
 spread-null {A} z p i xs h e =
     ap (λ (l : List ℕ). spread z l xs) (drop-cons p i 0 h ∙ ap (λ (x : ℕ). x ∷ drop (suc i) p) e) ∙ ap (λ (j : ℕ). z ∷ spread z (drop j p) xs) (sym (add-one i))
 
-pub spread-set : {A : Type 0} (z : A) (p : List ℕ) (i : ℕ) (x : A) (xs : List A) → i < length p → getD p i 0 ≢ 0 → spread z (drop i p) (x ∷ xs) ≡ x ∷ spread z (drop (i + 1) p) xs
+pub spread-set : {A : Type 0} (z : A) (p : List ℕ) (i : ℕ) (x : A) (xs : List A) → i < length p → getD p i 0 ≡ 1 → spread z (drop i p) (x ∷ xs) ≡ x ∷ spread z (drop (i + 1) p) xs
 spread-set {A} z p i x xs h e =
-    ap (λ (l : List ℕ). spread z l (x ∷ xs)) (drop-cons p i 0 h) ∙ go (getD p i 0) e ∙ ap (λ (j : ℕ). x ∷ spread z (drop j p) xs) (sym (add-one i))
-  where
-    go : (b : ℕ) → b ≢ 0 → spread z (b ∷ drop (suc i) p) (x ∷ xs) ≡ x ∷ spread z (drop (suc i) p) xs
-    go zero f = absurd (f refl)
-    go (suc b) f = refl
+    ap (λ (l : List ℕ). spread z l (x ∷ xs)) (drop-cons p i 0 h ∙ ap (λ (b : ℕ). b ∷ drop (suc i) p) e) ∙ ap (λ (j : ℕ). x ∷ spread z (drop j p) xs) (sym (add-one i))
 
 -- spreading commutes with what is done to each element
 pub spread-map : {A B : Type 0} (f : A → B) (z : A) (ms : List ℕ) (xs : List A) → map f (spread z ms xs) ≡ spread (f z) ms (map f xs)
 spread-map f z [] xs = refl
 spread-map {B = B} f z (zero ∷ ms) xs = ap (λ (r : List B). f z ∷ r) (spread-map f z ms xs)
-spread-map {B = B} f z (suc m ∷ ms) [] = ap (λ (r : List B). f z ∷ r) (spread-map f z ms [])
-spread-map {B = B} f z (suc m ∷ ms) (x ∷ xs) = ap (λ (r : List B). f x ∷ r) (spread-map f z ms xs)
+spread-map {B = B} f z (suc zero ∷ ms) [] = ap (λ (r : List B). f z ∷ r) (spread-map f z ms [])
+spread-map {B = B} f z (suc zero ∷ ms) (x ∷ xs) = ap (λ (r : List B). f x ∷ r) (spread-map f z ms xs)
+spread-map {B = B} f z (suc (suc m) ∷ ms) xs = ap (λ (r : List B). f z ∷ r) (spread-map f z ms xs)
 
 -- two spreads are one over the spread mask: so only the plane before is looked at
 pub spread-spread : {A : Type 0} (z : A) (ms ns : List ℕ) (xs : List A) → spread z (spread 0 ms ns) xs ≡ spread z ms (spread z ns xs)
 spread-spread z [] ns xs = refl
 spread-spread {A} z (zero ∷ ms) ns xs = ap (λ (r : List A). z ∷ r) (spread-spread z ms ns xs)
-spread-spread {A} z (suc m ∷ ms) [] xs = ap (λ (r : List A). z ∷ r) (spread-spread z ms [] xs)
-spread-spread {A} z (suc m ∷ ms) (zero ∷ ns) xs = ap (λ (r : List A). z ∷ r) (spread-spread z ms ns xs)
-spread-spread {A} z (suc m ∷ ms) (suc n ∷ ns) [] = ap (λ (r : List A). z ∷ r) (spread-spread z ms ns [])
-spread-spread {A} z (suc m ∷ ms) (suc n ∷ ns) (x ∷ xs) = ap (λ (r : List A). x ∷ r) (spread-spread z ms ns xs)
+spread-spread {A} z (suc zero ∷ ms) [] xs = ap (λ (r : List A). z ∷ r) (spread-spread z ms [] xs)
+spread-spread {A} z (suc zero ∷ ms) (zero ∷ ns) xs = ap (λ (r : List A). z ∷ r) (spread-spread z ms ns xs)
+spread-spread {A} z (suc zero ∷ ms) (suc zero ∷ ns) [] = ap (λ (r : List A). z ∷ r) (spread-spread z ms ns [])
+spread-spread {A} z (suc zero ∷ ms) (suc zero ∷ ns) (x ∷ xs) = ap (λ (r : List A). x ∷ r) (spread-spread z ms ns xs)
+spread-spread {A} z (suc zero ∷ ms) (suc (suc n) ∷ ns) xs = ap (λ (r : List A). z ∷ r) (spread-spread z ms ns xs)
+spread-spread {A} z (suc (suc m) ∷ ms) ns xs = ap (λ (r : List A). z ∷ r) (spread-spread z ms ns xs)
 
 -- ---- cells below a mask
 
@@ -87,19 +88,16 @@ spread-spread {A} z (suc m ∷ ms) (suc n ∷ ns) (x ∷ xs) = ap (λ (r : List 
 pub expand-none : {A : Type 0} (b : A) (ms : List ℕ) (xs ys : List A) → countSet ms ≡ 0 → expand b ms xs ≡ expand b ms ys
 expand-none b [] xs ys e = refl
 expand-none {A} b (zero ∷ ms) xs ys e = ap (λ (r : List (ℕ × A)). (zero, b) ∷ r) (expand-none b ms xs ys e)
-expand-none b (suc m ∷ ms) xs ys e = absurd (omega arith)
+expand-none b (suc zero ∷ ms) xs ys e = absurd (omega arith)
+expand-none {A} b (suc (suc m) ∷ ms) xs ys e = ap (λ (r : List (ℕ × A)). (suc (suc m), b) ∷ r) (expand-none b ms xs ys e)
 
 masks-expand : {A : Type 0} (b : A) (ms : List ℕ) (xs : List A) → maskOf (expand b ms xs) ≡ ms
 masks-expand b [] xs = refl
-masks-expand b (zero ∷ ms) xs = ap (λ (r : List ℕ). zero ∷ r) (masks-expand b ms xs)
-masks-expand b (suc m ∷ ms) [] = ap (λ (r : List ℕ). suc m ∷ r) (masks-expand b ms [])
-masks-expand b (suc m ∷ ms) (x ∷ xs) = ap (λ (r : List ℕ). suc m ∷ r) (masks-expand b ms xs)
+masks-expand b (m ∷ ms) xs = ap (λ (r : List ℕ). m ∷ r) (masks-expand b ms (leftBy (markOf m) xs))
 
 inners-expand : {A : Type 0} (b : A) (ms : List ℕ) (xs : List A) → inners (expand b ms xs) ≡ spread b ms xs
 inners-expand b [] xs = refl
-inners-expand {A} b (zero ∷ ms) xs = ap (λ (r : List A). b ∷ r) (inners-expand b ms xs)
-inners-expand {A} b (suc m ∷ ms) [] = ap (λ (r : List A). b ∷ r) (inners-expand b ms [])
-inners-expand {A} b (suc m ∷ ms) (x ∷ xs) = ap (λ (r : List A). x ∷ r) (inners-expand b ms xs)
+inners-expand {A} b (m ∷ ms) xs = ap (λ (r : List A). nextBy (markOf m) b xs ∷ r) (inners-expand b ms (leftBy (markOf m) xs))
 
 masks-map : {A : Type 0} (cs : List (ℕ × A)) → maskOf cs ≡ map (λ c. c .0) cs
 masks-map [] = refl

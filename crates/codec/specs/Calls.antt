@@ -11,7 +11,7 @@ use Rattle.array.specs.Bytes.{unle}
 use Rattle.array.specs.Kind.{Kind, Form, fixed, ragged, nullOf, kindTest}
 use Rattle.array.specs.Shape.{volume, shapeTest}
 use Rattle.array.specs.Cells.{Cell}
-use Rattle.array.specs.Content.{Content, RaggedContent, endToEnd, unmasked, layout, cellsOf, valuesIn, contentTest, sizeTest}
+use Rattle.array.specs.Content.{Content, RaggedContent, endToEnd, unmasked, layout, cellsOf, valuesIn, sizeTest, unlessKept}
 use Rattle.array.specs.Buffers.{Lengths, RaggedLengths, lengthsOf, raggedLengthsOf, enoughTest, raggedEnoughTest, listOutcome, raggedOutcome, contentOutcome}
 use Rattle.codec.specs.Mask.{MaskForm, maskForm}
 use Rattle.codec.specs.Frame.{frame, readFrame}
@@ -36,9 +36,8 @@ encodeAnswer k shape c room =
     let stored = storedForm k (volume shape) c in
     unless (kindTest k) 1
     (unless (shapeTest shape) 2
-    (unless (contentTest k (volume shape) c) 4
-    (unless (sizeTest (length (c .values))) 5
-    (unless (leb (length stored) room) 6 (gives stored)))))
+    (unlessKept k (volume shape) c
+    (unless (leb (length stored) room) 6 (gives stored))))
 
 unfoldable pub encoded : Kind → List ℕ → Content → List ℕ → Outcome ℕ (List ℕ)
 unfolding encodeAnswer
@@ -92,9 +91,8 @@ encodeInterleavedAnswer k shape c room =
     let stored = interleavedForm k (volume shape) c in
     unless (interleavedTest k) 1
     (unless (shapeTest shape) 2
-    (unless (contentTest k (volume shape) c) 4
-    (unless (sizeTest (length (c .values))) 5
-    (unless (leb (length stored) room) 6 (gives stored)))))
+    (unlessKept k (volume shape) c
+    (unless (leb (length stored) room) 6 (gives stored))))
 
 unfoldable pub interleavedEncoded : Kind → List ℕ → Content → List ℕ → Outcome ℕ (List ℕ)
 unfolding encodeInterleavedAnswer

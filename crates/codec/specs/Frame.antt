@@ -7,15 +7,16 @@ use lib.ListN.{length, take, drop}
 use lib.Dec.{leb, eqb}
 use Rattle.array.specs.Answer.{Answer, gives, andThen, unless}
 use Rattle.array.specs.Bytes.{digits, le, unle}
-use Rattle.array.specs.Cells.{Value, Cell, Mark, isNull, isSet, markOf, maskOf, blank}
+use Rattle.array.specs.Cells.{Value, Cell, Mark, isNull, isSet, isOther, markOf, maskOf, blank}
 use Rattle.codec.specs.Mask.{MaskForm, getMask}
 
 -- ---- the cells that are set
 
--- a cell that is set comes before the rest, and one that is null is left out
+-- a cell that is set comes before the rest, and one that is not is left out
 abbrev pub keepBy : {A : Type 0} → Mark → A → List A → List A
 keepBy isNull a r = r
 keepBy isSet a r = a ∷ r
+keepBy isOther a r = r
 
 abbrev pub keepOne : {A : Type 0} → ℕ → A → List A → List A
 keepOne m a r = keepBy (markOf m) a r
@@ -29,6 +30,7 @@ keep (c ∷ cs) = keepOne (c .0) (c .1) (keep cs)
 abbrev pub countBy : Mark → ℕ → ℕ
 countBy isNull n = n
 countBy isSet n = suc n
+countBy isOther n = n
 
 abbrev pub countSet : List ℕ → ℕ
 countSet [] = zero
@@ -43,12 +45,14 @@ abbrev pub nextBy : {A : Type 0} → Mark → A → List A → A
 nextBy isNull b xs = b
 nextBy isSet b [] = b
 nextBy isSet b (a ∷ xs) = a
+nextBy isOther b xs = b
 
 -- what it leaves of the list
 abbrev pub leftBy : {A : Type 0} → Mark → List A → List A
 leftBy isNull xs = xs
 leftBy isSet [] = []
 leftBy isSet (a ∷ xs) = xs
+leftBy isOther xs = xs
 
 -- each mask byte and what stands below it
 abbrev pub expand : {A : Type 0} → A → List ℕ → List A → List (ℕ × A)

@@ -1,8 +1,8 @@
--- How a mask lies in stored bytes (document 01, item 5; document 02, request 1). A form is its length for so many cells, the stored
+-- How a mask lies in stored bytes (document 01, item 5; document 02, requests 1 and 5). A form is its length for so many cells, the stored
 -- bytes that mask bytes are put into, the mask bytes that stored bytes say, and the test of stored bytes with the number of its refusal.
 -- Assumes nothing.
 use Prim.Native.Nat.{ℕ, _+_, _-_, _*_, _/_}
-use mathlib.Core.Bool.{Bool, true}
+use mathlib.Core.Bool.{Bool}
 use mathlib.Core.List.{List, _++_, map}
 use lib.ListN.{length, take, drop, replicate}
 use lib.Dec.{eqb}
@@ -10,7 +10,7 @@ use Rattle.array.specs.Answer.{Answer, gives, unless}
 use Rattle.array.specs.Lists.{joined, pieces, every}
 use Rattle.array.specs.Bytes.{digits, number}
 use Rattle.array.specs.Kind.{Masks, asBytes, asBits}
-use Rattle.array.specs.Cells.{bitOf}
+use Rattle.array.specs.Cells.{strictTest, bitOf}
 
 pub record MaskForm : Type 0 where
   pub size : ℕ → ℕ
@@ -23,10 +23,10 @@ pub record MaskForm : Type 0 where
 abbrev pub getMask : MaskForm → List ℕ → ℕ → Answer (List ℕ)
 getMask mf s n = unless (mf .test s n) (mf .refusal) (gives (mf .said s n))
 
--- ---- a byte a cell: none is refused
+-- ---- a byte a cell: one over 01 is 14
 
 abbrev pub byteMask : MaskForm
-byteMask = record { size = λ n. n; put = λ ms. ms; said = λ s n. s; test = λ s n. true; refusal = 0 }
+byteMask = record { size = λ n. n; put = λ ms. ms; said = λ s n. s; test = λ s n. every strictTest s; refusal = 14 }
 
 -- ---- a bit a cell, the lowest of a byte first
 

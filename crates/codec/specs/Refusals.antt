@@ -11,7 +11,8 @@ use Rattle.array.specs.Bytes.{unle}
 use Rattle.array.specs.Kind.{Kind, KindOk, Place, Form, fixed, ragged, Masks, asBytes, asBits}
 use Rattle.array.specs.Shape.{volume, ShapeOk}
 use Rattle.array.specs.Offsets.{last, Rising, offsetsOf}
-use Rattle.array.specs.Content.{Content, RaggedContent, ContentOk}
+use Rattle.array.specs.Cells.{Strict}
+use Rattle.array.specs.Content.{Content, RaggedContent, ArrayOk}
 use Rattle.array.specs.Buffers.{lengthsOf, raggedLengthsOf, Enough, RaggedEnough}
 use Rattle.array.specs.Refusals.{Rule, InOrder, Given}
 use Rattle.codec.specs.Mask.{maskForm, bitsOf}
@@ -38,9 +39,9 @@ abbrev pub valueRules : Form → List ℕ → ℕ → List Rule
 valueRules (fixed k o) s n = (8, length s ≡ n * k) ∷ []
 valueRules (ragged w p) s n = raggedRules w p s n
 
--- the mask of n cells: of a byte a cell no byte is refused; of a bit a cell the bits after the last cell are 0
+-- the mask of n cells: of a byte a cell every byte is 00 or 01; of a bit a cell the bits after the last cell are 0
 abbrev pub maskRules : Masks → List ℕ → ℕ → List Rule
-maskRules asBytes mask n = []
+maskRules asBytes mask n = (14, All Strict mask) ∷ []
 maskRules asBits mask n = (13, All (λ b. b ≡ 0) (drop n (bitsOf mask))) ∷ []
 
 -- with no cell set the content is not looked at
@@ -69,7 +70,7 @@ cellRules (suc n) s =
 
 abbrev pub encodeRules : Kind → List ℕ → Content → List ℕ → List Rule
 encodeRules k shape c out =
-    (1, KindOk k) ∷ (2, ShapeOk shape) ∷ (4, ContentOk k (volume shape) c) ∷ (5, length (c .values) ≤ mostBytes)
+    (1, KindOk k) ∷ (2, ShapeOk shape) ∷ (4, ArrayOk k (volume shape) c) ∷ (5, length (c .values) ≤ mostBytes)
     ∷ (6, length (storedForm k (volume shape) c) ≤ length out) ∷ []
 
 abbrev pub decodeRules : Kind → List ℕ → List ℕ → Content → List Rule
@@ -87,7 +88,7 @@ interleavedRules n s out =
 
 abbrev pub encodeInterleavedRules : Kind → List ℕ → Content → List ℕ → List Rule
 encodeInterleavedRules k shape c out =
-    (1, InterleavedOk k) ∷ (2, ShapeOk shape) ∷ (4, ContentOk k (volume shape) c) ∷ (5, length (c .values) ≤ mostBytes)
+    (1, InterleavedOk k) ∷ (2, ShapeOk shape) ∷ (4, ArrayOk k (volume shape) c) ∷ (5, length (c .values) ≤ mostBytes)
     ∷ (6, length (interleavedForm k (volume shape) c) ≤ length out) ∷ []
 
 pub record Refusals : Type 1 where

@@ -10,12 +10,12 @@ use borrow.Author.Tests.{le-leb, lt-leb}
 use Rattle.valid.specs.declared.array_bytes.Checked.{Checked}
 use Rattle.array.specs.Answer.{Answer, gives, refuses, unless, Outcome}
 use Rattle.array.specs.Buffers.{over, listOutcome}
-use Rattle.valid.specs.Check.{toldChecked}
+use Rattle.valid.specs.Check.{checkOf, toldChecked}
 use Rattle.array.specs.Kind.{Kind, kindTest}
 use Rattle.array.specs.Limits.{mostCells}
 use Rattle.valid.specs.ShapeCells.{shapeAnswer}
-use Rattle.array.specs.Content.{Content}
-use Rattle.valid.proofs.CheckLaws.{checkOf, unlessKept, KeepsRules, check-refused, check-valid}
+use Rattle.array.specs.Content.{Content, unlessKept}
+use Rattle.valid.proofs.CheckLaws.{KeepsRules, check-refused, check-passed, check-valid}
 use Rattle.array.proofs.Rules.{kind-ok}
 use Rattle.valid.proofs.ShapeLaws.{Counted, counted, not-counted}
 use Rattle.codec.specs.Calls.{storedForm, encodeAnswer, encoded}
@@ -59,16 +59,16 @@ module _ (k : Kind) (shape : List ℕ) (c : Content) (out : List ℕ) where
       encode-encodable e =
           let s : Counted shape n = counted shape n q in
           let h : KeepsRules k n c = check-valid k n c r f e in
-          record { kind = kind-ok k p; some = s .some; few = s .few; content = h .content; small = h .small }
+          record { kind = kind-ok k p; some = s .some; few = s .few; content = h .array .fits; small = h .small }
 
       pub encode-rest : r ≡ Checked.Valid → storedOver (storedForm k n c) out ≡ encoded k shape c out
       unfolding encoded encodeAnswer whole
       encode-rest e =
           let s : Counted shape n = counted shape n q in
-          let h : KeepsRules k n c = check-valid k n c r f e in
           sym
           (rw (p, s .passes)
-          (ap (λ (m : ℕ). listOutcome (unlessKept k m c (whole m)) out) (sym (s .is)) ∙ rw (h .content-passes, h .size-passes)))
+          (ap (λ (a : Answer (List ℕ)). listOutcome a out)
+          (ap (λ (m : ℕ). unlessKept k m c (whole m)) (sym (s .is)) ∙ check-passed k n c r f e (whole n))))
 
 -- ---- refusal 6, or the stored form
 

@@ -90,7 +90,8 @@ module _ (n : ℕ) (masks : List ℕ) (val : ℕ → Value) where
           → keep (map (cellAt n masks val (suc d) l) (pick b (j ∷ passing (liveTest n masks l) js) (passing (liveTest n masks l) js)))
           ≡ map (cellAt n masks val d (suc l)) (pick (b && setTest m) (j ∷ passing (liveTest n masks (suc l)) js) (passing (liveTest n masks (suc l)) js))
       go true zero q e = rw q e
-      go true (suc m) q e = rw q (ap (λ (r : List (Cell d)). cellAt n masks val d (suc l) j ∷ r) e)
+      go true (suc zero) q e = rw q (ap (λ (r : List (Cell d)). cellAt n masks val d (suc l) j ∷ r) e)
+      go true (suc (suc m)) q e = rw q e
       go false m q e = e
 
 -- a content with so many levels left is the frame of the cells that the level counts

@@ -35,7 +35,7 @@ pub fn encode(
     let Cells::Count(cells) = shape::shape_cells(shape) else {
         return Written::Refused(refusal::SHAPE);
     };
-    let checked = array_bytes::check_array(kind, cells, masks.len(), values.len(), offsets);
+    let checked = array_bytes::check_array(kind, cells, masks, values, offsets);
     match checked {
         Checked::Refused(number) => Written::Refused(number),
         Checked::Valid => encode_valid(kind, cells, masks, values, offsets, out),

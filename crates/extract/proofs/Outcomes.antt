@@ -1,6 +1,6 @@
 -- What the call answers: each refusal in its order, and success.
 -- Assumes nothing.
-use mathlib.Core.Path.{_≡_, refl, sym, ap, ap₂, _∙_}
+use mathlib.Core.Path.{_≡_, refl, sym, ap, _∙_}
 use mathlib.Core.Bool.{Bool, true, false}
 use Prim.Native.Nat.{ℕ}
 use mathlib.Core.List.{List}
@@ -10,12 +10,12 @@ use Rattle.array.specs.Answer.{Answer, gives, unless}
 use Rattle.array.specs.Kind.{Kind, kindTest}
 use Rattle.array.specs.Shape.{volume, shapeTest}
 use Rattle.array.specs.Subset.{subsetOf, numbersTest}
-use Rattle.array.specs.Content.{Content}
+use Rattle.array.specs.Content.{Content, unlessKept}
 use Rattle.array.specs.Buffers.{lengthsOf, enoughTest, contentOutcome}
 use Rattle.array.specs.Outcome.{putInto}
-use Rattle.valid.specs.Check.{toldChecked}
+use Rattle.valid.specs.Check.{checkOf, toldChecked}
 use Rattle.array.proofs.Putting.{refused}
-use Rattle.valid.proofs.CheckLaws.{checkOf, unlessKept, check-refused, check-valid}
+use Rattle.valid.proofs.CheckLaws.{check-refused, check-passed}
 use Rattle.chunks.specs.Cut.{cutOf}
 use Rattle.chunks.specs.Calls.{extracted, extractAnswer}
 
@@ -49,6 +49,5 @@ module _ (k : Kind) (shape ns : List ℕ) (c out : Content) where
 
         pub kept : x ≡ Checked.Valid → putInto cut out ≡ extracted k shape ns c out
         kept f =
-            let v = check-valid k (volume shape) c x e f in
             sym (answered true true true p q r
-            ∙ ap₂ (λ (a b : Bool). contentOutcome (unless a 4 (unless b 5 (unless (enoughTest cut (lengthsOf out)) 6 (gives cut)))) out) (v .content-passes) (v .size-passes))
+            ∙ ap (λ (a : Answer Content). contentOutcome a out) (check-passed k (volume shape) c x e f (unless (enoughTest cut (lengthsOf out)) 6 (gives cut))))

@@ -172,7 +172,7 @@ pub fn extract(
     if !subset::subset_fits(shape, subset) {
         return WrittenArray::Refused(refusal::SUBSET);
     }
-    let checked = valid::array_bytes::check_array(kind, cells, masks.len(), values.len(), offsets);
+    let checked = valid::array_bytes::check_array(kind, cells, masks, values, offsets);
     match checked {
         Checked::Refused(e) => WrittenArray::Refused(e),
         Checked::Valid => {

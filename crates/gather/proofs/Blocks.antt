@@ -13,7 +13,6 @@ use borrow.Author.Tests.{leb-true, leb-false}
 use Rattle.array.specs.Lists.{pick}
 use Rattle.array.specs.Buffers.{overAt}
 use Rattle.array.specs.Kind.{Masks}
-use Rattle.array.specs.Content.{seen}
 use Rattle.array.proofs.Lists.{map-append}
 use Rattle.array.proofs.Laying.{Laying, laying-begins, laying-same, laying-left, laying-ends, laying-part, laying-is}
 use Rattle.codec.specs.Mask.{maskForm}
@@ -131,7 +130,7 @@ module _ {n : ℕ} {masks : List ℕ} {l : ℕ} {block : List ℕ} {i m : ℕ} {
 -- ---- a mask form
 
 module _ (x : Masks) where
-  laws : MaskLaws (seen x) (maskForm x)
+  laws : MaskLaws (maskForm x)
   laws = mask-laws x
 
   size-none : maskForm x .size 0 ≡ 0

@@ -14,7 +14,7 @@ use Rattle.array.specs.Lists.{pick, from, passing}
 use Rattle.array.proofs.Lists.{All-of, length-from}
 use Rattle.array.proofs.Geometry.{passing-cong}
 use Rattle.codec.specs.Frame.{countSet, countBy}
-use Rattle.array.specs.Cells.{Mark, isNull, isSet, markOf, setTest, setTestBy}
+use Rattle.array.specs.Cells.{Mark, isNull, isSet, isOther, markOf, setTest, setTestBy}
 use Rattle.gather.specs.Live.{maskAt, setOne, liveTest, liveOne, liveAt, liveFrom}
 use Rattle.gather.proofs.Numbered.{live-all}
 use Rattle.gather.proofs.Runs.{passing-start, passing-end}
@@ -28,6 +28,7 @@ set-one m = go (markOf m)
     go : (k : Mark) → countBy k 0 ≡ pick (setTestBy k) 1 0
     go isNull = refl
     go isSet = refl
+    go isOther = refl
 
 one-le : (b : Bool) → pick b 1 0 ≤ 1
 one-le true = omega arith
@@ -100,7 +101,8 @@ count-from masks a (suc n) h =
         → length (pick (setTest m) (a ∷ passing (λ i. setTest (getD masks i 0)) (from (suc a) n)) (passing (λ i. setTest (getD masks i 0)) (from (suc a) n)))
         ≡ countSet (m ∷ take n (drop (suc a) masks))
     go zero e = e
-    go (suc m) e = ap suc e
+    go (suc zero) e = ap suc e
+    go (suc (suc m)) e = e
 
 pub count-one : (n : ℕ) (masks : List ℕ) (l : ℕ) → l ≡ 1 → l * n ≤ length masks → countSet (take (n - 0) (drop 0 masks)) ≡ length (liveAt n masks l)
 count-one n masks l e h =

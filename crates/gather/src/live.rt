@@ -1,4 +1,5 @@
 // The cells that a level counts: those whose masks are set at every level above it.
+use array::mark::block_end;
 use mask::mark;
 ghost use mathlib.Core.Path.{_≡_};
 ghost use Prim.Native.Nat.{_+_, _-_, _*_, _<_, _≤_};
@@ -74,7 +75,7 @@ fn count_blocks(masks: &[u8], cells: usize, level: usize) -> usize
     let mut n: usize = 0;
     let mut at = 0;
     while at < cells {
-        let end = mark::block_end(at, cells);
+        let end = block_end(at, cells);
         n += count_block(masks, cells, level, at, end) as usize;
         at = end;
     }

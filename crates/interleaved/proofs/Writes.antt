@@ -19,9 +19,9 @@ use Rattle.array.specs.Meaning.{formOf, kindOf}
 use Rattle.array.specs.declared.kind.Kind as declared
 use Rattle.array.specs.declared.kind.Values.{Values}
 use Rattle.valid.specs.declared.array_bytes.Checked.{Checked}
-use Rattle.valid.specs.Check.{toldChecked}
+use Rattle.valid.specs.Check.{checkOf, toldChecked}
 use Rattle.valid.specs.ShapeCells.{shapeAnswer}
-use Rattle.valid.proofs.CheckLaws.{checkOf, KeepsRules, check-refused, check-valid}
+use Rattle.valid.proofs.CheckLaws.{KeepsRules, check-refused, check-passed, check-valid}
 use Rattle.valid.proofs.ShapeLaws.{Counted, counted, not-counted}
 use Rattle.codec.specs.Interleaved.{putInterleaved, IsRagged, raggedTest, interleavedTest}
 use Rattle.codec.specs.Calls.{interleavedForm, encodeInterleavedAnswer, interleavedEncoded}
@@ -83,13 +83,13 @@ module _ (k : Kind) (n : ℕ) (c : Content) (out : List ℕ) (r : Checked) (f : 
     pub write-held : n ≤ mostCells → Held n (c .values) (c .offsets)
     write-held few =
         let h : KeepsRules k n c = check-valid k n c r f e in
-        ragged-held (k .form) (interleaved-ok k p .is-ragged) n c (h .content .values-fit) few (h .small)
+        ragged-held (k .form) (interleaved-ok k p .is-ragged) n c (h .array .fits .values-fit) few (h .small)
 
     pub write-rest : writtenOver (interleavedOf (c .values) (c .offsets)) out ≡ encodedCells k n c out
     write-rest =
-        let h : KeepsRules k n c = check-valid k n c r f e in
+        let stored : List ℕ = interleavedForm k n c in
         ap (λ (vs : List Value). writtenOver (putInterleaved vs) out) (ragged-values (k .form) (interleaved-ok k p .is-ragged) n c)
-        ∙ sym (rw (h .content-passes, h .size-passes))
+        ∙ sym (ap (λ (a : Answer (List ℕ)). listOutcome a out) (check-passed k n c r f e (unless (leb (length stored) (length out)) 6 (gives stored))))
 
 -- ---- refusal 6, or the cells
 

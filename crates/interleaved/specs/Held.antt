@@ -9,7 +9,7 @@ use Rattle.array.specs.Answer.{gives, unless, Outcome}
 use Rattle.array.specs.Limits.{mostBytes, mostCells}
 use Rattle.array.specs.Kind.{Kind}
 use Rattle.array.specs.Offsets.{last, Rising, slices}
-use Rattle.array.specs.Content.{Content, contentTest, sizeTest}
+use Rattle.array.specs.Content.{Content, unlessKept}
 use Rattle.array.specs.Buffers.{listOutcome}
 use Rattle.codec.specs.Interleaved.{putInterleaved}
 use Rattle.codec.specs.Calls.{interleavedForm}
@@ -33,4 +33,4 @@ writtenOver s out = listOutcome (unless (leb (length s) (length out)) 6 (gives s
 abbrev pub encodedCells : Kind → ℕ → Content → List ℕ → Outcome ℕ (List ℕ)
 encodedCells k n c out =
     let stored = interleavedForm k n c in
-    listOutcome (unless (contentTest k n c) 4 (unless (sizeTest (length (c .values))) 5 (unless (leb (length stored) (length out)) 6 (gives stored)))) out
+    listOutcome (unlessKept k n c (unless (leb (length stored) (length out)) 6 (gives stored))) out

@@ -110,7 +110,7 @@ fn encode_cells(
     ensures { λ r. ⌜ outcome r (now (out .exit))
         ≡ encodedCells (kindOf kind) cells (contentArray (now (masks .entry)) (now (values .entry)) (now (offsets .entry))) (now (out .entry)) ⌝ }
 {
-    let checked = array_bytes::check_array(kind, cells, masks.len(), values.len(), offsets);
+    let checked = array_bytes::check_array(kind, cells, masks, values, offsets);
     match checked {
         Checked::Refused(number) => Written::Refused(number),
         Checked::Valid => write_cells(cells, values, offsets, out),
@@ -123,7 +123,7 @@ fn encode_one(kind: Kind, masks: &[u8], values: &[u8], offsets: &[u64], out: &mu
     ensures { λ r. ⌜ outcome r (now (out .exit))
         ≡ encodedCells (kindOf kind) 1 (contentArray (now (masks .entry)) (now (values .entry)) (now (offsets .entry))) (now (out .entry)) ⌝ }
 {
-    let checked = array_bytes::check_array(kind, 1, masks.len(), values.len(), offsets);
+    let checked = array_bytes::check_array(kind, 1, masks, values, offsets);
     match checked {
         Checked::Refused(e) => Written::Refused(e),
         Checked::Valid => write_one(values, offsets, out),

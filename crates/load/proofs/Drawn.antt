@@ -12,7 +12,7 @@ use Rattle.array.specs.Cells.{Value, Cell, leaf, blank, rest}
 use Rattle.array.specs.Content.{leaves}
 use Rattle.array.proofs.Lists.{All-map, All-image}
 use Rattle.array.proofs.Sizes.{OfSize, null-sized}
-use Rattle.array.proofs.RestLaws.{leaf-blank}
+use Rattle.array.proofs.RestLaws.{leaf-blank, StrictCell, strict-blank}
 use Rattle.load.specs.Generator.{Drew, draw, drawBytes}
 use Rattle.load.specs.Load.{lengthBy, drawValue, levelBy, drawCell, drawCells}
 
@@ -62,19 +62,20 @@ null-value (ragged w p) = record { sized = tt; short = omega arith; bytes = tt }
 
 pub record DrawnCell (f : Form) (d : ℕ) (c : Cell d) : Type 0 where
   pub value : DrawnValue f (leaf d c)
+  pub strict : StrictCell d c
   pub rests : rest (nullOf f) d c ≡ c
 
 pub drawn-cell : (f : Form) (d s : ℕ) → DrawnCell f d (drawCell f d s .made)
 unfolding drawCell
-drawn-cell f zero s = record { value = drawn-value f s; rests = refl }
+drawn-cell f zero s = record { value = drawn-value f s; strict = tt; rests = refl }
 drawn-cell f (suc d) s = level (draw s .made % 4) _ (drawn-cell f d (draw s .state))
   where
     below : Drew (Cell d)
     below = drawCell f d (draw s .state)
 
     level : (m t : ℕ) → DrawnCell f d (below .made) → DrawnCell f (suc d) (levelBy m t (blank (nullOf f) d) below .made)
-    level zero t r = record { value = leaf-blank (nullOf f) (DrawnValue f) d (null-value f); rests = refl }
-    level (suc m) t r = record { value = r .value; rests = ap (λ (x : Cell d). (1, x)) (r .rests) }
+    level zero t r = record { value = leaf-blank (nullOf f) (DrawnValue f) d (null-value f); strict = (omega arith, strict-blank (nullOf f) d); rests = refl }
+    level (suc m) t r = record { value = r .value; strict = (omega arith, r .strict); rests = ap (λ (x : Cell d). (1, x)) (r .rests) }
 
 pub drawn-cells : (f : Form) (d n s : ℕ) → All (DrawnCell f d) (drawCells f d n s .made)
 unfolding drawCells

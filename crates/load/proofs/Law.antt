@@ -18,6 +18,7 @@ use Rattle.array.proofs.Lists.{All-map, All-image, All-append}
 use Rattle.array.proofs.Rules.{kind-test, shape-test, enough-test}
 use Rattle.array.proofs.Sizes.{OfSize}
 use Rattle.array.proofs.LayoutLaws.{Good}
+use Rattle.array.proofs.RestLaws.{StrictCell}
 use Rattle.array.proofs.Resting.{Rests, laid-valid, laid-rests}
 use Rattle.load.specs.Generator.{Drew}
 use Rattle.load.specs.Load.{drawValue, drawCells, loadOf}
@@ -67,6 +68,7 @@ module _ (k : Kind) (ok : KindOk k) (shape : List ℕ) (sh : ShapeOk shape) (s :
       record {
         counted = drawn-count (k .form) (k .depth) (volume shape) s;
         sized = of-values (OfSize (k .form)) (λ c r. r .value .sized);
+        strict = each (StrictCell (k .depth)) (λ c r. r .strict);
         small = omega (arith, drawn-total (k .form) (k .depth) (volume shape) s, mul-le-mul (sh .few-cells) (longest-small (k .form) (ok .sound)));
       }
 

@@ -83,7 +83,8 @@ module _ (s : List ℕ) (at n : ℕ) (h : at + bytesFor n ≤ length s) where
 
 pub bit-one : (b : ℕ) → countSet (b ∷ []) ≡ bitOf b
 bit-one zero = refl
-bit-one (suc b) = refl
+bit-one (suc zero) = refl
+bit-one (suc (suc b)) = refl
 
 -- ---- the check of a mask: it passes, or its refusal is given
 

@@ -1,18 +1,12 @@
--- What the code's mark of a mask byte means; a stored mask by its place, over its form: what it says, and how many cells it sets.
+-- A stored mask by its place, over its form: what it says, and how many cells it sets.
 -- Assumes nothing.
 use Prim.Native.Nat.{ℕ, _+_, _*_, _/_, _%_}
 use mathlib.Core.List.{List}
 use lib.ListN.{take, drop}
 use Rattle.array.specs.Answer.{Answer, gives, refuses, andThen}
-use Rattle.array.specs.Cells.{Mark, isNull, isSet}
 use Rattle.codec.specs.Mask.{MaskForm, getMask}
 use Rattle.codec.specs.Frame.{countSet}
-use Rattle.mask.specs.declared.mark.Mark as marks
 use Rattle.mask.specs.declared.form.Counted as counts
-
-abbrev pub toldMark : marks.Mark → Mark
-toldMark marks.Mark.Null = isNull
-toldMark marks.Mark.Set = isSet
 
 -- the stored mask of n cells at `at`, and the mask bytes that it says
 abbrev pub storedMask : MaskForm → List ℕ → ℕ → ℕ → List ℕ

@@ -2,6 +2,7 @@
 use crate::mark::count_set;
 use crate::pack;
 use crate::packed;
+use crate::strict;
 use crate::unpack;
 use array::kind::MaskForm;
 use array::refusal;
@@ -69,13 +70,16 @@ pub enum Counted {
     Refused(u8),
 }
 
-// Checks the stored mask of n cells at `at`, and counts those that it sets. Of a byte a cell, every byte is allowed.
+// Checks the stored mask of n cells at `at`, and counts those that it sets.
 pub fn check_mask(form: MaskForm, s: &[u8], at: usize, n: usize) -> Counted
     requires { ⌜ at + maskForm (masksOf form) .size n ≤ length (now s) ⌝ }
     ensures { λ r. ⌜ toldCounted r ≡ countedIn (maskForm (masksOf form)) (storedMask (maskForm (masksOf form)) (now (s .entry)) at n) n ⌝ }
 {
     match form {
-        MaskForm::Bytes => Counted::Cells(count_stored(form, s, at, n)),
+        MaskForm::Bytes => {
+            let end = at + n;
+            strict::count_strict(&s[at..end])
+        }
         MaskForm::Packed => {
             if !packed::unused_clear(s, at, n) {
                 return Counted::Refused(refusal::UNUSED_BITS);

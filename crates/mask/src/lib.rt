@@ -4,4 +4,5 @@ pub mod form;
 pub mod mark;
 pub mod pack;
 pub mod packed;
+pub mod strict;
 pub mod unpack;

@@ -1,23 +1,13 @@
-// Mask bytes: what one says of its cell, and how many of a plane are set.
+// Mask bytes of a plane: whether one is set, and how many are.
+use array::mark::Mark;
+use array::mark::block_end;
+use array::mark::mark_of;
 ghost use mathlib.Core.Path.{_≡_};
 ghost use mathlib.Core.List.{[], _∷_};
-ghost use Prim.Native.Nat.{_+_, _≤_, _<_, min};
+ghost use Prim.Native.Nat.{_+_, _≤_, _<_};
 ghost use lib.ListN.{length, getD, drop};
-ghost use Rattle.array.specs.Cells.{markOf, setTest};
-ghost use Rattle.mask.specs.Marks.{toldMark};
+ghost use Rattle.array.specs.Cells.{setTest};
 ghost use Rattle.codec.specs.Frame.{countSet};
-
-// What a mask byte says of its cell.
-pub enum Mark {
-    Null,
-    Set,
-}
-
-pub fn mark_of(b: u8) -> Mark
-    ensures { λ r. ⌜ toldMark r ≡ markOf b ⌝ }
-{
-    if b == 0 { Mark::Null } else { Mark::Set }
-}
 
 // Whether the cell j is set.
 pub fn is_set(mask: &[u8], j: usize) -> bool
@@ -28,6 +18,7 @@ pub fn is_set(mask: &[u8], j: usize) -> bool
     match mark {
         Mark::Null => false,
         Mark::Set => true,
+        Mark::Other => false,
     }
 }
 
@@ -39,6 +30,7 @@ pub fn one_if_set(b: u8) -> u8
     match mark {
         Mark::Null => 0,
         Mark::Set => 1,
+        Mark::Other => 0,
     }
 }
 
@@ -54,14 +46,6 @@ fn count_block(mask: &[u8], from: usize, end: usize) -> u8
         i += 1;
     }
     n
-}
-
-// Where the block that begins at `at` ends.
-pub fn block_end(at: usize, length: usize) -> usize
-    requires { ⌜ at < length ⌝ }
-    ensures { λ r. ⌜ r ≡ min (at + 240) length ⌝ }
-{
-    if length - at < 240 { length } else { at + 240 }
 }
 
 // How many bytes of a plane are set.

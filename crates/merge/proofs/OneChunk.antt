@@ -1,146 +1,140 @@
--- The check of one chunk: what a chunk that fits says, and one law for each answer.
+-- The check of one chunk: what a chunk that keeps the rules says of what is left, and one law for each answer.
 -- Assumes nothing.
-use mathlib.Core.Path.{_≡_, refl, sym, ap, ap₂, _∙_}
+use mathlib.Core.Path.{_≡_, refl, sym, ap, _∙_}
 use Prim.Native.Nat.{ℕ, suc, _+_, _-_, _*_, _<_, _≤_}
+use native.Mathlib.Nat.{min-le-right}
 use native.Mathlib.Numerals.{add-one}
 use native.Mathlib.Omega.{arith}
-use mathlib.Core.Bool.{Bool, true, false, _&&_}
+use mathlib.Core.Bool.{Bool, true, false, not}
 use mathlib.Core.List.{List, [], _∷_}
-use lib.ListN.{length, getD, take}
+use lib.ListN.{length, getD, take, length-take}
 use lib.Dec.{leb}
-use borrow.Author.Tests.{leb-true, le-leb, lt-leb}
-use Rattle.array.specs.Answer.{gives, refuses, unless}
-use Rattle.array.specs.Kind.{Form, fixed, ragged, Order, Place}
-use Rattle.array.specs.Offsets.{last, lastFrom, risingTest, risingFromTest}
-use Rattle.array.proofs.Rules.{left-of, right-of}
-use Rattle.chunks.specs.Chunks.{offsetCount}
+use borrow.Author.Tests.{leb-true, leb-false, le-leb, lt-leb, not-true, not-false}
+use Rattle.array.specs.Answer.{refuses, unless}
+use Rattle.array.specs.Content.{Content, ContentOk, arrayTest}
+use Rattle.array.specs.Kind.{byteKind, Form, fixed, ragged, Order, Place}
+use Rattle.array.specs.Offsets.{last, Rising}
+use Rattle.array.specs.Outcome.{contentArray}
+use Rattle.array.proofs.Answers.{passed}
+use Rattle.array.proofs.Offsets.{rising-le}
+use Rattle.array.proofs.Rules.{array-ok}
+use Rattle.chunks.specs.Chunks.{offsetCount, firstChunk}
 use Rattle.merge_stores.proofs.RaggedTies.{last-take}
-use Rattle.merge.specs.Chunks.{chunkTest, chunkBytes, chunkTaken, fits, chunkAnswer}
+use Rattle.merge.specs.Chunks.{chunkTaken, chunkUnused, takes, chunkTakes, sizeAnswer, chunkAnswer}
 
-rising-last : (a : ℕ) (bs : List ℕ) → risingFromTest a bs ≡ true → a ≤ lastFrom a bs
-rising-last a [] e = omega arith
-rising-last a (b ∷ bs) e = omega (arith, leb-true a b (left-of (leb a b) (risingFromTest b bs) e), rising-last b bs (right-of (leb a b) (risingFromTest b bs) e))
+pub take-long : (n : ℕ) (xs : List ℕ) → length (take n xs) ≡ n → n ≤ length xs
+take-long n xs e = omega (arith, length-take n xs, min-le-right n (length xs))
 
-pub rising-first : (os : List ℕ) (m : ℕ) → risingTest (take (suc m) os) ≡ true → getD os 0 0 ≤ last (take (suc m) os)
-rising-first [] m e = omega arith
-rising-first (a ∷ os) m e = rising-last a (take m os) e
+-- ---- what a chunk takes, by its offsets
 
--- ---- what a chunk that fits says
-
-pub record Fitting (f : Form) (d m pl vl : ℕ) (os : List ℕ) (taken bytes offsets : ℕ) : Type 0 where
-  pub test : chunkTest f d m pl vl os ≡ true
-  pub masks : d * m ≤ pl
-  pub values : taken ≤ vl
-  pub inside : bytes ≤ taken
-  pub indexed : offsets ≤ length os
+pub record Sized (f : Form) (m : ℕ) (os : List ℕ) (taken unused numbers : ℕ) : Type 0 where
   pub is-taken : taken ≡ chunkTaken f m os
-  pub is-bytes : bytes ≡ chunkBytes f m os
-  pub is-offsets : offsets ≡ offsetCount f m
+  pub is-unused : unused ≡ chunkUnused f os
+  pub is-numbers : numbers ≡ offsetCount f m
 
-fit : (f : Form) (d m pl vl : ℕ) (os : List ℕ) → chunkTest f d m pl vl os ≡ true → Fitting f d m pl vl os (chunkTaken f m os) (chunkBytes f m os) (offsetCount f m)
-fit (fixed k o) d m pl vl os e = record {
-  test = e;
-  masks = leb-true (d * m) pl (left-of (leb (d * m) pl) (leb (m * k) vl) e);
-  values = leb-true (m * k) vl (right-of (leb (d * m) pl) (leb (m * k) vl) e);
+sized : (f : Form) (m : ℕ) (os : List ℕ) {taken unused numbers : ℕ} → chunkTakes f m os ≡ takes taken unused numbers → Sized f m os taken unused numbers
+sized f m os {taken} {unused} {numbers} e =
+    let same : _≡_ {A = ℕ × ℕ × ℕ} (taken, unused, numbers) (chunkTaken f m os, chunkUnused f os, offsetCount f m) = cc in
+    record { is-taken = ap (λ (x : ℕ × ℕ × ℕ). x .0) same; is-unused = ap (λ (x : ℕ × ℕ × ℕ). x .1) same; is-numbers = ap (λ (x : ℕ × ℕ × ℕ). x .2) same }
+
+module _ (m : ℕ) (os : List ℕ) where
+  pub size-fixed : (k : ℕ) (o : Order) → takes (m * k) 0 0 ≡ sizeAnswer (fixed k o) m os
+  size-fixed k o = simp (le-leb 0 (length os) (omega arith))
+
+  module _ (w : ℕ) (p : Place) where
+    pub size-bad : length os ≤ m → refuses 4 ≡ sizeAnswer (ragged w p) m os
+    size-bad h = simp (lt-leb (suc m) (length os) (omega arith))
+
+    pub size-ragged : m < length os → takes (getD os m 0) (getD os 0 0) (m + 1) ≡ sizeAnswer (ragged w p) m os
+    size-ragged h = simp (le-leb (suc m) (length os) h, last-take os m h, add-one m)
+
+module _ (f : Form) (m : ℕ) (os : List ℕ) where
+  pub size-known : {taken unused numbers : ℕ} → takes taken unused numbers ≡ sizeAnswer f m os → Sized f m os taken unused numbers × (numbers ≤ length os)
+  size-known e =
+      let t = passed (leb (offsetCount f m) (length os)) 4 (chunkTakes f m os) (sym e) in
+      let s = sized f m os (t .1) in (s, omega (arith, s .is-numbers, leb-true (offsetCount f m) (length os) (t .0)))
+
+  pub size-lacking : refuses 4 ≡ sizeAnswer f m os → length os < offsetCount f m
+  size-lacking e = go (leb (offsetCount f m) (length os)) refl e
+    where
+      go : (b : Bool) → leb (offsetCount f m) (length os) ≡ b → refuses 4 ≡ unless b 4 (chunkTakes f m os) → length os < offsetCount f m
+      go true t e = let z : _≡_ {A = ℕ} 0 1 = cc in absurd (omega arith)
+      go false t e = leb-false (offsetCount f m) (length os) t
+
+-- ---- a chunk that keeps the rules: what is left holds it
+
+pub record Holds (f : Form) (d m : ℕ) (c : Content) : Type 0 where
+  pub masks : d * m ≤ length (c .masks)
+  pub values : chunkTaken f m (c .offsets) ≤ length (c .values)
+  pub offsets : offsetCount f m ≤ length (c .offsets)
+  pub inside : chunkUnused f (c .offsets) ≤ chunkTaken f m (c .offsets)
+
+first-below : (m : ℕ) (os : List ℕ) → Rising (take (suc m) os) → getD os 0 0 ≤ last (take (suc m) os)
+first-below m [] r = omega arith
+first-below m (a ∷ os) r = rising-le a (take m os) r
+
+holds : (f : Form) (d m : ℕ) (c : Content) → ContentOk (byteKind d f) m (firstChunk (byteKind d f) m c) → Holds f d m c
+holds (fixed k o) d m c ok = record {
+  masks = take-long (d * m) (c .masks) (ok .masks-fit);
+  values = take-long (m * k) (c .values) (ok .values-fit .0);
+  offsets = omega arith;
   inside = omega arith;
-  indexed = omega arith;
-  is-taken = refl;
-  is-bytes = refl;
-  is-offsets = refl;
 }
-fit (ragged w p) d m pl vl os e =
-    let t₁ : Bool = leb (suc m) (length os) in
-    let t₂ : Bool = risingTest (take (suc m) os) in
-    let t₃ : Bool = leb (last (take (suc m) os)) vl in
-    let r : t₁ && t₂ && t₃ ≡ true = right-of (leb (d * m) pl) (t₁ && t₂ && t₃) e in
-    let r₂ : t₁ && t₂ ≡ true = left-of (t₁ && t₂) t₃ r in
-    record {
-      test = e;
-      masks = leb-true (d * m) pl (left-of (leb (d * m) pl) (t₁ && t₂ && t₃) e);
-      values = leb-true (last (take (suc m) os)) vl (right-of (t₁ && t₂) t₃ r);
-      inside = omega arith;
-      indexed = leb-true (suc m) (length os) (left-of t₁ t₂ r₂);
-      is-taken = refl;
-      is-bytes = refl;
-      is-offsets = refl;
-    }
+holds (ragged w p) d m c ok = record {
+  masks = take-long (d * m) (c .masks) (ok .masks-fit);
+  values = take-long (last (take (suc m) (c .offsets))) (c .values) (sym (ok .values-fit .2));
+  offsets = take-long (suc m) (c .offsets) (ok .values-fit .0);
+  inside = first-below m (c .offsets) (ok .values-fit .1);
+}
 
-pub chunk-fits : (f : Form) (d m pl vl : ℕ) (os : List ℕ) (taken bytes offsets : ℕ) → fits taken bytes offsets ≡ chunkAnswer f d m pl vl os → Fitting f d m pl vl os taken bytes offsets
-unfolding chunkAnswer
-chunk-fits f d m pl vl os taken bytes offsets e = go (chunkTest f d m pl vl os) refl e
-  where
-    go : (b : Bool) → chunkTest f d m pl vl os ≡ b → fits taken bytes offsets ≡ unless b 4 (fits (chunkTaken f m os) (chunkBytes f m os) (offsetCount f m)) → Fitting f d m pl vl os taken bytes offsets
-    go true t e =
-        let same : _≡_ {A = ℕ × ℕ × ℕ} (taken, bytes, offsets) (chunkTaken f m os, chunkBytes f m os, offsetCount f m) = cc in
-        let e₁ : taken ≡ chunkTaken f m os = ap (λ (x : ℕ × ℕ × ℕ). x .0) same in
-        let e₂ : bytes ≡ chunkBytes f m os = ap (λ (x : ℕ × ℕ × ℕ). x .1) same in
-        let e₃ : offsets ≡ offsetCount f m = ap (λ (x : ℕ × ℕ × ℕ). x .2) same in
-        let k = fit f d m pl vl os t in
-        record {
-          test = t;
-          masks = k .masks;
-          values = omega (arith, k .values, e₁);
-          inside = omega (arith, k .inside, e₁, e₂);
-          indexed = omega (arith, k .indexed, e₃);
-          is-taken = e₁;
-          is-bytes = e₂;
-          is-offsets = e₃;
-        }
-    go false t e = let z : _≡_ {A = ℕ} 0 1 = cc in absurd (omega arith)
+-- ---- what the answer says of a chunk
 
-pub chunk-bad : (f : Form) (d m pl vl : ℕ) (os : List ℕ) → refuses 4 ≡ chunkAnswer f d m pl vl os → chunkTest f d m pl vl os ≡ false
-unfolding chunkAnswer
-chunk-bad f d m pl vl os e = go (chunkTest f d m pl vl os) refl e
-  where
-    go : (b : Bool) → chunkTest f d m pl vl os ≡ b → refuses 4 ≡ unless b 4 (fits (chunkTaken f m os) (chunkBytes f m os) (offsetCount f m)) → chunkTest f d m pl vl os ≡ false
-    go true t e = let z : _≡_ {A = ℕ} 0 1 = cc in absurd (omega arith)
-    go false t e = t
+pub record Fitting (f : Form) (d m : ℕ) (c : Content) (taken unused numbers : ℕ) : Type 0 where
+  pub test : arrayTest (byteKind d f) m (firstChunk (byteKind d f) m c) ≡ true
+  pub held : Holds f d m c
+  pub size : Sized f m (c .offsets) taken unused numbers
 
--- ---- one law for each answer
+module _ (f : Form) (d m : ℕ) (c : Content) where
+  abbrev test : Bool
+  test = arrayTest (byteKind d f) m (firstChunk (byteKind d f) m c)
 
-module _ (d m pl vl : ℕ) (os : List ℕ) where
-  pub bad-masks : (f : Form) → pl < d * m → refuses 4 ≡ chunkAnswer f d m pl vl os
+  answered : (b : Bool) → b ≡ test → unless b 4 (chunkTakes f m (c .offsets)) ≡ chunkAnswer (byteKind d f) m c
   unfolding chunkAnswer
-  bad-masks f h = simp (lt-leb (d * m) pl h)
+  answered b e = ap (λ (x : Bool). unless x 4 (chunkTakes f m (c .offsets))) e
 
-  module _ (k : ℕ) (o : Order) (h : d * m ≤ pl) where
-    pub bad-fixed : vl < m * k → refuses 4 ≡ chunkAnswer (fixed k o) d m pl vl os
-    unfolding chunkAnswer
-    bad-fixed l = simp (le-leb (d * m) pl h, lt-leb (m * k) vl l)
+  pub chunk-fits : {taken unused numbers : ℕ} → takes taken unused numbers ≡ chunkAnswer (byteKind d f) m c → Fitting f d m c taken unused numbers
+  chunk-fits e =
+      let t = passed test 4 (chunkTakes f m (c .offsets)) (answered test refl ∙ sym e) in
+      record { test = t .0; held = holds f d m c (array-ok (byteKind d f) m (firstChunk (byteKind d f) m c) (t .0) .fits); size = sized f m (c .offsets) (t .1) }
 
-    pub fits-fixed : m * k ≤ vl → fits (m * k) (m * k) 0 ≡ chunkAnswer (fixed k o) d m pl vl os
-    unfolding chunkAnswer
-    fits-fixed l = simp (le-leb (d * m) pl h, le-leb (m * k) vl l)
+  pub chunk-bad : refuses 4 ≡ chunkAnswer (byteKind d f) m c → test ≡ false
+  chunk-bad e = go test refl (e ∙ sym (answered test refl))
+    where
+      go : (b : Bool) → test ≡ b → refuses 4 ≡ unless b 4 (chunkTakes f m (c .offsets)) → test ≡ false
+      go true t e = let z : _≡_ {A = ℕ} 0 1 = cc in absurd (omega arith)
+      go false t e = t
 
-  module _ (w : ℕ) (q : Place) (h : d * m ≤ pl) where
-    pub bad-short : length os ≤ m → refuses 4 ≡ chunkAnswer (ragged w q) d m pl vl os
-    unfolding chunkAnswer
-    bad-short l = simp (le-leb (d * m) pl h, lt-leb (suc m) (length os) (omega arith))
+  -- ---- one law for each answer
 
-    module _ (l : m < length os) where
-      pub bad-falls : false ≡ risingTest (take (suc m) os) → refuses 4 ≡ chunkAnswer (ragged w q) d m pl vl os
-      unfolding chunkAnswer
-      bad-falls e = go (risingTest (take (suc m) os)) (sym e)
-        where
-          go : (b : Bool) → b ≡ false → refuses 4 ≡ unless (leb (d * m) pl && (leb (suc m) (length os) && b && leb (last (take (suc m) os)) vl)) 4 (fits (last (take (suc m) os)) (last (take (suc m) os) - getD os 0 0) (suc m))
-          go b e = simp (le-leb (d * m) pl h, le-leb (suc m) (length os) l, e)
+  pub chunk-lacks : (Holds f d m c → ⊥) → refuses 4 ≡ chunkAnswer (byteKind d f) m c
+  chunk-lacks n = go test refl
+    where
+      go : (b : Bool) → test ≡ b → refuses 4 ≡ chunkAnswer (byteKind d f) m c
+      go true t = absurd (n (holds f d m c (array-ok (byteKind d f) m (firstChunk (byteKind d f) m c) t .fits)))
+      go false t = answered false (sym t)
 
-      module _ (r : true ≡ risingTest (take (suc m) os)) where
-        go : (b : Bool) (x : ℕ) → b ≡ true → x ≡ getD os m 0 → (y : Bool) → leb x vl ≡ y
-            → unless (leb (d * m) pl && (leb (suc m) (length os) && b && leb x vl)) 4 (fits x (x - getD os 0 0) (suc m)) ≡ unless y 4 (fits (getD os m 0) (getD os m 0 - getD os 0 0) (m + 1))
-        go b x e z y t =
-            ap₂ (λ (c : Bool) (v : Bool). unless (leb (d * m) pl && (leb (suc m) (length os) && c && v)) 4 (fits x (x - getD os 0 0) (suc m))) e t
-            ∙ simp (le-leb (d * m) pl h, le-leb (suc m) (length os) l, z, add-one m)
+  module _ {taken unused numbers : ℕ} (s : Sized f m (c .offsets) taken unused numbers) (keeps : Bool)
+      (e : keeps ≡ arrayTest (byteKind d f) m (contentArray (take (d * m - 0) (c .masks)) (take (taken - 0) (c .values)) (take (numbers - 0) (c .offsets)))) where
+    -- the slices are the chunk's own
+    own : keeps ≡ test
+    own =
+        let whole : (n : ℕ) → n - 0 ≡ n = λ n. omega arith in
+        let v : taken - 0 ≡ chunkTaken f m (c .offsets) = whole taken ∙ s .is-taken in
+        let o : numbers - 0 ≡ offsetCount f m = whole numbers ∙ s .is-numbers in
+        e ∙ (λ i. arrayTest (byteKind d f) m (contentArray (take (whole (d * m) i) (c .masks)) (take (v i) (c .values)) (take (o i) (c .offsets))))
 
-        pub bad-last : vl < getD os m 0 → refuses 4 ≡ chunkAnswer (ragged w q) d m pl vl os
-        unfolding chunkAnswer
-        bad-last v =
-            sym (go (risingTest (take (suc m) os)) (last (take (suc m) os)) (sym r) (last-take os m l) false (ap (λ (x : ℕ). leb x vl) (last-take os m l) ∙ lt-leb (getD os m 0) vl v))
+    pub chunk-breaks : not keeps ≡ true → refuses 4 ≡ chunkAnswer (byteKind d f) m c
+    chunk-breaks h = answered false (sym (not-true keeps h) ∙ own)
 
-        pub first-le : getD os 0 0 ≤ getD os m 0
-        first-le = omega (arith, rising-first os m (sym r), last-take os m l)
-
-        pub fits-ragged : getD os m 0 ≤ vl → fits (getD os m 0) (getD os m 0 - getD os 0 0) (m + 1) ≡ chunkAnswer (ragged w q) d m pl vl os
-        unfolding chunkAnswer
-        fits-ragged v =
-            sym (go (risingTest (take (suc m) os)) (last (take (suc m) os)) (sym r) (last-take os m l) true (ap (λ (x : ℕ). leb x vl) (last-take os m l) ∙ le-leb (getD os m 0) vl v))
+    pub chunk-keeps : not keeps ≡ false → takes taken unused numbers ≡ chunkAnswer (byteKind d f) m c
+    chunk-keeps h = (λ i. takes (s .is-taken i) (s .is-unused i) (s .is-numbers i)) ∙ answered true (sym (not-false keeps h) ∙ own)

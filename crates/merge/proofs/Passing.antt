@@ -17,7 +17,7 @@ use Rattle.array.specs.Content.{Content, sizeTest}
 use Rattle.array.proofs.Rules.{kind-ok, shape-ok, many-ok, size-ok}
 use Rattle.array.proofs.SubsetLists.{subsets-are, subsets-long, many-next}
 use Rattle.cover.specs.Asked.{SubsetsOk}
-use Rattle.merge.specs.Chunks.{chunkSum}
+use Rattle.merge.specs.Chunks.{chunkTotal}
 use Rattle.merge.specs.Merge.{Sizes, checkAnswer, MergeChecked}
 
 -- ---- the subsets, once they are tested
@@ -33,12 +33,12 @@ module _ (sh ns : List ℕ) (q : shapeTest sh ≡ true) (r : manyTest sh ns ≡ 
   pub subsets-same : subsetsOf (length sh) ns ≡ nextSubsets (length sh) (length ns / (2 * length sh)) ns
   subsets-same = subsets-are (length sh) (length ns / (2 * length sh)) ns (shape-ok sh q .some-sides) (tested-subsets .counted)
 
-module _ (k : Kind) (sh ns : List ℕ) (masks values : ℕ) (os : List ℕ) where
+module _ (k : Kind) (sh ns : List ℕ) (c : Content) where
   abbrev count : ℕ
   count = length ns / (2 * length sh)
 
   abbrev total : List Subset → Answer ℕ
-  total bs = chunkSum (k .form) (k .depth) bs masks values os
+  total bs = chunkTotal k bs c
 
   abbrev sizes : ℕ → Sizes
   sizes s = record { cells = volume sh; count = length ns / (2 * length sh); bytes = s }
@@ -47,45 +47,45 @@ module _ (k : Kind) (sh ns : List ℕ) (masks values : ℕ) (os : List ℕ) wher
   after s = unless (sizeTest s) 5 (gives (sizes s))
 
   answered : (a b m : Bool) (t : Answer ℕ) → kindTest k ≡ a → shapeTest sh ≡ b → manyTest sh ns ≡ m → total (subsetsOf (length sh) ns) ≡ t
-      → checkAnswer k sh ns masks values os ≡ unless a 1 (unless b 2 (unless m 3 (andThen t after)))
+      → checkAnswer k sh ns c ≡ unless a 1 (unless b 2 (unless m 3 (andThen t after)))
   unfolding checkAnswer
   answered a b m t p q r u = rw (p, q, r, u)
 
-  pub no-kind : kindTest k ≡ false → refuses 1 ≡ checkAnswer k sh ns masks values os
+  pub no-kind : kindTest k ≡ false → refuses 1 ≡ checkAnswer k sh ns c
   no-kind p = sym (answered false (shapeTest sh) (manyTest sh ns) (total (subsetsOf (length sh) ns)) p refl refl refl)
 
   module _ (p : kindTest k ≡ true) where
-    pub no-shape : shapeTest sh ≡ false → refuses 2 ≡ checkAnswer k sh ns masks values os
+    pub no-shape : shapeTest sh ≡ false → refuses 2 ≡ checkAnswer k sh ns c
     no-shape q = sym (answered true false (manyTest sh ns) (total (subsetsOf (length sh) ns)) p q refl refl)
 
     module _ (q : shapeTest sh ≡ true) where
-      pub no-subsets : manyTest sh ns ≡ false → refuses 3 ≡ checkAnswer k sh ns masks values os
+      pub no-subsets : manyTest sh ns ≡ false → refuses 3 ≡ checkAnswer k sh ns c
       no-subsets r = sym (answered true true false (total (subsetsOf (length sh) ns)) p q r refl)
 
       module _ (r : manyTest sh ns ≡ true) where
-        with-total : (t : Answer ℕ) → t ≡ total (nextSubsets (length sh) count ns) → checkAnswer k sh ns masks values os ≡ andThen t after
+        with-total : (t : Answer ℕ) → t ≡ total (nextSubsets (length sh) count ns) → checkAnswer k sh ns c ≡ andThen t after
         with-total t u = answered true true true t p q r (ap total (subsets-same sh ns q r) ∙ sym u)
 
-        pub bad-chunks : refuses 4 ≡ total (nextSubsets (length sh) count ns) → refuses 4 ≡ checkAnswer k sh ns masks values os
+        pub bad-chunks : refuses 4 ≡ total (nextSubsets (length sh) count ns) → refuses 4 ≡ checkAnswer k sh ns c
         bad-chunks u = sym (with-total (refuses 4) u)
 
         module _ (s : ℕ) (u : gives s ≡ total (nextSubsets (length sh) count ns)) where
-          pub too-many : mostBytes < s → refuses 5 ≡ checkAnswer k sh ns masks values os
+          pub too-many : mostBytes < s → refuses 5 ≡ checkAnswer k sh ns c
           too-many h = sym (with-total (gives s) u ∙ ap (λ (x : Bool). unless x 5 (gives (sizes s))) (lt-leb s mostBytes h))
 
-          pub passes : s ≤ mostBytes → gives (sizes s) ≡ checkAnswer k sh ns masks values os
+          pub passes : s ≤ mostBytes → gives (sizes s) ≡ checkAnswer k sh ns c
           passes h = sym (with-total (gives s) u ∙ ap (λ (x : Bool). unless x 5 (gives (sizes s))) (le-leb s mostBytes h))
 
 -- ---- what is known where they pass
 
-pub passed : (k : Kind) (sh ns : List ℕ) (c : Content) (z : Sizes) → gives z ≡ checkAnswer k sh ns (length (c .masks)) (length (c .values)) (c .offsets)
+pub passed : (k : Kind) (sh ns : List ℕ) (c : Content) (z : Sizes) → gives z ≡ checkAnswer k sh ns c
     → MergeChecked k sh ns c z × (subsetsOf (length sh) ns ≡ nextSubsets (length sh) (z .count) ns)
 unfolding checkAnswer
 passed k sh ns c z e =
-    go (kindTest k) (shapeTest sh) (manyTest sh ns) (chunkSum (k .form) (k .depth) (subsetsOf (length sh) ns) (length (c .masks)) (length (c .values)) (c .offsets)) refl refl refl refl e
+    go (kindTest k) (shapeTest sh) (manyTest sh ns) (chunkTotal k (subsetsOf (length sh) ns) c) refl refl refl refl e
   where
     last : (x : Bool) (s : ℕ) → kindTest k ≡ true → shapeTest sh ≡ true → manyTest sh ns ≡ true
-        → chunkSum (k .form) (k .depth) (subsetsOf (length sh) ns) (length (c .masks)) (length (c .values)) (c .offsets) ≡ gives s
+        → chunkTotal k (subsetsOf (length sh) ns) c ≡ gives s
         → sizeTest s ≡ x → gives z ≡ unless x 5 (gives (record { cells = volume sh; count = length ns / (2 * length sh); bytes = s }))
         → MergeChecked k sh ns c z × (subsetsOf (length sh) ns ≡ nextSubsets (length sh) (z .count) ns)
     last true s p q r u v e =
@@ -96,7 +96,7 @@ passed k sh ns c z e =
             kind = kind-ok k p;
             subsets = tested-subsets sh ns q r;
             counted = refl;
-            summed = sym u ∙ ap (λ (bs : List Subset). chunkSum (k .form) (k .depth) bs (length (c .masks)) (length (c .values)) (c .offsets)) same;
+            summed = sym u ∙ ap (λ (bs : List Subset). chunkTotal k bs c) same;
             small = size-ok s v;
           },
           same,
@@ -104,7 +104,7 @@ passed k sh ns c z e =
     last false s p q r u v e = let z : _≡_ {A = ℕ} 0 1 = cc in absurd (omega arith)
 
     go : (a b m : Bool) (t : Answer ℕ) → kindTest k ≡ a → shapeTest sh ≡ b → manyTest sh ns ≡ m
-        → chunkSum (k .form) (k .depth) (subsetsOf (length sh) ns) (length (c .masks)) (length (c .values)) (c .offsets) ≡ t
+        → chunkTotal k (subsetsOf (length sh) ns) c ≡ t
         → gives z ≡ unless a 1 (unless b 2 (unless m 3 (andThen t (λ s. unless (sizeTest s) 5 (gives (record { cells = volume sh; count = length ns / (2 * length sh); bytes = s }))))))
         → MergeChecked k sh ns c z × (subsetsOf (length sh) ns ≡ nextSubsets (length sh) (z .count) ns)
     go true true true (gives s) p q r u e = last (sizeTest s) s p q r u refl e

@@ -14,11 +14,12 @@ use Rattle.array.specs.Rows.{nextSubsets}
 use Rattle.array.specs.Cells.{Cell}
 use Rattle.array.specs.Content.{Content, leaves, sizeTest}
 use Rattle.array.specs.Buffers.{Lengths, lengthsOf, enoughTest, contentOutcome}
+use Rattle.array.proofs.Answers.{then-unless}
 use Rattle.chunks.specs.Gather.{onceTest}
 use Rattle.chunks.specs.Chunks.{chunkCells, mergeOf}
 use Rattle.chunks.specs.Calls.{mergeAnswer, merged}
 use Rattle.merge.specs.Merge.{Sizes, checkAnswer, storeAnswer, coverAnswer, MergeChecked}
-use Rattle.merge.proofs.ChunkSums.{sum-is}
+use Rattle.merge.specs.Chunks.{chunkTotal}
 use Rattle.merge.proofs.Passing.{passed}
 
 module _ (f : Form) (d : ℕ) (sh ns : List ℕ) (c : Content) where
@@ -33,46 +34,46 @@ module _ (f : Form) (d : ℕ) (sh ns : List ℕ) (c : Content) where
   sizes s = record { cells = volume sh; count = length ns / (2 * length sh); bytes = s }
 
   pub merge-steps : (room : Lengths) → mergeAnswer k sh ns c room
-      ≡ andThen (checkAnswer k sh ns (length (c .masks)) (length (c .values)) (c .offsets)) (λ z. coverAnswer k sh bs c room)
-  unfolding mergeAnswer checkAnswer storeAnswer
-  merge-steps room = go (kindTest k) (shapeTest sh) (manyTest sh ns) (chunkCells k bs c) (sum-is f d bs c)
+      ≡ andThen (checkAnswer k sh ns c) (λ z. coverAnswer k sh bs c room)
+  unfolding mergeAnswer checkAnswer storeAnswer chunkTotal
+  merge-steps room = go (kindTest k) (shapeTest sh) (manyTest sh ns) (chunkCells k bs c)
     where
-      last : (cs : List (Cell d)) (x y : Bool) (a : Answer Content)
-          → unless x 5 (unless y 12 a) ≡ andThen (unless x 5 (gives (sizes (length (joined (leaves d cs)))))) (λ z. unless y 12 a)
-      last cs true y a = refl
-      last cs false y a = refl
+      -- 12, and then what is left of the call
+      covering : Answer Content → Answer Content
+      covering a = unless (onceTest (volume sh) (cellsOfAll sh bs)) 12 a
 
-      go : (a b m : Bool) (r : Answer (List (Cell d))) {t : Answer ℕ} → andThen r (λ cs. gives (length (joined (leaves d cs)))) ≡ t
-          → unless a 1 (unless b 2 (unless m 3 (andThen r (λ cs. unless (sizeTest (length (joined (leaves d cs)))) 5
-          (unless (onceTest (volume sh) (cellsOfAll sh bs)) 12 (unless (enoughTest (mergeOf k sh bs cs) room) 6 (gives (mergeOf k sh bs cs))))))))
-          ≡ andThen (unless a 1 (unless b 2 (unless m 3 (andThen t (λ s. unless (sizeTest s) 5 (gives (sizes s)))))))
-          (λ z. unless (onceTest (volume sh) (cellsOfAll sh bs)) 12 (andThen r (λ cs. unless (enoughTest (mergeOf k sh bs cs) room) 6 (gives (mergeOf k sh bs cs)))))
-      go false b m r e = refl
-      go true false m r e = refl
-      go true true false r e = refl
-      go true true true (refuses n) e =
-          ap (λ (x : Answer ℕ). andThen (andThen x (λ s. unless (sizeTest s) 5 (gives (sizes s)))) (λ z. unless (onceTest (volume sh) (cellsOfAll sh bs)) 12 (refuses n))) e
-      go true true true (gives cs) e =
-          last cs (sizeTest (length (joined (leaves d cs)))) (onceTest (volume sh) (cellsOfAll sh bs)) (unless (enoughTest (mergeOf k sh bs cs) room) 6 (gives (mergeOf k sh bs cs)))
-          ∙ ap (λ (x : Answer ℕ). andThen (andThen x (λ s. unless (sizeTest s) 5 (gives (sizes s))))
-          (λ z. unless (onceTest (volume sh) (cellsOfAll sh bs)) 12 (unless (enoughTest (mergeOf k sh bs cs) room) 6 (gives (mergeOf k sh bs cs))))) e
+      storing : List (Cell d) → Answer Content
+      storing cs = unless (enoughTest (mergeOf k sh bs cs) room) 6 (gives (mergeOf k sh bs cs))
+
+      bytes : List (Cell d) → ℕ
+      bytes cs = length (joined (leaves d cs))
+
+      go : (a b m : Bool) (r : Answer (List (Cell d)))
+          → unless a 1 (unless b 2 (unless m 3 (andThen r (λ cs. unless (sizeTest (bytes cs)) 5 (covering (storing cs))))))
+          ≡ andThen (unless a 1 (unless b 2 (unless m 3 (andThen (andThen r (λ cs. gives (bytes cs))) (λ s. unless (sizeTest s) 5 (gives (sizes s)))))))
+          (λ z. covering (andThen r storing))
+      go false b m r = refl
+      go true false m r = refl
+      go true true false r = refl
+      go true true true (refuses n) = refl
+      go true true true (gives cs) = sym (then-unless (sizeTest (bytes cs)) 5 (sizes (bytes cs)) (λ z. covering (storing cs)))
 
   module _ (old : Content) where
     whole : merged k sh ns c old ≡ contentOutcome (mergeAnswer k sh ns c (lengthsOf old)) old
     unfolding merged
     whole = refl
 
-    by-steps : (t : Answer Sizes) → t ≡ checkAnswer k sh ns (length (c .masks)) (length (c .values)) (c .offsets)
+    by-steps : (t : Answer Sizes) → t ≡ checkAnswer k sh ns c
         → merged k sh ns c old ≡ contentOutcome (andThen t (λ z. coverAnswer k sh bs c (lengthsOf old))) old
     by-steps t e =
         whole ∙ ap (λ (a : Answer Content). contentOutcome a old)
         (merge-steps (lengthsOf old) ∙ ap (λ (x : Answer Sizes). andThen x (λ z. coverAnswer k sh bs c (lengthsOf old))) (sym e))
 
-    pub merge-refused : (e : ℕ) → refuses e ≡ checkAnswer k sh ns (length (c .masks)) (length (c .values)) (c .offsets)
+    pub merge-refused : (e : ℕ) → refuses e ≡ checkAnswer k sh ns c
         → record { answer = refuses e; buffers = old } ≡ merged k sh ns c old
     merge-refused e p = sym (by-steps (refuses e) p)
 
-    module _ (z : Sizes) (p : gives z ≡ checkAnswer k sh ns (length (c .masks)) (length (c .values)) (c .offsets)) where
+    module _ (z : Sizes) (p : gives z ≡ checkAnswer k sh ns c) where
       pub merge-checked : MergeChecked k sh ns c z
       merge-checked = passed k sh ns c z p .0
 

@@ -1,26 +1,24 @@
 -- What a chunk list that passes the check has: its cells, and enough mask and value bytes for the stores.
 -- Assumes nothing.
-use mathlib.Core.Path.{_≡_, refl, sym, _∙_}
+use mathlib.Core.Path.{_≡_, sym}
 use Prim.Native.Nat.{ℕ, _*_, _≤_}
-use native.Mathlib.Nat.{zero-mul, add-mul, mul-comm, min-le-right}
+use native.Mathlib.Nat.{zero-mul, add-mul, mul-comm}
 use native.Mathlib.Omega.{arith}
 use mathlib.Core.List.{List, [], _∷_}
-use lib.ListN.{length, take, length-drop, length-take}
-use Rattle.array.specs.Answer.{Answer, gives, refuses, andThen}
+use lib.ListN.{length, length-drop}
+use Rattle.array.specs.Answer.{gives}
 use Rattle.array.specs.Cells.{Cell}
 use Rattle.array.specs.Content.{Content, leaves}
 use Rattle.array.specs.Kind.{byteKind, Form, fixed, Order}
 use Rattle.array.specs.Lists.{joined}
 use Rattle.array.specs.Shape.{volume}
 use Rattle.array.specs.Subset.{Subset, lengths}
+use Rattle.array.proofs.Answers.{went-on, same-given}
 use Rattle.chunks.specs.Chunks.{chunkCells, laterChunks}
 use Rattle.merge_stores.specs.Store.{cellsTotal}
 use Rattle.merge_stores.proofs.FirstChunk.{first-of}
-use Rattle.merge.specs.Chunks.{chunkSum}
-use Rattle.merge.proofs.ChunkSums.{sum-is}
-
-take-long : (n : ℕ) (xs : List ℕ) → length (take n xs) ≡ n → n ≤ length xs
-take-long n xs e = omega (arith, length-take n xs, min-le-right n (length xs))
+use Rattle.merge.specs.Chunks.{chunkTotal}
+use Rattle.merge.proofs.OneChunk.{take-long}
 
 pub masks-total : (f : Form) (d : ℕ) (bs : List Subset) (c : Content) (cs : List (Cell d)) → chunkCells (byteKind d f) bs c ≡ gives cs → cellsTotal bs * d ≤ length (c .masks)
 masks-total f d [] c cs e = omega (arith, zero-mul d)
@@ -55,9 +53,8 @@ pub record Found (f : Form) (d : ℕ) (bs : List Subset) (c : Content) (s : ℕ)
   pub are : chunkCells (byteKind d f) bs c ≡ gives cells
   pub sum-of : s ≡ length (joined (leaves d cells))
 
-pub found : (f : Form) (d : ℕ) (bs : List Subset) (c : Content) (s : ℕ) → gives s ≡ chunkSum f d bs (length (c .masks)) (length (c .values)) (c .offsets) → Found f d bs c s
-found f d bs c s e = go (chunkCells (byteKind d f) bs c) refl (e ∙ sym (sum-is f d bs c))
-  where
-    go : (r : Answer (List (Cell d))) → chunkCells (byteKind d f) bs c ≡ r → gives s ≡ andThen r (λ cs. gives (length (joined (leaves d cs)))) → Found f d bs c s
-    go (gives cs) er e = record { cells = cs; are = er; sum-of = cc }
-    go (refuses n) er e = let z : _≡_ {A = ℕ} 0 1 = cc in absurd (omega arith)
+pub found : (f : Form) (d : ℕ) (bs : List Subset) (c : Content) (s : ℕ) → gives s ≡ chunkTotal (byteKind d f) bs c → Found f d bs c s
+unfolding chunkTotal
+found f d bs c s e =
+    let w = went-on (chunkCells (byteKind d f) bs c) (λ cs. gives (length (joined (leaves d cs)))) (sym e) in
+    record { cells = w .0; are = w .1 .0; sum-of = same-given (sym (w .1 .1)) }

@@ -1,4 +1,4 @@
--- A merge in steps (document 01, Answers): the checks by lengths and offsets; then 12; then 6 and the stores.
+-- A merge in steps (document 01, Answers): the checks of the chunks; then 12; then 6 and the stores.
 -- proofs/Steps has that these are the call.
 -- Assumes nothing.
 use mathlib.Core.Path.{_≡_}
@@ -16,7 +16,7 @@ use Rattle.array.specs.Buffers.{Lengths, enoughTest}
 use Rattle.chunks.specs.Gather.{Once, onceTest}
 use Rattle.chunks.specs.Chunks.{chunkCells, mergeOf}
 use Rattle.cover.specs.Asked.{SubsetsOk}
-use Rattle.merge.specs.Chunks.{chunkSum}
+use Rattle.merge.specs.Chunks.{chunkTotal}
 use Rattle.merge.specs.declared.rules.Checks.{Checks}
 
 -- what the stores go by: the cells of the shape, how many subsets there are, the value bytes in cells of all chunks
@@ -26,13 +26,13 @@ pub record Sizes : Type 0 where
   pub bytes : ℕ
 
 -- 1, 2, 3, 4, 5
-unfoldable pub checkAnswer : Kind → List ℕ → List ℕ → ℕ → ℕ → List ℕ → Answer Sizes
-checkAnswer k shape ns masks values os =
+unfoldable pub checkAnswer : Kind → List ℕ → List ℕ → Content → Answer Sizes
+checkAnswer k shape ns c =
     let bs = subsetsOf (length shape) ns in
     unless (kindTest k) 1
     (unless (shapeTest shape) 2
     (unless (manyTest shape ns) 3
-    (andThen (chunkSum (k .form) (k .depth) bs masks values os) (λ s.
+    (andThen (chunkTotal k bs c) (λ s.
     unless (sizeTest s) 5
     (gives (record { cells = volume shape; count = length ns / (2 * length shape); bytes = s }))))))
 
@@ -54,7 +54,7 @@ pub record MergeChecked (k : Kind) (shape flat : List ℕ) (c : Content) (z : Si
   pub kind : KindOk k
   pub subsets : SubsetsOk shape flat (z .count)
   pub counted : z .cells ≡ volume shape
-  pub summed : gives (z .bytes) ≡ chunkSum (k .form) (k .depth) (nextSubsets (length shape) (z .count) flat) (length (c .masks)) (length (c .values)) (c .offsets)
+  pub summed : gives (z .bytes) ≡ chunkTotal k (nextSubsets (length shape) (z .count) flat) c
   pub small : z .bytes ≤ mostBytes
 
 -- what the stores ask: that no chunk overlaps another or leaves a gap either

@@ -142,7 +142,7 @@ pub fn merge(
         ≡ merged (kindOf kind) (now (shape .entry)) (now (subsets .entry)) (contentArray (now (masks .entry)) (now (values .entry)) (now (offsets .entry)))
         (contentArray (now («out_masks» .entry)) (now («out_values» .entry)) (now («out_offsets» .entry))) ⌝ }
 {
-    match rules::check_merge(kind, shape, subsets, masks.len(), values.len(), offsets) {
+    match rules::check_merge(kind, shape, subsets, masks, values, offsets) {
         Checks::Refused(e) => WrittenArray::Refused(e),
         Checks::Passed(cells, count, bytes) => store_covering(
             kind,

@@ -1,4 +1,4 @@
-// Whether chunks may be merged, by lengths and offsets alone.
+// Whether chunks may be merged: each keeps the array's rules on its own masks, values and offsets.
 use array::kind::Kind;
 use array::kind::Values;
 use array::refusal;
@@ -9,15 +9,16 @@ ghost use Prim.Native.Nat.{_≤_};
 ghost use lib.ListN.{length};
 ghost use Rattle.array.specs.Limits.{mostCells};
 ghost use Rattle.array.specs.Meaning.{formOf, kindOf};
+ghost use Rattle.array.specs.Outcome.{contentArray};
 ghost use Rattle.chunks.proofs.Idle.{inBytes};
 ghost use Rattle.array.specs.Rows.{nextSubsets};
 ghost use Rattle.cover.specs.Asked.{SubsetsOk};
-ghost use Rattle.merge.specs.Chunks.{chunkAnswer, chunkSum, toldChunk, toldTotal};
+ghost use Rattle.merge.specs.Chunks.{sizeAnswer, chunkAnswer, chunkTotal, toldChunk, toldTotal};
 ghost use Rattle.merge.specs.Merge.{checkAnswer, toldChecks};
 
-// What a chunk takes: its value bytes, those of them that are in cells, its offsets.
+// What a chunk takes: its value bytes, those of them that are in no cell, its offsets.
 pub enum Chunk {
-    Fits(usize, usize, usize),
+    Takes(usize, usize, usize),
     Bad,
 }
 
@@ -27,80 +28,92 @@ pub enum Total {
     Refused,
 }
 
-// A chunk of `cells` cells against what is left of masks, values and offsets.
-fn check_chunk(kind: Kind, cells: usize, masks: usize, values: usize, offsets: &[u64]) -> Chunk
+// What a chunk takes by the offsets that are left: a ragged one has as many value bytes as its last offset says.
+fn chunk_size(form: Values, cells: usize, offsets: &[u64]) -> Chunk
     requires { ⌜ cells ≤ mostCells ⌝ }
-    ensures { λ r. ⌜ toldChunk r ≡ chunkAnswer (formOf (kind .values)) (kind .depth) cells masks values (now (offsets .entry)) ⌝ }
+    ensures { λ r. ⌜ toldChunk r ≡ sizeAnswer (formOf form) cells (now (offsets .entry)) ⌝ }
 {
-    let depth = kind.depth as usize;
-    if masks < depth * cells {
-        return Chunk::Bad;
-    }
-    let form = kind.values;
     match form {
-        Values::Fixed(size, _) => {
-            let bytes = cells * (size as usize);
-            if values < bytes {
-                return Chunk::Bad;
-            }
-            Chunk::Fits(bytes, bytes, 0)
-        }
+        Values::Fixed(size, _) => Chunk::Takes(cells * (size as usize), 0, 0),
         Values::Ragged(_, _) => {
             if offsets.len() <= cells {
                 return Chunk::Bad;
             }
-            if !valid::array_bytes::never_fall(offsets, cells) {
-                return Chunk::Bad;
-            }
-            let last = offsets[cells] as usize;
-            if values < last {
-                return Chunk::Bad;
-            }
-            let first = offsets[0] as usize;
-            Chunk::Fits(last, last - first, cells + 1)
+            Chunk::Takes(offsets[cells] as usize, offsets[0] as usize, cells + 1)
         }
     }
 }
 
-// All chunks of a list: the bytes in their cells, or that lengths or offsets break their rules.
+// The first of the chunks that are left, of `cells` cells: what it takes, where it keeps the array's rules.
+fn check_chunk(kind: Kind, cells: usize, masks: &[u8], values: &[u8], offsets: &[u64]) -> Chunk
+    requires { ⌜ cells ≤ mostCells ⌝ }
+    ensures { λ r. ⌜ toldChunk r ≡ chunkAnswer (inBytes (kindOf kind)) cells (contentArray (now (masks .entry)) (now (values .entry)) (now (offsets .entry))) ⌝ }
+{
+    let depth = kind.depth as usize;
+    let planes = depth * cells;
+    if masks.len() < planes {
+        return Chunk::Bad;
+    }
+    let form = kind.values;
+    let Chunk::Takes(bytes, unused, numbers) = chunk_size(form, cells, offsets) else {
+        return Chunk::Bad;
+    };
+    if values.len() < bytes {
+        return Chunk::Bad;
+    }
+    if !valid::array_bytes::keeps_rules(
+        kind,
+        cells,
+        &masks[0..planes],
+        &values[0..bytes],
+        &offsets[0..numbers],
+    ) {
+        return Chunk::Bad;
+    }
+    Chunk::Takes(bytes, unused, numbers)
+}
+
+// All chunks of a list: the bytes in their cells, or that one breaks the rules or something is left over.
 pub fn check_chunks(
     kind: Kind,
     shape: &[u64],
     subsets: &[u64],
     count: usize,
-    masks: usize,
-    values: usize,
+    masks: &[u8],
+    values: &[u8],
     offsets: &[u64],
 ) -> Total
     requires { ⌜ SubsetsOk (now shape) (now subsets) count ⌝ }
-    ensures { λ r. ⌜ toldTotal r ≡ chunkSum (formOf (kind .values)) (kind .depth) (nextSubsets (length (now (shape .entry))) count (now (subsets .entry))) masks values (now (offsets .entry)) ⌝ }
+    ensures { λ r. ⌜ toldTotal r ≡ chunkTotal (inBytes (kindOf kind)) (nextSubsets (length (now (shape .entry))) count (now (subsets .entry)))
+        (contentArray (now (masks .entry)) (now (values .entry)) (now (offsets .entry))) ⌝ }
 {
     let d = shape.len();
     let depth = kind.depth as usize;
     let mut i: usize = 0;
     let mut at: usize = 0;
-    let mut p = masks;
-    let mut v = values;
+    let mut p: usize = 0;
+    let mut v: usize = 0;
     let mut o: usize = 0;
     let mut sum: usize = 0;
     while i < count {
         let mid = at + d;
         let end = mid + d;
         let m = subset::volume_of(&subsets[mid..end]) as usize;
-        let Chunk::Fits(taken, bytes, passed) = check_chunk(kind, m, p, v, &offsets[o..]) else {
+        let chunk = check_chunk(kind, m, &masks[p..], &values[v..], &offsets[o..]);
+        let Chunk::Takes(bytes, unused, numbers) = chunk else {
             return Total::Refused;
         };
-        p -= depth * m;
-        v -= taken;
-        o += passed;
-        sum += bytes;
+        p += depth * m;
+        v += bytes;
+        o += numbers;
+        sum += bytes - unused;
         at = end;
         i += 1;
     }
-    if p != 0 {
+    if p != masks.len() {
         return Total::Refused;
     }
-    if v != 0 {
+    if v != values.len() {
         return Total::Refused;
     }
     if o != offsets.len() {
@@ -115,16 +128,17 @@ pub enum Checks {
     Refused(u8),
 }
 
-// All checks of a merge by lengths and offsets: those but of its cover and its outputs.
+// All checks of a merge but those of its cover and its outputs.
 pub fn check_merge(
     kind: Kind,
     shape: &[u64],
     subsets: &[u64],
-    masks: usize,
-    values: usize,
+    masks: &[u8],
+    values: &[u8],
     offsets: &[u64],
 ) -> Checks
-    ensures { λ r. ⌜ toldChecks r ≡ checkAnswer (inBytes (kindOf kind)) (now (shape .entry)) (now (subsets .entry)) masks values (now (offsets .entry)) ⌝ }
+    ensures { λ r. ⌜ toldChecks r ≡ checkAnswer (inBytes (kindOf kind)) (now (shape .entry)) (now (subsets .entry))
+        (contentArray (now (masks .entry)) (now (values .entry)) (now (offsets .entry))) ⌝ }
 {
     if !valid::kind::check_kind(kind) {
         return Checks::Refused(refusal::KIND);

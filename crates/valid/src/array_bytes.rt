@@ -1,4 +1,5 @@
-// The array's rules: lengths that agree with the kind and the count of cells, offsets that never fall, few enough value bytes.
+// The array's rules: lengths that agree with the kind and the count of cells, offsets that never fall, mask bytes 00 and 01, few enough
+// value bytes.
 ghost use mathlib.Core.Path.{_≡_};
 ghost use mathlib.Core.Bool.{_&&_};
 ghost use Prim.Native.Nat.{suc, _≤_, _<_};
@@ -6,8 +7,11 @@ ghost use lib.ListN.{length, take};
 ghost use lib.Dec.{leb};
 ghost use Rattle.array.specs.Limits.{mostCells};
 ghost use Rattle.array.specs.Offsets.{risingTest};
+ghost use Rattle.array.specs.Content.{contentTest, arrayTest};
 ghost use Rattle.array.specs.Meaning.{kindOf};
-ghost use Rattle.valid.specs.Check.{contentTestBy, contentAnswer, toldChecked};
+ghost use Rattle.array.specs.Outcome.{contentArray};
+ghost use Rattle.valid.specs.Check.{checkOf, toldChecked};
+use crate::masks::masks_strict;
 use array::kind::Kind;
 use array::kind::Values;
 use array::refusal;
@@ -41,19 +45,19 @@ pub fn never_fall(offsets: &[u64], n: usize) -> bool
     rising
 }
 
-// Whether an array of so many cells, with so many mask and value bytes and these offsets, has the lengths and offsets of its kind.
-pub fn content_fits(kind: Kind, cells: usize, masks: usize, values: usize, offsets: &[u64]) -> bool
+// Whether an array or a chunk of so many cells has the lengths and offsets of its kind.
+fn content_fits(kind: Kind, cells: usize, masks: &[u8], values: &[u8], offsets: &[u64]) -> bool
     requires { ⌜ cells ≤ mostCells ⌝ }
-    ensures { λ r. ⌜ r ≡ contentTestBy (kindOf kind) cells masks values (now (offsets .entry)) ⌝ }
+    ensures { λ r. ⌜ r ≡ contentTest (kindOf kind) cells (contentArray (now (masks .entry)) (now (values .entry)) (now (offsets .entry))) ⌝ }
 {
     let depth = kind.depth as usize;
-    if masks != depth * cells {
+    if masks.len() != depth * cells {
         return false;
     }
     let form = kind.values;
     match form {
         Values::Fixed(size, _) => {
-            if values != cells * (size as usize) {
+            if values.len() != cells * (size as usize) {
                 return false;
             }
             offsets.len() == 0
@@ -66,26 +70,34 @@ pub fn content_fits(kind: Kind, cells: usize, masks: usize, values: usize, offse
                 return false;
             }
             let last = offsets[cells] as usize;
-            last == values
+            last == values.len()
         }
     }
+}
+
+// Whether an array or a chunk of so many cells keeps the rules of its kind: else it is 4.
+pub fn keeps_rules(kind: Kind, cells: usize, masks: &[u8], values: &[u8], offsets: &[u64]) -> bool
+    requires { ⌜ cells ≤ mostCells ⌝ }
+    ensures { λ r. ⌜ r ≡ arrayTest (kindOf kind) cells (contentArray (now (masks .entry)) (now (values .entry)) (now (offsets .entry))) ⌝ }
+{
+    content_fits(kind, cells, masks, values, offsets) && masks_strict(masks)
 }
 
 // The rules of an array whose kind and shape are sound: 4, and then 5.
 pub fn check_array(
     kind: Kind,
     cells: usize,
-    masks: usize,
-    values: usize,
+    masks: &[u8],
+    values: &[u8],
     offsets: &[u64],
 ) -> Checked
     requires { ⌜ cells ≤ mostCells ⌝ }
-    ensures { λ r. ⌜ toldChecked r ≡ contentAnswer (kindOf kind) cells masks values (now (offsets .entry)) ⌝ }
+    ensures { λ r. ⌜ toldChecked r ≡ checkOf (kindOf kind) cells (contentArray (now (masks .entry)) (now (values .entry)) (now (offsets .entry))) ⌝ }
 {
-    if !content_fits(kind, cells, masks, values, offsets) {
+    if !keeps_rules(kind, cells, masks, values, offsets) {
         return Checked::Refused(refusal::CONTENT);
     }
-    if values > MOST_BYTES {
+    if values.len() > MOST_BYTES {
         return Checked::Refused(refusal::SIZE);
     }
     Checked::Valid

@@ -14,13 +14,13 @@ use Rattle.array.specs.Shape.{volume}
 use Rattle.valid.specs.ShapeCells.{toldCells}
 use Rattle.array.specs.Subset.{Subset, numbersTest, NumbersOk}
 use Rattle.array.specs.Content.{Content}
-use Rattle.valid.specs.Check.{toldChecked}
+use Rattle.valid.specs.Check.{checkOf, toldChecked}
 use Rattle.array.specs.Outcome.{contentArray}
 use Rattle.array.specs.Meaning.{kindOf}
 use Rattle.array.proofs.Rules.{numbers-ok}
 use Rattle.valid.proofs.ShapeLaws.{Counted, counted, not-counted}
 use Rattle.array.proofs.SubsetLists.{subset-parts, within-parts}
-use Rattle.valid.proofs.CheckLaws.{checkOf, KeepsRules, check-valid}
+use Rattle.valid.proofs.CheckLaws.{KeepsRules, check-valid}
 use Rattle.chunks.specs.Cut.{cutOf}
 use Rattle.array.specs.Outcome.{putInto}
 use Rattle.extract.proofs.Outcomes.{no-kind, no-shape, no-subset, not-kept, kept}
@@ -160,7 +160,7 @@ cut-valid-requires c κs =
     let e = checked p .before in
     let s = begun (checked p) in (
       record { shaped = shaped (told e) .shaped; within = within-parts (shape s) (numbers s) (fitting e); counted = refl },
-      record { whole = shaped (told e) .is; content = keeps p .content; small = keeps p .small },
+      record { whole = shaped (told e) .is; content = keeps p .array .fits; small = keeps p .small },
     )
 
 returns-4 : tie.Need-returns-4

@@ -2,7 +2,6 @@
 -- Assumes nothing.
 use mathlib.Core.Path.{_≡_, sym, ap, _∙_}
 use borrow.Author.Needs.{needs}
-use lib.ListN.{length}
 use Rattle.array.specs.Answer.{gives}
 use Rattle.array.specs.Kind.{Form}
 use Rattle.array.specs.Meaning.{formOf, kindOf}
@@ -36,7 +35,7 @@ sizes k = let g = k .before .cells .given .0 in record { cells = g .0; count = g
 
 passed : (k : tie.After-known-told2)
     → let a = start (checked k) in
-    gives (sizes k) ≡ checkAnswer (inBytes (kindOf (a .args .kind))) (a .args .shape .now) (a .args .subsets .now) (length (a .args .masks .now)) (length (a .args .values .now)) (a .args .offsets .now)
+    gives (sizes k) ≡ checkAnswer (inBytes (kindOf (a .args .kind))) (a .args .shape .now) (a .args .subsets .now) (handed a)
 passed k = sym (ap toldChecks (k .before .cells .given .1)) ∙ checked k .check-merge .ensures
 
 check-merge-requires : tie.Need-check-merge-requires

@@ -1,19 +1,19 @@
 -- `mask::form::check_mask` meets its contract, form by form.
 -- Assumes nothing.
-use mathlib.Core.Path.{_≡_, refl, sym, ap, subst, subst⁻¹, _∙_}
+use mathlib.Core.Path.{_≡_, sym, ap, subst, subst⁻¹, _∙_}
 use mathlib.Core.Bool.{true, false}
-use Rattle.array.specs.Answer.{Answer, gives, refuses}
-use borrow.Author.Tests.{not-true, not-false}
-use Rattle.mask.proofs.Said.{counted-passed, counted-failed}
-use Rattle.array.specs.declared.kind.MaskForm.the-variants.{Packed}
 use Prim.Native.Nat.{ℕ, _+_, _-_, _≤_}
-use lib.ListN.{length}
+use native.Mathlib.Omega.{arith}
+use lib.ListN.{length, take, drop}
+use borrow.Author.Needs.{needs}
+use borrow.Author.Tests.{not-true, not-false}
+use Rattle.array.specs.Answer.{Answer, gives, refuses}
+use Rattle.array.specs.declared.kind.MaskForm.the-variants.{Bytes, Packed}
 use Rattle.array.specs.Kind.{Masks}
 use Rattle.array.specs.Meaning.{masksOf}
 use Rattle.codec.specs.Mask.{maskForm, byteMask, packedMask, bytesFor}
-use Rattle.codec.specs.Frame.{countSet}
-use Rattle.mask.specs.Marks.{storedMask, saidMask, countedIn}
-use borrow.Author.Needs.{needs}
+use Rattle.mask.specs.Marks.{storedMask, countedIn}
+use Rattle.mask.proofs.Said.{counted-passed, counted-failed}
 use Rattle.mask.proofs.form.check_mask.Statement.{statement}
 use Rattle.mask.proofs.form.check_mask.Tie as tie
 
@@ -21,61 +21,87 @@ use Rattle.mask.proofs.form.check_mask.Tie as tie
 abbrev counted : tie.Start → Masks → Answer ℕ
 counted c x = countedIn (maskForm x) (storedMask (maskForm x) (c .args .s .now) (c .args .at) (c .args .n)) (c .args .n)
 
+-- the places that the returns go back to
+abbrev bytesCase : tie.After-enum-told → tie.Start
+bytesCase c = c .before .before .before
+
+abbrev packedCase : tie.After-enum-told2 → tie.Start
+packedCase c = c .before .before .before
+
+bytes-room : (c : tie.Start) → c .args .form ≡ Bytes → c .args .at + c .args .n ≤ length (c .args .s .now)
+bytes-room c e = subst (λ (x : Masks). c .args .at + maskForm x .size (c .args .n) ≤ length (c .args .s .now)) (ap masksOf e) (c .pre)
+
 packed-room : (c : tie.Start) → c .args .form ≡ Packed → c .args .at + bytesFor (c .args .n) ≤ length (c .args .s .now)
 packed-room c e = subst (λ (x : Masks). c .args .at + maskForm x .size (c .args .n) ≤ length (c .args .s .now)) (ap masksOf e) (c .pre)
 
 enum-told : tie.Need-enum-told
 enum-told c = search needs
 
-count-stored-requires : tie.Need-count-stored-requires
-count-stored-requires c κs =
-    let a = c .before .before .before .args in
-    (c .before .before .before .pre, subst⁻¹ (λ (x : Masks). maskForm x .test (storedMask (maskForm x) (a .s .now) (a .at) (a .n)) (a .n) ≡ true) (ap masksOf (c .enum-told .given .1)) refl)
+add-end : tie.Need-add-end
+add-end c = omega (arith, bytes-room (bytesCase c) (c .enum-told .given .1))
+
+sub-count-strict : tie.Need-sub-count-strict
+sub-count-strict c = search needs
+
+part-count-strict-start : tie.Need-part-count-strict-start
+part-count-strict-start c = search needs
+
+part-count-strict-end : tie.Need-part-count-strict-end
+part-count-strict-end c = omega (arith, bytes-room (bytesCase c) (c .enum-told .given .1))
+
+count-strict-requires : tie.Need-count-strict-requires
+count-strict-requires c κs = search needs
 
 enum-told-2 : tie.Need-enum-told-2
 enum-told-2 c = search needs
 
 unused-clear-requires : tie.Need-unused-clear-requires
-unused-clear-requires c κs = packed-room (c .before .before .before) (c .enum-told2 .given .1)
+unused-clear-requires c κs = packed-room (packedCase c) (c .enum-told2 .given .1)
 
 returns : tie.Need-returns
 returns c =
-    let start = c .before .before .before .before .before in
-    let failed : packedMask .test (storedMask packedMask (start .args .s .now) (start .args .at) (start .args .n)) (start .args .n) ≡ false =
+    let told = c .before .before in
+    let start = packedCase told in
+    let mask = storedMask packedMask (start .args .s .now) (start .args .at) (start .args .n) in
+    let failed : packedMask .test mask (start .args .n) ≡ false =
     sym (c .before .unused-clear .ensures) ∙ not-true (c .before .unused-clear .result) (c .if1 .taken) in
-    subst⁻¹ (λ (x : Masks). refuses 13 ≡ counted start x) (ap masksOf (c .before .before .enum-told2 .given .1))
-    (counted-failed packedMask (storedMask packedMask (start .args .s .now) (start .args .at) (start .args .n)) (start .args .n) failed)
+    subst⁻¹ (λ (x : Masks). refuses 13 ≡ counted start x) (ap masksOf (told .enum-told2 .given .1)) (counted-failed packedMask mask (start .args .n) failed)
 
 count-packed-requires : tie.Need-count-packed-requires
-count-packed-requires c κs = (
-  packed-room (c .before .before .before .before .before) (c .before .before .enum-told2 .given .1),
-  sym (c .before .unused-clear .ensures) ∙ not-false
-      (c .before .unused-clear .result) (c .if1 .left),
-)
+count-packed-requires c κs =
+    let told = c .before .before in (
+      packed-room (packedCase told) (told .enum-told2 .given .1),
+      sym (c .before .unused-clear .ensures) ∙ not-false (c .before .unused-clear .result) (c .if1 .left),
+    )
 
 returns-2 : tie.Need-returns-2
 returns-2 c =
-    let start = c .before .before .before .before in
-    let a = start .args in
-    subst⁻¹ (λ (x : Masks). gives (c .count-stored .result) ≡ counted start x) (ap masksOf (c .before .enum-told .given .1))
-    (counted-passed byteMask (storedMask byteMask (a .s .now) (a .at) (a .n)) (a .n) (c .count-stored .result) refl
-    (c .count-stored .ensures ∙ ap (λ (x : Masks). countSet (saidMask (maskForm x) (a .s .now) (a .at) (a .n))) (ap masksOf (c .before .enum-told .given .1))))
+    let told = c .before .before in
+    let a = bytesCase told .args in
+    let k : a .at + a .n - a .at ≡ a .n = omega arith in
+    c .count-strict .ensures ∙ ap (λ (i : ℕ). countedIn byteMask (take i (drop (a .at) (a .s .now))) (a .n)) k
+    ∙ sym (ap (counted (bytesCase told)) (ap masksOf (told .enum-told .given .1)))
 
 returns-3 : tie.Need-returns-3
 returns-3 c =
-    let start = c .before .before .before .before .before .before in
-    let a = start .args in
-    let passed : packedMask .test (storedMask packedMask (a .s .now) (a .at) (a .n)) (a .n) ≡ true =
-    sym (c .before .before .unused-clear .ensures) ∙ not-false (c .before .before .unused-clear .result) (c .before .if1 .left) in
-    subst⁻¹ (λ (x : Masks). gives (c .count-packed .result) ≡ counted start x) (ap masksOf (c .before .before .before .enum-told2 .given .1))
-    (counted-passed packedMask (storedMask packedMask (a .s .now) (a .at) (a .n)) (a .n) (c .count-packed .result) passed (c .count-packed .ensures))
+    let told = c .before .before .before in
+    let start = packedCase told in
+    let mask = storedMask packedMask (start .args .s .now) (start .args .at) (start .args .n) in
+    let clear = c .before .before .unused-clear in
+    let passed : packedMask .test mask (start .args .n) ≡ true = sym (clear .ensures) ∙ not-false (clear .result) (c .before .if1 .left) in
+    subst⁻¹ (λ (x : Masks). gives (c .count-packed .result) ≡ counted start x) (ap masksOf (told .enum-told2 .given .1))
+    (counted-passed packedMask mask (start .args .n) (c .count-packed .result) passed (c .count-packed .ensures))
 
 pub check-mask-spec : {M : Type 1} → statement M
 check-mask-spec =
     tie.close
     (tie.spec
     enum-told
-    count-stored-requires
+    add-end
+    sub-count-strict
+    part-count-strict-start
+    part-count-strict-end
+    count-strict-requires
     enum-told-2
     unused-clear-requires
     returns

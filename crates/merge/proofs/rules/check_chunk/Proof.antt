@@ -1,130 +1,149 @@
--- `check_chunk` meets its contract: one law for each answer (proofs/OneChunk).
+-- `check_chunk` meets its contract: what is left holds the chunk, and the slices are its own (proofs/OneChunk).
 -- Assumes nothing.
-use Prim.Native.Nat.{ℕ}
-use mathlib.Core.Path.{_≡_, sym, ap, _∙_}
-use mathlib.Core.List.{List}
+use Prim.Native.Nat.{ℕ, _≤_}
+use mathlib.Core.Path.{sym, ap, _∙_}
 use native.Mathlib.Omega.{arith}
-use borrow.Author.Tests.{not-true, not-false}
-use Rattle.array.specs.Meaning.{formOf, orderOf, widthOf, placeOf}
-use Rattle.valid.proofs.CheckLaws.{small-product}
-use Rattle.merge.specs.Chunks.{chunkAnswer}
-use Rattle.merge.proofs.OneChunk.{bad-masks, bad-fixed, fits-fixed, bad-short, bad-falls, bad-last, first-le, fits-ragged}
-use Rattle.array.specs.declared.kind.Values.{Values}
 use borrow.Author.Needs.{needs}
+use lib.ListN.{length}
+use Rattle.array.specs.Content.{Content}
+use Rattle.array.specs.Kind.{Form}
+use Rattle.array.specs.Meaning.{formOf}
+use Rattle.array.specs.Outcome.{contentArray}
+use Rattle.valid.proofs.CheckLaws.{small-product}
+use Rattle.merge.specs.Chunks.{toldChunk}
+use Rattle.merge.proofs.OneChunk.{Sized, size-known, size-lacking, chunk-lacks, chunk-breaks, chunk-keeps}
 use Rattle.merge.proofs.rules.check_chunk.Statement.{statement}
 use Rattle.merge.proofs.rules.check_chunk.Tie as tie
 
--- what the form's cases say of the answer
-abbrev by : (x y : Values) (d m pl vl : ℕ) (os : List ℕ) → x ≡ y → chunkAnswer (formOf y) d m pl vl os ≡ chunkAnswer (formOf x) d m pl vl os
-by x y d m pl vl os e = ap (λ (z : Values). chunkAnswer (formOf z) d m pl vl os) (sym e)
+-- where the function starts, and what is left
+abbrev start : tie.After-struct-known → tie.Start
+start k = k .before .before .before .before
+
+abbrev form : tie.Start → Form
+form a = formOf (a .args .kind .values)
+
+abbrev left : tie.Start → Content
+left a = contentArray (a .args .masks .now) (a .args .values .now) (a .args .offsets .now)
+
+-- the size is known
+abbrev Known : Type 0
+Known = tie.After-known-told
+
+abbrev asked : Known → tie.After-chunk-size
+asked k = k .before .before .before
+
+abbrev begun : Known → tie.Start
+begun k = start (asked k .before .before)
+
+abbrev taken : Known → ℕ
+taken k = k .before .bytes .given .0 .0
+
+abbrev unused : Known → ℕ
+unused k = k .before .bytes .given .0 .1 .0
+
+abbrev numbers : Known → ℕ
+numbers k = k .before .bytes .given .0 .1 .1 .0
+
+size : (k : Known) → Sized (form (begun k)) (begun k .args .cells) (begun k .args .offsets .now) (taken k) (unused k) (numbers k) × (numbers k ≤ length (begun k .args .offsets .now))
+size k = let a = begun k in size-known (form a) (a .args .cells) (a .args .offsets .now) (sym (ap toldChunk (k .before .bytes .given .1)) ∙ asked k .chunk-size .ensures)
+
+-- the rules were asked for
+abbrev known : tie.After-keeps-rules → Known
+known r = r .before .before .before .before .before
 
 cast-depth : tie.Need-cast-depth
 cast-depth c = search needs
 
-mul-if1 : tie.Need-mul-if1
-mul-if1 c = let a = c .before .before in omega (arith, small-product (a .args .kind .depth) (a .args .cells) (omega arith) (a .pre))
+mul-planes : tie.Need-mul-planes
+mul-planes c = let a = start c in omega (arith, small-product (a .args .kind .depth) (a .args .cells) (omega arith) (a .pre))
 
 returns : tie.Need-returns
-returns c =
-    let a = c .before .before .before .args in
-    bad-masks (a .kind .depth) (a .cells) (a .masks) (a .values) (a .offsets .now) (formOf (a .kind .values)) (c .if1 .taken)
+returns c = let a = start (c .before) in chunk-lacks (form a) (a .args .kind .depth) (a .args .cells) (left a) (λ h. omega (arith, h .masks))
 
-enum-known-form : tie.Need-enum-known-form
-enum-known-form c = search needs
+chunk-size-requires : tie.Need-chunk-size-requires
+chunk-size-requires c κs = search needs
 
-cast-bytes : tie.Need-cast-bytes
-cast-bytes c = search needs
-
-mul-bytes : tie.Need-mul-bytes
-mul-bytes c = let a = c .before .before .before .before .before .before in omega (arith, small-product (c .before .form .given .0 .0) (a .args .cells) (omega arith) (a .pre))
-
-returns-2 : tie.Need-returns-2
-returns-2 c =
-    let f = c .before .before .form .given in
-    let a = c .before .before .before .before .before .before .before .args in
-    bad-fixed (a .kind .depth) (a .cells) (a .masks) (a .values) (a .offsets .now) (f .0 .0) (orderOf (f .0 .1 .0)) (omega arith) (c .if2 .taken) ∙ by (a .kind .values) _ (a .kind .depth) (a .cells) (a .masks) (a .values) (a .offsets .now) (f .1)
+enum-known-bytes : tie.Need-enum-known-bytes
+enum-known-bytes c = search needs
 
 enum-told : tie.Need-enum-told
 enum-told c = search needs
 
+returns-2 : tie.Need-returns-2
+returns-2 c =
+    let s = c .before .before in
+    let a = start (s .before .before) in
+    chunk-lacks (form a) (a .args .kind .depth) (a .args .cells) (left a)
+    (λ h. omega (arith, h .offsets, size-lacking (form a) (a .args .cells) (a .args .offsets .now) (sym (ap toldChunk (c .enum-told .given .1)) ∙ s .chunk-size .ensures)))
+
 returns-3 : tie.Need-returns-3
 returns-3 c =
-    let f = c .before .enum-told .given in
-    let a = c .before .before .before .before .before .before .args in
-    bad-short (a .kind .depth) (a .cells) (a .masks) (a .values) (a .offsets .now) (widthOf (f .0 .0)) (placeOf (f .0 .1 .0)) (omega arith) (omega arith) ∙ by (a .kind .values) _ (a .kind .depth) (a .cells) (a .masks) (a .values) (a .offsets .now) (f .1)
+    let a = begun (c .before) in
+    chunk-lacks (form a) (a .args .kind .depth) (a .args .cells) (left a) (λ h. omega (arith, h .values, size (c .before) .0 .is-taken))
 
-never-fall-requires : tie.Need-never-fall-requires
-never-fall-requires c κs = search needs
+sub-keeps-rules : tie.Need-sub-keeps-rules
+sub-keeps-rules c = search needs
+
+part-keeps-rules-start : tie.Need-part-keeps-rules-start
+part-keeps-rules-start c = search needs
+
+part-keeps-rules-end : tie.Need-part-keeps-rules-end
+part-keeps-rules-end c = search needs
+
+sub-keeps-rules-2 : tie.Need-sub-keeps-rules-2
+sub-keeps-rules-2 c = search needs
+
+part-keeps-rules-start-2 : tie.Need-part-keeps-rules-start-2
+part-keeps-rules-start-2 c = search needs
+
+part-keeps-rules-end-2 : tie.Need-part-keeps-rules-end-2
+part-keeps-rules-end-2 c = search needs
+
+sub-keeps-rules-3 : tie.Need-sub-keeps-rules-3
+sub-keeps-rules-3 c = search needs
+
+part-keeps-rules-start-3 : tie.Need-part-keeps-rules-start-3
+part-keeps-rules-start-3 c = search needs
+
+part-keeps-rules-end-3 : tie.Need-part-keeps-rules-end-3
+part-keeps-rules-end-3 c = size (c .before .before .before) .1
+
+keeps-rules-requires : tie.Need-keeps-rules-requires
+keeps-rules-requires c κs = search needs
 
 returns-4 : tie.Need-returns-4
 returns-4 c =
-    let f = c .before .before .before .enum-told .given in
-    let a = c .before .before .before .before .before .before .before .before .args in
-    bad-falls (a .kind .depth) (a .cells) (a .masks) (a .values) (a .offsets .now) (widthOf (f .0 .0)) (placeOf (f .0 .1 .0)) (omega arith) (omega arith)
-    (sym (not-true (c .before .never-fall .result) (c .if4 .taken)) ∙ c .before .never-fall .ensures) ∙ by (a .kind .values) _ (a .kind .depth) (a .cells) (a .masks) (a .values) (a .offsets .now) (f .1)
-
-mul-last : tie.Need-mul-last
-mul-last c = search needs
-
-shared-slice-read-last : tie.Need-shared-slice-read-last
-shared-slice-read-last c = search needs
+    let r = c .before in
+    let a = begun (known r) in
+    chunk-breaks (form a) (a .args .kind .depth) (a .args .cells) (left a) (size (known r) .0) (r .keeps-rules .result) (r .keeps-rules .ensures) (c .if3 .taken)
 
 returns-5 : tie.Need-returns-5
 returns-5 c =
-    let r = c .before .before .before in
-    let f = r .before .before .enum-told .given in
-    let a = r .before .before .before .before .before .before .before .args in
-    bad-last (a .kind .depth) (a .cells) (a .masks) (a .values) (a .offsets .now) (widthOf (f .0 .0)) (placeOf (f .0 .1 .0)) (omega arith) (omega arith)
-    (sym (not-false (r .never-fall .result) (c .before .before .if4 .left)) ∙ r .never-fall .ensures) (omega arith) ∙ by (a .kind .values) _ (a .kind .depth) (a .cells) (a .masks) (a .values) (a .offsets .now) (f .1)
-
-shared-slice-read-first : tie.Need-shared-slice-read-first
-shared-slice-read-first c = search needs
-
-sub-t17 : tie.Need-sub-t17
-sub-t17 c =
-    let r = c .before .before .before .before in
-    let f = r .before .before .enum-told .given in
-    let a = r .before .before .before .before .before .before .before .args in
-    first-le (a .kind .depth) (a .cells) (a .masks) (a .values) (a .offsets .now) (widthOf (f .0 .0)) (placeOf (f .0 .1 .0)) (omega arith) (omega arith)
-    (sym (not-false (r .never-fall .result) (c .before .before .before .if4 .left)) ∙ r .never-fall .ensures)
-
-add-t23 : tie.Need-add-t23
-add-t23 c = search needs
-
-returns-6 : tie.Need-returns-6
-returns-6 c =
-    let f = c .before .before .form .given in
-    let a = c .before .before .before .before .before .before .before .args in
-    fits-fixed (a .kind .depth) (a .cells) (a .masks) (a .values) (a .offsets .now) (f .0 .0) (orderOf (f .0 .1 .0)) (omega arith) (omega arith) ∙ by (a .kind .values) _ (a .kind .depth) (a .cells) (a .masks) (a .values) (a .offsets .now) (f .1)
-
-returns-7 : tie.Need-returns-7
-returns-7 c =
-    let r = c .before .before .before .before in
-    let f = r .before .before .enum-told .given in
-    let a = r .before .before .before .before .before .before .before .args in
-    fits-ragged (a .kind .depth) (a .cells) (a .masks) (a .values) (a .offsets .now) (widthOf (f .0 .0)) (placeOf (f .0 .1 .0)) (omega arith) (omega arith)
-    (sym (not-false (r .never-fall .result) (c .before .before .before .if4 .left)) ∙ r .never-fall .ensures) (omega arith) ∙ by (a .kind .values) _ (a .kind .depth) (a .cells) (a .masks) (a .values) (a .offsets .now) (f .1)
+    let r = c .before in
+    let a = begun (known r) in
+    chunk-keeps (form a) (a .args .kind .depth) (a .args .cells) (left a) (size (known r) .0) (r .keeps-rules .result) (r .keeps-rules .ensures) (c .if3 .left)
 
 pub check-chunk-spec : {M : Type 1} → statement M
 check-chunk-spec =
     tie.close
     (tie.spec
     cast-depth
-    mul-if1
+    mul-planes
     returns
-    enum-known-form
-    cast-bytes
-    mul-bytes
-    returns-2
+    chunk-size-requires
+    enum-known-bytes
     enum-told
+    returns-2
     returns-3
-    never-fall-requires
+    sub-keeps-rules
+    part-keeps-rules-start
+    part-keeps-rules-end
+    sub-keeps-rules-2
+    part-keeps-rules-start-2
+    part-keeps-rules-end-2
+    sub-keeps-rules-3
+    part-keeps-rules-start-3
+    part-keeps-rules-end-3
+    keeps-rules-requires
     returns-4
-    mul-last
-    shared-slice-read-last
-    returns-5
-    shared-slice-read-first
-    sub-t17
-    add-t23
-    returns-6
-    returns-7)
+    returns-5)

@@ -9,21 +9,30 @@ use borrow.Author.Tests.{not-true, not-false}
 use lib.ListN.{length}
 use Rattle.array.specs.Limits.{mostBytes}
 use Rattle.array.specs.Answer.{gives}
-use Rattle.array.specs.Meaning.{kindOf, formOf}
+use Rattle.array.specs.Content.{Content}
+use Rattle.array.specs.Meaning.{kindOf}
+use Rattle.array.specs.Outcome.{contentArray}
 use Rattle.chunks.proofs.Idle.{inBytes}
 use Rattle.array.specs.Kind.{kindTest}
 use Rattle.array.specs.Subset.{manyTest}
 use Rattle.array.specs.Rows.{nextSubsets}
 use Rattle.valid.specs.ShapeCells.{toldCells}
 use Rattle.valid.proofs.ShapeLaws.{Counted, counted, not-counted}
-use Rattle.merge.specs.Chunks.{toldTotal, chunkSum}
+use Rattle.merge.specs.Chunks.{toldTotal, chunkTotal}
 use Rattle.merge.specs.Merge.{Sizes}
 use Rattle.merge.proofs.Passing.{tested-subsets, no-kind, no-shape, no-subsets, bad-chunks, too-many, passes}
 use Rattle.merge.proofs.rules.check_merge.Statement.{statement}
 use Rattle.merge.proofs.rules.check_merge.Tie as tie
 
+-- where the function starts, and what was handed over
+abbrev entered : tie.After-check-kind → tie.Start
+entered k = k .before .before .before .before .before .before
+
 abbrev start : tie.Else1 → tie.Start
-start e = e .before .before .before .before .before
+start e = entered (e .before)
+
+abbrev handed : tie.Start → Content
+handed a = contentArray (a .args .masks .now) (a .args .values .now) (a .args .offsets .now)
 
 -- the kind passed, the shape was counted, the subsets passed
 kind-passed : (e : tie.Else1) → kindTest (inBytes (kindOf (start e .args .kind))) ≡ true
@@ -41,7 +50,7 @@ abbrev first : tie.Else2 → tie.After-known-told
 first e = e .before .before
 
 abbrev count : tie.Else2 → ℕ
-count e = let a = start (from (first e)) .args in length (a .subsets .now) / (2 * length (a .shape .now))
+count e = let a = start (from (first e)) in length (a .args .subsets .now) / (2 * length (a .args .shape .now))
 
 subsets-passed : (e : tie.Else2) → manyTest (start (from (first e)) .args .shape .now) (start (from (first e)) .args .subsets .now) ≡ true
 subsets-passed e = sym (e .before .subsets-fit .ensures) ∙ not-false (e .before .subsets-fit .result) (e .if2 .left)
@@ -54,9 +63,9 @@ abbrev sum : tie.After-known-told2 → ℕ
 sum t = t .before .bytes .given .0 .0
 
 summed : (t : tie.After-known-told2)
-    → gives (sum t) ≡ chunkSum (formOf (start (from (first (earlier t))) .args .kind .values)) (start (from (first (earlier t))) .args .kind .depth)
+    → gives (sum t) ≡ chunkTotal (inBytes (kindOf (start (from (first (earlier t))) .args .kind)))
     (nextSubsets (length (start (from (first (earlier t))) .args .shape .now)) (count (earlier t)) (start (from (first (earlier t))) .args .subsets .now))
-    (start (from (first (earlier t))) .args .masks) (start (from (first (earlier t))) .args .values) (start (from (first (earlier t))) .args .offsets .now)
+    (handed (start (from (first (earlier t)))))
 summed t = sym (ap toldTotal (t .before .bytes .given .1)) ∙ t .before .before .before .check-chunks .ensures
 
 abbrev sized : ℕ → tie.Else2 → tie.After-known-told2 → Sizes
@@ -67,8 +76,8 @@ check-kind-requires c κs = search needs
 
 returns : tie.Need-returns
 returns c =
-    let a = c .before .before .before .before .before .args in
-    no-kind (inBytes (kindOf (a .kind))) (a .shape .now) (a .subsets .now) (a .masks) (a .values) (a .offsets .now)
+    let a = entered (c .before) in
+    no-kind (inBytes (kindOf (a .args .kind))) (a .args .shape .now) (a .args .subsets .now) (handed a)
     (sym (c .before .check-kind .ensures) ∙ not-true (c .before .check-kind .result) (c .if1 .taken))
 
 shape-cells-requires : tie.Need-shape-cells-requires
@@ -84,9 +93,9 @@ returns-2 : tie.Need-returns-2
 returns-2 c =
     let s = c .before .before in
     let e = s .before in
-    let a = start e .args in
-    no-shape (inBytes (kindOf (a .kind))) (a .shape .now) (a .subsets .now) (a .masks) (a .values) (a .offsets .now) (kind-passed e)
-    (not-counted (a .shape .now) (c .enum-told .given .0 .0) (sym (ap toldCells (c .enum-told .given .1)) ∙ s .shape-cells .ensures) .0)
+    let a = start e in
+    no-shape (inBytes (kindOf (a .args .kind))) (a .args .shape .now) (a .args .subsets .now) (handed a) (kind-passed e)
+    (not-counted (a .args .shape .now) (c .enum-told .given .0 .0) (sym (ap toldCells (c .enum-told .given .1)) ∙ s .shape-cells .ensures) .0)
 
 subsets-fit-requires : tie.Need-subsets-fit-requires
 subsets-fit-requires c κs = shape-counted c .shaped .some-sides
@@ -94,8 +103,8 @@ subsets-fit-requires c κs = shape-counted c .shaped .some-sides
 returns-3 : tie.Need-returns-3
 returns-3 c =
     let m = c .before .before in
-    let a = start (from m) .args in
-    no-subsets (inBytes (kindOf (a .kind))) (a .shape .now) (a .subsets .now) (a .masks) (a .values) (a .offsets .now) (kind-passed (from m)) (shape-counted m .passes)
+    let a = start (from m) in
+    no-subsets (inBytes (kindOf (a .args .kind))) (a .args .shape .now) (a .args .subsets .now) (handed a) (kind-passed (from m)) (shape-counted m .passes)
     (sym (c .before .subsets-fit .ensures) ∙ not-true (c .before .subsets-fit .result) (c .if2 .taken))
 
 mul-count : tie.Need-mul-count
@@ -106,8 +115,8 @@ div-count c = omega (arith, shape-counted (first c) .shaped .some-sides)
 
 check-chunks-requires : tie.Need-check-chunks-requires
 check-chunks-requires c κs =
-    let a = start (from (first c)) .args in
-    tested-subsets (a .shape .now) (a .subsets .now) (shape-counted (first c) .passes) (subsets-passed c)
+    let a = start (from (first c)) in
+    tested-subsets (a .args .shape .now) (a .args .subsets .now) (shape-counted (first c) .passes) (subsets-passed c)
 
 enum-known-bytes : tie.Need-enum-known-bytes
 enum-known-bytes c = search needs
@@ -120,8 +129,8 @@ returns-4 c =
     let k = c .before .before in
     let e = k .before in
     let m = first e in
-    let a = start (from m) .args in
-    bad-chunks (inBytes (kindOf (a .kind))) (a .shape .now) (a .subsets .now) (a .masks) (a .values) (a .offsets .now) (kind-passed (from m)) (shape-counted m .passes) (subsets-passed e)
+    let a = start (from m) in
+    bad-chunks (inBytes (kindOf (a .args .kind))) (a .args .shape .now) (a .args .subsets .now) (handed a) (kind-passed (from m)) (shape-counted m .passes) (subsets-passed e)
     (sym (ap toldTotal (c .enum-told2 .given .1)) ∙ k .check-chunks .ensures)
 
 returns-5 : tie.Need-returns-5
@@ -130,8 +139,8 @@ returns-5 c =
     let t = c .before in
     let e = earlier t in
     let m = first e in
-    let a = start (from m) .args in
-    too-many (inBytes (kindOf (a .kind))) (a .shape .now) (a .subsets .now) (a .masks) (a .values) (a .offsets .now) (kind-passed (from m)) (shape-counted m .passes) (subsets-passed e)
+    let a = start (from m) in
+    too-many (inBytes (kindOf (a .args .kind))) (a .args .shape .now) (a .args .subsets .now) (handed a) (kind-passed (from m)) (shape-counted m .passes) (subsets-passed e)
     (sum t) (summed t) (c .if3 .taken)
 
 returns-6 : tie.Need-returns-6
@@ -140,9 +149,9 @@ returns-6 c =
     let t = c .before in
     let e = earlier t in
     let m = first e in
-    let a = start (from m) .args in
+    let a = start (from m) in
     ap (λ (n : ℕ). gives (sized n e t)) (shape-counted m .is)
-    ∙ passes (inBytes (kindOf (a .kind))) (a .shape .now) (a .subsets .now) (a .masks) (a .values) (a .offsets .now) (kind-passed (from m)) (shape-counted m .passes) (subsets-passed e)
+    ∙ passes (inBytes (kindOf (a .args .kind))) (a .args .shape .now) (a .args .subsets .now) (handed a) (kind-passed (from m)) (shape-counted m .passes) (subsets-passed e)
     (sum t) (summed t) (c .if3 .left)
 
 pub check-merge-spec : {M : Type 1} → statement M

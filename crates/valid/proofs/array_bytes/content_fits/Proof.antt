@@ -3,21 +3,36 @@
 use native.Mathlib.Omega.{arith}
 use borrow.Author.Needs.{needs}
 use Rattle.array.specs.Limits.{mostCells}
+use Rattle.array.specs.Content.{Content}
 use Rattle.array.specs.Meaning.{orderOf, widthOf, placeOf}
+use Rattle.array.specs.Outcome.{contentArray}
 use Rattle.valid.proofs.CheckLaws.{small-product, masks-differ, by-form, bytes-differ, bytes-agree, offsets-miscounted, offsets-fall, offsets-rise}
 use Rattle.valid.proofs.array_bytes.content_fits.Statement.{statement}
 use Rattle.valid.proofs.array_bytes.content_fits.Tie as tie
+
+-- the places that the returns go back to, and the array
+abbrev entered : tie.After-struct-known → tie.Start
+entered c = c .before .before .before .before
+
+abbrev fixedCase : tie.After-known-told → tie.After-struct-known
+fixedCase c = c .before .before .before .before
+
+abbrev raggedCase : tie.After-enum-told → tie.After-struct-known
+raggedCase c = c .before .before .before
+
+abbrev content : tie.Start → Content
+content c = contentArray (c .args .masks .now) (c .args .values .now) (c .args .offsets .now)
 
 cast-depth : tie.Need-cast-depth
 cast-depth c = search needs
 
 mul-if1 : tie.Need-mul-if1
-mul-if1 c = let a = c .before .before in omega (arith, small-product (a .args .kind .depth) (a .args .cells) (omega arith) (a .pre))
+mul-if1 c = let a = entered c in omega (arith, small-product (a .args .kind .depth) (a .args .cells) (omega arith) (a .pre))
 
 returns : tie.Need-returns
 returns c =
-    let a = c .before .before .before .args in
-    masks-differ (a .kind) (a .cells) (a .masks) (a .values) (a .offsets .now) (c .if1 .taken)
+    let a = entered (c .before) in
+    masks-differ (a .args .kind) (a .args .cells) (content a) (c .if1 .taken)
 
 enum-known-form : tie.Need-enum-known-form
 enum-known-form c = search needs
@@ -26,14 +41,14 @@ cast-if2 : tie.Need-cast-if2
 cast-if2 c = search needs
 
 mul-if2 : tie.Need-mul-if2
-mul-if2 c = let a = c .before .before .before .before .before .before in omega (arith, small-product (c .before .form .given .0 .0) (a .args .cells) (omega arith) (a .pre))
+mul-if2 c = let a = entered (fixedCase c) in omega (arith, small-product (c .before .form .given .0 .0) (a .args .cells) (omega arith) (a .pre))
 
 returns-2 : tie.Need-returns-2
 returns-2 c =
-    let a = c .before .before .before .before .before .before .before .args in
+    let a = entered (fixedCase (c .before)) in
     let f = c .before .before .form .given in
-    by-form (a .kind) (a .cells) (a .masks) (a .values) (a .offsets .now) _ (f .1) (c .before .before .before .before .if1 .left)
-    (bytes-differ (a .cells) (a .values) (a .offsets .now) (f .0 .0) (orderOf (f .0 .1 .0)) (c .if2 .taken))
+    by-form (a .args .kind) (a .args .cells) (content a) _ (f .1) (c .before .before .before .before .if1 .left)
+    (bytes-differ (a .args .cells) (content a) (f .0 .0) (orderOf (f .0 .1 .0)) (c .if2 .taken))
 
 enum-told : tie.Need-enum-told
 enum-told c = search needs
@@ -44,20 +59,21 @@ add-if3 c = omega arith
 
 returns-3 : tie.Need-returns-3
 returns-3 c =
-    let a = c .before .before .before .before .before .before .args in
+    let a = entered (raggedCase (c .before)) in
     let f = c .before .enum-told .given in
-    by-form (a .kind) (a .cells) (a .masks) (a .values) (a .offsets .now) _ (f .1) (c .before .before .before .if1 .left)
-    (offsets-miscounted (a .cells) (a .values) (a .offsets .now) (widthOf (f .0 .0)) (placeOf (f .0 .1 .0)) (c .if3 .taken))
+    by-form (a .args .kind) (a .args .cells) (content a) _ (f .1) (c .before .before .before .if1 .left)
+    (offsets-miscounted (a .args .cells) (content a) (widthOf (f .0 .0)) (placeOf (f .0 .1 .0)) (c .if3 .taken))
 
 never-fall-requires : tie.Need-never-fall-requires
 never-fall-requires c κs = search needs
 
 returns-4 : tie.Need-returns-4
 returns-4 c =
-    let a = c .before .before .before .before .before .before .before .before .args in
-    let f = c .before .before .before .enum-told .given in
-    by-form (a .kind) (a .cells) (a .masks) (a .values) (a .offsets .now) _ (f .1) (c .before .before .before .before .before .if1 .left)
-    (offsets-fall (a .cells) (a .values) (a .offsets .now) (widthOf (f .0 .0)) (placeOf (f .0 .1 .0)) (c .before .before .if3 .left) _ (c .before .never-fall .ensures) (c .if4 .taken))
+    let told = c .before .before .before in
+    let a = entered (raggedCase told) in
+    let f = told .enum-told .given in
+    by-form (a .args .kind) (a .args .cells) (content a) _ (f .1) (told .before .before .if1 .left)
+    (offsets-fall (a .args .cells) (content a) (widthOf (f .0 .0)) (placeOf (f .0 .1 .0)) (c .before .before .if3 .left) _ (c .before .never-fall .ensures) (c .if4 .taken))
 
 mul-last : tie.Need-mul-last
 mul-last c = search needs
@@ -67,17 +83,18 @@ shared-slice-read-last c = search needs
 
 returns-5 : tie.Need-returns-5
 returns-5 c =
-    let a = c .before .before .before .before .before .before .before .args in
+    let a = entered (fixedCase (c .before)) in
     let f = c .before .before .form .given in
-    by-form (a .kind) (a .cells) (a .masks) (a .values) (a .offsets .now) _ (f .1) (c .before .before .before .before .if1 .left)
-    (bytes-agree (a .cells) (a .values) (a .offsets .now) (f .0 .0) (orderOf (f .0 .1 .0)) (c .if2 .left))
+    by-form (a .args .kind) (a .args .cells) (content a) _ (f .1) (c .before .before .before .before .if1 .left)
+    (bytes-agree (a .args .cells) (content a) (f .0 .0) (orderOf (f .0 .1 .0)) (c .if2 .left))
 
 returns-6 : tie.Need-returns-6
 returns-6 c =
-    let a = c .before .before .before .before .before .before .before .before .before .args in
-    let f = c .before .before .before .before .enum-told .given in
-    by-form (a .kind) (a .cells) (a .masks) (a .values) (a .offsets .now) _ (f .1) (c .before .before .before .before .before .before .if1 .left)
-    (offsets-rise (a .cells) (a .values) (a .offsets .now) (widthOf (f .0 .0)) (placeOf (f .0 .1 .0)) (c .before .before .before .if3 .left) _ (c .before .before .never-fall .ensures) (c .before .if4 .left))
+    let told = c .before .before .before .before in
+    let a = entered (raggedCase told) in
+    let f = told .enum-told .given in
+    by-form (a .args .kind) (a .args .cells) (content a) _ (f .1) (told .before .before .if1 .left)
+    (offsets-rise (a .args .cells) (content a) (widthOf (f .0 .0)) (placeOf (f .0 .1 .0)) (c .before .before .before .if3 .left) _ (c .before .before .never-fall .ensures) (c .before .if4 .left))
 
 pub content-fits-spec : {M : Type 1} → statement M
 content-fits-spec =

@@ -1,0 +1,77 @@
+-- `chunk_size` meets its contract: one law for each answer (proofs/OneChunk).
+-- Assumes nothing.
+use Prim.Native.Nat.{ℕ}
+use mathlib.Core.Path.{_≡_, sym, ap, _∙_}
+use mathlib.Core.List.{List}
+use native.Mathlib.Omega.{arith}
+use borrow.Author.Needs.{needs}
+use Rattle.array.specs.Meaning.{formOf, orderOf, widthOf, placeOf}
+use Rattle.array.specs.declared.kind.Values.{Values}
+use Rattle.valid.proofs.CheckLaws.{small-product}
+use Rattle.merge.specs.Chunks.{sizeAnswer}
+use Rattle.merge.proofs.OneChunk.{size-fixed, size-bad, size-ragged}
+use Rattle.merge.proofs.rules.chunk_size.Statement.{statement}
+use Rattle.merge.proofs.rules.chunk_size.Tie as tie
+
+-- what the form's cases say of the answer
+abbrev by : {x y : Values} (m : ℕ) (os : List ℕ) → x ≡ y → sizeAnswer (formOf y) m os ≡ sizeAnswer (formOf x) m os
+by m os e = ap (λ (z : Values). sizeAnswer (formOf z) m os) (sym e)
+
+enum-known-form : tie.Need-enum-known-form
+enum-known-form c = search needs
+
+cast-t6 : tie.Need-cast-t6
+cast-t6 c = search needs
+
+mul-t7 : tie.Need-mul-t7
+mul-t7 c = let a = c .before .before .before in omega (arith, small-product (c .before .form .given .0 .0) (a .args .cells) (omega arith) (a .pre))
+
+enum-told : tie.Need-enum-told
+enum-told c = search needs
+
+returns : tie.Need-returns
+returns c =
+    let f = c .before .enum-told .given in
+    let a = c .before .before .before .args in
+    size-bad (a .cells) (a .offsets .now) (widthOf (f .0 .0)) (placeOf (f .0 .1 .0)) (omega arith) ∙ by (a .cells) (a .offsets .now) (f .1)
+
+mul-t8 : tie.Need-mul-t8
+mul-t8 c = search needs
+
+shared-slice-read-t11 : tie.Need-shared-slice-read-t11
+shared-slice-read-t11 c = search needs
+
+shared-slice-read-t14 : tie.Need-shared-slice-read-t14
+shared-slice-read-t14 c = search needs
+
+add-t16 : tie.Need-add-t16
+add-t16 c = search needs
+
+returns-2 : tie.Need-returns-2
+returns-2 c =
+    let f = c .before .form .given in
+    let a = c .before .before .before .args in
+    size-fixed (a .cells) (a .offsets .now) (f .0 .0) (orderOf (f .0 .1 .0)) ∙ by (a .cells) (a .offsets .now) (f .1)
+
+returns-3 : tie.Need-returns-3
+returns-3 c =
+    let t = c .before .before .before in
+    let f = t .enum-told .given in
+    let a = t .before .before .args in
+    size-ragged (a .cells) (a .offsets .now) (widthOf (f .0 .0)) (placeOf (f .0 .1 .0)) (omega arith) ∙ by (a .cells) (a .offsets .now) (f .1)
+
+pub chunk-size-spec : {M : Type 1} → statement M
+chunk-size-spec =
+    tie.close
+    (tie.spec
+    enum-known-form
+    cast-t6
+    mul-t7
+    enum-told
+    returns
+    mul-t8
+    shared-slice-read-t11
+    shared-slice-read-t14
+    add-t16
+    returns-2
+    returns-3)
