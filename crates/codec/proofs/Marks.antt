@@ -1,13 +1,14 @@
 -- Set mask bytes, counted from the left.
 -- Assumes nothing.
-use mathlib.Core.Path.{_≡_, refl, sym, ap, _∙_}
+use mathlib.Core.Path.{_≡_, refl, sym, ap, ap₂, _∙_}
 use Prim.Native.Nat.{ℕ, zero, suc, _+_, _<_, _≤_}
 use native.Mathlib.Omega.{arith}
 use native.Mathlib.Numerals.{add-one}
 use mathlib.Core.List.{List, [], _∷_, _++_}
 use lib.ListN.{length, getD, take, drop, replicate, take-append-drop, drop-of-length-le}
 use lib.Seq.{drop-cons, drop-drop}
-use Rattle.codec.specs.Frame.{countSet}
+use Rattle.array.specs.Cells.{Mark, markOf}
+use Rattle.codec.specs.Frame.{countBy, countSet}
 
 pub count-one : (b : ℕ) → countSet (b ∷ []) ≤ 1
 count-one zero = omega arith
@@ -36,11 +37,9 @@ module _ (s : List ℕ) (i : ℕ) where
   pub count-next : i < length s → countSet (drop i s) ≡ countSet (getD s i 0 ∷ []) + countSet (drop (i + 1) s)
   count-next h = ap countSet (drop-cons s i 0 h) ∙ count-cons (getD s i 0) (drop (suc i) s) ∙ ap (λ (k : ℕ). countSet (getD s i 0 ∷ []) + countSet (drop k s)) (sym (add-one i))
 
-  pub count-null : i < length s → getD s i 0 ≡ 0 → countSet (drop i s) ≡ countSet (drop (i + 1) s)
-  count-null h e = omega (arith, count-next h, ap (λ (b : ℕ). countSet (b ∷ [])) e)
-
-  pub count-more : i < length s → getD s i 0 ≡ 1 → countSet (drop i s) ≡ suc (countSet (drop (i + 1) s))
-  count-more h e = omega (arith, count-next h, ap (λ (b : ℕ). countSet (b ∷ [])) e)
+  -- by what the byte says
+  pub count-mark : i < length s → {m : Mark} → markOf (getD s i 0) ≡ m → countSet (drop i s) ≡ countBy m (countSet (drop (i + 1) s))
+  count-mark h e = ap countSet (drop-cons s i 0 h) ∙ ap₂ (λ (m : Mark) (k : ℕ). countBy m (countSet (drop k s))) e (sym (add-one i))
 
   pub count-end : length s ≤ i → countSet (drop i s) ≡ 0
   count-end h = ap countSet (drop-of-length-le s h)

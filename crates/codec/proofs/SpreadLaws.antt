@@ -8,7 +8,7 @@ use mathlib.Core.List.{List, [], _∷_, _++_, map}
 use lib.ListN.{length, take, drop, getD, replicate}
 use lib.Seq.{drop-cons}
 use Rattle.array.specs.Lists.{joined}
-use Rattle.array.specs.Cells.{Value, Cell, markOf, maskOf, inners, leaf, blank}
+use Rattle.array.specs.Cells.{Value, Cell, Mark, markOf, maskOf, inners, leaf, blank}
 use Rattle.array.specs.Content.{masksOf, leaves}
 use Rattle.array.proofs.Lists.{map-map}
 use Rattle.codec.specs.Frame.{countSet, nextBy, leftBy, expand}
@@ -54,14 +54,11 @@ count-spread (suc zero ∷ p) (suc zero ∷ m) e = ap suc (count-spread p m (ome
 count-spread (suc zero ∷ p) (suc (suc x) ∷ m) e = count-spread p m (omega arith)
 count-spread (suc (suc k) ∷ p) m e = count-spread p m e
 
--- from the byte i on
-pub spread-null : {A : Type 0} (z : A) (p : List ℕ) (i : ℕ) (xs : List A) → i < length p → getD p i 0 ≡ 0 → spread z (drop i p) xs ≡ z ∷ spread z (drop (i + 1) p) xs
-spread-null {A} z p i xs h e =
-    ap (λ (l : List ℕ). spread z l xs) (drop-cons p i 0 h ∙ ap (λ (x : ℕ). x ∷ drop (suc i) p) e) ∙ ap (λ (j : ℕ). z ∷ spread z (drop j p) xs) (sym (add-one i))
-
-pub spread-set : {A : Type 0} (z : A) (p : List ℕ) (i : ℕ) (x : A) (xs : List A) → i < length p → getD p i 0 ≡ 1 → spread z (drop i p) (x ∷ xs) ≡ x ∷ spread z (drop (i + 1) p) xs
-spread-set {A} z p i x xs h e =
-    ap (λ (l : List ℕ). spread z l (x ∷ xs)) (drop-cons p i 0 h ∙ ap (λ (b : ℕ). b ∷ drop (suc i) p) e) ∙ ap (λ (j : ℕ). x ∷ spread z (drop j p) xs) (sym (add-one i))
+-- from the byte i on, by what it says
+pub spread-mark : {A : Type 0} (z : A) (p : List ℕ) (i : ℕ) (xs : List A) → i < length p → {m : Mark} → markOf (getD p i 0) ≡ m
+    → spread z (drop i p) xs ≡ nextBy m z xs ∷ spread z (drop (i + 1) p) (leftBy m xs)
+spread-mark z p i xs h e =
+    ap (λ (l : List ℕ). spread z l xs) (drop-cons p i 0 h) ∙ ap₂ (λ (m : Mark) (j : ℕ). nextBy m z xs ∷ spread z (drop j p) (leftBy m xs)) e (sym (add-one i))
 
 -- spreading commutes with what is done to each element
 pub spread-map : {A B : Type 0} (f : A → B) (z : A) (ms : List ℕ) (xs : List A) → map f (spread z ms xs) ≡ spread (f z) ms (map f xs)

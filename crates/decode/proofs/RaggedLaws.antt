@@ -43,15 +43,18 @@ rising-above : (a f : ℕ) (os : List ℕ) → f ≤ a → RisingFrom a os → A
 rising-above a f [] h r = tt
 rising-above a f (b ∷ os) h r = (omega (arith, r .0), rising-above b f os (omega (arith, r .0)) (r .1))
 
+-- a cell with no bytes ends where the one before does
+no-bytes : (a : ℕ) (p : List ℕ) (vs : List Value) {t : List ℕ} → ends a (spread [] p vs) ≡ t → ends a ([] ∷ spread [] p vs) ≡ a ∷ t
+no-bytes a p vs e = ap₂ (λ (x : ℕ) (t : List ℕ). x ∷ t) (add-zero a) (ap (λ (x : ℕ). ends x (spread [] p vs)) (add-zero a) ∙ e)
+
 -- the ends of the values, spread over a plane
 ends-by : (f a prev : ℕ) (p os dat : List ℕ) → f ≤ prev → a ≡ prev - f → RisingFrom prev os → lastFrom prev os ≤ length dat
     → ends a (spread [] p (slicesFrom prev os dat)) ≡ endsBy f a p os
 ends-by f a prev [] os dat h e r l = refl
-ends-by f a prev (zero ∷ p) os dat h e r l =
-    ap₂ (λ (x : ℕ) (t : List ℕ). x ∷ t) (add-zero a) (ap (λ (x : ℕ). ends x (spread [] p (slicesFrom prev os dat))) (add-zero a) ∙ ends-by f a prev p os dat h e r l)
-ends-by f a prev (suc m ∷ p) [] dat h e r l =
-    ap₂ (λ (x : ℕ) (t : List ℕ). x ∷ t) (add-zero a) (ap (λ (x : ℕ). ends x (spread [] p [])) (add-zero a) ∙ ends-by f a prev p [] dat h e r l)
-ends-by f a prev (suc m ∷ p) (b ∷ os) dat h e r l =
+ends-by f a prev (zero ∷ p) os dat h e r l = no-bytes a p (slicesFrom prev os dat) (ends-by f a prev p os dat h e r l)
+ends-by f a prev (suc (suc m) ∷ p) os dat h e r l = no-bytes a p (slicesFrom prev os dat) (ends-by f a prev p os dat h e r l)
+ends-by f a prev (suc zero ∷ p) [] dat h e r l = no-bytes a p [] (ends-by f a prev p [] dat h e r l)
+ends-by f a prev (suc zero ∷ p) (b ∷ os) dat h e r l =
     let v : List ℕ = take (b - prev) (drop prev dat) in
     let q : b ≤ lastFrom b os = rising-le b os (r .1) in
     let lv : length v ≡ b - prev = length-take-le (b - prev) (drop prev dat) (omega (arith, length-drop prev dat)) in
@@ -62,8 +65,9 @@ joined-spread : (p : List ℕ) (vs : List Value) → countSet p ≡ length vs �
 joined-spread [] [] e = refl
 joined-spread [] (v ∷ vs) e = absurd (omega arith)
 joined-spread (zero ∷ p) vs e = joined-spread p vs e
-joined-spread (suc m ∷ p) [] e = absurd (omega arith)
-joined-spread (suc m ∷ p) (v ∷ vs) e = ap (λ (r : List ℕ). v ++ r) (joined-spread p vs (omega arith))
+joined-spread (suc (suc m) ∷ p) vs e = joined-spread p vs e
+joined-spread (suc zero ∷ p) [] e = absurd (omega arith)
+joined-spread (suc zero ∷ p) (v ∷ vs) e = ap (λ (r : List ℕ). v ++ r) (joined-spread p vs (omega arith))
 
 -- the values between rising offsets, end to end, are one run of bytes
 joined-run : (a : ℕ) (os dat : List ℕ) → RisingFrom a os → joined (slicesFrom a os dat) ≡ take (lastFrom a os - a) (drop a dat)

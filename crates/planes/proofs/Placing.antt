@@ -8,15 +8,15 @@ use native.Mathlib.Numerals.{add-one}
 use lib.ListN.{length, take, drop, getD, set, replicate, length-append, length-drop}
 use lib.Seq.{drop-cons, drop-at, take-at, take-take, take-append-le, length-take-le, getD-append-add, getD-drop}
 use Rattle.array.specs.Kind.{Masks}
-use Rattle.array.specs.Cells.{Mark, isNull, isSet, markOf}
+use Rattle.array.specs.Cells.{Mark, isNull, isSet, isOther, markOf}
 use Rattle.array.specs.Buffers.{overAt}
 use Rattle.array.proofs.Over.{over-at-length}
 use Rattle.array.proofs.Laying.{Laying, laying-begins, laying-same, laying-ends, laying-part, laying-store, laying-is, laying-before}
 use Rattle.codec.specs.Mask.{maskForm}
 use Rattle.codec.specs.Frame.{countSet}
 use Rattle.codec.specs.Spread.{spread}
-use Rattle.codec.proofs.Marks.{null-byte, set-byte, count-null, count-more, count-le}
-use Rattle.codec.proofs.SpreadLaws.{length-spread, spread-none, spread-all, spread-null, spread-set}
+use Rattle.codec.proofs.Marks.{count-mark, count-le}
+use Rattle.codec.proofs.SpreadLaws.{length-spread, spread-none, spread-all, spread-mark}
 use Rattle.mask.specs.Marks.{saidMask}
 use Rattle.mask.proofs.Said.{length-said}
 use Rattle.stored.proofs.IndexLaws.{drop-take}
@@ -151,15 +151,13 @@ module _ {d : List ℕ} {from to n cells : ℕ} {out : List ℕ} {i j : ℕ} (l 
       -- the next cell, and what is left then
       next : (m : Mark) → markOf (getD plane i 0) ≡ m → (nextAt m j 1 + countSet (drop (i + 1) plane) ≡ cells)
           × (spread 0 (drop i plane) (drop j bytes) ≡ ifSet m (getD bytes j 0) 0 ∷ spread 0 (drop (i + 1) plane) (drop (nextAt m j 1) bytes))
-      next isNull e =
-          let b : getD plane i 0 ≡ 0 = null-byte (getD plane i 0) e in
-          (omega (arith, l .count, count-null plane i inside b), spread-null 0 plane i (drop j bytes) inside b)
-      next isSet e =
-          let b = set-byte (getD plane i 0) e in (
-            omega (arith, l .count, count-more plane i inside b),
-            ap (spread 0 (drop i plane)) (drop-cons bytes j 0 (omega (arith, long (l .start)))) ∙ spread-set 0 plane i (getD bytes j 0) (drop (suc j) bytes) inside b
-                ∙ ap (λ (k : ℕ). getD bytes j 0 ∷ spread 0 (drop (i + 1) plane) (drop k bytes)) (sym (add-one j)),
-          )
+      next isNull e = (omega (arith, l .count, count-mark plane i inside e), spread-mark 0 plane i (drop j bytes) inside e)
+      next isOther e = (omega (arith, l .count, count-mark plane i inside e), spread-mark 0 plane i (drop j bytes) inside e)
+      next isSet e = (
+        omega (arith, l .count, count-mark plane i inside e),
+        ap (spread 0 (drop i plane)) (drop-cons bytes j 0 (omega (arith, long (l .start)))) ∙ spread-mark 0 plane i (getD bytes j 0 ∷ drop (suc j) bytes) inside e
+            ∙ ap (λ (k : ℕ). getD bytes j 0 ∷ spread 0 (drop (i + 1) plane) (drop k bytes)) (sym (add-one j)),
+      )
 
       -- b is what the cell gets of the byte that is read for it
       pub placing-more : {b : ℕ} → b ≡ ifSet m (getD out (to + (n - cells) + j) 0) 0 → Placing d from to n cells (set out (to + i) b) (i + 1) (nextAt m j 1)

@@ -1,14 +1,14 @@
 // Mask planes, outermost first. Each level goes straight into its plane: what its stored mask says, spread over the plane above.
 use array::kind::MaskForm;
+use array::mark::mark_of;
 use buffer::copy::fill_bytes;
 use mask::form::copy_to_plane;
 use mask::form::count_stored;
 use mask::form::mask_length;
-use mask::mark::mark_of;
 use spread::next::byte_if;
 use spread::next::skip;
 ghost use mathlib.Core.Path.{_≡_};
-ghost use Prim.Native.Nat.{_+_, _-_, _≤_};
+ghost use Prim.Native.Nat.{_+_, _-_};
 ghost use lib.ListN.{take, drop};
 ghost use Rattle.array.specs.Meaning.{masksOf};
 ghost use Rattle.array.specs.Buffers.{over, overAt};

@@ -1,6 +1,6 @@
 -- Values of two words each.
 -- Assumes nothing.
-use mathlib.Core.Path.{_≡_, sym, ap, ap₂, _∙_}
+use mathlib.Core.Path.{_≡_, refl, sym, ap, ap₂, _∙_}
 use mathlib.Core.List.{List, _++_, reverse, reverse-append, append-assoc}
 use Prim.Native.Nat.{ℕ, _+_, _-_, _*_, _≤_, _<_}
 use native.Mathlib.Omega.{arith}
@@ -8,13 +8,12 @@ use lib.ListN.{length, take, drop, replicate, length-append}
 use lib.Seq.{take-add, drop-drop, length-take-le}
 use Rattle.array.specs.Bytes.{le}
 use Rattle.array.specs.Kind.{Order, little, big, ordered}
-use Rattle.array.specs.Cells.{Mark, isNull, isSet}
+use Rattle.array.specs.Cells.{Mark, isNull, isSet, isOther}
 use Rattle.array.specs.Buffers.{over, overAt}
 use Rattle.array.proofs.Bytes.{length-le}
 use Rattle.array.proofs.Over.{over-again}
-use Rattle.word.proofs.Words.{le-zero}
 use Rattle.spread.specs.Next.{ifSet, wordAt, firstWord}
-use Rattle.spread.proofs.SpreadingValues.{word-left}
+use Rattle.spread.proofs.SpreadingValues.{word-left, word-cell}
 
 -- two words written one after the other
 pub pair-laid : (at x y : ℕ) (d m out : List ℕ) → at + 16 ≤ length d → m ≡ overAt at (le 8 x) d → out ≡ overAt (at + 8) (le 8 y) m → out ≡ overAt at (le 8 x ++ le 8 y) d
@@ -46,10 +45,16 @@ module _ (s : List ℕ) (at k cells : ℕ) (h : k < cells) where
       ap₂ (λ (a b : List ℕ). a ++ b) ev eu
       ∙ ap (λ (a : ℕ). wordAt 8 o s at (2 * k + a) (2 * cells) ++ wordAt 8 o s at (2 * k + (1 - a)) (2 * cells)) e ∙ words o
 
+both : {A : Type 0} (m : Mark) (x y z w : List A) → ifSet m x z ++ ifSet m y w ≡ ifSet m (x ++ y) (z ++ w)
+both isNull x y z w = refl
+both isSet x y z w = refl
+both isOther x y z w = refl
+
 -- the words x and y are the stored ones, or 0
 pub pair-cell : (m : Mark) (x y v u : ℕ) (q : List ℕ) → x ≡ ifSet m v 0 → y ≡ ifSet m u 0 → le 8 v ++ le 8 u ≡ q → le 8 x ++ le 8 y ≡ ifSet m q (replicate 16 0)
-pair-cell isNull x y v u q ex ey e = ap₂ (λ (a b : List ℕ). a ++ b) (ap (le 8) ex ∙ le-zero 8) (ap (le 8) ey ∙ le-zero 8)
-pair-cell isSet x y v u q ex ey e = ap₂ (λ (a b : List ℕ). a ++ b) (ap (le 8) ex) (ap (le 8) ey) ∙ e
+pair-cell m x y v u q ex ey e =
+    ap₂ (λ (a b : List ℕ). a ++ b) (word-cell 8 m x v (le 8 v) ex refl) (word-cell 8 m y u (le 8 u) ey refl)
+    ∙ both m (le 8 v) (le 8 u) (replicate 8 0) (replicate 8 0) ∙ ap (λ (p : List ℕ). ifSet m p (replicate 16 0)) e
 
 pub first-most : (o : Order) → firstWord o ≤ 1
 first-most little = omega arith

@@ -7,7 +7,7 @@ use native.Mathlib.Omega.{arith}
 use native.Mathlib.Nat.{suc-mul, mul-le-mul-right}
 use lib.ListN.{length, take, drop, getD, length-drop}
 use lib.Seq.{length-take-le, getD-drop, getD-take}
-use Rattle.array.specs.Cells.{Mark, isNull, isSet}
+use Rattle.array.specs.Cells.{Mark, isNull, isSet, isOther}
 use Rattle.spread.specs.Next.{nextAt}
 
 -- the plane of n cells at `from`
@@ -24,6 +24,7 @@ plane-byte from n d i h = sym (getD-take n (drop from d) i 0 h ∙ getD-drop fro
 pub next-most : (m : Mark) (k n : ℕ) → k < n → nextAt m k 1 ≤ n
 next-most isNull k n h = omega arith
 next-most isSet k n h = omega arith
+next-most isOther k n h = omega arith
 
 -- the next of the stored ones, of w bytes each, lies within them
 pub next-within : (w at k cells l : ℕ) → k < cells → at + cells * w ≤ l → at + k * w + w ≤ l

@@ -10,35 +10,25 @@ use lib.ListN.{length, take, drop, getD, set, replicate, length-drop}
 use lib.Seq.{drop-drop, drop-cons}
 use Rattle.array.specs.Lists.{All}
 use Rattle.array.specs.Bytes.{unle}
-use Rattle.array.specs.Cells.{Mark, isNull, isSet, markOf}
+use Rattle.array.specs.Cells.{Mark, isNull, isSet, isOther, markOf}
 use Rattle.array.specs.Buffers.{over, overAt}
 use Rattle.array.proofs.Laying.{Laying, laying-begins, laying-same, laying-ends, laying-part, laying-store, laying-is, laying-room}
-use Rattle.codec.specs.Frame.{countSet}
+use Rattle.codec.specs.Frame.{countBy, countSet, leftBy}
 use Rattle.stored.specs.Index.{offsetsIn}
-use Rattle.codec.proofs.Marks.{null-byte, set-byte, count-le, count-null, count-more}
+use Rattle.codec.proofs.Marks.{count-le, count-mark}
 use Rattle.spread.specs.Next.{ifSet, nextAt}
-use Rattle.spread.specs.Ends.{endsBy}
+use Rattle.spread.specs.Ends.{endBy, endsBy}
 
 length-ends-by : (f t : ℕ) (p os : List ℕ) → length (endsBy f t p os) ≡ length p
 length-ends-by f t [] os = refl
-length-ends-by f t (zero ∷ p) os = ap suc (length-ends-by f t p os)
-length-ends-by f t (suc m ∷ p) [] = ap suc (length-ends-by f t p [])
-length-ends-by f t (suc m ∷ p) (b ∷ os) = ap suc (length-ends-by f (b - f) p os)
+length-ends-by f t (m ∷ p) os = ap suc (length-ends-by f (endBy (markOf m) f t os) p (leftBy (markOf m) os))
 
 -- with no cell set nothing is added
 ends-none : (f t : ℕ) (p os : List ℕ) → countSet p ≡ 0 → endsBy f t p os ≡ replicate (length p) t
 ends-none f t [] os e = refl
 ends-none f t (zero ∷ p) os e = ap (λ (l : List ℕ). t ∷ l) (ends-none f t p os e)
-ends-none f t (suc m ∷ p) os e = absurd (omega arith)
-
--- the first cell of what is left
-ends-null : (f t b : ℕ) (p os : List ℕ) → b ≡ 0 → endsBy f t (b ∷ p) os ≡ t ∷ endsBy f t p os
-ends-null f t zero p os e = refl
-ends-null f t (suc b) p os e = absurd (omega arith)
-
-ends-set : (f t b x : ℕ) (p os : List ℕ) → (b ≡ 0 → ⊥) → endsBy f t (b ∷ p) (x ∷ os) ≡ (x - f) ∷ endsBy f (x - f) p os
-ends-set f t zero x p os g = absurd (g refl)
-ends-set f t (suc b) x p os g = refl
+ends-none f t (suc zero ∷ p) os e = absurd (omega arith)
+ends-none f t (suc (suc m) ∷ p) os e = ap (λ (l : List ℕ). t ∷ l) (ends-none f t p os e)
 
 -- all offsets of the plane p: f is the first stored offset, and the ends of the set cells are stored from `at` on
 abbrev pub endsOf : ℕ → ℕ → List ℕ → List ℕ → ℕ → List ℕ
@@ -97,39 +87,42 @@ module _ {w f : ℕ} {p s d : List ℕ} {at cells : ℕ} {out : List ℕ} {end i
     rest-is : drop i p ≡ getD p i 0 ∷ drop (i + 1) p
     rest-is = drop-cons p i 0 ends-inside ∙ ap (λ (k : ℕ). getD p i 0 ∷ drop k p) (sym (add-one i))
 
-    -- the next cell's end, and what is left then
-    record Next (m : Mark) : Type 0 where
-      taken : nextAt m k 1 + countSet (drop (i + 1) p) ≡ cells
-      later : All (λ o. f ≤ o) (offsetsIn w (countSet (drop (i + 1) p)) (drop (at + nextAt m k 1 * w) s))
-      is : endsBy f end (drop i p) (offsetsIn w (countSet (drop i p)) (drop (at + k * w) s))
-          ≡ ifSet m (unle (take w (drop (at + k * w) s)) - f) end
-          ∷ endsBy f (ifSet m (unle (take w (drop (at + k * w) s)) - f) end) (drop (i + 1) p) (offsetsIn w (countSet (drop (i + 1) p)) (drop (at + nextAt m k 1 * w) s))
+    abbrev later : ℕ
+    later = countSet (drop (i + 1) p)
 
-    next : (m : Mark) → m ≡ markOf (getD p i 0) → Next m
-    next isNull e =
-        let b : getD p i 0 ≡ 0 = null-byte (getD p i 0) (sym e) in
-        let n = count-null p i ends-inside b in
-        let q : List ℕ = drop (at + k * w) s in
-        record {
-          taken = omega (arith, c .count);
-          later = subst (λ (k : ℕ). All (λ o. f ≤ o) (offsetsIn w k q)) n (c .above);
-          is = ap₂ (λ (l : List ℕ) (k : ℕ). endsBy f end l (offsetsIn w k q)) rest-is n
-              ∙ ends-null f end (getD p i 0) (drop (i + 1) p) (offsetsIn w (countSet (drop (i + 1) p)) q) b;
-        }
+    -- where the next cell ends, how many are taken then, and what is left
+    record Next (t taken : ℕ) : Type 0 where
+      count : taken + later ≡ cells
+      above : All (λ o. f ≤ o) (offsetsIn w later (drop (at + taken * w) s))
+      is : endsBy f end (drop i p) (offsetsIn w (countSet (drop i p)) (drop (at + k * w) s)) ≡ t ∷ endsBy f t (drop (i + 1) p) (offsetsIn w later (drop (at + taken * w) s))
+
+    module _ {m : Mark} (e : m ≡ markOf (getD p i 0)) where
+      abbrev ends-left : List ℕ
+      ends-left = offsetsIn w (countBy m later) (drop (at + k * w) s)
+
+      counted : countSet (drop i p) ≡ countBy m later
+      counted = count-mark p i ends-inside (sym e)
+
+      above-left : All (λ o. f ≤ o) ends-left
+      above-left = subst (λ (n : ℕ). All (λ o. f ≤ o) (offsetsIn w n (drop (at + k * w) s))) counted (c .above)
+
+      by-mark : endsBy f end (drop i p) (offsetsIn w (countSet (drop i p)) (drop (at + k * w) s))
+          ≡ endBy m f end ends-left ∷ endsBy f (endBy m f end ends-left) (drop (i + 1) p) (leftBy m ends-left)
+      by-mark =
+          ap₂ (λ (l : List ℕ) (n : ℕ). endsBy f end l (offsetsIn w n (drop (at + k * w) s))) rest-is counted
+          ∙ ap (λ (m : Mark). endBy m f end ends-left ∷ endsBy f (endBy m f end ends-left) (drop (i + 1) p) (leftBy m ends-left)) (sym e)
+
+    next : (m : Mark) → m ≡ markOf (getD p i 0) → Next (ifSet m (unle (take w (drop (at + k * w) s)) - f) end) (nextAt m k 1)
+    next isNull e = record { count = omega (arith, c .count, counted e); above = above-left e; is = by-mark e }
+    next isOther e = record { count = omega (arith, c .count, counted e); above = above-left e; is = by-mark e }
     next isSet e =
-        let b = set-byte (getD p i 0) (sym e) in
-        let n = count-more p i ends-inside b in
-        let r : ℕ = countSet (drop (i + 1) p) in
         let q : List ℕ = drop (at + k * w) s in
         let j : at + k * w + w ≡ at + (k + 1) * w = omega (arith, add-mul k 1 w) in
         let dr : drop w q ≡ drop (at + (k + 1) * w) s = drop-drop w (at + k * w) s ∙ ap (λ (a : ℕ). drop a s) j in
-        let a : All (λ o. f ≤ o) (offsetsIn w (suc r) q) = subst (λ (k : ℕ). All (λ o. f ≤ o) (offsetsIn w k q)) n (c .above) in
         record {
-          taken = omega (arith, c .count);
-          later = subst (λ (l : List ℕ). All (λ o. f ≤ o) (offsetsIn w r l)) dr (a .1);
-          is = ap₂ (λ (l : List ℕ) (k : ℕ). endsBy f end l (offsetsIn w k q)) rest-is n
-              ∙ ends-set f end (getD p i 0) (unle (take w q)) (drop (i + 1) p) (offsetsIn w r (drop w q)) b
-              ∙ ap (λ (l : List ℕ). (unle (take w q) - f) ∷ endsBy f (unle (take w q) - f) (drop (i + 1) p) (offsetsIn w r l)) dr;
+          count = omega (arith, c .count, counted e);
+          above = subst (λ (l : List ℕ). All (λ o. f ≤ o) (offsetsIn w later l)) dr (above-left e .1);
+          is = by-mark e ∙ ap (λ (l : List ℕ). (unle (take w q) - f) ∷ endsBy f (unle (take w q) - f) (drop (i + 1) p) (offsetsIn w later l)) dr;
         }
 
     pub ends-more : (m : Mark) → m ≡ markOf (getD p i 0) → (t : ℕ) → t ≡ ifSet m (unle (take w (drop (at + k * w) s)) - f) end
@@ -137,8 +130,8 @@ module _ {w f : ℕ} {p s d : List ℕ} {at cells : ℕ} {out : List ℕ} {end i
     ends-more m e t et = record {
       within = omega (arith, ends-inside);
       enough = c .enough;
-      count = next m e .taken;
-      above = next m e .later;
+      count = next m e .count;
+      above = next m e .above;
       laid = laying-is stored (next m e .is ∙ ap (λ (x : ℕ). x ∷ endsBy f x (drop (i + 1) p) (offsetsIn w (countSet (drop (i + 1) p)) (drop (at + nextAt m k 1 * w) s))) (sym et));
     }
       where

@@ -1,7 +1,6 @@
 -- Writing the values of a plane's cells: what is left to write, run by run.
 -- Assumes nothing.
 use mathlib.Core.Path.{_≡_, refl, sym, ap, ap₂, _∙_, subst}
-use mathlib.Core.Logic.{_≢_}
 use mathlib.Core.Bool.{Bool, true, false}
 use mathlib.Core.List.{List, [], _∷_, _++_, map, append-nil}
 use Prim.Native.Nat.{ℕ, zero, suc, _+_, _-_, _*_, _≤_, _<_}
@@ -13,14 +12,14 @@ use borrow.Author.Tests.{lt-ltb, le-ltb}
 use Rattle.array.specs.Lists.{pick, pieces}
 use Rattle.array.specs.Bytes.{le}
 use Rattle.array.specs.Kind.{Order, ordered}
-use Rattle.array.specs.Cells.{Value, Mark, isNull, isSet, markOf}
+use Rattle.array.specs.Cells.{Value, Mark, isNull, isSet, isOther, markOf}
 use Rattle.array.specs.Buffers.{over, overAt}
 use Rattle.array.proofs.Lists.{Sized, length-joined, length-pieces}
 use Rattle.array.proofs.Sizes.{length-ordered}
 use Rattle.array.proofs.Laying.{Laying, laying-begins, laying-same, laying-ends, laying-part, laying-is}
-use Rattle.codec.specs.Frame.{countSet}
+use Rattle.codec.specs.Frame.{countBy, countSet}
 use Rattle.codec.specs.Spread.{spread}
-use Rattle.codec.proofs.Marks.{null-byte, set-byte, count-le, count-block}
+use Rattle.codec.proofs.Marks.{count-le, count-block}
 use Rattle.codec.proofs.SpreadLaws.{length-spread}
 use Rattle.word.proofs.Words.{le-zero}
 use Rattle.spread.specs.Runs.{markRun}
@@ -41,8 +40,9 @@ sized-ordered o size (suc n) q h =
 sized-spread : (z : Value) (size : ℕ) (p : List ℕ) (vs : List Value) → length z ≡ size → Sized size vs → Sized size (spread z p vs)
 sized-spread z size [] vs e h = tt
 sized-spread z size (zero ∷ p) vs e h = (e, sized-spread z size p vs e h)
-sized-spread z size (suc m ∷ p) [] e h = (e, sized-spread z size p [] e tt)
-sized-spread z size (suc m ∷ p) (v ∷ vs) e h = (h .0, sized-spread z size p vs e (h .1))
+sized-spread z size (suc zero ∷ p) [] e h = (e, sized-spread z size p [] e tt)
+sized-spread z size (suc zero ∷ p) (v ∷ vs) e h = (h .0, sized-spread z size p vs e (h .1))
+sized-spread z size (suc (suc m) ∷ p) vs e h = (e, sized-spread z size p vs e h)
 
 module _ (size : ℕ) (o : Order) where
   pub cells-length : (s : List ℕ) (n at : ℕ) → at + n * size ≤ length s → length (cellsLeft size o s n at) ≡ n * size
@@ -168,7 +168,7 @@ values-all {size} {o} {p} {s} {d} {at} {cells} v n en ec out eo =
     let e : 0 + n ≡ length p = omega arith in
     values-whole (values-sets v n (omega arith) (ap countSet t ∙ omega (arith, v .count)) out (eo ∙ ap₂ (λ (i j : ℕ). overAt i (cellsLeft size o s n j) d) z a)) e
 
--- ---- a null run and a set run more
+-- ---- a run of cells that are not set and one of set cells more
 
 module _ {size : ℕ} {o : Order} {p s d : List ℕ} {at cells : ℕ} {out : List ℕ} {i k : ℕ} (v : SpreadingValues size o p s d at cells out i k) (r : ℕ) where
   module _ (e : r ≡ markRun false (drop i p)) where
@@ -210,22 +210,28 @@ module _ {size : ℕ} {o : Order} {p s d : List ℕ} {at cells : ℕ} {out : Lis
   first : take 1 (drop i p) ≡ getD p i 0 ∷ []
   first = ap (take 1) (drop-cons p i 0 h)
 
-  one : (b : ℕ) → b ≢ 0 → countSet (b ∷ []) ≡ 1
-  one zero g = absurd (g refl)
-  one (suc b) g = refl
+  counted : {m : Mark} → m ≡ markOf (getD p i 0) → countSet (take 1 (drop i p)) ≡ countBy m 0
+  counted e = ap countSet first ∙ ap (λ (m : Mark). countBy m 0) (sym e)
+
+  unset-cell : countSet (take 1 (drop i p)) ≡ 0 → (g : List ℕ) → g ≡ replicate size 0 → (out′ : List ℕ) → out′ ≡ overAt (i * size) g out → SpreadingValues size o p s d at cells out′ (i + 1) k
+  unset-cell c g eg out′ eo =
+      values-nulls v 1 (omega arith) c out′
+      (eo ∙ ap (λ (l : List ℕ). overAt (i * size) l out) (eg ∙ ap (λ (k : ℕ). replicate {A = ℕ} k 0) (sym (one-mul size))))
 
   -- g is the stored value, or zero bytes
   pub values-cell : (m : Mark) → m ≡ markOf (getD p i 0) → (g : List ℕ) → g ≡ ifSet m (ordered o (take size (drop (at + k * size) s))) (replicate size 0)
       → (out′ : List ℕ) → out′ ≡ overAt (i * size) g out → SpreadingValues size o p s d at cells out′ (i + 1) (nextAt m k 1)
-  values-cell isNull e g eg out′ eo =
-      let b : getD p i 0 ≡ 0 = null-byte (getD p i 0) (sym e) in
-      values-nulls v 1 (omega arith) (ap countSet first ∙ ap (λ (b : ℕ). countSet (b ∷ [])) b) out′
-      (eo ∙ ap (λ (l : List ℕ). overAt (i * size) l out) (eg ∙ ap (λ (k : ℕ). replicate {A = ℕ} k 0) (sym (one-mul size))))
+  values-cell isNull e g eg out′ eo = unset-cell (counted e) g eg out′ eo
+  values-cell isOther e g eg out′ eo = unset-cell (counted e) g eg out′ eo
   values-cell isSet e g eg out′ eo =
-      values-sets v 1 (omega arith) (ap countSet first ∙ one (getD p i 0) (set-byte (getD p i 0) (sym e))) out′
+      values-sets v 1 (omega arith) (counted e) out′
       (eo ∙ ap (λ (l : List ℕ). overAt (i * size) l out) (eg ∙ sym (append-nil (ordered o (take size (drop (at + k * size) s))))))
 
 -- the word w is the stored one, or 0
 pub word-cell : (size : ℕ) (m : Mark) (w x : ℕ) (q : List ℕ) → w ≡ ifSet m x 0 → le size x ≡ q → le size w ≡ ifSet m q (replicate size 0)
-word-cell size isNull w x q ew ex = ap (le size) ew ∙ le-zero size
-word-cell size isSet w x q ew ex = ap (le size) ew ∙ ex
+word-cell size m w x q ew ex = ap (le size) ew ∙ of-one m ∙ ap₂ (ifSet m) ex (le-zero size)
+  where
+    of-one : (m : Mark) → le size (ifSet m x 0) ≡ ifSet m (le size x) (le size 0)
+    of-one isNull = refl
+    of-one isSet = refl
+    of-one isOther = refl

@@ -1,4 +1,4 @@
--- What a plane takes for a run of cells that are all null, or all set, and what is left then.
+-- What a plane takes for a run of cells that are all set, or all not, and what is left then.
 -- Assumes nothing.
 use mathlib.Core.Path.{_≡_, refl, sym, ap, ap₂, _∙_}
 use mathlib.Core.List.{List, [], _∷_, _++_, map}
@@ -14,7 +14,7 @@ use Rattle.array.specs.Buffers.{over}
 use Rattle.array.proofs.Lists.{map-append, length-pieces, joined-append}
 use Rattle.codec.specs.Frame.{countSet}
 use Rattle.codec.specs.Spread.{spread}
-use Rattle.codec.proofs.Marks.{count-block}
+use Rattle.codec.proofs.Marks.{count-one, count-cons, count-block}
 use Rattle.spread.specs.Values.{valuesOver}
 
 -- ---- lists
@@ -42,13 +42,13 @@ spread-nulls : {A : Type 0} (z : A) (r : ℕ) (p : List ℕ) (xs : List A) → r
 spread-nulls z zero p xs h e = refl
 spread-nulls z (suc r) [] xs h e = absurd (omega arith)
 spread-nulls {A} z (suc r) (zero ∷ p) xs h e = ap (λ (l : List A). z ∷ l) (spread-nulls z r p xs (omega arith) e)
-spread-nulls z (suc r) (suc m ∷ p) xs h e = absurd (omega arith)
+spread-nulls z (suc r) (suc zero ∷ p) xs h e = absurd (omega arith)
+spread-nulls {A} z (suc r) (suc (suc m) ∷ p) xs h e = ap (λ (l : List A). z ∷ l) (spread-nulls z r p xs (omega arith) e)
 
 count-take : (r : ℕ) (p : List ℕ) → countSet (take r p) ≤ r
 count-take zero p = omega arith
 count-take (suc r) [] = omega arith
-count-take (suc r) (zero ∷ p) = omega (arith, count-take r p)
-count-take (suc r) (suc m ∷ p) = omega (arith, count-take r p)
+count-take (suc r) (b ∷ p) = omega (arith, count-cons b (take r p), count-one b, count-take r p)
 
 spread-sets : {A : Type 0} (z : A) (r : ℕ) (p : List ℕ) (ys xs : List A) → length ys ≡ r → countSet (take r p) ≡ r → spread z p (ys ++ xs) ≡ ys ++ spread z (drop r p) xs
 spread-sets z zero p [] xs l e = refl
@@ -56,7 +56,8 @@ spread-sets z zero p (y ∷ ys) xs l e = absurd (omega arith)
 spread-sets z (suc r) p [] xs l e = absurd (omega arith)
 spread-sets z (suc r) [] (y ∷ ys) xs l e = absurd (omega arith)
 spread-sets z (suc r) (zero ∷ p) (y ∷ ys) xs l e = absurd (omega (arith, count-take r p))
-spread-sets {A} z (suc r) (suc m ∷ p) (y ∷ ys) xs l e = ap (λ (k : List A). y ∷ k) (spread-sets z r p ys xs (omega arith) (omega arith))
+spread-sets z (suc r) (suc (suc m) ∷ p) (y ∷ ys) xs l e = absurd (omega (arith, count-take r p))
+spread-sets {A} z (suc r) (suc zero ∷ p) (y ∷ ys) xs l e = ap (λ (k : List A). y ∷ k) (spread-sets z r p ys xs (omega arith) (omega arith))
 
 -- ---- values
 
@@ -73,7 +74,7 @@ pub sized-as : (size w : ℕ) → size ≡ w → (o : Order) (p q v out : List �
 sized-as size w e o p q v out h = h ∙ ap (λ (k : ℕ). over (valuesOver k o p q) v) (sym e)
 
 module _ (size : ℕ) (o : Order) (p s : List ℕ) (i j r : ℕ) where
-  -- r null cells
+  -- r cells that are not set
   pub nulls-first : i + r ≤ length p → countSet (take r (drop i p)) ≡ 0 → valuesLeft size o p s i j ≡ replicate (r * size) 0 ++ valuesLeft size o p s (i + r) j
   nulls-first h e =
       let z : Value = replicate size 0 in

@@ -5,13 +5,14 @@ use mathlib.Core.List.{List}
 use lib.ListN.{take, drop, replicate}
 use lib.Dec.{ltb}
 use Rattle.array.specs.Lists.{pick}
-use Rattle.array.specs.Cells.{Mark, isNull, isSet}
+use Rattle.array.specs.Cells.{Mark, isNull, isSet, isOther}
 use Rattle.array.specs.Kind.{Order, little, big, ordered}
 
--- x for a set cell, z for a null one
+-- x for a set cell, z for any other
 abbrev pub ifSet : {A : Type 0} → Mark → A → A → A
 ifSet isNull x z = z
 ifSet isSet x z = x
+ifSet isOther x z = z
 
 -- a set cell takes the stored one at `at`, of so many bytes
 abbrev pub nextAt : Mark → ℕ → ℕ → ℕ

@@ -1,18 +1,16 @@
--- Runs of cells with one mark.
+-- Runs of cells that are all set, or all not.
 -- Assumes nothing.
 use Prim.Native.Nat.{ℕ, zero, suc}
-use mathlib.Core.Bool.{Bool, true, false}
+use mathlib.Core.Bool.{Bool, true, false, Bool·beq}
 use mathlib.Core.List.{List, [], _∷_}
-use Rattle.array.specs.Cells.{Mark, isNull, isSet, markOf}
+use Rattle.array.specs.Cells.{setTest}
 
--- a cell with the mark that is asked for is one more than what follows, and another ends the run
-abbrev pub runBy : Bool → Mark → ℕ → ℕ
-runBy true isNull n = zero
-runBy true isSet n = suc n
-runBy false isNull n = suc n
-runBy false isSet n = zero
+-- a cell of the run is one more than what follows, and another ends it
+abbrev pub runBy : Bool → ℕ → ℕ
+runBy true n = suc n
+runBy false n = zero
 
--- how many bytes of a mask are all set, or all null, from the first on
+-- how many bytes of a mask are all set, or all not, from the first on
 abbrev pub markRun : Bool → List ℕ → ℕ
 markRun set [] = zero
-markRun set (m ∷ p) = runBy set (markOf m) (markRun set p)
+markRun set (m ∷ p) = runBy (Bool·beq (setTest m) set) (markRun set p)

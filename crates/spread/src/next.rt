@@ -1,8 +1,8 @@
 // One cell of a plane, by its mark: a set cell takes the next stored one.
-use mask::mark::Mark;
+use array::mark::Mark;
 ghost use mathlib.Core.Path.{_≡_};
 ghost use Prim.Native.Nat.{_<_};
-ghost use Rattle.mask.specs.Marks.{toldMark};
+ghost use Rattle.array.specs.Meaning.{toldMark};
 ghost use Rattle.spread.specs.Next.{ifSet, nextAt};
 
 // Where the next stored one is, each having `size` bytes.
@@ -13,25 +13,28 @@ pub fn skip(mark: Mark, at: usize, size: usize) -> usize
     match mark {
         Mark::Null => at,
         Mark::Set => at + size,
+        Mark::Other => at,
     }
 }
 
-// The byte b for a set cell, and 0 for a null one.
+// The byte b for a set cell, and 0 for any other.
 pub fn byte_if(mark: Mark, b: u8) -> u8
     ensures { λ r. ⌜ r ≡ ifSet (toldMark mark) b 0 ⌝ }
 {
     match mark {
         Mark::Null => 0,
         Mark::Set => b,
+        Mark::Other => 0,
     }
 }
 
-// The number v for a set cell, and z for a null one.
+// The number v for a set cell, and z for any other.
 pub fn number_if(mark: Mark, v: u64, z: u64) -> u64
     ensures { λ r. ⌜ r ≡ ifSet (toldMark mark) v z ⌝ }
 {
     match mark {
         Mark::Null => z,
         Mark::Set => v,
+        Mark::Other => z,
     }
 }

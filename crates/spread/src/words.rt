@@ -2,8 +2,8 @@
 use crate::next::number_if;
 use crate::next::skip;
 use array::kind::ByteOrder;
+use array::mark::mark_of;
 use buffer::copy::fill_bytes;
-use mask::mark::mark_of;
 use word::put_word;
 use word::word_at;
 ghost use mathlib.Core.Path.{_≡_};

@@ -5,7 +5,7 @@ use Prim.Native.Nat.{_-_}
 use native.Mathlib.Omega.{arith}
 use lib.ListN.{length}
 use borrow.Author.Needs.{needs}
-use Rattle.mask.specs.Marks.{toldMark}
+use Rattle.array.specs.Meaning.{toldMark}
 use Rattle.spread.proofs.PlaneLaws.{next-most}
 use Rattle.planes.proofs.Placing.{Placing, Turn, few, placing-begins, placing-same, placing-ends, placing-turn, placing-more}
 use Rattle.planes.proofs.spread_laid.Statement.{statement}

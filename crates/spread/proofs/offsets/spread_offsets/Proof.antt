@@ -9,7 +9,7 @@ use Rattle.array.specs.Lists.{All}
 use Rattle.array.specs.Bytes.{unle}
 use Rattle.array.specs.Buffers.{over}
 use Rattle.array.specs.Cells.{markOf}
-use Rattle.mask.specs.Marks.{toldMark}
+use Rattle.array.specs.Meaning.{toldMark}
 use Rattle.stored.specs.Index.{offsetsIn}
 use Rattle.spread.specs.Next.{ifSet}
 use Rattle.spread.proofs.PlaneLaws.{planeAt, plane-length, plane-byte, next-most, next-within}
