@@ -113,7 +113,8 @@ returns-2 : tie.Need-returns-2
 returns-2 c =
     let walk = c .before .before .before in
     let a = begun walk .args in
-    rw (ragged-refused (maskForm (masksOf (a .kind .masks))) (widthOf (a .width)) (placeOf (a .place)) (a .s .now) (a .n) (a .kind .depth) _ (deep walk) (walk-is walk ∙ ap toldWalk (c .before .walk .given .1)))
+    rw (ragged-refused (maskForm (masksOf (a .kind .masks))) (widthOf (a .width)) (placeOf (a .place)) (a .s .now) (a .n) (a .kind .depth) _ (deep walk)
+    (walk-is walk ∙ ap toldWalk (c .before .walk .given .1)))
 
 returns-3 : tie.Need-returns-3
 returns-3 c =
@@ -123,7 +124,8 @@ returns-3 c =
     let walk = told .before .before in
     let a = begun walk .args in
     rw
-    (ragged-none-set (maskForm (masksOf (a .kind .masks))) (widthOf (a .width)) (placeOf (a .place)) (a .s .now) (a .n) (a .kind .depth) (deep walk) (walk-is walk ∙ ap toldWalk (told .enum-told .given .1)))
+    (ragged-none-set (maskForm (masksOf (a .kind .masks))) (widthOf (a .width)) (placeOf (a .place)) (a .s .now) (a .n) (a .kind .depth) (deep walk)
+    (walk-is walk ∙ ap toldWalk (told .enum-told .given .1)))
     (wrote .write-nested .ensures)
 
 returns-4 : tie.Need-returns-4
@@ -143,7 +145,8 @@ returns-5 c =
     let w = walk-of here in
     let a = start w .args in
     rw
-    (ragged-given (maskForm (masksOf (a .kind .masks))) (widthOf (a .width)) (placeOf (a .place)) (a .s .now) (a .n) (a .kind .depth) (at w) (cells w) _ (deep (w .before .before)) (values-are w) (checked-is here))
+    (ragged-given (maskForm (masksOf (a .kind .masks))) (widthOf (a .width)) (placeOf (a .place)) (a .s .now) (a .n) (a .kind .depth) (at w) (cells w) _ (deep (w .before .before)) (values-are w)
+    (checked-is here))
     (wrote .write-nested2 .ensures)
 
 pub decode-ragged-spec : {M : Type 1} → statement M
