@@ -1,4 +1,4 @@
-//! What the machine allows: the older form of ragged values read by bare loops over the C library's memcpy; and the loop that others would write.
+//! What the machine allows: the older form of ragged values read by bare loops over the C library's memcpy; and the loops that others would write.
 
 fn length_at(bytes: &[u8], at: usize) -> usize {
     u32::from_le_bytes(bytes[at..at + 4].try_into().unwrap()) as usize
@@ -54,6 +54,56 @@ pub fn write_older(shape: &[u64], values: &[u8], offsets: &[u64], out: &mut Vec<
         let value = values.get(pair[0] as usize..pair[1] as usize).ok_or("offsets beyond the values, or that fall")?;
         out.extend_from_slice(&(value.len() as u32).to_le_bytes());
         out.extend_from_slice(value);
+    }
+    Ok(())
+}
+
+/// Masks, values and offsets that are used again.
+#[derive(Default)]
+pub struct Load {
+    pub masks: Vec<u8>,
+    pub values: Vec<u8>,
+    pub offsets: Vec<u64>,
+}
+/// A load made by the plain loop that one would write for it, in one run: the buffers are used again and have their room already.
+#[inline(never)]
+pub fn make_load(kind: &[u64; 5], shape: &[u64], start: u32, out: &mut Load) -> Result<(), &'static str> {
+    let cells = shape.iter().try_fold(1, |cells: u64, side| cells.checked_mul(*side)).filter(|cells| *cells <= 65_536);
+    let (cells, depth, size) = (cells.ok_or("too many cells")? as usize, kind[0] as usize, kind[2] as usize);
+    let ragged = kind[1] == 1;
+    let mut state = start;
+    let mut draw = || {
+        state = state.wrapping_mul(1_664_525).wrapping_add(1_013_904_223);
+        state >> 16
+    };
+    let Load { masks, values, offsets } = out;
+    masks.clear();
+    masks.resize(depth * cells, 0);
+    values.clear();
+    offsets.clear();
+    if ragged {
+        offsets.push(0);
+    }
+    for cell in 0..cells {
+        let mut level = 0;
+        while level < depth && draw() % 4 != 0 {
+            masks[level * cells + cell] = 1;
+            level += 1;
+        }
+        let set = level == depth;
+        let length = match (ragged, set) {
+            (false, _) => size,
+            (true, true) => draw() as usize % 9,
+            (true, false) => 0,
+        };
+        if set {
+            values.extend((0..length).map(|_| draw() as u8));
+        } else {
+            values.resize(values.len() + length, 0);
+        }
+        if ragged {
+            offsets.push(values.len() as u64);
+        }
     }
     Ok(())
 }

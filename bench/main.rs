@@ -7,8 +7,8 @@
 //! hands back what it borrowed (plain values, little order, depth 0), its result is copied to a reused buffer, so that both leave it in the
 //! caller's memory. Kinds, shapes and chunk lists are built before the clock starts. The Rust is built with opt-level 3 over the stand-in chain,
 //! which does less than the listed one.
-//! Packed masks, which the Rust does not have, are timed against masks of bytes, both ours. encode_interleaved, which it does not have either, is timed
-//! against a plain Rust loop with a reused buffer (bounds.rs).
+//! Packed masks, which the Rust does not have, are timed against masks of bytes, both ours. encode_interleaved and generate, which it does not have either,
+//! are timed against a plain Rust loop with reused buffers (bounds.rs).
 
 #[path = "../oracle/driver/archive.rs"]
 #[allow(dead_code)]
@@ -52,11 +52,15 @@ enum Call<'a> {
     Reverse(u64, usize),
     Cells(&'a [u64], &'a [u64]),
     Older(&'a Input),
+    /// Kind and shape, and how many value bytes are lent.
+    Load(&'a [u64; 5], &'a [u64], usize),
     Memcpy(&'a [u8]),
 }
 use Call::*;
 const CALLS: [&str; 7] = ["encode", "decode", "decode_interleaved", "extract", "merge", "partial_decode", "reverse_endianness"];
 const OLDER: &str = "encode_interleaved";
+const LOAD: &str = "generate";
+const START: u32 = 7;
 impl Call<'_> {
     fn name(&self) -> &'static str {
         match self {
@@ -68,6 +72,7 @@ impl Call<'_> {
             Partial(..) => CALLS[5],
             Reverse(..) => CALLS[6],
             Older(..) => OLDER,
+            Load(..) => LOAD,
             Memcpy(..) | Cells(..) => "",
         }
     }
@@ -112,6 +117,7 @@ fn ours(a: &Archive, call: Call, l: &mut Lent) {
             ),
             Reverse(size, length) => (a.reverse_endianness)(size, v, length, n),
             Cells(shape, q) => (a.subset_cells)(shape.as_ptr(), shape.len(), q.as_ptr(), q.len(), o, ol, n),
+            Load(kind, shape, room) => (a.generate)(c_kind(kind), shape.as_ptr(), shape.len(), START, m, ml, v, room, o, ol, n),
             Memcpy(s) => {
                 l.values[..s.len()].copy_from_slice(black_box(s));
                 0
@@ -215,6 +221,8 @@ struct Bench {
     packed: Vec<Row>,
     /// encode_interleaved beside a plain loop, which stands where other rows have the Rust.
     older: Vec<Row>,
+    /// generate beside a plain loop that makes the load in one run: as we do, and where we need two.
+    loads: [Vec<Row>; 2],
 }
 
 fn keep<T>(result: T) {
@@ -234,6 +242,7 @@ impl Bench {
             Reverse(size, length) => timed(move || ours(&a, Reverse(size, length), &mut l)),
             Cells(shape, q) => timed(move || ours(&a, Cells(shape, q), &mut l)),
             Older(i) => timed(move || ours(&a, Older(i), &mut l)),
+            Load(kind, shape, room) => timed(move || ours(&a, Load(kind, shape, room), &mut l)),
             Memcpy(s) => timed(move || ours(&a, Memcpy(s), &mut l)),
         }
     }
@@ -412,6 +421,30 @@ impl Bench {
         let [ours, other] = self.turns(Older(i), plain, 1.0, f64::MAX);
         let (kind, what, column) = (String::new(), what.to_string(), cells_of(&i.shape).to_string());
         self.older.push(Row { call: OLDER, below: false, kind, what, column, other, ours, held: None });
+    }
+
+    /// The loop makes the same, then the clock. One run is enough where the output holds any load.
+    fn load_row(&mut self, kind: [u64; 5], cells: usize, exact: bool) {
+        let shape = square(cells);
+        let mut reused = bounds::Load::default();
+        bounds::make_load(&kind, &shape, START, &mut reused).unwrap();
+        let bytes = reused.values.len();
+        let room = if exact || kind[1] == 0 { bytes } else { 8 * cells };
+        let mut lent = Lent::new();
+        ours(&self.archive, Load(&kind, &shape, room), &mut lent);
+        let bounds::Load { masks, values, offsets } = &reused;
+        let same = (&lent.masks[..masks.len()], &lent.values[..bytes], &lent.offsets[..offsets.len()]);
+        assert!(same == (&masks[..], &values[..], &offsets[..]), "not the same: {LOAD} {}", kind_name(&kind));
+        let plain = timed(|| {
+            bounds::make_load(black_box(&kind), &shape, black_box(START), &mut reused).unwrap();
+            black_box(&mut reused);
+        });
+        let (limit, what) =
+            if exact { (2.0, "output of just the load") } else { (1.0, ["", "8 bytes a cell"][kind[1] as usize]) };
+        let [ours, other] = self.turns(Load(&kind, &shape, room), plain, limit, f64::MAX);
+        let (name, what, column) = (format!("d{} {}", kind[0], kind_name(&kind)), what.to_string(), cells.to_string());
+        let row = Row { call: LOAD, below: false, kind: name, what, column, other, ours, held: None };
+        self.loads[usize::from(exact)].push(row);
     }
 
     fn interleaved(&mut self, cells: usize, values: Values) {
@@ -616,6 +649,19 @@ fn older_rows(b: &mut Bench) {
         }
     }
 }
+/// Loads at depth 0 and 4; ragged ones into outputs that hold any load, and into outputs of just this one.
+fn load_rows(b: &mut Bench) {
+    for depth in [0, 4] {
+        for cells in &CELLS[1..] {
+            for size in [1, 8, 64] {
+                b.load_row(fixed(depth, size, 0), *cells, false);
+            }
+            for exact in [false, true] {
+                b.load_row(ragged(depth, 4, 0), *cells, exact);
+            }
+        }
+    }
+}
 /// In the middle of two sides.
 fn quarter(shape: &[u64]) -> [u64; 4] {
     [shape[0] / 4, shape[1] / 4, shape[0] / 2, shape[1] / 2]
@@ -717,6 +763,12 @@ fn growth(b: &mut Bench) {
         for cells in &counts {
             let i = input(ragged(0, 8, 0), square(*cells), Mask::Full, values);
             g.add(OLDER, values.name().to_string(), b.per(Older(&i), *cells));
+        }
+    }
+    for kind in (0..=4).flat_map(kinds) {
+        for cells in &counts {
+            let room = if kind[1] == 0 { kind[2] as usize * cells } else { 8 * cells };
+            g.add(LOAD, named(&kind), b.per(Load(&kind, &square(*cells), room), *cells));
         }
     }
     for kind in (0..=4).flat_map(kinds) {
@@ -868,7 +920,7 @@ fn main() {
     let args: Vec<String> = std::env::args().skip(1).collect();
     let archive = Archive::load(&args[0]).unwrap();
     let rounds = args.get(1).map_or(25, |n| n.parse().unwrap());
-    let mut b = Bench { archive, rounds, rows: vec![], packed: vec![], older: vec![] };
+    let mut b = Bench { archive, rounds, rows: vec![], packed: vec![], older: vec![], loads: [vec![], vec![]] };
     rows(&mut b);
     ratios(&b.rows);
     packed_rows(&mut b);
@@ -876,6 +928,9 @@ fn main() {
     older_rows(&mut b);
     println!("\n`{OLDER}`, by cells. Ratio: the time of a plain Rust loop with a reused buffer over ours.\n");
     table(&b.older.iter().collect::<Vec<_>>());
+    load_rows(&mut b);
+    println!("\n`{LOAD}`, by cells. Ratio: the time of a plain Rust loop, one run with reused buffers, over ours.\n");
+    table(&b.loads.iter().flatten().collect::<Vec<_>>());
     let copies = copies(&mut b);
     growth(&mut b);
 
@@ -925,6 +980,16 @@ fn main() {
         mean(&older),
         least(&older)
     );
+    for (rows, wanted, what) in [(&b.loads[0], 1.0, "where one run is enough"), (&b.loads[1], 0.5, "where two runs are needed")] {
+        let list: Vec<f64> = rows.iter().map(Row::ratio).collect();
+        println!(
+            "{LOAD} at {wanted:.1} of a plain loop or more {what}: {} ({} rows, geometric mean {:.2}, least {:.2})",
+            said(least(&list) >= wanted),
+            list.len(),
+            mean(&list),
+            least(&list)
+        );
+    }
     println!("large plain copies at 0.7 of memcpy or more: {} (least {:.2})", said(least(&copies) >= 0.7), least(&copies));
     if let Some(file) = args.get(2) {
         let lines: Vec<String> = b
@@ -933,6 +998,7 @@ fn main() {
             .map(whole)
             .chain(b.packed.iter().map(|row| whole(row) + " packed, against bytes |"))
             .chain(b.older.iter().map(whole))
+            .chain(b.loads.iter().flatten().map(whole))
             .collect();
         std::fs::write(file, lines.join("\n") + "\n").unwrap();
     }

@@ -482,7 +482,7 @@ fn help_examples_work_as_printed() {
         assert!(general.text().contains(&status.to_string()), "status {status} is not on the page");
     }
     let mut pages = vec![("durpaxeta".to_string(), general.text().to_string())];
-    for command in ["show", "write", "cut", "merge", "convert", "check", "explain", "example"] {
+    for command in ["show", "write", "cut", "merge", "convert", "generate", "check", "explain", "example"] {
         assert!(general.text().contains(&format!("  durpaxeta {command} ")), "{command} is not in the list");
         let page = run(Path::new("."), &[command, "--help"], b"");
         assert_eq!(page.status, 0);

@@ -38,6 +38,9 @@ fn the_pictures_of_the_page() {
         ("", "1"),
         ("depth 1, packed masks, fixed, size 2, little order", "3"),
         ("depth 2, packed masks, fixed, size 1, little order", "9"),
+        ("depth 1, fixed, size 1, little order", "2"),
+        ("depth 0, ragged, width 4, index at start", "2"),
+        (KIND, "4"),
     ];
     let pictures: Vec<&str> = page.split("```bytes\n").skip(1).map(|rest| rest.split("```").next().unwrap()).collect();
     assert_eq!(pictures.len(), tables.len());

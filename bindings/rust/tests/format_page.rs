@@ -2,11 +2,12 @@
 
 use durpaxeta::*;
 
+const PAGE: &str = include_str!("../../../docs/FORMAT.md");
+
 /// The bytes of each picture; positions must run on.
 fn pictures() -> Vec<Vec<u8>> {
-    let page = include_str!("../../../docs/FORMAT.md");
     let mut pictures = Vec::new();
-    for block in page.split("```bytes\n").skip(1) {
+    for block in PAGE.split("```bytes\n").skip(1) {
         let (block, _) = block.split_once("```").expect("a picture ends");
         let mut bytes = Vec::new();
         for line in block.lines() {
@@ -64,16 +65,46 @@ fn pictures_are_real() {
         stored(fixed(1, 2).packed(), &[3], &[Cell::Value(&[10, 11]), null1, Cell::Value(&[14, 15])]),
         stored(fixed(2, 1).packed(), &[9], &nine),
     ];
+    let load = |kind, cells, number| encode(&generate(kind, &[cells], number).unwrap()).unwrap();
+    let loads = [load(fixed(1, 1), 2, 0), load(start(0), 2, 1), load(start(2), 4, 7)];
     let pictures = pictures();
-    assert_eq!(pictures.len(), wanted.len() + packed.len());
-    for (number, (picture, wanted)) in pictures.iter().zip(wanted.iter().chain(&packed)).enumerate() {
+    assert_eq!(pictures.len(), wanted.len() + packed.len() + loads.len());
+    for (number, (picture, wanted)) in pictures.iter().zip(wanted.iter().chain(&packed).chain(&loads)).enumerate() {
         assert_eq!(picture, wanted, "picture {number}");
     }
     let interleaved = decode_interleaved(2, &pictures[13]).unwrap();
     assert_eq!((interleaved.cell(0), interleaved.cell(1)), (Some(&b"A"[..]), Some(&b""[..])));
 
     let lengths: Vec<usize> = pictures.iter().map(Vec::len).collect();
-    assert_eq!(lengths, [4, 4, 22, 34, 18, 23, 19, 38, 64, 51, 50, 34, 17, 13, 9, 21, 37]);
+    assert_eq!(lengths, [4, 4, 22, 34, 18, 23, 19, 38, 64, 51, 50, 34, 17, 13, 9, 21, 37, 19, 27, 59]);
+}
+
+/// Part 13: the first twenty draws of start number 0, by the page's own rule; as value bytes they are a load.
+#[test]
+fn draws_are_real() {
+    let mut state: u64 = 0;
+    let mut bytes = Vec::new();
+    for number in 1..=20 {
+        state = (1_664_525 * state + 1_013_904_223) % 4_294_967_296;
+        let draw = state / 65_536;
+        bytes.push((draw % 256) as u8);
+        let grouped = |n: u64| {
+            let digits = n.to_string();
+            let groups: Vec<&str> =
+                digits.as_bytes().rchunks(3).rev().map(|g| std::str::from_utf8(g).unwrap()).collect();
+            groups.join(",")
+        };
+        let row = format!(
+            "| {number} | {} | {} | {} | {} | {:02X} |\n",
+            grouped(state),
+            grouped(draw),
+            draw % 4,
+            draw % 9,
+            draw % 256
+        );
+        assert!(PAGE.contains(&row), "{row}");
+    }
+    assert_eq!(generate(Kind::fixed(0, 1, Order::Little), &[20], 0).unwrap().values, bytes);
 }
 
 #[test]

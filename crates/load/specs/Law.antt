@@ -1,4 +1,4 @@
--- docs/SPEC.md, part 11 (S11.4): what holds of a load. It is a valid array in rest form, of bytes, determined by the depth, the cell size or
+-- docs/SPEC.md, part 12 (S12.4): what holds of a load. It is a valid array in rest form, of bytes, determined by the depth, the cell size or
 -- raggedness, the shape and the start number.
 -- Assumes nothing.
 use Prim.Native.Nat.{ℕ, _<_}

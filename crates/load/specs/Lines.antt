@@ -1,4 +1,4 @@
--- docs/SPEC.md, part 11 (S11.1 to S11.3): loads worked out by hand. The draws of start number 0, small tables, and the refusals in their order.
+-- docs/SPEC.md, part 12 (S12.1 to S12.3): loads worked out by hand. The draws of start number 0, small tables, and the refusals in their order.
 -- Assumes nothing.
 use Prim.Native.Nat.{ℕ}
 use mathlib.Core.Path.{_≡_}
@@ -26,7 +26,7 @@ pub record Lines : Type 0 where
   pub first-draw : draw 0 ≡ record { made = 15470; state = 1013904223 }
   -- depth 0, size 1
   pub one-byte : loadOf (byteKind 0 (fixed 1 little)) (1 ∷ []) 0 ≡ array [] (0x6E ∷ []) []
-  -- all of cell 0 comes before cell 1, and a null draws no byte: the masks first would give 01 01, and a byte drawn for it shows in a third cell
+  -- all of cell 0 comes before cell 1, and a null draws no byte: all masks first would give the byte CC, a byte drawn for the null 2E in a third cell
   pub two-cells : loadOf masked (2 ∷ []) 0 ≡ array (1 ∷ 0 ∷ []) (0x50 ∷ 0 ∷ []) []
   pub three-cells : loadOf masked (3 ∷ []) 0 ≡ array (1 ∷ 0 ∷ 1 ∷ []) (0x50 ∷ 0 ∷ 0x52 ∷ []) []
   -- depth 2, ragged: nulls at both levels
