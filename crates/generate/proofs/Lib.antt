@@ -1,0 +1,4 @@
+pub mod Drawing
+pub mod Columns
+pub mod Making
+pub mod Stages

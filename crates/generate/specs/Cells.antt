@@ -1,17 +1,15 @@
--- docs/SPEC.md, part 11 (S11.2): a cell drawn in the order of the code: how many of its levels are set, then its value. And where its mask
+-- docs/SPEC.md, part 12 (S12.2): a cell drawn in the order of the code: how many of its levels are set, then its value. And where its mask
 -- bytes go.
 -- Assumes nothing.
 use Prim.Native.Nat.{ℕ, zero, suc, _+_, _-_, _%_}
-use mathlib.Core.Bool.{Bool, true, false}
 use mathlib.Core.List.{List, [], _∷_}
-use lib.Dec.{eqb}
 use lib.ListN.{length, set}
-use Rattle.array.specs.Kind.{Form, fixed, ragged, little, atStart, nullOf}
-use Rattle.array.specs.Cells.{Value, Cell, leaf}
+use Rattle.array.specs.Kind.{Form, fixed, ragged, little, atStart}
+use Rattle.array.specs.Cells.{Cell, leaf}
 use Rattle.array.specs.Lists.{joined}
 use Rattle.array.specs.Content.{leaves}
 use Rattle.load.specs.Generator.{Drew, draw}
-use Rattle.load.specs.Load.{drawValue, drawCells}
+use Rattle.load.specs.Load.{drawCells}
 
 -- the levels that are set, up to the first null
 abbrev pub levelsBy : ℕ → ℕ → Drew ℕ → Drew ℕ
@@ -21,14 +19,6 @@ levelsBy (suc m) s r = record { made = suc (r .made); state = r .state }
 unfoldable pub setLevels : ℕ → ℕ → Drew ℕ
 setLevels zero s = record { made = 0; state = s }
 setLevels (suc d) s = levelsBy (draw s .made % 4) (draw s .state) (setLevels d (draw s .state))
-
--- the value of a cell of which l levels of d are set
-abbrev pub valueIf : Bool → Form → ℕ → Drew Value
-valueIf true f s = drawValue f s
-valueIf false f s = record { made = nullOf f; state = s }
-
-abbrev pub valueBelow : Form → ℕ → Drew ℕ → Drew Value
-valueBelow f d l = valueIf (eqb (l .made) d) f (l .state)
 
 -- ---- mask bytes in the planes
 

@@ -1,4 +1,4 @@
--- docs/SPEC.md, part 11 (S11.1): what the code's answers mean: a draw, levels that are set.
+-- docs/SPEC.md, part 12 (S12.1): what the code's answers mean: a draw, levels that are set.
 -- Assumes nothing.
 use mathlib.Core.Path.{_≡_}
 use Prim.Native.Nat.{ℕ}

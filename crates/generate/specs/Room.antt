@@ -1,4 +1,4 @@
--- What the code needs to be there: places for the bytes it draws (docs/SPEC.md, part 11, S11.3).
+-- What the code needs to be there: places for the bytes it draws (docs/SPEC.md, part 12, S12.3).
 -- Assumes nothing.
 use Prim.Native.Nat.{ℕ, _+_, _*_, _<_, _≤_}
 use mathlib.Core.List.{List}

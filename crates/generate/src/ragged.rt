@@ -74,7 +74,7 @@ fn skip_cell(first: Generator, depth: usize) -> Value
     Value { bytes: 0, next }
 }
 
-// Draws n cells, one after another: their masks and values, and where each value ends. Answers how many value bytes they have.
+// Draws n cells, one after another: their masks and values, and where each value begins and the last one ends. Answers how many value bytes they have.
 fn draw_cells(
     first: Generator,
     depth: usize,
@@ -89,17 +89,17 @@ fn draw_cells(
     ensures joins { λ _. ⌜ now (values .exit) ≡ over (joined (leaves depth (cellsFrom lengthy depth n (first .state)))) (now (values .entry)) ⌝ }
     ensures places { λ _. ⌜ now (offsets .exit) ≡ over (offsetsOf (leaves depth (cellsFrom lengthy depth n (first .state)))) (now (offsets .entry)) ⌝ }
 {
-    offsets[0] = 0;
     let mut g = first;
     let mut at: usize = 0;
     let mut to: usize = 0;
     while at < n {
+        offsets[at] = to as u64;
         let value = draw_cell(g, depth, n, at, to, masks, values);
         g = value.next;
         at += 1;
         to += value.bytes;
-        offsets[at] = to as u64;
     }
+    offsets[at] = to as u64;
     to
 }
 

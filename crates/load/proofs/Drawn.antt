@@ -2,52 +2,61 @@
 -- Assumes nothing.
 use mathlib.Core.Path.{_≡_, refl, ap, ap₂, _∙_}
 use Prim.Native.Nat.{ℕ, zero, suc, _+_, _*_, _%_, _<_, _≤_}
-use native.Mathlib.Nat.{mod-lt, zero-lt-suc}
+use native.Mathlib.Nat.{mod-lt, zero-lt-suc, suc-mul, le-trans, le-of-eq}
 use native.Mathlib.Omega.{arith}
 use mathlib.Core.List.{List, [], _∷_}
-use lib.ListN.{length, replicate, length-replicate, length-append}
+use lib.ListN.{length, replicate, length-replicate, length-append, length-map}
 use Rattle.array.specs.Lists.{All, joined}
 use Rattle.array.specs.Kind.{Kind, Form, fixed, ragged, FormOk, nullOf}
 use Rattle.array.specs.Cells.{Value, Cell, leaf, blank, rest}
+use Rattle.array.specs.Content.{leaves}
+use Rattle.array.proofs.Lists.{All-map, All-image}
 use Rattle.array.proofs.Sizes.{OfSize, null-sized}
 use Rattle.array.proofs.RestLaws.{leaf-blank}
 use Rattle.load.specs.Generator.{Drew, draw, drawBytes}
-use Rattle.load.specs.Load.{drawValue, levelBy, drawCell, drawCells}
+use Rattle.load.specs.Load.{lengthBy, drawValue, levelBy, drawCell, drawCells}
 
 abbrev Bytes : Value → Type 0
 Bytes v = All (λ b. b < 256) v
 
-drawn-length : (n s : ℕ) → length (drawBytes n s .made) ≡ n
+pub drawn-length : (n s : ℕ) → length (drawBytes n s .made) ≡ n
 unfolding drawBytes
 drawn-length zero s = refl
-drawn-length (suc n) s = ap suc (drawn-length n (draw s .state))
+drawn-length (suc n) s = ap suc (drawn-length n _)
 
 drawn-bytes : (n s : ℕ) → Bytes (drawBytes n s .made)
 unfolding drawBytes
 drawn-bytes zero s = tt
-drawn-bytes (suc n) s = (mod-lt (draw s .made) (zero-lt-suc 255), drawn-bytes n (draw s .state))
+drawn-bytes (suc n) s = (mod-lt (draw s .made) (zero-lt-suc 255), drawn-bytes n _)
 
 -- ---- values
 
+-- the bytes of a drawn value at most
+abbrev pub longest : Form → ℕ
+longest (fixed k o) = k
+longest (ragged w p) = 8
+
+pub longest-small : (f : Form) → FormOk f → longest f ≤ 64
+longest-small (fixed k o) ok = ok .1
+longest-small (ragged w p) ok = omega arith
+
 pub record DrawnValue (f : Form) (v : Value) : Type 0 where
   pub sized : OfSize f v
-  pub short : length v ≤ 64
+  pub short : length v ≤ longest f
   pub bytes : Bytes v
 
-drawn-value : (f : Form) → FormOk f → (s : ℕ) → DrawnValue f (drawValue f s .made)
+drawn-value : (f : Form) (s : ℕ) → DrawnValue f (drawValue f s .made)
 unfolding drawValue
-drawn-value (fixed k o) ok s = record { sized = drawn-length k s; short = omega (arith, drawn-length k s, ok .1); bytes = drawn-bytes k s }
-drawn-value (ragged w p) ok s =
-    let n : ℕ = draw s .made % 9 in
-    record { sized = tt; short = omega (arith, drawn-length n (draw s .state), mod-lt (draw s .made) (zero-lt-suc 8)); bytes = drawn-bytes n (draw s .state) }
+drawn-value (fixed k o) s = record { sized = drawn-length k s; short = simp drawn-length (omega arith); bytes = drawn-bytes k s }
+drawn-value (ragged w p) s = record { sized = tt; short = simp drawn-length (omega arith); bytes = drawn-bytes (lengthBy (draw s .made)) (draw s .state) }
 
 zero-bytes : (k : ℕ) → Bytes (replicate k 0)
 zero-bytes zero = tt
 zero-bytes (suc k) = (omega arith, zero-bytes k)
 
-null-value : (f : Form) → FormOk f → DrawnValue f (nullOf f)
-null-value (fixed k o) ok = record { sized = null-sized (fixed k o); short = omega (arith, length-replicate {A = ℕ} k 0, ok .1); bytes = zero-bytes k }
-null-value (ragged w p) ok = record { sized = tt; short = omega arith; bytes = tt }
+null-value : (f : Form) → DrawnValue f (nullOf f)
+null-value (fixed k o) = record { sized = null-sized (fixed k o); short = omega (arith, length-replicate {A = ℕ} k 0); bytes = zero-bytes k }
+null-value (ragged w p) = record { sized = tt; short = omega arith; bytes = tt }
 
 -- ---- cells
 
@@ -55,31 +64,39 @@ pub record DrawnCell (f : Form) (d : ℕ) (c : Cell d) : Type 0 where
   pub value : DrawnValue f (leaf d c)
   pub rests : rest (nullOf f) d c ≡ c
 
-drawn-cell : (f : Form) → FormOk f → (d s : ℕ) → DrawnCell f d (drawCell f d s .made)
+pub drawn-cell : (f : Form) (d s : ℕ) → DrawnCell f d (drawCell f d s .made)
 unfolding drawCell
-drawn-cell f ok zero s = record { value = drawn-value f ok s; rests = refl }
-drawn-cell f ok (suc d) s = level (draw s .made % 4) _ (drawn-cell f ok d (draw s .state))
+drawn-cell f zero s = record { value = drawn-value f s; rests = refl }
+drawn-cell f (suc d) s = level (draw s .made % 4) _ (drawn-cell f d (draw s .state))
   where
     below : Drew (Cell d)
     below = drawCell f d (draw s .state)
 
     level : (m t : ℕ) → DrawnCell f d (below .made) → DrawnCell f (suc d) (levelBy m t (blank (nullOf f) d) below .made)
-    level zero t r = record { value = leaf-blank (nullOf f) (DrawnValue f) d (null-value f ok); rests = refl }
+    level zero t r = record { value = leaf-blank (nullOf f) (DrawnValue f) d (null-value f); rests = refl }
     level (suc m) t r = record { value = r .value; rests = ap (λ (x : Cell d). (1, x)) (r .rests) }
 
-pub drawn-cells : (f : Form) → FormOk f → (d n s : ℕ) → All (DrawnCell f d) (drawCells f d n s .made)
+pub drawn-cells : (f : Form) (d n s : ℕ) → All (DrawnCell f d) (drawCells f d n s .made)
 unfolding drawCells
-drawn-cells f ok d zero s = tt
-drawn-cells f ok d (suc n) s = (drawn-cell f ok d s, drawn-cells f ok d n (drawCell f d s .state))
+drawn-cells f d zero s = tt
+drawn-cells f d (suc n) s = (drawn-cell f d s, drawn-cells f d n _)
 
 pub drawn-count : (f : Form) (d n s : ℕ) → length (drawCells f d n s .made) ≡ n
 unfolding drawCells
 drawn-count f d zero s = refl
-drawn-count f d (suc n) s = ap suc (drawn-count f d n (drawCell f d s .state))
+drawn-count f d (suc n) s = ap suc (drawn-count f d n _)
 
-pub short-total : (vs : List Value) → All (λ v. length v ≤ 64) vs → length (joined vs) ≤ 64 * length vs
-short-total [] p = omega arith
-short-total (v ∷ vs) p = omega (arith, length-append v (joined vs), p .0, short-total vs (p .1))
+pub short-total : (m : ℕ) (vs : List Value) → All (λ v. length v ≤ m) vs → length (joined vs) ≤ length vs * m
+short-total m [] p = omega arith
+short-total m (v ∷ vs) p = omega (arith, length-append v (joined vs), p .0, short-total m vs (p .1), suc-mul (length vs) m)
+
+-- n cells have at most n times the bytes of the longest value
+pub drawn-total : (f : Form) (d n s : ℕ) → length (joined (leaves d (drawCells f d n s .made))) ≤ n * longest f
+drawn-total f d n s =
+    let cs : List (Cell d) = drawCells f d n s .made in
+    let each : All (λ c. length (leaf d c) ≤ longest f) cs = All-map (DrawnCell f d) (λ c. length (leaf d c) ≤ longest f) (λ c r. r .value .short) cs (drawn-cells f d n s) in
+    le-trans (short-total (longest f) (leaves d cs) (All-image (λ v. length v ≤ longest f) (leaf d) cs each))
+    (le-of-eq (ap (λ (m : ℕ). m * longest f) (length-map cs (leaf d) ∙ drawn-count f d n s)))
 
 -- ---- forms that are alike draw alike
 
@@ -93,6 +110,4 @@ module _ (f g : Form) (e : (s : ℕ) → drawValue f s ≡ drawValue g s) (z : n
   pub same-cells : (d n s : ℕ) → drawCells f d n s ≡ drawCells g d n s
   unfolding drawCells
   same-cells d zero s = refl
-  same-cells d (suc n) s =
-      ap (λ (c : Drew (Cell d)). record { made = c .made ∷ drawCells f d n (c .state) .made; state = drawCells f d n (c .state) .state }) (same-cell d s)
-      ∙ ap (λ (r : Drew (List (Cell d))). record { made = drawCell g d s .made ∷ r .made; state = r .state }) (same-cells d n (drawCell g d s .state))
+  same-cells d (suc n) s = simp (same-cell, same-cells d n)

@@ -1,10 +1,10 @@
 -- A load is a valid array in rest form, and determined (specs/Law).
 -- Assumes nothing.
 use mathlib.Core.Path.{_≡_, refl, sym, ap, _∙_}
-use Prim.Native.Nat.{ℕ, _+_, _*_, _<_, _≤_}
+use Prim.Native.Nat.{ℕ, _<_}
+use native.Mathlib.Nat.{mul-le-mul}
 use native.Mathlib.Omega.{arith}
-use mathlib.Core.List.{List, [], _∷_, map}
-use lib.ListN.{length, length-map}
+use mathlib.Core.List.{List, [], _∷_}
 use Rattle.array.specs.Answer.{Answer, gives, unless}
 use Rattle.array.specs.Limits.{mostBytes, mostCells}
 use Rattle.array.specs.Lists.{All, joined}
@@ -23,7 +23,7 @@ use Rattle.load.specs.Generator.{Drew, draw, drawBytes}
 use Rattle.load.specs.Load.{drawValue, drawCells, loadOf}
 use Rattle.load.specs.Calls.{generateAnswer, generated}
 use Rattle.load.specs.Law.{SameSize, LoadLaw, Loads}
-use Rattle.load.proofs.Drawn.{DrawnValue, DrawnCell, drawn-cells, drawn-count, short-total, same-cells}
+use Rattle.load.proofs.Drawn.{longest-small, DrawnCell, drawn-cells, drawn-count, drawn-total, same-cells}
 
 joined-bytes : (vs : List Value) → All (λ v. All (λ b. b < 256) v) vs → All (λ b. b < 256) (joined vs)
 joined-bytes [] p = tt
@@ -41,7 +41,7 @@ laid-same (ragged w p) (fixed k o) e d n s = absurd e
 laid-same (ragged w p) (ragged w′ p′) e d n s =
     ap (λ (r : Drew (List (Cell d))). layout (ragged w′ p′) d (r .made)) (same-cells (ragged w p) (ragged w′ p′) (λ t. refl) refl d n s)
 
-load-same : (j k : Kind) (shape : List ℕ) (s : ℕ) → j .depth ≡ k .depth → SameSize (j .form) (k .form) → loadOf j shape s ≡ loadOf k shape s
+pub load-same : (j k : Kind) (shape : List ℕ) (s : ℕ) → j .depth ≡ k .depth → SameSize (j .form) (k .form) → loadOf j shape s ≡ loadOf k shape s
 load-same j k shape s e a =
     ap (λ (d : ℕ). layout (j .form) d (drawCells (j .form) d (volume shape) s .made)) e ∙ laid-same (j .form) (k .form) a (k .depth) (volume shape) s
 
@@ -52,7 +52,7 @@ module _ (k : Kind) (ok : KindOk k) (shape : List ℕ) (sh : ShapeOk shape) (s :
   cells = drawCells (k .form) (k .depth) (volume shape) s .made
 
   drawn : All (DrawnCell (k .form) (k .depth)) cells
-  drawn = drawn-cells (k .form) (ok .sound) (k .depth) (volume shape) s
+  drawn = drawn-cells (k .form) (k .depth) (volume shape) s
 
   -- what holds of each drawn cell holds of all
   each : (P : Cell (k .depth) → Type 0) → ((c : Cell (k .depth)) → DrawnCell (k .form) (k .depth) c → P c) → All P cells
@@ -64,13 +64,10 @@ module _ (k : Kind) (ok : KindOk k) (shape : List ℕ) (sh : ShapeOk shape) (s :
   good : Good k (volume shape) cells
   unfolding mostBytes mostCells
   good =
-      let n : length cells ≡ volume shape = drawn-count (k .form) (k .depth) (volume shape) s in
-      let vs : List Value = leaves (k .depth) cells in
-      let total : length (joined vs) ≤ 64 * length vs = short-total vs (of-values (λ v. length v ≤ 64) (λ c r. r .value .short)) in
       record {
-        counted = n;
+        counted = drawn-count (k .form) (k .depth) (volume shape) s;
         sized = of-values (OfSize (k .form)) (λ c r. r .value .sized);
-        small = omega (arith, length-map cells (leaf (k .depth)), sh .few-cells);
+        small = omega (arith, drawn-total (k .form) (k .depth) (volume shape) s, mul-le-mul (sh .few-cells) (longest-small (k .form) (ok .sound)));
       }
 
   -- the answer for a kind in order, over what was drawn

@@ -8,11 +8,15 @@ use Rattle.array.specs.Cells.{Value, Cell, blank}
 use Rattle.array.specs.Content.{Content, layout}
 use Rattle.load.specs.Generator.{Drew, draw, drawBytes}
 
+-- the length of a ragged value, by its draw
+abbrev pub lengthBy : ℕ → ℕ
+lengthBy m = m % 9
+
 -- a fixed value is its bytes; a ragged one draws its length first
 unfoldable pub drawValue : Form → ℕ → Drew Value
 unfolding draw drawBytes
 drawValue (fixed k o) s = drawBytes k s
-drawValue (ragged w p) s = drawBytes (draw s .made % 9) (draw s .state)
+drawValue (ragged w p) s = drawBytes (lengthBy (draw s .made)) (draw s .state)
 
 -- a level whose draw is m mod 4, and the state after it: null for 0, and then b stands below and nothing is drawn for it; else set, above r
 abbrev pub levelBy : {A : Type 0} → ℕ → ℕ → A → Drew A → Drew (ℕ × A)
