@@ -1,9 +1,9 @@
 //! Stored bytes as the pictures of docs/FORMAT.md show them: position, bytes, what they are.
 
 use crate::literal;
-use crate::locate::{self, Field, Mark, Part, Walk};
+use crate::locate::{self, Field, Part, Walk};
 use crate::words;
-use durpaxeta::{Kind, MaskForm, Order, Values};
+use durpaxeta::{Kind, Mark, MaskForm, Order, Values};
 use std::fmt::Write;
 use std::ops::Range;
 

@@ -3,7 +3,7 @@
 //! The library answers with a number alone. This module walks the same bytes and names the fields. It decides nothing:
 //! where it stops is used only where it comes to the library's refusal.
 
-use durpaxeta::{Kind, MaskForm, Place, Refusal, Values, Width, MAX_VALUE_BYTES};
+use durpaxeta::{Kind, Mark, MaskForm, Place, Refusal, Values, Width, MAX_VALUE_BYTES};
 use std::ops::Range;
 
 /// Where reading stops, and why.
@@ -154,25 +154,12 @@ fn mask_length(form: MaskForm, cells: usize) -> usize {
     }
 }
 
-/// What a mask says of a cell. A byte can say neither; a bit cannot.
-#[derive(Clone, Copy, Debug, PartialEq, Eq)]
-pub enum Mark {
-    Null,
-    Set,
-    Other,
-}
-
-/// What a mask says of the cell at a place.
+/// What a mask says of the cell at a place. A byte can say neither null nor set; a bit cannot.
 pub fn mark(form: MaskForm, mask: &[u8], place: usize) -> Mark {
-    let number = match form {
+    Mark::of(match form {
         MaskForm::Bytes => mask[place],
         MaskForm::Packed => mask[place / BITS] >> (place % BITS) & 1,
-    };
-    match number {
-        0 => Mark::Null,
-        1 => Mark::Set,
-        _ => Mark::Other,
-    }
+    })
 }
 
 /// The places of a mask of so many cells that lie in these of its bytes.

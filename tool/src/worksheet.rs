@@ -21,7 +21,7 @@
 use crate::failure::Failure;
 use crate::literal::{self, hex_byte, word};
 use crate::words;
-use durpaxeta::{Array, Cell, Kind, Refusal, Values};
+use durpaxeta::{Array, Cell, Kind, Mark, Refusal, Values};
 use std::fmt::Write;
 
 const TITLE: &str = "durpaxeta worksheet 1";
@@ -185,11 +185,11 @@ impl Reader<'_> {
             return Err(self.wrong(format!("cell {coordinates} was given before, in line {}", given.line)));
         }
         let masks = self.masks(kind, masks.trim())?;
-        let null = masks.iter().position(|&mask| mask == 0);
+        let null = masks.iter().position(|&mask| Mark::of(mask) == Mark::Null);
         let from = self.data.len();
         if let Some(rest) = word(what, "null") {
             self.null(null, rest)?;
-            if masks.iter().skip(null.unwrap_or(0)).any(|&mask| mask != 0) {
+            if masks.iter().skip(null.unwrap_or(0)).any(|&mask| Mark::of(mask) == Mark::Set) {
                 return Err(self.wrong("below a null every mask byte is 00"));
             }
             if let Values::Fixed { size, .. } = kind.values {
@@ -229,14 +229,16 @@ impl Reader<'_> {
         }
         let masks: Option<Vec<u8>> = text.split_whitespace().map(hex_byte).collect();
         match masks {
-            Some(masks) if masks.len() as u64 == kind.depth => match masks.iter().position(|&mask| mask > 1) {
-                None => Ok(masks),
-                Some(level) => {
-                    let (byte, level) = (masks[level], level + 1);
-                    let detail = format!("The mask byte of level {level} is {byte:02X}; 00 is null, 01 is set");
-                    Err(self.refused(Refusal::Content, detail))
+            Some(masks) if masks.len() as u64 == kind.depth => {
+                match masks.iter().position(|&mask| Mark::of(mask) == Mark::Other) {
+                    None => Ok(masks),
+                    Some(level) => {
+                        let (byte, level) = (masks[level], level + 1);
+                        let detail = format!("The mask byte of level {level} is {byte:02X}; 00 is null, 01 is set");
+                        Err(self.refused(Refusal::Content, detail))
+                    }
                 }
-            },
+            }
             _ => Err(self.wrong(format!(
                 "\"{text}\" is not one mask byte for each level, outermost first; at depth {} write for example \"{}\"",
                 kind.depth,

@@ -39,6 +39,33 @@ pub struct ArrayRef<'a> {
     pub offsets: &'a [u64],
 }
 
+/// What a mask byte says of its cell.
+#[derive(Clone, Copy, Debug, PartialEq, Eq, Hash)]
+pub enum Mark {
+    /// 00.
+    Null,
+    /// 01.
+    Set,
+    /// Any other byte, which no mask has: handed over it is refused with `Content`, stored with `NotBoolean`.
+    Other,
+}
+
+impl Mark {
+    /// Reads a mask byte.
+    ///
+    /// ```
+    /// use durpaxeta::Mark;
+    /// assert_eq!([0, 1, 2, 0xFF].map(Mark::of), [Mark::Null, Mark::Set, Mark::Other, Mark::Other]);
+    /// ```
+    pub const fn of(byte: u8) -> Mark {
+        match byte {
+            0 => Mark::Null,
+            1 => Mark::Set,
+            _ => Mark::Other,
+        }
+    }
+}
+
 /// What a cell is: null at a level, or a value, which may be empty.
 #[derive(Clone, Copy, Debug, PartialEq, Eq, Hash)]
 pub enum Cell<'a> {
@@ -250,10 +277,10 @@ impl<'a> ArrayRef<'a> {
             return None;
         }
         for level in 0..usize::try_from(self.kind.depth).ok()? {
-            match *self.masks.get(level.checked_mul(count)?.checked_add(number)?)? {
-                0 => return Some(Cell::Null { level: level + 1 }),
-                1 => {}
-                _ => return None,
+            match Mark::of(*self.masks.get(level.checked_mul(count)?.checked_add(number)?)?) {
+                Mark::Null => return Some(Cell::Null { level: level + 1 }),
+                Mark::Set => {}
+                Mark::Other => return None,
             }
         }
         let (from, to) = match self.kind.values {
