@@ -15,6 +15,7 @@ impl Mask {
     pub fn name(self) -> &'static str {
         ["empty mask", "full mask", "half mask", "clustered mask", "sparse mask"][self as usize]
     }
+    /// 00 and 01 only: what both sides take.
     pub fn plane(self, rng: &mut Rng, cells: usize) -> Vec<u8> {
         match self {
             Mask::Empty => vec![0; cells],

@@ -9,13 +9,13 @@
  *   kind     dpx_kind, below: how many mask levels, how stored masks lie, and fixed or ragged values.
  *   shape    1 to 4 sides, each at least 1, at most 65,536 cells. Cells are numbered row by row, the last side fastest.
  *   masks    one plane for each level, outermost first, one byte a cell, end to end: depth * cells bytes.
- *            00 is null, any other byte is set and kept as it is. A cell that is null at one level has no value.
- *            Stored masks may be packed, a bit a cell; these planes never are. What is read from bits is 00 or 01.
+ *            00 is null, 01 is set; there is no other mask byte, below a null neither. A cell that is null at one level
+ *            has no value. Stored masks may be packed, a bit a cell; these planes never are.
  *   values   the value bytes. Fixed: cells * size bytes. Ragged: all values, one after the other.
  *   offsets  ragged only: cells + 1 numbers. Cell i has the value bytes from offsets[i] up to offsets[i + 1].
  *            They never fall, and the last is the count of value bytes. A fixed kind has none.
  *
- * Null and empty are two things. Null: a mask byte is 00. Empty: all mask bytes are set, and the value has no bytes.
+ * Null and empty are two things. Null: a mask byte is 00. Empty: all mask bytes are 01, and the value has no bytes.
  *
  * Masks come before values, and values before offsets, in every call.
  *
@@ -55,9 +55,9 @@ extern "C" {
 
 /* The version, as three numbers, as text, and as one number that grows with it: #if DPX_VERSION_NUMBER >= 1002003 */
 #define DPX_VERSION_MAJOR 0
-#define DPX_VERSION_MINOR 3
+#define DPX_VERSION_MINOR 4
 #define DPX_VERSION_PATCH 0
-#define DPX_VERSION "0.3.0"
+#define DPX_VERSION "0.4.0"
 #define DPX_VERSION_NUMBER (DPX_VERSION_MAJOR * 1000000 + DPX_VERSION_MINOR * 1000 + DPX_VERSION_PATCH)
 
 /* Limits. One more of any of these is refused. */
@@ -78,7 +78,8 @@ enum dpx_refusal {
                        holds no cell */
 
     /* Whoever hands over an array or a chunk list. */
-    DPX_CONTENT = 4, /* lengths of masks, values, offsets or chunks disagree, or offsets break their rule */
+    DPX_CONTENT = 4, /* lengths of masks, values, offsets or chunks disagree, a mask byte is over 01, or offsets break their
+                        rule */
     DPX_SIZE = 5,    /* over 16,777,216 value bytes */
     DPX_COVER = 12,  /* the subsets of a merge miss a cell or hold one twice */
 
@@ -89,6 +90,7 @@ enum dpx_refusal {
     DPX_FALLING = 10,  /* stored offsets fall */
     DPX_PAST_END = 11, /* older form: a length field or a cell runs past the end */
     DPX_UNUSED_BITS = 13, /* a packed mask has a bit after its last cell that is not 0 */
+    DPX_NOT_BOOLEAN = 14, /* a stored mask of bytes has a byte over 01 */
 
     /* Whoever lends the output. */
     DPX_OUTPUT = 6 /* an output is shorter than the result needs */
@@ -109,7 +111,8 @@ static inline const char *dpx_refusal_text(uint32_t refusal)
                            " all" DPX_DESCRIBER;
     case DPX_SUBSET: return "refusal 3: a subset reaches past the shape, or has not one start and one length for each side,"
                             " or, in a merge, holds no cell" DPX_DESCRIBER;
-    case DPX_CONTENT: return "refusal 4: lengths of masks, values, offsets or chunks disagree, or offsets fall" DPX_SUPPLIER;
+    case DPX_CONTENT: return "refusal 4: lengths of masks, values, offsets or chunks disagree, a mask byte is neither 00 nor"
+                             " 01, or offsets fall" DPX_SUPPLIER;
     case DPX_SIZE: return "refusal 5: more than 16,777,216 value bytes" DPX_SUPPLIER;
     case DPX_OUTPUT: return "refusal 6: an output is shorter than the result needs" DPX_LENDER;
     case DPX_SHORT: return "refusal 7: too few stored bytes: a frame takes at least 16, ragged values 8, the interleaved form"
@@ -121,6 +124,7 @@ static inline const char *dpx_refusal_text(uint32_t refusal)
     case DPX_PAST_END: return "refusal 11: interleaved form: a length field or a cell runs past the end" DPX_STORER;
     case DPX_COVER: return "refusal 12: the subsets of the merge miss a cell or hold one twice" DPX_SUPPLIER;
     case DPX_UNUSED_BITS: return "refusal 13: a packed mask has a bit after its last cell that is not 0" DPX_STORER;
+    case DPX_NOT_BOOLEAN: return "refusal 14: a stored mask byte is neither 00 nor 01" DPX_STORER;
     default: return "no answer of this version";
     }
 }
@@ -300,7 +304,7 @@ static inline dpx_cell dpx_get_cell(dpx_kind kind, uint64_t cells,
  * Array to stored bytes.
  *
  * Writes the stored form to `out`. Values below a null are not stored. Fixed values of big order are stored with the
- * bytes of each cell reversed. A packed mask has bit 1 for every set mask byte, and 0 in the bits after its last cell. At
+ * bytes of each cell reversed. A packed mask has bit 1 for every mask byte 01, and 0 in the bits after its last cell. At
  * depth 0 all else is stored as it is.
  * Enough room: dpx_stored_room.
  *
@@ -309,8 +313,9 @@ static inline dpx_cell dpx_get_cell(dpx_kind kind, uint64_t cells,
  * Refusals, in this order:
  *   1 DPX_KIND     whoever describes the table
  *   2 DPX_SHAPE    whoever describes the table
- *   4 DPX_CONTENT  whoever hands over the array: masks_len is not depth * cells; fixed: values_len is not cells * size, or
- *                  there are offsets; ragged: offsets_len is not cells + 1, offsets fall, or the last is not values_len
+ *   4 DPX_CONTENT  whoever hands over the array: masks_len is not depth * cells; a mask byte is over 01, in packed kinds too
+ *                  and below a null too; fixed: values_len is not cells * size, or there are offsets; ragged: offsets_len
+ *                  is not cells + 1, offsets fall, or the last is not values_len
  *   5 DPX_SIZE     whoever hands over the array: the last offset is over 16,777,216
  *   6 DPX_OUTPUT   whoever lends the output: out_len is under the written length
  */
@@ -345,6 +350,7 @@ uint32_t dpx_encode(dpx_kind kind,
  *                  count of cells set above; packed: not that count divided by 8, rounded up
  *  13 DPX_UNUSED_BITS  whoever stored the bytes: in the last byte of a packed mask, a bit after the last of those cells is
  *                  not 0
+ *  14 DPX_NOT_BOOLEAN  whoever stored the bytes: a byte of a mask that is not packed is over 01, wherever in that mask
  *   then, if a cell is set at all levels, of ragged values:
  *   7 DPX_SHORT    whoever stored the bytes: under 8 bytes
  *   8 DPX_LENGTH   whoever stored the bytes: the index is longer than the bytes, or not width * (cells + 1); or the last
@@ -491,8 +497,8 @@ uint32_t dpx_extract(dpx_kind kind,
  *   2 DPX_SHAPE    whoever describes the table
  *   3 DPX_SUBSET   whoever describes the table: subsets_len is no multiple of 2 * shape_len, a subset reaches past the
  *                  shape, or a subset holds no cell
- *   4 DPX_CONTENT  whoever hands over the chunk list: lengths are not what the subsets and the last offsets say, or the
- *                  offsets of a chunk fall
+ *   4 DPX_CONTENT  whoever hands over the chunk list: lengths are not what the subsets and the last offsets say, a mask byte
+ *                  is over 01, or the offsets of a chunk fall
  *   5 DPX_SIZE     whoever hands over the chunk list: the cells of all chunks sum up to over 16,777,216 bytes
  *  12 DPX_COVER    whoever hands over the chunk list: a cell is missed or held twice
  *   6 DPX_OUTPUT   whoever lends the outputs

@@ -5,7 +5,7 @@ must print of them.
     whole_way.py    writes crates/whole_way/stdin and crates/whole_way/stdout
 
 Here a table is a list of cells, each with its mask bytes and its value. Expected are the rest form of these cells, and of the cells of a
-subset, laid out, with every set mask byte as 01 where masks are packed; nothing is written to a stored form, read from one or merged, and no answer of the program is looked at. The draws
+subset, laid out; nothing is written to a stored form, read from one or merged, and no answer of the program is looked at. The draws
 have a fixed seed, so the files come out the same each time."""
 import itertools
 import math
@@ -19,7 +19,6 @@ SHAPES = {
     3: [[1, 1, 2], [2, 2, 2], [1, 3, 2], [3, 1, 4], [3, 3, 2], [2, 3, 4]],
     4: [[1, 1, 1, 1], [2, 1, 2, 1], [2, 2, 2, 1], [1, 2, 3, 2], [2, 2, 2, 2], [3, 2, 1, 4]],
 }
-SET_BYTES = (1, 1, 2, 0x7F, 0x80, 0xFF)
 LONG_RUN = 5
 
 rng = random.Random(20)
@@ -68,9 +67,8 @@ def rest(kind, cell):
     masks, value = cell
     kept, live = [], True
     for byte in masks:
-        said = min(byte, 1) if is_packed(kind) else byte
-        kept.append(said if live else 0)
-        live = live and byte != 0
+        kept.append(byte if live else 0)
+        live = live and byte == 1
     if live:
         return kept, value
     return kept, empty_value(kind)
@@ -200,7 +198,7 @@ def draw_cells(kind, count, style):
     nulls = 1 - whole ** (1 / max(depth, 1))
     cells = []
     for _ in range(count):
-        masks = [0 if rng.random() < nulls else rng.choice(SET_BYTES) for _ in range(depth)]
+        masks = [int(rng.random() >= nulls) for _ in range(depth)]
         if style == "null" and depth:
             masks[rng.randrange(depth)] = 0
         cells.append((masks, draw_value(kind)))
@@ -210,11 +208,11 @@ def draw_cells(kind, count, style):
         rng.shuffle(pair)
         if style in ("mixed", "few") and depth:
             level = rng.randrange(depth)
-            masks = [0 if i == level else rng.choice(SET_BYTES) for i in range(depth)]
+            masks = [int(i != level) for i in range(depth)]
             hidden = draw_value(kind)
             cells[pair[0]] = masks, hidden or b"\xEE"
         if style != "null":
-            cells[pair[1]] = [rng.choice(SET_BYTES) for _ in range(depth)], empty_value(kind)
+            cells[pair[1]] = [1] * depth, empty_value(kind)
     return cells
 
 
@@ -291,6 +289,8 @@ REFUSED = [
     ("an empty subset: its lengths are no shape to write", "1,0,2,0 2,2 0,0,2,2+1,1,0,1 01000100 0A0B+0C0D+0E0F+1011 -", 2),
     ("offsets fall", "0,1,8,1 2 0,2 - 4142 0,3,2", 4),
     ("a mask too few", "2,0,1,0 2 0,2 010101 0102 -", 4),
+    ("a mask byte over 01", "2,0,1,0 2 0,1+1,1 01020101 0102 -", 4),
+    ("a mask byte over 01 below a null, packed masks", "2,0,1,0,1 2 0,1+1,1 00010201 0102 -", 4),
 ]
 
 
@@ -303,7 +303,7 @@ HEAD = [
 
 
 PACKED = [
-    "# Packed masks: every second kind, one table of each. Set mask bytes come out as 01.",
+    "# Packed masks: every second kind, one table of each.",
     "#",
 ]
 

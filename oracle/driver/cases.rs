@@ -111,11 +111,17 @@ struct Content {
     values: Vec<u8>,
     offsets: Vec<u64>,
 }
-fn mask_byte(rng: &mut Rng) -> u8 {
-    match rng.below(4) {
-        0 => 1,
-        1 => rng.pick(&[2, 3, 0x7F, 0x80, 0xFE, 0xFF]),
-        _ => 1 + rng.below(255) as u8,
+/// Neither null nor set: no mask has such a byte.
+fn over_01(rng: &mut Rng) -> u8 {
+    if rng.below(2) == 0 { rng.pick(&[2, 3, 0x10, 0x7F, 0x80, 0x81, 0xFE, 0xFF]) } else { 2 + rng.below(254) as u8 }
+}
+/// One byte, now and then a second one, over 01.
+fn spoilt(rng: &mut Rng, mask: &mut [u8]) {
+    if mask.is_empty() {
+        return;
+    }
+    for _ in 0..1 + usize::from(rng.once_in(3)) {
+        mask[rng.below(mask.len())] = over_01(rng);
     }
 }
 fn plane(rng: &mut Rng, cells: usize) -> Vec<u8> {
@@ -126,13 +132,13 @@ fn plane(rng: &mut Rng, cells: usize) -> Vec<u8> {
         while mask.len() < cells {
             let run = 1 + rng.below(longest);
             let set = rng.below(2) == 1;
-            mask.extend((0..run).map(|_| if set { mask_byte(rng) } else { 0 }));
+            mask.extend(vec![u8::from(set); run]);
         }
         mask.truncate(cells);
         return mask;
     }
     let of_eight = rng.pick(&[0, 1, 4, 4, 4, 6, 7, 8, 8]);
-    (0..cells).map(|_| if rng.below(8) < of_eight { mask_byte(rng) } else { 0 }).collect()
+    (0..cells).map(|_| u8::from(rng.below(8) < of_eight)).collect()
 }
 /// Lengths of ragged values: many empty, most short.
 fn value_lengths(rng: &mut Rng, cells: usize) -> Vec<usize> {
@@ -189,7 +195,7 @@ fn ragged_string(width: u64, place: u64, offsets: &[u64], data: &[u8]) -> Vec<u8
 fn stored(rng: &mut Rng, kind: [u64; 5], cells: usize) -> Vec<u8> {
     if kind[0] > 0 {
         let mask = plane(rng, cells);
-        let set = mask.iter().filter(|&&m| m != 0).count();
+        let set = mask.iter().filter(|&&m| m == 1).count();
         let inner = at_depth(kind, kind[0] as usize - 1);
         let content = if set > 0 {
             stored(rng, inner, set)
@@ -216,7 +222,7 @@ fn stored(rng: &mut Rng, kind: [u64; 5], cells: usize) -> Vec<u8> {
 fn wrapped(rng: &mut Rng, masks: u64, levels: usize, cells: usize, content: Vec<u8>) -> (Vec<u8>, usize) {
     let (mut bytes, mut cells) = (content, cells);
     for _ in 0..levels {
-        let mut mask: Vec<u8> = (0..cells).map(|_| mask_byte(rng)).collect();
+        let mut mask = vec![1; cells];
         let nulls = rng.pick(&[0, 0, 1, 2]);
         mask.extend(vec![0; nulls]);
         rng.shuffle(&mut mask);
@@ -330,10 +336,16 @@ fn damaged(rng: &mut Rng, bytes: &[u8], masks: u64, cells: usize) -> Vec<u8> {
     let mut copy = bytes.to_vec();
     let length = copy.len();
     let mask_length = judge::mask_bytes(masks == 1, cells);
-    match rng.below(10) {
+    match rng.below(12) {
         0 if length > 0 => {
             let at = rng.below(length);
             copy[at] ^= 1 << rng.below(8);
+        }
+        10 | 11 if length > 16 => {
+            // a mask byte, of the outermost frame or of the next
+            let at = rng.pick(&[16, 16, 32 + mask_length]).min(length - 1);
+            let end = (at + cells).min(length);
+            spoilt(rng, &mut copy[at..end]);
         }
         1 if length > 0 => copy.truncate(rng.below(length)),
         2 => {
@@ -408,9 +420,10 @@ fn damaged_bytes(rng: &mut Rng, list: &[u8]) -> Vec<u8> {
 /// A damaged content. Offsets that would make the Rust ask for memory stay outside the domain, since the array's rules are broken.
 fn damaged_content(rng: &mut Rng, c: &Content) -> Content {
     let mut copy = c.clone();
-    match rng.below(4) {
+    match rng.below(5) {
         0 => copy.masks = damaged_bytes(rng, &c.masks),
         1 => copy.values = damaged_bytes(rng, &c.values),
+        2 => spoilt(rng, &mut copy.masks),
         _ => copy.offsets = damaged_numbers(rng, &c.offsets),
     }
     copy
@@ -473,6 +486,9 @@ fn faulty_head(rng: &mut Rng, kind: &mut [u64; 5], shape: &mut Vec<u64>) {
 fn faulty_content(rng: &mut Rng, masks: &mut Vec<u8>, values: &mut Vec<u8>, offsets: &mut Vec<u64>) {
     if rng.once_in(3) {
         *masks = damaged_bytes(rng, masks);
+    }
+    if rng.once_in(5) {
+        spoilt(rng, masks);
     }
     if rng.once_in(3) {
         *values = damaged_bytes(rng, values);
@@ -574,7 +590,7 @@ fn exhaustive_masks(sink: &mut dyn Sink, rng: &mut Rng) {
             }
             let lengths = if depth * cells > 6 || cells == 4 { 2 } else { 3 };
             for set in 0..1u64 << (depth * cells) {
-                let masks: Vec<u8> = (0..depth * cells).map(|i| if set >> i & 1 == 1 { mask_byte(rng) } else { 0 }).collect();
+                let masks: Vec<u8> = (0..depth * cells).map(|i| (set >> i & 1) as u8).collect();
                 let mut both = |kind, c: &Content| {
                     let shape = shape_of(rng, cells);
                     let request = encode(kind, &shape, c);
@@ -719,7 +735,7 @@ fn exhaustive_strings(sink: &mut dyn Sink, rng: &mut Rng) {
 fn exhaustive_packed(sink: &mut dyn Sink, rng: &mut Rng) {
     for cells in 1..=10 {
         for set in 0..1_u64 << cells {
-            let plane: Vec<u8> = (0..cells).map(|i| if set >> i & 1 == 1 { mask_byte(rng) } else { 0 }).collect();
+            let plane: Vec<u8> = (0..cells).map(|i| (set >> i & 1) as u8).collect();
             for kind in [packed(fixed(1, 1, 0)), packed(ragged(1, 4, 1))] {
                 let c = Content { masks: plane.clone(), ..content(rng, kind, cells) };
                 let shape = shape_of(rng, cells);
@@ -748,6 +764,91 @@ fn exhaustive_packed(sink: &mut dyn Sink, rng: &mut Rng) {
                 let levels = 1 + rng.below(3);
                 let (bytes, outer) = wrapped(rng, 1, levels, cells, s);
                 sink.ask(decode(packed(fixed(1 + levels, 1, 0)), &[outer as u64], &bytes));
+            }
+        }
+    }
+}
+
+/// Mask bytes over 01. Stored: every two bytes as a mask; one in each place of masks of up to 66 cells, and of two cells at each level, with
+/// the content of the cells that are 01, of those that are not 00, with none, and with one byte more. Handed over: every byte in each place of
+/// a plane of two cells at each depth, and one in each place of planes of up to 66 cells.
+fn exhaustive_strict(sink: &mut dyn Sink, rng: &mut Rng) {
+    let contents = |mask: &[u8]| {
+        let (set, other) = (mask.iter().filter(|&&m| m == 1).count(), mask.iter().filter(|&&m| m > 1).count());
+        [vec![7; set], vec![7; set + other], vec![], vec![7; set + other + 1]]
+    };
+    for pair in 0..=0xFFFF_u16 {
+        let mask = pair.to_le_bytes();
+        let content = rng.pick(&[0, 1, 1, 2, 3]);
+        sink.ask(decode(fixed(1, 1, 0), &[2], &frame(0, &mask, &contents(&mask)[content])));
+    }
+    for cells in 1..=66 {
+        for at in 0..cells {
+            let mut mask = plane(rng, cells);
+            let kind = rng.pick(&[fixed(1, 1, 0), ragged(1, 4, 0), packed(fixed(1, 1, 0))]);
+            let mut c = content(rng, kind, cells);
+            (mask[at], c.masks[at]) = (over_01(rng), over_01(rng));
+            for content in contents(&mask) {
+                sink.ask(decode(fixed(1, 1, 0), &[cells as u64], &frame(0, &mask, &content)));
+            }
+            let shape = shape_of(rng, cells);
+            sink.ask(encode(kind, &shape, &c));
+            let subset = inside(rng, &shape);
+            sink.ask(extract(kind, &shape, &subset, &c));
+            let whole = [vec![0; shape.len()], shape.clone()].concat();
+            sink.ask(merge(kind, &shape, &[(whole, c)]));
+        }
+    }
+    strict_levels(sink, rng);
+    strict_planes(sink, rng);
+}
+/// Each level of up to four: a mask of two cells with a byte over 01, in frames that set two cells of two or three.
+fn strict_levels(sink: &mut dyn Sink, rng: &mut Rng) {
+    for kind in [fixed(0, 1, 0), fixed(0, 2, 1), ragged(0, 4, 0), ragged(0, 8, 1)] {
+        for depth in 1..=4 {
+            for level in 0..depth {
+                for mask in [[2, 0], [0, 2], [2, 1], [1, 2], [0xFF, 1], [1, 0x80], [2, 2], [0xFF, 2]] {
+                    let set = mask.iter().filter(|&&m| m == 1).count();
+                    let inner = at_depth(kind, depth - level - 1);
+                    let mut list = vec![vec![], b"x".to_vec(), b"abcde".to_vec(), vec![0; 24], stored(rng, inner, 2)];
+                    if set > 0 {
+                        list.push(stored(rng, inner, set));
+                    }
+                    for content in list {
+                        let (bytes, outer) = wrapped(rng, 0, level, 2, frame(0, &mask, &content));
+                        sink.ask(decode(at_depth(kind, depth), &[outer as u64], &bytes));
+                        // and a wrong length beside it
+                        let mut copy = frame(0, &mask, &content);
+                        copy[rng.pick(&[0, 8])] ^= 1;
+                        let (bytes, outer) = wrapped(rng, 0, level, 2, copy);
+                        sink.ask(decode(at_depth(kind, depth), &[outer as u64], &bytes));
+                    }
+                }
+            }
+        }
+    }
+}
+/// Every byte in each place of planes of two cells, below nulls and below set cells, in both mask forms; also beside 5 and 12.
+fn strict_planes(sink: &mut dyn Sink, rng: &mut Rng) {
+    for depth in 1..=4 {
+        for at in 0..2 * depth {
+            for byte in 0..=0xFF {
+                let (width, place) = rng.pick(&RAGGED);
+                let mut kind = rng.pick(&[fixed(depth, 1, 0), fixed(depth, 3, 1), ragged(depth, width, place)]);
+                kind[4] = rng.below(2) as u64;
+                let mut c = content(rng, kind, 2);
+                c.masks[at] = byte;
+                sink.ask(encode(kind, &[2], &c));
+                sink.ask(encode_interleaved(at_depth(kind, 0), &[2], &c));
+                for subset in [[0, 1], [1, 1], [0, 0]] {
+                    sink.ask(extract(kind, &[2], &subset, &c));
+                }
+                sink.ask(merge(kind, &[2], &[(vec![0, 2], c.clone())]));
+                // in either chunk; 12 where cell 2 is missed
+                let other = content(rng, kind, 1);
+                sink.ask(merge(kind, &[3], &[(vec![2, 1], other.clone()), (vec![0, 2], c.clone())]));
+                sink.ask(merge(kind, &[3], &[(vec![0, 2], c.clone()), (vec![2, 1], other)]));
+                sink.ask(merge(kind, &[3], &[(vec![0, 2], c)]));
             }
         }
     }
@@ -1041,6 +1142,15 @@ fn many_cells(sink: &mut dyn Sink, rng: &mut Rng) {
             })
             .collect();
         sink.ask(merge(kind, &shape, &list));
+        if kind[0] > 0 {
+            let mut bad = c.clone();
+            spoilt(rng, &mut bad.masks);
+            sink.ask(encode(kind, &shape, &bad));
+            sink.ask(extract(kind, &shape, &subset, &bad));
+            let mut bad = s.clone();
+            spoilt(rng, &mut bad[16..16 + judge::mask_bytes(kind[4] == 1, CELLS)]);
+            sink.ask(decode(kind, &shape, &bad));
+        }
         sink.ask(encode(kind, &[65_537], &content(rng, kind, CELLS + 1)));
         ask_load(sink, kind, &shape, a_start(rng));
         sink.ask(generate(kind, &[65_537], a_start(rng)));
@@ -1080,7 +1190,12 @@ fn many_bytes(sink: &mut dyn Sink, rng: &mut Rng) {
         let late = Content { masks: vec![], values: values.to_vec(), offsets: vec![1, end] };
         let kind = ragged(0, 8, 0);
         sink.ask(encode(kind, &[1], &whole));
-        sink.ask(encode(ragged(1, 4, 1), &[1], &Content { masks: vec![9], ..whole.clone() }));
+        sink.ask(encode(ragged(1, 4, 1), &[1], &Content { masks: vec![1], ..whole.clone() }));
+        // 4 before 5
+        let bad = Content { masks: vec![2], ..whole.clone() };
+        sink.ask(encode(ragged(1, 4, 1), &[1], &bad));
+        sink.ask(extract(ragged(1, 4, 1), &[1], &[1, 0], &bad));
+        sink.ask(merge(ragged(1, 4, 1), &[1], &[(vec![0, 1], bad)]));
         sink.ask(encode(ragged(1, 4, 1), &[1], &Content { masks: vec![0], ..whole.clone() }));
         sink.ask(encode(kind, &[1], &Content { offsets: vec![end, end], ..whole.clone() }));
         ask_interleaved(sink, kind, &[1], &whole);
@@ -1349,6 +1464,7 @@ pub fn all(sink: &mut dyn Sink, seed: u64, requests: u64) {
     exhaustive_masks(sink, rng);
     exhaustive_strings(sink, rng);
     exhaustive_packed(sink, rng);
+    exhaustive_strict(sink, rng);
     loads(sink, rng);
     let mut turn = 0;
     while sink.asked() < requests {

@@ -52,9 +52,9 @@ extern "C" fn ended(number: i32) {
     }
 }
 
-/// The domain of the comparison: none of 1 to 6 and 12 holds.
+/// The domain of the comparison: none of 1 to 6, 12 and 14 holds. The Rust takes a mask byte over 01 for set.
 pub fn in_domain(judged: &Outcome) -> bool {
-    !matches!(judged, Err(1..=6 | 12))
+    !matches!(judged, Err(1..=6 | 12 | 14))
 }
 
 struct Compare {
@@ -63,13 +63,15 @@ struct Compare {
     stop_at_first: bool,
     counts: Counts,
 }
-const ANSWERS: usize = 14;
+const ANSWERS: usize = 15;
 #[derive(Default)]
 struct Counts {
     requests: [[u64; ANSWERS]; CALLS.len()],
     calls: [[u64; ANSWERS]; CALLS.len()],
     /// Requests of kinds with packed masks.
     packed: u64,
+    /// Arrays and chunk lists handed over with a mask byte over 01.
+    over_01: u64,
     /// Kinds, shapes and start numbers of loads that were asked for.
     loads: HashSet<String>,
     /// Requests that each build of the Rust answered: by its own function, as ragged cells.
@@ -207,6 +209,7 @@ impl Compare {
     fn hold(&mut self, request: &Request, judged: &Outcome) {
         NOW.fetch_add(1, Ordering::Relaxed);
         self.counts.packed += u64::from(request.packed());
+        self.counts.over_01 += u64::from(request.hands_over_01());
         if let (Request::Generate { .. }, Ok(_)) = (request, judged) {
             self.counts.loads.insert(lines::request_line(request));
         }
@@ -254,6 +257,10 @@ impl Compare {
             self.guarded.calls
         );
         println!("loads of {} different kinds, shapes and start numbers", self.counts.loads.len());
+        println!(
+            "a mask byte over 01: stored, refused with 14, in {} requests; handed over in {}",
+            self.counts.requests[1][14], self.counts.over_01
+        );
         println!(
             "in the domain and compared with each of {} builds of the Rust: {} by its own functions, {} as ragged cells of one size",
             BUILDS.len(),

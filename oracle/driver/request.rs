@@ -35,7 +35,7 @@ pub const CALLS: [&str; 10] = [
 /// `partial_decode` has 1 as well.
 pub const REFUSALS: [&[u32]; 10] = [
     &[1, 2, 4, 5, 6],
-    &[1, 2, 7, 8, 13, 10, 5, 6],
+    &[1, 2, 7, 8, 13, 14, 10, 5, 6],
     &[2, 7, 9, 11, 5, 6],
     &[1, 2, 3, 4, 5, 6],
     &[1, 2, 3, 4, 5, 12, 6],
@@ -89,6 +89,16 @@ impl Request {
             | Merge { kind, .. }
             | EncodeInterleaved { kind, .. }
             | Generate { kind, .. } => kind[4] == 1,
+            _ => false,
+        }
+    }
+
+    /// Of an array or chunk list with a mask byte over 01.
+    pub fn hands_over_01(&self) -> bool {
+        match self {
+            Encode { masks, .. } | Extract { masks, .. } | Merge { masks, .. } | EncodeInterleaved { masks, .. } => {
+                masks.iter().any(|&byte| byte > 1)
+            }
             _ => false,
         }
     }

@@ -1,4 +1,4 @@
-//! The judge: what document 01, document 02's requests 1 to 3 and docs/DECISIONS.md say of the ten calls, as plain code.
+//! The judge: what document 01, document 02's requests 1 to 5 and docs/DECISIONS.md say of the ten calls, as plain code.
 //!
 //! Each function takes what the call takes, as numbers and slices, and gives the result or the refusal number. Outputs are not lent:
 //! `fits` says where a lent output is too short (6), and c.rs puts a result into lent outputs.
@@ -115,8 +115,16 @@ fn fall(offsets: &[u64]) -> bool {
     (1..offsets.len()).any(|i| offsets[i] < offsets[i - 1])
 }
 
+/// A mask byte is 00 or 01, whatever lies around it.
+fn neither(mask: &[u8]) -> bool {
+    mask.iter().any(|&byte| byte > 1)
+}
+
 fn check_array(kind: Kind, cells: usize, masks: &[u8], values: &[u8], offsets: &[u64]) -> Result<(), Refusal> {
     if masks.len() != kind.depth * cells {
+        return Err(4);
+    }
+    if neither(masks) {
         return Err(4);
     }
     match kind.form {
@@ -176,7 +184,7 @@ fn pick<T: Clone>(list: &[T], cells: &[usize]) -> Vec<T> {
 }
 
 fn set_cells(mask: &[u8]) -> Vec<usize> {
-    (0..mask.len()).filter(|&cell| mask[cell] != 0).collect()
+    (0..mask.len()).filter(|&cell| mask[cell] == 1).collect()
 }
 
 // ---------------------------------------------------------------- encode
@@ -308,9 +316,13 @@ pub fn mask_bytes(packed: bool, cells: usize) -> usize {
     if packed { cells.div_ceil(8) } else { cells }
 }
 
-/// What a stored mask says of its cells: its bytes, or 01 for each set bit. 13 where a bit past these cells is set.
+/// What a stored mask says of its cells: its bytes, or 01 for each set bit. 14 where a byte is over 01, 13 where a bit past these cells is
+/// set.
 fn read_mask(packed: bool, cells: usize, mask: &[u8]) -> Result<Vec<u8>, Refusal> {
     if !packed {
+        if neither(mask) {
+            return Err(14);
+        }
         return Ok(mask.to_vec());
     }
     let bit = |i: usize| mask[i / 8] >> (i % 8) & 1;
@@ -518,9 +530,12 @@ pub fn merge(
         boxes.push(chunk);
     }
 
-    // 4: the totals that subsets and last offsets imply are the lengths given
+    // 4: the totals that subsets and last offsets imply are the lengths given, and each chunk keeps the array's rules
     let all: usize = boxes.iter().map(Vec::len).sum();
     if masks.len() != kind.depth * all {
+        return Err(4);
+    }
+    if neither(masks) {
         return Err(4);
     }
     let mut lists = vec![]; // the offsets of each chunk

@@ -34,7 +34,7 @@ static void texts(void)
         for (other = 1; other < number; other++)
             CHECK(strcmp(text, dpx_refusal_text(other)) != 0);
     }
-    CHECK(number > DPX_UNUSED_BITS);
+    CHECK(number > DPX_NOT_BOOLEAN);
 }
 
 static void counts(void)

@@ -299,10 +299,6 @@ static void test_encode(void)
     /* Big order turns the value only. */
     lend(0, 40, 0);
     STORES(dpx_encode(dpx_fixed(1, 2, DPX_BIG), NUMBERS(1), BYTES(1), BYTES(0x0A, 0x0B), NONE, OUT1), BYTES(LE8(1), LE8(2), 1, 0x0B, 0x0A));
-    /* Any byte but 00 is set, and kept. */
-    lend(0, 40, 0);
-    STORES(dpx_encode(dpx_fixed(1, 1, DPX_LITTLE), NUMBERS(2), BYTES(2, 255), BYTES(7, 8), NONE, OUT1),
-           BYTES(LE8(2), LE8(2), 2, 255, 7, 8));
     release();
 
     /* Depth 2: no inner mask for a cell that the outer mask hides. */
@@ -447,7 +443,7 @@ static void test_decode(void)
 
 /* ------------------------------------------------------------------------------------------------- packed masks */
 
-/* Written packed and as bytes, both read back: the same values, and masks of 01 where those of bytes are as they were. */
+/* Written packed and as bytes, both read back: the same masks and values. */
 static void packed_round_trip(size_t cells, size_t one_in)
 {
     const uint64_t all[1] = {cells};
@@ -458,10 +454,10 @@ static void packed_round_trip(size_t cells, size_t one_in)
     size_t i, outer = 0, left = 0;
 
     for (i = 0; i < cells; i++) {
-        masks[i] = i % one_in == 0 ? (uint8_t)(1 + i % 255) : 0;
-        masks[cells + i] = i % 3 == 1 ? 0 : (uint8_t)(255 - i % 255);
-        outer += masks[i] != 0;
-        left += masks[i] != 0 && masks[cells + i] != 0;
+        masks[i] = i % one_in == 0;
+        masks[cells + i] = i % 3 != 1;
+        outer += masks[i];
+        left += masks[i] & masks[cells + i];
     }
     for (i = 0; i < 3 * cells; i++)
         values[i] = (uint8_t)(i * 7 + 1);
@@ -472,8 +468,7 @@ static void packed_round_trip(size_t cells, size_t one_in)
 
     lend(2 * cells, 3 * cells, 0);
     ANSWERS(dpx_decode(bytes, all, 1, stored, length, OUT3), DPX_OK);
-    for (i = 0; i < 2 * cells; i++)
-        masks[i] = out.masks[i] != 0;
+    memcpy(masks, out.masks, 2 * cells);
     memcpy(values, out.values, 3 * cells);
     lend(2 * cells, 3 * cells, 0);
     GIVES(dpx_decode(packed, all, 1, packed_stored, packed_length, OUT3), masks, 2 * cells, values, 3 * cells, NONE);
@@ -493,15 +488,15 @@ static void test_packed(void)
         packed_round_trip(counts[i], 13);
     }
 
-    /* The lowest bit first; two bytes for nine cells; any byte but 00 is set, and reads as 01. */
+    /* The lowest bit first; two bytes for nine cells. */
     lend(0, 21, 0);
-    STORES(dpx_encode(f1, NUMBERS(9), BYTES(1, 2, 0, 0, 0, 0, 0, 0, 255), BYTES(1, 2, 3, 4, 5, 6, 7, 8, 9), NONE, OUT1),
+    STORES(dpx_encode(f1, NUMBERS(9), BYTES(1, 1, 0, 0, 0, 0, 0, 0, 1), BYTES(1, 2, 3, 4, 5, 6, 7, 8, 9), NONE, OUT1),
            BYTES(LE8(2), LE8(3), 3, 1, 1, 2, 9));
     lend(9, 9, 0);
     GIVES(dpx_decode(f1, NUMBERS(9), BYTES(LE8(2), LE8(3), 3, 1, 1, 2, 9), OUT3), BYTES(1, 1, 0, 0, 0, 0, 0, 0, 1),
           BYTES(1, 2, 0, 0, 0, 0, 0, 0, 9), NONE);
     lend(0, 40, 0);
-    STORES(dpx_encode(r4, NUMBERS(2), BYTES(0, 2), TEXT("AB"), NUMBERS(0, 1, 2), OUT1),
+    STORES(dpx_encode(r4, NUMBERS(2), BYTES(0, 1), TEXT("AB"), NUMBERS(0, 1, 2), OUT1),
            BYTES(LE8(1), LE8(17), 2, LE8(8), LE4(0), LE4(1), 'B'));
     lend(2, 1, 3);
     GIVES(dpx_decode(r4, NUMBERS(2), BYTES(LE8(1), LE8(17), 2, LE8(8), LE4(0), LE4(1), 'B'), OUT3), BYTES(0, 1), TEXT("B"),
@@ -510,11 +505,11 @@ static void test_packed(void)
     lend(18, 9, 0);
     GIVES(dpx_decode(f2, NUMBERS(9), BYTES(LE8(2), LE8(25), 255, 0, LE8(1), LE8(8), 255, 1, 2, 3, 4, 5, 6, 7, 8), OUT3),
           BYTES(1, 1, 1, 1, 1, 1, 1, 1, 0, 1, 1, 1, 1, 1, 1, 1, 1, 0), BYTES(1, 2, 3, 4, 5, 6, 7, 8, 0), NONE);
-    /* At depth 0 the mask form is idle; an extract keeps the mask bytes. */
+    /* At depth 0 the mask form is idle; an extract has mask bytes. */
     lend(0, 1, 0);
     STORES(dpx_encode(kind_of(0, DPX_FIXED, 1, 0, DPX_MASK_PACKED), NUMBERS(1), NONE, BYTES(7), NONE, OUT1), BYTES(7));
     lend(1, 1, 0);
-    GIVES(dpx_extract(f1, NUMBERS(2), NUMBERS(1, 1), BYTES(1, 2), BYTES(7, 8), NONE, OUT3), BYTES(2), BYTES(8), NONE);
+    GIVES(dpx_extract(f1, NUMBERS(2), NUMBERS(1, 1), BYTES(0, 1), BYTES(7, 8), NONE, OUT3), BYTES(1), BYTES(8), NONE);
     release();
 
     /* 13 of a mask, after its lengths and before its content; every output is too short as well. */
@@ -531,10 +526,80 @@ static void test_packed(void)
     REFUSED(dpx_decode(f1, NUMBERS(2), BYTES(LE8(2), LE8(2), 1, 1, 7, 8), OUT3), DPX_LENGTH);
     REFUSED(dpx_decode(f1, NUMBERS(9), BYTES(LE8(1), LE8(8), 255, 1, 2, 3, 4, 5, 6, 7, 8), OUT3), DPX_LENGTH);
     /* 4: planes handed over are bytes. */
-    REFUSED(dpx_encode(f1, NUMBERS(2), BYTES(3), BYTES(7, 8), NONE, OUT1), DPX_CONTENT);
+    REFUSED(dpx_encode(f1, NUMBERS(2), BYTES(1), BYTES(7, 8), NONE, OUT1), DPX_CONTENT);
     /* 6: and so are those read. */
     lend(1, 9, 0);
     REFUSED(dpx_decode(f1, NUMBERS(2), BYTES(LE8(1), LE8(2), 3, 7, 8), OUT3), DPX_OUTPUT);
+    release();
+}
+
+/* --------------------------------------------------------------------------------------------- strict mask bytes */
+
+/* A mask of `cells` bytes with one over 01 at `at`, stored and handed over in both forms; every output is too short as well. */
+static void one_over_01(size_t cells, size_t at, uint8_t over)
+{
+    const uint64_t all[1] = {cells}, whole[2] = {0, cells}, none[2] = {cells, 0};
+    uint8_t *stored = block(16 + 2 * cells), *masks = stored + 16, *values = masks + cells;
+
+    lend(0, 0, 0);
+    memset(stored, 0, 16);
+    stored[0] = (uint8_t)cells;
+    stored[1] = (uint8_t)(cells >> 8);
+    stored[8] = (uint8_t)(cells - 1);
+    stored[9] = (uint8_t)((cells - 1) >> 8);
+    memset(masks, 1, cells);
+    memset(values, 7, cells);
+    masks[at] = over;
+    REFUSED(dpx_decode(dpx_fixed(1, 1, DPX_LITTLE), all, 1, stored, 16 + 2 * cells - 1, OUT3), DPX_NOT_BOOLEAN);
+    REFUSED(dpx_encode(dpx_fixed(1, 1, DPX_LITTLE), all, 1, masks, cells, values, cells, NONE, OUT1), DPX_CONTENT);
+    REFUSED(dpx_encode(dpx_packed(dpx_fixed(1, 1, DPX_LITTLE)), all, 1, masks, cells, values, cells, NONE, OUT1), DPX_CONTENT);
+    REFUSED(dpx_extract(dpx_fixed(1, 1, DPX_LITTLE), all, 1, none, 2, masks, cells, values, cells, NONE, OUT3), DPX_CONTENT);
+    REFUSED(dpx_merge(dpx_fixed(1, 1, DPX_LITTLE), all, 1, whole, 2, masks, cells, values, cells, NONE, OUT3), DPX_CONTENT);
+    release();
+}
+
+static void test_strict(void)
+{
+    const dpx_kind f1 = dpx_fixed(1, 1, DPX_LITTLE), f2 = dpx_fixed(2, 1, DPX_LITTLE), r4 = dpx_ragged(1, 4, DPX_START);
+    const size_t counts[] = {1, 2, 7, 8, 9, 15, 16, 17, 31, 32, 33, 64, 239, 240, 241, 256, 257, 1000};
+    uint64_t over;
+    size_t i;
+
+    for (i = 0; i < sizeof counts / sizeof counts[0]; i++) {
+        one_over_01(counts[i], 0, 2);
+        one_over_01(counts[i], counts[i] / 2, 255);
+        one_over_01(counts[i], counts[i] - 1, 128);
+    }
+    for (i = 0; i < 33; i++)
+        one_over_01(33, i, (uint8_t)(2 << i % 7));
+    for (over = 2; over < 256; over++)
+        one_over_01(2, over & 1, (uint8_t)over);
+
+    /* 14 of a mask, after its lengths and before its content, also where no cell is set. */
+    lend(0, 0, 0);
+    REFUSED(dpx_decode(f1, NUMBERS(1), BYTES(LE8(1), LE8(0), 2), OUT3), DPX_NOT_BOOLEAN);
+    REFUSED(dpx_decode(f1, NUMBERS(1), BYTES(LE8(1), LE8(5), 2, 1, 2, 3, 4, 5), OUT3), DPX_NOT_BOOLEAN);
+    REFUSED(dpx_decode(f1, NUMBERS(2), BYTES(LE8(2), LE8(1), 255, 2, 7), OUT3), DPX_NOT_BOOLEAN);
+    REFUSED(dpx_decode(f1, NUMBERS(2), BYTES(LE8(2), LE8(9), 1, 2, 1, 2, 3, 4, 5, 6, 7, 8, 9), OUT3), DPX_NOT_BOOLEAN);
+    REFUSED(dpx_decode(f2, NUMBERS(2), BYTES(LE8(2), LE8(1), 1, 2, 'x'), OUT3), DPX_NOT_BOOLEAN);
+    REFUSED(dpx_decode(f2, NUMBERS(2), BYTES(LE8(2), LE8(1), 1, 1, 'x'), OUT3), DPX_SHORT);
+    REFUSED(dpx_decode(r4, NUMBERS(2), BYTES(LE8(2), LE8(8), 1, 2, FF8), OUT3), DPX_NOT_BOOLEAN);
+    REFUSED(dpx_decode(r4, NUMBERS(2), BYTES(LE8(2), LE8(8), 1, 1, FF8), OUT3), DPX_LENGTH);
+    REFUSED(dpx_decode(f2, NUMBERS(2), BYTES(LE8(2), LE8(18), 0, 1, LE8(1), LE8(1), 2, 7), OUT3), DPX_NOT_BOOLEAN);
+    REFUSED(dpx_decode(f1, NUMBERS(1), BYTES(LE8(1), LE8(2), 2), OUT3), DPX_LENGTH);
+    REFUSED(dpx_decode(f1, NUMBERS(1), BYTES(LE8(2), LE8(0), 2, 2), OUT3), DPX_LENGTH);
+    REFUSED(dpx_decode(f1, NUMBERS(0), BYTES(LE8(1), LE8(0), 2), OUT3), DPX_SHAPE);
+    /* 4: hidden ones too; after 3, and before 12. */
+    REFUSED(dpx_encode(f2, NUMBERS(1), BYTES(0, 2), BYTES(7), NONE, OUT1), DPX_CONTENT);
+    REFUSED(dpx_encode(dpx_packed(f2), NUMBERS(1), BYTES(0, 255), BYTES(7), NONE, OUT1), DPX_CONTENT);
+    REFUSED(dpx_extract(f1, NUMBERS(1), NUMBERS(0, 2), BYTES(2), BYTES(7), NONE, OUT3), DPX_SUBSET);
+    REFUSED(dpx_merge(f1, NUMBERS(1), NUMBERS(0, 1, 0, 0), BYTES(2), BYTES(7), NONE, OUT3), DPX_SUBSET);
+    REFUSED(dpx_merge(f1, NUMBERS(2), NUMBERS(0, 1), BYTES(2), BYTES(7), NONE, OUT3), DPX_CONTENT);
+    REFUSED(dpx_merge(f1, NUMBERS(2), NUMBERS(0, 1), BYTES(1), BYTES(7), NONE, OUT3), DPX_COVER);
+    REFUSED(dpx_merge(f1, NUMBERS(1), NUMBERS(0, 1, 0, 1), BYTES(1, 2), BYTES(7, 8), NONE, OUT3), DPX_CONTENT);
+    /* In content that is not looked at no mask is read. */
+    lend(2, 1, 0);
+    GIVES(dpx_decode(f2, NUMBERS(1), BYTES(LE8(1), LE8(17), 0, LE8(1), LE8(0), 2), OUT3), BYTES(0, 0), BYTES(0), NONE);
     release();
 }
 
@@ -699,18 +764,18 @@ static void test_extract(void)
     const dpx_kind f1 = dpx_fixed(1, 1, DPX_LITTLE), r4 = dpx_ragged(0, 4, DPX_START);
 
     lend(5, 5, 1);
-    GIVES(dpx_extract(f1, NUMBERS(2, 3), NUMBERS(0, 1, 2, 2), BYTES(1, 2, 3, 4, 5, 6), TEXT("abcdef"), NONE, OUT3), BYTES(2, 3, 5, 6),
+    GIVES(dpx_extract(f1, NUMBERS(2, 3), NUMBERS(0, 1, 2, 2), BYTES(1, 0, 1, 0, 1, 0), TEXT("abcdef"), NONE, OUT3), BYTES(0, 1, 1, 0),
           TEXT("bcef"), NONE);
     /* Two planes: each is cut by itself. */
     lend(4, 4, 0);
-    GIVES(dpx_extract(dpx_fixed(2, 1, DPX_LITTLE), NUMBERS(3), NUMBERS(1, 2), BYTES(1, 2, 3, 4, 5, 6), TEXT("abc"), NONE, OUT3),
-          BYTES(2, 3, 5, 6), TEXT("bc"), NONE);
+    GIVES(dpx_extract(dpx_fixed(2, 1, DPX_LITTLE), NUMBERS(3), NUMBERS(1, 2), BYTES(0, 1, 0, 1, 0, 1), TEXT("abc"), NONE, OUT3),
+          BYTES(1, 0, 0, 1), TEXT("bc"), NONE);
     /* Offsets 1, 2 over "AB": the cell is "B", and its offsets are 0, 1. */
     lend(0, 2, 3);
     GIVES(dpx_extract(r4, NUMBERS(1), NUMBERS(0, 1), NONE, TEXT("AB"), NUMBERS(1, 2), OUT3), NONE, TEXT("B"), NUMBERS(0, 1));
     /* What a null hides is kept. */
     lend(2, 2, 2);
-    GIVES(dpx_extract(dpx_ragged(2, 8, DPX_START), NUMBERS(1), NUMBERS(0, 1), BYTES(0, 7), TEXT("zAB"), NUMBERS(1, 3), OUT3), BYTES(0, 7),
+    GIVES(dpx_extract(dpx_ragged(2, 8, DPX_START), NUMBERS(1), NUMBERS(0, 1), BYTES(0, 1), TEXT("zAB"), NUMBERS(1, 3), OUT3), BYTES(0, 1),
           TEXT("AB"), NUMBERS(0, 2));
     /* No cell at all. */
     lend(1, 1, 1);
@@ -746,8 +811,8 @@ static void test_merge(void)
 
     /* Chunk by chunk: all planes of the first, then all of the second. */
     lend(5, 3, 1);
-    GIVES(dpx_merge(dpx_fixed(2, 1, DPX_LITTLE), NUMBERS(2), NUMBERS(1, 1, 0, 1), BYTES(5, 6, 7, 8), TEXT("ba"), NONE, OUT3),
-          BYTES(7, 5, 8, 6), TEXT("ab"), NONE);
+    GIVES(dpx_merge(dpx_fixed(2, 1, DPX_LITTLE), NUMBERS(2), NUMBERS(1, 1, 0, 1), BYTES(1, 0, 1, 1), TEXT("ba"), NONE, OUT3),
+          BYTES(1, 1, 1, 0), TEXT("ab"), NONE);
     /* Ragged chunks, the second with a byte before its first offset. */
     lend(2, 8, 4);
     GIVES(dpx_merge(dpx_ragged(1, 4, DPX_END), NUMBERS(2), NUMBERS(1, 1, 0, 1), BYTES(1, 0), TEXT("cdxab"), NUMBERS(0, 2, 1, 3), OUT3),
@@ -898,10 +963,10 @@ static void put(uint8_t *at, uint64_t number, size_t width)
 static void test_byte_limit(void)
 {
     const size_t most = DPX_MAX_VALUE_BYTES, cells = DPX_MAX_CELLS, empty = 4 * cells, frame = 17, room = 5 * frame + most + 25;
-    const dpx_kind kind = dpx_ragged(0, 8, DPX_START), deep = dpx_ragged(5, 8, DPX_START);
+    const dpx_kind kind = dpx_ragged(0, 8, DPX_START), masked = dpx_ragged(1, 8, DPX_START), deep = dpx_ragged(5, 8, DPX_START);
     const uint64_t one[1] = {1}, two[1] = {2}, whole[2] = {0, 1}, twice[4] = {0, 1, 0, 1}, past[2] = {0, 2};
     const uint64_t five[5] = {1, 1, 1, 1, 1}, all_five[10] = {0, 0, 0, 0, 0, 1, 1, 1, 1, 1};
-    const uint8_t set[5] = {1, 1, 1, 1, 1};
+    const uint8_t set[5] = {1, 1, 1, 1, 1}, neither = 2;
     /* `stored` ends with its block; before it there is room for frames, and for a string with a cell more than a shape may have. */
     uint8_t *values = block(most + 1), *wide = block(most + 9 + empty), *stored = wide + empty - 16, *back = block(room), *outer;
     uint8_t masks[5] = {FILL, FILL, FILL, FILL, FILL};
@@ -1010,6 +1075,11 @@ static void test_byte_limit(void)
     ANSWERS(dpx_merge(kind, five, 5, all_five, 10, NONE, values, most + 1, offsets, 2, BACK3), DPX_SHAPE);
     ANSWERS(dpx_merge(kind, one, 1, past, 2, NONE, values, most + 1, longer, 3, BACK3), DPX_SUBSET);
     ANSWERS(dpx_merge(kind, one, 1, whole, 2, set, 1, values, most + 1, offsets, 2, BACK3), DPX_CONTENT);
+    /* 4 of a mask byte comes before 5. */
+    ANSWERS(dpx_encode(masked, one, 1, &neither, 1, values, most + 1, offsets, 2, back, room, lengths), DPX_CONTENT);
+    ANSWERS(dpx_extract(masked, one, 1, whole, 2, &neither, 1, values, most + 1, offsets, 2, BACK3), DPX_CONTENT);
+    ANSWERS(dpx_merge(masked, one, 1, whole, 2, &neither, 1, values, most + 1, offsets, 2, BACK3), DPX_CONTENT);
+    ANSWERS(dpx_encode(masked, one, 1, set, 1, values, most + 1, offsets, 2, back, room, lengths), DPX_SIZE);
     /* 5 comes before 12. */
     ANSWERS(dpx_merge(kind, two, 1, twice, 4, NONE, values, most, chunks, 4, NONE, back, most + 1, got, 3, lengths), DPX_COVER);
     chunks[3]++;
@@ -1075,7 +1145,7 @@ static void test_limits(void)
     size_t i;
 
     for (i = 0; i < 4 * cells; i++)
-        masks[i] = (uint8_t)(1 + i % 255);
+        masks[i] = 1;
     for (i = 0; i < 64 * cells; i++)
         values[i] = (uint8_t)(i * 31 + (i >> 9));
     ANSWERS(dpx_encode(dpx_fixed(4, 64, DPX_BIG), all, 1, masks, 4 * cells, values, 64 * cells, NONE, stored, room, lengths), DPX_OK);
@@ -1083,6 +1153,12 @@ static void test_limits(void)
     ANSWERS(dpx_decode(dpx_fixed(4, 64, DPX_BIG), all, 1, stored, room, masks_back, 4 * cells, back, 64 * cells, NONE, lengths), DPX_OK);
     CHECK(lengths[0] == 4 * cells && lengths[1] == 64 * cells && lengths[2] == 0);
     CHECK(memcmp(masks, masks_back, 4 * cells) == 0 && memcmp(values, back, 64 * cells) == 0);
+    /* The last mask byte of 262,144, handed over; the last one of 65,536, stored. */
+    masks[4 * cells - 1] = 2;
+    ANSWERS(dpx_encode(dpx_fixed(4, 64, DPX_BIG), all, 1, masks, 4 * cells, values, 64 * cells, NONE, stored, room, lengths), DPX_CONTENT);
+    stored[16 + cells - 1] = 2;
+    ANSWERS(dpx_decode(dpx_fixed(4, 64, DPX_BIG), all, 1, stored, room, masks_back, 4 * cells, back, 64 * cells, NONE, lengths),
+            DPX_NOT_BOOLEAN);
     release();
 }
 
@@ -1093,6 +1169,7 @@ int main(void)
     test_encode();
     test_decode();
     test_packed();
+    test_strict();
     test_interleaved();
     test_encode_interleaved();
     test_generate();

@@ -429,15 +429,10 @@ impl Looked {
         refusal_text(refusal, Some(&stopped(refusal, &self.walk, self.input.bytes.len())))
     }
 
-    /// What `--strict` does not accept: bytes that no cell uses, and mask bytes that say more than set or null.
+    /// What `--strict` does not accept: bytes that no cell uses.
     fn hidden(&self) -> Option<String> {
-        let (bytes, length) = (&self.input.bytes, self.input.bytes.len());
+        let length = self.input.bytes.len();
         let mut hidden = Vec::new();
-        if let Some((at, level)) = self.walk.loose_mask(bytes) {
-            let byte = bytes[at];
-            hidden
-                .push(format!("byte {at} of {length} is {byte:02X}, in the mask of level {level}; set is 01, null 00"));
-        }
         for (field, unused) in self.walk.unused() {
             let (at, count) = (field.at, field.length);
             let noun = if count == 1 { "byte is" } else { "bytes are" };

@@ -3,7 +3,7 @@
 use crate::literal;
 use crate::locate::{self, Field, Part, Walk};
 use crate::words;
-use durpaxeta::{Kind, MaskForm, Order, Values};
+use durpaxeta::{Kind, Mark, MaskForm, Order, Values};
 use std::fmt::Write;
 use std::ops::Range;
 
@@ -116,23 +116,28 @@ impl Picture<'_> {
         for number in 0..shown {
             self.part(field, number, length);
         }
-        // The last line, too, where reading stopped in it.
-        let last = range.start + length * (lines - 1)..range.end;
-        let end = if shown < lines && self.refused(last.clone()) { last.start } else { range.end };
-        let skipped = end - (range.start + length * shown).min(end);
-        if skipped > 0 {
-            let what = match &field.part {
-                Part::Mask { level, form, cells } => {
-                    let mask = &self.bytes[range];
-                    let set = (0..cells.len()).filter(|&place| locate::is_set(*form, mask, place)).count();
-                    format!("; level {level}, mask: {set} of {} cells are set", cells.len())
-                }
-                _ => String::new(),
-            };
-            self.more(format!("{skipped} bytes more{what}"));
+        if shown == lines {
+            return;
         }
-        if end == last.start {
-            self.part(field, lines - 1, length);
+        let what = match &field.part {
+            Part::Mask { level, form, cells } => {
+                let mask = &self.bytes[range.clone()];
+                let set = (0..cells.len()).filter(|&place| locate::mark(*form, mask, place) == Mark::Set).count();
+                format!("; level {level}, mask: {set} of {} cells are set", cells.len())
+            }
+            _ => String::new(),
+        };
+        let begin = |number: usize| (range.start + length * number).min(range.end);
+        // The line where reading stopped, too.
+        let Some(stopped) = (shown..lines).find(|&number| self.refused(begin(number)..begin(number + 1))) else {
+            return self.more(format!("{} bytes more{what}", range.end - begin(shown)));
+        };
+        if stopped > shown {
+            self.more(format!("{} bytes more{what}", begin(stopped) - begin(shown)));
+        }
+        self.part(field, stopped, length);
+        if stopped + 1 < lines {
+            self.more(format!("{} bytes more", range.end - begin(stopped + 1)));
         }
     }
 
@@ -161,8 +166,7 @@ impl Picture<'_> {
             Part::ContentLength { level, says } => format!("level {level}, content length: {says}"),
             Part::Mask { level, form, cells } => {
                 let last = part.end == bytes.len();
-                let (set, null): (Vec<usize>, Vec<usize>) =
-                    locate::places(*form, part, cells.len()).partition(|&place| locate::is_set(*form, bytes, place));
+                let places = locate::places(*form, part, cells.len());
                 let named = |places: &[usize]| {
                     let bits = match form {
                         MaskForm::Bytes => String::new(),
@@ -175,11 +179,12 @@ impl Picture<'_> {
                     format!("{bits}cell{} {}", if cells.len() == 1 { "" } else { "s" }, self.cells(&cells))
                 };
                 let mut parts = Vec::new();
-                if !set.is_empty() {
-                    parts.push(format!("{} set", named(&set)));
-                }
-                if !null.is_empty() {
-                    parts.push(format!("{} null", named(&null)));
+                for (mark, word) in [(Mark::Set, "set"), (Mark::Null, "null"), (Mark::Other, "neither")] {
+                    let said = places.clone().filter(|&place| locate::mark(*form, bytes, place) == mark);
+                    let said: Vec<usize> = said.collect();
+                    if !said.is_empty() {
+                        parts.push(format!("{} {word}", named(&said)));
+                    }
                 }
                 let unused: Vec<usize> = locate::unused_bits(*form, cells.len()).filter(|_| last).collect();
                 if !unused.is_empty() {

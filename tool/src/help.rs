@@ -40,13 +40,13 @@ Where write, cut, merge, convert and generate write to:
 
 Exit status:
   0         all went well, and all of it was delivered
-  1 to 13   the number of the refusal, whether or not anyone read the words to it
+  1 to 14   the number of the refusal, whether or not anyone read the words to it
   64        a wrong command line, or an output that is also an input
   65        a worksheet that cannot be read
   66        a description that cannot be read
   67        --kind, --shape or --part that differ from the description
   68, 69    a file of another length (68) or checksum (69) than its description says
-  70        check --strict: a valid table with bytes that no cell uses, or mask bytes other than 00 and 01
+  70        check --strict: a valid table with bytes that no cell uses
   73        --no-clobber: the output is there already
   74        an error of the operating system; so is an output whose reader left, or that was closed
 
@@ -92,11 +92,10 @@ Makes a stored table from a worksheet. The worksheet says its kind and its shape
   1,0 | 00 00 | null at level 1   # not set
   1,1 | 01 00 | null at level 2   # not set, one level deeper
 
-A line is the coordinates, the mask byte of each level in hex (00 is null, any other byte is set; at depth 0 a -), and
-what the cell is: null at level N, value "text" or value hex 0A 0B. Masks and words must agree. A kind with packed masks
-stores a set byte as a bit, which is shown as 01. In a text \" \\ \n \t \r
-and \x0A stand for one byte; other characters for their bytes in UTF-8. Every cell stands in one line; their order is free.
-# begins a comment.
+A line is the coordinates, the mask byte of each level (00 is null, 01 is set, any other is refused with 4; at depth 0 a -),
+and what the cell is: null at level N, value "text" or value hex 0A 0B. Masks and words must agree. A kind with packed masks
+stores each mask byte as a bit. In a text \" \\ \n \t \r and \x0A stand for one byte; other characters for their bytes in
+UTF-8. Every cell stands in one line; their order is free. # begins a comment.
 
 With --describe OUT.dpx is written too, after OUT: a text with kind, shape, byte length and checksum of OUT. Where OUT.dpx is
 there already, --describe must be given, so that it stays right.
@@ -184,7 +183,7 @@ file is read as the older, interleaved form. Kind and shape may be left out wher
 
 With --strict a valid table is refused too, with status 70, if it has bytes that no cell uses: the content of a frame where
 no cell is set, data though the last offset is 0, data before the first offset, bytes behind the last cell of the older
-form; and if a mask byte is other than 00 and 01.
+form.
 
 Examples:
   durpaxeta example | durpaxeta write - guests.bin
@@ -198,8 +197,8 @@ pub const EXPLAIN: &str = r#"durpaxeta explain [--kind KIND --shape SHAPE] FILE
 durpaxeta explain --interleaved --shape SHAPE FILE
 
 Prints the stored bytes field by field: position, bytes, what they are. Masks come before values; each mask line names its
-cells, and of a packed mask the bit of each. Long parts are shortened with a count. Of a damaged file all is printed up to the field that is refused, then the
-refusal and whose it is. The exit status is that of check. With --interleaved the file is read as the older, interleaved form.
+cells, and of a packed mask the bit of each. Long parts are shortened with a count. Of a damaged file all is printed up to
+the field that is refused, then the refusal and whose it is; a mask byte that is neither 00 nor 01 is named so. The exit status is that of check. With --interleaved the file is read as the older, interleaved form.
 Kind and shape may be left out where FILE.dpx says them; a file that is not the one described is explained, too.
 
 Examples:

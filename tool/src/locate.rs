@@ -3,7 +3,7 @@
 //! The library answers with a number alone. This module walks the same bytes and names the fields. It decides nothing:
 //! where it stops is used only where it comes to the library's refusal.
 
-use durpaxeta::{Kind, MaskForm, Place, Refusal, Values, Width, MAX_VALUE_BYTES};
+use durpaxeta::{Kind, Mark, MaskForm, Place, Refusal, Values, Width, MAX_VALUE_BYTES};
 use std::ops::Range;
 
 /// Where reading stops, and why.
@@ -125,16 +125,6 @@ impl Walk {
     pub fn unused_bytes(&self) -> usize {
         self.unused().map(|(field, _)| field.length).sum()
     }
-
-    /// The first mask byte other than 00 and 01, and its level. Bits say no more than set or null.
-    pub fn loose_mask(&self, bytes: &[u8]) -> Option<(usize, u64)> {
-        self.fields.iter().find_map(|field| match field.part {
-            Part::Mask { level, form: MaskForm::Bytes, .. } => {
-                field.range().find(|&at| bytes[at] > 1).map(|at| (at, level))
-            }
-            _ => None,
-        })
-    }
 }
 
 /// A stored table of a kind, with so many cells.
@@ -164,12 +154,12 @@ fn mask_length(form: MaskForm, cells: usize) -> usize {
     }
 }
 
-/// Whether the cell at a place of a mask is set: any byte but 00, or a bit that is 1.
-pub fn is_set(form: MaskForm, mask: &[u8], place: usize) -> bool {
-    match form {
-        MaskForm::Bytes => mask[place] != 0,
-        MaskForm::Packed => mask[place / BITS] >> (place % BITS) & 1 == 1,
-    }
+/// What a mask says of the cell at a place. A byte can say neither null nor set; a bit cannot.
+pub fn mark(form: MaskForm, mask: &[u8], place: usize) -> Mark {
+    Mark::of(match form {
+        MaskForm::Bytes => mask[place],
+        MaskForm::Packed => mask[place / BITS] >> (place % BITS) & 1,
+    })
 }
 
 /// The places of a mask of so many cells that lie in these of its bytes.
@@ -234,10 +224,14 @@ impl Walker<'_> {
         for level in 1..=kind.depth {
             let (form, count) = (kind.masks, cells.len());
             let mask = self.frame(form, level, count, at)?;
-            let set = (0..count).filter(|&place| is_set(form, &self.bytes[mask.clone()], place));
-            let set = set.map(|place| cells[place]).collect();
+            let said = |place| mark(form, &self.bytes[mask.clone()], place);
+            let set = (0..count).filter(|&place| said(place) == Mark::Set).map(|place| cells[place]).collect();
+            let other = (0..count).find(|&place| said(place) == Mark::Other).map(|place| (place, cells[place]));
             self.field(mask.start, mask.len(), Part::Mask { level, form, cells });
             self.unused_bits(form, level, count, mask.end - 1)?;
+            if let Some((place, cell)) = other {
+                self.neither(level, mask.start + place, cell)?;
+            }
             (at, cells) = (mask.end, set);
             if cells.is_empty() {
                 self.field(at, self.left(at), Part::Unused(Unused::Content { level }));
@@ -304,6 +298,14 @@ impl Walker<'_> {
              not 0"
         );
         stop(Refusal::UnusedBits, last, what)
+    }
+
+    /// A mask byte that is neither null nor set.
+    fn neither(&self, level: u64, at: usize, cell: usize) -> Result<(), Stop> {
+        let byte = self.bytes[at];
+        let what =
+            format!("the mask of level {level} says {byte:02X} of cell {cell}, which is neither 00, null, nor 01, set");
+        stop(Refusal::NotBoolean, at, what)
     }
 
     fn plain(&mut self, size: u64, cells: &[usize], at: usize) -> Result<(), Stop> {
@@ -507,11 +509,8 @@ mod tests {
             )
         );
         assert_eq!(with(33, 0b11).map(|stop| (stop.refusal.number(), stop.at)), Some((8, 34)));
-        // 02 is null, then set, but no loose byte.
-        assert_eq!(table(kind, 3, &stored).loose_mask(&stored), None);
-        let mut other = stored.clone();
-        other[33] = 0b10;
-        assert_eq!(table(kind, 3, &other).loose_mask(&other), None);
+        // 02 is two cells, null and set.
+        assert_eq!(with(33, 0b10), None);
         // A full byte has no unused bits.
         let full = Kind::fixed(1, 1, Order::Little).packed();
         let frame = |mask: &[u8], content: &[u8]| {
@@ -611,12 +610,28 @@ mod tests {
         assert_eq!(unused(interleaved(1, &[1, 0, 0, 0, 0, 0, 0, 0, 7])), [(8, 1, Unused::Tail)]);
     }
 
+    /// The first one of a mask, its level and its cell; before the content, and before a later one.
     #[test]
     fn mask_bytes_over_01() {
-        let (kind, mut stored) = affinity(Place::Start);
-        assert_eq!(table(kind, 4, &stored).loose_mask(&stored), None);
-        stored[37] = 2;
-        assert_eq!(table(kind, 4, &stored).loose_mask(&stored), Some((37, 2)));
+        let (kind, stored) = affinity(Place::Start);
+        let with = |changes: &[(usize, u8)]| {
+            let mut bytes = stored.clone();
+            changes.iter().for_each(|&(position, byte)| bytes[position] = byte);
+            table(kind, 4, &bytes).stop.map(|stop| (stop.refusal.number(), stop.at, stop.what))
+        };
+        let said = |at, level, byte, cell| {
+            let what =
+                format!("the mask of level {level} says {byte} of cell {cell}, which is neither 00, null, nor 01, set");
+            Some((14, at, what))
+        };
+        assert_eq!(with(&[(37, 2)]), said(37, 2, "02", 1));
+        // Cell 2 has no place in the mask of level 2: its last byte is that of cell 3.
+        assert_eq!(with(&[(38, 0xFF)]), said(38, 2, "FF", 3));
+        assert_eq!(with(&[(19, 0x80), (37, 2)]), said(19, 1, "80", 3));
+        assert_eq!(with(&[(17, 3), (18, 2), (20, 9), (39, 9)]), said(17, 1, "03", 1));
+        // The lengths come first.
+        assert_eq!(with(&[(17, 3), (0, 9)]).map(|(refusal, at, _)| (refusal, at)), Some((8, 0)));
+        assert_eq!(with(&[(17, 3), (8, 9)]).map(|(refusal, at, _)| (refusal, at)), Some((8, 8)));
     }
 
     /// Whatever is damaged: the walk comes to the library's answer.

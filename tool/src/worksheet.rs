@@ -10,7 +10,7 @@
 //! 1,1 | 01 00 | null at level 2
 //! ```
 //!
-//! A line is the cell's coordinates, its mask byte of each level (a `-` at depth 0), and either the word `null` with the
+//! A line is the cell's coordinates, its mask byte of each level, 00 or 01 (a `-` at depth 0), and either the word `null` with the
 //! level, or the word `value` with `"text"` or `hex 0A 0B`. So an empty value and a null differ in a word and in a mask
 //! byte, and a line where the two contradict each other is not accepted. In a text `\"`, `\\`, `\n`, `\t`, `\r` and `\x0A`
 //! stand for one byte, other characters for their bytes in UTF-8. `#` begins a comment, on a line of its own or behind a
@@ -21,7 +21,7 @@
 use crate::failure::Failure;
 use crate::literal::{self, hex_byte, word};
 use crate::words;
-use durpaxeta::{Array, Cell, Kind, Refusal, Values};
+use durpaxeta::{Array, Cell, Kind, Mark, Refusal, Values};
 use std::fmt::Write;
 
 const TITLE: &str = "durpaxeta worksheet 1";
@@ -185,11 +185,11 @@ impl Reader<'_> {
             return Err(self.wrong(format!("cell {coordinates} was given before, in line {}", given.line)));
         }
         let masks = self.masks(kind, masks.trim())?;
-        let null = masks.iter().position(|&mask| mask == 0);
+        let null = masks.iter().position(|&mask| Mark::of(mask) == Mark::Null);
         let from = self.data.len();
         if let Some(rest) = word(what, "null") {
             self.null(null, rest)?;
-            if masks.iter().skip(null.unwrap_or(0)).any(|&mask| mask != 0) {
+            if masks.iter().skip(null.unwrap_or(0)).any(|&mask| Mark::of(mask) == Mark::Set) {
                 return Err(self.wrong("below a null every mask byte is 00"));
             }
             if let Values::Fixed { size, .. } = kind.values {
@@ -229,7 +229,16 @@ impl Reader<'_> {
         }
         let masks: Option<Vec<u8>> = text.split_whitespace().map(hex_byte).collect();
         match masks {
-            Some(masks) if masks.len() as u64 == kind.depth => Ok(masks),
+            Some(masks) if masks.len() as u64 == kind.depth => {
+                match masks.iter().position(|&mask| Mark::of(mask) == Mark::Other) {
+                    None => Ok(masks),
+                    Some(level) => {
+                        let (byte, level) = (masks[level], level + 1);
+                        let detail = format!("The mask byte of level {level} is {byte:02X}; 00 is null, 01 is set");
+                        Err(self.refused(Refusal::Content, detail))
+                    }
+                }
+            }
             _ => Err(self.wrong(format!(
                 "\"{text}\" is not one mask byte for each level, outermost first; at depth {} write for example \"{}\"",
                 kind.depth,
@@ -413,15 +422,18 @@ mod tests {
         assert_eq!(status(&sheet(RAGGED, "65537", &[])), 2);
         assert_eq!(status(&sheet(FIXED, "1", &["0 | 01 | value hex 0A"])), 4);
         assert_eq!(status(&sheet(FIXED, "1", &["0 | 01 | value \"\""])), 4);
+        for masks in ["02 01", "01 FF", "00 02", "ff 80"] {
+            assert_eq!(status(&sheet(RAGGED, "1", &[&format!("0 | {masks} | value \"\"")])), 4, "{masks}");
+        }
     }
 
     #[test]
     fn any_order_line_ends_and_comments() {
         let text = format!(
-            "\u{FEFF}# first\r\n\r\n{TITLE}\r\nshape: 2 # two\r\nkind: {FIXED}\r\n  1 | FF | value hex 0a0B # b\r\n# between\r\n0 | 00 | null at level 1\r\n"
+            "\u{FEFF}# first\r\n\r\n{TITLE}\r\nshape: 2 # two\r\nkind: {FIXED}\r\n  1 | 01 | value hex 0a0B # b\r\n# between\r\n0 | 00 | null at level 1\r\n"
         );
         let array = read("sheet", text.as_bytes()).unwrap();
-        assert_eq!((&array.masks[..], &array.values[..]), (&[0, 255][..], &[0, 0, 0x0A, 0x0B][..]));
+        assert_eq!((&array.masks[..], &array.values[..]), (&[0, 1][..], &[0, 0, 0x0A, 0x0B][..]));
     }
 
     #[test]
@@ -440,8 +452,7 @@ mod tests {
             let kind = Kind::ragged(depth, Width::Four, Place::Start);
             let mut cells: Vec<Cell<'_>> = values.iter().map(|value| Cell::Value(value)).collect();
             cells.extend((1..=depth as usize).map(|level| Cell::Null { level }));
-            let mut array = Array::from_cells(kind, &[1, cells.len() as u64], &cells).unwrap();
-            array.masks.iter_mut().filter(|mask| **mask != 0).for_each(|mask| *mask = 0xA7);
+            let array = Array::from_cells(kind, &[1, cells.len() as u64], &cells).unwrap();
             for hex in [false, true] {
                 let text = write(&array, hex, &["a note".into()]);
                 assert_eq!(read("sheet", text.as_bytes()).unwrap(), array, "{text}");

@@ -49,14 +49,14 @@ fn shown_and_written_again() {
         |kind: &str, shape: &str, cells: &str| format!("durpaxeta worksheet 1\nkind: {kind}\nshape: {shape}\n{cells}");
     let sheets = [
         sheet("depth 0, fixed, size 2, big order", "3", "0 | - | value hex 0102\n1|-|value \"ab\"\n2 | - | value hex 00 00\n"),
-        sheet("depth 1, fixed, size 2, little order", "3", "0 | 01 | value hex 0A0B\n1 | 00 | null at level 1\n2 | 02 | value hex 0E0F\n"),
+        sheet("depth 1, fixed, size 2, little order", "3", "0 | 01 | value hex 0A0B\n1 | 00 | null at level 1\n2 | 01 | value hex 0E0F\n"),
         sheet("depth 1, fixed, size 1, little order", "1x1x1x1", "0,0,0,0 | 00 | null at level 1\n"),
         sheet("depth 0, ragged, width 4, index at end", "2", "before: \"zz\"\n0 | - | value \"AB\"\n1 | - | value \"\"\n"),
         sheet("depth 0, ragged, width 8, index at start", "2", "0 | - | value hex 00\n1 | - | value \"a \\\"b\\\" \\\\ | # c\"\n"),
         sheet(
             "depth 4, ragged, width 8, index at end",
             "6",
-            "0 | 01 02 03 FF | value \"null at level 1\"\n1 | 00 00 00 00 | null at level 1\n2 | 01 00 00 00 | null at level 2\n\
+            "0 | 01 01 01 01 | value \"null at level 1\"\n1 | 00 00 00 00 | null at level 1\n2 | 01 00 00 00 | null at level 2\n\
              3 | 01 01 00 00 | null at level 3\n4 | 01 01 01 00 | null at level 4\n5 | 01 01 01 01 | value \"\"\n",
         ),
     ];
@@ -206,7 +206,7 @@ fn check_names_the_byte() {
     assert!(page.contains(said.text().replace('\n', "\n    ").trim_end()), "{}", said.text());
 }
 
-/// Every shorter file, and every flipped bit: an answer from 0 to 13, and never anything else.
+/// Every shorter file, and every flipped bit: an answer from 0 to 14, and never anything else.
 #[test]
 fn damaged_files() {
     let folder = folder("damaged");
@@ -224,7 +224,7 @@ fn damaged_files() {
     cases.push(stored.repeat(3));
     for (number, case) in cases.iter().enumerate() {
         let check = run(&folder, &["check", "--kind", KIND, "--shape", "2x2", "-"], case);
-        assert!((0..=13).contains(&check.status), "{case:02X?}: {}", check.status);
+        assert!((0..=14).contains(&check.status), "{case:02X?}: {}", check.status);
         assert!(!check.text().contains("was not found"), "{case:02X?}: {}", check.text());
         let show = run(&folder, &["show", "--kind", KIND, "--shape", "2x2", "-"], case);
         assert_eq!(show.status, check.status, "{case:02X?}");
@@ -240,7 +240,7 @@ fn damaged_files() {
             let merge = ["merge", "--kind", KIND, "--shape", "2x2", "--part", "0..2,0..2", "-", "-"];
             assert_eq!(run(&folder, &merge, case).status, check.status);
             let convert = ["convert", "--kind", "depth 0, ragged, width 8, index at end", "--shape", "4", "-", "-"];
-            assert!((0..=13).contains(&run(&folder, &convert, case).status));
+            assert!((0..=14).contains(&run(&folder, &convert, case).status));
             // A table is no worksheet.
             assert_eq!(run(&folder, &["write", "-", "-"], case).status, 65);
         }

@@ -109,12 +109,4 @@ fn strict_refuses_hidden_bytes() {
         said.text()
     );
     assert_eq!(run(&folder, &strict, &le(&[1, 1], 4, b"A")).status, 0);
-    // A mask byte can say more than set.
-    let loose = le(&[2, 2], 8, &[1, 2, 0x0A, 0x0B]);
-    let loose = [&loose[..8], &[4, 0, 0, 0, 0, 0, 0, 0], &loose[16..], &[7, 7]].concat();
-    let check = ["check", "--kind", FIXED, "--shape", "2", "-"];
-    assert_eq!(run(&folder, &check, &loose).status, 0);
-    let said = run(&folder, &[&check[..], &["--strict"]].concat(), &loose);
-    assert_eq!(said.status, 70);
-    assert!(said.text().contains("byte 17 of 22 is 02, in the mask of level 1; set is 01, null 00"), "{}", said.text());
 }

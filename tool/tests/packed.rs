@@ -73,17 +73,20 @@ fn through_every_command() {
 }
 
 #[test]
-fn mask_bytes_become_01() {
+fn mask_bytes_become_bits() {
     let folder = folder("packed-01");
     let sheet = |kind: &str, masks: &str| {
         format!("durpaxeta worksheet 1\nkind: {kind}\nshape: 1\n0 | {masks} | value hex 0A\n")
     };
     let kind = "depth 2, packed masks, fixed, size 1, little order";
-    let stored = run(&folder, &["write", "-", "-"], sheet(kind, "02 FF").as_bytes());
+    let stored = run(&folder, &["write", "-", "-"], sheet(kind, "01 01").as_bytes());
     assert_eq!((stored.status, stored.err.as_str()), (0, ""));
     assert_eq!(stored.out, le(&[1, 18], 8, &[&[1][..], &le(&[1, 1], 8, &[1, 10])].concat()));
     let shown = run(&folder, &["show", "--kind", kind, "--shape", "1", "-"], &stored.out);
     assert!(shown.text().contains("0 | 01 01 | value hex 0A\n"), "{}", shown.text());
+    // Bytes that are neither 00 nor 01 cannot be typed, of packed masks neither.
+    let neither = run(&folder, &["write", "-", "-"], sheet(kind, "01 02").as_bytes());
+    assert_eq!((neither.status, neither.out.len()), (4, 0), "{}", neither.err);
     // At depth 0 the words say nothing, but stay.
     let flat = "depth 0, packed masks, fixed, size 1, little order";
     assert_eq!(run(&folder, &["write", "-", "-"], sheet(flat, "-").as_bytes()).out, [10]);

@@ -7,7 +7,8 @@ use core::iter::FusedIterator;
 
 /// A table in memory.
 ///
-/// `masks` has one plane for each level, outermost first, one byte a cell: 00 is null, any other byte is set.
+/// `masks` has one plane for each level, outermost first, one byte a cell: 00 is null, 01 is set, and no other byte is one, below a
+/// null neither: each call that takes an array refuses it with `Content`.
 /// Ragged kinds have one more offset than cells; fixed kinds have none.
 #[derive(Clone, Debug, PartialEq, Eq)]
 pub struct Array {
@@ -36,6 +37,33 @@ pub struct ArrayRef<'a> {
     pub values: &'a [u8],
     /// Cell i has the value bytes from `offsets[i]` up to `offsets[i + 1]`.
     pub offsets: &'a [u64],
+}
+
+/// What a mask byte says of its cell.
+#[derive(Clone, Copy, Debug, PartialEq, Eq, Hash)]
+pub enum Mark {
+    /// 00.
+    Null,
+    /// 01.
+    Set,
+    /// Any other byte, which no mask has: handed over it is refused with `Content`, stored with `NotBoolean`.
+    Other,
+}
+
+impl Mark {
+    /// Reads a mask byte.
+    ///
+    /// ```
+    /// use durpaxeta::Mark;
+    /// assert_eq!([0, 1, 2, 0xFF].map(Mark::of), [Mark::Null, Mark::Set, Mark::Other, Mark::Other]);
+    /// ```
+    pub const fn of(byte: u8) -> Mark {
+        match byte {
+            0 => Mark::Null,
+            1 => Mark::Set,
+            _ => Mark::Other,
+        }
+    }
 }
 
 /// What a cell is: null at a level, or a value, which may be empty.
@@ -80,7 +108,7 @@ impl<'a> Iterator for Cells<'a> {
     }
 
     fn size_hint(&self) -> (usize, Option<usize>) {
-        // Fewer where the lengths do not fit.
+        // Fewer where lengths do not fit or a mask byte is over 01.
         (0, Some(self.array.cell_count() - self.next))
     }
 }
@@ -192,14 +220,15 @@ impl Array {
         self.view().cell_count()
     }
 
-    /// The cell of a number, counted row by row. None if there is no such cell, or the lengths do not fit.
+    /// The cell of a number, counted row by row. None if there is no such cell, the lengths do not fit, or one of its mask bytes,
+    /// up to the first 00, is over 01.
     ///
     #[doc = example!(r#"assert_eq!(table.cell(2), Some(Cell::Value(b"")));"#, "assert_eq!(table.cell(4), None);")]
     pub fn cell(&self, number: usize) -> Option<Cell<'_>> {
         self.view().cell(number)
     }
 
-    /// The cell at a place: one number for each side. None if there is no such cell, or the lengths do not fit.
+    /// The cell at a place: one number for each side. None as for [`cell`](Self::cell).
     ///
     #[doc = example!(
         r#"assert_eq!(table.cell_at(&[1, 0]), Some(Cell::Value(b"")));"#,
@@ -209,7 +238,7 @@ impl Array {
         self.view().cell_at(place)
     }
 
-    /// All cells, in row order. Where the lengths do not fit it ends at the first cell that is not there.
+    /// All cells, in row order. It ends at the first one that [`cell`](Self::cell) does not give.
     ///
     #[doc = example!(
         "assert_eq!(table.cells().filter(|cell| cell.is_null()).count(), 1);",
@@ -235,7 +264,8 @@ impl<'a> ArrayRef<'a> {
         cell_count(self.shape)
     }
 
-    /// The cell of a number, counted row by row. None if there is no such cell, or the lengths do not fit.
+    /// The cell of a number, counted row by row. None if there is no such cell, the lengths do not fit, or one of its mask bytes,
+    /// up to the first 00, is over 01.
     ///
     #[doc = example!(
         r#"assert_eq!(table.view().cell(2), Some(Cell::Value(b"")));"#,
@@ -247,8 +277,10 @@ impl<'a> ArrayRef<'a> {
             return None;
         }
         for level in 0..usize::try_from(self.kind.depth).ok()? {
-            if *self.masks.get(level.checked_mul(count)?.checked_add(number)?)? == 0 {
-                return Some(Cell::Null { level: level + 1 });
+            match Mark::of(*self.masks.get(level.checked_mul(count)?.checked_add(number)?)?) {
+                Mark::Null => return Some(Cell::Null { level: level + 1 }),
+                Mark::Set => {}
+                Mark::Other => return None,
             }
         }
         let (from, to) = match self.kind.values {
@@ -265,7 +297,7 @@ impl<'a> ArrayRef<'a> {
         self.values.get(from..to).map(Cell::Value)
     }
 
-    /// The cell at a place: one number for each side. None if there is no such cell, or the lengths do not fit.
+    /// The cell at a place: one number for each side. None as for [`cell`](Self::cell).
     ///
     #[doc = example!(
         r#"assert_eq!(table.view().cell_at(&[1, 0]), Some(Cell::Value(b"")));"#,
@@ -283,7 +315,7 @@ impl<'a> ArrayRef<'a> {
         self.cell(usize::try_from(number).ok()?)
     }
 
-    /// All cells, in row order. Where the lengths do not fit it ends at the first cell that is not there.
+    /// All cells, in row order. It ends at the first one that [`cell`](Self::cell) does not give.
     ///
     #[doc = example!(
         "assert_eq!(table.view().cells().filter(|cell| cell.is_null()).count(), 1);",

@@ -90,7 +90,8 @@ pub fn encode_into<'a, 'o>(array: impl Into<ArrayRef<'a>>, out: &'o mut [u8]) ->
 ///
 /// # Errors
 ///
-/// In this order `Kind`, `Shape`; then, as the bytes are read, `Short`, `Length`, `Falling`; then `Size`.
+/// In this order `Kind`, `Shape`; then, as the bytes are read, of each level `Short`, `Length`, and `UnusedBits` of a packed mask or
+/// `NotBoolean` of another, then of the values `Short`, `Length`, `Falling`; then `Size`.
 ///
 /// ```
 /// use durpaxeta::{decode, Cell, Kind, Order, Refusal};
@@ -101,6 +102,8 @@ pub fn encode_into<'a, 'o>(array: impl Into<ArrayRef<'a>>, out: &'o mut [u8]) ->
 /// assert_eq!(table.cell(0), Some(Cell::Null { level: 1 }));
 /// assert_eq!(table.cell(1), Some(Cell::Value(&[0x0A])));
 /// assert_eq!(decode(kind, &[2], &stored[..18]), Err(Refusal::Length));
+/// let neither = [2, 0, 0, 0, 0, 0, 0, 0, 1, 0, 0, 0, 0, 0, 0, 0, 2, 1, 0x0A];
+/// assert_eq!(decode(kind, &[2], &neither), Err(Refusal::NotBoolean));
 /// # Ok::<(), Refusal>(())
 /// ```
 pub fn decode(kind: Kind, shape: &[u64], bytes: &[u8]) -> Result<Array, Refusal> {

@@ -46,7 +46,7 @@ pub enum Place {
 /// How a stored mask lies. Mask planes in memory are always a byte a cell.
 #[derive(Clone, Copy, Debug, PartialEq, Eq, Hash)]
 pub enum MaskForm {
-    /// A byte for each cell: 00 is null, any other byte is set.
+    /// A byte for each cell: 00 is null, 01 is set.
     Bytes,
     /// A bit for each cell, the lowest of a byte first.
     Packed,
@@ -117,13 +117,13 @@ impl Kind {
     }
 
     /// The same kind with its stored masks packed, a bit a cell. Only [`encode`](crate::encode) and
-    /// [`decode`](crate::decode) look at it; a set cell is then read as 01, whatever byte was written.
+    /// [`decode`](crate::decode) look at it; in memory masks are bytes as ever.
     ///
     /// ```
     /// use durpaxeta::{decode, encode, Array, Kind, Order};
     ///
     /// let kind = Kind::fixed(1, 1, Order::Little).packed();
-    /// let table = Array { kind, shape: vec![3], masks: vec![1, 0, 2], values: b"abc".to_vec(), offsets: vec![] };
+    /// let table = Array { kind, shape: vec![3], masks: vec![1, 0, 1], values: b"abc".to_vec(), offsets: vec![] };
     /// let stored = encode(&table)?;
     /// assert_eq!(stored, [1, 0, 0, 0, 0, 0, 0, 0, 2, 0, 0, 0, 0, 0, 0, 0, 0b101, b'a', b'c']);
     /// assert_eq!(decode(kind, &[3], &stored)?.masks, [1, 0, 1]);

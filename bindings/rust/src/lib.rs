@@ -38,7 +38,7 @@ mod sizes;
 mod subset;
 mod text;
 
-pub use array::{Array, ArrayRef, Cell, Cells, RaggedValues};
+pub use array::{Array, ArrayRef, Cell, Cells, Mark, RaggedValues};
 pub use calls::{
     decode, decode_interleaved, decode_into, encode, encode_interleaved, encode_interleaved_into, encode_into, extract,
     extract_into, generate, generate_into, merge, merge_into, partial_decode, reverse_endianness, subset_cells, Chunk,

@@ -51,7 +51,8 @@ refusals! {
     Shape = 2, Describer, "the shape is out of range: 1 to 4 sides, each at least 1, at most 65,536 cells in all";
     Subset = 3, Describer,
         "a subset reaches past the shape, or has not one start and one length for each side, or, in a merge, holds no cell";
-    Content = 4, Supplier, "lengths of masks, values, offsets or chunks disagree, or offsets fall";
+    Content = 4, Supplier,
+        "lengths of masks, values, offsets or chunks disagree, a mask byte is neither 00 nor 01, or offsets fall";
     Size = 5, Supplier, "more than 16,777,216 value bytes";
     Output = 6, Lender, "an output is shorter than the result needs";
     Short = 7, Storer,
@@ -62,6 +63,7 @@ refusals! {
     PastEnd = 11, Storer, "interleaved form: a length field or a cell runs past the end";
     Cover = 12, Supplier, "the subsets of the merge miss a cell or hold one twice";
     UnusedBits = 13, Storer, "a packed mask has a bit after its last cell that is not 0";
+    NotBoolean = 14, Storer, "a stored mask byte is neither 00 nor 01";
 }
 
 /// Who causes a refusal.

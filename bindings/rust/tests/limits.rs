@@ -161,8 +161,7 @@ fn byte_limit_of_partial_decode() {
 fn depth_size_and_cells() {
     let shape = [65_536];
     let largest = Kind::fixed(4, 64, Order::Big);
-    let masks: Vec<u8> = (0..4 * 65_536u32).map(|i| (1 + i % 255) as u8).collect();
-    let table = array(largest, &shape, masks.clone(), value(64 * 65_536), vec![]);
+    let table = array(largest, &shape, vec![1; 4 * 65_536], value(64 * 65_536), vec![]);
     let stored = encode(&table).unwrap();
     assert_eq!(stored.len(), 4 * (16 + 65_536) + 64 * 65_536);
     assert_eq!(decode(largest, &shape, &stored).as_ref(), Ok(&table));
@@ -171,6 +170,14 @@ fn depth_size_and_cells() {
     assert_eq!(merge(largest, &shape, &[Chunk::new(&whole, &table)]).as_ref(), Ok(&table));
     assert_eq!(subset_cells(&shape, &whole).unwrap().len(), 65_536);
     assert_eq!(decode_interleaved(65_536, &interleaved(&[0; 65_536])).unwrap().cell_count(), 65_536);
+    // The last mask byte of many, handed over and stored.
+    let (mut neither, mut bytes) = (table.clone(), stored);
+    *neither.masks.last_mut().unwrap() = 2;
+    assert_eq!(encode(&neither), Err(Refusal::Content));
+    assert_eq!(extract(&neither, &Subset::new(&[0], &[1]).unwrap()), Err(Refusal::Content));
+    assert_eq!(merge(largest, &shape, &[Chunk::new(&whole, &neither)]), Err(Refusal::Content));
+    bytes[16 + 65_535] = 2;
+    assert_eq!(decode(largest, &shape, &bytes), Err(Refusal::NotBoolean));
     let load = generate(largest, &shape, u32::MAX).unwrap();
     assert_eq!((load.masks.len(), load.values.len()), (4 * 65_536, 64 * 65_536));
     let load = generate(Kind::ragged(4, Width::Four, Place::Start), &shape, 0).unwrap();
@@ -189,7 +196,7 @@ fn one_subset_for_each_cell() {
     let chunks: Vec<(Subset, Array)> = (0..65_536u64)
         .rev()
         .map(|cell| {
-            let masks = vec![(cell % 3) as u8];
+            let masks = vec![u8::from(cell % 3 > 0)];
             let values = cell.to_le_bytes()[..(cell % 4) as usize].to_vec();
             let offsets = vec![0, values.len() as u64];
             (Subset::new(&[cell / 256, cell % 256], &[1, 1]).unwrap(), array(kind, &[1, 1], masks, values, offsets))

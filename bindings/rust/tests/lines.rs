@@ -149,12 +149,43 @@ fn a_set_cell_of_no_bytes_is_not_null() {
     assert_eq!(read.masks_of(2), [1, 0]);
 }
 
+/// S10.25 to S10.30.
 #[test]
-fn every_byte_but_00_is_set_and_kept() {
-    let kind = fixed(1, 1);
-    for mask in 1..=255 {
-        let table = array(kind, &[1], &[mask], &[7], &[]);
-        assert_eq!(decode(kind, &[1], &encode(&table).unwrap()), Ok(table));
+fn strict_masks() {
+    let (one, two) = (fixed(1, 1), fixed(2, 1));
+    for (kind, cells, hex, refusal) in [
+        (one, 1, "0100000000000000 0100000000000000 02 07", Refusal::NotBoolean),
+        (one, 1, "0100000000000000 0500000000000000 02 0102030405", Refusal::NotBoolean),
+        (two, 2, "0200000000000000 0100000000000000 0102 78", Refusal::NotBoolean),
+        (two, 2, "0200000000000000 0100000000000000 0101 78", Refusal::Short),
+        (one, 1, "0200000000000000 0000000000000000 0202", Refusal::Length),
+        (one.packed(), 1, "0100000000000000 0100000000000000 02 07", Refusal::UnusedBits),
+    ] {
+        assert_eq!(decode(kind, &[cells], &bytes(hex)), Err(refusal), "{hex}");
+    }
+    // In content that is not looked at no mask is read.
+    let hidden = bytes("0100000000000000 1100000000000000 00 0100000000000000 0000000000000000 02");
+    assert_eq!(decode(two, &[1], &hidden), Ok(array(two, &[1], &[0, 0], &[0], &[])));
+    for mask in 0..=255 {
+        let strict = |answer: Result<Array, Refusal>, table: &Array| match mask {
+            0 | 1 => assert_eq!(answer.as_ref(), Ok(table)),
+            _ => assert_eq!(answer, Err(Refusal::Content)),
+        };
+        for kind in [one, one.packed()] {
+            let table = array(kind, &[1], &[mask], &[7 * mask.min(1)], &[]);
+            strict(encode(&table).map(|stored| decode(kind, &[1], &stored).unwrap()), &table);
+            strict(extract(&table, &subset(&[0, 1])), &table);
+            strict(merge(kind, &[1], &[Chunk::new(&subset(&[0, 1]), &table)]), &table);
+        }
+        // Hidden ones too.
+        let table = array(two, &[1], &[0, mask], &[7], &[]);
+        strict(extract(&table, &subset(&[0, 1])), &table);
+        assert_eq!(encode(&table).err(), Some(Refusal::Content).filter(|_| mask > 1));
+        // And the cell of such a byte is none.
+        assert_eq!(table.cell(0), Some(Cell::Null { level: 1 }));
+        let seen = array(two, &[1], &[1, mask], &[7], &[]);
+        let cell = [Cell::Null { level: 2 }, Cell::Value(&[7])].get(usize::from(mask)).copied();
+        assert_eq!((seen.cell(0), seen.cells().next()), (cell, cell));
     }
 }
 
@@ -162,16 +193,16 @@ fn every_byte_but_00_is_set_and_kept() {
 fn chunk_by_chunk() {
     let kind = fixed(2, 1);
     let (second, first) = (subset(&[1, 1]), subset(&[0, 1]));
-    let (b, a) = (array(kind, &[1], &[5, 6], b"b", &[]), array(kind, &[1], &[7, 8], b"a", &[]));
+    let (b, a) = (array(kind, &[1], &[1, 0], b"b", &[]), array(kind, &[1], &[1, 1], b"a", &[]));
     let merged = merge(kind, &[2], &[Chunk::new(&second, &b), Chunk::new(&first, &a)]);
-    assert_eq!(merged, Ok(array(kind, &[2], &[7, 5, 8, 6], b"ab", &[])));
+    assert_eq!(merged, Ok(array(kind, &[2], &[1, 1, 1, 0], b"ab", &[])));
 }
 
 #[test]
 fn a_cut_keeps_what_is_hidden() {
     let kind = ragged(2, Width::Eight, Place::Start);
-    let table = array(kind, &[1], &[0, 7], b"zAB", &[1, 3]);
-    assert_eq!(extract(&table, &subset(&[0, 1])), Ok(array(kind, &[1], &[0, 7], b"AB", &[0, 2])));
+    let table = array(kind, &[1], &[0, 1], b"zAB", &[1, 3]);
+    assert_eq!(extract(&table, &subset(&[0, 1])), Ok(array(kind, &[1], &[0, 1], b"AB", &[0, 2])));
 }
 
 #[test]
@@ -192,7 +223,7 @@ fn cuts_of_stored_values() {
 fn packed_masks() {
     let kind = fixed(1, 1).packed();
     let values: Vec<u8> = (1..=9).collect();
-    let stored = encode(&array(kind, &[9], &[1, 0, 2, 0, 0, 0, 0, 0, 255], &values, &[])).unwrap();
+    let stored = encode(&array(kind, &[9], &[1, 0, 1, 0, 0, 0, 0, 0, 1], &values, &[])).unwrap();
     assert_eq!(stored, bytes("0200000000000000 0300000000000000 0501 010309"));
     let read = array(kind, &[9], &[1, 0, 1, 0, 0, 0, 0, 0, 1], &[1, 0, 3, 0, 0, 0, 0, 0, 9], &[]);
     assert_eq!(decode(kind, &[9], &stored), Ok(read));
@@ -211,9 +242,6 @@ fn packed_masks() {
     let stored = encode(&table).unwrap();
     assert_eq!((&stored[16..18], stored[34]), (&[255, 0][..], 255));
     assert_eq!(decode(kind, &[9], &stored), Ok(table));
-    // A cut keeps the mask byte itself.
-    let two = array(fixed(1, 1).packed(), &[1], &[2], &[7], &[]);
-    assert_eq!(extract(&two, &subset(&[0, 1])), Ok(two));
 }
 
 /// S12.5 to S12.8.

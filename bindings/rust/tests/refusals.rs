@@ -44,7 +44,7 @@ fn numbers_messages_and_blame() {
     let of = |blame| all.clone().filter(|r| r.blame() == blame).map(Refusal::number).collect::<Vec<_>>();
     assert_eq!(of(Blame::Describer), [1, 2, 3]);
     assert_eq!(of(Blame::Supplier), [4, 5, 12]);
-    assert_eq!(of(Blame::Storer), [7, 8, 9, 10, 11, 13]);
+    assert_eq!(of(Blame::Storer), [7, 8, 9, 10, 11, 13, 14]);
     assert_eq!(of(Blame::Lender), [6]);
 }
 
@@ -283,7 +283,58 @@ fn unused_bits() {
     assert_eq!((nine.cell(7), nine.cell(8)), (Some(Cell::Value(&[8])), Some(Cell::Null { level: 1 })));
     // At depth 0 the form is idle, and what is handed over is a byte a cell.
     assert_eq!(encode(&array(f1(0).packed(), &[1], &[], b"a", &[])), Ok(b"a".to_vec()));
-    assert_eq!(encode(&array(one, &[2], &[3], b"ab", &[])), Err(Refusal::Content));
+    assert_eq!(encode(&array(one, &[2], &[1], b"ab", &[])), Err(Refusal::Content));
+}
+
+/// 14 comes after the lengths of its frame and before its content, at each level and in each place of a mask; 4 comes before 5
+/// and 12.
+#[test]
+fn mask_bytes() {
+    let level = |depth: usize, mask: u8, content: &[u8]| {
+        let mut bytes = le(&[1, content.len() as u64], 8, &[&[mask][..], content].concat());
+        for _ in 1..depth {
+            bytes = le(&[1, bytes.len() as u64], 8, &[&[1][..], &bytes].concat());
+        }
+        bytes
+    };
+    for depth in 1..=4 {
+        for above in 1..=depth {
+            for mask in [2, 3, 0x10, 0x7F, 0x80, 0xFE, 0xFF] {
+                for content in [&b""[..], b"x", b"abcde", &[0; 24]] {
+                    for kind in [f1(depth as u64), r4(depth as u64)] {
+                        let answer = decode(kind, &[1], &level(above, mask, content));
+                        assert_eq!(answer, Err(Refusal::NotBoolean), "{kind}: {mask:02X} at level {above}");
+                    }
+                }
+            }
+        }
+    }
+    for at in 0..40 {
+        let mut mask = vec![1; 40];
+        mask[at] = 2;
+        let stored = le(&[40, 39], 8, &[&mask[..], &[7; 39]].concat());
+        assert_eq!(decode(f1(1), &[40], &stored), Err(Refusal::NotBoolean), "{at}");
+        for kind in [f1(1), f1(1).packed()] {
+            assert_eq!(encode(&array(kind, &[40], &mask, &[7; 40], &[])), Err(Refusal::Content), "{at}");
+        }
+    }
+    let short = [(vec![2; 15], Refusal::Short), (le(&[1, 1], 8, &[2]), Refusal::Length)];
+    for (bytes, refusal) in [short.to_vec(), vec![(le(&[2, 0], 8, &[2, 2]), Refusal::Length)]].concat() {
+        assert_eq!(decode(f1(1), &[1], &bytes), Err(refusal), "{bytes:02X?}");
+    }
+    // The subsets miss a cell, or hold one twice; an empty subset comes first.
+    let (whole, none) = (subset(&[0, 1]), subset(&[0, 0]));
+    let (good, bad) = (array(f1(1), &[1], &[1], b"a", &[]), array(f1(1), &[1], &[2], b"a", &[]));
+    let chunk = |table| Chunk::new(&whole, table);
+    assert_eq!(merge(f1(1), &[2], &[chunk(&good)]), Err(Refusal::Cover));
+    assert_eq!(merge(f1(1), &[2], &[chunk(&bad)]), Err(Refusal::Content));
+    assert_eq!(merge(f1(1), &[1], &[chunk(&good), chunk(&bad)]), Err(Refusal::Content));
+    let empty = array(f1(1), &[0], &[], b"", &[]);
+    assert_eq!(merge(f1(1), &[1], &[chunk(&bad), Chunk::new(&none, &empty)]), Err(Refusal::Subset));
+    let most = MAX_VALUE_BYTES as usize + 1;
+    let large = array(r4(1), &[1], &[2], &vec![7; most], &[0, most as u64]);
+    assert_eq!(encode(&large), Err(Refusal::Content));
+    assert_eq!(encode(&Array { masks: vec![1], ..large }), Err(Refusal::Size));
 }
 
 #[test]

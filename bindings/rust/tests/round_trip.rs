@@ -46,8 +46,7 @@ impl Draws {
 
     fn array(&mut self, kind: Kind, shape: &[u64]) -> Array {
         let cells: u64 = shape.iter().product();
-        let masks =
-            (0..kind.depth * cells).map(|_| if self.one_in(4) { 0 } else { 1 + self.below(255) as u8 }).collect();
+        let masks = (0..kind.depth * cells).map(|_| u8::from(!self.one_in(4))).collect();
         let (values, offsets) = match kind.values {
             Values::Fixed { size, .. } => (self.bytes(cells * size), vec![]),
             Values::Ragged { .. } => {
@@ -103,7 +102,7 @@ fn rest(array: &Array) -> Array {
         for level in 0..depth {
             if set {
                 rest.masks[level * count + cell] = array.masks[level * count + cell];
-                set = array.masks[level * count + cell] != 0;
+                set = array.masks[level * count + cell] == 1;
             }
         }
         match array.kind.values {
@@ -120,15 +119,6 @@ fn rest(array: &Array) -> Array {
                 rest.offsets.push(rest.values.len() as u64);
             }
         }
-    }
-    rest
-}
-
-/// What comes back of an array that was stored: its rest form; of a packed mask a set cell is 01.
-fn returned(array: &Array) -> Array {
-    let mut rest = rest(array);
-    if array.kind.masks == MaskForm::Packed {
-        rest.masks.iter_mut().for_each(|mask| *mask = u8::from(*mask != 0));
     }
     rest
 }
@@ -150,13 +140,13 @@ fn cut_stored_read_and_merged() {
         let chunks: Vec<Chunk<'_>> =
             subsets.iter().zip(&read).map(|(subset, array)| Chunk::new(subset, array)).collect();
         let merged = merge(kind, &shape, &chunks).unwrap();
-        assert_eq!(merged, returned(&table), "{table:?} {subsets:?}");
+        assert_eq!(merged, rest(&table), "{table:?} {subsets:?}");
         let query = draws.subset(&shape);
         let cut = extract(&table, &query).unwrap();
-        assert_eq!(extract(&merged, &query).unwrap(), returned(&cut), "{table:?} {query:?}");
+        assert_eq!(extract(&merged, &query).unwrap(), rest(&cut), "{table:?} {query:?}");
         // Written and read at once.
         let back = decode(kind, &shape, &encode(&table).unwrap()).unwrap();
-        assert_eq!(back, if kind.depth == 0 { table.clone() } else { returned(&table) });
+        assert_eq!(back, if kind.depth == 0 { table.clone() } else { rest(&table) });
         if let (0, Values::Ragged { width, place }) = (kind.depth, kind.values) {
             let part = partial_decode(width, place, &shape, &query, &encode(&table).unwrap());
             assert_eq!(part.map(|part| (part.values, part.offsets)), Ok((cut.values, cut.offsets)));
@@ -169,8 +159,7 @@ fn cells_make_the_rest_form() {
     let mut draws = Draws(77);
     for _ in 0..500 {
         let (kind, shape) = (draws.kind(), draws.shape());
-        let mut table = draws.array(kind, &shape);
-        table.masks.iter_mut().for_each(|mask| *mask = u8::from(*mask != 0));
+        let table = draws.array(kind, &shape);
         let cells: Vec<Cell<'_>> = (0..table.cell_count()).map(|number| table.cell(number).unwrap()).collect();
         assert_eq!(Array::from_cells(kind, &shape, &cells), Ok(rest(&table)));
     }
@@ -208,7 +197,7 @@ fn interleaved_cells_return() {
 #[test]
 fn outputs_are_never_short() {
     let mut draws = Draws(4242);
-    let mut refused = [0; 14];
+    let mut refused = [0; 15];
     for _ in 0..20_000 {
         let (kind, mut shape) = (draws.kind(), draws.shape());
         let mut table = draws.array(kind, &shape);
@@ -231,6 +220,10 @@ fn outputs_are_never_short() {
         }
         if draws.one_in(6) {
             table.masks.pop();
+        }
+        if draws.one_in(6) && !table.masks.is_empty() {
+            let at = draws.below(table.masks.len() as u64) as usize;
+            table.masks[at] = draws.below(256) as u8;
         }
         if draws.one_in(6) {
             let side = draws.below(shape.len() as u64) as usize;
@@ -263,7 +256,7 @@ fn outputs_are_never_short() {
         }
     }
     assert_eq!(refused[6], 0, "an output was too short");
-    for number in [2, 3, 4, 7, 8, 9, 10, 12, 13] {
+    for number in [2, 3, 4, 7, 8, 9, 10, 12, 13, 14] {
         assert!(refused[number] > 0, "refusal {number} was never met");
     }
 }
