@@ -85,8 +85,10 @@ same-length-2 c = make-same (c .before .loop .inv)
 
 returns : tie.Need-returns Inv-loop μ-loop
 returns c =
+    let inv = c .before .loop .inv in
+    let end = c .loop-test .left in
     let start = start (c .before) in
-    (make-masks (c .before .loop .inv) (c .loop-test .left) (start .args .masks .now) (filled (c .before) .fill-bytes .ensures) (start .pre .1 .for-masks), make-values (c .before .loop .inv) (c .loop-test .left))
+    (make-masks inv end (start .args .masks .now) (filled (c .before) .fill-bytes .ensures) (start .pre .1 .for-masks), make-values inv end)
 
 pub draw-cells-spec : {M : Type 1} → statement M
 draw-cells-spec =
