@@ -5,7 +5,7 @@
 LISTED ?= ../shared/docs/src
 ARCHIVE ?= build/libdurpaxeta.a
 SEED ?= 1
-REQUESTS ?= 1600000
+REQUESTS ?= 1660000
 
 O := build/oracle
 RUSTC := rustc --edition 2024
