@@ -1,20 +1,20 @@
 -- What the loops over draws keep: levels and value bytes. And a cell drawn in the order of the code is the cell of the definition.
 -- Assumes nothing.
 use mathlib.Core.Path.{_≡_, refl, sym, ap, ap₂, _∙_, subst}
-use Prim.Native.Nat.{ℕ, zero, suc, _+_, _-_, _%_, _≤_, _<_}
-use native.Mathlib.Nat.{zero-add}
+use Prim.Native.Nat.{ℕ, zero, suc, _+_, _-_, _/_, _%_, _≤_, _<_}
+use native.Mathlib.Nat.{zero-add, suc-add}
 use native.Mathlib.Numerals.{unary-clauses}
 use native.Mathlib.Omega.{arith}
-use mathlib.Core.List.{List, [], _∷_}
+use mathlib.Core.List.{List, [], _∷_, _++_}
 use lib.ListN.{length, set}
 use Rattle.array.specs.Kind.{Form, nullOf}
 use Rattle.array.specs.Cells.{Value, Cell, blank, leaf}
-use Rattle.array.proofs.Laying.{Laying, laying-begins, laying-is, laying-same, laying-ends, laying-store}
+use Rattle.array.proofs.Laying.{Laying, laying-begins, laying-is, laying-same, laying-ends, laying-store, laying-part}
 use Rattle.array.specs.Buffers.{overAt}
 use Rattle.load.specs.Generator.{Drew, draw, drawBytes}
 use Rattle.load.specs.Load.{levelBy, drawValue, drawCell}
 use Rattle.load.proofs.Drawn.{drawn-length}
-use Rattle.generate.specs.Cells.{levelsBy, setLevels, markBy, levelMarks, marks, lengthy, lengthDrawn}
+use Rattle.generate.specs.Cells.{levelsBy, setLevels, levelMarks, marks, lengthy, lengthDrawn}
 
 -- one more of n
 pub next-of : {n i : ℕ} → i < n → n - i ≡ suc (n - (i + 1))
@@ -111,8 +111,48 @@ module _ {n s₀ : ℕ} {d : List ℕ} {to : ℕ} {out : List ℕ} {s i : ℕ} (
   pub store-same : length out ≡ length d
   store-same = laying-same (drawBytes n s₀ .made) d to out i (drawBytes (n - i) s .made) (k .laid)
 
+  pub store-fits : to + n ≤ length out
+  store-fits = omega (arith, store-same, k .laid .room, drawn-length n s₀)
+
   pub store-room : i < n → to + i < length out
-  store-room h = omega (arith, store-same, k .laid .room, drawn-length n s₀)
+  store-room h = omega (arith, store-fits)
+
+-- a part of k bytes is drawn in one go
+more-bytes : (a b s : ℕ) → drawBytes (a + b) s ≡ record { made = drawBytes a s .made ++ drawBytes b (drawBytes a s .state) .made; state = drawBytes b (drawBytes a s .state) .state }
+unfolding drawBytes
+more-bytes zero b s = ap (λ (j : ℕ). drawBytes j s) (zero-add b)
+more-bytes (suc a) b s =
+    ap (λ (j : ℕ). drawBytes j s) (suc-add a b)
+    ∙ ap (λ (r : Drew Value). record { made = draw s .made % 256 ∷ r .made; state = r .state }) (more-bytes a b (draw s .state))
+
+module _ {n s₀ : ℕ} {d : List ℕ} {to : ℕ} {out : List ℕ} {s i : ℕ} (c : Storing n s₀ d to out s i) where
+  left-bytes : (k : ℕ) → i + k ≤ n
+      → drawBytes (n - i) s ≡ record { made = drawBytes k s .made ++ drawBytes (n - (i + k)) (drawBytes k s .state) .made; state = drawBytes (n - (i + k)) (drawBytes k s .state) .state }
+  left-bytes k h = let e : n - i ≡ k + (n - (i + k)) = omega arith in ap (λ (j : ℕ). drawBytes j s) e ∙ more-bytes k (n - (i + k)) s
+
+  pub store-part : (k : ℕ) → i + k ≤ n → {out′ : List ℕ} {t : ℕ} → out′ ≡ overAt (to + i) (drawBytes k s .made) out → t ≡ drawBytes k s .state → Storing n s₀ d to out′ t (i + k)
+  store-part k h {out′} {t} eo et = record {
+    skipped = record {
+      within = h;
+      ends = c .skipped .ends ∙ ap (λ (r : Drew Value). r .state) (left-bytes k h) ∙ ap (λ (y : ℕ). drawBytes (n - (i + k)) y .state) (sym et);
+    };
+    laid = laying-part (drawBytes n s₀ .made) d to out i (drawBytes k s .made) (drawBytes (n - (i + k)) t .made)
+        (laying-is (c .laid) (ap (λ (r : Drew Value). r .made) (left-bytes k h) ∙ ap (λ (y : ℕ). drawBytes k s .made ++ drawBytes (n - (i + k)) y .made) (sym et)))
+        out′ eo (i + k) (let e : i + k ≡ i + length (drawBytes k s .made) = omega (arith, drawn-length k s) in e);
+  }
+
+-- the state after one draw more
+last-draw : (j s : ℕ) → drawBytes (j + 1) s .state ≡ draw (drawBytes j s .state) .state
+unfolding drawBytes
+last-draw j s = ap (λ (r : Drew Value). r .state) (more-bytes j 1 s)
+
+-- a byte from the state after it
+module _ {n s₀ : ℕ} {d : List ℕ} {to : ℕ} {out : List ℕ} {i : ℕ} (c : Storing n s₀ d to out (drawBytes i s₀ .state) i) where
+  pub store-ahead : i < n → {t : ℕ} → t ≡ drawBytes (i + 1) s₀ .state → Storing n s₀ d to (set out (to + i) (t / 65536 % 256)) (drawBytes (i + 1) s₀ .state) (i + 1)
+  unfolding draw
+  store-ahead h {t} e =
+      subst (λ (y : ℕ). Storing n s₀ d to (set out (to + i) (t / 65536 % 256)) y (i + 1)) e
+      (store-more c (ap (λ (y : ℕ). record { made = y / 65536; state = y }) (e ∙ last-draw i s₀)) h)
 
 -- ---- a cell
 

@@ -1,3 +1,4 @@
+pub mod Ahead
 pub mod Drawing
 pub mod Columns
 pub mod Making

@@ -10,7 +10,7 @@ use lib.ListN.{length, set, length-map, length-append}
 use Rattle.array.specs.Kind.{Form}
 use Rattle.array.specs.Lists.{All, joined}
 use Rattle.array.specs.Offsets.{ends, offsetsOf}
-use Rattle.array.specs.Cells.{Value, Cell, leaf}
+use Rattle.array.specs.Cells.{Cell, leaf}
 use Rattle.array.specs.Content.{masksOf, leaves}
 use Rattle.array.specs.Buffers.{over, overAt}
 use Rattle.array.proofs.Lists.{All-map, All-image}

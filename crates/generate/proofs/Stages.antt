@@ -10,7 +10,6 @@ use Rattle.array.specs.Content.{Content, layout}
 use Rattle.array.specs.Outcome.{putInto}
 use Rattle.array.proofs.Putting.{refused}
 use Rattle.valid.proofs.ShapeLaws.{Counted}
-use Rattle.load.specs.Load.{loadOf}
 use Rattle.load.specs.Calls.{generateAnswer, generated}
 use Rattle.load.specs.Law.{SameSize}
 use Rattle.load.proofs.Law.{load-same}

@@ -1,5 +1,6 @@
 // What a cell draws: its levels from the outermost, up to the first null, and value bytes.
 use crate::generator::Generator;
+use crate::generator::state_after;
 ghost use mathlib.Core.Path.{_≡_};
 ghost use Prim.Native.Nat.{_+_, _-_, _≤_};
 ghost use lib.ListN.{length};
@@ -54,8 +55,8 @@ pub fn put_marks(masks: &mut [u8], at: usize, cells: usize, depth: usize, set: u
     }
 }
 
-// Draws n value bytes.
-pub fn draw_bytes(first: Generator, values: &mut [u8], to: usize, n: usize) -> Generator
+// Draws n value bytes, one after another.
+pub fn draw_few(first: Generator, values: &mut [u8], to: usize, n: usize) -> Generator
     requires { ⌜ to + n ≤ length (now values) ⌝ }
     ensures draws { λ r. ⌜ r .state ≡ drawBytes n (first .state) .state ⌝ }
     ensures stores { λ _. ⌜ now (values .exit) ≡ overAt to (drawBytes n (first .state) .made) (now (values .entry)) ⌝ }
@@ -69,6 +70,52 @@ pub fn draw_bytes(first: Generator, values: &mut [u8], to: usize, n: usize) -> G
         i += 1;
     }
     g
+}
+
+// Draws 1 to 16 value bytes, each from the first state.
+fn draw_part(first: Generator, values: &mut [u8], to: usize, n: usize) -> Generator
+    requires { ⌜ (to + n ≤ length (now values)) × (1 ≤ n) × (n ≤ 16) ⌝ }
+    ensures draws { λ r. ⌜ r .state ≡ drawBytes n (first .state) .state ⌝ }
+    ensures stores { λ _. ⌜ now (values .exit) ≡ overAt to (drawBytes n (first .state) .made) (now (values .entry)) ⌝ }
+{
+    let mut i: usize = 0;
+    while i < n {
+        values[to + i] = (state_after(first, i) / 65536 % 256) as u8;
+        i += 1;
+    }
+    Generator {
+        state: state_after(first, n - 1),
+    }
+}
+
+// Draws n value bytes, sixteen at a time.
+fn draw_parts(first: Generator, values: &mut [u8], to: usize, n: usize) -> Generator
+    requires { ⌜ to + n ≤ length (now values) ⌝ }
+    ensures draws { λ r. ⌜ r .state ≡ drawBytes n (first .state) .state ⌝ }
+    ensures stores { λ _. ⌜ now (values .exit) ≡ overAt to (drawBytes n (first .state) .made) (now (values .entry)) ⌝ }
+{
+    let mut g = first;
+    let mut i: usize = 0;
+    while 16 <= n - i {
+        g = draw_part(g, values, to + i, 16);
+        i += 16;
+    }
+    if i == n {
+        return g;
+    }
+    draw_part(g, values, to + i, n - i)
+}
+
+// Draws n value bytes.
+pub fn draw_bytes(first: Generator, values: &mut [u8], to: usize, n: usize) -> Generator
+    requires { ⌜ to + n ≤ length (now values) ⌝ }
+    ensures draws { λ r. ⌜ r .state ≡ drawBytes n (first .state) .state ⌝ }
+    ensures stores { λ _. ⌜ now (values .exit) ≡ overAt to (drawBytes n (first .state) .made) (now (values .entry)) ⌝ }
+{
+    if n < 16 {
+        return draw_few(first, values, to, n);
+    }
+    draw_parts(first, values, to, n)
 }
 
 // Draws n value bytes that nobody keeps.

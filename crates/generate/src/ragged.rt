@@ -1,5 +1,5 @@
 // Loads of ragged values: how many bytes they have is known only once they are drawn.
-use crate::cell::draw_bytes;
+use crate::cell::draw_few;
 use crate::cell::draw_levels;
 use crate::cell::put_marks;
 use crate::cell::skip_bytes;
@@ -52,7 +52,7 @@ fn draw_cell(
     if set == depth {
         let drawn = next.draw();
         let bytes = (drawn.draw % 9) as usize;
-        let next = draw_bytes(drawn.next, values, to, bytes);
+        let next = draw_few(drawn.next, values, to, bytes);
         return Value { bytes, next };
     }
     Value { bytes: 0, next }

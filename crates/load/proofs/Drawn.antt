@@ -1,13 +1,13 @@
 -- What is drawn: values of the form's size, bytes, few of them; cells in rest form; and the same for forms that are alike.
 -- Assumes nothing.
 use mathlib.Core.Path.{_≡_, refl, ap, ap₂, _∙_}
-use Prim.Native.Nat.{ℕ, zero, suc, _+_, _*_, _%_, _<_, _≤_}
+use Prim.Native.Nat.{ℕ, zero, suc, _*_, _%_, _<_, _≤_}
 use native.Mathlib.Nat.{mod-lt, zero-lt-suc, suc-mul, le-trans, le-of-eq}
 use native.Mathlib.Omega.{arith}
 use mathlib.Core.List.{List, [], _∷_}
 use lib.ListN.{length, replicate, length-replicate, length-append, length-map}
 use Rattle.array.specs.Lists.{All, joined}
-use Rattle.array.specs.Kind.{Kind, Form, fixed, ragged, FormOk, nullOf}
+use Rattle.array.specs.Kind.{Form, fixed, ragged, FormOk, nullOf}
 use Rattle.array.specs.Cells.{Value, Cell, leaf, blank, rest}
 use Rattle.array.specs.Content.{leaves}
 use Rattle.array.proofs.Lists.{All-map, All-image}

@@ -8,7 +8,7 @@ use mathlib.Core.List.{List, [], _∷_}
 use Rattle.array.specs.Answer.{Answer, gives, unless}
 use Rattle.array.specs.Limits.{mostBytes, mostCells}
 use Rattle.array.specs.Lists.{All, joined}
-use Rattle.array.specs.Kind.{Kind, KindOk, Form, fixed, ragged, kindTest}
+use Rattle.array.specs.Kind.{Kind, KindOk, Form, fixed, ragged}
 use Rattle.array.specs.Shape.{volume, ShapeOk, shapeTest}
 use Rattle.array.specs.Cells.{Value, Cell, leaf}
 use Rattle.array.specs.Content.{Content, leaves, layout}
@@ -19,7 +19,7 @@ use Rattle.array.proofs.Rules.{kind-test, shape-test, enough-test}
 use Rattle.array.proofs.Sizes.{OfSize}
 use Rattle.array.proofs.LayoutLaws.{Good}
 use Rattle.array.proofs.Resting.{Rests, laid-valid, laid-rests}
-use Rattle.load.specs.Generator.{Drew, draw, drawBytes}
+use Rattle.load.specs.Generator.{Drew}
 use Rattle.load.specs.Load.{drawValue, drawCells, loadOf}
 use Rattle.load.specs.Calls.{generateAnswer, generated}
 use Rattle.load.specs.Law.{SameSize, LoadLaw, Loads}

@@ -1,10 +1,8 @@
 -- `cell::draw_levels` meets its contract, by the laws of Drawing.
 -- Assumes nothing.
-use mathlib.Core.Path.{_≡_, sym, ap, _∙_}
-use Prim.Native.Nat.{ℕ, _-_, _%_}
+use Prim.Native.Nat.{_-_}
 use native.Mathlib.Omega.{arith}
 use borrow.Author.Needs.{needs}
-use Rattle.load.specs.Generator.{Drew}
 use Rattle.generate.proofs.Drawing.{Climbing, climb-begins, climb-null, climb-more, climb-ends}
 use Rattle.generate.proofs.cell.draw_levels.Statement.{statement}
 use Rattle.generate.proofs.cell.draw_levels.Tie as tie

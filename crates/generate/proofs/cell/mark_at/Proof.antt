@@ -1,7 +1,7 @@
 -- `cell::mark_at` meets its contract, by the two cases of its test.
 -- Assumes nothing.
 use mathlib.Core.Path.{_≡_, sym, ap}
-use Prim.Native.Nat.{ℕ, suc, _-_}
+use Prim.Native.Nat.{suc, _-_}
 use native.Mathlib.Omega.{arith}
 use Rattle.generate.specs.Cells.{markBy}
 use Rattle.generate.proofs.cell.mark_at.Statement.{statement}

@@ -1,10 +1,8 @@
 -- `cell::skip_bytes` meets its contract, by the laws of Drawing.
 -- Assumes nothing.
-use mathlib.Core.Path.{_≡_, sym, ap, _∙_}
-use Prim.Native.Nat.{ℕ, _-_}
+use Prim.Native.Nat.{_-_}
 use native.Mathlib.Omega.{arith}
 use borrow.Author.Needs.{needs}
-use Rattle.load.specs.Generator.{Drew}
 use Rattle.generate.proofs.Drawing.{Skipping, skip-begins, skip-more, skip-ends}
 use Rattle.generate.proofs.cell.skip_bytes.Statement.{statement}
 use Rattle.generate.proofs.cell.skip_bytes.Tie as tie

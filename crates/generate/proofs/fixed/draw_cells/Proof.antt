@@ -1,9 +1,8 @@
 -- `fixed::draw_cells` meets its contract, by the laws of Making.
 -- Assumes nothing.
 use mathlib.Core.Path.{_≡_, sym}
-use Prim.Native.Nat.{ℕ, _-_, _+_, _≤_}
+use Prim.Native.Nat.{_-_, _+_, _≤_}
 use native.Mathlib.Omega.{arith}
-use borrow.Author.Needs.{needs}
 use lib.ListN.{length}
 use Rattle.array.specs.Cells.{leaf}
 use Rattle.load.specs.Load.{drawCell}

@@ -1,8 +1,7 @@
 -- `ragged::draw_cell` meets its contract: levels, mask bytes and value are those of the cell (Drawing).
 -- Assumes nothing.
 use mathlib.Core.Path.{_≡_, sym, ap, _∙_}
-use mathlib.Core.List.{List, []}
-use Prim.Native.Nat.{ℕ}
+use mathlib.Core.List.{[]}
 use native.Mathlib.Omega.{arith}
 use borrow.Author.Needs.{needs}
 use Rattle.array.specs.Cells.{Value}
@@ -31,8 +30,8 @@ planes c = let a = start c .args in rw (cell-of lengthy (a .depth) (a .first .st
 
 -- ---- answers
 
-draw-bytes-requires : tie.Need-draw-bytes-requires
-draw-bytes-requires c κs =
+draw-few-requires : tie.Need-draw-few-requires
+draw-few-requires c κs =
     let drew = c .before .before in
     let put = marked (drew .before .before) in
     let a = start put .args in
@@ -46,8 +45,8 @@ returns c =
     let put = marked (drew .before .before) in
     let a = start put .args in
     let value = set-leaf (a .depth) (a .first .state) (levels put .draw-levels .ensures) all (drew .draw .ensures) in (
-      set-counted (a .depth) (a .first .state) (levels put .draw-levels .ensures) all (drew .draw .ensures) (bytes .draw-bytes .ensures .0),
-      (planes put, bytes .draw-bytes .ensures .1 ∙ sym (ap (λ (v : Value). overAt (a .to) v (a .values .now)) value)),
+      set-counted (a .depth) (a .first .state) (levels put .draw-levels .ensures) all (drew .draw .ensures) (bytes .draw-few .ensures .0),
+      (planes put, bytes .draw-few .ensures .1 ∙ sym (ap (λ (v : Value). overAt (a .to) v (a .values .now)) value)),
     )
 
 returns-2 : tie.Need-returns-2
@@ -69,7 +68,7 @@ draw-cell-spec =
     (λ c κs. search needs)
     (λ c κs. search needs)
     (λ c. search needs)
-    draw-bytes-requires
+    draw-few-requires
     (λ c. search needs)
     (λ c. search needs)
     returns

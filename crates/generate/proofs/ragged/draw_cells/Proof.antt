@@ -1,10 +1,9 @@
 -- `ragged::draw_cells` meets its contract, by the laws of Making.
 -- Assumes nothing.
-use mathlib.Core.Path.{_≡_, ap, _∙_}
-use Prim.Native.Nat.{ℕ, _-_, _+_, _≤_}
+use mathlib.Core.Path.{ap, _∙_}
+use Prim.Native.Nat.{ℕ, _-_}
 use native.Mathlib.Omega.{arith}
-use borrow.Author.Needs.{needs}
-use lib.ListN.{length, length-set}
+use lib.ListN.{length-set}
 use Rattle.load.specs.Generator.{Drew}
 use Rattle.generate.specs.Cells.{lengthy}
 use Rattle.generate.proofs.Making.{Making, make-begins, make-column, make-same, make-room, make-more, make-masks, make-values}

@@ -1,13 +1,11 @@
--- `cell::draw_bytes` meets its contract, by the laws of Drawing.
+-- `cell::draw_few` meets its contract, by the laws of Drawing.
 -- Assumes nothing.
-use mathlib.Core.Path.{_≡_, sym, ap, _∙_}
-use Prim.Native.Nat.{ℕ, _-_}
+use Prim.Native.Nat.{_-_}
 use native.Mathlib.Omega.{arith}
 use borrow.Author.Needs.{needs}
-use Rattle.load.specs.Generator.{Drew}
 use Rattle.generate.proofs.Drawing.{Storing, store-begins, store-more, store-same, store-room, store-ends, skip-ends}
-use Rattle.generate.proofs.cell.draw_bytes.Statement.{statement}
-use Rattle.generate.proofs.cell.draw_bytes.Tie as tie
+use Rattle.generate.proofs.cell.draw_few.Statement.{statement}
+use Rattle.generate.proofs.cell.draw_few.Tie as tie
 
 abbrev Inv-loop : tie.InvT-loop
 Inv-loop values₀ to n g₀ i₀ values g i = Storing n (g₀ .state) values₀ to values (g .state) i
@@ -47,8 +45,8 @@ same-length c = store-same (c .before .loop .inv)
 returns : tie.Need-returns Inv-loop μ-loop
 returns c = (skip-ends (c .before .loop .inv .skipped) (c .loop-test .left), store-ends (c .before .loop .inv) (c .loop-test .left))
 
-pub draw-bytes-spec : {M : Type 1} → statement M
-draw-bytes-spec =
+pub draw-few-spec : {M : Type 1} → statement M
+draw-few-spec =
     tie.close
     (tie.spec
     Inv-loop
