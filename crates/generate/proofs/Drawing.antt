@@ -6,7 +6,7 @@ use native.Mathlib.Nat.{zero-add, suc-add}
 use native.Mathlib.Numerals.{unary-clauses}
 use native.Mathlib.Omega.{arith}
 use mathlib.Core.List.{List, [], _∷_, _++_}
-use lib.ListN.{length, set}
+use lib.ListN.{length, set, replicate}
 use Rattle.array.specs.Kind.{Form, nullOf}
 use Rattle.array.specs.Cells.{Value, Cell, blank, leaf}
 use Rattle.array.proofs.Laying.{Laying, laying-begins, laying-is, laying-same, laying-ends, laying-store, laying-part}
@@ -14,7 +14,7 @@ use Rattle.array.specs.Buffers.{overAt}
 use Rattle.load.specs.Generator.{Drew, draw, drawBytes}
 use Rattle.load.specs.Load.{levelBy, drawValue, drawCell}
 use Rattle.load.proofs.Drawn.{drawn-length}
-use Rattle.generate.specs.Cells.{levelsBy, setLevels, levelMarks, marks, lengthy, lengthDrawn}
+use Rattle.generate.specs.Cells.{levelsBy, setLevels, ones, lengthy, lengthDrawn}
 
 -- one more of n
 pub next-of : {n i : ℕ} → i < n → n - i ≡ suc (n - (i + 1))
@@ -118,7 +118,7 @@ module _ {n s₀ : ℕ} {d : List ℕ} {to : ℕ} {out : List ℕ} {s i : ℕ} (
   store-room h = omega (arith, store-fits)
 
 -- a part of k bytes is drawn in one go
-more-bytes : (a b s : ℕ) → drawBytes (a + b) s ≡ record { made = drawBytes a s .made ++ drawBytes b (drawBytes a s .state) .made; state = drawBytes b (drawBytes a s .state) .state }
+pub more-bytes : (a b s : ℕ) → drawBytes (a + b) s ≡ record { made = drawBytes a s .made ++ drawBytes b (drawBytes a s .state) .made; state = drawBytes b (drawBytes a s .state) .state }
 unfolding drawBytes
 more-bytes zero b s = ap (λ (j : ℕ). drawBytes j s) (zero-add b)
 more-bytes (suc a) b s =
@@ -156,10 +156,19 @@ module _ {n s₀ : ℕ} {d : List ℕ} {to : ℕ} {out : List ℕ} {i : ℕ} (c 
 
 -- ---- a cell
 
+-- below a null nothing is set
+abbrev pub Falls : (d : ℕ) → Cell d → Type 0
+Falls zero c = Unit {0}
+Falls (suc d) c = (c .0 ≡ 0 → ones d (c .1) ≡ []) × Falls d (c .1)
+
 module _ (f : Form) where
-  blank-marks : (d : ℕ) → marks d (blank (nullOf f) d) ≡ levelMarks d 0
-  blank-marks zero = refl
-  blank-marks (suc d) = ap (λ (r : List ℕ). 0 ∷ r) (blank-marks d)
+  blank-ones : (d : ℕ) → ones d (blank (nullOf f) d) ≡ []
+  blank-ones zero = refl
+  blank-ones (suc d) = refl
+
+  blank-falls : (d : ℕ) → Falls d (blank (nullOf f) d)
+  blank-falls zero = tt
+  blank-falls (suc d) = (λ e. blank-ones d, blank-falls d)
 
   blank-leaf : (d : ℕ) → leaf d (blank (nullOf f) d) ≡ nullOf f
   blank-leaf zero = refl
@@ -167,25 +176,28 @@ module _ (f : Form) where
 
   -- a cell c whose levels are drawn as l: its mask bytes, and its value, which is drawn behind them or is a null's
   pub record Drawn (d : ℕ) (c : Drew (Cell d)) (l : Drew ℕ) : Type 0 where
-    pub marked : marks d (c .made) ≡ levelMarks d (l .made)
+    pub marked : ones d (c .made) ≡ replicate (l .made) 1
+    pub falls : Falls d (c .made)
     pub if-set : l .made ≡ d → (leaf d (c .made) ≡ drawValue f (l .state) .made) × (c .state ≡ drawValue f (l .state) .state)
     pub if-null : (l .made ≡ d → ⊥) → (leaf d (c .made) ≡ nullOf f) × (c .state ≡ l .state)
 
   next-level-of : {d : ℕ} {c : Drew (Cell d)} {l : Drew ℕ} (m t : ℕ) → Drawn d c l → Drawn (suc d) (levelBy m t (blank (nullOf f) d) c) (levelsBy m t l)
   next-level-of {d} zero t r = record {
-    marked = ap (λ (x : List ℕ). 0 ∷ x) (blank-marks d);
+    marked = refl;
+    falls = (λ e. blank-ones d, blank-falls d);
     if-set = λ e. absurd (omega arith);
     if-null = λ n. (blank-leaf d, refl);
   }
   next-level-of {d} (suc m) t r = record {
-    marked = ap (λ (x : List ℕ). 1 ∷ x) (r .marked ∙ ap (levelMarks d) (omega arith));
+    marked = ap (λ (x : List ℕ). 1 ∷ x) (r .marked);
+    falls = (λ e. absurd (omega arith), r .falls);
     if-set = λ e. r .if-set (omega arith);
     if-null = λ n. r .if-null (λ e. n (ap suc e));
   }
 
   pub drawn : (d s : ℕ) → Drawn d (drawCell f d s) (setLevels d s)
   unfolding drawCell setLevels
-  drawn zero s = record { marked = refl; if-set = λ e. (refl, refl); if-null = λ n. absurd (n refl) }
+  drawn zero s = record { marked = refl; falls = tt; if-set = λ e. (refl, refl); if-null = λ n. absurd (n refl) }
   drawn (suc d) s = next-level-of (draw s .made % 4) (draw s .state) (drawn d (draw s .state))
 
 -- the same, of levels that the code has drawn

@@ -1,29 +1,30 @@
 -- What the loops over cells keep: the cells drawn so far lie in the outputs, and those that are left are drawn from the state.
 -- Assumes nothing.
 use mathlib.Core.Path.{_≡_, refl, sym, ap, ap₂, _∙_, subst}
-use Prim.Native.Nat.{ℕ, _+_, _-_, _*_, _≤_, _<_}
-use native.Mathlib.Nat.{zero-add, mul-le-mul}
+use Prim.Native.Nat.{ℕ, zero, suc, _+_, _-_, _*_, _≤_, _<_}
+use native.Mathlib.Nat.{zero-add, zero-mul, suc-mul, mul-le-mul}
 use native.Mathlib.Numerals.{unary-clauses}
 use native.Mathlib.Omega.{arith}
 use mathlib.Core.List.{List, [], _∷_, _++_}
-use lib.ListN.{length, set, length-map, length-append}
+use lib.ListN.{length, set, replicate, length-replicate, length-map, length-append}
 use Rattle.array.specs.Kind.{Form}
 use Rattle.array.specs.Lists.{All, joined}
 use Rattle.array.specs.Offsets.{ends, offsetsOf}
-use Rattle.array.specs.Cells.{Cell, leaf}
+use Rattle.array.specs.Cells.{Value, Cell, leaf}
 use Rattle.array.specs.Content.{masksOf, leaves}
 use Rattle.array.specs.Buffers.{over, overAt}
 use Rattle.array.proofs.Lists.{All-map, All-image}
 use Rattle.array.proofs.Offsets.{length-ends}
 use Rattle.array.proofs.Sizes.{OfSize}
 use Rattle.array.proofs.LayoutLaws.{length-masksOf, layout-values-ok}
+use Rattle.array.proofs.Over.{over-length}
 use Rattle.array.proofs.Laying.{Laying, laying-begins, laying-is, laying-same, laying-part, laying-store, laying-room, laying-ends}
-use Rattle.load.specs.Generator.{Drew}
-use Rattle.load.specs.Load.{drawCell, drawCells}
+use Rattle.load.specs.Generator.{Drew, drawBytes}
+use Rattle.load.specs.Load.{drawValue, drawCell, drawCells}
 use Rattle.load.proofs.Drawn.{DrawnCell, drawn-cells, drawn-count, drawn-total}
-use Rattle.generate.specs.Cells.{marks, column, sized, lengthy, cellsFrom, bytesFrom}
+use Rattle.generate.specs.Cells.{ones, column, sized, lengthy, cellsFrom, bytesFrom}
 use Rattle.generate.specs.Room.{Column, Limited}
-use Rattle.generate.proofs.Drawing.{next-of}
+use Rattle.generate.proofs.Drawing.{next-of, more-bytes, Falls, drawn}
 use Rattle.generate.proofs.Columns.{column-length, columns, planes-laid}
 
 -- the value bytes of n cells
@@ -33,6 +34,10 @@ valuesFrom f d n s = joined (leaves d (cellsFrom f d n s))
 -- products of the limits
 pub planes-small : {d n : ℕ} → Limited d n → d * n ≤ 262144
 planes-small l = omega (arith, mul-le-mul (l .shallow) (l .few))
+
+-- zeros over a list leave its length
+pub zeros-length : (m : ℕ) (l : List ℕ) → m ≤ length l → {filled : List ℕ} → filled ≡ over (replicate m 0) l → length filled ≡ length l
+zeros-length m l h e = ap length e ∙ over-length (replicate m 0) l (omega (arith, length-replicate {A = ℕ} m 0))
 
 pub bytes-small : {d n : ℕ} → Limited d n → {size : ℕ} → size ≤ 64 → n * size ≤ 4194304
 bytes-small l h = omega (arith, mul-le-mul (l .few) h)
@@ -46,6 +51,11 @@ next-cells f d s h = ap (λ (j : ℕ). cellsFrom f d j s) (next-of h)
 pub no-cells : (f : Form) (d : ℕ) {n at : ℕ} (s : ℕ) → n ≤ at → cellsFrom f d (n - at) s ≡ []
 unfolding drawCells
 no-cells f d {n} {at} s h = let none : n - at ≡ 0 = omega arith in ap (λ (j : ℕ). cellsFrom f d j s) none
+
+cells-fall : (f : Form) (d n s : ℕ) → All (Falls d) (cellsFrom f d n s)
+unfolding drawCells
+cells-fall f d zero s = tt
+cells-fall f d (suc n) s = (drawn f d s .falls, cells-fall f d n (drawCell f d s .state))
 
 -- cells before `at` are drawn, and have `sum` bytes
 pub record Counting (f : Form) (d n s₀ s at sum : ℕ) : Type 0 where
@@ -105,12 +115,12 @@ module _ {f : Form} {d n s₀ : ℕ} {m₀ v₀ m v : List ℕ} {s at to : ℕ} 
   pub make-room : at < n → to + length (leaf d (drawCell f d s .made)) ≤ length v
   make-room h = omega (arith, count-fits (c .counted) h, c .laid .room, make-same)
 
-  pub make-more : at < n → {m′ v′ : List ℕ} {k t : ℕ} → m′ ≡ column n at (marks d (drawCell f d s .made)) m → v′ ≡ overAt to (leaf d (drawCell f d s .made)) v
+  pub make-more : at < n → {m′ v′ : List ℕ} {k t : ℕ} → m′ ≡ column n at (ones d (drawCell f d s .made)) m → v′ ≡ overAt to (leaf d (drawCell f d s .made)) v
       → k ≡ length (leaf d (drawCell f d s .made)) → t ≡ drawCell f d s .state → Making f d n s₀ m₀ v₀ m′ v′ t (at + 1) (to + k)
   make-more h {m′} {v′} {k} {t} em ev ek et = record {
     counted = count-more (c .counted) h ek et;
     room = c .room;
-    same = ap length em ∙ column-length n at (marks d (drawCell f d s .made)) m ∙ c .same;
+    same = ap length em ∙ column-length n at (ones d (drawCell f d s .made)) m ∙ c .same;
     planes = ap₂ (λ (x : List ℕ) (y : ℕ). columns d n (at + 1) (cellsFrom f d (n - (at + 1)) y) x) em et
         ∙ sym (ap (λ (cs : List (Cell d)). columns d n at cs m) (next-cells f d s h)) ∙ c .planes;
     laid = laying-part (valuesFrom f d n s₀) v₀ 0 v to (leaf d (drawCell f d s .made)) (valuesFrom f d (n - (at + 1)) t)
@@ -119,10 +129,11 @@ module _ {f : Form} {d n s₀ : ℕ} {m₀ v₀ m v : List ℕ} {s at to : ℕ} 
         v′ (ev ∙ ap (λ (j : ℕ). overAt j (leaf d (drawCell f d s .made)) v) (sym (zero-add to))) (to + k) (ap (λ (j : ℕ). to + j) ek);
   }
 
-  pub make-masks : n ≤ at → m ≡ over (masksOf d (cellsFrom f d n s₀)) m₀
-  make-masks h =
-      sym (ap (λ (cs : List (Cell d)). columns d n at cs m) (no-cells f d s h)) ∙ c .planes
-      ∙ planes-laid n d (cellsFrom f d n s₀) m₀ (drawn-count f d n s₀) (c .room)
+  -- the masks were zeros over what is lent
+  pub make-masks : n ≤ at → (lent : List ℕ) → m₀ ≡ over (replicate (d * n) 0) lent → d * n ≤ length lent → m ≡ over (masksOf d (cellsFrom f d n s₀)) lent
+  make-masks h lent e l =
+      sym (ap (λ (cs : List (Cell d)). columns d n at cs m) (no-cells f d s h)) ∙ c .planes ∙ ap (columns d n 0 (cellsFrom f d n s₀)) e
+      ∙ planes-laid n d (cellsFrom f d n s₀) lent (drawn-count f d n s₀) l (cells-fall f d n s₀)
 
   pub make-values : n ≤ at → v ≡ over (valuesFrom f d n s₀) v₀
   make-values h = laying-ends (valuesFrom f d n s₀) v₀ 0 v to (laying-is (c .laid) (ap (λ (cs : List (Cell d)). joined (leaves d cs)) (no-cells f d s h)))
@@ -185,3 +196,19 @@ count-values size d n s =
 
 pub ragged-small : {d n : ℕ} → Limited d n → (s : ℕ) → bytesFrom lengthy d n s ≤ 524288
 ragged-small {d} {n} l s = omega (arith, drawn-total lengthy d n s, l .few)
+
+-- with no level all cells are one run of bytes
+pub flat-bytes : (size n s : ℕ) → valuesFrom (sized size) 0 n s ≡ drawBytes (n * size) s .made
+unfolding drawBytes drawValue drawCell drawCells
+flat-bytes size zero s = ap (λ (j : ℕ). drawBytes j s .made) (sym (zero-mul size))
+flat-bytes size (suc n) s =
+    let more : size + n * size ≡ suc n * size = omega (arith, suc-mul n size) in
+    ap (λ (r : List ℕ). drawBytes size s .made ++ r) (flat-bytes size n (drawBytes size s .state))
+    ∙ sym (ap (λ (r : Drew Value). r .made) (more-bytes size (n * size) s)) ∙ ap (λ (j : ℕ). drawBytes j s .made) more
+
+pub flat-masks : {d : ℕ} → d ≡ 0 → (f : Form) (n s : ℕ) (m : List ℕ) → m ≡ over (masksOf d (cellsFrom f d n s)) m
+flat-masks e f n s m = sym (ap (λ (d : ℕ). over (masksOf d (cellsFrom f d n s)) m) e)
+
+pub flat-values : {d : ℕ} → d ≡ 0 → (size n s : ℕ) (v : List ℕ) → over (drawBytes (n * size) s .made) v ≡ over (valuesFrom (sized size) d n s) v
+flat-values e size n s v =
+    ap (λ (x : List ℕ). over x v) (sym (flat-bytes size n s)) ∙ sym (ap (λ (d : ℕ). over (valuesFrom (sized size) d n s) v) e)

@@ -1,7 +1,7 @@
 -- docs/SPEC.md, part 12 (S12.2): a cell drawn in the order of the code: how many of its levels are set, then its value. And where its mask
 -- bytes go.
 -- Assumes nothing.
-use Prim.Native.Nat.{ℕ, zero, suc, _+_, _-_, _%_}
+use Prim.Native.Nat.{ℕ, zero, suc, _+_, _%_}
 use mathlib.Core.List.{List, [], _∷_}
 use lib.ListN.{length, set}
 use Rattle.array.specs.Kind.{Form, fixed, ragged, little, atStart}
@@ -22,19 +22,14 @@ setLevels (suc d) s = levelsBy (draw s .made % 4) (draw s .state) (setLevels d (
 
 -- ---- mask bytes in the planes
 
--- the mask bytes of a cell, outermost first
-abbrev pub marks : (d : ℕ) → Cell d → List ℕ
-marks zero c = []
-marks (suc d) c = c .0 ∷ marks d (c .1)
+-- the mask bytes of a cell up to the first null
+abbrev pub onesBy : ℕ → List ℕ → List ℕ
+onesBy zero r = []
+onesBy (suc m) r = suc m ∷ r
 
--- the mask bytes where k levels of d are set
-abbrev pub markBy : ℕ → ℕ
-markBy zero = 0
-markBy (suc k) = 1
-
-abbrev pub levelMarks : ℕ → ℕ → List ℕ
-levelMarks zero k = []
-levelMarks (suc d) k = markBy k ∷ levelMarks d (k - 1)
+abbrev pub ones : (d : ℕ) → Cell d → List ℕ
+ones zero c = []
+ones (suc d) c = onesBy (c .0) (ones d (c .1))
 
 -- bytes stored at `at` in one plane of n cells after another
 abbrev pub column : ℕ → ℕ → List ℕ → List ℕ → List ℕ

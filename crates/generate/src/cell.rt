@@ -2,11 +2,11 @@
 use crate::generator::Generator;
 use crate::generator::state_after;
 ghost use mathlib.Core.Path.{_≡_};
-ghost use Prim.Native.Nat.{_+_, _-_, _≤_};
-ghost use lib.ListN.{length};
+ghost use Prim.Native.Nat.{_+_, _≤_};
+ghost use lib.ListN.{length, replicate};
 ghost use Rattle.array.specs.Buffers.{overAt};
 ghost use Rattle.load.specs.Generator.{drawBytes};
-ghost use Rattle.generate.specs.Cells.{setLevels, markBy, levelMarks, column};
+ghost use Rattle.generate.specs.Cells.{setLevels, column};
 ghost use Rattle.generate.specs.Room.{Column};
 ghost use Rattle.generate.specs.Generator.{drewLevels};
 
@@ -34,25 +34,27 @@ pub fn draw_levels(first: Generator, depth: usize) -> Levels
     Levels { set, next: g }
 }
 
-// The mask byte of a level: the levels that are set are the outer ones.
-fn mark_at(level: usize, set: usize) -> u8
-    ensures { λ r. ⌜ r ≡ markBy (set - level) ⌝ }
+// The same for the cell `at` of n, and stores 01 in the planes of its levels that are set. Those below are 00 already.
+pub fn mark_levels(first: Generator, depth: usize, n: usize, at: usize, masks: &mut [u8]) -> Levels
+    requires { ⌜ Column n at depth (now masks) ⌝ }
+    ensures draws { λ r. ⌜ drewLevels r ≡ setLevels depth (first .state) ⌝ }
+    ensures marks { λ r. ⌜ now (masks .exit) ≡ column n at (replicate (r .set) 1) (now (masks .entry)) ⌝ }
 {
-    if level < set { 1 } else { 0 }
-}
-
-// Stores the mask bytes of the cell `at`: 01 in the planes of its `set` outer levels, and 00 in those below.
-pub fn put_marks(masks: &mut [u8], at: usize, cells: usize, depth: usize, set: usize)
-    requires { ⌜ Column cells at depth (now masks) ⌝ }
-    ensures { λ _. ⌜ now (masks .exit) ≡ column cells at (levelMarks depth set) (now (masks .entry)) ⌝ }
-{
+    let mut g = first;
+    let mut set: usize = 0;
     let mut place = at;
-    let mut level: usize = 0;
-    while level < depth {
-        masks[place] = mark_at(level, set);
-        place += cells;
-        level += 1;
+    while set < depth {
+        let drawn = g.draw();
+        let next = drawn.next;
+        if drawn.draw % 4 == 0 {
+            return Levels { set, next };
+        }
+        masks[place] = 1;
+        g = next;
+        place += n;
+        set += 1;
     }
+    Levels { set, next: g }
 }
 
 // Draws n value bytes, one after another.

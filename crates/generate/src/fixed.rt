@@ -1,7 +1,6 @@
 // Loads of fixed values: how much is stored is known from the kind and the shape.
 use crate::cell::draw_bytes;
-use crate::cell::draw_levels;
-use crate::cell::put_marks;
+use crate::cell::mark_levels;
 use crate::generator::Generator;
 use array::answer::WrittenArray;
 use array::refusal;
@@ -16,7 +15,7 @@ ghost use Rattle.array.specs.Content.{masksOf, leaves, layout};
 ghost use Rattle.array.specs.Buffers.{over, overAt};
 ghost use Rattle.array.specs.Outcome.{contentArray, outcomeArray, putInto};
 ghost use Rattle.load.specs.Load.{drawCell};
-ghost use Rattle.generate.specs.Cells.{sized, marks, column, cellsFrom};
+ghost use Rattle.generate.specs.Cells.{sized, ones, column, cellsFrom};
 ghost use Rattle.generate.specs.Room.{Column, Limited, FixedRoom};
 
 // Draws the cell `at` of n, its value going to the place `to`. A null leaves zeros.
@@ -32,13 +31,12 @@ fn draw_cell(
 ) -> Generator
     requires { ⌜ Column n at depth (now masks) × (to + size ≤ length (now values)) ⌝ }
     ensures draws { λ r. ⌜ r .state ≡ drawCell (sized size) depth (first .state) .state ⌝ }
-    ensures marks { λ _. ⌜ now (masks .exit) ≡ column n at (marks depth (drawCell (sized size) depth (first .state) .made)) (now (masks .entry)) ⌝ }
+    ensures marks { λ _. ⌜ now (masks .exit) ≡ column n at (ones depth (drawCell (sized size) depth (first .state) .made)) (now (masks .entry)) ⌝ }
     ensures stores { λ _. ⌜ now (values .exit) ≡ overAt to (leaf depth (drawCell (sized size) depth (first .state) .made)) (now (values .entry)) ⌝ }
 {
-    let levels = draw_levels(first, depth);
+    let levels = mark_levels(first, depth, n, at, masks);
     let set = levels.set;
     let next = levels.next;
-    put_marks(masks, at, n, depth, set);
     if set == depth {
         return draw_bytes(next, values, to, size);
     }
@@ -59,6 +57,7 @@ fn draw_cells(
     ensures planes { λ _. ⌜ now (masks .exit) ≡ over (masksOf depth (cellsFrom (sized size) depth n (first .state))) (now (masks .entry)) ⌝ }
     ensures joins { λ _. ⌜ now (values .exit) ≡ over (joined (leaves depth (cellsFrom (sized size) depth n (first .state)))) (now (values .entry)) ⌝ }
 {
+    fill_bytes(masks, 0, depth * n, 0);
     let mut g = first;
     let mut at: usize = 0;
     let mut to: usize = 0;
@@ -90,6 +89,11 @@ pub fn make_fixed(
     }
     if values.len() < bytes {
         return WrittenArray::Refused(refusal::OUTPUT);
+    }
+    if depth == 0 {
+        // no level is drawn: all cells are one run of bytes
+        draw_bytes(first, values, 0, bytes);
+        return WrittenArray::Lengths(planes, bytes, 0);
     }
     draw_cells(first, depth, n, size, masks, values);
     WrittenArray::Lengths(planes, bytes, 0)

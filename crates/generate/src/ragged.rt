@@ -1,11 +1,12 @@
 // Loads of ragged values: how many bytes they have is known only once they are drawn.
 use crate::cell::draw_few;
 use crate::cell::draw_levels;
-use crate::cell::put_marks;
+use crate::cell::mark_levels;
 use crate::cell::skip_bytes;
 use crate::generator::Generator;
 use array::answer::WrittenArray;
 use array::refusal;
+use buffer::copy::fill_bytes;
 ghost use mathlib.Core.Path.{_≡_};
 ghost use Prim.Native.Nat.{_+_, _*_, _≤_};
 ghost use lib.Dec.{leb};
@@ -18,7 +19,7 @@ ghost use Rattle.array.specs.Buffers.{over, overAt};
 ghost use Rattle.array.specs.Outcome.{contentArray, outcomeArray, putInto};
 ghost use Rattle.load.specs.Load.{drawCell};
 ghost use Rattle.generate.specs.Generator.{drewLength};
-ghost use Rattle.generate.specs.Cells.{lengthy, lengthDrawn, marks, column, cellsFrom, bytesFrom};
+ghost use Rattle.generate.specs.Cells.{lengthy, lengthDrawn, ones, column, cellsFrom, bytesFrom};
 ghost use Rattle.generate.specs.Room.{Column, Limited, RaggedRoom};
 
 // A ragged value of at most this many bytes: its length is a draw modulo 9.
@@ -42,13 +43,12 @@ fn draw_cell(
 ) -> Value
     requires { ⌜ Column n at depth (now masks) × (to + length (leaf depth (drawCell lengthy depth (first .state) .made)) ≤ length (now values)) ⌝ }
     ensures draws { λ r. ⌜ drewLength r ≡ lengthDrawn depth (drawCell lengthy depth (first .state)) ⌝ }
-    ensures marks { λ _. ⌜ now (masks .exit) ≡ column n at (marks depth (drawCell lengthy depth (first .state) .made)) (now (masks .entry)) ⌝ }
+    ensures marks { λ _. ⌜ now (masks .exit) ≡ column n at (ones depth (drawCell lengthy depth (first .state) .made)) (now (masks .entry)) ⌝ }
     ensures stores { λ _. ⌜ now (values .exit) ≡ overAt to (leaf depth (drawCell lengthy depth (first .state) .made)) (now (values .entry)) ⌝ }
 {
-    let levels = draw_levels(first, depth);
+    let levels = mark_levels(first, depth, n, at, masks);
     let set = levels.set;
     let next = levels.next;
-    put_marks(masks, at, n, depth, set);
     if set == depth {
         let drawn = next.draw();
         let bytes = (drawn.draw % 9) as usize;
@@ -89,6 +89,7 @@ fn draw_cells(
     ensures joins { λ _. ⌜ now (values .exit) ≡ over (joined (leaves depth (cellsFrom lengthy depth n (first .state)))) (now (values .entry)) ⌝ }
     ensures places { λ _. ⌜ now (offsets .exit) ≡ over (offsetsOf (leaves depth (cellsFrom lengthy depth n (first .state)))) (now (offsets .entry)) ⌝ }
 {
+    fill_bytes(masks, 0, depth * n, 0);
     let mut g = first;
     let mut at: usize = 0;
     let mut to: usize = 0;

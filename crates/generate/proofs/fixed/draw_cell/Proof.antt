@@ -6,31 +6,28 @@ use Rattle.array.specs.Cells.{Value}
 use Rattle.array.specs.Buffers.{overAt}
 use Rattle.load.specs.Load.{drawValue, drawCell}
 use Rattle.generate.specs.Generator.{drewLevels}
-use Rattle.generate.specs.Cells.{sized, marks, column}
+use Rattle.generate.specs.Cells.{sized, ones, column}
 use Rattle.generate.proofs.Drawing.{Drawn, cell-of}
 use Rattle.generate.proofs.fixed.draw_cell.Statement.{statement}
 use Rattle.generate.proofs.fixed.draw_cell.Tie as tie
 
 -- ---- places
 
-abbrev levels : tie.After-put-marks → tie.After-draw-levels
-levels c = c .before .before .before
+abbrev start : tie.After-mark-levels → tie.Start
+start c = c .before .before .before .before
 
-abbrev start : tie.After-put-marks → tie.Start
-start c = levels c .before .before .before
-
-abbrev marked : tie.After-slice-known3 → tie.After-put-marks
-marked c = c .before .before
+abbrev marked : tie.After-next → tie.After-mark-levels
+marked c = c .before .before .before
 
 -- ---- the cell
 
-cell : (c : tie.After-put-marks) → let a = start c .args in
-    Drawn (sized (a .size)) (a .depth) (drawCell (sized (a .size)) (a .depth) (a .first .state)) (drewLevels (levels c .draw-levels .result))
-cell c = let a = start c .args in cell-of (sized (a .size)) (a .depth) (a .first .state) (levels c .draw-levels .ensures)
+cell : (c : tie.After-mark-levels) → let a = start c .args in
+    Drawn (sized (a .size)) (a .depth) (drawCell (sized (a .size)) (a .depth) (a .first .state)) (drewLevels (c .mark-levels .result))
+cell c = let a = start c .args in cell-of (sized (a .size)) (a .depth) (a .first .state) (c .mark-levels .ensures .0)
 
-planes : (c : tie.After-put-marks) → let a = start c .args in
-    c .put-marks .last .0 ≡ column (a .n) (a .at) (marks (a .depth) (drawCell (sized (a .size)) (a .depth) (a .first .state) .made)) (a .masks .now)
-planes c = rw (cell c .marked) (c .put-marks .ensures)
+planes : (c : tie.After-mark-levels) → let a = start c .args in
+    c .mark-levels .last .1 .1 .1 .1 .0 ≡ column (a .n) (a .at) (ones (a .depth) (drawCell (sized (a .size)) (a .depth) (a .first .state) .made)) (a .masks .now)
+planes c = rw (cell c .marked) (c .mark-levels .ensures .1)
 
 -- ---- answers
 
@@ -57,7 +54,6 @@ pub draw-cell-spec : {M : Type 1} → statement M
 draw-cell-spec =
     tie.close
     (tie.spec
-    (λ c κs. search needs)
     (λ c κs. search needs)
     (λ c κs. search needs)
     (λ c. search needs)

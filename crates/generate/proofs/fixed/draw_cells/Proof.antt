@@ -1,14 +1,14 @@
 -- `fixed::draw_cells` meets its contract, by the laws of Making.
 -- Assumes nothing.
-use mathlib.Core.Path.{_≡_, sym}
-use Prim.Native.Nat.{_-_, _+_, _≤_}
+use mathlib.Core.Path.{_≡_, sym, _∙_}
+use Prim.Native.Nat.{_-_, _+_, _*_, _≤_}
 use native.Mathlib.Omega.{arith}
 use lib.ListN.{length}
 use Rattle.array.specs.Cells.{leaf}
 use Rattle.load.specs.Load.{drawCell}
 use Rattle.load.proofs.Drawn.{drawn-cell, drawn-total}
 use Rattle.generate.specs.Cells.{sized}
-use Rattle.generate.proofs.Making.{Making, make-begins, make-column, make-same, make-room, make-more, make-masks, make-values}
+use Rattle.generate.proofs.Making.{Making, make-begins, make-column, make-same, make-room, make-more, make-masks, make-values, planes-small, zeros-length}
 use Rattle.generate.proofs.fixed.draw_cells.Statement.{statement}
 use Rattle.generate.proofs.fixed.draw_cells.Tie as tie
 
@@ -20,13 +20,19 @@ abbrev μ-loop : tie.MeasureT-loop
 
 -- ---- places
 
+abbrev entry : tie.After-fill-bytes Inv-loop μ-loop → tie.Start Inv-loop μ-loop
+entry c = c .before .before .before .before
+
+abbrev filled : tie.At-loop Inv-loop μ-loop → tie.After-fill-bytes Inv-loop μ-loop
+filled c = c .before .before .before
+
 abbrev start : tie.At-loop Inv-loop μ-loop → tie.Start Inv-loop μ-loop
-start c = c .before .before .before
+start c = entry (filled c)
 
 abbrev turn : tie.After-draw-cell Inv-loop μ-loop → tie.In-loop Inv-loop μ-loop
 turn c = c .before .before .before
 
-abbrev drew : tie.After-slice-known4 Inv-loop μ-loop → tie.After-draw-cell Inv-loop μ-loop
+abbrev drew : tie.After-slice-known5 Inv-loop μ-loop → tie.After-draw-cell Inv-loop μ-loop
 drew c = c .before .before .before .before
 
 -- every value has the size
@@ -40,11 +46,22 @@ room c = omega (arith, make-room (c .before .loop .inv) (c .loop-test .taken), s
 
 -- ---- answers
 
+mul-fill-bytes : tie.Need-mul-fill-bytes Inv-loop μ-loop
+mul-fill-bytes c = omega (arith, planes-small (c .before .before .before .pre .0))
+
+fill-bytes-requires : tie.Need-fill-bytes-requires Inv-loop μ-loop
+fill-bytes-requires c κs = omega (arith, c .before .before .before .pre .1 .for-masks)
+
+-- the masks are as long as before
+zeros-same : (c : tie.After-fill-bytes Inv-loop μ-loop) → length (c .fill-bytes .last .0) ≡ length (entry c .args .masks .now)
+zeros-same c = let a = entry c .args in zeros-length (a .depth * a .n) (a .masks .now) (entry c .pre .1 .for-masks) (c .fill-bytes .ensures)
+
 loop-holds : tie.Need-loop-holds Inv-loop μ-loop
 loop-holds c =
-    let start = c .before .before in
+    let filled = c .before .before in
+    let start = entry filled in
     let a = start .args in
-    make-begins (sized (a .size)) (a .depth) (a .n) (a .first .state) (a .masks .now) (a .values .now) (start .pre .1 .for-masks)
+    make-begins (sized (a .size)) (a .depth) (a .n) (a .first .state) (filled .fill-bytes .last .0) (a .values .now) (omega (arith, start .pre .1 .for-masks, zeros-same filled))
     (omega (arith, drawn-total (sized (a .size)) (a .depth) (a .n) (a .first .state), start .pre .1 .for-values))
 
 draw-cell-requires : tie.Need-draw-cell-requires Inv-loop μ-loop
@@ -61,13 +78,17 @@ loop-again c =
     make-more (turn (drew c) .before .loop .inv) (turn (drew c) .loop-test .taken) (drawn .1 .0) (drawn .1 .1) (sym (size-of (turn (drew c)))) (drawn .0)
 
 same-length : tie.Need-same-length Inv-loop μ-loop
-same-length c = c .before .loop .inv .same
+same-length c = c .before .loop .inv .same ∙ zeros-same (filled (c .before))
 
 same-length-2 : tie.Need-same-length-2 Inv-loop μ-loop
 same-length-2 c = make-same (c .before .loop .inv)
 
 returns : tie.Need-returns Inv-loop μ-loop
-returns c = (make-masks (c .before .loop .inv) (c .loop-test .left), make-values (c .before .loop .inv) (c .loop-test .left))
+returns c =
+    let inv = c .before .loop .inv in
+    let end = c .loop-test .left in
+    let start = start (c .before) in
+    (make-masks inv end (start .args .masks .now) (filled (c .before) .fill-bytes .ensures) (start .pre .1 .for-masks), make-values inv end)
 
 pub draw-cells-spec : {M : Type 1} → statement M
 draw-cells-spec =
@@ -75,6 +96,8 @@ draw-cells-spec =
     (tie.spec
     Inv-loop
     μ-loop
+    mul-fill-bytes
+    fill-bytes-requires
     loop-holds
     draw-cell-requires
     (λ c. omega arith)

@@ -8,25 +8,22 @@ use Rattle.array.specs.Cells.{Value}
 use Rattle.array.specs.Buffers.{overAt}
 use Rattle.array.proofs.Laying.{laying-begins, laying-ends}
 use Rattle.load.specs.Load.{drawCell}
-use Rattle.generate.specs.Cells.{lengthy, marks, column}
+use Rattle.generate.specs.Cells.{lengthy, ones, column}
 use Rattle.generate.proofs.Drawing.{cell-of, set-leaf, set-length, set-counted, null-leaf, null-counted}
 use Rattle.generate.proofs.ragged.draw_cell.Statement.{statement}
 use Rattle.generate.proofs.ragged.draw_cell.Tie as tie
 
 -- ---- places
 
-abbrev levels : tie.After-put-marks → tie.After-draw-levels
-levels c = c .before .before .before
+abbrev start : tie.After-mark-levels → tie.Start
+start c = c .before .before .before .before
 
-abbrev start : tie.After-put-marks → tie.Start
-start c = levels c .before .before .before
+abbrev marked : tie.After-next → tie.After-mark-levels
+marked c = c .before .before .before
 
-abbrev marked : tie.After-slice-known3 → tie.After-put-marks
-marked c = c .before .before
-
-planes : (c : tie.After-put-marks) → let a = start c .args in
-    c .put-marks .last .0 ≡ column (a .n) (a .at) (marks (a .depth) (drawCell lengthy (a .depth) (a .first .state) .made)) (a .masks .now)
-planes c = let a = start c .args in rw (cell-of lengthy (a .depth) (a .first .state) (levels c .draw-levels .ensures) .marked) (c .put-marks .ensures)
+planes : (c : tie.After-mark-levels) → let a = start c .args in
+    c .mark-levels .last .1 .1 .1 .1 .0 ≡ column (a .n) (a .at) (ones (a .depth) (drawCell lengthy (a .depth) (a .first .state) .made)) (a .masks .now)
+planes c = let a = start c .args in rw (cell-of lengthy (a .depth) (a .first .state) (c .mark-levels .ensures .0) .marked) (c .mark-levels .ensures .1)
 
 -- ---- answers
 
@@ -35,7 +32,7 @@ draw-few-requires c κs =
     let drew = c .before .before in
     let put = marked (drew .before .before) in
     let a = start put .args in
-    omega (arith, set-length (a .depth) (a .first .state) (levels put .draw-levels .ensures) (drew .before .if1 .taken) (drew .draw .ensures), start put .pre .1)
+    omega (arith, set-length (a .depth) (a .first .state) (put .mark-levels .ensures .0) (drew .before .if1 .taken) (drew .draw .ensures), start put .pre .1)
 
 returns : tie.Need-returns
 returns c =
@@ -44,8 +41,8 @@ returns c =
     let all = drew .before .if1 .taken in
     let put = marked (drew .before .before) in
     let a = start put .args in
-    let value = set-leaf (a .depth) (a .first .state) (levels put .draw-levels .ensures) all (drew .draw .ensures) in (
-      set-counted (a .depth) (a .first .state) (levels put .draw-levels .ensures) all (drew .draw .ensures) (bytes .draw-few .ensures .0),
+    let value = set-leaf (a .depth) (a .first .state) (put .mark-levels .ensures .0) all (drew .draw .ensures) in (
+      set-counted (a .depth) (a .first .state) (put .mark-levels .ensures .0) all (drew .draw .ensures) (bytes .draw-few .ensures .0),
       (planes put, bytes .draw-few .ensures .1 ∙ sym (ap (λ (v : Value). overAt (a .to) v (a .values .now)) value)),
     )
 
@@ -53,10 +50,10 @@ returns-2 : tie.Need-returns-2
 returns-2 c =
     let put = marked (c .before) in
     let a = start put .args in
-    let value = null-leaf (a .depth) (a .first .state) (levels put .draw-levels .ensures) (c .if1 .left) in
+    let value = null-leaf (a .depth) (a .first .state) (put .mark-levels .ensures .0) (c .if1 .left) in
     let nothing : a .values .now ≡ overAt (a .to) [] (a .values .now) =
     laying-ends [] (a .values .now) (a .to) (a .values .now) 0 (laying-begins [] (a .values .now) (a .to) (omega (arith, start put .pre .1))) in (
-      null-counted (a .depth) (a .first .state) (levels put .draw-levels .ensures) (c .if1 .left),
+      null-counted (a .depth) (a .first .state) (put .mark-levels .ensures .0) (c .if1 .left),
       (planes put, nothing ∙ sym (ap (λ (v : Value). overAt (a .to) v (a .values .now)) value)),
     )
 
@@ -64,7 +61,6 @@ pub draw-cell-spec : {M : Type 1} → statement M
 draw-cell-spec =
     tie.close
     (tie.spec
-    (λ c κs. search needs)
     (λ c κs. search needs)
     (λ c κs. search needs)
     (λ c. search needs)

@@ -1,13 +1,13 @@
 -- `ragged::draw_cells` meets its contract, by the laws of Making.
 -- Assumes nothing.
-use mathlib.Core.Path.{ap, _∙_}
-use Prim.Native.Nat.{ℕ, _-_}
+use mathlib.Core.Path.{_≡_, ap, _∙_}
+use Prim.Native.Nat.{ℕ, _-_, _*_}
 use native.Mathlib.Omega.{arith}
-use lib.ListN.{length-set}
+use lib.ListN.{length, length-set}
 use Rattle.load.specs.Generator.{Drew}
 use Rattle.generate.specs.Cells.{lengthy}
 use Rattle.generate.proofs.Making.{Making, make-begins, make-column, make-same, make-room, make-more, make-masks, make-values}
-use Rattle.generate.proofs.Making.{count-fits, count-ends, ragged-small, Placing, place-begins, place-same, place-room, place-more, place-ends}
+use Rattle.generate.proofs.Making.{count-fits, count-ends, ragged-small, planes-small, zeros-length, Placing, place-begins, place-same, place-room, place-more, place-ends}
 use Rattle.generate.proofs.ragged.draw_cells.Statement.{statement}
 use Rattle.generate.proofs.ragged.draw_cells.Tie as tie
 
@@ -20,8 +20,14 @@ abbrev μ-loop : tie.MeasureT-loop
 
 -- ---- places
 
+abbrev entry : tie.After-fill-bytes Inv-loop μ-loop → tie.Start Inv-loop μ-loop
+entry c = let lent = c .before .before in lent .before .before .before
+
+abbrev filled : tie.At-loop Inv-loop μ-loop → tie.After-fill-bytes Inv-loop μ-loop
+filled c = c .before .before .before
+
 abbrev start : tie.At-loop Inv-loop μ-loop → tie.Start Inv-loop μ-loop
-start c = c .before .before .before .before
+start c = entry (filled c)
 
 abbrev turn : tie.After-draw-cell Inv-loop μ-loop → tie.In-loop Inv-loop μ-loop
 turn c = c .before .before .before
@@ -31,12 +37,23 @@ drew c = let read = c .before .before in read .before .before .before .before
 
 -- ---- answers
 
+mul-fill-bytes : tie.Need-mul-fill-bytes Inv-loop μ-loop
+mul-fill-bytes c = omega (arith, planes-small (c .before .before .before .before .pre .0))
+
+fill-bytes-requires : tie.Need-fill-bytes-requires Inv-loop μ-loop
+fill-bytes-requires c κs = omega (arith, c .before .before .before .before .pre .1 .for-masks)
+
+-- the masks are as long as before
+zeros-same : (c : tie.After-fill-bytes Inv-loop μ-loop) → length (c .fill-bytes .last .0) ≡ length (entry c .args .masks .now)
+zeros-same c = let a = entry c .args in zeros-length (a .depth * a .n) (a .masks .now) (entry c .pre .1 .for-masks) (c .fill-bytes .ensures)
+
 loop-holds : tie.Need-loop-holds Inv-loop μ-loop
 loop-holds c =
-    let start = c .before .before .before in
+    let filled = c .before .before in
+    let start = entry filled in
     let a = start .args in
     let room = start .pre .1 in (
-      make-begins lengthy (a .depth) (a .n) (a .first .state) (a .masks .now) (a .values .now) (room .for-masks) (room .for-values),
+      make-begins lengthy (a .depth) (a .n) (a .first .state) (filled .fill-bytes .last .0) (a .values .now) (omega (arith, room .for-masks, zeros-same filled)) (room .for-values),
       place-begins lengthy (a .depth) (a .n) (a .first .state) (a .offsets .now) (room .for-offsets),
     )
 
@@ -76,7 +93,7 @@ slice-write-offsets-2 : tie.Need-slice-write-offsets-2 Inv-loop μ-loop
 slice-write-offsets-2 c = place-room (c .before .loop .inv .1)
 
 same-length : tie.Need-same-length Inv-loop μ-loop
-same-length c = c .before .loop .inv .0 .same
+same-length c = c .before .loop .inv .0 .same ∙ zeros-same (filled (c .before))
 
 same-length-2 : tie.Need-same-length-2 Inv-loop μ-loop
 same-length-2 c = make-same (c .before .loop .inv .0)
@@ -88,7 +105,9 @@ returns : tie.Need-returns Inv-loop μ-loop
 returns c =
     let inv = c .before .loop .inv in
     let end = c .loop-test .left in
-    (count-ends (inv .0 .counted) end, (make-masks (inv .0) end, (make-values (inv .0) end, place-ends (inv .1) end)))
+    let start = start (c .before) in
+    let masks = make-masks (inv .0) end (start .args .masks .now) (filled (c .before) .fill-bytes .ensures) (start .pre .1 .for-masks) in
+    (count-ends (inv .0 .counted) end, (masks, (make-values (inv .0) end, place-ends (inv .1) end)))
 
 pub draw-cells-spec : {M : Type 1} → statement M
 draw-cells-spec =
@@ -96,6 +115,8 @@ draw-cells-spec =
     (tie.spec
     Inv-loop
     μ-loop
+    mul-fill-bytes
+    fill-bytes-requires
     loop-holds
     mul-offsets
     slice-write-offsets
