@@ -70,7 +70,7 @@ pub strict-mask : {A : Type 0} (P : A → Type 0) (cs : List (ℕ × A)) → All
 strict-mask P [] p = tt
 strict-mask P (c ∷ cs) p = (p .0 .0, strict-mask P cs (p .1))
 
-strict-masks : (d : ℕ) (cs : List (Cell d)) → All (StrictCell d) cs → All Strict (masksOf d cs)
+pub strict-masks : (d : ℕ) (cs : List (Cell d)) → All (StrictCell d) cs → All Strict (masksOf d cs)
 strict-masks zero cs p = tt
 strict-masks (suc d) cs p =
     All-append Strict (maskOf cs) (masksOf d (inners cs)) (strict-mask (StrictCell d) cs p)

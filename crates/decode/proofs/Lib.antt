@@ -4,3 +4,4 @@ pub mod RaggedLaws
 pub mod RaggedWritten
 pub mod Small
 pub mod Stages
+pub mod Strict

@@ -1,2 +1,3 @@
 pub mod Outcomes
 pub mod Reads
+pub mod Strict
