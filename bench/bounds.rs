@@ -109,11 +109,11 @@ pub struct Load {
     pub values: Vec<u8>,
     pub offsets: Vec<u64>,
 }
+
 /// A load made by the plain loop that one would write for it, in one run: the buffers are used again and have their room already.
 #[inline(never)]
 pub fn make_load(kind: &[u64; 5], shape: &[u64], start: u32, out: &mut Load) -> Result<(), &'static str> {
-    let cells = shape.iter().try_fold(1, |cells: u64, side| cells.checked_mul(*side)).filter(|cells| *cells <= 65_536);
-    let (cells, depth, size) = (cells.ok_or("too many cells")? as usize, kind[0] as usize, kind[2] as usize);
+    let (cells, depth, size) = (cells_of(shape)? as usize, kind[0] as usize, kind[2] as usize);
     let ragged = kind[1] == 1;
     let mut state = start;
     let mut draw = || {

@@ -265,16 +265,32 @@ static inline size_t dpx_interleaved_room(uint64_t cells, size_t values_len)
  * CELLS
  */
 
+/* What a mask byte says of its cell. Everything in this header that reads a mask byte asks dpx_mark_of. */
+enum dpx_mark {
+    DPX_MARK_NULL, /* 00 */
+    DPX_MARK_SET,  /* 01 */
+    DPX_MARK_OTHER /* any other byte, which no mask has: handed over it is refused with 4, stored with 14 */
+};
+
+static inline enum dpx_mark dpx_mark_of(uint8_t byte)
+{
+    return byte == 0 ? DPX_MARK_NULL : byte == 1 ? DPX_MARK_SET : DPX_MARK_OTHER;
+}
+
+/* In place of a null level: there is no such cell, as a mask byte of it, up to the first 00, is over 01. */
+#define DPX_NO_CELL UINT64_MAX
+
 /* What a cell is: null at a level, or a value, which may be empty. */
 typedef struct dpx_cell {
-    uint64_t null_level;  /* 0: it has a value. Else the outermost level whose mask byte is 00, counted from 1 */
-    const uint8_t *value; /* its first byte; of no use where the cell is null or empty */
-    uint64_t length;      /* its bytes; 0 where the cell is null */
+    uint64_t null_level;  /* 0: it has a value. Else the outermost level whose mask byte is 00, from 1; or DPX_NO_CELL */
+    const uint8_t *value; /* its first byte; of no use where the cell is null, empty or none */
+    uint64_t length;      /* its bytes; 0 where the cell is null or none */
 } dpx_cell;
 
 /*
  * Cell `number` of an array of `cells` cells, counted row by row from 0. The array is one that a call gave or accepted,
- * and `number` is below `cells`: nothing is tested here. `value` points into `values`.
+ * and `number` is below `cells`: lengths and offsets are not tested here. `value` points into `values`. Such an array has
+ * no mask byte over 01; in another one a cell with such a byte has neither a value nor a null level: DPX_NO_CELL.
  */
 static inline dpx_cell dpx_get_cell(dpx_kind kind, uint64_t cells,
                                     const uint8_t *masks, const uint8_t *values, const uint64_t *offsets,
@@ -283,8 +299,9 @@ static inline dpx_cell dpx_get_cell(dpx_kind kind, uint64_t cells,
     dpx_cell cell = {0, values, 0};
     uint64_t level, start;
     for (level = 0; level < kind.depth; level++) {
-        if (masks[level * cells + number] == 0) {
-            cell.null_level = level + 1;
+        const enum dpx_mark mark = dpx_mark_of(masks[level * cells + number]);
+        if (mark != DPX_MARK_SET) {
+            cell.null_level = mark == DPX_MARK_NULL ? level + 1 : DPX_NO_CELL;
             return cell;
         }
     }

@@ -122,6 +122,25 @@ static void kind_of(dpx_kind kind)
     }
 }
 
+/* A mask byte says null, set, or neither; a byte that is neither makes no cell, and is not asked for below a null. */
+static void marks(void)
+{
+    const dpx_kind fixed = dpx_fixed(2, 1, DPX_LITTLE), ragged = dpx_ragged(2, 4, DPX_START);
+    const uint8_t masks[] = {1, 2, 1, 0, 1, 1, 255, 2}, values[] = {7, 8, 9, 10};
+    const uint64_t offsets[] = {0, 1, 2, 3, 4}, levels[] = {0, DPX_NO_CELL, DPX_NO_CELL, 1};
+    uint64_t number;
+    uint8_t byte;
+    CHECK(dpx_mark_of(0) == DPX_MARK_NULL && dpx_mark_of(1) == DPX_MARK_SET);
+    for (byte = 2; byte != 0; byte++)
+        CHECK(dpx_mark_of(byte) == DPX_MARK_OTHER);
+    for (number = 0; number < 4; number++) {
+        const dpx_cell one = dpx_get_cell(fixed, 4, masks, values, NULL, number);
+        const dpx_cell other = dpx_get_cell(ragged, 4, masks, values, offsets, number);
+        CHECK(one.null_level == levels[number] && one.length == (levels[number] == 0));
+        CHECK(other.null_level == levels[number] && other.length == (levels[number] == 0));
+    }
+}
+
 /* An extract, one of no cell, and a merge. */
 static void boxes(void)
 {
@@ -180,6 +199,7 @@ int main(void)
     texts();
     counts();
     mask_forms();
+    marks();
     for (depth = 0; depth <= DPX_MAX_DEPTH; depth++) {
         const dpx_kind kinds[] = {dpx_fixed(depth, 1, DPX_LITTLE), dpx_fixed(depth, DPX_MAX_SIZE, DPX_BIG), dpx_ragged(depth, 4, DPX_START),
                                   dpx_ragged(depth, 8, DPX_END)};

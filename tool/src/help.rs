@@ -198,7 +198,8 @@ durpaxeta explain --interleaved --shape SHAPE FILE
 
 Prints the stored bytes field by field: position, bytes, what they are. Masks come before values; each mask line names its
 cells, and of a packed mask the bit of each. Long parts are shortened with a count. Of a damaged file all is printed up to
-the field that is refused, then the refusal and whose it is; a mask byte that is neither 00 nor 01 is named so. The exit status is that of check. With --interleaved the file is read as the older, interleaved form.
+the field that is refused, then the refusal and whose it is; a mask byte that is neither 00 nor 01 is named so. The exit
+status is that of check. With --interleaved the file is read as the older, interleaved form.
 Kind and shape may be left out where FILE.dpx says them; a file that is not the one described is explained, too.
 
 Examples:

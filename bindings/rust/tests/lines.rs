@@ -244,7 +244,7 @@ fn packed_masks() {
     assert_eq!(decode(kind, &[9], &stored), Ok(table));
 }
 
-/// S12.5 to S12.8.
+/// S10.21, S10.22, S10.24, and S12.4.
 #[test]
 fn loads() {
     let load = |kind, cells, start| {
