@@ -118,7 +118,7 @@ module _ {n s₀ : ℕ} {d : List ℕ} {to : ℕ} {out : List ℕ} {s i : ℕ} (
   store-room h = omega (arith, store-fits)
 
 -- a part of k bytes is drawn in one go
-pub more-bytes : (a b s : ℕ) → drawBytes (a + b) s ≡ record { made = drawBytes a s .made ++ drawBytes b (drawBytes a s .state) .made; state = drawBytes b (drawBytes a s .state) .state }
+more-bytes : (a b s : ℕ) → drawBytes (a + b) s ≡ record { made = drawBytes a s .made ++ drawBytes b (drawBytes a s .state) .made; state = drawBytes b (drawBytes a s .state) .state }
 unfolding drawBytes
 more-bytes zero b s = ap (λ (j : ℕ). drawBytes j s) (zero-add b)
 more-bytes (suc a) b s =

@@ -2,7 +2,7 @@
 -- Assumes nothing.
 use mathlib.Core.Path.{_≡_, refl, sym, ap, ap₂, _∙_, subst}
 use Prim.Native.Nat.{ℕ, zero, suc, _+_, _-_, _*_, _≤_, _<_}
-use native.Mathlib.Nat.{zero-add, zero-mul, suc-mul, mul-le-mul}
+use native.Mathlib.Nat.{zero-add, mul-le-mul}
 use native.Mathlib.Numerals.{unary-clauses}
 use native.Mathlib.Omega.{arith}
 use mathlib.Core.List.{List, [], _∷_, _++_}
@@ -10,7 +10,7 @@ use lib.ListN.{length, set, replicate, length-replicate, length-map, length-appe
 use Rattle.array.specs.Kind.{Form}
 use Rattle.array.specs.Lists.{All, joined}
 use Rattle.array.specs.Offsets.{ends, offsetsOf}
-use Rattle.array.specs.Cells.{Value, Cell, leaf}
+use Rattle.array.specs.Cells.{Cell, leaf}
 use Rattle.array.specs.Content.{masksOf, leaves}
 use Rattle.array.specs.Buffers.{over, overAt}
 use Rattle.array.proofs.Lists.{All-map, All-image}
@@ -19,12 +19,12 @@ use Rattle.array.proofs.Sizes.{OfSize}
 use Rattle.array.proofs.LayoutLaws.{length-masksOf, layout-values-ok}
 use Rattle.array.proofs.Over.{over-length}
 use Rattle.array.proofs.Laying.{Laying, laying-begins, laying-is, laying-same, laying-part, laying-store, laying-room, laying-ends}
-use Rattle.load.specs.Generator.{Drew, drawBytes}
-use Rattle.load.specs.Load.{drawValue, drawCell, drawCells}
+use Rattle.load.specs.Generator.{Drew}
+use Rattle.load.specs.Load.{drawCell, drawCells}
 use Rattle.load.proofs.Drawn.{DrawnCell, drawn-cells, drawn-count, drawn-total}
 use Rattle.generate.specs.Cells.{ones, column, sized, lengthy, cellsFrom, bytesFrom}
 use Rattle.generate.specs.Room.{Column, Limited}
-use Rattle.generate.proofs.Drawing.{next-of, more-bytes, Falls, drawn}
+use Rattle.generate.proofs.Drawing.{next-of, Falls, drawn}
 use Rattle.generate.proofs.Columns.{column-length, columns, planes-laid}
 
 -- the value bytes of n cells
@@ -196,19 +196,3 @@ count-values size d n s =
 
 pub ragged-small : {d n : ℕ} → Limited d n → (s : ℕ) → bytesFrom lengthy d n s ≤ 524288
 ragged-small {d} {n} l s = omega (arith, drawn-total lengthy d n s, l .few)
-
--- with no level all cells are one run of bytes
-pub flat-bytes : (size n s : ℕ) → valuesFrom (sized size) 0 n s ≡ drawBytes (n * size) s .made
-unfolding drawBytes drawValue drawCell drawCells
-flat-bytes size zero s = ap (λ (j : ℕ). drawBytes j s .made) (sym (zero-mul size))
-flat-bytes size (suc n) s =
-    let more : size + n * size ≡ suc n * size = omega (arith, suc-mul n size) in
-    ap (λ (r : List ℕ). drawBytes size s .made ++ r) (flat-bytes size n (drawBytes size s .state))
-    ∙ sym (ap (λ (r : Drew Value). r .made) (more-bytes size (n * size) s)) ∙ ap (λ (j : ℕ). drawBytes j s .made) more
-
-pub flat-masks : {d : ℕ} → d ≡ 0 → (f : Form) (n s : ℕ) (m : List ℕ) → m ≡ over (masksOf d (cellsFrom f d n s)) m
-flat-masks e f n s m = sym (ap (λ (d : ℕ). over (masksOf d (cellsFrom f d n s)) m) e)
-
-pub flat-values : {d : ℕ} → d ≡ 0 → (size n s : ℕ) (v : List ℕ) → over (drawBytes (n * size) s .made) v ≡ over (valuesFrom (sized size) d n s) v
-flat-values e size n s v =
-    ap (λ (x : List ℕ). over x v) (sym (flat-bytes size n s)) ∙ sym (ap (λ (d : ℕ). over (valuesFrom (sized size) d n s) v) e)

@@ -90,11 +90,6 @@ pub fn make_fixed(
     if values.len() < bytes {
         return WrittenArray::Refused(refusal::OUTPUT);
     }
-    if depth == 0 {
-        // no level is drawn: all cells are one run of bytes
-        draw_bytes(first, values, 0, bytes);
-        return WrittenArray::Lengths(planes, bytes, 0);
-    }
     draw_cells(first, depth, n, size, masks, values);
     WrittenArray::Lengths(planes, bytes, 0)
 }

@@ -1,6 +1,6 @@
 -- `fixed::make_fixed` meets its contract: which output is too short, or that all was drawn.
 -- Assumes nothing.
-use mathlib.Core.Path.{refl, _∙_}
+use mathlib.Core.Path.{refl}
 use Prim.Native.Nat.{ℕ}
 use native.Mathlib.Omega.{arith}
 use borrow.Author.Needs.{needs}
@@ -9,7 +9,7 @@ use Rattle.array.specs.Content.{Content, layout}
 use Rattle.array.specs.Outcome.{contentArray}
 use Rattle.array.proofs.Putting.{no-masks, no-values, put}
 use Rattle.generate.specs.Cells.{sized, cellsFrom}
-use Rattle.generate.proofs.Making.{count-masks, count-values, planes-small, bytes-small, flat-masks, flat-values}
+use Rattle.generate.proofs.Making.{count-masks, count-values, planes-small, bytes-small}
 use Rattle.generate.proofs.fixed.make_fixed.Statement.{statement}
 use Rattle.generate.proofs.fixed.make_fixed.Tie as tie
 
@@ -44,23 +44,13 @@ returns-2 c offsets =
     let a = s .args in
     no-values (load s) (lent s offsets) _ (count-values (a .size) (a .depth) (a .n) (a .first .state)) (c .if2 .taken)
 
--- with no level
+draw-cells-requires : tie.Need-draw-cells-requires
+draw-cells-requires c κs = search needs
+
 returns-3 : tie.Need-returns-3
 returns-3 c offsets =
-    let drew = c .before .before in
-    let flat = drew .before .before in
-    let long = flat .before in
-    let s = start (long .before .before) in
-    let a = s .args in
-    let values = drew .draw-bytes .ensures .1 ∙ flat-values (flat .if3 .taken) (a .size) (a .n) (a .first .state) (a .values .now) in
-    put (load s) (lent s offsets) _ _ 0 (count-masks (sized (a .size)) (a .depth) (a .n) (a .first .state)) (count-values (a .size) (a .depth) (a .n) (a .first .state)) refl
-    (long .before .if1 .left) (long .if2 .left) (omega arith) _ _ offsets
-    (flat-masks (flat .if3 .taken) (sized (a .size)) (a .n) (a .first .state) (a .masks .now)) values refl
-
-returns-4 : tie.Need-returns-4
-returns-4 c offsets =
     let drew = c .before .before .before .before in
-    let long = drew .before .before .before .before in
+    let long = drew .before .before .before in
     let s = start (long .before .before) in
     let a = s .args in
     let drawn = drew .draw-cells .ensures in
@@ -75,10 +65,7 @@ make-fixed-spec =
     mul-bytes
     returns
     returns-2
-    (λ c κs. search needs)
-    (λ c. search needs)
-    returns-3
-    (λ c κs. search needs)
+    draw-cells-requires
     (λ c. search needs)
     (λ c. search needs)
-    returns-4)
+    returns-3)
