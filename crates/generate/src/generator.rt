@@ -15,7 +15,7 @@ pub struct Drawn {
 }
 
 impl Generator {
-    // The new state is below 2 to the 32 and its factor below 2 to the 21, so that no product wraps; the draw is its upper half.
+    // The state is below 2 to the 32 and its factor below 2 to the 21, so that no product wraps; the draw is the upper half of the new one.
     pub fn draw(self) -> Drawn
         ensures { λ r. ⌜ drew r ≡ draw (self .state) ⌝ }
     {
