@@ -19,7 +19,7 @@ ghost use Rattle.array.specs.Buffers.{over, overAt};
 ghost use Rattle.array.specs.Outcome.{contentArray, outcomeArray, putInto};
 ghost use Rattle.load.specs.Load.{drawCell};
 ghost use Rattle.generate.specs.Generator.{drewLength};
-ghost use Rattle.generate.specs.Cells.{lengthy, lengthDrawn, ones, column, cellsFrom, bytesFrom};
+ghost use Rattle.generate.specs.Cells.{lengthy, lengthDrawn, setMasks, column, cellsFrom, bytesFrom};
 ghost use Rattle.generate.specs.Room.{Column, Limited, RaggedRoom};
 
 // A ragged value of at most this many bytes: its length is a draw modulo 9.
@@ -43,7 +43,7 @@ fn draw_cell(
 ) -> Value
     requires { ⌜ Column n at depth (now masks) × (to + length (leaf depth (drawCell lengthy depth (first .state) .made)) ≤ length (now values)) ⌝ }
     ensures draws { λ r. ⌜ drewLength r ≡ lengthDrawn depth (drawCell lengthy depth (first .state)) ⌝ }
-    ensures marks { λ _. ⌜ now (masks .exit) ≡ column n at (ones depth (drawCell lengthy depth (first .state) .made)) (now (masks .entry)) ⌝ }
+    ensures marks { λ _. ⌜ now (masks .exit) ≡ column n at (setMasks depth (drawCell lengthy depth (first .state) .made)) (now (masks .entry)) ⌝ }
     ensures stores { λ _. ⌜ now (values .exit) ≡ overAt to (leaf depth (drawCell lengthy depth (first .state) .made)) (now (values .entry)) ⌝ }
 {
     let levels = mark_levels(first, depth, n, at, masks);

@@ -8,7 +8,7 @@ use Rattle.array.specs.Cells.{Value}
 use Rattle.array.specs.Buffers.{overAt}
 use Rattle.array.proofs.Laying.{laying-begins, laying-ends}
 use Rattle.load.specs.Load.{drawCell}
-use Rattle.generate.specs.Cells.{lengthy, ones, column}
+use Rattle.generate.specs.Cells.{lengthy, setMasks, column}
 use Rattle.generate.proofs.Drawing.{cell-of, set-leaf, set-length, set-counted, null-leaf, null-counted}
 use Rattle.generate.proofs.ragged.draw_cell.Statement.{statement}
 use Rattle.generate.proofs.ragged.draw_cell.Tie as tie
@@ -22,7 +22,7 @@ abbrev marked : tie.After-next → tie.After-mark-levels
 marked c = c .before .before .before
 
 planes : (c : tie.After-mark-levels) → let a = start c .args in
-    c .mark-levels .last .1 .1 .1 .1 .0 ≡ column (a .n) (a .at) (ones (a .depth) (drawCell lengthy (a .depth) (a .first .state) .made)) (a .masks .now)
+    c .mark-levels .last .1 .1 .1 .1 .0 ≡ column (a .n) (a .at) (setMasks (a .depth) (drawCell lengthy (a .depth) (a .first .state) .made)) (a .masks .now)
 planes c = let a = start c .args in rw (cell-of lengthy (a .depth) (a .first .state) (c .mark-levels .ensures .0) .marked) (c .mark-levels .ensures .1)
 
 -- ---- answers
