@@ -12,7 +12,7 @@ use Rattle.array.specs.Cells.{Value, Cell, Mark, isNull, isSet, isOther, markOf
 use Rattle.array.proofs.Laying.{Laying, laying-begins, laying-is, laying-same, laying-ends, laying-store, laying-part}
 use Rattle.array.specs.Buffers.{overAt}
 use Rattle.load.specs.Generator.{Drew, draw, drawBytes}
-use Rattle.load.specs.Load.{levelBy, drawValue, drawCell}
+use Rattle.load.specs.Load.{lengthBy, levelBy, drawValue, drawCell}
 use Rattle.load.proofs.Drawn.{drawn-length}
 use Rattle.generate.specs.Cells.{levelsBy, setLevels, setMasks, lengthy, lengthDrawn}
 
@@ -215,18 +215,22 @@ abbrev raggedCell : (d s : ℕ) → Drew (Cell d)
 raggedCell d s = drawCell lengthy d s
 
 module _ (d s : ℕ) {l : Drew ℕ} (e : l ≡ setLevels d s) where
-  module _ (all : l .made ≡ d) {x : Drew ℕ} (g : x ≡ draw (l .state)) where
-    pub set-leaf : leaf d (raggedCell d s .made) ≡ drawBytes (x .made % 9) (x .state) .made
+  module _ (all : l .made ≡ d) {x : Drew ℕ} (g : x ≡ draw (l .state)) {b : ℕ} (eb : b ≡ lengthBy (x .made)) where
+    -- b bytes of the draws behind x are the value's
+    same-bytes : drawBytes b (x .state) ≡ drawBytes (lengthBy (draw (l .state) .made)) (draw (l .state) .state)
+    same-bytes = ap (λ (j : ℕ). drawBytes j (x .state)) eb ∙ ap (λ (y : Drew ℕ). drawBytes (lengthBy (y .made)) (y .state)) g
+
+    pub set-leaf : leaf d (raggedCell d s .made) ≡ drawBytes b (x .state) .made
     unfolding drawValue
-    set-leaf = cell-of lengthy d s e .if-set all .0 ∙ ap (λ (y : Drew ℕ). drawBytes (y .made % 9) (y .state) .made) (sym g)
+    set-leaf = cell-of lengthy d s e .if-set all .0 ∙ ap (λ (r : Drew Value). r .made) (sym same-bytes)
 
-    pub set-length : length (leaf d (raggedCell d s .made)) ≡ x .made % 9
-    set-length = ap length set-leaf ∙ drawn-length (x .made % 9) (x .state)
+    pub set-length : length (leaf d (raggedCell d s .made)) ≡ b
+    set-length = ap length set-leaf ∙ drawn-length b (x .state)
 
-    pub set-counted : {t : ℕ} → t ≡ drawBytes (x .made % 9) (x .state) .state → record { made = x .made % 9; state = t } ≡ lengthDrawn d (raggedCell d s)
+    pub set-counted : {t : ℕ} → t ≡ drawBytes b (x .state) .state → record { made = b; state = t } ≡ lengthDrawn d (raggedCell d s)
     unfolding drawValue
     set-counted {t} h =
-        let after : t ≡ raggedCell d s .state = h ∙ ap (λ (y : Drew ℕ). drawBytes (y .made % 9) (y .state) .state) g ∙ sym (cell-of lengthy d s e .if-set all .1) in
+        let after : t ≡ raggedCell d s .state = h ∙ ap (λ (r : Drew Value). r .state) same-bytes ∙ sym (cell-of lengthy d s e .if-set all .1) in
         ap₂ (λ (a b : ℕ). record { made = a; state = b }) (sym set-length) after
 
   module _ (some : l .made ≡ d → ⊥) where
