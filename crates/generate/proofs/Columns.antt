@@ -9,14 +9,14 @@ use mathlib.Core.List.{List, [], _∷_, _++_, append-assoc, append-nil}
 use lib.ListN.{length, drop, set, getD, replicate, length-set, length-append, length-drop, length-map, length-replicate, replicate-append-replicate, drop-of-length-le}
 use lib.Seq.{set-append-left, set-getD, getD-set-other, sets, sets-eq, drop-drop}
 use Rattle.array.specs.Lists.{All}
-use Rattle.array.specs.Cells.{Cell, maskOf, inners}
+use Rattle.array.specs.Cells.{Cell, markOf, maskOf, inners}
 use Rattle.array.specs.Content.{masksOf}
 use Rattle.array.specs.Buffers.{over}
 use Rattle.array.proofs.Lists.{All-map, All-image}
 use Rattle.array.proofs.LayoutLaws.{length-maskOf}
-use Rattle.generate.specs.Cells.{ones, onesBy, column}
+use Rattle.generate.specs.Cells.{setMasks, setMasksBy, column}
 use Rattle.generate.specs.Room.{Column}
-use Rattle.generate.proofs.Drawing.{Falls}
+use Rattle.generate.proofs.Drawing.{FallsBy, Falls}
 
 pub column-length : (n at : ℕ) (ms out : List ℕ) → length (column n at ms out) ≡ length out
 column-length n at [] out = refl
@@ -64,7 +64,7 @@ module _ {d : List ℕ} {n at : ℕ} {out : List ℕ} {k place : ℕ} (c : Marki
 -- those of cs, the first of them cell `at` of n
 abbrev pub columns : (d n at : ℕ) → List (Cell d) → List ℕ → List ℕ
 columns d n at [] out = out
-columns d n at (c ∷ cs) out = columns d n (at + 1) cs (column n at (ones d c) out)
+columns d n at (c ∷ cs) out = columns d n (at + 1) cs (column n at (setMasks d c) out)
 
 set-right : (p q : List ℕ) (i a : ℕ) → set (p ++ q) (length p + i) a ≡ p ++ set q i a
 set-right [] q i a = ap (λ (j : ℕ). set q j a) (zero-add i)
@@ -89,11 +89,13 @@ module _ (n : ℕ) where
       ∙ behind p (set q at m) ms (at + n) e
 
   -- one cell: its byte in the outermost plane, and those behind it
-  one : (m at : ℕ) (r p q : List ℕ) → length p ≡ n → at < n → Zeros p at → (m ≡ 0 → r ≡ []) → column n at (onesBy m r) (p ++ q) ≡ set p at m ++ column n at r q
+  one : (m at : ℕ) (r p q : List ℕ) → length p ≡ n → at < n → Zeros p at → FallsBy (markOf m) r
+      → column n at (setMasksBy (markOf m) r) (p ++ q) ≡ set p at m ++ column n at r q
   one zero at r p q e h z f =
-      ap₂ (λ (x y : List ℕ). x ++ y) (sym (ap (set p at) (sym (z at (omega arith))) ∙ set-getD p at 0)) (sym (ap (λ (ms : List ℕ). column n at ms q) (f refl)))
-  one (suc m) at r p q e h z f =
-      ap (column n (at + n) r) (set-append-left p q at (suc m) (omega arith)) ∙ behind (set p at (suc m)) q r at (length-set p at (suc m) ∙ e)
+      ap₂ (λ (x y : List ℕ). x ++ y) (sym (ap (set p at) (sym (z at (omega arith))) ∙ set-getD p at 0)) (sym (ap (λ (ms : List ℕ). column n at ms q) f))
+  one (suc zero) at r p q e h z f =
+      ap (column n (at + n) r) (set-append-left p q at 1 (omega arith)) ∙ behind (set p at 1) q r at (length-set p at 1 ∙ e)
+  one (suc (suc m)) at r p q e h z f = absurd f
 
   -- the outermost plane, and those behind it
   outermost : (d : ℕ) (cs : List (Cell (suc d))) (at : ℕ) (p q : List ℕ) → length p ≡ n → at + length cs ≤ n → Zeros p at → All (Falls (suc d)) cs
@@ -101,9 +103,9 @@ module _ (n : ℕ) where
   outermost d [] at p q e h z f = refl
   outermost d (c ∷ cs) at p q e h z f =
       let p′ : List ℕ = set p at (c .0) in
-      let q′ : List ℕ = column n at (ones d (c .1)) q in
+      let q′ : List ℕ = column n at (setMasks d (c .1)) q in
       let later : Zeros p′ (at + 1) = λ j i. getD-set-other p at j (c .0) 0 (λ same. omega arith) ∙ z j (omega arith) in
-      ap (columns (suc d) n (at + 1) cs) (one (c .0) at (ones d (c .1)) p q e (omega arith) z (f .0 .0))
+      ap (columns (suc d) n (at + 1) cs) (one (c .0) at (setMasks d (c .1)) p q e (omega arith) z (f .0 .0))
       ∙ outermost d cs (at + 1) p′ q′ (length-set p at (c .0) ∙ e) (omega arith) later (f .1)
       ∙ ap (λ (j : ℕ). sets p′ j (maskOf cs) ++ columns d n (at + 1) (inners cs) q′) (add-one at)
 

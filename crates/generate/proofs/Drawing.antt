@@ -8,13 +8,13 @@ use native.Mathlib.Omega.{arith}
 use mathlib.Core.List.{List, [], _∷_, _++_}
 use lib.ListN.{length, set, replicate}
 use Rattle.array.specs.Kind.{Form, nullOf}
-use Rattle.array.specs.Cells.{Value, Cell, blank, leaf}
+use Rattle.array.specs.Cells.{Value, Cell, Mark, isNull, isSet, isOther, markOf, blank, leaf}
 use Rattle.array.proofs.Laying.{Laying, laying-begins, laying-is, laying-same, laying-ends, laying-store, laying-part}
 use Rattle.array.specs.Buffers.{overAt}
 use Rattle.load.specs.Generator.{Drew, draw, drawBytes}
-use Rattle.load.specs.Load.{levelBy, drawValue, drawCell}
+use Rattle.load.specs.Load.{lengthBy, levelBy, drawValue, drawCell}
 use Rattle.load.proofs.Drawn.{drawn-length}
-use Rattle.generate.specs.Cells.{levelsBy, setLevels, ones, lengthy, lengthDrawn}
+use Rattle.generate.specs.Cells.{levelsBy, setLevels, setMasks, lengthy, lengthDrawn}
 
 -- one more of n
 pub next-of : {n i : ℕ} → i < n → n - i ≡ suc (n - (i + 1))
@@ -156,19 +156,24 @@ module _ {n s₀ : ℕ} {d : List ℕ} {to : ℕ} {out : List ℕ} {i : ℕ} (c 
 
 -- ---- a cell
 
--- below a null nothing is set
+-- below a null nothing is set, and every mask byte is 00 or 01
+abbrev pub FallsBy : Mark → List ℕ → Type 0
+FallsBy isNull r = r ≡ []
+FallsBy isSet r = Unit {0}
+FallsBy isOther r = ⊥
+
 abbrev pub Falls : (d : ℕ) → Cell d → Type 0
 Falls zero c = Unit {0}
-Falls (suc d) c = (c .0 ≡ 0 → ones d (c .1) ≡ []) × Falls d (c .1)
+Falls (suc d) c = FallsBy (markOf (c .0)) (setMasks d (c .1)) × Falls d (c .1)
 
 module _ (f : Form) where
-  blank-ones : (d : ℕ) → ones d (blank (nullOf f) d) ≡ []
-  blank-ones zero = refl
-  blank-ones (suc d) = refl
+  blank-masks : (d : ℕ) → setMasks d (blank (nullOf f) d) ≡ []
+  blank-masks zero = refl
+  blank-masks (suc d) = refl
 
   blank-falls : (d : ℕ) → Falls d (blank (nullOf f) d)
   blank-falls zero = tt
-  blank-falls (suc d) = (λ e. blank-ones d, blank-falls d)
+  blank-falls (suc d) = (blank-masks d, blank-falls d)
 
   blank-leaf : (d : ℕ) → leaf d (blank (nullOf f) d) ≡ nullOf f
   blank-leaf zero = refl
@@ -176,7 +181,7 @@ module _ (f : Form) where
 
   -- a cell c whose levels are drawn as l: its mask bytes, and its value, which is drawn behind them or is a null's
   pub record Drawn (d : ℕ) (c : Drew (Cell d)) (l : Drew ℕ) : Type 0 where
-    pub marked : ones d (c .made) ≡ replicate (l .made) 1
+    pub marked : setMasks d (c .made) ≡ replicate (l .made) 1
     pub falls : Falls d (c .made)
     pub if-set : l .made ≡ d → (leaf d (c .made) ≡ drawValue f (l .state) .made) × (c .state ≡ drawValue f (l .state) .state)
     pub if-null : (l .made ≡ d → ⊥) → (leaf d (c .made) ≡ nullOf f) × (c .state ≡ l .state)
@@ -184,13 +189,13 @@ module _ (f : Form) where
   next-level-of : {d : ℕ} {c : Drew (Cell d)} {l : Drew ℕ} (m t : ℕ) → Drawn d c l → Drawn (suc d) (levelBy m t (blank (nullOf f) d) c) (levelsBy m t l)
   next-level-of {d} zero t r = record {
     marked = refl;
-    falls = (λ e. blank-ones d, blank-falls d);
+    falls = (blank-masks d, blank-falls d);
     if-set = λ e. absurd (omega arith);
     if-null = λ n. (blank-leaf d, refl);
   }
   next-level-of {d} (suc m) t r = record {
     marked = ap (λ (x : List ℕ). 1 ∷ x) (r .marked);
-    falls = (λ e. absurd (omega arith), r .falls);
+    falls = (tt, r .falls);
     if-set = λ e. r .if-set (omega arith);
     if-null = λ n. r .if-null (λ e. n (ap suc e));
   }
@@ -210,18 +215,22 @@ abbrev raggedCell : (d s : ℕ) → Drew (Cell d)
 raggedCell d s = drawCell lengthy d s
 
 module _ (d s : ℕ) {l : Drew ℕ} (e : l ≡ setLevels d s) where
-  module _ (all : l .made ≡ d) {x : Drew ℕ} (g : x ≡ draw (l .state)) where
-    pub set-leaf : leaf d (raggedCell d s .made) ≡ drawBytes (x .made % 9) (x .state) .made
+  module _ (all : l .made ≡ d) {x : Drew ℕ} (g : x ≡ draw (l .state)) {b : ℕ} (eb : b ≡ lengthBy (x .made)) where
+    -- b bytes of the draws behind x are the value's
+    same-bytes : drawBytes b (x .state) ≡ drawBytes (lengthBy (draw (l .state) .made)) (draw (l .state) .state)
+    same-bytes = ap (λ (j : ℕ). drawBytes j (x .state)) eb ∙ ap (λ (y : Drew ℕ). drawBytes (lengthBy (y .made)) (y .state)) g
+
+    pub set-leaf : leaf d (raggedCell d s .made) ≡ drawBytes b (x .state) .made
     unfolding drawValue
-    set-leaf = cell-of lengthy d s e .if-set all .0 ∙ ap (λ (y : Drew ℕ). drawBytes (y .made % 9) (y .state) .made) (sym g)
+    set-leaf = cell-of lengthy d s e .if-set all .0 ∙ ap (λ (r : Drew Value). r .made) (sym same-bytes)
 
-    pub set-length : length (leaf d (raggedCell d s .made)) ≡ x .made % 9
-    set-length = ap length set-leaf ∙ drawn-length (x .made % 9) (x .state)
+    pub set-length : length (leaf d (raggedCell d s .made)) ≡ b
+    set-length = ap length set-leaf ∙ drawn-length b (x .state)
 
-    pub set-counted : {t : ℕ} → t ≡ drawBytes (x .made % 9) (x .state) .state → record { made = x .made % 9; state = t } ≡ lengthDrawn d (raggedCell d s)
+    pub set-counted : {t : ℕ} → t ≡ drawBytes b (x .state) .state → record { made = b; state = t } ≡ lengthDrawn d (raggedCell d s)
     unfolding drawValue
     set-counted {t} h =
-        let after : t ≡ raggedCell d s .state = h ∙ ap (λ (y : Drew ℕ). drawBytes (y .made % 9) (y .state) .state) g ∙ sym (cell-of lengthy d s e .if-set all .1) in
+        let after : t ≡ raggedCell d s .state = h ∙ ap (λ (r : Drew Value). r .state) same-bytes ∙ sym (cell-of lengthy d s e .if-set all .1) in
         ap₂ (λ (a b : ℕ). record { made = a; state = b }) (sym set-length) after
 
   module _ (some : l .made ≡ d → ⊥) where

@@ -1,4 +1,4 @@
-pub mod Ahead
+pub mod Factors
 pub mod Drawing
 pub mod Columns
 pub mod Making

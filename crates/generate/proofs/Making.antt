@@ -8,6 +8,7 @@ use native.Mathlib.Omega.{arith}
 use mathlib.Core.List.{List, [], _∷_, _++_}
 use lib.ListN.{length, set, replicate, length-replicate, length-map, length-append}
 use Rattle.array.specs.Kind.{Form}
+use Rattle.array.specs.Limits.{mostSize, mostCells}
 use Rattle.array.specs.Lists.{All, joined}
 use Rattle.array.specs.Offsets.{ends, offsetsOf}
 use Rattle.array.specs.Cells.{Cell, leaf}
@@ -22,7 +23,7 @@ use Rattle.array.proofs.Laying.{Laying, laying-begins, laying-is, laying-same, 
 use Rattle.load.specs.Generator.{Drew}
 use Rattle.load.specs.Load.{drawCell, drawCells}
 use Rattle.load.proofs.Drawn.{DrawnCell, drawn-cells, drawn-count, drawn-total}
-use Rattle.generate.specs.Cells.{ones, column, sized, lengthy, cellsFrom, bytesFrom}
+use Rattle.generate.specs.Cells.{setMasks, column, sized, lengthy, cellsFrom, bytesFrom}
 use Rattle.generate.specs.Room.{Column, Limited}
 use Rattle.generate.proofs.Drawing.{next-of, Falls, drawn}
 use Rattle.generate.proofs.Columns.{column-length, columns, planes-laid}
@@ -33,13 +34,15 @@ valuesFrom f d n s = joined (leaves d (cellsFrom f d n s))
 
 -- products of the limits
 pub planes-small : {d n : ℕ} → Limited d n → d * n ≤ 262144
+unfolding mostCells
 planes-small l = omega (arith, mul-le-mul (l .shallow) (l .few))
 
 -- zeros over a list leave its length
 pub zeros-length : (m : ℕ) (l : List ℕ) → m ≤ length l → {filled : List ℕ} → filled ≡ over (replicate m 0) l → length filled ≡ length l
 zeros-length m l h e = ap length e ∙ over-length (replicate m 0) l (omega (arith, length-replicate {A = ℕ} m 0))
 
-pub bytes-small : {d n : ℕ} → Limited d n → {size : ℕ} → size ≤ 64 → n * size ≤ 4194304
+pub bytes-small : {d n : ℕ} → Limited d n → {size : ℕ} → size ≤ mostSize → n * size ≤ 4194304
+unfolding mostCells
 bytes-small l h = omega (arith, mul-le-mul (l .few) h)
 
 -- the next of the cells that are left
@@ -107,6 +110,7 @@ make-begins f d n s m v h l = record {
 
 module _ {f : Form} {d n s₀ : ℕ} {m₀ v₀ m v : List ℕ} {s at to : ℕ} (c : Making f d n s₀ m₀ v₀ m v s at to) where
   pub make-column : Limited d n → at < n → Column n at d m
+  unfolding mostCells
   make-column l h = record { within = omega (arith, c .room, c .same); small = omega (arith, planes-small l, l .few) }
 
   pub make-same : length v ≡ length v₀
@@ -115,12 +119,12 @@ module _ {f : Form} {d n s₀ : ℕ} {m₀ v₀ m v : List ℕ} {s at to : ℕ} 
   pub make-room : at < n → to + length (leaf d (drawCell f d s .made)) ≤ length v
   make-room h = omega (arith, count-fits (c .counted) h, c .laid .room, make-same)
 
-  pub make-more : at < n → {m′ v′ : List ℕ} {k t : ℕ} → m′ ≡ column n at (ones d (drawCell f d s .made)) m → v′ ≡ overAt to (leaf d (drawCell f d s .made)) v
+  pub make-more : at < n → {m′ v′ : List ℕ} {k t : ℕ} → m′ ≡ column n at (setMasks d (drawCell f d s .made)) m → v′ ≡ overAt to (leaf d (drawCell f d s .made)) v
       → k ≡ length (leaf d (drawCell f d s .made)) → t ≡ drawCell f d s .state → Making f d n s₀ m₀ v₀ m′ v′ t (at + 1) (to + k)
   make-more h {m′} {v′} {k} {t} em ev ek et = record {
     counted = count-more (c .counted) h ek et;
     room = c .room;
-    same = ap length em ∙ column-length n at (ones d (drawCell f d s .made)) m ∙ c .same;
+    same = ap length em ∙ column-length n at (setMasks d (drawCell f d s .made)) m ∙ c .same;
     planes = ap₂ (λ (x : List ℕ) (y : ℕ). columns d n (at + 1) (cellsFrom f d (n - (at + 1)) y) x) em et
         ∙ sym (ap (λ (cs : List (Cell d)). columns d n at cs m) (next-cells f d s h)) ∙ c .planes;
     laid = laying-part (valuesFrom f d n s₀) v₀ 0 v to (leaf d (drawCell f d s .made)) (valuesFrom f d (n - (at + 1)) t)
@@ -195,4 +199,5 @@ count-values size d n s =
     layout-values-ok (sized size) n d cs (drawn-count (sized size) d n s) (All-image (OfSize (sized size)) (leaf d) cs each) .0
 
 pub ragged-small : {d n : ℕ} → Limited d n → (s : ℕ) → bytesFrom lengthy d n s ≤ 524288
+unfolding mostCells
 ragged-small {d} {n} l s = omega (arith, drawn-total lengthy d n s, l .few)

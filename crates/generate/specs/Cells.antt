@@ -5,7 +5,7 @@ use Prim.Native.Nat.{ℕ, zero, suc, _+_, _%_}
 use mathlib.Core.List.{List, [], _∷_}
 use lib.ListN.{length, set}
 use Rattle.array.specs.Kind.{Form, fixed, ragged, little, atStart}
-use Rattle.array.specs.Cells.{Cell, leaf}
+use Rattle.array.specs.Cells.{Cell, Mark, isNull, isSet, isOther, markOf, leaf}
 use Rattle.array.specs.Lists.{joined}
 use Rattle.array.specs.Content.{leaves}
 use Rattle.load.specs.Generator.{Drew, draw}
@@ -22,14 +22,15 @@ setLevels (suc d) s = levelsBy (draw s .made % 4) (draw s .state) (setLevels d (
 
 -- ---- mask bytes in the planes
 
--- the mask bytes of a cell up to the first null
-abbrev pub onesBy : ℕ → List ℕ → List ℕ
-onesBy zero r = []
-onesBy (suc m) r = suc m ∷ r
+-- the mask bytes of a cell that are set, up to the first that is not
+abbrev pub setMasksBy : Mark → List ℕ → List ℕ
+setMasksBy isNull r = []
+setMasksBy isSet r = 1 ∷ r
+setMasksBy isOther r = []
 
-abbrev pub ones : (d : ℕ) → Cell d → List ℕ
-ones zero c = []
-ones (suc d) c = onesBy (c .0) (ones d (c .1))
+abbrev pub setMasks : (d : ℕ) → Cell d → List ℕ
+setMasks zero c = []
+setMasks (suc d) c = setMasksBy (markOf (c .0)) (setMasks d (c .1))
 
 -- bytes stored at `at` in one plane of n cells after another
 abbrev pub column : ℕ → ℕ → List ℕ → List ℕ → List ℕ

@@ -1,6 +1,5 @@
 -- docs/SPEC.md, part 12 (S12.1): what the code's answers mean: a draw, levels that are set.
 -- Assumes nothing.
-use mathlib.Core.Path.{_≡_}
 use Prim.Native.Nat.{ℕ}
 use Rattle.generate.specs.declared.generator.Drawn.{Drawn}
 use Rattle.generate.specs.declared.cell.Levels.{Levels}

@@ -1,6 +1,6 @@
 // What a cell draws: its levels from the outermost, up to the first null, and value bytes.
+use crate::ahead::state_after;
 use crate::generator::Generator;
-use crate::generator::state_after;
 ghost use mathlib.Core.Path.{_≡_};
 ghost use Prim.Native.Nat.{_+_, _≤_};
 ghost use lib.ListN.{length, replicate};

@@ -9,13 +9,14 @@ ghost use mathlib.Core.Path.{_≡_};
 ghost use mathlib.Core.List.{List};
 ghost use Prim.Native.Nat.{ℕ, _+_, _*_, _≤_};
 ghost use lib.ListN.{length};
+ghost use Rattle.array.specs.Limits.{mostSize};
 ghost use Rattle.array.specs.Lists.{joined};
 ghost use Rattle.array.specs.Cells.{leaf};
 ghost use Rattle.array.specs.Content.{masksOf, leaves, layout};
 ghost use Rattle.array.specs.Buffers.{over, overAt};
 ghost use Rattle.array.specs.Outcome.{contentArray, outcomeArray, putInto};
 ghost use Rattle.load.specs.Load.{drawCell};
-ghost use Rattle.generate.specs.Cells.{sized, ones, column, cellsFrom};
+ghost use Rattle.generate.specs.Cells.{sized, setMasks, column, cellsFrom};
 ghost use Rattle.generate.specs.Room.{Column, Limited, FixedRoom};
 
 // Draws the cell `at` of n, its value going to the place `to`. A null leaves zeros.
@@ -31,7 +32,7 @@ fn draw_cell(
 ) -> Generator
     requires { ⌜ Column n at depth (now masks) × (to + size ≤ length (now values)) ⌝ }
     ensures draws { λ r. ⌜ r .state ≡ drawCell (sized size) depth (first .state) .state ⌝ }
-    ensures marks { λ _. ⌜ now (masks .exit) ≡ column n at (ones depth (drawCell (sized size) depth (first .state) .made)) (now (masks .entry)) ⌝ }
+    ensures marks { λ _. ⌜ now (masks .exit) ≡ column n at (setMasks depth (drawCell (sized size) depth (first .state) .made)) (now (masks .entry)) ⌝ }
     ensures stores { λ _. ⌜ now (values .exit) ≡ overAt to (leaf depth (drawCell (sized size) depth (first .state) .made)) (now (values .entry)) ⌝ }
 {
     let levels = mark_levels(first, depth, n, at, masks);
@@ -77,7 +78,7 @@ pub fn make_fixed(
     masks: &mut [u8],
     values: &mut [u8],
 ) -> WrittenArray
-    requires { ⌜ Limited depth n × (size ≤ 64) ⌝ }
+    requires { ⌜ Limited depth n × (size ≤ mostSize) ⌝ }
     ensures { λ r. ⌜ ((offsets : List ℕ) → outcomeArray r (now (masks .exit)) (now (values .exit)) offsets
         ≡ putInto (layout (sized size) depth (cellsFrom (sized size) depth n (first .state)))
         (contentArray (now (masks .entry)) (now (values .entry)) offsets)) ⌝ }

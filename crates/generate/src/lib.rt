@@ -1,4 +1,5 @@
 // A load anyone can repeat: the public call `generate`.
+mod ahead;
 mod cell;
 mod fixed;
 pub mod generator;

@@ -17,13 +17,20 @@ ghost use Rattle.array.specs.Cells.{leaf};
 ghost use Rattle.array.specs.Content.{masksOf, leaves, layout};
 ghost use Rattle.array.specs.Buffers.{over, overAt};
 ghost use Rattle.array.specs.Outcome.{contentArray, outcomeArray, putInto};
-ghost use Rattle.load.specs.Load.{drawCell};
+ghost use Rattle.load.specs.Load.{lengthBy, drawCell};
 ghost use Rattle.generate.specs.Generator.{drewLength};
-ghost use Rattle.generate.specs.Cells.{lengthy, lengthDrawn, ones, column, cellsFrom, bytesFrom};
+ghost use Rattle.generate.specs.Cells.{lengthy, lengthDrawn, setMasks, column, cellsFrom, bytesFrom};
 ghost use Rattle.generate.specs.Room.{Column, Limited, RaggedRoom};
 
-// A ragged value of at most this many bytes: its length is a draw modulo 9.
+// The most bytes of a ragged value.
 const MOST: usize = 8;
+
+// The length of a ragged value, by its draw.
+fn length_of(draw: u32) -> usize
+    ensures { λ r. ⌜ r ≡ lengthBy draw ⌝ }
+{
+    (draw % 9) as usize
+}
 
 // How many bytes a value has, and the generator after it.
 pub struct Value {
@@ -43,7 +50,7 @@ fn draw_cell(
 ) -> Value
     requires { ⌜ Column n at depth (now masks) × (to + length (leaf depth (drawCell lengthy depth (first .state) .made)) ≤ length (now values)) ⌝ }
     ensures draws { λ r. ⌜ drewLength r ≡ lengthDrawn depth (drawCell lengthy depth (first .state)) ⌝ }
-    ensures marks { λ _. ⌜ now (masks .exit) ≡ column n at (ones depth (drawCell lengthy depth (first .state) .made)) (now (masks .entry)) ⌝ }
+    ensures marks { λ _. ⌜ now (masks .exit) ≡ column n at (setMasks depth (drawCell lengthy depth (first .state) .made)) (now (masks .entry)) ⌝ }
     ensures stores { λ _. ⌜ now (values .exit) ≡ overAt to (leaf depth (drawCell lengthy depth (first .state) .made)) (now (values .entry)) ⌝ }
 {
     let levels = mark_levels(first, depth, n, at, masks);
@@ -51,7 +58,7 @@ fn draw_cell(
     let next = levels.next;
     if set == depth {
         let drawn = next.draw();
-        let bytes = (drawn.draw % 9) as usize;
+        let bytes = length_of(drawn.draw);
         let next = draw_few(drawn.next, values, to, bytes);
         return Value { bytes, next };
     }
@@ -67,7 +74,7 @@ fn skip_cell(first: Generator, depth: usize) -> Value
     let next = levels.next;
     if set == depth {
         let drawn = next.draw();
-        let bytes = (drawn.draw % 9) as usize;
+        let bytes = length_of(drawn.draw);
         let next = skip_bytes(drawn.next, bytes);
         return Value { bytes, next };
     }

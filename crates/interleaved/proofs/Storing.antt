@@ -205,9 +205,6 @@ module _ {s os : List ℕ} (h : Held 1 s os) (d : List ℕ) (room : length (inte
   size : v ≡ getD os 1 0 - getD os 0 0
   size = omega (arith, storing-last begun (omega arith) (omega arith))
 
-  pub one-same : length out₁ ≡ length d
-  one-same = stored-same begun (omega arith) f size ∙ count-same h d room e
-
   pub one-empty : v ≤ 0 → out₁ ≡ over (interleavedOf s os) d
   one-empty z = storing-done h d room e (storing-ends (storing-none begun (omega arith) f size (omega (arith, size))) (omega arith))
 

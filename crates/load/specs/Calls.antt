@@ -7,7 +7,7 @@ use Rattle.array.specs.Kind.{Kind, kindTest}
 use Rattle.array.specs.Shape.{shapeTest}
 use Rattle.array.specs.Content.{Content}
 use Rattle.array.specs.Buffers.{Lengths, lengthsOf, enoughTest, contentOutcome}
-use Rattle.load.specs.Load.{drawCells, loadOf}
+use Rattle.load.specs.Load.{loadOf}
 
 -- ---- generate: the load of a start number
 

@@ -1,7 +1,7 @@
 -- docs/SPEC.md, part 12 (S12.1): the generator of the load. Every draw hands back the state of the next one.
 -- Assumes nothing.
 use Prim.Native.Nat.{ℕ, zero, suc, _+_, _*_, _/_, _%_}
-use mathlib.Core.List.{List, [], _∷_}
+use mathlib.Core.List.{[], _∷_}
 use Rattle.array.specs.Cells.{Value}
 
 -- what was drawn, and the state that is handed back

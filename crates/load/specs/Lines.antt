@@ -7,7 +7,7 @@ use Rattle.array.specs.Answer.{gives, refuses, Outcome}
 use Rattle.array.specs.Kind.{Kind, byteKind, fixed, ragged, little, atStart}
 use Rattle.array.specs.Content.{Content}
 use Rattle.array.specs.Buffers.{Lengths}
-use Rattle.load.specs.Generator.{Drew, draw}
+use Rattle.load.specs.Generator.{draw}
 use Rattle.load.specs.Load.{loadOf}
 use Rattle.load.specs.Calls.{generated}
 

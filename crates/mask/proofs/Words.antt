@@ -24,6 +24,7 @@ use Rattle.codec.specs.Mask.{packedMask, bytesFor, bitsOf, padded, packBits}
 use Rattle.codec.proofs.Masks.{length-bits, bits-zeros, length-padded, length-packed, pack-append}
 use Rattle.mask.specs.Marks.{saidMask, packedWord}
 use Rattle.mask.proofs.Entries.{entry}
+use Rattle.mask.proofs.Ones.{part-bytes}
 use Rattle.mask.proofs.Said.{bits-append, said-packed}
 
 -- ---- packing
@@ -72,17 +73,13 @@ one-more {P} i f p j h = go (leb i j) refl
     go true e = let q : i ≡ j = omega (arith, leb-true i j e) in subst P q p
     go false e = f j (leb-false i j e)
 
-slice-all : (s : List ℕ) → ((i : ℕ) → getD s i 0 < 256) → All (λ b. b < 256) s
-slice-all [] f = tt
-slice-all (b ∷ s) f = (f 0, slice-all s (λ i. f (suc i)))
-
 -- the cells of `count` times eight bytes, each eight of which are the number w
 module _ (s : List ℕ) (f : (i : ℕ) → getD s i 0 < 256) {w v : ℕ} (e : bitsOf (le 8 w) ≡ replicate 64 v) where
   eight-are : (at : ℕ) → at + 8 ≤ length s → unle (take 8 (drop at s)) ≡ w → bitsOf (take 8 (drop at s)) ≡ replicate 64 v
   eight-are at h g =
       let bs : List ℕ = take 8 (drop at s) in
       let l : length bs ≡ 8 = length-take-le 8 (drop at s) (omega (arith, length-drop at s)) in
-      let p : All (λ b. b < 256) bs = All-take (λ b. b < 256) 8 (drop at s) (All-drop (λ b. b < 256) at s (slice-all s f)) in
+      let p : All (λ b. b < 256) bs = part-bytes s f at 8 in
       ap bitsOf (sym (le-unle bs p) ∙ ap₂ le l g) ∙ e
 
   pub words-are : (count at : ℕ) → at + count * 8 ≤ length s → ((i : ℕ) → i < count → unle (take 8 (drop (at + i * 8) s)) ≡ w)

@@ -1,4 +1,4 @@
-// Packed masks, written from a plane: a block of mask bytes is made 00 and 01, then packed eight cells a step.
+// Packed masks, written from a plane: a block holds each mask byte as its bit, and is packed eight cells a step.
 use crate::mark::one_if_set;
 use crate::packed::bytes_for;
 use buffer::field;
@@ -22,7 +22,7 @@ fn packed_word(low: u64, high: u64) -> u8
     (pairs * 16909320 / 16777216 % 256) as u8
 }
 
-// 01 for each set byte of the `count` at `at`, and 00 for each null one.
+// Each of the `count` mask bytes at `at` as its bit: the product above needs 0 or 1, and `pack` asks nothing of the plane.
 fn put_bits(block: &mut [u8], planes: &[u8], at: usize, count: usize)
     requires { ⌜ (at + count ≤ length (now planes)) × (count ≤ length (now block)) ⌝ }
     ensures { λ _. ⌜ now (block .exit) ≡ overAt 0 (map bitOf (take count (drop at (now (planes .entry))))) (now (block .entry)) ⌝ }

@@ -5,6 +5,7 @@ use mathlib.Core.Bool.{true}
 use Prim.Native.Nat.{ℕ}
 use borrow.Author.Tests.{not-true, not-false}
 use borrow.Author.Needs.{needs}
+use Rattle.array.specs.Limits.{mostCells}
 use Rattle.array.specs.Kind.{Form, fixed, FormOk, KindOk, kindTest}
 use Rattle.array.specs.Meaning.{kindOf, formOf, orderOf}
 use Rattle.array.specs.Content.{Content, layout}
@@ -58,6 +59,7 @@ shaped : (c : tie.After-known-told) → Counted (start c .args .shape .now) (cel
 shaped c = counted (start c .args .shape .now) (cells c) (sym (ap toldCells (c .before .n .given .1)) ∙ counting c .shape-cells .ensures)
 
 limits : (c : tie.After-known-told) → Limited (start c .args .kind .depth) (cells c)
+unfolding mostCells
 limits c = record { shallow = sound (counting c .before) .shallow; few = shaped c .few }
 
 -- what is left behind then, by the cells

@@ -6,7 +6,7 @@ use Rattle.array.specs.Cells.{Value}
 use Rattle.array.specs.Buffers.{overAt}
 use Rattle.load.specs.Load.{drawValue, drawCell}
 use Rattle.generate.specs.Generator.{drewLevels}
-use Rattle.generate.specs.Cells.{sized, ones, column}
+use Rattle.generate.specs.Cells.{sized, setMasks, column}
 use Rattle.generate.proofs.Drawing.{Drawn, cell-of}
 use Rattle.generate.proofs.fixed.draw_cell.Statement.{statement}
 use Rattle.generate.proofs.fixed.draw_cell.Tie as tie
@@ -26,7 +26,7 @@ cell : (c : tie.After-mark-levels) → let a = start c .args in
 cell c = let a = start c .args in cell-of (sized (a .size)) (a .depth) (a .first .state) (c .mark-levels .ensures .0)
 
 planes : (c : tie.After-mark-levels) → let a = start c .args in
-    c .mark-levels .last .1 .1 .1 .1 .0 ≡ column (a .n) (a .at) (ones (a .depth) (drawCell (sized (a .size)) (a .depth) (a .first .state) .made)) (a .masks .now)
+    c .mark-levels .last .1 .1 .1 .1 .0 ≡ column (a .n) (a .at) (setMasks (a .depth) (drawCell (sized (a .size)) (a .depth) (a .first .state) .made)) (a .masks .now)
 planes c = rw (cell c .marked) (c .mark-levels .ensures .1)
 
 -- ---- answers

@@ -8,7 +8,7 @@ use Rattle.array.specs.Cells.{Value}
 use Rattle.array.specs.Buffers.{overAt}
 use Rattle.array.proofs.Laying.{laying-begins, laying-ends}
 use Rattle.load.specs.Load.{drawCell}
-use Rattle.generate.specs.Cells.{lengthy, ones, column}
+use Rattle.generate.specs.Cells.{lengthy, setMasks, column}
 use Rattle.generate.proofs.Drawing.{cell-of, set-leaf, set-length, set-counted, null-leaf, null-counted}
 use Rattle.generate.proofs.ragged.draw_cell.Statement.{statement}
 use Rattle.generate.proofs.ragged.draw_cell.Tie as tie
@@ -22,27 +22,29 @@ abbrev marked : tie.After-next → tie.After-mark-levels
 marked c = c .before .before .before
 
 planes : (c : tie.After-mark-levels) → let a = start c .args in
-    c .mark-levels .last .1 .1 .1 .1 .0 ≡ column (a .n) (a .at) (ones (a .depth) (drawCell lengthy (a .depth) (a .first .state) .made)) (a .masks .now)
+    c .mark-levels .last .1 .1 .1 .1 .0 ≡ column (a .n) (a .at) (setMasks (a .depth) (drawCell lengthy (a .depth) (a .first .state) .made)) (a .masks .now)
 planes c = let a = start c .args in rw (cell-of lengthy (a .depth) (a .first .state) (c .mark-levels .ensures .0) .marked) (c .mark-levels .ensures .1)
 
 -- ---- answers
 
 draw-few-requires : tie.Need-draw-few-requires
 draw-few-requires c κs =
-    let drew = c .before .before in
+    let long = c .before in
+    let drew = long .before in
     let put = marked (drew .before .before) in
     let a = start put .args in
-    omega (arith, set-length (a .depth) (a .first .state) (put .mark-levels .ensures .0) (drew .before .if1 .taken) (drew .draw .ensures), start put .pre .1)
+    omega (arith, set-length (a .depth) (a .first .state) (put .mark-levels .ensures .0) (drew .before .if1 .taken) (drew .draw .ensures) (long .length-of .ensures), start put .pre .1)
 
 returns : tie.Need-returns
 returns c =
     let bytes = c .before .before in
-    let drew = bytes .before .before .before in
+    let long = bytes .before .before in
+    let drew = long .before in
     let all = drew .before .if1 .taken in
     let put = marked (drew .before .before) in
     let a = start put .args in
-    let value = set-leaf (a .depth) (a .first .state) (put .mark-levels .ensures .0) all (drew .draw .ensures) in (
-      set-counted (a .depth) (a .first .state) (put .mark-levels .ensures .0) all (drew .draw .ensures) (bytes .draw-few .ensures .0),
+    let value = set-leaf (a .depth) (a .first .state) (put .mark-levels .ensures .0) all (drew .draw .ensures) (long .length-of .ensures) in (
+      set-counted (a .depth) (a .first .state) (put .mark-levels .ensures .0) all (drew .draw .ensures) (long .length-of .ensures) (bytes .draw-few .ensures .0),
       (planes put, bytes .draw-few .ensures .1 ∙ sym (ap (λ (v : Value). overAt (a .to) v (a .values .now)) value)),
     )
 
@@ -63,7 +65,7 @@ draw-cell-spec =
     (tie.spec
     (λ c κs. search needs)
     (λ c κs. search needs)
-    (λ c. search needs)
+    (λ c κs. search needs)
     draw-few-requires
     (λ c. search needs)
     (λ c. search needs)

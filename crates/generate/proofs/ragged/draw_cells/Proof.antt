@@ -4,6 +4,7 @@ use mathlib.Core.Path.{_≡_, ap, _∙_}
 use Prim.Native.Nat.{ℕ, _-_, _*_}
 use native.Mathlib.Omega.{arith}
 use lib.ListN.{length, length-set}
+use Rattle.array.specs.Limits.{mostCells}
 use Rattle.load.specs.Generator.{Drew}
 use Rattle.generate.specs.Cells.{lengthy}
 use Rattle.generate.proofs.Making.{Making, make-begins, make-column, make-same, make-room, make-more, make-masks, make-values}
@@ -58,6 +59,7 @@ loop-holds c =
     )
 
 mul-offsets : tie.Need-mul-offsets Inv-loop μ-loop
+unfolding mostCells
 mul-offsets c = omega (arith, c .before .loop .inv .1 .within, start (c .before) .pre .0 .few)
 
 slice-write-offsets : tie.Need-slice-write-offsets Inv-loop μ-loop
@@ -87,6 +89,7 @@ loop-again c =
     )
 
 mul-offsets-2 : tie.Need-mul-offsets-2 Inv-loop μ-loop
+unfolding mostCells
 mul-offsets-2 c = omega (arith, c .before .loop .inv .1 .within, start (c .before) .pre .0 .few)
 
 slice-write-offsets-2 : tie.Need-slice-write-offsets-2 Inv-loop μ-loop

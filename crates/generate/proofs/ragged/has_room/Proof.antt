@@ -6,6 +6,7 @@ use native.Mathlib.Omega.{arith}
 use borrow.Author.Needs.{needs}
 use borrow.Author.Tests.{le-leb}
 use lib.Dec.{leb}
+use Rattle.array.specs.Limits.{mostCells}
 use Rattle.load.proofs.Drawn.{drawn-total}
 use Rattle.generate.specs.Cells.{lengthy, bytesFrom}
 use Rattle.generate.proofs.ragged.has_room.Statement.{statement}
@@ -20,4 +21,5 @@ returns-2 : tie.Need-returns-2
 returns-2 c = ap (λ (b : ℕ). leb b (c .before .before .args .room)) (c .count-bytes .ensures)
 
 pub has-room-spec : {M : Type 1} → statement M
+unfolding mostCells
 has-room-spec = tie.close (tie.spec (λ c. search needs) returns (λ c κs. search needs) returns-2)

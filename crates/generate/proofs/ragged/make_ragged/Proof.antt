@@ -6,6 +6,7 @@ use native.Mathlib.Omega.{arith}
 use borrow.Author.Needs.{needs}
 use borrow.Author.Tests.{leb-true, leb-false, not-true, not-false}
 use lib.ListN.{length}
+use Rattle.array.specs.Limits.{mostCells}
 use Rattle.array.specs.Content.{Content, layout}
 use Rattle.array.specs.Outcome.{contentArray}
 use Rattle.array.proofs.Putting.{no-masks, no-values, no-offsets, put}
@@ -75,6 +76,7 @@ returns-4 c =
     (tested .before .if1 .left) (omega (arith, fits here, drawn .0)) (tested .if2 .left) _ _ _ (drawn .1 .0) (drawn .1 .1 .0) (drawn .1 .1 .1)
 
 pub make-ragged-spec : {M : Type 1} → statement M
+unfolding mostCells
 make-ragged-spec =
     tie.close
     (tie.spec

@@ -7,10 +7,11 @@ use Rattle.generate.proofs.ragged.skip_cell.Tie as tie
 
 returns : tie.Need-returns
 returns c =
-    let drew = c .before .before in
+    let long = c .before in
+    let drew = long .before in
     let levels = drew .before .before .before in
     let a = levels .before .args in
-    set-counted (a .depth) (a .first .state) (levels .draw-levels .ensures) (drew .before .if1 .taken) (drew .draw .ensures) (c .skip-bytes .ensures)
+    set-counted (a .depth) (a .first .state) (levels .draw-levels .ensures) (drew .before .if1 .taken) (drew .draw .ensures) (long .length-of .ensures) (c .skip-bytes .ensures)
 
 returns-2 : tie.Need-returns-2
 returns-2 c =
@@ -24,7 +25,7 @@ skip-cell-spec =
     (tie.spec
     (λ c κs. search needs)
     (λ c κs. search needs)
-    (λ c. search needs)
+    (λ c κs. search needs)
     (λ c κs. search needs)
     returns
     returns-2)

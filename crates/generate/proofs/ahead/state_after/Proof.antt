@@ -1,12 +1,12 @@
--- `generator::state_after` meets its contract, by the laws of Ahead.
+-- `ahead::state_after` meets its contract, by the laws of Factors.
 -- Assumes nothing.
 use native.Mathlib.Omega.{arith}
 use Prim.Native.Nat.{_*_, _≤_}
 use lib.ListN.{getD}
 use borrow.Author.Needs.{needs}
-use Rattle.generate.proofs.Ahead.{factors, listed, listed-factor, listed-term, product-small}
-use Rattle.generate.proofs.generator.state_after.Statement.{statement}
-use Rattle.generate.proofs.generator.state_after.Tie as tie
+use Rattle.generate.proofs.Factors.{factors, listed, listed-factor, listed-term, product-small}
+use Rattle.generate.proofs.ahead.state_after.Statement.{statement}
+use Rattle.generate.proofs.ahead.state_after.Tie as tie
 
 cast-factor : tie.Need-cast-factor
 cast-factor c = omega (arith, listed-factor (c .args .j) (c .pre))
