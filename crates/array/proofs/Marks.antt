@@ -1,4 +1,4 @@
--- What a mark says of its mask byte, and bytes over 01 counted from the left.
+-- The mark of a byte over 01, and such bytes counted from the left.
 -- Assumes nothing.
 use mathlib.Core.Path.{_≡_, refl, sym, ap, _∙_}
 use Prim.Native.Nat.{ℕ, zero, suc, _+_, _<_, _≤_}
@@ -9,23 +9,8 @@ use mathlib.Core.List.{List, [], _∷_}
 use lib.ListN.{length, getD, drop, drop-of-length-le}
 use lib.Seq.{drop-cons}
 use Rattle.array.specs.Lists.{every}
-use Rattle.array.specs.Cells.{isNull, isSet, isOther, markOf, strictTest}
+use Rattle.array.specs.Cells.{isOther, markOf, strictTest}
 use Rattle.array.specs.Others.{otherBy, others}
-
-pub null-byte : (b : ℕ) → markOf b ≡ isNull → b ≡ 0
-null-byte zero e = refl
-null-byte (suc zero) e = cc
-null-byte (suc (suc b)) e = cc
-
-pub set-byte : (b : ℕ) → markOf b ≡ isSet → b ≡ 1
-set-byte zero e = cc
-set-byte (suc zero) e = refl
-set-byte (suc (suc b)) e = cc
-
-pub other-byte : (b : ℕ) → markOf b ≡ isOther → 1 < b
-other-byte zero e = let z : _≡_ {A = ℕ} 0 1 = cc in omega arith
-other-byte (suc zero) e = let z : _≡_ {A = ℕ} 0 1 = cc in omega arith
-other-byte (suc (suc b)) e = omega arith
 
 pub byte-other : (b : ℕ) → (b ≡ 0 → ⊥) → (b ≡ 1 → ⊥) → isOther ≡ markOf b
 byte-other zero f g = absurd (f refl)

@@ -1,4 +1,4 @@
--- Numbers as digits in any base, for any width: bytes are digits in base 256 (document 01, item 4), bits in base 2 (document 02, request 1).
+-- docs/SPEC.md, S4.1, S4.11: numbers as digits in any base, for any width. Bytes are digits in base 256, bits in base 2.
 -- Assumes nothing.
 use Prim.Native.Nat.{ℕ, zero, suc, _+_, _*_, _/_, _%_}
 use mathlib.Core.List.{List, [], _∷_}

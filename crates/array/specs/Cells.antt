@@ -12,7 +12,7 @@ abbrev pub Cell : ℕ → Type 0
 Cell zero = Value
 Cell (suc d) = ℕ × Cell d
 
--- what a mask byte says: 00 is null, 01 is set, and no other byte is one (document 02, request 5)
+-- what a mask byte says: 00 is null, 01 is set, and no other byte is one (docs/SPEC.md, S1.5, S1.11)
 pub data Mark : Type 0 where
   isNull isSet isOther : Mark
 

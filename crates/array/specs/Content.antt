@@ -85,7 +85,7 @@ pub record ContentOk (k : Kind) (n : ℕ) (c : Content) : Type 0 where
 abbrev pub contentTest : Kind → ℕ → Content → Bool
 contentTest k n c = eqb (length (c .masks)) (k .depth * n) && valuesTest (k .form) n c
 
--- the rule for mask bytes, hidden ones too (document 02, request 5)
+-- the rule for mask bytes, hidden ones too (docs/SPEC.md, S1.11)
 abbrev pub MasksOk : Content → Type 0
 MasksOk c = All Strict (c .masks)
 

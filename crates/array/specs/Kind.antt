@@ -1,4 +1,4 @@
--- Kinds (document 01, The array): the depth, whether values are fixed or ragged, and how stored masks lie (document 02, request 1).
+-- docs/SPEC.md, S1.2: kinds. The depth, whether values are fixed or ragged, and how stored masks lie.
 -- Assumes nothing.
 use Prim.Native.Nat.{ℕ, _≤_}
 use mathlib.Core.Path.{_≡_}

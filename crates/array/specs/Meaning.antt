@@ -1,4 +1,4 @@
--- What the declared types of the code mean: the kind, the mark of a mask byte, and the answers, each case with document 01's number or lengths.
+-- docs/SPEC.md, S6.13: what the declared types of the code mean. The kind, the mark of a mask byte, and the answers, each case with its number or lengths.
 -- Assumes nothing.
 use Prim.Native.Nat.{ℕ}
 use Rattle.array.specs.declared.kind.ByteOrder.{ByteOrder}

@@ -1,4 +1,4 @@
--- How many mask bytes are over 01 (document 02, request 5): what a walk counts. proofs/Marks has that there is none where all keep the rule.
+-- docs/SPEC.md, S1.11: how many mask bytes are over 01, what a walk counts. proofs/Marks has that there is none where all keep the rule.
 -- Assumes nothing.
 use Prim.Native.Nat.{ℕ, _+_}
 use mathlib.Core.List.{List, [], _∷_}

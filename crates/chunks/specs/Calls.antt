@@ -1,4 +1,4 @@
--- The public calls of this layer: what each answers, with the refusals in document 01's order, and what it leaves in the outputs.
+-- docs/SPEC.md, part 6: the public calls of this layer. What each answers, with the refusals in their order, and what it leaves in the outputs.
 -- Assumes nothing.
 use Prim.Native.Nat.{ℕ}
 use mathlib.Core.List.{List}

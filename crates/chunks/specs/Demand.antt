@@ -1,4 +1,4 @@
--- Demand 3, as one claim over the calls and the buffers lent to them: any valid array A, cut into any list of subsets that covers it,
+-- docs/SPEC.md, S8.3 to S8.7: demand 3, as one claim over the calls and the buffers lent to them: any valid array A, cut into any list of subsets that covers it,
 -- each cut written, read back, all merged. Nothing is refused, the outcome is A's rest form, and cutting any subset Q from the
 -- outcome gives the rest form of Q cut from A. Compared are masks, value bytes, offsets and the lengths that success names.
 -- Assumes nothing.

@@ -1,4 +1,4 @@
--- The lines of document 01 that are marked (T), over the calls and the buffers lent to them: one table. Every lent output is longer
+-- docs/SPEC.md, part 10: the lines of document 01 that are marked (T), over the calls and the buffers lent to them: one table. Every lent output is longer
 -- than its result by a byte or a number, so that what lies beyond is seen to stay.
 -- Assumes nothing.
 use Prim.Native.Nat.{ℕ}
@@ -147,12 +147,12 @@ pub record Lines : Type 0 where
   -- big order reverses a cell, and nothing else (item 7, not marked)
   pub writes-big : encoded big1 (1 ∷ []) (array (1 ∷ []) (0x0A ∷ 0x0B ∷ []) []) (old 20) ≡ wrote 19 bytes-big
   pub reads-big : decoded big1 (1 ∷ []) bytes-big (lent 2 3 1) ≡ gave 1 2 0 (1 ∷ []) (0x0A ∷ 0x0B ∷ []) []
-  -- document 02, request 1: packed masks; a set cell reads as 01; a bit after the last cell that is set is 13, after the mask's length and before the content
+  -- S10.13 to S10.15: packed masks; a set cell reads as 01; a bit after the last cell that is set is 13, after the mask's length and before the content
   pub writes-packed : encoded packed1 (9 ∷ []) (array (1 ∷ 0 ∷ 1 ∷ 0 ∷ 0 ∷ 0 ∷ 0 ∷ 0 ∷ 1 ∷ []) nine []) (old 22) ≡ wrote 21 bytes21
   pub reads-packed : decoded packed1 (9 ∷ []) bytes21 (lent 10 10 1) ≡ gave 9 9 0 (1 ∷ 0 ∷ 1 ∷ 0 ∷ 0 ∷ 0 ∷ 0 ∷ 0 ∷ 1 ∷ []) (1 ∷ 0 ∷ 3 ∷ 0 ∷ 0 ∷ 0 ∷ 0 ∷ 0 ∷ 9 ∷ []) []
   pub unused-bit : decoded packed1 (1 ∷ []) (u64 1 ++ (u64 2 ++ (3 ∷ 7 ∷ 7 ∷ []))) (lent 1 1 0) ≡ record { answer = refuses 13; buffers = lent 1 1 0 }
   pub packed-long : decoded packed1 (1 ∷ []) (u64 2 ++ (u64 1 ++ (1 ∷ 2 ∷ 7 ∷ []))) (lent 1 1 0) ≡ record { answer = refuses 8; buffers = lent 1 1 0 }
-  -- document 02, request 2: the older form written, bytes before the first offset dropped; a depth above 0 or a fixed kind is 1, before the shape;
+  -- S10.19: the older form written, bytes before the first offset dropped; a depth above 0 or a fixed kind is 1, before the shape;
   -- masks at depth 0 are 4; a short output is 6
   pub writes-older : interleavedEncoded raggedEnd (2 ∷ []) (array [] (0x41 ∷ []) (0 ∷ 1 ∷ 1 ∷ [])) (old 14) ≡ wrote 13 older
   pub older-late : interleavedEncoded (byteKind 0 (ragged 4 atStart)) (1 ∷ []) late (old 10) ≡ wrote 9 (u32 1 ++ (u32 1 ++ (0x42 ∷ [])))
@@ -160,7 +160,7 @@ pub record Lines : Type 0 where
   pub older-fixed : interleavedEncoded (byteKind 0 (fixed 1 little)) (1 ∷ []) (array [] (7 ∷ []) []) (old 9) ≡ record { answer = refuses 1; buffers = old 9 }
   pub older-masks : interleavedEncoded raggedEnd (1 ∷ []) (array (1 ∷ []) [] (0 ∷ 0 ∷ [])) (old 9) ≡ record { answer = refuses 4; buffers = old 9 }
   pub older-room : interleavedEncoded raggedEnd (1 ∷ []) (array [] [] (0 ∷ 0 ∷ [])) (old 7) ≡ record { answer = refuses 6; buffers = old 7 }
-  -- document 02, request 5: a stored mask byte over 01 is 14, after the mask's length and before the content; handed over it is 4, hidden or not
+  -- S10.25 to S10.28: a stored mask byte over 01 is 14, after the mask's length and before the content; handed over it is 4, hidden or not
   pub stored-02 : decoded byte1 (1 ∷ []) (u64 1 ++ (u64 1 ++ (2 ∷ 7 ∷ []))) (lent 1 1 0) ≡ record { answer = refuses 14; buffers = lent 1 1 0 }
   pub whole-mask-first : decoded depth2 (2 ∷ []) (u64 2 ++ (u64 1 ++ (1 ∷ 2 ∷ 0x78 ∷ []))) (lent 4 2 0) ≡ record { answer = refuses 14; buffers = lent 4 2 0 }
   pub hidden-02 : encoded depth2 (1 ∷ []) (array (0 ∷ 2 ∷ []) (7 ∷ []) []) (old 40) ≡ record { answer = refuses 4; buffers = old 40 }

@@ -1,4 +1,4 @@
--- The public calls of this layer: what each answers, with the refusals in document 01's order, and what it leaves in the outputs.
+-- docs/SPEC.md, part 6: the public calls of this layer. What each answers, with the refusals in their order, and what it leaves in the outputs.
 -- Assumes nothing.
 use Prim.Native.Nat.{ℕ, zero, suc, _*_}
 use mathlib.Core.List.{List}
@@ -79,7 +79,7 @@ unfoldable pub interleavedDecoded : ℕ → List ℕ → RaggedContent → Outco
 unfolding interleavedAnswer
 interleavedDecoded n s out = raggedOutcome (interleavedAnswer n s (raggedLengthsOf out)) out
 
--- ---- encode_interleaved: an array of depth 0 in the older form (document 02, request 2)
+-- ---- encode_interleaved: an array of depth 0 in the older form (docs/SPEC.md, S5.4, S6.16)
 
 -- bytes before the first offset are in no cell, so they are not written
 abbrev pub interleavedForm : Kind → ℕ → Content → List ℕ

@@ -40,7 +40,7 @@ countSet (m ∷ ms) = countBy (markOf m) (countSet ms)
 abbrev pub setBits : ℕ → ℕ
 setBits b = countSet (digits 2 8 b)
 
--- the other way round: a set mask byte takes the next of the list, and below a null stands b
+-- the other way round: a set mask byte takes the next of the list, and below any other stands b
 abbrev pub nextBy : {A : Type 0} → Mark → A → List A → A
 nextBy isNull b xs = b
 nextBy isSet b [] = b

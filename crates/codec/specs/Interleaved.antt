@@ -1,4 +1,4 @@
--- The older interleaved form, read (document 01, item 3) and written (document 02, request 2): a 4-byte count, then for each cell a
+-- docs/SPEC.md, part 5: the older interleaved form, read and written. A 4-byte count, then for each cell a
 -- 4-byte length and its bytes. Bytes after the last cell are ignored when read; none are written.
 -- Assumes nothing.
 use Prim.Native.Nat.{ℕ, zero, suc, _+_, _*_}

@@ -1,4 +1,4 @@
--- What is written in the older form reads as the array's rest form (document 02, request 2): nothing is refused where the outputs are
+-- docs/SPEC.md, S8.8: what is written in the older form reads as the array's rest form. Nothing is refused where the outputs are
 -- long enough, and the written length is 4 + 4 × cells + the sum of cell lengths.
 -- Assumes nothing.
 use Prim.Native.Nat.{ℕ, _≤_}

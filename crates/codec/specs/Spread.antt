@@ -5,7 +5,7 @@ use mathlib.Core.List.{List, [], _∷_}
 use Rattle.array.specs.Cells.{Cell, markOf, maskOf, inners}
 use Rattle.codec.specs.Frame.{nextBy, leftBy}
 
--- each set byte takes the next of the list, and a null one takes z
+-- each set byte takes the next of the list, and any other takes z
 abbrev pub spread : {A : Type 0} → A → List ℕ → List A → List A
 spread z [] xs = []
 spread z (m ∷ ms) xs = nextBy (markOf m) z xs ∷ spread z ms (leftBy (markOf m) xs)

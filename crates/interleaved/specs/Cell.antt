@@ -1,4 +1,5 @@
--- What is copied with a cell: its bytes, and as much of what lies behind them as is convenient and there is room for. The next cells write over that.
+-- docs/SPEC.md, S5.1, in the code: what is copied with a cell, its bytes and as much of what lies behind them as is convenient and there is room for.
+-- Nothing of that is left: the next cells write over it (proofs/Placing `placing-cell`).
 -- Assumes nothing.
 use Prim.Native.Nat.{ℕ, _≤_}
 use mathlib.Core.Path.{_≡_}

@@ -1,4 +1,4 @@
--- What the writing of the older form leans on (document 02, request 2): the offsets of n cells over these value bytes.
+-- docs/SPEC.md, S5.4: what the writing of the older form leans on, the offsets of n cells over these value bytes.
 -- Assumes nothing.
 use Prim.Native.Nat.{ℕ, suc, _≤_}
 use mathlib.Core.Path.{_≡_}

@@ -1,4 +1,4 @@
--- One cell of a plane, by its mark: what it gets, and where the next stored one is.
+-- docs/SPEC.md, S4.8: one cell of a plane, by its mark. What it gets, and where the next stored one is.
 -- Assumes nothing.
 use Prim.Native.Nat.{ℕ, _+_, _*_}
 use mathlib.Core.List.{List}

@@ -1,4 +1,4 @@
--- Runs of cells that are all set, or all not.
+-- docs/SPEC.md, S4.8: runs of cells that are all set, or all not.
 -- Assumes nothing.
 use Prim.Native.Nat.{ℕ, zero, suc}
 use mathlib.Core.Bool.{Bool, true, false, Bool·beq}
