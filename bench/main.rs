@@ -995,6 +995,11 @@ fn older_said(b: &Bench) {
     }
 }
 
+fn load_tables(b: &mut Bench) {
+    load_rows(b);
+    println!("\n`{LOAD}`, by cells. Ratio: the time of a plain Rust loop, one run with reused buffers, over ours.\n");
+    table(&b.loads.iter().flatten().collect::<Vec<_>>());
+}
 fn loads_said(b: &Bench) {
     for (rows, wanted, what) in [(&b.loads[0], 1.0, "where one run is enough"), (&b.loads[1], 0.5, "where two runs are needed")] {
         let list: Vec<f64> = rows.iter().map(Row::ratio).collect();
@@ -1013,7 +1018,12 @@ fn main() {
     let archive = Archive::load(&args[0]).unwrap();
     let rounds = args.get(1).map_or(25, |n| n.parse().unwrap());
     let mut b = Bench { archive, rounds, rows: vec![], packed: vec![], older: vec![], checked: vec![], loads: [vec![], vec![]] };
-    if args.get(3).is_some_and(|only| only == "interleaved") {
+    let only = args.get(3).map_or("", |only| &only[..]);
+    if only == "generate" {
+        load_tables(&mut b);
+        return loads_said(&b);
+    }
+    if only == "interleaved" {
         interleaved_rows(&mut b);
         ratios(&b.rows);
         older_tables(&mut b);
@@ -1029,9 +1039,7 @@ fn main() {
     packed_rows(&mut b);
     packed_ratios(&b.packed);
     older_tables(&mut b);
-    load_rows(&mut b);
-    println!("\n`{LOAD}`, by cells. Ratio: the time of a plain Rust loop, one run with reused buffers, over ours.\n");
-    table(&b.loads.iter().flatten().collect::<Vec<_>>());
+    load_tables(&mut b);
     let copies = copies(&mut b);
     growth(&mut b);
 
