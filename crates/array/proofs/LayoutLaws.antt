@@ -64,7 +64,7 @@ cells-layout k n cs e p =
 pub layout-values-ok : (f : Form) (n d : ℕ) (cs : List (Cell d)) → length cs ≡ n → SizedAs f (leaves d cs) → ValuesOk f n (layout f d cs)
 layout-values-ok (fixed k o) n d cs e p = (length-joined k (leaves d cs) p ∙ ap (λ (m : ℕ). m * k) (length-map cs (leaf d) ∙ e), refl)
 layout-values-ok (ragged w q) n d cs e p =
-    (ap suc (length-ends 0 (leaves d cs) ∙ length-map cs (leaf d) ∙ e), rising-ends 0 (leaves d cs), last-ends 0 (leaves d cs) ∙ zero-add (length (joined (leaves d cs))))
+    (ap suc (length-ends 0 (leaves d cs) ∙ length-map cs (leaf d) ∙ e), (refl, rising-ends 0 (leaves d cs)), last-ends 0 (leaves d cs) ∙ zero-add (length (joined (leaves d cs))))
 
 pub strict-mask : {A : Type 0} (P : A → Type 0) (cs : List (ℕ × A)) → All (λ c. Strict (c .0) × P (c .1)) cs → All Strict (maskOf cs)
 strict-mask P [] p = tt
@@ -135,7 +135,7 @@ values-total (ragged w q) n c p = go (c .offsets) (p .1) (p .2)
   where
     go : (os : List ℕ) → Rising os → last os ≡ length (c .values) → length (joined (slices os (c .values))) ≤ length (c .values)
     go [] r e = omega arith
-    go (a ∷ bs) r e = omega (arith, total-slicesFrom a bs (c .values) r)
+    go (a ∷ bs) r e = omega (arith, total-slicesFrom a bs (c .values) (r .1))
 
 -- the values of valid content have the form's size
 pub cells-sized : (k : Kind) (n : ℕ) (c : Content) → ContentOk k n c → SizedAs (k .form) (leaves (k .depth) (cellsOf k n c))

@@ -1,7 +1,7 @@
 -- Offsets: those of values that lie end to end, and the values between offsets.
 -- Assumes nothing.
 use mathlib.Core.Path.{_≡_, refl, sym, ap, ap₂, _∙_}
-use Prim.Native.Nat.{ℕ, suc, _+_, _-_, _<_, _≤_}
+use Prim.Native.Nat.{ℕ, zero, suc, _+_, _-_, _<_, _≤_}
 use native.Mathlib.Nat.{add-sub-cancel-left, add-sub-of-le, add-assoc, min-le-left, le-refl, le-trans}
 use native.Mathlib.Omega.{arith}
 use mathlib.Core.List.{List, [], _∷_, _++_}
@@ -46,7 +46,7 @@ rising-all m a (b ∷ bs) p h = (omega (arith, rising-le b bs (p .1)), rising-al
 
 pub rising-below : (m : ℕ) (os : List ℕ) → Rising os → last os < m → All (λ o. o < m) os
 rising-below m [] p h = tt
-rising-below m (a ∷ bs) p h = (omega (arith, rising-le a bs p), rising-all m a bs p h)
+rising-below m (a ∷ bs) p h = (omega (arith, rising-le a bs (p .1)), rising-all m a bs (p .1) h)
 
 -- ---- the values between offsets
 
@@ -81,3 +81,15 @@ ends-slices a (b ∷ bs) s p e =
     let l : a + length (take (b - a) (drop a s)) ≡ b =
     ap (λ (k : ℕ). a + k) (length-take-le (b - a) (drop a s) (omega (arith, length-drop a s, rising-le b bs (p .1)))) ∙ add-sub-of-le h in
     ap₂ (λ (x : ℕ) (r : List ℕ). x ∷ r) l (ap (λ (k : ℕ). ends k (slicesFrom b bs s)) l ∙ ends-slices b bs s (p .1) e)
+
+-- offsets that begin at 0 and end with the bytes: the values between them are these bytes, and have these offsets
+module _ (n : ℕ) where
+  pub joined-slices-all : (os s : List ℕ) → length os ≡ suc n → Rising os → last os ≡ length s → joined (slices os s) ≡ s
+  joined-slices-all [] s e r l = absurd (omega arith)
+  joined-slices-all (zero ∷ bs) s e r l = joined-slices 0 bs s (r .1) l
+  joined-slices-all (suc a ∷ bs) s e r l = absurd (omega (arith, r .0))
+
+  pub offsets-slices-all : (os s : List ℕ) → length os ≡ suc n → Rising os → last os ≡ length s → offsetsOf (slices os s) ≡ os
+  offsets-slices-all [] s e r l = absurd (omega arith)
+  offsets-slices-all (zero ∷ bs) s e r l = ap (λ (x : List ℕ). 0 ∷ x) (ends-slices 0 bs s (r .1) l)
+  offsets-slices-all (suc a ∷ bs) s e r l = absurd (omega (arith, r .0))

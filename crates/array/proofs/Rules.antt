@@ -139,7 +139,7 @@ rising-from-test a (b ∷ bs) p = both (le-leb a b (p .0)) (rising-from-test b b
 
 pub rising-test : (os : List ℕ) → Rising os → risingTest os ≡ true
 rising-test [] p = refl
-rising-test (a ∷ bs) p = rising-from-test a bs p
+rising-test (a ∷ bs) p = both (eq-eqb a 0 (p .0)) (rising-from-test a bs (p .1))
 
 rising-from-ok : (a : ℕ) (os : List ℕ) → risingFromTest a os ≡ true → RisingFrom a os
 rising-from-ok a [] e = tt
@@ -147,7 +147,7 @@ rising-from-ok a (b ∷ bs) e = (leb-true a b (left-of (leb a b) (risingFromTest
 
 pub rising-ok : (os : List ℕ) → risingTest os ≡ true → Rising os
 rising-ok [] e = tt
-rising-ok (a ∷ bs) e = rising-from-ok a bs e
+rising-ok (a ∷ bs) e = (eqb-true a 0 (left-of (eqb a 0) (risingFromTest a bs) e), rising-from-ok a bs (right-of (eqb a 0) (risingFromTest a bs) e))
 
 pub values-test : (f : Form) (n : ℕ) (c : Content) → ValuesOk f n c → valuesTest f n c ≡ true
 values-test (fixed k o) n c p = both (eq-eqb (length (c .values)) (n * k) (p .0)) (eq-eqb (length (c .offsets)) 0 (p .1))

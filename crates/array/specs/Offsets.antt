@@ -1,10 +1,11 @@
--- Offsets of ragged values (document 01, The array).
+-- docs/SPEC.md, S1.8: the offsets of ragged values.
 -- Assumes nothing.
 use Prim.Native.Nat.{ℕ, _+_, _-_, _≤_}
+use mathlib.Core.Path.{_≡_}
 use mathlib.Core.Bool.{Bool, true, _&&_}
 use mathlib.Core.List.{List, [], _∷_}
 use lib.ListN.{length, take, drop}
-use lib.Dec.{leb}
+use lib.Dec.{leb, eqb}
 use Rattle.array.specs.Cells.{Value}
 
 -- the last of the offsets, after a
@@ -16,14 +17,14 @@ abbrev pub last : List ℕ → ℕ
 last [] = 0
 last (a ∷ bs) = lastFrom a bs
 
--- offsets that never fall, and the test of it
+-- offsets that begin at 0 and never decrease, and the test of it
 abbrev pub RisingFrom : ℕ → List ℕ → Type 0
 RisingFrom a [] = Unit {0}
 RisingFrom a (b ∷ bs) = (a ≤ b) × RisingFrom b bs
 
 abbrev pub Rising : List ℕ → Type 0
 Rising [] = Unit {0}
-Rising (a ∷ bs) = RisingFrom a bs
+Rising (a ∷ bs) = (a ≡ 0) × RisingFrom a bs
 
 abbrev pub risingFromTest : ℕ → List ℕ → Bool
 risingFromTest a [] = true
@@ -31,7 +32,7 @@ risingFromTest a (b ∷ bs) = leb a b && risingFromTest b bs
 
 abbrev pub risingTest : List ℕ → Bool
 risingTest [] = true
-risingTest (a ∷ bs) = risingFromTest a bs
+risingTest (a ∷ bs) = eqb a 0 && risingFromTest a bs
 
 -- where each value ends, the first beginning at a
 abbrev pub ends : ℕ → List Value → List ℕ

@@ -27,11 +27,11 @@ pub const OUTPUT: u8 = 6;
 
 // Fewer bytes than the fields of a frame, of ragged values or of the older form take.
 pub const SHORT: u8 = 7;
-// A length that disagrees: frame total, mask, index or data.
+// A length that disagrees: frame total, mask, content where nothing is set, index or data.
 pub const LENGTH: u8 = 8;
 // The older form's count differs.
 pub const COUNT: u8 = 9;
-// Offsets fall.
+// Offsets fall, or the first is above 0.
 pub const FALLING: u8 = 10;
 // In the older form a length field or a cell runs past the end.
 pub const PAST_END: u8 = 11;

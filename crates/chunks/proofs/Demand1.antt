@@ -41,9 +41,9 @@ numbered-append ns [] ss p q = q
 numbered-append ns (r ∷ rs) ss p q =
     both (left-of (listed ns (r .0)) (numbered ns rs) p) (numbered-append ns rs ss (right-of (listed ns (r .0)) (numbered ns rs) p) q)
 
-content-numbered : (n : ℕ) (rules : ℕ → List Rule) → ((m : ℕ) → numbered decodeNumbers (rules m) ≡ true) → numbered decodeNumbers (contentRules n rules) ≡ true
-content-numbered zero rules h = refl
-content-numbered (suc n) rules h = h (suc n)
+content-numbered : (c n : ℕ) (rules : ℕ → List Rule) → ((m : ℕ) → numbered decodeNumbers (rules m) ≡ true) → numbered decodeNumbers (contentRules c n rules) ≡ true
+content-numbered c zero rules h = refl
+content-numbered c (suc n) rules h = h (suc n)
 
 mask-numbered : (x : Masks) (mask : List ℕ) (n : ℕ) → numbered decodeNumbers (maskRules x mask n) ≡ true
 mask-numbered asBytes mask n = refl
@@ -57,7 +57,7 @@ frame-numbered x f (suc d) s n =
     let mask : List ℕ = take m (drop 16 s) in
     let content : List ℕ = drop m (drop 16 s) in
     numbered-append decodeNumbers (maskRules x mask n) _ (mask-numbered x mask n)
-    (content-numbered (countSet (maskForm x .said mask n)) (frameRules x f d content) (frame-numbered x f d content))
+    (content-numbered _ (countSet (maskForm x .said mask n)) (frameRules x f d content) (frame-numbered x f d content))
 
 cell-numbered : (n : ℕ) (s : List ℕ) → numbered interleavedNumbers (cellRules n s) ≡ true
 cell-numbered zero s = refl

@@ -1,5 +1,5 @@
 -- Demand 3's hypotheses can be met: a ragged array of depth 2 with packed masks in a shape of 2 × 3, cut into two subsets, with an empty
--- Q. And those of partial_decode as decode, then extract: document 01's 34 bytes. And those of the older form's way: offsets 1, 2 over 41 42.
+-- Q. And those of partial_decode as decode, then extract: the 34 bytes of S10.5. And those of the older form's way: one cell of one byte.
 -- Assumes nothing.
 use mathlib.Core.Path.{_≡_, refl}
 use mathlib.Core.Logic.{inl, inr}
@@ -13,16 +13,16 @@ use Rattle.array.specs.Bytes.{le, unle}
 use Rattle.array.specs.Kind.{Kind, asBytes, asBits, ragged, atStart, atEnd}
 use Rattle.array.specs.Content.{Content, Valid}
 use Rattle.array.specs.Buffers.{lengthsOf, Enough}
-use Rattle.codec.specs.Frame.{wrap, frame}
+use Rattle.codec.specs.Frame.{wrap, frame, readFrame}
 use Rattle.codec.specs.Ragged.{putRagged, getRagged}
-use Rattle.codec.specs.Values.{putValues}
+use Rattle.codec.specs.Values.{putValues, getValues}
 use Rattle.codec.specs.Interleaved.{putCells, putInterleaved}
-use Rattle.codec.specs.Calls.{written, readIn, decodeAnswer, decoded, interleavedDecoded, interleavedEncoded}
+use Rattle.codec.specs.Calls.{readIn, decodeAnswer, decoded, interleavedDecoded, interleavedEncoded}
 use Rattle.codec.specs.Older.{flatKind, OlderWay}
 use Rattle.codec.proofs.Older.{older-returns}
 use Rattle.chunks.specs.Calls.{extracted, partiallyDecoded}
 use Rattle.chunks.specs.Demand.{taken, whole, Entry, EntryOk, Covers, subsetsIn, wholeWay}
-use Rattle.chunks.specs.Lines.{lent, lentRagged, old, wrote, gaveRagged, u32, bytes34, late}
+use Rattle.chunks.specs.Lines.{lent, lentRagged, old, wrote, gaveRagged, u32, bytes34, array}
 use Rattle.chunks.specs.ReadThenCut.{withoutMasks, readThenCut, LongEnough}
 use Rattle.chunks.proofs.Demand.{demand3}
 use Rattle.chunks.proofs.ReadThenCut.{partial-decode}
@@ -33,12 +33,12 @@ kind = record { depth = 2; masks = asBits; form = ragged 4 atEnd }
 abbrev shape : List ℕ
 shape = 2 ∷ 3 ∷ []
 
--- cell 1 is null at the outer level, cell 2 at the inner one; one byte lies before the first offset
+-- cell 1 is null at the outer level, cell 2 at the inner one
 abbrev table : Content
 table = record {
   masks = 1 ∷ 0 ∷ 1 ∷ 1 ∷ 1 ∷ 1 ∷ 1 ∷ 1 ∷ 0 ∷ 1 ∷ 1 ∷ 1 ∷ [];
-  values = 99 ∷ 1 ∷ 2 ∷ 3 ∷ 4 ∷ 5 ∷ 6 ∷ [];
-  offsets = 1 ∷ 2 ∷ 3 ∷ 4 ∷ 4 ∷ 6 ∷ 7 ∷ [];
+  values = 1 ∷ 2 ∷ 3 ∷ 4 ∷ 5 ∷ 6 ∷ [];
+  offsets = 0 ∷ 1 ∷ 2 ∷ 3 ∷ 3 ∷ 5 ∷ 6 ∷ [];
 }
 
 -- the columns 1 and 2, and the column 0, each with the outputs lent on its way
@@ -64,12 +64,12 @@ unfolding mostBytes mostCells
 valid = record {
   kind = record { shallow = lit≤ tt; sound = inl refl };
   shaped = record { some-sides = lit≤ tt; few-sides = lit≤ tt; sides = omega arith; few-cells = lit≤ tt };
-  content = record { fits = record { masks-fit = refl; values-fit = (refl, omega arith, refl) }; strict = omega arith };
+  content = record { fits = record { masks-fit = refl; values-fit = (refl, (refl, omega arith), refl) }; strict = omega arith };
   small = lit≤ tt;
 }
 
 wide-ok : EntryOk kind shape table wide
-unfolding written frame putValues putRagged wrap le
+unfolding frame putValues putRagged wrap le
 wide-ok = record {
   numbers = record { counted = refl; fits = omega arith };
   full = omega arith;
@@ -79,7 +79,7 @@ wide-ok = record {
 }
 
 narrow-ok : EntryOk kind shape table narrow
-unfolding written frame putValues putRagged wrap le
+unfolding frame putValues putRagged wrap le
 narrow-ok = record {
   numbers = record { counted = refl; fits = omega arith };
   full = omega arith;
@@ -118,30 +118,33 @@ abbrev firstOfTwo : List ℕ
 firstOfTwo = 0 ∷ 1 ∷ []
 
 long-enough : LongEnough 8 atStart (2 ∷ []) bytes34 (lent 0 2 3)
-unfolding mostBytes mostCells unle getRagged readIn decodeAnswer decoded
+unfolding mostBytes mostCells unle getRagged getValues readFrame readIn decodeAnswer decoded
 long-enough e = let never : _≡_ {A = ℕ} 0 1 = cc in omega arith
 
 pub first-cell : partiallyDecoded 8 atStart (2 ∷ []) firstOfTwo bytes34 (lentRagged 3 3) ≡ withoutMasks (readThenCut 8 atStart (2 ∷ []) bytes34 firstOfTwo (lent 0 2 3) (lent 0 3 3))
 first-cell = partial-decode 8 atStart (inr refl) (2 ∷ []) bytes34 (lent 0 2 3) long-enough firstOfTwo (lent 0 3 3) .else-equal (λ sh. record { counted = refl; fits = omega arith })
 
--- the one cell 42 in the older form: written, and read again from offset 0
+-- one cell in the older form: written, and read again
 
 abbrev flat : Kind
 flat = flatKind asBytes 4 atStart
 
-late-valid : Valid flat (1 ∷ []) late
+abbrev one : Content
+one = array [] (0x42 ∷ []) (0 ∷ 1 ∷ [])
+
+one-valid : Valid flat (1 ∷ []) one
 unfolding mostBytes mostCells
-late-valid = record {
+one-valid = record {
   kind = record { shallow = lit≤ tt; sound = inl refl };
   shaped = record { some-sides = lit≤ tt; few-sides = lit≤ tt; sides = omega arith; few-cells = lit≤ tt };
-  content = record { fits = record { masks-fit = refl; values-fit = (refl, omega arith, refl) }; strict = tt };
+  content = record { fits = record { masks-fit = refl; values-fit = (refl, (refl, omega arith), refl) }; strict = tt };
   small = lit≤ tt;
 }
 
-older-way : OlderWay flat (1 ∷ []) late (old 10) (lentRagged 2 3)
-older-way = older-returns asBytes 4 atStart (1 ∷ []) late late-valid (old 10) (lit≤ tt) (lentRagged 2 3) (record { for-values = lit≤ tt; for-offsets = lit≤ tt })
+older-way : OlderWay flat (1 ∷ []) one (old 10) (lentRagged 2 3)
+older-way = older-returns asBytes 4 atStart (1 ∷ []) one one-valid (old 10) (lit≤ tt) (lentRagged 2 3) (record { for-values = lit≤ tt; for-offsets = lit≤ tt })
 
-pub older-written : interleavedEncoded flat (1 ∷ []) late (old 10) ≡ wrote 9 (u32 1 ++ (u32 1 ++ (0x42 ∷ [])))
+pub older-written : interleavedEncoded flat (1 ∷ []) one (old 10) ≡ wrote 9 (u32 1 ++ (u32 1 ++ (0x42 ∷ [])))
 unfolding le putCells putInterleaved
 older-written = older-way .writes
 

@@ -1,4 +1,4 @@
--- Document 01's marked lines hold: the whole table, by computation.
+-- The lines of specs/Lines hold: the whole table, by computation.
 -- Assumes nothing.
 use mathlib.Core.Path.{refl}
 use Rattle.array.specs.Limits.{mostBytes, mostCells}
@@ -8,13 +8,13 @@ use Rattle.codec.specs.Frame.{wrap, frame, readFrame}
 use Rattle.codec.specs.Ragged.{putRagged, getRagged}
 use Rattle.codec.specs.Values.{putValues, getValues}
 use Rattle.codec.specs.Interleaved.{interleavedCells, putCells, putInterleaved}
-use Rattle.codec.specs.Calls.{written, encodeAnswer, encoded, readIn, decodeAnswer, decoded, interleavedAnswer, interleavedDecoded, encodeInterleavedAnswer, interleavedEncoded}
+use Rattle.codec.specs.Calls.{encodeAnswer, encoded, readIn, decodeAnswer, decoded, interleavedAnswer, interleavedDecoded, encodeInterleavedAnswer, interleavedEncoded}
 use Rattle.chunks.specs.Chunks.{chunkCells}
 use Rattle.chunks.specs.Calls.{extractAnswer, extracted, mergeAnswer, merged}
 use Rattle.chunks.specs.Lines.{Lines}
 
 pub lines : Lines
-unfolding mostBytes mostCells le unle reverseAnswer endiannessReversed cellsAnswer subsetCells wrap frame readFrame putRagged getRagged putValues getValues interleavedCells written
+unfolding mostBytes mostCells le unle reverseAnswer endiannessReversed cellsAnswer subsetCells wrap frame readFrame putRagged getRagged putValues getValues interleavedCells
     encodeAnswer encoded readIn decodeAnswer decoded interleavedAnswer interleavedDecoded putCells putInterleaved encodeInterleavedAnswer interleavedEncoded extractAnswer extracted
     chunkCells mergeAnswer merged
 lines = record {
@@ -22,13 +22,20 @@ lines = record {
   reads-23 = refl;
   writes-19 = refl;
   reads-19 = refl;
-  reads-alike = λ a b c d e. refl;
+  hidden-content = λ a b c d e. refl;
   writes-38 = refl;
   reads-38 = refl;
   writes-22 = refl;
   writes-34 = refl;
-  one-cell = refl;
-  cut-packs = refl;
+  late-cut = refl;
+  late-written = refl;
+  late-stored = refl;
+  hidden-data = refl;
+  data-first = refl;
+  then-offsets = refl;
+  empty-cells = refl;
+  late-chunk = refl;
+  hidden-frame = refl;
   older-form = refl;
   older-tail = λ b. refl;
   older-short = refl;

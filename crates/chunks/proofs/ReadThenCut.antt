@@ -7,7 +7,7 @@ use mathlib.Core.List.{List}
 use lib.ListN.{length}
 use lib.Dec.{leb, leb·zero, lit≤}
 use Rattle.array.specs.Answer.{Answer, gives, refuses, andThen, unless, mapAnswer}
-use Rattle.array.specs.Kind.{Kind, KindOk, Place, ragged, FormOk}
+use Rattle.array.specs.Kind.{Kind, KindOk, Place, ragged, FormOk, asBytes}
 use Rattle.array.specs.Shape.{volume, ShapeOk, shapeTest}
 use Rattle.array.specs.Subset.{subsetOf, NumbersOk, numbersTest}
 use Rattle.array.specs.Content.{Content, RaggedContent, unmasked}
@@ -15,8 +15,10 @@ use Rattle.array.specs.Buffers.{Lengths, lengthsOf, raggedLengthsOf, enoughTest
 use Rattle.array.proofs.Answers.{pass}
 use Rattle.array.proofs.Rules.{kind-test, shape-test, shape-ok, numbers-test, numbers-ok, rest-passes}
 use Rattle.codec.specs.Ragged.{getRagged}
-use Rattle.codec.specs.Calls.{readIn, decodeAnswer, decoded}
+use Rattle.codec.specs.Mask.{maskForm}
+use Rattle.codec.specs.Calls.{decodeAnswer, decoded}
 use Rattle.codec.proofs.Accepted.{read-content, read-small}
+use Rattle.codec.proofs.Flat.{flat-read}
 use Rattle.chunks.specs.Cut.{cutOf}
 use Rattle.chunks.specs.Calls.{extractAnswer, extracted, partiallyDecoded}
 use Rattle.chunks.specs.Demand.{Taken, whole}
@@ -48,8 +50,8 @@ module _ (w : ℕ) (p : Place) (ok : FormOk (ragged w p)) (shape ns s : List ℕ
   decode-is : (a : Bool) (g : Answer RaggedContent) → shapeTest shape ≡ a → stored ≡ g
       → decodeAnswer kind shape s (lengthsOf read)
       ≡ unless a 2 (andThen (andThen g (λ x. gives (unmasked x))) (λ c. unless (enoughTest c (lengthsOf read)) 6 (gives c)))
-  unfolding decodeAnswer readIn
-  decode-is a g ea eg = pass 1 (kind-test kind kind-passes) (rw (ea, eg))
+  unfolding decodeAnswer
+  decode-is a g ea eg = pass 1 (kind-test kind kind-passes) (rw (ea, flat-read w p (maskForm asBytes) (volume shape) s, eg))
 
   -- extract of what was read: neither 4 nor 5, and 6 as in partial_decode
   extract-is : (x : RaggedContent) → stored ≡ gives x → shapeTest shape ≡ true → numbersTest shape ns ≡ true

@@ -1,4 +1,4 @@
--- docs/SPEC.md, part 10: the lines of document 01 that are marked (T), over the calls and the buffers lent to them: one table. Every lent output is longer
+-- docs/SPEC.md, part 10: the lines that are marked proved, over the calls and the buffers lent to them: one table. Every lent output is longer
 -- than its result by a byte or a number, so that what lies beyond is seen to stay.
 -- Assumes nothing.
 use Prim.Native.Nat.{ℕ}
@@ -118,19 +118,29 @@ pub record Lines : Type 0 where
   -- depth 1, size 2, little order, mask 01 00 01, values 0A0B 0C0D 0E0F: 23 bytes; reads back with the middle value 00 00
   pub writes-23 : encoded depth1 (3 ∷ []) (array (1 ∷ 0 ∷ 1 ∷ []) six []) (old 24) ≡ wrote 23 bytes23
   pub reads-23 : decoded depth1 (3 ∷ []) bytes23 (lent 4 7 1) ≡ gave 3 6 0 (1 ∷ 0 ∷ 1 ∷ []) (0x0A ∷ 0x0B ∷ 0 ∷ 0 ∷ 0x0E ∷ 0x0F ∷ []) []
-  -- the same with mask 00 00 00: 19 bytes; with content length 5 and five more bytes it reads alike
+  -- the same with mask 00 00 00: 19 bytes; with content length 5 and any five bytes more it is 8
   pub writes-19 : encoded depth1 (3 ∷ []) (array (0 ∷ 0 ∷ 0 ∷ []) six []) (old 20) ≡ wrote 19 bytes19
   pub reads-19 : decoded depth1 (3 ∷ []) bytes19 (lent 4 7 1) ≡ gave 3 6 0 (0 ∷ 0 ∷ 0 ∷ []) (replicate 6 0) []
-  pub reads-alike : (a b c d e : ℕ) → decoded depth1 (3 ∷ []) (bytes24 a b c d e) (lent 4 7 1) ≡ decoded depth1 (3 ∷ []) bytes19 (lent 4 7 1)
+  pub hidden-content : (a b c d e : ℕ) → decoded depth1 (3 ∷ []) (bytes24 a b c d e) (lent 4 7 1) ≡ record { answer = refuses 8; buffers = lent 4 7 1 }
   -- depth 2, size 1, masks 01 01 00 and 01 00 01, values 07 08 09: 38 bytes; reads as 01 01 00, 01 00 00, 07 00 00
   pub writes-38 : encoded depth2 (3 ∷ []) (array (1 ∷ 1 ∷ 0 ∷ 1 ∷ 0 ∷ 1 ∷ []) (7 ∷ 8 ∷ 9 ∷ []) []) (old 39) ≡ wrote 38 bytes38
   pub reads-38 : decoded depth2 (3 ∷ []) bytes38 (lent 7 4 1) ≡ gave 6 3 0 (1 ∷ 1 ∷ 0 ∷ 1 ∷ 0 ∷ 0 ∷ []) (7 ∷ 0 ∷ 0 ∷ []) []
   -- ragged "AB", "", width 4, end: 22 bytes; width 8, start: 34 bytes
   pub writes-22 : encoded raggedEnd (2 ∷ []) ab (old 23) ≡ wrote 22 bytes22
   pub writes-34 : encoded raggedStart (2 ∷ []) ab (old 35) ≡ wrote 34 bytes34
-  -- offsets 1, 2 over 41 42: one cell 42; a cut gives offsets 0, 1
-  pub one-cell : cellsOf raggedEnd 1 late ≡ (0x42 ∷ []) ∷ []
-  pub cut-packs : extracted raggedEnd (1 ∷ []) (0 ∷ 1 ∷ []) late (lent 1 2 3) ≡ gave 0 1 2 [] (0x42 ∷ []) (0 ∷ 1 ∷ [])
+  -- offsets 1, 2 over 41 42: a cut and a writing are 4, and stored it is 10; data behind a last offset of 0 is 8, before the 10 of offsets that decrease
+  pub late-cut : extracted raggedEnd (1 ∷ []) (0 ∷ 1 ∷ []) late (lent 1 2 3) ≡ record { answer = refuses 4; buffers = lent 1 2 3 }
+  pub late-written : encoded raggedEnd (1 ∷ []) late (old 30) ≡ record { answer = refuses 4; buffers = old 30 }
+  pub late-stored : decoded raggedEnd (1 ∷ []) (0x41 ∷ 0x42 ∷ (u32 1 ++ (u32 2 ++ u64 8))) (lent 1 2 3) ≡ record { answer = refuses 10; buffers = lent 1 2 3 }
+  pub hidden-data : decoded raggedEnd (1 ∷ []) (0x41 ∷ (u32 0 ++ (u32 0 ++ u64 8))) (lent 1 2 3) ≡ record { answer = refuses 8; buffers = lent 1 2 3 }
+  pub data-first : decoded raggedEnd (1 ∷ []) (0x41 ∷ (u32 5 ++ (u32 0 ++ u64 8))) (lent 1 2 3) ≡ record { answer = refuses 8; buffers = lent 1 2 3 }
+  pub then-offsets : decoded raggedEnd (1 ∷ []) (u32 5 ++ (u32 0 ++ u64 8)) (lent 1 2 3) ≡ record { answer = refuses 10; buffers = lent 1 2 3 }
+  -- also where all cells are empty, and in any chunk of a list
+  pub empty-cells : extracted raggedEnd (1 ∷ []) (0 ∷ 1 ∷ []) (array [] (0x41 ∷ []) (1 ∷ 1 ∷ [])) (lent 1 2 3) ≡ record { answer = refuses 4; buffers = lent 1 2 3 }
+  pub late-chunk : merged raggedEnd (2 ∷ []) (0 ∷ 1 ∷ 1 ∷ 1 ∷ []) (array [] (0x61 ∷ 0x62 ∷ 0x63 ∷ []) (0 ∷ 1 ∷ 1 ∷ 2 ∷ [])) (lent 0 3 4)
+      ≡ record { answer = refuses 4; buffers = lent 0 3 4 }
+  -- an inner frame behind a mask with nothing set is content
+  pub hidden-frame : decoded depth2 (1 ∷ []) (u64 1 ++ (u64 17 ++ (0 ∷ (u64 1 ++ (u64 0 ++ (0 ∷ [])))))) (lent 3 2 1) ≡ record { answer = refuses 8; buffers = lent 3 2 1 }
   -- older form, 2 cells: "A" and "", also with a byte appended; its first 11 bytes: 7; a first length of 05: 11
   pub older-form : interleavedDecoded 2 older (lentRagged 2 4) ≡ gaveRagged 1 3 (0x41 ∷ []) (0 ∷ 1 ∷ 1 ∷ [])
   pub older-tail : (b : ℕ) → interleavedDecoded 2 (older ++ (b ∷ [])) (lentRagged 2 4) ≡ gaveRagged 1 3 (0x41 ∷ []) (0 ∷ 1 ∷ 1 ∷ [])
@@ -152,10 +162,10 @@ pub record Lines : Type 0 where
   pub reads-packed : decoded packed1 (9 ∷ []) bytes21 (lent 10 10 1) ≡ gave 9 9 0 (1 ∷ 0 ∷ 1 ∷ 0 ∷ 0 ∷ 0 ∷ 0 ∷ 0 ∷ 1 ∷ []) (1 ∷ 0 ∷ 3 ∷ 0 ∷ 0 ∷ 0 ∷ 0 ∷ 0 ∷ 9 ∷ []) []
   pub unused-bit : decoded packed1 (1 ∷ []) (u64 1 ++ (u64 2 ++ (3 ∷ 7 ∷ 7 ∷ []))) (lent 1 1 0) ≡ record { answer = refuses 13; buffers = lent 1 1 0 }
   pub packed-long : decoded packed1 (1 ∷ []) (u64 2 ++ (u64 1 ++ (1 ∷ 2 ∷ 7 ∷ []))) (lent 1 1 0) ≡ record { answer = refuses 8; buffers = lent 1 1 0 }
-  -- S10.19: the older form written, bytes before the first offset dropped; a depth above 0 or a fixed kind is 1, before the shape;
+  -- S10.19: the older form written; a first offset above 0 is 4; a depth above 0 or a fixed kind is 1, before the shape;
   -- masks at depth 0 are 4; a short output is 6
   pub writes-older : interleavedEncoded raggedEnd (2 ∷ []) (array [] (0x41 ∷ []) (0 ∷ 1 ∷ 1 ∷ [])) (old 14) ≡ wrote 13 older
-  pub older-late : interleavedEncoded (byteKind 0 (ragged 4 atStart)) (1 ∷ []) late (old 10) ≡ wrote 9 (u32 1 ++ (u32 1 ++ (0x42 ∷ [])))
+  pub older-late : interleavedEncoded (byteKind 0 (ragged 4 atStart)) (1 ∷ []) late (old 10) ≡ record { answer = refuses 4; buffers = old 10 }
   pub older-depth : interleavedEncoded (byteKind 1 (ragged 4 atEnd)) [] (array [] [] []) (old 1) ≡ record { answer = refuses 1; buffers = old 1 }
   pub older-fixed : interleavedEncoded (byteKind 0 (fixed 1 little)) (1 ∷ []) (array [] (7 ∷ []) []) (old 9) ≡ record { answer = refuses 1; buffers = old 9 }
   pub older-masks : interleavedEncoded raggedEnd (1 ∷ []) (array (1 ∷ []) [] (0 ∷ 0 ∷ [])) (old 9) ≡ record { answer = refuses 4; buffers = old 9 }

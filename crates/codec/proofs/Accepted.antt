@@ -1,8 +1,7 @@
 -- What is read of stored ragged values keeps the rules of an array.
 -- Assumes nothing.
 use mathlib.Core.Path.{_≡_, refl, sym, _∙_, subst}
-use mathlib.Core.Logic.{inl, inr}
-use Prim.Native.Nat.{ℕ, zero, suc, _*_, _≤_}
+use Prim.Native.Nat.{ℕ, suc, _*_, _≤_}
 use native.Mathlib.Nat.{zero-mul}
 use native.Mathlib.Omega.{arith}
 use mathlib.Core.List.{List, map}
@@ -17,15 +16,10 @@ use Rattle.array.specs.Offsets.{last, Rising}
 use Rattle.array.specs.Content.{RaggedContent, unmasked, ArrayOk}
 use Rattle.array.proofs.Lists.{length-pieces}
 use Rattle.array.proofs.Refusals.{Kept, all-kept}
-use Rattle.codec.specs.Ragged.{partOf, leftOf, getRagged, DataOk, dataFor}
+use Rattle.codec.specs.Ragged.{partOf, leftOf, getRagged}
 use Rattle.codec.specs.Refusals.{dataRules, raggedRules}
 use Rattle.codec.proofs.Ragged.{check-gives}
 use Rattle.codec.proofs.Refusals.{ragged-order}
-
-data-length : (o : ℕ) (s : List ℕ) → DataOk o (length s) → o ≡ length (dataFor o s)
-data-length zero s p = refl
-data-length (suc o) s (inl e) = absurd (omega arith)
-data-length (suc o) s (inr e) = e
 
 -- offsets of n cells, and as many value bytes as the last of them says, at most so many
 abbrev RaggedOk : ℕ → RaggedContent → Type 0
@@ -53,14 +47,13 @@ module _ (w : ℕ) (p : Place) (s : List ℕ) (n : ℕ) (c : RaggedContent) (e :
   ragged-ok : RaggedOk n c
   unfolding getRagged
   ragged-ok =
-      let read : RaggedContent = record { values = dataFor (last offsets) bytes; offsets = offsets } in
+      let read : RaggedContent = record { values = bytes; offsets = offsets } in
       let is : getRagged w p s n ≡ gives read =
       rw (le-leb 8 (length s) (facts .0), le-leb indexLength (length behind) (facts .1 .0 .0), eq-eqb indexLength (w * suc n) (facts .1 .0 .1))
       (check-gives offsets bytes (of-data .0) (of-data .1 .0) (of-data .1 .1 .0)) in
       let same : read ≡ c = cc in
-      let ended : last offsets ≡ length (dataFor (last offsets) bytes) = data-length (last offsets) bytes (of-data .0) in
       subst (RaggedOk n) same
-      (length-map (pieces w (suc n) (partOf p indexLength behind)) unle ∙ length-pieces w (suc n) (partOf p indexLength behind), of-data .1 .0, ended, omega (arith, of-data .1 .1 .0))
+      (length-map (pieces w (suc n) (partOf p indexLength behind)) unle ∙ length-pieces w (suc n) (partOf p indexLength behind), of-data .1 .0, of-data .0, omega (arith, of-data .0, of-data .1 .1 .0))
 
   pub read-content : ArrayOk (byteKind 0 (ragged w p)) n (unmasked c)
   read-content = record { fits = record { masks-fit = sym (zero-mul n); values-fit = (ragged-ok .0, ragged-ok .1, ragged-ok .2) }; strict = tt }

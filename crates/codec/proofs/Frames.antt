@@ -134,6 +134,6 @@ module _ (mf : MaskForm) (laws : MaskLaws mf) (z : Value) (r : List ℕ → ℕ 
       inner : (ks : List (Cell d))
           → ((js : List (Cell d)) → All (StrictCell d) js → Good (live d js) → length (frame mf w d js) < 256 ^ 8 → readFrame mf z r d (frame mf w d js) (length js) ≡ gives (map (rest z d) js))
           → All (StrictCell d) ks → Good (live d ks) → length (unlessNone (frame mf w d) ks) < 256 ^ 8
-          → contentOf (length ks) (readFrame mf z r d (unlessNone (frame mf w d) ks)) ≡ gives (map (rest z d) ks)
+          → contentOf (length (unlessNone (frame mf w d) ks)) (length ks) (readFrame mf z r d (unlessNone (frame mf w d) ks)) ≡ gives (map (rest z d) ks)
       inner [] ih t g h = refl
       inner (k ∷ ks) ih t g h = ih (k ∷ ks) t g h

@@ -10,7 +10,7 @@ use Rattle.array.specs.Limits.{mostBytes, mostCells}
 use Rattle.array.specs.Lists.{joined, All}
 use Rattle.array.specs.Kind.{Kind, Masks, Form, fixed, ragged, FormOk}
 use Rattle.array.specs.Cells.{Value, Cell, maskOf, leaf}
-use Rattle.array.specs.Content.{Content, ContentOk, ValuesOk, leaves, cellsOf}
+use Rattle.array.specs.Content.{Content, ContentOk, leaves, cellsOf}
 use Rattle.array.proofs.Lists.{map-id}
 use Rattle.array.proofs.Sums.{sumOf, length-joined-map}
 use Rattle.array.proofs.Sizes.{OfSize, SizedAs}
@@ -18,11 +18,11 @@ use Rattle.array.proofs.LayoutLaws.{length-maskOf, cells-sized}
 use Rattle.codec.specs.Mask.{MaskForm, maskForm}
 use Rattle.codec.specs.Frame.{keepOne, keep, unlessNone, frame, live}
 use Rattle.codec.specs.Values.{putValues}
-use Rattle.codec.specs.Length.{lengthOrNone, frameLength, writtenLength, lengthBy}
-use Rattle.codec.specs.Calls.{written, storedForm}
+use Rattle.codec.specs.Length.{lengthOrNone, frameLength, writtenLength}
+use Rattle.codec.specs.Calls.{storedForm}
 use Rattle.codec.proofs.Frames.{length-keep-le, All-keep, length-wrap}
 use Rattle.codec.proofs.Masks.{mask-laws}
-use Rattle.codec.proofs.Values.{ragged-length, values-length, length-put-values}
+use Rattle.codec.proofs.Values.{values-length, length-put-values}
 
 -- ---- the sum over the levels
 
@@ -72,18 +72,11 @@ All-leaves P d (c ∷ cs) p = (p .0, All-leaves P d cs (p .1))
 pub sized-live : (f : Form) (d : ℕ) (cs : List (Cell d)) → SizedAs f (leaves d cs) → SizedAs f (live d cs)
 sized-live f d cs p = All-live (OfSize f) d cs (All-leaves (OfSize f) d cs p)
 
--- what encode writes is as long as document 01's sum
+-- what encode writes is as long as the sum
 pub written-length : (k : Kind) (n : ℕ) (c : Content) → ContentOk k n c → length (storedForm k n c) ≡ writtenLength k n c
-unfolding written
-written-length k n c ok = go (k .form) (k .depth) (cellsOf k n c) (All-leaves (OfSize (k .form)) (k .depth) (cellsOf k n c) (cells-sized k n c ok)) (ok .values-fit)
-  where
-    mf : MaskForm
-    mf = maskForm (k .masks)
-
-    go : (f : Form) (d : ℕ) (cs : List (Cell d)) → All (λ x. OfSize f (leaf d x)) cs → ValuesOk f n c → length (written mf f d cs c) ≡ lengthBy mf f d n cs c
-    go (fixed j o) d cs s v = frame-length mf (mask-laws (k .masks) .length-put) (fixed j o) d cs s
-    go (ragged w p) zero cs s v = ragged-length w p (record { values = c .values; offsets = c .offsets }) n (v .0)
-    go (ragged w p) (suc d) cs s v = frame-length mf (mask-laws (k .masks) .length-put) (ragged w p) (suc d) cs s
+written-length k n c ok =
+    let cs : List (Cell (k .depth)) = cellsOf k n c in
+    frame-length (maskForm (k .masks)) (mask-laws (k .masks) .length-put) (k .form) (k .depth) cs (All-leaves (OfSize (k .form)) (k .depth) cs (cells-sized k n c ok))
 
 -- ---- an upper bound
 

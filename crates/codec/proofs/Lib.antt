@@ -9,4 +9,5 @@ pub mod SpreadLaws
 pub mod Returns
 pub mod Refusals
 pub mod Accepted
+pub mod Flat
 pub mod Older

@@ -1,15 +1,13 @@
 -- Ragged values are read as they were written, for any width in which the offsets fit, and for both places.
 -- Assumes nothing.
 use mathlib.Core.Path.{_≡_, refl, sym, ap, ap₂, _∙_}
-use Prim.Native.Nat.{ℕ, zero, suc, _+_, _-_, _*_, _^_, _<_, _≤_}
+use Prim.Native.Nat.{ℕ, suc, _+_, _-_, _*_, _^_, _<_, _≤_}
 use native.Mathlib.Nat.{add-comm, mul-comm}
 use native.Mathlib.Omega.{arith}
-use mathlib.Core.Logic.{inl, inr}
-use mathlib.Core.Bool.{true}
 use mathlib.Core.List.{List, [], _∷_, _++_, map}
 use lib.ListN.{length, length-append, length-map}
 use lib.Seq.{take-at, drop-at}
-use borrow.Author.Tests.{le-leb, eq-eqb, eqb-true}
+use borrow.Author.Tests.{le-leb, eq-eqb}
 use Rattle.array.specs.Answer.{gives}
 use Rattle.array.specs.Limits.{mostBytes}
 use Rattle.array.specs.Lists.{pieces, All}
@@ -21,7 +19,7 @@ use Rattle.array.proofs.Bytes.{length-le, unle-le}
 use Rattle.array.proofs.Lists.{Sized, All-image, All-of, length-joined, pieces-joined}
 use Rattle.array.proofs.Offsets.{rising-below}
 use Rattle.array.proofs.Rules.{rising-test}
-use Rattle.codec.specs.Ragged.{put, partOf, leftOf, indexOf, putRagged, getRagged, checkRagged, DataOk, dataTest, dataFor}
+use Rattle.codec.specs.Ragged.{put, partOf, leftOf, indexOf, putRagged, getRagged, checkRagged}
 
 -- ---- a part at the start or at the end
 
@@ -56,26 +54,8 @@ index-back w os p =
 
 -- ---- the round trip
 
-pub data-test : (o n : ℕ) → DataOk o n → dataTest o n ≡ true
-data-test zero n p = refl
-data-test (suc o) n (inl e) = absurd (omega arith)
-data-test (suc o) n (inr e) = eq-eqb (suc o) n e
-
-pub data-ok : (o n : ℕ) → dataTest o n ≡ true → DataOk o n
-data-ok zero n e = inl refl
-data-ok (suc o) n e = inr (eqb-true (suc o) n e)
-
-pub data-for : (n : ℕ) (s : List ℕ) → n ≡ length s → dataFor n s ≡ s
-data-for zero [] e = refl
-data-for zero (x ∷ s) e = absurd (omega arith)
-data-for (suc n) s e = refl
-
-pub check-gives : (os s : List ℕ) → DataOk (last os) (length s) → Rising os → last os ≤ mostBytes → checkRagged os s ≡ gives (record { values = dataFor (last os) s; offsets = os })
-check-gives os s d p h = rw (data-test (last os) (length s) d, rising-test os p, le-leb (last os) mostBytes h)
-
-check-back : (os s : List ℕ) → Rising os → last os ≡ length s → length s ≤ mostBytes → checkRagged os s ≡ gives (record { values = s; offsets = os })
-check-back os s p e h =
-    check-gives os s (inr e) p (omega arith) ∙ ap (λ (t : List ℕ). gives (record { values = t; offsets = os })) (data-for (last os) s e)
+pub check-gives : (os s : List ℕ) → last os ≡ length s → Rising os → last os ≤ mostBytes → checkRagged os s ≡ gives (record { values = s; offsets = os })
+check-gives os s e p h = rw (eq-eqb (last os) (length s) e, rising-test os p, le-leb (last os) mostBytes h)
 
 -- for any width in which the offsets fit
 pub back-ragged : (w : ℕ) (p : Place) (c : RaggedContent) (n : ℕ) → mostBytes < 256 ^ w → length (c .offsets) ≡ suc n → Rising (c .offsets)
@@ -102,4 +82,4 @@ back-ragged w p c n fit en r e h small =
       part-put p index s (length index) refl,
       left-put p index s (length index) refl,
     )
-    (ap (λ (x : List ℕ). checkRagged x s) back ∙ check-back os s r e h)
+    (ap (λ (x : List ℕ). checkRagged x s) back ∙ check-gives os s e r (omega arith))

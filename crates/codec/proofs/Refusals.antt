@@ -29,12 +29,11 @@ use Rattle.codec.specs.Values.{getValues}
 use Rattle.codec.specs.Interleaved.{interleavedCells, InterleavedOk, interleavedTest, IsRagged, raggedTest}
 use Rattle.codec.specs.Calls.{readIn, encodeAnswer, encoded, decodeAnswer, decoded, interleavedAnswer, interleavedDecoded, encodeInterleavedAnswer, interleavedEncoded}
 use Rattle.codec.specs.Refusals.{dataRules, indexRules, raggedRules, valueRules, maskRules, contentRules, frameRules, cellRules, Refusals}
-use Rattle.codec.proofs.Ragged.{data-test, data-ok}
 
 -- ---- stored bytes
 
 data-order : (os s : List ℕ) → InOrder (dataRules os s) (checkRagged os s)
-data-order os s = stage 8 (data-test (last os) (length s)) (data-ok (last os) (length s)) (stage 10 (rising-test os) (rising-ok os) (stage 5 (size-test (last os)) (size-ok (last os)) success))
+data-order os s = stage-eq 8 _ _ (stage 10 (rising-test os) (rising-ok os) (stage 5 (size-test (last os)) (size-ok (last os)) success))
 
 module _ (w : ℕ) (p : Place) (l : ℕ) (s : List ℕ) (n : ℕ) where
   abbrev checked : Answer RaggedContent
@@ -65,9 +64,10 @@ unfolding getValues
 value-order (fixed k o) s n = stage-eq 8 _ _ success
 value-order (ragged w p) s n = named _ (ragged-order w p s n)
 
-content-order : {A : Type 0} (n : ℕ) (rules : ℕ → List Rule) (f : ℕ → Answer (List A)) → ((m : ℕ) → InOrder (rules m) (f m)) → InOrder (contentRules n rules) (contentOf n f)
-content-order zero rules f h = success
-content-order (suc n) rules f h = h (suc n)
+content-order : {A : Type 0} (c n : ℕ) (rules : ℕ → List Rule) (f : ℕ → Answer (List A)) → ((m : ℕ) → InOrder (rules m) (f m))
+    → InOrder (contentRules c n rules) (contentOf c n f)
+content-order c zero rules f h = stage-eq 8 _ _ success
+content-order c (suc n) rules f h = h (suc n)
 
 -- the mask bytes or the unused bits, and then what goes by the mask
 zeros-test : (bs : List ℕ) → All (λ b. b ≡ 0) bs → every (eqb 0) bs ≡ true
@@ -96,13 +96,11 @@ frame-order x f (suc d) s n =
     let mask : List ℕ = take m (drop 16 s) in
     let said : List ℕ = maskForm x .said mask n in
     stage-le 7 _ _ (stage-eq 8 _ _ (stage-eq 8 _ _
-    (mask-order x mask n _ (named (expand (blank (nullOf f) d) said) (content-order (countSet said) _ _ (frame-order x f d (drop m (drop 16 s))))))))
+    (mask-order x mask n _ (named (expand (blank (nullOf f) d) said) (content-order _ (countSet said) _ _ (frame-order x f d (drop m (drop 16 s))))))))
 
 read-order : (x : Masks) (f : Form) (d : ℕ) (s : List ℕ) (n : ℕ) → InOrder (frameRules x f d s n) (readIn (maskForm x) f d n s)
 unfolding readIn
-read-order x (fixed k o) d s n = named _ (frame-order x (fixed k o) d s n)
-read-order x (ragged w p) zero s n = named _ (ragged-order w p s n)
-read-order x (ragged w p) (suc d) s n = named _ (frame-order x (ragged w p) (suc d) s n)
+read-order x f d s n = named _ (frame-order x f d s n)
 
 cell-order : (n : ℕ) (s : List ℕ) → InOrder (cellRules n s) (interleavedCells n s)
 unfolding interleavedCells

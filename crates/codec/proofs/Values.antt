@@ -52,7 +52,7 @@ fits-width w (inr e) = rw e (lit< tt)
 pub back-offsets : (w : ℕ) (p : Place) → (w ≡ 4) ⊎ (w ≡ 8) → (vs : List Value) → length (joined vs) ≤ mostBytes
     → length (putRagged w p (endToEnd vs)) < 256 ^ 8 → getRagged w p (putRagged w p (endToEnd vs)) (length vs) ≡ gives (endToEnd vs)
 back-offsets w p ok vs g h =
-    back-ragged w p (endToEnd vs) (length vs) (fits-width w ok) (ap suc (length-ends 0 vs)) (rising-ends 0 vs)
+    back-ragged w p (endToEnd vs) (length vs) (fits-width w ok) (ap suc (length-ends 0 vs)) (refl, rising-ends 0 vs)
     (last-ends 0 vs ∙ zero-add (length (joined vs))) g h
 
 pub back-values : (f : Form) → FormOk f → (vs : List Value) → SizedAs f vs × (length (joined vs) ≤ mostBytes)

@@ -1,6 +1,6 @@
 -- docs/SPEC.md, part 6: the public calls of this layer. What each answers, with the refusals in their order, and what it leaves in the outputs.
 -- Assumes nothing.
-use Prim.Native.Nat.{ℕ, zero, suc, _*_}
+use Prim.Native.Nat.{ℕ, suc, _*_}
 use mathlib.Core.List.{List}
 use lib.ListN.{length, take, drop}
 use lib.Dec.{leb, eqb}
@@ -8,28 +8,20 @@ use Rattle.array.specs.Answer.{Answer, gives, unless, andThen, Outcome}
 use Rattle.array.specs.Limits.{mostCells}
 use Rattle.array.specs.Lists.{joined}
 use Rattle.array.specs.Bytes.{unle}
-use Rattle.array.specs.Kind.{Kind, Form, fixed, ragged, nullOf, kindTest}
+use Rattle.array.specs.Kind.{Kind, Form, nullOf, kindTest}
 use Rattle.array.specs.Shape.{volume, shapeTest}
-use Rattle.array.specs.Cells.{Cell}
-use Rattle.array.specs.Content.{Content, RaggedContent, endToEnd, unmasked, layout, cellsOf, valuesIn, sizeTest, unlessKept}
+use Rattle.array.specs.Content.{Content, RaggedContent, endToEnd, layout, cellsOf, valuesIn, sizeTest, unlessKept}
 use Rattle.array.specs.Buffers.{Lengths, RaggedLengths, lengthsOf, raggedLengthsOf, enoughTest, raggedEnoughTest, listOutcome, raggedOutcome, contentOutcome}
 use Rattle.codec.specs.Mask.{MaskForm, maskForm}
 use Rattle.codec.specs.Frame.{frame, readFrame}
-use Rattle.codec.specs.Ragged.{putRagged, getRagged}
 use Rattle.codec.specs.Values.{putValues, getValues}
 use Rattle.codec.specs.Interleaved.{interleavedCells, putInterleaved, interleavedTest}
 
 -- ---- encode
 
--- at depth 0 ragged values are written just as they are, bytes before the first offset included
-unfoldable pub written : MaskForm → Form → (d : ℕ) → List (Cell d) → Content → List ℕ
-written mf (fixed k o) d cs c = frame mf (putValues (fixed k o)) d cs
-written mf (ragged w p) zero cs c = putRagged w p (record { values = c .values; offsets = c .offsets })
-written mf (ragged w p) (suc d) cs c = frame mf (putValues (ragged w p)) (suc d) cs
-
 -- the stored form of an array of n cells
 abbrev pub storedForm : Kind → ℕ → Content → List ℕ
-storedForm k n c = written (maskForm (k .masks)) (k .form) (k .depth) (cellsOf k n c) c
+storedForm k n c = frame (maskForm (k .masks)) (putValues (k .form)) (k .depth) (cellsOf k n c)
 
 unfoldable pub encodeAnswer : Kind → List ℕ → Content → ℕ → Answer (List ℕ)
 encodeAnswer k shape c room =
@@ -45,11 +37,9 @@ encoded k shape c out = listOutcome (encodeAnswer k shape c (length out)) out
 
 -- ---- decode
 
--- at depth 0 ragged values are handed out just as they are; at depth 1 to 4 end to end from offset 0
+-- the content that n stored cells are laid out as
 unfoldable pub readIn : MaskForm → Form → (d n : ℕ) → List ℕ → Answer Content
-readIn mf (fixed k o) d n s = andThen (readFrame mf (nullOf (fixed k o)) (getValues (fixed k o)) d s n) (λ cs. gives (layout (fixed k o) d cs))
-readIn mf (ragged w p) zero n s = andThen (getRagged w p s n) (λ x. gives (unmasked x))
-readIn mf (ragged w p) (suc d) n s = andThen (readFrame mf (nullOf (ragged w p)) (getValues (ragged w p)) (suc d) s n) (λ cs. gives (layout (ragged w p) (suc d) cs))
+readIn mf f d n s = andThen (readFrame mf (nullOf f) (getValues f) d s n) (λ cs. gives (layout f d cs))
 
 unfoldable pub decodeAnswer : Kind → List ℕ → List ℕ → Lengths → Answer Content
 decodeAnswer k shape s room =
@@ -81,7 +71,6 @@ interleavedDecoded n s out = raggedOutcome (interleavedAnswer n s (raggedLengths
 
 -- ---- encode_interleaved: an array of depth 0 in the older form (docs/SPEC.md, S5.4, S6.16)
 
--- bytes before the first offset are in no cell, so they are not written
 abbrev pub interleavedForm : Kind → ℕ → Content → List ℕ
 interleavedForm k n c = putInterleaved (valuesIn (k .form) n c)
 

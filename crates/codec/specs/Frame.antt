@@ -1,4 +1,4 @@
--- Frames (document 01, item 5): mask length, content length, mask, content. The content covers only the cells set in the mask, as a
+-- docs/SPEC.md, S4.6 to S4.8: frames. Mask length, content length, mask, content. The content covers only the cells set in the mask, as a
 -- frame of the next level, or, at the innermost, as values, which `w` writes and `r` reads. mf is how the mask lies in bytes.
 -- Assumes nothing.
 use Prim.Native.Nat.{ℕ, zero, suc, _+_}
@@ -77,10 +77,10 @@ frame mf w (suc d) cs = wrap (mf .put (maskOf cs)) (unlessNone (frame mf w d) (k
 
 -- ---- reading
 
--- with no cell set the content is not looked at
-abbrev pub contentOf : {A : Type 0} → ℕ → (ℕ → Answer (List A)) → Answer (List A)
-contentOf zero f = gives []
-contentOf (suc k) f = f (suc k)
+-- content of c bytes for so many cells: with no cell set it must be empty
+abbrev pub contentOf : {A : Type 0} → ℕ → ℕ → (ℕ → Answer (List A)) → Answer (List A)
+contentOf c zero f = unless (eqb c 0) 8 (gives [])
+contentOf c (suc k) f = f (suc k)
 
 -- a frame of n cells in bytes of length len: its two length fields m and c, its mask, and what reads its content of so many cells
 abbrev pub openFrame : {A : Type 0} → MaskForm → A → ℕ → ℕ → ℕ → List ℕ → ℕ → (ℕ → Answer (List A)) → Answer (List (ℕ × A))
@@ -89,7 +89,7 @@ openFrame mf b len m c mask n content =
     (unless (eqb len (16 + m + c)) 8
     (unless (eqb m (mf .size n)) 8
     (andThen (getMask mf mask n) (λ ms.
-    andThen (contentOf (countSet ms) content) (λ xs. gives (expand b ms xs))))))
+    andThen (contentOf c (countSet ms) content) (λ xs. gives (expand b ms xs))))))
 
 -- z is the value of a null cell
 unfoldable pub readFrame : MaskForm → Value → (List ℕ → ℕ → Answer (List Value)) → (d : ℕ) → List ℕ → ℕ → Answer (List (Cell d))

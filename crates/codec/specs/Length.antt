@@ -1,4 +1,4 @@
--- The written length (document 01, item 5): the sum over the levels, outermost first.
+-- docs/SPEC.md, S4.10: the written length, the sum over the levels, outermost first.
 -- Assumes nothing.
 use Prim.Native.Nat.{ℕ, zero, suc, _+_, _*_}
 use mathlib.Core.List.{List, [], _∷_}
@@ -27,12 +27,6 @@ unfoldable pub frameLength : MaskForm → Form → (d : ℕ) → List (Cell d) �
 frameLength mf f zero cs = valuesLength f cs
 frameLength mf f (suc d) cs = 16 + mf .size (length cs) + lengthOrNone (frameLength mf f d) (keep cs)
 
--- at depth 0 all value bytes are written, those before the first offset too
-abbrev pub lengthBy : MaskForm → Form → (d n : ℕ) → List (Cell d) → Content → ℕ
-lengthBy mf (fixed k o) d n cs c = frameLength mf (fixed k o) d cs
-lengthBy mf (ragged w p) zero n cs c = raggedLength w n (length (c .values))
-lengthBy mf (ragged w p) (suc d) n cs c = frameLength mf (ragged w p) (suc d) cs
-
 -- the written length of an array of n cells
 abbrev pub writtenLength : Kind → ℕ → Content → ℕ
-writtenLength k n c = lengthBy (maskForm (k .masks)) (k .form) (k .depth) n (cellsOf k n c) c
+writtenLength k n c = frameLength (maskForm (k .masks)) (k .form) (k .depth) (cellsOf k n c)

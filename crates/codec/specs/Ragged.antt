@@ -1,11 +1,8 @@
--- Ragged values with their index (document 01, item 4), for any width of an offset and for both places of the index.
+-- docs/SPEC.md, S4.3 and S4.4: ragged values with their index, for any width of an offset and for both places of the index.
 -- Place start: index length (8 bytes), index, data. Place end: data, index, index length.
 -- Assumes nothing.
-use Prim.Native.Nat.{ℕ, zero, suc, _+_, _-_, _*_}
-use mathlib.Core.Path.{_≡_}
-use mathlib.Core.Logic.{_⊎_}
-use mathlib.Core.List.{List, [], _++_, map}
-use mathlib.Core.Bool.{Bool, true}
+use Prim.Native.Nat.{ℕ, suc, _+_, _-_, _*_}
+use mathlib.Core.List.{List, _++_, map}
 use lib.ListN.{length, take, drop}
 use lib.Dec.{leb, eqb}
 use Rattle.array.specs.Answer.{Answer, gives, unless}
@@ -54,24 +51,12 @@ dataAt atEnd i = 0
 
 -- ---- reading
 
--- with a last offset of 0 the data is not looked at: the rule for n data bytes, and the test of it
-abbrev pub DataOk : ℕ → ℕ → Type 0
-DataOk o n = (o ≡ 0) ⊎ (o ≡ n)
-
-abbrev pub dataTest : ℕ → ℕ → Bool
-dataTest zero n = true
-dataTest (suc o) n = eqb (suc o) n
-
-abbrev pub dataFor : ℕ → List ℕ → List ℕ
-dataFor zero s = []
-dataFor (suc o) s = s
-
 -- offsets and data that were taken apart
 abbrev pub checkRagged : List ℕ → List ℕ → Answer RaggedContent
 checkRagged os s =
-    unless (dataTest (last os) (length s)) 8
+    unless (eqb (last os) (length s)) 8
     (unless (risingTest os) 10
-    (unless (sizeTest (last os)) 5 (gives (record { values = dataFor (last os) s; offsets = os }))))
+    (unless (sizeTest (last os)) 5 (gives (record { values = s; offsets = os }))))
 
 -- an index of l bytes for n cells, in what the index length leaves
 abbrev pub openRagged : ℕ → Place → ℕ → List ℕ → ℕ → Answer RaggedContent

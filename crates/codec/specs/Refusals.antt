@@ -17,7 +17,7 @@ use Rattle.array.specs.Buffers.{lengthsOf, raggedLengthsOf, Enough, RaggedEnoug
 use Rattle.array.specs.Refusals.{Rule, InOrder, Given}
 use Rattle.codec.specs.Mask.{maskForm, bitsOf}
 use Rattle.codec.specs.Frame.{countSet}
-use Rattle.codec.specs.Ragged.{partOf, leftOf, DataOk}
+use Rattle.codec.specs.Ragged.{partOf, leftOf}
 use Rattle.codec.specs.Interleaved.{interleavedCells, InterleavedOk}
 use Rattle.codec.specs.Calls.{storedForm, readIn, encoded, decoded, interleavedDecoded, interleavedForm, interleavedEncoded}
 
@@ -25,7 +25,7 @@ use Rattle.codec.specs.Calls.{storedForm, readIn, encoded, decoded, inte
 
 -- offsets and data
 abbrev pub dataRules : List ℕ → List ℕ → List Rule
-dataRules os s = (8, DataOk (last os) (length s)) ∷ (10, Rising os) ∷ (5, last os ≤ mostBytes) ∷ []
+dataRules os s = (8, last os ≡ length s) ∷ (10, Rising os) ∷ (5, last os ≤ mostBytes) ∷ []
 
 -- an index of l bytes for n cells, in what the index length leaves
 abbrev pub indexRules : ℕ → Place → ℕ → List ℕ → ℕ → List Rule
@@ -44,10 +44,10 @@ abbrev pub maskRules : Masks → List ℕ → ℕ → List Rule
 maskRules asBytes mask n = (14, All Strict mask) ∷ []
 maskRules asBits mask n = (13, All (λ b. b ≡ 0) (drop n (bitsOf mask))) ∷ []
 
--- with no cell set the content is not looked at
-abbrev pub contentRules : ℕ → (ℕ → List Rule) → List Rule
-contentRules zero rules = []
-contentRules (suc n) rules = rules (suc n)
+-- content of c bytes for so many cells: with no cell set it is empty
+abbrev pub contentRules : ℕ → ℕ → (ℕ → List Rule) → List Rule
+contentRules c zero rules = (8, c ≡ 0) ∷ []
+contentRules c (suc n) rules = rules (suc n)
 
 -- d levels of frames of n cells, the outermost first, and then the values; x is how masks lie
 abbrev pub frameRules : Masks → Form → (d : ℕ) → List ℕ → ℕ → List Rule
@@ -57,7 +57,7 @@ frameRules x f (suc d) s n =
     let c = unle (take 8 (drop 8 s)) in
     let mask = take m (drop 16 s) in
     (7, 16 ≤ length s) ∷ (8, length s ≡ 16 + m + c) ∷ (8, m ≡ maskForm x .size n)
-    ∷ (maskRules x mask n ++ contentRules (countSet (maskForm x .said mask n)) (frameRules x f d (drop m (drop 16 s))))
+    ∷ (maskRules x mask n ++ contentRules c (countSet (maskForm x .said mask n)) (frameRules x f d (drop m (drop 16 s))))
 
 -- n cells of the older form
 abbrev pub cellRules : ℕ → List ℕ → List Rule
