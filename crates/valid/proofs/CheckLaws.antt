@@ -1,4 +1,4 @@
--- The check of the array's rules: offsets that never fall, turn by turn; what content fits; what a check's answer says of the array.
+-- The check of the array's rules: offsets that begin at 0 and never fall, turn by turn; what content fits; what a check's answer says of the array.
 -- Assumes nothing.
 use mathlib.Core.Path.{_≡_, refl, sym, ap, ap₂, _∙_}
 use Prim.Native.Nat.{ℕ, zero, suc, _+_, _-_, _*_, _<_, _≤_}
@@ -32,19 +32,19 @@ and-assoc : (a b c : Bool) → a && (b && c) ≡ a && b && c
 and-assoc true b c = refl
 and-assoc false b c = refl
 
--- ---- offsets that never fall: what the first i of them say, and what is left
+-- ---- offsets that begin at 0 and never fall: what the first i of them say, and what is left
 
 pub record Rise (os : List ℕ) (n : ℕ) (so-far : Bool) (i : ℕ) : Type 0 where
   pub enough : n < length os
   pub within : i ≤ n
   pub same : risingTest (take (suc n) os) ≡ so-far && risingFromTest (getD os i 0) (take (n - i) (drop (suc i) os))
 
-pub rise-begins : {os : List ℕ} {n : ℕ} → n < length os → Rise os n true 0
+pub rise-begins : {os : List ℕ} {n : ℕ} → n < length os → Rise os n (eqb (getD os 0 0) 0) 0
 rise-begins {os} {n} h = record { enough = h; within = omega arith; same = go os h }
   where
-    go : (xs : List ℕ) → n < length xs → risingTest (take (suc n) xs) ≡ risingFromTest (getD xs 0 0) (take (n - 0) (drop 1 xs))
+    go : (xs : List ℕ) → n < length xs → risingTest (take (suc n) xs) ≡ eqb (getD xs 0 0) 0 && risingFromTest (getD xs 0 0) (take (n - 0) (drop 1 xs))
     go [] l = absurd (omega arith)
-    go (x ∷ xs) l = let z : n ≡ n - 0 = omega arith in ap (λ (k : ℕ). risingFromTest x (take k xs)) z
+    go (x ∷ xs) l = let z : n ≡ n - 0 = omega arith in ap (λ (k : ℕ). eqb x 0 && risingFromTest x (take k xs)) z
 
 module _ {os : List ℕ} {n i : ℕ} {b : Bool} (c : Rise os n b i) where
   pub rise-ends : n ≤ i → b ≡ risingTest (take (suc n) os)

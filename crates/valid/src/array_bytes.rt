@@ -1,5 +1,5 @@
-// The array's rules: lengths that agree with the kind and the count of cells, offsets that never fall, mask bytes 00 and 01, few enough
-// value bytes.
+// The array's rules: lengths that agree with the kind and the count of cells, offsets that begin at 0 and never fall, mask bytes 00 and 01,
+// few enough value bytes.
 ghost use mathlib.Core.Path.{_≡_};
 ghost use mathlib.Core.Bool.{_&&_};
 ghost use Prim.Native.Nat.{suc, _≤_, _<_};
@@ -31,12 +31,12 @@ fn still_rises(rising: bool, a: u64, b: u64) -> bool
     rising && a <= b
 }
 
-// Whether the first n + 1 offsets never fall. All are looked at, so that no turn waits for a branch.
-pub fn never_fall(offsets: &[u64], n: usize) -> bool
+// Whether the first n + 1 offsets begin at 0 and never fall. All are looked at, so that no turn waits for a branch.
+fn rise_from_zero(offsets: &[u64], n: usize) -> bool
     requires { ⌜ n < length (now offsets) ⌝ }
     ensures { λ r. ⌜ r ≡ risingTest (take (suc n) (now (offsets .entry))) ⌝ }
 {
-    let mut rising = true;
+    let mut rising = offsets[0] == 0;
     let mut i: usize = 0;
     while i < n {
         rising = still_rises(rising, offsets[i], offsets[i + 1]);
@@ -66,7 +66,7 @@ fn content_fits(kind: Kind, cells: usize, masks: &[u8], values: &[u8], offsets: 
             if offsets.len() != cells + 1 {
                 return false;
             }
-            if !never_fall(offsets, cells) {
+            if !rise_from_zero(offsets, cells) {
                 return false;
             }
             let last = offsets[cells] as usize;

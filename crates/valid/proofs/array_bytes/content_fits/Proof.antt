@@ -64,8 +64,8 @@ returns-3 c =
     by-form (a .args .kind) (a .args .cells) (content a) _ (f .1) (c .before .before .before .if1 .left)
     (offsets-miscounted (a .args .cells) (content a) (widthOf (f .0 .0)) (placeOf (f .0 .1 .0)) (c .if3 .taken))
 
-never-fall-requires : tie.Need-never-fall-requires
-never-fall-requires c κs = search needs
+rise-from-zero-requires : tie.Need-rise-from-zero-requires
+rise-from-zero-requires c κs = search needs
 
 returns-4 : tie.Need-returns-4
 returns-4 c =
@@ -73,7 +73,7 @@ returns-4 c =
     let a = entered (raggedCase told) in
     let f = told .enum-told .given in
     by-form (a .args .kind) (a .args .cells) (content a) _ (f .1) (told .before .before .if1 .left)
-    (offsets-fall (a .args .cells) (content a) (widthOf (f .0 .0)) (placeOf (f .0 .1 .0)) (c .before .before .if3 .left) _ (c .before .never-fall .ensures) (c .if4 .taken))
+    (offsets-fall (a .args .cells) (content a) (widthOf (f .0 .0)) (placeOf (f .0 .1 .0)) (c .before .before .if3 .left) _ (c .before .rise-from-zero .ensures) (c .if4 .taken))
 
 mul-last : tie.Need-mul-last
 mul-last c = search needs
@@ -94,7 +94,7 @@ returns-6 c =
     let a = entered (raggedCase told) in
     let f = told .enum-told .given in
     by-form (a .args .kind) (a .args .cells) (content a) _ (f .1) (told .before .before .if1 .left)
-    (offsets-rise (a .args .cells) (content a) (widthOf (f .0 .0)) (placeOf (f .0 .1 .0)) (c .before .before .before .if3 .left) _ (c .before .before .never-fall .ensures) (c .before .if4 .left))
+    (offsets-rise (a .args .cells) (content a) (widthOf (f .0 .0)) (placeOf (f .0 .1 .0)) (c .before .before .before .if3 .left) _ (c .before .before .rise-from-zero .ensures) (c .before .if4 .left))
 
 pub content-fits-spec : {M : Type 1} → statement M
 content-fits-spec =
@@ -110,7 +110,7 @@ content-fits-spec =
     enum-told
     add-if3
     returns-3
-    never-fall-requires
+    rise-from-zero-requires
     returns-4
     mul-last
     shared-slice-read-last

@@ -1,4 +1,4 @@
--- `valid::array_bytes::never_fall` meets its contract, by the laws of Rise.
+-- `valid::array_bytes::rise_from_zero` meets its contract, by the laws of Rise.
 -- Assumes nothing.
 use Prim.Native.Nat.{_+_, _-_}
 use mathlib.Core.Path.{sym, subst}
@@ -6,8 +6,8 @@ use mathlib.Core.Bool.{Bool}
 use native.Mathlib.Omega.{arith}
 use borrow.Author.Needs.{needs}
 use Rattle.valid.proofs.CheckLaws.{Rise, rise-begins, rise-ends, rise-more}
-use Rattle.valid.proofs.array_bytes.never_fall.Statement.{statement}
-use Rattle.valid.proofs.array_bytes.never_fall.Tie as tie
+use Rattle.valid.proofs.array_bytes.rise_from_zero.Statement.{statement}
+use Rattle.valid.proofs.array_bytes.rise_from_zero.Tie as tie
 
 abbrev Inv-loop : tie.InvT-loop
 Inv-loop offsets n rising₀ i₀ rising i = Rise offsets n rising i
@@ -15,8 +15,11 @@ Inv-loop offsets n rising₀ i₀ rising i = Rise offsets n rising i
 abbrev μ-loop : tie.MeasureT-loop
 μ-loop offsets n rising₀ i₀ rising i = n - i
 
+shared-slice-read-rising : tie.Need-shared-slice-read-rising Inv-loop μ-loop
+shared-slice-read-rising c = search needs
+
 loop-holds : tie.Need-loop-holds Inv-loop μ-loop
-loop-holds c = rise-begins (c .before .pre)
+loop-holds c = rise-begins (c .before .before .pre)
 
 mul-still-rises : tie.Need-mul-still-rises Inv-loop μ-loop
 mul-still-rises c = search needs
@@ -44,18 +47,22 @@ loop-less c = omega arith
 
 loop-again : tie.Need-loop-again Inv-loop μ-loop
 loop-again c =
-    subst (λ (b : Bool). Rise (c .before .before .before .before .before .before .args .offsets .now) (c .before .before .before .before .before .before .args .n) b (c .before .before .before .before .loop .i + 1)) (sym (c .still-rises .ensures))
-    (rise-more (c .before .before .before .before .loop .inv) (c .before .before .before .loop-test .taken))
+    let turn = c .before .before .before in
+    let head = turn .before in
+    let start = head .before .before .before in
+    subst (λ (b : Bool). Rise (start .args .offsets .now) (start .args .n) b (head .loop .i + 1)) (sym (c .still-rises .ensures))
+    (rise-more (head .loop .inv) (turn .loop-test .taken))
 
 returns : tie.Need-returns Inv-loop μ-loop
 returns c = rise-ends (c .before .loop .inv) (omega arith)
 
-pub never-fall-spec : {M : Type 1} → statement M
-never-fall-spec =
+pub rise-from-zero-spec : {M : Type 1} → statement M
+rise-from-zero-spec =
     tie.close
     (tie.spec
     Inv-loop
     μ-loop
+    shared-slice-read-rising
     loop-holds
     mul-still-rises
     shared-slice-read-still-rises
