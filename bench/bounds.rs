@@ -88,6 +88,7 @@ pub fn write_checked(
     let cells = cells_of(shape)?;
     if !masks.is_empty()
         || offsets.len() as u64 != cells + 1
+        || offsets[0] != 0
         || !offsets.is_sorted()
         || offsets[cells as usize] != values.len() as u64
     {
@@ -96,7 +97,7 @@ pub fn write_checked(
     if values.len() > 16_777_216 {
         return Err("too many value bytes");
     }
-    if out.capacity() < 4 + 4 * cells as usize + (values.len() - offsets[0] as usize) {
+    if out.capacity() < 4 + 4 * cells as usize + values.len() {
         return Err("no room");
     }
     put_older(cells, values, offsets, out)

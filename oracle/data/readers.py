@@ -34,13 +34,13 @@ class Archive:
         self.call.argtypes = [Kind] + slices + [ctypes.c_void_p]
         self.call.restype = ctypes.c_uint32
 
-    def prepared(self, items, shape, before, width, place):
+    def prepared(self, items, shape, width, place):
         """A call on these items, with the output that it writes to and the length that it names."""
-        offsets = [len(before)]
+        offsets = [0]
         for item in items:
             offsets.append(offsets[-1] + len(item))
-        values = before + b"".join(items)
-        need = 4 + 4 * len(items) + len(values) - len(before)
+        values = b"".join(items)
+        need = 4 + 4 * len(items) + len(values)
         out = ctypes.create_string_buffer(need)
         length = numbers([0])
         kept = (numbers(shape), numbers(offsets), values)
@@ -51,8 +51,8 @@ class Archive:
 
         return call, out, length
 
-    def encode(self, items, shape, before=b"", width=4, place=0):
-        call, out, length = self.prepared(items, shape, before, width, place)
+    def encode(self, items, shape, width, place):
+        call, out, length = self.prepared(items, shape, width, place)
         answer = call()
         assert answer == 0, "refused with %d" % answer
         assert length[0] == len(out), "%d bytes, not %d" % (length[0], len(out))
@@ -84,8 +84,7 @@ def read_alike(archive, rng, number):
         items = [text.encode("utf-8") for text in texts]
     else:
         items = [rng.randbytes(rng.randint(0, most)) for _ in range(cells)]
-    before = rng.randbytes(rng.choice([0, 0, 1, 40]))
-    stored = archive.encode(items, shape_of(rng, cells), before, rng.choice([4, 8]), rng.choice([0, 1]))
+    stored = archive.encode(items, shape_of(rng, cells), rng.choice([4, 8]), rng.choice([0, 1]))
     assert [bytes(item) for item in VLenBytes().decode(stored)] == items, "VLenBytes, table %d" % number
     assert stored == bytes(VLenBytes().encode(objects(items))), "other bytes, table %d" % number
     if texts is not None:
@@ -109,7 +108,7 @@ def timed(archive, rng):
         items = [rng.randbytes(length()) for _ in range(65536)]
         array = objects(items)
         codec = VLenBytes()
-        call, _, _ = archive.prepared(items, [65536], b"", 4, 0)
+        call, _, _ = archive.prepared(items, [65536], 4, 0)
         ours, theirs = best(call), best(lambda: codec.encode(array))
         print("  %-14s %8.2f %8.2f   %.1f times" % (name, ours / 65536, theirs / 65536, theirs / ours))
 

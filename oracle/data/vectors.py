@@ -48,13 +48,13 @@ def listed_bytes(some):
     return " ".join([str(len(some))] + ([some.hex()] if some else []))
 
 
-def written(items, stored, width, place, before):
-    """The items as ragged values of depth 0, behind bytes that no cell has, and what numcodecs writes for them."""
-    offsets = [len(before)]
+def written(items, stored, width, place):
+    """The items as ragged values of depth 0, and what numcodecs writes for them."""
+    offsets = [0]
     for item in items:
         offsets.append(offsets[-1] + len(item))
     kind = "0 1 %d %d 0" % (width, place)
-    words = ["9", kind, listed([len(items)]), "0", listed_bytes(before + b"".join(items)), listed(offsets), "0", listed_bytes(stored)]
+    words = ["9", kind, listed([len(items)]), "0", listed_bytes(b"".join(items)), listed(offsets), "0", listed_bytes(stored)]
     text = " ".join(words)
     if len(text) <= 4096:
         print(text)
@@ -118,11 +118,10 @@ def main():
             assert refused(VLenBytes(), cut)
             line(len(decoded), cut, 7 if len(cut) < 4 * (1 + len(decoded)) else 11)
 
-    print("# what numcodecs writes for the items of an array; bytes before the first offset are in no item")
+    print("# what numcodecs writes for the items of an array")
     for number, (stored, decoded) in enumerate(whole):
         if decoded:
-            before = b"" if number % 3 else rng.randbytes(rng.randint(1, 9))
-            written(decoded, stored, 4 + 4 * (number % 2), number // 2 % 2, before)
+            written(decoded, stored, 4 + 4 * (number % 2), number // 2 % 2)
 
 
 main()

@@ -81,13 +81,13 @@ def cut(shape, cells, subset):
     return [c for c, at in zip(cells, places) if all(s <= x < s + n for x, s, n in zip(at, starts, lengths))]
 
 
-def content(kind, cells, before=b""):
-    """Mask planes, outermost first; values; offsets, of a ragged kind, behind bytes that are in no cell."""
+def content(kind, cells):
+    """Mask planes, outermost first; values; offsets, of a ragged kind."""
     planes = [[masks[level] for masks, _ in cells] for level in range(kind[0])]
-    offsets = [len(before)]
+    offsets = [0]
     for _, value in cells:
         offsets.append(offsets[-1] + len(value))
-    return planes, before + b"".join(value for _, value in cells), offsets if kind[1] else []
+    return planes, b"".join(value for _, value in cells), offsets if kind[1] else []
 
 
 # ---- lists that cover a shape
@@ -260,14 +260,14 @@ def told(kind, cells):
 # ---- the tables
 
 
-def request(kind, shape, subsets, cells, before, cuts):
-    planes, _, offsets = content(kind, cells, before)
+def request(kind, shape, subsets, cells, cuts):
+    planes, _, offsets = content(kind, cells)
     lists = [
         plain(kind),
         plain(shape),
         joined(map(plain, subsets)),
         joined(map(hexes, planes)),
-        joined([hexes(before)] + [hexes(value) for _, value in cells]),
+        joined(hexes(value) for _, value in cells),
         decimals(offsets),
     ]
     return "w " + " ".join(lists) + "; " + joined(map(plain, cuts))
@@ -288,6 +288,8 @@ REFUSED = [
     ("a subset past the shape", "1,0,2,0 2,2 0,0,2,2+1,1,1,2 01000100 0A0B+0C0D+0E0F+1011 -", 3),
     ("an empty subset: its lengths are no shape to write", "1,0,2,0 2,2 0,0,2,2+1,1,0,1 01000100 0A0B+0C0D+0E0F+1011 -", 2),
     ("offsets fall", "0,1,8,1 2 0,2 - 4142 0,3,2", 4),
+    ("a first offset above 0", "1,1,4,0 2 0,1+1,1 0101 414243 1,2,3", 4),
+    ("a first offset above 0 with all cells empty", "0,1,8,0 2 0,2 - 41 1,1,1", 4),
     ("a mask too few", "2,0,1,0 2 0,2 010101 0102 -", 4),
     ("a mask byte over 01", "2,0,1,0 2 0,1+1,1 01020101 0102 -", 4),
     ("a mask byte over 01 below a null, packed masks", "2,0,1,0,1 2 0,1+1,1 00010201 0102 -", 4),
@@ -331,13 +333,12 @@ class Tables:
         shapes = [s for s in SHAPES[sides] if least <= math.prod(s) <= most]
         shape = rng.choice([s for s in shapes if math.prod(s) >= fewest] or shapes)
         cells = draw_cells(kind, math.prod(shape), style)
-        before = bytes(rng.randint(1, 255) for _ in range(rng.choice((0, 0, 1, 3)))) if kind[1] else b""
         subsets = covering(cover, shape, least)
         cuts = [one(shape)[0], cell(shape), some(shape), none(shape)]
         self.number += 1
-        self.asked.append(request(kind, shape, subsets, cells, before, cuts))
+        self.asked.append(request(kind, shape, subsets, cells, cuts))
         self.given += answer(self.number, kind, shape, cells, cuts)
-        self.differ += content(kind, cells, before) != content(kind, [rest(kind, c) for c in cells])
+        self.differ += content(kind, cells) != content(kind, [rest(kind, c) for c in cells])
 
 
 def main():

@@ -154,18 +154,25 @@ fn value_lengths(rng: &mut Rng, cells: usize) -> Vec<usize> {
         })
         .collect()
 }
-/// Values of these lengths after `lead` bytes that are in no cell.
-fn values_of(rng: &mut Rng, lead: usize, lengths: &[usize]) -> (Vec<u8>, Vec<u64>) {
-    let mut offsets = vec![lead as u64];
-    let mut end = lead;
+/// Values of these lengths, end to end.
+fn values_of(rng: &mut Rng, lengths: &[usize]) -> (Vec<u8>, Vec<u64>) {
+    let mut offsets = vec![0];
+    let mut end = 0;
     for length in lengths {
         end += length;
         offsets.push(end as u64);
     }
     (rng.bytes(end), offsets)
 }
-fn lead(rng: &mut Rng) -> usize {
-    if rng.once_in(4) { 1 + rng.below(4) } else { 0 }
+/// The same values behind a few bytes that are in no cell.
+fn late(rng: &mut Rng, c: &Content) -> Content {
+    if c.offsets.is_empty() {
+        return c.clone();
+    }
+    let lead = 1 + rng.below(4);
+    let values = [rng.bytes(lead), c.values.clone()].concat();
+    let offsets = c.offsets.iter().map(|offset| offset.wrapping_add(lead as u64)).collect();
+    Content { masks: c.masks.clone(), values, offsets }
 }
 fn content(rng: &mut Rng, kind: [u64; 5], cells: usize) -> Content {
     let mut masks = vec![];
@@ -175,8 +182,8 @@ fn content(rng: &mut Rng, kind: [u64; 5], cells: usize) -> Content {
     let (values, offsets) = if kind[1] == 0 {
         (rng.bytes(cells * kind[2] as usize), vec![])
     } else {
-        let (lead, lengths) = (lead(rng), value_lengths(rng, cells));
-        values_of(rng, lead, &lengths)
+        let lengths = value_lengths(rng, cells);
+        values_of(rng, &lengths)
     };
     Content { masks, values, offsets }
 }
@@ -191,32 +198,61 @@ fn ragged_string(width: u64, place: u64, offsets: &[u64], data: &[u8]) -> Vec<u8
     let length = (index.len() as u64).to_le_bytes();
     if place == 0 { [&length[..], &index, data].concat() } else { [data, &index, &length].concat() }
 }
-/// A stored string that can be read: with bytes before the first offset, bytes behind nulls and data behind a last offset of 0.
+/// A stored string that can be read.
 fn stored(rng: &mut Rng, kind: [u64; 5], cells: usize) -> Vec<u8> {
     if kind[0] > 0 {
         let mask = plane(rng, cells);
         let set = mask.iter().filter(|&&m| m == 1).count();
-        let inner = at_depth(kind, kind[0] as usize - 1);
-        let content = if set > 0 {
-            stored(rng, inner, set)
-        } else if rng.once_in(3) {
-            let spare = rng.below(20);
-            rng.bytes(spare)
-        } else {
-            vec![]
-        };
+        let content = if set > 0 { stored(rng, below(kind), set) } else { vec![] };
         return frame(kind[4], &mask, &content);
     }
     if kind[1] == 0 {
         return rng.bytes(cells * kind[2] as usize);
     }
-    let (lead, lengths) = (lead(rng), value_lengths(rng, cells));
-    let (mut data, offsets) = values_of(rng, lead, &lengths);
-    if data.is_empty() && rng.once_in(2) {
-        let spare = rng.below(6);
-        data = rng.bytes(spare);
-    }
+    let lengths = value_lengths(rng, cells);
+    let (data, offsets) = values_of(rng, &lengths);
     ragged_string(kind[2], kind[3], &offsets, &data)
+}
+/// The kind of a frame's content.
+fn below(kind: [u64; 5]) -> [u64; 5] {
+    at_depth(kind, kind[0] as usize - 1)
+}
+/// A stored string that could be read but for hidden bytes, of any sort that the kind has: content behind a mask with nothing set, bytes before
+/// the first offset, data behind a last offset of 0.
+fn hiding(rng: &mut Rng, kind: [u64; 5], cells: usize) -> Vec<u8> {
+    if kind[0] > 0 {
+        let mut mask = plane(rng, cells);
+        if (kind[0] == 1 && kind[1] == 0) || rng.once_in(3) {
+            mask.fill(0);
+        }
+        let set = mask.iter().filter(|&&m| m == 1).count();
+        let content = if set > 0 { hiding(rng, below(kind), set) } else { spare(rng, below(kind), cells) };
+        return frame(kind[4], &mask, &content);
+    }
+    if kind[1] == 0 {
+        return stored(rng, kind, cells);
+    }
+    let lengths = if rng.once_in(3) { vec![0; cells] } else { value_lengths(rng, cells) };
+    let (values, offsets) = values_of(rng, &lengths);
+    let mut c = Content { masks: vec![], values, offsets };
+    if c.values.is_empty() && rng.below(2) == 0 {
+        let more = 1 + rng.below(5);
+        c.values = rng.bytes(more);
+    } else {
+        c = late(rng, &c);
+    }
+    ragged_string(kind[2], kind[3], &c.offsets, &c.values)
+}
+/// A content where none may be: any bytes, a frame with nothing set, one that could be read.
+fn spare(rng: &mut Rng, kind: [u64; 5], cells: usize) -> Vec<u8> {
+    match rng.below(3) {
+        0 => {
+            let more = 1 + rng.below(20);
+            rng.bytes(more)
+        }
+        1 if kind[0] > 0 => frame(kind[4], &vec![0; cells], &[]),
+        _ => stored(rng, kind, cells),
+    }
 }
 /// `levels` frames around a content of `cells` cells; the cells of the outermost.
 fn wrapped(rng: &mut Rng, masks: u64, levels: usize, cells: usize, content: Vec<u8>) -> (Vec<u8>, usize) {
@@ -420,10 +456,11 @@ fn damaged_bytes(rng: &mut Rng, list: &[u8]) -> Vec<u8> {
 /// A damaged content. Offsets that would make the Rust ask for memory stay outside the domain, since the array's rules are broken.
 fn damaged_content(rng: &mut Rng, c: &Content) -> Content {
     let mut copy = c.clone();
-    match rng.below(5) {
+    match rng.below(6) {
         0 => copy.masks = damaged_bytes(rng, &c.masks),
         1 => copy.values = damaged_bytes(rng, &c.values),
         2 => spoilt(rng, &mut copy.masks),
+        3 => copy = late(rng, c),
         _ => copy.offsets = damaged_numbers(rng, &c.offsets),
     }
     copy
@@ -660,18 +697,23 @@ fn exhaustive_strings(sink: &mut dyn Sink, rng: &mut Rng) {
             }
         }
     }
-    // the index of ragged values: small offsets in all ways, each length of data, also after the index length of another count
+    // the index of ragged values: small offsets in all ways, each length of data, behind up to four frames; so all hidden bytes of an index,
+    // with other faults and without. Also after the index length of another count
     for (width, place) in RAGGED {
         for cells in 1..=3 {
             for offsets in lists(4, cells + 1) {
                 for data in 0..=4 {
                     let s = ragged_string(width, place, &offsets, &b"wxyz"[..data]);
-                    for levels in 0..=2 {
+                    for levels in 0..=4 {
                         let (bytes, outer) = wrapped(rng, 0, levels, cells, s.clone());
                         sink.ask(decode(ragged(levels, width, place), &[outer as u64], &bytes));
                     }
-                    let subset = inside(rng, &[cells as u64]);
-                    sink.ask(partial_decode(ragged(0, width, place), &[cells as u64], &subset, &s));
+                    let levels = 1 + rng.below(4);
+                    let (bytes, outer) = wrapped(rng, 1, levels, cells, s.clone());
+                    sink.ask(decode(packed(ragged(levels, width, place)), &[outer as u64], &bytes));
+                    for subset in [inside(rng, &[cells as u64]), vec![0, 0]] {
+                        sink.ask(partial_decode(ragged(0, width, place), &[cells as u64], &subset, &s));
+                    }
                 }
             }
         }
@@ -703,7 +745,7 @@ fn exhaustive_strings(sink: &mut dyn Sink, rng: &mut Rng) {
             }
         }
     }
-    // and written: small lengths behind small first offsets in all ways, each width, place and mask form, at depth 1 too
+    // and written: small lengths behind small first offsets, of which only 0 is right, in all ways, each width, place and mask form, at depth 1 too
     for cells in 1..=4 {
         for lengths in lists(4, cells) {
             for first in 0..=2 {
@@ -850,6 +892,87 @@ fn strict_planes(sink: &mut dyn Sink, rng: &mut Rng) {
                 sink.ask(merge(kind, &[3], &[(vec![0, 2], c.clone()), (vec![2, 1], other)]));
                 sink.ask(merge(kind, &[3], &[(vec![0, 2], c)]));
             }
+        }
+    }
+}
+
+/// Hidden content at each level of up to four: a mask with nothing set, in frames that set so many cells. Behind it nothing; bytes; a frame that
+/// has nothing set either, of as many cells and of one; a content that could be read. Beside it a wrong length, or a mask that 13 or 14 is due to.
+fn hidden_content(sink: &mut dyn Sink, rng: &mut Rng) {
+    for kind in [fixed(0, 1, 0), fixed(0, 2, 1), ragged(0, 4, 0), ragged(0, 8, 1)] {
+        for masks in [0, 1] {
+            for (depth, level) in (1..=4).flat_map(|depth| (0..depth).map(move |level| (depth, level))) {
+                for cells in [1, 2, 3, 8, 9] {
+                    let kind = [depth as u64, kind[1], kind[2], kind[3], masks];
+                    let inner = at_depth(kind, depth - level - 1);
+                    let mut list = vec![vec![], vec![0], b"x".to_vec(), b"abcde".to_vec(), vec![0; 16], vec![0; 24]];
+                    list.extend([frame(masks, &vec![0; cells], &[]), frame(masks, &[0], &[]), stored(rng, inner, cells)]);
+                    for content in list {
+                        let good = frame(masks, &vec![0; cells], &content);
+                        let mut wrong_length = good.clone();
+                        wrong_length[rng.pick(&[0, 8])] ^= 1;
+                        let mut wrong_mask = good.clone();
+                        wrong_mask[15 + judge::mask_bytes(masks == 1, cells)] = rng.pick(&[0x02, 0x80]);
+                        for s in [good, wrong_length, wrong_mask] {
+                            let (bytes, outer) = wrapped(rng, masks, level, cells, s);
+                            sink.ask(decode(kind, &[outer as u64], &bytes));
+                        }
+                    }
+                }
+            }
+        }
+    }
+}
+/// First offsets handed over: all offsets 0 to 3 of one to three cells with 0 to 4 value bytes, in each call that takes them.
+fn hidden_offsets(sink: &mut dyn Sink, rng: &mut Rng) {
+    for cells in 1..=3 {
+        for offsets in lists(4, cells + 1) {
+            for bytes in 0..=4 {
+                let (width, place) = rng.pick(&RAGGED);
+                let mut kind = ragged(rng.below(5), width, place);
+                kind[4] = rng.below(2) as u64;
+                let c = Content { values: b"wxyz"[..bytes].to_vec(), offsets: offsets.clone(), ..content(rng, kind, cells) };
+                let shape = shape_of(rng, cells);
+                sink.ask(encode(kind, &shape, &c));
+                let subset = inside(rng, &shape);
+                sink.ask(extract(kind, &shape, &subset, &c));
+                sink.ask(extract(kind, &shape, &vec![0; 2 * shape.len()], &c));
+                let whole = [vec![0; shape.len()], shape.clone()].concat();
+                sink.ask(merge(kind, &shape, &[(whole, c.clone())]));
+                ask_interleaved(sink, at_depth(kind, 0), &shape, &Content { masks: vec![], ..c });
+            }
+        }
+    }
+}
+/// One to four chunks of one or two cells, of any lengths and of none, behind first offsets 0 to 2 in all ways; in any order; also where a cell
+/// is missed, and where a byte is missing or too many.
+fn hidden_chunks(sink: &mut dyn Sink, rng: &mut Rng) {
+    for (count, empty) in (1..=4).flat_map(|count| [(count, true), (count, false), (count, false)]) {
+        for firsts in lists(3, count) {
+            let (depth, masks) = (rng.below(3), rng.below(2) as u64);
+            let (width, place) = rng.pick(&RAGGED);
+            let kind = [depth as u64, 1, width, place, masks];
+            let mut cells = 0;
+            let mut list: Vec<(Vec<u64>, Content)> = firsts
+                .iter()
+                .map(|&first| {
+                    let own = 1 + rng.below(2);
+                    let mut c = content(rng, kind, own);
+                    if empty {
+                        (c.values, c.offsets) = (vec![], vec![0; own + 1]);
+                    }
+                    c.values.splice(0..0, b"pq"[..first as usize].iter().copied());
+                    c.offsets.iter_mut().for_each(|offset| *offset += first);
+                    cells += own as u64;
+                    (vec![cells - own as u64, own as u64], c)
+                })
+                .collect();
+            rng.shuffle(&mut list);
+            sink.ask(merge(kind, &[cells], &list));
+            sink.ask(merge(kind, &[cells + 1], &list));
+            let last = &mut list[count - 1].1.values;
+            *last = damaged_bytes(rng, last);
+            sink.ask(merge(kind, &[cells], &list));
         }
     }
 }
@@ -1073,11 +1196,15 @@ fn blocks(sink: &mut dyn Sink, rng: &mut Rng) {
             let shape = shape_of(rng, cells);
             let c = content(rng, kind, cells);
             sink.ask(encode(kind, &shape, &c));
+            if kind[1] == 1 {
+                sink.ask(encode(kind, &shape, &late(rng, &c)));
+            }
             ask_load(sink, kind, &shape, a_start(rng));
             let cells = rng.pick(&counts);
             let bytes = stored(rng, kind, cells);
             let shape = shape_of(rng, cells);
             sink.ask(decode(kind, &shape, &bytes));
+            sink.ask(decode(kind, &shape, &hiding(rng, kind, cells)));
             let c = content(rng, kind, cells);
             let subset = inside(rng, &shape);
             sink.ask(extract(kind, &shape, &subset, &c));
@@ -1151,6 +1278,12 @@ fn many_cells(sink: &mut dyn Sink, rng: &mut Rng) {
             spoilt(rng, &mut bad[16..16 + judge::mask_bytes(kind[4] == 1, CELLS)]);
             sink.ask(decode(kind, &shape, &bad));
         }
+        sink.ask(decode(kind, &shape, &hiding(rng, kind, CELLS)));
+        if kind[1] == 1 {
+            let bad = late(rng, &c);
+            sink.ask(encode(kind, &shape, &bad));
+            sink.ask(extract(kind, &shape, &subset, &bad));
+        }
         sink.ask(encode(kind, &[65_537], &content(rng, kind, CELLS + 1)));
         ask_load(sink, kind, &shape, a_start(rng));
         sink.ask(generate(kind, &[65_537], a_start(rng)));
@@ -1172,6 +1305,13 @@ fn many_cells(sink: &mut dyn Sink, rng: &mut Rng) {
         let mut list: Vec<(Vec<u64>, Content)> =
             order.iter().map(|&cell| (vec![cell / 256, cell % 256, 1, 1], content(rng, kind, 1))).collect();
         sink.ask(merge(kind, &[256, 256], &list));
+        if kind[1] == 1 {
+            // only the last chunk has a first offset above 0
+            let kept = list[CELLS - 1].1.clone();
+            list[CELLS - 1].1 = late(rng, &kept);
+            sink.ask(merge(kind, &[256, 256], &list));
+            list[CELLS - 1].1 = kept;
+        }
         let again = list[7].clone();
         list.push(again);
         sink.ask(merge(kind, &[256, 256], &list));
@@ -1199,19 +1339,23 @@ fn many_bytes(sink: &mut dyn Sink, rng: &mut Rng) {
         sink.ask(encode(ragged(1, 4, 1), &[1], &Content { masks: vec![0], ..whole.clone() }));
         sink.ask(encode(kind, &[1], &Content { offsets: vec![end, end], ..whole.clone() }));
         ask_interleaved(sink, kind, &[1], &whole);
-        ask_interleaved(sink, kind, &[1], &late);
         sink.ask(extract(kind, &[1], &[0, 1], &whole));
         sink.ask(extract(kind, &[1], &[1, 0], &whole));
         sink.ask(merge(kind, &[1], &[(vec![0, 1], whole.clone())]));
-        sink.ask(merge(kind, &[1], &[(vec![0, 1], late.clone())]));
+        ask_interleaved(sink, kind, &[1], &late);
+        sink.ask(encode(kind, &[1], &late));
+        sink.ask(extract(kind, &[1], &[1, 0], &late));
+        sink.ask(merge(kind, &[1], &[(vec![0, 1], late)]));
         sink.ask(merge(kind, &[2], &[(vec![0, 1], whole.clone())]));
         let (a, b) = (LIMIT / 2, bytes - LIMIT / 2);
         for subsets in [vec![0, 1, 1, 1], vec![0, 1, 0, 1]] {
-            let c = Content { masks: vec![], values: values.to_vec(), offsets: vec![0, a as u64, 0, b as u64] };
-            sink.ask(merge(kind, &[2], &[(subsets, c)]));
+            for second in [0, 1] {
+                let c = Content { masks: vec![], values: values.to_vec(), offsets: vec![0, a as u64, second, b as u64] };
+                sink.ask(merge(kind, &[2], &[(subsets.clone(), c)]));
+            }
         }
         for (width, place) in [(4, 0), (8, 1)] {
-            // the last pair falls: 10, also where the last offset is over the limit
+            // a first offset above 0, and one that falls: 10, also where the last offset is over the limit
             for offsets in [[0, end], [1, end], [end, end], [end + 1, end]] {
                 let s = ragged_string(width, place, &offsets, values);
                 sink.ask(decode(ragged(0, width, place), &[1], &s));
@@ -1257,7 +1401,7 @@ fn random_decode(sink: &mut dyn Sink, rng: &mut Rng, masks: u64) {
     let levels = rng.below(depth + 1);
     let inner = at_depth(kind, depth - levels);
     let cells = if rng.once_in(20) { 1 + rng.below(60) } else { 1 + rng.below(6) };
-    let good = stored(rng, inner, cells);
+    let good = if rng.once_in(4) { hiding(rng, inner, cells) } else { stored(rng, inner, cells) };
     let mut copies = vec![good.clone()];
     if good.len() <= 40 && rng.once_in(8) {
         copies.extend(each_damage(&good));
@@ -1382,6 +1526,14 @@ fn random_merge(sink: &mut dyn Sink, rng: &mut Rng, masks: u64) {
         .collect();
     let request = merge(kind, &shape, &list);
     ask_with_faults(sink, rng, request.clone());
+    if kind[1] == 1 {
+        // one chunk with a first offset above 0
+        let at = rng.below(list.len());
+        let kept = list[at].1.clone();
+        list[at].1 = late(rng, &kept);
+        sink.ask(merge(kind, &shape, &list));
+        list[at].1 = kept;
+    }
     let Merge { subsets, masks, values, offsets, .. } = request else { unreachable!() };
     let all = Content { masks, values, offsets };
     for _ in 0..3 {
@@ -1465,6 +1617,9 @@ pub fn all(sink: &mut dyn Sink, seed: u64, requests: u64) {
     exhaustive_strings(sink, rng);
     exhaustive_packed(sink, rng);
     exhaustive_strict(sink, rng);
+    hidden_content(sink, rng);
+    hidden_offsets(sink, rng);
+    hidden_chunks(sink, rng);
     loads(sink, rng);
     let mut turn = 0;
     while sink.asked() < requests {

@@ -11,6 +11,7 @@
 mod archive;
 mod cases;
 mod guarded;
+mod hidden;
 mod lines;
 mod record;
 mod request;
@@ -20,6 +21,7 @@ mod rust;
 use archive::Archive;
 use cases::Sink;
 use guarded::Guarded;
+use hidden::{NONE, hidden};
 use request::{CALLS, Outcome, REFUSALS, Request};
 use rng::Rng;
 use rust::{BUILDS, Body, body};
@@ -52,9 +54,10 @@ extern "C" fn ended(number: i32) {
     }
 }
 
-/// The domain of the comparison: none of 1 to 6, 12 and 14 holds. The Rust takes a mask byte over 01 for set.
-pub fn in_domain(judged: &Outcome) -> bool {
-    !matches!(judged, Err(1..=6 | 12 | 14))
+/// The domain of the comparison: none of 1 to 6, 12 and 14 holds, and no bytes are hidden. The Rust takes a mask byte over 01 for set, and
+/// hidden bytes too.
+pub fn in_domain(request: &Request, judged: &Outcome) -> bool {
+    !matches!(judged, Err(1..=6 | 12 | 14)) && hidden(request) == NONE
 }
 
 struct Compare {
@@ -72,6 +75,8 @@ struct Counts {
     packed: u64,
     /// Arrays and chunk lists handed over with a mask byte over 01.
     over_01: u64,
+    /// Requests with hidden bytes of each sort.
+    hidden: [u64; 4],
     /// Kinds, shapes and start numbers of loads that were asked for.
     loads: HashSet<String>,
     /// Requests that each build of the Rust answered: by its own function, as ragged cells.
@@ -210,12 +215,15 @@ impl Compare {
         NOW.fetch_add(1, Ordering::Relaxed);
         self.counts.packed += u64::from(request.packed());
         self.counts.over_01 += u64::from(request.hands_over_01());
+        let hidden = hidden(request);
+        assert!(judged.is_err() || hidden == NONE, "hidden bytes taken: {}", shown(request));
+        (0..4).for_each(|sort| self.counts.hidden[sort] += u64::from(hidden[sort]));
         if let (Request::Generate { .. }, Ok(_)) = (request, judged) {
             self.counts.loads.insert(lines::request_line(request));
         }
         self.counts.requests[request.call()][judged.as_ref().err().copied().unwrap_or(0) as usize] += 1;
         let observed = self.lent_in_all_ways(request, judged);
-        if in_domain(judged) {
+        if in_domain(request, judged) {
             self.with_the_rust(request, judged, &observed);
         }
         if self.stop_at_first && self.counts.differences != [0; 3] {
@@ -260,6 +268,11 @@ impl Compare {
         println!(
             "a mask byte over 01: stored, refused with 14, in {} requests; handed over in {}",
             self.counts.requests[1][14], self.counts.over_01
+        );
+        let [content, data, stored, given] = self.counts.hidden;
+        println!(
+            "hidden bytes: content behind nothing set in {content} requests, data behind a last offset of 0 in {data}, a first offset above 0 \
+             stored in {stored} and handed over in {given}"
         );
         println!(
             "in the domain and compared with each of {} builds of the Rust: {} by its own functions, {} as ragged cells of one size",

@@ -41,7 +41,7 @@ impl Sink for Sample {
     fn ask(&mut self, request: Request) {
         self.asked += 1;
         let judged = request.judged();
-        if !crate::in_domain(&judged) || body(&request) == Body::None || self.failed.is_some() {
+        if !crate::in_domain(&request, &judged) || body(&request) == Body::None || self.failed.is_some() {
             return;
         }
         let sort = sort(&request, judged.as_ref().err().copied().unwrap_or(0));

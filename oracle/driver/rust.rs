@@ -73,7 +73,7 @@ pub fn body(request: &Request) -> Body {
 }
 
 impl Build {
-    /// Only for requests in the domain of the comparison: none of 1 to 6, 12 and 14 holds.
+    /// Only for requests in the domain of the comparison: none of 1 to 6, 12 and 14 holds, and no bytes are hidden.
     pub fn answer(&self, request: &Request) -> Got<Results> {
         match request {
             Encode { kind, shape, masks, values, offsets } => {

@@ -1,4 +1,4 @@
-//! The judge: what document 01, document 02's requests 1 to 5 and docs/DECISIONS.md say of the ten calls, as plain code.
+//! The judge: what document 01, document 02's requests 1 to 6 and docs/DECISIONS.md say of the ten calls, as plain code.
 //!
 //! Each function takes what the call takes, as numbers and slices, and gives the result or the refusal number. Outputs are not lent:
 //! `fits` says where a lent output is too short (6), and c.rs puts a result into lent outputs.
@@ -111,8 +111,9 @@ fn cells_of_subset(shape: &[u64], subset: &[u64]) -> Result<Vec<usize>, Refusal>
 
 // ---------------------------------------------------------------- 4, 5: arrays handed over
 
-fn fall(offsets: &[u64]) -> bool {
-    (1..offsets.len()).any(|i| offsets[i] < offsets[i - 1])
+/// The first offset is 0, and none is below the one before it.
+fn rise(offsets: &[u64]) -> bool {
+    offsets[0] == 0 && (1..offsets.len()).all(|i| offsets[i - 1] <= offsets[i])
 }
 
 /// A mask byte is 00 or 01, whatever lies around it.
@@ -134,7 +135,7 @@ fn check_array(kind: Kind, cells: usize, masks: &[u8], values: &[u8], offsets: &
             }
         }
         Form::Ragged { .. } => {
-            if offsets.len() != cells + 1 || fall(offsets) || offsets[cells] != values.len() as u64 {
+            if offsets.len() != cells + 1 || !rise(offsets) || offsets[cells] != values.len() as u64 {
                 return Err(4);
             }
         }
@@ -193,9 +194,6 @@ pub fn encode(k: KindNumbers, shape: &[u64], masks: &[u8], values: &[u8], offset
     let kind = kind(k)?;
     let cells = shape_cells(shape)?;
     check_array(kind, cells, masks, values, offsets)?;
-    if let (0, Form::Ragged { width, end }) = (kind.depth, kind.form) {
-        return Ok(write_ragged(width, end, offsets, values)); // just as they are
-    }
     let planes = planes(kind.depth, cells, masks);
     Ok(write_content(kind, &planes, &cell_values(kind.form, cells, values, offsets)))
 }
@@ -237,7 +235,7 @@ fn write_values(form: Form, values: &[Vec<u8>]) -> Vec<u8> {
             }
             bytes
         }
-        Form::Ragged { width, end } => write_ragged(width, end, &offsets_from_0(values), &values.concat()),
+        Form::Ragged { width, end } => write_ragged(width, end, values),
     }
 }
 
@@ -250,13 +248,14 @@ fn in_order(big: bool, value: &[u8]) -> Vec<u8> {
 }
 
 /// Start: index length, index, data. End: data, index, index length.
-fn write_ragged(width: usize, end: bool, offsets: &[u64], values: &[u8]) -> Vec<u8> {
+fn write_ragged(width: usize, end: bool, values: &[Vec<u8>]) -> Vec<u8> {
     let mut index = vec![];
-    for offset in offsets {
+    for offset in offsets_from_0(values) {
         index.extend(&offset.to_le_bytes()[..width]);
     }
     let length = (index.len() as u64).to_le_bytes();
-    if end { [values, &index, &length].concat() } else { [&length, &index[..], values].concat() }
+    let data = values.concat();
+    if end { [&data[..], &index, &length].concat() } else { [&length, &index[..], &data].concat() }
 }
 
 // ---------------------------------------------------------------- decode
@@ -264,10 +263,6 @@ fn write_ragged(width: usize, end: bool, offsets: &[u64], values: &[u8]) -> Vec<
 pub fn decode(k: KindNumbers, shape: &[u64], bytes: &[u8]) -> Result<Array, Refusal> {
     let kind = kind(k)?;
     let cells = shape_cells(shape)?;
-    if let (0, Form::Ragged { width, end }) = (kind.depth, kind.form) {
-        let (values, offsets) = read_ragged(width, end, cells, bytes)?;
-        return Ok(Array { masks: vec![], values, offsets }); // just as they are
-    }
     let (planes, values) = read_content(kind, kind.depth, cells, bytes)?;
     Ok(array_of(kind.form, &planes, &values))
 }
@@ -295,10 +290,12 @@ fn read_content(kind: Kind, depth: usize, cells: usize, bytes: &[u8]) -> Result<
     let (mask, content) = bytes[16..].split_at(mask_bytes(kind.packed, cells));
     let plane = read_mask(kind.packed, cells, mask)?;
     let set = set_cells(&plane);
-    let (inner, set_values) = if set.is_empty() {
-        (vec![vec![]; depth - 1], vec![]) // the content is not looked at
-    } else {
+    let (inner, set_values) = if !set.is_empty() {
         read_content(kind, depth - 1, set.len(), content)?
+    } else if content.is_empty() {
+        (vec![vec![]; depth - 1], vec![])
+    } else {
+        return Err(8); // nothing hides behind nulls
     };
     let mut planes = vec![plane];
     for plane in inner {
@@ -350,14 +347,14 @@ fn read_values(form: Form, cells: usize, bytes: &[u8]) -> Result<Vec<Vec<u8>>, R
             Ok(bytes.chunks(size).map(|value| in_order(big, value)).collect())
         }
         Form::Ragged { width, end } => {
-            let (values, offsets) = read_ragged(width, end, cells, bytes)?;
-            Ok(cell_values(form, cells, &values, &offsets))
+            let (data, offsets) = read_ragged(width, end, cells, bytes)?;
+            Ok(cell_values(form, cells, data, &offsets))
         }
     }
 }
 
 /// 7, 8, 10 and then 5.
-fn read_ragged(width: usize, end: bool, cells: usize, bytes: &[u8]) -> Result<(Vec<u8>, Vec<u64>), Refusal> {
+fn read_ragged(width: usize, end: bool, cells: usize, bytes: &[u8]) -> Result<(&[u8], Vec<u64>), Refusal> {
     if bytes.len() < 8 {
         return Err(7);
     }
@@ -383,17 +380,16 @@ fn read_ragged(width: usize, end: bool, cells: usize, bytes: &[u8]) -> Result<(V
     };
     let offsets: Vec<u64> = index.chunks(width).map(le).collect();
     let last = offsets[cells];
-    let values = if last == 0 { vec![] } else { data.to_vec() }; // where it is 0, data is not looked at
-    if values.len() as u64 != last {
+    if data.len() as u64 != last {
         return Err(8);
     }
-    if fall(&offsets) {
+    if !rise(&offsets) {
         return Err(10);
     }
     if last > MAX_VALUE_BYTES {
         return Err(5);
     }
-    Ok((values, offsets))
+    Ok((data, offsets))
 }
 
 // ---------------------------------------------------------------- decode_interleaved
@@ -552,7 +548,7 @@ pub fn merge(
             let mut rest = offsets;
             for chunk in &boxes {
                 let (own, next) = rest.split_at(chunk.len() + 1);
-                if fall(own) {
+                if !rise(own) {
                     return Err(4);
                 }
                 lists.push(own);
@@ -565,12 +561,8 @@ pub fn merge(
         }
     }
 
-    // 5: the sum of the cell lengths of all chunks
-    let sum = match kind.form {
-        Form::Fixed { size, .. } => (all * size) as u64,
-        Form::Ragged { .. } => lists.iter().map(|own| own[own.len() - 1] - own[0]).sum(),
-    };
-    if sum > MAX_VALUE_BYTES {
+    // 5: the sum of the cell lengths of all chunks, and each value byte is in one cell
+    if values.len() as u64 > MAX_VALUE_BYTES {
         return Err(5);
     }
 
