@@ -40,7 +40,7 @@ fn depth_1_nothing_set() {
     assert_eq!(decode(kind, &[3], &stored), Ok(array(kind, &[3], &[0, 0, 0], &[0; 6], &[])));
 }
 
-/// S10.3, S10.6 and S10.31 to S10.35.
+/// S10.3, S10.6 and S10.31 to S10.36.
 #[test]
 fn hidden_bytes() {
     let (flat, one, two) = (ragged(0, Width::Four, Place::Start), fixed(1, 2), fixed(2, 1));
