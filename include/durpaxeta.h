@@ -13,7 +13,8 @@
  *            has no value. Stored masks may be packed, a bit a cell; these planes never are.
  *   values   the value bytes. Fixed: cells * size bytes. Ragged: all values, one after the other.
  *   offsets  ragged only: cells + 1 numbers. Cell i has the value bytes from offsets[i] up to offsets[i + 1].
- *            They never fall, and the last is the count of value bytes. A fixed kind has none.
+ *            The first is 0, they never fall, and the last is the count of value bytes: every value byte is in a cell.
+ *            A fixed kind has none.
  *
  * Null and empty are two things. Null: a mask byte is 00. Empty: all mask bytes are 01, and the value has no bytes.
  *
@@ -55,9 +56,9 @@ extern "C" {
 
 /* The version, as three numbers, as text, and as one number that grows with it: #if DPX_VERSION_NUMBER >= 1002003 */
 #define DPX_VERSION_MAJOR 0
-#define DPX_VERSION_MINOR 4
+#define DPX_VERSION_MINOR 5
 #define DPX_VERSION_PATCH 0
-#define DPX_VERSION "0.4.0"
+#define DPX_VERSION "0.5.0"
 #define DPX_VERSION_NUMBER (DPX_VERSION_MAJOR * 1000000 + DPX_VERSION_MINOR * 1000 + DPX_VERSION_PATCH)
 
 /* Limits. One more of any of these is refused. */
@@ -78,16 +79,17 @@ enum dpx_refusal {
                        holds no cell */
 
     /* Whoever hands over an array or a chunk list. */
-    DPX_CONTENT = 4, /* lengths of masks, values, offsets or chunks disagree, a mask byte is over 01, or offsets break their
-                        rule */
+    DPX_CONTENT = 4, /* lengths of masks, values, offsets or chunks disagree, a mask byte is over 01, the first offset is not
+                        0, or offsets fall */
     DPX_SIZE = 5,    /* over 16,777,216 value bytes */
     DPX_COVER = 12,  /* the subsets of a merge miss a cell or hold one twice */
 
     /* Whoever stored the bytes. */
     DPX_SHORT = 7,     /* under 16 bytes for a frame, 8 for ragged values, 4 * (1 + cells) for the older form */
-    DPX_LENGTH = 8,    /* a stored length disagrees: frame total, mask, index, data or plain values */
+    DPX_LENGTH = 8,    /* a stored length disagrees: frame total, mask, index, data or plain values; or content follows a mask
+                          in which no cell is set */
     DPX_COUNT = 9,     /* the older form counts another number of cells */
-    DPX_FALLING = 10,  /* stored offsets fall */
+    DPX_FALLING = 10,  /* the first stored offset is not 0, or stored offsets fall */
     DPX_PAST_END = 11, /* older form: a length field or a cell runs past the end */
     DPX_UNUSED_BITS = 13, /* a packed mask has a bit after its last cell that is not 0 */
     DPX_NOT_BOOLEAN = 14, /* a stored mask of bytes has a byte over 01 */
@@ -112,15 +114,15 @@ static inline const char *dpx_refusal_text(uint32_t refusal)
     case DPX_SUBSET: return "refusal 3: a subset reaches past the shape, or has not one start and one length for each side,"
                             " or, in a merge, holds no cell" DPX_DESCRIBER;
     case DPX_CONTENT: return "refusal 4: lengths of masks, values, offsets or chunks disagree, a mask byte is neither 00 nor"
-                             " 01, or offsets fall" DPX_SUPPLIER;
+                             " 01, the first offset is not 0, or offsets fall" DPX_SUPPLIER;
     case DPX_SIZE: return "refusal 5: more than 16,777,216 value bytes" DPX_SUPPLIER;
     case DPX_OUTPUT: return "refusal 6: an output is shorter than the result needs" DPX_LENDER;
     case DPX_SHORT: return "refusal 7: too few stored bytes: a frame takes at least 16, ragged values 8, the interleaved form"
                            " 4 and 4 for each cell" DPX_STORER;
-    case DPX_LENGTH: return "refusal 8: a stored length disagrees with the bytes that are there, or with the number of"
-                            " cells" DPX_STORER;
+    case DPX_LENGTH: return "refusal 8: a stored length disagrees with the bytes that are there, or with the number of cells,"
+                            " or bytes are stored where no cell has any" DPX_STORER;
     case DPX_COUNT: return "refusal 9: the interleaved form counts another number of cells" DPX_STORER;
-    case DPX_FALLING: return "refusal 10: stored offsets fall" DPX_STORER;
+    case DPX_FALLING: return "refusal 10: the first stored offset is not 0, or stored offsets fall" DPX_STORER;
     case DPX_PAST_END: return "refusal 11: interleaved form: a length field or a cell runs past the end" DPX_STORER;
     case DPX_COVER: return "refusal 12: the subsets of the merge miss a cell or hold one twice" DPX_SUPPLIER;
     case DPX_UNUSED_BITS: return "refusal 13: a packed mask has a bit after its last cell that is not 0" DPX_STORER;
@@ -255,7 +257,7 @@ static inline size_t dpx_stored_room(dpx_kind kind, uint64_t cells, size_t value
     return kind.depth * (16 + dpx_mask_room(kind, cells)) + array.values + index;
 }
 
-/* The most bytes that dpx_encode_interleaved writes; exactly as many where the first offset is 0. */
+/* The bytes that dpx_encode_interleaved writes. */
 static inline size_t dpx_interleaved_room(uint64_t cells, size_t values_len)
 {
     return cells > DPX_MAX_CELLS || values_len > DPX_MAX_VALUE_BYTES ? 0 : 4 + 4 * cells + values_len;
@@ -321,8 +323,7 @@ static inline dpx_cell dpx_get_cell(dpx_kind kind, uint64_t cells,
  * Array to stored bytes.
  *
  * Writes the stored form to `out`. Values below a null are not stored. Fixed values of big order are stored with the
- * bytes of each cell reversed. A packed mask has bit 1 for every mask byte 01, and 0 in the bits after its last cell. At
- * depth 0 all else is stored as it is.
+ * bytes of each cell reversed. A packed mask has bit 1 for every mask byte 01, and 0 in the bits after its last cell.
  * Enough room: dpx_stored_room.
  *
  *   lengths[0]   stored bytes written
@@ -332,7 +333,7 @@ static inline dpx_cell dpx_get_cell(dpx_kind kind, uint64_t cells,
  *   2 DPX_SHAPE    whoever describes the table
  *   4 DPX_CONTENT  whoever hands over the array: masks_len is not depth * cells; a mask byte is over 01, in packed kinds too
  *                  and below a null too; fixed: values_len is not cells * size, or there are offsets; ragged: offsets_len
- *                  is not cells + 1, offsets fall, or the last is not values_len
+ *                  is not cells + 1, the first is not 0, offsets fall, or the last is not values_len
  *   5 DPX_SIZE     whoever hands over the array: the last offset is over 16,777,216
  *   6 DPX_OUTPUT   whoever lends the output: out_len is under the written length
  */
@@ -347,10 +348,9 @@ uint32_t dpx_encode(dpx_kind kind,
 /*
  * Stored bytes to array.
  *
- * `bytes` is the whole stored table, neither more nor less. A set cell of a packed mask comes out as 01. Below a null
- * every mask byte comes out as 00, a fixed value as zero bytes and a ragged one as no bytes. From depth 1 on ragged values
- * come out end to end from offset 0; at depth 0 offsets and value bytes come out as they are stored, but where the last
- * offset is 0: there no value bytes come out.
+ * `bytes` is the whole stored table, neither more nor less, and every byte of it is looked at: there is no place for bytes
+ * that are in no cell. A set cell of a packed mask comes out as 01. Below a null every mask byte comes out as 00, a fixed
+ * value as zero bytes and a ragged one as no bytes. Ragged values come out end to end from offset 0.
  * Enough room: dpx_array_room. That is depth * cells masks; fixed: cells * size values; ragged: bytes_len values and
  * cells + 1 offsets.
  *
@@ -368,11 +368,12 @@ uint32_t dpx_encode(dpx_kind kind,
  *  13 DPX_UNUSED_BITS  whoever stored the bytes: in the last byte of a packed mask, a bit after the last of those cells is
  *                  not 0
  *  14 DPX_NOT_BOOLEAN  whoever stored the bytes: a byte of a mask that is not packed is over 01, wherever in that mask
+ *   8 DPX_LENGTH   whoever stored the bytes: no cell is set in that mask, and yet content follows it
  *   then, if a cell is set at all levels, of ragged values:
  *   7 DPX_SHORT    whoever stored the bytes: under 8 bytes
  *   8 DPX_LENGTH   whoever stored the bytes: the index is longer than the bytes, or not width * (cells + 1); or the last
- *                  offset is neither 0 nor the count of data bytes
- *  10 DPX_FALLING  whoever stored the bytes: offsets fall
+ *                  offset is not the count of data bytes
+ *  10 DPX_FALLING  whoever stored the bytes: the first offset is not 0, or offsets fall
  *   5 DPX_SIZE     whoever hands over the array: the stored last offset is over 16,777,216
  *   or of fixed ones:
  *   8 DPX_LENGTH   whoever stored the bytes: there are not cells * size bytes
@@ -415,8 +416,7 @@ uint32_t dpx_decode_interleaved(uint64_t cells,
  * An array to the older, interleaved form (Zarr V2).
  *
  * Writes a 4-byte count, then for each cell a 4-byte length and its bytes, all little-endian. The kind is ragged, of depth
- * 0: this form has no masks. Width and place of its index say nothing here. Bytes before the first offset are in no cell and are
- * not written. dpx_decode_interleaved reads the cells again, from offset 0.
+ * 0: this form has no masks. Width and place of its index say nothing here. dpx_decode_interleaved reads the cells again.
  * Enough room: dpx_interleaved_room. Written are 4 + 4 * cells bytes, and those of the cells.
  *
  *   lengths[0]   bytes written
@@ -500,7 +500,8 @@ uint32_t dpx_extract(dpx_kind kind,
  *
  * `subsets` says which cells each chunk holds, 2 * shape_len numbers a chunk. Masks, values and offsets of the chunks lie
  * end to end in the order of the list: all planes of chunk 0, then all of chunk 1, and so on. The offsets of a chunk are
- * one more than its cells and count from the start of its own values; its last one says how many value bytes it has.
+ * one more than its cells and count from the start of its own values: its first one is 0, and its last one says how many
+ * value bytes it has.
  * Together the subsets hold each cell of the shape once; their order is free. Values below a null are kept. Ragged
  * values come out end to end from offset 0.
  * Enough room: depth * cells masks; fixed: cells * size values; ragged: values_len values and cells + 1 offsets.
@@ -515,7 +516,7 @@ uint32_t dpx_extract(dpx_kind kind,
  *   3 DPX_SUBSET   whoever describes the table: subsets_len is no multiple of 2 * shape_len, a subset reaches past the
  *                  shape, or a subset holds no cell
  *   4 DPX_CONTENT  whoever hands over the chunk list: lengths are not what the subsets and the last offsets say, a mask byte
- *                  is over 01, or the offsets of a chunk fall
+ *                  is over 01, or of a chunk the first offset is not 0 or offsets fall
  *   5 DPX_SIZE     whoever hands over the chunk list: the cells of all chunks sum up to over 16,777,216 bytes
  *  12 DPX_COVER    whoever hands over the chunk list: a cell is missed or held twice
  *   6 DPX_OUTPUT   whoever lends the outputs
@@ -547,7 +548,7 @@ uint32_t dpx_merge(dpx_kind kind,
  *   3 DPX_SUBSET   whoever describes the table: as for dpx_extract
  *   7 DPX_SHORT    whoever stored the bytes: under 8 bytes
  *   8 DPX_LENGTH   whoever stored the bytes: index or data, as for dpx_decode
- *  10 DPX_FALLING  whoever stored the bytes: offsets fall
+ *  10 DPX_FALLING  whoever stored the bytes: the first offset is not 0, or offsets fall
  *   5 DPX_SIZE     whoever hands over the array: the stored last offset is over 16,777,216
  *   6 DPX_OUTPUT   whoever lends the outputs
  */

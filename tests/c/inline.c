@@ -145,7 +145,7 @@ static void marks(void)
 static void boxes(void)
 {
     const dpx_kind kind = dpx_ragged(1, 8, DPX_END);
-    const uint64_t shape[] = {3}, offsets[] = {1, 3, 3, 7}, middle[] = {1, 2}, none[] = {3, 0};
+    const uint64_t shape[] = {3}, offsets[] = {0, 3, 3, 7}, middle[] = {1, 2}, none[] = {3, 0};
     const uint8_t masks[] = {1, 0, 1}, values[] = {'-', 'a', 'b', 'c', 'd', 'e', 'f'};
     const uint64_t parts[] = {1, 2, 0, 1}, part_offsets[] = {0, 0, 4, 0, 2};
     const uint8_t part_masks[] = {0, 1, 1}, part_values[] = {'c', 'd', 'e', 'f', 'a', 'b'};

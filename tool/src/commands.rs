@@ -2,9 +2,9 @@
 
 use crate::arguments::{self, Arguments};
 use crate::describe::{self, Described, Description};
-use crate::failure::{refusal_text, Failure, HIDDEN};
+use crate::failure::{refusal_text, Failure, TAIL};
 use crate::files::{self, Input};
-use crate::locate::{Unused, Walk};
+use crate::locate::Walk;
 use crate::output::{self, Output};
 use crate::stored::{cells, given_kind, given_shape, missing_kind, missing_shape, stopped, Given, Interleaved, Stored};
 use crate::watch::Watch;
@@ -151,19 +151,6 @@ fn subset_of(text: &str, shape: &[u64], option: &str) -> Result<(Subset, usize),
     }
 }
 
-/// How many stored bytes are in no cell.
-fn in_no_cell(count: usize, total: usize) -> String {
-    format!("{count} of the {total} stored bytes {} in no cell", if count == 1 { "is" } else { "are" })
-}
-
-/// Tells of stored bytes that were left out.
-fn dropped(input: &Input, walk: &Walk) {
-    match walk.unused_bytes() {
-        0 => {}
-        count => output::tell(&format!("{}: {}: left out", input.name, in_no_cell(count, input.bytes.len()))),
-    }
-}
-
 /// Refuses to leave a wrong description beside what is written.
 fn not_described(table: &Output, beside: &OsStr, advice: &str) -> Result<(), Failure> {
     match table.is_file() && fs::symlink_metadata(beside).is_ok() {
@@ -218,20 +205,10 @@ fn show(arguments: &Arguments, watch: &Watch) -> Result<u8, Failure> {
     }
     let stored = Stored::named(arguments, false, watch)?;
     let array = stored.decode()?;
-    let walk = stored.walk();
-    // At depth 0 a worksheet has a line for what lies before the first cell.
-    let kept = |unused: Unused| unused == Unused::Before && array.kind.depth == 0 && !arguments.json;
-    let lost: usize = walk.unused().filter(|&(_, unused)| !kept(unused)).map(|(field, _)| field.length).sum();
-    let count = in_no_cell(lost, stored.input.bytes.len());
-    if arguments.json {
-        print(&json::write(&array), watch)?;
-        if lost > 0 {
-            output::tell(&format!("{}: {count}: not shown", stored.input.name));
-        }
-        return Ok(0);
+    match arguments.json {
+        true => print(&json::write(&array), watch),
+        false => print(&worksheet::write(&array, arguments.hex), watch),
     }
-    let notes = if lost > 0 { vec![format!("{count}: write leaves that out")] } else { vec![] };
-    print(&worksheet::write(&array, arguments.hex, &notes), watch)
 }
 
 fn write(arguments: &Arguments, watch: &Watch) -> Result<u8, Failure> {
@@ -265,7 +242,6 @@ fn cut(arguments: &Arguments, watch: &Watch) -> Result<u8, Failure> {
         })?,
     };
     store(&cut, name, &arguments.files[1], &stored.inputs().collect::<Vec<_>>(), arguments, watch)?;
-    dropped(&stored.input, &stored.walk());
     Ok(0)
 }
 
@@ -309,9 +285,6 @@ fn merge_parts(arguments: &Arguments, watch: &Watch) -> Result<u8, Failure> {
     })?;
     let inputs: Vec<&Input> = parts.iter().flat_map(|(stored, _)| stored.inputs()).collect();
     store(&whole, "merge", &arguments.files[0], &inputs, arguments, watch)?;
-    for (stored, _) in &parts {
-        dropped(&stored.input, &stored.walk());
-    }
     Ok(0)
 }
 
@@ -348,8 +321,17 @@ fn convert(arguments: &Arguments, watch: &Watch) -> Result<u8, Failure> {
     })?;
     let array = Array { kind, shape: old.shape, masks: Vec::new(), values: values.values, offsets: values.offsets };
     store(&array, &old.input.name, &arguments.files[1], &[&old.input], arguments, watch)?;
-    dropped(&old.input, &walk);
+    if let Some(tail) = after_last_cell(&old.input, &walk) {
+        output::tell(&format!("{}: {tail}: left out", old.input.name));
+    }
     Ok(0)
+}
+
+/// Tells of bytes that reading the older form ignores.
+fn after_last_cell(input: &Input, walk: &Walk) -> Option<String> {
+    let (tail, length) = (walk.tail(), input.bytes.len());
+    let noun = if tail == 1 { "byte comes" } else { "bytes come" };
+    (tail > 0).then(|| format!("{tail} {noun} after the last cell, from byte {} of {length} on", length - tail))
 }
 
 /// The older form has no masks, and cells of any length.
@@ -377,7 +359,6 @@ fn convert_back(arguments: &Arguments, watch: &Watch) -> Result<u8, Failure> {
         detail: None,
     })?;
     output::write(&[(out, &old[..])], watch)?;
-    dropped(&stored.input, &stored.walk());
     Ok(0)
 }
 
@@ -428,21 +409,6 @@ impl Looked {
     fn refusal(&self, refusal: Refusal) -> String {
         refusal_text(refusal, Some(&stopped(refusal, &self.walk, self.input.bytes.len())))
     }
-
-    /// What `--strict` does not accept: bytes that no cell uses.
-    fn hidden(&self) -> Option<String> {
-        let length = self.input.bytes.len();
-        let mut hidden = Vec::new();
-        for (field, unused) in self.walk.unused() {
-            let (at, count) = (field.at, field.length);
-            let noun = if count == 1 { "byte is" } else { "bytes are" };
-            hidden.push(format!("{count} {noun} in no cell, from byte {at} of {length} on: {}", unused.text()));
-        }
-        if hidden.is_empty() {
-            return None;
-        }
-        Some(format!("  {}.\n  Caused by whoever stored the bytes.", hidden.join(".\n  ")))
-    }
 }
 
 fn check(arguments: &Arguments, watch: &Watch) -> Result<u8, Failure> {
@@ -455,13 +421,14 @@ fn check(arguments: &Arguments, watch: &Watch) -> Result<u8, Failure> {
             return verdict(refusal.number() as u8, &text, watch);
         }
     };
-    if let Some(hidden) = looked.hidden().filter(|_| arguments.strict) {
-        return verdict(HIDDEN, &format!("{name}: valid, but not strictly\n{hidden}\n"), watch);
+    let tail = after_last_cell(&looked.input, &looked.walk);
+    if let Some(tail) = tail.as_ref().filter(|_| arguments.strict) {
+        let text = format!("{name}: valid, but not strictly\n  {tail}.\n  Caused by whoever stored the bytes.\n");
+        return verdict(TAIL, &text, watch);
     }
     let mut text = format!("{name}: valid\n  {about}\n  {} bytes", looked.input.bytes.len());
-    match looked.walk.unused_bytes() {
-        0 => {}
-        unused => text.push_str(&format!(", {unused} of them in no cell")),
+    if let Some(tail) = tail {
+        text.push_str(&format!("; {tail}: ignored"));
     }
     if let Some(described) = &looked.described {
         text.push_str(&format!(", as {} says", described.name()));

@@ -45,7 +45,7 @@ fn sort(field: &Field) -> &'static str {
         Part::IndexLength { .. } | Part::Count { .. } => "length",
         Part::Offset { .. } => "offsets",
         Part::Plain { .. } | Part::Data { .. } | Part::CellLength { .. } => "fields of cells",
-        Part::Unused(_) => "unused",
+        Part::Tail => "tail",
     }
 }
 
@@ -222,8 +222,7 @@ impl Picture<'_> {
             Part::Plain { cell } | Part::Data { cell } => format!("cell {} goes on", self.cell(*cell)),
             Part::Count { says } => format!("count: {says} cells"),
             Part::CellLength { cell, says } => format!("length of cell {}: {says}", self.cell(*cell)),
-            Part::Unused(unused) if line == 0 => format!("in no cell: {}", unused.text()),
-            Part::Unused(_) => "in no cell".into(),
+            Part::Tail => "after the last cell: ignored".into(),
         }
     }
 }

@@ -16,8 +16,8 @@ pub const OTHER_TABLE: u8 = 67;
 pub const OTHER_LENGTH: u8 = 68;
 /// A file of another checksum than its description says.
 pub const OTHER_CHECKSUM: u8 = 69;
-/// A valid table that `--strict` does not accept.
-pub const HIDDEN: u8 = 70;
+/// A valid older form that `--strict` does not accept.
+pub const TAIL: u8 = 70;
 /// A file that `--no-clobber` keeps.
 pub const KEPT: u8 = 73;
 /// An error of the operating system.

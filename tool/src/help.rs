@@ -46,7 +46,7 @@ Exit status:
   66        a description that cannot be read
   67        --kind, --shape or --part that differ from the description
   68, 69    a file of another length (68) or checksum (69) than its description says
-  70        check --strict: a valid table with bytes that no cell uses
+  70        check --interleaved --strict: a valid older form with bytes after its last cell
   73        --no-clobber: the output is there already
   74        an error of the operating system; so is an output whose reader left, or that was closed
 
@@ -112,8 +112,8 @@ Examples:
 pub const CUT: &str = r#"durpaxeta cut [--kind KIND --shape SHAPE] --subset SUBSET [--describe] [--no-clobber] IN OUT
 
 Takes the cells of a subset out of a stored table and stores them as a table of the same kind. Its shape is the lengths of
-the subset. A subset is one range for each side; the end is not included. Stored bytes that are in no cell are left out, and
-standard error says how many. Kind and shape may be left out where IN.dpx says them ('durpaxeta help write').
+the subset. A subset is one range for each side; the end is not included. Kind and shape may be left out where IN.dpx says
+them ('durpaxeta help write').
 
 Examples:
   durpaxeta example | durpaxeta write --describe - guests.bin
@@ -126,9 +126,8 @@ Examples:
 pub const MERGE: &str = r#"durpaxeta merge [--kind KIND] --shape SHAPE --part SUBSET FILE [--part SUBSET FILE]... [--describe] [--no-clobber] OUT
 
 Puts stored tables of one kind together into one. Each part is a subset of the whole and the file with its cells. Together
-the subsets hold each cell once; their order is free. Stored bytes that are in no cell are left out, and standard error says
-how many. The kind may be left out where each part has a description ('durpaxeta help write'); the shape of the whole may
-not, as no part knows it.
+the subsets hold each cell once; their order is free. The kind may be left out where each part has a description
+('durpaxeta help write'); the shape of the whole may not, as no part knows it.
 
 Examples:
   durpaxeta example | durpaxeta write - guests.bin
@@ -148,8 +147,7 @@ ragged values. The older form has no masks, so the kind is a ragged one of depth
 and standard error says how many.
 
 With --to-interleaved it goes the other way: IN is a stored table, ragged and of depth 0, and OUT gets its cells in the older
-form, for readers of Zarr V2. Data before the first offset is left out. Kind and shape may be left out where IN.dpx says
-them. The older form has no description.
+form, for readers of Zarr V2. Kind and shape may be left out where IN.dpx says them. The older form has no description.
 
 Examples:
   printf '\002\000\000\000\001\000\000\000A\000\000\000\000' > old.bin
@@ -181,9 +179,9 @@ Says whether a file is a valid table. If it is not, says the refusal, what it me
 the field begins that could not be accepted. The exit status is 0 or the number of the refusal. With --interleaved the
 file is read as the older, interleaved form. Kind and shape may be left out where FILE.dpx says them.
 
-With --strict a valid table is refused too, with status 70, if it has bytes that no cell uses: the content of a frame where
-no cell is set, data though the last offset is 0, data before the first offset, bytes behind the last cell of the older
-form.
+Every byte of a valid table belongs to it: content behind a mask in which no cell is set, data that no offset reaches, and a
+first offset above 0 are refused. Bytes after the last cell of the older form are ignored, and counted. With --strict they
+are refused too, with status 70; of a table --strict asks for nothing more.
 
 Examples:
   durpaxeta example | durpaxeta write - guests.bin

@@ -77,32 +77,8 @@ pub enum Part {
         cell: usize,
         says: u64,
     },
-    /// Bytes that no cell uses.
-    Unused(Unused),
-}
-
-/// Where bytes can lie that no cell uses.
-#[derive(Clone, Copy, Debug, PartialEq, Eq)]
-pub enum Unused {
-    /// The content of a frame in which no cell is set.
-    Content { level: u64 },
-    /// Data, though the last offset is 0.
-    Behind,
-    /// Data before the first offset.
-    Before,
-    /// Bytes behind the last cell of the interleaved form.
+    /// Bytes after the last cell, which reading ignores.
     Tail,
-}
-
-impl Unused {
-    pub fn text(self) -> String {
-        match self {
-            Unused::Content { level } => format!("content of level {level}, where no cell is set"),
-            Unused::Behind => "data, though the last offset is 0".into(),
-            Unused::Before => "data before the first offset".into(),
-            Unused::Tail => "behind the last cell".into(),
-        }
-    }
 }
 
 /// The fields of stored bytes, up to the one that is refused and with it.
@@ -113,17 +89,9 @@ pub struct Walk {
 }
 
 impl Walk {
-    /// The fields that no cell uses.
-    pub fn unused(&self) -> impl Iterator<Item = (&Field, Unused)> {
-        self.fields.iter().filter_map(|field| match field.part {
-            Part::Unused(unused) => Some((field, unused)),
-            _ => None,
-        })
-    }
-
-    /// How many bytes no cell uses.
-    pub fn unused_bytes(&self) -> usize {
-        self.unused().map(|(field, _)| field.length).sum()
+    /// How many bytes come after the last cell of the interleaved form.
+    pub fn tail(&self) -> usize {
+        self.fields.last().filter(|field| field.part == Part::Tail).map_or(0, |field| field.length)
     }
 }
 
@@ -234,8 +202,7 @@ impl Walker<'_> {
             }
             (at, cells) = (mask.end, set);
             if cells.is_empty() {
-                self.field(at, self.left(at), Part::Unused(Unused::Content { level }));
-                return Ok(());
+                return self.no_content(level, at);
             }
         }
         match kind.values {
@@ -308,6 +275,16 @@ impl Walker<'_> {
         stop(Refusal::NotBoolean, at, what)
     }
 
+    /// Behind a mask in which no cell is set.
+    fn no_content(&self, level: u64, at: usize) -> Result<(), Stop> {
+        let noun = match self.left(at) {
+            0 => return Ok(()),
+            1 => "1 content byte follows".into(),
+            left => format!("{left} content bytes follow"),
+        };
+        stop(Refusal::Length, at, format!("no cell is set in the mask of level {level}, but {noun}"))
+    }
+
     fn plain(&mut self, size: u64, cells: &[usize], at: usize) -> Result<(), Stop> {
         let (need, left) = (size as u128 * cells.len() as u128, self.left(at));
         if need != left as u128 {
@@ -353,10 +330,14 @@ impl Walker<'_> {
         };
         let offsets: Vec<u64> = (0..=count).map(|number| self.number(index + width * number, width)).collect();
         let (last, data) = (offsets[count], left - 8 - need);
-        let wrong_end = last != 0 && last != data as u64;
-        let falling = offsets.windows(2).position(|pair| pair[1] < pair[0]).filter(|_| !wrong_end);
-        // With all offsets, or up to the one that is less than the one before it.
-        for number in 0..=falling.map_or(count, |before| before + 1) {
+        let wrong_end = last != data as u64;
+        let breaks = |number: usize| match number.checked_sub(1) {
+            None => offsets[0] != 0,
+            Some(before) => offsets[number] < offsets[before],
+        };
+        let wrong = (0..=count).find(|&number| breaks(number)).filter(|_| !wrong_end);
+        // With all offsets, or up to the one that breaks their rule.
+        for number in 0..=wrong.unwrap_or(count) {
             let part = Part::Offset {
                 number,
                 says: offsets[number],
@@ -370,20 +351,19 @@ impl Walker<'_> {
             let what = format!("the last offset says {last} value bytes; {data} are there");
             stop(Refusal::Length, last_at, what)?;
         }
-        if let Some(before) = falling {
-            let number = before + 1;
-            let (less, more) = (offsets[number], offsets[before]);
-            let what = format!("offset {number} is {less}, less than offset {before} before it, which is {more}");
+        if let Some(number) = wrong {
+            let says = offsets[number];
+            let what = match number.checked_sub(1).map(|before| (before, offsets[before])) {
+                None => format!("the first offset is {says}; it must be 0"),
+                Some((before, more)) => {
+                    format!("offset {number} is {says}, less than offset {before} before it, which is {more}")
+                }
+            };
             stop(Refusal::Falling, index + width * number, what)?;
         }
         if last > MAX_VALUE_BYTES {
             stop(Refusal::Size, last_at, format!("the last offset says {last} value bytes"))?;
         }
-        if last == 0 {
-            self.field(data_at, data, Part::Unused(Unused::Behind));
-            return Ok(());
-        }
-        self.field(data_at, offsets[0] as usize, Part::Unused(Unused::Before));
         for (ends, &cell) in offsets.windows(2).zip(cells) {
             self.field(data_at + ends[0] as usize, (ends[1] - ends[0]) as usize, Part::Data { cell });
         }
@@ -425,7 +405,7 @@ impl Walker<'_> {
             }
             at += 4 + length as usize;
         }
-        self.field(at, self.left(at), Part::Unused(Unused::Tail));
+        self.field(at, self.left(at), Part::Tail);
         over
     }
 }
@@ -463,7 +443,7 @@ mod tests {
         assert_eq!(with(28, 24), Some((8, 28)), "content length of level 2");
         assert_eq!(with(38, 1), Some((8, 39)), "one cell more is set in the mask of level 2");
         assert_eq!(with(39, 16), Some((8, 39)), "index length");
-        assert_eq!(with(47, 6), Some((10, 51)), "first offset over the second");
+        assert_eq!(with(47, 6), Some((10, 47)), "first offset");
         assert_eq!(with(51, 6), Some((10, 55)), "second offset over the last");
         assert_eq!(with(55, 4), Some((8, 55)), "last offset");
         assert_eq!(with(60, b'x'), None, "a value byte");
@@ -530,7 +510,8 @@ mod tests {
             at(table(kind, 4, &bytes))
         };
         assert_eq!(with(56, 16), Some((8, 56)), "index length");
-        assert_eq!(with(44, 6), Some((10, 48)), "first offset over the second");
+        assert_eq!(with(44, 6), Some((10, 44)), "first offset");
+        assert_eq!(with(48, 6), Some((10, 52)), "second offset over the last");
         assert_eq!(with(52, 4), Some((8, 52)), "last offset");
     }
 
@@ -587,27 +568,33 @@ mod tests {
     }
 
     #[test]
-    fn bytes_that_no_cell_uses() {
-        let unused = |walk: Walk| -> Vec<(usize, usize, Unused)> {
-            assert_eq!(walk.stop, None);
-            walk.unused().map(|(field, unused)| (field.at, field.length, unused)).collect()
-        };
+    fn bytes_in_no_cell() {
+        let told = |walk: Walk| walk.stop.map(|stop| (stop.refusal.number(), stop.at, stop.what)).unwrap();
         let frame = |content: &[u8]| {
             [&[2, 0, 0, 0, 0, 0, 0, 0, content.len() as u8, 0, 0, 0, 0, 0, 0, 0, 0, 0][..], content].concat()
         };
         let fixed = Kind::fixed(1, 2, Order::Little);
-        assert_eq!(unused(table(fixed, 2, &frame(b""))), []);
-        assert_eq!(unused(table(fixed, 2, &frame(b"note"))), [(18, 4, Unused::Content { level: 1 })]);
-        let ragged = |place| Kind::ragged(0, Width::Four, place);
+        assert_eq!(at(table(fixed, 2, &frame(b""))), None);
+        let note = told(table(fixed, 2, &frame(b"note")));
+        assert_eq!(note, (8, 18, "no cell is set in the mask of level 1, but 4 content bytes follow".into()));
+        let one = told(table(fixed, 2, &frame(b"n")));
+        assert_eq!(one, (8, 18, "no cell is set in the mask of level 1, but 1 content byte follows".into()));
         let start = |offsets: [u8; 2], data: &[u8]| {
             [&[8, 0, 0, 0, 0, 0, 0, 0, offsets[0], 0, 0, 0, offsets[1], 0, 0, 0][..], data].concat()
         };
-        assert_eq!(unused(table(ragged(Place::Start), 1, &start([0, 2], b"AB"))), []);
-        assert_eq!(unused(table(ragged(Place::Start), 1, &start([1, 2], b"AB"))), [(16, 1, Unused::Before)]);
-        assert_eq!(unused(table(ragged(Place::Start), 1, &start([0, 0], b"AB"))), [(16, 2, Unused::Behind)]);
+        let ragged = |offsets, data| table(Kind::ragged(0, Width::Four, Place::Start), 1, &start(offsets, data));
+        assert_eq!(at(ragged([0, 2], b"AB")), None);
+        assert_eq!(told(ragged([1, 2], b"AB")), (10, 8, "the first offset is 1; it must be 0".into()));
+        assert_eq!(told(ragged([1, 1], b"A")), (10, 8, "the first offset is 1; it must be 0".into()));
+        assert_eq!(told(ragged([1, 2], b"A")), (8, 12, "the last offset says 2 value bytes; 1 are there".into()));
+        assert_eq!(told(ragged([0, 0], b"AB")), (8, 12, "the last offset says 0 value bytes; 2 are there".into()));
+        assert_eq!(told(ragged([5, 0], b"AB")), (8, 12, "the last offset says 0 value bytes; 2 are there".into()));
+        assert_eq!(told(ragged([5, 0], b"")), (10, 8, "the first offset is 5; it must be 0".into()));
         let end = [&b"AB"[..], &start([1, 2], b"")[8..], &start([1, 2], b"")[..8]].concat();
-        assert_eq!(unused(table(ragged(Place::End), 1, &end)), [(0, 1, Unused::Before)]);
-        assert_eq!(unused(interleaved(1, &[1, 0, 0, 0, 0, 0, 0, 0, 7])), [(8, 1, Unused::Tail)]);
+        assert_eq!(at(table(Kind::ragged(0, Width::Four, Place::End), 1, &end)), Some((10, 2)));
+        let tail = interleaved(1, &[1, 0, 0, 0, 0, 0, 0, 0, 7]);
+        assert_eq!((tail.tail(), at(tail)), (1, None));
+        assert_eq!(interleaved(1, &[1, 0, 0, 0, 0, 0, 0, 0]).tail(), 0);
     }
 
     /// The first one of a mask, its level and its cell; before the content, and before a later one.

@@ -15,8 +15,6 @@
 //! byte, and a line where the two contradict each other is not accepted. In a text `\"`, `\\`, `\n`, `\t`, `\r` and `\x0A`
 //! stand for one byte, other characters for their bytes in UTF-8. `#` begins a comment, on a line of its own or behind a
 //! cell.
-//!
-//! Ragged values of depth 0 may have bytes before their first cell; they stand in a line `before: "text"`.
 
 use crate::failure::Failure;
 use crate::literal::{self, hex_byte, word};
@@ -26,16 +24,10 @@ use std::fmt::Write;
 
 const TITLE: &str = "durpaxeta worksheet 1";
 
-/// The table as a worksheet; with values in hex only, and with notes as comments.
-pub fn write(array: &Array, hex: bool, notes: &[String]) -> String {
+/// The table as a worksheet; with values in hex only where that is asked for.
+pub fn write(array: &Array, hex: bool) -> String {
     let mut text = format!("{TITLE}\nkind: {}\nshape: {}\n", array.kind, words::shape_text(&array.shape));
     text.push_str("# cell | mask of each level | null: not set, and at which level; value \"\": set, with no bytes\n");
-    for note in notes {
-        let _ = writeln!(text, "# note: {note}");
-    }
-    if let Some(before @ 1..) = array.offsets.first().copied() {
-        let _ = writeln!(text, "before: {}", literal::write(&array.values[..before as usize], hex));
-    }
     let fixed = !array.kind.is_ragged();
     let count = array.cell_count();
     let width = if count > 0 { words::coordinates(&array.shape, count - 1).len() } else { 0 };
@@ -68,8 +60,7 @@ pub fn read(name: &str, bytes: &[u8]) -> Result<Array, Failure> {
         what: "this is no text (UTF-8), so it is no worksheet".into(),
     })?;
     let text = text.strip_prefix('\u{FEFF}').unwrap_or(text);
-    let mut reader =
-        Reader { name, line: 0, kind: None, shape: None, before: None, cells: Vec::new(), data: Vec::new() };
+    let mut reader = Reader { name, line: 0, kind: None, shape: None, cells: Vec::new(), data: Vec::new() };
     let mut titled = false;
     for (number, line) in text.lines().enumerate() {
         reader.line = number + 1;
@@ -109,7 +100,6 @@ struct Reader<'a> {
     line: usize,
     kind: Option<Kind>,
     shape: Option<Vec<u64>>,
-    before: Option<Vec<u8>>,
     cells: Vec<Option<Given>>,
     data: Vec<u8>,
 }
@@ -154,17 +144,9 @@ impl Reader<'_> {
         let (Some(kind), Some(shape)) = (self.kind, self.shape.clone()) else {
             return Err(self.wrong("a line \"kind: ...\" and a line \"shape: ...\" come before the cells"));
         };
-        if let Some(words) = line.strip_prefix("before:") {
-            if self.before.is_some() {
-                return Err(self.wrong("the bytes before the first cell were given before"));
-            }
-            if kind.depth != 0 || !kind.is_ragged() {
-                return Err(self.wrong("only ragged values of depth 0 have bytes before the first cell"));
-            }
-            let mut before = Vec::new();
-            self.literal(words.trim(), &mut before)?;
-            self.before = Some(before);
-            return Ok(());
+        // A line of version 0.4 and before.
+        if line.starts_with("before:") {
+            return Err(self.refused(Refusal::Content, "Bytes before the first cell are in no cell: remove the line"));
         }
         self.cell(kind, &shape, line)
     }
@@ -290,12 +272,9 @@ impl Reader<'_> {
             kind,
             shape,
             masks: vec![0; kind.depth as usize * count],
-            values: self.before.unwrap_or_default(),
-            offsets: Vec::new(),
+            values: Vec::new(),
+            offsets: if kind.is_ragged() { vec![0] } else { Vec::new() },
         };
-        if kind.is_ragged() {
-            array.offsets.push(array.values.len() as u64);
-        }
         for (number, cell) in self.cells.iter().flatten().enumerate() {
             for (level, &mask) in cell.masks.iter().enumerate() {
                 array.masks[level * count + number] = mask;
@@ -341,7 +320,7 @@ mod tests {
         let array = read("sheet", text.as_bytes()).unwrap();
         assert_eq!(array.masks, [1, 1, 0, 1, 1, 1, 0, 0]);
         assert_eq!((&array.values[..], &array.offsets[..]), (&b"0-3,8"[..], &[0, 5, 5, 5, 5][..]));
-        let written = write(&array, false, &[]);
+        let written = write(&array, false);
         assert!(written.contains("0,0 | 01 01 | value \"0-3,8\"\n"));
         assert!(written.contains("0,1 | 01 01 | value \"\"\n"));
         assert!(written.contains("1,0 | 00 00 | null at level 1\n"));
@@ -386,7 +365,6 @@ mod tests {
             "1 | 01 01 | value \"a\"",
             "0,0 | 01 01 | value \"a\"",
             "x | 01 01 | value \"a\"",
-            "before: \"a\"",
             "shape: 1",
             "kind: depth 0, fixed, size 1, little",
         ] {
@@ -425,6 +403,7 @@ mod tests {
         for masks in ["02 01", "01 FF", "00 02", "ff 80"] {
             assert_eq!(status(&sheet(RAGGED, "1", &[&format!("0 | {masks} | value \"\"")])), 4, "{masks}");
         }
+        assert_eq!(status(&sheet(FLAT, "1", &["before: \"A\"", "0 | - | value \"B\""])), 4);
     }
 
     #[test]
@@ -438,10 +417,10 @@ mod tests {
 
     #[test]
     fn escapes() {
-        let text = sheet(FLAT, "1", &["before: hex 00", "0 | - | value \"a\\\"\\\\\\n\\t\\r\\x00\\xfF|#é\""]);
+        let text = sheet(FLAT, "1", &["0 | - | value \"a\\\"\\\\\\n\\t\\r\\x00\\xfF|#é\""]);
         let array = read("sheet", text.as_bytes()).unwrap();
-        assert_eq!(array.values, b"\0a\"\\\n\t\r\0\xFF|#\xC3\xA9");
-        assert_eq!(array.offsets, [1, 13]);
+        assert_eq!(array.values, b"a\"\\\n\t\r\0\xFF|#\xC3\xA9");
+        assert_eq!(array.offsets, [0, 12]);
     }
 
     /// What is written is read as the same array, in text and in hex.
@@ -454,25 +433,15 @@ mod tests {
             cells.extend((1..=depth as usize).map(|level| Cell::Null { level }));
             let array = Array::from_cells(kind, &[1, cells.len() as u64], &cells).unwrap();
             for hex in [false, true] {
-                let text = write(&array, hex, &["a note".into()]);
+                let text = write(&array, hex);
                 assert_eq!(read("sheet", text.as_bytes()).unwrap(), array, "{text}");
             }
         }
         let kind = Kind::fixed(1, 3, Order::Big);
         let array = Array::from_cells(kind, &[2], &[Cell::Null { level: 1 }, Cell::Value(b"abc")]).unwrap();
-        let text = write(&array, false, &[]);
+        let text = write(&array, false);
         assert!(text.contains("1 | 01 | value hex 61 62 63\n"));
         assert_eq!(read("sheet", text.as_bytes()).unwrap(), array);
-        let flat = Array {
-            kind: Kind::ragged(0, Width::Eight, Place::End),
-            shape: vec![1],
-            masks: vec![],
-            values: b"AB".to_vec(),
-            offsets: vec![1, 2],
-        };
-        let text = write(&flat, false, &[]);
-        assert!(text.contains("before: \"A\"\n0 | - | value \"B\"\n"));
-        assert_eq!(read("sheet", text.as_bytes()).unwrap(), flat);
     }
 
     /// Whatever is damaged: an array that the library can judge, or a failure; never a panic.
@@ -481,7 +450,7 @@ mod tests {
         let mut draw = crate::random::draws(99);
         let sheets = [
             include_str!("../../demo/guests.txt").to_string(),
-            sheet(FLAT, "2", &["before: hex 00 01", "0 | - | value \"a\\\"\\x41é\"", "1 | - | value hex 0A0b"]),
+            sheet(FLAT, "2", &["0 | - | value \"a\\\"\\x41é\"", "1 | - | value hex 0A0b"]),
             sheet(FIXED, "1x2", &["0,0 | 7F | value hex 0A 0B # x", "0,1 | 00 | null at level 1"]),
         ];
         let (mut good, mut bad) = (0, 0);
@@ -502,8 +471,7 @@ mod tests {
                 Ok(array) => {
                     good += 1;
                     let stored = durpaxeta::encode(&array).unwrap();
-                    let shown =
-                        write(&durpaxeta::decode(array.kind, &array.shape, &stored).unwrap(), round % 2 == 0, &[]);
+                    let shown = write(&durpaxeta::decode(array.kind, &array.shape, &stored).unwrap(), round % 2 == 0);
                     let again = read("shown", shown.as_bytes()).unwrap();
                     assert_eq!(durpaxeta::encode(&again).unwrap(), stored, "{shown}");
                 }

@@ -51,7 +51,7 @@ fn shown_and_written_again() {
         sheet("depth 0, fixed, size 2, big order", "3", "0 | - | value hex 0102\n1|-|value \"ab\"\n2 | - | value hex 00 00\n"),
         sheet("depth 1, fixed, size 2, little order", "3", "0 | 01 | value hex 0A0B\n1 | 00 | null at level 1\n2 | 01 | value hex 0E0F\n"),
         sheet("depth 1, fixed, size 1, little order", "1x1x1x1", "0,0,0,0 | 00 | null at level 1\n"),
-        sheet("depth 0, ragged, width 4, index at end", "2", "before: \"zz\"\n0 | - | value \"AB\"\n1 | - | value \"\"\n"),
+        sheet("depth 0, ragged, width 4, index at end", "2", "0 | - | value \"AB\"\n1 | - | value \"\"\n"),
         sheet("depth 0, ragged, width 8, index at start", "2", "0 | - | value hex 00\n1 | - | value \"a \\\"b\\\" \\\\ | # c\"\n"),
         sheet(
             "depth 4, ragged, width 8, index at end",
@@ -129,13 +129,13 @@ fn cut_and_merged() {
 fn cut_of_stored_values() {
     let folder = folder("partial");
     let kind = "depth 0, ragged, width 4, index at start";
-    let stored = le(&[12], 8, &le(&[1, 2, 4], 4, b"xabb"));
+    let stored = le(&[12], 8, &le(&[0, 2, 4], 4, b"xabb"));
     let cut = run(&folder, &["cut", "--kind", kind, "--shape", "2", "--subset", "1..2", "-", "-"], &stored);
     assert_eq!((cut.status, cut.out), (0, le(&[8], 8, &le(&[0, 2], 4, b"bb"))));
-    let falling = le(&[12], 8, &le(&[3, 2, 4], 4, b"xabb"));
+    let falling = le(&[12], 8, &le(&[0, 5, 4], 4, b"xabb"));
     let cut = run(&folder, &["cut", "--kind", kind, "--shape", "2", "--subset", "1..2", "-", "-"], &falling);
     assert_eq!(cut.status, 10);
-    assert!(cut.err.contains("Reading stopped at byte 12 of 24"), "{}", cut.err);
+    assert!(cut.err.contains("Reading stopped at byte 16 of 24"), "{}", cut.err);
     assert!(cut.out.is_empty());
 }
 
@@ -172,7 +172,7 @@ fn converted() {
     }
     let checked = run(&folder, &["check", "--interleaved", "--shape", "2", "-"], &old);
     assert_eq!(checked.status, 0);
-    assert!(checked.text().contains("14 bytes, 1 of them in no cell"), "{}", checked.text());
+    assert!(checked.text().contains("14 bytes; 1 byte comes after the last cell"), "{}", checked.text());
     let checked = run(&folder, &["check", "--interleaved", "--shape", "3", "-"], &old);
     assert_eq!(checked.status, 7);
 }
@@ -232,7 +232,7 @@ fn damaged_files() {
         if show.status == 0 {
             let again = run(&folder, &["write", "-", "-"], &show.out);
             assert_eq!(again.status, 0, "{}{}", show.text(), again.err);
-            assert!(again.out == *case || show.text().contains("# note:"), "{case:02X?}");
+            assert!(again.out == *case, "{case:02X?}");
         }
         if number % 8 == 0 {
             let cut = run(&folder, &["cut", "--kind", KIND, "--shape", "2x2", "--subset", "0..1,0..1", "-", "-"], case);

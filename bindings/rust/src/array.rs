@@ -9,7 +9,8 @@ use core::iter::FusedIterator;
 ///
 /// `masks` has one plane for each level, outermost first, one byte a cell: 00 is null, 01 is set, and no other byte is one, below a
 /// null neither: each call that takes an array refuses it with `Content`.
-/// Ragged kinds have one more offset than cells; fixed kinds have none.
+/// Ragged kinds have one more offset than cells: the first is 0, they never fall, and the last is the count of value bytes; any
+/// others are refused with `Content` too. Fixed kinds have none.
 #[derive(Clone, Debug, PartialEq, Eq)]
 pub struct Array {
     /// Depth, and fixed or ragged values.

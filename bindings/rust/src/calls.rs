@@ -90,8 +90,9 @@ pub fn encode_into<'a, 'o>(array: impl Into<ArrayRef<'a>>, out: &'o mut [u8]) ->
 ///
 /// # Errors
 ///
-/// In this order `Kind`, `Shape`; then, as the bytes are read, of each level `Short`, `Length`, and `UnusedBits` of a packed mask or
-/// `NotBoolean` of another, then of the values `Short`, `Length`, `Falling`; then `Size`.
+/// In this order `Kind`, `Shape`; then, as the bytes are read, of each level `Short`, `Length`, `UnusedBits` of a packed mask or
+/// `NotBoolean` of another, and `Length` again where content follows a mask in which no cell is set; then of the values `Short`,
+/// `Length`, `Falling`; then `Size`.
 ///
 /// ```
 /// use durpaxeta::{decode, Cell, Kind, Order, Refusal};
@@ -104,6 +105,8 @@ pub fn encode_into<'a, 'o>(array: impl Into<ArrayRef<'a>>, out: &'o mut [u8]) ->
 /// assert_eq!(decode(kind, &[2], &stored[..18]), Err(Refusal::Length));
 /// let neither = [2, 0, 0, 0, 0, 0, 0, 0, 1, 0, 0, 0, 0, 0, 0, 0, 2, 1, 0x0A];
 /// assert_eq!(decode(kind, &[2], &neither), Err(Refusal::NotBoolean));
+/// let hidden = [2, 0, 0, 0, 0, 0, 0, 0, 1, 0, 0, 0, 0, 0, 0, 0, 0, 0, 0x0A];
+/// assert_eq!(decode(kind, &[2], &hidden), Err(Refusal::Length));
 /// # Ok::<(), Refusal>(())
 /// ```
 pub fn decode(kind: Kind, shape: &[u64], bytes: &[u8]) -> Result<Array, Refusal> {
@@ -155,8 +158,7 @@ pub fn decode_interleaved(cells: u64, bytes: &[u8]) -> Result<RaggedValues, Refu
     Ok(RaggedValues { values: read.values, offsets: read.offsets })
 }
 
-/// Array to the older, interleaved form of Zarr V2. The kind is ragged, of depth 0; bytes before the first offset are not
-/// written.
+/// Array to the older, interleaved form of Zarr V2. The kind is ragged, of depth 0.
 ///
 /// # Errors
 ///
@@ -175,8 +177,7 @@ pub fn decode_interleaved(cells: u64, bytes: &[u8]) -> Result<RaggedValues, Refu
 pub fn encode_interleaved<'a>(array: impl Into<ArrayRef<'a>>) -> Result<Vec<u8>, Refusal> {
     let array = array.into();
     let mut out = vec![0; sizes::interleaved(array.cell_count(), array.values.len())];
-    let length = given(ffi::encode_interleaved(array.kind, array.shape, content(array), &mut out))?;
-    cut(&mut out, length);
+    given(ffi::encode_interleaved(array.kind, array.shape, content(array), &mut out))?;
     Ok(out)
 }
 
@@ -402,12 +403,7 @@ impl ChunkList {
 /// ```
 pub fn merge(kind: Kind, shape: &[u64], chunks: &[Chunk<'_>]) -> Result<Array, Refusal> {
     let list = ChunkList::new(kind, shape, chunks);
-    let of_cells = |chunk: &Chunk<'_>| match chunk.array.offsets {
-        [first, .., last] => last.saturating_sub(*first),
-        _ => 0,
-    };
-    let bytes = chunks.iter().map(of_cells).fold(0, u64::saturating_add);
-    let room = kind.array_room(cell_count(shape), sizes::limited(bytes).min(list.values.len()));
+    let room = kind.array_room(cell_count(shape), sizes::limited(list.values.len() as u64));
     lend(kind, shape, room, |out| list.merge(kind, shape, out))
 }
 

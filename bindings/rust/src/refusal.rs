@@ -52,14 +52,17 @@ refusals! {
     Subset = 3, Describer,
         "a subset reaches past the shape, or has not one start and one length for each side, or, in a merge, holds no cell";
     Content = 4, Supplier,
-        "lengths of masks, values, offsets or chunks disagree, a mask byte is neither 00 nor 01, or offsets fall";
+        "lengths of masks, values, offsets or chunks disagree, a mask byte is neither 00 nor 01, the first offset is not 0, or \
+         offsets fall";
     Size = 5, Supplier, "more than 16,777,216 value bytes";
     Output = 6, Lender, "an output is shorter than the result needs";
     Short = 7, Storer,
         "too few stored bytes: a frame takes at least 16, ragged values 8, the interleaved form 4 and 4 for each cell";
-    Length = 8, Storer, "a stored length disagrees with the bytes that are there, or with the number of cells";
+    Length = 8, Storer,
+        "a stored length disagrees with the bytes that are there, or with the number of cells, or bytes are stored where no \
+         cell has any";
     Count = 9, Storer, "the interleaved form counts another number of cells";
-    Falling = 10, Storer, "stored offsets fall";
+    Falling = 10, Storer, "the first stored offset is not 0, or stored offsets fall";
     PastEnd = 11, Storer, "interleaved form: a length field or a cell runs past the end";
     Cover = 12, Supplier, "the subsets of the merge miss a cell or hold one twice";
     UnusedBits = 13, Storer, "a packed mask has a bit after its last cell that is not 0";

@@ -73,7 +73,7 @@ pub fn limited(bytes: u64) -> usize {
     }
 }
 
-/// Bytes of the interleaved form of that many cells, at most; 0 where there are too many value bytes.
+/// Bytes of the interleaved form of that many cells; 0 where there are too many value bytes.
 pub fn interleaved(cells: usize, value_bytes: usize) -> usize {
     match value_bytes as u64 <= MAX_VALUE_BYTES {
         true => 4 + 4 * cells + value_bytes,

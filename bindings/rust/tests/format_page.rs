@@ -4,10 +4,10 @@ use durpaxeta::*;
 
 const PAGE: &str = include_str!("../../../docs/FORMAT.md");
 
-/// The bytes of each picture; positions must run on.
-fn pictures() -> Vec<Vec<u8>> {
+/// The bytes of each picture behind such a fence; positions must run on.
+fn pictures(fence: &str) -> Vec<Vec<u8>> {
     let mut pictures = Vec::new();
-    for block in PAGE.split("```bytes\n").skip(1) {
+    for block in PAGE.split(&format!("```{fence}\n")).skip(1) {
         let (block, _) = block.split_once("```").expect("a picture ends");
         let mut bytes = Vec::new();
         for line in block.lines() {
@@ -35,13 +35,11 @@ fn pictures_are_real() {
         (Cell::Value(b"A"), Cell::Value(b""), Cell::Null { level: 1 }, Cell::Null { level: 2 });
     let two = [Cell::Value(&[10, 11]), Cell::Value(&[12, 13])];
     let ragged = [Cell::Value(b"AB"), empty];
-    let late = Array { kind: start(0), shape: vec![1], masks: vec![], values: b"AB".to_vec(), offsets: vec![1, 2] };
     let wanted = [
         stored(fixed(0, 2), &[2], &two),
         stored(Kind::fixed(0, 2, Order::Big), &[2], &two),
         stored(Kind::ragged(0, Width::Four, Place::End), &[2], &ragged),
         stored(Kind::ragged(0, Width::Eight, Place::Start), &[2], &ragged),
-        encode(&late).unwrap(),
         stored(fixed(1, 2), &[3], &[Cell::Value(&[10, 11]), null1, Cell::Value(&[14, 15])]),
         stored(fixed(1, 2), &[3], &[null1; 3]),
         stored(fixed(2, 1), &[3], &[Cell::Value(&[7]), null2, null1]),
@@ -51,7 +49,6 @@ fn pictures_are_real() {
         stored(start(2), &[1], &[null2]),
         stored(start(2), &[1], &[null1]),
         encode_interleaved(&Array::from_cells(start(0), &[2], &[a, empty]).unwrap()).unwrap(),
-        encode_interleaved(&late).unwrap(),
     ];
     let numbers: Vec<u8> = (1..=9).collect();
     let nine: Vec<Cell<'_>> = (0..9)
@@ -67,16 +64,33 @@ fn pictures_are_real() {
     ];
     let load = |kind, cells, number| encode(&generate(kind, &[cells], number).unwrap()).unwrap();
     let loads = [load(fixed(1, 1), 2, 0), load(start(0), 2, 1), load(start(2), 4, 7)];
-    let pictures = pictures();
+    let pictures = pictures("bytes");
     assert_eq!(pictures.len(), wanted.len() + packed.len() + loads.len());
     for (number, (picture, wanted)) in pictures.iter().zip(wanted.iter().chain(&packed).chain(&loads)).enumerate() {
         assert_eq!(picture, wanted, "picture {number}");
     }
-    let interleaved = decode_interleaved(2, &pictures[13]).unwrap();
+    let interleaved = decode_interleaved(2, &pictures[12]).unwrap();
     assert_eq!((interleaved.cell(0), interleaved.cell(1)), (Some(&b"A"[..]), Some(&b""[..])));
 
     let lengths: Vec<usize> = pictures.iter().map(Vec::len).collect();
-    assert_eq!(lengths, [4, 4, 22, 34, 18, 23, 19, 38, 64, 51, 50, 34, 17, 13, 9, 21, 37, 19, 27, 59]);
+    assert_eq!(lengths, [4, 4, 22, 34, 23, 19, 38, 64, 51, 50, 34, 17, 13, 21, 37, 19, 27, 59]);
+}
+
+/// Part 8.
+#[test]
+fn refused_pictures_are_refused() {
+    let flat = Kind::ragged(0, Width::Four, Place::Start);
+    let long = [(Kind::fixed(1, 2, Order::Little), 3, 24), (Kind::fixed(2, 1, Order::Little), 1, 34), (flat, 1, 19)];
+    let late = [(flat, 1, 18), (flat, 1, 17)];
+    for (fence, refusal, tables) in
+        [("refused 8", Refusal::Length, &long[..]), ("refused 10", Refusal::Falling, &late[..])]
+    {
+        let pictures = pictures(fence);
+        assert_eq!(pictures.len(), tables.len());
+        for (bytes, &(kind, cells, length)) in pictures.iter().zip(tables) {
+            assert_eq!((decode(kind, &[cells], bytes), bytes.len()), (Err(refusal), length), "{bytes:02X?}");
+        }
+    }
 }
 
 /// Part 13: the first twenty draws of start number 0, by the page's own rule; as value bytes they are a load.
@@ -118,7 +132,7 @@ fn answers_of_the_questions() {
         assert_eq!(decode(one.packed(), &[1], &alike).unwrap().cell(0), Some(cell));
     }
     let kind = Kind::ragged(2, Width::Four, Place::Start);
-    let mut affinity = pictures()[8].clone();
+    let mut affinity = pictures("bytes")[7].clone();
     affinity[51] = 4;
     let table = decode(kind, &[2, 2], &affinity).unwrap();
     assert_eq!((table.cell(0), table.cell(1)), (Some(Cell::Value(b"0-3,")), Some(Cell::Value(b"8"))));

@@ -44,20 +44,16 @@ fn interleaved(lengths: &[usize]) -> Vec<u8> {
 fn byte_limit_of_encode() {
     assert_eq!(encode(&one(MOST)).as_ref(), Ok(&stored(Place::Start, MOST)));
     assert_eq!(encode(&one(MOST + 1)), Err(Refusal::Size));
-    // By the last offset, though the cell is empty.
-    let hidden = array(kind(), &[1], vec![], value(MOST + 1), vec![MOST as u64 + 1; 2]);
-    assert_eq!(encode(&hidden), Err(Refusal::Size));
-    // The lengths come first.
+    // The lengths come first, and so does the first offset.
     assert_eq!(encode(&array(kind(), &[1], vec![], vec![], vec![0, MOST as u64 + 1])), Err(Refusal::Content));
+    let late = array(kind(), &[1], vec![], value(MOST + 1), vec![1, MOST as u64 + 1]);
+    assert_eq!(encode(&late), Err(Refusal::Content));
 }
 
 #[test]
 fn byte_limit_of_encode_interleaved() {
     assert_eq!(encode_interleaved(&one(MOST)).as_ref(), Ok(&interleaved(&[MOST])));
     assert_eq!(encode_interleaved(&one(MOST + 1)), Err(Refusal::Size));
-    // By the last offset, not by what is written.
-    let late = array(kind(), &[1], vec![], value(MOST + 1), vec![1, MOST as u64 + 1]);
-    assert_eq!(encode_interleaved(&late), Err(Refusal::Size));
     assert_eq!(
         encode_interleaved(&array(kind(), &[1], vec![], vec![], vec![0, MOST as u64 + 1])),
         Err(Refusal::Content)
@@ -82,11 +78,10 @@ fn byte_limit_of_decode() {
         assert_eq!(decode(kind, &[1], &framed(MOST)).unwrap().values, value(MOST));
         assert_eq!(decode(kind, &[1], &framed(MOST + 1)), Err(Refusal::Size));
     }
-    // Behind a null any length is accepted.
-    let content = MOST + 1;
-    let null = [&1u64.to_le_bytes()[..], &(content as u64).to_le_bytes(), &[0], &value(content)].concat();
-    let read = decode(Kind::ragged(1, Width::Eight, Place::Start), &[1], &null).unwrap();
-    assert_eq!(read.cell(0), Some(Cell::Null { level: 1 }));
+    // The first offset comes before the limit.
+    let mut late = stored(Place::Start, MOST + 1);
+    late[8] = 1;
+    assert_eq!(decode(kind(), &[1], &late), Err(Refusal::Falling));
 }
 
 #[test]
@@ -128,10 +123,9 @@ fn byte_limit_of_merge() {
     // 5 goes by the sum also where the subsets overlap, and comes before 12.
     assert_eq!(merged([&first, &first], [half, half]), Err(Refusal::Cover));
     assert_eq!(merged([&first, &first], [half, half + 1]), Err(Refusal::Size));
-    // By the cells, not by the last offset.
+    // 4 comes before 5.
     let late = array(kind(), &[1], vec![], value(MOST + 1), vec![MOST as u64, MOST as u64 + 1]);
-    let one_byte = merge(kind(), &[1], &[Chunk::new(&first, &late)]).unwrap();
-    assert_eq!((one_byte.values, one_byte.offsets), (vec![value(MOST + 1)[MOST]], vec![0, 1]));
+    assert_eq!(merge(kind(), &[1], &[Chunk::new(&first, &late)]), Err(Refusal::Content));
 }
 
 #[test]

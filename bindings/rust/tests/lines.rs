@@ -37,11 +37,45 @@ fn depth_1_nothing_set() {
     let kind = fixed(1, 2);
     let stored = encode(&array(kind, &[3], &[0, 0, 0], &bytes("0A0B 0C0D 0E0F"), &[])).unwrap();
     assert_eq!(stored.len(), 19);
-    let read = decode(kind, &[3], &stored);
-    assert_eq!(read, Ok(array(kind, &[3], &[0, 0, 0], &[0; 6], &[])));
-    // With content length 5 and five more bytes it reads alike.
-    let with_content = bytes("0300000000000000 0500000000000000 000000 0102030405");
-    assert_eq!(decode(kind, &[3], &with_content), read);
+    assert_eq!(decode(kind, &[3], &stored), Ok(array(kind, &[3], &[0, 0, 0], &[0; 6], &[])));
+}
+
+/// S10.3, S10.6 and S10.31 to S10.36.
+#[test]
+fn hidden_bytes() {
+    let (flat, one, two) = (ragged(0, Width::Four, Place::Start), fixed(1, 2), fixed(2, 1));
+    for (kind, cells, hex, refusal) in [
+        (one, 3, "0300000000000000 0500000000000000 000000 0102030405", Refusal::Length),
+        (two, 1, "0100000000000000 1100000000000000 00 0100000000000000 0000000000000000 00", Refusal::Length),
+        (fixed(1, 1), 1, "0100000000000000 0500000000000000 02 0102030405", Refusal::NotBoolean),
+        (fixed(1, 1).packed(), 1, "0100000000000000 0500000000000000 02 0102030405", Refusal::UnusedBits),
+        (flat, 1, "0800000000000000 00000000 00000000 78797A", Refusal::Length),
+        (flat, 1, "0800000000000000 05000000 00000000 78797A", Refusal::Length),
+        (flat, 1, "0800000000000000 05000000 00000000", Refusal::Falling),
+        (flat, 1, "0800000000000000 01000000 02000000 41", Refusal::Length),
+        (flat, 1, "0800000000000000 01000000 02000000 4142", Refusal::Falling),
+        (flat, 1, "0800000000000000 01000000 01000000 41", Refusal::Falling),
+    ] {
+        assert_eq!(decode(kind, &[cells], &bytes(hex)), Err(refusal), "{hex}");
+        if kind == flat {
+            let none = partial_decode(Width::Four, Place::Start, &[1], &subset(&[0, 0]), &bytes(hex));
+            assert_eq!(none, Err(refusal), "{hex}");
+        }
+    }
+    for (values, offsets) in [(&b"AB"[..], [1, 2]), (b"A", [1, 1])] {
+        let table = array(flat, &[1], &[], values, &offsets);
+        assert_eq!(encode(&table), Err(Refusal::Content));
+        assert_eq!(encode_interleaved(&table), Err(Refusal::Content));
+        assert_eq!(extract(&table, &subset(&[0, 1])), Err(Refusal::Content));
+        assert_eq!(merge(flat, &[1], &[Chunk::new(&subset(&[0, 1]), &table)]), Err(Refusal::Content));
+    }
+    // Each chunk by itself.
+    let (first, second) = (array(flat, &[1], &[], b"a", &[0, 1]), array(flat, &[1], &[], b"bc", &[1, 2]));
+    let (low, high) = (subset(&[0, 1]), subset(&[1, 1]));
+    let merged = |second| merge(flat, &[2], &[Chunk::new(&low, &first), Chunk::new(&high, second)]);
+    assert_eq!(merged(&second), Err(Refusal::Content));
+    let good = array(flat, &[1], &[], b"bc", &[0, 2]);
+    assert_eq!(merged(&good), Ok(array(flat, &[2], &[], b"abc", &[0, 1, 3])));
 }
 
 #[test]
@@ -70,18 +104,6 @@ fn ragged_ab_and_empty() {
 }
 
 #[test]
-fn offsets_from_1() {
-    for place in [Place::Start, Place::End] {
-        let kind = ragged(0, Width::Four, place);
-        let table = array(kind, &[1], &[], b"AB", &[1, 2]);
-        assert_eq!(table.cell(0), Some(Cell::Value(b"B")));
-        assert_eq!(extract(&table, &subset(&[0, 1])), Ok(array(kind, &[1], &[], b"B", &[0, 1])));
-        // Written and read just as it is.
-        assert_eq!(decode(kind, &[1], &encode(&table).unwrap()), Ok(table));
-    }
-}
-
-#[test]
 fn interleaved() {
     let stored = bytes("02000000 01000000 41 00000000");
     let read = RaggedValues { values: b"A".to_vec(), offsets: vec![0, 1, 1] };
@@ -96,8 +118,6 @@ fn interleaved() {
 
     let table = array(ragged(0, Width::Four, Place::End), &[2], &[], b"A", &[0, 1, 1]);
     assert_eq!(encode_interleaved(&table), Ok(stored));
-    let late = array(ragged(0, Width::Four, Place::Start), &[1], &[], b"AB", &[1, 2]);
-    assert_eq!(encode_interleaved(&late), Ok(bytes("01000000 01000000 42")));
 }
 
 #[test]
@@ -163,9 +183,9 @@ fn strict_masks() {
     ] {
         assert_eq!(decode(kind, &[cells], &bytes(hex)), Err(refusal), "{hex}");
     }
-    // In content that is not looked at no mask is read.
+    // Content behind nulls is refused itself, and no mask of it is read.
     let hidden = bytes("0100000000000000 1100000000000000 00 0100000000000000 0000000000000000 02");
-    assert_eq!(decode(two, &[1], &hidden), Ok(array(two, &[1], &[0, 0], &[0], &[])));
+    assert_eq!(decode(two, &[1], &hidden), Err(Refusal::Length));
     for mask in 0..=255 {
         let strict = |answer: Result<Array, Refusal>, table: &Array| match mask {
             0 | 1 => assert_eq!(answer.as_ref(), Ok(table)),
@@ -201,14 +221,14 @@ fn chunk_by_chunk() {
 #[test]
 fn a_cut_keeps_what_is_hidden() {
     let kind = ragged(2, Width::Eight, Place::Start);
-    let table = array(kind, &[1], &[0, 1], b"zAB", &[1, 3]);
-    assert_eq!(extract(&table, &subset(&[0, 1])), Ok(array(kind, &[1], &[0, 1], b"AB", &[0, 2])));
+    let table = array(kind, &[2], &[1, 0, 1, 1], b"zAB", &[0, 1, 3]);
+    assert_eq!(extract(&table, &subset(&[1, 1])), Ok(array(kind, &[1], &[0, 1], b"AB", &[0, 2])));
 }
 
 #[test]
 fn cuts_of_stored_values() {
     let kind = ragged(0, Width::Four, Place::Start);
-    let table = array(kind, &[2, 2], &[], b"xabbccc", &[1, 2, 4, 4, 7]);
+    let table = array(kind, &[2, 2], &[], b"abbccc", &[0, 1, 3, 3, 6]);
     let stored = encode(&table).unwrap();
     let column = subset(&[0, 1, 2, 1]);
     let cut = array(kind, &[2, 1], &[], b"bbccc", &[0, 2, 5]);

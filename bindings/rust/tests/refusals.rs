@@ -173,9 +173,16 @@ fn contents() {
         two(r4(0), &[], b"ab", &[1, 0, 2]),
         two(r4(0), &[], b"ab", &[0, 3, 2]),
         two(r4(0), &[], b"ab", &[0, u64::MAX, 2]),
+        one(r4(0), &[], b"AB", &[1, 2]),
+        one(r4(0), &[], b"A", &[1, 1]),
+        one(r4(1), &[0], b"A", &[1, 1]),
+        two(r4(4), &[1; 8], b"abc", &[1, 2, 3]),
     ];
     for table in &bad {
         assert_eq!(encode(table), Err(Refusal::Content), "{table:?}");
+        if table.kind == r4(0) {
+            assert_eq!(encode_interleaved(table), Err(Refusal::Content), "{table:?}");
+        }
         assert_eq!(extract(table, &Subset::whole(&table.shape)), Err(Refusal::Content), "{table:?}");
         let whole = Subset::whole(&table.shape);
         assert_eq!(merge(table.kind, &table.shape, &[Chunk::new(&whole, table)]), Err(Refusal::Content), "{table:?}");
@@ -227,7 +234,7 @@ fn cover() {
 
 #[test]
 fn stored_frames() {
-    let cases: [(Kind, &[u64], Vec<u8>, Refusal); 14] = [
+    let cases: [(Kind, &[u64], Vec<u8>, Refusal); 18] = [
         (f1(1), &[1], vec![], Refusal::Short),
         (f1(1), &[1], vec![1, 2, 3], Refusal::Short),
         (f1(1), &[1], vec![0; 15], Refusal::Short),
@@ -240,6 +247,10 @@ fn stored_frames() {
         (r4(1), &[1], le(&[1, 0], 8, &[1]), Refusal::Short),
         (f1(2), &[1], le(&[1, 0], 8, &[1]), Refusal::Short),
         (f1(2), &[1], le(&[2, 0], 8, &[1, 1]), Refusal::Length),
+        (f1(1), &[1], le(&[1, 1], 8, &[0, 7]), Refusal::Length),
+        (r4(1), &[2], le(&[2, 8], 8, &[0, 0, 0, 0, 0, 0, 0, 0, 0, 0]), Refusal::Length),
+        (f1(2), &[1], le(&[1, 18], 8, &[&[1][..], &le(&[1, 1], 8, &[0, 7])].concat()), Refusal::Length),
+        (f1(2), &[1], le(&[1, 17], 8, &[&[0][..], &le(&[1, 0], 8, &[0])].concat()), Refusal::Length),
         (Kind::fixed(0, 2, LITTLE), &[1], vec![], Refusal::Length),
         (Kind::fixed(0, 2, LITTLE), &[1], vec![1, 2, 3], Refusal::Length),
     ];
@@ -349,7 +360,12 @@ fn stored_ragged_values() {
         (le(&[8], 8, &le(&[0, 1], 4, b"ab")), Refusal::Length),
         (le(&[8], 8, &le(&[2, 1], 4, b"ab")), Refusal::Length),
         (le(&[8], 8, &le(&[2, 1], 4, b"a")), Refusal::Falling),
-        (le(&[8], 8, &le(&[5, 0], 4, b"x")), Refusal::Falling),
+        (le(&[8], 8, &le(&[5, 0], 4, b"x")), Refusal::Length),
+        (le(&[8], 8, &le(&[5, 0], 4, b"")), Refusal::Falling),
+        (le(&[8], 8, &le(&[0, 0], 4, b"x")), Refusal::Length),
+        (le(&[8], 8, &le(&[1, 2], 4, b"A")), Refusal::Length),
+        (le(&[8], 8, &le(&[1, 2], 4, b"AB")), Refusal::Falling),
+        (le(&[8], 8, &le(&[1, 1], 4, b"A")), Refusal::Falling),
     ];
     for (bytes, refusal) in cases {
         assert_eq!(decode(r4(0), &[1], &bytes), Err(refusal), "{bytes:02X?}");
@@ -359,9 +375,8 @@ fn stored_ragged_values() {
         let framed = [le(&[1, bytes.len() as u64], 8, &[1]), bytes].concat();
         assert_eq!(decode(r4(1), &[1], &framed), Err(refusal), "{framed:02X?}");
     }
-    // Behind a last offset of 0 the data is not looked at.
-    let free = le(&[8], 8, &le(&[0, 0], 4, b"x"));
-    assert_eq!(decode(r4(0), &[1], &free), Ok(array(r4(0), &[1], &[], b"", &[0, 0])));
+    let empty = le(&[8], 8, &le(&[0, 0], 4, b""));
+    assert_eq!(decode(r4(0), &[1], &empty), Ok(array(r4(0), &[1], &[], b"", &[0, 0])));
 }
 
 #[test]
