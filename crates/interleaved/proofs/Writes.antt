@@ -93,15 +93,15 @@ module _ (k : Kind) (n : ℕ) (c : Content) (out : List ℕ) (r : Checked) (f : 
 
 -- ---- refusal 6, or the cells
 
-module _ (want out : List ℕ) {need : ℕ} (e : need ≡ length want) where
-  pub cells-room : need ≤ length out → length want ≤ length out
-  cells-room g = omega arith
+module _ (want out : List ℕ) {need : ℕ} where
+  pub cells-room : need ≤ length out → need ≡ length want → length want ≤ length out
+  cells-room g e = omega arith
 
-  pub cells-short : length out < need → refusedList 6 out ≡ writtenOver want out
-  cells-short g = rw (lt-leb (length want) (length out) (omega arith))
+  pub cells-short : length out < need → need ≡ length want → refusedList 6 out ≡ writtenOver want out
+  cells-short g e = rw (lt-leb (length want) (length out) (omega arith))
 
-  pub cells-written : need ≤ length out → {out′ : List ℕ} → out′ ≡ over want out
+  pub cells-written : need ≤ length out → need ≡ length want → {out′ : List ℕ} → out′ ≡ over want out
       → _≡_ {A = Outcome ℕ (List ℕ)} (record { answer = gives need; buffers = out′ }) (writtenOver want out)
-  cells-written g eo =
+  cells-written g e eo =
       ap₂ (λ (m : ℕ) (o : List ℕ). record { answer = gives m; buffers = o }) e eo
-      ∙ ap (λ (b : Bool). listOutcome (unless b 6 (gives want)) out) (sym (le-leb (length want) (length out) (cells-room g)))
+      ∙ ap (λ (b : Bool). listOutcome (unless b 6 (gives want)) out) (sym (le-leb (length want) (length out) (cells-room g e)))

@@ -35,7 +35,7 @@ full s e = ap (indexOf (widthOf (s .args .width))) (all-ends (s .pre .2) (s .arg
 put-index-requires : tie.Need-put-index-requires
 put-index-requires c κs =
     let s = start (c .before .before) in
-    omega (arith, s .pre .3, ap length (full s (c .before .if1 .taken)))
+    omega (arith, s .pre .3, ap length (full s (omega (arith, c .before .if1 .taken))))
 
 put-offset-requires : tie.Need-put-offset-requires
 put-offset-requires c κs = omega (arith, room (start (c .before .before)))
@@ -59,7 +59,7 @@ returns : tie.Need-returns
 returns c =
     let e = c .before .before .before .before in
     let s = start (e .before) in
-    laid-as (s .args .to) (s .args .out .now) (c .before .before .put-index .ensures) (full s (e .if1 .taken))
+    laid-as (s .args .to) (s .args .out .now) (c .before .before .put-index .ensures) (full s (omega (arith, e .if1 .taken)))
 
 same-length-2 : tie.Need-same-length-2
 same-length-2 c = search needs

@@ -1,8 +1,8 @@
 -- `interleaved::write::write_cells` meets its contract, by the laws of Writes: the length is known before the first store.
 -- Assumes nothing.
-use mathlib.Core.Path.{sym}
 use mathlib.Core.List.{List}
 use Prim.Native.Nat.{ℕ}
+use native.Mathlib.Omega.{arith}
 use borrow.Author.Needs.{needs}
 use Rattle.interleaved.specs.Held.{interleavedOf}
 use Rattle.interleaved.proofs.Storing.{need-is}
@@ -29,12 +29,12 @@ add-need-2 c = search needs
 returns : tie.Need-returns
 returns c =
     let s = start (c .before) in
-    cells-short (want s) (s .args .out .now) (sym (need-is (s .pre))) (c .if1 .taken)
+    cells-short (want s) (s .args .out .now) (c .if1 .taken) (omega (arith, need-is (s .pre)))
 
 put-cells-requires : tie.Need-put-cells-requires
 put-cells-requires c κs =
     let s = start (c .before .before) in
-    (s .pre, cells-room (want s) (s .args .out .now) (sym (need-is (s .pre))) (c .before .if1 .left))
+    (s .pre, cells-room (want s) (s .args .out .now) (c .before .if1 .left) (omega (arith, need-is (s .pre))))
 
 same-length : tie.Need-same-length
 same-length c = search needs
@@ -43,7 +43,7 @@ returns-2 : tie.Need-returns-2
 returns-2 c =
     let fits = c .before .before .before .before in
     let s = start (fits .before) in
-    cells-written (want s) (s .args .out .now) (sym (need-is (s .pre))) (fits .if1 .left) (c .before .before .put-cells .ensures)
+    cells-written (want s) (s .args .out .now) (fits .if1 .left) (omega (arith, need-is (s .pre))) (c .before .before .put-cells .ensures)
 
 pub write-cells-spec : {M : Type 1} → statement M
 write-cells-spec =

@@ -1,8 +1,8 @@
 -- `interleaved::write::write_one` meets its contract, by the laws of Storing and Writes: the length is known before the first store.
 -- Assumes nothing.
-use mathlib.Core.Path.{sym}
 use mathlib.Core.List.{List, [], _∷_}
 use Prim.Native.Nat.{ℕ}
+use native.Mathlib.Omega.{arith}
 use borrow.Author.Needs.{needs}
 use Rattle.codec.specs.Interleaved.{putInterleaved}
 use Rattle.interleaved.proofs.Storing.{one-need, one-empty, one-copied}
@@ -28,7 +28,7 @@ add-need c = search needs
 returns : tie.Need-returns
 returns c =
     let s = start (c .before) in
-    cells-short (want s) (s .args .out .now) (sym (one-need (s .args .values .now))) (c .if1 .taken)
+    cells-short (want s) (s .args .out .now) (c .if1 .taken) (omega (arith, one-need (s .args .values .now)))
 
 put-u32-requires : tie.Need-put-u32-requires
 put-u32-requires c κs = search needs
@@ -48,7 +48,7 @@ returns-2 c =
     let t = m .before .before .before in
     let s = start (fits t .before) in
     let v = s .args .values .now in
-    cells-written (want s) (s .args .out .now) (sym (one-need v)) (fits t .if1 .left)
+    cells-written (want s) (s .args .out .now) (fits t .if1 .left) (omega (arith, one-need v))
     (one-copied v (s .args .out .now) (t .before .before .before .before .put-u32 .ensures) (t .put-u322 .ensures) (c .before .before .copy-exactly .ensures))
 
 same-length-2 : tie.Need-same-length-2
@@ -59,7 +59,7 @@ returns-3 c =
     let t = c .before .before .before in
     let s = start (fits t .before) in
     let v = s .args .values .now in
-    cells-written (want s) (s .args .out .now) (sym (one-need v)) (fits t .if1 .left)
+    cells-written (want s) (s .args .out .now) (fits t .if1 .left) (omega (arith, one-need v))
     (one-empty v (s .args .out .now) (t .before .before .before .before .put-u32 .ensures) (t .put-u322 .ensures) (c .if2 .left))
 
 pub write-one-spec : {M : Type 1} → statement M
