@@ -20,9 +20,9 @@ use Rattle.array.proofs.Rules.{kind-ok}
 use Rattle.valid.proofs.ShapeLaws.{Counted, counted, not-counted}
 use Rattle.codec.specs.Calls.{storedForm, encodeAnswer, encoded}
 use Rattle.encode.specs.Ready.{Encodable}
-use Rattle.encode.specs.Stored.{storedBy, storedOver, storedLength}
+use Rattle.encode.specs.Stored.{storedFrom, storedOver, lengthFrom}
 use Rattle.encode.proofs.Walk.{stored-by}
-use Rattle.encode.proofs.Levels.{stored-by-long}
+use Rattle.encode.proofs.Levels.{stored-long}
 
 -- a refusal leaves the output as it was
 abbrev pub refused : ℕ → List ℕ → Outcome ℕ (List ℕ)
@@ -73,26 +73,26 @@ module _ (k : Kind) (shape : List ℕ) (c : Content) (out : List ℕ) where
 -- ---- refusal 6, or the stored form
 
 module _ {k : Kind} {n : ℕ} {c : Content} (h : Encodable k n c) where
-  is-stored : storedForm k n c ≡ storedBy k n c
+  is-stored : storedForm k n c ≡ storedFrom k n c (k .depth)
   is-stored = stored-by k n c (h .content) (h .some)
 
-  module _ (out : List ℕ) {need : ℕ} (e : need ≡ storedLength k n (c .masks) (length (c .values)) (c .offsets)) where
-    need-is : length (storedBy k n c) ≡ need
-    need-is = stored-by-long k n c (h .content .values-fit) ∙ sym e
+  module _ (out : List ℕ) {need : ℕ} (e : need ≡ lengthFrom k n (c .masks) (c .offsets) (k .depth)) where
+    need-is : length (storedFrom k n c (k .depth)) ≡ need
+    need-is = stored-long k n c (h .content .values-fit) (k .depth) ∙ sym e
 
-    pub encode-room : need ≤ length out → length (storedBy k n c) ≤ length out
+    pub encode-room : need ≤ length out → length (storedFrom k n c (k .depth)) ≤ length out
     encode-room g = subst (λ (m : ℕ). m ≤ length out) (sym need-is) g
 
     pub encode-short : length out < need → refused 6 out ≡ storedOver (storedForm k n c) out
     encode-short g =
-        let s : List ℕ = storedBy k n c in
+        let s : List ℕ = storedFrom k n c (k .depth) in
         ap (λ (b : Bool). listOutcome (unless b 6 (gives s)) out) (sym (lt-leb (length s) (length out) (subst (λ (m : ℕ). length out < m) (sym need-is) g)))
         ∙ ap (λ (x : List ℕ). storedOver x out) (sym is-stored)
 
-    pub encode-written : need ≤ length out → {out′ : List ℕ} → out′ ≡ over (storedBy k n c) out
+    pub encode-written : need ≤ length out → {out′ : List ℕ} → out′ ≡ over (storedFrom k n c (k .depth)) out
         → _≡_ {A = Outcome ℕ (List ℕ)} (record { answer = gives need; buffers = out′ }) (storedOver (storedForm k n c) out)
     encode-written g {out′} eo =
-        let s : List ℕ = storedBy k n c in
+        let s : List ℕ = storedFrom k n c (k .depth) in
         ap₂ (λ (m : ℕ) (o : List ℕ). record { answer = gives m; buffers = o }) (sym need-is) eo
         ∙ ap (λ (b : Bool). listOutcome (unless b 6 (gives s)) out) (sym (le-leb (length s) (length out) (encode-room g)))
         ∙ ap (λ (x : List ℕ). storedOver x out) (sym is-stored)

@@ -1,8 +1,8 @@
 -- The two forms of values, as the code tells them apart, and what is known of them at a level.
 -- Assumes nothing.
-use mathlib.Core.Path.{_≡_, refl, sym, ap, ap₂, _∙_, subst}
-use Prim.Native.Nat.{ℕ, zero, suc, _+_, _-_, _*_, _<_, _≤_}
-use native.Mathlib.Nat.{le-of-eq}
+use mathlib.Core.Path.{_≡_, sym, ap, ap₂, _∙_, subst}
+use Prim.Native.Nat.{ℕ, suc, _+_, _*_, _≤_}
+use native.Mathlib.Nat.{le-of-eq, zero-mul}
 use native.Mathlib.Numerals.{add-one}
 use native.Mathlib.Omega.{arith}
 use mathlib.Core.List.{List, map}
@@ -17,18 +17,19 @@ use Rattle.array.specs.declared.kind.Values.the-variants.{Fixed, Ragged}
 use Rattle.array.specs.Limits.{mostBytes, mostCells}
 use Rattle.array.specs.Lists.{joined, pieces}
 use Rattle.array.specs.Kind.{Kind, Form, fixed, ragged, FormOk, ordered}
-use Rattle.array.specs.Meaning.{orderOf, widthOf, placeOf, masksOf, formOf, kindOf}
+use Rattle.array.specs.Meaning.{orderOf, widthOf, placeOf, formOf, kindOf}
 use Rattle.array.specs.Offsets.{last, Rising}
 use Rattle.array.specs.Content.{Content, ValuesOk}
-use Rattle.codec.specs.Ragged.{putRagged}
 use Rattle.codec.specs.Values.{putValues}
 use Rattle.gather.specs.Live.{liveAt, Planes}
 use Rattle.gather_ragged.specs.Slices.{sliceAt, spansOf, Offsets}
 use Rattle.gather.specs.Pieces.{piecesAt}
 use Rattle.encode.specs.Ready.{MeasuresOk, Measured, Encodable}
-use Rattle.encode.specs.Stored.{valueAt, valuesFrom, storedFrom, storedWhole, storedBy, valuesLengthAt, lengthFrom, lengthWhole, storedLength}
+use Rattle.encode.specs.Stored.{valueAt, valuesFrom, valuesLengthAt}
+use Rattle.gather.proofs.Numbered.{live-all}
 use Rattle.gather.proofs.Runs.{live-le}
-use Rattle.encode.proofs.Levels.{NarrowOk, values-small, fixed-put, fixed-long, plain-length, plain-stored}
+use Rattle.gather.proofs.Gathering.{run-pieces}
+use Rattle.encode.proofs.Levels.{NarrowOk, values-small, fixed-put, fixed-long}
 
 -- ---- the masks of all levels
 
@@ -43,6 +44,7 @@ module _ {k : Kind} {n : ℕ} {c : Content} (r : Encodable k n c) where
   pub encodable-measured : Measured k n (c .masks) (c .offsets)
   encodable-measured = record {
     shallow = r .kind .shallow;
+    some = r .some;
     few = r .few;
     planes = encodable-planes .planes;
     sizes = sizes (k .form) (r .kind .sound) (r .content .values-fit);
@@ -58,11 +60,6 @@ pub narrow-of : (v : Values) → NarrowOk (formOf v)
 narrow-of (Fixed s o) = tt
 narrow-of (Ragged Four p) = omega arith
 narrow-of (Ragged Eight p) = omega arith
-
-pub width-small : (w : IndexWidth) {k n : ℕ} → k ≡ widthOf w → n ≤ mostCells → k * (n + 1) ≤ 524296
-unfolding mostCells
-width-small Four {k} {n} e h = omega (arith, ap (λ (x : ℕ). x * (n + 1)) e)
-width-small Eight {k} {n} e h = omega (arith, ap (λ (x : ℕ). x * (n + 1)) e)
 
 -- ---- how long values are
 
@@ -118,6 +115,14 @@ module _ (k : declared.Kind) {n : ℕ} {c : Content} (r : Encodable (kindOf k) n
     pub fixed-writes : piecesAt (orderOf o) s (c .values) (liveAt n (c .masks) (k .depth)) ≡ valuesFrom (kindOf k) n c
     fixed-writes = fixed-put s (orderOf o) c (liveAt n (c .masks) (k .depth)) ∙ put-as
 
+    -- at depth 0 all cells
+    pub fixed-all : k .depth ≡ 0 → joined (map (ordered (orderOf o)) (pieces s n (c .values))) ≡ valuesFrom (kindOf k) n c
+    fixed-all z =
+        ap (λ (m : ℕ). joined (map (ordered (orderOf o)) (pieces s n (drop m (c .values))))) (sym (zero-mul s))
+        ∙ sym (run-pieces (orderOf o) s (c .values) 0 n)
+        ∙ ap (piecesAt (orderOf o) s (c .values)) (sym (live-all n (c .masks)) ∙ ap (liveAt n (c .masks)) (sym z))
+        ∙ fixed-writes
+
     pub fixed-wrote : {count : ℕ} → count ≡ length (liveAt n (c .masks) (k .depth)) → count * s ≡ length (valuesFrom (kindOf k) n c)
     fixed-wrote ec = ap (λ (j : ℕ). j * s) ec ∙ sym (fixed-long s n (orderOf o) c (k .depth) fixed-fits) ∙ ap length put-as
 
@@ -133,38 +138,3 @@ module _ (k : declared.Kind) {n : ℕ} {c : Content} (r : Encodable (kindOf k) n
 
     pub ragged-writes : putValues (ragged (widthOf w) (placeOf p)) (map (sliceAt (c .offsets) (c .values)) (liveAt n (c .masks) (k .depth))) ≡ valuesFrom (kindOf k) n c
     ragged-writes = ap (λ (v : Values). putValues (formOf v) (map (valueAt (formOf v) c) (liveAt n (c .masks) (k .depth)))) (sym e)
-
--- ---- by the kind
-
--- below masks
-pub length-deep : (k : Kind) (n : ℕ) (masks os : List ℕ) (bytes : ℕ) → 0 < k .depth → lengthFrom k n masks os (k .depth) ≡ storedLength k n masks bytes os
-length-deep k n masks os bytes h = go (k .form) (k .depth) h (lengthFrom k n masks os (k .depth))
-  where
-    go : (f : Form) (d : ℕ) → 0 < d → (x : ℕ) → x ≡ lengthWhole f d n bytes x
-    go (fixed s o) d h x = refl
-    go (ragged w p) zero h x = absurd (omega arith)
-    go (ragged w p) (suc d) h x = refl
-
-pub stored-deep : (k : Kind) (n : ℕ) (c : Content) → 0 < k .depth → storedFrom k n c (k .depth) ≡ storedBy k n c
-stored-deep k n c h = go (k .form) (k .depth) h (storedFrom k n c (k .depth))
-  where
-    go : (f : Form) (d : ℕ) → 0 < d → (s : List ℕ) → s ≡ storedWhole f d c s
-    go (fixed k o) d h s = refl
-    go (ragged w p) zero h s = absurd (omega arith)
-    go (ragged w p) (suc d) h s = refl
-
--- at depth 0
-module _ (k : declared.Kind) (z : k .depth ≡ 0) (n : ℕ) where
-  module _ {s : ℕ} {o : ByteOrder} (e : k .values ≡ Fixed s o) where
-    pub length-copied : (masks os : List ℕ) (bytes : ℕ) → n * s ≡ storedLength (kindOf k) n masks bytes os
-    length-copied masks os bytes = rw (e, z) (plain-length s n (orderOf o) (masksOf (k .masks)) masks os)
-
-    pub stored-copied : (c : Content) → joined (map (ordered (orderOf o)) (pieces s n (drop 0 (c .values)))) ≡ storedBy (kindOf k) n c
-    stored-copied c = rw (e, z) (plain-stored s n (orderOf o) (masksOf (k .masks)) c)
-
-  module _ {w : IndexWidth} {p : IndexPlace} (e : k .values ≡ Ragged w p) where
-    pub length-plain : (masks os : List ℕ) (bytes : ℕ) {j : ℕ} → j ≡ widthOf w → 8 + j * (n + 1) + bytes ≡ storedLength (kindOf k) n masks bytes os
-    length-plain masks os bytes ej = rw (e, z) (ap₂ (λ (a b : ℕ). 8 + a * b + bytes) ej (add-one n))
-
-    pub stored-plain : (c : Content) → putRagged (widthOf w) (placeOf p) (record { values = c .values; offsets = c .offsets }) ≡ storedBy (kindOf k) n c
-    stored-plain c = rw (e, z)

@@ -3,30 +3,28 @@
 use mathlib.Core.Path.{_≡_, refl, sym, ap, ap₂, _∙_}
 use mathlib.Core.Logic.{_≢_}
 use Prim.Native.Nat.{ℕ, zero, suc, _+_, _-_, _*_, _≤_}
-use native.Mathlib.Nat.{sub-zero, zero-mul, suc-mul, mul-le-mul, mul-le-mul-right, le-trans}
+use native.Mathlib.Nat.{sub-zero, suc-mul, mul-le-mul, mul-le-mul-right, le-trans}
 use native.Mathlib.Numerals.{add-one, sub-one}
 use native.Mathlib.Omega.{arith}
 use mathlib.Core.List.{List, [], _∷_, map}
-use lib.ListN.{length, drop}
+use lib.ListN.{length}
 use Rattle.array.specs.Limits.{mostBytes, mostCells}
-use Rattle.array.specs.Lists.{from, joined, pieces}
-use Rattle.array.specs.Kind.{Kind, Masks, Form, fixed, ragged, Order, ordered}
+use Rattle.array.specs.Lists.{joined}
+use Rattle.array.specs.Kind.{Kind, Form, fixed, ragged, Order, ordered}
 use Rattle.array.specs.Content.{Content, ValuesOk}
-use Rattle.array.proofs.Lists.{map-map, length-from}
+use Rattle.array.proofs.Lists.{map-map}
 use Rattle.codec.specs.Mask.{maskForm}
 use Rattle.codec.specs.Frame.{wrap, unlessNone}
 use Rattle.codec.specs.Values.{putValues}
 use Rattle.codec.proofs.Frames.{length-wrap}
 use Rattle.codec.proofs.Masks.{mask-laws}
-use Rattle.codec.proofs.Values.{ragged-length}
 use Rattle.gather.specs.Live.{masksAt, liveTest, liveAt}
 use Rattle.gather.specs.Pieces.{pieceAt, piecesAt}
-use Rattle.encode.specs.Stored.{levelOf, valueAt, valuesFrom, storedFrom, maskFrom, frameFrom, storedWhole, storedBy, orNothing, valuesLengthAt, lengthFrom, lengthWhole, storedLength}
+use Rattle.encode.specs.Stored.{levelOf, valueAt, valuesFrom, storedFrom, maskFrom, frameFrom, orNothing, valuesLengthAt, lengthFrom}
 use Rattle.gather_ragged.specs.Slices.{spansOf}
 use Rattle.encode.specs.Ready.{MeasuresOk, Measured}
-use Rattle.gather.proofs.Numbered.{live-all}
 use Rattle.gather.proofs.Runs.{live-le}
-use Rattle.gather.proofs.Gathering.{run-pieces}
+use Rattle.gather.proofs.LiveMarks.{count-all}
 use Rattle.gather.proofs.Packing.{pieces-long}
 use Rattle.gather.proofs.Blocks.{live-mask-long}
 use Rattle.gather_ragged.proofs.Summing.{spans-le}
@@ -103,15 +101,6 @@ stored-long k n c p (suc left) =
     (length-wrap (maskFrom k n c (suc left)) (storedFrom k n c left)
     ∙ ap₂ (λ (a b : ℕ). 16 + a + b) (live-mask-long (k .masks) n (c .masks) l) (stored-long k n c p left))
 
--- as document 01 says it: at depth 0 with all value bytes
-pub stored-by-long : (k : Kind) (n : ℕ) (c : Content) → ValuesOk (k .form) n c → length (storedBy k n c) ≡ storedLength k n (c .masks) (length (c .values)) (c .offsets)
-stored-by-long k n c p = go (k .form) (k .depth) p (storedFrom k n c (k .depth)) (stored-long k n c p (k .depth))
-  where
-    go : (f : Form) (d : ℕ) → ValuesOk f n c → (s : List ℕ) {x : ℕ} → length s ≡ x → length (storedWhole f d c s) ≡ lengthWhole f d n (length (c .values)) x
-    go (fixed k o) d q s e = e
-    go (ragged w p) zero q s e = ragged-length w p (record { values = c .values; offsets = c .offsets }) n (q .0)
-    go (ragged w p) (suc d) q s e = e
-
 -- ---- the cases of the length
 
 none-zero : (k x : ℕ) → k ≡ 0 → 0 ≡ orNothing k x
@@ -147,28 +136,15 @@ module _ (k : Kind) (n : ℕ) (masks os : List ℕ) where
 
 -- ---- at depth 0 every cell is there
 
-module _ (s n : ℕ) (o : Order) where
-  pub plain-length : (x : Masks) (masks os : List ℕ) → n * s ≡ lengthFrom (record { depth = 0; masks = x; form = fixed s o }) n masks os 0
-  unfolding lengthFrom
-  plain-length x masks os = sym (ap (λ (m : ℕ). orNothing m (m * s)) (ap length (live-all n masks) ∙ length-from 0 n) ∙ go n)
-    where
-      go : (n : ℕ) → orNothing n (n * s) ≡ n * s
-      go zero = sym (zero-mul s)
-      go (suc n) = refl
+module _ (k : Kind) (z : k .depth ≡ 0) {n : ℕ} (h : 1 ≤ n) where
+  all-there : (masks : List ℕ) → length (liveAt n masks (levelOf k (k .depth))) ≢ 0
+  all-there masks e = omega (arith, count-all n masks (levelOf k (k .depth)) (omega arith))
 
-  pub plain-stored : (x : Masks) (c : Content)
-      → joined (map (ordered o) (pieces s n (drop 0 (c .values)))) ≡ storedFrom (record { depth = 0; masks = x; form = fixed s o }) n c 0
-  unfolding storedFrom putValues
-  plain-stored x c =
-      ap (λ (m : ℕ). joined (map (ordered o) (pieces s n (drop m (c .values))))) (sym (zero-mul s))
-      ∙ sym (run-pieces o s (c .values) 0 n)
-      ∙ fixed-put s o c (from 0 n)
-      ∙ go (from 0 n)
-      ∙ ap (unlessNone (λ is. putValues (fixed s o) (map (valueAt (fixed s o) c) is))) (sym (live-all n (c .masks)))
-    where
-      go : (is : List ℕ) → putValues (fixed s o) (map (valueAt (fixed s o) c) is) ≡ unlessNone (λ is. putValues (fixed s o) (map (valueAt (fixed s o) c) is)) is
-      go [] = refl
-      go (i ∷ is) = refl
+  pub flat-length : (masks os : List ℕ) → valuesLengthAt (k .form) os (liveAt n masks (k .depth)) ≡ lengthFrom k n masks os (k .depth)
+  flat-length masks os = length-values k n masks os (k .depth) z (all-there masks)
+
+  pub flat-stored : (c : Content) → storedFrom k n c (k .depth) ≡ valuesFrom k n c
+  flat-stored c = stored-values k n c (k .depth) z (all-there (c .masks))
 
 -- ---- within the limits it is small
 

@@ -13,15 +13,15 @@ use Rattle.array.specs.Kind.{Kind, Form, fixed, ragged}
 use Rattle.array.specs.Offsets.{slices, slicesFrom}
 use Rattle.array.specs.Cells.{Value, Cell, maskOf, setTest}
 use Rattle.array.specs.Content.{Content, ContentOk, ValuesOk, pairUp, attach, valuesIn, cellsOf}
-use Rattle.codec.specs.Mask.{MaskForm, maskForm}
+use Rattle.codec.specs.Mask.{maskForm}
 use Rattle.codec.specs.Frame.{keep, wrap, unlessNone, frame}
 use Rattle.codec.specs.Values.{putValues}
-use Rattle.codec.specs.Calls.{written, storedForm}
+use Rattle.codec.specs.Calls.{storedForm}
 use Rattle.gather.specs.Live.{maskAt, masksAt, liveTest, liveAt}
 use Rattle.array.proofs.Lists.{from-suc}
 use Rattle.gather.proofs.Numbered.{plane-at, pieces-at, live-all}
 use Rattle.gather_ragged.specs.Slices.{sliceAt}
-use Rattle.encode.specs.Stored.{levelOf, valueAt, storedFrom, storedWhole, storedBy}
+use Rattle.encode.specs.Stored.{levelOf, valueAt, storedFrom}
 
 pairUp-map : {A : Type 0} (f : ℕ → ℕ) (g : ℕ → A) (is : List ℕ) → pairUp (map f is) (map g is) ≡ map (λ i. (f i, g i)) is
 pairUp-map f g [] = refl
@@ -121,19 +121,12 @@ unless-some : {A : Type 0} (f : List A → List ℕ) (g : ℕ → A) (n : ℕ) �
 unless-some f g zero h = absurd (omega arith)
 unless-some f g (suc n) h = refl
 
--- with ragged values of depth 0 as they are
-written-whole : (mf : MaskForm) (f : Form) (d : ℕ) (cs : List (Cell d)) (c : Content) {s : List ℕ} → frame mf (putValues f) d cs ≡ s → written mf f d cs c ≡ storedWhole f d c s
-unfolding written
-written-whole mf (fixed s o) d cs c e = e
-written-whole mf (ragged w p) zero cs c e = refl
-written-whole mf (ragged w p) (suc d) cs c e = e
-
-pub stored-by : (k : Kind) (n : ℕ) (c : Content) → ContentOk k n c → 1 ≤ n → storedForm k n c ≡ storedBy k n c
+-- with all levels left it is the stored form
+pub stored-by : (k : Kind) (n : ℕ) (c : Content) → ContentOk k n c → 1 ≤ n → storedForm k n c ≡ storedFrom k n c (k .depth)
 stored-by k n c ok some =
     let z : 0 ≡ levelOf k (k .depth) = omega arith in
-    written-whole (maskForm (k .masks)) (k .form) (k .depth) (cellsOf k n c) c
-    (ap (framed k n c (k .depth)) (cells-at k n c ok)
+    ap (framed k n c (k .depth)) (cells-at k n c ok)
     ∙ sym (unless-some (framed k n c (k .depth)) (cell k n c (k .depth) 0) n some)
     ∙ ap (λ (is : List ℕ). unlessNone (framed k n c (k .depth)) (map (cell k n c (k .depth) 0) is)) (sym (live-all n (c .masks)))
     ∙ ap (λ (l : ℕ). unlessNone (framed k n c (k .depth)) (map (cell k n c (k .depth) l) (liveAt n (c .masks) l))) z
-    ∙ from-frame k n c (k .depth) (omega arith))
+    ∙ from-frame k n c (k .depth) (omega arith)

@@ -1,4 +1,4 @@
--- What the writing leans on: valid content of n cells of a sound kind; to measure it, its masks and offsets are enough.
+-- docs/SPEC.md, S1.9, in the code: what the writing leans on, valid content of n cells of a sound kind. To measure it, its masks and offsets are enough.
 -- Assumes nothing.
 use Prim.Native.Nat.{ℕ, suc, _*_, _≤_}
 use mathlib.Core.Path.{_≡_}
@@ -22,6 +22,7 @@ MeasuresOk (ragged w p) n os = (length os ≡ suc n) × Rising os × (last os �
 
 pub record Measured (k : Kind) (n : ℕ) (masks os : List ℕ) : Type 0 where
   pub shallow : k .depth ≤ mostDepth
+  pub some : 1 ≤ n
   pub few : n ≤ mostCells
   pub planes : k .depth * n ≤ length masks
   pub sizes : MeasuresOk (k .form) n os

@@ -1,5 +1,5 @@
--- What is written with so many levels left (document 01, item 5), by the numbers of the cells. proofs/Walk has that with all levels left
--- it is the stored form of the array.
+-- docs/SPEC.md, S4.6 to S4.10, by the numbers of the cells: what is written with so many levels left. With all levels left it is the stored form
+-- of the array (proofs/Walk `stored-by`).
 -- Assumes nothing.
 use Prim.Native.Nat.{ℕ, zero, suc, _+_, _-_, _*_}
 use mathlib.Core.List.{List, map}
@@ -12,7 +12,6 @@ use Rattle.array.specs.Kind.{Kind, Form, fixed, ragged}
 use Rattle.array.specs.Content.{Content}
 use Rattle.codec.specs.Mask.{maskForm}
 use Rattle.codec.specs.Frame.{unlessNone, wrap}
-use Rattle.codec.specs.Ragged.{putRagged}
 use Rattle.codec.specs.Values.{putValues}
 use Rattle.codec.specs.Length.{raggedLength}
 use Rattle.gather.specs.Live.{masksAt, liveAt, liveMask}
@@ -45,15 +44,6 @@ maskFrom k n c left = liveMask (k .masks) n (c .masks) (levelOf k left)
 abbrev pub frameFrom : Kind → ℕ → Content → ℕ → List ℕ
 frameFrom k n c left = wrap (maskFrom k n c left) (storedFrom k n c (left - 1))
 
--- at depth 0 ragged values are written as they are, and all else is written from the outermost level on
-abbrev pub storedWhole : Form → (d : ℕ) → Content → List ℕ → List ℕ
-storedWhole (fixed k o) d c s = s
-storedWhole (ragged w p) zero c s = putRagged w p (record { values = c .values; offsets = c .offsets })
-storedWhole (ragged w p) (suc d) c s = s
-
-abbrev pub storedBy : Kind → ℕ → Content → List ℕ
-storedBy k n c = storedWhole (k .form) (k .depth) c (storedFrom k n c (k .depth))
-
 -- bytes over an output: refusal 6 where it is too short
 abbrev pub storedOver : List ℕ → List ℕ → Outcome ℕ (List ℕ)
 storedOver s out = listOutcome (unless (leb (length s) (length out)) 6 (gives s)) out
@@ -74,12 +64,3 @@ lengthFrom k n masks os zero = orNothing (length (liveAt n masks (k .depth))) (v
 lengthFrom k n masks os (suc left) =
     let count = length (liveAt n masks (levelOf k (suc left))) in
     orNothing count (16 + maskForm (k .masks) .size count + lengthFrom k n masks os left)
-
--- of the whole stored form, the array having so many value bytes
-abbrev pub lengthWhole : Form → (d n bytes : ℕ) → ℕ → ℕ
-lengthWhole (fixed k o) d n bytes x = x
-lengthWhole (ragged w p) zero n bytes x = raggedLength w n bytes
-lengthWhole (ragged w p) (suc d) n bytes x = x
-
-abbrev pub storedLength : Kind → ℕ → List ℕ → ℕ → List ℕ → ℕ
-storedLength k n masks bytes os = lengthWhole (k .form) (k .depth) n bytes (lengthFrom k n masks os (k .depth))

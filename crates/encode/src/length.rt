@@ -1,16 +1,13 @@
 // The written length: the sum over the levels, outermost first.
 use crate::values;
-use array::kind;
 use array::kind::Kind;
-use array::kind::Values;
 use gather::live;
 use mask::form;
 ghost use mathlib.Core.Path.{_≡_};
 ghost use Prim.Native.Nat.{_≤_};
-ghost use Rattle.array.specs.Limits.{mostBytes};
 ghost use Rattle.array.specs.Meaning.{kindOf};
 ghost use Rattle.encode.specs.Ready.{Measured};
-ghost use Rattle.encode.specs.Stored.{lengthFrom, storedLength};
+ghost use Rattle.encode.specs.Stored.{lengthFrom};
 
 // With so many levels left: 16 + the stored mask of the cells that the level counts + what is below, or nothing where no cell is left.
 pub fn content_length(kind: Kind, cells: usize, masks: &[u8], offsets: &[u64], left: usize) -> usize
@@ -31,19 +28,14 @@ pub fn content_length(kind: Kind, cells: usize, masks: &[u8], offsets: &[u64], l
     16 + mask + content_length(kind, cells, masks, offsets, left - 1)
 }
 
-// The written length of valid content of `cells` cells with so many value bytes. At depth 0 all of these are written.
-pub fn stored_length(kind: Kind, cells: usize, masks: &[u8], bytes: usize, offsets: &[u64]) -> usize
-    requires ready { ⌜ Measured (kindOf kind) cells (now masks) (now offsets) ⌝ }
-    requires small { ⌜ bytes ≤ mostBytes ⌝ }
-    ensures { λ r. ⌜ r ≡ storedLength (kindOf kind) cells (now (masks .entry)) bytes (now (offsets .entry)) ⌝ }
+// The written length of valid content of `cells` cells. At depth 0 there is no level to go through.
+pub fn stored_length(kind: Kind, cells: usize, masks: &[u8], offsets: &[u64]) -> usize
+    requires { ⌜ Measured (kindOf kind) cells (now masks) (now offsets) ⌝ }
+    ensures { λ r. ⌜ r ≡ lengthFrom (kindOf kind) cells (now (masks .entry)) (now (offsets .entry)) (kindOf kind .depth) ⌝ }
 {
     let depth = kind.depth as usize;
     if 0 < depth {
         return content_length(kind, cells, masks, offsets, depth);
     }
-    let form = kind.values;
-    match form {
-        Values::Fixed(size, _) => cells * (size as usize),
-        Values::Ragged(width, _) => 8 + kind::width_bytes(width) * (cells + 1) + bytes,
-    }
+    values::values_length(kind, cells, masks, offsets, cells)
 }

@@ -54,7 +54,7 @@ fn encode_valid(
     requires { ⌜ Encodable (kindOf kind) cells (contentArray (now masks) (now values) (now offsets)) ⌝ }
     ensures { λ r. ⌜ outcome r (now (out .exit)) ≡ storedOver (storedForm (kindOf kind) cells (contentArray (now (masks .entry)) (now (values .entry)) (now (offsets .entry)))) (now (out .entry)) ⌝ }
 {
-    let need = length::stored_length(kind, cells, masks, values.len(), offsets);
+    let need = length::stored_length(kind, cells, masks, offsets);
     if out.len() < need {
         return Written::Refused(refusal::OUTPUT);
     }

@@ -14,7 +14,7 @@ ghost use Rattle.array.specs.Meaning.{kindOf};
 ghost use Rattle.array.specs.Outcome.{contentArray};
 ghost use Rattle.gather.specs.Live.{liveAt};
 ghost use Rattle.encode.specs.Ready.{Encodable};
-ghost use Rattle.encode.specs.Stored.{levelOf, storedFrom, frameFrom, storedBy};
+ghost use Rattle.encode.specs.Stored.{levelOf, storedFrom, frameFrom};
 
 // Writes the content of the cells that the level with so many levels left counts; says how many bytes it wrote.
 pub fn write_content(
@@ -83,7 +83,7 @@ fn write_frame(
     16 + mask + length
 }
 
-// Writes the whole stored form. At depth 0 all cells are there, and ragged values go just as they are.
+// Writes the whole stored form. At depth 0 there is no level to go through, and all cells count.
 pub fn write_stored(
     out: &mut [u8],
     kind: Kind,
@@ -93,8 +93,8 @@ pub fn write_stored(
     offsets: &[u64],
 )
     requires ready { ⌜ Encodable (kindOf kind) cells (contentArray (now masks) (now values) (now offsets)) ⌝ }
-    requires room { ⌜ length (storedBy (kindOf kind) cells (contentArray (now masks) (now values) (now offsets))) ≤ length (now out) ⌝ }
-    ensures { λ _. ⌜ now (out .exit) ≡ over (storedBy (kindOf kind) cells (contentArray (now (masks .entry)) (now (values .entry)) (now (offsets .entry)))) (now (out .entry)) ⌝ }
+    requires room { ⌜ length (storedFrom (kindOf kind) cells (contentArray (now masks) (now values) (now offsets)) (kindOf kind .depth)) ≤ length (now out) ⌝ }
+    ensures { λ _. ⌜ now (out .exit) ≡ over (storedFrom (kindOf kind) cells (contentArray (now (masks .entry)) (now (values .entry)) (now (offsets .entry))) (kindOf kind .depth)) (now (out .entry)) ⌝ }
 {
     let depth = kind.depth as usize;
     if 0 < depth {
@@ -104,12 +104,19 @@ pub fn write_stored(
     let form = kind.values;
     match form {
         Values::Fixed(size, order) => cells::put_all(out, values, size as usize, order, cells),
-        Values::Ragged(width, place) => gather_ragged::put_plain(
-            out,
-            width,
-            place,
-            values,
-            offsets,
-        ),
+        Values::Ragged(width, place) => {
+            gather_ragged::put_ragged(
+                out,
+                0,
+                width,
+                place,
+                values,
+                offsets,
+                masks,
+                cells,
+                depth,
+                cells,
+            );
+        }
     }
 }

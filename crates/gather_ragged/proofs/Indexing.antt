@@ -1,8 +1,7 @@
--- The loops that write an index: of the cells that a level counts, cell by cell; and of all offsets, less a base.
+-- The loops that write an index: of the cells that a level counts, cell by cell; and of all offsets.
 -- Assumes nothing.
 use mathlib.Core.Path.{_≡_, refl, sym, ap, ap₂, _∙_}
 use Prim.Native.Nat.{ℕ, zero, suc, _+_, _-_, _*_, _<_, _≤_}
-use native.Mathlib.Nat.{zero-add, sub-zero}
 use native.Mathlib.Numerals.{add-one}
 use native.Mathlib.Omega.{arith}
 use mathlib.Core.Bool.{Bool, true, false}
@@ -13,13 +12,11 @@ use Rattle.array.specs.Lists.{pick, from, joined, passing}
 use Rattle.array.specs.Buffers.{overAt}
 use Rattle.array.specs.Bytes.{le}
 use Rattle.array.proofs.Bytes.{length-le}
-use Rattle.array.proofs.Lists.{map-cong, map-id, map-map, from-suc}
+use Rattle.array.proofs.Lists.{map-map}
 use Rattle.array.proofs.Laying.{Laying, laying-begins, laying-same, laying-left, laying-ends, laying-part, laying-is}
 use Rattle.codec.specs.Ragged.{indexOf}
-use Rattle.gather.proofs.Numbered.{by-index}
 use Rattle.gather.proofs.Packing.{Packing, packing-begins, packing-same, packing-ends, packing-cell, packing-room, packing-more}
-use Rattle.gather_ragged.specs.Slices.{Offsets, spanAt, endsAt, NoneBelow, lessBy}
-use Rattle.gather_ragged.proofs.Spans.{step-le, range-le}
+use Rattle.gather_ragged.specs.Slices.{Offsets, spanAt, endsAt}
 use Rattle.gather_ragged.proofs.Summing.{soFar, Summing, summing-begins, summing-step, summing-more}
 
 -- ---- of the cells that a level counts
@@ -78,61 +75,26 @@ module _ {t : ℕ → Bool} {n w : ℕ} {os d : List ℕ} {to : ℕ} {out : List
             (eo ∙ ap₂ (λ (x y : ℕ). overAt (to + done * x) (le w y) out) ek (summing-step (l .sums) indexing-inside em)) (ap (λ (x : ℕ). done + x) em);
       }
 
--- ---- of all offsets, less a base
+-- ---- of all offsets
 
-pub less-none : (os : List ℕ) → lessBy 0 os ≡ os
-less-none os = map-cong (λ o. o - 0) (λ o. o) sub-zero os ∙ map-id os
+pub record Listing (w : ℕ) (os d : List ℕ) (to : ℕ) (out : List ℕ) (j done : ℕ) : Type 0 where
+  pub laid : Laying (indexOf w os) d to out done (indexOf w (drop j os))
 
--- every cell is there: the ends are the offsets less the first
-module _ {n : ℕ} {os : List ℕ} (o : Offsets n os) where
-  ends-less : (i r : ℕ) → i + r < length os → map (λ j. getD os (suc j) 0 - getD os 0 0) (from i r) ≡ endsAt os (getD os i 0 - getD os 0 0) (from i r)
-  ends-less i zero h = refl
-  ends-less i (suc r) h =
-      let q : getD os (suc i) 0 - getD os 0 0 ≡ getD os i 0 - getD os 0 0 + spanAt os i =
-      omega (arith, step-le os (o .rising) i (omega arith), range-le os (o .rising) 0 i (omega arith), ap (λ (j : ℕ). getD os j 0) (zero-add i)) in
-      ap₂ (λ (x : ℕ) (r : List ℕ). x ∷ r) q (ends-less (suc i) r (omega arith) ∙ ap (λ (x : ℕ). endsAt os x (from (suc i) r)) q)
+pub listing-begins : {w : ℕ} {os d : List ℕ} {to : ℕ} → to + length (indexOf w os) ≤ length d → Listing w os d to d 0 0
+listing-begins {w} {os} {d} {to} h = record { laid = laying-begins (indexOf w os) d to h }
 
-  less-first : lessBy (getD os 0 0) os ≡ 0 ∷ endsAt os 0 (from 0 n)
-  less-first =
-      let a : ℕ = getD os 0 0 in
-      ap (lessBy a) (by-index 0 os (suc n) (o .counted))
-      ∙ map-map (λ i. getD os i 0) (λ x. x - a) (from 0 (suc n))
-      ∙ ap (λ (r : List ℕ). (a - a) ∷ r) (from-suc (λ i. getD os i 0 - a) 0 n ∙ ends-less 0 n (omega (arith, o .counted)))
-      ∙ ap (λ (x : ℕ). x ∷ endsAt os x (from 0 n)) (omega arith)
-
-  pub all-index : (w : ℕ) {is : List ℕ} → is ≡ from 0 n → indexOf w (lessBy (getD os 0 0) os) ≡ indexOf w (0 ∷ endsAt os 0 is)
-  all-index w e = ap (indexOf w) (less-first ∙ ap (λ (is : List ℕ). 0 ∷ endsAt os 0 is) (sym e))
-
-  pub first-least : NoneBelow (getD os 0 0) os
-  first-least i h =
-      let q : 0 + i ≡ i = zero-add i in
-      rw q at (range-le os (o .rising) 0 i (omega arith))
-
-pub record Listing (w a : ℕ) (os d : List ℕ) (to : ℕ) (out : List ℕ) (j done : ℕ) : Type 0 where
-  pub least : NoneBelow a os
-  pub laid : Laying (indexOf w (lessBy a os)) d to out done (indexOf w (lessBy a (drop j os)))
-
-pub listing-begins : {w a : ℕ} {os d : List ℕ} {to : ℕ} → NoneBelow a os → to + length (indexOf w (lessBy a os)) ≤ length d → Listing w a os d to d 0 0
-listing-begins {w} {a} {os} {d} {to} p h = record { least = p; laid = laying-begins (indexOf w (lessBy a os)) d to h }
-
-module _ {w a : ℕ} {os d : List ℕ} {to : ℕ} {out : List ℕ} {j done : ℕ} (l : Listing w a os d to out j done) where
-  abbrev want : List ℕ
-  want = indexOf w (lessBy a os)
-
+module _ {w : ℕ} {os d : List ℕ} {to : ℕ} {out : List ℕ} {j done : ℕ} (l : Listing w os d to out j done) where
   pub listing-same : length out ≡ length d
-  listing-same = laying-same want d to out done (indexOf w (lessBy a (drop j os))) (l .laid)
+  listing-same = laying-same (indexOf w os) d to out done (indexOf w (drop j os)) (l .laid)
 
-  pub listing-ends : length os ≤ j → out ≡ overAt to (indexOf w (lessBy a os)) d
-  listing-ends h = laying-ends want d to out done (laying-is (l .laid) (ap (λ (r : List ℕ). indexOf w (lessBy a r)) (drop-of-length-le os {i = j} h)))
+  pub listing-ends : length os ≤ j → out ≡ overAt to (indexOf w os) d
+  listing-ends h = laying-ends (indexOf w os) d to out done (laying-is (l .laid) (ap (indexOf w) (drop-of-length-le os {i = j} h)))
 
   module _ (h : j < length os) where
-    listed : indexOf w (lessBy a (drop j os)) ≡ le w (getD os j 0 - a) ++ indexOf w (lessBy a (drop (j + 1) os))
+    listed : indexOf w (drop j os) ≡ le w (getD os j 0) ++ indexOf w (drop (j + 1) os)
     listed =
-        ap (λ (r : List ℕ). indexOf w (lessBy a r)) (drop-cons os j 0 h)
-        ∙ ap (λ (m : ℕ). le w (getD os j 0 - a) ++ indexOf w (lessBy a (drop m os))) (sym (add-one j))
-
-    pub listing-least : a ≤ getD os j 0
-    listing-least = l .least j h
+        ap (indexOf w) (drop-cons os j 0 h)
+        ∙ ap (λ (m : ℕ). le w (getD os j 0) ++ indexOf w (drop m os)) (sym (add-one j))
 
     pub listing-room : to + done + w ≤ length out
     listing-room =
@@ -140,15 +102,14 @@ module _ {w a : ℕ} {os d : List ℕ} {to : ℕ} {out : List ℕ} {j done : ℕ
           arith,
           listing-same,
           l .laid .room,
-          laying-left want d to out done (indexOf w (lessBy a (drop j os))) (l .laid),
+          laying-left (indexOf w os) d to out done (indexOf w (drop j os)) (l .laid),
           ap length listed,
-          length-append (le w (getD os j 0 - a)) (indexOf w (lessBy a (drop (j + 1) os))),
-          length-le w (getD os j 0 - a),
+          length-append (le w (getD os j 0)) (indexOf w (drop (j + 1) os)),
+          length-le w (getD os j 0),
         )
 
-    pub listing-more : {out′ : List ℕ} → out′ ≡ overAt (to + done) (le w (getD os j 0 - a)) out → {k : ℕ} → k ≡ w → Listing w a os d to out′ (j + 1) (done + k)
+    pub listing-more : {out′ : List ℕ} → out′ ≡ overAt (to + done) (le w (getD os j 0)) out → {k : ℕ} → k ≡ w → Listing w os d to out′ (j + 1) (done + k)
     listing-more {out′} eo {k} ek = record {
-      least = l .least;
-      laid = laying-part want d to out done (le w (getD os j 0 - a)) (indexOf w (lessBy a (drop (j + 1) os))) (laying-is (l .laid) listed) out′ eo
-          (done + k) (ap (λ (m : ℕ). done + m) (ek ∙ sym (length-le w (getD os j 0 - a))));
+      laid = laying-part (indexOf w os) d to out done (le w (getD os j 0)) (indexOf w (drop (j + 1) os)) (laying-is (l .laid) listed) out′ eo
+          (done + k) (ap (λ (m : ℕ). done + m) (ek ∙ sym (length-le w (getD os j 0))));
     }

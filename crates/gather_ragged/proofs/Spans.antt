@@ -1,27 +1,36 @@
--- Offsets that never fall, and the values between them: their bytes, their lengths and their ends.
+-- Offsets that begin at 0 and never fall, and the values between them: their bytes, their lengths and their ends.
 -- Assumes nothing.
 use mathlib.Core.Path.{_≡_, refl, sym, ap, ap₂, _∙_}
 use Prim.Native.Nat.{ℕ, zero, suc, _+_, _-_, _<_, _≤_}
-use native.Mathlib.Nat.{add-zero, le-refl, le-trans}
+use native.Mathlib.Nat.{add-zero, zero-add, le-refl, le-trans}
 use native.Mathlib.Omega.{arith}
 use mathlib.Core.List.{List, [], _∷_, _++_, map}
 use lib.ListN.{length, take, drop, getD, length-append, length-drop}
-use lib.Seq.{drop-drop, take-add, length-take-le}
+use lib.Seq.{drop-drop, take-add, take-all, length-take-le}
 use Rattle.array.specs.Lists.{from, joined, All}
-use Rattle.array.specs.Offsets.{last, Rising, ends}
+use Rattle.array.specs.Offsets.{last, RisingFrom, Rising, ends}
 use Rattle.array.proofs.Geometry.{All-from}
+use Rattle.array.proofs.Lists.{from-suc}
 use Rattle.valid.proofs.CheckLaws.{last-at}
 use Rattle.gather.specs.Live.{liveTest, liveAt}
-use Rattle.gather.proofs.Runs.{All-passing}
+use Rattle.gather.proofs.Numbered.{by-index}
+use Rattle.gather.proofs.Runs.{All-passing, all-counted}
 use Rattle.gather_ragged.specs.Slices.{Offsets, spanAt, sliceAt, slicesAt, spansOf, endsAt}
 
--- ---- offsets that never fall
+-- ---- offsets that begin at 0 and never fall
+
+first-zero : (os : List ℕ) → Rising os → getD os 0 0 ≡ 0
+first-zero [] p = refl
+first-zero (a ∷ bs) p = p .0
 
 pub step-le : (os : List ℕ) → Rising os → (i : ℕ) → suc i < length os → getD os i 0 ≤ getD os (suc i) 0
 step-le [] p i h = absurd (omega arith)
-step-le (a ∷ []) p i h = absurd (omega arith)
-step-le (a ∷ b ∷ os) p zero h = p .0
-step-le (a ∷ b ∷ os) p (suc i) h = step-le (b ∷ os) (p .1) i (omega arith)
+step-le (a ∷ bs) p i h = go a bs (p .1) i (omega arith)
+  where
+    go : (a : ℕ) (bs : List ℕ) → RisingFrom a bs → (i : ℕ) → i < length bs → getD (a ∷ bs) i 0 ≤ getD bs i 0
+    go a [] p i h = absurd (omega arith)
+    go a (b ∷ bs) p zero h = p .0
+    go a (b ∷ bs) p (suc i) h = go b bs (p .1) i (omega arith)
 
 pub range-le : (os : List ℕ) → Rising os → (i r : ℕ) → i + r < length os → getD os i 0 ≤ getD os (i + r) 0
 range-le os p i zero h = let q : i + 0 ≡ i = add-zero i in rw q (le-refl (getD os i 0))
@@ -86,3 +95,44 @@ live-within {n} {os} masks l o s e = All-passing (liveTest n masks l) (Within os
 
 pub slices-long : {n : ℕ} {os : List ℕ} (masks : List ℕ) (l : ℕ) → Offsets n os → (s : List ℕ) → last os ≡ length s → length (slicesAt os s (liveAt n masks l)) ≡ spansOf os (liveAt n masks l)
 slices-long {n} {os} masks l o s e = length-slices os s (liveAt n masks l) (live-within masks l o s e)
+
+-- ---- where every cell counts
+
+module _ {n : ℕ} {os : List ℕ} (o : Offsets n os) (masks : List ℕ) (l : ℕ) {count : ℕ} (ec : count ≡ length (liveAt n masks l)) (e : count ≡ n) where
+  all-live : liveAt n masks l ≡ from 0 n
+  all-live = all-counted (liveTest n masks l) n (sym ec ∙ e)
+
+  -- the bytes as they lie
+  pub all-slices : (s : List ℕ) → last os ≡ length s → slicesAt os s (liveAt n masks l) ≡ s
+  all-slices s el =
+      let q : getD os (0 + n) 0 ≡ length s = ap (λ (j : ℕ). getD os j 0) (zero-add n) ∙ sym (last-at os n (o .counted)) ∙ el in
+      ap (slicesAt os s) all-live
+      ∙ run-slices os (o .rising) s 0 n (omega (arith, o .counted))
+      ∙ ap₂ (λ (a b : ℕ). take (b - a) (drop a s)) (first-zero os (o .rising)) q
+      ∙ take-all (length s - 0) s (omega arith)
+
+  -- as many as the last offset says
+  pub all-spans : getD os n 0 ≡ spansOf os (liveAt n masks l)
+  all-spans =
+      let q : getD os n 0 ≡ spansOf os (from 0 n) =
+      omega (arith, first-zero os (o .rising), run 0 n (omega (arith, o .counted)), ap (λ (j : ℕ). getD os j 0) (zero-add n)) in
+      q ∙ ap (spansOf os) (sym all-live)
+    where
+      run : (i r : ℕ) → i + r < length os → getD os i 0 + spansOf os (from i r) ≡ getD os (i + r) 0
+      run i zero h = omega (arith, ap (λ (j : ℕ). getD os j 0) (add-zero i))
+      run i (suc r) h =
+          let q : i + suc r ≡ suc i + r = omega arith in
+          omega (arith, step-le os (o .rising) i (omega arith), run (suc i) r (omega arith), ap (λ (j : ℕ). getD os j 0) q)
+
+  -- the offsets as they lie
+  pub all-ends : os ≡ 0 ∷ endsAt os 0 (liveAt n masks l)
+  all-ends =
+      by-index 0 os (suc n) (o .counted)
+      ∙ ap (λ (r : List ℕ). getD os 0 0 ∷ r) (from-suc (λ i. getD os i 0) 0 n ∙ run 0 n (omega (arith, o .counted)))
+      ∙ ap₂ (λ (x : ℕ) (is : List ℕ). x ∷ endsAt os x is) (first-zero os (o .rising)) (sym all-live)
+    where
+      run : (i r : ℕ) → i + r < length os → map (λ j. getD os (suc j) 0) (from i r) ≡ endsAt os (getD os i 0) (from i r)
+      run i zero h = refl
+      run i (suc r) h =
+          let q : getD os (suc i) 0 ≡ getD os i 0 + spanAt os i = omega (arith, step-le os (o .rising) i (omega arith)) in
+          ap₂ (λ (x : ℕ) (r : List ℕ). x ∷ r) q (run (suc i) r (omega arith) ∙ ap (λ (x : ℕ). endsAt os x (from (suc i) r)) q)

@@ -47,28 +47,13 @@ module _ (os : List ℕ) (t : ℕ → Bool) where
 pub spans-le : (os : List ℕ) (t : ℕ → Bool) (n : ℕ) → length os ≡ suc n → Rising os → spansOf os (passing t (from 0 n)) ≤ last os
 spans-le os t n e p = omega (arith, so-far-all os t n, so-far-le os t p n (omega arith), last-le os p n n e (omega arith))
 
--- where no cell has a byte, those that pass have none
-pub spans-none : {n : ℕ} {os : List ℕ} (t : ℕ → Bool) → Offsets n os → getD os 0 0 ≡ getD os n 0 → spansOf os (passing t (from 0 n)) ≡ 0
-spans-none {n} {os} t o e = omega (arith, spans-from 0 n (omega (arith, o .counted)), ap (λ (j : ℕ). getD os j 0) (zero-add n))
-  where
-    -- what the cells from i on have lies behind offset i
-    spans-from : (i m : ℕ) → i + m < length os → spansOf os (passing t (from i m)) + getD os i 0 ≤ getD os (i + m) 0
-    spans-from i zero h = omega (arith, ap (λ (j : ℕ). getD os j 0) (add-zero i))
-    spans-from i (suc m) h =
-        let q : i + suc m ≡ suc i + m = omega arith in
-        omega (arith, go (t i) (passing t (from (suc i) m)), spans-from (suc i) m (omega arith), step-le os (o .rising) i (omega arith), ap (λ (j : ℕ). getD os j 0) q)
-      where
-        go : (b : Bool) (r : List ℕ) → spansOf os (pick b (i ∷ r) r) ≤ spanAt os i + spansOf os r
-        go true r = omega arith
-        go false r = omega arith
-
--- so there is nothing to write
-pub none-written : {n : ℕ} {os : List ℕ} (masks : List ℕ) (l : ℕ) → Offsets n os → (s : List ℕ) → last os ≡ length s → getD os 0 0 ≡ getD os n 0
+-- where there is no byte, there is nothing to write
+pub none-written : {n : ℕ} {os : List ℕ} (masks : List ℕ) (l : ℕ) → Offsets n os → (s : List ℕ) → last os ≡ length s → length s ≡ 0
     → (to : ℕ) (out : List ℕ) → to + length (slicesAt os s (liveAt n masks l)) ≤ length out
     → (0 ≡ length (slicesAt os s (liveAt n masks l))) × (out ≡ overAt to (slicesAt os s (liveAt n masks l)) out)
 none-written {n} {os} masks l o s e z to out h =
     let xs : List ℕ = slicesAt os s (liveAt n masks l) in
-    let long : length xs ≡ 0 = slices-long masks l o s e ∙ spans-none (liveTest n masks l) o z in
+    let long : length xs ≡ 0 = omega (arith, slices-long masks l o s e, spans-le os (liveTest n masks l) n (o .counted) (o .rising)) in
     (sym long, laying-ends xs out to out 0 (laying-is (laying-begins xs out to h) (nothing xs long)))
   where
     nothing : (xs : List ℕ) → length xs ≡ 0 → xs ≡ []

@@ -1,6 +1,7 @@
--- What belongs to a cell, by its number: the bytes between two offsets.
+-- docs/SPEC.md, S1.8, by the number of a cell: the bytes between two offsets. Crate encode has that these are the values of the definitions
+-- (proofs/Walk `values-at`).
 -- Assumes nothing.
-use Prim.Native.Nat.{ℕ, suc, _+_, _-_, _<_, _≤_}
+use Prim.Native.Nat.{ℕ, suc, _+_, _-_}
 use mathlib.Core.Path.{_≡_}
 use mathlib.Core.List.{List, [], _∷_, map}
 use lib.ListN.{length, getD, take, drop}
@@ -34,11 +35,3 @@ spansOf os (i ∷ is) = spanAt os i + spansOf os is
 abbrev pub endsAt : List ℕ → ℕ → List ℕ → List ℕ
 endsAt os a [] = []
 endsAt os a (i ∷ is) = (a + spanAt os i) ∷ endsAt os (a + spanAt os i) is
-
--- ---- offsets less a base that is no more than any of them
-
-abbrev pub NoneBelow : ℕ → List ℕ → Type 0
-NoneBelow a os = (i : ℕ) → i < length os → a ≤ getD os i 0
-
-abbrev pub lessBy : ℕ → List ℕ → List ℕ
-lessBy a os = map (λ o. o - a) os

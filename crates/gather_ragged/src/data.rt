@@ -2,21 +2,12 @@
 use buffer::copy;
 use gather::live;
 ghost use mathlib.Core.Path.{_≡_};
-ghost use Prim.Native.Nat.{_+_, _<_, _≤_};
-ghost use lib.Dec.{eqb};
-ghost use lib.ListN.{length, getD};
+ghost use Prim.Native.Nat.{_+_, _≤_};
+ghost use lib.ListN.{length};
 ghost use Rattle.array.specs.Buffers.{overAt};
 ghost use Rattle.array.specs.Offsets.{last};
 ghost use Rattle.gather.specs.Live.{liveAt, Planes};
 ghost use Rattle.gather_ragged.specs.Slices.{slicesAt, spansOf, Offsets};
-
-// Whether no cell has a byte.
-fn none_has_bytes(offsets: &[u64], cells: usize) -> bool
-    requires { ⌜ cells < length (now offsets) ⌝ }
-    ensures { λ r. ⌜ r ≡ eqb (getD (now (offsets .entry)) 0 0) (getD (now (offsets .entry)) cells 0) ⌝ }
-{
-    offsets[0] == offsets[cells]
-}
 
 // Value bytes of the cells that the level counts: each length by its mark, so that nothing branches on a mask.
 fn sum_live_bytes(offsets: &[u64], masks: &[u8], cells: usize, level: usize) -> usize
@@ -35,12 +26,16 @@ fn sum_live_bytes(offsets: &[u64], masks: &[u8], cells: usize, level: usize) -> 
     total
 }
 
-// The same, without a walk where there is nothing to sum up.
-pub fn live_bytes(offsets: &[u64], masks: &[u8], cells: usize, level: usize) -> usize
-    requires { ⌜ Planes cells (now masks) level × Offsets cells (now offsets) ⌝ }
+// The same of the `count` cells that the level counts, without a walk where all count or there is nothing to sum up.
+pub fn live_bytes(offsets: &[u64], masks: &[u8], cells: usize, level: usize, count: usize) -> usize
+    requires { ⌜ Planes cells (now masks) level × (count ≡ length (liveAt cells (now masks) level)) × Offsets cells (now offsets) ⌝ }
     ensures { λ r. ⌜ r ≡ spansOf (now (offsets .entry)) (liveAt cells (now (masks .entry)) level) ⌝ }
 {
-    if none_has_bytes(offsets, cells) {
+    let all = offsets[cells] as usize;
+    if count == cells {
+        return all;
+    }
+    if all == 0 {
         return 0;
     }
     sum_live_bytes(offsets, masks, cells, level)
@@ -104,7 +99,7 @@ fn put_level_runs(
     }
 }
 
-// The same, without a walk where there is nothing to write.
+// The same of the `count` cells that the level counts. Where all count, it is the values as they lie.
 pub fn put_live_data(
     out: &mut [u8],
     to: usize,
@@ -113,14 +108,20 @@ pub fn put_live_data(
     masks: &[u8],
     cells: usize,
     level: usize,
+    count: usize,
 ) -> usize
-    requires { ⌜ Planes cells (now masks) level
+    requires { ⌜ Planes cells (now masks) level × (count ≡ length (liveAt cells (now masks) level))
         × Offsets cells (now offsets) × (last (now offsets) ≡ length (now values))
         × (to + length (slicesAt (now offsets) (now values) (liveAt cells (now masks) level)) ≤ length (now out)) ⌝ }
     ensures wrote { λ r. ⌜ r ≡ length (slicesAt (now (offsets .entry)) (now (values .entry)) (liveAt cells (now (masks .entry)) level)) ⌝ }
     ensures bytes { λ _. ⌜ now (out .exit) ≡ overAt to (slicesAt (now (offsets .entry)) (now (values .entry)) (liveAt cells (now (masks .entry)) level)) (now (out .entry)) ⌝ }
 {
-    if none_has_bytes(offsets, cells) {
+    let bytes = values.len();
+    if count == cells {
+        copy::copy_many(out, to, values, 0, bytes);
+        return bytes;
+    }
+    if bytes == 0 {
         return 0;
     }
     put_level_runs(out, to, values, offsets, masks, cells, level)

@@ -12,7 +12,7 @@ ghost use Rattle.array.specs.Bytes.{le};
 ghost use Rattle.array.specs.Meaning.{widthOf};
 ghost use Rattle.codec.specs.Ragged.{indexOf};
 ghost use Rattle.gather.specs.Live.{liveAt, Planes};
-ghost use Rattle.gather_ragged.specs.Slices.{Offsets, endsAt, NoneBelow, lessBy};
+ghost use Rattle.gather_ragged.specs.Slices.{Offsets, endsAt};
 
 fn put_offset(out: &mut [u8], at: usize, width: IndexWidth, v: u64)
     requires { ⌜ at + widthOf width ≤ length (now out) ⌝ }
@@ -80,21 +80,21 @@ fn put_live_ends(
     }
 }
 
-// Every offset less `base`.
-pub fn put_index(out: &mut [u8], to: usize, width: IndexWidth, offsets: &[u64], base: u64)
-    requires { ⌜ NoneBelow base (now offsets) × (to + length (indexOf (widthOf width) (lessBy base (now offsets))) ≤ length (now out)) ⌝ }
-    ensures { λ _. ⌜ now (out .exit) ≡ overAt to (indexOf (widthOf width) (lessBy base (now (offsets .entry)))) (now (out .entry)) ⌝ }
+// Every offset.
+fn put_index(out: &mut [u8], to: usize, width: IndexWidth, offsets: &[u64])
+    requires { ⌜ to + length (indexOf (widthOf width) (now offsets)) ≤ length (now out) ⌝ }
+    ensures { λ _. ⌜ now (out .exit) ≡ overAt to (indexOf (widthOf width) (now (offsets .entry))) (now (out .entry)) ⌝ }
 {
     let mut j = 0;
     let mut done = 0;
     while j < offsets.len() {
-        put_offset(out, to + done, width, offsets[j] - base);
+        put_offset(out, to + done, width, offsets[j]);
         done += kind::width_bytes(width);
         j += 1;
     }
 }
 
-// The index of the `count` cells that the level counts, from offset 0. Where all count, it is the offsets less the first.
+// The index of the `count` cells that the level counts, from offset 0. Where all count, it is the offsets as they lie.
 pub fn put_live_index(
     out: &mut [u8],
     to: usize,
@@ -110,7 +110,7 @@ pub fn put_live_index(
     ensures { λ _. ⌜ now (out .exit) ≡ overAt to (indexOf (widthOf width) (0 ∷ endsAt (now (offsets .entry)) 0 (liveAt cells (now (masks .entry)) level))) (now (out .entry)) ⌝ }
 {
     if count == cells {
-        put_index(out, to, width, offsets, offsets[0]);
+        put_index(out, to, width, offsets);
     } else {
         put_offset(out, to, width, 0);
         let behind = to + kind::width_bytes(width);

@@ -1,11 +1,11 @@
 -- The loop that writes the older form, by the offsets that are left: what stands in the output, and what is still to be written.
 -- Assumes nothing.
-use mathlib.Core.Path.{_≡_, refl, sym, ap, _∙_, subst}
+use mathlib.Core.Path.{_≡_, refl, sym, ap, ap₂, _∙_, subst}
 use Prim.Native.Nat.{ℕ, suc, _+_, _-_, _*_, _<_, _≤_}
 use native.Mathlib.Nat.{le-refl}
 use native.Mathlib.Numerals.{add-one}
 use native.Mathlib.Omega.{arith}
-use mathlib.Core.List.{List, [], _∷_, _++_}
+use mathlib.Core.List.{List, [], _∷_, _++_, append-assoc, append-nil}
 use lib.ListN.{length, take, drop, getD, length-append, length-drop, drop-of-length-le}
 use lib.Seq.{drop-cons, take-all, length-take-le}
 use Rattle.array.specs.Lists.{joined}
@@ -14,39 +14,33 @@ use Rattle.array.specs.Offsets.{last, lastFrom, Rising, RisingFrom, slicesFrom,
 use Rattle.array.specs.Cells.{Value}
 use Rattle.array.specs.Buffers.{over, overAt}
 use Rattle.array.proofs.Bytes.{length-le}
-use Rattle.array.proofs.Offsets.{rising-le, length-slicesFrom, joined-slices}
+use Rattle.array.proofs.Offsets.{rising-le, length-slicesFrom, joined-slices, joined-slices-all}
+use Rattle.array.proofs.Over.{over-again}
 use Rattle.codec.specs.Interleaved.{putCells, putInterleaved}
 use Rattle.codec.proofs.Older.{length-cells, length-interleaved}
 use Rattle.interleaved.specs.Cell.{Copied}
 use Rattle.interleaved.specs.Held.{Held, interleavedOf}
 use Rattle.interleaved.proofs.Placing.{Placing, placing-begins, placing-is, placing-left, placing-ends, placing-part, placing-cell}
 
--- ---- the offsets, from the first on
-
--- the first offset, and those behind it
-pub record First (n : ℕ) (s os : List ℕ) : Type 0 where
-  pub counted : length (slices os s) ≡ n
-  pub are : slices os s ≡ slicesFrom (getD os 0 0) (drop 1 os) s
-  pub rising : RisingFrom (getD os 0 0) (drop 1 os)
-  pub ended : lastFrom (getD os 0 0) (drop 1 os) ≡ length s
-
-pub first : {n : ℕ} {s os : List ℕ} → Held n s os → First n s os
-first {n} {s} {os} h = go os (h .counted) (h .rising) (h .ended)
-  where
-    go : (os : List ℕ) → length os ≡ suc n → Rising os → last os ≡ length s → First n s os
-    go [] e r l = absurd (omega arith)
-    go (a ∷ bs) e r l = record { counted = length-slicesFrom a bs s ∙ omega arith; are = refl; rising = r; ended = l }
+-- ---- the offsets begin at 0
 
 module _ {n : ℕ} {s os : List ℕ} (h : Held n s os) where
-  pub first-inside : getD os 0 0 ≤ length s
-  first-inside = omega (arith, rising-le (getD os 0 0) (drop 1 os) (first h .rising), first h .ended)
+  from-zero : os ≡ 0 ∷ drop 1 os
+  from-zero = go os (h .counted) (h .rising)
+    where
+      go : (os : List ℕ) → length os ≡ suc n → Rising os → os ≡ 0 ∷ drop 1 os
+      go [] e r = absurd (omega arith)
+      go (a ∷ bs) e r = ap (λ (x : ℕ). x ∷ bs) (r .0)
 
-  -- the written length, from the first offset and the count of value bytes
-  pub need-is : length (interleavedOf s os) ≡ 4 + 4 * n + (length s - getD os 0 0)
-  need-is =
-      let f : First n s os = first h in
-      let bytes : joined (slices os s) ≡ drop (getD os 0 0) s = ap joined (f .are) ∙ joined-slices (getD os 0 0) (drop 1 os) s (f .rising) (f .ended) in
-      omega (arith, length-interleaved (slices os s), f .counted, ap length bytes, length-drop (getD os 0 0) s)
+  cells-are : slices os s ≡ slicesFrom 0 (drop 1 os) s
+  cells-are = ap (λ (l : List ℕ). slices l s) from-zero
+
+  cells-counted : length (slices os s) ≡ n
+  cells-counted = omega (arith, ap length cells-are, length-slicesFrom 0 (drop 1 os) s, length-drop 1 os, h .counted)
+
+  -- the written length, from the counts of cells and of value bytes
+  pub need-is : length (interleavedOf s os) ≡ 4 + 4 * n + length s
+  need-is = omega (arith, length-interleaved (slices os s), cells-counted, ap length (joined-slices-all n os s (h .counted) (h .rising) (h .ended)))
 
 -- ---- the loop
 
@@ -60,28 +54,26 @@ pub record Storing (n : ℕ) (s os d out : List ℕ) (start i at : ℕ) : Type 0
 
 -- the count is stored
 module _ {n : ℕ} {s os : List ℕ} (h : Held n s os) (d : List ℕ) (room : length (interleavedOf s os) ≤ length d) {out : List ℕ} (e : out ≡ overAt 0 (le 4 n) d) where
-  behind : Placing (interleavedOf s os) d out 4 (putCells (slicesFrom (getD os 0 0) (drop 1 os) s))
+  behind : Placing (interleavedOf s os) d out 4 (putCells (slicesFrom 0 (drop 1 os) s))
   unfolding putInterleaved
   behind =
-      let cells : List ℕ = putCells (slicesFrom (getD os 0 0) (drop 1 os) s) in
-      let f : First n s os = first h in
+      let cells : List ℕ = putCells (slicesFrom 0 (drop 1 os) s) in
       let count : List ℕ = le 4 n in
       let long : length count ≡ 4 = length-le 4 n in
       let whole : interleavedOf s os ≡ count ++ cells =
-      ap (λ (m : ℕ). le 4 m ++ putCells (slices os s)) (f .counted) ∙ ap (λ (vs : List Value). count ++ putCells vs) (f .are) in
+      ap₂ (λ (m : ℕ) (vs : List Value). le 4 m ++ putCells vs) (cells-counted h) (cells-are h) in
       subst (λ (k : ℕ). Placing (interleavedOf s os) d out k cells) (omega arith)
       (placing-part count cells (placing-is (placing-begins (interleavedOf s os) d room) whole) count
       (omega (arith, ap length whole, length-append count cells)) (le-refl (length count)) (take-all (length count) count (le-refl (length count))) out e)
 
-  pub storing-begins : Storing n s os out out (getD os 0 0) 0 4
+  pub storing-begins : Storing n s os out out 0 0 4
   storing-begins =
-      let p : Placing (interleavedOf s os) d out 4 (putCells (slicesFrom (getD os 0 0) (drop 1 os) s)) = behind in
-      let f : First n s os = first h in
+      let p : Placing (interleavedOf s os) d out 4 (putCells (slicesFrom 0 (drop 1 os) s)) = behind in
       record {
         within = omega arith;
         counted = h .counted;
-        rising = f .rising;
-        ended = f .ended;
+        rising = subst Rising (from-zero h) (h .rising) .1;
+        ended = ap last (sym (from-zero h)) ∙ h .ended;
         placed = record { room = omega (arith, p .room, p .same); same = refl; within = p .within; front = p .front; back = refl; left = p .left };
       }
 
@@ -126,10 +118,6 @@ module _ {n : ℕ} {s os d out : List ℕ} {start i at : ℕ} (c : Storing n s o
 
     closes : lastFrom end later ≡ length s
     closes = ap (lastFrom start) (sym next) ∙ c .ended
-
-    -- the last offset ends the values
-    pub storing-last : n ≤ i + 1 → end ≡ length s
-    storing-last g = ap (lastFrom end) (sym (drop-of-length-le os {i = i + 1 + 1} (omega (arith, c .counted)))) ∙ closes
 
     pub storing-rises : (start ≤ end) × (end ≤ length s)
     storing-rises = (rises .0, omega (arith, rising-le end later (rises .1), closes))
@@ -196,21 +184,37 @@ module _ {n : ℕ} {s os d out : List ℕ} {start i at : ℕ} (c : Storing n s o
 
 -- ---- one cell
 
--- count, length and bytes of the one cell are stored, or count and length where it is empty
-module _ {s os : List ℕ} (h : Held 1 s os) (d : List ℕ) (room : length (interleavedOf s os) ≤ length d) {v : ℕ} {out out₁ : List ℕ}
-    (e : out ≡ overAt 0 (le 4 1) d) (f : out₁ ≡ overAt 4 (le 4 v) out) (g : v ≡ length s - getD os 0 0) where
-  abbrev begun : Storing 1 s os out out (getD os 0 0) 0 4
-  begun = storing-begins h d room e
+-- it has all the values
+pub one-cell : {s os : List ℕ} → Held 1 s os → s ∷ [] ≡ slices os s
+one-cell {s} {os} h = go os (h .counted) (h .rising) (h .ended)
+  where
+    go : (os : List ℕ) → length os ≡ 2 → Rising os → last os ≡ length s → s ∷ [] ≡ slices os s
+    go [] e r l = absurd (omega arith)
+    go (a ∷ []) e r l = absurd (omega arith)
+    go (a ∷ b ∷ []) e r l =
+        sym (ap₂ (λ (x y : ℕ). take (y - x) (drop x s) ∷ []) (r .0) l ∙ ap (λ (v : Value). v ∷ []) (take-all (length s - 0) s (omega arith)))
+    go (a ∷ b ∷ c ∷ os) e r l = absurd (omega arith)
 
-  size : v ≡ getD os 1 0 - getD os 0 0
-  size = omega (arith, storing-last begun (omega arith) (omega arith))
+pub one-need : (v : Value) → length (putInterleaved (v ∷ [])) ≡ 8 + length v
+one-need v = omega (arith, length-interleaved (v ∷ []), length-append v [])
 
-  pub one-empty : v ≤ 0 → out₁ ≡ over (interleavedOf s os) d
-  one-empty z = storing-done h d room e (storing-ends (storing-none begun (omega arith) f size (omega (arith, size))) (omega arith))
+-- count, length and bytes are stored, or count and length where it is empty
+module _ (v : Value) (d : List ℕ) {out out₁ : List ℕ} (e : out ≡ over (le 4 1) d) (f : out₁ ≡ overAt 4 (le 4 (length v)) out) where
+  told : out₁ ≡ over (le 4 1 ++ le 4 (length v)) d
+  told = f ∙ ap (overAt 4 (le 4 (length v))) e ∙ over-again (le 4 1) (le 4 (length v)) d 4 (length-le 4 1)
 
-  pub one-copied : {out₂ : List ℕ} → out₂ ≡ overAt 8 (take v (drop (getD os 0 0) s)) out₁ → out₂ ≡ over (interleavedOf s os) d
-  one-copied {out₂} c =
-      storing-done h d room e
-      (storing-ends
-      (storing-more begun (omega arith) f size (record { count = v; enough = omega (arith, size); fits = omega (arith, storing-last begun (omega arith) (omega arith)); done = c }))
-      (omega arith))
+  pub one-copied : {out₂ : List ℕ} → out₂ ≡ overAt 8 (take (length v) v) out₁ → out₂ ≡ over (putInterleaved (v ∷ [])) d
+  unfolding putInterleaved putCells
+  one-copied g =
+      let field : List ℕ = le 4 (length v) in
+      g ∙ ap₂ (overAt 8) (take-all (length v) v (omega arith)) told
+      ∙ over-again (le 4 1 ++ field) v d 8 (omega (arith, length-append (le 4 1) field, length-le 4 1, length-le 4 (length v)))
+      ∙ ap (λ (w : List ℕ). over w d) (append-assoc (le 4 1) field v ∙ ap (λ (w : List ℕ). le 4 1 ++ (field ++ w)) (sym (append-nil v)))
+
+  pub one-empty : length v ≤ 0 → out₁ ≡ over (putInterleaved (v ∷ [])) d
+  unfolding putInterleaved putCells
+  one-empty z = told ∙ ap (λ (w : List ℕ). over (le 4 1 ++ w) d) (nothing v z)
+    where
+      nothing : (v : Value) → length v ≤ 0 → le 4 (length v) ≡ le 4 (length v) ++ (v ++ [])
+      nothing [] z = sym (append-nil (le 4 0))
+      nothing (x ∷ v) z = absurd (omega arith)

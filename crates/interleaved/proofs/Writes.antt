@@ -93,15 +93,15 @@ module _ (k : Kind) (n : ℕ) (c : Content) (out : List ℕ) (r : Checked) (f : 
 
 -- ---- refusal 6, or the cells
 
-module _ (s os out : List ℕ) {need : ℕ} where
-  pub cells-room : need ≤ length out → need ≡ length (interleavedOf s os) → length (interleavedOf s os) ≤ length out
+module _ (want out : List ℕ) {need : ℕ} where
+  pub cells-room : need ≤ length out → need ≡ length want → length want ≤ length out
   cells-room g e = omega arith
 
-  pub cells-short : length out < need → need ≡ length (interleavedOf s os) → refusedList 6 out ≡ writtenOver (interleavedOf s os) out
-  cells-short g e = rw (lt-leb (length (interleavedOf s os)) (length out) (omega arith))
+  pub cells-short : length out < need → need ≡ length want → refusedList 6 out ≡ writtenOver want out
+  cells-short g e = rw (lt-leb (length want) (length out) (omega arith))
 
-  pub cells-written : need ≤ length out → need ≡ length (interleavedOf s os) → {out′ : List ℕ} → out′ ≡ over (interleavedOf s os) out
-      → _≡_ {A = Outcome ℕ (List ℕ)} (record { answer = gives need; buffers = out′ }) (writtenOver (interleavedOf s os) out)
+  pub cells-written : need ≤ length out → need ≡ length want → {out′ : List ℕ} → out′ ≡ over want out
+      → _≡_ {A = Outcome ℕ (List ℕ)} (record { answer = gives need; buffers = out′ }) (writtenOver want out)
   cells-written g e eo =
       ap₂ (λ (m : ℕ) (o : List ℕ). record { answer = gives m; buffers = o }) e eo
-      ∙ ap (λ (b : Bool). listOutcome (unless b 6 (gives (interleavedOf s os))) out) (sym (le-leb (length (interleavedOf s os)) (length out) (cells-room g e)))
+      ∙ ap (λ (b : Bool). listOutcome (unless b 6 (gives want)) out) (sym (le-leb (length want) (length out) (cells-room g e)))

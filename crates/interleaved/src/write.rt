@@ -1,5 +1,5 @@
 // The older interleaved form of ragged values, written: a 4-byte count, then for each cell a 4-byte length and its bytes.
-// Its length is known from the first offset and the count of value bytes, so the one walk is the one that stores.
+// Its length is known from the counts of cells and of value bytes, so the one walk is the one that stores.
 use crate::cell;
 use array::answer::Written;
 use array::kind::Kind;
@@ -14,11 +14,12 @@ ghost use mathlib.Core.Path.{_≡_};
 ghost use Prim.Native.Nat.{_≤_};
 ghost use lib.ListN.{length};
 ghost use mathlib.Core.Bool.{true};
-ghost use Rattle.array.specs.Limits.{mostCells};
+ghost use mathlib.Core.List.{[], _∷_};
+ghost use Rattle.array.specs.Limits.{mostBytes, mostCells};
 ghost use Rattle.array.specs.Meaning.{kindOf};
 ghost use Rattle.array.specs.Outcome.{outcome, contentArray};
 ghost use Rattle.array.specs.Buffers.{over};
-ghost use Rattle.codec.specs.Interleaved.{interleavedTest};
+ghost use Rattle.codec.specs.Interleaved.{putInterleaved, interleavedTest};
 ghost use Rattle.codec.specs.Calls.{interleavedEncoded};
 ghost use Rattle.interleaved.specs.Held.{Held, interleavedOf, writtenOver, encodedCells};
 
@@ -47,7 +48,7 @@ fn put_cells(out: &mut [u8], values: &[u8], offsets: &[u64], cells: usize)
     ensures { λ _. ⌜ now (out .exit) ≡ over (interleavedOf (now (values .entry)) (now (offsets .entry))) (now (out .entry)) ⌝ }
 {
     field::put_u32(out, 0, cells as u64);
-    let mut start = offsets[0] as usize;
+    let mut start: usize = 0;
     let mut i: usize = 0;
     let mut at: usize = 4;
     while i < cells {
@@ -64,13 +65,12 @@ fn put_cells(out: &mut [u8], values: &[u8], offsets: &[u64], cells: usize)
     }
 }
 
-// The cells of a valid array: refusal 6, or their interleaved form. Bytes before the first offset are in no cell.
+// The cells of a valid array: refusal 6, or their interleaved form.
 fn write_cells(cells: usize, values: &[u8], offsets: &[u64], out: &mut [u8]) -> Written
     requires { ⌜ Held cells (now values) (now offsets) ⌝ }
     ensures { λ r. ⌜ outcome r (now (out .exit)) ≡ writtenOver (interleavedOf (now (values .entry)) (now (offsets .entry))) (now (out .entry)) ⌝ }
 {
-    let first = offsets[0] as usize;
-    let need = 4 + 4 * cells + (values.len() - first);
+    let need = 4 + 4 * cells + values.len();
     if out.len() < need {
         return Written::Refused(refusal::OUTPUT);
     }
@@ -78,13 +78,12 @@ fn write_cells(cells: usize, values: &[u8], offsets: &[u64], out: &mut [u8]) -> 
     Written::Length(need)
 }
 
-// The same of one cell, with no loop.
-fn write_one(values: &[u8], offsets: &[u64], out: &mut [u8]) -> Written
-    requires { ⌜ Held 1 (now values) (now offsets) ⌝ }
-    ensures { λ r. ⌜ outcome r (now (out .exit)) ≡ writtenOver (interleavedOf (now (values .entry)) (now (offsets .entry))) (now (out .entry)) ⌝ }
+// The same of one cell, which has all the values.
+fn write_one(values: &[u8], out: &mut [u8]) -> Written
+    requires { ⌜ length (now values) ≤ mostBytes ⌝ }
+    ensures { λ r. ⌜ outcome r (now (out .exit)) ≡ writtenOver (putInterleaved (now (values .entry) ∷ [])) (now (out .entry)) ⌝ }
 {
-    let start = offsets[0] as usize;
-    let size = values.len() - start;
+    let size = values.len();
     let need = 8 + size;
     if out.len() < need {
         return Written::Refused(refusal::OUTPUT);
@@ -92,7 +91,7 @@ fn write_one(values: &[u8], offsets: &[u64], out: &mut [u8]) -> Written
     field::put_u32(out, 0, 1);
     field::put_u32(out, 4, size as u64);
     if 0 < size {
-        cell::copy_exactly(out, 8, values, start, size);
+        cell::copy_exactly(out, 8, values, 0, size);
     }
     Written::Length(need)
 }
@@ -126,7 +125,7 @@ fn encode_one(kind: Kind, masks: &[u8], values: &[u8], offsets: &[u64], out: &mu
     let checked = array_bytes::check_array(kind, 1, masks, values, offsets);
     match checked {
         Checked::Refused(e) => Written::Refused(e),
-        Checked::Valid => write_one(values, offsets, out),
+        Checked::Valid => write_one(values, out),
     }
 }
 

@@ -13,7 +13,7 @@ abbrev measured : tie.After-stored-length → tie.Start
 measured n = start (n .before)
 
 stored-length-requires : tie.Need-stored-length-requires
-stored-length-requires c κs = (encodable-measured (start c .pre), start c .pre .small)
+stored-length-requires c κs = encodable-measured (start c .pre)
 
 returns : tie.Need-returns
 returns c =

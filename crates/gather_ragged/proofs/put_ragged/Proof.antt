@@ -76,6 +76,7 @@ put-live-data-requires : tie.Need-put-live-data-requires
 put-live-data-requires c κs =
     let a = c .before .before .before .before .before .before .before .args in (
       c .before .before .before .before .before .before .before .pre .0,
+      c .before .before .before .before .before .before .before .pre .1,
       c .before .before .before .before .before .before .before .pre .2,
       c .before .before .before .before .before .before .before .pre .3,
       omega (

@@ -56,7 +56,7 @@ add-result c = omega (arith, index-small c)
 live-bytes-requires : tie.Need-live-bytes-requires
 live-bytes-requires c κs =
     let s = of-ragged (form c) in
-    (measured-planes (s .pre .1), ragged-offsets (s .args .kind) (s .pre .1) (s .pre .0) (form c .form2 .given .1))
+    (measured-planes (s .pre .1), s .pre .0, ragged-offsets (s .args .kind) (s .pre .1) (s .pre .0) (form c .form2 .given .1))
 
 add-result-2 : tie.Need-add-result-2
 add-result-2 c =

@@ -1,63 +1,52 @@
--- `encode::write::write_stored` meets its contract: below masks the content with all levels left, and without them a case for each form.
+-- `encode::write::write_stored` meets its contract: below masks the content with all levels left, and without them the values, a case for each form.
 -- Assumes nothing.
-use mathlib.Core.Path.{_≡_, ap}
+use mathlib.Core.Path.{_≡_, sym, ap, _∙_}
 use native.Mathlib.Omega.{arith}
 use lib.ListN.{length}
 use Rattle.array.specs.Content.{Content}
 use Rattle.array.specs.Meaning.{kindOf}
 use Rattle.array.specs.Outcome.{contentArray}
+use Rattle.gather.proofs.LiveMarks.{count-all}
 use Rattle.gather.proofs.Placing.{laid-as}
-use Rattle.encode.specs.Stored.{storedFrom, storedBy}
-use Rattle.encode.proofs.Levels.{stored-by-long}
-use Rattle.encode.proofs.Forms.{fixed-source, length-copied, stored-copied, stored-deep, stored-plain}
+use Rattle.encode.specs.Stored.{valuesFrom, storedFrom}
+use Rattle.encode.proofs.Levels.{flat-stored}
+use Rattle.encode.proofs.Forms.{encodable-planes, fixed-source, fixed-all, fixed-wrote, offsets-fit, offsets-end, ragged-writes}
 use borrow.Author.Needs.{needs}
 use Rattle.encode.proofs.write.write_stored.Statement.{statement}
 use Rattle.encode.proofs.write.write_stored.Tie as tie
 
-abbrev start : tie.After-struct-known → tie.Start
-start c = let k = c .before .before .before in k .before .before
-
 abbrev held : tie.Start → Content
 held s = contentArray (s .args .masks .now) (s .args .values .now) (s .args .offsets .now)
 
--- below masks
-abbrev masked : tie.Then1 → tie.Start
-masked c = start (c .before)
-
-deep : (c : tie.Then1) → storedFrom (kindOf (masked c .args .kind)) (masked c .args .cells) (held (masked c)) (masked c .args .kind .depth)
-    ≡ storedBy (kindOf (masked c .args .kind)) (masked c .args .cells) (held (masked c))
-deep c = let s = masked c in stored-deep (kindOf (s .args .kind)) (s .args .cells) (held s) (c .if1 .taken)
-
 -- at depth 0
 abbrev plain : tie.Else1 → tie.Start
-plain c = start (c .before)
+plain c = let k = c .before .before .before .before in k .before .before
 
 depth-none : (c : tie.Else1) → plain c .args .kind .depth ≡ 0
 depth-none c = omega (arith, c .if1 .left)
+
+flat : (c : tie.Else1) → storedFrom (kindOf (plain c .args .kind)) (plain c .args .cells) (held (plain c)) (plain c .args .kind .depth)
+    ≡ valuesFrom (kindOf (plain c .args .kind)) (plain c .args .cells) (held (plain c))
+flat c = let s = plain c in flat-stored (kindOf (s .args .kind)) (depth-none c) (s .pre .0 .some) (held s)
 
 -- the form is known
 abbrev fixed-form : tie.After-put-all-arg → tie.After-form
 fixed-form c = c .before .before
 
-abbrev ragged-form : tie.After-put-plain-arg → tie.After-form2
+abbrev ragged-form : tie.After-put-ragged-arg → tie.After-form2
 ragged-form c = c .before .before
 
 cast-depth : tie.Need-cast-depth
 cast-depth c = search needs
 
 write-content-requires : tie.Need-write-content-requires
-write-content-requires c κs =
-    let t = c .before in
-    let s = masked t in
-    (s .pre .0, (omega arith, omega (arith, s .pre .1, ap length (deep t))))
+write-content-requires c κs = search needs
 
 same-length : tie.Need-same-length
 same-length c = search needs
 
 returns : tie.Need-returns
-returns c =
-    let t = c .before .before .before .before in
-    laid-as 0 (masked t .args .out .now) (c .before .before .write-content .ensures .1) (deep t)
+returns c = search needs
 
 enum-known-form : tie.Need-enum-known-form
 enum-known-form c = search needs
@@ -71,20 +60,26 @@ put-all-requires c κs =
     let e = f .before .before in
     let s = plain e in
     let a = s .args in
-    let n = length-copied (a .kind) (depth-none e) (a .cells) (f .form .given .1) (a .masks .now) (a .offsets .now) (length (a .values .now)) in (
-      omega (arith, s .pre .1, stored-by-long (kindOf (a .kind)) (a .cells) (held s) (s .pre .0 .content .values-fit), n),
-      omega (arith, fixed-source (a .kind) (s .pre .0) (f .form .given .1)),
-    )
+    let r = s .pre .0 in
+    let count = count-all (a .cells) (a .masks .now) (a .kind .depth) (depth-none e) in
+    (omega (arith, s .pre .1, ap length (flat e), fixed-wrote (a .kind) r (f .form .given .1) count), omega (arith, fixed-source (a .kind) r (f .form .given .1)))
 
 enum-known-form-2 : tie.Need-enum-known-form-2
 enum-known-form-2 c = search needs
 
-put-plain-requires : tie.Need-put-plain-requires
-put-plain-requires c κs =
+put-ragged-requires : tie.Need-put-ragged-requires
+put-ragged-requires c κs =
     let f = ragged-form c in
     let e = f .before .before in
     let s = plain e in
-    omega (arith, s .pre .1, ap length (stored-plain (s .args .kind) (depth-none e) (s .args .cells) (f .form2 .given .1) (held s)))
+    let a = s .args in
+    let r = s .pre .0 in (
+      encodable-planes r,
+      count-all (a .cells) (a .masks .now) (a .kind .depth) (depth-none e),
+      offsets-fit (a .kind) r (f .form2 .given .1),
+      offsets-end (a .kind) r (f .form2 .given .1),
+      omega (arith, s .pre .1, ap length (flat e), ap length (ragged-writes (a .kind) r (f .form2 .given .1))),
+    )
 
 same-length-2 : tie.Need-same-length-2
 same-length-2 c = search needs
@@ -95,7 +90,7 @@ returns-2 c =
     let e = f .before .before in
     let s = plain e in
     let a = s .args in
-    laid-as 0 (a .out .now) (c .before .before .put-all .ensures) (stored-copied (a .kind) (depth-none e) (a .cells) (f .form .given .1) (held s))
+    laid-as 0 (a .out .now) (c .before .before .put-all .ensures) (fixed-all (a .kind) (s .pre .0) (f .form .given .1) (depth-none e) ∙ sym (flat e))
 
 same-length-3 : tie.Need-same-length-3
 same-length-3 c = search needs
@@ -106,7 +101,7 @@ returns-3 c =
     let e = f .before .before in
     let s = plain e in
     let a = s .args in
-    laid-as 0 (a .out .now) (c .before .before .put-plain .ensures) (stored-plain (a .kind) (depth-none e) (a .cells) (f .form2 .given .1) (held s))
+    laid-as 0 (a .out .now) (c .before .before .put-ragged .ensures .1) (ragged-writes (a .kind) (s .pre .0) (f .form2 .given .1) ∙ sym (flat e))
 
 pub write-stored-spec : {M : Type 1} → statement M
 write-stored-spec =
@@ -120,7 +115,7 @@ write-stored-spec =
     cast-put-all
     put-all-requires
     enum-known-form-2
-    put-plain-requires
+    put-ragged-requires
     same-length-2
     returns-2
     same-length-3

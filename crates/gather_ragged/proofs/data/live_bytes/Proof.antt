@@ -1,27 +1,43 @@
--- `gather_ragged::data::live_bytes` meets its contract: where no cell has a byte, the sum is 0.
+-- `gather_ragged::data::live_bytes` meets its contract: where all cells count, the last offset is the sum, and where it is 0, so is the sum.
 -- Assumes nothing.
-use mathlib.Core.Path.{sym, _∙_}
+use native.Mathlib.Omega.{arith}
 use borrow.Author.Needs.{needs}
-use borrow.Author.Tests.{eqb-true}
 use Rattle.gather.specs.Live.{liveTest}
-use Rattle.gather_ragged.proofs.Summing.{spans-none}
+use Rattle.valid.proofs.CheckLaws.{last-at}
+use Rattle.gather_ragged.proofs.Spans.{all-spans}
+use Rattle.gather_ragged.proofs.Summing.{spans-le}
 use Rattle.gather_ragged.proofs.data.live_bytes.Statement.{statement}
 use Rattle.gather_ragged.proofs.data.live_bytes.Tie as tie
 
-none-has-bytes-requires : tie.Need-none-has-bytes-requires
-none-has-bytes-requires c κs = search needs
+abbrev start : tie.After-shared-slice-known3 → tie.Start
+start c = c .before .before .before
+
+mul-all : tie.Need-mul-all
+mul-all c = search needs
+
+shared-slice-read-all : tie.Need-shared-slice-read-all
+shared-slice-read-all c = search needs
 
 returns : tie.Need-returns
 returns c =
-    let s = c .before .before .before .before in
-    sym (spans-none (liveTest (s .args .cells) (s .args .masks .now) (s .args .level)) (s .pre .1) (eqb-true _ _ (sym (c .before .none-has-bytes .ensures) ∙ c .if1 .taken)))
+    let s = start (c .before) in
+    all-spans (s .pre .2) (s .args .masks .now) (s .args .level) (s .pre .1) (c .if1 .taken)
+
+returns-2 : tie.Need-returns-2
+returns-2 c =
+    let s = start (c .before .before) in
+    let a = s .args in
+    let o = s .pre .2 in
+    let os = a .offsets .now in
+    omega (arith, c .if2 .taken, last-at os (a .cells) (o .counted), spans-le os (liveTest (a .cells) (a .masks .now) (a .level)) (a .cells) (o .counted) (o .rising))
 
 sum-live-bytes-requires : tie.Need-sum-live-bytes-requires
 sum-live-bytes-requires c κs = search needs
 
-returns-2 : tie.Need-returns-2
-returns-2 c = search needs
+returns-3 : tie.Need-returns-3
+returns-3 c = search needs
 
 pub live-bytes-spec : {M : Type 1} → statement M
 live-bytes-spec =
-    tie.close (tie.spec none-has-bytes-requires returns sum-live-bytes-requires returns-2)
+    tie.close
+    (tie.spec mul-all shared-slice-read-all returns returns-2 sum-live-bytes-requires returns-3)

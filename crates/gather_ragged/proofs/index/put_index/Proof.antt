@@ -5,16 +5,16 @@ use Prim.Native.Nat.{_≤_, _+_, _-_}
 use native.Mathlib.Omega.{arith}
 use lib.ListN.{length}
 use Rattle.array.specs.Meaning.{widthOf}
-use Rattle.gather_ragged.proofs.Indexing.{Listing, listing-least, listing-begins, listing-same, listing-ends, listing-room, listing-more}
+use Rattle.gather_ragged.proofs.Indexing.{Listing, listing-begins, listing-same, listing-ends, listing-room, listing-more}
 use borrow.Author.Needs.{needs}
 use Rattle.gather_ragged.proofs.index.put_index.Statement.{statement}
 use Rattle.gather_ragged.proofs.index.put_index.Tie as tie
 
 abbrev Inv-loop : tie.InvT-loop
-Inv-loop out₀ to width offsets base j₀ done₀ out j done = Listing (widthOf width) base offsets out₀ to out j done
+Inv-loop out₀ to width offsets j₀ done₀ out j done = Listing (widthOf width) offsets out₀ to out j done
 
 abbrev μ-loop : tie.MeasureT-loop
-μ-loop out₀ to width offsets base j₀ done₀ out j done = length offsets - j
+μ-loop out₀ to width offsets j₀ done₀ out j done = length offsets - j
 
 same : (c : tie.At-loop Inv-loop μ-loop) → length (c .loop .out) ≡ length (c .before .before .before .args .out .now)
 same c = listing-same (c .loop .inv)
@@ -24,7 +24,7 @@ room : (c : tie.In-loop Inv-loop μ-loop) → c .before .before .before .before 
 room c = listing-room (c .before .loop .inv) (c .loop-test .taken)
 
 loop-holds : tie.Need-loop-holds Inv-loop μ-loop
-loop-holds c = listing-begins (c .before .before .pre .0) (c .before .before .pre .1)
+loop-holds c = listing-begins (c .before .before .pre)
 
 add-put-offset : tie.Need-add-put-offset Inv-loop μ-loop
 add-put-offset c = omega (arith, room (c .before), same (c .before .before))
@@ -34,9 +34,6 @@ mul-put-offset c = search needs
 
 shared-slice-read-put-offset : tie.Need-shared-slice-read-put-offset Inv-loop μ-loop
 shared-slice-read-put-offset c = omega arith
-
-sub-put-offset : tie.Need-sub-put-offset Inv-loop μ-loop
-sub-put-offset c = listing-least (c .before .before .before .loop .inv) (c .before .before .loop-test .taken)
 
 put-offset-requires : tie.Need-put-offset-requires Inv-loop μ-loop
 put-offset-requires c κs = omega (arith, room (c .before .before), same (c .before .before .before))
@@ -74,7 +71,6 @@ put-index-spec =
     add-put-offset
     mul-put-offset
     shared-slice-read-put-offset
-    sub-put-offset
     put-offset-requires
     width-bytes-requires
     add-done

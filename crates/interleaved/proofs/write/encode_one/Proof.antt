@@ -1,12 +1,17 @@
 -- `interleaved::write::encode_one` meets its contract, by the laws of Writes.
 -- Assumes nothing.
-use mathlib.Core.Path.{_∙_}
+use mathlib.Core.Path.{ap, _∙_}
+use mathlib.Core.List.{List}
 use native.Mathlib.Omega.{arith}
 use borrow.Author.Needs.{needs}
 use Rattle.array.specs.Limits.{mostCells}
 use Rattle.array.specs.Meaning.{kindOf}
 use Rattle.array.specs.Outcome.{contentArray}
+use Rattle.array.specs.Cells.{Value}
 use Rattle.array.specs.Content.{Content}
+use Rattle.codec.specs.Interleaved.{putInterleaved}
+use Rattle.interleaved.specs.Held.{Held, writtenOver}
+use Rattle.interleaved.proofs.Storing.{one-cell}
 use Rattle.interleaved.proofs.Writes.{write-content, write-held, write-rest}
 use Rattle.interleaved.proofs.write.encode_one.Statement.{statement}
 use Rattle.interleaved.proofs.write.encode_one.Tie as tie
@@ -29,12 +34,16 @@ enum-known-checked c = search needs
 enum-told : tie.Need-enum-told
 enum-told c = search needs
 
-write-one-requires : tie.Need-write-one-requires
+-- the one cell is held
+held : (told : tie.After-enum-told) → Held 1 (start (told .before .before) .args .values .now) (start (told .before .before) .args .offsets .now)
 unfolding mostCells
-write-one-requires c κs =
-    let k = c .before .before .before in
+held told =
+    let k = told .before .before in
     let s = start k in
-    write-held (kindOf (s .args .kind)) 1 (content s) (s .args .out .now) (k .check-array .result) (k .check-array .ensures) (s .pre) (c .before .enum-told .given .1) (omega arith)
+    write-held (kindOf (s .args .kind)) 1 (content s) (s .args .out .now) (k .check-array .result) (k .check-array .ensures) (s .pre) (told .enum-told .given .1) (omega arith)
+
+write-one-requires : tie.Need-write-one-requires
+write-one-requires c κs = held (c .before) .small
 
 returns : tie.Need-returns
 returns c =
@@ -51,6 +60,7 @@ returns-2 c =
     let k = told .before .before in
     let s = start k in
     c .before .before .write-one .ensures
+    ∙ ap (λ (vs : List Value). writtenOver (putInterleaved vs) (s .args .out .now)) (one-cell (held told))
     ∙ write-rest (kindOf (s .args .kind)) 1 (content s) (s .args .out .now) (k .check-array .result) (k .check-array .ensures) (s .pre) (told .enum-told .given .1)
 
 pub encode-one-spec : {M : Type 1} → statement M

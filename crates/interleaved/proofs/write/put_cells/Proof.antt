@@ -38,7 +38,7 @@ abbrev start : Counted → Start
 start c = entry (c .before)
 
 abbrev counted : Head → Counted
-counted l = l .before .before .before .before
+counted l = l .before .before .before
 
 abbrev head : Told → Head
 head t = t .before .before .before .before
@@ -53,12 +53,9 @@ long l =
 put-u32-requires : tie.Need-put-u32-requires Inv-loop μ-loop
 put-u32-requires c κs = omega (arith, need-is (entry c .pre .0), entry c .pre .1)
 
-shared-slice-read-start : tie.Need-shared-slice-read-start Inv-loop μ-loop
-shared-slice-read-start c = omega (arith, start (c .before .before .before) .pre .0 .counted)
-
 loop-holds : tie.Need-loop-holds Inv-loop μ-loop
 loop-holds c =
-    let count = c .before .before .before in
+    let count = c .before .before in
     storing-begins (start count .pre .0) (start count .args .out .now) (start count .pre .1) (count .put-u32 .ensures)
 
 add-i : tie.Need-add-i Inv-loop μ-loop
@@ -139,7 +136,6 @@ put-cells-spec =
     Inv-loop
     μ-loop
     put-u32-requires
-    shared-slice-read-start
     loop-holds
     add-i
     mul-end
