@@ -3,7 +3,7 @@
 use mathlib.Core.Path.{_≡_, refl, sym, ap, ap₂, _∙_}
 use mathlib.Core.List.{List, [], _∷_, _++_, map}
 use mathlib.Core.Bool.{Bool, true, false}
-use Prim.Native.Nat.{ℕ, zero, suc, _+_, _-_}
+use Prim.Native.Nat.{ℕ, zero, suc, _+_, _-_, _≤_}
 use native.Mathlib.Omega.{arith}
 use lib.Dec.{leb, eqb}
 use lib.ListN.{length, take, drop, length-drop}
@@ -21,6 +21,10 @@ use Rattle.mask.specs.Marks.{storedMask, countedIn}
 use Rattle.stored.specs.Walk.{opened, entering, walked}
 use Rattle.stored.specs.Stored.{maskIn, contentAt, storedMasks, cellsFrom, innermostBy, answerBy}
 use Rattle.codec.proofs.SpreadLaws.{expand-none, planes-joined, planes-expand, leaves-expand, spread-spread, stacked, placed-stacked}
+
+pub innermost-some : (r : ℕ → Answer (List Value)) (k : ℕ) → 1 ≤ k → innermostBy r k ≡ r k
+innermost-some r zero h = absurd (omega arith)
+innermost-some r (suc k) h = refl
 
 module _ (mf : MaskForm) (z : Value) (r : List ℕ → ℕ → Answer (List Value)) where
   module _ (d : ℕ) (s : List ℕ) (at n : ℕ) where
@@ -104,15 +108,15 @@ module _ (mf : MaskForm) (z : Value) (r : List ℕ → ℕ → Answer (List Valu
               ∙ body-is
               ∙ ap (λ (l : List ℕ). answered (andThen (countedIn mf l n) (entering s next below))) (sym em)
 
-  -- a reader of frames answers what the walk tells, with a cell at least
-  pub read-walked : (d : ℕ) (s : List ℕ) (at n : ℕ) → readFrame mf z r d (drop at s) (suc n) ≡ andThen (walked mf d s at (suc n)) (answerBy mf z r d s at (suc n))
+  -- a reader of some cells answers what the walk tells
+  pub read-walked : (d : ℕ) (s : List ℕ) (at n : ℕ) → 1 ≤ n → readFrame mf z r d (drop at s) n ≡ andThen (walked mf d s at n) (answerBy mf z r d s at n)
   unfolding walked cellsFrom readFrame
-  read-walked zero s at n = base (r (drop at s) (suc n))
+  read-walked zero s at n h = sym (innermost-some (r (drop at s)) n h) ∙ base (innermostBy (r (drop at s)) n)
     where
-      base : (x : Answer (List Value)) → x ≡ andThen x (λ vs. gives (cellsFrom mf z zero s at (suc n) vs))
+      base : (x : Answer (List Value)) → x ≡ andThen x (λ vs. gives (cellsFrom mf z zero s at n vs))
       base (gives vs) = refl
       base (refuses e) = refl
-  read-walked (suc d) s at n = frame-step d s at (suc n) (read-walked d s (contentAt mf at (suc n))) (drop at s) refl
+  read-walked (suc d) s at n h = frame-step d s at n (λ k. read-walked d s (contentAt mf at n) (suc k) (omega arith)) (drop at s) refl
 
 -- ---- the planes of what was read
 
