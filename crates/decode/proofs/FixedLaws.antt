@@ -24,10 +24,10 @@ use Rattle.codec.specs.Frame.{countSet}
 use Rattle.codec.specs.Spread.{spread}
 use Rattle.codec.specs.Values.{getValues}
 use Rattle.codec.specs.Calls.{readIn}
-use Rattle.stored.specs.Walk.{Innermost, valuesAt, noneSet, walked}
-use Rattle.stored.specs.Stored.{cellsFrom, answerBy, innermostCount}
+use Rattle.stored.specs.Walk.{walked}
+use Rattle.stored.specs.Stored.{cellsFrom, innermostBy, answerBy, innermostCount}
 use Rattle.stored.proofs.Reading.{read-walked}
-use Rattle.stored.proofs.Walks.{WalkPassed, walk-values, walk-none, values-flat, none-deep, passed-count}
+use Rattle.stored.proofs.Walks.{WalkPassed, walk-passed, passed-count}
 use Rattle.spread.specs.Values.{valuesOver, ValuesWithin}
 use Rattle.spread.proofs.ValueRuns.{cellsLeft, valuesLeft}
 use Rattle.spread.proofs.SpreadingValues.{cells-length, values-length}
@@ -41,7 +41,7 @@ use Rattle.decode.proofs.Outcomes.{short-masks, short-values, all-writt
 use Rattle.decode.proofs.Small.{bytes-small}
 
 -- with no mask the walk is at the values at once
-walk-flat : (mf : MaskForm) (d : ℕ) (s : List ℕ) (n : ℕ) → d ≡ 0 → walked mf d s 0 n ≡ gives (valuesAt 0 n)
+walk-flat : (mf : MaskForm) (d : ℕ) (s : List ℕ) (n : ℕ) → d ≡ 0 → walked mf d s 0 n ≡ gives (0, n)
 unfolding walked
 walk-flat mf zero s n e = refl
 walk-flat mf (suc d) s n e = absurd (omega arith)
@@ -151,82 +151,65 @@ module _ (o : Order) {x : Masks} {size d : ℕ} {s : List ℕ} {n : ℕ} {f : Fo
 -- ---- what the copying rests on, by the walk
 
 module _ {x : Masks} {size d : ℕ} {s : List ℕ} {n : ℕ} {f : Found} (r : FixedFound x size d s n f) where
-  found-passed : WalkPassed x d s 0 n (f .cells) × (f .at ≤ length s)
-  found-passed = walk-values x d s 0 n (f .at) (f .cells) (omega arith) (r .walk)
-
-  pub found-inside : f .at ≤ length s
-  found-inside = found-passed .1
+  pub found-passed : WalkPassed x d s 0 n (f .at) (f .cells)
+  found-passed = walk-passed x d s 0 n (f .at) (f .cells) (r .limits .some) (omega arith) (r .walk)
 
   pub found-small : f .cells * size ≤ 65536 * 64
-  found-small = bytes-small (f .cells) size (le-trans (found-passed .0 .few) (r .limits .few)) (r .small)
+  found-small = bytes-small (f .cells) size (le-trans (found-passed .few) (r .limits .few)) (r .small)
 
   pub some-within : length s - f .at ≡ f .cells * size → FixedWithin x size d s n f
   some-within e = record {
     limits = r .limits;
     small = r .small;
-    masks = found-passed .0 .within;
-    count = passed-count (r .limits .some) (found-passed .0) (values-flat (maskForm x) d s 0 n (f .at) (f .cells) (r .walk));
-    room = omega (arith, found-passed .1);
+    masks = found-passed .within;
+    count = passed-count (r .limits .some) found-passed;
+    room = omega (arith, found-passed .inside);
   }
-
--- no cell is set
-abbrev pub nothing : Found
-nothing = record { at = 0; cells = 0 }
-
-pub none-within : (x : Masks) {size d : ℕ} (s : List ℕ) {n : ℕ} → Limited d n → size ≤ mostSize → walked (maskForm x) d s 0 n ≡ gives noneSet → FixedWithin x size d s n nothing
-none-within x {size} {d} s {n} l h g =
-    let w = walk-none x d s 0 n (omega arith) g in
-    record {
-      limits = l;
-      small = h;
-      masks = w .within;
-      count = passed-count (l .some) w (λ e. absurd (omega (arith, none-deep (maskForm x) d s 0 n g)));
-      room = omega (arith, zero-mul size);
-    }
 
 -- ---- the reader, by the walk
 
-module _ (mf : MaskForm) (size : ℕ) (o : Order) (d : ℕ) (s : List ℕ) (n : ℕ) where
+-- values of which none is read where nothing is left
+fixed-any : (size : ℕ) (o : Order) (q : List ℕ) (k : ℕ) → (k ≡ 0 → length q ≡ 0) → innermostBy (getValues (fixed size o) q) k ≡ getValues (fixed size o) q k
+unfolding getValues
+fixed-any size o q zero h = sym (ap (λ (t : Bool). unless t 8 (gives [])) (eq-eqb (length q) (0 * size) (h refl ∙ sym (zero-mul size))))
+fixed-any size o q (suc k) h = refl
+
+module _ (mf : MaskForm) (size : ℕ) (o : Order) (d : ℕ) (s : List ℕ) {n : ℕ} (l : Limited d n) where
   abbrev form : Form
   form = fixed size o
 
   abbrev laidOut : Answer (List (Cell d)) → Answer Content
   laidOut a = andThen a (λ cs. gives (layout form d cs))
 
-  reads : (w : Answer Innermost) → walked mf d s 0 n ≡ w → readIn mf form d n s ≡ laidOut (andThen w (answerBy mf (replicate size 0) (getValues form) d s 0 n))
+  reads : (w : Answer (ℕ × ℕ)) → walked mf d s 0 n ≡ w → readIn mf form d n s ≡ laidOut (andThen w (answerBy mf (replicate size 0) (getValues form) d s 0 n))
   unfolding readIn
   reads w e =
-      ap laidOut (read-walked mf (replicate size 0) (getValues form) d s 0 n
-      ∙ ap (λ (y : Answer Innermost). andThen y (answerBy mf (replicate size 0) (getValues form) d s 0 n)) e)
+      ap laidOut (read-walked mf (replicate size 0) (getValues form) d s 0 n (l .some)
+      ∙ ap (λ (y : Answer (ℕ × ℕ)). andThen y (answerBy mf (replicate size 0) (getValues form) d s 0 n)) e)
 
   pub fixed-refused : (e : ℕ) → walked mf d s 0 n ≡ refuses e → readIn mf form d n s ≡ refuses e
   fixed-refused e h = reads (refuses e) h
 
-  pub fixed-none : walked mf d s 0 n ≡ gives noneSet → readIn mf form d n s ≡ gives (fixedFrom mf size o d s n nothing)
-  unfolding fixedFrom
-  fixed-none h = reads (gives noneSet) h
-
 module _ (o : Order) {x : Masks} {size d : ℕ} {s : List ℕ} {n : ℕ} {f : Found} (r : FixedFound x size d s n f) where
+  -- the values are read
+  given : Answer (List Value) → Answer Content
+  given y = laidOut (maskForm x) size o d s (r .limits) (andThen y (λ vs. gives (cellsFrom (maskForm x) (replicate size 0) d s 0 n vs)))
+
   -- by whether the stored bytes end with the values
-  by-length : (t : Bool) → eqb (length (drop (f .at) s)) (f .cells * size) ≡ t → readIn (maskForm x) (fixed size o) d n s
-      ≡ andThen (unless t 8 (gives (map (ordered o) (pieces size (f .cells) (drop (f .at) s)))))
-      (λ vs. gives (layout (fixed size o) d (cellsFrom (maskForm x) (replicate size 0) d s 0 n vs)))
-  unfolding getValues
-  by-length t e = reads (maskForm x) size o d s n (gives (valuesAt (f .at) (f .cells))) (r .walk) ∙ go t e
-    where
-      go : (t : Bool) → eqb (length (drop (f .at) s)) (f .cells * size) ≡ t → laidOut (maskForm x) size o d s n
-          (andThen (unless (eqb (length (drop (f .at) s)) (f .cells * size)) 8 (gives (map (ordered o) (pieces size (f .cells) (drop (f .at) s)))))
-          (λ vs. gives (cellsFrom (maskForm x) (replicate size 0) d s 0 n vs)))
-          ≡ andThen (unless t 8 (gives (map (ordered o) (pieces size (f .cells) (drop (f .at) s)))))
-          (λ vs. gives (layout (fixed size o) d (cellsFrom (maskForm x) (replicate size 0) d s 0 n vs)))
-      go true e = rw e
-      go false e = rw e
+  by-length : (t : Bool) → eqb (length (drop (f .at) s)) (f .cells * size) ≡ t
+      → readIn (maskForm x) (fixed size o) d n s ≡ given (unless t 8 (gives (map (ordered o) (pieces size (f .cells) (drop (f .at) s)))))
+  unfolding getValues given
+  by-length t e =
+      reads (maskForm x) size o d s (r .limits) (gives (f .at, f .cells)) (r .walk)
+      ∙ ap given (fixed-any size o (drop (f .at) s) (f .cells) (λ z. length-drop (f .at) s ∙ found-passed r .none-left z)
+      ∙ ap (λ (t : Bool). unless t 8 (gives (map (ordered o) (pieces size (f .cells) (drop (f .at) s))))) e)
 
   pub fixed-length : length s - f .at ≢ f .cells * size → readIn (maskForm x) (fixed size o) d n s ≡ refuses 8
+  unfolding given
   fixed-length g = by-length false (ne-eqb (length (drop (f .at) s)) (f .cells * size) (λ e. g (sym (length-drop (f .at) s) ∙ e)))
 
   pub fixed-given : length s - f .at ≡ f .cells * size → readIn (maskForm x) (fixed size o) d n s ≡ gives (fixedFrom (maskForm x) size o d s n f)
-  unfolding fixedFrom
+  unfolding fixedFrom given
   fixed-given g = by-length true (eq-eqb (length (drop (f .at) s)) (f .cells * size) (length-drop (f .at) s ∙ g))
 
 -- ---- with no mask the values are all that is stored

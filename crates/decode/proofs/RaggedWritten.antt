@@ -55,7 +55,7 @@ module _ {x : Masks} {w d : ℕ} {s : List ℕ} {n : ℕ} {i : Index} (r : Ragge
   pub nested-short-masks : length m < d * n → outcomeArray (Refused 6) m v off ≡ readOutcome (contentArray m v off) (gives (content r g))
   nested-short-masks h = short-masks (content r g) m v off (omega (arith, nested-masks-long r g))
 
-  pub nested-short-values : length v < i .last - i .first → outcomeArray (Refused 6) m v off ≡ readOutcome (contentArray m v off) (gives (content r g))
+  pub nested-short-values : length v < i .last → outcomeArray (Refused 6) m v off ≡ readOutcome (contentArray m v off) (gives (content r g))
   nested-short-values h = short-values (content r g) m v off (omega (arith, nested-values-long r g))
 
   pub nested-short-offsets : length off < n + 1 → outcomeArray (Refused 6) m v off ≡ readOutcome (contentArray m v off) (gives (content r g))
@@ -70,17 +70,17 @@ module _ {x : Masks} {w d : ℕ} {s : List ℕ} {n : ℕ} {i : Index} (r : Ragge
     nested-set = nested-count r g ∙ ap countSet (sym innermost)
 
     -- z is the width, worked out in another way
-    pub nested-written : d * n ≤ length m → i .last - i .first ≤ length v → n + 1 ≤ length off → {z : ℕ} → z ≡ w → {v′ o′ : List ℕ}
-        → v′ ≡ over (take (i .last - i .first) (drop (i .from + i .first) s)) v
-        → o′ ≡ over (0 ∷ endsBy (i .first) 0 (take n (drop (d * n - n) m′)) (offsetsIn w (countSet (take n (drop (d * n - n) m′))) (drop (i .index + z) s))) off
-        → outcomeArray (Lengths (d * n) (i .last - i .first) (n + 1)) m′ v′ o′ ≡ readOutcome (contentArray m v off) (gives (content r g))
+    pub nested-written : d * n ≤ length m → i .last ≤ length v → n + 1 ≤ length off → {z : ℕ} → z ≡ w → {v′ o′ : List ℕ}
+        → v′ ≡ over (take (i .last) (drop (i .from) s)) v
+        → o′ ≡ over (0 ∷ endsBy 0 (take n (drop (d * n - n) m′)) (offsetsIn w (countSet (take n (drop (d * n - n) m′))) (drop (i .index + z) s))) off
+        → outcomeArray (Lengths (d * n) (i .last) (n + 1)) m′ v′ o′ ≡ readOutcome (contentArray m v off) (gives (content r g))
     nested-written h j k {z} ez {v′} {o′} ev eo =
         let lm : length (content r g .masks) ≡ d * n = nested-masks-long r g in
-        let lv : length (content r g .values) ≡ i .last - i .first = nested-values-long r g in
+        let lv : length (content r g .values) ≡ i .last = nested-values-long r g in
         let lo : length (content r g .offsets) ≡ n + 1 = nested-offsets-long r g in
-        all-written (content r g) m v off (omega arith) (omega arith) (omega arith) (d * n) (i .last - i .first) (n + 1) m′ v′ o′ (sym lm) (sym lv) (sym lo)
+        all-written (content r g) m v off (omega arith) (omega arith) (omega arith) (d * n) (i .last) (n + 1) m′ v′ o′ (sym lm) (sym lv) (sym lo)
         (em ∙ ap (λ (p : List ℕ). over p m) (sym (nested-masks r g)))
         (ev ∙ ap (λ (p : List ℕ). over p v) (sym (nested-values r g)))
-        (eo ∙ ap (λ (y : ℕ). over (0 ∷ endsBy (i .first) 0 (take n (drop (d * n - n) m′)) (offsetsIn w (countSet (take n (drop (d * n - n) m′))) (drop (i .index + y) s))) off) ez
-        ∙ ap₂ (λ (p : List ℕ) (c : ℕ). over (0 ∷ endsBy (i .first) 0 p (offsetsIn w c (drop (i .index + w) s))) off) innermost (sym nested-set)
+        (eo ∙ ap (λ (y : ℕ). over (0 ∷ endsBy 0 (take n (drop (d * n - n) m′)) (offsetsIn w (countSet (take n (drop (d * n - n) m′))) (drop (i .index + y) s))) off) ez
+        ∙ ap₂ (λ (p : List ℕ) (c : ℕ). over (0 ∷ endsBy 0 p (offsetsIn w c (drop (i .index + w) s))) off) innermost (sym nested-set)
         ∙ ap (λ (p : List ℕ). over p off) (sym (nested-offsets r g)))

@@ -11,7 +11,7 @@ use lib.Dec.{leb, eqb}
 use Rattle.array.specs.Answer.{Answer, gives}
 use Rattle.array.specs.Bytes.{digits, unle}
 use Rattle.array.specs.Lists.{All}
-use Rattle.array.specs.Kind.{Form, fixed, ragged, Masks, asBytes, asBits, nullOf, kindTest}
+use Rattle.array.specs.Kind.{Form, Masks, asBytes, asBits, nullOf, kindTest}
 use Rattle.array.specs.Shape.{volume, shapeTest}
 use Rattle.array.specs.Cells.{Value, Cell, Mark, isNull, isSet, isOther, markOf, Strict, blank}
 use Rattle.array.specs.Content.{Content, MasksOk}
@@ -25,7 +25,6 @@ use Rattle.array.proofs.LayoutLaws.{strict-masks}
 use Rattle.codec.specs.Mask.{maskForm, getMask, bitsOf}
 use Rattle.codec.specs.Frame.{countSet, nextBy, leftBy, expand, contentOf, readFrame}
 use Rattle.codec.specs.Values.{getValues}
-use Rattle.codec.specs.Ragged.{getRagged}
 use Rattle.codec.specs.Calls.{readIn, decodeAnswer}
 use Rattle.decode.specs.Strict.{ReadStrict}
 
@@ -61,10 +60,10 @@ module _ {A : Type 0} (P : A → Type 0) (b : A) (pb : P b) where
 
 -- ---- frames
 
-content-keeps : {A : Type 0} (P : A → Type 0) (n : ℕ) (f : ℕ → Answer (List A)) → ((m : ℕ) (xs : List A) → f m ≡ gives xs → All P xs)
-    → (xs : List A) → contentOf n f ≡ gives xs → All P xs
-content-keeps {A} P zero f h xs e = subst (λ (ys : List A). All P ys) (same-given e) tt
-content-keeps P (suc n) f h xs e = h (suc n) xs e
+content-keeps : {A : Type 0} (P : A → Type 0) (c n : ℕ) (f : ℕ → Answer (List A)) → ((m : ℕ) (xs : List A) → f m ≡ gives xs → All P xs)
+    → (xs : List A) → contentOf c n f ≡ gives xs → All P xs
+content-keeps {A} P c zero f h xs e = subst (λ (ys : List A). All P ys) (same-given (passed (eqb c 0) 8 (gives []) e .1)) tt
+content-keeps P c (suc n) f h xs e = h (suc n) xs e
 
 module _ (x : Masks) (z : Value) (r : List ℕ → ℕ → Answer (List Value)) where
   frame-strict : (d : ℕ) (s : List ℕ) (n : ℕ) (cs : List (Cell d)) → readFrame (maskForm x) z r d s n ≡ gives cs → All (StrictCell d) cs
@@ -79,9 +78,9 @@ module _ (x : Masks) (z : Value) (r : List ℕ → ℕ → Answer (List Value)) 
       let got = went-on (getMask (maskForm x) mask n) _ (sized .1) in
       let ms : List ℕ = got .0 in
       let tested = passed (maskForm x .test mask n) (maskForm x .refusal) (gives (maskForm x .said mask n)) (got .1 .0) in
-      let read = went-on (contentOf (countSet ms) content) _ (got .1 .1) in
+      let read = went-on (contentOf c (countSet ms) content) _ (got .1 .1) in
       let below : All (StrictCell d) (read .0) =
-      content-keeps (StrictCell d) (countSet ms) content (λ k xs q. frame-strict d (drop m (drop 16 s)) k xs q) (read .0) (read .1 .0) in
+      content-keeps (StrictCell d) c (countSet ms) content (λ k xs q. frame-strict d (drop m (drop 16 s)) k xs q) (read .0) (read .1 .0) in
       subst (λ (ys : List (Cell (suc d))). All (StrictCell (suc d)) ys) (same-given (read .1 .1))
       (expand-keeps (StrictCell d) (blank z d) (strict-blank z d) ms
       (subst (λ (ys : List ℕ). All Strict ys) (same-given (tested .1)) (said-strict x mask n (tested .0))) (read .0) below)
@@ -90,13 +89,9 @@ module _ (x : Masks) (z : Value) (r : List ℕ → ℕ → Answer (List Value)) 
 
 in-strict : (x : Masks) (f : Form) (d n : ℕ) (s : List ℕ) (c : Content) → readIn (maskForm x) f d n s ≡ gives c → MasksOk c
 unfolding readIn
-in-strict x (fixed k o) d n s c e =
-    let read = went-on (readFrame (maskForm x) (nullOf (fixed k o)) (getValues (fixed k o)) d s n) _ e in
-    subst MasksOk (same-given (read .1 .1)) (strict-masks d (read .0) (frame-strict x (nullOf (fixed k o)) (getValues (fixed k o)) d s n (read .0) (read .1 .0)))
-in-strict x (ragged w p) zero n s c e = let read = went-on (getRagged w p s n) _ e in subst MasksOk (same-given (read .1 .1)) tt
-in-strict x (ragged w p) (suc d) n s c e =
-    let read = went-on (readFrame (maskForm x) (nullOf (ragged w p)) (getValues (ragged w p)) (suc d) s n) _ e in
-    subst MasksOk (same-given (read .1 .1)) (strict-masks (suc d) (read .0) (frame-strict x (nullOf (ragged w p)) (getValues (ragged w p)) (suc d) s n (read .0) (read .1 .0)))
+in-strict x f d n s c e =
+    let read = went-on (readFrame (maskForm x) (nullOf f) (getValues f) d s n) _ e in
+    subst MasksOk (same-given (read .1 .1)) (strict-masks d (read .0) (frame-strict x (nullOf f) (getValues f) d s n (read .0) (read .1 .0)))
 
 pub read-strict : ReadStrict
 unfolding decodeAnswer

@@ -1,4 +1,4 @@
--- What a reading leaves behind, by what it reads: the last refusal is 6, and only then the outputs change (document 01, Answers).
+-- docs/SPEC.md, S6.10 and S6.11: what a reading leaves behind, by what it reads. The last refusal is 6, and only then the outputs change.
 -- Assumes nothing.
 use Rattle.array.specs.Answer.{Answer, gives, unless, andThen, Outcome}
 use Rattle.array.specs.Content.{Content}

@@ -1,5 +1,5 @@
--- What is read once the walk and the check have passed (document 01, items 4 and 5), by positions in the stored bytes s, for n cells
--- below d levels whose masks lie as mf or x says; and what the copying rests on.
+-- docs/SPEC.md, S4.7 to S4.9, by positions in the stored bytes s (FixedLaws' `fixed-given`, RaggedLaws' `ragged-given`): what is read once
+-- the walk and the check have passed, for n cells below d levels whose masks lie as mf or x says; and what the copying rests on.
 -- Assumes nothing.
 use Prim.Native.Nat.{ℕ, _+_, _*_, _≤_}
 use mathlib.Core.Path.{_≡_}
@@ -13,9 +13,9 @@ use Rattle.array.specs.Offsets.{slicesFrom}
 use Rattle.array.specs.Content.{Content, layout}
 use Rattle.codec.specs.Mask.{MaskForm, maskForm}
 use Rattle.stored.specs.declared.vlen.Index.{Index}
-use Rattle.stored.specs.Walk.{valuesAt, walked}
+use Rattle.stored.specs.Walk.{walked}
 use Rattle.stored.specs.Stored.{cellsFrom, MasksWithin, innermostCount}
-use Rattle.stored.specs.Index.{offsetsIn, IndexWithin}
+use Rattle.stored.specs.Index.{endsIn, IndexWithin}
 use Rattle.decode.specs.declared.fixed.Found.{Found}
 
 -- the limits, checked before anything is read
@@ -33,7 +33,7 @@ fixedFrom mf size o d s n f =
 pub record FixedFound (x : Masks) (size d : ℕ) (s : List ℕ) (n : ℕ) (f : Found) : Type 0 where
   pub limits : Limited d n
   pub small : size ≤ mostSize
-  pub walk : walked (maskForm x) d s 0 n ≡ gives (valuesAt (f .at) (f .cells))
+  pub walk : walked (maskForm x) d s 0 n ≡ gives (f .at, f .cells)
 
 pub record FixedWithin (x : Masks) (size d : ℕ) (s : List ℕ) (n : ℕ) (f : Found) : Type 0 where
   pub limits : Limited d n
@@ -42,12 +42,10 @@ pub record FixedWithin (x : Masks) (size d : ℕ) (s : List ℕ) (n : ℕ) (f : 
   pub count : f .cells ≡ innermostCount (maskForm x) d s n
   pub room : f .at + f .cells * size ≤ length s
 
--- ---- ragged values below masks, with the index i that was found: they lie end to end
+-- ---- ragged values below masks, with the index i that was found
 
 unfoldable pub nestedFrom : MaskForm → ℕ → ℕ → List ℕ → ℕ → Index → Content
-nestedFrom mf w d s n i =
-    layout (ragged w atStart) d
-    (cellsFrom mf [] d s 0 n (slicesFrom (i .first) (offsetsIn w (i .cells) (drop (i .index + w) s)) (take (i .last) (drop (i .from) s))))
+nestedFrom mf w d s n i = layout (ragged w atStart) d (cellsFrom mf [] d s 0 n (slicesFrom 0 (endsIn w s i) (take (i .last) (drop (i .from) s))))
 
 pub record RaggedWithin (x : Masks) (w d : ℕ) (s : List ℕ) (n : ℕ) (i : Index) : Type 0 where
   pub limits : Limited d n

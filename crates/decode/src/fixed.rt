@@ -107,18 +107,6 @@ pub fn decode_fixed(
     let walk = walk_content(form, s, 0, n, depth);
     match walk {
         Walked::Refused(e) => WrittenArray::Refused(e),
-        Walked::NoneSet => {
-            write_fixed(
-                kind,
-                size,
-                order,
-                n,
-                s,
-                Found { at: 0, cells: 0 },
-                masks,
-                values,
-            )
-        }
         Walked::Values(at, cells) => {
             write_found(kind, size, order, n, s, Found { at, cells }, masks, values)
         }

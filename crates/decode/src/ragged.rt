@@ -29,7 +29,7 @@ ghost use Rattle.stored.specs.Index.{raggedAt, IndexWithin};
 ghost use Rattle.decode.specs.Outcomes.{readOutcome};
 ghost use Rattle.decode.specs.Reads.{Limited, nestedFrom, RaggedWithin};
 
-// Values with no mask: offsets and bytes just as they are. What is lent for masks stays.
+// Values with no mask: the stored offsets and bytes. What is lent for masks stays.
 fn write_flat(
     width: IndexWidth,
     s: &[u8],
@@ -57,7 +57,7 @@ fn write_flat(
     WrittenArray::Lengths(0, bytes, count)
 }
 
-// Values below masks, end to end from 0: the bytes from the first offset up to the last, and the ends of the set cells.
+// Values below masks: the stored bytes, and the ends of the set cells.
 fn write_nested(
     kind: Kind,
     width: IndexWidth,
@@ -77,11 +77,10 @@ fn write_nested(
     let form = kind.masks;
     let depth = kind.depth as usize;
     let cells = found.cells;
-    let first = found.first;
     let ends = found.index + width_bytes(width);
-    let start = found.from + first as usize;
+    let from = found.from;
     let planes = depth * n;
-    let bytes = (found.last - first) as usize;
+    let bytes = found.last as usize;
     let count = n + 1;
     if masks.len() < planes {
         return WrittenArray::Refused(refusal::OUTPUT);
@@ -93,8 +92,8 @@ fn write_nested(
         return WrittenArray::Refused(refusal::OUTPUT);
     }
     place_planes(form, masks, n, depth, s);
-    copy_many(values, 0, s, start, bytes);
-    spread_offsets(offsets, masks, planes - n, n, s, ends, width, first, cells);
+    copy_many(values, 0, s, from, bytes);
+    spread_offsets(offsets, masks, planes - n, n, s, ends, width, cells);
     WrittenArray::Lengths(planes, bytes, count)
 }
 
@@ -142,17 +141,17 @@ pub fn decode_ragged(
     let walk = walk_content(form, s, 0, n, depth);
     match walk {
         Walked::Refused(e) => WrittenArray::Refused(e),
-        Walked::NoneSet => {
-            let none = Index {
-                cells: 0,
-                index: 0,
-                from: 0,
-                first: 0,
-                last: 0,
-            };
-            write_nested(kind, width, n, s, none, masks, values, offsets)
-        }
         Walked::Values(at, cells) => {
+            // no cell is set, and no index stored
+            if cells == 0 {
+                let none = Index {
+                    cells: 0,
+                    index: 0,
+                    from: 0,
+                    last: 0,
+                };
+                return write_nested(kind, width, n, s, none, masks, values, offsets);
+            }
             let checked = check_ragged(s, at, cells, width, place);
             match checked {
                 Indexed::Refused(e) => WrittenArray::Refused(e),

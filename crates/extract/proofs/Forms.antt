@@ -48,7 +48,7 @@ offsets-long (ragged w p) os values cells count e = ap suc (length-ends 0 (value
 
 rising-at : (os : List ℕ) → Rising os → (j : ℕ) → suc j < length os → getD os j 0 ≤ getD os (suc j) 0
 rising-at [] r j h = absurd (omega arith)
-rising-at (a ∷ os) r j h = go a os r j (omega arith)
+rising-at (a ∷ os) r j h = go a os (r .1) j (omega arith)
   where
     go : (a : ℕ) (os : List ℕ) → RisingFrom a os → (j : ℕ) → j < length os → getD (a ∷ os) j 0 ≤ getD os j 0
     go a [] r j h = absurd (omega arith)

@@ -15,7 +15,7 @@ use Rattle.array.specs.Kind.{byteKind, Place, ragged}
 use Rattle.array.specs.Shape.{volume}
 use Rattle.array.specs.Subset.{SubsetOk, subsetOf, cellsIn}
 use Rattle.array.specs.Cells.{Value}
-use Rattle.array.specs.Offsets.{last, lastFrom, Rising, RisingFrom}
+use Rattle.array.specs.Offsets.{last, Rising}
 use Rattle.array.specs.Content.{Content, RaggedContent, unmasked, ValuesOk, sizeTest, endToEnd}
 use Rattle.array.specs.Places.{offsetAt}
 use Rattle.array.proofs.Lists.{length-pieces, take-within}
@@ -23,7 +23,7 @@ use Rattle.valid.proofs.CheckLaws as check
 use Rattle.array.proofs.SubsetLaws.{cellsIn-below}
 use Rattle.codec.specs.Ragged.{getRagged}
 use Rattle.stored.specs.declared.vlen.Index.{Index}
-use Rattle.stored.specs.Index.{offsetsIn, foundIn, raggedAt, IndexWithin}
+use Rattle.stored.specs.Index.{offsetsIn, foundIn, raggedAt, endsIn, IndexWithin}
 use Rattle.stored.proofs.CheckedIndex.{IndexFound, index-found}
 use Rattle.chunks.specs.Calls.{raggedCut}
 use Rattle.extract.specs.Places.{Rises, valuesAt}
@@ -74,14 +74,10 @@ module _ (w : ℕ) (p : Place) (s : List ℕ) (i : Index) where
   last-stored : last os ≡ storedAt w s (i .index) cells
   last-stored = check.last-at os cells many ∙ stored-is w cells s (i .index) cells (omega arith)
 
-  by-places : IndexWithin w s i → i .first ≡ unle (take w (drop (i .index) s)) → getRagged w p s cells ≡ unless (sizeTest (i .last)) 5 (gives (raggedAt w s i)) → Read w p s cells i
-  by-places h first-is g =
-      let after : drop (i .index + w) s ≡ drop w (drop (i .index) s) = sym (drop-drop w (i .index) s) in
-      let e : i .last ≡ storedAt w s (i .index) cells =
-      h .last-is ∙ ap₂ (λ (x : ℕ) (y : List ℕ). lastFrom x (offsetsIn w cells y)) first-is after ∙ last-stored in
-      let up : Rising os =
-      subst (λ (x : ℕ). RisingFrom x (offsetsIn w cells (drop w (drop (i .index) s)))) first-is
-      (subst (λ (y : List ℕ). RisingFrom (i .first) (offsetsIn w cells y)) after (h .rising)) in
+  by-places : IndexWithin w s i → os ≡ 0 ∷ endsIn w s i → getRagged w p s cells ≡ unless (sizeTest (i .last)) 5 (gives (raggedAt w s i)) → Read w p s cells i
+  by-places h os-are g =
+      let e : i .last ≡ storedAt w s (i .index) cells = h .last-is ∙ ap last (sym os-are) ∙ last-stored in
+      let up : Rising os = subst Rising (sym os-are) (refl, h .rising) in
       let ok : ValuesOk (ragged w p) cells (unmasked (readAt w s cells (i .index) (i .from))) =
       (many, up, last-stored ∙ sym (length-take-le (storedAt w s (i .index) cells) (drop (i .from) s) (omega (arith, length-drop (i .from) s, h .data-room)))) in
       record {
@@ -107,7 +103,7 @@ module _ (w : ℕ) (p : Place) (s : List ℕ) (i : Index) where
 pub read-found : (w : ℕ) (p : Place) (s : List ℕ) (n : ℕ) (i : Index) → foundIn w p s 0 n ≡ gives i → Read w p s n i
 read-found w p s n i h =
     let c : IndexFound w p s 0 n i = index-found w p s 0 n i (omega arith) h in
-    subst (λ (m : ℕ). Read w p s m i) (c .cells-are) (by-places w p s i (c .within) (c .first-is) (ap (getRagged w p s) (c .cells-are) ∙ c .gave))
+    subst (λ (m : ℕ). Read w p s m i) (c .cells-are) (by-places w p s i (c .within) (c .offsets-are) (ap (getRagged w p s) (c .cells-are) ∙ c .gave))
 
 -- ---- the cut
 

@@ -1,4 +1,5 @@
--- The index of stored ragged values, read where it lies (document 01, item 4), and what the walks over a subset's cells ask of it.
+-- docs/SPEC.md, S4.3, by positions in the stored bytes (proofs/Stored's `read-found`): the index of ragged values, read where it lies, and
+-- what the walks over a subset's cells ask of it.
 -- Assumes nothing.
 use Prim.Native.Nat.{ℕ, suc, _+_, _-_, _*_, _^_, _≤_, _<_}
 use mathlib.Core.List.{List}

@@ -1,4 +1,5 @@
--- Mask planes as they are read (document 01, item 5: the planes follow each other, outermost first), and what their placing rests on.
+-- docs/SPEC.md, S1.5 and S4.8, by positions in the stored bytes (AllPlanes' `masks-are`): mask planes as they are read, outermost first, and
+-- what their placing rests on.
 -- Assumes nothing.
 use Prim.Native.Nat.{ℕ, _+_, _-_, _*_, _≤_}
 use mathlib.Core.Path.{_≡_}

@@ -1,4 +1,4 @@
--- The loop that writes offsets just as they are stored: what is left to write, turn by turn.
+-- The loop that writes offsets as they are stored: what is left to write, turn by turn.
 -- Assumes nothing.
 use mathlib.Core.Path.{_≡_, sym, ap, ap₂, _∙_, subst}
 use mathlib.Core.List.{List, _∷_}

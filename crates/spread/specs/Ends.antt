@@ -1,14 +1,11 @@
--- Offsets of values that lie end to end, by the innermost plane and the stored ends.
+-- docs/SPEC.md, S4.8 and S4.9: where the cells of a plane end.
 -- Assumes nothing.
-use Prim.Native.Nat.{ℕ, _-_}
-use mathlib.Core.List.{List, [], _∷_, map}
-use Rattle.array.specs.Cells.{Mark, markOf}
+use Prim.Native.Nat.{ℕ}
+use mathlib.Core.List.{List, [], _∷_}
+use Rattle.array.specs.Cells.{markOf}
 use Rattle.codec.specs.Frame.{nextBy, leftBy}
 
--- where a cell ends: t is where the values so far end, and a set cell takes the next stored end, counted from the first offset
-abbrev pub endBy : Mark → ℕ → ℕ → List ℕ → ℕ
-endBy m first t os = nextBy m t (map (λ b. b - first) os)
-
-abbrev pub endsBy : ℕ → ℕ → List ℕ → List ℕ → List ℕ
-endsBy first t [] os = []
-endsBy first t (m ∷ p) os = endBy (markOf m) first t os ∷ endsBy first (endBy (markOf m) first t os) p (leftBy (markOf m) os)
+-- a set cell of the plane takes the next stored end, and any other ends at t, where the one before does
+abbrev pub endsBy : ℕ → List ℕ → List ℕ → List ℕ
+endsBy t [] os = []
+endsBy t (m ∷ p) os = nextBy (markOf m) t os ∷ endsBy (nextBy (markOf m) t os) p (leftBy (markOf m) os)

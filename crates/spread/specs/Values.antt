@@ -1,4 +1,4 @@
--- Fixed values below a plane.
+-- docs/SPEC.md, S4.8: fixed values below a plane.
 -- Assumes nothing.
 use Prim.Native.Nat.{ℕ, _+_, _*_, _≤_}
 use mathlib.Core.Path.{_≡_}

@@ -1,4 +1,4 @@
-// Offsets: as they are stored, or of values that lie end to end from 0 below masks.
+// Offsets: of cells with no mask, as they are stored, or of the cells of a plane.
 use crate::next::number_if;
 use crate::next::skip;
 use array::kind::IndexWidth;
@@ -10,14 +10,13 @@ ghost use mathlib.Core.Path.{_≡_};
 ghost use mathlib.Core.List.{_∷_};
 ghost use Prim.Native.Nat.{suc, _+_, _*_, _≤_};
 ghost use lib.ListN.{length, take, drop, replicate};
-ghost use Rattle.array.specs.Lists.{All};
 ghost use Rattle.array.specs.Buffers.{over, overAt};
 ghost use Rattle.array.specs.Meaning.{widthOf};
 ghost use Rattle.codec.specs.Frame.{countSet};
 ghost use Rattle.stored.specs.Index.{offsetsIn};
 ghost use Rattle.spread.specs.Ends.{endsBy};
 
-// Writes n + 1 offsets just as they are stored.
+// Writes the n + 1 offsets that are stored from `at` on.
 pub fn copy_offsets(offsets: &mut [u64], s: &[u8], at: usize, n: usize, width: IndexWidth)
     requires { ⌜ (at + (widthOf width + n * widthOf width) ≤ length (now s)) × (n + 1 ≤ length (now offsets)) ⌝ }
     ensures { λ _. ⌜ now (offsets .exit) ≡ over (offsetsIn (widthOf width) (suc n) (drop at (now (s .entry)))) (now (offsets .entry)) ⌝ }
@@ -47,8 +46,8 @@ fn fill_ends(offsets: &mut [u64], to: usize, count: usize, end: u64)
     }
 }
 
-// Writes the offsets of the n cells of the plane at `from`, of which `cells` are set: their ends are stored from `at` on, and counted
-// from the first offset. An end is read for every cell until all are placed, so that no branch goes by the plane.
+// Writes the offsets of the n cells of the plane at `from`, of which `cells` are set: their ends are stored from `at` on. An end is read
+// for every cell until all are placed, so that no branch goes by the plane.
 pub fn spread_offsets(
     offsets: &mut [u64],
     masks: &[u8],
@@ -57,12 +56,11 @@ pub fn spread_offsets(
     s: &[u8],
     at: usize,
     width: IndexWidth,
-    first: u64,
     cells: usize,
 )
     requires { ⌜ (from + n ≤ length (now masks)) × (n + 1 ≤ length (now offsets)) × (cells ≡ countSet (take n (drop from (now masks))))
-        × (at + cells * widthOf width ≤ length (now s)) × All (λ o. first ≤ o) (offsetsIn (widthOf width) cells (drop at (now s))) ⌝ }
-    ensures { λ _. ⌜ now (offsets .exit) ≡ over (0 ∷ endsBy first 0 (take n (drop from (now (masks .entry))))
+        × (at + cells * widthOf width ≤ length (now s)) ⌝ }
+    ensures { λ _. ⌜ now (offsets .exit) ≡ over (0 ∷ endsBy 0 (take n (drop from (now (masks .entry))))
         (offsetsIn (widthOf width) (countSet (take n (drop from (now (masks .entry))))) (drop at (now (s .entry))))) (now (offsets .entry)) ⌝ }
 {
     let w = width_bytes(width);
@@ -73,7 +71,7 @@ pub fn spread_offsets(
         offsets[i] = end;
         let v = le_at(s, at + k * w, width);
         let mark = mark_of(masks[from + i]);
-        end = number_if(mark, v - first, end);
+        end = number_if(mark, v, end);
         k = skip(mark, k, 1);
         i += 1;
     }

@@ -1,23 +1,23 @@
 -- A checked index: where it and its data lie, and what the reader gives for it.
 -- Assumes nothing.
 use mathlib.Core.Path.{_≡_, refl, sym, ap, ap₂, _∙_, subst}
-use mathlib.Core.List.{List}
+use mathlib.Core.List.{List, _∷_}
 use mathlib.Core.Bool.{Bool, true, false}
-use Prim.Native.Nat.{ℕ, zero, suc, _+_, _-_, _*_, _≤_}
+use Prim.Native.Nat.{ℕ, suc, _+_, _-_, _*_, _≤_}
 use native.Mathlib.Omega.{arith}
 use lib.Dec.{eqb, ltb}
 use lib.ListN.{length, take, drop, length-drop}
-use lib.Seq.{length-take-le, drop-drop, take-take, take-all}
+use lib.Seq.{length-take-le, drop-drop}
 use borrow.Author.Tests.{eqb-true, ltb-true, ltb-false}
 use Rattle.array.specs.Answer.{Answer, gives, refuses, unless, mapAnswer}
 use Rattle.array.specs.Bytes.{unle}
 use Rattle.array.specs.Kind.{Place, atStart, atEnd}
-use Rattle.array.specs.Offsets.{last, lastFrom, RisingFrom, risingTest}
+use Rattle.array.specs.Offsets.{last, Rising, risingTest}
 use Rattle.array.specs.Content.{RaggedContent, sizeTest}
 use Rattle.array.proofs.Rules.{rising-ok}
-use Rattle.codec.specs.Ragged.{dataTest, dataFor, checkRagged, getRagged, lengthAt, indexAt, dataAt}
+use Rattle.codec.specs.Ragged.{checkRagged, getRagged, lengthAt, indexAt, dataAt}
 use Rattle.stored.specs.declared.vlen.Index.{Index}
-use Rattle.stored.specs.Index.{offsetsIn, first, spanOf, readBy, indexedBy, indexCheck, indexIn, spanIn, located, foundIn, checkedIn, raggedAt, IndexWithin}
+use Rattle.stored.specs.Index.{offsetsIn, readBy, indexedBy, indexCheck, indexIn, lastIn, located, foundIn, checkedIn, raggedAt, endsIn, IndexWithin}
 use Rattle.stored.proofs.IndexLaws.{checkedAt, read-none, read-short, read-at, limitedIndex, found-limited}
 
 -- ---- of a part of an answer to the answer
@@ -38,57 +38,49 @@ map-given f (refuses k) b h = let z : _≡_ {A = ℕ} 0 1 = cc in absurd (omega 
 -- what was refused before the limit, and within it, the reader refuses too
 pub checked-refused : (w : ℕ) (p : Place) (s : List ℕ) (at n e : ℕ) → checkedIn w p s at n ≡ refuses e → getRagged w p (drop at s) n ≡ refuses e
 unfolding checkedIn
-checked-refused w p s at n e h = map-refused (λ c. spanOf (c .offsets)) (getRagged w p (drop at s) n) e (map-refused (located w p s at n) (spanIn (getRagged w p (drop at s) n)) e h)
+checked-refused w p s at n e h = map-refused (λ c. last (c .offsets)) (getRagged w p (drop at s) n) e (map-refused (located w p s at n) (lastIn (getRagged w p (drop at s) n)) e h)
 
 pub found-refused : (w : ℕ) (p : Place) (s : List ℕ) (at n e : ℕ) → foundIn w p s at n ≡ refuses e → getRagged w p (drop at s) n ≡ refuses e
 found-refused w p s at n e h = checked-refused w p s at n e (sym (found-limited w p s at n) ∙ ap limitedIndex h)
 
 -- ---- a check that was passed
 
--- the data is as long as the last offset says, and is not looked at where that is 0
-data-taken : (l : ℕ) (d : List ℕ) → dataTest l (length d) ≡ true → (dataFor l d ≡ take l d) × (l ≤ length d)
-data-taken zero d h = (refl, omega arith)
-data-taken (suc o) d h = let e : suc o ≡ length d = eqb-true (suc o) (length d) h in (sym (take-all (suc o) d (omega arith)), omega arith)
-
 -- what a check that was passed says
-record Passes (os d : List ℕ) (f l : ℕ) : Type 0 where
-  gave : checkRagged os d ≡ unless (sizeTest l) 5 (gives (record { values = dataFor l d; offsets = os }))
-  first-is : f ≡ first os
+record Passes (os d : List ℕ) (l : ℕ) : Type 0 where
+  gave : checkRagged os d ≡ unless (sizeTest l) 5 (gives (record { values = d; offsets = os }))
   last-is : l ≡ last os
-  rising : risingTest os ≡ true
-  fits : dataTest l (length d) ≡ true
+  rising : Rising os
+  all : l ≡ length d
 
-passes : (os d : List ℕ) (f l : ℕ) → indexCheck os d ≡ gives (f, l) → Passes os d f l
+passes : (os d : List ℕ) (l : ℕ) → indexCheck os d ≡ gives l → Passes os d l
 unfolding indexedBy
-passes os d f l h = go (dataTest (last os) (length d)) (risingTest os) refl refl h
+passes os d l h = go (eqb (last os) (length d)) (risingTest os) refl refl h
   where
-    go : (a b : Bool) → dataTest (last os) (length d) ≡ a → risingTest os ≡ b → unless a 8 (unless b 10 (gives (spanOf os))) ≡ gives (f, l) → Passes os d f l
+    go : (a b : Bool) → eqb (last os) (length d) ≡ a → risingTest os ≡ b → unless a 8 (unless b 10 (gives (last os))) ≡ gives l → Passes os d l
     go true true ea eb q =
-        let e : (f, l) ≡ spanOf os = cc in
-        let el : l ≡ last os = ap (λ (x : ℕ × ℕ). x .1) e in
+        let el : l ≡ last os = cc in
         record {
-          gave = rw (ea, eb) (ap (λ (j : ℕ). unless (sizeTest j) 5 (gives (record { values = dataFor j d; offsets = os }))) (sym el));
-          first-is = ap (λ (x : ℕ × ℕ). x .0) e;
+          gave = rw (ea, eb) (ap (λ (j : ℕ). unless (sizeTest j) 5 (gives (record { values = d; offsets = os }))) (sym el));
           last-is = el;
-          rising = eb;
-          fits = ap (λ (j : ℕ). dataTest j (length d)) el ∙ ea;
+          rising = rising-ok os eb;
+          all = el ∙ eqb-true (last os) (length d) ea;
         }
     go true false ea eb q = let z : _≡_ {A = ℕ} 0 1 = cc in absurd (omega arith)
     go false b ea eb q = let z : _≡_ {A = ℕ} 0 1 = cc in absurd (omega arith)
 
 -- ---- by positions
 
-record Fits (w k : ℕ) (q : List ℕ) (p : Place) (f l : ℕ) : Type 0 where
+record Fits (w k : ℕ) (q : List ℕ) (p : Place) (l : ℕ) : Type 0 where
   long : 8 ≤ length q
   index-fits : w + k * w ≤ length q - 8
-  span : checkedAt indexCheck w k q p ≡ gives (f, l)
+  passed : checkedAt indexCheck w k q p ≡ gives l
   by-position : getRagged w p q k ≡ checkedAt checkRagged w k q p
 
-fits-at : (w k : ℕ) (q : List ℕ) (p : Place) (f l : ℕ) → indexIn w p q k ≡ gives (f, l) → Fits w k q p f l
+fits-at : (w k : ℕ) (q : List ℕ) (p : Place) (l : ℕ) → indexIn w p q k ≡ gives l → Fits w k q p l
 unfolding indexIn getRagged
-fits-at w k q p f l h = go (ltb (length q) 8) refl
+fits-at w k q p l h = go (ltb (length q) 8) refl
   where
-    fits : 8 ≤ length q → (t : Bool) → ltb (length q - 8) (w + k * w) ≡ t → Fits w k q p f l
+    fits : 8 ≤ length q → (t : Bool) → ltb (length q - 8) (w + k * w) ≡ t → Fits w k q p l
     fits g true e =
         let r : refuses 8 ≡ readBy indexCheck w p q k = read-short indexCheck w k q g (ltb-true (length q - 8) (w + k * w) e) p in
         let z : _≡_ {A = ℕ} 0 1 = cc in absurd (omega arith)
@@ -96,12 +88,12 @@ fits-at w k q p f l h = go (ltb (length q) 8) refl
         let m : w + k * w ≤ length q - 8 = ltb-false (length q - 8) (w + k * w) e in
         by (eqb (unle (take 8 (drop (lengthAt p (length q)) q))) (w + k * w)) (read-at checkRagged w k q g m p) (sym (read-at indexCheck w k q g m p) ∙ h) m
       where
-        by : (t : Bool) → readBy checkRagged w p q k ≡ unless t 8 (checkedAt checkRagged w k q p) → unless t 8 (checkedAt indexCheck w k q p) ≡ gives (f, l)
-            → w + k * w ≤ length q - 8 → Fits w k q p f l
-        by true a b m = record { long = g; index-fits = m; span = b; by-position = a }
+        by : (t : Bool) → readBy checkRagged w p q k ≡ unless t 8 (checkedAt checkRagged w k q p) → unless t 8 (checkedAt indexCheck w k q p) ≡ gives l
+            → w + k * w ≤ length q - 8 → Fits w k q p l
+        by true a b m = record { long = g; index-fits = m; passed = b; by-position = a }
         by false a b m = let z : _≡_ {A = ℕ} 0 1 = cc in absurd (omega arith)
 
-    go : (t : Bool) → ltb (length q) 8 ≡ t → Fits w k q p f l
+    go : (t : Bool) → ltb (length q) 8 ≡ t → Fits w k q p l
     go true e =
         let r : refuses 7 ≡ readBy indexCheck w p q k = read-none indexCheck w k q p (ltb-true (length q) 8 e) in
         let z : _≡_ {A = ℕ} 0 1 = cc in absurd (omega arith)
@@ -113,7 +105,7 @@ fits-at w k q p f l h = go (ltb (length q) 8) refl
 pub record IndexThere (w : ℕ) (p : Place) (s : List ℕ) (at n : ℕ) (i : Index) (r : Answer RaggedContent) : Type 0 where
   pub cells-are : i .cells ≡ n
   pub within : IndexWithin w s i
-  pub first-is : i .first ≡ unle (take w (drop (i .index) s))
+  pub offsets-are : offsetsIn w (suc (i .cells)) (drop (i .index) s) ≡ 0 ∷ endsIn w s i
   pub gave : getRagged w p (drop at s) n ≡ r
 
 -- before the limit, and within it
@@ -131,7 +123,7 @@ pub data-within : (p : Place) (m i : ℕ) → 8 ≤ m → i ≤ m - 8 → dataAt
 data-within atStart m i h g = omega arith
 data-within atEnd m i h g = omega arith
 
-module _ (w n : ℕ) (s : List ℕ) (at : ℕ) (p : Place) (f l : ℕ) (ha : at ≤ length s) (h : indexIn w p (drop at s) n ≡ gives (f, l)) where
+module _ (w n : ℕ) (s : List ℕ) (at : ℕ) (p : Place) (l : ℕ) (ha : at ≤ length s) (h : indexIn w p (drop at s) n ≡ gives l) where
   abbrev size : ℕ
   size = w + n * w
 
@@ -144,8 +136,8 @@ module _ (w n : ℕ) (s : List ℕ) (at : ℕ) (p : Place) (f l : ℕ) (ha : at 
   abbrev from : ℕ
   from = at + dataAt p size
 
-  fitted : Fits w n bytes p f l
-  fitted = fits-at w n bytes p f l h
+  fitted : Fits w n bytes p l
+  fitted = fits-at w n bytes p l h
 
   -- the offsets and the data of the bytes from `at` on, by positions in s
   abbrev offsets : List ℕ
@@ -160,28 +152,24 @@ module _ (w n : ℕ) (s : List ℕ) (at : ℕ) (p : Place) (f l : ℕ) (ha : at 
   offsets-are : offsets ≡ offsetsIn w (suc n) (drop index s)
   offsets-are = ap (offsetsIn w (suc n)) index-drop
 
-  checked : Passes offsets datas f l
-  checked = passes offsets datas f l (fitted .span)
+  checked : Passes offsets datas l
+  checked = passes offsets datas l (fitted .passed)
 
-  first-at : f ≡ unle (take w (drop index s))
-  first-at = checked .first-is ∙ ap (λ (x : List ℕ). unle (take w x)) index-drop
+  rising : Rising (offsetsIn w (suc n) (drop index s))
+  rising = subst Rising offsets-are (checked .rising)
 
-  next-drop : drop w (drop index s) ≡ drop (index + w) s
-  next-drop = drop-drop w index s
+  from-zero : offsetsIn w (suc n) (drop index s) ≡ 0 ∷ offsetsIn w n (drop (index + w) s)
+  from-zero = ap₂ (λ (a : ℕ) (q : List ℕ). a ∷ offsetsIn w n q) (rising .0) (drop-drop w index s)
 
   datas-long : length datas ≡ length bytes - 8 - size
   datas-long =
       length-take-le (length bytes - 8 - size) (drop (dataAt p size) bytes)
       (omega (arith, length-drop (dataAt p size) bytes, data-within p (length bytes) size (fitted .long) (fitted .index-fits)))
 
-  few : l ≤ length bytes - 8 - size
-  few = omega (arith, data-taken l datas (checked .fits) .1, datas-long)
+  data-is : datas ≡ take l (drop from s)
+  data-is = ap₂ (λ (k : ℕ) (q : List ℕ). take k q) (sym (checked .all ∙ datas-long)) (drop-drop (dataAt p size) at s)
 
-  data-is : dataFor l datas ≡ take l (drop from s)
-  data-is =
-      data-taken l datas (checked .fits) .0 ∙ take-take l (length bytes - 8 - size) (drop (dataAt p size) bytes) few ∙ ap (take l) (drop-drop (dataAt p size) at s)
-
-  there : IndexFound w p s at n (located w p s at n (f, l))
+  there : IndexFound w p s at n (located w p s at n l)
   there =
       let long : length bytes ≡ length s - at = length-drop at s in
       let m : ℕ = length s - at in
@@ -191,13 +179,11 @@ module _ (w n : ℕ) (s : List ℕ) (at : ℕ) (p : Place) (f l : ℕ) (ha : at 
         cells-are = refl;
         within = record {
           index-room = omega (arith, inside);
-          data-room = omega (arith, behind, few);
-          rising = subst (λ (x : ℕ). RisingFrom x (offsetsIn w n (drop (index + w) s))) (sym first-at)
-              (subst (λ (x : List ℕ). RisingFrom (unle (take w (drop index s))) (offsetsIn w n x)) next-drop
-              (rising-ok (offsetsIn w (suc n) (drop index s)) (sym (ap risingTest offsets-are) ∙ checked .rising)));
-          last-is = checked .last-is ∙ ap last offsets-are ∙ ap₂ (λ (x : ℕ) (y : List ℕ). lastFrom x (offsetsIn w n y)) (sym first-at) next-drop;
+          data-room = omega (arith, behind, checked .all, datas-long);
+          rising = subst Rising from-zero rising .1;
+          last-is = checked .last-is ∙ ap last offsets-are ∙ ap last from-zero;
         };
-        first-is = first-at;
+        offsets-are = from-zero;
         gave = fitted .by-position ∙ checked .gave ∙ ap₂ (λ (x y : List ℕ). unless (sizeTest l) 5 (gives (record { values = y; offsets = x }))) offsets-are data-is;
       }
 
@@ -205,7 +191,7 @@ pub index-found : (w : ℕ) (p : Place) (s : List ℕ) (at n : ℕ) (i : Index) 
 unfolding foundIn
 index-found w p s at n i ha h =
     let m = map-given (located w p s at n) (indexIn w p (drop at s) n) i h in
-    subst (IndexFound w p s at n) (m .same) (there w n s at p (m .from .0) (m .from .1) ha (m .gave))
+    subst (IndexFound w p s at n) (m .same) (there w n s at p (m .from) ha (m .gave))
 
 -- what was not limited was found, and has few enough bytes
 within-limit : (a : Answer Index) (i : Index) → limitedIndex a ≡ gives i → (a ≡ gives i) × (sizeTest (i .last) ≡ true)

@@ -1,4 +1,4 @@
--- The index of ragged values, over the width and the place: the loop that looks for a falling offset, the answers of the check, the
+-- The index of ragged values, over the width and the place: the loop over its offsets, the answers of the check, the
 -- reader by positions, and the limit.
 -- Assumes nothing.
 use mathlib.Core.Path.{_≡_, refl, sym, ap, ap₂, _∙_}
@@ -22,9 +22,9 @@ use Rattle.array.specs.declared.kind.IndexWidth.the-variants.{Four, Eight}
 use Rattle.array.specs.Meaning.{widthOf}
 use Rattle.array.specs.Offsets.{last, risingTest, risingFromTest}
 use Rattle.array.specs.Content.{RaggedContent, sizeTest}
-use Rattle.codec.specs.Ragged.{dataTest, dataFor, checkRagged, getRagged, partOf, leftOf, lengthAt, indexAt, dataAt}
+use Rattle.codec.specs.Ragged.{checkRagged, getRagged, partOf, leftOf, lengthAt, indexAt, dataAt}
 use Rattle.stored.specs.declared.vlen.Index.{Index}
-use Rattle.stored.specs.Index.{offsetsIn, first, spanOf, openBy, readBy, indexedBy, indexCheck, indexIn, limited, spanIn, located, foundIn, checkedIn}
+use Rattle.stored.specs.Index.{offsetsIn, openBy, readBy, indexedBy, indexCheck, indexIn, limited, lastIn, located, foundIn, checkedIn}
 
 pub width-most : (w : IndexWidth) → widthOf w ≤ 8
 width-most Four = omega arith
@@ -40,14 +40,23 @@ index-size w n = mul-comm w (suc n) ∙ suc-mul n w ∙ add
     add : n * w + w ≡ w + n * w
     add = omega arith
 
--- ---- the loop that looks for a falling offset
+-- ---- the first offset, and the loop that looks for a falling one
 
 pub record Rises (w n : ℕ) (s : List ℕ) (at prev p left : ℕ) : Type 0 where
   pub room : p + (w + left * w) ≤ length s
   pub rest : risingTest (offsetsIn w (suc n) (drop at s)) ≡ risingFromTest prev (offsetsIn w left (drop (p + w) s))
 
-pub rises-start : (w n : ℕ) (s : List ℕ) (at prev : ℕ) → at + (w + n * w) ≤ length s → prev ≡ unle (take w (drop at s)) → Rises w n s at prev at n
-rises-start w n s at prev h e = record { room = h; rest = ap₂ (λ (q : List ℕ) (a : ℕ). risingFromTest a (offsetsIn w n q)) (drop-drop w at s) (sym e) }
+module _ (w n : ℕ) (s : List ℕ) (at first : ℕ) (e : first ≡ unle (take w (drop at s))) where
+  by-first : (t : Bool) → eqb first 0 ≡ t → risingTest (offsetsIn w (suc n) (drop at s)) ≡ t && risingFromTest first (offsetsIn w n (drop (at + w) s))
+  by-first t et =
+      ap₂ (λ (a : ℕ) (q : List ℕ). eqb a 0 && risingFromTest a (offsetsIn w n q)) (sym e) (drop-drop w at s)
+      ∙ ap (λ (b : Bool). b && risingFromTest first (offsetsIn w n (drop (at + w) s))) et
+
+  pub rises-not : 0 < first → false ≡ risingTest (offsetsIn w (suc n) (drop at s))
+  rises-not f = sym (by-first false (ne-eqb first 0 (λ z. absurd (omega arith))))
+
+  pub rises-start : first ≤ 0 → at + (w + n * w) ≤ length s → Rises w n s at first at n
+  rises-start z h = record { room = h; rest = by-first true (eq-eqb first 0 (omega arith)) }
 
 module _ {w n : ℕ} {s : List ℕ} {at prev p left : ℕ} (r : Rises w n s at prev p left) (h : 0 < left) where
   pub rises-room : p + w + w + (left - 1) * w ≤ length s
@@ -81,7 +90,7 @@ module _ {w n : ℕ} {s : List ℕ} {at prev p left : ℕ} (r : Rises w n s at p
 pub rises-end : {w n : ℕ} {s : List ℕ} {at prev p left : ℕ} → Rises w n s at prev p left → left ≡ 0 → true ≡ risingTest (offsetsIn w (suc n) (drop at s))
 rises-end {w} {n} {s} {at} {prev} {p} {left} r e = sym (r .rest ∙ ap (λ (k : ℕ). risingFromTest prev (offsetsIn w k (drop (p + w) s))) e)
 
--- ---- the last offset, and the data
+-- ---- the last offset
 
 last-in : (w n : ℕ) (q : List ℕ) → last (offsetsIn w (suc n) q) ≡ unle (take w (drop (n * w) q))
 last-in w zero q = ap (λ (k : ℕ). unle (take w (drop k q))) (sym (zero-mul w))
@@ -91,10 +100,6 @@ last-in w (suc n) q =
 
 pub last-at : (w n : ℕ) (s : List ℕ) (at v : ℕ) → v ≡ unle (take w (drop (at + n * w) s)) → v ≡ last (offsetsIn w (suc n) (drop at s))
 last-at w n s at v e = e ∙ sym (last-in w n (drop at s) ∙ ap (λ (l : List ℕ). unle (take w l)) (drop-drop (n * w) at s))
-
-pub data-some : (l k : ℕ) → (l ≡ 0 → ⊥) → eqb l k ≡ dataTest l k
-data-some zero k f = absurd (f refl)
-data-some (suc l) k f = refl
 
 -- ---- the limit
 
@@ -108,18 +113,18 @@ over-limit n = go (ltb mostBytes n) refl
 -- ---- the answers of the check, by what was found
 
 module _ (os : List ℕ) (k : ℕ) {l : ℕ} (el : l ≡ last os) where
-  pub by-data : dataTest l k ≡ false → refuses 8 ≡ indexedBy os k
+  pub by-data : (l ≡ k → ⊥) → refuses 8 ≡ indexedBy os k
   unfolding indexedBy
-  by-data e = rw (ap (λ (x : ℕ). dataTest x k) (sym el) ∙ e)
+  by-data f = rw (ne-eqb (last os) k (λ e. f (el ∙ e)))
 
-  module _ (ed : dataTest l k ≡ true) where
+  module _ (ek : l ≡ k) where
     pub by-rising : risingTest os ≡ false → refuses 10 ≡ indexedBy os k
     unfolding indexedBy
-    by-rising e = rw (ap (λ (x : ℕ). dataTest x k) (sym el) ∙ ed, e)
+    by-rising e = rw (eq-eqb (last os) k (sym el ∙ ek), e)
 
-    pub by-span : risingTest os ≡ true → (f : ℕ) → f ≡ first os → gives (f, l) ≡ indexedBy os k
+    pub by-last : risingTest os ≡ true → gives l ≡ indexedBy os k
     unfolding indexedBy
-    by-span er f ef = ap₂ (λ (x y : ℕ). gives (x, y)) ef el ∙ rw (ap (λ (x : ℕ). dataTest x k) (sym el) ∙ ed, er)
+    by-last e = ap gives el ∙ rw (eq-eqb (last os) k (sym el ∙ ek), e)
 
 -- ---- the reader, by positions
 
@@ -270,18 +275,18 @@ module _ (w n : ℕ) (s : List ℕ) (at : ℕ) (h : 8 ≤ length s - at) (f : w 
 
 -- ---- what the reader gives has the index that was found, and few enough bytes
 
-check-limited : (os d : List ℕ) → limited (indexCheck os d) ≡ spanIn (checkRagged os d)
+check-limited : (os d : List ℕ) → limited (indexCheck os d) ≡ lastIn (checkRagged os d)
 unfolding indexedBy
-check-limited os d = go (dataTest (last os) (length d)) (risingTest os) (sizeTest (last os)) refl
+check-limited os d = go (eqb (last os) (length d)) (risingTest os) (sizeTest (last os)) refl
   where
-    go : (a b c : Bool) → sizeTest (last os) ≡ c → limited (unless a 8 (unless b 10 (gives (spanOf os))))
-        ≡ spanIn (unless a 8 (unless b 10 (unless c 5 (gives (record { values = dataFor (last os) d; offsets = os })))))
-    go true true true e = ap (λ (t : Bool). unless t 5 (gives (spanOf os))) e
-    go true true false e = ap (λ (t : Bool). unless t 5 (gives (spanOf os))) e
+    go : (a b c : Bool) → sizeTest (last os) ≡ c
+        → limited (unless a 8 (unless b 10 (gives (last os)))) ≡ lastIn (unless a 8 (unless b 10 (unless c 5 (gives (record { values = d; offsets = os })))))
+    go true true true e = ap (λ (t : Bool). unless t 5 (gives (last os))) e
+    go true true false e = ap (λ (t : Bool). unless t 5 (gives (last os))) e
     go true false c e = refl
     go false b c e = refl
 
-index-limited : (w : ℕ) (p : Place) (s : List ℕ) (n : ℕ) → limited (indexIn w p s n) ≡ spanIn (getRagged w p s n)
+index-limited : (w : ℕ) (p : Place) (s : List ℕ) (n : ℕ) → limited (indexIn w p s n) ≡ lastIn (getRagged w p s n)
 unfolding indexIn getRagged
 index-limited w p s n =
     let l : ℕ = unle (partOf p 8 s) in
@@ -290,8 +295,8 @@ index-limited w p s n =
     let d : List ℕ = leftOf p l r in
     go (indexCheck os d) (checkRagged os d) (leb 8 (length s)) (leb l (length r)) (eqb l (w * suc n)) (check-limited os d)
   where
-    go : (x : Answer (ℕ × ℕ)) (y : Answer RaggedContent) (a b c : Bool) → limited x ≡ spanIn y
-        → limited (unless a 7 (unless b 8 (unless c 8 x))) ≡ spanIn (unless a 7 (unless b 8 (unless c 8 y)))
+    go : (x : Answer ℕ) (y : Answer RaggedContent) (a b c : Bool) → limited x ≡ lastIn y
+        → limited (unless a 7 (unless b 8 (unless c 8 x))) ≡ lastIn (unless a 7 (unless b 8 (unless c 8 y)))
     go x y true true true e = e
     go x y true true false e = refl
     go x y true false c e = refl
@@ -305,10 +310,10 @@ pub found-limited : (w : ℕ) (p : Place) (s : List ℕ) (at n : ℕ) → limite
 unfolding foundIn checkedIn
 found-limited w p s at n = go (indexIn w p (drop at s) n) ∙ ap (mapAnswer (located w p s at n)) (index-limited w p (drop at s) n)
   where
-    go : (a : Answer (ℕ × ℕ)) → limitedIndex (mapAnswer (located w p s at n) a) ≡ mapAnswer (located w p s at n) (limited a)
+    go : (a : Answer ℕ) → limitedIndex (mapAnswer (located w p s at n) a) ≡ mapAnswer (located w p s at n) (limited a)
     go (refuses e) = refl
-    go (gives x) = by (sizeTest (x .1))
+    go (gives l) = by (sizeTest l)
       where
-        by : (b : Bool) → unless b 5 (gives (located w p s at n x)) ≡ mapAnswer (located w p s at n) (unless b 5 (gives x))
+        by : (b : Bool) → unless b 5 (gives (located w p s at n l)) ≡ mapAnswer (located w p s at n) (unless b 5 (gives l))
         by true = refl
         by false = refl

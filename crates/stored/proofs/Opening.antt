@@ -18,7 +18,7 @@ use Rattle.buffer.proofs.Fields.{field-value, field-refused}
 use Rattle.codec.specs.Mask.{MaskForm, maskForm}
 use Rattle.codec.specs.Frame.{countSet}
 use Rattle.mask.specs.Marks.{storedMask, saidMask, countedIn}
-use Rattle.stored.specs.Walk.{opened, valuesAt, noneSet, entering, walked, walkedFrame}
+use Rattle.stored.specs.Walk.{opened, entering, walked, walkedFrame}
 use Rattle.stored.specs.Stored.{contentAt}
 use Rattle.codec.proofs.Marks.{count-le}
 use Rattle.mask.proofs.Said.{length-said}
@@ -126,11 +126,11 @@ frame-open x s n k h =
 -- ---- the walk's two functions
 
 module _ (mf : MaskForm) (d : ℕ) (s : List ℕ) (at n : ℕ) where
-  pub content-end : d ≡ 0 → gives (valuesAt at n) ≡ walked mf d s at n
+  pub content-end : d ≡ 0 → gives (at, n) ≡ walked mf d s at n
   unfolding walked
   content-end e = go d e
     where
-      go : (d : ℕ) → d ≡ 0 → gives (valuesAt at n) ≡ walked mf d s at n
+      go : (d : ℕ) → d ≡ 0 → gives (at, n) ≡ walked mf d s at n
       go zero e = refl
       go (suc d) e = absurd (omega arith)
 
@@ -146,14 +146,25 @@ module _ (mf : MaskForm) (d : ℕ) (s : List ℕ) (at n : ℕ) where
   unfolding walkedFrame
   frame-refused e h = rw h
 
-  pub frame-none : (k : ℕ) → opened mf (drop at s) n ≡ gives k → k ≡ 0 → gives noneSet ≡ walkedFrame mf d s at n
-  unfolding walkedFrame
-  frame-none k h e = rw (h, e)
+  -- by how many cells its content has, which lies from a on
+  module _ (k : ℕ) (h : opened mf (drop at s) n ≡ gives k) (a : ℕ) (ea : a ≡ contentAt mf at n) where
+    entered : entering s a (walked mf d s a) k ≡ walkedFrame mf d s at n
+    unfolding walkedFrame
+    entered = rw h (ap (λ (j : ℕ). entering s j (walked mf d s j) k) ea)
 
-  pub frame-content : (k z : ℕ) → opened mf (drop at s) n ≡ gives k → (k ≡ 0 → ⊥) → z ≡ mf .size n → walked mf d s (at + (16 + z)) k ≡ walkedFrame mf d s at n
-  unfolding walkedFrame
-  frame-content k z h f ez = ap (λ (j : ℕ). walked mf d s (at + (16 + j)) k) ez ∙ rw h (go k f)
-    where
-      go : (j : ℕ) → (j ≡ 0 → ⊥) → walked mf d s (contentAt mf at n) j ≡ entering j (walked mf d s (contentAt mf at n))
-      go zero g = absurd (g refl)
-      go (suc j) g = refl
+    pub frame-content : 0 < k → walked mf d s a k ≡ walkedFrame mf d s at n
+    frame-content f = go k f ∙ entered
+      where
+        go : (j : ℕ) → 0 < j → walked mf d s a j ≡ entering s a (walked mf d s a) j
+        go zero g = absurd (omega arith)
+        go (suc j) g = refl
+
+    module _ (ez : k ≡ 0) where
+      none : (t : Bool) → eqb (length s - a) 0 ≡ t → unless t 8 (gives (a, 0)) ≡ walkedFrame mf d s at n
+      none t e = ap (λ (b : Bool). unless b 8 (gives (a, 0))) (sym e) ∙ ap (entering s a (walked mf d s a)) (sym ez) ∙ entered
+
+      pub frame-hidden : (length s - a ≡ 0 → ⊥) → refuses 8 ≡ walkedFrame mf d s at n
+      frame-hidden f = none false (ne-eqb (length s - a) 0 f)
+
+      pub frame-none : length s - a ≡ 0 → gives (a, 0) ≡ walkedFrame mf d s at n
+      frame-none e = none true (eq-eqb (length s - a) 0 e)

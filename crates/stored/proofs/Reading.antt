@@ -3,10 +3,10 @@
 use mathlib.Core.Path.{_≡_, refl, sym, ap, ap₂, _∙_}
 use mathlib.Core.List.{List, [], _∷_, _++_, map}
 use mathlib.Core.Bool.{Bool, true, false}
-use Prim.Native.Nat.{ℕ, zero, suc, _+_}
+use Prim.Native.Nat.{ℕ, zero, suc, _+_, _-_, _≤_}
 use native.Mathlib.Omega.{arith}
 use lib.Dec.{leb, eqb}
-use lib.ListN.{length, take, drop}
+use lib.ListN.{length, take, drop, length-drop}
 use lib.Seq.{drop-drop}
 use borrow.Author.Tests.{eqb-true}
 use Rattle.array.specs.Answer.{Answer, gives, refuses, andThen, unless}
@@ -18,9 +18,13 @@ use Rattle.codec.specs.Mask.{MaskForm, getMask}
 use Rattle.codec.specs.Frame.{countSet, expand, contentOf, readFrame}
 use Rattle.codec.specs.Spread.{spread, planeList, placed, innermostPlane}
 use Rattle.mask.specs.Marks.{storedMask, countedIn}
-use Rattle.stored.specs.Walk.{opened, Innermost, valuesAt, noneSet, entering, walked}
-use Rattle.stored.specs.Stored.{maskIn, contentAt, storedMasks, cellsFrom, answerBy}
+use Rattle.stored.specs.Walk.{opened, entering, walked}
+use Rattle.stored.specs.Stored.{maskIn, contentAt, storedMasks, cellsFrom, innermostBy, answerBy}
 use Rattle.codec.proofs.SpreadLaws.{expand-none, planes-joined, planes-expand, leaves-expand, spread-spread, stacked, placed-stacked}
+
+pub innermost-some : (r : ℕ → Answer (List Value)) (k : ℕ) → 1 ≤ k → innermostBy r k ≡ r k
+innermost-some r zero h = absurd (omega arith)
+innermost-some r (suc k) h = refl
 
 module _ (mf : MaskForm) (z : Value) (r : List ℕ → ℕ → Answer (List Value)) where
   module _ (d : ℕ) (s : List ℕ) (at n : ℕ) where
@@ -31,50 +35,54 @@ module _ (mf : MaskForm) (z : Value) (r : List ℕ → ℕ → Answer (List Valu
     next = contentAt mf at n
 
     -- what is walked below, and what the frame's reader answers by it
-    abbrev below : ℕ → Answer Innermost
+    abbrev below : ℕ → Answer (ℕ × ℕ)
     below k = walked mf d s next k
 
-    abbrev answered : Answer Innermost → Answer (List (Cell (suc d)))
+    abbrev answered : Answer (ℕ × ℕ) → Answer (List (Cell (suc d)))
     answered w = andThen w (answerBy mf z r (suc d) s at n)
 
     -- the frame's cells from those of its content
     up : Answer (List (Cell d)) → Answer (List (Cell (suc d)))
     up a = andThen a (λ xs. gives (expand (blank z d) mask xs))
 
-    up-answer : (k : ℕ) → countSet mask ≡ k → (w : Answer Innermost) → up (andThen w (answerBy mf z r d s next k)) ≡ answered w
+    up-answer : (k : ℕ) → countSet mask ≡ k → (w : Answer (ℕ × ℕ)) → up (andThen w (answerBy mf z r d s next k)) ≡ answered w
     unfolding cellsFrom up
-    up-answer k e (gives (valuesAt a j)) = go (r (drop a s) j)
+    up-answer k e (gives i) = go (innermostBy (r (drop (i .0) s)) (i .1))
       where
         go : (x : Answer (List Value)) → up (andThen x (λ vs. gives (cellsFrom mf z d s next k vs))) ≡ andThen x (λ vs. gives (cellsFrom mf z (suc d) s at n vs))
         go (gives vs) = ap (λ (c : ℕ). gives (expand (blank z d) mask (cellsFrom mf z d s next c vs))) (sym e)
         go (refuses f) = refl
-    up-answer k e (gives noneSet) = ap (λ (c : ℕ). gives (expand (blank z d) mask (cellsFrom mf z d s next c []))) (sym e)
     up-answer k e (refuses f) = refl
 
-    module _ (ih : (k : ℕ) → readFrame mf z r d (drop next s) k ≡ andThen (below k) (answerBy mf z r d s next k)) where
-      inner : (k : ℕ) → countSet mask ≡ k → up (contentOf k (readFrame mf z r d (drop next s))) ≡ answered (entering k below)
+    module _ (ih : (k : ℕ) → readFrame mf z r d (drop next s) (suc k) ≡ andThen (below (suc k)) (answerBy mf z r d s next (suc k))) where
+      inner : (k : ℕ) → countSet mask ≡ k → up (contentOf (length s - next) k (readFrame mf z r d (drop next s))) ≡ answered (entering s next below k)
       unfolding cellsFrom up
-      inner zero e = ap gives (expand-none (blank z d) mask [] (cellsFrom mf z d s next (countSet mask) []) e)
-      inner (suc k) e = ap up (ih (suc k)) ∙ up-answer (suc k) e (below (suc k))
+      inner zero e = go (eqb (length s - next) 0)
+        where
+          go : (t : Bool) → up (unless t 8 (gives [])) ≡ answered (unless t 8 (gives (next, 0)))
+          go true = ap gives (expand-none (blank z d) mask [] (cellsFrom mf z d s next (countSet mask) []) e)
+          go false = refl
+      inner (suc k) e = ap up (ih k) ∙ up-answer (suc k) e (below (suc k))
 
-      -- what reads the mask and the bytes behind it
-      body : List ℕ → List ℕ → Answer (List (Cell (suc d)))
-      body m rest = andThen (getMask mf m n) (λ ms. andThen (contentOf (countSet ms) (readFrame mf z r d rest)) (λ xs. gives (expand (blank z d) ms xs)))
+      -- what reads the mask and the c bytes behind it
+      body : ℕ → List ℕ → List ℕ → Answer (List (Cell (suc d)))
+      body c m rest = andThen (getMask mf m n) (λ ms. andThen (contentOf c (countSet ms) (readFrame mf z r d rest)) (λ xs. gives (expand (blank z d) ms xs)))
 
       -- with the test of the mask, or its refusal
-      body-is : body (storedMask mf s (at + 16) n) (drop next s) ≡ answered (andThen (countedIn mf (storedMask mf s (at + 16) n) n) (λ k. entering k below))
+      body-is : body (length s - next) (storedMask mf s (at + 16) n) (drop next s) ≡ answered (andThen (countedIn mf (storedMask mf s (at + 16) n) n) (entering s next below))
       unfolding body up
       body-is = go (mf .test (storedMask mf s (at + 16) n) n)
         where
-          go : (t : Bool) → andThen (unless t (mf .refusal) (gives mask)) (λ ms. andThen (contentOf (countSet ms) (readFrame mf z r d (drop next s))) (λ xs. gives (expand (blank z d) ms xs)))
-              ≡ answered (andThen (andThen (unless t (mf .refusal) (gives mask)) (λ ms. gives (countSet ms))) (λ k. entering k below))
+          go : (t : Bool) → andThen (unless t (mf .refusal) (gives mask)) (λ ms.
+              andThen (contentOf (length s - next) (countSet ms) (readFrame mf z r d (drop next s))) (λ xs. gives (expand (blank z d) ms xs)))
+              ≡ answered (andThen (andThen (unless t (mf .refusal) (gives mask)) (λ ms. gives (countSet ms))) (entering s next below))
           go true = inner (countSet mask) refl
           go false = refl
 
-      frame-step : (q : List ℕ) → q ≡ drop at s → readFrame mf z r (suc d) q n ≡ answered (andThen (opened mf q n) (λ k. entering k below))
+      frame-step : (q : List ℕ) → q ≡ drop at s → readFrame mf z r (suc d) q n ≡ answered (andThen (opened mf q n) (entering s next below))
       unfolding readFrame opened body
       frame-step q eq =
-          go (leb 16 (length q)) (eqb (length q) (16 + unle (take 8 q) + unle (take 8 (drop 8 q)))) (eqb (unle (take 8 q)) (mf .size n)) refl
+          go (leb 16 (length q)) (eqb (length q) (16 + unle (take 8 q) + unle (take 8 (drop 8 q)))) (eqb (unle (take 8 q)) (mf .size n)) refl refl
         where
           em : storedMask mf q 16 n ≡ storedMask mf s (at + 16) n
           em = ap (λ (l : List ℕ). take (mf .size n) (drop 16 l)) eq ∙ ap (take (mf .size n)) (drop-drop 16 at s)
@@ -85,28 +93,30 @@ module _ (mf : MaskForm) (z : Value) (r : List ℕ → ℕ → Answer (List Valu
               ap (λ (l : List ℕ). drop (mf .size n) (drop 16 l)) eq ∙ ap (drop (mf .size n)) (drop-drop 16 at s)
               ∙ drop-drop (mf .size n) (at + 16) s ∙ ap (λ (k : ℕ). drop k s) e
 
-          go : (a b c : Bool) → eqb (unle (take 8 q)) (mf .size n) ≡ c
-              → unless a 7 (unless b 8 (unless c 8 (body (take (unle (take 8 q)) (drop 16 q)) (drop (unle (take 8 q)) (drop 16 q)))))
-              ≡ answered (andThen (unless a 7 (unless b 8 (unless c 8 (countedIn mf (storedMask mf q 16 n) n)))) (λ k. entering k below))
-          go false b c e = refl
-          go true false c e = refl
-          go true true false e = refl
-          go true true true e =
+          go : (a b c : Bool) → eqb (length q) (16 + unle (take 8 q) + unle (take 8 (drop 8 q))) ≡ b → eqb (unle (take 8 q)) (mf .size n) ≡ c
+              → unless a 7 (unless b 8 (unless c 8 (body (unle (take 8 (drop 8 q))) (take (unle (take 8 q)) (drop 16 q)) (drop (unle (take 8 q)) (drop 16 q)))))
+              ≡ answered (andThen (unless a 7 (unless b 8 (unless c 8 (countedIn mf (storedMask mf q 16 n) n)))) (entering s next below))
+          go false b c eb e = refl
+          go true false c eb e = refl
+          go true true false eb e = refl
+          go true true true eb e =
               let m : unle (take 8 q) ≡ mf .size n = eqb-true _ _ e in
-              ap (λ (k : ℕ). body (take k (drop 16 q)) (drop k (drop 16 q))) m
-              ∙ ap₂ body em er
+              let total : length q ≡ 16 + unle (take 8 q) + unle (take 8 (drop 8 q)) = eqb-true _ _ eb in
+              let left : unle (take 8 (drop 8 q)) ≡ length s - next = omega (arith, ap length eq, length-drop at s) in
+              ap₂ (λ (c k : ℕ). body c (take k (drop 16 q)) (drop k (drop 16 q))) left m
+              ∙ ap₂ (body (length s - next)) em er
               ∙ body-is
-              ∙ ap (λ (l : List ℕ). answered (andThen (countedIn mf l n) (λ k. entering k below))) (sym em)
+              ∙ ap (λ (l : List ℕ). answered (andThen (countedIn mf l n) (entering s next below))) (sym em)
 
-  -- a reader of frames answers what the walk tells
-  pub read-walked : (d : ℕ) (s : List ℕ) (at n : ℕ) → readFrame mf z r d (drop at s) n ≡ andThen (walked mf d s at n) (answerBy mf z r d s at n)
+  -- a reader of some cells answers what the walk tells
+  pub read-walked : (d : ℕ) (s : List ℕ) (at n : ℕ) → 1 ≤ n → readFrame mf z r d (drop at s) n ≡ andThen (walked mf d s at n) (answerBy mf z r d s at n)
   unfolding walked cellsFrom readFrame
-  read-walked zero s at n = base (r (drop at s) n)
+  read-walked zero s at n h = sym (innermost-some (r (drop at s)) n h) ∙ base (innermostBy (r (drop at s)) n)
     where
       base : (x : Answer (List Value)) → x ≡ andThen x (λ vs. gives (cellsFrom mf z zero s at n vs))
       base (gives vs) = refl
       base (refuses e) = refl
-  read-walked (suc d) s at n = frame-step d s at n (λ k. read-walked d s (contentAt mf at n) k) (drop at s) refl
+  read-walked (suc d) s at n h = frame-step d s at n (λ k. read-walked d s (contentAt mf at n) (suc k) (omega arith)) (drop at s) refl
 
 -- ---- the planes of what was read
 

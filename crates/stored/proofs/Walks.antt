@@ -2,18 +2,21 @@
 -- cells as it tells.
 -- Assumes nothing.
 use mathlib.Core.Path.{_≡_, refl, sym, ap, _∙_, subst}
+use mathlib.Core.Bool.{Bool, true, false}
 use mathlib.Core.List.{List, [], _∷_}
-use Prim.Native.Nat.{ℕ, zero, suc, _+_, _≤_}
+use Prim.Native.Nat.{ℕ, zero, suc, _+_, _-_, _≤_}
 use native.Mathlib.Omega.{arith}
+use lib.Dec.{eqb}
 use lib.ListN.{length, take, drop, replicate, length-drop}
 use lib.Seq.{drop-drop}
-use Rattle.array.specs.Answer.{Answer, gives, refuses, andThen}
+use borrow.Author.Tests.{eqb-true}
+use Rattle.array.specs.Answer.{Answer, gives, refuses, andThen, unless}
 use Rattle.array.specs.Kind.{Masks}
 use Rattle.codec.specs.Mask.{MaskForm, maskForm}
 use Rattle.codec.specs.Frame.{countSet}
 use Rattle.codec.specs.Spread.{spread, innermostPlane}
 use Rattle.mask.specs.Marks.{storedMask}
-use Rattle.stored.specs.Walk.{opened, Innermost, valuesAt, noneSet, entering, walked}
+use Rattle.stored.specs.Walk.{opened, entering, walked}
 use Rattle.stored.specs.Stored.{maskIn, contentAt, storedMasks, MaskPassed, MasksWithin, innermostCount}
 use Rattle.codec.proofs.Marks.{count-le, count-zeros}
 use Rattle.codec.proofs.Masks.{mask-laws}
@@ -43,11 +46,13 @@ innermost-none : (p : List ℕ) (ms : List (List ℕ)) → countSet p ≡ 0 → 
 innermost-none p [] e = e
 innermost-none p (m ∷ ms) e = innermost-none (spread 0 p m) ms (ap countSet (spread-none 0 p m e) ∙ count-zeros (length p))
 
--- the masks passed, and the innermost plane has k set cells
-pub record WalkPassed (x : Masks) (d : ℕ) (s : List ℕ) (at n k : ℕ) : Type 0 where
+-- the masks passed, the innermost plane has k set cells, and their content begins at a: with none set, at the end
+pub record WalkPassed (x : Masks) (d : ℕ) (s : List ℕ) (at n a k : ℕ) : Type 0 where
   pub within : MasksWithin (maskForm x) d s at n
   pub few : k ≤ n
   pub innermost : (p : List ℕ) → countSet p ≡ n → countSet (innermostPlane p (storedMasks (maskForm x) d s at n)) ≡ k
+  pub inside : a ≤ length s
+  pub none-left : k ≡ 0 → length s - a ≡ 0
 
 module _ (x : Masks) (d : ℕ) (s : List ℕ) (at n : ℕ) (l : at ≤ length s) where
   abbrev mf : MaskForm
@@ -65,9 +70,9 @@ module _ (x : Masks) (d : ℕ) (s : List ℕ) (at n : ℕ) (l : at ≤ length s)
   mask-passed : (j : ℕ) → FrameOpen x (drop at s) n j → MaskPassed mf s at n
   mask-passed j o = record { room = omega (arith, length-drop at s, o .room); passed = ap (λ (m : List ℕ). mf .test m n) (sym mask-is) ∙ o .passed }
 
-  level-passed : (j k : ℕ) → FrameOpen x (drop at s) n j → WalkPassed x d s next j k → WalkPassed x (suc d) s at n k
+  level-passed : (j a k : ℕ) → FrameOpen x (drop at s) n j → WalkPassed x d s next j a k → WalkPassed x (suc d) s at n a k
   unfolding MasksWithin storedMasks
-  level-passed j k o p =
+  level-passed j a k o p =
       let ej : j ≡ countSet mask = o .counted ∙ ap (λ (m : List ℕ). countSet (mf .said m n)) mask-is in
       let pass : MaskPassed mf s at n = mask-passed j o in
       record {
@@ -75,68 +80,50 @@ module _ (x : Masks) (d : ℕ) (s : List ℕ) (at n : ℕ) (l : at ≤ length s)
         few = omega (arith, p .few, o .few);
         innermost = λ q eq. ap (λ (c : ℕ). countSet (innermostPlane (spread 0 q mask) (storedMasks mf d s next c))) (sym ej)
             ∙ p .innermost (spread 0 q mask) (count-spread q mask (mask-long x pass ∙ sym eq) ∙ sym ej);
+        inside = p .inside;
+        none-left = p .none-left;
       }
 
-  none-passed : FrameOpen x (drop at s) n 0 → WalkPassed x (suc d) s at n 0
-  none-passed o =
-      level-passed 0 0 o (record { within = within-none x d s next; few = omega arith; innermost = λ q eq. innermost-none q (storedMasks mf d s next 0) eq })
+  -- with no cell set its content is empty, and no level below is walked
+  none-passed : FrameOpen x (drop at s) n 0 → (i : ℕ × ℕ) (t : Bool) → eqb (length s - next) 0 ≡ t → unless {A = ℕ × ℕ} t 8 (gives (next, 0)) ≡ gives i
+      → WalkPassed x (suc d) s at n (i .0) (i .1)
+  none-passed o i true e q =
+      let same : _≡_ {A = ℕ × ℕ} (next, 0) i = cc in
+      subst (λ (i : ℕ × ℕ). WalkPassed x (suc d) s at n (i .0) (i .1)) same
+      (level-passed 0 next 0 o
+      (record {
+        within = within-none x d s next;
+        few = omega arith;
+        innermost = λ p eq. innermost-none p (storedMasks mf d s next 0) eq;
+        inside = mask-passed 0 o .room;
+        none-left = λ z. eqb-true (length s - next) 0 e;
+      }))
+  none-passed o i false e q = let z : _≡_ {A = ℕ} 0 1 = cc in absurd (omega arith)
 
--- where the innermost content begins, and how many cells it has
-abbrev startOf : Innermost → ℕ
-startOf (valuesAt a k) = a
-startOf noneSet = 0
+  frame-passed : (a k : ℕ) (o : Answer ℕ) → opened mf (drop at s) n ≡ o → andThen o (entering s next (walked mf d s next)) ≡ gives (a, k)
+      → ((j : ℕ) → next ≤ length s → walked mf d s next (suc j) ≡ gives (a, k) → WalkPassed x d s next (suc j) a k) → WalkPassed x (suc d) s at n a k
+  frame-passed a k (gives zero) e g ih = none-passed (frame-open x (drop at s) n 0 e) (a, k) (eqb (length s - next) 0) refl g
+  frame-passed a k (gives (suc j)) e g ih =
+      let o : FrameOpen x (drop at s) n (suc j) = frame-open x (drop at s) n (suc j) e in
+      level-passed (suc j) a k o (ih j (mask-passed (suc j) o .room) g)
+  frame-passed a k (refuses f) e g ih = let z : _≡_ {A = ℕ} 0 1 = cc in absurd (omega arith)
 
-abbrev countOf : Innermost → ℕ
-countOf (valuesAt a k) = k
-countOf noneSet = 0
-
--- what is told of i
-abbrev Passed : Masks → ℕ → List ℕ → ℕ → ℕ → Innermost → Type 0
-Passed x d s at n i = WalkPassed x d s at n (countOf i) × (startOf i ≤ length s)
-
-walk-passed : (x : Masks) (d : ℕ) (s : List ℕ) (at n : ℕ) (i : Innermost) → at ≤ length s → walked (maskForm x) d s at n ≡ gives i → Passed x d s at n i
+pub walk-passed : (x : Masks) (d : ℕ) (s : List ℕ) (at n a k : ℕ) → 1 ≤ n → at ≤ length s → walked (maskForm x) d s at n ≡ gives (a, k) → WalkPassed x d s at n a k
 unfolding walked MasksWithin storedMasks
-walk-passed x zero s at n i l h =
-    let e : valuesAt at n ≡ i = cc in
-    (record { within = tt; few = omega (arith, ap countOf e); innermost = λ p q. q ∙ ap countOf e }, omega (arith, ap startOf e))
-walk-passed x (suc d) s at n i l h = go (opened (maskForm x) (drop at s) n) refl h (λ j g m. walk-passed x d s (contentAt (maskForm x) at n) j i m g)
-  where
-    go : (o : Answer ℕ) → opened (maskForm x) (drop at s) n ≡ o → andThen o (λ j. entering j (walked (maskForm x) d s (contentAt (maskForm x) at n))) ≡ gives i
-        → ((j : ℕ) → walked (maskForm x) d s (contentAt (maskForm x) at n) j ≡ gives i → contentAt (maskForm x) at n ≤ length s → Passed x d s (contentAt (maskForm x) at n) j i)
-        → Passed x (suc d) s at n i
-    go (gives zero) e g ih =
-        let same : noneSet ≡ i = cc in
-        subst (Passed x (suc d) s at n) same (none-passed x d s at n l (frame-open x (drop at s) n 0 e), omega arith)
-    go (gives (suc j)) e g ih =
-        let o : FrameOpen x (drop at s) n (suc j) = frame-open x (drop at s) n (suc j) e in
-        let q = ih (suc j) g (omega (arith, o .room, length-drop at s)) in
-        (level-passed x d s at n l (suc j) (countOf i) o (q .0), q .1)
-    go (refuses f) e g ih = let z : _≡_ {A = ℕ} 0 1 = cc in absurd (omega arith)
-
-pub walk-values : (x : Masks) (d : ℕ) (s : List ℕ) (at n a k : ℕ) → at ≤ length s → walked (maskForm x) d s at n ≡ gives (valuesAt a k)
-    → WalkPassed x d s at n k × (a ≤ length s)
-walk-values x d s at n a k l h = walk-passed x d s at n (valuesAt a k) l h
-
-pub walk-none : (x : Masks) (d : ℕ) (s : List ℕ) (at n : ℕ) → at ≤ length s → walked (maskForm x) d s at n ≡ gives noneSet → WalkPassed x d s at n 0
-walk-none x d s at n l h = walk-passed x d s at n noneSet l h .0
+walk-passed x zero s at n a k some l h =
+    let e : _≡_ {A = ℕ × ℕ} (at, n) (a, k) = cc in
+    let ea : at ≡ a = ap (λ (i : ℕ × ℕ). i .0) e in
+    let ek : n ≡ k = ap (λ (i : ℕ × ℕ). i .1) e in
+    record { within = tt; few = omega arith; innermost = λ p q. q ∙ ek; inside = omega arith; none-left = λ z. absurd (omega arith) }
+walk-passed x (suc d) s at n a k some l h =
+    frame-passed x d s at n l a k (opened (maskForm x) (drop at s) n) refl h (λ j. walk-passed x d s (contentAt (maskForm x) at n) (suc j) a k (omega arith))
 
 -- ---- from the first frame on
 
--- a walk of no level
-pub values-flat : (mf : MaskForm) (d : ℕ) (s : List ℕ) (at n a k : ℕ) → walked mf d s at n ≡ gives (valuesAt a k) → d ≡ 0 → k ≡ n
-unfolding walked
-values-flat mf zero s at n a k h e = cc
-values-flat mf (suc d) s at n a k h e = absurd (omega arith)
-
-pub none-deep : (mf : MaskForm) (d : ℕ) (s : List ℕ) (at n : ℕ) → walked mf d s at n ≡ gives noneSet → 1 ≤ d
-unfolding walked
-none-deep mf zero s at n h = let z : _≡_ {A = ℕ} 0 1 = cc in absurd (omega arith)
-none-deep mf (suc d) s at n h = omega arith
-
 -- the count of the innermost cells
-pub passed-count : {x : Masks} {d : ℕ} {s : List ℕ} {n k : ℕ} → 1 ≤ n → WalkPassed x d s 0 n k → (d ≡ 0 → k ≡ n) → k ≡ innermostCount (maskForm x) d s n
+pub passed-count : {x : Masks} {d : ℕ} {s : List ℕ} {n a k : ℕ} → 1 ≤ n → WalkPassed x d s 0 n a k → k ≡ innermostCount (maskForm x) d s n
 unfolding innermostCount MasksWithin storedMasks
-passed-count {x} {d} {s} {n} {k} l p f = go d p f
+passed-count {x} {d} {s} {n} {a} {k} l p = go d p
   where
     count-ones : (n : ℕ) → countSet (replicate n 1) ≡ n
     count-ones zero = refl
@@ -148,9 +135,9 @@ passed-count {x} {d} {s} {n} {k} l p f = go d p f
     spread-ones (suc n) [] e = absurd (omega arith)
     spread-ones (suc n) (b ∷ m) e = ap (λ (r : List ℕ). b ∷ r) (spread-ones n m (omega arith))
 
-    go : (d : ℕ) → WalkPassed x d s 0 n k → (d ≡ 0 → k ≡ n) → k ≡ innermostCount (maskForm x) d s n
-    go zero p f = f refl
-    go (suc d) p f =
+    go : (d : ℕ) → WalkPassed x d s 0 n a k → k ≡ innermostCount (maskForm x) d s n
+    go zero p = sym (p .innermost (replicate n 1) (count-ones n)) ∙ count-ones n
+    go (suc d) p =
         let mf = maskForm x in
         let mask = maskIn mf s 0 n in
         sym (p .innermost (replicate n 1) (count-ones n))

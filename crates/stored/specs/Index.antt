@@ -1,18 +1,18 @@
--- The check of ragged values (document 01, item 4): where their index and their data lie, and the first and the last offset; or the
--- refusal.
+-- docs/SPEC.md, S4.3 and S4.4, by positions in the stored bytes (IndexLaws' `read-at`): the check of ragged values. Where their index and
+-- their data lie, and the last offset; or the refusal.
 -- Assumes nothing.
 use Prim.Native.Nat.{ℕ, suc, _+_, _-_, _*_, _≤_}
 use mathlib.Core.Path.{_≡_}
-use mathlib.Core.List.{List, [], _∷_, map}
+use mathlib.Core.List.{List, map}
 use lib.ListN.{length, take, drop}
 use lib.Dec.{leb, eqb}
 use Rattle.array.specs.Answer.{Answer, gives, refuses, unless, andThen, mapAnswer}
 use Rattle.array.specs.Lists.{pieces}
 use Rattle.array.specs.Bytes.{unle}
-use Rattle.array.specs.Kind.{Place, atStart, atEnd}
+use Rattle.array.specs.Kind.{Place}
 use Rattle.array.specs.Offsets.{last, lastFrom, RisingFrom, risingTest}
 use Rattle.array.specs.Content.{RaggedContent, sizeTest}
-use Rattle.codec.specs.Ragged.{dataTest, partOf, leftOf, getRagged, indexAt, dataAt}
+use Rattle.codec.specs.Ragged.{partOf, leftOf, getRagged, indexAt, dataAt}
 use Rattle.stored.specs.declared.vlen.Index.{Index}
 use Rattle.stored.specs.declared.vlen.Indexed.{Indexed}
 use Rattle.stored.specs.declared.vlen.Indexed.the-variants.{Found, Refused}
@@ -20,14 +20,6 @@ use Rattle.stored.specs.declared.vlen.Indexed.the-variants.{Found, Refus
 -- the first n offsets of width w that the bytes hold
 abbrev pub offsetsIn : ℕ → ℕ → List ℕ → List ℕ
 offsetsIn w n s = map unle (pieces w n s)
-
-abbrev pub first : List ℕ → ℕ
-first [] = 0
-first (a ∷ bs) = a
-
--- the value bytes that offsets span
-abbrev pub spanOf : List ℕ → ℕ × ℕ
-spanOf os = (first os, last os)
 
 -- the reader of what is stored for n cells, with any check of the offsets and the data that it takes apart
 abbrev pub openBy : {A : Type 0} → (List ℕ → List ℕ → Answer A) → ℕ → Place → ℕ → List ℕ → ℕ → Answer A
@@ -37,40 +29,40 @@ openBy check w p l s n =
 abbrev pub readBy : {A : Type 0} → (List ℕ → List ℕ → Answer A) → ℕ → Place → List ℕ → ℕ → Answer A
 readBy check w p s n = unless (leb 8 (length s)) 7 (openBy check w p (unle (partOf p 8 s)) (leftOf p 8 s) n)
 
--- offsets with k bytes of data, before they are limited
-unfoldable pub indexedBy : List ℕ → ℕ → Answer (ℕ × ℕ)
-indexedBy os k = unless (dataTest (last os) k) 8 (unless (risingTest os) 10 (gives (spanOf os)))
+-- the last of offsets with k bytes of data, before it is limited
+unfoldable pub indexedBy : List ℕ → ℕ → Answer ℕ
+indexedBy os k = unless (eqb (last os) k) 8 (unless (risingTest os) 10 (gives (last os)))
 
-abbrev pub indexCheck : List ℕ → List ℕ → Answer (ℕ × ℕ)
+abbrev pub indexCheck : List ℕ → List ℕ → Answer ℕ
 indexCheck os s = indexedBy os (length s)
 
--- the index of what is stored, before it is limited
-unfoldable pub indexIn : ℕ → Place → List ℕ → ℕ → Answer (ℕ × ℕ)
+-- the last offset of what is stored, before it is limited
+unfoldable pub indexIn : ℕ → Place → List ℕ → ℕ → Answer ℕ
 indexIn w p s n = readBy indexCheck w p s n
 
--- the limit of value bytes, by the last offset
-abbrev pub limited : Answer (ℕ × ℕ) → Answer (ℕ × ℕ)
-limited a = andThen a (λ x. unless (sizeTest (x .1)) 5 (gives x))
+-- the limit of value bytes
+abbrev pub limited : Answer ℕ → Answer ℕ
+limited a = andThen a (λ l. unless (sizeTest l) 5 (gives l))
 
 -- what the check tells of the reader's answer
-abbrev pub spanIn : Answer RaggedContent → Answer (ℕ × ℕ)
-spanIn a = mapAnswer (λ c. spanOf (c .offsets)) a
+abbrev pub lastIn : Answer RaggedContent → Answer ℕ
+lastIn a = mapAnswer (λ c. last (c .offsets)) a
 
--- ---- what was found: n cells, the index at `index`, the data at `from`, and the value bytes x that the offsets span
+-- ---- what was found: n cells, the index at `index`, the data at `from`, and the last offset l
 
-abbrev pub indexWith : ℕ → ℕ → ℕ → ℕ × ℕ → Index
-indexWith n index from x = record { cells = n; index = index; from = from; first = x .0; last = x .1 }
+abbrev pub indexWith : ℕ → ℕ → ℕ → ℕ → Index
+indexWith n index from l = record { cells = n; index = index; from = from; last = l }
 
 -- in the bytes from `at` on to the end
-abbrev pub located : ℕ → Place → List ℕ → ℕ → ℕ → ℕ × ℕ → Index
-located w p s at n x = indexWith n (at + indexAt p (length s - at) (w + n * w)) (at + dataAt p (w + n * w)) x
+abbrev pub located : ℕ → Place → List ℕ → ℕ → ℕ → ℕ → Index
+located w p s at n l = indexWith n (at + indexAt p (length s - at) (w + n * w)) (at + dataAt p (w + n * w)) l
 
 -- the index of the ragged values of n cells that lie there, before it is limited and after
 unfoldable pub foundIn : ℕ → Place → List ℕ → ℕ → ℕ → Answer Index
 foundIn w p s at n = mapAnswer (located w p s at n) (indexIn w p (drop at s) n)
 
 unfoldable pub checkedIn : ℕ → Place → List ℕ → ℕ → ℕ → Answer Index
-checkedIn w p s at n = mapAnswer (located w p s at n) (spanIn (getRagged w p (drop at s) n))
+checkedIn w p s at n = mapAnswer (located w p s at n) (lastIn (getRagged w p (drop at s) n))
 
 -- what the declared answer means
 abbrev pub toldIndex : Indexed → Answer Index
@@ -81,9 +73,13 @@ toldIndex (Refused e) = refuses e
 abbrev pub raggedAt : ℕ → List ℕ → Index → RaggedContent
 raggedAt w s i = record { values = take (i .last) (drop (i .from) s); offsets = offsetsIn w (suc (i .cells)) (drop (i .index) s) }
 
--- it lies within the bytes, as its data does, and its offsets never fall
+-- where its cells end: its offsets behind the first
+abbrev pub endsIn : ℕ → List ℕ → Index → List ℕ
+endsIn w s i = offsetsIn w (i .cells) (drop (i .index + w) s)
+
+-- it lies within the bytes, as its data does, and the ends never fall from 0
 pub record IndexWithin (w : ℕ) (s : List ℕ) (i : Index) : Type 0 where
   pub index-room : i .index + (w + i .cells * w) ≤ length s
   pub data-room : i .from + i .last ≤ length s
-  pub rising : RisingFrom (i .first) (offsetsIn w (i .cells) (drop (i .index + w) s))
-  pub last-is : i .last ≡ lastFrom (i .first) (offsetsIn w (i .cells) (drop (i .index + w) s))
+  pub rising : RisingFrom 0 (endsIn w s i)
+  pub last-is : i .last ≡ lastFrom 0 (endsIn w s i)

@@ -1,5 +1,5 @@
--- What a walk that was not refused stands for: the masks as they are stored, by position, and the cells that they and the values make.
--- mf is how the masks lie.
+-- docs/SPEC.md, S4.7 and S4.8, by positions in the stored bytes (Reading's `read-walked`): what a walk that was not refused stands for. The
+-- masks as they are stored, and the cells that they and the values make. mf is how the masks lie.
 -- Assumes nothing.
 use Prim.Native.Nat.{ℕ, zero, suc, _+_, _≤_}
 use mathlib.Core.Path.{_≡_}
@@ -13,7 +13,6 @@ use Rattle.codec.specs.Mask.{MaskForm}
 use Rattle.codec.specs.Frame.{countSet, expand}
 use Rattle.codec.specs.Spread.{placed, innermostPlane}
 use Rattle.mask.specs.Marks.{storedMask, saidMask}
-use Rattle.stored.specs.Walk.{Innermost, valuesAt, noneSet}
 
 -- the mask bytes that the frame of n cells at `at` says
 abbrev pub maskIn : MaskForm → List ℕ → ℕ → ℕ → List ℕ
@@ -33,10 +32,14 @@ unfoldable pub cellsFrom : MaskForm → Value → (d : ℕ) → List ℕ → ℕ
 cellsFrom mf z zero s at n vs = vs
 cellsFrom mf z (suc d) s at n vs = expand (blank z d) (maskIn mf s at n) (cellsFrom mf z d s (contentAt mf at n) (countSet (maskIn mf s at n)) vs)
 
--- what a frame's reader answers, by where its innermost content lies
-abbrev pub answerBy : MaskForm → Value → (List ℕ → ℕ → Answer (List Value)) → (d : ℕ) → List ℕ → ℕ → ℕ → Innermost → Answer (List (Cell d))
-answerBy mf z r d s at n (valuesAt a k) = andThen (r (drop a s) k) (λ vs. gives (cellsFrom mf z d s at n vs))
-answerBy mf z r d s at n noneSet = gives (cellsFrom mf z d s at n [])
+-- the values of the innermost content of so many cells, which r reads
+abbrev pub innermostBy : (ℕ → Answer (List Value)) → ℕ → Answer (List Value)
+innermostBy r zero = gives []
+innermostBy r (suc k) = r (suc k)
+
+-- what a frame's reader answers, by where its innermost content begins and how many cells it has
+abbrev pub answerBy : MaskForm → Value → (List ℕ → ℕ → Answer (List Value)) → (d : ℕ) → List ℕ → ℕ → ℕ → ℕ × ℕ → Answer (List (Cell d))
+answerBy mf z r d s at n i = andThen (innermostBy (r (drop (i .0) s)) (i .1)) (λ vs. gives (cellsFrom mf z d s at n vs))
 
 -- the planes below the plane p, laid end to end
 unfoldable pub planesBelow : MaskForm → List ℕ → ℕ → List ℕ → ℕ → ℕ → List ℕ

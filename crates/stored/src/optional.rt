@@ -16,10 +16,9 @@ ghost use Rattle.codec.specs.Mask.{maskForm};
 ghost use Rattle.mask.specs.Marks.{toldCounted};
 ghost use Rattle.stored.specs.Walk.{opened, walked, walkedFrame, toldWalk};
 
-// The innermost content: where it starts and how many cells it has. Where a level has no cell set there is none to look at.
+// The innermost content: where it starts and how many cells it has; none where a level has no cell set.
 pub enum Walked {
     Values(usize, usize),
-    NoneSet,
     Refused(u8),
 }
 
@@ -61,7 +60,7 @@ pub fn walk_content(form: MaskForm, s: &[u8], at: usize, cells: usize, depth: us
     }
 }
 
-// Walks a frame of so many cells, with `below` levels in its content.
+// Walks a frame of so many cells, with `below` levels in its content. Where none is set its content must be empty.
 pub fn walk_frame(form: MaskForm, s: &[u8], at: usize, cells: usize, below: usize) -> Walked
     requires { ⌜ (at ≤ length (now s)) × (cells ≤ mostCells) ⌝ }
     ensures { λ r. ⌜ toldWalk r ≡ walkedFrame (maskForm (masksOf form)) below (now (s .entry)) at cells ⌝ }
@@ -70,11 +69,14 @@ pub fn walk_frame(form: MaskForm, s: &[u8], at: usize, cells: usize, below: usiz
     match frame {
         Counted::Refused(e) => Walked::Refused(e),
         Counted::Cells(set) => {
-            if set == 0 {
-                Walked::NoneSet
-            } else {
-                walk_content(form, s, at + (16 + mask_length(form, cells)), set, below)
+            let content = at + (16 + mask_length(form, cells));
+            if set > 0 {
+                return walk_content(form, s, content, set, below);
             }
+            if content != s.len() {
+                return Walked::Refused(refusal::LENGTH);
+            }
+            Walked::Values(content, 0)
         }
     }
 }

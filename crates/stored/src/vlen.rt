@@ -20,15 +20,14 @@ ghost use Rattle.array.specs.Meaning.{widthOf, placeOf};
 ghost use Rattle.array.specs.Offsets.{risingTest};
 ghost use Rattle.array.specs.Content.{sizeTest};
 ghost use Rattle.buffer.specs.Field.{fieldAt, toldField};
-ghost use Rattle.codec.specs.Ragged.{dataTest, lengthAt};
+ghost use Rattle.codec.specs.Ragged.{lengthAt};
 ghost use Rattle.stored.specs.Index.{offsetsIn, indexedBy, indexWith, foundIn, checkedIn, toldIndex};
 
-// An index that was found: how many cells it has, where it and the data lie, its first and its last offset.
+// An index that was found: how many cells it has, where it and the data lie, and its last offset.
 pub struct Index {
     pub cells: usize,
     pub index: usize,
     pub from: usize,
-    pub first: u64,
     pub last: u64,
 }
 
@@ -47,13 +46,17 @@ fn index_length(n: usize, width: IndexWidth) -> usize
     w + n * w
 }
 
-// Whether the n + 1 offsets from `at` on never fall. Two a turn: a shorter loop is as fast only where it lies within one line of 64 bytes.
-fn never_falls(s: &[u8], at: usize, n: usize, width: IndexWidth) -> bool
+// Whether the n + 1 offsets from `at` on begin at 0 and never fall. Two a turn: a shorter loop is as fast only where it lies within one
+// line of 64 bytes.
+fn rise_from_zero(s: &[u8], at: usize, n: usize, width: IndexWidth) -> bool
     requires { ⌜ at + (widthOf width + n * widthOf width) ≤ length (now s) ⌝ }
     ensures { λ r. ⌜ r ≡ risingTest (offsetsIn (widthOf width) (suc n) (drop at (now (s .entry)))) ⌝ }
 {
     let w = width_bytes(width);
     let mut prev = le_at(s, at, width);
+    if prev > 0 {
+        return false;
+    }
     let mut p = at;
     let mut left = n;
     while 1 < left {
@@ -73,16 +76,6 @@ fn never_falls(s: &[u8], at: usize, n: usize, width: IndexWidth) -> bool
         return true;
     }
     prev <= le_at(s, p + w, width)
-}
-
-// With a last offset of 0 the data is not looked at.
-fn data_fits(last: u64, count: usize) -> bool
-    ensures { λ r. ⌜ r ≡ dataTest last count ⌝ }
-{
-    if last == 0 {
-        return true;
-    }
-    last == count as u64
 }
 
 // Whether stored values have too many bytes, by their last offset.
@@ -106,17 +99,16 @@ fn check_index(
 {
     let w = width_bytes(width);
     let last = le_at(s, index + n * w, width);
-    if !data_fits(last, count) {
+    if last != count as u64 {
         return Indexed::Refused(refusal::LENGTH);
     }
-    if !never_falls(s, index, n, width) {
+    if !rise_from_zero(s, index, n, width) {
         return Indexed::Refused(refusal::FALLING);
     }
     Indexed::Found(Index {
         cells: n,
         index,
         from,
-        first: le_at(s, index, width),
         last,
     })
 }

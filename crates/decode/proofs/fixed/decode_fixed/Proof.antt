@@ -6,7 +6,7 @@ use borrow.Author.Needs.{needs}
 use Rattle.array.specs.Meaning.{orderOf, masksOf}
 use Rattle.codec.specs.Mask.{maskForm}
 use Rattle.stored.specs.Walk.{walked, toldWalk}
-use Rattle.decode.proofs.FixedLaws.{none-within, fixed-refused, fixed-none}
+use Rattle.decode.proofs.FixedLaws.{fixed-refused}
 use Rattle.decode.proofs.fixed.decode_fixed.Statement.{statement}
 use Rattle.decode.proofs.fixed.decode_fixed.Tie as tie
 
@@ -17,9 +17,6 @@ entry c = c .before .before .before .before
 
 abbrev begun : tie.After-walk-content → tie.Start
 begun c = entry (c .before .before)
-
-abbrev none : tie.After-write-fixed-arg2 → tie.After-enum-told
-none c = c .before .before
 
 abbrev found : tie.After-write-found-arg2 → tie.After-walk2
 found c = c .before .before .before
@@ -39,14 +36,6 @@ returns c =
     let a = entry (flat .before) .args in
     λ offsets. rw (flat .if1 .taken) (read .read-plain .ensures (masksOf (a .kind .masks)) (a .masks .now) offsets)
 
-write-fixed-requires : tie.Need-write-fixed-requires
-write-fixed-requires c κs =
-    let told = none c in
-    let walk = told .before .before in (
-      none-within (masksOf (begun walk .args .kind .masks)) (begun walk .args .s .now) (begun walk .pre .0) (begun walk .pre .1) (walk-is walk ∙ ap toldWalk (told .enum-told .given .1)),
-      omega (arith, walk .before .if1 .left),
-    )
-
 write-found-requires : tie.Need-write-found-requires
 write-found-requires c κs =
     let walk = found c .before .before in
@@ -56,20 +45,11 @@ returns-2 : tie.Need-returns-2
 returns-2 c =
     let walk = c .before .before .before in
     let a = begun walk .args in
-    λ offsets. rw (fixed-refused (maskForm (masksOf (a .kind .masks))) (a .size) (orderOf (a .order)) (a .kind .depth) (a .s .now) (a .n) _ (walk-is walk ∙ ap toldWalk (c .before .walk .given .1)))
+    λ offsets. rw
+    (fixed-refused (maskForm (masksOf (a .kind .masks))) (a .size) (orderOf (a .order)) (a .kind .depth) (a .s .now) (begun walk .pre .0) _ (walk-is walk ∙ ap toldWalk (c .before .walk .given .1)))
 
 returns-3 : tie.Need-returns-3
-returns-3 c =
-    let wrote = c .before .before .before .before in
-    let told = none (wrote .before) in
-    let walk = told .before .before in
-    let a = begun walk .args in
-    λ offsets. rw
-    (fixed-none (maskForm (masksOf (a .kind .masks))) (a .size) (orderOf (a .order)) (a .kind .depth) (a .s .now) (a .n) (walk-is walk ∙ ap toldWalk (told .enum-told .given .1)))
-    (wrote .write-fixed .ensures offsets)
-
-returns-4 : tie.Need-returns-4
-returns-4 c = c .before .before .before .before .write-found .ensures
+returns-3 c = c .before .before .before .before .write-found .ensures
 
 pub decode-fixed-spec : {M : Type 1} → statement M
 decode-fixed-spec =
@@ -82,13 +62,8 @@ decode-fixed-spec =
     (λ c κs. search needs)
     (λ c. search needs)
     (λ c. search needs)
-    write-fixed-requires
-    (λ c. search needs)
     write-found-requires
     returns-2
     (λ c. search needs)
     (λ c. search needs)
-    returns-3
-    (λ c. search needs)
-    (λ c. search needs)
-    returns-4)
+    returns-3)

@@ -4,7 +4,7 @@ use mathlib.Core.Path.{refl}
 use native.Mathlib.Omega.{arith}
 use borrow.Author.Needs.{needs}
 use Rattle.array.specs.Meaning.{orderOf}
-use Rattle.decode.proofs.FixedLaws.{found-inside, found-small, some-within, fixed-length, fixed-given}
+use Rattle.decode.proofs.FixedLaws.{found-passed, found-small, some-within, fixed-length, fixed-given}
 use Rattle.decode.proofs.fixed.write_found.Statement.{statement}
 use Rattle.decode.proofs.fixed.write_found.Tie as tie
 
@@ -19,7 +19,7 @@ fitting c = c .before .before .before
 -- ---- answers
 
 sub-if1 : tie.Need-sub-if1
-sub-if1 c = omega (arith, found-inside (entry c .pre .0))
+sub-if1 c = omega (arith, found-passed (entry c .pre .0) .inside)
 
 mul-if1 : tie.Need-mul-if1
 mul-if1 c = omega (arith, found-small (entry (c .before) .pre .0))

@@ -4,12 +4,13 @@ use mathlib.Core.Path.{_≡_, sym, ap, _∙_, subst}
 use Prim.Native.Nat.{ℕ, _≤_}
 use native.Mathlib.Omega.{arith}
 use borrow.Author.Needs.{needs}
+use Rattle.array.specs.Answer.{refuses}
 use Rattle.array.specs.Limits.{mostCells}
 use Rattle.array.specs.Meaning.{widthOf, placeOf}
 use Rattle.codec.specs.Mask.{maskForm}
 use Rattle.stored.specs.Index.{checkedIn, toldIndex}
 use Rattle.stored.proofs.CheckedIndex.{IndexChecked, index-checked, checked-refused}
-use Rattle.decode.proofs.RaggedLaws.{flat-wrong, flat-given}
+use Rattle.decode.proofs.RaggedLaws.{flat-is}
 use Rattle.decode.proofs.ragged.read_flat.Statement.{statement}
 use Rattle.decode.proofs.ragged.read_flat.Tie as tie
 
@@ -47,7 +48,7 @@ returns c =
     let check = c .before .before .before in
     let a = begun check .args in
     λ x masks. rw
-    (flat-wrong (maskForm x) (widthOf (a .width)) (placeOf (a .place)) (a .s .now) (a .n) _
+    (flat-is (maskForm x) (widthOf (a .width)) (placeOf (a .place)) (a .s .now) (a .n) (refuses _)
     (checked-refused (widthOf (a .width)) (placeOf (a .place)) (a .s .now) 0 (a .n) _ (check-is check ∙ ap toldIndex (c .before .checked .given .1))))
 
 returns-2 : tie.Need-returns-2
@@ -55,7 +56,7 @@ returns-2 c =
     let wrote = c .before .before .before .before in
     let here = found (wrote .before) in
     let a = begun (looked here) .args in
-    λ x masks. rw (flat-given (maskForm x) (widthOf (a .width)) (placeOf (a .place)) (a .s .now) (a .n) _ (checked-is here)) (wrote .write-flat .ensures masks)
+    λ x masks. rw (flat-is (maskForm x) (widthOf (a .width)) (placeOf (a .place)) (a .s .now) (a .n) _ (checked-is here .gave)) (wrote .write-flat .ensures masks)
 
 pub read-flat-spec : {M : Type 1} → statement M
 read-flat-spec =

@@ -2,12 +2,11 @@
 -- Assumes nothing.
 use mathlib.Core.Path.{_≡_}
 use mathlib.Core.Logic.{_≢_}
-use Prim.Native.Nat.{_+_, _-_, _*_, _≤_}
+use Prim.Native.Nat.{_+_, _-_, _*_}
 use native.Mathlib.Omega.{arith}
 use borrow.Author.Needs.{needs}
 use Rattle.planes.proofs.Levels.{times-first}
 use Rattle.decode.proofs.Small.{few-cells, planes-small}
-use Rattle.decode.proofs.RaggedLaws.{nested-first, nested-above}
 use Rattle.decode.proofs.RaggedWritten.{nested-short-masks, nested-short-values, nested-short-offsets, nested-set, nested-written}
 use Rattle.decode.proofs.ragged.write_nested.Statement.{statement}
 use Rattle.decode.proofs.ragged.write_nested.Tie as tie
@@ -17,14 +16,14 @@ use Rattle.decode.proofs.ragged.write_nested.Tie as tie
 abbrev entry : tie.After-slice-known3 → tie.Start
 entry c = c .before .before .before .before
 
-abbrev sized : tie.After-struct-known4 → tie.After-width-bytes
-sized c = c .before .before .before
+abbrev sized : tie.After-struct-known2 → tie.After-width-bytes
+sized c = c .before
 
-abbrev begun : tie.After-struct-known4 → tie.Start
+abbrev begun : tie.After-struct-known2 → tie.Start
 begun c = entry (sized c .before .before)
 
 -- all outputs are long enough
-abbrev fitting : tie.Else3 → tie.After-struct-known4
+abbrev fitting : tie.Else3 → tie.After-struct-known2
 fitting c = c .before .before .before
 
 abbrev placed : tie.After-copy-many → tie.After-place-planes
@@ -38,25 +37,16 @@ copied c = c .before .before .before .before
 deep : (c : tie.Start) → c .args .kind .depth ≢ 0
 deep c e = absurd (omega (arith, c .pre .1))
 
-rising : (c : tie.Start) → c .args .found .first ≤ c .args .found .last
-rising c = nested-first (c .pre .0) (deep c)
-
 first-is : (c : tie.Start) → c .args .kind .depth * c .args .n ≡ (c .args .kind .depth - 1) * c .args .n + c .args .n
 first-is c = times-first (c .args .kind .depth) (c .args .n) (deep c)
 
 -- ---- answers
 
-add-start : tie.Need-add-start
-add-start c = let start = entry (c .before .before .before .before) in omega (arith, rising start, start .pre .0 .index .data-room)
-
 mul-planes : tie.Need-mul-planes
 mul-planes c =
-    let start = entry (c .before .before .before .before) in
+    let start = begun c in
     let l = start .pre .0 .limits in
     omega (arith, planes-small (start .args .kind .depth) (start .args .n) (l .shallow) (l .few))
-
-sub-bytes : tie.Need-sub-bytes
-sub-bytes c = omega (arith, rising (begun c))
 
 add-count : tie.Need-add-count
 add-count c = omega (arith, few-cells (begun c .args .n) (begun c .pre .0 .limits .few))
@@ -84,7 +74,7 @@ copy-many-requires c κs =
     let planes = c .before .before .before in
     let fits = planes .before .before in
     let start = begun (fitting fits) in
-    omega (arith, rising start, start .pre .0 .index .data-room, fits .before .if2 .left)
+    omega (arith, start .pre .0 .index .data-room, fits .before .if2 .left)
 
 sub-spread-offsets : tie.Need-sub-spread-offsets
 sub-spread-offsets c = omega (arith, first-is (begun (fitting (placed (copied c) .before .before))))
@@ -101,7 +91,6 @@ spread-offsets-requires c κs =
       omega (arith, fits .if3 .left),
       nested-set (start .pre .0) (deep start) (a .masks .now) (a .values .now) (a .offsets .now) (planes .ensures),
       omega (arith, width, start .pre .0 .index .index-room),
-      nested-above (start .pre .0) (deep start) width,
     )
 
 returns-4 : tie.Need-returns-4
@@ -122,9 +111,7 @@ write-nested-spec =
     (λ c. search needs)
     (λ c κs. search needs)
     (λ c. search needs)
-    add-start
     mul-planes
-    sub-bytes
     add-count
     returns
     returns-2

@@ -5,23 +5,21 @@ use Prim.Native.Nat.{ℕ, _+_, _*_, _-_, _≤_, _<_}
 use native.Mathlib.Omega.{arith}
 use lib.ListN.{length, take, drop, getD}
 use borrow.Author.Needs.{needs}
-use Rattle.array.specs.Lists.{All}
 use Rattle.array.specs.Bytes.{unle}
 use Rattle.array.specs.Buffers.{over}
 use Rattle.array.specs.Cells.{markOf}
 use Rattle.array.specs.Meaning.{toldMark}
-use Rattle.stored.specs.Index.{offsetsIn}
 use Rattle.spread.specs.Next.{ifSet}
 use Rattle.spread.proofs.PlaneLaws.{planeAt, plane-length, plane-byte, next-most, next-within}
-use Rattle.spread.proofs.SpreadingOffsets.{SpreadingOffsets, endsOf, ends-begin, ends-same, ends-room, ends-end, ends-inside, ends-above, ends-more}
+use Rattle.spread.proofs.SpreadingOffsets.{SpreadingOffsets, endsOf, ends-begin, ends-same, ends-room, ends-end, ends-inside, ends-more}
 use Rattle.spread.proofs.offsets.spread_offsets.Statement.{statement}
 use Rattle.spread.proofs.offsets.spread_offsets.Tie as tie
 
 abbrev Inv-loop : tie.InvT-loop
-Inv-loop offsets₀ masks from n s at width first cells w end₀ i₀ k₀ offsets end i k = SpreadingOffsets w first (planeAt from n masks) s offsets₀ at cells offsets end i k
+Inv-loop offsets₀ masks from n s at width cells w end₀ i₀ k₀ offsets end i k = SpreadingOffsets w (planeAt from n masks) s offsets₀ at cells offsets end i k
 
 abbrev μ-loop : tie.MeasureT-loop
-μ-loop offsets₀ masks from n s at width first cells w end₀ i₀ k₀ offsets end i k = n - i
+μ-loop offsets₀ masks from n s at width cells w end₀ i₀ k₀ offsets end i k = n - i
 
 long : (c : tie.Start Inv-loop μ-loop) → length (planeAt (c .args .from) (c .args .n) (c .args .masks .now)) ≡ c .args .n
 long c = plane-length (c .args .from) (c .args .n) (c .args .masks .now) (c .pre .0)
@@ -56,9 +54,8 @@ loop-holds c =
     let w = c .width-bytes in
     let args = c .before .before .before .before .args in
     let pre = c .before .before .before .before .pre in
-    ends-begin (w .result) (args .first) (planeAt (args .from) (args .n) (args .masks .now)) (args .s .now) (args .offsets .now) (args .at) (args .cells) (pre .2)
+    ends-begin (w .result) (planeAt (args .from) (args .n) (args .masks .now)) (args .s .now) (args .offsets .now) (args .at) (args .cells) (pre .2)
     (subst (λ (w : ℕ). args .at + args .cells * w ≤ length (args .s .now)) (sym (w .ensures)) (pre .3))
-    (subst (λ (w : ℕ). All (λ o. args .first ≤ o) (offsetsIn w (args .cells) (drop (args .at) (args .s .now)))) (sym (w .ensures)) (pre .4))
     (omega (arith, (long (c .before .before .before .before)), pre .1))
 
 mul-offsets : tie.Need-mul-offsets Inv-loop μ-loop
@@ -85,9 +82,6 @@ shared-slice-read-mark-of c = omega (arith, (inside (c .before .before)), (long 
 mark-of-requires : tie.Need-mark-of-requires Inv-loop μ-loop
 mark-of-requires c κs = search needs
 
-sub-number-if : tie.Need-sub-number-if Inv-loop μ-loop
-sub-number-if c = omega (arith, (end-is (c .before .before)), ends-above (c .before .before .before .before .loop .inv) (c .before .before .before .loop-test .taken))
-
 number-if-requires : tie.Need-number-if-requires Inv-loop μ-loop
 number-if-requires c κs = search needs
 
@@ -104,7 +98,7 @@ loop-again : tie.Need-loop-again Inv-loop μ-loop
 loop-again c =
     let loop = c .before .before .before .before .before .before .loop in
     rw (c .skip .ensures) (ends-more (loop .inv) (c .before .before .before .before .before .loop-test .taken) (toldMark (c .before .before .mark-of .result)) (mark-is (c .before .before)) (c .before .number-if .result)
-    (c .before .number-if .ensures ∙ ap (λ (e : ℕ). ifSet (toldMark (c .before .before .mark-of .result)) (e - c .before .before .before .before .before .before .before .before .before .before .before .args .first) (loop .end)) (end-is (c .before .before .before .before))))
+    (c .before .number-if .ensures ∙ ap (λ (e : ℕ). ifSet (toldMark (c .before .before .mark-of .result)) e (loop .end)) (end-is (c .before .before .before .before))))
 
 add-fill-ends : tie.Need-add-fill-ends Inv-loop μ-loop
 add-fill-ends c = omega (arith, c .before .before .before .before .before .before .before .pre .1)
@@ -122,7 +116,7 @@ returns : tie.Need-returns Inv-loop μ-loop
 returns c =
     let args = c .before .before .before .before .before .before .before .before .before .before .args in
     ends-end (c .before .before .before .before .before .loop .inv) (c .before .before .before .before .loop-test .left) (args .n) (long (c .before .before .before .before .before .before .before .before .before .before)) _ (c .before .before .fill-ends .ensures)
-    ∙ ap (λ (w : ℕ). over (endsOf w (args .first) (planeAt (args .from) (args .n) (args .masks .now)) (args .s .now) (args .at)) (args .offsets .now)) (c .before .before .before .before .before .before .width-bytes .ensures)
+    ∙ ap (λ (w : ℕ). over (endsOf w (planeAt (args .from) (args .n) (args .masks .now)) (args .s .now) (args .at)) (args .offsets .now)) (c .before .before .before .before .before .before .width-bytes .ensures)
 
 pub spread-offsets-spec : {M : Type 1} → statement M
 spread-offsets-spec =
@@ -140,7 +134,6 @@ spread-offsets-spec =
     add-mark-of
     shared-slice-read-mark-of
     mark-of-requires
-    sub-number-if
     number-if-requires
     skip-requires
     add-i

@@ -3,9 +3,9 @@
 -- Assumes nothing.
 use mathlib.Core.Path.{_≡_, sym, ap, _∙_}
 use mathlib.Core.List.{List}
-use Prim.Native.Nat.{_+_, _*_, ℕ, _<_}
+use Prim.Native.Nat.{_+_, _*_, ℕ, _≤_, _<_}
 use native.Mathlib.Omega.{arith}
-use lib.ListN.{drop, length-drop}
+use lib.ListN.{length, drop, length-drop}
 use borrow.Author.Needs.{needs}
 use borrow.Fn.Kinds.{In}
 use borrow.Fn.PlainCycle.{Measures, is, falls, and}
@@ -15,7 +15,8 @@ use Rattle.array.specs.Meaning.{masksOf}
 use Rattle.codec.specs.Mask.{maskForm}
 use Rattle.mask.specs.Marks.{toldCounted}
 use Rattle.stored.specs.Walk.{opened}
-use Rattle.stored.proofs.Opening.{FrameOpen, frame-open, content-end, content-frame, frame-refused, frame-none, frame-content}
+use Rattle.stored.specs.Stored.{contentAt}
+use Rattle.stored.proofs.Opening.{FrameOpen, frame-open, content-end, content-frame, frame-refused, frame-content, frame-hidden, frame-none}
 use Rattle.stored.proofs.optional.walk_content.Reads as walk-content
 use Rattle.stored.proofs.optional.walk_content.Kinds as walk-content-kinds
 use Rattle.stored.proofs.optional.+walk_content+walk_frame.Lts-walk_content as walk-content-lts
@@ -117,43 +118,53 @@ walk-frame-enum-known-frame-2 t c = search needs
 walk-frame-mask-length-requires : (t : ℕ) → walk-frame-lts.Need-mask-length-requires (claims-walk-frame t) (walk-frame-at t) walk-frame.Post
 walk-frame-mask-length-requires t c κs = search needs
 
-walk-frame-add-walk-content : (t : ℕ) → walk-frame-lts.Need-add-walk-content (claims-walk-frame t) (walk-frame-at t) walk-frame.Post
-walk-frame-add-walk-content t c =
-    let k = c .before .before in
-    let s = start t k in
-    omega (arith, inside t k .room, length-drop (s .args .at) (bytes t s), c .mask-length .ensures)
+-- where the content begins
+abbrev Placed : ℕ → Type 0
+Placed t = walk-frame-lts.After-mask-length (claims-walk-frame t) (walk-frame-at t) walk-frame.Post
 
-walk-frame-add-walk-content-2 : (t : ℕ) → walk-frame-lts.Need-add-walk-content-2 (claims-walk-frame t) (walk-frame-at t) walk-frame.Post
-walk-frame-add-walk-content-2 t c =
-    let k = c .before .before in
-    let s = start t k in
-    omega (arith, inside t k .room, length-drop (s .args .at) (bytes t s), c .mask-length .ensures)
+content-is : (t : ℕ) (m : Placed t) → let s = start t (m .before) in s .args .at + (16 + m .mask-length .result) ≡ contentAt (maskForm (masks t s)) (s .args .at) (s .args .cells)
+content-is t m = let s = start t (m .before) in ap (λ (j : ℕ). s .args .at + (16 + j)) (m .mask-length .ensures)
+
+content-room : (t : ℕ) (m : Placed t) → let s = start t (m .before) in s .args .at + (16 + m .mask-length .result) ≤ length (bytes t s)
+content-room t m =
+    let s = start t (m .before) in
+    omega (arith, content-is t m, inside t (m .before) .room, length-drop (s .args .at) (bytes t s))
+
+walk-frame-add-content : (t : ℕ) → walk-frame-lts.Need-add-content (claims-walk-frame t) (walk-frame-at t) walk-frame.Post
+walk-frame-add-content t c = omega (arith, content-room t c)
+
+walk-frame-add-content-2 : (t : ℕ) → walk-frame-lts.Need-add-content-2 (claims-walk-frame t) (walk-frame-at t) walk-frame.Post
+walk-frame-add-content-2 t c = omega (arith, content-room t c)
 
 walk-frame-walk-content-requires : (t : ℕ) → walk-frame-lts.Need-walk-content-requires (claims-walk-frame t) (walk-frame-at t) walk-frame.Post
-walk-frame-walk-content-requires t c κs =
-    let k = c .before .before in
-    let s = start t k in
-    omega (arith, inside t k .room, inside t k .few, length-drop (s .args .at) (bytes t s), c .mask-length .ensures)
+walk-frame-walk-content-requires t c κs = omega (arith, content-room t (c .before), inside t (c .before .before) .few)
 
 walk-frame-returns : (t : ℕ) → walk-frame-lts.Need-returns (claims-walk-frame t) (walk-frame-at t) walk-frame.Post
 walk-frame-returns t c =
+    let m = c .before .before in
+    let s = start t (m .before) in
+    c .walk-content .ensures
+    ∙ frame-content (maskForm (masks t s)) (s .args .below) (bytes t s) (s .args .at) (s .args .cells) _ (opened-is t (m .before)) _ (content-is t m) (omega (arith, c .before .if1 .taken))
+
+walk-frame-returns-2 : (t : ℕ) → walk-frame-lts.Need-returns-2 (claims-walk-frame t) (walk-frame-at t) walk-frame.Post
+walk-frame-returns-2 t c =
+    let m = c .before .before in
+    let s = start t (m .before) in
+    frame-hidden (maskForm (masks t s)) (s .args .below) (bytes t s) (s .args .at) (s .args .cells) _ (opened-is t (m .before)) _ (content-is t m) (omega (arith, c .before .if1 .left))
+    (λ e. absurd (omega (arith, content-room t m, c .if2 .taken)))
+
+walk-frame-returns-3 : (t : ℕ) → walk-frame-lts.Need-returns-3 (claims-walk-frame t) (walk-frame-at t) walk-frame.Post
+walk-frame-returns-3 t c =
     let o = c .before .before .before in
     let s = begun t o in
     frame-refused (maskForm (masks t s)) (s .args .below) (bytes t s) (s .args .at) (s .args .cells) _ (sym (o .open-frame .ensures) ∙ ap toldCounted (c .before .frame .given .1))
 
-walk-frame-returns-2 : (t : ℕ) → walk-frame-lts.Need-returns-2 (claims-walk-frame t) (walk-frame-at t) walk-frame.Post
-walk-frame-returns-2 t c =
-    let k = c .before in
-    let s = start t k in
-    frame-none (maskForm (masks t s)) (s .args .below) (bytes t s) (s .args .at) (s .args .cells) _ (opened-is t k) (c .if1 .taken)
-
-walk-frame-returns-3 : (t : ℕ) → walk-frame-lts.Need-returns-3 (claims-walk-frame t) (walk-frame-at t) walk-frame.Post
-walk-frame-returns-3 t c =
-    let e = c .before .before in
-    let k = e .before in
-    let s = start t k in
-    c .walk-content .ensures
-    ∙ frame-content (maskForm (masks t s)) (s .args .below) (bytes t s) (s .args .at) (s .args .cells) _ _ (opened-is t k) (e .if1 .left) (c .before .mask-length .ensures)
+walk-frame-returns-4 : (t : ℕ) → walk-frame-lts.Need-returns-4 (claims-walk-frame t) (walk-frame-at t) walk-frame.Post
+walk-frame-returns-4 t c =
+    let m = c .before .before in
+    let s = start t (m .before) in
+    frame-none (maskForm (masks t s)) (s .args .below) (bytes t s) (s .args .at) (s .args .cells) _ (opened-is t (m .before)) _ (content-is t m) (omega (arith, c .before .if1 .left))
+    (omega (arith, c .if2 .left))
 
 pub +walk-content+walk-frame-spec : {M : Type 1} → statement M
 +walk-content+walk-frame-spec = close μ-walk-content μ-walk-frame (λ t. walk-content-lts.spec (claims-walk-content t) (walk-content-at t) walk-content.Post
@@ -166,9 +177,10 @@ pub +walk-content+walk-frame-spec : {M : Type 1} → statement M
     (walk-frame-enum-known-frame t)
     (walk-frame-enum-known-frame-2 t)
     (walk-frame-mask-length-requires t)
-    (walk-frame-add-walk-content t)
-    (walk-frame-add-walk-content-2 t)
+    (walk-frame-add-content t)
+    (walk-frame-add-content-2 t)
     (walk-frame-walk-content-requires t)
     (walk-frame-returns t)
     (walk-frame-returns-2 t)
     (walk-frame-returns-3 t)
+    (walk-frame-returns-4 t)

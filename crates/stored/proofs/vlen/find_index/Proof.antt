@@ -20,7 +20,7 @@ use Rattle.stored.proofs.CheckedIndex.{index-within, data-within}
 use Rattle.stored.proofs.vlen.find_index.Statement.{statement}
 use Rattle.stored.proofs.vlen.find_index.Tie as tie
 
--- where the function starts: the width and the place of the index, all bytes and those from `at` on, and what is told of a span
+-- where the function starts: the width and the place of the index, all bytes and those from `at` on, and what is told of a last offset
 abbrev width : tie.Start → ℕ
 width s = widthOf (s .args .width)
 
@@ -36,7 +36,7 @@ left s = length (bytes s) - s .args .at
 abbrev lies : tie.Start → ℕ
 lies s = s .args .at + lengthAt (place s) (left s)
 
-abbrev told : tie.Start → Answer (ℕ × ℕ) → Answer Index
+abbrev told : tie.Start → Answer ℕ → Answer Index
 told s a = mapAnswer (located (width s) (place s) (bytes s) (s .args .at) (s .args .n)) a
 
 -- an index length was read

@@ -1,4 +1,4 @@
--- `never_falls` meets its contract. The invariant, Rises: the test of all offsets is the test of those that are left.
+-- `rise_from_zero` meets its contract. The invariant, Rises: the test of all offsets is the test of those that are left.
 -- Assumes nothing.
 use mathlib.Core.Path.{_≡_, sym, ap, _∙_, subst}
 use mathlib.Core.Bool.{Bool}
@@ -10,9 +10,9 @@ use borrow.Author.Needs.{needs}
 use Rattle.array.specs.Bytes.{unle}
 use Rattle.array.specs.Offsets.{risingTest}
 use Rattle.stored.specs.Index.{offsetsIn}
-use Rattle.stored.proofs.IndexLaws.{Rises, rises-start, rises-room, rises-falls, rises-more, rises-last, rises-end}
-use Rattle.stored.proofs.vlen.never_falls.Statement.{statement}
-use Rattle.stored.proofs.vlen.never_falls.Tie as tie
+use Rattle.stored.proofs.IndexLaws.{Rises, rises-not, rises-start, rises-room, rises-falls, rises-more, rises-last, rises-end}
+use Rattle.stored.proofs.vlen.rise_from_zero.Statement.{statement}
+use Rattle.stored.proofs.vlen.rise_from_zero.Tie as tie
 
 abbrev Inv-loop : tie.InvT-loop
 Inv-loop s at n width w prev₀ p₀ left₀ prev p left = Rises w n s at prev p left
@@ -32,11 +32,20 @@ bytes b = b .before .before .args .s .now
 abbrev tested : Wide → ℕ → Bool
 tested b w = let a = b .before .before .args in risingTest (offsetsIn w (suc (a .n)) (drop (a .at) (bytes b)))
 
+-- the first offset was read
+abbrev Begun : Type 0
+Begun = tie.After-le-at Inv-loop μ-loop
+
+first-is : (f : Begun) → let b = f .before in f .le-at .result ≡ unle (take (b .width-bytes .result) (drop (b .before .before .args .at) (bytes b)))
+first-is f =
+    let b = f .before in
+    f .le-at .ensures ∙ ap (λ (x : ℕ). unle (take x (drop (b .before .before .args .at) (bytes b)))) (sym (b .width-bytes .ensures))
+
 abbrev Head : Type 0
 Head = tie.At-loop Inv-loop μ-loop
 
 abbrev wide : Head → Wide
-wide l = l .before .before
+wide l = l .before .before .before
 
 abbrev width : Head → ℕ
 width l = wide l .width-bytes .result
@@ -60,14 +69,14 @@ next-is k =
 
 -- the turn's first offset does not fall
 abbrev First : Type 0
-First = tie.Else1 Inv-loop μ-loop
+First = tie.Else2 Inv-loop μ-loop
 
 abbrev turn : First → Turn
 turn f = f .before .before
 
 first : (f : First) → let l = turn f .before in let a = wide l .before .before .args in
     Rises (width l) (a .n) (bytes (wide l)) (a .at) (f .before .le-at2 .result) (l .loop .p + width l) (l .loop .left - 1)
-first f = rises-more (turn f .before .loop .inv) (some (turn f)) _ (next-is (f .before)) (f .if1 .left)
+first f = rises-more (turn f .before .loop .inv) (some (turn f)) _ (next-is (f .before)) (f .if2 .left)
 
 more : (f : First) → 0 < turn f .before .loop .left - 1
 more f = omega (arith, turn f .loop-test .taken)
@@ -86,7 +95,7 @@ second-is m =
 
 -- one offset is left behind the loop
 abbrev Last : Type 0
-Last = tie.Else3 Inv-loop μ-loop
+Last = tie.Else4 Inv-loop μ-loop
 
 abbrev end : Last → Head
 end e = e .before .before
@@ -103,14 +112,19 @@ width-bytes-requires c κs = search needs
 le-at-requires : tie.Need-le-at-requires Inv-loop μ-loop
 le-at-requires c κs = omega arith
 
+returns : tie.Need-returns Inv-loop μ-loop
+returns c =
+    let b = c .before .before in
+    let a = b .before .before .args in
+    rises-not (b .width-bytes .result) (a .n) (bytes b) (a .at) _ (first-is (c .before)) (omega (arith, c .if1 .taken)) ∙ ap (tested b) (b .width-bytes .ensures)
+
 loop-holds : tie.Need-loop-holds Inv-loop μ-loop
 loop-holds c =
-    let b = c .before in
+    let b = c .before .before in
     let s = b .before .before in
     let a = s .args in
-    let w-is = sym (b .width-bytes .ensures) in
-    rises-start (b .width-bytes .result) (a .n) (bytes b) (a .at) _ (subst (λ (x : ℕ). a .at + (x + a .n * x) ≤ length (bytes b)) w-is (s .pre))
-    (c .le-at .ensures ∙ ap (λ (x : ℕ). unle (take x (drop (a .at) (bytes b)))) w-is)
+    rises-start (b .width-bytes .result) (a .n) (bytes b) (a .at) _ (first-is (c .before)) (omega (arith, c .if1 .left))
+    (subst (λ (x : ℕ). a .at + (x + a .n * x) ≤ length (bytes b)) (sym (b .width-bytes .ensures)) (s .pre))
 
 add-p : tie.Need-add-p Inv-loop μ-loop
 add-p c = omega (arith, room c)
@@ -118,12 +132,12 @@ add-p c = omega (arith, room c)
 le-at-requires-2 : tie.Need-le-at-requires-2 Inv-loop μ-loop
 le-at-requires-2 c κs = omega (arith, room c, wide (c .before) .width-bytes .ensures)
 
-returns : tie.Need-returns Inv-loop μ-loop
-returns c =
+returns-2 : tie.Need-returns-2 Inv-loop μ-loop
+returns-2 c =
     let k = c .before in
     let u = k .before in
     let b = wide (u .before) in
-    rises-falls (u .before .loop .inv) (some u) _ (next-is k) (c .if1 .taken) ∙ ap (tested b) (b .width-bytes .ensures)
+    rises-falls (u .before .loop .inv) (some u) _ (next-is k) (c .if2 .taken) ∙ ap (tested b) (b .width-bytes .ensures)
 
 add-p-2 : tie.Need-add-p-2 Inv-loop μ-loop
 add-p-2 c = omega (arith, room-2 c)
@@ -131,11 +145,11 @@ add-p-2 c = omega (arith, room-2 c)
 le-at-requires-3 : tie.Need-le-at-requires-3 Inv-loop μ-loop
 le-at-requires-3 c κs = omega (arith, room-2 c, wide (turn c .before) .width-bytes .ensures)
 
-returns-2 : tie.Need-returns-2 Inv-loop μ-loop
-returns-2 c =
+returns-3 : tie.Need-returns-3 Inv-loop μ-loop
+returns-3 c =
     let m = c .before in
     let b = wide (turn (m .before) .before) in
-    rises-falls (first (m .before)) (more (m .before)) _ (second-is m) (c .if2 .taken) ∙ ap (tested b) (b .width-bytes .ensures)
+    rises-falls (first (m .before)) (more (m .before)) _ (second-is m) (c .if3 .taken) ∙ ap (tested b) (b .width-bytes .ensures)
 
 sub-left : tie.Need-sub-left Inv-loop μ-loop
 sub-left c = omega (arith, turn (c .before .before) .loop-test .taken)
@@ -150,12 +164,12 @@ loop-again c =
     let a = wide l .before .before .args in
     let two : l .loop .left - 1 - 1 ≡ l .loop .left - 2 = omega arith in
     subst (Rises (width l) (a .n) (bytes (wide l)) (a .at) (m .le-at3 .result) (l .loop .p + width l + width l)) two
-    (rises-more (first (m .before)) (more (m .before)) _ (second-is m) (c .if2 .left))
+    (rises-more (first (m .before)) (more (m .before)) _ (second-is m) (c .if3 .left))
 
-returns-3 : tie.Need-returns-3 Inv-loop μ-loop
-returns-3 c =
+returns-4 : tie.Need-returns-4 Inv-loop μ-loop
+returns-4 c =
     let l = c .before .before in
-    rises-end (l .loop .inv) (c .if3 .taken) ∙ ap (tested (wide l)) (wide l .width-bytes .ensures)
+    rises-end (l .loop .inv) (c .if4 .taken) ∙ ap (tested (wide l)) (wide l .width-bytes .ensures)
 
 add-le-at : tie.Need-add-le-at Inv-loop μ-loop
 add-le-at c = omega (arith, last-room c)
@@ -163,32 +177,33 @@ add-le-at c = omega (arith, last-room c)
 le-at-requires-4 : tie.Need-le-at-requires-4 Inv-loop μ-loop
 le-at-requires-4 c κs = omega (arith, last-room c, wide (end c) .width-bytes .ensures)
 
-returns-4 : tie.Need-returns-4 Inv-loop μ-loop
-returns-4 c =
+returns-5 : tie.Need-returns-5 Inv-loop μ-loop
+returns-5 c =
     let l = end (c .before) in
     let last-is : c .le-at4 .result ≡ unle (take (width l) (drop (l .loop .p + width l) (bytes (wide l)))) =
     c .le-at4 .ensures ∙ ap (λ (x : ℕ). unle (take x (drop (l .loop .p + width l) (bytes (wide l))))) (sym (wide l .width-bytes .ensures)) in
     rises-last (l .loop .inv) (omega (arith, one (c .before))) _ last-is (one (c .before)) ∙ ap (tested (wide l)) (wide l .width-bytes .ensures)
 
-pub never-falls-spec : {M : Type 1} → statement M
-never-falls-spec =
+pub rise-from-zero-spec : {M : Type 1} → statement M
+rise-from-zero-spec =
     tie.close
     (tie.spec
     Inv-loop
     μ-loop
     width-bytes-requires
     le-at-requires
+    returns
     loop-holds
     add-p
     le-at-requires-2
-    returns
+    returns-2
     add-p-2
     le-at-requires-3
-    returns-2
+    returns-3
     sub-left
     loop-less
     loop-again
-    returns-3
+    returns-4
     add-le-at
     le-at-requires-4
-    returns-4)
+    returns-5)
