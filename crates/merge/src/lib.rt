@@ -21,7 +21,6 @@ fn store_chunks(
     kind: Kind,
     cells: usize,
     count: usize,
-    bytes: usize,
     shape: &[u64],
     subsets: &[u64],
     masks: &[u8],
@@ -31,7 +30,7 @@ fn store_chunks(
     out_values: &mut [u8],
     out_offsets: &mut [u64],
 ) -> WrittenArray
-    requires { ⌜ MergeAsked (inBytes (kindOf kind)) (now shape) (now subsets) (contentArray (now masks) (now values) (now offsets)) (record { cells = cells; count = count; bytes = bytes }) ⌝ }
+    requires { ⌜ MergeAsked (inBytes (kindOf kind)) (now shape) (now subsets) (contentArray (now masks) (now values) (now offsets)) (record { cells = cells; count = count }) ⌝ }
     ensures { λ r. ⌜ outcomeArray r (now («out_masks» .exit)) (now («out_values» .exit)) (now («out_offsets» .exit))
         ≡ contentOutcome (storeAnswer (inBytes (kindOf kind)) (now (shape .entry)) (nextSubsets (length (now (shape .entry))) count (now (subsets .entry)))
         (contentArray (now (masks .entry)) (now (values .entry)) (now (offsets .entry)))
@@ -40,6 +39,7 @@ fn store_chunks(
 {
     let depth = kind.depth as usize;
     let mask_bytes = depth * cells;
+    let bytes = values.len();
     if out_masks.len() < mask_bytes {
         return WrittenArray::Refused(refusal::OUTPUT);
     }
@@ -89,7 +89,6 @@ fn store_covering(
     kind: Kind,
     cells: usize,
     count: usize,
-    bytes: usize,
     shape: &[u64],
     subsets: &[u64],
     masks: &[u8],
@@ -99,7 +98,7 @@ fn store_covering(
     out_values: &mut [u8],
     out_offsets: &mut [u64],
 ) -> WrittenArray
-    requires { ⌜ MergeChecked (inBytes (kindOf kind)) (now shape) (now subsets) (contentArray (now masks) (now values) (now offsets)) (record { cells = cells; count = count; bytes = bytes }) ⌝ }
+    requires { ⌜ MergeChecked (inBytes (kindOf kind)) (now shape) (now subsets) (contentArray (now masks) (now values) (now offsets)) (record { cells = cells; count = count }) ⌝ }
     ensures { λ r. ⌜ outcomeArray r (now («out_masks» .exit)) (now («out_values» .exit)) (now («out_offsets» .exit))
         ≡ contentOutcome (coverAnswer (inBytes (kindOf kind)) (now (shape .entry)) (nextSubsets (length (now (shape .entry))) count (now (subsets .entry)))
         (contentArray (now (masks .entry)) (now (values .entry)) (now (offsets .entry)))
@@ -113,7 +112,6 @@ fn store_covering(
         kind,
         cells,
         count,
-        bytes,
         shape,
         subsets,
         masks,
@@ -144,11 +142,10 @@ pub fn merge(
 {
     match rules::check_merge(kind, shape, subsets, masks, values, offsets) {
         Checks::Refused(e) => WrittenArray::Refused(e),
-        Checks::Passed(cells, count, bytes) => store_covering(
+        Checks::Passed(cells, count) => store_covering(
             kind,
             cells,
             count,
-            bytes,
             shape,
             subsets,
             masks,
