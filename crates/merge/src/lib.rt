@@ -7,7 +7,6 @@ use rules::Checks;
 ghost use mathlib.Core.Path.{_≡_};
 ghost use lib.ListN.{length};
 ghost use Rattle.array.specs.Meaning.{kindOf};
-ghost use Rattle.chunks.proofs.Idle.{inBytes};
 ghost use Rattle.array.specs.Rows.{nextSubsets};
 ghost use Rattle.array.specs.Buffers.{lengthsOf, contentOutcome};
 ghost use Rattle.array.specs.Outcome.{contentArray, outcomeArray};
@@ -30,9 +29,9 @@ fn store_chunks(
     out_values: &mut [u8],
     out_offsets: &mut [u64],
 ) -> WrittenArray
-    requires { ⌜ MergeAsked (inBytes (kindOf kind)) (now shape) (now subsets) (contentArray (now masks) (now values) (now offsets)) (record { cells = cells; count = count }) ⌝ }
+    requires { ⌜ MergeAsked (kindOf kind) (now shape) (now subsets) (contentArray (now masks) (now values) (now offsets)) (record { cells = cells; count = count }) ⌝ }
     ensures { λ r. ⌜ outcomeArray r (now («out_masks» .exit)) (now («out_values» .exit)) (now («out_offsets» .exit))
-        ≡ contentOutcome (storeAnswer (inBytes (kindOf kind)) (now (shape .entry)) (nextSubsets (length (now (shape .entry))) count (now (subsets .entry)))
+        ≡ contentOutcome (storeAnswer (kindOf kind) (now (shape .entry)) (nextSubsets (length (now (shape .entry))) count (now (subsets .entry)))
         (contentArray (now (masks .entry)) (now (values .entry)) (now (offsets .entry)))
         (lengthsOf (contentArray (now («out_masks» .entry)) (now («out_values» .entry)) (now («out_offsets» .entry)))))
         (contentArray (now («out_masks» .entry)) (now («out_values» .entry)) (now («out_offsets» .entry))) ⌝ }
@@ -98,9 +97,9 @@ fn store_covering(
     out_values: &mut [u8],
     out_offsets: &mut [u64],
 ) -> WrittenArray
-    requires { ⌜ MergeChecked (inBytes (kindOf kind)) (now shape) (now subsets) (contentArray (now masks) (now values) (now offsets)) (record { cells = cells; count = count }) ⌝ }
+    requires { ⌜ MergeChecked (kindOf kind) (now shape) (now subsets) (contentArray (now masks) (now values) (now offsets)) (record { cells = cells; count = count }) ⌝ }
     ensures { λ r. ⌜ outcomeArray r (now («out_masks» .exit)) (now («out_values» .exit)) (now («out_offsets» .exit))
-        ≡ contentOutcome (coverAnswer (inBytes (kindOf kind)) (now (shape .entry)) (nextSubsets (length (now (shape .entry))) count (now (subsets .entry)))
+        ≡ contentOutcome (coverAnswer (kindOf kind) (now (shape .entry)) (nextSubsets (length (now (shape .entry))) count (now (subsets .entry)))
         (contentArray (now (masks .entry)) (now (values .entry)) (now (offsets .entry)))
         (lengthsOf (contentArray (now («out_masks» .entry)) (now («out_values» .entry)) (now («out_offsets» .entry)))))
         (contentArray (now («out_masks» .entry)) (now («out_values» .entry)) (now («out_offsets» .entry))) ⌝ }

@@ -10,7 +10,6 @@ ghost use lib.ListN.{length};
 ghost use Rattle.array.specs.Limits.{mostCells};
 ghost use Rattle.array.specs.Meaning.{formOf, kindOf};
 ghost use Rattle.array.specs.Outcome.{contentArray};
-ghost use Rattle.chunks.proofs.Idle.{inBytes};
 ghost use Rattle.array.specs.Rows.{nextSubsets};
 ghost use Rattle.cover.specs.Asked.{SubsetsOk};
 ghost use Rattle.merge.specs.Chunks.{sizeAnswer, chunkAnswer, chunksTest, toldChunk};
@@ -41,7 +40,7 @@ fn chunk_size(form: Values, cells: usize, offsets: &[u64]) -> Chunk
 // The first of the chunks that are left, of `cells` cells: what it takes, where it keeps the array's rules.
 fn check_chunk(kind: Kind, cells: usize, masks: &[u8], values: &[u8], offsets: &[u64]) -> Chunk
     requires { ⌜ cells ≤ mostCells ⌝ }
-    ensures { λ r. ⌜ toldChunk r ≡ chunkAnswer (inBytes (kindOf kind)) cells (contentArray (now (masks .entry)) (now (values .entry)) (now (offsets .entry))) ⌝ }
+    ensures { λ r. ⌜ toldChunk r ≡ chunkAnswer (kindOf kind) cells (contentArray (now (masks .entry)) (now (values .entry)) (now (offsets .entry))) ⌝ }
 {
     let depth = kind.depth as usize;
     let planes = depth * cells;
@@ -78,7 +77,7 @@ pub fn check_chunks(
     offsets: &[u64],
 ) -> bool
     requires { ⌜ SubsetsOk (now shape) (now subsets) count ⌝ }
-    ensures { λ r. ⌜ r ≡ chunksTest (inBytes (kindOf kind)) (nextSubsets (length (now (shape .entry))) count (now (subsets .entry)))
+    ensures { λ r. ⌜ r ≡ chunksTest (kindOf kind) (nextSubsets (length (now (shape .entry))) count (now (subsets .entry)))
         (contentArray (now (masks .entry)) (now (values .entry)) (now (offsets .entry))) ⌝ }
 {
     let d = shape.len();
@@ -126,7 +125,7 @@ pub fn check_merge(
     values: &[u8],
     offsets: &[u64],
 ) -> Checks
-    ensures { λ r. ⌜ toldChecks r ≡ checkAnswer (inBytes (kindOf kind)) (now (shape .entry)) (now (subsets .entry))
+    ensures { λ r. ⌜ toldChecks r ≡ checkAnswer (kindOf kind) (now (shape .entry)) (now (subsets .entry))
         (contentArray (now (masks .entry)) (now (values .entry)) (now (offsets .entry))) ⌝ }
 {
     if !valid::kind::check_kind(kind) {

@@ -5,7 +5,6 @@ use borrow.Author.Needs.{needs}
 use Rattle.array.specs.Answer.{gives}
 use Rattle.array.specs.Kind.{Kind}
 use Rattle.array.specs.Meaning.{kindOf}
-use Rattle.chunks.proofs.Idle.{inBytes, merged-idle}
 use Rattle.array.specs.Content.{Content}
 use Rattle.array.specs.Outcome.{contentArray, outcomeArray}
 use Rattle.merge.specs.Merge.{Sizes, checkAnswer, toldChecks}
@@ -24,7 +23,7 @@ abbrev lent : tie.Start → Content
 lent a = contentArray (a .args .out-masks .now) (a .args .out-values .now) (a .args .out-offsets .now)
 
 abbrev kind : tie.Start → Kind
-kind a = inBytes (kindOf (a .args .kind))
+kind a = kindOf (a .args .kind)
 
 -- the checks passed: what they found
 abbrev checked : tie.After-known-told2 → tie.After-check-merge
@@ -58,7 +57,6 @@ returns c =
     let m = c .before .before .before in
     let a = start m in
     merge-refused (kind a) (a .args .shape .now) (a .args .subsets .now) (handed a) (lent a) (c .before .e .given .0 .0) (sym (ap toldChecks (c .before .e .given .1)) ∙ m .check-merge .ensures)
-    ∙ sym (merged-idle (kindOf (a .args .kind)) (a .args .shape .now) (a .args .subsets .now) (handed a) (lent a))
 
 same-length : tie.Need-same-length
 same-length c = search needs
@@ -76,7 +74,6 @@ returns-2 c =
     let a = start (checked k) in
     merge-stored (kind a) (a .args .shape .now) (a .args .subsets .now) (handed a) (lent a) (sizes k) (passed k)
     (let o = s .store-covering .last .1 .1 .1 .1 .1 .1 .1 .1 in outcomeArray (s .store-covering .result) (o .0) (o .1 .0) (o .1 .1 .0)) (s .store-covering .ensures)
-    ∙ sym (merged-idle (kindOf (a .args .kind)) (a .args .shape .now) (a .args .subsets .now) (handed a) (lent a))
 
 pub merge-spec : {M : Type 1} → statement M
 merge-spec =

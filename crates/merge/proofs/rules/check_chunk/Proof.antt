@@ -10,7 +10,6 @@ use Rattle.array.specs.Kind.{Kind}
 use Rattle.array.specs.Meaning.{kindOf}
 use Rattle.array.specs.Outcome.{contentArray}
 use Rattle.valid.proofs.CheckLaws.{small-product}
-use Rattle.chunks.proofs.Idle.{inBytes}
 use Rattle.merge.specs.Chunks.{toldChunk}
 use Rattle.merge.proofs.OneChunk.{Sized, size-known, size-lacking, chunk-lacks, chunk-breaks, chunk-keeps}
 use Rattle.merge.proofs.rules.check_chunk.Statement.{statement}
@@ -21,7 +20,7 @@ abbrev start : tie.After-struct-known → tie.Start
 start k = k .before .before .before .before
 
 abbrev kind : tie.Start → Kind
-kind a = inBytes (kindOf (a .args .kind))
+kind a = kindOf (a .args .kind)
 
 abbrev left : tie.Start → Content
 left a = contentArray (a .args .masks .now) (a .args .values .now) (a .args .offsets .now)

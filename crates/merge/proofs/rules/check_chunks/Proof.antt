@@ -15,7 +15,6 @@ use Rattle.valid.proofs.CheckLaws.{small-product}
 use Rattle.subset.proofs.Index.{few-within, few-drop}
 use Rattle.array.proofs.SubsetLists.{startsAt, lengthsAt}
 use Rattle.cover.proofs.SubsetWalk.{next-room, now-within}
-use Rattle.chunks.proofs.Idle.{inBytes}
 use Rattle.merge.specs.Chunks.{takes, chunkAnswer, toldChunk}
 use Rattle.merge.proofs.ChunkWalk.{lent, Walked, walked-begins, masks-left, values-left, by-offsets, walked-bad, walked-more}
 use Rattle.merge.proofs.rules.check_chunks.Statement.{statement}
@@ -23,7 +22,7 @@ use Rattle.merge.proofs.rules.check_chunks.Tie as tie
 
 abbrev Inv-loop : tie.InvT-loop
 Inv-loop kind shape subsets count masks values offsets d depth i₀ at₀ p₀ v₀ o₀ i at p v o =
-    Walked (inBytes (kindOf kind)) shape subsets count (contentArray masks values offsets) i at p v o
+    Walked (kindOf kind) shape subsets count (contentArray masks values offsets) i at p v o
 
 abbrev μ-loop : tie.MeasureT-loop
 μ-loop kind shape subsets count masks values offsets d depth i₀ at₀ p₀ v₀ o₀ i at p v o = count - i
@@ -86,14 +85,14 @@ sized c = counted (checked c) .volume-of .ensures
 
 got : (c : Told) → let l = head c in let a = start l in
     takes (c .before .chunk .given .0 .0) (c .before .chunk .given .0 .1 .0)
-    ≡ chunkAnswer (inBytes (kindOf (a .args .kind))) (cells c) (lent (handed a) (l .loop .p) (l .loop .v) (l .loop .o))
+    ≡ chunkAnswer (kindOf (a .args .kind)) (cells c) (lent (handed a) (l .loop .p) (l .loop .v) (l .loop .o))
 got c = sym (ap toldChunk (c .before .chunk .given .1)) ∙ checked c .check-chunk .ensures
 
 cast-depth : tie.Need-cast-depth Inv-loop μ-loop
 cast-depth c = search needs
 
 loop-holds : tie.Need-loop-holds Inv-loop μ-loop
-loop-holds c = let a = entered c in walked-begins (inBytes (kindOf (a .args .kind))) (handed a) (a .pre)
+loop-holds c = let a = entered c in walked-begins (kindOf (a .args .kind)) (handed a) (a .pre)
 
 add-mid : tie.Need-add-mid Inv-loop μ-loop
 add-mid c = omega (arith, seen (c .before) (omega arith))

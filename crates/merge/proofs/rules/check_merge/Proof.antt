@@ -12,7 +12,6 @@ use Rattle.array.specs.Answer.{gives}
 use Rattle.array.specs.Content.{Content}
 use Rattle.array.specs.Meaning.{kindOf}
 use Rattle.array.specs.Outcome.{contentArray}
-use Rattle.chunks.proofs.Idle.{inBytes}
 use Rattle.array.specs.Kind.{Kind, kindTest}
 use Rattle.array.specs.Subset.{manyTest}
 use Rattle.array.specs.Rows.{nextSubsets}
@@ -34,7 +33,7 @@ abbrev handed : tie.Start → Content
 handed a = contentArray (a .args .masks .now) (a .args .values .now) (a .args .offsets .now)
 
 abbrev kind : tie.Start → Kind
-kind a = inBytes (kindOf (a .args .kind))
+kind a = kindOf (a .args .kind)
 
 -- the kind passed, the shape was counted, the subsets passed
 kind-passed : (e : tie.Else1) → kindTest (kind (start e)) ≡ true
