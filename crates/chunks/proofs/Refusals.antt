@@ -31,7 +31,7 @@ use Rattle.chunks.proofs.Gather.{once-test, once-ok}
 nothing-test : (c : Content) → Nothing c → nothingTest c ≡ true
 nothing-test c p = both (both (eq-eqb (length (c .masks)) 0 (p .no-masks)) (eq-eqb (length (c .values)) 0 (p .no-values))) (eq-eqb (length (c .offsets)) 0 (p .no-offsets))
 
-nothing-ok : (c : Content) → nothingTest c ≡ true → Nothing c
+pub nothing-ok : (c : Content) → nothingTest c ≡ true → Nothing c
 nothing-ok c e =
     let a : Bool = eqb (length (c .masks)) 0 in
     let b : Bool = eqb (length (c .values)) 0 in

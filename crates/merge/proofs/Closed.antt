@@ -7,13 +7,13 @@ use native.Mathlib.Omega.{arith}
 use mathlib.Core.List.{List, [], _++_}
 use lib.ListN.{length, drop}
 use Rattle.array.specs.Answer.{Answer, gives, refuses, andThen, unless, Outcome}
-use Rattle.array.specs.Lists.{All, joined}
-use Rattle.array.specs.Kind.{byteKind, Form, fixed, ragged, Order, Place, nullOf}
+use Rattle.array.specs.Lists.{All}
+use Rattle.array.specs.Kind.{Kind, Masks, Form, fixed, ragged, Order, Place, nullOf}
 use Rattle.array.specs.Shape.{volume}
 use Rattle.array.specs.Subset.{Subset, SubsetOk, cellsOfAll}
 use Rattle.array.specs.Rows.{nextSubsets}
 use Rattle.array.specs.Cells.{Cell, blank}
-use Rattle.array.specs.Content.{Content, leaves}
+use Rattle.array.specs.Content.{Content}
 use Rattle.array.specs.Buffers.{Lengths, lengthsOf, enoughTest, over, contentOutcome}
 use Rattle.array.specs.Outcome.{contentArray}
 use Rattle.array.specs.Places.{fixedAt, offsetAt}
@@ -21,11 +21,12 @@ use Rattle.chunks.specs.Chunks.{mergeOf}
 use Rattle.cover.proofs.SubsetWalk.{all-inside}
 use Rattle.merge_stores.specs.Scatter.{scatter, places}
 use Rattle.merge_stores.specs.Store.{parts, masksMerged, MasksAsked, PartsAsked}
-use Rattle.merge_stores.specs.Ragged.{raggedParts, offsetsMerged, RaggedMergeAsked}
+use Rattle.merge_stores.specs.Ragged.{offsetsMerged, RaggedMergeAsked}
 use Rattle.merge_stores.proofs.Closing.{masks-close, fixed-close, offsets-close, values-close}
+use Rattle.merge_stores.proofs.FirstChunk.{Chunked}
 use Rattle.merge_stores.proofs.RaggedAsks.{ragged-asked}
 use Rattle.merge.specs.Merge.{Sizes, storeAnswer, MergeAsked}
-use Rattle.merge.proofs.Totals.{Found, found, masks-total, values-total}
+use Rattle.merge.proofs.Totals.{found, masks-total, values-total}
 use Rattle.merge.proofs.Lengths.{merged-masks, merged-bytes, fixed-bytes, ragged-offsets}
 use Rattle.merge.proofs.Written.{short-masks, short-values, short-offsets, written}
 
@@ -33,150 +34,150 @@ use Rattle.merge.proofs.Written.{short-masks, short-values, short-offse
 over-is : (s t old : List ℕ) (n : ℕ) → s ≡ t → length s ≡ n → t ++ drop n old ≡ over s old
 over-is s t old n e l = ap₂ (λ (x : List ℕ) (k : ℕ). x ++ drop k old) (sym e) (sym l)
 
-module _ (d : ℕ) (sh flat : List ℕ) (c old : Content) (z : Sizes) where
+-- what the stores are to leave behind
+abbrev pub left : Kind → List ℕ → List ℕ → Content → Sizes → Content → Outcome Lengths Content
+left k sh flat c z old = contentOutcome (storeAnswer k sh (nextSubsets (length sh) (z .count) flat) c (lengthsOf old)) old
+
+module _ {k : Kind} {sh flat : List ℕ} {c : Content} {z : Sizes} (q : MergeAsked k sh flat c z) where
   abbrev bs : List Subset
   bs = nextSubsets (length sh) (z .count) flat
 
-  abbrev Asked : Form → Type 0
-  Asked f = MergeAsked (byteKind d f) sh flat c z
+  inside : All (SubsetOk sh) bs
+  inside = all-inside sh bs (q .checked .subsets .each)
 
-  -- what the stores are to leave behind
-  abbrev pub left : Form → Outcome Lengths Content
-  left f = contentOutcome (storeAnswer (byteKind d f) sh (nextSubsets (length sh) (z .count) flat) c (lengthsOf old)) old
+  abbrev cells : List (Cell (k .depth))
+  cells = found k bs c (q .checked .kept) .0
 
-  module _ (f : Form) (q : Asked f) where
-    inside : All (SubsetOk sh) bs
-    inside = all-inside sh bs (q .checked .subsets .each)
+  are : Chunked k bs c cells
+  are = found k bs c (q .checked .kept) .1
 
-    cells : Found f d bs c (z .bytes)
-    cells = found f d bs c (z .bytes) (q .checked .summed)
+  abbrev merged : Content
+  merged = mergeOf k sh bs cells
 
-    abbrev merged : Content
-    merged = mergeOf (byteKind d f) sh bs (cells .cells)
+  mask-bytes : length (merged .masks) ≡ k .depth * z .cells
+  mask-bytes = merged-masks sh bs inside (q .once) are ∙ ap (λ (n : ℕ). k .depth * n) (sym (q .checked .counted))
 
-    left-is : contentOutcome (unless (enoughTest merged (lengthsOf old)) 6 (gives merged)) old ≡ left f
+  value-bytes : length (merged .values) ≡ length (c .values)
+  value-bytes = merged-bytes sh bs inside (q .once) are
+
+  module _ (old : Content) where
+    left-is : contentOutcome (unless (enoughTest merged (lengthsOf old)) 6 (gives merged)) old ≡ left k sh flat c z old
     unfolding storeAnswer
     left-is =
-        ap (λ (a : Answer (List (Cell d))). contentOutcome (andThen a (λ cs. unless (enoughTest (mergeOf (byteKind d f) sh bs cs) (lengthsOf old)) 6
-        (gives (mergeOf (byteKind d f) sh bs cs)))) old) (sym (cells .are))
+        ap (λ (a : Answer (List (Cell (k .depth)))). contentOutcome (andThen a (λ cs. unless (enoughTest (mergeOf k sh bs cs) (lengthsOf old)) 6 (gives (mergeOf k sh bs cs)))) old) (sym (are .are))
 
-    mask-bytes : length (merged .masks) ≡ d * z .cells
-    mask-bytes = merged-masks f d sh bs inside (q .once) c (cells .cells) (cells .are) ∙ ap (λ (n : ℕ). d * n) (sym (q .checked .counted))
+    pub no-masks : length (old .masks) < k .depth * z .cells → record { answer = refuses 6; buffers = old } ≡ left k sh flat c z old
+    no-masks h = short-masks merged old (k .depth * z .cells) (length (c .values)) (length (merged .offsets)) mask-bytes value-bytes refl h ∙ left-is
 
-    value-bytes : length (merged .values) ≡ z .bytes
-    value-bytes = merged-bytes f d sh bs inside (q .once) c (cells .cells) (cells .are) ∙ sym (cells .sum-of)
+    pub no-values : length (old .values) < length (c .values) → record { answer = refuses 6; buffers = old } ≡ left k sh flat c z old
+    no-values h = short-values merged old (k .depth * z .cells) (length (c .values)) (length (merged .offsets)) mask-bytes value-bytes refl h ∙ left-is
 
-    pub no-masks : length (old .masks) < d * z .cells → record { answer = refuses 6; buffers = old } ≡ left f
-    no-masks h = short-masks merged old (d * z .cells) (z .bytes) (length (merged .offsets)) mask-bytes value-bytes refl h ∙ left-is
-
-    pub no-values : length (old .values) < z .bytes → record { answer = refuses 6; buffers = old } ≡ left f
-    no-values h = short-values merged old (d * z .cells) (z .bytes) (length (merged .offsets)) mask-bytes value-bytes refl h ∙ left-is
-
-    pub masks-asked : d * z .cells ≤ length (old .masks) → MasksAsked sh flat (z .count) (old .masks) (c .masks) d (z .cells)
+    pub masks-asked : k .depth * z .cells ≤ length (old .masks) → MasksAsked sh flat (z .count) (old .masks) (c .masks) (k .depth) (z .cells)
     masks-asked h = record {
       subsets = q .checked .subsets;
       once = q .once;
       counted = q .checked .counted;
       room = h;
-      enough = masks-total f d bs c (cells .cells) (cells .are);
+      enough = masks-total bs are;
     }
 
-    masks-done : masksMerged sh bs d (c .masks) d ++ drop (d * z .cells) (old .masks) ≡ over (merged .masks) (old .masks)
-    masks-done = over-is (merged .masks) (masksMerged sh bs d (c .masks) d) (old .masks) (d * z .cells) (masks-close f d (nullOf f) sh bs c (cells .cells) (cells .are)) mask-bytes
+    masks-done : masksMerged sh bs (k .depth) (c .masks) (k .depth) ++ drop (k .depth * z .cells) (old .masks) ≡ over (merged .masks) (old .masks)
+    masks-done =
+        over-is (merged .masks) (masksMerged sh bs (k .depth) (c .masks) (k .depth)) (old .masks) (k .depth * z .cells) (masks-close (nullOf (k .form)) sh bs are) mask-bytes
 
-  as-form : {f g : Form} → f ≡ g → Asked f → Asked g
-  as-form e q = subst Asked e q
+-- ---- values of one width
 
-  -- ---- values of one width
+module _ {x : Masks} {d s : ℕ} {r : Order} {sh flat : List ℕ} {c : Content} {z : Sizes} (q : MergeAsked (record { depth = d; masks = x; form = fixed s r }) sh flat c z) (old : Content) where
+  width : length (c .values) ≡ volume sh * s
+  width = fixed-bytes x s d r sh (bs q) (inside q) (q .once) (are q)
 
-  module _ (k : ℕ) (r : Order) (q : Asked (fixed k r)) where
-    width : z .bytes ≡ volume sh * k
-    width =
-        let w = cells (fixed k r) q in
-        w .sum-of ∙ fixed-bytes k d r sh bs (inside (fixed k r) q) (q .once) c (w .cells) (w .are)
+  parts-now : length (c .values) ≤ length (old .values) → PartsAsked sh flat (z .count) (old .values) 0 s (c .values) 0 s
+  parts-now h = record {
+    subsets = q .checked .subsets;
+    narrow = q .checked .kind .sound .1;
+    inner = omega arith;
+    room = omega (arith, width);
+    enough = values-total x s d r (bs q) (are q);
+  }
 
-    parts-now : z .bytes ≤ length (old .values) → PartsAsked sh flat (z .count) (old .values) 0 k (c .values) 0 k
-    parts-now h =
-        let w = cells (fixed k r) q in
-        record {
-          subsets = q .checked .subsets;
-          narrow = q .checked .kind .sound .1;
-          inner = omega arith;
-          room = omega (arith, width);
-          enough = values-total k d r bs c (w .cells) (w .are);
-        }
+  fixed-now : d * z .cells ≤ length (old .masks) → length (c .values) ≤ length (old .values) → (ms vs : List ℕ)
+      → ms ≡ masksMerged sh (bs q) d (c .masks) d ++ drop (d * z .cells) (old .masks)
+      → vs ≡ scatter (old .values) (places (fixedAt 0 s) (cellsOfAll sh (bs q))) (parts 0 s s (bs q) (c .values))
+      → record { answer = gives (record { masks = d * z .cells; values = length (c .values); offsets = 0 }); buffers = contentArray ms vs (old .offsets) }
+      ≡ left (record { depth = d; masks = x; form = fixed s r }) sh flat c z old
+  fixed-now hm hv ms vs em ev =
+      let m : Content = merged q in
+      written m old (d * z .cells) (length (c .values)) 0 (mask-bytes q) (value-bytes q) refl hm hv (omega arith) ms vs (old .offsets)
+      (em ∙ masks-done q old)
+      (ev ∙ fixed-close x s d r (nullOf (fixed s r)) sh (bs q) (inside q) (q .once) c (cells q) (are q) (old .values) (omega (arith, width))
+      ∙ over-is (m .values) (m .values) (old .values) (volume sh * s) refl (value-bytes q ∙ width))
+      refl
+      ∙ left-is q old
 
-    fixed-now : d * z .cells ≤ length (old .masks) → z .bytes ≤ length (old .values) → (ms vs : List ℕ)
-        → ms ≡ masksMerged sh bs d (c .masks) d ++ drop (d * z .cells) (old .masks)
-        → vs ≡ scatter (old .values) (places (fixedAt 0 k) (cellsOfAll sh bs)) (parts 0 k k bs (c .values))
-        → record { answer = gives (record { masks = d * z .cells; values = z .bytes; offsets = 0 }); buffers = contentArray ms vs (old .offsets) } ≡ left (fixed k r)
-    fixed-now hm hv ms vs em ev =
-        let w = cells (fixed k r) q in
-        let m : Content = merged (fixed k r) q in
-        written m old (d * z .cells) (z .bytes) 0 (mask-bytes (fixed k r) q) (value-bytes (fixed k r) q) refl hm hv (omega arith) ms vs (old .offsets)
-        (em ∙ masks-done (fixed k r) q)
-        (ev ∙ fixed-close k d r (nullOf (fixed k r)) sh bs (inside (fixed k r) q) (q .once) c (w .cells) (w .are) (old .values) (omega (arith, width))
-        ∙ over-is (m .values) (m .values) (old .values) (volume sh * k) refl (value-bytes (fixed k r) q ∙ width))
-        refl
-        ∙ left-is (fixed k r) q
+-- ---- ragged values
 
-  module _ (f : Form) (k : ℕ) (r : Order) (e : f ≡ fixed k r) (q : Asked f) where
-    pub parts-asked : z .bytes ≤ length (old .values) → PartsAsked sh flat (z .count) (old .values) 0 k (c .values) 0 k
-    parts-asked = parts-now k r (as-form e q)
+module _ {x : Masks} {w d : ℕ} {p : Place} {sh flat : List ℕ} {c : Content} {z : Sizes} (q : MergeAsked (record { depth = d; masks = x; form = ragged w p }) sh flat c z) (old : Content) where
+  offset-count : length (merged q .offsets) ≡ z .cells + 1
+  offset-count = ragged-offsets d (volume sh) (blank [] d) (cellsOfAll sh (bs q)) (cells q) ∙ ap (λ (n : ℕ). n + 1) (sym (q .checked .counted))
 
-    pub fixed-stored : d * z .cells ≤ length (old .masks) → z .bytes ≤ length (old .values) → (ms vs : List ℕ)
-        → ms ≡ masksMerged sh bs d (c .masks) d ++ drop (d * z .cells) (old .masks)
-        → vs ≡ scatter (old .values) (places (fixedAt 0 k) (cellsOfAll sh bs)) (parts 0 k k bs (c .values))
-        → record { answer = gives (record { masks = d * z .cells; values = z .bytes; offsets = 0 }); buffers = contentArray ms vs (old .offsets) } ≡ left f
-    fixed-stored hm hv ms vs em ev = fixed-now k r (as-form e q) hm hv ms vs em ev ∙ ap left (sym e)
+  short-now : length (old .offsets) ≤ z .cells → record { answer = refuses 6; buffers = old } ≡ left (record { depth = d; masks = x; form = ragged w p }) sh flat c z old
+  short-now h = short-offsets (merged q) old (d * z .cells) (length (c .values)) (z .cells + 1) (mask-bytes q) (value-bytes q) offset-count (omega arith) ∙ left-is q old
 
-  -- ---- ragged values
+  ragged-now : length (c .values) ≤ length (old .values) → z .cells < length (old .offsets)
+      → RaggedMergeAsked sh flat (z .count) (old .values) (old .offsets) (c .values) (c .offsets) (z .cells)
+  ragged-now hv ho =
+      ragged-asked x w d p sh flat (z .count) (q .checked .subsets) (q .once) c (cells q) (are q) (old .values) (old .offsets) (z .cells) (q .checked .counted) ho (q .checked .small) hv
 
-  module _ (w : ℕ) (p : Place) (q : Asked (ragged w p)) where
-    offset-count : length (merged (ragged w p) q .offsets) ≡ z .cells + 1
-    offset-count = ragged-offsets d (volume sh) (blank [] d) (cellsOfAll sh bs) (cells (ragged w p) q .cells) ∙ ap (λ (n : ℕ). n + 1) (sym (q .checked .counted))
+  stored-now : d * z .cells ≤ length (old .masks) → length (c .values) ≤ length (old .values) → z .cells < length (old .offsets) → (ms vs os : List ℕ)
+      → ms ≡ masksMerged sh (bs q) d (c .masks) d ++ drop (d * z .cells) (old .masks)
+      → os ≡ offsetsMerged sh (bs q) (c .offsets) ++ drop (z .cells + 1) (old .offsets)
+      → vs ≡ scatter (old .values) (places (offsetAt os) (cellsOfAll sh (bs q))) (c .values)
+      → record { answer = gives (record { masks = d * z .cells; values = length (c .values); offsets = z .cells + 1 }); buffers = contentArray ms vs os }
+      ≡ left (record { depth = d; masks = x; form = ragged w p }) sh flat c z old
+  stored-now hm hv ho ms vs os em eo ev =
+      let m : Content = merged q in
+      written m old (d * z .cells) (length (c .values)) (z .cells + 1) (mask-bytes q) (value-bytes q) offset-count hm hv (omega arith) ms vs os
+      (em ∙ masks-done q old)
+      (ev ∙ ap (λ (y : List ℕ). scatter (old .values) (places (offsetAt y) (cellsOfAll sh (bs q))) (c .values)) eo
+      ∙ values-close x w d p sh (bs q) (inside q) (q .once) c (cells q) (are q) (drop (z .cells + 1) (old .offsets)) (old .values) hv
+      ∙ over-is (m .values) (m .values) (old .values) (length (c .values)) refl (value-bytes q))
+      (eo ∙ over-is (m .offsets) (offsetsMerged sh (bs q) (c .offsets)) (old .offsets) (z .cells + 1)
+      (sym (offsets-close x w d p sh (bs q) (inside q) (q .once) c (cells q) (are q))) offset-count)
+      ∙ left-is q old
 
-    short-now : length (old .offsets) ≤ z .cells → record { answer = refuses 6; buffers = old } ≡ left (ragged w p)
-    short-now h =
-        short-offsets (merged (ragged w p) q) old (d * z .cells) (z .bytes) (z .cells + 1) (mask-bytes (ragged w p) q) (value-bytes (ragged w p) q) offset-count (omega arith)
-        ∙ left-is (ragged w p) q
+-- ---- of the form that was found
 
-    ragged-now : z .bytes ≤ length (old .values) → z .cells < length (old .offsets)
+module _ {k : Kind} {sh flat : List ℕ} {c : Content} {z : Sizes} (q : MergeAsked k sh flat c z) (old : Content) where
+  abbrev formed : Form → Kind
+  formed f = record { depth = k .depth; masks = k .masks; form = f }
+
+  as-form : {f : Form} → k .form ≡ f → MergeAsked (formed f) sh flat c z
+  as-form e = subst (λ (f : Form). MergeAsked (formed f) sh flat c z) e q
+
+  back : {f : Form} → k .form ≡ f → left (formed f) sh flat c z old ≡ left k sh flat c z old
+  back e = ap (λ (f : Form). left (formed f) sh flat c z old) (sym e)
+
+  module _ {s : ℕ} {r : Order} (e : k .form ≡ fixed s r) where
+    pub parts-asked : length (c .values) ≤ length (old .values) → PartsAsked sh flat (z .count) (old .values) 0 s (c .values) 0 s
+    parts-asked = parts-now (as-form e) old
+
+    pub fixed-stored : k .depth * z .cells ≤ length (old .masks) → length (c .values) ≤ length (old .values) → (ms vs : List ℕ)
+        → ms ≡ masksMerged sh (bs q) (k .depth) (c .masks) (k .depth) ++ drop (k .depth * z .cells) (old .masks)
+        → vs ≡ scatter (old .values) (places (fixedAt 0 s) (cellsOfAll sh (bs q))) (parts 0 s s (bs q) (c .values))
+        → record { answer = gives (record { masks = k .depth * z .cells; values = length (c .values); offsets = 0 }); buffers = contentArray ms vs (old .offsets) } ≡ left k sh flat c z old
+    fixed-stored hm hv ms vs em ev = fixed-now (as-form e) old hm hv ms vs em ev ∙ back e
+
+  module _ {w : ℕ} {p : Place} (e : k .form ≡ ragged w p) where
+    pub no-offsets : length (old .offsets) ≤ z .cells → record { answer = refuses 6; buffers = old } ≡ left k sh flat c z old
+    no-offsets h = short-now (as-form e) old h ∙ back e
+
+    pub ragged-merge-asked : length (c .values) ≤ length (old .values) → z .cells < length (old .offsets)
         → RaggedMergeAsked sh flat (z .count) (old .values) (old .offsets) (c .values) (c .offsets) (z .cells)
-    ragged-now hv ho =
-        let x = cells (ragged w p) q in
-        ragged-asked w d p sh flat (z .count) (q .checked .subsets) (q .once) c (x .cells) (x .are) (old .values) (old .offsets) (z .cells) (q .checked .counted) ho
-        (omega (arith, x .sum-of, q .checked .small)) (omega (arith, x .sum-of))
+    ragged-merge-asked = ragged-now (as-form e) old
 
-    stored-now : d * z .cells ≤ length (old .masks) → z .bytes ≤ length (old .values) → z .cells < length (old .offsets) → (ms vs os : List ℕ)
-        → ms ≡ masksMerged sh bs d (c .masks) d ++ drop (d * z .cells) (old .masks)
-        → os ≡ offsetsMerged sh bs (c .offsets) ++ drop (z .cells + 1) (old .offsets)
-        → vs ≡ scatter (old .values) (places (offsetAt os) (cellsOfAll sh bs)) (raggedParts bs (c .offsets) (c .values))
-        → record { answer = gives (record { masks = d * z .cells; values = z .bytes; offsets = z .cells + 1 }); buffers = contentArray ms vs os } ≡ left (ragged w p)
-    stored-now hm hv ho ms vs os em eo ev =
-        let x = cells (ragged w p) q in
-        let m : Content = merged (ragged w p) q in
-        let t : List ℕ = drop (z .cells + 1) (old .offsets) in
-        written m old (d * z .cells) (z .bytes) (z .cells + 1) (mask-bytes (ragged w p) q) (value-bytes (ragged w p) q) offset-count hm hv (omega arith) ms vs os
-        (em ∙ masks-done (ragged w p) q)
-        (ev ∙ ap (λ (y : List ℕ). scatter (old .values) (places (offsetAt y) (cellsOfAll sh bs)) (raggedParts bs (c .offsets) (c .values))) eo
-        ∙ values-close w d p sh bs (inside (ragged w p) q) (q .once) c (x .cells) (x .are) t (old .values) (omega (arith, x .sum-of))
-        ∙ over-is (m .values) (m .values) (old .values) (length (joined (leaves d (x .cells)))) refl (value-bytes (ragged w p) q ∙ x .sum-of))
-        (eo ∙ over-is (m .offsets) (offsetsMerged sh bs (c .offsets)) (old .offsets) (z .cells + 1)
-        (sym (offsets-close w d p sh bs (inside (ragged w p) q) (q .once) c (x .cells) (x .are))) offset-count)
-        ∙ left-is (ragged w p) q
-
-  module _ (f : Form) (w : ℕ) (p : Place) (e : f ≡ ragged w p) (q : Asked f) where
-    pub no-offsets : length (old .offsets) ≤ z .cells → record { answer = refuses 6; buffers = old } ≡ left f
-    no-offsets h = short-now w p (as-form e q) h ∙ ap left (sym e)
-
-    pub ragged-merge-asked : z .bytes ≤ length (old .values) → z .cells < length (old .offsets)
-        → RaggedMergeAsked sh flat (z .count) (old .values) (old .offsets) (c .values) (c .offsets) (z .cells)
-    ragged-merge-asked = ragged-now w p (as-form e q)
-
-    pub ragged-stored : d * z .cells ≤ length (old .masks) → z .bytes ≤ length (old .values) → z .cells < length (old .offsets) → (ms vs os : List ℕ)
-        → ms ≡ masksMerged sh bs d (c .masks) d ++ drop (d * z .cells) (old .masks)
-        → os ≡ offsetsMerged sh bs (c .offsets) ++ drop (z .cells + 1) (old .offsets)
-        → vs ≡ scatter (old .values) (places (offsetAt os) (cellsOfAll sh bs)) (raggedParts bs (c .offsets) (c .values))
-        → record { answer = gives (record { masks = d * z .cells; values = z .bytes; offsets = z .cells + 1 }); buffers = contentArray ms vs os } ≡ left f
-    ragged-stored hm hv ho ms vs os em eo ev = stored-now w p (as-form e q) hm hv ho ms vs os em eo ev ∙ ap left (sym e)
+    pub ragged-stored : k .depth * z .cells ≤ length (old .masks) → length (c .values) ≤ length (old .values) → z .cells < length (old .offsets) → (ms vs os : List ℕ)
+        → ms ≡ masksMerged sh (bs q) (k .depth) (c .masks) (k .depth) ++ drop (k .depth * z .cells) (old .masks)
+        → os ≡ offsetsMerged sh (bs q) (c .offsets) ++ drop (z .cells + 1) (old .offsets)
+        → vs ≡ scatter (old .values) (places (offsetAt os) (cellsOfAll sh (bs q))) (c .values)
+        → record { answer = gives (record { masks = k .depth * z .cells; values = length (c .values); offsets = z .cells + 1 }); buffers = contentArray ms vs os } ≡ left k sh flat c z old
+    ragged-stored hm hv ho ms vs os em eo ev = stored-now (as-form e) old hm hv ho ms vs os em eo ev ∙ back e

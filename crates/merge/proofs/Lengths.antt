@@ -7,14 +7,13 @@ use mathlib.Core.Bool.{Bool, true, false}
 use mathlib.Core.List.{List, [], _∷_, map}
 use lib.ListN.{length, length-map}
 use lib.Dec.{eqb}
-use Rattle.array.specs.Answer.{gives}
 use Rattle.array.specs.Lists.{from, pick, count, joined, All}
-use Rattle.array.specs.Kind.{byteKind, Form, fixed, Order, nullOf}
+use Rattle.array.specs.Kind.{Kind, Masks, fixed, Order, nullOf}
 use Rattle.array.specs.Offsets.{offsetsOf}
 use Rattle.array.specs.Shape.{volume}
 use Rattle.array.specs.Subset.{Subset, SubsetOk, cellsOfAll}
 use Rattle.array.specs.Cells.{Value, Cell, leaf, blank}
-use Rattle.array.specs.Content.{Content, masksOf, leaves}
+use Rattle.array.specs.Content.{Content, masksOf, leaves, nullCell}
 use Rattle.array.proofs.Lists.{All-of, All-image, length-from, length-joined, map-from}
 use Rattle.array.proofs.Sizes.{null-sized}
 use Rattle.array.proofs.Offsets.{length-ends}
@@ -22,9 +21,9 @@ use Rattle.array.proofs.RestLaws.{leaf-blank}
 use Rattle.array.proofs.LayoutLaws.{length-masksOf}
 use Rattle.array.proofs.SubsetLaws.{all-below}
 use Rattle.chunks.specs.Gather.{lookup, putBack, Once}
-use Rattle.chunks.specs.Chunks.{chunkCells}
 use Rattle.merge_stores.specs.Ragged.{sum}
 use Rattle.merge_stores.proofs.Blocks as blocks
+use Rattle.merge_stores.proofs.FirstChunk.{Chunked, all-values}
 use Rattle.merge_stores.proofs.Levels.{putBack-map, length-all}
 use Rattle.merge_stores.proofs.Closing.{sum-putBack, cells-counted, fixed-cells}
 
@@ -62,39 +61,39 @@ length-putBack z n js xs = length-map (from 0 n) (λ i. lookup z i js xs) ∙ le
 
 -- ---- the merged cells
 
-module _ (f : Form) (d : ℕ) (sh : List ℕ) (bs : List Subset) (inside : All (SubsetOk sh) bs) (once : Once (volume sh) (cellsOfAll sh bs)) (c : Content) (cs : List (Cell d))
-    (e : chunkCells (byteKind d f) bs c ≡ gives cs) where
+module _ {k : Kind} (sh : List ℕ) (bs : List Subset) (inside : All (SubsetOk sh) bs) (once : Once (volume sh) (cellsOfAll sh bs)) {c : Content} {cs : List (Cell (k .depth))}
+    (e : Chunked k bs c cs) where
   abbrev js : List ℕ
   js = cellsOfAll sh bs
 
-  abbrev null : Cell d
-  null = blank (nullOf f) d
-
   as-many : length js ≡ length cs
-  as-many = length-all sh bs inside ∙ sym (cells-counted f d bs c cs e)
+  as-many = length-all sh bs inside ∙ sym (cells-counted bs e)
 
-  pub merged-masks : length (masksOf d (putBack (blank (nullOf f) d) (volume sh) (cellsOfAll sh bs) cs)) ≡ d * volume sh
-  merged-masks = length-masksOf d (putBack null (volume sh) js cs) ∙ ap (λ (n : ℕ). d * n) (length-putBack null (volume sh) js cs)
+  pub merged-masks : length (masksOf (k .depth) (putBack (nullCell k) (volume sh) (cellsOfAll sh bs) cs)) ≡ k .depth * volume sh
+  merged-masks = length-masksOf (k .depth) (putBack (nullCell k) (volume sh) js cs) ∙ ap (λ (n : ℕ). k .depth * n) (length-putBack (nullCell k) (volume sh) js cs)
 
   -- the merged values have the bytes of the chunks' values
-  pub merged-bytes : length (joined (leaves d (putBack (blank (nullOf f) d) (volume sh) (cellsOfAll sh bs) cs))) ≡ length (joined (leaves d cs))
+  pub merged-bytes : length (joined (leaves (k .depth) (putBack (nullCell k) (volume sh) (cellsOfAll sh bs) cs))) ≡ length (c .values)
   merged-bytes =
+      let d : ℕ = k .depth in
+      let z : Value = leaf d (nullCell k) in
       let el : length js ≡ length (map length (leaves d cs)) = as-many ∙ sym (length-map cs (leaf d)) ∙ sym (length-map (leaves d cs) length) in
-      ap (λ (x : List Value). length (joined x)) (sym (putBack-map (leaf d) null (volume sh) js cs))
-      ∙ blocks.length-joined (putBack (leaf d null) (volume sh) js (leaves d cs))
-      ∙ ap sum (sym (putBack-map {A = Value} length (leaf d null) (volume sh) js (leaves d cs)) ∙ putBack-any (length (leaf d null)) 0 (volume sh) js (map length (leaves d cs)) el once)
+      ap (λ (x : List Value). length (joined x)) (sym (putBack-map (leaf d) (nullCell k) (volume sh) js cs))
+      ∙ blocks.length-joined (putBack z (volume sh) js (leaves d cs))
+      ∙ ap sum (sym (putBack-map {A = Value} length z (volume sh) js (leaves d cs)) ∙ putBack-any (length z) 0 (volume sh) js (map length (leaves d cs)) el once)
       ∙ sum-putBack (volume sh) js (map length (leaves d cs)) (all-below sh bs inside) once el
-      ∙ sym (blocks.length-joined (leaves d cs))
+      ∙ sym (blocks.length-joined (leaves d cs)) ∙ ap length (all-values bs e)
 
 -- values of one width: as many bytes as cells of that width
-pub fixed-bytes : (k d : ℕ) (r : Order) (sh : List ℕ) (bs : List Subset) → All (SubsetOk sh) bs → Once (volume sh) (cellsOfAll sh bs) → (c : Content) (cs : List (Cell d))
-    → chunkCells (byteKind d (fixed k r)) bs c ≡ gives cs → length (joined (leaves d cs)) ≡ volume sh * k
-fixed-bytes k d r sh bs inside once c cs e =
+pub fixed-bytes : (x : Masks) (k d : ℕ) (r : Order) (sh : List ℕ) (bs : List Subset) → All (SubsetOk sh) bs → Once (volume sh) (cellsOfAll sh bs) → {c : Content} {cs : List (Cell d)}
+    → Chunked (record { depth = d; masks = x; form = fixed k r }) bs c cs → length (c .values) ≡ volume sh * k
+fixed-bytes x k d r sh bs inside once {c} {cs} e =
     let z : Cell d = blank (nullOf (fixed k r)) d in
     let vs : List Value = putBack (leaf d z) (volume sh) (cellsOfAll sh bs) (leaves d cs) in
     let sized : All (λ v. length v ≡ k) vs =
-    putBack-all (λ v. length v ≡ k) (leaf d z) (leaf-blank (nullOf (fixed k r)) (λ v. length v ≡ k) d (null-sized (fixed k r))) (volume sh) (cellsOfAll sh bs) (leaves d cs) (fixed-cells k d r bs c cs e .sized) in
-    sym (merged-bytes (fixed k r) d sh bs inside once c cs e) ∙ ap (λ (x : List Value). length (joined x)) (sym (putBack-map (leaf d) z (volume sh) (cellsOfAll sh bs) cs))
+    putBack-all (λ v. length v ≡ k) (leaf d z) (leaf-blank (nullOf (fixed k r)) (λ v. length v ≡ k) d (null-sized (fixed k r))) (volume sh) (cellsOfAll sh bs) (leaves d cs)
+    (fixed-cells x k d r bs e .sized) in
+    sym (merged-bytes sh bs inside once e) ∙ ap (λ (y : List Value). length (joined y)) (sym (putBack-map (leaf d) z (volume sh) (cellsOfAll sh bs) cs))
     ∙ length-joined k vs sized ∙ ap (λ (n : ℕ). n * k) (length-putBack (leaf d z) (volume sh) (cellsOfAll sh bs) (leaves d cs))
 
 -- ragged values: one offset more than cells

@@ -1,6 +1,5 @@
 pub mod OneChunk
 pub mod ChunkWalk
-pub mod ChunkSums
 pub mod Totals
 pub mod Passing
 pub mod Steps

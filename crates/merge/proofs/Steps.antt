@@ -7,7 +7,7 @@ use mathlib.Core.List.{List}
 use lib.ListN.{length}
 use Rattle.array.specs.Answer.{Answer, gives, refuses, andThen, unless, Outcome}
 use Rattle.array.specs.Lists.{joined}
-use Rattle.array.specs.Kind.{byteKind, Kind, Form, kindTest}
+use Rattle.array.specs.Kind.{Kind, kindTest}
 use Rattle.array.specs.Shape.{volume, shapeTest}
 use Rattle.array.specs.Subset.{Subset, subsetsOf, manyTest, cellsOfAll}
 use Rattle.array.specs.Rows.{nextSubsets}
@@ -19,44 +19,52 @@ use Rattle.chunks.specs.Gather.{onceTest}
 use Rattle.chunks.specs.Chunks.{chunkCells, mergeOf}
 use Rattle.chunks.specs.Calls.{mergeAnswer, merged}
 use Rattle.merge.specs.Merge.{Sizes, checkAnswer, storeAnswer, coverAnswer, MergeChecked}
-use Rattle.merge.specs.Chunks.{chunkTotal}
+use Rattle.merge_stores.proofs.FirstChunk.{all-values}
+use Rattle.merge.specs.Chunks.{chunksTest}
+use Rattle.merge.proofs.Totals.{found, refused}
 use Rattle.merge.proofs.Passing.{passed}
 
-module _ (f : Form) (d : ℕ) (sh ns : List ℕ) (c : Content) where
-  abbrev k : Kind
-  k = byteKind d f
-
+module _ (k : Kind) (sh ns : List ℕ) (c : Content) where
   abbrev bs : List Subset
   bs = subsetsOf (length sh) ns
 
-  -- the sizes that the checks give
-  abbrev sizes : ℕ → Sizes
-  sizes s = record { cells = volume sh; count = length ns / (2 * length sh); bytes = s }
-
   pub merge-steps : (room : Lengths) → mergeAnswer k sh ns c room
       ≡ andThen (checkAnswer k sh ns c) (λ z. coverAnswer k sh bs c room)
-  unfolding mergeAnswer checkAnswer storeAnswer chunkTotal
-  merge-steps room = go (kindTest k) (shapeTest sh) (manyTest sh ns) (chunkCells k bs c)
+  unfolding mergeAnswer checkAnswer storeAnswer
+  merge-steps room = go (kindTest k) (shapeTest sh) (manyTest sh ns) (chunksTest k bs c) refl
     where
       -- 12, and then what is left of the call
       covering : Answer Content → Answer Content
       covering a = unless (onceTest (volume sh) (cellsOfAll sh bs)) 12 a
 
-      storing : List (Cell d) → Answer Content
+      storing : List (Cell (k .depth)) → Answer Content
       storing cs = unless (enoughTest (mergeOf k sh bs cs) room) 6 (gives (mergeOf k sh bs cs))
 
-      bytes : List (Cell d) → ℕ
-      bytes cs = length (joined (leaves d cs))
+      bytes : List (Cell (k .depth)) → ℕ
+      bytes cs = length (joined (leaves (k .depth) cs))
 
-      go : (a b m : Bool) (r : Answer (List (Cell d)))
-          → unless a 1 (unless b 2 (unless m 3 (andThen r (λ cs. unless (sizeTest (bytes cs)) 5 (covering (storing cs))))))
-          ≡ andThen (unless a 1 (unless b 2 (unless m 3 (andThen (andThen r (λ cs. gives (bytes cs))) (λ s. unless (sizeTest s) 5 (gives (sizes s)))))))
-          (λ z. covering (andThen r storing))
-      go false b m r = refl
-      go true false m r = refl
-      go true true false r = refl
-      go true true true (refuses n) = refl
-      go true true true (gives cs) = sym (then-unless (sizeTest (bytes cs)) 5 (sizes (bytes cs)) (λ z. covering (storing cs)))
+      sized : Answer Sizes
+      sized = unless (sizeTest (length (c .values))) 5 (gives (record { cells = volume sh; count = length ns / (2 * length sh) }))
+
+      -- with the cells that the list has, or 4
+      after : (t : Bool) → chunksTest k bs c ≡ t
+          → andThen (chunkCells k bs c) (λ cs. unless (sizeTest (bytes cs)) 5 (covering (storing cs)))
+          ≡ andThen (unless t 4 sized) (λ z. covering (andThen (chunkCells k bs c) storing))
+      after false e = ap (λ (r : Answer (List (Cell (k .depth)))). andThen r (λ cs. unless (sizeTest (bytes cs)) 5 (covering (storing cs)))) (refused k bs c e)
+      after true e =
+          let q = found k bs c e in
+          ap (λ (r : Answer (List (Cell (k .depth)))). andThen r (λ cs. unless (sizeTest (bytes cs)) 5 (covering (storing cs)))) (q .1 .are)
+          ∙ ap (λ (n : ℕ). unless (sizeTest n) 5 (covering (storing (q .0)))) (ap length (all-values bs (q .1)))
+          ∙ ap (λ (r : Answer (List (Cell (k .depth)))). unless (sizeTest (length (c .values))) 5 (covering (andThen r storing))) (sym (q .1 .are))
+          ∙ sym (then-unless (sizeTest (length (c .values))) 5 (record { cells = volume sh; count = length ns / (2 * length sh) }) (λ z. covering (andThen (chunkCells k bs c) storing)))
+
+      go : (a b m t : Bool) → chunksTest k bs c ≡ t
+          → unless a 1 (unless b 2 (unless m 3 (andThen (chunkCells k bs c) (λ cs. unless (sizeTest (bytes cs)) 5 (covering (storing cs))))))
+          ≡ andThen (unless a 1 (unless b 2 (unless m 3 (unless t 4 sized)))) (λ z. covering (andThen (chunkCells k bs c) storing))
+      go false b m t e = refl
+      go true false m t e = refl
+      go true true false t e = refl
+      go true true true t e = after t e
 
   module _ (old : Content) where
     whole : merged k sh ns c old ≡ contentOutcome (mergeAnswer k sh ns c (lengthsOf old)) old

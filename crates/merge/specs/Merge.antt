@@ -1,8 +1,8 @@
--- A merge in steps (document 01, Answers): the checks of the chunks; then 12; then 6 and the stores.
--- proofs/Steps has that these are the call.
+-- docs/SPEC.md, S6.6, S7.2: a merge in steps, the checks of the chunks, then 12, then 6 and the stores. proofs/Steps has that these are the call.
 -- Assumes nothing.
 use mathlib.Core.Path.{_≡_}
 use Prim.Native.Nat.{ℕ, _*_, _/_, _≤_}
+use mathlib.Core.Bool.{true}
 use mathlib.Core.List.{List}
 use lib.ListN.{length}
 use Rattle.array.specs.Limits.{mostBytes}
@@ -16,28 +16,26 @@ use Rattle.array.specs.Buffers.{Lengths, enoughTest}
 use Rattle.chunks.specs.Gather.{Once, onceTest}
 use Rattle.chunks.specs.Chunks.{chunkCells, mergeOf}
 use Rattle.cover.specs.Asked.{SubsetsOk}
-use Rattle.merge.specs.Chunks.{chunkTotal}
+use Rattle.merge.specs.Chunks.{chunksTest}
 use Rattle.merge.specs.declared.rules.Checks.{Checks}
 
--- what the stores go by: the cells of the shape, how many subsets there are, the value bytes in cells of all chunks
+-- what the stores go by: the cells of the shape, how many subsets there are
 pub record Sizes : Type 0 where
   pub cells : ℕ
   pub count : ℕ
-  pub bytes : ℕ
 
--- 1, 2, 3, 4, 5
+-- 1, 2, 3, 4, 5. Every value byte of a chunk list is in a cell
 unfoldable pub checkAnswer : Kind → List ℕ → List ℕ → Content → Answer Sizes
 checkAnswer k shape ns c =
-    let bs = subsetsOf (length shape) ns in
     unless (kindTest k) 1
     (unless (shapeTest shape) 2
     (unless (manyTest shape ns) 3
-    (andThen (chunkTotal k bs c) (λ s.
-    unless (sizeTest s) 5
-    (gives (record { cells = volume shape; count = length ns / (2 * length shape); bytes = s }))))))
+    (unless (chunksTest k (subsetsOf (length shape) ns) c) 4
+    (unless (sizeTest (length (c .values))) 5
+    (gives (record { cells = volume shape; count = length ns / (2 * length shape) }))))))
 
 abbrev pub toldChecks : Checks → Answer Sizes
-toldChecks (Checks.Passed n k s) = gives (record { cells = n; count = k; bytes = s })
+toldChecks (Checks.Passed n k) = gives (record { cells = n; count = k })
 toldChecks (Checks.Refused e) = refuses e
 
 -- 6, and the merged content
@@ -54,8 +52,8 @@ pub record MergeChecked (k : Kind) (shape flat : List ℕ) (c : Content) (z : Si
   pub kind : KindOk k
   pub subsets : SubsetsOk shape flat (z .count)
   pub counted : z .cells ≡ volume shape
-  pub summed : gives (z .bytes) ≡ chunkTotal k (nextSubsets (length shape) (z .count) flat) c
-  pub small : z .bytes ≤ mostBytes
+  pub kept : chunksTest k (nextSubsets (length shape) (z .count) flat) c ≡ true
+  pub small : length (c .values) ≤ mostBytes
 
 -- what the stores ask: that no chunk overlaps another or leaves a gap either
 pub record MergeAsked (k : Kind) (shape flat : List ℕ) (c : Content) (z : Sizes) : Type 0 where

@@ -7,7 +7,6 @@ use rules::Checks;
 ghost use mathlib.Core.Path.{_≡_};
 ghost use lib.ListN.{length};
 ghost use Rattle.array.specs.Meaning.{kindOf};
-ghost use Rattle.chunks.proofs.Idle.{inBytes};
 ghost use Rattle.array.specs.Rows.{nextSubsets};
 ghost use Rattle.array.specs.Buffers.{lengthsOf, contentOutcome};
 ghost use Rattle.array.specs.Outcome.{contentArray, outcomeArray};
@@ -21,7 +20,6 @@ fn store_chunks(
     kind: Kind,
     cells: usize,
     count: usize,
-    bytes: usize,
     shape: &[u64],
     subsets: &[u64],
     masks: &[u8],
@@ -31,15 +29,16 @@ fn store_chunks(
     out_values: &mut [u8],
     out_offsets: &mut [u64],
 ) -> WrittenArray
-    requires { ⌜ MergeAsked (inBytes (kindOf kind)) (now shape) (now subsets) (contentArray (now masks) (now values) (now offsets)) (record { cells = cells; count = count; bytes = bytes }) ⌝ }
+    requires { ⌜ MergeAsked (kindOf kind) (now shape) (now subsets) (contentArray (now masks) (now values) (now offsets)) (record { cells = cells; count = count }) ⌝ }
     ensures { λ r. ⌜ outcomeArray r (now («out_masks» .exit)) (now («out_values» .exit)) (now («out_offsets» .exit))
-        ≡ contentOutcome (storeAnswer (inBytes (kindOf kind)) (now (shape .entry)) (nextSubsets (length (now (shape .entry))) count (now (subsets .entry)))
+        ≡ contentOutcome (storeAnswer (kindOf kind) (now (shape .entry)) (nextSubsets (length (now (shape .entry))) count (now (subsets .entry)))
         (contentArray (now (masks .entry)) (now (values .entry)) (now (offsets .entry)))
         (lengthsOf (contentArray (now («out_masks» .entry)) (now («out_values» .entry)) (now («out_offsets» .entry)))))
         (contentArray (now («out_masks» .entry)) (now («out_values» .entry)) (now («out_offsets» .entry))) ⌝ }
 {
     let depth = kind.depth as usize;
     let mask_bytes = depth * cells;
+    let bytes = values.len();
     if out_masks.len() < mask_bytes {
         return WrittenArray::Refused(refusal::OUTPUT);
     }
@@ -89,7 +88,6 @@ fn store_covering(
     kind: Kind,
     cells: usize,
     count: usize,
-    bytes: usize,
     shape: &[u64],
     subsets: &[u64],
     masks: &[u8],
@@ -99,9 +97,9 @@ fn store_covering(
     out_values: &mut [u8],
     out_offsets: &mut [u64],
 ) -> WrittenArray
-    requires { ⌜ MergeChecked (inBytes (kindOf kind)) (now shape) (now subsets) (contentArray (now masks) (now values) (now offsets)) (record { cells = cells; count = count; bytes = bytes }) ⌝ }
+    requires { ⌜ MergeChecked (kindOf kind) (now shape) (now subsets) (contentArray (now masks) (now values) (now offsets)) (record { cells = cells; count = count }) ⌝ }
     ensures { λ r. ⌜ outcomeArray r (now («out_masks» .exit)) (now («out_values» .exit)) (now («out_offsets» .exit))
-        ≡ contentOutcome (coverAnswer (inBytes (kindOf kind)) (now (shape .entry)) (nextSubsets (length (now (shape .entry))) count (now (subsets .entry)))
+        ≡ contentOutcome (coverAnswer (kindOf kind) (now (shape .entry)) (nextSubsets (length (now (shape .entry))) count (now (subsets .entry)))
         (contentArray (now (masks .entry)) (now (values .entry)) (now (offsets .entry)))
         (lengthsOf (contentArray (now («out_masks» .entry)) (now («out_values» .entry)) (now («out_offsets» .entry)))))
         (contentArray (now («out_masks» .entry)) (now («out_values» .entry)) (now («out_offsets» .entry))) ⌝ }
@@ -113,7 +111,6 @@ fn store_covering(
         kind,
         cells,
         count,
-        bytes,
         shape,
         subsets,
         masks,
@@ -144,11 +141,10 @@ pub fn merge(
 {
     match rules::check_merge(kind, shape, subsets, masks, values, offsets) {
         Checks::Refused(e) => WrittenArray::Refused(e),
-        Checks::Passed(cells, count, bytes) => store_covering(
+        Checks::Passed(cells, count) => store_covering(
             kind,
             cells,
             count,
-            bytes,
             shape,
             subsets,
             masks,

@@ -10,22 +10,15 @@ ghost use lib.ListN.{length};
 ghost use Rattle.array.specs.Limits.{mostCells};
 ghost use Rattle.array.specs.Meaning.{formOf, kindOf};
 ghost use Rattle.array.specs.Outcome.{contentArray};
-ghost use Rattle.chunks.proofs.Idle.{inBytes};
 ghost use Rattle.array.specs.Rows.{nextSubsets};
 ghost use Rattle.cover.specs.Asked.{SubsetsOk};
-ghost use Rattle.merge.specs.Chunks.{sizeAnswer, chunkAnswer, chunkTotal, toldChunk, toldTotal};
+ghost use Rattle.merge.specs.Chunks.{sizeAnswer, chunkAnswer, chunksTest, toldChunk};
 ghost use Rattle.merge.specs.Merge.{checkAnswer, toldChecks};
 
-// What a chunk takes: its value bytes, those of them that are in no cell, its offsets.
+// What a chunk takes: its value bytes, its offsets.
 pub enum Chunk {
-    Takes(usize, usize, usize),
+    Takes(usize, usize),
     Bad,
-}
-
-// The bytes in cells of all chunks.
-pub enum Total {
-    Bytes(usize),
-    Refused,
 }
 
 // What a chunk takes by the offsets that are left: a ragged one has as many value bytes as its last offset says.
@@ -34,12 +27,12 @@ fn chunk_size(form: Values, cells: usize, offsets: &[u64]) -> Chunk
     ensures { λ r. ⌜ toldChunk r ≡ sizeAnswer (formOf form) cells (now (offsets .entry)) ⌝ }
 {
     match form {
-        Values::Fixed(size, _) => Chunk::Takes(cells * (size as usize), 0, 0),
+        Values::Fixed(size, _) => Chunk::Takes(cells * (size as usize), 0),
         Values::Ragged(_, _) => {
             if offsets.len() <= cells {
                 return Chunk::Bad;
             }
-            Chunk::Takes(offsets[cells] as usize, offsets[0] as usize, cells + 1)
+            Chunk::Takes(offsets[cells] as usize, cells + 1)
         }
     }
 }
@@ -47,7 +40,7 @@ fn chunk_size(form: Values, cells: usize, offsets: &[u64]) -> Chunk
 // The first of the chunks that are left, of `cells` cells: what it takes, where it keeps the array's rules.
 fn check_chunk(kind: Kind, cells: usize, masks: &[u8], values: &[u8], offsets: &[u64]) -> Chunk
     requires { ⌜ cells ≤ mostCells ⌝ }
-    ensures { λ r. ⌜ toldChunk r ≡ chunkAnswer (inBytes (kindOf kind)) cells (contentArray (now (masks .entry)) (now (values .entry)) (now (offsets .entry))) ⌝ }
+    ensures { λ r. ⌜ toldChunk r ≡ chunkAnswer (kindOf kind) cells (contentArray (now (masks .entry)) (now (values .entry)) (now (offsets .entry))) ⌝ }
 {
     let depth = kind.depth as usize;
     let planes = depth * cells;
@@ -55,7 +48,7 @@ fn check_chunk(kind: Kind, cells: usize, masks: &[u8], values: &[u8], offsets: &
         return Chunk::Bad;
     }
     let form = kind.values;
-    let Chunk::Takes(bytes, unused, numbers) = chunk_size(form, cells, offsets) else {
+    let Chunk::Takes(bytes, numbers) = chunk_size(form, cells, offsets) else {
         return Chunk::Bad;
     };
     if values.len() < bytes {
@@ -70,10 +63,10 @@ fn check_chunk(kind: Kind, cells: usize, masks: &[u8], values: &[u8], offsets: &
     ) {
         return Chunk::Bad;
     }
-    Chunk::Takes(bytes, unused, numbers)
+    Chunk::Takes(bytes, numbers)
 }
 
-// All chunks of a list: the bytes in their cells, or that one breaks the rules or something is left over.
+// Whether all chunks of a list keep the array's rules, and nothing is left over.
 pub fn check_chunks(
     kind: Kind,
     shape: &[u64],
@@ -82,9 +75,9 @@ pub fn check_chunks(
     masks: &[u8],
     values: &[u8],
     offsets: &[u64],
-) -> Total
+) -> bool
     requires { ⌜ SubsetsOk (now shape) (now subsets) count ⌝ }
-    ensures { λ r. ⌜ toldTotal r ≡ chunkTotal (inBytes (kindOf kind)) (nextSubsets (length (now (shape .entry))) count (now (subsets .entry)))
+    ensures { λ r. ⌜ r ≡ chunksTest (kindOf kind) (nextSubsets (length (now (shape .entry))) count (now (subsets .entry)))
         (contentArray (now (masks .entry)) (now (values .entry)) (now (offsets .entry))) ⌝ }
 {
     let d = shape.len();
@@ -94,41 +87,36 @@ pub fn check_chunks(
     let mut p: usize = 0;
     let mut v: usize = 0;
     let mut o: usize = 0;
-    let mut sum: usize = 0;
     while i < count {
         let mid = at + d;
         let end = mid + d;
         let m = subset::volume_of(&subsets[mid..end]) as usize;
         let chunk = check_chunk(kind, m, &masks[p..], &values[v..], &offsets[o..]);
-        let Chunk::Takes(bytes, unused, numbers) = chunk else {
-            return Total::Refused;
+        let Chunk::Takes(bytes, numbers) = chunk else {
+            return false;
         };
         p += depth * m;
         v += bytes;
         o += numbers;
-        sum += bytes - unused;
         at = end;
         i += 1;
     }
     if p != masks.len() {
-        return Total::Refused;
+        return false;
     }
     if v != values.len() {
-        return Total::Refused;
+        return false;
     }
-    if o != offsets.len() {
-        return Total::Refused;
-    }
-    Total::Bytes(sum)
+    o == offsets.len()
 }
 
-// What the stores of a merge go by: the cells of the shape, how many subsets there are, the bytes in cells of all chunks.
+// What the stores of a merge go by: the cells of the shape, how many subsets there are.
 pub enum Checks {
-    Passed(usize, usize, usize),
+    Passed(usize, usize),
     Refused(u8),
 }
 
-// All checks of a merge but those of its cover and its outputs.
+// All checks of a merge but those of its cover and its outputs. 5 goes by the value bytes, which are all in cells.
 pub fn check_merge(
     kind: Kind,
     shape: &[u64],
@@ -137,7 +125,7 @@ pub fn check_merge(
     values: &[u8],
     offsets: &[u64],
 ) -> Checks
-    ensures { λ r. ⌜ toldChecks r ≡ checkAnswer (inBytes (kindOf kind)) (now (shape .entry)) (now (subsets .entry))
+    ensures { λ r. ⌜ toldChecks r ≡ checkAnswer (kindOf kind) (now (shape .entry)) (now (subsets .entry))
         (contentArray (now (masks .entry)) (now (values .entry)) (now (offsets .entry))) ⌝ }
 {
     if !valid::kind::check_kind(kind) {
@@ -150,12 +138,11 @@ pub fn check_merge(
         return Checks::Refused(refusal::SUBSET);
     }
     let count = subsets.len() / (2 * shape.len());
-    let Total::Bytes(bytes) = check_chunks(kind, shape, subsets, count, masks, values, offsets)
-    else {
+    if !check_chunks(kind, shape, subsets, count, masks, values, offsets) {
         return Checks::Refused(refusal::CONTENT);
-    };
-    if bytes > MOST_BYTES {
+    }
+    if values.len() > MOST_BYTES {
         return Checks::Refused(refusal::SIZE);
     }
-    Checks::Passed(cells, count, bytes)
+    Checks::Passed(cells, count)
 }

@@ -82,13 +82,13 @@ module _ (sh flat : List ℕ) (count : ℕ) (d src : List ℕ) (q : LengthsAllAs
         abbrev cs : List ℕ
         cs = cellsIn sh (pairs (startsAt (length sh) at flat) (lengthsAt (length sh) at flat))
 
-        pub lengths-more : LengthsAll sh flat count d src o′ (i + 1) (at + length sh + length sh) (first + (k + 1))
-        lengths-more =
+        pub lengths-more : {first′ : ℕ} → first′ ≡ first + k + 1 → LengthsAll sh flat count d src o′ (i + 1) (at + length sh + length sh) first′
+        lengths-more {first′} ef =
             let xs : List ℕ = steps (drop first src) in
             let lp : length (places (fixedAt 1 1) cs) ≡ m = length-places 1 1 cs ∙ mul-one (length cs) ∙ length-cellsIn sh b (now-within sh flat count i at (c .geo) h .inside) in
             let lx : m ≤ length (steps (drop first src)) = omega (arith, length-steps (drop first src), now .0) in
             let ek : m ≡ k = cells-now ∙ sym e in
-            let e₁ : drop (suc m) (drop first src) ≡ drop (first + (k + 1)) src = let z : first + suc m ≡ first + (k + 1) = omega arith in drop-drop (suc m) first src ∙ ap (λ (x : ℕ). drop x src) z in
+            let e₁ : drop (suc m) (drop first src) ≡ drop first′ src = let z : first + suc m ≡ first′ = omega arith in drop-drop (suc m) first src ∙ ap (λ (x : ℕ). drop x src) z in
             let stored : scatter o (places (fixedAt 1 1) cs) (take m (steps (drop first src))) ≡ o′ =
             sym (scatter-enough o (places (fixedAt 1 1) cs) (steps (drop first src)) m lp lx) ∙ ap (scatter o (places (fixedAt 1 1) cs)) (sym (drop-steps first src)) ∙ sym p in
             record {

@@ -9,10 +9,9 @@ use mathlib.Core.List.{List, [], _∷_, _++_, map}
 use lib.ListN.{length, take, drop, length-drop, length-append, length-map}
 use lib.Dec.{eqb}
 use lib.Seq.{drop-drop, length-take-le}
-use Rattle.array.specs.Answer.{gives, unless}
 use Rattle.array.specs.Cells.{Value, Cell, maskOf, blank, inners}
 use Rattle.array.specs.Content.{Content, attach, pairUp, valuesIn, cellsOf, masksOf}
-use Rattle.array.specs.Kind.{byteKind, Kind, Form}
+use Rattle.array.specs.Kind.{Kind}
 use Rattle.array.specs.Lists.{All, joined, from, pick}
 use Rattle.array.specs.Shape.{volume}
 use Rattle.array.specs.Subset.{Subset, lengths, cellsIn, cellsOfAll, SubsetOk}
@@ -20,12 +19,12 @@ use Rattle.array.specs.Places.{fixedAt}
 use Rattle.array.proofs.LayoutLaws.{inners-pairUp, length-attach, values-length}
 use Rattle.array.proofs.Lists.{map-append, map-map, map-cong, take-within, from-suc}
 use Rattle.array.proofs.SubsetLaws.{length-cellsIn}
-use Rattle.chunks.specs.Chunks.{firstChunk, laterChunks, chunkCells, nothingTest}
+use Rattle.chunks.specs.Chunks.{firstChunk}
 use Rattle.chunks.specs.Gather.{lookup, putBack, Once}
 use Rattle.merge_stores.specs.Scatter.{scatter, places}
 use Rattle.merge_stores.specs.Store.{parts, levelAt, cellsTotal}
 use Rattle.merge_stores.proofs.Blocks.{fixed-block}
-use Rattle.merge_stores.proofs.FirstChunk.{first-of}
+use Rattle.merge_stores.proofs.FirstChunk.{Chunked, none-of, first-of}
 
 -- ---- merging and what is done to each element
 
@@ -84,32 +83,24 @@ level-attach n vs ev (suc d) (suc l) ps h e =
     ap (levelAt d l) (inners-pairUp (take n ps) (attach d n (drop n ps) vs) (lt ∙ sym (length-attach n vs ev d (drop n ps) ld)))
     ∙ level-attach n vs ev d l (drop n ps) (omega arith) ld ∙ ap (take n) (drop-drop (n * l) n ps ∙ ap (λ (k : ℕ). drop k ps) q)
 
-module _ (f : Form) (d : ℕ) where
-  abbrev k : Kind
-  k = byteKind d f
+none-at : (d l : ℕ) → levelAt d l [] ≡ []
+none-at zero l = refl
+none-at (suc d) zero = refl
+none-at (suc d) (suc l) = none-at d l
 
-  pub chunk-levels : (l : ℕ) → l < d → (bs : List Subset) (c : Content) (cs : List (Cell d)) → chunkCells k bs c ≡ gives cs → levelAt d l cs ≡ parts l d 1 bs (c .masks)
-  unfolding chunkCells
-  chunk-levels l h [] c cs e = go (nothingTest c) e
-    where
-      none : (d l : ℕ) → levelAt d l [] ≡ []
-      none zero l = refl
-      none (suc d) zero = refl
-      none (suc d) (suc l) = none d l
-
-      go : (t : Bool) → unless t 4 (gives []) ≡ gives cs → levelAt d l cs ≡ []
-      go true e = let q : cs ≡ [] = cc in ap (levelAt d l) q ∙ none d l
-      go false e = let z : _≡_ {A = ℕ} 0 1 = cc in absurd (omega arith)
-  chunk-levels l h (b ∷ bs) c cs e =
-      let m : ℕ = volume (lengths b) in
-      let p = first-of f d b bs c cs e in
-      let first : Content = firstChunk k m c in
-      let room : m * l + m ≤ d * m = omega (arith, mul-suc m l, mul-comm m (suc l), mul-le-mul-right {m = suc l} {n = d} m h) in
-      ap (levelAt d l) (p .whole) ∙ level-append d l (cellsOf k m first) (p .later)
-      ∙ ap₂ (λ (x y : List ℕ). x ++ y)
-      (level-attach m (valuesIn f m first) (values-length f m first (p .ok .values-fit)) d l (first .masks) h (p .ok .masks-fit)
-      ∙ take-within (m * l) m (d * m) (c .masks) room ∙ ap (λ (n : ℕ). take n (drop (m * l) (c .masks))) (sym (mul-one m)))
-      (chunk-levels l h bs (laterChunks k m c) (p .later) (p .is-later) ∙ ap (λ (n : ℕ). parts l d 1 bs (drop n (c .masks))) (mul-comm d m))
+pub chunk-levels : {k : Kind} (l : ℕ) → l < k .depth → (bs : List Subset) {c : Content} {cs : List (Cell (k .depth))} → Chunked k bs c cs → levelAt (k .depth) l cs ≡ parts l (k .depth) 1 bs (c .masks)
+chunk-levels {k} l h [] e = ap (levelAt (k .depth) l) (none-of e .0) ∙ none-at (k .depth) l
+chunk-levels {k} l h (b ∷ bs) {c} e =
+    let d : ℕ = k .depth in
+    let m : ℕ = volume (lengths b) in
+    let p = first-of e in
+    let first : Content = firstChunk k m c in
+    let room : m * l + m ≤ d * m = omega (arith, mul-suc m l, mul-comm m (suc l), mul-le-mul-right {m = suc l} {n = d} m h) in
+    ap (levelAt d l) (p .whole) ∙ level-append d l (cellsOf k m first) (p .later)
+    ∙ ap₂ (λ (x y : List ℕ). x ++ y)
+    (level-attach m (valuesIn (k .form) m first) (values-length (k .form) m first (p .ok .values-fit)) d l (first .masks) h (p .ok .masks-fit)
+    ∙ take-within (m * l) m (d * m) (c .masks) room ∙ ap (λ (n : ℕ). take n (drop (m * l) (c .masks))) (sym (mul-one m)))
+    (chunk-levels l h bs (p .is-later) ∙ ap (λ (n : ℕ). parts l d 1 bs (drop n (c .masks))) (mul-comm d m))
 
 -- ---- how long the parts are
 

@@ -1,12 +1,12 @@
 -- Ragged values merged: the offsets that are summed from merged lengths are those of the merged values, and values stored by them are laid end to end.
 -- Assumes nothing.
 use mathlib.Core.Path.{_≡_, refl, sym, ap, ap₂, _∙_, subst}
-use Prim.Native.Nat.{ℕ, zero, suc, _+_, _<_, _≤_}
+use Prim.Native.Nat.{ℕ, zero, suc, _+_, _-_, _<_, _≤_}
 use native.Mathlib.Nat.{add-zero, zero-add, add-assoc}
 use native.Mathlib.Omega.{arith}
 use mathlib.Core.Bool.{Bool, true, false}
 use mathlib.Core.List.{List, [], _∷_, _++_, map}
-use lib.ListN.{length, getD, take, drop, length-map, List·getD-append, List·getD-map}
+use lib.ListN.{length, getD, take, drop, length-append, length-map, List·getD-append, List·getD-map}
 use lib.Dec.{eqb}
 use lib.Seq.{take-suc}
 use borrow.Author.Tests.{eq-eqb}
@@ -74,6 +74,20 @@ All-at P [] a i h = absurd (omega arith)
 All-at P (j ∷ js) a zero h = a .0
 All-at P (j ∷ js) a (suc i) h = All-at P js (a .1) i (omega arith)
 
+-- places that step by these lengths are as many as they sum to
+places-long : (off : ℕ → ℕ) (js ls : List ℕ) → length js ≡ length ls → ((i : ℕ) → i < length js → off (suc (getD js i 0)) ≡ off (getD js i 0) + getD ls i 0) → length (places off js) ≡ sum ls
+places-long off [] [] e f = refl
+places-long off [] (l ∷ ls) e f = absurd (omega arith)
+places-long off (j ∷ js) [] e f = absurd (omega arith)
+places-long off (j ∷ js) (l ∷ ls) e f =
+    omega (
+      arith,
+      length-append (from (off j) (off (suc j) - off j)) (places off js),
+      length-from (off j) (off (suc j) - off j),
+      f 0 (omega arith),
+      places-long off js ls (omega arith) (λ i h. f (suc i) (omega arith)),
+    )
+
 module _ (n : ℕ) (js : List ℕ) (a : All (λ j. j < n) js) (once : Once n js) where
   pub putBack-at : {A : Type 0} (z : A) (xs : List A) (i : ℕ) → length js ≡ length xs → i < length js → getD (putBack z n js xs) (getD js i 0) z ≡ getD xs i z
   putBack-at z xs i e h =
@@ -84,15 +98,23 @@ module _ (n : ℕ) (js : List ℕ) (a : All (λ j. j < n) js) (once : Once n js)
     long : length (putBack 0 n js ls) ≡ n
     long = length-map (from 0 n) (λ k. lookup 0 k js ls) ∙ length-from 0 n
 
-    -- the merged offsets step, at the i-th cell of the list, by the i-th length
-    pub agrees-all : (i : ℕ) → i < length js
-        → offsetAt ((0 ∷ sums 0 (putBack 0 n js ls)) ++ t) (suc (getD js i 0)) ≡ offsetAt ((0 ∷ sums 0 (putBack 0 n js ls)) ++ t) (getD js i 0) + getD ls i 0
-    agrees-all i h =
-        let j : ℕ = getD js i 0 in
+    step : (j : ℕ) → j < n → offsetAt ((0 ∷ sums 0 (putBack 0 n js ls)) ++ t) (suc j) ≡ offsetAt ((0 ∷ sums 0 (putBack 0 n js ls)) ++ t) j + getD (putBack 0 n js ls) j 0
+    step j h =
         let xs : List ℕ = putBack 0 n js ls in
-        let l : j < n = All-at (λ j. j < n) js a i h in
         let s : sum (take (suc j) xs) ≡ sum (take j xs) + getD xs j 0 = ap sum (take-suc xs j 0 (omega (arith, long))) ∙ sum-append (take j xs) (getD xs j 0 ∷ []) ∙ omega arith in
-        omega (arith, offset-is xs t j (omega (arith, long)), offset-is xs t (suc j) (omega (arith, long)), s, putBack-at 0 ls i e h)
+        omega (arith, offset-is xs t j (omega (arith, long)), offset-is xs t (suc j) (omega (arith, long)), s)
+
+    -- the merged offsets step, at the i-th cell of the list, by the i-th length
+    agrees-all : (i : ℕ) → i < length js
+        → offsetAt ((0 ∷ sums 0 (putBack 0 n js ls)) ++ t) (suc (getD js i 0)) ≡ offsetAt ((0 ∷ sums 0 (putBack 0 n js ls)) ++ t) (getD js i 0) + getD ls i 0
+    agrees-all i h = omega (arith, step (getD js i 0) (All-at (λ j. j < n) js a i h), putBack-at 0 ls i e h)
+
+    -- and so have as many places as the lengths say
+    pub places-merged : length (places (offsetAt ((0 ∷ sums 0 (putBack 0 n js ls)) ++ t)) js) ≡ sum ls
+    places-merged = places-long (offsetAt ((0 ∷ sums 0 (putBack 0 n js ls)) ++ t)) js ls e agrees-all
+
+    pub rises-merged : (j : ℕ) → j < n → offsetAt ((0 ∷ sums 0 (putBack 0 n js ls)) ++ t) j ≤ offsetAt ((0 ∷ sums 0 (putBack 0 n js ls)) ++ t) (suc j)
+    rises-merged j h = omega (arith, step j h)
 
   beside-from : (P : ℕ → Value → Type 0) (ks : List ℕ) (vs : List Value) → length ks ≡ length vs → ((i : ℕ) → i < length ks → P (getD ks i 0) (getD vs i [])) → Beside P ks vs
   beside-from P [] [] e f = tt

@@ -19,8 +19,9 @@ use Rattle.cover.proofs.SubsetWalk.{all-inside}
 use Rattle.merge_stores.specs.Ragged.{sums, sum, stepParts, offsetsMerged, RaggedMergeAsked, RaggedAllAsked}
 use Rattle.merge_stores.specs.Scatter.{scatter, places}
 use Rattle.merge_stores.proofs.Blocks.{sum-append}
+use Rattle.merge_stores.proofs.Closing.{sum-putBack}
 use Rattle.merge_stores.proofs.Levels.{level-block}
-use Rattle.merge_stores.proofs.RaggedMerge.{offset-is, length-sums}
+use Rattle.merge_stores.proofs.RaggedMerge.{offset-is, length-sums, places-merged, rises-merged}
 use Rattle.merge_stores.proofs.Scattering.{length-scatter}
 
 module _ (sh flat : List ℕ) (count : ℕ) (dv d values src : List ℕ) (n : ℕ) (q : RaggedMergeAsked sh flat count dv d values src n) where
@@ -52,9 +53,13 @@ module _ (sh flat : List ℕ) (count : ℕ) (dv d values src : List ℕ) (n : �
         let z : 1 + volume sh ≡ n + 1 = omega (arith, q .counted) in
         ap (drop (n + 1)) is ∙ drop-at (take 1 d ++ xs) (drop (1 + volume sh) d) (n + 1) (length-append (take 1 d) xs ∙ omega (arith, one, long-xs)) ∙ ap (λ (k : ℕ). drop k d) z
 
+    -- the lengths sum to the value bytes
+    sum-is : sum xs ≡ length values
+    sum-is = sum-putBack (volume sh) (cellsOfAll sh bs) (stepParts bs src) (all-below sh bs ok) (q .once) (q .as-many) ∙ q .summed
+
     pub second-asked : (n < length o) × (sum (take n (drop 1 o)) ≤ mostBytes)
     second-asked =
-        (omega (arith, q .room, ap length p, length-scatter d (places (fixedAt 1 1) (cellsOfAll sh bs)) (stepParts bs src)), omega (arith, ap sum lengths-are, q .small))
+        (omega (arith, q .room, ap length p, length-scatter d (places (fixedAt 1 1) (cellsOfAll sh bs)) (stepParts bs src)), omega (arith, ap sum lengths-are, sum-is, q .small))
 
     module _ (o′ : List ℕ) (p′ : o′ ≡ (0 ∷ sums 0 (take n (drop 1 o))) ++ drop (n + 1) o) where
       pub offsets-are : o′ ≡ offsetsMerged sh (nextSubsets (length sh) count flat) src ++ drop (n + 1) d
@@ -63,14 +68,17 @@ module _ (sh flat : List ℕ) (count : ℕ) (dv d values src : List ℕ) (n : �
       below : (j : ℕ) → j ≤ volume sh → offsetAt (offsetsMerged sh (nextSubsets (length sh) count flat) src ++ drop (n + 1) d) j ≤ length dv
       below j h =
           let s : sum xs ≡ sum (take j xs) + sum (drop j xs) = ap sum (sym (take-append-drop j xs)) ∙ sum-append (take j xs) (drop j xs) in
-          omega (arith, offset-is xs (drop (n + 1) d) j (omega (arith, long-xs, q .counted)), s, q .enough)
+          omega (arith, offset-is xs (drop (n + 1) d) j (omega (arith, long-xs, q .counted)), s, sum-is, q .enough)
 
-      pub third-asked : RaggedAllAsked sh flat count dv o′ values src
+      pub third-asked : RaggedAllAsked sh flat count dv o′ values
       third-asked =
-          subst (λ (r : List ℕ). RaggedAllAsked sh flat count dv r values src) (sym offsets-are)
+          subst (λ (r : List ℕ). RaggedAllAsked sh flat count dv r values) (sym offsets-are)
           (record {
             subsets = q .subsets;
-            covered = omega (arith, length-append (0 ∷ sums 0 xs) (drop (n + 1) d), length-sums 0 xs, long-xs, q .counted);
-            room = below;
-            chunks = q .chunks (drop (n + 1) d);
+            laid = record {
+              covered = omega (arith, length-append (0 ∷ sums 0 xs) (drop (n + 1) d), length-sums 0 xs, long-xs, q .counted);
+              rises = rises-merged (volume sh) (cellsOfAll sh bs) (all-below sh bs ok) (q .once) (stepParts bs src) (drop (n + 1) d) (q .as-many);
+              room = below;
+            };
+            enough = omega (arith, places-merged (volume sh) (cellsOfAll sh bs) (all-below sh bs ok) (q .once) (stepParts bs src) (drop (n + 1) d) (q .as-many), q .summed);
           })

@@ -15,6 +15,14 @@ use Rattle.subset.proofs.Rows.{Left, left-next, left-more, left-ends}
 use Rattle.merge_stores.specs.Scatter.{scatter, places}
 use Rattle.merge_stores.proofs.Scattering.{scatter-next, places-append, places-run, Steps}
 
+-- the places of the cells that are left begin with those of the next row
+pub row-places : (off : ℕ → ℕ) (cs : List ℕ) (cells n at : ℕ) → Left cs cells n at → at < cells → (a : ℕ) → a ≡ getD cs at 0 → Steps off a n
+    → places off (drop at cs) ≡ from (off a) (off (a + n) - off a) ++ places off (drop (at + n) cs)
+row-places off cs cells n at g h a e s =
+    ap (places off) (left-next cs cells n at g h ∙ ap (λ (k : ℕ). from k n ++ drop (at + n) cs) (sym e))
+    ∙ places-append off (from a n) (drop (at + n) cs)
+    ∙ ap (λ (r : List ℕ). r ++ places off (drop (at + n) cs)) (places-run off n a s)
+
 -- the rows before `at` are stored, `done` bytes of the chunk
 
 pub record Store (off : ℕ → ℕ) (cs xs d o : List ℕ) (cells n at done : ℕ) : Type 0 where
@@ -32,22 +40,17 @@ module _ (off : ℕ → ℕ) (cs xs d o : List ℕ) (cells n at done : ℕ) (c :
   -- the row's bytes lie at `to`, w of them, and go on `done′` in all
   module _ (h : at < cells) (a : ℕ) (e : a ≡ getD cs at 0) (s : Steps off a n) (to w done′ : ℕ) (eo : to ≡ off a) (ew : off (a + n) ≡ off a + w) (ed : done′ ≡ done + w)
       (room : to + w ≤ length d) (enough : done′ ≤ length xs) (o′ : List ℕ) (p : o′ ≡ overAt to (take w (drop done xs)) o) where
-    next : places off (drop at cs) ≡ from to w ++ places off (drop (at + n) cs)
-    next =
-        let q : off (a + n) - off a ≡ w = omega arith in
-        ap (places off) (left-next cs cells n at (c .geo) h ∙ ap (λ (k : ℕ). from k n ++ drop (at + n) cs) (sym e))
-        ∙ places-append off (from a n) (drop (at + n) cs)
-        ∙ ap (λ (r : List ℕ). r ++ places off (drop (at + n) cs)) (places-run off n a s ∙ ap₂ from (sym eo) q)
-
     pub store-more : Store off cs xs d o′ cells n (at + n) done′
     store-more =
         let l : w ≤ length (drop done xs) = omega (arith, length-drop done xs) in
         let r : to + w ≤ length o = omega (arith, c .long) in
+        let ew′ : off (a + n) - off a ≡ w = omega arith in
         let q : o′ ≡ paste o to (drop done xs) w = p ∙ sym (paste-over o to (drop done xs) w (omega arith) l) in
         record {
           geo = left-more cs cells n at (c .geo) h;
           long = ap length q ∙ length-paste o to (drop done xs) w r l ∙ c .long;
-          same = c .same ∙ ap (λ (ps : List ℕ). scatter o ps (drop done xs)) next ∙ scatter-next o to w (places off (drop (at + n) cs)) (drop done xs) r l
+          same = c .same ∙ ap (λ (ps : List ℕ). scatter o ps (drop done xs)) (row-places off cs cells n at (c .geo) h a e s ∙ ap₂ (λ (x y : ℕ). from x y ++ places off (drop (at + n) cs)) (sym eo) ew′)
+              ∙ scatter-next o to w (places off (drop (at + n) cs)) (drop done xs) r l
               ∙ ap₂ (λ (x k : List ℕ). scatter x (places off (drop (at + n) cs)) k) (sym q) (drop-drop w done xs ∙ ap (λ (k : ℕ). drop k xs) (sym ed));
         }
 

@@ -6,8 +6,8 @@ use native.Mathlib.Nat.{add-zero}
 use native.Mathlib.Omega.{arith}
 use mathlib.Core.Bool.{Bool, true, false}
 use mathlib.Core.List.{List, [], _∷_, _++_, map, append-assoc}
-use lib.ListN.{length, getD, take, drop, set, length-set, take-append-drop}
-use lib.Seq.{paste, take-suc-set, drop-set-lt, append-snoc, length-take-le, getD-set-same, getD-set-other}
+use lib.ListN.{length, getD, take, drop, set, length-set}
+use lib.Seq.{paste, take-suc-set, drop-set-lt, append-snoc, getD-set-same, getD-set-other}
 use lib.Dec.{eqb}
 use borrow.Author.Tests.{eqb-true, eqb-false}
 use Rattle.array.specs.Lists.{from, pick, count}
@@ -32,6 +32,12 @@ module _ {A : Type 0} where
   scatter-then acc (j ∷ js) ks [] ys e = absurd (omega arith)
   scatter-then acc (j ∷ js) ks (x ∷ xs) ys e = scatter-then (set acc j x) js ks xs ys (omega arith)
 
+  -- the others go on in the elements behind
+  pub scatter-on : (acc : List A) (js ks : List ℕ) (xs : List A) → length js ≤ length xs → scatter acc (js ++ ks) xs ≡ scatter (scatter acc js xs) ks (drop (length js) xs)
+  scatter-on acc [] ks xs h = refl
+  scatter-on acc (j ∷ js) ks [] h = absurd (omega arith)
+  scatter-on acc (j ∷ js) ks (x ∷ xs) h = scatter-on (set acc j x) js ks xs (omega arith)
+
   pub scatter-run : (n : ℕ) (acc : List A) (a : ℕ) (xs : List A) → a + n ≤ length acc → n ≤ length xs → scatter acc (from a n) xs ≡ paste acc a xs n
   scatter-run zero acc a xs h l = lib.Seq.paste-zero acc a xs
   scatter-run (suc n) acc a [] h l = absurd (omega arith)
@@ -45,10 +51,8 @@ module _ {A : Type 0} where
 pub scatter-next : (acc : List ℕ) (a n : ℕ) (js xs : List ℕ) → a + n ≤ length acc → n ≤ length xs
     → scatter acc (from a n ++ js) xs ≡ scatter (paste acc a xs n) js (drop n xs)
 scatter-next acc a n js xs h l =
-    let e : length (take n xs) ≡ n = length-take-le n xs l in
-    ap (scatter acc (from a n ++ js)) (sym (take-append-drop n xs))
-    ∙ scatter-then acc (from a n) js (take n xs) (drop n xs) (length-from a n ∙ sym e)
-    ∙ ap (λ (r : List ℕ). scatter r js (drop n xs)) (scatter-run n acc a (take n xs) h (omega arith) ∙ ap (λ (r : List ℕ). take a acc ++ r ++ drop (a + n) acc) (lib.Seq.take-take n n xs (omega arith)))
+    scatter-on acc (from a n) js xs (omega (arith, length-from a n))
+    ∙ ap₂ (λ (r : List ℕ) (k : ℕ). scatter r js (drop k xs)) (scatter-run n acc a xs h l) (length-from a n)
 
 -- ---- a merge by stores is the merge
 

@@ -1,9 +1,9 @@
--- Ragged values of a list of chunks (document 01, item 6): where they lie, how long they are, and what their stores ask.
+-- docs/SPEC.md, S3.6, S3.8: ragged values of a list of chunks. How long they are, the offsets that these add up to, and what their stores ask.
 -- Assumes nothing.
 use mathlib.Core.Path.{_≡_}
 use Prim.Native.Nat.{ℕ, suc, _+_, _-_, _≤_, _<_}
 use mathlib.Core.List.{List, [], _∷_, _++_}
-use lib.ListN.{length, getD, take, drop}
+use lib.ListN.{length, take, drop}
 use Rattle.array.specs.Limits.{mostBytes}
 use Rattle.array.specs.Shape.{volume, ShapeOk}
 use Rattle.array.specs.Subset.{Subset, lengths, pairs, cellsIn, cellsOfAll}
@@ -11,15 +11,7 @@ use Rattle.array.specs.Rows.{Within, nextSubsets}
 use Rattle.array.specs.Places.{offsetAt}
 use Rattle.chunks.specs.Gather.{putBack, Once}
 use Rattle.cover.specs.Asked.{SubsetsOk}
-
--- ---- value bytes
-
--- the value bytes of a chunk list, chunk by chunk, those before a first offset left out
-abbrev pub raggedParts : List Subset → List ℕ → List ℕ → List ℕ
-raggedParts [] os vs = []
-raggedParts (b ∷ bs) os vs =
-    take (offsetAt os (volume (lengths b)) - offsetAt os 0) (drop (offsetAt os 0) vs)
-    ++ raggedParts bs (drop (suc (volume (lengths b))) os) (drop (offsetAt os (volume (lengths b))) vs)
+use Rattle.merge_stores.specs.Scatter.{places}
 
 -- ---- lengths, and offsets from them
 
@@ -56,10 +48,11 @@ offsetsMerged shape bs src = 0 ∷ sums 0 (putBack 0 (volume shape) (cellsOfAll 
 abbrev pub RisesFor : List ℕ → ℕ → ℕ → Type 0
 RisesFor src first m = (i : ℕ) → i < m → offsetAt src (first + i) ≤ offsetAt src (suc (first + i))
 
--- the output's offsets step, at each of the cells, by the length of the chunk's next value
-abbrev pub Agrees : List ℕ → List ℕ → ℕ → List ℕ → Type 0
-Agrees begins src first cs =
-    (i : ℕ) → i < length cs → offsetAt begins (suc (getD cs i 0)) ≡ offsetAt begins (getD cs i 0) + (offsetAt src (suc (first + i)) - offsetAt src (first + i))
+-- the output's offsets never fall, and lie within its values
+pub record Begins (shape out begins : List ℕ) : Type 0 where
+  pub covered : volume shape < length begins
+  pub rises : (j : ℕ) → j < volume shape → offsetAt begins j ≤ offsetAt begins (suc j)
+  pub room : (j : ℕ) → j ≤ volume shape → offsetAt begins j ≤ length out
 
 -- of one chunk: its lengths, its values
 pub record LengthsAsked (shape starts lens out src : List ℕ) (first : ℕ) : Type 0 where
@@ -69,32 +62,16 @@ pub record LengthsAsked (shape starts lens out src : List ℕ) (first : ℕ) : T
   pub indexed : first + volume lens < length src
   pub room : volume shape < length out
 
-pub record RaggedAsked (shape starts lens out begins values : List ℕ) (base : ℕ) (src : List ℕ) (first : ℕ) : Type 0 where
+pub record RaggedAsked (shape starts lens out begins values : List ℕ) (first : ℕ) : Type 0 where
   pub shaped : ShapeOk shape
   pub fits : Within shape starts lens
-  pub agrees : Agrees begins src first (cellsIn shape (pairs starts lens))
-  pub rises : RisesFor src first (volume lens)
-  pub indexed : first + volume lens < length src
-  pub covered : volume shape < length begins
-  pub room : (j : ℕ) → j ≤ volume shape → offsetAt begins j ≤ length out
-  pub enough : base + offsetAt src (first + volume lens) ≤ length values
+  pub laid : Begins shape out begins
+  pub enough : first + length (places (offsetAt begins) (cellsIn shape (pairs starts lens))) ≤ length values
 
 -- chunk by chunk: offsets that never fall
 abbrev pub LengthChunks : List Subset → List ℕ → Type 0
 LengthChunks [] os = Unit {0}
 LengthChunks (b ∷ bs) os = (volume (lengths b) < length os) × RisesFor os 0 (volume (lengths b)) × LengthChunks bs (drop (suc (volume (lengths b))) os)
-
--- and within the values, and the output's offsets step by the chunk's lengths
-pub record RaggedChunk (begins shape : List ℕ) (b : Subset) (os vs : List ℕ) : Type 0 where
-  pub agrees : Agrees begins os 0 (cellsIn shape b)
-  pub rises : RisesFor os 0 (volume (lengths b))
-  pub indexed : volume (lengths b) < length os
-  pub enough : offsetAt os (volume (lengths b)) ≤ length vs
-
-abbrev pub RaggedChunks : List ℕ → List ℕ → List Subset → List ℕ → List ℕ → Type 0
-RaggedChunks begins shape [] os vs = Unit {0}
-RaggedChunks begins shape (b ∷ bs) os vs =
-    RaggedChunk begins shape b os vs × RaggedChunks begins shape bs (drop (suc (volume (lengths b))) os) (drop (offsetAt os (volume (lengths b))) vs)
 
 -- of all chunks: their lengths, their values
 pub record LengthsAllAsked (shape flat : List ℕ) (count : ℕ) (out src : List ℕ) : Type 0 where
@@ -102,13 +79,12 @@ pub record LengthsAllAsked (shape flat : List ℕ) (count : ℕ) (out src : List
   pub room : volume shape < length out
   pub chunks : LengthChunks (nextSubsets (length shape) count flat) src
 
-pub record RaggedAllAsked (shape flat : List ℕ) (count : ℕ) (out begins values src : List ℕ) : Type 0 where
+pub record RaggedAllAsked (shape flat : List ℕ) (count : ℕ) (out begins values : List ℕ) : Type 0 where
   pub subsets : SubsetsOk shape flat count
-  pub covered : volume shape < length begins
-  pub room : (j : ℕ) → j ≤ volume shape → offsetAt begins j ≤ length out
-  pub chunks : RaggedChunks begins shape (nextSubsets (length shape) count flat) src values
+  pub laid : Begins shape out begins
+  pub enough : length (places (offsetAt begins) (cellsOfAll shape (nextSubsets (length shape) count flat))) ≤ length values
 
--- of both: the lengths of the values, put back, are few and fit the output
+-- of both: the value bytes are as many as the lengths say, few, and fit the output
 pub record RaggedMergeAsked (shape flat : List ℕ) (count : ℕ) (outv outo values src : List ℕ) (n : ℕ) : Type 0 where
   pub subsets : SubsetsOk shape flat count
   pub once : Once (volume shape) (cellsOfAll shape (nextSubsets (length shape) count flat))
@@ -116,6 +92,6 @@ pub record RaggedMergeAsked (shape flat : List ℕ) (count : ℕ) (outv outo val
   pub room : n < length outo
   pub lengths-fit : LengthChunks (nextSubsets (length shape) count flat) src
   pub as-many : length (cellsOfAll shape (nextSubsets (length shape) count flat)) ≡ length (stepParts (nextSubsets (length shape) count flat) src)
-  pub small : sum (putBack 0 (volume shape) (cellsOfAll shape (nextSubsets (length shape) count flat)) (stepParts (nextSubsets (length shape) count flat) src)) ≤ mostBytes
-  pub enough : sum (putBack 0 (volume shape) (cellsOfAll shape (nextSubsets (length shape) count flat)) (stepParts (nextSubsets (length shape) count flat) src)) ≤ length outv
-  pub chunks : (t : List ℕ) → RaggedChunks (offsetsMerged shape (nextSubsets (length shape) count flat) src ++ t) shape (nextSubsets (length shape) count flat) src values
+  pub summed : sum (stepParts (nextSubsets (length shape) count flat) src) ≡ length values
+  pub small : length values ≤ mostBytes
+  pub enough : length values ≤ length outv

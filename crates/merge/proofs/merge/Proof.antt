@@ -3,9 +3,8 @@
 use mathlib.Core.Path.{_≡_, sym, ap, _∙_}
 use borrow.Author.Needs.{needs}
 use Rattle.array.specs.Answer.{gives}
-use Rattle.array.specs.Kind.{Form}
-use Rattle.array.specs.Meaning.{formOf, kindOf}
-use Rattle.chunks.proofs.Idle.{inBytes, merged-idle}
+use Rattle.array.specs.Kind.{Kind}
+use Rattle.array.specs.Meaning.{kindOf}
 use Rattle.array.specs.Content.{Content}
 use Rattle.array.specs.Outcome.{contentArray, outcomeArray}
 use Rattle.merge.specs.Merge.{Sizes, checkAnswer, toldChecks}
@@ -23,19 +22,19 @@ handed a = contentArray (a .args .masks .now) (a .args .values .now) (a .args .o
 abbrev lent : tie.Start → Content
 lent a = contentArray (a .args .out-masks .now) (a .args .out-values .now) (a .args .out-offsets .now)
 
-abbrev form : tie.Start → Form
-form a = formOf (a .args .kind .values)
+abbrev kind : tie.Start → Kind
+kind a = kindOf (a .args .kind)
 
 -- the checks passed: what they found
 abbrev checked : tie.After-known-told2 → tie.After-check-merge
 checked k = k .before .before .before
 
 abbrev sizes : tie.After-known-told2 → Sizes
-sizes k = let g = k .before .cells .given .0 in record { cells = g .0; count = g .1 .0; bytes = g .1 .1 .0 }
+sizes k = let g = k .before .cells .given .0 in record { cells = g .0; count = g .1 .0 }
 
 passed : (k : tie.After-known-told2)
     → let a = start (checked k) in
-    gives (sizes k) ≡ checkAnswer (inBytes (kindOf (a .args .kind))) (a .args .shape .now) (a .args .subsets .now) (handed a)
+    gives (sizes k) ≡ checkAnswer (kind a) (a .args .shape .now) (a .args .subsets .now) (handed a)
 passed k = sym (ap toldChecks (k .before .cells .given .1)) ∙ checked k .check-merge .ensures
 
 check-merge-requires : tie.Need-check-merge-requires
@@ -51,14 +50,13 @@ store-covering-requires : tie.Need-store-covering-requires
 store-covering-requires c κs =
     let k = c .before .before .before in
     let a = start (checked k) in
-    merge-checked (form a) (a .args .kind .depth) (a .args .shape .now) (a .args .subsets .now) (handed a) (lent a) (sizes k) (passed k)
+    merge-checked (kind a) (a .args .shape .now) (a .args .subsets .now) (handed a) (lent a) (sizes k) (passed k)
 
 returns : tie.Need-returns
 returns c =
     let m = c .before .before .before in
     let a = start m in
-    merge-refused (form a) (a .args .kind .depth) (a .args .shape .now) (a .args .subsets .now) (handed a) (lent a) (c .before .e .given .0 .0) (sym (ap toldChecks (c .before .e .given .1)) ∙ m .check-merge .ensures)
-    ∙ sym (merged-idle (kindOf (a .args .kind)) (a .args .shape .now) (a .args .subsets .now) (handed a) (lent a))
+    merge-refused (kind a) (a .args .shape .now) (a .args .subsets .now) (handed a) (lent a) (c .before .e .given .0 .0) (sym (ap toldChecks (c .before .e .given .1)) ∙ m .check-merge .ensures)
 
 same-length : tie.Need-same-length
 same-length c = search needs
@@ -74,9 +72,8 @@ returns-2 c =
     let s = c .before .before .before .before .before .before in
     let k = s .before .before .before .before in
     let a = start (checked k) in
-    merge-stored (form a) (a .args .kind .depth) (a .args .shape .now) (a .args .subsets .now) (handed a) (lent a) (sizes k) (passed k)
-    (let o = s .store-covering .last .1 .1 .1 .1 .1 .1 .1 .1 .1 in outcomeArray (s .store-covering .result) (o .0) (o .1 .0) (o .1 .1 .0)) (s .store-covering .ensures)
-    ∙ sym (merged-idle (kindOf (a .args .kind)) (a .args .shape .now) (a .args .subsets .now) (handed a) (lent a))
+    merge-stored (kind a) (a .args .shape .now) (a .args .subsets .now) (handed a) (lent a) (sizes k) (passed k)
+    (let o = s .store-covering .last .1 .1 .1 .1 .1 .1 .1 .1 in outcomeArray (s .store-covering .result) (o .0) (o .1 .0) (o .1 .1 .0)) (s .store-covering .ensures)
 
 pub merge-spec : {M : Type 1} → statement M
 merge-spec =

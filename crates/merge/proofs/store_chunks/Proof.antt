@@ -11,23 +11,16 @@ use Rattle.array.specs.Meaning.{formOf, orderOf, widthOf, placeOf}
 use Rattle.array.specs.Content.{Content}
 use Rattle.array.specs.Outcome.{contentArray}
 use Rattle.valid.proofs.CheckLaws.{small-product}
-use Rattle.merge.specs.Merge.{Sizes}
 use Rattle.merge.proofs.Closed.{no-masks, no-values, no-offsets, masks-asked, parts-asked, ragged-merge-asked, fixed-stored, ragged-stored}
 use Rattle.merge.proofs.store_chunks.Statement.{statement}
 use Rattle.merge.proofs.store_chunks.Tie as tie
 
--- where the function starts: what was handed over, what was lent, what the checks found
+-- where the function starts, and what was lent
 abbrev start : tie.After-struct-known → tie.Start
 start k = k .before .before .before .before .before .before .before .before .before
 
-abbrev handed : tie.Start → Content
-handed a = contentArray (a .args .masks .now) (a .args .values .now) (a .args .offsets .now)
-
 abbrev lent : tie.Start → Content
 lent a = contentArray (a .args .out-masks .now) (a .args .out-values .now) (a .args .out-offsets .now)
-
-abbrev sizes : tie.Start → Sizes
-sizes a = record { cells = a .args .cells; count = a .args .count; bytes = a .args .bytes }
 
 abbrev form : tie.Start → Form
 form a = formOf (a .args .kind .values)
@@ -42,7 +35,7 @@ tested t = start (t .before .before)
 masks-fit : (t : tie.Else2) → tested t .args .kind .depth * tested t .args .cells ≤ length (tested t .args .out-masks .now)
 masks-fit t = t .before .if1 .left
 
-values-fit : (t : tie.Else2) → tested t .args .bytes ≤ length (tested t .args .out-values .now)
+values-fit : (t : tie.Else2) → length (tested t .args .values .now) ≤ length (tested t .args .out-values .now)
 values-fit t = t .if2 .left
 
 -- the values are fixed
@@ -70,12 +63,12 @@ mul-mask-bytes c =
 returns : tie.Need-returns
 returns c =
     let a = start (c .before) in
-    no-masks (a .args .kind .depth) (a .args .shape .now) (a .args .subsets .now) (handed a) (lent a) (sizes a) (form a) (a .pre) (c .if1 .taken)
+    no-masks (a .pre) (lent a) (c .if1 .taken)
 
 returns-2 : tie.Need-returns-2
 returns-2 c =
     let a = start (c .before .before) in
-    no-values (a .args .kind .depth) (a .args .shape .now) (a .args .subsets .now) (handed a) (lent a) (sizes a) (form a) (a .pre) (c .if2 .taken)
+    no-values (a .pre) (lent a) (c .if2 .taken)
 
 enum-known-form : tie.Need-enum-known-form
 enum-known-form c = search needs
@@ -87,14 +80,14 @@ store-masks-requires : tie.Need-store-masks-requires
 store-masks-requires c κs =
     let t = at-fixed (c .before) in
     let a = tested t in
-    masks-asked (a .args .kind .depth) (a .args .shape .now) (a .args .subsets .now) (handed a) (lent a) (sizes a) (form a) (a .pre) (masks-fit t)
+    masks-asked (a .pre) (lent a) (masks-fit t)
 
 store-parts-requires : tie.Need-store-parts-requires
 store-parts-requires c κs =
     let k = c .before .before .before .before .before in
     let t = at-fixed k in
     let a = tested t in
-    parts-asked (a .args .kind .depth) (a .args .shape .now) (a .args .subsets .now) (handed a) (lent a) (sizes a) (form a) (k .before .form .given .0 .0) (orderOf (k .before .form .given .0 .1 .0)) (is-fixed k) (a .pre) (values-fit t)
+    parts-asked (a .pre) (lent a) (is-fixed k) (values-fit t)
 
 enum-told : tie.Need-enum-told
 enum-told c = search needs
@@ -103,13 +96,13 @@ returns-3 : tie.Need-returns-3
 returns-3 c =
     let k = c .before in
     let a = tested (at-ragged k) in
-    no-offsets (a .args .kind .depth) (a .args .shape .now) (a .args .subsets .now) (handed a) (lent a) (sizes a) (form a) (widthOf (k .enum-told .given .0 .0)) (placeOf (k .enum-told .given .0 .1 .0)) (is-ragged k) (a .pre) (c .if3 .taken)
+    no-offsets (a .pre) (lent a) (is-ragged k) (c .if3 .taken)
 
 store-masks-requires-2 : tie.Need-store-masks-requires-2
 store-masks-requires-2 c κs =
     let t = at-ragged (c .before .before) in
     let a = tested t in
-    masks-asked (a .args .kind .depth) (a .args .shape .now) (a .args .subsets .now) (handed a) (lent a) (sizes a) (form a) (a .pre) (masks-fit t)
+    masks-asked (a .pre) (lent a) (masks-fit t)
 
 merge-ragged-requires : tie.Need-merge-ragged-requires
 merge-ragged-requires c κs =
@@ -117,7 +110,7 @@ merge-ragged-requires c κs =
     let k = o .before in
     let t = at-ragged k in
     let a = tested t in
-    ragged-merge-asked (a .args .kind .depth) (a .args .shape .now) (a .args .subsets .now) (handed a) (lent a) (sizes a) (form a) (widthOf (k .enum-told .given .0 .0)) (placeOf (k .enum-told .given .0 .1 .0)) (is-ragged k) (a .pre) (values-fit t) (o .if3 .left)
+    ragged-merge-asked (a .pre) (lent a) (is-ragged k) (values-fit t) (o .if3 .left)
 
 add-t26 : tie.Need-add-t26
 unfolding mostCells
@@ -138,7 +131,7 @@ returns-4 c =
     let k = m .before .before in
     let t = at-fixed k in
     let a = tested t in
-    fixed-stored (a .args .kind .depth) (a .args .shape .now) (a .args .subsets .now) (handed a) (lent a) (sizes a) (form a) (k .before .form .given .0 .0) (orderOf (k .before .form .given .0 .1 .0)) (is-fixed k) (a .pre)
+    fixed-stored (a .pre) (lent a) (is-fixed k)
     (masks-fit t) (values-fit t) (m .store-masks .last .0) (v .store-parts .last .0) (m .store-masks .ensures) (v .store-parts .ensures)
 
 same-length-3 : tie.Need-same-length-3
@@ -158,7 +151,7 @@ returns-5 c =
     let k = o .before in
     let t = at-ragged k in
     let a = tested t in
-    ragged-stored (a .args .kind .depth) (a .args .shape .now) (a .args .subsets .now) (handed a) (lent a) (sizes a) (form a) (widthOf (k .enum-told .given .0 .0)) (placeOf (k .enum-told .given .0 .1 .0)) (is-ragged k) (a .pre)
+    ragged-stored (a .pre) (lent a) (is-ragged k)
     (masks-fit t) (values-fit t) (o .if3 .left) (m .store-masks2 .last .0) (v .merge-ragged .last .0) (v .merge-ragged .last .1 .0)
     (m .store-masks2 .ensures) (v .merge-ragged .ensures .0) (v .merge-ragged .ensures .1)
 

@@ -6,8 +6,8 @@ use native.Mathlib.Omega.{arith}
 use borrow.Author.Needs.{needs}
 use lib.ListN.{length}
 use Rattle.array.specs.Content.{Content}
-use Rattle.array.specs.Kind.{Form}
-use Rattle.array.specs.Meaning.{formOf}
+use Rattle.array.specs.Kind.{Kind}
+use Rattle.array.specs.Meaning.{kindOf}
 use Rattle.array.specs.Outcome.{contentArray}
 use Rattle.valid.proofs.CheckLaws.{small-product}
 use Rattle.merge.specs.Chunks.{toldChunk}
@@ -19,8 +19,8 @@ use Rattle.merge.proofs.rules.check_chunk.Tie as tie
 abbrev start : tie.After-struct-known → tie.Start
 start k = k .before .before .before .before
 
-abbrev form : tie.Start → Form
-form a = formOf (a .args .kind .values)
+abbrev kind : tie.Start → Kind
+kind a = kindOf (a .args .kind)
 
 abbrev left : tie.Start → Content
 left a = contentArray (a .args .masks .now) (a .args .values .now) (a .args .offsets .now)
@@ -38,14 +38,11 @@ begun k = start (asked k .before .before)
 abbrev taken : Known → ℕ
 taken k = k .before .bytes .given .0 .0
 
-abbrev unused : Known → ℕ
-unused k = k .before .bytes .given .0 .1 .0
-
 abbrev numbers : Known → ℕ
-numbers k = k .before .bytes .given .0 .1 .1 .0
+numbers k = k .before .bytes .given .0 .1 .0
 
-size : (k : Known) → Sized (form (begun k)) (begun k .args .cells) (begun k .args .offsets .now) (taken k) (unused k) (numbers k) × (numbers k ≤ length (begun k .args .offsets .now))
-size k = let a = begun k in size-known (form a) (a .args .cells) (a .args .offsets .now) (sym (ap toldChunk (k .before .bytes .given .1)) ∙ asked k .chunk-size .ensures)
+size : (k : Known) → Sized (kind (begun k) .form) (begun k .args .cells) (begun k .args .offsets .now) (taken k) (numbers k) × (numbers k ≤ length (begun k .args .offsets .now))
+size k = let a = begun k in size-known (kind a .form) (a .args .cells) (a .args .offsets .now) (sym (ap toldChunk (k .before .bytes .given .1)) ∙ asked k .chunk-size .ensures)
 
 -- the rules were asked for
 abbrev known : tie.After-keeps-rules → Known
@@ -58,7 +55,7 @@ mul-planes : tie.Need-mul-planes
 mul-planes c = let a = start c in omega (arith, small-product (a .args .kind .depth) (a .args .cells) (omega arith) (a .pre))
 
 returns : tie.Need-returns
-returns c = let a = start (c .before) in chunk-lacks (form a) (a .args .kind .depth) (a .args .cells) (left a) (λ h. omega (arith, h .masks))
+returns c = let a = start (c .before) in chunk-lacks (kind a) (a .args .cells) (left a) (λ h. omega (arith, h .masks))
 
 chunk-size-requires : tie.Need-chunk-size-requires
 chunk-size-requires c κs = search needs
@@ -73,13 +70,13 @@ returns-2 : tie.Need-returns-2
 returns-2 c =
     let s = c .before .before in
     let a = start (s .before .before) in
-    chunk-lacks (form a) (a .args .kind .depth) (a .args .cells) (left a)
-    (λ h. omega (arith, h .offsets, size-lacking (form a) (a .args .cells) (a .args .offsets .now) (sym (ap toldChunk (c .enum-told .given .1)) ∙ s .chunk-size .ensures)))
+    chunk-lacks (kind a) (a .args .cells) (left a)
+    (λ h. omega (arith, h .offsets, size-lacking (kind a .form) (a .args .cells) (a .args .offsets .now) (sym (ap toldChunk (c .enum-told .given .1)) ∙ s .chunk-size .ensures)))
 
 returns-3 : tie.Need-returns-3
 returns-3 c =
     let a = begun (c .before) in
-    chunk-lacks (form a) (a .args .kind .depth) (a .args .cells) (left a) (λ h. omega (arith, h .values, size (c .before) .0 .is-taken))
+    chunk-lacks (kind a) (a .args .cells) (left a) (λ h. omega (arith, h .values, size (c .before) .0 .is-taken))
 
 sub-keeps-rules : tie.Need-sub-keeps-rules
 sub-keeps-rules c = search needs
@@ -115,13 +112,13 @@ returns-4 : tie.Need-returns-4
 returns-4 c =
     let r = c .before in
     let a = begun (known r) in
-    chunk-breaks (form a) (a .args .kind .depth) (a .args .cells) (left a) (size (known r) .0) (r .keeps-rules .result) (r .keeps-rules .ensures) (c .if3 .taken)
+    chunk-breaks (kind a) (a .args .cells) (left a) (size (known r) .0) (r .keeps-rules .result) (r .keeps-rules .ensures) (c .if3 .taken)
 
 returns-5 : tie.Need-returns-5
 returns-5 c =
     let r = c .before in
     let a = begun (known r) in
-    chunk-keeps (form a) (a .args .kind .depth) (a .args .cells) (left a) (size (known r) .0) (r .keeps-rules .result) (r .keeps-rules .ensures) (c .if3 .left)
+    chunk-keeps (kind a) (a .args .cells) (left a) (size (known r) .0) (r .keeps-rules .result) (r .keeps-rules .ensures) (c .if3 .left)
 
 pub check-chunk-spec : {M : Type 1} → statement M
 check-chunk-spec =

@@ -8,8 +8,7 @@ use borrow.Author.Needs.{needs}
 use lib.ListN.{length}
 use Rattle.array.specs.Limits.{mostCells}
 use Rattle.array.specs.Content.{Content}
-use Rattle.array.specs.Kind.{byteKind}
-use Rattle.array.specs.Meaning.{formOf}
+use Rattle.array.specs.Meaning.{kindOf}
 use Rattle.array.specs.Outcome.{contentArray}
 use Rattle.array.specs.Shape.{volume}
 use Rattle.valid.proofs.CheckLaws.{small-product}
@@ -17,16 +16,16 @@ use Rattle.subset.proofs.Index.{few-within, few-drop}
 use Rattle.array.proofs.SubsetLists.{startsAt, lengthsAt}
 use Rattle.cover.proofs.SubsetWalk.{next-room, now-within}
 use Rattle.merge.specs.Chunks.{takes, chunkAnswer, toldChunk}
-use Rattle.merge.proofs.ChunkWalk.{lent, Walked, walked-begins, masks-left, values-left, offsets-left, none-left, walked-bad, unused-inside, walked-more}
+use Rattle.merge.proofs.ChunkWalk.{lent, Walked, walked-begins, masks-left, values-left, by-offsets, walked-bad, walked-more}
 use Rattle.merge.proofs.rules.check_chunks.Statement.{statement}
 use Rattle.merge.proofs.rules.check_chunks.Tie as tie
 
 abbrev Inv-loop : tie.InvT-loop
-Inv-loop kind shape subsets count masks values offsets d depth i₀ at₀ p₀ v₀ o₀ sum₀ i at p v o sum =
-    Walked (formOf (kind .values)) (kind .depth) shape subsets count (contentArray masks values offsets) i at p v o sum
+Inv-loop kind shape subsets count masks values offsets d depth i₀ at₀ p₀ v₀ o₀ i at p v o =
+    Walked (kindOf kind) shape subsets count (contentArray masks values offsets) i at p v o
 
 abbrev μ-loop : tie.MeasureT-loop
-μ-loop kind shape subsets count masks values offsets d depth i₀ at₀ p₀ v₀ o₀ sum₀ i at p v o sum = count - i
+μ-loop kind shape subsets count masks values offsets d depth i₀ at₀ p₀ v₀ o₀ i at p v o = count - i
 
 -- the head of the loop, where the function starts, and what was handed over
 abbrev Head : Type 0
@@ -85,15 +84,15 @@ sized : (c : Told) → cells c ≡ volume (lens (head c) (in-loop c))
 sized c = counted (checked c) .volume-of .ensures
 
 got : (c : Told) → let l = head c in let a = start l in
-    takes (c .before .chunk .given .0 .0) (c .before .chunk .given .0 .1 .0) (c .before .chunk .given .0 .1 .1 .0)
-    ≡ chunkAnswer (byteKind (a .args .kind .depth) (formOf (a .args .kind .values))) (cells c) (lent (handed a) (l .loop .p) (l .loop .v) (l .loop .o))
+    takes (c .before .chunk .given .0 .0) (c .before .chunk .given .0 .1 .0)
+    ≡ chunkAnswer (kindOf (a .args .kind)) (cells c) (lent (handed a) (l .loop .p) (l .loop .v) (l .loop .o))
 got c = sym (ap toldChunk (c .before .chunk .given .1)) ∙ checked c .check-chunk .ensures
 
 cast-depth : tie.Need-cast-depth Inv-loop μ-loop
 cast-depth c = search needs
 
 loop-holds : tie.Need-loop-holds Inv-loop μ-loop
-loop-holds c = let a = entered c in walked-begins (formOf (a .args .kind .values)) (a .args .kind .depth) (handed a) (a .pre)
+loop-holds c = let a = entered c in walked-begins (kindOf (a .args .kind)) (handed a) (a .pre)
 
 add-mid : tie.Need-add-mid Inv-loop μ-loop
 add-mid c = omega (arith, seen (c .before) (omega arith))
@@ -180,12 +179,6 @@ add-v c = omega (arith, walked-more (head c .loop .inv) (in-loop c) (sized c) (g
 add-o : tie.Need-add-o Inv-loop μ-loop
 add-o c = omega (arith, walked-more (head c .loop .inv) (in-loop c) (sized c) (got c) .offsets)
 
-sub-sum : tie.Need-sub-sum Inv-loop μ-loop
-sub-sum c = unused-inside (head c .loop .inv) (in-loop c) (sized c) (got c)
-
-add-sum : tie.Need-add-sum Inv-loop μ-loop
-add-sum c = omega (arith, walked-more (head c .loop .inv) (in-loop c) (sized c) (got c) .values, head c .loop .inv .bounded)
-
 add-i : tie.Need-add-i Inv-loop μ-loop
 add-i c = omega arith
 
@@ -202,10 +195,7 @@ returns-3 : tie.Need-returns-3 Inv-loop μ-loop
 returns-3 c = values-left (c .before .before .before .loop .inv) (omega arith) (omega arith) (search needs)
 
 returns-4 : tie.Need-returns-4 Inv-loop μ-loop
-returns-4 c = offsets-left (c .before .before .before .before .loop .inv) (omega arith) (omega arith) (omega arith) (search needs)
-
-returns-5 : tie.Need-returns-5 Inv-loop μ-loop
-returns-5 c = none-left (c .before .before .before .before .loop .inv) (omega arith) (omega arith) (omega arith) (omega arith)
+returns-4 c = by-offsets (c .before .before .before .loop .inv) (omega arith) (omega arith) (omega arith)
 
 pub check-chunks-spec : {M : Type 1} → statement M
 check-chunks-spec =
@@ -240,12 +230,9 @@ check-chunks-spec =
     add-p
     add-v
     add-o
-    sub-sum
-    add-sum
     add-i
     loop-less
     loop-again
     returns-2
     returns-3
-    returns-4
-    returns-5)
+    returns-4)

@@ -12,14 +12,12 @@ use Rattle.array.specs.Answer.{gives}
 use Rattle.array.specs.Content.{Content}
 use Rattle.array.specs.Meaning.{kindOf}
 use Rattle.array.specs.Outcome.{contentArray}
-use Rattle.chunks.proofs.Idle.{inBytes}
-use Rattle.array.specs.Kind.{kindTest}
+use Rattle.array.specs.Kind.{Kind, kindTest}
 use Rattle.array.specs.Subset.{manyTest}
 use Rattle.array.specs.Rows.{nextSubsets}
 use Rattle.valid.specs.ShapeCells.{toldCells}
 use Rattle.valid.proofs.ShapeLaws.{Counted, counted, not-counted}
-use Rattle.merge.specs.Chunks.{toldTotal, chunkTotal}
-use Rattle.merge.specs.Merge.{Sizes}
+use Rattle.merge.specs.Chunks.{chunksTest}
 use Rattle.merge.proofs.Passing.{tested-subsets, no-kind, no-shape, no-subsets, bad-chunks, too-many, passes}
 use Rattle.merge.proofs.rules.check_merge.Statement.{statement}
 use Rattle.merge.proofs.rules.check_merge.Tie as tie
@@ -34,8 +32,11 @@ start e = entered (e .before)
 abbrev handed : tie.Start → Content
 handed a = contentArray (a .args .masks .now) (a .args .values .now) (a .args .offsets .now)
 
+abbrev kind : tie.Start → Kind
+kind a = kindOf (a .args .kind)
+
 -- the kind passed, the shape was counted, the subsets passed
-kind-passed : (e : tie.Else1) → kindTest (inBytes (kindOf (start e .args .kind))) ≡ true
+kind-passed : (e : tie.Else1) → kindTest (kind (start e)) ≡ true
 kind-passed e = sym (e .before .check-kind .ensures) ∙ not-false (e .before .check-kind .result) (e .if1 .left)
 
 abbrev from : tie.After-known-told → tie.Else1
@@ -55,21 +56,15 @@ count e = let a = start (from (first e)) in length (a .args .subsets .now) / (2 
 subsets-passed : (e : tie.Else2) → manyTest (start (from (first e)) .args .shape .now) (start (from (first e)) .args .subsets .now) ≡ true
 subsets-passed e = sym (e .before .subsets-fit .ensures) ∙ not-false (e .before .subsets-fit .result) (e .if2 .left)
 
--- the chunks passed: the bytes in their cells
-abbrev earlier : tie.After-known-told2 → tie.Else2
-earlier t = t .before .before .before .before
+-- the chunks passed
+abbrev earlier : tie.Else3 → tie.Else2
+earlier t = t .before .before
 
-abbrev sum : tie.After-known-told2 → ℕ
-sum t = t .before .bytes .given .0 .0
-
-summed : (t : tie.After-known-told2)
-    → gives (sum t) ≡ chunkTotal (inBytes (kindOf (start (from (first (earlier t))) .args .kind)))
+kept : (t : tie.Else3)
+    → chunksTest (kind (start (from (first (earlier t)))))
     (nextSubsets (length (start (from (first (earlier t))) .args .shape .now)) (count (earlier t)) (start (from (first (earlier t))) .args .subsets .now))
-    (handed (start (from (first (earlier t)))))
-summed t = sym (ap toldTotal (t .before .bytes .given .1)) ∙ t .before .before .before .check-chunks .ensures
-
-abbrev sized : ℕ → tie.Else2 → tie.After-known-told2 → Sizes
-sized n e t = record { cells = n; count = count e; bytes = sum t }
+    (handed (start (from (first (earlier t))))) ≡ true
+kept t = sym (t .before .check-chunks .ensures) ∙ not-false (t .before .check-chunks .result) (t .if3 .left)
 
 check-kind-requires : tie.Need-check-kind-requires
 check-kind-requires c κs = search needs
@@ -77,7 +72,7 @@ check-kind-requires c κs = search needs
 returns : tie.Need-returns
 returns c =
     let a = entered (c .before) in
-    no-kind (inBytes (kindOf (a .args .kind))) (a .args .shape .now) (a .args .subsets .now) (handed a)
+    no-kind (kind a) (a .args .shape .now) (a .args .subsets .now) (handed a)
     (sym (c .before .check-kind .ensures) ∙ not-true (c .before .check-kind .result) (c .if1 .taken))
 
 shape-cells-requires : tie.Need-shape-cells-requires
@@ -94,7 +89,7 @@ returns-2 c =
     let s = c .before .before in
     let e = s .before in
     let a = start e in
-    no-shape (inBytes (kindOf (a .args .kind))) (a .args .shape .now) (a .args .subsets .now) (handed a) (kind-passed e)
+    no-shape (kind a) (a .args .shape .now) (a .args .subsets .now) (handed a) (kind-passed e)
     (not-counted (a .args .shape .now) (c .enum-told .given .0 .0) (sym (ap toldCells (c .enum-told .given .1)) ∙ s .shape-cells .ensures) .0)
 
 subsets-fit-requires : tie.Need-subsets-fit-requires
@@ -104,7 +99,7 @@ returns-3 : tie.Need-returns-3
 returns-3 c =
     let m = c .before .before in
     let a = start (from m) in
-    no-subsets (inBytes (kindOf (a .args .kind))) (a .args .shape .now) (a .args .subsets .now) (handed a) (kind-passed (from m)) (shape-counted m .passes)
+    no-subsets (kind a) (a .args .shape .now) (a .args .subsets .now) (handed a) (kind-passed (from m)) (shape-counted m .passes)
     (sym (c .before .subsets-fit .ensures) ∙ not-true (c .before .subsets-fit .result) (c .if2 .taken))
 
 mul-count : tie.Need-mul-count
@@ -118,20 +113,13 @@ check-chunks-requires c κs =
     let a = start (from (first c)) in
     tested-subsets (a .args .shape .now) (a .args .subsets .now) (shape-counted (first c) .passes) (subsets-passed c)
 
-enum-known-bytes : tie.Need-enum-known-bytes
-enum-known-bytes c = search needs
-
-enum-told-2 : tie.Need-enum-told-2
-enum-told-2 c = search needs
-
 returns-4 : tie.Need-returns-4
 returns-4 c =
-    let k = c .before .before in
-    let e = k .before in
+    let e = c .before .before in
     let m = first e in
     let a = start (from m) in
-    bad-chunks (inBytes (kindOf (a .args .kind))) (a .args .shape .now) (a .args .subsets .now) (handed a) (kind-passed (from m)) (shape-counted m .passes) (subsets-passed e)
-    (sym (ap toldTotal (c .enum-told2 .given .1)) ∙ k .check-chunks .ensures)
+    bad-chunks (kind a) (a .args .shape .now) (a .args .subsets .now) (handed a) (kind-passed (from m)) (shape-counted m .passes) (subsets-passed e)
+    (sym (c .before .check-chunks .ensures) ∙ not-true (c .before .check-chunks .result) (c .if3 .taken))
 
 returns-5 : tie.Need-returns-5
 unfolding mostBytes
@@ -140,8 +128,8 @@ returns-5 c =
     let e = earlier t in
     let m = first e in
     let a = start (from m) in
-    too-many (inBytes (kindOf (a .args .kind))) (a .args .shape .now) (a .args .subsets .now) (handed a) (kind-passed (from m)) (shape-counted m .passes) (subsets-passed e)
-    (sum t) (summed t) (c .if3 .taken)
+    too-many (kind a) (a .args .shape .now) (a .args .subsets .now) (handed a) (kind-passed (from m)) (shape-counted m .passes) (subsets-passed e)
+    (kept t) (c .if4 .taken)
 
 returns-6 : tie.Need-returns-6
 unfolding mostBytes
@@ -150,9 +138,9 @@ returns-6 c =
     let e = earlier t in
     let m = first e in
     let a = start (from m) in
-    ap (λ (n : ℕ). gives (sized n e t)) (shape-counted m .is)
-    ∙ passes (inBytes (kindOf (a .args .kind))) (a .args .shape .now) (a .args .subsets .now) (handed a) (kind-passed (from m)) (shape-counted m .passes) (subsets-passed e)
-    (sum t) (summed t) (c .if3 .left)
+    ap (λ (n : ℕ). gives (record { cells = n; count = count e })) (shape-counted m .is)
+    ∙ passes (kind a) (a .args .shape .now) (a .args .subsets .now) (handed a) (kind-passed (from m)) (shape-counted m .passes) (subsets-passed e)
+    (kept t) (c .if4 .left)
 
 pub check-merge-spec : {M : Type 1} → statement M
 check-merge-spec =
@@ -169,8 +157,6 @@ check-merge-spec =
     mul-count
     div-count
     check-chunks-requires
-    enum-known-bytes
-    enum-told-2
     returns-4
     returns-5
     returns-6)

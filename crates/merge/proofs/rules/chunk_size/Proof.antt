@@ -41,11 +41,8 @@ mul-t8 c = search needs
 shared-slice-read-t11 : tie.Need-shared-slice-read-t11
 shared-slice-read-t11 c = search needs
 
-shared-slice-read-t14 : tie.Need-shared-slice-read-t14
-shared-slice-read-t14 c = search needs
-
-add-t16 : tie.Need-add-t16
-add-t16 c = search needs
+add-t13 : tie.Need-add-t13
+add-t13 c = search needs
 
 returns-2 : tie.Need-returns-2
 returns-2 c =
@@ -55,7 +52,7 @@ returns-2 c =
 
 returns-3 : tie.Need-returns-3
 returns-3 c =
-    let t = c .before .before .before in
+    let t = c .before .before in
     let f = t .enum-told .given in
     let a = t .before .before .args in
     size-ragged (a .cells) (a .offsets .now) (widthOf (f .0 .0)) (placeOf (f .0 .1 .0)) (omega arith) ∙ by (a .cells) (a .offsets .now) (f .1)
@@ -71,7 +68,6 @@ chunk-size-spec =
     returns
     mul-t8
     shared-slice-read-t11
-    shared-slice-read-t14
-    add-t16
+    add-t13
     returns-2
     returns-3)

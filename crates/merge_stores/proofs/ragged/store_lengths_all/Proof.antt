@@ -107,7 +107,7 @@ loop-again c =
     let l = v .before .before .before in
     let a = start l in
     let s = c .before .before in
-    lengths-more (a .args .shape .now) (a .args .subsets .now) (a .args .count) (a .args .out .now) (a .args .src .now) (a .pre) (l .loop .out) (l .loop .i) (l .loop .at) (l .loop .first) (l .loop .inv) (omega arith) (v .volume-of .result) (v .volume-of .ensures) (s .store-lengths .last .0) (s .store-lengths .ensures)
+    lengths-more (a .args .shape .now) (a .args .subsets .now) (a .args .count) (a .args .out .now) (a .args .src .now) (a .pre) (l .loop .out) (l .loop .i) (l .loop .at) (l .loop .first) (l .loop .inv) (omega arith) (v .volume-of .result) (v .volume-of .ensures) (s .store-lengths .last .0) (s .store-lengths .ensures) (omega arith)
 
 same-length : tie.Need-same-length Inv-loop μ-loop
 same-length c = c .before .loop .inv .long
