@@ -7,7 +7,7 @@ use mathlib.Core.Bool.{true}
 use mathlib.Core.List.{List, [], _∷_, _++_}
 use lib.ListN.{length, take, drop, length-append, length-drop, take-append-drop}
 use lib.Seq.{drop-drop, length-take-le}
-use lib.Dec.{leb, eqb}
+use lib.Dec.{leb, eqb, eqb·suc-zero}
 use borrow.Author.Tests.{eqb-true}
 use Rattle.array.specs.Answer.{Answer, gives, andThen, unless}
 use Rattle.array.specs.Lists.{joined, All}
@@ -151,17 +151,11 @@ module _ (x : Masks) (f : Form) where
     pub fit : Fit f (leaves d cs)
     pub written : w cs ≡ s
 
-  no-bytes : (s : List ℕ) → length s ≡ 0 → [] ≡ s
-  no-bytes [] e = refl
-  no-bytes (b ∷ s) e = absurd (omega arith)
-
   -- content is empty where no cell is set
   content-again : (d n : ℕ) (s : List ℕ) (xs : List (Cell d)) → ((m : ℕ) (ys : List (Cell d)) → read d s m ≡ gives ys → CellsAgain d (write d) m s ys)
       → contentOf (length s) n (read d s) ≡ gives xs → CellsAgain d (unlessNone (write d)) n s xs
-  content-again d zero s xs ih e =
-      let p = passed (eqb (length s) 0) 8 (gives []) e in
-      subst (CellsAgain d (unlessNone (write d)) zero s) (same-given (p .1))
-      (record { counted = refl; strict = tt; fit = fit-none f; written = no-bytes s (eqb-true (length s) 0 (p .0)) })
+  content-again d zero [] xs ih e = subst (CellsAgain d (unlessNone (write d)) zero []) (same-given e) (record { counted = refl; strict = tt; fit = fit-none f; written = refl })
+  content-again d zero (b ∷ s) xs ih e = absurd (let never : _≡_ {A = ℕ} 0 1 = cc (eqb·suc-zero (length s)) in omega arith)
   content-again d (suc n) s [] ih e = absurd (omega (arith, ih (suc n) [] e .counted))
   content-again d (suc n) s (y ∷ xs) ih e =
       let a : CellsAgain d (write d) (suc n) s (y ∷ xs) = ih (suc n) (y ∷ xs) e in
