@@ -96,10 +96,10 @@ module _ (s : List ℕ) (total : length s ≡ 16 + maskLength s + contentLength 
   wrap-again : AllBytes s → wrap (mask s) (content s) ≡ s
   unfolding wrap
   wrap-again b =
-      let lengths : le 8 (length (mask s)) ≡ take 8 s = ap (le 8) length-mask ∙ number-again (take 8 s) (length-take-le 8 s (omega arith)) (bytes-take 8 s b) in
+      let first : le 8 (length (mask s)) ≡ take 8 s = ap (le 8) length-mask ∙ number-again (take 8 s) (length-take-le 8 s (omega arith)) (bytes-take 8 s b) in
       let second : le 8 (length (content s)) ≡ take 8 (drop 8 s) =
       ap (le 8) length-content ∙ number-again (take 8 (drop 8 s)) (length-take-le 8 (drop 8 s) (omega (arith, length-drop 8 s))) (bytes-take 8 (drop 8 s) (bytes-drop 8 s b)) in
-      ap₂ (λ (x y : List ℕ). x ++ (y ++ (mask s ++ content s))) lengths second
+      ap₂ (λ (x y : List ℕ). x ++ (y ++ (mask s ++ content s))) first second
       ∙ ap (λ (x : List ℕ). take 8 s ++ (take 8 (drop 8 s) ++ x)) (take-append-drop (maskLength s) (drop 16 s) ∙ sym (drop-drop 8 8 s))
       ∙ ap (λ (x : List ℕ). take 8 s ++ x) (take-append-drop 8 (drop 8 s)) ∙ take-append-drop 8 s
 
@@ -112,9 +112,9 @@ record Opened {A : Type 0} (mf : MaskForm) (b : A) (len m c : ℕ) (ms : List �
   pub below : contentOf c (countSet (mf .said ms n)) inside ≡ gives xs
   pub cells : expand b (mf .said ms n) xs ≡ cs
 
-opened : {A : Type 0} (mf : MaskForm) (b : A) (len m c : ℕ) (ms : List ℕ) (n : ℕ) (inside : ℕ → Answer (List A)) (cs : List (ℕ × A))
+opened : {A : Type 0} (mf : MaskForm) (b : A) (len m c : ℕ) (ms : List ℕ) (n : ℕ) (inside : ℕ → Answer (List A)) {cs : List (ℕ × A)}
     → openFrame mf b len m c ms n inside ≡ gives cs → Opened mf b len m c ms n inside cs
-opened {A} mf b len m c ms n inside cs e =
+opened {A} mf b len m c ms n inside e =
     let said : List ℕ = mf .said ms n in
     let below : List ℕ → Answer (List (ℕ × A)) = λ ys. andThen (contentOf c (countSet ys) inside) (λ xs. gives (expand b ys xs)) in
     let masked : Answer (List (ℕ × A)) = andThen (unless (mf .test ms n) (mf .refusal) (gives said)) below in
@@ -161,20 +161,19 @@ module _ (x : Masks) (f : Form) where
       let a : CellsAgain d (write d) (suc n) s (y ∷ xs) = ih (suc n) (y ∷ xs) e in
       record { counted = a .counted; strict = a .strict; fit = a .fit; written = a .written }
 
-  pub frame-again : (d n : ℕ) (s : List ℕ) (cs : List (Cell d)) → AllBytes s → read d s n ≡ gives cs → CellsAgain d (write d) n s cs
+  pub frame-again : (d n : ℕ) (s : List ℕ) {cs : List (Cell d)} → AllBytes s → read d s n ≡ gives cs → CellsAgain d (write d) n s cs
   unfolding readFrame frame
-  frame-again zero n s cs b e =
-      let a : ValuesAgain f n s cs = values-again f n s cs b e in
+  frame-again zero n s {cs} b e =
+      let a : ValuesAgain f n s cs = values-again f n s b e in
       record { counted = a .counted; strict = All-of (StrictCell zero) (λ v. tt) cs; fit = subst (Fit f) (sym (map-id cs)) (a .fit); written = a .written }
-  frame-again (suc d) n s cs b e =
+  frame-again (suc d) n s b e =
       let null : Cell d = blank (nullOf f) d in
       let said : List ℕ = mf .said (mask s) n in
-      let o : Opened mf null (length s) (maskLength s) (contentLength s) (mask s) n (read d (content s)) cs =
-      opened mf null (length s) (maskLength s) (contentLength s) (mask s) n (read d (content s)) cs e in
+      let o = opened mf null (length s) (maskLength s) (contentLength s) (mask s) n (read d (content s)) e in
       let b16 : AllBytes (drop 16 s) = bytes-drop 16 s b in
       let a : MaskAgain mf n (mask s) said = mask-again x n (mask s) (bytes-take (maskLength s) (drop 16 s) b16) (length-mask s (o .total) ∙ o .fits) (o .passes) in
       let r : CellsAgain d (unlessNone (write d)) (countSet said) (content s) (o .xs) =
-      content-again d (countSet said) (content s) (o .xs) (λ m ys q. frame-again d m (content s) ys (bytes-drop (maskLength s) (drop 16 s) b16) q)
+      content-again d (countSet said) (content s) (o .xs) (λ m ys q. frame-again d m (content s) (bytes-drop (maskLength s) (drop 16 s) b16) q)
       (ap (λ (c : ℕ). contentOf c (countSet said) (read d (content s))) (length-content s (o .total)) ∙ o .below) in
       subst (CellsAgain (suc d) (write (suc d)) n s) (o .cells) (record {
         counted = length-expand null said (o .xs) ∙ a .counted;

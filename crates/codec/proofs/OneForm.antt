@@ -45,9 +45,9 @@ module _ (k : Kind) (shape s : List ℕ) where
     pub shaped : shapeTest shape ≡ true
     pub reads : readIn (maskForm (k .masks)) (k .form) (k .depth) (volume shape) s ≡ gives A
 
-  decode-passed : (room : Lengths) (A : Content) → decodeAnswer k shape s room ≡ gives A → Passed A
+  decode-passed : (room : Lengths) {A : Content} → decodeAnswer k shape s room ≡ gives A → Passed A
   unfolding decodeAnswer
-  decode-passed room A e =
+  decode-passed room {A} e =
       let reading : Answer Content = readIn (maskForm (k .masks)) (k .form) (k .depth) (volume shape) s in
       let after : Content → Answer Content = λ c. unless (enoughTest c room) 6 (gives c) in
       let e1 = passed (kindTest k) 1 (unless (shapeTest shape) 2 (andThen reading after)) e in
@@ -61,9 +61,9 @@ module _ (k : Kind) (shape s : List ℕ) where
   passed-decode p room = pass 1 (p .kind) (pass 2 (p .shaped) (rw (p .reads)))
 
   -- it is valid, and its stored form is s
-  encode-again : AllBytes s → (A : Content) → Passed A → (room : ℕ) → length s ≤ room → encodeAnswer k shape A room ≡ gives s
+  encode-again : AllBytes s → {A : Content} → Passed A → (room : ℕ) → length s ≤ room → encodeAnswer k shape A room ≡ gives s
   unfolding readIn
-  encode-again b A p room h =
+  encode-again b p room h =
       let n : ℕ = volume shape in
       let f : Form = k .form in
       let d : ℕ = k .depth in
@@ -71,7 +71,7 @@ module _ (k : Kind) (shape s : List ℕ) where
       let sh : ShapeOk shape = shape-ok shape (p .shaped) in
       let r = went-on (readFrame (maskForm (k .masks)) (nullOf f) (getValues f) d s n) (λ cs. gives (layout f d cs)) (p .reads) in
       let cs : List (Cell d) = r .0 in
-      let a : CellsAgain (k .masks) f d (frame (maskForm (k .masks)) (putValues f) d) n s cs = frame-again (k .masks) f d n s cs b (r .1 .0) in
+      let a : CellsAgain (k .masks) f d (frame (maskForm (k .masks)) (putValues f) d) n s cs = frame-again (k .masks) f d n s b (r .1 .0) in
       let few : length (leaves d cs) ≤ mostCells = omega (arith, length-map cs (leaf d), a .counted, sh .few-cells) in
       let g : Good k n cs = record { counted = a .counted; sized = a .fit .0; small = few-bytes f (ok .sound) (leaves d cs) few (a .fit); strict = a .strict } in
       let is : storedForm k n (layout f d cs) ≡ s = stored-layout k n cs g ∙ a .written in
@@ -89,7 +89,7 @@ written-again k shape s back q out h = go (decodeAnswer k shape s (lengthsOf bac
         ap (mapAnswer (λ (a : Taken). encoded k shape (a .content) out))
         (taken-content (decodeAnswer k shape s (lengthsOf back)) back ∙ ap (λ (a : Answer Content). andThen a (λ c. gives (whole c))) e)
         ∙ ap (λ (a : Answer (List ℕ)). gives (listOutcome a out))
-        (encode-again k shape s (q .bytes) A (decode-passed k shape s (lengthsOf back) A e) (length out) h)
+        (encode-again k shape s (q .bytes) (decode-passed k shape s (lengthsOf back) e) (length out) h)
 
 pub one-form : OneForm
 one-form k shape s t back back′ p q e =
@@ -104,7 +104,7 @@ pub success-reads : (k : Kind) (shape s : List ℕ) (back : Content) {n : Length
 unfolding decoded
 success-reads k shape s back b e =
     let given = went-on (decodeAnswer k shape s (lengthsOf back)) (λ c. gives (lengthsOf c)) e in
-    let p : Passed k shape s (given .0) = decode-passed k shape s (lengthsOf back) (given .0) (given .1 .0) in
+    let p : Passed k shape s (given .0) = decode-passed k shape s (lengthsOf back) (given .1 .0) in
     record {
       bytes = b;
       accepted = λ any r q. only-six (given .0) (enoughTest (given .0) (lengthsOf any)) (sym (ap (mapAnswer lengthsOf) (passed-decode k shape s p (lengthsOf any))) ∙ q);

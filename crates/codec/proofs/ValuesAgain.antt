@@ -89,9 +89,9 @@ pub record ValuesAgain (f : Form) (n : ℕ) (s : List ℕ) (vs : List Value) : T
   pub fit : Fit f vs
   pub written : putValues f vs ≡ s
 
-pub values-again : (f : Form) (n : ℕ) (s : List ℕ) (vs : List Value) → AllBytes s → getValues f s n ≡ gives vs → ValuesAgain f n s vs
+pub values-again : (f : Form) (n : ℕ) (s : List ℕ) {vs : List Value} → AllBytes s → getValues f s n ≡ gives vs → ValuesAgain f n s vs
 unfolding getValues putValues
-values-again (fixed k o) n s vs b e =
+values-again (fixed k o) n s b e =
     let us : List Value = pieces k n s in
     let p = passed (eqb (length s) (n * k)) 8 (gives (map (ordered o) us)) e in
     let l : length s ≡ n * k = eqb-true (length s) (n * k) (p .0) in
@@ -100,7 +100,7 @@ values-again (fixed k o) n s vs b e =
       fit = (sized-ordered k o us (sized-pieces k n s l), tt);
       written = ap joined (ordered-twice o us) ∙ joined-pieces k n s l;
     })
-values-again (ragged w p) n s vs b e =
+values-again (ragged w p) n s b e =
     let g = went-on (getRagged w p s n) (λ x. gives (slices (x .offsets) (x .values))) e in
     let c : RaggedContent = g .0 in
     let us : List Value = slices (c .offsets) (c .values) in
