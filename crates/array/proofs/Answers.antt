@@ -3,7 +3,7 @@
 use mathlib.Core.Path.{_≡_, refl, ap, _∙_}
 use Prim.Native.Nat.{ℕ}
 use native.Mathlib.Omega.{arith}
-use mathlib.Core.Bool.{Bool, true, false}
+use mathlib.Core.Bool.{Bool, true, false, _&&_}
 use Rattle.array.specs.Answer.{Answer, gives, refuses, andThen, unless}
 
 pub pass : {A : Type 0} {b : Bool} {a c : Answer A} (k : ℕ) → b ≡ true → a ≡ c → unless b k a ≡ c
@@ -27,3 +27,8 @@ same-given e = cc
 pub then-unless : {A B : Type 0} (b : Bool) (k : ℕ) (x : A) (f : A → Answer B) → andThen (unless b k (gives x)) f ≡ unless b k (f x)
 then-unless true k x f = refl
 then-unless false k x f = refl
+
+-- two tests of one number are one
+pub both-tests : {A : Type 0} (a b : Bool) (k : ℕ) (r : Answer A) → unless (a && b) k r ≡ unless a k (unless b k r)
+both-tests true b k r = refl
+both-tests false b k r = refl

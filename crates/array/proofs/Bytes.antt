@@ -6,10 +6,11 @@ use native.Mathlib.Nat.{mod-add-div, mod-eq-of-lt, mod-lt, add-mul-mod-self-left
 use native.Mathlib.Nat.{pow-suc, zero-lt-suc, zero-add, div-one, div-div-eq-div-mul, pow-succ', sub-zero, zero-div, mul-zero}
 use native.Mathlib.Omega.{arith}
 use mathlib.Core.List.{List, [], _∷_, _++_}
-use lib.ListN.{length, drop, replicate}
+use lib.ListN.{length, take, drop, replicate}
 use lib.Arith.{lt-one}
 use Rattle.array.specs.Lists.{All}
-use Rattle.array.specs.Bytes.{digits, number, le, unle}
+use Rattle.array.specs.Bytes.{digits, number, le, unle, AllBytes}
+use Rattle.array.proofs.Lists.{All-take, All-drop}
 
 module _ (b : ℕ) where
   pub length-digits : (w n : ℕ) → length (digits b w n) ≡ w
@@ -69,6 +70,16 @@ pub unle-le : (w n : ℕ) → n < 256 ^ w → unle (le w n) ≡ n
 unfolding le unle
 unle-le w n h = number-digits 256 (zero-lt-suc 255) w n h
 
-pub le-unle : (s : List ℕ) → All (λ b. b < 256) s → le (length s) (unle s) ≡ s
+pub le-unle : (s : List ℕ) → AllBytes s → le (length s) (unle s) ≡ s
 unfolding le unle
 le-unle s p = digits-number 256 (zero-lt-suc 255) s p
+
+-- so many bytes are what their number is written as
+pub number-again : {k : ℕ} (s : List ℕ) → length s ≡ k → AllBytes s → le k (unle s) ≡ s
+number-again s e b = ap (λ (n : ℕ). le n (unle s)) (sym e) ∙ le-unle s b
+
+pub bytes-take : (k : ℕ) (s : List ℕ) → AllBytes s → AllBytes (take k s)
+bytes-take k s b = All-take (λ x. x < 256) k s b
+
+pub bytes-drop : (k : ℕ) (s : List ℕ) → AllBytes s → AllBytes (drop k s)
+bytes-drop k s b = All-drop (λ x. x < 256) k s b

@@ -12,6 +12,7 @@ pub mod Inverse
 pub mod RestLaws
 pub mod Marks
 pub mod Over
+pub mod Taken
 pub mod Laying
 pub mod Limits
 pub mod SubsetLists

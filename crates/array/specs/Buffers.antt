@@ -5,7 +5,7 @@ use mathlib.Core.Bool.{Bool, _&&_}
 use mathlib.Core.List.{List, _++_}
 use lib.ListN.{length, take, drop}
 use lib.Dec.{leb}
-use Rattle.array.specs.Answer.{Answer, gives, refuses, mapAnswer, Outcome}
+use Rattle.array.specs.Answer.{Answer, gives, refuses, andThen, mapAnswer, Outcome}
 use Rattle.array.specs.Content.{Content, RaggedContent}
 
 -- ---- lengths: of what was written, or of the outputs lent for it
@@ -73,3 +73,22 @@ raggedOutcome a old = record { answer = mapAnswer raggedLengthsOf a; buffers = r
 
 abbrev pub contentOutcome : Answer Content → Content → Outcome Lengths Content
 contentOutcome a old = record { answer = mapAnswer lengthsOf a; buffers = contentAfter a old }
+
+-- ---- what the caller has after a call: the lengths that success names, and what lies in the outputs up to them
+
+pub record Taken : Type 0 where
+  pub named : Lengths
+  pub content : Content
+
+abbrev pub upTo : Lengths → Content → Content
+upTo n c = record { masks = take (n .masks) (c .masks); values = take (n .values) (c .values); offsets = take (n .offsets) (c .offsets) }
+
+abbrev pub taken : Outcome Lengths Content → Answer Taken
+taken o = andThen (o .answer) (λ n. gives (record { named = n; content = upTo n (o .buffers) }))
+
+abbrev pub takenBytes : Outcome ℕ (List ℕ) → Answer (List ℕ)
+takenBytes o = andThen (o .answer) (λ n. gives (take n (o .buffers)))
+
+-- content, and its lengths named
+abbrev pub whole : Content → Taken
+whole c = record { named = lengthsOf c; content = c }

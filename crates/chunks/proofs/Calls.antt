@@ -1,4 +1,4 @@
--- The calls on valid input: what they give, and what their caller takes from the outputs.
+-- The calls on valid input: what they give.
 -- Assumes nothing.
 use mathlib.Core.Path.{_≡_, refl, sym, ap, _∙_}
 use Prim.Native.Nat.{ℕ, _^_, _<_, _≤_}
@@ -6,18 +6,17 @@ use native.Mathlib.Omega.{arith}
 use mathlib.Core.List.{List, map}
 use lib.ListN.{length}
 use borrow.Author.Tests.{le-leb}
-use Rattle.array.specs.Answer.{Answer, gives, refuses, andThen, unless}
+use Rattle.array.specs.Answer.{Answer, gives, andThen, unless}
 use Rattle.array.specs.Kind.{Kind, KindOk, nullOf}
 use Rattle.array.specs.Shape.{volume, ShapeOk}
 use Rattle.array.specs.Subset.{subsetOf, NumbersOk}
 use Rattle.array.specs.Cells.{Cell, rest}
 use Rattle.array.specs.Content.{Content, Valid, layout}
-use Rattle.array.specs.Buffers.{Lengths, Enough, enoughTest, listOutcome, contentOutcome}
+use Rattle.array.specs.Buffers.{Lengths, Enough, enoughTest}
 use Rattle.array.proofs.Answers.{pass}
 use Rattle.array.proofs.Rules.{kind-test, shape-test, numbers-test, rest-passes, enough-test}
-use Rattle.array.proofs.LayoutLaws.{content-path, Good}
+use Rattle.array.proofs.LayoutLaws.{Good}
 use Rattle.array.proofs.Resting.{laid-valid}
-use Rattle.array.proofs.Over.{take-over}
 use Rattle.codec.specs.Mask.{maskForm}
 use Rattle.codec.specs.Frame.{frame}
 use Rattle.codec.specs.Values.{putValues}
@@ -26,19 +25,6 @@ use Rattle.codec.proofs.Lengths.{frame-small}
 use Rattle.codec.proofs.RoundTrip.{stored-layout, read-layout}
 use Rattle.chunks.specs.Cut.{cutOf}
 use Rattle.chunks.specs.Calls.{extractAnswer}
-use Rattle.chunks.specs.Demand.{whole, taken, takenBytes}
-
--- ---- what the caller takes from the outputs is what was given, with its lengths named
-
-pub taken-content : (a : Answer Content) (old : Content) → taken (contentOutcome a old) ≡ andThen a (λ c. gives (whole c))
-taken-content (gives c) old =
-    ap (λ (x : Content). gives (record { named = whole c .named; content = x }))
-    (content-path (take-over (c .masks) (old .masks)) (take-over (c .values) (old .values)) (take-over (c .offsets) (old .offsets)))
-taken-content (refuses k) old = refl
-
-pub taken-bytes : (a : Answer (List ℕ)) (old : List ℕ) → takenBytes (listOutcome a old) ≡ a
-taken-bytes (gives s) old = ap gives (take-over s old)
-taken-bytes (refuses k) old = refl
 
 -- ---- extract, on a valid array
 

@@ -13,7 +13,7 @@ use Rattle.array.specs.Shape.{volume, ShapeOk}
 use Rattle.array.specs.Subset.{Subset, lengths, subsetOf, subsetsOf, SubsetOk, FullOk, NumbersOk, ManyOk, cellsIn, cellsOfAll}
 use Rattle.array.specs.Cells.{Cell, leaf, rest}
 use Rattle.array.specs.Content.{Content, Valid, cellsOf, arrayTest, sizeTest, leaves, layout, nullCell, restForm}
-use Rattle.array.specs.Buffers.{Lengths, lengthsOf, Enough, enoughTest}
+use Rattle.array.specs.Buffers.{Lengths, lengthsOf, Enough, enoughTest, Taken, taken, takenBytes, whole}
 use Rattle.array.proofs.Answers.{pass}
 use Rattle.array.proofs.Lists.{Sized, All-map, All-image, All-getD, All-of, length-joined, map-append}
 use Rattle.array.proofs.Sums.{count-append}
@@ -23,17 +23,18 @@ use Rattle.array.proofs.SubsetLaws.{length-cellsIn, cellsIn-below, all-below, s
 use Rattle.array.proofs.Geometry.{count-all}
 use Rattle.array.proofs.LayoutLaws.{cells-layout, Good, good-cells, good-layout}
 use Rattle.array.proofs.RestLaws.{rest-blank, leaf-blank}
+use Rattle.array.proofs.Taken.{taken-content, taken-bytes}
 use Rattle.codec.specs.Calls.{encoded, decoded, encodeAnswer, decodeAnswer}
 use Rattle.codec.proofs.Lengths.{All-leaves}
 use Rattle.chunks.specs.Gather.{gather, putBack, Once, onceTest}
 use Rattle.chunks.specs.Cut.{cellsAt, cutOf}
 use Rattle.chunks.specs.Chunks.{noContent, follow, chunkCells, mergeOf}
 use Rattle.chunks.specs.Calls.{extracted, extractAnswer, merged, mergeAnswer}
-use Rattle.chunks.specs.Demand.{Taken, taken, takenBytes, whole, Entry, shapeOf, restOfCut, oneWay, eachWay, wholeWay, EntryOk, Covers, subsetsIn, Demand3}
+use Rattle.chunks.specs.Demand.{Entry, shapeOf, restOfCut, oneWay, eachWay, wholeWay, EntryOk, Covers, subsetsIn, Demand3}
 use Rattle.chunks.proofs.Gather.{gather-map, putBack-gather, once-test}
 use Rattle.chunks.proofs.GoodCells.{good-rest, good-gather}
 use Rattle.chunks.proofs.Chunks.{first-chunk, later-chunks}
-use Rattle.chunks.proofs.Calls.{taken-content, taken-bytes, extract-gives, encode-gives, decode-gives, valid-layout}
+use Rattle.chunks.proofs.Calls.{extract-gives, encode-gives, decode-gives, valid-layout}
 
 module _ (k : Kind) (shape : List ℕ) (c : Content) (v : Valid k shape c) where
   abbrev d : ℕ

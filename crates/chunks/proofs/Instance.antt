@@ -1,30 +1,36 @@
 -- Demand 3's hypotheses can be met: a ragged array of depth 2 with packed masks in a shape of 2 × 3, cut into two subsets, with an empty
 -- Q. And those of partial_decode as decode, then extract: the 34 bytes of S10.5. And those of the older form's way: one cell of one byte.
+-- And those of one stored form: the 21 bytes of S10.13, and what the table is written as.
 -- Assumes nothing.
-use mathlib.Core.Path.{_≡_, refl}
+use mathlib.Core.Path.{_≡_, refl, ap}
 use mathlib.Core.Logic.{inl, inr}
-use Prim.Native.Nat.{ℕ, zero, suc}
+use Prim.Native.Nat.{ℕ, zero, suc, _<_}
 use native.Mathlib.Omega.{arith}
 use mathlib.Core.List.{List, [], _∷_, _++_}
-use lib.Dec.{lit≤}
-use Rattle.array.specs.Answer.{gives, andThen}
+use lib.Dec.{lit≤, ltb}
+use borrow.Author.Tests.{ltb-true}
+use Rattle.array.specs.Answer.{gives, andThen, Outcome}
 use Rattle.array.specs.Limits.{mostBytes, mostCells}
 use Rattle.array.specs.Bytes.{le, unle}
 use Rattle.array.specs.Kind.{Kind, asBytes, asBits, ragged, atStart, atEnd}
 use Rattle.array.specs.Content.{Content, Valid}
-use Rattle.array.specs.Buffers.{lengthsOf, Enough}
+use Rattle.array.specs.Buffers.{Lengths, lengthsOf, Enough, taken, whole}
+use Rattle.array.proofs.Rules.{all-every}
 use Rattle.codec.specs.Frame.{wrap, frame, readFrame}
 use Rattle.codec.specs.Ragged.{putRagged, getRagged}
 use Rattle.codec.specs.Values.{putValues, getValues}
 use Rattle.codec.specs.Interleaved.{putCells, putInterleaved}
 use Rattle.codec.specs.Calls.{readIn, decodeAnswer, decoded, interleavedDecoded, interleavedEncoded}
 use Rattle.codec.specs.Older.{flatKind, OlderWay}
+use Rattle.codec.specs.OneForm.{Reads, readThenWritten}
 use Rattle.codec.proofs.Older.{older-returns}
+use Rattle.codec.proofs.OneForm.{written-again, success-reads}
 use Rattle.chunks.specs.Calls.{extracted, partiallyDecoded}
-use Rattle.chunks.specs.Demand.{taken, whole, Entry, EntryOk, Covers, subsetsIn, wholeWay}
-use Rattle.chunks.specs.Lines.{lent, lentRagged, old, wrote, gaveRagged, u32, bytes34, array}
+use Rattle.chunks.specs.Demand.{Entry, EntryOk, Covers, subsetsIn, wholeWay}
+use Rattle.chunks.specs.Lines.{lent, lentRagged, old, wrote, gaveRagged, u32, u64, packed1, bytes21, bytes34, array}
 use Rattle.chunks.specs.ReadThenCut.{withoutMasks, readThenCut, LongEnough}
 use Rattle.chunks.proofs.Demand.{demand3}
+use Rattle.chunks.proofs.Lines.{lines}
 use Rattle.chunks.proofs.ReadThenCut.{partial-decode}
 
 abbrev kind : Kind
@@ -151,3 +157,21 @@ older-written = older-way .writes
 pub older-read : interleavedDecoded 1 (u32 1 ++ (u32 1 ++ (0x42 ∷ []))) (lentRagged 2 3) ≡ gaveRagged 1 2 (0x42 ∷ []) (0 ∷ 1 ∷ [])
 unfolding le putCells putInterleaved
 older-read = older-way .reads
+
+-- accepted bytes, read and written again: the 21 bytes of S10.13, and what the table is written as
+
+pub packed-again : readThenWritten packed1 (9 ∷ []) bytes21 (lent 10 10 1) (old 22) ≡ gives (wrote 21 bytes21)
+packed-again =
+    written-again packed1 (9 ∷ []) bytes21 (lent 10 10 1)
+    (success-reads packed1 (9 ∷ []) bytes21 (lent 10 10 1) (omega arith) (ap (λ (o : Outcome Lengths Content). o .answer) (lines .reads-packed))) (old 22) (lit≤ tt)
+
+-- outer mask 3D, inner mask 1D, and four values with their index at the end
+abbrev bytes66 : List ℕ
+bytes66 = u64 1 ++ (u64 49 ++ (0x3D ∷ (u64 1 ++ (u64 32 ++ (0x1D ∷ 1 ∷ 4 ∷ 5 ∷ 6 ∷ (u32 0 ++ (u32 1 ++ (u32 1 ++ (u32 3 ++ (u32 4 ++ u64 20))))))))))
+
+reads-66 : Reads kind shape bytes66 (lent 13 5 8)
+unfolding mostBytes mostCells unle getRagged getValues readFrame readIn decodeAnswer decoded
+reads-66 = success-reads kind shape bytes66 (lent 13 5 8) {n = lengthsOf resting} (all-every (λ b. b < 256) (λ b. ltb b 256) (λ b. ltb-true b 256) bytes66 refl) refl
+
+pub table-again : readThenWritten kind shape bytes66 (lent 13 5 8) (old 67) ≡ gives (wrote 66 bytes66)
+table-again = written-again kind shape bytes66 (lent 13 5 8) reads-66 (old 67) (lit≤ tt)

@@ -11,9 +11,10 @@ use Rattle.array.specs.Kind.{Kind, KindOk, Place, ragged, FormOk, asBytes}
 use Rattle.array.specs.Shape.{volume, ShapeOk, shapeTest}
 use Rattle.array.specs.Subset.{subsetOf, NumbersOk, numbersTest}
 use Rattle.array.specs.Content.{Content, RaggedContent, unmasked}
-use Rattle.array.specs.Buffers.{Lengths, lengthsOf, raggedLengthsOf, enoughTest, raggedEnoughTest, raggedOutcome, contentOutcome}
+use Rattle.array.specs.Buffers.{Lengths, lengthsOf, raggedLengthsOf, enoughTest, raggedEnoughTest, raggedOutcome, contentOutcome, Taken, whole}
 use Rattle.array.proofs.Answers.{pass}
 use Rattle.array.proofs.Rules.{kind-test, shape-test, shape-ok, numbers-test, numbers-ok, rest-passes}
+use Rattle.array.proofs.Taken.{taken-content}
 use Rattle.codec.specs.Ragged.{getRagged}
 use Rattle.codec.specs.Mask.{maskForm}
 use Rattle.codec.specs.Calls.{decodeAnswer, decoded}
@@ -21,9 +22,7 @@ use Rattle.codec.proofs.Accepted.{read-content, read-small}
 use Rattle.codec.proofs.Flat.{flat-read}
 use Rattle.chunks.specs.Cut.{cutOf}
 use Rattle.chunks.specs.Calls.{extractAnswer, extracted, partiallyDecoded}
-use Rattle.chunks.specs.Demand.{Taken, whole}
 use Rattle.chunks.specs.ReadThenCut.{raggedOf, withoutMasks, nextCall, flat, readThenCut, LongEnough, PartialDecode}
-use Rattle.chunks.proofs.Calls.{taken-content}
 use Rattle.chunks.proofs.Refusals.{cutOrSix, subset-first}
 
 module _ (w : ℕ) (p : Place) (ok : FormOk (ragged w p)) (shape ns s : List ℕ) (read out : Content) where

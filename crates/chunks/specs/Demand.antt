@@ -5,37 +5,18 @@
 use Prim.Native.Nat.{ℕ, _≤_, _<_}
 use mathlib.Core.Path.{_≡_}
 use mathlib.Core.List.{List, [], _∷_, map}
-use lib.ListN.{length, take, drop}
-use Rattle.array.specs.Answer.{Answer, gives, andThen, Outcome}
+use lib.ListN.{length, drop}
+use Rattle.array.specs.Answer.{Answer, gives, andThen}
 use Rattle.array.specs.Lists.{joined, All, countPassing}
 use Rattle.array.specs.Kind.{Kind}
 use Rattle.array.specs.Shape.{volume}
 use Rattle.array.specs.Subset.{Subset, subsetOf, NumbersOk, coordinates, insideTest}
 use Rattle.array.specs.Content.{Content, Valid, restForm}
-use Rattle.array.specs.Buffers.{Lengths, lengthsOf, Enough}
+use Rattle.array.specs.Buffers.{lengthsOf, Enough, Taken, taken, takenBytes, whole}
 use Rattle.codec.specs.Calls.{storedForm, encoded, decoded}
 use Rattle.chunks.specs.Cut.{cutOf}
 use Rattle.chunks.specs.Chunks.{noContent, follow}
 use Rattle.chunks.specs.Calls.{extracted, merged}
-
--- ---- what the caller has after a call: the lengths that success names, and what lies in the outputs up to them
-
-pub record Taken : Type 0 where
-  pub named : Lengths
-  pub content : Content
-
-abbrev pub upTo : Lengths → Content → Content
-upTo n c = record { masks = take (n .masks) (c .masks); values = take (n .values) (c .values); offsets = take (n .offsets) (c .offsets) }
-
-abbrev pub taken : Outcome Lengths Content → Answer Taken
-taken o = andThen (o .answer) (λ n. gives (record { named = n; content = upTo n (o .buffers) }))
-
-abbrev pub takenBytes : Outcome ℕ (List ℕ) → Answer (List ℕ)
-takenBytes o = andThen (o .answer) (λ n. gives (take n (o .buffers)))
-
--- content, and its lengths named
-abbrev pub whole : Content → Taken
-whole c = record { named = lengthsOf c; content = c }
 
 -- ---- one subset of the list, with the outputs lent on its way: to cut it, to write the cut, to read it back
 

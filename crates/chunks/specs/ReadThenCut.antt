@@ -10,10 +10,9 @@ use Rattle.array.specs.Kind.{Kind, Place, ragged, byteKind, FormOk}
 use Rattle.array.specs.Shape.{ShapeOk}
 use Rattle.array.specs.Subset.{NumbersOk}
 use Rattle.array.specs.Content.{Content, RaggedContent}
-use Rattle.array.specs.Buffers.{Lengths, RaggedLengths}
+use Rattle.array.specs.Buffers.{Lengths, RaggedLengths, Taken, taken}
 use Rattle.codec.specs.Calls.{decoded}
 use Rattle.chunks.specs.Calls.{extracted, partiallyDecoded}
-use Rattle.chunks.specs.Demand.{Taken, taken}
 
 -- ---- the outputs without masks
 

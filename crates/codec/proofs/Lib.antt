@@ -11,3 +11,6 @@ pub mod Refusals
 pub mod Accepted
 pub mod Flat
 pub mod Older
+pub mod ValuesAgain
+pub mod FramesAgain
+pub mod OneForm

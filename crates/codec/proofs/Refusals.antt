@@ -1,23 +1,22 @@
 -- Each refusal of the stored forms exactly when it is due: the readers first, then the calls.
 -- Assumes nothing.
 use mathlib.Core.Path.{_≡_, refl, sym, subst}
-use mathlib.Core.Bool.{Bool, true, false, _&&_, false≢true}
+use mathlib.Core.Bool.{Bool, true, _&&_, false≢true}
 use mathlib.Core.List.{List, [], _∷_, _++_, map}
 use Prim.Native.Nat.{ℕ, zero, suc, _*_}
 use lib.ListN.{length, take, drop}
 use lib.Dec.{leb, eqb}
 use borrow.Author.Tests.{le-leb, leb-true, eq-eqb, eqb-true}
-use Rattle.array.specs.Answer.{Answer, andThen, unless}
+use Rattle.array.specs.Answer.{Answer, andThen}
 use Rattle.array.specs.Bytes.{unle}
 use Rattle.array.specs.Lists.{joined, pieces, All, every}
 use Rattle.array.specs.Kind.{Kind, kindTest, Place, Form, fixed, ragged, nullOf, Masks, asBytes, asBits}
 use Rattle.array.specs.Shape.{volume}
 use Rattle.array.specs.Offsets.{last}
 use Rattle.array.specs.Cells.{Strict, strictTest, blank}
-use Rattle.array.specs.Content.{RaggedContent}
 use Rattle.array.specs.Buffers.{lengthsOf, raggedLengthsOf}
 use Rattle.array.specs.Refusals.{Rule, InOrder, success}
-use Rattle.array.proofs.Answers.{then-unless}
+use Rattle.array.proofs.Answers.{then-unless, both-tests}
 use Rattle.array.proofs.Refusals.{stage, stage-le, stage-eq, stage-given, stage-array, and-then, named}
 use Rattle.array.proofs.Rules.{both, left-of, right-of, every-all, all-every, strict-test, strict-ok}
 use Rattle.array.proofs.Rules.{kind-test, kind-ok, shape-test, shape-ok, rising-test, rising-ok}
@@ -35,25 +34,15 @@ use Rattle.codec.specs.Refusals.{dataRules, indexRules, raggedRules, val
 data-order : (os s : List ℕ) → InOrder (dataRules os s) (checkRagged os s)
 data-order os s = stage-eq 8 _ _ (stage 10 (rising-test os) (rising-ok os) (stage 5 (size-test (last os)) (size-ok (last os)) success))
 
-module _ (w : ℕ) (p : Place) (l : ℕ) (s : List ℕ) (n : ℕ) where
-  abbrev checked : Answer RaggedContent
-  checked = checkRagged (map unle (pieces w (suc n) (partOf p l s))) (leftOf p l s)
-
-  -- both tests of the index are 8, so that either may come first
-  index-is : (a b : Bool) → leb l (length s) ≡ a → eqb l (w * suc n) ≡ b → openRagged w p l s n ≡ unless (a && b) 8 checked
-  index-is true true ea eb = simp (ea, eb)
-  index-is true false ea eb = simp (ea, eb)
-  index-is false true ea eb = simp (ea, eb)
-  index-is false false ea eb = simp (ea, eb)
-
-  index-order : InOrder (indexRules w p l s n) (openRagged w p l s n)
-  index-order =
-      let a : Bool = leb l (length s) in
-      let b : Bool = eqb l (w * suc n) in
-      subst (InOrder (indexRules w p l s n)) (sym (index-is a b refl refl))
-      (stage 8 (λ i. both (le-leb l (length s) (i .0)) (eq-eqb l (w * suc n) (i .1)))
-      (λ t. (leb-true l (length s) (left-of a b t), eqb-true l (w * suc n) (right-of a b t)))
-      (data-order (map unle (pieces w (suc n) (partOf p l s))) (leftOf p l s)))
+-- both tests of the index are 8
+index-order : (w : ℕ) (p : Place) (l : ℕ) (s : List ℕ) (n : ℕ) → InOrder (indexRules w p l s n) (openRagged w p l s n)
+index-order w p l s n =
+    let a : Bool = leb l (length s) in
+    let b : Bool = eqb l (w * suc n) in
+    subst (InOrder (indexRules w p l s n)) (both-tests a b 8 _)
+    (stage 8 (λ i. both (le-leb l (length s) (i .0)) (eq-eqb l (w * suc n) (i .1)))
+    (λ t. (leb-true l (length s) (left-of a b t), eqb-true l (w * suc n) (right-of a b t)))
+    (data-order (map unle (pieces w (suc n) (partOf p l s))) (leftOf p l s)))
 
 pub ragged-order : (w : ℕ) (p : Place) (s : List ℕ) (n : ℕ) → InOrder (raggedRules w p s n) (getRagged w p s n)
 unfolding getRagged

@@ -88,7 +88,7 @@ expand-none {A} b (zero ∷ ms) xs ys e = ap (λ (r : List (ℕ × A)). (zero, b
 expand-none b (suc zero ∷ ms) xs ys e = absurd (omega arith)
 expand-none {A} b (suc (suc m) ∷ ms) xs ys e = ap (λ (r : List (ℕ × A)). (suc (suc m), b) ∷ r) (expand-none b ms xs ys e)
 
-masks-expand : {A : Type 0} (b : A) (ms : List ℕ) (xs : List A) → maskOf (expand b ms xs) ≡ ms
+pub masks-expand : {A : Type 0} (b : A) (ms : List ℕ) (xs : List A) → maskOf (expand b ms xs) ≡ ms
 masks-expand b [] xs = refl
 masks-expand b (m ∷ ms) xs = ap (λ (r : List ℕ). m ∷ r) (masks-expand b ms (leftBy (markOf m) xs))
 

@@ -26,7 +26,7 @@ use Rattle.codec.specs.Values.{putValues, getValues}
 use Rattle.codec.specs.Length.{raggedLength, valuesLength}
 use Rattle.codec.proofs.Ragged.{length-put, length-index, back-ragged}
 
-ordered-twice : (o : Order) (vs : List Value) → map (ordered o) (map (ordered o) vs) ≡ vs
+pub ordered-twice : (o : Order) (vs : List Value) → map (ordered o) (map (ordered o) vs) ≡ vs
 ordered-twice o [] = refl
 ordered-twice o (v ∷ vs) = ap₂ (λ (x : Value) (r : List Value). x ∷ r) (one o) (ordered-twice o vs)
   where
@@ -40,7 +40,7 @@ length-joined-ordered o (v ∷ vs) =
     length-append (ordered o v) (joined (map (ordered o) vs))
     ∙ ap₂ (λ (a b : ℕ). a + b) (length-ordered o v) (length-joined-ordered o vs) ∙ sym (length-append v (joined vs))
 
-sized-ordered : (k : ℕ) (o : Order) (vs : List Value) → Sized k vs → Sized k (map (ordered o) vs)
+pub sized-ordered : (k : ℕ) (o : Order) (vs : List Value) → Sized k vs → Sized k (map (ordered o) vs)
 sized-ordered k o vs p = All-image (λ v. length v ≡ k) (ordered o) vs (All-map (λ v. length v ≡ k) (λ v. length (ordered o v) ≡ k) (λ v e. length-ordered o v ∙ e) vs p)
 
 pub fits-width : (w : ℕ) → (w ≡ 4) ⊎ (w ≡ 8) → mostBytes < 256 ^ w

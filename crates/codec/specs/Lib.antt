@@ -8,3 +8,4 @@ pub mod Calls
 pub mod Spread
 pub mod Refusals
 pub mod Older
+pub mod OneForm
