@@ -45,7 +45,7 @@ Exit status:
   64        a wrong command line, or an output that is also an input
   65        a worksheet that cannot be read
   66        a description that cannot be read
-  67        --kind, --shape or --part that differ from the description; same: two descriptions of another kind or shape
+  67        --kind, --shape or --part that differ from the description; same: two that differ in kind or shape
   68, 69    a file of another length (68) or checksum (69) than its description says
   70        check --interleaved --strict: a valid older form with bytes after its last cell
   71        same: two valid files that are not the same table
