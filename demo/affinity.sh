@@ -35,7 +35,7 @@ run 'durpaxeta show --kind "depth 2, ragged, width 4, index at start" --shape 1x
 
 say 'Merge the two, in any order: the same bytes again.'
 run 'durpaxeta merge "${table[@]}" --part 1..2,0..2 host1.bin --part 0..1,0..2 host0.bin all.bin'
-run 'cmp guests.bin all.bin'
+run 'durpaxeta same "${table[@]}" guests.bin all.bin'
 
 say 'A damaged file is refused: 63 of the 64 bytes.'
 run 'head -c 63 guests.bin > damaged.bin'

@@ -56,9 +56,9 @@ extern "C" {
 
 /* The version, as three numbers, as text, and as one number that grows with it: #if DPX_VERSION_NUMBER >= 1002003 */
 #define DPX_VERSION_MAJOR 0
-#define DPX_VERSION_MINOR 5
+#define DPX_VERSION_MINOR 6
 #define DPX_VERSION_PATCH 0
-#define DPX_VERSION "0.5.0"
+#define DPX_VERSION "0.6.0"
 #define DPX_VERSION_NUMBER (DPX_VERSION_MAJOR * 1000000 + DPX_VERSION_MINOR * 1000 + DPX_VERSION_PATCH)
 
 /* Limits. One more of any of these is refused. */
@@ -351,6 +351,8 @@ uint32_t dpx_encode(dpx_kind kind,
  * `bytes` is the whole stored table, neither more nor less, and every byte of it is looked at: there is no place for bytes
  * that are in no cell. A set cell of a packed mask comes out as 01. Below a null every mask byte comes out as 00, a fixed
  * value as zero bytes and a ragged one as no bytes. Ragged values come out end to end from offset 0.
+ * What is accepted here, dpx_encode writes again as the very same bytes. So two accepted tables of one kind and shape have
+ * equal cells where memcmp finds their stored bytes equal, and only there.
  * Enough room: dpx_array_room. That is depth * cells masks; fixed: cells * size values; ragged: bytes_len values and
  * cells + 1 offsets.
  *

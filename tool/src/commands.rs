@@ -2,7 +2,7 @@
 
 use crate::arguments::{self, Arguments};
 use crate::describe::{self, Described, Description};
-use crate::failure::{refusal_text, Failure, TAIL};
+use crate::failure::{refusal_text, Failure, DIFFERENT, TAIL};
 use crate::files::{self, Input};
 use crate::locate::Walk;
 use crate::output::{self, Output};
@@ -24,7 +24,7 @@ struct Command {
     run: fn(&Arguments, &Watch) -> Result<u8, Failure>,
 }
 
-const COMMANDS: [Command; 9] = [
+const COMMANDS: [Command; 10] = [
     Command {
         name: "show",
         help: help::SHOW,
@@ -74,6 +74,7 @@ const COMMANDS: [Command; 9] = [
         files: &["FILE"],
         run: check,
     },
+    Command { name: "same", help: help::SAME, options: &["--kind", "--shape"], files: &["A", "B"], run: same },
     Command {
         name: "explain",
         help: help::EXPLAIN,
@@ -405,10 +406,17 @@ impl Looked {
         let answer = decode(kind, &shape, &input.bytes).map(|array| format!("{kind}; {}", contents(&array)));
         Ok(Looked { kind: Some(kind), shape, input, described, walk, answer })
     }
+}
 
-    fn refusal(&self, refusal: Refusal) -> String {
-        refusal_text(refusal, Some(&stopped(refusal, &self.walk, self.input.bytes.len())))
-    }
+/// A refusal, and where reading stopped.
+fn refused(input: &Input, refusal: Refusal, walk: &Walk) -> String {
+    refusal_text(refusal, Some(&stopped(refusal, walk, input.bytes.len())))
+}
+
+/// The verdict on a file that is refused.
+fn not_valid(input: &Input, refusal: Refusal, walk: &Walk, watch: &Watch) -> Result<u8, Failure> {
+    let text = format!("{}: not valid\n{}\n", input.name, refused(input, refusal, walk));
+    verdict(refusal.number() as u8, &text, watch)
 }
 
 fn check(arguments: &Arguments, watch: &Watch) -> Result<u8, Failure> {
@@ -416,10 +424,7 @@ fn check(arguments: &Arguments, watch: &Watch) -> Result<u8, Failure> {
     let name = &looked.input.name;
     let about = match &looked.answer {
         Ok(about) => about,
-        Err(refusal) => {
-            let text = format!("{name}: not valid\n{}\n", looked.refusal(*refusal));
-            return verdict(refusal.number() as u8, &text, watch);
-        }
+        Err(refusal) => return not_valid(&looked.input, *refusal, &looked.walk, watch),
     };
     let tail = after_last_cell(&looked.input, &looked.walk);
     if let Some(tail) = tail.as_ref().filter(|_| arguments.strict) {
@@ -436,6 +441,40 @@ fn check(arguments: &Arguments, watch: &Watch) -> Result<u8, Failure> {
     verdict(0, &format!("{text}\n"), watch)
 }
 
+/// By the bytes alone: of one kind and shape, two accepted files that read as one table are equal (S8.10).
+fn same(arguments: &Arguments, watch: &Watch) -> Result<u8, Failure> {
+    if arguments.files.iter().all(|file| file == "-") {
+        return Err(Failure::usage("only one of A and B can come from standard input"));
+    }
+    let tables = Stored::pair(arguments, watch)?;
+    for table in &tables {
+        if let Err(refusal) = decode(table.kind, &table.shape, &table.input.bytes) {
+            return not_valid(&table.input, refusal, &table.walk(), watch);
+        }
+    }
+    let [one, other] = &tables;
+    let (a, b) = (&one.input.bytes, &other.input.bytes);
+    let names = format!("{} and {}", one.input.name, other.input.name);
+    if a == b {
+        return verdict(0, &format!("{names}: the same table, {} bytes\n", a.len()), watch);
+    }
+    let at = a.iter().zip(b).take_while(|(a, b)| a == b).count();
+    let mut text = format!("{names}: not the same table\n  They differ first at byte {at}.\n");
+    for table in &tables {
+        let bytes = &table.input.bytes;
+        text.push_str(&format!("  {}, {} bytes, ", table.input.name, bytes.len()));
+        match at < bytes.len() {
+            true => {
+                let line = explain::line(table.kind, &table.shape, bytes, &table.walk(), at);
+                text.push_str(&format!("has there:\n  {line}"));
+            }
+            false => text.push_str("ends there.\n"),
+        }
+    }
+    text.push_str("  Of one kind and shape a table has one stored form, so other bytes are another table.\n");
+    verdict(DIFFERENT, &text, watch)
+}
+
 fn explain_bytes(arguments: &Arguments, watch: &Watch) -> Result<u8, Failure> {
     let looked = Looked::at(arguments, true, watch)?;
     let Looked { kind, shape, input, .. } = &looked;
@@ -445,7 +484,7 @@ fn explain_bytes(arguments: &Arguments, watch: &Watch) -> Result<u8, Failure> {
     let mut status = 0;
     if let Err(refusal) = looked.answer {
         status = refusal.number() as u8;
-        text.push_str(&format!("{}\n", looked.refusal(refusal)));
+        text.push_str(&format!("{}\n", refused(input, refusal, &looked.walk)));
     }
     let held = looked.described.as_ref().map_or(Ok(()), |described| described.holds(input));
     if let Err(failure) = held {

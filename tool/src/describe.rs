@@ -147,6 +147,23 @@ impl Described {
         }
     }
 
+    /// Whether both say one kind and one shape.
+    pub fn alike(&self, other: &Described) -> Result<(), Failure> {
+        let kinds = [self, other].map(|described| format!("\"{}\"", described.says.kind));
+        let shapes = [self, other].map(|described| words::shape_text(&described.says.shape));
+        match [kinds, shapes].into_iter().find(|[says, says_other]| says != says_other) {
+            None => Ok(()),
+            Some([says, says_other]) => {
+                let (one, two) = (self.name(), other.name());
+                let what = format!(
+                    "{one} says {says}; {two} says {says_other}. Bytes tell tables apart under one kind and one shape only; \
+                     'durpaxeta show' prints the cells of both."
+                );
+                Err(Failure::plain(OTHER_TABLE, what))
+            }
+        }
+    }
+
     /// Whether the file is the one described.
     pub fn holds(&self, file: &Input) -> Result<(), Failure> {
         let own = self.name();

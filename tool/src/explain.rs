@@ -7,7 +7,7 @@ use durpaxeta::{Kind, Mark, MaskForm, Order, Values};
 use std::fmt::Write;
 use std::ops::Range;
 
-/// Bytes of a line.
+/// Most bytes of a line.
 const LINE: usize = 8;
 /// Lines of one field; of a longer one the rest is counted.
 const LINES: usize = 4;
@@ -15,10 +15,19 @@ const LINES: usize = 4;
 const FIRST: usize = 8;
 const LAST: usize = 2;
 
+/// The line of the picture in which a byte lies that was read.
+pub fn line(kind: Kind, shape: &[u64], bytes: &[u8], walk: &Walk, at: usize) -> String {
+    let mut picture = Picture::new(Some(kind), shape, bytes, walk);
+    if let Some(field) = walk.fields.iter().find(|field| field.range().contains(&at)) {
+        let length = line_length(field);
+        picture.part(field, (at - field.at) / length, length);
+    }
+    picture.text
+}
+
 /// All fields that were read, in the order of their positions, and what was not read.
 pub fn picture(kind: Option<Kind>, shape: &[u64], bytes: &[u8], walk: &Walk) -> String {
-    let width = bytes.len().to_string().len().max(3);
-    let mut picture = Picture { kind, shape, bytes, walk, width, text: String::new() };
+    let mut picture = Picture::new(kind, shape, bytes, walk);
     let mut fields: Vec<&Field> = walk.fields.iter().collect();
     fields.sort_by_key(|field| field.at);
     let mut at = 0;
@@ -49,6 +58,14 @@ fn sort(field: &Field) -> &'static str {
     }
 }
 
+/// Bytes of a line. A byte of a packed mask has eight cells, and a line for itself.
+fn line_length(field: &Field) -> usize {
+    match field.part {
+        Part::Mask { form: MaskForm::Packed, .. } => 1,
+        _ => LINE,
+    }
+}
+
 struct Picture<'a> {
     kind: Option<Kind>,
     shape: &'a [u64],
@@ -58,7 +75,12 @@ struct Picture<'a> {
     text: String,
 }
 
-impl Picture<'_> {
+impl<'a> Picture<'a> {
+    fn new(kind: Option<Kind>, shape: &'a [u64], bytes: &'a [u8], walk: &'a Walk) -> Picture<'a> {
+        let width = bytes.len().to_string().len().max(3);
+        Picture { kind, shape, bytes, walk, width, text: String::new() }
+    }
+
     fn line(&mut self, at: usize, bytes: &str, what: &str, refused: bool) {
         let mark = if refused { "  <- refused" } else { "" };
         let (width, column) = (self.width, 3 * LINE - 1);
@@ -109,8 +131,7 @@ impl Picture<'_> {
 
     fn field(&mut self, field: &Field) {
         let range = field.range();
-        // A byte of a packed mask has eight cells, and a line for itself.
-        let length = if matches!(field.part, Part::Mask { form: MaskForm::Packed, .. }) { 1 } else { LINE };
+        let length = line_length(field);
         let lines = field.length.div_ceil(length);
         let shown = if lines > LINES { LINES - 1 } else { lines };
         for number in 0..shown {
@@ -231,6 +252,30 @@ impl Picture<'_> {
 mod tests {
     use super::*;
     use crate::random;
+
+    /// Of a table that is accepted each byte lies in a line of the picture.
+    #[test]
+    fn the_line_of_each_byte() {
+        let mut draw = random::draws(7);
+        let mut bytes = 0;
+        for round in 0..3_000 {
+            let (kind, stored) = random::damaged(round, &mut draw);
+            let walk = locate::table(kind, 4, &stored);
+            if walk.stop.is_some() {
+                continue;
+            }
+            let text = picture(Some(kind), &[4], &stored, &walk);
+            for at in 0..stored.len() {
+                let line = line(kind, &[4], &stored, &walk, at);
+                assert!(text.split_inclusive('\n').any(|whole| whole == line), "{line}{text}");
+                let parts: Vec<&str> = line.split(" | ").map(str::trim).collect();
+                let begin: usize = parts[0].parse().unwrap();
+                assert!((begin..begin + parts[1].split_whitespace().count()).contains(&at), "{at}: {line}");
+                bytes += 1;
+            }
+        }
+        assert!(bytes > 10_000, "{bytes}");
+    }
 
     /// Whatever is damaged: each line shows the bytes at its position, the lines are in order, one is marked where reading
     /// stopped, and of a table that is accepted no byte is missing.

@@ -18,6 +18,8 @@ pub const OTHER_LENGTH: u8 = 68;
 pub const OTHER_CHECKSUM: u8 = 69;
 /// A valid older form that `--strict` does not accept.
 pub const TAIL: u8 = 70;
+/// Two files that are not the same table.
+pub const DIFFERENT: u8 = 71;
 /// A file that `--no-clobber` keeps.
 pub const KEPT: u8 = 73;
 /// An error of the operating system.

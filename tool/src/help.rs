@@ -11,6 +11,7 @@ pub const GENERAL: &str = r#"durpaxeta: stored tables of optional and variable-l
   durpaxeta convert   makes a stored table from the older, interleaved form, or that form from a table
   durpaxeta generate  makes a stored table from a start number, the same on every machine
   durpaxeta check     says whether a file is a valid table, and if not, why and at which byte
+  durpaxeta same      says whether two files are the same table, and if not, where they differ
   durpaxeta explain   prints the stored bytes, field by field, with what they are
   durpaxeta example   prints a worksheet to begin with
 
@@ -35,8 +36,8 @@ Where write, cut, merge, convert and generate write to:
   An output that is also an input, under whatever name, is refused. What is no regular file, such as a pipe, is written as
   it comes.
   --no-clobber    refuses to replace a file
-  --describe      writes OUT.dpx beside OUT: kind, shape, byte length and checksum. show, check, explain, cut and merge
-                  then need no --kind and --shape, and refuse a file that is not the one described.
+  --describe      writes OUT.dpx beside OUT: kind, shape, byte length and checksum. show, check, same, explain, cut and
+                  merge then need no --kind and --shape, and refuse a file that is not the one described.
 
 Exit status:
   0         all went well, and all of it was delivered
@@ -44,9 +45,10 @@ Exit status:
   64        a wrong command line, or an output that is also an input
   65        a worksheet that cannot be read
   66        a description that cannot be read
-  67        --kind, --shape or --part that differ from the description
+  67        --kind, --shape or --part that differ from the description; same: two that differ in kind or shape
   68, 69    a file of another length (68) or checksum (69) than its description says
   70        check --interleaved --strict: a valid older form with bytes after its last cell
+  71        same: two valid files that are not the same table
   73        --no-clobber: the output is there already
   74        an error of the operating system; so is an output whose reader left, or that was closed
 
@@ -189,6 +191,31 @@ Examples:
   head -c 40 guests.bin > damaged.bin
   durpaxeta check --kind "depth 2, ragged, width 4, index at start" --shape 2x2 damaged.bin || echo "refused with $?"
   printf '\002\000\000\000\001\000\000\000A\000\000\000\000' | durpaxeta check --interleaved --shape 2 -
+"#;
+
+pub const SAME: &str = r#"durpaxeta same [--kind KIND --shape SHAPE] A B
+
+Says whether two files are the same table: the same cells set and null, with the same values. It compares the bytes and
+nothing else. That is enough: of one kind and shape, two valid files that read as equal tables have equal bytes, which is
+proved (docs/SPEC.md, S8.10). So both must be valid; of one that is not, the refusal is said as check says it, of A first.
+
+The exit status is 0 for the same table, 71 for another one, or the number of a refusal. Where the files differ, the first
+byte that does is said, and of each file the field in which it lies, or that the file ends there.
+
+Kind and shape may be left out where A.dpx or B.dpx says them; where both do, they must say the same (67). The checksums in
+them are held against their own files, and never against each other. One of A and B can be -, standard input.
+
+The older, interleaved form is not taken. Bytes after its last cell are ignored, so two such files can differ and have the
+same cells: convert both, and compare what comes out. Nor are two files of different kinds or shapes the same or not by their
+bytes: a table stored with another width, place, byte order or form of masks has other bytes. docs/FORMAT.md, part 14.
+
+Examples:
+  durpaxeta example | durpaxeta write --describe - guests.bin
+  durpaxeta show guests.bin | durpaxeta write - again.bin
+  durpaxeta same guests.bin again.bin
+  durpaxeta example | sed 's/0-3,8/0-3,9/' | durpaxeta write - other.bin
+  durpaxeta same guests.bin other.bin || echo "status $?"
+  durpaxeta example | durpaxeta write - - | durpaxeta same guests.bin -
 "#;
 
 pub const EXPLAIN: &str = r#"durpaxeta explain [--kind KIND --shape SHAPE] FILE

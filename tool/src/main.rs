@@ -1,4 +1,5 @@
-//! The command `durpaxeta`: shows, writes, cuts, merges, converts, generates, checks and explains stored tables.
+//! The command `durpaxeta`: shows, writes, cuts, merges, converts, generates, checks, compares and explains stored
+//! tables.
 
 #![deny(unsafe_code)]
 

@@ -50,12 +50,22 @@ impl Stored {
     /// Reads a table. Kind and shape are given, or its description says them. `damaged` takes a file that is not the
     /// one described, too.
     pub fn read(path: &OsStr, given: Given<'_>, damaged: bool, watch: &Watch) -> Result<Stored, Failure> {
-        let described = describe::find(path, watch)?;
+        Stored::of(path, describe::find(path, watch)?, given, damaged, watch)
+    }
+
+    /// Reads a table whose description was looked for.
+    fn of(
+        path: &OsStr,
+        described: Option<Described>,
+        given: Given<'_>,
+        damaged: bool,
+        watch: &Watch,
+    ) -> Result<Stored, Failure> {
         let (kind, shape) = match &described {
             Some(described) => (described.kind(given.kind, "--kind")?, described.shape(given.shape, given.shape_by)?),
             None => (
-                given.kind.ok_or_else(|| missing_kind(&undescribed(path)))?,
-                given.shape.ok_or_else(|| missing_shape(&undescribed(path)))?.to_vec(),
+                given.kind.ok_or_else(|| missing_kind(&undescribed(&[path])))?,
+                given.shape.ok_or_else(|| missing_shape(&undescribed(&[path])))?.to_vec(),
             ),
         };
         let input = files::read(path, watch)?;
@@ -70,6 +80,26 @@ impl Stored {
         let (kind, shape) = (given_kind(arguments)?, given_shape(arguments)?);
         let given = Given { kind, shape: shape.as_deref(), shape_by: "--shape" };
         Stored::read(&arguments.files[0], given, damaged, watch)
+    }
+
+    /// Reads the two tables of a command line, which have one kind and one shape. Either description can say them.
+    pub fn pair(arguments: &Arguments, watch: &Watch) -> Result<[Stored; 2], Failure> {
+        let (kind, shape) = (given_kind(arguments)?, given_shape(arguments)?);
+        let paths = [0, 1].map(|number| arguments.files[number].as_os_str());
+        let (one, other) = (describe::find(paths[0], watch)?, describe::find(paths[1], watch)?);
+        if let (Some(one), Some(other)) = (&one, &other) {
+            one.alike(other)?;
+        }
+        let says = one.as_ref().or(other.as_ref()).map(|described| described.says.clone());
+        let (kind, shape) = match says {
+            Some(says) => (kind.or(Some(says.kind)), shape.or(Some(says.shape))),
+            None => (kind, shape),
+        };
+        let kind = kind.ok_or_else(|| missing_kind(&undescribed(&paths)))?;
+        let shape = shape.ok_or_else(|| missing_shape(&undescribed(&paths)))?;
+        let given = || Given { kind: Some(kind), shape: Some(&shape), shape_by: "--shape" };
+        let one = Stored::of(paths[0], one, given(), false, watch)?;
+        Ok([one, Stored::of(paths[1], other, given(), false, watch)?])
     }
 
     /// The file, and its description.
@@ -90,11 +120,13 @@ impl Stored {
     }
 }
 
-/// Why kind and shape must be given.
-fn undescribed(path: &OsStr) -> String {
-    match path == "-" {
+/// Why kind and shape must be given: no file that is read has a description.
+fn undescribed(paths: &[&OsStr]) -> String {
+    let described = paths.iter().filter(|path| **path != "-").map(|path| describe::beside(path));
+    let names: Vec<String> = described.map(|name| format!("no {}", name.to_string_lossy())).collect();
+    match names.is_empty() {
         true => String::new(),
-        false => format!(" and there is no {}", describe::beside(path).to_string_lossy()),
+        false => format!(" and there is {}", names.join(" and ")),
     }
 }
 

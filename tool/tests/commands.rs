@@ -365,6 +365,12 @@ fn wrong_command_lines() {
         &["write", "--strict", "a", "b"],
         &["explain", "--interleaved", "--kind", KIND, "--shape", "2", "a"],
         &["example", "more"],
+        &["same", "--kind", KIND, "--shape", "2x2", "a"],
+        &["same", "--kind", KIND, "--shape", "2x2", "a", "b", "c"],
+        &["same", "--kind", KIND, "--shape", "2x2", "-", "-"],
+        &["same", "--kind", KIND, "a", "b"],
+        &["same", "--interleaved", "--shape", "2x2", "a", "b"],
+        &["same", "--describe", "--kind", KIND, "--shape", "2x2", "a", "b"],
     ] {
         let said = run(&folder, line, b"");
         assert_eq!(said.status, 64, "{line:?}: {}", said.err);
@@ -478,11 +484,11 @@ fn help_examples_work_as_printed() {
     assert_eq!(run(Path::new("."), &["help"], b"").out, general.out);
     assert!(run(Path::new("."), &["--version"], b"").text().starts_with("durpaxeta "));
     assert!(general.text().contains("'durpaxeta help COMMAND'"));
-    for status in (64..=70).chain(73..=74) {
+    for status in (64..=71).chain(73..=74) {
         assert!(general.text().contains(&status.to_string()), "status {status} is not on the page");
     }
     let mut pages = vec![("durpaxeta".to_string(), general.text().to_string())];
-    for command in ["show", "write", "cut", "merge", "convert", "generate", "check", "explain", "example"] {
+    for command in ["show", "write", "cut", "merge", "convert", "generate", "check", "same", "explain", "example"] {
         assert!(general.text().contains(&format!("  durpaxeta {command} ")), "{command} is not in the list");
         let page = run(Path::new("."), &[command, "--help"], b"");
         assert_eq!(page.status, 0);

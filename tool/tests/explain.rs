@@ -39,6 +39,9 @@ fn the_pictures_of_the_page() {
         ("depth 1, fixed, size 1, little order", "2"),
         ("depth 0, ragged, width 4, index at start", "2"),
         (KIND, "4"),
+        ("depth 0, ragged, width 4, index at end", "1"),
+        ("depth 0, ragged, width 4, index at end", "1"),
+        ("", "2"),
     ];
     let pictures: Vec<&str> = page.split("```bytes\n").skip(1).map(|rest| rest.split("```").next().unwrap()).collect();
     assert_eq!(pictures.len(), tables.len());

@@ -248,6 +248,11 @@ fn a_refusal_keeps_its_status_when_the_reader_leaves() {
         unread(&folder, &["check", "--strict", "--interleaved", "--shape", "1", "-"], &[1, 0, 0, 0, 0, 0, 0, 0, 9]).0,
         Some(70)
     );
+    let same = ["same", "--kind", KIND, "--shape", "2x2", "guests.bin", "-"];
+    let other = [&stored[..63], b"9"].concat();
+    for (input, status) in [(&stored[..63], 8), (&other, 71), (&stored, 74)] {
+        assert_eq!(unread(&folder, &same, input), (Some(status), told.clone()));
+    }
     assert_eq!(unread(&folder, &["show", "--kind", KIND, "--shape", "2x2", "-"], &stored), (Some(74), told.clone()));
     assert_eq!(unread(&folder, &["show", "--kind", KIND, "--shape", "2x2", "-"], &stored[..63]).0, Some(8));
     let cut = ["cut", "--kind", KIND, "--shape", "2x2", "--subset", "0..1,0..2", "-", "-"];

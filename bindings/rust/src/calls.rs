@@ -38,7 +38,8 @@ fn lend(
     Ok(Array { kind, shape: shape.to_vec(), masks, values, offsets })
 }
 
-/// Array to stored bytes. What lies below a null is not stored.
+/// Array to stored bytes. What lies below a null is not stored. Of one kind and shape a table has one stored form: where the
+/// bytes of two differ, so do the tables.
 ///
 /// # Errors
 ///
@@ -86,7 +87,8 @@ pub fn encode_into<'a, 'o>(array: impl Into<ArrayRef<'a>>, out: &'o mut [u8]) ->
     Ok(&out[..length])
 }
 
-/// Stored bytes to array. What lies below a null comes out cleared.
+/// Stored bytes to array. What lies below a null comes out cleared. What is accepted here, [`encode`] writes again as the very
+/// same bytes.
 ///
 /// # Errors
 ///
@@ -95,13 +97,14 @@ pub fn encode_into<'a, 'o>(array: impl Into<ArrayRef<'a>>, out: &'o mut [u8]) ->
 /// `Length`, `Falling`; then `Size`.
 ///
 /// ```
-/// use durpaxeta::{decode, Cell, Kind, Order, Refusal};
+/// use durpaxeta::{decode, encode, Cell, Kind, Order, Refusal};
 ///
 /// let kind = Kind::fixed(1, 1, Order::Little);
 /// let stored = [2, 0, 0, 0, 0, 0, 0, 0, 1, 0, 0, 0, 0, 0, 0, 0, 0, 1, 0x0A];
 /// let table = decode(kind, &[2], &stored)?;
 /// assert_eq!(table.cell(0), Some(Cell::Null { level: 1 }));
 /// assert_eq!(table.cell(1), Some(Cell::Value(&[0x0A])));
+/// assert_eq!(encode(&table)?, stored);
 /// assert_eq!(decode(kind, &[2], &stored[..18]), Err(Refusal::Length));
 /// let neither = [2, 0, 0, 0, 0, 0, 0, 0, 1, 0, 0, 0, 0, 0, 0, 0, 2, 1, 0x0A];
 /// assert_eq!(decode(kind, &[2], &neither), Err(Refusal::NotBoolean));

@@ -64,16 +64,23 @@ fn pictures_are_real() {
     ];
     let load = |kind, cells, number| encode(&generate(kind, &[cells], number).unwrap()).unwrap();
     let loads = [load(fixed(1, 1), 2, 0), load(start(0), 2, 1), load(start(2), 4, 7)];
+    let empty_at_end = stored(Kind::ragged(0, Width::Four, Place::End), &[1], &[empty]);
+    let longer = stored(Kind::ragged(0, Width::Four, Place::End), &[1], &[Cell::Value(&empty_at_end)]);
+    assert!(longer.starts_with(&empty_at_end));
+    // The library writes no such byte.
+    let tail = [&wanted[12][..], b"!"].concat();
+    let ends = [empty_at_end, longer, tail];
+    let all: Vec<&Vec<u8>> = wanted.iter().chain(&packed).chain(&loads).chain(&ends).collect();
     let pictures = pictures("bytes");
-    assert_eq!(pictures.len(), wanted.len() + packed.len() + loads.len());
-    for (number, (picture, wanted)) in pictures.iter().zip(wanted.iter().chain(&packed).chain(&loads)).enumerate() {
+    assert_eq!(pictures.len(), all.len());
+    for (number, (picture, wanted)) in pictures.iter().zip(all).enumerate() {
         assert_eq!(picture, wanted, "picture {number}");
     }
     let interleaved = decode_interleaved(2, &pictures[12]).unwrap();
     assert_eq!((interleaved.cell(0), interleaved.cell(1)), (Some(&b"A"[..]), Some(&b""[..])));
 
     let lengths: Vec<usize> = pictures.iter().map(Vec::len).collect();
-    assert_eq!(lengths, [4, 4, 22, 34, 23, 19, 38, 64, 51, 50, 34, 17, 13, 21, 37, 19, 27, 59]);
+    assert_eq!(lengths, [4, 4, 22, 34, 23, 19, 38, 64, 51, 50, 34, 17, 13, 21, 37, 19, 27, 59, 16, 32, 14]);
 }
 
 /// Part 8.
@@ -91,6 +98,26 @@ fn refused_pictures_are_refused() {
             assert_eq!((decode(kind, &[cells], bytes), bytes.len()), (Err(refusal), length), "{bytes:02X?}");
         }
     }
+}
+
+/// Part 14: bytes after the last cell of the interleaved form change nothing; bytes of other kinds and shapes tell nothing.
+#[test]
+fn what_bytes_do_not_tell() {
+    let pictures = pictures("bytes");
+    assert_eq!(decode_interleaved(2, &pictures[20]), decode_interleaved(2, &pictures[12]));
+    let bytes = [10, 11, 12, 13];
+    let [little, big] =
+        [Order::Little, Order::Big].map(|order| decode(Kind::fixed(0, 2, order), &[2], &bytes).unwrap());
+    assert_eq!((&little.values[..], &big.values[..]), (&bytes[..], &[11, 10, 13, 12][..]));
+    let kind = Kind::fixed(0, 1, Order::Little);
+    let cells = [1, 2, 3, 4, 5, 6];
+    let [wide, long] = [[2, 3], [3, 2]].map(|shape| decode(kind, &shape, &cells).unwrap());
+    assert_eq!(encode(&wide), encode(&long));
+    assert_ne!(wide, long);
+    // Hidden in memory.
+    let kind = Kind::fixed(1, 1, Order::Little);
+    let hidden = |value| Array { kind, shape: vec![1], masks: vec![0], values: vec![value], offsets: vec![] };
+    assert_eq!(encode(&hidden(0)), encode(&hidden(7)));
 }
 
 /// Part 13: the first twenty draws of start number 0, by the page's own rule; as value bytes they are a load.

@@ -1,7 +1,9 @@
 //! Arrays drawn at random: cut up, stored, read back and put together they are their rest form, with packed masks every set
-//! byte as 01; and whatever is handed over, no call ever complains of an output.
+//! byte as 01; what is accepted, read and written again, is the very same bytes; and whatever is handed over, no call ever
+//! complains of an output.
 
 use durpaxeta::*;
+use std::collections::BTreeMap;
 
 /// A small generator of repeatable numbers.
 struct Draws(u64);
@@ -80,6 +82,18 @@ impl Draws {
         boxes.iter().map(|(starts, lengths)| Subset::new(starts, lengths).unwrap()).collect()
     }
 
+    /// Another byte, another bit, neighbours exchanged, or one more or less: offsets, masks and values are often still good.
+    fn damage(&mut self, stored: &mut [u8]) {
+        let at = self.below(stored.len() as u64) as usize;
+        match self.below(5) {
+            0 => stored[at] = self.below(256) as u8,
+            1 => stored[at] ^= 1 << self.below(8),
+            2 => stored.swap(at, (at + 1) % stored.len()),
+            3 => stored[at] = stored[at].wrapping_add(1),
+            _ => stored[at] = stored[at].wrapping_sub(1),
+        }
+    }
+
     fn subset(&mut self, shape: &[u64]) -> Subset {
         let lengths: Vec<u64> = shape.iter().map(|&side| self.below(side + 1)).collect();
         let starts: Vec<u64> = shape.iter().zip(&lengths).map(|(side, length)| self.below(side - length + 1)).collect();
@@ -151,6 +165,92 @@ fn cut_stored_read_and_merged() {
             let part = partial_decode(width, place, &shape, &query, &encode(&table).unwrap());
             assert_eq!(part.map(|part| (part.values, part.offsets)), Ok((cut.values, cut.offsets)));
         }
+    }
+}
+
+/// S8.9: damaged copies that are accepted all the same, read and written again. S8.10: each is another table.
+#[test]
+fn accepted_bytes_return() {
+    let mut draws = Draws(0x5EED_0F07);
+    let mut changed: BTreeMap<String, usize> = BTreeMap::new();
+    let mut refused = 0;
+    for _ in 0..120_000 {
+        let (kind, shape) = (draws.kind(), draws.shape());
+        let whole = encode(&draws.array(kind, &shape)).unwrap();
+        let mut stored = whole.clone();
+        for _ in 0..1 + draws.below(2) {
+            draws.damage(&mut stored);
+        }
+        let Ok(table) = decode(kind, &shape, &stored) else {
+            refused += 1;
+            continue;
+        };
+        assert!(encode(&table).as_ref() == Ok(&stored), "{kind} {shape:?} {stored:02X?}");
+        let before = decode(kind, &shape, &whole).unwrap();
+        assert_eq!(table == before, stored == whole, "{kind} {shape:?} {whole:02X?} {stored:02X?}");
+        let form = if kind.is_ragged() { "ragged" } else { "fixed" };
+        let masks = if kind.masks == MaskForm::Packed { "packed" } else { "bytes" };
+        for (part, differs) in [
+            ("masks", table.masks != before.masks),
+            ("values", table.values != before.values),
+            ("offsets", table.offsets != before.offsets),
+        ] {
+            *changed.entry(format!("{form}, {masks}: {part}")).or_default() += usize::from(differs);
+        }
+    }
+    assert!(refused > 50_000, "{refused}");
+    assert_eq!(changed.len(), 12);
+    for (what, count) in changed {
+        let none = what.starts_with("fixed") && what.ends_with("offsets");
+        assert!(if none { count == 0 } else { count > 100 }, "{what} changed in {count} accepted copies");
+    }
+}
+
+/// All strings over few bytes.
+fn strings(bytes: &[u8], lengths: std::ops::RangeInclusive<u32>) -> Vec<Vec<u8>> {
+    let count = bytes.len();
+    let string = |length, mut number: usize| {
+        let next = |_| {
+            let byte = bytes[number % count];
+            number /= count;
+            byte
+        };
+        (0..length).map(next).collect()
+    };
+    lengths.flat_map(|length| (0..count.pow(length)).map(move |number| string(length, number))).collect()
+}
+
+/// S8.10 over everything that small fields can say, right and wrong: no two strings that are accepted read alike.
+#[test]
+fn no_two_strings_read_alike() {
+    let number = |number: u64| number.to_le_bytes().to_vec();
+    let joined = |fields: &[&Vec<Vec<u8>>]| {
+        fields.iter().fold(vec![Vec::new()], |begun: Vec<Vec<u8>>, field| {
+            begun.iter().flat_map(|begin| field.iter().map(move |end| [&begin[..], end].concat())).collect()
+        })
+    };
+    let lengths: Vec<Vec<u8>> = (0..=3).map(number).collect();
+    let frames = joined(&[&lengths, &lengths, &strings(&[0, 1, 2, 3], 0..=4)]);
+    let offset: Vec<Vec<u8>> = (0..=3).map(|at: u32| at.to_le_bytes().to_vec()).collect();
+    let index: Vec<Vec<u8>> = [0, 8, 12, 16].map(number).to_vec();
+    let data = strings(&[7, 8], 0..=3);
+    let start = joined(&[&index, &offset, &offset, &offset, &data]);
+    let end = joined(&[&data, &offset, &offset, &offset, &index]);
+    // Two cells, each null or one of four bytes. Up to 3 bytes of two, and one border between the cells: (n + 1) << n of n bytes.
+    for (kind, stored, wanted) in [
+        (Kind::fixed(1, 1, Order::Little), &frames, 5 * 5),
+        (Kind::fixed(1, 1, Order::Little).packed(), &frames, 5 * 5),
+        (Kind::ragged(0, Width::Four, Place::Start), &start, 1 + 4 + 12 + 32),
+        (Kind::ragged(0, Width::Four, Place::End), &end, 1 + 4 + 12 + 32),
+    ] {
+        let mut tables = BTreeMap::new();
+        for bytes in stored {
+            let Ok(table) = decode(kind, &[2], bytes) else { continue };
+            assert!(encode(&table).as_ref() == Ok(bytes), "{kind} {bytes:02X?}");
+            let other = tables.insert((table.masks, table.values, table.offsets), bytes);
+            assert!(other.is_none(), "{kind}: {other:02X?} and {bytes:02X?} read alike");
+        }
+        assert_eq!(tables.len(), wanted, "{kind}");
     }
 }
 
