@@ -41,10 +41,9 @@ use Rattle.decode.proofs.Outcomes.{short-masks, short-values, all-writt
 use Rattle.decode.proofs.Small.{bytes-small}
 
 -- with no mask the walk is at the values at once
-walk-flat : (mf : MaskForm) (d : ℕ) (s : List ℕ) (n : ℕ) → d ≡ 0 → walked mf d s 0 n ≡ gives (0, n)
+walk-flat : (mf : MaskForm) (s : List ℕ) (n : ℕ) → walked mf 0 s 0 n ≡ gives (0, n)
 unfolding walked
-walk-flat mf zero s n e = refl
-walk-flat mf (suc d) s n e = absurd (omega arith)
+walk-flat mf s n = refl
 
 -- ---- what is copied
 
@@ -192,31 +191,30 @@ module _ (mf : MaskForm) (size : ℕ) (o : Order) (d : ℕ) (s : List ℕ) {n : 
 
 module _ (o : Order) {x : Masks} {size d : ℕ} {s : List ℕ} {n : ℕ} {f : Found} (r : FixedFound x size d s n f) where
   -- the values are read
-  given : Answer (List Value) → Answer Content
+  abbrev given : Answer (List Value) → Answer Content
   given y = laidOut (maskForm x) size o d s (r .limits) (andThen y (λ vs. gives (cellsFrom (maskForm x) (replicate size 0) d s 0 n vs)))
 
   -- by whether the stored bytes end with the values
   by-length : (t : Bool) → eqb (length (drop (f .at) s)) (f .cells * size) ≡ t
       → readIn (maskForm x) (fixed size o) d n s ≡ given (unless t 8 (gives (map (ordered o) (pieces size (f .cells) (drop (f .at) s)))))
-  unfolding getValues given
+  unfolding getValues
   by-length t e =
       reads (maskForm x) size o d s (r .limits) (gives (f .at, f .cells)) (r .walk)
       ∙ ap given (fixed-any size o (drop (f .at) s) (f .cells) (λ z. length-drop (f .at) s ∙ found-passed r .none-left z)
       ∙ ap (λ (t : Bool). unless t 8 (gives (map (ordered o) (pieces size (f .cells) (drop (f .at) s))))) e)
 
   pub fixed-length : length s - f .at ≢ f .cells * size → readIn (maskForm x) (fixed size o) d n s ≡ refuses 8
-  unfolding given
   fixed-length g = by-length false (ne-eqb (length (drop (f .at) s)) (f .cells * size) (λ e. g (sym (length-drop (f .at) s) ∙ e)))
 
   pub fixed-given : length s - f .at ≡ f .cells * size → readIn (maskForm x) (fixed size o) d n s ≡ gives (fixedFrom (maskForm x) size o d s n f)
-  unfolding fixedFrom given
+  unfolding fixedFrom
   fixed-given g = by-length true (eq-eqb (length (drop (f .at) s)) (f .cells * size) (length-drop (f .at) s ∙ g))
 
 -- ---- with no mask the values are all that is stored
 
 module _ (o : Order) (x : Masks) {size : ℕ} (s : List ℕ) {n : ℕ} (l : Limited 0 n) (h : size ≤ mostSize) where
   abbrev plain : FixedFound x size 0 s n (record { at = 0; cells = n })
-  plain = record { limits = l; small = h; walk = walk-flat (maskForm x) 0 s n refl }
+  plain = record { limits = l; small = h; walk = walk-flat (maskForm x) s n }
 
   pub plain-length : length s ≢ n * size → readIn (maskForm x) (fixed size o) 0 n s ≡ refuses 8
   plain-length g = fixed-length o plain (λ e. g (sym (sub-zero (length s)) ∙ e))

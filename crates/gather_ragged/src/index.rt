@@ -56,7 +56,7 @@ fn put_marked_ends(
     }
 }
 
-// The same by level, as put_live_data.
+// The same by level, as put_level_runs in data.
 fn put_live_ends(
     out: &mut [u8],
     to: usize,

@@ -1,6 +1,7 @@
 -- `spread_offsets` meets its contract, by the laws of SpreadingOffsets.
 -- Assumes nothing.
 use mathlib.Core.Path.{_≡_, sym, ap, _∙_, subst}
+use mathlib.Core.List.{List}
 use Prim.Native.Nat.{ℕ, _+_, _*_, _-_, _≤_, _<_}
 use native.Mathlib.Omega.{arith}
 use lib.ListN.{length, take, drop, getD}
@@ -21,102 +22,156 @@ Inv-loop offsets₀ masks from n s at width cells w end₀ i₀ k₀ offsets end
 abbrev μ-loop : tie.MeasureT-loop
 μ-loop offsets₀ masks from n s at width cells w end₀ i₀ k₀ offsets end i k = n - i
 
-long : (c : tie.Start Inv-loop μ-loop) → length (planeAt (c .args .from) (c .args .n) (c .args .masks .now)) ≡ c .args .n
-long c = plane-length (c .args .from) (c .args .n) (c .args .masks .now) (c .pre .0)
+-- ---- places: the start, the width was asked for, the loop's head, a turn, its mark was asked for
 
-same : (c : tie.At-loop Inv-loop μ-loop) → length (c .loop .offsets) ≡ length (c .before .before .before .before .before .args .offsets .now)
-same c = ends-same (c .loop .inv)
+abbrev Start : Type 0
+Start = tie.Start Inv-loop μ-loop
 
-room : (c : tie.At-loop Inv-loop μ-loop) → c .loop .i < length (c .loop .offsets)
-room c = ends-room (c .loop .inv)
+abbrev plane : Start → List ℕ
+plane s = planeAt (s .args .from) (s .args .n) (s .args .masks .now)
 
-inside : (c : tie.In-loop Inv-loop μ-loop) → c .before .loop .i < length (planeAt (c .before .before .before .before .before .before .args .from) (c .before .before .before .before .before .before .args .n) (c .before .before .before .before .before .before .args .masks .now))
-inside c = ends-inside (c .before .loop .inv) (c .loop-test .taken)
+long : (s : Start) → length (plane s) ≡ s .args .n
+long s = plane-length (s .args .from) (s .args .n) (s .args .masks .now) (s .pre .0)
 
-source : (c : tie.In-loop Inv-loop μ-loop) → c .before .before .before .before .before .before .args .at + c .before .loop .k * c .before .before .width-bytes .result + c .before .before .width-bytes .result ≤ length (c .before .before .before .before .before .before .args .s .now)
-source c = next-within (c .before .before .width-bytes .result) (c .before .before .before .before .before .before .args .at) (c .before .loop .k) (c .before .before .before .before .before .before .args .cells) (length (c .before .before .before .before .before .before .args .s .now)) (c .loop-test .taken) (c .before .loop .inv .enough)
+abbrev Wide : Type 0
+Wide = tie.After-width-bytes Inv-loop μ-loop
 
-end-is : (c : tie.After-le-at Inv-loop μ-loop) → c .le-at .result ≡ unle (take (c .before .before .before .width-bytes .result) (drop (c .before .before .before .before .before .before .before .args .at + c .before .before .loop .k * c .before .before .before .width-bytes .result) (c .before .before .before .before .before .before .before .args .s .now)))
-end-is c =
-    let q = drop (c .before .before .before .before .before .before .before .args .at + c .before .before .loop .k * c .before .before .before .width-bytes .result) (c .before .before .before .before .before .before .before .args .s .now) in
-    c .le-at .ensures ∙ ap (λ (w : ℕ). unle (take w q)) (sym (c .before .before .before .width-bytes .ensures))
+abbrev begun : Wide → Start
+begun b = b .before .before .before .before
 
-mark-is : (c : tie.After-mark-of Inv-loop μ-loop) → toldMark (c .mark-of .result) ≡ markOf (getD (planeAt (c .before .before .before .before .before .before .before .before .before .args .from) (c .before .before .before .before .before .before .before .before .before .args .n) (c .before .before .before .before .before .before .before .before .before .args .masks .now)) (c .before .before .before .before .loop .i) 0)
-mark-is c =
-    let args = c .before .before .before .before .before .before .before .before .before .args in
-    c .mark-of .ensures ∙ ap markOf (plane-byte (args .from) (args .n) (args .masks .now) (c .before .before .before .before .loop .i) (omega (arith, (inside (c .before .before .before)), (long (c .before .before .before .before .before .before .before .before .before)))))
+abbrev Head : Type 0
+Head = tie.At-loop Inv-loop μ-loop
 
-width-bytes-requires : tie.Need-width-bytes-requires Inv-loop μ-loop
-width-bytes-requires c κs = search needs
+abbrev start : Head → Start
+start l = begun (l .before)
+
+abbrev width : Head → ℕ
+width l = l .before .width-bytes .result
+
+same : (l : Head) → length (l .loop .offsets) ≡ length (start l .args .offsets .now)
+same l = ends-same (l .loop .inv)
+
+room : (l : Head) → l .loop .i < length (l .loop .offsets)
+room l = ends-room (l .loop .inv)
+
+-- where the next end is stored
+abbrev stored : Head → ℕ
+stored l = start l .args .at + l .loop .k * width l
+
+abbrev Turn : Type 0
+Turn = tie.In-loop Inv-loop μ-loop
+
+inside : (u : Turn) → u .before .loop .i < start (u .before) .args .n
+inside u = omega (arith, ends-inside (u .before .loop .inv) (u .loop-test .taken), long (start (u .before)))
+
+source : (u : Turn) → let l = u .before in stored l + width l ≤ length (start l .args .s .now)
+source u = let l = u .before in next-within (width l) (start l .args .at) (l .loop .k) (start l .args .cells) (length (start l .args .s .now)) (u .loop-test .taken) (l .loop .inv .enough)
+
+end-is : (e : tie.After-le-at Inv-loop μ-loop) → let l = e .before .before in e .le-at .result ≡ unle (take (width l) (drop (stored l) (start l .args .s .now)))
+end-is e =
+    let l = e .before .before in
+    e .le-at .ensures ∙ ap (λ (w : ℕ). unle (take w (drop (stored l) (start l .args .s .now)))) (sym (l .before .width-bytes .ensures))
+
+abbrev Marked : Type 0
+Marked = tie.After-mark-of Inv-loop μ-loop
+
+abbrev turn : Marked → Turn
+turn m = m .before .before .before
+
+mark-is : (m : Marked) → let l = turn m .before in toldMark (m .mark-of .result) ≡ markOf (getD (plane (start l)) (l .loop .i) 0)
+mark-is m =
+    let l = turn m .before in
+    let a = start l .args in
+    m .mark-of .ensures ∙ ap markOf (plane-byte (a .from) (a .n) (a .masks .now) (l .loop .i) (inside (turn m)))
+
+abbrev Taken : Type 0
+Taken = tie.After-skip Inv-loop μ-loop
+
+abbrev marked : Taken → Marked
+marked t = t .before .before
+
+-- behind the loop
+abbrev Behind : Type 0
+Behind = tie.After-fill-ends-arg Inv-loop μ-loop
+
+abbrev head : Behind → Head
+head f = f .before .before
+
+left : (f : Behind) → head f .loop .i ≤ start (head f) .args .n
+left f = omega (arith, long (start (head f)), head f .loop .inv .within)
+
+-- ---- answers
 
 loop-holds : tie.Need-loop-holds Inv-loop μ-loop
 loop-holds c =
+    let s = begun c in
+    let a = s .args in
     let w = c .width-bytes in
-    let args = c .before .before .before .before .args in
-    let pre = c .before .before .before .before .pre in
-    ends-begin (w .result) (planeAt (args .from) (args .n) (args .masks .now)) (args .s .now) (args .offsets .now) (args .at) (args .cells) (pre .2)
-    (subst (λ (w : ℕ). args .at + args .cells * w ≤ length (args .s .now)) (sym (w .ensures)) (pre .3))
-    (omega (arith, (long (c .before .before .before .before)), pre .1))
+    ends-begin (w .result) (plane s) (a .s .now) (a .offsets .now) (a .at) (a .cells) (s .pre .2)
+    (subst (λ (w : ℕ). a .at + a .cells * w ≤ length (a .s .now)) (sym (w .ensures)) (s .pre .3)) (omega (arith, long s, s .pre .1))
 
 mul-offsets : tie.Need-mul-offsets Inv-loop μ-loop
-mul-offsets c = omega (arith, (room (c .before)), (same (c .before)))
+mul-offsets c = omega (arith, room (c .before), same (c .before))
 
 slice-write-offsets : tie.Need-slice-write-offsets Inv-loop μ-loop
-slice-write-offsets c = (room (c .before))
+slice-write-offsets c = room (c .before)
 
 mul-le-at : tie.Need-mul-le-at Inv-loop μ-loop
-mul-le-at c = omega (arith, (source c))
+mul-le-at c = omega (arith, source c)
 
 add-le-at : tie.Need-add-le-at Inv-loop μ-loop
-add-le-at c = omega (arith, (source c))
+add-le-at c = omega (arith, source c)
 
 le-at-requires : tie.Need-le-at-requires Inv-loop μ-loop
-le-at-requires c κs = omega (arith, (source c), c .before .before .width-bytes .ensures)
+le-at-requires c κs = omega (arith, source c, c .before .before .width-bytes .ensures)
 
 add-mark-of : tie.Need-add-mark-of Inv-loop μ-loop
-add-mark-of c = omega (arith, (inside (c .before)), (long (c .before .before .before .before .before .before .before)), c .before .before .before .before .before .before .before .pre .0)
+add-mark-of c = omega (arith, inside (c .before), start (c .before .before) .pre .0)
 
 shared-slice-read-mark-of : tie.Need-shared-slice-read-mark-of Inv-loop μ-loop
-shared-slice-read-mark-of c = omega (arith, (inside (c .before .before)), (long (c .before .before .before .before .before .before .before .before)), c .before .before .before .before .before .before .before .before .pre .0)
-
-mark-of-requires : tie.Need-mark-of-requires Inv-loop μ-loop
-mark-of-requires c κs = search needs
-
-number-if-requires : tie.Need-number-if-requires Inv-loop μ-loop
-number-if-requires c κs = search needs
+shared-slice-read-mark-of c = let u = c .before .before in omega (arith, inside u, start (u .before) .pre .0)
 
 skip-requires : tie.Need-skip-requires Inv-loop μ-loop
-skip-requires c κs = omega (arith, next-most (toldMark (c .before .mark-of .result)) (c .before .before .before .before .before .loop .k) (c .before .before .before .before .before .before .before .before .before .before .args .cells) (c .before .before .before .before .loop-test .taken))
+skip-requires c κs =
+    let u = turn (c .before) in
+    let l = u .before in
+    omega (arith, next-most (toldMark (c .before .mark-of .result)) (l .loop .k) (start l .args .cells) (u .loop-test .taken))
 
 add-i : tie.Need-add-i Inv-loop μ-loop
-add-i c = omega (arith, (room (c .before .before .before .before .before .before)), (same (c .before .before .before .before .before .before)))
+add-i c = let l = turn (marked c) .before in omega (arith, room l, same l)
 
 loop-less : tie.Need-loop-less Inv-loop μ-loop
-loop-less c = omega (arith, (inside (c .before .before .before .before .before)), (long (c .before .before .before .before .before .before .before .before .before .before .before)))
+loop-less c = omega (arith, inside (turn (marked c)))
 
 loop-again : tie.Need-loop-again Inv-loop μ-loop
 loop-again c =
-    let loop = c .before .before .before .before .before .before .loop in
-    rw (c .skip .ensures) (ends-more (loop .inv) (c .before .before .before .before .before .loop-test .taken) (toldMark (c .before .before .mark-of .result)) (mark-is (c .before .before)) (c .before .number-if .result)
-    (c .before .number-if .ensures ∙ ap (λ (e : ℕ). ifSet (toldMark (c .before .before .mark-of .result)) e (loop .end)) (end-is (c .before .before .before .before))))
+    let m = marked c in
+    let u = turn m in
+    let l = u .before in
+    let mark = toldMark (m .mark-of .result) in
+    let next = c .before .number-if in
+    rw (c .skip .ensures)
+    (ends-more (l .loop .inv) (u .loop-test .taken) mark (mark-is m) (next .result) (next .ensures ∙ ap (λ (e : ℕ). ifSet mark e (l .loop .end)) (end-is (m .before .before))))
 
 add-fill-ends : tie.Need-add-fill-ends Inv-loop μ-loop
-add-fill-ends c = omega (arith, c .before .before .before .before .before .before .before .pre .1)
+add-fill-ends c = omega (arith, start (head c) .pre .1)
 
 sub-fill-ends : tie.Need-sub-fill-ends Inv-loop μ-loop
-sub-fill-ends c = omega (arith, (long (c .before .before .before .before .before .before .before)), c .before .before .loop .inv .within)
+sub-fill-ends c = omega (arith, left c)
 
 fill-ends-requires : tie.Need-fill-ends-requires Inv-loop μ-loop
-fill-ends-requires c κs = omega (arith, (long (c .before .before .before .before .before .before .before)), (same (c .before .before)), c .before .before .loop .inv .within, c .before .before .before .before .before .before .before .pre .1)
+fill-ends-requires c κs = omega (arith, left c, same (head c), start (head c) .pre .1)
 
 same-length : tie.Need-same-length Inv-loop μ-loop
-same-length c = c .before .before .fill-ends .kept .0 ∙ (same (c .before .before .before .before .before))
+same-length c = let f = c .before .before in f .fill-ends .kept .0 ∙ same (head (f .before))
 
 returns : tie.Need-returns Inv-loop μ-loop
 returns c =
-    let args = c .before .before .before .before .before .before .before .before .before .before .args in
-    ends-end (c .before .before .before .before .before .loop .inv) (c .before .before .before .before .loop-test .left) (args .n) (long (c .before .before .before .before .before .before .before .before .before .before)) _ (c .before .before .fill-ends .ensures)
-    ∙ ap (λ (w : ℕ). over (endsOf w (planeAt (args .from) (args .n) (args .masks .now)) (args .s .now) (args .at)) (args .offsets .now)) (c .before .before .before .before .before .before .width-bytes .ensures)
+    let f = c .before .before in
+    let l = head (f .before) in
+    let s = start l in
+    ends-end (l .loop .inv) (f .before .before .loop-test .left) (s .args .n) (long s) _ (f .fill-ends .ensures)
+    ∙ ap (λ (w : ℕ). over (endsOf w (plane s) (s .args .s .now) (s .args .at)) (s .args .offsets .now)) (l .before .width-bytes .ensures)
 
 pub spread-offsets-spec : {M : Type 1} → statement M
 spread-offsets-spec =
@@ -124,7 +179,7 @@ spread-offsets-spec =
     (tie.spec
     Inv-loop
     μ-loop
-    width-bytes-requires
+    (λ c κs. search needs)
     loop-holds
     mul-offsets
     slice-write-offsets
@@ -133,8 +188,8 @@ spread-offsets-spec =
     le-at-requires
     add-mark-of
     shared-slice-read-mark-of
-    mark-of-requires
-    number-if-requires
+    (λ c κs. search needs)
+    (λ c κs. search needs)
     skip-requires
     add-i
     loop-less
