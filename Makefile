@@ -5,7 +5,7 @@
 # make tool      builds the command build/durpaxeta over that archive.
 # make install   puts command, header, archive, pkg-config file and man pages under PREFIX, an absolute path; make uninstall takes
 #                them away again. For a package DESTDIR is where they lie for now, before PREFIX.
-# make compare   holds the archive against the original Rust; make teeth, make bench: oracle/README.md.
+# make compare   holds the archive against the original Rust; make teeth, make fuzz, make bench: oracle/README.md.
 .PHONY: test lib tool demo install uninstall
 
 # rt's last line is kept back until the rest has passed.

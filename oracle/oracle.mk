@@ -45,6 +45,21 @@ $(O)/teeth_run: oracle/teeth/main.rs
 teeth: $(O)/driver $(O)/teeth_run
 	@$(O)/teeth_run $(O) $(SEED) $(REQUESTS)
 
+# A fuzzer over the archive's own code: what decode accepts, encode writes again as the same bytes.
+#   SECONDS   how long it runs
+#   OPT       how far the code is optimized that it runs over
+SECONDS ?= 600
+OPT ?= -O3
+.PHONY: fuzz
+fuzz: build/libdurpaxeta.a
+	@OPT=$(OPT) oracle/fuzz/build.sh build/fuzz/fuzz
+	@oracle/fuzz/run.sh build/fuzz/fuzz $(SECONDS)
+
+# Does it see mistakes that are put in on purpose?
+.PHONY: fuzz-teeth
+fuzz-teeth:
+	@oracle/fuzz/teeth.sh 120
+
 # The rows of docs/DIFFERENCES.md, put to the judge and to each build of the Rust.
 .PHONY: differences
 differences: $(O)/driver
