@@ -24,10 +24,10 @@ pub length-joined : (vs : List Value) → length (joined vs) ≡ sum (map length
 length-joined [] = refl
 length-joined (v ∷ vs) = length-append v (joined vs) ∙ ap (λ (k : ℕ). length v + k) (length-joined vs)
 
-map-take : (vs : List Value) (j : ℕ) → map length (take j vs) ≡ take j (map length vs)
-map-take vs zero = refl
-map-take [] (suc j) = refl
-map-take (v ∷ vs) (suc j) = ap (λ (r : List ℕ). length v ∷ r) (map-take vs j)
+pub map-take : {A : Type 0} (f : A → ℕ) (vs : List A) (j : ℕ) → map f (take j vs) ≡ take j (map f vs)
+map-take f vs zero = refl
+map-take f [] (suc j) = refl
+map-take f (v ∷ vs) (suc j) = ap (λ (r : List ℕ). f v ∷ r) (map-take f vs j)
 
 -- a list cut into pieces of these lengths
 abbrev pub cutBy : List ℕ → List ℕ → List Value
@@ -88,7 +88,7 @@ module _ (ls : List ℕ) (off : ℕ → ℕ) (p q : List ℕ) (eo : (j : ℕ) �
         let whole : (w : Value) → p ++ joined (take j vs ++ w ∷ drop (suc j) vs) ++ q ≡ x ++ w ++ y =
         λ w. ap (λ (r : List ℕ). p ++ r ++ q) (joined-append (take j vs) (w ∷ drop (suc j) vs)) ∙ simp append-assoc in
         let ex : off j ≡ length x =
-        eo j (omega arith) ∙ sym (length-append p (joined (take j vs)) ∙ ap (λ (k : ℕ). length p + k) (length-joined (take j vs) ∙ ap sum (map-take vs j ∙ ap (take j) e))) in
+        eo j (omega arith) ∙ sym (length-append p (joined (take j vs)) ∙ ap (λ (k : ℕ). length p + k) (length-joined (take j vs) ∙ ap sum (map-take length vs j ∙ ap (take j) e))) in
         ap₂ (λ (o : List ℕ) (k : ℕ). scatter o (from k (off (suc j) - off j)) v) (ap (λ (r : List Value). p ++ joined r ++ q) (split-at vs j [] h′) ∙ whole (getD vs j [])) ex
         ∙ ap (λ (k : ℕ). scatter (x ++ getD vs j [] ++ y) (from (length x) k) v) (width j h ∙ sym ev) ∙ middle x (getD vs j []) v y as-long
         ∙ sym (whole v) ∙ ap (λ (r : List Value). p ++ joined r ++ q) (sym (set-split vs j v h′))

@@ -26,7 +26,7 @@ use Rattle.merge_stores.specs.Store.{parts, levelAt, masksMerged, cellsT
 use Rattle.merge_stores.proofs.Blocks.{fixed-block}
 use Rattle.merge_stores.proofs.FirstChunk.{Chunked, none-of, first-of, first-leaves, all-values}
 use Rattle.merge_stores.proofs.Levels.{putBack-map, masks-putBack, chunk-levels, length-all}
-use Rattle.merge_stores.proofs.RaggedMerge.{offsets-merged, lookup-at, All-at, ragged-block}
+use Rattle.merge_stores.proofs.RaggedMerge.{offsets-merged, lookup-at, All-at, map-at, ragged-block}
 use Rattle.merge_stores.proofs.RaggedTies.{ragged-lengths}
 
 -- ---- the sum of what is merged is the sum of what was there
@@ -40,17 +40,11 @@ sum-once-all f js a zero o = refl
 sum-once-all f js a (suc n) o =
     ap₂ (λ (x y : ℕ). x + y) (ap (λ (k : ℕ). k * f a) (o a (omega arith)) ∙ one-mul (f a)) (sum-once-all f js (suc a) n (λ i h. o i (omega arith)))
 
-sum-beside : (f : ℕ → ℕ) (js ls : List ℕ) → length js ≡ length ls → ((i : ℕ) → i < length js → f (getD js i 0) ≡ getD ls i 0) → sumOf f js ≡ sum ls
-sum-beside f [] [] e h = refl
-sum-beside f [] (l ∷ ls) e h = absurd (omega arith)
-sum-beside f (j ∷ js) [] e h = absurd (omega arith)
-sum-beside f (j ∷ js) (l ∷ ls) e h = ap₂ (λ (x y : ℕ). x + y) (h 0 (omega arith)) (sum-beside f js ls (omega arith) (λ i k. h (suc i) (omega arith)))
-
 pub sum-putBack : (n : ℕ) (js ls : List ℕ) → All (λ j. j < n) js → Once n js → length js ≡ length ls → sum (putBack 0 n js ls) ≡ sum ls
 sum-putBack n js ls a o e =
     let f : ℕ → ℕ = λ i. lookup 0 i js ls in
     sum-map (λ i. lookup 0 i js ls) (from 0 n) ∙ sym (sum-once-all (λ i. lookup 0 i js ls) js 0 n (λ i h. o i (omega arith))) ∙ sym (sum-count (λ i. lookup 0 i js ls) n js a)
-    ∙ sum-beside (λ i. lookup 0 i js ls) js ls e (λ i h. lookup-at 0 js ls i e h (o (getD js i 0) (All-at (λ j. j < n) js a i h)))
+    ∙ sym (sum-map (λ i. lookup 0 i js ls) js) ∙ ap sum (map-at (λ i. lookup 0 i js ls) js ls e (λ i h. lookup-at 0 js ls i e h (o (getD js i 0) (All-at (λ j. j < n) js a i h))))
 
 -- ---- masks
 

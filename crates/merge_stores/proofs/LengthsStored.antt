@@ -17,7 +17,7 @@ use Rattle.cover.proofs.SubsetWalk.{SubsetsLeft, rest, rest-begins, rest-ends, 
 use Rattle.merge_stores.specs.Ragged.{steps, stepParts, LengthsAsked, LengthChunks, LengthsAllAsked}
 use Rattle.merge_stores.specs.Scatter.{scatter, places}
 use Rattle.merge_stores.proofs.PartsStored.{scatter-enough, length-places}
-use Rattle.merge_stores.proofs.RaggedTies.{length-steps}
+use Rattle.merge_stores.proofs.RaggedTies.{length-steps, rises-of}
 use Rattle.merge_stores.proofs.Scattering.{length-scatter, scatter-then, places-append}
 
 drop-steps : (n : ℕ) (os : List ℕ) → drop n (steps os) ≡ steps (drop n os)
@@ -72,7 +72,7 @@ module _ (sh flat : List ℕ) (count : ℕ) (d src : List ℕ) (q : LengthsAllAs
         rises = λ k l.
             let e₁ : offsetAt (drop first src) (0 + k) ≡ offsetAt src (first + k) = getD-drop first src (0 + k) 0 ∙ ap (offsetAt src) (omega arith) in
             let e₂ : offsetAt (drop first src) (suc (0 + k)) ≡ offsetAt src (suc (first + k)) = getD-drop first src (suc (0 + k)) 0 ∙ ap (offsetAt src) (omega arith) in
-            omega (arith, now .1 k (omega (arith, cells-now)));
+            omega (arith, rises-of m (drop first src) (now .1) (now .0) k (omega (arith, cells-now)));
         indexed = lengths-indexed;
         room = omega (arith, q .room, c .long);
       }

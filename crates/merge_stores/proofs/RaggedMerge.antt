@@ -74,19 +74,20 @@ All-at P [] a i h = absurd (omega arith)
 All-at P (j ∷ js) a zero h = a .0
 All-at P (j ∷ js) a (suc i) h = All-at P js (a .1) i (omega arith)
 
--- places that step by these lengths are as many as they sum to
-places-long : (off : ℕ → ℕ) (js ls : List ℕ) → length js ≡ length ls → ((i : ℕ) → i < length js → off (suc (getD js i 0)) ≡ off (getD js i 0) + getD ls i 0) → length (places off js) ≡ sum ls
-places-long off [] [] e f = refl
-places-long off [] (l ∷ ls) e f = absurd (omega arith)
-places-long off (j ∷ js) [] e f = absurd (omega arith)
-places-long off (j ∷ js) (l ∷ ls) e f =
-    omega (
-      arith,
-      length-append (from (off j) (off (suc j) - off j)) (places off js),
-      length-from (off j) (off (suc j) - off j),
-      f 0 (omega arith),
-      places-long off js ls (omega arith) (λ i h. f (suc i) (omega arith)),
-    )
+-- a list by its elements
+pub map-at : (f : ℕ → ℕ) (js ls : List ℕ) → length js ≡ length ls → ((i : ℕ) → i < length js → f (getD js i 0) ≡ getD ls i 0) → map f js ≡ ls
+map-at f [] [] e h = refl
+map-at f [] (l ∷ ls) e h = absurd (omega arith)
+map-at f (j ∷ js) [] e h = absurd (omega arith)
+map-at f (j ∷ js) (l ∷ ls) e h = ap₂ (λ (x : ℕ) (r : List ℕ). x ∷ r) (h 0 (omega arith)) (map-at f js ls (omega arith) (λ i k. h (suc i) (omega arith)))
+
+-- how many places a cell has, and so many have they together
+abbrev pub stepOf : (ℕ → ℕ) → ℕ → ℕ
+stepOf off j = off (suc j) - off j
+
+pub places-sum : (off : ℕ → ℕ) (js : List ℕ) → length (places off js) ≡ sum (map (stepOf off) js)
+places-sum off [] = refl
+places-sum off (j ∷ js) = omega (arith, length-append (from (off j) (stepOf off j)) (places off js), length-from (off j) (stepOf off j), places-sum off js)
 
 module _ (n : ℕ) (js : List ℕ) (a : All (λ j. j < n) js) (once : Once n js) where
   pub putBack-at : {A : Type 0} (z : A) (xs : List A) (i : ℕ) → length js ≡ length xs → i < length js → getD (putBack z n js xs) (getD js i 0) z ≡ getD xs i z
@@ -104,14 +105,11 @@ module _ (n : ℕ) (js : List ℕ) (a : All (λ j. j < n) js) (once : Once n js)
         let s : sum (take (suc j) xs) ≡ sum (take j xs) + getD xs j 0 = ap sum (take-suc xs j 0 (omega (arith, long))) ∙ sum-append (take j xs) (getD xs j 0 ∷ []) ∙ omega arith in
         omega (arith, offset-is xs t j (omega (arith, long)), offset-is xs t (suc j) (omega (arith, long)), s)
 
-    -- the merged offsets step, at the i-th cell of the list, by the i-th length
-    agrees-all : (i : ℕ) → i < length js
-        → offsetAt ((0 ∷ sums 0 (putBack 0 n js ls)) ++ t) (suc (getD js i 0)) ≡ offsetAt ((0 ∷ sums 0 (putBack 0 n js ls)) ++ t) (getD js i 0) + getD ls i 0
-    agrees-all i h = omega (arith, step (getD js i 0) (All-at (λ j. j < n) js a i h), putBack-at 0 ls i e h)
-
-    -- and so have as many places as the lengths say
-    pub places-merged : length (places (offsetAt ((0 ∷ sums 0 (putBack 0 n js ls)) ++ t)) js) ≡ sum ls
-    places-merged = places-long (offsetAt ((0 ∷ sums 0 (putBack 0 n js ls)) ++ t)) js ls e agrees-all
+    -- the merged offsets step, at the cells of the list, by the lengths
+    pub steps-merged : map (stepOf (offsetAt ((0 ∷ sums 0 (putBack 0 n js ls)) ++ t))) js ≡ ls
+    steps-merged =
+        map-at (stepOf (offsetAt ((0 ∷ sums 0 (putBack 0 n js ls)) ++ t))) js ls e
+        (λ i h. omega (arith, step (getD js i 0) (All-at (λ j. j < n) js a i h), putBack-at 0 ls i e h))
 
     pub rises-merged : (j : ℕ) → j < n → offsetAt ((0 ∷ sums 0 (putBack 0 n js ls)) ++ t) j ≤ offsetAt ((0 ∷ sums 0 (putBack 0 n js ls)) ++ t) (suc j)
     rises-merged j h = omega (arith, step j h)

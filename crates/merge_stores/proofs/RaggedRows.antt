@@ -1,85 +1,79 @@
--- Storing the ragged values of a subset row by row: what holds at the head of the loop, and a turn of it.
+-- Storing the ragged values of a subset row by row: a turn of the loop.
 -- Assumes nothing.
-use mathlib.Core.Path.{_≡_, refl, sym, ap, _∙_}
+use mathlib.Core.Path.{_≡_, refl, sym, ap, _∙_, subst}
 use Prim.Native.Nat.{ℕ, _+_, _-_, _<_, _≤_}
+use native.Mathlib.Nat.{add-assoc}
 use native.Mathlib.Omega.{arith}
-use mathlib.Core.List.{List}
-use lib.ListN.{length, getD, take, drop, length-append, length-drop}
-use lib.Seq.{drop-drop}
+use mathlib.Core.List.{List, _++_}
+use lib.ListN.{length, getD, take, drop, length-append, length-drop, take-append-drop}
+use lib.Seq.{drop-drop, take-add, take-at}
 use Rattle.array.specs.Buffers.{overAt}
 use Rattle.array.specs.Lists.{from}
 use Rattle.array.specs.Shape.{volume}
 use Rattle.array.specs.Subset.{cellsIn, pairs}
 use Rattle.array.specs.Places.{offsetAt}
 use Rattle.array.proofs.Lists.{length-from}
-use Rattle.subset.proofs.Rows.{Left, left-room, left-ends, within-below}
+use Rattle.subset.proofs.Rows.{Left, left-next, left-within, left-room, within-cells, within-below}
 use Rattle.merge_stores.specs.Ragged.{RaggedAsked}
-use Rattle.merge_stores.specs.Scatter.{scatter, places}
-use Rattle.merge_stores.proofs.RowsStored.{Store, store-begins, store-ends, store-more, row-places}
-use Rattle.merge_stores.proofs.Scattering.{Steps, steps-le}
+use Rattle.merge_stores.specs.Scatter.{places}
+use Rattle.merge_stores.proofs.RowsStored.{Store, store-begins, store-more}
+use Rattle.merge_stores.proofs.Scattering.{Steps, steps-le, places-append, places-run}
 
--- the rows before `at` are stored; the bytes of the others lie from `pos` on
-pub record Ragged (begins cs values : List ℕ) (first : ℕ) (d o : List ℕ) (cells n at pos : ℕ) : Type 0 where
-  pub done : ℕ
-  pub here : pos ≡ first + done
-  pub store : Store (offsetAt begins) cs (drop first values) d o cells n at done
-  pub left : pos + length (places (offsetAt begins) (drop at cs)) ≡ first + length (places (offsetAt begins) cs)
-
-pub ragged-begins : (begins cs values : List ℕ) (first : ℕ) (d : List ℕ) (cells n : ℕ) → Left cs cells n 0 → Ragged begins cs values first d d cells n 0 first
-ragged-begins begins cs values first d cells n g = record {
-  done = 0;
-  here = omega arith;
-  store = store-begins (offsetAt begins) cs (drop first values) d cells n g;
-  left = refl;
-}
-
-module _ {begins cs values : List ℕ} {first : ℕ} {d o : List ℕ} {cells n at pos : ℕ} (c : Ragged begins cs values first d o cells n at pos) (h : cells ≤ at) where
-  pub ragged-stored : o ≡ scatter d (places (offsetAt begins) cs) (drop first values)
-  ragged-stored = store-ends (offsetAt begins) cs (drop first values) d o cells n at (c .done) (c .store) h
-
-  pub ragged-next : pos ≡ first + length (places (offsetAt begins) cs)
-  ragged-next = omega (arith, c .left, ap (λ (js : List ℕ). length (places (offsetAt begins) js)) (left-ends cs cells n at (c .store .geo) h))
-
--- a row, of n cells from a on
-module _ {sh st ls d begins values : List ℕ} {first : ℕ} (q : RaggedAsked sh st ls d begins values first) {o : List ℕ} {cells n at pos : ℕ}
-    (c : Ragged begins (cellsIn sh (pairs st ls)) values first d o cells n at pos) (h : at < cells) {a : ℕ} (e : a ≡ getD (cellsIn sh (pairs st ls)) at 0) where
+module _ {sh st ls d begins values : List ℕ} {base : ℕ} {src : List ℕ} {first : ℕ} (q : RaggedAsked sh st ls d begins values base src first) where
   abbrev cs : List ℕ
   cs = cellsIn sh (pairs st ls)
 
-  abbrev w : ℕ
-  w = offsetAt begins (a + n) - offsetAt begins a
+  pub ragged-begins : {cells n : ℕ} → Left cs cells n 0 → Store (offsetAt begins) cs (drop base values) d d cells n 0 (offsetAt src (first + 0))
+  ragged-begins {cells} {n} g =
+      subst (λ (k : ℕ). Store (offsetAt begins) cs (drop base values) d d cells n 0 k) (q .agrees 0 (omega arith)) (store-begins (offsetAt begins) cs (drop base values) d cells n g)
 
-  pub row-cell : a + n ≤ volume sh
-  row-cell = omega (arith, e, left-room cs cells n at (c .store .geo) h (volume sh) (within-below sh st ls (q .fits)))
+  -- a row, of n cells from a on
+  module _ {o : List ℕ} {cells n at : ℕ} (c : Store (offsetAt begins) cs (drop base values) d o cells n at (offsetAt src (first + at))) (h : at < cells) {a : ℕ} (e : a ≡ getD cs at 0) where
+    abbrev w : ℕ
+    w = offsetAt src (first + at + n) - offsetAt src (first + at)
 
-  steps : Steps (offsetAt begins) a n
-  steps i l m = q .laid .rises i (omega (arith, row-cell))
+    pub row-within : at + n ≤ volume ls
+    row-within = omega (arith, left-within cs cells n at (c .geo) h, c .geo .whole, within-cells sh st ls (q .fits))
 
-  pub row-rises : offsetAt begins a ≤ offsetAt begins (a + n)
-  row-rises = steps-le (offsetAt begins) n a steps
+    pub row-cell : a + n ≤ volume sh
+    row-cell = omega (arith, e, left-room cs cells n at (c .geo) h (volume sh) (within-below sh st ls (q .fits)))
 
-  -- its bytes have room in the output, and lie in the values
-  pub row-room : offsetAt begins a + w ≤ length d
-  row-room = omega (arith, row-rises, q .laid .room (a + n) row-cell)
+    steps : Steps (offsetAt begins) a n
+    steps i l m = q .laid .rises i (omega (arith, row-cell))
 
-  long : length (places (offsetAt begins) (drop at cs)) ≡ w + length (places (offsetAt begins) (drop (at + n) cs))
-  long =
-      ap length (row-places (offsetAt begins) cs cells n at (c .store .geo) h a e steps)
-      ∙ length-append (from (offsetAt begins a) w) (places (offsetAt begins) (drop (at + n) cs))
-      ∙ ap (λ (k : ℕ). k + length (places (offsetAt begins) (drop (at + n) cs))) (length-from (offsetAt begins a) w)
+    -- its bytes are as many in the output as in the chunk
+    row-bytes : offsetAt src (first + at + n) ≡ offsetAt src (first + at) + (offsetAt begins (a + n) - offsetAt begins a)
+    row-bytes =
+        let run : take n (drop at cs) ≡ from a n =
+        ap (take n) (left-next cs cells n at (c .geo) h ∙ ap (λ (k : ℕ). from k n ++ drop (at + n) cs) (sym e)) ∙ take-at (from a n) (drop (at + n) cs) n (length-from a n) in
+        let both : length (places (offsetAt begins) (take (at + n) cs)) ≡ length (places (offsetAt begins) (take at cs)) + (offsetAt begins (a + n) - offsetAt begins a) =
+        ap (λ (js : List ℕ). length (places (offsetAt begins) js)) (take-add at n cs ∙ ap (λ (r : List ℕ). take at cs ++ r) run)
+        ∙ ap length (places-append (offsetAt begins) (take at cs) (from a n) ∙ ap (λ (r : List ℕ). places (offsetAt begins) (take at cs) ++ r) (places-run (offsetAt begins) n a steps))
+        ∙ length-append (places (offsetAt begins) (take at cs)) (from (offsetAt begins a) (offsetAt begins (a + n) - offsetAt begins a))
+        ∙ ap (λ (k : ℕ). length (places (offsetAt begins) (take at cs)) + k) (length-from (offsetAt begins a) (offsetAt begins (a + n) - offsetAt begins a)) in
+        let l : at + n ≤ length cs = omega (arith, row-within, within-cells sh st ls (q .fits)) in
+        omega (arith, both, q .agrees at (omega arith), q .agrees (at + n) l, ap (offsetAt src) (add-assoc first at n))
 
-  pub row-enough : pos + w ≤ length values
-  row-enough = omega (arith, c .left, long, q .enough)
+    pub row-rises : offsetAt src (first + at) ≤ offsetAt src (first + at + n)
+    row-rises = omega (arith, row-bytes)
 
-  pub ragged-more : (o′ : List ℕ) → o′ ≡ overAt (offsetAt begins a) (take w (drop pos values)) o → Ragged begins cs values first d o′ cells n (at + n) (pos + w)
-  ragged-more o′ p =
-      let x : drop (c .done) (drop first values) ≡ drop pos values = drop-drop (c .done) first values ∙ ap (λ (k : ℕ). drop k values) (sym (c .here)) in
-      record {
-        done = c .done + w;
-        here = omega (arith, c .here);
-        store =
-            store-more (offsetAt begins) cs (drop first values) d o cells n at (c .done) (c .store) h a e steps (offsetAt begins a) w (c .done + w) refl
-            (omega (arith, row-rises)) refl row-room (omega (arith, c .here, row-enough, length-drop first values)) o′
-            (p ∙ ap (λ (r : List ℕ). overAt (offsetAt begins a) (take w r) o) (sym x));
-        left = omega (arith, c .left, long);
-      }
+    -- they have room in the output, and lie in the values
+    pub row-room : offsetAt begins a + w ≤ length d
+    row-room = omega (arith, row-bytes, steps-le (offsetAt begins) n a steps, q .laid .room (a + n) row-cell)
+
+    pub row-enough : base + offsetAt src (first + at) + w ≤ length values
+    row-enough =
+        let l : at + n ≤ length cs = omega (arith, row-within, within-cells sh st ls (q .fits)) in
+        let all : length (places (offsetAt begins) cs) ≡ length (places (offsetAt begins) (take (at + n) cs)) + length (places (offsetAt begins) (drop (at + n) cs)) =
+        ap (λ (js : List ℕ). length (places (offsetAt begins) js)) (sym (take-append-drop (at + n) cs)) ∙ ap length (places-append (offsetAt begins) (take (at + n) cs) (drop (at + n) cs))
+        ∙ length-append (places (offsetAt begins) (take (at + n) cs)) (places (offsetAt begins) (drop (at + n) cs)) in
+        omega (arith, all, q .agrees (at + n) l, ap (offsetAt src) (add-assoc first at n), row-rises, q .enough)
+
+    pub ragged-more : (o′ : List ℕ) → o′ ≡ overAt (offsetAt begins a) (take w (drop (base + offsetAt src (first + at)) values)) o
+        → Store (offsetAt begins) cs (drop base values) d o′ cells n (at + n) (offsetAt src (first + (at + n)))
+    ragged-more o′ p =
+        let t : offsetAt src (first + (at + n)) ≡ offsetAt src (first + at + n) = ap (offsetAt src) (sym (add-assoc first at n)) in
+        store-more (offsetAt begins) cs (drop base values) d o cells n at (offsetAt src (first + at)) c h a e steps (offsetAt begins a) w (offsetAt src (first + (at + n))) refl
+        (omega (arith, row-bytes, steps-le (offsetAt begins) n a steps)) (omega (arith, t, row-rises)) row-room
+        (omega (arith, t, row-rises, row-enough, length-drop base values)) o′
+        (p ∙ ap (λ (r : List ℕ). overAt (offsetAt begins a) (take w r) o) (sym (drop-drop (offsetAt src (first + at)) base values)))

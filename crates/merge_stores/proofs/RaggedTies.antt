@@ -1,23 +1,28 @@
--- The lengths of a chunk list's ragged values, by its offsets.
+-- The lengths of a chunk list's ragged values, by its offsets, and that places which step by them agree with the offsets.
 -- Assumes nothing.
 use mathlib.Core.Path.{_≡_, refl, sym, ap, ap₂, _∙_, subst}
 use Prim.Native.Nat.{ℕ, zero, suc, _+_, _-_, _<_, _≤_}
 use native.Mathlib.Nat.{add-sub-cancel-left, min-le-right}
 use native.Mathlib.Omega.{arith}
 use mathlib.Core.List.{List, [], _∷_, _++_, map}
-use lib.ListN.{length, getD, take, length-take}
+use lib.ListN.{length, getD, take, drop, length-take, length-map}
+use lib.Seq.{take-at, drop-at, take-take, length-take-le}
 use Rattle.array.specs.Cells.{Value, Cell}
 use Rattle.array.specs.Content.{Content, ContentOk, leaves, cellsOf}
 use Rattle.array.specs.Kind.{Kind, Masks, ragged, Place}
 use Rattle.array.specs.Offsets.{last, lastFrom, Rising, RisingFrom, ends}
 use Rattle.array.specs.Shape.{volume}
-use Rattle.array.specs.Subset.{Subset, lengths}
+use Rattle.array.specs.Lists.{All}
+use Rattle.array.specs.Subset.{Subset, lengths, cellsIn, cellsOfAll, SubsetOk}
 use Rattle.array.specs.Places.{offsetAt}
 use Rattle.array.proofs.Inverse.{layout-cells}
 use Rattle.array.proofs.Lists.{map-append}
+use Rattle.array.proofs.SubsetLaws.{length-cellsIn}
 use Rattle.chunks.specs.Chunks.{firstChunk}
-use Rattle.merge_stores.specs.Ragged.{RisesFor, LengthChunks, stepsFrom, steps, stepParts}
+use Rattle.merge_stores.specs.Ragged.{RisesFor, LengthChunks, RaggedChunks, stepsFrom, steps, stepParts, sum}
+use Rattle.merge_stores.proofs.Blocks.{map-take}
 use Rattle.merge_stores.proofs.FirstChunk.{Chunked, none-of, first-of, first-leaves}
+use Rattle.merge_stores.proofs.RaggedMerge.{stepOf, places-sum}
 
 -- ---- offsets, and the lengths between them
 
@@ -62,7 +67,7 @@ length-steps (a ∷ os) = go a os ∙ omega arith
     go a [] = refl
     go a (b ∷ os) = ap suc (go b os)
 
-rises-of : (m : ℕ) (os : List ℕ) → Rising (take (suc m) os) → m < length os → RisesFor os 0 m
+pub rises-of : (m : ℕ) (os : List ℕ) → Rising (take (suc m) os) → m < length os → RisesFor os 0 m
 rises-of m [] r h = absurd (omega arith)
 rises-of m (a ∷ os) r h = λ i l. let z : 0 + i ≡ i = omega arith in subst (λ (k : ℕ). offsetAt (a ∷ os) k ≤ offsetAt (a ∷ os) (suc k)) (sym z) (go m a os i (r .1) l (omega arith))
   where
@@ -72,7 +77,42 @@ rises-of m (a ∷ os) r h = λ i l. let z : 0 + i ≡ i = omega arith in subst (
     go (suc m) a (b ∷ os) zero r l h = r .0
     go (suc m) a (b ∷ os) (suc i) r l h = go m b os i (r .1) (omega arith) (omega arith)
 
+-- the first i lengths sum to the offset i
+sum-steps : (m : ℕ) (os : List ℕ) → Rising (take (suc m) os) → m < length os → (i : ℕ) → i ≤ m → sum (take i (steps os)) ≡ offsetAt os i
+sum-steps m [] r l i h = absurd (omega arith)
+sum-steps m (a ∷ os) r l i h = omega (arith, r .0, go m a os (r .1) i h (omega arith))
+  where
+    go : (m a : ℕ) (os : List ℕ) → RisingFrom a (take m os) → (i : ℕ) → i ≤ m → m ≤ length os → a + sum (take i (stepsFrom a os)) ≡ getD (a ∷ os) i 0
+    go m a os r zero h l = omega arith
+    go zero a os r (suc i) h l = absurd (omega arith)
+    go (suc m) a [] r (suc i) h l = absurd (omega arith)
+    go (suc m) a (b ∷ os) r (suc i) h l = omega (arith, r .0, go m b os (r .1) i (omega arith) (omega arith))
+
 -- ---- chunk by chunk
+
+-- lists with equal parts
+split-same : (xs ys zs ws : List ℕ) → length xs ≡ length zs → xs ++ ys ≡ zs ++ ws → (xs ≡ zs) × (ys ≡ ws)
+split-same xs ys zs ws l e =
+    (sym (take-at xs ys (length zs) l) ∙ ap (take (length zs)) e ∙ take-at zs ws (length zs) refl, sym (drop-at xs ys (length zs) l) ∙ ap (drop (length zs)) e ∙ drop-at zs ws (length zs) refl)
+
+-- places that step by the chunks' lengths agree with their offsets
+pub chunks-agree : (begins sh : List ℕ) (bs : List Subset) → All (SubsetOk sh) bs → (os : List ℕ) → LengthChunks bs os
+    → map (stepOf (offsetAt begins)) (cellsOfAll sh bs) ≡ stepParts bs os → RaggedChunks begins sh bs os
+chunks-agree begins sh [] inside os l e = tt
+chunks-agree begins sh (b ∷ bs) inside os l e =
+    let m : ℕ = volume (lengths b) in
+    let cs : List ℕ = cellsIn sh b in
+    let f : ℕ → ℕ = stepOf (offsetAt begins) in
+    let lc : length cs ≡ m = length-cellsIn sh b (inside .0) in
+    let ls : length (take m (steps os)) ≡ m = length-take-le m (steps os) (omega (arith, l .0, length-steps os)) in
+    let p = split-same (map f cs) (map f (cellsOfAll sh bs)) (take m (steps os)) (stepParts bs (drop (suc m) os)) (length-map cs f ∙ lc ∙ sym ls) (sym (map-append f cs (cellsOfAll sh bs)) ∙ e) in (
+      l .0,
+      λ i h.
+          let z : 0 + i ≡ i = omega arith in
+          places-sum (offsetAt begins) (take i cs) ∙ ap sum (map-take f cs i ∙ ap (take i) (p .0) ∙ take-take i m (steps os) (omega arith))
+          ∙ sum-steps m os (l .1) (l .0) i (omega arith) ∙ ap (offsetAt os) (sym z),
+      chunks-agree begins sh bs (inside .1) (drop (suc m) os) (l .2) (p .1),
+    )
 
 pub take-long : (n : ℕ) (xs : List ℕ) → length (take n xs) ≡ n → n ≤ length xs
 take-long n xs e = omega (arith, length-take n xs, min-le-right n (length xs))
@@ -102,4 +142,4 @@ module _ (x : Masks) (w d : ℕ) (p : Place) where
       let m : ℕ = volume (lengths b) in
       let q = first-of e in
       let l : m < length (c .offsets) = take-long (suc m) (c .offsets) (q .ok .values-fit .0) in
-      (l, rises-of m (c .offsets) (q .ok .values-fit .1) l, length-chunks bs (q .is-later))
+      (l, q .ok .values-fit .1, length-chunks bs (q .is-later))

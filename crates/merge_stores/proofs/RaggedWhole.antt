@@ -3,7 +3,7 @@
 use mathlib.Core.Path.{_≡_, sym, ap, ap₂, _∙_, subst}
 use Prim.Native.Nat.{ℕ, _+_, _<_, _≤_}
 use native.Mathlib.Omega.{arith}
-use mathlib.Core.List.{List, _∷_, _++_, append-assoc}
+use mathlib.Core.List.{List, _∷_, _++_, map, append-assoc}
 use lib.ListN.{length, take, drop, length-append, length-map, take-append-drop}
 use lib.Seq.{length-take-le, take-at, drop-at}
 use Rattle.array.specs.Limits.{mostBytes}
@@ -21,7 +21,8 @@ use Rattle.merge_stores.specs.Scatter.{scatter, places}
 use Rattle.merge_stores.proofs.Blocks.{sum-append}
 use Rattle.merge_stores.proofs.Closing.{sum-putBack}
 use Rattle.merge_stores.proofs.Levels.{level-block}
-use Rattle.merge_stores.proofs.RaggedMerge.{offset-is, length-sums, places-merged, rises-merged}
+use Rattle.merge_stores.proofs.RaggedMerge.{offset-is, length-sums, stepOf, places-sum, steps-merged, rises-merged}
+use Rattle.merge_stores.proofs.RaggedTies.{chunks-agree}
 use Rattle.merge_stores.proofs.Scattering.{length-scatter}
 
 module _ (sh flat : List ℕ) (count : ℕ) (dv d values src : List ℕ) (n : ℕ) (q : RaggedMergeAsked sh flat count dv d values src n) where
@@ -70,9 +71,12 @@ module _ (sh flat : List ℕ) (count : ℕ) (dv d values src : List ℕ) (n : �
           let s : sum xs ≡ sum (take j xs) + sum (drop j xs) = ap sum (sym (take-append-drop j xs)) ∙ sum-append (take j xs) (drop j xs) in
           omega (arith, offset-is xs (drop (n + 1) d) j (omega (arith, long-xs, q .counted)), s, sum-is, q .enough)
 
-      pub third-asked : RaggedAllAsked sh flat count dv o′ values
+      stepped : map (stepOf (offsetAt (offsetsMerged sh bs src ++ drop (n + 1) d))) (cellsOfAll sh bs) ≡ stepParts bs src
+      stepped = steps-merged (volume sh) (cellsOfAll sh bs) (all-below sh bs ok) (q .once) (stepParts bs src) (drop (n + 1) d) (q .as-many)
+
+      pub third-asked : RaggedAllAsked sh flat count dv o′ values src
       third-asked =
-          subst (λ (r : List ℕ). RaggedAllAsked sh flat count dv r values) (sym offsets-are)
+          subst (λ (r : List ℕ). RaggedAllAsked sh flat count dv r values src) (sym offsets-are)
           (record {
             subsets = q .subsets;
             laid = record {
@@ -80,5 +84,6 @@ module _ (sh flat : List ℕ) (count : ℕ) (dv d values src : List ℕ) (n : �
               rises = rises-merged (volume sh) (cellsOfAll sh bs) (all-below sh bs ok) (q .once) (stepParts bs src) (drop (n + 1) d) (q .as-many);
               room = below;
             };
-            enough = omega (arith, places-merged (volume sh) (cellsOfAll sh bs) (all-below sh bs ok) (q .once) (stepParts bs src) (drop (n + 1) d) (q .as-many), q .summed);
+            chunks = chunks-agree (offsetsMerged sh bs src ++ drop (n + 1) d) sh bs ok src (q .lengths-fit) stepped;
+            enough = omega (arith, places-sum (offsetAt (offsetsMerged sh bs src ++ drop (n + 1) d)) (cellsOfAll sh bs), ap sum stepped, q .summed);
           })

@@ -8,6 +8,7 @@ use Rattle.array.specs.Limits.{mostBytes}
 use Rattle.array.specs.Shape.{volume, ShapeOk}
 use Rattle.array.specs.Subset.{Subset, lengths, pairs, cellsIn, cellsOfAll}
 use Rattle.array.specs.Rows.{Within, nextSubsets}
+use Rattle.array.specs.Offsets.{Rising}
 use Rattle.array.specs.Places.{offsetAt}
 use Rattle.chunks.specs.Gather.{putBack, Once}
 use Rattle.cover.specs.Asked.{SubsetsOk}
@@ -54,6 +55,10 @@ pub record Begins (shape out begins : List ℕ) : Type 0 where
   pub rises : (j : ℕ) → j < volume shape → offsetAt begins j ≤ offsetAt begins (suc j)
   pub room : (j : ℕ) → j ≤ volume shape → offsetAt begins j ≤ length out
 
+-- the output has as many places for the first i of a chunk's cells as the chunk's own offset i says
+abbrev pub Agrees : List ℕ → List ℕ → ℕ → List ℕ → Type 0
+Agrees begins src first cs = (i : ℕ) → i ≤ length cs → length (places (offsetAt begins) (take i cs)) ≡ offsetAt src (first + i)
+
 -- of one chunk: its lengths, its values
 pub record LengthsAsked (shape starts lens out src : List ℕ) (first : ℕ) : Type 0 where
   pub shaped : ShapeOk shape
@@ -62,16 +67,23 @@ pub record LengthsAsked (shape starts lens out src : List ℕ) (first : ℕ) : T
   pub indexed : first + volume lens < length src
   pub room : volume shape < length out
 
-pub record RaggedAsked (shape starts lens out begins values : List ℕ) (first : ℕ) : Type 0 where
+pub record RaggedAsked (shape starts lens out begins values : List ℕ) (base : ℕ) (src : List ℕ) (first : ℕ) : Type 0 where
   pub shaped : ShapeOk shape
   pub fits : Within shape starts lens
   pub laid : Begins shape out begins
-  pub enough : first + length (places (offsetAt begins) (cellsIn shape (pairs starts lens))) ≤ length values
+  pub agrees : Agrees begins src first (cellsIn shape (pairs starts lens))
+  pub indexed : first + volume lens < length src
+  pub enough : base + length (places (offsetAt begins) (cellsIn shape (pairs starts lens))) ≤ length values
 
--- chunk by chunk: offsets that never fall
+-- chunk by chunk: offsets that begin at 0 and never fall; offsets that the output agrees with
 abbrev pub LengthChunks : List Subset → List ℕ → Type 0
 LengthChunks [] os = Unit {0}
-LengthChunks (b ∷ bs) os = (volume (lengths b) < length os) × RisesFor os 0 (volume (lengths b)) × LengthChunks bs (drop (suc (volume (lengths b))) os)
+LengthChunks (b ∷ bs) os = (volume (lengths b) < length os) × Rising (take (suc (volume (lengths b))) os) × LengthChunks bs (drop (suc (volume (lengths b))) os)
+
+abbrev pub RaggedChunks : List ℕ → List ℕ → List Subset → List ℕ → Type 0
+RaggedChunks begins shape [] os = Unit {0}
+RaggedChunks begins shape (b ∷ bs) os =
+    (volume (lengths b) < length os) × Agrees begins os 0 (cellsIn shape b) × RaggedChunks begins shape bs (drop (suc (volume (lengths b))) os)
 
 -- of all chunks: their lengths, their values
 pub record LengthsAllAsked (shape flat : List ℕ) (count : ℕ) (out src : List ℕ) : Type 0 where
@@ -79,9 +91,10 @@ pub record LengthsAllAsked (shape flat : List ℕ) (count : ℕ) (out src : List
   pub room : volume shape < length out
   pub chunks : LengthChunks (nextSubsets (length shape) count flat) src
 
-pub record RaggedAllAsked (shape flat : List ℕ) (count : ℕ) (out begins values : List ℕ) : Type 0 where
+pub record RaggedAllAsked (shape flat : List ℕ) (count : ℕ) (out begins values src : List ℕ) : Type 0 where
   pub subsets : SubsetsOk shape flat count
   pub laid : Begins shape out begins
+  pub chunks : RaggedChunks begins shape (nextSubsets (length shape) count flat) src
   pub enough : length (places (offsetAt begins) (cellsOfAll shape (nextSubsets (length shape) count flat))) ≤ length values
 
 -- of both: the value bytes are as many as the lengths say, few, and fit the output

@@ -89,37 +89,37 @@ fn sum_up(out: &mut [u64], n: usize)
     }
 }
 
-// Stores a chunk's values row by row: they lie end to end in `values` from `first` on, and `begins` says where each cell of the output
-// begins. The answer is where the next chunk's lie.
+// Stores a chunk's values row by row: they lie in `values` from `base` on, by the offsets in `src` from `first` on; `begins` says
+// where each cell of the output begins.
 fn store_ragged(
     out: &mut [u8],
     begins: &[u64],
     values: &[u8],
+    base: usize,
+    src: &[u64],
     first: usize,
     shape: &[u64],
     starts: &[u64],
     lens: &[u64],
     cells: u64,
-) -> usize
-    requires { ⌜ RaggedAsked (now shape) (now starts) (now lens) (now out) (now begins) (now values) first × (cells ≡ volume (now lens)) ⌝ }
-    ensures next { λ r. ⌜ r ≡ first + length (places (offsetAt (now (begins .entry))) (cellsIn (now (shape .entry)) (pairs (now (starts .entry)) (now (lens .entry))))) ⌝ }
-    ensures bytes { λ _. ⌜ now (out .exit) ≡ scatter (now (out .entry)) (places (offsetAt (now (begins .entry))) (cellsIn (now (shape .entry)) (pairs (now (starts .entry)) (now (lens .entry)))))
-        (drop first (now (values .entry))) ⌝ }
+)
+    requires { ⌜ RaggedAsked (now shape) (now starts) (now lens) (now out) (now begins) (now values) base (now src) first × (cells ≡ volume (now lens)) ⌝ }
+    ensures { λ _. ⌜ now (out .exit) ≡ scatter (now (out .entry)) (places (offsetAt (now (begins .entry))) (cellsIn (now (shape .entry)) (pairs (now (starts .entry)) (now (lens .entry)))))
+        (drop base (now (values .entry))) ⌝ }
 {
     let last = lens.len() - 1;
     let n = lens[last];
     let mut at: u64 = 0;
-    let mut pos = first;
     while at < cells {
         let a = subset::cell_at(shape, starts, lens, at) as usize;
         let to = begins[a] as usize;
-        let e = a + (n as usize);
-        let len = (begins[e] as usize) - to;
-        buffer::copy::copy_bytes(out, to, values, pos, len);
-        pos += len;
+        let i = first + (at as usize);
+        let begin = src[i] as usize;
+        let e = i + (n as usize);
+        let end = src[e] as usize;
+        buffer::copy::copy_bytes(out, to, values, base + begin, end - begin);
         at += n;
     }
-    pos
 }
 
 // Stores the values of all chunks.
@@ -127,33 +127,41 @@ fn store_ragged_all(
     out: &mut [u8],
     begins: &[u64],
     values: &[u8],
+    src: &[u64],
     shape: &[u64],
     subsets: &[u64],
     count: usize,
 )
-    requires { ⌜ RaggedAllAsked (now shape) (now subsets) count (now out) (now begins) (now values) ⌝ }
+    requires { ⌜ RaggedAllAsked (now shape) (now subsets) count (now out) (now begins) (now values) (now src) ⌝ }
     ensures { λ _. ⌜ now (out .exit) ≡ scatter (now (out .entry)) (places (offsetAt (now (begins .entry))) (cellsOfAll (now (shape .entry)) (nextSubsets (length (now (shape .entry))) count (now (subsets .entry)))))
         (now (values .entry)) ⌝ }
 {
     let d = shape.len();
     let mut i: usize = 0;
     let mut at: usize = 0;
-    let mut pos: usize = 0;
+    let mut base: usize = 0;
+    let mut first: usize = 0;
     while i < count {
         let mid = at + d;
         let end = mid + d;
         let lens = &subsets[mid..end];
         let cells = subset::volume_of(lens);
-        pos = store_ragged(
+        let m = cells as usize;
+        store_ragged(
             out,
             begins,
             values,
-            pos,
+            base,
+            src,
+            first,
             shape,
             &subsets[at..mid],
             lens,
             cells,
         );
+        let last = first + m;
+        base += src[last] as usize;
+        first = last + 1;
         at = end;
         i += 1;
     }
@@ -177,5 +185,5 @@ pub fn merge_ragged(
 {
     store_lengths_all(outo, src, shape, subsets, count);
     sum_up(outo, n);
-    store_ragged_all(outv, outo, values, shape, subsets, count);
+    store_ragged_all(outv, outo, values, src, shape, subsets, count);
 }
