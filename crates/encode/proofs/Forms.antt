@@ -1,12 +1,12 @@
 -- The two forms of values, as the code tells them apart, and what is known of them at a level.
 -- Assumes nothing.
-use mathlib.Core.Path.{_≡_, sym, ap, ap₂, _∙_, subst}
+use mathlib.Core.Path.{_≡_, refl, sym, ap, ap₂, _∙_, subst}
 use Prim.Native.Nat.{ℕ, suc, _+_, _*_, _≤_}
 use native.Mathlib.Nat.{le-of-eq, zero-mul}
 use native.Mathlib.Numerals.{add-one}
 use native.Mathlib.Omega.{arith}
 use mathlib.Core.List.{List, map}
-use lib.ListN.{length, drop}
+use lib.ListN.{length, drop, getD}
 use Rattle.array.specs.declared.kind.ByteOrder.{ByteOrder}
 use Rattle.array.specs.declared.kind.IndexWidth.{IndexWidth}
 use Rattle.array.specs.declared.kind.IndexWidth.the-variants.{Four, Eight}
@@ -15,21 +15,26 @@ use Rattle.array.specs.declared.kind.Kind as declared
 use Rattle.array.specs.declared.kind.Values.{Values}
 use Rattle.array.specs.declared.kind.Values.the-variants.{Fixed, Ragged}
 use Rattle.array.specs.Limits.{mostBytes, mostCells}
-use Rattle.array.specs.Lists.{joined, pieces}
+use Rattle.array.specs.Lists.{from, joined, pieces}
 use Rattle.array.specs.Kind.{Kind, Form, fixed, ragged, FormOk, ordered}
 use Rattle.array.specs.Meaning.{orderOf, widthOf, placeOf, formOf, kindOf}
 use Rattle.array.specs.Offsets.{last, Rising}
 use Rattle.array.specs.Content.{Content, ValuesOk}
+use Rattle.codec.specs.Ragged.{putRagged}
 use Rattle.codec.specs.Values.{putValues}
+use Rattle.codec.proofs.Flat.{flat-put}
 use Rattle.gather.specs.Live.{liveAt, Planes}
 use Rattle.gather_ragged.specs.Slices.{sliceAt, spansOf, Offsets}
 use Rattle.gather.specs.Pieces.{piecesAt}
 use Rattle.encode.specs.Ready.{MeasuresOk, Measured, Encodable}
-use Rattle.encode.specs.Stored.{valueAt, valuesFrom, valuesLengthAt}
+use Rattle.encode.specs.Stored.{valueAt, valuesFrom, valuesLengthAt, lengthFrom}
 use Rattle.gather.proofs.Numbered.{live-all}
 use Rattle.gather.proofs.Runs.{live-le}
 use Rattle.gather.proofs.Gathering.{run-pieces}
-use Rattle.encode.proofs.Levels.{NarrowOk, values-small, fixed-put, fixed-long}
+use Rattle.gather.proofs.LiveMarks.{count-all}
+use Rattle.gather_ragged.proofs.Spans.{all-spans}
+use Rattle.encode.proofs.Levels.{NarrowOk, values-small, flat-length, fixed-put, fixed-long}
+use Rattle.encode.proofs.Walk.{values-at}
 
 -- ---- the masks of all levels
 
@@ -98,9 +103,42 @@ module _ (k : declared.Kind) {n : ℕ} {masks os : List ℕ} (m : Measured (kind
       pub ragged-small : 8 + j * (count + 1) + bytes ≤ 17301520
       ragged-small = omega (arith, ragged-length, values-fit)
 
+-- ---- the same at depth 0, where all cells count
+
+module _ (k : declared.Kind) (z : k .depth ≡ 0) {n : ℕ} {masks os : List ℕ} (m : Measured (kindOf k) n masks os) where
+  all : n ≡ length (liveAt n masks (k .depth))
+  all = count-all n masks (k .depth) z
+
+  is : valuesLengthAt (formOf (k .values)) os (liveAt n masks (k .depth)) ≡ lengthFrom (kindOf k) n masks os (k .depth)
+  is = flat-length (kindOf k) z (m .some) masks os
+
+  module _ {s : ℕ} {o : ByteOrder} (e : k .values ≡ Fixed s o) where
+    pub flat-fixed : n * s ≡ lengthFrom (kindOf k) n masks os (k .depth)
+    flat-fixed = fixed-length k m all e ∙ is
+
+    pub flat-fixed-small : n * s ≤ 17301520
+    flat-fixed-small = fixed-small k m all e
+
+  module _ {w : IndexWidth} {p : IndexPlace} (e : k .values ≡ Ragged w p) {j : ℕ} (ej : j ≡ widthOf w) where
+    pub flat-offsets : Offsets n os
+    flat-offsets = ragged-offsets k m all e
+
+    -- the last offset counts all value bytes
+    bytes : getD os n 0 ≡ spansOf os (liveAt n masks (k .depth))
+    bytes = all-spans flat-offsets masks (k .depth) all refl
+
+    pub flat-ragged : 8 + j * (n + 1) + getD os n 0 ≡ lengthFrom (kindOf k) n masks os (k .depth)
+    flat-ragged = ragged-length k m all e ej bytes ∙ is
+
+    pub flat-ragged-small : 8 + j * (n + 1) + getD os n 0 ≤ 17301520
+    flat-ragged-small = ragged-small k m all e ej bytes
+
 -- ---- what is written of them
 
 module _ (k : declared.Kind) {n : ℕ} {c : Content} (r : Encodable (kindOf k) n c) where
+  all-cells : k .depth ≡ 0 → from 0 n ≡ liveAt n (c .masks) (k .depth)
+  all-cells z = sym (live-all n (c .masks)) ∙ ap (liveAt n (c .masks)) (sym z)
+
   module _ {s : ℕ} {o : ByteOrder} (e : k .values ≡ Fixed s o) where
     fixed-fits : length (c .values) ≡ n * s
     fixed-fits = subst (λ (v : Values). ValuesOk (formOf v) n c) e (r .content .values-fit) .0
@@ -120,7 +158,7 @@ module _ (k : declared.Kind) {n : ℕ} {c : Content} (r : Encodable (kindOf k) n
     fixed-all z =
         ap (λ (m : ℕ). joined (map (ordered (orderOf o)) (pieces s n (drop m (c .values))))) (sym (zero-mul s))
         ∙ sym (run-pieces (orderOf o) s (c .values) 0 n)
-        ∙ ap (piecesAt (orderOf o) s (c .values)) (sym (live-all n (c .masks)) ∙ ap (liveAt n (c .masks)) (sym z))
+        ∙ ap (piecesAt (orderOf o) s (c .values)) (all-cells z)
         ∙ fixed-writes
 
     pub fixed-wrote : {count : ℕ} → count ≡ length (liveAt n (c .masks) (k .depth)) → count * s ≡ length (valuesFrom (kindOf k) n c)
@@ -138,3 +176,11 @@ module _ (k : declared.Kind) {n : ℕ} {c : Content} (r : Encodable (kindOf k) n
 
     pub ragged-writes : putValues (ragged (widthOf w) (placeOf p)) (map (sliceAt (c .offsets) (c .values)) (liveAt n (c .masks) (k .depth))) ≡ valuesFrom (kindOf k) n c
     ragged-writes = ap (λ (v : Values). putValues (formOf v) (map (valueAt (formOf v) c) (liveAt n (c .masks) (k .depth)))) (sym e)
+
+    -- at depth 0 with all cells, as they lie
+    pub ragged-all : k .depth ≡ 0 → putRagged (widthOf w) (placeOf p) (record { values = c .values; offsets = c .offsets }) ≡ valuesFrom (kindOf k) n c
+    ragged-all z =
+        sym (flat-put (widthOf w) (placeOf p) (record { values = c .values; offsets = c .offsets }) (fits .0) (fits .1) (fits .2))
+        ∙ ap (putValues (ragged (widthOf w) (placeOf p))) (values-at (ragged (widthOf w) (placeOf p)) n c fits)
+        ∙ ap (λ (is : List ℕ). putValues (ragged (widthOf w) (placeOf p)) (map (sliceAt (c .offsets) (c .values)) is)) (all-cells z)
+        ∙ ragged-writes

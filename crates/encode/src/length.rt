@@ -1,6 +1,8 @@
 // The written length: the sum over the levels, outermost first.
 use crate::values;
+use array::kind;
 use array::kind::Kind;
+use array::kind::Values;
 use gather::live;
 use mask::form;
 ghost use mathlib.Core.Path.{_≡_};
@@ -28,7 +30,7 @@ pub fn content_length(kind: Kind, cells: usize, masks: &[u8], offsets: &[u64], l
     16 + mask + content_length(kind, cells, masks, offsets, left - 1)
 }
 
-// The written length of valid content of `cells` cells. At depth 0 there is no level to go through.
+// The written length of valid content of `cells` cells. At depth 0 there is no level to go through, and all cells count.
 pub fn stored_length(kind: Kind, cells: usize, masks: &[u8], offsets: &[u64]) -> usize
     requires { ⌜ Measured (kindOf kind) cells (now masks) (now offsets) ⌝ }
     ensures { λ r. ⌜ r ≡ lengthFrom (kindOf kind) cells (now (masks .entry)) (now (offsets .entry)) (kindOf kind .depth) ⌝ }
@@ -37,5 +39,11 @@ pub fn stored_length(kind: Kind, cells: usize, masks: &[u8], offsets: &[u64]) ->
     if 0 < depth {
         return content_length(kind, cells, masks, offsets, depth);
     }
-    values::values_length(kind, cells, masks, offsets, cells)
+    let form = kind.values;
+    match form {
+        Values::Fixed(size, _) => cells * (size as usize),
+        Values::Ragged(width, _) => {
+            8 + kind::width_bytes(width) * (cells + 1) + offsets[cells] as usize
+        }
+    }
 }

@@ -104,19 +104,12 @@ pub fn write_stored(
     let form = kind.values;
     match form {
         Values::Fixed(size, order) => cells::put_all(out, values, size as usize, order, cells),
-        Values::Ragged(width, place) => {
-            gather_ragged::put_ragged(
-                out,
-                0,
-                width,
-                place,
-                values,
-                offsets,
-                masks,
-                cells,
-                depth,
-                cells,
-            );
-        }
+        Values::Ragged(width, place) => gather_ragged::put_plain(
+            out,
+            width,
+            place,
+            values,
+            offsets,
+        ),
     }
 }

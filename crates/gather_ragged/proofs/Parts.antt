@@ -1,19 +1,21 @@
 -- Ragged values of the cells that a level counts: how long they are when written, and where their parts lie.
 -- Assumes nothing.
-use mathlib.Core.Path.{_≡_, sym, ap, ap₂, _∙_}
+use mathlib.Core.Path.{_≡_, refl, sym, ap, ap₂, _∙_}
 use Prim.Native.Nat.{ℕ, suc, _+_, _*_, _≤_}
+use native.Mathlib.Nat.{zero-add}
 use native.Mathlib.Numerals.{add-one}
 use native.Mathlib.Omega.{arith}
 use mathlib.Core.List.{List, _∷_, map}
-use lib.ListN.{length, length-append}
-use Rattle.array.specs.Buffers.{overAt}
+use lib.ListN.{length, take, drop, length-append}
+use lib.Seq.{take-all}
+use Rattle.array.specs.Buffers.{over, overAt}
 use Rattle.array.specs.Bytes.{le}
 use Rattle.array.specs.Kind.{Place, ragged}
 use Rattle.array.specs.Offsets.{last, offsetsOf}
 use Rattle.array.proofs.Bytes.{length-le}
-use Rattle.codec.specs.Ragged.{indexOf, lengthAt, indexAt, dataAt}
+use Rattle.codec.specs.Ragged.{put, indexOf, putRagged, lengthAt, indexAt, dataAt}
 use Rattle.codec.specs.Values.{putValues}
-use Rattle.codec.proofs.Ragged.{length-index}
+use Rattle.codec.proofs.Ragged.{length-put, length-index}
 use Rattle.codec.proofs.Values.{ragged-length}
 use Rattle.gather.specs.Live.{liveAt}
 use Rattle.gather_ragged.specs.Slices.{Offsets, sliceAt, slicesAt, spansOf, endsAt}
@@ -75,3 +77,26 @@ module _ (w : ℕ) (p : Place) (masks : List ℕ) (l : ℕ) {n : ℕ} {os : List
         ed e1 es
         (e2 ∙ ap (λ (y : List ℕ). overAt (at + start) (indexOf w y) o1) (sym offsets-are))
         ef e3
+
+-- ---- all values, with their offsets
+
+module _ (w : ℕ) (p : Place) (os s : List ℕ) {k : ℕ} (ek : k ≡ w) where
+  pub plain-index : length (indexOf w os) ≡ k * length os
+  plain-index = length-index w os ∙ ap (λ (x : ℕ). x * length os) (sym ek)
+
+  pub plain-long : length (putRagged w p (record { values = s; offsets = os })) ≡ 8 + k * length os + length s
+  unfolding putRagged
+  plain-long =
+      let index : List ℕ = indexOf w os in
+      omega (arith, length-put p (le 8 (length index)) (put p index s), length-le 8 (length index), length-put p index s, plain-index)
+
+  pub plain-put : (out : List ℕ) {place start field : ℕ} {o1 o2 o3 : List ℕ} → length (putRagged w p (record { values = s; offsets = os })) ≤ length out
+      → place ≡ dataAt p (k * length os) → o1 ≡ overAt place (take (length s) (drop 0 s)) out
+      → start ≡ indexAt p (8 + k * length os + length s) (k * length os) → o2 ≡ overAt start (indexOf w os) o1
+      → field ≡ lengthAt p (8 + k * length os + length s) → o3 ≡ overAt field (le 8 (k * length os)) o2
+      → o3 ≡ over (putRagged w p (record { values = s; offsets = os })) out
+  plain-put out {place} {start} {field} {o1} {o2} {o3} h ed e1 es e2 ef e3 =
+      ragged-laid p w 0 (k * length os) (length s) out o1 o2 o3 (record { values = s; offsets = os }) plain-index refl (omega (arith, plain-long))
+      ed (e1 ∙ ap₂ (λ (x : ℕ) (y : List ℕ). overAt x y out) (sym (zero-add place)) (take-all (length s) s (omega arith)))
+      es (e2 ∙ ap (λ (x : ℕ). overAt x (indexOf w os) o1) (sym (zero-add start)))
+      ef (e3 ∙ ap (λ (x : ℕ). overAt x (le 8 (k * length os)) o2) (sym (zero-add field)))

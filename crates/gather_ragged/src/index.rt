@@ -81,7 +81,7 @@ fn put_live_ends(
 }
 
 // Every offset.
-fn put_index(out: &mut [u8], to: usize, width: IndexWidth, offsets: &[u64])
+pub fn put_index(out: &mut [u8], to: usize, width: IndexWidth, offsets: &[u64])
     requires { ⌜ to + length (indexOf (widthOf width) (now offsets)) ≤ length (now out) ⌝ }
     ensures { λ _. ⌜ now (out .exit) ≡ overAt to (indexOf (widthOf width) (now (offsets .entry))) (now (out .entry)) ⌝ }
 {

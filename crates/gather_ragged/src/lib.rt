@@ -2,6 +2,7 @@
 use array::kind;
 use array::kind::IndexPlace;
 use array::kind::IndexWidth;
+use buffer::copy;
 use buffer::field;
 use codec::place;
 
@@ -12,10 +13,11 @@ ghost use mathlib.Core.Path.{_≡_};
 ghost use mathlib.Core.List.{map};
 ghost use Prim.Native.Nat.{_+_, _≤_};
 ghost use lib.ListN.{length};
-ghost use Rattle.array.specs.Buffers.{overAt};
+ghost use Rattle.array.specs.Buffers.{over, overAt};
 ghost use Rattle.array.specs.Kind.{ragged};
 ghost use Rattle.array.specs.Meaning.{widthOf, placeOf};
 ghost use Rattle.array.specs.Offsets.{last};
+ghost use Rattle.codec.specs.Ragged.{putRagged};
 ghost use Rattle.codec.specs.Values.{putValues};
 ghost use Rattle.gather.specs.Live.{liveAt, Planes};
 ghost use Rattle.gather_ragged.specs.Slices.{sliceAt, Offsets};
@@ -48,4 +50,26 @@ pub fn put_ragged(
     let field = at + place::length_at(place, stored);
     field::put_u64(out, field, index as u64);
     stored
+}
+
+// The same with no mask, in one go: all cells count, so values and offsets go as they lie.
+pub fn put_plain(
+    out: &mut [u8],
+    width: IndexWidth,
+    place: IndexPlace,
+    values: &[u8],
+    offsets: &[u64],
+)
+    requires { ⌜ length (putRagged (widthOf width) (placeOf place) (record { values = now values; offsets = now offsets })) ≤ length (now out) ⌝ }
+    ensures { λ _. ⌜ now (out .exit) ≡ over (putRagged (widthOf width) (placeOf place) (record { values = now (values .entry); offsets = now (offsets .entry) })) (now (out .entry)) ⌝ }
+{
+    let bytes = values.len();
+    let index = kind::width_bytes(width) * offsets.len();
+    let data = place::data_at(place, index);
+    copy::copy_many(out, data, values, 0, bytes);
+    let stored = 8 + index + bytes;
+    let start = place::index_at(place, stored, index);
+    index::put_index(out, start, width, offsets);
+    let field = place::length_at(place, stored);
+    field::put_u64(out, field, index as u64);
 }

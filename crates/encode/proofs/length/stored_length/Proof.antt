@@ -1,12 +1,11 @@
--- `encode::length::stored_length` meets its contract: below masks the length with all levels left, and without them that of the values.
+-- `encode::length::stored_length` meets its contract: below masks the length with all levels left, and without them a case for each form.
 -- Assumes nothing.
-use mathlib.Core.Path.{_≡_, _∙_}
+use mathlib.Core.Path.{_≡_}
 use native.Mathlib.Omega.{arith}
-use Rattle.array.specs.Meaning.{formOf, kindOf}
-use Rattle.gather.specs.Live.{liveAt}
-use Rattle.gather.proofs.LiveMarks.{count-all}
-use Rattle.encode.specs.Stored.{valuesLengthAt}
-use Rattle.encode.proofs.Levels.{flat-length}
+use Prim.Native.Nat.{_+_, _*_, _<_, _≤_}
+use lib.ListN.{length, getD}
+use Rattle.array.specs.Limits.{mostCells}
+use Rattle.encode.proofs.Forms.{flat-fixed, flat-fixed-small, flat-offsets, flat-ragged, flat-ragged-small}
 use borrow.Author.Needs.{needs}
 use Rattle.encode.proofs.length.stored_length.Statement.{statement}
 use Rattle.encode.proofs.length.stored_length.Tie as tie
@@ -18,6 +17,26 @@ plain c = let k = c .before in k .before .before .before
 depth-none : (c : tie.Else1) → plain c .args .kind .depth ≡ 0
 depth-none c = omega (arith, c .if1 .left)
 
+-- the form is known
+abbrev of-fixed : tie.After-form → tie.Else1
+of-fixed f = f .before .before
+
+abbrev of-ragged : tie.After-width-bytes → tie.Else1
+of-ragged w = w .before .before .before .before
+
+small : (w : tie.After-width-bytes)
+    → 8 + w .width-bytes .result * (plain (of-ragged w) .args .cells + 1) + getD (plain (of-ragged w) .args .offsets .now) (plain (of-ragged w) .args .cells) 0 ≤ 17301520
+small w =
+    let e = of-ragged w in
+    let s = plain e in
+    flat-ragged-small (s .args .kind) (depth-none e) (s .pre) (w .before .before .form2 .given .1) (w .width-bytes .ensures)
+
+inside : (w : tie.After-width-bytes) → plain (of-ragged w) .args .cells < length (plain (of-ragged w) .args .offsets .now)
+inside w =
+    let e = of-ragged w in
+    let s = plain e in
+    omega (arith, flat-offsets (s .args .kind) (depth-none e) (s .pre) (w .before .before .form2 .given .1) (w .width-bytes .ensures) .counted)
+
 cast-depth : tie.Need-cast-depth
 cast-depth c = search needs
 
@@ -27,19 +46,74 @@ content-length-requires c κs = search needs
 returns : tie.Need-returns
 returns c = search needs
 
-values-length-requires : tie.Need-values-length-requires
-values-length-requires c κs =
-    let a = plain c .args in
-    (count-all (a .cells) (a .masks .now) (a .kind .depth) (depth-none c), plain c .pre)
+enum-known-form : tie.Need-enum-known-form
+enum-known-form c = search needs
+
+cast-result : tie.Need-cast-result
+cast-result c = search needs
+
+mul-result : tie.Need-mul-result
+mul-result c =
+    let e = of-fixed (c .before) in
+    let s = plain e in
+    omega (arith, flat-fixed-small (s .args .kind) (depth-none e) (s .pre) (c .before .form .given .1))
+
+enum-known-form-2 : tie.Need-enum-known-form-2
+enum-known-form-2 c = search needs
+
+width-bytes-requires : tie.Need-width-bytes-requires
+width-bytes-requires c κs = search needs
+
+add-result : tie.Need-add-result
+unfolding mostCells
+add-result c = omega (arith, plain (of-ragged c) .pre .few)
+
+mul-result-2 : tie.Need-mul-result-2
+mul-result-2 c = omega (arith, small c)
+
+add-result-2 : tie.Need-add-result-2
+add-result-2 c = omega (arith, small c)
+
+mul-result-3 : tie.Need-mul-result-3
+unfolding mostCells
+mul-result-3 c = omega (arith, plain (of-ragged c) .pre .few)
+
+shared-slice-read-result : tie.Need-shared-slice-read-result
+shared-slice-read-result c = omega (arith, inside (c .before))
+
+add-result-3 : tie.Need-add-result-3
+add-result-3 c = omega (arith, small (c .before))
 
 returns-2 : tie.Need-returns-2
 returns-2 c =
-    let e = c .before in
-    let a = plain e .args in
-    _∙_ {b = valuesLengthAt (formOf (a .kind .values)) (a .offsets .now) (liveAt (a .cells) (a .masks .now) (a .kind .depth))} (c .values-length .ensures)
-    (flat-length (kindOf (a .kind)) (depth-none e) (plain e .pre .some) (a .masks .now) (a .offsets .now))
+    let e = of-fixed (c .before) in
+    let s = plain e in
+    flat-fixed (s .args .kind) (depth-none e) (s .pre) (c .before .form .given .1)
+
+returns-3 : tie.Need-returns-3
+returns-3 c =
+    let w = c .before in
+    let e = of-ragged w in
+    let s = plain e in
+    flat-ragged (s .args .kind) (depth-none e) (s .pre) (w .before .before .form2 .given .1) (w .width-bytes .ensures)
 
 pub stored-length-spec : {M : Type 1} → statement M
 stored-length-spec =
     tie.close
-    (tie.spec cast-depth content-length-requires returns values-length-requires returns-2)
+    (tie.spec
+    cast-depth
+    content-length-requires
+    returns
+    enum-known-form
+    cast-result
+    mul-result
+    enum-known-form-2
+    width-bytes-requires
+    add-result
+    mul-result-2
+    add-result-2
+    mul-result-3
+    shared-slice-read-result
+    add-result-3
+    returns-2
+    returns-3)

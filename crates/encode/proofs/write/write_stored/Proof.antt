@@ -10,7 +10,7 @@ use Rattle.gather.proofs.LiveMarks.{count-all}
 use Rattle.gather.proofs.Placing.{laid-as}
 use Rattle.encode.specs.Stored.{valuesFrom, storedFrom}
 use Rattle.encode.proofs.Levels.{flat-stored}
-use Rattle.encode.proofs.Forms.{encodable-planes, fixed-source, fixed-all, fixed-wrote, offsets-fit, offsets-end, ragged-writes}
+use Rattle.encode.proofs.Forms.{fixed-source, fixed-all, fixed-wrote, ragged-all}
 use borrow.Author.Needs.{needs}
 use Rattle.encode.proofs.write.write_stored.Statement.{statement}
 use Rattle.encode.proofs.write.write_stored.Tie as tie
@@ -33,7 +33,7 @@ flat c = let s = plain c in flat-stored (kindOf (s .args .kind)) (depth-none c) 
 abbrev fixed-form : tie.After-put-all-arg → tie.After-form
 fixed-form c = c .before .before
 
-abbrev ragged-form : tie.After-put-ragged-arg → tie.After-form2
+abbrev ragged-form : tie.After-put-plain-arg → tie.After-form2
 ragged-form c = c .before .before
 
 cast-depth : tie.Need-cast-depth
@@ -67,19 +67,12 @@ put-all-requires c κs =
 enum-known-form-2 : tie.Need-enum-known-form-2
 enum-known-form-2 c = search needs
 
-put-ragged-requires : tie.Need-put-ragged-requires
-put-ragged-requires c κs =
+put-plain-requires : tie.Need-put-plain-requires
+put-plain-requires c κs =
     let f = ragged-form c in
     let e = f .before .before in
     let s = plain e in
-    let a = s .args in
-    let r = s .pre .0 in (
-      encodable-planes r,
-      count-all (a .cells) (a .masks .now) (a .kind .depth) (depth-none e),
-      offsets-fit (a .kind) r (f .form2 .given .1),
-      offsets-end (a .kind) r (f .form2 .given .1),
-      omega (arith, s .pre .1, ap length (flat e), ap length (ragged-writes (a .kind) r (f .form2 .given .1))),
-    )
+    omega (arith, s .pre .1, ap length (flat e), ap length (ragged-all (s .args .kind) (s .pre .0) (f .form2 .given .1) (depth-none e)))
 
 same-length-2 : tie.Need-same-length-2
 same-length-2 c = search needs
@@ -101,7 +94,7 @@ returns-3 c =
     let e = f .before .before in
     let s = plain e in
     let a = s .args in
-    laid-as 0 (a .out .now) (c .before .before .put-ragged .ensures .1) (ragged-writes (a .kind) (s .pre .0) (f .form2 .given .1) ∙ sym (flat e))
+    laid-as 0 (a .out .now) (c .before .before .put-plain .ensures) (ragged-all (a .kind) (s .pre .0) (f .form2 .given .1) (depth-none e) ∙ sym (flat e))
 
 pub write-stored-spec : {M : Type 1} → statement M
 write-stored-spec =
@@ -115,7 +108,7 @@ write-stored-spec =
     cast-put-all
     put-all-requires
     enum-known-form-2
-    put-ragged-requires
+    put-plain-requires
     same-length-2
     returns-2
     same-length-3
