@@ -340,9 +340,13 @@ impl Compare {
         good
     }
 
-    /// Every refusal of docs/DECISIONS.md, part 0, was met.
+    /// Every refusal of docs/DECISIONS.md, part 0, was met, and damaged copies with each mask form were written again.
     fn all_met(&self) -> bool {
         let mut good = true;
+        for (masks, _) in MASKS.iter().zip(&self.counts.again).filter(|(_, row)| row.damaged == 0) {
+            println!("not met: a damaged copy with {masks}, written again");
+            good = false;
+        }
         for (call, refusals) in REFUSALS.iter().enumerate() {
             for &refusal in refusals.iter().chain(&[0]) {
                 if self.counts.calls[call][refusal as usize] == 0 {
