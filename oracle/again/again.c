@@ -1,7 +1,6 @@
 /* See again.h. */
 #include "again.h"
 
-#include <inttypes.h>
 #include <stdio.h>
 #include <stdlib.h>
 #include <string.h>
@@ -19,20 +18,6 @@
 #define ASAN_POISON_MEMORY_REGION(at, size) ((void)(at), (void)(size))
 #define UNSEEN
 #endif
-
-void again_stop(const char *what, dpx_kind kind, const uint64_t *shape, size_t shape_len, const uint8_t *bytes, size_t bytes_len)
-{
-    size_t i;
-    fprintf(stderr, "again: %s\n2 %" PRIu64 " %" PRIu64 " %" PRIu64 " %" PRIu64 " %" PRIu64 " %zu", what, kind.depth, kind.form,
-            kind.size, kind.order, kind.mask, shape_len);
-    for (i = 0; i < shape_len; i++)
-        fprintf(stderr, " %" PRIu64, shape[i]);
-    fprintf(stderr, " %zu%s", bytes_len, bytes_len == 0 ? "" : " ");
-    for (i = 0; i < bytes_len; i++)
-        fprintf(stderr, "%02x", bytes[i]);
-    fprintf(stderr, "\n");
-    abort();
-}
 
 /* ---- outputs */
 
@@ -118,7 +103,7 @@ static uint64_t *numbers(struct lent out)
     return (uint64_t *)(void *)out.at;
 }
 
-/* Whether the named lengths are those of the room, and nothing beyond them has changed. Ragged values may be shorter. */
+/* What is wrong with the named lengths, which are those of the room, or beyond them. Ragged values may be shorter. */
 static const char *fault(struct array a, dpx_kind kind, dpx_room room)
 {
     const uint64_t values = named(a.lengths, 1);
@@ -133,69 +118,70 @@ static const char *fault(struct array a, dpx_kind kind, dpx_room room)
     return NULL;
 }
 
-uint32_t again(again_decode *decode, again_encode *encode, dpx_kind kind, const uint64_t *shape, size_t shape_len,
-               const uint8_t *bytes, size_t bytes_len)
+/* What is wrong with the array written again. */
+static const char *written(again_encode *encode, dpx_kind kind, const uint64_t *shape, size_t shape_len, const uint8_t *bytes,
+                           size_t bytes_len, struct array a, dpx_room room)
 {
-#define STOP(what) again_stop(what, kind, shape, shape_len, bytes, bytes_len)
+    struct lent out = lend(bytes_len), length = lend(8);
+    const uint32_t answer = encode(kind, shape, shape_len, a.masks.at, room.masks, a.values.at, room.values, numbers(a.offsets),
+                                   room.offsets, out.at, out.size, numbers(length));
+    const char *what = NULL;
+    if (answer == DPX_OUTPUT)
+        what = "dpx_encode writes more bytes than were read";
+    else if (answer != DPX_OK)
+        what = "dpx_encode refuses what dpx_decode gave";
+    else if (named(length, 0) != bytes_len)
+        what = "dpx_encode writes fewer bytes than were read";
+    else if (!kept(out, bytes_len) || !kept(length, 8))
+        what = "dpx_encode changes a byte beyond its output";
+    else if (!kept(a.masks, room.masks) || !kept(a.values, room.values) || !kept(a.offsets, 8 * room.offsets))
+        what = "dpx_encode changes a byte beside its input";
+    else if (bytes_len != 0 && memcmp(out.at, bytes, bytes_len) != 0)
+        what = "dpx_encode writes other bytes than were read";
+    give_back(out);
+    give_back(length);
+    return what;
+}
+
+uint32_t again(again_decode *decode, again_encode *encode, dpx_kind kind, const uint64_t *shape, size_t shape_len,
+               const uint8_t *bytes, size_t bytes_len, const char **what)
+{
 #define DECODE(a)                                                                                                              \
     decode(kind, shape, shape_len, bytes, bytes_len, a.masks.at, a.masks.size, a.values.at, a.values.size, numbers(a.offsets), \
            a.offsets.size / 8, numbers(a.lengths))
     dpx_room room = dpx_array_room(kind, dpx_cell_count(shape, shape_len), bytes_len);
     struct array a = lend_array(room);
-    struct lent out, length;
-    uint32_t answer = DECODE(a);
-    const char *what;
+    const uint32_t answer = DECODE(a);
+    *what = NULL;
     if (answer == DPX_OUTPUT)
-        STOP("dpx_decode refuses outputs that are long enough");
-    if (answer == AGAIN_DIFFERENT)
-        STOP("dpx_decode answers no number of a refusal");
-    if (answer != DPX_OK) {
-        if (!kept(a.masks, 0) || !kept(a.values, 0) || !kept(a.offsets, 0) || !kept(a.lengths, 0))
-            STOP("dpx_decode refuses, and changes a byte");
-        give_array_back(a);
-        return answer;
-    }
-    what = fault(a, kind, room);
-    if (what != NULL)
-        STOP(what);
+        *what = "dpx_decode refuses outputs that are long enough";
+    else if (answer == AGAIN_DIFFERENT)
+        *what = "dpx_decode answers no number of a refusal";
+    else if (answer == DPX_OK)
+        *what = fault(a, kind, room);
+    else if (!kept(a.masks, 0) || !kept(a.values, 0) || !kept(a.offsets, 0) || !kept(a.lengths, 0))
+        *what = "dpx_decode refuses, and changes a byte";
 
     /* Ragged values were lent the room of the longest; now as much as they take. */
-    if (named(a.lengths, 1) < room.values) {
+    if (*what == NULL && answer == DPX_OK && named(a.lengths, 1) < room.values) {
         struct array exact;
         room.values = named(a.lengths, 1);
         exact = lend_array(room);
         if (DECODE(exact) != DPX_OK)
-            STOP("dpx_decode refuses outputs of the lengths that it named");
-        what = fault(exact, kind, room);
-        if (what != NULL)
-            STOP(what);
-        if (named(exact.lengths, 1) != room.values || memcmp(a.masks.at, exact.masks.at, room.masks) != 0
-            || memcmp(a.values.at, exact.values.at, room.values) != 0
-            || memcmp(a.offsets.at, exact.offsets.at, 8 * room.offsets) != 0)
-            STOP("dpx_decode gives two arrays for one string");
+            *what = "dpx_decode refuses outputs of the lengths that it named";
+        else
+            *what = fault(exact, kind, room);
+        if (*what == NULL
+            && (named(exact.lengths, 1) != room.values || memcmp(a.masks.at, exact.masks.at, room.masks) != 0
+                || memcmp(a.values.at, exact.values.at, room.values) != 0
+                || memcmp(a.offsets.at, exact.offsets.at, 8 * room.offsets) != 0))
+            *what = "dpx_decode gives two arrays for one string";
         give_array_back(a);
         a = exact;
     }
-
-    out = lend(bytes_len);
-    length = lend(8);
-    answer = encode(kind, shape, shape_len, a.masks.at, room.masks, a.values.at, room.values, numbers(a.offsets), room.offsets,
-                    out.at, out.size, numbers(length));
-    if (answer == DPX_OUTPUT)
-        STOP("dpx_encode writes more bytes than were read");
-    if (answer != DPX_OK)
-        STOP("dpx_encode refuses what dpx_decode gave");
-    if (named(length, 0) != bytes_len)
-        STOP("dpx_encode writes fewer bytes than were read");
-    if (!kept(out, bytes_len) || !kept(length, 8))
-        STOP("dpx_encode changes a byte beyond its output");
-    if (!kept(a.masks, room.masks) || !kept(a.values, room.values) || !kept(a.offsets, 8 * room.offsets))
-        STOP("dpx_encode changes a byte beside its input");
-    answer = bytes_len == 0 || memcmp(out.at, bytes, bytes_len) == 0 ? AGAIN_SAME : AGAIN_DIFFERENT;
+    if (*what == NULL && answer == DPX_OK)
+        *what = written(encode, kind, shape, shape_len, bytes, bytes_len, a, room);
     give_array_back(a);
-    give_back(out);
-    give_back(length);
-    return answer;
+    return *what == NULL ? answer : AGAIN_DIFFERENT;
 #undef DECODE
-#undef STOP
 }

@@ -1,7 +1,7 @@
 /*
  * Read and written again: a stored string that dpx_decode accepts must come out of dpx_encode as the very same bytes.
  *
- * The two calls are handed over, so that the archive may be linked or loaded. A fuzzer (../fuzz) and the driver call this.
+ * The two calls are handed over, so that the archive may be linked or loaded. A fuzzer (../fuzz) and the driver (../driver) call this.
  */
 #ifndef AGAIN_H
 #define AGAIN_H
@@ -23,18 +23,14 @@ typedef uint32_t again_encode(dpx_kind kind, const uint64_t *shape, size_t shape
 #define AGAIN_DIFFERENT UINT32_MAX
 
 /*
- * AGAIN_SAME, AGAIN_DIFFERENT, or the number with which dpx_decode refuses the string.
+ * AGAIN_SAME; the number with which dpx_decode refuses the string; or AGAIN_DIFFERENT, and `*what` says what is wrong.
  *
  * Outputs are just as long as they must be. They and `lengths` lie between guard bytes that hold a pattern, as they do themselves.
- * The process ends with a message where outputs that are long enough are too short (6), a length is not what kind, shape and string say, a
- * byte beyond the named lengths or, of a refused call, any byte has changed, dpx_encode refuses what dpx_decode gave, or what it writes is
- * shorter than the string.
+ * Wrong are also: outputs that are long enough and yet too short (6), a length that is not what kind, shape and string say, a changed
+ * byte beyond the named lengths or, of a refused call, any, and that dpx_encode refuses what dpx_decode gave.
  */
 uint32_t again(again_decode *decode, again_encode *encode, dpx_kind kind, const uint64_t *shape, size_t shape_len,
-               const uint8_t *bytes, size_t bytes_len);
-
-/* Ends the process with a message, and the string as a request of ../data: build/oracle/driver ask takes it. */
-void again_stop(const char *what, dpx_kind kind, const uint64_t *shape, size_t shape_len, const uint8_t *bytes, size_t bytes_len);
+               const uint8_t *bytes, size_t bytes_len, const char **what);
 
 #ifdef __cplusplus
 }

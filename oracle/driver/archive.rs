@@ -19,8 +19,9 @@ type In8 = *const u8;
 type In64 = *const u64;
 type Out8 = *mut u8;
 type Out64 = *mut u64;
-type EncodeCall = unsafe extern "C" fn(DpxKind, In64, usize, In8, usize, In8, usize, In64, usize, Out8, usize, Out64) -> u32;
-type DecodeCall = unsafe extern "C" fn(DpxKind, In64, usize, In8, usize, Out8, usize, Out8, usize, Out64, usize, Out64) -> u32;
+pub type EncodeCall = unsafe extern "C" fn(DpxKind, In64, usize, In8, usize, In8, usize, In64, usize, Out8, usize, Out64) -> u32;
+pub type DecodeCall =
+    unsafe extern "C" fn(DpxKind, In64, usize, In8, usize, Out8, usize, Out8, usize, Out64, usize, Out64) -> u32;
 type GenerateCall = unsafe extern "C" fn(DpxKind, In64, usize, u32, Out8, usize, Out8, usize, Out64, usize, Out64) -> u32;
 type InterleavedCall = unsafe extern "C" fn(u64, In8, usize, Out8, usize, Out64, usize, Out64) -> u32;
 #[rustfmt::skip]

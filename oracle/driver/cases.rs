@@ -3,10 +3,13 @@
 
 use crate::request::{Request, Request::*};
 use crate::rng::Rng;
+use std::ops::Range;
 
 pub trait Sink {
     fn ask(&mut self, request: Request);
     fn asked(&self) -> u64;
+    /// Whether the requests to come have a damaged copy of a stored string, one that differs from it.
+    fn damaged(&mut self, _damaged: bool) {}
 }
 
 // ---------------------------------------------------------------- kinds, shapes, subsets
@@ -416,6 +419,63 @@ fn damaged(rng: &mut Rng, bytes: &[u8], masks: u64, cells: usize) -> Vec<u8> {
     }
     copy
 }
+/// Where the parts of a string that `stored` made lie: lengths, masks, offsets, data, cells.
+fn parts(kind: [u64; 5], cells: usize, bytes: &[u8]) -> Vec<Range<usize>> {
+    let (mut list, mut at, mut cells) = (vec![], 0, cells);
+    for _ in 0..kind[0] {
+        let mask = at + 16..at + 16 + judge::mask_bytes(kind[4] == 1, cells);
+        cells = bytes[mask.clone()].iter().map(|byte| byte.count_ones() as usize).sum();
+        list.extend([at..at + 8, at + 8..at + 16, mask.clone()]);
+        at = mask.end;
+        if cells == 0 {
+            return list;
+        }
+    }
+    let (size, count) = (kind[2] as usize, if kind[1] == 0 { cells } else { cells + 1 });
+    let first = match (kind[1], kind[3]) {
+        (0, _) => at,
+        (_, 0) => {
+            list.extend([at..at + 8, at + 8 + size * count..bytes.len()]);
+            at + 8
+        }
+        _ => {
+            let index = bytes.len() - 8 - size * count;
+            list.extend([at..index, bytes.len() - 8..bytes.len()]);
+            index
+        }
+    };
+    list.extend((0..count).map(|i| first + size * i..first + size * (i + 1)));
+    list.retain(|part| !part.is_empty());
+    list
+}
+/// One bit changed, a cut, bytes behind it, two parts exchanged, or within a part two bytes or two bits. Where cells, bytes of a mask or bits of a
+/// packed one change places, the copy can mostly be read.
+fn damaged_part(rng: &mut Rng, bytes: &[u8], parts: &[Range<usize>]) -> Vec<u8> {
+    let mut copy = bytes.to_vec();
+    let (a, b) = (parts[rng.below(parts.len())].clone(), parts[rng.below(parts.len())].clone());
+    match rng.below(12) {
+        0 => {
+            let at = rng.below(copy.len());
+            copy[at] ^= 1 << rng.below(8);
+        }
+        1 => copy.truncate(rng.below(bytes.len())),
+        2 => {
+            let more = 1 + rng.below(17);
+            copy.extend(if rng.below(2) == 0 { vec![0; more] } else { rng.bytes(more) });
+        }
+        3..=5 if a.end <= b.start => {
+            copy = [&bytes[..a.start], &bytes[b.clone()], &bytes[a.end..b.start], &bytes[a], &bytes[b.end..]].concat();
+        }
+        6..=8 => copy.swap(a.start + rng.below(a.len()), a.start + rng.below(a.len())),
+        _ => {
+            let (i, j) = (8 * a.start + rng.below(8 * a.len()), 8 * a.start + rng.below(8 * a.len()));
+            let change = (bytes[i / 8] >> (i % 8) ^ bytes[j / 8] >> (j % 8)) & 1;
+            copy[i / 8] ^= change << (i % 8);
+            copy[j / 8] ^= change << (j % 8);
+        }
+    }
+    copy
+}
 /// Another kind, shape or list of numbers, mostly a wrong one.
 fn damaged_kind(rng: &mut Rng, kind: [u64; 5]) -> [u64; 5] {
     let mut copy = kind;
@@ -615,6 +675,25 @@ fn loads(sink: &mut dyn Sink, rng: &mut Rng) {
         let kind = any_kind(rng, turn % 5, turn as u64 / 5 % 2);
         let cells = 1 + rng.below(12);
         sink.ask(generate(kind, &shape_of(rng, cells), rng.next() as u32));
+    }
+}
+
+/// Strings that can be read, and damaged copies of each.
+fn damaged_strings(sink: &mut dyn Sink, rng: &mut Rng) {
+    for turn in 0..5_000 {
+        let kind = any_kind(rng, turn % 5, turn as u64 / 5 % 2);
+        let cells = 1 + rng.below(12);
+        let good = stored(rng, kind, cells);
+        let parts = parts(kind, cells, &good);
+        sink.ask(decode(kind, &shape_of(rng, cells), &good));
+        sink.damaged(true);
+        for _ in 0..40 {
+            let copy = damaged_part(rng, &good, &parts);
+            if copy != good {
+                sink.ask(decode(kind, &shape_of(rng, cells), &copy));
+            }
+        }
+        sink.damaged(false);
     }
 }
 
@@ -1413,6 +1492,7 @@ fn random_decode(sink: &mut dyn Sink, rng: &mut Rng, masks: u64) {
         copies.push(damaged(rng, &twice, masks, cells));
     }
     for s in copies {
+        sink.damaged(s != good);
         let partial = depth == 0 && kind[1] == 1;
         let (bytes, outer) = wrapped(rng, masks, levels, cells, s);
         let shape = shape_of(rng, outer);
@@ -1432,6 +1512,7 @@ fn random_decode(sink: &mut dyn Sink, rng: &mut Rng, masks: u64) {
         }
         sink.ask(decode(kind, &shape, &bytes));
     }
+    sink.damaged(false);
 }
 
 fn random_array(sink: &mut dyn Sink, rng: &mut Rng, masks: u64) {
@@ -1621,6 +1702,7 @@ pub fn all(sink: &mut dyn Sink, seed: u64, requests: u64) {
     hidden_offsets(sink, rng);
     hidden_chunks(sink, rng);
     loads(sink, rng);
+    damaged_strings(sink, rng);
     let mut turn = 0;
     while sink.asked() < requests {
         random(sink, rng);

@@ -1,9 +1,9 @@
 //! The archive's calls under guard: each input ends at a page that must not be read, each lent output has guard bytes on both sides and
 //! a pattern inside, so that every byte afterwards is accounted for.
 
-use crate::archive::{Archive, c_kind};
+use crate::archive::{Archive, DecodeCall, DpxKind, EncodeCall, c_kind};
 use crate::request::{Outcome, Request, Request::*, Results};
-use std::ffi::{c_int, c_void};
+use std::ffi::{CStr, c_char, c_int, c_void};
 
 unsafe extern "C" {
     fn mmap(at: *mut c_void, length: usize, prot: c_int, flags: c_int, fd: c_int, offset: i64) -> *mut c_void;
@@ -94,6 +94,24 @@ impl<T: Pattern> Lent<T> {
             && self.inside()[..result.len()] == *result
             && (0..GUARD).chain(GUARD + result.len()..self.all.len()).all(|i| self.all[i] == T::at(self.key, i))
     }
+}
+
+// ---------------------------------------------------------------- read and written again, in C
+
+const DIFFERENT: u32 = u32::MAX;
+#[link(name = "again", kind = "static")]
+unsafe extern "C" {
+    /// ../again/again.h
+    fn again(
+        decode: DecodeCall,
+        encode: EncodeCall,
+        kind: DpxKind,
+        shape: *const u64,
+        shape_len: usize,
+        bytes: *const u8,
+        bytes_len: usize,
+        what: *mut *const c_char,
+    ) -> u32;
 }
 
 /// The archive's calls under guard.
@@ -224,6 +242,21 @@ impl Guarded {
                     (a.generate)(c_kind(kind), n1.put(shape), shape.len(), *start, m, lent[0], v, lent[1], o, lent[2], n)
                 }
             }
+        }
+    }
+
+    /// A stored string read and written again: 0 where it came back the same, the number of its refusal, or what is wrong.
+    pub fn again(&mut self, kind: &[u64; 5], shape: &[u64], bytes: &[u8]) -> Result<u32, &'static str> {
+        let [n1, ..] = &mut self.numbers;
+        let [b1, ..] = &mut self.bytes;
+        let mut what = c"".as_ptr();
+        let a = &self.archive;
+        let answer =
+            unsafe { again(a.decode, a.encode, c_kind(kind), n1.put(shape), shape.len(), b1.put(bytes), bytes.len(), &mut what) };
+        match answer {
+            DIFFERENT => Err(unsafe { CStr::from_ptr(what) }.to_str().unwrap()),
+            _ if !n1.holds(shape) || !b1.holds(bytes) => Err("an input was changed"),
+            answer => Ok(answer),
         }
     }
 

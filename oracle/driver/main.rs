@@ -26,6 +26,7 @@ use request::{CALLS, Outcome, REFUSALS, Request};
 use rng::Rng;
 use rust::{BUILDS, Body, body};
 use std::collections::HashSet;
+use std::hash::{DefaultHasher, Hash, Hasher};
 use std::sync::atomic::{AtomicU64, Ordering};
 use std::time::Instant;
 
@@ -64,8 +65,19 @@ struct Compare {
     guarded: Guarded,
     rng: Rng,
     stop_at_first: bool,
+    /// Requests at hand have a damaged copy of a stored string.
+    damaged: bool,
     counts: Counts,
 }
+/// Strings that `decode` accepts and `encode` writes again, the same bytes.
+#[derive(Default)]
+struct Again {
+    strings: u64,
+    damaged: u64,
+    /// Hashes of kind, count of cells and string: of all, of damaged copies.
+    distinct: [HashSet<u64>; 2],
+}
+const MASKS: [&str; 3] = ["no masks", "masks of bytes", "packed masks"];
 const ANSWERS: usize = 15;
 #[derive(Default)]
 struct Counts {
@@ -79,14 +91,16 @@ struct Counts {
     hidden: [u64; 4],
     /// Kinds, shapes and start numbers of loads that were asked for.
     loads: HashSet<String>,
+    /// By mask form, as in MASKS.
+    again: [Again; 3],
     /// Requests that each build of the Rust answered: by its own function, as ragged cells.
     compared: [u64; 2],
     /// By build and refusal: errors and panics of the Rust.
     refused: [[[u64; 2]; ANSWERS]; 4],
-    /// Archive and judge, archive and Rust, judge and Rust.
-    differences: [u64; 3],
+    /// As in BETWEEN.
+    differences: [u64; 4],
 }
-const BETWEEN: [&str; 3] = ["archive and judge", "archive and Rust", "judge and Rust"];
+const BETWEEN: [&str; 4] = ["archive and judge", "archive and Rust", "judge and Rust", "a string and the one written again"];
 
 fn say(outcome: &Outcome) -> String {
     match outcome {
@@ -102,7 +116,7 @@ fn shown(request: &Request) -> String {
 impl Compare {
     fn new(object: &str, seed: u64) -> Result<Compare, String> {
         let guarded = Guarded::new(Archive::load(object)?);
-        Ok(Compare { guarded, rng: Rng(!seed), stop_at_first: false, counts: Counts::default() })
+        Ok(Compare { guarded, rng: Rng(!seed), stop_at_first: false, damaged: false, counts: Counts::default() })
     }
 
     fn differ(&mut self, between: usize, request: &Request, what: &str) {
@@ -211,6 +225,34 @@ impl Compare {
         }
     }
 
+    /// A stored string read and written again, with outputs as long as the header says; so a refusal is seen with longer outputs too.
+    fn again(&mut self, request: &Request, judged: &Outcome) {
+        let (kind, shape, bytes) = match request {
+            Request::Decode { kind, shape, bytes } => (*kind, shape, bytes),
+            Request::PartialDecode { width, place, shape, bytes, .. } => ([0, 1, *width, *place, 0], shape, bytes),
+            _ => return,
+        };
+        let answer = match self.guarded.again(&kind, shape, bytes) {
+            Ok(answer) => answer,
+            Err(what) => return self.differ(3, request, what),
+        };
+        let number = judged.as_ref().err().copied().unwrap_or(0);
+        if let (Request::Decode { .. }, true) = (request, answer != number) {
+            self.differ(0, request, &format!("answer {answer}, not {number}, with outputs that have room for any array"));
+        }
+        if answer == 0 {
+            let mut hash = DefaultHasher::new();
+            (kind, shape.iter().product::<u64>(), bytes).hash(&mut hash);
+            let row = &mut self.counts.again[if kind[0] == 0 { 0 } else { 1 + kind[4] as usize }];
+            row.strings += 1;
+            row.distinct[0].insert(hash.finish());
+            if self.damaged {
+                row.damaged += 1;
+                row.distinct[1].insert(hash.finish());
+            }
+        }
+    }
+
     fn hold(&mut self, request: &Request, judged: &Outcome) {
         NOW.fetch_add(1, Ordering::Relaxed);
         self.counts.packed += u64::from(request.packed());
@@ -226,8 +268,9 @@ impl Compare {
         if in_domain(request, judged) {
             self.with_the_rust(request, judged, &observed);
         }
-        if self.stop_at_first && self.counts.differences != [0; 3] {
-            let seen: Vec<&str> = (0..3).filter(|&i| self.counts.differences[i] > 0).map(|i| BETWEEN[i]).collect();
+        self.again(request, judged);
+        if self.stop_at_first && self.counts.differences != [0; 4] {
+            let seen: Vec<&str> = (0..4).filter(|&i| self.counts.differences[i] > 0).map(|i| BETWEEN[i]).collect();
             println!("first difference at request {}: {}", self.asked(), seen.join(", "));
             std::process::exit(1);
         }
@@ -280,6 +323,15 @@ impl Compare {
             self.counts.compared[0],
             self.counts.compared[1]
         );
+        println!("\nstrings that decode accepts, read and written again, the same bytes; distinct by kind, cells and bytes:");
+        println!("{:<20}{:>10}{:>12}{:>18}{:>12}", "", "strings", "distinct", "damaged copies", "distinct");
+        let mut sums = [0; 4];
+        for (masks, row) in MASKS.iter().zip(&self.counts.again) {
+            let numbers = [row.strings, row.distinct[0].len() as u64, row.damaged, row.distinct[1].len() as u64];
+            println!("{masks:<20}{:>10}{:>12}{:>18}{:>12}", numbers[0], numbers[1], numbers[2], numbers[3]);
+            (0..4).for_each(|i| sums[i] += numbers[i]);
+        }
+        println!("{:<20}{:>10}{:>12}{:>18}{:>12}\n", "all", sums[0], sums[1], sums[2], sums[3]);
         let mut good = true;
         for (between, n) in self.counts.differences.iter().enumerate() {
             println!("differences between {}: {n}", BETWEEN[between]);
@@ -288,9 +340,13 @@ impl Compare {
         good
     }
 
-    /// Every refusal of docs/DECISIONS.md, part 0, was met.
+    /// Every refusal of docs/DECISIONS.md, part 0, was met, and damaged copies with each mask form were written again.
     fn all_met(&self) -> bool {
         let mut good = true;
+        for (masks, _) in MASKS.iter().zip(&self.counts.again).filter(|(_, row)| row.damaged == 0) {
+            println!("not met: a damaged copy with {masks}, written again");
+            good = false;
+        }
         for (call, refusals) in REFUSALS.iter().enumerate() {
             for &refusal in refusals.iter().chain(&[0]) {
                 if self.counts.calls[call][refusal as usize] == 0 {
@@ -325,6 +381,9 @@ impl Sink for Compare {
     }
     fn asked(&self) -> u64 {
         self.counts.requests.iter().flatten().sum()
+    }
+    fn damaged(&mut self, damaged: bool) {
+        self.damaged = damaged;
     }
 }
 
@@ -366,7 +425,7 @@ fn hold_lines(args: &[String]) -> Result<bool, String> {
     for (between, n) in compare.counts.differences.iter().enumerate() {
         println!("differences between {}: {n}", BETWEEN[between]);
     }
-    Ok(bad == 0 && compare.counts.differences == [0; 3])
+    Ok(bad == 0 && compare.counts.differences == [0; 4])
 }
 
 /// Counts requests, and shows one.

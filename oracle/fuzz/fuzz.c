@@ -4,6 +4,7 @@
  */
 #include "again.h"
 
+#include <inttypes.h>
 #include <stdio.h>
 #include <stdlib.h>
 #include <string.h>
@@ -104,6 +105,21 @@ static int is_deep(struct table t, const uint8_t *bytes)
 
 /* ---- the test */
 
+/* Ends the process with a message, and the string as a request of ../data: build/oracle/driver ask takes it. */
+static void stop(const char *what, dpx_kind kind, const uint64_t *shape, size_t shape_len, const uint8_t *bytes, size_t bytes_len)
+{
+    size_t i;
+    fprintf(stderr, "again: %s\n2 %" PRIu64 " %" PRIu64 " %" PRIu64 " %" PRIu64 " %" PRIu64 " %zu", what, kind.depth, kind.form,
+            kind.size, kind.order, kind.mask, shape_len);
+    for (i = 0; i < shape_len; i++)
+        fprintf(stderr, " %" PRIu64, shape[i]);
+    fprintf(stderr, " %zu%s", bytes_len, bytes_len == 0 ? "" : " ");
+    for (i = 0; i < bytes_len; i++)
+        fprintf(stderr, "%02x", bytes[i]);
+    fprintf(stderr, "\n");
+    abort();
+}
+
 /* A block of just these bytes: the sanitizer sees a byte read before or behind it. */
 static void *in(const void *from, size_t size)
 {
@@ -122,6 +138,7 @@ int LLVMFuzzerTestOneInput(const uint8_t *data, size_t size)
     uint8_t *bytes;
     uint64_t *shape;
     uint32_t answer;
+    const char *what;
     if (!begun) {
         begun = 1;
         if (getenv("FUZZ_REPORT") != NULL)
@@ -135,11 +152,11 @@ int LLVMFuzzerTestOneInput(const uint8_t *data, size_t size)
     size -= HEADER;
     bytes = in(data + HEADER, size);
     shape = in(t.shape->side, 8 * t.shape->sides);
-    answer = again(dpx_decode, dpx_encode, t.kind, shape, t.shape->sides, bytes, size);
+    answer = again(dpx_decode, dpx_encode, t.kind, shape, t.shape->sides, bytes, size, &what);
     if (answer == AGAIN_DIFFERENT)
-        again_stop("other bytes than were read", t.kind, shape, t.shape->sides, bytes, size);
+        stop(what, t.kind, shape, t.shape->sides, bytes, size);
     if (size != 0 && memcmp(bytes, data + HEADER, size) != 0)
-        again_stop("the string has changed", t.kind, shape, t.shape->sides, bytes, size);
+        stop("the string has changed", t.kind, shape, t.shape->sides, bytes, size);
     if (answer < ANSWERS)
         met[t.kind.depth][t.kind.form % 2][t.kind.mask % 2][answer]++;
     if (answer == AGAIN_SAME && is_deep(t, bytes))
