@@ -107,7 +107,7 @@ module _ (k : declared.Kind) {n : ℕ} {masks os : List ℕ} (m : Measured (kind
 
 module _ (k : declared.Kind) (z : k .depth ≡ 0) {n : ℕ} {masks os : List ℕ} (m : Measured (kindOf k) n masks os) where
   all : n ≡ length (liveAt n masks (k .depth))
-  all = count-all n masks (k .depth) z
+  all = count-all n masks z
 
   is : valuesLengthAt (formOf (k .values)) os (liveAt n masks (k .depth)) ≡ lengthFrom (kindOf k) n masks os (k .depth)
   is = flat-length (kindOf k) z (m .some) masks os

@@ -27,9 +27,9 @@ use Rattle.gather_ragged.proofs.Placed.{ragged-laid}
 pub index-head : (w : ℕ) (os : List ℕ) → length (indexOf w (0 ∷ os)) ≡ w + length (indexOf w os)
 index-head w os = length-append (le w 0) (indexOf w os) ∙ ap (λ (m : ℕ). m + length (indexOf w os)) (length-le w 0)
 
-pub index-laid : (w to : ℕ) (os out : List ℕ) {k : ℕ} {o1 o2 : List ℕ} → to + length (indexOf w (0 ∷ os)) ≤ length out → k ≡ w
+pub index-laid : {w : ℕ} (to : ℕ) (os out : List ℕ) {k : ℕ} {o1 o2 : List ℕ} → to + length (indexOf w (0 ∷ os)) ≤ length out → k ≡ w
     → o1 ≡ overAt to (le w 0) out → o2 ≡ overAt (to + k) (indexOf w os) o1 → o2 ≡ overAt to (indexOf w (0 ∷ os)) out
-index-laid w to os out {k} {o1} {o2} h ek e1 e2 =
+index-laid {w = w} to os out {k} {o1} {o2} h ek e1 e2 =
     e2 ∙ ap (overAt (to + k) (indexOf w os)) e1 ∙ at-behind to (le w 0) (indexOf w os) out (to + k) (ap (λ (m : ℕ). to + m) (length-le w 0 ∙ sym ek)) (omega arith)
 
 -- ---- the values of the cells that a level counts
@@ -70,7 +70,7 @@ module _ (w : ℕ) (p : Place) (masks : List ℕ) (l : ℕ) {n : ℕ} {os : List
         → o3 ≡ overAt at (putValues (ragged w p) (map (sliceAt os s) (liveAt n masks l))) out
     unfolding putValues
     ragged-put at out {bytes} {place} {start} {field} {o1} {o2} {o3} eb h ed e1 es e2 ef e3 =
-        ragged-laid p w at (k * (count + 1)) bytes out o1 o2 o3 (record { values = slicesAt os s cells; offsets = offsetsOf (map (sliceAt os s) cells) })
+        ragged-laid p w at out (record { values = slicesAt os s cells; offsets = offsetsOf (map (sliceAt os s) cells) })
         (ap (λ (x : List ℕ). length (indexOf w x)) offsets-are ∙ index-long)
         (data-long ∙ sym eb)
         (omega (arith, ragged-long eb))
@@ -80,7 +80,7 @@ module _ (w : ℕ) (p : Place) (masks : List ℕ) (l : ℕ) {n : ℕ} {os : List
 
 -- ---- all values, with their offsets
 
-module _ (w : ℕ) (p : Place) (os s : List ℕ) {k : ℕ} (ek : k ≡ w) where
+module _ {w : ℕ} (p : Place) (os s : List ℕ) {k : ℕ} (ek : k ≡ w) where
   pub plain-index : length (indexOf w os) ≡ k * length os
   plain-index = length-index w os ∙ ap (λ (x : ℕ). x * length os) (sym ek)
 
@@ -96,7 +96,7 @@ module _ (w : ℕ) (p : Place) (os s : List ℕ) {k : ℕ} (ek : k ≡ w) where
       → field ≡ lengthAt p (8 + k * length os + length s) → o3 ≡ overAt field (le 8 (k * length os)) o2
       → o3 ≡ over (putRagged w p (record { values = s; offsets = os })) out
   plain-put out {place} {start} {field} {o1} {o2} {o3} h ed e1 es e2 ef e3 =
-      ragged-laid p w 0 (k * length os) (length s) out o1 o2 o3 (record { values = s; offsets = os }) plain-index refl (omega (arith, plain-long))
+      ragged-laid p w 0 {bytes = length s} out (record { values = s; offsets = os }) plain-index refl (omega (arith, plain-long))
       ed (e1 ∙ ap₂ (λ (x : ℕ) (y : List ℕ). overAt x y out) (sym (zero-add place)) (take-all (length s) s (omega arith)))
       es (e2 ∙ ap (λ (x : ℕ). overAt x (indexOf w os) o1) (sym (zero-add start)))
       ef (e3 ∙ ap (λ (x : ℕ). overAt x (le 8 (k * length os)) o2) (sym (zero-add field)))

@@ -69,11 +69,11 @@ module _ {sh st ls d begins values : List ℕ} {base : ℕ} {src : List ℕ} {fi
         ∙ length-append (places (offsetAt begins) (take (at + n) cs)) (places (offsetAt begins) (drop (at + n) cs)) in
         omega (arith, all, q .agrees (at + n) l, ap (offsetAt src) (add-assoc first at n), row-rises, q .enough)
 
-    pub ragged-more : (o′ : List ℕ) → o′ ≡ overAt (offsetAt begins a) (take w (drop (base + offsetAt src (first + at)) values)) o
+    pub ragged-more : {o′ : List ℕ} → o′ ≡ overAt (offsetAt begins a) (take w (drop (base + offsetAt src (first + at)) values)) o
         → Store (offsetAt begins) cs (drop base values) d o′ cells n (at + n) (offsetAt src (first + (at + n)))
-    ragged-more o′ p =
+    ragged-more {o′} p =
         let t : offsetAt src (first + (at + n)) ≡ offsetAt src (first + at + n) = ap (offsetAt src) (sym (add-assoc first at n)) in
-        store-more (offsetAt begins) cs (drop base values) d o cells n at (offsetAt src (first + at)) c h a e steps (offsetAt begins a) w (offsetAt src (first + (at + n))) refl
+        store-more c h e steps (offsetAt begins a) w (offsetAt src (first + (at + n))) refl
         (omega (arith, row-bytes, steps-le (offsetAt begins) n a steps)) (omega (arith, t, row-rises)) row-room
-        (omega (arith, t, row-rises, row-enough, length-drop base values)) o′
+        (omega (arith, t, row-rises, row-enough, length-drop base values))
         (p ∙ ap (λ (r : List ℕ). overAt (offsetAt begins a) (take w r) o) (sym (drop-drop (offsetAt src (first + at)) base values)))

@@ -53,15 +53,15 @@ module _ {sh flat : List ℕ} {count : ℕ} {d begins values src : List ℕ} (q 
       cs = cellsIn sh (pairs (startsAt (length sh) at flat) (lengthsAt (length sh) at flat))
 
       now : RaggedChunks begins sh (b ∷ later) (drop first src)
-      now = subst (λ (bs : List Subset). RaggedChunks begins sh bs (drop first src)) (subset-now sh flat count i at (c .geo) h) (c .chunks)
+      now = subst (λ (bs : List Subset). RaggedChunks begins sh bs (drop first src)) (subset-now sh flat count (c .geo) h) (c .chunks)
 
       cells-now : volume (lengths b) ≡ volume (lengthsAt (length sh) at flat)
-      cells-now = ap volume (now-lengths sh flat count i at (c .geo) h)
+      cells-now = ap volume (now-lengths sh flat count (c .geo) h)
 
       -- the places of the chunk's cells, and of the others
       both : places (offsetAt begins) (cellsOfAll sh (rest sh flat count i at)) ≡ places (offsetAt begins) cs ++ places (offsetAt begins) (cellsOfAll sh later)
       both =
-          ap (λ (bs : List Subset). places (offsetAt begins) (cellsOfAll sh bs)) (subset-now sh flat count i at (c .geo) h)
+          ap (λ (bs : List Subset). places (offsetAt begins) (cellsOfAll sh bs)) (subset-now sh flat count (c .geo) h)
           ∙ places-append (offsetAt begins) cs (cellsOfAll sh later)
 
       room : base + length (places (offsetAt begins) cs) + length (places (offsetAt begins) (cellsOfAll sh later)) ≤ length values
@@ -76,7 +76,7 @@ module _ {sh flat : List ℕ} {count : ℕ} {d begins values src : List ℕ} (q 
       -- the chunk's last offset says how many bytes it has
       bytes-now : length (places (offsetAt begins) cs) ≡ offsetAt src (first + volume (lengthsAt (length sh) at flat))
       bytes-now =
-          let l : length cs ≡ volume (lengths b) = length-cellsIn sh b (now-within sh flat count i at (c .geo) h .inside) in
+          let l : length cs ≡ volume (lengths b) = length-cellsIn sh b (now-within sh flat count (c .geo) h .inside) in
           ap (λ (js : List ℕ). length (places (offsetAt begins) js)) (sym (take-all (length cs) cs (omega arith))) ∙ now .1 (length cs) (omega arith) ∙ at-first (length cs)
           ∙ ap (λ (k : ℕ). offsetAt src (first + k)) (l ∙ cells-now)
 
@@ -86,7 +86,7 @@ module _ {sh flat : List ℕ} {count : ℕ} {d begins values src : List ℕ} (q 
       pub ragged-asked : RaggedAsked sh (startsAt (length sh) at flat) (lengthsAt (length sh) at flat) o begins values base src first
       ragged-asked = record {
         shaped = q .subsets .shaped;
-        fits = now-within sh flat count i at (c .geo) h;
+        fits = now-within sh flat count (c .geo) h;
         laid = record { covered = q .laid .covered; rises = q .laid .rises; room = λ j l. omega (arith, q .laid .room j l, c .long) };
         agrees = λ k l. now .1 k l ∙ at-first k;
         indexed = chunk-indexed;
@@ -99,7 +99,7 @@ module _ {sh flat : List ℕ} {count : ℕ} {d begins values src : List ℕ} (q 
             let w : length (places (offsetAt begins) cs) ≡ offsetAt src (first + k) = bytes-now ∙ ap (λ (x : ℕ). offsetAt src (first + x)) (sym e) in
             let z : first + suc (volume (lengths b)) ≡ first + k + 1 = omega (arith, cells-now) in
             record {
-              geo = subsets-more sh flat count i at (c .geo) h;
+              geo = subsets-more sh flat count (c .geo) h;
               long = ap length p ∙ length-scatter o (places (offsetAt begins) cs) (drop base values) ∙ c .long;
               chunks = subst (RaggedChunks begins sh later) (drop-drop (suc (volume (lengths b))) first src ∙ ap (λ (x : ℕ). drop x src) z) (now .2);
               enough = omega (arith, room, w);

@@ -31,7 +31,7 @@ room : (w : tie.After-width-bytes) → 0 + (8 + w .width-bytes .result * length 
 room w =
     let s = start w in
     let a = s .args in
-    omega (arith, s .pre, plain-long (widthOf (a .width)) (placeOf (a .place)) (a .offsets .now) (a .values .now) (w .width-bytes .ensures))
+    omega (arith, s .pre, plain-long (placeOf (a .place)) (a .offsets .now) (a .values .now) (w .width-bytes .ensures))
 
 width-bytes-requires : tie.Need-width-bytes-requires
 width-bytes-requires c κs = search needs
@@ -65,7 +65,7 @@ put-index-requires c κs =
     omega (
       arith,
       index-room (placeOf (a .place)) 0 (w .width-bytes .result * length (a .offsets .now)) (length (a .values .now)) (room w) (c .before .index-at .ensures),
-      plain-index (widthOf (a .width)) (placeOf (a .place)) (a .offsets .now) (a .values .now) (w .width-bytes .ensures),
+      plain-index (placeOf (a .place)) (a .offsets .now) (a .values .now) (w .width-bytes .ensures),
       d .copy-many .kept .0,
     )
 
@@ -96,7 +96,7 @@ returns c =
     let w = width d in
     let s = start w in
     let a = s .args in
-    plain-put (widthOf (a .width)) (placeOf (a .place)) (a .offsets .now) (a .values .now) (w .width-bytes .ensures) (a .out .now) (s .pre)
+    plain-put (placeOf (a .place)) (a .offsets .now) (a .values .now) (w .width-bytes .ensures) (a .out .now) (s .pre)
     (d .before .before .data-at .ensures) (d .copy-many .ensures) (indexed-at i .index-at .ensures) (i .put-index .ensures) (l .length-at .ensures) (c .before .before .put-u64 .ensures)
 
 pub put-plain-spec : {M : Type 1} → statement M

@@ -48,7 +48,7 @@ sided : (a : Start) → 1 ≤ length (a .args .lens .now)
 sided a = omega (arith, a .pre .0 .fits .as-many-lengths, a .pre .0 .shaped .some-sides)
 
 few-cells : (a : Start) → volume (a .args .lens .now) ≤ 65536
-few-cells a = few-drop 0 (a .args .lens .now) (few-within (a .args .shape .now) (a .args .starts .now) (a .args .lens .now) (a .pre .0 .shaped) (a .pre .0 .fits))
+few-cells a = few-drop 0 (a .args .lens .now) (few-within (a .args .starts .now) (a .args .lens .now) (a .pre .0 .shaped) (a .pre .0 .fits))
 
 -- typed by the start, since omega does not look that far back
 short : (a : Start) → (length (a .args .src .now) * 8 < 18446744073709551616) × (length (a .args .values .now) < 18446744073709551616)
@@ -104,7 +104,7 @@ loop-holds : tie.Need-loop-holds Inv-loop μ-loop
 loop-holds c =
     let a = entered (c .before) in
     ragged-begins (a .pre .0)
-    (left-begins (a .args .shape .now) (a .args .starts .now) (a .args .lens .now) (a .args .cells) (a .pre .0 .fits) (a .pre .0 .shaped .some-sides) (a .pre .1))
+    (left-begins (a .args .shape .now) (a .args .starts .now) (a .args .lens .now) (a .pre .0 .fits) (a .pre .0 .shaped .some-sides) (a .pre .1))
 
 cell-at-requires : tie.Need-cell-at-requires Inv-loop μ-loop
 cell-at-requires c κs =
@@ -157,7 +157,7 @@ loop-again : tie.Need-loop-again Inv-loop μ-loop
 loop-again c =
     let b = c .before .before in
     let k = copied b in
-    ragged-more (start (head k) .pre .0) (head k .loop .inv) (turned k) (k .cell-at .ensures) (b .copy-bytes .last .0) (b .copy-bytes .ensures)
+    ragged-more (start (head k) .pre .0) (head k .loop .inv) (turned k) (k .cell-at .ensures) (b .copy-bytes .ensures)
 
 same-length : tie.Need-same-length Inv-loop μ-loop
 same-length c = c .before .loop .inv .long
@@ -166,8 +166,7 @@ returns : tie.Need-returns Inv-loop μ-loop
 returns c =
     let l = c .before in
     let a = start l .args in
-    store-ends (offsetAt (a .begins .now)) (cells l) (drop (a .base) (a .values .now)) (a .out .now) (l .loop .out) (a .cells) (run l) (l .loop .at) (offsetAt (a .src .now) (a .first + l .loop .at))
-    (l .loop .inv) (omega arith)
+    store-ends (l .loop .inv) (omega arith)
 
 pub store-ragged-spec : {M : Type 1} → statement M
 store-ragged-spec =

@@ -36,7 +36,7 @@ short : (a : Start)
 short a = (omega arith, omega arith, omega arith)
 
 seen : (l : Head) → l .loop .i < start l .args .count → l .loop .at + length (start l .args .shape .now) + length (start l .args .shape .now) ≤ length (start l .args .subsets .now)
-seen l h = let a = start l in next-room (a .args .shape .now) (a .args .subsets .now) (a .args .count) (l .loop .i) (l .loop .at) (l .loop .inv .geo) h
+seen l h = let a = start l in next-room (a .args .shape .now) (a .args .subsets .now) (a .args .count) (l .loop .inv .geo) h
 
 loop-holds : tie.Need-loop-holds Inv-loop μ-loop
 loop-holds c = raggeds-begin (entry (c .before .before) .pre)
@@ -63,8 +63,8 @@ volume-of-requires : tie.Need-volume-of-requires Inv-loop μ-loop
 volume-of-requires c κs =
     let l = c .before .before in
     let a = start l in
-    few-within (a .args .shape .now) (startsAt (length (a .args .shape .now)) (l .loop .at) (a .args .subsets .now)) (lengthsAt (length (a .args .shape .now)) (l .loop .at) (a .args .subsets .now))
-    (a .pre .subsets .shaped) (now-within (a .args .shape .now) (a .args .subsets .now) (a .args .count) (l .loop .i) (l .loop .at) (l .loop .inv .geo) (omega arith))
+    few-within (startsAt (length (a .args .shape .now)) (l .loop .at) (a .args .subsets .now)) (lengthsAt (length (a .args .shape .now)) (l .loop .at) (a .args .subsets .now))
+    (a .pre .subsets .shaped) (now-within (a .args .shape .now) (a .args .subsets .now) (a .args .count) (l .loop .inv .geo) (omega arith))
 
 -- after the chunk's cells are counted
 abbrev head : tie.After-volume-of Inv-loop μ-loop → Head
