@@ -1,8 +1,9 @@
 #!/usr/bin/env bash
 # The pages against the tree: files, functions and make targets that they name are there; each must-fail edit is named in
-# docs/PROMISES.md, and each edit that it names stands in the crate that it says; each rule that they cite is in docs/SPEC.md, which
-# alone names where the rules come from; header, README and docs/FORMAT.md have the refusals of docs/SPEC.md, the header those of each
-# call; CHANGELOG.md begins with the version.
+# docs/PROMISES.md, and each edit that it names stands in the crate that it says; each rule that they and comments cite is in
+# docs/SPEC.md, which alone names where the rules come from; each file of specs/ says which rules it states or which law makes it redundant,
+# and docs/PROMISES.md lists the former; header, README and docs/FORMAT.md have the refusals of docs/SPEC.md, the header those of each call;
+# CHANGELOG.md begins with the version.
 set -euo pipefail
 cd "$(dirname "$0")/.."
 bad=0
@@ -53,8 +54,9 @@ done
 rules=$(grep -oE '^(\| )?\*\*S[0-9]+\.[0-9]+\*\*' docs/SPEC.md | grep -oE 'S[0-9.]+[0-9]' | sort)
 twice=$(uniq -d <<< "$rules")
 [ -z "$twice" ] || wrong "docs/SPEC.md gives a number to two rules:" $twice
-for rule in $(grep -ohE '\bS[0-9]+\.[0-9]+\b' "${pages[@]}" | sort -u); do
-    grep -qxF "$rule" <<< "$rules" || wrong "rule $rule is cited and not in docs/SPEC.md:" $(grep -lwF "$rule" "${pages[@]}")
+mapfile -t code < <(find crates -name '*.antt' -o -name '*.rt')
+for rule in $(grep -ohE '\bS[0-9]+\.[0-9]+\b' "${pages[@]}" "${code[@]}" | sort -u); do
+    grep -qxF "$rule" <<< "$rules" || wrong "rule $rule is cited and not in docs/SPEC.md:" $(grep -lwF "$rule" "${pages[@]}" "${code[@]}")
 done
 
 # Where the rules come from is named once.
@@ -62,6 +64,45 @@ for origin in 'documents? 01' 'documents? 02' 'the mission'; do
     found=$(grep -oiE "$origin" "${pages[@]}" | cut -d: -f1 | tr '\n' ' ')
     [ "$found" = 'docs/SPEC.md ' ] || wrong "'$origin' should stand once, in docs/SPEC.md, and stands in: $found"
 done
+found=$(grep -liE 'documents? 0[12]' "${code[@]}" || true)
+[ -z "$found" ] || wrong "comments should cite docs/SPEC.md:" $found
+
+# The first line of a file of specs/: the rules that it states, which then must be believed, and so whatever it uses; or the law, or the
+# contract of a function, that makes it redundant. What only the gate's programs use needs neither.
+states='^-- docs/SPEC\.md, (S[0-9]+\.[0-9]+((, | to )S[0-9]+\.[0-9]+)*): .'
+by_law='^-- Redundant by the laws? ([A-Za-z-]+)( and ([A-Za-z-]+))? in ([a-z_]+/proofs/[A-Za-z]+\.antt): .'
+by_contract='^-- Redundant by the contract of `([a-z_]+)::([a-z_0-9]+::)*([a-z_0-9]+)`, ([a-z_]+/proofs/[A-Za-z_0-9/+]+\.antt): .'
+unused="^-- Redundant: no promise of a call rests on it, only the gate's programs do\\. ."
+believed=''
+lines=0
+for spec in $(find crates -path '*/specs/*.antt' ! -name Lib.antt | sort); do
+    path=${spec#crates/}
+    line=$(head -n 1 "$spec")
+    [ "${#line}" -le 150 ] || wrong "the first line of $path has over 150 characters"
+    if [[ $line =~ $states ]]; then
+        count=$(grep -cvE '^ *(--|use |$)' "$spec")
+        lines=$((lines + count))
+        believed+="| \`$path\` | ${BASH_REMATCH[1]} | $count |"$'\n'
+        for used in $(sed -nE 's|^use Rattle·([a-z_]+)(·specs)?\.specs\.([A-Z][A-Za-z0-9]*).*|\1/specs/\3.antt|p' "$spec"); do
+            [[ $(head -n 1 "crates/$used") =~ $states ]] || wrong "$path states rules and uses $used, which does not"
+        done
+    elif [[ $line =~ $by_law ]]; then
+        proofs=${BASH_REMATCH[4]}
+        for law in "${BASH_REMATCH[1]}" "${BASH_REMATCH[3]}"; do
+            [ -z "$law" ] || grep -qsE "^ *(pub )?$law :" "crates/$proofs" || wrong "$path names the law $law, which is not in $proofs"
+        done
+    elif [[ $line =~ $by_contract ]]; then
+        [ -f "crates/${BASH_REMATCH[4]}" ] || wrong "$path names ${BASH_REMATCH[4]}, which is not there"
+        grep -rqE "fn ${BASH_REMATCH[3]}\b" "crates/${BASH_REMATCH[1]}/src" || wrong "$path names ${BASH_REMATCH[3]}, which is not there"
+    elif ! [[ $line =~ $unused && $path =~ ^(print|text|requests|responses)/ ]]; then
+        wrong "the first line of $path names neither rules of docs/SPEC.md nor a law: $line"
+    fi
+done
+listed=$(grep -E '^\| `[a-z_]+/specs/[A-Za-z0-9]+\.antt` \| S[^|]* \| [0-9]+ \|$' docs/PROMISES.md | sort)
+differ=$(diff <(sort <<< "${believed%$'\n'}") <(echo "$listed") || true)
+[ -z "$differ" ] || wrong "docs/PROMISES.md, What must be believed, should have < and has >:"$'\n'"$differ"
+total="$(wc -l <<< "$listed") files, $((lines / 1000)),$(printf %03d $((lines % 1000))) lines"
+grep -qF "$total" docs/PROMISES.md || wrong "docs/PROMISES.md, What must be believed, should say: $total"
 
 # The refusals: | 1 | cause | whoever .. | or, several in a row, | 1 kind, 2 shape | whoever .. |
 refusals() { grep -E '^\| [0-9].*\| whoever' "$1" | grep -oE '(^\| |, )[0-9]+ ' | grep -oE '[0-9]+' | sort -n | tr '\n' ' '; }
@@ -88,4 +129,4 @@ newest=$(sed -n 's/^## \([0-9.]*\).*/\1/p' CHANGELOG.md | head -n 1)
 [ "$newest" = "$version" ] || wrong "the newest heading of CHANGELOG.md is '$newest', the version '$version'"
 
 [ "$bad" = 0 ] || exit 1
-echo "$(wc -w <<< "$named") files, $edits edits, $(wc -w <<< "$rules") rules and $(wc -w <<< "$ruled") refusals, as the pages say"
+echo "$(wc -w <<< "$named") files, $edits edits, $(wc -w <<< "$rules") rules and $(wc -w <<< "$ruled") refusals, as the pages say; to be believed: $total"

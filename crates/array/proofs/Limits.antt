@@ -1,4 +1,4 @@
--- The limits pass, and one more of each does not (document 01, the last line of the bytes to hold against).
+-- The limits pass, and one more of each does not (docs/SPEC.md, S10.12).
 -- Assumes nothing.
 use mathlib.Core.Path.{_≡_, refl}
 use mathlib.Core.Bool.{true, false}

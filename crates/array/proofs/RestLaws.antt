@@ -1,4 +1,4 @@
--- The rest form, by the words of document 01: a level's mask byte stays if all outer masks there are set, else it is 0; the value
+-- The rest form, by the words of docs/SPEC.md, S2.1 and S2.2: a level's mask byte stays if all outer masks there are set, else it is 0; the value
 -- stays if all masks are set, else it is that of a null.
 -- Assumes nothing.
 use mathlib.Core.Path.{_≡_, refl, ap}

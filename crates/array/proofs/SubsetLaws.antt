@@ -17,7 +17,7 @@ length-rows v [] js = sym (zero-mul (length js))
 length-rows v (i ∷ is) js =
     omega (arith, length-append (map (λ j. i * v + j) js) (rows v is js), length-map js (λ j. i * v + j), length-rows v is js, suc-mul (length is) (length js))
 
--- a box has as many cells as its lengths say
+-- a subset has as many cells as its lengths say
 pub length-cellsIn : (shape : List ℕ) (b : Subset) → SubsetOk shape b → length (cellsIn shape b) ≡ volume (lengths b)
 length-cellsIn [] [] p = refl
 length-cellsIn [] (b ∷ bs) p = absurd p
@@ -45,7 +45,7 @@ pub all-below : (shape : List ℕ) (bs : List Subset) → All (SubsetOk shape) b
 all-below shape [] p = tt
 all-below shape (b ∷ bs) p = All-append (λ j. j < volume shape) (cellsIn shape b) (cellsOfAll shape bs) (cellsIn-below shape b (p .0)) (all-below shape bs (p .1))
 
--- the lengths of a box that holds a cell are a shape
+-- the lengths of a subset that holds a cell are a shape
 pub length-lengths : (shape : List ℕ) (b : Subset) → SubsetOk shape b → length (lengths b) ≡ length shape
 length-lengths [] [] p = refl
 length-lengths [] (b ∷ bs) p = absurd p

@@ -1,4 +1,4 @@
--- An answer (document 01, Answers): what was asked for, or the number of a refusal.
+-- docs/SPEC.md, S6.10, S6.11: an answer, which is what was asked for or the number of a refusal, and what a call leaves behind.
 -- Assumes nothing.
 use Prim.Native.Nat.{ℕ}
 use mathlib.Core.Bool.{Bool, true, false}

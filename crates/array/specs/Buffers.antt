@@ -1,4 +1,4 @@
--- The lent outputs (document 01, Answers): how long they must be, and what a call leaves in them.
+-- docs/SPEC.md, S6.10, S6.11, S8.6: the lent outputs, how long they must be, and what a call leaves in them.
 -- Assumes nothing.
 use Prim.Native.Nat.{ℕ, _≤_}
 use mathlib.Core.Bool.{Bool, _&&_}

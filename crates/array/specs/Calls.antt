@@ -1,4 +1,4 @@
--- The public calls of this layer: what each answers, and what it leaves in the lent buffers.
+-- docs/SPEC.md, S6.8, S6.9: reverse_endianness and subset_cells, what each answers, and what it leaves in the lent buffers.
 -- Assumes nothing.
 use Prim.Native.Nat.{ℕ, _*_, _/_}
 use mathlib.Core.List.{List, _++_, map, reverse}
@@ -11,7 +11,7 @@ use Rattle.array.specs.Shape.{shapeTest}
 use Rattle.array.specs.Subset.{subsetOf, numbersTest, cellsIn}
 use Rattle.array.specs.Buffers.{listOutcome, ifRoom}
 
--- ---- reverse_endianness (document 01, item 1)
+-- ---- reverse_endianness (S6.8)
 
 -- how many bytes of a string lie in whole cells of size k
 abbrev pub wholeCells : ℕ → List ℕ → ℕ
@@ -38,7 +38,7 @@ unfoldable pub endiannessReversed : ℕ → List ℕ → Outcome ℕ (List ℕ)
 unfolding reverseAnswer
 endiannessReversed k s = record { answer = reverseAnswer k s; buffers = bytesReversed k (reverseAnswer k s) s }
 
--- ---- subset_cells (document 01, item 2): the numbers of the cells of a subset, in row order
+-- ---- subset_cells (S6.9): the numbers of the cells of a subset, in row order
 
 unfoldable pub cellsAnswer : List ℕ → List ℕ → ℕ → Answer (List ℕ)
 cellsAnswer shape ns room =

@@ -1,5 +1,6 @@
--- Cells, and their rest form (document 01, The array). A cell of depth d is its mask bytes, outermost first, and its value: by
--- recursion on the depth, so that a cell of depth d + 1 is a mask byte and a cell of depth d.
+-- docs/SPEC.md, S1.5, S1.6, S1.11, S2.1, S2.2: cells, what a mask byte says, and the rest form of a cell.
+-- A cell of depth d is its mask bytes, outermost first, and its value: by recursion on the depth, so that a cell of depth d + 1 is a mask byte
+-- and a cell of depth d.
 -- Assumes nothing.
 use Prim.Native.Nat.{ℕ, zero, suc, _≤_}
 use mathlib.Core.Bool.{Bool, true, false}
@@ -79,7 +80,7 @@ module _ (z : Value) where
   abbrev pub restOne : {A : Type 0} → A → (A → A) → ℕ → A → ℕ × A
   restOne b f m a = restBy (markOf m) b f m a
 
-  -- document 01: rest form. A mask byte stays if all outer ones are set, else it is 0; the value stays if all masks are set
+  -- the rest form (S2.1, S2.2): a mask byte stays if all outer ones are set, else it is 0; the value stays if all masks are set
   abbrev pub rest : (d : ℕ) → Cell d → Cell d
   rest zero v = v
   rest (suc d) c = restOne (blank d) (rest d) (c .0) (c .1)

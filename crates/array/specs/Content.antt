@@ -1,4 +1,4 @@
--- An array's content, its cells, and the array's rules (document 01, The array).
+-- docs/SPEC.md, S1.1, S1.4 to S1.11, S2.3: the content of an array, its cells, its rules and its rest form.
 -- Assumes nothing.
 use Prim.Native.Nat.{ℕ, zero, suc, _*_, _≤_}
 use mathlib.Core.Path.{_≡_}

@@ -1,4 +1,4 @@
--- The limits (document 01, The array), each under one name.
+-- docs/SPEC.md, S1.2, S1.3, S1.7: the limits, each under one name.
 -- Assumes nothing.
 use Prim.Native.Nat.{ℕ}
 

@@ -1,4 +1,4 @@
--- Lists: what the other definitions are made of.
+-- docs/SPEC.md, S1.4, S2.3, S3.7: lists numbered, laid end to end and counted, what the other definitions are made of.
 -- Assumes nothing.
 use Prim.Native.Nat.{ℕ, zero, suc}
 use mathlib.Core.Bool.{Bool, true, false, _&&_}

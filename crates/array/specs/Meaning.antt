@@ -1,4 +1,4 @@
--- docs/SPEC.md, S6.13: what the declared types of the code mean. The kind, the mark of a mask byte, and the answers, each case with its number or lengths.
+-- docs/SPEC.md, S6.13: what the declared types of the code mean: the kind, the mark of a mask byte, and the answers, case by case.
 -- Assumes nothing.
 use Prim.Native.Nat.{ℕ}
 use Rattle.array.specs.declared.kind.ByteOrder.{ByteOrder}

@@ -1,4 +1,4 @@
--- docs/SPEC.md, S1.11: how many mask bytes are over 01, what a walk counts. proofs/Marks has that there is none where all keep the rule.
+-- Redundant by the laws no-others and some-others in array/proofs/Marks.antt: how many mask bytes are over 01 (S1.11), what a walk counts.
 -- Assumes nothing.
 use Prim.Native.Nat.{ℕ, _+_}
 use mathlib.Core.List.{List, [], _∷_}

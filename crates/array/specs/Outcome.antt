@@ -1,4 +1,4 @@
--- What a call leaves behind (document 01, Answers): its answer, and the lent outputs as they are then. The left side of each promise.
+-- docs/SPEC.md, S6.10, S6.13: what a call leaves behind, its answer and the lent outputs as they are then. The left side of each contract.
 -- Assumes nothing.
 use Prim.Native.Nat.{ℕ}
 use mathlib.Core.List.{List}

@@ -1,4 +1,6 @@
--- Where the bytes of a cell begin (document 01, The array): fixed values and mask bytes at equal steps, ragged values at their offsets.
+-- Redundant by the laws plane-at and slice-at in extract/proofs/Closing.antt: where the bytes of a cell begin.
+-- Fixed values and mask bytes lie at equal steps, ragged values at their offsets. Stored: fixed-block in merge_stores/proofs/Blocks.antt,
+-- ragged-block in merge_stores/proofs/RaggedMerge.antt.
 -- Assumes nothing.
 use Prim.Native.Nat.{ℕ, _+_, _*_}
 use mathlib.Core.List.{List}

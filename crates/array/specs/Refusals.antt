@@ -1,5 +1,5 @@
--- Each refusal exactly when it is due (document 01, Answers): given when its rule is broken and no earlier one is, and never otherwise.
--- A call's rules stand in document 01's order, each with the number that refuses what breaks it.
+-- docs/SPEC.md, S7.1 to S7.3: each refusal given when its rule is broken and no earlier one is, and never otherwise.
+-- A call's rules stand in the order of S6.1, each with the number that refuses what breaks it.
 -- Assumes nothing.
 use Prim.Native.Nat.{ℕ, _≤_}
 use mathlib.Core.Path.{_≡_}

@@ -1,4 +1,5 @@
--- What the walks over the rows of a subset ask of their numbers (document 01, item 2).
+-- Redundant by the law subsets-are in array/proofs/SubsetLists.antt: subsets one after another, as the walks over their rows take them.
+-- What these ask is given by within-at there, and by few-shape in subset/proofs/Index.antt.
 -- Assumes nothing.
 use mathlib.Core.Path.{_≡_}
 use Prim.Native.Nat.{ℕ, zero, suc, _+_, _≤_}

@@ -1,4 +1,4 @@
--- Shapes (document 01, The array): 1 to 4 sides, each at least 1, at most 65,536 cells.
+-- docs/SPEC.md, S1.3: shapes. 1 to 4 sides, each at least 1, at most 65,536 cells.
 -- Assumes nothing.
 use Prim.Native.Nat.{ℕ, _*_, _≤_}
 use mathlib.Core.Bool.{Bool, _&&_}

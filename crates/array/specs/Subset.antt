@@ -1,4 +1,4 @@
--- Subsets (document 01, item 2: boxes): a start and a length for each side of a shape.
+-- docs/SPEC.md, S1.4, S3.1 to S3.3: subsets, a start and a length for each side of a shape, and their cells.
 -- Assumes nothing.
 use Prim.Native.Nat.{ℕ, _+_, _*_, _/_, _%_, _≤_}
 use mathlib.Core.Path.{_≡_}

@@ -1,4 +1,4 @@
--- A field of stored bytes (document 01, Answers: each field read gives the field or the refusal, nothing between).
+-- Redundant by the law field-value in buffer/proofs/Fields.antt: a field of stored bytes, or the refusal (S7.4).
 -- Assumes nothing.
 use Prim.Native.Nat.{ℕ, _-_}
 use mathlib.Core.List.{List}

@@ -67,7 +67,7 @@ module _ (k : Kind) (shape : List ℕ) (c : Content) (v : Valid k shape c) where
   abbrev restCells : Subset → Content
   restCells b = layout (k .form) d (map resting (cellsAt k shape c b))
 
-  -- they are the rest form of the cut, by the words of document 01
+  -- they are the rest form of the cut, by the words of docs/SPEC.md, S2.1 to S2.3
   rest-of-cut : (ns : List ℕ) → NumbersOk shape ns → restOfCut k shape c ns ≡ restCells (subsetOf sides ns)
   rest-of-cut ns p =
       let q : Subset = subsetOf sides ns in

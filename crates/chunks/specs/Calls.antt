@@ -1,4 +1,4 @@
--- docs/SPEC.md, part 6: the public calls of this layer. What each answers, with the refusals in their order, and what it leaves in the outputs.
+-- docs/SPEC.md, S3.9, S6.5 to S6.7, S7.2: extract, merge and partial_decode, their answers, refusals in order, and what is left in the outputs.
 -- Assumes nothing.
 use Prim.Native.Nat.{ℕ}
 use mathlib.Core.List.{List}

@@ -1,5 +1,5 @@
--- A list of chunks (document 01, item 6): boxes, masks, values and offsets each laid end to end, chunk by chunk. Each chunk has its own
--- planes, outermost first, and its own offsets, counted from the start of its own value bytes.
+-- docs/SPEC.md, S3.6, S3.8: a chunk list, in which subsets, masks, values and offsets each lie end to end, and the merge of it.
+-- Each chunk has its own planes, outermost first, and its own offsets, counted from the start of its own value bytes.
 -- Assumes nothing.
 use Prim.Native.Nat.{ℕ, suc, _*_}
 use mathlib.Core.Path.{_≡_}

@@ -1,5 +1,5 @@
--- A subset cut from an array (document 01, item 6): the masks and values of its cells, in row order, hidden values kept, ragged
--- values end to end from offset 0.
+-- docs/SPEC.md, S3.4, S3.5: a subset cut from an array.
+-- The masks and values of its cells, in row order, hidden values kept, ragged values end to end from offset 0.
 -- Assumes nothing.
 use Prim.Native.Nat.{ℕ}
 use mathlib.Core.List.{List}

@@ -1,6 +1,7 @@
--- docs/SPEC.md, S8.3 to S8.7: demand 3, as one claim over the calls and the buffers lent to them: any valid array A, cut into any list of subsets that covers it,
--- each cut written, read back, all merged. Nothing is refused, the outcome is A's rest form, and cutting any subset Q from the
--- outcome gives the rest form of Q cut from A. Compared are masks, value bytes, offsets and the lengths that success names.
+-- docs/SPEC.md, S8.3 to S8.7: demand 3, as one claim over the calls and the buffers lent to them.
+-- Any valid array A, cut into any list of subsets that covers it, each cut written, read back, all merged. Nothing is refused, the outcome is
+-- A's rest form, and cutting any subset Q from the outcome gives the rest form of Q cut from A. Compared are masks, value bytes, offsets and
+-- the lengths that success names.
 -- Assumes nothing.
 use Prim.Native.Nat.{ℕ, _≤_, _<_}
 use mathlib.Core.Path.{_≡_}
@@ -31,7 +32,7 @@ abbrev pub shapeOf : List ℕ → List ℕ → List ℕ
 shapeOf shape ns = drop (length shape) ns
 
 module _ (k : Kind) (shape : List ℕ) (A : Content) where
-  -- Q cut from A, and its rest form: made from A by document 01's rules, not from an answer
+  -- Q cut from A, and its rest form: made from A by S2.1 to S2.3 and S3.4, not from an answer
   abbrev pub cutFrom : List ℕ → Content
   cutFrom Q = cutOf k shape A (subsetOf (length shape) Q)
 

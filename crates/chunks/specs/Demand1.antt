@@ -1,5 +1,5 @@
--- docs/SPEC.md, S8.1: demand 1, as one claim over the calls and the buffers lent to them, at every input: the answer is an accepted result, or one refusal
--- whose number stands in that call's list, and then every lent buffer is as it was before.
+-- docs/SPEC.md, S8.1: demand 1, as one claim over the calls and the buffers lent to them, at every input.
+-- The answer is an accepted result, or one refusal whose number stands in that call's list, and then every lent buffer is as it was before.
 -- Assumes nothing.
 use Prim.Native.Nat.{ℕ}
 use mathlib.Core.Path.{_≡_}

@@ -1,4 +1,4 @@
--- Elements taken from their places, and put back (document 01, item 6).
+-- docs/SPEC.md, S3.4, S3.7, S3.8: elements taken from their places, and put back, and places that stand exactly once.
 -- Assumes nothing.
 use Prim.Native.Nat.{ℕ, _<_}
 use mathlib.Core.Path.{_≡_}

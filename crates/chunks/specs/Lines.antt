@@ -1,5 +1,6 @@
--- docs/SPEC.md, part 10: the lines that are marked proved, over the calls and the buffers lent to them: one table. Every lent output is longer
--- than its result by a byte or a number, so that what lies beyond is seen to stay.
+-- docs/SPEC.md, S10.1 to S10.11, S10.13 to S10.15, S10.19, S10.25 to S10.28, S10.31 to S10.35: the worked bytes marked proved, one table.
+-- Over the calls and the buffers lent to them: every lent output is longer than its result by a byte or a number, so that what lies beyond is
+-- seen to stay.
 -- Assumes nothing.
 use Prim.Native.Nat.{ℕ}
 use mathlib.Core.Path.{_≡_}
@@ -152,9 +153,9 @@ pub record Lines : Type 0 where
   -- index length of eight FF: 8, at the start and at the end
   pub index-FF-start : decoded raggedStart (1 ∷ []) (indexFF ++ replicate 16 0) (lent 1 1 3) ≡ record { answer = refuses 8; buffers = lent 1 1 3 }
   pub index-FF-end : decoded raggedEnd (1 ∷ []) (replicate 8 0 ++ indexFF) (lent 1 1 3) ≡ record { answer = refuses 8; buffers = lent 1 1 3 }
-  -- size 3 on 01 02 03 04 05 06 07 gives 03 02 01 06 05 04 07 (item 1, not marked)
+  -- size 3 on 01 02 03 04 05 06 07 gives 03 02 01 06 05 04 07 (S10.11)
   pub reversed-3 : endiannessReversed 3 (1 ∷ 2 ∷ 3 ∷ 4 ∷ 5 ∷ 6 ∷ 7 ∷ []) ≡ record { answer = gives 6; buffers = 3 ∷ 2 ∷ 1 ∷ 6 ∷ 5 ∷ 4 ∷ 7 ∷ [] }
-  -- big order reverses a cell, and nothing else (item 7, not marked)
+  -- big order reverses a cell, and nothing else (S4.2)
   pub writes-big : encoded big1 (1 ∷ []) (array (1 ∷ []) (0x0A ∷ 0x0B ∷ []) []) (old 20) ≡ wrote 19 bytes-big
   pub reads-big : decoded big1 (1 ∷ []) bytes-big (lent 2 3 1) ≡ gave 1 2 0 (1 ∷ []) (0x0A ∷ 0x0B ∷ []) []
   -- S10.13 to S10.15: packed masks; a set cell reads as 01; a bit after the last cell that is set is 13, after the mask's length and before the content

@@ -1,4 +1,4 @@
--- partial_decode is reading followed by a cut (document 01, item 6), as one claim over the three calls and the buffers lent to them:
+-- docs/SPEC.md, S6.7: partial_decode is reading followed by a cut, as one claim over the three calls and the buffers lent to them.
 -- decode of all cells, then extract of the subset from what was read. partial_decode tests the subset before any stored byte, so that
 -- its 3 comes first; else answer and every lent byte are the same at every input, 6 of the last outputs included.
 -- Assumes nothing.

@@ -1,5 +1,5 @@
--- Each refusal exactly when it is due (document 01, Answers), for cutting and merging: the rules of a chunk list, and with them the rules
--- of this layer's three calls.
+-- docs/SPEC.md, S7.1 to S7.3: each refusal exactly when it is due, for cutting and merging.
+-- The rules of a chunk list, and with them the rules of this layer's three calls.
 -- Assumes nothing.
 use Prim.Native.Nat.{ℕ, _≤_}
 use mathlib.Core.List.{List, [], _∷_, _++_}

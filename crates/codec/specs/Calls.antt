@@ -1,4 +1,4 @@
--- docs/SPEC.md, part 6: the public calls of this layer. What each answers, with the refusals in their order, and what it leaves in the outputs.
+-- docs/SPEC.md, S6.2 to S6.4, S6.16, S7.2: the calls that write and read, their answers, refusals in order, and what is left in the outputs.
 -- Assumes nothing.
 use Prim.Native.Nat.{ℕ, suc, _*_}
 use mathlib.Core.List.{List}

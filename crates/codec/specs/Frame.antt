@@ -1,5 +1,6 @@
--- docs/SPEC.md, S4.6 to S4.8: frames. Mask length, content length, mask, content. The content covers only the cells set in the mask, as a
--- frame of the next level, or, at the innermost, as values, which `w` writes and `r` reads. mf is how the mask lies in bytes.
+-- docs/SPEC.md, S4.6 to S4.8, S7.6 to S7.8: frames. Mask length, content length, mask, content.
+-- The content covers only the cells set in the mask, as a frame of the next level, or, at the innermost, as values, which `w` writes and `r`
+-- reads. mf is how the mask lies in bytes.
 -- Assumes nothing.
 use Prim.Native.Nat.{ℕ, zero, suc, _+_}
 use mathlib.Core.List.{List, [], _∷_, _++_}

@@ -1,5 +1,5 @@
--- docs/SPEC.md, part 5: the older interleaved form, read and written. A 4-byte count, then for each cell a
--- 4-byte length and its bytes. Bytes after the last cell are ignored when read; none are written.
+-- docs/SPEC.md, S5.1 to S5.5: the older interleaved form, read and written.
+-- A 4-byte count, then for each cell a 4-byte length and its bytes. Bytes after the last cell are ignored when read; none are written.
 -- Assumes nothing.
 use Prim.Native.Nat.{ℕ, zero, suc, _+_, _*_}
 use mathlib.Core.Path.{_≡_}

@@ -1,4 +1,4 @@
--- docs/SPEC.md, S4.10: the written length, the sum over the levels, outermost first.
+-- Redundant by the law written-length in codec/proofs/Lengths.antt: the written length (S4.10), the sum over the levels, outermost first.
 -- Assumes nothing.
 use Prim.Native.Nat.{ℕ, zero, suc, _+_, _*_}
 use mathlib.Core.List.{List, [], _∷_}

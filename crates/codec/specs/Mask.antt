@@ -1,5 +1,6 @@
--- docs/SPEC.md, S4.6, S4.11 to S4.14: how a mask lies in stored bytes. A form is its length for so many cells, the stored
--- bytes that mask bytes are put into, the mask bytes that stored bytes say, and the test of stored bytes with the number of its refusal.
+-- docs/SPEC.md, S4.6, S4.11 to S4.14: how a mask lies in stored bytes.
+-- A form is its length for so many cells, the stored bytes that mask bytes are put into, the mask bytes that stored bytes say, and the test of
+-- stored bytes with the number of its refusal.
 -- Assumes nothing.
 use Prim.Native.Nat.{ℕ, _+_, _-_, _*_, _/_}
 use mathlib.Core.Bool.{Bool}

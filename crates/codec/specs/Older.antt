@@ -1,5 +1,5 @@
--- docs/SPEC.md, S8.8: what is written in the older form reads as the array's rest form. Nothing is refused where the outputs are
--- long enough, and the written length is 4 + 4 × cells + the sum of cell lengths.
+-- docs/SPEC.md, S8.8: what is written in the older form reads as the array's rest form.
+-- Nothing is refused where the outputs are long enough, and the written length is that of S5.5.
 -- Assumes nothing.
 use Prim.Native.Nat.{ℕ, _≤_}
 use mathlib.Core.Path.{_≡_}

@@ -1,6 +1,6 @@
--- docs/SPEC.md, S8.9 and S8.10: one stored form for each table. For any one kind and shape, a byte string that decode accepts, read and
--- written again, comes out as the very same bytes; so two accepted strings that read as equal arrays are equal. A kind's masks may lie in
--- bytes or in bits. The older form lies outside, because of its tail.
+-- docs/SPEC.md, S8.9, S8.10: one stored form for each table.
+-- For any one kind and shape, a byte string that decode accepts, read and written again, comes out as the very same bytes; so two accepted
+-- strings that read as equal arrays are equal. A kind's masks may lie in bytes or in bits. The older form lies outside, because of its tail.
 -- Assumes nothing.
 use Prim.Native.Nat.{ℕ, _≤_}
 use mathlib.Core.Path.{_≡_}

@@ -1,4 +1,4 @@
--- docs/SPEC.md, S4.3 and S4.4: ragged values with their index, for any width of an offset and for both places of the index.
+-- docs/SPEC.md, S4.3, S4.4, S4.9, S7.9: ragged values with their index, for any width of an offset and for both places of the index.
 -- Place start: index length (8 bytes), index, data. Place end: data, index, index length.
 -- Assumes nothing.
 use Prim.Native.Nat.{ℕ, suc, _+_, _-_, _*_}

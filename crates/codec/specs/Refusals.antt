@@ -1,5 +1,5 @@
--- Each refusal exactly when it is due (document 01, Answers), for the stored forms: the rules of stored bytes, field by field as they are
--- read, and with them the rules of this layer's four calls.
+-- docs/SPEC.md, S7.1 to S7.3, S7.6 to S7.9: each refusal exactly when it is due, for the stored forms.
+-- The rules of stored bytes, field by field as they are read, and with them the rules of this layer's four calls.
 -- Assumes nothing.
 use Prim.Native.Nat.{ℕ, zero, suc, _+_, _*_, _≤_}
 use mathlib.Core.Path.{_≡_}

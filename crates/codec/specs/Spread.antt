@@ -1,4 +1,5 @@
--- Reading, plane by plane: what code speaks of that places each level straight into its plane.
+-- Redundant by the laws leaves-expand and planes-expand in codec/proofs/SpreadLaws.antt: reading, plane by plane.
+-- Code that places each level straight into its plane speaks of it: masks-from and leaves-from in stored/proofs/Reading.antt.
 -- Assumes nothing.
 use Prim.Native.Nat.{ℕ, zero, suc}
 use mathlib.Core.List.{List, [], _∷_}

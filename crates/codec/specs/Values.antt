@@ -1,4 +1,4 @@
--- The innermost content: plain values in their byte order, or ragged values end to end from offset 0 with their index.
+-- docs/SPEC.md, S4.2, S4.3, S4.9: the innermost content, plain values in their byte order, or ragged ones from offset 0 with their index.
 -- Assumes nothing.
 use Prim.Native.Nat.{ℕ, _*_}
 use mathlib.Core.List.{List, map}

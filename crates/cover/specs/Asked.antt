@@ -1,4 +1,4 @@
--- What a walk over a list of subsets asks of its numbers (document 01, item 2 and refusal 3).
+-- Redundant by the law tested-subsets in merge/proofs/Passing.antt: what a walk over a list of subsets asks of its numbers (S3.1, S3.2).
 -- Assumes nothing.
 use mathlib.Core.Path.{_≡_}
 use Prim.Native.Nat.{ℕ, _+_, _*_}

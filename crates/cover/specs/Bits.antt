@@ -1,4 +1,4 @@
--- Marks as the bits of 64-bit words.
+-- Redundant by the contract of `cover::covers`, cover/proofs/covers/Proof.antt: marks as the bits of 64-bit words.
 -- Assumes nothing.
 use Prim.Native.Nat.{ℕ, zero, suc, _/_, _%_, _^_}
 use mathlib.Core.List.{List, [], _∷_, _++_}

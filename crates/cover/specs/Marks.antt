@@ -1,4 +1,4 @@
--- Marks of cells, 0 or 1 each: what the test of refusal 12 goes by (document 01, Answers).
+-- Redundant by the laws once-marked and once-refused in cover/proofs/Once.antt: marks of cells, 0 or 1 each, for the test of 12 (S3.7).
 -- Assumes nothing.
 use Prim.Native.Nat.{ℕ}
 use mathlib.Core.Bool.{Bool}

@@ -1,5 +1,6 @@
--- docs/SPEC.md, S4.7 to S4.9, by positions in the stored bytes s (FixedLaws' `fixed-given`, RaggedLaws' `ragged-given`): what is read once
--- the walk and the check have passed, for n cells below d levels whose masks lie as mf or x says; and what the copying rests on.
+-- Redundant by the law fixed-given in decode/proofs/FixedLaws.antt: what is read (S4.7 to S4.9), by positions in the stored bytes s.
+-- Once the walk and the check have passed, for n cells below d levels whose masks lie as mf or x says; and what the copying rests on. Ragged
+-- values: ragged-given in decode/proofs/RaggedLaws.antt.
 -- Assumes nothing.
 use Prim.Native.Nat.{ℕ, _+_, _*_, _≤_}
 use mathlib.Core.Path.{_≡_}

@@ -1,5 +1,5 @@
--- docs/SPEC.md, S1.11 and S11.10: every mask byte that `decode` gives is 00 or 01, so that behind its check the third answer of the
--- reading of a mask byte does not come.
+-- docs/SPEC.md, S1.11, S11.10: every mask byte that `decode` gives is 00 or 01.
+-- So behind its check the third answer of the reading of a mask byte does not come.
 -- Assumes nothing.
 use mathlib.Core.Path.{_≡_}
 use mathlib.Core.List.{List}

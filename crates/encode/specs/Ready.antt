@@ -1,4 +1,5 @@
--- docs/SPEC.md, S1.9, in the code: what the writing leans on, valid content of n cells of a sound kind. To measure it, its masks and offsets are enough.
+-- Redundant by the law encode-encodable in encode/proofs/Encodes.antt: what the writing leans on, valid content of a sound kind (S1.9).
+-- To measure it, its masks and offsets are enough: encodable-measured in encode/proofs/Forms.antt.
 -- Assumes nothing.
 use Prim.Native.Nat.{ℕ, suc, _*_, _≤_}
 use mathlib.Core.Path.{_≡_}

@@ -1,5 +1,5 @@
--- docs/SPEC.md, S4.6 to S4.10, by the numbers of the cells: what is written with so many levels left. With all levels left it is the stored form
--- of the array (proofs/Walk `stored-by`).
+-- Redundant by the law stored-by in encode/proofs/Walk.antt: the stored form (S4.6 to S4.10), by the numbers of the cells.
+-- What is written with so many levels left; with all of them left it is the stored form. How long it is: stored-long in encode/proofs/Levels.antt.
 -- Assumes nothing.
 use Prim.Native.Nat.{ℕ, zero, suc, _+_, _-_, _*_}
 use mathlib.Core.List.{List, map}

@@ -1,4 +1,5 @@
--- The bytes of an `Eight`, in their order.
+-- Redundant by the contract of `endian::cells::copy_block_2`, endian/proofs/cells/copy_block_2/Proof.antt: the bytes of an `Eight`, in their order.
+-- In place: `endian::in_place::reverse_block_2`.
 -- Assumes nothing.
 use Prim.Native.Nat.{ℕ}
 use mathlib.Core.List.{List, [], _∷_}

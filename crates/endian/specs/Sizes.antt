@@ -1,4 +1,5 @@
--- The sizes of cells that are reversed by blocks of 32 bytes.
+-- Redundant by the contract of `endian::reverse_endianness`, endian/proofs/reverse_endianness/Proof.antt: sizes reversed by blocks of 32 bytes.
+-- Copied: `endian::cells::copy_cells_reversed`.
 -- Assumes nothing.
 use Prim.Native.Nat.{ℕ}
 use mathlib.Core.Path.{_≡_}

@@ -1,4 +1,5 @@
--- What the functions that walk over the rows of a subset ask of their callers.
+-- Redundant by the laws cut-values-asked and cut-planes-asked in extract/proofs/Cutting.antt: what the walks over a subset's rows ask.
+-- Of each form by itself: cells-asked and ragged-asked in extract/proofs/Forms.antt.
 -- Assumes nothing.
 use mathlib.Core.Path.{_≡_}
 use Prim.Native.Nat.{ℕ, suc, _+_, _-_, _*_, _^_, _≤_, _<_}

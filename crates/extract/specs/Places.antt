@@ -1,5 +1,5 @@
--- Where the bytes of a cell lie in an array (document 01, The array): cell j from off j up to off (j + 1). The bytes of a mask plane and
--- fixed values lie at equal steps, ragged values between their offsets.
+-- Redundant by the laws cut-masks and cut-values in extract/proofs/Cutting.antt: where the bytes of a cell lie in an array.
+-- Cell j lies from off j up to off (j + 1): the bytes of a mask plane and fixed values at equal steps, ragged values between their offsets.
 -- Assumes nothing.
 use Prim.Native.Nat.{ℕ, zero, suc, _+_, _-_, _*_, _≤_, _<_}
 use mathlib.Core.List.{List, [], _∷_, _++_, map}

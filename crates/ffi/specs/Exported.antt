@@ -1,5 +1,5 @@
--- What an exported call hands to its C caller: a status, the lengths, and the buffers. The status is 0 for success, else the refusal
--- number; the lengths are written on success only, masks before values before offsets.
+-- docs/SPEC.md, S6.15: what an exported call hands to its C caller: a status, the lengths, and the buffers.
+-- The status is 0 for success, else the refusal number; the lengths are written on success only, masks before values before offsets.
 -- Assumes nothing.
 use Prim.Native.Nat.{ℕ}
 use mathlib.Core.List.{List}

@@ -1,5 +1,5 @@
--- The cells that a level counts (document 01, item 5: the content covers only the cells set there), by their numbers: what code that
--- goes by places speaks of. Crate encode has that these are the cells of the definitions.
+-- Redundant by the law keep-at in encode/proofs/Walk.antt: the cells that a level counts (S4.7), by their numbers.
+-- Code that goes by places speaks of them.
 -- Assumes nothing.
 use Prim.Native.Nat.{ℕ, zero, suc, _+_, _-_, _*_, _≤_}
 use mathlib.Core.Path.{_≡_}

@@ -1,4 +1,4 @@
--- What belongs to a cell, by its number: a piece of one size.
+-- Redundant by the law pieces-at in gather/proofs/Numbered.antt: what belongs to a cell, by its number: a piece of one size.
 -- Assumes nothing.
 use Prim.Native.Nat.{ℕ, _*_}
 use mathlib.Core.List.{List, map}

@@ -1,5 +1,5 @@
--- docs/SPEC.md, S1.8, by the number of a cell: the bytes between two offsets. Crate encode has that these are the values of the definitions
--- (proofs/Walk `values-at`).
+-- Redundant by the law slices-at in encode/proofs/Walk.antt: the bytes between two offsets (S1.8), by the number of a cell.
+-- How many, and where they end: length-slices and ends-slices in gather_ragged/proofs/Spans.antt.
 -- Assumes nothing.
 use Prim.Native.Nat.{ℕ, suc, _+_, _-_}
 use mathlib.Core.Path.{_≡_}

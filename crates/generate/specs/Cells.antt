@@ -1,5 +1,5 @@
--- docs/SPEC.md, part 12 (S12.2): a cell drawn in the order of the code: how many of its levels are set, then its value. And where its mask
--- bytes go.
+-- Redundant by the law drawn in generate/proofs/Drawing.antt: a cell (S12.2) drawn in the order of the code.
+-- How many of its levels are set, then its value. And where its mask bytes go: planes-laid in generate/proofs/Columns.antt.
 -- Assumes nothing.
 use Prim.Native.Nat.{ℕ, zero, suc, _+_, _%_}
 use mathlib.Core.List.{List, [], _∷_}

@@ -1,4 +1,4 @@
--- docs/SPEC.md, part 12 (S12.1): what the code's answers mean: a draw, levels that are set.
+-- Redundant by the contract of `generate::generate`, generate/proofs/generate/Proof.antt: what the code's draws mean (S12.1).
 -- Assumes nothing.
 use Prim.Native.Nat.{ℕ}
 use Rattle.generate.specs.declared.generator.Drawn.{Drawn}

@@ -1,4 +1,4 @@
--- What the code needs to be there: places for the bytes it draws (docs/SPEC.md, part 12, S12.3).
+-- Redundant by the contract of `generate::generate`, generate/proofs/generate/Proof.antt: places for the bytes that are drawn (S12.3).
 -- Assumes nothing.
 use Prim.Native.Nat.{ℕ, _+_, _*_, _<_, _≤_}
 use mathlib.Core.List.{List}

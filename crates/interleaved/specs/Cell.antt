@@ -1,5 +1,5 @@
--- docs/SPEC.md, S5.1, in the code: what is copied with a cell, its bytes and as much of what lies behind them as is convenient and there is room for.
--- Nothing of that is left: the next cells write over it (proofs/Placing `placing-cell`).
+-- Redundant by the law placing-cell in interleaved/proofs/Placing.antt: what is copied with a cell (S5.1).
+-- Its bytes, and as much of what lies behind them as is convenient and there is room for. Nothing of that is left: the next cells write over it.
 -- Assumes nothing.
 use Prim.Native.Nat.{ℕ, _≤_}
 use mathlib.Core.Path.{_≡_}

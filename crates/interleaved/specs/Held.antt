@@ -1,4 +1,5 @@
--- docs/SPEC.md, S5.4: what the writing of the older form leans on, the offsets of n cells over these value bytes.
+-- Redundant by the laws write-past and write-held in interleaved/proofs/Writes.antt: what the writing of the older form (S5.4) leans on.
+-- The offsets of n cells over these value bytes.
 -- Assumes nothing.
 use Prim.Native.Nat.{ℕ, suc, _≤_}
 use mathlib.Core.Path.{_≡_}

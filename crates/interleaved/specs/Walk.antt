@@ -1,4 +1,5 @@
--- What the steps of decode_interleaved answer (document 01, item 3): the walk over the stored cells, and what becomes of the cells that it found.
+-- Redundant by the laws all-found and past-end in interleaved/proofs/Outcomes.antt: the steps of decode_interleaved (S6.4).
+-- The walk over the stored cells, and what becomes of the cells that it found.
 -- Assumes nothing.
 use Prim.Native.Nat.{ℕ, _≤_}
 use mathlib.Core.Path.{_≡_}

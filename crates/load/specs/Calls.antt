@@ -1,4 +1,4 @@
--- docs/SPEC.md, part 12 (S12.3): the call that makes a load: its answer, with the refusals in order, and what it leaves in the outputs.
+-- docs/SPEC.md, S6.17, S12.3: the call that makes a load: its answer, with the refusals in order, and what it leaves in the outputs.
 -- Assumes nothing.
 use Prim.Native.Nat.{ℕ}
 use mathlib.Core.List.{List}

@@ -1,4 +1,4 @@
--- docs/SPEC.md, part 12 (S12.1): the generator of the load. Every draw hands back the state of the next one.
+-- docs/SPEC.md, S12.1: the generator of the load. Every draw hands back the state of the next one.
 -- Assumes nothing.
 use Prim.Native.Nat.{ℕ, zero, suc, _+_, _*_, _/_, _%_}
 use mathlib.Core.List.{[], _∷_}

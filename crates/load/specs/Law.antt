@@ -1,5 +1,5 @@
--- docs/SPEC.md, part 12 (S12.4): what holds of a load. It is a valid array in rest form, of bytes, determined by the depth, the cell size or
--- raggedness, the shape and the start number.
+-- docs/SPEC.md, S12.4: what holds of a load.
+-- It is a valid array in rest form, of bytes, determined by the depth, the cell size or raggedness, the shape and the start number.
 -- Assumes nothing.
 use Prim.Native.Nat.{ℕ, _<_}
 use mathlib.Core.Path.{_≡_}

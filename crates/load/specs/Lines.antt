@@ -1,4 +1,4 @@
--- docs/SPEC.md, part 12 (S12.1 to S12.3): loads worked out by hand. The draws of start number 0, small tables, and the refusals in their order.
+-- docs/SPEC.md, S10.20 to S10.23: loads worked out by hand. The draws of start number 0, small tables, and the refusals in their order.
 -- Assumes nothing.
 use Prim.Native.Nat.{ℕ}
 use mathlib.Core.Path.{_≡_}

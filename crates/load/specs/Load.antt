@@ -1,4 +1,4 @@
--- docs/SPEC.md, part 12 (S12.2): the load, what a cell draws. A table is drawn cell by cell from a start number.
+-- docs/SPEC.md, S12.2: the load, what a cell draws. A table is drawn cell by cell from a start number.
 -- Assumes nothing.
 use Prim.Native.Nat.{ℕ, zero, suc, _%_}
 use mathlib.Core.List.{List, [], _∷_}

@@ -1,4 +1,4 @@
--- docs/SPEC.md, part 12 (S12.3): the rules of the call that makes a load, each with its refusal, in their order.
+-- docs/SPEC.md, S7.1 to S7.3, S12.3: the rules of the call that makes a load, each with its refusal, in their order.
 -- Assumes nothing.
 use Prim.Native.Nat.{ℕ}
 use mathlib.Core.List.{List, [], _∷_}

@@ -1,4 +1,4 @@
--- How many bits of bytes are set (docs/SPEC.md, S4.11): the sum of each byte's set bits.
+-- Redundant by the law count-left in mask/proofs/Said.antt: how many bits of bytes are set (S4.11), the sum of each byte's set bits.
 -- Assumes nothing.
 use Prim.Native.Nat.{ℕ, _+_}
 use mathlib.Core.List.{List, [], _∷_}

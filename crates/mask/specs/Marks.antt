@@ -1,4 +1,5 @@
--- docs/SPEC.md, S4.11 to S4.14: a stored mask by its place, over its form. What it says, and how many cells it sets.
+-- Redundant by the law body-is in stored/proofs/Reading.antt: a stored mask (S4.11 to S4.14) by its place, over its form.
+-- What it says, and how many cells it sets.
 -- Assumes nothing.
 use Prim.Native.Nat.{ℕ, _+_, _*_, _/_, _%_}
 use mathlib.Core.List.{List}

@@ -1,5 +1,5 @@
--- docs/SPEC.md, S3.6: the checking walk over a chunk list (refusal 4), what it answers of one chunk, and of all. proofs/Totals has that the
--- walk passes where the list has cells.
+-- Redundant by the laws found and refused in merge/proofs/Totals.antt: the checking walk over a chunk list (S3.6, refusal 4).
+-- What it answers of one chunk, and of all.
 -- Assumes nothing.
 use Prim.Native.Nat.{ℕ}
 use mathlib.Core.Bool.{Bool, _&&_}

@@ -1,4 +1,4 @@
--- docs/SPEC.md, S6.6, S7.2: a merge in steps, the checks of the chunks, then 12, then 6 and the stores. proofs/Steps has that these are the call.
+-- Redundant by the law merge-steps in merge/proofs/Steps.antt: a merge (S6.6) in steps, the checks of the chunks, then 12, then 6 and the stores.
 -- Assumes nothing.
 use mathlib.Core.Path.{_≡_}
 use Prim.Native.Nat.{ℕ, _*_, _/_, _≤_}

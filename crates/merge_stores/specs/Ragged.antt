@@ -1,4 +1,5 @@
--- docs/SPEC.md, S3.6, S3.8: ragged values of a list of chunks. How long they are, the offsets that these add up to, and what their stores ask.
+-- Redundant by the law offsets-close in merge_stores/proofs/Closing.antt: ragged values of a chunk list (S3.6, S3.8).
+-- How long they are, the offsets that these add up to, and what their stores ask: ragged-asked in merge_stores/proofs/RaggedAsks.antt.
 -- Assumes nothing.
 use mathlib.Core.Path.{_≡_}
 use Prim.Native.Nat.{ℕ, suc, _+_, _-_, _≤_, _<_}

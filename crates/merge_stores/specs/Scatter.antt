@@ -1,4 +1,4 @@
--- A merge by stores (document 01, item 6): each element is stored at its place.
+-- Redundant by the law scatter-putBack in merge_stores/proofs/Scattering.antt: a merge (S3.8) by stores, each element at its place.
 -- Assumes nothing.
 use Prim.Native.Nat.{ℕ, suc, _-_}
 use mathlib.Core.List.{List, [], _∷_, _++_}

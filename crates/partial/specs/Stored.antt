@@ -1,5 +1,5 @@
--- docs/SPEC.md, S4.3, by positions in the stored bytes (proofs/Stored's `read-found`): the index of ragged values, read where it lies, and
--- what the walks over a subset's cells ask of it.
+-- Redundant by the law cut-read in partial/proofs/Outcomes.antt: the index of ragged values (S4.3), read where it lies.
+-- What the walks over a subset's cells ask of it: read-found in partial/proofs/Stored.antt.
 -- Assumes nothing.
 use Prim.Native.Nat.{ℕ, suc, _+_, _-_, _*_, _^_, _≤_, _<_}
 use mathlib.Core.List.{List}

@@ -1,5 +1,5 @@
--- docs/SPEC.md, S1.5 and S4.8, by positions in the stored bytes (AllPlanes' `masks-are`): mask planes as they are read, outermost first, and
--- what their placing rests on.
+-- Redundant by the laws masks-are and leaves-are in planes/proofs/AllPlanes.antt: mask planes (S1.5, S4.8) as they are read.
+-- By positions in the stored bytes, outermost first; and what their placing rests on.
 -- Assumes nothing.
 use Prim.Native.Nat.{ℕ, _+_, _-_, _*_, _≤_}
 use mathlib.Core.Path.{_≡_}

@@ -1,4 +1,4 @@
--- How numbers and lists are shown.
+-- Redundant: no promise of a call rests on it, only the gate's programs do. How numbers and lists are shown.
 -- Assumes nothing.
 use Prim.Native.Nat.{ℕ, zero, suc, _+_, _≤_}
 use mathlib.Core.Bool.{cond}

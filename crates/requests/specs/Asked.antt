@@ -1,4 +1,4 @@
--- What requests ask for by numbers: the kind.
+-- Redundant: no promise of a call rests on it, only the gate's programs do. What requests ask for by numbers: the kind.
 -- Assumes nothing.
 use Prim.Native.Nat.{ℕ}
 use mathlib.Core.Path.{_≡_}

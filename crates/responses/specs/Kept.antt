@@ -1,4 +1,4 @@
--- Lists that are compared.
+-- Redundant: no promise of a call rests on it, only the gate's programs do. Lists that are compared.
 -- Assumes nothing.
 use Prim.Native.Nat.{ℕ}
 use mathlib.Core.Bool.{Bool, true, false, _&&_}

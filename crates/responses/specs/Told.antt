@@ -1,4 +1,4 @@
--- What answers tell: the lengths that calls with fewer than three outputs name, as three lengths.
+-- Redundant: no promise of a call rests on it, only the gate's programs do. The lengths that answers name, as three lengths.
 -- Assumes nothing.
 use Prim.Native.Nat.{ℕ}
 use Rattle.array.specs.Buffers.{Lengths, RaggedLengths}

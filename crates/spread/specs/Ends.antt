@@ -1,4 +1,4 @@
--- docs/SPEC.md, S4.8 and S4.9: where the cells of a plane end.
+-- Redundant by the law ends-by in decode/proofs/RaggedLaws.antt: where the cells of a plane end (S4.8, S4.9).
 -- Assumes nothing.
 use Prim.Native.Nat.{ℕ}
 use mathlib.Core.List.{List, [], _∷_}

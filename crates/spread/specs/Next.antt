@@ -1,4 +1,5 @@
--- docs/SPEC.md, S4.8: one cell of a plane, by its mark. What it gets, and where the next stored one is.
+-- Redundant by the law values-cell in spread/proofs/SpreadingValues.antt: one cell of a plane, by its mark (S4.8).
+-- What it gets, and where the next stored one is. In words: word-left there, and pair-is in spread/proofs/PairLaws.antt.
 -- Assumes nothing.
 use Prim.Native.Nat.{ℕ, _+_, _*_}
 use mathlib.Core.List.{List}

@@ -1,4 +1,4 @@
--- docs/SPEC.md, S4.8: runs of cells that are all set, or all not.
+-- Redundant by the laws set-run and null-run in spread/proofs/RunLaws.antt: runs of cells that are all set, or all not.
 -- Assumes nothing.
 use Prim.Native.Nat.{ℕ, zero, suc}
 use mathlib.Core.Bool.{Bool, true, false, Bool·beq}

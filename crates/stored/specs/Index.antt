@@ -1,5 +1,5 @@
--- docs/SPEC.md, S4.3 and S4.4, by positions in the stored bytes (IndexLaws' `read-at`): the check of ragged values. Where their index and
--- their data lie, and the last offset; or the refusal.
+-- Redundant by the law index-found in stored/proofs/CheckedIndex.antt: the check of ragged values (S4.3, S4.4), by positions in the stored bytes.
+-- Where their index and their data lie, and the last offset; or the refusal (found-refused there).
 -- Assumes nothing.
 use Prim.Native.Nat.{ℕ, suc, _+_, _-_, _*_, _≤_}
 use mathlib.Core.Path.{_≡_}

@@ -1,5 +1,5 @@
--- docs/SPEC.md, S4.7 and S4.8, by positions in the stored bytes (Reading's `read-walked`): what a walk that was not refused stands for. The
--- masks as they are stored, and the cells that they and the values make. mf is how the masks lie.
+-- Redundant by the law read-walked in stored/proofs/Reading.antt: what a walk that was not refused stands for (S4.7, S4.8), by positions.
+-- The masks as they are stored, and the cells that they and the values make. mf is how the masks lie.
 -- Assumes nothing.
 use Prim.Native.Nat.{ℕ, zero, suc, _+_, _≤_}
 use mathlib.Core.Path.{_≡_}

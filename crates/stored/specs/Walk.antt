@@ -1,6 +1,6 @@
--- docs/SPEC.md, S4.6 to S4.8, by positions in the stored bytes (Reading's `read-walked`): the checking walk. Where the innermost content
--- lies, or the refusal; a frame holds a content, and a content may be a frame again. It is the same for every form of values, and mf is how
--- the masks lie.
+-- Redundant by the law read-walked in stored/proofs/Reading.antt: the checking walk (S4.6 to S4.8), by positions in the stored bytes.
+-- Where the innermost content lies, or the refusal; a frame holds a content, and a content may be a frame again. It is the same for every form
+-- of values, and mf is how the masks lie.
 -- Assumes nothing.
 use Prim.Native.Nat.{ℕ, zero, suc, _+_, _-_}
 use mathlib.Core.List.{List}

@@ -1,4 +1,4 @@
--- What text says: digits, numbers and bytes, and where a mark stands in it.
+-- Redundant: no promise of a call rests on it, only the gate's programs do. What text says: digits, numbers and bytes, and where a mark stands.
 -- Assumes nothing.
 use Prim.Native.Nat.{ℕ, _+_, _-_, _*_, _^_}
 use mathlib.Core.Bool.{_&&_}

@@ -1,4 +1,4 @@
--- The check of an array whose kind and shape are sound (document 01, The array; refusals 4 and 5), and what the code's answer means.
+-- Redundant by the law check-then in valid/proofs/CheckLaws.antt: the check of an array whose kind and shape are sound (refusals 4 and 5).
 -- Assumes nothing.
 use Prim.Native.Nat.{ℕ}
 use Rattle.valid.specs.declared.array_bytes.Checked.{Checked}

@@ -1,6 +1,6 @@
--- docs/SPEC.md, S6.15: a kind told by numbers, depth, form, size, order and mask form. Form 0 is fixed and 1
--- ragged; size is the cell size or the index width; order 0 is little or start, 1 big or end; mask form 0 is bytes and 1 packed. A number
--- outside its range is refusal 1.
+-- docs/SPEC.md, S6.15: a kind told by numbers, depth, form, size, order and mask form.
+-- Form 0 is fixed and 1 ragged; size is the cell size or the index width; order 0 is little or start, 1 big or end; mask form 0 is bytes and 1
+-- packed. A number outside its range is refusal 1.
 -- Assumes nothing.
 use Prim.Native.Nat.{ℕ, zero, suc}
 use lib.Dec.{leb, eqb}

@@ -1,4 +1,4 @@
--- The cells of a shape, counted (document 01, The array): the count, or refusal 2. Also what the code's answer to it means.
+-- Redundant by the laws counted and not-counted in valid/proofs/ShapeLaws.antt: the cells of a shape (S1.3), counted, or refusal 2.
 -- Assumes nothing.
 use Prim.Native.Nat.{ℕ}
 use mathlib.Core.List.{List}

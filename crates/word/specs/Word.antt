@@ -1,4 +1,4 @@
--- The sizes of a machine word.
+-- Redundant by the law word-eight in word/proofs/Words.antt: the sizes of a machine word.
 -- Assumes nothing.
 use Prim.Native.Nat.{ℕ}
 use mathlib.Core.Bool.{Bool, _||_}

@@ -1,4 +1,4 @@
--- `decode` meets its contract: the stages in document 01's order (Stages).
+-- `decode` meets its contract: the stages in the order of docs/SPEC.md, S7.2 (Stages).
 -- Assumes nothing.
 use mathlib.Core.Path.{_≡_, sym, ap, _∙_, subst}
 use mathlib.Core.Bool.{true}
