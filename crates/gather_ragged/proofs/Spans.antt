@@ -8,7 +8,7 @@ use mathlib.Core.List.{List, [], _∷_, _++_, map}
 use lib.ListN.{length, take, drop, getD, length-append, length-drop}
 use lib.Seq.{drop-drop, take-add, take-all, length-take-le}
 use Rattle.array.specs.Lists.{from, joined, All}
-use Rattle.array.specs.Offsets.{last, RisingFrom, Rising, ends}
+use Rattle.array.specs.Offsets.{lastFrom, last, RisingFrom, Rising, ends}
 use Rattle.array.proofs.Geometry.{All-from}
 use Rattle.array.proofs.Lists.{from-suc}
 use Rattle.valid.proofs.CheckLaws.{last-at}
@@ -111,19 +111,6 @@ module _ {n : ℕ} {os : List ℕ} (o : Offsets n os) (masks : List ℕ) (l : �
       ∙ ap₂ (λ (a b : ℕ). take (b - a) (drop a s)) (first-zero os (o .rising)) q
       ∙ take-all (length s - 0) s (omega arith)
 
-  -- as many as the last offset says
-  pub all-spans : getD os n 0 ≡ spansOf os (liveAt n masks l)
-  all-spans =
-      let q : getD os n 0 ≡ spansOf os (from 0 n) =
-      omega (arith, first-zero os (o .rising), run 0 n (omega (arith, o .counted)), ap (λ (j : ℕ). getD os j 0) (zero-add n)) in
-      q ∙ ap (spansOf os) (sym all-live)
-    where
-      run : (i r : ℕ) → i + r < length os → getD os i 0 + spansOf os (from i r) ≡ getD os (i + r) 0
-      run i zero h = omega (arith, ap (λ (j : ℕ). getD os j 0) (add-zero i))
-      run i (suc r) h =
-          let q : i + suc r ≡ suc i + r = omega arith in
-          omega (arith, step-le os (o .rising) i (omega arith), run (suc i) r (omega arith), ap (λ (j : ℕ). getD os j 0) q)
-
   -- the offsets as they lie
   pub all-ends : os ≡ 0 ∷ endsAt os 0 (liveAt n masks l)
   all-ends =
@@ -136,3 +123,11 @@ module _ {n : ℕ} {os : List ℕ} (o : Offsets n os) (masks : List ℕ) (l : �
       run i (suc r) h =
           let q : getD os (suc i) 0 ≡ getD os i 0 + spanAt os i = omega (arith, step-le os (o .rising) i (omega arith)) in
           ap₂ (λ (x : ℕ) (r : List ℕ). x ∷ r) q (run (suc i) r (omega arith) ∙ ap (λ (x : ℕ). endsAt os x (from (suc i) r)) q)
+
+  -- as many bytes as the last offset says
+  pub all-spans : getD os n 0 ≡ spansOf os (liveAt n masks l)
+  all-spans = omega (arith, last-at os n (o .counted), ap last all-ends, sum 0 (liveAt n masks l))
+    where
+      sum : (a : ℕ) (is : List ℕ) → lastFrom a (endsAt os a is) ≡ a + spansOf os is
+      sum a [] = omega arith
+      sum a (i ∷ is) = omega (arith, sum (a + spanAt os i) is)

@@ -16,7 +16,7 @@ abbrev start : tie.After-slice-known → tie.Start
 start c = c .before .before
 
 abbrev fits : tie.After-put-u322 → tie.Else1
-fits t = t .before .before .before .before .before .before
+fits t = let u = t .before .before .before in u .before .before .before
 
 -- what is to be written
 abbrev want : tie.Start → List ℕ
