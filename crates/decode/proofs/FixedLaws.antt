@@ -191,7 +191,7 @@ module _ (mf : MaskForm) (size : ℕ) (o : Order) {d : ℕ} (s : List ℕ) {n : 
 module _ (o : Order) {x : Masks} {size d : ℕ} {s : List ℕ} {n : ℕ} {f : Found} (r : FixedFound x size d s n f) where
   -- the values are read
   abbrev given : Answer (List Value) → Answer Content
-  given y = laidOut (maskForm x) size o d s (r .limits) (andThen y (λ vs. gives (cellsFrom (maskForm x) (replicate size 0) d s 0 n vs)))
+  given y = laidOut (maskForm x) size o s (r .limits) (andThen y (λ vs. gives (cellsFrom (maskForm x) (replicate size 0) d s 0 n vs)))
 
   -- by whether the stored bytes end with the values
   by-length : {t : Bool} → eqb (length (drop (f .at) s)) (f .cells * size) ≡ t
