@@ -243,7 +243,7 @@ impl Compare {
         if answer == 0 {
             let mut hash = DefaultHasher::new();
             (kind, shape.iter().product::<u64>(), bytes).hash(&mut hash);
-            let row = &mut self.counts.again[if kind[0] == 0 { 0 } else { 1 + kind[4] as usize }];
+            let row = &mut self.counts.again[if kind[0] == 0 { 0 } else { 1 + usize::from(kind[4] == 1) }];
             row.strings += 1;
             row.distinct[0].insert(hash.finish());
             if self.damaged {
