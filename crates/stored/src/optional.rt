@@ -71,12 +71,12 @@ pub fn walk_frame(form: MaskForm, s: &[u8], at: usize, cells: usize, below: usiz
         Counted::Cells(set) => {
             let content = at + (16 + mask_length(form, cells));
             if set > 0 {
-                return walk_content(form, s, content, set, below);
+                walk_content(form, s, content, set, below)
+            } else if content != s.len() {
+                Walked::Refused(refusal::LENGTH)
+            } else {
+                Walked::Values(content, 0)
             }
-            if content != s.len() {
-                return Walked::Refused(refusal::LENGTH);
-            }
-            Walked::Values(content, 0)
         }
     }
 }

@@ -141,23 +141,23 @@ walk-frame-walk-content-requires t c κs = omega (arith, content-room t (c .befo
 
 walk-frame-returns : (t : ℕ) → walk-frame-lts.Need-returns (claims-walk-frame t) (walk-frame-at t) walk-frame.Post
 walk-frame-returns t c =
-    let m = c .before .before in
-    let s = start t (m .before) in
-    c .walk-content .ensures
-    ∙ frame-content (maskForm (masks t s)) (s .args .below) (bytes t s) (s .args .at) (s .args .cells) _ (opened-is t (m .before)) (content-is t m) (omega (arith, c .before .if1 .taken))
+    let o = c .before .before .before in
+    let s = begun t o in
+    frame-refused (maskForm (masks t s)) (s .args .below) (bytes t s) (s .args .at) (s .args .cells) _ (sym (o .open-frame .ensures) ∙ ap toldCounted (c .before .frame .given .1))
 
 walk-frame-returns-2 : (t : ℕ) → walk-frame-lts.Need-returns-2 (claims-walk-frame t) (walk-frame-at t) walk-frame.Post
 walk-frame-returns-2 t c =
     let m = c .before .before in
     let s = start t (m .before) in
-    frame-hidden (maskForm (masks t s)) (s .args .below) (bytes t s) (s .args .at) (s .args .cells) _ (opened-is t (m .before)) (content-is t m) (omega (arith, c .before .if1 .left))
-    (λ e. absurd (omega (arith, content-room t m, c .if2 .taken)))
+    c .walk-content .ensures
+    ∙ frame-content (maskForm (masks t s)) (s .args .below) (bytes t s) (s .args .at) (s .args .cells) _ (opened-is t (m .before)) (content-is t m) (omega (arith, c .before .if1 .taken))
 
 walk-frame-returns-3 : (t : ℕ) → walk-frame-lts.Need-returns-3 (claims-walk-frame t) (walk-frame-at t) walk-frame.Post
 walk-frame-returns-3 t c =
-    let o = c .before .before .before in
-    let s = begun t o in
-    frame-refused (maskForm (masks t s)) (s .args .below) (bytes t s) (s .args .at) (s .args .cells) _ (sym (o .open-frame .ensures) ∙ ap toldCounted (c .before .frame .given .1))
+    let m = c .before .before in
+    let s = start t (m .before) in
+    frame-hidden (maskForm (masks t s)) (s .args .below) (bytes t s) (s .args .at) (s .args .cells) _ (opened-is t (m .before)) (content-is t m) (omega (arith, c .before .if1 .left))
+    (λ e. absurd (omega (arith, content-room t m, c .if2 .taken)))
 
 walk-frame-returns-4 : (t : ℕ) → walk-frame-lts.Need-returns-4 (claims-walk-frame t) (walk-frame-at t) walk-frame.Post
 walk-frame-returns-4 t c =
