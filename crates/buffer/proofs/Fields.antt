@@ -17,9 +17,9 @@ module _ (w e : ℕ) (s : List ℕ) (at : ℕ) where
   unfolding fieldAt
   field-short h = rw (lt-leb w (length s - at) h)
 
-  pub field-full : (v : ℕ) → w ≤ length s - at → v ≡ unle (take w (drop at s)) → gives v ≡ fieldAt w e s at
+  pub field-full : {v : ℕ} → w ≤ length s - at → v ≡ unle (take w (drop at s)) → gives v ≡ fieldAt w e s at
   unfolding fieldAt
-  field-full v h q = rw (le-leb w (length s - at) h) (ap gives q)
+  field-full h q = rw (le-leb w (length s - at) h) (ap gives q)
 
   pub field-value : (v : ℕ) → fieldAt w e s at ≡ gives v → (w ≤ length s - at) × (v ≡ unle (take w (drop at s)))
   unfolding fieldAt

@@ -92,6 +92,6 @@ words-zero (suc n) =
     let q : 64 + n * 64 ≡ suc n * 64 = omega arith in
     ap₂ (λ (x y : List ℕ). x ++ y) (bits-zero 64) (words-zero n) ∙ replicate-append-replicate {A = ℕ} 64 (n * 64) 0 ∙ ap (λ (k : ℕ). replicate k 0) q
 
-pub none-marked : (ws : List ℕ) → ws ≡ noWords → (marksOf ws ≡ unmarked) × (length ws ≡ 1024)
+pub none-marked : {ws : List ℕ} → ws ≡ noWords → (marksOf ws ≡ unmarked) × (length ws ≡ 1024)
 unfolding noWords unmarked mostCells
-none-marked ws e = (ap marksOf e ∙ words-zero 1024, ap length e ∙ length-replicate {A = ℕ} 1024 0)
+none-marked e = (ap marksOf e ∙ words-zero 1024, ap length e ∙ length-replicate {A = ℕ} 1024 0)

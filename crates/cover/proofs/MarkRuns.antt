@@ -18,8 +18,8 @@ unfolding marking
 run-ends m i e h = let q : e - i ≡ 0 = omega arith in ap (λ (k : ℕ). marking m (from i k)) q
 
 -- n cells at once
-pub run-more : (m : List ℕ) (i n e : ℕ) → i + n ≤ e → (a : Answer (List ℕ)) → marking m (from i n) ≡ a
+pub run-more : (m : List ℕ) (i n e : ℕ) → i + n ≤ e → {a : Answer (List ℕ)} → marking m (from i n) ≡ a
     → marking m (from i (e - i)) ≡ andThen a (λ u. marking u (from (i + n) (e - (i + n))))
-run-more m i n e h a r =
+run-more m i n e h r =
     ap (marking m) (from-append i n (e - (i + n)) (i + n) (e - i) refl (omega arith)) ∙ marking-append m (from i n) (from (i + n) (e - (i + n)))
     ∙ ap (λ (x : Answer (List ℕ)). andThen x (λ u. marking u (from (i + n) (e - (i + n))))) r

@@ -22,8 +22,8 @@ use Rattle.cover.specs.Marks.{marking, toldMarks, unmarked}
 use Rattle.cover.proofs.Once.{marking-append, once-marked, once-refused, once-beyond}
 use Rattle.cover.proofs.SubsetWalk.{SubsetsLeft, rest, rest-begins, rest-ends, subsets-begin, subsets-more, subset-now, now-within, all-inside}
 
-told-by : (free : Bool) (m : List ℕ) (b : Bool) → free ≡ b → (a : Answer (List ℕ)) → toldMarks free m ≡ a → toldMarks b m ≡ a
-told-by free m b t a r = ap (λ (x : Bool). toldMarks x m) (sym t) ∙ r
+told-by : {free : Bool} (m : List ℕ) {b : Bool} → free ≡ b → {a : Answer (List ℕ)} → toldMarks free m ≡ a → toldMarks b m ≡ a
+told-by m t r = ap (λ (x : Bool). toldMarks x m) (sym t) ∙ r
 
 -- ---- one subset: its cells from `at` on are left
 
@@ -39,18 +39,18 @@ module _ (cs m₀ m : List ℕ) (cells n at : ℕ) (w : Marked cs m₀ m cells n
   unfolding marking
   marked-ends h = sym (w .same ∙ ap (marking m) (left-ends cs cells n at (w .geo) h))
 
-  module _ (h : at < cells) (a : ℕ) (e : a ≡ getD cs at 0) where
-    next : (r : Answer (List ℕ)) → r ≡ marking m (from a n) → marking m₀ cs ≡ andThen r (λ u. marking u (drop (at + n) cs))
-    next r q =
+  module _ (h : at < cells) {a : ℕ} (e : a ≡ getD cs at 0) where
+    next : {r : Answer (List ℕ)} → r ≡ marking m (from a n) → marking m₀ cs ≡ andThen r (λ u. marking u (drop (at + n) cs))
+    next q =
         w .same ∙ ap (marking m) (left-next cs cells n at (w .geo) h ∙ ap (λ (k : ℕ). from k n ++ drop (at + n) cs) (sym e))
         ∙ marking-append m (from a n) (drop (at + n) cs) ∙ ap (λ (x : Answer (List ℕ)). andThen x (λ u. marking u (drop (at + n) cs))) (sym q)
 
-    module _ (free : Bool) (m′ : List ℕ) (r : toldMarks free m′ ≡ marking m (from a n)) where
+    module _ {free : Bool} (m′ : List ℕ) (r : toldMarks free m′ ≡ marking m (from a n)) where
       pub marked-more : free ≡ true → Marked cs m₀ m′ cells n (at + n)
-      marked-more t = record { geo = left-more cs cells n at (w .geo) h; same = next (gives m′) (told-by free m′ true t (marking m (from a n)) r) }
+      marked-more t = record { geo = left-more cs cells n at (w .geo) h; same = next (told-by m′ t r) }
 
       pub marked-over : free ≡ false → refuses 12 ≡ marking m₀ cs
-      marked-over t = sym (next (refuses 12) (told-by free m′ false t (marking m (from a n)) r))
+      marked-over t = sym (next (told-by m′ t r))
 
 -- ---- all subsets: i of them are marked, and so many cells of the shape are left
 
@@ -59,21 +59,21 @@ pub record AllMarked (sh flat m : List ℕ) (count i at left : ℕ) : Type 0 whe
   pub same : marking unmarked (cellsOfAll sh (nextSubsets (length sh) count flat)) ≡ marking m (cellsOfAll sh (rest sh flat count i at))
   pub counted : length (cellsOfAll sh (nextSubsets (length sh) count flat)) + left ≡ volume sh + length (cellsOfAll sh (rest sh flat count i at))
 
-module _ (sh flat : List ℕ) (count : ℕ) (q : SubsetsOk sh flat count) where
+module _ {sh flat : List ℕ} {count : ℕ} (q : SubsetsOk sh flat count) where
   abbrev all : List ℕ
   all = cellsOfAll sh (nextSubsets (length sh) count flat)
 
   below : All (λ j. j < volume sh) all
   below = all-below sh (nextSubsets (length sh) count flat) (all-inside sh (nextSubsets (length sh) count flat) (q .each))
 
-  pub cover-begins : (m : List ℕ) (left : ℕ) → m ≡ unmarked → left ≡ volume sh → AllMarked sh flat m count 0 0 left
-  cover-begins m left e l = record {
+  pub cover-begins : {m : List ℕ} {left : ℕ} → m ≡ unmarked → left ≡ volume sh → AllMarked sh flat m count 0 0 left
+  cover-begins e l = record {
     geo = subsets-begin sh flat count q;
     same = ap₂ (λ (u : List ℕ) (bs : List Subset). marking u (cellsOfAll sh bs)) (sym e) (rest-begins sh flat count);
     counted = omega (arith, l, ap (λ (bs : List Subset). length (cellsOfAll sh bs)) (rest-begins sh flat count));
   }
 
-  module _ (m : List ℕ) (i at left : ℕ) (c : AllMarked sh flat m count i at left) where
+  module _ {m : List ℕ} {i at left : ℕ} (c : AllMarked sh flat m count i at left) where
     pub cover-ends : count ≤ i → onceTest (volume sh) all ≡ eqb left 0
     unfolding marking
     cover-ends h =
@@ -98,27 +98,27 @@ module _ (sh flat : List ℕ) (count : ℕ) (q : SubsetsOk sh flat count) where
           omega (
             arith,
             c .counted,
-            ap (λ (bs : List Subset). length (cellsOfAll sh bs)) (subset-now sh flat count i at (c .geo) h),
+            ap (λ (bs : List Subset). length (cellsOfAll sh bs)) (subset-now sh flat count (c .geo) h),
             length-append cs later,
-            within-cells sh (startsAt (length sh) at flat) (lengthsAt (length sh) at flat) (now-within sh flat count i at (c .geo) h),
+            within-cells sh (startsAt (length sh) at flat) (lengthsAt (length sh) at flat) (now-within sh flat count (c .geo) h),
           )
 
-      next-subset : (r : Answer (List ℕ)) → r ≡ marking m cs → marking unmarked all ≡ andThen r (λ u. marking u later)
-      next-subset r e =
-          c .same ∙ ap (λ (bs : List Subset). marking m (cellsOfAll sh bs)) (subset-now sh flat count i at (c .geo) h)
+      next-subset : {r : Answer (List ℕ)} → r ≡ marking m cs → marking unmarked all ≡ andThen r (λ u. marking u later)
+      next-subset e =
+          c .same ∙ ap (λ (bs : List Subset). marking m (cellsOfAll sh bs)) (subset-now sh flat count (c .geo) h)
           ∙ marking-append m cs later ∙ ap (λ (x : Answer (List ℕ)). andThen x (λ u. marking u later)) (sym e)
 
-      pub cover-over : (m′ : List ℕ) (free : Bool) → toldMarks free m′ ≡ marking m cs → free ≡ false → onceTest (volume sh) all ≡ false
-      cover-over m′ free r t = once-refused (volume sh) all (q .shaped .few-cells) below (sym (next-subset (refuses 12) (told-by free m′ false t (marking m cs) r)))
+      pub cover-over : (m′ : List ℕ) {free : Bool} → toldMarks free m′ ≡ marking m cs → free ≡ false → onceTest (volume sh) all ≡ false
+      cover-over m′ {free} r t = once-refused (volume sh) all (q .shaped .few-cells) below (sym (next-subset (told-by m′ t r)))
 
-      module _ (cells : ℕ) (v : cells ≡ volume (lengthsAt (length sh) at flat)) where
+      module _ {cells : ℕ} (v : cells ≡ volume (lengthsAt (length sh) at flat)) where
         pub cover-beyond : left < cells → onceTest (volume sh) all ≡ false
         cover-beyond l = once-beyond (volume sh) all (q .shaped .few-cells) below (omega (arith, next-left))
 
-        pub cover-more : cells ≤ left → (m′ : List ℕ) (free : Bool) → toldMarks free m′ ≡ marking m cs → free ≡ true
+        pub cover-more : cells ≤ left → (m′ : List ℕ) {free : Bool} → toldMarks free m′ ≡ marking m cs → free ≡ true
             → AllMarked sh flat m′ count (i + 1) (at + length sh + length sh) (left - cells)
-        cover-more l m′ free r t = record {
-          geo = subsets-more sh flat count i at (c .geo) h;
-          same = next-subset (gives m′) (told-by free m′ true t (marking m cs) r);
+        cover-more l m′ {free} r t = record {
+          geo = subsets-more sh flat count (c .geo) h;
+          same = next-subset (told-by m′ t r);
           counted = omega (arith, next-left);
         }

@@ -79,27 +79,27 @@ bits-fit (suc n) b w w′ f l e s =
     bits-fit n (suc b) (w + 2 ^ b) w′ (bit-fits 64 w b f (omega arith) (first-clear w b n e)) (omega arith)
     (others-clear w b n (omega arith) e) (others-sum w b n w′ s)
 
-bits-mark : (n q b : ℕ) (ws : List ℕ) (w w′ : ℕ) → getD ws q 0 ≡ w → q < length ws → b + n ≤ 64 → Clear w b n → w′ + 2 ^ b ≡ w + 2 ^ (b + n)
+bits-mark : (n q b : ℕ) (ws : List ℕ) {w : ℕ} (w′ : ℕ) → getD ws q 0 ≡ w → q < length ws → b + n ≤ 64 → Clear w b n → w′ + 2 ^ b ≡ w + 2 ^ (b + n)
     → marking (marksOf ws) (from (q * 64 + b) n) ≡ gives (marksOf (set ws q w′))
 unfolding marking
-bits-mark zero q b ws w w′ i h l e s =
+bits-mark zero q b ws {w} w′ i h l e s =
     let r : getD ws q 0 ≡ w′ = omega (arith, i, no-sum w b w′ s) in
     ap (λ (v : List ℕ). gives (marksOf v)) (sym (set-getD ws q 0) ∙ ap (set ws q) r)
-bits-mark (suc n) q b ws w w′ i h l e s =
+bits-mark (suc n) q b ws {w} w′ i h l e s =
     let z : getD (marksOf ws) (q * 64 + b) 0 ≡ 0 = marks-at ws q b h (omega arith) ∙ ap (λ (x : ℕ). getD (bitsOf 64 x) b 0) i ∙ first-clear w b n e in
     let r : suc (q * 64 + b) ≡ q * 64 + suc b = omega arith in
     ap (λ (t : Bool). unless t 12 (marking (set (marksOf ws) (q * 64 + b) 1) (from (suc (q * 64 + b)) n))) (eq-eqb (getD (marksOf ws) (q * 64 + b) 0) 0 z)
     ∙ ap₂ (λ (m : List ℕ) (k : ℕ). marking m (from k n))
     (sym (marks-set ws q b (w + 2 ^ b) h (omega arith) (bit-set 64 w b (omega arith) (first-clear w b n e) ∙ ap (λ (x : ℕ). set (bitsOf 64 x) b 1) (sym i)))) r
-    ∙ bits-mark n q (suc b) (set ws q (w + 2 ^ b)) (w + 2 ^ b) w′ (getD-set-same ws q (w + 2 ^ b) 0 h) (omega (arith, length-set ws q (w + 2 ^ b))) (omega arith)
+    ∙ bits-mark n q (suc b) (set ws q (w + 2 ^ b)) w′ (getD-set-same ws q (w + 2 ^ b) 0 h) (omega (arith, length-set ws q (w + 2 ^ b))) (omega arith)
     (others-clear w b n (omega arith) e) (others-sum w b n w′ s)
     ∙ ap (λ (v : List ℕ). gives (marksOf v)) (set-set ws q (w + 2 ^ b) w′)
 
 -- ---- what the code computes
 
 -- how far a run from i up to e goes in the word of i
-pub in-word : (i e n : ℕ) → i < e → n ≡ min (64 - i % 64) (e - i) → (1 ≤ n) × (i % 64 + n ≤ 64) × (i + n ≤ e)
-in-word i e n h q =
+pub in-word : (i e : ℕ) {n : ℕ} → i < e → n ≡ min (64 - i % 64) (e - i) → (1 ≤ n) × (i % 64 + n ≤ 64) × (i + n ≤ e)
+in-word i e h q =
     let l : i % 64 < 64 = mod-lt i (omega arith) in
     let some : 1 ≤ min (64 - i % 64) (e - i) = le-min (omega arith) (omega arith) in (
       omega (arith, some),
@@ -135,7 +135,7 @@ module _ (ws : List ℕ) (i n : ℕ) (h : i / 64 < length ws) (l : i % 64 + n �
   unfolding bitsAt
   run-stops f = stops (marksOf ws) n i (word / 2 ^ (i % 64)) mark-in-word f
 
-  module _ (v : ℕ) (o : v ≡ 2 ^ n - 1) (e : bitsAt ws i n ≡ 0) where
+  module _ {v : ℕ} (o : v ≡ 2 ^ n - 1) (e : bitsAt ws i n ≡ 0) where
     clear-bits : Clear word (i % 64) n
     unfolding bitsAt
     clear-bits j k =
@@ -157,4 +157,4 @@ module _ (ws : List ℕ) (i n : ℕ) (h : i / 64 < length ws) (l : i % 64 + n �
     pub run-marked : gives (marksOf (set ws (i / 64) (word + v * 2 ^ (i % 64) % 2 ^ 64))) ≡ marking (marksOf ws) (from i n)
     run-marked =
         sym (ap (λ (k : ℕ). marking (marksOf ws) (from k n)) (sym (div-add-mod' i 64))
-        ∙ bits-mark n (i / 64) (i % 64) ws word (word + v * 2 ^ (i % 64) % 2 ^ 64) refl h l clear-bits sum)
+        ∙ bits-mark n (i / 64) (i % 64) ws {w = word} (word + v * 2 ^ (i % 64) % 2 ^ 64) refl h l clear-bits sum)

@@ -44,7 +44,7 @@ module _ (sh flat : List ℕ) (count : ℕ) where
   rest-ends i at h = let z : count - i ≡ 0 = omega arith in ap (λ (k : ℕ). nextSubsets (length sh) k (drop at flat)) z
 
   -- the next one is what a call is lent: startsAt, lengthsAt
-  module _ (i at : ℕ) (c : SubsetsLeft sh flat count i at) (h : i < count) where
+  module _ {i at : ℕ} (c : SubsetsLeft sh flat count i at) (h : i < count) where
     abbrev d : ℕ
     d = length sh
 

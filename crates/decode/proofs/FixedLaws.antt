@@ -115,23 +115,23 @@ module _ (o : Order) {x : Masks} {size d : ℕ} {s : List ℕ} {n : ℕ} {f : Fo
   fixed-short-values h off = short-values (content o r) m v off (omega (arith, values-long o r))
 
   module _ (h : d * n ≤ length m) (i : n * size ≤ length v) where
-    written : (m′ v′ : List ℕ) → m′ ≡ over (content o r .masks) m → v′ ≡ over (content o r .values) v → (off : List ℕ)
+    written : {m′ v′ : List ℕ} → m′ ≡ over (content o r .masks) m → v′ ≡ over (content o r .values) v → (off : List ℕ)
         → outcomeArray (Lengths (d * n) (n * size) 0) m′ v′ off ≡ readOutcome (contentArray m v off) (gives (content o r))
-    written m′ v′ em ev off =
+    written {m′} {v′} em ev off =
         let lm : length (content o r .masks) ≡ d * n = masks-long o r in
         let lv : length (content o r .values) ≡ n * size = values-long o r in
         let lo : length (content o r .offsets) ≡ 0 = ap length (no-offsets o r) in
-        all-written (content o r) m v off (omega arith) (omega arith) (omega arith) (d * n) (n * size) 0 m′ v′ off (sym lm) (sym lv) (sym lo) em ev
+        all-written (content o r) m v off (omega arith) (omega arith) (omega arith) (sym lm) (sym lv) (sym lo) em ev
         (ap (λ (p : List ℕ). over p off) (sym (no-offsets o r)))
 
     flat-written : d ≡ 0 → {v′ : List ℕ} → v′ ≡ over (cellsLeft size o s (f .cells) (f .at)) v → (off : List ℕ)
         → outcomeArray (Lengths (d * n) (n * size) 0) m v′ off ≡ readOutcome (contentArray m v off) (gives (content o r))
-    flat-written e {v′} ev = written m v′ (ap (λ (p : List ℕ). over p m) (sym (flat-masks o r e))) (ev ∙ ap (λ (p : List ℕ). over p v) (sym (flat-values o r e)))
+    flat-written e {v′} ev = written (ap (λ (p : List ℕ). over p m) (sym (flat-masks o r e))) (ev ∙ ap (λ (p : List ℕ). over p v) (sym (flat-values o r e)))
 
     -- m′ has the planes, and from the innermost of them the values are spread
     module _ (g : d ≢ 0) {m′ : List ℕ} (em : m′ ≡ over (planesIn (maskForm x) s n (d - 1)) m) where
       innermost : take n (drop (d * n - n) m′) ≡ plane o r
-      innermost = innermost-read x s n d (r .limits .some) (r .masks) g m m′ em
+      innermost = innermost-read x s n d (r .limits .some) (r .masks) g m em
 
       pub values-within : length m′ ≡ length m → ValuesWithin v m′ (d * n - n) n s (f .at) size (f .cells)
       values-within e = record {
@@ -144,7 +144,7 @@ module _ (o : Order) {x : Masks} {size d : ℕ} {s : List ℕ} {n : ℕ} {f : Fo
       pub deep-written : {v′ : List ℕ} → v′ ≡ over (valuesOver size o (take n (drop (d * n - n) m′)) (drop (f .at) s)) v → (off : List ℕ)
           → outcomeArray (Lengths (d * n) (n * size) 0) m′ v′ off ≡ readOutcome (contentArray m v off) (gives (content o r))
       deep-written {v′} ev =
-          written m′ v′ (em ∙ ap (λ (p : List ℕ). over p m) (sym (fixed-masks o r g)))
+          written (em ∙ ap (λ (p : List ℕ). over p m) (sym (fixed-masks o r g)))
           (ev ∙ ap (λ (p : List ℕ). over (valuesOver size o p (drop (f .at) s)) v) innermost ∙ ap (λ (p : List ℕ). over p v) (sym (fixed-values o r g)))
 
 -- ---- what the copying rests on, by the walk
@@ -173,21 +173,21 @@ unfolding getValues
 fixed-any size o q zero h = sym (ap (λ (t : Bool). unless t 8 (gives [])) (eq-eqb (length q) (0 * size) (h refl ∙ sym (zero-mul size))))
 fixed-any size o q (suc k) h = refl
 
-module _ (mf : MaskForm) (size : ℕ) (o : Order) (d : ℕ) (s : List ℕ) {n : ℕ} (l : Limited d n) where
+module _ (mf : MaskForm) (size : ℕ) (o : Order) {d : ℕ} (s : List ℕ) {n : ℕ} (l : Limited d n) where
   abbrev form : Form
   form = fixed size o
 
   abbrev laidOut : Answer (List (Cell d)) → Answer Content
   laidOut a = andThen a (λ cs. gives (layout form d cs))
 
-  reads : (w : Answer (ℕ × ℕ)) → walked mf d s 0 n ≡ w → readIn mf form d n s ≡ laidOut (andThen w (answerBy mf (replicate size 0) (getValues form) d s 0 n))
+  reads : {w : Answer (ℕ × ℕ)} → walked mf d s 0 n ≡ w → readIn mf form d n s ≡ laidOut (andThen w (answerBy mf (replicate size 0) (getValues form) d s 0 n))
   unfolding readIn
-  reads w e =
+  reads e =
       ap laidOut (read-walked mf (replicate size 0) (getValues form) d s 0 n (l .some)
       ∙ ap (λ (y : Answer (ℕ × ℕ)). andThen y (answerBy mf (replicate size 0) (getValues form) d s 0 n)) e)
 
   pub fixed-refused : (e : ℕ) → walked mf d s 0 n ≡ refuses e → readIn mf form d n s ≡ refuses e
-  fixed-refused e h = reads (refuses e) h
+  fixed-refused e h = reads h
 
 module _ (o : Order) {x : Masks} {size d : ℕ} {s : List ℕ} {n : ℕ} {f : Found} (r : FixedFound x size d s n f) where
   -- the values are read
@@ -195,20 +195,20 @@ module _ (o : Order) {x : Masks} {size d : ℕ} {s : List ℕ} {n : ℕ} {f : Fo
   given y = laidOut (maskForm x) size o d s (r .limits) (andThen y (λ vs. gives (cellsFrom (maskForm x) (replicate size 0) d s 0 n vs)))
 
   -- by whether the stored bytes end with the values
-  by-length : (t : Bool) → eqb (length (drop (f .at) s)) (f .cells * size) ≡ t
+  by-length : {t : Bool} → eqb (length (drop (f .at) s)) (f .cells * size) ≡ t
       → readIn (maskForm x) (fixed size o) d n s ≡ given (unless t 8 (gives (map (ordered o) (pieces size (f .cells) (drop (f .at) s)))))
   unfolding getValues
-  by-length t e =
-      reads (maskForm x) size o d s (r .limits) (gives (f .at, f .cells)) (r .walk)
+  by-length {t} e =
+      reads (maskForm x) size o s (r .limits) (r .walk)
       ∙ ap given (fixed-any size o (drop (f .at) s) (f .cells) (λ z. length-drop (f .at) s ∙ found-passed r .none-left z)
       ∙ ap (λ (t : Bool). unless t 8 (gives (map (ordered o) (pieces size (f .cells) (drop (f .at) s))))) e)
 
   pub fixed-length : length s - f .at ≢ f .cells * size → readIn (maskForm x) (fixed size o) d n s ≡ refuses 8
-  fixed-length g = by-length false (ne-eqb (length (drop (f .at) s)) (f .cells * size) (λ e. g (sym (length-drop (f .at) s) ∙ e)))
+  fixed-length g = by-length (ne-eqb (length (drop (f .at) s)) (f .cells * size) (λ e. g (sym (length-drop (f .at) s) ∙ e)))
 
   pub fixed-given : length s - f .at ≡ f .cells * size → readIn (maskForm x) (fixed size o) d n s ≡ gives (fixedFrom (maskForm x) size o d s n f)
   unfolding fixedFrom
-  fixed-given g = by-length true (eq-eqb (length (drop (f .at) s)) (f .cells * size) (length-drop (f .at) s ∙ g))
+  fixed-given g = by-length (eq-eqb (length (drop (f .at) s)) (f .cells * size) (length-drop (f .at) s ∙ g))
 
 -- ---- with no mask the values are all that is stored
 

@@ -56,8 +56,8 @@ module _ (c : Content) (m v o : List ℕ) where
   pub short-offsets : length o < length (c .offsets) → outcomeArray (Refused 6) m v o ≡ readOutcome (contentArray m v o) (gives c)
   short-offsets h = ap (λ (a : Answer Content). contentOutcome a (contentArray m v o)) (sym (offsets-short (contentArray m v o) c h))
 
-  pub all-written : length (c .masks) ≤ length m → length (c .values) ≤ length v → length (c .offsets) ≤ length o → (a b e : ℕ) (m′ v′ o′ : List ℕ)
+  pub all-written : length (c .masks) ≤ length m → length (c .values) ≤ length v → length (c .offsets) ≤ length o → {a b e : ℕ} {m′ v′ o′ : List ℕ}
       → a ≡ length (c .masks) → b ≡ length (c .values) → e ≡ length (c .offsets) → m′ ≡ over (c .masks) m → v′ ≡ over (c .values) v → o′ ≡ over (c .offsets) o
       → outcomeArray (Lengths a b e) m′ v′ o′ ≡ readOutcome (contentArray m v o) (gives c)
-  all-written h i j a b e m′ v′ o′ ea eb ee em ev eo =
+  all-written h i j ea eb ee em ev eo =
       rw (ea, eb, ee, em, ev, eo) (ap (λ (x : Answer Content). contentOutcome x (contentArray m v o)) (sym (all-fit (contentArray m v o) c h i j)))

@@ -123,7 +123,7 @@ module _ {x : Masks} {w d : ℕ} {s : List ℕ} {n : ℕ} {i : Index} (r : Ragge
 abbrev pub nothing : Index
 nothing = record { cells = 0; index = 0; from = 0; last = 0 }
 
-module _ (x : Masks) {d : ℕ} (s : List ℕ) {n : ℕ} (l : Limited d n) (w : ℕ) {a k : ℕ} (q : WalkPassed x d s 0 n a k) where
+module _ {x : Masks} {d : ℕ} {s : List ℕ} {n : ℕ} (l : Limited d n) (w : ℕ) {a k : ℕ} (q : WalkPassed x d s 0 n a k) where
   pub none-within : w ≤ 8 → d ≢ 0 → k ≡ 0 → RaggedWithin x w d s n nothing
   none-within h g e =
       let mask = within-now (maskForm x) d s 0 n (q .within) g (λ z. absurd (omega (arith, l .some))) in
@@ -146,41 +146,41 @@ module _ (mf : MaskForm) (w : ℕ) (p : Place) (s : List ℕ) (d n : ℕ) (some 
   abbrev laidOut : Answer (List (Cell d)) → Answer Content
   laidOut a = andThen a (λ cs. gives (layout form d cs))
 
-  reads : (y : Answer (ℕ × ℕ)) → walked mf d s 0 n ≡ y → readIn mf form d n s ≡ laidOut (andThen y (answerBy mf [] (getValues form) d s 0 n))
+  reads : {y : Answer (ℕ × ℕ)} → walked mf d s 0 n ≡ y → readIn mf form d n s ≡ laidOut (andThen y (answerBy mf [] (getValues form) d s 0 n))
   unfolding readIn
-  reads y e =
+  reads e =
       ap laidOut (read-walked mf [] (getValues form) d s 0 n some ∙ ap (λ (z : Answer (ℕ × ℕ)). andThen z (answerBy mf [] (getValues form) d s 0 n)) e)
 
   pub ragged-refused : (e : ℕ) → walked mf d s 0 n ≡ refuses e → readIn mf form d n s ≡ refuses e
-  ragged-refused e h = reads (refuses e) h
+  ragged-refused e h = reads h
 
   -- what the walk found: where the values begin, and of how many cells
   module _ {a k : ℕ} (h : walked mf d s 0 n ≡ gives (a, k)) where
     pub ragged-none-set : k ≡ 0 → readIn mf form d n s ≡ gives (nestedFrom mf w d s n nothing)
     unfolding nestedFrom
-    ragged-none-set e = reads (gives (a, k)) h ∙ ap (λ (j : ℕ). laidOut (answerBy mf [] (getValues form) d s 0 n (a, j))) e
+    ragged-none-set e = reads h ∙ ap (λ (j : ℕ). laidOut (answerBy mf [] (getValues form) d s 0 n (a, j))) e
 
     -- the cells of the ragged values y
     abbrev given : Answer RaggedContent → Answer Content
     given y = laidOut (andThen (andThen y (λ c. gives (slices (c .offsets) (c .values)))) (λ vs. gives (cellsFrom mf [] d s 0 n vs)))
 
     module _ (f : 1 ≤ k) where
-      values-read : (y : Answer RaggedContent) → getRagged w p (drop a s) k ≡ y → readIn mf form d n s ≡ given y
+      values-read : {y : Answer RaggedContent} → getRagged w p (drop a s) k ≡ y → readIn mf form d n s ≡ given y
       unfolding getValues
-      values-read y g =
-          reads (gives (a, k)) h
+      values-read g =
+          reads h
           ∙ ap (λ (v : Answer (List Value)). laidOut (andThen v (λ vs. gives (cellsFrom mf [] d s 0 n vs)))) (innermost-some (getValues form (drop a s)) k f) ∙ ap given g
 
       pub ragged-wrong : (e : ℕ) → getRagged w p (drop a s) k ≡ refuses e → readIn mf form d n s ≡ refuses e
-      ragged-wrong e g = values-read (refuses e) g
+      ragged-wrong e g = values-read g
 
       pub ragged-given : {i : Index} → IndexChecked w p s a k i → readIn mf form d n s ≡ gives (nestedFrom mf w d s n i)
       unfolding nestedFrom
       ragged-given {i} c =
-          values-read (gives (raggedAt w s i)) (c .gave)
+          values-read (c .gave)
           ∙ ap (λ (os : List ℕ). laidOut (gives (cellsFrom mf [] d s 0 n (slices os (take (i .last) (drop (i .from) s)))))) (c .offsets-are)
 
 -- with no mask
 module _ (mf : MaskForm) (w : ℕ) (p : Place) (s : List ℕ) (n : ℕ) where
-  pub flat-is : (y : Answer RaggedContent) → getRagged w p s n ≡ y → readIn mf (ragged w p) 0 n s ≡ andThen y (λ c. gives (unmasked c))
-  flat-is y g = flat-read w p mf n s ∙ ap (λ (z : Answer RaggedContent). andThen z (λ c. gives (unmasked c))) g
+  pub flat-is : {y : Answer RaggedContent} → getRagged w p s n ≡ y → readIn mf (ragged w p) 0 n s ≡ andThen y (λ c. gives (unmasked c))
+  flat-is g = flat-read w p mf n s ∙ ap (λ (z : Answer RaggedContent). andThen z (λ c. gives (unmasked c))) g

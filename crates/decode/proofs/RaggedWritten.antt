@@ -47,7 +47,7 @@ module _ {w : ℕ} {s : List ℕ} {i : Index} (r : IndexWithin w s i) (v off : L
   pub flat-written : i .last ≤ length v → i .cells + 1 ≤ length off → {v′ o′ : List ℕ} → v′ ≡ over (flat .values) v → o′ ≡ over (flat .offsets) off → (m : List ℕ)
       → outcomeArray (Lengths 0 (i .last) (i .cells + 1)) m v′ o′ ≡ readOutcome (contentArray m v off) (gives flat)
   flat-written h j {v′} {o′} ev eo m =
-      all-written flat m v off (omega arith) (omega (arith, flat-values)) (omega (arith, flat-offsets)) 0 (i .last) (i .cells + 1) m v′ o′ refl (sym flat-values) (sym flat-offsets) refl ev eo
+      all-written flat m v off (omega arith) (omega (arith, flat-values)) (omega (arith, flat-offsets)) {a = 0} {m′ = m} refl (sym flat-values) (sym flat-offsets) refl ev eo
 
 -- ---- below masks
 
@@ -64,7 +64,7 @@ module _ {x : Masks} {w d : ℕ} {s : List ℕ} {n : ℕ} {i : Index} (r : Ragge
   -- m′ has the planes
   module _ {m′ : List ℕ} (em : m′ ≡ over (planesIn (maskForm x) s n (d - 1)) m) where
     innermost : take n (drop (d * n - n) m′) ≡ innermostIn (maskForm x) s n (d - 1)
-    innermost = innermost-read x s n d (r .limits .some) (r .masks) g m m′ em
+    innermost = innermost-read x s n d (r .limits .some) (r .masks) g m em
 
     pub nested-set : i .cells ≡ countSet (take n (drop (d * n - n) m′))
     nested-set = nested-count r g ∙ ap countSet (sym innermost)
@@ -78,7 +78,7 @@ module _ {x : Masks} {w d : ℕ} {s : List ℕ} {n : ℕ} {i : Index} (r : Ragge
         let lm : length (content r g .masks) ≡ d * n = nested-masks-long r g in
         let lv : length (content r g .values) ≡ i .last = nested-values-long r g in
         let lo : length (content r g .offsets) ≡ n + 1 = nested-offsets-long r g in
-        all-written (content r g) m v off (omega arith) (omega arith) (omega arith) (d * n) (i .last) (n + 1) m′ v′ o′ (sym lm) (sym lv) (sym lo)
+        all-written (content r g) m v off (omega arith) (omega arith) (omega arith) (sym lm) (sym lv) (sym lo)
         (em ∙ ap (λ (p : List ℕ). over p m) (sym (nested-masks r g)))
         (ev ∙ ap (λ (p : List ℕ). over p v) (sym (nested-values r g)))
         (eo ∙ ap (λ (y : ℕ). over (0 ∷ endsBy 0 (take n (drop (d * n - n) m′)) (offsetsIn w (countSet (take n (drop (d * n - n) m′))) (drop (i .index + y) s))) off) ez

@@ -61,7 +61,7 @@ module _ (k : Kind) (shape s m v o : List ℕ) where
     unfolding decoded decodeAnswer
     by-shape f = rw (e, f)
 
-    pub by-reading : (n : ℕ) → ShapeCounted shape n → (f : Form) → k .form ≡ f
+    pub by-reading : {n : ℕ} → ShapeCounted shape n → {f : Form} → k .form ≡ f
         → decoded k shape s (contentArray m v o) ≡ readOutcome (contentArray m v o) (readIn (maskForm (k .masks)) f (k .depth) n s)
     unfolding decoded decodeAnswer
-    by-reading n c f ef = rw (e, c .passes, ef, c .is)
+    by-reading c ef = rw (e, c .passes, ef, c .is)

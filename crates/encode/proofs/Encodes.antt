@@ -74,7 +74,7 @@ module _ (k : Kind) (shape : List ℕ) (c : Content) (out : List ℕ) where
 
 module _ {k : Kind} {n : ℕ} {c : Content} (h : Encodable k n c) where
   is-stored : storedForm k n c ≡ storedFrom k n c (k .depth)
-  is-stored = stored-by k n c (h .content) (h .some)
+  is-stored = stored-by (h .content) (h .some)
 
   module _ (out : List ℕ) {need : ℕ} (e : need ≡ lengthFrom k n (c .masks) (c .offsets) (k .depth)) where
     need-is : length (storedFrom k n c (k .depth)) ≡ need

@@ -12,8 +12,8 @@ use Rattle.codec.specs.Frame.{wrap}
 use Rattle.gather.proofs.Placing.{at-front}
 
 -- what was written, under another name
-pub told-as : (x y : List ℕ) (at : ℕ) (out : List ℕ) {r : ℕ} {o : List ℕ} → (r ≡ length x) × (o ≡ overAt at x out) → x ≡ y → (r ≡ length y) × (o ≡ overAt at y out)
-told-as x y at out p e = (p .0 ∙ ap length e, p .1 ∙ ap (λ (s : List ℕ). overAt at s out) e)
+pub told-as : {x y : List ℕ} (at : ℕ) (out : List ℕ) {r : ℕ} {o : List ℕ} → (r ≡ length x) × (o ≡ overAt at x out) → x ≡ y → (r ≡ length y) × (o ≡ overAt at y out)
+told-as {x = x} {y = y} at out p e = (p .0 ∙ ap length e, p .1 ∙ ap (λ (s : List ℕ). overAt at s out) e)
 
 -- a frame: the content, then its mask, then the two lengths
 pub frame-laid : (at : ℕ) (mask content out : List ℕ) {n m : ℕ} {o1 o2 o3 o4 : List ℕ} → length mask ≡ n → length content ≡ m → at + (16 + n + m) ≤ length out

@@ -84,20 +84,19 @@ values-long (ragged w q) n c l p =
     ragged-long w q (c .masks) l (record { counted = p .0; rising = p .1 }) (c .values) (p .2) {count = length (liveAt n (c .masks) l)} refl refl refl
     ∙ ap (λ (m : ℕ). 8 + w * m + spansOf (c .offsets) (liveAt n (c .masks) l)) (add-one (length (liveAt n (c .masks) l)))
 
-or-nothing : {A : Type 0} (f : List A → List ℕ) (is : List A) (x : ℕ) → length (f is) ≡ x → length (unlessNone f is) ≡ orNothing (length is) x
-or-nothing f [] x e = refl
-or-nothing f (i ∷ is) x e = e
+or-nothing : {A : Type 0} (f : List A → List ℕ) (is : List A) {x : ℕ} → length (f is) ≡ x → length (unlessNone f is) ≡ orNothing (length is) x
+or-nothing f [] {x = x} e = refl
+or-nothing f (i ∷ is) {x = x} e = e
 
 pub stored-long : (k : Kind) (n : ℕ) (c : Content) → ValuesOk (k .form) n c → (left : ℕ) → length (storedFrom k n c left) ≡ lengthFrom k n (c .masks) (c .offsets) left
 unfolding storedFrom lengthFrom
 stored-long k n c p zero =
     let live : List ℕ = liveAt n (c .masks) (k .depth) in
-    or-nothing (λ is. putValues (k .form) (map (valueAt (k .form) c) is)) live (valuesLengthAt (k .form) (c .offsets) live) (values-long (k .form) n c (k .depth) p)
+    or-nothing (λ is. putValues (k .form) (map (valueAt (k .form) c) is)) live (values-long (k .form) n c (k .depth) p)
 stored-long k n c p (suc left) =
     let l : ℕ = levelOf k (suc left) in
     let live : List ℕ = liveAt n (c .masks) l in
     or-nothing (λ is. wrap (maskForm (k .masks) .put (masksAt n (c .masks) l is)) (storedFrom k n c left)) live
-    (16 + maskForm (k .masks) .size (length live) + lengthFrom k n (c .masks) (c .offsets) left)
     (length-wrap (maskFrom k n c (suc left)) (storedFrom k n c left)
     ∙ ap₂ (λ (a b : ℕ). 16 + a + b) (live-mask-long (k .masks) n (c .masks) l) (stored-long k n c p left))
 
@@ -138,7 +137,7 @@ module _ (k : Kind) (n : ℕ) (masks os : List ℕ) where
 
 module _ (k : Kind) (z : k .depth ≡ 0) {n : ℕ} (h : 1 ≤ n) where
   all-there : (masks : List ℕ) → length (liveAt n masks (levelOf k (k .depth))) ≢ 0
-  all-there masks e = omega (arith, count-all n masks (levelOf k (k .depth)) (omega arith))
+  all-there masks e = omega (arith, count-all n masks {l = levelOf k (k .depth)} (omega arith))
 
   pub flat-length : (masks os : List ℕ) → valuesLengthAt (k .form) os (liveAt n masks (k .depth)) ≡ lengthFrom k n masks os (k .depth)
   flat-length masks os = length-values k n masks os (k .depth) z (all-there masks)

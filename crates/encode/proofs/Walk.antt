@@ -62,9 +62,9 @@ values-at (ragged w q) n c p = go (c .offsets) (p .0)
         slices-at a bs (c .values) ∙ ap (λ (m : ℕ). map (sliceAt (a ∷ bs) (c .values)) (from 0 m)) e′
 
 -- the cells of valid content, each by its number
-cells-at : (k : Kind) (n : ℕ) (c : Content) → ContentOk k n c
+cells-at : {k : Kind} {n : ℕ} {c : Content} → ContentOk k n c
     → cellsOf k n c ≡ map (cellAt n (c .masks) (valueAt (k .form) c) (k .depth) 0) (from 0 n)
-cells-at k n c p =
+cells-at {k} {n} {c} p =
     ap₂ (λ (ps : List ℕ) (vs : List Value). attach (k .depth) n ps vs) (ap (λ (m : ℕ). drop m (c .masks)) (sym (zero-mul n))) (values-at (k .form) n c (p .values-fit))
     ∙ attach-at n (c .masks) (valueAt (k .form) c) (k .depth) 0 (p .masks-fit ∙ ap (λ (m : ℕ). m * n) (sym (zero-add (k .depth))))
 
@@ -122,10 +122,10 @@ unless-some f g zero h = absurd (omega arith)
 unless-some f g (suc n) h = refl
 
 -- with all levels left it is the stored form
-pub stored-by : (k : Kind) (n : ℕ) (c : Content) → ContentOk k n c → 1 ≤ n → storedForm k n c ≡ storedFrom k n c (k .depth)
-stored-by k n c ok some =
+pub stored-by : {k : Kind} {n : ℕ} {c : Content} → ContentOk k n c → 1 ≤ n → storedForm k n c ≡ storedFrom k n c (k .depth)
+stored-by {k} {n} {c} ok some =
     let z : 0 ≡ levelOf k (k .depth) = omega arith in
-    ap (framed k n c (k .depth)) (cells-at k n c ok)
+    ap (framed k n c (k .depth)) (cells-at ok)
     ∙ sym (unless-some (framed k n c (k .depth)) (cell k n c (k .depth) 0) n some)
     ∙ ap (λ (is : List ℕ). unlessNone (framed k n c (k .depth)) (map (cell k n c (k .depth) 0) is)) (sym (live-all n (c .masks)))
     ∙ ap (λ (l : ℕ). unlessNone (framed k n c (k .depth)) (map (cell k n c (k .depth) l) (liveAt n (c .masks) l))) z

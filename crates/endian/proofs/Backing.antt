@@ -64,7 +64,7 @@ module _ {d : List ℕ} {to : ℕ} {s : List ℕ} {at k : ℕ} {out : List ℕ} 
         all = omega (arith, l .all);
         room = l .room;
         source = l .source;
-        here = e ∙ ap (overAt (to + i) g) (l .here) ∙ over-next to i x g d (omega (arith, l .room)) long
+        here = e ∙ ap (overAt (to + i) g) (l .here) ∙ over-next to x g d (omega (arith, l .room)) long
             ∙ ap (λ (w : List ℕ). overAt to w d)
             (sym (ap (λ (j : ℕ). reverse (take j (drop (at + (left - m)) s))) n ∙ reverse-add m i (drop (at + (left - m)) s)
             ∙ ap (λ (r : List ℕ). reverse (take i r) ++ g) (drop-drop m (at + (left - m)) s ∙ ap (λ (j : ℕ). drop j s) f)));
@@ -80,7 +80,7 @@ pub two-parts : (d : List ℕ) (to : ℕ) (s : List ℕ) (at m : ℕ) → to + (
 two-parts d to s at m p q e f =
     let x : List ℕ = reverse (take m (drop (at + m) s)) in
     let y : List ℕ = reverse (take m (drop at s)) in
-    f ∙ ap (overAt (to + m) y) e ∙ over-next to m x y d (omega arith) (length-back s (at + m) m (omega arith))
+    f ∙ ap (overAt (to + m) y) e ∙ over-next to x y d (omega arith) (length-back s (at + m) m (omega arith))
     ∙ ap (λ (w : List ℕ). overAt to w d) (sym (reverse-add m m (drop at s) ∙ ap (λ (r : List ℕ). reverse (take m r) ++ y) (drop-drop m at s)))
 
 -- two cells by their number: reversed as one, and then the halves in the other's place
@@ -95,10 +95,10 @@ halves-swapped m q h =
 -- eight bytes by their number: two cells, and one
 module _ (s : List ℕ) (f : Slice s) (at : ℕ) (h : at + 8 ≤ length s) {w : ℕ} (e : w ≡ unle (reverse (take 8 (drop at s)))) where
   pub pair-turned : (v : ℕ) → le 8 v ≡ drop 4 (le 8 w) ++ take 4 (le 8 w) → le 8 v ≡ reversedCells 4 2 (drop at s)
-  pair-turned v g = g ∙ ap (λ (l : List ℕ). drop 4 l ++ take 4 l) (le-read big s f at 8 h w e) ∙ halves-swapped 4 (drop at s) (omega (arith, length-drop at s))
+  pair-turned v g = g ∙ ap (λ (l : List ℕ). drop 4 l ++ take 4 l) (le-read big s f at 8 h e) ∙ halves-swapped 4 (drop at s) (omega (arith, length-drop at s))
 
   pub one-turned : le 8 w ≡ reversedCells 8 1 (drop at s)
-  one-turned = le-read big s f at 8 h w e ∙ reversed-one 8 (drop at s)
+  one-turned = le-read big s f at 8 h e ∙ reversed-one 8 (drop at s)
 
 -- four times eight bytes, n cells each
 pub four-words : (k n : ℕ) → n * k ≡ 8 → (s d : List ℕ) (at to : ℕ) → to + 32 ≤ length d → at + 32 ≤ length s → {o1 o2 o3 o4 : List ℕ} → length o2 ≡ length d

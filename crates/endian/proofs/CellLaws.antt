@@ -20,8 +20,8 @@ use Rattle.array.specs.Calls.{reversedCells}
 pub over-none : (to : ℕ) (d : List ℕ) → to ≤ length d → d ≡ overAt to [] d
 over-none to d h = sym (ap (λ (l : List ℕ). over l d) (append-nil (take to d)) ∙ ap (λ (j : ℕ). take to d ++ drop j d) (length-take-le to d h) ∙ take-append-drop to d)
 
-pub over-next : (to i : ℕ) (x y d : List ℕ) → to ≤ length d → length x ≡ i → overAt (to + i) y (overAt to x d) ≡ overAt to (x ++ y) d
-over-next to i x y d h e =
+pub over-next : (to : ℕ) {i : ℕ} (x y d : List ℕ) → to ≤ length d → length x ≡ i → overAt (to + i) y (overAt to x d) ≡ overAt to (x ++ y) d
+over-next to {i} x y d h e =
     over-again (take to d ++ x) y d (to + i) (omega (arith, length-append (take to d) x, length-take-le to d h)) ∙ ap (λ (w : List ℕ). over w d) (append-assoc (take to d) x y)
 
 -- ---- reversed cells
@@ -75,13 +75,13 @@ two-runs k n s d at to p q e f =
     let x : List ℕ = reversedCells k n (drop at s) in
     let y : List ℕ = reversedCells k n (drop (at + n * k) s) in
     let l : length x ≡ n * k = length-reversed k n (drop at s) (omega (arith, add-mul n n k, length-drop at s)) in
-    f ∙ ap (overAt (to + n * k) y) e ∙ over-next to (n * k) x y d (omega arith) l
+    f ∙ ap (overAt (to + n * k) y) e ∙ over-next to x y d (omega arith) l
     ∙ ap (λ (w : List ℕ). overAt to w d) (sym (reversed-add k n n (drop at s) ∙ ap (λ (r : List ℕ). x ++ reversedCells k n r) (drop-drop (n * k) at s)))
 
 -- ---- the two orders
 
-cells-little : (k n : ℕ) (s : List ℕ) (o : Order) → o ≡ little → take (n * k) s ≡ joined (map (ordered o) (pieces k n s))
-cells-little k n s o e = go n s ∙ ap joined (sym (map-id (pieces k n s))) ∙ ap (λ (x : Order). joined (map (ordered x) (pieces k n s))) (sym e)
+cells-little : (k n : ℕ) (s : List ℕ) {o : Order} → o ≡ little → take (n * k) s ≡ joined (map (ordered o) (pieces k n s))
+cells-little k n s e = go n s ∙ ap joined (sym (map-id (pieces k n s))) ∙ ap (λ (x : Order). joined (map (ordered x) (pieces k n s))) (sym e)
   where
     go : (n : ℕ) (s : List ℕ) → take (n * k) s ≡ joined (pieces k n s)
     go zero s = ap (λ (m : ℕ). take m s) (zero-mul k)
@@ -91,7 +91,7 @@ cells-little k n s o e = go n s ∙ ap joined (sym (map-id (pieces k n s))) ∙ 
 
 -- the output, said of another order or size
 pub copied-little : (to k n : ℕ) (s d : List ℕ) {o : Order} → o ≡ little → {out : List ℕ} → out ≡ overAt to (take (n * k) s) d → out ≡ overAt to (joined (map (ordered o) (pieces k n s))) d
-copied-little to k n s d {o} e f = f ∙ ap (λ (l : List ℕ). overAt to l d) (cells-little k n s o e)
+copied-little to k n s d {o} e f = f ∙ ap (λ (l : List ℕ). overAt to l d) (cells-little k n s e)
 
 pub copied-big : (to k n : ℕ) (s d : List ℕ) {o : Order} → o ≡ big → {out : List ℕ} → out ≡ overAt to (reversedCells k n s) d → out ≡ overAt to (joined (map (ordered o) (pieces k n s))) d
 copied-big to k n s d e f = f ∙ ap (λ (x : Order). overAt to (joined (map (ordered x) (pieces k n s))) d) (sym e)

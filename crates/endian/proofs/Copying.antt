@@ -55,8 +55,8 @@ module _ {d : List ℕ} {to : ℕ} {s : List ℕ} {at k n : ℕ} {out : List ℕ
       ap (drop (to + i * k)) (l .here) ∙ drop-at x (drop (length x) d) (to + i * k) e ∙ ap (λ (j : ℕ). drop j d) e
 
   -- m cells more, p bytes behind the first
-  pub copies-more : (m : ℕ) → i + m ≤ n → (p : ℕ) → p ≡ i * k → {out′ : List ℕ} → out′ ≡ overAt (to + p) (reversedCells k m (drop (at + p) s)) out → Copies d to s at k n out′ (i + m)
-  copies-more m h p q {out′} e =
+  pub copies-more : (m : ℕ) → i + m ≤ n → {p : ℕ} → p ≡ i * k → {out′ : List ℕ} → out′ ≡ overAt (to + p) (reversedCells k m (drop (at + p) s)) out → Copies d to s at k n out′ (i + m)
+  copies-more m h {p = p} q {out′} e =
       let f : List ℕ = reversedCells k i (drop at s) in
       let g : List ℕ = reversedCells k m (drop (at + i * k) s) in
       record {
@@ -64,7 +64,7 @@ module _ {d : List ℕ} {to : ℕ} {s : List ℕ} {at k n : ℕ} {out : List ℕ
         room = l .room;
         source = l .source;
         here = e ∙ ap (λ (j : ℕ). overAt (to + j) (reversedCells k m (drop (at + j) s)) out) q
-            ∙ ap (overAt (to + i * k) g) (l .here) ∙ over-next to (i * k) f g d (omega (arith, l .room)) long
+            ∙ ap (overAt (to + i * k) g) (l .here) ∙ over-next to f g d (omega (arith, l .room)) long
             ∙ ap (λ (w : List ℕ). overAt to w d) (sym (reversed-add k i m (drop at s) ∙ ap (λ (r : List ℕ). f ++ reversedCells k m r) (drop-drop (i * k) at s)));
       }
 
@@ -73,17 +73,17 @@ module _ {d : List ℕ} {to : ℕ} {s : List ℕ} {at k n : ℕ} {out : List ℕ
     copies-room = omega (arith, mul-le-mul-right {m = suc i} {n = n} k (omega arith), suc-mul i k)
 
     pub copies-next : {out′ : List ℕ} → out′ ≡ overAt (to + i * k) (reverse (take k (drop (at + i * k) s))) out → Copies d to s at k n out′ (i + 1)
-    copies-next e = copies-more 1 (omega arith) (i * k) refl (e ∙ ap (λ (g : List ℕ). overAt (to + i * k) g out) (reversed-one k (drop (at + i * k) s)))
+    copies-next e = copies-more 1 (omega arith) {p = i * k} refl (e ∙ ap (λ (g : List ℕ). overAt (to + i * k) g out) (reversed-one k (drop (at + i * k) s)))
 
 -- where they lie: m cells more, at p
 module _ {d : List ℕ} {to k n : ℕ} {out : List ℕ} {i : ℕ} (l : Copies d to d to k n out i) where
-  pub reversing-more : (m : ℕ) → i + m ≤ n → (p : ℕ) → p ≡ to + i * k → {out′ : List ℕ} → out′ ≡ overAt p (reversedCells k m (drop p out)) out → Copies d to d to k n out′ (i + m)
-  reversing-more m h p q e =
-      copies-more l m h (i * k) refl
+  pub reversing-more : (m : ℕ) → i + m ≤ n → {p : ℕ} → p ≡ to + i * k → {out′ : List ℕ} → out′ ≡ overAt p (reversedCells k m (drop p out)) out → Copies d to d to k n out′ (i + m)
+  reversing-more m h {p = p} q e =
+      copies-more l m h {p = i * k} refl
       (e ∙ ap (λ (j : ℕ). overAt j (reversedCells k m (drop j out)) out) q ∙ ap (λ (r : List ℕ). overAt (to + i * k) (reversedCells k m r) out) (copies-behind l))
 
   pub reversing-next : i < n → (p : ℕ) → p ≡ to + i * k → {out′ : List ℕ} → out′ ≡ overAt p (reverse (take k (drop p out))) out → Copies d to d to k n out′ (i + 1)
-  reversing-next h p q e = reversing-more 1 (omega arith) p q (e ∙ ap (λ (g : List ℕ). overAt p g out) (reversed-one k (drop p out)))
+  reversing-next h p q e = reversing-more 1 (omega arith) q (e ∙ ap (λ (g : List ℕ). overAt p g out) (reversed-one k (drop p out)))
 
 -- n cells, and as many again
 pub reversing-twice : (k n : ℕ) (d : List ℕ) (at : ℕ) → at + (n + n) * k ≤ length d → {out : List ℕ} → out ≡ overAt at (reversedCells k n (drop at d)) d
@@ -91,12 +91,12 @@ pub reversing-twice : (k n : ℕ) (d : List ℕ) (at : ℕ) → at + (n + n) * k
 reversing-twice k n d at h {out} e {out′} f =
     let p : at ≡ at + 0 * k = omega (arith, zero-mul k) in
     let q : at + n * k ≡ at + (0 + n) * k = omega (arith, ap (λ (j : ℕ). j * k) (zero-add n)) in
-    let a : Copies d at d at k (n + n) out (0 + n) = reversing-more (copies-begin h h) n (omega arith) at p e in
-    copies-end (reversing-more a n (omega arith) (at + n * k) q f) (omega arith)
+    let a : Copies d at d at k (n + n) out (0 + n) = reversing-more (copies-begin h h) n (omega arith) p e in
+    copies-end (reversing-more a n (omega arith) q f) (omega arith)
 
 -- ---- by lines of 64 bytes, m cells each: two blocks of b cells
 
-module _ (k m b : ℕ) (line : m ≡ b + b) (block : b * k ≡ 32) where
+module _ (k : ℕ) {m : ℕ} (b : ℕ) (line : m ≡ b + b) (block : b * k ≡ 32) where
   pub line-bytes : (i : ℕ) → i * m * k ≡ i * 64
   line-bytes i = let e : m * k ≡ 64 = ap (λ (j : ℕ). j * k) line ∙ add-mul b b k ∙ ap (λ (j : ℕ). j + j) block in mul-assoc i m k ∙ ap (λ (j : ℕ). i * j) e
 
@@ -116,10 +116,10 @@ module _ (k m b : ℕ) (line : m ≡ b + b) (block : b * k ≡ 32) where
     pub copies-line : {d : List ℕ} {to : ℕ} {s : List ℕ} {at : ℕ} {out : List ℕ} → Copies d to s at k n out (i * m)
         → {out′ : List ℕ} → out′ ≡ overAt (to + i * 64) (reversedCells k b (drop (at + i * 64) s)) out
         → {out″ : List ℕ} → out″ ≡ overAt (to + (i * 64 + 32)) (reversedCells k b (drop (at + (i * 64 + 32)) s)) out′ → Copies d to s at k n out″ ((i + 1) * m)
-    copies-line l e f = copies-cast (copies-more (copies-more l b (omega arith) (i * 64) (sym (line-bytes i)) e) b h (i * 64 + 32) second f) (next-line i)
+    copies-line l e f = copies-cast (copies-more (copies-more l b (omega arith) (sym (line-bytes i)) e) b h second f) (next-line i)
 
     pub reversing-line : {d : List ℕ} {out : List ℕ} → Copies d 0 d 0 k n out (i * m)
         → {out′ : List ℕ} → out′ ≡ overAt (i * 64) (reversedCells k b (drop (i * 64) out)) out
         → {out″ : List ℕ} → out″ ≡ overAt (i * 64 + 32) (reversedCells k b (drop (i * 64 + 32) out′)) out′ → Copies d 0 d 0 k n out″ ((i + 1) * m)
     reversing-line l e f =
-        copies-cast (reversing-more (reversing-more l b (omega arith) (i * 64) (omega (arith, line-bytes i)) e) b h (i * 64 + 32) (omega (arith, second)) f) (next-line i)
+        copies-cast (reversing-more (reversing-more l b (omega arith) {p = i * 64} (omega (arith, line-bytes i)) e) b h {p = i * 64 + 32} (omega (arith, second)) f) (next-line i)

@@ -25,8 +25,8 @@ ones-reversed n d h =
 
 -- ---- a cell by its ends: they are swapped, each reversed, and what lies between them is left to reverse
 
-over-middle : (p m q g : List ℕ) (n : ℕ) → length p ≡ n → length g ≡ length m → overAt n g (p ++ (m ++ q)) ≡ p ++ (g ++ q)
-over-middle p m q g n e f =
+over-middle : (p m q g : List ℕ) {n : ℕ} → length p ≡ n → length g ≡ length m → overAt n g (p ++ (m ++ q)) ≡ p ++ (g ++ q)
+over-middle p m q g {n} e f =
     let t : take n (p ++ (m ++ q)) ≡ p = take-at p (m ++ q) n e in
     let j : length (p ++ g) ≡ length (p ++ m) = omega (arith, length-append p g, length-append p m) in
     ap (λ (r : List ℕ). over (r ++ g) (p ++ (m ++ q))) t
@@ -40,7 +40,7 @@ over-twice to x y d h e =
     let p : List ℕ = take to d in
     let q : List ℕ = drop (length (p ++ x)) d in
     let j : length (p ++ x) ≡ length (p ++ y) = omega (arith, length-append p x, length-append p y) in
-    ap (overAt to y) (append-assoc p x q) ∙ over-middle p x q y to (length-take-le to d h) e ∙ sym (append-assoc p y q) ∙ ap (λ (i : ℕ). p ++ y ++ drop i d) j
+    ap (overAt to y) (append-assoc p x q) ∙ over-middle p x q y (length-take-le to d h) e ∙ sym (append-assoc p y q) ∙ ap (λ (i : ℕ). p ++ y ++ drop i d) j
 
 -- cells copied, and then reversed where they lie
 pub copied-reversed : (k n : ℕ) (s d : List ℕ) (at to : ℕ) → to + n * k ≤ length d → at + n * k ≤ length s → {o1 : List ℕ} → o1 ≡ overAt to (take (n * k) (drop at s)) d
@@ -56,19 +56,19 @@ copied-reversed k n s d at to p q {o1} e f =
     ap (reversedCells k n) g ∙ sym (reversed-take k n (x ++ b) (omega (arith, length-append x b))) ∙ ap (reversedCells k n) (take-at x b (n * k) lx) ∙ reversed-take k n (drop at s) h in
     f ∙ ap₂ (λ (y o : List ℕ). overAt to y o) r e ∙ over-twice to x (reversedCells k n (drop at s)) d (omega arith) (length-reversed k n (drop at s) h ∙ sym lx)
 
-middle-reversed : (p m q : List ℕ) (n k : ℕ) → length p ≡ n → length m ≡ k → cellReversed n k (p ++ (m ++ q)) ≡ p ++ (reverse m ++ q)
-middle-reversed p m q n k e f =
-    ap (λ (r : List ℕ). overAt n (reverse r) (p ++ (m ++ q))) (ap (take k) (drop-at p (m ++ q) n e) ∙ take-at m q k f) ∙ over-middle p m q (reverse m) n e (length-reverse m)
+middle-reversed : (p m q : List ℕ) {n k : ℕ} → length p ≡ n → length m ≡ k → cellReversed n k (p ++ (m ++ q)) ≡ p ++ (reverse m ++ q)
+middle-reversed p m q {n} {k} e f =
+    ap (λ (r : List ℕ). overAt n (reverse r) (p ++ (m ++ q))) (ap (take k) (drop-at p (m ++ q) n e) ∙ take-at m q k f) ∙ over-middle p m q (reverse m) e (length-reverse m)
 
 -- the ends x and y of a cell x m y, with p before it and q behind it
-module _ (p x m y q : List ℕ) (low left j : ℕ) (ep : length p ≡ low) (ex : length x ≡ j) (ey : length y ≡ j) (em : length m + (j + j) ≡ left) where
+module _ (p x m y q : List ℕ) {low left j : ℕ} (ep : length p ≡ low) (ex : length x ≡ j) (ey : length y ≡ j) (em : length m + (j + j) ≡ left) where
   ends-reversed : cellReversed low left (p ++ (x ++ (m ++ (y ++ q)))) ≡ p ++ (reverse y ++ (reverse m ++ (reverse x ++ q)))
   ends-reversed =
       let c : List ℕ = x ++ (m ++ y) in
       let lc : length c ≡ left = omega (arith, length-append x (m ++ y), length-append m y) in
       let g : p ++ (x ++ (m ++ (y ++ q))) ≡ p ++ (c ++ q) = ap (λ (r : List ℕ). p ++ r) (sym (append-assoc x (m ++ y) q ∙ ap (λ (r : List ℕ). x ++ r) (append-assoc m y q))) in
       let rc : reverse c ≡ (reverse y ++ reverse m) ++ reverse x = reverse-append x (m ++ y) ∙ ap (λ (r : List ℕ). r ++ reverse x) (reverse-append m y) in
-      ap (cellReversed low left) g ∙ middle-reversed p c q low left ep lc
+      ap (cellReversed low left) g ∙ middle-reversed p c q ep lc
       ∙ ap (λ (r : List ℕ). p ++ r)
       (ap (λ (r : List ℕ). r ++ q) rc ∙ append-assoc (reverse y ++ reverse m) (reverse x) q ∙ append-assoc (reverse y) (reverse m) (reverse x ++ q))
 
@@ -80,15 +80,15 @@ module _ (p x m y q : List ℕ) (low left j : ℕ) (ep : length p ≡ low) (ex :
       let lx : length (reverse x) ≡ length y = length-reverse x ∙ ex ∙ sym ey in
       let in-front : (r : List ℕ) → p′ ++ r ≡ p ++ (reverse y ++ (m ++ r)) =
       λ r. append-assoc p (reverse y ++ m) r ∙ ap (λ (z : List ℕ). p ++ z) (append-assoc (reverse y) m r) in
-      ap (overAt (low + (left - j)) (reverse x)) (over-middle p x (m ++ (y ++ q)) (reverse y) low ep lr ∙ sym (in-front (y ++ q)))
-      ∙ over-middle p′ y q (reverse x) (low + (left - j)) lp lx ∙ in-front (reverse x ++ q)
+      ap (overAt (low + (left - j)) (reverse x)) (over-middle p x (m ++ (y ++ q)) (reverse y) ep lr ∙ sym (in-front (y ++ q)))
+      ∙ over-middle p′ y q (reverse x) lp lx ∙ in-front (reverse x ++ q)
 
   between-reversed : cellReversed (low + j) (left - (j + j)) (p ++ (reverse y ++ (m ++ (reverse x ++ q)))) ≡ p ++ (reverse y ++ (reverse m ++ (reverse x ++ q)))
   between-reversed =
       let lp : length (p ++ reverse y) ≡ low + j = omega (arith, length-append p (reverse y), length-reverse y) in
       let lm : length m ≡ left - (j + j) = omega arith in
       ap (cellReversed (low + j) (left - (j + j))) (sym (append-assoc p (reverse y) (m ++ (reverse x ++ q))))
-      ∙ middle-reversed (p ++ reverse y) m (reverse x ++ q) (low + j) (left - (j + j)) lp lm
+      ∙ middle-reversed (p ++ reverse y) m (reverse x ++ q) lp lm
       ∙ append-assoc p (reverse y) (reverse m ++ (reverse x ++ q))
 
 -- j bytes at low and j at high, each reversed and in the other's place
@@ -124,11 +124,11 @@ swap-ends out low left j h room =
     let ex : length x ≡ j = length-take-le j r (omega arith) in
     let ey : length y ≡ j = length-take-le j s (omega arith) in
     let em : length m + (j + j) ≡ left = omega (arith, length-take-le k (drop j r) (omega arith)) in
-    ap (cellReversed low left) (sym e) ∙ ends-reversed p x m y q low left j ep ex ey em
+    ap (cellReversed low left) (sym e) ∙ ends-reversed p x m y q ep ex ey em
     ∙ sym (ap (cellReversed (low + j) k)
     (ap (λ (z : List ℕ). overAt (low + (left - j)) (reverse x) (overAt low (reverse (take j z)) out)) es
-    ∙ ap (λ (z : List ℕ). overAt (low + (left - j)) (reverse x) (overAt low (reverse y) z)) (sym e) ∙ ends-swapped p x m y q low left j ep ex ey em)
-    ∙ between-reversed p x m y q low left j ep ex ey em)
+    ∙ ap (λ (z : List ℕ). overAt (low + (left - j)) (reverse x) (overAt low (reverse y) z)) (sym e) ∙ ends-swapped p x m y q ep ex ey em)
+    ∙ between-reversed p x m y q ep ex ey em)
 
 -- d's cell is reversed once the cell of out that is left is
 pub record Swapping (at k : ℕ) (d out : List ℕ) (low left : ℕ) : Type 0 where

@@ -76,7 +76,7 @@ plane-at base n ps h (j ∷ js) p =
     ap₂ (λ (x : ℕ) (r : List ℕ). x ∷ r) (getD-take n (drop base ps) j 0 (p .0) ∙ getD-drop base ps j 0) (plane-at base n ps h js (p .1))
     ∙ ap (λ (v : List ℕ). v ++ joined (valuesAt (fixedAt base 1) ps js)) (sym one)
 
-module _ (z : Value) (n : ℕ) (ps : List ℕ) (vs : List Value) (ev : length vs ≡ n) (js : List ℕ) (p : All (λ j. j < n) js) where
+module _ (z : Value) {n : ℕ} (ps : List ℕ) (vs : List Value) (ev : length vs ≡ n) (js : List ℕ) (p : All (λ j. j < n) js) where
   planes-are : (d l : ℕ) → length ps ≡ l * n + d * n → masksOf d (gather (blank z d) (attach d n (drop (l * n) ps) vs) js) ≡ planesAt d l n ps js
   planes-are zero l e = refl
   planes-are (suc d) l w =
@@ -102,7 +102,7 @@ cutBy k n c js = record {
   offsets = offsetsFor (k .form) (valuesAt (beginsAt (k .form) (c .offsets)) (c .values) js);
 }
 
-module _ (k : Kind) (n : ℕ) (c : Content) (ok : ContentOk k n c) (js : List ℕ) (p : All (λ j. j < n) js) where
+module _ {k : Kind} {n : ℕ} {c : Content} (ok : ContentOk k n c) (js : List ℕ) (p : All (λ j. j < n) js) where
   abbrev vs : List Value
   vs = valuesIn (k .form) n c
 
@@ -113,7 +113,7 @@ module _ (k : Kind) (n : ℕ) (c : Content) (ok : ContentOk k n c) (js : List �
   masks-cut =
       let q : drop (0 * n) (c .masks) ≡ c .masks = ap (λ (i : ℕ). drop i (c .masks)) (zero-mul n) in
       ap (λ (ps : List ℕ). masksOf (k .depth) (gather (nullCell k) (attach (k .depth) n ps vs) js)) (sym q)
-      ∙ planes-are (nullOf (k .form)) n (c .masks) vs many js p (k .depth) 0 (omega (arith, ok .masks-fit, zero-mul n))
+      ∙ planes-are (nullOf (k .form)) (c .masks) vs many js p (k .depth) 0 (omega (arith, ok .masks-fit, zero-mul n))
 
   values-cut : leaves (k .depth) (gather (nullCell k) (cellsOf k n c) js) ≡ valuesAt (beginsAt (k .form) (c .offsets)) (c .values) js
   values-cut =
@@ -121,8 +121,8 @@ module _ (k : Kind) (n : ℕ) (c : Content) (ok : ContentOk k n c) (js : List �
       ∙ ap (λ (us : List Value). gather (leaf (k .depth) (nullCell k)) us js) (leaves-attach n vs many (k .depth) (c .masks) (ok .masks-fit))
       ∙ gather-by (leaf (k .depth) (nullCell k)) vs n (valueAt (beginsAt (k .form) (c .offsets)) (c .values)) (value-is (k .form) n c (ok .values-fit) (leaf (k .depth) (nullCell k))) js p
 
-pub cut-is : (k : Kind) (shape : List ℕ) (c : Content) → ContentOk k (volume shape) c → (b : Subset) → SubsetOk shape b → cutOf k shape c b ≡ cutBy k (volume shape) c (cellsIn shape b)
-cut-is k shape c ok b s =
+pub cut-is : {k : Kind} (shape : List ℕ) {c : Content} → ContentOk k (volume shape) c → (b : Subset) → SubsetOk shape b → cutOf k shape c b ≡ cutBy k (volume shape) c (cellsIn shape b)
+cut-is {k} shape {c} ok b s =
     let p : All (λ j. j < volume shape) (cellsIn shape b) = cellsIn-below shape b s in
-    content-path (masks-cut k (volume shape) c ok (cellsIn shape b) p) (ap joined (values-cut k (volume shape) c ok (cellsIn shape b) p))
-    (ap (offsetsFor (k .form)) (values-cut k (volume shape) c ok (cellsIn shape b) p))
+    content-path (masks-cut ok (cellsIn shape b) p) (ap joined (values-cut ok (cellsIn shape b) p))
+    (ap (offsetsFor (k .form)) (values-cut ok (cellsIn shape b) p))

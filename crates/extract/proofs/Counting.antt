@@ -17,10 +17,10 @@ use Rattle.extract.proofs.Places.{bytes-append, run-rises, run-total}
 
 -- ---- at most those of all cells
 
-module _ (off : ℕ → ℕ) (v : ℕ) (r : Rises off v) where
+module _ {off : ℕ → ℕ} {v : ℕ} (r : Rises off v) where
   -- of the cells of a run, those that pass a test
   passing-most : (f : ℕ → Bool) (a n : ℕ) → a + n ≤ v → off a + bytesAt off (passing f (from a n)) ≤ off (a + n)
-  passing-most f a zero h = omega (arith, run-rises off v r a zero h)
+  passing-most f a zero h = omega (arith, run-rises r a zero h)
   passing-most f a (suc n) h =
       let q : suc a + n ≡ a + suc n = omega arith in
       go (f a) (r a (omega arith)) (passing-most f (suc a) n (omega arith)) (ap off q)
@@ -30,11 +30,11 @@ module _ (off : ℕ → ℕ) (v : ℕ) (r : Rises off v) where
       go true up h e = omega arith
       go false up h e = omega arith
 
-pub bytes-most : (off : ℕ → ℕ) (shape : List ℕ) (b : Subset) → Rises off (volume shape) → SubsetOk shape b → bytesAt off (cellsIn shape b) ≤ off (volume shape)
-bytes-most off shape b r p =
+pub bytes-most : {off : ℕ → ℕ} (shape : List ℕ) (b : Subset) → Rises off (volume shape) → SubsetOk shape b → bytesAt off (cellsIn shape b) ≤ off (volume shape)
+bytes-most {off} shape b r p =
     let f : ℕ → Bool = λ i. insideTest b (coordinates shape i) in
     let whole : 0 + volume shape ≡ volume shape = omega arith in
-    omega (arith, ap (bytesAt off) (cells-are shape b p), passing-most off (volume shape) r f 0 (volume shape) (omega arith), ap off whole)
+    omega (arith, ap (bytesAt off) (cells-are shape b p), passing-most r f 0 (volume shape) (omega arith), ap off whole)
 
 -- ---- the loop: the bytes of the cells before `at` are counted
 
@@ -45,15 +45,15 @@ pub record Counting (off : ℕ → ℕ) (cs : List ℕ) (cells n at total : ℕ)
 pub counting-begins : (off : ℕ → ℕ) (cs : List ℕ) (cells n : ℕ) → Left cs cells n 0 → Counting off cs cells n 0 0
 counting-begins off cs cells n g = record { geo = g; same = omega arith }
 
-module _ (off : ℕ → ℕ) (cs : List ℕ) (cells n at total : ℕ) (c : Counting off cs cells n at total) where
+module _ {off : ℕ → ℕ} {cs : List ℕ} {cells n at total : ℕ} (c : Counting off cs cells n at total) where
   pub counting-ends : cells ≤ at → total ≡ bytesAt off cs
   counting-ends h = omega (arith, c .same, ap (bytesAt off) (left-ends cs cells n at (c .geo) h))
 
-  pub counting-more : (v : ℕ) → Rises off v → All (λ j. j < v) cs → at < cells → (k : ℕ) → k ≡ off (getD cs at 0 + n) - off (getD cs at 0)
+  pub counting-more : {v : ℕ} → Rises off v → All (λ j. j < v) cs → at < cells → {k : ℕ} → k ≡ off (getD cs at 0 + n) - off (getD cs at 0)
       → Counting off cs cells n (at + n) (total + k)
-  counting-more v r p h k e =
+  counting-more {v} r p h {k} e =
       let a : ℕ = getD cs at 0 in
       let t : bytesAt off (drop at cs) ≡ k + bytesAt off (drop (at + n) cs) =
       ap (bytesAt off) (left-next cs cells n at (c .geo) h) ∙ bytes-append off (from a n) (drop (at + n) cs)
-      ∙ ap (λ (x : ℕ). x + bytesAt off (drop (at + n) cs)) (run-total off v r a n (left-room cs cells n at (c .geo) h v p) ∙ sym e) in
+      ∙ ap (λ (x : ℕ). x + bytesAt off (drop (at + n) cs)) (run-total r a n (left-room cs cells n at (c .geo) h v p) ∙ sym e) in
       record { geo = left-more cs cells n at (c .geo) h; same = omega (arith, c .same, t) }

@@ -18,7 +18,7 @@ use Rattle.extract.proofs.Walk.{asked-below, asked-count, planes-long}
 use Rattle.extract.proofs.Closing.{cutBy, cut-is}
 use Rattle.extract.proofs.Forms.{begins-end, offsets-for, offsets-long, values-long}
 
-module _ (k : Kind) (cells : ℕ) (shape starts lens : List ℕ) (c : Content) (count : ℕ) (s : SubsetAsked shape starts lens count) (a : ArrayAsked k cells shape c) where
+module _ {k : Kind} {cells : ℕ} {shape starts lens : List ℕ} {c : Content} {count : ℕ} (s : SubsetAsked shape starts lens count) (a : ArrayAsked k cells shape c) where
   abbrev js : List ℕ
   js = cellsIn shape (pairs starts lens)
 
@@ -26,7 +26,7 @@ module _ (k : Kind) (cells : ℕ) (shape starts lens : List ℕ) (c : Content) (
   cut = cutOf k shape c (pairs starts lens)
 
   by-places : cut ≡ cutBy k cells c js
-  by-places = cut-is k shape c (a .content) (pairs starts lens) (s .within .inside) ∙ ap (λ (n : ℕ). cutBy k n c js) (sym (a .whole))
+  by-places = cut-is shape (a .content) (pairs starts lens) (s .within .inside) ∙ ap (λ (n : ℕ). cutBy k n c js) (sym (a .whole))
 
   -- ---- the parts, by places
 
@@ -47,13 +47,13 @@ module _ (k : Kind) (cells : ℕ) (shape starts lens : List ℕ) (c : Content) (
   pub cut-masks-long : length (cut .masks) ≡ k .depth * count
   cut-masks-long =
       ap length cut-masks
-      ∙ planes-long cells count (c .masks) js (subst (λ (n : ℕ). All (λ j. j < n) js) (sym (a .whole)) (asked-below shape starts lens count s)) (asked-count shape starts lens count s) (k .depth) masks-fit
+      ∙ planes-long cells (c .masks) js (subst (λ (n : ℕ). All (λ j. j < n) js) (sym (a .whole)) (asked-below s)) (asked-count s) (k .depth) masks-fit
 
   pub cut-values-long : length (cut .values) ≡ bytesAt (beginsAt (k .form) (c .offsets)) js
-  cut-values-long = ap length cut-values ∙ values-long (k .form) (volume shape) c (a .content .values-fit) js (asked-below shape starts lens count s)
+  cut-values-long = ap length cut-values ∙ values-long (k .form) (volume shape) c (a .content .values-fit) js (asked-below s)
 
   pub cut-offsets-long : length (cut .offsets) ≡ offsetCount (k .form) count
-  cut-offsets-long = ap length cut-offsets ∙ offsets-long (k .form) (c .offsets) (c .values) js count (asked-count shape starts lens count s)
+  cut-offsets-long = ap length cut-offsets ∙ offsets-long (k .form) (c .offsets) (c .values) js (asked-count s)
 
   -- ---- what the loops ask
 

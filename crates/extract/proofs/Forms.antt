@@ -24,9 +24,9 @@ use Rattle.extract.proofs.Walk.{fixed-long}
 -- ---- by form
 
 module _ (outv outo values os shape cells : List ℕ) where
-  pub cells-asked : (k : ℕ) (o : Order) → All (λ j. j < volume shape) cells → (count : ℕ) → length cells ≡ count → ValuesAsked (fixed k o) outv outo values os shape cells
+  pub cells-asked : (k : ℕ) (o : Order) → All (λ j. j < volume shape) cells → {count : ℕ} → length cells ≡ count → ValuesAsked (fixed k o) outv outo values os shape cells
       → CellsAsked outv 0 values 0 k shape count
-  cells-asked k o p count e a = record {
+  cells-asked k o p e a = record {
     source = a .source;
     room = omega (arith, a .room, fixed-long 0 k (volume shape) values cells (a .source) p, ap (λ (n : ℕ). n * k) e);
   }
@@ -40,9 +40,9 @@ module _ (outv outo values os shape cells : List ℕ) where
   }
 
 -- as many offsets as the form has
-pub offsets-long : (f : Form) (os values cells : List ℕ) (count : ℕ) → length cells ≡ count → length (offsetsFor f (valuesAt (beginsAt f os) values cells)) ≡ offsetCount f count
-offsets-long (fixed k o) os values cells count e = refl
-offsets-long (ragged w p) os values cells count e = ap suc (length-ends 0 (valuesAt (offsetAt os) values cells) ∙ length-map cells (valueAt (offsetAt os) values) ∙ e)
+pub offsets-long : (f : Form) (os values cells : List ℕ) {count : ℕ} → length cells ≡ count → length (offsetsFor f (valuesAt (beginsAt f os) values cells)) ≡ offsetCount f count
+offsets-long (fixed k o) os values cells e = refl
+offsets-long (ragged w p) os values cells e = ap suc (length-ends 0 (valuesAt (offsetAt os) values cells) ∙ length-map cells (valueAt (offsetAt os) values) ∙ e)
 
 -- ---- where the values of an array that keeps the rules lie
 
@@ -73,4 +73,4 @@ offsets-for (ragged w q) shape c p h = record {
 
 pub values-long : (f : Form) (n : ℕ) (c : Content) → ValuesOk f n c → (js : List ℕ) → All (λ j. j < n) js
     → length (joined (valuesAt (beginsAt f (c .offsets)) (c .values) js)) ≡ bytesAt (beginsAt f (c .offsets)) js
-values-long f n c p js h = bytes-long (beginsAt f (c .offsets)) n (begins-rise f n c p) (c .values) (begins-end f n c p) js h
+values-long f n c p js h = bytes-long (begins-rise f n c p) (c .values) (begins-end f n c p) js h

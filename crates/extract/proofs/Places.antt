@@ -40,7 +40,7 @@ fixed-total base k (j ∷ js) = omega (arith, fixed-step base k j, fixed-total b
 
 -- ---- a run of cells
 
-module _ (off : ℕ → ℕ) (v : ℕ) (r : Rises off v) where
+module _ {off : ℕ → ℕ} {v : ℕ} (r : Rises off v) where
   pub run-rises : (a n : ℕ) → a + n ≤ v → off a ≤ off (a + n)
   run-rises a zero h = let e : off a ≡ off (a + zero) = ap off (sym (add-zero a)) in omega arith
   run-rises a (suc n) h =

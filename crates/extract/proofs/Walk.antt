@@ -26,9 +26,9 @@ use Rattle.extract.proofs.Places.{ends-append, fixed-rises, fixed-total
 
 -- ---- what a subset that is asked for has
 
-module _ (sh st ls : List ℕ) (count : ℕ) (a : SubsetAsked sh st ls count) where
+module _ {sh st ls : List ℕ} {count : ℕ} (a : SubsetAsked sh st ls count) where
   pub asked-left : Left (cellsIn sh (pairs st ls)) count (getD ls (length ls - 1) 0) 0
-  asked-left = left-begins sh st ls count (a .within) (a .shaped .some-sides) (a .counted)
+  asked-left = left-begins sh st ls (a .within) (a .shaped .some-sides) (a .counted)
 
   pub asked-below : All (λ j. j < volume sh) (cellsIn sh (pairs st ls))
   asked-below = within-below sh st ls (a .within)
@@ -38,7 +38,7 @@ module _ (sh st ls : List ℕ) (count : ℕ) (a : SubsetAsked sh st ls count) wh
 
   pub asked-few : count ≤ 65536
   unfolding mostCells
-  asked-few = omega (arith, a .counted, few-drop 0 ls (few-within sh st ls (a .shaped) (a .within)))
+  asked-few = omega (arith, a .counted, few-drop 0 ls (few-within st ls (a .shaped) (a .within)))
 
   pub asked-lengths : 1 ≤ length ls
   asked-lengths = omega (arith, a .shaped .some-sides, a .within .as-many-lengths)
@@ -52,7 +52,7 @@ pub record Copied (off : ℕ → ℕ) (s cs d : List ℕ) (to : ℕ) (out : List
 pub copied-begins : (off : ℕ → ℕ) (s cs d : List ℕ) (to cells n : ℕ) → Left cs cells n 0 → to + length (joined (valuesAt off s cs)) ≤ length d → Copied off s cs d to d cells n 0 0
 copied-begins off s cs d to cells n g h = record { geo = g; laid = laying-begins (joined (valuesAt off s cs)) d to h }
 
-module _ (off : ℕ → ℕ) (s cs d : List ℕ) (to : ℕ) (out : List ℕ) (cells n at done : ℕ) (c : Copied off s cs d to out cells n at done) where
+module _ {off : ℕ → ℕ} {s cs d : List ℕ} {to : ℕ} {out : List ℕ} {cells n at done : ℕ} (c : Copied off s cs d to out cells n at done) where
   pub copied-same : length out ≡ length d
   copied-same = laying-same (joined (valuesAt off s cs)) d to out done (joined (valuesAt off s (drop at cs))) (c .laid)
 
@@ -63,7 +63,7 @@ module _ (off : ℕ → ℕ) (s cs d : List ℕ) (to : ℕ) (out : List ℕ) (ce
 
 -- ---- the next row: n neighbours from the cell a on, of an array of v cells
 
-module _ (off : ℕ → ℕ) (v : ℕ) (r : Rises off v) (s cs : List ℕ) (p : All (λ j. j < v) cs) (l : off v ≤ length s) (cells n at : ℕ) (g : Left cs cells n at) (h : at < cells) where
+module _ {off : ℕ → ℕ} {v : ℕ} (r : Rises off v) (s cs : List ℕ) (p : All (λ j. j < v) cs) (l : off v ≤ length s) (cells n at : ℕ) (g : Left cs cells n at) (h : at < cells) where
   abbrev a : ℕ
   a = getD cs at 0
 
@@ -74,13 +74,13 @@ module _ (off : ℕ → ℕ) (v : ℕ) (r : Rises off v) (s cs : List ℕ) (p : 
   row-within = left-room cs cells n at g h v p
 
   pub row-below : off (a + n) ≤ off v
-  row-below = run-below off v r a n row-within
+  row-below = run-below r a n row-within
 
   pub row-source : off (a + n) ≤ length s
   row-source = omega (arith, row-below)
 
   row-long : length row ≡ off (a + n) - off a
-  row-long = run-long off v r s a n row-within row-source
+  row-long = run-long r s a n row-within row-source
 
   row-next : valuesAt off s (drop at cs) ≡ valuesAt off s (from a n) ++ valuesAt off s (drop (at + n) cs)
   row-next = ap (valuesAt off s) (left-next cs cells n at g h) ∙ map-append _ (from a n) (drop (at + n) cs)
@@ -88,9 +88,9 @@ module _ (off : ℕ → ℕ) (v : ℕ) (r : Rises off v) (s cs : List ℕ) (p : 
   row-first : joined (valuesAt off s (drop at cs)) ≡ row ++ joined (valuesAt off s (drop (at + n) cs))
   row-first =
       ap joined row-next ∙ joined-append (valuesAt off s (from a n)) (valuesAt off s (drop (at + n) cs))
-      ∙ ap (λ (w : List ℕ). w ++ joined (valuesAt off s (drop (at + n) cs))) (run-bytes off v r s a n row-within)
+      ∙ ap (λ (w : List ℕ). w ++ joined (valuesAt off s (drop (at + n) cs))) (run-bytes r s a n row-within)
 
-  module _ (d : List ℕ) (to : ℕ) (out : List ℕ) (done : ℕ) (c : Laying (joined (valuesAt off s cs)) d to out done (joined (valuesAt off s (drop at cs)))) where
+  module _ {d : List ℕ} {to : ℕ} {out : List ℕ} {done : ℕ} (c : Laying (joined (valuesAt off s cs)) d to out done (joined (valuesAt off s (drop at cs)))) where
     -- it has room
     pub row-room : to + done + (off (a + n) - off a) ≤ length out
     row-room =
@@ -105,25 +105,25 @@ module _ (off : ℕ → ℕ) (v : ℕ) (r : Rises off v) (s cs : List ℕ) (p : 
         )
 
     -- and is copied
-    pub row-copied : (b k : ℕ) → b ≡ off a → k ≡ off (a + n) - off a → (out′ : List ℕ) → out′ ≡ overAt (to + done) (take k (drop b s)) out
+    pub row-copied : {b k : ℕ} → b ≡ off a → k ≡ off (a + n) - off a → {out′ : List ℕ} → out′ ≡ overAt (to + done) (take k (drop b s)) out
         → Copied off s cs d to out′ cells n (at + n) (done + k)
-    row-copied b k eb ek out′ e = record {
+    row-copied {b} {k} eb ek {out′} e = record {
       geo = left-more cs cells n at g h;
       laid = laying-part (joined (valuesAt off s cs)) d to out done row (joined (valuesAt off s (drop (at + n) cs))) (laying-is c row-first) out′
           (e ∙ ap₂ (λ (x y : ℕ). overAt (to + done) (take x (drop y s)) out) ek eb) (done + k) (ap (λ (x : ℕ). done + x) (ek ∙ sym row-long));
     }
 
   -- where its cells end, the cells before it having t bytes
-  module _ (d out : List ℕ) (t : ℕ) (c : Laying (ends 0 (valuesAt off s cs)) d 1 out at (ends t (valuesAt off s (drop at cs)))) where
-    pub row-ended : (b k : ℕ) → b ≡ a → k ≡ off (a + n) - off a → (out′ : List ℕ) → out′ ≡ overAt (at + 1) (map (λ j. t + (off (suc j) - off b)) (from b n)) out
+  module _ {d out : List ℕ} (t : ℕ) (c : Laying (ends 0 (valuesAt off s cs)) d 1 out at (ends t (valuesAt off s (drop at cs)))) where
+    pub row-ended : {b k : ℕ} → b ≡ a → k ≡ off (a + n) - off a → {out′ : List ℕ} → out′ ≡ overAt (at + 1) (map (λ j. t + (off (suc j) - off b)) (from b n)) out
         → Laying (ends 0 (valuesAt off s cs)) d 1 out′ (at + n) (ends (t + k) (valuesAt off s (drop (at + n) cs)))
-    row-ended b k eb ek out′ e =
+    row-ended {b} {k} eb ek {out′} e =
         let f : ℕ → ℕ = λ j. t + (off (suc j) - off a) in
         let q : at + 1 ≡ 1 + at = omega arith in
-        let i : length (joined (valuesAt off s (from a n))) ≡ k = ap length (run-bytes off v r s a n row-within) ∙ row-long ∙ sym ek in
+        let i : length (joined (valuesAt off s (from a n))) ≡ k = ap length (run-bytes r s a n row-within) ∙ row-long ∙ sym ek in
         laying-part (ends 0 (valuesAt off s cs)) d 1 out at (map f (from a n)) (ends (t + k) (valuesAt off s (drop (at + n) cs)))
         (laying-is c (ap (ends t) row-next ∙ ends-append t (valuesAt off s (from a n)) (valuesAt off s (drop (at + n) cs))
-        ∙ ap₂ (λ (x : List ℕ) (y : ℕ). x ++ ends (t + y) (valuesAt off s (drop (at + n) cs))) (run-ends off v r s t a n row-within row-source) i))
+        ∙ ap₂ (λ (x : List ℕ) (y : ℕ). x ++ ends (t + y) (valuesAt off s (drop (at + n) cs))) (run-ends r s t a n row-within row-source) i))
         out′ (e ∙ ap₂ (λ (x y : ℕ). overAt x (map (λ j. t + (off (suc j) - off y)) (from y n)) out) q eb)
         (at + n) (ap (λ (x : ℕ). at + x) (sym (length-map (from a n) f ∙ length-from a n)))
 
@@ -156,16 +156,16 @@ module _ (off : ℕ → ℕ) (s cs : List ℕ) where
     ended = laying-begins (ends 0 (valuesAt off s cs)) oldo 1 (omega (arith, values-many));
   }
 
-  module _ (oldv oldo ov oo : List ℕ) (cells n at total : ℕ) (c : Ragged off s cs oldv oldo ov oo cells n at total) where
+  module _ {oldv oldo ov oo : List ℕ} {cells n at total : ℕ} (c : Ragged off s cs oldv oldo ov oo cells n at total) where
     pub ragged-same : length ov ≡ length oldv
-    ragged-same = copied-same off s cs oldv 0 ov cells n at total (c .copied)
+    ragged-same = copied-same (c .copied)
 
     pub ragged-same-offsets : length oo ≡ length oldo
     ragged-same-offsets = laying-same (ends 0 (valuesAt off s cs)) oldo 1 oo at (ends total (valuesAt off s (drop at cs))) (c .ended)
 
     module _ (h : cells ≤ at) where
       pub ragged-values : ov ≡ over (joined (valuesAt off s cs)) oldv
-      ragged-values = copied-ends off s cs oldv 0 ov cells n at total (c .copied) h
+      ragged-values = copied-ends (c .copied) h
 
       pub ragged-offsets : oo ≡ overAt 1 (ends 0 (valuesAt off s cs)) oldo
       ragged-offsets =
@@ -173,7 +173,7 @@ module _ (off : ℕ → ℕ) (s cs : List ℕ) where
           (laying-is (c .ended) (ap (λ (js : List ℕ). ends total (valuesAt off s js)) (left-ends cs cells n at (c .copied .geo) h)))
 
     -- the next row, from the cell b on
-    module _ (v : ℕ) (r : Rises off v) (p : All (λ j. j < v) cs) (l : off v ≤ length s) (h : at < cells) (b : ℕ) (e : b ≡ getD cs at 0) where
+    module _ {v : ℕ} (r : Rises off v) (p : All (λ j. j < v) cs) (l : off v ≤ length s) (h : at < cells) {b : ℕ} (e : b ≡ getD cs at 0) where
       abbrev step : ℕ
       step = off (b + n) - off b
 
@@ -181,26 +181,26 @@ module _ (off : ℕ → ℕ) (s cs : List ℕ) where
       step-is = ap (λ (x : ℕ). off (x + n) - off x) e
 
       pub ragged-within : b + n ≤ v
-      ragged-within = omega (arith, row-within off v r s cs p l cells n at (c .copied .geo) h)
+      ragged-within = omega (arith, row-within r s cs p l cells n at (c .copied .geo) h)
 
       pub ragged-rises : off b ≤ off (b + n)
-      ragged-rises = run-rises off v r b n ragged-within
+      ragged-rises = run-rises r b n ragged-within
 
       pub ragged-source : off b + step ≤ length s
-      ragged-source = omega (arith, ragged-rises, run-below off v r b n ragged-within)
+      ragged-source = omega (arith, ragged-rises, run-below r b n ragged-within)
 
       pub ragged-room : total + step ≤ length ov
-      ragged-room = omega (arith, step-is, row-room off v r s cs p l cells n at (c .copied .geo) h oldv 0 ov total (c .copied .laid))
+      ragged-room = omega (arith, step-is, row-room r s cs p l cells n at (c .copied .geo) h (c .copied .laid))
 
       pub ragged-room-offsets : at + 1 + n ≤ length oo
-      ragged-room-offsets = row-ends-room off v r s cs p l cells n at (c .copied .geo) h oldo oo total (c .ended)
+      ragged-room-offsets = row-ends-room r s cs p l cells n at (c .copied .geo) h total (c .ended)
 
-      pub ragged-more : (ov′ oo′ : List ℕ) → ov′ ≡ overAt total (take step (drop (off b) s)) ov → oo′ ≡ overAt (at + 1) (map (λ j. total + (off (suc j) - off b)) (from b n)) oo
+      pub ragged-more : {ov′ oo′ : List ℕ} → ov′ ≡ overAt total (take step (drop (off b) s)) ov → oo′ ≡ overAt (at + 1) (map (λ j. total + (off (suc j) - off b)) (from b n)) oo
           → Ragged off s cs oldv oldo ov′ oo′ cells n (at + n) (total + step)
-      ragged-more ov′ oo′ q w = record {
-        copied = row-copied off v r s cs p l cells n at (c .copied .geo) h oldv 0 ov total (c .copied .laid) (off b) step (ap off e) step-is ov′
+      ragged-more {ov′} {oo′} q w = record {
+        copied = row-copied r s cs p l cells n at (c .copied .geo) h (c .copied .laid) (ap off e) step-is
             (q ∙ ap (λ (x : ℕ). overAt x (take step (drop (off b) s)) ov) (sym (zero-add total)));
-        ended = row-ended off v r s cs p l cells n at (c .copied .geo) h oldo oo total (c .ended) b step e step-is oo′ w;
+        ended = row-ended r s cs p l cells n at (c .copied .geo) h total (c .ended) e step-is w;
       }
 
 -- one element stored at the front, and what is laid behind it
@@ -208,7 +208,7 @@ pub first-then : (d : List ℕ) (x : ℕ) (g : List ℕ) → 1 ≤ length d → 
 first-then d x g h = ap (overAt 1 g) (over-store [] d 0 x refl (omega arith)) ∙ over-again (x ∷ []) g d 1 refl
 
 -- the next row of cells at equal steps
-module _ (base k v : ℕ) (s cs : List ℕ) (p : All (λ j. j < v) cs) (l : base + v * k ≤ length s) (cells n at : ℕ) (g : Left cs cells n at) (h : at < cells) (b : ℕ) (e : b ≡ getD cs at 0) where
+module _ (base k v : ℕ) (s cs : List ℕ) (p : All (λ j. j < v) cs) (l : base + v * k ≤ length s) (cells n at : ℕ) (g : Left cs cells n at) (h : at < cells) {b : ℕ} (e : b ≡ getD cs at 0) where
   fixed-end : fixedAt base k (getD cs at 0 + n) ≡ base + b * k + n * k
   fixed-end = ap (λ (x : ℕ). base + (x + n) * k) (sym e) ∙ omega (arith, add-mul b n k)
 
@@ -219,14 +219,14 @@ module _ (base k v : ℕ) (s cs : List ℕ) (p : All (λ j. j < v) cs) (l : base
   fixed-between = omega (arith, fixed-end, fixed-begin)
 
   pub fixed-source : base + b * k + n * k ≤ length s
-  fixed-source = omega (arith, fixed-end, row-source (fixedAt base k) v (fixed-rises base k v) s cs p l cells n at g h)
+  fixed-source = omega (arith, fixed-end, row-source (fixed-rises base k v) s cs p l cells n at g h)
 
-  module _ (d : List ℕ) (to : ℕ) (out : List ℕ) (done : ℕ) (c : Laying (joined (valuesAt (fixedAt base k) s cs)) d to out done (joined (valuesAt (fixedAt base k) s (drop at cs)))) where
+  module _ {d : List ℕ} {to : ℕ} {out : List ℕ} {done : ℕ} (c : Laying (joined (valuesAt (fixedAt base k) s cs)) d to out done (joined (valuesAt (fixedAt base k) s (drop at cs)))) where
     pub fixed-room : to + done + n * k ≤ length out
-    fixed-room = omega (arith, fixed-between, row-room (fixedAt base k) v (fixed-rises base k v) s cs p l cells n at g h d to out done c)
+    fixed-room = omega (arith, fixed-between, row-room (fixed-rises base k v) s cs p l cells n at g h c)
 
-    pub fixed-copied : (out′ : List ℕ) → out′ ≡ overAt (to + done) (take (n * k) (drop (base + b * k) s)) out → Copied (fixedAt base k) s cs d to out′ cells n (at + n) (done + n * k)
-    fixed-copied out′ r = row-copied (fixedAt base k) v (fixed-rises base k v) s cs p l cells n at g h d to out done c (base + b * k) (n * k) fixed-begin fixed-between out′ r
+    pub fixed-copied : {out′ : List ℕ} → out′ ≡ overAt (to + done) (take (n * k) (drop (base + b * k) s)) out → Copied (fixedAt base k) s cs d to out′ cells n (at + n) (done + n * k)
+    fixed-copied {out′} r = row-copied (fixed-rises base k v) s cs p l cells n at g h c fixed-begin fixed-between r
 
 -- ---- level by level: l of d planes are copied
 
@@ -236,9 +236,9 @@ pub record Planes (d n count : ℕ) (ps js old out : List ℕ) (l : ℕ) : Type 
 
 -- the bytes of cells at equal steps
 pub fixed-long : (base k v : ℕ) (s js : List ℕ) → base + v * k ≤ length s → All (λ j. j < v) js → length (joined (valuesAt (fixedAt base k) s js)) ≡ length js * k
-fixed-long base k v s js h p = bytes-long (fixedAt base k) v (fixed-rises base k v) s h js p ∙ fixed-total base k js
+fixed-long base k v s js h p = bytes-long (fixed-rises base k v) s h js p ∙ fixed-total base k js
 
-module _ (n count : ℕ) (ps js : List ℕ) (p : All (λ j. j < n) js) (m : length js ≡ count) where
+module _ (n : ℕ) {count : ℕ} (ps js : List ℕ) (p : All (λ j. j < n) js) (m : length js ≡ count) where
   -- a plane of the array lies in its planes
   pub plane-source : (d l : ℕ) → length ps ≡ d * n → l < d → l * n + n * 1 ≤ length ps
   plane-source d l e h = omega (arith, suc-mul l n, mul-one n, mul-le-mul-right {m = suc l} {n = d} n h)
@@ -270,7 +270,7 @@ module _ (n count : ℕ) (ps js : List ℕ) (p : All (λ j. j < n) js) (m : leng
         (ap (λ (k : ℕ). planesAt k 0 n ps js) (sym (sub-zero d)));
   }
 
-  module _ (d : ℕ) (old out : List ℕ) (l : ℕ) (e : length ps ≡ d * n) (c : Planes d n count ps js old out l) where
+  module _ {d : ℕ} {old out : List ℕ} {l : ℕ} (e : length ps ≡ d * n) (c : Planes d n count ps js old out l) where
     pub planes-same : length out ≡ length old
     planes-same = laying-same (planesAt d 0 n ps js) old 0 out (l * count) (planesAt (d - l) l n ps js) (c .laid)
 
@@ -284,8 +284,8 @@ module _ (n count : ℕ) (ps js : List ℕ) (p : All (λ j. j < n) js) (m : leng
       plane-room =
           omega (arith, planes-same, c .laid .room, planes-long d e, suc-mul l count, mul-one count, mul-le-mul-right {m = suc l} {n = d} count h)
 
-      pub planes-more : (out′ : List ℕ) → out′ ≡ overAt (l * count) (joined (valuesAt (fixedAt (l * n) 1) ps js)) out → Planes d n count ps js old out′ (l + 1)
-      planes-more out′ r =
+      pub planes-more : {out′ : List ℕ} → out′ ≡ overAt (l * count) (joined (valuesAt (fixedAt (l * n) 1) ps js)) out → Planes d n count ps js old out′ (l + 1)
+      planes-more {out′} r =
           let z : d - l ≡ suc (d - (l + 1)) = omega arith in
           record {
             within = omega arith;
@@ -322,7 +322,7 @@ module _ (f : ℕ → ℕ) (d : List ℕ) (to a n : ℕ) (out : List ℕ) (i : �
     pub images-room : to + i < length out
     images-room = laying-room (map f (from a n)) d to out i (f (a + i)) (map f (from (a + (i + 1)) (n - (i + 1)))) (laying-is l (images-next f a n i h))
 
-    pub images-more : (x : ℕ) → x ≡ f (a + i) → ImagesLaid f d to a n (set out (to + i) x) (i + 1)
-    images-more x e =
+    pub images-more : {x : ℕ} → x ≡ f (a + i) → ImagesLaid f d to a n (set out (to + i) x) (i + 1)
+    images-more {x} e =
         laying-store (map f (from a n)) d to out i x (map f (from (a + (i + 1)) (n - (i + 1))))
         (laying-is l (images-next f a n i h ∙ ap (λ (k : ℕ). k ∷ map f (from (a + (i + 1)) (n - (i + 1)))) (sym e)))

@@ -48,7 +48,7 @@ module _ {t : ℕ → Bool} {n : ℕ} {g : ℕ → List ℕ} {d : List ℕ} {to 
   module _ {r : ℕ} (e : r ≡ runOf t i (n - i)) {x : List ℕ} (ex : joined (map g (from i r)) ≡ x) where
     next : leftFrom t n g i ≡ x ++ leftFrom t n g (i + (r + 1))
     next =
-        ap (λ (is : List ℕ). joined (map g is)) (passing-run t i n r e)
+        ap (λ (is : List ℕ). joined (map g is)) (passing-run t i n e)
         ∙ ap joined (map-append g (from i r) (passing t (from (i + (r + 1)) (n - (i + (r + 1))))))
         ∙ joined-append (map g (from i r)) (map g (passing t (from (i + (r + 1)) (n - (i + (r + 1))))))
         ∙ ap (λ (y : List ℕ). y ++ leftFrom t n g (i + (r + 1))) ex

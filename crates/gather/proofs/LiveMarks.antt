@@ -89,8 +89,8 @@ module _ (n : ℕ) (masks : List ℕ) (l : ℕ) where
 
 -- ---- level 0 counts every cell, and level 1 those that are set in the first mask
 
-pub count-all : (n : ℕ) (masks : List ℕ) (l : ℕ) → l ≡ 0 → n ≡ length (liveAt n masks l)
-count-all n masks l e = sym (ap (λ (x : ℕ). length (liveAt n masks x)) e ∙ ap length (live-all n masks) ∙ length-from 0 n)
+pub count-all : (n : ℕ) (masks : List ℕ) {l : ℕ} → l ≡ 0 → n ≡ length (liveAt n masks l)
+count-all n masks e = sym (ap (λ (x : ℕ). length (liveAt n masks x)) e ∙ ap length (live-all n masks) ∙ length-from 0 n)
 
 count-from : (masks : List ℕ) (a n : ℕ) → a + n ≤ length masks → length (passing (λ i. setTest (getD masks i 0)) (from a n)) ≡ countSet (take n (drop a masks))
 count-from masks a zero h = refl
@@ -104,8 +104,8 @@ count-from masks a (suc n) h =
     go (suc zero) e = ap suc e
     go (suc (suc m)) e = e
 
-pub count-one : (n : ℕ) (masks : List ℕ) (l : ℕ) → l ≡ 1 → l * n ≤ length masks → countSet (take (n - 0) (drop 0 masks)) ≡ length (liveAt n masks l)
-count-one n masks l e h =
+pub count-one : (n : ℕ) (masks : List ℕ) {l : ℕ} → l ≡ 1 → l * n ≤ length masks → countSet (take (n - 0) (drop 0 masks)) ≡ length (liveAt n masks l)
+count-one n masks e h =
     ap (λ (m : ℕ). countSet (take m masks)) (sub-zero n)
     ∙ sym
     (ap (λ (x : ℕ). length (liveAt n masks x)) e

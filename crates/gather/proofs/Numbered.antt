@@ -18,15 +18,15 @@ use Rattle.gather.specs.Pieces.{pieceAt}
 -- ---- lists by their elements
 
 module _ {A : Type 0} where
-  pub by-index : (z : A) (xs : List A) (n : ℕ) → length xs ≡ n → xs ≡ map (λ i. getD xs i z) (from 0 n)
-  by-index z xs n e = sym (in-place z xs) ∙ ap (λ (m : ℕ). map (λ i. getD xs i z) (from 0 m)) e
+  pub by-index : (z : A) (xs : List A) {n : ℕ} → length xs ≡ n → xs ≡ map (λ i. getD xs i z) (from 0 n)
+  by-index z xs e = sym (in-place z xs) ∙ ap (λ (m : ℕ). map (λ i. getD xs i z) (from 0 m)) e
 
 -- the plane of level l
 pub plane-at : (n : ℕ) (masks : List ℕ) (l : ℕ) → l * n + n ≤ length masks → take n (drop (l * n) masks) ≡ map (maskAt n masks l) (from 0 n)
 plane-at n masks l h =
     let ps : List ℕ = drop (l * n) masks in
     let le : n ≤ length ps = omega (arith, length-drop (l * n) masks) in
-    by-index 0 (take n ps) n (length-take-le n ps le)
+    by-index 0 (take n ps) (length-take-le n ps le)
     ∙ map-from (λ i. getD (take n ps) i 0) (maskAt n masks l) 0 n (λ i h. getD-take n ps i 0 (omega arith) ∙ getD-drop (l * n) masks i 0)
 
 -- the pieces of n cells from cell a on

@@ -161,14 +161,14 @@ pieces-long o k s t n h =
     ∙ ap (λ (is : List ℕ). length is * k) (passing-start t n)
 
 -- where every cell is counted, they lie end to end
-pub all-pieces : (o : Order) (k : ℕ) (s : List ℕ) (t : ℕ → Bool) (n : ℕ) {count : ℕ} → count ≡ length (passing t (from 0 n)) → count ≡ n
+pub all-pieces : (o : Order) (k : ℕ) (s : List ℕ) (t : ℕ → Bool) {n : ℕ} {count : ℕ} → count ≡ length (passing t (from 0 n)) → count ≡ n
     → joined (map (ordered o) (pieces k n (drop 0 s))) ≡ piecesAt o k s (passing t (from 0 n))
-all-pieces o k s t n ec en =
-    ap (λ (m : ℕ). joined (map (ordered o) (pieces k n (drop m s)))) (sym (zero-mul k)) ∙ sym (run-pieces o k s 0 n) ∙ ap (piecesAt o k s) (sym (all-counted t n (sym ec ∙ en)))
+all-pieces o k s t {n = n} ec en =
+    ap (λ (m : ℕ). joined (map (ordered o) (pieces k n (drop m s)))) (sym (zero-mul k)) ∙ sym (run-pieces o k s 0 n) ∙ ap (piecesAt o k s) (sym (all-counted t (sym ec ∙ en)))
 
-pub all-long : (o : Order) (k : ℕ) (s : List ℕ) (t : ℕ → Bool) (n : ℕ) {count : ℕ} → n * k ≤ length s → count ≡ length (passing t (from 0 n)) → count ≡ n
+pub all-long : (o : Order) (k : ℕ) (s : List ℕ) (t : ℕ → Bool) {n : ℕ} {count : ℕ} → n * k ≤ length s → count ≡ length (passing t (from 0 n)) → count ≡ n
     → length (piecesAt o k s (passing t (from 0 n))) ≡ n * k
-all-long o k s t n h ec en = pieces-long o k s t n h ∙ ap (λ (m : ℕ). m * k) (sym ec ∙ en)
+all-long o k s t {n = n} h ec en = pieces-long o k s t n h ∙ ap (λ (m : ℕ). m * k) (sym ec ∙ en)
 
 -- ---- the planes of levels
 
@@ -181,4 +181,4 @@ module _ {n : ℕ} {masks : List ℕ} (l : ℕ) (h : Planes n masks (l + 1)) whe
   mask-plane = omega (arith, h .planes, suc-mul l n, ap (λ (m : ℕ). m * n) (add-one l))
 
   pub mask-all : {count : ℕ} → count ≡ length (liveAt n masks l) → count ≡ n → take n (drop (l * n) masks) ≡ map (maskAt n masks l) (liveAt n masks l)
-  mask-all ec en = plane-at n masks l mask-plane ∙ ap (map (maskAt n masks l)) (sym (all-counted (liveTest n masks l) n (sym ec ∙ en)))
+  mask-all ec en = plane-at n masks l mask-plane ∙ ap (map (maskAt n masks l)) (sym (all-counted (liveTest n masks l) (sym ec ∙ en)))

@@ -69,8 +69,8 @@ module _ (t : ℕ → Bool) where
           ap₂ (λ (a b : ℕ). passing t (from a b)) p q
 
   -- the same from a place of n cells
-  pub passing-run : (i n r : ℕ) → r ≡ runOf t i (n - i) → passing t (from i (n - i)) ≡ from i r ++ passing t (from (i + (r + 1)) (n - (i + (r + 1))))
-  passing-run i n r e =
+  pub passing-run : (i n : ℕ) {r : ℕ} → r ≡ runOf t i (n - i) → passing t (from i (n - i)) ≡ from i r ++ passing t (from (i + (r + 1)) (n - (i + (r + 1))))
+  passing-run i n {r} e =
       let q : n - i - (r + 1) ≡ n - (i + (r + 1)) = omega arith in
       run-split i (n - i) ∙ ap (λ (k : ℕ). from i k ++ passing t (from (i + (k + 1)) (n - i - (k + 1)))) (sym e)
       ∙ ap (λ (j : ℕ). from i r ++ passing t (from (i + (r + 1)) j)) q
@@ -98,8 +98,8 @@ module _ (t : ℕ → Bool) where
       go false q r = r
 
 -- where as many pass as there are, all do
-pub all-counted : (t : ℕ → Bool) (n : ℕ) → length (passing t (from 0 n)) ≡ n → passing t (from 0 n) ≡ from 0 n
-all-counted t n e = go (from 0 n) (e ∙ sym (length-from 0 n))
+pub all-counted : (t : ℕ → Bool) {n : ℕ} → length (passing t (from 0 n)) ≡ n → passing t (from 0 n) ≡ from 0 n
+all-counted t {n} e = go (from 0 n) (e ∙ sym (length-from 0 n))
   where
     go : (xs : List ℕ) → length (passing t xs) ≡ length xs → passing t xs ≡ xs
     go [] e = refl

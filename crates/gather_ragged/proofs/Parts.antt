@@ -25,9 +25,9 @@ use Rattle.gather_ragged.proofs.Placed.{ragged-laid}
 pub index-head : (w : ℕ) (os : List ℕ) → length (indexOf w (0 ∷ os)) ≡ w + length (indexOf w os)
 index-head w os = length-append (le w 0) (indexOf w os) ∙ ap (λ (m : ℕ). m + length (indexOf w os)) (length-le w 0)
 
-pub index-laid : (w to : ℕ) (os out : List ℕ) {k : ℕ} {o1 o2 : List ℕ} → to + length (indexOf w (0 ∷ os)) ≤ length out → k ≡ w
+pub index-laid : {w : ℕ} (to : ℕ) (os out : List ℕ) {k : ℕ} {o1 o2 : List ℕ} → to + length (indexOf w (0 ∷ os)) ≤ length out → k ≡ w
     → o1 ≡ overAt to (le w 0) out → o2 ≡ overAt (to + k) (indexOf w os) o1 → o2 ≡ overAt to (indexOf w (0 ∷ os)) out
-index-laid w to os out {k} {o1} {o2} h ek e1 e2 =
+index-laid {w = w} to os out {k} {o1} {o2} h ek e1 e2 =
     e2 ∙ ap (overAt (to + k) (indexOf w os)) e1 ∙ at-behind to (le w 0) (indexOf w os) out (to + k) (ap (λ (m : ℕ). to + m) (length-le w 0 ∙ sym ek)) (omega arith)
 
 -- ---- the values of the cells that a level counts
@@ -68,7 +68,7 @@ module _ (w : ℕ) (p : Place) (masks : List ℕ) (l : ℕ) {n : ℕ} {os : List
         → o3 ≡ overAt at (putValues (ragged w p) (map (sliceAt os s) (liveAt n masks l))) out
     unfolding putValues
     ragged-put at out {bytes} {place} {start} {field} {o1} {o2} {o3} eb h ed e1 es e2 ef e3 =
-        ragged-laid p w at (k * (count + 1)) bytes out o1 o2 o3 (record { values = slicesAt os s cells; offsets = offsetsOf (map (sliceAt os s) cells) })
+        ragged-laid p w at out (record { values = slicesAt os s cells; offsets = offsetsOf (map (sliceAt os s) cells) })
         (ap (λ (x : List ℕ). length (indexOf w x)) offsets-are ∙ index-long)
         (data-long ∙ sym eb)
         (omega (arith, ragged-long eb))

@@ -37,20 +37,20 @@ module _ (p : Place) (at index bytes : ℕ) {m : ℕ} (h : at + (8 + index + byt
       go atEnd e = omega arith
 
 -- the data, then the index, then its length
-pub ragged-laid : (p : Place) (w at index bytes : ℕ) (out o1 o2 o3 : List ℕ) (c : RaggedContent) {place start field : ℕ}
+pub ragged-laid : (p : Place) (w at : ℕ) {index bytes : ℕ} (out : List ℕ) {o1 o2 o3 : List ℕ} (c : RaggedContent) {place start field : ℕ}
     → length (indexOf w (c .offsets)) ≡ index → length (c .values) ≡ bytes → at + (8 + index + bytes) ≤ length out
     → place ≡ dataAt p index → o1 ≡ overAt (at + place) (c .values) out
     → start ≡ indexAt p (8 + index + bytes) index → o2 ≡ overAt (at + start) (indexOf w (c .offsets)) o1
     → field ≡ lengthAt p (8 + index + bytes) → o3 ≡ overAt (at + field) (le 8 index) o2
     → o3 ≡ overAt at (putRagged w p c) out
 unfolding putRagged
-ragged-laid atStart w at index bytes out o1 o2 o3 c {place} {start} {field} ei eb h ed e1 es e2 ef e3 =
+ragged-laid atStart w at {index = index} {bytes = bytes} out {o1 = o1} {o2 = o2} {o3 = o3} c {place} {start} {field} ei eb h ed e1 es e2 ef e3 =
     let i : List ℕ = indexOf w (c .offsets) in
     let z : at + field ≡ at = omega arith in
     let q2 : o2 ≡ overAt (at + start) (i ++ c .values) out = e2 ∙ ap (overAt (at + start) i) e1 ∙ at-front (at + start) i (c .values) out (at + place) (omega arith) (omega arith) in
     e3 ∙ ap (overAt (at + field) (le 8 index)) q2 ∙ at-front (at + field) (le 8 index) (i ++ c .values) out (at + start) (omega (arith, length-le 8 index)) (omega arith)
     ∙ ap₂ (λ (x m : ℕ). overAt x (le 8 m ++ (i ++ c .values)) out) z (sym ei)
-ragged-laid atEnd w at index bytes out o1 o2 o3 c {place} {start} {field} ei eb h ed e1 es e2 ef e3 =
+ragged-laid atEnd w at {index = index} {bytes = bytes} out {o1 = o1} {o2 = o2} {o3 = o3} c {place} {start} {field} ei eb h ed e1 es e2 ef e3 =
     let i : List ℕ = indexOf w (c .offsets) in
     let z : at + place ≡ at = omega arith in
     let q2 : o2 ≡ overAt (at + place) (c .values ++ i) out = e2 ∙ ap (overAt (at + start) i) e1 ∙ at-behind (at + place) (c .values) i out (at + start) (omega arith) (omega arith) in

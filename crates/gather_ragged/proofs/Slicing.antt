@@ -18,7 +18,7 @@ use Rattle.gather.proofs.Gathering.{Gathering, gathering-begins, gathering-same
 use Rattle.gather_ragged.specs.Slices.{Offsets, sliceAt, slicesAt}
 use Rattle.gather_ragged.proofs.Spans.{range-le, last-le, run-slices}
 
-module _ {n : ℕ} {os : List ℕ} (o : Offsets n os) (t : ℕ → Bool) (i r : ℕ) (e : r ≡ runOf t i (n - i)) (h : i < n) where
+module _ {n : ℕ} {os : List ℕ} (o : Offsets n os) (t : ℕ → Bool) (i : ℕ) {r : ℕ} (e : r ≡ runOf t i (n - i)) (h : i < n) where
   run-inside : i + r < length os
   run-inside = omega (arith, o .counted, run-le t i (n - i))
 
@@ -64,10 +64,10 @@ module _ {t : ℕ → Bool} {n : ℕ} {os s d : List ℕ} {to : ℕ} {out : List
 
   module _ {r : ℕ} (e : r ≡ runOf t i (n - i)) (h : i < n) where
     pub slicing-inside : i + r < length os
-    slicing-inside = run-inside (l .offsets) t i r e h
+    slicing-inside = run-inside (l .offsets) t i e h
 
     pub slicing-rises : getD os i 0 ≤ getD os (i + r) 0
-    slicing-rises = run-rises (l .offsets) t i r e h
+    slicing-rises = run-rises (l .offsets) t i e h
 
     pub slicing-source : getD os (i + r) 0 ≤ length s
     slicing-source = omega (arith, l .ended, l .offsets .counted, last-le os (l .offsets .rising) n (i + r) (l .offsets .counted) (omega (arith, run-le t i (n - i))))

@@ -100,7 +100,7 @@ slices-long {n} {os} masks l o s e = length-slices os s (liveAt n masks l) (live
 
 module _ {n : ℕ} {os : List ℕ} (o : Offsets n os) (masks : List ℕ) (l : ℕ) {count : ℕ} (ec : count ≡ length (liveAt n masks l)) (e : count ≡ n) where
   all-live : liveAt n masks l ≡ from 0 n
-  all-live = all-counted (liveTest n masks l) n (sym ec ∙ e)
+  all-live = all-counted (liveTest n masks l) (sym ec ∙ e)
 
   -- the bytes as they lie
   pub all-slices : (s : List ℕ) → last os ≡ length s → slicesAt os s (liveAt n masks l) ≡ s
@@ -127,7 +127,7 @@ module _ {n : ℕ} {os : List ℕ} (o : Offsets n os) (masks : List ℕ) (l : �
   -- the offsets as they lie
   pub all-ends : os ≡ 0 ∷ endsAt os 0 (liveAt n masks l)
   all-ends =
-      by-index 0 os (suc n) (o .counted)
+      by-index 0 os (o .counted)
       ∙ ap (λ (r : List ℕ). getD os 0 0 ∷ r) (from-suc (λ i. getD os i 0) 0 n ∙ run 0 n (omega (arith, o .counted)))
       ∙ ap₂ (λ (x : ℕ) (is : List ℕ). x ∷ endsAt os x is) (first-zero os (o .rising)) (sym all-live)
     where

@@ -35,13 +35,13 @@ pub climb-begins : (depth s : ℕ) → Climbing depth s s 0
 climb-begins depth s = record { within = omega arith; is = simp (unary-clauses, zero-add) }
 
 module _ {depth s₀ s k : ℕ} (c : Climbing depth s₀ s k) where
-  next-level : k < depth → (m : ℕ) → draw s .made % 4 ≡ m → setLevels depth s₀ ≡ above k (levelsBy m (draw s .state) (setLevels (depth - (k + 1)) (draw s .state)))
+  next-level : k < depth → {m : ℕ} → draw s .made % 4 ≡ m → setLevels depth s₀ ≡ above k (levelsBy m (draw s .state) (setLevels (depth - (k + 1)) (draw s .state)))
   unfolding setLevels
-  next-level h m e = c .is ∙ ap (λ (j : ℕ). above k (setLevels j s)) (next-of h) ∙ ap (λ (x : ℕ). above k (levelsBy x (draw s .state) (setLevels (depth - (k + 1)) (draw s .state)))) e
+  next-level h e = c .is ∙ ap (λ (j : ℕ). above k (setLevels j s)) (next-of h) ∙ ap (λ (x : ℕ). above k (levelsBy x (draw s .state) (setLevels (depth - (k + 1)) (draw s .state)))) e
 
   pub climb-null : {x : Drew ℕ} → x ≡ draw s → k < depth → x .made % 4 ≡ 0 → record { made = k; state = x .state } ≡ setLevels depth s₀
   climb-null {x} e h z = ap (λ (y : Drew ℕ). record { made = k; state = y .state }) e
-      ∙ sym (next-level h 0 (ap (λ (y : Drew ℕ). y .made % 4) (sym e) ∙ z) ∙ simp unary-clauses)
+      ∙ sym (next-level h (ap (λ (y : Drew ℕ). y .made % 4) (sym e) ∙ z) ∙ simp unary-clauses)
 
   pub climb-more : {x : Drew ℕ} → x ≡ draw s → k < depth → (x .made % 4 ≡ 0 → ⊥) → Climbing depth s₀ (x .state) (k + 1)
   climb-more {x} e h some = subst (λ (t : ℕ). Climbing depth s₀ t (k + 1)) (ap (λ (y : Drew ℕ). y .state) (sym e)) (go (draw s .made % 4) refl)
@@ -50,7 +50,7 @@ module _ {depth s₀ s k : ℕ} (c : Climbing depth s₀ s k) where
       go zero z = absurd (some (ap (λ (y : Drew ℕ). y .made % 4) e ∙ z))
       go (suc m) z =
           let r : Drew ℕ = setLevels (depth - (k + 1)) (draw s .state) in
-          record { within = omega arith; is = next-level h (suc m) z ∙ ap (λ (j : ℕ). record { made = j; state = r .state }) (omega arith) }
+          record { within = omega arith; is = next-level h z ∙ ap (λ (j : ℕ). record { made = j; state = r .state }) (omega arith) }
 
   pub climb-ends : depth ≤ k → record { made = k; state = s } ≡ setLevels depth s₀
   unfolding setLevels

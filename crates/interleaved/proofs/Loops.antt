@@ -52,7 +52,7 @@ module _ {n : ℕ} {s : List ℕ} {left at sum : ℕ} (w : Walking n s left at s
     pub walk-field-past : length s - at < 4 → refuses 11 ≡ walkAnswer n s
     walk-field-past f = past (field-past s at (left - 1) f)
 
-    module _ (f : 4 ≤ length s - at) (v : ℕ) (e : v ≡ lengthAt s at) where
+    module _ (f : 4 ≤ length s - at) {v : ℕ} (e : v ≡ lengthAt s at) where
       pub walk-cell-past : length s - (at + 4) < v → refuses 11 ≡ walkAnswer n s
       walk-cell-past g = past (cell-past s at (left - 1) (omega arith) (omega arith))
 
@@ -168,8 +168,8 @@ module _ {n : ℕ} {s vs₀ vs os₀ os : List ℕ} {i at to : ℕ} (c : Copying
       here = placing-is (c .placed) (ap joined whole)
 
       -- the offset is stored, and the values stand to the end of the cell
-      goes-on : (vs′ : List ℕ) → Placing (joined (found n s)) vs₀ vs′ (to + v) (joined (cell .others)) → Copying n s vs₀ vs′ os₀ (set os i to) (i + 1) (at + 4 + v) (to + v)
-      goes-on vs′ p =
+      goes-on : {vs′ : List ℕ} → Placing (joined (found n s)) vs₀ vs′ (to + v) (joined (cell .others)) → Copying n s vs₀ vs′ os₀ (set os i to) (i + 1) (at + 4 + v) (to + v)
+      goes-on p =
           let one : n - i - 1 ≡ n - (i + 1) = omega arith in
           record {
             cells = cell .others;
@@ -185,13 +185,13 @@ module _ {n : ℕ} {s vs₀ vs os₀ os : List ℕ} {i at to : ℕ} (c : Copying
           let nothing : part ≡ [] = ap (λ (k : ℕ). take k (drop (at + 4) s)) (zero-of z) in
           subst (λ (k : ℕ). Copying n s vs₀ vs os₀ (set os i to) (i + 1) k to) (omega arith)
           (subst (λ (k : ℕ). Copying n s vs₀ vs os₀ (set os i to) (i + 1) (at + 4 + v) k) (omega arith)
-          (goes-on vs (subst (λ (k : ℕ). Placing (joined (found n s)) vs₀ vs k (joined (cell .others))) (omega arith)
+          (goes-on (subst (λ (k : ℕ). Placing (joined (found n s)) vs₀ vs k (joined (cell .others))) (omega arith)
           (placing-is here (ap (λ (l : List ℕ). l ++ joined (cell .others)) nothing)))))
         where
           zero-of : v ≤ 0 → v ≡ 0
           zero-of y = omega arith
 
-      module _ (sum : ℕ) (t : sum ≡ totalOf (found n s)) where
+      module _ {sum : ℕ} (t : sum ≡ totalOf (found n s)) where
         -- room for the cell among the values, and so much behind it among the bytes
         pub copy-fits : (to ≤ sum) × (v ≤ sum - to)
         copy-fits =
@@ -202,5 +202,5 @@ module _ {n : ℕ} {s vs₀ vs os₀ os : List ℕ} {i at to : ℕ} (c : Copying
         copy-source =
             omega (arith, cells-room (n - i) (drop at s) (c .cells) (c .stored), length-drop at s, placing-left (c .placed), copy-field)
 
-        pub copy-more : (vs′ : List ℕ) → Copied v (sum - to) (drop (at + 4) s) to vs vs′ → Copying n s vs₀ vs′ os₀ (set os i to) (i + 1) (at + 4 + v) (to + v)
-        copy-more vs′ f = goes-on vs′ (placing-cell here (omega (arith, length-drop (at + 4) s, copy-cell)) (omega (arith, copy-fits, t)) f)
+        pub copy-more : {vs′ : List ℕ} → Copied v (sum - to) (drop (at + 4) s) to vs vs′ → Copying n s vs₀ vs′ os₀ (set os i to) (i + 1) (at + 4 + v) (to + v)
+        copy-more {vs′} f = goes-on (placing-cell here (omega (arith, length-drop (at + 4) s, copy-cell)) (omega (arith, copy-fits, t)) f)

@@ -39,9 +39,9 @@ module _ {want d out : List ℕ} {to : ℕ} where
       ∙ ap₂ (λ (a b : List ℕ). a ++ b) (p .front ∙ take-all to want (omega arith)) (ap (λ (k : ℕ). drop k out) all ∙ p .back)
 
   -- a part g is placed, with what stands in s behind it
-  pub placing-part : (g r : List ℕ) → Placing want d out to (g ++ r) → (s : List ℕ) → to + length s ≤ length want → length g ≤ length s → take (length g) s ≡ g
-      → (out′ : List ℕ) → out′ ≡ overAt to s out → Placing want d out′ (to + length g) r
-  placing-part g r p s h l e out′ f = record {
+  pub placing-part : {g : List ℕ} (r : List ℕ) → Placing want d out to (g ++ r) → (s : List ℕ) → to + length s ≤ length want → length g ≤ length s → take (length g) s ≡ g
+      → {out′ : List ℕ} → out′ ≡ overAt to s out → Placing want d out′ (to + length g) r
+  placing-part {g} r p s h l e {out′} f = record {
     room = p .room;
     same = ap length f ∙ over-at-length to s out (omega (arith, p .same, p .room)) ∙ p .same;
     within = omega arith;
@@ -68,7 +68,7 @@ module _ {want d out : List ℕ} {to : ℕ} where
   pub placing-cell : {k room : ℕ} {s r : List ℕ} → Placing want d out to (take k s ++ r) → k ≤ length s → to + room ≤ length want
       → {out′ : List ℕ} → Copied k room s to out out′ → Placing want d out′ (to + k) r
   placing-cell {k} {room} {s} {r} p g h {out′} c =
-      subst (λ (m : ℕ). Placing want d out′ (to + m) r) long (placing-part (take k s) r p copied fits enough first out′ (c .done))
+      subst (λ (m : ℕ). Placing want d out′ (to + m) r) long (placing-part r p copied fits enough first (c .done))
     where
       copied : List ℕ
       copied = take (c .count) s

@@ -63,8 +63,8 @@ module _ {n : ℕ} {s os : List ℕ} (h : Held n s os) (d : List ℕ) (room : le
       let whole : interleavedOf s os ≡ count ++ cells =
       ap₂ (λ (m : ℕ) (vs : List Value). le 4 m ++ putCells vs) (cells-counted h) (cells-are h) in
       subst (λ (k : ℕ). Placing (interleavedOf s os) d out k cells) (omega arith)
-      (placing-part count cells (placing-is (placing-begins (interleavedOf s os) d room) whole) count
-      (omega (arith, ap length whole, length-append count cells)) (le-refl (length count)) (take-all (length count) count (le-refl (length count))) out e)
+      (placing-part cells (placing-is (placing-begins (interleavedOf s os) d room) whole) count
+      (omega (arith, ap length whole, length-append count cells)) (le-refl (length count)) (take-all (length count) count (le-refl (length count))) e)
 
   pub storing-begins : Storing n s os out out 0 0 4
   storing-begins =
@@ -159,8 +159,8 @@ module _ {n : ℕ} {s os d out : List ℕ} {start i at : ℕ} (c : Storing n s o
       cell-left =
           let field : List ℕ = le 4 (end - start) in
           subst (λ (k : ℕ). Placing (interleavedOf s os) d out₁ (at + k) (cell ++ rest)) (length-le 4 (end - start))
-          (placing-part field (cell ++ rest) field-left field (omega (arith, length-le 4 (end - start), storing-room)) (le-refl (length field))
-          (take-all (length field) field (le-refl (length field))) out₁ (f₁ ∙ ap (λ (k : ℕ). overAt at (le 4 k) out) e₁))
+          (placing-part (cell ++ rest) field-left field (omega (arith, length-le 4 (end - start), storing-room)) (le-refl (length field))
+          (take-all (length field) field (le-refl (length field))) (f₁ ∙ ap (λ (k : ℕ). overAt at (le 4 k) out) e₁))
 
       pub stored-same : length out₁ ≡ length d
       stored-same = cell-left .same

@@ -38,8 +38,8 @@ module _ (k : declared.Kind) where
     pub kind-deep : 0 < k .depth → false ≡ interleavedTest (kindOf k)
     kind-deep h = rw (p, ne-eqb (k .depth) 0 (λ e. omega arith))
 
-    pub kind-flat : k .depth ≤ 0 → (f : Values) → k .values ≡ f → raggedTest (formOf f) ≡ interleavedTest (kindOf k)
-    kind-flat h f e = rw (p, eq-eqb (k .depth) 0 (omega arith), e)
+    pub kind-flat : k .depth ≤ 0 → {f : Values} → k .values ≡ f → raggedTest (formOf f) ≡ interleavedTest (kindOf k)
+    kind-flat h e = rw (p, eq-eqb (k .depth) 0 (omega arith), e)
 
 -- ---- refusals 1 to 5
 
@@ -73,7 +73,7 @@ module _ (k : Kind) (shape : List ℕ) (c : Content) (out : List ℕ) where
         let s : Counted shape n = counted shape n q in
         sym (rw (p, s .passes) (ap (λ (m : ℕ). encodedCells k m c out) (sym (s .is))))
 
-module _ (k : Kind) (n : ℕ) (c : Content) (out : List ℕ) (r : Checked) (f : toldChecked r ≡ checkOf k n c) where
+module _ (k : Kind) (n : ℕ) (c : Content) (out : List ℕ) {r : Checked} (f : toldChecked r ≡ checkOf k n c) where
   pub write-content : {number : ℕ} → r ≡ Checked.Refused number → refusedList number out ≡ encodedCells k n c out
   write-content {number} e =
       let stored : List ℕ = interleavedForm k n c in

@@ -14,5 +14,5 @@ module _ {B : Type 0} (f : ℕ → B) (z : B) where
   go (suc n) a (suc i) h = let e : suc a + i ≡ a + suc i = omega arith in go n (suc a) i (omega arith) ∙ ap f e
 
   -- what holds of the list by computation holds of each entry
-  pub entry : (l : List B) (n : ℕ) → l ≡ map f (from 0 n) → (i : ℕ) → i < n → getD l i z ≡ f i
-  entry l n e i h = let k : 0 + i ≡ i = omega arith in ap (λ (xs : List B). getD xs i z) e ∙ go n 0 i h ∙ ap f k
+  pub entry : {l : List B} (n : ℕ) → l ≡ map f (from 0 n) → (i : ℕ) → i < n → getD l i z ≡ f i
+  entry n e i h = let k : 0 + i ≡ i = omega arith in ap (λ (xs : List B). getD xs i z) e ∙ go n 0 i h ∙ ap f k

@@ -88,8 +88,8 @@ bit-one (suc (suc b)) = refl
 
 -- ---- the check of a mask: it passes, or its refusal is given
 
-pub counted-passed : (mf : MaskForm) (mask : List ℕ) (n k : ℕ) → mf .test mask n ≡ true → k ≡ countSet (mf .said mask n) → gives k ≡ countedIn mf mask n
-counted-passed mf mask n k t e =
+pub counted-passed : (mf : MaskForm) (mask : List ℕ) (n : ℕ) {k : ℕ} → mf .test mask n ≡ true → k ≡ countSet (mf .said mask n) → gives k ≡ countedIn mf mask n
+counted-passed mf mask n t e =
     ap (λ (i : ℕ). gives i) e ∙ sym (ap (λ (b : Bool). andThen (unless b (mf .refusal) (gives (mf .said mask n))) (λ ms. gives (countSet ms))) t)
 
 pub counted-failed : (mf : MaskForm) (mask : List ℕ) (n : ℕ) → mf .test mask n ≡ false → refuses (mf .refusal) ≡ countedIn mf mask n

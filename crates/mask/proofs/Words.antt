@@ -47,7 +47,7 @@ word-packed bs l p =
     let few : x < 256 = rw l at (number-below bs p) in
     let bits : digits 2 8 x ≡ bs = ap (λ (k : ℕ). digits 2 k x) (sym l) ∙ digits-number 2 (zero-lt-suc 1) bs p in
     ap halves (sym bits)
-    ∙ sym (entry (λ i. halves (digits 2 8 i)) 0 (from 0 256) 256 (sym packs) x few) ∙ entry (λ i. i) 0 (from 0 256) 256 (sym (map-id (from 0 256))) x few
+    ∙ sym (entry (λ i. halves (digits 2 8 i)) 0 256 (sym packs) x few) ∙ entry (λ i. i) 0 256 (sym (map-id (from 0 256))) x few
 
 -- ---- reading
 
@@ -61,7 +61,7 @@ pub eight-at : (b : ℕ) → b < 256 → le 8 (eightOf b) ≡ digits 2 8 b
 unfolding le
 eight-at b h =
     let all : List (List ℕ) = map (λ k. digits 256 8 (eightOf k)) (from 0 256) in
-    sym (entry (λ k. digits 256 8 (eightOf k)) [] all 256 refl b h) ∙ entry (digits 2 8) [] all 256 eight b h
+    sym (entry (λ k. digits 256 8 (eightOf k)) [] {l = all} 256 refl b h) ∙ entry (digits 2 8) [] 256 eight b h
 
 -- ---- bytes that are all alike
 
@@ -228,9 +228,9 @@ module _ (planes : List ℕ) (at n : ℕ) (h : at + n ≤ length planes) where
   pub packed-end : (done : ℕ) → n ≤ done → packedFrom done ≡ []
   packed-end done l = ap (λ (xs : List ℕ). packBits (map bitOf xs)) (part-end planes at n h done l)
 
-  pub packed-next : (done count : ℕ) → done ≤ n → count ≡ min 256 (n - done)
+  pub packed-next : (done : ℕ) {count : ℕ} → done ≤ n → count ≡ min 256 (n - done)
       → packedFrom done ≡ packBits (map bitOf (take count (drop (at + done) planes))) ++ packedFrom (done + count)
-  packed-next done count l e =
+  packed-next done {count} l e =
       let xs : List ℕ = drop done (take n (drop at planes)) in
       let front : take count xs ≡ take count (drop (at + done) planes) = take-within done count n (drop at planes) (omega arith) ∙ ap (take count) (drop-drop done at planes) in
       let back : drop count xs ≡ drop (done + count) (take n (drop at planes)) = drop-drop count done (take n (drop at planes)) in
@@ -254,8 +254,8 @@ module _ (planes : List ℕ) (at n : ℕ) (h : at + n ≤ length planes) where
 
 -- ---- laid part after part
 
-pub over-parts : (to k : ℕ) (xs ys d : List ℕ) {mid out : List ℕ} → length xs ≡ k → to + k ≤ length d → mid ≡ overAt to xs d → out ≡ overAt (to + k) ys mid → out ≡ overAt to (xs ++ ys) d
-over-parts to k xs ys d l h e f =
+pub over-parts : (to : ℕ) {k : ℕ} (xs ys d : List ℕ) {mid out : List ℕ} → length xs ≡ k → to + k ≤ length d → mid ≡ overAt to xs d → out ≡ overAt (to + k) ys mid → out ≡ overAt to (xs ++ ys) d
+over-parts to {k = k} xs ys d l h e f =
     let front : length (take to d ++ xs) ≡ to + k = omega (arith, length-append (take to d) xs, length-take-le to d (omega arith)) in
     f ∙ ap (overAt (to + k) ys) e ∙ over-again (take to d ++ xs) ys d (to + k) front ∙ ap (λ (w : List ℕ). over w d) (append-assoc (take to d) xs ys)
 

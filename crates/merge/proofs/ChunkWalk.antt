@@ -67,30 +67,30 @@ module _ {k : Kind} {sh flat : List ℕ} {count : ℕ} {c : Content} {i at p v o
   -- ---- all chunks are done
 
   module _ (h : count ≤ i) where
-    done : (x y z : Bool) → eqb (length (here .masks)) 0 ≡ x → eqb (length (here .values)) 0 ≡ y → eqb (length (here .offsets)) 0 ≡ z → whole ≡ x && y && z
-    done x y z e₁ e₂ e₃ =
+    done : {x y z : Bool} → eqb (length (here .masks)) 0 ≡ x → eqb (length (here .values)) 0 ≡ y → eqb (length (here .offsets)) 0 ≡ z → whole ≡ x && y && z
+    done e₁ e₂ e₃ =
         w .same ∙ ap (λ (bs : List Subset). chunksTest k bs here) (rest-ends sh flat count i at h)
         ∙ ap₂ (λ (a b : Bool). a && b) (ap₂ (λ (a b : Bool). a && b) e₁ e₂) e₃
 
-    none : (n : ℕ) (xs : List ℕ) → n ≡ length xs → eqb (length (drop n xs)) 0 ≡ true
-    none n xs e = eq-eqb (length (drop n xs)) 0 (omega (arith, length-drop n xs))
+    none : {n : ℕ} (xs : List ℕ) → n ≡ length xs → eqb (length (drop n xs)) 0 ≡ true
+    none {n} xs e = eq-eqb (length (drop n xs)) 0 (omega (arith, length-drop n xs))
 
     some : (n : ℕ) (xs : List ℕ) → n ≤ length xs → n ≢ length xs → eqb (length (drop n xs)) 0 ≡ false
     some n xs l e = ne-eqb (length (drop n xs)) 0 (λ z. e (omega (arith, z, length-drop n xs)))
 
     pub masks-left : p ≢ length (c .masks) → false ≡ whole
-    masks-left e = sym (done false (eqb (length (here .values)) 0) (eqb (length (here .offsets)) 0) (some p (c .masks) (w .masks) e) refl refl)
+    masks-left e = sym (done {y = eqb (length (here .values)) 0} {z = eqb (length (here .offsets)) 0} (some p (c .masks) (w .masks) e) refl refl)
 
     module _ (ep : p ≡ length (c .masks)) where
       pub values-left : v ≢ length (c .values) → false ≡ whole
-      values-left e = sym (done true false (eqb (length (here .offsets)) 0) (none p (c .masks) ep) (some v (c .values) (w .values) e) refl)
+      values-left e = sym (done {z = eqb (length (here .offsets)) 0} (none (c .masks) ep) (some v (c .values) (w .values) e) refl)
 
       pub by-offsets : v ≡ length (c .values) → eqb o (length (c .offsets)) ≡ whole
       by-offsets ev = go (eqb o (length (c .offsets))) refl
         where
           go : (b : Bool) → eqb o (length (c .offsets)) ≡ b → b ≡ whole
-          go true t = sym (done true true true (none p (c .masks) ep) (none v (c .values) ev) (none o (c .offsets) (eqb-true o (length (c .offsets)) t)))
-          go false t = sym (done true true false (none p (c .masks) ep) (none v (c .values) ev) (some o (c .offsets) (w .offsets) (eqb-false o (length (c .offsets)) t)))
+          go true t = sym (done (none (c .masks) ep) (none (c .values) ev) (none (c .offsets) (eqb-true o (length (c .offsets)) t)))
+          go false t = sym (done (none (c .masks) ep) (none (c .values) ev) (some o (c .offsets) (w .offsets) (eqb-false o (length (c .offsets)) t)))
 
   -- ---- the first of the chunks that are left
 
@@ -98,14 +98,14 @@ module _ {k : Kind} {sh flat : List ℕ} {count : ℕ} {c : Content} {i at p v o
     abbrev later : List Subset
     later = rest sh flat count (i + 1) (at + length sh + length sh)
 
-    turn : (t : Bool) → arrayTest k m (firstChunk k m here) ≡ t → whole ≡ t && chunksTest k later (laterChunks k m here)
-    turn t et =
-        w .same ∙ ap (λ (bs : List Subset). chunksTest k bs here) (subset-now sh flat count i at (w .geo) h)
-        ∙ ap (λ (n : ℕ). arrayTest k n (firstChunk k n here) && chunksTest k later (laterChunks k n here)) (ap volume (now-lengths sh flat count i at (w .geo) h) ∙ sym e)
+    turn : {t : Bool} → arrayTest k m (firstChunk k m here) ≡ t → whole ≡ t && chunksTest k later (laterChunks k m here)
+    turn et =
+        w .same ∙ ap (λ (bs : List Subset). chunksTest k bs here) (subset-now sh flat count (w .geo) h)
+        ∙ ap (λ (n : ℕ). arrayTest k n (firstChunk k n here) && chunksTest k later (laterChunks k n here)) (ap volume (now-lengths sh flat count (w .geo) h) ∙ sym e)
         ∙ ap (λ (x : Bool). x && chunksTest k later (laterChunks k m here)) et
 
     pub walked-bad : refuses 4 ≡ chunkAnswer k m (lent c p v o) → false ≡ whole
-    walked-bad r = sym (turn false (chunk-bad k m here (r ∙ ap (chunkAnswer k m) (lent-left c p v o))))
+    walked-bad r = sym (turn (chunk-bad k m here (r ∙ ap (chunkAnswer k m) (lent-left c p v o))))
 
     module _ {taken numbers : ℕ} (r : takes taken numbers ≡ chunkAnswer k m (lent c p v o)) where
       fitting : Fitting k m here taken numbers
@@ -120,9 +120,9 @@ module _ {k : Kind} {sh flat : List ℕ} {count : ℕ} {c : Content} {i at p v o
 
       pub walked-more : Walked k sh flat count c (i + 1) (at + length sh + length sh) (p + k .depth * m) (v + taken) (o + numbers)
       walked-more = record {
-        geo = subsets-more sh flat count i at (w .geo) h;
+        geo = subsets-more sh flat count (w .geo) h;
         masks = omega (arith, fitting .held .masks, length-drop p (c .masks), w .masks);
         values = omega (arith, fitting .held .values, fitting .size .is-taken, length-drop v (c .values), w .values);
         offsets = omega (arith, fitting .held .offsets, fitting .size .is-numbers, length-drop o (c .offsets), w .offsets);
-        same = turn true (fitting .test) ∙ ap (chunksTest k later) next;
+        same = turn (fitting .test) ∙ ap (chunksTest k later) next;
       }

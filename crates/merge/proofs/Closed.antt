@@ -31,8 +31,8 @@ use Rattle.merge.proofs.Lengths.{merged-masks, merged-bytes, fixed-byte
 use Rattle.merge.proofs.Written.{short-masks, short-values, short-offsets, written}
 
 -- a result with what lies beyond it is that result over the output
-over-is : (s t old : List ℕ) (n : ℕ) → s ≡ t → length s ≡ n → t ++ drop n old ≡ over s old
-over-is s t old n e l = ap₂ (λ (x : List ℕ) (k : ℕ). x ++ drop k old) (sym e) (sym l)
+over-is : {s t : List ℕ} (old : List ℕ) {n : ℕ} → s ≡ t → length s ≡ n → t ++ drop n old ≡ over s old
+over-is old e l = ap₂ (λ (x : List ℕ) (k : ℕ). x ++ drop k old) (sym e) (sym l)
 
 -- what the stores are to leave behind
 abbrev pub left : Kind → List ℕ → List ℕ → Content → Sizes → Content → Outcome Lengths Content
@@ -55,10 +55,10 @@ module _ {k : Kind} {sh flat : List ℕ} {c : Content} {z : Sizes} (q : MergeAsk
   merged = mergeOf k sh bs cells
 
   mask-bytes : length (merged .masks) ≡ k .depth * z .cells
-  mask-bytes = merged-masks sh bs inside (q .once) are ∙ ap (λ (n : ℕ). k .depth * n) (sym (q .checked .counted))
+  mask-bytes = merged-masks sh inside (q .once) are ∙ ap (λ (n : ℕ). k .depth * n) (sym (q .checked .counted))
 
   value-bytes : length (merged .values) ≡ length (c .values)
-  value-bytes = merged-bytes sh bs inside (q .once) are
+  value-bytes = merged-bytes sh inside (q .once) are
 
   module _ (old : Content) where
     left-is : contentOutcome (unless (enoughTest merged (lengthsOf old)) 6 (gives merged)) old ≡ left k sh flat c z old
@@ -67,10 +67,10 @@ module _ {k : Kind} {sh flat : List ℕ} {c : Content} {z : Sizes} (q : MergeAsk
         ap (λ (a : Answer (List (Cell (k .depth)))). contentOutcome (andThen a (λ cs. unless (enoughTest (mergeOf k sh bs cs) (lengthsOf old)) 6 (gives (mergeOf k sh bs cs)))) old) (sym (are .are))
 
     pub no-masks : length (old .masks) < k .depth * z .cells → record { answer = refuses 6; buffers = old } ≡ left k sh flat c z old
-    no-masks h = short-masks merged old (k .depth * z .cells) (length (c .values)) (length (merged .offsets)) mask-bytes value-bytes refl h ∙ left-is
+    no-masks h = short-masks merged old (length (merged .offsets)) mask-bytes value-bytes refl h ∙ left-is
 
     pub no-values : length (old .values) < length (c .values) → record { answer = refuses 6; buffers = old } ≡ left k sh flat c z old
-    no-values h = short-values merged old (k .depth * z .cells) (length (c .values)) (length (merged .offsets)) mask-bytes value-bytes refl h ∙ left-is
+    no-values h = short-values merged old (length (merged .offsets)) mask-bytes value-bytes refl h ∙ left-is
 
     pub masks-asked : k .depth * z .cells ≤ length (old .masks) → MasksAsked sh flat (z .count) (old .masks) (c .masks) (k .depth) (z .cells)
     masks-asked h = record {
@@ -83,13 +83,13 @@ module _ {k : Kind} {sh flat : List ℕ} {c : Content} {z : Sizes} (q : MergeAsk
 
     masks-done : masksMerged sh bs (k .depth) (c .masks) (k .depth) ++ drop (k .depth * z .cells) (old .masks) ≡ over (merged .masks) (old .masks)
     masks-done =
-        over-is (merged .masks) (masksMerged sh bs (k .depth) (c .masks) (k .depth)) (old .masks) (k .depth * z .cells) (masks-close (nullOf (k .form)) sh bs are) mask-bytes
+        over-is (old .masks) (masks-close (nullOf (k .form)) sh are) mask-bytes
 
 -- ---- values of one width
 
 module _ {x : Masks} {d s : ℕ} {r : Order} {sh flat : List ℕ} {c : Content} {z : Sizes} (q : MergeAsked (record { depth = d; masks = x; form = fixed s r }) sh flat c z) (old : Content) where
   width : length (c .values) ≡ volume sh * s
-  width = fixed-bytes x s d r sh (bs q) (inside q) (q .once) (are q)
+  width = fixed-bytes x s d r sh (inside q) (q .once) (are q)
 
   parts-now : length (c .values) ≤ length (old .values) → PartsAsked sh flat (z .count) (old .values) 0 s (c .values) 0 s
   parts-now h = record {
@@ -100,17 +100,17 @@ module _ {x : Masks} {d s : ℕ} {r : Order} {sh flat : List ℕ} {c : Content} 
     enough = values-total x s d r (bs q) (are q);
   }
 
-  fixed-now : d * z .cells ≤ length (old .masks) → length (c .values) ≤ length (old .values) → (ms vs : List ℕ)
+  fixed-now : d * z .cells ≤ length (old .masks) → length (c .values) ≤ length (old .values) → {ms vs : List ℕ}
       → ms ≡ masksMerged sh (bs q) d (c .masks) d ++ drop (d * z .cells) (old .masks)
       → vs ≡ scatter (old .values) (places (fixedAt 0 s) (cellsOfAll sh (bs q))) (parts 0 s s (bs q) (c .values))
       → record { answer = gives (record { masks = d * z .cells; values = length (c .values); offsets = 0 }); buffers = contentArray ms vs (old .offsets) }
       ≡ left (record { depth = d; masks = x; form = fixed s r }) sh flat c z old
-  fixed-now hm hv ms vs em ev =
+  fixed-now hm hv {ms} {vs} em ev =
       let m : Content = merged q in
-      written m old (d * z .cells) (length (c .values)) 0 (mask-bytes q) (value-bytes q) refl hm hv (omega arith) ms vs (old .offsets)
+      written m old 0 (mask-bytes q) (value-bytes q) refl hm hv (omega arith) {os = old .offsets}
       (em ∙ masks-done q old)
-      (ev ∙ fixed-close x s d r (nullOf (fixed s r)) sh (bs q) (inside q) (q .once) c (cells q) (are q) (old .values) (omega (arith, width))
-      ∙ over-is (m .values) (m .values) (old .values) (volume sh * s) refl (value-bytes q ∙ width))
+      (ev ∙ fixed-close x s d r (nullOf (fixed s r)) sh (inside q) (q .once) (are q) (old .values) (omega (arith, width))
+      ∙ over-is {s = m .values} {t = m .values} (old .values) refl (value-bytes q ∙ width))
       refl
       ∙ left-is q old
 
@@ -121,28 +121,26 @@ module _ {x : Masks} {w d : ℕ} {p : Place} {sh flat : List ℕ} {c : Content} 
   offset-count = ragged-offsets d (volume sh) (blank [] d) (cellsOfAll sh (bs q)) (cells q) ∙ ap (λ (n : ℕ). n + 1) (sym (q .checked .counted))
 
   short-now : length (old .offsets) ≤ z .cells → record { answer = refuses 6; buffers = old } ≡ left (record { depth = d; masks = x; form = ragged w p }) sh flat c z old
-  short-now h = short-offsets (merged q) old (d * z .cells) (length (c .values)) (z .cells + 1) (mask-bytes q) (value-bytes q) offset-count (omega arith) ∙ left-is q old
+  short-now h = short-offsets (merged q) old (z .cells + 1) (mask-bytes q) (value-bytes q) offset-count (omega arith) ∙ left-is q old
 
   ragged-now : length (c .values) ≤ length (old .values) → z .cells < length (old .offsets)
       → RaggedMergeAsked sh flat (z .count) (old .values) (old .offsets) (c .values) (c .offsets) (z .cells)
   ragged-now hv ho =
-      ragged-asked x w d p sh flat (z .count) (q .checked .subsets) (q .once) c (cells q) (are q) (old .values) (old .offsets) (z .cells) (q .checked .counted) ho (q .checked .small) hv
+      ragged-asked x w d p (q .checked .subsets) (q .once) (are q) (old .values) (old .offsets) (q .checked .counted) ho (q .checked .small) hv
 
-  stored-now : d * z .cells ≤ length (old .masks) → length (c .values) ≤ length (old .values) → z .cells < length (old .offsets) → (ms vs os : List ℕ)
+  stored-now : d * z .cells ≤ length (old .masks) → length (c .values) ≤ length (old .values) → z .cells < length (old .offsets) → {ms vs os : List ℕ}
       → ms ≡ masksMerged sh (bs q) d (c .masks) d ++ drop (d * z .cells) (old .masks)
       → os ≡ offsetsMerged sh (bs q) (c .offsets) ++ drop (z .cells + 1) (old .offsets)
       → vs ≡ scatter (old .values) (places (offsetAt os) (cellsOfAll sh (bs q))) (c .values)
       → record { answer = gives (record { masks = d * z .cells; values = length (c .values); offsets = z .cells + 1 }); buffers = contentArray ms vs os }
       ≡ left (record { depth = d; masks = x; form = ragged w p }) sh flat c z old
-  stored-now hm hv ho ms vs os em eo ev =
+  stored-now hm hv ho {ms} {vs} {os} em eo ev =
       let m : Content = merged q in
-      written m old (d * z .cells) (length (c .values)) (z .cells + 1) (mask-bytes q) (value-bytes q) offset-count hm hv (omega arith) ms vs os
-      (em ∙ masks-done q old)
+      written m old (z .cells + 1) (mask-bytes q) (value-bytes q) offset-count hm hv (omega arith) (em ∙ masks-done q old)
       (ev ∙ ap (λ (y : List ℕ). scatter (old .values) (places (offsetAt y) (cellsOfAll sh (bs q))) (c .values)) eo
-      ∙ values-close x w d p sh (bs q) (inside q) (q .once) c (cells q) (are q) (drop (z .cells + 1) (old .offsets)) (old .values) hv
-      ∙ over-is (m .values) (m .values) (old .values) (length (c .values)) refl (value-bytes q))
-      (eo ∙ over-is (m .offsets) (offsetsMerged sh (bs q) (c .offsets)) (old .offsets) (z .cells + 1)
-      (sym (offsets-close x w d p sh (bs q) (inside q) (q .once) c (cells q) (are q))) offset-count)
+      ∙ values-close x w d p sh (inside q) (q .once) (are q) (drop (z .cells + 1) (old .offsets)) (old .values) hv
+      ∙ over-is {s = m .values} {t = m .values} (old .values) refl (value-bytes q))
+      (eo ∙ over-is (old .offsets) (sym (offsets-close x w d p sh (inside q) (q .once) (are q))) offset-count)
       ∙ left-is q old
 
 -- ---- of the form that was found
@@ -161,11 +159,11 @@ module _ {k : Kind} {sh flat : List ℕ} {c : Content} {z : Sizes} (q : MergeAsk
     pub parts-asked : length (c .values) ≤ length (old .values) → PartsAsked sh flat (z .count) (old .values) 0 s (c .values) 0 s
     parts-asked = parts-now (as-form e) old
 
-    pub fixed-stored : k .depth * z .cells ≤ length (old .masks) → length (c .values) ≤ length (old .values) → (ms vs : List ℕ)
+    pub fixed-stored : k .depth * z .cells ≤ length (old .masks) → length (c .values) ≤ length (old .values) → {ms vs : List ℕ}
         → ms ≡ masksMerged sh (bs q) (k .depth) (c .masks) (k .depth) ++ drop (k .depth * z .cells) (old .masks)
         → vs ≡ scatter (old .values) (places (fixedAt 0 s) (cellsOfAll sh (bs q))) (parts 0 s s (bs q) (c .values))
         → record { answer = gives (record { masks = k .depth * z .cells; values = length (c .values); offsets = 0 }); buffers = contentArray ms vs (old .offsets) } ≡ left k sh flat c z old
-    fixed-stored hm hv ms vs em ev = fixed-now (as-form e) old hm hv ms vs em ev ∙ back e
+    fixed-stored hm hv {ms} {vs} em ev = fixed-now (as-form e) old hm hv em ev ∙ back e
 
   module _ {w : ℕ} {p : Place} (e : k .form ≡ ragged w p) where
     pub no-offsets : length (old .offsets) ≤ z .cells → record { answer = refuses 6; buffers = old } ≡ left k sh flat c z old
@@ -175,9 +173,9 @@ module _ {k : Kind} {sh flat : List ℕ} {c : Content} {z : Sizes} (q : MergeAsk
         → RaggedMergeAsked sh flat (z .count) (old .values) (old .offsets) (c .values) (c .offsets) (z .cells)
     ragged-merge-asked = ragged-now (as-form e) old
 
-    pub ragged-stored : k .depth * z .cells ≤ length (old .masks) → length (c .values) ≤ length (old .values) → z .cells < length (old .offsets) → (ms vs os : List ℕ)
+    pub ragged-stored : k .depth * z .cells ≤ length (old .masks) → length (c .values) ≤ length (old .values) → z .cells < length (old .offsets) → {ms vs os : List ℕ}
         → ms ≡ masksMerged sh (bs q) (k .depth) (c .masks) (k .depth) ++ drop (k .depth * z .cells) (old .masks)
         → os ≡ offsetsMerged sh (bs q) (c .offsets) ++ drop (z .cells + 1) (old .offsets)
         → vs ≡ scatter (old .values) (places (offsetAt os) (cellsOfAll sh (bs q))) (c .values)
         → record { answer = gives (record { masks = k .depth * z .cells; values = length (c .values); offsets = z .cells + 1 }); buffers = contentArray ms vs os } ≡ left k sh flat c z old
-    ragged-stored hm hv ho ms vs os em eo ev = stored-now (as-form e) old hm hv ho ms vs os em eo ev ∙ back e
+    ragged-stored hm hv ho {ms} {vs} {os} em eo ev = stored-now (as-form e) old hm hv ho em eo ev ∙ back e

@@ -61,7 +61,7 @@ length-putBack z n js xs = length-map (from 0 n) (λ i. lookup z i js xs) ∙ le
 
 -- ---- the merged cells
 
-module _ {k : Kind} (sh : List ℕ) (bs : List Subset) (inside : All (SubsetOk sh) bs) (once : Once (volume sh) (cellsOfAll sh bs)) {c : Content} {cs : List (Cell (k .depth))}
+module _ {k : Kind} (sh : List ℕ) {bs : List Subset} (inside : All (SubsetOk sh) bs) (once : Once (volume sh) (cellsOfAll sh bs)) {c : Content} {cs : List (Cell (k .depth))}
     (e : Chunked k bs c cs) where
   abbrev js : List ℕ
   js = cellsOfAll sh bs
@@ -85,15 +85,15 @@ module _ {k : Kind} (sh : List ℕ) (bs : List Subset) (inside : All (SubsetOk s
       ∙ sym (blocks.length-joined (leaves d cs)) ∙ ap length (all-values bs e)
 
 -- values of one width: as many bytes as cells of that width
-pub fixed-bytes : (x : Masks) (k d : ℕ) (r : Order) (sh : List ℕ) (bs : List Subset) → All (SubsetOk sh) bs → Once (volume sh) (cellsOfAll sh bs) → {c : Content} {cs : List (Cell d)}
+pub fixed-bytes : (x : Masks) (k d : ℕ) (r : Order) (sh : List ℕ) {bs : List Subset} → All (SubsetOk sh) bs → Once (volume sh) (cellsOfAll sh bs) → {c : Content} {cs : List (Cell d)}
     → Chunked (record { depth = d; masks = x; form = fixed k r }) bs c cs → length (c .values) ≡ volume sh * k
-fixed-bytes x k d r sh bs inside once {c} {cs} e =
+fixed-bytes x k d r sh {bs = bs} inside once {c} {cs} e =
     let z : Cell d = blank (nullOf (fixed k r)) d in
     let vs : List Value = putBack (leaf d z) (volume sh) (cellsOfAll sh bs) (leaves d cs) in
     let sized : All (λ v. length v ≡ k) vs =
     putBack-all (λ v. length v ≡ k) (leaf d z) (leaf-blank (nullOf (fixed k r)) (λ v. length v ≡ k) d (null-sized (fixed k r))) (volume sh) (cellsOfAll sh bs) (leaves d cs)
     (fixed-cells x k d r bs e .sized) in
-    sym (merged-bytes sh bs inside once e) ∙ ap (λ (y : List Value). length (joined y)) (sym (putBack-map (leaf d) z (volume sh) (cellsOfAll sh bs) cs))
+    sym (merged-bytes sh inside once e) ∙ ap (λ (y : List Value). length (joined y)) (sym (putBack-map (leaf d) z (volume sh) (cellsOfAll sh bs) cs))
     ∙ length-joined k vs sized ∙ ap (λ (n : ℕ). n * k) (length-putBack (leaf d z) (volume sh) (cellsOfAll sh bs) (leaves d cs))
 
 -- ragged values: one offset more than cells

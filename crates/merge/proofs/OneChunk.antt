@@ -62,8 +62,8 @@ pub record Holds (k : Kind) (m : ℕ) (c : Content) : Type 0 where
 
 values-held : (f : Form) (m : ℕ) (ms vs os : List ℕ) → ValuesOk f m (contentArray ms (take (chunkTaken f m os) vs) (take (offsetCount f m) os))
     → (chunkTaken f m os ≤ length vs) × (offsetCount f m ≤ length os)
-values-held (fixed k o) m ms vs os v = (take-long (m * k) vs (v .0), omega arith)
-values-held (ragged w p) m ms vs os v = (take-long (last (take (suc m) os)) vs (sym (v .2)), take-long (suc m) os (v .0))
+values-held (fixed k o) m ms vs os v = (take-long vs (v .0), omega arith)
+values-held (ragged w p) m ms vs os v = (take-long vs (sym (v .2)), take-long os (v .0))
 
 -- ---- what the answer says of a chunk
 
@@ -80,19 +80,19 @@ module _ (k : Kind) (m : ℕ) (c : Content) where
   holds t =
       let ok : ContentOk k m (firstChunk k m c) = array-ok k m (firstChunk k m c) t .fits in
       let v = values-held (k .form) m (take (k .depth * m) (c .masks)) (c .values) (c .offsets) (ok .values-fit) in
-      record { masks = take-long (k .depth * m) (c .masks) (ok .masks-fit); values = v .0; offsets = v .1 }
+      record { masks = take-long (c .masks) (ok .masks-fit); values = v .0; offsets = v .1 }
 
-  answered : (b : Bool) → b ≡ test → unless b 4 (chunkTakes (k .form) m (c .offsets)) ≡ chunkAnswer k m c
+  answered : {b : Bool} → b ≡ test → unless b 4 (chunkTakes (k .form) m (c .offsets)) ≡ chunkAnswer k m c
   unfolding chunkAnswer
-  answered b e = ap (λ (x : Bool). unless x 4 (chunkTakes (k .form) m (c .offsets))) e
+  answered e = ap (λ (x : Bool). unless x 4 (chunkTakes (k .form) m (c .offsets))) e
 
   pub chunk-fits : {taken numbers : ℕ} → takes taken numbers ≡ chunkAnswer k m c → Fitting k m c taken numbers
   chunk-fits e =
-      let t = passed test 4 (chunkTakes (k .form) m (c .offsets)) (answered test refl ∙ sym e) in
+      let t = passed test 4 (chunkTakes (k .form) m (c .offsets)) (answered {b = test} refl ∙ sym e) in
       record { test = t .0; held = holds (t .0); size = sized (k .form) m (c .offsets) (t .1) }
 
   pub chunk-bad : refuses 4 ≡ chunkAnswer k m c → test ≡ false
-  chunk-bad e = go test refl (e ∙ sym (answered test refl))
+  chunk-bad e = go test refl (e ∙ sym (answered {b = test} refl))
     where
       go : (b : Bool) → test ≡ b → refuses 4 ≡ unless b 4 (chunkTakes (k .form) m (c .offsets)) → test ≡ false
       go true t e = let z : _≡_ {A = ℕ} 0 1 = cc in absurd (omega arith)
@@ -105,9 +105,9 @@ module _ (k : Kind) (m : ℕ) (c : Content) where
     where
       go : (b : Bool) → test ≡ b → refuses 4 ≡ chunkAnswer k m c
       go true t = absurd (n (holds t))
-      go false t = answered false (sym t)
+      go false t = answered (sym t)
 
-  module _ {taken numbers : ℕ} (s : Sized (k .form) m (c .offsets) taken numbers) (keeps : Bool)
+  module _ {taken numbers : ℕ} (s : Sized (k .form) m (c .offsets) taken numbers) {keeps : Bool}
       (e : keeps ≡ arrayTest k m (contentArray (take (k .depth * m - 0) (c .masks)) (take (taken - 0) (c .values)) (take (numbers - 0) (c .offsets)))) where
     -- the slices are the chunk's own
     own : keeps ≡ test
@@ -118,7 +118,7 @@ module _ (k : Kind) (m : ℕ) (c : Content) where
         e ∙ (λ i. arrayTest k m (contentArray (take (whole (k .depth * m) i) (c .masks)) (take (v i) (c .values)) (take (o i) (c .offsets))))
 
     pub chunk-breaks : not keeps ≡ true → refuses 4 ≡ chunkAnswer k m c
-    chunk-breaks h = answered false (sym (not-true keeps h) ∙ own)
+    chunk-breaks h = answered (sym (not-true keeps h) ∙ own)
 
     pub chunk-keeps : not keeps ≡ false → takes taken numbers ≡ chunkAnswer k m c
-    chunk-keeps h = (λ i. takes (s .is-taken i) (s .is-numbers i)) ∙ answered true (sym (not-false keeps h) ∙ own)
+    chunk-keeps h = (λ i. takes (s .is-taken i) (s .is-numbers i)) ∙ answered (sym (not-false keeps h) ∙ own)

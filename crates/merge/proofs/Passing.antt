@@ -44,41 +44,41 @@ module _ (k : Kind) (sh ns : List ℕ) (c : Content) where
   abbrev given : Answer Sizes
   given = gives (record { cells = volume sh; count = length ns / (2 * length sh) })
 
-  answered : (a b m t s : Bool) → kindTest k ≡ a → shapeTest sh ≡ b → manyTest sh ns ≡ m → kept ≡ t → sizeTest (length (c .values)) ≡ s
+  answered : {a b m : Bool} (t s : Bool) → kindTest k ≡ a → shapeTest sh ≡ b → manyTest sh ns ≡ m → kept ≡ t → sizeTest (length (c .values)) ≡ s
       → checkAnswer k sh ns c ≡ unless a 1 (unless b 2 (unless m 3 (unless t 4 (unless s 5 given))))
   unfolding checkAnswer
-  answered a b m t s p q r u v = rw (p, q, r, u, v)
+  answered t s p q r u v = rw (p, q, r, u, v)
 
   pub no-kind : kindTest k ≡ false → refuses 1 ≡ checkAnswer k sh ns c
-  no-kind p = sym (answered false (shapeTest sh) (manyTest sh ns) kept (sizeTest (length (c .values))) p refl refl refl refl)
+  no-kind p = sym (answered {b = shapeTest sh} {m = manyTest sh ns} kept (sizeTest (length (c .values))) p refl refl refl refl)
 
   module _ (p : kindTest k ≡ true) where
     pub no-shape : shapeTest sh ≡ false → refuses 2 ≡ checkAnswer k sh ns c
-    no-shape q = sym (answered true false (manyTest sh ns) kept (sizeTest (length (c .values))) p q refl refl refl)
+    no-shape q = sym (answered {m = manyTest sh ns} kept (sizeTest (length (c .values))) p q refl refl refl)
 
     module _ (q : shapeTest sh ≡ true) where
       pub no-subsets : manyTest sh ns ≡ false → refuses 3 ≡ checkAnswer k sh ns c
-      no-subsets r = sym (answered true true false kept (sizeTest (length (c .values))) p q r refl refl)
+      no-subsets r = sym (answered kept (sizeTest (length (c .values))) p q r refl refl)
 
       module _ (r : manyTest sh ns ≡ true) where
         is-kept : {t : Bool} → chunksTest k (nextSubsets (length sh) count ns) c ≡ t → kept ≡ t
         is-kept u = ap (λ (bs : List Subset). chunksTest k bs c) (subsets-same sh ns q r) ∙ u
 
         pub bad-chunks : chunksTest k (nextSubsets (length sh) count ns) c ≡ false → refuses 4 ≡ checkAnswer k sh ns c
-        bad-chunks u = sym (answered true true true false (sizeTest (length (c .values))) p q r (is-kept u) refl)
+        bad-chunks u = sym (answered false (sizeTest (length (c .values))) p q r (is-kept u) refl)
 
         module _ (u : chunksTest k (nextSubsets (length sh) count ns) c ≡ true) where
           pub too-many : mostBytes < length (c .values) → refuses 5 ≡ checkAnswer k sh ns c
-          too-many h = sym (answered true true true true false p q r (is-kept u) (lt-leb (length (c .values)) mostBytes h))
+          too-many h = sym (answered true false p q r (is-kept u) (lt-leb (length (c .values)) mostBytes h))
 
           pub passes : length (c .values) ≤ mostBytes → given ≡ checkAnswer k sh ns c
-          passes h = sym (answered true true true true true p q r (is-kept u) (le-leb (length (c .values)) mostBytes h))
+          passes h = sym (answered true true p q r (is-kept u) (le-leb (length (c .values)) mostBytes h))
 
   -- ---- what is known where they pass
 
   pub passed : (z : Sizes) → gives z ≡ checkAnswer k sh ns c → MergeChecked k sh ns c z × (subsetsOf (length sh) ns ≡ nextSubsets (length sh) (z .count) ns)
   passed z e =
-      let all = sym (answered (kindTest k) (shapeTest sh) (manyTest sh ns) kept (sizeTest (length (c .values))) refl refl refl refl refl) in
+      let all = sym (answered {a = kindTest k} {b = shapeTest sh} {m = manyTest sh ns} kept (sizeTest (length (c .values))) refl refl refl refl refl) in
       let sized : Answer Sizes = unless (sizeTest (length (c .values))) 5 given in
       let a = answers.passed (kindTest k) 1 (unless (shapeTest sh) 2 (unless (manyTest sh ns) 3 (unless kept 4 sized))) (all ∙ sym e) in
       let b = answers.passed (shapeTest sh) 2 (unless (manyTest sh ns) 3 (unless kept 4 sized)) (a .1) in

@@ -71,23 +71,23 @@ module _ (k : Kind) (sh ns : List ℕ) (c : Content) where
     unfolding merged
     whole = refl
 
-    by-steps : (t : Answer Sizes) → t ≡ checkAnswer k sh ns c
+    by-steps : {t : Answer Sizes} → t ≡ checkAnswer k sh ns c
         → merged k sh ns c old ≡ contentOutcome (andThen t (λ z. coverAnswer k sh bs c (lengthsOf old))) old
-    by-steps t e =
+    by-steps e =
         whole ∙ ap (λ (a : Answer Content). contentOutcome a old)
         (merge-steps (lengthsOf old) ∙ ap (λ (x : Answer Sizes). andThen x (λ z. coverAnswer k sh bs c (lengthsOf old))) (sym e))
 
     pub merge-refused : (e : ℕ) → refuses e ≡ checkAnswer k sh ns c
         → record { answer = refuses e; buffers = old } ≡ merged k sh ns c old
-    merge-refused e p = sym (by-steps (refuses e) p)
+    merge-refused e p = sym (by-steps p)
 
     module _ (z : Sizes) (p : gives z ≡ checkAnswer k sh ns c) where
       pub merge-checked : MergeChecked k sh ns c z
       merge-checked = passed k sh ns c z p .0
 
-      pub merge-stored : (o : Outcome Lengths Content) → o ≡ contentOutcome (coverAnswer k sh (nextSubsets (length sh) (z .count) ns) c (lengthsOf old)) old → o ≡ merged k sh ns c old
-      merge-stored o e =
-          e ∙ ap (λ (x : List Subset). contentOutcome (coverAnswer k sh x c (lengthsOf old)) old) (sym (passed k sh ns c z p .1)) ∙ sym (by-steps (gives z) p)
+      pub merge-stored : {o : Outcome Lengths Content} → o ≡ contentOutcome (coverAnswer k sh (nextSubsets (length sh) (z .count) ns) c (lengthsOf old)) old → o ≡ merged k sh ns c old
+      merge-stored e =
+          e ∙ ap (λ (x : List Subset). contentOutcome (coverAnswer k sh x c (lengthsOf old)) old) (sym (passed k sh ns c z p .1)) ∙ sym (by-steps p)
 
 -- ---- the test of 12
 
@@ -95,5 +95,5 @@ module _ {covers t : Bool} (e : covers ≡ t) (a : Answer Content) (old : Conten
   pub uncovered : covers ≡ false → record { answer = refuses 12; buffers = old } ≡ contentOutcome (unless t 12 a) old
   uncovered f = ap (λ (x : Bool). contentOutcome (unless x 12 a) old) (sym f ∙ e)
 
-  pub covered : covers ≡ true → (o : Outcome Lengths Content) → o ≡ contentOutcome a old → o ≡ contentOutcome (unless t 12 a) old
-  covered f o s = s ∙ ap (λ (x : Bool). contentOutcome (unless x 12 a) old) (sym f ∙ e)
+  pub covered : covers ≡ true → {o : Outcome Lengths Content} → o ≡ contentOutcome a old → o ≡ contentOutcome (unless t 12 a) old
+  covered f s = s ∙ ap (λ (x : Bool). contentOutcome (unless x 12 a) old) (sym f ∙ e)

@@ -51,7 +51,7 @@ masks-total {k} (b ∷ bs) {c} e =
     omega (
       arith,
       masks-total bs (q .is-later),
-      take-long (d * m) (c .masks) (q .ok .masks-fit),
+      take-long (c .masks) (q .ok .masks-fit),
       length-drop (d * m) (c .masks),
       add-mul m (cellsTotal bs) d,
       mul-comm d m,
@@ -66,7 +66,7 @@ values-total x k d r (b ∷ bs) {c} e =
     omega (
       arith,
       values-total x k d r bs (q .is-later),
-      take-long (m * k) (c .values) (q .ok .values-fit .0),
+      take-long (c .values) (q .ok .values-fit .0),
       length-drop (m * k) (c .values),
       add-mul m (cellsTotal bs) k,
     )

@@ -120,7 +120,7 @@ module _ (ls : List ℕ) (off : ℕ → ℕ) (base : ℕ) (o : List ℕ) (eo : (
       ap (λ (r : List ℕ). scatter r (places off js) (joined vs)) cut
       ∙ scatter-joined ls off (take base o) (drop (base + sum ls) o) (λ j h. eo j h ∙ ap (λ (k : ℕ). k + sum (take j ls)) (sym lp)) (cutBy ls m) js vs el a b
       ∙ ap (λ (r : List Value). take base o ++ joined r ++ drop (base + sum ls) o)
-      (scatter-putBack z (cutBy ls m) (length ls) js vs (sym (length-map (cutBy ls m) length) ∙ ap length el) (beside-long (λ j v. length v ≡ getD ls j 0) js vs b) once)
+      (scatter-putBack z (cutBy ls m) js vs (sym (length-map (cutBy ls m) length) ∙ ap length el) (beside-long (λ j v. length v ≡ getD ls j 0) js vs b) once)
 
 -- ---- values of one width
 

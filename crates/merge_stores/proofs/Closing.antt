@@ -54,9 +54,9 @@ sum-putBack n js ls a o e =
 
 -- ---- masks
 
-pub masks-close : {k : Kind} (v : Value) (sh : List ℕ) (bs : List Subset) {c : Content} {cs : List (Cell (k .depth))} → Chunked k bs c cs
+pub masks-close : {k : Kind} (v : Value) (sh : List ℕ) {bs : List Subset} {c : Content} {cs : List (Cell (k .depth))} → Chunked k bs c cs
     → masksOf (k .depth) (putBack (blank v (k .depth)) (volume sh) (cellsOfAll sh bs) cs) ≡ masksMerged sh bs (k .depth) (c .masks) (k .depth)
-masks-close {k} v sh bs {c} {cs} e =
+masks-close {k} v sh {bs = bs} {c} {cs} e =
     let d : ℕ = k .depth in
     masks-putBack v d (volume sh) (cellsOfAll sh bs) cs
     ∙ ap joined (map-from (λ l. putBack 0 (volume sh) (cellsOfAll sh bs) (levelAt d l cs)) (λ l. putBack 0 (volume sh) (cellsOfAll sh bs) (parts l d 1 bs (c .masks))) 0 d
@@ -76,7 +76,7 @@ cells-counted {k} (b ∷ bs) {c} e =
 
 -- ---- ragged values
 
-module _ (x : Masks) (w d : ℕ) (p : Place) (sh : List ℕ) (bs : List Subset) (inside : All (SubsetOk sh) bs) (once : Once (volume sh) (cellsOfAll sh bs)) (c : Content) (cs : List (Cell d))
+module _ (x : Masks) (w d : ℕ) (p : Place) (sh : List ℕ) {bs : List Subset} (inside : All (SubsetOk sh) bs) (once : Once (volume sh) (cellsOfAll sh bs)) {c : Content} {cs : List (Cell d)}
     (e : Chunked (record { depth = d; masks = x; form = ragged w p }) bs c cs) where
   abbrev js : List ℕ
   js = cellsOfAll sh bs
@@ -139,10 +139,10 @@ module _ (x : Masks) (k d : ℕ) (r : Order) where
       }
 
   -- the values stored are the merged values, whatever stands for a null cell
-  pub fixed-close : (v : Value) (sh : List ℕ) (bs : List Subset) → All (SubsetOk sh) bs → Once (volume sh) (cellsOfAll sh bs) → (c : Content) (cs : List (Cell d)) → Chunked kind bs c cs
+  pub fixed-close : (v : Value) (sh : List ℕ) {bs : List Subset} → All (SubsetOk sh) bs → Once (volume sh) (cellsOfAll sh bs) → {c : Content} {cs : List (Cell d)} → Chunked kind bs c cs
       → (o : List ℕ) → volume sh * k ≤ length o
       → scatter o (places (fixedAt 0 k) (cellsOfAll sh bs)) (parts 0 k k bs (c .values)) ≡ joined (leaves d (putBack (blank v d) (volume sh) (cellsOfAll sh bs) cs)) ++ drop (volume sh * k) o
-  fixed-close v sh bs inside once c cs e o room =
+  fixed-close v sh {bs} inside once {c} {cs} e o room =
       let f = fixed-cells bs e in
       let as-many : length (cellsOfAll sh bs) ≡ length (leaves d cs) = length-all sh bs inside ∙ sym (length-map cs (leaf d) ∙ cells-counted bs e) in
       ap (scatter o (places (fixedAt 0 k) (cellsOfAll sh bs))) (sym (f .laid))

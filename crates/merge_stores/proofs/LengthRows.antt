@@ -23,10 +23,10 @@ module _ {d : List ℕ} {at : ℕ} (src : List ℕ) {first n : ℕ} {o : List �
       (steps-at src (first + i) (omega arith) ∙ ap (λ (y : ℕ). getD src y 0 - getD src (first + i) 0) (sym (add-one (first + i)))) (copy-more c k)
 
 -- the store of a run of cells of one element
-module _ (base : ℕ) (cs xs : List ℕ) (first : ℕ) (d o : List ℕ) (cells n at : ℕ) (c : Store (fixedAt base 1) cs (drop first xs) d o cells n at at) (h : at < cells) (a : ℕ) (e : a ≡ getD cs at 0)
-    (room : base + a + n ≤ length d) (enough : first + at + n ≤ length xs) (o′ : List ℕ) (p : o′ ≡ overAt (base + a) (take n (drop (first + at) xs)) o) where
+module _ (base : ℕ) {cs : List ℕ} (xs : List ℕ) (first : ℕ) {d o : List ℕ} {cells n at : ℕ} (c : Store (fixedAt base 1) cs (drop first xs) d o cells n at at) (h : at < cells) {a : ℕ} (e : a ≡ getD cs at 0)
+    (room : base + a + n ≤ length d) (enough : first + at + n ≤ length xs) {o′ : List ℕ} (p : o′ ≡ overAt (base + a) (take n (drop (first + at) xs)) o) where
   pub unit-more : Store (fixedAt base 1) cs (drop first xs) d o′ cells n (at + n) (at + n)
   unit-more =
-      store-more (fixedAt base 1) cs (drop first xs) d o cells n at at c h a e (λ i h l. omega (arith, mul-one i, mul-one (suc i))) (base + a) n (at + n)
-      (ap (λ (k : ℕ). base + k) (sym (mul-one a))) (omega (arith, mul-one a, mul-one (a + n))) refl room (omega (arith, length-drop first xs)) o′
+      store-more c h e (λ i h l. omega (arith, mul-one i, mul-one (suc i))) (base + a) n (at + n)
+      (ap (λ (k : ℕ). base + k) (sym (mul-one a))) (omega (arith, mul-one a, mul-one (a + n))) refl room (omega (arith, length-drop first xs))
       (p ∙ ap (λ (x : List ℕ). overAt (base + a) (take n x) o) (sym (drop-drop at first xs)))

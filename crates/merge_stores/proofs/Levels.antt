@@ -70,18 +70,18 @@ maskOf-pairUp [] xs e = refl
 maskOf-pairUp (m ∷ ms) [] e = absurd (omega arith)
 maskOf-pairUp (m ∷ ms) (x ∷ xs) e = ap (λ (r : List ℕ). m ∷ r) (maskOf-pairUp ms xs (omega arith))
 
-level-attach : (n : ℕ) (vs : List Value) → length vs ≡ n → (d l : ℕ) (ps : List ℕ) → l < d → length ps ≡ d * n → levelAt d l (attach d n ps vs) ≡ take n (drop (n * l) ps)
-level-attach n vs ev zero l ps h e = absurd (omega arith)
-level-attach n vs ev (suc d) zero ps h e =
+level-attach : {n : ℕ} (vs : List Value) → length vs ≡ n → (d l : ℕ) (ps : List ℕ) → l < d → length ps ≡ d * n → levelAt d l (attach d n ps vs) ≡ take n (drop (n * l) ps)
+level-attach vs ev zero l ps h e = absurd (omega arith)
+level-attach {n} vs ev (suc d) zero ps h e =
     let lt : length (take n ps) ≡ n = length-take-le n ps (omega (arith, suc-mul d n)) in
     let ld : length (drop n ps) ≡ d * n = omega (arith, suc-mul d n, length-drop n ps) in
     maskOf-pairUp (take n ps) (attach d n (drop n ps) vs) (lt ∙ sym (length-attach n vs ev d (drop n ps) ld)) ∙ ap (λ (k : ℕ). take n (drop k ps)) (sym (mul-zero n))
-level-attach n vs ev (suc d) (suc l) ps h e =
+level-attach {n} vs ev (suc d) (suc l) ps h e =
     let lt : length (take n ps) ≡ n = length-take-le n ps (omega (arith, suc-mul d n)) in
     let ld : length (drop n ps) ≡ d * n = omega (arith, suc-mul d n, length-drop n ps) in
     let q : n + n * l ≡ n * suc l = omega (arith, mul-suc n l) in
     ap (levelAt d l) (inners-pairUp (take n ps) (attach d n (drop n ps) vs) (lt ∙ sym (length-attach n vs ev d (drop n ps) ld)))
-    ∙ level-attach n vs ev d l (drop n ps) (omega arith) ld ∙ ap (take n) (drop-drop (n * l) n ps ∙ ap (λ (k : ℕ). drop k ps) q)
+    ∙ level-attach vs ev d l (drop n ps) (omega arith) ld ∙ ap (take n) (drop-drop (n * l) n ps ∙ ap (λ (k : ℕ). drop k ps) q)
 
 none-at : (d l : ℕ) → levelAt d l [] ≡ []
 none-at zero l = refl
@@ -98,7 +98,7 @@ chunk-levels {k} l h (b ∷ bs) {c} e =
     let room : m * l + m ≤ d * m = omega (arith, mul-suc m l, mul-comm m (suc l), mul-le-mul-right {m = suc l} {n = d} m h) in
     ap (levelAt d l) (p .whole) ∙ level-append d l (cellsOf k m first) (p .later)
     ∙ ap₂ (λ (x y : List ℕ). x ++ y)
-    (level-attach m (valuesIn (k .form) m first) (values-length (k .form) m first (p .ok .values-fit)) d l (first .masks) h (p .ok .masks-fit)
+    (level-attach (valuesIn (k .form) m first) (values-length (k .form) m first (p .ok .values-fit)) d l (first .masks) h (p .ok .masks-fit)
     ∙ take-within (m * l) m (d * m) (c .masks) room ∙ ap (λ (n : ℕ). take n (drop (m * l) (c .masks))) (sym (mul-one m)))
     (chunk-levels l h bs (p .is-later) ∙ ap (λ (n : ℕ). parts l d 1 bs (drop n (c .masks))) (mul-comm d m))
 

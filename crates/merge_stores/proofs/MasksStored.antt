@@ -27,7 +27,7 @@ pub record Stored (sh flat : List ℕ) (count : ℕ) (d src : List ℕ) (depth c
   pub long : length o ≡ length d
   pub done : o ≡ masksMerged sh (nextSubsets (length sh) count flat) depth src l ++ drop (l * cells) d
 
-module _ (sh flat : List ℕ) (count : ℕ) (d src : List ℕ) (depth cells : ℕ) (q : MasksAsked sh flat count d src depth cells) where
+module _ {sh flat : List ℕ} {count : ℕ} {d src : List ℕ} {depth cells : ℕ} (q : MasksAsked sh flat count d src depth cells) where
   abbrev bs : List Subset
   bs = nextSubsets (length sh) count flat
 
@@ -67,9 +67,9 @@ module _ (sh flat : List ℕ) (count : ℕ) (d src : List ℕ) (depth cells : �
         enough = q .enough;
       }
 
-      pub masks-more : (o′ : List ℕ) → o′ ≡ scatter o (places (fixedAt (l * cells) 1) (cellsOfAll sh (nextSubsets (length sh) count flat))) (parts l depth 1 (nextSubsets (length sh) count flat) src)
+      pub masks-more : {o′ : List ℕ} → o′ ≡ scatter o (places (fixedAt (l * cells) 1) (cellsOfAll sh (nextSubsets (length sh) count flat))) (parts l depth 1 (nextSubsets (length sh) count flat) src)
           → Stored sh flat count d src depth cells o′ (l + 1)
-      masks-more o′ p =
+      masks-more p =
           let f : List ℕ = joined (map level (from 0 l)) in
           let lf : length f ≡ l * cells = long-levels 0 l in
           let lx : length js ≡ length (parts l depth 1 bs src) =

@@ -21,8 +21,8 @@ use Rattle.merge_stores.specs.Store.{parts, cellsTotal, StoreAsked, Part
 use Rattle.merge_stores.proofs.Scattering.{length-scatter, scatter-then, places-append}
 
 -- what is beyond the places is not looked at
-pub scatter-enough : (acc : List ℕ) (js xs : List ℕ) (n : ℕ) → length js ≡ n → n ≤ length xs → scatter acc js xs ≡ scatter acc js (take n xs)
-scatter-enough acc js xs n e h =
+pub scatter-enough : (acc : List ℕ) (js xs : List ℕ) {n : ℕ} → length js ≡ n → n ≤ length xs → scatter acc js xs ≡ scatter acc js (take n xs)
+scatter-enough acc js xs {n} e h =
     ap₂ (scatter acc) (sym (append-nil js)) (sym (take-append-drop n xs)) ∙ scatter-then acc js [] (take n xs) (drop n xs) (e ∙ sym (length-take-le n xs h))
 
 pub length-places : (base k : ℕ) (js : List ℕ) → length (places (fixedAt base k) js) ≡ length js * k
@@ -40,7 +40,7 @@ pub record StoreAll (sh flat : List ℕ) (count : ℕ) (d : List ℕ) (base size
   pub same : scatter d (places (fixedAt base size) (cellsOfAll sh (nextSubsets (length sh) count flat))) (parts lead step size (nextSubsets (length sh) count flat) src)
       ≡ scatter o (places (fixedAt base size) (cellsOfAll sh (rest sh flat count i at))) (parts lead step size (rest sh flat count i at) (drop pos src))
 
-module _ (sh flat : List ℕ) (count : ℕ) (d : List ℕ) (base size : ℕ) (src : List ℕ) (lead step : ℕ) (q : PartsAsked sh flat count d base size src lead step) where
+module _ {sh flat : List ℕ} {count : ℕ} {d : List ℕ} {base size : ℕ} {src : List ℕ} {lead step : ℕ} (q : PartsAsked sh flat count d base size src lead step) where
   abbrev off : ℕ → ℕ
   off = fixedAt base size
 
@@ -54,7 +54,7 @@ module _ (sh flat : List ℕ) (count : ℕ) (d : List ℕ) (base size : ℕ) (sr
         same = ap (λ (bs : List Subset). scatter d (places (fixedAt base size) (cellsOfAll sh bs)) (parts lead step size bs src)) z;
       }
 
-  module _ (o : List ℕ) (i at pos : ℕ) (c : StoreAll sh flat count d base size src lead step o i at pos) where
+  module _ {o : List ℕ} {i at pos : ℕ} (c : StoreAll sh flat count d base size src lead step o i at pos) where
     pub all-ends : count ≤ i → o ≡ scatter d (places (fixedAt base size) (cellsOfAll sh (nextSubsets (length sh) count flat))) (parts lead step size (nextSubsets (length sh) count flat) src)
     all-ends h =
         sym (c .same ∙ ap (λ (bs : List Subset). scatter o (places (fixedAt base size) (cellsOfAll sh bs)) (parts lead step size bs (drop pos src))) (rest-ends sh flat count i at h))
@@ -70,13 +70,13 @@ module _ (sh flat : List ℕ) (count : ℕ) (d : List ℕ) (base size : ℕ) (sr
       later = rest sh flat count (i + 1) (at + length sh + length sh)
 
       abbrev now : rest sh flat count i at ≡ pairs starts lens ∷ later
-      now = subset-now sh flat count i at (c .geo) h
+      now = subset-now sh flat count (c .geo) h
 
       abbrev m : ℕ
       m = volume (lengths (pairs starts lens))
 
       cells-now : m ≡ volume lens
-      cells-now = ap volume (now-lengths sh flat count i at (c .geo) h)
+      cells-now = ap volume (now-lengths sh flat count (c .geo) h)
 
       -- the chunk lies in what is left
       pub all-room : pos + volume lens * step + cellsTotal later * step ≤ length src
@@ -85,16 +85,16 @@ module _ (sh flat : List ℕ) (count : ℕ) (d : List ℕ) (base size : ℕ) (sr
       pub part-room : pos + volume lens * lead + volume lens * size ≤ length src
       part-room = omega (arith, all-room, mul-add (volume lens) lead size, mul-le-mul-left {m = lead + size} {n = step} (volume lens) (q .inner))
 
-      pub all-asked : (k : ℕ) → k ≡ volume lens → StoreAsked sh starts lens o base size src (pos + k * lead)
-      all-asked k e = record {
+      pub all-asked : {k : ℕ} → k ≡ volume lens → StoreAsked sh starts lens o base size src (pos + k * lead)
+      all-asked e = record {
         shaped = q .subsets .shaped;
-        fits = now-within sh flat count i at (c .geo) h;
+        fits = now-within sh flat count (c .geo) h;
         narrow = q .narrow;
         room = omega (arith, q .room, c .long);
         enough = omega (arith, part-room, ap (λ (x : ℕ). x * lead) e);
       }
 
-      module _ (k : ℕ) (e : k ≡ volume lens) (o′ : List ℕ)
+      module _ {k : ℕ} (e : k ≡ volume lens) {o′ : List ℕ}
           (p : o′ ≡ scatter o (places (fixedAt base size) (cellsIn sh (pairs starts lens))) (drop (pos + k * lead) src)) where
         abbrev cs : List ℕ
         cs = cellsIn sh (pairs starts lens)
@@ -103,7 +103,7 @@ module _ (sh flat : List ℕ) (count : ℕ) (d : List ℕ) (base size : ℕ) (sr
         part = take (m * size) (drop (m * lead) (drop pos src))
 
         long-places : length (places (fixedAt base size) cs) ≡ m * size
-        long-places = length-places base size cs ∙ ap (λ (x : ℕ). x * size) (length-cellsIn sh (pairs starts lens) (now-within sh flat count i at (c .geo) h .inside))
+        long-places = length-places base size cs ∙ ap (λ (x : ℕ). x * size) (length-cellsIn sh (pairs starts lens) (now-within sh flat count (c .geo) h .inside))
 
         source : drop (m * lead) (drop pos src) ≡ drop (pos + k * lead) src
         source = drop-drop (m * lead) pos src ∙ ap (λ (x : ℕ). drop (pos + x * lead) src) (cells-now ∙ sym e)
@@ -114,7 +114,7 @@ module _ (sh flat : List ℕ) (count : ℕ) (d : List ℕ) (base size : ℕ) (sr
 
         stored : scatter o (places (fixedAt base size) cs) part ≡ o′
         stored =
-            sym (scatter-enough o (places (fixedAt base size) cs) (drop (m * lead) (drop pos src)) (m * size) long-places fits-part)
+            sym (scatter-enough o (places (fixedAt base size) cs) (drop (m * lead) (drop pos src)) long-places fits-part)
             ∙ ap (scatter o (places (fixedAt base size) cs)) source ∙ sym p
 
         pub all-more : StoreAll sh flat count d base size src lead step o′ (i + 1) (at + length sh + length sh) (pos + k * step)
@@ -122,7 +122,7 @@ module _ (sh flat : List ℕ) (count : ℕ) (d : List ℕ) (base size : ℕ) (sr
             let es : k * step ≡ volume lens * step = ap (λ (x : ℕ). x * step) e in
             let em : m * step ≡ k * step = ap (λ (x : ℕ). x * step) (cells-now ∙ sym e) in
             record {
-              geo = subsets-more sh flat count i at (c .geo) h;
+              geo = subsets-more sh flat count (c .geo) h;
               long = ap length p ∙ length-scatter o (places (fixedAt base size) cs) (drop (pos + k * lead) src) ∙ c .long;
               enough = omega (arith, all-room);
               same =

@@ -21,11 +21,11 @@ use Rattle.merge_stores.proofs.FirstChunk.{Chunked, all-values}
 use Rattle.merge_stores.proofs.Levels.{length-all}
 use Rattle.merge_stores.proofs.RaggedTies.{length-chunks, ragged-lengths}
 
-pub ragged-asked : (x : Masks) (w d : ℕ) (p : Place) (sh flat : List ℕ) (count : ℕ) → SubsetsOk sh flat count → Once (volume sh) (cellsOfAll sh (nextSubsets (length sh) count flat))
-    → (c : Content) (cs : List (Cell d)) → Chunked (record { depth = d; masks = x; form = ragged w p }) (nextSubsets (length sh) count flat) c cs
-    → (outv outo : List ℕ) (n : ℕ) → n ≡ volume sh → n < length outo → length (c .values) ≤ mostBytes → length (c .values) ≤ length outv
+pub ragged-asked : (x : Masks) (w d : ℕ) (p : Place) {sh flat : List ℕ} {count : ℕ} → SubsetsOk sh flat count → Once (volume sh) (cellsOfAll sh (nextSubsets (length sh) count flat))
+    → {c : Content} {cs : List (Cell d)} → Chunked (record { depth = d; masks = x; form = ragged w p }) (nextSubsets (length sh) count flat) c cs
+    → (outv outo : List ℕ) {n : ℕ} → n ≡ volume sh → n < length outo → length (c .values) ≤ mostBytes → length (c .values) ≤ length outv
     → RaggedMergeAsked sh flat count outv outo (c .values) (c .offsets) n
-ragged-asked x w d p sh flat count q once c cs e outv outo n counted room small enough =
+ragged-asked x w d p {sh} {flat} {count} q once {c} {cs} e outv outo {n} counted room small enough =
     let bs : List Subset = nextSubsets (length sh) count flat in
     record {
       subsets = q;

@@ -35,7 +35,7 @@ ragged-begins begins cs values first d cells n g = record {
 
 module _ {begins cs values : List ℕ} {first : ℕ} {d o : List ℕ} {cells n at pos : ℕ} (c : Ragged begins cs values first d o cells n at pos) (h : cells ≤ at) where
   pub ragged-stored : o ≡ scatter d (places (offsetAt begins) cs) (drop first values)
-  ragged-stored = store-ends (offsetAt begins) cs (drop first values) d o cells n at (c .done) (c .store) h
+  ragged-stored = store-ends (c .store) h
 
   pub ragged-next : pos ≡ first + length (places (offsetAt begins) cs)
   ragged-next = omega (arith, c .left, ap (λ (js : List ℕ). length (places (offsetAt begins) js)) (left-ends cs cells n at (c .store .geo) h))
@@ -64,22 +64,22 @@ module _ {sh st ls d begins values : List ℕ} {first : ℕ} (q : RaggedAsked sh
 
   long : length (places (offsetAt begins) (drop at cs)) ≡ w + length (places (offsetAt begins) (drop (at + n) cs))
   long =
-      ap length (row-places (offsetAt begins) cs cells n at (c .store .geo) h a e steps)
+      ap length (row-places (offsetAt begins) cs cells n at (c .store .geo) h e steps)
       ∙ length-append (from (offsetAt begins a) w) (places (offsetAt begins) (drop (at + n) cs))
       ∙ ap (λ (k : ℕ). k + length (places (offsetAt begins) (drop (at + n) cs))) (length-from (offsetAt begins a) w)
 
   pub row-enough : pos + w ≤ length values
   row-enough = omega (arith, c .left, long, q .enough)
 
-  pub ragged-more : (o′ : List ℕ) → o′ ≡ overAt (offsetAt begins a) (take w (drop pos values)) o → Ragged begins cs values first d o′ cells n (at + n) (pos + w)
-  ragged-more o′ p =
+  pub ragged-more : {o′ : List ℕ} → o′ ≡ overAt (offsetAt begins a) (take w (drop pos values)) o → Ragged begins cs values first d o′ cells n (at + n) (pos + w)
+  ragged-more {o′} p =
       let x : drop (c .done) (drop first values) ≡ drop pos values = drop-drop (c .done) first values ∙ ap (λ (k : ℕ). drop k values) (sym (c .here)) in
       record {
         done = c .done + w;
         here = omega (arith, c .here);
         store =
-            store-more (offsetAt begins) cs (drop first values) d o cells n at (c .done) (c .store) h a e steps (offsetAt begins a) w (c .done + w) refl
-            (omega (arith, row-rises)) refl row-room (omega (arith, c .here, row-enough, length-drop first values)) o′
+            store-more (c .store) h e steps (offsetAt begins a) w (c .done + w) refl
+            (omega (arith, row-rises)) refl row-room (omega (arith, c .here, row-enough, length-drop first values))
             (p ∙ ap (λ (r : List ℕ). overAt (offsetAt begins a) (take w r) o) (sym x));
         left = omega (arith, c .left, long);
       }

@@ -48,7 +48,7 @@ module _ {sh flat : List ℕ} {count : ℕ} {d begins values : List ℕ} (q : Ra
       -- the places of the chunk's cells, and of the others
       now : places (offsetAt begins) (cellsOfAll sh (rest sh flat count i at)) ≡ places (offsetAt begins) cs ++ places (offsetAt begins) (cellsOfAll sh later)
       now =
-          ap (λ (bs : List Subset). places (offsetAt begins) (cellsOfAll sh bs)) (subset-now sh flat count i at (c .geo) h)
+          ap (λ (bs : List Subset). places (offsetAt begins) (cellsOfAll sh bs)) (subset-now sh flat count (c .geo) h)
           ∙ places-append (offsetAt begins) cs (cellsOfAll sh later)
 
       both : length (places (offsetAt begins) (cellsOfAll sh (rest sh flat count i at))) ≡ length (places (offsetAt begins) cs) + length (places (offsetAt begins) (cellsOfAll sh later))
@@ -57,15 +57,15 @@ module _ {sh flat : List ℕ} {count : ℕ} {d begins values : List ℕ} (q : Ra
       pub ragged-asked : RaggedAsked sh (startsAt (length sh) at flat) (lengthsAt (length sh) at flat) o begins values pos
       ragged-asked = record {
         shaped = q .subsets .shaped;
-        fits = now-within sh flat count i at (c .geo) h;
+        fits = now-within sh flat count (c .geo) h;
         laid = record { covered = q .laid .covered; rises = q .laid .rises; room = λ j l. omega (arith, q .laid .room j l, c .long) };
         enough = omega (arith, c .enough, both);
       }
 
-      pub raggeds-more : (pos′ : ℕ) → pos′ ≡ pos + length (places (offsetAt begins) cs) → (o′ : List ℕ) → o′ ≡ scatter o (places (offsetAt begins) cs) (drop pos values)
+      pub raggeds-more : {pos′ : ℕ} → pos′ ≡ pos + length (places (offsetAt begins) cs) → {o′ : List ℕ} → o′ ≡ scatter o (places (offsetAt begins) cs) (drop pos values)
           → RaggedAll sh flat count d begins values o′ (i + 1) (at + length sh + length sh) pos′
-      raggeds-more pos′ e o′ p = record {
-        geo = subsets-more sh flat count i at (c .geo) h;
+      raggeds-more e p = record {
+        geo = subsets-more sh flat count (c .geo) h;
         long = ap length p ∙ length-scatter o (places (offsetAt begins) cs) (drop pos values) ∙ c .long;
         enough = omega (arith, c .enough, both);
         same =

@@ -74,15 +74,15 @@ rises-of m (a ∷ os) r h = λ i l. let z : 0 + i ≡ i = omega arith in subst (
 
 -- ---- chunk by chunk
 
-pub take-long : (n : ℕ) (xs : List ℕ) → length (take n xs) ≡ n → n ≤ length xs
-take-long n xs e = omega (arith, length-take n xs, min-le-right n (length xs))
+pub take-long : {n : ℕ} (xs : List ℕ) → length (take n xs) ≡ n → n ≤ length xs
+take-long {n} xs e = omega (arith, length-take n xs, min-le-right n (length xs))
 
 module _ (x : Masks) (w d : ℕ) (p : Place) where
   abbrev k : Kind
   k = record { depth = d; masks = x; form = ragged w p }
 
-  chunk-lengths : (m : ℕ) (c : Content) → ContentOk k m (firstChunk k m c) → map length (leaves d (cellsOf k m (firstChunk k m c))) ≡ take m (steps (c .offsets))
-  chunk-lengths m c ok =
+  chunk-lengths : {m : ℕ} (c : Content) → ContentOk k m (firstChunk k m c) → map length (leaves d (cellsOf k m (firstChunk k m c))) ≡ take m (steps (c .offsets))
+  chunk-lengths {m} c ok =
       sym (steps-ends 0 (leaves d (cellsOf k m (firstChunk k m c)))) ∙ ap (λ (y : Content). steps (y .offsets)) (layout-cells k m (firstChunk k m c) ok)
       ∙ take-steps m (c .offsets)
 
@@ -93,7 +93,7 @@ module _ (x : Masks) (w d : ℕ) (p : Place) where
       let m : ℕ = volume (lengths b) in
       let q = first-of e in
       ap (map length) (first-leaves q) ∙ map-append length (leaves d (cellsOf k m (firstChunk k m c))) (leaves d (q .later))
-      ∙ ap₂ (λ (y z : List ℕ). y ++ z) (chunk-lengths m c (q .ok)) (ragged-lengths bs (q .is-later))
+      ∙ ap₂ (λ (y z : List ℕ). y ++ z) (chunk-lengths c (q .ok)) (ragged-lengths bs (q .is-later))
 
   -- what the stores of the lengths ask
   pub length-chunks : (bs : List Subset) {c : Content} {cs : List (Cell d)} → Chunked k bs c cs → LengthChunks bs (c .offsets)
@@ -101,5 +101,5 @@ module _ (x : Masks) (w d : ℕ) (p : Place) where
   length-chunks (b ∷ bs) {c} e =
       let m : ℕ = volume (lengths b) in
       let q = first-of e in
-      let l : m < length (c .offsets) = take-long (suc m) (c .offsets) (q .ok .values-fit .0) in
+      let l : m < length (c .offsets) = take-long (c .offsets) (q .ok .values-fit .0) in
       (l, rises-of m (c .offsets) (q .ok .values-fit .1) l, length-chunks bs (q .is-later))

@@ -24,7 +24,7 @@ use Rattle.merge_stores.proofs.Levels.{level-block}
 use Rattle.merge_stores.proofs.RaggedMerge.{offset-is, length-sums, places-merged, rises-merged}
 use Rattle.merge_stores.proofs.Scattering.{length-scatter}
 
-module _ (sh flat : List ℕ) (count : ℕ) (dv d values src : List ℕ) (n : ℕ) (q : RaggedMergeAsked sh flat count dv d values src n) where
+module _ {sh flat : List ℕ} {count : ℕ} {dv d values src : List ℕ} {n : ℕ} (q : RaggedMergeAsked sh flat count dv d values src n) where
   abbrev bs : List Subset
   bs = nextSubsets (length sh) count flat
 
@@ -37,7 +37,7 @@ module _ (sh flat : List ℕ) (count : ℕ) (dv d values src : List ℕ) (n : �
   long-xs : length xs ≡ n
   long-xs = length-map (from 0 (volume sh)) (λ k. lookup 0 k (cellsOfAll sh (nextSubsets (length sh) count flat)) (stepParts (nextSubsets (length sh) count flat) src)) ∙ length-from 0 (volume sh) ∙ sym (q .counted)
 
-  module _ (o : List ℕ) (p : o ≡ scatter d (places (fixedAt 1 1) (cellsOfAll sh (nextSubsets (length sh) count flat))) (stepParts (nextSubsets (length sh) count flat) src)) where
+  module _ {o : List ℕ} (p : o ≡ scatter d (places (fixedAt 1 1) (cellsOfAll sh (nextSubsets (length sh) count flat))) (stepParts (nextSubsets (length sh) count flat) src)) where
     is : o ≡ take 1 d ++ xs ++ drop (1 + volume sh) d
     is = p ∙ level-block 1 (volume sh) d (cellsOfAll sh bs) (stepParts bs src) (omega (arith, q .room, q .counted)) (q .as-many) (all-below sh bs ok) (q .once)
 
@@ -61,7 +61,7 @@ module _ (sh flat : List ℕ) (count : ℕ) (dv d values src : List ℕ) (n : �
     second-asked =
         (omega (arith, q .room, ap length p, length-scatter d (places (fixedAt 1 1) (cellsOfAll sh bs)) (stepParts bs src)), omega (arith, ap sum lengths-are, sum-is, q .small))
 
-    module _ (o′ : List ℕ) (p′ : o′ ≡ (0 ∷ sums 0 (take n (drop 1 o))) ++ drop (n + 1) o) where
+    module _ {o′ : List ℕ} (p′ : o′ ≡ (0 ∷ sums 0 (take n (drop 1 o))) ++ drop (n + 1) o) where
       pub offsets-are : o′ ≡ offsetsMerged sh (nextSubsets (length sh) count flat) src ++ drop (n + 1) d
       offsets-are = p′ ∙ ap₂ (λ (x y : List ℕ). (0 ∷ sums 0 x) ++ y) lengths-are rest-is
 

@@ -57,8 +57,8 @@ scatter-next acc a n js xs h l =
 -- ---- a merge by stores is the merge
 
 -- a list by its elements
-by-index : {A : Type 0} (z : A) (xs : List A) (n : ℕ) → length xs ≡ n → xs ≡ map (λ i. getD xs i z) (from 0 n)
-by-index z xs n e = sym (gather-all z xs) ∙ ap (λ (m : ℕ). map (λ i. getD xs i z) (from 0 m)) e
+by-index : {A : Type 0} (z : A) (xs : List A) {n : ℕ} → length xs ≡ n → xs ≡ map (λ i. getD xs i z) (from 0 n)
+by-index z xs {n = n} e = sym (gather-all z xs) ∙ ap (λ (m : ℕ). map (λ i. getD xs i z) (from 0 m)) e
 
 module _ {A : Type 0} (z : A) where
   -- a place that stands nowhere in the list keeps its element
@@ -85,10 +85,10 @@ module _ {A : Type 0} (z : A) where
           ∙ getD-set-same acc j x z (subst (λ (m : ℕ). m < length acc) (eqb-true i j q) h)
       go ih false q e = ih e
 
-  pub scatter-putBack : (acc : List A) (n : ℕ) (js : List ℕ) (xs : List A) → length acc ≡ n → length js ≡ length xs → ((i : ℕ) → i < n → count i js ≡ 1)
+  pub scatter-putBack : (acc : List A) {n : ℕ} (js : List ℕ) (xs : List A) → length acc ≡ n → length js ≡ length xs → ((i : ℕ) → i < n → count i js ≡ 1)
       → scatter acc js xs ≡ putBack z n js xs
-  scatter-putBack acc n js xs e l o =
-      by-index z (scatter acc js xs) n (length-scatter acc js xs ∙ e)
+  scatter-putBack acc {n} js xs e l o =
+      by-index z (scatter acc js xs) (length-scatter acc js xs ∙ e)
       ∙ map-from (λ i. getD (scatter acc js xs) i z) (λ i. lookup z i js xs) 0 n (λ i h. scatter-hit acc js xs i (omega arith) l (o i (omega arith)))
 
 -- ---- the places of a run of cells are a run of bytes

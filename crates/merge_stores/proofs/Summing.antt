@@ -29,7 +29,7 @@ module _ (d : List ℕ) (n : ℕ) (h : n < length d) where
         small = omega (arith, g, ap (λ (k : ℕ). sum (take k (drop 1 d))) z);
       }
 
-  module _ (o : List ℕ) (i : ℕ) (c : Summed d o n i) where
+  module _ {o : List ℕ} {i : ℕ} (c : Summed d o n i) where
     pub summed-ends : n ≤ i → o ≡ (0 ∷ sums 0 (take n (drop 1 d))) ++ drop (n + 1) d
     summed-ends l =
         let e : i ≡ n = omega (arith, c .within) in
@@ -81,7 +81,7 @@ summed-start d n h = subst (λ (o : List ℕ). Summed (set d 0 0) o n 0) (set-se
 pub same-sum : (d : List ℕ) (n : ℕ) → sum (take n (drop 1 (set d 0 0))) ≡ sum (take n (drop 1 d))
 same-sum d n = ap (λ (r : List ℕ). sum (take n r)) (drop-set-lt 1 d 0 0 (omega arith))
 
-pub summed-over : (d : List ℕ) (n : ℕ) (h : n < length d) (o : List ℕ) (i : ℕ) → Summed (set d 0 0) o n i → n ≤ i → o ≡ (0 ∷ sums 0 (take n (drop 1 d))) ++ drop (n + 1) d
-summed-over d n h o i c l =
-    summed-ends (set d 0 0) n (omega (arith, length-set d 0 0)) o i c l
+pub summed-over : (d : List ℕ) {n : ℕ} (h : n < length d) {o : List ℕ} {i : ℕ} → Summed (set d 0 0) o n i → n ≤ i → o ≡ (0 ∷ sums 0 (take n (drop 1 d))) ++ drop (n + 1) d
+summed-over d {n} h {o} {i} c l =
+    summed-ends (set d 0 0) n (omega (arith, length-set d 0 0)) c l
     ∙ ap₂ (λ (x y : List ℕ). (0 ∷ sums 0 (take n x)) ++ y) (drop-set-lt 1 d 0 0 (omega arith)) (drop-set-lt (n + 1) d 0 0 (omega arith))

@@ -22,18 +22,18 @@ use Rattle.partial.specs.Stored.{storedAt, DataAsked}
 
 -- ---- what they need
 
-module _ (shape starts lens : List ℕ) (count : ℕ) (a : SubsetAsked shape starts lens count) where
+module _ {shape starts lens : List ℕ} {count : ℕ} (a : SubsetAsked shape starts lens count) where
   abbrev cells : List ℕ
   cells = cellsIn shape (pairs starts lens)
 
-  pub need-values : (w : ℕ) (s : List ℕ) (index source : ℕ) → DataAsked w s index source (volume shape)
+  pub need-values : {w : ℕ} {s : List ℕ} {index source : ℕ} → DataAsked w s index source (volume shape)
       → length (joined (valuesAt (storedAt w s index) (drop source s) (cellsIn shape (pairs starts lens)))) ≡ bytesAt (storedAt w s index) (cellsIn shape (pairs starts lens))
-  need-values w s index source d =
-      bytes-long (storedAt w s index) (volume shape) (d .index-asked .rises) (drop source s) (omega (arith, length-drop source s, d .data-room)) cells (asked-below shape starts lens count a)
+  need-values {w} {s} {index} {source} d =
+      bytes-long (d .index-asked .rises) (drop source s) (omega (arith, length-drop source s, d .data-room)) cells (asked-below a)
 
   pub need-offsets : (off : ℕ → ℕ) (s : List ℕ) → length (offsetsOf (valuesAt off s (cellsIn shape (pairs starts lens)))) ≡ count + 1
   need-offsets off s =
-      omega (arith, length-ends 0 (valuesAt off s cells), length-map cells (valueAt off s), asked-count shape starts lens count a)
+      omega (arith, length-ends 0 (valuesAt off s cells), length-map cells (valueAt off s), asked-count a)
 
 -- ---- the next row: n neighbours from the cell b on, of v cells
 pub record NextRow (off : ℕ → ℕ) (s : List ℕ) (source v : ℕ) (ov oo : List ℕ) (cells n at total b : ℕ) : Type 0 where
@@ -45,31 +45,30 @@ pub record NextRow (off : ℕ → ℕ) (s : List ℕ) (source v : ℕ) (ov oo : 
   pub room : total + (off (b + n) - off b) ≤ length ov
   pub room-offsets : at + 1 + n ≤ length oo
 
-module _ (off : ℕ → ℕ) (s : List ℕ) (source : ℕ) (cs oldv oldo ov oo : List ℕ) (cells n at total : ℕ) (c : Ragged off (drop source s) cs oldv oldo ov oo cells n at total)
-    (v : ℕ) (r : Rises off v) (p : All (λ j. j < v) cs) (l : source + off v ≤ length s) (h : at < cells) (b : ℕ) (e : b ≡ getD cs at 0) where
+module _ {off : ℕ → ℕ} (s : List ℕ) (source : ℕ) {cs oldv oldo ov oo : List ℕ} {cells n at total : ℕ} (c : Ragged off (drop source s) cs oldv oldo ov oo cells n at total)
+    {v : ℕ} (r : Rises off v) (p : All (λ j. j < v) cs) (l : source + off v ≤ length s) (h : at < cells) {b : ℕ} (e : b ≡ getD cs at 0) where
   within-data : off v ≤ length (drop source s)
   within-data = omega (arith, length-drop source s)
 
   pub next-row : NextRow off s source v ov oo cells n at total b
   next-row =
-      let up : off b ≤ off (b + n) = ragged-rises off (drop source s) cs oldv oldo ov oo cells n at total c v r p within-data h b e in
-      let end : off b + (off (b + n) - off b) ≤ length (drop source s) = ragged-source off (drop source s) cs oldv oldo ov oo cells n at total c v r p within-data h b e in
+      let up : off b ≤ off (b + n) = ragged-rises off (drop source s) cs c r p within-data h e in
+      let end : off b + (off (b + n) - off b) ≤ length (drop source s) = ragged-source off (drop source s) cs c r p within-data h e in
       record {
         some = left-some cs cells n at (c .copied .geo) h;
         left = left-within cs cells n at (c .copied .geo) h;
-        inside = ragged-within off (drop source s) cs oldv oldo ov oo cells n at total c v r p within-data h b e;
+        inside = ragged-within off (drop source s) cs c r p within-data h e;
         rises = up;
         data-room = omega (arith, length-drop source s);
-        room = ragged-room off (drop source s) cs oldv oldo ov oo cells n at total c v r p within-data h b e;
-        room-offsets = ragged-room-offsets off (drop source s) cs oldv oldo ov oo cells n at total c v r p within-data h b e;
+        room = ragged-room off (drop source s) cs c r p within-data h e;
+        room-offsets = ragged-room-offsets off (drop source s) cs c r p within-data h e;
       }
 
   -- it is copied, from its begin up to its end
-  pub next-copied : (x y : ℕ) → x ≡ off b → y ≡ off (b + n) → (ov′ oo′ : List ℕ) → ov′ ≡ overAt total (take (y - x) (drop (source + x) s)) ov
+  pub next-copied : {x y : ℕ} → x ≡ off b → y ≡ off (b + n) → {ov′ oo′ : List ℕ} → ov′ ≡ overAt total (take (y - x) (drop (source + x) s)) ov
       → oo′ ≡ overAt (at + 1) (map (λ j. total + (off (suc j) - off b)) (from b n)) oo → Ragged off (drop source s) cs oldv oldo ov′ oo′ cells n (at + n) (total + (y - x))
-  next-copied x y ex ey ov′ oo′ q w =
+  next-copied {x} {y} ex ey {ov′} {oo′} q w =
       let step : y - x ≡ off (b + n) - off b = ap₂ (λ (i j : ℕ). i - j) ey ex in
       subst (λ (i : ℕ). Ragged off (drop source s) cs oldv oldo ov′ oo′ cells n (at + n) (total + i)) (sym step)
-      (ragged-more off (drop source s) cs oldv oldo ov oo cells n at total c v r p within-data h b e ov′ oo′
-      (q ∙ ap₂ (λ (i j : ℕ). overAt total (take i (drop (source + j) s)) ov) step ex
+      (ragged-more off (drop source s) cs c r p within-data h e (q ∙ ap₂ (λ (i j : ℕ). overAt total (take i (drop (source + j) s)) ov) step ex
       ∙ ap (λ (u : List ℕ). overAt total (take (off (b + n) - off b) u) ov) (sym (drop-drop (off b) source s))) w)

@@ -108,16 +108,16 @@ read-found w p s n i h =
 -- ---- the cut
 
 -- the values between offsets that are the same
-values-same : (off to : ℕ → ℕ) (n : ℕ) (q : List ℕ) → Rises to n → ((j : ℕ) → j ≤ n → off j ≡ to j) → (js : List ℕ) → All (λ j. j < n) js
+values-same : (off : ℕ → ℕ) {to : ℕ → ℕ} {n : ℕ} (q : List ℕ) → Rises to n → ((j : ℕ) → j ≤ n → off j ≡ to j) → (js : List ℕ) → All (λ j. j < n) js
     → valuesAt off (take (to n) q) js ≡ valuesAt to q js
-values-same off to n q r e [] a = refl
-values-same off to n q r e (j ∷ js) a =
+values-same off q r e [] a = refl
+values-same off {to} {n} q r e (j ∷ js) a =
     let h : j < n = a .0 in
     let up : to j ≤ to (suc j) = r j h in
-    let top : to (suc j) ≤ to n = let i : j + 1 ≡ suc j = omega arith in omega (arith, run-below to n r j 1 (omega arith), ap to i) in
+    let top : to (suc j) ≤ to n = let i : j + 1 ≡ suc j = omega arith in omega (arith, run-below r j 1 (omega arith), ap to i) in
     ap₂ (λ (x : Value) (xs : List Value). x ∷ xs)
     (ap₂ (λ (x y : ℕ). take (x - y) (drop y (take (to n) q))) (e (suc j) (omega arith)) (e j (omega arith)) ∙ take-within (to j) (to (suc j) - to j) (to n) q (omega arith))
-    (values-same off to n q r e js (a .1))
+    (values-same off q r e js (a .1))
 
 pub read-cut : {w : ℕ} {p : Place} {s : List ℕ} {i : Index} (shape ns : List ℕ) → Read w p s (volume shape) i → SubsetOk shape (subsetOf (length shape) ns)
     → raggedCut w p shape ns (readAt w s (volume shape) (i .index) (i .from))
@@ -127,7 +127,7 @@ read-cut {w} {p} {s} {i} shape ns r ok =
     let x : RaggedContent = readAt w s n (i .index) (i .from) in
     let js : List ℕ = cellsIn shape (subsetOf (length shape) ns) in
     ap (λ (c : Content). record { values = c .values; offsets = c .offsets })
-    (cut-is (byteKind 0 (ragged w p)) shape (unmasked x) (record { masks-fit = sym (zero-mul n); values-fit = r .keeps }) (subsetOf (length shape) ns) ok)
+    (cut-is {k = byteKind 0 (ragged w p)} shape {c = unmasked x} (record { masks-fit = sym (zero-mul n); values-fit = r .keeps }) (subsetOf (length shape) ns) ok)
     ∙ ap endToEnd
-    (values-same (offsetAt (x .offsets)) (storedAt w s (i .index)) n (drop (i .from) s) (r .stored .index-asked .rises) (stored-is w n s (i .index)) js
+    (values-same (offsetAt (x .offsets)) (drop (i .from) s) (r .stored .index-asked .rises) (stored-is w n s (i .index)) js
     (cellsIn-below shape (subsetOf (length shape) ns) ok))

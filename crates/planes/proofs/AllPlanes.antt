@@ -41,9 +41,9 @@ module _ {x : Masks} {d : List ℕ} {n depth : ℕ} {s : List ℕ} (p : PlanesWi
   long = mask-long x first-mask
 
   -- one level is the first plane
-  pub planes-one : depth ≡ 1 → (out : List ℕ) → out ≡ overAt 0 (saidMask (maskForm x) s 16 n) d → out ≡ over (planesIn (maskForm x) s n (depth - 1)) d
+  pub planes-one : depth ≡ 1 → {out : List ℕ} → out ≡ overAt 0 (saidMask (maskForm x) s 16 n) d → out ≡ over (planesIn (maskForm x) s n (depth - 1)) d
   unfolding planesBelow storedMasks
-  planes-one e out eo =
+  planes-one e eo =
       let none : depth - 1 ≡ 0 = omega arith in
       let m : List ℕ = maskIn (maskForm x) s 0 n in
       eo ∙ ap (λ (q : List ℕ). over q d) (sym (ap (planesIn (maskForm x) s n) none ∙ append-nil m))
@@ -70,9 +70,9 @@ module _ {x : Masks} {d : List ℕ} {n depth : ℕ} {s : List ℕ} (p : PlanesWi
               (subst (MasksWithin (maskForm x) (depth - 1) s (contentAt (maskForm x) 0 n)) (sym set-is) (within-next (maskForm x) depth s 0 n (p .within) deep));
         }
 
-    pub planes-done : (out′ : List ℕ) → out′ ≡ overAt n (planesBelow (maskForm x) (take n (drop (n - n) out)) (depth - 1) s (16 + z) set) out
+    pub planes-done : {out′ : List ℕ} → out′ ≡ overAt n (planesBelow (maskForm x) (take n (drop (n - n) out)) (depth - 1) s (16 + z) set) out
         → out′ ≡ over (planesIn (maskForm x) s n (depth - 1)) d
-    planes-done out′ e =
+    planes-done e =
         let m : List ℕ = maskIn (maskForm x) s 0 n in
         let q : 16 + z ≡ contentAt (maskForm x) 0 n = omega arith in
         e
@@ -135,8 +135,8 @@ module _ (x : Masks) (s : List ℕ) (n d : ℕ) (h1 : 1 ≤ n) (h4 : MasksWithin
       back = omega (arith, times-first d n f)
 
   -- the innermost plane, read where it was laid
-  pub innermost-read : (m m′ : List ℕ) → m′ ≡ over (planesIn (maskForm x) s n (d - 1)) m → take n (drop (d * n - n) m′) ≡ innermostIn (maskForm x) s n (d - 1)
-  innermost-read m m′ e =
+  pub innermost-read : (m : List ℕ) {m′ : List ℕ} → m′ ≡ over (planesIn (maskForm x) s n (d - 1)) m → take n (drop (d * n - n) m′) ≡ innermostIn (maskForm x) s n (d - 1)
+  innermost-read m e =
       let p : List ℕ = planesIn (maskForm x) s n (d - 1) in
       let j : d * n - n ≡ (d - 1) * n = omega (arith, times-first d n f) in
       let lp : length p ≡ d * n = planes-long in
@@ -150,7 +150,7 @@ module _ (x : Masks) (s : List ℕ) (n d : ℕ) (h1 : 1 ≤ n) (h4 : MasksWithin
 
   pub innermost-long : length (innermostIn (maskForm x) s n (d - 1)) ≡ n
   innermost-long =
-      sym (ap length (innermost-read [] (over p []) refl))
+      sym (ap length (innermost-read [] {m′ = over p []} refl))
       ∙ length-take-le n (drop (d * n - n) (over p [])) (omega (arith, length-drop (d * n - n) (over p []), length-append p (drop (length p) []), planes-long, times-first d n f))
     where
       p : List ℕ

@@ -66,9 +66,9 @@ module _ (mf : MaskForm) where
       ap (λ (j : ℕ). spread 0 p (maskIn mf s at n) ++ planesBelow mf (spread 0 p (maskIn mf s at n)) j s (contentAt mf at n) (countSet (maskIn mf s at n)))
       (sym (sub-one (suc d)))
 
-  below-last : (left : ℕ) (p s : List ℕ) (at n : ℕ) → left ≡ 1 → planesBelow mf p left s at n ≡ spread 0 p (maskIn mf s at n)
+  below-last : {left : ℕ} (p s : List ℕ) (at n : ℕ) → left ≡ 1 → planesBelow mf p left s at n ≡ spread 0 p (maskIn mf s at n)
   unfolding planesBelow storedMasks
-  below-last left p s at n e =
+  below-last p s at n e =
       ap (λ (k : ℕ). planesBelow mf p k s at n) e ∙ append-nil (spread 0 p (maskIn mf s at n))
 
   -- ---- masks within the bytes
@@ -95,8 +95,8 @@ module _ {x : Masks} {d : List ℕ} {n to left : ℕ} {s : List ℕ} {at cells :
       sym (ap (λ (j : ℕ). overAt to (planesBelow (maskForm x) (take n (drop (to - n) d)) j s at cells) d) e
       ∙ ap (λ (l : List ℕ). over l d) (append-nil (take to d)) ∙ ap (λ (j : ℕ). take to d ++ drop j d) (length-take-le to d (omega (arith, l .room))) ∙ take-append-drop to d)
 
-  pub levels-null : cells ≡ 0 → (out : List ℕ) → out ≡ overAt to (replicate (left * n) 0) d → out ≡ overAt to (planesBelow (maskForm x) (take n (drop (to - n) d)) left s at cells) d
-  levels-null e out eo =
+  pub levels-null : cells ≡ 0 → {out : List ℕ} → out ≡ overAt to (replicate (left * n) 0) d → out ≡ overAt to (planesBelow (maskForm x) (take n (drop (to - n) d)) left s at cells) d
+  levels-null e eo =
       eo ∙ ap (λ (l : List ℕ). overAt to l d)
       (ap (λ (j : ℕ). replicate {A = ℕ} (left * j) 0) (sym above-long) ∙ sym (below-none (maskForm x) left (take n (drop (to - n) d)) s at cells (sym (l .count) ∙ e)))
 
@@ -114,9 +114,9 @@ module _ {x : Masks} {d : List ℕ} {n to left : ℕ} {s : List ℕ} {at cells :
     }
 
     -- the last level is its plane
-    pub levels-last : left ≡ 1 → (out : List ℕ) → out ≡ overAt to (spread 0 (take n (drop (to - n) d)) (maskIn (maskForm x) s at cells)) d
+    pub levels-last : left ≡ 1 → {out : List ℕ} → out ≡ overAt to (spread 0 (take n (drop (to - n) d)) (maskIn (maskForm x) s at cells)) d
         → out ≡ overAt to (planesBelow (maskForm x) (take n (drop (to - n) d)) left s at cells) d
-    levels-last e out eo = eo ∙ ap (λ (q : List ℕ). overAt to q d) (sym (below-last (maskForm x) left (take n (drop (to - n) d)) s at cells e))
+    levels-last e eo = eo ∙ ap (λ (q : List ℕ). overAt to q d) (sym (below-last (maskForm x) (take n (drop (to - n) d)) s at cells e))
 
     -- z is the mask's length, `out` has the next plane, and `set` counts its mask
     module _ {z : ℕ} (ez : z ≡ maskForm x .size cells) {out : List ℕ} (eo : out ≡ overAt to (spread 0 (take n (drop (to - n) d)) (maskIn (maskForm x) s at cells)) d)
@@ -128,7 +128,7 @@ module _ {x : Masks} {d : List ℕ} {n to left : ℕ} {s : List ℕ} {at cells :
       next-plane =
           let e : to + n - n ≡ to = omega arith in
           ap₂ (λ (k : ℕ) (o : List ℕ). take n (drop k o)) e eo
-          ∙ plane-again d (spread 0 (take n (drop (to - n) d)) (maskIn (maskForm x) s at cells)) to n (omega (arith, l .room)) long
+          ∙ plane-again d (spread 0 (take n (drop (to - n) d)) (maskIn (maskForm x) s at cells)) to (omega (arith, l .room)) long
 
       same : length out ≡ length d
       same = ap length eo ∙ over-at-length to (spread 0 (take n (drop (to - n) d)) (maskIn (maskForm x) s at cells)) d (omega (arith, long, levels-fits))
@@ -145,9 +145,9 @@ module _ {x : Masks} {d : List ℕ} {n to left : ℕ} {s : List ℕ} {at cells :
                 (subst (MasksWithin (maskForm x) (left - 1) s (contentAt (maskForm x) at cells)) (sym set-is) (within-next (maskForm x) left s at cells (l .within) f));
           }
 
-      pub levels-done : (out′ : List ℕ) → out′ ≡ overAt (to + n) (planesBelow (maskForm x) (take n (drop (to + n - n) out)) (left - 1) s (at + 16 + z) set) out
+      pub levels-done : {out′ : List ℕ} → out′ ≡ overAt (to + n) (planesBelow (maskForm x) (take n (drop (to + n - n) out)) (left - 1) s (at + 16 + z) set) out
           → out′ ≡ overAt to (planesBelow (maskForm x) (take n (drop (to - n) d)) left s at cells) d
-      levels-done out′ e =
+      levels-done e =
           let q : List ℕ = spread 0 (take n (drop (to - n) d)) (maskIn (maskForm x) s at cells) in
           let y : List ℕ = planesBelow (maskForm x) q (left - 1) s (contentAt (maskForm x) at cells) (countSet (maskIn (maskForm x) s at cells)) in
           let ea : at + 16 + z ≡ contentAt (maskForm x) at cells = omega arith in

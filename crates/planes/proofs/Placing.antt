@@ -35,8 +35,8 @@ laying-behind {want} {d} {to} {out} {i} l k h =
     ap₂ (λ (o : List ℕ) (n : ℕ). getD o n 0) (l .here) e ∙ getD-append-add f (drop (length f) d) (k - length f) 0 ∙ getD-drop (length f) d (k - length f) 0 ∙ ap (λ (n : ℕ). getD d n 0) (sym e)
 
 -- the plane that was laid, read again
-pub plane-again : (d q : List ℕ) (to n : ℕ) → to ≤ length d → length q ≡ n → take n (drop to (overAt to q d)) ≡ q
-plane-again d q to n h e =
+pub plane-again : (d q : List ℕ) (to : ℕ) {n : ℕ} → to ≤ length d → length q ≡ n → take n (drop to (overAt to q d)) ≡ q
+plane-again d q to {n} h e =
     let lt : length (take to d) ≡ to = length-take-le to d h in
     ap (λ (l : List ℕ). take n (drop to l)) (append-assoc (take to d) q (drop (length (take to d ++ q)) d))
     ∙ ap (take n) (drop-at (take to d) (q ++ drop (length (take to d ++ q)) d) to lt)
@@ -52,15 +52,15 @@ module _ (d p : List ℕ) (at : ℕ) (h : at + length p ≤ length d) where
       take-append-le k (take at d ++ p) (drop (length (take at d ++ p)) d) (omega (arith, front))
       ∙ take-append-le k (take at d) p (omega (arith, length-take-le at d (omega arith))) ∙ take-take k at d l
 
-  laid-after : (k : ℕ) → k ≡ at + length p → drop k (overAt at p d) ≡ drop k d
-  laid-after k e = drop-at (take at d ++ p) (drop (length (take at d ++ p)) d) k (front ∙ sym e) ∙ ap (λ (n : ℕ). drop n d) (front ∙ sym e)
+  laid-after : {k : ℕ} → k ≡ at + length p → drop k (overAt at p d) ≡ drop k d
+  laid-after {k} e = drop-at (take at d ++ p) (drop (length (take at d ++ p)) d) k (front ∙ sym e) ∙ ap (λ (n : ℕ). drop n d) (front ∙ sym e)
 
   -- what is laid over p and ends with it might as well be laid at once
   over-laid : (to : ℕ) (q : List ℕ) → to ≤ at → to + length q ≡ at + length p → overAt to q (overAt at p d) ≡ overAt to q d
   over-laid to q l e =
       let b : take to (overAt at p d) ≡ take to d = laid-before to l in
       let lf : length (take to d ++ q) ≡ at + length p = length-append (take to d) q ∙ ap (λ (n : ℕ). n + length q) (length-take-le to d (omega arith)) ∙ e in
-      ap (λ (t : List ℕ). (t ++ q) ++ drop (length (t ++ q)) (overAt at p d)) b ∙ ap (λ (r : List ℕ). (take to d ++ q) ++ r) (laid-after (length (take to d ++ q)) lf)
+      ap (λ (t : List ℕ). (t ++ q) ++ drop (length (t ++ q)) (overAt at p d)) b ∙ ap (λ (r : List ℕ). (take to d ++ q) ++ r) (laid-after lf)
 
 -- ---- the loop
 
@@ -203,7 +203,7 @@ module _ {x : Masks} {d : List ℕ} {from to n : ℕ} {s : List ℕ} {at cells :
         let w : List ℕ = spread 0 (planeAt from n d) said in
         let lw : length w ≡ n = length-spread 0 (planeAt from n d) said ∙ whole (p .planes) in
         let mask : planeAt (to + (n - cells)) cells out ≡ said =
-        ap (planeAt (to + (n - cells)) cells) eo ∙ plane-again d said (to + (n - cells)) cells (omega (arith, mask-fits)) said-long in
+        ap (planeAt (to + (n - cells)) cells) eo ∙ plane-again d said (to + (n - cells)) (omega (arith, mask-fits)) said-long in
         e ∙ ap₂ (λ (a b : List ℕ). overAt to (spread 0 a b) out) plane-is mask ∙ ap (overAt to w) eo
         ∙ over-laid d said (to + (n - cells)) fits to w (omega arith) (omega (arith, lw, said-long, few (p .planes)))
 

@@ -54,8 +54,8 @@ module _ {w n : ℕ} {s d : List ℕ} {at : ℕ} {out : List ℕ} {left i j : �
     pub offsets-room : i < length out
     offsets-room = omega (arith, laying-room (offsetsIn w (suc n) (drop at s)) d 0 out i _ _ (laying-is (c .laid) next))
 
-    pub offsets-more : (v : ℕ) → v ≡ unle (take w (drop j s)) → CopyingOffsets w n s d at (set out i v) (left - 1) (i + 1) (j + w)
-    offsets-more v e = record {
+    pub offsets-more : {v : ℕ} → v ≡ unle (take w (drop j s)) → CopyingOffsets w n s d at (set out i v) (left - 1) (i + 1) (j + w)
+    offsets-more {v} e = record {
       enough = offsets-source;
       laid = subst (λ (k : ℕ). Laying (offsetsIn w (suc n) (drop at s)) d 0 (set out k v) (i + 1) (offsetsIn w (left - 1) (drop (j + w) s))) (zero-add i)
           (laying-store (offsetsIn w (suc n) (drop at s)) d 0 out i v _ (laying-is (c .laid) (next ∙ ap (λ (x : ℕ). x ∷ offsetsIn w (left - 1) (drop (j + w) s)) (sym e))));

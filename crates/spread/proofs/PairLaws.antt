@@ -16,8 +16,8 @@ use Rattle.spread.specs.Next.{ifSet, wordAt, firstWord}
 use Rattle.spread.proofs.SpreadingValues.{word-left, word-cell}
 
 -- two words written one after the other
-pub pair-laid : (at x y : ℕ) (d m out : List ℕ) → at + 16 ≤ length d → m ≡ overAt at (le 8 x) d → out ≡ overAt (at + 8) (le 8 y) m → out ≡ overAt at (le 8 x ++ le 8 y) d
-pair-laid at x y d m out h em eo =
+pub pair-laid : (at x y : ℕ) (d : List ℕ) {m out : List ℕ} → at + 16 ≤ length d → m ≡ overAt at (le 8 x) d → out ≡ overAt (at + 8) (le 8 y) m → out ≡ overAt at (le 8 x ++ le 8 y) d
+pair-laid at x y d h em eo =
     let l : length (take at d ++ le 8 x) ≡ at + 8 = omega (arith, length-append (take at d) (le 8 x), length-take-le at d (omega arith), length-le 8 x) in
     eo ∙ ap (overAt (at + 8) (le 8 y)) em ∙ over-again (take at d ++ le 8 x) (le 8 y) d (at + 8) l ∙ ap (λ (f : List ℕ). over f d) (append-assoc (take at d) (le 8 x) (le 8 y))
 
@@ -39,9 +39,9 @@ module _ (s : List ℕ) (at k cells : ℕ) (h : k < cells) where
       let q : List ℕ = drop (at + k * 16) s in
       ap₂ (λ (a b : List ℕ). a ++ b) (high big) (low big) ∙ sym (ap reverse (take-add 8 8 q) ∙ reverse-append (take 8 q) (take 8 (drop 8 q)))
 
-  pub pair-is : (o : Order) (a : ℕ) → a ≡ firstWord o → (v u : ℕ) → le 8 v ≡ wordAt 8 o s at (2 * k + a) (2 * cells) → le 8 u ≡ wordAt 8 o s at (2 * k + (1 - a)) (2 * cells)
+  pub pair-is : (o : Order) {a : ℕ} → a ≡ firstWord o → (v u : ℕ) → le 8 v ≡ wordAt 8 o s at (2 * k + a) (2 * cells) → le 8 u ≡ wordAt 8 o s at (2 * k + (1 - a)) (2 * cells)
       → le 8 v ++ le 8 u ≡ ordered o (take 16 (drop (at + k * 16) s))
-  pair-is o a e v u ev eu =
+  pair-is o {a} e v u ev eu =
       ap₂ (λ (a b : List ℕ). a ++ b) ev eu
       ∙ ap (λ (a : ℕ). wordAt 8 o s at (2 * k + a) (2 * cells) ++ wordAt 8 o s at (2 * k + (1 - a)) (2 * cells)) e ∙ words o
 
@@ -51,9 +51,9 @@ both isSet x y z w = refl
 both isOther x y z w = refl
 
 -- the words x and y are the stored ones, or 0
-pub pair-cell : (m : Mark) (x y v u : ℕ) (q : List ℕ) → x ≡ ifSet m v 0 → y ≡ ifSet m u 0 → le 8 v ++ le 8 u ≡ q → le 8 x ++ le 8 y ≡ ifSet m q (replicate 16 0)
-pair-cell m x y v u q ex ey e =
-    ap₂ (λ (a b : List ℕ). a ++ b) (word-cell 8 m x v (le 8 v) ex refl) (word-cell 8 m y u (le 8 u) ey refl)
+pub pair-cell : (m : Mark) {x y : ℕ} (v u : ℕ) {q : List ℕ} → x ≡ ifSet m v 0 → y ≡ ifSet m u 0 → le 8 v ++ le 8 u ≡ q → le 8 x ++ le 8 y ≡ ifSet m q (replicate 16 0)
+pair-cell m {x} {y} v u {q} ex ey e =
+    ap₂ (λ (a b : List ℕ). a ++ b) (word-cell 8 m v (le 8 v) ex refl) (word-cell 8 m u (le 8 u) ey refl)
     ∙ both m (le 8 v) (le 8 u) (replicate 8 0) (replicate 8 0) ∙ ap (λ (p : List ℕ). ifSet m p (replicate 16 0)) e
 
 pub first-most : (o : Order) → firstWord o ≤ 1

@@ -52,7 +52,7 @@ module _ {b : Bool} {p : List ℕ} {i e : ℕ} (r : Running b p i e) where
   pub running-ends : length p ≤ e → e - i ≡ markRun b (drop i p)
   running-ends h = omega (arith, r .left, ap (markRun b) (drop-of-length-le p {i = e} h))
 
-  module _ (h : e < length p) (t : Bool) (et : t ≡ setTest (getD p e 0)) where
+  module _ (h : e < length p) {t : Bool} (et : t ≡ setTest (getD p e 0)) where
     at-e : drop e p ≡ getD p e 0 ∷ drop (e + 1) p
     at-e = drop-cons p e 0 h ∙ ap (λ (k : ℕ). getD p e 0 ∷ drop k p) (sym (add-one e))
 

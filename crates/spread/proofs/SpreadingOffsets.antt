@@ -40,7 +40,7 @@ pub record SpreadingOffsets (w : ℕ) (p s d : List ℕ) (at cells : ℕ) (out :
   pub count : k + countSet (drop i p) ≡ cells
   pub laid : Laying (endsOf w p s at) d 0 out i (end ∷ endsBy end (drop i p) (offsetsIn w (countSet (drop i p)) (drop (at + k * w) s)))
 
-module _ (w : ℕ) (p s d : List ℕ) (at cells : ℕ) where
+module _ (w : ℕ) (p s d : List ℕ) (at : ℕ) {cells : ℕ} where
   pub ends-begin : cells ≡ countSet p → at + cells * w ≤ length s → length p + 1 ≤ length d → SpreadingOffsets w p s d at cells d 0 0 0
   ends-begin e h r =
       let j : at ≡ at + 0 * w = omega (arith, zero-mul w) in
@@ -59,8 +59,8 @@ module _ {w : ℕ} {p s d : List ℕ} {at cells : ℕ} {out : List ℕ} {end i k
   ends-room = omega (arith, laying-room (endsOf w p s at) d 0 out i end _ (c .laid))
 
   -- no stored end is left: all others are where the last was
-  pub ends-end : cells ≤ k → (n : ℕ) → length p ≡ n → (out′ : List ℕ) → out′ ≡ overAt i (replicate (n + 1 - i) end) out → out′ ≡ over (endsOf w p s at) d
-  ends-end h n en out′ eo =
+  pub ends-end : cells ≤ k → {n : ℕ} → length p ≡ n → {out′ : List ℕ} → out′ ≡ overAt i (replicate (n + 1 - i) end) out → out′ ≡ over (endsOf w p s at) d
+  ends-end h {n} en {out′} eo =
       let os : List ℕ = offsetsIn w (countSet (drop i p)) (drop (at + k * w) s) in
       let z : List ℕ = replicate (n + 1 - i) end in
       let l : suc (length (drop i p)) ≡ n + 1 - i = omega (arith, length-drop i p, c .within) in
@@ -110,9 +110,9 @@ module _ {w : ℕ} {p s d : List ℕ} {at cells : ℕ} {out : List ℕ} {end i k
           is = by-mark e ∙ ap (λ (l : List ℕ). unle (take w q) ∷ endsBy (unle (take w q)) (drop (i + 1) p) (offsetsIn w later l)) dr;
         }
 
-    pub ends-more : (m : Mark) → m ≡ markOf (getD p i 0) → (t : ℕ) → t ≡ ifSet m (unle (take w (drop (at + k * w) s))) end
+    pub ends-more : {m : Mark} → m ≡ markOf (getD p i 0) → {t : ℕ} → t ≡ ifSet m (unle (take w (drop (at + k * w) s))) end
         → SpreadingOffsets w p s d at cells (set out i end) t (i + 1) (nextAt m k 1)
-    ends-more m e t et = record {
+    ends-more {m} e {t} et = record {
       within = omega (arith, ends-inside);
       enough = c .enough;
       count = next m e .count;

@@ -70,8 +70,8 @@ abbrev pub valuesLeft : ℕ → Order → List ℕ → List ℕ → ℕ → ℕ 
 valuesLeft size o p s i j = valuesOver size o (drop i p) (drop j s)
 
 -- the size may be said in another way
-pub sized-as : (size w : ℕ) → size ≡ w → (o : Order) (p q v out : List ℕ) → out ≡ over (valuesOver w o p q) v → out ≡ over (valuesOver size o p q) v
-sized-as size w e o p q v out h = h ∙ ap (λ (k : ℕ). over (valuesOver k o p q) v) (sym e)
+pub sized-as : {size w : ℕ} → size ≡ w → (o : Order) (p q v : List ℕ) {out : List ℕ} → out ≡ over (valuesOver w o p q) v → out ≡ over (valuesOver size o p q) v
+sized-as e o p q v h = h ∙ ap (λ (k : ℕ). over (valuesOver k o p q) v) (sym e)
 
 module _ (size : ℕ) (o : Order) (p s : List ℕ) (i j r : ℕ) where
   -- r cells that are not set

@@ -46,25 +46,25 @@ pub record Rises (w n : ℕ) (s : List ℕ) (at prev p left : ℕ) : Type 0 wher
   pub room : p + (w + left * w) ≤ length s
   pub rest : risingTest (offsetsIn w (suc n) (drop at s)) ≡ risingFromTest prev (offsetsIn w left (drop (p + w) s))
 
-module _ (w n : ℕ) (s : List ℕ) (at first : ℕ) (e : first ≡ unle (take w (drop at s))) where
-  by-first : (t : Bool) → eqb first 0 ≡ t → risingTest (offsetsIn w (suc n) (drop at s)) ≡ t && risingFromTest first (offsetsIn w n (drop (at + w) s))
-  by-first t et =
+module _ (w n : ℕ) (s : List ℕ) (at : ℕ) {first : ℕ} (e : first ≡ unle (take w (drop at s))) where
+  by-first : {t : Bool} → eqb first 0 ≡ t → risingTest (offsetsIn w (suc n) (drop at s)) ≡ t && risingFromTest first (offsetsIn w n (drop (at + w) s))
+  by-first et =
       ap₂ (λ (a : ℕ) (q : List ℕ). eqb a 0 && risingFromTest a (offsetsIn w n q)) (sym e) (drop-drop w at s)
       ∙ ap (λ (b : Bool). b && risingFromTest first (offsetsIn w n (drop (at + w) s))) et
 
   pub rises-not : 0 < first → false ≡ risingTest (offsetsIn w (suc n) (drop at s))
-  rises-not f = sym (by-first false (ne-eqb first 0 (λ z. absurd (omega arith))))
+  rises-not f = sym (by-first (ne-eqb first 0 (λ z. absurd (omega arith))))
 
   pub rises-start : first ≤ 0 → at + (w + n * w) ≤ length s → Rises w n s at first at n
-  rises-start z h = record { room = h; rest = by-first true (eq-eqb first 0 (omega arith)) }
+  rises-start z h = record { room = h; rest = by-first (eq-eqb first 0 (omega arith)) }
 
 module _ {w n : ℕ} {s : List ℕ} {at prev p left : ℕ} (r : Rises w n s at prev p left) (h : 0 < left) where
   pub rises-room : p + w + w + (left - 1) * w ≤ length s
   rises-room = omega (arith, r .room, times-less left w h)
 
-  next-is : (next : ℕ) → next ≡ unle (take w (drop (p + w) s))
+  next-is : {next : ℕ} → next ≡ unle (take w (drop (p + w) s))
       → risingTest (offsetsIn w (suc n) (drop at s)) ≡ leb prev next && risingFromTest next (offsetsIn w (left - 1) (drop (p + w + w) s))
-  next-is next e = r .rest ∙ go left h
+  next-is {next} e = r .rest ∙ go left h
     where
       go : (k : ℕ) → 0 < k → risingFromTest prev (offsetsIn w k (drop (p + w) s)) ≡ leb prev next && risingFromTest next (offsetsIn w (k - 1) (drop (p + w + w) s))
       go zero f = absurd (omega arith)
@@ -72,20 +72,20 @@ module _ {w n : ℕ} {s : List ℕ} {at prev p left : ℕ} (r : Rises w n s at p
           ap₂ (λ (a : ℕ) (q : List ℕ). leb prev a && risingFromTest a (offsetsIn w k q)) (sym e) (drop-drop w (p + w) s)
           ∙ ap (λ (j : ℕ). leb prev next && risingFromTest next (offsetsIn w j (drop (p + w + w) s))) (sym (sub-one (suc k)))
 
-  pub rises-falls : (next : ℕ) → next ≡ unle (take w (drop (p + w) s)) → next < prev → false ≡ risingTest (offsetsIn w (suc n) (drop at s))
-  rises-falls next e f = sym (next-is next e ∙ ap (λ (b : Bool). b && risingFromTest next (offsetsIn w (left - 1) (drop (p + w + w) s))) (lt-leb prev next f))
+  pub rises-falls : {next : ℕ} → next ≡ unle (take w (drop (p + w) s)) → next < prev → false ≡ risingTest (offsetsIn w (suc n) (drop at s))
+  rises-falls {next} e f = sym (next-is e ∙ ap (λ (b : Bool). b && risingFromTest next (offsetsIn w (left - 1) (drop (p + w + w) s))) (lt-leb prev next f))
 
-  pub rises-more : (next : ℕ) → next ≡ unle (take w (drop (p + w) s)) → prev ≤ next → Rises w n s at next (p + w) (left - 1)
-  rises-more next e f = record {
+  pub rises-more : {next : ℕ} → next ≡ unle (take w (drop (p + w) s)) → prev ≤ next → Rises w n s at next (p + w) (left - 1)
+  rises-more {next} e f = record {
     room = omega (arith, rises-room);
-    rest = next-is next e ∙ ap (λ (b : Bool). b && risingFromTest next (offsetsIn w (left - 1) (drop (p + w + w) s))) (le-leb prev next f);
+    rest = next-is e ∙ ap (λ (b : Bool). b && risingFromTest next (offsetsIn w (left - 1) (drop (p + w + w) s))) (le-leb prev next f);
   }
 
   -- with one left, its offset decides
-  pub rises-last : (next : ℕ) → next ≡ unle (take w (drop (p + w) s)) → left ≡ 1 → leb prev next ≡ risingTest (offsetsIn w (suc n) (drop at s))
-  rises-last next e f =
+  pub rises-last : {next : ℕ} → next ≡ unle (take w (drop (p + w) s)) → left ≡ 1 → leb prev next ≡ risingTest (offsetsIn w (suc n) (drop at s))
+  rises-last {next} e f =
       let none : left - 1 ≡ 0 = omega arith in
-      sym (next-is next e ∙ ap (λ (k : ℕ). leb prev next && risingFromTest next (offsetsIn w k (drop (p + w + w) s))) none ∙ and-true (leb prev next))
+      sym (next-is e ∙ ap (λ (k : ℕ). leb prev next && risingFromTest next (offsetsIn w k (drop (p + w + w) s))) none ∙ and-true (leb prev next))
 
 pub rises-end : {w n : ℕ} {s : List ℕ} {at prev p left : ℕ} → Rises w n s at prev p left → left ≡ 0 → true ≡ risingTest (offsetsIn w (suc n) (drop at s))
 rises-end {w} {n} {s} {at} {prev} {p} {left} r e = sym (r .rest ∙ ap (λ (k : ℕ). risingFromTest prev (offsetsIn w k (drop (p + w) s))) e)
@@ -98,8 +98,8 @@ last-in w (suc n) q =
     let e : w + n * w ≡ suc n * w = omega (arith, suc-mul n w) in
     last-in w n (drop w q) ∙ ap (λ (l : List ℕ). unle (take w l)) (drop-drop (n * w) w q ∙ ap (λ (k : ℕ). drop k q) e)
 
-pub last-at : (w n : ℕ) (s : List ℕ) (at v : ℕ) → v ≡ unle (take w (drop (at + n * w) s)) → v ≡ last (offsetsIn w (suc n) (drop at s))
-last-at w n s at v e = e ∙ sym (last-in w n (drop at s) ∙ ap (λ (l : List ℕ). unle (take w l)) (drop-drop (n * w) at s))
+pub last-at : (w n : ℕ) (s : List ℕ) (at : ℕ) {v : ℕ} → v ≡ unle (take w (drop (at + n * w) s)) → v ≡ last (offsetsIn w (suc n) (drop at s))
+last-at w n s at e = e ∙ sym (last-in w n (drop at s) ∙ ap (λ (l : List ℕ). unle (take w l)) (drop-drop (n * w) at s))
 
 -- ---- the limit
 
@@ -178,8 +178,8 @@ module _ {A : Type 0} (check : List ℕ → List ℕ → Answer A) (w n : ℕ) (
 
     module _ (f : w + n * w ≤ length q - 8) where
       -- the index length is the index's, or the refusal is 8
-      by-length : (l k : ℕ) (a b : Answer A) → k ≡ length q - 8 → (l ≡ w * suc n → a ≡ b) → unless (leb l k) 8 (unless (eqb l (w * suc n)) 8 a) ≡ unless (eqb l (w + n * w)) 8 b
-      by-length l k a b ek g = go (eqb l (w * suc n)) refl
+      by-length : (l : ℕ) {k : ℕ} (a b : Answer A) → k ≡ length q - 8 → (l ≡ w * suc n → a ≡ b) → unless (leb l k) 8 (unless (eqb l (w * suc n)) 8 a) ≡ unless (eqb l (w + n * w)) 8 b
+      by-length l {k} a b ek g = go (eqb l (w * suc n)) refl
         where
           same : eqb l (w + n * w) ≡ eqb l (w * suc n)
           same = ap (eqb l) (sym (index-size w n))
@@ -200,7 +200,7 @@ module _ {A : Type 0} (check : List ℕ → List ℕ → Answer A) (w n : ℕ) (
         where
           go : (p : Place) → openBy check w p (unle (partOf p 8 q)) (leftOf p 8 q) n ≡ unless (eqb (unle (take 8 (drop (lengthAt p (length q)) q))) (w + n * w)) 8 (checkedAt p)
           go atStart =
-              by-length (unle (take 8 q)) (length (drop 8 q)) _ _ (left-long atStart)
+              by-length (unle (take 8 q)) _ _ (left-long atStart)
               (λ e.
               let e1 : unle (take 8 q) ≡ suc n * w = e ∙ mul-comm w (suc n) in
               let e2 : 8 + unle (take 8 q) ≡ 8 + (w + n * w) = omega (arith, index-size w n) in
@@ -214,7 +214,7 @@ module _ {A : Type 0} (check : List ℕ → List ℕ → Answer A) (w n : ℕ) (
               let t : List ℕ = take (length q - 8) q in
               let lt : length t ≡ length q - 8 = left-long atEnd in
               let b : take 8 (drop (length q - 8) q) ≡ drop (length q - 8) q = take-all 8 (drop (length q - 8) q) (omega (arith, length-drop (length q - 8) q)) in
-              by-length (unle (drop (length q - 8) q)) (length t) _ (checkedAt atEnd) lt
+              by-length (unle (drop (length q - 8) q)) _ (checkedAt atEnd) lt
               (λ e.
               let x : ℕ = length q - 8 - (w + n * w) in
               let ex : length t - unle (drop (length q - 8) q) ≡ x = omega (arith, index-size w n) in
@@ -266,7 +266,7 @@ module _ (w n : ℕ) (s : List ℕ) (at : ℕ) (h : 8 ≤ length s - at) (f : w 
       data-room atEnd l i h = omega arith
 
   -- by the index length that was read
-  module _ (l : ℕ) (e : l ≡ unle (take 8 (drop (at + lengthAt p (length s - at)) s))) where
+  module _ {l : ℕ} (e : l ≡ unle (take 8 (drop (at + lengthAt p (length s - at)) s))) where
     pub found-other : (l ≡ w + n * w → ⊥) → refuses 8 ≡ indexIn w p (drop at s) n
     found-other g = ap (λ (b : Bool). unless b 8 (indexedBy (offsetsIn w (suc n) (drop there s)) count)) (sym (ne-eqb _ i (λ q. g (e ∙ q)))) ∙ found-at
 

@@ -147,7 +147,7 @@ module _ (mf : MaskForm) (d : ℕ) (s : List ℕ) (at n : ℕ) where
   frame-refused e h = rw h
 
   -- by how many cells its content has, which lies from a on
-  module _ (k : ℕ) (h : opened mf (drop at s) n ≡ gives k) (a : ℕ) (ea : a ≡ contentAt mf at n) where
+  module _ (k : ℕ) (h : opened mf (drop at s) n ≡ gives k) {a : ℕ} (ea : a ≡ contentAt mf at n) where
     entered : entering s a (walked mf d s a) k ≡ walkedFrame mf d s at n
     unfolding walkedFrame
     entered = rw h (ap (λ (j : ℕ). entering s j (walked mf d s j) k) ea)
@@ -160,11 +160,11 @@ module _ (mf : MaskForm) (d : ℕ) (s : List ℕ) (at n : ℕ) where
         go (suc j) g = refl
 
     module _ (ez : k ≡ 0) where
-      none : (t : Bool) → eqb (length s - a) 0 ≡ t → unless t 8 (gives (a, 0)) ≡ walkedFrame mf d s at n
-      none t e = ap (λ (b : Bool). unless b 8 (gives (a, 0))) (sym e) ∙ ap (entering s a (walked mf d s a)) (sym ez) ∙ entered
+      none : {t : Bool} → eqb (length s - a) 0 ≡ t → unless t 8 (gives (a, 0)) ≡ walkedFrame mf d s at n
+      none e = ap (λ (b : Bool). unless b 8 (gives (a, 0))) (sym e) ∙ ap (entering s a (walked mf d s a)) (sym ez) ∙ entered
 
       pub frame-hidden : (length s - a ≡ 0 → ⊥) → refuses 8 ≡ walkedFrame mf d s at n
-      frame-hidden f = none false (ne-eqb (length s - a) 0 f)
+      frame-hidden f = none (ne-eqb (length s - a) 0 f)
 
       pub frame-none : length s - a ≡ 0 → gives (a, 0) ≡ walkedFrame mf d s at n
-      frame-none e = none true (eq-eqb (length s - a) 0 e)
+      frame-none e = none (eq-eqb (length s - a) 0 e)

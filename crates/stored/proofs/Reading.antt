@@ -45,14 +45,14 @@ module _ (mf : MaskForm) (z : Value) (r : List ℕ → ℕ → Answer (List Valu
     up : Answer (List (Cell d)) → Answer (List (Cell (suc d)))
     up a = andThen a (λ xs. gives (expand (blank z d) mask xs))
 
-    up-answer : (k : ℕ) → countSet mask ≡ k → (w : Answer (ℕ × ℕ)) → up (andThen w (answerBy mf z r d s next k)) ≡ answered w
+    up-answer : {k : ℕ} → countSet mask ≡ k → (w : Answer (ℕ × ℕ)) → up (andThen w (answerBy mf z r d s next k)) ≡ answered w
     unfolding cellsFrom up
-    up-answer k e (gives i) = go (innermostBy (r (drop (i .0) s)) (i .1))
+    up-answer {k} e (gives i) = go (innermostBy (r (drop (i .0) s)) (i .1))
       where
         go : (x : Answer (List Value)) → up (andThen x (λ vs. gives (cellsFrom mf z d s next k vs))) ≡ andThen x (λ vs. gives (cellsFrom mf z (suc d) s at n vs))
         go (gives vs) = ap (λ (c : ℕ). gives (expand (blank z d) mask (cellsFrom mf z d s next c vs))) (sym e)
         go (refuses f) = refl
-    up-answer k e (refuses f) = refl
+    up-answer e (refuses f) = refl
 
     module _ (ih : (k : ℕ) → readFrame mf z r d (drop next s) (suc k) ≡ andThen (below (suc k)) (answerBy mf z r d s next (suc k))) where
       inner : (k : ℕ) → countSet mask ≡ k → up (contentOf (length s - next) k (readFrame mf z r d (drop next s))) ≡ answered (entering s next below k)
@@ -62,7 +62,7 @@ module _ (mf : MaskForm) (z : Value) (r : List ℕ → ℕ → Answer (List Valu
           go : (t : Bool) → up (unless t 8 (gives [])) ≡ answered (unless t 8 (gives (next, 0)))
           go true = ap gives (expand-none (blank z d) mask [] (cellsFrom mf z d s next (countSet mask) []) e)
           go false = refl
-      inner (suc k) e = ap up (ih k) ∙ up-answer (suc k) e (below (suc k))
+      inner (suc k) e = ap up (ih k) ∙ up-answer e (below (suc k))
 
       -- what reads the mask and the c bytes behind it
       body : ℕ → List ℕ → List ℕ → Answer (List (Cell (suc d)))

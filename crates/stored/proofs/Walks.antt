@@ -67,14 +67,14 @@ module _ (x : Masks) (d : ℕ) (s : List ℕ) (at n : ℕ) (l : at ≤ length s)
   mask-is : storedMask mf (drop at s) 16 n ≡ storedMask mf s (at + 16) n
   mask-is = ap (take (mf .size n)) (drop-drop 16 at s)
 
-  mask-passed : (j : ℕ) → FrameOpen x (drop at s) n j → MaskPassed mf s at n
-  mask-passed j o = record { room = omega (arith, length-drop at s, o .room); passed = ap (λ (m : List ℕ). mf .test m n) (sym mask-is) ∙ o .passed }
+  mask-passed : {j : ℕ} → FrameOpen x (drop at s) n j → MaskPassed mf s at n
+  mask-passed o = record { room = omega (arith, length-drop at s, o .room); passed = ap (λ (m : List ℕ). mf .test m n) (sym mask-is) ∙ o .passed }
 
-  level-passed : (j a k : ℕ) → FrameOpen x (drop at s) n j → WalkPassed x d s next j a k → WalkPassed x (suc d) s at n a k
+  level-passed : {j a k : ℕ} → FrameOpen x (drop at s) n j → WalkPassed x d s next j a k → WalkPassed x (suc d) s at n a k
   unfolding MasksWithin storedMasks
-  level-passed j a k o p =
+  level-passed {j} {a} {k} o p =
       let ej : j ≡ countSet mask = o .counted ∙ ap (λ (m : List ℕ). countSet (mf .said m n)) mask-is in
-      let pass : MaskPassed mf s at n = mask-passed j o in
+      let pass : MaskPassed mf s at n = mask-passed o in
       record {
         within = ((λ g. pass), subst (MasksWithin mf d s next) ej (p .within));
         few = omega (arith, p .few, o .few);
@@ -90,12 +90,12 @@ module _ (x : Masks) (d : ℕ) (s : List ℕ) (at n : ℕ) (l : at ≤ length s)
   none-passed o i true e q =
       let same : _≡_ {A = ℕ × ℕ} (next, 0) i = cc in
       subst (λ (i : ℕ × ℕ). WalkPassed x (suc d) s at n (i .0) (i .1)) same
-      (level-passed 0 next 0 o
+      (level-passed {a = next} {k = 0} o
       (record {
         within = within-none x d s next;
         few = omega arith;
         innermost = λ p eq. innermost-none p (storedMasks mf d s next 0) eq;
-        inside = mask-passed 0 o .room;
+        inside = mask-passed o .room;
         none-left = λ z. eqb-true (length s - next) 0 e;
       }))
   none-passed o i false e q = let z : _≡_ {A = ℕ} 0 1 = cc in absurd (omega arith)
@@ -105,7 +105,7 @@ module _ (x : Masks) (d : ℕ) (s : List ℕ) (at n : ℕ) (l : at ≤ length s)
   frame-passed a k (gives zero) e g ih = none-passed (frame-open x (drop at s) n 0 e) (a, k) (eqb (length s - next) 0) refl g
   frame-passed a k (gives (suc j)) e g ih =
       let o : FrameOpen x (drop at s) n (suc j) = frame-open x (drop at s) n (suc j) e in
-      level-passed (suc j) a k o (ih j (mask-passed (suc j) o .room) g)
+      level-passed o (ih j (mask-passed o .room) g)
   frame-passed a k (refuses f) e g ih = let z : _≡_ {A = ℕ} 0 1 = cc in absurd (omega arith)
 
 pub walk-passed : (x : Masks) (d : ℕ) (s : List ℕ) (at n a k : ℕ) → 1 ≤ n → at ≤ length s → walked (maskForm x) d s at n ≡ gives (a, k) → WalkPassed x d s at n a k

@@ -100,7 +100,7 @@ module _ (sh ns : List ℕ) where
         same = ap₂ (λ (b : Bool) (bs : List Subset). b && every (fullTest sh) bs) (eq-eqb (length ns % (2 * d)) 0 e) (subsets-are d k ns h (subsets-long d ns e));
       }
 
-  module _ (at : ℕ) (f : Fitting sh ns at) where
+  module _ {at : ℕ} (f : Fitting sh ns at) where
     pub fitting-ends : 1 ≤ length sh → length ns ≤ at → manyTest sh ns ≡ true
     fitting-ends d h = f .same ∙ go (f .subsets) (f .long)
       where

@@ -46,8 +46,8 @@ few-lengths (s ∷ sh) (a ∷ st) (n ∷ ls) w d e p = (
   few-lengths sh st ls (w .1) (omega arith) (omega arith) (p .1),
 )
 
-pub few-within : (sh st ls : List ℕ) → ShapeOk sh → Within sh st ls → FewCells ls
-few-within sh st ls o f = few-lengths sh st ls (few-shape sh (o .sides) (o .few-cells)) (f .as-many-starts) (f .as-many-lengths) (f .inside)
+pub few-within : {sh : List ℕ} (st ls : List ℕ) → ShapeOk sh → Within sh st ls → FewCells ls
+few-within {sh} st ls o f = few-lengths sh st ls (few-shape sh (o .sides) (o .few-cells)) (f .as-many-starts) (f .as-many-lengths) (f .inside)
 
 pub few-drop : (k : ℕ) (xs : List ℕ) → FewCells xs → volume (drop k xs) ≤ 65536
 unfolding mostCells
@@ -64,7 +64,7 @@ volume-whole xs zero h = refl
 volume-whole xs (suc k) h = absurd (omega arith)
 
 -- a side more of the volume fits
-module _ (xs : List ℕ) (k v : ℕ) (h : 0 < k) (l : k ≤ length xs) (e : v ≡ volume (drop k xs)) where
+module _ (xs : List ℕ) (k : ℕ) {v : ℕ} (h : 0 < k) (l : k ≤ length xs) (e : v ≡ volume (drop k xs)) where
   pub volume-more : getD xs (k - 1) 0 * v ≡ volume (drop (k - 1) xs)
   volume-more = ap (λ (w : ℕ). getD xs (k - 1) 0 * w) e ∙ sym (ap volume (next-side xs k h l))
 
@@ -115,15 +115,15 @@ module _ (sh st ls : List ℕ) (i : ℕ) (f : Within sh st ls) (g : i < volume l
         small = omega arith;
       }
 
-  pub cell-ends : (k v cell q : ℕ) → CellAt sh st ls i k v cell q → k ≤ 0 → cell ≡ getD (cellsIn sh (pairs st ls)) i 0
-  cell-ends zero v cell q c h = c .found ∙ ap (λ (j : ℕ). getD (cellsIn sh (pairs st ls)) j 0) (go q (c .parts))
+  pub cell-ends : (k : ℕ) {v cell q : ℕ} → CellAt sh st ls i k v cell q → k ≤ 0 → cell ≡ getD (cellsIn sh (pairs st ls)) i 0
+  cell-ends zero {v} {cell} {q} c h = c .found ∙ ap (λ (j : ℕ). getD (cellsIn sh (pairs st ls)) j 0) (go q (c .parts))
     where
       go : (q : ℕ) → i ≡ q * volume ls + c .y → c .y ≡ i
       go zero e = omega (arith, e, zero-mul (volume ls))
       go (suc q) e = absurd (omega (arith, e, suc-mul q (volume ls)))
-  cell-ends (suc k) v cell q c h = absurd (omega arith)
+  cell-ends (suc k) c h = absurd (omega arith)
 
-  module _ (k v cell q : ℕ) (c : CellAt sh st ls i k v cell q) (h : 0 < k) where
+  module _ {k v cell q : ℕ} (c : CellAt sh st ls i k v cell q) (h : 0 < k) where
     abbrev s : ℕ
     s = getD sh (k - 1) 0
 
@@ -196,14 +196,14 @@ pub record Turn (sh st ls : List ℕ) (k v cell q : ℕ) : Type 0 where
   pub cell-small : (getD st (k - 1) 0 + q % getD ls (k - 1) 0) * v + cell ≤ 65536
   pub vol-small : getD sh (k - 1) 0 * v ≤ 65536
 
-pub turn : (sh st ls : List ℕ) (i k v cell q : ℕ) → ShapeOk sh → Within sh st ls → i < volume ls → CellAt sh st ls i k v cell q → 0 < k → Turn sh st ls k v cell q
-turn sh st ls i k v cell q o f g c h =
-    let w : getD sh (k - 1) 0 * v ≤ 65536 = volume-fits sh k v h (c .within) (c .vol) (few-shape sh (o .sides) (o .few-cells)) in
-    let r : getD st (k - 1) 0 + q % getD ls (k - 1) 0 < getD sh (k - 1) 0 = row-inside sh st ls i f g k v cell q c h in
+pub turn : {sh st ls : List ℕ} {i k v cell q : ℕ} → ShapeOk sh → Within sh st ls → i < volume ls → CellAt sh st ls i k v cell q → 0 < k → Turn sh st ls k v cell q
+turn {sh} {st} {ls} {i} {k} {v} {cell} {q} o f g c h =
+    let w : getD sh (k - 1) 0 * v ≤ 65536 = volume-fits sh k h (c .within) (c .vol) (few-shape sh (o .sides) (o .few-cells)) in
+    let r : getD st (k - 1) 0 + q % getD ls (k - 1) 0 < getD sh (k - 1) 0 = row-inside sh st ls i f g c h in
     let one : 1 ≤ v = omega (arith, c .small) in
     record {
-      some-length = some sh st ls i f g k v cell q c h;
+      some-length = some sh st ls i f g c h;
       row-small = omega (arith, mul-le-mul-left (getD sh (k - 1) 0) one, mul-one (getD sh (k - 1) 0));
-      cell-small = omega (arith, cell-fits sh st ls i f g k v cell q c h);
+      cell-small = omega (arith, cell-fits sh st ls i f g c h);
       vol-small = w;
     }

@@ -53,9 +53,9 @@ pub record Left (cs : List ℕ) (cells n at : ℕ) : Type 0 where
   pub left : Runs n (drop at cs)
 
 -- the rows are as long as the last length; an empty subset has none
-pub left-begins : (sh st ls : List ℕ) (cells : ℕ) → Within sh st ls → 1 ≤ length sh → cells ≡ volume ls
+pub left-begins : (sh st ls : List ℕ) {cells : ℕ} → Within sh st ls → 1 ≤ length sh → cells ≡ volume ls
     → Left (cellsIn sh (pairs st ls)) cells (getD ls (length ls - 1) 0) 0
-left-begins sh st ls cells f h e =
+left-begins sh st ls f h e =
     let hl : 1 ≤ length ls = omega (arith, f .as-many-lengths) in
     let el : lengths (pairs st ls) ≡ ls = lengths-pairs st ls (omega (arith, f .as-many-starts, f .as-many-lengths)) in
     record {
@@ -74,7 +74,7 @@ module _ (cs : List ℕ) (cells n at : ℕ) (w : Left cs cells n at) where
     left-some = w .some (omega arith)
 
     now : Begun n (drop at cs)
-    now = begun n (drop at cs) left-some (omega (arith, length-drop at cs, w .whole)) (w .left)
+    now = begun n left-some (omega (arith, length-drop at cs, w .whole)) (w .left)
 
     -- what is left begins with a row, from the cell at `at`
     pub left-next : drop at cs ≡ from (getD cs at 0) n ++ drop (at + n) cs

@@ -42,9 +42,9 @@ pub data Runs (n : ℕ) : List ℕ → Type 0 where
   none : Runs n []
   run : (a : ℕ) {js : List ℕ} → Runs n js → Runs n (from a n ++ js)
 
-runs-append : {n : ℕ} {js : List ℕ} (ks : List ℕ) → Runs n js → Runs n ks → Runs n (js ++ ks)
-runs-append ks none q = q
-runs-append {n} ks (run a {js} p) q = subst (Runs n) (sym (append-assoc (from a n) js ks)) (run a (runs-append ks p q))
+runs-append : {n : ℕ} {js : List ℕ} {ks : List ℕ} → Runs n js → Runs n ks → Runs n (js ++ ks)
+runs-append {ks = ks} none q = q
+runs-append {n} {ks = ks} (run a {js} p) q = subst (Runs n) (sym (append-assoc (from a n) js ks)) (run a (runs-append p q))
 
 map-from-add : (c a n : ℕ) → map (λ j. c + j) (from a n) ≡ from (c + a) n
 map-from-add c a zero = refl
@@ -57,9 +57,9 @@ runs-map c none = none
 runs-map {n} c (run a {js} p) =
     subst (Runs n) (sym (map-append (λ j. c + j) (from a n) js ∙ ap (λ (r : List ℕ). r ++ map (λ j. c + j) js) (map-from-add c a n))) (run (c + a) (runs-map c p))
 
-runs-rows : {n : ℕ} (v : ℕ) (is js : List ℕ) → Runs n js → Runs n (rows v is js)
-runs-rows v [] js p = none
-runs-rows v (i ∷ is) js p = runs-append (rows v is js) (runs-map (i * v) p) (runs-rows v is js p)
+runs-rows : {n : ℕ} (v : ℕ) (is : List ℕ) {js : List ℕ} → Runs n js → Runs n (rows v is js)
+runs-rows v [] {js = js} p = none
+runs-rows v (i ∷ is) {js = js} p = runs-append (runs-map (i * v) p) (runs-rows v is p)
 
 row-of-one : (a n : ℕ) → rows 1 (from a n) (0 ∷ []) ≡ from a n
 row-of-one a zero = refl
@@ -82,7 +82,7 @@ cells-runs (s ∷ []) (b ∷ []) h p =
 cells-runs (s ∷ []) (b ∷ c ∷ bs) h p = absurd (p .1)
 cells-runs (s ∷ t ∷ ss) (b ∷ []) h p = absurd (p .1)
 cells-runs (s ∷ t ∷ ss) (b ∷ c ∷ bs) h p =
-    runs-rows (volume (t ∷ ss)) (from (b .0) (b .1)) (cellsIn (t ∷ ss) (c ∷ bs)) (cells-runs (t ∷ ss) (c ∷ bs) (omega arith) (p .1))
+    runs-rows (volume (t ∷ ss)) (from (b .0) (b .1)) (cells-runs (t ∷ ss) (c ∷ bs) (omega arith) (p .1))
 
 -- runs that are not at their end begin with one, which its first number tells
 pub record Begun (n : ℕ) (js : List ℕ) : Type 0 where
@@ -90,10 +90,10 @@ pub record Begun (n : ℕ) (js : List ℕ) : Type 0 where
   pub rest : Runs n (drop n js)
   pub as-long : n ≤ length js
 
-pub begun : (n : ℕ) (js : List ℕ) → 1 ≤ n → 0 < length js → Runs n js → Begun n js
-begun n js h l none = absurd (omega arith)
-begun zero js h l (run a p) = absurd (omega arith)
-begun (suc n) js h l (run a {js = ks} p) =
+pub begun : (n : ℕ) {js : List ℕ} → 1 ≤ n → 0 < length js → Runs n js → Begun n js
+begun n h l none = absurd (omega arith)
+begun zero h l (run a p) = absurd (omega arith)
+begun (suc n) h l (run a {js = ks} p) =
     let d : drop (suc n) (from a (suc n) ++ ks) ≡ ks = drop-at (from a (suc n)) ks (suc n) (length-from a (suc n)) in
     record {
       first = ap (λ (r : List ℕ). from a (suc n) ++ r) (sym d);

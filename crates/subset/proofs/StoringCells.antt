@@ -56,8 +56,8 @@ module _ (cs d out : List ℕ) (cells n at : ℕ) (s : Stored cs d out cells n a
   pub stored-ends : cells ≤ at → out ≡ over cs d
   stored-ends h = laying-ends cs d 0 out at (laying-is (s .laid) (left-ends cs cells n at (s .geo) h))
 
-  pub stored-more : at < cells → (a : ℕ) (out′ : List ℕ) → a ≡ getD cs at 0 → out′ ≡ overAt at (from a n) out → Stored cs d out′ cells n (at + n)
-  stored-more h a out′ e r = record {
+  pub stored-more : at < cells → {a : ℕ} {out′ : List ℕ} → a ≡ getD cs at 0 → out′ ≡ overAt at (from a n) out → Stored cs d out′ cells n (at + n)
+  stored-more h {a} {out′} e r = record {
     geo = left-more cs cells n at (s .geo) h;
     laid = laying-part cs d 0 out at (from a n) (drop (at + n) cs)
         (laying-is (s .laid) (left-next cs cells n at (s .geo) h ∙ ap (λ (k : ℕ). from k n ++ drop (at + n) cs) (sym e)))

@@ -44,7 +44,7 @@ module _ (s : List ℕ) (v i : ℕ) where
   unfolding numberFrom
   number-ends h = ap (numberFrom v) (drop-of-length-le s h)
 
-  module _ (h : i < length s) (d : ℕ) (e : d ≡ digitOf (getD s i 0)) where
+  module _ (h : i < length s) {d : ℕ} (e : d ≡ digitOf (getD s i 0)) where
     number-next : numberFrom v (drop i s) ≡ goOn (nextNumber v d) (λ (w : ℕ). numberFrom w (drop (i + 1) s))
     unfolding numberFrom
     number-next = ap (numberFrom v) (next-of s i h) ∙ ap (λ (k : ℕ). goOn (nextNumber v k) (λ (w : ℕ). numberFrom w (drop (i + 1) s))) (sym e)

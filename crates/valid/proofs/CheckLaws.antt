@@ -85,8 +85,8 @@ module _ (k : declared.Kind) (n : ℕ) (c : Content) where
   masks-differ h = simp (ne-eqb (length (c .masks)) (k .depth * n) h)
 
   -- the masks agree, and what the values' form says
-  pub by-form : (f : Values) → k .values ≡ f → length (c .masks) ≡ k .depth * n → {b : Bool} → b ≡ valuesTest (formOf f) n c → b ≡ contentTest (kindOf k) n c
-  by-form f e h g =
+  pub by-form : {f : Values} → k .values ≡ f → length (c .masks) ≡ k .depth * n → {b : Bool} → b ≡ valuesTest (formOf f) n c → b ≡ contentTest (kindOf k) n c
+  by-form {f = f} e h g =
       g ∙ ap (λ (x : Values). valuesTest (formOf x) n c) (sym e)
       ∙ sym (ap (λ (t : Bool). t && valuesTest (formOf (k .values)) n c) (eq-eqb (length (c .masks)) (k .depth * n) h))
 
@@ -112,7 +112,7 @@ module _ (n : ℕ) (c : Content) where
           ap₂ (λ (b : Bool) (l : ℕ). b && eqb l (length (c .values))) (e ∙ ap risingTest (take-all (suc n) (c .offsets) (omega (arith, counted)))) (f ∙ sym (last-at (c .offsets) n counted))
           ∙ sym (ap (λ (t : Bool). t && risingTest (c .offsets) && eqb (last (c .offsets)) (length (c .values))) (eq-eqb (length (c .offsets)) (suc n) counted))
 
-      module _ (rises : Bool) (e : rises ≡ risingTest (take (suc n) (c .offsets))) where
+      module _ {rises : Bool} (e : rises ≡ risingTest (take (suc n) (c .offsets))) where
         pub offsets-fall : not rises ≡ true → false ≡ valuesTest (ragged w p) n c
         offsets-fall f = of-parts (sym (not-true rises f) ∙ e) refl
 
@@ -121,7 +121,7 @@ module _ (n : ℕ) (c : Content) where
 
 -- ---- whether an array keeps its rules: one law for each way
 
-module _ (k : Kind) (n : ℕ) (c : Content) (fits : Bool) (e : fits ≡ contentTest k n c) where
+module _ (k : Kind) (n : ℕ) (c : Content) {fits : Bool} (e : fits ≡ contentTest k n c) where
   pub fits-not : fits ≡ false → fits ≡ arrayTest k n c
   fits-not f = f ∙ ap (λ (b : Bool). b && masksTest c) (sym f ∙ e)
 
@@ -130,19 +130,19 @@ module _ (k : Kind) (n : ℕ) (c : Content) (fits : Bool) (e : fits ≡ contentT
 
 -- ---- what a check answers: one law for each answer
 
-module _ (k : Kind) (n : ℕ) (c : Content) (keeps : Bool) (e : keeps ≡ arrayTest k n c) where
+module _ (k : Kind) (n : ℕ) (c : Content) {keeps : Bool} (e : keeps ≡ arrayTest k n c) where
   pub check-four : not keeps ≡ true → refuses 4 ≡ checkOf k n c
   check-four h = ap (λ (b : Bool). unless b 4 (unless (sizeTest (length (c .values))) 5 (gives (tt {0})))) (sym (not-true keeps h) ∙ e)
 
   module _ (h : not keeps ≡ false) where
-    then-size : (b : Bool) → sizeTest (length (c .values)) ≡ b → unless b 5 (gives (tt {0})) ≡ checkOf k n c
-    then-size b f = ap₂ (λ (a b : Bool). unless a 4 (unless b 5 (gives (tt {0})))) (sym (not-false keeps h) ∙ e) (sym f)
+    then-size : {b : Bool} → sizeTest (length (c .values)) ≡ b → unless b 5 (gives (tt {0})) ≡ checkOf k n c
+    then-size {b} f = ap₂ (λ (a b : Bool). unless a 4 (unless b 5 (gives (tt {0})))) (sym (not-false keeps h) ∙ e) (sym f)
 
     pub check-five : mostBytes < length (c .values) → refuses 5 ≡ checkOf k n c
-    check-five l = then-size false (lt-leb (length (c .values)) mostBytes l)
+    check-five l = then-size (lt-leb (length (c .values)) mostBytes l)
 
     pub check-gives : length (c .values) ≤ mostBytes → gives tt ≡ checkOf k n c
-    check-gives l = then-size true (le-leb (length (c .values)) mostBytes l)
+    check-gives l = then-size (le-leb (length (c .values)) mostBytes l)
 
 -- ---- what the answer says of an array
 

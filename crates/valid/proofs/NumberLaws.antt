@@ -40,8 +40,8 @@ outside g a b depth (suc (suc n)) p q = refl
 pub size-fits : (k : ℕ) (o : Order) → 1 ≤ k → k ≤ 64 → formTest (fixed k o) ≡ true
 size-fits k o p q = rw (le-leb 1 k p, le-leb k 64 q)
 
-pub size-none : (k : ℕ) (o : Order) → k ≡ 0 → formTest (fixed k o) ≡ false
-size-none k o e = rw e
+pub size-none : {k : ℕ} (o : Order) → k ≡ 0 → formTest (fixed k o) ≡ false
+size-none o e = rw e
 
 pub size-over : (k : ℕ) (o : Order) → 64 < k → formTest (fixed k o) ≡ false
 size-over k o h = let p : 1 ≤ k = omega arith in rw (le-leb 1 k p, lt-leb k 64 h)
@@ -79,11 +79,11 @@ module _ (depth form size order : ℕ) where
 
 -- ---- the mask form
 
-pub mask-bytes : (k : Kind) (n : ℕ) → n ≡ 0 → gives k ≡ maskedBy n k
-mask-bytes k n e = rw e
+pub mask-bytes : (k : Kind) {n : ℕ} → n ≡ 0 → gives k ≡ maskedBy n k
+mask-bytes k e = rw e
 
-pub mask-bits : (k : Kind) (n : ℕ) → n ≡ 1 → gives (record { depth = k .depth; masks = asBits; form = k .form }) ≡ maskedBy n k
-mask-bits k n e = rw e
+pub mask-bits : (k : Kind) {n : ℕ} → n ≡ 1 → gives (record { depth = k .depth; masks = asBits; form = k .form }) ≡ maskedBy n k
+mask-bits k e = rw e
 
 pub mask-unknown : (k : Kind) (n : ℕ) → n ≢ 0 → n ≢ 1 → refuses 1 ≡ maskedBy n k
 mask-unknown k zero p q = absurd (p refl)
@@ -101,11 +101,11 @@ module _ (depth form size order mask : ℕ) where
 
 -- ---- width and place alone
 
-pub index-at-start : (w : IndexWidth) (n : ℕ) → n ≡ 0 → gives (ragged (widthOf w) atStart) ≡ numberedIndex (widthOf w) n
-index-at-start w n e = rw (e, width-fits w atStart)
+pub index-at-start : (w : IndexWidth) {n : ℕ} → n ≡ 0 → gives (ragged (widthOf w) atStart) ≡ numberedIndex (widthOf w) n
+index-at-start w e = rw (e, width-fits w atStart)
 
-pub index-at-end : (w : IndexWidth) (n : ℕ) → n ≡ 1 → gives (ragged (widthOf w) atEnd) ≡ numberedIndex (widthOf w) n
-index-at-end w n e = rw (e, width-fits w atEnd)
+pub index-at-end : (w : IndexWidth) {n : ℕ} → n ≡ 1 → gives (ragged (widthOf w) atEnd) ≡ numberedIndex (widthOf w) n
+index-at-end w e = rw (e, width-fits w atEnd)
 
 pub place-unknown : (w n : ℕ) → n ≢ 0 → n ≢ 1 → refuses 1 ≡ numberedIndex w n
 place-unknown w zero p q = absurd (p refl)

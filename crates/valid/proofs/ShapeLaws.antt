@@ -98,7 +98,7 @@ sides-begin s = record {
   few = omega arith;
 }
 
-module _ (s : List ℕ) (v k : ℕ) (c : Sides s v k) (h : 0 < k) where
+module _ {s : List ℕ} {v k : ℕ} (c : Sides s v k) (h : 0 < k) where
   pub sides-more : 1 ≤ getD s (k - 1) 0 → getD s (k - 1) 0 * v ≤ 65536 → Sides s (getD s (k - 1) 0 * v) (k - 1)
   sides-more g m = record {
     within = omega (arith, c .within);
@@ -131,9 +131,9 @@ module _ (s : List ℕ) (v k : ℕ) (c : Sides s v k) (h : 0 < k) where
   pub side-fits : getD s (k - 1) 0 ≤ 65536 → getD s (k - 1) 0 * v ≤ 65536 * 65536
   side-fits f = mul-le-mul f (c .few)
 
-pub sides-end : (s : List ℕ) (v k : ℕ) → Sides s v k → k ≡ 0 → 1 ≤ length s → length s ≤ 4 → gives v ≡ shapeAnswer s
+pub sides-end : {s : List ℕ} {v k : ℕ} → Sides s v k → k ≡ 0 → 1 ≤ length s → length s ≤ 4 → gives v ≡ shapeAnswer s
 unfolding shapeAnswer mostCells
-sides-end s v k c e a b =
+sides-end {s} {v} {k} c e a b =
     let d : drop k s ≡ s = ap (λ (j : ℕ). drop j s) e in
     let m : v ≡ volume s = c .is ∙ ap volume d in
     let o : ShapeOk s = record { some-sides = a; few-sides = b; sides = subst (All (λ x. 1 ≤ x)) d (c .sides); few-cells = omega (arith, c .few) } in

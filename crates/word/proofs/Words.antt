@@ -58,8 +58,8 @@ le-unle (b ∷ bs) p =
     let d : (b + 256 * unle bs) / 256 ≡ unle bs = omega arith in
     ap₂ (λ (x : ℕ) (r : List ℕ). x ∷ r) m (ap (le (length bs)) d ∙ le-unle bs (p .1))
 
-pub le-read : (o : Order) (s : List ℕ) → Slice s → (at k : ℕ) → at + k ≤ length s → (r : ℕ) → r ≡ unle (ordered o (take k (drop at s))) → le k r ≡ ordered o (take k (drop at s))
-le-read o s f at k h r e =
+pub le-read : (o : Order) (s : List ℕ) → Slice s → (at k : ℕ) → at + k ≤ length s → {r : ℕ} → r ≡ unle (ordered o (take k (drop at s))) → le k r ≡ ordered o (take k (drop at s))
+le-read o s f at k h e =
     let v : List ℕ = ordered o (take k (drop at s)) in
     let l : length v ≡ k = length-ordered o (take k (drop at s)) ∙ length-take-le k (drop at s) (omega (arith, length-drop at s)) in
     ap (le k) e ∙ ap (λ (j : ℕ). le j (unle v)) (sym l) ∙ le-unle v (bytes-ordered o (take k (drop at s)) (bytes-take k (drop at s) (bytes-drop at s (slice-bytes s f))))

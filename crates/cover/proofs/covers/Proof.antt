@@ -30,11 +30,11 @@ start l = l .before .before .before .before .before
 
 -- the next subset lies in the list, and in the shape
 seen : (l : Head) → l .loop .i < start l .args .count → l .loop .at + length (start l .args .shape .now) + length (start l .args .shape .now) ≤ length (start l .args .subsets .now)
-seen l h = next-room (start l .args .shape .now) (start l .args .subsets .now) (start l .args .count) (l .loop .i) (l .loop .at) (l .loop .inv .0 .geo) h
+seen l h = next-room (start l .args .shape .now) (start l .args .subsets .now) (start l .args .count) (l .loop .inv .0 .geo) h
 
 inside : (l : Head) → l .loop .i < start l .args .count
     → Within (start l .args .shape .now) (startsAt (length (start l .args .shape .now)) (l .loop .at) (start l .args .subsets .now)) (lengthsAt (length (start l .args .shape .now)) (l .loop .at) (start l .args .subsets .now))
-inside l h = now-within (start l .args .shape .now) (start l .args .subsets .now) (start l .args .count) (l .loop .i) (l .loop .at) (l .loop .inv .0 .geo) h
+inside l h = now-within (start l .args .shape .now) (start l .args .subsets .now) (start l .args .count) (l .loop .inv .0 .geo) h
 
 no-marks-requires : tie.Need-no-marks-requires Inv-loop μ-loop
 no-marks-requires c κs = search needs
@@ -46,8 +46,8 @@ loop-holds : tie.Need-loop-holds Inv-loop μ-loop
 loop-holds c =
     let m = c .before in
     let a = m .before .before .before in
-    let z = none-marked (m .no-marks .result) (m .no-marks .ensures) in
-    (cover-begins (a .args .shape .now) (a .args .subsets .now) (a .args .count) (a .pre) (marksOf (m .no-marks .result)) (c .volume-of .result) (z .0) (c .volume-of .ensures), z .1)
+    let z = none-marked (m .no-marks .ensures) in
+    (cover-begins (a .pre) (z .0) (c .volume-of .ensures), z .1)
 
 add-mid : tie.Need-add-mid Inv-loop μ-loop
 add-mid c = omega (arith, seen (c .before) (omega arith))
@@ -71,14 +71,14 @@ volume-of-requires-2 : tie.Need-volume-of-requires-2 Inv-loop μ-loop
 volume-of-requires-2 c κs =
     let l = c .before .before in
     let a = start l in
-    few-within (a .args .shape .now) (startsAt (length (a .args .shape .now)) (l .loop .at) (a .args .subsets .now)) (lengthsAt (length (a .args .shape .now)) (l .loop .at) (a .args .subsets .now)) (a .pre .shaped) (inside l (omega arith))
+    few-within (startsAt (length (a .args .shape .now)) (l .loop .at) (a .args .subsets .now)) (lengthsAt (length (a .args .shape .now)) (l .loop .at) (a .args .subsets .now)) (a .pre .shaped) (inside l (omega arith))
 
 returns : tie.Need-returns Inv-loop μ-loop
 returns c =
     let v = c .before in
     let l = v .before .before .before in
     let a = start l in
-    sym (cover-beyond (a .args .shape .now) (a .args .subsets .now) (a .args .count) (a .pre) (marksOf (l .loop .words)) (l .loop .i) (l .loop .at) (l .loop .left) (l .loop .inv .0) (omega arith) (v .volume-of2 .result) (v .volume-of2 .ensures) (c .if1 .taken))
+    sym (cover-beyond (a .pre) (l .loop .inv .0) (omega arith) (v .volume-of2 .ensures) (c .if1 .taken))
 
 slice-aggregate-mark-subset : tie.Need-slice-aggregate-mark-subset Inv-loop μ-loop
 slice-aggregate-mark-subset c = sym (c .before .before .before .before .before .loop .inv .1)
@@ -110,8 +110,8 @@ returns-2 c =
     let m = c .before .before in
     let l = head (m .before) in
     let a = start l in
-    sym (cover-over (a .args .shape .now) (a .args .subsets .now) (a .args .count) (a .pre) (marksOf (l .loop .words)) (l .loop .i) (l .loop .at) (l .loop .left) (l .loop .inv .0) (omega arith)
-    (marksOf (m .mark-subset .last .0)) (m .mark-subset .result) (m .mark-subset .ensures) (not-true (m .mark-subset .result) (c .if2 .taken)))
+    sym (cover-over (a .pre) (l .loop .inv .0) (omega arith)
+    (marksOf (m .mark-subset .last .0)) (m .mark-subset .ensures) (not-true (m .mark-subset .result) (c .if2 .taken)))
 
 add-i : tie.Need-add-i Inv-loop μ-loop
 add-i c = omega arith
@@ -125,8 +125,8 @@ loop-again c =
     let v = counted (m .before) in
     let l = head (m .before) in
     let a = start l in (
-      cover-more (a .args .shape .now) (a .args .subsets .now) (a .args .count) (a .pre) (marksOf (l .loop .words)) (l .loop .i) (l .loop .at) (l .loop .left) (l .loop .inv .0) (omega arith) (v .volume-of2 .result) (v .volume-of2 .ensures)
-          (m .before .before .before .if1 .left) (marksOf (m .mark-subset .last .0)) (m .mark-subset .result) (m .mark-subset .ensures) (not-false (m .mark-subset .result) (c .if2 .left)),
+      cover-more (a .pre) (l .loop .inv .0) (omega arith) (v .volume-of2 .ensures)
+          (m .before .before .before .if1 .left) (marksOf (m .mark-subset .last .0)) (m .mark-subset .ensures) (not-false (m .mark-subset .result) (c .if2 .left)),
       m .mark-subset .kept .0 ∙ l .loop .inv .1,
     )
 
@@ -134,7 +134,7 @@ returns-3 : tie.Need-returns-3 Inv-loop μ-loop
 returns-3 c =
     let l = c .before in
     let a = start l in
-    sym (cover-ends (a .args .shape .now) (a .args .subsets .now) (a .args .count) (a .pre) (marksOf (l .loop .words)) (l .loop .i) (l .loop .at) (l .loop .left) (l .loop .inv .0) (omega arith))
+    sym (cover-ends (a .pre) (l .loop .inv .0) (omega arith))
 
 pub covers-spec : {M : Type 1} → statement M
 covers-spec =

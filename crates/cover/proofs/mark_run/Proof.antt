@@ -39,7 +39,7 @@ abbrev stop : tie.At-loop Inv-loop μ-loop → ℕ
 stop l = l .before .before .args .start + l .before .before .args .len
 
 inside : (w : Word) → (1 ≤ w .in-word .result) × (head w .loop .i % 64 + w .in-word .result ≤ 64) × (head w .loop .i + w .in-word .result ≤ stop (head w))
-inside w = let l = head w in in-word (l .loop .i) (stop l) (w .in-word .result) (omega arith) (w .in-word .ensures)
+inside w = let l = head w in in-word (l .loop .i) (stop l) (omega arith) (w .in-word .ensures)
 
 in-word-requires : tie.Need-in-word-requires Inv-loop μ-loop
 in-word-requires c κs = omega arith
@@ -55,7 +55,7 @@ returns c =
     let w = c .before .before .before in
     let l = head w in
     sym (l .loop .inv .4
-    ∙ run-more (marksOf (l .loop .words)) (l .loop .i) (w .in-word .result) (stop l) (inside w .2) (refuses 12)
+    ∙ run-more (marksOf (l .loop .words)) (l .loop .i) (w .in-word .result) (stop l) (inside w .2)
     (run-stops (l .loop .words) (l .loop .i) (w .in-word .result) (omega (arith, l .loop .inv .3)) (inside w .1) (λ e. omega (arith, e, c .before .marks-at .ensures, c .if1 .taken))))
 
 set-marks-requires : tie.Need-set-marks-requires Inv-loop μ-loop
@@ -77,7 +77,7 @@ loop-again c =
       omega arith,
       l .loop .inv .2,
       c .before .before .set-marks .kept .0 ∙ l .loop .inv .3,
-      l .loop .inv .4 ∙ run-more (marksOf (l .loop .words)) (l .loop .i) (w .in-word .result) (stop l) (inside w .2) (gives (marksOf (c .before .before .set-marks .last .0))) (sym (c .before .before .set-marks .ensures)),
+      l .loop .inv .4 ∙ run-more (marksOf (l .loop .words)) (l .loop .i) (w .in-word .result) (stop l) (inside w .2) (sym (c .before .before .set-marks .ensures)),
     )
 
 same-length-2 : tie.Need-same-length-2 Inv-loop μ-loop

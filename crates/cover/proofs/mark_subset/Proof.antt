@@ -56,7 +56,7 @@ within l h =
     omega (
       arith,
       a .pre .3,
-      few-drop 0 (a .args .lens .now) (few-within (a .args .shape .now) (a .args .starts .now) (a .args .lens .now) (a .pre .0) (a .pre .1)),
+      few-drop 0 (a .args .lens .now) (few-within (a .args .starts .now) (a .args .lens .now) (a .pre .0) (a .pre .1)),
       left-within (cells l) (total l) (run l) (l .loop .at) (l .loop .inv .0 .geo) h,
     )
 
@@ -73,7 +73,7 @@ loop-holds : tie.Need-loop-holds Inv-loop μ-loop
 loop-holds c =
     let a = c .before .before .before .before .before in (
       marked-begins (cellsIn (a .args .shape .now) (pairs (a .args .starts .now) (a .args .lens .now))) (marksOf (a .args .words .now)) (a .args .cells) (getD (a .args .lens .now) (length (a .args .lens .now) - 1) 0)
-          (left-begins (a .args .shape .now) (a .args .starts .now) (a .args .lens .now) (a .args .cells) (a .pre .1) (a .pre .0 .some-sides) (a .pre .3)),
+          (left-begins (a .args .shape .now) (a .args .starts .now) (a .args .lens .now) (a .pre .1) (a .pre .0 .some-sides) (a .pre .3)),
       a .pre .2,
       a .pre .2,
     )
@@ -95,8 +95,8 @@ returns : tie.Need-returns Inv-loop μ-loop
 returns c =
     let l = c .before .before .before .before .before .before .before in
     marked-over (cells l) (marksOf (start l .args .words .now)) (marksOf (l .loop .words)) (total l) (run l) (l .loop .at) (l .loop .inv .0) (omega arith)
-    (c .before .before .before .before .before .cell-at .result) (c .before .before .before .before .before .cell-at .ensures)
-    (c .before .before .before .mark-run .result) (marksOf (c .before .before .before .mark-run .last .0)) (c .before .before .before .mark-run .ensures) (not-true (c .before .before .before .mark-run .result) (c .if1 .taken))
+    (c .before .before .before .before .before .cell-at .ensures)
+    (marksOf (c .before .before .before .mark-run .last .0)) (c .before .before .before .mark-run .ensures) (not-true (c .before .before .before .mark-run .result) (c .if1 .taken))
 
 add-at : tie.Need-add-at Inv-loop μ-loop
 add-at c = omega (arith, within (c .before .before .before .before .before .before .before) (omega arith))
@@ -111,8 +111,8 @@ loop-again : tie.Need-loop-again Inv-loop μ-loop
 loop-again c =
     let l = c .before .before .before .before .before .before .before in (
       marked-more (cells l) (marksOf (start l .args .words .now)) (marksOf (l .loop .words)) (total l) (run l) (l .loop .at) (l .loop .inv .0) (omega arith)
-          (c .before .before .before .before .before .cell-at .result) (c .before .before .before .before .before .cell-at .ensures)
-          (c .before .before .before .mark-run .result) (marksOf (c .before .before .before .mark-run .last .0)) (c .before .before .before .mark-run .ensures) (not-false (c .before .before .before .mark-run .result) (c .if1 .left)),
+          (c .before .before .before .before .before .cell-at .ensures)
+          (marksOf (c .before .before .before .mark-run .last .0)) (c .before .before .before .mark-run .ensures) (not-false (c .before .before .before .mark-run .result) (c .if1 .left)),
       l .loop .inv .1,
       c .before .before .before .mark-run .kept .0 ∙ l .loop .inv .2,
     )

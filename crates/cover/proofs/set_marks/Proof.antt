@@ -22,7 +22,7 @@ shl-words c = search needs
 add-words : tie.Need-add-words
 add-words c =
     let a = c .before .before .before in record {
-      fits = run-fits (a .args .words .now) (a .args .i) (a .args .n) (omega arith) (a .pre .3) (c .before .ones .result) (c .before .ones .ensures) (a .pre .4) (c .slice-known2 .given (a .args .i / 64) .fits);
+      fits = run-fits (a .args .words .now) (a .args .i) (a .args .n) (omega arith) (a .pre .3) (c .before .ones .ensures) (a .pre .4) (c .slice-known2 .given (a .args .i / 64) .fits);
     }
 
 mul-words : tie.Need-mul-words
@@ -37,7 +37,7 @@ same-length c = search needs
 returns : tie.Need-returns
 returns c =
     let a = c .before .before .before in
-    run-marked (a .args .words .now) (a .args .i) (a .args .n) (omega arith) (a .pre .3) (c .before .ones .result) (c .before .ones .ensures) (a .pre .4)
+    run-marked (a .args .words .now) (a .args .i) (a .args .n) (omega arith) (a .pre .3) (c .before .ones .ensures) (a .pre .4)
 
 pub set-marks-spec : {M : Type 1} → statement M
 set-marks-spec =

@@ -65,7 +65,7 @@ read : (c : tie.After-known-told) {f : Form} → formOf (start c .args .kind .va
     ≡ readOutcome (lent (start c)) (readIn (maskForm (masksOf (start c .args .kind .masks))) f (start c .args .kind .depth) (cells c) (start c .args .bytes .now))
 read c {f} e =
     let a = start c .args in
-    by-reading (kindOf (a .kind)) (a .shape .now) (a .bytes .now) (a .masks .now) (a .values .now) (a .offsets .now) (kind-is (counting c .before)) (cells c) (counted c) f e
+    by-reading (kindOf (a .kind)) (a .shape .now) (a .bytes .now) (a .masks .now) (a .values .now) (a .offsets .now) (kind-is (counting c .before)) (counted c) e
 
 -- ---- answers
 

@@ -12,7 +12,7 @@ use Rattle.endian.proofs.reverse_others.Statement.{statement}
 use Rattle.endian.proofs.reverse_others.Tie as tie
 
 returns : tie.Need-returns
-returns c = let a = c .before .before .args in reverse-refused (a .size) (a .bytes .now) (size-none (a .size) little (c .if1 .taken))
+returns c = let a = c .before .before .args in reverse-refused (a .size) (a .bytes .now) (size-none little (c .if1 .taken))
 
 cast-if2 : tie.Need-cast-if2
 cast-if2 c = search needs

@@ -22,7 +22,7 @@ copy-cells-requires c κs =
     let a = s .args in (
       s .pre .0,
       cells-asked (a .out-values .now) (a .out-offsets .now) (a .values .now) (a .offsets .now) (a .shape .now) (cellsIn (a .shape .now) (pairs (a .starts .now) (a .lens .now))) (f .0 .0) (orderOf (f .0 .1 .0))
-          (asked-below _ _ _ _ (s .pre .0)) (a .count) (asked-count _ _ _ _ (s .pre .0)) (rw (f .1) at (s .pre .1)),
+          (asked-below (s .pre .0)) (asked-count (s .pre .0)) (rw (f .1) at (s .pre .1)),
     )
 
 enum-told : tie.Need-enum-told

@@ -61,23 +61,23 @@ kept : (v : Counted) → ArrayAsked (kind v) (start v .args .cells) (shape v) (a
 kept v = start v .pre .1
 
 few : (v : Counted) → count v ≤ 65536
-few v = asked-few (shape v) (starts v) (lens v) (count v) (asked v)
+few v = asked-few (asked v)
 
 depth-fits : (v : Counted) → start v .args .kind .depth ≤ 255
 depth-fits v = omega arith
 
 masks-need : (v : Counted) → length (cut v .masks) ≡ start v .args .kind .depth * count v
-masks-need v = cut-masks-long (kind v) (start v .args .cells) (shape v) (starts v) (lens v) (array v) (count v) (asked v) (kept v)
+masks-need v = cut-masks-long (asked v) (kept v)
 
 values-need : (b : tie.After-value-bytes) → length (cut (b .before .before) .values) ≡ b .value-bytes .result
 values-need b =
     let v = b .before .before in
-    cut-values-long (kind v) (start v .args .cells) (shape v) (starts v) (lens v) (array v) (count v) (asked v) (kept v) ∙ sym (b .value-bytes .ensures)
+    cut-values-long (asked v) (kept v) ∙ sym (b .value-bytes .ensures)
 
 offsets-need : (o : tie.After-count-offsets) → length (cut (o .before .before .before .before) .offsets) ≡ o .count-offsets .result
 offsets-need o =
     let v = o .before .before .before .before in
-    cut-offsets-long (kind v) (start v .args .cells) (shape v) (starts v) (lens v) (array v) (count v) (asked v) (kept v) ∙ sym (o .count-offsets .ensures)
+    cut-offsets-long (asked v) (kept v) ∙ sym (o .count-offsets .ensures)
 
 cast-depth : tie.Need-cast-depth
 cast-depth c = search needs
@@ -85,7 +85,7 @@ cast-depth c = search needs
 volume-of-requires : tie.Need-volume-of-requires
 volume-of-requires c κs =
     let s = c .before .before .before .before .before .before .before .before .before .before in
-    few-within (s .args .shape .now) (s .args .starts .now) (s .args .lens .now) (s .pre .0 .shaped) (s .pre .0 .within)
+    few-within (s .args .starts .now) (s .args .lens .now) (s .pre .0 .shaped) (s .pre .0 .within)
 
 mul-mask-bytes : tie.Need-mul-mask-bytes
 unfolding mostCells
@@ -97,7 +97,7 @@ returns c = let v = c .before in no-masks (cut v) (outputs v) (start v .args .ki
 value-bytes-requires : tie.Need-value-bytes-requires
 value-bytes-requires c κs =
     let v = c .before in
-    (asked v, cut-offsets-for (kind v) (start v .args .cells) (shape v) (starts v) (lens v) (array v) (count v) (asked v) (kept v))
+    (asked v, cut-offsets-for (asked v) (kept v))
 
 returns-2 : tie.Need-returns-2
 returns-2 c = let b = c .before in let v = b .before .before in no-values (cut v) (outputs v) (b .value-bytes .result) (values-need b) (c .if2 .taken)
@@ -113,7 +113,7 @@ copy-masks-requires : tie.Need-copy-masks-requires
 copy-masks-requires c κs =
     let e = c .before .before .before .before .before in
     let v = e .before in
-    (asked v, cut-planes-asked (kind v) (start v .args .cells) (shape v) (starts v) (lens v) (array v) (count v) (asked v) (kept v) (start v .args .out-masks .now) (depth-fits v) (e .if1 .left))
+    (asked v, cut-planes-asked (asked v) (kept v) (start v .args .out-masks .now) (depth-fits v) (e .if1 .left))
 
 copy-values-requires : tie.Need-copy-values-requires
 copy-values-requires c κs =
@@ -122,7 +122,7 @@ copy-values-requires c κs =
     let b = o .before .before in
     let v = b .before .before in (
       asked v,
-      cut-values-asked (kind v) (start v .args .cells) (shape v) (starts v) (lens v) (array v) (count v) (asked v) (kept v) (start v .args .out-values .now) (start v .args .out-offsets .now)
+      cut-values-asked (asked v) (kept v) (start v .args .out-values .now) (start v .args .out-offsets .now)
           (omega (arith, values-need b, o .before .if2 .left)) (omega (arith, offsets-need o, f .if3 .left)),
     )
 
@@ -148,11 +148,11 @@ returns-4 c =
     (b .before .if1 .left) (o .before .if2 .left) (f .if3 .left)
     (m .copy-masks .last .0) (w .copy-values .last .1 .0) (w .copy-values .last .1 .1 .0)
     (m .copy-masks .ensures
-    ∙ ap (λ (x : List ℕ). over x (a .out-masks .now)) (sym (cut-masks (kind v) (a .cells) (shape v) (starts v) (lens v) (array v) (count v) (asked v) (kept v))))
+    ∙ ap (λ (x : List ℕ). over x (a .out-masks .now)) (sym (cut-masks (asked v) (kept v))))
     (w .copy-values .ensures .0
-    ∙ ap (λ (x : List ℕ). over x (a .out-values .now)) (sym (cut-values (kind v) (a .cells) (shape v) (starts v) (lens v) (array v) (count v) (asked v) (kept v))))
+    ∙ ap (λ (x : List ℕ). over x (a .out-values .now)) (sym (cut-values (asked v) (kept v))))
     (w .copy-values .ensures .1
-    ∙ ap (λ (x : List ℕ). over x (a .out-offsets .now)) (sym (cut-offsets (kind v) (a .cells) (shape v) (starts v) (lens v) (array v) (count v) (asked v) (kept v))))
+    ∙ ap (λ (x : List ℕ). over x (a .out-offsets .now)) (sym (cut-offsets (asked v) (kept v))))
 
 pub cut-valid-spec : {M : Type 1} → statement M
 cut-valid-spec =

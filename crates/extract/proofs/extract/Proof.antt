@@ -168,7 +168,7 @@ returns-4 c =
     let k = c .before .before .before in
     let e = k .before in
     let s = begun k in
-    not-kept (kind s) (shape s) (numbers s) (array s) (outputs s) (kind-passes (sound (told e))) (shaped (told e) .passes) (subset-passes e) (k .check-array .result) (checks k)
+    not-kept (kind s) (shape s) (numbers s) (array s) (outputs s) (kind-passes (sound (told e))) (shaped (told e) .passes) (subset-passes e) (checks k)
     (c .before .checked .given .0 .0) (c .before .checked .given .1)
 
 same-length : tie.Need-same-length
@@ -188,7 +188,7 @@ returns-5 c =
     let e = k .before in
     let s = begun k in
     r .cut-valid .ensures ∙ ap (λ (b : Subset). putInto (cutOf (kind s) (shape s) (array s) b) (outputs s)) (subset-parts (length (shape s)) (numbers s))
-    ∙ kept (kind s) (shape s) (numbers s) (array s) (outputs s) (kind-passes (sound (told e))) (shaped (told e) .passes) (subset-passes e) (k .check-array .result) (checks k) (p .enum-told2 .given .1)
+    ∙ kept (kind s) (shape s) (numbers s) (array s) (outputs s) (kind-passes (sound (told e))) (shaped (told e) .passes) (subset-passes e) (checks k) (p .enum-told2 .given .1)
 
 pub extract-spec : {M : Type 1} → statement M
 extract-spec =

@@ -22,7 +22,7 @@ mul-result : tie.Need-mul-result
 unfolding mostCells
 mul-result c =
     let a = c .before .before .before .before .before .before .before in
-    omega (arith, small-product (c .before .form .given .0 .0) (a .args .count) (omega arith) (asked-few _ _ _ _ (a .pre .0)))
+    omega (arith, small-product (c .before .form .given .0 .0) (a .args .count) (omega arith) (asked-few (a .pre .0)))
 
 enum-told : tie.Need-enum-told
 enum-told c = search needs
@@ -37,7 +37,7 @@ returns c =
     let a = c .before .before .before .before .before .before .before in
     let size = c .before .form .given .0 .0 in
     rw (c .before .form .given .1)
-    (ap (λ (n : ℕ). n * size) (sym (asked-count _ _ _ _ (a .pre .0))) ∙ sym (fixed-total 0 size (cellsIn (a .args .shape .now) (pairs (a .args .starts .now) (a .args .lens .now)))))
+    (ap (λ (n : ℕ). n * size) (sym (asked-count (a .pre .0))) ∙ sym (fixed-total 0 size (cellsIn (a .args .shape .now) (pairs (a .args .starts .now) (a .args .lens .now)))))
 
 returns-2 : tie.Need-returns-2
 returns-2 c = rw (c .before .enum-told .given .1) (c .count-bytes .ensures)

@@ -19,7 +19,7 @@ same-length-2 : tie.Need-same-length-2
 same-length-2 c = search needs
 
 returns : tie.Need-returns
-returns c = exported twoLengths _ _ _ (c .before .before .before .before .before .before .decode-interleaved .ensures) _ _ (c .put-two-lengths .ensures .0) _ (c .put-two-lengths .ensures .1)
+returns c = exported twoLengths _ _ (c .before .before .before .before .before .before .decode-interleaved .ensures) _ (c .put-two-lengths .ensures .0) (c .put-two-lengths .ensures .1)
 
 pub dpx-decode-interleaved-spec : {M : Type 1} → statement M
 dpx-decode-interleaved-spec =

@@ -27,16 +27,16 @@ put-length-requires : tie.Need-put-length-requires
 put-length-requires c κs = search needs
 
 returns : tie.Need-returns
-returns c = not-given toldKind _ _ (c .before .before .before .kind-from-numbers .result) _ (c .before .before .before .kind-from-numbers .ensures) oneLength _ (ap toldKind (c .before .read .given .1)) _ refl
+returns c = not-given toldKind _ _ (c .before .before .before .kind-from-numbers .result) (c .before .before .before .kind-from-numbers .ensures) oneLength _ (ap toldKind (c .before .read .given .1)) _ refl
 
 same-length : tie.Need-same-length
 same-length c = search needs
 
 returns-2 : tie.Need-returns-2
 returns-2 c =
-    exported oneLength _ _ _
-    (given toldKind _ _ (c .before .before .before .before .before .before .before .before .before .kind-from-numbers .result) _ (c .before .before .before .before .before .before .before .before .before .kind-from-numbers .ensures) _ (ap toldKind (c .before .before .before .before .before .before .before .read2 .given .1)) _ (c .before .before .before .before .encode .ensures))
-    _ _ (c .put-length .ensures .0) _ (c .put-length .ensures .1)
+    exported oneLength _ _
+    (given toldKind _ _ (c .before .before .before .before .before .before .before .before .before .kind-from-numbers .result) (c .before .before .before .before .before .before .before .before .before .kind-from-numbers .ensures) _ (ap toldKind (c .before .before .before .before .before .before .before .read2 .given .1)) (c .before .before .before .before .encode .ensures))
+    _ (c .put-length .ensures .0) (c .put-length .ensures .1)
 
 pub dpx-encode-spec : {M : Type 1} → statement M
 dpx-encode-spec =

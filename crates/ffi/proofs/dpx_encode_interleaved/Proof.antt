@@ -29,7 +29,7 @@ put-length-requires c κs = search needs
 returns : tie.Need-returns
 returns c =
     let numbers = c .before .before .before in
-    not-given toldKind _ _ (numbers .kind-from-numbers .result) _ (numbers .kind-from-numbers .ensures) oneLength _ (ap toldKind (c .before .read .given .1)) _ refl
+    not-given toldKind _ _ (numbers .kind-from-numbers .result) (numbers .kind-from-numbers .ensures) oneLength _ (ap toldKind (c .before .read .given .1)) _ refl
 
 same-length : tie.Need-same-length
 same-length c = search needs
@@ -39,9 +39,9 @@ returns-2 c =
     let called = c .before .before .before .before in
     let read = called .before .before .before in
     let numbers = read .before .before in
-    exported oneLength _ _ _
-    (given toldKind _ _ (numbers .kind-from-numbers .result) _ (numbers .kind-from-numbers .ensures) _ (ap toldKind (read .read2 .given .1)) _ (called .encode-interleaved .ensures))
-    _ _ (c .put-length .ensures .0) _ (c .put-length .ensures .1)
+    exported oneLength _ _
+    (given toldKind _ _ (numbers .kind-from-numbers .result) (numbers .kind-from-numbers .ensures) _ (ap toldKind (read .read2 .given .1)) (called .encode-interleaved .ensures))
+    _ (c .put-length .ensures .0) (c .put-length .ensures .1)
 
 pub dpx-encode-interleaved-spec : {M : Type 1} → statement M
 dpx-encode-interleaved-spec =

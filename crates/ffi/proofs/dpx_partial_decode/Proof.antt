@@ -27,7 +27,7 @@ put-two-lengths-requires : tie.Need-put-two-lengths-requires
 put-two-lengths-requires c κs = search needs
 
 returns : tie.Need-returns
-returns c = not-given toldForm _ _ (c .before .before .before .index-from-numbers .result) _ (c .before .before .before .index-from-numbers .ensures) twoLengths _ (ap toldForm (c .before .read .given .1)) _ refl
+returns c = not-given toldForm _ _ (c .before .before .before .index-from-numbers .result) (c .before .before .before .index-from-numbers .ensures) twoLengths _ (ap toldForm (c .before .read .given .1)) _ refl
 
 same-length : tie.Need-same-length
 same-length c = search needs
@@ -37,9 +37,9 @@ same-length-2 c = search needs
 
 returns-2 : tie.Need-returns-2
 returns-2 c =
-    exported twoLengths _ _ _
-    (given toldForm _ _ (c .before .before .before .before .before .before .before .before .before .before .before .before .index-from-numbers .result) _ (c .before .before .before .before .before .before .before .before .before .before .before .before .index-from-numbers .ensures) _ (ap toldForm (c .before .before .before .before .before .before .before .before .before .before .read2 .given .1)) _ (c .before .before .before .before .before .before .partial-decode .ensures))
-    _ _ (c .put-two-lengths .ensures .0) _ (c .put-two-lengths .ensures .1)
+    exported twoLengths _ _
+    (given toldForm _ _ (c .before .before .before .before .before .before .before .before .before .before .before .before .index-from-numbers .result) (c .before .before .before .before .before .before .before .before .before .before .before .before .index-from-numbers .ensures) _ (ap toldForm (c .before .before .before .before .before .before .before .before .before .before .read2 .given .1)) (c .before .before .before .before .before .before .partial-decode .ensures))
+    _ (c .put-two-lengths .ensures .0) (c .put-two-lengths .ensures .1)
 
 pub dpx-partial-decode-spec : {M : Type 1} → statement M
 dpx-partial-decode-spec =

@@ -73,7 +73,7 @@ returns-2 c =
     let k = s .before .before .before .before in
     let a = start (checked k) in
     merge-stored (kind a) (a .args .shape .now) (a .args .subsets .now) (handed a) (lent a) (sizes k) (passed k)
-    (let o = s .store-covering .last .1 .1 .1 .1 .1 .1 .1 .1 in outcomeArray (s .store-covering .result) (o .0) (o .1 .0) (o .1 .1 .0)) (s .store-covering .ensures)
+    (s .store-covering .ensures)
 
 pub merge-spec : {M : Type 1} → statement M
 merge-spec =

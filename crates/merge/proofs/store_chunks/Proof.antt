@@ -132,7 +132,7 @@ returns-4 c =
     let t = at-fixed k in
     let a = tested t in
     fixed-stored (a .pre) (lent a) (is-fixed k)
-    (masks-fit t) (values-fit t) (m .store-masks .last .0) (v .store-parts .last .0) (m .store-masks .ensures) (v .store-parts .ensures)
+    (masks-fit t) (values-fit t) (m .store-masks .ensures) (v .store-parts .ensures)
 
 same-length-3 : tie.Need-same-length-3
 same-length-3 c = search needs
@@ -152,8 +152,7 @@ returns-5 c =
     let t = at-ragged k in
     let a = tested t in
     ragged-stored (a .pre) (lent a) (is-ragged k)
-    (masks-fit t) (values-fit t) (o .if3 .left) (m .store-masks2 .last .0) (v .merge-ragged .last .0) (v .merge-ragged .last .1 .0)
-    (m .store-masks2 .ensures) (v .merge-ragged .ensures .0) (v .merge-ragged .ensures .1)
+    (masks-fit t) (values-fit t) (o .if3 .left) (m .store-masks2 .ensures) (v .merge-ragged .ensures .0) (v .merge-ragged .ensures .1)
 
 pub store-chunks-spec : {M : Type 1} → statement M
 store-chunks-spec =

@@ -43,7 +43,7 @@ returns-2 c =
     let s = c .before .before .before .before .before .before in
     let e = s .before .before .before .before in
     let o = s .store-chunks .last .1 .1 .1 .1 .1 .1 .1 .1 in
-    covered (e .before .covers .ensures) _ _ (not-false (e .before .covers .result) (e .if1 .left)) (outcomeArray (s .store-chunks .result) (o .0) (o .1 .0) (o .1 .1 .0)) (s .store-chunks .ensures)
+    covered (e .before .covers .ensures) _ _ (not-false (e .before .covers .result) (e .if1 .left)) (s .store-chunks .ensures)
 
 pub store-covering-spec : {M : Type 1} → statement M
 store-covering-spec =

@@ -99,7 +99,7 @@ module _ (t : ℕ) where
   fill-bytes-requires c κs = let start = c .before .before .before .before in omega (arith, start .before .pre .1 .room)
 
   returns-2 : lts.Need-returns-2 (claims t) (place-levels-at t) place-levels.Post
-  returns-2 c = levels-null (nulled c .before .before .before .before .pre .1) (nulled c .if2 .taken) _ (c .before .before .fill-bytes .ensures)
+  returns-2 c = levels-null (nulled c .before .before .before .before .pre .1) (nulled c .if2 .taken) (c .before .before .fill-bytes .ensures)
 
   add-mask : lts.Need-add-mask (claims t) (place-levels-at t) place-levels.Post
   add-mask c = omega (arith, mask c .room)
@@ -135,13 +135,13 @@ module _ (t : ℕ) where
   returns-3 c =
       let here = c .before .before .before in
       let some = left here in
-      levels-last (entry some .pre .1) (some .before .if1 .left) (some .if2 .left) (c .if3 .taken) _ (here .place-plane .ensures)
+      levels-last (entry some .pre .1) (some .before .if1 .left) (some .if2 .left) (c .if3 .taken) (here .place-plane .ensures)
 
   returns-4 : lts.Need-returns-4 (claims t) (place-levels-at t) place-levels.Post
   returns-4 c =
       let here = laid (counted c) in
       let some = left here in
-      levels-done (entry some .pre .1) (some .before .if1 .left) (some .if2 .left) (here .before .before .mask-length .ensures) (here .place-plane .ensures) (counted c .count-stored .ensures) _
+      levels-done (entry some .pre .1) (some .before .if1 .left) (some .if2 .left) (here .before .before .mask-length .ensures) (here .place-plane .ensures) (counted c .count-stored .ensures)
       (c .before .before .place-levels .ensures)
 
 pub +place-levels-spec : {M : Type 1} → statement M

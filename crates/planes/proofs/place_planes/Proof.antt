@@ -39,12 +39,12 @@ place-levels-requires c κs =
 returns : tie.Need-returns
 returns c =
     let first = c .before .before .before in
-    planes-one (entry (sized first) .pre) (c .if1 .taken) _ (first .copy-to-plane .ensures)
+    planes-one (entry (sized first) .pre) (c .if1 .taken) (first .copy-to-plane .ensures)
 
 returns-2 : tie.Need-returns-2
 returns-2 c =
     let first = laid (counted c) in
-    planes-done (entry (sized first) .pre) (sized first .mask-length .ensures) (first .copy-to-plane .ensures) (counted c .count-stored .ensures) _ (c .before .before .place-levels .ensures)
+    planes-done (entry (sized first) .pre) (sized first .mask-length .ensures) (first .copy-to-plane .ensures) (counted c .count-stored .ensures) (c .before .before .place-levels .ensures)
 
 pub place-planes-spec : {M : Type 1} → statement M
 place-planes-spec =

@@ -16,8 +16,7 @@ abbrev μ-loop : tie.MeasureT-loop
 small : (l : tie.At-loop Inv-loop μ-loop) → 0 < l .loop .k
     → Turn (l .before .args .shape .now) (l .before .args .starts .now) (l .before .args .lens .now) (l .loop .k) (l .loop .v) (l .loop .cell) (l .loop .q)
 small l h =
-    turn (l .before .args .shape .now) (l .before .args .starts .now) (l .before .args .lens .now) (l .before .args .i)
-    (l .loop .k) (l .loop .v) (l .loop .cell) (l .loop .q) (l .before .pre .0) (l .before .pre .1) (l .before .pre .2) (l .loop .inv) h
+    turn (l .before .pre .0) (l .before .pre .1) (l .before .pre .2) (l .loop .inv) h
 
 loop-holds : tie.Need-loop-holds Inv-loop μ-loop
 loop-holds c = cell-begins (c .args .shape .now) (c .args .starts .now) (c .args .lens .now) (c .args .i) (c .pre .1) (c .pre .2)
@@ -68,13 +67,13 @@ loop-again : tie.Need-loop-again Inv-loop μ-loop
 loop-again c =
     let l = c .before .before .before .before in
     cell-more (l .before .args .shape .now) (l .before .args .starts .now) (l .before .args .lens .now) (l .before .args .i) (l .before .pre .1) (l .before .pre .2)
-    (l .loop .k) (l .loop .v) (l .loop .cell) (l .loop .q) (l .loop .inv) (omega arith)
+    (l .loop .inv) (omega arith)
 
 returns : tie.Need-returns Inv-loop μ-loop
 returns c =
     let l = c .before in
     cell-ends (l .before .args .shape .now) (l .before .args .starts .now) (l .before .args .lens .now) (l .before .args .i) (l .before .pre .1) (l .before .pre .2)
-    (l .loop .k) (l .loop .v) (l .loop .cell) (l .loop .q) (l .loop .inv) (omega arith)
+    (l .loop .k) (l .loop .inv) (omega arith)
 
 pub cell-at-spec : {M : Type 1} → statement M
 cell-at-spec =

@@ -64,7 +64,7 @@ loop-holds c =
     let a = c .before .before .before .before .before in
     stored-begins (cellsIn (a .args .shape .now) (pairs (a .args .starts .now) (a .args .lens .now))) (a .args .cells .now) (a .args .count)
     (getD (a .args .lens .now) (length (a .args .lens .now) - 1) 0)
-    (left-begins (a .args .shape .now) (a .args .starts .now) (a .args .lens .now) (a .args .count) (a .pre .1) (a .pre .0 .some-sides) (a .pre .2)) (a .pre .3)
+    (left-begins (a .args .shape .now) (a .args .starts .now) (a .args .lens .now) (a .pre .1) (a .pre .0 .some-sides) (a .pre .2)) (a .pre .3)
 
 cell-at-requires : tie.Need-cell-at-requires Inv-loop μ-loop
 cell-at-requires c κs = let a = start (c .before) in (a .pre .0, a .pre .1, omega (arith, a .pre .2))
@@ -93,7 +93,7 @@ loop-again c =
     let i = r .before .before .before in
     let l = i .before in
     stored-more (listed l) (start l .args .cells .now) (l .loop .cells) (start l .args .count) (row l) (l .loop .at) (l .loop .inv) (omega arith)
-    (r .before .before .cell-at .result) (r .store-run .last .0) (r .before .before .cell-at .ensures) (r .store-run .ensures)
+    (r .before .before .cell-at .ensures) (r .store-run .ensures)
 
 same-length : tie.Need-same-length Inv-loop μ-loop
 same-length c = same (c .before)

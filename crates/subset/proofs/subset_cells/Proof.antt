@@ -89,7 +89,7 @@ part-volume-of-end c = search needs
 volume-of-requires : tie.Need-volume-of-requires
 volume-of-requires c κs =
     let m = c .before .before .before in
-    few-within (shape m) _ _ (shaped m .shaped) (within-parts (shape m) (numbers m) (fitting (c .before)))
+    few-within _ _ (shaped m .shaped) (within-parts (shape m) (numbers m) (fitting (c .before)))
 
 returns-3 : tie.Need-returns-3
 returns-3 c =

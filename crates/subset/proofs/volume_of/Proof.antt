@@ -30,7 +30,7 @@ shared-slice-read-v c = omega arith
 mul-v-2 : tie.Need-mul-v-2 Inv-loop μ-loop
 mul-v-2 c =
     let l = c .before .before in
-    omega (arith, volume-fits (l .before .args .sides .now) (l .loop .k) (l .loop .v) (omega arith) (omega arith) (l .loop .inv .1) (l .before .pre))
+    omega (arith, volume-fits (l .before .args .sides .now) (l .loop .k) (omega arith) (omega arith) (l .loop .inv .1) (l .before .pre))
 
 loop-less : tie.Need-loop-less Inv-loop μ-loop
 loop-less c = omega arith
@@ -38,7 +38,7 @@ loop-less c = omega arith
 loop-again : tie.Need-loop-again Inv-loop μ-loop
 loop-again c =
     let l = c .before .before in
-    (omega arith, volume-more (l .before .args .sides .now) (l .loop .k) (l .loop .v) (omega arith) (omega arith) (l .loop .inv .1))
+    (omega arith, volume-more (l .before .args .sides .now) (l .loop .k) (omega arith) (omega arith) (l .loop .inv .1))
 
 returns : tie.Need-returns Inv-loop μ-loop
 returns c = let l = c .before in l .loop .inv .1 ∙ volume-whole (l .before .args .sides .now) (l .loop .k) (omega arith)

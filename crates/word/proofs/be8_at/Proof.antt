@@ -17,7 +17,7 @@ swap-bytes-requires : tie.Need-swap-bytes-requires
 swap-bytes-requires c κs = search needs
 
 returns : tie.Need-returns
-returns c = c .swap-bytes .ensures ∙ ap (λ (l : List ℕ). unle (reverse l)) (le-read little (c .before .before .before .args .s .now) (λ i. c .before .before .shared-slice-known .given i .fits) (c .before .before .before .args .at) 8 (c .before .before .before .pre) (c .before .le8-at .result) (c .before .le8-at .ensures))
+returns c = c .swap-bytes .ensures ∙ ap (λ (l : List ℕ). unle (reverse l)) (le-read little (c .before .before .before .args .s .now) (λ i. c .before .before .shared-slice-known .given i .fits) (c .before .before .before .args .at) 8 (c .before .before .before .pre) (c .before .le8-at .ensures))
 
 pub be8-at-spec : {M : Type 1} → statement M
 be8-at-spec = tie.close (tie.spec le8-at-requires swap-bytes-requires returns)

@@ -19,7 +19,7 @@ le4-at-requires : tie.Need-le4-at-requires
 le4-at-requires c κs = search needs
 
 returns-3 : tie.Need-returns-3
-returns-3 c = let a = c .before .before .before .before .args in field-full 4 11 (a .s .now) (a .at) (c .le4-at .result) (omega arith) (c .le4-at .ensures)
+returns-3 c = let a = c .before .before .before .before .args in field-full 4 11 (a .s .now) (a .at) (omega arith) (c .le4-at .ensures)
 
 pub read-u32-spec : {M : Type 1} → statement M
 read-u32-spec = tie.close (tie.spec returns sub-if2 returns-2 le4-at-requires returns-3)

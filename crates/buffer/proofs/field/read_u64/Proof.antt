@@ -19,7 +19,7 @@ le8-at-requires : tie.Need-le8-at-requires
 le8-at-requires c κs = search needs
 
 returns-3 : tie.Need-returns-3
-returns-3 c = let a = c .before .before .before .before .args in field-full 8 7 (a .s .now) (a .at) (c .le8-at .result) (omega arith) (c .le8-at .ensures)
+returns-3 c = let a = c .before .before .before .before .args in field-full 8 7 (a .s .now) (a .at) (omega arith) (c .le8-at .ensures)
 
 pub read-u64-spec : {M : Type 1} → statement M
 read-u64-spec = tie.close (tie.spec returns sub-if2 returns-2 le8-at-requires returns-3)

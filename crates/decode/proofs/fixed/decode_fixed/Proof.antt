@@ -46,7 +46,7 @@ returns-2 c =
     let walk = c .before .before .before in
     let a = begun walk .args in
     λ offsets. rw
-    (fixed-refused (maskForm (masksOf (a .kind .masks))) (a .size) (orderOf (a .order)) (a .kind .depth) (a .s .now) (begun walk .pre .0) _ (walk-is walk ∙ ap toldWalk (c .before .walk .given .1)))
+    (fixed-refused (maskForm (masksOf (a .kind .masks))) (a .size) (orderOf (a .order)) (a .s .now) (begun walk .pre .0) _ (walk-is walk ∙ ap toldWalk (c .before .walk .given .1)))
 
 returns-3 : tie.Need-returns-3
 returns-3 c = c .before .before .before .before .write-found .ensures

@@ -98,7 +98,7 @@ write-nested-requires : tie.Need-write-nested-requires
 write-nested-requires c κs =
     let w = none c .before in
     let a = start w .args in (
-      none-within (masksOf (a .kind .masks)) (a .s .now) (start w .pre) (widthOf (a .width)) (passed w) (width-most (a .width)) (deep (walk-of w)) (omega (arith, none c .if2 .taken)),
+      none-within (start w .pre) (widthOf (a .width)) (passed w) (width-most (a .width)) (deep (walk-of w)) (omega (arith, none c .if2 .taken)),
       omega (arith, deep (walk-of w)),
     )
 
@@ -120,7 +120,7 @@ write-nested-requires-2 : tie.Need-write-nested-requires-2
 write-nested-requires-2 c κs =
     let w = values-of (check-of (found c)) in
     let a = start w .args in
-    (some-within (masksOf (a .kind .masks)) (a .s .now) (start w .pre) (widthOf (a .width)) (passed w) (checked-is (found c)), omega (arith, deep (walk-of w)))
+    (some-within (start w .pre) (widthOf (a .width)) (passed w) (checked-is (found c)), omega (arith, deep (walk-of w)))
 
 returns-3 : tie.Need-returns-3
 returns-3 c =

@@ -48,7 +48,7 @@ returns c =
     let check = c .before .before .before in
     let a = begun check .args in
     λ x masks. rw
-    (flat-is (maskForm x) (widthOf (a .width)) (placeOf (a .place)) (a .s .now) (a .n) (refuses _)
+    (flat-is (maskForm x) (widthOf (a .width)) (placeOf (a .place)) (a .s .now) (a .n)
     (checked-refused (widthOf (a .width)) (placeOf (a .place)) (a .s .now) 0 (a .n) _ (check-is check ∙ ap toldIndex (c .before .checked .given .1))))
 
 returns-2 : tie.Need-returns-2
@@ -56,7 +56,7 @@ returns-2 c =
     let wrote = c .before .before .before .before in
     let here = found (wrote .before) in
     let a = begun (looked here) .args in
-    λ x masks. rw (flat-is (maskForm x) (widthOf (a .width)) (placeOf (a .place)) (a .s .now) (a .n) _ (checked-is here .gave)) (wrote .write-flat .ensures masks)
+    λ x masks. rw (flat-is (maskForm x) (widthOf (a .width)) (placeOf (a .place)) (a .s .now) (a .n) (checked-is here .gave)) (wrote .write-flat .ensures masks)
 
 pub read-flat-spec : {M : Type 1} → statement M
 read-flat-spec =

@@ -30,7 +30,7 @@ returns c = search needs
 values-length-requires : tie.Need-values-length-requires
 values-length-requires c κs =
     let a = plain c .args in
-    (count-all (a .cells) (a .masks .now) (a .kind .depth) (depth-none c), plain c .pre)
+    (count-all (a .cells) (a .masks .now) (depth-none c), plain c .pre)
 
 returns-2 : tie.Need-returns-2
 returns-2 c =

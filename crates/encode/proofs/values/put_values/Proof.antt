@@ -91,7 +91,7 @@ returns-2 c =
     let f = ragged-form (c .before .before .before) in
     let s = of-ragged f in
     let a = s .args in
-    told-as _ (valuesFrom (kindOf (a .kind)) (a .cells) (held s)) (a .at) (a .out .now) (c .before .before .put-ragged .ensures) (ragged-writes (a .kind) (s .pre .1 .0) (f .form2 .given .1))
+    told-as (a .at) (a .out .now) (c .before .before .put-ragged .ensures) (ragged-writes (a .kind) (s .pre .1 .0) (f .form2 .given .1))
 
 pub put-values-spec : {M : Type 1} → statement M
 put-values-spec =

@@ -162,7 +162,7 @@ write-content-returns-2 t c =
     let i = c .before .before .before .before in
     let s = content-begun (i .before .before) in
     let a = s .args in
-    told-as (values-bytes s) (content-bytes s) (a .at) (a .out .now) (c .before .before .put-values .ensures) (sym (content-values i))
+    told-as (a .at) (a .out .now) (c .before .before .put-values .ensures) (sym (content-values i))
 
 write-content-write-frame-requires : (t : ℕ) → write-content-lts.Need-write-frame-requires (claims-write-content t) (write-content-at t) write-content.Post
 write-content-write-frame-requires t c κs =
@@ -179,7 +179,7 @@ write-content-returns-3 t c =
     let i = c .before .before .before .before in
     let s = content-begun (i .before .before) in
     let a = s .args in
-    told-as (frame-bytes s) (content-bytes s) (a .at) (a .out .now) (c .before .before .write-frame .ensures) (sym (content-frame i))
+    told-as (a .at) (a .out .now) (c .before .before .write-frame .ensures) (sym (content-frame i))
 
 -- ---- write_frame
 

@@ -61,7 +61,7 @@ put-all-requires c κs =
     let s = plain e in
     let a = s .args in
     let r = s .pre .0 in
-    let count = count-all (a .cells) (a .masks .now) (a .kind .depth) (depth-none e) in
+    let count = count-all (a .cells) (a .masks .now) (depth-none e) in
     (omega (arith, s .pre .1, ap length (flat e), fixed-wrote (a .kind) r (f .form .given .1) count), omega (arith, fixed-source (a .kind) r (f .form .given .1)))
 
 enum-known-form-2 : tie.Need-enum-known-form-2
@@ -75,7 +75,7 @@ put-ragged-requires c κs =
     let a = s .args in
     let r = s .pre .0 in (
       encodable-planes r,
-      count-all (a .cells) (a .masks .now) (a .kind .depth) (depth-none e),
+      count-all (a .cells) (a .masks .now) (depth-none e),
       offsets-fit (a .kind) r (f .form2 .given .1),
       offsets-end (a .kind) r (f .form2 .given .1),
       omega (arith, s .pre .1, ap length (flat e), ap length (ragged-writes (a .kind) r (f .form2 .given .1))),

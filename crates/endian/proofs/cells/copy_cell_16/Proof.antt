@@ -38,8 +38,8 @@ returns c =
     let a = c .before .before .before .before .before .before .before .before .before .before .before .before .args in
     let p = c .before .before .before .before .before .before .before .before .before .before .before .before .pre in
     let f : Slice (a .s .now) = λ i. c .before .before .before .before .before .before .before .before .before .before .shared-slice-known .given i .fits in
-    let high = le-read big (a .s .now) f (a .at + 8) 8 (omega arith) (c .before .before .before .before .before .before .before .before .be8-at2 .result) (c .before .before .before .before .before .before .before .before .be8-at2 .ensures) in
-    let low = le-read big (a .s .now) f (a .at) 8 (omega arith) (c .before .before .before .before .before .before .before .before .before .be8-at .result) (c .before .before .before .before .before .before .before .before .before .be8-at .ensures) in
+    let high = le-read big (a .s .now) f (a .at + 8) 8 (omega arith) (c .before .before .before .before .before .before .before .before .be8-at2 .ensures) in
+    let low = le-read big (a .s .now) f (a .at) 8 (omega arith) (c .before .before .before .before .before .before .before .before .before .be8-at .ensures) in
     two-parts (a .out .now) (a .to) (a .s .now) (a .at) 8 (p .0) (p .1)
     (c .before .before .before .before .before .before .put-u64 .ensures ∙ ap (λ (l : List ℕ). overAt (a .to) l (a .out .now)) high)
     (c .before .before .put-u642 .ensures ∙ ap (λ (l : List ℕ). overAt (a .to + 8) l (c .before .before .before .before .before .before .put-u64 .last .0)) low)

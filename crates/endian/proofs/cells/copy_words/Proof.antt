@@ -27,10 +27,10 @@ same : (c : tie.At-loop Inv-loop μ-loop Inv-loop2 μ-loop2) → length (c .loop
 same c = copies-same (c .loop .inv .1)
 
 inside : (c : tie.In-loop Inv-loop μ-loop Inv-loop2 μ-loop2) → c .before .loop .i * (64 / c .before .before .before .before .args .size) + 32 / c .before .before .before .before .args .size + 32 / c .before .before .before .before .args .size ≤ c .before .before .before .before .args .cells
-inside c = let a = c .before .before .before .before .args in line-within (a .size) (64 / a .size) (32 / a .size) (narrow-line (a .size) (c .before .before .before .before .pre .0)) (narrow-block (a .size) (c .before .before .before .before .pre .0)) (c .before .loop .i) (a .cells / (64 / a .size)) (a .cells) (div-mul-le-self (a .cells) (64 / a .size)) (c .loop-test .taken)
+inside c = let a = c .before .before .before .before .args in line-within (a .size) (32 / a .size) (narrow-line (a .size) (c .before .before .before .before .pre .0)) (narrow-block (a .size) (c .before .before .before .before .pre .0)) (c .before .loop .i) (a .cells / (64 / a .size)) (a .cells) (div-mul-le-self (a .cells) (64 / a .size)) (c .loop-test .taken)
 
 fits : (c : tie.In-loop Inv-loop μ-loop Inv-loop2 μ-loop2) → c .before .loop .i * 64 + 64 ≤ c .before .before .before .before .args .cells * c .before .before .before .before .args .size
-fits c = let a = c .before .before .before .before .args in line-room (a .size) (64 / a .size) (32 / a .size) (narrow-line (a .size) (c .before .before .before .before .pre .0)) (narrow-block (a .size) (c .before .before .before .before .pre .0)) (a .cells) (c .before .loop .i) (inside c)
+fits c = let a = c .before .before .before .before .args in line-room (a .size) (32 / a .size) (narrow-line (a .size) (c .before .before .before .before .pre .0)) (narrow-block (a .size) (c .before .before .before .before .pre .0)) (a .cells) (c .before .loop .i) (inside c)
 
 laid : (c : tie.At-loop2 Inv-loop μ-loop Inv-loop2 μ-loop2) → Copies (c .before .before .before .before .before .args .out .now) (c .before .before .before .before .before .args .to) (c .before .before .before .before .before .args .s .now) (c .before .before .before .before .before .args .at) (c .before .before .before .before .before .args .size) (c .before .before .before .before .before .args .cells) (c .loop2 .out) (c .loop2 .j)
 laid c = c .loop2 .inv (c .before .before .before .before .before .args .out .now) (copies-cast (c .before .before .loop .inv .1) (ap (λ (n : ℕ). n * (64 / c .before .before .before .before .before .args .size)) (omega (arith, c .before .before .loop .inv .0, c .before .loop-test .left))))
@@ -81,7 +81,7 @@ loop-less : tie.Need-loop-less Inv-loop μ-loop Inv-loop2 μ-loop2
 loop-less c = omega arith
 
 loop-again : tie.Need-loop-again Inv-loop μ-loop Inv-loop2 μ-loop2
-loop-again c = let a = c .before .before .before .before .before .before .before .before .before .before .before .before .args in (omega arith, copies-line (a .size) (64 / a .size) (32 / a .size) (narrow-line (a .size) (c .before .before .before .before .before .before .before .before .before .before .before .before .pre .0)) (narrow-block (a .size) (c .before .before .before .before .before .before .before .before .before .before .before .before .pre .0)) (a .cells) (c .before .before .before .before .before .before .before .before .before .loop .i) (inside (c .before .before .before .before .before .before .before .before)) (c .before .before .before .before .before .before .before .before .before .loop .inv .1) (c .before .before .before .before .before .before .copy-block .ensures) (c .before .before .copy-block2 .ensures))
+loop-again c = let a = c .before .before .before .before .before .before .before .before .before .before .before .before .args in (omega arith, copies-line (a .size) (32 / a .size) (narrow-line (a .size) (c .before .before .before .before .before .before .before .before .before .before .before .before .pre .0)) (narrow-block (a .size) (c .before .before .before .before .before .before .before .before .before .before .before .before .pre .0)) (a .cells) (c .before .before .before .before .before .before .before .before .before .loop .i) (inside (c .before .before .before .before .before .before .before .before)) (c .before .before .before .before .before .before .before .before .before .loop .inv .1) (c .before .before .before .before .before .before .copy-block .ensures) (c .before .before .copy-block2 .ensures))
 
 mul-j : tie.Need-mul-j Inv-loop μ-loop Inv-loop2 μ-loop2
 mul-j c = omega (arith, div-mul-le-self (c .before .before .before .before .args .cells) (64 / c .before .before .before .before .args .size))

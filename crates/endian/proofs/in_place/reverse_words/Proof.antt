@@ -54,7 +54,7 @@ loop-less : tie.Need-loop-less Inv-loop μ-loop Inv-loop2 μ-loop2
 loop-less c = omega arith
 
 loop-again : tie.Need-loop-again Inv-loop μ-loop Inv-loop2 μ-loop2
-loop-again c = let a = c .before .before .before .before .before .before .before .before .before .before .before .args in (omega arith, reversing-line (a .size) (64 / a .size) (32 / a .size) (narrow-line (a .size) (c .before .before .before .before .before .before .before .before .before .before .before .pre)) (narrow-block (a .size) (c .before .before .before .before .before .before .before .before .before .before .before .pre)) (length (a .bytes .now) / a .size) (c .before .before .before .before .before .before .before .before .before .loop .i) (line-within (a .size) (64 / a .size) (32 / a .size) (narrow-line (a .size) (c .before .before .before .before .before .before .before .before .before .before .before .pre)) (narrow-block (a .size) (c .before .before .before .before .before .before .before .before .before .before .before .pre)) (c .before .before .before .before .before .before .before .before .before .loop .i) (length (a .bytes .now) / 64) (length (a .bytes .now) / a .size) (lines-fit (a .size) (c .before .before .before .before .before .before .before .before .before .before .before .pre) (length (a .bytes .now))) (c .before .before .before .before .before .before .before .before .loop-test .taken)) (c .before .before .before .before .before .before .before .before .before .loop .inv .1) (c .before .before .before .before .before .before .reverse-block .ensures) (c .before .before .reverse-block2 .ensures))
+loop-again c = let a = c .before .before .before .before .before .before .before .before .before .before .before .args in (omega arith, reversing-line (a .size) (32 / a .size) (narrow-line (a .size) (c .before .before .before .before .before .before .before .before .before .before .before .pre)) (narrow-block (a .size) (c .before .before .before .before .before .before .before .before .before .before .before .pre)) (length (a .bytes .now) / a .size) (c .before .before .before .before .before .before .before .before .before .loop .i) (line-within (a .size) (32 / a .size) (narrow-line (a .size) (c .before .before .before .before .before .before .before .before .before .before .before .pre)) (narrow-block (a .size) (c .before .before .before .before .before .before .before .before .before .before .before .pre)) (c .before .before .before .before .before .before .before .before .before .loop .i) (length (a .bytes .now) / 64) (length (a .bytes .now) / a .size) (lines-fit (a .size) (c .before .before .before .before .before .before .before .before .before .before .before .pre) (length (a .bytes .now))) (c .before .before .before .before .before .before .before .before .loop-test .taken)) (c .before .before .before .before .before .before .before .before .before .loop .inv .1) (c .before .before .before .before .before .before .reverse-block .ensures) (c .before .before .reverse-block2 .ensures))
 
 div-cells : tie.Need-div-cells Inv-loop μ-loop Inv-loop2 μ-loop2
 div-cells c = omega (arith, narrow-some (c .before .before .before .args .size) (c .before .before .before .pre))

@@ -30,8 +30,8 @@ returns : tie.Need-returns
 returns c =
     let a = c .before .before .before .before .before .before .before .before .before .before .before .before .before .args in
     let f : Slice (a .bytes .now) = λ i. c .before .before .before .before .before .before .before .before .before .before .before .before .slice-known .given i .fits in
-    let x = le-read big (a .bytes .now) f (a .low) 8 (c .before .before .before .before .before .before .before .before .before .before .before .before .before .pre .0) (c .before .before .before .before .before .before .before .before .before .before .be8-at .result) (c .before .before .before .before .before .before .before .before .before .before .be8-at .ensures) in
-    let y = le-read big (a .bytes .now) f (a .high) 8 (c .before .before .before .before .before .before .before .before .before .before .before .before .before .pre .1) (c .before .before .before .before .before .before .before .before .be8-at2 .result) (c .before .before .before .before .before .before .before .before .be8-at2 .ensures) in
+    let x = le-read big (a .bytes .now) f (a .low) 8 (c .before .before .before .before .before .before .before .before .before .before .before .before .before .pre .0) (c .before .before .before .before .before .before .before .before .before .before .be8-at .ensures) in
+    let y = le-read big (a .bytes .now) f (a .high) 8 (c .before .before .before .before .before .before .before .before .before .before .before .before .before .pre .1) (c .before .before .before .before .before .before .before .before .be8-at2 .ensures) in
     c .before .before .put-u642 .ensures ∙ ap (λ (o : List ℕ). overAt (a .high) (le 8 (c .before .before .before .before .before .before .before .before .before .before .be8-at .result)) o) (c .before .before .before .before .before .before .put-u64 .ensures)
     ∙ ap₂ (λ (v w : List ℕ). overAt (a .high) v (overAt (a .low) w (a .bytes .now))) x y
 

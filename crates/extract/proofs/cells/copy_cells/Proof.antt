@@ -31,7 +31,7 @@ abbrev row : Start → ℕ
 row a = getD (a .args .lens .now) (length (a .args .lens .now) - 1) 0
 
 below : (a : Start) → All (λ j. j < volume (a .args .shape .now)) (cells a)
-below a = asked-below (a .args .shape .now) (a .args .starts .now) (a .args .lens .now) (a .args .count) (a .pre .0)
+below a = asked-below (a .pre .0)
 
 -- slices are short
 short : (a : Start) → length (a .args .src .now) < 18446744073709551616
@@ -52,41 +52,41 @@ source k =
     let a = start k in
     let l = k .before .before in
     fixed-source (a .args .base) (a .args .size) (volume (a .args .shape .now)) (a .args .src .now) (cells a) (below a) (a .pre .1 .source)
-    (a .args .count) (row a) (l .loop .at) (l .loop .inv .geo) (k .before .loop-test .taken) (k .cell-at .result) (k .cell-at .ensures)
+    (a .args .count) (row a) (l .loop .at) (l .loop .inv .geo) (k .before .loop-test .taken) (k .cell-at .ensures)
 
 room : (k : Known) → start k .args .to + k .before .before .loop .done + row (start k) * start k .args .size ≤ length (k .before .before .loop .out)
 room k =
     let a = start k in
     let l = k .before .before in
     fixed-room (a .args .base) (a .args .size) (volume (a .args .shape .now)) (a .args .src .now) (cells a) (below a) (a .pre .1 .source)
-    (a .args .count) (row a) (l .loop .at) (l .loop .inv .geo) (k .before .loop-test .taken) (k .cell-at .result) (k .cell-at .ensures)
-    (a .args .out .now) (a .args .to) (l .loop .out) (l .loop .done) (l .loop .inv .laid)
+    (a .args .count) (row a) (l .loop .at) (l .loop .inv .geo) (k .before .loop-test .taken) (k .cell-at .ensures)
+    (l .loop .inv .laid)
 
 same : (k : Known) → length (k .before .before .loop .out) ≡ length (start k .args .out .now)
 same k =
     let a = start k in
     let l = k .before .before in
-    copied-same (fixedAt (a .args .base) (a .args .size)) (a .args .src .now) (cells a) (a .args .out .now) (a .args .to) (l .loop .out) (a .args .count) (row a) (l .loop .at) (l .loop .done) (l .loop .inv)
+    copied-same (l .loop .inv)
 
 within : (k : Known) → k .before .before .loop .at + row (start k) ≤ start k .args .count
 within k = let a = start k in left-within (cells a) (a .args .count) (row a) (k .before .before .loop .at) (k .before .before .loop .inv .geo) (k .before .loop-test .taken)
 
 sub-last : tie.Need-sub-last Inv-loop μ-loop
-sub-last c = let a = c .before .before .before .before .before in omega (arith, asked-lengths _ _ _ _ (a .pre .0))
+sub-last c = let a = c .before .before .before .before .before in omega (arith, asked-lengths (a .pre .0))
 
 mul-n : tie.Need-mul-n Inv-loop μ-loop
 mul-n c = omega arith
 
 shared-slice-read-n : tie.Need-shared-slice-read-n Inv-loop μ-loop
-shared-slice-read-n c = let a = c .before .before .before .before .before .before in omega (arith, asked-lengths _ _ _ _ (a .pre .0))
+shared-slice-read-n c = let a = c .before .before .before .before .before .before in omega (arith, asked-lengths (a .pre .0))
 
 loop-holds : tie.Need-loop-holds Inv-loop μ-loop
 loop-holds c =
     let a = c .before .before .before .before .before .before in
     let v = volume (a .args .shape .now) in
     copied-begins (fixedAt (a .args .base) (a .args .size)) (a .args .src .now) (cells a) (a .args .out .now) (a .args .to) (a .args .count) (row a)
-    (asked-left _ _ _ _ (a .pre .0))
-    (let n : length (cells a) ≡ a .args .count = asked-count _ _ _ _ (a .pre .0) in
+    (asked-left (a .pre .0))
+    (let n : length (cells a) ≡ a .args .count = asked-count (a .pre .0) in
     rw (fixed-long (a .args .base) (a .args .size) v (a .args .src .now) (cells a) (a .pre .1 .source) (below a), n) (a .pre .1 .room))
 
 cell-at-requires : tie.Need-cell-at-requires Inv-loop μ-loop
@@ -113,7 +113,7 @@ add-done : tie.Need-add-done Inv-loop μ-loop
 add-done c = let k = c .before .before .before .before in omega (arith, room k, same k, short-out (start k))
 
 add-at : tie.Need-add-at Inv-loop μ-loop
-add-at c = let k = c .before .before .before .before in omega (arith, within k, asked-few _ _ _ _ (start k .pre .0))
+add-at c = let k = c .before .before .before .before in omega (arith, within k, asked-few (start k .pre .0))
 
 loop-less : tie.Need-loop-less Inv-loop μ-loop
 loop-less c =
@@ -129,20 +129,20 @@ loop-again c =
     let a = start k in
     let l = k .before .before in
     fixed-copied (a .args .base) (a .args .size) (volume (a .args .shape .now)) (a .args .src .now) (cells a) (below a) (a .pre .1 .source)
-    (a .args .count) (row a) (l .loop .at) (l .loop .inv .geo) (k .before .loop-test .taken) (k .cell-at .result) (k .cell-at .ensures)
-    (a .args .out .now) (a .args .to) (l .loop .out) (l .loop .done) (l .loop .inv .laid) (r .copy-bytes .last .0) (r .copy-bytes .ensures)
+    (a .args .count) (row a) (l .loop .at) (l .loop .inv .geo) (k .before .loop-test .taken) (k .cell-at .ensures)
+    (l .loop .inv .laid) (r .copy-bytes .ensures)
 
 same-length : tie.Need-same-length Inv-loop μ-loop
 same-length c =
     let l = c .before in
     let a = l .before .before .before .before .before .before .before in
-    copied-same (fixedAt (a .args .base) (a .args .size)) (a .args .src .now) (cells a) (a .args .out .now) (a .args .to) (l .loop .out) (a .args .count) (row a) (l .loop .at) (l .loop .done) (l .loop .inv)
+    copied-same (l .loop .inv)
 
 returns : tie.Need-returns Inv-loop μ-loop
 returns c =
     let l = c .before in
     let a = l .before .before .before .before .before .before .before in
-    copied-ends (fixedAt (a .args .base) (a .args .size)) (a .args .src .now) (cells a) (a .args .out .now) (a .args .to) (l .loop .out) (a .args .count) (row a) (l .loop .at) (l .loop .done) (l .loop .inv)
+    copied-ends (l .loop .inv)
     (c .loop-test .left)
 
 pub copy-cells-spec : {M : Type 1} → statement M

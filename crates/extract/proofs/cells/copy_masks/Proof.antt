@@ -25,10 +25,10 @@ abbrev cells : Start → List ℕ
 cells a = cellsIn (a .args .shape .now) (pairs (a .args .starts .now) (a .args .lens .now))
 
 below : (a : Start) → All (λ j. j < a .args .cells) (cells a)
-below a = rw (a .pre .1 .whole) (asked-below _ _ _ _ (a .pre .0))
+below a = rw (a .pre .1 .whole) (asked-below (a .pre .0))
 
 counted : (a : Start) → length (cells a) ≡ a .args .count
-counted a = asked-count _ _ _ _ (a .pre .0)
+counted a = asked-count (a .pre .0)
 
 short : (a : Start) → length (a .args .src .now) < 18446744073709551616
 short a = omega arith
@@ -46,24 +46,24 @@ start i = i .before .before .before .before .before .before .before
 source : (i : Inside) → i .before .loop .level * start i .args .cells + start i .args .cells * 1 ≤ length (start i .args .src .now)
 source i =
     let a = start i in
-    plane-source (a .args .cells) (a .args .count) (a .args .src .now) (cells a) (below a) (counted a) (a .args .depth) (i .before .loop .level) (a .pre .1 .source) (i .loop-test .taken)
+    plane-source (a .args .cells) (a .args .src .now) (cells a) (below a) (counted a) (a .args .depth) (i .before .loop .level) (a .pre .1 .source) (i .loop-test .taken)
 
 same : (i : Inside) → length (i .before .loop .out) ≡ length (start i .args .out .now)
 same i =
     let a = start i in
-    planes-same (a .args .cells) (a .args .count) (a .args .src .now) (cells a) (below a) (counted a) (a .args .depth) (a .args .out .now) (i .before .loop .out) (i .before .loop .level) (a .pre .1 .source)
+    planes-same (a .args .cells) (a .args .src .now) (cells a) (below a) (counted a) (a .pre .1 .source)
     (i .before .loop .inv)
 
 room : (i : Inside) → i .before .loop .level * start i .args .count + start i .args .count * 1 ≤ length (i .before .loop .out)
 room i =
     let a = start i in
-    plane-room (a .args .cells) (a .args .count) (a .args .src .now) (cells a) (below a) (counted a) (a .args .depth) (a .args .out .now) (i .before .loop .out) (i .before .loop .level) (a .pre .1 .source)
+    plane-room (a .args .cells) (a .args .src .now) (cells a) (below a) (counted a) (a .pre .1 .source)
     (i .before .loop .inv) (i .loop-test .taken)
 
 loop-holds : tie.Need-loop-holds Inv-loop μ-loop
 loop-holds c =
     let a = c .before .before .before .before .before in
-    planes-begin (a .args .cells) (a .args .count) (a .args .src .now) (cells a) (below a) (counted a) (a .args .depth) (a .args .out .now) (a .pre .1 .source) (a .pre .1 .room)
+    planes-begin (a .args .cells) (a .args .src .now) (cells a) (below a) (counted a) (a .args .depth) (a .args .out .now) (a .pre .1 .source) (a .pre .1 .room)
 
 mul-copy-cells : tie.Need-mul-copy-cells Inv-loop μ-loop
 mul-copy-cells c = let i = c .before in omega (arith, room i, same i, short-out (start i))
@@ -87,20 +87,20 @@ loop-again c =
     let r = c .before .before in
     let i = r .before .before in
     let a = start i in
-    planes-more (a .args .cells) (a .args .count) (a .args .src .now) (cells a) (below a) (counted a) (a .args .depth) (a .args .out .now) (i .before .loop .out) (i .before .loop .level) (a .pre .1 .source)
-    (i .before .loop .inv) (i .loop-test .taken) (r .copy-cells .last .0) (r .copy-cells .ensures)
+    planes-more (a .args .cells) (a .args .src .now) (cells a) (below a) (counted a) (a .pre .1 .source)
+    (i .before .loop .inv) (i .loop-test .taken) (r .copy-cells .ensures)
 
 same-length : tie.Need-same-length Inv-loop μ-loop
 same-length c =
     let l = c .before in
     let a = l .before .before .before .before .before .before in
-    planes-same (a .args .cells) (a .args .count) (a .args .src .now) (cells a) (below a) (counted a) (a .args .depth) (a .args .out .now) (l .loop .out) (l .loop .level) (a .pre .1 .source) (l .loop .inv)
+    planes-same (a .args .cells) (a .args .src .now) (cells a) (below a) (counted a) (a .pre .1 .source) (l .loop .inv)
 
 returns : tie.Need-returns Inv-loop μ-loop
 returns c =
     let l = c .before in
     let a = l .before .before .before .before .before .before in
-    planes-end (a .args .cells) (a .args .count) (a .args .src .now) (cells a) (below a) (counted a) (a .args .depth) (a .args .out .now) (l .loop .out) (l .loop .level) (a .pre .1 .source) (l .loop .inv)
+    planes-end (a .args .cells) (a .args .src .now) (cells a) (below a) (counted a) (a .pre .1 .source) (l .loop .inv)
     (c .loop-test .left)
 
 pub copy-masks-spec : {M : Type 1} → statement M

@@ -38,7 +38,7 @@ abbrev full : Start → ℕ
 full a = volume (a .args .shape .now)
 
 below : (a : Start) → All (λ j. j < full a) (cells a)
-below a = asked-below _ _ _ _ (a .pre .0)
+below a = asked-below (a .pre .0)
 
 short : (a : Start) → length (a .args .offsets .now) * 8 < 18446744073709551616
 short a = omega arith
@@ -56,14 +56,12 @@ begun l = l .before .before .before .before .before .before .before .before .bef
 same : (l : Head) → length (l .loop .out-values) ≡ length (begun l .args .out-values .now)
 same l =
     let a = begun l in
-    ragged-same (off a) (a .args .values .now) (cells a) (a .args .out-values .now) (a .args .out-offsets .now) (l .loop .out-values) (l .loop .out-offsets) (a .args .count) (row a) (l .loop .at)
-    (l .loop .total) (l .loop .inv)
+    ragged-same (off a) (a .args .values .now) (cells a) (l .loop .inv)
 
 same-offsets : (l : Head) → length (l .loop .out-offsets) ≡ length (begun l .args .out-offsets .now)
 same-offsets l =
     let a = begun l in
-    ragged-same-offsets (off a) (a .args .values .now) (cells a) (a .args .out-values .now) (a .args .out-offsets .now) (l .loop .out-values) (l .loop .out-offsets) (a .args .count) (row a) (l .loop .at)
-    (l .loop .total) (l .loop .inv)
+    ragged-same-offsets (off a) (a .args .values .now) (cells a) (l .loop .inv)
 
 abbrev Known : Type 0
 Known = tie.After-cell-at Inv-loop μ-loop
@@ -84,53 +82,53 @@ inside : (k : Known) → first k + row (start k) ≤ full (start k)
 inside k =
     let a = start k in
     let l = head k in
-    ragged-within (off a) (a .args .values .now) (cells a) (a .args .out-values .now) (a .args .out-offsets .now) (l .loop .out-values) (l .loop .out-offsets) (a .args .count) (row a) (l .loop .at)
-    (l .loop .total) (l .loop .inv) (full a) (a .pre .1 .offsets .rises) (below a) (a .pre .1 .source) (k .before .loop-test .taken) (first k) (k .cell-at .ensures)
+    ragged-within (off a) (a .args .values .now) (cells a)
+    (l .loop .inv) (a .pre .1 .offsets .rises) (below a) (a .pre .1 .source) (k .before .loop-test .taken) (k .cell-at .ensures)
 
 rises : (k : Known) → off (start k) (first k) ≤ off (start k) (first k + row (start k))
 rises k =
     let a = start k in
     let l = head k in
-    ragged-rises (off a) (a .args .values .now) (cells a) (a .args .out-values .now) (a .args .out-offsets .now) (l .loop .out-values) (l .loop .out-offsets) (a .args .count) (row a) (l .loop .at)
-    (l .loop .total) (l .loop .inv) (full a) (a .pre .1 .offsets .rises) (below a) (a .pre .1 .source) (k .before .loop-test .taken) (first k) (k .cell-at .ensures)
+    ragged-rises (off a) (a .args .values .now) (cells a)
+    (l .loop .inv) (a .pre .1 .offsets .rises) (below a) (a .pre .1 .source) (k .before .loop-test .taken) (k .cell-at .ensures)
 
 source : (k : Known) → off (start k) (first k) + step k ≤ length (start k .args .values .now)
 source k =
     let a = start k in
     let l = head k in
-    ragged-source (off a) (a .args .values .now) (cells a) (a .args .out-values .now) (a .args .out-offsets .now) (l .loop .out-values) (l .loop .out-offsets) (a .args .count) (row a) (l .loop .at)
-    (l .loop .total) (l .loop .inv) (full a) (a .pre .1 .offsets .rises) (below a) (a .pre .1 .source) (k .before .loop-test .taken) (first k) (k .cell-at .ensures)
+    ragged-source (off a) (a .args .values .now) (cells a)
+    (l .loop .inv) (a .pre .1 .offsets .rises) (below a) (a .pre .1 .source) (k .before .loop-test .taken) (k .cell-at .ensures)
 
 room : (k : Known) → head k .loop .total + step k ≤ length (head k .loop .out-values)
 room k =
     let a = start k in
     let l = head k in
-    ragged-room (off a) (a .args .values .now) (cells a) (a .args .out-values .now) (a .args .out-offsets .now) (l .loop .out-values) (l .loop .out-offsets) (a .args .count) (row a) (l .loop .at)
-    (l .loop .total) (l .loop .inv) (full a) (a .pre .1 .offsets .rises) (below a) (a .pre .1 .source) (k .before .loop-test .taken) (first k) (k .cell-at .ensures)
+    ragged-room (off a) (a .args .values .now) (cells a)
+    (l .loop .inv) (a .pre .1 .offsets .rises) (below a) (a .pre .1 .source) (k .before .loop-test .taken) (k .cell-at .ensures)
 
 room-offsets : (k : Known) → head k .loop .at + 1 + row (start k) ≤ length (head k .loop .out-offsets)
 room-offsets k =
     let a = start k in
     let l = head k in
-    ragged-room-offsets (off a) (a .args .values .now) (cells a) (a .args .out-values .now) (a .args .out-offsets .now) (l .loop .out-values) (l .loop .out-offsets) (a .args .count) (row a) (l .loop .at)
-    (l .loop .total) (l .loop .inv) (full a) (a .pre .1 .offsets .rises) (below a) (a .pre .1 .source) (k .before .loop-test .taken) (first k) (k .cell-at .ensures)
+    ragged-room-offsets (off a) (a .args .values .now) (cells a)
+    (l .loop .inv) (a .pre .1 .offsets .rises) (below a) (a .pre .1 .source) (k .before .loop-test .taken) (k .cell-at .ensures)
 
 within : (k : Known) → head k .loop .at + row (start k) ≤ start k .args .count
 within k = let a = start k in left-within (cells a) (a .args .count) (row a) (head k .loop .at) (head k .loop .inv .copied .geo) (k .before .loop-test .taken)
 
 sub-last : tie.Need-sub-last Inv-loop μ-loop
-sub-last c = let a = c .before .before .before .before .before .before .before in omega (arith, asked-lengths _ _ _ _ (a .pre .0))
+sub-last c = let a = c .before .before .before .before .before .before .before in omega (arith, asked-lengths (a .pre .0))
 
 mul-n : tie.Need-mul-n Inv-loop μ-loop
 mul-n c = omega arith
 
 shared-slice-read-n : tie.Need-shared-slice-read-n Inv-loop μ-loop
-shared-slice-read-n c = let a = c .before .before .before .before .before .before .before .before in omega (arith, asked-lengths _ _ _ _ (a .pre .0))
+shared-slice-read-n c = let a = c .before .before .before .before .before .before .before .before in omega (arith, asked-lengths (a .pre .0))
 
 loop-holds : tie.Need-loop-holds Inv-loop μ-loop
 loop-holds c =
     let a = c .before .before .before .before .before .before .before .before in
-    ragged-begins (off a) (a .args .values .now) (cells a) (a .args .out-values .now) (a .args .out-offsets .now) (a .args .count) (row a) (asked-left _ _ _ _ (a .pre .0)) (a .pre .1 .room) (a .pre .1 .room-offsets)
+    ragged-begins (off a) (a .args .values .now) (cells a) (a .args .out-values .now) (a .args .out-offsets .now) (a .args .count) (row a) (asked-left (a .pre .0)) (a .pre .1 .room) (a .pre .1 .room-offsets)
 
 cell-at-requires : tie.Need-cell-at-requires Inv-loop μ-loop
 cell-at-requires c κs = let a = begun (c .before) in (a .pre .0 .shaped, a .pre .0 .within, omega (arith, a .pre .0 .counted, c .loop-test .taken))
@@ -159,7 +157,7 @@ copy-bytes-requires c κs = let k = c .before .before .before in (room k, source
 add-store-ends : tie.Need-add-store-ends Inv-loop μ-loop
 add-store-ends c =
     let k = c .before .before .before .before .before .before .before in
-    omega (arith, within k, asked-few _ _ _ _ (start k .pre .0))
+    omega (arith, within k, asked-few (start k .pre .0))
 
 store-ends-requires : tie.Need-store-ends-requires Inv-loop μ-loop
 store-ends-requires c κs =
@@ -181,7 +179,7 @@ add-total c =
 add-at : tie.Need-add-at Inv-loop μ-loop
 add-at c =
     let k = c .before .before .before .before .before .before .before .before .before .before in
-    omega (arith, within k, asked-few _ _ _ _ (start k .pre .0))
+    omega (arith, within k, asked-few (start k .pre .0))
 
 loop-less : tie.Need-loop-less Inv-loop μ-loop
 loop-less c =
@@ -196,9 +194,9 @@ loop-again c =
     let k = b .before .before .before .before in
     let a = start k in
     let l = head k in
-    ragged-more (off a) (a .args .values .now) (cells a) (a .args .out-values .now) (a .args .out-offsets .now) (l .loop .out-values) (l .loop .out-offsets) (a .args .count) (row a) (l .loop .at)
-    (l .loop .total) (l .loop .inv) (full a) (a .pre .1 .offsets .rises) (below a) (a .pre .1 .source) (k .before .loop-test .taken) (first k) (k .cell-at .ensures)
-    (b .copy-bytes .last .0) (e .store-ends .last .0) (b .copy-bytes .ensures) (e .store-ends .ensures)
+    ragged-more (off a) (a .args .values .now) (cells a)
+    (l .loop .inv) (a .pre .1 .offsets .rises) (below a) (a .pre .1 .source) (k .before .loop-test .taken) (k .cell-at .ensures)
+    (b .copy-bytes .ensures) (e .store-ends .ensures)
 
 same-length : tie.Need-same-length Inv-loop μ-loop
 same-length c = same (c .before)
@@ -210,10 +208,8 @@ returns : tie.Need-returns Inv-loop μ-loop
 returns c =
     let l = c .before in
     let a = begun l in (
-      ragged-values (off a) (a .args .values .now) (cells a) (a .args .out-values .now) (a .args .out-offsets .now) (l .loop .out-values) (l .loop .out-offsets) (a .args .count) (row a) (l .loop .at)
-          (l .loop .total) (l .loop .inv) (c .loop-test .left),
-      ragged-offsets (off a) (a .args .values .now) (cells a) (a .args .out-values .now) (a .args .out-offsets .now) (l .loop .out-values) (l .loop .out-offsets) (a .args .count) (row a) (l .loop .at)
-          (l .loop .total) (l .loop .inv) (c .loop-test .left),
+      ragged-values (off a) (a .args .values .now) (cells a) (l .loop .inv) (c .loop-test .left),
+      ragged-offsets (off a) (a .args .values .now) (cells a) (l .loop .inv) (c .loop-test .left),
     )
 
 pub copy-rows-spec : {M : Type 1} → statement M

@@ -52,11 +52,11 @@ inside k =
     omega (
       arith,
       k .cell-at .ensures,
-      left-room (cells a) (a .args .count) (row a) (k .before .before .loop .at) (k .before .before .loop .inv .geo) (k .before .loop-test .taken) (volume (a .args .shape .now)) (asked-below _ _ _ _ (a .pre .0)),
+      left-room (cells a) (a .args .count) (row a) (k .before .before .loop .at) (k .before .before .loop .inv .geo) (k .before .loop-test .taken) (volume (a .args .shape .now)) (asked-below (a .pre .0)),
     )
 
 rises : (k : Known) → off (start k) (k .cell-at .result) ≤ off (start k) (k .cell-at .result + row (start k))
-rises k = let a = start k in run-rises (off a) (volume (a .args .shape .now)) (a .pre .1 .rises) (k .cell-at .result) (row a) (inside k)
+rises k = let a = start k in run-rises (a .pre .1 .rises) (k .cell-at .result) (row a) (inside k)
 
 counted : (k : Known) → let a = start k in
     let l = k .before .before in
@@ -64,28 +64,28 @@ counted : (k : Known) → let a = start k in
 counted k =
     let a = start k in
     let l = k .before .before in
-    counting-more (off a) (cells a) (a .args .count) (row a) (l .loop .at) (l .loop .total) (l .loop .inv) (volume (a .args .shape .now)) (a .pre .1 .rises) (asked-below _ _ _ _ (a .pre .0))
-    (k .before .loop-test .taken) (off a (k .cell-at .result + row a) - off a (k .cell-at .result)) (ap (λ (x : ℕ). off a (x + row a) - off a x) (k .cell-at .ensures))
+    counting-more (l .loop .inv) (a .pre .1 .rises) (asked-below (a .pre .0))
+    (k .before .loop-test .taken) (ap (λ (x : ℕ). off a (x + row a) - off a x) (k .cell-at .ensures))
 
 -- no more than all cells have
 small : (a : Start) → bytesAt (off a) (cells a) ≤ 16777216
 unfolding mostBytes
-small a = omega (arith, bytes-most (off a) (a .args .shape .now) (pairs (a .args .starts .now) (a .args .lens .now)) (a .pre .1 .rises) (a .pre .0 .within .inside), a .pre .1 .small)
+small a = omega (arith, bytes-most (a .args .shape .now) (pairs (a .args .starts .now) (a .args .lens .now)) (a .pre .1 .rises) (a .pre .0 .within .inside), a .pre .1 .small)
 
 within : (k : Known) → k .before .before .loop .at + row (start k) ≤ start k .args .count
 within k = let a = start k in left-within (cells a) (a .args .count) (row a) (k .before .before .loop .at) (k .before .before .loop .inv .geo) (k .before .loop-test .taken)
 
 sub-last : tie.Need-sub-last Inv-loop μ-loop
-sub-last c = let a = c .before .before .before .before in omega (arith, asked-lengths _ _ _ _ (a .pre .0))
+sub-last c = let a = c .before .before .before .before in omega (arith, asked-lengths (a .pre .0))
 
 mul-n : tie.Need-mul-n Inv-loop μ-loop
 mul-n c = omega arith
 
 shared-slice-read-n : tie.Need-shared-slice-read-n Inv-loop μ-loop
-shared-slice-read-n c = let a = c .before .before .before .before .before in omega (arith, asked-lengths _ _ _ _ (a .pre .0))
+shared-slice-read-n c = let a = c .before .before .before .before .before in omega (arith, asked-lengths (a .pre .0))
 
 loop-holds : tie.Need-loop-holds Inv-loop μ-loop
-loop-holds c = let a = c .before .before .before .before .before in counting-begins (off a) (cells a) (a .args .count) (row a) (asked-left _ _ _ _ (a .pre .0))
+loop-holds c = let a = c .before .before .before .before .before in counting-begins (off a) (cells a) (a .args .count) (row a) (asked-left (a .pre .0))
 
 cell-at-requires : tie.Need-cell-at-requires Inv-loop μ-loop
 cell-at-requires c κs =
@@ -114,7 +114,7 @@ add-total : tie.Need-add-total Inv-loop μ-loop
 add-total c = let k = c .before .before in omega (arith, counted k .same, small (start k))
 
 add-at : tie.Need-add-at Inv-loop μ-loop
-add-at c = let k = c .before .before in omega (arith, within k, asked-few _ _ _ _ (start k .pre .0))
+add-at c = let k = c .before .before in omega (arith, within k, asked-few (start k .pre .0))
 
 loop-less : tie.Need-loop-less Inv-loop μ-loop
 loop-less c =
@@ -130,7 +130,7 @@ returns : tie.Need-returns Inv-loop μ-loop
 returns c =
     let l = c .before in
     let a = l .before .before .before .before .before .before in
-    counting-ends (off a) (cells a) (a .args .count) (row a) (l .loop .at) (l .loop .total) (l .loop .inv) (c .loop-test .left)
+    counting-ends (l .loop .inv) (c .loop-test .left)
 
 pub count-bytes-spec : {M : Type 1} → statement M
 count-bytes-spec =

@@ -40,13 +40,13 @@ above i =
     let a = start i in
     let j = i .before .loop .i in
     let q : a .args .first + (j + 1) ≡ a .args .first + j + 1 = omega arith in
-    omega (arith, run-rises (off a) (a .args .first + a .args .n) (a .pre .1 .rises) (a .args .first) (j + 1) (omega (arith, i .loop-test .taken)), ap (off a) q)
+    omega (arith, run-rises (a .pre .1 .rises) (a .args .first) (j + 1) (omega (arith, i .loop-test .taken)), ap (off a) q)
 
 few : (i : Inside) → off (start i) (start i .args .first + i .before .loop .i + 1) ≤ off (start i) (start i .args .first + start i .args .n)
 few i =
     let a = start i in
     let j = i .before .loop .i in
-    run-below (off a) (a .args .first + a .args .n) (a .pre .1 .rises) (a .args .first + j) 1 (omega (arith, i .loop-test .taken))
+    run-below (a .pre .1 .rises) (a .args .first + j) 1 (omega (arith, i .loop-test .taken))
 
 room : (i : Inside) → start i .args .to + i .before .loop .i < length (i .before .loop .out)
 room i =
@@ -106,7 +106,6 @@ loop-again c =
     let a = start i in
     let j = i .before .loop .i in
     images-more (ended a) (a .args .out .now) (a .args .to) (a .args .first) (a .args .n) (i .before .loop .out) j (i .before .loop .inv) (i .loop-test .taken)
-    (a .args .total + (off a (a .args .first + j + 1) - off a (a .args .first)))
     (ap (λ (x : ℕ). a .args .total + (off a x - off a (a .args .first))) (add-one (a .args .first + j)))
 
 same-length : tie.Need-same-length Inv-loop μ-loop

@@ -28,24 +28,24 @@ Asked s l =
     × (wordTest (s .args .size) ≡ true) × (s .args .cells * s .args .size ≤ length (s .args .s .now))
     × (s .args .to + length (pieces s l) ≤ length (s .args .out .now))
 
-asked : (s : tie.Start) (l : ℕ) → s .args .level ≡ l → Asked s l
-asked s l e = subst (Asked s) e (s .pre)
+asked : (s : tie.Start) {l : ℕ} → s .args .level ≡ l → Asked s l
+asked s e = subst (Asked s) e (s .pre)
 
-given : (s : tie.Start) (l : ℕ) → s .args .level ≡ l → {o : List ℕ} → o ≡ overAt (s .args .to) (pieces s l) (s .args .out .now)
+given : (s : tie.Start) {l : ℕ} → s .args .level ≡ l → {o : List ℕ} → o ≡ overAt (s .args .to) (pieces s l) (s .args .out .now)
     → o ≡ overAt (s .args .to) (pieces s (s .args .level)) (s .args .out .now)
-given s l e q = q ∙ ap (λ (k : ℕ). overAt (s .args .to) (pieces s k) (s .args .out .now)) (sym e)
+given s {l = l} e q = q ∙ ap (λ (k : ℕ). overAt (s .args .to) (pieces s k) (s .args .out .now)) (sym e)
 
 put-live-words-requires : tie.Need-put-live-words-requires
-put-live-words-requires c κs = asked (start (c .before .before)) 1 (c .before .match .keys1)
+put-live-words-requires c κs = asked (start (c .before .before)) (c .before .match .keys1)
 
 put-live-words-requires-2 : tie.Need-put-live-words-requires-2
-put-live-words-requires-2 c κs = asked (start (c .before .before)) 2 (c .before .match .keys2)
+put-live-words-requires-2 c κs = asked (start (c .before .before)) (c .before .match .keys2)
 
 put-live-words-requires-3 : tie.Need-put-live-words-requires-3
-put-live-words-requires-3 c κs = asked (start (c .before .before)) 3 (c .before .match .keys3)
+put-live-words-requires-3 c κs = asked (start (c .before .before)) (c .before .match .keys3)
 
 put-live-words-requires-4 : tie.Need-put-live-words-requires-4
-put-live-words-requires-4 c κs = asked (start (c .before .before)) 4 (c .before .match .keys4)
+put-live-words-requires-4 c κs = asked (start (c .before .before)) (c .before .match .keys4)
 
 put-live-words-requires-5 : tie.Need-put-live-words-requires-5
 put-live-words-requires-5 c κs = search needs
@@ -54,25 +54,25 @@ same-length : tie.Need-same-length
 same-length c = search needs
 
 returns : tie.Need-returns
-returns c = let m = c .before .before .before .before in given (start (m .before)) 1 (m .match .keys1) (c .before .before .put-live-words .ensures)
+returns c = let m = c .before .before .before .before in given (start (m .before)) (m .match .keys1) (c .before .before .put-live-words .ensures)
 
 same-length-2 : tie.Need-same-length-2
 same-length-2 c = search needs
 
 returns-2 : tie.Need-returns-2
-returns-2 c = let m = c .before .before .before .before in given (start (m .before)) 2 (m .match .keys2) (c .before .before .put-live-words2 .ensures)
+returns-2 c = let m = c .before .before .before .before in given (start (m .before)) (m .match .keys2) (c .before .before .put-live-words2 .ensures)
 
 same-length-3 : tie.Need-same-length-3
 same-length-3 c = search needs
 
 returns-3 : tie.Need-returns-3
-returns-3 c = let m = c .before .before .before .before in given (start (m .before)) 3 (m .match .keys3) (c .before .before .put-live-words3 .ensures)
+returns-3 c = let m = c .before .before .before .before in given (start (m .before)) (m .match .keys3) (c .before .before .put-live-words3 .ensures)
 
 same-length-4 : tie.Need-same-length-4
 same-length-4 c = search needs
 
 returns-4 : tie.Need-returns-4
-returns-4 c = let m = c .before .before .before .before in given (start (m .before)) 4 (m .match .keys4) (c .before .before .put-live-words4 .ensures)
+returns-4 c = let m = c .before .before .before .before in given (start (m .before)) (m .match .keys4) (c .before .before .put-live-words4 .ensures)
 
 same-length-5 : tie.Need-same-length-5
 same-length-5 c = search needs

@@ -26,42 +26,42 @@ abbrev pieces : tie.Start → ℕ → List ℕ
 pieces s k = piecesAt (orderOf (s .args .order)) k (s .args .s .now) (liveAt (s .args .cells) (s .args .masks .now) (s .args .level))
 
 -- the room that the loop of size k asks, and what it gives
-room : (s : tie.Start) (k : ℕ) → s .args .size ≡ k → (s .args .cells * k ≤ length (s .args .s .now)) × (s .args .to + length (pieces s k) ≤ length (s .args .out .now))
-room s k e = subst (λ (j : ℕ). (s .args .cells * j ≤ length (s .args .s .now)) × (s .args .to + length (pieces s j) ≤ length (s .args .out .now))) e (s .pre .2, s .pre .3)
+room : (s : tie.Start) {k : ℕ} → s .args .size ≡ k → (s .args .cells * k ≤ length (s .args .s .now)) × (s .args .to + length (pieces s k) ≤ length (s .args .out .now))
+room s e = subst (λ (j : ℕ). (s .args .cells * j ≤ length (s .args .s .now)) × (s .args .to + length (pieces s j) ≤ length (s .args .out .now))) e (s .pre .2, s .pre .3)
 
-given : (s : tie.Start) (k : ℕ) → s .args .size ≡ k → {o : List ℕ} → o ≡ overAt (s .args .to) (pieces s k) (s .args .out .now)
+given : (s : tie.Start) {k : ℕ} → s .args .size ≡ k → {o : List ℕ} → o ≡ overAt (s .args .to) (pieces s k) (s .args .out .now)
     → o ≡ overAt (s .args .to) (pieces s (s .args .size)) (s .args .out .now)
-given s k e q = q ∙ ap (λ (j : ℕ). overAt (s .args .to) (pieces s j) (s .args .out .now)) (sym e)
+given s {k = k} e q = q ∙ ap (λ (j : ℕ). overAt (s .args .to) (pieces s j) (s .args .out .now)) (sym e)
 
 copy-cells-requires : tie.Need-copy-cells-requires
 copy-cells-requires c κs =
     let s = whole (c .before) in
     let a = s .args in
-    let long = all-long (orderOf (a .order)) (a .size) (a .s .now) (liveTest (a .cells) (a .masks .now) (a .level)) (a .cells) (s .pre .2) (s .pre .1) (c .before .if1 .taken) in
+    let long = all-long (orderOf (a .order)) (a .size) (a .s .now) (liveTest (a .cells) (a .masks .now) (a .level)) (s .pre .2) (s .pre .1) (c .before .if1 .taken) in
     (omega (arith, s .pre .3, long), omega (arith, s .pre .2))
 
 put-level-words-requires : tie.Need-put-level-words-requires
 put-level-words-requires c κs =
     let s = parted (c .before .before) in
-    let r = room s 1 (c .before .match .keys1) in
+    let r = room s (c .before .match .keys1) in
     (s .pre .0, s .pre .1, refl, r .0, r .1)
 
 put-level-words-requires-2 : tie.Need-put-level-words-requires-2
 put-level-words-requires-2 c κs =
     let s = parted (c .before .before) in
-    let r = room s 2 (c .before .match .keys2) in
+    let r = room s (c .before .match .keys2) in
     (s .pre .0, s .pre .1, refl, r .0, r .1)
 
 put-level-words-requires-3 : tie.Need-put-level-words-requires-3
 put-level-words-requires-3 c κs =
     let s = parted (c .before .before) in
-    let r = room s 4 (c .before .match .keys3) in
+    let r = room s (c .before .match .keys3) in
     (s .pre .0, s .pre .1, refl, r .0, r .1)
 
 put-level-words-requires-4 : tie.Need-put-level-words-requires-4
 put-level-words-requires-4 c κs =
     let s = parted (c .before .before) in
-    let r = room s 8 (c .before .match .keys4) in
+    let r = room s (c .before .match .keys4) in
     (s .pre .0, s .pre .1, refl, r .0, r .1)
 
 put-live-runs-requires : tie.Need-put-live-runs-requires
@@ -76,31 +76,31 @@ returns c =
     let s = whole t in
     let a = s .args in
     laid-as (a .to) (a .out .now) (c .before .before .copy-cells .ensures)
-    (all-pieces (orderOf (a .order)) (a .size) (a .s .now) (liveTest (a .cells) (a .masks .now) (a .level)) (a .cells) (s .pre .1) (t .if1 .taken))
+    (all-pieces (orderOf (a .order)) (a .size) (a .s .now) (liveTest (a .cells) (a .masks .now) (a .level)) (s .pre .1) (t .if1 .taken))
 
 same-length-2 : tie.Need-same-length-2
 same-length-2 c = search needs
 
 returns-2 : tie.Need-returns-2
-returns-2 c = let m = c .before .before .before .before in given (parted (m .before)) 1 (m .match .keys1) (c .before .before .put-level-words .ensures)
+returns-2 c = let m = c .before .before .before .before in given (parted (m .before)) (m .match .keys1) (c .before .before .put-level-words .ensures)
 
 same-length-3 : tie.Need-same-length-3
 same-length-3 c = search needs
 
 returns-3 : tie.Need-returns-3
-returns-3 c = let m = c .before .before .before .before in given (parted (m .before)) 2 (m .match .keys2) (c .before .before .put-level-words2 .ensures)
+returns-3 c = let m = c .before .before .before .before in given (parted (m .before)) (m .match .keys2) (c .before .before .put-level-words2 .ensures)
 
 same-length-4 : tie.Need-same-length-4
 same-length-4 c = search needs
 
 returns-4 : tie.Need-returns-4
-returns-4 c = let m = c .before .before .before .before in given (parted (m .before)) 4 (m .match .keys3) (c .before .before .put-level-words3 .ensures)
+returns-4 c = let m = c .before .before .before .before in given (parted (m .before)) (m .match .keys3) (c .before .before .put-level-words3 .ensures)
 
 same-length-5 : tie.Need-same-length-5
 same-length-5 c = search needs
 
 returns-5 : tie.Need-returns-5
-returns-5 c = let m = c .before .before .before .before in given (parted (m .before)) 8 (m .match .keys4) (c .before .before .put-level-words4 .ensures)
+returns-5 c = let m = c .before .before .before .before in given (parted (m .before)) (m .match .keys4) (c .before .before .put-level-words4 .ensures)
 
 same-length-6 : tie.Need-same-length-6
 same-length-6 c = search needs

@@ -16,18 +16,18 @@ use Rattle.gather.proofs.cells.put_mask.Statement.{statement}
 use Rattle.gather.proofs.cells.put_mask.Tie as tie
 
 -- what the loop of level l asks, and gives
-asked : (s : tie.Start) (l : ℕ) → s .args .level ≡ l
+asked : (s : tie.Start) {l : ℕ} → s .args .level ≡ l
     → Planes (s .args .cells) (s .args .masks .now) (l + 1) × (s .args .count ≡ length (liveAt (s .args .cells) (s .args .masks .now) l))
     × (s .args .to + maskForm (masksOf (s .args .form)) .size (s .args .count) ≤ length (s .args .out .now))
-asked s l e =
+asked s e =
     let a = s .args in
     (subst (λ (k : ℕ). Planes (a .cells) (a .masks .now) (k + 1)) e (s .pre .0), s .pre .1 ∙ ap (λ (k : ℕ). length (liveAt (a .cells) (a .masks .now) k)) e, s .pre .2)
 
 abbrev laid : tie.Start → ℕ → List ℕ
 laid s l = overAt (s .args .to) (liveMask (masksOf (s .args .form)) (s .args .cells) (s .args .masks .now) l) (s .args .out .now)
 
-given : (s : tie.Start) (l : ℕ) → s .args .level ≡ l → {o : List ℕ} → o ≡ laid s l → o ≡ laid s (s .args .level)
-given s l e q = q ∙ ap (laid s) (sym e)
+given : (s : tie.Start) {l : ℕ} → s .args .level ≡ l → {o : List ℕ} → o ≡ laid s l → o ≡ laid s (s .args .level)
+given s {l = l} e q = q ∙ ap (laid s) (sym e)
 
 abbrev whole : tie.Then1 → tie.Start
 whole c = c .before .before .before
@@ -45,13 +45,13 @@ put-plane-requires c κs =
     (omega (arith, ap (maskForm x .size) (c .before .if1 .taken), s .pre .2), omega (arith, mask-plane (s .args .level) (s .pre .0)))
 
 put-live-mask-requires : tie.Need-put-live-mask-requires
-put-live-mask-requires c κs = asked (parted (c .before .before)) 1 (c .before .match .keys1)
+put-live-mask-requires c κs = asked (parted (c .before .before)) (c .before .match .keys1)
 
 put-live-mask-requires-2 : tie.Need-put-live-mask-requires-2
-put-live-mask-requires-2 c κs = asked (parted (c .before .before)) 2 (c .before .match .keys2)
+put-live-mask-requires-2 c κs = asked (parted (c .before .before)) (c .before .match .keys2)
 
 put-live-mask-requires-3 : tie.Need-put-live-mask-requires-3
-put-live-mask-requires-3 c κs = asked (parted (c .before .before)) 3 (c .before .match .keys3)
+put-live-mask-requires-3 c κs = asked (parted (c .before .before)) (c .before .match .keys3)
 
 put-live-mask-requires-4 : tie.Need-put-live-mask-requires-4
 put-live-mask-requires-4 c κs = search needs
@@ -70,19 +70,19 @@ same-length-2 : tie.Need-same-length-2
 same-length-2 c = search needs
 
 returns-2 : tie.Need-returns-2
-returns-2 c = let m = c .before .before .before .before in given (parted (m .before)) 1 (m .match .keys1) (c .before .before .put-live-mask .ensures)
+returns-2 c = let m = c .before .before .before .before in given (parted (m .before)) (m .match .keys1) (c .before .before .put-live-mask .ensures)
 
 same-length-3 : tie.Need-same-length-3
 same-length-3 c = search needs
 
 returns-3 : tie.Need-returns-3
-returns-3 c = let m = c .before .before .before .before in given (parted (m .before)) 2 (m .match .keys2) (c .before .before .put-live-mask2 .ensures)
+returns-3 c = let m = c .before .before .before .before in given (parted (m .before)) (m .match .keys2) (c .before .before .put-live-mask2 .ensures)
 
 same-length-4 : tie.Need-same-length-4
 same-length-4 c = search needs
 
 returns-4 : tie.Need-returns-4
-returns-4 c = let m = c .before .before .before .before in given (parted (m .before)) 3 (m .match .keys3) (c .before .before .put-live-mask3 .ensures)
+returns-4 c = let m = c .before .before .before .before in given (parted (m .before)) (m .match .keys3) (c .before .before .put-live-mask3 .ensures)
 
 same-length-5 : tie.Need-same-length-5
 same-length-5 c = search needs

@@ -25,12 +25,12 @@ count-blocks-requires : tie.Need-count-blocks-requires
 count-blocks-requires c κs = c .before .before .pre
 
 returns : tie.Need-returns
-returns c = let a = c .before .before .args in count-all (a .cells) (a .masks .now) (a .level) (c .match .keys1)
+returns c = let a = c .before .before .args in count-all (a .cells) (a .masks .now) (c .match .keys1)
 
 returns-2 : tie.Need-returns-2
 returns-2 c =
     let a = c .before .before .before .before .args in
-    c .count-set .ensures ∙ count-one (a .cells) (a .masks .now) (a .level) (c .before .before .match .keys2) (c .before .before .before .before .pre .planes)
+    c .count-set .ensures ∙ count-one (a .cells) (a .masks .now) (c .before .before .match .keys2) (c .before .before .before .before .pre .planes)
 
 returns-3 : tie.Need-returns-3
 returns-3 c = c .count-blocks .ensures

@@ -16,27 +16,27 @@ use Rattle.gather_ragged.proofs.data.put_level_runs.Tie as tie
 abbrev slices : tie.Start → ℕ → List ℕ
 slices c l = slicesAt (c .args .offsets .now) (c .args .values .now) (liveAt (c .args .cells) (c .args .masks .now) l)
 
-asked : (c : tie.Start) (l : ℕ) → c .args .level ≡ l
+asked : (c : tie.Start) {l : ℕ} → c .args .level ≡ l
     → Planes (c .args .cells) (c .args .masks .now) l × Offsets (c .args .cells) (c .args .offsets .now) × (last (c .args .offsets .now) ≡ length (c .args .values .now))
     × (c .args .to + length (slices c l) ≤ length (c .args .out .now))
-asked c l e =
+asked c e =
     (subst (Planes (c .args .cells) (c .args .masks .now)) e (c .pre .0), c .pre .1, c .pre .2, subst (λ (k : ℕ). c .args .to + length (slices c k) ≤ length (c .args .out .now)) e (c .pre .3))
 
-given : (c : tie.Start) (l : ℕ) → c .args .level ≡ l → {r : ℕ} {o : List ℕ} → r ≡ length (slices c l) → o ≡ overAt (c .args .to) (slices c l) (c .args .out .now)
+given : (c : tie.Start) {l : ℕ} → c .args .level ≡ l → {r : ℕ} {o : List ℕ} → r ≡ length (slices c l) → o ≡ overAt (c .args .to) (slices c l) (c .args .out .now)
     → (r ≡ length (slices c (c .args .level))) × (o ≡ overAt (c .args .to) (slices c (c .args .level)) (c .args .out .now))
-given c l e p q = (p ∙ ap (λ (k : ℕ). length (slices c k)) (sym e), q ∙ ap (λ (k : ℕ). overAt (c .args .to) (slices c k) (c .args .out .now)) (sym e))
+given c {l = l} e p q = (p ∙ ap (λ (k : ℕ). length (slices c k)) (sym e), q ∙ ap (λ (k : ℕ). overAt (c .args .to) (slices c k) (c .args .out .now)) (sym e))
 
 put-live-runs-requires : tie.Need-put-live-runs-requires
-put-live-runs-requires c κs = asked (c .before .before .before .before .before .before) 1 (c .before .match .keys1)
+put-live-runs-requires c κs = asked (c .before .before .before .before .before .before) (c .before .match .keys1)
 
 put-live-runs-requires-2 : tie.Need-put-live-runs-requires-2
-put-live-runs-requires-2 c κs = asked (c .before .before .before .before .before .before) 2 (c .before .match .keys2)
+put-live-runs-requires-2 c κs = asked (c .before .before .before .before .before .before) (c .before .match .keys2)
 
 put-live-runs-requires-3 : tie.Need-put-live-runs-requires-3
-put-live-runs-requires-3 c κs = asked (c .before .before .before .before .before .before) 3 (c .before .match .keys3)
+put-live-runs-requires-3 c κs = asked (c .before .before .before .before .before .before) (c .before .match .keys3)
 
 put-live-runs-requires-4 : tie.Need-put-live-runs-requires-4
-put-live-runs-requires-4 c κs = asked (c .before .before .before .before .before .before) 4 (c .before .match .keys4)
+put-live-runs-requires-4 c κs = asked (c .before .before .before .before .before .before) (c .before .match .keys4)
 
 put-live-runs-requires-5 : tie.Need-put-live-runs-requires-5
 put-live-runs-requires-5 c κs = search needs
@@ -46,7 +46,7 @@ same-length c = search needs
 
 returns : tie.Need-returns
 returns c =
-    given (c .before .before .before .before .before .before .before .before .before) 1 (c .before .before .before .before .match .keys1) (c .before .before .put-live-runs .ensures .0)
+    given (c .before .before .before .before .before .before .before .before .before) (c .before .before .before .before .match .keys1) (c .before .before .put-live-runs .ensures .0)
     (c .before .before .put-live-runs .ensures .1)
 
 same-length-2 : tie.Need-same-length-2
@@ -54,7 +54,7 @@ same-length-2 c = search needs
 
 returns-2 : tie.Need-returns-2
 returns-2 c =
-    given (c .before .before .before .before .before .before .before .before .before) 2 (c .before .before .before .before .match .keys2)
+    given (c .before .before .before .before .before .before .before .before .before) (c .before .before .before .before .match .keys2)
     (c .before .before .put-live-runs2 .ensures .0) (c .before .before .put-live-runs2 .ensures .1)
 
 same-length-3 : tie.Need-same-length-3
@@ -62,7 +62,7 @@ same-length-3 c = search needs
 
 returns-3 : tie.Need-returns-3
 returns-3 c =
-    given (c .before .before .before .before .before .before .before .before .before) 3 (c .before .before .before .before .match .keys3)
+    given (c .before .before .before .before .before .before .before .before .before) (c .before .before .before .before .match .keys3)
     (c .before .before .put-live-runs3 .ensures .0) (c .before .before .put-live-runs3 .ensures .1)
 
 same-length-4 : tie.Need-same-length-4
@@ -70,7 +70,7 @@ same-length-4 c = search needs
 
 returns-4 : tie.Need-returns-4
 returns-4 c =
-    given (c .before .before .before .before .before .before .before .before .before) 4 (c .before .before .before .before .match .keys4)
+    given (c .before .before .before .before .before .before .before .before .before) (c .before .before .before .before .match .keys4)
     (c .before .before .put-live-runs4 .ensures .0) (c .before .before .put-live-runs4 .ensures .1)
 
 same-length-5 : tie.Need-same-length-5

@@ -17,30 +17,30 @@ use Rattle.gather_ragged.proofs.index.put_live_ends.Tie as tie
 abbrev ends : tie.Start → ℕ → List ℕ
 ends c l = indexOf (widthOf (c .args .width)) (endsAt (c .args .offsets .now) 0 (liveAt (c .args .cells) (c .args .masks .now) l))
 
-asked : (c : tie.Start) (l : ℕ) → c .args .level ≡ l
+asked : (c : tie.Start) {l : ℕ} → c .args .level ≡ l
     → Planes (c .args .cells) (c .args .masks .now) l × (c .args .count ≡ length (liveAt (c .args .cells) (c .args .masks .now) l)) × Offsets (c .args .cells) (c .args .offsets .now)
     × (c .args .to + length (ends c l) ≤ length (c .args .out .now))
-asked c l e = (
+asked c e = (
   subst (Planes (c .args .cells) (c .args .masks .now)) e (c .pre .0),
   c .pre .1 ∙ ap (λ (k : ℕ). length (liveAt (c .args .cells) (c .args .masks .now) k)) e,
   c .pre .2,
   subst (λ (k : ℕ). c .args .to + length (ends c k) ≤ length (c .args .out .now)) e (c .pre .3),
 )
 
-given : (c : tie.Start) (l : ℕ) → c .args .level ≡ l → {o : List ℕ} → o ≡ overAt (c .args .to) (ends c l) (c .args .out .now) → o ≡ overAt (c .args .to) (ends c (c .args .level)) (c .args .out .now)
-given c l e q = q ∙ ap (λ (k : ℕ). overAt (c .args .to) (ends c k) (c .args .out .now)) (sym e)
+given : (c : tie.Start) {l : ℕ} → c .args .level ≡ l → {o : List ℕ} → o ≡ overAt (c .args .to) (ends c l) (c .args .out .now) → o ≡ overAt (c .args .to) (ends c (c .args .level)) (c .args .out .now)
+given c {l = l} e q = q ∙ ap (λ (k : ℕ). overAt (c .args .to) (ends c k) (c .args .out .now)) (sym e)
 
 put-marked-ends-requires : tie.Need-put-marked-ends-requires
-put-marked-ends-requires c κs = asked (c .before .before .before .before .before) 1 (c .before .match .keys1)
+put-marked-ends-requires c κs = asked (c .before .before .before .before .before) (c .before .match .keys1)
 
 put-marked-ends-requires-2 : tie.Need-put-marked-ends-requires-2
-put-marked-ends-requires-2 c κs = asked (c .before .before .before .before .before) 2 (c .before .match .keys2)
+put-marked-ends-requires-2 c κs = asked (c .before .before .before .before .before) (c .before .match .keys2)
 
 put-marked-ends-requires-3 : tie.Need-put-marked-ends-requires-3
-put-marked-ends-requires-3 c κs = asked (c .before .before .before .before .before) 3 (c .before .match .keys3)
+put-marked-ends-requires-3 c κs = asked (c .before .before .before .before .before) (c .before .match .keys3)
 
 put-marked-ends-requires-4 : tie.Need-put-marked-ends-requires-4
-put-marked-ends-requires-4 c κs = asked (c .before .before .before .before .before) 4 (c .before .match .keys4)
+put-marked-ends-requires-4 c κs = asked (c .before .before .before .before .before) (c .before .match .keys4)
 
 put-marked-ends-requires-5 : tie.Need-put-marked-ends-requires-5
 put-marked-ends-requires-5 c κs = search needs
@@ -49,25 +49,25 @@ same-length : tie.Need-same-length
 same-length c = search needs
 
 returns : tie.Need-returns
-returns c = given (c .before .before .before .before .before .before .before .before) 1 (c .before .before .before .before .match .keys1) (c .before .before .put-marked-ends .ensures)
+returns c = given (c .before .before .before .before .before .before .before .before) (c .before .before .before .before .match .keys1) (c .before .before .put-marked-ends .ensures)
 
 same-length-2 : tie.Need-same-length-2
 same-length-2 c = search needs
 
 returns-2 : tie.Need-returns-2
-returns-2 c = given (c .before .before .before .before .before .before .before .before) 2 (c .before .before .before .before .match .keys2) (c .before .before .put-marked-ends2 .ensures)
+returns-2 c = given (c .before .before .before .before .before .before .before .before) (c .before .before .before .before .match .keys2) (c .before .before .put-marked-ends2 .ensures)
 
 same-length-3 : tie.Need-same-length-3
 same-length-3 c = search needs
 
 returns-3 : tie.Need-returns-3
-returns-3 c = given (c .before .before .before .before .before .before .before .before) 3 (c .before .before .before .before .match .keys3) (c .before .before .put-marked-ends3 .ensures)
+returns-3 c = given (c .before .before .before .before .before .before .before .before) (c .before .before .before .before .match .keys3) (c .before .before .put-marked-ends3 .ensures)
 
 same-length-4 : tie.Need-same-length-4
 same-length-4 c = search needs
 
 returns-4 : tie.Need-returns-4
-returns-4 c = given (c .before .before .before .before .before .before .before .before) 4 (c .before .before .before .before .match .keys4) (c .before .before .put-marked-ends4 .ensures)
+returns-4 c = given (c .before .before .before .before .before .before .before .before) (c .before .before .before .before .match .keys4) (c .before .before .put-marked-ends4 .ensures)
 
 same-length-5 : tie.Need-same-length-5
 same-length-5 c = search needs

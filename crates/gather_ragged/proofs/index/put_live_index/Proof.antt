@@ -69,7 +69,7 @@ returns-2 c =
     let w = c .before .before .before .before in
     let s = some w in
     let a = s .args in
-    index-laid (widthOf (a .width)) (a .to) (endsAt (a .offsets .now) 0 (liveAt (a .cells) (a .masks .now) (a .level))) (a .out .now) (s .pre .3) (w .width-bytes .ensures)
+    index-laid (a .to) (endsAt (a .offsets .now) 0 (liveAt (a .cells) (a .masks .now) (a .level))) (a .out .now) (s .pre .3) (w .width-bytes .ensures)
     (w .before .before .before .put-offset .ensures) (c .before .before .put-live-ends .ensures)
 
 pub put-live-index-spec : {M : Type 1} → statement M

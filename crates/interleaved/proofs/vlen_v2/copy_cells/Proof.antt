@@ -27,7 +27,7 @@ room : (c : tie.After-le4-at Inv-loop μ-loop) → let start = c .before .before
     (c .before .before .loop .to ≤ start .args .sum) × (c .le4-at .result ≤ start .args .sum - c .before .before .loop .to)
 room c =
     let start = c .before .before .before .before .before .before in
-    copy-fits (c .before .before .loop .inv) (c .before .loop-test .taken) (c .le4-at .result) (c .le4-at .ensures) (start .args .sum) (start .pre .1)
+    copy-fits (c .before .before .loop .inv) (c .before .loop-test .taken) (c .le4-at .result) (c .le4-at .ensures) (start .pre .1)
 
 loop-holds : tie.Need-loop-holds Inv-loop μ-loop
 loop-holds c =
@@ -59,7 +59,7 @@ copy-cell-requires c κs =
       c .before .if1 .taken,
       room read .1,
       omega (arith, room read, start .pre .2, read .before .before .loop .inv .placed .same),
-      copy-source (read .before .before .loop .inv) (read .before .loop-test .taken) (read .le4-at .result) (read .le4-at .ensures) (start .args .sum) (start .pre .1),
+      copy-source (read .before .before .loop .inv) (read .before .loop-test .taken) (read .le4-at .result) (read .le4-at .ensures) (start .pre .1),
     )
 
 add-at-2 : tie.Need-add-at-2 Inv-loop μ-loop
@@ -75,7 +75,7 @@ loop-again : tie.Need-loop-again Inv-loop μ-loop
 loop-again c =
     let read = c .before .before .before .before .before in
     let start = read .before .before .before .before .before .before in
-    copy-more (read .before .before .loop .inv) (read .before .loop-test .taken) (read .le4-at .result) (read .le4-at .ensures) (start .args .sum) (start .pre .1) _
+    copy-more (read .before .before .loop .inv) (read .before .loop-test .taken) (read .le4-at .result) (read .le4-at .ensures) (start .pre .1)
     (c .before .before .copy-cell .ensures)
 
 loop-less-2 : tie.Need-loop-less-2 Inv-loop μ-loop

@@ -58,7 +58,7 @@ sub-if3 c = omega (arith, read (c .before .before))
 returns-2 : tie.Need-returns-2 Inv-loop μ-loop
 returns-2 c =
     let turn = c .before .before .before .before .before .before .before in
-    walk-cell-past (turn .before .loop .inv) (turn .loop-test .taken) (read (c .before .before .before) .0) (turn .before .loop .last) (same (c .before)) (c .if3 .taken)
+    walk-cell-past (turn .before .loop .inv) (turn .loop-test .taken) (read (c .before .before .before) .0) (same (c .before)) (c .if3 .taken)
 
 add-at-2 : tie.Need-add-at-2 Inv-loop μ-loop
 add-at-2 c = omega (arith, read (c .before .before .before))
@@ -72,7 +72,7 @@ loop-less c = omega arith
 loop-again : tie.Need-loop-again Inv-loop μ-loop
 loop-again c =
     let turn = c .before .before .before .before .before .before .before in
-    walk-more (turn .before .loop .inv) (turn .loop-test .taken) (read (c .before .before .before) .0) (turn .before .loop .last) (same (c .before)) (c .if3 .left)
+    walk-more (turn .before .loop .inv) (turn .loop-test .taken) (read (c .before .before .before) .0) (same (c .before)) (c .if3 .left)
 
 sub-if4 : tie.Need-sub-if4 Inv-loop μ-loop
 sub-if4 c = omega (arith, read (c .before .before))
@@ -81,7 +81,7 @@ returns-3 : tie.Need-returns-3 Inv-loop μ-loop
 returns-3 c =
     let told = c .before .before .before in
     let turn = told .before .before .before .before in
-    walk-cell-past (turn .before .loop .inv) (turn .loop-test .taken) (read told .0) (told .before .field .given .0 .0) (read told .1) (c .if4 .taken)
+    walk-cell-past (turn .before .loop .inv) (turn .loop-test .taken) (read told .0) (read told .1) (c .if4 .taken)
 
 add-at-3 : tie.Need-add-at-3 Inv-loop μ-loop
 add-at-3 c = omega (arith, read (c .before .before .before))
@@ -96,7 +96,7 @@ loop-again-2 : tie.Need-loop-again-2 Inv-loop μ-loop
 loop-again-2 c =
     let told = c .before .before .before in
     let turn = told .before .before .before .before in
-    walk-more (turn .before .loop .inv) (turn .loop-test .taken) (read told .0) (told .before .field .given .0 .0) (read told .1) (c .if4 .left)
+    walk-more (turn .before .loop .inv) (turn .loop-test .taken) (read told .0) (read told .1) (c .if4 .left)
 
 loop-less-3 : tie.Need-loop-less-3 Inv-loop μ-loop
 loop-less-3 c = omega arith
@@ -105,7 +105,7 @@ loop-again-3 : tie.Need-loop-again-3 Inv-loop μ-loop
 loop-again-3 c =
     let told = c .before in
     let turn = told .before .before .before .before in
-    walk-none (turn .before .loop .inv) (turn .loop-test .taken) (read told .0) (told .before .field .given .0 .0) (read told .1) (c .if1 .left)
+    walk-none (turn .before .loop .inv) (turn .loop-test .taken) (read told .0) (read told .1) (c .if1 .left)
 
 returns-4 : tie.Need-returns-4 Inv-loop μ-loop
 returns-4 c = walk-ends (c .before .loop .inv) (c .loop-test .left)

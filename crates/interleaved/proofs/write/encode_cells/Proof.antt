@@ -30,13 +30,13 @@ write-cells-requires : tie.Need-write-cells-requires
 write-cells-requires c κs =
     let k = c .before .before .before in
     let s = start k in
-    write-held (kindOf (s .args .kind)) (s .args .cells) (content s) (s .args .out .now) (k .check-array .result) (k .check-array .ensures) (s .pre .0) (c .before .enum-told .given .1) (s .pre .1)
+    write-held (kindOf (s .args .kind)) (s .args .cells) (content s) (s .args .out .now) (k .check-array .ensures) (s .pre .0) (c .before .enum-told .given .1) (s .pre .1)
 
 returns : tie.Need-returns
 returns c =
     let k = c .before .before .before in
     let s = start k in
-    write-content (kindOf (s .args .kind)) (s .args .cells) (content s) (s .args .out .now) (k .check-array .result) (k .check-array .ensures) (c .before .checked .given .1)
+    write-content (kindOf (s .args .kind)) (s .args .cells) (content s) (s .args .out .now) (k .check-array .ensures) (c .before .checked .given .1)
 
 same-length : tie.Need-same-length
 same-length c = search needs
@@ -47,7 +47,7 @@ returns-2 c =
     let k = told .before .before in
     let s = start k in
     c .before .before .write-cells .ensures
-    ∙ write-rest (kindOf (s .args .kind)) (s .args .cells) (content s) (s .args .out .now) (k .check-array .result) (k .check-array .ensures) (s .pre .0) (told .enum-told .given .1)
+    ∙ write-rest (kindOf (s .args .kind)) (s .args .cells) (content s) (s .args .out .now) (k .check-array .ensures) (s .pre .0) (told .enum-told .given .1)
 
 pub encode-cells-spec : {M : Type 1} → statement M
 encode-cells-spec =

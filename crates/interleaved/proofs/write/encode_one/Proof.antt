@@ -40,7 +40,7 @@ unfolding mostCells
 held told =
     let k = told .before .before in
     let s = start k in
-    write-held (kindOf (s .args .kind)) 1 (content s) (s .args .out .now) (k .check-array .result) (k .check-array .ensures) (s .pre) (told .enum-told .given .1) (omega arith)
+    write-held (kindOf (s .args .kind)) 1 (content s) (s .args .out .now) (k .check-array .ensures) (s .pre) (told .enum-told .given .1) (omega arith)
 
 write-one-requires : tie.Need-write-one-requires
 write-one-requires c κs = held (c .before) .small
@@ -49,7 +49,7 @@ returns : tie.Need-returns
 returns c =
     let k = c .before .before .before in
     let s = start k in
-    write-content (kindOf (s .args .kind)) 1 (content s) (s .args .out .now) (k .check-array .result) (k .check-array .ensures) (c .before .checked .given .1)
+    write-content (kindOf (s .args .kind)) 1 (content s) (s .args .out .now) (k .check-array .ensures) (c .before .checked .given .1)
 
 same-length : tie.Need-same-length
 same-length c = search needs
@@ -61,7 +61,7 @@ returns-2 c =
     let s = start k in
     c .before .before .write-one .ensures
     ∙ ap (λ (vs : List Value). writtenOver (putInterleaved vs) (s .args .out .now)) (one-cell (held told))
-    ∙ write-rest (kindOf (s .args .kind)) 1 (content s) (s .args .out .now) (k .check-array .result) (k .check-array .ensures) (s .pre) (told .enum-told .given .1)
+    ∙ write-rest (kindOf (s .args .kind)) 1 (content s) (s .args .out .now) (k .check-array .ensures) (s .pre) (told .enum-told .given .1)
 
 pub encode-one-spec : {M : Type 1} → statement M
 encode-one-spec =

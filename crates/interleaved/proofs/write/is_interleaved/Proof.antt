@@ -31,12 +31,12 @@ enum-told-2 c = search needs
 returns-3 : tie.Need-returns-3
 returns-3 c =
     let flat = c .before .before in
-    kind-flat (flat .before .before .before .args .kind) (sound (flat .before)) (flat .if2 .left) _ (c .enum-told .given .1)
+    kind-flat (flat .before .before .before .args .kind) (sound (flat .before)) (flat .if2 .left) (c .enum-told .given .1)
 
 returns-4 : tie.Need-returns-4
 returns-4 c =
     let flat = c .before .before in
-    kind-flat (flat .before .before .before .args .kind) (sound (flat .before)) (flat .if2 .left) _ (c .enum-told2 .given .1)
+    kind-flat (flat .before .before .before .args .kind) (sound (flat .before)) (flat .if2 .left) (c .enum-told2 .given .1)
 
 pub is-interleaved-spec : {M : Type 1} → statement M
 is-interleaved-spec =

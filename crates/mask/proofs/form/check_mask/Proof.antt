@@ -90,7 +90,7 @@ returns-3 c =
     let clear = c .before .before .unused-clear in
     let passed : packedMask .test mask (start .args .n) ≡ true = sym (clear .ensures) ∙ not-false (clear .result) (c .before .if1 .left) in
     subst⁻¹ (λ (x : Masks). gives (c .count-packed .result) ≡ counted start x) (ap masksOf (told .enum-told2 .given .1))
-    (counted-passed packedMask mask (start .args .n) (c .count-packed .result) passed (c .count-packed .ensures))
+    (counted-passed packedMask mask (start .args .n) passed (c .count-packed .ensures))
 
 pub check-mask-spec : {M : Type 1} → statement M
 check-mask-spec =

@@ -88,7 +88,7 @@ loop-again c =
       omega (arith, size .block-at-most .ensures),
       λ h. omega (arith, size .block-at-most .ensures),
       laying-part (left head 0) (a .out .now) (a .to) (head .loop .out) (bytesFor done) g (left head (done + count))
-          (laying-is (head .loop .inv .2) (packed-next (a .planes .now) (a .at) (a .n) (start .pre .1) done count (head .loop .inv .0) (size .block-at-most .ensures)))
+          (laying-is (head .loop .inv .2) (packed-next (a .planes .now) (a .at) (a .n) (start .pre .1) done (head .loop .inv .0) (size .block-at-most .ensures)))
           (call .pack-block .last .0) laid (bytesFor (done + count)) (omega arith),
     )
 

@@ -61,7 +61,7 @@ returns-2 c =
     let at = c .before .loop .at in
     let none : others ms ≡ 0 = omega (arith, others-end ms at (omega arith)) in
     let all : c .before .loop .n ≡ countSet ms = omega (arith, count-end ms at (omega arith)) in
-    counted-passed byteMask ms (length ms) (c .before .loop .n) (no-others ms none) all
+    counted-passed byteMask ms (length ms) (no-others ms none) all
 
 pub count-strict-spec : {M : Type 1} → statement M
 count-strict-spec =

@@ -43,7 +43,7 @@ returns c =
     let a = start .args in
     let xs : List ℕ = bitsOf (take (a .n / 8) (drop (a .at) (a .s .now))) in
     let ys : List ℕ = take (a .n % 8) (digits 2 8 (getD (a .s .now) (a .at + a .n / 8) 0)) in
-    over-parts (a .to) (a .n / 8 * 8) xs ys (a .planes .now) (length-whole (a .s .now) (a .at) (a .n / 8) (omega (arith, start .pre .1))) (omega (arith, start .pre .0))
+    over-parts (a .to) xs ys (a .planes .now) (length-whole (a .s .now) (a .at) (a .n / 8) (omega (arith, start .pre .1))) (omega (arith, start .pre .0))
     (whole .unpack-bytes .ensures) (some .unpack-some .ensures)
     ∙ ap (λ (m : List ℕ). overAt (a .to) m (a .planes .now)) (sym (said-some (a .s .now) (a .at) (a .n) (start .pre .1) (branch .if1 .taken)))
 

@@ -26,7 +26,7 @@ returns c =
     let a = start .args in
     let xs : List ℕ = bitsOf (take (a .words * 8) (drop (a .at) (a .s .now))) in
     let ys : List ℕ = bitsOf (take (a .whole - a .words * 8) (drop (a .at + a .words * 8) (a .s .now))) in
-    over-parts (a .to) (a .words * 64) xs ys (a .planes .now) (ap length (start .pre .3) ∙ length-replicate (a .words * 64) (a .mark)) (omega (arith, start .pre .0, start .pre .2))
+    over-parts (a .to) xs ys (a .planes .now) (ap length (start .pre .3) ∙ length-replicate (a .words * 64) (a .mark)) (omega (arith, start .pre .0, start .pre .2))
     (run .fill-bytes .ensures ∙ ap (λ (m : List ℕ). overAt (a .to) m (a .planes .now)) (sym (start .pre .3))) (whole .unpack-whole .ensures)
     ∙ ap (λ (m : List ℕ). overAt (a .to) m (a .planes .now)) (bits-parts (a .s .now) (a .at) (a .words * 8) (a .whole) (start .pre .2))
 

@@ -112,13 +112,13 @@ returns-4 : tie.Need-returns-4
 returns-4 c =
     let r = c .before in
     let a = begun (known r) in
-    chunk-breaks (kind a) (a .args .cells) (left a) (size (known r) .0) (r .keeps-rules .result) (r .keeps-rules .ensures) (c .if3 .taken)
+    chunk-breaks (kind a) (a .args .cells) (left a) (size (known r) .0) (r .keeps-rules .ensures) (c .if3 .taken)
 
 returns-5 : tie.Need-returns-5
 returns-5 c =
     let r = c .before in
     let a = begun (known r) in
-    chunk-keeps (kind a) (a .args .cells) (left a) (size (known r) .0) (r .keeps-rules .result) (r .keeps-rules .ensures) (c .if3 .left)
+    chunk-keeps (kind a) (a .args .cells) (left a) (size (known r) .0) (r .keeps-rules .ensures) (c .if3 .left)
 
 pub check-chunk-spec : {M : Type 1} → statement M
 check-chunk-spec =

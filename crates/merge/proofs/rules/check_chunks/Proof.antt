@@ -42,7 +42,7 @@ handed a = contentArray (a .args .masks .now) (a .args .values .now) (a .args .o
 
 -- the next subset lies in the list
 seen : (l : Head) → l .loop .i < start l .args .count → l .loop .at + length (start l .args .shape .now) + length (start l .args .shape .now) ≤ length (start l .args .subsets .now)
-seen l h = next-room (start l .args .shape .now) (start l .args .subsets .now) (start l .args .count) (l .loop .i) (l .loop .at) (l .loop .inv .geo) h
+seen l h = next-room (start l .args .shape .now) (start l .args .subsets .now) (start l .args .count) (l .loop .inv .geo) h
 
 abbrev lens : (l : Head) → l .loop .i < start l .args .count → List ℕ
 lens l h = lengthsAt (length (start l .args .shape .now)) (l .loop .at) (start l .args .subsets .now)
@@ -51,8 +51,8 @@ small : (l : Head) (h : l .loop .i < start l .args .count) → volume (lens l h)
 unfolding mostCells
 small l h =
     let a = start l .args in
-    few-drop 0 (lens l h) (few-within (a .shape .now) (startsAt (length (a .shape .now)) (l .loop .at) (a .subsets .now)) (lens l h) (start l .pre .shaped)
-    (now-within (a .shape .now) (a .subsets .now) (a .count) (l .loop .i) (l .loop .at) (l .loop .inv .geo) h))
+    few-drop 0 (lens l h) (few-within (startsAt (length (a .shape .now)) (l .loop .at) (a .subsets .now)) (lens l h) (start l .pre .shaped)
+    (now-within (a .shape .now) (a .subsets .now) (a .count) (l .loop .inv .geo) h))
 
 -- the chunk's cells are counted, and it is checked
 abbrev Counted : Type 0
@@ -117,8 +117,8 @@ volume-of-requires c κs =
     let l = c .before .before in
     let a = start l .args in
     let h : l .loop .i < a .count = omega arith in
-    few-within (a .shape .now) (startsAt (length (a .shape .now)) (l .loop .at) (a .subsets .now)) (lens l h) (start l .pre .shaped)
-    (now-within (a .shape .now) (a .subsets .now) (a .count) (l .loop .i) (l .loop .at) (l .loop .inv .geo) h)
+    few-within (startsAt (length (a .shape .now)) (l .loop .at) (a .subsets .now)) (lens l h) (start l .pre .shaped)
+    (now-within (a .shape .now) (a .subsets .now) (a .count) (l .loop .inv .geo) h)
 
 sub-check-chunk : tie.Need-sub-check-chunk Inv-loop μ-loop
 sub-check-chunk c = omega (arith, turn c .loop .inv .masks)

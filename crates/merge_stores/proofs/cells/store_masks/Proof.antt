@@ -21,19 +21,19 @@ start l = l .before .before .before .before .before
 loop-holds : tie.Need-loop-holds Inv-loop μ-loop
 loop-holds c =
     let a = c .before .before .before .before in
-    masks-begin (a .args .shape .now) (a .args .subsets .now) (a .args .count) (a .args .out .now) (a .args .src .now) (a .args .depth) (a .args .cells) (a .pre)
+    masks-begin (a .pre)
 
 mul-store-parts : tie.Need-mul-store-parts Inv-loop μ-loop
 mul-store-parts c =
     let l = c .before .before in
     let a = start l .args in
-    omega (arith, level-room (a .shape .now) (a .subsets .now) (a .count) (a .out .now) (a .src .now) (a .depth) (a .cells) (start l .pre) (l .loop .out) (l .loop .l) (l .loop .inv) (omega arith))
+    omega (arith, level-room (start l .pre) (l .loop .out) (l .loop .l) (l .loop .inv) (omega arith))
 
 store-parts-requires : tie.Need-store-parts-requires Inv-loop μ-loop
 store-parts-requires c κs =
     let l = c .before .before in
     let a = start l .args in
-    masks-asked (a .shape .now) (a .subsets .now) (a .count) (a .out .now) (a .src .now) (a .depth) (a .cells) (start l .pre) (l .loop .out) (l .loop .l) (l .loop .inv) (omega arith)
+    masks-asked (start l .pre) (l .loop .out) (l .loop .l) (l .loop .inv) (omega arith)
 
 add-l : tie.Need-add-l Inv-loop μ-loop
 add-l c = omega arith
@@ -46,7 +46,7 @@ loop-again c =
     let s = c .before .before in
     let l = s .before .before .before in
     let a = start l .args in
-    masks-more (a .shape .now) (a .subsets .now) (a .count) (a .out .now) (a .src .now) (a .depth) (a .cells) (start l .pre) (l .loop .out) (l .loop .l) (l .loop .inv) (omega arith) (s .store-parts .last .0) (s .store-parts .ensures)
+    masks-more (start l .pre) (l .loop .out) (l .loop .l) (l .loop .inv) (omega arith) (s .store-parts .ensures)
 
 same-length : tie.Need-same-length Inv-loop μ-loop
 same-length c = c .before .loop .inv .long
@@ -55,7 +55,7 @@ returns : tie.Need-returns Inv-loop μ-loop
 returns c =
     let l = c .before in
     let a = start l .args in
-    masks-end (a .shape .now) (a .subsets .now) (a .count) (a .out .now) (a .src .now) (a .depth) (a .cells) (start l .pre) (l .loop .out) (l .loop .l) (l .loop .inv) (omega arith)
+    masks-end (start l .pre) (l .loop .out) (l .loop .l) (l .loop .inv) (omega arith)
 
 pub store-masks-spec : {M : Type 1} → statement M
 store-masks-spec =

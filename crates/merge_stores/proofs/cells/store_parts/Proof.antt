@@ -27,34 +27,34 @@ start l = l .before .before .before .before .before
 
 -- the next subset lies in the list
 seen : (l : Head) → l .loop .i < start l .args .count → l .loop .at + length (start l .args .shape .now) + length (start l .args .shape .now) ≤ length (start l .args .subsets .now)
-seen l h = next-room (start l .args .shape .now) (start l .args .subsets .now) (start l .args .count) (l .loop .i) (l .loop .at) (l .loop .inv .geo) h
+seen l h = next-room (start l .args .shape .now) (start l .args .subsets .now) (start l .args .count) (l .loop .inv .geo) h
 
 abbrev lens : (l : Head) → l .loop .i < start l .args .count → List ℕ
 lens l h = lengthsAt (length (start l .args .shape .now)) (l .loop .at) (start l .args .subsets .now)
 
 -- the chunk lies in what is left
-whole : (l : Head) (h : l .loop .i < start l .args .count) (k : ℕ) → k ≡ volume (lens l h) → l .loop .pos + k * start l .args .step ≤ length (start l .args .src .now)
-whole l h k e =
+whole : (l : Head) (h : l .loop .i < start l .args .count) {k : ℕ} → k ≡ volume (lens l h) → l .loop .pos + k * start l .args .step ≤ length (start l .args .src .now)
+whole l h e =
     let a = start l .args in
     omega (
       arith,
       ap (λ (x : ℕ). x * a .step) e,
-      all-room (a .shape .now) (a .subsets .now) (a .count) (a .out .now) (a .base) (a .size) (a .src .now) (a .lead) (a .step) (start l .pre) (l .loop .out) (l .loop .i) (l .loop .at) (l .loop .pos) (l .loop .inv) h,
+      all-room (start l .pre) (l .loop .inv) h,
     )
 
-part : (l : Head) (h : l .loop .i < start l .args .count) (k : ℕ) → k ≡ volume (lens l h) → l .loop .pos + k * start l .args .lead ≤ length (start l .args .src .now)
-part l h k e =
+part : (l : Head) (h : l .loop .i < start l .args .count) {k : ℕ} → k ≡ volume (lens l h) → l .loop .pos + k * start l .args .lead ≤ length (start l .args .src .now)
+part l h e =
     let a = start l .args in
     omega (
       arith,
       ap (λ (x : ℕ). x * a .lead) e,
-      part-room (a .shape .now) (a .subsets .now) (a .count) (a .out .now) (a .base) (a .size) (a .src .now) (a .lead) (a .step) (start l .pre) (l .loop .out) (l .loop .i) (l .loop .at) (l .loop .pos) (l .loop .inv) h,
+      part-room (start l .pre) (l .loop .inv) h,
     )
 
 loop-holds : tie.Need-loop-holds Inv-loop μ-loop
 loop-holds c =
     let a = c .before .before .before .before in
-    all-begins (a .args .shape .now) (a .args .subsets .now) (a .args .count) (a .args .out .now) (a .args .base) (a .args .size) (a .args .src .now) (a .args .lead) (a .args .step) (a .pre)
+    all-begins (a .pre)
 
 add-mid : tie.Need-add-mid Inv-loop μ-loop
 add-mid c = omega (arith, seen (c .before) (omega arith))
@@ -79,14 +79,14 @@ volume-of-requires c κs =
     let l = c .before .before in
     let a = start l .args in
     let h : l .loop .i < a .count = omega arith in
-    few-within (a .shape .now) (startsAt (length (a .shape .now)) (l .loop .at) (a .subsets .now)) (lens l h) (start l .pre .subsets .shaped)
-    (now-within (a .shape .now) (a .subsets .now) (a .count) (l .loop .i) (l .loop .at) (l .loop .inv .geo) h)
+    few-within (startsAt (length (a .shape .now)) (l .loop .at) (a .subsets .now)) (lens l h) (start l .pre .subsets .shaped)
+    (now-within (a .shape .now) (a .subsets .now) (a .count) (l .loop .inv .geo) h)
 
 mul-first : tie.Need-mul-first Inv-loop μ-loop
-mul-first c = let r = part (c .before .before .before) (omega arith) (c .volume-of .result) (c .volume-of .ensures) in omega (arith, r)
+mul-first c = let r = part (c .before .before .before) (omega arith) (c .volume-of .ensures) in omega (arith, r)
 
 add-first : tie.Need-add-first Inv-loop μ-loop
-add-first c = let r = part (c .before .before .before) (omega arith) (c .volume-of .result) (c .volume-of .ensures) in omega (arith, r)
+add-first c = let r = part (c .before .before .before) (omega arith) (c .volume-of .ensures) in omega (arith, r)
 
 mul-store-subset : tie.Need-mul-store-subset Inv-loop μ-loop
 mul-store-subset c = omega (arith, seen (c .before .before .before .before) (omega arith))
@@ -105,21 +105,21 @@ store-subset-requires c κs =
     let v = c .before .before in
     let l = v .before .before .before in
     let a = start l .args in (
-      all-asked (a .shape .now) (a .subsets .now) (a .count) (a .out .now) (a .base) (a .size) (a .src .now) (a .lead) (a .step) (start l .pre) (l .loop .out) (l .loop .i) (l .loop .at) (l .loop .pos) (l .loop .inv) (omega arith)
-          (v .volume-of .result) (v .volume-of .ensures),
+      all-asked (start l .pre) (l .loop .inv) (omega arith)
+          (v .volume-of .ensures),
       v .volume-of .ensures,
     )
 
 mul-pos : tie.Need-mul-pos Inv-loop μ-loop
 mul-pos c =
     let v = c .before .before .before .before .before in
-    let r = whole (v .before .before .before) (omega arith) (v .volume-of .result) (v .volume-of .ensures) in
+    let r = whole (v .before .before .before) (omega arith) (v .volume-of .ensures) in
     omega (arith, r)
 
 add-pos : tie.Need-add-pos Inv-loop μ-loop
 add-pos c =
     let v = c .before .before .before .before .before in
-    let r = whole (v .before .before .before) (omega arith) (v .volume-of .result) (v .volume-of .ensures) in
+    let r = whole (v .before .before .before) (omega arith) (v .volume-of .ensures) in
     omega (arith, r)
 
 add-i : tie.Need-add-i Inv-loop μ-loop
@@ -134,8 +134,8 @@ loop-again c =
     let v = s .before .before .before in
     let l = v .before .before .before in
     let a = start l .args in
-    all-more (a .shape .now) (a .subsets .now) (a .count) (a .out .now) (a .base) (a .size) (a .src .now) (a .lead) (a .step) (start l .pre) (l .loop .out) (l .loop .i) (l .loop .at) (l .loop .pos) (l .loop .inv) (omega arith)
-    (v .volume-of .result) (v .volume-of .ensures) (s .store-subset .last .0) (s .store-subset .ensures)
+    all-more (start l .pre) (l .loop .inv) (omega arith)
+    (v .volume-of .ensures) (s .store-subset .ensures)
 
 same-length : tie.Need-same-length Inv-loop μ-loop
 same-length c = c .before .loop .inv .long
@@ -144,7 +144,7 @@ returns : tie.Need-returns Inv-loop μ-loop
 returns c =
     let l = c .before in
     let a = start l .args in
-    all-ends (a .shape .now) (a .subsets .now) (a .count) (a .out .now) (a .base) (a .size) (a .src .now) (a .lead) (a .step) (start l .pre) (l .loop .out) (l .loop .i) (l .loop .at) (l .loop .pos) (l .loop .inv) (omega arith)
+    all-ends (start l .pre) (l .loop .inv) (omega arith)
 
 pub store-parts-spec : {M : Type 1} → statement M
 store-parts-spec =

@@ -41,7 +41,7 @@ within : (l : Head) → l .loop .at < total l → l .loop .at + run l ≤ volume
 within l h = omega (arith, start l .pre .1, left-within (cells l) (total l) (run l) (l .loop .at) (l .loop .inv .geo) h)
 
 few-cells : (l : Head) → volume (start l .args .lens .now) ≤ 65536
-few-cells l = let a = start l in few-drop 0 (a .args .lens .now) (few-within (a .args .shape .now) (a .args .starts .now) (a .args .lens .now) (a .pre .0 .shaped) (a .pre .0 .fits))
+few-cells l = let a = start l in few-drop 0 (a .args .lens .now) (few-within (a .args .starts .now) (a .args .lens .now) (a .pre .0 .shaped) (a .pre .0 .fits))
 
 below : (l : Head) → l .loop .at < total l → getD (cells l) (l .loop .at) 0 + run l ≤ volume (start l .args .shape .now)
 below l h =
@@ -49,9 +49,9 @@ below l h =
     left-room (cells l) (total l) (run l) (l .loop .at) (l .loop .inv .geo) h (volume (a .args .shape .now)) (within-below (a .args .shape .now) (a .args .starts .now) (a .args .lens .now) (a .pre .0 .fits))
 
 -- the run lies in the output, and in what is stored
-room : (l : Head) → l .loop .at < total l → (k : ℕ) → k ≡ getD (cells l) (l .loop .at) 0
+room : (l : Head) → l .loop .at < total l → {k : ℕ} → k ≡ getD (cells l) (l .loop .at) 0
     → start l .args .base + k * start l .args .size + run l * start l .args .size ≤ length (start l .args .out .now)
-room l h k e =
+room l h {k} e =
     let a = start l in
     fixed-room (a .args .base) (a .args .size) (volume (a .args .shape .now)) k (run l) (length (a .args .out .now)) (omega (arith, e, below l h)) (a .pre .0 .room)
 
@@ -79,7 +79,7 @@ loop-holds c =
     let xs : List ℕ = drop (a .args .first) (a .args .src .now) in
     subst (λ (k : ℕ). Store (fixedAt (a .args .base) (a .args .size)) cs xs (a .args .out .now) (a .args .out .now) (a .args .cells) n 0 k) (sym (zero-mul (a .args .size)))
     (store-begins (fixedAt (a .args .base) (a .args .size)) cs xs (a .args .out .now) (a .args .cells) n
-    (left-begins (a .args .shape .now) (a .args .starts .now) (a .args .lens .now) (a .args .cells) (a .pre .0 .fits) (a .pre .0 .shaped .some-sides) (a .pre .1)))
+    (left-begins (a .args .shape .now) (a .args .starts .now) (a .args .lens .now) (a .pre .0 .fits) (a .pre .0 .shaped .some-sides) (a .pre .1)))
 
 cell-at-requires : tie.Need-cell-at-requires Inv-loop μ-loop
 cell-at-requires c κs =
@@ -87,10 +87,10 @@ cell-at-requires c κs =
     (start l .pre .0 .shaped, start l .pre .0 .fits, omega (arith, start l .pre .1))
 
 mul-to : tie.Need-mul-to Inv-loop μ-loop
-mul-to c = let r = room (c .before .before) (omega arith) (c .cell-at .result) (c .cell-at .ensures) in omega (arith, r)
+mul-to c = let r = room (c .before .before) (omega arith) (c .cell-at .ensures) in omega (arith, r)
 
 add-to : tie.Need-add-to Inv-loop μ-loop
-add-to c = let r = room (c .before .before) (omega arith) (c .cell-at .result) (c .cell-at .ensures) in omega (arith, r)
+add-to c = let r = room (c .before .before) (omega arith) (c .cell-at .ensures) in omega (arith, r)
 
 mul-take : tie.Need-mul-take Inv-loop μ-loop
 mul-take c = let r = enough (c .before .before) (omega arith) in omega (arith, r)
@@ -104,7 +104,7 @@ mul-len c = let r = enough (c .before .before) (omega arith) in omega (arith, r)
 copy-bytes-requires : tie.Need-copy-bytes-requires Inv-loop μ-loop
 copy-bytes-requires c κs =
     let l = c .before .before .before in
-    (omega (arith, l .loop .inv .long, room l (omega arith) (c .before .cell-at .result) (c .before .cell-at .ensures)), omega (arith, enough l (omega arith)))
+    (omega (arith, l .loop .inv .long, room l (omega arith) (c .before .cell-at .ensures)), omega (arith, enough l (omega arith)))
 
 add-at : tie.Need-add-at Inv-loop μ-loop
 add-at c = let l = c .before .before .before .before .before .before in omega (arith, within l (omega arith), few-cells l)
@@ -119,8 +119,8 @@ loop-again : tie.Need-loop-again Inv-loop μ-loop
 loop-again c =
     let l = c .before .before .before .before .before .before in
     let k = c .before .before .before .before in
-    fixed-more (start l .args .base) (start l .args .size) (cells l) (start l .args .src .now) (start l .args .first) (start l .args .out .now) (l .loop .out) (total l) (run l) (l .loop .at) (l .loop .inv) (omega arith)
-    (k .cell-at .result) (k .cell-at .ensures) (room l (omega arith) (k .cell-at .result) (k .cell-at .ensures)) (enough l (omega arith)) (c .before .before .copy-bytes .last .0) (c .before .before .copy-bytes .ensures)
+    fixed-more (start l .args .base) (start l .args .size) (start l .args .src .now) (start l .args .first) (l .loop .inv) (omega arith)
+    (k .cell-at .ensures) (room l (omega arith) (k .cell-at .ensures)) (enough l (omega arith)) (c .before .before .copy-bytes .ensures)
 
 same-length : tie.Need-same-length Inv-loop μ-loop
 same-length c = c .before .loop .inv .long
@@ -128,7 +128,7 @@ same-length c = c .before .loop .inv .long
 returns : tie.Need-returns Inv-loop μ-loop
 returns c =
     let l = c .before in
-    store-ends (fixedAt (start l .args .base) (start l .args .size)) (cells l) (drop (start l .args .first) (start l .args .src .now)) (start l .args .out .now) (l .loop .out) (total l) (run l) (l .loop .at) (l .loop .at * start l .args .size) (l .loop .inv) (omega arith)
+    store-ends (l .loop .inv) (omega arith)
 
 pub store-subset-spec : {M : Type 1} → statement M
 store-subset-spec =

@@ -12,14 +12,14 @@ sum-up-requires : tie.Need-sum-up-requires
 sum-up-requires c κs =
     let a = c .before .before .before .before .before .before .before .before .before .before .before in
     let s = c .before .before .before in
-    second-asked (a .args .shape .now) (a .args .subsets .now) (a .args .count) (a .args .outv .now) (a .args .outo .now) (a .args .values .now) (a .args .src .now) (a .args .n) (a .pre) (s .store-lengths-all .last .0) (s .store-lengths-all .ensures)
+    second-asked (a .pre) (s .store-lengths-all .ensures)
 
 store-ragged-all-requires : tie.Need-store-ragged-all-requires
 store-ragged-all-requires c κs =
     let a = c .before .before .before .before .before .before .before .before .before .before .before .before .before .before .before .before in
     let s = c .before .before .before .before .before .before .before .before in
     let u = c .before .before .before .before in
-    third-asked (a .args .shape .now) (a .args .subsets .now) (a .args .count) (a .args .outv .now) (a .args .outo .now) (a .args .values .now) (a .args .src .now) (a .args .n) (a .pre) (s .store-lengths-all .last .0) (s .store-lengths-all .ensures) (u .sum-up .last .0) (u .sum-up .ensures)
+    third-asked (a .pre) (s .store-lengths-all .ensures) (u .sum-up .ensures)
 
 same-length : tie.Need-same-length
 same-length c = search needs
@@ -32,7 +32,7 @@ returns c =
     let a = c .before .before .before .before .before .before .before .before .before .before .before .before .before .before .before .before .before .before .before in
     let s = c .before .before .before .before .before .before .before .before .before .before .before in
     let u = c .before .before .before .before .before .before .before in
-    (offsets-are (a .args .shape .now) (a .args .subsets .now) (a .args .count) (a .args .outv .now) (a .args .outo .now) (a .args .values .now) (a .args .src .now) (a .args .n) (a .pre) (s .store-lengths-all .last .0) (s .store-lengths-all .ensures) (u .sum-up .last .0) (u .sum-up .ensures), c .before .before .store-ragged-all .ensures)
+    (offsets-are (a .pre) (s .store-lengths-all .ensures) (u .sum-up .ensures), c .before .before .store-ragged-all .ensures)
 
 pub merge-ragged-spec : {M : Type 1} → statement M
 merge-ragged-spec =

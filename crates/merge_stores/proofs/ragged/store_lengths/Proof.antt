@@ -43,7 +43,7 @@ within : (l : Head) → l .loop .at < total l → l .loop .at + run l ≤ volume
 within l h = omega (arith, start l .pre .1, left-within (cells l) (total l) (run l) (l .loop .at) (l .loop .inv .geo) h)
 
 few-cells : (l : Head) → volume (start l .args .lens .now) ≤ 65536
-few-cells l = let a = start l in few-drop 0 (a .args .lens .now) (few-within (a .args .shape .now) (a .args .starts .now) (a .args .lens .now) (a .pre .0 .shaped) (a .pre .0 .fits))
+few-cells l = let a = start l in few-drop 0 (a .args .lens .now) (few-within (a .args .starts .now) (a .args .lens .now) (a .pre .0 .shaped) (a .pre .0 .fits))
 
 below : (l : Head) → l .loop .at < total l → getD (cells l) (l .loop .at) 0 + run l ≤ volume (start l .args .shape .now)
 below l h =
@@ -74,7 +74,7 @@ loop-holds c =
     let a = c .before .before .before .before .before .before in
     store-begins (fixedAt 1 1) (cellsIn (a .args .shape .now) (pairs (a .args .starts .now) (a .args .lens .now))) (drop (a .args .first) (steps (a .args .src .now))) (a .args .out .now) (a .args .cells)
     (getD (a .args .lens .now) (length (a .args .lens .now) - 1) 0)
-    (left-begins (a .args .shape .now) (a .args .starts .now) (a .args .lens .now) (a .args .cells) (a .pre .0 .fits) (a .pre .0 .shaped .some-sides) (a .pre .1))
+    (left-begins (a .args .shape .now) (a .args .starts .now) (a .args .lens .now) (a .pre .0 .fits) (a .pre .0 .shaped .some-sides) (a .pre .1))
 
 cell-at-requires : tie.Need-cell-at-requires Inv-loop μ-loop
 cell-at-requires c κs =
@@ -107,9 +107,9 @@ loop-again c =
     let k = c .before .before .before .before in
     let l = k .before .before in
     let a = start l in
-    unit-more 1 (cells l) (steps (a .args .src .now)) (a .args .first) (a .args .out .now) (l .loop .out) (total l) (run l) (l .loop .at) (l .loop .inv) (omega arith) (k .cell-at .result) (k .cell-at .ensures)
+    unit-more 1 (steps (a .args .src .now)) (a .args .first) (l .loop .inv) (omega arith) (k .cell-at .ensures)
     (omega (arith, below l (omega arith), k .cell-at .ensures, a .pre .0 .room)) (omega (arith, within l (omega arith), a .pre .0 .indexed, length-steps (a .args .src .now)))
-    (c .before .before .store-steps .last .0) (c .before .before .store-steps .ensures)
+    (c .before .before .store-steps .ensures)
 
 same-length : tie.Need-same-length Inv-loop μ-loop
 same-length c = c .before .loop .inv .long
@@ -118,7 +118,7 @@ returns : tie.Need-returns Inv-loop μ-loop
 returns c =
     let l = c .before in
     let a = start l in
-    store-ends (fixedAt 1 1) (cells l) (drop (a .args .first) (steps (a .args .src .now))) (a .args .out .now) (l .loop .out) (total l) (run l) (l .loop .at) (l .loop .at) (l .loop .inv) (omega arith)
+    store-ends (l .loop .inv) (omega arith)
 
 pub store-lengths-spec : {M : Type 1} → statement M
 store-lengths-spec =

@@ -29,16 +29,16 @@ short : (a : tie.Start Inv-loop μ-loop) → (length (a .args .src .now) * 8 < 1
 short a = (omega arith, omega arith)
 
 seen : (l : Head) → l .loop .i < start l .args .count → l .loop .at + length (start l .args .shape .now) + length (start l .args .shape .now) ≤ length (start l .args .subsets .now)
-seen l h = let a = start l in next-room (a .args .shape .now) (a .args .subsets .now) (a .args .count) (l .loop .i) (l .loop .at) (l .loop .inv .geo) h
+seen l h = let a = start l in next-room (a .args .shape .now) (a .args .subsets .now) (a .args .count) (l .loop .inv .geo) h
 
 abbrev lens : (l : Head) → l .loop .i < start l .args .count → List ℕ
 lens l h = let a = start l in lengthsAt (length (a .args .shape .now)) (l .loop .at) (a .args .subsets .now)
 
-indexed : (l : Head) (h : l .loop .i < start l .args .count) (k : ℕ) → k ≡ volume (lens l h) → l .loop .first + k < length (start l .args .src .now)
-indexed l h k e = let a = start l in omega (arith, e, lengths-indexed (a .args .shape .now) (a .args .subsets .now) (a .args .count) (a .args .out .now) (a .args .src .now) (a .pre) (l .loop .out) (l .loop .i) (l .loop .at) (l .loop .first) (l .loop .inv) h)
+indexed : (l : Head) (h : l .loop .i < start l .args .count) {k : ℕ} → k ≡ volume (lens l h) → l .loop .first + k < length (start l .args .src .now)
+indexed l h e = let a = start l in omega (arith, e, lengths-indexed (a .pre) (l .loop .inv) h)
 
 loop-holds : tie.Need-loop-holds Inv-loop μ-loop
-loop-holds c = let a = c .before .before .before .before in lengths-begin (a .args .shape .now) (a .args .subsets .now) (a .args .count) (a .args .out .now) (a .args .src .now) (a .pre)
+loop-holds c = let a = c .before .before .before .before in lengths-begin (a .pre)
 
 add-mid : tie.Need-add-mid Inv-loop μ-loop
 add-mid c = omega (arith, seen (c .before) (omega arith), short (start (c .before)) .1)
@@ -63,7 +63,7 @@ volume-of-requires c κs =
     let l = c .before .before in
     let a = start l in
     let h : l .loop .i < a .args .count = omega arith in
-    few-within (a .args .shape .now) (startsAt (length (a .args .shape .now)) (l .loop .at) (a .args .subsets .now)) (lengthsAt (length (a .args .shape .now)) (l .loop .at) (a .args .subsets .now)) (a .pre .subsets .shaped) (now-within (a .args .shape .now) (a .args .subsets .now) (a .args .count) (l .loop .i) (l .loop .at) (l .loop .inv .geo) h)
+    few-within (startsAt (length (a .args .shape .now)) (l .loop .at) (a .args .subsets .now)) (lengthsAt (length (a .args .shape .now)) (l .loop .at) (a .args .subsets .now)) (a .pre .subsets .shaped) (now-within (a .args .shape .now) (a .args .subsets .now) (a .args .count) (l .loop .inv .geo) h)
 
 mul-store-lengths : tie.Need-mul-store-lengths Inv-loop μ-loop
 mul-store-lengths c = omega (arith, seen (c .before .before .before .before) (omega arith), short (start (c .before .before .before .before)) .1)
@@ -81,19 +81,19 @@ store-lengths-requires : tie.Need-store-lengths-requires Inv-loop μ-loop
 store-lengths-requires c κs =
     let l = c .before .before .before .before .before in
     let a = start l in
-    (lengths-asked (a .args .shape .now) (a .args .subsets .now) (a .args .count) (a .args .out .now) (a .args .src .now) (a .pre) (l .loop .out) (l .loop .i) (l .loop .at) (l .loop .first) (l .loop .inv) (omega arith), c .before .before .volume-of .ensures)
+    (lengths-asked (a .pre) (l .loop .inv) (omega arith), c .before .before .volume-of .ensures)
 
 add-first : tie.Need-add-first Inv-loop μ-loop
 add-first c =
     let v = c .before .before .before .before .before in
     let l = v .before .before .before in
-    omega (arith, indexed l (omega arith) (v .volume-of .result) (v .volume-of .ensures), short (start l) .0)
+    omega (arith, indexed l (omega arith) (v .volume-of .ensures), short (start l) .0)
 
 add-first-2 : tie.Need-add-first-2 Inv-loop μ-loop
 add-first-2 c =
     let v = c .before .before .before .before .before in
     let l = v .before .before .before in
-    omega (arith, indexed l (omega arith) (v .volume-of .result) (v .volume-of .ensures), short (start l) .0)
+    omega (arith, indexed l (omega arith) (v .volume-of .ensures), short (start l) .0)
 
 add-i : tie.Need-add-i Inv-loop μ-loop
 add-i c = omega arith
@@ -107,7 +107,7 @@ loop-again c =
     let l = v .before .before .before in
     let a = start l in
     let s = c .before .before in
-    lengths-more (a .args .shape .now) (a .args .subsets .now) (a .args .count) (a .args .out .now) (a .args .src .now) (a .pre) (l .loop .out) (l .loop .i) (l .loop .at) (l .loop .first) (l .loop .inv) (omega arith) (v .volume-of .result) (v .volume-of .ensures) (s .store-lengths .last .0) (s .store-lengths .ensures) (omega arith)
+    lengths-more (a .pre) (l .loop .inv) (omega arith) (v .volume-of .ensures) (s .store-lengths .ensures) (omega arith)
 
 same-length : tie.Need-same-length Inv-loop μ-loop
 same-length c = c .before .loop .inv .long
@@ -116,7 +116,7 @@ returns : tie.Need-returns Inv-loop μ-loop
 returns c =
     let l = c .before in
     let a = start l in
-    lengths-end (a .args .shape .now) (a .args .subsets .now) (a .args .count) (a .args .out .now) (a .args .src .now) (a .pre) (l .loop .out) (l .loop .i) (l .loop .at) (l .loop .first) (l .loop .inv) (omega arith)
+    lengths-end (a .pre) (l .loop .inv) (omega arith)
 
 pub store-lengths-all-spec : {M : Type 1} → statement M
 store-lengths-all-spec =

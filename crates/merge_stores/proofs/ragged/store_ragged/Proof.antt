@@ -42,7 +42,7 @@ sided : (a : Start) → 1 ≤ length (a .args .lens .now)
 sided a = omega (arith, a .pre .0 .fits .as-many-lengths, a .pre .0 .shaped .some-sides)
 
 few-cells : (a : Start) → volume (a .args .lens .now) ≤ 65536
-few-cells a = few-drop 0 (a .args .lens .now) (few-within (a .args .shape .now) (a .args .starts .now) (a .args .lens .now) (a .pre .0 .shaped) (a .pre .0 .fits))
+few-cells a = few-drop 0 (a .args .lens .now) (few-within (a .args .starts .now) (a .args .lens .now) (a .pre .0 .shaped) (a .pre .0 .fits))
 
 -- typed by the start, since omega does not look that far back
 short : (a : Start) → length (a .args .values .now) < 18446744073709551616
@@ -87,7 +87,7 @@ loop-holds c =
     let a = entry (c .before .before .before) in
     ragged-begins (a .args .begins .now) (cellsIn (a .args .shape .now) (pairs (a .args .starts .now) (a .args .lens .now))) (a .args .values .now) (a .args .first) (a .args .out .now)
     (a .args .cells) (getD (a .args .lens .now) (length (a .args .lens .now) - 1) 0)
-    (left-begins (a .args .shape .now) (a .args .starts .now) (a .args .lens .now) (a .args .cells) (a .pre .0 .fits) (a .pre .0 .shaped .some-sides) (a .pre .1))
+    (left-begins (a .args .shape .now) (a .args .starts .now) (a .args .lens .now) (a .pre .0 .fits) (a .pre .0 .shaped .some-sides) (a .pre .1))
 
 cell-at-requires : tie.Need-cell-at-requires Inv-loop μ-loop
 cell-at-requires c κs =
@@ -137,7 +137,7 @@ loop-again : tie.Need-loop-again Inv-loop μ-loop
 loop-again c =
     let b = c .before .before in
     let k = found b in
-    ragged-more (start (head k) .pre .0) (head k .loop .inv) (turned k) (k .cell-at .ensures) (b .copy-bytes .last .0) (b .copy-bytes .ensures)
+    ragged-more (start (head k) .pre .0) (head k .loop .inv) (turned k) (k .cell-at .ensures) (b .copy-bytes .ensures)
 
 same-length : tie.Need-same-length Inv-loop μ-loop
 same-length c = c .before .loop .inv .store .long

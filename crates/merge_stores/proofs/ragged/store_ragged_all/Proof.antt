@@ -33,7 +33,7 @@ short : (a : Start) → length (a .args .subsets .now) * 8 < 1844674407370955161
 short a = omega arith
 
 seen : (l : Head) → l .loop .i < start l .args .count → l .loop .at + length (start l .args .shape .now) + length (start l .args .shape .now) ≤ length (start l .args .subsets .now)
-seen l h = let a = start l in next-room (a .args .shape .now) (a .args .subsets .now) (a .args .count) (l .loop .i) (l .loop .at) (l .loop .inv .geo) h
+seen l h = let a = start l in next-room (a .args .shape .now) (a .args .subsets .now) (a .args .count) (l .loop .inv .geo) h
 
 loop-holds : tie.Need-loop-holds Inv-loop μ-loop
 loop-holds c = raggeds-begin (entry (c .before) .pre)
@@ -60,8 +60,8 @@ volume-of-requires : tie.Need-volume-of-requires Inv-loop μ-loop
 volume-of-requires c κs =
     let l = c .before .before in
     let a = start l in
-    few-within (a .args .shape .now) (startsAt (length (a .args .shape .now)) (l .loop .at) (a .args .subsets .now)) (lengthsAt (length (a .args .shape .now)) (l .loop .at) (a .args .subsets .now))
-    (a .pre .subsets .shaped) (now-within (a .args .shape .now) (a .args .subsets .now) (a .args .count) (l .loop .i) (l .loop .at) (l .loop .inv .geo) (omega arith))
+    few-within (startsAt (length (a .args .shape .now)) (l .loop .at) (a .args .subsets .now)) (lengthsAt (length (a .args .shape .now)) (l .loop .at) (a .args .subsets .now))
+    (a .pre .subsets .shaped) (now-within (a .args .shape .now) (a .args .subsets .now) (a .args .count) (l .loop .inv .geo) (omega arith))
 
 -- after the chunk's cells are counted
 abbrev head : tie.After-volume-of Inv-loop μ-loop → Head
@@ -95,7 +95,7 @@ loop-again : tie.Need-loop-again Inv-loop μ-loop
 loop-again c =
     let b = c .before .before in
     let l = head (b .before .before .before) in
-    raggeds-more (start l .pre) (l .loop .inv) (omega arith) (b .store-ragged .result) (b .store-ragged .ensures .0) (b .store-ragged .last .0) (b .store-ragged .ensures .1)
+    raggeds-more (start l .pre) (l .loop .inv) (omega arith) (b .store-ragged .ensures .0) (b .store-ragged .ensures .1)
 
 same-length : tie.Need-same-length Inv-loop μ-loop
 same-length c = c .before .loop .inv .long

@@ -49,7 +49,7 @@ add-out c =
     let a = l .before in
     omega (
       arith,
-      sum-small (set (a .args .out .now) 0 0) (a .args .n) (omega (arith, length-set (a .args .out .now) 0 0)) (l .loop .out) (l .loop .i) (l .loop .inv) (omega arith),
+      sum-small (set (a .args .out .now) 0 0) (a .args .n) (omega (arith, length-set (a .args .out .now) 0 0)) (l .loop .inv) (omega arith),
       same-sum (a .args .out .now) (a .args .n),
       a .pre .1,
     )
@@ -73,7 +73,7 @@ loop-again : tie.Need-loop-again Inv-loop μ-loop
 loop-again c =
     let l = c .before .before .before in
     let a = l .before in
-    summed-more (set (a .args .out .now) 0 0) (a .args .n) (omega (arith, length-set (a .args .out .now) 0 0)) (l .loop .out) (l .loop .i) (l .loop .inv) (omega arith)
+    summed-more (set (a .args .out .now) 0 0) (a .args .n) (omega (arith, length-set (a .args .out .now) 0 0)) (l .loop .inv) (omega arith)
 
 same-length : tie.Need-same-length Inv-loop μ-loop
 same-length c = long (c .before)
@@ -82,7 +82,7 @@ returns : tie.Need-returns Inv-loop μ-loop
 returns c =
     let l = c .before in
     let a = l .before in
-    summed-over (a .args .out .now) (a .args .n) (a .pre .0) (l .loop .out) (l .loop .i) (l .loop .inv) (omega arith)
+    summed-over (a .args .out .now) (a .pre .0) (l .loop .inv) (omega arith)
 
 pub sum-up-spec : {M : Type 1} → statement M
 sum-up-spec =

@@ -51,7 +51,7 @@ abbrev full : Start → ℕ
 full a = volume (a .args .shape .now)
 
 below : (a : Start) → All (λ j. j < full a) (cells a)
-below a = asked-below _ _ _ _ (a .pre .0)
+below a = asked-below (a .pre .0)
 
 short : (a : Start) → length (a .args .bytes .now) < 18446744073709551616
 short a = omega arith
@@ -73,13 +73,12 @@ begun l = entry (l .before .before .before .before)
 same : (l : Head) → length (l .loop .values) ≡ length (begun l .args .values .now)
 same l =
     let a = begun l in
-    ragged-same (off a) (values a) (cells a) (a .args .values .now) (a .args .offsets .now) (l .loop .values) (l .loop .offsets) (a .args .count) (row a) (l .loop .at) (l .loop .total) (l .loop .inv)
+    ragged-same (off a) (values a) (cells a) (l .loop .inv)
 
 same-offsets : (l : Head) → length (l .loop .offsets) ≡ length (begun l .args .offsets .now)
 same-offsets l =
     let a = begun l in
-    ragged-same-offsets (off a) (values a) (cells a) (a .args .values .now) (a .args .offsets .now) (l .loop .values) (l .loop .offsets) (a .args .count) (row a) (l .loop .at) (l .loop .total)
-    (l .loop .inv)
+    ragged-same-offsets (off a) (values a) (cells a) (l .loop .inv)
 
 -- in the loop, where the row's first cell is known
 abbrev Known : Type 0
@@ -97,22 +96,22 @@ next : (k : Known)
 next k =
     let a = start k in
     let l = head k in
-    next-row (off a) (a .args .bytes .now) (a .args .source) (cells a) (a .args .values .now) (a .args .offsets .now) (l .loop .values) (l .loop .offsets) (a .args .count) (row a) (l .loop .at)
-    (l .loop .total) (l .loop .inv) (full a) (a .pre .1 .stored .index-asked .rises) (below a) (a .pre .1 .stored .data-room) (k .before .loop-test .taken) (k .cell-at .result) (k .cell-at .ensures)
+    next-row (a .args .bytes .now) (a .args .source)
+    (l .loop .inv) (a .pre .1 .stored .index-asked .rises) (below a) (a .pre .1 .stored .data-room) (k .before .loop-test .taken) (k .cell-at .ensures)
 
 sub-last : tie.Need-sub-last Inv-loop μ-loop
-sub-last c = let a = entry (c .before .before) in omega (arith, asked-lengths _ _ _ _ (a .pre .0))
+sub-last c = let a = entry (c .before .before) in omega (arith, asked-lengths (a .pre .0))
 
 mul-n : tie.Need-mul-n Inv-loop μ-loop
 mul-n c = omega arith
 
 shared-slice-read-n : tie.Need-shared-slice-read-n Inv-loop μ-loop
-shared-slice-read-n c = let a = entry (c .before .before .before) in omega (arith, asked-lengths _ _ _ _ (a .pre .0))
+shared-slice-read-n c = let a = entry (c .before .before .before) in omega (arith, asked-lengths (a .pre .0))
 
 loop-holds : tie.Need-loop-holds Inv-loop μ-loop
 loop-holds c =
     let a = entry (c .before .before .before) in
-    ragged-begins (off a) (values a) (cells a) (a .args .values .now) (a .args .offsets .now) (a .args .count) (row a) (asked-left _ _ _ _ (a .pre .0)) (a .pre .1 .room) (a .pre .1 .room-offsets)
+    ragged-begins (off a) (values a) (cells a) (a .args .values .now) (a .args .offsets .now) (a .args .count) (row a) (asked-left (a .pre .0)) (a .pre .1 .room) (a .pre .1 .room-offsets)
 
 cell-at-requires : tie.Need-cell-at-requires Inv-loop μ-loop
 cell-at-requires c κs = let a = begun (c .before) in (a .pre .0 .shaped, a .pre .0 .within, omega (arith, a .pre .0 .counted, c .loop-test .taken))
@@ -152,7 +151,7 @@ copy-bytes-requires c κs =
 add-store-ends : tie.Need-add-store-ends Inv-loop μ-loop
 add-store-ends c =
     let k = known (given-back (c .before .before)) in
-    omega (arith, next k .left, asked-few _ _ _ _ (start k .pre .0))
+    omega (arith, next k .left, asked-few (start k .pre .0))
 
 store-ends-requires : tie.Need-store-ends-requires Inv-loop μ-loop
 store-ends-requires c κs =
@@ -181,7 +180,7 @@ add-total c =
     omega (arith, next k .room, e .offset-at2 .ensures, e .before .offset-at .ensures, same (head k), short-values (start k))
 
 add-at : tie.Need-add-at Inv-loop μ-loop
-add-at c = let k = known (ended (c .before .before)) in omega (arith, next k .left, asked-few _ _ _ _ (start k .pre .0))
+add-at c = let k = known (ended (c .before .before)) in omega (arith, next k .left, asked-few (start k .pre .0))
 
 loop-less : tie.Need-loop-less Inv-loop μ-loop
 loop-less c = let k = known (ended (c .before .before)) in omega (arith, next k .left, next k .some, k .before .loop-test .taken)
@@ -194,9 +193,9 @@ loop-again c =
     let k = known e in
     let a = start k in
     let l = head k in
-    next-copied (off a) (a .args .bytes .now) (a .args .source) (cells a) (a .args .values .now) (a .args .offsets .now) (l .loop .values) (l .loop .offsets) (a .args .count) (row a) (l .loop .at)
-    (l .loop .total) (l .loop .inv) (full a) (a .pre .1 .stored .index-asked .rises) (below a) (a .pre .1 .stored .data-room) (k .before .loop-test .taken) (k .cell-at .result) (k .cell-at .ensures)
-    (e .before .offset-at .result) (e .offset-at2 .result) (e .before .offset-at .ensures) (e .offset-at2 .ensures) (b .copy-bytes .last .0) (d .store-ends .last .0) (b .copy-bytes .ensures)
+    next-copied (a .args .bytes .now) (a .args .source)
+    (l .loop .inv) (a .pre .1 .stored .index-asked .rises) (below a) (a .pre .1 .stored .data-room) (k .before .loop-test .taken) (k .cell-at .ensures)
+    (e .before .offset-at .ensures) (e .offset-at2 .ensures) (b .copy-bytes .ensures)
     (d .store-ends .ensures)
 
 same-length : tie.Need-same-length Inv-loop μ-loop
@@ -209,10 +208,8 @@ returns : tie.Need-returns Inv-loop μ-loop
 returns c =
     let l = c .before in
     let a = begun l in (
-      ragged-values (off a) (values a) (cells a) (a .args .values .now) (a .args .offsets .now) (l .loop .values) (l .loop .offsets) (a .args .count) (row a) (l .loop .at) (l .loop .total)
-          (l .loop .inv) (c .loop-test .left),
-      ragged-offsets (off a) (values a) (cells a) (a .args .values .now) (a .args .offsets .now) (l .loop .values) (l .loop .offsets) (a .args .count) (row a) (l .loop .at) (l .loop .total)
-          (l .loop .inv) (c .loop-test .left),
+      ragged-values (off a) (values a) (cells a) (l .loop .inv) (c .loop-test .left),
+      ragged-offsets (off a) (values a) (cells a) (l .loop .inv) (c .loop-test .left),
     )
 
 pub copy-rows-spec : {M : Type 1} → statement M

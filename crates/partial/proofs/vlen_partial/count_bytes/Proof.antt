@@ -61,26 +61,26 @@ inside k =
     omega (
       arith,
       k .cell-at .ensures,
-      left-room (cells a) (a .args .count) (row a) (head k .loop .at) (head k .loop .inv .geo) (k .before .loop-test .taken) (full a) (asked-below _ _ _ _ (a .pre .0)),
+      left-room (cells a) (a .args .count) (row a) (head k .loop .at) (head k .loop .inv .geo) (k .before .loop-test .taken) (full a) (asked-below (a .pre .0)),
     )
 
 rises : (k : Known) → off (start k) (k .cell-at .result) ≤ off (start k) (k .cell-at .result + row (start k))
-rises k = let a = start k in run-rises (off a) (full a) (a .pre .1 .rises) (k .cell-at .result) (row a) (inside k)
+rises k = let a = start k in run-rises (a .pre .1 .rises) (k .cell-at .result) (row a) (inside k)
 
 within : (k : Known) → head k .loop .at + row (start k) ≤ start k .args .count
 within k = let a = start k in left-within (cells a) (a .args .count) (row a) (head k .loop .at) (head k .loop .inv .geo) (k .before .loop-test .taken)
 
 sub-last : tie.Need-sub-last Inv-loop μ-loop
-sub-last c = let a = c .before .before .before .before in omega (arith, asked-lengths _ _ _ _ (a .pre .0))
+sub-last c = let a = c .before .before .before .before in omega (arith, asked-lengths (a .pre .0))
 
 mul-n : tie.Need-mul-n Inv-loop μ-loop
 mul-n c = omega arith
 
 shared-slice-read-n : tie.Need-shared-slice-read-n Inv-loop μ-loop
-shared-slice-read-n c = let a = entry (c .before) in omega (arith, asked-lengths _ _ _ _ (a .pre .0))
+shared-slice-read-n c = let a = entry (c .before) in omega (arith, asked-lengths (a .pre .0))
 
 loop-holds : tie.Need-loop-holds Inv-loop μ-loop
-loop-holds c = let a = entry (c .before) in counting-begins (off a) (cells a) (a .args .count) (row a) (asked-left _ _ _ _ (a .pre .0))
+loop-holds c = let a = entry (c .before) in counting-begins (off a) (cells a) (a .args .count) (row a) (asked-left (a .pre .0))
 
 cell-at-requires : tie.Need-cell-at-requires Inv-loop μ-loop
 cell-at-requires c κs =
@@ -115,19 +115,19 @@ counted e =
     let k = e .before .before in
     let a = start k in
     let l = head k in
-    counting-more (off a) (cells a) (a .args .count) (row a) (l .loop .at) (l .loop .total) (l .loop .inv) (full a) (a .pre .1 .rises) (asked-below _ _ _ _ (a .pre .0))
-    (k .before .loop-test .taken) (e .offset-at2 .result - e .before .offset-at .result)
+    counting-more (l .loop .inv) (a .pre .1 .rises) (asked-below (a .pre .0))
+    (k .before .loop-test .taken)
     (ap₂ (λ (x y : ℕ). x - y) (e .offset-at2 .ensures) (e .before .offset-at .ensures) ∙ ap (λ (x : ℕ). off a (x + row a) - off a x) (k .cell-at .ensures))
 
 -- no more than there are bytes
 short : (a : Start) → bytesAt (off a) (cells a) < 18446744073709551616
-short a = omega (arith, bytes-most (off a) (a .args .shape .now) (pairs (a .args .starts .now) (a .args .lens .now)) (a .pre .1 .rises) (a .pre .0 .within .inside), a .pre .1 .few-bytes)
+short a = omega (arith, bytes-most (a .args .shape .now) (pairs (a .args .starts .now) (a .args .lens .now)) (a .pre .1 .rises) (a .pre .0 .within .inside), a .pre .1 .few-bytes)
 
 add-total : tie.Need-add-total Inv-loop μ-loop
 add-total c = omega (arith, counted c .same, short (start (c .before .before)))
 
 add-at : tie.Need-add-at Inv-loop μ-loop
-add-at c = let k = c .before .before in omega (arith, within k, asked-few _ _ _ _ (start k .pre .0))
+add-at c = let k = c .before .before in omega (arith, within k, asked-few (start k .pre .0))
 
 loop-less : tie.Need-loop-less Inv-loop μ-loop
 loop-less c =
@@ -142,7 +142,7 @@ returns : tie.Need-returns Inv-loop μ-loop
 returns c =
     let l = c .before in
     let a = entry (l .before .before) in
-    counting-ends (off a) (cells a) (a .args .count) (row a) (l .loop .at) (l .loop .total) (l .loop .inv) (c .loop-test .left)
+    counting-ends (l .loop .inv) (c .loop-test .left)
 
 pub count-bytes-spec : {M : Type 1} → statement M
 count-bytes-spec =

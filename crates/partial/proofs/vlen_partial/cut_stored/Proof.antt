@@ -56,18 +56,18 @@ values-need : (b : tie.After-count-bytes) → length (joined (cut (b .before))) 
 values-need b =
     let v = b .before in
     let a = start v .args in
-    need-values (a .shape .now) (a .starts .now) (a .lens .now) (v .volume-of .result) (asked v) (widthOf (a .width)) (a .bytes .now) (a .found .index) (a .found .from) (start v .pre .1)
+    need-values (asked v) (start v .pre .1)
     ∙ sym (b .count-bytes .ensures)
 
 offsets-need : (v : Counted) → length (offsetsOf (cut v)) ≡ v .volume-of .result + 1
 offsets-need v =
     let a = start v .args in
-    need-offsets (a .shape .now) (a .starts .now) (a .lens .now) (v .volume-of .result) (asked v) (off v) (drop (a .found .from) (a .bytes .now))
+    need-offsets (asked v) (off v) (drop (a .found .from) (a .bytes .now))
 
 volume-of-requires : tie.Need-volume-of-requires
 volume-of-requires c κs =
     let s = entry (c .before .before) in
-    few-within (s .args .shape .now) (s .args .starts .now) (s .args .lens .now) (s .pre .0 .shaped) (s .pre .0 .within)
+    few-within (s .args .starts .now) (s .args .lens .now) (s .pre .0 .shaped) (s .pre .0 .within)
 
 count-bytes-requires : tie.Need-count-bytes-requires
 count-bytes-requires c κs = (asked c, start c .pre .1 .index-asked)
@@ -95,16 +95,16 @@ returns-2 c =
     let e = c .before in
     let b = counted e in
     let v = b .before in
-    no-values (start v .args .found .last) (cut v) (outputs v) (size-passes e) (b .count-bytes .result) (values-need b) (c .if2 .taken)
+    no-values (start v .args .found .last) (cut v) (outputs v) (size-passes e) (values-need b) (c .if2 .taken)
 
 add-numbers : tie.Need-add-numbers
-add-numbers c = let v = counted (c .before) .before in omega (arith, asked-few _ _ _ _ (asked v))
+add-numbers c = let v = counted (c .before) .before in omega (arith, asked-few (asked v))
 
 returns-3 : tie.Need-returns-3
 returns-3 c =
     let e = c .before .before in
     let v = counted e .before in
-    no-offsets (start v .args .found .last) (cut v) (outputs v) (size-passes e) (v .volume-of .result + 1) (offsets-need v) (c .if3 .taken)
+    no-offsets (start v .args .found .last) (cut v) (outputs v) (size-passes e) (offsets-need v) (c .if3 .taken)
 
 copy-ragged-requires : tie.Need-copy-ragged-requires
 copy-ragged-requires c κs =
@@ -116,7 +116,7 @@ copy-ragged-requires c κs =
       record {
         stored = start v .pre .1;
         room = omega (arith, values-need b, n .if2 .left);
-        room-offsets = omega (arith, asked-count _ _ _ _ (asked v), o .if3 .left);
+        room-offsets = omega (arith, asked-count (asked v), o .if3 .left);
       },
     )
 
@@ -134,8 +134,8 @@ returns-4 c =
     let e = n .before in
     let b = counted e in
     let v = b .before in
-    all-put (start v .args .found .last) (cut v) (outputs v) (size-passes e) (b .count-bytes .result) (v .volume-of .result + 1) (values-need b) (offsets-need v) (n .if2 .left) (o .if3 .left)
-    (r .copy-ragged .last .0) (r .copy-ragged .last .1 .0) (r .copy-ragged .ensures .0) (r .copy-ragged .ensures .1)
+    all-put (start v .args .found .last) (cut v) (outputs v) (size-passes e) (values-need b) (offsets-need v) (n .if2 .left) (o .if3 .left)
+    (r .copy-ragged .ensures .0) (r .copy-ragged .ensures .1)
 
 pub cut-stored-spec : {M : Type 1} → statement M
 cut-stored-spec =

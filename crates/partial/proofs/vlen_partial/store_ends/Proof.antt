@@ -52,13 +52,13 @@ above i =
     let a = start i in
     let j = i .before .loop .i in
     let q : a .args .first + (j + 1) ≡ a .args .first + j + 1 = omega arith in
-    omega (arith, run-rises (off a) (a .args .first + a .args .n) (a .pre .1 .rises) (a .args .first) (j + 1) (omega (arith, i .loop-test .taken)), ap (off a) q)
+    omega (arith, run-rises (a .pre .1 .rises) (a .args .first) (j + 1) (omega (arith, i .loop-test .taken)), ap (off a) q)
 
 few : (i : Inside) → off (start i) (start i .args .first + i .before .loop .i + 1) ≤ off (start i) (start i .args .first + start i .args .n)
 few i =
     let a = start i in
     let j = i .before .loop .i in
-    run-below (off a) (a .args .first + a .args .n) (a .pre .1 .rises) (a .args .first + j) 1 (omega (arith, i .loop-test .taken))
+    run-below (a .pre .1 .rises) (a .args .first + j) 1 (omega (arith, i .loop-test .taken))
 
 room : (i : Inside) → start i .args .to + i .before .loop .i < length (i .before .loop .out)
 room i =
@@ -116,7 +116,6 @@ loop-again c =
     let j = i .before .loop .i in
     let begin = i .before .before in
     images-more (ended a) (a .args .out .now) (a .args .to) (a .args .first) (a .args .n) (i .before .loop .out) j (i .before .loop .inv) (i .loop-test .taken)
-    (a .args .total + (c .offset-at2 .result - begin .offset-at .result))
     (ap₂ (λ (x y : ℕ). a .args .total + (x - y)) (c .offset-at2 .ensures ∙ ap (off a) (add-one (a .args .first + j))) (begin .offset-at .ensures))
 
 same-length : tie.Need-same-length Inv-loop μ-loop

@@ -64,7 +64,7 @@ loop-less c = omega arith
 loop-again : tie.Need-loop-again Inv-loop μ-loop
 loop-again c =
     let loop = c .before .before .loop in
-    offsets-more (loop .inv) (c .before .loop-test .taken) (c .le-at .result) (c .le-at .ensures ∙ ap (λ (w : ℕ). unle (take w (drop (loop .j) (c .before .before .before .before .before .before .args .s .now)))) (sym (c .before .before .before .width-bytes .ensures)))
+    offsets-more (loop .inv) (c .before .loop-test .taken) (c .le-at .ensures ∙ ap (λ (w : ℕ). unle (take w (drop (loop .j) (c .before .before .before .before .before .before .args .s .now)))) (sym (c .before .before .before .width-bytes .ensures)))
 
 same-length : tie.Need-same-length Inv-loop μ-loop
 same-length c = (same (c .before))

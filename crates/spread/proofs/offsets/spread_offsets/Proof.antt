@@ -107,7 +107,7 @@ loop-holds c =
     let s = begun c in
     let a = s .args in
     let w = c .width-bytes in
-    ends-begin (w .result) (plane s) (a .s .now) (a .offsets .now) (a .at) (a .cells) (s .pre .2)
+    ends-begin (w .result) (plane s) (a .s .now) (a .offsets .now) (a .at) (s .pre .2)
     (subst (λ (w : ℕ). a .at + a .cells * w ≤ length (a .s .now)) (sym (w .ensures)) (s .pre .3)) (omega (arith, long s, s .pre .1))
 
 mul-offsets : tie.Need-mul-offsets Inv-loop μ-loop
@@ -151,7 +151,7 @@ loop-again c =
     let mark = toldMark (m .mark-of .result) in
     let next = c .before .number-if in
     rw (c .skip .ensures)
-    (ends-more (l .loop .inv) (u .loop-test .taken) mark (mark-is m) (next .result) (next .ensures ∙ ap (λ (e : ℕ). ifSet mark e (l .loop .end)) (end-is (m .before .before))))
+    (ends-more (l .loop .inv) (u .loop-test .taken) (mark-is m) (next .ensures ∙ ap (λ (e : ℕ). ifSet mark e (l .loop .end)) (end-is (m .before .before))))
 
 add-fill-ends : tie.Need-add-fill-ends Inv-loop μ-loop
 add-fill-ends c = omega (arith, start (head c) .pre .1)
@@ -170,7 +170,7 @@ returns c =
     let f = c .before .before in
     let l = head (f .before) in
     let s = start l in
-    ends-end (l .loop .inv) (f .before .before .loop-test .left) (s .args .n) (long s) _ (f .fill-ends .ensures)
+    ends-end (l .loop .inv) (f .before .before .loop-test .left) (long s) (f .fill-ends .ensures)
     ∙ ap (λ (w : ℕ). over (endsOf w (plane s) (s .args .s .now) (s .args .at)) (s .args .offsets .now)) (l .before .width-bytes .ensures)
 
 pub spread-offsets-spec : {M : Type 1} → statement M

@@ -20,7 +20,7 @@ same-length c = search needs
 returns : tie.Need-returns
 returns c =
     let args = c .before .before .before .before .before .before .before .before .before .args in
-    pair-laid (args .at) (args .x) (args .y) (args .out .now) (c .before .before .before .before .before .before .put-word .last .0) (c .before .before .put-word2 .last .0) (c .before .before .before .before .before .before .before .before .before .pre) (c .before .before .before .before .before .before .put-word .ensures) (c .before .before .put-word2 .ensures)
+    pair-laid (args .at) (args .x) (args .y) (args .out .now) (c .before .before .before .before .before .before .before .before .before .pre) (c .before .before .before .before .before .before .put-word .ensures) (c .before .before .put-word2 .ensures)
 
 pub put-pair-spec : {M : Type 1} → statement M
 put-pair-spec =

@@ -44,7 +44,7 @@ most : (c : tie.After-skip Inv-loop μ-loop) → c .skip .result ≤ c .before .
 most c = omega (arith, c .skip .ensures, next-most (toldMark (c .before .before .before .mark-of .result)) (c .before .before .before .before .before .before .loop .k) (c .before .before .before .before .before .before .before .before .before .before .before .before .before .args .cells) (c .before .before .before .before .before .loop-test .taken))
 
 rest : (c : tie.After-loop Inv-loop μ-loop) → c .before .loop .i * 16 + (c .before .before .before .before .before .before .before .before .args .n - c .before .loop .i) * 16 ≤ length (c .before .loop .values)
-rest c = values-rest (c .before .loop .inv .0) (c .before .before .before .before .before .before .before .before .args .n) (long (c .before .before .before .before .before .before .before .before))
+rest c = values-rest (c .before .loop .inv .0) (long (c .before .before .before .before .before .before .before .before))
 
 first-word-requires : tie.Need-first-word-requires Inv-loop μ-loop
 first-word-requires c κs = search needs
@@ -108,8 +108,8 @@ loop-again c =
     let mark = toldMark (c .before .before .before .before .before .before .before .before .before .mark-of .result) in
     let x = c .before .before .before .before .before .before .before .before .number-if in
     let y = c .before .before .before .before .before .before .before .number-if2 in
-    let is = pair-is (args .s .now) (args .at) (loop .k) (args .cells) (c .before .before .before .before .before .before .before .before .before .before .before .loop-test .taken) (orderOf (args .order)) (c .before .before .before .before .before .before .before .before .before .before .before .before .before .before .before .first-word .result) (c .before .before .before .before .before .before .before .before .before .before .before .before .before .before .before .first-word .ensures) (loop .v) (loop .u) (loop .inv .1) (loop .inv .2) in
-    (rw (c .before .before .before .before .before .before .skip .ensures) (values-cell (loop .inv .0) (inside (c .before .before .before .before .before .before .before .before .before .before .before)) mark (mark-is (c .before .before .before .before .before .before .before .before .before)) (le 8 (x .result) ++ le 8 (y .result)) (pair-cell mark (x .result) (y .result) (loop .v) (loop .u) q (x .ensures) (y .ensures) is) _ (c .before .before .put-pair .ensures)), c .before .before .before .before .before .pair-word3 .ensures, c .before .before .before .before .pair-word4 .ensures)
+    let is = pair-is (args .s .now) (args .at) (loop .k) (args .cells) (c .before .before .before .before .before .before .before .before .before .before .before .loop-test .taken) (orderOf (args .order)) (c .before .before .before .before .before .before .before .before .before .before .before .before .before .before .before .first-word .ensures) (loop .v) (loop .u) (loop .inv .1) (loop .inv .2) in
+    (rw (c .before .before .before .before .before .before .skip .ensures) (values-cell (loop .inv .0) (inside (c .before .before .before .before .before .before .before .before .before .before .before)) mark (mark-is (c .before .before .before .before .before .before .before .before .before)) (pair-cell mark (loop .v) (loop .u) (x .ensures) (y .ensures) is) (c .before .before .put-pair .ensures)), c .before .before .before .before .before .pair-word3 .ensures, c .before .before .before .before .pair-word4 .ensures)
 
 mul-fill-bytes : tie.Need-mul-fill-bytes Inv-loop μ-loop
 mul-fill-bytes c = omega (arith, (rest (c .before)), values-same (c .before .before .loop .inv .0))
@@ -127,7 +127,7 @@ same-length : tie.Need-same-length Inv-loop μ-loop
 same-length c = c .before .before .fill-bytes .kept .0 ∙ values-same (c .before .before .before .before .before .loop .inv .0)
 
 returns : tie.Need-returns Inv-loop μ-loop
-returns c = values-end (c .before .before .before .before .before .loop .inv .0) (c .before .before .before .before .loop-test .left) (c .before .before .before .before .before .before .before .before .before .before .before .before .args .n) (long (c .before .before .before .before .before .before .before .before .before .before .before .before)) _ (c .before .before .fill-bytes .ensures)
+returns c = values-end (c .before .before .before .before .before .loop .inv .0) (c .before .before .before .before .loop-test .left) (long (c .before .before .before .before .before .before .before .before .before .before .before .before)) (c .before .before .fill-bytes .ensures)
 
 pub spread-pairs-spec : {M : Type 1} → statement M
 spread-pairs-spec =

@@ -38,7 +38,7 @@ sub-result : tie.Need-sub-result Inv-loop μ-loop
 sub-result c = omega (arith, c .before .before .before .loop .inv .begun)
 
 returns : tie.Need-returns Inv-loop μ-loop
-returns c = running-stops (c .before .before .before .loop .inv) (inside (c .before .before)) (c .before .is-set .result) (test-is (c .before)) (c .if1 .taken)
+returns c = running-stops (c .before .before .before .loop .inv) (inside (c .before .before)) (test-is (c .before)) (c .if1 .taken)
 
 add-e : tie.Need-add-e Inv-loop μ-loop
 add-e c = omega (arith, c .before .before .before .before .before .pre)
@@ -47,7 +47,7 @@ loop-less : tie.Need-loop-less Inv-loop μ-loop
 loop-less c = omega arith
 
 loop-again : tie.Need-loop-again Inv-loop μ-loop
-loop-again c = running-more (c .before .before .before .loop .inv) (inside (c .before .before)) (c .before .is-set .result) (test-is (c .before)) (c .if1 .left)
+loop-again c = running-more (c .before .before .before .loop .inv) (inside (c .before .before)) (test-is (c .before)) (c .if1 .left)
 
 sub-result-2 : tie.Need-sub-result-2 Inv-loop μ-loop
 sub-result-2 c = omega (arith, c .before .loop .inv .begun)

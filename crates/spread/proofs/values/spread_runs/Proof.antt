@@ -20,22 +20,22 @@ long : (c : tie.Start Inv-loop μ-loop) → length (planeAt (c .args .from) (c .
 long c = plane-long (c .pre)
 
 nulls-room : (c : tie.After-run-length Inv-loop μ-loop) → c .before .before .loop .i * c .before .before .before .before .before .before .args .size + c .run-length .result * c .before .before .before .before .before .before .args .size ≤ length (c .before .before .loop .values)
-nulls-room c = values-room (c .before .before .loop .inv) (c .run-length .result) (nulls-fit (c .before .before .loop .inv) (c .run-length .result) (c .run-length .ensures))
+nulls-room c = values-room (c .before .before .loop .inv) (c .run-length .result) (nulls-fit (c .before .before .loop .inv) (c .run-length .ensures))
 
 between : (c : tie.After-fill-bytes Inv-loop μ-loop) → SpreadingValues (c .before .before .before .before .before .before .before .before .args .size) (orderOf (c .before .before .before .before .before .before .before .before .args .order)) (planeAt (c .before .before .before .before .before .before .before .before .args .from) (c .before .before .before .before .before .before .before .before .args .n) (c .before .before .before .before .before .before .before .before .args .masks .now)) (c .before .before .before .before .before .before .before .before .args .s .now) (c .before .before .before .before .before .before .before .before .args .values .now) (c .before .before .before .before .before .before .before .before .args .at) (c .before .before .before .before .before .before .before .before .args .cells) (c .fill-bytes .last .0) (c .before .before .before .before .loop .i + c .before .before .run-length .result) (c .before .before .before .before .loop .k)
-between c = nulls-laid (c .before .before .before .before .loop .inv) (c .before .before .run-length .result) (c .before .before .run-length .ensures) (c .fill-bytes .last .0) (c .fill-bytes .ensures)
+between c = nulls-laid (c .before .before .before .before .loop .inv) (c .before .before .run-length .ensures) (c .fill-bytes .ensures)
 
 sets-room : (c : tie.After-run-length2 Inv-loop μ-loop) → (c .before .before .before .before .before .before .before .loop .i + c .before .before .before .before .before .run-length .result) * c .before .before .before .before .before .before .before .before .before .before .before .args .size + c .run-length2 .result * c .before .before .before .before .before .before .before .before .before .before .before .args .size ≤ length (c .before .before .before .fill-bytes .last .0)
-sets-room c = values-room (between (c .before .before .before)) (c .run-length2 .result) (sets-fit (between (c .before .before .before)) (c .run-length2 .result) (c .run-length2 .ensures))
+sets-room c = values-room (between (c .before .before .before)) (c .run-length2 .result) (sets-fit (between (c .before .before .before)) (c .run-length2 .ensures))
 
 sets-source : (c : tie.After-run-length2 Inv-loop μ-loop) → c .before .before .before .before .before .before .before .before .before .before .before .args .at + c .before .before .before .before .before .before .before .loop .k * c .before .before .before .before .before .before .before .before .before .before .before .args .size + c .run-length2 .result * c .before .before .before .before .before .before .before .before .before .before .before .args .size ≤ length (c .before .before .before .before .before .before .before .before .before .before .before .args .s .now)
-sets-source c = values-source (between (c .before .before .before)) (c .run-length2 .result) (sets-stored (between (c .before .before .before)) (c .run-length2 .result) (c .run-length2 .ensures))
+sets-source c = values-source (between (c .before .before .before)) (c .run-length2 .result) (sets-stored (between (c .before .before .before)) (c .run-length2 .ensures))
 
 some : (c : tie.After-run-length2 Inv-loop μ-loop) → 0 < c .run-length2 .result
-some c = sets-some (c .before .before .before .before .before .before .before .loop .inv) (c .before .before .before .before .before .run-length .result) (c .before .before .before .before .before .run-length .ensures) (c .before .before .before .before .before .before .loop-test .taken) (c .run-length2 .result) (c .run-length2 .ensures)
+some c = sets-some (c .before .before .before .before .before .before .before .loop .inv) (c .before .before .before .before .before .run-length .ensures) (c .before .before .before .before .before .before .loop-test .taken) (c .run-length2 .ensures)
 
 rest : (c : tie.After-loop Inv-loop μ-loop) → c .before .loop .i * c .before .before .before .before .before .args .size + (c .before .before .before .before .before .args .n - c .before .loop .i) * c .before .before .before .before .before .args .size ≤ length (c .before .loop .values)
-rest c = values-rest (c .before .loop .inv) (c .before .before .before .before .before .args .n) (long (c .before .before .before .before .before))
+rest c = values-rest (c .before .loop .inv) (long (c .before .before .before .before .before))
 
 loop-holds : tie.Need-loop-holds Inv-loop μ-loop
 loop-holds c =
@@ -74,16 +74,16 @@ copy-cells-requires : tie.Need-copy-cells-requires Inv-loop μ-loop
 copy-cells-requires c κs = (omega (arith, (sets-room (c .before))), omega (arith, (sets-source (c .before))))
 
 add-i-2 : tie.Need-add-i-2 Inv-loop μ-loop
-add-i-2 c = omega (arith, (long (c .before .before .before .before .before .before .before .before .before .before .before .before .before .before .before)), sets-fit (between (c .before .before .before .before .before .before .before)) (c .before .before .before .before .run-length2 .result) (c .before .before .before .before .run-length2 .ensures))
+add-i-2 c = omega (arith, (long (c .before .before .before .before .before .before .before .before .before .before .before .before .before .before .before)), sets-fit (between (c .before .before .before .before .before .before .before)) (c .before .before .before .before .run-length2 .ensures))
 
 add-k : tie.Need-add-k Inv-loop μ-loop
-add-k c = omega (arith, sets-stored (between (c .before .before .before .before .before .before .before)) (c .before .before .before .before .run-length2 .result) (c .before .before .before .before .run-length2 .ensures))
+add-k c = omega (arith, sets-stored (between (c .before .before .before .before .before .before .before)) (c .before .before .before .before .run-length2 .ensures))
 
 loop-less : tie.Need-loop-less Inv-loop μ-loop
-loop-less c = omega (arith, (long (c .before .before .before .before .before .before .before .before .before .before .before .before .before .before .before)), sets-fit (between (c .before .before .before .before .before .before .before)) (c .before .before .before .before .run-length2 .result) (c .before .before .before .before .run-length2 .ensures), (some (c .before .before .before .before)))
+loop-less c = omega (arith, (long (c .before .before .before .before .before .before .before .before .before .before .before .before .before .before .before)), sets-fit (between (c .before .before .before .before .before .before .before)) (c .before .before .before .before .run-length2 .ensures), (some (c .before .before .before .before)))
 
 loop-again : tie.Need-loop-again Inv-loop μ-loop
-loop-again c = sets-laid (between (c .before .before .before .before .before .before .before)) (c .before .before .before .before .run-length2 .result) (c .before .before .before .before .run-length2 .ensures) _ (c .before .before .copy-cells .ensures)
+loop-again c = sets-laid (between (c .before .before .before .before .before .before .before)) (c .before .before .before .before .run-length2 .ensures) (c .before .before .copy-cells .ensures)
 
 mul-fill-bytes-3 : tie.Need-mul-fill-bytes-3 Inv-loop μ-loop
 mul-fill-bytes-3 c = omega (arith, (rest (c .before)), values-same (c .before .before .loop .inv))
@@ -101,7 +101,7 @@ same-length : tie.Need-same-length Inv-loop μ-loop
 same-length c = c .before .before .fill-bytes2 .kept .0 ∙ values-same (c .before .before .before .before .before .loop .inv)
 
 returns : tie.Need-returns Inv-loop μ-loop
-returns c = values-end (c .before .before .before .before .before .loop .inv) (c .before .before .before .before .loop-test .left) (c .before .before .before .before .before .before .before .before .before .args .n) (long (c .before .before .before .before .before .before .before .before .before)) _ (c .before .before .fill-bytes2 .ensures)
+returns c = values-end (c .before .before .before .before .before .loop .inv) (c .before .before .before .before .loop-test .left) (long (c .before .before .before .before .before .before .before .before .before)) (c .before .before .fill-bytes2 .ensures)
 
 pub spread-runs-spec : {M : Type 1} → statement M
 spread-runs-spec =

@@ -19,12 +19,12 @@ long : (c : tie.Start) → length (planeAt (c .args .from) (c .args .n) (c .args
 long c = plane-long (c .pre)
 
 -- where the size is w
-at-size : (c : tie.Start) (w : ℕ) → c .args .size ≡ w → ValuesWithin (c .args .values .now) (c .args .masks .now) (c .args .from) (c .args .n) (c .args .s .now) (c .args .at) w (c .args .cells)
-at-size c w e = subst (λ (w : ℕ). ValuesWithin (c .args .values .now) (c .args .masks .now) (c .args .from) (c .args .n) (c .args .s .now) (c .args .at) w (c .args .cells)) e (c .pre)
+at-size : (c : tie.Start) {w : ℕ} → c .args .size ≡ w → ValuesWithin (c .args .values .now) (c .args .masks .now) (c .args .from) (c .args .n) (c .args .s .now) (c .args .at) w (c .args .cells)
+at-size c {w} e = subst (λ (w : ℕ). ValuesWithin (c .args .values .now) (c .args .masks .now) (c .args .from) (c .args .n) (c .args .s .now) (c .args .at) w (c .args .cells)) e (c .pre)
 
-as-sized : (c : tie.Start) (w : ℕ) → c .args .size ≡ w → (out : List ℕ) → out ≡ over (valuesOver w (orderOf (c .args .order)) (planeAt (c .args .from) (c .args .n) (c .args .masks .now)) (drop (c .args .at) (c .args .s .now))) (c .args .values .now)
+as-sized : (c : tie.Start) {w : ℕ} → c .args .size ≡ w → {out : List ℕ} → out ≡ over (valuesOver w (orderOf (c .args .order)) (planeAt (c .args .from) (c .args .n) (c .args .masks .now)) (drop (c .args .at) (c .args .s .now))) (c .args .values .now)
     → out ≡ over (valuesOver (c .args .size) (orderOf (c .args .order)) (planeAt (c .args .from) (c .args .n) (c .args .masks .now)) (drop (c .args .at) (c .args .s .now))) (c .args .values .now)
-as-sized c w e out h = sized-as (c .args .size) w e (orderOf (c .args .order)) (planeAt (c .args .from) (c .args .n) (c .args .masks .now)) (drop (c .args .at) (c .args .s .now)) (c .args .values .now) out h
+as-sized c {w} e {out} h = sized-as e (orderOf (c .args .order)) (planeAt (c .args .from) (c .args .n) (c .args .masks .now)) (drop (c .args .at) (c .args .s .now)) (c .args .values .now) h
 
 copy-cells-requires : tie.Need-copy-cells-requires
 copy-cells-requires c κs =
@@ -40,22 +40,22 @@ returns c =
     let pre = c .before .before .before .before .before .before .before .before .pre in
     values-all
     (values-start pre (orderOf (args .order)))
-    (args .n) (long (c .before .before .before .before .before .before .before .before)) (c .before .before .before .before .if1 .taken) _ (c .before .before .copy-cells .ensures)
+    (long (c .before .before .before .before .before .before .before .before)) (c .before .before .before .before .if1 .taken) (c .before .before .copy-cells .ensures)
 
 spread-words-requires : tie.Need-spread-words-requires
-spread-words-requires c κs = (at-size (c .before .before .before .before .before .before) 1 (c .before .match .keys1), refl)
+spread-words-requires c κs = (at-size (c .before .before .before .before .before .before) (c .before .match .keys1), refl)
 
 spread-words-requires-2 : tie.Need-spread-words-requires-2
-spread-words-requires-2 c κs = (at-size (c .before .before .before .before .before .before) 2 (c .before .match .keys2), refl)
+spread-words-requires-2 c κs = (at-size (c .before .before .before .before .before .before) (c .before .match .keys2), refl)
 
 spread-words-requires-3 : tie.Need-spread-words-requires-3
-spread-words-requires-3 c κs = (at-size (c .before .before .before .before .before .before) 4 (c .before .match .keys3), refl)
+spread-words-requires-3 c κs = (at-size (c .before .before .before .before .before .before) (c .before .match .keys3), refl)
 
 spread-words-requires-4 : tie.Need-spread-words-requires-4
-spread-words-requires-4 c κs = (at-size (c .before .before .before .before .before .before) 8 (c .before .match .keys4), refl)
+spread-words-requires-4 c κs = (at-size (c .before .before .before .before .before .before) (c .before .match .keys4), refl)
 
 spread-pairs-requires : tie.Need-spread-pairs-requires
-spread-pairs-requires c κs = at-size (c .before .before .before .before .before .before) 16 (c .before .match .keys5)
+spread-pairs-requires c κs = at-size (c .before .before .before .before .before .before) (c .before .match .keys5)
 
 spread-runs-requires : tie.Need-spread-runs-requires
 spread-runs-requires c κs = search needs
@@ -64,31 +64,31 @@ same-length-2 : tie.Need-same-length-2
 same-length-2 c = search needs
 
 returns-2 : tie.Need-returns-2
-returns-2 c = as-sized (c .before .before .before .before .before .before .before .before .before) 1 (c .before .before .before .before .match .keys1) (c .before .before .spread-words .last .0) (c .before .before .spread-words .ensures)
+returns-2 c = as-sized (c .before .before .before .before .before .before .before .before .before) (c .before .before .before .before .match .keys1) (c .before .before .spread-words .ensures)
 
 same-length-3 : tie.Need-same-length-3
 same-length-3 c = search needs
 
 returns-3 : tie.Need-returns-3
-returns-3 c = as-sized (c .before .before .before .before .before .before .before .before .before) 2 (c .before .before .before .before .match .keys2) (c .before .before .spread-words2 .last .0) (c .before .before .spread-words2 .ensures)
+returns-3 c = as-sized (c .before .before .before .before .before .before .before .before .before) (c .before .before .before .before .match .keys2) (c .before .before .spread-words2 .ensures)
 
 same-length-4 : tie.Need-same-length-4
 same-length-4 c = search needs
 
 returns-4 : tie.Need-returns-4
-returns-4 c = as-sized (c .before .before .before .before .before .before .before .before .before) 4 (c .before .before .before .before .match .keys3) (c .before .before .spread-words3 .last .0) (c .before .before .spread-words3 .ensures)
+returns-4 c = as-sized (c .before .before .before .before .before .before .before .before .before) (c .before .before .before .before .match .keys3) (c .before .before .spread-words3 .ensures)
 
 same-length-5 : tie.Need-same-length-5
 same-length-5 c = search needs
 
 returns-5 : tie.Need-returns-5
-returns-5 c = as-sized (c .before .before .before .before .before .before .before .before .before) 8 (c .before .before .before .before .match .keys4) (c .before .before .spread-words4 .last .0) (c .before .before .spread-words4 .ensures)
+returns-5 c = as-sized (c .before .before .before .before .before .before .before .before .before) (c .before .before .before .before .match .keys4) (c .before .before .spread-words4 .ensures)
 
 same-length-6 : tie.Need-same-length-6
 same-length-6 c = search needs
 
 returns-6 : tie.Need-returns-6
-returns-6 c = as-sized (c .before .before .before .before .before .before .before .before .before) 16 (c .before .before .before .before .match .keys5) (c .before .before .spread-pairs .last .0) (c .before .before .spread-pairs .ensures)
+returns-6 c = as-sized (c .before .before .before .before .before .before .before .before .before) (c .before .before .before .before .match .keys5) (c .before .before .spread-pairs .ensures)
 
 same-length-7 : tie.Need-same-length-7
 same-length-7 c = search needs

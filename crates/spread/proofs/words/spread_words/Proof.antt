@@ -36,7 +36,7 @@ mark-is c =
     c .mark-of .ensures ∙ ap markOf (plane-byte (args .from) (args .n) (args .masks .now) (c .before .before .before .loop .i) (omega (arith, (inside (c .before .before)), (long (c .before .before .before .before .before .before .before .before)))))
 
 rest : (c : tie.After-loop Inv-loop μ-loop) → c .before .loop .i * c .before .before .before .before .before .before .args .size + (c .before .before .before .before .before .before .args .n - c .before .loop .i) * c .before .before .before .before .before .before .args .size ≤ length (c .before .loop .values)
-rest c = values-rest (c .before .loop .inv .0) (c .before .before .before .before .before .before .args .n) (long (c .before .before .before .before .before .before))
+rest c = values-rest (c .before .loop .inv .0) (long (c .before .before .before .before .before .before))
 
 next-word-requires : tie.Need-next-word-requires Inv-loop μ-loop
 next-word-requires c κs = (c .before .before .before .pre .1, c .before .before .before .pre .0 .stored)
@@ -84,7 +84,7 @@ loop-again c =
     let q = ordered (orderOf (args .order)) (take (args .size) (drop (args .at + loop .k * args .size) (args .s .now))) in
     let word-is = loop .inv .1 ∙ word-left (args .size) (orderOf (args .order)) (args .s .now) (args .at) (loop .k) (args .cells) (c .before .before .before .before .before .before .before .before .before .loop-test .taken) in
     let mark = toldMark (c .before .before .before .before .before .before .before .mark-of .result) in
-    (rw (c .before .before .before .before .before .skip .ensures) (values-cell (loop .inv .0) (inside (c .before .before .before .before .before .before .before .before .before)) mark (mark-is (c .before .before .before .before .before .before .before)) (le (args .size) (c .before .before .before .before .before .before .number-if .result)) (word-cell (args .size) mark (c .before .before .before .before .before .before .number-if .result) (loop .v) q (c .before .before .before .before .before .before .number-if .ensures) word-is) _ (c .before .before .put-word .ensures)), c .before .before .before .before .next-word2 .ensures)
+    (rw (c .before .before .before .before .before .skip .ensures) (values-cell (loop .inv .0) (inside (c .before .before .before .before .before .before .before .before .before)) mark (mark-is (c .before .before .before .before .before .before .before)) (word-cell (args .size) mark (loop .v) q (c .before .before .before .before .before .before .number-if .ensures) word-is) (c .before .before .put-word .ensures)), c .before .before .before .before .next-word2 .ensures)
 
 mul-fill-bytes : tie.Need-mul-fill-bytes Inv-loop μ-loop
 mul-fill-bytes c = omega (arith, (rest (c .before)))
@@ -102,7 +102,7 @@ same-length : tie.Need-same-length Inv-loop μ-loop
 same-length c = c .before .before .fill-bytes .kept .0 ∙ values-same (c .before .before .before .before .before .loop .inv .0)
 
 returns : tie.Need-returns Inv-loop μ-loop
-returns c = values-end (c .before .before .before .before .before .loop .inv .0) (c .before .before .before .before .loop-test .left) (c .before .before .before .before .before .before .before .before .before .before .args .n) (long (c .before .before .before .before .before .before .before .before .before .before)) _ (c .before .before .fill-bytes .ensures)
+returns c = values-end (c .before .before .before .before .before .loop .inv .0) (c .before .before .before .before .loop-test .left) (long (c .before .before .before .before .before .before .before .before .before .before)) (c .before .before .fill-bytes .ensures)
 
 pub spread-words-spec : {M : Type 1} → statement M
 spread-words-spec =

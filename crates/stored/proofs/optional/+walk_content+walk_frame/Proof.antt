@@ -144,13 +144,13 @@ walk-frame-returns t c =
     let m = c .before .before in
     let s = start t (m .before) in
     c .walk-content .ensures
-    ∙ frame-content (maskForm (masks t s)) (s .args .below) (bytes t s) (s .args .at) (s .args .cells) _ (opened-is t (m .before)) _ (content-is t m) (omega (arith, c .before .if1 .taken))
+    ∙ frame-content (maskForm (masks t s)) (s .args .below) (bytes t s) (s .args .at) (s .args .cells) _ (opened-is t (m .before)) (content-is t m) (omega (arith, c .before .if1 .taken))
 
 walk-frame-returns-2 : (t : ℕ) → walk-frame-lts.Need-returns-2 (claims-walk-frame t) (walk-frame-at t) walk-frame.Post
 walk-frame-returns-2 t c =
     let m = c .before .before in
     let s = start t (m .before) in
-    frame-hidden (maskForm (masks t s)) (s .args .below) (bytes t s) (s .args .at) (s .args .cells) _ (opened-is t (m .before)) _ (content-is t m) (omega (arith, c .before .if1 .left))
+    frame-hidden (maskForm (masks t s)) (s .args .below) (bytes t s) (s .args .at) (s .args .cells) _ (opened-is t (m .before)) (content-is t m) (omega (arith, c .before .if1 .left))
     (λ e. absurd (omega (arith, content-room t m, c .if2 .taken)))
 
 walk-frame-returns-3 : (t : ℕ) → walk-frame-lts.Need-returns-3 (claims-walk-frame t) (walk-frame-at t) walk-frame.Post
@@ -163,7 +163,7 @@ walk-frame-returns-4 : (t : ℕ) → walk-frame-lts.Need-returns-4 (claims-walk-
 walk-frame-returns-4 t c =
     let m = c .before .before in
     let s = start t (m .before) in
-    frame-none (maskForm (masks t s)) (s .args .below) (bytes t s) (s .args .at) (s .args .cells) _ (opened-is t (m .before)) _ (content-is t m) (omega (arith, c .before .if1 .left))
+    frame-none (maskForm (masks t s)) (s .args .below) (bytes t s) (s .args .at) (s .args .cells) _ (opened-is t (m .before)) (content-is t m) (omega (arith, c .before .if1 .left))
     (omega (arith, c .if2 .left))
 
 pub +walk-content+walk-frame-spec : {M : Type 1} → statement M

@@ -44,7 +44,7 @@ last-is : (k : Read) → k .le-at .result ≡ last (offsets (start k))
 last-is k =
     let s = start k in
     let a = s .args in
-    last-at (width s) (a .n) (a .s .now) (a .index) (k .le-at .result)
+    last-at (width s) (a .n) (a .s .now) (a .index)
     (k .le-at .ensures ∙ ap (λ (x : ℕ). unle (take (width s) (drop (a .index + x) (a .s .now)))) (times-is (k .before)))
 
 -- the offsets were looked at

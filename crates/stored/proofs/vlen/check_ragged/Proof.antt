@@ -32,8 +32,8 @@ checked m = m .before .before .before
 abbrev index : Found → Index
 index m = m .before .found2 .given .0 .0
 
-by-size : (m : Found) (b : Bool) → sizeTest (index m .last) ≡ b → unless b 5 (gives (index m)) ≡ answer (checked m)
-by-size m b e =
+by-size : (m : Found) {b : Bool} → sizeTest (index m .last) ≡ b → unless b 5 (gives (index m)) ≡ answer (checked m)
+by-size m e =
     ap (λ (t : Bool). unless t 5 (gives (index m))) (sym e) ∙ ap (λ i. limitedIndex (toldIndex i)) (sym (m .before .found2 .given .1)) ∙ limits (checked m)
 
 find-index-requires : tie.Need-find-index-requires
@@ -51,7 +51,7 @@ too-large-requires c κs = search needs
 returns : tie.Need-returns
 returns c =
     let t = c .before in
-    by-size (t .before) _ (not-true (sizeTest (index (t .before) .last)) (sym (t .too-large .ensures) ∙ c .if1 .taken))
+    by-size (t .before) (not-true (sizeTest (index (t .before) .last)) (sym (t .too-large .ensures) ∙ c .if1 .taken))
 
 returns-2 : tie.Need-returns-2
 returns-2 c = ap (λ i. limitedIndex (toldIndex i)) (sym (c .before .found .given .1)) ∙ limits (c .before .before .before)
@@ -59,7 +59,7 @@ returns-2 c = ap (λ i. limitedIndex (toldIndex i)) (sym (c .before .found .give
 returns-3 : tie.Need-returns-3
 returns-3 c =
     let t = c .before in
-    by-size (t .before) _ (not-false (sizeTest (index (t .before) .last)) (sym (t .too-large .ensures) ∙ c .if1 .left))
+    by-size (t .before) (not-false (sizeTest (index (t .before) .last)) (sym (t .too-large .ensures) ∙ c .if1 .left))
 
 pub check-ragged-spec : {M : Type 1} → statement M
 check-ragged-spec =

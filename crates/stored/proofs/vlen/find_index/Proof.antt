@@ -112,7 +112,7 @@ returns-3 c =
     let k = i .before in
     let s = begun i in
     ap (told s)
-    (found-other (width s) (s .args .n) (bytes s) (s .args .at) (long k) (omega (arith, size-is i)) (place s) (says k) (field-is k .1) (λ e. c .if2 .taken (e ∙ sym (size-is i))))
+    (found-other (width s) (s .args .n) (bytes s) (s .args .at) (long k) (omega (arith, size-is i)) (place s) (field-is k .1) (λ e. c .if2 .taken (e ∙ sym (size-is i))))
 
 index-at-requires : tie.Need-index-at-requires
 index-at-requires c κs = omega (arith, long (c .before .before .before))
@@ -160,7 +160,7 @@ returns-4 c =
     let offsets : ℕ → List ℕ = λ x. offsetsIn (width s) (suc (a .n)) (drop (a .at + x) (bytes s)) in
     c .check-index .ensures
     ∙ (λ j. mapAnswer (indexWith (a .n) (a .at + at-is j) (a .at + from-is j)) (indexedBy (offsets (at-is j)) (left s - 8 - size-is i j)))
-    ∙ ap (told s) (found-index (width s) (a .n) (bytes s) (a .at) (long k) (omega (arith, size-is i)) (place s) (says k) (field-is k .1) (d .before .if2 .left ∙ size-is i))
+    ∙ ap (told s) (found-index (width s) (a .n) (bytes s) (a .at) (long k) (omega (arith, size-is i)) (place s) (field-is k .1) (d .before .if2 .left ∙ size-is i))
 
 pub find-index-spec : {M : Type 1} → statement M
 find-index-spec =

@@ -76,7 +76,7 @@ turn f = f .before .before
 
 first : (f : First) → let l = turn f .before in let a = wide l .before .before .args in
     Rises (width l) (a .n) (bytes (wide l)) (a .at) (f .before .le-at2 .result) (l .loop .p + width l) (l .loop .left - 1)
-first f = rises-more (turn f .before .loop .inv) (some (turn f)) _ (next-is (f .before)) (f .if2 .left)
+first f = rises-more (turn f .before .loop .inv) (some (turn f)) (next-is (f .before)) (f .if2 .left)
 
 more : (f : First) → 0 < turn f .before .loop .left - 1
 more f = omega (arith, turn f .loop-test .taken)
@@ -116,14 +116,14 @@ returns : tie.Need-returns Inv-loop μ-loop
 returns c =
     let b = c .before .before in
     let a = b .before .before .args in
-    rises-not (b .width-bytes .result) (a .n) (bytes b) (a .at) _ (first-is (c .before)) (omega (arith, c .if1 .taken)) ∙ ap (tested b) (b .width-bytes .ensures)
+    rises-not (b .width-bytes .result) (a .n) (bytes b) (a .at) (first-is (c .before)) (omega (arith, c .if1 .taken)) ∙ ap (tested b) (b .width-bytes .ensures)
 
 loop-holds : tie.Need-loop-holds Inv-loop μ-loop
 loop-holds c =
     let b = c .before .before in
     let s = b .before .before in
     let a = s .args in
-    rises-start (b .width-bytes .result) (a .n) (bytes b) (a .at) _ (first-is (c .before)) (omega (arith, c .if1 .left))
+    rises-start (b .width-bytes .result) (a .n) (bytes b) (a .at) (first-is (c .before)) (omega (arith, c .if1 .left))
     (subst (λ (x : ℕ). a .at + (x + a .n * x) ≤ length (bytes b)) (sym (b .width-bytes .ensures)) (s .pre))
 
 add-p : tie.Need-add-p Inv-loop μ-loop
@@ -137,7 +137,7 @@ returns-2 c =
     let k = c .before in
     let u = k .before in
     let b = wide (u .before) in
-    rises-falls (u .before .loop .inv) (some u) _ (next-is k) (c .if2 .taken) ∙ ap (tested b) (b .width-bytes .ensures)
+    rises-falls (u .before .loop .inv) (some u) (next-is k) (c .if2 .taken) ∙ ap (tested b) (b .width-bytes .ensures)
 
 add-p-2 : tie.Need-add-p-2 Inv-loop μ-loop
 add-p-2 c = omega (arith, room-2 c)
@@ -149,7 +149,7 @@ returns-3 : tie.Need-returns-3 Inv-loop μ-loop
 returns-3 c =
     let m = c .before in
     let b = wide (turn (m .before) .before) in
-    rises-falls (first (m .before)) (more (m .before)) _ (second-is m) (c .if3 .taken) ∙ ap (tested b) (b .width-bytes .ensures)
+    rises-falls (first (m .before)) (more (m .before)) (second-is m) (c .if3 .taken) ∙ ap (tested b) (b .width-bytes .ensures)
 
 sub-left : tie.Need-sub-left Inv-loop μ-loop
 sub-left c = omega (arith, turn (c .before .before) .loop-test .taken)
@@ -164,7 +164,7 @@ loop-again c =
     let a = wide l .before .before .args in
     let two : l .loop .left - 1 - 1 ≡ l .loop .left - 2 = omega arith in
     subst (Rises (width l) (a .n) (bytes (wide l)) (a .at) (m .le-at3 .result) (l .loop .p + width l + width l)) two
-    (rises-more (first (m .before)) (more (m .before)) _ (second-is m) (c .if3 .left))
+    (rises-more (first (m .before)) (more (m .before)) (second-is m) (c .if3 .left))
 
 returns-4 : tie.Need-returns-4 Inv-loop μ-loop
 returns-4 c =
@@ -182,7 +182,7 @@ returns-5 c =
     let l = end (c .before) in
     let last-is : c .le-at4 .result ≡ unle (take (width l) (drop (l .loop .p + width l) (bytes (wide l)))) =
     c .le-at4 .ensures ∙ ap (λ (x : ℕ). unle (take x (drop (l .loop .p + width l) (bytes (wide l))))) (sym (wide l .width-bytes .ensures)) in
-    rises-last (l .loop .inv) (omega (arith, one (c .before))) _ last-is (one (c .before)) ∙ ap (tested (wide l)) (wide l .width-bytes .ensures)
+    rises-last (l .loop .inv) (omega (arith, one (c .before))) last-is (one (c .before)) ∙ ap (tested (wide l)) (wide l .width-bytes .ensures)
 
 pub rise-from-zero-spec : {M : Type 1} → statement M
 rise-from-zero-spec =

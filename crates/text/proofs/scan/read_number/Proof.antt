@@ -38,7 +38,7 @@ enum-told : tie.Need-enum-told Inv-loop μ-loop
 enum-told c = search needs
 
 returns-2 : tie.Need-returns-2 Inv-loop μ-loop
-returns-2 c = sym (c .before .before .before .before .before .before .loop .inv .1 ∙ number-stops _ _ _ (c .before .before .before .before .before .loop-test .taken) _ (c .before .before .before .digit .ensures) (sym (c .before .before .next-number .ensures) ∙ c .enum-told .given .1))
+returns-2 c = sym (c .before .before .before .before .before .before .loop .inv .1 ∙ number-stops _ _ _ (c .before .before .before .before .before .loop-test .taken) (c .before .before .before .digit .ensures) (sym (c .before .before .next-number .ensures) ∙ c .enum-told .given .1))
 
 add-i : tie.Need-add-i Inv-loop μ-loop
 add-i c = search needs
@@ -47,7 +47,7 @@ loop-less : tie.Need-loop-less Inv-loop μ-loop
 loop-less c = search needs
 
 loop-again : tie.Need-loop-again Inv-loop μ-loop
-loop-again c = (omega arith, c .before .before .before .before .before .before .before .loop .inv .1 ∙ number-more _ _ _ (c .before .before .before .before .before .before .loop-test .taken) _ (c .before .before .before .before .digit .ensures) _ (sym (c .before .before .before .next-number .ensures) ∙ c .before .next .given .1))
+loop-again c = (omega arith, c .before .before .before .before .before .before .before .loop .inv .1 ∙ number-more _ _ _ (c .before .before .before .before .before .before .loop-test .taken) (c .before .before .before .before .digit .ensures) _ (sym (c .before .before .before .next-number .ensures) ∙ c .before .next .given .1))
 
 returns-3 : tie.Need-returns-3 Inv-loop μ-loop
 returns-3 c = sym (c .before .loop .inv .1 ∙ number-ends _ _ _ (c .loop-test .left))

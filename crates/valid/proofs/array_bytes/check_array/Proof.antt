@@ -23,21 +23,21 @@ returns : tie.Need-returns
 returns c =
     let a = entered (c .before) in
     let f = c .before .keeps-rules in
-    check-four (kindOf (a .args .kind)) (a .args .cells) (content a) (f .result) (f .ensures) (c .if1 .taken)
+    check-four (kindOf (a .args .kind)) (a .args .cells) (content a) (f .ensures) (c .if1 .taken)
 
 returns-2 : tie.Need-returns-2
 unfolding mostBytes
 returns-2 c =
     let a = entered (c .before .before) in
     let f = c .before .before .keeps-rules in
-    check-five (kindOf (a .args .kind)) (a .args .cells) (content a) (f .result) (f .ensures) (c .before .if1 .left) (c .if2 .taken)
+    check-five (kindOf (a .args .kind)) (a .args .cells) (content a) (f .ensures) (c .before .if1 .left) (c .if2 .taken)
 
 returns-3 : tie.Need-returns-3
 unfolding mostBytes
 returns-3 c =
     let a = entered (c .before .before) in
     let f = c .before .before .keeps-rules in
-    check-gives (kindOf (a .args .kind)) (a .args .cells) (content a) (f .result) (f .ensures) (c .before .if1 .left) (c .if2 .left)
+    check-gives (kindOf (a .args .kind)) (a .args .cells) (content a) (f .ensures) (c .before .if1 .left) (c .if2 .left)
 
 pub check-array-spec : {M : Type 1} → statement M
 check-array-spec = tie.close (tie.spec keeps-rules-requires returns returns-2 returns-3)

@@ -47,7 +47,7 @@ returns-2 : tie.Need-returns-2
 returns-2 c =
     let a = entered (fixedCase (c .before)) in
     let f = c .before .before .form .given in
-    by-form (a .args .kind) (a .args .cells) (content a) _ (f .1) (c .before .before .before .before .if1 .left)
+    by-form (a .args .kind) (a .args .cells) (content a) (f .1) (c .before .before .before .before .if1 .left)
     (bytes-differ (a .args .cells) (content a) (f .0 .0) (orderOf (f .0 .1 .0)) (c .if2 .taken))
 
 enum-told : tie.Need-enum-told
@@ -61,7 +61,7 @@ returns-3 : tie.Need-returns-3
 returns-3 c =
     let a = entered (raggedCase (c .before)) in
     let f = c .before .enum-told .given in
-    by-form (a .args .kind) (a .args .cells) (content a) _ (f .1) (c .before .before .before .if1 .left)
+    by-form (a .args .kind) (a .args .cells) (content a) (f .1) (c .before .before .before .if1 .left)
     (offsets-miscounted (a .args .cells) (content a) (widthOf (f .0 .0)) (placeOf (f .0 .1 .0)) (c .if3 .taken))
 
 rise-from-zero-requires : tie.Need-rise-from-zero-requires
@@ -72,8 +72,8 @@ returns-4 c =
     let told = c .before .before .before in
     let a = entered (raggedCase told) in
     let f = told .enum-told .given in
-    by-form (a .args .kind) (a .args .cells) (content a) _ (f .1) (told .before .before .if1 .left)
-    (offsets-fall (a .args .cells) (content a) (widthOf (f .0 .0)) (placeOf (f .0 .1 .0)) (c .before .before .if3 .left) _ (c .before .rise-from-zero .ensures) (c .if4 .taken))
+    by-form (a .args .kind) (a .args .cells) (content a) (f .1) (told .before .before .if1 .left)
+    (offsets-fall (a .args .cells) (content a) (widthOf (f .0 .0)) (placeOf (f .0 .1 .0)) (c .before .before .if3 .left) (c .before .rise-from-zero .ensures) (c .if4 .taken))
 
 mul-last : tie.Need-mul-last
 mul-last c = search needs
@@ -85,7 +85,7 @@ returns-5 : tie.Need-returns-5
 returns-5 c =
     let a = entered (fixedCase (c .before)) in
     let f = c .before .before .form .given in
-    by-form (a .args .kind) (a .args .cells) (content a) _ (f .1) (c .before .before .before .before .if1 .left)
+    by-form (a .args .kind) (a .args .cells) (content a) (f .1) (c .before .before .before .before .if1 .left)
     (bytes-agree (a .args .cells) (content a) (f .0 .0) (orderOf (f .0 .1 .0)) (c .if2 .left))
 
 returns-6 : tie.Need-returns-6
@@ -93,8 +93,8 @@ returns-6 c =
     let told = c .before .before .before .before in
     let a = entered (raggedCase told) in
     let f = told .enum-told .given in
-    by-form (a .args .kind) (a .args .cells) (content a) _ (f .1) (told .before .before .if1 .left)
-    (offsets-rise (a .args .cells) (content a) (widthOf (f .0 .0)) (placeOf (f .0 .1 .0)) (c .before .before .before .if3 .left) _ (c .before .before .rise-from-zero .ensures) (c .before .if4 .left))
+    by-form (a .args .kind) (a .args .cells) (content a) (f .1) (told .before .before .if1 .left)
+    (offsets-rise (a .args .cells) (content a) (widthOf (f .0 .0)) (placeOf (f .0 .1 .0)) (c .before .before .before .if3 .left) (c .before .before .rise-from-zero .ensures) (c .before .if4 .left))
 
 pub content-fits-spec : {M : Type 1} → statement M
 content-fits-spec =

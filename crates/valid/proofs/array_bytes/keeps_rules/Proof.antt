@@ -25,13 +25,13 @@ returns : tie.Need-returns
 returns c =
     let asked = c .before .before in
     let a = entered asked in
-    fits-strict (kindOf (a .args .kind)) (a .args .cells) (content a) (asked .content-fits .result) (asked .content-fits .ensures) (c .before .if1 .taken) (c .masks-strict .ensures)
+    fits-strict (kindOf (a .args .kind)) (a .args .cells) (content a) (asked .content-fits .ensures) (c .before .if1 .taken) (c .masks-strict .ensures)
 
 returns-2 : tie.Need-returns-2
 returns-2 c =
     let asked = c .before in
     let a = entered asked in
-    fits-not (kindOf (a .args .kind)) (a .args .cells) (content a) (asked .content-fits .result) (asked .content-fits .ensures) (c .if1 .left)
+    fits-not (kindOf (a .args .kind)) (a .args .cells) (content a) (asked .content-fits .ensures) (c .if1 .left)
 
 pub keeps-rules-spec : {M : Type 1} → statement M
 keeps-rules-spec = tie.close (tie.spec content-fits-requires masks-strict-requires returns returns-2)

@@ -10,7 +10,7 @@ use Rattle.valid.proofs.numbers.fixed_from_numbers.Statement.{statement
 use Rattle.valid.proofs.numbers.fixed_from_numbers.Tie as tie
 
 returns : tie.Need-returns
-returns c = let a = c .before .args in outside (fixed (a .size)) little big (a .depth) (a .order) (size-none (a .size) little (c .if1 .taken)) (size-none (a .size) big (c .if1 .taken))
+returns c = let a = c .before .args in outside (fixed (a .size)) little big (a .depth) (a .order) (size-none little (c .if1 .taken)) (size-none big (c .if1 .taken))
 
 cast-if2 : tie.Need-cast-if2
 cast-if2 c = search needs

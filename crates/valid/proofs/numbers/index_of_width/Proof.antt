@@ -6,10 +6,10 @@ use Rattle.valid.proofs.numbers.index_of_width.Statement.{statement}
 use Rattle.valid.proofs.numbers.index_of_width.Tie as tie
 
 returns : tie.Need-returns
-returns c = let a = c .before .args in index-at-start (a .width) (a .place) (c .match .keys1)
+returns c = let a = c .before .args in index-at-start (a .width) (c .match .keys1)
 
 returns-2 : tie.Need-returns-2
-returns-2 c = let a = c .before .args in index-at-end (a .width) (a .place) (c .match .keys2)
+returns-2 c = let a = c .before .args in index-at-end (a .width) (c .match .keys2)
 
 returns-3 : tie.Need-returns-3
 returns-3 c = let a = c .before .args in place-unknown (widthOf (a .width)) (a .place) (c .match .rest .0 .1) (c .match .rest .1)

@@ -12,10 +12,10 @@ packed-requires : tie.Need-packed-requires
 packed-requires c κs = search needs
 
 returns : tie.Need-returns
-returns c = let a = c .before .args in mask-bytes (kindOf (a .kind)) (a .mask) (c .match .keys1)
+returns c = let a = c .before .args in mask-bytes (kindOf (a .kind)) (c .match .keys1)
 
 returns-2 : tie.Need-returns-2
-returns-2 c = let a = c .before .before .args in ap gives (c .packed .ensures) ∙ mask-bits (kindOf (a .kind)) (a .mask) (c .before .match .keys2)
+returns-2 c = let a = c .before .before .args in ap gives (c .packed .ensures) ∙ mask-bits (kindOf (a .kind)) (c .before .match .keys2)
 
 returns-3 : tie.Need-returns-3
 returns-3 c = let a = c .before .args in mask-unknown (kindOf (a .kind)) (a .mask) (c .match .rest .0 .1) (c .match .rest .1)

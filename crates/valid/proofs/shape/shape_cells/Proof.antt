@@ -38,27 +38,27 @@ shared-slice-read-side : tie.Need-shared-slice-read-side Inv-loop μ-loop
 shared-slice-read-side c = omega (arith, c .before .before .loop .inv .within)
 
 returns-3 : tie.Need-returns-3 Inv-loop μ-loop
-returns-3 c = let l = c .before .before .before in no-side (shape l) (l .loop .cells) (l .loop .k) (l .loop .inv) (c .before .before .loop-test .taken) (c .if3 .taken)
+returns-3 c = let l = c .before .before .before in no-side (l .loop .inv) (c .before .before .loop-test .taken) (c .if3 .taken)
 
 returns-4 : tie.Need-returns-4 Inv-loop μ-loop
 returns-4 c =
     let l = c .before .before .before .before in
-    long-side (shape l) (l .loop .cells) (l .loop .k) (l .loop .inv) (c .before .before .before .loop-test .taken) (omega arith)
+    long-side (l .loop .inv) (c .before .before .before .loop-test .taken) (omega arith)
 
 mul-if5 : tie.Need-mul-if5 Inv-loop μ-loop
 mul-if5 c =
     let l = c .before .before .before .before in
-    omega (arith, side-fits (shape l) (l .loop .cells) (l .loop .k) (l .loop .inv) (c .before .before .before .loop-test .taken) (omega arith))
+    omega (arith, side-fits (l .loop .inv) (c .before .before .before .loop-test .taken) (omega arith))
 
 returns-5 : tie.Need-returns-5 Inv-loop μ-loop
 returns-5 c =
     let l = c .before .before .before .before .before in
-    many-cells (shape l) (l .loop .cells) (l .loop .k) (l .loop .inv) (c .before .before .before .before .loop-test .taken) (c .if5 .taken)
+    many-cells (l .loop .inv) (c .before .before .before .before .loop-test .taken) (c .if5 .taken)
 
 mul-cells : tie.Need-mul-cells Inv-loop μ-loop
 mul-cells c =
     let l = c .before .before .before .before .before in
-    omega (arith, side-fits (shape l) (l .loop .cells) (l .loop .k) (l .loop .inv) (c .before .before .before .before .loop-test .taken) (omega arith))
+    omega (arith, side-fits (l .loop .inv) (c .before .before .before .before .loop-test .taken) (omega arith))
 
 loop-less : tie.Need-loop-less Inv-loop μ-loop
 loop-less c = omega arith
@@ -66,12 +66,12 @@ loop-less c = omega arith
 loop-again : tie.Need-loop-again Inv-loop μ-loop
 loop-again c =
     let l = c .before .before .before .before .before in
-    sides-more (shape l) (l .loop .cells) (l .loop .k) (l .loop .inv) (c .before .before .before .before .loop-test .taken) (c .before .before .if3 .left) (c .if5 .left)
+    sides-more (l .loop .inv) (c .before .before .before .before .loop-test .taken) (c .before .before .if3 .left) (c .if5 .left)
 
 returns-6 : tie.Need-returns-6 Inv-loop μ-loop
 returns-6 c =
     let l = c .before in
-    sides-end (shape l) (l .loop .cells) (l .loop .k) (l .loop .inv) (omega arith) (l .before .before .if1 .left) (l .before .if2 .left)
+    sides-end (l .loop .inv) (omega arith) (l .before .before .if1 .left) (l .before .if2 .left)
 
 pub shape-cells-spec : {M : Type 1} → statement M
 shape-cells-spec =
