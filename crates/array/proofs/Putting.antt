@@ -8,8 +8,8 @@ use mathlib.Core.List.{List}
 use lib.ListN.{length}
 use Rattle.array.specs.Answer.{gives, refuses, unless, Outcome}
 use Rattle.array.specs.Content.{Content}
-use Rattle.array.specs.Buffers.{Lengths, lengthsOf, Enough, enoughTest, over, contentOutcome}
-use Rattle.array.specs.Outcome.{contentArray, putInto}
+use Rattle.array.specs.Buffers.{Lengths, lengthsOf, Enough, enoughTest, over, contentOutcome, putInto}
+use Rattle.array.specs.Outcome.{contentArray}
 use Rattle.array.proofs.Rules.{enough-test, enough-ok}
 
 -- nothing is stored

@@ -5,7 +5,7 @@ use mathlib.Core.Bool.{Bool, _&&_}
 use mathlib.Core.List.{List, _++_}
 use lib.ListN.{length, take, drop}
 use lib.Dec.{leb}
-use Rattle.array.specs.Answer.{Answer, gives, refuses, andThen, mapAnswer, Outcome}
+use Rattle.array.specs.Answer.{Answer, gives, refuses, andThen, unless, mapAnswer, Outcome}
 use Rattle.array.specs.Content.{Content, RaggedContent}
 
 -- ---- lengths: of what was written, or of the outputs lent for it
@@ -42,6 +42,11 @@ pub record RaggedEnough (c : RaggedContent) (r : RaggedLengths) : Type 0 where
 abbrev pub raggedEnoughTest : RaggedContent → RaggedLengths → Bool
 raggedEnoughTest c r = leb (length (c .values)) (r .values) && leb (length (c .offsets)) (r .offsets)
 
+-- ---- refusal 6: a result for which there is room
+
+abbrev pub ifRoom : {A : Type 0} → Bool → A → Answer A
+ifRoom enough a = unless enough 6 (gives a)
+
 -- ---- the outputs after an answer: the result over the first of them, what lies beyond it kept; after a refusal all is kept
 
 abbrev pub over : List ℕ → List ℕ → List ℕ
@@ -73,6 +78,17 @@ raggedOutcome a old = record { answer = mapAnswer raggedLengthsOf a; buffers = r
 
 abbrev pub contentOutcome : Answer Content → Content → Outcome Lengths Content
 contentOutcome a old = record { answer = mapAnswer lengthsOf a; buffers = contentAfter a old }
+
+-- a result laid into outputs that are long enough for it, else refusal 6
+abbrev pub putList : List ℕ → List ℕ → Outcome ℕ (List ℕ)
+putList s old = listOutcome (ifRoom (leb (length s) (length old)) s) old
+
+abbrev pub putInto : Content → Content → Outcome Lengths Content
+putInto c old = contentOutcome (ifRoom (enoughTest c (lengthsOf old)) c) old
+
+-- the same of what a reading gives or refuses
+abbrev pub readOutcome : Content → Answer Content → Outcome Lengths Content
+readOutcome old a = contentOutcome (andThen a (λ c. ifRoom (enoughTest c (lengthsOf old)) c)) old
 
 -- ---- what the caller has after a call: the lengths that success names, and what lies in the outputs up to them
 

@@ -9,7 +9,7 @@ use Rattle.array.specs.Kind.{fixed, little, formTest}
 use Rattle.array.specs.Lists.{joined, pieces}
 use Rattle.array.specs.Shape.{shapeTest}
 use Rattle.array.specs.Subset.{subsetOf, numbersTest, cellsIn}
-use Rattle.array.specs.Buffers.{listOutcome}
+use Rattle.array.specs.Buffers.{listOutcome, ifRoom}
 
 -- ---- reverse_endianness (document 01, item 1)
 
@@ -45,7 +45,7 @@ cellsAnswer shape ns room =
     let cells = cellsIn shape (subsetOf (length shape) ns) in
     unless (shapeTest shape) 2
     (unless (numbersTest shape ns) 3
-    (unless (leb (length cells) room) 6 (gives cells)))
+    (ifRoom (leb (length cells) room) cells))
 
 unfoldable pub subsetCells : List ℕ → List ℕ → List ℕ → Outcome ℕ (List ℕ)
 unfolding cellsAnswer

@@ -5,9 +5,9 @@ use mathlib.Core.List.{List}
 use Rattle.array.specs.declared.answer.Written.{Written}
 use Rattle.array.specs.declared.answer.WrittenRagged.{WrittenRagged}
 use Rattle.array.specs.declared.answer.WrittenArray.{WrittenArray}
-use Rattle.array.specs.Answer.{Outcome, gives, unless}
+use Rattle.array.specs.Answer.{Outcome}
 use Rattle.array.specs.Content.{Content, RaggedContent}
-use Rattle.array.specs.Buffers.{Lengths, RaggedLengths, lengthsOf, enoughTest, contentOutcome}
+use Rattle.array.specs.Buffers.{Lengths, RaggedLengths}
 use Rattle.array.specs.Meaning.{told, toldRagged, toldArray}
 
 abbrev pub outcome : Written → List ℕ → Outcome ℕ (List ℕ)
@@ -25,7 +25,3 @@ contentArray m v o = record { masks = m; values = v; offsets = o }
 
 abbrev pub outcomeArray : WrittenArray → List ℕ → List ℕ → List ℕ → Outcome Lengths Content
 outcomeArray r m v o = record { answer = toldArray r; buffers = contentArray m v o }
-
--- what is left behind once the other rules are kept: a result laid into outputs that are long enough for it, else refusal 6
-abbrev pub putInto : Content → Content → Outcome Lengths Content
-putInto c out = contentOutcome (unless (enoughTest c (lengthsOf out)) 6 (gives c)) out

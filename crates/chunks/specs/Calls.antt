@@ -10,7 +10,7 @@ use Rattle.array.specs.Shape.{volume, shapeTest}
 use Rattle.array.specs.Kind.{kindTest}
 use Rattle.array.specs.Subset.{subsetOf, subsetsOf, numbersTest, manyTest, cellsOfAll}
 use Rattle.array.specs.Content.{Content, RaggedContent, unmasked, leaves, sizeTest, unlessKept}
-use Rattle.array.specs.Buffers.{Lengths, RaggedLengths, lengthsOf, raggedLengthsOf, enoughTest, raggedEnoughTest, raggedOutcome, contentOutcome}
+use Rattle.array.specs.Buffers.{Lengths, RaggedLengths, lengthsOf, raggedLengthsOf, enoughTest, raggedEnoughTest, raggedOutcome, contentOutcome, ifRoom}
 use Rattle.codec.specs.Ragged.{getRagged}
 use Rattle.chunks.specs.Gather.{onceTest}
 use Rattle.chunks.specs.Cut.{cutOf}
@@ -25,7 +25,7 @@ extractAnswer k shape ns c room =
     (unless (shapeTest shape) 2
     (unless (numbersTest shape ns) 3
     (unlessKept k (volume shape) c
-    (unless (enoughTest cut room) 6 (gives cut)))))
+    (ifRoom (enoughTest cut room) cut))))
 
 unfoldable pub extracted : Kind → List ℕ → List ℕ → Content → Content → Outcome Lengths Content
 unfolding extractAnswer
@@ -44,7 +44,7 @@ mergeAnswer k shape ns c room =
     (andThen (chunkCells k bs c) (λ cs.
     unless (sizeTest (length (joined (leaves (k .depth) cs)))) 5
     (unless (onceTest (volume shape) (cellsOfAll shape bs)) 12
-    (unless (enoughTest (mergeOf k shape bs cs) room) 6 (gives (mergeOf k shape bs cs))))))))
+    (ifRoom (enoughTest (mergeOf k shape bs cs) room) (mergeOf k shape bs cs)))))))
 
 unfoldable pub merged : Kind → List ℕ → List ℕ → Content → Content → Outcome Lengths Content
 unfolding mergeAnswer
@@ -61,7 +61,7 @@ unfoldable pub partialAnswer : ℕ → Place → List ℕ → List ℕ → List 
 partialAnswer w p shape ns s room =
     unless (shapeTest shape) 2 (unless (numbersTest shape ns) 3
     (andThen (getRagged w p s (volume shape)) (λ x.
-    unless (raggedEnoughTest (raggedCut w p shape ns x) room) 6 (gives (raggedCut w p shape ns x)))))
+    ifRoom (raggedEnoughTest (raggedCut w p shape ns x) room) (raggedCut w p shape ns x))))
 
 unfoldable pub partiallyDecoded : ℕ → Place → List ℕ → List ℕ → List ℕ → RaggedContent → Outcome RaggedLengths RaggedContent
 unfolding partialAnswer

@@ -1,6 +1,6 @@
 -- Ragged values of depth 0 lie end to end from offset 0 in the array and in the stored bytes: they are written and read with no cell moved.
 -- Assumes nothing.
-use mathlib.Core.Path.{_≡_, refl, sym, ap, ap₂, _∙_}
+use mathlib.Core.Path.{_≡_, refl, ap, ap₂}
 use Prim.Native.Nat.{ℕ, zero, suc}
 use mathlib.Core.List.{List}
 use lib.ListN.{length}

@@ -8,7 +8,7 @@ use mathlib.Core.List.{List, [], _∷_}
 use lib.ListN.{length}
 use Rattle.array.specs.Limits.{mostBytes, mostCells}
 use Rattle.array.specs.Lists.{joined, All}
-use Rattle.array.specs.Kind.{Kind, Masks, Form, fixed, ragged, FormOk}
+use Rattle.array.specs.Kind.{Kind, Masks, Form, FormOk}
 use Rattle.array.specs.Cells.{Value, Cell, maskOf, leaf}
 use Rattle.array.specs.Content.{Content, ContentOk, leaves, cellsOf}
 use Rattle.array.proofs.Lists.{map-id}

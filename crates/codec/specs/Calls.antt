@@ -11,7 +11,7 @@ use Rattle.array.specs.Bytes.{unle}
 use Rattle.array.specs.Kind.{Kind, Form, nullOf, kindTest}
 use Rattle.array.specs.Shape.{volume, shapeTest}
 use Rattle.array.specs.Content.{Content, RaggedContent, endToEnd, layout, cellsOf, valuesIn, sizeTest, unlessKept}
-use Rattle.array.specs.Buffers.{Lengths, RaggedLengths, lengthsOf, raggedLengthsOf, enoughTest, raggedEnoughTest, listOutcome, raggedOutcome, contentOutcome}
+use Rattle.array.specs.Buffers.{Lengths, RaggedLengths, lengthsOf, raggedLengthsOf, enoughTest, raggedEnoughTest, listOutcome, raggedOutcome, contentOutcome, ifRoom}
 use Rattle.codec.specs.Mask.{MaskForm, maskForm}
 use Rattle.codec.specs.Frame.{frame, readFrame}
 use Rattle.codec.specs.Values.{putValues, getValues}
@@ -29,7 +29,7 @@ encodeAnswer k shape c room =
     unless (kindTest k) 1
     (unless (shapeTest shape) 2
     (unlessKept k (volume shape) c
-    (unless (leb (length stored) room) 6 (gives stored))))
+    (ifRoom (leb (length stored) room) stored)))
 
 unfoldable pub encoded : Kind → List ℕ → Content → List ℕ → Outcome ℕ (List ℕ)
 unfolding encodeAnswer
@@ -46,7 +46,7 @@ decodeAnswer k shape s room =
     unless (kindTest k) 1
     (unless (shapeTest shape) 2
     (andThen (readIn (maskForm (k .masks)) (k .form) (k .depth) (volume shape) s) (λ c.
-    unless (enoughTest c room) 6 (gives c))))
+    ifRoom (enoughTest c room) c)))
 
 unfoldable pub decoded : Kind → List ℕ → List ℕ → Content → Outcome Lengths Content
 unfolding decodeAnswer
@@ -63,7 +63,7 @@ interleavedAnswer n s room =
     (andThen (interleavedCells n (drop 4 s)) (λ vs.
     let c : RaggedContent = endToEnd vs in
     unless (sizeTest (length (joined vs))) 5
-    (unless (raggedEnoughTest c room) 6 (gives c))))))
+    (ifRoom (raggedEnoughTest c room) c)))))
 
 unfoldable pub interleavedDecoded : ℕ → List ℕ → RaggedContent → Outcome RaggedLengths RaggedContent
 unfolding interleavedAnswer
@@ -81,7 +81,7 @@ encodeInterleavedAnswer k shape c room =
     unless (interleavedTest k) 1
     (unless (shapeTest shape) 2
     (unlessKept k (volume shape) c
-    (unless (leb (length stored) room) 6 (gives stored))))
+    (ifRoom (leb (length stored) room) stored)))
 
 unfoldable pub interleavedEncoded : Kind → List ℕ → Content → List ℕ → Outcome ℕ (List ℕ)
 unfolding encodeInterleavedAnswer

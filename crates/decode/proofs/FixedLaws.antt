@@ -2,7 +2,7 @@
 -- Assumes nothing.
 use mathlib.Core.Path.{_≡_, refl, sym, ap, _∙_, subst}
 use mathlib.Core.Logic.{_≢_}
-use mathlib.Core.Bool.{Bool, true, false}
+use mathlib.Core.Bool.{Bool}
 use mathlib.Core.List.{List, [], map}
 use Prim.Native.Nat.{ℕ, zero, suc, _+_, _-_, _*_, _≤_, _<_}
 use native.Mathlib.Omega.{arith}
@@ -16,7 +16,7 @@ use Rattle.array.specs.Lists.{joined, pieces}
 use Rattle.array.specs.Kind.{Masks, Order, Form, fixed, ordered}
 use Rattle.array.specs.Cells.{Value, Cell}
 use Rattle.array.specs.Content.{Content, layout}
-use Rattle.array.specs.Buffers.{over}
+use Rattle.array.specs.Buffers.{over, readOutcome}
 use Rattle.array.specs.Outcome.{contentArray, outcomeArray}
 use Rattle.array.specs.declared.answer.WrittenArray.the-variants.{Refused, Lengths}
 use Rattle.codec.specs.Mask.{MaskForm, maskForm}
@@ -35,7 +35,6 @@ use Rattle.planes.specs.Within.{planesIn, innermostIn}
 use Rattle.planes.proofs.Levels.{times-first}
 use Rattle.planes.proofs.AllPlanes.{masks-are, leaves-are, leaves-flat, count-are, planes-long, innermost-read, innermost-long}
 use Rattle.decode.specs.declared.fixed.Found.{Found}
-use Rattle.decode.specs.Outcomes.{readOutcome}
 use Rattle.decode.specs.Reads.{Limited, fixedFrom, FixedFound, FixedWithin}
 use Rattle.decode.proofs.Outcomes.{short-masks, short-values, all-written}
 use Rattle.decode.proofs.Small.{bytes-small}

@@ -26,7 +26,7 @@ use Rattle.codec.proofs.Flat.{flat-read}
 use Rattle.stored.specs.declared.vlen.Index.{Index}
 use Rattle.stored.specs.Walk.{walked}
 use Rattle.stored.specs.Stored.{cellsFrom, answerBy}
-use Rattle.stored.specs.Index.{raggedAt, endsIn}
+use Rattle.stored.specs.Index.{endsIn}
 use Rattle.stored.proofs.Reading.{innermost-some, read-walked}
 use Rattle.stored.proofs.Walks.{WalkPassed, passed-count}
 use Rattle.stored.proofs.CheckedIndex.{IndexChecked}

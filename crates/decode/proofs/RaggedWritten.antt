@@ -11,7 +11,7 @@ use Rattle.array.specs.declared.answer.WrittenArray.the-variants.{Lengths, Refu
 use Rattle.array.specs.Answer.{gives}
 use Rattle.array.specs.Kind.{Masks}
 use Rattle.array.specs.Content.{Content, unmasked}
-use Rattle.array.specs.Buffers.{over}
+use Rattle.array.specs.Buffers.{over, readOutcome}
 use Rattle.array.specs.Outcome.{contentArray, outcomeArray}
 use Rattle.codec.specs.Mask.{maskForm}
 use Rattle.codec.specs.Frame.{countSet}
@@ -21,7 +21,6 @@ use Rattle.spread.specs.Ends.{endsBy}
 use Rattle.spread.proofs.CopyingOffsets.{length-offsets}
 use Rattle.planes.specs.Within.{planesIn, innermostIn}
 use Rattle.planes.proofs.AllPlanes.{innermost-read}
-use Rattle.decode.specs.Outcomes.{readOutcome}
 use Rattle.decode.specs.Reads.{RaggedWithin}
 use Rattle.decode.proofs.Outcomes.{short-masks, short-values, short-offsets, all-written}
 use Rattle.decode.proofs.RaggedLaws.{content, nested-masks, nested-count, nested-values, nested-offsets, nested-masks-long, nested-values-long, nested-offsets-long}

@@ -17,7 +17,7 @@ use Rattle.array.proofs.Rules.{shape-ok}
 use Rattle.codec.specs.Mask.{maskForm}
 use Rattle.codec.specs.Calls.{readIn, decodeAnswer, decoded}
 use Rattle.array.specs.Outcome.{contentArray, outcomeArray}
-use Rattle.decode.specs.Outcomes.{readOutcome}
+use Rattle.array.specs.Buffers.{readOutcome}
 
 -- what the shape's count says
 pub record ShapeCounted (shape : List ℕ) (n : ℕ) : Type 0 where

@@ -18,8 +18,8 @@ ghost use Rattle.array.specs.Meaning.{orderOf, masksOf};
 ghost use Rattle.array.specs.Outcome.{contentArray, outcomeArray};
 ghost use Rattle.codec.specs.Mask.{maskForm};
 ghost use Rattle.codec.specs.Calls.{readIn};
-ghost use Rattle.decode.specs.Outcomes.{readOutcome};
 ghost use Rattle.decode.specs.Reads.{Limited, fixedFrom, FixedFound, FixedWithin};
+ghost use Rattle.array.specs.Buffers.{readOutcome};
 
 // Values that the walk found: where they begin, and of how many cells.
 pub struct Found {

@@ -12,8 +12,8 @@ ghost use Rattle.array.specs.Meaning.{orderOf};
 ghost use Rattle.array.specs.Outcome.{contentArray, outcomeArray};
 ghost use Rattle.codec.specs.Mask.{maskForm};
 ghost use Rattle.codec.specs.Calls.{readIn};
-ghost use Rattle.decode.specs.Outcomes.{readOutcome};
 ghost use Rattle.decode.specs.Reads.{Limited};
+ghost use Rattle.array.specs.Buffers.{readOutcome};
 
 // Reads n of them: there is nothing to walk, and what is lent for masks stays.
 pub fn read_plain(

@@ -26,8 +26,8 @@ ghost use Rattle.array.specs.Outcome.{contentArray, outcomeArray};
 ghost use Rattle.codec.specs.Mask.{maskForm};
 ghost use Rattle.codec.specs.Calls.{readIn};
 ghost use Rattle.stored.specs.Index.{raggedAt, IndexWithin};
-ghost use Rattle.decode.specs.Outcomes.{readOutcome};
 ghost use Rattle.decode.specs.Reads.{Limited, nestedFrom, RaggedWithin};
+ghost use Rattle.array.specs.Buffers.{readOutcome};
 
 // Values with no mask: the stored offsets and bytes. What is lent for masks stays.
 fn write_flat(

@@ -9,7 +9,7 @@ use lib.Dec.{leb}
 use borrow.Author.Tests.{le-leb, lt-leb}
 use Rattle.valid.specs.declared.array_bytes.Checked.{Checked}
 use Rattle.array.specs.Answer.{Answer, gives, refuses, unless, Outcome}
-use Rattle.array.specs.Buffers.{over, listOutcome}
+use Rattle.array.specs.Buffers.{over, listOutcome, putList}
 use Rattle.valid.specs.Check.{checkOf, toldChecked}
 use Rattle.array.specs.Kind.{Kind, kindTest}
 use Rattle.array.specs.Limits.{mostCells}
@@ -20,7 +20,7 @@ use Rattle.array.proofs.Rules.{kind-ok}
 use Rattle.valid.proofs.ShapeLaws.{Counted, counted, not-counted}
 use Rattle.codec.specs.Calls.{storedForm, encodeAnswer, encoded}
 use Rattle.encode.specs.Ready.{Encodable}
-use Rattle.encode.specs.Stored.{storedFrom, storedOver, lengthFrom}
+use Rattle.encode.specs.Stored.{storedFrom, lengthFrom}
 use Rattle.encode.proofs.Walk.{stored-by}
 use Rattle.encode.proofs.Levels.{stored-long}
 
@@ -61,7 +61,7 @@ module _ (k : Kind) (shape : List ℕ) (c : Content) (out : List ℕ) where
           let h : KeepsRules k n c = check-valid k n c r f e in
           record { kind = kind-ok k p; some = s .some; few = s .few; content = h .array .fits; small = h .small }
 
-      pub encode-rest : r ≡ Checked.Valid → storedOver (storedForm k n c) out ≡ encoded k shape c out
+      pub encode-rest : r ≡ Checked.Valid → putList (storedForm k n c) out ≡ encoded k shape c out
       unfolding encoded encodeAnswer whole
       encode-rest e =
           let s : Counted shape n = counted shape n q in
@@ -83,16 +83,16 @@ module _ {k : Kind} {n : ℕ} {c : Content} (h : Encodable k n c) where
     pub encode-room : need ≤ length out → length (storedFrom k n c (k .depth)) ≤ length out
     encode-room g = subst (λ (m : ℕ). m ≤ length out) (sym need-is) g
 
-    pub encode-short : length out < need → refused 6 out ≡ storedOver (storedForm k n c) out
+    pub encode-short : length out < need → refused 6 out ≡ putList (storedForm k n c) out
     encode-short g =
         let s : List ℕ = storedFrom k n c (k .depth) in
         ap (λ (b : Bool). listOutcome (unless b 6 (gives s)) out) (sym (lt-leb (length s) (length out) (subst (λ (m : ℕ). length out < m) (sym need-is) g)))
-        ∙ ap (λ (x : List ℕ). storedOver x out) (sym is-stored)
+        ∙ ap (λ (x : List ℕ). putList x out) (sym is-stored)
 
     pub encode-written : need ≤ length out → {out′ : List ℕ} → out′ ≡ over (storedFrom k n c (k .depth)) out
-        → _≡_ {A = Outcome ℕ (List ℕ)} (record { answer = gives need; buffers = out′ }) (storedOver (storedForm k n c) out)
+        → _≡_ {A = Outcome ℕ (List ℕ)} (record { answer = gives need; buffers = out′ }) (putList (storedForm k n c) out)
     encode-written g {out′} eo =
         let s : List ℕ = storedFrom k n c (k .depth) in
         ap₂ (λ (m : ℕ) (o : List ℕ). record { answer = gives m; buffers = o }) (sym need-is) eo
         ∙ ap (λ (b : Bool). listOutcome (unless b 6 (gives s)) out) (sym (le-leb (length s) (length out) (encode-room g)))
-        ∙ ap (λ (x : List ℕ). storedOver x out) (sym is-stored)
+        ∙ ap (λ (x : List ℕ). putList x out) (sym is-stored)

@@ -44,10 +44,6 @@ maskFrom k n c left = liveMask (k .masks) n (c .masks) (levelOf k left)
 abbrev pub frameFrom : Kind → ℕ → Content → ℕ → List ℕ
 frameFrom k n c left = wrap (maskFrom k n c left) (storedFrom k n c (left - 1))
 
--- bytes over an output: refusal 6 where it is too short
-abbrev pub storedOver : List ℕ → List ℕ → Outcome ℕ (List ℕ)
-storedOver s out = listOutcome (unless (leb (length s) (length out)) 6 (gives s)) out
-
 -- ---- the written length: the sum over the levels, outermost first
 
 -- nothing where no cell is left

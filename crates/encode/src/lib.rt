@@ -16,7 +16,7 @@ ghost use Rattle.array.specs.Meaning.{kindOf};
 ghost use Rattle.array.specs.Outcome.{contentArray, outcome};
 ghost use Rattle.codec.specs.Calls.{storedForm, encoded};
 ghost use Rattle.encode.specs.Ready.{Encodable};
-ghost use Rattle.encode.specs.Stored.{storedOver};
+ghost use Rattle.array.specs.Buffers.{putList};
 
 // Writes an array into its stored form. Refusals 1, 2, 4, 5 and 6, in this order; nothing is stored before the last check.
 pub fn encode(
@@ -52,7 +52,7 @@ fn encode_valid(
     out: &mut [u8],
 ) -> Written
     requires { ⌜ Encodable (kindOf kind) cells (contentArray (now masks) (now values) (now offsets)) ⌝ }
-    ensures { λ r. ⌜ outcome r (now (out .exit)) ≡ storedOver (storedForm (kindOf kind) cells (contentArray (now (masks .entry)) (now (values .entry)) (now (offsets .entry)))) (now (out .entry)) ⌝ }
+    ensures { λ r. ⌜ outcome r (now (out .exit)) ≡ putList (storedForm (kindOf kind) cells (contentArray (now (masks .entry)) (now (values .entry)) (now (offsets .entry)))) (now (out .entry)) ⌝ }
 {
     let need = length::stored_length(kind, cells, masks, offsets);
     if out.len() < need {

@@ -11,8 +11,7 @@ use Rattle.array.specs.Kind.{Kind, kindTest}
 use Rattle.array.specs.Shape.{volume, shapeTest}
 use Rattle.array.specs.Subset.{subsetOf, numbersTest}
 use Rattle.array.specs.Content.{Content, unlessKept}
-use Rattle.array.specs.Buffers.{lengthsOf, enoughTest, contentOutcome}
-use Rattle.array.specs.Outcome.{putInto}
+use Rattle.array.specs.Buffers.{lengthsOf, enoughTest, contentOutcome, putInto}
 use Rattle.valid.specs.Check.{checkOf, toldChecked}
 use Rattle.array.proofs.Putting.{refused}
 use Rattle.valid.proofs.CheckLaws.{check-refused, check-passed}

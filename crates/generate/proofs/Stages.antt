@@ -7,13 +7,13 @@ use Prim.Native.Nat.{ℕ}
 use Rattle.array.specs.Kind.{Kind, Form, kindTest, byteKind}
 use Rattle.array.specs.Shape.{shapeTest}
 use Rattle.array.specs.Content.{Content, layout}
-use Rattle.array.specs.Outcome.{putInto}
 use Rattle.array.proofs.Putting.{refused}
 use Rattle.valid.proofs.ShapeLaws.{Counted}
 use Rattle.load.specs.Calls.{generateAnswer, generated}
 use Rattle.load.specs.Law.{SameSize}
 use Rattle.load.proofs.Law.{load-same}
 use Rattle.generate.specs.Cells.{cellsFrom}
+use Rattle.array.specs.Buffers.{putInto}
 
 module _ (k : Kind) (shape : List ℕ) (s : ℕ) (out : Content) where
   pub by-kind : kindTest k ≡ false → refused 1 out ≡ generated k shape s out

@@ -14,7 +14,7 @@ use Rattle.array.specs.Kind.{Kind, kindTest, Form, fixed, ragged}
 use Rattle.array.specs.Offsets.{slices}
 use Rattle.array.specs.Cells.{Value}
 use Rattle.array.specs.Content.{Content, ValuesOk, valuesIn}
-use Rattle.array.specs.Buffers.{over, listOutcome}
+use Rattle.array.specs.Buffers.{over, listOutcome, putList}
 use Rattle.array.specs.Meaning.{formOf, kindOf}
 use Rattle.array.specs.declared.kind.Kind as declared
 use Rattle.array.specs.declared.kind.Values.{Values}
@@ -26,7 +26,7 @@ use Rattle.valid.proofs.ShapeLaws.{Counted, counted, not-counted}
 use Rattle.codec.specs.Interleaved.{putInterleaved, IsRagged, raggedTest, interleavedTest}
 use Rattle.codec.specs.Calls.{interleavedForm, encodeInterleavedAnswer, interleavedEncoded}
 use Rattle.codec.proofs.Refusals.{interleaved-ok}
-use Rattle.interleaved.specs.Held.{Held, interleavedOf, writtenOver, encodedCells}
+use Rattle.interleaved.specs.Held.{Held, interleavedOf, encodedCells}
 
 -- ---- is_interleaved
 
@@ -85,10 +85,10 @@ module _ (k : Kind) (n : ℕ) (c : Content) (out : List ℕ) {r : Checked} (f : 
         let h : KeepsRules k n c = check-valid k n c r f e in
         ragged-held (k .form) (interleaved-ok k p .is-ragged) n c (h .array .fits .values-fit) few (h .small)
 
-    pub write-rest : writtenOver (interleavedOf (c .values) (c .offsets)) out ≡ encodedCells k n c out
+    pub write-rest : putList (interleavedOf (c .values) (c .offsets)) out ≡ encodedCells k n c out
     write-rest =
         let stored : List ℕ = interleavedForm k n c in
-        ap (λ (vs : List Value). writtenOver (putInterleaved vs) out) (ragged-values (k .form) (interleaved-ok k p .is-ragged) n c)
+        ap (λ (vs : List Value). putList (putInterleaved vs) out) (ragged-values (k .form) (interleaved-ok k p .is-ragged) n c)
         ∙ sym (ap (λ (a : Answer (List ℕ)). listOutcome a out) (check-passed k n c r f e (unless (leb (length stored) (length out)) 6 (gives stored))))
 
 -- ---- refusal 6, or the cells
@@ -97,11 +97,11 @@ module _ (want out : List ℕ) {need : ℕ} where
   pub cells-room : need ≤ length out → need ≡ length want → length want ≤ length out
   cells-room g e = omega arith
 
-  pub cells-short : length out < need → need ≡ length want → refusedList 6 out ≡ writtenOver want out
+  pub cells-short : length out < need → need ≡ length want → refusedList 6 out ≡ putList want out
   cells-short g e = rw (lt-leb (length want) (length out) (omega arith))
 
   pub cells-written : need ≤ length out → need ≡ length want → {out′ : List ℕ} → out′ ≡ over want out
-      → _≡_ {A = Outcome ℕ (List ℕ)} (record { answer = gives need; buffers = out′ }) (writtenOver want out)
+      → _≡_ {A = Outcome ℕ (List ℕ)} (record { answer = gives need; buffers = out′ }) (putList want out)
   cells-written g e eo =
       ap₂ (λ (m : ℕ) (o : List ℕ). record { answer = gives m; buffers = o }) e eo
       ∙ ap (λ (b : Bool). listOutcome (unless b 6 (gives want)) out) (sym (le-leb (length want) (length out) (cells-room g e)))

@@ -10,7 +10,7 @@ use Rattle.array.specs.Limits.{mostBytes, mostCells}
 use Rattle.array.specs.Kind.{Kind}
 use Rattle.array.specs.Offsets.{last, Rising, slices}
 use Rattle.array.specs.Content.{Content, unlessKept}
-use Rattle.array.specs.Buffers.{listOutcome}
+use Rattle.array.specs.Buffers.{listOutcome, ifRoom}
 use Rattle.codec.specs.Interleaved.{putInterleaved}
 use Rattle.codec.specs.Calls.{interleavedForm}
 
@@ -25,12 +25,8 @@ pub record Held (n : ℕ) (s os : List ℕ) : Type 0 where
 abbrev pub interleavedOf : List ℕ → List ℕ → List ℕ
 interleavedOf s os = putInterleaved (slices os s)
 
--- bytes over an output: refusal 6 where it is too short
-abbrev pub writtenOver : List ℕ → List ℕ → Outcome ℕ (List ℕ)
-writtenOver s out = listOutcome (unless (leb (length s) (length out)) 6 (gives s)) out
-
 -- what becomes of an array whose kind and shape are sound: 4, 5, and last 6
 abbrev pub encodedCells : Kind → ℕ → Content → List ℕ → Outcome ℕ (List ℕ)
 encodedCells k n c out =
     let stored = interleavedForm k n c in
-    listOutcome (unlessKept k n c (unless (leb (length stored) (length out)) 6 (gives stored))) out
+    listOutcome (unlessKept k n c (ifRoom (leb (length stored) (length out)) stored)) out

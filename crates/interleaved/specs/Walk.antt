@@ -9,7 +9,7 @@ use Rattle.array.specs.Limits.{mostCells}
 use Rattle.array.specs.Lists.{joined}
 use Rattle.array.specs.Cells.{Value}
 use Rattle.array.specs.Content.{RaggedContent, endToEnd, sizeTest}
-use Rattle.array.specs.Buffers.{RaggedLengths, raggedEnoughTest}
+use Rattle.array.specs.Buffers.{RaggedLengths, raggedEnoughTest, ifRoom}
 use Rattle.codec.specs.Interleaved.{interleavedCells}
 use Rattle.interleaved.specs.declared.vlen_v2.Walk.{Walk}
 
@@ -48,4 +48,4 @@ pub record Walked (n : ℕ) (s : List ℕ) (sum : ℕ) : Type 0 where
 
 -- what becomes of the cells: 5, and last 6
 abbrev pub foundAnswer : List Value → RaggedLengths → Answer RaggedContent
-foundAnswer vs room = unless (sizeTest (totalOf vs)) 5 (unless (raggedEnoughTest (endToEnd vs) room) 6 (gives (endToEnd vs)))
+foundAnswer vs room = unless (sizeTest (totalOf vs)) 5 (ifRoom (raggedEnoughTest (endToEnd vs) room) (endToEnd vs))

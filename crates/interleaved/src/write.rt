@@ -18,10 +18,10 @@ ghost use mathlib.Core.List.{[], _∷_};
 ghost use Rattle.array.specs.Limits.{mostBytes, mostCells};
 ghost use Rattle.array.specs.Meaning.{kindOf};
 ghost use Rattle.array.specs.Outcome.{outcome, contentArray};
-ghost use Rattle.array.specs.Buffers.{over};
+ghost use Rattle.array.specs.Buffers.{over, putList};
 ghost use Rattle.codec.specs.Interleaved.{putInterleaved, interleavedTest};
 ghost use Rattle.codec.specs.Calls.{interleavedEncoded};
-ghost use Rattle.interleaved.specs.Held.{Held, interleavedOf, writtenOver, encodedCells};
+ghost use Rattle.interleaved.specs.Held.{Held, interleavedOf, encodedCells};
 
 // Whether arrays of this kind have an interleaved form: ragged values with no mask. Width, place and mask form say nothing of it.
 fn is_interleaved(kind: Kind) -> bool
@@ -68,7 +68,7 @@ fn put_cells(out: &mut [u8], values: &[u8], offsets: &[u64], cells: usize)
 // The cells of a valid array: refusal 6, or their interleaved form.
 fn write_cells(cells: usize, values: &[u8], offsets: &[u64], out: &mut [u8]) -> Written
     requires { ⌜ Held cells (now values) (now offsets) ⌝ }
-    ensures { λ r. ⌜ outcome r (now (out .exit)) ≡ writtenOver (interleavedOf (now (values .entry)) (now (offsets .entry))) (now (out .entry)) ⌝ }
+    ensures { λ r. ⌜ outcome r (now (out .exit)) ≡ putList (interleavedOf (now (values .entry)) (now (offsets .entry))) (now (out .entry)) ⌝ }
 {
     let need = 4 + 4 * cells + values.len();
     if out.len() < need {
@@ -81,7 +81,7 @@ fn write_cells(cells: usize, values: &[u8], offsets: &[u64], out: &mut [u8]) -> 
 // The same of one cell, which has all the values.
 fn write_one(values: &[u8], out: &mut [u8]) -> Written
     requires { ⌜ length (now values) ≤ mostBytes ⌝ }
-    ensures { λ r. ⌜ outcome r (now (out .exit)) ≡ writtenOver (putInterleaved (now (values .entry) ∷ [])) (now (out .entry)) ⌝ }
+    ensures { λ r. ⌜ outcome r (now (out .exit)) ≡ putList (putInterleaved (now (values .entry) ∷ [])) (now (out .entry)) ⌝ }
 {
     let size = values.len();
     let need = 8 + size;

@@ -6,7 +6,7 @@ use Rattle.array.specs.Answer.{Answer, gives, unless, Outcome}
 use Rattle.array.specs.Kind.{Kind, kindTest}
 use Rattle.array.specs.Shape.{shapeTest}
 use Rattle.array.specs.Content.{Content}
-use Rattle.array.specs.Buffers.{Lengths, lengthsOf, enoughTest, contentOutcome}
+use Rattle.array.specs.Buffers.{Lengths, lengthsOf, enoughTest, contentOutcome, ifRoom}
 use Rattle.load.specs.Load.{loadOf}
 
 -- ---- generate: the load of a start number
@@ -15,7 +15,7 @@ unfoldable pub generateAnswer : Kind → List ℕ → ℕ → Lengths → Answer
 generateAnswer k shape s room =
     unless (kindTest k) 1
     (unless (shapeTest shape) 2
-    (unless (enoughTest (loadOf k shape s) room) 6 (gives (loadOf k shape s))))
+    (ifRoom (enoughTest (loadOf k shape s) room) (loadOf k shape s)))
 
 unfoldable pub generated : Kind → List ℕ → ℕ → Content → Outcome Lengths Content
 unfolding generateAnswer

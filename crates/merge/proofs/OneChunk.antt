@@ -12,7 +12,6 @@ use borrow.Author.Tests.{leb-true, leb-false, le-leb, lt-leb, not-true, not-fals
 use Rattle.array.specs.Answer.{refuses, unless}
 use Rattle.array.specs.Content.{Content, ContentOk, ValuesOk, arrayTest}
 use Rattle.array.specs.Kind.{Kind, Form, fixed, ragged, Order, Place}
-use Rattle.array.specs.Offsets.{last}
 use Rattle.array.specs.Outcome.{contentArray}
 use Rattle.array.proofs.Answers.{passed, same-given}
 use Rattle.array.proofs.Rules.{array-ok}

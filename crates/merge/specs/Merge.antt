@@ -12,7 +12,7 @@ use Rattle.array.specs.Shape.{volume, shapeTest}
 use Rattle.array.specs.Subset.{Subset, subsetsOf, manyTest, cellsOfAll}
 use Rattle.array.specs.Rows.{nextSubsets}
 use Rattle.array.specs.Content.{Content, sizeTest}
-use Rattle.array.specs.Buffers.{Lengths, enoughTest}
+use Rattle.array.specs.Buffers.{Lengths, enoughTest, ifRoom}
 use Rattle.chunks.specs.Gather.{Once, onceTest}
 use Rattle.chunks.specs.Chunks.{chunkCells, mergeOf}
 use Rattle.cover.specs.Asked.{SubsetsOk}
@@ -41,7 +41,7 @@ toldChecks (Checks.Refused e) = refuses e
 -- 6, and the merged content
 unfoldable pub storeAnswer : Kind → List ℕ → List Subset → Content → Lengths → Answer Content
 unfolding chunkCells
-storeAnswer k shape bs c room = andThen (chunkCells k bs c) (λ cs. unless (enoughTest (mergeOf k shape bs cs) room) 6 (gives (mergeOf k shape bs cs)))
+storeAnswer k shape bs c room = andThen (chunkCells k bs c) (λ cs. ifRoom (enoughTest (mergeOf k shape bs cs) room) (mergeOf k shape bs cs))
 
 -- 12, and then the same
 abbrev pub coverAnswer : Kind → List ℕ → List Subset → Content → Lengths → Answer Content

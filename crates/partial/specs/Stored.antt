@@ -11,7 +11,7 @@ use Rattle.array.specs.Bytes.{unle}
 use Rattle.array.specs.Shape.{volume}
 use Rattle.array.specs.Cells.{Value}
 use Rattle.array.specs.Content.{RaggedContent, endToEnd, sizeTest}
-use Rattle.array.specs.Buffers.{RaggedLengths, raggedEnoughTest}
+use Rattle.array.specs.Buffers.{RaggedLengths, raggedEnoughTest, ifRoom}
 use Rattle.extract.specs.Places.{Rises, valuesAt}
 
 -- offset j of an index of width w
@@ -20,7 +20,7 @@ storedAt w s index j = unle (take w (drop (index + j * w) s))
 
 -- values that are cut: 5 by the last stored offset, whatever they are, and 6 for outputs that are too short for them
 abbrev pub cutAnswer : ℕ → List Value → RaggedLengths → Answer RaggedContent
-cutAnswer last vs room = unless (sizeTest last) 5 (unless (raggedEnoughTest (endToEnd vs) room) 6 (gives (endToEnd vs)))
+cutAnswer last vs room = unless (sizeTest last) 5 (ifRoom (raggedEnoughTest (endToEnd vs) room) (endToEnd vs))
 
 -- an index of n + 1 offsets that never fall, and of no more bytes than there are
 pub record IndexAsked (w : ℕ) (s : List ℕ) (index n : ℕ) : Type 0 where

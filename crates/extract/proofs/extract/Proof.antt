@@ -22,10 +22,10 @@ use Rattle.valid.proofs.ShapeLaws.{Counted, counted, not-counted}
 use Rattle.array.proofs.SubsetLists.{subset-parts, within-parts}
 use Rattle.valid.proofs.CheckLaws.{KeepsRules, check-valid}
 use Rattle.chunks.specs.Cut.{cutOf}
-use Rattle.array.specs.Outcome.{putInto}
 use Rattle.extract.proofs.Outcomes.{no-kind, no-shape, no-subset, not-kept, kept}
 use Rattle.extract.proofs.extract.Statement.{statement}
 use Rattle.extract.proofs.extract.Tie as tie
+use Rattle.array.specs.Buffers.{putInto}
 
 -- where the function starts: the kind, the array, the outputs
 abbrev kind : tie.Start → Kind

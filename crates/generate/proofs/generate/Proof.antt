@@ -9,7 +9,7 @@ use Rattle.array.specs.Limits.{mostCells}
 use Rattle.array.specs.Kind.{Form, fixed, FormOk, KindOk, kindTest}
 use Rattle.array.specs.Meaning.{kindOf, formOf, orderOf}
 use Rattle.array.specs.Content.{Content, layout}
-use Rattle.array.specs.Outcome.{contentArray, putInto}
+use Rattle.array.specs.Outcome.{contentArray}
 use Rattle.array.proofs.Rules.{kind-ok}
 use Rattle.valid.specs.ShapeCells.{toldCells}
 use Rattle.valid.proofs.ShapeLaws.{Counted, counted, not-counted}
@@ -20,6 +20,7 @@ use Rattle.generate.specs.Room.{Limited}
 use Rattle.generate.proofs.Stages.{by-kind, by-shape, by-cells}
 use Rattle.generate.proofs.generate.Statement.{statement}
 use Rattle.generate.proofs.generate.Tie as tie
+use Rattle.array.specs.Buffers.{putInto}
 
 -- ---- places
 

@@ -6,7 +6,7 @@ use Rattle.array.specs.Answer.{gives}
 use Rattle.array.specs.Kind.{Kind}
 use Rattle.array.specs.Meaning.{kindOf}
 use Rattle.array.specs.Content.{Content}
-use Rattle.array.specs.Outcome.{contentArray, outcomeArray}
+use Rattle.array.specs.Outcome.{contentArray}
 use Rattle.merge.specs.Merge.{Sizes, checkAnswer, toldChecks}
 use Rattle.merge.proofs.Steps.{merge-refused, merge-checked, merge-stored}
 use Rattle.merge.proofs.merge.Statement.{statement}

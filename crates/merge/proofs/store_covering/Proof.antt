@@ -7,7 +7,6 @@ use lib.ListN.{length}
 use Rattle.array.specs.Shape.{volume}
 use Rattle.array.specs.Subset.{cellsOfAll}
 use Rattle.array.specs.Rows.{nextSubsets}
-use Rattle.array.specs.Outcome.{outcomeArray}
 use Rattle.chunks.proofs.Gather.{once-ok}
 use Rattle.merge.proofs.Steps.{uncovered, covered}
 use Rattle.merge.proofs.store_covering.Statement.{statement}
@@ -42,7 +41,6 @@ returns-2 : tie.Need-returns-2
 returns-2 c =
     let s = c .before .before .before .before .before .before in
     let e = s .before .before .before .before in
-    let o = s .store-chunks .last .1 .1 .1 .1 .1 .1 .1 .1 in
     covered (e .before .covers .ensures) _ _ (not-false (e .before .covers .result) (e .if1 .left)) (s .store-chunks .ensures)
 
 pub store-covering-spec : {M : Type 1} → statement M

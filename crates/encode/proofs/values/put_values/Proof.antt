@@ -4,10 +4,8 @@ use mathlib.Core.Path.{ap}
 use native.Mathlib.Omega.{arith}
 use lib.ListN.{length}
 use Rattle.array.specs.Content.{Content}
-use Rattle.array.specs.Meaning.{kindOf}
 use Rattle.array.specs.Outcome.{contentArray}
 use Rattle.gather.proofs.Placing.{laid-as}
-use Rattle.encode.specs.Stored.{valuesFrom}
 use Rattle.encode.proofs.Framing.{told-as}
 use Rattle.encode.proofs.Forms.{encodable-planes, fixed-source, fixed-writes, fixed-wrote, offsets-fit, offsets-end, ragged-writes}
 use borrow.Author.Needs.{needs}

@@ -64,7 +64,6 @@ room k =
 
 same : (k : Known) → length (k .before .before .loop .out) ≡ length (start k .args .out .now)
 same k =
-    let a = start k in
     let l = k .before .before in
     copied-same (l .loop .inv)
 
@@ -135,13 +134,11 @@ loop-again c =
 same-length : tie.Need-same-length Inv-loop μ-loop
 same-length c =
     let l = c .before in
-    let a = l .before .before .before .before .before .before .before in
     copied-same (l .loop .inv)
 
 returns : tie.Need-returns Inv-loop μ-loop
 returns c =
     let l = c .before in
-    let a = l .before .before .before .before .before .before .before in
     copied-ends (l .loop .inv)
     (c .loop-test .left)
 

@@ -1,6 +1,5 @@
 -- `cell::mark_levels` meets its contract, by the laws of Drawing and Columns.
 -- Assumes nothing.
-use mathlib.Core.Path.{_∙_}
 use Prim.Native.Nat.{_-_}
 use native.Mathlib.Omega.{arith}
 use borrow.Author.Needs.{needs}

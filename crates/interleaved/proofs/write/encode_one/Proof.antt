@@ -10,11 +10,12 @@ use Rattle.array.specs.Outcome.{contentArray}
 use Rattle.array.specs.Cells.{Value}
 use Rattle.array.specs.Content.{Content}
 use Rattle.codec.specs.Interleaved.{putInterleaved}
-use Rattle.interleaved.specs.Held.{Held, writtenOver}
+use Rattle.interleaved.specs.Held.{Held}
 use Rattle.interleaved.proofs.Storing.{one-cell}
 use Rattle.interleaved.proofs.Writes.{write-content, write-held, write-rest}
 use Rattle.interleaved.proofs.write.encode_one.Statement.{statement}
 use Rattle.interleaved.proofs.write.encode_one.Tie as tie
+use Rattle.array.specs.Buffers.{putList}
 
 -- the start, from the place where the array is checked
 abbrev start : tie.After-check-array → tie.Start
@@ -60,7 +61,7 @@ returns-2 c =
     let k = told .before .before in
     let s = start k in
     c .before .before .write-one .ensures
-    ∙ ap (λ (vs : List Value). writtenOver (putInterleaved vs) (s .args .out .now)) (one-cell (held told))
+    ∙ ap (λ (vs : List Value). putList (putInterleaved vs) (s .args .out .now)) (one-cell (held told))
     ∙ write-rest (kindOf (s .args .kind)) 1 (content s) (s .args .out .now) (k .check-array .ensures) (s .pre) (told .enum-told .given .1)
 
 pub encode-one-spec : {M : Type 1} → statement M

@@ -141,7 +141,6 @@ loop-again c = counted c
 returns : tie.Need-returns Inv-loop μ-loop
 returns c =
     let l = c .before in
-    let a = entry (l .before .before) in
     counting-ends (l .loop .inv) (c .loop-test .left)
 
 pub count-bytes-spec : {M : Type 1} → statement M

@@ -55,7 +55,6 @@ asked v = record { shaped = start v .pre .0 .shaped; within = start v .pre .0 .w
 values-need : (b : tie.After-count-bytes) → length (joined (cut (b .before))) ≡ b .count-bytes .result
 values-need b =
     let v = b .before in
-    let a = start v .args in
     need-values (asked v) (start v .pre .1)
     ∙ sym (b .count-bytes .ensures)
 
