@@ -10,7 +10,7 @@ use Rattle.array.specs.Rows.{nextSubsets}
 use Rattle.array.specs.Subset.{Subset, cellsIn, cellsOfAll, pairs}
 use Rattle.array.specs.Places.{offsetAt}
 use Rattle.array.proofs.SubsetLists.{startsAt, lengthsAt}
-use Rattle.cover.proofs.SubsetWalk.{SubsetsLeft, rest, rest-begins, rest-ends, subsets-begin, subsets-more, subset-now, now-within}
+use Rattle.cover.proofs.SubsetWalk.{SubsetsLeft, rest, rest-begins, rest-ends, subsets-begin, subsets-more, subset-now}
 use Rattle.merge_stores.specs.Ragged.{RaggedAsked, RaggedAllAsked}
 use Rattle.merge_stores.specs.Scatter.{scatter, places}
 use Rattle.merge_stores.proofs.Scattering.{length-scatter, scatter-on, places-append}
@@ -54,10 +54,8 @@ module _ {sh flat : List ℕ} {count : ℕ} {d begins values : List ℕ} (q : Ra
       both : length (places (offsetAt begins) (cellsOfAll sh (rest sh flat count i at))) ≡ length (places (offsetAt begins) cs) + length (places (offsetAt begins) (cellsOfAll sh later))
       both = ap length now ∙ length-append (places (offsetAt begins) cs) (places (offsetAt begins) (cellsOfAll sh later))
 
-      pub ragged-asked : RaggedAsked sh (startsAt (length sh) at flat) (lengthsAt (length sh) at flat) o begins values pos
+      pub ragged-asked : RaggedAsked sh o begins values pos (cellsIn sh (pairs (startsAt (length sh) at flat) (lengthsAt (length sh) at flat)))
       ragged-asked = record {
-        shaped = q .subsets .shaped;
-        fits = now-within sh flat count (c .geo) h;
         laid = record { covered = q .laid .covered; rises = q .laid .rises; room = λ j l. omega (arith, q .laid .room j l, c .long) };
         enough = omega (arith, c .enough, both);
       }

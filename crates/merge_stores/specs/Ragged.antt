@@ -5,9 +5,9 @@ use Prim.Native.Nat.{ℕ, suc, _+_, _-_, _≤_, _<_}
 use mathlib.Core.List.{List, [], _∷_, _++_}
 use lib.ListN.{length, take, drop}
 use Rattle.array.specs.Limits.{mostBytes}
-use Rattle.array.specs.Shape.{volume, ShapeOk}
-use Rattle.array.specs.Subset.{Subset, lengths, pairs, cellsIn, cellsOfAll}
-use Rattle.array.specs.Rows.{Within, nextSubsets}
+use Rattle.array.specs.Shape.{volume}
+use Rattle.array.specs.Subset.{Subset, lengths, cellsOfAll}
+use Rattle.array.specs.Rows.{nextSubsets}
 use Rattle.array.specs.Places.{offsetAt}
 use Rattle.chunks.specs.Gather.{putBack, Once}
 use Rattle.cover.specs.Asked.{SubsetsOk}
@@ -55,18 +55,14 @@ pub record Begins (shape out begins : List ℕ) : Type 0 where
   pub room : (j : ℕ) → j ≤ volume shape → offsetAt begins j ≤ length out
 
 -- of one chunk: its lengths, its values
-pub record LengthsAsked (shape starts lens out src : List ℕ) (first : ℕ) : Type 0 where
-  pub shaped : ShapeOk shape
-  pub fits : Within shape starts lens
-  pub rises : RisesFor src first (volume lens)
-  pub indexed : first + volume lens < length src
+pub record LengthsAsked (shape out src : List ℕ) (first count : ℕ) : Type 0 where
+  pub rises : RisesFor src first count
+  pub indexed : first + count < length src
   pub room : volume shape < length out
 
-pub record RaggedAsked (shape starts lens out begins values : List ℕ) (first : ℕ) : Type 0 where
-  pub shaped : ShapeOk shape
-  pub fits : Within shape starts lens
+pub record RaggedAsked (shape out begins values : List ℕ) (first : ℕ) (cells : List ℕ) : Type 0 where
   pub laid : Begins shape out begins
-  pub enough : first + length (places (offsetAt begins) (cellsIn shape (pairs starts lens))) ≤ length values
+  pub enough : first + length (places (offsetAt begins) cells) ≤ length values
 
 -- chunk by chunk: offsets that never fall
 abbrev pub LengthChunks : List Subset → List ℕ → Type 0

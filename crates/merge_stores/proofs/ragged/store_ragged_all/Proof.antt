@@ -5,7 +5,7 @@ use native.Mathlib.Omega.{arith}
 use lib.ListN.{length}
 use Rattle.subset.proofs.Index.{few-within}
 use Rattle.array.proofs.SubsetLists.{startsAt, lengthsAt}
-use Rattle.cover.proofs.SubsetWalk.{next-room, now-within}
+use Rattle.cover.proofs.SubsetWalk.{next-room, now-within, now-asked}
 use Rattle.merge_stores.proofs.RaggedStored.{RaggedAll, ragged-asked, raggeds-begin, raggeds-end, raggeds-more}
 use Rattle.merge_stores.proofs.ragged.store_ragged_all.Statement.{statement}
 use Rattle.merge_stores.proofs.ragged.store_ragged_all.Tie as tie
@@ -83,7 +83,10 @@ store-ragged-requires : tie.Need-store-ragged-requires Inv-loop μ-loop
 store-ragged-requires c κs =
     let v = c .before .before in
     let l = head v in
-    (ragged-asked (start l .pre) (l .loop .inv) (omega arith), v .volume-of .ensures)
+    let a = start l in (
+      now-asked (a .args .shape .now) (a .args .subsets .now) (a .args .count) (l .loop .inv .geo) (omega arith) (a .pre .subsets .shaped) (v .volume-of .ensures),
+      ragged-asked (a .pre) (l .loop .inv) (omega arith),
+    )
 
 add-i : tie.Need-add-i Inv-loop μ-loop
 add-i c = omega arith
