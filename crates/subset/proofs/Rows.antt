@@ -43,13 +43,13 @@ within-cells sh st ls f =
     length-cellsIn sh (pairs st ls) (f .inside) ∙ ap volume (lengths-pairs st ls (omega (arith, f .as-many-starts, f .as-many-lengths)))
 
 -- they are cells of the shape
-pub within-below : (sh st ls : List ℕ) → Within sh st ls → All (λ j. j < volume sh) (cellsIn sh (pairs st ls))
+within-below : (sh st ls : List ℕ) → Within sh st ls → All (λ j. j < volume sh) (cellsIn sh (pairs st ls))
 within-below sh st ls f = cellsIn-below sh (pairs st ls) (f .inside)
 
 -- ---- the loop: of the cells cs, in rows of n, those from `at` on are left
 
 -- the rows are as long as the last length; an empty subset has none
-pub left-begins : (sh st ls : List ℕ) {cells : ℕ} → Within sh st ls → 1 ≤ length sh → cells ≡ volume ls
+left-begins : (sh st ls : List ℕ) {cells : ℕ} → Within sh st ls → 1 ≤ length sh → cells ≡ volume ls
     → Left (cellsIn sh (pairs st ls)) cells (rowOf ls) 0
 left-begins sh st ls f h e =
     let hl : 1 ≤ length ls = omega (arith, f .as-many-lengths) in
@@ -66,25 +66,25 @@ module _ {cs : List ℕ} {cells n at : ℕ} (w : Left cs cells n at) where
   left-ends h = let q : length cs ≤ at = omega (arith, w .whole) in drop-of-length-le cs q
 
   module _ (h : at < cells) where
-    pub left-some : 1 ≤ n
+    left-some : 1 ≤ n
     left-some = w .some (omega arith)
 
     now : Begun n (drop at cs)
     now = begun n left-some (omega (arith, length-drop at cs, w .whole)) (w .left)
 
     -- what is left begins with a row, from the cell at `at`
-    pub left-next : drop at cs ≡ from (getD cs at 0) n ++ drop (at + n) cs
+    left-next : drop at cs ≡ from (getD cs at 0) n ++ drop (at + n) cs
     left-next =
         let q : getD (drop at cs) 0 0 ≡ getD cs at 0 = getD-drop at cs 0 0 ∙ ap (λ (k : ℕ). getD cs k 0) (add-zero at) in
         now .first ∙ ap₂ (λ (a : ℕ) (r : List ℕ). from a n ++ r) q (drop-drop n at cs)
 
-    pub left-within : at + n ≤ cells
+    left-within : at + n ≤ cells
     left-within = omega (arith, now .as-long, length-drop at cs, w .whole)
 
-    pub left-room : (v : ℕ) → All (λ j. j < v) cs → getD cs at 0 + n ≤ v
+    left-room : (v : ℕ) → All (λ j. j < v) cs → getD cs at 0 + n ≤ v
     left-room v p = run-below v (getD cs at 0) n (drop (at + n) cs) left-some (subst (All (λ j. j < v)) left-next (All-drop (λ j. j < v) at cs p))
 
-    pub left-more : Left cs cells n (at + n)
+    left-more : Left cs cells n (at + n)
     left-more = record { whole = w .whole; some = w .some; within = left-within; left = subst (Runs n) (drop-drop n at cs) (now .rest) }
 
 -- ---- a subset that is asked for
@@ -112,7 +112,6 @@ module _ {sh st ls : List ℕ} {count : ℕ} (a : SubsetAsked sh st ls count) wh
   row-is {at} {first} g h e = record {
     next = left-next g h ∙ ap (λ (x : ℕ). from x (rowOf ls) ++ drop (at + rowOf ls) (cellsIn sh (pairs st ls))) (sym e);
     some = left-some g h;
-    long = refl;
     within = left-within g h;
     inside = omega (arith, e, left-room g h (volume sh) asked-below);
     rest = left-more g h;

@@ -34,7 +34,6 @@ pub record Left (cs : List ℕ) (cells n at : ℕ) : Type 0 where
 pub record RowAt (shape lens cs : List ℕ) (cells at first n : ℕ) : Type 0 where
   pub next : drop at cs ≡ from first n ++ drop (at + n) cs
   pub some : 1 ≤ n
-  pub long : n ≡ rowOf lens
   pub within : at + n ≤ cells
   pub inside : first + n ≤ volume shape
   pub rest : Left cs cells (rowOf lens) (at + n)
