@@ -55,7 +55,8 @@ module _ {d : List ℕ} {to : ℕ} {s : List ℕ} {at k : ℕ} {out : List ℕ} 
 -- ---- what goes to an array and from there on is what goes straight
 
 module _ (to : ℕ) (s : List ℕ) (at k : ℕ) (d : List ℕ) where
-  pub through : (b : List ℕ) {between out : List ℕ} → at + k ≤ length s → between ≡ overAt 0 (take k (drop at s)) b → out ≡ overAt to (take k (drop 0 between)) d → out ≡ overAt to (take k (drop at s)) d
+  pub through : (b : List ℕ) {between out : List ℕ} → at + k ≤ length s → between ≡ overAt 0 (take k (drop at s)) b → out ≡ overAt to (take k (drop 0 between)) d
+      → out ≡ overAt to (take k (drop at s)) d
   through b h first second =
       let g = take k (drop at s) in
       second ∙ ap (λ (w : List ℕ). overAt to w d) (ap (take k) first ∙ take-at g (drop (length g) b) k (length-take-le k (drop at s) (omega (arith, length-drop at s))))

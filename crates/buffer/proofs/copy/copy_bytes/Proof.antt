@@ -16,23 +16,8 @@ abbrev μ-loop : tie.MeasureT-loop
 loop-holds : tie.Need-loop-holds Inv-loop μ-loop
 loop-holds c = copy-begins (c .pre .0) (c .pre .1)
 
-add-out : tie.Need-add-out Inv-loop μ-loop
-add-out c = search needs
-
-shared-slice-read-out : tie.Need-shared-slice-read-out Inv-loop μ-loop
-shared-slice-read-out c = search needs
-
-add-out-2 : tie.Need-add-out-2 Inv-loop μ-loop
-add-out-2 c = search needs
-
 slice-write-out : tie.Need-slice-write-out Inv-loop μ-loop
 slice-write-out c = copy-room (c .before .before .loop .inv) (c .before .loop-test .taken)
-
-add-i : tie.Need-add-i Inv-loop μ-loop
-add-i c = search needs
-
-loop-less : tie.Need-loop-less Inv-loop μ-loop
-loop-less c = omega arith
 
 loop-again : tie.Need-loop-again Inv-loop μ-loop
 loop-again c = copy-more (c .before .before .loop .inv) (c .before .loop-test .taken)
@@ -50,12 +35,12 @@ copy-bytes-spec =
     Inv-loop
     μ-loop
     loop-holds
-    add-out
-    shared-slice-read-out
-    add-out-2
+    (λ c. search needs)
+    (λ c. search needs)
+    (λ c. search needs)
     slice-write-out
-    add-i
-    loop-less
+    (λ c. search needs)
+    (λ c. omega arith)
     loop-again
     same-length
     returns)

@@ -5,38 +5,28 @@ use borrow.Author.Needs.{needs}
 use Rattle.buffer.proofs.copy.copy_through.Statement.{statement}
 use Rattle.buffer.proofs.copy.copy_through.Tie as tie
 
-mebibyte-requires : tie.Need-mebibyte-requires
-mebibyte-requires c κs = search needs
+-- places that the answers go back to
+abbrev after-copy-bytes : tie.After-copy-bytes2 → tie.After-copy-bytes
+after-copy-bytes c = c .before .before .before .before
 
-slice-aggregate-copy-bytes : tie.Need-slice-aggregate-copy-bytes
-slice-aggregate-copy-bytes c = search needs
-
-copy-bytes-requires : tie.Need-copy-bytes-requires
-copy-bytes-requires c κs = search needs
-
-slice-aggregate-copy-bytes-2 : tie.Need-slice-aggregate-copy-bytes-2
-slice-aggregate-copy-bytes-2 c = search needs
-
-copy-bytes-requires-2 : tie.Need-copy-bytes-requires-2
-copy-bytes-requires-2 c κs = search needs
-
-same-length : tie.Need-same-length
-same-length c = search needs
+abbrev begun : tie.After-between → tie.Start
+begun c = c .before .before .before .before
 
 returns : tie.Need-returns
 returns c =
-    let start = c .before .before .before .before .before .before .before .before .before .before .before in
+    let q = after-copy-bytes (c .before .before) in
+    let start = begun (q .before) in
     let a = start .args in
-    through (a .to) (a .s .now) (a .at) (a .k) (a .out .now) _ (start .pre .1) (c .before .before .before .before .before .before .copy-bytes .ensures) (c .before .before .copy-bytes2 .ensures)
+    through (a .to) (a .s .now) (a .at) (a .k) (a .out .now) _ (start .pre .1) (q .copy-bytes .ensures) (c .before .before .copy-bytes2 .ensures)
 
 pub copy-through-spec : {M : Type 1} → statement M
 copy-through-spec =
     tie.close
     (tie.spec
-    mebibyte-requires
-    slice-aggregate-copy-bytes
-    copy-bytes-requires
-    slice-aggregate-copy-bytes-2
-    copy-bytes-requires-2
-    same-length
+    (λ c κs. search needs)
+    (λ c. search needs)
+    (λ c κs. search needs)
+    (λ c. search needs)
+    (λ c κs. search needs)
+    (λ c. search needs)
     returns)

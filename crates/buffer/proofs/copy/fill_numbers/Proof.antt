@@ -16,20 +16,8 @@ abbrev μ-loop : tie.MeasureT-loop
 loop-holds : tie.Need-loop-holds Inv-loop μ-loop
 loop-holds c = fill-begins (c .pre)
 
-add-out : tie.Need-add-out Inv-loop μ-loop
-add-out c = search needs
-
-mul-out : tie.Need-mul-out Inv-loop μ-loop
-mul-out c = search needs
-
 slice-write-out : tie.Need-slice-write-out Inv-loop μ-loop
 slice-write-out c = fill-room (c .before .loop .inv) (c .loop-test .taken)
-
-add-m : tie.Need-add-m Inv-loop μ-loop
-add-m c = search needs
-
-loop-less : tie.Need-loop-less Inv-loop μ-loop
-loop-less c = omega arith
 
 loop-again : tie.Need-loop-again Inv-loop μ-loop
 loop-again c = fill-more (c .before .loop .inv) (c .loop-test .taken)
@@ -47,11 +35,11 @@ fill-numbers-spec =
     Inv-loop
     μ-loop
     loop-holds
-    add-out
-    mul-out
+    (λ c. search needs)
+    (λ c. search needs)
     slice-write-out
-    add-m
-    loop-less
+    (λ c. search needs)
+    (λ c. omega arith)
     loop-again
     same-length
     returns)

@@ -8,35 +8,11 @@ use Rattle.buffer.proofs.Unrolled.{stores-over}
 use Rattle.buffer.proofs.field.put_u32.Statement.{statement}
 use Rattle.buffer.proofs.field.put_u32.Tie as tie
 
-cast-b0 : tie.Need-cast-b0
-cast-b0 c = search needs
-
-cast-b1 : tie.Need-cast-b1
-cast-b1 c = search needs
-
-cast-b2 : tie.Need-cast-b2
-cast-b2 c = search needs
-
-cast-b3 : tie.Need-cast-b3
-cast-b3 c = search needs
-
-slice-write-out : tie.Need-slice-write-out
-slice-write-out c = search needs
-
-add-out : tie.Need-add-out
-add-out c = search needs
-
 slice-write-out-2 : tie.Need-slice-write-out-2
 slice-write-out-2 c = simp length-set (omega arith)
 
-add-out-2 : tie.Need-add-out-2
-add-out-2 c = search needs
-
 slice-write-out-3 : tie.Need-slice-write-out-3
 slice-write-out-3 c = simp length-set (omega arith)
-
-add-out-3 : tie.Need-add-out-3
-add-out-3 c = search needs
 
 slice-write-out-4 : tie.Need-slice-write-out-4
 slice-write-out-4 c = simp length-set (omega arith)
@@ -52,16 +28,16 @@ pub put-u32-spec : {M : Type 1} → statement M
 put-u32-spec =
     tie.close
     (tie.spec
-    cast-b0
-    cast-b1
-    cast-b2
-    cast-b3
-    slice-write-out
-    add-out
+    (λ c. search needs)
+    (λ c. search needs)
+    (λ c. search needs)
+    (λ c. search needs)
+    (λ c. search needs)
+    (λ c. search needs)
     slice-write-out-2
-    add-out-2
+    (λ c. search needs)
     slice-write-out-3
-    add-out-3
+    (λ c. search needs)
     slice-write-out-4
     same-length
     returns)

@@ -9,17 +9,11 @@ use Rattle.buffer.proofs.field.read_u32.Tie as tie
 returns : tie.Need-returns
 returns c = let a = c .before .before .args in field-short 4 11 (a .s .now) (a .at) (omega arith)
 
-sub-if2 : tie.Need-sub-if2
-sub-if2 c = search needs
-
 returns-2 : tie.Need-returns-2
 returns-2 c = let a = c .before .before .before .args in field-short 4 11 (a .s .now) (a .at) (omega arith)
-
-le4-at-requires : tie.Need-le4-at-requires
-le4-at-requires c κs = search needs
 
 returns-3 : tie.Need-returns-3
 returns-3 c = let a = c .before .before .before .before .args in field-full 4 11 (a .s .now) (a .at) (omega arith) (c .le4-at .ensures)
 
 pub read-u32-spec : {M : Type 1} → statement M
-read-u32-spec = tie.close (tie.spec returns sub-if2 returns-2 le4-at-requires returns-3)
+read-u32-spec = tie.close (tie.spec returns (λ c. search needs) returns-2 (λ c κs. search needs) returns-3)

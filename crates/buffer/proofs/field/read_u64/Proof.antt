@@ -9,17 +9,11 @@ use Rattle.buffer.proofs.field.read_u64.Tie as tie
 returns : tie.Need-returns
 returns c = let a = c .before .before .args in field-short 8 7 (a .s .now) (a .at) (omega arith)
 
-sub-if2 : tie.Need-sub-if2
-sub-if2 c = search needs
-
 returns-2 : tie.Need-returns-2
 returns-2 c = let a = c .before .before .before .args in field-short 8 7 (a .s .now) (a .at) (omega arith)
-
-le8-at-requires : tie.Need-le8-at-requires
-le8-at-requires c κs = search needs
 
 returns-3 : tie.Need-returns-3
 returns-3 c = let a = c .before .before .before .before .args in field-full 8 7 (a .s .now) (a .at) (omega arith) (c .le8-at .ensures)
 
 pub read-u64-spec : {M : Type 1} → statement M
-read-u64-spec = tie.close (tie.spec returns sub-if2 returns-2 le8-at-requires returns-3)
+read-u64-spec = tie.close (tie.spec returns (λ c. search needs) returns-2 (λ c κs. search needs) returns-3)

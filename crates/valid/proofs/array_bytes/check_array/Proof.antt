@@ -16,9 +16,6 @@ entered c = c .before .before .before .before
 abbrev content : tie.Start → Content
 content c = contentArray (c .args .masks .now) (c .args .values .now) (c .args .offsets .now)
 
-keeps-rules-requires : tie.Need-keeps-rules-requires
-keeps-rules-requires c κs = search needs
-
 returns : tie.Need-returns
 returns c =
     let a = entered (c .before) in
@@ -40,4 +37,4 @@ returns-3 c =
     check-gives (kindOf (a .args .kind)) (a .args .cells) (content a) (f .ensures) (c .before .if1 .left) (c .if2 .left)
 
 pub check-array-spec : {M : Type 1} → statement M
-check-array-spec = tie.close (tie.spec keeps-rules-requires returns returns-2 returns-3)
+check-array-spec = tie.close (tie.spec (λ c κs. search needs) returns returns-2 returns-3)

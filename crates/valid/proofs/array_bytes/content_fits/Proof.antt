@@ -23,9 +23,6 @@ raggedCase c = c .before .before .before
 abbrev content : tie.Start → Content
 content c = contentArray (c .args .masks .now) (c .args .values .now) (c .args .offsets .now)
 
-cast-depth : tie.Need-cast-depth
-cast-depth c = search needs
-
 mul-if1 : tie.Need-mul-if1
 mul-if1 c = let a = entered c in omega (arith, small-product (a .args .kind .depth) (a .args .cells) (omega arith) (a .pre))
 
@@ -33,12 +30,6 @@ returns : tie.Need-returns
 returns c =
     let a = entered (c .before) in
     masks-differ (a .args .kind) (a .args .cells) (content a) (c .if1 .taken)
-
-enum-known-form : tie.Need-enum-known-form
-enum-known-form c = search needs
-
-cast-if2 : tie.Need-cast-if2
-cast-if2 c = search needs
 
 mul-if2 : tie.Need-mul-if2
 mul-if2 c = let a = entered (fixedCase c) in omega (arith, small-product (c .before .form .given .0 .0) (a .args .cells) (omega arith) (a .pre))
@@ -49,9 +40,6 @@ returns-2 c =
     let f = c .before .before .form .given in
     by-form (a .args .kind) (a .args .cells) (content a) (f .1) (c .before .before .before .before .if1 .left)
     (bytes-differ (a .args .cells) (content a) (f .0 .0) (orderOf (f .0 .1 .0)) (c .if2 .taken))
-
-enum-told : tie.Need-enum-told
-enum-told c = search needs
 
 add-if3 : tie.Need-add-if3
 unfolding mostCells
@@ -64,9 +52,6 @@ returns-3 c =
     by-form (a .args .kind) (a .args .cells) (content a) (f .1) (c .before .before .before .if1 .left)
     (offsets-miscounted (a .args .cells) (content a) (widthOf (f .0 .0)) (placeOf (f .0 .1 .0)) (c .if3 .taken))
 
-rise-from-zero-requires : tie.Need-rise-from-zero-requires
-rise-from-zero-requires c κs = search needs
-
 returns-4 : tie.Need-returns-4
 returns-4 c =
     let told = c .before .before .before in
@@ -74,12 +59,6 @@ returns-4 c =
     let f = told .enum-told .given in
     by-form (a .args .kind) (a .args .cells) (content a) (f .1) (told .before .before .if1 .left)
     (offsets-fall (a .args .cells) (content a) (widthOf (f .0 .0)) (placeOf (f .0 .1 .0)) (c .before .before .if3 .left) (c .before .rise-from-zero .ensures) (c .if4 .taken))
-
-mul-last : tie.Need-mul-last
-mul-last c = search needs
-
-shared-slice-read-last : tie.Need-shared-slice-read-last
-shared-slice-read-last c = search needs
 
 returns-5 : tie.Need-returns-5
 returns-5 c =
@@ -100,19 +79,19 @@ pub content-fits-spec : {M : Type 1} → statement M
 content-fits-spec =
     tie.close
     (tie.spec
-    cast-depth
+    (λ c. search needs)
     mul-if1
     returns
-    enum-known-form
-    cast-if2
+    (λ c. search needs)
+    (λ c. search needs)
     mul-if2
     returns-2
-    enum-told
+    (λ c. search needs)
     add-if3
     returns-3
-    rise-from-zero-requires
+    (λ c κs. search needs)
     returns-4
-    mul-last
-    shared-slice-read-last
+    (λ c. search needs)
+    (λ c. search needs)
     returns-5
     returns-6)

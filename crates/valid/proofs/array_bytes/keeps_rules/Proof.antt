@@ -15,12 +15,6 @@ entered c = c .before .before .before .before
 abbrev content : tie.Start → Content
 content c = contentArray (c .args .masks .now) (c .args .values .now) (c .args .offsets .now)
 
-content-fits-requires : tie.Need-content-fits-requires
-content-fits-requires c κs = search needs
-
-masks-strict-requires : tie.Need-masks-strict-requires
-masks-strict-requires c κs = search needs
-
 returns : tie.Need-returns
 returns c =
     let asked = c .before .before in
@@ -34,4 +28,4 @@ returns-2 c =
     fits-not (kindOf (a .args .kind)) (a .args .cells) (content a) (asked .content-fits .ensures) (c .if1 .left)
 
 pub keeps-rules-spec : {M : Type 1} → statement M
-keeps-rules-spec = tie.close (tie.spec content-fits-requires masks-strict-requires returns returns-2)
+keeps-rules-spec = tie.close (tie.spec (λ c κs. search needs) (λ c κs. search needs) returns returns-2)

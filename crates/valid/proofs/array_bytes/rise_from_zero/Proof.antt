@@ -15,35 +15,8 @@ Inv-loop offsets n rising₀ i₀ rising i = Rise offsets n rising i
 abbrev μ-loop : tie.MeasureT-loop
 μ-loop offsets n rising₀ i₀ rising i = n - i
 
-shared-slice-read-rising : tie.Need-shared-slice-read-rising Inv-loop μ-loop
-shared-slice-read-rising c = search needs
-
 loop-holds : tie.Need-loop-holds Inv-loop μ-loop
 loop-holds c = rise-begins (c .before .before .pre)
-
-mul-still-rises : tie.Need-mul-still-rises Inv-loop μ-loop
-mul-still-rises c = search needs
-
-shared-slice-read-still-rises : tie.Need-shared-slice-read-still-rises Inv-loop μ-loop
-shared-slice-read-still-rises c = search needs
-
-add-still-rises : tie.Need-add-still-rises Inv-loop μ-loop
-add-still-rises c = search needs
-
-mul-still-rises-2 : tie.Need-mul-still-rises-2 Inv-loop μ-loop
-mul-still-rises-2 c = search needs
-
-shared-slice-read-still-rises-2 : tie.Need-shared-slice-read-still-rises-2 Inv-loop μ-loop
-shared-slice-read-still-rises-2 c = search needs
-
-still-rises-requires : tie.Need-still-rises-requires Inv-loop μ-loop
-still-rises-requires c κs = search needs
-
-add-i : tie.Need-add-i Inv-loop μ-loop
-add-i c = search needs
-
-loop-less : tie.Need-loop-less Inv-loop μ-loop
-loop-less c = omega arith
 
 loop-again : tie.Need-loop-again Inv-loop μ-loop
 loop-again c =
@@ -62,15 +35,15 @@ rise-from-zero-spec =
     (tie.spec
     Inv-loop
     μ-loop
-    shared-slice-read-rising
+    (λ c. search needs)
     loop-holds
-    mul-still-rises
-    shared-slice-read-still-rises
-    add-still-rises
-    mul-still-rises-2
-    shared-slice-read-still-rises-2
-    still-rises-requires
-    add-i
-    loop-less
+    (λ c. search needs)
+    (λ c. search needs)
+    (λ c. search needs)
+    (λ c. search needs)
+    (λ c. search needs)
+    (λ c κs. search needs)
+    (λ c. search needs)
+    (λ c. omega arith)
     loop-again
     returns)

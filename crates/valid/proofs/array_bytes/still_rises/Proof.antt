@@ -7,8 +7,5 @@ use Rattle.valid.proofs.array_bytes.still_rises.Tie as tie
 returns : tie.Need-returns
 returns c = rw (c .if1 .taken)
 
-returns-2 : tie.Need-returns-2
-returns-2 c = search needs
-
 pub still-rises-spec : {M : Type 1} → statement M
-still-rises-spec = tie.close (tie.spec returns returns-2)
+still-rises-spec = tie.close (tie.spec returns (λ c. search needs))

@@ -16,33 +16,22 @@ Inv-loop masks from end n₀ i₀ n i = (from ≤ i) × (i ≤ end) × (n ≤ i 
 abbrev μ-loop : tie.MeasureT-loop
 μ-loop masks from end n₀ i₀ n i = end - i
 
-loop-holds : tie.Need-loop-holds Inv-loop μ-loop
-loop-holds c = omega arith
-
-shared-slice-read-one-if-other : tie.Need-shared-slice-read-one-if-other Inv-loop μ-loop
-shared-slice-read-one-if-other c = omega arith
-
-one-if-other-requires : tie.Need-one-if-other-requires Inv-loop μ-loop
-one-if-other-requires c κs = search needs
+-- places that the answers go back to
+abbrev start : tie.At-loop Inv-loop μ-loop → tie.Start Inv-loop μ-loop
+start c = c .before .before
 
 add-n : tie.Need-add-n Inv-loop μ-loop
-add-n c = omega (arith, c .one-if-other .ensures, other-one (getD (c .before .before .before .before .before .args .masks .now) (c .before .before .before .loop .i) 0))
-
-add-i : tie.Need-add-i Inv-loop μ-loop
-add-i c = omega arith
-
-loop-less : tie.Need-loop-less Inv-loop μ-loop
-loop-less c = omega arith
+add-n c = omega (arith, c .one-if-other .ensures, other-one (getD (start (c .before .before .before) .args .masks .now) (c .before .before .before .loop .i) 0))
 
 loop-again : tie.Need-loop-again Inv-loop μ-loop
 loop-again c =
-    let args = c .before .before .before .before .before .args in
+    let args = start (c .before .before .before) .args in
     let loop = c .before .before .before .loop in
     omega (arith, c .one-if-other .ensures, other-one (getD (args .masks .now) (loop .i) 0), others-next (args .masks .now) (loop .i) (omega arith))
 
 returns : tie.Need-returns Inv-loop μ-loop
 returns c =
-    let args = c .before .before .before .args in
+    let args = start (c .before) .args in
     let e : c .before .loop .i ≡ args .end = omega arith in omega (arith, ap (λ (k : ℕ). others (drop k (args .masks .now))) e)
 
 pub count-others-spec : {M : Type 1} → statement M
@@ -51,11 +40,11 @@ count-others-spec =
     (tie.spec
     Inv-loop
     μ-loop
-    loop-holds
-    shared-slice-read-one-if-other
-    one-if-other-requires
+    (λ c. omega arith)
+    (λ c. omega arith)
+    (λ c κs. search needs)
     add-n
-    add-i
-    loop-less
+    (λ c. omega arith)
+    (λ c. omega arith)
     loop-again
     returns)

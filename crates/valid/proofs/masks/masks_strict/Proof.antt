@@ -16,30 +16,25 @@ Inv-loop masks at₀ at = (at ≤ length masks) × (others (drop at masks) ≡ o
 abbrev μ-loop : tie.MeasureT-loop
 μ-loop masks at₀ at = length masks - at
 
+-- places that the answers go back to
+abbrev start : tie.At-loop Inv-loop μ-loop → tie.Start Inv-loop μ-loop
+start c = c .before .before
+
 loop-holds : tie.Need-loop-holds Inv-loop μ-loop
 loop-holds c = (omega arith, search needs)
 
-block-end-requires : tie.Need-block-end-requires Inv-loop μ-loop
-block-end-requires c κs = search needs
-
-count-others-requires : tie.Need-count-others-requires Inv-loop μ-loop
-count-others-requires c κs = search needs
-
 returns : tie.Need-returns Inv-loop μ-loop
 returns c =
-    let masks = c .before .before .before .before .before .before .args .masks .now in
+    let masks = start (c .before .before .before .before) .args .masks .now in
     let some : 0 < others masks = omega (arith, c .before .count-others .ensures) in
     sym (some-others masks some)
-
-loop-less : tie.Need-loop-less Inv-loop μ-loop
-loop-less c = omega arith
 
 loop-again : tie.Need-loop-again Inv-loop μ-loop
 loop-again c = (omega arith, omega arith)
 
 returns-2 : tie.Need-returns-2 Inv-loop μ-loop
 returns-2 c =
-    let masks = c .before .before .before .args .masks .now in
+    let masks = start (c .before) .args .masks .now in
     let none : others masks ≡ 0 = omega (arith, others-end masks (c .before .loop .at) (omega arith)) in
     sym (no-others masks none)
 
@@ -50,9 +45,9 @@ masks-strict-spec =
     Inv-loop
     μ-loop
     loop-holds
-    block-end-requires
-    count-others-requires
+    (λ c κs. search needs)
+    (λ c κs. search needs)
     returns
-    loop-less
+    (λ c. omega arith)
     loop-again
     returns-2)

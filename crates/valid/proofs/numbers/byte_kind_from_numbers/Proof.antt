@@ -6,29 +6,15 @@ use Rattle.valid.proofs.NumberLaws.{depth-over, form-fixed, form-ragged
 use Rattle.valid.proofs.numbers.byte_kind_from_numbers.Statement.{statement}
 use Rattle.valid.proofs.numbers.byte_kind_from_numbers.Tie as tie
 
-cast-if1 : tie.Need-cast-if1
-cast-if1 c = search needs
-
 returns : tie.Need-returns
 returns c = let a = c .before .args in depth-over (a .depth) (a .form) (a .size) (a .order) (c .if1 .taken)
-
-cast-fixed-from-numbers : tie.Need-cast-fixed-from-numbers
-cast-fixed-from-numbers c = search needs
-
-fixed-from-numbers-requires : tie.Need-fixed-from-numbers-requires
-fixed-from-numbers-requires c κs = search needs
-
-cast-ragged-from-numbers : tie.Need-cast-ragged-from-numbers
-cast-ragged-from-numbers c = search needs
-
-ragged-from-numbers-requires : tie.Need-ragged-from-numbers-requires
-ragged-from-numbers-requires c κs = search needs
 
 returns-2 : tie.Need-returns-2
 returns-2 c = let a = c .before .before .before .args in c .fixed-from-numbers .ensures ∙ form-fixed (a .depth) (a .form) (a .size) (a .order) (c .before .before .if1 .left) (c .before .match .keys1)
 
 returns-3 : tie.Need-returns-3
-returns-3 c = let a = c .before .before .before .args in c .ragged-from-numbers .ensures ∙ form-ragged (a .depth) (a .form) (a .size) (a .order) (c .before .before .if1 .left) (c .before .match .keys2)
+returns-3 c =
+    let a = c .before .before .before .args in c .ragged-from-numbers .ensures ∙ form-ragged (a .depth) (a .form) (a .size) (a .order) (c .before .before .if1 .left) (c .before .match .keys2)
 
 returns-4 : tie.Need-returns-4
 returns-4 c = let a = c .before .before .args in form-unknown (a .depth) (a .form) (a .size) (a .order) (c .before .if1 .left) (c .match .rest .0 .1) (c .match .rest .1)
@@ -37,12 +23,12 @@ pub byte-kind-from-numbers-spec : {M : Type 1} → statement M
 byte-kind-from-numbers-spec =
     tie.close
     (tie.spec
-    cast-if1
+    (λ c. search needs)
     returns
-    cast-fixed-from-numbers
-    fixed-from-numbers-requires
-    cast-ragged-from-numbers
-    ragged-from-numbers-requires
+    (λ c. search needs)
+    (λ c κs. search needs)
+    (λ c. search needs)
+    (λ c κs. search needs)
     returns-2
     returns-3
     returns-4)

@@ -12,29 +12,18 @@ use Rattle.valid.proofs.numbers.fixed_from_numbers.Tie as tie
 returns : tie.Need-returns
 returns c = let a = c .before .args in outside (fixed (a .size)) little big (a .depth) (a .order) (size-none little (c .if1 .taken)) (size-none big (c .if1 .taken))
 
-cast-if2 : tie.Need-cast-if2
-cast-if2 c = search needs
-
 returns-2 : tie.Need-returns-2
 returns-2 c = let a = c .before .before .args in outside (fixed (a .size)) little big (a .depth) (a .order) (size-over (a .size) little (c .if2 .taken)) (size-over (a .size) big (c .if2 .taken))
 
-cast-fixed : tie.Need-cast-fixed
-cast-fixed c = search needs
-
-fixed-requires : tie.Need-fixed-requires
-fixed-requires c κs = search needs
-
-cast-fixed-2 : tie.Need-cast-fixed-2
-cast-fixed-2 c = search needs
-
-fixed-requires-2 : tie.Need-fixed-requires-2
-fixed-requires-2 c κs = search needs
-
 returns-3 : tie.Need-returns-3
-returns-3 c = let a = c .before .before .before .before .args in ap gives (c .fixed .ensures) ∙ first (fixed (a .size)) little big (a .depth) (a .order) (c .before .match .keys1) (size-fits (a .size) little (omega arith) (omega arith))
+returns-3 c =
+    let a = c .before .before .before .before .args in
+    ap gives (c .fixed .ensures) ∙ first (fixed (a .size)) little big (a .depth) (a .order) (c .before .match .keys1) (size-fits (a .size) little (omega arith) (omega arith))
 
 returns-4 : tie.Need-returns-4
-returns-4 c = let a = c .before .before .before .before .args in ap gives (c .fixed2 .ensures) ∙ second (fixed (a .size)) little big (a .depth) (a .order) (c .before .match .keys2) (size-fits (a .size) big (omega arith) (omega arith))
+returns-4 c =
+    let a = c .before .before .before .before .args in
+    ap gives (c .fixed2 .ensures) ∙ second (fixed (a .size)) little big (a .depth) (a .order) (c .before .match .keys2) (size-fits (a .size) big (omega arith) (omega arith))
 
 returns-5 : tie.Need-returns-5
 returns-5 c = let a = c .before .before .before .args in other (fixed (a .size)) little big (a .depth) (a .order) (c .match .rest .0 .1) (c .match .rest .1)
@@ -44,12 +33,12 @@ fixed-from-numbers-spec =
     tie.close
     (tie.spec
     returns
-    cast-if2
+    (λ c. search needs)
     returns-2
-    cast-fixed
-    fixed-requires
-    cast-fixed-2
-    fixed-requires-2
+    (λ c. search needs)
+    (λ c κs. search needs)
+    (λ c. search needs)
+    (λ c κs. search needs)
     returns-3
     returns-4
     returns-5)

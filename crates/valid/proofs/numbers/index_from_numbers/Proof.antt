@@ -8,12 +8,6 @@ use Rattle.valid.proofs.NumberLaws.{index-unknown}
 use Rattle.valid.proofs.numbers.index_from_numbers.Statement.{statement}
 use Rattle.valid.proofs.numbers.index_from_numbers.Tie as tie
 
-index-of-width-requires : tie.Need-index-of-width-requires
-index-of-width-requires c κs = search needs
-
-index-of-width-requires-2 : tie.Need-index-of-width-requires-2
-index-of-width-requires-2 c κs = search needs
-
 returns : tie.Need-returns
 returns c = c .index-of-width .ensures ∙ ap (λ (w : ℕ). numberedIndex w (c .before .before .args .place)) (sym (c .before .match .keys1))
 
@@ -26,4 +20,4 @@ returns-3 c = index-unknown (c .before .args .width) (c .before .args .place) (c
 pub index-from-numbers-spec : {M : Type 1} → statement M
 index-from-numbers-spec =
     tie.close
-    (tie.spec index-of-width-requires index-of-width-requires-2 returns returns-2 returns-3)
+    (tie.spec (λ c κs. search needs) (λ c κs. search needs) returns returns-2 returns-3)

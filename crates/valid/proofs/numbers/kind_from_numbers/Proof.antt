@@ -8,18 +8,6 @@ use Rattle.valid.proofs.NumberLaws.{kind-given, kind-refused}
 use Rattle.valid.proofs.numbers.kind_from_numbers.Statement.{statement}
 use Rattle.valid.proofs.numbers.kind_from_numbers.Tie as tie
 
-byte-kind-from-numbers-requires : tie.Need-byte-kind-from-numbers-requires
-byte-kind-from-numbers-requires c κs = search needs
-
-enum-known-e : tie.Need-enum-known-e
-enum-known-e c = search needs
-
-enum-known-kind : tie.Need-enum-known-kind
-enum-known-kind c = search needs
-
-masked-from-number-requires : tie.Need-masked-from-number-requires
-masked-from-number-requires c κs = search needs
-
 returns : tie.Need-returns
 returns c =
     let m = c .before .before .before in
@@ -39,9 +27,9 @@ pub kind-from-numbers-spec : {M : Type 1} → statement M
 kind-from-numbers-spec =
     tie.close
     (tie.spec
-    byte-kind-from-numbers-requires
-    enum-known-e
-    enum-known-kind
-    masked-from-number-requires
+    (λ c κs. search needs)
+    (λ c. search needs)
+    (λ c. search needs)
+    (λ c κs. search needs)
     returns
     returns-2)

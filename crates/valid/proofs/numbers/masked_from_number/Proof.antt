@@ -8,9 +8,6 @@ use Rattle.valid.proofs.NumberLaws.{mask-bytes, mask-bits, mask-unknown
 use Rattle.valid.proofs.numbers.masked_from_number.Statement.{statement}
 use Rattle.valid.proofs.numbers.masked_from_number.Tie as tie
 
-packed-requires : tie.Need-packed-requires
-packed-requires c κs = search needs
-
 returns : tie.Need-returns
 returns c = let a = c .before .args in mask-bytes (kindOf (a .kind)) (c .match .keys1)
 
@@ -21,4 +18,4 @@ returns-3 : tie.Need-returns-3
 returns-3 c = let a = c .before .args in mask-unknown (kindOf (a .kind)) (a .mask) (c .match .rest .0 .1) (c .match .rest .1)
 
 pub masked-from-number-spec : {M : Type 1} → statement M
-masked-from-number-spec = tie.close (tie.spec packed-requires returns returns-2 returns-3)
+masked-from-number-spec = tie.close (tie.spec (λ c κs. search needs) returns returns-2 returns-3)

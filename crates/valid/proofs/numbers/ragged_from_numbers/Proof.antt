@@ -10,12 +10,6 @@ use Rattle.valid.proofs.NumberLaws.{outside, width-unknown}
 use Rattle.valid.proofs.numbers.ragged_from_numbers.Statement.{statement}
 use Rattle.valid.proofs.numbers.ragged_from_numbers.Tie as tie
 
-ragged-of-width-requires : tie.Need-ragged-of-width-requires
-ragged-of-width-requires c κs = search needs
-
-ragged-of-width-requires-2 : tie.Need-ragged-of-width-requires-2
-ragged-of-width-requires-2 c κs = search needs
-
 returns : tie.Need-returns
 returns c = let a = c .before .before .args in c .ragged-of-width .ensures ∙ ap (λ (w : ℕ). andThen (raggedOf w (a .place)) (kindWith (a .depth))) (sym (c .before .match .keys1))
 
@@ -23,9 +17,12 @@ returns-2 : tie.Need-returns-2
 returns-2 c = let a = c .before .before .args in c .ragged-of-width2 .ensures ∙ ap (λ (w : ℕ). andThen (raggedOf w (a .place)) (kindWith (a .depth))) (sym (c .before .match .keys2))
 
 returns-3 : tie.Need-returns-3
-returns-3 c = let a = c .before .args in outside (ragged (a .width)) atStart atEnd (a .depth) (a .place) (width-unknown (a .width) atStart (c .match .rest .0 .1) (c .match .rest .1)) (width-unknown (a .width) atEnd (c .match .rest .0 .1) (c .match .rest .1))
+returns-3 c =
+    let a = c .before .args in
+    outside (ragged (a .width)) atStart atEnd (a .depth) (a .place) (width-unknown (a .width) atStart (c .match .rest .0 .1) (c .match .rest .1))
+    (width-unknown (a .width) atEnd (c .match .rest .0 .1) (c .match .rest .1))
 
 pub ragged-from-numbers-spec : {M : Type 1} → statement M
 ragged-from-numbers-spec =
     tie.close
-    (tie.spec ragged-of-width-requires ragged-of-width-requires-2 returns returns-2 returns-3)
+    (tie.spec (λ c κs. search needs) (λ c κs. search needs) returns returns-2 returns-3)

@@ -16,6 +16,10 @@ abbrev μ-loop : tie.MeasureT-loop
 abbrev Head : Type 0
 Head = tie.At-loop Inv-loop μ-loop
 
+-- places that the answers go back to
+abbrev at-loop : tie.Else4 Inv-loop μ-loop → Head
+at-loop c = c .before .before .before .before
+
 abbrev shape : Head → List ℕ
 shape l = l .before .before .before .args .shape .now
 
@@ -27,12 +31,6 @@ returns-2 c = many-sides (c .before .before .args .shape .now) (c .if2 .taken)
 
 loop-holds : tie.Need-loop-holds Inv-loop μ-loop
 loop-holds c = sides-begin (c .before .before .args .shape .now)
-
-sub-k : tie.Need-sub-k Inv-loop μ-loop
-sub-k c = omega arith
-
-mul-side : tie.Need-mul-side Inv-loop μ-loop
-mul-side c = omega arith
 
 shared-slice-read-side : tie.Need-shared-slice-read-side Inv-loop μ-loop
 shared-slice-read-side c = omega (arith, c .before .before .loop .inv .within)
@@ -47,25 +45,22 @@ returns-4 c =
 
 mul-if5 : tie.Need-mul-if5 Inv-loop μ-loop
 mul-if5 c =
-    let l = c .before .before .before .before in
+    let l = at-loop c in
     omega (arith, side-fits (l .loop .inv) (c .before .before .before .loop-test .taken) (omega arith))
 
 returns-5 : tie.Need-returns-5 Inv-loop μ-loop
 returns-5 c =
-    let l = c .before .before .before .before .before in
+    let l = at-loop (c .before) in
     many-cells (l .loop .inv) (c .before .before .before .before .loop-test .taken) (c .if5 .taken)
 
 mul-cells : tie.Need-mul-cells Inv-loop μ-loop
 mul-cells c =
-    let l = c .before .before .before .before .before in
+    let l = at-loop (c .before) in
     omega (arith, side-fits (l .loop .inv) (c .before .before .before .before .loop-test .taken) (omega arith))
-
-loop-less : tie.Need-loop-less Inv-loop μ-loop
-loop-less c = omega arith
 
 loop-again : tie.Need-loop-again Inv-loop μ-loop
 loop-again c =
-    let l = c .before .before .before .before .before in
+    let l = at-loop (c .before) in
     sides-more (l .loop .inv) (c .before .before .before .before .loop-test .taken) (c .before .before .if3 .left) (c .if5 .left)
 
 returns-6 : tie.Need-returns-6 Inv-loop μ-loop
@@ -82,14 +77,14 @@ shape-cells-spec =
     returns
     returns-2
     loop-holds
-    sub-k
-    mul-side
+    (λ c. omega arith)
+    (λ c. omega arith)
     shared-slice-read-side
     returns-3
     returns-4
     mul-if5
     returns-5
     mul-cells
-    loop-less
+    (λ c. omega arith)
     loop-again
     returns-6)
