@@ -10,14 +10,11 @@ use borrow.Author.Needs.{needs}
 use Rattle.word.proofs.be8_at.Statement.{statement}
 use Rattle.word.proofs.be8_at.Tie as tie
 
-le8-at-requires : tie.Need-le8-at-requires
-le8-at-requires c κs = search needs
-
-swap-bytes-requires : tie.Need-swap-bytes-requires
-swap-bytes-requires c κs = search needs
-
 returns : tie.Need-returns
-returns c = c .swap-bytes .ensures ∙ ap (λ (l : List ℕ). unle (reverse l)) (le-read little (c .before .before .before .args .s .now) (λ i. c .before .before .shared-slice-known .given i .fits) (c .before .before .before .args .at) 8 (c .before .before .before .pre) (c .before .le8-at .ensures))
+returns c =
+    c .swap-bytes .ensures ∙ ap (λ (l : List ℕ). unle (reverse l))
+    (le-read little (c .before .before .before .args .s .now) (λ i. c .before .before .shared-slice-known .given i .fits) (c .before .before .before .args .at) 8
+    (c .before .before .before .pre) (c .before .le8-at .ensures))
 
 pub be8-at-spec : {M : Type 1} → statement M
-be8-at-spec = tie.close (tie.spec le8-at-requires swap-bytes-requires returns)
+be8-at-spec = tie.close (tie.spec (λ c κs. search needs) (λ c κs. search needs) returns)

@@ -8,15 +8,9 @@ use borrow.Author.Needs.{needs}
 use Rattle.word.proofs.le1_at.Statement.{statement}
 use Rattle.word.proofs.le1_at.Tie as tie
 
-shared-slice-read-wide : tie.Need-shared-slice-read-wide
-shared-slice-read-wide c = search needs
-
-wide-requires : tie.Need-wide-requires
-wide-requires c κs = search needs
-
 returns : tie.Need-returns
 unfolding unle
 returns c = omega (arith, ap unle (reads-take (c .before .before .before .args .s .now) (c .before .before .before .args .at) 1 (c .before .before .before .pre)))
 
 pub le1-at-spec : {M : Type 1} → statement M
-le1-at-spec = tie.close (tie.spec shared-slice-read-wide wide-requires returns)
+le1-at-spec = tie.close (tie.spec (λ c. search needs) (λ c κs. search needs) returns)

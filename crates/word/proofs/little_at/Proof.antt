@@ -10,15 +10,6 @@ use borrow.Author.Needs.{needs}
 use Rattle.word.proofs.little_at.Statement.{statement}
 use Rattle.word.proofs.little_at.Tie as tie
 
-le1-at-requires : tie.Need-le1-at-requires
-le1-at-requires c κs = search needs
-
-le2-at-requires : tie.Need-le2-at-requires
-le2-at-requires c κs = search needs
-
-le4-at-requires : tie.Need-le4-at-requires
-le4-at-requires c κs = search needs
-
 le8-at-requires : tie.Need-le8-at-requires
 le8-at-requires c κs = omega (arith, word-eight (c .before .before .args .size) (c .before .before .pre .0) (c .match .rest .0 .0 .1) (c .match .rest .0 .1) (c .match .rest .1))
 
@@ -32,17 +23,11 @@ returns-3 : tie.Need-returns-3
 returns-3 c = let a = c .before .before .before .args in c .le4-at .ensures ∙ ap (λ (k : ℕ). unle (take k (drop (a .at) (a .s .now)))) (sym (c .before .match .keys3))
 
 returns-4 : tie.Need-returns-4
-returns-4 c = let a = c .before .before .before .args in c .le8-at .ensures ∙ ap (λ (k : ℕ). unle (take k (drop (a .at) (a .s .now)))) (sym (word-eight (a .size) (c .before .before .before .pre .0) (c .before .match .rest .0 .0 .1) (c .before .match .rest .0 .1) (c .before .match .rest .1)))
+returns-4 c =
+    let a = c .before .before .before .args in
+    c .le8-at .ensures ∙ ap (λ (k : ℕ). unle (take k (drop (a .at) (a .s .now))))
+    (sym (word-eight (a .size) (c .before .before .before .pre .0) (c .before .match .rest .0 .0 .1) (c .before .match .rest .0 .1) (c .before .match .rest .1)))
 
 pub little-at-spec : {M : Type 1} → statement M
 little-at-spec =
-    tie.close
-    (tie.spec
-    le1-at-requires
-    le2-at-requires
-    le4-at-requires
-    le8-at-requires
-    returns
-    returns-2
-    returns-3
-    returns-4)
+    tie.close (tie.spec (λ c κs. search needs) (λ c κs. search needs) (λ c κs. search needs) le8-at-requires returns returns-2 returns-3 returns-4)

@@ -6,9 +6,6 @@ use borrow.Author.Needs.{needs}
 use Rattle.word.proofs.swap_halves.Statement.{statement}
 use Rattle.word.proofs.swap_halves.Tie as tie
 
-mul-result : tie.Need-mul-result
-mul-result c = search needs
-
 add-result : tie.Need-add-result
 add-result c = omega (arith, high-half (c .args .v) (c .fits .v .fits))
 
@@ -16,4 +13,4 @@ returns : tie.Need-returns
 returns c = le-halves (c .args .v) (high-half (c .args .v) (c .fits .v .fits))
 
 pub swap-halves-spec : {M : Type 1} → statement M
-swap-halves-spec = tie.close (tie.spec mul-result add-result returns)
+swap-halves-spec = tie.close (tie.spec (λ c. search needs) add-result returns)

@@ -10,24 +10,17 @@ use borrow.Author.Needs.{needs}
 use Rattle.word.proofs.word_at.Statement.{statement}
 use Rattle.word.proofs.word_at.Tie as tie
 
-enum-told : tie.Need-enum-told
-enum-told c = search needs
-
-little-at-requires : tie.Need-little-at-requires
-little-at-requires c κs = search needs
-
-enum-told-2 : tie.Need-enum-told-2
-enum-told-2 c = search needs
-
-big-at-requires : tie.Need-big-at-requires
-big-at-requires c κs = search needs
-
 returns : tie.Need-returns
-returns c = let a = c .before .before .before .before .args in le-read little (a .s .now) (λ i. c .before .before .before .shared-slice-known .given i .fits) (a .at) (a .size) (c .before .before .before .before .pre .1) (c .little-at .ensures) ∙ ap (λ (o : ByteOrder). ordered (orderOf o) (take (a .size) (drop (a .at) (a .s .now)))) (sym (c .before .enum-told .given .1))
+returns c =
+    let a = c .before .before .before .before .args in
+    le-read little (a .s .now) (λ i. c .before .before .before .shared-slice-known .given i .fits) (a .at) (a .size) (c .before .before .before .before .pre .1) (c .little-at .ensures)
+    ∙ ap (λ (o : ByteOrder). ordered (orderOf o) (take (a .size) (drop (a .at) (a .s .now)))) (sym (c .before .enum-told .given .1))
 
 returns-2 : tie.Need-returns-2
-returns-2 c = let a = c .before .before .before .before .args in le-read big (a .s .now) (λ i. c .before .before .before .shared-slice-known .given i .fits) (a .at) (a .size) (c .before .before .before .before .pre .1) (c .big-at .ensures) ∙ ap (λ (o : ByteOrder). ordered (orderOf o) (take (a .size) (drop (a .at) (a .s .now)))) (sym (c .before .enum-told2 .given .1))
+returns-2 c =
+    let a = c .before .before .before .before .args in
+    le-read big (a .s .now) (λ i. c .before .before .before .shared-slice-known .given i .fits) (a .at) (a .size) (c .before .before .before .before .pre .1) (c .big-at .ensures) ∙ ap
+    (λ (o : ByteOrder). ordered (orderOf o) (take (a .size) (drop (a .at) (a .s .now)))) (sym (c .before .enum-told2 .given .1))
 
 pub word-at-spec : {M : Type 1} → statement M
-word-at-spec =
-    tie.close (tie.spec enum-told little-at-requires enum-told-2 big-at-requires returns returns-2)
+word-at-spec = tie.close (tie.spec (λ c. search needs) (λ c κs. search needs) (λ c. search needs) (λ c κs. search needs) returns returns-2)
