@@ -16,17 +16,8 @@ parts : (c : tie.Start)
     + bitsIn (take (c .args .size - c .args .size / 8 * 8) (drop (c .args .at + c .args .size / 8 * 8) (c .args .s .now)))
 parts c = bits-parts (c .args .s .now) (c .args .at) (c .args .size / 8 * 8) (c .args .size) (omega arith)
 
-mul-whole : tie.Need-mul-whole
-mul-whole c = omega arith
-
 count-words-requires : tie.Need-count-words-requires
 count-words-requires c κs = (omega arith, omega (arith, parts (c .before)))
-
-add-count-bytes : tie.Need-add-count-bytes
-add-count-bytes c = omega arith
-
-sub-count-bytes : tie.Need-sub-count-bytes
-sub-count-bytes c = omega arith
 
 count-bytes-requires : tie.Need-count-bytes-requires
 count-bytes-requires c κs = (omega arith, omega (arith, parts (c .before .before)))
@@ -39,12 +30,4 @@ returns c = omega (arith, parts (c .before .before .before))
 
 pub count-bits-spec : {M : Type 1} → statement M
 count-bits-spec =
-    tie.close
-    (tie.spec
-    mul-whole
-    count-words-requires
-    add-count-bytes
-    sub-count-bytes
-    count-bytes-requires
-    add-result
-    returns)
+    tie.close (tie.spec (λ c. omega arith) count-words-requires (λ c. omega arith) (λ c. omega arith) count-bytes-requires add-result returns)

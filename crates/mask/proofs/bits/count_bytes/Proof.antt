@@ -38,21 +38,14 @@ counted : (c : Read) → ones (byteOf c) ≡ setBits (byteOf c)
 counted c = ones-byte (byteOf c) (omega (arith, c .shared-slice-known2 .given (begun c .args .at + index c)))
 
 abbrev left : Read → ℕ → ℕ
-left c i = bitsIn (drop i (take (begun c .args .size) (drop (begun c .args .at) (begun c .args .s .now))))
+left c i =
+    let a = begun c .args in
+    bitsIn (drop i (take (a .size) (drop (a .at) (a .s .now))))
 
 next : (c : Read) → left c (index c) ≡ setBits (byteOf c) + left c (index c + 1)
 next c =
     let a = begun c .args in
     ap bitsIn (part-next (a .s .now) (a .at) (a .size) (begun c .pre .0) (index c) (c .before .loop-test .taken))
-
-loop-holds : tie.Need-loop-holds Inv-loop μ-loop
-loop-holds c = omega arith
-
-add-b : tie.Need-add-b Inv-loop μ-loop
-add-b c = omega arith
-
-shared-slice-read-b : tie.Need-shared-slice-read-b Inv-loop μ-loop
-shared-slice-read-b c = omega arith
 
 cast-b : tie.Need-cast-b Inv-loop μ-loop
 cast-b c = omega (arith, c .shared-slice-known2 .given (begun c .args .at + index c))
@@ -60,17 +53,8 @@ cast-b c = omega (arith, c .shared-slice-known2 .given (begun c .args .at + inde
 count-ones-requires : tie.Need-count-ones-requires Inv-loop μ-loop
 count-ones-requires c κs = tt
 
-cast-set : tie.Need-cast-set Inv-loop μ-loop
-cast-set c = omega arith
-
 add-set : tie.Need-add-set Inv-loop μ-loop
 add-set c = omega (arith, counted (c .before), next (c .before), begun (c .before) .pre .1)
-
-add-i : tie.Need-add-i Inv-loop μ-loop
-add-i c = omega arith
-
-loop-less : tie.Need-loop-less Inv-loop μ-loop
-loop-less c = omega arith
 
 loop-again : tie.Need-loop-again Inv-loop μ-loop
 loop-again c = omega (arith, counted (c .before), next (c .before))
@@ -88,14 +72,14 @@ count-bytes-spec =
     (tie.spec
     Inv-loop
     μ-loop
-    loop-holds
-    add-b
-    shared-slice-read-b
+    (λ c. omega arith)
+    (λ c. omega arith)
+    (λ c. omega arith)
     cast-b
     count-ones-requires
-    cast-set
+    (λ c. omega arith)
     add-set
-    add-i
-    loop-less
+    (λ c. omega arith)
+    (λ c. omega arith)
     loop-again
     returns)

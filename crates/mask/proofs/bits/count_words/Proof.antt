@@ -32,7 +32,9 @@ abbrev index : Read → ℕ
 index c = c .before .before .loop .i
 
 abbrev left : Read → ℕ → ℕ
-left c i = bitsIn (drop (i * 8) (take (begun c .args .words * 8) (drop (begun c .args .at) (begun c .args .s .now))))
+left c i =
+    let a = begun c .args in
+    bitsIn (drop (i * 8) (take (a .words * 8) (drop (a .at) (a .s .now))))
 
 next : (c : Read) → left c (index c) ≡ ones (c .le8-at .result) + left c (index c + 1)
 next c =
@@ -41,32 +43,11 @@ next c =
     word-next (a .s .now) (λ j. omega (arith, known (c .before .before) .shared-slice-known .given j)) (a .at) (a .words * 8) (index c * 8) (omega arith)
     ∙ ap₂ (λ (w i : ℕ). ones w + bitsIn (drop i (take (a .words * 8) (drop (a .at) (a .s .now))))) (sym (c .le8-at .ensures)) e
 
-loop-holds : tie.Need-loop-holds Inv-loop μ-loop
-loop-holds c = omega arith
-
-mul-le8-at : tie.Need-mul-le8-at Inv-loop μ-loop
-mul-le8-at c = omega arith
-
-add-le8-at : tie.Need-add-le8-at Inv-loop μ-loop
-add-le8-at c = omega arith
-
-le8-at-requires : tie.Need-le8-at-requires Inv-loop μ-loop
-le8-at-requires c κs = omega arith
-
 count-ones-requires : tie.Need-count-ones-requires Inv-loop μ-loop
 count-ones-requires c κs = tt
 
-cast-set : tie.Need-cast-set Inv-loop μ-loop
-cast-set c = omega arith
-
 add-set : tie.Need-add-set Inv-loop μ-loop
 add-set c = omega (arith, next (c .before), begun (c .before) .pre .1)
-
-add-i : tie.Need-add-i Inv-loop μ-loop
-add-i c = omega arith
-
-loop-less : tie.Need-loop-less Inv-loop μ-loop
-loop-less c = omega arith
 
 loop-again : tie.Need-loop-again Inv-loop μ-loop
 loop-again c = omega (arith, next (c .before))
@@ -84,14 +65,14 @@ count-words-spec =
     (tie.spec
     Inv-loop
     μ-loop
-    loop-holds
-    mul-le8-at
-    add-le8-at
-    le8-at-requires
+    (λ c. omega arith)
+    (λ c. omega arith)
+    (λ c. omega arith)
+    (λ c κs. omega arith)
     count-ones-requires
-    cast-set
+    (λ c. omega arith)
     add-set
-    add-i
-    loop-less
+    (λ c. omega arith)
+    (λ c. omega arith)
     loop-again
     returns)

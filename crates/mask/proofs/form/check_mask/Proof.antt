@@ -34,26 +34,11 @@ bytes-room c e = subst (λ (x : Masks). c .args .at + maskForm x .size (c .args 
 packed-room : (c : tie.Start) → c .args .form ≡ Packed → c .args .at + bytesFor (c .args .n) ≤ length (c .args .s .now)
 packed-room c e = subst (λ (x : Masks). c .args .at + maskForm x .size (c .args .n) ≤ length (c .args .s .now)) (ap masksOf e) (c .pre)
 
-enum-told : tie.Need-enum-told
-enum-told c = search needs
-
 add-end : tie.Need-add-end
 add-end c = omega (arith, bytes-room (bytesCase c) (c .enum-told .given .1))
 
-sub-count-strict : tie.Need-sub-count-strict
-sub-count-strict c = search needs
-
-part-count-strict-start : tie.Need-part-count-strict-start
-part-count-strict-start c = search needs
-
 part-count-strict-end : tie.Need-part-count-strict-end
 part-count-strict-end c = omega (arith, bytes-room (bytesCase c) (c .enum-told .given .1))
-
-count-strict-requires : tie.Need-count-strict-requires
-count-strict-requires c κs = search needs
-
-enum-told-2 : tie.Need-enum-told-2
-enum-told-2 c = search needs
 
 unused-clear-requires : tie.Need-unused-clear-requires
 unused-clear-requires c κs = packed-room (packedCase c) (c .enum-told2 .given .1)
@@ -96,13 +81,13 @@ pub check-mask-spec : {M : Type 1} → statement M
 check-mask-spec =
     tie.close
     (tie.spec
-    enum-told
+    (λ c. search needs)
     add-end
-    sub-count-strict
-    part-count-strict-start
+    (λ c. search needs)
+    (λ c. search needs)
     part-count-strict-end
-    count-strict-requires
-    enum-told-2
+    (λ c κs. search needs)
+    (λ c. search needs)
     unused-clear-requires
     returns
     count-packed-requires

@@ -15,29 +15,18 @@ use borrow.Author.Needs.{needs}
 use Rattle.mask.proofs.form.count_stored.Statement.{statement}
 use Rattle.mask.proofs.form.count_stored.Tie as tie
 
+-- places that the answers go back to
+abbrev start : tie.After-enum-told → tie.Start
+start c = c .before .before .before
+
 bytes-room : (c : tie.Start) → c .args .form ≡ Bytes → c .args .at + c .args .n ≤ length (c .args .s .now)
 bytes-room c e = subst (λ (x : Masks). c .args .at + maskForm x .size (c .args .n) ≤ length (c .args .s .now)) (ap masksOf e) (c .pre .0)
 
-enum-told : tie.Need-enum-told
-enum-told c = search needs
-
 add-end : tie.Need-add-end
-add-end c = omega (arith, bytes-room (c .before .before .before) (c .enum-told .given .1))
-
-sub-count-set : tie.Need-sub-count-set
-sub-count-set c = search needs
-
-part-count-set-start : tie.Need-part-count-set-start
-part-count-set-start c = search needs
+add-end c = omega (arith, bytes-room (start c) (c .enum-told .given .1))
 
 part-count-set-end : tie.Need-part-count-set-end
-part-count-set-end c = omega (arith, bytes-room (c .before .before .before) (c .enum-told .given .1))
-
-count-set-requires : tie.Need-count-set-requires
-count-set-requires c κs = search needs
-
-enum-told-2 : tie.Need-enum-told-2
-enum-told-2 c = search needs
+part-count-set-end c = omega (arith, bytes-room (start c) (c .enum-told .given .1))
 
 count-packed-requires : tie.Need-count-packed-requires
 count-packed-requires c κs =
@@ -50,7 +39,7 @@ count-packed-requires c κs =
 
 returns : tie.Need-returns
 returns c =
-    let a = c .before .before .before .before .before .args in
+    let a = start (c .before .before) .args in
     let k : a .at + a .n - a .at ≡ a .n = omega arith in
     c .count-set .ensures ∙ ap (λ (i : ℕ). countSet (take i (drop (a .at) (a .s .now)))) k
     ∙ sym (ap (λ (x : Masks). countSet (saidMask (maskForm x) (a .s .now) (a .at) (a .n))) (ap masksOf (c .before .before .enum-told .given .1)))
@@ -64,13 +53,13 @@ pub count-stored-spec : {M : Type 1} → statement M
 count-stored-spec =
     tie.close
     (tie.spec
-    enum-told
+    (λ c. search needs)
     add-end
-    sub-count-set
-    part-count-set-start
+    (λ c. search needs)
+    (λ c. search needs)
     part-count-set-end
-    count-set-requires
-    enum-told-2
+    (λ c κs. search needs)
+    (λ c. search needs)
     count-packed-requires
     returns
     returns-2)

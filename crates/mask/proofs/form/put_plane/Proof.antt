@@ -12,49 +12,43 @@ use borrow.Author.Needs.{needs}
 use Rattle.mask.proofs.form.put_plane.Statement.{statement}
 use Rattle.mask.proofs.form.put_plane.Tie as tie
 
+-- places that the answers go back to
+abbrev start : tie.After-shared-slice-known → tie.Start
+start c = c .before .before
+
 room : (c : tie.Start) {f : MaskForm} → c .args .form ≡ f
     → (c .args .to + maskForm (masksOf f) .size (c .args .n) ≤ length (c .args .out .now)) × (c .args .at + c .args .n ≤ length (c .args .planes .now))
 room c e = (subst (λ (f : MaskForm). c .args .to + maskForm (masksOf f) .size (c .args .n) ≤ length (c .args .out .now)) e (c .pre .0), c .pre .1)
 
-enum-told : tie.Need-enum-told
-enum-told c = search needs
-
 copy-many-requires : tie.Need-copy-many-requires
-copy-many-requires c κs = room (c .before .before .before .before .before) (c .before .enum-told .given .1)
-
-enum-told-2 : tie.Need-enum-told-2
-enum-told-2 c = search needs
+copy-many-requires c κs = room (start (c .before .before .before)) (c .before .enum-told .given .1)
 
 pack-requires : tie.Need-pack-requires
-pack-requires c κs = room (c .before .before .before .before .before) (c .before .enum-told2 .given .1)
-
-same-length : tie.Need-same-length
-same-length c = search needs
+pack-requires c κs = room (start (c .before .before .before)) (c .before .enum-told2 .given .1)
 
 returns : tie.Need-returns
 returns c =
-    let a = c .before .before .before .before .before .before .before .before .args in
+    let m = c .before .before .before .before in
+    let a = start (m .before .before) .args in
     c .before .before .copy-many .ensures ∙ sym
-    (ap (λ (x : Masks). overAt (a .to) (maskForm x .put (take (a .n) (drop (a .at) (a .planes .now)))) (a .out .now)) (ap masksOf (c .before .before .before .before .enum-told .given .1)))
-
-same-length-2 : tie.Need-same-length-2
-same-length-2 c = search needs
+    (ap (λ (x : Masks). overAt (a .to) (maskForm x .put (take (a .n) (drop (a .at) (a .planes .now)))) (a .out .now)) (ap masksOf (m .enum-told .given .1)))
 
 returns-2 : tie.Need-returns-2
 returns-2 c =
-    let a = c .before .before .before .before .before .before .before .before .args in
+    let m = c .before .before .before .before in
+    let a = start (m .before .before) .args in
     c .before .before .pack .ensures ∙ sym (ap (λ (x : Masks). overAt (a .to) (maskForm x .put (take (a .n) (drop (a .at) (a .planes .now)))) (a .out .now))
-    (ap masksOf (c .before .before .before .before .enum-told2 .given .1)))
+    (ap masksOf (m .enum-told2 .given .1)))
 
 pub put-plane-spec : {M : Type 1} → statement M
 put-plane-spec =
     tie.close
     (tie.spec
-    enum-told
+    (λ c. search needs)
     copy-many-requires
-    enum-told-2
+    (λ c. search needs)
     pack-requires
-    same-length
+    (λ c. search needs)
     returns
-    same-length-2
+    (λ c. search needs)
     returns-2)

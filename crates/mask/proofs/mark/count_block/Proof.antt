@@ -16,33 +16,22 @@ Inv-loop mask from end n₀ i₀ n i = (from ≤ i) × (i ≤ end) × (n ≤ i -
 abbrev μ-loop : tie.MeasureT-loop
 μ-loop mask from end n₀ i₀ n i = end - i
 
-loop-holds : tie.Need-loop-holds Inv-loop μ-loop
-loop-holds c = omega arith
-
-shared-slice-read-one-if-set : tie.Need-shared-slice-read-one-if-set Inv-loop μ-loop
-shared-slice-read-one-if-set c = omega arith
-
-one-if-set-requires : tie.Need-one-if-set-requires Inv-loop μ-loop
-one-if-set-requires c κs = search needs
+-- places that the answers go back to
+abbrev start : tie.At-loop Inv-loop μ-loop → tie.Start Inv-loop μ-loop
+start c = c .before .before
 
 add-n : tie.Need-add-n Inv-loop μ-loop
-add-n c = omega (arith, c .one-if-set .ensures, count-one (getD (c .before .before .before .before .before .args .mask .now) (c .before .before .before .loop .i) 0))
-
-add-i : tie.Need-add-i Inv-loop μ-loop
-add-i c = omega arith
-
-loop-less : tie.Need-loop-less Inv-loop μ-loop
-loop-less c = omega arith
+add-n c = omega (arith, c .one-if-set .ensures, count-one (getD (start (c .before .before .before) .args .mask .now) (c .before .before .before .loop .i) 0))
 
 loop-again : tie.Need-loop-again Inv-loop μ-loop
 loop-again c =
-    let args = c .before .before .before .before .before .args in
+    let args = start (c .before .before .before) .args in
     let loop = c .before .before .before .loop in
     omega (arith, c .one-if-set .ensures, count-one (getD (args .mask .now) (loop .i) 0), count-next (args .mask .now) (loop .i) (omega arith))
 
 returns : tie.Need-returns Inv-loop μ-loop
 returns c =
-    let args = c .before .before .before .args in
+    let args = start (c .before) .args in
     let e : c .before .loop .i ≡ args .end = omega arith in omega (arith, ap (λ (k : ℕ). countSet (drop k (args .mask .now))) e)
 
 pub count-block-spec : {M : Type 1} → statement M
@@ -51,11 +40,11 @@ count-block-spec =
     (tie.spec
     Inv-loop
     μ-loop
-    loop-holds
-    shared-slice-read-one-if-set
-    one-if-set-requires
+    (λ c. omega arith)
+    (λ c. omega arith)
+    (λ c κs. search needs)
     add-n
-    add-i
-    loop-less
+    (λ c. omega arith)
+    (λ c. omega arith)
     loop-again
     returns)

@@ -16,29 +16,21 @@ Inv-loop mask n₀ at₀ n at = (at ≤ length mask) × (n + countSet (drop at m
 abbrev μ-loop : tie.MeasureT-loop
 μ-loop mask n₀ at₀ n at = length mask - at
 
+-- places that the answers go back to
+abbrev start : tie.At-loop Inv-loop μ-loop → tie.Start Inv-loop μ-loop
+start c = c .before .before
+
 loop-holds : tie.Need-loop-holds Inv-loop μ-loop
 loop-holds c = (omega arith, omega arith)
 
-block-end-requires : tie.Need-block-end-requires Inv-loop μ-loop
-block-end-requires c κs = search needs
-
-count-block-requires : tie.Need-count-block-requires Inv-loop μ-loop
-count-block-requires c κs = search needs
-
-cast-n : tie.Need-cast-n Inv-loop μ-loop
-cast-n c = search needs
-
 add-n : tie.Need-add-n Inv-loop μ-loop
-add-n c = omega (arith, c .count-block .ensures, count-le (c .before .before .before .before .before .args .mask .now))
-
-loop-less : tie.Need-loop-less Inv-loop μ-loop
-loop-less c = omega arith
+add-n c = omega (arith, c .count-block .ensures, count-le (start (c .before .before .before) .args .mask .now))
 
 loop-again : tie.Need-loop-again Inv-loop μ-loop
 loop-again c = omega (arith, c .count-block .ensures)
 
 returns : tie.Need-returns Inv-loop μ-loop
-returns c = omega (arith, count-end (c .before .before .before .args .mask .now) (c .before .loop .at) (omega arith))
+returns c = omega (arith, count-end (start (c .before) .args .mask .now) (c .before .loop .at) (omega arith))
 
 pub count-set-spec : {M : Type 1} → statement M
 count-set-spec =
@@ -47,10 +39,10 @@ count-set-spec =
     Inv-loop
     μ-loop
     loop-holds
-    block-end-requires
-    count-block-requires
-    cast-n
+    (λ c κs. search needs)
+    (λ c κs. search needs)
+    (λ c. search needs)
     add-n
-    loop-less
+    (λ c. omega arith)
     loop-again
     returns)

@@ -7,21 +7,6 @@ use Rattle.array.specs.Meaning.{toldMark}
 use Rattle.mask.proofs.mark.is_set.Statement.{statement}
 use Rattle.mask.proofs.mark.is_set.Tie as tie
 
-shared-slice-read-mark-of : tie.Need-shared-slice-read-mark-of
-shared-slice-read-mark-of c = search needs
-
-mark-of-requires : tie.Need-mark-of-requires
-mark-of-requires c κs = search needs
-
-enum-told : tie.Need-enum-told
-enum-told c = search needs
-
-enum-told-2 : tie.Need-enum-told-2
-enum-told-2 c = search needs
-
-enum-told-3 : tie.Need-enum-told-3
-enum-told-3 c = search needs
-
 returns : tie.Need-returns
 returns c = ap setTestBy (sym (ap toldMark (c .enum-told .given .1)) ∙ c .before .before .mark-of .ensures)
 
@@ -34,4 +19,4 @@ returns-3 c = ap setTestBy (sym (ap toldMark (c .enum-told3 .given .1)) ∙ c .b
 pub is-set-spec : {M : Type 1} → statement M
 is-set-spec =
     tie.close
-    (tie.spec shared-slice-read-mark-of mark-of-requires enum-told enum-told-2 enum-told-3 returns returns-2 returns-3)
+    (tie.spec (λ c. search needs) (λ c κs. search needs) (λ c. search needs) (λ c. search needs) (λ c. search needs) returns returns-2 returns-3)

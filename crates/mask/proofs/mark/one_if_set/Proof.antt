@@ -8,18 +8,6 @@ use Rattle.array.specs.Meaning.{toldMark}
 use Rattle.mask.proofs.mark.one_if_set.Statement.{statement}
 use Rattle.mask.proofs.mark.one_if_set.Tie as tie
 
-mark-of-requires : tie.Need-mark-of-requires
-mark-of-requires c κs = search needs
-
-enum-told : tie.Need-enum-told
-enum-told c = search needs
-
-enum-told-2 : tie.Need-enum-told-2
-enum-told-2 c = search needs
-
-enum-told-3 : tie.Need-enum-told-3
-enum-told-3 c = search needs
-
 returns : tie.Need-returns
 returns c = ap (λ (m : Mark). countBy m 0) (sym (ap toldMark (c .enum-told .given .1)) ∙ c .before .before .mark-of .ensures)
 
@@ -30,4 +18,4 @@ returns-3 : tie.Need-returns-3
 returns-3 c = ap (λ (m : Mark). countBy m 0) (sym (ap toldMark (c .enum-told3 .given .1)) ∙ c .before .before .mark-of .ensures)
 
 pub one-if-set-spec : {M : Type 1} → statement M
-one-if-set-spec = tie.close (tie.spec mark-of-requires enum-told enum-told-2 enum-told-3 returns returns-2 returns-3)
+one-if-set-spec = tie.close (tie.spec (λ c κs. search needs) (λ c. search needs) (λ c. search needs) (λ c. search needs) returns returns-2 returns-3)

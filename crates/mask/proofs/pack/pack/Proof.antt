@@ -30,7 +30,9 @@ begun l = l .before .before .before
 
 -- what is to be written, from cell `done` on
 abbrev left : Head → ℕ → List ℕ
-left l done = packBits (map bitOf (drop done (take (begun l .args .n) (drop (begun l .args .at) (begun l .args .planes .now)))))
+left l done =
+    let a = begun l .args in
+    packBits (map bitOf (drop done (take (a .n) (drop (a .at) (a .planes .now)))))
 
 same : (l : Head) → length (l .loop .out) ≡ length (begun l .args .out .now)
 same l = laying-same (left l 0) (begun l .args .out .now) (begun l .args .to) (l .loop .out) (bytesFor (l .loop .done)) (left l (l .loop .done)) (l .loop .inv .2)
@@ -44,18 +46,6 @@ loop-holds c =
       laying-begins (packBits (map bitOf (take (a .n) (drop (a .at) (a .planes .now))))) (a .out .now) (a .to)
           (omega (arith, start .pre .0, length-packed-from (a .planes .now) (a .at) (a .n) (start .pre .1))),
     )
-
-sub-block-at-most : tie.Need-sub-block-at-most Inv-loop μ-loop
-sub-block-at-most c = omega arith
-
-block-at-most-requires : tie.Need-block-at-most-requires Inv-loop μ-loop
-block-at-most-requires c κs = search needs
-
-add-pack-block : tie.Need-add-pack-block Inv-loop μ-loop
-add-pack-block c = omega arith
-
-add-pack-block-2 : tie.Need-add-pack-block-2 Inv-loop μ-loop
-add-pack-block-2 c = omega arith
 
 pack-block-requires : tie.Need-pack-block-requires Inv-loop μ-loop
 pack-block-requires c κs =
@@ -110,10 +100,10 @@ pack-spec =
     Inv-loop
     μ-loop
     loop-holds
-    sub-block-at-most
-    block-at-most-requires
-    add-pack-block
-    add-pack-block-2
+    (λ c. omega arith)
+    (λ c κs. search needs)
+    (λ c. omega arith)
+    (λ c. omega arith)
     pack-block-requires
     add-done
     loop-less

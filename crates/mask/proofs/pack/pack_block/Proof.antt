@@ -16,6 +16,10 @@ use borrow.Author.Needs.{needs}
 use Rattle.mask.proofs.pack.pack_block.Statement.{statement}
 use Rattle.mask.proofs.pack.pack_block.Tie as tie
 
+-- places that the answers go back to
+abbrev after-put-bits : tie.After-bytes-for → tie.After-put-bits
+after-put-bits c = c .before .before .before .before
+
 -- the bits of the cells at hand
 abbrev bits : tie.Start → List ℕ
 bits c = map bitOf (take (c .args .count) (drop (c .args .at) (c .args .planes .now)))
@@ -23,34 +27,19 @@ bits c = map bitOf (take (c .args .count) (drop (c .args .at) (c .args .planes .
 length-bits : (c : tie.Start) → length (bits c) ≡ c .args .count
 length-bits c = length-part-bits (c .args .planes .now) (c .args .at) (c .args .count) (c .pre .1)
 
-slice-aggregate-put-bits : tie.Need-slice-aggregate-put-bits
-slice-aggregate-put-bits c = search needs
-
-put-bits-requires : tie.Need-put-bits-requires
-put-bits-requires c κs = search needs
-
-slice-aggregate-pack-words : tie.Need-slice-aggregate-pack-words
-slice-aggregate-pack-words c = search needs
-
-bytes-for-requires : tie.Need-bytes-for-requires
-bytes-for-requires c κs = search needs
-
 pack-words-requires : tie.Need-pack-words-requires
 pack-words-requires c κs =
-    let put = c .before .before .before .before in
+    let put = after-put-bits c in
     let start = put .before .before .before .before in (
       omega (arith, c .bytes-for .ensures, start .pre .0),
       omega (arith, c .bytes-for .ensures, start .pre .2, put .put-bits .kept .0),
       subst⁻¹ (All (λ b. b < 2)) (put .put-bits .ensures) (block-bits (bits start) (bits-of-marks (take (start .args .count) (drop (start .args .at) (start .args .planes .now))))),
     )
 
-same-length : tie.Need-same-length
-same-length c = search needs
-
 returns : tie.Need-returns
 returns c =
     let call = c .before .before in
-    let put = call .before .before .before .before .before in
+    let put = after-put-bits (call .before) in
     let start = put .before .before .before .before in
     let count : call .before .bytes-for .result ≡ bytesFor (length (bits start)) = call .before .bytes-for .ensures ∙ ap bytesFor (sym (length-bits start)) in
     call .pack-words .ensures
@@ -61,10 +50,10 @@ pub pack-block-spec : {M : Type 1} → statement M
 pack-block-spec =
     tie.close
     (tie.spec
-    slice-aggregate-put-bits
-    put-bits-requires
-    slice-aggregate-pack-words
-    bytes-for-requires
+    (λ c. search needs)
+    (λ c κs. search needs)
+    (λ c. search needs)
+    (λ c κs. search needs)
     pack-words-requires
-    same-length
+    (λ c. search needs)
     returns)

@@ -47,35 +47,8 @@ loop-holds c =
     laying-begins want (a .out .now) (a .to) (omega (arith, start .pre .0, length-map (pieces 8 (a .count) (a .block .now)) (number 2), length-pieces 8 (a .count) (a .block .now))) in
     (omega arith, laying-is begins (sym (ap (λ (k : ℕ). map (number 2) (pieces 8 k (a .block .now))) (sub-zero (a .count)))))
 
-mul-le4-at : tie.Need-mul-le4-at Inv-loop μ-loop
-mul-le4-at c = omega arith
-
-le4-at-requires : tie.Need-le4-at-requires Inv-loop μ-loop
-le4-at-requires c κs = omega arith
-
-mul-le4-at-2 : tie.Need-mul-le4-at-2 Inv-loop μ-loop
-mul-le4-at-2 c = omega arith
-
-add-le4-at : tie.Need-add-le4-at Inv-loop μ-loop
-add-le4-at c = omega arith
-
-le4-at-requires-2 : tie.Need-le4-at-requires-2 Inv-loop μ-loop
-le4-at-requires-2 c κs = omega arith
-
-packed-word-requires : tie.Need-packed-word-requires Inv-loop μ-loop
-packed-word-requires c κs = search needs
-
-add-out : tie.Need-add-out Inv-loop μ-loop
-add-out c = omega arith
-
 slice-write-out : tie.Need-slice-write-out Inv-loop μ-loop
 slice-write-out c = omega (arith, same (c .before .before .before .before))
-
-add-i : tie.Need-add-i Inv-loop μ-loop
-add-i c = omega arith
-
-loop-less : tie.Need-loop-less Inv-loop μ-loop
-loop-less c = omega arith
 
 loop-again : tie.Need-loop-again Inv-loop μ-loop
 loop-again c =
@@ -109,16 +82,16 @@ pack-words-spec =
     Inv-loop
     μ-loop
     loop-holds
-    mul-le4-at
-    le4-at-requires
-    mul-le4-at-2
-    add-le4-at
-    le4-at-requires-2
-    packed-word-requires
-    add-out
+    (λ c. omega arith)
+    (λ c κs. omega arith)
+    (λ c. omega arith)
+    (λ c. omega arith)
+    (λ c κs. omega arith)
+    (λ c κs. search needs)
+    (λ c. omega arith)
     slice-write-out
-    add-i
-    loop-less
+    (λ c. omega arith)
+    (λ c. omega arith)
     loop-again
     same-length
     returns)

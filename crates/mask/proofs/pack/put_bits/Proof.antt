@@ -42,23 +42,8 @@ loop-holds c =
     let a = start .args in
     (omega arith, laying-begins (bitsFrom (a .planes .now) (a .at) (a .count) 0) (a .block .now) 0 (omega (arith, start .pre .1, length-part-bits (a .planes .now) (a .at) (a .count) (start .pre .0))))
 
-add-one-if-set : tie.Need-add-one-if-set Inv-loop μ-loop
-add-one-if-set c = omega arith
-
-shared-slice-read-one-if-set : tie.Need-shared-slice-read-one-if-set Inv-loop μ-loop
-shared-slice-read-one-if-set c = omega arith
-
-one-if-set-requires : tie.Need-one-if-set-requires Inv-loop μ-loop
-one-if-set-requires c κs = search needs
-
 slice-write-block : tie.Need-slice-write-block Inv-loop μ-loop
 slice-write-block c = omega (arith, same (c .before .before .before))
-
-add-i : tie.Need-add-i Inv-loop μ-loop
-add-i c = omega arith
-
-loop-less : tie.Need-loop-less Inv-loop μ-loop
-loop-less c = omega arith
 
 loop-again : tie.Need-loop-again Inv-loop μ-loop
 loop-again c =
@@ -94,12 +79,12 @@ put-bits-spec =
     Inv-loop
     μ-loop
     loop-holds
-    add-one-if-set
-    shared-slice-read-one-if-set
-    one-if-set-requires
+    (λ c. omega arith)
+    (λ c. omega arith)
+    (λ c κs. search needs)
     slice-write-block
-    add-i
-    loop-less
+    (λ c. omega arith)
+    (λ c. omega arith)
     loop-again
     same-length
     returns)

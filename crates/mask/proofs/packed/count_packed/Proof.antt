@@ -11,9 +11,6 @@ use borrow.Author.Needs.{needs}
 use Rattle.mask.proofs.packed.count_packed.Statement.{statement}
 use Rattle.mask.proofs.packed.count_packed.Tie as tie
 
-bytes-for-requires : tie.Need-bytes-for-requires
-bytes-for-requires c κs = search needs
-
 -- the bytes that are counted are the mask
 counted : (c : tie.After-bytes-for) → let a = c .before .before .args in
     bitsIn (take (c .bytes-for .result) (drop (a .at) (a .s .now))) ≡ bitsIn (take (bytesFor (a .n)) (drop (a .at) (a .s .now)))
@@ -32,4 +29,4 @@ returns c =
     c .count-bits .ensures ∙ counted (c .before) ∙ count-left (a .s .now) (a .at) (a .n) (start .pre .0) (start .pre .1)
 
 pub count-packed-spec : {M : Type 1} → statement M
-count-packed-spec = tie.close (tie.spec bytes-for-requires count-bits-requires returns)
+count-packed-spec = tie.close (tie.spec (λ c κs. search needs) count-bits-requires returns)

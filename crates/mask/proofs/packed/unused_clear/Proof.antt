@@ -10,22 +10,10 @@ use native.Mathlib.Omega.{arith}
 returns : tie.Need-returns
 returns c = let a = c .before .args in no-unused (a .s .now) (a .at) (a .n) (c .before .pre) (omega (arith, c .if1 .taken))
 
-add-result : tie.Need-add-result
-add-result c = search needs
-
-shared-slice-read-result : tie.Need-shared-slice-read-result
-shared-slice-read-result c = search needs
-
-cast-result : tie.Need-cast-result
-cast-result c = search needs
-
-shr-result : tie.Need-shr-result
-shr-result c = search needs
-
 returns-2 : tie.Need-returns-2
 returns-2 c =
     let a = c .before .before .args in
     unused-last (a .s .now) (a .at) (a .n) (c .before .before .pre) (λ e. omega (arith, e, c .before .if1 .left)) (omega (arith, c .shared-slice-known .given (a .at + a .n / 8)))
 
 pub unused-clear-spec : {M : Type 1} → statement M
-unused-clear-spec = tie.close (tie.spec returns add-result shared-slice-read-result cast-result shr-result returns-2)
+unused-clear-spec = tie.close (tie.spec returns (λ c. search needs) (λ c. search needs) (λ c. search needs) (λ c. search needs) returns-2)

@@ -30,12 +30,6 @@ at-loop c = c .before .before .before
 loop-holds : tie.Need-loop-holds Inv-loop μ-loop
 loop-holds c = (omega arith, search needs, search needs)
 
-block-end-requires : tie.Need-block-end-requires Inv-loop μ-loop
-block-end-requires c κs = search needs
-
-tally-block-requires : tie.Need-tally-block-requires Inv-loop μ-loop
-tally-block-requires c κs = search needs
-
 returns : tie.Need-returns Inv-loop μ-loop
 returns c =
     let tallied = c .before .before in
@@ -43,14 +37,8 @@ returns c =
     let some : 0 < others ms = omega (arith, tallied .tally-block .ensures .1) in
     counted-failed byteMask ms (length ms) (some-others ms some)
 
-cast-n : tie.Need-cast-n Inv-loop μ-loop
-cast-n c = search needs
-
 add-n : tie.Need-add-n Inv-loop μ-loop
 add-n c = let tallied = c .before .before .before in omega (arith, tallied .tally-block .ensures .0, count-le (mask (at-loop tallied)))
-
-loop-less : tie.Need-loop-less Inv-loop μ-loop
-loop-less c = omega arith
 
 loop-again : tie.Need-loop-again Inv-loop μ-loop
 loop-again c = let tallied = c .before .before .before in omega (arith, tallied .tally-block .ensures .0, tallied .tally-block .ensures .1)
@@ -70,11 +58,11 @@ count-strict-spec =
     Inv-loop
     μ-loop
     loop-holds
-    block-end-requires
-    tally-block-requires
+    (λ c κs. search needs)
+    (λ c κs. search needs)
     returns
-    cast-n
+    (λ c. search needs)
     add-n
-    loop-less
+    (λ c. omega arith)
     loop-again
     returns-2)

@@ -33,29 +33,11 @@ mask c = c .before .before .args .mask .now
 abbrev byte : tie.At-loop Inv-loop μ-loop → ℕ
 byte c = getD (mask c) (c .loop .i) 0
 
-loop-holds : tie.Need-loop-holds Inv-loop μ-loop
-loop-holds c = omega arith
-
-shared-slice-read-b : tie.Need-shared-slice-read-b Inv-loop μ-loop
-shared-slice-read-b c = omega arith
-
-one-if-set-requires : tie.Need-one-if-set-requires Inv-loop μ-loop
-one-if-set-requires c κs = search needs
-
 add-set : tie.Need-add-set Inv-loop μ-loop
 add-set c = omega (arith, c .one-if-set .ensures, count-one (byte (at-loop c)))
 
-one-if-other-requires : tie.Need-one-if-other-requires Inv-loop μ-loop
-one-if-other-requires c κs = search needs
-
 add-other : tie.Need-add-other Inv-loop μ-loop
 add-other c = omega (arith, c .one-if-other .ensures, other-one (byte (at-loop (c .before))))
-
-add-i : tie.Need-add-i Inv-loop μ-loop
-add-i c = omega arith
-
-loop-less : tie.Need-loop-less Inv-loop μ-loop
-loop-less c = omega arith
 
 loop-again : tie.Need-loop-again Inv-loop μ-loop
 loop-again c =
@@ -83,13 +65,13 @@ tally-block-spec =
     (tie.spec
     Inv-loop
     μ-loop
-    loop-holds
-    shared-slice-read-b
-    one-if-set-requires
+    (λ c. omega arith)
+    (λ c. omega arith)
+    (λ c κs. search needs)
     add-set
-    one-if-other-requires
+    (λ c κs. search needs)
     add-other
-    add-i
-    loop-less
+    (λ c. omega arith)
+    (λ c. omega arith)
     loop-again
     returns)

@@ -18,23 +18,8 @@ abbrev μ-loop : tie.MeasureT-loop
 loop-holds : tie.Need-loop-holds Inv-loop μ-loop
 loop-holds c = (omega arith, λ j h. absurd (omega arith))
 
-mul-le8-at : tie.Need-mul-le8-at Inv-loop μ-loop
-mul-le8-at c = omega arith
-
-add-le8-at : tie.Need-add-le8-at Inv-loop μ-loop
-add-le8-at c = omega arith
-
-le8-at-requires : tie.Need-le8-at-requires Inv-loop μ-loop
-le8-at-requires c κs = omega arith
-
 returns : tie.Need-returns Inv-loop μ-loop
 returns c = λ e. let z : _≡_ {A = ℕ} 0 1 = cc in absurd (omega arith)
-
-add-i : tie.Need-add-i Inv-loop μ-loop
-add-i c = omega arith
-
-loop-less : tie.Need-loop-less Inv-loop μ-loop
-loop-less c = omega arith
 
 loop-again : tie.Need-loop-again Inv-loop μ-loop
 loop-again c =
@@ -52,11 +37,11 @@ all-words-spec =
     Inv-loop
     μ-loop
     loop-holds
-    mul-le8-at
-    add-le8-at
-    le8-at-requires
+    (λ c. omega arith)
+    (λ c. omega arith)
+    (λ c κs. omega arith)
     returns
-    add-i
-    loop-less
+    (λ c. omega arith)
+    (λ c. omega arith)
     loop-again
     returns-2)

@@ -8,9 +8,6 @@ use borrow.Author.Needs.{needs}
 use Rattle.mask.proofs.unpack.eight_bytes.Statement.{statement}
 use Rattle.mask.proofs.unpack.eight_bytes.Tie as tie
 
-mul-bits : tie.Need-mul-bits
-mul-bits c = search needs
-
 add-result : tie.Need-add-result
 add-result c = omega (arith, and-le-r (c .args .b * 72340172838076673) 9241421688590303745)
 
@@ -18,4 +15,4 @@ returns : tie.Need-returns
 returns c = eight-at (c .args .b) (omega (arith, c .fits .b))
 
 pub eight-bytes-spec : {M : Type 1} → statement M
-eight-bytes-spec = tie.close (tie.spec mul-bits add-result returns)
+eight-bytes-spec = tie.close (tie.spec (λ c. search needs) add-result returns)

@@ -2,7 +2,7 @@
 -- Assumes nothing.
 use mathlib.Core.Path.{sym, ap, _∙_}
 use mathlib.Core.List.{List}
-use Prim.Native.Nat.{ℕ, _+_, _*_, _/_, _%_}
+use Prim.Native.Nat.{ℕ, _+_, _/_, _%_}
 use native.Mathlib.Omega.{arith}
 use lib.ListN.{take, drop, getD}
 use Rattle.array.specs.Bytes.{digits}
@@ -12,27 +12,6 @@ use Rattle.mask.proofs.Words.{over-parts, length-whole, said-whole, sai
 use borrow.Author.Needs.{needs}
 use Rattle.mask.proofs.unpack.unpack.Statement.{statement}
 use Rattle.mask.proofs.unpack.unpack.Tie as tie
-
-unpack-bytes-requires : tie.Need-unpack-bytes-requires
-unpack-bytes-requires c κs = search needs
-
-mul-unpack-some : tie.Need-mul-unpack-some
-mul-unpack-some c = search needs
-
-add-unpack-some : tie.Need-add-unpack-some
-add-unpack-some c = search needs
-
-add-unpack-some-2 : tie.Need-add-unpack-some-2
-add-unpack-some-2 c = search needs
-
-shared-slice-read-unpack-some : tie.Need-shared-slice-read-unpack-some
-shared-slice-read-unpack-some c = search needs
-
-unpack-some-requires : tie.Need-unpack-some-requires
-unpack-some-requires c κs = search needs
-
-same-length : tie.Need-same-length
-same-length c = search needs
 
 returns : tie.Need-returns
 returns c =
@@ -47,9 +26,6 @@ returns c =
     (whole .unpack-bytes .ensures) (some .unpack-some .ensures)
     ∙ ap (λ (m : List ℕ). overAt (a .to) m (a .planes .now)) (sym (said-some (a .s .now) (a .at) (a .n) (start .pre .1) (branch .if1 .taken)))
 
-same-length-2 : tie.Need-same-length-2
-same-length-2 c = search needs
-
 returns-2 : tie.Need-returns-2
 returns-2 c =
     let whole = c .before .before .before in
@@ -62,13 +38,13 @@ pub unpack-spec : {M : Type 1} → statement M
 unpack-spec =
     tie.close
     (tie.spec
-    unpack-bytes-requires
-    mul-unpack-some
-    add-unpack-some
-    add-unpack-some-2
-    shared-slice-read-unpack-some
-    unpack-some-requires
-    same-length
+    (λ c κs. search needs)
+    (λ c. search needs)
+    (λ c. search needs)
+    (λ c. search needs)
+    (λ c. search needs)
+    (λ c κs. search needs)
+    (λ c. search needs)
     returns
-    same-length-2
+    (λ c. search needs)
     returns-2)

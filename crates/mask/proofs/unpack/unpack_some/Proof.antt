@@ -13,24 +13,6 @@ use borrow.Author.Needs.{needs}
 use Rattle.mask.proofs.unpack.unpack_some.Statement.{statement}
 use Rattle.mask.proofs.unpack.unpack_some.Tie as tie
 
-slice-aggregate-put-u64 : tie.Need-slice-aggregate-put-u64
-slice-aggregate-put-u64 c = search needs
-
-eight-bytes-requires : tie.Need-eight-bytes-requires
-eight-bytes-requires c κs = search needs
-
-put-u64-requires : tie.Need-put-u64-requires
-put-u64-requires c κs = search needs
-
-slice-aggregate-copy-bytes : tie.Need-slice-aggregate-copy-bytes
-slice-aggregate-copy-bytes c = search needs
-
-copy-bytes-requires : tie.Need-copy-bytes-requires
-copy-bytes-requires c κs = search needs
-
-same-length : tie.Need-same-length
-same-length c = search needs
-
 returns : tie.Need-returns
 returns c =
     let call = c .before .before in
@@ -47,10 +29,10 @@ pub unpack-some-spec : {M : Type 1} → statement M
 unpack-some-spec =
     tie.close
     (tie.spec
-    slice-aggregate-put-u64
-    eight-bytes-requires
-    put-u64-requires
-    slice-aggregate-copy-bytes
-    copy-bytes-requires
-    same-length
+    (λ c. search needs)
+    (λ c κs. search needs)
+    (λ c κs. search needs)
+    (λ c. search needs)
+    (λ c κs. search needs)
+    (λ c. search needs)
     returns)

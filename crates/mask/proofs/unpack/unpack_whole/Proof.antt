@@ -31,6 +31,10 @@ Head = tie.At-loop Inv-loop μ-loop
 abbrev begun : Head → tie.Start Inv-loop μ-loop
 begun l = l .before .before .before
 
+-- places that the answers go back to
+abbrev at-loop : tie.After-eight-bytes Inv-loop μ-loop → Head
+at-loop c = c .before .before .before .before
+
 -- the plane keeps its length
 same : (l : Head) → length (l .loop .planes) ≡ length (begun l .args .planes .now)
 same l =
@@ -43,34 +47,13 @@ loop-holds c =
     let a = start .args in
     (omega arith, laying-begins (bitsFrom (a .s .now) (a .at) (a .whole) 0) (a .planes .now) (a .to) (omega (arith, start .pre .0, length-whole (a .s .now) (a .at) (a .whole) (start .pre .1))))
 
-mul-put-u64 : tie.Need-mul-put-u64 Inv-loop μ-loop
-mul-put-u64 c = omega arith
-
-add-put-u64 : tie.Need-add-put-u64 Inv-loop μ-loop
-add-put-u64 c = omega arith
-
-add-eight-bytes : tie.Need-add-eight-bytes Inv-loop μ-loop
-add-eight-bytes c = omega arith
-
-shared-slice-read-eight-bytes : tie.Need-shared-slice-read-eight-bytes Inv-loop μ-loop
-shared-slice-read-eight-bytes c = omega arith
-
-eight-bytes-requires : tie.Need-eight-bytes-requires Inv-loop μ-loop
-eight-bytes-requires c κs = search needs
-
 put-u64-requires : tie.Need-put-u64-requires Inv-loop μ-loop
-put-u64-requires c κs = omega (arith, same (c .before .before .before .before))
-
-add-i : tie.Need-add-i Inv-loop μ-loop
-add-i c = omega arith
-
-loop-less : tie.Need-loop-less Inv-loop μ-loop
-loop-less c = omega arith
+put-u64-requires c κs = omega (arith, same (at-loop c))
 
 loop-again : tie.Need-loop-again Inv-loop μ-loop
 loop-again c =
     let call = c .before .before in
-    let head = call .before .before .before .before .before in
+    let head = at-loop (call .before) in
     let start = begun head in
     let a = start .args in
     let i : ℕ = head .loop .i in
@@ -102,14 +85,14 @@ unpack-whole-spec =
     Inv-loop
     μ-loop
     loop-holds
-    mul-put-u64
-    add-put-u64
-    add-eight-bytes
-    shared-slice-read-eight-bytes
-    eight-bytes-requires
+    (λ c. omega arith)
+    (λ c. omega arith)
+    (λ c. omega arith)
+    (λ c. omega arith)
+    (λ c κs. search needs)
     put-u64-requires
-    add-i
-    loop-less
+    (λ c. omega arith)
+    (λ c. omega arith)
     loop-again
     same-length
     returns)
