@@ -125,8 +125,7 @@ swap-ends out low left j h room =
     let ey : length y ≡ j = length-take-le j s (omega arith) in
     let em : length m + (j + j) ≡ left = omega (arith, length-take-le k (drop j r) (omega arith)) in
     ap (cellReversed low left) (sym e) ∙ ends-reversed p x m y q ep ex ey em
-    ∙ sym (ap (cellReversed (low + j) k)
-    (ap (λ (z : List ℕ). overAt (low + (left - j)) (reverse x) (overAt low (reverse (take j z)) out)) es
+    ∙ sym (ap (cellReversed (low + j) k) (ap (λ (z : List ℕ). overAt (low + (left - j)) (reverse x) (overAt low (reverse (take j z)) out)) es
     ∙ ap (λ (z : List ℕ). overAt (low + (left - j)) (reverse x) (overAt low (reverse y) z)) (sym e) ∙ ends-swapped p x m y q ep ex ey em)
     ∙ between-reversed p x m y q ep ex ey em)
 

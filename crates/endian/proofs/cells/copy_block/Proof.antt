@@ -11,43 +11,30 @@ use borrow.Author.Needs.{needs}
 use Rattle.endian.proofs.cells.copy_block.Statement.{statement}
 use Rattle.endian.proofs.cells.copy_block.Tie as tie
 
-copy-block-2-requires : tie.Need-copy-block-2-requires
-copy-block-2-requires c κs = search needs
-
-add-copy-block-2 : tie.Need-add-copy-block-2
-add-copy-block-2 c = search needs
-
-add-copy-block-2-2 : tie.Need-add-copy-block-2-2
-add-copy-block-2-2 c = search needs
-
-copy-block-2-requires-2 : tie.Need-copy-block-2-requires-2
-copy-block-2-requires-2 c κs = search needs
-
 copy-block-wide-requires : tie.Need-copy-block-wide-requires
-copy-block-wide-requires c κs = (narrow-wide (c .before .before .before .before .pre .0) (c .before .match .rest .1), c .before .before .before .before .pre .1, c .before .before .before .before .pre .2)
-
-same-length : tie.Need-same-length
-same-length c = search needs
+copy-block-wide-requires c κs =
+    let m = c .before .before .before .before in
+    (narrow-wide (m .pre .0) (c .before .match .rest .1), m .pre .1, m .pre .2)
 
 returns : tie.Need-returns
-returns c = let a = c .before .before .before .before .before .before .before .before .before .before .before .args in two-runs 2 8 (a .s .now) (a .out .now) (a .at) (a .to) (c .before .before .before .before .before .before .before .before .before .before .before .pre .1) (c .before .before .before .before .before .before .before .before .before .before .before .pre .2) (c .before .before .before .before .before .before .copy-block-2 .ensures) (c .before .before .copy-block-22 .ensures) ∙ ap (λ (k : ℕ). overAt (a .to) (reversedCells k (32 / k) (drop (a .at) (a .s .now))) (a .out .now)) (sym (c .before .before .before .before .before .before .before .before .match .keys1))
-
-same-length-2 : tie.Need-same-length-2
-same-length-2 c = search needs
-
-returns-2 : tie.Need-returns-2
-returns-2 c = search needs
+returns c =
+    let m = c .before .before .before in
+    let p = m .before .before .before .before in
+    let g = p .before .before .before .before in
+    let a = g .args in
+    two-runs 2 8 (a .s .now) (a .out .now) (a .at) (a .to) (g .pre .1) (g .pre .2) (m .before .before .before .copy-block-2 .ensures) (c .before .before .copy-block-22 .ensures) ∙ ap
+    (λ (k : ℕ). overAt (a .to) (reversedCells k (32 / k) (drop (a .at) (a .s .now))) (a .out .now)) (sym (p .before .match .keys1))
 
 pub copy-block-spec : {M : Type 1} → statement M
 copy-block-spec =
     tie.close
     (tie.spec
-    copy-block-2-requires
-    add-copy-block-2
-    add-copy-block-2-2
-    copy-block-2-requires-2
+    (λ c κs. search needs)
+    (λ c. search needs)
+    (λ c. search needs)
+    (λ c κs. search needs)
     copy-block-wide-requires
-    same-length
+    (λ c. search needs)
     returns
-    same-length-2
-    returns-2)
+    (λ c. search needs)
+    (λ c. search needs))

@@ -42,7 +42,9 @@ loop-less : tie.Need-loop-less Inv-loop μ-loop
 loop-less c = omega (arith, sixteen (c .before .before .before .before))
 
 loop-again : tie.Need-loop-again Inv-loop μ-loop
-loop-again c = (back-more (c .before .before .before .before .before .loop .inv .0) 16 (sixteen (c .before .before .before .before)) (c .before .before .copy-cell-16 .ensures), omega (arith, c .before .before .before .before .before .loop .inv .1, sixteen (c .before .before .before .before)))
+loop-again c =
+    let m = c .before .before .before .before in
+    (back-more (m .before .loop .inv .0) 16 (sixteen m) (c .before .before .copy-cell-16 .ensures), omega (arith, m .before .loop .inv .1, sixteen m))
 
 same-length : tie.Need-same-length Inv-loop μ-loop
 same-length c = back-same (c .before .loop .inv .0)

@@ -8,43 +8,28 @@ use borrow.Author.Needs.{needs}
 use Rattle.endian.proofs.cells.copy_cells.Statement.{statement}
 use Rattle.endian.proofs.cells.copy_cells.Tie as tie
 
-enum-told : tie.Need-enum-told
-enum-told c = search needs
-
-mul-copy-many : tie.Need-mul-copy-many
-mul-copy-many c = search needs
-
-copy-many-requires : tie.Need-copy-many-requires
-copy-many-requires c κs = search needs
-
-enum-told-2 : tie.Need-enum-told-2
-enum-told-2 c = search needs
-
-copy-cells-reversed-requires : tie.Need-copy-cells-reversed-requires
-copy-cells-reversed-requires c κs = search needs
-
-same-length : tie.Need-same-length
-same-length c = search needs
-
 returns : tie.Need-returns
-returns c = let a = c .before .before .before .before .before .before .before .before .args in copied-little (a .to) (a .size) (a .cells) (drop (a .at) (a .s .now)) (a .out .now) (ap orderOf (c .before .before .before .before .enum-told .given .1)) (c .before .before .copy-many .ensures)
-
-same-length-2 : tie.Need-same-length-2
-same-length-2 c = search needs
+returns c =
+    let m = c .before .before .before .before in
+    let a = m .before .before .before .before .args in
+    copied-little (a .to) (a .size) (a .cells) (drop (a .at) (a .s .now)) (a .out .now) (ap orderOf (m .enum-told .given .1)) (c .before .before .copy-many .ensures)
 
 returns-2 : tie.Need-returns-2
-returns-2 c = let a = c .before .before .before .before .before .before .before .before .args in copied-big (a .to) (a .size) (a .cells) (drop (a .at) (a .s .now)) (a .out .now) (ap orderOf (c .before .before .before .before .enum-told2 .given .1)) (c .before .before .copy-cells-reversed .ensures)
+returns-2 c =
+    let m = c .before .before .before .before in
+    let a = m .before .before .before .before .args in
+    copied-big (a .to) (a .size) (a .cells) (drop (a .at) (a .s .now)) (a .out .now) (ap orderOf (m .enum-told2 .given .1)) (c .before .before .copy-cells-reversed .ensures)
 
 pub copy-cells-spec : {M : Type 1} → statement M
 copy-cells-spec =
     tie.close
     (tie.spec
-    enum-told
-    mul-copy-many
-    copy-many-requires
-    enum-told-2
-    copy-cells-reversed-requires
-    same-length
+    (λ c. search needs)
+    (λ c. search needs)
+    (λ c κs. search needs)
+    (λ c. search needs)
+    (λ c κs. search needs)
+    (λ c. search needs)
     returns
-    same-length-2
+    (λ c. search needs)
     returns-2)

@@ -14,7 +14,12 @@ Inv-loop out₀ to s at size cells i₀ out i = Copies out₀ to s at size cells
 abbrev μ-loop : tie.MeasureT-loop
 μ-loop out₀ to s at size cells i₀ out i = cells - i
 
-fits : (c : tie.In-loop Inv-loop μ-loop) → c .before .loop .i * c .before .before .before .before .args .size + c .before .before .before .before .args .size ≤ c .before .before .before .before .args .cells * c .before .before .before .before .args .size
+-- places that the answers go back to
+abbrev start : tie.In-loop Inv-loop μ-loop → tie.Start Inv-loop μ-loop
+start c = c .before .before .before .before
+
+fits : (c : tie.In-loop Inv-loop μ-loop) → let a = start c .args in
+    c .before .loop .i * a .size + a .size ≤ a .cells * a .size
 fits c = copies-room (c .before .loop .inv) (c .loop-test .taken)
 
 same : (c : tie.At-loop Inv-loop μ-loop) → length (c .loop .out) ≡ length (c .before .before .before .args .out .now)
@@ -33,16 +38,12 @@ add-copy-cell-2 : tie.Need-add-copy-cell-2 Inv-loop μ-loop
 add-copy-cell-2 c = omega (arith, fits (c .before))
 
 copy-cell-requires : tie.Need-copy-cell-requires Inv-loop μ-loop
-copy-cell-requires c κs = (c .before .before .before .before .before .pre .0, omega (arith, fits (c .before), same (c .before .before)), omega (arith, fits (c .before)))
-
-add-i : tie.Need-add-i Inv-loop μ-loop
-add-i c = omega arith
-
-loop-less : tie.Need-loop-less Inv-loop μ-loop
-loop-less c = omega arith
+copy-cell-requires c κs = (start (c .before) .pre .0, omega (arith, fits (c .before), same (c .before .before)), omega (arith, fits (c .before)))
 
 loop-again : tie.Need-loop-again Inv-loop μ-loop
-loop-again c = copies-next (c .before .before .before .before .before .loop .inv) (c .before .before .before .before .loop-test .taken) (c .before .before .copy-cell .ensures)
+loop-again c =
+    let m = c .before .before .before .before in
+    copies-next (m .before .loop .inv) (m .loop-test .taken) (c .before .before .copy-cell .ensures)
 
 same-length : tie.Need-same-length Inv-loop μ-loop
 same-length c = same (c .before)
@@ -61,8 +62,8 @@ copy-large-spec =
     add-copy-cell
     add-copy-cell-2
     copy-cell-requires
-    add-i
-    loop-less
+    (λ c. omega arith)
+    (λ c. omega arith)
     loop-again
     same-length
     returns)

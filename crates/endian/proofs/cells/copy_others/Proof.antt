@@ -15,26 +15,15 @@ copy-large-requires c κs = let e = ap (λ (k : ℕ). c .before .before .before 
 copy-large-requires-2 : tie.Need-copy-large-requires-2
 copy-large-requires-2 c κs = let e = ap (λ (k : ℕ). c .before .before .before .before .args .cells * k) (c .before .match .keys2) in (refl, omega arith, omega arith)
 
-copy-any-requires : tie.Need-copy-any-requires
-copy-any-requires c κs = search needs
-
-same-length : tie.Need-same-length
-same-length c = search needs
-
 returns : tie.Need-returns
-returns c = let a = c .before .before .before .before .before .before .before .args in copied-sized (a .to) (a .cells) (drop (a .at) (a .s .now)) (a .out .now) (c .before .before .before .before .match .keys1) (c .before .before .copy-large .ensures)
-
-same-length-2 : tie.Need-same-length-2
-same-length-2 c = search needs
+returns c =
+    let m = c .before .before .before .before in
+    let a = m .before .before .before .args in copied-sized (a .to) (a .cells) (drop (a .at) (a .s .now)) (a .out .now) (m .match .keys1) (c .before .before .copy-large .ensures)
 
 returns-2 : tie.Need-returns-2
-returns-2 c = let a = c .before .before .before .before .before .before .before .args in copied-sized (a .to) (a .cells) (drop (a .at) (a .s .now)) (a .out .now) (c .before .before .before .before .match .keys2) (c .before .before .copy-large2 .ensures)
-
-same-length-3 : tie.Need-same-length-3
-same-length-3 c = search needs
-
-returns-3 : tie.Need-returns-3
-returns-3 c = search needs
+returns-2 c =
+    let m = c .before .before .before .before in
+    let a = m .before .before .before .args in copied-sized (a .to) (a .cells) (drop (a .at) (a .s .now)) (a .out .now) (m .match .keys2) (c .before .before .copy-large2 .ensures)
 
 pub copy-others-spec : {M : Type 1} → statement M
 copy-others-spec =
@@ -42,10 +31,10 @@ copy-others-spec =
     (tie.spec
     copy-large-requires
     copy-large-requires-2
-    copy-any-requires
-    same-length
+    (λ c κs. search needs)
+    (λ c. search needs)
     returns
-    same-length-2
+    (λ c. search needs)
     returns-2
-    same-length-3
-    returns-3)
+    (λ c. search needs)
+    (λ c. search needs))

@@ -23,19 +23,38 @@ Inv-loop2 out₀ to s at size cells line lines i j₀ out j = (d : List ℕ) →
 abbrev μ-loop2 : tie.MeasureT-loop2
 μ-loop2 out₀ to s at size cells line lines i j₀ out j = cells - j
 
-same : (c : tie.At-loop Inv-loop μ-loop Inv-loop2 μ-loop2) → length (c .loop .out) ≡ length (c .before .before .before .args .out .now)
+-- places that the answers go back to
+abbrev start : tie.At-loop Inv-loop μ-loop Inv-loop2 μ-loop2 → tie.Start Inv-loop μ-loop Inv-loop2 μ-loop2
+start c = c .before .before .before
+
+abbrev in-loop : tie.After-slice-known2 Inv-loop μ-loop Inv-loop2 μ-loop2 → tie.In-loop Inv-loop μ-loop Inv-loop2 μ-loop2
+in-loop c = c .before .before .before .before
+
+same : (c : tie.At-loop Inv-loop μ-loop Inv-loop2 μ-loop2) → length (c .loop .out) ≡ length (start c .args .out .now)
 same c = copies-same (c .loop .inv .1)
 
-inside : (c : tie.In-loop Inv-loop μ-loop Inv-loop2 μ-loop2) → c .before .loop .i * (64 / c .before .before .before .before .args .size) + 32 / c .before .before .before .before .args .size + 32 / c .before .before .before .before .args .size ≤ c .before .before .before .before .args .cells
-inside c = let a = c .before .before .before .before .args in line-within (a .size) (32 / a .size) (narrow-line (a .size) (c .before .before .before .before .pre .0)) (narrow-block (a .size) (c .before .before .before .before .pre .0)) (c .before .loop .i) (a .cells / (64 / a .size)) (a .cells) (div-mul-le-self (a .cells) (64 / a .size)) (c .loop-test .taken)
+inside : (c : tie.In-loop Inv-loop μ-loop Inv-loop2 μ-loop2) → let a = start (c .before) .args in
+    c .before .loop .i * (64 / a .size) + 32 / a .size + 32 / a .size ≤ a .cells
+inside c =
+    let s = start (c .before) in
+    let a = s .args in
+    line-within (a .size) (32 / a .size) (narrow-line (a .size) (s .pre .0)) (narrow-block (a .size) (s .pre .0)) (c .before .loop .i) (a .cells / (64 / a .size)) (a .cells)
+    (div-mul-le-self (a .cells) (64 / a .size)) (c .loop-test .taken)
 
-fits : (c : tie.In-loop Inv-loop μ-loop Inv-loop2 μ-loop2) → c .before .loop .i * 64 + 64 ≤ c .before .before .before .before .args .cells * c .before .before .before .before .args .size
-fits c = let a = c .before .before .before .before .args in line-room (a .size) (32 / a .size) (narrow-line (a .size) (c .before .before .before .before .pre .0)) (narrow-block (a .size) (c .before .before .before .before .pre .0)) (a .cells) (c .before .loop .i) (inside c)
+fits : (c : tie.In-loop Inv-loop μ-loop Inv-loop2 μ-loop2) → c .before .loop .i * 64 + 64 ≤ start (c .before) .args .cells * start (c .before) .args .size
+fits c =
+    let s = start (c .before) in
+    let a = s .args in line-room (a .size) (32 / a .size) (narrow-line (a .size) (s .pre .0)) (narrow-block (a .size) (s .pre .0)) (a .cells) (c .before .loop .i) (inside c)
 
-laid : (c : tie.At-loop2 Inv-loop μ-loop Inv-loop2 μ-loop2) → Copies (c .before .before .before .before .before .args .out .now) (c .before .before .before .before .before .args .to) (c .before .before .before .before .before .args .s .now) (c .before .before .before .before .before .args .at) (c .before .before .before .before .before .args .size) (c .before .before .before .before .before .args .cells) (c .loop2 .out) (c .loop2 .j)
-laid c = c .loop2 .inv (c .before .before .before .before .before .args .out .now) (copies-cast (c .before .before .loop .inv .1) (ap (λ (n : ℕ). n * (64 / c .before .before .before .before .before .args .size)) (omega (arith, c .before .before .loop .inv .0, c .before .loop-test .left))))
+laid : (c : tie.At-loop2 Inv-loop μ-loop Inv-loop2 μ-loop2) → let a = start (c .before .before) .args in
+    Copies (a .out .now) (a .to) (a .s .now) (a .at) (a .size) (a .cells) (c .loop2 .out) (c .loop2 .j)
+laid c =
+    let m = c .before .before in
+    c .loop2 .inv (start m .args .out .now) (copies-cast (c .before .before .loop .inv .1)
+    (ap (λ (n : ℕ). n * (64 / start m .args .size)) (omega (arith, c .before .before .loop .inv .0, c .before .loop-test .left))))
 
-fits2 : (c : tie.In-loop2 Inv-loop μ-loop Inv-loop2 μ-loop2) → c .before .loop2 .j * c .before .before .before .before .before .before .args .size + c .before .before .before .before .before .before .args .size ≤ c .before .before .before .before .before .before .args .cells * c .before .before .before .before .before .before .args .size
+fits2 : (c : tie.In-loop2 Inv-loop μ-loop Inv-loop2 μ-loop2) → let a = start (c .before .before .before) .args in
+    c .before .loop2 .j * a .size + a .size ≤ a .cells * a .size
 fits2 c = copies-room (laid (c .before)) (c .loop2-test .taken)
 
 div-line : tie.Need-div-line Inv-loop μ-loop Inv-loop2 μ-loop2
@@ -57,34 +76,40 @@ add-copy-block-2 : tie.Need-add-copy-block-2 Inv-loop μ-loop Inv-loop2 μ-loop2
 add-copy-block-2 c = omega (arith, fits (c .before))
 
 copy-block-requires : tie.Need-copy-block-requires Inv-loop μ-loop Inv-loop2 μ-loop2
-copy-block-requires c κs = (c .before .before .before .before .before .pre .0, omega (arith, fits (c .before), same (c .before .before)), omega (arith, fits (c .before)))
+copy-block-requires c κs = (start (c .before .before) .pre .0, omega (arith, fits (c .before), same (c .before .before)), omega (arith, fits (c .before)))
 
 add-copy-block-3 : tie.Need-add-copy-block-3 Inv-loop μ-loop Inv-loop2 μ-loop2
-add-copy-block-3 c = omega (arith, fits (c .before .before .before .before .before))
+add-copy-block-3 c = omega (arith, fits (in-loop (c .before)))
 
 add-copy-block-4 : tie.Need-add-copy-block-4 Inv-loop μ-loop Inv-loop2 μ-loop2
-add-copy-block-4 c = omega (arith, fits (c .before .before .before .before .before))
+add-copy-block-4 c = omega (arith, fits (in-loop (c .before)))
 
 add-copy-block-5 : tie.Need-add-copy-block-5 Inv-loop μ-loop Inv-loop2 μ-loop2
-add-copy-block-5 c = omega (arith, fits (c .before .before .before .before .before))
+add-copy-block-5 c = omega (arith, fits (in-loop (c .before)))
 
 add-copy-block-6 : tie.Need-add-copy-block-6 Inv-loop μ-loop Inv-loop2 μ-loop2
-add-copy-block-6 c = omega (arith, fits (c .before .before .before .before .before))
+add-copy-block-6 c = omega (arith, fits (in-loop (c .before)))
 
 copy-block-requires-2 : tie.Need-copy-block-requires-2 Inv-loop μ-loop Inv-loop2 μ-loop2
-copy-block-requires-2 c κs = (c .before .before .before .before .before .before .before .before .before .pre .0, omega (arith, fits (c .before .before .before .before .before), same (c .before .before .before .before .before .before), c .before .before .before .copy-block .kept .0), omega (arith, fits (c .before .before .before .before .before)))
+copy-block-requires-2 c κs =
+    let m = c .before .before .before in
+    (start (m .before .before .before) .pre .0, omega (arith, fits (m .before .before), same (m .before .before .before), m .copy-block .kept .0), omega (arith, fits (m .before .before)))
 
 add-i : tie.Need-add-i Inv-loop μ-loop Inv-loop2 μ-loop2
-add-i c = omega (arith, fits (c .before .before .before .before .before .before .before .before))
-
-loop-less : tie.Need-loop-less Inv-loop μ-loop Inv-loop2 μ-loop2
-loop-less c = omega arith
+add-i c = omega (arith, fits (in-loop (c .before .before .before .before)))
 
 loop-again : tie.Need-loop-again Inv-loop μ-loop Inv-loop2 μ-loop2
-loop-again c = let a = c .before .before .before .before .before .before .before .before .before .before .before .before .args in (omega arith, copies-line (a .size) (32 / a .size) (narrow-line (a .size) (c .before .before .before .before .before .before .before .before .before .before .before .before .pre .0)) (narrow-block (a .size) (c .before .before .before .before .before .before .before .before .before .before .before .before .pre .0)) (a .cells) (c .before .before .before .before .before .before .before .before .before .loop .i) (inside (c .before .before .before .before .before .before .before .before)) (c .before .before .before .before .before .before .before .before .before .loop .inv .1) (c .before .before .before .before .before .before .copy-block .ensures) (c .before .before .copy-block2 .ensures))
+loop-again c =
+    let m = c .before .before .before .before in
+    let k = m .before .before .before .before in
+    let a = start (k .before) .args in (
+      omega arith,
+      copies-line (a .size) (32 / a .size) (narrow-line (a .size) (start (k .before) .pre .0)) (narrow-block (a .size) (start (k .before) .pre .0)) (a .cells)
+          (k .before .loop .i) (inside k) (k .before .loop .inv .1) (m .before .before .copy-block .ensures) (c .before .before .copy-block2 .ensures),
+    )
 
 mul-j : tie.Need-mul-j Inv-loop μ-loop Inv-loop2 μ-loop2
-mul-j c = omega (arith, div-mul-le-self (c .before .before .before .before .args .cells) (64 / c .before .before .before .before .args .size))
+mul-j c = omega (arith, div-mul-le-self (start (c .before) .args .cells) (64 / start (c .before) .args .size))
 
 loop2-holds : tie.Need-loop2-holds Inv-loop μ-loop Inv-loop2 μ-loop2
 loop2-holds c = λ d p. p
@@ -99,16 +124,14 @@ add-copy-word-2 : tie.Need-add-copy-word-2 Inv-loop μ-loop Inv-loop2 μ-loop2
 add-copy-word-2 c = omega (arith, fits2 (c .before))
 
 copy-word-requires : tie.Need-copy-word-requires Inv-loop μ-loop Inv-loop2 μ-loop2
-copy-word-requires c κs = (narrow-word (c .before .before .before .before .before .before .before .args .size) (c .before .before .before .before .before .before .before .pre .0), omega (arith, fits2 (c .before), copies-same (laid (c .before .before))), omega (arith, fits2 (c .before)))
-
-add-j : tie.Need-add-j Inv-loop μ-loop Inv-loop2 μ-loop2
-add-j c = omega arith
-
-loop2-less : tie.Need-loop2-less Inv-loop μ-loop Inv-loop2 μ-loop2
-loop2-less c = omega arith
+copy-word-requires c κs =
+    let m = c .before .before .before .before in
+    (narrow-word (start m .args .size) (start m .pre .0), omega (arith, fits2 (c .before), copies-same (laid (c .before .before))), omega (arith, fits2 (c .before)))
 
 loop2-again : tie.Need-loop2-again Inv-loop μ-loop Inv-loop2 μ-loop2
-loop2-again c = λ d p. copies-next (c .before .before .before .before .before .loop2 .inv d p) (c .before .before .before .before .loop2-test .taken) (c .before .before .copy-word .ensures)
+loop2-again c =
+    let m = c .before .before .before .before in
+    λ d p. copies-next (m .before .loop2 .inv d p) (m .loop2-test .taken) (c .before .before .copy-word .ensures)
 
 same-length : tie.Need-same-length Inv-loop μ-loop Inv-loop2 μ-loop2
 same-length c = copies-same (laid (c .before))
@@ -137,7 +160,7 @@ copy-words-spec =
     add-copy-block-6
     copy-block-requires-2
     add-i
-    loop-less
+    (λ c. omega arith)
     loop-again
     mul-j
     loop2-holds
@@ -145,8 +168,8 @@ copy-words-spec =
     add-copy-word
     add-copy-word-2
     copy-word-requires
-    add-j
-    loop2-less
+    (λ c. omega arith)
+    (λ c. omega arith)
     loop2-again
     same-length
     returns)

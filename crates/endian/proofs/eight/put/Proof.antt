@@ -8,47 +8,23 @@ use borrow.Author.Needs.{needs}
 use Rattle.endian.proofs.eight.put.Statement.{statement}
 use Rattle.endian.proofs.eight.put.Tie as tie
 
-slice-write-out : tie.Need-slice-write-out
-slice-write-out c = search needs
-
-add-out : tie.Need-add-out
-add-out c = search needs
-
 slice-write-out-2 : tie.Need-slice-write-out-2
 slice-write-out-2 c = simp length-set (omega arith)
-
-add-out-2 : tie.Need-add-out-2
-add-out-2 c = search needs
 
 slice-write-out-3 : tie.Need-slice-write-out-3
 slice-write-out-3 c = simp length-set (omega arith)
 
-add-out-3 : tie.Need-add-out-3
-add-out-3 c = search needs
-
 slice-write-out-4 : tie.Need-slice-write-out-4
 slice-write-out-4 c = simp length-set (omega arith)
-
-add-out-4 : tie.Need-add-out-4
-add-out-4 c = search needs
 
 slice-write-out-5 : tie.Need-slice-write-out-5
 slice-write-out-5 c = simp length-set (omega arith)
 
-add-out-5 : tie.Need-add-out-5
-add-out-5 c = search needs
-
 slice-write-out-6 : tie.Need-slice-write-out-6
 slice-write-out-6 c = simp length-set (omega arith)
 
-add-out-6 : tie.Need-add-out-6
-add-out-6 c = search needs
-
 slice-write-out-7 : tie.Need-slice-write-out-7
 slice-write-out-7 c = simp length-set (omega arith)
-
-add-out-7 : tie.Need-add-out-7
-add-out-7 c = search needs
 
 slice-write-out-8 : tie.Need-slice-write-out-8
 slice-write-out-8 c = simp length-set (omega arith)
@@ -63,20 +39,20 @@ pub put-spec : {M : Type 1} → statement M
 put-spec =
     tie.close
     (tie.spec
-    slice-write-out
-    add-out
+    (λ c. search needs)
+    (λ c. search needs)
     slice-write-out-2
-    add-out-2
+    (λ c. search needs)
     slice-write-out-3
-    add-out-3
+    (λ c. search needs)
     slice-write-out-4
-    add-out-4
+    (λ c. search needs)
     slice-write-out-5
-    add-out-5
+    (λ c. search needs)
     slice-write-out-6
-    add-out-6
+    (λ c. search needs)
     slice-write-out-7
-    add-out-7
+    (λ c. search needs)
     slice-write-out-8
     same-length
     returns)

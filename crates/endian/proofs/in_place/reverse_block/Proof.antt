@@ -11,39 +11,28 @@ use borrow.Author.Needs.{needs}
 use Rattle.endian.proofs.in_place.reverse_block.Statement.{statement}
 use Rattle.endian.proofs.in_place.reverse_block.Tie as tie
 
-reverse-block-2-requires : tie.Need-reverse-block-2-requires
-reverse-block-2-requires c κs = search needs
-
-add-reverse-block-2 : tie.Need-add-reverse-block-2
-add-reverse-block-2 c = search needs
-
-reverse-block-2-requires-2 : tie.Need-reverse-block-2-requires-2
-reverse-block-2-requires-2 c κs = search needs
-
 reverse-block-wide-requires : tie.Need-reverse-block-wide-requires
-reverse-block-wide-requires c κs = (narrow-wide (c .before .before .before .pre .0) (c .before .match .rest .1), c .before .before .before .pre .1)
-
-same-length : tie.Need-same-length
-same-length c = search needs
+reverse-block-wide-requires c κs =
+    let m = c .before .before .before in
+    (narrow-wide (m .pre .0) (c .before .match .rest .1), m .pre .1)
 
 returns : tie.Need-returns
-returns c = let a = c .before .before .before .before .before .before .before .before .before .before .args in reversing-twice 2 8 (a .bytes .now) (a .at) (c .before .before .before .before .before .before .before .before .before .before .pre .1) (c .before .before .before .before .before .before .reverse-block-2 .ensures) (c .before .before .reverse-block-22 .ensures) ∙ ap (λ (k : ℕ). overAt (a .at) (reversedCells k (32 / k) (drop (a .at) (a .bytes .now))) (a .bytes .now)) (sym (c .before .before .before .before .before .before .before .before .match .keys1))
-
-same-length-2 : tie.Need-same-length-2
-same-length-2 c = search needs
-
-returns-2 : tie.Need-returns-2
-returns-2 c = search needs
+returns c =
+    let m = c .before .before .before .before in
+    let p = m .before .before .before .before in
+    let a = p .before .before .args in
+    reversing-twice 2 8 (a .bytes .now) (a .at) (p .before .before .pre .1) (m .before .before .reverse-block-2 .ensures) (c .before .before .reverse-block-22 .ensures) ∙ ap
+    (λ (k : ℕ). overAt (a .at) (reversedCells k (32 / k) (drop (a .at) (a .bytes .now))) (a .bytes .now)) (sym (p .match .keys1))
 
 pub reverse-block-spec : {M : Type 1} → statement M
 reverse-block-spec =
     tie.close
     (tie.spec
-    reverse-block-2-requires
-    add-reverse-block-2
-    reverse-block-2-requires-2
+    (λ c κs. search needs)
+    (λ c. search needs)
+    (λ c κs. search needs)
     reverse-block-wide-requires
-    same-length
+    (λ c. search needs)
     returns
-    same-length-2
-    returns-2)
+    (λ c. search needs)
+    (λ c. search needs))

@@ -20,14 +20,12 @@ Inv-loop2 bytes₀ at size low₀ left₀ bytes low left = (d : List ℕ) → Sw
 abbrev μ-loop2 : tie.MeasureT-loop2
 μ-loop2 bytes₀ at size low₀ left₀ bytes low left = left
 
-laid : (c : tie.At-loop2 Inv-loop μ-loop Inv-loop2 μ-loop2) → Swapping (c .before .before .before .before .args .at) (c .before .before .before .before .args .size) (c .before .before .before .before .args .bytes .now) (c .loop2 .bytes) (c .loop2 .low) (c .loop2 .left)
+laid : (c : tie.At-loop2 Inv-loop μ-loop Inv-loop2 μ-loop2) → let a = c .before .before .before .before .args in
+    Swapping (a .at) (a .size) (a .bytes .now) (c .loop2 .bytes) (c .loop2 .low) (c .loop2 .left)
 laid c = c .loop2 .inv (c .before .before .before .before .args .bytes .now) (c .before .before .loop .inv)
 
 loop-holds : tie.Need-loop-holds Inv-loop μ-loop Inv-loop2 μ-loop2
 loop-holds c = swapping-begins (c .before .pre)
-
-sub-swap-words : tie.Need-sub-swap-words Inv-loop μ-loop Inv-loop2 μ-loop2
-sub-swap-words c = omega arith
 
 add-swap-words : tie.Need-add-swap-words Inv-loop μ-loop Inv-loop2 μ-loop2
 add-swap-words c = omega (arith, c .before .before .loop .inv)
@@ -36,19 +34,17 @@ swap-words-requires : tie.Need-swap-words-requires Inv-loop μ-loop Inv-loop2 μ
 swap-words-requires c κs = omega (arith, c .before .before .loop .inv)
 
 add-low : tie.Need-add-low Inv-loop μ-loop Inv-loop2 μ-loop2
-add-low c = omega (arith, c .before .before .before .before .before .loop .inv)
-
-loop-less : tie.Need-loop-less Inv-loop μ-loop Inv-loop2 μ-loop2
-loop-less c = omega arith
+add-low c =
+    let m = c .before .before in
+    omega (arith, m .before .before .before .loop .inv)
 
 loop-again : tie.Need-loop-again Inv-loop μ-loop Inv-loop2 μ-loop2
-loop-again c = swapping-more (c .before .before .before .before .before .loop .inv) 8 (c .before .before .before .before .loop-test .taken) (c .before .before .swap-words .ensures)
+loop-again c =
+    let m = c .before .before .before .before in
+    swapping-more (m .before .loop .inv) 8 (m .loop-test .taken) (c .before .before .swap-words .ensures)
 
 loop2-holds : tie.Need-loop2-holds Inv-loop μ-loop Inv-loop2 μ-loop2
 loop2-holds c = λ d p. p
-
-sub-high : tie.Need-sub-high Inv-loop μ-loop Inv-loop2 μ-loop2
-sub-high c = omega arith
 
 add-high : tie.Need-add-high Inv-loop μ-loop Inv-loop2 μ-loop2
 add-high c = omega (arith, laid (c .before))
@@ -68,17 +64,12 @@ slice-write-bytes-2 c = simp length-set (omega (arith, laid (c .before .before .
 add-low-2 : tie.Need-add-low-2 Inv-loop μ-loop Inv-loop2 μ-loop2
 add-low-2 c = omega (arith, laid (c .before .before .before))
 
-sub-left : tie.Need-sub-left Inv-loop μ-loop Inv-loop2 μ-loop2
-sub-left c = omega arith
-
-loop2-less : tie.Need-loop2-less Inv-loop μ-loop Inv-loop2 μ-loop2
-loop2-less c = omega arith
-
 loop2-again : tie.Need-loop2-again Inv-loop μ-loop Inv-loop2 μ-loop2
 loop2-again c =
+    let m = c .before .before .before in
     λ d p.
-    let l = c .before .before .before .loop2 .inv d p in
-    swapping-more l 1 (c .before .before .loop2-test .taken) (bytes-swapped (c .before .before .before .loop2 .low) _ (c .before .before .before .loop2 .bytes) (omega (arith, l)) (omega (arith, l)))
+    let l = m .loop2 .inv d p in
+    swapping-more l 1 (c .before .before .loop2-test .taken) (bytes-swapped (m .loop2 .low) _ (m .loop2 .bytes) (omega (arith, l)) (omega (arith, l)))
 
 same-length : tie.Need-same-length Inv-loop μ-loop Inv-loop2 μ-loop2
 same-length c = (laid (c .before)) .same
@@ -95,22 +86,22 @@ reverse-cell-spec =
     Inv-loop2
     μ-loop2
     loop-holds
-    sub-swap-words
+    (λ c. omega arith)
     add-swap-words
     swap-words-requires
     add-low
-    loop-less
+    (λ c. omega arith)
     loop-again
     loop2-holds
-    sub-high
+    (λ c. omega arith)
     add-high
     slice-read-a
     slice-read-b
     slice-write-bytes
     slice-write-bytes-2
     add-low-2
-    sub-left
-    loop2-less
+    (λ c. omega arith)
+    (λ c. omega arith)
     loop2-again
     same-length
     returns)

@@ -14,7 +14,8 @@ Inv-loop bytes₀ at size cells i₀ bytes i = Copies bytes₀ at bytes₀ at si
 abbrev μ-loop : tie.MeasureT-loop
 μ-loop bytes₀ at size cells i₀ bytes i = cells - i
 
-fits : (c : tie.In-loop Inv-loop μ-loop) → c .before .loop .i * c .before .before .before .args .size + c .before .before .before .args .size ≤ c .before .before .before .args .cells * c .before .before .before .args .size
+fits : (c : tie.In-loop Inv-loop μ-loop) → let a = c .before .before .before .args in
+    c .before .loop .i * a .size + a .size ≤ a .cells * a .size
 fits c = copies-room (c .before .loop .inv) (c .loop-test .taken)
 
 same : (c : tie.At-loop Inv-loop μ-loop) → length (c .loop .bytes) ≡ length (c .before .before .args .bytes .now)
@@ -32,17 +33,11 @@ add-reverse-cell c = omega (arith, fits (c .before))
 reverse-cell-requires : tie.Need-reverse-cell-requires Inv-loop μ-loop
 reverse-cell-requires c κs = omega (arith, fits (c .before), same (c .before .before))
 
-add-i : tie.Need-add-i Inv-loop μ-loop
-add-i c = omega arith
-
-loop-less : tie.Need-loop-less Inv-loop μ-loop
-loop-less c = omega arith
-
 loop-again : tie.Need-loop-again Inv-loop μ-loop
-loop-again c = reversing-next (c .before .before .before .before .before .loop .inv) (c .before .before .before .before .loop-test .taken) (c .before .before .before .before .before .before .before .args .at + c .before .before .before .before .before .loop .i * c .before .before .before .before .before .before .before .args .size) refl (c .before .before .reverse-cell .ensures)
-
-mul-result : tie.Need-mul-result Inv-loop μ-loop
-mul-result c = omega arith
+loop-again c =
+    let m = c .before .before .before .before in
+    reversing-next (m .before .loop .inv) (m .loop-test .taken) (m .before .before .before .args .at + m .before .loop .i * m .before .before .before .args .size) refl
+    (c .before .before .reverse-cell .ensures)
 
 same-length : tie.Need-same-length Inv-loop μ-loop
 same-length c = same (c .before)
@@ -60,9 +55,9 @@ reverse-cells-spec =
     mul-reverse-cell
     add-reverse-cell
     reverse-cell-requires
-    add-i
-    loop-less
+    (λ c. omega arith)
+    (λ c. omega arith)
     loop-again
-    mul-result
+    (λ c. omega arith)
     same-length
     returns)
