@@ -62,32 +62,11 @@ read z = z .before
 abbrev begun : Sized → tie.Start
 begun z = start (read z)
 
-read-u64-requires : tie.Need-read-u64-requires
-read-u64-requires c κs = search needs
-
-enum-known-mask : tie.Need-enum-known-mask
-enum-known-mask c = search needs
-
-enum-told : tie.Need-enum-told
-enum-told c = search needs
-
 returns : tie.Need-returns
 returns c =
     let r = c .before .before in
     let s = r .before .before in
     short-first (form s) (bytes s) (s .args .at) (s .args .cells) _ (sym (r .read-u64 .ensures) ∙ ap toldField (c .enum-told .given .1))
-
-add-read-u64 : tie.Need-add-read-u64
-add-read-u64 c = search needs
-
-read-u64-requires-2 : tie.Need-read-u64-requires-2
-read-u64-requires-2 c κs = search needs
-
-enum-known-content : tie.Need-enum-known-content
-enum-known-content c = search needs
-
-enum-told-2 : tie.Need-enum-told-2
-enum-told-2 c = search needs
 
 returns-2 : tie.Need-returns-2
 returns-2 c =
@@ -95,14 +74,8 @@ returns-2 c =
     let s = asked r in
     short-second (form s) (bytes s) (s .args .at) (s .args .cells) _ (sym (r .read-u642 .ensures) ∙ ap toldField (c .enum-told2 .given .1))
 
-add-start : tie.Need-add-start
-add-start c = search needs
-
 sub-left : tie.Need-sub-left
 sub-left c = omega (arith, fields c .room)
-
-mask-length-requires : tie.Need-mask-length-requires
-mask-length-requires c κs = search needs
 
 returns-3 : tie.Need-returns-3
 returns-3 c =
@@ -134,18 +107,18 @@ pub open-frame-spec : {M : Type 1} → statement M
 open-frame-spec =
     tie.close
     (tie.spec
-    read-u64-requires
-    enum-known-mask
-    enum-told
+    (λ c κs. search needs)
+    (λ c. search needs)
+    (λ c. search needs)
     returns
-    add-read-u64
-    read-u64-requires-2
-    enum-known-content
-    enum-told-2
+    (λ c. search needs)
+    (λ c κs. search needs)
+    (λ c. search needs)
+    (λ c. search needs)
     returns-2
-    add-start
+    (λ c. search needs)
     sub-left
-    mask-length-requires
+    (λ c κs. search needs)
     returns-3
     returns-4
     returns-5

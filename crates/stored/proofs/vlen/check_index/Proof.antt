@@ -51,9 +51,6 @@ last-is k =
 abbrev read : tie.After-rise-from-zero → Read
 read f = f .before .before
 
-width-bytes-requires : tie.Need-width-bytes-requires
-width-bytes-requires c κs = search needs
-
 mul-le-at : tie.Need-mul-le-at
 mul-le-at c = omega (arith, times-is c)
 
@@ -68,9 +65,6 @@ returns c =
     let k = c .before in
     let s = start k in
     ap (told s) (by-data (offsets s) (s .args .count) (last-is k) (λ e. absurd (omega (arith, c .if1 .taken))))
-
-rise-from-zero-requires : tie.Need-rise-from-zero-requires
-rise-from-zero-requires c κs = search needs
 
 returns-2 : tie.Need-returns-2
 returns-2 c =
@@ -89,14 +83,4 @@ returns-3 c =
     (by-last (offsets s) (s .args .count) (last-is k) (omega (arith, f .before .if1 .left)) (sym (f .rise-from-zero .ensures) ∙ not-false (f .rise-from-zero .result) (c .if2 .left)))
 
 pub check-index-spec : {M : Type 1} → statement M
-check-index-spec =
-    tie.close
-    (tie.spec
-    width-bytes-requires
-    mul-le-at
-    add-le-at
-    le-at-requires
-    returns
-    rise-from-zero-requires
-    returns-2
-    returns-3)
+check-index-spec = tie.close (tie.spec (λ c κs. search needs) mul-le-at add-le-at le-at-requires returns (λ c κs. search needs) returns-2 returns-3)

@@ -36,18 +36,6 @@ by-size : (m : Found) {b : Bool} → sizeTest (index m .last) ≡ b → unless b
 by-size m e =
     ap (λ (t : Bool). unless t 5 (gives (index m))) (sym e) ∙ ap (λ i. limitedIndex (toldIndex i)) (sym (m .before .found2 .given .1)) ∙ limits (checked m)
 
-find-index-requires : tie.Need-find-index-requires
-find-index-requires c κs = search needs
-
-enum-known-found : tie.Need-enum-known-found
-enum-known-found c = search needs
-
-enum-known-found-2 : tie.Need-enum-known-found-2
-enum-known-found-2 c = search needs
-
-too-large-requires : tie.Need-too-large-requires
-too-large-requires c κs = search needs
-
 returns : tie.Need-returns
 returns c =
     let t = c .before in
@@ -63,12 +51,4 @@ returns-3 c =
 
 pub check-ragged-spec : {M : Type 1} → statement M
 check-ragged-spec =
-    tie.close
-    (tie.spec
-    find-index-requires
-    enum-known-found
-    enum-known-found-2
-    too-large-requires
-    returns
-    returns-2
-    returns-3)
+    tie.close (tie.spec (λ c κs. search needs) (λ c. search needs) (λ c. search needs) (λ c κs. search needs) returns returns-2 returns-3)

@@ -68,15 +68,6 @@ begun i = start (i .before)
 size-is : (i : Sized) → i .index-length .result ≡ width (begun i) + begun i .args .n * width (begun i)
 size-is i = i .index-length .ensures
 
-read-length-requires : tie.Need-read-length-requires
-read-length-requires c κs = search needs
-
-enum-known-l : tie.Need-enum-known-l
-enum-known-l c = search needs
-
-enum-told : tie.Need-enum-told
-enum-told c = search needs
-
 returns : tie.Need-returns
 unfolding indexIn foundIn
 returns c =
@@ -87,14 +78,8 @@ returns c =
     (read-none indexCheck (width s) (s .args .n) (drop (s .args .at) (bytes s)) (place s)
     (omega (arith, length-drop (s .args .at) (bytes s), length-short (place s) (left s) (omega (arith, r .0)))))
 
-sub-size : tie.Need-sub-size
-sub-size c = search needs
-
 sub-left : tie.Need-sub-left
 sub-left c = long c
-
-index-length-requires : tie.Need-index-length-requires
-index-length-requires c κs = search needs
 
 returns-2 : tie.Need-returns-2
 unfolding indexIn foundIn
@@ -166,13 +151,13 @@ pub find-index-spec : {M : Type 1} → statement M
 find-index-spec =
     tie.close
     (tie.spec
-    read-length-requires
-    enum-known-l
-    enum-told
+    (λ c κs. search needs)
+    (λ c. search needs)
+    (λ c. search needs)
     returns
-    sub-size
+    (λ c. search needs)
     sub-left
-    index-length-requires
+    (λ c κs. search needs)
     returns-2
     returns-3
     index-at-requires

@@ -10,9 +10,6 @@ use Rattle.stored.proofs.IndexLaws.{width-most}
 use Rattle.stored.proofs.vlen.index_length.Statement.{statement}
 use Rattle.stored.proofs.vlen.index_length.Tie as tie
 
-width-bytes-requires : tie.Need-width-bytes-requires
-width-bytes-requires c κs = search needs
-
 mul-result : tie.Need-mul-result
 unfolding mostCells
 mul-result c =
@@ -30,4 +27,4 @@ returns : tie.Need-returns
 returns c = ap (λ (x : ℕ). x + c .before .args .n * x) (c .width-bytes .ensures)
 
 pub index-length-spec : {M : Type 1} → statement M
-index-length-spec = tie.close (tie.spec width-bytes-requires mul-result add-result returns)
+index-length-spec = tie.close (tie.spec (λ c κs. search needs) mul-result add-result returns)

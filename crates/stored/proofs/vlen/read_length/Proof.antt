@@ -13,24 +13,15 @@ use Rattle.stored.proofs.IndexLaws.{length-within}
 use Rattle.stored.proofs.vlen.read_length.Statement.{statement}
 use Rattle.stored.proofs.vlen.read_length.Tie as tie
 
-sub-size : tie.Need-sub-size
-sub-size c = search needs
-
 returns : tie.Need-returns
 returns c =
     let args = c .before .before .args in
     field-short 8 7 (args .s .now) (args .at + lengthAt (placeOf (args .place)) (length (args .s .now) - args .at)) (omega arith)
 
-length-at-requires : tie.Need-length-at-requires
-length-at-requires c κs = search needs
-
 add-read-u64 : tie.Need-add-read-u64
 add-read-u64 c =
     let args = c .before .before .before .args in
     omega (arith, c .length-at .ensures, length-within (placeOf (args .place)) (length (args .s .now) - args .at) (omega arith))
-
-read-u64-requires : tie.Need-read-u64-requires
-read-u64-requires c κs = search needs
 
 returns-2 : tie.Need-returns-2
 returns-2 c =
@@ -38,6 +29,4 @@ returns-2 c =
     c .read-u64 .ensures ∙ ap (λ (k : ℕ). fieldAt 8 7 (args .s .now) (args .at + k)) (c .before .length-at .ensures)
 
 pub read-length-spec : {M : Type 1} → statement M
-read-length-spec =
-    tie.close
-    (tie.spec sub-size returns length-at-requires add-read-u64 read-u64-requires returns-2)
+read-length-spec = tie.close (tie.spec (λ c. search needs) returns (λ c κs. search needs) add-read-u64 (λ c κs. search needs) returns-2)

@@ -106,12 +106,6 @@ one e = omega arith
 last-room : (e : Last) → end e .loop .p + width (end e) + width (end e) ≤ length (bytes (wide (end e)))
 last-room e = omega (arith, rises-room (end e .loop .inv) (omega (arith, one e)))
 
-width-bytes-requires : tie.Need-width-bytes-requires Inv-loop μ-loop
-width-bytes-requires c κs = search needs
-
-le-at-requires : tie.Need-le-at-requires Inv-loop μ-loop
-le-at-requires c κs = omega arith
-
 returns : tie.Need-returns Inv-loop μ-loop
 returns c =
     let b = c .before .before in
@@ -190,8 +184,8 @@ rise-from-zero-spec =
     (tie.spec
     Inv-loop
     μ-loop
-    width-bytes-requires
-    le-at-requires
+    (λ c κs. search needs)
+    (λ c κs. omega arith)
     returns
     loop-holds
     add-p
