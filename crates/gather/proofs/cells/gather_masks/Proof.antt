@@ -50,9 +50,6 @@ live-mark-requires c κs =
     let p = planes-to {l = s .args .level} (s .pre .0) (omega arith) in
     (cell (c .before), p .shallow, p .planes)
 
-cast-done : tie.Need-cast-done Inv-loop μ-loop
-cast-done c = search needs
-
 add-done : tie.Need-add-done Inv-loop μ-loop
 add-done c =
     let l = c .before .before .before in
@@ -89,7 +86,7 @@ gather-masks-spec =
     shared-slice-read-block
     slice-write-block
     live-mark-requires
-    cast-done
+    (λ c. search needs)
     add-done
     add-i
     loop-less

@@ -20,31 +20,10 @@ start-of-match-keys2 c = c .before .before .before
 abbrev start-of-out2 : tie.After-out2 → tie.Start
 start-of-out2 c = start-of-match-keys2 (c .before .before .before .before)
 
-enum-told : tie.Need-enum-told
-enum-told c = search needs
-
-mul-copy-many : tie.Need-mul-copy-many
-mul-copy-many c = search needs
-
-copy-many-requires : tie.Need-copy-many-requires
-copy-many-requires c κs = search needs
-
-enum-told-2 : tie.Need-enum-told-2
-enum-told-2 c = search needs
-
-copy-cells-reversed-requires : tie.Need-copy-cells-reversed-requires
-copy-cells-reversed-requires c κs = search needs
-
-same-length : tie.Need-same-length
-same-length c = search needs
-
 returns : tie.Need-returns
 returns c =
     let a = start-of-out (c .before) .args in
     copied-little 0 (a .size) (a .cells) (a .s .now) (a .out .now) (ap orderOf (c .before .before .before .before .enum-told .given .1)) (c .before .before .copy-many .ensures)
-
-same-length-2 : tie.Need-same-length-2
-same-length-2 c = search needs
 
 returns-2 : tie.Need-returns-2
 returns-2 c =
@@ -55,12 +34,12 @@ pub put-all-spec : {M : Type 1} → statement M
 put-all-spec =
     tie.close
     (tie.spec
-    enum-told
-    mul-copy-many
-    copy-many-requires
-    enum-told-2
-    copy-cells-reversed-requires
-    same-length
+    (λ c. search needs)
+    (λ c. search needs)
+    (λ c κs. search needs)
+    (λ c. search needs)
+    (λ c κs. search needs)
+    (λ c. search needs)
     returns
-    same-length-2
+    (λ c. search needs)
     returns-2)

@@ -47,38 +47,17 @@ put-live-words-requires-3 c κs = asked (start (c .before .before)) (c .before .
 put-live-words-requires-4 : tie.Need-put-live-words-requires-4
 put-live-words-requires-4 c κs = asked (start (c .before .before)) (c .before .match .keys4)
 
-put-live-words-requires-5 : tie.Need-put-live-words-requires-5
-put-live-words-requires-5 c κs = search needs
-
-same-length : tie.Need-same-length
-same-length c = search needs
-
 returns : tie.Need-returns
 returns c = let m = c .before .before .before .before in given (start (m .before)) (m .match .keys1) (c .before .before .put-live-words .ensures)
-
-same-length-2 : tie.Need-same-length-2
-same-length-2 c = search needs
 
 returns-2 : tie.Need-returns-2
 returns-2 c = let m = c .before .before .before .before in given (start (m .before)) (m .match .keys2) (c .before .before .put-live-words2 .ensures)
 
-same-length-3 : tie.Need-same-length-3
-same-length-3 c = search needs
-
 returns-3 : tie.Need-returns-3
 returns-3 c = let m = c .before .before .before .before in given (start (m .before)) (m .match .keys3) (c .before .before .put-live-words3 .ensures)
 
-same-length-4 : tie.Need-same-length-4
-same-length-4 c = search needs
-
 returns-4 : tie.Need-returns-4
 returns-4 c = let m = c .before .before .before .before in given (start (m .before)) (m .match .keys4) (c .before .before .put-live-words4 .ensures)
-
-same-length-5 : tie.Need-same-length-5
-same-length-5 c = search needs
-
-returns-5 : tie.Need-returns-5
-returns-5 c = search needs
 
 pub put-level-words-spec : {M : Type 1} → statement M
 put-level-words-spec =
@@ -88,14 +67,14 @@ put-level-words-spec =
     put-live-words-requires-2
     put-live-words-requires-3
     put-live-words-requires-4
-    put-live-words-requires-5
-    same-length
+    (λ c κs. search needs)
+    (λ c. search needs)
     returns
-    same-length-2
+    (λ c. search needs)
     returns-2
-    same-length-3
+    (λ c. search needs)
     returns-3
-    same-length-4
+    (λ c. search needs)
     returns-4
-    same-length-5
-    returns-5)
+    (λ c. search needs)
+    (λ c. search needs))

@@ -64,12 +64,6 @@ put-level-words-requires-4 c κs =
     let r = room s (c .before .match .keys4) in
     (s .pre .0, s .pre .1, refl, r .0, r .1)
 
-put-live-runs-requires : tie.Need-put-live-runs-requires
-put-live-runs-requires c κs = search needs
-
-same-length : tie.Need-same-length
-same-length c = search needs
-
 returns : tie.Need-returns
 returns c =
     let t = c .before .before .before .before in
@@ -78,35 +72,17 @@ returns c =
     laid-as (a .to) (a .out .now) (c .before .before .copy-cells .ensures)
     (all-pieces (orderOf (a .order)) (a .size) (a .s .now) (liveTest (a .cells) (a .masks .now) (a .level)) (s .pre .1) (t .if1 .taken))
 
-same-length-2 : tie.Need-same-length-2
-same-length-2 c = search needs
-
 returns-2 : tie.Need-returns-2
 returns-2 c = let m = c .before .before .before .before in given (parted (m .before)) (m .match .keys1) (c .before .before .put-level-words .ensures)
-
-same-length-3 : tie.Need-same-length-3
-same-length-3 c = search needs
 
 returns-3 : tie.Need-returns-3
 returns-3 c = let m = c .before .before .before .before in given (parted (m .before)) (m .match .keys2) (c .before .before .put-level-words2 .ensures)
 
-same-length-4 : tie.Need-same-length-4
-same-length-4 c = search needs
-
 returns-4 : tie.Need-returns-4
 returns-4 c = let m = c .before .before .before .before in given (parted (m .before)) (m .match .keys3) (c .before .before .put-level-words3 .ensures)
 
-same-length-5 : tie.Need-same-length-5
-same-length-5 c = search needs
-
 returns-5 : tie.Need-returns-5
 returns-5 c = let m = c .before .before .before .before in given (parted (m .before)) (m .match .keys4) (c .before .before .put-level-words4 .ensures)
-
-same-length-6 : tie.Need-same-length-6
-same-length-6 c = search needs
-
-returns-6 : tie.Need-returns-6
-returns-6 c = search needs
 
 pub put-live-spec : {M : Type 1} → statement M
 put-live-spec =
@@ -117,16 +93,16 @@ put-live-spec =
     put-level-words-requires-2
     put-level-words-requires-3
     put-level-words-requires-4
-    put-live-runs-requires
-    same-length
+    (λ c κs. search needs)
+    (λ c. search needs)
     returns
-    same-length-2
+    (λ c. search needs)
     returns-2
-    same-length-3
+    (λ c. search needs)
     returns-3
-    same-length-4
+    (λ c. search needs)
     returns-4
-    same-length-5
+    (λ c. search needs)
     returns-5
-    same-length-6
-    returns-6)
+    (λ c. search needs)
+    (λ c. search needs))

@@ -68,9 +68,6 @@ loop-holds c = (refl, blocks-begin (c .before .before .pre .1) (c .before .befor
 sub-block-cells : tie.Need-sub-block-cells Inv-loop μ-loop
 sub-block-cells c = omega (arith, c .loop-test .taken)
 
-block-cells-requires : tie.Need-block-cells-requires Inv-loop μ-loop
-block-cells-requires c κs = search needs
-
 slice-aggregate-gather-masks : tie.Need-slice-aggregate-gather-masks Inv-loop μ-loop
 slice-aggregate-gather-masks c = sym (loop (c .before) .loop .inv .0)
 
@@ -79,9 +76,6 @@ gather-masks-requires c κs =
     let k = c .before in
     let l = loop k in
     (start l .pre .0, block-fits (l .loop .inv .1) (some k) (fits k) (eights k), omega (arith, k .block-cells .ensures, l .loop .inv .0))
-
-mask-length-requires : tie.Need-mask-length-requires Inv-loop μ-loop
-mask-length-requires c κs = search needs
 
 add-put-plane : tie.Need-add-put-plane Inv-loop μ-loop
 add-put-plane c =
@@ -130,10 +124,10 @@ put-live-mask-spec =
     μ-loop
     loop-holds
     sub-block-cells
-    block-cells-requires
+    (λ c κs. search needs)
     slice-aggregate-gather-masks
     gather-masks-requires
-    mask-length-requires
+    (λ c κs. search needs)
     add-put-plane
     slice-aggregate-put-plane
     put-plane-requires

@@ -36,8 +36,9 @@ same c = storing-same (c .loop .inv)
 within : (c : tie.After-live-run Inv-loop μ-loop) → c .before .before .loop .i + c .live-run .result ≤ start-of-loop (c .before .before) .args .cells
 within c = storing-within (c .before .before .loop .inv) (c .live-run .ensures) (c .before .loop-test .taken)
 
-source : (c : tie.After-live-run Inv-loop μ-loop) → c .before .before .loop .i * start-of-loop (c .before .before) .args .size + c .live-run .result * start-of-loop
-    (c .before .before) .args .size ≤ length (start-of-loop (c .before .before) .args .s .now)
+source : (c : tie.After-live-run Inv-loop μ-loop) → let a = start-of-loop (c .before .before) .args in
+    c .before .before .loop .i * a .size + c .live-run .result * start-of-loop
+    (c .before .before) .args .size ≤ length (a .s .now)
 source c = storing-source (c .before .before .loop .inv) (c .live-run .ensures) (c .before .loop-test .taken)
 
 room : (c : tie.After-live-run Inv-loop μ-loop) → start-of-loop (c .before .before) .args .to + c .before .before .loop .done + c .live-run .result * start-of-loop
@@ -48,7 +49,9 @@ loop-holds : tie.Need-loop-holds Inv-loop μ-loop
 loop-holds c = storing-begins (c .before .before .before .pre .1) (c .before .before .before .pre .2)
 
 live-run-requires : tie.Need-live-run-requires Inv-loop μ-loop
-live-run-requires c κs = omega (arith, start-of-loop (c .before) .pre .0 .shallow, start-of-loop (c .before) .pre .0 .planes)
+live-run-requires c κs =
+    let p = start-of-loop (c .before) .pre in
+    omega (arith, p .0 .shallow, p .0 .planes)
 
 add-copy-cells : tie.Need-add-copy-cells Inv-loop μ-loop
 add-copy-cells c = omega (arith, room (c .before), same (c .before .before .before))
@@ -72,9 +75,6 @@ add-i c = omega (arith, within (c .before .before .before .before), start-of-cop
 add-i-2 : tie.Need-add-i-2 Inv-loop μ-loop
 unfolding mostCells
 add-i-2 c = omega (arith, within (c .before .before .before .before), start-of-copy-cells (c .before .before) .pre .0 .few)
-
-loop-less : tie.Need-loop-less Inv-loop μ-loop
-loop-less c = omega arith
 
 loop-again : tie.Need-loop-again Inv-loop μ-loop
 loop-again c =
@@ -102,7 +102,7 @@ put-live-runs-spec =
     add-done
     add-i
     add-i-2
-    loop-less
+    (λ c. omega arith)
     loop-again
     same-length
     returns)

@@ -45,16 +45,16 @@ wrote c = c .before .before
 abbrev turn : Marked → Turn
 turn m = read (wrote (m .before) .before)
 
-more : (c : Turn) → c .before .loop .done < length (liveAt (start (c .before) .args .cells) (start (c .before) .args .masks .now) (start (c .before) .args .level))
+more : (c : Turn) → let a = start (c .before) .args in c .before .loop .done < length (liveAt (a .cells) (a .masks .now) (a .level))
 more c = omega (arith, c .loop-test .taken, start (c .before) .pre .1)
 
 cell : (c : Turn) → c .before .loop .i < start (c .before) .args .cells
 cell c = packing-cell (c .before .loop .inv) (more c)
 
-source : (c : Turn) → c .before .loop .i * start (c .before) .args .size + start (c .before) .args .size ≤ length (start (c .before) .args .s .now)
+source : (c : Turn) → let a = start (c .before) .args in c .before .loop .i * a .size + a .size ≤ length (a .s .now)
 source c = let s = start (c .before) in piece-in (s .args .size) (cell c) (s .pre .3)
 
-room : (c : Turn) → start (c .before) .args .to + c .before .loop .done * start (c .before) .args .size + start (c .before) .args .size ≤ length (c .before .loop .out)
+room : (c : Turn) → let a = start (c .before) .args in a .to + c .before .loop .done * a .size + a .size ≤ length (c .before .loop .out)
 room c = packing-room (c .before .loop .inv) (more c)
 
 loop-holds : tie.Need-loop-holds Inv-loop μ-loop
@@ -83,9 +83,6 @@ live-mark-requires c κs =
     let t = read (wrote c .before) in
     let p = start (t .before) .pre .0 in
     (cell t, p .shallow, p .planes)
-
-cast-done : tie.Need-cast-done Inv-loop μ-loop
-cast-done c = search needs
 
 add-done : tie.Need-add-done Inv-loop μ-loop
 unfolding mostCells
@@ -132,7 +129,7 @@ put-live-words-spec =
     add-put-word
     put-word-requires
     live-mark-requires
-    cast-done
+    (λ c. search needs)
     add-done
     add-i
     loop-less

@@ -35,9 +35,6 @@ whole c = c .before .before .before
 abbrev parted : tie.Else1 → tie.Start
 parted c = c .before .before .before
 
-mul-put-plane : tie.Need-mul-put-plane
-mul-put-plane c = search needs
-
 put-plane-requires : tie.Need-put-plane-requires
 put-plane-requires c κs =
     let s = whole (c .before) in
@@ -53,12 +50,6 @@ put-live-mask-requires-2 c κs = asked (parted (c .before .before)) (c .before .
 put-live-mask-requires-3 : tie.Need-put-live-mask-requires-3
 put-live-mask-requires-3 c κs = asked (parted (c .before .before)) (c .before .match .keys3)
 
-put-live-mask-requires-4 : tie.Need-put-live-mask-requires-4
-put-live-mask-requires-4 c κs = search needs
-
-same-length : tie.Need-same-length
-same-length c = search needs
-
 returns : tie.Need-returns
 returns c =
     let t = c .before .before .before .before in
@@ -66,47 +57,32 @@ returns c =
     let a = s .args in
     laid-as (a .to) (a .out .now) (c .before .before .put-plane .ensures) (ap (maskForm (masksOf (a .form)) .put) (mask-all (a .level) (s .pre .0) (s .pre .1) (t .if1 .taken)))
 
-same-length-2 : tie.Need-same-length-2
-same-length-2 c = search needs
-
 returns-2 : tie.Need-returns-2
 returns-2 c = let m = c .before .before .before .before in given (parted (m .before)) (m .match .keys1) (c .before .before .put-live-mask .ensures)
-
-same-length-3 : tie.Need-same-length-3
-same-length-3 c = search needs
 
 returns-3 : tie.Need-returns-3
 returns-3 c = let m = c .before .before .before .before in given (parted (m .before)) (m .match .keys2) (c .before .before .put-live-mask2 .ensures)
 
-same-length-4 : tie.Need-same-length-4
-same-length-4 c = search needs
-
 returns-4 : tie.Need-returns-4
 returns-4 c = let m = c .before .before .before .before in given (parted (m .before)) (m .match .keys3) (c .before .before .put-live-mask3 .ensures)
-
-same-length-5 : tie.Need-same-length-5
-same-length-5 c = search needs
-
-returns-5 : tie.Need-returns-5
-returns-5 c = search needs
 
 pub put-mask-spec : {M : Type 1} → statement M
 put-mask-spec =
     tie.close
     (tie.spec
-    mul-put-plane
+    (λ c. search needs)
     put-plane-requires
     put-live-mask-requires
     put-live-mask-requires-2
     put-live-mask-requires-3
-    put-live-mask-requires-4
-    same-length
+    (λ c κs. search needs)
+    (λ c. search needs)
     returns
-    same-length-2
+    (λ c. search needs)
     returns-2
-    same-length-3
+    (λ c. search needs)
     returns-3
-    same-length-4
+    (λ c. search needs)
     returns-4
-    same-length-5
-    returns-5)
+    (λ c. search needs)
+    (λ c. search needs))

@@ -18,38 +18,19 @@ abbrev μ-loop : tie.MeasureT-loop
 few : (c : tie.After-live-mark Inv-loop μ-loop) → c .live-mark .result ≤ 1
 few c = let a = c .before .before .before .before .args in mark-le (a .cells) (a .masks .now) (c .before .before .loop .i) (a .level) (c .live-mark .ensures)
 
-loop-holds : tie.Need-loop-holds Inv-loop μ-loop
-loop-holds c = omega arith
-
 live-mark-requires : tie.Need-live-mark-requires Inv-loop μ-loop
 live-mark-requires c κs = omega (arith, c .before .before .before .pre)
 
 add-n : tie.Need-add-n Inv-loop μ-loop
-add-n c = omega (arith, (few c))
-
-add-i : tie.Need-add-i Inv-loop μ-loop
-add-i c = omega arith
-
-loop-less : tie.Need-loop-less Inv-loop μ-loop
-loop-less c = omega arith
+add-n c = omega (arith, few c)
 
 loop-again : tie.Need-loop-again Inv-loop μ-loop
 loop-again c =
-    let a = c .before .before .before .before .args in omega (arith, (few c), c .live-mark .ensures, live-next (a .cells) (a .masks .now) (a .level) (c .before .before .loop .i) (omega arith))
+    let a = c .before .before .before .before .args in omega (arith, few c, c .live-mark .ensures, live-next (a .cells) (a .masks .now) (a .level) (c .before .before .loop .i) (omega arith))
 
 returns : tie.Need-returns Inv-loop μ-loop
 returns c = let a = c .before .before .before .args in let e : c .before .loop .i ≡ a .end = omega arith in omega (arith, ap (λ (k : ℕ). length (liveFrom (a .cells) (a .masks .now) (a .level) k)) e)
 
 pub count-block-spec : {M : Type 1} → statement M
 count-block-spec =
-    tie.close
-    (tie.spec
-    Inv-loop
-    μ-loop
-    loop-holds
-    live-mark-requires
-    add-n
-    add-i
-    loop-less
-    loop-again
-    returns)
+    tie.close (tie.spec Inv-loop μ-loop (λ c. omega arith) live-mark-requires add-n (λ c. omega arith) (λ c. omega arith) loop-again returns)

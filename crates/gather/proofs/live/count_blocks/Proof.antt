@@ -21,14 +21,8 @@ abbrev μ-loop : tie.MeasureT-loop
 loop-holds : tie.Need-loop-holds Inv-loop μ-loop
 loop-holds c = let a = c .before .args in omega (arith, live-whole (a .cells) (a .masks .now) (a .level))
 
-block-end-requires : tie.Need-block-end-requires Inv-loop μ-loop
-block-end-requires c κs = omega arith
-
 count-block-requires : tie.Need-count-block-requires Inv-loop μ-loop
 count-block-requires c κs = omega (arith, c .block-end .ensures, c .before .before .before .before .pre .shallow, c .before .before .before .before .pre .planes)
-
-cast-n : tie.Need-cast-n Inv-loop μ-loop
-cast-n c = search needs
 
 add-n : tie.Need-add-n Inv-loop μ-loop
 unfolding mostCells
@@ -48,15 +42,4 @@ returns c = let a = c .before .before .before .args in omega (arith, live-end (a
 
 pub count-blocks-spec : {M : Type 1} → statement M
 count-blocks-spec =
-    tie.close
-    (tie.spec
-    Inv-loop
-    μ-loop
-    loop-holds
-    block-end-requires
-    count-block-requires
-    cast-n
-    add-n
-    loop-less
-    loop-again
-    returns)
+    tie.close (tie.spec Inv-loop μ-loop loop-holds (λ c κs. omega arith) count-block-requires (λ c. search needs) add-n loop-less loop-again returns)

@@ -9,17 +9,8 @@ use borrow.Author.Needs.{needs}
 use Rattle.gather.proofs.live.count_live.Statement.{statement}
 use Rattle.gather.proofs.live.count_live.Tie as tie
 
-sub-count-set : tie.Need-sub-count-set
-sub-count-set c = omega arith
-
-part-count-set-start : tie.Need-part-count-set-start
-part-count-set-start c = omega arith
-
 part-count-set-end : tie.Need-part-count-set-end
 part-count-set-end c = let a = c .before .before .args in omega (arith, c .before .before .pre .planes, ap (λ (l : ℕ). l * a .cells) (c .match .keys2), one-mul (a .cells))
-
-count-set-requires : tie.Need-count-set-requires
-count-set-requires c κs = search needs
 
 count-blocks-requires : tie.Need-count-blocks-requires
 count-blocks-requires c κs = c .before .before .pre
@@ -39,10 +30,10 @@ pub count-live-spec : {M : Type 1} → statement M
 count-live-spec =
     tie.close
     (tie.spec
-    sub-count-set
-    part-count-set-start
+    (λ c. omega arith)
+    (λ c. omega arith)
     part-count-set-end
-    count-set-requires
+    (λ c κs. search needs)
     count-blocks-requires
     returns
     returns-2

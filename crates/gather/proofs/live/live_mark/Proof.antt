@@ -80,19 +80,19 @@ mark-at-requires-7 : tie.Need-mark-at-requires-7
 mark-at-requires-7 c κs = row-in 0 (omega (arith, four c)) (c .before .before .pre .0) (c .before .before .pre .2)
 
 mark-at-requires-8 : tie.Need-mark-at-requires-8
-mark-at-requires-8 c κs = row-in 1 (omega (arith, (four (c .before)))) (c .before .before .before .pre .0) (c .before .before .before .pre .2)
+mark-at-requires-8 c κs = row-in 1 (omega (arith, four (c .before))) (c .before .before .before .pre .0) (c .before .before .before .pre .2)
 
 mul-result-4 : tie.Need-mul-result-4
 mul-result-4 c = let a = c .before .before .before .before .args in omega (arith, mark-le (a .cells) (a .masks .now) (a .i) 2 (both-4 c))
 
 mark-at-requires-9 : tie.Need-mark-at-requires-9
-mark-at-requires-9 c κs = row-in 2 (omega (arith, (four (c .before .before)))) (c .before .before .before .before .pre .0) (c .before .before .before .before .pre .2)
+mark-at-requires-9 c κs = row-in 2 (omega (arith, four (c .before .before))) (c .before .before .before .before .pre .0) (c .before .before .before .before .pre .2)
 
 mul-result-5 : tie.Need-mul-result-5
 mul-result-5 c = let a = at-4 c .args in omega (arith, mark-le (a .cells) (a .masks .now) (a .i) 3 (three-4 c))
 
 mark-at-requires-10 : tie.Need-mark-at-requires-10
-mark-at-requires-10 c κs = row-in 3 (omega (arith, (four (c .before .before .before)))) (at-4 c .pre .0) (at-4 c .pre .2)
+mark-at-requires-10 c κs = row-in 3 (omega (arith, four (c .before .before .before))) (at-4 c .pre .0) (at-4 c .pre .2)
 
 mul-result-6 : tie.Need-mul-result-6
 mul-result-6 c = let a = last-4 c .args in omega (arith, mark-le (a .cells) (a .masks .now) (a .i) 4 (all-4 c))

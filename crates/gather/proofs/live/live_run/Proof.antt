@@ -15,9 +15,6 @@ Inv-loop masks cells level i j₀ j = (i ≤ j) × (j ≤ cells) × (runOf (live
 abbrev μ-loop : tie.MeasureT-loop
 μ-loop masks cells level i j₀ j = cells - j
 
-sub-result : tie.Need-sub-result Inv-loop μ-loop
-sub-result c = omega arith
-
 returns : tie.Need-returns Inv-loop μ-loop
 returns c =
     let a = c .before .before .args in
@@ -26,12 +23,6 @@ returns c =
 loop-holds : tie.Need-loop-holds Inv-loop μ-loop
 loop-holds c = (omega arith, omega arith, omega arith)
 
-live-mark-requires : tie.Need-live-mark-requires Inv-loop μ-loop
-live-mark-requires c κs = omega arith
-
-sub-result-2 : tie.Need-sub-result-2 Inv-loop μ-loop
-sub-result-2 c = omega arith
-
 returns-2 : tie.Need-returns-2 Inv-loop μ-loop
 returns-2 c =
     let l = c .before .before .before in
@@ -39,21 +30,12 @@ returns-2 c =
     let dead = zero-false (liveTest (a .cells) (a .masks .now) (a .level) (l .loop .j)) (sym (c .before .live-mark .ensures) ∙ c .if2 .taken) in
     omega (arith, l .loop .inv .2, run-stops (liveTest (a .cells) (a .masks .now) (a .level)) (l .loop .j) (a .cells) (c .before .before .loop-test .taken) dead)
 
-add-j : tie.Need-add-j Inv-loop μ-loop
-add-j c = omega arith
-
-loop-less : tie.Need-loop-less Inv-loop μ-loop
-loop-less c = omega arith
-
 loop-again : tie.Need-loop-again Inv-loop μ-loop
 loop-again c =
     let l = c .before .before .before in
     let a = l .before .before .before .args in
     let one = one-true (liveTest (a .cells) (a .masks .now) (a .level) (l .loop .j)) (λ z. c .if2 .left (c .before .live-mark .ensures ∙ z)) in
     (omega arith, omega arith, omega (arith, l .loop .inv .2, run-goes (liveTest (a .cells) (a .masks .now) (a .level)) (l .loop .j) (a .cells) (c .before .before .loop-test .taken) one))
-
-sub-result-3 : tie.Need-sub-result-3 Inv-loop μ-loop
-sub-result-3 c = omega arith
 
 returns-3 : tie.Need-returns-3 Inv-loop μ-loop
 returns-3 c =
@@ -66,14 +48,14 @@ live-run-spec =
     (tie.spec
     Inv-loop
     μ-loop
-    sub-result
+    (λ c. omega arith)
     returns
     loop-holds
-    live-mark-requires
-    sub-result-2
+    (λ c κs. omega arith)
+    (λ c. omega arith)
     returns-2
-    add-j
-    loop-less
+    (λ c. omega arith)
+    (λ c. omega arith)
     loop-again
-    sub-result-3
+    (λ c. omega arith)
     returns-3)
