@@ -40,8 +40,7 @@ ends-so-far os t i (suc m) = go (t i) refl (ends-so-far os t (suc i) m)
         ih ∙ ap (λ (x : ℕ). endsAt os x (passing t (from (suc i) m))) q
 
 index-whole : (w : ℕ) (os : List ℕ) (t : ℕ → Bool) (n : ℕ) → joined (map (endOf w os t) (passing t (from 0 n))) ≡ indexOf w (endsAt os 0 (passing t (from 0 n)))
-index-whole w os t n =
-    ap joined (sym (map-map (λ j. soFar os t (suc j)) (le w) (passing t (from 0 n)))) ∙ ap (indexOf w) (ends-so-far os t 0 n)
+index-whole w os t n = ap joined (sym (map-map (λ j. soFar os t (suc j)) (le w) (passing t (from 0 n)))) ∙ ap (indexOf w) (ends-so-far os t 0 n)
 
 pub record Indexing (t : ℕ → Bool) (n w : ℕ) (os d : List ℕ) (to : ℕ) (out : List ℕ) (i total done : ℕ) : Type 0 where
   pub sums : Summing t n os total i

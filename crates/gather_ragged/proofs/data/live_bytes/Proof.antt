@@ -12,12 +12,6 @@ use Rattle.gather_ragged.proofs.data.live_bytes.Tie as tie
 abbrev start : tie.After-shared-slice-known3 → tie.Start
 start c = c .before .before .before
 
-mul-all : tie.Need-mul-all
-mul-all c = search needs
-
-shared-slice-read-all : tie.Need-shared-slice-read-all
-shared-slice-read-all c = search needs
-
 returns : tie.Need-returns
 returns c =
     let s = start (c .before) in
@@ -31,13 +25,5 @@ returns-2 c =
     let os = a .offsets .now in
     omega (arith, c .if2 .taken, last-at os (a .cells) (o .counted), spans-le os (liveTest (a .cells) (a .masks .now) (a .level)) (a .cells) (o .counted) (o .rising))
 
-sum-live-bytes-requires : tie.Need-sum-live-bytes-requires
-sum-live-bytes-requires c κs = search needs
-
-returns-3 : tie.Need-returns-3
-returns-3 c = search needs
-
 pub live-bytes-spec : {M : Type 1} → statement M
-live-bytes-spec =
-    tie.close
-    (tie.spec mul-all shared-slice-read-all returns returns-2 sum-live-bytes-requires returns-3)
+live-bytes-spec = tie.close (tie.spec (λ c. search needs) (λ c. search needs) returns returns-2 (λ c κs. search needs) (λ c. search needs))

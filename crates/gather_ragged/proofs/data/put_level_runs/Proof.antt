@@ -12,6 +12,10 @@ use Rattle.gather_ragged.specs.Slices.{slicesAt, Offsets}
 use Rattle.gather_ragged.proofs.data.put_level_runs.Statement.{statement}
 use Rattle.gather_ragged.proofs.data.put_level_runs.Tie as tie
 
+-- places that the answers go back to
+abbrev start : tie.After-shared-slice-known3 → tie.Start
+start c = c .before .before .before .before
+
 -- what the level counts
 abbrev slices : tie.Start → ℕ → List ℕ
 slices c l = slicesAt (c .args .offsets .now) (c .args .values .now) (liveAt (c .args .cells) (c .args .masks .now) l)
@@ -27,57 +31,36 @@ given : (c : tie.Start) {l : ℕ} → c .args .level ≡ l → {r : ℕ} {o : Li
 given c {l = l} e p q = (p ∙ ap (λ (k : ℕ). length (slices c k)) (sym e), q ∙ ap (λ (k : ℕ). overAt (c .args .to) (slices c k) (c .args .out .now)) (sym e))
 
 put-live-runs-requires : tie.Need-put-live-runs-requires
-put-live-runs-requires c κs = asked (c .before .before .before .before .before .before) (c .before .match .keys1)
+put-live-runs-requires c κs = asked (start (c .before .before)) (c .before .match .keys1)
 
 put-live-runs-requires-2 : tie.Need-put-live-runs-requires-2
-put-live-runs-requires-2 c κs = asked (c .before .before .before .before .before .before) (c .before .match .keys2)
+put-live-runs-requires-2 c κs = asked (start (c .before .before)) (c .before .match .keys2)
 
 put-live-runs-requires-3 : tie.Need-put-live-runs-requires-3
-put-live-runs-requires-3 c κs = asked (c .before .before .before .before .before .before) (c .before .match .keys3)
+put-live-runs-requires-3 c κs = asked (start (c .before .before)) (c .before .match .keys3)
 
 put-live-runs-requires-4 : tie.Need-put-live-runs-requires-4
-put-live-runs-requires-4 c κs = asked (c .before .before .before .before .before .before) (c .before .match .keys4)
-
-put-live-runs-requires-5 : tie.Need-put-live-runs-requires-5
-put-live-runs-requires-5 c κs = search needs
-
-same-length : tie.Need-same-length
-same-length c = search needs
+put-live-runs-requires-4 c κs = asked (start (c .before .before)) (c .before .match .keys4)
 
 returns : tie.Need-returns
 returns c =
-    given (c .before .before .before .before .before .before .before .before .before) (c .before .before .before .before .match .keys1) (c .before .before .put-live-runs .ensures .0)
-    (c .before .before .put-live-runs .ensures .1)
-
-same-length-2 : tie.Need-same-length-2
-same-length-2 c = search needs
+    let m = c .before .before .before .before in
+    given (start (m .before)) (m .match .keys1) (c .before .before .put-live-runs .ensures .0) (c .before .before .put-live-runs .ensures .1)
 
 returns-2 : tie.Need-returns-2
 returns-2 c =
-    given (c .before .before .before .before .before .before .before .before .before) (c .before .before .before .before .match .keys2)
-    (c .before .before .put-live-runs2 .ensures .0) (c .before .before .put-live-runs2 .ensures .1)
-
-same-length-3 : tie.Need-same-length-3
-same-length-3 c = search needs
+    let m = c .before .before .before .before in
+    given (start (m .before)) (m .match .keys2) (c .before .before .put-live-runs2 .ensures .0) (c .before .before .put-live-runs2 .ensures .1)
 
 returns-3 : tie.Need-returns-3
 returns-3 c =
-    given (c .before .before .before .before .before .before .before .before .before) (c .before .before .before .before .match .keys3)
-    (c .before .before .put-live-runs3 .ensures .0) (c .before .before .put-live-runs3 .ensures .1)
-
-same-length-4 : tie.Need-same-length-4
-same-length-4 c = search needs
+    let m = c .before .before .before .before in
+    given (start (m .before)) (m .match .keys3) (c .before .before .put-live-runs3 .ensures .0) (c .before .before .put-live-runs3 .ensures .1)
 
 returns-4 : tie.Need-returns-4
 returns-4 c =
-    given (c .before .before .before .before .before .before .before .before .before) (c .before .before .before .before .match .keys4)
-    (c .before .before .put-live-runs4 .ensures .0) (c .before .before .put-live-runs4 .ensures .1)
-
-same-length-5 : tie.Need-same-length-5
-same-length-5 c = search needs
-
-returns-5 : tie.Need-returns-5
-returns-5 c = search needs
+    let m = c .before .before .before .before in
+    given (start (m .before)) (m .match .keys4) (c .before .before .put-live-runs4 .ensures .0) (c .before .before .put-live-runs4 .ensures .1)
 
 pub put-level-runs-spec : {M : Type 1} → statement M
 put-level-runs-spec =
@@ -87,14 +70,14 @@ put-level-runs-spec =
     put-live-runs-requires-2
     put-live-runs-requires-3
     put-live-runs-requires-4
-    put-live-runs-requires-5
-    same-length
+    (λ c κs. search needs)
+    (λ c. search needs)
     returns
-    same-length-2
+    (λ c. search needs)
     returns-2
-    same-length-3
+    (λ c. search needs)
     returns-3
-    same-length-4
+    (λ c. search needs)
     returns-4
-    same-length-5
-    returns-5)
+    (λ c. search needs)
+    (λ c. search needs))

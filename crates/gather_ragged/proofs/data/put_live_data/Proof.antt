@@ -26,9 +26,6 @@ copy-many-requires c κs =
     let s = start (c .before .before) in
     omega (arith, s .pre .4, ap length (full s (c .before .if1 .taken)))
 
-same-length : tie.Need-same-length
-same-length c = search needs
-
 returns : tie.Need-returns
 returns c =
     let e = c .before .before .before .before in
@@ -42,23 +39,6 @@ returns-2 c =
     let s = start (c .before .before) in
     none-written (s .args .masks .now) (s .args .level) (s .pre .2) (s .args .values .now) (s .pre .3) (c .if2 .taken) (s .args .to) (s .args .out .now) (s .pre .4)
 
-put-level-runs-requires : tie.Need-put-level-runs-requires
-put-level-runs-requires c κs = search needs
-
-same-length-2 : tie.Need-same-length-2
-same-length-2 c = search needs
-
-returns-3 : tie.Need-returns-3
-returns-3 c = search needs
-
 pub put-live-data-spec : {M : Type 1} → statement M
 put-live-data-spec =
-    tie.close
-    (tie.spec
-    copy-many-requires
-    same-length
-    returns
-    returns-2
-    put-level-runs-requires
-    same-length-2
-    returns-3)
+    tie.close (tie.spec copy-many-requires (λ c. search needs) returns returns-2 (λ c κs. search needs) (λ c. search needs) (λ c. search needs))

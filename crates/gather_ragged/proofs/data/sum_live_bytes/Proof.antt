@@ -16,63 +16,63 @@ Inv-loop offsets masks cells level total₀ i₀ total i = Summing (liveTest cel
 abbrev μ-loop : tie.MeasureT-loop
 μ-loop offsets masks cells level total₀ i₀ total i = cells - i
 
-inside : (c : tie.In-loop Inv-loop μ-loop) → c .before .loop .i + 1 < length (c .before .before .before .before .args .offsets .now)
+-- places that the answers go back to
+abbrev start : tie.In-loop Inv-loop μ-loop → tie.Start Inv-loop μ-loop
+start c = c .before .before .before .before
+
+abbrev at-loop : tie.After-shared-slice-known4 Inv-loop μ-loop → tie.At-loop Inv-loop μ-loop
+at-loop c = c .before .before .before .before
+
+inside : (c : tie.In-loop Inv-loop μ-loop) → c .before .loop .i + 1 < length (start c .args .offsets .now)
 inside c = summing-inside (c .before .loop .inv) (c .loop-test .taken)
 
 loop-holds : tie.Need-loop-holds Inv-loop μ-loop
 loop-holds c = summing-begins (c .before .before .pre .1)
 
 live-mark-requires : tie.Need-live-mark-requires Inv-loop μ-loop
-live-mark-requires c κs = omega (arith, c .before .before .before .before .pre .0 .shallow, c .before .before .before .before .pre .0 .planes)
-
-cast-mark : tie.Need-cast-mark Inv-loop μ-loop
-cast-mark c = search needs
-
-mul-start : tie.Need-mul-start Inv-loop μ-loop
-mul-start c = search needs
+live-mark-requires c κs = omega (arith, start c .pre .0 .shallow, start c .pre .0 .planes)
 
 shared-slice-read-start : tie.Need-shared-slice-read-start Inv-loop μ-loop
-shared-slice-read-start c = omega (arith, (inside (c .before .before)))
+shared-slice-read-start c = omega (arith, inside (c .before .before))
 
 add-end : tie.Need-add-end Inv-loop μ-loop
-add-end c = omega (arith, (inside (c .before .before)))
+add-end c = omega (arith, inside (c .before .before))
 
 mul-end : tie.Need-mul-end Inv-loop μ-loop
 unfolding mostCells
-mul-end c = omega (arith, (inside (c .before .before)), c .before .before .before .before .before .before .pre .0 .few, c .before .before .before .before .before .before .pre .1 .counted)
+mul-end c =
+    let p = start (c .before .before) .pre in
+    omega (arith, inside (c .before .before), p .0 .few, p .1 .counted)
 
 shared-slice-read-end : tie.Need-shared-slice-read-end Inv-loop μ-loop
-shared-slice-read-end c = (inside (c .before .before .before))
+shared-slice-read-end c = inside (c .before .before .before)
 
 sub-total : tie.Need-sub-total Inv-loop μ-loop
-sub-total c = summing-rises (c .before .before .before .before .loop .inv) (c .before .before .before .loop-test .taken)
+sub-total c = summing-rises (at-loop c .loop .inv) (c .before .before .before .loop-test .taken)
 
 mul-total : tie.Need-mul-total Inv-loop μ-loop
 mul-total c =
     omega (
       arith,
-      summing-fits (c .before .before .before .before .loop .inv) (c .before .before .before .loop-test .taken)
+      summing-fits (at-loop c .loop .inv) (c .before .before .before .loop-test .taken)
           (c .before .before .live-mark .ensures),
-      c .shared-slice-known4 .given (c .before .before .before .before .loop .i + 1),
+      c .shared-slice-known4 .given (at-loop c .loop .i + 1),
     )
 
 add-total : tie.Need-add-total Inv-loop μ-loop
 add-total c =
     omega (
       arith,
-      summing-fits (c .before .before .before .before .loop .inv) (c .before .before .before .loop-test .taken)
+      summing-fits (at-loop c .loop .inv) (c .before .before .before .loop-test .taken)
           (c .before .before .live-mark .ensures),
-      c .shared-slice-known4 .given (c .before .before .before .before .loop .i + 1),
+      c .shared-slice-known4 .given (at-loop c .loop .i + 1),
     )
 
 add-i : tie.Need-add-i Inv-loop μ-loop
-add-i c = omega (arith, (inside (c .before .before .before)))
-
-loop-less : tie.Need-loop-less Inv-loop μ-loop
-loop-less c = omega arith
+add-i c = omega (arith, inside (c .before .before .before))
 
 loop-again : tie.Need-loop-again Inv-loop μ-loop
-loop-again c = summing-more (c .before .before .before .before .loop .inv) (c .before .before .before .loop-test .taken) (c .before .before .live-mark .ensures)
+loop-again c = summing-more (at-loop c .loop .inv) (c .before .before .before .loop-test .taken) (c .before .before .live-mark .ensures)
 
 returns : tie.Need-returns Inv-loop μ-loop
 returns c = summing-ends (c .before .loop .inv) (c .loop-test .left)
@@ -85,8 +85,8 @@ sum-live-bytes-spec =
     μ-loop
     loop-holds
     live-mark-requires
-    cast-mark
-    mul-start
+    (λ c. search needs)
+    (λ c. search needs)
     shared-slice-read-start
     add-end
     mul-end
@@ -95,6 +95,6 @@ sum-live-bytes-spec =
     mul-total
     add-total
     add-i
-    loop-less
+    (λ c. omega arith)
     loop-again
     returns)

@@ -16,6 +16,10 @@ Inv-loop out₀ to width offsets j₀ done₀ out j done = Listing (widthOf widt
 abbrev μ-loop : tie.MeasureT-loop
 μ-loop out₀ to width offsets j₀ done₀ out j done = length offsets - j
 
+-- places that the answers go back to
+abbrev in-loop : tie.After-out Inv-loop μ-loop → tie.In-loop Inv-loop μ-loop
+in-loop c = c .before .before .before .before
+
 same : (c : tie.At-loop Inv-loop μ-loop) → length (c .loop .out) ≡ length (c .before .before .before .args .out .now)
 same c = listing-same (c .loop .inv)
 
@@ -29,30 +33,18 @@ loop-holds c = listing-begins (c .before .before .pre)
 add-put-offset : tie.Need-add-put-offset Inv-loop μ-loop
 add-put-offset c = omega (arith, room (c .before), same (c .before .before))
 
-mul-put-offset : tie.Need-mul-put-offset Inv-loop μ-loop
-mul-put-offset c = search needs
-
-shared-slice-read-put-offset : tie.Need-shared-slice-read-put-offset Inv-loop μ-loop
-shared-slice-read-put-offset c = omega arith
-
 put-offset-requires : tie.Need-put-offset-requires Inv-loop μ-loop
 put-offset-requires c κs = omega (arith, room (c .before .before), same (c .before .before .before))
 
-width-bytes-requires : tie.Need-width-bytes-requires Inv-loop μ-loop
-width-bytes-requires c κs = search needs
-
 add-done : tie.Need-add-done Inv-loop μ-loop
-add-done c = omega (arith, room (c .before .before .before .before .before .before), same (c .before .before .before .before .before .before .before), c .width-bytes .ensures)
-
-add-j : tie.Need-add-j Inv-loop μ-loop
-add-j c = omega arith
-
-loop-less : tie.Need-loop-less Inv-loop μ-loop
-loop-less c = omega arith
+add-done c =
+    let i = in-loop (c .before .before) in
+    omega (arith, room i, same (i .before), c .width-bytes .ensures)
 
 loop-again : tie.Need-loop-again Inv-loop μ-loop
 loop-again c =
-    listing-more (c .before .before .before .before .before .before .before .loop .inv) (c .before .before .before .before .before .before .loop-test .taken)
+    let i = in-loop (c .before .before) in
+    listing-more (i .before .loop .inv) (i .loop-test .taken)
     (c .before .before .before .put-offset .ensures) (c .width-bytes .ensures)
 
 same-length : tie.Need-same-length Inv-loop μ-loop
@@ -69,13 +61,13 @@ put-index-spec =
     μ-loop
     loop-holds
     add-put-offset
-    mul-put-offset
-    shared-slice-read-put-offset
+    (λ c. search needs)
+    (λ c. omega arith)
     put-offset-requires
-    width-bytes-requires
+    (λ c κs. search needs)
     add-done
-    add-j
-    loop-less
+    (λ c. omega arith)
+    (λ c. omega arith)
     loop-again
     same-length
     returns)

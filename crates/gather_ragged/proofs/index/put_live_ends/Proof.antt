@@ -13,6 +13,10 @@ use Rattle.gather_ragged.specs.Slices.{endsAt, Offsets}
 use Rattle.gather_ragged.proofs.index.put_live_ends.Statement.{statement}
 use Rattle.gather_ragged.proofs.index.put_live_ends.Tie as tie
 
+-- places that the answers go back to
+abbrev start : tie.After-shared-slice-known2 → tie.Start
+start c = c .before .before .before
+
 -- where what the level counts ends
 abbrev ends : tie.Start → ℕ → List ℕ
 ends c l = indexOf (widthOf (c .args .width)) (endsAt (c .args .offsets .now) 0 (liveAt (c .args .cells) (c .args .masks .now) l))
@@ -31,49 +35,28 @@ given : (c : tie.Start) {l : ℕ} → c .args .level ≡ l → {o : List ℕ} �
 given c {l = l} e q = q ∙ ap (λ (k : ℕ). overAt (c .args .to) (ends c k) (c .args .out .now)) (sym e)
 
 put-marked-ends-requires : tie.Need-put-marked-ends-requires
-put-marked-ends-requires c κs = asked (c .before .before .before .before .before) (c .before .match .keys1)
+put-marked-ends-requires c κs = asked (start (c .before .before)) (c .before .match .keys1)
 
 put-marked-ends-requires-2 : tie.Need-put-marked-ends-requires-2
-put-marked-ends-requires-2 c κs = asked (c .before .before .before .before .before) (c .before .match .keys2)
+put-marked-ends-requires-2 c κs = asked (start (c .before .before)) (c .before .match .keys2)
 
 put-marked-ends-requires-3 : tie.Need-put-marked-ends-requires-3
-put-marked-ends-requires-3 c κs = asked (c .before .before .before .before .before) (c .before .match .keys3)
+put-marked-ends-requires-3 c κs = asked (start (c .before .before)) (c .before .match .keys3)
 
 put-marked-ends-requires-4 : tie.Need-put-marked-ends-requires-4
-put-marked-ends-requires-4 c κs = asked (c .before .before .before .before .before) (c .before .match .keys4)
-
-put-marked-ends-requires-5 : tie.Need-put-marked-ends-requires-5
-put-marked-ends-requires-5 c κs = search needs
-
-same-length : tie.Need-same-length
-same-length c = search needs
+put-marked-ends-requires-4 c κs = asked (start (c .before .before)) (c .before .match .keys4)
 
 returns : tie.Need-returns
-returns c = given (c .before .before .before .before .before .before .before .before) (c .before .before .before .before .match .keys1) (c .before .before .put-marked-ends .ensures)
-
-same-length-2 : tie.Need-same-length-2
-same-length-2 c = search needs
+returns c = let m = c .before .before .before .before in given (start (m .before)) (m .match .keys1) (c .before .before .put-marked-ends .ensures)
 
 returns-2 : tie.Need-returns-2
-returns-2 c = given (c .before .before .before .before .before .before .before .before) (c .before .before .before .before .match .keys2) (c .before .before .put-marked-ends2 .ensures)
-
-same-length-3 : tie.Need-same-length-3
-same-length-3 c = search needs
+returns-2 c = let m = c .before .before .before .before in given (start (m .before)) (m .match .keys2) (c .before .before .put-marked-ends2 .ensures)
 
 returns-3 : tie.Need-returns-3
-returns-3 c = given (c .before .before .before .before .before .before .before .before) (c .before .before .before .before .match .keys3) (c .before .before .put-marked-ends3 .ensures)
-
-same-length-4 : tie.Need-same-length-4
-same-length-4 c = search needs
+returns-3 c = let m = c .before .before .before .before in given (start (m .before)) (m .match .keys3) (c .before .before .put-marked-ends3 .ensures)
 
 returns-4 : tie.Need-returns-4
-returns-4 c = given (c .before .before .before .before .before .before .before .before) (c .before .before .before .before .match .keys4) (c .before .before .put-marked-ends4 .ensures)
-
-same-length-5 : tie.Need-same-length-5
-same-length-5 c = search needs
-
-returns-5 : tie.Need-returns-5
-returns-5 c = search needs
+returns-4 c = let m = c .before .before .before .before in given (start (m .before)) (m .match .keys4) (c .before .before .put-marked-ends4 .ensures)
 
 pub put-live-ends-spec : {M : Type 1} → statement M
 put-live-ends-spec =
@@ -83,14 +66,14 @@ put-live-ends-spec =
     put-marked-ends-requires-2
     put-marked-ends-requires-3
     put-marked-ends-requires-4
-    put-marked-ends-requires-5
-    same-length
+    (λ c κs. search needs)
+    (λ c. search needs)
     returns
-    same-length-2
+    (λ c. search needs)
     returns-2
-    same-length-3
+    (λ c. search needs)
     returns-3
-    same-length-4
+    (λ c. search needs)
     returns-4
-    same-length-5
-    returns-5)
+    (λ c. search needs)
+    (λ c. search needs))

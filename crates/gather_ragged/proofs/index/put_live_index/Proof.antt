@@ -40,9 +40,6 @@ put-index-requires c κs =
 put-offset-requires : tie.Need-put-offset-requires
 put-offset-requires c κs = omega (arith, room (start (c .before .before)))
 
-width-bytes-requires : tie.Need-width-bytes-requires
-width-bytes-requires c κs = search needs
-
 add-behind : tie.Need-add-behind
 add-behind c = omega (arith, room (some c), c .width-bytes .ensures)
 
@@ -52,17 +49,11 @@ put-live-ends-requires c κs =
     let s = some w in
     (s .pre .0, s .pre .1, s .pre .2, omega (arith, room s, w .width-bytes .ensures, w .before .before .before .put-offset .kept .0))
 
-same-length : tie.Need-same-length
-same-length c = search needs
-
 returns : tie.Need-returns
 returns c =
     let e = c .before .before .before .before in
     let s = start (e .before) in
     laid-as (s .args .to) (s .args .out .now) (c .before .before .put-index .ensures) (full s (omega (arith, e .if1 .taken)))
-
-same-length-2 : tie.Need-same-length-2
-same-length-2 c = search needs
 
 returns-2 : tie.Need-returns-2
 returns-2 c =
@@ -78,10 +69,10 @@ put-live-index-spec =
     (tie.spec
     put-index-requires
     put-offset-requires
-    width-bytes-requires
+    (λ c κs. search needs)
     add-behind
     put-live-ends-requires
-    same-length
+    (λ c. search needs)
     returns
-    same-length-2
+    (λ c. search needs)
     returns-2)

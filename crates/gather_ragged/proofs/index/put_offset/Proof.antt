@@ -10,43 +10,38 @@ use borrow.Author.Needs.{needs}
 use Rattle.gather_ragged.proofs.index.put_offset.Statement.{statement}
 use Rattle.gather_ragged.proofs.index.put_offset.Tie as tie
 
-enum-told : tie.Need-enum-told
-enum-told c = search needs
+-- places that the answers go back to
+abbrev start : tie.After-enum-told → tie.Start
+start c = c .before .before .before
+
+abbrev start-of-enum-told2 : tie.After-enum-told2 → tie.Start
+start-of-enum-told2 c = c .before .before .before
 
 put-u32-requires : tie.Need-put-u32-requires
 put-u32-requires c κs = omega (arith, ap widthOf (c .before .enum-told .given .1))
 
-enum-told-2 : tie.Need-enum-told-2
-enum-told-2 c = search needs
-
 put-u64-requires : tie.Need-put-u64-requires
 put-u64-requires c κs = omega (arith, ap widthOf (c .before .enum-told2 .given .1))
 
-same-length : tie.Need-same-length
-same-length c = search needs
-
 returns : tie.Need-returns
 returns c =
-    let a = c .before .before .before .before .before .before .before .args in
+    let a = start (c .before .before .before .before) .args in
     c .before .before .put-u32 .ensures ∙ ap (λ (w : ℕ). overAt (a .at) (le w (a .v)) (a .out .now)) (sym (ap widthOf (c .before .before .before .before .enum-told .given .1)))
-
-same-length-2 : tie.Need-same-length-2
-same-length-2 c = search needs
 
 returns-2 : tie.Need-returns-2
 returns-2 c =
-    let a = c .before .before .before .before .before .before .before .args in
+    let a = start-of-enum-told2 (c .before .before .before .before) .args in
     c .before .before .put-u64 .ensures ∙ ap (λ (w : ℕ). overAt (a .at) (le w (a .v)) (a .out .now)) (sym (ap widthOf (c .before .before .before .before .enum-told2 .given .1)))
 
 pub put-offset-spec : {M : Type 1} → statement M
 put-offset-spec =
     tie.close
     (tie.spec
-    enum-told
+    (λ c. search needs)
     put-u32-requires
-    enum-told-2
+    (λ c. search needs)
     put-u64-requires
-    same-length
+    (λ c. search needs)
     returns
-    same-length-2
+    (λ c. search needs)
     returns-2)
