@@ -66,7 +66,8 @@ pub record SpreadingValues (size : ℕ) (o : Order) (p s d : List ℕ) (at cells
   pub count : k + countSet (drop i p) ≡ cells
   pub laid : Laying (valuesLeft size o p s 0 at) d 0 out (i * size) (valuesLeft size o p s i (at + k * size))
 
-values-begin : (size : ℕ) (o : Order) (p s d : List ℕ) (at : ℕ) {cells : ℕ} → length p * size ≤ length d → cells ≡ countSet p → at + cells * size ≤ length s → SpreadingValues size o p s d at cells d 0 0
+values-begin : (size : ℕ) (o : Order) (p s d : List ℕ) (at : ℕ) {cells : ℕ} → length p * size ≤ length d → cells ≡ countSet p → at + cells * size ≤ length s
+    → SpreadingValues size o p s d at cells d 0 0
 values-begin size o p s d at r e h =
     let l : length (valuesLeft size o p s 0 at) ≡ length p * size = values-length size o p s at (omega (arith, ap (λ (k : ℕ). k * size) e)) in
     let z : 0 ≡ 0 * size = sym (zero-mul size) in
