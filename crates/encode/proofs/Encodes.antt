@@ -50,8 +50,7 @@ module _ (k : Kind) (shape : List ℕ) (c : Content) (out : List ℕ) where
       encode-content {number} e =
           let s : Counted shape n = counted shape n q in
           sym
-          (rw (p, s .passes)
-          (ap (λ (a : Answer (List ℕ)). listOutcome a out)
+          (rw (p, s .passes) (ap (λ (a : Answer (List ℕ)). listOutcome a out)
           (ap (λ (m : ℕ). unlessKept k m c (whole m)) (sym (s .is)) ∙ check-refused k n c r f (whole n) number e)))
 
       pub encode-encodable : r ≡ Checked.Valid → Encodable k n c
@@ -66,8 +65,7 @@ module _ (k : Kind) (shape : List ℕ) (c : Content) (out : List ℕ) where
       encode-rest e =
           let s : Counted shape n = counted shape n q in
           sym
-          (rw (p, s .passes)
-          (ap (λ (a : Answer (List ℕ)). listOutcome a out)
+          (rw (p, s .passes) (ap (λ (a : Answer (List ℕ)). listOutcome a out)
           (ap (λ (m : ℕ). unlessKept k m c (whole m)) (sym (s .is)) ∙ check-passed k n c r f e (whole n))))
 
 -- ---- refusal 6, or the stored form

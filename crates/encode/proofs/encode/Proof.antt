@@ -44,23 +44,11 @@ sound c = sym (c .before .check-kind .ensures) ∙ not-false (c .before .check-k
 shape-is : (c : tie.After-cells) → gives (c .cells .given .0 .0) ≡ shapeAnswer (shaped (cells c) .args .shape .now)
 shape-is c = sym (ap toldCells (c .cells .given .1)) ∙ cells c .shape-cells .ensures
 
-check-kind-requires : tie.Need-check-kind-requires
-check-kind-requires c κs = search needs
-
 returns : tie.Need-returns
 returns c =
     let k = c .before .check-kind in
     let s = start (c .before) in
     encode-kind (kindOf (s .args .kind)) (s .args .shape .now) (held s) (s .args .out .now) (sym (k .ensures) ∙ not-true (k .result) (c .if1 .taken))
-
-shape-cells-requires : tie.Need-shape-cells-requires
-shape-cells-requires c κs = search needs
-
-enum-known-cells : tie.Need-enum-known-cells
-enum-known-cells c = search needs
-
-enum-told : tie.Need-enum-told
-enum-told c = search needs
 
 returns-2 : tie.Need-returns-2
 returns-2 c =
@@ -71,12 +59,6 @@ returns-2 c =
 check-array-requires : tie.Need-check-array-requires
 unfolding mostCells
 check-array-requires c κs = let n = c .before in counted (shaped (cells n) .args .shape .now) (n .cells .given .0 .0) (shape-is n) .few
-
-enum-known-checked : tie.Need-enum-known-checked
-enum-known-checked c = search needs
-
-enum-told-2 : tie.Need-enum-told-2
-enum-told-2 c = search needs
 
 encode-valid-requires : tie.Need-encode-valid-requires
 encode-valid-requires c κs =
@@ -94,9 +76,6 @@ returns-3 c =
     encode-content (kindOf (s .args .kind)) (s .args .shape .now) (held s) (s .args .out .now) (sound (cells n .before)) (shape-is n) (v .check-array .result) (v .check-array .ensures)
     (c .before .checked .given .1)
 
-same-length : tie.Need-same-length
-same-length c = search needs
-
 returns-4 : tie.Need-returns-4
 returns-4 c =
     let e = c .before .before .before .before in
@@ -111,16 +90,16 @@ pub encode-spec : {M : Type 1} → statement M
 encode-spec =
     tie.close
     (tie.spec
-    check-kind-requires
+    (λ c κs. search needs)
     returns
-    shape-cells-requires
-    enum-known-cells
-    enum-told
+    (λ c κs. search needs)
+    (λ c. search needs)
+    (λ c. search needs)
     returns-2
     check-array-requires
-    enum-known-checked
-    enum-told-2
+    (λ c. search needs)
+    (λ c. search needs)
     encode-valid-requires
     returns-3
-    same-length
+    (λ c. search needs)
     returns-4)

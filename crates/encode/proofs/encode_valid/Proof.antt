@@ -27,9 +27,6 @@ write-stored-requires c κs =
     let s = measured n in
     (s .pre, encode-room (s .pre) (s .args .out .now) (n .stored-length .ensures) (c .before .if1 .left))
 
-same-length : tie.Need-same-length
-same-length c = search needs
-
 returns-2 : tie.Need-returns-2
 returns-2 c =
     let e = c .before .before .before .before in
@@ -38,5 +35,4 @@ returns-2 c =
     encode-written (s .pre) (s .args .out .now) (n .stored-length .ensures) (e .if1 .left) (c .before .before .write-stored .ensures)
 
 pub encode-valid-spec : {M : Type 1} → statement M
-encode-valid-spec =
-    tie.close (tie.spec stored-length-requires returns write-stored-requires same-length returns-2)
+encode-valid-spec = tie.close (tie.spec stored-length-requires returns write-stored-requires (λ c. search needs) returns-2)

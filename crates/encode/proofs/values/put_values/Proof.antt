@@ -31,15 +31,6 @@ ragged-form c = c .before .before
 abbrev held : tie.Start → Content
 held s = contentArray (s .args .masks .now) (s .args .values .now) (s .args .offsets .now)
 
-cast-level : tie.Need-cast-level
-cast-level c = search needs
-
-enum-known-form : tie.Need-enum-known-form
-enum-known-form c = search needs
-
-cast-k : tie.Need-cast-k
-cast-k c = search needs
-
 put-live-requires : tie.Need-put-live-requires
 put-live-requires c κs =
     let f = fixed-form c in
@@ -54,9 +45,6 @@ mul-result c =
     let s = of-fixed f in
     omega (arith, s .pre .1 .1, fixed-wrote (s .args .kind) (s .pre .1 .0) (f .form .given .1) (s .pre .0))
 
-enum-known-form-2 : tie.Need-enum-known-form-2
-enum-known-form-2 c = search needs
-
 put-ragged-requires : tie.Need-put-ragged-requires
 put-ragged-requires c κs =
     let f = ragged-form c in
@@ -70,9 +58,6 @@ put-ragged-requires c κs =
       omega (arith, s .pre .1 .1, ap length (ragged-writes k r (f .form2 .given .1))),
     )
 
-same-length : tie.Need-same-length
-same-length c = search needs
-
 returns : tie.Need-returns
 returns c =
     let f = fixed-form (c .before .before .before) in
@@ -80,9 +65,6 @@ returns c =
     let a = s .args in
     let r = s .pre .1 .0 in
     (fixed-wrote (a .kind) r (f .form .given .1) (s .pre .0), laid-as (a .at) (a .out .now) (c .before .before .put-live .ensures) (fixed-writes (a .kind) r (f .form .given .1)))
-
-same-length-2 : tie.Need-same-length-2
-same-length-2 c = search needs
 
 returns-2 : tie.Need-returns-2
 returns-2 c =
@@ -95,14 +77,14 @@ pub put-values-spec : {M : Type 1} → statement M
 put-values-spec =
     tie.close
     (tie.spec
-    cast-level
-    enum-known-form
-    cast-k
+    (λ c. search needs)
+    (λ c. search needs)
+    (λ c. search needs)
     put-live-requires
     mul-result
-    enum-known-form-2
+    (λ c. search needs)
     put-ragged-requires
-    same-length
+    (λ c. search needs)
     returns
-    same-length-2
+    (λ c. search needs)
     returns-2)

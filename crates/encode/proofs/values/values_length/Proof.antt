@@ -26,23 +26,8 @@ index-small w =
     let s = of-ragged (form w) in
     omega (arith, ragged-small (s .args .kind) (s .pre .1) (s .pre .0) (form w .form2 .given .1) (w .width-bytes .ensures) refl)
 
-cast-level : tie.Need-cast-level
-cast-level c = search needs
-
-enum-known-form : tie.Need-enum-known-form
-enum-known-form c = search needs
-
-cast-result : tie.Need-cast-result
-cast-result c = search needs
-
 mul-result : tie.Need-mul-result
 mul-result c = let s = of-fixed (c .before) in omega (arith, fixed-small (s .args .kind) (s .pre .1) (s .pre .0) (c .before .form .given .1))
-
-enum-known-form-2 : tie.Need-enum-known-form-2
-enum-known-form-2 c = search needs
-
-width-bytes-requires : tie.Need-width-bytes-requires
-width-bytes-requires c κs = search needs
 
 add-index : tie.Need-add-index
 add-index c = let s = of-ragged (form c) in omega (arith, count-small (s .args .kind) (s .pre .1) (s .pre .0))
@@ -77,12 +62,12 @@ pub values-length-spec : {M : Type 1} → statement M
 values-length-spec =
     tie.close
     (tie.spec
-    cast-level
-    enum-known-form
-    cast-result
+    (λ c. search needs)
+    (λ c. search needs)
+    (λ c. search needs)
     mul-result
-    enum-known-form-2
-    width-bytes-requires
+    (λ c. search needs)
+    (λ c κs. search needs)
     add-index
     mul-index
     add-result

@@ -45,8 +45,7 @@ abbrev μ-write-frame : Measures 4 write-frame-kinds.ps ℕ
 μ-write-frame κs a = 2 * (a .1 .1 .1 .1 .1 .1 .1 .0)
 
 abbrev write-content-at : ℕ → In 4 write-content-kinds.ps
-write-content-at t =
-    and 4 write-content-kinds.ps (is 4 write-content-kinds.ps μ-write-content t) write-content.Pre
+write-content-at t = and 4 write-content-kinds.ps (is 4 write-content-kinds.ps μ-write-content t) write-content.Pre
 
 abbrev write-content-below : ℕ → In 4 write-content-kinds.ps
 write-content-below t =
@@ -57,12 +56,10 @@ write-content-below t =
     write-content.Pre
 
 abbrev write-frame-at : ℕ → In 4 write-frame-kinds.ps
-write-frame-at t =
-    and 4 write-frame-kinds.ps (is 4 write-frame-kinds.ps μ-write-frame t) write-frame.Pre
+write-frame-at t = and 4 write-frame-kinds.ps (is 4 write-frame-kinds.ps μ-write-frame t) write-frame.Pre
 
 abbrev write-frame-below : ℕ → In 4 write-frame-kinds.ps
-write-frame-below t =
-    and 4 write-frame-kinds.ps (falls 4 write-frame-kinds.ps _<_ μ-write-frame t) write-frame.Pre
+write-frame-below t = and 4 write-frame-kinds.ps (falls 4 write-frame-kinds.ps _<_ μ-write-frame t) write-frame.Pre
 
 -- the readings of what each member calls
 abbrev claims-write-content : ℕ → write-content-lts.Claims
@@ -317,8 +314,7 @@ write-frame-returns t c =
     )
 
 pub +write-content+write-frame-spec : {M : Type 1} → statement M
-+write-content+write-frame-spec = close μ-write-content μ-write-frame (λ t. write-content-lts.spec (claims-write-content t)
-    (write-content-at t)
++write-content+write-frame-spec = close μ-write-content μ-write-frame (λ t. write-content-lts.spec (claims-write-content t) (write-content-at t)
     write-content.Post
     (write-content-cast-level t)
     (write-content-sub-level t)
