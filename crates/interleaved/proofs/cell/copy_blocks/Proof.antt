@@ -23,21 +23,12 @@ loop-holds c =
     let a = c .before .before .args in
     blocks-begin (a .size) (a .bytes .now) (a .at) (a .to) (a .values .now) (omega (arith, c .before .before .pre))
 
-add-copy-few : tie.Need-add-copy-few Inv-loop μ-loop
-add-copy-few c = search needs
-
-add-copy-few-2 : tie.Need-add-copy-few-2 Inv-loop μ-loop
-add-copy-few-2 c = search needs
-
 copy-few-requires : tie.Need-copy-few-requires Inv-loop μ-loop
 copy-few-requires c κs =
     let loop = c .before .before in
     let test = c .before .loop-test .taken in
     let pre = start loop .pre in
     (omega (arith, pre, test, blocks-same (loop .loop .inv) (omega (arith, pre))), omega (arith, pre, test), omega arith)
-
-add-done : tie.Need-add-done Inv-loop μ-loop
-add-done c = search needs
 
 loop-less : tie.Need-loop-less Inv-loop μ-loop
 loop-less c = omega (arith, c .before .before .before .before .loop-test .taken)
@@ -61,10 +52,10 @@ copy-blocks-spec =
     Inv-loop
     μ-loop
     loop-holds
-    add-copy-few
-    add-copy-few-2
+    (λ c. search needs)
+    (λ c. search needs)
     copy-few-requires
-    add-done
+    (λ c. search needs)
     loop-less
     loop-again
     same-length

@@ -6,33 +6,13 @@ use borrow.Author.Needs.{needs}
 use Rattle.interleaved.proofs.cell.copy_cell.Statement.{statement}
 use Rattle.interleaved.proofs.cell.copy_cell.Tie as tie
 
-sub-blocks : tie.Need-sub-blocks
-sub-blocks c = search needs
-
-mul-blocks : tie.Need-mul-blocks
-mul-blocks c = search needs
-
-add-blocks : tie.Need-add-blocks
-add-blocks c = search needs
-
-copy-bytes-requires : tie.Need-copy-bytes-requires
-copy-bytes-requires c κs = search needs
-
-copy-bytes-requires-2 : tie.Need-copy-bytes-requires-2
-copy-bytes-requires-2 c κs = search needs
-
-same-length : tie.Need-same-length
-same-length c = search needs
-
-returns : tie.Need-returns
-returns c = search needs
-
-same-length-2 : tie.Need-same-length-2
-same-length-2 c = search needs
+-- places that the answers go back to
+abbrev start : tie.Else1 → tie.Start
+start c = c .before .before .before
 
 returns-2 : tie.Need-returns-2
 returns-2 c =
-    let args = c .before .before .before .before .before .before .before .args in
+    let args = start (c .before .before .before .before) .args in
     record {
       count = (args .size - 1) / 32 * 32 + 32;
       enough = omega arith;
@@ -44,12 +24,12 @@ pub copy-cell-spec : {M : Type 1} → statement M
 copy-cell-spec =
     tie.close
     (tie.spec
-    sub-blocks
-    mul-blocks
-    add-blocks
-    copy-bytes-requires
-    copy-bytes-requires-2
-    same-length
-    returns
-    same-length-2
+    (λ c. search needs)
+    (λ c. search needs)
+    (λ c. search needs)
+    (λ c κs. search needs)
+    (λ c κs. search needs)
+    (λ c. search needs)
+    (λ c. search needs)
+    (λ c. search needs)
     returns-2)

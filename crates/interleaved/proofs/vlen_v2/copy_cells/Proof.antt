@@ -14,19 +14,26 @@ Inv-loop values₀ offsets₀ bytes cells sum i₀ at₀ to₀ values offsets i 
 abbrev μ-loop : tie.MeasureT-loop
 μ-loop values₀ offsets₀ bytes cells sum i₀ at₀ to₀ values offsets i at to = cells - i
 
+-- places that the answers go back to
+abbrev begun : tie.At-loop Inv-loop μ-loop → tie.Start Inv-loop μ-loop
+begun c = c .before .before .before .before
+
+abbrev after-le4-at : tie.After-values Inv-loop μ-loop → tie.After-le4-at Inv-loop μ-loop
+after-le4-at c = c .before .before .before .before
+
 -- the place of the next offset, and the cell
-place : (c : tie.At-loop Inv-loop μ-loop) → c .loop .i < length (c .before .before .before .before .args .offsets .now)
+place : (c : tie.At-loop Inv-loop μ-loop) → c .loop .i < length (begun c .args .offsets .now)
 place c = omega (arith, copy-room (c .loop .inv), copy-same (c .loop .inv))
 
 cell : (c : tie.After-le4-at Inv-loop μ-loop)
-    → c .before .before .loop .at + 4 + c .le4-at .result ≤ length (c .before .before .before .before .before .before .args .bytes .now)
+    → c .before .before .loop .at + 4 + c .le4-at .result ≤ length (begun (c .before .before) .args .bytes .now)
 cell c = copy-cell (c .before .before .loop .inv) (c .before .loop-test .taken) (c .le4-at .result) (c .le4-at .ensures)
 
 -- its room among the values
-room : (c : tie.After-le4-at Inv-loop μ-loop) → let start = c .before .before .before .before .before .before in
+room : (c : tie.After-le4-at Inv-loop μ-loop) → let start = begun (c .before .before) in
     (c .before .before .loop .to ≤ start .args .sum) × (c .le4-at .result ≤ start .args .sum - c .before .before .loop .to)
 room c =
-    let start = c .before .before .before .before .before .before in
+    let start = begun (c .before .before) in
     copy-fits (c .before .before .loop .inv) (c .before .loop-test .taken) (c .le4-at .result) (c .le4-at .ensures) (start .pre .1)
 
 loop-holds : tie.Need-loop-holds Inv-loop μ-loop
@@ -55,7 +62,7 @@ sub-copy-cell c = room (c .before .before) .0
 copy-cell-requires : tie.Need-copy-cell-requires Inv-loop μ-loop
 copy-cell-requires c κs =
     let read = c .before .before in
-    let start = read .before .before .before .before .before .before in (
+    let start = begun (read .before .before) in (
       c .before .if1 .taken,
       room read .1,
       omega (arith, room read, start .pre .2, read .before .before .loop .inv .placed .same),
@@ -63,23 +70,17 @@ copy-cell-requires c κs =
     )
 
 add-at-2 : tie.Need-add-at-2 Inv-loop μ-loop
-add-at-2 c = omega (arith, cell (c .before .before .before .before .before))
+add-at-2 c = omega (arith, cell (after-le4-at (c .before)))
 
 add-to : tie.Need-add-to Inv-loop μ-loop
-add-to c = omega (arith, room (c .before .before .before .before .before))
-
-loop-less : tie.Need-loop-less Inv-loop μ-loop
-loop-less c = omega arith
+add-to c = omega (arith, room (after-le4-at (c .before)))
 
 loop-again : tie.Need-loop-again Inv-loop μ-loop
 loop-again c =
-    let read = c .before .before .before .before .before in
-    let start = read .before .before .before .before .before .before in
+    let read = after-le4-at (c .before) in
+    let start = begun (read .before .before) in
     copy-more (read .before .before .loop .inv) (read .before .loop-test .taken) (read .le4-at .result) (read .le4-at .ensures) (start .pre .1)
     (c .before .before .copy-cell .ensures)
-
-loop-less-2 : tie.Need-loop-less-2 Inv-loop μ-loop
-loop-less-2 c = omega arith
 
 loop-again-2 : tie.Need-loop-again-2 Inv-loop μ-loop
 loop-again-2 c =
@@ -116,9 +117,9 @@ copy-cells-spec =
     copy-cell-requires
     add-at-2
     add-to
-    loop-less
+    (λ c. omega arith)
     loop-again
-    loop-less-2
+    (λ c. omega arith)
     loop-again-2
     mul-offsets-2
     slice-write-offsets-2

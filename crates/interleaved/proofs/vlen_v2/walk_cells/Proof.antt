@@ -18,23 +18,22 @@ Inv-loop bytes cells left₀ at₀ sum₀ last₀ left at sum last = Walking cel
 abbrev μ-loop : tie.MeasureT-loop
 μ-loop bytes cells left₀ at₀ sum₀ last₀ left at sum last = left
 
+-- places that the answers go back to
+abbrev start : tie.In-loop Inv-loop μ-loop → tie.Start Inv-loop μ-loop
+start c = c .before .before .before
+
+abbrev in-loop : tie.After-known-told Inv-loop μ-loop → tie.In-loop Inv-loop μ-loop
+in-loop c = c .before .before .before .before
+
 -- the field that was read
 read : (c : tie.After-known-told Inv-loop μ-loop)
-    → (4 ≤ length (c .before .before .before .before .before .before .before .args .bytes .now) - c .before .before .before .before .before .loop .at)
-    × (c .before .field .given .0 .0 ≡ lengthAt (c .before .before .before .before .before .before .before .args .bytes .now) (c .before .before .before .before .before .loop .at))
+    → let i = in-loop c in
+    (4 ≤ length (start i .args .bytes .now) - i .before .loop .at)
+    × (c .before .field .given .0 .0 ≡ lengthAt (start i .args .bytes .now) (i .before .loop .at))
 read c = field-value 4 11 _ _ _ (sym (c .before .before .before .read-u32 .ensures) ∙ ap toldField (c .before .field .given .1))
 
 loop-holds : tie.Need-loop-holds Inv-loop μ-loop
 loop-holds c = walk-begins _ _
-
-read-u32-requires : tie.Need-read-u32-requires Inv-loop μ-loop
-read-u32-requires c κs = search needs
-
-enum-known-field : tie.Need-enum-known-field Inv-loop μ-loop
-enum-known-field c = search needs
-
-enum-told : tie.Need-enum-told Inv-loop μ-loop
-enum-told c = search needs
 
 returns : tie.Need-returns Inv-loop μ-loop
 returns c =
@@ -44,12 +43,10 @@ returns c =
 add-at : tie.Need-add-at Inv-loop μ-loop
 add-at c = omega (arith, read c)
 
-sub-left : tie.Need-sub-left Inv-loop μ-loop
-sub-left c = search needs
-
 -- where it is the length before
 same : (c : tie.Then2 Inv-loop μ-loop)
-    → c .before .before .before .before .before .before .before .loop .last ≡ lengthAt (c .before .before .before .before .before .before .before .before .before .args .bytes .now) (c .before .before .before .before .before .before .before .loop .at)
+    → let i = in-loop (c .before .before) in
+    i .before .loop .last ≡ lengthAt (start i .args .bytes .now) (i .before .loop .at)
 same c = sym (c .if2 .taken) ∙ read (c .before .before) .1
 
 sub-if3 : tie.Need-sub-if3 Inv-loop μ-loop
@@ -57,7 +54,7 @@ sub-if3 c = omega (arith, read (c .before .before))
 
 returns-2 : tie.Need-returns-2 Inv-loop μ-loop
 returns-2 c =
-    let turn = c .before .before .before .before .before .before .before in
+    let turn = in-loop (c .before .before .before) in
     walk-cell-past (turn .before .loop .inv) (turn .loop-test .taken) (read (c .before .before .before) .0) (same (c .before)) (c .if3 .taken)
 
 add-at-2 : tie.Need-add-at-2 Inv-loop μ-loop
@@ -66,12 +63,9 @@ add-at-2 c = omega (arith, read (c .before .before .before))
 add-sum : tie.Need-add-sum Inv-loop μ-loop
 add-sum c = omega (arith, read (c .before .before .before))
 
-loop-less : tie.Need-loop-less Inv-loop μ-loop
-loop-less c = omega arith
-
 loop-again : tie.Need-loop-again Inv-loop μ-loop
 loop-again c =
-    let turn = c .before .before .before .before .before .before .before in
+    let turn = in-loop (c .before .before .before) in
     walk-more (turn .before .loop .inv) (turn .loop-test .taken) (read (c .before .before .before) .0) (same (c .before)) (c .if3 .left)
 
 sub-if4 : tie.Need-sub-if4 Inv-loop μ-loop
@@ -80,7 +74,7 @@ sub-if4 c = omega (arith, read (c .before .before))
 returns-3 : tie.Need-returns-3 Inv-loop μ-loop
 returns-3 c =
     let told = c .before .before .before in
-    let turn = told .before .before .before .before in
+    let turn = in-loop told in
     walk-cell-past (turn .before .loop .inv) (turn .loop-test .taken) (read told .0) (read told .1) (c .if4 .taken)
 
 add-at-3 : tie.Need-add-at-3 Inv-loop μ-loop
@@ -89,22 +83,16 @@ add-at-3 c = omega (arith, read (c .before .before .before))
 add-sum-2 : tie.Need-add-sum-2 Inv-loop μ-loop
 add-sum-2 c = omega (arith, read (c .before .before .before))
 
-loop-less-2 : tie.Need-loop-less-2 Inv-loop μ-loop
-loop-less-2 c = omega arith
-
 loop-again-2 : tie.Need-loop-again-2 Inv-loop μ-loop
 loop-again-2 c =
     let told = c .before .before .before in
-    let turn = told .before .before .before .before in
+    let turn = in-loop told in
     walk-more (turn .before .loop .inv) (turn .loop-test .taken) (read told .0) (read told .1) (c .if4 .left)
-
-loop-less-3 : tie.Need-loop-less-3 Inv-loop μ-loop
-loop-less-3 c = omega arith
 
 loop-again-3 : tie.Need-loop-again-3 Inv-loop μ-loop
 loop-again-3 c =
     let told = c .before in
-    let turn = told .before .before .before .before in
+    let turn = in-loop told in
     walk-none (turn .before .loop .inv) (turn .loop-test .taken) (read told .0) (read told .1) (c .if1 .left)
 
 returns-4 : tie.Need-returns-4 Inv-loop μ-loop
@@ -117,24 +105,24 @@ walk-cells-spec =
     Inv-loop
     μ-loop
     loop-holds
-    read-u32-requires
-    enum-known-field
-    enum-told
+    (λ c κs. search needs)
+    (λ c. search needs)
+    (λ c. search needs)
     returns
     add-at
-    sub-left
+    (λ c. search needs)
     sub-if3
     returns-2
     add-at-2
     add-sum
-    loop-less
+    (λ c. omega arith)
     loop-again
     sub-if4
     returns-3
     add-at-3
     add-sum-2
-    loop-less-2
+    (λ c. omega arith)
     loop-again-2
-    loop-less-3
+    (λ c. omega arith)
     loop-again-3
     returns-4)

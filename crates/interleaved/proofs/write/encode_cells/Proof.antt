@@ -11,20 +11,11 @@ use Rattle.interleaved.proofs.write.encode_cells.Tie as tie
 
 -- the start, from the place where the array is checked
 abbrev start : tie.After-check-array → tie.Start
-start k = k .before .before .before .before .before
+start k = let p = k .before in p .before .before .before .before
 
 -- the array that is handed over
 abbrev content : tie.Start → Content
 content s = contentArray (s .args .masks .now) (s .args .values .now) (s .args .offsets .now)
-
-check-array-requires : tie.Need-check-array-requires
-check-array-requires c κs = search needs
-
-enum-known-checked : tie.Need-enum-known-checked
-enum-known-checked c = search needs
-
-enum-told : tie.Need-enum-told
-enum-told c = search needs
 
 write-cells-requires : tie.Need-write-cells-requires
 write-cells-requires c κs =
@@ -38,9 +29,6 @@ returns c =
     let s = start k in
     write-content (kindOf (s .args .kind)) (s .args .cells) (content s) (s .args .out .now) (k .check-array .ensures) (c .before .checked .given .1)
 
-same-length : tie.Need-same-length
-same-length c = search needs
-
 returns-2 : tie.Need-returns-2
 returns-2 c =
     let told = c .before .before .before .before in
@@ -51,12 +39,4 @@ returns-2 c =
 
 pub encode-cells-spec : {M : Type 1} → statement M
 encode-cells-spec =
-    tie.close
-    (tie.spec
-    check-array-requires
-    enum-known-checked
-    enum-told
-    write-cells-requires
-    returns
-    same-length
-    returns-2)
+    tie.close (tie.spec (λ c κs. search needs) (λ c. search needs) (λ c. search needs) write-cells-requires returns (λ c. search needs) returns-2)

@@ -27,6 +27,13 @@ start c = entry (c .before .before)
 abbrev right : tie.After-cells → tie.Else1
 right c = c .before .before .before
 
+-- places that the answers go back to
+abbrev after-cells : tie.Else2 → tie.After-cells
+after-cells c = c .before .before
+
+abbrev then2 : tie.After-slice-known2 → tie.Then2
+then2 c = c .before .before .before .before
+
 -- the array that is handed over
 abbrev content : tie.Start → Content
 content s = contentArray (s .args .masks .now) (s .args .values .now) (s .args .offsets .now)
@@ -37,23 +44,11 @@ sound c = sym (c .before .is-interleaved .ensures) ∙ not-false (c .before .is-
 shaped : (c : tie.After-cells) → gives (c .cells .given .0 .0) ≡ shapeAnswer (start (right c .before) .args .shape .now)
 shaped c = sym (ap toldCells (c .cells .given .1)) ∙ c .before .before .shape-cells .ensures
 
-is-interleaved-requires : tie.Need-is-interleaved-requires
-is-interleaved-requires c κs = search needs
-
 returns : tie.Need-returns
 returns c =
     let s = start (c .before) in
     write-kind (kindOf (s .args .kind)) (s .args .shape .now) (content s) (s .args .out .now)
     (sym (c .before .is-interleaved .ensures) ∙ not-true (c .before .is-interleaved .result) (c .if1 .taken))
-
-shape-cells-requires : tie.Need-shape-cells-requires
-shape-cells-requires c κs = search needs
-
-enum-known-cells : tie.Need-enum-known-cells
-enum-known-cells c = search needs
-
-enum-told : tie.Need-enum-told
-enum-told c = search needs
 
 returns-2 : tie.Need-returns-2
 returns-2 c =
@@ -65,29 +60,23 @@ returns-2 c =
 encode-one-requires : tie.Need-encode-one-requires
 encode-one-requires c κs = sound (right (c .before .before .before))
 
-same-length : tie.Need-same-length
-same-length c = search needs
-
 returns-3 : tie.Need-returns-3
 returns-3 c =
-    let k = c .before .before .before .before .before .before in
+    let k = then2 c .before .before in
     let s = start (right k .before) in
     c .before .before .encode-one .ensures
     ∙ write-past (kindOf (s .args .kind)) (s .args .shape .now) (content s) (s .args .out .now) (sound (right k))
-    (ap gives (sym (c .before .before .before .before .if2 .taken)) ∙ shaped k)
+    (ap gives (sym (then2 c .if2 .taken)) ∙ shaped k)
 
 encode-cells-requires : tie.Need-encode-cells-requires
 unfolding mostCells
 encode-cells-requires c κs =
-    let k = c .before .before .before in
+    let k = after-cells (c .before) in
     (sound (right k), counted (start (right k .before) .args .shape .now) (k .cells .given .0 .0) (shaped k) .few)
-
-same-length-2 : tie.Need-same-length-2
-same-length-2 c = search needs
 
 returns-4 : tie.Need-returns-4
 returns-4 c =
-    let k = c .before .before .before .before .before .before in
+    let k = after-cells (c .before .before .before .before) in
     let s = start (right k .before) in
     c .before .before .encode-cells .ensures
     ∙ write-past (kindOf (s .args .kind)) (s .args .shape .now) (content s) (s .args .out .now) (sound (right k)) (shaped k)
@@ -96,15 +85,15 @@ pub encode-interleaved-spec : {M : Type 1} → statement M
 encode-interleaved-spec =
     tie.close
     (tie.spec
-    is-interleaved-requires
+    (λ c κs. search needs)
     returns
-    shape-cells-requires
-    enum-known-cells
-    enum-told
+    (λ c κs. search needs)
+    (λ c. search needs)
+    (λ c. search needs)
     returns-2
     encode-one-requires
-    same-length
+    (λ c. search needs)
     returns-3
     encode-cells-requires
-    same-length-2
+    (λ c. search needs)
     returns-4)

@@ -19,7 +19,7 @@ use Rattle.array.specs.Buffers.{putList}
 
 -- the start, from the place where the array is checked
 abbrev start : tie.After-check-array → tie.Start
-start k = k .before .before .before .before .before
+start k = let p = k .before in p .before .before .before .before
 
 -- the array that is handed over
 abbrev content : tie.Start → Content
@@ -29,14 +29,8 @@ check-array-requires : tie.Need-check-array-requires
 unfolding mostCells
 check-array-requires c κs = omega arith
 
-enum-known-checked : tie.Need-enum-known-checked
-enum-known-checked c = search needs
-
-enum-told : tie.Need-enum-told
-enum-told c = search needs
-
 -- the one cell is held
-held : (told : tie.After-enum-told) → Held 1 (start (told .before .before) .args .values .now) (start (told .before .before) .args .offsets .now)
+held : (told : tie.After-enum-told) → let a = start (told .before .before) .args in Held 1 (a .values .now) (a .offsets .now)
 unfolding mostCells
 held told =
     let k = told .before .before in
@@ -52,9 +46,6 @@ returns c =
     let s = start k in
     write-content (kindOf (s .args .kind)) 1 (content s) (s .args .out .now) (k .check-array .ensures) (c .before .checked .given .1)
 
-same-length : tie.Need-same-length
-same-length c = search needs
-
 returns-2 : tie.Need-returns-2
 returns-2 c =
     let told = c .before .before .before .before in
@@ -66,12 +57,4 @@ returns-2 c =
 
 pub encode-one-spec : {M : Type 1} → statement M
 encode-one-spec =
-    tie.close
-    (tie.spec
-    check-array-requires
-    enum-known-checked
-    enum-told
-    write-one-requires
-    returns
-    same-length
-    returns-2)
+    tie.close (tie.spec check-array-requires (λ c. search needs) (λ c. search needs) write-one-requires returns (λ c. search needs) returns-2)

@@ -13,20 +13,11 @@ use Rattle.interleaved.proofs.write.is_interleaved.Tie as tie
 sound : (c : tie.Else1) → kindTest (kindOf (c .before .before .args .kind)) ≡ true
 sound c = sym (c .before .check-kind .ensures) ∙ not-false (c .before .check-kind .result) (c .if1 .left)
 
-check-kind-requires : tie.Need-check-kind-requires
-check-kind-requires c κs = search needs
-
 returns : tie.Need-returns
 returns c = kind-wrong (c .before .before .args .kind) (sym (c .before .check-kind .ensures) ∙ not-true (c .before .check-kind .result) (c .if1 .taken))
 
 returns-2 : tie.Need-returns-2
 returns-2 c = kind-deep (c .before .before .before .args .kind) (sound (c .before)) (c .if2 .taken)
-
-enum-told : tie.Need-enum-told
-enum-told c = search needs
-
-enum-told-2 : tie.Need-enum-told-2
-enum-told-2 c = search needs
 
 returns-3 : tie.Need-returns-3
 returns-3 c =
@@ -39,6 +30,4 @@ returns-4 c =
     kind-flat (flat .before .before .before .args .kind) (sound (flat .before)) (flat .if2 .left) (c .enum-told2 .given .1)
 
 pub is-interleaved-spec : {M : Type 1} → statement M
-is-interleaved-spec =
-    tie.close
-    (tie.spec check-kind-requires returns returns-2 enum-told enum-told-2 returns-3 returns-4)
+is-interleaved-spec = tie.close (tie.spec (λ c κs. search needs) returns returns-2 (λ c. search needs) (λ c. search needs) returns-3 returns-4)

@@ -43,6 +43,10 @@ counted l = l .before .before .before
 abbrev head : Told → Head
 head t = t .before .before .before .before
 
+-- places that the answers go back to
+abbrev after-put-u322 : tie.After-put-cell-arg Inv-loop μ-loop → Told
+after-put-u322 c = c .before .before .before .before
+
 -- the length is far from wrapping
 long : (l : Head) → length (interleavedOf (start (counted l) .args .values .now) (start (counted l) .args .offsets .now)) ≤ 17039364
 unfolding mostBytes mostCells
@@ -86,12 +90,12 @@ add-at c =
 
 sub-put-cell : tie.Need-sub-put-cell Inv-loop μ-loop
 sub-put-cell c =
-    let t = c .before .before .before .before in
+    let t = after-put-u322 c in
     omega (arith, storing-rises (head t .loop .inv) (within t))
 
 put-cell-requires : tie.Need-put-cell-requires Inv-loop μ-loop
 put-cell-requires c κs =
-    let t = c .before .before .before .before in
+    let t = after-put-u322 c in
     let inv = head t .loop .inv in (
       omega (arith, storing-rises inv (within t)),
       omega (arith, storing-output inv (within t), stored-same inv (within t) (t .put-u322 .ensures) (omega arith), storing-same inv),
@@ -100,19 +104,13 @@ put-cell-requires c κs =
 
 add-at-2 : tie.Need-add-at-2 Inv-loop μ-loop
 add-at-2 c =
-    let t = c .before .before .before .before .before .before .before in
+    let t = after-put-u322 (c .before .before .before) in
     omega (arith, storing-room (head t .loop .inv) (within t), storing-rises (head t .loop .inv) (within t), long (head t))
-
-loop-less : tie.Need-loop-less Inv-loop μ-loop
-loop-less c = omega arith
 
 loop-again : tie.Need-loop-again Inv-loop μ-loop
 loop-again c =
-    let t = c .before .before .before .before .before .before .before in
+    let t = after-put-u322 (c .before .before .before) in
     storing-more (head t .loop .inv) (within t) (t .put-u322 .ensures) (omega arith) (c .before .before .put-cell .ensures)
-
-loop-less-2 : tie.Need-loop-less-2 Inv-loop μ-loop
-loop-less-2 c = omega arith
 
 loop-again-2 : tie.Need-loop-again-2 Inv-loop μ-loop
 loop-again-2 c =
@@ -146,9 +144,9 @@ put-cells-spec =
     sub-put-cell
     put-cell-requires
     add-at-2
-    loop-less
+    (λ c. omega arith)
     loop-again
-    loop-less-2
+    (λ c. omega arith)
     loop-again-2
     same-length
     returns)

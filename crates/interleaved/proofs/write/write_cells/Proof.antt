@@ -17,15 +17,6 @@ start c = c .before .before .before
 abbrev want : tie.Start → List ℕ
 want s = interleavedOf (s .args .values .now) (s .args .offsets .now)
 
-mul-need : tie.Need-mul-need
-mul-need c = search needs
-
-add-need : tie.Need-add-need
-add-need c = search needs
-
-add-need-2 : tie.Need-add-need-2
-add-need-2 c = search needs
-
 returns : tie.Need-returns
 returns c =
     let s = start (c .before) in
@@ -36,9 +27,6 @@ put-cells-requires c κs =
     let s = start (c .before .before) in
     (s .pre, cells-room (want s) (s .args .out .now) (c .before .if1 .left) (omega (arith, need-is (s .pre))))
 
-same-length : tie.Need-same-length
-same-length c = search needs
-
 returns-2 : tie.Need-returns-2
 returns-2 c =
     let fits = c .before .before .before .before in
@@ -47,12 +35,4 @@ returns-2 c =
 
 pub write-cells-spec : {M : Type 1} → statement M
 write-cells-spec =
-    tie.close
-    (tie.spec
-    mul-need
-    add-need
-    add-need-2
-    returns
-    put-cells-requires
-    same-length
-    returns-2)
+    tie.close (tie.spec (λ c. search needs) (λ c. search needs) (λ c. search needs) returns put-cells-requires (λ c. search needs) returns-2)

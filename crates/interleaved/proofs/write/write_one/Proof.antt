@@ -16,31 +16,16 @@ abbrev start : tie.After-slice-known → tie.Start
 start c = c .before .before
 
 abbrev fits : tie.After-put-u322 → tie.Else1
-fits t = t .before .before .before .before .before .before
+fits t = let u = t .before .before .before in u .before .before .before
 
 -- what is to be written
 abbrev want : tie.Start → List ℕ
 want s = putInterleaved (s .args .values .now ∷ [])
 
-add-need : tie.Need-add-need
-add-need c = search needs
-
 returns : tie.Need-returns
 returns c =
     let s = start (c .before) in
     cells-short (want s) (s .args .out .now) (c .if1 .taken) (omega (arith, one-need (s .args .values .now)))
-
-put-u32-requires : tie.Need-put-u32-requires
-put-u32-requires c κs = search needs
-
-put-u32-requires-2 : tie.Need-put-u32-requires-2
-put-u32-requires-2 c κs = search needs
-
-copy-exactly-requires : tie.Need-copy-exactly-requires
-copy-exactly-requires c κs = search needs
-
-same-length : tie.Need-same-length
-same-length c = search needs
 
 returns-2 : tie.Need-returns-2
 returns-2 c =
@@ -50,9 +35,6 @@ returns-2 c =
     let v = s .args .values .now in
     cells-written (want s) (s .args .out .now) (fits t .if1 .left) (omega (arith, one-need v))
     (one-copied v (s .args .out .now) (t .before .before .before .before .put-u32 .ensures) (t .put-u322 .ensures) (c .before .before .copy-exactly .ensures))
-
-same-length-2 : tie.Need-same-length-2
-same-length-2 c = search needs
 
 returns-3 : tie.Need-returns-3
 returns-3 c =
@@ -66,12 +48,12 @@ pub write-one-spec : {M : Type 1} → statement M
 write-one-spec =
     tie.close
     (tie.spec
-    add-need
+    (λ c. search needs)
     returns
-    put-u32-requires
-    put-u32-requires-2
-    copy-exactly-requires
-    same-length
+    (λ c κs. search needs)
+    (λ c κs. search needs)
+    (λ c κs. search needs)
+    (λ c. search needs)
     returns-2
-    same-length-2
+    (λ c. search needs)
     returns-3)
