@@ -16,23 +16,11 @@ abbrev μ-loop : tie.MeasureT-loop
 loop-holds : tie.Need-loop-holds Inv-loop μ-loop
 loop-holds c = store-begins _ _ _ _ (c .before .pre)
 
-draw-requires : tie.Need-draw-requires Inv-loop μ-loop
-draw-requires c κs = search needs
-
-cast-values : tie.Need-cast-values Inv-loop μ-loop
-cast-values c = search needs
-
 add-values : tie.Need-add-values Inv-loop μ-loop
 add-values c = omega (arith, store-room (c .before .before .before .loop .inv) (c .before .before .loop-test .taken))
 
 slice-write-values : tie.Need-slice-write-values Inv-loop μ-loop
 slice-write-values c = store-room (c .before .before .before .loop .inv) (c .before .before .loop-test .taken)
-
-add-i : tie.Need-add-i Inv-loop μ-loop
-add-i c = omega arith
-
-loop-less : tie.Need-loop-less Inv-loop μ-loop
-loop-less c = omega arith
 
 loop-again : tie.Need-loop-again Inv-loop μ-loop
 loop-again c =
@@ -52,12 +40,12 @@ draw-few-spec =
     Inv-loop
     μ-loop
     loop-holds
-    draw-requires
-    cast-values
+    (λ c κs. search needs)
+    (λ c. search needs)
     add-values
     slice-write-values
-    add-i
-    loop-less
+    (λ c. omega arith)
+    (λ c. omega arith)
     loop-again
     same-length
     returns)

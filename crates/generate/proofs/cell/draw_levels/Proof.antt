@@ -16,19 +16,10 @@ abbrev μ-loop : tie.MeasureT-loop
 loop-holds : tie.Need-loop-holds Inv-loop μ-loop
 loop-holds c = climb-begins (c .args .depth) (c .args .first .state)
 
-draw-requires : tie.Need-draw-requires Inv-loop μ-loop
-draw-requires c κs = search needs
-
 returns : tie.Need-returns Inv-loop μ-loop
 returns c =
     let drew = c .before .before .before in
     climb-null (drew .before .before .loop .inv) (drew .draw .ensures) (drew .before .loop-test .taken) (c .if1 .taken)
-
-add-set : tie.Need-add-set Inv-loop μ-loop
-add-set c = omega arith
-
-loop-less : tie.Need-loop-less Inv-loop μ-loop
-loop-less c = omega arith
 
 loop-again : tie.Need-loop-again Inv-loop μ-loop
 loop-again c =
@@ -40,14 +31,4 @@ returns-2 c = climb-ends (c .before .loop .inv) (c .loop-test .left)
 
 pub draw-levels-spec : {M : Type 1} → statement M
 draw-levels-spec =
-    tie.close
-    (tie.spec
-    Inv-loop
-    μ-loop
-    loop-holds
-    draw-requires
-    returns
-    add-set
-    loop-less
-    loop-again
-    returns-2)
+    tie.close (tie.spec Inv-loop μ-loop loop-holds (λ c κs. search needs) returns (λ c. omega arith) (λ c. omega arith) loop-again returns-2)

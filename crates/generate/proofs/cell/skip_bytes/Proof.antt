@@ -23,6 +23,4 @@ returns : tie.Need-returns Inv-loop μ-loop
 returns c = skip-ends (c .before .loop .inv) (c .loop-test .left)
 
 pub skip-bytes-spec : {M : Type 1} → statement M
-skip-bytes-spec =
-    tie.close
-    (tie.spec Inv-loop μ-loop loop-holds (λ c κs. search needs) (λ c. omega arith) (λ c. omega arith) loop-again returns)
+skip-bytes-spec = tie.close (tie.spec Inv-loop μ-loop loop-holds (λ c κs. search needs) (λ c. omega arith) (λ c. omega arith) loop-again returns)

@@ -74,8 +74,9 @@ add-to c = omega (arith, room (turn (drew c)))
 
 loop-again : tie.Need-loop-again Inv-loop μ-loop
 loop-again c =
+    let q = turn (drew c) in
     let drawn = drew c .draw-cell .ensures in
-    make-more (turn (drew c) .before .loop .inv) (turn (drew c) .loop-test .taken) (drawn .1 .0) (drawn .1 .1) (sym (size-of (turn (drew c)))) (drawn .0)
+    make-more (q .before .loop .inv) (q .loop-test .taken) (drawn .1 .0) (drawn .1 .1) (sym (size-of q)) (drawn .0)
 
 same-length : tie.Need-same-length Inv-loop μ-loop
 same-length c = c .before .loop .inv .same ∙ zeros-same (filled (c .before))

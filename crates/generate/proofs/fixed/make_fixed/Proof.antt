@@ -44,9 +44,6 @@ returns-2 c offsets =
     let a = s .args in
     no-values (load s) (lent s offsets) _ (count-values (a .size) (a .depth) (a .n) (a .first .state)) (c .if2 .taken)
 
-draw-cells-requires : tie.Need-draw-cells-requires
-draw-cells-requires c κs = search needs
-
 returns-3 : tie.Need-returns-3
 returns-3 c offsets =
     let drew = c .before .before .before .before in
@@ -58,14 +55,4 @@ returns-3 c offsets =
     (long .before .if1 .left) (long .if2 .left) (omega arith) _ _ offsets (drawn .0) (drawn .1) refl
 
 pub make-fixed-spec : {M : Type 1} → statement M
-make-fixed-spec =
-    tie.close
-    (tie.spec
-    mul-planes
-    mul-bytes
-    returns
-    returns-2
-    draw-cells-requires
-    (λ c. search needs)
-    (λ c. search needs)
-    returns-3)
+make-fixed-spec = tie.close (tie.spec mul-planes mul-bytes returns returns-2 (λ c κs. search needs) (λ c. search needs) (λ c. search needs) returns-3)

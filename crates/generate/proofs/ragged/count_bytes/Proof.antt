@@ -37,14 +37,4 @@ returns c = count-ends (c .before .loop .inv) (c .loop-test .left)
 
 pub count-bytes-spec : {M : Type 1} → statement M
 count-bytes-spec =
-    tie.close
-    (tie.spec
-    Inv-loop
-    μ-loop
-    loop-holds
-    (λ c κs. search needs)
-    (λ c. omega arith)
-    add-sum
-    (λ c. omega arith)
-    loop-again
-    returns)
+    tie.close (tie.spec Inv-loop μ-loop loop-holds (λ c κs. search needs) (λ c. omega arith) add-sum (λ c. omega arith) loop-again returns)

@@ -20,12 +20,4 @@ returns-2 c =
     null-counted (a .depth) (a .first .state) (levels .draw-levels .ensures) (c .if1 .left)
 
 pub skip-cell-spec : {M : Type 1} → statement M
-skip-cell-spec =
-    tie.close
-    (tie.spec
-    (λ c κs. search needs)
-    (λ c κs. search needs)
-    (λ c κs. search needs)
-    (λ c κs. search needs)
-    returns
-    returns-2)
+skip-cell-spec = tie.close (tie.spec (λ c κs. search needs) (λ c κs. search needs) (λ c κs. search needs) (λ c κs. search needs) returns returns-2)
