@@ -14,7 +14,7 @@ use Rattle.merge.proofs.merge.Tie as tie
 
 -- where the function starts: what was handed over, and what was lent
 abbrev start : tie.After-check-merge → tie.Start
-start m = m .before .before .before .before .before .before .before .before .before
+start m = let p = m .before .before .before in let q = p .before .before .before in q .before .before .before
 
 abbrev handed : tie.Start → Content
 handed a = contentArray (a .args .masks .now) (a .args .values .now) (a .args .offsets .now)
@@ -37,15 +37,6 @@ passed : (k : tie.After-known-told2)
     gives (sizes k) ≡ checkAnswer (kind a) (a .args .shape .now) (a .args .subsets .now) (handed a)
 passed k = sym (ap toldChecks (k .before .cells .given .1)) ∙ checked k .check-merge .ensures
 
-check-merge-requires : tie.Need-check-merge-requires
-check-merge-requires c κs = search needs
-
-enum-known-e : tie.Need-enum-known-e
-enum-known-e c = search needs
-
-enum-known-cells : tie.Need-enum-known-cells
-enum-known-cells c = search needs
-
 store-covering-requires : tie.Need-store-covering-requires
 store-covering-requires c κs =
     let k = c .before .before .before in
@@ -58,18 +49,10 @@ returns c =
     let a = start m in
     merge-refused (kind a) (a .args .shape .now) (a .args .subsets .now) (handed a) (lent a) (c .before .e .given .0 .0) (sym (ap toldChecks (c .before .e .given .1)) ∙ m .check-merge .ensures)
 
-same-length : tie.Need-same-length
-same-length c = search needs
-
-same-length-2 : tie.Need-same-length-2
-same-length-2 c = search needs
-
-same-length-3 : tie.Need-same-length-3
-same-length-3 c = search needs
-
 returns-2 : tie.Need-returns-2
 returns-2 c =
-    let s = c .before .before .before .before .before .before in
+    let p = c .before .before in
+    let s = p .before .before .before .before in
     let k = s .before .before .before .before in
     let a = start (checked k) in
     merge-stored (kind a) (a .args .shape .now) (a .args .subsets .now) (handed a) (lent a) (sizes k) (passed k)
@@ -79,12 +62,12 @@ pub merge-spec : {M : Type 1} → statement M
 merge-spec =
     tie.close
     (tie.spec
-    check-merge-requires
-    enum-known-e
-    enum-known-cells
+    (λ c κs. search needs)
+    (λ c. search needs)
+    (λ c. search needs)
     store-covering-requires
     returns
-    same-length
-    same-length-2
-    same-length-3
+    (λ c. search needs)
+    (λ c. search needs)
+    (λ c. search needs)
     returns-2)

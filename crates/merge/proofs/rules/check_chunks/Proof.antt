@@ -32,7 +32,7 @@ abbrev Head : Type 0
 Head = tie.At-loop Inv-loop μ-loop
 
 abbrev entered : tie.After-struct-known Inv-loop μ-loop → tie.Start Inv-loop μ-loop
-entered k = k .before .before .before .before .before .before
+entered k = let p = k .before .before .before in p .before .before .before
 
 abbrev start : Head → tie.Start Inv-loop μ-loop
 start l = entered (l .before)
@@ -41,8 +41,10 @@ abbrev handed : tie.Start Inv-loop μ-loop → Content
 handed a = contentArray (a .args .masks .now) (a .args .values .now) (a .args .offsets .now)
 
 -- the next subset lies in the list
-seen : (l : Head) → l .loop .i < start l .args .count → l .loop .at + length (start l .args .shape .now) + length (start l .args .shape .now) ≤ length (start l .args .subsets .now)
-seen l h = next-room (start l .args .shape .now) (start l .args .subsets .now) (start l .args .count) (l .loop .inv .geo) h
+seen : (l : Head) → let a = start l .args in l .loop .i < a .count → l .loop .at + length (a .shape .now) + length (a .shape .now) ≤ length (a .subsets .now)
+seen l h =
+    let a = start l .args in
+    next-room (a .shape .now) (a .subsets .now) (a .count) (l .loop .inv .geo) h
 
 abbrev lens : (l : Head) → l .loop .i < start l .args .count → List ℕ
 lens l h = lengthsAt (length (start l .args .shape .now)) (l .loop .at) (start l .args .subsets .now)
@@ -87,9 +89,6 @@ got : (c : Told) → let l = head c in let a = start l in
     takes (c .before .chunk .given .0 .0) (c .before .chunk .given .0 .1 .0)
     ≡ chunkAnswer (kindOf (a .args .kind)) (cells c) (lent (handed a) (l .loop .p) (l .loop .v) (l .loop .o))
 got c = sym (ap toldChunk (c .before .chunk .given .1)) ∙ checked c .check-chunk .ensures
-
-cast-depth : tie.Need-cast-depth Inv-loop μ-loop
-cast-depth c = search needs
 
 loop-holds : tie.Need-loop-holds Inv-loop μ-loop
 loop-holds c = let a = entered c in walked-begins (kindOf (a .args .kind)) (handed a) (a .pre)
@@ -153,12 +152,6 @@ part-check-chunk-end-3 c = omega (arith, turn (c .before .before) .loop .inv .of
 check-chunk-requires : tie.Need-check-chunk-requires Inv-loop μ-loop
 check-chunk-requires c κs = let v = c .before .before .before in omega (arith, v .volume-of .ensures, small (turn v) (v .before .before .loop-test .taken))
 
-enum-known-chunk : tie.Need-enum-known-chunk Inv-loop μ-loop
-enum-known-chunk c = search needs
-
-enum-told : tie.Need-enum-told Inv-loop μ-loop
-enum-told c = search needs
-
 returns : tie.Need-returns Inv-loop μ-loop
 returns c =
     let k = c .before .before in
@@ -179,12 +172,6 @@ add-v c = omega (arith, walked-more (head c .loop .inv) (in-loop c) (sized c) (g
 add-o : tie.Need-add-o Inv-loop μ-loop
 add-o c = omega (arith, walked-more (head c .loop .inv) (in-loop c) (sized c) (got c) .offsets)
 
-add-i : tie.Need-add-i Inv-loop μ-loop
-add-i c = omega arith
-
-loop-less : tie.Need-loop-less Inv-loop μ-loop
-loop-less c = omega arith
-
 loop-again : tie.Need-loop-again Inv-loop μ-loop
 loop-again c = walked-more (head c .loop .inv) (in-loop c) (sized c) (got c)
 
@@ -203,7 +190,7 @@ check-chunks-spec =
     (tie.spec
     Inv-loop
     μ-loop
-    cast-depth
+    (λ c. search needs)
     loop-holds
     add-mid
     add-end
@@ -223,15 +210,15 @@ check-chunks-spec =
     part-check-chunk-start-3
     part-check-chunk-end-3
     check-chunk-requires
-    enum-known-chunk
-    enum-told
+    (λ c. search needs)
+    (λ c. search needs)
     returns
     mul-p
     add-p
     add-v
     add-o
-    add-i
-    loop-less
+    (λ c. omega arith)
+    (λ c. omega arith)
     loop-again
     returns-2
     returns-3
