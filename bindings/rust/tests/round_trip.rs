@@ -1,6 +1,5 @@
-//! Arrays drawn at random: cut up, stored, read back and put together they are their rest form, with packed masks every set
-//! byte as 01; what is accepted, read and written again, is the very same bytes; and whatever is handed over, no call ever
-//! complains of an output.
+//! Arrays drawn at random: cut up, stored, read back and put together they are their rest form; what is accepted, read and
+//! written again, is the very same bytes; and whatever is handed over, no call ever complains of an output.
 
 use durpaxeta::*;
 use std::collections::BTreeMap;
