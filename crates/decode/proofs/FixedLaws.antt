@@ -28,12 +28,12 @@ use Rattle.stored.specs.Walk.{walked}
 use Rattle.stored.specs.Stored.{cellsFrom, innermostBy, answerBy, innermostCount}
 use Rattle.stored.proofs.Reading.{read-walked}
 use Rattle.stored.proofs.Walks.{WalkPassed, walk-passed, passed-count}
-use Rattle.spread.specs.Values.{valuesOver, ValuesWithin}
-use Rattle.spread.proofs.ValueRuns.{cellsLeft, valuesLeft}
-use Rattle.spread.proofs.SpreadingValues.{cells-length, values-length}
-use Rattle.planes.specs.Within.{planesIn, innermostIn}
-use Rattle.planes.proofs.Levels.{times-first}
-use Rattle.planes.proofs.AllPlanes.{masks-are, leaves-are, leaves-flat, count-are, planes-long, innermost-read, innermost-long}
+use Rattle.decode_cells.specs.Values.{valuesOver, ValuesWithin}
+use Rattle.decode_cells.proofs.ValueRuns.{cellsLeft, valuesLeft}
+use Rattle.decode_cells.proofs.SpreadingValues.{cells-length, values-length}
+use Rattle.decode_planes.specs.Within.{planesIn, innermostIn}
+use Rattle.decode_planes.proofs.Levels.{times-first}
+use Rattle.decode_planes.proofs.AllPlanes.{masks-are, leaves-are, leaves-flat, count-are, planes-long, innermost-read, innermost-long}
 use Rattle.decode.specs.declared.fixed.Found.{Found}
 use Rattle.decode.specs.Reads.{Limited, fixedFrom, FixedFound, FixedWithin}
 use Rattle.decode.proofs.Outcomes.{short-masks, short-values, all-written}

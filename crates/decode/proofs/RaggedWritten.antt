@@ -17,10 +17,10 @@ use Rattle.codec.specs.Mask.{maskForm}
 use Rattle.codec.specs.Frame.{countSet}
 use Rattle.stored.specs.declared.vlen.Index.{Index}
 use Rattle.stored.specs.Index.{offsetsIn, raggedAt, IndexWithin}
-use Rattle.spread.specs.Ends.{endsBy}
-use Rattle.spread.proofs.CopyingOffsets.{length-offsets}
-use Rattle.planes.specs.Within.{planesIn, innermostIn}
-use Rattle.planes.proofs.AllPlanes.{innermost-read}
+use Rattle.decode_cells.specs.Ends.{endsBy}
+use Rattle.decode_cells.proofs.CopyingOffsets.{length-offsets}
+use Rattle.decode_planes.specs.Within.{planesIn, innermostIn}
+use Rattle.decode_planes.proofs.AllPlanes.{innermost-read}
 use Rattle.decode.specs.Reads.{RaggedWithin}
 use Rattle.decode.proofs.Outcomes.{short-masks, short-values, short-offsets, all-written}
 use Rattle.decode.proofs.RaggedLaws.{content, nested-masks, nested-count, nested-values, nested-offsets, nested-masks-long, nested-values-long, nested-offsets-long}

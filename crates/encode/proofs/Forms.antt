@@ -23,16 +23,16 @@ use Rattle.array.specs.Content.{Content, ValuesOk}
 use Rattle.codec.specs.Ragged.{putRagged}
 use Rattle.codec.specs.Values.{putValues}
 use Rattle.codec.proofs.Flat.{flat-put}
-use Rattle.gather.specs.Live.{liveAt, Planes}
-use Rattle.gather_ragged.specs.Slices.{sliceAt, spansOf, Offsets}
-use Rattle.gather.specs.Pieces.{piecesAt}
+use Rattle.encode_cells.specs.Live.{liveAt, Planes}
+use Rattle.encode_ragged.specs.Slices.{sliceAt, spansOf, Offsets}
+use Rattle.encode_cells.specs.Pieces.{piecesAt}
 use Rattle.encode.specs.Ready.{MeasuresOk, Measured, Encodable}
 use Rattle.encode.specs.Stored.{valueAt, valuesFrom, valuesLengthAt, lengthFrom}
-use Rattle.gather.proofs.Numbered.{live-all}
-use Rattle.gather.proofs.Runs.{live-le}
-use Rattle.gather.proofs.Gathering.{run-pieces}
-use Rattle.gather.proofs.LiveMarks.{count-all}
-use Rattle.gather_ragged.proofs.Spans.{all-spans}
+use Rattle.encode_cells.proofs.Numbered.{live-all}
+use Rattle.encode_cells.proofs.Runs.{live-le}
+use Rattle.encode_cells.proofs.Gathering.{run-pieces}
+use Rattle.encode_cells.proofs.LiveMarks.{count-all}
+use Rattle.encode_ragged.proofs.Spans.{all-spans}
 use Rattle.encode.proofs.Levels.{NarrowOk, values-small, flat-length, fixed-put, fixed-long}
 use Rattle.encode.proofs.Walk.{values-at}
 

@@ -9,7 +9,7 @@ use Rattle.array.specs.Buffers.{overAt}
 use Rattle.array.specs.Bytes.{le}
 use Rattle.array.proofs.Bytes.{length-le}
 use Rattle.codec.specs.Frame.{wrap}
-use Rattle.gather.proofs.Placing.{at-front}
+use Rattle.encode_cells.proofs.Placing.{at-front}
 
 -- what was written, under another name
 pub told-as : {x y : List ℕ} (at : ℕ) (out : List ℕ) {r : ℕ} {o : List ℕ} → (r ≡ length x) × (o ≡ overAt at x out) → x ≡ y → (r ≡ length y) × (o ≡ overAt at y out)

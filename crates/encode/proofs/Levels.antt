@@ -18,17 +18,17 @@ use Rattle.codec.specs.Frame.{wrap, unlessNone}
 use Rattle.codec.specs.Values.{putValues}
 use Rattle.codec.proofs.Frames.{length-wrap}
 use Rattle.codec.proofs.Masks.{mask-laws}
-use Rattle.gather.specs.Live.{masksAt, liveTest, liveAt}
-use Rattle.gather.specs.Pieces.{pieceAt, piecesAt}
+use Rattle.encode_cells.specs.Live.{masksAt, liveTest, liveAt}
+use Rattle.encode_cells.specs.Pieces.{pieceAt, piecesAt}
 use Rattle.encode.specs.Stored.{levelOf, valueAt, valuesFrom, storedFrom, maskFrom, frameFrom, orNothing, valuesLengthAt, lengthFrom}
-use Rattle.gather_ragged.specs.Slices.{spansOf}
+use Rattle.encode_ragged.specs.Slices.{spansOf}
 use Rattle.encode.specs.Ready.{MeasuresOk, Measured}
-use Rattle.gather.proofs.Runs.{live-le}
-use Rattle.gather.proofs.LiveMarks.{count-all}
-use Rattle.gather.proofs.Packing.{pieces-long}
-use Rattle.gather.proofs.Blocks.{live-mask-long}
-use Rattle.gather_ragged.proofs.Summing.{spans-le}
-use Rattle.gather_ragged.proofs.Parts.{ragged-long}
+use Rattle.encode_cells.proofs.Runs.{live-le}
+use Rattle.encode_cells.proofs.LiveMarks.{count-all}
+use Rattle.encode_cells.proofs.Packing.{pieces-long}
+use Rattle.encode_cells.proofs.Blocks.{live-mask-long}
+use Rattle.encode_ragged.proofs.Summing.{spans-le}
+use Rattle.encode_ragged.proofs.Parts.{ragged-long}
 
 -- ---- the cases of a content
 

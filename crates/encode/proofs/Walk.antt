@@ -17,10 +17,10 @@ use Rattle.codec.specs.Mask.{maskForm}
 use Rattle.codec.specs.Frame.{keep, wrap, unlessNone, frame}
 use Rattle.codec.specs.Values.{putValues}
 use Rattle.codec.specs.Calls.{storedForm}
-use Rattle.gather.specs.Live.{maskAt, masksAt, liveTest, liveAt}
+use Rattle.encode_cells.specs.Live.{maskAt, masksAt, liveTest, liveAt}
 use Rattle.array.proofs.Lists.{from-suc}
-use Rattle.gather.proofs.Numbered.{plane-at, pieces-at, live-all}
-use Rattle.gather_ragged.specs.Slices.{sliceAt}
+use Rattle.encode_cells.proofs.Numbered.{plane-at, pieces-at, live-all}
+use Rattle.encode_ragged.specs.Slices.{sliceAt}
 use Rattle.encode.specs.Stored.{levelOf, valueAt, storedFrom}
 
 pairUp-map : {A : Type 0} (f : ℕ → ℕ) (g : ℕ → A) (is : List ℕ) → pairUp (map f is) (map g is) ≡ map (λ i. (f i, g i)) is

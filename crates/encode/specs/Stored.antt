@@ -14,9 +14,9 @@ use Rattle.codec.specs.Mask.{maskForm}
 use Rattle.codec.specs.Frame.{unlessNone, wrap}
 use Rattle.codec.specs.Values.{putValues}
 use Rattle.codec.specs.Length.{raggedLength}
-use Rattle.gather.specs.Live.{masksAt, liveAt, liveMask}
-use Rattle.gather.specs.Pieces.{pieceAt}
-use Rattle.gather_ragged.specs.Slices.{sliceAt, spansOf}
+use Rattle.encode_cells.specs.Live.{masksAt, liveAt, liveMask}
+use Rattle.encode_cells.specs.Pieces.{pieceAt}
+use Rattle.encode_ragged.specs.Slices.{sliceAt, spansOf}
 
 -- the level that has so many levels left, itself among them
 abbrev pub levelOf : Kind → ℕ → ℕ

@@ -3,7 +3,7 @@ use crate::values;
 use array::kind;
 use array::kind::Kind;
 use array::kind::Values;
-use gather::live;
+use encode_cells::live;
 use mask::form;
 ghost use mathlib.Core.Path.{_≡_};
 ghost use Prim.Native.Nat.{_≤_};

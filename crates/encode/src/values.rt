@@ -2,14 +2,14 @@
 use array::kind;
 use array::kind::Kind;
 use array::kind::Values;
-use gather::cells;
+use encode_cells::cells;
 ghost use mathlib.Core.Path.{_≡_};
 ghost use Prim.Native.Nat.{_+_, _≤_};
 ghost use lib.ListN.{length};
 ghost use Rattle.array.specs.Buffers.{overAt};
 ghost use Rattle.array.specs.Meaning.{kindOf};
 ghost use Rattle.array.specs.Outcome.{contentArray};
-ghost use Rattle.gather.specs.Live.{liveAt};
+ghost use Rattle.encode_cells.specs.Live.{liveAt};
 ghost use Rattle.encode.specs.Ready.{Measured, Encodable};
 ghost use Rattle.encode.specs.Stored.{valuesFrom, valuesLengthAt};
 
@@ -25,7 +25,7 @@ pub fn values_length(kind: Kind, cells: usize, masks: &[u8], offsets: &[u64], co
         Values::Fixed(size, _) => count * (size as usize),
         Values::Ragged(width, _) => {
             let index = kind::width_bytes(width) * (count + 1);
-            8 + index + gather_ragged::data::live_bytes(offsets, masks, cells, level, count)
+            8 + index + encode_ragged::data::live_bytes(offsets, masks, cells, level, count)
         }
     }
 }
@@ -55,7 +55,7 @@ pub fn put_values(
             cells::put_live(out, at, values, k, order, masks, cells, level, count);
             count * k
         }
-        Values::Ragged(width, place) => gather_ragged::put_ragged(
+        Values::Ragged(width, place) => encode_ragged::put_ragged(
             out,
             at,
             width,

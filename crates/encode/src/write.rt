@@ -3,8 +3,8 @@ use crate::values;
 use array::kind::Kind;
 use array::kind::Values;
 use buffer::field;
-use gather::cells;
-use gather::live;
+use encode_cells::cells;
+use encode_cells::live;
 use mask::form;
 ghost use mathlib.Core.Path.{_≡_};
 ghost use Prim.Native.Nat.{_+_, _≤_};
@@ -12,7 +12,7 @@ ghost use lib.ListN.{length};
 ghost use Rattle.array.specs.Buffers.{over, overAt};
 ghost use Rattle.array.specs.Meaning.{kindOf};
 ghost use Rattle.array.specs.Outcome.{contentArray};
-ghost use Rattle.gather.specs.Live.{liveAt};
+ghost use Rattle.encode_cells.specs.Live.{liveAt};
 ghost use Rattle.encode.specs.Ready.{Encodable};
 ghost use Rattle.encode.specs.Stored.{levelOf, storedFrom, frameFrom};
 
@@ -104,7 +104,7 @@ pub fn write_stored(
     let form = kind.values;
     match form {
         Values::Fixed(size, order) => cells::put_all(out, values, size as usize, order, cells),
-        Values::Ragged(width, place) => gather_ragged::put_plain(
+        Values::Ragged(width, place) => encode_ragged::put_plain(
             out,
             width,
             place,

@@ -19,8 +19,8 @@ use Rattle.array.specs.Subset.{Subset}
 use Rattle.array.proofs.LayoutLaws.{content-path}
 use Rattle.array.proofs.SubsetLists.{lengthsAt}
 use Rattle.chunks.specs.Chunks.{firstChunk, laterChunks}
-use Rattle.cover.specs.Asked.{SubsetsOk}
-use Rattle.cover.proofs.SubsetWalk.{SubsetsLeft, rest, rest-begins, rest-ends, subsets-begin, subsets-more, subset-now, now-lengths}
+use Rattle.merge_cover.specs.Asked.{SubsetsOk}
+use Rattle.merge_cover.proofs.SubsetWalk.{SubsetsLeft, rest, rest-begins, rest-ends, subsets-begin, subsets-more, subset-now, now-lengths}
 use Rattle.merge.specs.Chunks.{takes, chunkAnswer, chunksTest}
 use Rattle.merge.proofs.OneChunk.{Fitting, chunk-fits, chunk-bad}
 

@@ -18,7 +18,7 @@ use Rattle.array.specs.Buffers.{Lengths, lengthsOf, enoughTest, over, contentOu
 use Rattle.array.specs.Outcome.{contentArray}
 use Rattle.array.specs.Places.{fixedAt, offsetAt}
 use Rattle.chunks.specs.Chunks.{mergeOf}
-use Rattle.cover.proofs.SubsetWalk.{all-inside}
+use Rattle.merge_cover.proofs.SubsetWalk.{all-inside}
 use Rattle.merge_stores.specs.Scatter.{scatter, places}
 use Rattle.merge_stores.specs.Store.{parts, masksMerged, MasksAsked, PartsAsked}
 use Rattle.merge_stores.specs.Ragged.{offsetsMerged, RaggedMergeAsked}

@@ -17,7 +17,7 @@ use Rattle.array.proofs.Answers.{same-given}
 use Rattle.array.proofs.Answers as answers
 use Rattle.array.proofs.Rules.{kind-ok, shape-ok, many-ok, size-ok}
 use Rattle.array.proofs.SubsetLists.{subsets-are, subsets-long, many-next}
-use Rattle.cover.specs.Asked.{SubsetsOk}
+use Rattle.merge_cover.specs.Asked.{SubsetsOk}
 use Rattle.merge.specs.Chunks.{chunksTest}
 use Rattle.merge.specs.Merge.{Sizes, checkAnswer, MergeChecked}
 

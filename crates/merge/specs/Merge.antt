@@ -15,7 +15,7 @@ use Rattle.array.specs.Content.{Content, sizeTest}
 use Rattle.array.specs.Buffers.{Lengths, enoughTest, ifRoom}
 use Rattle.chunks.specs.Gather.{Once, onceTest}
 use Rattle.chunks.specs.Chunks.{chunkCells, mergeOf}
-use Rattle.cover.specs.Asked.{SubsetsOk}
+use Rattle.merge_cover.specs.Asked.{SubsetsOk}
 use Rattle.merge.specs.Chunks.{chunksTest}
 use Rattle.merge.specs.declared.rules.Checks.{Checks}
 

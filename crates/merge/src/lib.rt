@@ -104,7 +104,7 @@ fn store_covering(
         (lengthsOf (contentArray (now («out_masks» .entry)) (now («out_values» .entry)) (now («out_offsets» .entry)))))
         (contentArray (now («out_masks» .entry)) (now («out_values» .entry)) (now («out_offsets» .entry))) ⌝ }
 {
-    if !cover::covers(shape, subsets, count) {
+    if !merge_cover::covers(shape, subsets, count) {
         return WrittenArray::Refused(refusal::COVER);
     }
     store_chunks(

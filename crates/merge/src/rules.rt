@@ -11,7 +11,7 @@ ghost use Rattle.array.specs.Limits.{mostCells};
 ghost use Rattle.array.specs.Meaning.{formOf, kindOf};
 ghost use Rattle.array.specs.Outcome.{contentArray};
 ghost use Rattle.array.specs.Rows.{nextSubsets};
-ghost use Rattle.cover.specs.Asked.{SubsetsOk};
+ghost use Rattle.merge_cover.specs.Asked.{SubsetsOk};
 ghost use Rattle.merge.specs.Chunks.{sizeAnswer, chunkAnswer, chunksTest, toldChunk};
 ghost use Rattle.merge.specs.Merge.{checkAnswer, toldChecks};
 

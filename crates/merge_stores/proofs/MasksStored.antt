@@ -16,7 +16,7 @@ use Rattle.array.specs.Places.{fixedAt}
 use Rattle.array.proofs.Lists.{map-append, joined-append, length-from}
 use Rattle.array.proofs.SubsetLaws.{all-below}
 use Rattle.chunks.specs.Gather.{putBack}
-use Rattle.cover.proofs.SubsetWalk.{all-inside}
+use Rattle.merge_cover.proofs.SubsetWalk.{all-inside}
 use Rattle.merge_stores.specs.Scatter.{scatter, places}
 use Rattle.merge_stores.specs.Store.{parts, cellsTotal, masksMerged, MasksAsked, PartsAsked}
 use Rattle.merge_stores.proofs.Levels.{level-block, length-parts, length-all}

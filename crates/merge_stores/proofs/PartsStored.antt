@@ -15,7 +15,7 @@ use Rattle.array.specs.Places.{fixedAt}
 use Rattle.array.proofs.Lists.{length-from}
 use Rattle.array.proofs.SubsetLaws.{length-cellsIn}
 use Rattle.array.proofs.SubsetLists.{startsAt, lengthsAt}
-use Rattle.cover.proofs.SubsetWalk.{SubsetsLeft, rest, rest-begins, rest-ends, subsets-begin, subsets-more, subset-now, now-within, now-lengths}
+use Rattle.merge_cover.proofs.SubsetWalk.{SubsetsLeft, rest, rest-begins, rest-ends, subsets-begin, subsets-more, subset-now, now-within, now-lengths}
 use Rattle.merge_stores.specs.Scatter.{scatter, places}
 use Rattle.merge_stores.specs.Store.{parts, cellsTotal, StoreAsked, PartsAsked}
 use Rattle.merge_stores.proofs.Scattering.{length-scatter, scatter-then, places-append}

@@ -12,8 +12,8 @@ use Rattle.array.specs.Rows.{nextSubsets}
 use Rattle.array.specs.Shape.{volume}
 use Rattle.array.specs.Subset.{Subset, cellsOfAll}
 use Rattle.chunks.specs.Gather.{Once}
-use Rattle.cover.specs.Asked.{SubsetsOk}
-use Rattle.cover.proofs.SubsetWalk.{all-inside}
+use Rattle.merge_cover.specs.Asked.{SubsetsOk}
+use Rattle.merge_cover.proofs.SubsetWalk.{all-inside}
 use Rattle.merge_stores.specs.Ragged.{sum, RaggedMergeAsked}
 use Rattle.merge_stores.proofs.Blocks.{length-joined}
 use Rattle.merge_stores.proofs.Closing.{cells-counted}

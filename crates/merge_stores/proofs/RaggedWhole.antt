@@ -15,7 +15,7 @@ use Rattle.array.specs.Places.{fixedAt, offsetAt}
 use Rattle.array.proofs.Lists.{length-from}
 use Rattle.array.proofs.SubsetLaws.{all-below}
 use Rattle.chunks.specs.Gather.{lookup, putBack}
-use Rattle.cover.proofs.SubsetWalk.{all-inside}
+use Rattle.merge_cover.proofs.SubsetWalk.{all-inside}
 use Rattle.merge_stores.specs.Ragged.{sums, sum, stepParts, offsetsMerged, RaggedMergeAsked, RaggedAllAsked}
 use Rattle.merge_stores.specs.Scatter.{scatter, places}
 use Rattle.merge_stores.proofs.Blocks.{sum-append}

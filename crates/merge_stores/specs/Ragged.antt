@@ -12,7 +12,7 @@ use Rattle.array.specs.Rows.{Within, nextSubsets}
 use Rattle.array.specs.Offsets.{Rising}
 use Rattle.array.specs.Places.{offsetAt}
 use Rattle.chunks.specs.Gather.{putBack, Once}
-use Rattle.cover.specs.Asked.{SubsetsOk}
+use Rattle.merge_cover.specs.Asked.{SubsetsOk}
 use Rattle.merge_stores.specs.Scatter.{places}
 
 -- ---- lengths, and offsets from them

@@ -12,7 +12,7 @@ use Rattle.array.specs.Subset.{Subset, lengths, cellsOfAll}
 use Rattle.array.specs.Rows.{Within, nextSubsets}
 use Rattle.array.specs.Cells.{Cell, maskOf, inners}
 use Rattle.chunks.specs.Gather.{putBack, Once}
-use Rattle.cover.specs.Asked.{SubsetsOk}
+use Rattle.merge_cover.specs.Asked.{SubsetsOk}
 
 -- of chunks of m cells each: m × lead bytes are passed over, m × size taken, and the next chunk begins m × step bytes on
 abbrev pub parts : ℕ → ℕ → ℕ → List Subset → List ℕ → List ℕ

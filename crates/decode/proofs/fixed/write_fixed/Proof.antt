@@ -4,7 +4,7 @@ use mathlib.Core.Logic.{_≢_}
 use native.Mathlib.Omega.{arith}
 use borrow.Author.Needs.{needs}
 use Rattle.array.specs.Meaning.{orderOf}
-use Rattle.planes.proofs.Levels.{times-first}
+use Rattle.decode_planes.proofs.Levels.{times-first}
 use Rattle.decode.proofs.Small.{planes-small, bytes-small}
 use Rattle.decode.proofs.FixedLaws.{fixed-short-masks, fixed-short-values, values-within, deep-written}
 use Rattle.decode.proofs.fixed.write_fixed.Statement.{statement}

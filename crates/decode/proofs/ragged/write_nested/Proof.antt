@@ -5,7 +5,7 @@ use mathlib.Core.Logic.{_≢_}
 use Prim.Native.Nat.{_+_, _-_, _*_}
 use native.Mathlib.Omega.{arith}
 use borrow.Author.Needs.{needs}
-use Rattle.planes.proofs.Levels.{times-first}
+use Rattle.decode_planes.proofs.Levels.{times-first}
 use Rattle.decode.proofs.Small.{few-cells, planes-small}
 use Rattle.decode.proofs.RaggedWritten.{nested-short-masks, nested-short-values, nested-short-offsets, nested-set, nested-written}
 use Rattle.decode.proofs.ragged.write_nested.Statement.{statement}

@@ -5,7 +5,7 @@ use native.Mathlib.Omega.{arith}
 use lib.ListN.{length}
 use Rattle.array.specs.Content.{Content}
 use Rattle.array.specs.Outcome.{contentArray}
-use Rattle.gather.proofs.Placing.{laid-as}
+use Rattle.encode_cells.proofs.Placing.{laid-as}
 use Rattle.encode.proofs.Framing.{told-as}
 use Rattle.encode.proofs.Forms.{encodable-planes, fixed-source, fixed-writes, fixed-wrote, offsets-fit, offsets-end, ragged-writes}
 use borrow.Author.Needs.{needs}

@@ -6,8 +6,8 @@ use lib.ListN.{length}
 use Rattle.array.specs.Content.{Content}
 use Rattle.array.specs.Meaning.{kindOf}
 use Rattle.array.specs.Outcome.{contentArray}
-use Rattle.gather.proofs.LiveMarks.{count-all}
-use Rattle.gather.proofs.Placing.{laid-as}
+use Rattle.encode_cells.proofs.LiveMarks.{count-all}
+use Rattle.encode_cells.proofs.Placing.{laid-as}
 use Rattle.encode.specs.Stored.{valuesFrom, storedFrom}
 use Rattle.encode.proofs.Levels.{flat-stored}
 use Rattle.encode.proofs.Forms.{fixed-source, fixed-all, fixed-wrote, ragged-all}

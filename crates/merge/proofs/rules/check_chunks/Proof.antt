@@ -14,7 +14,7 @@ use Rattle.array.specs.Shape.{volume}
 use Rattle.valid.proofs.CheckLaws.{small-product}
 use Rattle.subset.proofs.Index.{few-within, few-drop}
 use Rattle.array.proofs.SubsetLists.{startsAt, lengthsAt}
-use Rattle.cover.proofs.SubsetWalk.{next-room, now-within}
+use Rattle.merge_cover.proofs.SubsetWalk.{next-room, now-within}
 use Rattle.merge.specs.Chunks.{takes, chunkAnswer, toldChunk}
 use Rattle.merge.proofs.ChunkWalk.{lent, Walked, walked-begins, masks-left, values-left, by-offsets, walked-bad, walked-more}
 use Rattle.merge.proofs.rules.check_chunks.Statement.{statement}

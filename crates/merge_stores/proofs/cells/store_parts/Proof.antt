@@ -8,7 +8,7 @@ use lib.ListN.{length}
 use Rattle.array.specs.Shape.{volume}
 use Rattle.subset.proofs.Index.{few-within}
 use Rattle.array.proofs.SubsetLists.{startsAt, lengthsAt}
-use Rattle.cover.proofs.SubsetWalk.{next-room, now-within}
+use Rattle.merge_cover.proofs.SubsetWalk.{next-room, now-within}
 use Rattle.merge_stores.proofs.PartsStored.{StoreAll, all-begins, all-ends, all-room, part-room, all-asked, all-more}
 use Rattle.merge_stores.proofs.cells.store_parts.Statement.{statement}
 use Rattle.merge_stores.proofs.cells.store_parts.Tie as tie

@@ -8,7 +8,7 @@ use lib.ListN.{length}
 use Rattle.array.specs.Shape.{volume}
 use Rattle.subset.proofs.Index.{few-within}
 use Rattle.array.proofs.SubsetLists.{startsAt, lengthsAt}
-use Rattle.cover.proofs.SubsetWalk.{next-room, now-within}
+use Rattle.merge_cover.proofs.SubsetWalk.{next-room, now-within}
 use Rattle.merge_stores.proofs.LengthsStored.{LengthsAll, lengths-begin, lengths-end, lengths-indexed, lengths-asked, lengths-more}
 use Rattle.merge_stores.proofs.ragged.store_lengths_all.Statement.{statement}
 use Rattle.merge_stores.proofs.ragged.store_lengths_all.Tie as tie

@@ -7,7 +7,7 @@ use lib.ListN.{length}
 use Rattle.array.specs.Places.{offsetAt}
 use Rattle.subset.proofs.Index.{few-within}
 use Rattle.array.proofs.SubsetLists.{startsAt, lengthsAt}
-use Rattle.cover.proofs.SubsetWalk.{next-room, now-within}
+use Rattle.merge_cover.proofs.SubsetWalk.{next-room, now-within}
 use Rattle.merge_stores.proofs.RaggedStored.{RaggedAll, ragged-asked, raggeds-begin, raggeds-end, chunk-indexed, chunk-enough, raggeds-more}
 use Rattle.merge_stores.proofs.ragged.store_ragged_all.Statement.{statement}
 use Rattle.merge_stores.proofs.ragged.store_ragged_all.Tie as tie

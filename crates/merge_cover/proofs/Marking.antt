@@ -1,0 +1,124 @@
+-- Marking the cells of a subset row by row, and those of all subsets of a list: what holds at the head of each loop, and a turn of it.
+-- Assumes nothing.
+use mathlib.Core.Path.{_≡_, refl, sym, ap, ap₂, _∙_}
+use Prim.Native.Nat.{ℕ, _+_, _-_, _<_, _≤_}
+use native.Mathlib.Omega.{arith}
+use mathlib.Core.Bool.{Bool, true, false}
+use mathlib.Core.List.{List, [], _++_}
+use lib.ListN.{length, getD, drop, length-append}
+use lib.Dec.{eqb}
+use borrow.Author.Tests.{eq-eqb, ne-eqb, eqb-true, eqb-false}
+use Rattle.array.specs.Answer.{Answer, gives, refuses, andThen}
+use Rattle.array.specs.Lists.{from, All}
+use Rattle.array.specs.Shape.{volume}
+use Rattle.array.specs.Subset.{Subset, pairs, cellsIn, cellsOfAll}
+use Rattle.array.specs.Rows.{nextSubsets}
+use Rattle.array.proofs.SubsetLaws.{all-below}
+use Rattle.array.proofs.SubsetLists.{startsAt, lengthsAt}
+use Rattle.subset.proofs.Rows.{Left, left-next, left-more, left-ends, within-cells}
+use Rattle.chunks.specs.Gather.{onceTest}
+use Rattle.merge_cover.specs.Asked.{SubsetsOk}
+use Rattle.merge_cover.specs.Marks.{marking, toldMarks, unmarked}
+use Rattle.merge_cover.proofs.Once.{marking-append, once-marked, once-refused, once-beyond}
+use Rattle.merge_cover.proofs.SubsetWalk.{SubsetsLeft, rest, rest-begins, rest-ends, subsets-begin, subsets-more, subset-now, now-within, all-inside}
+
+told-by : {free : Bool} (m : List ℕ) {b : Bool} → free ≡ b → {a : Answer (List ℕ)} → toldMarks free m ≡ a → toldMarks b m ≡ a
+told-by m t r = ap (λ (x : Bool). toldMarks x m) (sym t) ∙ r
+
+-- ---- one subset: its cells from `at` on are left
+
+pub record Marked (cs m₀ m : List ℕ) (cells n at : ℕ) : Type 0 where
+  pub geo : Left cs cells n at
+  pub same : marking m₀ cs ≡ marking m (drop at cs)
+
+pub marked-begins : (cs m : List ℕ) (cells n : ℕ) → Left cs cells n 0 → Marked cs m m cells n 0
+marked-begins cs m cells n g = record { geo = g; same = refl }
+
+module _ (cs m₀ m : List ℕ) (cells n at : ℕ) (w : Marked cs m₀ m cells n at) where
+  pub marked-ends : cells ≤ at → gives m ≡ marking m₀ cs
+  unfolding marking
+  marked-ends h = sym (w .same ∙ ap (marking m) (left-ends cs cells n at (w .geo) h))
+
+  module _ (h : at < cells) {a : ℕ} (e : a ≡ getD cs at 0) where
+    next : {r : Answer (List ℕ)} → r ≡ marking m (from a n) → marking m₀ cs ≡ andThen r (λ u. marking u (drop (at + n) cs))
+    next q =
+        w .same ∙ ap (marking m) (left-next cs cells n at (w .geo) h ∙ ap (λ (k : ℕ). from k n ++ drop (at + n) cs) (sym e))
+        ∙ marking-append m (from a n) (drop (at + n) cs) ∙ ap (λ (x : Answer (List ℕ)). andThen x (λ u. marking u (drop (at + n) cs))) (sym q)
+
+    module _ {free : Bool} (m′ : List ℕ) (r : toldMarks free m′ ≡ marking m (from a n)) where
+      pub marked-more : free ≡ true → Marked cs m₀ m′ cells n (at + n)
+      marked-more t = record { geo = left-more cs cells n at (w .geo) h; same = next (told-by m′ t r) }
+
+      pub marked-over : free ≡ false → refuses 12 ≡ marking m₀ cs
+      marked-over t = sym (next (told-by m′ t r))
+
+-- ---- all subsets: i of them are marked, and so many cells of the shape are left
+
+pub record AllMarked (sh flat m : List ℕ) (count i at left : ℕ) : Type 0 where
+  pub geo : SubsetsLeft sh flat count i at
+  pub same : marking unmarked (cellsOfAll sh (nextSubsets (length sh) count flat)) ≡ marking m (cellsOfAll sh (rest sh flat count i at))
+  pub counted : length (cellsOfAll sh (nextSubsets (length sh) count flat)) + left ≡ volume sh + length (cellsOfAll sh (rest sh flat count i at))
+
+module _ {sh flat : List ℕ} {count : ℕ} (q : SubsetsOk sh flat count) where
+  abbrev all : List ℕ
+  all = cellsOfAll sh (nextSubsets (length sh) count flat)
+
+  below : All (λ j. j < volume sh) all
+  below = all-below sh (nextSubsets (length sh) count flat) (all-inside sh (nextSubsets (length sh) count flat) (q .each))
+
+  pub cover-begins : {m : List ℕ} {left : ℕ} → m ≡ unmarked → left ≡ volume sh → AllMarked sh flat m count 0 0 left
+  cover-begins e l = record {
+    geo = subsets-begin sh flat count q;
+    same = ap₂ (λ (u : List ℕ) (bs : List Subset). marking u (cellsOfAll sh bs)) (sym e) (rest-begins sh flat count);
+    counted = omega (arith, l, ap (λ (bs : List Subset). length (cellsOfAll sh bs)) (rest-begins sh flat count));
+  }
+
+  module _ {m : List ℕ} {i at left : ℕ} (c : AllMarked sh flat m count i at left) where
+    pub cover-ends : count ≤ i → onceTest (volume sh) all ≡ eqb left 0
+    unfolding marking
+    cover-ends h =
+        let n : rest sh flat count i at ≡ [] = rest-ends sh flat count i at h in
+        once-marked (volume sh) all (q .shaped .few-cells) below m (sym (c .same ∙ ap (λ (bs : List Subset). marking m (cellsOfAll sh bs)) n))
+        ∙ none (omega (arith, c .counted, ap (λ (bs : List Subset). length (cellsOfAll sh bs)) n)) (eqb left 0) refl
+      where
+        none : length all + left ≡ volume sh → (b : Bool) → eqb left 0 ≡ b → eqb (length all) (volume sh) ≡ b
+        none e true z = eq-eqb (length all) (volume sh) (omega (arith, eqb-true left 0 z))
+        none e false z = ne-eqb (length all) (volume sh) (λ k. eqb-false left 0 z (omega arith))
+
+    module _ (h : i < count) where
+      abbrev cs : List ℕ
+      cs = cellsIn sh (pairs (startsAt (length sh) at flat) (lengthsAt (length sh) at flat))
+
+      abbrev later : List ℕ
+      later = cellsOfAll sh (rest sh flat count (i + 1) (at + length sh + length sh))
+
+      -- the cells that are left, those of the next subset taken off
+      next-left : length all + left ≡ volume sh + (volume (lengthsAt (length sh) at flat) + length later)
+      next-left =
+          omega (
+            arith,
+            c .counted,
+            ap (λ (bs : List Subset). length (cellsOfAll sh bs)) (subset-now sh flat count (c .geo) h),
+            length-append cs later,
+            within-cells sh (startsAt (length sh) at flat) (lengthsAt (length sh) at flat) (now-within sh flat count (c .geo) h),
+          )
+
+      next-subset : {r : Answer (List ℕ)} → r ≡ marking m cs → marking unmarked all ≡ andThen r (λ u. marking u later)
+      next-subset e =
+          c .same ∙ ap (λ (bs : List Subset). marking m (cellsOfAll sh bs)) (subset-now sh flat count (c .geo) h)
+          ∙ marking-append m cs later ∙ ap (λ (x : Answer (List ℕ)). andThen x (λ u. marking u later)) (sym e)
+
+      pub cover-over : (m′ : List ℕ) {free : Bool} → toldMarks free m′ ≡ marking m cs → free ≡ false → onceTest (volume sh) all ≡ false
+      cover-over m′ {free} r t = once-refused (volume sh) all (q .shaped .few-cells) below (sym (next-subset (told-by m′ t r)))
+
+      module _ {cells : ℕ} (v : cells ≡ volume (lengthsAt (length sh) at flat)) where
+        pub cover-beyond : left < cells → onceTest (volume sh) all ≡ false
+        cover-beyond l = once-beyond (volume sh) all (q .shaped .few-cells) below (omega (arith, next-left))
+
+        pub cover-more : cells ≤ left → (m′ : List ℕ) {free : Bool} → toldMarks free m′ ≡ marking m cs → free ≡ true
+            → AllMarked sh flat m′ count (i + 1) (at + length sh + length sh) (left - cells)
+        cover-more l m′ {free} r t = record {
+          geo = subsets-more sh flat count (c .geo) h;
+          same = next-subset (told-by m′ t r);
+          counted = omega (arith, next-left);
+        }

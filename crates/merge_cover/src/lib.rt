@@ -1,0 +1,128 @@
+// Whether each cell of a shape lies in exactly one subset of a list. Marks are bits, so that those of all cells take 8 KiB.
+ghost use mathlib.Core.Path.{_≡_};
+ghost use Prim.Native.Nat.{_+_, _-_, _%_, _^_, _≤_, _<_, min};
+ghost use lib.ListN.{length};
+ghost use Rattle.array.specs.Answer.{gives};
+ghost use Rattle.array.specs.Lists.{from};
+ghost use Rattle.array.specs.Shape.{volume, ShapeOk};
+ghost use Rattle.array.specs.Subset.{pairs, cellsIn, cellsOfAll};
+ghost use Rattle.array.specs.Rows.{Within, nextSubsets};
+ghost use Rattle.chunks.specs.Gather.{onceTest};
+ghost use Rattle.merge_cover.specs.Marks.{marking, toldMarks};
+ghost use Rattle.merge_cover.specs.Bits.{marksOf, bitsAt, noWords};
+ghost use Rattle.merge_cover.specs.Asked.{SubsetsOk};
+
+// No cell is marked.
+fn no_marks() -> [u64; 1024]
+    ensures { λ r. ⌜ r ≡ noWords ⌝ }
+{
+    [0u64; 1024]
+}
+
+// How many cells from i on, and before `end`, have their marks in one word.
+fn in_word(i: usize, end: usize) -> usize
+    requires { ⌜ i < end ⌝ }
+    ensures { λ r. ⌜ r ≡ min (64 - i % 64) (end - i) ⌝ }
+{
+    let word = 64 - i % 64;
+    let run = end - i;
+    if word < run { word } else { run }
+}
+
+// n bits, all of them set.
+fn ones(n: usize) -> u64
+    requires { ⌜ (1 ≤ n) × (n ≤ 64) ⌝ }
+    ensures { λ r. ⌜ r ≡ 2 ^ n - 1 ⌝ }
+{
+    let s = (64 - n) as u64;
+    18446744073709551615u64 >> s
+}
+
+// The marks of n cells from i on, which lie in one word, as a number.
+fn marks_at(words: &[u64], i: usize, n: usize) -> u64
+    requires { ⌜ (length (now words) ≡ 1024) × (i < 65536) × (1 ≤ n) × (i % 64 + n ≤ 64) ⌝ }
+    ensures { λ r. ⌜ r ≡ bitsAt (now (words .entry)) i n ⌝ }
+{
+    let k = i / 64;
+    let b = (i % 64) as u64;
+    let s = (64 - n) as u64;
+    let w = words[k];
+    ((w >> b) << s) >> s
+}
+
+// Marks n cells from i on, which lie in one word and are not marked: so their bits are added.
+fn set_marks(words: &mut [u64], i: usize, n: usize)
+    requires { ⌜ (length (now words) ≡ 1024) × (i < 65536) × (1 ≤ n) × (i % 64 + n ≤ 64) × (bitsAt (now words) i n ≡ 0) ⌝ }
+    ensures { λ _. ⌜ gives (marksOf (now (words .exit))) ≡ marking (marksOf (now (words .entry))) (from i n) ⌝ }
+{
+    let k = i / 64;
+    let b = (i % 64) as u64;
+    let v = ones(n);
+    let w = words[k];
+    words[k] = w + (v << b);
+}
+
+// Marks cells that are neighbours, a word at a time; whether none was marked already.
+fn mark_run(words: &mut [u64], start: usize, len: usize) -> bool
+    requires { ⌜ (length (now words) ≡ 1024) × (start + len ≤ 65536) ⌝ }
+    ensures { λ r. ⌜ toldMarks r (marksOf (now (words .exit))) ≡ marking (marksOf (now (words .entry))) (from start len) ⌝ }
+{
+    let mut i = start;
+    let end = start + len;
+    while i < end {
+        let n = in_word(i, end);
+        if marks_at(words, i, n) != 0 {
+            return false;
+        }
+        set_marks(words, i, n);
+        i += n;
+    }
+    true
+}
+
+// Marks the cells of a subset, row by row; whether none was marked already.
+fn mark_subset(words: &mut [u64], shape: &[u64], starts: &[u64], lens: &[u64], cells: u64) -> bool
+    requires { ⌜ ShapeOk (now shape) × Within (now shape) (now starts) (now lens) × (length (now words) ≡ 1024) × (cells ≡ volume (now lens)) ⌝ }
+    ensures { λ r. ⌜ toldMarks r (marksOf (now (words .exit))) ≡ marking (marksOf (now (words .entry))) (cellsIn (now (shape .entry)) (pairs (now (starts .entry)) (now (lens .entry)))) ⌝ }
+{
+    let last = lens.len() - 1;
+    let n = lens[last];
+    let mut at: u64 = 0;
+    while at < cells {
+        let a = subset::cell_at(shape, starts, lens, at);
+        if !mark_run(words, a as usize, n as usize) {
+            return false;
+        }
+        at += n;
+    }
+    true
+}
+
+// Whether each cell of the shape lies in exactly one of the subsets, whose numbers lie end to end: the subsets have as many cells as the
+// shape, and none is marked twice. What is left is counted down, so that no sum wraps.
+pub fn covers(shape: &[u64], subsets: &[u64], count: usize) -> bool
+    requires { ⌜ SubsetsOk (now shape) (now subsets) count ⌝ }
+    ensures { λ r. ⌜ r ≡ onceTest (volume (now (shape .entry))) (cellsOfAll (now (shape .entry)) (nextSubsets (length (now (shape .entry))) count (now (subsets .entry)))) ⌝ }
+{
+    let d = shape.len();
+    let mut words = no_marks();
+    let mut left = subset::volume_of(shape);
+    let mut i: usize = 0;
+    let mut at: usize = 0;
+    while i < count {
+        let mid = at + d;
+        let end = mid + d;
+        let lens = &subsets[mid..end];
+        let cells = subset::volume_of(lens);
+        if left < cells {
+            return false;
+        }
+        if !mark_subset(&mut words, shape, &subsets[at..mid], lens, cells) {
+            return false;
+        }
+        left -= cells;
+        at = end;
+        i += 1;
+    }
+    left == 0
+}
