@@ -180,6 +180,7 @@ module _ (w n : ℕ) (s : List ℕ) (at : ℕ) (p : Place) (l : ℕ) (ha : at �
         within = record {
           index-room = omega (arith, inside);
           data-room = omega (arith, behind, checked .all, datas-long);
+          first-is = λ _. rising .0;
           rising = subst Rising from-zero rising .1;
           last-is = checked .last-is ∙ ap last offsets-are ∙ ap last from-zero;
         };

@@ -3,7 +3,7 @@
 -- Assumes nothing.
 use mathlib.Core.Path.{_≡_, refl, sym, ap, ap₂, _∙_}
 use mathlib.Core.List.{List, [], _∷_, map}
-use mathlib.Core.Bool.{Bool, true, false, not, _&&_, and-true}
+use mathlib.Core.Bool.{Bool, true, false, not, _&&_, and-true, and-false}
 use Prim.Native.Nat.{ℕ, zero, suc, _+_, _-_, _*_, _≤_, _<_}
 use native.Mathlib.Omega.{arith}
 use native.Mathlib.Nat.{suc-mul, zero-mul, mul-comm}
@@ -40,55 +40,62 @@ index-size w n = mul-comm w (suc n) ∙ suc-mul n w ∙ add
     add : n * w + w ≡ w + n * w
     add = omega arith
 
--- ---- the first offset, and the loop that looks for a falling one
+-- ---- the loop that looks for a falling offset, and the first one
 
-pub record Rises (w n : ℕ) (s : List ℕ) (at prev p left : ℕ) : Type 0 where
+pub record Rises (w n : ℕ) (s : List ℕ) (at first prev p left : ℕ) : Type 0 where
   pub room : p + (w + left * w) ≤ length s
-  pub rest : risingTest (offsetsIn w (suc n) (drop at s)) ≡ risingFromTest prev (offsetsIn w left (drop (p + w) s))
+  pub rest : risingTest (offsetsIn w (suc n) (drop at s)) ≡ eqb first 0 && risingFromTest prev (offsetsIn w left (drop (p + w) s))
 
-module _ (w n : ℕ) (s : List ℕ) (at : ℕ) {first : ℕ} (e : first ≡ unle (take w (drop at s))) where
-  by-first : {t : Bool} → eqb first 0 ≡ t → risingTest (offsetsIn w (suc n) (drop at s)) ≡ t && risingFromTest first (offsetsIn w n (drop (at + w) s))
-  by-first et =
-      ap₂ (λ (a : ℕ) (q : List ℕ). eqb a 0 && risingFromTest a (offsetsIn w n q)) (sym e) (drop-drop w at s)
-      ∙ ap (λ (b : Bool). b && risingFromTest first (offsetsIn w n (drop (at + w) s))) et
+pub rises-start : (w n : ℕ) (s : List ℕ) (at : ℕ) {first : ℕ} → first ≡ unle (take w (drop at s)) → at + (w + n * w) ≤ length s → Rises w n s at first first at n
+rises-start w n s at e h = record { room = h; rest = ap₂ (λ (a : ℕ) (q : List ℕ). eqb a 0 && risingFromTest a (offsetsIn w n q)) (sym e) (drop-drop w at s) }
 
-  pub rises-not : 0 < first → false ≡ risingTest (offsetsIn w (suc n) (drop at s))
+module _ {w n : ℕ} {s : List ℕ} {at first prev p left : ℕ} (r : Rises w n s at first prev p left) where
+  abbrev all : Bool
+  all = risingTest (offsetsIn w (suc n) (drop at s))
+
+  module _ (h : 0 < left) where
+    pub rises-room : p + w + w + (left - 1) * w ≤ length s
+    rises-room = omega (arith, r .room, times-less left w h)
+
+    -- the next offset, and those behind it
+    module _ {next : ℕ} (e : next ≡ unle (take w (drop (p + w) s))) where
+      abbrev behind : Bool
+      behind = risingFromTest next (offsetsIn w (left - 1) (drop (p + w + w) s))
+
+      next-is : all ≡ eqb first 0 && (leb prev next && behind)
+      next-is = r .rest ∙ ap (λ (b : Bool). eqb first 0 && b) (go left h)
+        where
+          go : (k : ℕ) → 0 < k → risingFromTest prev (offsetsIn w k (drop (p + w) s)) ≡ leb prev next && risingFromTest next (offsetsIn w (k - 1) (drop (p + w + w) s))
+          go zero f = absurd (omega arith)
+          go (suc k) f =
+              ap₂ (λ (a : ℕ) (q : List ℕ). leb prev a && risingFromTest a (offsetsIn w k q)) (sym e) (drop-drop w (p + w) s)
+              ∙ ap (λ (j : ℕ). leb prev next && risingFromTest next (offsetsIn w j (drop (p + w + w) s))) (sym (sub-one (suc k)))
+
+      by-next : {t : Bool} → leb prev next ≡ t → all ≡ eqb first 0 && (t && behind)
+      by-next et = next-is ∙ ap (λ (t : Bool). eqb first 0 && (t && behind)) et
+
+      pub rises-falls : next < prev → false ≡ all
+      rises-falls f = sym (by-next (lt-leb prev next f) ∙ and-false (eqb first 0))
+
+      pub rises-more : prev ≤ next → Rises w n s at first next (p + w) (left - 1)
+      rises-more f = record { room = omega (arith, rises-room); rest = by-next (le-leb prev next f) }
+
+      -- with one left, its offset decides
+      pub rises-last : first ≤ 0 → left ≡ 1 → leb prev next ≡ all
+      rises-last z f =
+          let none : left - 1 ≡ 0 = omega arith in
+          sym (next-is ∙ ap₂ (λ (b : Bool) (k : ℕ). b && (leb prev next && risingFromTest next (offsetsIn w k (drop (p + w + w) s)))) (eq-eqb first 0 (omega arith)) none
+          ∙ and-true (leb prev next))
+
+  -- by the first offset
+  by-first : {t : Bool} → eqb first 0 ≡ t → all ≡ t && risingFromTest prev (offsetsIn w left (drop (p + w) s))
+  by-first et = r .rest ∙ ap (λ (t : Bool). t && risingFromTest prev (offsetsIn w left (drop (p + w) s))) et
+
+  pub rises-not : 0 < first → false ≡ all
   rises-not f = sym (by-first (ne-eqb first 0 (λ z. absurd (omega arith))))
 
-  pub rises-start : first ≤ 0 → at + (w + n * w) ≤ length s → Rises w n s at first at n
-  rises-start z h = record { room = h; rest = by-first (eq-eqb first 0 (omega arith)) }
-
-module _ {w n : ℕ} {s : List ℕ} {at prev p left : ℕ} (r : Rises w n s at prev p left) (h : 0 < left) where
-  pub rises-room : p + w + w + (left - 1) * w ≤ length s
-  rises-room = omega (arith, r .room, times-less left w h)
-
-  next-is : {next : ℕ} → next ≡ unle (take w (drop (p + w) s))
-      → risingTest (offsetsIn w (suc n) (drop at s)) ≡ leb prev next && risingFromTest next (offsetsIn w (left - 1) (drop (p + w + w) s))
-  next-is {next} e = r .rest ∙ go left h
-    where
-      go : (k : ℕ) → 0 < k → risingFromTest prev (offsetsIn w k (drop (p + w) s)) ≡ leb prev next && risingFromTest next (offsetsIn w (k - 1) (drop (p + w + w) s))
-      go zero f = absurd (omega arith)
-      go (suc k) f =
-          ap₂ (λ (a : ℕ) (q : List ℕ). leb prev a && risingFromTest a (offsetsIn w k q)) (sym e) (drop-drop w (p + w) s)
-          ∙ ap (λ (j : ℕ). leb prev next && risingFromTest next (offsetsIn w j (drop (p + w + w) s))) (sym (sub-one (suc k)))
-
-  pub rises-falls : {next : ℕ} → next ≡ unle (take w (drop (p + w) s)) → next < prev → false ≡ risingTest (offsetsIn w (suc n) (drop at s))
-  rises-falls {next} e f = sym (next-is e ∙ ap (λ (b : Bool). b && risingFromTest next (offsetsIn w (left - 1) (drop (p + w + w) s))) (lt-leb prev next f))
-
-  pub rises-more : {next : ℕ} → next ≡ unle (take w (drop (p + w) s)) → prev ≤ next → Rises w n s at next (p + w) (left - 1)
-  rises-more {next} e f = record {
-    room = omega (arith, rises-room);
-    rest = next-is e ∙ ap (λ (b : Bool). b && risingFromTest next (offsetsIn w (left - 1) (drop (p + w + w) s))) (le-leb prev next f);
-  }
-
-  -- with one left, its offset decides
-  pub rises-last : {next : ℕ} → next ≡ unle (take w (drop (p + w) s)) → left ≡ 1 → leb prev next ≡ risingTest (offsetsIn w (suc n) (drop at s))
-  rises-last {next} e f =
-      let none : left - 1 ≡ 0 = omega arith in
-      sym (next-is e ∙ ap (λ (k : ℕ). leb prev next && risingFromTest next (offsetsIn w k (drop (p + w + w) s))) none ∙ and-true (leb prev next))
-
-pub rises-end : {w n : ℕ} {s : List ℕ} {at prev p left : ℕ} → Rises w n s at prev p left → left ≡ 0 → true ≡ risingTest (offsetsIn w (suc n) (drop at s))
-rises-end {w} {n} {s} {at} {prev} {p} {left} r e = sym (r .rest ∙ ap (λ (k : ℕ). risingFromTest prev (offsetsIn w k (drop (p + w) s))) e)
+  pub rises-end : first ≤ 0 → left ≡ 0 → true ≡ all
+  rises-end z e = sym (by-first (eq-eqb first 0 (omega arith)) ∙ ap (λ (k : ℕ). risingFromTest prev (offsetsIn w k (drop (p + w) s))) e)
 
 -- ---- the last offset
 

@@ -77,9 +77,10 @@ raggedAt w s i = record { values = take (i .last) (drop (i .from) s); offsets = 
 abbrev pub endsIn : ℕ → List ℕ → Index → List ℕ
 endsIn w s i = offsetsIn w (i .cells) (drop (i .index + w) s)
 
--- it lies within the bytes, as its data does, and the ends never fall from 0
+-- it lies within the bytes, as its data does, its first offset is 0, and the ends never fall from 0
 pub record IndexWithin (w : ℕ) (s : List ℕ) (i : Index) : Type 0 where
   pub index-room : i .index + (w + i .cells * w) ≤ length s
   pub data-room : i .from + i .last ≤ length s
+  pub first-is : 1 ≤ i .cells → unle (take w (drop (i .index) s)) ≡ 0
   pub rising : RisingFrom 0 (endsIn w s i)
   pub last-is : i .last ≡ lastFrom 0 (endsIn w s i)

@@ -47,16 +47,14 @@ fn index_length(n: usize, width: IndexWidth) -> usize
 }
 
 // Whether the n + 1 offsets from `at` on begin at 0 and never fall. Two a turn: a shorter loop is as fast only where it lies within one
-// line of 64 bytes.
+// line of 64 bytes. The first is looked at behind the loop, which is faster than before it.
 fn rise_from_zero(s: &[u8], at: usize, n: usize, width: IndexWidth) -> bool
     requires { ⌜ at + (widthOf width + n * widthOf width) ≤ length (now s) ⌝ }
     ensures { λ r. ⌜ r ≡ risingTest (offsetsIn (widthOf width) (suc n) (drop at (now (s .entry)))) ⌝ }
 {
     let w = width_bytes(width);
-    let mut prev = le_at(s, at, width);
-    if prev > 0 {
-        return false;
-    }
+    let first = le_at(s, at, width);
+    let mut prev = first;
     let mut p = at;
     let mut left = n;
     while 1 < left {
@@ -71,6 +69,9 @@ fn rise_from_zero(s: &[u8], at: usize, n: usize, width: IndexWidth) -> bool
             return false;
         }
         left -= 2;
+    }
+    if first > 0 {
+        return false;
     }
     if left == 0 {
         return true;

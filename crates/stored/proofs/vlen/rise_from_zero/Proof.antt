@@ -15,10 +15,10 @@ use Rattle.stored.proofs.vlen.rise_from_zero.Statement.{statement}
 use Rattle.stored.proofs.vlen.rise_from_zero.Tie as tie
 
 abbrev Inv-loop : tie.InvT-loop
-Inv-loop s at n width w prev₀ p₀ left₀ prev p left = Rises w n s at prev p left
+Inv-loop s at n width w first prev₀ p₀ left₀ prev p left = Rises w n s at first prev p left
 
 abbrev μ-loop : tie.MeasureT-loop
-μ-loop s at n width w prev₀ p₀ left₀ prev p left = left
+μ-loop s at n width w first prev₀ p₀ left₀ prev p left = left
 
 -- ---- places: the width was asked for, the loop's head, a turn, the turn's offset was read
 
@@ -45,7 +45,7 @@ abbrev Head : Type 0
 Head = tie.At-loop Inv-loop μ-loop
 
 abbrev wide : Head → Wide
-wide l = l .before .before .before
+wide l = l .before .before
 
 abbrev width : Head → ℕ
 width l = wide l .width-bytes .result
@@ -69,14 +69,14 @@ next-is k =
 
 -- the turn's first offset does not fall
 abbrev First : Type 0
-First = tie.Else2 Inv-loop μ-loop
+First = tie.Else1 Inv-loop μ-loop
 
 abbrev turn : First → Turn
 turn f = f .before .before
 
 first : (f : First) → let l = turn f .before in let a = wide l .before .before .args in
-    Rises (width l) (a .n) (bytes (wide l)) (a .at) (f .before .le-at2 .result) (l .loop .p + width l) (l .loop .left - 1)
-first f = rises-more (turn f .before .loop .inv) (some (turn f)) (next-is (f .before)) (f .if2 .left)
+    Rises (width l) (a .n) (bytes (wide l)) (a .at) (l .before .le-at .result) (f .before .le-at2 .result) (l .loop .p + width l) (l .loop .left - 1)
+first f = rises-more (turn f .before .loop .inv) (some (turn f)) (next-is (f .before)) (f .if1 .left)
 
 more : (f : First) → 0 < turn f .before .loop .left - 1
 more f = omega (arith, turn f .loop-test .taken)
@@ -98,7 +98,7 @@ abbrev Last : Type 0
 Last = tie.Else4 Inv-loop μ-loop
 
 abbrev end : Last → Head
-end e = e .before .before
+end e = e .before .before .before
 
 one : (e : Last) → end e .loop .left ≡ 1
 one e = omega arith
@@ -106,18 +106,12 @@ one e = omega arith
 last-room : (e : Last) → end e .loop .p + width (end e) + width (end e) ≤ length (bytes (wide (end e)))
 last-room e = omega (arith, rises-room (end e .loop .inv) (omega (arith, one e)))
 
-returns : tie.Need-returns Inv-loop μ-loop
-returns c =
-    let b = c .before .before in
-    let a = b .before .before .args in
-    rises-not (b .width-bytes .result) (a .n) (bytes b) (a .at) (first-is (c .before)) (omega (arith, c .if1 .taken)) ∙ ap (tested b) (b .width-bytes .ensures)
-
 loop-holds : tie.Need-loop-holds Inv-loop μ-loop
 loop-holds c =
-    let b = c .before .before in
+    let b = c .before in
     let s = b .before .before in
     let a = s .args in
-    rises-start (b .width-bytes .result) (a .n) (bytes b) (a .at) (first-is (c .before)) (omega (arith, c .if1 .left))
+    rises-start (b .width-bytes .result) (a .n) (bytes b) (a .at) (first-is c)
     (subst (λ (x : ℕ). a .at + (x + a .n * x) ≤ length (bytes b)) (sym (b .width-bytes .ensures)) (s .pre))
 
 add-p : tie.Need-add-p Inv-loop μ-loop
@@ -126,12 +120,12 @@ add-p c = omega (arith, room c)
 le-at-requires-2 : tie.Need-le-at-requires-2 Inv-loop μ-loop
 le-at-requires-2 c κs = omega (arith, room c, wide (c .before) .width-bytes .ensures)
 
-returns-2 : tie.Need-returns-2 Inv-loop μ-loop
-returns-2 c =
+returns : tie.Need-returns Inv-loop μ-loop
+returns c =
     let k = c .before in
     let u = k .before in
     let b = wide (u .before) in
-    rises-falls (u .before .loop .inv) (some u) (next-is k) (c .if2 .taken) ∙ ap (tested b) (b .width-bytes .ensures)
+    rises-falls (u .before .loop .inv) (some u) (next-is k) (c .if1 .taken) ∙ ap (tested b) (b .width-bytes .ensures)
 
 add-p-2 : tie.Need-add-p-2 Inv-loop μ-loop
 add-p-2 c = omega (arith, room-2 c)
@@ -139,11 +133,11 @@ add-p-2 c = omega (arith, room-2 c)
 le-at-requires-3 : tie.Need-le-at-requires-3 Inv-loop μ-loop
 le-at-requires-3 c κs = omega (arith, room-2 c, wide (turn c .before) .width-bytes .ensures)
 
-returns-3 : tie.Need-returns-3 Inv-loop μ-loop
-returns-3 c =
+returns-2 : tie.Need-returns-2 Inv-loop μ-loop
+returns-2 c =
     let m = c .before in
     let b = wide (turn (m .before) .before) in
-    rises-falls (first (m .before)) (more (m .before)) (second-is m) (c .if3 .taken) ∙ ap (tested b) (b .width-bytes .ensures)
+    rises-falls (first (m .before)) (more (m .before)) (second-is m) (c .if2 .taken) ∙ ap (tested b) (b .width-bytes .ensures)
 
 sub-left : tie.Need-sub-left Inv-loop μ-loop
 sub-left c = omega (arith, turn (c .before .before) .loop-test .taken)
@@ -157,13 +151,18 @@ loop-again c =
     let l = turn (m .before) .before in
     let a = wide l .before .before .args in
     let two : l .loop .left - 1 - 1 ≡ l .loop .left - 2 = omega arith in
-    subst (Rises (width l) (a .n) (bytes (wide l)) (a .at) (m .le-at3 .result) (l .loop .p + width l + width l)) two
-    (rises-more (first (m .before)) (more (m .before)) (second-is m) (c .if3 .left))
+    subst (Rises (width l) (a .n) (bytes (wide l)) (a .at) (l .before .le-at .result) (m .le-at3 .result) (l .loop .p + width l + width l)) two
+    (rises-more (first (m .before)) (more (m .before)) (second-is m) (c .if2 .left))
+
+returns-3 : tie.Need-returns-3 Inv-loop μ-loop
+returns-3 c =
+    let l = c .before .before in
+    rises-not (l .loop .inv) (c .if3 .taken) ∙ ap (tested (wide l)) (wide l .width-bytes .ensures)
 
 returns-4 : tie.Need-returns-4 Inv-loop μ-loop
 returns-4 c =
-    let l = c .before .before in
-    rises-end (l .loop .inv) (c .if4 .taken) ∙ ap (tested (wide l)) (wide l .width-bytes .ensures)
+    let l = c .before .before .before in
+    rises-end (l .loop .inv) (c .before .if3 .left) (c .if4 .taken) ∙ ap (tested (wide l)) (wide l .width-bytes .ensures)
 
 add-le-at : tie.Need-add-le-at Inv-loop μ-loop
 add-le-at c = omega (arith, last-room c)
@@ -176,7 +175,7 @@ returns-5 c =
     let l = end (c .before) in
     let last-is : c .le-at4 .result ≡ unle (take (width l) (drop (l .loop .p + width l) (bytes (wide l)))) =
     c .le-at4 .ensures ∙ ap (λ (x : ℕ). unle (take x (drop (l .loop .p + width l) (bytes (wide l))))) (sym (wide l .width-bytes .ensures)) in
-    rises-last (l .loop .inv) (omega (arith, one (c .before))) last-is (one (c .before)) ∙ ap (tested (wide l)) (wide l .width-bytes .ensures)
+    rises-last (l .loop .inv) (omega (arith, one (c .before))) last-is (c .before .before .if3 .left) (one (c .before)) ∙ ap (tested (wide l)) (wide l .width-bytes .ensures)
 
 pub rise-from-zero-spec : {M : Type 1} → statement M
 rise-from-zero-spec =
@@ -186,17 +185,17 @@ rise-from-zero-spec =
     μ-loop
     (λ c κs. search needs)
     (λ c κs. omega arith)
-    returns
     loop-holds
     add-p
     le-at-requires-2
-    returns-2
+    returns
     add-p-2
     le-at-requires-3
-    returns-3
+    returns-2
     sub-left
     loop-less
     loop-again
+    returns-3
     returns-4
     add-le-at
     le-at-requires-4
