@@ -1,5 +1,4 @@
 // Offsets: of cells with no mask, as they are stored, or of the cells of a plane.
-use crate::next::number_if;
 use crate::next::skip;
 use array::kind::IndexWidth;
 use array::kind::width_bytes;
@@ -14,7 +13,7 @@ ghost use Rattle.array.specs.Buffers.{over, overAt};
 ghost use Rattle.array.specs.Meaning.{widthOf};
 ghost use Rattle.codec.specs.Frame.{countSet};
 ghost use Rattle.stored.specs.Index.{offsetsIn};
-ghost use Rattle.decode_cells.specs.Ends.{endsBy};
+ghost use Rattle.decode_cells.specs.Ends.{endsBy, EndsStored};
 
 // Writes the n + 1 offsets that are stored from `at` on.
 pub fn copy_offsets(offsets: &mut [u64], s: &[u8], at: usize, n: usize, width: IndexWidth)
@@ -46,8 +45,9 @@ fn fill_ends(offsets: &mut [u64], to: usize, count: usize, end: u64)
     }
 }
 
-// Writes the offsets of the n cells of the plane at `from`, of which `cells` are set: their ends are stored from `at` on. An end is read
-// for every cell until all are placed, so that no branch goes by the plane.
+// Writes the offsets of the n cells of the plane at `from`, of which `cells` are set: theirs are stored from `at` on, and `last` is the
+// last of them. A cell begins where the next stored one does, so one is read for every cell until all are placed, and no branch goes by
+// the plane.
 pub fn spread_offsets(
     offsets: &mut [u64],
     masks: &[u8],
@@ -57,23 +57,21 @@ pub fn spread_offsets(
     at: usize,
     width: IndexWidth,
     cells: usize,
+    last: u64,
 )
     requires { ⌜ (from + n ≤ length (now masks)) × (n + 1 ≤ length (now offsets)) × (cells ≡ countSet (take n (drop from (now masks))))
-        × (at + cells * widthOf width ≤ length (now s)) ⌝ }
+        × EndsStored (widthOf width) (now s) at cells last ⌝ }
     ensures { λ _. ⌜ now (offsets .exit) ≡ over (0 ∷ endsBy 0 (take n (drop from (now (masks .entry))))
-        (offsetsIn (widthOf width) (countSet (take n (drop from (now (masks .entry))))) (drop at (now (s .entry))))) (now (offsets .entry)) ⌝ }
+        (offsetsIn (widthOf width) (countSet (take n (drop from (now (masks .entry))))) (drop (at + widthOf width) (now (s .entry))))) (now (offsets .entry)) ⌝ }
 {
     let w = width_bytes(width);
-    let mut end: u64 = 0;
     let mut i = 0;
     let mut k = 0;
     while k < cells {
-        offsets[i] = end;
-        let v = le_at(s, at + k * w, width);
+        offsets[i] = le_at(s, at + k * w, width);
         let mark = mark_of(masks[from + i]);
-        end = number_if(mark, v, end);
         k = skip(mark, k, 1);
         i += 1;
     }
-    fill_ends(offsets, i, n + 1 - i, end);
+    fill_ends(offsets, i, n + 1 - i, last);
 }

@@ -10,17 +10,17 @@ use Rattle.array.specs.Bytes.{unle}
 use Rattle.array.specs.Buffers.{over}
 use Rattle.array.specs.Cells.{markOf}
 use Rattle.array.specs.Meaning.{toldMark}
-use Rattle.decode_cells.specs.Next.{ifSet}
+use Rattle.decode_cells.specs.Ends.{EndsStored}
 use Rattle.decode_cells.proofs.PlaneLaws.{planeAt, plane-length, plane-byte, next-most, next-within}
 use Rattle.decode_cells.proofs.SpreadingOffsets.{SpreadingOffsets, endsOf, ends-begin, ends-same, ends-room, ends-end, ends-inside, ends-more}
 use Rattle.decode_cells.proofs.offsets.spread_offsets.Statement.{statement}
 use Rattle.decode_cells.proofs.offsets.spread_offsets.Tie as tie
 
 abbrev Inv-loop : tie.InvT-loop
-Inv-loop offsets₀ masks from n s at width cells w end₀ i₀ k₀ offsets end i k = SpreadingOffsets w (planeAt from n masks) s offsets₀ at cells offsets end i k
+Inv-loop offsets₀ masks from n s at width cells last w i₀ k₀ offsets i k = SpreadingOffsets w (planeAt from n masks) s offsets₀ at cells offsets i k
 
 abbrev μ-loop : tie.MeasureT-loop
-μ-loop offsets₀ masks from n s at width cells w end₀ i₀ k₀ offsets end i k = n - i
+μ-loop offsets₀ masks from n s at width cells last w i₀ k₀ offsets i k = n - i
 
 -- ---- places: the start, the width was asked for, the loop's head, a turn, its mark was asked for
 
@@ -39,6 +39,9 @@ Wide = tie.After-width-bytes Inv-loop μ-loop
 abbrev begun : Wide → Start
 begun b = b .before .before .before .before
 
+ends-stored : (b : Wide) → let a = begun b .args in EndsStored (b .width-bytes .result) (a .s .now) (a .at) (a .cells) (a .last)
+ends-stored b = let s = begun b in let a = s .args in subst (λ (w : ℕ). EndsStored w (a .s .now) (a .at) (a .cells) (a .last)) (sym (b .width-bytes .ensures)) (s .pre .3)
+
 abbrev Head : Type 0
 Head = tie.At-loop Inv-loop μ-loop
 
@@ -54,7 +57,7 @@ same l = ends-same (l .loop .inv)
 room : (l : Head) → l .loop .i < length (l .loop .offsets)
 room l = ends-room (l .loop .inv)
 
--- where the next end is stored
+-- where the next one is stored
 abbrev stored : Head → ℕ
 stored l = start l .args .at + l .loop .k * width l
 
@@ -65,10 +68,13 @@ inside : (u : Turn) → u .before .loop .i < start (u .before) .args .n
 inside u = omega (arith, ends-inside (u .before .loop .inv) (u .loop-test .taken), long (start (u .before)))
 
 source : (u : Turn) → let l = u .before in stored l + width l ≤ length (start l .args .s .now)
-source u = let l = u .before in next-within (width l) (start l .args .at) (l .loop .k) (start l .args .cells) (length (start l .args .s .now)) (u .loop-test .taken) (l .loop .inv .enough)
+source u = let l = u .before in next-within (width l) (start l .args .at) (l .loop .k) (start l .args .cells) (length (start l .args .s .now)) (u .loop-test .taken) (ends-stored (l .before) .room)
 
-end-is : (e : tie.After-le-at Inv-loop μ-loop) → let l = e .before .before in e .le-at .result ≡ unle (take (width l) (drop (stored l) (start l .args .s .now)))
-end-is e =
+abbrev Read : Type 0
+Read = tie.After-le-at Inv-loop μ-loop
+
+offset-is : (e : Read) → let l = e .before .before in e .le-at .result ≡ unle (take (width l) (drop (stored l) (start l .args .s .now)))
+offset-is e =
     let l = e .before .before in
     e .le-at .ensures ∙ ap (λ (w : ℕ). unle (take w (drop (stored l) (start l .args .s .now)))) (sym (l .before .width-bytes .ensures))
 
@@ -88,7 +94,7 @@ abbrev Taken : Type 0
 Taken = tie.After-skip Inv-loop μ-loop
 
 abbrev marked : Taken → Marked
-marked t = t .before .before
+marked t = t .before
 
 -- behind the loop
 abbrev Behind : Type 0
@@ -103,18 +109,7 @@ left f = omega (arith, long (start (head f)), head f .loop .inv .within)
 -- ---- answers
 
 loop-holds : tie.Need-loop-holds Inv-loop μ-loop
-loop-holds c =
-    let s = begun c in
-    let a = s .args in
-    let w = c .width-bytes in
-    ends-begin (w .result) (plane s) (a .s .now) (a .offsets .now) (a .at) (s .pre .2)
-    (subst (λ (w : ℕ). a .at + a .cells * w ≤ length (a .s .now)) (sym (w .ensures)) (s .pre .3)) (omega (arith, long s, s .pre .1))
-
-mul-offsets : tie.Need-mul-offsets Inv-loop μ-loop
-mul-offsets c = omega (arith, room (c .before), same (c .before))
-
-slice-write-offsets : tie.Need-slice-write-offsets Inv-loop μ-loop
-slice-write-offsets c = room (c .before)
+loop-holds c = let s = begun c in ends-begin (plane s) (s .args .offsets .now) (ends-stored c) (s .pre .2) (omega (arith, long s, s .pre .1))
 
 mul-le-at : tie.Need-mul-le-at Inv-loop μ-loop
 mul-le-at c = omega (arith, source c)
@@ -125,6 +120,12 @@ add-le-at c = omega (arith, source c)
 le-at-requires : tie.Need-le-at-requires Inv-loop μ-loop
 le-at-requires c κs = omega (arith, source c, c .before .before .width-bytes .ensures)
 
+mul-offsets : tie.Need-mul-offsets Inv-loop μ-loop
+mul-offsets c = omega (arith, room (c .before .before), same (c .before .before))
+
+slice-write-offsets : tie.Need-slice-write-offsets Inv-loop μ-loop
+slice-write-offsets c = room (c .before .before)
+
 add-mark-of : tie.Need-add-mark-of Inv-loop μ-loop
 add-mark-of c = omega (arith, inside (c .before), start (c .before .before) .pre .0)
 
@@ -133,9 +134,9 @@ shared-slice-read-mark-of c = let u = c .before .before in omega (arith, inside 
 
 skip-requires : tie.Need-skip-requires Inv-loop μ-loop
 skip-requires c κs =
-    let u = turn (c .before) in
+    let u = turn c in
     let l = u .before in
-    omega (arith, next-most (toldMark (c .before .mark-of .result)) (l .loop .k) (start l .args .cells) (u .loop-test .taken))
+    omega (arith, next-most (toldMark (c .mark-of .result)) (l .loop .k) (start l .args .cells) (u .loop-test .taken))
 
 add-i : tie.Need-add-i Inv-loop μ-loop
 add-i c = let l = turn (marked c) .before in omega (arith, room l, same l)
@@ -147,11 +148,7 @@ loop-again : tie.Need-loop-again Inv-loop μ-loop
 loop-again c =
     let m = marked c in
     let u = turn m in
-    let l = u .before in
-    let mark = toldMark (m .mark-of .result) in
-    let next = c .before .number-if in
-    rw (c .skip .ensures)
-    (ends-more (l .loop .inv) (u .loop-test .taken) (mark-is m) (next .ensures ∙ ap (λ (e : ℕ). ifSet mark e (l .loop .end)) (end-is (m .before .before))))
+    rw (c .skip .ensures) (ends-more (u .before .loop .inv) (u .loop-test .taken) (mark-is m) (offset-is (m .before .before)))
 
 add-fill-ends : tie.Need-add-fill-ends Inv-loop μ-loop
 add-fill-ends c = omega (arith, start (head c) .pre .1)
@@ -170,7 +167,7 @@ returns c =
     let f = c .before .before in
     let l = head (f .before) in
     let s = start l in
-    ends-end (l .loop .inv) (f .before .before .loop-test .left) (long s) (f .fill-ends .ensures)
+    ends-end (l .loop .inv) (f .before .before .loop-test .left) (ends-stored (l .before)) (long s) (f .fill-ends .ensures)
     ∙ ap (λ (w : ℕ). over (endsOf w (plane s) (s .args .s .now) (s .args .at)) (s .args .offsets .now)) (l .before .width-bytes .ensures)
 
 pub spread-offsets-spec : {M : Type 1} → statement M
@@ -181,14 +178,13 @@ spread-offsets-spec =
     μ-loop
     (λ c κs. search needs)
     loop-holds
-    mul-offsets
-    slice-write-offsets
     mul-le-at
     add-le-at
     le-at-requires
+    mul-offsets
+    slice-write-offsets
     add-mark-of
     shared-slice-read-mark-of
-    (λ c κs. search needs)
     (λ c κs. search needs)
     skip-requires
     add-i
