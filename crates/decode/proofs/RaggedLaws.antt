@@ -131,7 +131,7 @@ module _ {x : Masks} {d : ℕ} {s : List ℕ} {n : ℕ} (l : Limited d n) (w : �
         limits = l;
         masks = q .within;
         count = sym e ∙ passed-count (l .some) q;
-        index = record { index-room = omega (arith, zero-mul w, mask .room); data-room = omega arith; rising = tt; last-is = refl };
+        index = record { index-room = omega (arith, zero-mul w, mask .room); data-room = omega arith; first-is = λ h. absurd (omega arith); rising = tt; last-is = refl };
       }
 
   pub some-within : {p : Place} {i : Index} → IndexChecked w p s a k i → RaggedWithin x w d s n i

@@ -17,7 +17,7 @@ use Rattle.codec.specs.Mask.{maskForm}
 use Rattle.codec.specs.Frame.{countSet}
 use Rattle.stored.specs.declared.vlen.Index.{Index}
 use Rattle.stored.specs.Index.{offsetsIn, raggedAt, IndexWithin}
-use Rattle.decode_cells.specs.Ends.{endsBy}
+use Rattle.decode_cells.specs.Ends.{endsBy, EndsStored}
 use Rattle.decode_cells.proofs.CopyingOffsets.{length-offsets}
 use Rattle.decode_planes.specs.Within.{planesIn, innermostIn}
 use Rattle.decode_planes.proofs.AllPlanes.{innermost-read}
@@ -50,6 +50,9 @@ module _ {w : ℕ} {s : List ℕ} {i : Index} (r : IndexWithin w s i) (v off : L
 
 -- ---- below masks
 
+pub nested-ends : {x : Masks} {w d : ℕ} {s : List ℕ} {n : ℕ} {i : Index} → RaggedWithin x w d s n i → EndsStored w s (i .index) (i .cells) (i .last)
+nested-ends r = record { room = omega (arith, r .index .index-room); first-is = r .index .first-is; last-is = r .index .last-is }
+
 module _ {x : Masks} {w d : ℕ} {s : List ℕ} {n : ℕ} {i : Index} (r : RaggedWithin x w d s n i) (g : d ≢ 0) (m v off : List ℕ) where
   pub nested-short-masks : length m < d * n → outcomeArray (Refused 6) m v off ≡ readOutcome (contentArray m v off) (gives (content r g))
   nested-short-masks h = short-masks (content r g) m v off (omega (arith, nested-masks-long r g))
@@ -68,18 +71,17 @@ module _ {x : Masks} {w d : ℕ} {s : List ℕ} {n : ℕ} {i : Index} (r : Ragge
     pub nested-set : i .cells ≡ countSet (take n (drop (d * n - n) m′))
     nested-set = nested-count r g ∙ ap countSet (sym innermost)
 
-    -- z is the width, worked out in another way
-    pub nested-written : d * n ≤ length m → i .last ≤ length v → n + 1 ≤ length off → {z : ℕ} → z ≡ w → {v′ o′ : List ℕ}
+    pub nested-written : d * n ≤ length m → i .last ≤ length v → n + 1 ≤ length off → {v′ o′ : List ℕ}
         → v′ ≡ over (take (i .last) (drop (i .from) s)) v
-        → o′ ≡ over (0 ∷ endsBy 0 (take n (drop (d * n - n) m′)) (offsetsIn w (countSet (take n (drop (d * n - n) m′))) (drop (i .index + z) s))) off
+        → o′ ≡ over (0 ∷ endsBy 0 (take n (drop (d * n - n) m′)) (offsetsIn w (countSet (take n (drop (d * n - n) m′))) (drop (i .index + w) s))) off
         → outcomeArray (Lengths (d * n) (i .last) (n + 1)) m′ v′ o′ ≡ readOutcome (contentArray m v off) (gives (content r g))
-    nested-written h j k {z} ez {v′} {o′} ev eo =
+    nested-written h j k {v′} {o′} ev eo =
         let lm : length (content r g .masks) ≡ d * n = nested-masks-long r g in
         let lv : length (content r g .values) ≡ i .last = nested-values-long r g in
         let lo : length (content r g .offsets) ≡ n + 1 = nested-offsets-long r g in
         all-written (content r g) m v off (omega arith) (omega arith) (omega arith) (sym lm) (sym lv) (sym lo)
         (em ∙ ap (λ (p : List ℕ). over p m) (sym (nested-masks r g)))
         (ev ∙ ap (λ (p : List ℕ). over p v) (sym (nested-values r g)))
-        (eo ∙ ap (λ (y : ℕ). over (0 ∷ endsBy 0 (take n (drop (d * n - n) m′)) (offsetsIn w (countSet (take n (drop (d * n - n) m′))) (drop (i .index + y) s))) off) ez
+        (eo
         ∙ ap₂ (λ (p : List ℕ) (c : ℕ). over (0 ∷ endsBy 0 p (offsetsIn w c (drop (i .index + w) s))) off) innermost (sym nested-set)
         ∙ ap (λ (p : List ℕ). over p off) (sym (nested-offsets r g)))

@@ -3,7 +3,6 @@ use array::answer::WrittenArray;
 use array::kind::IndexPlace;
 use array::kind::IndexWidth;
 use array::kind::Kind;
-use array::kind::width_bytes;
 use array::refusal;
 use buffer::copy::copy_many;
 use decode_cells::offsets::copy_offsets;
@@ -77,10 +76,11 @@ fn write_nested(
     let form = kind.masks;
     let depth = kind.depth as usize;
     let cells = found.cells;
-    let ends = found.index + width_bytes(width);
+    let index = found.index;
     let from = found.from;
+    let last = found.last;
     let planes = depth * n;
-    let bytes = found.last as usize;
+    let bytes = last as usize;
     let count = n + 1;
     if masks.len() < planes {
         return WrittenArray::Refused(refusal::OUTPUT);
@@ -93,7 +93,7 @@ fn write_nested(
     }
     place_planes(form, masks, n, depth, s);
     copy_many(values, 0, s, from, bytes);
-    spread_offsets(offsets, masks, planes - n, n, s, ends, width, cells);
+    spread_offsets(offsets, masks, planes - n, n, s, index, width, cells, last);
     WrittenArray::Lengths(planes, bytes, count)
 }
 
@@ -150,13 +150,14 @@ pub fn decode_ragged(
                     from: 0,
                     last: 0,
                 };
-                return write_nested(kind, width, n, s, none, masks, values, offsets);
-            }
-            let checked = check_ragged(s, at, cells, width, place);
-            match checked {
-                Indexed::Refused(e) => WrittenArray::Refused(e),
-                Indexed::Found(found) => {
-                    write_nested(kind, width, n, s, found, masks, values, offsets)
+                write_nested(kind, width, n, s, none, masks, values, offsets)
+            } else {
+                let checked = check_ragged(s, at, cells, width, place);
+                match checked {
+                    Indexed::Refused(e) => WrittenArray::Refused(e),
+                    Indexed::Found(found) => {
+                        write_nested(kind, width, n, s, found, masks, values, offsets)
+                    }
                 }
             }
         }

@@ -102,17 +102,6 @@ write-nested-requires c κs =
       omega (arith, deep (walk-of w)),
     )
 
-returns-2 : tie.Need-returns-2
-returns-2 c =
-    let copied = c .before .before .before .before in
-    let wrote = copied .before .before in
-    let w = none (wrote .before) .before in
-    let a = start w .args in
-    rw
-    (ragged-none-set (maskForm (masksOf (a .kind .masks))) (widthOf (a .width)) (placeOf (a .place)) (a .s .now) (a .kind .depth) (a .n) (start w .pre .some) (values-are w)
-    (omega (arith, none (wrote .before) .if2 .taken)))
-    (wrote .write-nested .ensures)
-
 check-ragged-requires : tie.Need-check-ragged-requires
 check-ragged-requires c κs = let w = c .before in (le-trans (passed w .few) (start w .pre .few), passed w .inside)
 
@@ -122,12 +111,23 @@ write-nested-requires-2 c κs =
     let a = start w .args in
     (some-within (start w .pre) (widthOf (a .width)) (passed w) (checked-is (found c)), omega (arith, deep (walk-of w)))
 
-returns-3 : tie.Need-returns-3
-returns-3 c =
+returns-2 : tie.Need-returns-2
+returns-2 c =
     let walk = c .before .before .before in
     let a = begun walk .args in
     rw (ragged-refused (maskForm (masksOf (a .kind .masks))) (widthOf (a .width)) (placeOf (a .place)) (a .s .now) (a .kind .depth) (a .n) (begun walk .pre .some) _
     (walk-is walk ∙ ap toldWalk (c .before .walk .given .1)))
+
+returns-3 : tie.Need-returns-3
+returns-3 c =
+    let copied = c .before .before .before .before in
+    let wrote = copied .before .before in
+    let w = none (wrote .before) .before in
+    let a = start w .args in
+    rw
+    (ragged-none-set (maskForm (masksOf (a .kind .masks))) (widthOf (a .width)) (placeOf (a .place)) (a .s .now) (a .kind .depth) (a .n) (start w .pre .some) (values-are w)
+    (omega (arith, none (wrote .before) .if2 .taken)))
+    (wrote .write-nested .ensures)
 
 returns-4 : tie.Need-returns-4
 returns-4 c =
@@ -164,14 +164,14 @@ decode-ragged-spec =
     (λ c. search needs)
     (λ c. search needs)
     write-nested-requires
-    (λ c. search needs)
-    (λ c. search needs)
-    (λ c. search needs)
-    returns-2
     check-ragged-requires
     (λ c. search needs)
     (λ c. search needs)
     write-nested-requires-2
+    returns-2
+    (λ c. search needs)
+    (λ c. search needs)
+    (λ c. search needs)
     returns-3
     returns-4
     (λ c. search needs)

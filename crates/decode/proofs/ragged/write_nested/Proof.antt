@@ -7,7 +7,7 @@ use native.Mathlib.Omega.{arith}
 use borrow.Author.Needs.{needs}
 use Rattle.decode_planes.proofs.Levels.{times-first}
 use Rattle.decode.proofs.Small.{few-cells, planes-small}
-use Rattle.decode.proofs.RaggedWritten.{nested-short-masks, nested-short-values, nested-short-offsets, nested-set, nested-written}
+use Rattle.decode.proofs.RaggedWritten.{nested-short-masks, nested-short-values, nested-short-offsets, nested-set, nested-ends, nested-written}
 use Rattle.decode.proofs.ragged.write_nested.Statement.{statement}
 use Rattle.decode.proofs.ragged.write_nested.Tie as tie
 
@@ -16,14 +16,11 @@ use Rattle.decode.proofs.ragged.write_nested.Tie as tie
 abbrev entry : tie.After-slice-known3 → tie.Start
 entry c = c .before .before .before .before
 
-abbrev sized : tie.After-struct-known2 → tie.After-width-bytes
-sized c = c .before
-
-abbrev begun : tie.After-struct-known2 → tie.Start
-begun c = entry (sized c .before .before)
+abbrev begun : tie.After-struct-known → tie.Start
+begun c = entry (c .before)
 
 -- all outputs are long enough
-abbrev fitting : tie.Else3 → tie.After-struct-known2
+abbrev fitting : tie.Else3 → tie.After-struct-known
 fitting c = c .before .before .before
 
 abbrev placed : tie.After-copy-many → tie.After-place-planes
@@ -85,12 +82,11 @@ spread-offsets-requires c κs =
     let fits = placed (copied c) .before .before in
     let long = fitting fits in
     let start = begun long in
-    let a = start .args in
-    let width = sized long .width-bytes .ensures in (
+    let a = start .args in (
       omega (arith, first-is start, planes .kept .1 .0, fits .before .before .if1 .left),
       omega (arith, fits .if3 .left),
       nested-set (start .pre .0) (deep start) (a .masks .now) (a .values .now) (a .offsets .now) (planes .ensures),
-      omega (arith, width, start .pre .0 .index .index-room),
+      nested-ends (start .pre .0),
     )
 
 returns-4 : tie.Need-returns-4
@@ -102,14 +98,12 @@ returns-4 c =
     let start = begun long in
     let a = start .args in
     nested-written (start .pre .0) (deep start) (a .masks .now) (a .values .now) (a .offsets .now) (placed values .place-planes .ensures) (fits .before .before .if1 .left) (fits .before .if2 .left)
-    (fits .if3 .left) (sized long .width-bytes .ensures) (values .copy-many .ensures) (wrote .spread-offsets .ensures)
+    (fits .if3 .left) (values .copy-many .ensures) (wrote .spread-offsets .ensures)
 
 pub write-nested-spec : {M : Type 1} → statement M
 write-nested-spec =
     tie.close
     (tie.spec
-    (λ c. search needs)
-    (λ c κs. search needs)
     (λ c. search needs)
     mul-planes
     add-count
