@@ -148,6 +148,9 @@ module _ (o : Order) {x : Masks} {size d : ℕ} {s : List ℕ} {n : ℕ} {f : Fo
 
 -- ---- what the copying rests on, by the walk
 
+abbrev pub nowhere : Found
+nowhere = record { at = 0; cells = 0 }
+
 module _ {x : Masks} {size d : ℕ} {s : List ℕ} {n : ℕ} {f : Found} (r : FixedFound x size d s n f) where
   pub found-passed : WalkPassed x d s 0 n (f .at) (f .cells)
   found-passed = walk-passed x d s 0 n (f .at) (f .cells) (r .limits .some) (omega arith) (r .walk)
@@ -162,6 +165,16 @@ module _ {x : Masks} {size d : ℕ} {s : List ℕ} {n : ℕ} {f : Found} (r : Fi
     masks = found-passed .within;
     count = passed-count (r .limits .some) found-passed;
     room = omega (arith, found-passed .inside);
+  }
+
+  -- where no cell is set no value is stored
+  pub none-within : f .cells ≡ 0 → FixedWithin x size d s n nowhere
+  none-within e = record {
+    limits = r .limits;
+    small = r .small;
+    masks = found-passed .within;
+    count = sym e ∙ passed-count (r .limits .some) found-passed;
+    room = omega (arith, zero-mul size);
   }
 
 -- ---- the reader, by the walk
@@ -208,6 +221,12 @@ module _ (o : Order) {x : Masks} {size d : ℕ} {s : List ℕ} {n : ℕ} {f : Fo
   pub fixed-given : length s - f .at ≡ f .cells * size → readIn (maskForm x) (fixed size o) d n s ≡ gives (fixedFrom (maskForm x) size o d s n f)
   unfolding fixedFrom
   fixed-given g = by-length (eq-eqb (length (drop (f .at) s)) (f .cells * size) (length-drop (f .at) s ∙ g))
+
+  pub fixed-none : f .cells ≡ 0 → readIn (maskForm x) (fixed size o) d n s ≡ gives (fixedFrom (maskForm x) size o d s n nowhere)
+  unfolding fixedFrom
+  fixed-none e =
+      reads (maskForm x) size o s (r .limits) (r .walk)
+      ∙ ap (λ (j : ℕ). laidOut (maskForm x) size o s (r .limits) (answerBy (maskForm x) (replicate size 0) (getValues (fixed size o)) d s 0 n (f .at, j))) e
 
 -- ---- with no mask the values are all that is stored
 

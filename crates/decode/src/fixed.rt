@@ -79,9 +79,10 @@ fn write_found(
         (readIn (maskForm (masksOf (kind .masks))) (fixed size (orderOf order)) (kind .depth) n (now (s .entry)))) ⌝ }
 {
     if s.len() - found.at != found.cells * size {
-        return WrittenArray::Refused(refusal::LENGTH);
+        WrittenArray::Refused(refusal::LENGTH)
+    } else {
+        write_fixed(kind, size, order, n, s, found, masks, values)
     }
-    write_fixed(kind, size, order, n, s, found, masks, values)
 }
 
 // Reads an array of n cells of a fixed size.
@@ -108,7 +109,14 @@ pub fn decode_fixed(
     match walk {
         Walked::Refused(e) => WrittenArray::Refused(e),
         Walked::Values(at, cells) => {
-            write_found(kind, size, order, n, s, Found { at, cells }, masks, values)
+            // no cell is set, and no value stored
+            if cells == 0 {
+                let none = Found { at: 0, cells: 0 };
+                write_fixed(kind, size, order, n, s, none, masks, values)
+            } else {
+                let found = Found { at, cells };
+                write_found(kind, size, order, n, s, found, masks, values)
+            }
         }
     }
 }

@@ -24,11 +24,11 @@ sub-if1 c = omega (arith, found-passed (entry c .pre .0) .inside)
 mul-if1 : tie.Need-mul-if1
 mul-if1 c = omega (arith, found-small (entry (c .before) .pre .0))
 
-returns : tie.Need-returns
-returns c = let start = entry (c .before .before) in λ offsets. rw (fixed-length (orderOf (start .args .order)) (start .pre .0) (c .if1 .taken)) refl
-
 write-fixed-requires : tie.Need-write-fixed-requires
 write-fixed-requires c κs = let fits = c .before .before in let pre = entry (fits .before .before) .pre in (some-within (pre .0) (fits .if1 .left), pre .1)
+
+returns : tie.Need-returns
+returns c = let start = entry (c .before .before) in λ offsets. rw (fixed-length (orderOf (start .args .order)) (start .pre .0) (c .if1 .taken)) refl
 
 returns-2 : tie.Need-returns-2
 returns-2 c =
@@ -38,4 +38,4 @@ returns-2 c =
     λ offsets. rw (fixed-given (orderOf (start .args .order)) (start .pre .0) (fits .if1 .left)) (wrote .write-fixed .ensures offsets)
 
 pub write-found-spec : {M : Type 1} → statement M
-write-found-spec = tie.close (tie.spec sub-if1 mul-if1 returns write-fixed-requires (λ c. search needs) (λ c. search needs) returns-2)
+write-found-spec = tie.close (tie.spec sub-if1 mul-if1 write-fixed-requires returns (λ c. search needs) (λ c. search needs) returns-2)
