@@ -146,7 +146,7 @@ pub extern "C" fn dpx_decode_interleaved(
     ensures { λ r. ⌜ handed r (now (lengths .exit)) (contentRagged (now (values .exit)) (now (offsets .exit)))
         ≡ exportTwo (interleavedDecoded cells (now (bytes .entry)) (contentRagged (now (values .entry)) (now (offsets .entry)))) (now (lengths .entry)) ⌝ }
 {
-    let answer = interleaved::vlen_v2::decode_interleaved(cells, bytes, values, offsets);
+    let answer = decode_interleaved::vlen_v2::decode_interleaved(cells, bytes, values, offsets);
     put_two_lengths(answer, lengths)
 }
 
@@ -174,7 +174,7 @@ pub extern "C" fn dpx_encode_interleaved(
     match read {
         KindRead::Refused(e) => e as u32,
         KindRead::Kind(k) => {
-            let answer = interleaved::write::encode_interleaved(
+            let answer = encode_interleaved::write::encode_interleaved(
                 k,
                 shape,
                 masks,

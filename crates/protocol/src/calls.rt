@@ -1,8 +1,8 @@
 // The calls, each on the lists of a request.
 use array::answer::WrittenArray;
 use array::kind::Kind;
-use interleaved::vlen_v2;
-use interleaved::write;
+use decode_interleaved::vlen_v2;
+use encode_interleaved::write;
 use partial::vlen_partial;
 use requests::Request;
 use requests::asked::head_kind;

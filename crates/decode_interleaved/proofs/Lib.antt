@@ -1,0 +1,3 @@
+pub mod Steps
+pub mod Loops
+pub mod Outcomes

@@ -1,6 +1,0 @@
-pub mod Steps
-pub mod Placing
-pub mod Loops
-pub mod Outcomes
-pub mod Storing
-pub mod Writes
