@@ -9,3 +9,4 @@ pub mod Spread
 pub mod Refusals
 pub mod Older
 pub mod OneForm
+pub mod MaskAt

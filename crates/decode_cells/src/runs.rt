@@ -1,5 +1,5 @@
 // Runs of cells that are all set, or all not.
-use mask::mark::is_set;
+use mask_marks::is_set;
 ghost use mathlib.Core.Path.{_≡_};
 ghost use Prim.Native.Nat.{_+_, _≤_};
 ghost use lib.ListN.{length, take, drop};

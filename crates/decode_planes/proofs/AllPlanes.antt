@@ -18,7 +18,7 @@ use Rattle.codec.specs.Mask.{MaskForm, maskForm}
 use Rattle.codec.specs.Frame.{countSet}
 use Rattle.codec.specs.Spread.{spread, innermostPlane}
 use Rattle.codec.proofs.SpreadLaws.{length-spread}
-use Rattle.mask.specs.Marks.{saidMask}
+use Rattle.codec.specs.MaskAt.{saidMask}
 use Rattle.stored.specs.Stored.{maskIn, contentAt, storedMasks, cellsFrom, planesBelow, MaskPassed, MasksWithin, innermostCount}
 use Rattle.stored.proofs.Reading.{masks-from, leaves-from}
 use Rattle.stored.proofs.Walks.{mask-long}

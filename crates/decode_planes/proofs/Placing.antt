@@ -17,7 +17,7 @@ use Rattle.codec.specs.Frame.{countSet}
 use Rattle.codec.specs.Spread.{spread}
 use Rattle.codec.proofs.Marks.{count-mark, count-le}
 use Rattle.codec.proofs.SpreadLaws.{length-spread, spread-none, spread-all, spread-mark}
-use Rattle.mask.specs.Marks.{saidMask}
+use Rattle.codec.specs.MaskAt.{saidMask}
 use Rattle.mask.proofs.Said.{length-said}
 use Rattle.stored.proofs.IndexLaws.{drop-take}
 use Rattle.decode_cells.specs.Next.{ifSet, nextAt}

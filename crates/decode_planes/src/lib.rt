@@ -14,7 +14,7 @@ ghost use Rattle.array.specs.Meaning.{masksOf};
 ghost use Rattle.array.specs.Buffers.{over, overAt};
 ghost use Rattle.codec.specs.Mask.{maskForm};
 ghost use Rattle.codec.specs.Spread.{spread};
-ghost use Rattle.mask.specs.Marks.{saidMask};
+ghost use Rattle.codec.specs.MaskAt.{saidMask};
 ghost use Rattle.stored.specs.Stored.{planesBelow};
 ghost use Rattle.decode_planes.specs.Within.{LaidWithin, PlaneWithin, LevelsWithin, PlanesWithin, planesIn};
 

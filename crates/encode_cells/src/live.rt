@@ -1,6 +1,5 @@
 // The cells that a level counts: those whose masks are set at every level above it.
 use array::mark::block_end;
-use mask::mark;
 ghost use mathlib.Core.Path.{_≡_};
 ghost use Prim.Native.Nat.{_+_, _-_, _*_, _<_, _≤_};
 ghost use lib.ListN.{length};
@@ -12,7 +11,7 @@ fn mark_at(masks: &[u8], cells: usize, l: usize, i: usize) -> u8
     requires { ⌜ l * cells + i < length (now masks) ⌝ }
     ensures { λ r. ⌜ r ≡ setOne (maskAt cells (now (masks .entry)) l i) ⌝ }
 {
-    mark::one_if_set(masks[l * cells + i])
+    mask_marks::one_if_set(masks[l * cells + i])
 }
 
 // 1 where cell i is set at each of the first `level` levels, else 0: a product, so that what goes by it has no branch.
@@ -89,7 +88,7 @@ pub fn count_live(masks: &[u8], cells: usize, level: usize) -> usize
 {
     match level {
         0 => cells,
-        1 => mark::count_set(&masks[0..cells]),
+        1 => mask_marks::count_set(&masks[0..cells]),
         _ => count_blocks(masks, cells, level),
     }
 }

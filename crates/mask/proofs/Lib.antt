@@ -1,4 +1,1 @@
-pub mod Entries
-pub mod Ones
 pub mod Said
-pub mod Words

@@ -1,12 +1,12 @@
 // Stored masks, over their form: a byte a cell or a bit a cell. No other crate knows how a mask lies in stored bytes.
-use crate::mark::count_set;
-use crate::pack;
-use crate::packed;
 use crate::strict;
-use crate::unpack;
 use array::kind::MaskForm;
 use array::refusal;
 use buffer::copy;
+use mask_bits::pack;
+use mask_bits::packed;
+use mask_bits::unpack;
+use mask_marks::count_set;
 ghost use mathlib.Core.Path.{_≡_};
 ghost use mathlib.Core.Bool.{true};
 ghost use Prim.Native.Nat.{_+_, _≤_};
@@ -15,7 +15,8 @@ ghost use Rattle.array.specs.Buffers.{overAt};
 ghost use Rattle.array.specs.Meaning.{masksOf};
 ghost use Rattle.codec.specs.Mask.{maskForm};
 ghost use Rattle.codec.specs.Frame.{countSet};
-ghost use Rattle.mask.specs.Marks.{storedMask, saidMask, countedIn, toldCounted};
+ghost use Rattle.codec.specs.MaskAt.{storedMask, saidMask};
+ghost use Rattle.mask.specs.Marks.{countedIn, toldCounted};
 
 // Stored bytes of the mask of so many cells.
 pub fn mask_length(form: MaskForm, cells: usize) -> usize

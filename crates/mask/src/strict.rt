@@ -1,9 +1,9 @@
 // Stored masks of a byte a cell: their bytes are checked and counted in one pass.
 use crate::form::Counted;
-use crate::mark::one_if_set;
 use array::mark::block_end;
 use array::mark::one_if_other;
 use array::refusal;
+use mask_marks::one_if_set;
 ghost use mathlib.Core.Path.{_≡_};
 ghost use Prim.Native.Nat.{_+_, _≤_};
 ghost use lib.ListN.{length, drop};

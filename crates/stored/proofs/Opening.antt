@@ -17,7 +17,8 @@ use Rattle.buffer.specs.Field.{fieldAt}
 use Rattle.buffer.proofs.Fields.{field-value, field-refused}
 use Rattle.codec.specs.Mask.{MaskForm, maskForm}
 use Rattle.codec.specs.Frame.{countSet}
-use Rattle.mask.specs.Marks.{storedMask, saidMask, countedIn}
+use Rattle.codec.specs.MaskAt.{storedMask, saidMask}
+use Rattle.mask.specs.Marks.{countedIn}
 use Rattle.stored.specs.Walk.{opened, entering, walked, walkedFrame}
 use Rattle.stored.specs.Stored.{contentAt}
 use Rattle.codec.proofs.Marks.{count-le}

@@ -17,7 +17,8 @@ use Rattle.array.specs.Content.{masksOf, leaves}
 use Rattle.codec.specs.Mask.{MaskForm, getMask}
 use Rattle.codec.specs.Frame.{countSet, expand, contentOf, readFrame}
 use Rattle.codec.specs.Spread.{spread, planeList, placed, innermostPlane}
-use Rattle.mask.specs.Marks.{storedMask, countedIn}
+use Rattle.codec.specs.MaskAt.{storedMask}
+use Rattle.mask.specs.Marks.{countedIn}
 use Rattle.stored.specs.Walk.{opened, entering, walked}
 use Rattle.stored.specs.Stored.{maskIn, contentAt, storedMasks, cellsFrom, innermostBy, answerBy}
 use Rattle.codec.proofs.SpreadLaws.{expand-none, planes-joined, planes-expand, leaves-expand, spread-spread, stacked, placed-stacked}

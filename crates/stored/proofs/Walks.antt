@@ -15,7 +15,7 @@ use Rattle.array.specs.Kind.{Masks}
 use Rattle.codec.specs.Mask.{MaskForm, maskForm}
 use Rattle.codec.specs.Frame.{countSet}
 use Rattle.codec.specs.Spread.{spread, innermostPlane}
-use Rattle.mask.specs.Marks.{storedMask}
+use Rattle.codec.specs.MaskAt.{storedMask}
 use Rattle.stored.specs.Walk.{opened, entering, walked}
 use Rattle.stored.specs.Stored.{maskIn, contentAt, storedMasks, MaskPassed, MasksWithin, innermostCount}
 use Rattle.codec.proofs.Marks.{count-le, count-zeros}

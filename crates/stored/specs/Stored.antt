@@ -12,7 +12,7 @@ use Rattle.array.specs.Cells.{Value, Cell, blank}
 use Rattle.codec.specs.Mask.{MaskForm}
 use Rattle.codec.specs.Frame.{countSet, expand}
 use Rattle.codec.specs.Spread.{placed, innermostPlane}
-use Rattle.mask.specs.Marks.{storedMask, saidMask}
+use Rattle.codec.specs.MaskAt.{storedMask, saidMask}
 
 -- the mask bytes that the frame of n cells at `at` says
 abbrev pub maskIn : MaskForm → List ℕ → ℕ → ℕ → List ℕ

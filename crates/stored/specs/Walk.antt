@@ -9,7 +9,8 @@ use lib.Dec.{leb, eqb}
 use Rattle.array.specs.Answer.{Answer, gives, refuses, unless, andThen}
 use Rattle.array.specs.Bytes.{unle}
 use Rattle.codec.specs.Mask.{MaskForm}
-use Rattle.mask.specs.Marks.{storedMask, countedIn}
+use Rattle.codec.specs.MaskAt.{storedMask}
+use Rattle.mask.specs.Marks.{countedIn}
 use Rattle.stored.specs.declared.optional.Walked as walks
 
 -- how many cells the content of a frame of n cells has

@@ -12,7 +12,8 @@ use Rattle.array.specs.declared.kind.MaskForm.the-variants.{Bytes, Packed}
 use Rattle.array.specs.Kind.{Masks}
 use Rattle.array.specs.Meaning.{masksOf}
 use Rattle.codec.specs.Mask.{maskForm, byteMask, packedMask, bytesFor}
-use Rattle.mask.specs.Marks.{storedMask, countedIn}
+use Rattle.codec.specs.MaskAt.{storedMask}
+use Rattle.mask.specs.Marks.{countedIn}
 use Rattle.mask.proofs.Said.{counted-passed, counted-failed}
 use Rattle.mask.proofs.form.check_mask.Statement.{statement}
 use Rattle.mask.proofs.form.check_mask.Tie as tie

@@ -8,7 +8,7 @@ use Rattle.array.specs.Kind.{Masks}
 use Rattle.array.specs.Meaning.{masksOf}
 use Rattle.array.specs.Buffers.{overAt}
 use Rattle.codec.specs.Mask.{maskForm}
-use Rattle.mask.specs.Marks.{saidMask}
+use Rattle.codec.specs.MaskAt.{saidMask}
 use borrow.Author.Needs.{needs}
 use Rattle.mask.proofs.form.copy_to_plane.Statement.{statement}
 use Rattle.mask.proofs.form.copy_to_plane.Tie as tie

@@ -10,7 +10,7 @@ use Rattle.array.specs.Kind.{Masks}
 use Rattle.array.specs.Meaning.{masksOf}
 use Rattle.codec.specs.Mask.{maskForm}
 use Rattle.codec.specs.Frame.{countSet}
-use Rattle.mask.specs.Marks.{storedMask, saidMask}
+use Rattle.codec.specs.MaskAt.{storedMask, saidMask}
 use borrow.Author.Needs.{needs}
 use Rattle.mask.proofs.form.count_stored.Statement.{statement}
 use Rattle.mask.proofs.form.count_stored.Tie as tie

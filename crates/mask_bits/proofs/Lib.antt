@@ -1,0 +1,4 @@
+pub mod Entries
+pub mod Ones
+pub mod Said
+pub mod Words
