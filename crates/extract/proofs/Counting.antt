@@ -13,8 +13,8 @@ use Rattle.array.specs.Subset.{Subset, SubsetOk, cellsIn, coordinates, insideTe
 use Rattle.array.proofs.Geometry.{cells-are}
 use Rattle.subset.specs.Walk.{rowOf, Left, RowAt}
 use Rattle.subset.proofs.Rows.{left-ends}
-use Rattle.extract.specs.Places.{Rises, bytesAt}
-use Rattle.extract.proofs.Places.{bytes-append, run-rises, run-total}
+use Rattle.array.specs.Places.{Rises, bytesAt}
+use Rattle.array.proofs.Places.{bytes-append, run-rises, run-total}
 
 -- ---- at most those of all cells
 

@@ -12,7 +12,7 @@ use Rattle.array.specs.Subset.{pairs, cellsIn}
 use Rattle.array.specs.Content.{Content, offsetsFor}
 use Rattle.chunks.specs.Chunks.{offsetCount}
 use Rattle.chunks.specs.Cut.{cutOf}
-use Rattle.extract.specs.Places.{beginsAt, bytesAt, valuesAt, planesAt}
+use Rattle.array.specs.Places.{beginsAt, bytesAt, valuesAt, planesAt}
 use Rattle.subset.specs.Walk.{SubsetAsked}
 use Rattle.subset.proofs.Rows.{asked-below, asked-count}
 use Rattle.extract.specs.Asked.{PlanesAsked, OffsetsFor, ValuesAsked, ArrayAsked}

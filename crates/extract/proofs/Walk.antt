@@ -11,15 +11,14 @@ use Rattle.array.specs.Lists.{from, joined, All}
 use Rattle.array.specs.Shape.{volume}
 use Rattle.array.specs.Offsets.{ends}
 use Rattle.array.specs.Buffers.{over, overAt}
-use Rattle.array.specs.Places.{fixedAt}
+use Rattle.array.specs.Places.{fixedAt, Rises, stepAt, valuesAt, planesAt}
 use Rattle.array.proofs.Lists.{map-append, joined-append, length-from}
 use Rattle.array.proofs.Offsets.{length-ends}
 use Rattle.array.proofs.Over.{over-store, over-again}
 use Rattle.array.proofs.Laying.{Laying, laying-begins, laying-same, laying-ends, laying-left, laying-part, laying-store, laying-is, laying-room}
 use Rattle.subset.specs.Walk.{rowOf, Left, RowAt}
 use Rattle.subset.proofs.Rows.{left-ends}
-use Rattle.extract.specs.Places.{Rises, stepAt, valuesAt, planesAt}
-use Rattle.extract.proofs.Places.{ends-append, fixed-rises, fixed-total, run-rises, run-below, run-bytes, run-long, run-ends, bytes-long}
+use Rattle.array.proofs.Places.{ends-append, fixed-rises, fixed-total, run-rises, run-below, run-bytes, run-long, run-ends, bytes-long}
 
 -- ---- the rows of a subset: the cells before `at` are copied, so many bytes
 

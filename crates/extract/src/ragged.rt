@@ -8,9 +8,8 @@ ghost use Rattle.array.specs.Lists.{from, joined};
 ghost use Rattle.array.specs.Offsets.{ends, offsetsOf};
 ghost use Rattle.array.specs.Subset.{pairs, cellsIn};
 ghost use Rattle.array.specs.Buffers.{over, overAt};
-ghost use Rattle.array.specs.Places.{offsetAt};
+ghost use Rattle.array.specs.Places.{offsetAt, bytesAt, valuesAt};
 ghost use Rattle.subset.specs.Walk.{SubsetAsked};
-ghost use Rattle.extract.specs.Places.{bytesAt, valuesAt};
 ghost use Rattle.extract.specs.Asked.{OffsetsAsked, RowAsked, RaggedAsked};
 
 // How many bytes the cells of a subset have.

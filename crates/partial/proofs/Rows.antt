@@ -15,8 +15,8 @@ use Rattle.array.specs.Buffers.{overAt}
 use Rattle.array.proofs.Offsets.{length-ends}
 use Rattle.subset.specs.Walk.{SubsetAsked, rowOf, RowAt}
 use Rattle.subset.proofs.Rows.{asked-below, asked-count}
-use Rattle.extract.specs.Places.{Rises, bytesAt, valueAt, valuesAt}
-use Rattle.extract.proofs.Places.{bytes-long}
+use Rattle.array.specs.Places.{Rises, bytesAt, valueAt, valuesAt}
+use Rattle.array.proofs.Places.{bytes-long}
 use Rattle.extract.proofs.Walk.{Ragged, ragged-rises, ragged-source, ragged-room, ragged-room-offsets, ragged-more}
 use Rattle.partial.specs.Stored.{storedAt, DataAsked}
 

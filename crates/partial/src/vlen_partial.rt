@@ -23,7 +23,7 @@ ghost use Rattle.array.specs.Buffers.{over, overAt, raggedOutcome, raggedLength
 ghost use Rattle.array.specs.Meaning.{widthOf, placeOf};
 ghost use Rattle.array.specs.Outcome.{contentRagged, outcomeRagged};
 ghost use Rattle.chunks.specs.Calls.{partiallyDecoded};
-ghost use Rattle.extract.specs.Places.{bytesAt, valuesAt};
+ghost use Rattle.array.specs.Places.{bytesAt, valuesAt};
 ghost use Rattle.subset.specs.Walk.{SubsetAsked};
 ghost use Rattle.partial.specs.Stored.{storedAt, cutAnswer, IndexAsked, RowAsked, DataAsked, CutAsked};
 

@@ -7,7 +7,7 @@ use borrow.Author.Needs.{needs}
 use Rattle.array.specs.Limits.{mostCells}
 use Rattle.array.specs.Subset.{pairs, cellsIn}
 use Rattle.valid.proofs.CheckLaws.{small-product}
-use Rattle.extract.proofs.Places.{fixed-total}
+use Rattle.array.proofs.Places.{fixed-total}
 use Rattle.subset.proofs.Rows.{asked-count, asked-few}
 use Rattle.extract.proofs.value_bytes.Statement.{statement}
 use Rattle.extract.proofs.value_bytes.Tie as tie

@@ -6,8 +6,7 @@ use borrow.Author.Needs.{needs}
 use lib.ListN.{length-set}
 use Rattle.array.specs.Subset.{pairs, cellsIn}
 use Rattle.array.specs.Offsets.{ends}
-use Rattle.array.specs.Places.{offsetAt}
-use Rattle.extract.specs.Places.{valuesAt}
+use Rattle.array.specs.Places.{offsetAt, valuesAt}
 use Rattle.extract.proofs.Walk.{first-then}
 use Rattle.extract.proofs.ragged.copy_ragged.Statement.{statement}
 use Rattle.extract.proofs.ragged.copy_ragged.Tie as tie

@@ -5,11 +5,10 @@ use native.Mathlib.Omega.{arith}
 use lib.ListN.{length}
 use Rattle.array.specs.Limits.{mostBytes}
 use Rattle.array.specs.Subset.{pairs, cellsIn}
-use Rattle.array.specs.Places.{offsetAt}
+use Rattle.array.specs.Places.{offsetAt, bytesAt}
 use Rattle.subset.specs.Walk.{rowOf}
 use Rattle.subset.proofs.Rows.{asked-left, asked-few}
-use Rattle.extract.specs.Places.{bytesAt}
-use Rattle.extract.proofs.Places.{run-rises}
+use Rattle.array.proofs.Places.{run-rises}
 use Rattle.extract.proofs.Counting.{bytes-most, Counting, counting-begins, counting-ends, counting-more}
 use Rattle.extract.proofs.ragged.count_bytes.Statement.{statement}
 use Rattle.extract.proofs.ragged.count_bytes.Tie as tie

@@ -10,8 +10,8 @@ use Rattle.array.specs.Subset.{pairs, cellsIn}
 use Rattle.array.specs.Meaning.{widthOf}
 use Rattle.subset.specs.Walk.{rowOf}
 use Rattle.subset.proofs.Rows.{asked-left, asked-few}
-use Rattle.extract.specs.Places.{bytesAt}
-use Rattle.extract.proofs.Places.{run-rises}
+use Rattle.array.specs.Places.{bytesAt}
+use Rattle.array.proofs.Places.{run-rises}
 use Rattle.extract.proofs.Counting.{bytes-most, Counting, counting-begins, counting-ends, counting-more}
 use Rattle.partial.specs.Stored.{storedAt}
 use Rattle.partial.proofs.Stored.{offset-room}

@@ -18,7 +18,7 @@ use Rattle.array.specs.Outcome.{contentRagged}
 use Rattle.subset.specs.Walk.{SubsetAsked}
 use Rattle.subset.proofs.Index.{few-within}
 use Rattle.subset.proofs.Rows.{asked-few, asked-count}
-use Rattle.extract.specs.Places.{valuesAt}
+use Rattle.array.specs.Places.{valuesAt}
 use Rattle.partial.specs.Stored.{storedAt}
 use Rattle.partial.proofs.Rows.{need-values, need-offsets}
 use Rattle.partial.proofs.Outcomes.{too-many, no-values, no-offsets, all-put}
