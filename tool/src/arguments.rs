@@ -17,6 +17,7 @@ pub struct Arguments {
     pub json: bool,
     pub interleaved: bool,
     pub to_interleaved: bool,
+    /// Taken by `check`, and asks for nothing more: scripts give it (docs/DECISIONS.md, K7).
     pub strict: bool,
     pub describe: bool,
     pub no_clobber: bool,

@@ -2,7 +2,7 @@
 
 use crate::arguments::{self, Arguments};
 use crate::describe::{self, Described, Description};
-use crate::failure::{refusal_text, Failure, DIFFERENT, TAIL};
+use crate::failure::{refusal_text, Failure, DIFFERENT};
 use crate::files::{self, Input};
 use crate::locate::Walk;
 use crate::output::{self, Output};
@@ -421,18 +421,12 @@ fn not_valid(input: &Input, refusal: Refusal, walk: &Walk, watch: &Watch) -> Res
 
 fn check(arguments: &Arguments, watch: &Watch) -> Result<u8, Failure> {
     let looked = Looked::at(arguments, false, watch)?;
-    let name = &looked.input.name;
     let about = match &looked.answer {
         Ok(about) => about,
         Err(refusal) => return not_valid(&looked.input, *refusal, &looked.walk, watch),
     };
-    let tail = after_last_cell(&looked.input, &looked.walk);
-    if let Some(tail) = tail.as_ref().filter(|_| arguments.strict) {
-        let text = format!("{name}: valid, but not strictly\n  {tail}.\n  Caused by whoever stored the bytes.\n");
-        return verdict(TAIL, &text, watch);
-    }
-    let mut text = format!("{name}: valid\n  {about}\n  {} bytes", looked.input.bytes.len());
-    if let Some(tail) = tail {
+    let mut text = format!("{}: valid\n  {about}\n  {} bytes", looked.input.name, looked.input.bytes.len());
+    if let Some(tail) = after_last_cell(&looked.input, &looked.walk) {
         text.push_str(&format!("; {tail}: ignored"));
     }
     if let Some(described) = &looked.described {

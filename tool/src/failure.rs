@@ -16,8 +16,6 @@ pub const OTHER_TABLE: u8 = 67;
 pub const OTHER_LENGTH: u8 = 68;
 /// A file of another checksum than its description says.
 pub const OTHER_CHECKSUM: u8 = 69;
-/// A valid older form that `--strict` does not accept.
-pub const TAIL: u8 = 70;
 /// Two files that are not the same table.
 pub const DIFFERENT: u8 = 71;
 /// A file that `--no-clobber` keeps.

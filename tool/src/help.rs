@@ -47,7 +47,6 @@ Exit status:
   66        a description that cannot be read
   67        --kind, --shape or --part that differ from the description; same: two that differ in kind or shape
   68, 69    a file of another length (68) or checksum (69) than its description says
-  70        check --interleaved --strict: a valid older form with bytes after its last cell
   71        same: two valid files that are not the same table
   73        --no-clobber: the output is there already
   74        an error of the operating system; so is an output whose reader left, or that was closed
@@ -171,7 +170,7 @@ Examples:
   durpaxeta show --kind "depth 1, fixed, size 1, little order" --shape 2 two.bin
   durpaxeta generate --kind "depth 2, ragged, width 4, index at start" --shape 256x256 --start 7 --describe load.bin
   cat load.bin.dpx
-  durpaxeta check --strict load.bin
+  durpaxeta check load.bin
 "#;
 
 pub const CHECK: &str = r#"durpaxeta check [--kind KIND --shape SHAPE] [--strict] FILE
@@ -182,12 +181,12 @@ the field begins that could not be accepted. The exit status is 0 or the number 
 file is read as the older, interleaved form. Kind and shape may be left out where FILE.dpx says them.
 
 Every byte of a valid table belongs to it: content behind a mask in which no cell is set, data that no offset reaches, and a
-first offset above 0 are refused. Bytes after the last cell of the older form are ignored, and counted. With --strict they
-are refused too, with status 70; of a table --strict asks for nothing more.
+first offset above 0 are refused. Bytes after the last cell of the older form are ignored, and counted. --strict changes
+nothing: it is taken for scripts that give it.
 
 Examples:
   durpaxeta example | durpaxeta write - guests.bin
-  durpaxeta check --strict --kind "depth 2, ragged, width 4, index at start" --shape 2x2 guests.bin
+  durpaxeta check --kind "depth 2, ragged, width 4, index at start" --shape 2x2 guests.bin
   head -c 40 guests.bin > damaged.bin
   durpaxeta check --kind "depth 2, ragged, width 4, index at start" --shape 2x2 damaged.bin || echo "refused with $?"
   printf '\002\000\000\000\001\000\000\000A\000\000\000\000' | durpaxeta check --interleaved --shape 2 -

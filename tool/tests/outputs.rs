@@ -244,10 +244,6 @@ fn a_refusal_keeps_its_status_when_the_reader_leaves() {
         }
         assert_eq!(unread(&folder, &line, &stored), (Some(74), told.clone()), "what is valid was not delivered");
     }
-    assert_eq!(
-        unread(&folder, &["check", "--strict", "--interleaved", "--shape", "1", "-"], &[1, 0, 0, 0, 0, 0, 0, 0, 9]).0,
-        Some(70)
-    );
     let same = ["same", "--kind", KIND, "--shape", "2x2", "guests.bin", "-"];
     let other = [&stored[..63], b"9"].concat();
     for (input, status) in [(&stored[..63], 8), (&other, 71), (&stored, 74)] {

@@ -21,3 +21,4 @@ pub mod CellAnswers
 pub mod Refusals
 pub mod Resting
 pub mod Putting
+pub mod Places

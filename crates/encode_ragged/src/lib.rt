@@ -23,6 +23,7 @@ ghost use Rattle.encode_cells.specs.Live.{liveAt, Planes};
 ghost use Rattle.encode_ragged.specs.Slices.{sliceAt, Offsets};
 
 // Ragged values of the `count` cells that the level counts, end to end from offset 0; says how many bytes it wrote.
+// Ten parameters: the place, the form, the values, and four for which cells.
 pub fn put_ragged(
     out: &mut [u8],
     at: usize,

@@ -2,55 +2,29 @@
 -- Assumes nothing.
 use mathlib.Core.Path.{_≡_, refl, sym, ap, ap₂, _∙_}
 use Prim.Native.Nat.{ℕ, zero, suc, _+_, _*_, _≤_, _<_}
-use native.Mathlib.Nat.{zero-mul, suc-mul, mul-one, zero-add}
+use native.Mathlib.Nat.{zero-mul, suc-mul, mul-one}
 use native.Mathlib.Omega.{arith}
 use mathlib.Core.List.{List, [], _∷_, _++_, map}
 use lib.ListN.{length, take, drop, getD, length-drop}
 use lib.Seq.{drop-drop, drop-cons, getD-take, getD-drop}
-use Rattle.array.specs.Lists.{joined, pieces, All}
-use Rattle.array.specs.Kind.{Kind, Form, fixed, ragged, nullOf}
+use Rattle.array.specs.Lists.{joined, All}
+use Rattle.array.specs.Kind.{Kind, nullOf}
 use Rattle.array.specs.Shape.{volume}
 use Rattle.array.specs.Subset.{Subset, SubsetOk, cellsIn}
 use Rattle.array.specs.Cells.{Value, Cell, maskOf, leaf, blank}
-use Rattle.array.specs.Offsets.{slices, slicesFrom}
-use Rattle.array.specs.Content.{Content, ContentOk, ValuesOk, masksOf, leaves, offsetsFor, pairUp, attach, valuesIn, cellsOf, nullCell}
-use Rattle.array.specs.Places.{fixedAt, offsetAt}
+use Rattle.array.specs.Content.{Content, ContentOk, masksOf, leaves, offsetsFor, pairUp, attach, valuesIn, cellsOf, nullCell}
+use Rattle.array.specs.Places.{fixedAt, beginsAt, valueAt, valuesAt, planesAt}
+use Rattle.array.proofs.Places.{fixed-step, value-is}
 use Rattle.array.proofs.SubsetLaws.{cellsIn-below}
 use Rattle.array.proofs.LayoutLaws.{content-path, inners-pairUp, first-plane, later-planes, length-attach, leaves-attach, values-length}
 use Rattle.chunks.specs.Gather.{gather}
 use Rattle.chunks.specs.Cut.{cutOf}
 use Rattle.chunks.proofs.Gather.{gather-map}
-use Rattle.extract.specs.Places.{beginsAt, valueAt, valuesAt, planesAt}
-use Rattle.extract.proofs.Places.{fixed-step}
 
 -- what is gathered at places below n, by what stands there
 gather-by : {A : Type 0} (z : A) (xs : List A) (n : ℕ) (g : ℕ → A) → ((j : ℕ) → j < n → getD xs j z ≡ g j) → (js : List ℕ) → All (λ j. j < n) js → gather z xs js ≡ map g js
 gather-by z xs n g e [] p = refl
 gather-by {A} z xs n g e (j ∷ js) p = ap₂ (λ (x : A) (r : List A). x ∷ r) (e j (p .0)) (gather-by z xs n g e js (p .1))
-
--- ---- values
-
-piece-at : (k n : ℕ) (s : List ℕ) (j : ℕ) (z : Value) → j < n → getD (pieces k n s) j z ≡ take k (drop (j * k) s)
-piece-at k zero s j z h = absurd (omega arith)
-piece-at k (suc n) s zero z h = ap (λ (i : ℕ). take k (drop i s)) (sym (zero-mul k))
-piece-at k (suc n) s (suc j) z h =
-    let q : k + j * k ≡ suc j * k = omega (arith, suc-mul j k) in
-    piece-at k n (drop k s) j z (omega arith) ∙ ap (take k) (drop-drop (j * k) k s ∙ ap (λ (i : ℕ). drop i s) q)
-
-slice-at : (os s : List ℕ) (j : ℕ) (z : Value) → suc j < length os → getD (slices os s) j z ≡ valueAt (offsetAt os) s j
-slice-at [] s j z h = absurd (omega arith)
-slice-at (a ∷ os) s j z h = go a os j (omega arith)
-  where
-    go : (a : ℕ) (os : List ℕ) (j : ℕ) → j < length os → getD (slicesFrom a os s) j z ≡ valueAt (offsetAt (a ∷ os)) s j
-    go a [] j h = absurd (omega arith)
-    go a (b ∷ os) zero h = refl
-    go a (b ∷ os) (suc j) h = go b os j (omega arith)
-
--- the value of cell j lies at its place
-value-is : (f : Form) (n : ℕ) (c : Content) → ValuesOk f n c → (z : Value) (j : ℕ) → j < n → getD (valuesIn f n c) j z ≡ valueAt (beginsAt f (c .offsets)) (c .values) j
-value-is (fixed k o) n c p z j h =
-    piece-at k n (c .values) j z h ∙ ap₂ (λ (x y : ℕ). take x (drop y (c .values))) (sym (fixed-step 0 k j)) (sym (zero-add (j * k)))
-value-is (ragged w q) n c p z j h = slice-at (c .offsets) (c .values) j z (omega (arith, p .0))
 
 -- ---- masks
 

@@ -1,19 +1,20 @@
 -- The bytes of a subset's cells, counted row by row. They are at most those of all cells of the shape, so that no sum wraps, however
 -- many bytes are stored.
 -- Assumes nothing.
-use mathlib.Core.Path.{_≡_, sym, ap, _∙_}
+use mathlib.Core.Path.{_≡_, ap, _∙_}
 use mathlib.Core.Bool.{Bool, true, false}
-use Prim.Native.Nat.{ℕ, zero, suc, _+_, _-_, _≤_, _<_}
+use Prim.Native.Nat.{ℕ, zero, suc, _+_, _-_, _≤_}
 use native.Mathlib.Omega.{arith}
 use mathlib.Core.List.{List, _∷_}
-use lib.ListN.{drop, getD}
-use Rattle.array.specs.Lists.{pick, from, passing, All}
+use lib.ListN.{drop}
+use Rattle.array.specs.Lists.{pick, from, passing}
 use Rattle.array.specs.Shape.{volume}
 use Rattle.array.specs.Subset.{Subset, SubsetOk, cellsIn, coordinates, insideTest}
 use Rattle.array.proofs.Geometry.{cells-are}
-use Rattle.subset.proofs.Rows.{Left, left-next, left-more, left-ends, left-room}
-use Rattle.extract.specs.Places.{Rises, bytesAt}
-use Rattle.extract.proofs.Places.{bytes-append, run-rises, run-total}
+use Rattle.subset.specs.Walk.{rowOf, Left, RowAt}
+use Rattle.subset.proofs.Rows.{left-ends}
+use Rattle.array.specs.Places.{Rises, bytesAt}
+use Rattle.array.proofs.Places.{bytes-append, run-rises, run-total}
 
 -- ---- at most those of all cells
 
@@ -42,18 +43,16 @@ pub record Counting (off : ℕ → ℕ) (cs : List ℕ) (cells n at total : ℕ)
   pub geo : Left cs cells n at
   pub same : bytesAt off cs ≡ total + bytesAt off (drop at cs)
 
-pub counting-begins : (off : ℕ → ℕ) (cs : List ℕ) (cells n : ℕ) → Left cs cells n 0 → Counting off cs cells n 0 0
-counting-begins off cs cells n g = record { geo = g; same = omega arith }
+pub counting-begins : (off : ℕ → ℕ) {cs : List ℕ} {cells n : ℕ} → Left cs cells n 0 → Counting off cs cells n 0 0
+counting-begins off g = record { geo = g; same = omega arith }
 
-module _ {off : ℕ → ℕ} {cs : List ℕ} {cells n at total : ℕ} (c : Counting off cs cells n at total) where
+module _ {off : ℕ → ℕ} {cs : List ℕ} {cells m at total : ℕ} (c : Counting off cs cells m at total) where
   pub counting-ends : cells ≤ at → total ≡ bytesAt off cs
-  counting-ends h = omega (arith, c .same, ap (bytesAt off) (left-ends cs cells n at (c .geo) h))
+  counting-ends h = omega (arith, c .same, ap (bytesAt off) (left-ends (c .geo) h))
 
-  pub counting-more : {v : ℕ} → Rises off v → All (λ j. j < v) cs → at < cells → {k : ℕ} → k ≡ off (getD cs at 0 + n) - off (getD cs at 0)
-      → Counting off cs cells n (at + n) (total + k)
-  counting-more {v} r p h {k} e =
-      let a : ℕ = getD cs at 0 in
-      let t : bytesAt off (drop at cs) ≡ k + bytesAt off (drop (at + n) cs) =
-      ap (bytesAt off) (left-next cs cells n at (c .geo) h) ∙ bytes-append off (from a n) (drop (at + n) cs)
-      ∙ ap (λ (x : ℕ). x + bytesAt off (drop (at + n) cs)) (run-total r a n (left-room cs cells n at (c .geo) h v p) ∙ sym e) in
-      record { geo = left-more cs cells n at (c .geo) h; same = omega (arith, c .same, t) }
+  pub counting-more : {sh ls : List ℕ} {a n : ℕ} → RowAt sh ls cs cells at a n → Rises off (volume sh) → Counting off cs cells (rowOf ls) (at + n) (total + (off (a + n) - off a))
+  counting-more {a = a} {n = n} q r =
+      let t : bytesAt off (drop at cs) ≡ (off (a + n) - off a) + bytesAt off (drop (at + n) cs) =
+      ap (bytesAt off) (q .next) ∙ bytes-append off (from a n) (drop (at + n) cs)
+      ∙ ap (λ (x : ℕ). x + bytesAt off (drop (at + n) cs)) (run-total r a n (q .inside)) in
+      record { geo = q .rest; same = omega (arith, c .same, t) }

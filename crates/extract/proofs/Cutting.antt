@@ -12,9 +12,11 @@ use Rattle.array.specs.Subset.{pairs, cellsIn}
 use Rattle.array.specs.Content.{Content, offsetsFor}
 use Rattle.chunks.specs.Chunks.{offsetCount}
 use Rattle.chunks.specs.Cut.{cutOf}
-use Rattle.extract.specs.Places.{beginsAt, bytesAt, valuesAt, planesAt}
-use Rattle.extract.specs.Asked.{SubsetAsked, PlanesAsked, OffsetsFor, ValuesAsked, ArrayAsked}
-use Rattle.extract.proofs.Walk.{asked-below, asked-count, planes-long}
+use Rattle.array.specs.Places.{beginsAt, bytesAt, valuesAt, planesAt}
+use Rattle.subset.specs.Walk.{SubsetAsked}
+use Rattle.subset.proofs.Rows.{asked-below, asked-count}
+use Rattle.extract.specs.Asked.{PlanesAsked, OffsetsFor, ValuesAsked, ArrayAsked}
+use Rattle.extract.proofs.Walk.{planes-long}
 use Rattle.extract.proofs.Closing.{cutBy, cut-is}
 use Rattle.extract.proofs.Forms.{begins-end, offsets-for, offsets-long, values-long}
 

@@ -12,13 +12,12 @@ use Rattle.array.specs.Kind.{Form, fixed, ragged, Order, Place}
 use Rattle.array.specs.Shape.{volume}
 use Rattle.array.specs.Offsets.{Rising, RisingFrom}
 use Rattle.array.specs.Content.{Content, ValuesOk, offsetsFor}
-use Rattle.array.specs.Places.{offsetAt}
+use Rattle.array.specs.Places.{offsetAt, beginsAt, Rises, valueAt, bytesAt, valuesAt}
 use Rattle.valid.proofs.CheckLaws.{last-at}
 use Rattle.array.proofs.Offsets.{length-ends}
 use Rattle.chunks.specs.Chunks.{offsetCount}
-use Rattle.extract.specs.Places.{beginsAt, Rises, bytesAt, valueAt, valuesAt}
 use Rattle.extract.specs.Asked.{CellsAsked, RaggedAsked, OffsetsFor, ValuesAsked}
-use Rattle.extract.proofs.Places.{fixed-rises, bytes-long}
+use Rattle.array.proofs.Places.{fixed-rises, bytes-long}
 use Rattle.extract.proofs.Walk.{fixed-long}
 
 -- ---- by form

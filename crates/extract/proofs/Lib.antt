@@ -1,4 +1,3 @@
-pub mod Places
 pub mod Counting
 pub mod Walk
 pub mod Closing

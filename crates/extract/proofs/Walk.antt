@@ -6,42 +6,19 @@ use native.Mathlib.Nat.{zero-mul, suc-mul, mul-one, add-mul, add-zero, sub-zero,
 use native.Mathlib.Numerals.{add-one}
 use native.Mathlib.Omega.{arith}
 use mathlib.Core.List.{List, [], _∷_, _++_, map}
-use lib.ListN.{length, take, drop, getD, set, length-append, length-map}
-use Rattle.array.specs.Limits.{mostCells}
+use lib.ListN.{length, take, drop, set, length-append, length-map}
 use Rattle.array.specs.Lists.{from, joined, All}
 use Rattle.array.specs.Shape.{volume}
-use Rattle.array.specs.Subset.{pairs, cellsIn}
 use Rattle.array.specs.Offsets.{ends}
 use Rattle.array.specs.Buffers.{over, overAt}
-use Rattle.array.specs.Places.{fixedAt}
+use Rattle.array.specs.Places.{fixedAt, Rises, stepAt, valuesAt, planesAt}
 use Rattle.array.proofs.Lists.{map-append, joined-append, length-from}
 use Rattle.array.proofs.Offsets.{length-ends}
 use Rattle.array.proofs.Over.{over-store, over-again}
 use Rattle.array.proofs.Laying.{Laying, laying-begins, laying-same, laying-ends, laying-left, laying-part, laying-store, laying-is, laying-room}
-use Rattle.subset.proofs.Index.{few-drop, few-within}
-use Rattle.subset.proofs.Rows.{within-cells, within-below, Left, left-begins, left-next, left-more, left-ends, left-room, left-within}
-use Rattle.extract.specs.Places.{Rises, stepAt, valuesAt, planesAt}
-use Rattle.extract.specs.Asked.{SubsetAsked}
-use Rattle.extract.proofs.Places.{ends-append, fixed-rises, fixed-total, run-rises, run-below, run-bytes, run-long, run-ends, bytes-long}
-
--- ---- what a subset that is asked for has
-
-module _ {sh st ls : List ℕ} {count : ℕ} (a : SubsetAsked sh st ls count) where
-  pub asked-left : Left (cellsIn sh (pairs st ls)) count (getD ls (length ls - 1) 0) 0
-  asked-left = left-begins sh st ls (a .within) (a .shaped .some-sides) (a .counted)
-
-  pub asked-below : All (λ j. j < volume sh) (cellsIn sh (pairs st ls))
-  asked-below = within-below sh st ls (a .within)
-
-  pub asked-count : length (cellsIn sh (pairs st ls)) ≡ count
-  asked-count = within-cells sh st ls (a .within) ∙ sym (a .counted)
-
-  pub asked-few : count ≤ 65536
-  unfolding mostCells
-  asked-few = omega (arith, a .counted, few-drop 0 ls (few-within st ls (a .shaped) (a .within)))
-
-  pub asked-lengths : 1 ≤ length ls
-  asked-lengths = omega (arith, a .shaped .some-sides, a .within .as-many-lengths)
+use Rattle.subset.specs.Walk.{rowOf, Left, RowAt}
+use Rattle.subset.proofs.Rows.{left-ends}
+use Rattle.array.proofs.Places.{ends-append, fixed-rises, fixed-total, run-rises, run-below, run-bytes, run-long, run-ends, bytes-long}
 
 -- ---- the rows of a subset: the cells before `at` are copied, so many bytes
 
@@ -49,8 +26,9 @@ pub record Copied (off : ℕ → ℕ) (s cs d : List ℕ) (to : ℕ) (out : List
   pub geo : Left cs cells n at
   pub laid : Laying (joined (valuesAt off s cs)) d to out done (joined (valuesAt off s (drop at cs)))
 
-pub copied-begins : (off : ℕ → ℕ) (s cs d : List ℕ) (to cells n : ℕ) → Left cs cells n 0 → to + length (joined (valuesAt off s cs)) ≤ length d → Copied off s cs d to d cells n 0 0
-copied-begins off s cs d to cells n g h = record { geo = g; laid = laying-begins (joined (valuesAt off s cs)) d to h }
+pub copied-begins : (off : ℕ → ℕ) (s d : List ℕ) (to : ℕ) {cs : List ℕ} {cells n : ℕ} → Left cs cells n 0 → to + length (joined (valuesAt off s cs)) ≤ length d
+    → Copied off s cs d to d cells n 0 0
+copied-begins off s d to {cs} g h = record { geo = g; laid = laying-begins (joined (valuesAt off s cs)) d to h }
 
 module _ {off : ℕ → ℕ} {s cs d : List ℕ} {to : ℕ} {out : List ℕ} {cells n at done : ℕ} (c : Copied off s cs d to out cells n at done) where
   pub copied-same : length out ≡ length d
@@ -58,74 +36,63 @@ module _ {off : ℕ → ℕ} {s cs d : List ℕ} {to : ℕ} {out : List ℕ} {ce
 
   pub copied-ends : cells ≤ at → out ≡ overAt to (joined (valuesAt off s cs)) d
   copied-ends h =
-      laying-ends (joined (valuesAt off s cs)) d to out done
-      (laying-is (c .laid) (ap (λ (js : List ℕ). joined (valuesAt off s js)) (left-ends cs cells n at (c .geo) h)))
+      laying-ends (joined (valuesAt off s cs)) d to out done (laying-is (c .laid) (ap (λ (js : List ℕ). joined (valuesAt off s js)) (left-ends (c .geo) h)))
 
--- ---- the next row: n neighbours from the cell a on, of an array of v cells
+-- ---- the next row: n neighbours from the cell a on
 
-module _ {off : ℕ → ℕ} {v : ℕ} (r : Rises off v) (s cs : List ℕ) (p : All (λ j. j < v) cs) (l : off v ≤ length s) (cells n at : ℕ) (g : Left cs cells n at) (h : at < cells) where
-  abbrev a : ℕ
-  a = getD cs at 0
-
+module _ {off : ℕ → ℕ} {sh ls cs : List ℕ} {cells at a n : ℕ} (q : RowAt sh ls cs cells at a n) (r : Rises off (volume sh)) (s : List ℕ) (l : off (volume sh) ≤ length s) where
   abbrev row : List ℕ
   row = take (off (a + n) - off a) (drop (off a) s)
 
-  pub row-within : a + n ≤ v
-  row-within = left-room cs cells n at g h v p
-
-  pub row-below : off (a + n) ≤ off v
-  row-below = run-below r a n row-within
-
   pub row-source : off (a + n) ≤ length s
-  row-source = omega (arith, row-below)
+  row-source = omega (arith, run-below r a n (q .inside))
 
   row-long : length row ≡ off (a + n) - off a
-  row-long = run-long r s a n row-within row-source
+  row-long = run-long r s a n (q .inside) row-source
 
   row-next : valuesAt off s (drop at cs) ≡ valuesAt off s (from a n) ++ valuesAt off s (drop (at + n) cs)
-  row-next = ap (valuesAt off s) (left-next cs cells n at g h) ∙ map-append _ (from a n) (drop (at + n) cs)
+  row-next = ap (valuesAt off s) (q .next) ∙ map-append _ (from a n) (drop (at + n) cs)
 
   row-first : joined (valuesAt off s (drop at cs)) ≡ row ++ joined (valuesAt off s (drop (at + n) cs))
   row-first =
       ap joined row-next ∙ joined-append (valuesAt off s (from a n)) (valuesAt off s (drop (at + n) cs))
-      ∙ ap (λ (w : List ℕ). w ++ joined (valuesAt off s (drop (at + n) cs))) (run-bytes r s a n row-within)
+      ∙ ap (λ (w : List ℕ). w ++ joined (valuesAt off s (drop (at + n) cs))) (run-bytes r s a n (q .inside))
 
-  module _ {d : List ℕ} {to : ℕ} {out : List ℕ} {done : ℕ} (c : Laying (joined (valuesAt off s cs)) d to out done (joined (valuesAt off s (drop at cs)))) where
+  module _ {d : List ℕ} {to : ℕ} {out : List ℕ} {m done : ℕ} (c : Copied off s cs d to out cells m at done) where
     -- it has room
     pub row-room : to + done + (off (a + n) - off a) ≤ length out
     row-room =
         omega (
           arith,
-          laying-left (joined (valuesAt off s cs)) d to out done (joined (valuesAt off s (drop at cs))) c,
-          laying-same (joined (valuesAt off s cs)) d to out done (joined (valuesAt off s (drop at cs))) c,
-          c .room,
+          laying-left (joined (valuesAt off s cs)) d to out done (joined (valuesAt off s (drop at cs))) (c .laid),
+          copied-same c,
+          c .laid .room,
           ap length row-first,
           length-append row (joined (valuesAt off s (drop (at + n) cs))),
           row-long,
         )
 
     -- and is copied
-    pub row-copied : {b k : ℕ} → b ≡ off a → k ≡ off (a + n) - off a → {out′ : List ℕ} → out′ ≡ overAt (to + done) (take k (drop b s)) out
-        → Copied off s cs d to out′ cells n (at + n) (done + k)
-    row-copied {b} {k} eb ek {out′} e = record {
-      geo = left-more cs cells n at g h;
-      laid = laying-part (joined (valuesAt off s cs)) d to out done row (joined (valuesAt off s (drop (at + n) cs))) (laying-is c row-first) out′
-          (e ∙ ap₂ (λ (x y : ℕ). overAt (to + done) (take x (drop y s)) out) ek eb) (done + k) (ap (λ (x : ℕ). done + x) (ek ∙ sym row-long));
+    pub row-copied : {k : ℕ} → k ≡ off (a + n) - off a → {out′ : List ℕ} → out′ ≡ overAt (to + done) (take k (drop (off a) s)) out
+        → Copied off s cs d to out′ cells (rowOf ls) (at + n) (done + k)
+    row-copied {k} ek {out′} e = record {
+      geo = q .rest;
+      laid = laying-part (joined (valuesAt off s cs)) d to out done row (joined (valuesAt off s (drop (at + n) cs))) (laying-is (c .laid) row-first) out′
+          (e ∙ ap (λ (x : ℕ). overAt (to + done) (take x (drop (off a) s)) out) ek) (done + k) (ap (λ (x : ℕ). done + x) (ek ∙ sym row-long));
     }
 
   -- where its cells end, the cells before it having t bytes
   module _ {d out : List ℕ} (t : ℕ) (c : Laying (ends 0 (valuesAt off s cs)) d 1 out at (ends t (valuesAt off s (drop at cs)))) where
-    pub row-ended : {b k : ℕ} → b ≡ a → k ≡ off (a + n) - off a → {out′ : List ℕ} → out′ ≡ overAt (at + 1) (map (λ j. t + (off (suc j) - off b)) (from b n)) out
-        → Laying (ends 0 (valuesAt off s cs)) d 1 out′ (at + n) (ends (t + k) (valuesAt off s (drop (at + n) cs)))
-    row-ended {b} {k} eb ek {out′} e =
+    pub row-ended : {out′ : List ℕ} → out′ ≡ overAt (at + 1) (map (λ j. t + (off (suc j) - off a)) (from a n)) out
+        → Laying (ends 0 (valuesAt off s cs)) d 1 out′ (at + n) (ends (t + (off (a + n) - off a)) (valuesAt off s (drop (at + n) cs)))
+    row-ended {out′} e =
         let f : ℕ → ℕ = λ j. t + (off (suc j) - off a) in
-        let q : at + 1 ≡ 1 + at = omega arith in
-        let i : length (joined (valuesAt off s (from a n))) ≡ k = ap length (run-bytes r s a n row-within) ∙ row-long ∙ sym ek in
-        laying-part (ends 0 (valuesAt off s cs)) d 1 out at (map f (from a n)) (ends (t + k) (valuesAt off s (drop (at + n) cs)))
+        let p : at + 1 ≡ 1 + at = omega arith in
+        let i : length (joined (valuesAt off s (from a n))) ≡ off (a + n) - off a = ap length (run-bytes r s a n (q .inside)) ∙ row-long in
+        laying-part (ends 0 (valuesAt off s cs)) d 1 out at (map f (from a n)) (ends (t + (off (a + n) - off a)) (valuesAt off s (drop (at + n) cs)))
         (laying-is c (ap (ends t) row-next ∙ ends-append t (valuesAt off s (from a n)) (valuesAt off s (drop (at + n) cs))
-        ∙ ap₂ (λ (x : List ℕ) (y : ℕ). x ++ ends (t + y) (valuesAt off s (drop (at + n) cs))) (run-ends r s t a n row-within row-source) i))
-        out′ (e ∙ ap₂ (λ (x y : ℕ). overAt x (map (λ j. t + (off (suc j) - off y)) (from y n)) out) q eb)
-        (at + n) (ap (λ (x : ℕ). at + x) (sym (length-map (from a n) f ∙ length-from a n)))
+        ∙ ap₂ (λ (x : List ℕ) (y : ℕ). x ++ ends (t + y) (valuesAt off s (drop (at + n) cs))) (run-ends r s t a n (q .inside) row-source) i))
+        out′ (e ∙ ap (λ (x : ℕ). overAt x (map f (from a n)) out) p) (at + n) (ap (λ (x : ℕ). at + x) (sym (length-map (from a n) f ∙ length-from a n)))
 
     pub row-ends-room : at + 1 + n ≤ length out
     row-ends-room =
@@ -133,8 +100,8 @@ module _ {off : ℕ → ℕ} {v : ℕ} (r : Rises off v) (s cs : List ℕ) (p : 
           arith,
           c .room,
           laying-same (ends 0 (valuesAt off s cs)) d 1 out at (ends t (valuesAt off s (drop at cs))) c,
-          left-within cs cells n at g h,
-          g .whole,
+          q .within,
+          q .rest .whole,
           length-ends 0 (valuesAt off s cs),
           length-map cs (λ j. take (stepAt off j) (drop (off j) s)),
         )
@@ -145,88 +112,73 @@ pub record Ragged (off : ℕ → ℕ) (s cs oldv oldo ov oo : List ℕ) (cells n
   pub copied : Copied off s cs oldv 0 ov cells n at total
   pub ended : Laying (ends 0 (valuesAt off s cs)) oldo 1 oo at (ends total (valuesAt off s (drop at cs)))
 
-module _ (off : ℕ → ℕ) (s cs : List ℕ) where
-  values-many : length (ends 0 (valuesAt off s cs)) ≡ length cs
-  values-many = length-ends 0 (valuesAt off s cs) ∙ length-map cs (λ j. take (stepAt off j) (drop (off j) s))
+values-many : (off : ℕ → ℕ) (s cs : List ℕ) → length (ends 0 (valuesAt off s cs)) ≡ length cs
+values-many off s cs = length-ends 0 (valuesAt off s cs) ∙ length-map cs (λ j. take (stepAt off j) (drop (off j) s))
 
-  pub ragged-begins : (oldv oldo : List ℕ) (cells n : ℕ) → Left cs cells n 0 → length (joined (valuesAt off s cs)) ≤ length oldv → suc (length cs) ≤ length oldo
-      → Ragged off s cs oldv oldo oldv oldo cells n 0 0
-  ragged-begins oldv oldo cells n g h m = record {
-    copied = copied-begins off s cs oldv 0 cells n g (omega arith);
-    ended = laying-begins (ends 0 (valuesAt off s cs)) oldo 1 (omega (arith, values-many));
-  }
+pub ragged-begins : (off : ℕ → ℕ) (s oldv oldo : List ℕ) {cs : List ℕ} {cells n : ℕ} → Left cs cells n 0 → length (joined (valuesAt off s cs)) ≤ length oldv
+    → suc (length cs) ≤ length oldo → Ragged off s cs oldv oldo oldv oldo cells n 0 0
+ragged-begins off s oldv oldo {cs} g h m = record {
+  copied = copied-begins off s oldv 0 g (omega arith);
+  ended = laying-begins (ends 0 (valuesAt off s cs)) oldo 1 (omega (arith, values-many off s cs));
+}
 
-  module _ {oldv oldo ov oo : List ℕ} {cells n at total : ℕ} (c : Ragged off s cs oldv oldo ov oo cells n at total) where
-    pub ragged-same : length ov ≡ length oldv
-    ragged-same = copied-same (c .copied)
+module _ {off : ℕ → ℕ} {s cs oldv oldo ov oo : List ℕ} {cells m at total : ℕ} (c : Ragged off s cs oldv oldo ov oo cells m at total) where
+  pub ragged-same : length ov ≡ length oldv
+  ragged-same = copied-same (c .copied)
 
-    pub ragged-same-offsets : length oo ≡ length oldo
-    ragged-same-offsets = laying-same (ends 0 (valuesAt off s cs)) oldo 1 oo at (ends total (valuesAt off s (drop at cs))) (c .ended)
+  pub ragged-same-offsets : length oo ≡ length oldo
+  ragged-same-offsets = laying-same (ends 0 (valuesAt off s cs)) oldo 1 oo at (ends total (valuesAt off s (drop at cs))) (c .ended)
 
-    module _ (h : cells ≤ at) where
-      pub ragged-values : ov ≡ over (joined (valuesAt off s cs)) oldv
-      ragged-values = copied-ends (c .copied) h
+  module _ (h : cells ≤ at) where
+    pub ragged-values : ov ≡ over (joined (valuesAt off s cs)) oldv
+    ragged-values = copied-ends (c .copied) h
 
-      pub ragged-offsets : oo ≡ overAt 1 (ends 0 (valuesAt off s cs)) oldo
-      ragged-offsets =
-          laying-ends (ends 0 (valuesAt off s cs)) oldo 1 oo at
-          (laying-is (c .ended) (ap (λ (js : List ℕ). ends total (valuesAt off s js)) (left-ends cs cells n at (c .copied .geo) h)))
+    pub ragged-offsets : oo ≡ overAt 1 (ends 0 (valuesAt off s cs)) oldo
+    ragged-offsets =
+        laying-ends (ends 0 (valuesAt off s cs)) oldo 1 oo at
+        (laying-is (c .ended) (ap (λ (js : List ℕ). ends total (valuesAt off s js)) (left-ends (c .copied .geo) h)))
 
-    -- the next row, from the cell b on
-    module _ {v : ℕ} (r : Rises off v) (p : All (λ j. j < v) cs) (l : off v ≤ length s) (h : at < cells) {b : ℕ} (e : b ≡ getD cs at 0) where
-      abbrev step : ℕ
-      step = off (b + n) - off b
+  -- the next row, from the cell a on
+  module _ {sh ls : List ℕ} {a n : ℕ} (q : RowAt sh ls cs cells at a n) (r : Rises off (volume sh)) (l : off (volume sh) ≤ length s) where
+    pub ragged-rises : off a ≤ off (a + n)
+    ragged-rises = run-rises r a n (q .inside)
 
-      step-is : step ≡ off (getD cs at 0 + n) - off (getD cs at 0)
-      step-is = ap (λ (x : ℕ). off (x + n) - off x) e
+    pub ragged-source : off a + (off (a + n) - off a) ≤ length s
+    ragged-source = omega (arith, ragged-rises, row-source q r s l)
 
-      pub ragged-within : b + n ≤ v
-      ragged-within = omega (arith, row-within r s cs p l cells n at (c .copied .geo) h)
+    pub ragged-room : total + (off (a + n) - off a) ≤ length ov
+    ragged-room = omega (arith, row-room q r s l (c .copied))
 
-      pub ragged-rises : off b ≤ off (b + n)
-      ragged-rises = run-rises r b n ragged-within
+    pub ragged-room-offsets : at + 1 + n ≤ length oo
+    ragged-room-offsets = row-ends-room q r s l total (c .ended)
 
-      pub ragged-source : off b + step ≤ length s
-      ragged-source = omega (arith, ragged-rises, run-below r b n ragged-within)
-
-      pub ragged-room : total + step ≤ length ov
-      ragged-room = omega (arith, step-is, row-room r s cs p l cells n at (c .copied .geo) h (c .copied .laid))
-
-      pub ragged-room-offsets : at + 1 + n ≤ length oo
-      ragged-room-offsets = row-ends-room r s cs p l cells n at (c .copied .geo) h total (c .ended)
-
-      pub ragged-more : {ov′ oo′ : List ℕ} → ov′ ≡ overAt total (take step (drop (off b) s)) ov → oo′ ≡ overAt (at + 1) (map (λ j. total + (off (suc j) - off b)) (from b n)) oo
-          → Ragged off s cs oldv oldo ov′ oo′ cells n (at + n) (total + step)
-      ragged-more {ov′} {oo′} q w = record {
-        copied = row-copied r s cs p l cells n at (c .copied .geo) h (c .copied .laid) (ap off e) step-is
-            (q ∙ ap (λ (x : ℕ). overAt x (take step (drop (off b) s)) ov) (sym (zero-add total)));
-        ended = row-ended r s cs p l cells n at (c .copied .geo) h total (c .ended) e step-is w;
-      }
+    pub ragged-more : {ov′ oo′ : List ℕ} → ov′ ≡ overAt total (take (off (a + n) - off a) (drop (off a) s)) ov
+        → oo′ ≡ overAt (at + 1) (map (λ j. total + (off (suc j) - off a)) (from a n)) oo
+        → Ragged off s cs oldv oldo ov′ oo′ cells (rowOf ls) (at + n) (total + (off (a + n) - off a))
+    ragged-more e w = record {
+      copied = row-copied q r s l (c .copied) refl (e ∙ ap (λ (x : ℕ). overAt x (take (off (a + n) - off a) (drop (off a) s)) ov) (sym (zero-add total)));
+      ended = row-ended q r s l total (c .ended) w;
+    }
 
 -- one element stored at the front, and what is laid behind it
 pub first-then : (d : List ℕ) (x : ℕ) (g : List ℕ) → 1 ≤ length d → overAt 1 g (set d 0 x) ≡ over (x ∷ g) d
 first-then d x g h = ap (overAt 1 g) (over-store [] d 0 x refl (omega arith)) ∙ over-again (x ∷ []) g d 1 refl
 
 -- the next row of cells at equal steps
-module _ (base k v : ℕ) (s cs : List ℕ) (p : All (λ j. j < v) cs) (l : base + v * k ≤ length s) (cells n at : ℕ) (g : Left cs cells n at) (h : at < cells) {b : ℕ} (e : b ≡ getD cs at 0) where
-  fixed-end : fixedAt base k (getD cs at 0 + n) ≡ base + b * k + n * k
-  fixed-end = ap (λ (x : ℕ). base + (x + n) * k) (sym e) ∙ omega (arith, add-mul b n k)
+module _ (base k : ℕ) {sh ls cs : List ℕ} {cells at a n : ℕ} (q : RowAt sh ls cs cells at a n) (s : List ℕ) (l : base + volume sh * k ≤ length s) where
+  fixed-between : n * k ≡ fixedAt base k (a + n) - fixedAt base k a
+  fixed-between = omega (arith, add-mul a n k)
 
-  fixed-begin : base + b * k ≡ fixedAt base k (getD cs at 0)
-  fixed-begin = ap (λ (x : ℕ). base + x * k) e
+  pub fixed-source : base + a * k + n * k ≤ length s
+  fixed-source = omega (arith, add-mul a n k, row-source q (fixed-rises base k (volume sh)) s l)
 
-  fixed-between : n * k ≡ fixedAt base k (getD cs at 0 + n) - fixedAt base k (getD cs at 0)
-  fixed-between = omega (arith, fixed-end, fixed-begin)
-
-  pub fixed-source : base + b * k + n * k ≤ length s
-  fixed-source = omega (arith, fixed-end, row-source (fixed-rises base k v) s cs p l cells n at g h)
-
-  module _ {d : List ℕ} {to : ℕ} {out : List ℕ} {done : ℕ} (c : Laying (joined (valuesAt (fixedAt base k) s cs)) d to out done (joined (valuesAt (fixedAt base k) s (drop at cs)))) where
+  module _ {d : List ℕ} {to : ℕ} {out : List ℕ} {m done : ℕ} (c : Copied (fixedAt base k) s cs d to out cells m at done) where
     pub fixed-room : to + done + n * k ≤ length out
-    fixed-room = omega (arith, fixed-between, row-room (fixed-rises base k v) s cs p l cells n at g h c)
+    fixed-room = omega (arith, fixed-between, row-room q (fixed-rises base k (volume sh)) s l c)
 
-    pub fixed-copied : {out′ : List ℕ} → out′ ≡ overAt (to + done) (take (n * k) (drop (base + b * k) s)) out → Copied (fixedAt base k) s cs d to out′ cells n (at + n) (done + n * k)
-    fixed-copied {out′} r = row-copied (fixed-rises base k v) s cs p l cells n at g h c fixed-begin fixed-between r
+    pub fixed-copied : {out′ : List ℕ} → out′ ≡ overAt (to + done) (take (n * k) (drop (base + a * k) s)) out
+        → Copied (fixedAt base k) s cs d to out′ cells (rowOf ls) (at + n) (done + n * k)
+    fixed-copied e = row-copied q (fixed-rises base k (volume sh)) s l c fixed-between e
 
 -- ---- level by level: l of d planes are copied
 
@@ -266,7 +218,12 @@ module _ (n : ℕ) {count : ℕ} (ps js : List ℕ) (p : All (λ j. j < n) js) (
     laid =
         let i : Laying (planesAt d 0 n ps js) old 0 old 0 (planesAt d 0 n ps js) = laying-begins (planesAt d 0 n ps js) old 0 (omega (arith, planes-long d e)) in
         let z : 0 ≡ 0 * count = sym (zero-mul count) in
-        laying-is (record { room = i .room; within = omega (arith, z); here = i .here ∙ ap (λ (k : ℕ). over (take k (planesAt d 0 n ps js)) old) z; left = ap (λ (k : ℕ). drop k (planesAt d 0 n ps js)) (sym z) })
+        laying-is (record {
+          room = i .room;
+          within = omega (arith, z);
+          here = i .here ∙ ap (λ (k : ℕ). over (take k (planesAt d 0 n ps js)) old) z;
+          left = ap (λ (k : ℕ). drop k (planesAt d 0 n ps js)) (sym z);
+        })
         (ap (λ (k : ℕ). planesAt k 0 n ps js) (sym (sub-zero d)));
   }
 

@@ -8,17 +8,9 @@ use lib.ListN.{length}
 use Rattle.array.specs.Limits.{mostBytes}
 use Rattle.array.specs.Lists.{joined}
 use Rattle.array.specs.Kind.{Kind, Form, fixed, ragged}
-use Rattle.array.specs.Shape.{volume, ShapeOk}
-use Rattle.array.specs.Rows.{Within}
+use Rattle.array.specs.Shape.{volume}
 use Rattle.array.specs.Content.{Content, ContentOk, offsetsFor}
-use Rattle.array.specs.Places.{offsetAt}
-use Rattle.extract.specs.Places.{beginsAt, Rises, valuesAt}
-
--- a subset of so many cells, within its shape
-pub record SubsetAsked (shape starts lens : List ℕ) (count : ℕ) : Type 0 where
-  pub shaped : ShapeOk shape
-  pub within : Within shape starts lens
-  pub counted : count ≡ volume lens
+use Rattle.array.specs.Places.{offsetAt, beginsAt, Rises, valuesAt}
 
 -- cells of one size: the array's lie in the source from base on, the subset's have room in the output from `to` on
 pub record CellsAsked (out : List ℕ) (to : ℕ) (src : List ℕ) (base size : ℕ) (shape : List ℕ) (count : ℕ) : Type 0 where

@@ -5,9 +5,9 @@ ghost use Prim.Native.Nat.{_*_};
 ghost use Rattle.array.specs.Lists.{joined};
 ghost use Rattle.array.specs.Subset.{pairs, cellsIn};
 ghost use Rattle.array.specs.Buffers.{over, overAt};
-ghost use Rattle.array.specs.Places.{fixedAt};
-ghost use Rattle.extract.specs.Places.{valuesAt, planesAt};
-ghost use Rattle.extract.specs.Asked.{SubsetAsked, CellsAsked, PlanesAsked};
+ghost use Rattle.array.specs.Places.{fixedAt, valuesAt, planesAt};
+ghost use Rattle.subset.specs.Walk.{SubsetAsked};
+ghost use Rattle.extract.specs.Asked.{CellsAsked, PlanesAsked};
 
 // Copies the cells of a subset, `size` bytes each, to the place `to`. The array's lie in `src` from `base` on.
 pub fn copy_cells(

@@ -18,8 +18,9 @@ ghost use Rattle.array.specs.Meaning.{formOf, kindOf};
 ghost use Rattle.chunks.specs.Chunks.{offsetCount};
 ghost use Rattle.chunks.specs.Cut.{cutOf};
 ghost use Rattle.chunks.specs.Calls.{extracted};
-ghost use Rattle.extract.specs.Places.{beginsAt, bytesAt, valuesAt};
-ghost use Rattle.extract.specs.Asked.{SubsetAsked, OffsetsFor, ValuesAsked, ArrayAsked};
+ghost use Rattle.subset.specs.Walk.{SubsetAsked};
+ghost use Rattle.array.specs.Places.{beginsAt, bytesAt, valuesAt};
+ghost use Rattle.extract.specs.Asked.{OffsetsFor, ValuesAsked, ArrayAsked};
 
 pub mod cells;
 pub mod ragged;

@@ -8,9 +8,9 @@ ghost use Rattle.array.specs.Lists.{from, joined};
 ghost use Rattle.array.specs.Offsets.{ends, offsetsOf};
 ghost use Rattle.array.specs.Subset.{pairs, cellsIn};
 ghost use Rattle.array.specs.Buffers.{over, overAt};
-ghost use Rattle.array.specs.Places.{offsetAt};
-ghost use Rattle.extract.specs.Places.{bytesAt, valuesAt};
-ghost use Rattle.extract.specs.Asked.{SubsetAsked, OffsetsAsked, RowAsked, RaggedAsked};
+ghost use Rattle.array.specs.Places.{offsetAt, bytesAt, valuesAt};
+ghost use Rattle.subset.specs.Walk.{SubsetAsked};
+ghost use Rattle.extract.specs.Asked.{OffsetsAsked, RowAsked, RaggedAsked};
 
 // How many bytes the cells of a subset have.
 pub fn count_bytes(
@@ -23,12 +23,12 @@ pub fn count_bytes(
     requires { ⌜ SubsetAsked (now shape) (now starts) (now lens) count × OffsetsAsked (now offsets) (now shape) ⌝ }
     ensures { λ r. ⌜ r ≡ bytesAt (offsetAt (now (offsets .entry))) (cellsIn (now (shape .entry)) (pairs (now (starts .entry)) (now (lens .entry)))) ⌝ }
 {
-    let last = lens.len() - 1;
-    let n = lens[last] as usize;
     let mut at: usize = 0;
     let mut total: usize = 0;
     while at < count {
-        let first = subset::cell_at(shape, starts, lens, at as u64) as usize;
+        let row = subset::row_at(shape, starts, lens, count, at);
+        let first = row.first;
+        let n = row.cells;
         let begin = offsets[first] as usize;
         let end = offsets[first + n] as usize;
         total += end - begin;
@@ -70,18 +70,18 @@ fn copy_rows(
     ensures offsets { λ _. ⌜ now («out_offsets» .exit) ≡ overAt 1 (ends 0 (valuesAt (offsetAt (now (offsets .entry))) (now (values .entry))
         (cellsIn (now (shape .entry)) (pairs (now (starts .entry)) (now (lens .entry)))))) (now («out_offsets» .entry)) ⌝ }
 {
-    let last = lens.len() - 1;
-    let n = lens[last] as usize;
     let mut at: usize = 0;
     let mut total: usize = 0;
     while at < count {
-        let first = subset::cell_at(shape, starts, lens, at as u64) as usize;
+        let row = subset::row_at(shape, starts, lens, count, at);
+        let first = row.first;
+        let n = row.cells;
         let begin = offsets[first] as usize;
         let end = offsets[first + n] as usize;
-        let row = end - begin;
-        copy::copy_bytes(out_values, total, values, begin, row);
+        let bytes = end - begin;
+        copy::copy_bytes(out_values, total, values, begin, bytes);
         store_ends(out_offsets, at + 1, offsets, first, n, total as u64);
-        total += row;
+        total += bytes;
         at += n;
     }
 }

@@ -8,7 +8,7 @@ use valid::numbers::IndexRead;
 use valid::numbers::KindRead;
 ghost use mathlib.Core.Path.{_≡_};
 ghost use Rattle.array.specs.Meaning.{told, toldRagged, toldArray};
-ghost use Rattle.valid.specs.Numbers.{numberedKind, numberedIndex};
+ghost use Rattle.valid.specs.Numbers.{toldKind, numberedKind, numberedIndex};
 ghost use Rattle.array.specs.Outcome.{contentArray, contentRagged};
 ghost use Rattle.array.specs.Calls.{endiannessReversed};
 ghost use Rattle.array.specs.Calls.{subsetCells};
@@ -26,6 +26,13 @@ pub struct DpxKind {
     pub size: u64,
     pub order: u64,
     pub mask: u64,
+}
+
+// A kind that a caller hands over.
+fn kind_of(kind: DpxKind) -> KindRead
+    ensures { λ r. ⌜ toldKind r ≡ numberedKind (kind .depth) (kind .form) (kind .size) (kind .order) (kind .mask) ⌝ }
+{
+    valid::numbers::kind_from_numbers(kind.depth, kind.form, kind.size, kind.order, kind.mask)
 }
 
 // ---- an answer, handed over
@@ -88,14 +95,7 @@ pub extern "C" fn dpx_encode(
         ≡ exportOne (withGiven (numberedKind (kind .depth) (kind .form) (kind .size) (kind .order) (kind .mask)) (now (out .entry))
         (λ k. encoded k (now (shape .entry)) (contentArray (now (masks .entry)) (now (values .entry)) (now (offsets .entry))) (now (out .entry)))) (now (lengths .entry)) ⌝ }
 {
-    let read = valid::numbers::kind_from_numbers(
-        kind.depth,
-        kind.form,
-        kind.size,
-        kind.order,
-        kind.mask,
-    );
-    match read {
+    match kind_of(kind) {
         KindRead::Refused(e) => e as u32,
         KindRead::Kind(k) => {
             let answer = encode::encode(k, shape, masks, values, offsets, out);
@@ -119,14 +119,7 @@ pub extern "C" fn dpx_decode(
         (contentArray (now (masks .entry)) (now (values .entry)) (now (offsets .entry)))
         (λ k. decoded k (now (shape .entry)) (now (bytes .entry)) (contentArray (now (masks .entry)) (now (values .entry)) (now (offsets .entry))))) (now (lengths .entry)) ⌝ }
 {
-    let read = valid::numbers::kind_from_numbers(
-        kind.depth,
-        kind.form,
-        kind.size,
-        kind.order,
-        kind.mask,
-    );
-    match read {
+    match kind_of(kind) {
         KindRead::Refused(e) => e as u32,
         KindRead::Kind(k) => {
             let answer = decode::decode(k, shape, bytes, masks, values, offsets);
@@ -164,14 +157,7 @@ pub extern "C" fn dpx_encode_interleaved(
         ≡ exportOne (withGiven (numberedKind (kind .depth) (kind .form) (kind .size) (kind .order) (kind .mask)) (now (out .entry))
         (λ k. interleavedEncoded k (now (shape .entry)) (contentArray (now (masks .entry)) (now (values .entry)) (now (offsets .entry))) (now (out .entry)))) (now (lengths .entry)) ⌝ }
 {
-    let read = valid::numbers::kind_from_numbers(
-        kind.depth,
-        kind.form,
-        kind.size,
-        kind.order,
-        kind.mask,
-    );
-    match read {
+    match kind_of(kind) {
         KindRead::Refused(e) => e as u32,
         KindRead::Kind(k) => {
             let answer = encode_interleaved::write::encode_interleaved(
@@ -202,14 +188,7 @@ pub extern "C" fn dpx_generate(
         (contentArray (now (masks .entry)) (now (values .entry)) (now (offsets .entry)))
         (λ k. generated k (now (shape .entry)) start (contentArray (now (masks .entry)) (now (values .entry)) (now (offsets .entry))))) (now (lengths .entry)) ⌝ }
 {
-    let read = valid::numbers::kind_from_numbers(
-        kind.depth,
-        kind.form,
-        kind.size,
-        kind.order,
-        kind.mask,
-    );
-    match read {
+    match kind_of(kind) {
         KindRead::Refused(e) => e as u32,
         KindRead::Kind(k) => {
             let answer = generate::generate(k, shape, start, masks, values, offsets);
@@ -218,6 +197,7 @@ pub extern "C" fn dpx_generate(
     }
 }
 
+// Ten parameters, as in C: each slice is a pointer and a count, and each lent buffer is its own.
 #[no_mangle]
 pub extern "C" fn dpx_extract(
     kind: DpxKind,
@@ -237,14 +217,7 @@ pub extern "C" fn dpx_extract(
         (λ k. extracted k (now (shape .entry)) (now (subset .entry)) (contentArray (now (masks .entry)) (now (values .entry)) (now (offsets .entry)))
         (contentArray (now («out_masks» .entry)) (now («out_values» .entry)) (now («out_offsets» .entry))))) (now (lengths .entry)) ⌝ }
 {
-    let read = valid::numbers::kind_from_numbers(
-        kind.depth,
-        kind.form,
-        kind.size,
-        kind.order,
-        kind.mask,
-    );
-    match read {
+    match kind_of(kind) {
         KindRead::Refused(e) => e as u32,
         KindRead::Kind(k) => {
             let answer = extract::extract(
@@ -263,6 +236,7 @@ pub extern "C" fn dpx_extract(
     }
 }
 
+// Ten parameters, as `dpx_extract`.
 #[no_mangle]
 pub extern "C" fn dpx_merge(
     kind: DpxKind,
@@ -282,14 +256,7 @@ pub extern "C" fn dpx_merge(
         (λ k. merged k (now (shape .entry)) (now (subsets .entry)) (contentArray (now (masks .entry)) (now (values .entry)) (now (offsets .entry)))
         (contentArray (now («out_masks» .entry)) (now («out_values» .entry)) (now («out_offsets» .entry))))) (now (lengths .entry)) ⌝ }
 {
-    let read = valid::numbers::kind_from_numbers(
-        kind.depth,
-        kind.form,
-        kind.size,
-        kind.order,
-        kind.mask,
-    );
-    match read {
+    match kind_of(kind) {
         KindRead::Refused(e) => e as u32,
         KindRead::Kind(k) => {
             let answer = merge::merge(
@@ -323,8 +290,7 @@ pub extern "C" fn dpx_partial_decode(
         ≡ exportTwo (withGiven (numberedIndex width place) (contentRagged (now (values .entry)) (now (offsets .entry)))
         (byIndex (contentRagged (now (values .entry)) (now (offsets .entry))) (λ w p. partiallyDecoded w p (now (shape .entry)) (now (subset .entry)) (now (bytes .entry)) (contentRagged (now (values .entry)) (now (offsets .entry)))))) (now (lengths .entry)) ⌝ }
 {
-    let read = valid::numbers::index_from_numbers(width, place);
-    match read {
+    match valid::numbers::index_from_numbers(width, place) {
         IndexRead::Refused(e) => e as u32,
         IndexRead::Index(w, p) => {
             let answer = partial::vlen_partial::partial_decode(

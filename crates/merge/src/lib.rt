@@ -16,6 +16,7 @@ ghost use Rattle.merge.specs.Merge.{storeAnswer, coverAnswer, MergeCheck
 pub mod rules;
 
 // Stores chunks that passed the checks and cover the shape, where the outputs are long enough.
+// Over nine parameters: those of `merge`, and what its checks counted.
 fn store_chunks(
     kind: Kind,
     cells: usize,
@@ -84,6 +85,7 @@ fn store_chunks(
 }
 
 // Stores chunks that passed the other checks, where their subsets cover the shape.
+// Over nine parameters, as `store_chunks`.
 fn store_covering(
     kind: Kind,
     cells: usize,

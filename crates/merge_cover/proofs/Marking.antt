@@ -4,8 +4,8 @@ use mathlib.Core.Path.{_≡_, refl, sym, ap, ap₂, _∙_}
 use Prim.Native.Nat.{ℕ, _+_, _-_, _<_, _≤_}
 use native.Mathlib.Omega.{arith}
 use mathlib.Core.Bool.{Bool, true, false}
-use mathlib.Core.List.{List, [], _++_}
-use lib.ListN.{length, getD, drop, length-append}
+use mathlib.Core.List.{List, []}
+use lib.ListN.{length, drop, length-append}
 use lib.Dec.{eqb}
 use borrow.Author.Tests.{eq-eqb, ne-eqb, eqb-true, eqb-false}
 use Rattle.array.specs.Answer.{Answer, gives, refuses, andThen}
@@ -15,7 +15,8 @@ use Rattle.array.specs.Subset.{Subset, pairs, cellsIn, cellsOfAll}
 use Rattle.array.specs.Rows.{nextSubsets}
 use Rattle.array.proofs.SubsetLaws.{all-below}
 use Rattle.array.proofs.SubsetLists.{startsAt, lengthsAt}
-use Rattle.subset.proofs.Rows.{Left, left-next, left-more, left-ends, within-cells}
+use Rattle.subset.specs.Walk.{rowOf, Left, RowAt}
+use Rattle.subset.proofs.Rows.{left-ends, within-cells}
 use Rattle.chunks.specs.Gather.{onceTest}
 use Rattle.merge_cover.specs.Asked.{SubsetsOk}
 use Rattle.merge_cover.specs.Marks.{marking, toldMarks, unmarked}
@@ -31,23 +32,23 @@ pub record Marked (cs m₀ m : List ℕ) (cells n at : ℕ) : Type 0 where
   pub geo : Left cs cells n at
   pub same : marking m₀ cs ≡ marking m (drop at cs)
 
-pub marked-begins : (cs m : List ℕ) (cells n : ℕ) → Left cs cells n 0 → Marked cs m m cells n 0
-marked-begins cs m cells n g = record { geo = g; same = refl }
+pub marked-begins : {cs : List ℕ} (m : List ℕ) {cells n : ℕ} → Left cs cells n 0 → Marked cs m m cells n 0
+marked-begins m g = record { geo = g; same = refl }
 
-module _ (cs m₀ m : List ℕ) (cells n at : ℕ) (w : Marked cs m₀ m cells n at) where
+module _ {cs m₀ m : List ℕ} {cells n at : ℕ} (w : Marked cs m₀ m cells n at) where
   pub marked-ends : cells ≤ at → gives m ≡ marking m₀ cs
   unfolding marking
-  marked-ends h = sym (w .same ∙ ap (marking m) (left-ends cs cells n at (w .geo) h))
+  marked-ends h = sym (w .same ∙ ap (marking m) (left-ends (w .geo) h))
 
-  module _ (h : at < cells) {a : ℕ} (e : a ≡ getD cs at 0) where
-    next : {r : Answer (List ℕ)} → r ≡ marking m (from a n) → marking m₀ cs ≡ andThen r (λ u. marking u (drop (at + n) cs))
-    next q =
-        w .same ∙ ap (marking m) (left-next cs cells n at (w .geo) h ∙ ap (λ (k : ℕ). from k n ++ drop (at + n) cs) (sym e))
-        ∙ marking-append m (from a n) (drop (at + n) cs) ∙ ap (λ (x : Answer (List ℕ)). andThen x (λ u. marking u (drop (at + n) cs))) (sym q)
+  module _ {sh ls : List ℕ} {a k : ℕ} (q : RowAt sh ls cs cells at a k) where
+    next : {r : Answer (List ℕ)} → r ≡ marking m (from a k) → marking m₀ cs ≡ andThen r (λ u. marking u (drop (at + k) cs))
+    next e =
+        w .same ∙ ap (marking m) (q .next)
+        ∙ marking-append m (from a k) (drop (at + k) cs) ∙ ap (λ (x : Answer (List ℕ)). andThen x (λ u. marking u (drop (at + k) cs))) (sym e)
 
-    module _ {free : Bool} (m′ : List ℕ) (r : toldMarks free m′ ≡ marking m (from a n)) where
-      pub marked-more : free ≡ true → Marked cs m₀ m′ cells n (at + n)
-      marked-more t = record { geo = left-more cs cells n at (w .geo) h; same = next (told-by m′ t r) }
+    module _ {free : Bool} (m′ : List ℕ) (r : toldMarks free m′ ≡ marking m (from a k)) where
+      pub marked-more : free ≡ true → Marked cs m₀ m′ cells (rowOf ls) (at + k)
+      marked-more t = record { geo = q .rest; same = next (told-by m′ t r) }
 
       pub marked-over : free ≡ false → refuses 12 ≡ marking m₀ cs
       marked-over t = sym (next (told-by m′ t r))

@@ -58,7 +58,8 @@ marked-or-listed : (m : List ℕ) (j : ℕ) (js : List ℕ) (i : ℕ) → j < le
 marked-or-listed m j js i h z = go (eqb i j) refl
   where
     go : (b : Bool) → eqb i j ≡ b
-        → (pick b (suc (count i js)) (count i js) ≤ 1 - getD m i 0 → count i js ≤ 1 - getD (set m j 1) i 0) × (count i js ≤ 1 - getD (set m j 1) i 0 → pick b (suc (count i js)) (count i js) ≤ 1 - getD m i 0)
+        → (pick b (suc (count i js)) (count i js) ≤ 1 - getD m i 0 → count i js ≤ 1 - getD (set m j 1) i 0) ×
+        (count i js ≤ 1 - getD (set m j 1) i 0 → pick b (suc (count i js)) (count i js) ≤ 1 - getD m i 0)
     go true e =
         let q : i ≡ j = eqb-true i j e in
         let a : getD (set m j 1) i 0 ≡ 1 = ap (λ (k : ℕ). getD (set m j 1) k 0) q ∙ getD-set-same m j 1 0 h in

@@ -7,11 +7,13 @@ use native.Mathlib.Omega.{arith}
 use mathlib.Core.List.{List, [], _∷_}
 use lib.ListN.{length, drop}
 use Rattle.array.specs.Lists.{All}
+use Rattle.array.specs.Shape.{volume, ShapeOk}
 use Rattle.array.specs.Subset.{Subset, lengths, SubsetOk, pairs, FullOk}
 use Rattle.array.specs.Rows.{nextSubsets, Within}
 use Rattle.array.proofs.Lists.{All-map}
 use Rattle.array.proofs.SubsetLaws.{lengths-pairs}
 use Rattle.array.proofs.SubsetLists.{startsAt, lengthsAt, subsets-next, length-starts, length-lengths-at, within-at}
+use Rattle.subset.specs.Walk.{SubsetAsked}
 use Rattle.merge_cover.specs.Asked.{SubsetsOk}
 
 -- full subsets lie within the shape
@@ -68,6 +70,9 @@ module _ (sh flat : List ℕ) (count : ℕ) where
 
     pub now-within : Within sh (startsAt d at flat) (lengthsAt d at flat)
     now-within = within-at sh flat at next-room (fit-now .0 .fits)
+
+    pub now-asked : ShapeOk sh → {k : ℕ} → k ≡ volume (lengthsAt d at flat) → SubsetAsked sh (startsAt d at flat) (lengthsAt d at flat) k
+    now-asked o e = record { shaped = o; within = now-within; counted = e }
 
     pub subsets-more : SubsetsLeft sh flat count (i + 1) (at + d + d)
     subsets-more = record { within = omega arith; long = numbers-left; fit = fit-now .1 }

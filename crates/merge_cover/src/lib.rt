@@ -4,9 +4,10 @@ ghost use Prim.Native.Nat.{_+_, _-_, _%_, _^_, _≤_, _<_, min};
 ghost use lib.ListN.{length};
 ghost use Rattle.array.specs.Answer.{gives};
 ghost use Rattle.array.specs.Lists.{from};
-ghost use Rattle.array.specs.Shape.{volume, ShapeOk};
+ghost use Rattle.array.specs.Shape.{volume};
 ghost use Rattle.array.specs.Subset.{pairs, cellsIn, cellsOfAll};
-ghost use Rattle.array.specs.Rows.{Within, nextSubsets};
+ghost use Rattle.array.specs.Rows.{nextSubsets};
+ghost use Rattle.subset.specs.Walk.{SubsetAsked};
 ghost use Rattle.chunks.specs.Gather.{onceTest};
 ghost use Rattle.merge_cover.specs.Marks.{marking, toldMarks};
 ghost use Rattle.merge_cover.specs.Bits.{marksOf, bitsAt, noWords};
@@ -81,16 +82,16 @@ fn mark_run(words: &mut [u64], start: usize, len: usize) -> bool
 }
 
 // Marks the cells of a subset, row by row; whether none was marked already.
-fn mark_subset(words: &mut [u64], shape: &[u64], starts: &[u64], lens: &[u64], cells: u64) -> bool
-    requires { ⌜ ShapeOk (now shape) × Within (now shape) (now starts) (now lens) × (length (now words) ≡ 1024) × (cells ≡ volume (now lens)) ⌝ }
+fn mark_subset(words: &mut [u64], shape: &[u64], starts: &[u64], lens: &[u64], count: usize) -> bool
+    requires { ⌜ SubsetAsked (now shape) (now starts) (now lens) count × (length (now words) ≡ 1024) ⌝ }
     ensures { λ r. ⌜ toldMarks r (marksOf (now (words .exit))) ≡ marking (marksOf (now (words .entry))) (cellsIn (now (shape .entry)) (pairs (now (starts .entry)) (now (lens .entry)))) ⌝ }
 {
-    let last = lens.len() - 1;
-    let n = lens[last];
-    let mut at: u64 = 0;
-    while at < cells {
-        let a = subset::cell_at(shape, starts, lens, at);
-        if !mark_run(words, a as usize, n as usize) {
+    let mut at: usize = 0;
+    while at < count {
+        let row = subset::row_at(shape, starts, lens, count, at);
+        let first = row.first;
+        let n = row.cells;
+        if !mark_run(words, first, n) {
             return false;
         }
         at += n;
@@ -117,7 +118,7 @@ pub fn covers(shape: &[u64], subsets: &[u64], count: usize) -> bool
         if left < cells {
             return false;
         }
-        if !mark_subset(&mut words, shape, &subsets[at..mid], lens, cells) {
+        if !mark_subset(&mut words, shape, &subsets[at..mid], lens, cells as usize) {
             return false;
         }
         left -= cells;

@@ -140,7 +140,8 @@ beside-same k n [] (v ∷ vs) e a s = absurd (omega arith)
 beside-same k n (j ∷ js) [] e a s = absurd (omega arith)
 beside-same k n (j ∷ js) (v ∷ vs) e a s = (s .0 ∙ sym (same-at k n j (a .0)), beside-same k n js vs (omega arith) (a .1) (s .1))
 
-pub fixed-block : (base k n : ℕ) (o : List ℕ) (z : Value) (js : List ℕ) (vs : List Value) → base + n * k ≤ length o → length js ≡ length vs → All (λ j. j < n) js → All (λ v. length v ≡ k) vs → Once n js
+pub fixed-block : (base k n : ℕ) (o : List ℕ) (z : Value) (js : List ℕ) (vs : List Value) → base + n * k ≤ length o → length js ≡ length vs → All (λ j. j < n) js
+    → All (λ v. length v ≡ k) vs → Once n js
     → scatter o (places (fixedAt base k) js) (joined vs) ≡ take base o ++ joined (putBack z n js vs) ++ drop (base + n * k) o
 fixed-block base k n o z js vs room e a s once =
     let ls : List ℕ = replicate n k in

@@ -10,6 +10,7 @@ use lib.ListN.{length, getD, take, drop, set, length-drop}
 use lib.Seq.{drop-drop}
 use Rattle.array.specs.Buffers.{overAt}
 use Rattle.array.specs.Places.{fixedAt}
+use Rattle.subset.specs.Walk.{rowOf, RowAt}
 use Rattle.buffer.proofs.Copying.{Copying, copy-more}
 use Rattle.merge_stores.specs.Ragged.{steps}
 use Rattle.merge_stores.proofs.RaggedTies.{steps-at}
@@ -23,10 +24,11 @@ module _ {d : List ℕ} {at : ℕ} (src : List ℕ) {first n : ℕ} {o : List �
       (steps-at src (first + i) (omega arith) ∙ ap (λ (y : ℕ). getD src y 0 - getD src (first + i) 0) (sym (add-one (first + i)))) (copy-more c k)
 
 -- the store of a run of cells of one element
-module _ (base : ℕ) {cs : List ℕ} (xs : List ℕ) (first : ℕ) {d o : List ℕ} {cells n at : ℕ} (c : Store (fixedAt base 1) cs (drop first xs) d o cells n at at) (h : at < cells) {a : ℕ} (e : a ≡ getD cs at 0)
-    (room : base + a + n ≤ length d) (enough : first + at + n ≤ length xs) {o′ : List ℕ} (p : o′ ≡ overAt (base + a) (take n (drop (first + at) xs)) o) where
-  pub unit-more : Store (fixedAt base 1) cs (drop first xs) d o′ cells n (at + n) (at + n)
+module _ (base : ℕ) {cs : List ℕ} (xs : List ℕ) (first : ℕ) {d o : List ℕ} {cells m at : ℕ} (c : Store (fixedAt base 1) cs (drop first xs) d o cells m at at)
+    {sh ls : List ℕ} {a n : ℕ} (q : RowAt sh ls cs cells at a n) (room : base + a + n ≤ length d) (enough : first + at + n ≤ length xs) {o′ : List ℕ}
+    (p : o′ ≡ overAt (base + a) (take n (drop (first + at) xs)) o) where
+  pub unit-more : Store (fixedAt base 1) cs (drop first xs) d o′ cells (rowOf ls) (at + n) (at + n)
   unit-more =
-      store-more c h e (λ i h l. omega (arith, mul-one i, mul-one (suc i))) (base + a) n (at + n)
+      store-more c q (λ i h l. omega (arith, mul-one i, mul-one (suc i))) (base + a) n (at + n)
       (ap (λ (k : ℕ). base + k) (sym (mul-one a))) (omega (arith, mul-one a, mul-one (a + n))) refl room (omega (arith, length-drop first xs))
       (p ∙ ap (λ (x : List ℕ). overAt (base + a) (take n x) o) (sym (drop-drop at first xs)))

@@ -77,9 +77,11 @@ module _ {sh flat : List ℕ} {count : ℕ} {d src : List ℕ} {depth cells : �
           let e : l * cells + volume sh ≡ (l + 1) * cells = omega (arith, suc-mul l cells, q .counted, ap (λ (k : ℕ). k * cells) (add-one l)) in
           let more : masksMerged sh bs depth src (l + 1) ≡ f ++ level l =
           ap (λ (r : List ℕ). joined (map level r)) (sym (from-append 0 l 1)) ∙ ap joined (map-append level (from 0 l) (from (0 + l) 1))
-          ∙ joined-append (map level (from 0 l)) (map level (from (0 + l) 1)) ∙ ap (λ (k : ℕ). f ++ (level k ++ [])) (native.Mathlib.Nat.zero-add l) ∙ ap (λ (r : List ℕ). f ++ r) (append-nil (level l)) in
+          ∙ joined-append (map level (from 0 l)) (map level (from (0 + l) 1)) ∙ ap (λ (k : ℕ). f ++ (level k ++ [])) (native.Mathlib.Nat.zero-add l)
+          ∙ ap (λ (r : List ℕ). f ++ r) (append-nil (level l)) in
           let rest : drop (l * cells + volume sh) o ≡ drop ((l + 1) * cells) d =
-          sym (drop-drop (volume sh) (l * cells) o) ∙ ap (drop (volume sh)) (ap (drop (l * cells)) (c .done) ∙ drop-at f (drop (l * cells) d) (l * cells) lf) ∙ drop-drop (volume sh) (l * cells) d ∙ ap (λ (k : ℕ). drop k d) e in
+          sym (drop-drop (volume sh) (l * cells) o) ∙ ap (drop (volume sh)) (ap (drop (l * cells)) (c .done) ∙ drop-at f (drop (l * cells) d) (l * cells) lf)
+          ∙ drop-drop (volume sh) (l * cells) d ∙ ap (λ (k : ℕ). drop k d) e in
           record {
             within = omega arith;
             long = ap length p ∙ length-scatter o (places (fixedAt (l * cells) 1) js) (parts l depth 1 bs src) ∙ c .long;

@@ -85,13 +85,11 @@ module _ {sh flat : List ℕ} {count : ℕ} {d : List ℕ} {base size : ℕ} {sr
       pub part-room : pos + volume lens * lead + volume lens * size ≤ length src
       part-room = omega (arith, all-room, mul-add (volume lens) lead size, mul-le-mul-left {m = lead + size} {n = step} (volume lens) (q .inner))
 
-      pub all-asked : {k : ℕ} → k ≡ volume lens → StoreAsked sh starts lens o base size src (pos + k * lead)
+      pub all-asked : {k : ℕ} → k ≡ volume lens → StoreAsked sh o base size src (pos + k * lead) k
       all-asked e = record {
-        shaped = q .subsets .shaped;
-        fits = now-within sh flat count (c .geo) h;
         narrow = q .narrow;
         room = omega (arith, q .room, c .long);
-        enough = omega (arith, part-room, ap (λ (x : ℕ). x * lead) e);
+        enough = omega (arith, part-room, ap (λ (x : ℕ). x * lead) e, ap (λ (x : ℕ). x * size) e);
       }
 
       module _ {k : ℕ} (e : k ≡ volume lens) {o′ : List ℕ}

@@ -36,7 +36,9 @@ module _ {sh flat : List ℕ} {count : ℕ} {dv d values src : List ℕ} {n : �
   ok = all-inside sh (nextSubsets (length sh) count flat) (q .subsets .each)
 
   long-xs : length xs ≡ n
-  long-xs = length-map (from 0 (volume sh)) (λ k. lookup 0 k (cellsOfAll sh (nextSubsets (length sh) count flat)) (stepParts (nextSubsets (length sh) count flat) src)) ∙ length-from 0 (volume sh) ∙ sym (q .counted)
+  long-xs =
+      length-map (from 0 (volume sh)) (λ k. lookup 0 k (cellsOfAll sh (nextSubsets (length sh) count flat)) (stepParts (nextSubsets (length sh) count flat) src))
+      ∙ length-from 0 (volume sh) ∙ sym (q .counted)
 
   module _ {o : List ℕ} (p : o ≡ scatter d (places (fixedAt 1 1) (cellsOfAll sh (nextSubsets (length sh) count flat))) (stepParts (nextSubsets (length sh) count flat) src)) where
     is : o ≡ take 1 d ++ xs ++ drop (1 + volume sh) d
@@ -47,7 +49,8 @@ module _ {sh flat : List ℕ} {count : ℕ} {dv d values src : List ℕ} {n : �
 
     lengths-are : take n (drop 1 o) ≡ xs
     lengths-are =
-        ap (λ (r : List ℕ). take n (drop 1 r)) (is ∙ append-assoc (take 1 d) xs (drop (1 + volume sh) d)) ∙ ap (take n) (drop-at (take 1 d) (xs ++ drop (1 + volume sh) d) 1 one) ∙ take-at xs (drop (1 + volume sh) d) n long-xs
+        ap (λ (r : List ℕ). take n (drop 1 r)) (is ∙ append-assoc (take 1 d) xs (drop (1 + volume sh) d)) ∙ ap (take n) (drop-at (take 1 d) (xs ++ drop (1 + volume sh) d) 1 one)
+        ∙ take-at xs (drop (1 + volume sh) d) n long-xs
 
     rest-is : drop (n + 1) o ≡ drop (n + 1) d
     rest-is =

@@ -63,7 +63,8 @@ module _ (d : List ℕ) (n : ℕ) (h : n < length d) where
           record {
             within = omega arith;
             long = length-set o (suc i) (a + x) ∙ c .long;
-            left = drop-set-lt (suc (suc i)) o (suc i) (a + x) (omega arith) ∙ ap (λ (k : ℕ). drop k o) (sym q) ∙ sym (drop-drop 1 (suc i) o) ∙ ap (drop 1) (c .left) ∙ drop-drop 1 (suc i) d ∙ ap (λ (k : ℕ). drop k d) q;
+            left = drop-set-lt (suc (suc i)) o (suc i) (a + x) (omega arith) ∙ ap (λ (k : ℕ). drop k o) (sym q) ∙ sym (drop-drop 1 (suc i) o) ∙ ap (drop 1) (c .left)
+                ∙ drop-drop 1 (suc i) d ∙ ap (λ (k : ℕ). drop k d) q;
             whole =
                 ap₂ (λ (p : List ℕ) (y : ℕ). p ++ (y ∷ sums y r)) (take-set-le (suc i) o (suc i) (a + x) (omega arith) ∙ take-suc o i 0 (omega (arith, c .long))) g
                 ∙ append-snoc (take i o) a ((a + x) ∷ sums (a + x) r)

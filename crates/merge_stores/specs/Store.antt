@@ -7,9 +7,9 @@ use mathlib.Core.List.{List, [], _∷_, _++_, map}
 use lib.ListN.{length, take, drop}
 use Rattle.array.specs.Limits.{mostSize}
 use Rattle.array.specs.Lists.{from, joined}
-use Rattle.array.specs.Shape.{volume, ShapeOk}
+use Rattle.array.specs.Shape.{volume}
 use Rattle.array.specs.Subset.{Subset, lengths, cellsOfAll}
-use Rattle.array.specs.Rows.{Within, nextSubsets}
+use Rattle.array.specs.Rows.{nextSubsets}
 use Rattle.array.specs.Cells.{Cell, maskOf, inners}
 use Rattle.chunks.specs.Gather.{putBack, Once}
 use Rattle.merge_cover.specs.Asked.{SubsetsOk}
@@ -37,12 +37,10 @@ masksMerged shape bs depth masks upto = joined (map (λ l. putBack 0 (volume sha
 
 -- ---- what the stores ask: of one chunk, of one part of each chunk, of all mask levels
 
-pub record StoreAsked (shape starts lens out : List ℕ) (base size : ℕ) (src : List ℕ) (first : ℕ) : Type 0 where
-  pub shaped : ShapeOk shape
-  pub fits : Within shape starts lens
+pub record StoreAsked (shape out : List ℕ) (base size : ℕ) (src : List ℕ) (first count : ℕ) : Type 0 where
   pub narrow : size ≤ mostSize
   pub room : base + volume shape * size ≤ length out
-  pub enough : first + volume lens * size ≤ length src
+  pub enough : first + count * size ≤ length src
 
 pub record PartsAsked (shape flat : List ℕ) (count : ℕ) (out : List ℕ) (base size : ℕ) (src : List ℕ) (lead step : ℕ) : Type 0 where
   pub subsets : SubsetsOk shape flat count

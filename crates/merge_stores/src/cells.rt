@@ -3,14 +3,14 @@ ghost use mathlib.Core.Path.{_≡_};
 ghost use mathlib.Core.List.{_++_};
 ghost use Prim.Native.Nat.{_*_};
 ghost use lib.ListN.{length, drop};
-ghost use Rattle.array.specs.Shape.{volume};
 ghost use Rattle.array.specs.Subset.{pairs, cellsIn, cellsOfAll};
 ghost use Rattle.array.specs.Rows.{nextSubsets};
 ghost use Rattle.array.specs.Places.{fixedAt};
+ghost use Rattle.subset.specs.Walk.{SubsetAsked};
 ghost use Rattle.merge_stores.specs.Scatter.{scatter, places};
 ghost use Rattle.merge_stores.specs.Store.{parts, masksMerged, StoreAsked, PartsAsked, MasksAsked};
 
-// Stores a chunk's `cells` cells of `size` bytes, which lie in `src` from `first` on, at their places in `out`, where cell 0 lies at `base`.
+// Stores a chunk's `count` cells of `size` bytes, which lie in `src` from `first` on, at their places in `out`, where cell 0 lies at `base`.
 pub fn store_subset(
     out: &mut [u8],
     base: usize,
@@ -20,19 +20,19 @@ pub fn store_subset(
     shape: &[u64],
     starts: &[u64],
     lens: &[u64],
-    cells: u64,
+    count: usize,
 )
-    requires { ⌜ StoreAsked (now shape) (now starts) (now lens) (now out) base size (now src) first × (cells ≡ volume (now lens)) ⌝ }
+    requires { ⌜ SubsetAsked (now shape) (now starts) (now lens) count × StoreAsked (now shape) (now out) base size (now src) first count ⌝ }
     ensures { λ _. ⌜ now (out .exit) ≡ scatter (now (out .entry)) (places (fixedAt base size) (cellsIn (now (shape .entry)) (pairs (now (starts .entry)) (now (lens .entry))))) (drop first (now (src .entry))) ⌝ }
 {
     let last = lens.len() - 1;
-    let n = lens[last];
-    let mut at: u64 = 0;
-    while at < cells {
-        let a = subset::cell_at(shape, starts, lens, at);
-        let to = base + (a as usize) * size;
-        let take = first + (at as usize) * size;
-        let len = (n as usize) * size;
+    let n = lens[last] as usize;
+    let mut at: usize = 0;
+    while at < count {
+        let a = subset::cell_at(shape, starts, lens, at as u64) as usize;
+        let to = base + a * size;
+        let take = first + at * size;
+        let len = n * size;
         buffer::copy::copy_bytes(out, to, src, take, len);
         at += n;
     }
@@ -63,8 +63,7 @@ pub fn store_parts(
         let mid = at + d;
         let end = mid + d;
         let lens = &subsets[mid..end];
-        let cells = subset::volume_of(lens);
-        let m = cells as usize;
+        let m = subset::volume_of(lens) as usize;
         let first = pos + m * lead;
         store_subset(
             out,
@@ -75,7 +74,7 @@ pub fn store_parts(
             shape,
             &subsets[at..mid],
             lens,
-            cells,
+            m,
         );
         pos += m * step;
         at = end;

@@ -22,7 +22,7 @@ use Rattle.stored.specs.declared.vlen.Index.{Index}
 use Rattle.stored.specs.Index.{foundIn}
 use Rattle.stored.proofs.CheckedIndex.{found-refused}
 use Rattle.chunks.specs.Calls.{raggedCut, partialAnswer, partiallyDecoded}
-use Rattle.extract.specs.Places.{valuesAt}
+use Rattle.array.specs.Places.{valuesAt}
 use Rattle.partial.specs.Stored.{storedAt, cutAnswer}
 use Rattle.partial.proofs.Stored.{readAt, Read, read-cut}
 

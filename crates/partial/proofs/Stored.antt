@@ -17,7 +17,7 @@ use Rattle.array.specs.Subset.{SubsetOk, subsetOf, cellsIn}
 use Rattle.array.specs.Cells.{Value}
 use Rattle.array.specs.Offsets.{last, Rising}
 use Rattle.array.specs.Content.{Content, RaggedContent, unmasked, ValuesOk, sizeTest, endToEnd}
-use Rattle.array.specs.Places.{offsetAt}
+use Rattle.array.specs.Places.{offsetAt, Rises, valuesAt}
 use Rattle.array.proofs.Lists.{length-pieces, take-within}
 use Rattle.valid.proofs.CheckLaws as check
 use Rattle.array.proofs.SubsetLaws.{cellsIn-below}
@@ -26,8 +26,7 @@ use Rattle.stored.specs.declared.vlen.Index.{Index}
 use Rattle.stored.specs.Index.{offsetsIn, foundIn, raggedAt, endsIn, IndexWithin}
 use Rattle.stored.proofs.CheckedIndex.{IndexFound, index-found}
 use Rattle.chunks.specs.Calls.{raggedCut}
-use Rattle.extract.specs.Places.{Rises, valuesAt}
-use Rattle.extract.proofs.Places.{run-below}
+use Rattle.array.proofs.Places.{run-below}
 use Rattle.extract.proofs.Forms.{begins-rise}
 use Rattle.extract.proofs.Closing.{cut-is}
 use Rattle.partial.specs.Stored.{storedAt, DataAsked}

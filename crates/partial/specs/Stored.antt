@@ -12,7 +12,7 @@ use Rattle.array.specs.Shape.{volume}
 use Rattle.array.specs.Cells.{Value}
 use Rattle.array.specs.Content.{RaggedContent, endToEnd, sizeTest}
 use Rattle.array.specs.Buffers.{RaggedLengths, raggedEnoughTest, ifRoom}
-use Rattle.extract.specs.Places.{Rises, valuesAt}
+use Rattle.array.specs.Places.{Rises, valuesAt}
 
 -- offset j of an index of width w
 unfoldable pub storedAt : ℕ → List ℕ → ℕ → ℕ → ℕ

@@ -23,8 +23,8 @@ ghost use Rattle.array.specs.Buffers.{over, overAt, raggedOutcome, raggedLength
 ghost use Rattle.array.specs.Meaning.{widthOf, placeOf};
 ghost use Rattle.array.specs.Outcome.{contentRagged, outcomeRagged};
 ghost use Rattle.chunks.specs.Calls.{partiallyDecoded};
-ghost use Rattle.extract.specs.Places.{bytesAt, valuesAt};
-ghost use Rattle.extract.specs.Asked.{SubsetAsked};
+ghost use Rattle.array.specs.Places.{bytesAt, valuesAt};
+ghost use Rattle.subset.specs.Walk.{SubsetAsked};
 ghost use Rattle.partial.specs.Stored.{storedAt, cutAnswer, IndexAsked, RowAsked, DataAsked, CutAsked};
 
 // Offset j of the index.
@@ -49,12 +49,12 @@ fn count_bytes(
     requires { ⌜ SubsetAsked (now shape) (now starts) (now lens) count × IndexAsked (widthOf width) (now bytes) index (volume (now shape)) ⌝ }
     ensures { λ r. ⌜ r ≡ bytesAt (storedAt (widthOf width) (now (bytes .entry)) index) (cellsIn (now (shape .entry)) (pairs (now (starts .entry)) (now (lens .entry)))) ⌝ }
 {
-    let last = lens.len() - 1;
-    let n = lens[last] as usize;
     let mut at: usize = 0;
     let mut total: usize = 0;
     while at < count {
-        let first = subset::cell_at(shape, starts, lens, at as u64) as usize;
+        let row = subset::row_at(shape, starts, lens, count, at);
+        let first = row.first;
+        let n = row.cells;
         let begin = offset_at(bytes, index, width, first) as usize;
         let end = offset_at(bytes, index, width, first + n) as usize;
         total += end - begin;
@@ -107,18 +107,18 @@ fn copy_rows(
     ensures offsets { λ _. ⌜ now (offsets .exit) ≡ overAt 1 (ends 0 (valuesAt (storedAt (widthOf width) (now (bytes .entry)) index) (drop source (now (bytes .entry)))
         (cellsIn (now (shape .entry)) (pairs (now (starts .entry)) (now (lens .entry)))))) (now (offsets .entry)) ⌝ }
 {
-    let last = lens.len() - 1;
-    let n = lens[last] as usize;
     let mut at: usize = 0;
     let mut total: usize = 0;
     while at < count {
-        let first = subset::cell_at(shape, starts, lens, at as u64) as usize;
+        let row = subset::row_at(shape, starts, lens, count, at);
+        let first = row.first;
+        let n = row.cells;
         let begin = offset_at(bytes, index, width, first) as usize;
         let end = offset_at(bytes, index, width, first + n) as usize;
-        let row = end - begin;
-        copy::copy_bytes(values, total, bytes, source + begin, row);
+        let data = end - begin;
+        copy::copy_bytes(values, total, bytes, source + begin, data);
         store_ends(offsets, at + 1, bytes, index, width, first, n, total as u64);
-        total += row;
+        total += data;
         at += n;
     }
 }

@@ -18,6 +18,7 @@ use valid::numbers::IndexRead;
 use valid::numbers::KindRead;
 
 // The calls that take a kind.
+// Ten parameters: what any of these calls takes, each lent buffer its own.
 fn run_kind(
     letter: u8,
     kind: Kind,

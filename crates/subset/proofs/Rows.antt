@@ -7,15 +7,17 @@ use native.Mathlib.Omega.{arith}
 use mathlib.Core.List.{List, [], _∷_, _++_}
 use lib.ListN.{length, getD, drop, length-drop, drop-of-length-le}
 use lib.Seq.{getD-drop, drop-drop}
+use Rattle.array.specs.Limits.{mostCells}
 use Rattle.array.specs.Lists.{from, All}
 use Rattle.array.specs.Shape.{volume}
 use Rattle.array.specs.Subset.{lengths, pairs, cellsIn}
 use Rattle.array.specs.Rows.{Within}
 use Rattle.array.proofs.SubsetLaws.{length-cellsIn, cellsIn-below, lengths-pairs}
-use Rattle.subset.proofs.Runs.{Runs, lastLength, cells-runs, Begun, begun}
-use Rattle.subset.proofs.Index.{All-drop, lengths-some}
+use Rattle.subset.specs.Walk.{SubsetAsked, rowOf, Runs, Left, RowAt}
+use Rattle.subset.proofs.Runs.{lastLength, cells-runs, Begun, begun}
+use Rattle.subset.proofs.Index.{All-drop, lengths-some, few-drop, few-within}
 
-last-at : (ls : List ℕ) → 1 ≤ length ls → getD ls (length ls - 1) 0 ≡ lastLength ls
+last-at : (ls : List ℕ) → 1 ≤ length ls → rowOf ls ≡ lastLength ls
 last-at [] h = absurd (omega arith)
 last-at (n ∷ []) h = refl
 last-at (n ∷ m ∷ ls) h =
@@ -41,20 +43,14 @@ within-cells sh st ls f =
     length-cellsIn sh (pairs st ls) (f .inside) ∙ ap volume (lengths-pairs st ls (omega (arith, f .as-many-starts, f .as-many-lengths)))
 
 -- they are cells of the shape
-pub within-below : (sh st ls : List ℕ) → Within sh st ls → All (λ j. j < volume sh) (cellsIn sh (pairs st ls))
+within-below : (sh st ls : List ℕ) → Within sh st ls → All (λ j. j < volume sh) (cellsIn sh (pairs st ls))
 within-below sh st ls f = cellsIn-below sh (pairs st ls) (f .inside)
 
 -- ---- the loop: of the cells cs, in rows of n, those from `at` on are left
 
-pub record Left (cs : List ℕ) (cells n at : ℕ) : Type 0 where
-  pub whole : cells ≡ length cs
-  pub some : 1 ≤ cells → 1 ≤ n
-  pub within : at ≤ cells
-  pub left : Runs n (drop at cs)
-
 -- the rows are as long as the last length; an empty subset has none
-pub left-begins : (sh st ls : List ℕ) {cells : ℕ} → Within sh st ls → 1 ≤ length sh → cells ≡ volume ls
-    → Left (cellsIn sh (pairs st ls)) cells (getD ls (length ls - 1) 0) 0
+left-begins : (sh st ls : List ℕ) {cells : ℕ} → Within sh st ls → 1 ≤ length sh → cells ≡ volume ls
+    → Left (cellsIn sh (pairs st ls)) cells (rowOf ls) 0
 left-begins sh st ls f h e =
     let hl : 1 ≤ length ls = omega (arith, f .as-many-lengths) in
     let el : lengths (pairs st ls) ≡ ls = lengths-pairs st ls (omega (arith, f .as-many-starts, f .as-many-lengths)) in
@@ -65,28 +61,58 @@ left-begins sh st ls f h e =
       left = subst (λ (k : ℕ). Runs k (cellsIn sh (pairs st ls))) (ap lastLength el ∙ sym (last-at ls hl)) (cells-runs sh (pairs st ls) h (f .inside));
     }
 
-module _ (cs : List ℕ) (cells n at : ℕ) (w : Left cs cells n at) where
+module _ {cs : List ℕ} {cells n at : ℕ} (w : Left cs cells n at) where
   pub left-ends : cells ≤ at → drop at cs ≡ []
   left-ends h = let q : length cs ≤ at = omega (arith, w .whole) in drop-of-length-le cs q
 
   module _ (h : at < cells) where
-    pub left-some : 1 ≤ n
+    left-some : 1 ≤ n
     left-some = w .some (omega arith)
 
     now : Begun n (drop at cs)
     now = begun n left-some (omega (arith, length-drop at cs, w .whole)) (w .left)
 
     -- what is left begins with a row, from the cell at `at`
-    pub left-next : drop at cs ≡ from (getD cs at 0) n ++ drop (at + n) cs
+    left-next : drop at cs ≡ from (getD cs at 0) n ++ drop (at + n) cs
     left-next =
         let q : getD (drop at cs) 0 0 ≡ getD cs at 0 = getD-drop at cs 0 0 ∙ ap (λ (k : ℕ). getD cs k 0) (add-zero at) in
         now .first ∙ ap₂ (λ (a : ℕ) (r : List ℕ). from a n ++ r) q (drop-drop n at cs)
 
-    pub left-within : at + n ≤ cells
+    left-within : at + n ≤ cells
     left-within = omega (arith, now .as-long, length-drop at cs, w .whole)
 
-    pub left-room : (v : ℕ) → All (λ j. j < v) cs → getD cs at 0 + n ≤ v
+    left-room : (v : ℕ) → All (λ j. j < v) cs → getD cs at 0 + n ≤ v
     left-room v p = run-below v (getD cs at 0) n (drop (at + n) cs) left-some (subst (All (λ j. j < v)) left-next (All-drop (λ j. j < v) at cs p))
 
-    pub left-more : Left cs cells n (at + n)
+    left-more : Left cs cells n (at + n)
     left-more = record { whole = w .whole; some = w .some; within = left-within; left = subst (Runs n) (drop-drop n at cs) (now .rest) }
+
+-- ---- a subset that is asked for
+
+module _ {sh st ls : List ℕ} {count : ℕ} (a : SubsetAsked sh st ls count) where
+  pub asked-left : Left (cellsIn sh (pairs st ls)) count (rowOf ls) 0
+  asked-left = left-begins sh st ls (a .within) (a .shaped .some-sides) (a .counted)
+
+  pub asked-below : All (λ j. j < volume sh) (cellsIn sh (pairs st ls))
+  asked-below = within-below sh st ls (a .within)
+
+  pub asked-count : length (cellsIn sh (pairs st ls)) ≡ count
+  asked-count = within-cells sh st ls (a .within) ∙ sym (a .counted)
+
+  pub asked-few : count ≤ 65536
+  unfolding mostCells
+  asked-few = omega (arith, a .counted, few-drop 0 ls (few-within st ls (a .shaped) (a .within)))
+
+  pub asked-lengths : 1 ≤ length ls
+  asked-lengths = omega (arith, a .shaped .some-sides, a .within .as-many-lengths)
+
+  -- the next row
+  pub row-is : {at first : ℕ} → Left (cellsIn sh (pairs st ls)) count (rowOf ls) at → at < count → first ≡ getD (cellsIn sh (pairs st ls)) at 0
+      → RowAt sh ls (cellsIn sh (pairs st ls)) count at first (rowOf ls)
+  row-is {at} {first} g h e = record {
+    next = left-next g h ∙ ap (λ (x : ℕ). from x (rowOf ls) ++ drop (at + rowOf ls) (cellsIn sh (pairs st ls))) (sym e);
+    some = left-some g h;
+    within = left-within g h;
+    inside = omega (arith, e, left-room g h (volume sh) asked-below);
+    rest = left-more g h;
+  }

@@ -11,6 +11,7 @@ use Rattle.array.specs.Lists.{from}
 use Rattle.array.specs.Shape.{volume}
 use Rattle.array.specs.Subset.{Subset, lengths, SubsetOk, rows, cellsIn}
 use Rattle.array.proofs.Lists.{map-append, length-from}
+use Rattle.subset.specs.Walk.{Runs, none, run}
 
 getD-map-in : (f : ℕ → ℕ) (js : List ℕ) (y : ℕ) → y < length js → getD (map f js) y 0 ≡ f (getD js y 0)
 getD-map-in f [] y h = absurd (omega arith)
@@ -37,10 +38,6 @@ rows-at v a (suc n) js (suc x) y h l =
     ∙ rows-at v (suc a) n js x y (omega arith) l ∙ ap (λ (k : ℕ). k * v + getD js y 0) e
 
 -- ---- runs of n numbers, one after another
-
-pub data Runs (n : ℕ) : List ℕ → Type 0 where
-  none : Runs n []
-  run : (a : ℕ) {js : List ℕ} → Runs n js → Runs n (from a n ++ js)
 
 runs-append : {n : ℕ} {js : List ℕ} {ks : List ℕ} → Runs n js → Runs n ks → Runs n (js ++ ks)
 runs-append {ks = ks} none q = q

@@ -4,13 +4,14 @@ use mathlib.Core.Path.{_≡_, sym, ap, ap₂, _∙_}
 use Prim.Native.Nat.{ℕ, suc, _+_, _-_, _<_, _≤_}
 use native.Mathlib.Nat.{add-zero, sub-zero, zero-add}
 use native.Mathlib.Omega.{arith}
-use mathlib.Core.List.{List, _∷_, _++_}
-use lib.ListN.{length, drop, getD, set}
+use mathlib.Core.List.{List, _∷_}
+use lib.ListN.{length, drop, set}
 use Rattle.array.specs.Lists.{from}
 use Rattle.array.specs.Buffers.{over, overAt}
 use Rattle.array.proofs.Lists.{length-from}
 use Rattle.array.proofs.Laying.{Laying, laying-begins, laying-same, laying-ends, laying-part, laying-store, laying-is, laying-room}
-use Rattle.subset.proofs.Rows.{Left, left-next, left-more, left-ends}
+use Rattle.subset.specs.Walk.{rowOf, Left, RowAt}
+use Rattle.subset.proofs.Rows.{left-ends}
 
 -- ---- one row: n neighbours from the cell a on, stored one by one
 
@@ -46,21 +47,20 @@ pub record Stored (cs d out : List ℕ) (cells n at : ℕ) : Type 0 where
   pub geo : Left cs cells n at
   pub laid : Laying cs d 0 out at (drop at cs)
 
-pub stored-begins : (cs d : List ℕ) (cells n : ℕ) → Left cs cells n 0 → cells ≤ length d → Stored cs d d cells n 0
-stored-begins cs d cells n g h = record { geo = g; laid = laying-begins cs d 0 (omega (arith, g .whole)) }
+pub stored-begins : {cs : List ℕ} (d : List ℕ) {cells n : ℕ} → Left cs cells n 0 → cells ≤ length d → Stored cs d d cells n 0
+stored-begins {cs} d g h = record { geo = g; laid = laying-begins cs d 0 (omega (arith, g .whole)) }
 
-module _ (cs d out : List ℕ) (cells n at : ℕ) (s : Stored cs d out cells n at) where
+module _ {cs d out : List ℕ} {cells n at : ℕ} (s : Stored cs d out cells n at) where
   pub stored-same : length out ≡ length d
   stored-same = laying-same cs d 0 out at (drop at cs) (s .laid)
 
   pub stored-ends : cells ≤ at → out ≡ over cs d
-  stored-ends h = laying-ends cs d 0 out at (laying-is (s .laid) (left-ends cs cells n at (s .geo) h))
+  stored-ends h = laying-ends cs d 0 out at (laying-is (s .laid) (left-ends (s .geo) h))
 
-  pub stored-more : at < cells → {a : ℕ} {out′ : List ℕ} → a ≡ getD cs at 0 → out′ ≡ overAt at (from a n) out → Stored cs d out′ cells n (at + n)
-  stored-more h {a} {out′} e r = record {
-    geo = left-more cs cells n at (s .geo) h;
-    laid = laying-part cs d 0 out at (from a n) (drop (at + n) cs)
-        (laying-is (s .laid) (left-next cs cells n at (s .geo) h ∙ ap (λ (k : ℕ). from k n ++ drop (at + n) cs) (sym e)))
-        out′ (r ∙ ap (λ (k : ℕ). overAt k (from a n) out) (sym (zero-add at)))
-        (at + n) (ap (λ (k : ℕ). at + k) (sym (length-from a n)));
+  pub stored-more : {sh ls : List ℕ} {a k : ℕ} → RowAt sh ls cs cells at a k → {out′ : List ℕ} → out′ ≡ overAt at (from a k) out → Stored cs d out′ cells (rowOf ls) (at + k)
+  stored-more {a = a} {k = k} q {out′} e = record {
+    geo = q .rest;
+    laid = laying-part cs d 0 out at (from a k) (drop (at + k) cs) (laying-is (s .laid) (q .next))
+        out′ (e ∙ ap (λ (x : ℕ). overAt x (from a k) out) (sym (zero-add at)))
+        (at + k) (ap (λ (x : ℕ). at + x) (sym (length-from a k)));
   }

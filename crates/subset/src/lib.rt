@@ -14,6 +14,7 @@ ghost use Rattle.array.specs.Buffers.{over, overAt};
 ghost use Rattle.array.specs.Rows.{Within, FewCells};
 ghost use Rattle.array.specs.Outcome.{outcome};
 ghost use Rattle.array.specs.Calls.{subsetCells};
+ghost use Rattle.subset.specs.Walk.{SubsetAsked, rowOf, Left, RowAt};
 
 // Whether a start leaves room for the length in its side. The length is taken off the side, since a sum could wrap.
 fn leaves_room(side: u64, start: u64, len: u64) -> bool
@@ -134,6 +135,24 @@ pub fn cell_at(shape: &[u64], starts: &[u64], lens: &[u64], i: u64) -> u64
     cell
 }
 
+// A row of a subset: so many neighbours from a cell on.
+pub struct Row {
+    pub first: usize,
+    pub cells: usize,
+}
+
+// The row that begins at cell `at` of a subset of `count` cells: what each loop over rows asks at each turn.
+pub fn row_at(shape: &[u64], starts: &[u64], lens: &[u64], count: usize, at: usize) -> Row
+    requires { ⌜ SubsetAsked (now shape) (now starts) (now lens) count
+        × Left (cellsIn (now shape) (pairs (now starts) (now lens))) count (rowOf (now lens)) at × (at < count) ⌝ }
+    ensures { λ r. ⌜ RowAt (now (shape .entry)) (now (lens .entry)) (cellsIn (now (shape .entry)) (pairs (now (starts .entry)) (now (lens .entry)))) count at (r .first) (r .cells) ⌝ }
+{
+    let last = lens.len() - 1;
+    let cells = lens[last] as usize;
+    let first = cell_at(shape, starts, lens, at as u64) as usize;
+    Row { first, cells }
+}
+
 // Stores n cells that are neighbours, from the cell `first` on.
 fn store_run(cells: &mut [u64], at: usize, first: u64, n: usize)
     requires { ⌜ (at + n ≤ length (now cells)) × (first + n ≤ mostCells) ⌝ }
@@ -148,15 +167,15 @@ fn store_run(cells: &mut [u64], at: usize, first: u64, n: usize)
 
 // Stores the cells of a subset, row by row.
 fn store_rows(cells: &mut [u64], shape: &[u64], starts: &[u64], lens: &[u64], count: usize)
-    requires { ⌜ ShapeOk (now shape) × Within (now shape) (now starts) (now lens) × (count ≡ volume (now lens)) × (count ≤ length (now cells)) ⌝ }
+    requires { ⌜ SubsetAsked (now shape) (now starts) (now lens) count × (count ≤ length (now cells)) ⌝ }
     ensures { λ _. ⌜ now (cells .exit) ≡ over (cellsIn (now (shape .entry)) (pairs (now (starts .entry)) (now (lens .entry)))) (now (cells .entry)) ⌝ }
 {
-    let last = lens.len() - 1;
-    let n = lens[last] as usize;
     let mut at: usize = 0;
     while at < count {
-        let first = cell_at(shape, starts, lens, at as u64);
-        store_run(cells, at, first, n);
+        let row = row_at(shape, starts, lens, count, at);
+        let first = row.first;
+        let n = row.cells;
+        store_run(cells, at, first as u64, n);
         at += n;
     }
 }

@@ -153,6 +153,7 @@ fn at_most(n: usize, all: usize) -> usize
 }
 
 // The way of one subset, its chunk read behind those that reach so far; how far they reach now.
+// Ten parameters: the array that is cut and the chunks, three slices each.
 fn next_chunk(
     reach: Reach,
     kind: Kind,

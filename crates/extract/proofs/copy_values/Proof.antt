@@ -4,7 +4,7 @@ use mathlib.Core.Path.{refl}
 use borrow.Author.Needs.{needs}
 use Rattle.array.specs.Subset.{pairs, cellsIn}
 use Rattle.array.specs.Meaning.{orderOf, widthOf, placeOf}
-use Rattle.extract.proofs.Walk.{asked-below, asked-count}
+use Rattle.subset.proofs.Rows.{asked-below, asked-count}
 use Rattle.extract.proofs.Forms.{cells-asked, ragged-asked}
 use Rattle.extract.proofs.copy_values.Statement.{statement}
 use Rattle.extract.proofs.copy_values.Tie as tie
@@ -18,10 +18,13 @@ cast-copy-cells c = search needs
 copy-cells-requires : tie.Need-copy-cells-requires
 copy-cells-requires c κs =
     let f = c .before .before .form .given in
-    let s = c .before .before .before .before .before .before .before .before .before .before .before in
+    let m = c .before .before .before .before in
+    let n = m .before .before .before .before in
+    let s = n .before .before .before in
     let a = s .args in (
       s .pre .0,
-      cells-asked (a .out-values .now) (a .out-offsets .now) (a .values .now) (a .offsets .now) (a .shape .now) (cellsIn (a .shape .now) (pairs (a .starts .now) (a .lens .now))) (f .0 .0) (orderOf (f .0 .1 .0))
+      cells-asked (a .out-values .now) (a .out-offsets .now) (a .values .now) (a .offsets .now) (a .shape .now) (cellsIn (a .shape .now) (pairs (a .starts .now) (a .lens .now)))
+          (f .0 .0) (orderOf (f .0 .1 .0))
           (asked-below (s .pre .0)) (asked-count (s .pre .0)) (rw (f .1) at (s .pre .1)),
     )
 
@@ -31,7 +34,9 @@ enum-told c = search needs
 copy-ragged-requires : tie.Need-copy-ragged-requires
 copy-ragged-requires c κs =
     let f = c .before .before .enum-told .given in
-    let s = c .before .before .before .before .before .before .before .before .before .before .before in
+    let m = c .before .before .before .before in
+    let n = m .before .before .before .before in
+    let s = n .before .before .before in
     let a = s .args in (
       s .pre .0,
       ragged-asked (a .out-values .now) (a .out-offsets .now) (a .values .now) (a .offsets .now) (a .shape .now) (cellsIn (a .shape .now) (pairs (a .starts .now) (a .lens .now)))

@@ -14,21 +14,38 @@ use Rattle.array.specs.Buffers.{over}
 use Rattle.array.specs.Outcome.{contentArray}
 use Rattle.array.specs.Meaning.{kindOf}
 use Rattle.valid.proofs.CheckLaws.{small-product}
+use Rattle.subset.specs.Walk.{SubsetAsked}
 use Rattle.subset.proofs.Index.{few-within}
+use Rattle.subset.proofs.Rows.{asked-few}
 use Rattle.chunks.specs.Cut.{cutOf}
-use Rattle.extract.specs.Asked.{SubsetAsked, ArrayAsked}
-use Rattle.extract.proofs.Walk.{asked-few}
+use Rattle.extract.specs.Asked.{ArrayAsked}
 use Rattle.extract.proofs.Cutting.{cut-masks, cut-values, cut-offsets, cut-masks-long, cut-values-long, cut-offsets-long, cut-planes-asked, cut-offsets-for, cut-values-asked}
 use Rattle.array.proofs.Putting.{no-masks, no-values, no-offsets, put}
 use Rattle.extract.proofs.cut_valid.Statement.{statement}
 use Rattle.extract.proofs.cut_valid.Tie as tie
+
+-- places that the answers go back to
+abbrev masks-fit : tie.Else3 → tie.Else1
+masks-fit c = c .before .before .before .before
+
+abbrev masks-copied : tie.After-copy-values-arg2 → tie.After-copy-masks
+masks-copied c = c .before .before .before .before
+
+abbrev all-fit : tie.After-out-masks → tie.Else3
+all-fit c = c .before .before .before
+
+abbrev entry : tie.After-shared-slice-known4 → tie.Start
+entry c = c .before .before .before .before
+
+abbrev begun : tie.After-slice-known2 → tie.Start
+begun c = entry (c .before .before .before .before)
 
 -- once the cells of the subset are counted: the start, the array, the outputs, the cut
 abbrev Counted : Type 0
 Counted = tie.After-volume-of
 
 abbrev start : Counted → tie.Start
-start v = v .before .before .before .before .before .before .before .before .before .before .before
+start v = begun (v .before .before .before)
 
 abbrev kind : Counted → Kind
 kind v = kindOf (start v .args .kind)
@@ -84,7 +101,7 @@ cast-depth c = search needs
 
 volume-of-requires : tie.Need-volume-of-requires
 volume-of-requires c κs =
-    let s = c .before .before .before .before .before .before .before .before .before .before in
+    let s = begun (c .before .before) in
     few-within (s .args .starts .now) (s .args .lens .now) (s .pre .0 .shaped) (s .pre .0 .within)
 
 mul-mask-bytes : tie.Need-mul-mask-bytes
@@ -111,13 +128,13 @@ returns-3 c = let o = c .before in let v = o .before .before .before .before in 
 
 copy-masks-requires : tie.Need-copy-masks-requires
 copy-masks-requires c κs =
-    let e = c .before .before .before .before .before in
+    let e = masks-fit (c .before) in
     let v = e .before in
     (asked v, cut-planes-asked (asked v) (kept v) (start v .args .out-masks .now) (depth-fits v) (e .if1 .left))
 
 copy-values-requires : tie.Need-copy-values-requires
 copy-values-requires c κs =
-    let f = c .before .before .before .before .before .before in
+    let f = all-fit (c .before .before .before) in
     let o = f .before in
     let b = o .before .before in
     let v = b .before .before in (
@@ -138,7 +155,7 @@ same-length-3 c = search needs
 returns-4 : tie.Need-returns-4
 returns-4 c =
     let w = c .before .before .before .before in
-    let m = w .before .before .before .before .before in
+    let m = masks-copied (w .before) in
     let f = m .before .before in
     let o = f .before in
     let b = o .before .before in

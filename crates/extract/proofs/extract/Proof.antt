@@ -27,6 +27,19 @@ use Rattle.extract.proofs.extract.Statement.{statement}
 use Rattle.extract.proofs.extract.Tie as tie
 use Rattle.array.specs.Buffers.{putInto}
 
+-- places that the answers go back to
+abbrev array-told : tie.After-cut-valid-arg4 → tie.After-enum-told2
+array-told c = c .before .before .before .before
+
+abbrev cut-done : tie.After-out-values → tie.After-cut-valid
+cut-done c = c .before .before .before
+
+abbrev entry : tie.After-shared-slice-known4 → tie.Start
+entry c = c .before .before .before .before
+
+abbrev lent : tie.After-slice-known3 → tie.Start
+lent c = entry (c .before .before .before .before)
+
 -- where the function starts: the kind, the array, the outputs
 abbrev kind : tie.Start → Kind
 kind s = kindOf (s .args .kind)
@@ -45,7 +58,7 @@ outputs s = contentArray (s .args .out-masks .now) (s .args .out-values .now) (s
 
 -- what each check that passed says
 abbrev start : tie.Else1 → tie.Start
-start e = e .before .before .before .before .before .before .before .before .before .before
+start e = lent (e .before .before)
 
 kind-passes : (e : tie.Else1) → kindTest (kind (start e)) ≡ true
 kind-passes e = sym (e .before .check-kind .ensures) ∙ not-false (e .before .check-kind .result) (e .if1 .left)
@@ -92,7 +105,7 @@ check-kind-requires c κs = search needs
 returns : tie.Need-returns
 returns c =
     let k = c .before in
-    let s = k .before .before .before .before .before .before .before .before .before in
+    let s = lent (k .before) in
     no-kind (kind s) (shape s) (numbers s) (array s) (outputs s) (sym (k .check-kind .ensures) ∙ not-true (k .check-kind .result) (c .if1 .taken))
 
 shape-cells-requires : tie.Need-shape-cells-requires
@@ -156,7 +169,7 @@ part-cut-valid-end-2 c = search needs
 
 cut-valid-requires : tie.Need-cut-valid-requires
 cut-valid-requires c κs =
-    let p = c .before .before .before .before .before in
+    let p = array-told (c .before) in
     let e = checked p .before in
     let s = begun (checked p) in (
       record { shaped = shaped (told e) .shaped; within = within-parts (shape s) (numbers s) (fitting e); counted = refl },
@@ -182,8 +195,8 @@ same-length-3 c = search needs
 
 returns-5 : tie.Need-returns-5
 returns-5 c =
-    let r = c .before .before .before .before .before .before in
-    let p = r .before .before .before .before .before .before in
+    let r = cut-done (c .before .before .before) in
+    let p = array-told (r .before .before) in
     let k = checked p in
     let e = k .before in
     let s = begun k in

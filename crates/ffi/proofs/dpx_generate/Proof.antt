@@ -8,54 +8,35 @@ use borrow.Author.Needs.{needs}
 use Rattle.ffi.proofs.dpx_generate.Statement.{statement}
 use Rattle.ffi.proofs.dpx_generate.Tie as tie
 
-kind-from-numbers-requires : tie.Need-kind-from-numbers-requires
-kind-from-numbers-requires c κs = search needs
-
-enum-known-read : tie.Need-enum-known-read
-enum-known-read c = search needs
-
-cast-result : tie.Need-cast-result
-cast-result c = search needs
-
-enum-known-read-2 : tie.Need-enum-known-read-2
-enum-known-read-2 c = search needs
-
-generate-requires : tie.Need-generate-requires
-generate-requires c κs = search needs
-
-put-three-lengths-requires : tie.Need-put-three-lengths-requires
-put-three-lengths-requires c κs = search needs
-
 returns : tie.Need-returns
-returns c = not-given toldKind _ _ (c .before .before .before .kind-from-numbers .result) (c .before .before .before .kind-from-numbers .ensures) threeLengths _ (ap toldKind (c .before .read .given .1)) _ refl
-
-same-length : tie.Need-same-length
-same-length c = search needs
-
-same-length-2 : tie.Need-same-length-2
-same-length-2 c = search needs
-
-same-length-3 : tie.Need-same-length-3
-same-length-3 c = search needs
+returns c =
+    let refused = c .before in
+    let kind = refused .before .before .kind-of in
+    not-given toldKind _ _ (kind .result) (kind .ensures) threeLengths _ (ap toldKind (refused .e .given .1)) _ refl
 
 returns-2 : tie.Need-returns-2
 returns-2 c =
+    let out = c .before .before .before .before in
+    let called = out .before .before .before .before in
+    let asked = called .before .before .before in
+    let known = asked .before .before in
+    let kind = known .before .before .kind-of in
     exported threeLengths _ _
-    (given toldKind _ _ (c .before .before .before .before .before .before .before .before .before .before .before .before .before .before .before .kind-from-numbers .result) (c .before .before .before .before .before .before .before .before .before .before .before .before .before .before .before .kind-from-numbers .ensures) _ (ap toldKind (c .before .before .before .before .before .before .before .before .before .before .before .before .before .read2 .given .1)) (c .before .before .before .before .before .before .before .before .generate .ensures))
+    (given toldKind _ _ (kind .result) (kind .ensures) _ (ap toldKind (known .k .given .1)) (called .generate .ensures))
     _ (c .put-three-lengths .ensures .0) (c .put-three-lengths .ensures .1)
 
 pub dpx-generate-spec : {M : Type 1} → statement M
 dpx-generate-spec =
     tie.close
     (tie.spec
-    kind-from-numbers-requires
-    enum-known-read
-    cast-result
-    enum-known-read-2
-    generate-requires
-    put-three-lengths-requires
+    (λ c κs. search needs)
+    (λ c. search needs)
+    (λ c. search needs)
+    (λ c. search needs)
+    (λ c κs. search needs)
+    (λ c κs. search needs)
     returns
-    same-length
-    same-length-2
-    same-length-3
+    (λ c. search needs)
+    (λ c. search needs)
+    (λ c. search needs)
     returns-2)

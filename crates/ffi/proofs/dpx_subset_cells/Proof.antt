@@ -6,18 +6,8 @@ use borrow.Author.Needs.{needs}
 use Rattle.ffi.proofs.dpx_subset_cells.Statement.{statement}
 use Rattle.ffi.proofs.dpx_subset_cells.Tie as tie
 
-subset-cells-requires : tie.Need-subset-cells-requires
-subset-cells-requires c κs = search needs
-
-put-length-requires : tie.Need-put-length-requires
-put-length-requires c κs = search needs
-
-same-length : tie.Need-same-length
-same-length c = search needs
-
 returns : tie.Need-returns
 returns c = exported oneLength _ _ (c .before .before .before .before .subset-cells .ensures) _ (c .put-length .ensures .0) (c .put-length .ensures .1)
 
 pub dpx-subset-cells-spec : {M : Type 1} → statement M
-dpx-subset-cells-spec =
-    tie.close (tie.spec subset-cells-requires put-length-requires same-length returns)
+dpx-subset-cells-spec = tie.close (tie.spec (λ c κs. search needs) (λ c κs. search needs) (λ c. search needs) returns)

@@ -11,7 +11,7 @@ use Rattle.array.proofs.SubsetLists.{startsAt, lengthsAt}
 use Rattle.subset.proofs.Index.{few-shape, few-within}
 use Rattle.merge_cover.specs.Bits.{marksOf}
 use Rattle.merge_cover.proofs.BitLaws.{none-marked}
-use Rattle.merge_cover.proofs.SubsetWalk.{next-room, now-within}
+use Rattle.merge_cover.proofs.SubsetWalk.{next-room, now-within, now-asked}
 use Rattle.merge_cover.proofs.Marking.{AllMarked, cover-begins, cover-ends, cover-more, cover-over, cover-beyond}
 use Rattle.merge_cover.proofs.covers.Statement.{statement}
 use Rattle.merge_cover.proofs.covers.Tie as tie
@@ -25,15 +25,23 @@ abbrev μ-loop : tie.MeasureT-loop
 abbrev Head : Type 0
 Head = tie.At-loop Inv-loop μ-loop
 
+abbrev entry : tie.After-no-marks Inv-loop μ-loop → tie.Start Inv-loop μ-loop
+entry m = m .before .before .before
+
 abbrev start : Head → tie.Start Inv-loop μ-loop
-start l = l .before .before .before .before .before
+start l = entry (l .before .before)
+
+-- where the next subset's cells are counted
+abbrev begun : tie.After-volume-of2 Inv-loop μ-loop → Head
+begun v = v .before .before .before
 
 -- the next subset lies in the list, and in the shape
 seen : (l : Head) → l .loop .i < start l .args .count → l .loop .at + length (start l .args .shape .now) + length (start l .args .shape .now) ≤ length (start l .args .subsets .now)
 seen l h = next-room (start l .args .shape .now) (start l .args .subsets .now) (start l .args .count) (l .loop .inv .0 .geo) h
 
 inside : (l : Head) → l .loop .i < start l .args .count
-    → Within (start l .args .shape .now) (startsAt (length (start l .args .shape .now)) (l .loop .at) (start l .args .subsets .now)) (lengthsAt (length (start l .args .shape .now)) (l .loop .at) (start l .args .subsets .now))
+    → Within (start l .args .shape .now) (startsAt (length (start l .args .shape .now)) (l .loop .at) (start l .args .subsets .now))
+    (lengthsAt (length (start l .args .shape .now)) (l .loop .at) (start l .args .subsets .now))
 inside l h = now-within (start l .args .shape .now) (start l .args .subsets .now) (start l .args .count) (l .loop .inv .0 .geo) h
 
 no-marks-requires : tie.Need-no-marks-requires Inv-loop μ-loop
@@ -45,7 +53,7 @@ volume-of-requires c κs = let a = c .before .before .before in few-shape (a .ar
 loop-holds : tie.Need-loop-holds Inv-loop μ-loop
 loop-holds c =
     let m = c .before in
-    let a = m .before .before .before in
+    let a = entry m in
     let z = none-marked (m .no-marks .ensures) in
     (cover-begins (a .pre) (z .0) (c .volume-of .ensures), z .1)
 
@@ -71,39 +79,43 @@ volume-of-requires-2 : tie.Need-volume-of-requires-2 Inv-loop μ-loop
 volume-of-requires-2 c κs =
     let l = c .before .before in
     let a = start l in
-    few-within (startsAt (length (a .args .shape .now)) (l .loop .at) (a .args .subsets .now)) (lengthsAt (length (a .args .shape .now)) (l .loop .at) (a .args .subsets .now)) (a .pre .shaped) (inside l (omega arith))
+    few-within (startsAt (length (a .args .shape .now)) (l .loop .at) (a .args .subsets .now)) (lengthsAt (length (a .args .shape .now)) (l .loop .at) (a .args .subsets .now))
+    (a .pre .shaped) (inside l (omega arith))
 
 returns : tie.Need-returns Inv-loop μ-loop
 returns c =
     let v = c .before in
-    let l = v .before .before .before in
+    let l = begun v in
     let a = start l in
     sym (cover-beyond (a .pre) (l .loop .inv .0) (omega arith) (v .volume-of2 .ensures) (c .if1 .taken))
 
 slice-aggregate-mark-subset : tie.Need-slice-aggregate-mark-subset Inv-loop μ-loop
-slice-aggregate-mark-subset c = sym (c .before .before .before .before .before .loop .inv .1)
+slice-aggregate-mark-subset c = sym (begun (c .before .before) .loop .inv .1)
 
 mul-mark-subset : tie.Need-mul-mark-subset Inv-loop μ-loop
-mul-mark-subset c = omega (arith, seen (c .before .before .before .before .before) (omega arith))
+mul-mark-subset c = omega (arith, seen (begun (c .before .before)) (omega arith))
 
 sub-mark-subset : tie.Need-sub-mark-subset Inv-loop μ-loop
-sub-mark-subset c = omega (arith, seen (c .before .before .before .before .before) (omega arith))
+sub-mark-subset c = omega (arith, seen (begun (c .before .before)) (omega arith))
 
 part-mark-subset-start : tie.Need-part-mark-subset-start Inv-loop μ-loop
-part-mark-subset-start c = omega (arith, seen (c .before .before .before .before .before) (omega arith))
+part-mark-subset-start c = omega (arith, seen (begun (c .before .before)) (omega arith))
 
 part-mark-subset-end : tie.Need-part-mark-subset-end Inv-loop μ-loop
-part-mark-subset-end c = omega (arith, seen (c .before .before .before .before .before) (omega arith))
+part-mark-subset-end c = omega (arith, seen (begun (c .before .before)) (omega arith))
 
 -- where the next subset is marked: its cells were counted, and the loop's head before
 abbrev counted : tie.After-mark-subset-arg Inv-loop μ-loop → tie.After-volume-of2 Inv-loop μ-loop
 counted c = c .before .before .before
 
 abbrev head : tie.After-mark-subset-arg Inv-loop μ-loop → Head
-head c = counted c .before .before .before
+head c = begun (counted c)
 
 mark-subset-requires : tie.Need-mark-subset-requires Inv-loop μ-loop
-mark-subset-requires c κs = let l = head c in (start l .pre .shaped, inside l (omega arith), l .loop .inv .1, counted c .volume-of2 .ensures)
+mark-subset-requires c κs =
+    let l = head c in
+    let a = start l in
+    (now-asked (a .args .shape .now) (a .args .subsets .now) (a .args .count) (l .loop .inv .0 .geo) (omega arith) (a .pre .shaped) (counted c .volume-of2 .ensures), l .loop .inv .1)
 
 returns-2 : tie.Need-returns-2 Inv-loop μ-loop
 returns-2 c =

@@ -4,7 +4,6 @@ use Prim.Native.Nat.{ℕ, _≤_, _-_, _+_, _%_}
 use mathlib.Core.Path.{_≡_, sym, _∙_}
 use native.Mathlib.Omega.{arith}
 use lib.ListN.{length}
-use Rattle.array.specs.Answer.{gives, refuses}
 use Rattle.array.specs.Lists.{from}
 use Rattle.merge_cover.specs.Bits.{marksOf}
 use Rattle.merge_cover.specs.Marks.{marking}

@@ -6,19 +6,13 @@ use Rattle.print.specs.Print.{glyphOf}
 use Rattle.print.proofs.glyph.Statement.{statement}
 use Rattle.print.proofs.glyph.Tie as tie
 
-add-result : tie.Need-add-result
-add-result c = search needs
-
 returns : tie.Need-returns
 unfolding glyphOf
 returns c = rw (lt-ltb _ _ (c .if1 .taken))
-
-add-result-2 : tie.Need-add-result-2
-add-result-2 c = search needs
 
 returns-2 : tie.Need-returns-2
 unfolding glyphOf
 returns-2 c = rw (le-ltb _ _ (c .if1 .left))
 
 pub glyph-spec : {M : Type 1} → statement M
-glyph-spec = tie.close (tie.spec add-result returns add-result-2 returns-2)
+glyph-spec = tie.close (tie.spec (λ c. search needs) returns (λ c. search needs) returns-2)

@@ -15,56 +15,30 @@ Inv-loop text₀ at s to₀ i₀ plain₀ text to i plain = (i ≤ length s) × 
 abbrev μ-loop : tie.MeasureT-loop
 μ-loop text₀ at s to₀ i₀ plain₀ text to i plain = length s - i
 
+-- places: the start, and the run, from behind its head and from behind its number
+abbrev start : tie.At-loop Inv-loop μ-loop → tie.Start Inv-loop μ-loop
+start c = c .before .before .before .before
+
+abbrev run-then : tie.After-text2 Inv-loop μ-loop → tie.After-run-of-numbers Inv-loop μ-loop
+run-then c = c .before .before .before .before
+
+abbrev run : tie.After-put-number Inv-loop μ-loop → tie.After-run-of-numbers Inv-loop μ-loop
+run c = run-then (c .before .before .before .before)
+
 some : (c : tie.After-run-of-numbers Inv-loop μ-loop) → 1 ≤ c .run-of-numbers .result
-some c = omega (arith, part-some (c .before .before .before .before .before .before .args .s .now) (c .before .before .loop .i) (c .before .loop-test .taken), c .run-of-numbers .ensures)
+some c = omega (arith, part-some (start (c .before .before) .args .s .now) (c .before .before .loop .i) (c .before .loop-test .taken), c .run-of-numbers .ensures)
 
-within : (c : tie.After-run-of-numbers Inv-loop μ-loop) → c .before .before .loop .i + c .run-of-numbers .result ≤ length (c .before .before .before .before .before .before .args .s .now)
-within c = omega (arith, part-within (c .before .before .before .before .before .before .args .s .now) (c .before .before .loop .i) (c .before .loop-test .taken), c .run-of-numbers .ensures)
-
-put-byte-requires : tie.Need-put-byte-requires Inv-loop μ-loop
-put-byte-requires c κs = search needs
-
-same-length : tie.Need-same-length Inv-loop μ-loop
-same-length c = search needs
-
-returns : tie.Need-returns Inv-loop μ-loop
-returns c = search needs
-
-loop-holds : tie.Need-loop-holds Inv-loop μ-loop
-loop-holds c = search needs
-
-run-of-numbers-requires : tie.Need-run-of-numbers-requires Inv-loop μ-loop
-run-of-numbers-requires c κs = search needs
-
-joint-requires : tie.Need-joint-requires Inv-loop μ-loop
-joint-requires c κs = search needs
-
-put-head-requires : tie.Need-put-head-requires Inv-loop μ-loop
-put-head-requires c κs = search needs
-
-mul-put-number : tie.Need-mul-put-number Inv-loop μ-loop
-mul-put-number c = search needs
-
-shared-slice-read-put-number : tie.Need-shared-slice-read-put-number Inv-loop μ-loop
-shared-slice-read-put-number c = search needs
-
-put-number-requires : tie.Need-put-number-requires Inv-loop μ-loop
-put-number-requires c κs = search needs
+within : (c : tie.After-run-of-numbers Inv-loop μ-loop) → c .before .before .loop .i + c .run-of-numbers .result ≤ length (start (c .before .before) .args .s .now)
+within c = omega (arith, part-within (start (c .before .before) .args .s .now) (c .before .before .loop .i) (c .before .loop-test .taken), c .run-of-numbers .ensures)
 
 add-i : tie.Need-add-i Inv-loop μ-loop
-add-i c = omega (arith, (within (c .before .before .before .before .before .before .before .before .before .before)))
+add-i c = omega (arith, within (run (c .before .before)))
 
 loop-less : tie.Need-loop-less Inv-loop μ-loop
-loop-less c = omega (arith, (within (c .before .before .before .before .before .before .before .before .before .before)), (some (c .before .before .before .before .before .before .before .before .before .before)))
+loop-less c = omega (arith, within (run (c .before .before)), some (run (c .before .before)))
 
 loop-again : tie.Need-loop-again Inv-loop μ-loop
-loop-again c = (omega (arith, (within (c .before .before .before .before .before .before .before .before .before .before))), search needs, search needs, search needs)
-
-same-length-2 : tie.Need-same-length-2 Inv-loop μ-loop
-same-length-2 c = search needs
-
-returns-2 : tie.Need-returns-2 Inv-loop μ-loop
-returns-2 c = search needs
+loop-again c = (omega (arith, within (run (c .before .before))), search needs, search needs, search needs)
 
 pub put-numbers-spec : {M : Type 1} → statement M
 put-numbers-spec =
@@ -72,18 +46,18 @@ put-numbers-spec =
     (tie.spec
     Inv-loop
     μ-loop
-    put-byte-requires
-    same-length
-    returns
-    loop-holds
-    run-of-numbers-requires
-    joint-requires
-    put-head-requires
-    mul-put-number
-    shared-slice-read-put-number
-    put-number-requires
+    (λ c κs. search needs)
+    (λ c. search needs)
+    (λ c. search needs)
+    (λ c. search needs)
+    (λ c κs. search needs)
+    (λ c κs. search needs)
+    (λ c κs. search needs)
+    (λ c. search needs)
+    (λ c. search needs)
+    (λ c κs. search needs)
     add-i
     loop-less
     loop-again
-    same-length-2
-    returns-2)
+    (λ c. search needs)
+    (λ c. search needs))

@@ -20,8 +20,11 @@ use Rattle.subset.proofs.subset_cells.Statement.{statement}
 use Rattle.subset.proofs.subset_cells.Tie as tie
 
 -- what is known once the shape is counted, and once the numbers are tested
+abbrev entry : tie.After-shape-cells → tie.Start
+entry s = s .before .before .before .before
+
 abbrev start : tie.After-enum-told → tie.Start
-start m = m .before .before .before .before .before .before
+start m = entry (m .before .before)
 
 abbrev shape : tie.After-enum-told → List ℕ
 shape m = start m .args .shape .now
@@ -62,7 +65,7 @@ enum-told-2 c = search needs
 returns : tie.Need-returns
 returns c =
     let s = c .before .before in
-    let a = s .before .before .before .before .args in
+    let a = entry s .args in
     cells-no-shape (a .shape .now) (a .numbers .now) (a .cells .now)
     (not-counted (a .shape .now) (c .enum-told2 .given .0 .0) (sym (ap toldCells (c .enum-told2 .given .1)) ∙ s .shape-cells .ensures) .0)
 
@@ -110,11 +113,15 @@ part-store-rows-end c = omega (arith, fitting (c .before .before .before .before
 mul-store-rows : tie.Need-mul-store-rows
 mul-store-rows c = search needs
 
+-- where the outputs have room: the numbers fit
+abbrev fitted : tie.Else2 → tie.Else1
+fitted r = r .before .before .before
+
 sub-store-rows-2 : tie.Need-sub-store-rows-2
-sub-store-rows-2 c = omega (arith, fitting (c .before .before .before .before .before) .counted)
+sub-store-rows-2 c = omega (arith, fitting (fitted (c .before .before)) .counted)
 
 part-store-rows-start-2 : tie.Need-part-store-rows-start-2
-part-store-rows-start-2 c = omega (arith, fitting (c .before .before .before .before .before) .counted)
+part-store-rows-start-2 c = omega (arith, fitting (fitted (c .before .before)) .counted)
 
 part-store-rows-end-2 : tie.Need-part-store-rows-end-2
 part-store-rows-end-2 c = search needs
@@ -124,7 +131,7 @@ store-rows-requires c κs =
     let r = c .before .before .before in
     let e = r .before .before .before in
     let m = e .before .before in
-    (shaped m .shaped, within-parts (shape m) (numbers m) (fitting e), r .before .volume-of .ensures, r .if2 .left)
+    (record { shaped = shaped m .shaped; within = within-parts (shape m) (numbers m) (fitting e); counted = r .before .volume-of .ensures }, r .if2 .left)
 
 same-length : tie.Need-same-length
 same-length c = search needs

@@ -7,7 +7,8 @@ use native.Mathlib.Omega.{arith}
 use lib.ListN.{length}
 use Rattle.array.specs.Lists.{All}
 use Rattle.array.specs.Subset.{pairs, cellsIn}
-use Rattle.extract.proofs.Walk.{asked-below, asked-count, Planes, planes-begin, planes-same, planes-end, planes-more, plane-source, plane-room}
+use Rattle.subset.proofs.Rows.{asked-below, asked-count}
+use Rattle.extract.proofs.Walk.{Planes, planes-begin, planes-same, planes-end, planes-more, plane-source, plane-room}
 use Rattle.extract.proofs.cells.copy_masks.Statement.{statement}
 use Rattle.extract.proofs.cells.copy_masks.Tie as tie
 
@@ -40,8 +41,14 @@ short-out a = omega arith
 abbrev Inside : Type 0
 Inside = tie.In-loop Inv-loop μ-loop
 
+abbrev entry : tie.After-shared-slice-known3 Inv-loop μ-loop → Start
+entry c = c .before .before .before .before
+
+abbrev begun : tie.At-loop Inv-loop μ-loop → Start
+begun l = entry (l .before .before)
+
 abbrev start : Inside → Start
-start i = i .before .before .before .before .before .before .before
+start i = begun (i .before)
 
 source : (i : Inside) → i .before .loop .level * start i .args .cells + start i .args .cells * 1 ≤ length (start i .args .src .now)
 source i =
@@ -62,7 +69,7 @@ room i =
 
 loop-holds : tie.Need-loop-holds Inv-loop μ-loop
 loop-holds c =
-    let a = c .before .before .before .before .before in
+    let a = entry (c .before) in
     planes-begin (a .args .cells) (a .args .src .now) (cells a) (below a) (counted a) (a .args .depth) (a .args .out .now) (a .pre .1 .source) (a .pre .1 .room)
 
 mul-copy-cells : tie.Need-mul-copy-cells Inv-loop μ-loop
@@ -93,13 +100,13 @@ loop-again c =
 same-length : tie.Need-same-length Inv-loop μ-loop
 same-length c =
     let l = c .before in
-    let a = l .before .before .before .before .before .before in
+    let a = begun l in
     planes-same (a .args .cells) (a .args .src .now) (cells a) (below a) (counted a) (a .pre .1 .source) (l .loop .inv)
 
 returns : tie.Need-returns Inv-loop μ-loop
 returns c =
     let l = c .before in
-    let a = l .before .before .before .before .before .before in
+    let a = begun l in
     planes-end (a .args .cells) (a .args .src .now) (cells a) (below a) (counted a) (a .pre .1 .source) (l .loop .inv)
     (c .loop-test .left)
 

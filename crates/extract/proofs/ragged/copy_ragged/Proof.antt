@@ -6,18 +6,24 @@ use borrow.Author.Needs.{needs}
 use lib.ListN.{length-set}
 use Rattle.array.specs.Subset.{pairs, cellsIn}
 use Rattle.array.specs.Offsets.{ends}
-use Rattle.array.specs.Places.{offsetAt}
-use Rattle.extract.specs.Places.{valuesAt}
+use Rattle.array.specs.Places.{offsetAt, valuesAt}
 use Rattle.extract.proofs.Walk.{first-then}
 use Rattle.extract.proofs.ragged.copy_ragged.Statement.{statement}
 use Rattle.extract.proofs.ragged.copy_ragged.Tie as tie
 
+-- places that the answers go back to
+abbrev entry : tie.After-shared-slice-known2 → tie.Start
+entry c = c .before .before .before .before
+
+abbrev begun : tie.After-copy-rows-arg → tie.Start
+begun c = entry (c .before .before .before .before)
+
 slice-write-out-offsets : tie.Need-slice-write-out-offsets
-slice-write-out-offsets c = let a = c .before .before .before .before .before .before .before in omega (arith, a .pre .1 .room-offsets)
+slice-write-out-offsets c = let a = entry (c .before .before .before) in omega (arith, a .pre .1 .room-offsets)
 
 copy-rows-requires : tie.Need-copy-rows-requires
 copy-rows-requires c κs =
-    let a = c .before .before .before .before .before .before .before .before .before in
+    let a = begun (c .before) in
     let p = a .pre .1 in (
       a .pre .0,
       record {
@@ -37,7 +43,7 @@ same-length-2 c = c .before .before .before .before .copy-rows .kept .1 .0 ∙ s
 returns : tie.Need-returns
 returns c =
     let r = c .before .before .before .before in
-    let a = r .before .before .before .before .before .before .before .before .before .before in
+    let a = begun (r .before .before) in
     let cells = cellsIn (a .args .shape .now) (pairs (a .args .starts .now) (a .args .lens .now)) in (
       r .copy-rows .ensures .0,
       r .copy-rows .ensures .1

@@ -1,135 +1,103 @@
 -- `count_bytes` meets its contract: the rows before `at` are counted (proofs/Counting).
 -- Assumes nothing.
 use Prim.Native.Nat.{ℕ, _+_, _-_, _*_, _≤_, _<_}
-use mathlib.Core.Path.{ap}
-use mathlib.Core.List.{List}
 use native.Mathlib.Omega.{arith}
-use lib.ListN.{length, getD}
+use lib.ListN.{length}
 use Rattle.array.specs.Limits.{mostBytes}
-use Rattle.array.specs.Shape.{volume}
 use Rattle.array.specs.Subset.{pairs, cellsIn}
-use Rattle.array.specs.Places.{offsetAt}
-use Rattle.subset.proofs.Rows.{left-some, left-within, left-room}
-use Rattle.extract.specs.Places.{bytesAt}
-use Rattle.extract.proofs.Places.{run-rises}
-use Rattle.extract.proofs.Walk.{asked-left, asked-below, asked-lengths, asked-few}
+use Rattle.array.specs.Places.{offsetAt, bytesAt}
+use Rattle.subset.specs.Walk.{rowOf}
+use Rattle.subset.proofs.Rows.{asked-left, asked-few}
+use Rattle.array.proofs.Places.{run-rises}
 use Rattle.extract.proofs.Counting.{bytes-most, Counting, counting-begins, counting-ends, counting-more}
 use Rattle.extract.proofs.ragged.count_bytes.Statement.{statement}
 use Rattle.extract.proofs.ragged.count_bytes.Tie as tie
 
 abbrev Inv-loop : tie.InvT-loop
-Inv-loop offsets shape starts lens count last n at₀ total₀ at total = Counting (offsetAt offsets) (cellsIn shape (pairs starts lens)) count n at total
+Inv-loop offsets shape starts lens count at₀ total₀ at total = Counting (offsetAt offsets) (cellsIn shape (pairs starts lens)) count (rowOf lens) at total
 
 abbrev μ-loop : tie.MeasureT-loop
-μ-loop offsets shape starts lens count last n at₀ total₀ at total = count - at
+μ-loop offsets shape starts lens count at₀ total₀ at total = count - at
 
--- where the function starts, the subset's cells, how long a row is, where a cell begins
+-- the start, the loop's head, and where the next row is known
 abbrev Start : Type 0
 Start = tie.Start Inv-loop μ-loop
 
-abbrev cells : Start → List ℕ
-cells a = cellsIn (a .args .shape .now) (pairs (a .args .starts .now) (a .args .lens .now))
+abbrev entry : tie.After-shared-slice-known4 Inv-loop μ-loop → Start
+entry c = c .before .before .before .before
 
-abbrev row : Start → ℕ
-row a = getD (a .args .lens .now) (length (a .args .lens .now) - 1) 0
+abbrev begun : tie.At-loop Inv-loop μ-loop → Start
+begun l = entry (l .before)
+
+abbrev Known : Type 0
+Known = tie.After-row-at Inv-loop μ-loop
+
+abbrev start : Known → Start
+start k = begun (k .before .before)
 
 abbrev off : Start → ℕ → ℕ
 off a = offsetAt (a .args .offsets .now)
 
-short : (a : Start) → length (a .args .offsets .now) * 8 < 18446744073709551616
-short a = omega arith
+-- the row's offsets are there, and rise
+there : (k : Known) → (k .row-at .result .first + k .row-at .result .cells < length (start k .args .offsets .now)) × (length (start k .args .offsets .now) * 8 < 18446744073709551616)
+there k = (omega (arith, k .row-at .ensures .inside, start k .pre .1 .many), short (start k))
+  where
+    short : (a : Start) → length (a .args .offsets .now) * 8 < 18446744073709551616
+    short a = omega arith
 
--- in the loop, where the row's first cell is known
-abbrev Known : Type 0
-Known = tie.After-cell-at Inv-loop μ-loop
-
-abbrev start : Known → Start
-start k = k .before .before .before .before .before .before .before .before
-
-inside : (k : Known) → k .cell-at .result + row (start k) ≤ volume (start k .args .shape .now)
-inside k =
-    let a = start k in
-    omega (
-      arith,
-      k .cell-at .ensures,
-      left-room (cells a) (a .args .count) (row a) (k .before .before .loop .at) (k .before .before .loop .inv .geo) (k .before .loop-test .taken) (volume (a .args .shape .now)) (asked-below (a .pre .0)),
-    )
-
-rises : (k : Known) → off (start k) (k .cell-at .result) ≤ off (start k) (k .cell-at .result + row (start k))
-rises k = let a = start k in run-rises (a .pre .1 .rises) (k .cell-at .result) (row a) (inside k)
-
-counted : (k : Known) → let a = start k in
-    let l = k .before .before in
-    Counting (off a) (cells a) (a .args .count) (row a) (l .loop .at + row a) (l .loop .total + (off a (k .cell-at .result + row a) - off a (k .cell-at .result)))
-counted k =
-    let a = start k in
-    let l = k .before .before in
-    counting-more (l .loop .inv) (a .pre .1 .rises) (asked-below (a .pre .0))
-    (k .before .loop-test .taken) (ap (λ (x : ℕ). off a (x + row a) - off a x) (k .cell-at .ensures))
+rises : (k : Known) → off (start k) (k .row-at .result .first) ≤ off (start k) (k .row-at .result .first + k .row-at .result .cells)
+rises k = run-rises (start k .pre .1 .rises) (k .row-at .result .first) (k .row-at .result .cells) (k .row-at .ensures .inside)
 
 -- no more than all cells have
-small : (a : Start) → bytesAt (off a) (cells a) ≤ 16777216
+small : (a : Start) → bytesAt (off a) (cellsIn (a .args .shape .now) (pairs (a .args .starts .now) (a .args .lens .now))) ≤ 16777216
 unfolding mostBytes
-small a = omega (arith, bytes-most (a .args .shape .now) (pairs (a .args .starts .now) (a .args .lens .now)) (a .pre .1 .rises) (a .pre .0 .within .inside), a .pre .1 .small)
-
-within : (k : Known) → k .before .before .loop .at + row (start k) ≤ start k .args .count
-within k = let a = start k in left-within (cells a) (a .args .count) (row a) (k .before .before .loop .at) (k .before .before .loop .inv .geo) (k .before .loop-test .taken)
-
-sub-last : tie.Need-sub-last Inv-loop μ-loop
-sub-last c = let a = c .before .before .before .before in omega (arith, asked-lengths (a .pre .0))
-
-mul-n : tie.Need-mul-n Inv-loop μ-loop
-mul-n c = omega arith
-
-shared-slice-read-n : tie.Need-shared-slice-read-n Inv-loop μ-loop
-shared-slice-read-n c = let a = c .before .before .before .before .before in omega (arith, asked-lengths (a .pre .0))
+small a =
+    omega (
+      arith,
+      bytes-most (a .args .shape .now) (pairs (a .args .starts .now) (a .args .lens .now)) (a .pre .1 .rises) (a .pre .0 .within .inside),
+      a .pre .1 .small,
+    )
 
 loop-holds : tie.Need-loop-holds Inv-loop μ-loop
-loop-holds c = let a = c .before .before .before .before .before in counting-begins (off a) (cells a) (a .args .count) (row a) (asked-left (a .pre .0))
+loop-holds c = let a = entry c in counting-begins (off a) (asked-left (a .pre .0))
 
-cell-at-requires : tie.Need-cell-at-requires Inv-loop μ-loop
-cell-at-requires c κs =
-    let a = c .before .before .before .before .before .before .before in
-    (a .pre .0 .shaped, a .pre .0 .within, omega (arith, a .pre .0 .counted))
+row-at-requires : tie.Need-row-at-requires Inv-loop μ-loop
+row-at-requires c κs = (begun (c .before) .pre .0, c .before .loop .inv .geo, c .loop-test .taken)
 
 mul-begin : tie.Need-mul-begin Inv-loop μ-loop
-mul-begin c = let a = start c in omega (arith, inside c, a .pre .1 .many, short a)
+mul-begin c = omega (arith, there c)
 
 shared-slice-read-begin : tie.Need-shared-slice-read-begin Inv-loop μ-loop
-shared-slice-read-begin c = let k = c .before in omega (arith, inside k, start k .pre .1 .many)
+shared-slice-read-begin c = omega (arith, there (c .before))
 
 add-end : tie.Need-add-end Inv-loop μ-loop
-add-end c = let k = c .before in omega (arith, inside k, start k .pre .1 .many, short (start k))
+add-end c = omega (arith, there (c .before))
 
 mul-end : tie.Need-mul-end Inv-loop μ-loop
-mul-end c = let k = c .before in omega (arith, inside k, start k .pre .1 .many, short (start k))
+mul-end c = omega (arith, there (c .before))
 
 shared-slice-read-end : tie.Need-shared-slice-read-end Inv-loop μ-loop
-shared-slice-read-end c = let k = c .before .before in omega (arith, inside k, start k .pre .1 .many)
+shared-slice-read-end c = omega (arith, there (c .before .before))
 
 sub-total : tie.Need-sub-total Inv-loop μ-loop
 sub-total c = rises (c .before .before)
 
 add-total : tie.Need-add-total Inv-loop μ-loop
-add-total c = let k = c .before .before in omega (arith, counted k .same, small (start k))
+add-total c =
+    let k = c .before .before in
+    omega (arith, counting-more (k .before .before .loop .inv) (k .row-at .ensures) (start k .pre .1 .rises) .same, small (start k))
 
 add-at : tie.Need-add-at Inv-loop μ-loop
-add-at c = let k = c .before .before in omega (arith, within k, asked-few (start k .pre .0))
+add-at c = let k = c .before .before in omega (arith, k .row-at .ensures .within, asked-few (start k .pre .0))
 
 loop-less : tie.Need-loop-less Inv-loop μ-loop
-loop-less c =
-    let k = c .before .before in
-    let a = start k in
-    let l = k .before .before in
-    omega (arith, within k, left-some (cells a) (a .args .count) (row a) (l .loop .at) (l .loop .inv .geo) (k .before .loop-test .taken))
+loop-less c = let k = c .before .before in omega (arith, k .row-at .ensures .within, k .row-at .ensures .some)
 
 loop-again : tie.Need-loop-again Inv-loop μ-loop
-loop-again c = counted (c .before .before)
+loop-again c = let k = c .before .before in counting-more (k .before .before .loop .inv) (k .row-at .ensures) (start k .pre .1 .rises)
 
 returns : tie.Need-returns Inv-loop μ-loop
-returns c =
-    let l = c .before in
-    counting-ends (l .loop .inv) (c .loop-test .left)
+returns c = counting-ends (c .before .loop .inv) (c .loop-test .left)
 
 pub count-bytes-spec : {M : Type 1} → statement M
 count-bytes-spec =
@@ -137,11 +105,8 @@ count-bytes-spec =
     (tie.spec
     Inv-loop
     μ-loop
-    sub-last
-    mul-n
-    shared-slice-read-n
     loop-holds
-    cell-at-requires
+    row-at-requires
     mul-begin
     shared-slice-read-begin
     add-end

@@ -6,7 +6,7 @@ use native.Mathlib.Omega.{arith}
 use native.Mathlib.Numerals.{add-one}
 use lib.ListN.{length}
 use Rattle.array.specs.Places.{offsetAt}
-use Rattle.extract.proofs.Places.{run-rises, run-below}
+use Rattle.array.proofs.Places.{run-rises, run-below}
 use Rattle.extract.proofs.Walk.{ImagesLaid, images-begin, images-same, images-end, images-room, images-more}
 use Rattle.extract.proofs.ragged.store_ends.Statement.{statement}
 use Rattle.extract.proofs.ragged.store_ends.Tie as tie

@@ -8,7 +8,7 @@ use lib.ListN.{length}
 use Rattle.array.specs.Shape.{volume}
 use Rattle.subset.proofs.Index.{few-within}
 use Rattle.array.proofs.SubsetLists.{startsAt, lengthsAt}
-use Rattle.merge_cover.proofs.SubsetWalk.{next-room, now-within}
+use Rattle.merge_cover.proofs.SubsetWalk.{next-room, now-within, now-asked}
 use Rattle.merge_stores.proofs.PartsStored.{StoreAll, all-begins, all-ends, all-room, part-room, all-asked, all-more}
 use Rattle.merge_stores.proofs.cells.store_parts.Statement.{statement}
 use Rattle.merge_stores.proofs.cells.store_parts.Tie as tie
@@ -22,8 +22,18 @@ abbrev μ-loop : tie.MeasureT-loop
 abbrev Head : Type 0
 Head = tie.At-loop Inv-loop μ-loop
 
+abbrev entry : tie.After-shared-slice-known3 Inv-loop μ-loop → tie.Start Inv-loop μ-loop
+entry c = c .before .before .before .before
+
 abbrev start : Head → tie.Start Inv-loop μ-loop
-start l = l .before .before .before .before .before
+start l = entry (l .before)
+
+-- the chunk's cells are counted before its part is stored
+abbrev counted : tie.After-store-subset Inv-loop μ-loop → tie.After-volume-of Inv-loop μ-loop
+counted s = s .before .before .before
+
+abbrev begun : tie.After-volume-of Inv-loop μ-loop → Head
+begun v = v .before .before .before
 
 -- the next subset lies in the list
 seen : (l : Head) → l .loop .i < start l .args .count → l .loop .at + length (start l .args .shape .now) + length (start l .args .shape .now) ≤ length (start l .args .subsets .now)
@@ -52,9 +62,7 @@ part l h e =
     )
 
 loop-holds : tie.Need-loop-holds Inv-loop μ-loop
-loop-holds c =
-    let a = c .before .before .before .before in
-    all-begins (a .pre)
+loop-holds c = all-begins (entry c .pre)
 
 add-mid : tie.Need-add-mid Inv-loop μ-loop
 add-mid c = omega (arith, seen (c .before) (omega arith))
@@ -83,43 +91,42 @@ volume-of-requires c κs =
     (now-within (a .shape .now) (a .subsets .now) (a .count) (l .loop .inv .geo) h)
 
 mul-first : tie.Need-mul-first Inv-loop μ-loop
-mul-first c = let r = part (c .before .before .before) (omega arith) (c .volume-of .ensures) in omega (arith, r)
+mul-first c = let r = part (begun c) (omega arith) (c .volume-of .ensures) in omega (arith, r)
 
 add-first : tie.Need-add-first Inv-loop μ-loop
-add-first c = let r = part (c .before .before .before) (omega arith) (c .volume-of .ensures) in omega (arith, r)
+add-first c = let r = part (begun c) (omega arith) (c .volume-of .ensures) in omega (arith, r)
 
 mul-store-subset : tie.Need-mul-store-subset Inv-loop μ-loop
-mul-store-subset c = omega (arith, seen (c .before .before .before .before) (omega arith))
+mul-store-subset c = omega (arith, seen (begun (c .before)) (omega arith))
 
 sub-store-subset : tie.Need-sub-store-subset Inv-loop μ-loop
-sub-store-subset c = omega (arith, seen (c .before .before .before .before) (omega arith))
+sub-store-subset c = omega (arith, seen (begun (c .before)) (omega arith))
 
 part-store-subset-start : tie.Need-part-store-subset-start Inv-loop μ-loop
-part-store-subset-start c = omega (arith, seen (c .before .before .before .before) (omega arith))
+part-store-subset-start c = omega (arith, seen (begun (c .before)) (omega arith))
 
 part-store-subset-end : tie.Need-part-store-subset-end Inv-loop μ-loop
-part-store-subset-end c = omega (arith, seen (c .before .before .before .before) (omega arith))
+part-store-subset-end c = omega (arith, seen (begun (c .before)) (omega arith))
 
 store-subset-requires : tie.Need-store-subset-requires Inv-loop μ-loop
 store-subset-requires c κs =
     let v = c .before .before in
-    let l = v .before .before .before in
+    let l = begun v in
     let a = start l .args in (
-      all-asked (start l .pre) (l .loop .inv) (omega arith)
-          (v .volume-of .ensures),
-      v .volume-of .ensures,
+      now-asked (a .shape .now) (a .subsets .now) (a .count) (l .loop .inv .geo) (omega arith) (start l .pre .subsets .shaped) (v .volume-of .ensures),
+      all-asked (start l .pre) (l .loop .inv) (omega arith) (v .volume-of .ensures),
     )
 
 mul-pos : tie.Need-mul-pos Inv-loop μ-loop
 mul-pos c =
-    let v = c .before .before .before .before .before in
-    let r = whole (v .before .before .before) (omega arith) (v .volume-of .ensures) in
+    let v = counted (c .before .before) in
+    let r = whole (begun v) (omega arith) (v .volume-of .ensures) in
     omega (arith, r)
 
 add-pos : tie.Need-add-pos Inv-loop μ-loop
 add-pos c =
-    let v = c .before .before .before .before .before in
-    let r = whole (v .before .before .before) (omega arith) (v .volume-of .ensures) in
+    let v = counted (c .before .before) in
+    let r = whole (begun v) (omega arith) (v .volume-of .ensures) in
     omega (arith, r)
 
 add-i : tie.Need-add-i Inv-loop μ-loop
@@ -131,11 +138,9 @@ loop-less c = omega arith
 loop-again : tie.Need-loop-again Inv-loop μ-loop
 loop-again c =
     let s = c .before .before in
-    let v = s .before .before .before in
-    let l = v .before .before .before in
-    let a = start l .args in
-    all-more (start l .pre) (l .loop .inv) (omega arith)
-    (v .volume-of .ensures) (s .store-subset .ensures)
+    let v = counted s in
+    let l = begun v in
+    all-more (start l .pre) (l .loop .inv) (omega arith) (v .volume-of .ensures) (s .store-subset .ensures)
 
 same-length : tie.Need-same-length Inv-loop μ-loop
 same-length c = c .before .loop .inv .long
@@ -143,7 +148,6 @@ same-length c = c .before .loop .inv .long
 returns : tie.Need-returns Inv-loop μ-loop
 returns c =
     let l = c .before in
-    let a = start l .args in
     all-ends (start l .pre) (l .loop .inv) (omega arith)
 
 pub store-parts-spec : {M : Type 1} → statement M

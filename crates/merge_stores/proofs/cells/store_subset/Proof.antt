@@ -1,134 +1,127 @@
 -- `store_subset` meets its contract: the rows before `at` are stored (proofs/RowsStored).
 -- Assumes nothing.
 use Prim.Native.Nat.{ℕ, _+_, _-_, _*_, _<_, _≤_}
-use mathlib.Core.Path.{_≡_, sym, subst}
+use mathlib.Core.Path.{sym, subst}
 use mathlib.Core.List.{List}
 use native.Mathlib.Nat.{zero-mul}
 use native.Mathlib.Omega.{arith}
-use borrow.Author.Needs.{needs}
-use lib.ListN.{length, getD, drop}
+use lib.ListN.{length, drop}
 use Rattle.array.specs.Shape.{volume}
 use Rattle.array.specs.Subset.{cellsIn, pairs}
 use Rattle.array.specs.Places.{fixedAt}
-use Rattle.subset.proofs.Index.{few-drop, few-within}
-use Rattle.subset.proofs.Rows.{left-some, within-below, left-begins, left-within, left-room}
+use Rattle.subset.specs.Walk.{rowOf, RowAt}
+use Rattle.subset.proofs.Rows.{asked-left, asked-few, asked-lengths, row-is}
 use Rattle.merge_stores.proofs.RowsStored.{Store, store-begins, store-ends, fixed-more, fixed-room}
 use Rattle.merge_stores.proofs.cells.store_subset.Statement.{statement}
 use Rattle.merge_stores.proofs.cells.store_subset.Tie as tie
 
 abbrev Inv-loop : tie.InvT-loop
-Inv-loop out₀ base size src first shape starts lens cells last n at₀ out at = Store (fixedAt base size) (cellsIn shape (pairs starts lens)) (drop first src) out₀ out cells n at (at * size)
+Inv-loop out₀ base size src first shape starts lens count last n at₀ out at =
+    Store (fixedAt base size) (cellsIn shape (pairs starts lens)) (drop first src) out₀ out count (rowOf lens) at (at * size)
 
 abbrev μ-loop : tie.MeasureT-loop
-μ-loop out₀ base size src first shape starts lens cells last n at₀ out at = cells - at
+μ-loop out₀ base size src first shape starts lens count last n at₀ out at = count - at
+
+-- the start, the loop's head, and where the next row is known
+abbrev Start : Type 0
+Start = tie.Start Inv-loop μ-loop
+
+abbrev entry : tie.After-shared-slice-known3 Inv-loop μ-loop → Start
+entry c = c .before .before .before .before
 
 abbrev Head : Type 0
 Head = tie.At-loop Inv-loop μ-loop
 
-abbrev start : Head → tie.Start Inv-loop μ-loop
-start l = l .before .before .before .before .before .before .before
+abbrev begun : Head → Start
+begun l = entry (l .before .before .before)
 
-abbrev cells : Head → List ℕ
-cells l = cellsIn (start l .args .shape .now) (pairs (start l .args .starts .now) (start l .args .lens .now))
+abbrev Known : Type 0
+Known = tie.After-cell-at Inv-loop μ-loop
 
-abbrev total : Head → ℕ
-total l = start l .args .cells
+abbrev head : Known → Head
+head k = k .before .before
 
-abbrev run : Head → ℕ
-run l = getD (start l .args .lens .now) (length (start l .args .lens .now) - 1) 0
+abbrev start : Known → Start
+start k = begun (head k)
 
-within : (l : Head) → l .loop .at < total l → l .loop .at + run l ≤ volume (start l .args .lens .now)
-within l h = omega (arith, start l .pre .1, left-within (cells l) (total l) (run l) (l .loop .at) (l .loop .inv .geo) h)
+-- the next row
+next : (k : Known) → let a = start k .args in
+    RowAt (a .shape .now) (a .lens .now) (cellsIn (a .shape .now) (pairs (a .starts .now) (a .lens .now))) (a .count) (head k .loop .at) (k .cell-at .result) (rowOf (a .lens .now))
+next k = row-is (start k .pre .0) (head k .loop .inv .geo) (k .before .loop-test .taken) (k .cell-at .ensures)
 
-few-cells : (l : Head) → volume (start l .args .lens .now) ≤ 65536
-few-cells l = let a = start l in few-drop 0 (a .args .lens .now) (few-within (a .args .starts .now) (a .args .lens .now) (a .pre .0 .shaped) (a .pre .0 .fits))
+-- the row lies in the output, and in what is stored
+room : (k : Known) → let a = start k .args in
+    a .base + k .cell-at .result * a .size + rowOf (a .lens .now) * a .size ≤ length (a .out .now)
+room k =
+    let a = start k .args in
+    fixed-room (a .base) (a .size) (volume (a .shape .now)) (k .cell-at .result) (rowOf (a .lens .now)) (length (a .out .now)) (next k .inside) (start k .pre .1 .room)
 
-below : (l : Head) → l .loop .at < total l → getD (cells l) (l .loop .at) 0 + run l ≤ volume (start l .args .shape .now)
-below l h =
-    let a = start l in
-    left-room (cells l) (total l) (run l) (l .loop .at) (l .loop .inv .geo) h (volume (a .args .shape .now)) (within-below (a .args .shape .now) (a .args .starts .now) (a .args .lens .now) (a .pre .0 .fits))
+enough : (k : Known) → let a = start k .args in
+    a .first + head k .loop .at * a .size + rowOf (a .lens .now) * a .size ≤ length (a .src .now)
+enough k =
+    let a = start k .args in
+    fixed-room (a .first) (a .size) (a .count) (head k .loop .at) (rowOf (a .lens .now)) (length (a .src .now)) (next k .within) (start k .pre .1 .enough)
 
--- the run lies in the output, and in what is stored
-room : (l : Head) → l .loop .at < total l → {k : ℕ} → k ≡ getD (cells l) (l .loop .at) 0
-    → start l .args .base + k * start l .args .size + run l * start l .args .size ≤ length (start l .args .out .now)
-room l h {k} e =
-    let a = start l in
-    fixed-room (a .args .base) (a .args .size) (volume (a .args .shape .now)) k (run l) (length (a .args .out .now)) (omega (arith, e, below l h)) (a .pre .0 .room)
-
-enough : (l : Head) → l .loop .at < total l
-    → start l .args .first + l .loop .at * start l .args .size + run l * start l .args .size ≤ length (start l .args .src .now)
-enough l h =
-    let a = start l in
-    fixed-room (a .args .first) (a .args .size) (volume (a .args .lens .now)) (l .loop .at) (run l) (length (a .args .src .now)) (within l h) (a .pre .0 .enough)
+-- slices are short
+short : (a : Start) → (length (a .args .out .now) < 18446744073709551616) × (length (a .args .src .now) < 18446744073709551616)
+short a = (omega arith, omega arith)
 
 sub-last : tie.Need-sub-last Inv-loop μ-loop
-sub-last c = let a = c .before .before .before .before .before in omega (arith, a .pre .0 .fits .as-many-lengths, a .pre .0 .shaped .some-sides)
+sub-last c = omega (arith, asked-lengths (entry (c .before) .pre .0))
 
 mul-n : tie.Need-mul-n Inv-loop μ-loop
-mul-n c = search needs
+mul-n c = omega arith
 
 shared-slice-read-n : tie.Need-shared-slice-read-n Inv-loop μ-loop
-shared-slice-read-n c = let a = c .before .before .before .before .before .before in omega (arith, a .pre .0 .fits .as-many-lengths, a .pre .0 .shaped .some-sides)
+shared-slice-read-n c = omega (arith, asked-lengths (entry (c .before .before) .pre .0))
 
 loop-holds : tie.Need-loop-holds Inv-loop μ-loop
 loop-holds c =
-    let a = c .before .before .before .before .before .before in
+    let a = entry (c .before .before) in
     let cs : List ℕ = cellsIn (a .args .shape .now) (pairs (a .args .starts .now) (a .args .lens .now)) in
-    let n : ℕ = getD (a .args .lens .now) (length (a .args .lens .now) - 1) 0 in
-    let off : ℕ → ℕ = fixedAt (a .args .base) (a .args .size) in
     let xs : List ℕ = drop (a .args .first) (a .args .src .now) in
-    subst (λ (k : ℕ). Store (fixedAt (a .args .base) (a .args .size)) cs xs (a .args .out .now) (a .args .out .now) (a .args .cells) n 0 k) (sym (zero-mul (a .args .size)))
-    (store-begins (fixedAt (a .args .base) (a .args .size)) cs xs (a .args .out .now) (a .args .cells) n
-    (left-begins (a .args .shape .now) (a .args .starts .now) (a .args .lens .now) (a .pre .0 .fits) (a .pre .0 .shaped .some-sides) (a .pre .1)))
+    subst (λ (k : ℕ). Store (fixedAt (a .args .base) (a .args .size)) cs xs (a .args .out .now) (a .args .out .now) (a .args .count) (rowOf (a .args .lens .now)) 0 k)
+    (sym (zero-mul (a .args .size))) (store-begins (fixedAt (a .args .base) (a .args .size)) xs (a .args .out .now) (asked-left (a .pre .0)))
 
 cell-at-requires : tie.Need-cell-at-requires Inv-loop μ-loop
-cell-at-requires c κs =
-    let l = c .before in
-    (start l .pre .0 .shaped, start l .pre .0 .fits, omega (arith, start l .pre .1))
+cell-at-requires c κs = let q = begun (c .before) .pre .0 in (q .shaped, q .within, omega (arith, q .counted, c .loop-test .taken))
 
 mul-to : tie.Need-mul-to Inv-loop μ-loop
-mul-to c = let r = room (c .before .before) (omega arith) (c .cell-at .ensures) in omega (arith, r)
+mul-to c = omega (arith, room c, short (start c))
 
 add-to : tie.Need-add-to Inv-loop μ-loop
-add-to c = let r = room (c .before .before) (omega arith) (c .cell-at .ensures) in omega (arith, r)
+add-to c = omega (arith, room c, short (start c))
 
 mul-take : tie.Need-mul-take Inv-loop μ-loop
-mul-take c = let r = enough (c .before .before) (omega arith) in omega (arith, r)
+mul-take c = omega (arith, enough c, short (start c))
 
 add-take : tie.Need-add-take Inv-loop μ-loop
-add-take c = let r = enough (c .before .before) (omega arith) in omega (arith, r)
+add-take c = omega (arith, enough c, short (start c))
 
 mul-len : tie.Need-mul-len Inv-loop μ-loop
-mul-len c = let r = enough (c .before .before) (omega arith) in omega (arith, r)
+mul-len c = omega (arith, enough c, short (start c))
 
 copy-bytes-requires : tie.Need-copy-bytes-requires Inv-loop μ-loop
-copy-bytes-requires c κs =
-    let l = c .before .before .before in
-    (omega (arith, l .loop .inv .long, room l (omega arith) (c .before .cell-at .ensures)), omega (arith, enough l (omega arith)))
+copy-bytes-requires c κs = let k = c .before in (omega (arith, head k .loop .inv .long, room k), enough k)
 
 add-at : tie.Need-add-at Inv-loop μ-loop
-add-at c = let l = c .before .before .before .before .before .before in omega (arith, within l (omega arith), few-cells l)
+add-at c = let k = c .before .before .before .before in omega (arith, next k .within, asked-few (start k .pre .0))
 
 loop-less : tie.Need-loop-less Inv-loop μ-loop
-loop-less c =
-    let l = c .before .before .before .before .before .before in
-    let h : l .loop .at < total l = omega arith in
-    omega (arith, within l h, left-some (cells l) (total l) (run l) (l .loop .at) (l .loop .inv .geo) h)
+loop-less c = let k = c .before .before .before .before in omega (arith, next k .within, next k .some)
 
 loop-again : tie.Need-loop-again Inv-loop μ-loop
 loop-again c =
-    let l = c .before .before .before .before .before .before in
-    let k = c .before .before .before .before in
-    fixed-more (start l .args .base) (start l .args .size) (start l .args .src .now) (start l .args .first) (l .loop .inv) (omega arith)
-    (k .cell-at .ensures) (room l (omega arith) (k .cell-at .ensures)) (enough l (omega arith)) (c .before .before .copy-bytes .ensures)
+    let r = c .before .before in
+    let k = r .before .before in
+    let a = start k .args in
+    fixed-more (a .base) (a .size) (a .src .now) (a .first) (head k .loop .inv) (next k) (room k) (enough k) (r .copy-bytes .ensures)
 
 same-length : tie.Need-same-length Inv-loop μ-loop
 same-length c = c .before .loop .inv .long
 
 returns : tie.Need-returns Inv-loop μ-loop
-returns c =
-    let l = c .before in
-    store-ends (l .loop .inv) (omega arith)
+returns c = store-ends (c .before .loop .inv) (c .loop-test .left)
 
 pub store-subset-spec : {M : Type 1} → statement M
 store-subset-spec =

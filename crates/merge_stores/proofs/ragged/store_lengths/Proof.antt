@@ -2,15 +2,13 @@
 -- Assumes nothing.
 use Prim.Native.Nat.{ℕ, suc, _+_, _-_, _*_, _<_, _≤_}
 use mathlib.Core.Path.{_≡_, subst}
-use mathlib.Core.List.{List}
 use native.Mathlib.Omega.{arith}
-use borrow.Author.Needs.{needs}
-use lib.ListN.{length, getD, drop}
-use Rattle.array.specs.Shape.{volume}
+use lib.ListN.{length, drop}
+use Rattle.array.specs.Limits.{mostCells}
 use Rattle.array.specs.Subset.{cellsIn, pairs}
 use Rattle.array.specs.Places.{fixedAt, offsetAt}
-use Rattle.subset.proofs.Index.{few-drop, few-within}
-use Rattle.subset.proofs.Rows.{left-some, within-below, left-begins, left-within, left-room}
+use Rattle.subset.specs.Walk.{rowOf, RowAt}
+use Rattle.subset.proofs.Rows.{asked-left, asked-few, asked-lengths, row-is}
 use Rattle.merge_stores.specs.Ragged.{steps, RisesFor}
 use Rattle.merge_stores.proofs.LengthRows.{unit-more}
 use Rattle.merge_stores.proofs.RaggedTies.{length-steps}
@@ -19,106 +17,103 @@ use Rattle.merge_stores.proofs.ragged.store_lengths.Statement.{statemen
 use Rattle.merge_stores.proofs.ragged.store_lengths.Tie as tie
 
 abbrev Inv-loop : tie.InvT-loop
-Inv-loop out₀ src first shape starts lens cells last n at₀ out at = Store (fixedAt 1 1) (cellsIn shape (pairs starts lens)) (drop first (steps src)) out₀ out cells n at at
+Inv-loop out₀ src first shape starts lens count last n at₀ out at =
+    Store (fixedAt 1 1) (cellsIn shape (pairs starts lens)) (drop first (steps src)) out₀ out count (rowOf lens) at at
 
 abbrev μ-loop : tie.MeasureT-loop
-μ-loop out₀ src first shape starts lens cells last n at₀ out at = cells - at
+μ-loop out₀ src first shape starts lens count last n at₀ out at = count - at
+
+-- the start, the loop's head, and where the next row is known
+abbrev Start : Type 0
+Start = tie.Start Inv-loop μ-loop
+
+abbrev entry : tie.After-shared-slice-known3 Inv-loop μ-loop → Start
+entry c = c .before .before .before .before
 
 abbrev Head : Type 0
 Head = tie.At-loop Inv-loop μ-loop
 
-abbrev start : Head → tie.Start Inv-loop μ-loop
-start l = l .before .before .before .before .before .before .before
+abbrev begun : Head → Start
+begun l = entry (l .before .before .before)
 
-abbrev cells : Head → List ℕ
-cells l = cellsIn (start l .args .shape .now) (pairs (start l .args .starts .now) (start l .args .lens .now))
+abbrev Known : Type 0
+Known = tie.After-cell-at Inv-loop μ-loop
 
-abbrev total : Head → ℕ
-total l = start l .args .cells
+abbrev head : Known → Head
+head k = k .before .before
 
-abbrev run : Head → ℕ
-run l = getD (start l .args .lens .now) (length (start l .args .lens .now) - 1) 0
+abbrev start : Known → Start
+start k = begun (head k)
 
-within : (l : Head) → l .loop .at < total l → l .loop .at + run l ≤ volume (start l .args .lens .now)
-within l h = omega (arith, start l .pre .1, left-within (cells l) (total l) (run l) (l .loop .at) (l .loop .inv .geo) h)
+-- the next row
+next : (k : Known) → let a = start k .args in
+    RowAt (a .shape .now) (a .lens .now) (cellsIn (a .shape .now) (pairs (a .starts .now) (a .lens .now))) (a .count) (head k .loop .at) (k .cell-at .result) (rowOf (a .lens .now))
+next k = row-is (start k .pre .0) (head k .loop .inv .geo) (k .before .loop-test .taken) (k .cell-at .ensures)
 
-few-cells : (l : Head) → volume (start l .args .lens .now) ≤ 65536
-few-cells l = let a = start l in few-drop 0 (a .args .lens .now) (few-within (a .args .starts .now) (a .args .lens .now) (a .pre .0 .shaped) (a .pre .0 .fits))
-
-below : (l : Head) → l .loop .at < total l → getD (cells l) (l .loop .at) 0 + run l ≤ volume (start l .args .shape .now)
-below l h =
-    let a = start l in
-    left-room (cells l) (total l) (run l) (l .loop .at) (l .loop .inv .geo) h (volume (a .args .shape .now)) (within-below (a .args .shape .now) (a .args .starts .now) (a .args .lens .now) (a .pre .0 .fits))
-
-short : (a : tie.Start Inv-loop μ-loop) → length (a .args .src .now) * 8 < 18446744073709551616
+short : (a : Start) → length (a .args .src .now) * 8 < 18446744073709551616
 short a = omega arith
 
--- a run's offsets never fall
-rising : (l : Head) → l .loop .at < total l → RisesFor (start l .args .src .now) (start l .args .first + l .loop .at) (run l)
-rising l h i k =
-    let a = start l in
-    let q : a .args .first + (l .loop .at + i) ≡ a .args .first + l .loop .at + i = omega arith in
-    subst (λ (x : ℕ). offsetAt (a .args .src .now) x ≤ offsetAt (a .args .src .now) (suc x)) q (a .pre .0 .rises (l .loop .at + i) (omega (arith, within l h)))
+-- a row's offsets never fall
+rising : (k : Known) → RisesFor (start k .args .src .now) (start k .args .first + head k .loop .at) (rowOf (start k .args .lens .now))
+rising k i h =
+    let a = start k in
+    let at = head k .loop .at in
+    let q : a .args .first + (at + i) ≡ a .args .first + at + i = omega arith in
+    subst (λ (x : ℕ). offsetAt (a .args .src .now) x ≤ offsetAt (a .args .src .now) (suc x)) q (a .pre .1 .rises (at + i) (omega (arith, next k .within)))
 
 sub-last : tie.Need-sub-last Inv-loop μ-loop
-sub-last c = let a = c .before .before .before .before .before in omega (arith, a .pre .0 .fits .as-many-lengths, a .pre .0 .shaped .some-sides)
+sub-last c = omega (arith, asked-lengths (entry (c .before) .pre .0))
 
 mul-n : tie.Need-mul-n Inv-loop μ-loop
-mul-n c = search needs
+mul-n c = omega arith
 
 shared-slice-read-n : tie.Need-shared-slice-read-n Inv-loop μ-loop
-shared-slice-read-n c = let a = c .before .before .before .before .before .before in omega (arith, a .pre .0 .fits .as-many-lengths, a .pre .0 .shaped .some-sides)
+shared-slice-read-n c = omega (arith, asked-lengths (entry (c .before .before) .pre .0))
 
 loop-holds : tie.Need-loop-holds Inv-loop μ-loop
 loop-holds c =
-    let a = c .before .before .before .before .before .before in
-    store-begins (fixedAt 1 1) (cellsIn (a .args .shape .now) (pairs (a .args .starts .now) (a .args .lens .now))) (drop (a .args .first) (steps (a .args .src .now))) (a .args .out .now) (a .args .cells)
-    (getD (a .args .lens .now) (length (a .args .lens .now) - 1) 0)
-    (left-begins (a .args .shape .now) (a .args .starts .now) (a .args .lens .now) (a .pre .0 .fits) (a .pre .0 .shaped .some-sides) (a .pre .1))
+    let a = entry (c .before .before) in
+    store-begins (fixedAt 1 1) (drop (a .args .first) (steps (a .args .src .now))) (a .args .out .now) (asked-left (a .pre .0))
 
 cell-at-requires : tie.Need-cell-at-requires Inv-loop μ-loop
-cell-at-requires c κs =
-    let l = c .before in
-    (start l .pre .0 .shaped, start l .pre .0 .fits, omega (arith, start l .pre .1))
-
-add-i : tie.Need-add-i Inv-loop μ-loop
-add-i c = let l = c .before .before in omega (arith, within l (omega arith), start l .pre .0 .indexed, short (start l))
+cell-at-requires c κs = let q = begun (c .before) .pre .0 in (q .shaped, q .within, omega (arith, q .counted, c .loop-test .taken))
 
 add-store-steps : tie.Need-add-store-steps Inv-loop μ-loop
-add-store-steps c = let k = c .before in let l = k .before .before in omega (arith, below l (omega arith), k .cell-at .ensures, start l .pre .0 .shaped .few-cells)
+unfolding mostCells
+add-store-steps c = let k = c .before in omega (arith, next k .inside, start k .pre .0 .shaped .few-cells)
+
+add-store-steps-2 : tie.Need-add-store-steps-2 Inv-loop μ-loop
+add-store-steps-2 c = let k = c .before in omega (arith, next k .within, start k .pre .1 .indexed, short (start k))
 
 store-steps-requires : tie.Need-store-steps-requires Inv-loop μ-loop
 store-steps-requires c κs =
     let k = c .before in
-    let l = k .before .before in
-    (omega (arith, l .loop .inv .long, below l (omega arith), k .cell-at .ensures, start l .pre .0 .room), omega (arith, within l (omega arith), start l .pre .0 .indexed), rising l (omega arith))
+    let a = start k in (
+      omega (arith, head k .loop .inv .long, next k .inside, a .pre .1 .room),
+      omega (arith, next k .within, a .pre .1 .indexed),
+      rising k,
+    )
 
 add-at : tie.Need-add-at Inv-loop μ-loop
-add-at c = let l = c .before .before .before .before .before .before in omega (arith, within l (omega arith), few-cells l)
+add-at c = let k = c .before .before .before .before in omega (arith, next k .within, asked-few (start k .pre .0))
 
 loop-less : tie.Need-loop-less Inv-loop μ-loop
-loop-less c =
-    let l = c .before .before .before .before .before .before in
-    let h : l .loop .at < total l = omega arith in
-    omega (arith, within l h, left-some (cells l) (total l) (run l) (l .loop .at) (l .loop .inv .geo) h)
+loop-less c = let k = c .before .before .before .before in omega (arith, next k .within, next k .some)
 
 loop-again : tie.Need-loop-again Inv-loop μ-loop
 loop-again c =
-    let k = c .before .before .before .before in
-    let l = k .before .before in
-    let a = start l in
-    unit-more 1 (steps (a .args .src .now)) (a .args .first) (l .loop .inv) (omega arith) (k .cell-at .ensures)
-    (omega (arith, below l (omega arith), k .cell-at .ensures, a .pre .0 .room)) (omega (arith, within l (omega arith), a .pre .0 .indexed, length-steps (a .args .src .now)))
-    (c .before .before .store-steps .ensures)
+    let r = c .before .before in
+    let k = r .before .before in
+    let a = start k in
+    unit-more 1 (steps (a .args .src .now)) (a .args .first) (head k .loop .inv) (next k)
+    (omega (arith, next k .inside, a .pre .1 .room)) (omega (arith, next k .within, a .pre .1 .indexed, length-steps (a .args .src .now)))
+    (r .store-steps .ensures)
 
 same-length : tie.Need-same-length Inv-loop μ-loop
 same-length c = c .before .loop .inv .long
 
 returns : tie.Need-returns Inv-loop μ-loop
-returns c =
-    let l = c .before in
-    let a = start l in
-    store-ends (l .loop .inv) (omega arith)
+returns c = store-ends (c .before .loop .inv) (c .loop-test .left)
 
 pub store-lengths-spec : {M : Type 1} → statement M
 store-lengths-spec =
@@ -131,8 +126,8 @@ store-lengths-spec =
     shared-slice-read-n
     loop-holds
     cell-at-requires
-    add-i
     add-store-steps
+    add-store-steps-2
     store-steps-requires
     add-at
     loop-less

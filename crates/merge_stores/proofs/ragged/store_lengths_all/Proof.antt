@@ -8,7 +8,7 @@ use lib.ListN.{length}
 use Rattle.array.specs.Shape.{volume}
 use Rattle.subset.proofs.Index.{few-within}
 use Rattle.array.proofs.SubsetLists.{startsAt, lengthsAt}
-use Rattle.merge_cover.proofs.SubsetWalk.{next-room, now-within}
+use Rattle.merge_cover.proofs.SubsetWalk.{next-room, now-within, now-asked}
 use Rattle.merge_stores.proofs.LengthsStored.{LengthsAll, lengths-begin, lengths-end, lengths-indexed, lengths-asked, lengths-more}
 use Rattle.merge_stores.proofs.ragged.store_lengths_all.Statement.{statement}
 use Rattle.merge_stores.proofs.ragged.store_lengths_all.Tie as tie
@@ -22,8 +22,18 @@ abbrev μ-loop : tie.MeasureT-loop
 abbrev Head : Type 0
 Head = tie.At-loop Inv-loop μ-loop
 
+abbrev entry : tie.After-shared-slice-known3 Inv-loop μ-loop → tie.Start Inv-loop μ-loop
+entry c = c .before .before .before .before
+
 abbrev start : Head → tie.Start Inv-loop μ-loop
-start l = l .before .before .before .before .before
+start l = entry (l .before)
+
+-- the chunk's cells are counted before its lengths are stored
+abbrev counted : tie.After-store-lengths Inv-loop μ-loop → tie.After-volume-of Inv-loop μ-loop
+counted s = s .before .before .before
+
+abbrev begun : tie.After-volume-of Inv-loop μ-loop → Head
+begun v = v .before .before .before
 
 short : (a : tie.Start Inv-loop μ-loop) → (length (a .args .src .now) * 8 < 18446744073709551616) × (length (a .args .subsets .now) * 8 < 18446744073709551616)
 short a = (omega arith, omega arith)
@@ -38,7 +48,7 @@ indexed : (l : Head) (h : l .loop .i < start l .args .count) {k : ℕ} → k ≡
 indexed l h e = let a = start l in omega (arith, e, lengths-indexed (a .pre) (l .loop .inv) h)
 
 loop-holds : tie.Need-loop-holds Inv-loop μ-loop
-loop-holds c = let a = c .before .before .before .before in lengths-begin (a .pre)
+loop-holds c = lengths-begin (entry c .pre)
 
 add-mid : tie.Need-add-mid Inv-loop μ-loop
 add-mid c = omega (arith, seen (c .before) (omega arith), short (start (c .before)) .1)
@@ -63,36 +73,40 @@ volume-of-requires c κs =
     let l = c .before .before in
     let a = start l in
     let h : l .loop .i < a .args .count = omega arith in
-    few-within (startsAt (length (a .args .shape .now)) (l .loop .at) (a .args .subsets .now)) (lengthsAt (length (a .args .shape .now)) (l .loop .at) (a .args .subsets .now)) (a .pre .subsets .shaped) (now-within (a .args .shape .now) (a .args .subsets .now) (a .args .count) (l .loop .inv .geo) h)
+    few-within (startsAt (length (a .args .shape .now)) (l .loop .at) (a .args .subsets .now)) (lengthsAt (length (a .args .shape .now)) (l .loop .at) (a .args .subsets .now))
+    (a .pre .subsets .shaped) (now-within (a .args .shape .now) (a .args .subsets .now) (a .args .count) (l .loop .inv .geo) h)
 
 mul-store-lengths : tie.Need-mul-store-lengths Inv-loop μ-loop
-mul-store-lengths c = omega (arith, seen (c .before .before .before .before) (omega arith), short (start (c .before .before .before .before)) .1)
+mul-store-lengths c = omega (arith, seen (begun (c .before)) (omega arith), short (start (begun (c .before))) .1)
 
 sub-store-lengths : tie.Need-sub-store-lengths Inv-loop μ-loop
-sub-store-lengths c = omega (arith, seen (c .before .before .before .before) (omega arith), short (start (c .before .before .before .before)) .1)
+sub-store-lengths c = omega (arith, seen (begun (c .before)) (omega arith), short (start (begun (c .before))) .1)
 
 part-store-lengths-start : tie.Need-part-store-lengths-start Inv-loop μ-loop
-part-store-lengths-start c = omega (arith, seen (c .before .before .before .before) (omega arith), short (start (c .before .before .before .before)) .1)
+part-store-lengths-start c = omega (arith, seen (begun (c .before)) (omega arith), short (start (begun (c .before))) .1)
 
 part-store-lengths-end : tie.Need-part-store-lengths-end Inv-loop μ-loop
-part-store-lengths-end c = omega (arith, seen (c .before .before .before .before) (omega arith), short (start (c .before .before .before .before)) .1)
+part-store-lengths-end c = omega (arith, seen (begun (c .before)) (omega arith), short (start (begun (c .before))) .1)
 
 store-lengths-requires : tie.Need-store-lengths-requires Inv-loop μ-loop
 store-lengths-requires c κs =
-    let l = c .before .before .before .before .before in
-    let a = start l in
-    (lengths-asked (a .pre) (l .loop .inv) (omega arith), c .before .before .volume-of .ensures)
+    let v = c .before .before in
+    let l = begun v in
+    let a = start l in (
+      now-asked (a .args .shape .now) (a .args .subsets .now) (a .args .count) (l .loop .inv .geo) (omega arith) (a .pre .subsets .shaped) (v .volume-of .ensures),
+      lengths-asked (a .pre) (l .loop .inv) (omega arith) (v .volume-of .ensures),
+    )
 
 add-first : tie.Need-add-first Inv-loop μ-loop
 add-first c =
-    let v = c .before .before .before .before .before in
-    let l = v .before .before .before in
+    let v = counted (c .before .before) in
+    let l = begun v in
     omega (arith, indexed l (omega arith) (v .volume-of .ensures), short (start l) .0)
 
 add-first-2 : tie.Need-add-first-2 Inv-loop μ-loop
 add-first-2 c =
-    let v = c .before .before .before .before .before in
-    let l = v .before .before .before in
+    let v = counted (c .before .before) in
+    let l = begun v in
     omega (arith, indexed l (omega arith) (v .volume-of .ensures), short (start l) .0)
 
 add-i : tie.Need-add-i Inv-loop μ-loop
@@ -103,8 +117,8 @@ loop-less c = omega arith
 
 loop-again : tie.Need-loop-again Inv-loop μ-loop
 loop-again c =
-    let v = c .before .before .before .before .before in
-    let l = v .before .before .before in
+    let v = counted (c .before .before) in
+    let l = begun v in
     let a = start l in
     let s = c .before .before in
     lengths-more (a .pre) (l .loop .inv) (omega arith) (v .volume-of .ensures) (s .store-lengths .ensures) (omega arith)

@@ -7,7 +7,7 @@ use lib.ListN.{drop, length-set}
 use Rattle.array.specs.Subset.{pairs, cellsIn}
 use Rattle.array.specs.Meaning.{widthOf}
 use Rattle.array.specs.Offsets.{ends}
-use Rattle.extract.specs.Places.{valuesAt}
+use Rattle.array.specs.Places.{valuesAt}
 use Rattle.extract.proofs.Walk.{first-then}
 use Rattle.partial.specs.Stored.{storedAt}
 use Rattle.partial.proofs.vlen_partial.copy_ragged.Statement.{statement}

@@ -15,10 +15,10 @@ use Rattle.array.specs.Offsets.{offsetsOf}
 use Rattle.array.specs.Content.{RaggedContent, sizeTest}
 use Rattle.array.specs.Meaning.{widthOf}
 use Rattle.array.specs.Outcome.{contentRagged}
+use Rattle.subset.specs.Walk.{SubsetAsked}
 use Rattle.subset.proofs.Index.{few-within}
-use Rattle.extract.specs.Places.{valuesAt}
-use Rattle.extract.specs.Asked.{SubsetAsked}
-use Rattle.extract.proofs.Walk.{asked-few, asked-count}
+use Rattle.subset.proofs.Rows.{asked-few, asked-count}
+use Rattle.array.specs.Places.{valuesAt}
 use Rattle.partial.specs.Stored.{storedAt}
 use Rattle.partial.proofs.Rows.{need-values, need-offsets}
 use Rattle.partial.proofs.Outcomes.{too-many, no-values, no-offsets, all-put}

@@ -23,7 +23,7 @@ use Rattle.valid.proofs.ShapeLaws.{Counted, counted, not-counted}
 use Rattle.array.proofs.SubsetLists.{subset-parts, within-parts}
 use Rattle.stored.specs.declared.vlen.Index.{Index}
 use Rattle.stored.specs.Index.{foundIn, toldIndex}
-use Rattle.extract.specs.Places.{valuesAt}
+use Rattle.array.specs.Places.{valuesAt}
 use Rattle.partial.specs.Stored.{storedAt, cutAnswer}
 use Rattle.partial.proofs.Stored.{Read, read-found}
 use Rattle.partial.proofs.Outcomes.{no-shape, no-subset, not-read, cut-read}

@@ -7,7 +7,7 @@ use native.Mathlib.Numerals.{add-one}
 use lib.ListN.{length}
 use Rattle.array.specs.Limits.{mostCells}
 use Rattle.array.specs.Meaning.{widthOf}
-use Rattle.extract.proofs.Places.{run-rises, run-below}
+use Rattle.array.proofs.Places.{run-rises, run-below}
 use Rattle.extract.proofs.Walk.{ImagesLaid, images-begin, images-same, images-end, images-room, images-more}
 use Rattle.partial.specs.Stored.{storedAt}
 use Rattle.partial.proofs.Stored.{offset-room}

@@ -22,23 +22,17 @@ returns c = sym (equal-long _ _ (c .if1 .taken))
 loop-holds : tie.Need-loop-holds Inv-loop μ-loop
 loop-holds c = (omega arith, omega arith, refl)
 
-shared-slice-read-if2 : tie.Need-shared-slice-read-if2 Inv-loop μ-loop
-shared-slice-read-if2 c = search needs
-
-shared-slice-read-if2-2 : tie.Need-shared-slice-read-if2-2 Inv-loop μ-loop
-shared-slice-read-if2-2 c = search needs
-
 returns-2 : tie.Need-returns-2 Inv-loop μ-loop
-returns-2 c = sym (c .before .before .before .before .loop .inv .2 ∙ equal-not _ _ (c .before .before .before .before .loop .inv .0) _ (c .before .before .before .loop-test .taken) (c .if2 .taken))
-
-add-i : tie.Need-add-i Inv-loop μ-loop
-add-i c = search needs
-
-loop-less : tie.Need-loop-less Inv-loop μ-loop
-loop-less c = search needs
+returns-2 c =
+    let turn = c .before .before .before in
+    let inv = turn .before .loop .inv in
+    sym (inv .2 ∙ equal-not _ _ (inv .0) _ (turn .loop-test .taken) (c .if2 .taken))
 
 loop-again : tie.Need-loop-again Inv-loop μ-loop
-loop-again c = (omega arith, omega arith, c .before .before .before .before .loop .inv .2 ∙ equal-more _ _ (c .before .before .before .before .loop .inv .0) _ (c .before .before .before .loop-test .taken) (c .if2 .left))
+loop-again c =
+    let turn = c .before .before .before in
+    let inv = turn .before .loop .inv in
+    (omega arith, omega arith, inv .2 ∙ equal-more _ _ (inv .0) _ (turn .loop-test .taken) (c .if2 .left))
 
 returns-3 : tie.Need-returns-3 Inv-loop μ-loop
 returns-3 c = sym (c .before .loop .inv .2 ∙ equal-end _ _ (c .before .loop .inv .0) _ (c .loop-test .left))
@@ -51,10 +45,10 @@ same-spec =
     μ-loop
     returns
     loop-holds
-    shared-slice-read-if2
-    shared-slice-read-if2-2
+    (λ c. search needs)
+    (λ c. search needs)
     returns-2
-    add-i
-    loop-less
+    (λ c. search needs)
+    (λ c. search needs)
     loop-again
     returns-3)

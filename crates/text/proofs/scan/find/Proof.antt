@@ -16,9 +16,6 @@ abbrev μ-loop : tie.MeasureT-loop
 loop-holds : tie.Need-loop-holds Inv-loop μ-loop
 loop-holds c = seek-begins (c .pre)
 
-shared-slice-read-c : tie.Need-shared-slice-read-c Inv-loop μ-loop
-shared-slice-read-c c = search needs
-
 returns : tie.Need-returns Inv-loop μ-loop
 returns c =
     let l = c .before .before .before .loop .inv in
@@ -28,12 +25,6 @@ returns-2 : tie.Need-returns-2 Inv-loop μ-loop
 returns-2 c =
     let l = c .before .before .before .before .loop .inv in
     (seek-second l (c .before .before .before .loop-test .taken) (c .before .if1 .left) (c .if2 .taken), record { on = l .behind; within = l .within })
-
-add-i : tie.Need-add-i Inv-loop μ-loop
-add-i c = search needs
-
-loop-less : tie.Need-loop-less Inv-loop μ-loop
-loop-less c = search needs
 
 loop-again : tie.Need-loop-again Inv-loop μ-loop
 loop-again c = seek-on (c .before .before .before .before .loop .inv) (c .before .before .before .loop-test .taken) (c .before .if1 .left) (c .if2 .left)
@@ -50,10 +41,10 @@ find-spec =
     Inv-loop
     μ-loop
     loop-holds
-    shared-slice-read-c
+    (λ c. search needs)
     returns
     returns-2
-    add-i
-    loop-less
+    (λ c. search needs)
+    (λ c. search needs)
     loop-again
     returns-3)

@@ -6,25 +6,13 @@ use Rattle.text.specs.Scan.{between}
 use Rattle.text.proofs.scan.part_of_bytes.Statement.{statement}
 use Rattle.text.proofs.scan.part_of_bytes.Tie as tie
 
-slice-aggregate-result : tie.Need-slice-aggregate-result
-slice-aggregate-result c = search needs
-
 returns : tie.Need-returns
 unfolding between
 returns c = rw (lt-leb _ _ (c .before .if1 .taken))
 
-slice-aggregate-result-2 : tie.Need-slice-aggregate-result-2
-slice-aggregate-result-2 c = search needs
-
 returns-2 : tie.Need-returns-2
 unfolding between
 returns-2 c = rw (le-leb _ _ (c .before .before .if1 .left), lt-leb _ _ (c .before .if2 .taken))
-
-part-result-start : tie.Need-part-result-start
-part-result-start c = search needs
-
-part-result-end : tie.Need-part-result-end
-part-result-end c = search needs
 
 returns-3 : tie.Need-returns-3
 unfolding between
@@ -34,10 +22,10 @@ pub part-of-bytes-spec : {M : Type 1} → statement M
 part-of-bytes-spec =
     tie.close
     (tie.spec
-    slice-aggregate-result
+    (λ c. search needs)
     returns
-    slice-aggregate-result-2
+    (λ c. search needs)
     returns-2
-    part-result-start
-    part-result-end
+    (λ c. search needs)
+    (λ c. search needs)
     returns-3)

@@ -15,56 +15,11 @@ Inv-loop text out₀ from to₀ at₀ out to at = (at ≤ length text + 1) × (l
 abbrev μ-loop : tie.MeasureT-loop
 μ-loop text out₀ from to₀ at₀ out to at = length text + 1 - at
 
-is-dash-requires : tie.Need-is-dash-requires Inv-loop μ-loop
-is-dash-requires c κs = search needs
-
-returns : tie.Need-returns Inv-loop μ-loop
-returns c = search needs
-
-loop-holds : tie.Need-loop-holds Inv-loop μ-loop
-loop-holds c = search needs
-
-find-requires : tie.Need-find-requires Inv-loop μ-loop
-find-requires c κs = search needs
-
-sub-byte-part : tie.Need-sub-byte-part Inv-loop μ-loop
-sub-byte-part c = search needs
-
-part-byte-part-start : tie.Need-part-byte-part-start Inv-loop μ-loop
-part-byte-part-start c = search needs
-
-part-byte-part-end : tie.Need-part-byte-part-end Inv-loop μ-loop
-part-byte-part-end c = search needs
-
-byte-part-requires : tie.Need-byte-part-requires Inv-loop μ-loop
-byte-part-requires c κs = search needs
-
-enum-known-next : tie.Need-enum-known-next Inv-loop μ-loop
-enum-known-next c = search needs
-
-enum-told : tie.Need-enum-told Inv-loop μ-loop
-enum-told c = search needs
-
-same-length : tie.Need-same-length Inv-loop μ-loop
-same-length c = search needs
-
-returns-2 : tie.Need-returns-2 Inv-loop μ-loop
-returns-2 c = search needs
-
-add-at : tie.Need-add-at Inv-loop μ-loop
-add-at c = search needs
-
-loop-less : tie.Need-loop-less Inv-loop μ-loop
-loop-less c = search needs
-
 loop-again : tie.Need-loop-again Inv-loop μ-loop
-loop-again c = let h = filled (c .before .before .before .before .before .byte-part .ensures) (c .before .next .given .1) in (omega arith, search needs, omega arith, omega arith)
-
-same-length-2 : tie.Need-same-length-2 Inv-loop μ-loop
-same-length-2 c = search needs
-
-returns-3 : tie.Need-returns-3 Inv-loop μ-loop
-returns-3 c = search needs
+loop-again c =
+    let answer = c .before in
+    let h = filled (answer .before .before .before .before .byte-part .ensures) (answer .next .given .1) in
+    (omega arith, search needs, omega arith, omega arith)
 
 pub read-bytes-spec : {M : Type 1} → statement M
 read-bytes-spec =
@@ -72,20 +27,20 @@ read-bytes-spec =
     (tie.spec
     Inv-loop
     μ-loop
-    is-dash-requires
-    returns
-    loop-holds
-    find-requires
-    sub-byte-part
-    part-byte-part-start
-    part-byte-part-end
-    byte-part-requires
-    enum-known-next
-    enum-told
-    same-length
-    returns-2
-    add-at
-    loop-less
+    (λ c κs. search needs)
+    (λ c. search needs)
+    (λ c. search needs)
+    (λ c κs. search needs)
+    (λ c. search needs)
+    (λ c. search needs)
+    (λ c. search needs)
+    (λ c κs. search needs)
+    (λ c. search needs)
+    (λ c. search needs)
+    (λ c. search needs)
+    (λ c. search needs)
+    (λ c. search needs)
+    (λ c. search needs)
     loop-again
-    same-length-2
-    returns-3)
+    (λ c. search needs)
+    (λ c. search needs))

@@ -22,32 +22,22 @@ returns c = sym (number-none _ (c .if1 .taken))
 loop-holds : tie.Need-loop-holds Inv-loop μ-loop
 loop-holds c = (omega arith, number-some _ (c .if1 .left))
 
-shared-slice-read-digit : tie.Need-shared-slice-read-digit Inv-loop μ-loop
-shared-slice-read-digit c = search needs
-
-digit-requires : tie.Need-digit-requires Inv-loop μ-loop
-digit-requires c κs = search needs
-
-next-number-requires : tie.Need-next-number-requires Inv-loop μ-loop
-next-number-requires c κs = search needs
-
-enum-known-next : tie.Need-enum-known-next Inv-loop μ-loop
-enum-known-next c = search needs
-
-enum-told : tie.Need-enum-told Inv-loop μ-loop
-enum-told c = search needs
-
 returns-2 : tie.Need-returns-2 Inv-loop μ-loop
-returns-2 c = sym (c .before .before .before .before .before .before .loop .inv .1 ∙ number-stops _ _ _ (c .before .before .before .before .before .loop-test .taken) (c .before .before .before .digit .ensures) (sym (c .before .before .next-number .ensures) ∙ c .enum-told .given .1))
-
-add-i : tie.Need-add-i Inv-loop μ-loop
-add-i c = search needs
-
-loop-less : tie.Need-loop-less Inv-loop μ-loop
-loop-less c = search needs
+returns-2 c =
+    let read = c .before .before .before in
+    let turn = read .before .before in
+    sym
+    (turn .before .loop .inv .1
+    ∙ number-stops _ _ _ (turn .loop-test .taken) (read .digit .ensures) (sym (c .before .before .next-number .ensures) ∙ c .enum-told .given .1))
 
 loop-again : tie.Need-loop-again Inv-loop μ-loop
-loop-again c = (omega arith, c .before .before .before .before .before .before .before .loop .inv .1 ∙ number-more _ _ _ (c .before .before .before .before .before .before .loop-test .taken) (c .before .before .before .before .digit .ensures) _ (sym (c .before .before .before .next-number .ensures) ∙ c .before .next .given .1))
+loop-again c =
+    let read = c .before .before .before .before in
+    let turn = read .before .before in (
+      omega arith,
+      turn .before .loop .inv .1
+          ∙ number-more _ _ _ (turn .loop-test .taken) (read .digit .ensures) _ (sym (c .before .before .before .next-number .ensures) ∙ c .before .next .given .1),
+    )
 
 returns-3 : tie.Need-returns-3 Inv-loop μ-loop
 returns-3 c = sym (c .before .loop .inv .1 ∙ number-ends _ _ _ (c .loop-test .left))
@@ -60,13 +50,13 @@ read-number-spec =
     μ-loop
     returns
     loop-holds
-    shared-slice-read-digit
-    digit-requires
-    next-number-requires
-    enum-known-next
-    enum-told
+    (λ c. search needs)
+    (λ c κs. search needs)
+    (λ c κs. search needs)
+    (λ c. search needs)
+    (λ c. search needs)
     returns-2
-    add-i
-    loop-less
+    (λ c. search needs)
+    (λ c. search needs)
     loop-again
     returns-3)

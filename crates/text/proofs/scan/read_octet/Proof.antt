@@ -12,14 +12,8 @@ returns c = sym (octet-high _ _ (c .if1 .taken))
 returns-2 : tie.Need-returns-2
 returns-2 c = sym (octet-low _ _ (c .before .if1 .left) (c .if2 .taken))
 
-mul-t4 : tie.Need-mul-t4
-mul-t4 c = search needs
-
-add-t5 : tie.Need-add-t5
-add-t5 c = search needs
-
 returns-3 : tie.Need-returns-3
 returns-3 c = sym (octet-is _ _ (c .before .if1 .left) (c .if2 .left))
 
 pub read-octet-spec : {M : Type 1} → statement M
-read-octet-spec = tie.close (tie.spec returns returns-2 mul-t4 add-t5 returns-3)
+read-octet-spec = tie.close (tie.spec returns returns-2 (λ c. search needs) (λ c. search needs) returns-3)
