@@ -65,15 +65,13 @@ module _ {sh flat : List ℕ} {count : ℕ} {d src : List ℕ} (q : LengthsAllAs
       pub lengths-indexed : first + volume (lengthsAt (length sh) at flat) < length src
       lengths-indexed = omega (arith, now .0, cells-now, length-drop first src)
 
-      pub lengths-asked : LengthsAsked sh (startsAt (length sh) at flat) (lengthsAt (length sh) at flat) o src first
-      lengths-asked = record {
-        shaped = q .subsets .shaped;
-        fits = now-within sh flat count (c .geo) h;
+      pub lengths-asked : {n : ℕ} → n ≡ volume (lengthsAt (length sh) at flat) → LengthsAsked sh o src first n
+      lengths-asked e = record {
         rises = λ k l.
             let e₁ : offsetAt (drop first src) (0 + k) ≡ offsetAt src (first + k) = getD-drop first src (0 + k) 0 ∙ ap (offsetAt src) (omega arith) in
             let e₂ : offsetAt (drop first src) (suc (0 + k)) ≡ offsetAt src (suc (first + k)) = getD-drop first src (suc (0 + k)) 0 ∙ ap (offsetAt src) (omega arith) in
             omega (arith, rises-of m (drop first src) (now .1) (now .0) k (omega (arith, cells-now)));
-        indexed = lengths-indexed;
+        indexed = omega (arith, lengths-indexed);
         room = omega (arith, q .room, c .long);
       }
 

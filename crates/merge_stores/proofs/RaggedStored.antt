@@ -73,23 +73,23 @@ module _ {sh flat : List ℕ} {count : ℕ} {d begins values src : List ℕ} (q 
       pub chunk-indexed : first + volume (lengthsAt (length sh) at flat) < length src
       chunk-indexed = omega (arith, now .0, cells-now, length-drop first src)
 
+      long-now : length cs ≡ volume (lengthsAt (length sh) at flat)
+      long-now = length-cellsIn sh b (now-within sh flat count (c .geo) h .inside) ∙ cells-now
+
       -- the chunk's last offset says how many bytes it has
       bytes-now : length (places (offsetAt begins) cs) ≡ offsetAt src (first + volume (lengthsAt (length sh) at flat))
       bytes-now =
-          let l : length cs ≡ volume (lengths b) = length-cellsIn sh b (now-within sh flat count (c .geo) h .inside) in
           ap (λ (js : List ℕ). length (places (offsetAt begins) js)) (sym (take-all (length cs) cs (omega arith))) ∙ now .1 (length cs) (omega arith) ∙ at-first (length cs)
-          ∙ ap (λ (k : ℕ). offsetAt src (first + k)) (l ∙ cells-now)
+          ∙ ap (λ (k : ℕ). offsetAt src (first + k)) long-now
 
       pub chunk-enough : base + offsetAt src (first + volume (lengthsAt (length sh) at flat)) ≤ length values
       chunk-enough = omega (arith, room, bytes-now)
 
-      pub ragged-asked : RaggedAsked sh (startsAt (length sh) at flat) (lengthsAt (length sh) at flat) o begins values base src first
+      pub ragged-asked : RaggedAsked sh o begins values base src first (cellsIn sh (pairs (startsAt (length sh) at flat) (lengthsAt (length sh) at flat)))
       ragged-asked = record {
-        shaped = q .subsets .shaped;
-        fits = now-within sh flat count (c .geo) h;
         laid = record { covered = q .laid .covered; rises = q .laid .rises; room = λ j l. omega (arith, q .laid .room j l, c .long) };
         agrees = λ k l. now .1 k l ∙ at-first k;
-        indexed = chunk-indexed;
+        indexed = omega (arith, long-now, chunk-indexed);
         enough = omega (arith, room);
       }
 

@@ -6,9 +6,9 @@ use Prim.Native.Nat.{ℕ, suc, _+_, _-_, _≤_, _<_}
 use mathlib.Core.List.{List, [], _∷_, _++_}
 use lib.ListN.{length, take, drop}
 use Rattle.array.specs.Limits.{mostBytes}
-use Rattle.array.specs.Shape.{volume, ShapeOk}
-use Rattle.array.specs.Subset.{Subset, lengths, pairs, cellsIn, cellsOfAll}
-use Rattle.array.specs.Rows.{Within, nextSubsets}
+use Rattle.array.specs.Shape.{volume}
+use Rattle.array.specs.Subset.{Subset, lengths, cellsIn, cellsOfAll}
+use Rattle.array.specs.Rows.{nextSubsets}
 use Rattle.array.specs.Offsets.{Rising}
 use Rattle.array.specs.Places.{offsetAt}
 use Rattle.chunks.specs.Gather.{putBack, Once}
@@ -61,20 +61,16 @@ abbrev pub Agrees : List ℕ → List ℕ → ℕ → List ℕ → Type 0
 Agrees begins src first cs = (i : ℕ) → i ≤ length cs → length (places (offsetAt begins) (take i cs)) ≡ offsetAt src (first + i)
 
 -- of one chunk: its lengths, its values
-pub record LengthsAsked (shape starts lens out src : List ℕ) (first : ℕ) : Type 0 where
-  pub shaped : ShapeOk shape
-  pub fits : Within shape starts lens
-  pub rises : RisesFor src first (volume lens)
-  pub indexed : first + volume lens < length src
+pub record LengthsAsked (shape out src : List ℕ) (first count : ℕ) : Type 0 where
+  pub rises : RisesFor src first count
+  pub indexed : first + count < length src
   pub room : volume shape < length out
 
-pub record RaggedAsked (shape starts lens out begins values : List ℕ) (base : ℕ) (src : List ℕ) (first : ℕ) : Type 0 where
-  pub shaped : ShapeOk shape
-  pub fits : Within shape starts lens
+pub record RaggedAsked (shape out begins values : List ℕ) (base : ℕ) (src : List ℕ) (first : ℕ) (cs : List ℕ) : Type 0 where
   pub laid : Begins shape out begins
-  pub agrees : Agrees begins src first (cellsIn shape (pairs starts lens))
-  pub indexed : first + volume lens < length src
-  pub enough : base + length (places (offsetAt begins) (cellsIn shape (pairs starts lens))) ≤ length values
+  pub agrees : Agrees begins src first cs
+  pub indexed : first + length cs < length src
+  pub enough : base + length (places (offsetAt begins) cs) ≤ length values
 
 -- chunk by chunk: offsets that begin at 0 and never fall; offsets that the output agrees with
 abbrev pub LengthChunks : List Subset → List ℕ → Type 0

@@ -5,10 +5,10 @@ ghost use Prim.Native.Nat.{_+_, _<_, _≤_};
 ghost use lib.ListN.{length, take, drop};
 ghost use Rattle.array.specs.Limits.{mostBytes};
 ghost use Rattle.array.specs.Buffers.{overAt};
-ghost use Rattle.array.specs.Shape.{volume};
 ghost use Rattle.array.specs.Subset.{pairs, cellsIn, cellsOfAll};
 ghost use Rattle.array.specs.Rows.{nextSubsets};
 ghost use Rattle.array.specs.Places.{fixedAt, offsetAt};
+ghost use Rattle.subset.specs.Walk.{SubsetAsked};
 ghost use Rattle.merge_stores.specs.Scatter.{scatter, places};
 ghost use Rattle.merge_stores.specs.Ragged.{steps, stepParts, sums, sum, offsetsMerged};
 ghost use Rattle.merge_stores.specs.Ragged.{RisesFor, LengthsAsked, LengthsAllAsked, RaggedAsked, RaggedAllAsked, RaggedMergeAsked};
@@ -35,18 +35,17 @@ fn store_lengths(
     shape: &[u64],
     starts: &[u64],
     lens: &[u64],
-    cells: u64,
+    count: usize,
 )
-    requires { ⌜ LengthsAsked (now shape) (now starts) (now lens) (now out) (now src) first × (cells ≡ volume (now lens)) ⌝ }
+    requires { ⌜ SubsetAsked (now shape) (now starts) (now lens) count × LengthsAsked (now shape) (now out) (now src) first count ⌝ }
     ensures { λ _. ⌜ now (out .exit) ≡ scatter (now (out .entry)) (places (fixedAt 1 1) (cellsIn (now (shape .entry)) (pairs (now (starts .entry)) (now (lens .entry))))) (drop first (steps (now (src .entry)))) ⌝ }
 {
     let last = lens.len() - 1;
-    let n = lens[last];
-    let mut at: u64 = 0;
-    while at < cells {
-        let a = subset::cell_at(shape, starts, lens, at) as usize;
-        let i = first + (at as usize);
-        store_steps(out, 1 + a, src, i, n as usize);
+    let n = lens[last] as usize;
+    let mut at: usize = 0;
+    while at < count {
+        let a = subset::cell_at(shape, starts, lens, at as u64) as usize;
+        store_steps(out, 1 + a, src, first + at, n);
         at += n;
     }
 }
@@ -65,9 +64,8 @@ fn store_lengths_all(out: &mut [u64], src: &[u64], shape: &[u64], subsets: &[u64
         let mid = at + d;
         let end = mid + d;
         let lens = &subsets[mid..end];
-        let cells = subset::volume_of(lens);
-        let m = cells as usize;
-        store_lengths(out, src, first, shape, &subsets[at..mid], lens, cells);
+        let m = subset::volume_of(lens) as usize;
+        store_lengths(out, src, first, shape, &subsets[at..mid], lens, m);
         first += m + 1;
         at = end;
         i += 1;
@@ -101,21 +99,22 @@ fn store_ragged(
     shape: &[u64],
     starts: &[u64],
     lens: &[u64],
-    cells: u64,
+    count: usize,
 )
-    requires { ⌜ RaggedAsked (now shape) (now starts) (now lens) (now out) (now begins) (now values) base (now src) first × (cells ≡ volume (now lens)) ⌝ }
+    requires { ⌜ SubsetAsked (now shape) (now starts) (now lens) count
+        × RaggedAsked (now shape) (now out) (now begins) (now values) base (now src) first (cellsIn (now shape) (pairs (now starts) (now lens))) ⌝ }
     ensures { λ _. ⌜ now (out .exit) ≡ scatter (now (out .entry)) (places (offsetAt (now (begins .entry))) (cellsIn (now (shape .entry)) (pairs (now (starts .entry)) (now (lens .entry)))))
         (drop base (now (values .entry))) ⌝ }
 {
     let last = lens.len() - 1;
-    let n = lens[last];
-    let mut at: u64 = 0;
-    while at < cells {
-        let a = subset::cell_at(shape, starts, lens, at) as usize;
+    let n = lens[last] as usize;
+    let mut at: usize = 0;
+    while at < count {
+        let a = subset::cell_at(shape, starts, lens, at as u64) as usize;
         let to = begins[a] as usize;
-        let i = first + (at as usize);
+        let i = first + at;
         let begin = src[i] as usize;
-        let e = i + (n as usize);
+        let e = i + n;
         let end = src[e] as usize;
         buffer::copy::copy_bytes(out, to, values, base + begin, end - begin);
         at += n;
@@ -145,8 +144,7 @@ fn store_ragged_all(
         let mid = at + d;
         let end = mid + d;
         let lens = &subsets[mid..end];
-        let cells = subset::volume_of(lens);
-        let m = cells as usize;
+        let m = subset::volume_of(lens) as usize;
         store_ragged(
             out,
             begins,
@@ -157,7 +155,7 @@ fn store_ragged_all(
             shape,
             &subsets[at..mid],
             lens,
-            cells,
+            m,
         );
         let last = first + m;
         base += src[last] as usize;

@@ -7,7 +7,7 @@ use lib.ListN.{length}
 use Rattle.array.specs.Places.{offsetAt}
 use Rattle.subset.proofs.Index.{few-within}
 use Rattle.array.proofs.SubsetLists.{startsAt, lengthsAt}
-use Rattle.merge_cover.proofs.SubsetWalk.{next-room, now-within}
+use Rattle.merge_cover.proofs.SubsetWalk.{next-room, now-within, now-asked}
 use Rattle.merge_stores.proofs.RaggedStored.{RaggedAll, ragged-asked, raggeds-begin, raggeds-end, chunk-indexed, chunk-enough, raggeds-more}
 use Rattle.merge_stores.proofs.ragged.store_ragged_all.Statement.{statement}
 use Rattle.merge_stores.proofs.ragged.store_ragged_all.Tie as tie
@@ -86,7 +86,10 @@ store-ragged-requires : tie.Need-store-ragged-requires Inv-loop μ-loop
 store-ragged-requires c κs =
     let v = c .before .before in
     let l = head v in
-    (ragged-asked (start l .pre) (l .loop .inv) (omega arith), v .volume-of .ensures)
+    let a = start l in (
+      now-asked (a .args .shape .now) (a .args .subsets .now) (a .args .count) (l .loop .inv .geo) (omega arith) (a .pre .subsets .shaped) (v .volume-of .ensures),
+      ragged-asked (a .pre) (l .loop .inv) (omega arith),
+    )
 
 -- the chunk is stored: its last offset is there, and so are its bytes
 abbrev stored : tie.After-store-ragged Inv-loop μ-loop → tie.After-volume-of Inv-loop μ-loop
