@@ -7,10 +7,10 @@ use Rattle.merge_stores.proofs.cells.store_masks.Statement.{statement}
 use Rattle.merge_stores.proofs.cells.store_masks.Tie as tie
 
 abbrev Inv-loop : tie.InvT-loop
-Inv-loop out₀ src depth cells shape subsets count l₀ out l = Stored shape subsets count out₀ src depth cells out l
+Inv-loop out₀ src depth cells shape subsets l₀ out l = Stored shape subsets out₀ src depth cells out l
 
 abbrev μ-loop : tie.MeasureT-loop
-μ-loop out₀ src depth cells shape subsets count l₀ out l = depth - l
+μ-loop out₀ src depth cells shape subsets l₀ out l = depth - l
 
 abbrev Head : Type 0
 Head = tie.At-loop Inv-loop μ-loop
