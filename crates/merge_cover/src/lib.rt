@@ -115,7 +115,13 @@ pub fn covers(shape: &[u64], subsets: &[u64]) -> bool
         if left < cells {
             return false;
         }
-        if !mark_subset(&mut words, shape, &subsets[at..mid], &subsets[mid..end], cells) {
+        if !mark_subset(
+            &mut words,
+            shape,
+            &subsets[at..mid],
+            &subsets[mid..end],
+            cells,
+        ) {
             return false;
         }
         left -= cells;
