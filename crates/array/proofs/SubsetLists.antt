@@ -1,6 +1,6 @@
 -- Subsets laid end to end as numbers: those that the definitions speak of, taken one after another.
 -- Assumes nothing.
-use mathlib.Core.Path.{_≡_, refl, sym, ap, ap₂, _∙_, subst}
+use mathlib.Core.Path.{_≡_, refl, sym, ap, ap₂, _∙_}
 use Prim.Native.Nat.{ℕ, zero, suc, _+_, _-_, _*_, _/_, _%_, _<_, _≤_}
 use native.Mathlib.Nat.{mul-div-cancel, div-add-mod', mul-mod-left, zero-div, zero-mul, suc-mul, sub-zero}
 use native.Mathlib.Omega.{arith}

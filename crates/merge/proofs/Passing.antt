@@ -1,7 +1,7 @@
 -- The checks of a merge: one law for each answer, and what is known where they pass.
 -- Assumes nothing.
-use mathlib.Core.Path.{_≡_, refl, sym, ap, _∙_, subst}
-use Prim.Native.Nat.{ℕ, _*_, _/_, _<_, _≤_}
+use mathlib.Core.Path.{_≡_, refl, sym, _∙_}
+use Prim.Native.Nat.{ℕ, _<_, _≤_}
 use mathlib.Core.Bool.{Bool, true, false}
 use mathlib.Core.List.{List}
 use lib.ListN.{length}
@@ -10,7 +10,7 @@ use Rattle.array.specs.Limits.{mostBytes}
 use Rattle.array.specs.Answer.{Answer, gives, refuses, unless}
 use Rattle.array.specs.Kind.{Kind, kindTest}
 use Rattle.array.specs.Shape.{volume, shapeTest}
-use Rattle.array.specs.Subset.{Subset, subsetsOf, manyTest}
+use Rattle.array.specs.Subset.{subsetsOf, manyTest}
 use Rattle.array.specs.Content.{Content, sizeTest}
 use Rattle.array.proofs.Answers.{same-given}
 use Rattle.array.proofs.Answers as answers

@@ -49,7 +49,7 @@ module _ {sh flat d src : List ℕ} {depth cells : ℕ} (q : MasksAsked sh flat 
   pub masks-begin : Stored sh flat d src depth cells d 0
   masks-begin = record { within = omega arith; long = refl; done = ap (λ (k : ℕ). drop k d) (sym (zero-mul cells)) }
 
-  module _ (o : List ℕ) (l : ℕ) (c : Stored sh flat d src depth cells o l) where
+  module _ {o : List ℕ} {l : ℕ} (c : Stored sh flat d src depth cells o l) where
     pub masks-end : depth ≤ l → o ≡ masksMerged sh (subsetsOf (length sh) flat) depth src depth ++ drop (depth * cells) d
     masks-end h = let e : l ≡ depth = omega (arith, c .within) in c .done ∙ ap (λ (k : ℕ). masksMerged sh (subsetsOf (length sh) flat) depth src k ++ drop (k * cells) d) e
 

@@ -41,9 +41,6 @@ lent c = c .before .before .before
 abbrev known : tie.After-mark-subset Inv-loop μ-loop → Known
 known m = lent (m .before .before)
 
-no-marks-requires : tie.Need-no-marks-requires Inv-loop μ-loop
-no-marks-requires c κs = search needs
-
 volume-of-requires : tie.Need-volume-of-requires Inv-loop μ-loop
 volume-of-requires c κs = let a = entry c in few-shape (a .args .shape .now) (a .pre .shaped .sides) (a .pre .shaped .few-cells)
 
@@ -62,30 +59,6 @@ returns c = let k = c .before in sym (cover-beyond (start (head k) .pre) (head k
 slice-aggregate-mark-subset : tie.Need-slice-aggregate-mark-subset Inv-loop μ-loop
 slice-aggregate-mark-subset c = sym (head (c .before .before) .loop .inv .1)
 
-mul-mark-subset : tie.Need-mul-mark-subset Inv-loop μ-loop
-mul-mark-subset c = omega arith
-
-sub-mark-subset : tie.Need-sub-mark-subset Inv-loop μ-loop
-sub-mark-subset c = omega arith
-
-part-mark-subset-start : tie.Need-part-mark-subset-start Inv-loop μ-loop
-part-mark-subset-start c = omega arith
-
-part-mark-subset-end : tie.Need-part-mark-subset-end Inv-loop μ-loop
-part-mark-subset-end c = omega arith
-
-mul-mark-subset-2 : tie.Need-mul-mark-subset-2 Inv-loop μ-loop
-mul-mark-subset-2 c = omega arith
-
-sub-mark-subset-2 : tie.Need-sub-mark-subset-2 Inv-loop μ-loop
-sub-mark-subset-2 c = omega arith
-
-part-mark-subset-start-2 : tie.Need-part-mark-subset-start-2 Inv-loop μ-loop
-part-mark-subset-start-2 c = omega arith
-
-part-mark-subset-end-2 : tie.Need-part-mark-subset-end-2 Inv-loop μ-loop
-part-mark-subset-end-2 c = omega arith
-
 mark-subset-requires : tie.Need-mark-subset-requires Inv-loop μ-loop
 mark-subset-requires c κs = let k = lent (c .before) in (k .subset-at .ensures .asked, head k .loop .inv .1)
 
@@ -95,9 +68,6 @@ returns-2 c =
     let k = known m in
     sym (cover-over (start (head k) .pre) (head k .loop .inv .0) (k .subset-at .ensures)
     (marksOf (m .mark-subset .last .0)) (m .mark-subset .ensures) (not-true (m .mark-subset .result) (c .if2 .taken)))
-
-loop-less : tie.Need-loop-less Inv-loop μ-loop
-loop-less c = omega arith
 
 loop-again : tie.Need-loop-again Inv-loop μ-loop
 loop-again c =
@@ -118,22 +88,22 @@ covers-spec =
     (tie.spec
     Inv-loop
     μ-loop
-    no-marks-requires
+    (λ c κs. search needs)
     volume-of-requires
     loop-holds
     subset-at-requires
     returns
     slice-aggregate-mark-subset
-    mul-mark-subset
-    sub-mark-subset
-    part-mark-subset-start
-    part-mark-subset-end
-    mul-mark-subset-2
-    sub-mark-subset-2
-    part-mark-subset-start-2
-    part-mark-subset-end-2
+    (λ c. omega arith)
+    (λ c. omega arith)
+    (λ c. omega arith)
+    (λ c. omega arith)
+    (λ c. omega arith)
+    (λ c. omega arith)
+    (λ c. omega arith)
+    (λ c. omega arith)
     mark-subset-requires
     returns-2
-    loop-less
+    (λ c. omega arith)
     loop-again
     returns-3)

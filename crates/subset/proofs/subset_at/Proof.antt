@@ -10,21 +10,6 @@ use Rattle.subset.proofs.subset_at.Tie as tie
 abbrev entry : tie.After-shared-slice-known2 → tie.Start
 entry c = c .before .before
 
-add-mid : tie.Need-add-mid
-add-mid c = search needs
-
-add-end : tie.Need-add-end
-add-end c = search needs
-
-mul-volume-of : tie.Need-mul-volume-of
-mul-volume-of c = search needs
-
-sub-volume-of : tie.Need-sub-volume-of
-sub-volume-of c = search needs
-
-part-volume-of-start : tie.Need-part-volume-of-start
-part-volume-of-start c = search needs
-
 part-volume-of-end : tie.Need-part-volume-of-end
 part-volume-of-end c = let a = entry c in omega (arith, subset-room (a .args .subsets .now) (a .args .at) (a .pre .0) (a .pre .1))
 
@@ -40,11 +25,11 @@ pub subset-at-spec : {M : Type 1} → statement M
 subset-at-spec =
     tie.close
     (tie.spec
-    add-mid
-    add-end
-    mul-volume-of
-    sub-volume-of
-    part-volume-of-start
+    (λ c. search needs)
+    (λ c. search needs)
+    (λ c. search needs)
+    (λ c. search needs)
+    (λ c. search needs)
     part-volume-of-end
     volume-of-requires
     returns)

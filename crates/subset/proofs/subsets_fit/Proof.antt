@@ -33,12 +33,6 @@ numbers l = start l .args .numbers .now
 room : (l : Head) → l .loop .at < length (numbers l) → l .loop .at + length (shape l) + length (shape l) ≤ length (numbers l)
 room l h = fitting-room (shape l) (numbers l) (l .loop .inv) (start l .pre) h
 
-mul-if1 : tie.Need-mul-if1 Inv-loop μ-loop
-mul-if1 c = omega arith
-
-rem-if1 : tie.Need-rem-if1 Inv-loop μ-loop
-rem-if1 c = omega arith
-
 returns : tie.Need-returns Inv-loop μ-loop
 returns c = let a = c .before .before .before .args in sym (many-miscounted (a .shape .now) (a .numbers .now) (c .if1 .taken))
 
@@ -111,8 +105,8 @@ subsets-fit-spec =
     (tie.spec
     Inv-loop
     μ-loop
-    mul-if1
-    rem-if1
+    (λ c. omega arith)
+    (λ c. omega arith)
     returns
     loop-holds
     add-mid

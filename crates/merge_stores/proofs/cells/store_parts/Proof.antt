@@ -52,30 +52,6 @@ mul-first c = omega (arith, lead c)
 add-first : tie.Need-add-first Inv-loop μ-loop
 add-first c = omega (arith, lead c)
 
-mul-store-subset : tie.Need-mul-store-subset Inv-loop μ-loop
-mul-store-subset c = omega arith
-
-sub-store-subset : tie.Need-sub-store-subset Inv-loop μ-loop
-sub-store-subset c = omega arith
-
-part-store-subset-start : tie.Need-part-store-subset-start Inv-loop μ-loop
-part-store-subset-start c = omega arith
-
-part-store-subset-end : tie.Need-part-store-subset-end Inv-loop μ-loop
-part-store-subset-end c = omega arith
-
-mul-store-subset-2 : tie.Need-mul-store-subset-2 Inv-loop μ-loop
-mul-store-subset-2 c = omega arith
-
-sub-store-subset-2 : tie.Need-sub-store-subset-2 Inv-loop μ-loop
-sub-store-subset-2 c = omega arith
-
-part-store-subset-start-2 : tie.Need-part-store-subset-start-2 Inv-loop μ-loop
-part-store-subset-start-2 c = omega arith
-
-part-store-subset-end-2 : tie.Need-part-store-subset-end-2 Inv-loop μ-loop
-part-store-subset-end-2 c = omega arith
-
 store-subset-requires : tie.Need-store-subset-requires Inv-loop μ-loop
 store-subset-requires c κs =
     let k = c .before .before .before in
@@ -86,9 +62,6 @@ mul-pos c = omega (arith, whole (known (c .before .before)))
 
 add-pos : tie.Need-add-pos Inv-loop μ-loop
 add-pos c = omega (arith, whole (known (c .before .before)))
-
-loop-less : tie.Need-loop-less Inv-loop μ-loop
-loop-less c = omega arith
 
 loop-again : tie.Need-loop-again Inv-loop μ-loop
 loop-again c =
@@ -112,18 +85,18 @@ store-parts-spec =
     subset-at-requires
     mul-first
     add-first
-    mul-store-subset
-    sub-store-subset
-    part-store-subset-start
-    part-store-subset-end
-    mul-store-subset-2
-    sub-store-subset-2
-    part-store-subset-start-2
-    part-store-subset-end-2
+    (λ c. omega arith)
+    (λ c. omega arith)
+    (λ c. omega arith)
+    (λ c. omega arith)
+    (λ c. omega arith)
+    (λ c. omega arith)
+    (λ c. omega arith)
+    (λ c. omega arith)
     store-subset-requires
     mul-pos
     add-pos
-    loop-less
+    (λ c. omega arith)
     loop-again
     same-length
     returns)

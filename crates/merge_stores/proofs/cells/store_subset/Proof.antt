@@ -69,9 +69,6 @@ short a = (omega arith, omega arith)
 sub-last : tie.Need-sub-last Inv-loop μ-loop
 sub-last c = omega (arith, asked-lengths (entry (c .before) .pre .0))
 
-mul-n : tie.Need-mul-n Inv-loop μ-loop
-mul-n c = omega arith
-
 shared-slice-read-n : tie.Need-shared-slice-read-n Inv-loop μ-loop
 shared-slice-read-n c = omega (arith, asked-lengths (entry (c .before .before) .pre .0))
 
@@ -130,7 +127,7 @@ store-subset-spec =
     Inv-loop
     μ-loop
     sub-last
-    mul-n
+    (λ c. omega arith)
     shared-slice-read-n
     loop-holds
     cell-at-requires

@@ -43,30 +43,6 @@ loop-holds c = lengths-begin (entry c .pre)
 subset-at-requires : tie.Need-subset-at-requires Inv-loop μ-loop
 subset-at-requires c κs = (c .before .loop .inv .list .geo, c .loop-test .taken)
 
-mul-store-lengths : tie.Need-mul-store-lengths Inv-loop μ-loop
-mul-store-lengths c = omega arith
-
-sub-store-lengths : tie.Need-sub-store-lengths Inv-loop μ-loop
-sub-store-lengths c = omega arith
-
-part-store-lengths-start : tie.Need-part-store-lengths-start Inv-loop μ-loop
-part-store-lengths-start c = omega arith
-
-part-store-lengths-end : tie.Need-part-store-lengths-end Inv-loop μ-loop
-part-store-lengths-end c = omega arith
-
-mul-store-lengths-2 : tie.Need-mul-store-lengths-2 Inv-loop μ-loop
-mul-store-lengths-2 c = omega arith
-
-sub-store-lengths-2 : tie.Need-sub-store-lengths-2 Inv-loop μ-loop
-sub-store-lengths-2 c = omega arith
-
-part-store-lengths-start-2 : tie.Need-part-store-lengths-start-2 Inv-loop μ-loop
-part-store-lengths-start-2 c = omega arith
-
-part-store-lengths-end-2 : tie.Need-part-store-lengths-end-2 Inv-loop μ-loop
-part-store-lengths-end-2 c = omega arith
-
 store-lengths-requires : tie.Need-store-lengths-requires Inv-loop μ-loop
 store-lengths-requires c κs =
     let k = c .before .before .before in
@@ -77,9 +53,6 @@ add-first c = omega (arith, indexed (known (c .before .before)))
 
 add-first-2 : tie.Need-add-first-2 Inv-loop μ-loop
 add-first-2 c = omega (arith, indexed (known (c .before .before)))
-
-loop-less : tie.Need-loop-less Inv-loop μ-loop
-loop-less c = omega arith
 
 loop-again : tie.Need-loop-again Inv-loop μ-loop
 loop-again c =
@@ -101,18 +74,18 @@ store-lengths-all-spec =
     μ-loop
     loop-holds
     subset-at-requires
-    mul-store-lengths
-    sub-store-lengths
-    part-store-lengths-start
-    part-store-lengths-end
-    mul-store-lengths-2
-    sub-store-lengths-2
-    part-store-lengths-start-2
-    part-store-lengths-end-2
+    (λ c. omega arith)
+    (λ c. omega arith)
+    (λ c. omega arith)
+    (λ c. omega arith)
+    (λ c. omega arith)
+    (λ c. omega arith)
+    (λ c. omega arith)
+    (λ c. omega arith)
     store-lengths-requires
     add-first
     add-first-2
-    loop-less
+    (λ c. omega arith)
     loop-again
     same-length
     returns)

@@ -1,6 +1,6 @@
 -- `store_ragged` meets its contract: the rows before `at` are stored (proofs/RaggedRows over proofs/RowsStored).
 -- Assumes nothing.
-use Prim.Native.Nat.{ℕ, _+_, _-_, _*_, _<_, _≤_}
+use Prim.Native.Nat.{_+_, _-_, _*_, _<_, _≤_}
 use native.Mathlib.Omega.{arith}
 use lib.ListN.{length, drop}
 use Rattle.array.specs.Limits.{mostCells}
@@ -73,9 +73,6 @@ copied b = found (b .before)
 sub-last : tie.Need-sub-last Inv-loop μ-loop
 sub-last c = omega (arith, asked-lengths (entered c .pre .0))
 
-mul-n : tie.Need-mul-n Inv-loop μ-loop
-mul-n c = omega arith
-
 shared-slice-read-n : tie.Need-shared-slice-read-n Inv-loop μ-loop
 shared-slice-read-n c = omega (arith, asked-lengths (entered (c .before) .pre .0))
 
@@ -147,7 +144,7 @@ store-ragged-spec =
     Inv-loop
     μ-loop
     sub-last
-    mul-n
+    (λ c. omega arith)
     shared-slice-read-n
     loop-holds
     cell-at-requires

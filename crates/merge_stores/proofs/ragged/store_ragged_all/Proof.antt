@@ -53,30 +53,6 @@ loop-holds c = raggeds-begin (entry (c .before .before) .pre)
 subset-at-requires : tie.Need-subset-at-requires Inv-loop μ-loop
 subset-at-requires c κs = (c .before .loop .inv .list .geo, c .loop-test .taken)
 
-mul-store-ragged : tie.Need-mul-store-ragged Inv-loop μ-loop
-mul-store-ragged c = omega arith
-
-sub-store-ragged : tie.Need-sub-store-ragged Inv-loop μ-loop
-sub-store-ragged c = omega arith
-
-part-store-ragged-start : tie.Need-part-store-ragged-start Inv-loop μ-loop
-part-store-ragged-start c = omega arith
-
-part-store-ragged-end : tie.Need-part-store-ragged-end Inv-loop μ-loop
-part-store-ragged-end c = omega arith
-
-mul-store-ragged-2 : tie.Need-mul-store-ragged-2 Inv-loop μ-loop
-mul-store-ragged-2 c = omega arith
-
-sub-store-ragged-2 : tie.Need-sub-store-ragged-2 Inv-loop μ-loop
-sub-store-ragged-2 c = omega arith
-
-part-store-ragged-start-2 : tie.Need-part-store-ragged-start-2 Inv-loop μ-loop
-part-store-ragged-start-2 c = omega arith
-
-part-store-ragged-end-2 : tie.Need-part-store-ragged-end-2 Inv-loop μ-loop
-part-store-ragged-end-2 c = omega arith
-
 store-ragged-requires : tie.Need-store-ragged-requires Inv-loop μ-loop
 store-ragged-requires c κs =
     let k = c .before .before .before in
@@ -99,9 +75,6 @@ add-base c =
 add-first : tie.Need-add-first Inv-loop μ-loop
 add-first c = omega (arith, indexed (known (c .before .before .before)))
 
-loop-less : tie.Need-loop-less Inv-loop μ-loop
-loop-less c = omega arith
-
 loop-again : tie.Need-loop-again Inv-loop μ-loop
 loop-again c =
     let s = c .before .before .before in
@@ -122,21 +95,21 @@ store-ragged-all-spec =
     μ-loop
     loop-holds
     subset-at-requires
-    mul-store-ragged
-    sub-store-ragged
-    part-store-ragged-start
-    part-store-ragged-end
-    mul-store-ragged-2
-    sub-store-ragged-2
-    part-store-ragged-start-2
-    part-store-ragged-end-2
+    (λ c. omega arith)
+    (λ c. omega arith)
+    (λ c. omega arith)
+    (λ c. omega arith)
+    (λ c. omega arith)
+    (λ c. omega arith)
+    (λ c. omega arith)
+    (λ c. omega arith)
     store-ragged-requires
     add-last
     mul-base
     shared-slice-read-base
     add-base
     add-first
-    loop-less
+    (λ c. omega arith)
     loop-again
     same-length
     returns)
