@@ -1,5 +1,5 @@
--- Redundant by the law within-numbers in array/proofs/SubsetLists.antt and the law few-shape in subset/proofs/Index.antt: what a walk over a
--- subset's rows asks of its starts and lengths.
+-- Redundant by the law within-numbers in array/proofs/SubsetLists.antt: what a walk over a subset's rows asks of its numbers.
+-- That their products are small: few-shape in subset/proofs/Index.antt.
 -- Assumes nothing.
 use mathlib.Core.Path.{_≡_}
 use Prim.Native.Nat.{ℕ, _≤_}
