@@ -99,7 +99,7 @@ mul-len : tie.Need-mul-len Inv-loop μ-loop
 mul-len c = omega (arith, enough c, short (start c))
 
 copy-bytes-requires : tie.Need-copy-bytes-requires Inv-loop μ-loop
-copy-bytes-requires c κs = let k = c .before in (omega (arith, head k .loop .inv .long, room k), enough k)
+copy-bytes-requires c κs = let k = c .before in (omega (arith, head k .loop .inv .long, room k), omega (arith, enough k))
 
 add-at : tie.Need-add-at Inv-loop μ-loop
 add-at c = let k = c .before .before .before .before in omega (arith, next k .within, asked-few (start k .pre .0))
