@@ -1,15 +1,15 @@
 -- Subsets laid end to end as numbers: those that the definitions speak of, taken one after another.
 -- Assumes nothing.
-use mathlib.Core.Path.{_≡_, refl, sym, ap, ap₂, _∙_, subst}
-use Prim.Native.Nat.{ℕ, zero, suc, _+_, _-_, _*_, _/_, _%_, _≤_}
-use native.Mathlib.Nat.{mul-div-cancel, div-add-mod', sub-zero}
+use mathlib.Core.Path.{_≡_, refl, sym, ap, ap₂, _∙_}
+use Prim.Native.Nat.{ℕ, zero, suc, _+_, _-_, _*_, _/_, _%_, _<_, _≤_}
+use native.Mathlib.Nat.{mul-div-cancel, div-add-mod', mul-mod-left, zero-div, zero-mul, suc-mul, sub-zero}
 use native.Mathlib.Omega.{arith}
 use mathlib.Core.List.{List, [], _∷_, map}
 use lib.ListN.{length, take, drop, length-drop}
 use lib.Seq.{take-nil, take-all, length-take-le, drop-drop}
-use Rattle.array.specs.Lists.{pieces, All}
-use Rattle.array.specs.Subset.{Subset, pairs, subsetOf, subsetsOf, SubsetOk, FullOk, NumbersOk, ManyOk}
-use Rattle.array.specs.Rows.{Within, nextSubsets}
+use Rattle.array.specs.Lists.{pieces}
+use Rattle.array.specs.Subset.{Subset, pairs, subsetOf, subsetsOf, SubsetOk, NumbersOk}
+use Rattle.array.specs.Rows.{Within}
 
 take-front : (d e : ℕ) (xs : List ℕ) → take d (take (d + e) xs) ≡ take d xs
 take-front zero e xs = refl
@@ -23,31 +23,41 @@ drop-front zero e xs = let q : 0 + e ≡ e = omega arith in ap (λ (k : ℕ). ta
 drop-front (suc d) e [] = let q : suc d + e ≡ suc (d + e) = omega arith in ap (λ (k : ℕ). drop (suc d) (take k [])) q ∙ sym (take-nil e)
 drop-front (suc d) e (x ∷ xs) = let q : suc d + e ≡ suc (d + e) = omega arith in ap (λ (k : ℕ). drop (suc d) (take k (x ∷ xs))) q ∙ drop-front d e xs
 
-pieces-next : (d k : ℕ) (flat : List ℕ) → map (subsetOf d) (pieces (d + d) k flat) ≡ nextSubsets d k flat
-pieces-next d zero flat = refl
-pieces-next d (suc k) flat =
-    ap₂ (λ (b : Subset) (bs : List Subset). b ∷ bs) (ap₂ pairs (take-front d d flat) (drop-front d d flat)) (pieces-next d k (drop (d + d) flat))
+-- no numbers are no subsets
+pub subsets-none : (d : ℕ) → subsetsOf d [] ≡ []
+subsets-none d = ap (λ (k : ℕ). map (subsetOf d) (pieces (2 * d) k [])) (zero-div (2 * d))
 
--- the subsets of a flat list are the next k of it
-pub subsets-are : (d k : ℕ) (flat : List ℕ) → 1 ≤ d → length flat ≡ k * (d + d) → subsetsOf d flat ≡ nextSubsets d k flat
-subsets-are d k flat h e =
-    let q : 2 * d ≡ d + d = omega arith in
-    let c : length flat / (2 * d) ≡ k = ap₂ (λ (x y : ℕ). x / y) e q ∙ mul-div-cancel k (omega arith) in
-    ap₂ (λ (w n : ℕ). map (subsetOf d) (pieces w n flat)) q c ∙ pieces-next d k flat
+-- numbers that are at least one subset: the first, and the others
+module _ (d : ℕ) (h : 1 ≤ d) (ns : List ℕ) (w : length ns % (2 * d) ≡ 0) (s : 1 ≤ length ns) where
+  abbrev others : ℕ
+  others = length ns / (2 * d) - 1
 
--- as many as fill it
-pub subsets-long : (d : ℕ) (flat : List ℕ) → length flat % (2 * d) ≡ 0 → length flat ≡ length flat / (2 * d) * (d + d)
-subsets-long d flat e =
-    let k : ℕ = length flat / (2 * d) in
-    let q : 2 * d ≡ d + d = omega arith in
-    sym (div-add-mod' (length flat) (2 * d)) ∙ ap (λ (r : ℕ). k * (2 * d) + r) e ∙ omega (arith, ap (λ (x : ℕ). k * x) q)
+  whole : length ns / (2 * d) * (2 * d) ≡ length ns
+  whole = omega (arith, div-add-mod' (length ns) (2 * d))
 
--- so the rule for a list of subsets is one for the next of it
-pub many-next : (sh ns : List ℕ) → 1 ≤ length sh → ManyOk sh ns → All (FullOk sh) (nextSubsets (length sh) (length ns / (2 * length sh)) ns)
-many-next sh ns h p =
-    subst (All (FullOk sh)) (subsets-are (length sh) (length ns / (2 * length sh)) ns h (subsets-long (length sh) ns (p .counted))) (p .each)
+  one-more : length ns / (2 * d) ≡ suc others
+  one-more = go (length ns / (2 * d)) whole
+    where
+      go : (k : ℕ) → k * (2 * d) ≡ length ns → k ≡ suc (k - 1)
+      go zero e = absurd (omega (arith, zero-mul (2 * d)))
+      go (suc k) e = omega arith
 
--- the first of them, as the parts [at, at + d) and [at + d, at + d + d) that a call is lent, and the others
+  long : length ns ≡ others * (2 * d) + 2 * d
+  long = sym whole ∙ ap (λ (k : ℕ). k * (2 * d)) one-more ∙ suc-mul others (2 * d)
+
+  others-long : length (drop (2 * d) ns) ≡ others * (2 * d)
+  others-long = omega (arith, long, length-drop (2 * d) ns)
+
+  others-whole : length (drop (2 * d) ns) % (2 * d) ≡ 0
+  others-whole = ap (λ (k : ℕ). k % (2 * d)) others-long ∙ mul-mod-left others (2 * d)
+
+  first-of : subsetsOf d ns ≡ subsetOf d (take (2 * d) ns) ∷ subsetsOf d (drop (2 * d) ns)
+  first-of =
+      ap (λ (k : ℕ). map (subsetOf d) (pieces (2 * d) k ns)) one-more
+      ∙ ap (λ (k : ℕ). subsetOf d (take (2 * d) ns) ∷ map (subsetOf d) (pieces (2 * d) k (drop (2 * d) ns)))
+      (sym (ap (λ (k : ℕ). k / (2 * d)) others-long ∙ mul-div-cancel others (omega arith)))
+
+-- of the numbers from `at` on the first are the parts [at, at + d) and [at + d, at + d + d) that a call is lent
 module _ (d at : ℕ) (flat : List ℕ) where
   abbrev pub startsAt : List ℕ
   startsAt = take (at + d - at) (drop at flat)
@@ -55,14 +65,17 @@ module _ (d at : ℕ) (flat : List ℕ) where
   abbrev pub lengthsAt : List ℕ
   lengthsAt = take (at + d + d - (at + d)) (drop (at + d) flat)
 
-  pub subsets-next : (k : ℕ) → nextSubsets d (suc k) (drop at flat) ≡ pairs startsAt lengthsAt ∷ nextSubsets d k (drop (at + d + d) flat)
-  subsets-next k =
+  first-parts : subsetOf d (take (2 * d) (drop at flat)) ≡ pairs startsAt lengthsAt
+  first-parts =
       let e₁ : at + d - at ≡ d = omega arith in
       let e₂ : at + d + d - (at + d) ≡ d = omega arith in
-      let e₃ : at + (d + d) ≡ at + d + d = omega arith in
-      ap₂ (λ (b : Subset) (r : List ℕ). b ∷ nextSubsets d k r)
-      (ap₂ pairs (ap (λ (j : ℕ). take j (drop at flat)) (sym e₁)) (ap₂ (λ (j : ℕ) (r : List ℕ). take j r) (sym e₂) (drop-drop d at flat)))
-      (drop-drop (d + d) at flat ∙ ap (λ (j : ℕ). drop j flat) e₃)
+      let e₃ : 2 * d ≡ d + d = omega arith in
+      ap (λ (k : ℕ). subsetOf d (take k (drop at flat))) e₃
+      ∙ ap₂ pairs (take-front d d (drop at flat) ∙ ap (λ (j : ℕ). take j (drop at flat)) (sym e₁))
+      (drop-front d d (drop at flat) ∙ ap₂ (λ (j : ℕ) (r : List ℕ). take j r) (sym e₂) (drop-drop d at flat))
+
+  behind : drop (2 * d) (drop at flat) ≡ drop (at + d + d) flat
+  behind = let e : at + 2 * d ≡ at + d + d = omega arith in drop-drop (2 * d) at flat ∙ ap (λ (k : ℕ). drop k flat) e
 
   module _ (h : at + d + d ≤ length flat) where
     pub length-starts : length startsAt ≡ d
@@ -70,6 +83,21 @@ module _ (d at : ℕ) (flat : List ℕ) where
 
     pub length-lengths-at : length lengthsAt ≡ d
     length-lengths-at = length-take-le (at + d + d - (at + d)) (drop (at + d) flat) (omega (arith, length-drop (at + d) flat)) ∙ omega arith
+
+  module _ (h : 1 ≤ d) (w : length (drop at flat) % (2 * d) ≡ 0) (s : at < length flat) where
+    some : 1 ≤ length (drop at flat)
+    some = omega (arith, length-drop at flat)
+
+    pub next-room : at + d + d ≤ length flat
+    next-room = omega (arith, long d h (drop at flat) w some, length-drop at flat)
+
+    pub next-whole : length (drop (at + d + d) flat) % (2 * d) ≡ 0
+    next-whole = ap (λ (r : List ℕ). length r % (2 * d)) (sym behind) ∙ others-whole d h (drop at flat) w some
+
+    pub next-subset : subsetsOf d (drop at flat) ≡ pairs startsAt lengthsAt ∷ subsetsOf d (drop (at + d + d) flat)
+    next-subset =
+        first-of d h (drop at flat) w some
+        ∙ ap₂ (λ (b : Subset) (r : List ℕ). b ∷ subsetsOf d r) first-parts behind
 
 -- so it lies within the shape, as the walks over its rows ask
 pub within-at : (sh flat : List ℕ) (at : ℕ) → at + length sh + length sh ≤ length flat

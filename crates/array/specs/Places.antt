@@ -1,6 +1,6 @@
--- Redundant by the law value-is in array/proofs/Places.antt and the laws cut-masks and cut-values in extract/proofs/Cutting.antt:
--- where the bytes of a cell lie in an array. Cell j lies from off j up to off (j + 1): the bytes of a mask plane and fixed values at
--- equal steps, ragged values between their offsets.
+-- Redundant by the law value-is in array/proofs/Places.antt: where the bytes of a cell lie in an array.
+-- Cell j lies from off j up to off (j + 1): the bytes of a mask plane and fixed values at equal steps, ragged values between their
+-- offsets. So do those of a cut: cut-masks and cut-values in extract/proofs/Cutting.antt.
 -- Assumes nothing.
 use Prim.Native.Nat.{ℕ, zero, suc, _+_, _-_, _*_, _≤_, _<_}
 use mathlib.Core.List.{List, [], _∷_, _++_, map}

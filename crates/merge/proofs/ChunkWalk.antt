@@ -2,7 +2,7 @@
 -- Assumes nothing.
 use mathlib.Core.Path.{_≡_, refl, sym, ap, ap₂, _∙_}
 use mathlib.Core.Logic.{_≢_}
-use Prim.Native.Nat.{ℕ, _+_, _-_, _*_, _<_, _≤_}
+use Prim.Native.Nat.{ℕ, _+_, _-_, _*_, _≤_}
 use native.Mathlib.Omega.{arith}
 use mathlib.Core.Bool.{Bool, true, false, _&&_}
 use mathlib.Core.List.{List}
@@ -13,14 +13,12 @@ use borrow.Author.Tests.{eq-eqb, ne-eqb, eqb-true, eqb-false}
 use Rattle.array.specs.Answer.{refuses}
 use Rattle.array.specs.Content.{Content, arrayTest}
 use Rattle.array.specs.Kind.{Kind}
-use Rattle.array.specs.Rows.{nextSubsets}
-use Rattle.array.specs.Shape.{volume}
-use Rattle.array.specs.Subset.{Subset}
+use Rattle.array.specs.Subset.{Subset, subsetsOf}
 use Rattle.array.proofs.LayoutLaws.{content-path}
-use Rattle.array.proofs.SubsetLists.{lengthsAt}
+use Rattle.subset.specs.Subsets.{SubsetsOk, SubsetAt}
+use Rattle.subset.proofs.Rows.{asked-volume}
+use Rattle.subset.proofs.Subsets.{none-left}
 use Rattle.chunks.specs.Chunks.{firstChunk, laterChunks}
-use Rattle.merge_cover.specs.Asked.{SubsetsOk}
-use Rattle.merge_cover.proofs.SubsetWalk.{SubsetsLeft, rest, rest-begins, rest-ends, subsets-begin, subsets-more, subset-now, now-lengths}
 use Rattle.merge.specs.Chunks.{takes, chunkAnswer, chunksTest}
 use Rattle.merge.proofs.OneChunk.{Fitting, chunk-fits, chunk-bad}
 
@@ -41,35 +39,30 @@ rest-part o os = take-all (length os - o) (drop o os) (omega (arith, length-drop
 pub lent-left : (c : Content) (p v o : ℕ) → lent c p v o ≡ left c p v o
 lent-left c p v o = content-path (rest-part p (c .masks)) (rest-part v (c .values)) (rest-part o (c .offsets))
 
-pub record Walked (k : Kind) (sh flat : List ℕ) (count : ℕ) (c : Content) (i at p v o : ℕ) : Type 0 where
-  pub geo : SubsetsLeft sh flat count i at
+-- the chunks before `at` keep the rules; the masks, values and offsets of the others begin at p, v and o
+pub record Walked (k : Kind) (sh flat : List ℕ) (c : Content) (at p v o : ℕ) : Type 0 where
+  pub geo : SubsetsOk sh (drop at flat)
   pub masks : p ≤ length (c .masks)
   pub values : v ≤ length (c .values)
   pub offsets : o ≤ length (c .offsets)
-  pub same : chunksTest k (nextSubsets (length sh) count flat) c ≡ chunksTest k (rest sh flat count i at) (left c p v o)
+  pub same : chunksTest k (subsetsOf (length sh) flat) c ≡ chunksTest k (subsetsOf (length sh) (drop at flat)) (left c p v o)
 
-pub walked-begins : (k : Kind) {sh flat : List ℕ} {count : ℕ} (c : Content) → SubsetsOk sh flat count → Walked k sh flat count c 0 0 0 0 0
-walked-begins k {sh} {flat} {count} c q = record {
-  geo = subsets-begin sh flat count q;
-  masks = omega arith;
-  values = omega arith;
-  offsets = omega arith;
-  same = ap (λ (bs : List Subset). chunksTest k bs c) (rest-begins sh flat count);
-}
+pub walked-begins : (k : Kind) {sh flat : List ℕ} (c : Content) → SubsetsOk sh flat → Walked k sh flat c 0 0 0 0
+walked-begins k c q = record { geo = q; masks = omega arith; values = omega arith; offsets = omega arith; same = refl }
 
-module _ {k : Kind} {sh flat : List ℕ} {count : ℕ} {c : Content} {i at p v o : ℕ} (w : Walked k sh flat count c i at p v o) where
+module _ {k : Kind} {sh flat : List ℕ} {c : Content} {at p v o : ℕ} (w : Walked k sh flat c at p v o) where
   abbrev whole : Bool
-  whole = chunksTest k (nextSubsets (length sh) count flat) c
+  whole = chunksTest k (subsetsOf (length sh) flat) c
 
   abbrev here : Content
   here = left c p v o
 
   -- ---- all chunks are done
 
-  module _ (h : count ≤ i) where
+  module _ (h : length flat ≤ at) where
     done : {x y z : Bool} → eqb (length (here .masks)) 0 ≡ x → eqb (length (here .values)) 0 ≡ y → eqb (length (here .offsets)) 0 ≡ z → whole ≡ x && y && z
     done e₁ e₂ e₃ =
-        w .same ∙ ap (λ (bs : List Subset). chunksTest k bs here) (rest-ends sh flat count i at h)
+        w .same ∙ ap (λ (bs : List Subset). chunksTest k bs here) (none-left (length sh) flat h)
         ∙ ap₂ (λ (a b : Bool). a && b) (ap₂ (λ (a b : Bool). a && b) e₁ e₂) e₃
 
     none : {n : ℕ} (xs : List ℕ) → n ≡ length xs → eqb (length (drop n xs)) 0 ≡ true
@@ -94,14 +87,14 @@ module _ {k : Kind} {sh flat : List ℕ} {count : ℕ} {c : Content} {i at p v o
 
   -- ---- the first of the chunks that are left
 
-  module _ (h : i < count) {m : ℕ} (e : m ≡ volume (lengthsAt (length sh) at flat)) where
+  module _ {mid end m : ℕ} (s : SubsetAt sh flat at mid end m) where
     abbrev later : List Subset
-    later = rest sh flat count (i + 1) (at + length sh + length sh)
+    later = subsetsOf (length sh) (drop end flat)
 
     turn : {t : Bool} → arrayTest k m (firstChunk k m here) ≡ t → whole ≡ t && chunksTest k later (laterChunks k m here)
     turn et =
-        w .same ∙ ap (λ (bs : List Subset). chunksTest k bs here) (subset-now sh flat count (w .geo) h)
-        ∙ ap (λ (n : ℕ). arrayTest k n (firstChunk k n here) && chunksTest k later (laterChunks k n here)) (ap volume (now-lengths sh flat count (w .geo) h) ∙ sym e)
+        w .same ∙ ap (λ (bs : List Subset). chunksTest k bs here) (s .next)
+        ∙ ap (λ (n : ℕ). arrayTest k n (firstChunk k n here) && chunksTest k later (laterChunks k n here)) (asked-volume (s .asked))
         ∙ ap (λ (x : Bool). x && chunksTest k later (laterChunks k m here)) et
 
     pub walked-bad : refuses 4 ≡ chunkAnswer k m (lent c p v o) → false ≡ whole
@@ -113,14 +106,14 @@ module _ {k : Kind} {sh flat : List ℕ} {count : ℕ} {c : Content} {i at p v o
 
       next : laterChunks k m here ≡ left c (p + k .depth * m) (v + taken) (o + numbers)
       next =
-          let s = fitting .size in
+          let z = fitting .size in
           content-path (drop-drop (k .depth * m) p (c .masks))
-          (ap (λ (n : ℕ). drop n (drop v (c .values))) (sym (s .is-taken)) ∙ drop-drop taken v (c .values))
-          (ap (λ (n : ℕ). drop n (drop o (c .offsets))) (sym (s .is-numbers)) ∙ drop-drop numbers o (c .offsets))
+          (ap (λ (n : ℕ). drop n (drop v (c .values))) (sym (z .is-taken)) ∙ drop-drop taken v (c .values))
+          (ap (λ (n : ℕ). drop n (drop o (c .offsets))) (sym (z .is-numbers)) ∙ drop-drop numbers o (c .offsets))
 
-      pub walked-more : Walked k sh flat count c (i + 1) (at + length sh + length sh) (p + k .depth * m) (v + taken) (o + numbers)
+      pub walked-more : Walked k sh flat c end (p + k .depth * m) (v + taken) (o + numbers)
       walked-more = record {
-        geo = subsets-more sh flat count (w .geo) h;
+        geo = s .rest;
         masks = omega (arith, fitting .held .masks, length-drop p (c .masks), w .masks);
         values = omega (arith, fitting .held .values, fitting .size .is-taken, length-drop v (c .values), w .values);
         offsets = omega (arith, fitting .held .offsets, fitting .size .is-numbers, length-drop o (c .offsets), w .offsets);

@@ -1,7 +1,7 @@
 -- The checks of a merge: one law for each answer, and what is known where they pass.
 -- Assumes nothing.
-use mathlib.Core.Path.{_≡_, refl, sym, ap, _∙_, subst}
-use Prim.Native.Nat.{ℕ, _*_, _/_, _<_, _≤_}
+use mathlib.Core.Path.{_≡_, refl, sym, _∙_}
+use Prim.Native.Nat.{ℕ, _<_, _≤_}
 use mathlib.Core.Bool.{Bool, true, false}
 use mathlib.Core.List.{List}
 use lib.ListN.{length}
@@ -10,39 +10,27 @@ use Rattle.array.specs.Limits.{mostBytes}
 use Rattle.array.specs.Answer.{Answer, gives, refuses, unless}
 use Rattle.array.specs.Kind.{Kind, kindTest}
 use Rattle.array.specs.Shape.{volume, shapeTest}
-use Rattle.array.specs.Subset.{Subset, subsetsOf, manyTest}
-use Rattle.array.specs.Rows.{nextSubsets}
+use Rattle.array.specs.Subset.{subsetsOf, manyTest}
 use Rattle.array.specs.Content.{Content, sizeTest}
 use Rattle.array.proofs.Answers.{same-given}
 use Rattle.array.proofs.Answers as answers
 use Rattle.array.proofs.Rules.{kind-ok, shape-ok, many-ok, size-ok}
-use Rattle.array.proofs.SubsetLists.{subsets-are, subsets-long, many-next}
-use Rattle.merge_cover.specs.Asked.{SubsetsOk}
+use Rattle.subset.specs.Subsets.{SubsetsOk}
 use Rattle.merge.specs.Chunks.{chunksTest}
-use Rattle.merge.specs.Merge.{Sizes, checkAnswer, MergeChecked}
+use Rattle.merge.specs.Merge.{checkAnswer, MergeChecked}
 
 -- ---- the subsets, once they are tested
 
 module _ (sh ns : List ℕ) (q : shapeTest sh ≡ true) (r : manyTest sh ns ≡ true) where
-  pub tested-subsets : SubsetsOk sh ns (length ns / (2 * length sh))
-  tested-subsets = record {
-    shaped = shape-ok sh q;
-    counted = subsets-long (length sh) ns (many-ok sh ns r .counted);
-    each = many-next sh ns (shape-ok sh q .some-sides) (many-ok sh ns r);
-  }
-
-  pub subsets-same : subsetsOf (length sh) ns ≡ nextSubsets (length sh) (length ns / (2 * length sh)) ns
-  subsets-same = subsets-are (length sh) (length ns / (2 * length sh)) ns (shape-ok sh q .some-sides) (tested-subsets .counted)
+  pub tested-subsets : SubsetsOk sh ns
+  tested-subsets = record { shaped = shape-ok sh q; many = many-ok sh ns r }
 
 module _ (k : Kind) (sh ns : List ℕ) (c : Content) where
-  abbrev count : ℕ
-  count = length ns / (2 * length sh)
-
   abbrev kept : Bool
   kept = chunksTest k (subsetsOf (length sh) ns) c
 
-  abbrev given : Answer Sizes
-  given = gives (record { cells = volume sh; count = length ns / (2 * length sh) })
+  abbrev given : Answer ℕ
+  given = gives (volume sh)
 
   answered : {a b m : Bool} (t s : Bool) → kindTest k ≡ a → shapeTest sh ≡ b → manyTest sh ns ≡ m → kept ≡ t → sizeTest (length (c .values)) ≡ s
       → checkAnswer k sh ns c ≡ unless a 1 (unless b 2 (unless m 3 (unless t 4 (unless s 5 given))))
@@ -61,38 +49,31 @@ module _ (k : Kind) (sh ns : List ℕ) (c : Content) where
       no-subsets r = sym (answered kept (sizeTest (length (c .values))) p q r refl refl)
 
       module _ (r : manyTest sh ns ≡ true) where
-        is-kept : {t : Bool} → chunksTest k (nextSubsets (length sh) count ns) c ≡ t → kept ≡ t
-        is-kept u = ap (λ (bs : List Subset). chunksTest k bs c) (subsets-same sh ns q r) ∙ u
+        pub bad-chunks : chunksTest k (subsetsOf (length sh) ns) c ≡ false → refuses 4 ≡ checkAnswer k sh ns c
+        bad-chunks u = sym (answered false (sizeTest (length (c .values))) p q r u refl)
 
-        pub bad-chunks : chunksTest k (nextSubsets (length sh) count ns) c ≡ false → refuses 4 ≡ checkAnswer k sh ns c
-        bad-chunks u = sym (answered false (sizeTest (length (c .values))) p q r (is-kept u) refl)
-
-        module _ (u : chunksTest k (nextSubsets (length sh) count ns) c ≡ true) where
+        module _ (u : chunksTest k (subsetsOf (length sh) ns) c ≡ true) where
           pub too-many : mostBytes < length (c .values) → refuses 5 ≡ checkAnswer k sh ns c
-          too-many h = sym (answered true false p q r (is-kept u) (lt-leb (length (c .values)) mostBytes h))
+          too-many h = sym (answered true false p q r u (lt-leb (length (c .values)) mostBytes h))
 
           pub passes : length (c .values) ≤ mostBytes → given ≡ checkAnswer k sh ns c
-          passes h = sym (answered true true p q r (is-kept u) (le-leb (length (c .values)) mostBytes h))
+          passes h = sym (answered true true p q r u (le-leb (length (c .values)) mostBytes h))
 
   -- ---- what is known where they pass
 
-  pub passed : (z : Sizes) → gives z ≡ checkAnswer k sh ns c → MergeChecked k sh ns c z × (subsetsOf (length sh) ns ≡ nextSubsets (length sh) (z .count) ns)
-  passed z e =
+  pub passed : (n : ℕ) → gives n ≡ checkAnswer k sh ns c → MergeChecked k sh ns c n
+  passed n e =
       let all = sym (answered {a = kindTest k} {b = shapeTest sh} {m = manyTest sh ns} kept (sizeTest (length (c .values))) refl refl refl refl refl) in
-      let sized : Answer Sizes = unless (sizeTest (length (c .values))) 5 given in
+      let sized : Answer ℕ = unless (sizeTest (length (c .values))) 5 given in
       let a = answers.passed (kindTest k) 1 (unless (shapeTest sh) 2 (unless (manyTest sh ns) 3 (unless kept 4 sized))) (all ∙ sym e) in
       let b = answers.passed (shapeTest sh) 2 (unless (manyTest sh ns) 3 (unless kept 4 sized)) (a .1) in
       let m = answers.passed (manyTest sh ns) 3 (unless kept 4 sized) (b .1) in
       let t = answers.passed kept 4 sized (m .1) in
       let s = answers.passed (sizeTest (length (c .values))) 5 given (t .1) in
-      let same : subsetsOf (length sh) ns ≡ nextSubsets (length sh) count ns = subsets-same sh ns (b .0) (m .0) in
-      subst (λ (y : Sizes). MergeChecked k sh ns c y × (subsetsOf (length sh) ns ≡ nextSubsets (length sh) (y .count) ns)) (same-given (s .1)) (
-        record {
-          kind = kind-ok k (a .0);
-          subsets = tested-subsets sh ns (b .0) (m .0);
-          counted = refl;
-          kept = ap (λ (bs : List Subset). chunksTest k bs c) (sym same) ∙ t .0;
-          small = size-ok (length (c .values)) (s .0);
-        },
-        same,
-      )
+      record {
+        kind = kind-ok k (a .0);
+        subsets = tested-subsets sh ns (b .0) (m .0);
+        counted = sym (same-given (s .1));
+        kept = t .0;
+        small = size-ok (length (c .values)) (s .0);
+      }

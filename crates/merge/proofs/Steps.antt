@@ -1,7 +1,7 @@
 -- The call is its steps: the checks, and then 12, the outputs' test and the stores.
 -- Assumes nothing.
 use mathlib.Core.Path.{_≡_, refl, sym, ap, _∙_}
-use Prim.Native.Nat.{ℕ, _*_, _/_}
+use Prim.Native.Nat.{ℕ}
 use mathlib.Core.Bool.{Bool, true, false}
 use mathlib.Core.List.{List}
 use lib.ListN.{length}
@@ -10,7 +10,6 @@ use Rattle.array.specs.Lists.{joined}
 use Rattle.array.specs.Kind.{Kind, kindTest}
 use Rattle.array.specs.Shape.{volume, shapeTest}
 use Rattle.array.specs.Subset.{Subset, subsetsOf, manyTest, cellsOfAll}
-use Rattle.array.specs.Rows.{nextSubsets}
 use Rattle.array.specs.Cells.{Cell}
 use Rattle.array.specs.Content.{Content, leaves, sizeTest}
 use Rattle.array.specs.Buffers.{Lengths, lengthsOf, enoughTest, contentOutcome}
@@ -18,7 +17,7 @@ use Rattle.array.proofs.Answers.{then-unless}
 use Rattle.chunks.specs.Gather.{onceTest}
 use Rattle.chunks.specs.Chunks.{chunkCells, mergeOf}
 use Rattle.chunks.specs.Calls.{mergeAnswer, merged}
-use Rattle.merge.specs.Merge.{Sizes, checkAnswer, storeAnswer, coverAnswer, MergeChecked}
+use Rattle.merge.specs.Merge.{checkAnswer, storeAnswer, coverAnswer, MergeChecked}
 use Rattle.merge_stores.proofs.FirstChunk.{all-values}
 use Rattle.merge.specs.Chunks.{chunksTest}
 use Rattle.merge.proofs.Totals.{found, refused}
@@ -43,8 +42,8 @@ module _ (k : Kind) (sh ns : List ℕ) (c : Content) where
       bytes : List (Cell (k .depth)) → ℕ
       bytes cs = length (joined (leaves (k .depth) cs))
 
-      sized : Answer Sizes
-      sized = unless (sizeTest (length (c .values))) 5 (gives (record { cells = volume sh; count = length ns / (2 * length sh) }))
+      sized : Answer ℕ
+      sized = unless (sizeTest (length (c .values))) 5 (gives (volume sh))
 
       -- with the cells that the list has, or 4
       after : (t : Bool) → chunksTest k bs c ≡ t
@@ -56,7 +55,7 @@ module _ (k : Kind) (sh ns : List ℕ) (c : Content) where
           ap (λ (r : Answer (List (Cell (k .depth)))). andThen r (λ cs. unless (sizeTest (bytes cs)) 5 (covering (storing cs)))) (q .1 .are)
           ∙ ap (λ (n : ℕ). unless (sizeTest n) 5 (covering (storing (q .0)))) (ap length (all-values bs (q .1)))
           ∙ ap (λ (r : Answer (List (Cell (k .depth)))). unless (sizeTest (length (c .values))) 5 (covering (andThen r storing))) (sym (q .1 .are))
-          ∙ sym (then-unless (sizeTest (length (c .values))) 5 (record { cells = volume sh; count = length ns / (2 * length sh) }) (λ z. covering (andThen (chunkCells k bs c) storing)))
+          ∙ sym (then-unless (sizeTest (length (c .values))) 5 (volume sh) (λ z. covering (andThen (chunkCells k bs c) storing)))
 
       go : (a b m t : Bool) → chunksTest k bs c ≡ t
           → unless a 1 (unless b 2 (unless m 3 (andThen (chunkCells k bs c) (λ cs. unless (sizeTest (bytes cs)) 5 (covering (storing cs))))))
@@ -71,23 +70,22 @@ module _ (k : Kind) (sh ns : List ℕ) (c : Content) where
     unfolding merged
     whole = refl
 
-    by-steps : {t : Answer Sizes} → t ≡ checkAnswer k sh ns c
+    by-steps : {t : Answer ℕ} → t ≡ checkAnswer k sh ns c
         → merged k sh ns c old ≡ contentOutcome (andThen t (λ z. coverAnswer k sh bs c (lengthsOf old))) old
     by-steps e =
         whole ∙ ap (λ (a : Answer Content). contentOutcome a old)
-        (merge-steps (lengthsOf old) ∙ ap (λ (x : Answer Sizes). andThen x (λ z. coverAnswer k sh bs c (lengthsOf old))) (sym e))
+        (merge-steps (lengthsOf old) ∙ ap (λ (x : Answer ℕ). andThen x (λ z. coverAnswer k sh bs c (lengthsOf old))) (sym e))
 
     pub merge-refused : (e : ℕ) → refuses e ≡ checkAnswer k sh ns c
         → record { answer = refuses e; buffers = old } ≡ merged k sh ns c old
     merge-refused e p = sym (by-steps p)
 
-    module _ (z : Sizes) (p : gives z ≡ checkAnswer k sh ns c) where
-      pub merge-checked : MergeChecked k sh ns c z
-      merge-checked = passed k sh ns c z p .0
+    module _ (n : ℕ) (p : gives n ≡ checkAnswer k sh ns c) where
+      pub merge-checked : MergeChecked k sh ns c n
+      merge-checked = passed k sh ns c n p
 
-      pub merge-stored : {o : Outcome Lengths Content} → o ≡ contentOutcome (coverAnswer k sh (nextSubsets (length sh) (z .count) ns) c (lengthsOf old)) old → o ≡ merged k sh ns c old
-      merge-stored e =
-          e ∙ ap (λ (x : List Subset). contentOutcome (coverAnswer k sh x c (lengthsOf old)) old) (sym (passed k sh ns c z p .1)) ∙ sym (by-steps p)
+      pub merge-stored : {o : Outcome Lengths Content} → o ≡ contentOutcome (coverAnswer k sh bs c (lengthsOf old)) old → o ≡ merged k sh ns c old
+      merge-stored e = e ∙ sym (by-steps p)
 
 -- ---- the test of 12
 

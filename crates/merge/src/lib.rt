@@ -7,7 +7,7 @@ use rules::Checks;
 ghost use mathlib.Core.Path.{_≡_};
 ghost use lib.ListN.{length};
 ghost use Rattle.array.specs.Meaning.{kindOf};
-ghost use Rattle.array.specs.Rows.{nextSubsets};
+ghost use Rattle.array.specs.Subset.{subsetsOf};
 ghost use Rattle.array.specs.Buffers.{lengthsOf, contentOutcome};
 ghost use Rattle.array.specs.Outcome.{contentArray, outcomeArray};
 ghost use Rattle.chunks.specs.Calls.{merged};
@@ -20,7 +20,6 @@ pub mod rules;
 fn store_chunks(
     kind: Kind,
     cells: usize,
-    count: usize,
     shape: &[u64],
     subsets: &[u64],
     masks: &[u8],
@@ -30,9 +29,9 @@ fn store_chunks(
     out_values: &mut [u8],
     out_offsets: &mut [u64],
 ) -> WrittenArray
-    requires { ⌜ MergeAsked (kindOf kind) (now shape) (now subsets) (contentArray (now masks) (now values) (now offsets)) (record { cells = cells; count = count }) ⌝ }
+    requires { ⌜ MergeAsked (kindOf kind) (now shape) (now subsets) (contentArray (now masks) (now values) (now offsets)) cells ⌝ }
     ensures { λ r. ⌜ outcomeArray r (now («out_masks» .exit)) (now («out_values» .exit)) (now («out_offsets» .exit))
-        ≡ contentOutcome (storeAnswer (kindOf kind) (now (shape .entry)) (nextSubsets (length (now (shape .entry))) count (now (subsets .entry)))
+        ≡ contentOutcome (storeAnswer (kindOf kind) (now (shape .entry)) (subsetsOf (length (now (shape .entry))) (now (subsets .entry)))
         (contentArray (now (masks .entry)) (now (values .entry)) (now (offsets .entry)))
         (lengthsOf (contentArray (now («out_masks» .entry)) (now («out_values» .entry)) (now («out_offsets» .entry)))))
         (contentArray (now («out_masks» .entry)) (now («out_values» .entry)) (now («out_offsets» .entry))) ⌝ }
@@ -50,25 +49,15 @@ fn store_chunks(
     match form {
         Values::Fixed(size, _) => {
             let wide = size as usize;
-            merge_stores::cells::store_masks(out_masks, masks, depth, cells, shape, subsets, count);
-            merge_stores::cells::store_parts(
-                out_values,
-                0,
-                wide,
-                values,
-                0,
-                wide,
-                shape,
-                subsets,
-                count,
-            );
+            merge_stores::cells::store_masks(out_masks, masks, depth, cells, shape, subsets);
+            merge_stores::cells::store_parts(out_values, 0, wide, values, 0, wide, shape, subsets);
             WrittenArray::Lengths(mask_bytes, bytes, 0)
         }
         Values::Ragged(_, _) => {
             if out_offsets.len() <= cells {
                 return WrittenArray::Refused(refusal::OUTPUT);
             }
-            merge_stores::cells::store_masks(out_masks, masks, depth, cells, shape, subsets, count);
+            merge_stores::cells::store_masks(out_masks, masks, depth, cells, shape, subsets);
             merge_stores::ragged::merge_ragged(
                 out_values,
                 out_offsets,
@@ -76,7 +65,6 @@ fn store_chunks(
                 offsets,
                 shape,
                 subsets,
-                count,
                 cells,
             );
             WrittenArray::Lengths(mask_bytes, bytes, cells + 1)
@@ -89,7 +77,6 @@ fn store_chunks(
 fn store_covering(
     kind: Kind,
     cells: usize,
-    count: usize,
     shape: &[u64],
     subsets: &[u64],
     masks: &[u8],
@@ -99,20 +86,19 @@ fn store_covering(
     out_values: &mut [u8],
     out_offsets: &mut [u64],
 ) -> WrittenArray
-    requires { ⌜ MergeChecked (kindOf kind) (now shape) (now subsets) (contentArray (now masks) (now values) (now offsets)) (record { cells = cells; count = count }) ⌝ }
+    requires { ⌜ MergeChecked (kindOf kind) (now shape) (now subsets) (contentArray (now masks) (now values) (now offsets)) cells ⌝ }
     ensures { λ r. ⌜ outcomeArray r (now («out_masks» .exit)) (now («out_values» .exit)) (now («out_offsets» .exit))
-        ≡ contentOutcome (coverAnswer (kindOf kind) (now (shape .entry)) (nextSubsets (length (now (shape .entry))) count (now (subsets .entry)))
+        ≡ contentOutcome (coverAnswer (kindOf kind) (now (shape .entry)) (subsetsOf (length (now (shape .entry))) (now (subsets .entry)))
         (contentArray (now (masks .entry)) (now (values .entry)) (now (offsets .entry)))
         (lengthsOf (contentArray (now («out_masks» .entry)) (now («out_values» .entry)) (now («out_offsets» .entry)))))
         (contentArray (now («out_masks» .entry)) (now («out_values» .entry)) (now («out_offsets» .entry))) ⌝ }
 {
-    if !merge_cover::covers(shape, subsets, count) {
+    if !merge_cover::covers(shape, subsets) {
         return WrittenArray::Refused(refusal::COVER);
     }
     store_chunks(
         kind,
         cells,
-        count,
         shape,
         subsets,
         masks,
@@ -143,10 +129,9 @@ pub fn merge(
 {
     match rules::check_merge(kind, shape, subsets, masks, values, offsets) {
         Checks::Refused(e) => WrittenArray::Refused(e),
-        Checks::Passed(cells, count) => store_covering(
+        Checks::Passed(cells) => store_covering(
             kind,
             cells,
-            count,
             shape,
             subsets,
             masks,

@@ -10,8 +10,8 @@ ghost use lib.ListN.{length};
 ghost use Rattle.array.specs.Limits.{mostCells};
 ghost use Rattle.array.specs.Meaning.{formOf, kindOf};
 ghost use Rattle.array.specs.Outcome.{contentArray};
-ghost use Rattle.array.specs.Rows.{nextSubsets};
-ghost use Rattle.merge_cover.specs.Asked.{SubsetsOk};
+ghost use Rattle.array.specs.Subset.{subsetsOf};
+ghost use Rattle.subset.specs.Subsets.{SubsetsOk};
 ghost use Rattle.merge.specs.Chunks.{sizeAnswer, chunkAnswer, chunksTest, toldChunk};
 ghost use Rattle.merge.specs.Merge.{checkAnswer, toldChecks};
 
@@ -71,26 +71,23 @@ pub fn check_chunks(
     kind: Kind,
     shape: &[u64],
     subsets: &[u64],
-    count: usize,
     masks: &[u8],
     values: &[u8],
     offsets: &[u64],
 ) -> bool
-    requires { ⌜ SubsetsOk (now shape) (now subsets) count ⌝ }
-    ensures { λ r. ⌜ r ≡ chunksTest (kindOf kind) (nextSubsets (length (now (shape .entry))) count (now (subsets .entry)))
+    requires { ⌜ SubsetsOk (now shape) (now subsets) ⌝ }
+    ensures { λ r. ⌜ r ≡ chunksTest (kindOf kind) (subsetsOf (length (now (shape .entry))) (now (subsets .entry)))
         (contentArray (now (masks .entry)) (now (values .entry)) (now (offsets .entry))) ⌝ }
 {
-    let d = shape.len();
     let depth = kind.depth as usize;
-    let mut i: usize = 0;
     let mut at: usize = 0;
     let mut p: usize = 0;
     let mut v: usize = 0;
     let mut o: usize = 0;
-    while i < count {
-        let mid = at + d;
-        let end = mid + d;
-        let m = subset::volume_of(&subsets[mid..end]) as usize;
+    while at < subsets.len() {
+        let next = subset::subset_at(shape, subsets, at);
+        let end = next.end;
+        let m = next.cells;
         let chunk = check_chunk(kind, m, &masks[p..], &values[v..], &offsets[o..]);
         let Chunk::Takes(bytes, numbers) = chunk else {
             return false;
@@ -99,7 +96,6 @@ pub fn check_chunks(
         v += bytes;
         o += numbers;
         at = end;
-        i += 1;
     }
     if p != masks.len() {
         return false;
@@ -110,9 +106,9 @@ pub fn check_chunks(
     o == offsets.len()
 }
 
-// What the stores of a merge go by: the cells of the shape, how many subsets there are.
+// What the stores of a merge go by: the cells of the shape.
 pub enum Checks {
-    Passed(usize, usize),
+    Passed(usize),
     Refused(u8),
 }
 
@@ -137,12 +133,11 @@ pub fn check_merge(
     if !subset::subsets_fit(shape, subsets) {
         return Checks::Refused(refusal::SUBSET);
     }
-    let count = subsets.len() / (2 * shape.len());
-    if !check_chunks(kind, shape, subsets, count, masks, values, offsets) {
+    if !check_chunks(kind, shape, subsets, masks, values, offsets) {
         return Checks::Refused(refusal::CONTENT);
     }
     if values.len() > MOST_BYTES {
         return Checks::Refused(refusal::SIZE);
     }
-    Checks::Passed(cells, count)
+    Checks::Passed(cells)
 }

@@ -2,5 +2,4 @@ pub mod MarkRuns
 pub mod Once
 pub mod BitLaws
 pub mod RunBits
-pub mod SubsetWalk
 pub mod Marking

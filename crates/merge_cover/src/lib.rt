@@ -5,13 +5,12 @@ ghost use lib.ListN.{length};
 ghost use Rattle.array.specs.Answer.{gives};
 ghost use Rattle.array.specs.Lists.{from};
 ghost use Rattle.array.specs.Shape.{volume};
-ghost use Rattle.array.specs.Subset.{pairs, cellsIn, cellsOfAll};
-ghost use Rattle.array.specs.Rows.{nextSubsets};
+ghost use Rattle.array.specs.Subset.{pairs, subsetsOf, cellsIn, cellsOfAll};
 ghost use Rattle.subset.specs.Walk.{SubsetAsked};
+ghost use Rattle.subset.specs.Subsets.{SubsetsOk};
 ghost use Rattle.chunks.specs.Gather.{onceTest};
 ghost use Rattle.merge_cover.specs.Marks.{marking, toldMarks};
 ghost use Rattle.merge_cover.specs.Bits.{marksOf, bitsAt, noWords};
-ghost use Rattle.merge_cover.specs.Asked.{SubsetsOk};
 
 // No cell is marked.
 fn no_marks() -> [u64; 1024]
@@ -101,29 +100,32 @@ fn mark_subset(words: &mut [u64], shape: &[u64], starts: &[u64], lens: &[u64], c
 
 // Whether each cell of the shape lies in exactly one of the subsets, whose numbers lie end to end: the subsets have as many cells as the
 // shape, and none is marked twice. What is left is counted down, so that no sum wraps.
-pub fn covers(shape: &[u64], subsets: &[u64], count: usize) -> bool
-    requires { ⌜ SubsetsOk (now shape) (now subsets) count ⌝ }
-    ensures { λ r. ⌜ r ≡ onceTest (volume (now (shape .entry))) (cellsOfAll (now (shape .entry)) (nextSubsets (length (now (shape .entry))) count (now (subsets .entry)))) ⌝ }
+pub fn covers(shape: &[u64], subsets: &[u64]) -> bool
+    requires { ⌜ SubsetsOk (now shape) (now subsets) ⌝ }
+    ensures { λ r. ⌜ r ≡ onceTest (volume (now (shape .entry))) (cellsOfAll (now (shape .entry)) (subsetsOf (length (now (shape .entry))) (now (subsets .entry)))) ⌝ }
 {
-    let d = shape.len();
     let mut words = no_marks();
-    let mut left = subset::volume_of(shape);
-    let mut i: usize = 0;
+    let mut left = subset::volume_of(shape) as usize;
     let mut at: usize = 0;
-    while i < count {
-        let mid = at + d;
-        let end = mid + d;
-        let lens = &subsets[mid..end];
-        let cells = subset::volume_of(lens);
+    while at < subsets.len() {
+        let next = subset::subset_at(shape, subsets, at);
+        let mid = next.mid;
+        let end = next.end;
+        let cells = next.cells;
         if left < cells {
             return false;
         }
-        if !mark_subset(&mut words, shape, &subsets[at..mid], lens, cells as usize) {
+        if !mark_subset(
+            &mut words,
+            shape,
+            &subsets[at..mid],
+            &subsets[mid..end],
+            cells,
+        ) {
             return false;
         }
         left -= cells;
         at = end;
-        i += 1;
     }
     left == 0
 }

@@ -1,5 +1,6 @@
 pub mod Scattering
 pub mod RowsStored
+pub mod ListStored
 pub mod PartsStored
 pub mod Blocks
 pub mod FirstChunk

@@ -9,36 +9,35 @@ use mathlib.Core.List.{List, [], _++_, map, append-nil}
 use lib.ListN.{length, take, drop, length-append, length-map}
 use lib.Seq.{drop-drop, take-at, drop-at}
 use Rattle.array.specs.Lists.{All, joined, from}
-use Rattle.array.specs.Rows.{nextSubsets}
 use Rattle.array.specs.Shape.{volume}
-use Rattle.array.specs.Subset.{Subset, cellsOfAll, SubsetOk}
+use Rattle.array.specs.Subset.{Subset, subsetsOf, cellsOfAll, SubsetOk}
 use Rattle.array.specs.Places.{fixedAt}
 use Rattle.array.proofs.Lists.{map-append, joined-append, length-from}
 use Rattle.array.proofs.SubsetLaws.{all-below}
 use Rattle.chunks.specs.Gather.{putBack}
-use Rattle.merge_cover.proofs.SubsetWalk.{all-inside}
+use Rattle.subset.proofs.Subsets.{all-inside}
 use Rattle.merge_stores.specs.Scatter.{scatter, places}
 use Rattle.merge_stores.specs.Store.{parts, cellsTotal, masksMerged, MasksAsked, PartsAsked}
 use Rattle.merge_stores.proofs.Levels.{level-block, length-parts, length-all}
 use Rattle.merge_stores.proofs.Scattering.{from-append, length-scatter}
 
-pub record Stored (sh flat : List ℕ) (count : ℕ) (d src : List ℕ) (depth cells : ℕ) (o : List ℕ) (l : ℕ) : Type 0 where
+pub record Stored (sh flat d src : List ℕ) (depth cells : ℕ) (o : List ℕ) (l : ℕ) : Type 0 where
   pub within : l ≤ depth
   pub long : length o ≡ length d
-  pub done : o ≡ masksMerged sh (nextSubsets (length sh) count flat) depth src l ++ drop (l * cells) d
+  pub done : o ≡ masksMerged sh (subsetsOf (length sh) flat) depth src l ++ drop (l * cells) d
 
-module _ {sh flat : List ℕ} {count : ℕ} {d src : List ℕ} {depth cells : ℕ} (q : MasksAsked sh flat count d src depth cells) where
+module _ {sh flat d src : List ℕ} {depth cells : ℕ} (q : MasksAsked sh flat d src depth cells) where
   abbrev bs : List Subset
-  bs = nextSubsets (length sh) count flat
+  bs = subsetsOf (length sh) flat
 
   abbrev js : List ℕ
-  js = cellsOfAll sh (nextSubsets (length sh) count flat)
+  js = cellsOfAll sh (subsetsOf (length sh) flat)
 
-  ok : All (SubsetOk sh) (nextSubsets (length sh) count flat)
-  ok = all-inside sh (nextSubsets (length sh) count flat) (q .subsets .each)
+  ok : All (SubsetOk sh) (subsetsOf (length sh) flat)
+  ok = all-inside sh (subsetsOf (length sh) flat) (q .subsets .many .each)
 
   abbrev level : ℕ → List ℕ
-  level l = putBack 0 (volume sh) (cellsOfAll sh (nextSubsets (length sh) count flat)) (parts l depth 1 (nextSubsets (length sh) count flat) src)
+  level l = putBack 0 (volume sh) (cellsOfAll sh (subsetsOf (length sh) flat)) (parts l depth 1 (subsetsOf (length sh) flat) src)
 
   long-level : (l : ℕ) → length (level l) ≡ cells
   long-level l = length-map (from 0 (volume sh)) _ ∙ length-from 0 (volume sh) ∙ sym (q .counted)
@@ -47,18 +46,18 @@ module _ {sh flat : List ℕ} {count : ℕ} {d src : List ℕ} {depth cells : �
   long-levels a zero = sym (zero-mul cells)
   long-levels a (suc l) = length-append (level a) (joined (map level (from (suc a) l))) ∙ ap₂ (λ (x y : ℕ). x + y) (long-level a) (long-levels (suc a) l) ∙ omega (arith, suc-mul l cells)
 
-  pub masks-begin : Stored sh flat count d src depth cells d 0
+  pub masks-begin : Stored sh flat d src depth cells d 0
   masks-begin = record { within = omega arith; long = refl; done = ap (λ (k : ℕ). drop k d) (sym (zero-mul cells)) }
 
-  module _ (o : List ℕ) (l : ℕ) (c : Stored sh flat count d src depth cells o l) where
-    pub masks-end : depth ≤ l → o ≡ masksMerged sh (nextSubsets (length sh) count flat) depth src depth ++ drop (depth * cells) d
-    masks-end h = let e : l ≡ depth = omega (arith, c .within) in c .done ∙ ap (λ (k : ℕ). masksMerged sh (nextSubsets (length sh) count flat) depth src k ++ drop (k * cells) d) e
+  module _ {o : List ℕ} {l : ℕ} (c : Stored sh flat d src depth cells o l) where
+    pub masks-end : depth ≤ l → o ≡ masksMerged sh (subsetsOf (length sh) flat) depth src depth ++ drop (depth * cells) d
+    masks-end h = let e : l ≡ depth = omega (arith, c .within) in c .done ∙ ap (λ (k : ℕ). masksMerged sh (subsetsOf (length sh) flat) depth src k ++ drop (k * cells) d) e
 
     module _ (h : l < depth) where
       pub level-room : l * cells + cells ≤ length d
       level-room = omega (arith, suc-mul l cells, mul-le-mul-right {m = suc l} {n = depth} cells h, q .room)
 
-      pub masks-asked : PartsAsked sh flat count o (l * cells) 1 src l depth
+      pub masks-asked : PartsAsked sh flat o (l * cells) 1 src l depth
       masks-asked = record {
         subsets = q .subsets;
         narrow = omega arith;
@@ -67,8 +66,8 @@ module _ {sh flat : List ℕ} {count : ℕ} {d src : List ℕ} {depth cells : �
         enough = q .enough;
       }
 
-      pub masks-more : {o′ : List ℕ} → o′ ≡ scatter o (places (fixedAt (l * cells) 1) (cellsOfAll sh (nextSubsets (length sh) count flat))) (parts l depth 1 (nextSubsets (length sh) count flat) src)
-          → Stored sh flat count d src depth cells o′ (l + 1)
+      pub masks-more : {o′ : List ℕ} → o′ ≡ scatter o (places (fixedAt (l * cells) 1) (cellsOfAll sh (subsetsOf (length sh) flat))) (parts l depth 1 (subsetsOf (length sh) flat) src)
+          → Stored sh flat d src depth cells o′ (l + 1)
       masks-more p =
           let f : List ℕ = joined (map level (from 0 l)) in
           let lf : length f ≡ l * cells = long-levels 0 l in

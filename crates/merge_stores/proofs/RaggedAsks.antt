@@ -8,12 +8,11 @@ use Rattle.array.specs.Cells.{Cell, leaf}
 use Rattle.array.specs.Content.{Content, leaves}
 use Rattle.array.specs.Limits.{mostBytes}
 use Rattle.array.specs.Kind.{Masks, ragged, Place}
-use Rattle.array.specs.Rows.{nextSubsets}
 use Rattle.array.specs.Shape.{volume}
-use Rattle.array.specs.Subset.{Subset, cellsOfAll}
+use Rattle.array.specs.Subset.{Subset, subsetsOf, cellsOfAll}
 use Rattle.chunks.specs.Gather.{Once}
-use Rattle.merge_cover.specs.Asked.{SubsetsOk}
-use Rattle.merge_cover.proofs.SubsetWalk.{all-inside}
+use Rattle.subset.specs.Subsets.{SubsetsOk}
+use Rattle.subset.proofs.Subsets.{all-inside}
 use Rattle.merge_stores.specs.Ragged.{sum, RaggedMergeAsked}
 use Rattle.merge_stores.proofs.Blocks.{length-joined}
 use Rattle.merge_stores.proofs.Closing.{cells-counted}
@@ -21,19 +20,19 @@ use Rattle.merge_stores.proofs.FirstChunk.{Chunked, all-values}
 use Rattle.merge_stores.proofs.Levels.{length-all}
 use Rattle.merge_stores.proofs.RaggedTies.{length-chunks, ragged-lengths}
 
-pub ragged-asked : (x : Masks) (w d : ℕ) (p : Place) {sh flat : List ℕ} {count : ℕ} → SubsetsOk sh flat count → Once (volume sh) (cellsOfAll sh (nextSubsets (length sh) count flat))
-    → {c : Content} {cs : List (Cell d)} → Chunked (record { depth = d; masks = x; form = ragged w p }) (nextSubsets (length sh) count flat) c cs
+pub ragged-asked : (x : Masks) (w d : ℕ) (p : Place) {sh flat : List ℕ} → SubsetsOk sh flat → Once (volume sh) (cellsOfAll sh (subsetsOf (length sh) flat))
+    → {c : Content} {cs : List (Cell d)} → Chunked (record { depth = d; masks = x; form = ragged w p }) (subsetsOf (length sh) flat) c cs
     → (outv outo : List ℕ) {n : ℕ} → n ≡ volume sh → n < length outo → length (c .values) ≤ mostBytes → length (c .values) ≤ length outv
-    → RaggedMergeAsked sh flat count outv outo (c .values) (c .offsets) n
-ragged-asked x w d p {sh} {flat} {count} q once {c} {cs} e outv outo {n} counted room small enough =
-    let bs : List Subset = nextSubsets (length sh) count flat in
+    → RaggedMergeAsked sh flat outv outo (c .values) (c .offsets) n
+ragged-asked x w d p {sh} {flat} q once {c} {cs} e outv outo {n} counted room small enough =
+    let bs : List Subset = subsetsOf (length sh) flat in
     record {
       subsets = q;
       once = once;
       counted = counted;
       room = room;
       lengths-fit = length-chunks x w d p bs e;
-      as-many = length-all sh bs (all-inside sh bs (q .each)) ∙ sym (cells-counted bs e) ∙ sym (length-map cs (leaf d)) ∙ sym (length-map (leaves d cs) length)
+      as-many = length-all sh bs (all-inside sh bs (q .many .each)) ∙ sym (cells-counted bs e) ∙ sym (length-map cs (leaf d)) ∙ sym (length-map (leaves d cs) length)
           ∙ ap length (ragged-lengths x w d p bs e);
       summed = ap sum (sym (ragged-lengths x w d p bs e)) ∙ sym (length-joined (leaves d cs)) ∙ ap length (all-values bs e);
       small = small;

@@ -8,14 +8,13 @@ use lib.ListN.{length, take, drop, length-append, length-map, take-append-drop}
 use lib.Seq.{length-take-le, take-at, drop-at}
 use Rattle.array.specs.Limits.{mostBytes}
 use Rattle.array.specs.Lists.{All, from}
-use Rattle.array.specs.Rows.{nextSubsets}
 use Rattle.array.specs.Shape.{volume}
-use Rattle.array.specs.Subset.{Subset, cellsOfAll, SubsetOk}
+use Rattle.array.specs.Subset.{Subset, subsetsOf, cellsOfAll, SubsetOk}
 use Rattle.array.specs.Places.{fixedAt, offsetAt}
 use Rattle.array.proofs.Lists.{length-from}
 use Rattle.array.proofs.SubsetLaws.{all-below}
 use Rattle.chunks.specs.Gather.{lookup, putBack}
-use Rattle.merge_cover.proofs.SubsetWalk.{all-inside}
+use Rattle.subset.proofs.Subsets.{all-inside}
 use Rattle.merge_stores.specs.Ragged.{sums, sum, stepParts, offsetsMerged, RaggedMergeAsked, RaggedAllAsked}
 use Rattle.merge_stores.specs.Scatter.{scatter, places}
 use Rattle.merge_stores.proofs.Blocks.{sum-append}
@@ -25,22 +24,22 @@ use Rattle.merge_stores.proofs.RaggedMerge.{offset-is, length-sums, ste
 use Rattle.merge_stores.proofs.RaggedTies.{chunks-agree}
 use Rattle.merge_stores.proofs.Scattering.{length-scatter}
 
-module _ {sh flat : List ℕ} {count : ℕ} {dv d values src : List ℕ} {n : ℕ} (q : RaggedMergeAsked sh flat count dv d values src n) where
+module _ {sh flat dv d values src : List ℕ} {n : ℕ} (q : RaggedMergeAsked sh flat dv d values src n) where
   abbrev bs : List Subset
-  bs = nextSubsets (length sh) count flat
+  bs = subsetsOf (length sh) flat
 
   abbrev xs : List ℕ
-  xs = putBack 0 (volume sh) (cellsOfAll sh (nextSubsets (length sh) count flat)) (stepParts (nextSubsets (length sh) count flat) src)
+  xs = putBack 0 (volume sh) (cellsOfAll sh (subsetsOf (length sh) flat)) (stepParts (subsetsOf (length sh) flat) src)
 
-  ok : All (SubsetOk sh) (nextSubsets (length sh) count flat)
-  ok = all-inside sh (nextSubsets (length sh) count flat) (q .subsets .each)
+  ok : All (SubsetOk sh) (subsetsOf (length sh) flat)
+  ok = all-inside sh (subsetsOf (length sh) flat) (q .subsets .many .each)
 
   long-xs : length xs ≡ n
   long-xs =
-      length-map (from 0 (volume sh)) (λ k. lookup 0 k (cellsOfAll sh (nextSubsets (length sh) count flat)) (stepParts (nextSubsets (length sh) count flat) src))
+      length-map (from 0 (volume sh)) (λ k. lookup 0 k (cellsOfAll sh (subsetsOf (length sh) flat)) (stepParts (subsetsOf (length sh) flat) src))
       ∙ length-from 0 (volume sh) ∙ sym (q .counted)
 
-  module _ {o : List ℕ} (p : o ≡ scatter d (places (fixedAt 1 1) (cellsOfAll sh (nextSubsets (length sh) count flat))) (stepParts (nextSubsets (length sh) count flat) src)) where
+  module _ {o : List ℕ} (p : o ≡ scatter d (places (fixedAt 1 1) (cellsOfAll sh (subsetsOf (length sh) flat))) (stepParts (subsetsOf (length sh) flat) src)) where
     is : o ≡ take 1 d ++ xs ++ drop (1 + volume sh) d
     is = p ∙ level-block 1 (volume sh) d (cellsOfAll sh bs) (stepParts bs src) (omega (arith, q .room, q .counted)) (q .as-many) (all-below sh bs ok) (q .once)
 
@@ -66,10 +65,10 @@ module _ {sh flat : List ℕ} {count : ℕ} {dv d values src : List ℕ} {n : �
         (omega (arith, q .room, ap length p, length-scatter d (places (fixedAt 1 1) (cellsOfAll sh bs)) (stepParts bs src)), omega (arith, ap sum lengths-are, sum-is, q .small))
 
     module _ {o′ : List ℕ} (p′ : o′ ≡ (0 ∷ sums 0 (take n (drop 1 o))) ++ drop (n + 1) o) where
-      pub offsets-are : o′ ≡ offsetsMerged sh (nextSubsets (length sh) count flat) src ++ drop (n + 1) d
+      pub offsets-are : o′ ≡ offsetsMerged sh (subsetsOf (length sh) flat) src ++ drop (n + 1) d
       offsets-are = p′ ∙ ap₂ (λ (x y : List ℕ). (0 ∷ sums 0 x) ++ y) lengths-are rest-is
 
-      below : (j : ℕ) → j ≤ volume sh → offsetAt (offsetsMerged sh (nextSubsets (length sh) count flat) src ++ drop (n + 1) d) j ≤ length dv
+      below : (j : ℕ) → j ≤ volume sh → offsetAt (offsetsMerged sh (subsetsOf (length sh) flat) src ++ drop (n + 1) d) j ≤ length dv
       below j h =
           let s : sum xs ≡ sum (take j xs) + sum (drop j xs) = ap sum (sym (take-append-drop j xs)) ∙ sum-append (take j xs) (drop j xs) in
           omega (arith, offset-is xs (drop (n + 1) d) j (omega (arith, long-xs, q .counted)), s, sum-is, q .enough)
@@ -77,9 +76,9 @@ module _ {sh flat : List ℕ} {count : ℕ} {dv d values src : List ℕ} {n : �
       stepped : map (stepOf (offsetAt (offsetsMerged sh bs src ++ drop (n + 1) d))) (cellsOfAll sh bs) ≡ stepParts bs src
       stepped = steps-merged (volume sh) (cellsOfAll sh bs) (all-below sh bs ok) (q .once) (stepParts bs src) (drop (n + 1) d) (q .as-many)
 
-      pub third-asked : RaggedAllAsked sh flat count dv o′ values src
+      pub third-asked : RaggedAllAsked sh flat dv o′ values src
       third-asked =
-          subst (λ (r : List ℕ). RaggedAllAsked sh flat count dv r values src) (sym offsets-are)
+          subst (λ (r : List ℕ). RaggedAllAsked sh flat dv r values src) (sym offsets-are)
           (record {
             subsets = q .subsets;
             laid = record {

@@ -17,7 +17,7 @@ use Rattle.merge_stores.specs.Scatter.{scatter, places}
 use Rattle.merge_stores.proofs.Scattering.{scatter-next, places-append, places-run, Steps}
 
 -- the places of the cells that are left begin with those of the next row
-pub row-places : (off : ℕ → ℕ) {sh ls cs : List ℕ} {cells at a n : ℕ} → RowAt sh ls cs cells at a n → Steps off a n
+row-places : (off : ℕ → ℕ) {sh ls cs : List ℕ} {cells at a n : ℕ} → RowAt sh ls cs cells at a n → Steps off a n
     → places off (drop at cs) ≡ from (off a) (off (a + n) - off a) ++ places off (drop (at + n) cs)
 row-places off {cs = cs} {at = at} {a = a} {n = n} q s =
     ap (places off) (q .next)

@@ -6,13 +6,12 @@ use Prim.Native.Nat.{ℕ, suc, _+_, _-_, _≤_, _<_}
 use mathlib.Core.List.{List, [], _∷_, _++_}
 use lib.ListN.{length, take, drop}
 use Rattle.array.specs.Limits.{mostBytes}
-use Rattle.array.specs.Shape.{volume, ShapeOk}
-use Rattle.array.specs.Subset.{Subset, lengths, pairs, cellsIn, cellsOfAll}
-use Rattle.array.specs.Rows.{Within, nextSubsets}
+use Rattle.array.specs.Shape.{volume}
+use Rattle.array.specs.Subset.{Subset, lengths, subsetsOf, cellsIn, cellsOfAll}
 use Rattle.array.specs.Offsets.{Rising}
 use Rattle.array.specs.Places.{offsetAt}
+use Rattle.subset.specs.Subsets.{SubsetsOk}
 use Rattle.chunks.specs.Gather.{putBack, Once}
-use Rattle.merge_cover.specs.Asked.{SubsetsOk}
 use Rattle.merge_stores.specs.Scatter.{places}
 
 -- ---- lengths, and offsets from them
@@ -61,20 +60,16 @@ abbrev pub Agrees : List ℕ → List ℕ → ℕ → List ℕ → Type 0
 Agrees begins src first cs = (i : ℕ) → i ≤ length cs → length (places (offsetAt begins) (take i cs)) ≡ offsetAt src (first + i)
 
 -- of one chunk: its lengths, its values
-pub record LengthsAsked (shape starts lens out src : List ℕ) (first : ℕ) : Type 0 where
-  pub shaped : ShapeOk shape
-  pub fits : Within shape starts lens
-  pub rises : RisesFor src first (volume lens)
-  pub indexed : first + volume lens < length src
+pub record LengthsAsked (shape out src : List ℕ) (first count : ℕ) : Type 0 where
+  pub rises : RisesFor src first count
+  pub indexed : first + count < length src
   pub room : volume shape < length out
 
-pub record RaggedAsked (shape starts lens out begins values : List ℕ) (base : ℕ) (src : List ℕ) (first : ℕ) : Type 0 where
-  pub shaped : ShapeOk shape
-  pub fits : Within shape starts lens
+pub record RaggedAsked (shape out begins values : List ℕ) (base : ℕ) (src : List ℕ) (first : ℕ) (cs : List ℕ) : Type 0 where
   pub laid : Begins shape out begins
-  pub agrees : Agrees begins src first (cellsIn shape (pairs starts lens))
-  pub indexed : first + volume lens < length src
-  pub enough : base + length (places (offsetAt begins) (cellsIn shape (pairs starts lens))) ≤ length values
+  pub agrees : Agrees begins src first cs
+  pub indexed : first + length cs < length src
+  pub enough : base + length (places (offsetAt begins) cs) ≤ length values
 
 -- chunk by chunk: offsets that begin at 0 and never fall; offsets that the output agrees with
 abbrev pub LengthChunks : List Subset → List ℕ → Type 0
@@ -87,25 +82,25 @@ RaggedChunks begins shape (b ∷ bs) os =
     (volume (lengths b) < length os) × Agrees begins os 0 (cellsIn shape b) × RaggedChunks begins shape bs (drop (suc (volume (lengths b))) os)
 
 -- of all chunks: their lengths, their values
-pub record LengthsAllAsked (shape flat : List ℕ) (count : ℕ) (out src : List ℕ) : Type 0 where
-  pub subsets : SubsetsOk shape flat count
+pub record LengthsAllAsked (shape flat out src : List ℕ) : Type 0 where
+  pub subsets : SubsetsOk shape flat
   pub room : volume shape < length out
-  pub chunks : LengthChunks (nextSubsets (length shape) count flat) src
+  pub chunks : LengthChunks (subsetsOf (length shape) flat) src
 
-pub record RaggedAllAsked (shape flat : List ℕ) (count : ℕ) (out begins values src : List ℕ) : Type 0 where
-  pub subsets : SubsetsOk shape flat count
+pub record RaggedAllAsked (shape flat out begins values src : List ℕ) : Type 0 where
+  pub subsets : SubsetsOk shape flat
   pub laid : Begins shape out begins
-  pub chunks : RaggedChunks begins shape (nextSubsets (length shape) count flat) src
-  pub enough : length (places (offsetAt begins) (cellsOfAll shape (nextSubsets (length shape) count flat))) ≤ length values
+  pub chunks : RaggedChunks begins shape (subsetsOf (length shape) flat) src
+  pub enough : length (places (offsetAt begins) (cellsOfAll shape (subsetsOf (length shape) flat))) ≤ length values
 
 -- of both: the value bytes are as many as the lengths say, few, and fit the output
-pub record RaggedMergeAsked (shape flat : List ℕ) (count : ℕ) (outv outo values src : List ℕ) (n : ℕ) : Type 0 where
-  pub subsets : SubsetsOk shape flat count
-  pub once : Once (volume shape) (cellsOfAll shape (nextSubsets (length shape) count flat))
+pub record RaggedMergeAsked (shape flat outv outo values src : List ℕ) (n : ℕ) : Type 0 where
+  pub subsets : SubsetsOk shape flat
+  pub once : Once (volume shape) (cellsOfAll shape (subsetsOf (length shape) flat))
   pub counted : n ≡ volume shape
   pub room : n < length outo
-  pub lengths-fit : LengthChunks (nextSubsets (length shape) count flat) src
-  pub as-many : length (cellsOfAll shape (nextSubsets (length shape) count flat)) ≡ length (stepParts (nextSubsets (length shape) count flat) src)
-  pub summed : sum (stepParts (nextSubsets (length shape) count flat) src) ≡ length values
+  pub lengths-fit : LengthChunks (subsetsOf (length shape) flat) src
+  pub as-many : length (cellsOfAll shape (subsetsOf (length shape) flat)) ≡ length (stepParts (subsetsOf (length shape) flat) src)
+  pub summed : sum (stepParts (subsetsOf (length shape) flat) src) ≡ length values
   pub small : length values ≤ mostBytes
   pub enough : length values ≤ length outv

@@ -8,11 +8,10 @@ use lib.ListN.{length, take, drop}
 use Rattle.array.specs.Limits.{mostSize}
 use Rattle.array.specs.Lists.{from, joined}
 use Rattle.array.specs.Shape.{volume}
-use Rattle.array.specs.Subset.{Subset, lengths, cellsOfAll}
-use Rattle.array.specs.Rows.{nextSubsets}
+use Rattle.array.specs.Subset.{Subset, lengths, subsetsOf, cellsOfAll}
 use Rattle.array.specs.Cells.{Cell, maskOf, inners}
+use Rattle.subset.specs.Subsets.{SubsetsOk}
 use Rattle.chunks.specs.Gather.{putBack, Once}
-use Rattle.merge_cover.specs.Asked.{SubsetsOk}
 
 -- of chunks of m cells each: m × lead bytes are passed over, m × size taken, and the next chunk begins m × step bytes on
 abbrev pub parts : ℕ → ℕ → ℕ → List Subset → List ℕ → List ℕ
@@ -42,16 +41,16 @@ pub record StoreAsked (shape out : List ℕ) (base size : ℕ) (src : List ℕ) 
   pub room : base + volume shape * size ≤ length out
   pub enough : first + count * size ≤ length src
 
-pub record PartsAsked (shape flat : List ℕ) (count : ℕ) (out : List ℕ) (base size : ℕ) (src : List ℕ) (lead step : ℕ) : Type 0 where
-  pub subsets : SubsetsOk shape flat count
+pub record PartsAsked (shape flat out : List ℕ) (base size : ℕ) (src : List ℕ) (lead step : ℕ) : Type 0 where
+  pub subsets : SubsetsOk shape flat
   pub narrow : size ≤ mostSize
   pub inner : lead + size ≤ step
   pub room : base + volume shape * size ≤ length out
-  pub enough : cellsTotal (nextSubsets (length shape) count flat) * step ≤ length src
+  pub enough : cellsTotal (subsetsOf (length shape) flat) * step ≤ length src
 
-pub record MasksAsked (shape flat : List ℕ) (count : ℕ) (out src : List ℕ) (depth cells : ℕ) : Type 0 where
-  pub subsets : SubsetsOk shape flat count
-  pub once : Once (volume shape) (cellsOfAll shape (nextSubsets (length shape) count flat))
+pub record MasksAsked (shape flat out src : List ℕ) (depth cells : ℕ) : Type 0 where
+  pub subsets : SubsetsOk shape flat
+  pub once : Once (volume shape) (cellsOfAll shape (subsetsOf (length shape) flat))
   pub counted : cells ≡ volume shape
   pub room : depth * cells ≤ length out
-  pub enough : cellsTotal (nextSubsets (length shape) count flat) * depth ≤ length src
+  pub enough : cellsTotal (subsetsOf (length shape) flat) * depth ≤ length src

@@ -3,8 +3,7 @@ ghost use mathlib.Core.Path.{_≡_};
 ghost use mathlib.Core.List.{_++_};
 ghost use Prim.Native.Nat.{_*_};
 ghost use lib.ListN.{length, drop};
-ghost use Rattle.array.specs.Subset.{pairs, cellsIn, cellsOfAll};
-ghost use Rattle.array.specs.Rows.{nextSubsets};
+ghost use Rattle.array.specs.Subset.{pairs, subsetsOf, cellsIn, cellsOfAll};
 ghost use Rattle.array.specs.Places.{fixedAt};
 ghost use Rattle.subset.specs.Walk.{SubsetAsked};
 ghost use Rattle.merge_stores.specs.Scatter.{scatter, places};
@@ -49,21 +48,18 @@ pub fn store_parts(
     step: usize,
     shape: &[u64],
     subsets: &[u64],
-    count: usize,
 )
-    requires { ⌜ PartsAsked (now shape) (now subsets) count (now out) base size (now src) lead step ⌝ }
-    ensures { λ _. ⌜ now (out .exit) ≡ scatter (now (out .entry)) (places (fixedAt base size) (cellsOfAll (now (shape .entry)) (nextSubsets (length (now (shape .entry))) count (now (subsets .entry)))))
-        (parts lead step size (nextSubsets (length (now (shape .entry))) count (now (subsets .entry))) (now (src .entry))) ⌝ }
+    requires { ⌜ PartsAsked (now shape) (now subsets) (now out) base size (now src) lead step ⌝ }
+    ensures { λ _. ⌜ now (out .exit) ≡ scatter (now (out .entry)) (places (fixedAt base size) (cellsOfAll (now (shape .entry)) (subsetsOf (length (now (shape .entry))) (now (subsets .entry)))))
+        (parts lead step size (subsetsOf (length (now (shape .entry))) (now (subsets .entry))) (now (src .entry))) ⌝ }
 {
-    let d = shape.len();
-    let mut i: usize = 0;
     let mut at: usize = 0;
     let mut pos: usize = 0;
-    while i < count {
-        let mid = at + d;
-        let end = mid + d;
-        let lens = &subsets[mid..end];
-        let m = subset::volume_of(lens) as usize;
+    while at < subsets.len() {
+        let next = subset::subset_at(shape, subsets, at);
+        let mid = next.mid;
+        let end = next.end;
+        let m = next.cells;
         let first = pos + m * lead;
         store_subset(
             out,
@@ -73,12 +69,11 @@ pub fn store_parts(
             first,
             shape,
             &subsets[at..mid],
-            lens,
+            &subsets[mid..end],
             m,
         );
         pos += m * step;
         at = end;
-        i += 1;
     }
 }
 
@@ -90,15 +85,14 @@ pub fn store_masks(
     cells: usize,
     shape: &[u64],
     subsets: &[u64],
-    count: usize,
 )
-    requires { ⌜ MasksAsked (now shape) (now subsets) count (now out) (now src) depth cells ⌝ }
-    ensures { λ _. ⌜ now (out .exit) ≡ masksMerged (now (shape .entry)) (nextSubsets (length (now (shape .entry))) count (now (subsets .entry))) depth (now (src .entry)) depth
+    requires { ⌜ MasksAsked (now shape) (now subsets) (now out) (now src) depth cells ⌝ }
+    ensures { λ _. ⌜ now (out .exit) ≡ masksMerged (now (shape .entry)) (subsetsOf (length (now (shape .entry))) (now (subsets .entry))) depth (now (src .entry)) depth
         ++ drop (depth * cells) (now (out .entry)) ⌝ }
 {
     let mut l: usize = 0;
     while l < depth {
-        store_parts(out, l * cells, 1, src, l, depth, shape, subsets, count);
+        store_parts(out, l * cells, 1, src, l, depth, shape, subsets);
         l += 1;
     }
 }

@@ -5,10 +5,9 @@ ghost use Prim.Native.Nat.{_+_, _<_, _≤_};
 ghost use lib.ListN.{length, take, drop};
 ghost use Rattle.array.specs.Limits.{mostBytes};
 ghost use Rattle.array.specs.Buffers.{overAt};
-ghost use Rattle.array.specs.Shape.{volume};
-ghost use Rattle.array.specs.Subset.{pairs, cellsIn, cellsOfAll};
-ghost use Rattle.array.specs.Rows.{nextSubsets};
+ghost use Rattle.array.specs.Subset.{pairs, subsetsOf, cellsIn, cellsOfAll};
 ghost use Rattle.array.specs.Places.{fixedAt, offsetAt};
+ghost use Rattle.subset.specs.Walk.{SubsetAsked};
 ghost use Rattle.merge_stores.specs.Scatter.{scatter, places};
 ghost use Rattle.merge_stores.specs.Ragged.{steps, stepParts, sums, sum, offsetsMerged};
 ghost use Rattle.merge_stores.specs.Ragged.{RisesFor, LengthsAsked, LengthsAllAsked, RaggedAsked, RaggedAllAsked, RaggedMergeAsked};
@@ -35,42 +34,45 @@ fn store_lengths(
     shape: &[u64],
     starts: &[u64],
     lens: &[u64],
-    cells: u64,
+    count: usize,
 )
-    requires { ⌜ LengthsAsked (now shape) (now starts) (now lens) (now out) (now src) first × (cells ≡ volume (now lens)) ⌝ }
+    requires { ⌜ SubsetAsked (now shape) (now starts) (now lens) count × LengthsAsked (now shape) (now out) (now src) first count ⌝ }
     ensures { λ _. ⌜ now (out .exit) ≡ scatter (now (out .entry)) (places (fixedAt 1 1) (cellsIn (now (shape .entry)) (pairs (now (starts .entry)) (now (lens .entry))))) (drop first (steps (now (src .entry)))) ⌝ }
 {
     let last = lens.len() - 1;
-    let n = lens[last];
-    let mut at: u64 = 0;
-    while at < cells {
-        let a = subset::cell_at(shape, starts, lens, at) as usize;
-        let i = first + (at as usize);
-        store_steps(out, 1 + a, src, i, n as usize);
+    let n = lens[last] as usize;
+    let mut at: usize = 0;
+    while at < count {
+        let a = subset::cell_at(shape, starts, lens, at as u64) as usize;
+        store_steps(out, 1 + a, src, first + at, n);
         at += n;
     }
 }
 
 // Stores the lengths of the values of all chunks.
-fn store_lengths_all(out: &mut [u64], src: &[u64], shape: &[u64], subsets: &[u64], count: usize)
-    requires { ⌜ LengthsAllAsked (now shape) (now subsets) count (now out) (now src) ⌝ }
-    ensures { λ _. ⌜ now (out .exit) ≡ scatter (now (out .entry)) (places (fixedAt 1 1) (cellsOfAll (now (shape .entry)) (nextSubsets (length (now (shape .entry))) count (now (subsets .entry)))))
-        (stepParts (nextSubsets (length (now (shape .entry))) count (now (subsets .entry))) (now (src .entry))) ⌝ }
+fn store_lengths_all(out: &mut [u64], src: &[u64], shape: &[u64], subsets: &[u64])
+    requires { ⌜ LengthsAllAsked (now shape) (now subsets) (now out) (now src) ⌝ }
+    ensures { λ _. ⌜ now (out .exit) ≡ scatter (now (out .entry)) (places (fixedAt 1 1) (cellsOfAll (now (shape .entry)) (subsetsOf (length (now (shape .entry))) (now (subsets .entry)))))
+        (stepParts (subsetsOf (length (now (shape .entry))) (now (subsets .entry))) (now (src .entry))) ⌝ }
 {
-    let d = shape.len();
-    let mut i: usize = 0;
     let mut at: usize = 0;
     let mut first: usize = 0;
-    while i < count {
-        let mid = at + d;
-        let end = mid + d;
-        let lens = &subsets[mid..end];
-        let cells = subset::volume_of(lens);
-        let m = cells as usize;
-        store_lengths(out, src, first, shape, &subsets[at..mid], lens, cells);
+    while at < subsets.len() {
+        let next = subset::subset_at(shape, subsets, at);
+        let mid = next.mid;
+        let end = next.end;
+        let m = next.cells;
+        store_lengths(
+            out,
+            src,
+            first,
+            shape,
+            &subsets[at..mid],
+            &subsets[mid..end],
+            m,
+        );
         first += m + 1;
         at = end;
-        i += 1;
     }
 }
 
@@ -101,21 +103,22 @@ fn store_ragged(
     shape: &[u64],
     starts: &[u64],
     lens: &[u64],
-    cells: u64,
+    count: usize,
 )
-    requires { ⌜ RaggedAsked (now shape) (now starts) (now lens) (now out) (now begins) (now values) base (now src) first × (cells ≡ volume (now lens)) ⌝ }
+    requires { ⌜ SubsetAsked (now shape) (now starts) (now lens) count
+        × RaggedAsked (now shape) (now out) (now begins) (now values) base (now src) first (cellsIn (now shape) (pairs (now starts) (now lens))) ⌝ }
     ensures { λ _. ⌜ now (out .exit) ≡ scatter (now (out .entry)) (places (offsetAt (now (begins .entry))) (cellsIn (now (shape .entry)) (pairs (now (starts .entry)) (now (lens .entry)))))
         (drop base (now (values .entry))) ⌝ }
 {
     let last = lens.len() - 1;
-    let n = lens[last];
-    let mut at: u64 = 0;
-    while at < cells {
-        let a = subset::cell_at(shape, starts, lens, at) as usize;
+    let n = lens[last] as usize;
+    let mut at: usize = 0;
+    while at < count {
+        let a = subset::cell_at(shape, starts, lens, at as u64) as usize;
         let to = begins[a] as usize;
-        let i = first + (at as usize);
+        let i = first + at;
         let begin = src[i] as usize;
-        let e = i + (n as usize);
+        let e = i + n;
         let end = src[e] as usize;
         buffer::copy::copy_bytes(out, to, values, base + begin, end - begin);
         at += n;
@@ -130,23 +133,19 @@ fn store_ragged_all(
     src: &[u64],
     shape: &[u64],
     subsets: &[u64],
-    count: usize,
 )
-    requires { ⌜ RaggedAllAsked (now shape) (now subsets) count (now out) (now begins) (now values) (now src) ⌝ }
-    ensures { λ _. ⌜ now (out .exit) ≡ scatter (now (out .entry)) (places (offsetAt (now (begins .entry))) (cellsOfAll (now (shape .entry)) (nextSubsets (length (now (shape .entry))) count (now (subsets .entry)))))
+    requires { ⌜ RaggedAllAsked (now shape) (now subsets) (now out) (now begins) (now values) (now src) ⌝ }
+    ensures { λ _. ⌜ now (out .exit) ≡ scatter (now (out .entry)) (places (offsetAt (now (begins .entry))) (cellsOfAll (now (shape .entry)) (subsetsOf (length (now (shape .entry))) (now (subsets .entry)))))
         (now (values .entry)) ⌝ }
 {
-    let d = shape.len();
-    let mut i: usize = 0;
     let mut at: usize = 0;
     let mut base: usize = 0;
     let mut first: usize = 0;
-    while i < count {
-        let mid = at + d;
-        let end = mid + d;
-        let lens = &subsets[mid..end];
-        let cells = subset::volume_of(lens);
-        let m = cells as usize;
+    while at < subsets.len() {
+        let next = subset::subset_at(shape, subsets, at);
+        let mid = next.mid;
+        let end = next.end;
+        let m = next.cells;
         store_ragged(
             out,
             begins,
@@ -156,14 +155,13 @@ fn store_ragged_all(
             first,
             shape,
             &subsets[at..mid],
-            lens,
-            cells,
+            &subsets[mid..end],
+            m,
         );
         let last = first + m;
         base += src[last] as usize;
         first = last + 1;
         at = end;
-        i += 1;
     }
 }
 
@@ -175,15 +173,14 @@ pub fn merge_ragged(
     src: &[u64],
     shape: &[u64],
     subsets: &[u64],
-    count: usize,
     n: usize,
 )
-    requires { ⌜ RaggedMergeAsked (now shape) (now subsets) count (now outv) (now outo) (now values) (now src) n ⌝ }
-    ensures offsets { λ _. ⌜ now (outo .exit) ≡ offsetsMerged (now (shape .entry)) (nextSubsets (length (now (shape .entry))) count (now (subsets .entry))) (now (src .entry)) ++ drop (n + 1) (now (outo .entry)) ⌝ }
-    ensures bytes { λ _. ⌜ now (outv .exit) ≡ scatter (now (outv .entry)) (places (offsetAt (now (outo .exit))) (cellsOfAll (now (shape .entry)) (nextSubsets (length (now (shape .entry))) count (now (subsets .entry)))))
+    requires { ⌜ RaggedMergeAsked (now shape) (now subsets) (now outv) (now outo) (now values) (now src) n ⌝ }
+    ensures offsets { λ _. ⌜ now (outo .exit) ≡ offsetsMerged (now (shape .entry)) (subsetsOf (length (now (shape .entry))) (now (subsets .entry))) (now (src .entry)) ++ drop (n + 1) (now (outo .entry)) ⌝ }
+    ensures bytes { λ _. ⌜ now (outv .exit) ≡ scatter (now (outv .entry)) (places (offsetAt (now (outo .exit))) (cellsOfAll (now (shape .entry)) (subsetsOf (length (now (shape .entry))) (now (subsets .entry)))))
         (now (values .entry)) ⌝ }
 {
-    store_lengths_all(outo, src, shape, subsets, count);
+    store_lengths_all(outo, src, shape, subsets);
     sum_up(outo, n);
-    store_ragged_all(outv, outo, values, src, shape, subsets, count);
+    store_ragged_all(outv, outo, values, src, shape, subsets);
 }

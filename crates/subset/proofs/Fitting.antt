@@ -3,8 +3,7 @@
 use mathlib.Core.Path.{_≡_, refl, sym, ap, ap₂, _∙_}
 use mathlib.Core.Logic.{_≢_}
 use mathlib.Core.Bool.{Bool, true, false, _&&_}
-use Prim.Native.Nat.{ℕ, zero, suc, _+_, _-_, _*_, _/_, _%_, _<_, _≤_}
-use native.Mathlib.Nat.{suc-mul, zero-mul}
+use Prim.Native.Nat.{ℕ, _+_, _-_, _*_, _%_, _<_, _≤_}
 use native.Mathlib.Numerals.{add-one}
 use native.Mathlib.Omega.{arith}
 use mathlib.Core.List.{List, _∷_}
@@ -13,10 +12,10 @@ use lib.Seq.{drop-cons}
 use lib.Dec.{leb}
 use borrow.Author.Tests.{le-leb, lt-leb, leb-true, leb-false, eq-eqb, ne-eqb}
 use Rattle.array.specs.Lists.{every}
-use Rattle.array.specs.Subset.{Subset, lengths, pairs, subsetOf, subsetsOf, subsetTest, fullTest, numbersTest, manyTest}
-use Rattle.array.specs.Rows.{nextSubsets}
+use Rattle.array.specs.Subset.{lengths, pairs, subsetOf, subsetsOf, subsetTest, fullTest, numbersTest, manyTest}
 use Rattle.array.proofs.SubsetLaws.{lengths-pairs}
-use Rattle.array.proofs.SubsetLists.{subsets-long, subsets-are, subsets-next, startsAt, lengthsAt}
+use Rattle.array.proofs.SubsetLists.{next-room, next-whole, next-subset, startsAt, lengthsAt}
+use Rattle.subset.proofs.Subsets.{none-left}
 
 -- ---- one side after another
 
@@ -82,58 +81,35 @@ module _ (sh ns : List ℕ) where
 -- ---- one subset after another: the numbers from `at` on are left
 
 pub record Fitting (sh ns : List ℕ) (at : ℕ) : Type 0 where
-  pub subsets : ℕ
-  pub long : length ns ≡ at + subsets * (length sh + length sh)
-  pub same : manyTest sh ns ≡ every (fullTest sh) (nextSubsets (length sh) subsets (drop at ns))
+  pub whole : length (drop at ns) % (2 * length sh) ≡ 0
+  pub same : manyTest sh ns ≡ every (fullTest sh) (subsetsOf (length sh) (drop at ns))
 
 module _ (sh ns : List ℕ) where
   pub many-miscounted : length ns % (2 * length sh) ≢ 0 → manyTest sh ns ≡ false
   many-miscounted f = ap (λ (b : Bool). b && every (fullTest sh) (subsetsOf (length sh) ns)) (ne-eqb (length ns % (2 * length sh)) 0 f)
 
-  pub fitting-begins : 1 ≤ length sh → length ns % (2 * length sh) ≡ 0 → Fitting sh ns 0
-  fitting-begins h e =
-      let d : ℕ = length sh in
-      let k : ℕ = length ns / (2 * d) in
-      record {
-        subsets = k;
-        long = omega (arith, subsets-long d ns e);
-        same = ap₂ (λ (b : Bool) (bs : List Subset). b && every (fullTest sh) bs) (eq-eqb (length ns % (2 * d)) 0 e) (subsets-are d k ns h (subsets-long d ns e));
-      }
+  pub fitting-begins : length ns % (2 * length sh) ≡ 0 → Fitting sh ns 0
+  fitting-begins e = record {
+    whole = e;
+    same = ap (λ (b : Bool). b && every (fullTest sh) (subsetsOf (length sh) ns)) (eq-eqb (length ns % (2 * length sh)) 0 e);
+  }
 
   module _ {at : ℕ} (f : Fitting sh ns at) where
-    pub fitting-ends : 1 ≤ length sh → length ns ≤ at → manyTest sh ns ≡ true
-    fitting-ends d h = f .same ∙ go (f .subsets) (f .long)
-      where
-        go : (k : ℕ) → length ns ≡ at + k * (length sh + length sh) → every (fullTest sh) (nextSubsets (length sh) k (drop at ns)) ≡ true
-        go zero l = refl
-        go (suc k) l = absurd (omega (arith, suc-mul k (length sh + length sh)))
+    pub fitting-ends : length ns ≤ at → manyTest sh ns ≡ true
+    fitting-ends h = f .same ∙ ap (every (fullTest sh)) (none-left (length sh) ns h)
 
-    module _ (h : at < length ns) where
-      one-less : f .subsets ≡ suc (f .subsets - 1)
-      one-less = go (f .subsets) (f .long)
-        where
-          go : (k : ℕ) → length ns ≡ at + k * (length sh + length sh) → k ≡ suc (k - 1)
-          go zero l = absurd (omega (arith, zero-mul (length sh + length sh)))
-          go (suc k) l = omega arith
-
-      later : length ns ≡ at + length sh + length sh + (f .subsets - 1) * (length sh + length sh)
-      later = omega (arith, f .long, ap (λ (k : ℕ). k * (length sh + length sh)) one-less, suc-mul (f .subsets - 1) (length sh + length sh))
-
+    module _ (h : 1 ≤ length sh) (l : at < length ns) where
       pub fitting-room : at + length sh + length sh ≤ length ns
-      fitting-room = omega (arith, later)
+      fitting-room = next-room (length sh) at ns h (f .whole) l
 
-      first : manyTest sh ns ≡ (fullTest sh (pairs (startsAt (length sh) at ns) (lengthsAt (length sh) at ns))
-          && every (fullTest sh) (nextSubsets (length sh) (f .subsets - 1) (drop (at + length sh + length sh) ns)))
-      first =
-          f .same ∙ ap (λ (k : ℕ). every (fullTest sh) (nextSubsets (length sh) k (drop at ns))) one-less
-          ∙ ap (every (fullTest sh)) (subsets-next (length sh) at ns (f .subsets - 1))
+      first : {t : Bool} → fullTest sh (pairs (startsAt (length sh) at ns) (lengthsAt (length sh) at ns)) ≡ t
+          → manyTest sh ns ≡ (t && every (fullTest sh) (subsetsOf (length sh) (drop (at + length sh + length sh) ns)))
+      first e =
+          f .same ∙ ap (every (fullTest sh)) (next-subset (length sh) at ns h (f .whole) l)
+          ∙ ap (λ (b : Bool). b && every (fullTest sh) (subsetsOf (length sh) (drop (at + length sh + length sh) ns))) e
 
       pub fitting-more : fullTest sh (pairs (startsAt (length sh) at ns) (lengthsAt (length sh) at ns)) ≡ true → Fitting sh ns (at + length sh + length sh)
-      fitting-more t = record {
-        subsets = f .subsets - 1;
-        long = later;
-        same = first ∙ ap (λ (b : Bool). b && every (fullTest sh) (nextSubsets (length sh) (f .subsets - 1) (drop (at + length sh + length sh) ns))) t;
-      }
+      fitting-more t = record { whole = next-whole (length sh) at ns h (f .whole) l; same = first t }
 
       pub fitting-over : fullTest sh (pairs (startsAt (length sh) at ns) (lengthsAt (length sh) at ns)) ≡ false → manyTest sh ns ≡ false
-      fitting-over t = first ∙ ap (λ (b : Bool). b && every (fullTest sh) (nextSubsets (length sh) (f .subsets - 1) (drop (at + length sh + length sh) ns))) t
+      fitting-over t = first t

@@ -99,6 +99,9 @@ module _ {sh st ls : List ℕ} {count : ℕ} (a : SubsetAsked sh st ls count) wh
   pub asked-count : length (cellsIn sh (pairs st ls)) ≡ count
   asked-count = within-cells sh st ls (a .within) ∙ sym (a .counted)
 
+  pub asked-volume : volume (lengths (pairs st ls)) ≡ count
+  asked-volume = sym (length-cellsIn sh (pairs st ls) (a .within .inside)) ∙ asked-count
+
   pub asked-few : count ≤ 65536
   unfolding mostCells
   asked-few = omega (arith, a .counted, few-drop 0 ls (few-within st ls (a .shaped) (a .within)))

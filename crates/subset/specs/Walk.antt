@@ -1,4 +1,5 @@
--- docs/SPEC.md, S3.3, row by row: the cells of a subset are runs of neighbours. What a walk asks, what is left at each turn, and what the next row is.
+-- Redundant by the laws asked-left and row-is in subset/proofs/Rows.antt: the cells of a subset (S3.3) row by row, runs of neighbours.
+-- What a walk asks, what is left at each turn, and what the next row is.
 -- Assumes nothing.
 use mathlib.Core.Path.{_≡_}
 use Prim.Native.Nat.{ℕ, _+_, _-_, _≤_}

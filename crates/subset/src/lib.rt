@@ -4,7 +4,7 @@ use array::refusal;
 use valid::shape::Cells;
 ghost use mathlib.Core.Path.{_≡_};
 ghost use Prim.Native.Nat.{_+_, _-_, _≤_, _<_};
-ghost use lib.ListN.{length, getD};
+ghost use lib.ListN.{length, getD, drop};
 ghost use lib.Dec.{leb};
 ghost use Rattle.array.specs.Limits.{mostCells};
 ghost use Rattle.array.specs.Lists.{from, every};
@@ -15,6 +15,7 @@ ghost use Rattle.array.specs.Rows.{Within, FewCells};
 ghost use Rattle.array.specs.Outcome.{outcome};
 ghost use Rattle.array.specs.Calls.{subsetCells};
 ghost use Rattle.subset.specs.Walk.{SubsetAsked, rowOf, Left, RowAt};
+ghost use Rattle.subset.specs.Subsets.{SubsetsOk, SubsetAt};
 
 // Whether a start leaves room for the length in its side. The length is taken off the side, since a sum could wrap.
 fn leaves_room(side: u64, start: u64, len: u64) -> bool
@@ -151,6 +152,24 @@ pub fn row_at(shape: &[u64], starts: &[u64], lens: &[u64], count: usize, at: usi
     let cells = lens[last] as usize;
     let first = cell_at(shape, starts, lens, at as u64) as usize;
     Row { first, cells }
+}
+
+// A subset of a list, all starts and then all lengths: its lengths begin at `mid`, the next subset at `end`.
+pub struct Listed {
+    pub mid: usize,
+    pub end: usize,
+    pub cells: usize,
+}
+
+// The subset that begins at `at` in a list of subsets: what each loop over a list asks at each turn.
+pub fn subset_at(shape: &[u64], subsets: &[u64], at: usize) -> Listed
+    requires { ⌜ SubsetsOk (now shape) (drop at (now subsets)) × (at < length (now subsets)) ⌝ }
+    ensures { λ r. ⌜ SubsetAt (now (shape .entry)) (now (subsets .entry)) at (r .mid) (r .end) (r .cells) ⌝ }
+{
+    let mid = at + shape.len();
+    let end = mid + shape.len();
+    let cells = volume_of(&subsets[mid..end]) as usize;
+    Listed { mid, end, cells }
 }
 
 // Stores n cells that are neighbours, from the cell `first` on.

@@ -1,5 +1,6 @@
 -- `merge` meets its contract: it is its steps (proofs/Steps).
 -- Assumes nothing.
+use Prim.Native.Nat.{ℕ}
 use mathlib.Core.Path.{_≡_, sym, ap, _∙_}
 use borrow.Author.Needs.{needs}
 use Rattle.array.specs.Answer.{gives}
@@ -7,14 +8,14 @@ use Rattle.array.specs.Kind.{Kind}
 use Rattle.array.specs.Meaning.{kindOf}
 use Rattle.array.specs.Content.{Content}
 use Rattle.array.specs.Outcome.{contentArray}
-use Rattle.merge.specs.Merge.{Sizes, checkAnswer, toldChecks}
+use Rattle.merge.specs.Merge.{checkAnswer, toldChecks}
 use Rattle.merge.proofs.Steps.{merge-refused, merge-checked, merge-stored}
 use Rattle.merge.proofs.merge.Statement.{statement}
 use Rattle.merge.proofs.merge.Tie as tie
 
 -- where the function starts: what was handed over, and what was lent
 abbrev start : tie.After-check-merge → tie.Start
-start m = m .before .before .before .before .before .before .before .before .before
+start m = let p = m .before .before .before in let q = p .before .before .before in q .before .before .before
 
 abbrev handed : tie.Start → Content
 handed a = contentArray (a .args .masks .now) (a .args .values .now) (a .args .offsets .now)
@@ -29,28 +30,19 @@ kind a = kindOf (a .args .kind)
 abbrev checked : tie.After-known-told2 → tie.After-check-merge
 checked k = k .before .before .before
 
-abbrev sizes : tie.After-known-told2 → Sizes
-sizes k = let g = k .before .cells .given .0 in record { cells = g .0; count = g .1 .0 }
+abbrev cells : tie.After-known-told2 → ℕ
+cells k = k .before .cells .given .0 .0
 
 passed : (k : tie.After-known-told2)
     → let a = start (checked k) in
-    gives (sizes k) ≡ checkAnswer (kind a) (a .args .shape .now) (a .args .subsets .now) (handed a)
+    gives (cells k) ≡ checkAnswer (kind a) (a .args .shape .now) (a .args .subsets .now) (handed a)
 passed k = sym (ap toldChecks (k .before .cells .given .1)) ∙ checked k .check-merge .ensures
-
-check-merge-requires : tie.Need-check-merge-requires
-check-merge-requires c κs = search needs
-
-enum-known-e : tie.Need-enum-known-e
-enum-known-e c = search needs
-
-enum-known-cells : tie.Need-enum-known-cells
-enum-known-cells c = search needs
 
 store-covering-requires : tie.Need-store-covering-requires
 store-covering-requires c κs =
     let k = c .before .before .before in
     let a = start (checked k) in
-    merge-checked (kind a) (a .args .shape .now) (a .args .subsets .now) (handed a) (lent a) (sizes k) (passed k)
+    merge-checked (kind a) (a .args .shape .now) (a .args .subsets .now) (handed a) (lent a) (cells k) (passed k)
 
 returns : tie.Need-returns
 returns c =
@@ -58,33 +50,25 @@ returns c =
     let a = start m in
     merge-refused (kind a) (a .args .shape .now) (a .args .subsets .now) (handed a) (lent a) (c .before .e .given .0 .0) (sym (ap toldChecks (c .before .e .given .1)) ∙ m .check-merge .ensures)
 
-same-length : tie.Need-same-length
-same-length c = search needs
-
-same-length-2 : tie.Need-same-length-2
-same-length-2 c = search needs
-
-same-length-3 : tie.Need-same-length-3
-same-length-3 c = search needs
-
 returns-2 : tie.Need-returns-2
 returns-2 c =
-    let s = c .before .before .before .before .before .before in
+    let p = c .before .before in
+    let s = p .before .before .before .before in
     let k = s .before .before .before .before in
     let a = start (checked k) in
-    merge-stored (kind a) (a .args .shape .now) (a .args .subsets .now) (handed a) (lent a) (sizes k) (passed k)
+    merge-stored (kind a) (a .args .shape .now) (a .args .subsets .now) (handed a) (lent a) (cells k) (passed k)
     (s .store-covering .ensures)
 
 pub merge-spec : {M : Type 1} → statement M
 merge-spec =
     tie.close
     (tie.spec
-    check-merge-requires
-    enum-known-e
-    enum-known-cells
+    (λ c κs. search needs)
+    (λ c. search needs)
+    (λ c. search needs)
     store-covering-requires
     returns
-    same-length
-    same-length-2
-    same-length-3
+    (λ c. search needs)
+    (λ c. search needs)
+    (λ c. search needs)
     returns-2)

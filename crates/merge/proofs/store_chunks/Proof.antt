@@ -17,7 +17,7 @@ use Rattle.merge.proofs.store_chunks.Tie as tie
 
 -- where the function starts, and what was lent
 abbrev start : tie.After-struct-known → tie.Start
-start k = k .before .before .before .before .before .before .before .before .before
+start k = let p = k .before .before .before in let q = p .before .before .before in q .before .before .before
 
 abbrev lent : tie.Start → Content
 lent a = contentArray (a .args .out-masks .now) (a .args .out-values .now) (a .args .out-offsets .now)
@@ -32,7 +32,7 @@ few a = omega (arith, a .pre .checked .counted, a .pre .checked .subsets .shaped
 abbrev tested : tie.Else2 → tie.Start
 tested t = start (t .before .before)
 
-masks-fit : (t : tie.Else2) → tested t .args .kind .depth * tested t .args .cells ≤ length (tested t .args .out-masks .now)
+masks-fit : (t : tie.Else2) → let a = tested t .args in a .kind .depth * a .cells ≤ length (a .out-masks .now)
 masks-fit t = t .before .if1 .left
 
 values-fit : (t : tie.Else2) → length (tested t .args .values .now) ≤ length (tested t .args .out-values .now)
@@ -49,11 +49,12 @@ is-fixed k = ap formOf (k .before .form .given .1)
 abbrev at-ragged : tie.After-enum-told → tie.Else2
 at-ragged k = k .before .before
 
+-- places that the answers go back to
+abbrev after-store-masks2 : tie.After-slice-known6 → tie.After-store-masks2
+after-store-masks2 c = c .before .before
+
 is-ragged : (k : tie.After-enum-told) → form (tested (at-ragged k)) ≡ ragged (widthOf (k .enum-told .given .0 .0)) (placeOf (k .enum-told .given .0 .1 .0))
 is-ragged k = ap formOf (k .enum-told .given .1)
-
-cast-depth : tie.Need-cast-depth
-cast-depth c = search needs
 
 mul-mask-bytes : tie.Need-mul-mask-bytes
 mul-mask-bytes c =
@@ -70,12 +71,6 @@ returns-2 c =
     let a = start (c .before .before) in
     no-values (a .pre) (lent a) (c .if2 .taken)
 
-enum-known-form : tie.Need-enum-known-form
-enum-known-form c = search needs
-
-cast-wide : tie.Need-cast-wide
-cast-wide c = search needs
-
 store-masks-requires : tie.Need-store-masks-requires
 store-masks-requires c κs =
     let t = at-fixed (c .before) in
@@ -84,13 +79,11 @@ store-masks-requires c κs =
 
 store-parts-requires : tie.Need-store-parts-requires
 store-parts-requires c κs =
-    let k = c .before .before .before .before .before in
+    let p = c .before .before in
+    let k = p .before .before .before in
     let t = at-fixed k in
     let a = tested t in
     parts-asked (a .pre) (lent a) (is-fixed k) (values-fit t)
-
-enum-told : tie.Need-enum-told
-enum-told c = search needs
 
 returns-3 : tie.Need-returns-3
 returns-3 c =
@@ -106,23 +99,20 @@ store-masks-requires-2 c κs =
 
 merge-ragged-requires : tie.Need-merge-ragged-requires
 merge-ragged-requires c κs =
-    let o = c .before .before .before .before .before .before in
+    let p = c .before .before in
+    let o = p .before .before .before .before in
     let k = o .before in
     let t = at-ragged k in
     let a = tested t in
     ragged-merge-asked (a .pre) (lent a) (is-ragged k) (values-fit t) (o .if3 .left)
 
-add-t26 : tie.Need-add-t26
+add-t25 : tie.Need-add-t25
 unfolding mostCells
-add-t26 c =
-    let o = c .before .before .before .before .before .before .before .before .before .before .before in
+add-t25 c =
+    let p = c .before .before .before in
+    let g = p .before .before .before .before in
+    let o = g .before .before .before .before in
     omega (arith, few (tested (at-ragged (o .before))))
-
-same-length : tie.Need-same-length
-same-length c = search needs
-
-same-length-2 : tie.Need-same-length-2
-same-length-2 c = search needs
 
 returns-4 : tie.Need-returns-4
 returns-4 c =
@@ -134,19 +124,10 @@ returns-4 c =
     fixed-stored (a .pre) (lent a) (is-fixed k)
     (masks-fit t) (values-fit t) (m .store-masks .ensures) (v .store-parts .ensures)
 
-same-length-3 : tie.Need-same-length-3
-same-length-3 c = search needs
-
-same-length-4 : tie.Need-same-length-4
-same-length-4 c = search needs
-
-same-length-5 : tie.Need-same-length-5
-same-length-5 c = search needs
-
 returns-5 : tie.Need-returns-5
 returns-5 c =
     let v = c .before .before .before .before in
-    let m = v .before .before .before .before .before in
+    let m = after-store-masks2 (v .before .before .before) in
     let o = m .before .before in
     let k = o .before in
     let t = at-ragged k in
@@ -158,23 +139,23 @@ pub store-chunks-spec : {M : Type 1} → statement M
 store-chunks-spec =
     tie.close
     (tie.spec
-    cast-depth
+    (λ c. search needs)
     mul-mask-bytes
     returns
     returns-2
-    enum-known-form
-    cast-wide
+    (λ c. search needs)
+    (λ c. search needs)
     store-masks-requires
     store-parts-requires
-    enum-told
+    (λ c. search needs)
     returns-3
     store-masks-requires-2
     merge-ragged-requires
-    add-t26
-    same-length
-    same-length-2
+    add-t25
+    (λ c. search needs)
+    (λ c. search needs)
     returns-4
-    same-length-3
-    same-length-4
-    same-length-5
+    (λ c. search needs)
+    (λ c. search needs)
+    (λ c. search needs)
     returns-5)

@@ -19,9 +19,6 @@ Inv-loop words₀ start len i₀ end words i =
 abbrev μ-loop : tie.MeasureT-loop
 μ-loop words₀ start len i₀ end words i = end - i
 
-add-end : tie.Need-add-end Inv-loop μ-loop
-add-end c = omega arith
-
 loop-holds : tie.Need-loop-holds Inv-loop μ-loop
 loop-holds c =
     let a = c .before in
@@ -30,6 +27,9 @@ loop-holds c =
 -- where a word's cells are counted; the loop's head before it, and where the run ends
 abbrev Word : Type 0
 Word = tie.After-in-word Inv-loop μ-loop
+
+abbrev word : tie.Else1 Inv-loop μ-loop → Word
+word c = c .before .before .before
 
 abbrev head : Word → tie.At-loop Inv-loop μ-loop
 head w = w .before .before
@@ -40,14 +40,8 @@ stop l = l .before .before .args .start + l .before .before .args .len
 inside : (w : Word) → (1 ≤ w .in-word .result) × (head w .loop .i % 64 + w .in-word .result ≤ 64) × (head w .loop .i + w .in-word .result ≤ stop (head w))
 inside w = let l = head w in in-word (l .loop .i) (stop l) (omega arith) (w .in-word .ensures)
 
-in-word-requires : tie.Need-in-word-requires Inv-loop μ-loop
-in-word-requires c κs = omega arith
-
 marks-at-requires : tie.Need-marks-at-requires Inv-loop μ-loop
 marks-at-requires c κs = let w = c .before in (head w .loop .inv .3, omega arith, inside w .0, inside w .1)
-
-same-length : tie.Need-same-length Inv-loop μ-loop
-same-length c = omega arith
 
 returns : tie.Need-returns Inv-loop μ-loop
 returns c =
@@ -59,18 +53,18 @@ returns c =
 
 set-marks-requires : tie.Need-set-marks-requires Inv-loop μ-loop
 set-marks-requires c κs =
-    let w = c .before .before .before .before in
+    let w = word (c .before) in
     (head w .loop .inv .3, omega arith, inside w .0, inside w .1, omega (arith, c .before .before .marks-at .ensures, c .before .if1 .left))
 
 add-i : tie.Need-add-i Inv-loop μ-loop
-add-i c = omega (arith, inside (c .before .before .before .before .before .before .before) .2)
+add-i c = omega (arith, inside (word (c .before .before .before .before)) .2)
 
 loop-less : tie.Need-loop-less Inv-loop μ-loop
-loop-less c = let w = c .before .before .before .before .before .before .before in omega (arith, inside w .0, inside w .2)
+loop-less c = let w = word (c .before .before .before .before) in omega (arith, inside w .0, inside w .2)
 
 loop-again : tie.Need-loop-again Inv-loop μ-loop
 loop-again c =
-    let w = c .before .before .before .before .before .before .before in
+    let w = word (c .before .before .before .before) in
     let l = head w in (
       inside w .2,
       omega arith,
@@ -78,9 +72,6 @@ loop-again c =
       c .before .before .set-marks .kept .0 ∙ l .loop .inv .3,
       l .loop .inv .4 ∙ run-more (marksOf (l .loop .words)) (l .loop .i) (w .in-word .result) (stop l) (inside w .2) (sym (c .before .before .set-marks .ensures)),
     )
-
-same-length-2 : tie.Need-same-length-2 Inv-loop μ-loop
-same-length-2 c = omega arith
 
 returns-2 : tie.Need-returns-2 Inv-loop μ-loop
 returns-2 c =
@@ -93,15 +84,15 @@ mark-run-spec =
     (tie.spec
     Inv-loop
     μ-loop
-    add-end
+    (λ c. omega arith)
     loop-holds
-    in-word-requires
+    (λ c κs. omega arith)
     marks-at-requires
-    same-length
+    (λ c. omega arith)
     returns
     set-marks-requires
     add-i
     loop-less
     loop-again
-    same-length-2
+    (λ c. omega arith)
     returns-2)

@@ -9,28 +9,10 @@ use Rattle.merge_cover.proofs.RunBits.{low-bits}
 use Rattle.merge_cover.proofs.marks_at.Statement.{statement}
 use Rattle.merge_cover.proofs.marks_at.Tie as tie
 
-sub-s : tie.Need-sub-s
-sub-s c = search needs
-
-mul-w : tie.Need-mul-w
-mul-w c = search needs
-
-shared-slice-read-w : tie.Need-shared-slice-read-w
-shared-slice-read-w c = search needs
-
-shr-result : tie.Need-shr-result
-shr-result c = search needs
-
-shl-result : tie.Need-shl-result
-shl-result c = search needs
-
-shr-result-2 : tie.Need-shr-result-2
-shr-result-2 c = search needs
-
 returns : tie.Need-returns
 unfolding bitsAt
 returns c = let a = c .before in low-bits (a .args .n) (omega arith) (getD (a .args .words .now) (a .args .i / 64) 0 / 2 ^ (a .args .i % 64))
 
 pub marks-at-spec : {M : Type 1} → statement M
 marks-at-spec =
-    tie.close (tie.spec sub-s mul-w shared-slice-read-w shr-result shl-result shr-result-2 returns)
+    tie.close (tie.spec (λ c. search needs) (λ c. search needs) (λ c. search needs) (λ c. search needs) (λ c. search needs) (λ c. search needs) returns)

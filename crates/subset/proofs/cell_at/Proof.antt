@@ -21,21 +21,6 @@ small l h =
 loop-holds : tie.Need-loop-holds Inv-loop μ-loop
 loop-holds c = cell-begins (c .args .shape .now) (c .args .starts .now) (c .args .lens .now) (c .args .i) (c .pre .1) (c .pre .2)
 
-sub-k : tie.Need-sub-k Inv-loop μ-loop
-sub-k c = omega arith
-
-mul-n : tie.Need-mul-n Inv-loop μ-loop
-mul-n c = omega arith
-
-shared-slice-read-n : tie.Need-shared-slice-read-n Inv-loop μ-loop
-shared-slice-read-n c = omega arith
-
-mul-row : tie.Need-mul-row Inv-loop μ-loop
-mul-row c = omega arith
-
-shared-slice-read-row : tie.Need-shared-slice-read-row Inv-loop μ-loop
-shared-slice-read-row c = omega arith
-
 rem-row : tie.Need-rem-row Inv-loop μ-loop
 rem-row c = small (c .before .before .before) (omega arith) .some-length
 
@@ -51,17 +36,8 @@ add-cell c = omega (arith, small (c .before .before .before) (omega arith))
 div-q : tie.Need-div-q Inv-loop μ-loop
 div-q c = small (c .before .before .before) (omega arith) .some-length
 
-mul-v : tie.Need-mul-v Inv-loop μ-loop
-mul-v c = omega arith
-
-shared-slice-read-v : tie.Need-shared-slice-read-v Inv-loop μ-loop
-shared-slice-read-v c = omega arith
-
 mul-v-2 : tie.Need-mul-v-2 Inv-loop μ-loop
 mul-v-2 c = omega (arith, small (c .before .before .before .before) (omega arith))
-
-loop-less : tie.Need-loop-less Inv-loop μ-loop
-loop-less c = omega arith
 
 loop-again : tie.Need-loop-again Inv-loop μ-loop
 loop-again c =
@@ -82,19 +58,19 @@ cell-at-spec =
     Inv-loop
     μ-loop
     loop-holds
-    sub-k
-    mul-n
-    shared-slice-read-n
-    mul-row
-    shared-slice-read-row
+    (λ c. omega arith)
+    (λ c. omega arith)
+    (λ c. omega arith)
+    (λ c. omega arith)
+    (λ c. omega arith)
     rem-row
     add-row
     mul-cell
     add-cell
     div-q
-    mul-v
-    shared-slice-read-v
+    (λ c. omega arith)
+    (λ c. omega arith)
     mul-v-2
-    loop-less
+    (λ c. omega arith)
     loop-again
     returns)

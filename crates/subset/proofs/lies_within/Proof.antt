@@ -16,23 +16,14 @@ Inv-loop shape starts lens i₀ i = (i ≤ length shape) × (subsetTest shape (p
 abbrev μ-loop : tie.MeasureT-loop
 μ-loop shape starts lens i₀ i = length shape - i
 
+abbrev head : tie.Else1 Inv-loop μ-loop → tie.At-loop Inv-loop μ-loop
+head c = c .before .before .before .before
+
 abbrev start : tie.At-loop Inv-loop μ-loop → tie.Start Inv-loop μ-loop
 start l = l .before .before .before .before
 
 loop-holds : tie.Need-loop-holds Inv-loop μ-loop
 loop-holds c = (omega arith, refl)
-
-mul-side : tie.Need-mul-side Inv-loop μ-loop
-mul-side c = omega arith
-
-shared-slice-read-side : tie.Need-shared-slice-read-side Inv-loop μ-loop
-shared-slice-read-side c = omega arith
-
-mul-len : tie.Need-mul-len Inv-loop μ-loop
-mul-len c = omega arith
-
-shared-slice-read-len : tie.Need-shared-slice-read-len Inv-loop μ-loop
-shared-slice-read-len c = omega arith
 
 returns : tie.Need-returns Inv-loop μ-loop
 returns c =
@@ -40,34 +31,19 @@ returns c =
     let a = start l in
     sym (l .loop .inv .1 ∙ fits-over (a .args .shape .now) (a .args .starts .now) (a .args .lens .now) (a .pre .0) (a .pre .1) (l .loop .i) (omega arith) (omega arith))
 
-mul-leaves-room : tie.Need-mul-leaves-room Inv-loop μ-loop
-mul-leaves-room c = omega arith
-
-shared-slice-read-leaves-room : tie.Need-shared-slice-read-leaves-room Inv-loop μ-loop
-shared-slice-read-leaves-room c = omega arith
-
-leaves-room-requires : tie.Need-leaves-room-requires Inv-loop μ-loop
-leaves-room-requires c κs = omega arith
-
 returns-2 : tie.Need-returns-2 Inv-loop μ-loop
 returns-2 c =
     let r = c .before in
-    let l = r .before .before .before .before .before .before in
+    let l = head (r .before .before) in
     let a = start l in
     sym (l .loop .inv .1
     ∙ fits-no-room (a .args .shape .now) (a .args .starts .now) (a .args .lens .now) (a .pre .0) (a .pre .1) (l .loop .i) (omega arith) (r .before .before .if1 .left)
     (sym (r .leaves-room .ensures) ∙ not-true (r .leaves-room .result) (c .if2 .taken)))
 
-add-i : tie.Need-add-i Inv-loop μ-loop
-add-i c = omega arith
-
-loop-less : tie.Need-loop-less Inv-loop μ-loop
-loop-less c = omega arith
-
 loop-again : tie.Need-loop-again Inv-loop μ-loop
 loop-again c =
     let r = c .before in
-    let l = r .before .before .before .before .before .before in
+    let l = head (r .before .before) in
     let a = start l in (
       omega arith,
       l .loop .inv .1
@@ -88,16 +64,16 @@ lies-within-spec =
     Inv-loop
     μ-loop
     loop-holds
-    mul-side
-    shared-slice-read-side
-    mul-len
-    shared-slice-read-len
+    (λ c. omega arith)
+    (λ c. omega arith)
+    (λ c. omega arith)
+    (λ c. omega arith)
     returns
-    mul-leaves-room
-    shared-slice-read-leaves-room
-    leaves-room-requires
+    (λ c. omega arith)
+    (λ c. omega arith)
+    (λ c κs. omega arith)
     returns-2
-    add-i
-    loop-less
+    (λ c. omega arith)
+    (λ c. omega arith)
     loop-again
     returns-3)

@@ -9,20 +9,8 @@ use Rattle.subset.proofs.row_at.Tie as tie
 abbrev entry : tie.After-shared-slice-known3 → tie.Start
 entry c = c .before .before .before
 
-sub-last : tie.Need-sub-last
-sub-last c = search needs
-
-mul-cells : tie.Need-mul-cells
-mul-cells c = search needs
-
-shared-slice-read-cells : tie.Need-shared-slice-read-cells
-shared-slice-read-cells c = search needs
-
-cell-at-requires : tie.Need-cell-at-requires
-cell-at-requires c κs = search needs
-
 returns : tie.Need-returns
 returns c = let a = entry (c .before .before) in row-is (a .pre .0) (a .pre .1) (a .pre .2) (c .cell-at .ensures)
 
 pub row-at-spec : {M : Type 1} → statement M
-row-at-spec = tie.close (tie.spec sub-last mul-cells shared-slice-read-cells cell-at-requires returns)
+row-at-spec = tie.close (tie.spec (λ c. search needs) (λ c. search needs) (λ c. search needs) (λ c κs. search needs) returns)

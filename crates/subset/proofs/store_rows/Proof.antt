@@ -36,7 +36,7 @@ loop-holds : tie.Need-loop-holds Inv-loop μ-loop
 loop-holds c = let a = entry c in stored-begins (a .args .cells .now) (asked-left (a .pre .0)) (a .pre .1)
 
 row-at-requires : tie.Need-row-at-requires Inv-loop μ-loop
-row-at-requires c κs = (begun (c .before) .pre .0, c .before .loop .inv .geo, c .loop-test .taken)
+row-at-requires c κs = (begun (c .before) .pre .0, c .before .loop .inv .geo, omega arith)
 
 store-run-requires : tie.Need-store-run-requires Inv-loop μ-loop
 unfolding mostCells
@@ -63,7 +63,7 @@ same-length : tie.Need-same-length Inv-loop μ-loop
 same-length c = stored-same (c .before .loop .inv)
 
 returns : tie.Need-returns Inv-loop μ-loop
-returns c = stored-ends (c .before .loop .inv) (c .loop-test .left)
+returns c = stored-ends (c .before .loop .inv) (omega arith)
 
 pub store-rows-spec : {M : Type 1} → statement M
 store-rows-spec =

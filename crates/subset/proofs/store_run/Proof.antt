@@ -36,12 +36,6 @@ slice-write-cells c =
     let a = l .before .args in
     run-room (a .cells .now) (a .at) (a .first) (a .n) (l .loop .cells) (l .loop .i) (l .loop .inv .1) (c .loop-test .taken)
 
-add-i : tie.Need-add-i Inv-loop μ-loop
-add-i c = omega arith
-
-loop-less : tie.Need-loop-less Inv-loop μ-loop
-loop-less c = omega arith
-
 loop-again : tie.Need-loop-again Inv-loop μ-loop
 loop-again c =
     let l = c .before in
@@ -71,8 +65,8 @@ store-run-spec =
     add-cells-2
     mul-cells
     slice-write-cells
-    add-i
-    loop-less
+    (λ c. omega arith)
+    (λ c. omega arith)
     loop-again
     same-length
     returns)

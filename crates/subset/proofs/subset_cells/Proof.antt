@@ -53,15 +53,6 @@ total v =
     ∙ sym (within-cells (shape m) _ _ (within-parts (shape m) (numbers m) (fitting e)))
     ∙ ap (λ (b : Subset). length (cellsIn (shape m) b)) (subset-parts (length (shape m)) (numbers m))
 
-shape-cells-requires : tie.Need-shape-cells-requires
-shape-cells-requires c κs = search needs
-
-enum-told : tie.Need-enum-told
-enum-told c = search needs
-
-enum-told-2 : tie.Need-enum-told-2
-enum-told-2 c = search needs
-
 returns : tie.Need-returns
 returns c =
     let s = c .before .before in
@@ -69,25 +60,16 @@ returns c =
     cells-no-shape (a .shape .now) (a .numbers .now) (a .cells .now)
     (not-counted (a .shape .now) (c .enum-told2 .given .0 .0) (sym (ap toldCells (c .enum-told2 .given .1)) ∙ s .shape-cells .ensures) .0)
 
-subset-fits-requires : tie.Need-subset-fits-requires
-subset-fits-requires c κs = search needs
-
 returns-2 : tie.Need-returns-2
 returns-2 c =
     let m = c .before .before in
     cells-no-subset (shape m) (numbers m) (lent m) (shaped m .passes) (sym (c .before .subset-fits .ensures) ∙ not-true (c .before .subset-fits .result) (c .if1 .taken))
-
-mul-volume-of : tie.Need-mul-volume-of
-mul-volume-of c = search needs
 
 sub-volume-of : tie.Need-sub-volume-of
 sub-volume-of c = omega (arith, fitting c .counted)
 
 part-volume-of-start : tie.Need-part-volume-of-start
 part-volume-of-start c = omega (arith, fitting c .counted)
-
-part-volume-of-end : tie.Need-part-volume-of-end
-part-volume-of-end c = search needs
 
 volume-of-requires : tie.Need-volume-of-requires
 volume-of-requires c κs =
@@ -101,17 +83,8 @@ returns-3 c =
     let m = e .before .before in
     cells-no-room (shape m) (numbers m) (lent m) (shaped m .passes) (passed e) (v .volume-of .result) (total v) (c .if2 .taken)
 
-sub-store-rows : tie.Need-sub-store-rows
-sub-store-rows c = search needs
-
-part-store-rows-start : tie.Need-part-store-rows-start
-part-store-rows-start c = search needs
-
 part-store-rows-end : tie.Need-part-store-rows-end
 part-store-rows-end c = omega (arith, fitting (c .before .before .before .before) .counted)
-
-mul-store-rows : tie.Need-mul-store-rows
-mul-store-rows c = search needs
 
 -- where the outputs have room: the numbers fit
 abbrev fitted : tie.Else2 → tie.Else1
@@ -123,18 +96,12 @@ sub-store-rows-2 c = omega (arith, fitting (fitted (c .before .before)) .counted
 part-store-rows-start-2 : tie.Need-part-store-rows-start-2
 part-store-rows-start-2 c = omega (arith, fitting (fitted (c .before .before)) .counted)
 
-part-store-rows-end-2 : tie.Need-part-store-rows-end-2
-part-store-rows-end-2 c = search needs
-
 store-rows-requires : tie.Need-store-rows-requires
 store-rows-requires c κs =
     let r = c .before .before .before in
     let e = r .before .before .before in
     let m = e .before .before in
     (record { shaped = shaped m .shaped; within = within-parts (shape m) (numbers m) (fitting e); counted = r .before .volume-of .ensures }, r .if2 .left)
-
-same-length : tie.Need-same-length
-same-length c = search needs
 
 returns-4 : tie.Need-returns-4
 returns-4 c =
@@ -150,25 +117,25 @@ pub subset-cells-spec : {M : Type 1} → statement M
 subset-cells-spec =
     tie.close
     (tie.spec
-    shape-cells-requires
-    enum-told
-    enum-told-2
+    (λ c κs. search needs)
+    (λ c. search needs)
+    (λ c. search needs)
     returns
-    subset-fits-requires
+    (λ c κs. search needs)
     returns-2
-    mul-volume-of
+    (λ c. search needs)
     sub-volume-of
     part-volume-of-start
-    part-volume-of-end
+    (λ c. search needs)
     volume-of-requires
     returns-3
-    sub-store-rows
-    part-store-rows-start
+    (λ c. search needs)
+    (λ c. search needs)
     part-store-rows-end
-    mul-store-rows
+    (λ c. search needs)
     sub-store-rows-2
     part-store-rows-start-2
-    part-store-rows-end-2
+    (λ c. search needs)
     store-rows-requires
-    same-length
+    (λ c. search needs)
     returns-4)

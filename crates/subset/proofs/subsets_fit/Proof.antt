@@ -31,19 +31,13 @@ numbers l = start l .args .numbers .now
 
 -- the next subset lies among the numbers
 room : (l : Head) → l .loop .at < length (numbers l) → l .loop .at + length (shape l) + length (shape l) ≤ length (numbers l)
-room l h = fitting-room (shape l) (numbers l) (l .loop .inv) h
-
-mul-if1 : tie.Need-mul-if1 Inv-loop μ-loop
-mul-if1 c = omega arith
-
-rem-if1 : tie.Need-rem-if1 Inv-loop μ-loop
-rem-if1 c = omega arith
+room l h = fitting-room (shape l) (numbers l) (l .loop .inv) (start l .pre) h
 
 returns : tie.Need-returns Inv-loop μ-loop
 returns c = let a = c .before .before .before .args in sym (many-miscounted (a .shape .now) (a .numbers .now) (c .if1 .taken))
 
 loop-holds : tie.Need-loop-holds Inv-loop μ-loop
-loop-holds c = let a = c .before .before .before in fitting-begins (a .args .shape .now) (a .args .numbers .now) (a .pre) (c .if1 .left)
+loop-holds c = let a = c .before .before .before in fitting-begins (a .args .shape .now) (a .args .numbers .now) (c .if1 .left)
 
 add-mid : tie.Need-add-mid Inv-loop μ-loop
 add-mid c = omega (arith, room (c .before) (omega arith))
@@ -85,7 +79,7 @@ returns-2 : tie.Need-returns-2 Inv-loop μ-loop
 returns-2 c =
     let i = c .before .before .before .before in
     let l = i .before in
-    sym (fitting-over (shape l) (numbers l) (l .loop .inv) (i .loop-test .taken)
+    sym (fitting-over (shape l) (numbers l) (l .loop .inv) (start l .pre) (i .loop-test .taken)
     (sym (c .before .full-within .ensures) ∙ not-true (c .before .full-within .result) (c .if2 .taken)))
 
 loop-less : tie.Need-loop-less Inv-loop μ-loop
@@ -97,13 +91,13 @@ loop-again : tie.Need-loop-again Inv-loop μ-loop
 loop-again c =
     let i = c .before .before .before .before in
     let l = i .before in
-    fitting-more (shape l) (numbers l) (l .loop .inv) (i .loop-test .taken)
+    fitting-more (shape l) (numbers l) (l .loop .inv) (start l .pre) (i .loop-test .taken)
     (sym (c .before .full-within .ensures) ∙ not-false (c .before .full-within .result) (c .if2 .left))
 
 returns-3 : tie.Need-returns-3 Inv-loop μ-loop
 returns-3 c =
     let l = c .before in
-    sym (fitting-ends (shape l) (numbers l) (l .loop .inv) (start l .pre) (c .loop-test .left))
+    sym (fitting-ends (shape l) (numbers l) (l .loop .inv) (c .loop-test .left))
 
 pub subsets-fit-spec : {M : Type 1} → statement M
 subsets-fit-spec =
@@ -111,8 +105,8 @@ subsets-fit-spec =
     (tie.spec
     Inv-loop
     μ-loop
-    mul-if1
-    rem-if1
+    (λ c. omega arith)
+    (λ c. omega arith)
     returns
     loop-holds
     add-mid

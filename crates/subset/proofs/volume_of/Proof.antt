@@ -18,22 +18,10 @@ abbrev μ-loop : tie.MeasureT-loop
 loop-holds : tie.Need-loop-holds Inv-loop μ-loop
 loop-holds c = (omega arith, sym (volume-end (c .args .sides .now) (length (c .args .sides .now)) (omega arith)))
 
-sub-k : tie.Need-sub-k Inv-loop μ-loop
-sub-k c = omega arith
-
-mul-v : tie.Need-mul-v Inv-loop μ-loop
-mul-v c = omega arith
-
-shared-slice-read-v : tie.Need-shared-slice-read-v Inv-loop μ-loop
-shared-slice-read-v c = omega arith
-
 mul-v-2 : tie.Need-mul-v-2 Inv-loop μ-loop
 mul-v-2 c =
     let l = c .before .before in
     omega (arith, volume-fits (l .before .args .sides .now) (l .loop .k) (omega arith) (omega arith) (l .loop .inv .1) (l .before .pre))
-
-loop-less : tie.Need-loop-less Inv-loop μ-loop
-loop-less c = omega arith
 
 loop-again : tie.Need-loop-again Inv-loop μ-loop
 loop-again c =
@@ -50,10 +38,10 @@ volume-of-spec =
     Inv-loop
     μ-loop
     loop-holds
-    sub-k
-    mul-v
-    shared-slice-read-v
+    (λ c. omega arith)
+    (λ c. omega arith)
+    (λ c. omega arith)
     mul-v-2
-    loop-less
+    (λ c. omega arith)
     loop-again
     returns)

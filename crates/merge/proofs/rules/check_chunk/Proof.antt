@@ -41,30 +41,18 @@ taken k = k .before .bytes .given .0 .0
 abbrev numbers : Known → ℕ
 numbers k = k .before .bytes .given .0 .1 .0
 
-size : (k : Known) → Sized (kind (begun k) .form) (begun k .args .cells) (begun k .args .offsets .now) (taken k) (numbers k) × (numbers k ≤ length (begun k .args .offsets .now))
+size : (k : Known) → let a = begun k .args in Sized (kind (begun k) .form) (a .cells) (a .offsets .now) (taken k) (numbers k) × (numbers k ≤ length (a .offsets .now))
 size k = let a = begun k in size-known (kind a .form) (a .args .cells) (a .args .offsets .now) (sym (ap toldChunk (k .before .bytes .given .1)) ∙ asked k .chunk-size .ensures)
 
 -- the rules were asked for
 abbrev known : tie.After-keeps-rules → Known
-known r = r .before .before .before .before .before
-
-cast-depth : tie.Need-cast-depth
-cast-depth c = search needs
+known r = let p = r .before .before in p .before .before .before
 
 mul-planes : tie.Need-mul-planes
 mul-planes c = let a = start c in omega (arith, small-product (a .args .kind .depth) (a .args .cells) (omega arith) (a .pre))
 
 returns : tie.Need-returns
 returns c = let a = start (c .before) in chunk-lacks (kind a) (a .args .cells) (left a) (λ h. omega (arith, h .masks))
-
-chunk-size-requires : tie.Need-chunk-size-requires
-chunk-size-requires c κs = search needs
-
-enum-known-bytes : tie.Need-enum-known-bytes
-enum-known-bytes c = search needs
-
-enum-told : tie.Need-enum-told
-enum-told c = search needs
 
 returns-2 : tie.Need-returns-2
 returns-2 c =
@@ -78,35 +66,8 @@ returns-3 c =
     let a = begun (c .before) in
     chunk-lacks (kind a) (a .args .cells) (left a) (λ h. omega (arith, h .values, size (c .before) .0 .is-taken))
 
-sub-keeps-rules : tie.Need-sub-keeps-rules
-sub-keeps-rules c = search needs
-
-part-keeps-rules-start : tie.Need-part-keeps-rules-start
-part-keeps-rules-start c = search needs
-
-part-keeps-rules-end : tie.Need-part-keeps-rules-end
-part-keeps-rules-end c = search needs
-
-sub-keeps-rules-2 : tie.Need-sub-keeps-rules-2
-sub-keeps-rules-2 c = search needs
-
-part-keeps-rules-start-2 : tie.Need-part-keeps-rules-start-2
-part-keeps-rules-start-2 c = search needs
-
-part-keeps-rules-end-2 : tie.Need-part-keeps-rules-end-2
-part-keeps-rules-end-2 c = search needs
-
-sub-keeps-rules-3 : tie.Need-sub-keeps-rules-3
-sub-keeps-rules-3 c = search needs
-
-part-keeps-rules-start-3 : tie.Need-part-keeps-rules-start-3
-part-keeps-rules-start-3 c = search needs
-
 part-keeps-rules-end-3 : tie.Need-part-keeps-rules-end-3
 part-keeps-rules-end-3 c = size (c .before .before .before) .1
-
-keeps-rules-requires : tie.Need-keeps-rules-requires
-keeps-rules-requires c κs = search needs
 
 returns-4 : tie.Need-returns-4
 returns-4 c =
@@ -124,23 +85,23 @@ pub check-chunk-spec : {M : Type 1} → statement M
 check-chunk-spec =
     tie.close
     (tie.spec
-    cast-depth
+    (λ c. search needs)
     mul-planes
     returns
-    chunk-size-requires
-    enum-known-bytes
-    enum-told
+    (λ c κs. search needs)
+    (λ c. search needs)
+    (λ c. search needs)
     returns-2
     returns-3
-    sub-keeps-rules
-    part-keeps-rules-start
-    part-keeps-rules-end
-    sub-keeps-rules-2
-    part-keeps-rules-start-2
-    part-keeps-rules-end-2
-    sub-keeps-rules-3
-    part-keeps-rules-start-3
+    (λ c. search needs)
+    (λ c. search needs)
+    (λ c. search needs)
+    (λ c. search needs)
+    (λ c. search needs)
+    (λ c. search needs)
+    (λ c. search needs)
+    (λ c. search needs)
     part-keeps-rules-end-3
-    keeps-rules-requires
+    (λ c κs. search needs)
     returns-4
     returns-5)

@@ -1,9 +1,7 @@
 -- `check_merge` meets its contract: each refusal in its order (proofs/Passing).
 -- Assumes nothing.
-use Prim.Native.Nat.{ℕ, _*_, _/_}
 use mathlib.Core.Path.{_≡_, sym, ap, _∙_}
 use mathlib.Core.Bool.{true}
-use native.Mathlib.Omega.{arith}
 use borrow.Author.Needs.{needs}
 use borrow.Author.Tests.{not-true, not-false}
 use lib.ListN.{length}
@@ -13,8 +11,7 @@ use Rattle.array.specs.Content.{Content}
 use Rattle.array.specs.Meaning.{kindOf}
 use Rattle.array.specs.Outcome.{contentArray}
 use Rattle.array.specs.Kind.{Kind, kindTest}
-use Rattle.array.specs.Subset.{manyTest}
-use Rattle.array.specs.Rows.{nextSubsets}
+use Rattle.array.specs.Subset.{subsetsOf, manyTest}
 use Rattle.valid.specs.ShapeCells.{toldCells}
 use Rattle.valid.proofs.ShapeLaws.{Counted, counted, not-counted}
 use Rattle.merge.specs.Chunks.{chunksTest}
@@ -24,7 +21,7 @@ use Rattle.merge.proofs.rules.check_merge.Tie as tie
 
 -- where the function starts, and what was handed over
 abbrev entered : tie.After-check-kind → tie.Start
-entered k = k .before .before .before .before .before .before
+entered k = let p = k .before .before .before in p .before .before .before
 
 abbrev start : tie.Else1 → tie.Start
 start e = entered (e .before)
@@ -50,10 +47,7 @@ shape-counted m =
 abbrev first : tie.Else2 → tie.After-known-told
 first e = e .before .before
 
-abbrev count : tie.Else2 → ℕ
-count e = let a = start (from (first e)) in length (a .args .subsets .now) / (2 * length (a .args .shape .now))
-
-subsets-passed : (e : tie.Else2) → manyTest (start (from (first e)) .args .shape .now) (start (from (first e)) .args .subsets .now) ≡ true
+subsets-passed : (e : tie.Else2) → let a = start (from (first e)) .args in manyTest (a .shape .now) (a .subsets .now) ≡ true
 subsets-passed e = sym (e .before .subsets-fit .ensures) ∙ not-false (e .before .subsets-fit .result) (e .if2 .left)
 
 -- the chunks passed
@@ -61,28 +55,16 @@ abbrev earlier : tie.Else3 → tie.Else2
 earlier t = t .before .before
 
 kept : (t : tie.Else3)
-    → chunksTest (kind (start (from (first (earlier t)))))
-    (nextSubsets (length (start (from (first (earlier t))) .args .shape .now)) (count (earlier t)) (start (from (first (earlier t))) .args .subsets .now))
-    (handed (start (from (first (earlier t))))) ≡ true
+    → let s = from (first (earlier t)) in chunksTest (kind (start s))
+    (subsetsOf (length (start s .args .shape .now)) (start s .args .subsets .now))
+    (handed (start s)) ≡ true
 kept t = sym (t .before .check-chunks .ensures) ∙ not-false (t .before .check-chunks .result) (t .if3 .left)
-
-check-kind-requires : tie.Need-check-kind-requires
-check-kind-requires c κs = search needs
 
 returns : tie.Need-returns
 returns c =
     let a = entered (c .before) in
     no-kind (kind a) (a .args .shape .now) (a .args .subsets .now) (handed a)
     (sym (c .before .check-kind .ensures) ∙ not-true (c .before .check-kind .result) (c .if1 .taken))
-
-shape-cells-requires : tie.Need-shape-cells-requires
-shape-cells-requires c κs = search needs
-
-enum-known-cells : tie.Need-enum-known-cells
-enum-known-cells c = search needs
-
-enum-told : tie.Need-enum-told
-enum-told c = search needs
 
 returns-2 : tie.Need-returns-2
 returns-2 c =
@@ -101,12 +83,6 @@ returns-3 c =
     let a = start (from m) in
     no-subsets (kind a) (a .args .shape .now) (a .args .subsets .now) (handed a) (kind-passed (from m)) (shape-counted m .passes)
     (sym (c .before .subsets-fit .ensures) ∙ not-true (c .before .subsets-fit .result) (c .if2 .taken))
-
-mul-count : tie.Need-mul-count
-mul-count c = search needs
-
-div-count : tie.Need-div-count
-div-count c = omega (arith, shape-counted (first c) .shaped .some-sides)
 
 check-chunks-requires : tie.Need-check-chunks-requires
 check-chunks-requires c κs =
@@ -138,7 +114,7 @@ returns-6 c =
     let e = earlier t in
     let m = first e in
     let a = start (from m) in
-    ap (λ (n : ℕ). gives (record { cells = n; count = count e })) (shape-counted m .is)
+    ap gives (shape-counted m .is)
     ∙ passes (kind a) (a .args .shape .now) (a .args .subsets .now) (handed a) (kind-passed (from m)) (shape-counted m .passes) (subsets-passed e)
     (kept t) (c .if4 .left)
 
@@ -146,16 +122,14 @@ pub check-merge-spec : {M : Type 1} → statement M
 check-merge-spec =
     tie.close
     (tie.spec
-    check-kind-requires
+    (λ c κs. search needs)
     returns
-    shape-cells-requires
-    enum-known-cells
-    enum-told
+    (λ c κs. search needs)
+    (λ c. search needs)
+    (λ c. search needs)
     returns-2
     subsets-fit-requires
     returns-3
-    mul-count
-    div-count
     check-chunks-requires
     returns-4
     returns-5

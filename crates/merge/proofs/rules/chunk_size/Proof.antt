@@ -17,32 +17,14 @@ use Rattle.merge.proofs.rules.chunk_size.Tie as tie
 abbrev by : {x y : Values} (m : ℕ) (os : List ℕ) → x ≡ y → sizeAnswer (formOf y) m os ≡ sizeAnswer (formOf x) m os
 by m os e = ap (λ (z : Values). sizeAnswer (formOf z) m os) (sym e)
 
-enum-known-form : tie.Need-enum-known-form
-enum-known-form c = search needs
-
-cast-t6 : tie.Need-cast-t6
-cast-t6 c = search needs
-
 mul-t7 : tie.Need-mul-t7
 mul-t7 c = let a = c .before .before .before in omega (arith, small-product (c .before .form .given .0 .0) (a .args .cells) (omega arith) (a .pre))
-
-enum-told : tie.Need-enum-told
-enum-told c = search needs
 
 returns : tie.Need-returns
 returns c =
     let f = c .before .enum-told .given in
     let a = c .before .before .before .args in
     size-bad (a .cells) (a .offsets .now) (widthOf (f .0 .0)) (placeOf (f .0 .1 .0)) (omega arith) ∙ by (a .cells) (a .offsets .now) (f .1)
-
-mul-t8 : tie.Need-mul-t8
-mul-t8 c = search needs
-
-shared-slice-read-t11 : tie.Need-shared-slice-read-t11
-shared-slice-read-t11 c = search needs
-
-add-t13 : tie.Need-add-t13
-add-t13 c = search needs
 
 returns-2 : tie.Need-returns-2
 returns-2 c =
@@ -61,13 +43,13 @@ pub chunk-size-spec : {M : Type 1} → statement M
 chunk-size-spec =
     tie.close
     (tie.spec
-    enum-known-form
-    cast-t6
+    (λ c. search needs)
+    (λ c. search needs)
     mul-t7
-    enum-told
+    (λ c. search needs)
     returns
-    mul-t8
-    shared-slice-read-t11
-    add-t13
+    (λ c. search needs)
+    (λ c. search needs)
+    (λ c. search needs)
     returns-2
     returns-3)

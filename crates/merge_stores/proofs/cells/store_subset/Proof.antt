@@ -69,9 +69,6 @@ short a = (omega arith, omega arith)
 sub-last : tie.Need-sub-last Inv-loop μ-loop
 sub-last c = omega (arith, asked-lengths (entry (c .before) .pre .0))
 
-mul-n : tie.Need-mul-n Inv-loop μ-loop
-mul-n c = omega arith
-
 shared-slice-read-n : tie.Need-shared-slice-read-n Inv-loop μ-loop
 shared-slice-read-n c = omega (arith, asked-lengths (entry (c .before .before) .pre .0))
 
@@ -102,7 +99,7 @@ mul-len : tie.Need-mul-len Inv-loop μ-loop
 mul-len c = omega (arith, enough c, short (start c))
 
 copy-bytes-requires : tie.Need-copy-bytes-requires Inv-loop μ-loop
-copy-bytes-requires c κs = let k = c .before in (omega (arith, head k .loop .inv .long, room k), enough k)
+copy-bytes-requires c κs = let k = c .before in (omega (arith, head k .loop .inv .long, room k), omega (arith, enough k))
 
 add-at : tie.Need-add-at Inv-loop μ-loop
 add-at c = let k = c .before .before .before .before in omega (arith, next k .within, asked-few (start k .pre .0))
@@ -130,7 +127,7 @@ store-subset-spec =
     Inv-loop
     μ-loop
     sub-last
-    mul-n
+    (λ c. omega arith)
     shared-slice-read-n
     loop-holds
     cell-at-requires

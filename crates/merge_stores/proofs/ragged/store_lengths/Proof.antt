@@ -64,9 +64,6 @@ rising k i h =
 sub-last : tie.Need-sub-last Inv-loop μ-loop
 sub-last c = omega (arith, asked-lengths (entry (c .before) .pre .0))
 
-mul-n : tie.Need-mul-n Inv-loop μ-loop
-mul-n c = omega arith
-
 shared-slice-read-n : tie.Need-shared-slice-read-n Inv-loop μ-loop
 shared-slice-read-n c = omega (arith, asked-lengths (entry (c .before .before) .pre .0))
 
@@ -122,7 +119,7 @@ store-lengths-spec =
     Inv-loop
     μ-loop
     sub-last
-    mul-n
+    (λ c. omega arith)
     shared-slice-read-n
     loop-holds
     cell-at-requires

@@ -1,32 +1,28 @@
 -- `store_ragged` meets its contract: the rows before `at` are stored (proofs/RaggedRows over proofs/RowsStored).
 -- Assumes nothing.
-use Prim.Native.Nat.{ℕ, _+_, _-_, _*_, _<_, _≤_}
-use mathlib.Core.List.{List}
+use Prim.Native.Nat.{_+_, _-_, _*_, _<_, _≤_}
 use native.Mathlib.Omega.{arith}
-use borrow.Author.Needs.{needs}
-use lib.ListN.{length, getD, drop}
-use Rattle.array.specs.Shape.{volume}
+use lib.ListN.{length, drop}
+use Rattle.array.specs.Limits.{mostCells}
 use Rattle.array.specs.Subset.{cellsIn, pairs}
 use Rattle.array.specs.Places.{offsetAt}
-use Rattle.subset.proofs.Index.{few-drop, few-within}
-use Rattle.subset.proofs.Rows.{left-some, left-begins}
-use Rattle.merge_stores.proofs.RaggedRows.{ragged-begins, row-within, row-cell, row-rises, row-room, row-enough, ragged-more}
+use Rattle.subset.specs.Walk.{rowOf, RowAt}
+use Rattle.subset.proofs.Rows.{asked-left, asked-few, asked-lengths, asked-count, row-is}
+use Rattle.merge_stores.proofs.RaggedRows.{ragged-begins, row-rises, row-room, row-enough, ragged-more}
 use Rattle.merge_stores.proofs.RowsStored.{Store, store-ends}
 use Rattle.merge_stores.proofs.ragged.store_ragged.Statement.{statement}
 use Rattle.merge_stores.proofs.ragged.store_ragged.Tie as tie
 
 abbrev Inv-loop : tie.InvT-loop
-Inv-loop out₀ begins values base src first shape starts lens cells last n at₀ out at =
-    Store (offsetAt begins) (cellsIn shape (pairs starts lens)) (drop base values) out₀ out cells n at (offsetAt src (first + at))
+Inv-loop out₀ begins values base src first shape starts lens count last n at₀ out at =
+    Store (offsetAt begins) (cellsIn shape (pairs starts lens)) (drop base values) out₀ out count (rowOf lens) at (offsetAt src (first + at))
 
 abbrev μ-loop : tie.MeasureT-loop
-μ-loop out₀ begins values base src first shape starts lens cells last n at₀ out at = cells - at
+μ-loop out₀ begins values base src first shape starts lens count last n at₀ out at = count - at
 
+-- the start, the loop's head, and where the next row is known
 abbrev Start : Type 0
 Start = tie.Start Inv-loop μ-loop
-
-abbrev Head : Type 0
-Head = tie.At-loop Inv-loop μ-loop
 
 abbrev entry : tie.After-shared-slice-known3 Inv-loop μ-loop → Start
 entry c = c .before .before .before .before
@@ -34,88 +30,64 @@ entry c = c .before .before .before .before
 abbrev entered : tie.After-shared-slice-known6 Inv-loop μ-loop → Start
 entered c = entry (c .before .before .before)
 
-abbrev start : Head → Start
-start l = entered (l .before .before)
+abbrev Head : Type 0
+Head = tie.At-loop Inv-loop μ-loop
 
-abbrev cells : Head → List ℕ
-cells l = cellsIn (start l .args .shape .now) (pairs (start l .args .starts .now) (start l .args .lens .now))
+abbrev begun : Head → Start
+begun l = entered (l .before .before)
 
-abbrev run : Head → ℕ
-run l = getD (start l .args .lens .now) (length (start l .args .lens .now) - 1) 0
+abbrev Known : Type 0
+Known = tie.After-cell-at Inv-loop μ-loop
 
--- the shape has a side, and the subset no more than its cells
-sided : (a : Start) → 1 ≤ length (a .args .lens .now)
-sided a = omega (arith, a .pre .0 .fits .as-many-lengths, a .pre .0 .shaped .some-sides)
+abbrev head : Known → Head
+head k = k .before .before
 
-few-cells : (a : Start) → volume (a .args .lens .now) ≤ 65536
-few-cells a = few-drop 0 (a .args .lens .now) (few-within (a .args .starts .now) (a .args .lens .now) (a .pre .0 .shaped) (a .pre .0 .fits))
+abbrev start : Known → Start
+start k = begun (head k)
+
+-- the next row
+next : (k : Known) → let a = start k .args in
+    RowAt (a .shape .now) (a .lens .now) (cellsIn (a .shape .now) (pairs (a .starts .now) (a .lens .now))) (a .count) (head k .loop .at) (k .cell-at .result) (rowOf (a .lens .now))
+next k = row-is (start k .pre .0) (head k .loop .inv .geo) (k .before .loop-test .taken) (k .cell-at .ensures)
 
 -- typed by the start, since omega does not look that far back
 short : (a : Start) → (length (a .args .src .now) * 8 < 18446744073709551616) × (length (a .args .values .now) < 18446744073709551616)
 short a = (omega arith, omega arith)
 
--- a turn: the cell that was found, and the row from it on
-abbrev Found : Type 0
-Found = tie.After-cell-at Inv-loop μ-loop
+-- the row's offsets are there, and are few
+indexed : (k : Known) → let a = start k .args in
+    (a .first + head k .loop .at + rowOf (a .lens .now) < length (a .src .now)) × (length (a .src .now) * 8 < 18446744073709551616)
+indexed k = let a = start k in (omega (arith, next k .within, a .pre .1 .indexed, asked-count (a .pre .0)), short a .0)
 
-abbrev head : Found → Head
-head k = k .before .before
+enough : (k : Known) → let a = start k .args in let i = a .first + head k .loop .at in
+    a .base + offsetAt (a .src .now) i + (offsetAt (a .src .now) (i + rowOf (a .lens .now)) - offsetAt (a .src .now) i) ≤ length (a .values .now)
+enough k = row-enough (start k .pre .1) (head k .loop .inv) (next k)
 
-abbrev cell : Found → ℕ
-cell k = k .cell-at .result
-
-turned : (k : Found) → head k .loop .at < start (head k) .args .cells
-turned k = omega arith
-
-some : (k : Found) → 1 ≤ run (head k)
-some k = let l = head k in left-some (cells l) (start l .args .cells) (run l) (l .loop .at) (l .loop .inv .geo) (turned k)
-
-within : (k : Found) → head k .loop .at + run (head k) ≤ volume (start (head k) .args .lens .now)
-within k = row-within (start (head k) .pre .0) (head k .loop .inv) (turned k) (k .cell-at .ensures)
-
--- its offsets are there, and are few
-indexed : (k : Found) → (start (head k) .args .first + head k .loop .at + run (head k) < length (start (head k) .args .src .now)) × (length (start (head k) .args .src .now) * 8 < 18446744073709551616)
-indexed k = (omega (arith, within k, start (head k) .pre .0 .indexed), short (start (head k)) .0)
-
-ends : (k : Found) → cell k + run (head k) ≤ volume (start (head k) .args .shape .now)
-ends k = row-cell (start (head k) .pre .0) (head k .loop .inv) (turned k) (k .cell-at .ensures)
-
-enough : (k : Found)
-    → let a = start (head k) .args in let i = a .first + head k .loop .at in
-    a .base + offsetAt (a .src .now) i + (offsetAt (a .src .now) (i + run (head k)) - offsetAt (a .src .now) i) ≤ length (a .values .now)
-enough k = row-enough (start (head k) .pre .0) (head k .loop .inv) (turned k) (k .cell-at .ensures)
-
-abbrev found : tie.After-copy-bytes-arg Inv-loop μ-loop → Found
+-- where the row is copied
+abbrev found : tie.After-copy-bytes-arg Inv-loop μ-loop → Known
 found c = c .before .before .before .before
 
-abbrev copied : tie.After-copy-bytes Inv-loop μ-loop → Found
+abbrev copied : tie.After-copy-bytes Inv-loop μ-loop → Known
 copied b = found (b .before)
 
 sub-last : tie.Need-sub-last Inv-loop μ-loop
-sub-last c = omega (arith, sided (entered c))
-
-mul-n : tie.Need-mul-n Inv-loop μ-loop
-mul-n c = search needs
+sub-last c = omega (arith, asked-lengths (entered c .pre .0))
 
 shared-slice-read-n : tie.Need-shared-slice-read-n Inv-loop μ-loop
-shared-slice-read-n c = omega (arith, sided (entered (c .before)))
+shared-slice-read-n c = omega (arith, asked-lengths (entered (c .before) .pre .0))
 
 loop-holds : tie.Need-loop-holds Inv-loop μ-loop
-loop-holds c =
-    let a = entered (c .before) in
-    ragged-begins (a .pre .0)
-    (left-begins (a .args .shape .now) (a .args .starts .now) (a .args .lens .now) (a .pre .0 .fits) (a .pre .0 .shaped .some-sides) (a .pre .1))
+loop-holds c = let a = entered (c .before) in ragged-begins (a .pre .1) (asked-left (a .pre .0))
 
 cell-at-requires : tie.Need-cell-at-requires Inv-loop μ-loop
-cell-at-requires c κs =
-    let l = c .before in
-    (start l .pre .0 .shaped, start l .pre .0 .fits, omega (arith, start l .pre .1))
+cell-at-requires c κs = let q = begun (c .before) .pre .0 in (q .shaped, q .within, omega (arith, q .counted, c .loop-test .taken))
 
 mul-to : tie.Need-mul-to Inv-loop μ-loop
-mul-to c = omega (arith, ends c, start (head c) .pre .0 .shaped .few-cells)
+unfolding mostCells
+mul-to c = omega (arith, next c .inside, start c .pre .0 .shaped .few-cells)
 
 shared-slice-read-to : tie.Need-shared-slice-read-to Inv-loop μ-loop
-shared-slice-read-to c = let k = c .before in omega (arith, ends k, some k, start (head k) .pre .0 .laid .covered)
+shared-slice-read-to c = let k = c .before in omega (arith, next k .inside, start k .pre .1 .laid .covered)
 
 add-i : tie.Need-add-i Inv-loop μ-loop
 add-i c = omega (arith, indexed (c .before))
@@ -136,37 +108,34 @@ shared-slice-read-end : tie.Need-shared-slice-read-end Inv-loop μ-loop
 shared-slice-read-end c = omega (arith, indexed (c .before .before .before))
 
 add-copy-bytes : tie.Need-add-copy-bytes Inv-loop μ-loop
-add-copy-bytes c = let k = found c in omega (arith, enough k, short (start (head k)) .1)
+add-copy-bytes c = let k = found c in omega (arith, enough k, short (start k) .1)
 
 sub-copy-bytes : tie.Need-sub-copy-bytes Inv-loop μ-loop
-sub-copy-bytes c = let k = found c in row-rises (start (head k) .pre .0) (head k .loop .inv) (turned k) (k .cell-at .ensures)
+sub-copy-bytes c = let k = found c in row-rises (start k .pre .1) (head k .loop .inv) (next k)
 
 copy-bytes-requires : tie.Need-copy-bytes-requires Inv-loop μ-loop
 copy-bytes-requires c κs =
     let k = found c in
-    let l = head k in
-    (omega (arith, l .loop .inv .long, row-room (start l .pre .0) (l .loop .inv) (turned k) (k .cell-at .ensures)), enough k)
+    let i = head k .loop .inv in
+    (omega (arith, i .long, row-room (start k .pre .1) i (next k)), enough k)
 
 add-at : tie.Need-add-at Inv-loop μ-loop
-add-at c = let k = copied (c .before .before) in omega (arith, within k, few-cells (start (head k)))
+add-at c = let k = copied (c .before .before) in omega (arith, next k .within, asked-few (start k .pre .0))
 
 loop-less : tie.Need-loop-less Inv-loop μ-loop
-loop-less c = let k = copied (c .before .before) in omega (arith, within k, some k)
+loop-less c = let k = copied (c .before .before) in omega (arith, next k .within, next k .some)
 
 loop-again : tie.Need-loop-again Inv-loop μ-loop
 loop-again c =
     let b = c .before .before in
     let k = copied b in
-    ragged-more (start (head k) .pre .0) (head k .loop .inv) (turned k) (k .cell-at .ensures) (b .copy-bytes .ensures)
+    ragged-more (start k .pre .1) (head k .loop .inv) (next k) (b .copy-bytes .ensures)
 
 same-length : tie.Need-same-length Inv-loop μ-loop
 same-length c = c .before .loop .inv .long
 
 returns : tie.Need-returns Inv-loop μ-loop
-returns c =
-    let l = c .before in
-    let a = start l .args in
-    store-ends (l .loop .inv) (omega arith)
+returns c = store-ends (c .before .loop .inv) (c .loop-test .left)
 
 pub store-ragged-spec : {M : Type 1} → statement M
 store-ragged-spec =
@@ -175,7 +144,7 @@ store-ragged-spec =
     Inv-loop
     μ-loop
     sub-last
-    mul-n
+    (λ c. omega arith)
     shared-slice-read-n
     loop-holds
     cell-at-requires

@@ -21,47 +21,17 @@ abbrev μ-loop : tie.MeasureT-loop
 loop-holds : tie.Need-loop-holds Inv-loop μ-loop
 loop-holds c = copy-begins (c .pre .0) (omega (arith, length-steps (c .args .src .now)))
 
-add-a : tie.Need-add-a Inv-loop μ-loop
-add-a c = omega arith
-
-mul-a : tie.Need-mul-a Inv-loop μ-loop
-mul-a c = omega arith
-
-shared-slice-read-a : tie.Need-shared-slice-read-a Inv-loop μ-loop
-shared-slice-read-a c = omega arith
-
-add-b : tie.Need-add-b Inv-loop μ-loop
-add-b c = omega arith
-
-add-b-2 : tie.Need-add-b-2 Inv-loop μ-loop
-add-b-2 c = omega arith
-
-mul-b : tie.Need-mul-b Inv-loop μ-loop
-mul-b c = omega arith
-
-shared-slice-read-b : tie.Need-shared-slice-read-b Inv-loop μ-loop
-shared-slice-read-b c = omega arith
-
 sub-out : tie.Need-sub-out Inv-loop μ-loop
 sub-out c =
     let l = c .before .before .before in
     let a = l .before in
     omega (arith, a .pre .2 (l .loop .i) (omega arith), ap (λ (k : ℕ). getD (a .args .src .now) k 0) (add-one (a .args .first + l .loop .i)))
 
-add-out : tie.Need-add-out Inv-loop μ-loop
-add-out c = omega arith
-
 mul-out : tie.Need-mul-out Inv-loop μ-loop
 mul-out c = let l = c .before .before .before in omega (arith, copy-same (l .loop .inv))
 
 slice-write-out : tie.Need-slice-write-out Inv-loop μ-loop
 slice-write-out c = copy-room (c .before .before .before .loop .inv) (omega arith)
-
-add-i : tie.Need-add-i Inv-loop μ-loop
-add-i c = omega arith
-
-loop-less : tie.Need-loop-less Inv-loop μ-loop
-loop-less c = omega arith
 
 loop-again : tie.Need-loop-again Inv-loop μ-loop
 loop-again c = let l = c .before .before .before in steps-more (l .before .args .src .now) (l .loop .inv) (omega arith) (l .before .pre .1)
@@ -79,19 +49,19 @@ store-steps-spec =
     Inv-loop
     μ-loop
     loop-holds
-    add-a
-    mul-a
-    shared-slice-read-a
-    add-b
-    add-b-2
-    mul-b
-    shared-slice-read-b
+    (λ c. omega arith)
+    (λ c. omega arith)
+    (λ c. omega arith)
+    (λ c. omega arith)
+    (λ c. omega arith)
+    (λ c. omega arith)
+    (λ c. omega arith)
     sub-out
-    add-out
+    (λ c. omega arith)
     mul-out
     slice-write-out
-    add-i
-    loop-less
+    (λ c. omega arith)
+    (λ c. omega arith)
     loop-again
     same-length
     returns)

@@ -21,23 +21,11 @@ Head = tie.At-loop Inv-loop μ-loop
 long : (l : Head) → length (l .loop .out) ≡ length (l .before .args .out .now)
 long l = l .loop .inv .long ∙ length-set (l .before .args .out .now) 0 0
 
-slice-write-out : tie.Need-slice-write-out Inv-loop μ-loop
-slice-write-out c = omega arith
-
 loop-holds : tie.Need-loop-holds Inv-loop μ-loop
 loop-holds c = summed-start (c .args .out .now) (c .args .n) (c .pre .0)
 
-mul-a : tie.Need-mul-a Inv-loop μ-loop
-mul-a c = omega arith
-
 slice-read-a : tie.Need-slice-read-a Inv-loop μ-loop
 slice-read-a c = omega (arith, long (c .before .before))
-
-add-b : tie.Need-add-b Inv-loop μ-loop
-add-b c = omega arith
-
-mul-b : tie.Need-mul-b Inv-loop μ-loop
-mul-b c = omega arith
 
 slice-read-b : tie.Need-slice-read-b Inv-loop μ-loop
 slice-read-b c = omega (arith, long (c .before .before .before))
@@ -54,20 +42,8 @@ add-out c =
       a .pre .1,
     )
 
-add-out-2 : tie.Need-add-out-2 Inv-loop μ-loop
-add-out-2 c = omega arith
-
-mul-out : tie.Need-mul-out Inv-loop μ-loop
-mul-out c = omega arith
-
 slice-write-out-2 : tie.Need-slice-write-out-2 Inv-loop μ-loop
 slice-write-out-2 c = omega (arith, long (c .before .before .before))
-
-add-i : tie.Need-add-i Inv-loop μ-loop
-add-i c = omega arith
-
-loop-less : tie.Need-loop-less Inv-loop μ-loop
-loop-less c = omega arith
 
 loop-again : tie.Need-loop-again Inv-loop μ-loop
 loop-again c =
@@ -90,19 +66,19 @@ sum-up-spec =
     (tie.spec
     Inv-loop
     μ-loop
-    slice-write-out
+    (λ c. omega arith)
     loop-holds
-    mul-a
+    (λ c. omega arith)
     slice-read-a
-    add-b
-    mul-b
+    (λ c. omega arith)
+    (λ c. omega arith)
     slice-read-b
     add-out
-    add-out-2
-    mul-out
+    (λ c. omega arith)
+    (λ c. omega arith)
     slice-write-out-2
-    add-i
-    loop-less
+    (λ c. omega arith)
+    (λ c. omega arith)
     loop-again
     same-length
     returns)
