@@ -2,18 +2,19 @@
 -- Assumes nothing.
 use mathlib.Core.Path.{_≡_, refl, sym, ap, ap₂, _∙_}
 use Prim.Native.Nat.{ℕ, zero, suc, _+_, _-_, _*_, _≤_, _<_}
-use native.Mathlib.Nat.{zero-mul, suc-mul, add-zero, zero-add, sub-self, le-refl}
+use native.Mathlib.Nat.{zero-mul, suc-mul, add-zero, sub-self, le-refl, le-of-eq}
 use native.Mathlib.Numerals.{add-one}
 use native.Mathlib.Omega.{arith}
 use mathlib.Core.List.{List, [], _∷_, _++_, map}
 use lib.ListN.{length, take, drop, getD, length-append, length-drop}
 use lib.Seq.{take-add, drop-drop, length-take-le}
-use Rattle.array.specs.Lists.{from, joined, pieces, All}
+use Rattle.array.specs.Lists.{from, joined, All}
 use Rattle.array.specs.Kind.{Form, fixed, ragged}
 use Rattle.array.specs.Cells.{Value}
-use Rattle.array.specs.Content.{Content, ValuesOk, valuesIn}
-use Rattle.array.specs.Offsets.{ends, slices, slicesFrom}
+use Rattle.array.specs.Content.{Content, ValuesOk}
+use Rattle.array.specs.Offsets.{Rising, RisingFrom, ends}
 use Rattle.array.specs.Places.{fixedAt, offsetAt, beginsAt, Rises, stepAt, valueAt, bytesAt, valuesAt}
+use Rattle.array.proofs.Offsets.{last-at}
 
 -- ---- lists of values, one part after another
 
@@ -105,25 +106,20 @@ module _ {off : ℕ → ℕ} {v : ℕ} (r : Rises off v) where
       let len : length (valueAt off s j) ≡ stepAt off j = length-take-le (stepAt off j) (drop (off j) s) (omega (arith, length-drop (off j) s)) in
       omega (arith, length-append (valueAt off s j) (joined (valuesAt off s js)), bytes-long s l js (p .1))
 
--- ---- the value of cell j of an array is what lies at its place
-
-pub piece-at : (k n : ℕ) (s : List ℕ) (j : ℕ) (z : Value) → j < n → getD (pieces k n s) j z ≡ take k (drop (j * k) s)
-piece-at k zero s j z h = absurd (omega arith)
-piece-at k (suc n) s zero z h = ap (λ (i : ℕ). take k (drop i s)) (sym (zero-mul k))
-piece-at k (suc n) s (suc j) z h =
-    let q : k + j * k ≡ suc j * k = omega (arith, suc-mul j k) in
-    piece-at k n (drop k s) j z (omega arith) ∙ ap (take k) (drop-drop (j * k) k s ∙ ap (λ (i : ℕ). drop i s) q)
-
-pub slice-at : (os s : List ℕ) (j : ℕ) (z : Value) → suc j < length os → getD (slices os s) j z ≡ valueAt (offsetAt os) s j
-slice-at [] s j z h = absurd (omega arith)
-slice-at (a ∷ os) s j z h = go a os j (omega arith)
+-- ---- the values of an array lie in their order, within the bytes
+pub offsets-rise : (os : List ℕ) → Rising os → {n : ℕ} → length os ≡ suc n → Rises (offsetAt os) n
+offsets-rise [] r e j h = absurd (omega arith)
+offsets-rise (a ∷ os) r e j h = go a os (r .1) j (omega arith)
   where
-    go : (a : ℕ) (os : List ℕ) (j : ℕ) → j < length os → getD (slicesFrom a os s) j z ≡ valueAt (offsetAt (a ∷ os)) s j
-    go a [] j h = absurd (omega arith)
-    go a (b ∷ os) zero h = refl
-    go a (b ∷ os) (suc j) h = go b os j (omega arith)
+    go : (a : ℕ) (os : List ℕ) → RisingFrom a os → (j : ℕ) → j < length os → getD (a ∷ os) j 0 ≤ getD os j 0
+    go a [] r j h = absurd (omega arith)
+    go a (b ∷ os) r zero h = r .0
+    go a (b ∷ os) r (suc j) h = go b os (r .1) j (omega arith)
 
-pub value-is : (f : Form) (n : ℕ) (c : Content) → ValuesOk f n c → (z : Value) (j : ℕ) → j < n → getD (valuesIn f n c) j z ≡ valueAt (beginsAt f (c .offsets)) (c .values) j
-value-is (fixed k o) n c p z j h =
-    piece-at k n (c .values) j z h ∙ ap₂ (λ (x y : ℕ). take x (drop y (c .values))) (sym (fixed-step 0 k j)) (sym (zero-add (j * k)))
-value-is (ragged w q) n c p z j h = slice-at (c .offsets) (c .values) j z (omega (arith, p .0))
+pub begins-rise : (f : Form) (n : ℕ) (c : Content) → ValuesOk f n c → Rises (beginsAt f (c .offsets)) n
+begins-rise (fixed k o) n c p = fixed-rises 0 k n
+begins-rise (ragged w q) n c p = offsets-rise (c .offsets) (p .1) (p .0)
+
+pub begins-end : (f : Form) (n : ℕ) (c : Content) → ValuesOk f n c → beginsAt f (c .offsets) n ≤ length (c .values)
+begins-end (fixed k o) n c p = omega (arith, p .0)
+begins-end (ragged w q) n c p = le-of-eq (sym (last-at (c .offsets) n (p .0)) ∙ p .2)

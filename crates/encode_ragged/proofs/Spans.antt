@@ -11,7 +11,7 @@ use Rattle.array.specs.Lists.{from, joined, All}
 use Rattle.array.specs.Offsets.{lastFrom, last, RisingFrom, Rising, ends}
 use Rattle.array.proofs.Geometry.{All-from}
 use Rattle.array.proofs.Lists.{from-suc}
-use Rattle.valid.proofs.CheckLaws.{last-at}
+use Rattle.array.proofs.Offsets.{last-at}
 use Rattle.encode_cells.specs.Live.{liveTest, liveAt}
 use Rattle.encode_cells.proofs.Numbered.{by-index}
 use Rattle.encode_cells.proofs.Runs.{All-passing, all-counted}

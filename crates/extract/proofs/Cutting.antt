@@ -18,7 +18,8 @@ use Rattle.subset.proofs.Rows.{asked-below, asked-count}
 use Rattle.extract.specs.Asked.{PlanesAsked, OffsetsFor, ValuesAsked, ArrayAsked}
 use Rattle.extract.proofs.Walk.{planes-long}
 use Rattle.extract.proofs.Closing.{cutBy, cut-is}
-use Rattle.extract.proofs.Forms.{begins-end, offsets-for, offsets-long, values-long}
+use Rattle.array.proofs.Places.{begins-end}
+use Rattle.extract.proofs.Forms.{offsets-for, offsets-long, values-long}
 
 module _ {k : Kind} {cells : ℕ} {shape starts lens : List ℕ} {c : Content} {count : ℕ} (s : SubsetAsked shape starts lens count) (a : ArrayAsked k cells shape c) where
   abbrev js : List ℕ

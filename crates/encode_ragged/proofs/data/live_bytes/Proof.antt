@@ -3,7 +3,7 @@
 use native.Mathlib.Omega.{arith}
 use borrow.Author.Needs.{needs}
 use Rattle.encode_cells.specs.Live.{liveTest}
-use Rattle.valid.proofs.CheckLaws.{last-at}
+use Rattle.array.proofs.Offsets.{last-at}
 use Rattle.encode_ragged.proofs.Spans.{all-spans}
 use Rattle.encode_ragged.proofs.Summing.{spans-le}
 use Rattle.encode_ragged.proofs.data.live_bytes.Statement.{statement}

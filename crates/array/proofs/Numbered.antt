@@ -1,0 +1,167 @@
+-- The cells of an array by their numbers: cell j has the mask bytes and the value that lie at its places, and so has what is laid out.
+-- Assumes nothing.
+use mathlib.Core.Path.{_≡_, refl, sym, ap, ap₂, _∙_}
+use Prim.Native.Nat.{ℕ, zero, suc, _+_, _*_, _≤_, _<_}
+use native.Mathlib.Nat.{zero-mul, suc-mul, add-mul, mul-one, zero-add}
+use native.Mathlib.Omega.{arith}
+use mathlib.Core.Bool.{Bool}
+use mathlib.Core.List.{List, [], _∷_, _++_, map}
+use lib.ListN.{length, take, drop, getD, length-drop, length-map}
+use lib.Seq.{drop-drop, drop-cons, getD-take, getD-drop, length-take-le}
+use Rattle.array.specs.Lists.{from, pick, joined, pieces, All}
+use Rattle.array.specs.Kind.{Kind, Form, fixed, ragged, nullOf}
+use Rattle.array.specs.Cells.{Value, Cell, maskOf, leaf, rest}
+use Rattle.array.specs.Content.{Content, ValuesOk, ContentOk, masksOf, leaves, offsetsFor, layout, pairUp, attach, valuesIn, cellsOf, nullCell, restForm}
+use Rattle.array.specs.Offsets.{slices, slicesFrom}
+use Rattle.array.specs.Places.{fixedAt, offsetAt, valueAt, valueIn, valuesAt, maskAt, masksAt, planesBy, planesAt, cellBy, shownAt, cellAt, laidBy}
+use Rattle.array.proofs.Lists.{map-from, at-from, by-number, map-below, map-map, map-cong, length-from, All-of, All-image}
+use Rattle.array.proofs.Sizes.{OfSize}
+use Rattle.array.proofs.LayoutLaws.{content-path, values-length, cells-layout}
+use Rattle.array.proofs.Inverse.{layout-cells}
+use Rattle.array.proofs.RestLaws.{hidden-by, rest-by}
+use Rattle.array.proofs.Places.{fixed-step}
+
+-- ---- values
+
+piece-at : (k n : ℕ) (s : List ℕ) (j : ℕ) (z : Value) → j < n → getD (pieces k n s) j z ≡ take k (drop (j * k) s)
+piece-at k zero s j z h = absurd (omega arith)
+piece-at k (suc n) s zero z h = ap (λ (i : ℕ). take k (drop i s)) (sym (zero-mul k))
+piece-at k (suc n) s (suc j) z h =
+    let q : k + j * k ≡ suc j * k = omega (arith, suc-mul j k) in
+    piece-at k n (drop k s) j z (omega arith) ∙ ap (take k) (drop-drop (j * k) k s ∙ ap (λ (i : ℕ). drop i s) q)
+
+slice-at : (os s : List ℕ) (j : ℕ) (z : Value) → suc j < length os → getD (slices os s) j z ≡ valueAt (offsetAt os) s j
+slice-at [] s j z h = absurd (omega arith)
+slice-at (a ∷ os) s j z h = go a os j (omega arith)
+  where
+    go : (a : ℕ) (os : List ℕ) (j : ℕ) → j < length os → getD (slicesFrom a os s) j z ≡ valueAt (offsetAt (a ∷ os)) s j
+    go a [] j h = absurd (omega arith)
+    go a (b ∷ os) zero h = refl
+    go a (b ∷ os) (suc j) h = go b os j (omega arith)
+
+pub value-is : (f : Form) (n : ℕ) (c : Content) → ValuesOk f n c → (z : Value) (j : ℕ) → j < n → getD (valuesIn f n c) j z ≡ valueIn f c j
+value-is (fixed k o) n c p z j h =
+    piece-at k n (c .values) j z h ∙ ap₂ (λ (x y : ℕ). take x (drop y (c .values))) (sym (fixed-step 0 k j)) (sym (zero-add (j * k)))
+value-is (ragged w q) n c p z j h = slice-at (c .offsets) (c .values) j z (omega (arith, p .0))
+
+pub values-are : (f : Form) (n : ℕ) (c : Content) → ValuesOk f n c → valuesIn f n c ≡ map (valueIn f c) (from 0 n)
+values-are f n c p = by-number [] (valueIn f c) (valuesIn f n c) (values-length f n c p) (value-is f n c p [])
+
+-- ---- mask bytes
+
+-- the plane of level l
+pub plane-is : (n : ℕ) (masks : List ℕ) (l : ℕ) → l * n + n ≤ length masks → take n (drop (l * n) masks) ≡ masksAt n masks l (from 0 n)
+plane-is n masks l h =
+    let ps : List ℕ = drop (l * n) masks in
+    by-number 0 (maskAt n masks l) (take n ps) (length-take-le n ps (omega (arith, length-drop (l * n) masks)))
+    (λ i h. getD-take n ps i 0 h ∙ getD-drop (l * n) masks i 0)
+
+-- a mask byte is a cell of one byte
+pub mask-bytes : (n : ℕ) (masks : List ℕ) (l : ℕ) → l * n + n ≤ length masks → (js : List ℕ) → All (λ j. j < n) js
+    → joined (valuesAt (fixedAt (l * n) 1) masks js) ≡ masksAt n masks l js
+mask-bytes n masks l h [] p = refl
+mask-bytes n masks l h (j ∷ js) p =
+    let q : l * n + j * 1 ≡ l * n + j = omega (arith, mul-one j) in
+    let one : valueAt (fixedAt (l * n) 1) masks j ≡ maskAt n masks l j ∷ [] =
+    ap₂ (λ (x y : ℕ). take x (drop y masks)) (fixed-step (l * n) 1 j) q ∙ ap (take 1) (drop-cons masks (l * n + j) 0 (omega (arith, p .0))) in
+    ap₂ (λ (v r : List ℕ). v ++ r) one (mask-bytes n masks l h js (p .1))
+
+pub planes-are : (n : ℕ) (masks js : List ℕ) → All (λ j. j < n) js → (d l : ℕ) → (l + d) * n ≤ length masks → planesAt d l n masks js ≡ planesBy (maskAt n masks) d l js
+planes-are n masks js p zero l e = refl
+planes-are n masks js p (suc d) l e =
+    ap₂ (λ (a b : List ℕ). a ++ b) (mask-bytes n masks l (omega (arith, suc-mul (l + d) n, add-mul l d n)) js p)
+    (planes-are n masks js p d (suc l) (omega arith))
+
+-- ---- the cells of an array
+
+pairUp-map : {A : Type 0} (f : ℕ → ℕ) (g : ℕ → A) (js : List ℕ) → pairUp (map f js) (map g js) ≡ map (λ j. (f j, g j)) js
+pairUp-map f g [] = refl
+pairUp-map {A} f g (j ∷ js) = ap (λ (r : List (ℕ × A)). (f j, g j) ∷ r) (pairUp-map f g js)
+
+module _ (n : ℕ) (masks : List ℕ) (v : ℕ → Value) where
+  attach-by : (d l : ℕ) → length masks ≡ (l + d) * n
+      → attach d n (drop (l * n) masks) (map v (from 0 n)) ≡ map (λ j. cellBy (λ i. maskAt n masks i j) (v j) d l) (from 0 n)
+  attach-by zero l e = refl
+  attach-by (suc d) l e =
+      ap₂ (λ (ms : List ℕ) (ps : List ℕ). pairUp ms (attach d n ps (map v (from 0 n)))) (plane-is n masks l (omega (arith, suc-mul (l + d) n, add-mul l d n)))
+      (drop-drop n (l * n) masks ∙ ap (λ (m : ℕ). drop m masks) (sym (suc-mul l n)))
+      ∙ ap (pairUp (masksAt n masks l (from 0 n))) (attach-by d (suc l) (omega arith))
+      ∙ pairUp-map (maskAt n masks l) (λ j. cellBy (λ i. maskAt n masks i j) (v j) d (suc l)) (from 0 n)
+
+module _ {k : Kind} {n : ℕ} {c : Content} (ok : ContentOk k n c) where
+  pub cells-are : cellsOf k n c ≡ map (cellAt k n c) (from 0 n)
+  cells-are =
+      ap₂ (λ (ps : List ℕ) (vs : List Value). attach (k .depth) n ps vs) (ap (λ (m : ℕ). drop m (c .masks)) (sym (zero-mul n))) (values-are (k .form) n c (ok .values-fit))
+      ∙ attach-by n (c .masks) (valueIn (k .form) c) (k .depth) 0 (ok .masks-fit ∙ ap (λ (m : ℕ). m * n) (sym (zero-add (k .depth))))
+
+  pub cell-is : (z : Cell (k .depth)) (j : ℕ) → j < n → getD (cellsOf k n c) j z ≡ cellAt k n c j
+  cell-is z j h = ap (λ (cs : List (Cell (k .depth))). getD cs j z) cells-are ∙ at-from z (cellAt k n c) n 0 j h ∙ ap (cellAt k n c) (zero-add j)
+
+  -- the cells at any places
+  pub cells-at : (z : Cell (k .depth)) (js : List ℕ) → All (λ j. j < n) js → map (λ j. getD (cellsOf k n c) j z) js ≡ map (cellAt k n c) js
+  cells-at z js p = map-below (λ j. getD (cellsOf k n c) j z) (cellAt k n c) n (cell-is z) js p
+
+  -- the content whose cells are these
+  pub content-is : (g : ℕ → Cell (k .depth)) → ((j : ℕ) → j < n → cellAt k n c j ≡ g j) → c ≡ layout (k .form) (k .depth) (map g (from 0 n))
+  content-is g e = sym (layout-cells k n c ok) ∙ ap (layout (k .form) (k .depth)) (cells-are ∙ map-from (cellAt k n c) g 0 n (λ j h. e j (omega arith)))
+
+-- ---- what is laid out: cell j has the mask byte m l j at level l, and the value v j
+
+mask-map : {A : Type 0} (g : ℕ → ℕ × A) (js : List ℕ) → maskOf (map g js) ≡ map (λ j. g j .0) js
+mask-map g [] = refl
+mask-map g (j ∷ js) = ap (λ (r : List ℕ). g j .0 ∷ r) (mask-map g js)
+
+leaf-by : (m : ℕ → ℕ) (v : Value) (d l : ℕ) → leaf d (cellBy m v d l) ≡ v
+leaf-by m v zero l = refl
+leaf-by m v (suc d) l = leaf-by m v d (suc l)
+
+module _ (m : ℕ → ℕ → ℕ) (v : ℕ → Value) (js : List ℕ) where
+  masks-laid : (d l : ℕ) → masksOf d (map (λ j. cellBy (λ i. m i j) (v j) d l) js) ≡ planesBy m d l js
+  masks-laid zero l = refl
+  masks-laid (suc d) l =
+      ap₂ (λ (a b : List ℕ). a ++ b) (mask-map (λ j. cellBy (λ i. m i j) (v j) (suc d) l) js)
+      (ap (masksOf d) (map-map (λ j. cellBy (λ i. m i j) (v j) (suc d) l) (λ c. c .1) js) ∙ masks-laid d (suc l))
+
+  leaves-laid : (d : ℕ) → leaves d (map (λ j. cellBy (λ l. m l j) (v j) d 0) js) ≡ map v js
+  leaves-laid d =
+      map-map (λ j. cellBy (λ l. m l j) (v j) d 0) (leaf d) js
+      ∙ map-cong (λ j. leaf d (cellBy (λ l. m l j) (v j) d 0)) v (λ j. leaf-by (λ l. m l j) (v j) d 0) js
+
+pub laid-is : (f : Form) (d : ℕ) (g : ℕ → Cell d) (m : ℕ → ℕ → ℕ) (v : ℕ → Value) → ((j : ℕ) → g j ≡ cellBy (λ l. m l j) (v j) d 0) → (js : List ℕ)
+    → layout f d (map g js) ≡ laidBy f d m v js
+laid-is f d g m v e js =
+    ap (layout f d) (map-cong g (λ j. cellBy (λ l. m l j) (v j) d 0) e js)
+    ∙ content-path (masks-laid m v js d 0) (ap joined (leaves-laid m v js d)) (ap (offsetsFor f) (leaves-laid m v js d))
+
+-- cell j of what is laid out is g j
+pub laid-cell : (k : Kind) (n : ℕ) (g : ℕ → Cell (k .depth)) → ((j : ℕ) → OfSize (k .form) (leaf (k .depth) (g j))) → (z : Cell (k .depth)) (j : ℕ) → j < n
+    → getD (cellsOf k n (layout (k .form) (k .depth) (map g (from 0 n)))) j z ≡ g j
+laid-cell k n g s z j h =
+    ap (λ (cs : List (Cell (k .depth))). getD cs j z)
+    (cells-layout k n (map g (from 0 n)) (length-map (from 0 n) g ∙ length-from 0 n)
+    (All-image (OfSize (k .form)) (leaf (k .depth)) (map g (from 0 n))
+    (All-image (λ c. OfSize (k .form) (leaf (k .depth) c)) g (from 0 n) (All-of (λ j. OfSize (k .form) (leaf (k .depth) (g j))) s (from 0 n)))))
+    ∙ at-from z g n 0 j h ∙ ap g (zero-add j)
+
+-- ---- shown or hidden
+
+-- cell j of the result is cell f j of the array, where the test t shows it
+pub shown-is : (k : Kind) (n : ℕ) (c : Content) (f : ℕ → ℕ) (t : ℕ → Bool) (js : List ℕ)
+    → layout (k .form) (k .depth) (map (λ j. pick (t j) (cellAt k n c (f j)) (nullCell k)) js)
+    ≡ laidBy (k .form) (k .depth) (λ l j. pick (t j) (maskAt n (c .masks) l (f j)) 0) (λ j. pick (t j) (valueIn (k .form) c (f j)) (nullOf (k .form))) js
+shown-is k n c f t js =
+    laid-is (k .form) (k .depth) (λ j. pick (t j) (cellAt k n c (f j)) (nullCell k))
+    (λ l j. pick (t j) (maskAt n (c .masks) l (f j)) 0) (λ j. pick (t j) (valueIn (k .form) c (f j)) (nullOf (k .form)))
+    (λ j. hidden-by (nullOf (k .form)) (λ l. maskAt n (c .masks) l (f j)) (valueIn (k .form) c (f j)) (k .depth) 0 (t j)) js
+
+-- the rest form: each mask byte where it is shown, and the value where all levels show it
+pub rest-laid : {k : Kind} {n : ℕ} {c : Content} → ContentOk k n c
+    → restForm k n c ≡ laidBy (k .form) (k .depth) (λ l j. pick (shownAt n (c .masks) l j) (maskAt n (c .masks) l j) 0)
+    (λ j. pick (shownAt n (c .masks) (k .depth) j) (valueIn (k .form) c j) (nullOf (k .form))) (from 0 n)
+rest-laid {k} {n} {c} ok =
+    let z : Value = nullOf (k .form) in
+    ap (λ (cs : List (Cell (k .depth))). layout (k .form) (k .depth) (map (rest z (k .depth)) cs)) (cells-are ok)
+    ∙ ap (layout (k .form) (k .depth)) (map-map (cellAt k n c) (rest z (k .depth)) (from 0 n))
+    ∙ laid-is (k .form) (k .depth) (λ j. rest z (k .depth) (cellAt k n c j))
+    (λ l j. pick (shownAt n (c .masks) l j) (maskAt n (c .masks) l j) 0) (λ j. pick (shownAt n (c .masks) (k .depth) j) (valueIn (k .form) c j) z)
+    (λ j. rest-by z (λ l. maskAt n (c .masks) l j) (valueIn (k .form) c j) (k .depth)) (from 0 n)
