@@ -27,7 +27,7 @@ use Rattle.stored.specs.Index.{offsetsIn, foundIn, raggedAt, endsIn, IndexWithi
 use Rattle.stored.proofs.CheckedIndex.{IndexFound, index-found}
 use Rattle.chunks.specs.Calls.{raggedCut}
 use Rattle.array.proofs.Places.{run-below}
-use Rattle.extract.proofs.Forms.{begins-rise}
+use Rattle.array.proofs.Places.{begins-rise}
 use Rattle.extract.proofs.Closing.{cut-is}
 use Rattle.partial.specs.Stored.{storedAt, DataAsked}
 
