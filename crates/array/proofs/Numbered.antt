@@ -1,7 +1,7 @@
 -- The cells of an array by their numbers: cell j has the mask bytes and the value that lie at its places, and so has what is laid out.
 -- Assumes nothing.
 use mathlib.Core.Path.{_≡_, refl, sym, ap, ap₂, _∙_}
-use Prim.Native.Nat.{ℕ, zero, suc, _+_, _*_, _≤_, _<_}
+use Prim.Native.Nat.{ℕ, zero, suc, _+_, _-_, _*_, _≤_, _<_}
 use native.Mathlib.Nat.{zero-mul, suc-mul, add-mul, mul-one, zero-add}
 use native.Mathlib.Omega.{arith}
 use mathlib.Core.Bool.{Bool}
@@ -14,38 +14,37 @@ use Rattle.array.specs.Cells.{Value, Cell, maskOf, leaf, rest}
 use Rattle.array.specs.Content.{Content, ValuesOk, ContentOk, masksOf, leaves, offsetsFor, layout, pairUp, attach, valuesIn, cellsOf, nullCell, restForm}
 use Rattle.array.specs.Offsets.{slices, slicesFrom}
 use Rattle.array.specs.Places.{fixedAt, offsetAt, valueAt, valueIn, valuesAt, maskAt, masksAt, planesBy, planesAt, cellBy, shownAt, cellAt, laidBy}
-use Rattle.array.proofs.Lists.{map-from, at-from, by-number, map-below, map-map, map-cong, length-from, All-of, All-image}
+use Rattle.array.proofs.Lists.{map-from, from-suc, at-from, by-number, map-below, map-map, map-cong, length-from, All-of, All-image}
 use Rattle.array.proofs.Sizes.{OfSize}
-use Rattle.array.proofs.LayoutLaws.{content-path, values-length, cells-layout}
+use Rattle.array.proofs.LayoutLaws.{content-path, cells-layout}
 use Rattle.array.proofs.Inverse.{layout-cells}
 use Rattle.array.proofs.RestLaws.{hidden-by, rest-by}
-use Rattle.array.proofs.Places.{fixed-step}
+use Rattle.array.proofs.Places.{fixed-value}
 
 -- ---- values
 
-piece-at : (k n : ℕ) (s : List ℕ) (j : ℕ) (z : Value) → j < n → getD (pieces k n s) j z ≡ take k (drop (j * k) s)
-piece-at k zero s j z h = absurd (omega arith)
-piece-at k (suc n) s zero z h = ap (λ (i : ℕ). take k (drop i s)) (sym (zero-mul k))
-piece-at k (suc n) s (suc j) z h =
-    let q : k + j * k ≡ suc j * k = omega (arith, suc-mul j k) in
-    piece-at k n (drop k s) j z (omega arith) ∙ ap (take k) (drop-drop (j * k) k s ∙ ap (λ (i : ℕ). drop i s) q)
+-- pieces of one size, from cell a on
+pub pieces-are : (base k n a : ℕ) (s : List ℕ) {at : ℕ} → base + a * k ≡ at → pieces k n (drop at s) ≡ valuesAt (fixedAt base k) s (from a n)
+pieces-are base k zero a s e = refl
+pieces-are base k (suc n) a s {at} e =
+    ap₂ (λ (v : Value) (vs : List Value). v ∷ vs) (sym (fixed-value base k s a e))
+    (ap (pieces k n) (drop-drop k at s) ∙ pieces-are base k n (suc a) s {at = at + k} (omega (arith, suc-mul a k)))
 
-slice-at : (os s : List ℕ) (j : ℕ) (z : Value) → suc j < length os → getD (slices os s) j z ≡ valueAt (offsetAt os) s j
-slice-at [] s j z h = absurd (omega arith)
-slice-at (a ∷ os) s j z h = go a os j (omega arith)
-  where
-    go : (a : ℕ) (os : List ℕ) (j : ℕ) → j < length os → getD (slicesFrom a os s) j z ≡ valueAt (offsetAt (a ∷ os)) s j
-    go a [] j h = absurd (omega arith)
-    go a (b ∷ os) zero h = refl
-    go a (b ∷ os) (suc j) h = go b os j (omega arith)
-
-pub value-is : (f : Form) (n : ℕ) (c : Content) → ValuesOk f n c → (z : Value) (j : ℕ) → j < n → getD (valuesIn f n c) j z ≡ valueIn f c j
-value-is (fixed k o) n c p z j h =
-    piece-at k n (c .values) j z h ∙ ap₂ (λ (x y : ℕ). take x (drop y (c .values))) (sym (fixed-step 0 k j)) (sym (zero-add (j * k)))
-value-is (ragged w q) n c p z j h = slice-at (c .offsets) (c .values) j z (omega (arith, p .0))
+slices-are : (a : ℕ) (os s : List ℕ) → slicesFrom a os s ≡ valuesAt (offsetAt (a ∷ os)) s (from 0 (length os))
+slices-are a [] s = refl
+slices-are a (b ∷ bs) s =
+    ap (λ (vs : List Value). take (b - a) (drop a s) ∷ vs) (slices-are b bs s ∙ sym (from-suc (valueAt (offsetAt (a ∷ b ∷ bs)) s) 0 (length bs)))
 
 pub values-are : (f : Form) (n : ℕ) (c : Content) → ValuesOk f n c → valuesIn f n c ≡ map (valueIn f c) (from 0 n)
-values-are f n c p = by-number [] (valueIn f c) (valuesIn f n c) (values-length f n c p) (value-is f n c p [])
+values-are (fixed k o) n c p = pieces-are 0 k n 0 (c .values) {at = 0} (omega (arith, zero-mul k))
+values-are (ragged w q) n c p = go (c .offsets) (p .0)
+  where
+    go : (os : List ℕ) → length os ≡ suc n → slices os (c .values) ≡ valuesAt (offsetAt os) (c .values) (from 0 n)
+    go [] e = absurd (omega arith)
+    go (a ∷ bs) e = let q : length bs ≡ n = omega arith in slices-are a bs (c .values) ∙ ap (λ (m : ℕ). valuesAt (offsetAt (a ∷ bs)) (c .values) (from 0 m)) q
+
+pub value-is : (f : Form) (n : ℕ) (c : Content) → ValuesOk f n c → (z : Value) (j : ℕ) → j < n → getD (valuesIn f n c) j z ≡ valueIn f c j
+value-is f n c p z j h = ap (λ (vs : List Value). getD vs j z) (values-are f n c p) ∙ at-from z (valueIn f c) n 0 j h ∙ ap (valueIn f c) (zero-add j)
 
 -- ---- mask bytes
 
@@ -61,9 +60,8 @@ pub mask-bytes : (n : ℕ) (masks : List ℕ) (l : ℕ) → l * n + n ≤ length
     → joined (valuesAt (fixedAt (l * n) 1) masks js) ≡ masksAt n masks l js
 mask-bytes n masks l h [] p = refl
 mask-bytes n masks l h (j ∷ js) p =
-    let q : l * n + j * 1 ≡ l * n + j = omega (arith, mul-one j) in
     let one : valueAt (fixedAt (l * n) 1) masks j ≡ maskAt n masks l j ∷ [] =
-    ap₂ (λ (x y : ℕ). take x (drop y masks)) (fixed-step (l * n) 1 j) q ∙ ap (take 1) (drop-cons masks (l * n + j) 0 (omega (arith, p .0))) in
+    fixed-value (l * n) 1 masks j {at = l * n + j} (omega (arith, mul-one j)) ∙ ap (take 1) (drop-cons masks (l * n + j) 0 (omega (arith, p .0))) in
     ap₂ (λ (v r : List ℕ). v ++ r) one (mask-bytes n masks l h js (p .1))
 
 pub planes-are : (n : ℕ) (masks js : List ℕ) → All (λ j. j < n) js → (d l : ℕ) → (l + d) * n ≤ length masks → planesAt d l n masks js ≡ planesBy (maskAt n masks) d l js

@@ -33,6 +33,9 @@ ends-append a (x ∷ xs) ys =
 pub fixed-step : (base k j : ℕ) → stepAt (fixedAt base k) j ≡ k
 fixed-step base k j = omega (arith, suc-mul j k)
 
+pub fixed-value : (base k : ℕ) (s : List ℕ) (j : ℕ) {at : ℕ} → base + j * k ≡ at → valueAt (fixedAt base k) s j ≡ take k (drop at s)
+fixed-value base k s j e = ap₂ (λ (x y : ℕ). take x (drop y s)) (fixed-step base k j) e
+
 pub fixed-rises : (base k v : ℕ) → Rises (fixedAt base k) v
 fixed-rises base k v j h = omega (arith, suc-mul j k)
 
@@ -95,16 +98,16 @@ module _ {off : ℕ → ℕ} {v : ℕ} (r : Rises off v) where
       let e : t ≡ t + (off a - off a) = omega arith in
       ap (λ (k : ℕ). ends k (valuesAt off s (from a n))) e ∙ run-ends-from s t a a n (le-refl a) h l (le-refl (off a))
 
-  -- ---- any cells
+  -- ---- any cells: as many bytes as their steps say
 
-  -- as many bytes as their steps say
+  pub value-long : (s : List ℕ) → off v ≤ length s → (j : ℕ) → j < v → length (valueAt off s j) ≡ stepAt off j
+  value-long s l j h =
+      let top : off (suc j) ≤ off v = let q : j + 1 ≡ suc j = add-one j in omega (arith, run-below j 1 (omega arith), ap off q) in
+      length-take-le (stepAt off j) (drop (off j) s) (omega (arith, length-drop (off j) s, r j h))
+
   pub bytes-long : (s : List ℕ) → off v ≤ length s → (js : List ℕ) → All (λ j. j < v) js → length (joined (valuesAt off s js)) ≡ bytesAt off js
   bytes-long s l [] p = refl
-  bytes-long s l (j ∷ js) p =
-      let top : off (suc j) ≤ off v = let q : j + 1 ≡ suc j = add-one j in omega (arith, run-below j 1 (omega (arith, p .0)), ap off q) in
-      let up : off j ≤ off (suc j) = r j (p .0) in
-      let len : length (valueAt off s j) ≡ stepAt off j = length-take-le (stepAt off j) (drop (off j) s) (omega (arith, length-drop (off j) s)) in
-      omega (arith, length-append (valueAt off s j) (joined (valuesAt off s js)), bytes-long s l js (p .1))
+  bytes-long s l (j ∷ js) p = omega (arith, length-append (valueAt off s j) (joined (valuesAt off s js)), value-long s l j (p .0), bytes-long s l js (p .1))
 
 -- ---- the values of an array lie in their order, within the bytes
 pub offsets-rise : (os : List ℕ) → Rising os → {n : ℕ} → length os ≡ suc n → Rises (offsetAt os) n
