@@ -13,7 +13,7 @@ use Rattle.array.specs.Kind.{Form, fixed, ragged}
 use Rattle.array.specs.Cells.{Value}
 use Rattle.array.specs.Content.{Content, ValuesOk}
 use Rattle.array.specs.Offsets.{Rising, RisingFrom, ends}
-use Rattle.array.specs.Places.{fixedAt, offsetAt, beginsAt, Rises, stepAt, valueAt, bytesAt, valuesAt}
+use Rattle.array.specs.Places.{fixedAt, offsetAt, beginsAt, Rises, stepAt, valueAt, valuesAt, bytesAt, endsAt}
 use Rattle.array.proofs.Offsets.{last-at}
 
 -- ---- lists of values, one part after another
@@ -52,8 +52,11 @@ module _ {off : ℕ → ℕ} {v : ℕ} (r : Rises off v) where
       let e : off (suc a + n) ≡ off (a + suc n) = let q : suc a + n ≡ a + suc n = omega arith in ap off q in
       omega (arith, r a (omega arith), run-rises (suc a) n (omega arith), e)
 
+  pub below : (j : ℕ) → j ≤ v → off j ≤ off v
+  below j h = let q : j + (v - j) ≡ v = omega arith in omega (arith, run-rises j (v - j) (omega arith), ap off q)
+
   pub run-below : (a n : ℕ) → a + n ≤ v → off (a + n) ≤ off v
-  run-below a n h = let q : a + n + (v - (a + n)) ≡ v = omega arith in omega (arith, run-rises (a + n) (v - (a + n)) (omega arith), ap off q)
+  run-below a n h = below (a + n) h
 
   -- its bytes are those from where it begins up to where it ends
   pub run-bytes : (s : List ℕ) (a n : ℕ) → a + n ≤ v → joined (valuesAt off s (from a n)) ≡ take (off (a + n) - off a) (drop (off a) s)
@@ -102,12 +105,21 @@ module _ {off : ℕ → ℕ} {v : ℕ} (r : Rises off v) where
 
   pub value-long : (s : List ℕ) → off v ≤ length s → (j : ℕ) → j < v → length (valueAt off s j) ≡ stepAt off j
   value-long s l j h =
-      let top : off (suc j) ≤ off v = let q : j + 1 ≡ suc j = add-one j in omega (arith, run-below j 1 (omega arith), ap off q) in
-      length-take-le (stepAt off j) (drop (off j) s) (omega (arith, length-drop (off j) s, r j h))
+      length-take-le (stepAt off j) (drop (off j) s) (omega (arith, length-drop (off j) s, r j h, below (suc j) h))
 
   pub bytes-long : (s : List ℕ) → off v ≤ length s → (js : List ℕ) → All (λ j. j < v) js → length (joined (valuesAt off s js)) ≡ bytesAt off js
   bytes-long s l [] p = refl
   bytes-long s l (j ∷ js) p = omega (arith, length-append (valueAt off s j) (joined (valuesAt off s js)), value-long s l j (p .0), bytes-long s l js (p .1))
+
+  pub ends-are : (s : List ℕ) → off v ≤ length s → (a : ℕ) (js : List ℕ) → All (λ j. j < v) js → ends a (valuesAt off s js) ≡ endsAt off a js
+  ends-are s l a [] p = refl
+  ends-are s l a (j ∷ js) p =
+      let e : a + length (valueAt off s j) ≡ a + stepAt off j = omega (arith, value-long s l j (p .0)) in
+      ap₂ (λ (x : ℕ) (r : List ℕ). x ∷ r) e (ap (λ (b : ℕ). ends b (valuesAt off s js)) e ∙ ends-are s l (a + stepAt off j) js (p .1))
+
+pub length-ends-at : (off : ℕ → ℕ) (a : ℕ) (js : List ℕ) → length (endsAt off a js) ≡ length js
+length-ends-at off a [] = refl
+length-ends-at off a (j ∷ js) = ap suc (length-ends-at off (a + stepAt off j) js)
 
 -- ---- the values of an array lie in their order, within the bytes
 pub offsets-rise : (os : List ℕ) → Rising os → {n : ℕ} → length os ≡ suc n → Rises (offsetAt os) n

@@ -39,13 +39,17 @@ valueAt off s j = take (stepAt off j) (drop (off j) s)
 abbrev pub valueIn : Form → Content → ℕ → Value
 valueIn f c j = valueAt (beginsAt f (c .offsets)) (c .values) j
 
--- how many bytes the cells js have, and their values
+-- the values of the cells js, how many bytes they have, and where each ends when they lie end to end from a on
+abbrev pub valuesAt : (ℕ → ℕ) → List ℕ → List ℕ → List Value
+valuesAt off s js = map (valueAt off s) js
+
 abbrev pub bytesAt : (ℕ → ℕ) → List ℕ → ℕ
 bytesAt off [] = 0
 bytesAt off (j ∷ js) = stepAt off j + bytesAt off js
 
-abbrev pub valuesAt : (ℕ → ℕ) → List ℕ → List ℕ → List Value
-valuesAt off s js = map (valueAt off s) js
+abbrev pub endsAt : (ℕ → ℕ) → ℕ → List ℕ → List ℕ
+endsAt off a [] = []
+endsAt off a (j ∷ js) = (a + stepAt off j) ∷ endsAt off (a + stepAt off j) js
 
 -- ---- mask bytes
 

@@ -24,15 +24,15 @@ use Rattle.codec.specs.Ragged.{putRagged}
 use Rattle.codec.specs.Values.{putValues}
 use Rattle.codec.proofs.Flat.{flat-put}
 use Rattle.encode_cells.specs.Live.{liveAt, Planes}
-use Rattle.encode_ragged.specs.Slices.{sliceAt, spansOf, Offsets}
+use Rattle.array.specs.Places.{bytesAt, offsetAt, valueAt, valuesAt}
+use Rattle.encode_ragged.specs.Offsets.{Offsets}
 use Rattle.encode_cells.specs.Pieces.{piecesAt}
 use Rattle.encode.specs.Ready.{MeasuresOk, Measured, Encodable}
 use Rattle.encode.specs.Stored.{valueAt, valuesFrom, valuesLengthAt, lengthFrom}
-use Rattle.encode_cells.proofs.Numbered.{live-all}
-use Rattle.encode_cells.proofs.Runs.{live-le}
+use Rattle.encode_cells.proofs.Runs.{live-le, live-all}
 use Rattle.encode_cells.proofs.Gathering.{run-pieces}
 use Rattle.encode_cells.proofs.LiveMarks.{count-all}
-use Rattle.encode_ragged.proofs.Spans.{all-spans}
+use Rattle.encode_ragged.proofs.Spans.{all-bytes}
 use Rattle.encode.proofs.Levels.{NarrowOk, values-small, flat-length, fixed-put, fixed-long}
 use Rattle.encode.proofs.Walk.{values-at}
 
@@ -94,7 +94,7 @@ module _ (k : declared.Kind) {n : ℕ} {masks os : List ℕ} (m : Measured (kind
     pub ragged-offsets : Offsets n os
     ragged-offsets = record { counted = sizes .0; rising = sizes .1 }
 
-    module _ {j : ℕ} (ej : j ≡ widthOf w) {bytes : ℕ} (eb : bytes ≡ spansOf os live) where
+    module _ {j : ℕ} (ej : j ≡ widthOf w) {bytes : ℕ} (eb : bytes ≡ bytesAt (offsetAt os) live) where
       pub ragged-length : 8 + j * (count + 1) + bytes ≡ valuesLengthAt (formOf (k .values)) os live
       ragged-length =
           ap₂ (λ (a b : ℕ). 8 + a + b) (ap₂ (λ (a b : ℕ). a * b) ej (add-one count ∙ ap suc ec)) eb
@@ -124,8 +124,8 @@ module _ (k : declared.Kind) (z : k .depth ≡ 0) {n : ℕ} {masks os : List ℕ
     flat-offsets = ragged-offsets k m all e
 
     -- the last offset counts all value bytes
-    bytes : getD os n 0 ≡ spansOf os (liveAt n masks (k .depth))
-    bytes = all-spans flat-offsets masks (k .depth) all refl
+    bytes : getD os n 0 ≡ bytesAt (offsetAt os) (liveAt n masks (k .depth))
+    bytes = all-bytes flat-offsets masks (k .depth) all refl
 
     pub flat-ragged : 8 + j * (n + 1) + getD os n 0 ≡ lengthFrom (kindOf k) n masks os (k .depth)
     flat-ragged = ragged-length k m all e ej bytes ∙ is
@@ -174,7 +174,7 @@ module _ (k : declared.Kind) {n : ℕ} {c : Content} (r : Encodable (kindOf k) n
     pub offsets-end : last (c .offsets) ≡ length (c .values)
     offsets-end = fits .2
 
-    pub ragged-writes : putValues (ragged (widthOf w) (placeOf p)) (map (sliceAt (c .offsets) (c .values)) (liveAt n (c .masks) (k .depth))) ≡ valuesFrom (kindOf k) n c
+    pub ragged-writes : putValues (ragged (widthOf w) (placeOf p)) (valuesAt (offsetAt (c .offsets)) (c .values) (liveAt n (c .masks) (k .depth))) ≡ valuesFrom (kindOf k) n c
     ragged-writes = ap (λ (v : Values). putValues (formOf v) (map (valueAt (formOf v) c) (liveAt n (c .masks) (k .depth)))) (sym e)
 
     -- at depth 0 with all cells, as they lie
@@ -182,5 +182,5 @@ module _ (k : declared.Kind) {n : ℕ} {c : Content} (r : Encodable (kindOf k) n
     ragged-all z =
         sym (flat-put (widthOf w) (placeOf p) (record { values = c .values; offsets = c .offsets }) (fits .0) (fits .1) (fits .2))
         ∙ ap (putValues (ragged (widthOf w) (placeOf p))) (values-at (ragged (widthOf w) (placeOf p)) n c fits)
-        ∙ ap (λ (is : List ℕ). putValues (ragged (widthOf w) (placeOf p)) (map (sliceAt (c .offsets) (c .values)) is)) (all-cells z)
+        ∙ ap (λ (is : List ℕ). putValues (ragged (widthOf w) (placeOf p)) (valuesAt (offsetAt (c .offsets)) (c .values) is)) (all-cells z)
         ∙ ragged-writes

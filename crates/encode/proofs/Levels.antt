@@ -12,16 +12,16 @@ use Rattle.array.specs.Limits.{mostBytes, mostCells}
 use Rattle.array.specs.Lists.{joined}
 use Rattle.array.specs.Kind.{Kind, Form, fixed, ragged, Order, ordered}
 use Rattle.array.specs.Content.{Content, ValuesOk}
+use Rattle.array.specs.Places.{masksAt, shownAt, bytesAt, offsetAt, valueAt}
 use Rattle.array.proofs.Lists.{map-map}
 use Rattle.codec.specs.Mask.{maskForm}
 use Rattle.codec.specs.Frame.{wrap, unlessNone}
 use Rattle.codec.specs.Values.{putValues}
 use Rattle.codec.proofs.Frames.{length-wrap}
 use Rattle.codec.proofs.Masks.{mask-laws}
-use Rattle.encode_cells.specs.Live.{masksAt, liveTest, liveAt}
+use Rattle.encode_cells.specs.Live.{liveAt}
 use Rattle.encode_cells.specs.Pieces.{pieceAt, piecesAt}
 use Rattle.encode.specs.Stored.{levelOf, valueAt, valuesFrom, storedFrom, maskFrom, frameFrom, orNothing, valuesLengthAt, lengthFrom}
-use Rattle.encode_ragged.specs.Slices.{spansOf}
 use Rattle.encode.specs.Ready.{MeasuresOk, Measured}
 use Rattle.encode_cells.proofs.Runs.{live-le}
 use Rattle.encode_cells.proofs.LiveMarks.{count-all}
@@ -73,7 +73,7 @@ fixed-put k o c is = ap joined (sym (map-map (pieceAt k (c .values)) (ordered o)
 pub fixed-long : (k n : ℕ) (o : Order) (c : Content) (l : ℕ) → length (c .values) ≡ n * k
     → length (putValues (fixed k o) (map (valueAt (fixed k o) c) (liveAt n (c .masks) l))) ≡ length (liveAt n (c .masks) l) * k
 fixed-long k n o c l e =
-    ap length (sym (fixed-put k o c (liveAt n (c .masks) l))) ∙ pieces-long o k (c .values) (liveTest n (c .masks) l) n (omega arith)
+    ap length (sym (fixed-put k o c (liveAt n (c .masks) l))) ∙ pieces-long o k (c .values) (shownAt n (c .masks) l) n (omega arith)
 
 -- ---- the written length
 
@@ -82,7 +82,7 @@ pub values-long : (f : Form) (n : ℕ) (c : Content) (l : ℕ) → ValuesOk f n 
 values-long (fixed k o) n c l p = fixed-long k n o c l (p .0)
 values-long (ragged w q) n c l p =
     ragged-long w q (c .masks) l (record { counted = p .0; rising = p .1 }) (c .values) (p .2) {count = length (liveAt n (c .masks) l)} refl refl refl
-    ∙ ap (λ (m : ℕ). 8 + w * m + spansOf (c .offsets) (liveAt n (c .masks) l)) (add-one (length (liveAt n (c .masks) l)))
+    ∙ ap (λ (m : ℕ). 8 + w * m + bytesAt (offsetAt (c .offsets)) (liveAt n (c .masks) l)) (add-one (length (liveAt n (c .masks) l)))
 
 or-nothing : {A : Type 0} (f : List A → List ℕ) (is : List A) {x : ℕ} → length (f is) ≡ x → length (unlessNone f is) ≡ orNothing (length is) x
 or-nothing f [] {x = x} e = refl
@@ -162,7 +162,7 @@ values-small (fixed k o) n masks os l w h p = le-trans (mul-le-mul {n₁ = lengt
 values-small (ragged w q) n masks os l nw h p =
     let m : ℕ = length (liveAt n masks l) in
     let a : w * suc m ≤ 8 * suc m = mul-le-mul-right (suc m) nw in
-    omega (arith, live-le n masks l, spans-le os (liveTest n masks l) n (p .0) (p .1), p .2)
+    omega (arith, live-le n masks l, spans-le os (shownAt n masks l) n (p .0) (p .1), p .2)
 
 pub length-small : {k : Kind} {n : ℕ} {masks os : List ℕ} → NarrowOk (k .form) → Measured k n masks os → (left : ℕ) → lengthFrom k n masks os left ≤ left * 65552 + 17301520
 unfolding lengthFrom mostCells

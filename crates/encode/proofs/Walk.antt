@@ -13,14 +13,15 @@ use Rattle.array.specs.Kind.{Kind, Form, fixed, ragged}
 use Rattle.array.specs.Offsets.{slices, slicesFrom}
 use Rattle.array.specs.Cells.{Value, Cell, maskOf, setTest}
 use Rattle.array.specs.Content.{Content, ContentOk, ValuesOk, pairUp, attach, valuesIn, cellsOf}
+use Rattle.array.specs.Places.{maskAt, masksAt, shownAt, offsetAt, valueAt, valuesAt}
 use Rattle.codec.specs.Mask.{maskForm}
 use Rattle.codec.specs.Frame.{keep, wrap, unlessNone, frame}
 use Rattle.codec.specs.Values.{putValues}
 use Rattle.codec.specs.Calls.{storedForm}
-use Rattle.encode_cells.specs.Live.{maskAt, masksAt, liveTest, liveAt}
+use Rattle.encode_cells.specs.Live.{liveAt}
 use Rattle.array.proofs.Lists.{from-suc}
-use Rattle.encode_cells.proofs.Numbered.{plane-at, pieces-at, live-all}
-use Rattle.encode_ragged.specs.Slices.{sliceAt}
+use Rattle.encode_cells.proofs.Numbered.{plane-at, pieces-at}
+use Rattle.encode_cells.proofs.Runs.{live-all}
 use Rattle.encode.specs.Stored.{levelOf, valueAt, storedFrom}
 
 pairUp-map : {A : Type 0} (f : ℕ → ℕ) (g : ℕ → A) (is : List ℕ) → pairUp (map f is) (map g is) ≡ map (λ i. (f i, g i)) is
@@ -45,21 +46,21 @@ module _ (n : ℕ) (masks : List ℕ) (val : ℕ → Value) where
 
 -- ---- values
 
-slices-at : (a : ℕ) (os s : List ℕ) → slicesFrom a os s ≡ map (sliceAt (a ∷ os) s) (from 0 (length os))
+slices-at : (a : ℕ) (os s : List ℕ) → slicesFrom a os s ≡ valuesAt (offsetAt (a ∷ os)) s (from 0 (length os))
 slices-at a [] s = refl
 slices-at a (b ∷ bs) s =
-    ap (λ (r : List Value). take (b - a) (drop a s) ∷ r) (slices-at b bs s ∙ sym (from-suc (sliceAt (a ∷ b ∷ bs) s) 0 (length bs)))
+    ap (λ (r : List Value). take (b - a) (drop a s) ∷ r) (slices-at b bs s ∙ sym (from-suc (valueAt (offsetAt (a ∷ b ∷ bs)) s) 0 (length bs)))
 
 pub values-at : (f : Form) (n : ℕ) (c : Content) → ValuesOk f n c → valuesIn f n c ≡ map (valueAt f c) (from 0 n)
 values-at (fixed k o) n c p =
     ap (λ (m : ℕ). pieces k n (drop m (c .values))) (sym (zero-mul k)) ∙ pieces-at k n 0 (c .values)
 values-at (ragged w q) n c p = go (c .offsets) (p .0)
   where
-    go : (os : List ℕ) → length os ≡ suc n → slices os (c .values) ≡ map (sliceAt os (c .values)) (from 0 n)
+    go : (os : List ℕ) → length os ≡ suc n → slices os (c .values) ≡ valuesAt (offsetAt os) (c .values) (from 0 n)
     go [] e = absurd (omega arith)
     go (a ∷ bs) e =
         let e′ : length bs ≡ n = omega arith in
-        slices-at a bs (c .values) ∙ ap (λ (m : ℕ). map (sliceAt (a ∷ bs) (c .values)) (from 0 m)) e′
+        slices-at a bs (c .values) ∙ ap (λ (m : ℕ). valuesAt (offsetAt (a ∷ bs)) (c .values) (from 0 m)) e′
 
 -- the cells of valid content, each by its number
 cells-at : {k : Kind} {n : ℕ} {c : Content} → ContentOk k n c
@@ -81,14 +82,14 @@ module _ (n : ℕ) (masks : List ℕ) (val : ℕ → Value) where
 
   -- of the cells that level l counts, those that are set there are what the next level counts
   keep-at : (d l : ℕ) (js : List ℕ)
-      → keep (map (cellAt n masks val (suc d) l) (passing (liveTest n masks l) js)) ≡ map (cellAt n masks val d (suc l)) (passing (liveTest n masks (suc l)) js)
+      → keep (map (cellAt n masks val (suc d) l) (passing (shownAt n masks l) js)) ≡ map (cellAt n masks val d (suc l)) (passing (shownAt n masks (suc l)) js)
   keep-at d l [] = refl
-  keep-at d l (j ∷ js) = go (liveTest n masks l j) (maskAt n masks l j) refl (keep-at d l js)
+  keep-at d l (j ∷ js) = go (shownAt n masks l j) (maskAt n masks l j) refl (keep-at d l js)
     where
       go : (b : Bool) (m : ℕ) → maskAt n masks l j ≡ m
-          → keep (map (cellAt n masks val (suc d) l) (passing (liveTest n masks l) js)) ≡ map (cellAt n masks val d (suc l)) (passing (liveTest n masks (suc l)) js)
-          → keep (map (cellAt n masks val (suc d) l) (pick b (j ∷ passing (liveTest n masks l) js) (passing (liveTest n masks l) js)))
-          ≡ map (cellAt n masks val d (suc l)) (pick (b && setTest m) (j ∷ passing (liveTest n masks (suc l)) js) (passing (liveTest n masks (suc l)) js))
+          → keep (map (cellAt n masks val (suc d) l) (passing (shownAt n masks l) js)) ≡ map (cellAt n masks val d (suc l)) (passing (shownAt n masks (suc l)) js)
+          → keep (map (cellAt n masks val (suc d) l) (pick b (j ∷ passing (shownAt n masks l) js) (passing (shownAt n masks l) js)))
+          ≡ map (cellAt n masks val d (suc l)) (pick (b && setTest m) (j ∷ passing (shownAt n masks (suc l)) js) (passing (shownAt n masks (suc l)) js))
       go true zero q e = rw q e
       go true (suc zero) q e = rw q (ap (λ (r : List (Cell d)). cellAt n masks val d (suc l) j ∷ r) e)
       go true (suc (suc m)) q e = rw q e

@@ -10,9 +10,9 @@ use Rattle.array.specs.Kind.{Kind}
 use Rattle.array.specs.Shape.{volume}
 use Rattle.array.specs.Subset.{pairs, cellsIn}
 use Rattle.array.specs.Content.{Content, offsetsFor}
+use Rattle.array.specs.Places.{beginsAt, bytesAt, valuesAt, planesAt}
 use Rattle.chunks.specs.Chunks.{offsetCount}
 use Rattle.chunks.specs.Cut.{cutOf}
-use Rattle.array.specs.Places.{beginsAt, bytesAt, valuesAt, planesAt}
 use Rattle.subset.specs.Walk.{SubsetAsked}
 use Rattle.subset.proofs.Rows.{asked-below, asked-count}
 use Rattle.extract.specs.Asked.{PlanesAsked, OffsetsFor, ValuesAsked, ArrayAsked}

@@ -1,17 +1,16 @@
 -- Values of either form: what an array that keeps the rules says of their places, and how long their cut is.
 -- Assumes nothing.
-use mathlib.Core.Path.{_≡_, refl, sym, ap, _∙_}
-use Prim.Native.Nat.{ℕ, zero, suc, _*_, _≤_, _<_}
-use native.Mathlib.Nat.{le-of-eq}
+use mathlib.Core.Path.{_≡_, refl, ap, _∙_}
+use Prim.Native.Nat.{ℕ, suc, _*_, _≤_, _<_}
 use native.Mathlib.Omega.{arith}
-use mathlib.Core.List.{List, [], _∷_}
-use lib.ListN.{length, getD, length-map}
+use mathlib.Core.List.{List}
+use lib.ListN.{length, length-map}
 use Rattle.array.specs.Limits.{mostBytes}
 use Rattle.array.specs.Lists.{joined, All}
 use Rattle.array.specs.Kind.{Form, fixed, ragged, Order, Place}
 use Rattle.array.specs.Shape.{volume}
 use Rattle.array.specs.Content.{Content, ValuesOk, offsetsFor}
-use Rattle.array.specs.Places.{offsetAt, beginsAt, Rises, valueAt, bytesAt, valuesAt}
+use Rattle.array.specs.Places.{offsetAt, beginsAt, valueAt, bytesAt, valuesAt}
 use Rattle.array.proofs.Offsets.{length-ends}
 use Rattle.chunks.specs.Chunks.{offsetCount}
 use Rattle.extract.specs.Asked.{CellsAsked, RaggedAsked, OffsetsFor, ValuesAsked}
