@@ -1,10 +1,10 @@
 -- The cells of an array by their numbers: cell j has the mask bytes and the value that lie at its places, and so has what is laid out.
 -- Assumes nothing.
-use mathlib.Core.Path.{_≡_, refl, sym, ap, ap₂, _∙_}
+use mathlib.Core.Path.{_≡_, refl, sym, ap, ap₂, _∙_, subst}
 use Prim.Native.Nat.{ℕ, zero, suc, _+_, _-_, _*_, _≤_, _<_}
 use native.Mathlib.Nat.{zero-mul, suc-mul, add-mul, mul-one, zero-add}
 use native.Mathlib.Omega.{arith}
-use mathlib.Core.Bool.{Bool}
+use mathlib.Core.Bool.{Bool, true, false}
 use mathlib.Core.List.{List, [], _∷_, _++_, map}
 use lib.ListN.{length, take, drop, getD, length-drop, length-map}
 use lib.Seq.{drop-drop, drop-cons, getD-take, getD-drop, length-take-le}
@@ -14,11 +14,12 @@ use Rattle.array.specs.Cells.{Value, Cell, maskOf, leaf, rest}
 use Rattle.array.specs.Content.{Content, ValuesOk, ContentOk, masksOf, leaves, offsetsFor, layout, pairUp, attach, valuesIn, cellsOf, nullCell, restForm}
 use Rattle.array.specs.Offsets.{slices, slicesFrom}
 use Rattle.array.specs.Places.{fixedAt, offsetAt, valueAt, valueIn, valuesAt, maskAt, masksAt, planesBy, planesAt, cellBy, shownAt, cellAt, laidBy}
-use Rattle.array.proofs.Lists.{map-from, from-suc, at-from, by-number, map-below, map-map, map-cong, length-from, All-of, All-image}
-use Rattle.array.proofs.Sizes.{OfSize}
-use Rattle.array.proofs.LayoutLaws.{content-path, cells-layout}
+use Rattle.array.proofs.Lists.{map-from, from-suc, entry, by-number, map-below, map-map, map-cong, length-from, All-image, All-getD}
+use Rattle.array.proofs.Geometry.{All-from}
+use Rattle.array.proofs.Sizes.{OfSize, null-sized}
+use Rattle.array.proofs.LayoutLaws.{content-path, cells-layout, values-sized}
 use Rattle.array.proofs.Inverse.{layout-cells}
-use Rattle.array.proofs.RestLaws.{hidden-by, rest-by}
+use Rattle.array.proofs.RestLaws.{leaf-blank, hidden-by, rest-by}
 use Rattle.array.proofs.Places.{fixed-value}
 
 -- ---- values
@@ -44,7 +45,11 @@ values-are (ragged w q) n c p = go (c .offsets) (p .0)
     go (a ∷ bs) e = let q : length bs ≡ n = omega arith in slices-are a bs (c .values) ∙ ap (λ (m : ℕ). valuesAt (offsetAt (a ∷ bs)) (c .values) (from 0 m)) q
 
 pub value-is : (f : Form) (n : ℕ) (c : Content) → ValuesOk f n c → (z : Value) (j : ℕ) → j < n → getD (valuesIn f n c) j z ≡ valueIn f c j
-value-is f n c p z j h = ap (λ (vs : List Value). getD vs j z) (values-are f n c p) ∙ at-from z (valueIn f c) n 0 j h ∙ ap (valueIn f c) (zero-add j)
+value-is f n c p = entry (valueIn f c) n (values-are f n c p)
+
+pub value-sized : (f : Form) (n : ℕ) (c : Content) → ValuesOk f n c → (j : ℕ) → j < n → OfSize f (valueIn f c j)
+value-sized f n c p j h =
+    subst (OfSize f) (value-is f n c p (nullOf f) j h) (All-getD (OfSize f) (nullOf f) (null-sized f) (valuesIn f n c) (values-sized f n c p) j)
 
 -- ---- mask bytes
 
@@ -93,7 +98,7 @@ module _ {k : Kind} {n : ℕ} {c : Content} (ok : ContentOk k n c) where
       ∙ attach-by n (c .masks) (valueIn (k .form) c) (k .depth) 0 (ok .masks-fit ∙ ap (λ (m : ℕ). m * n) (sym (zero-add (k .depth))))
 
   pub cell-is : (z : Cell (k .depth)) (j : ℕ) → j < n → getD (cellsOf k n c) j z ≡ cellAt k n c j
-  cell-is z j h = ap (λ (cs : List (Cell (k .depth))). getD cs j z) cells-are ∙ at-from z (cellAt k n c) n 0 j h ∙ ap (cellAt k n c) (zero-add j)
+  cell-is = entry (cellAt k n c) n cells-are
 
   -- the cells at any places
   pub cells-at : (z : Cell (k .depth)) (js : List ℕ) → All (λ j. j < n) js → map (λ j. getD (cellsOf k n c) j z) js ≡ map (cellAt k n c) js
@@ -105,7 +110,7 @@ module _ {k : Kind} {n : ℕ} {c : Content} (ok : ContentOk k n c) where
 
 -- ---- what is laid out: cell j has the mask byte m l j at level l, and the value v j
 
-mask-map : {A : Type 0} (g : ℕ → ℕ × A) (js : List ℕ) → maskOf (map g js) ≡ map (λ j. g j .0) js
+pub mask-map : {A : Type 0} (g : ℕ → ℕ × A) (js : List ℕ) → maskOf (map g js) ≡ map (λ j. g j .0) js
 mask-map g [] = refl
 mask-map g (j ∷ js) = ap (λ (r : List ℕ). g j .0 ∷ r) (mask-map g js)
 
@@ -132,18 +137,16 @@ laid-is f d g m v e js =
     ∙ content-path (masks-laid m v js d 0) (ap joined (leaves-laid m v js d)) (ap (offsetsFor f) (leaves-laid m v js d))
 
 -- cell j of what is laid out is g j
-pub laid-cell : (k : Kind) (n : ℕ) (g : ℕ → Cell (k .depth)) → ((j : ℕ) → OfSize (k .form) (leaf (k .depth) (g j))) → (z : Cell (k .depth)) (j : ℕ) → j < n
+pub laid-cell : (k : Kind) (n : ℕ) (g : ℕ → Cell (k .depth)) → ((j : ℕ) → j < n → OfSize (k .form) (leaf (k .depth) (g j))) → (z : Cell (k .depth)) (j : ℕ) → j < n
     → getD (cellsOf k n (layout (k .form) (k .depth) (map g (from 0 n)))) j z ≡ g j
-laid-cell k n g s z j h =
-    ap (λ (cs : List (Cell (k .depth))). getD cs j z)
-    (cells-layout k n (map g (from 0 n)) (length-map (from 0 n) g ∙ length-from 0 n)
-    (All-image (OfSize (k .form)) (leaf (k .depth)) (map g (from 0 n))
-    (All-image (λ c. OfSize (k .form) (leaf (k .depth) c)) g (from 0 n) (All-of (λ j. OfSize (k .form) (leaf (k .depth) (g j))) s (from 0 n)))))
-    ∙ at-from z g n 0 j h ∙ ap g (zero-add j)
+laid-cell k n g s =
+    let P : Cell (k .depth) → Type 0 = λ c. OfSize (k .form) (leaf (k .depth) c) in
+    let sized : All P (map g (from 0 n)) = All-image P g (from 0 n) (All-from (λ j. P (g j)) 0 n (λ j a b. s j (omega arith))) in
+    entry g n (cells-layout k n (map g (from 0 n)) (length-map (from 0 n) g ∙ length-from 0 n) (All-image (OfSize (k .form)) (leaf (k .depth)) (map g (from 0 n)) sized))
 
 -- ---- shown or hidden
 
--- cell j of the result is cell f j of the array, where the test t shows it
+-- cell j of the result is cell f j of the array where the test t shows it, else null: by its parts, and by its cells
 pub shown-is : (k : Kind) (n : ℕ) (c : Content) (f : ℕ → ℕ) (t : ℕ → Bool) (js : List ℕ)
     → layout (k .form) (k .depth) (map (λ j. pick (t j) (cellAt k n c (f j)) (nullCell k)) js)
     ≡ laidBy (k .form) (k .depth) (λ l j. pick (t j) (maskAt n (c .masks) l (f j)) 0) (λ j. pick (t j) (valueIn (k .form) c (f j)) (nullOf (k .form))) js
@@ -151,6 +154,14 @@ shown-is k n c f t js =
     laid-is (k .form) (k .depth) (λ j. pick (t j) (cellAt k n c (f j)) (nullCell k))
     (λ l j. pick (t j) (maskAt n (c .masks) l (f j)) 0) (λ j. pick (t j) (valueIn (k .form) c (f j)) (nullOf (k .form)))
     (λ j. hidden-by (nullOf (k .form)) (λ l. maskAt n (c .masks) l (f j)) (valueIn (k .form) c (f j)) (k .depth) 0 (t j)) js
+
+pub shown-cell : {k : Kind} {n : ℕ} {c : Content} → ContentOk k n c → (f : ℕ → ℕ) (t : ℕ → Bool) (m : ℕ) → ((j : ℕ) → j < m → f j < n) → (z : Cell (k .depth)) (j : ℕ) → j < m
+    → getD (cellsOf k m (layout (k .form) (k .depth) (map (λ i. pick (t i) (cellAt k n c (f i)) (nullCell k)) (from 0 m)))) j z ≡ pick (t j) (cellAt k n c (f j)) (nullCell k)
+shown-cell {k} {n} {c} ok f t m e = laid-cell k m (λ i. pick (t i) (cellAt k n c (f i)) (nullCell k)) (λ i h. sized (t i) (f i) (e i h))
+  where
+    sized : (b : Bool) (i : ℕ) → i < n → OfSize (k .form) (leaf (k .depth) (pick b (cellAt k n c i) (nullCell k)))
+    sized true i h = subst (OfSize (k .form)) (sym (leaf-by (λ l. maskAt n (c .masks) l i) (valueIn (k .form) c i) (k .depth) 0)) (value-sized (k .form) n c (ok .values-fit) i h)
+    sized false i h = leaf-blank (nullOf (k .form)) (OfSize (k .form)) (k .depth) (null-sized (k .form))
 
 -- the rest form: each mask byte where it is shown, and the value where all levels show it
 pub rest-laid : {k : Kind} {n : ℕ} {c : Content} → ContentOk k n c
