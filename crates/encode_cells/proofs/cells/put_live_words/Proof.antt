@@ -112,8 +112,9 @@ loop-again c =
     let l = t .before in
     let a = start l .args in
     let p = wrote (c .before) in
+    let piece = fixed-value 0 (a .size) (a .s .now) (l .loop .i) (zero-add (l .loop .i * a .size)) in
     packing-more (l .loop .inv) (more t)
-    (p .put-word .ensures ∙ ap (λ (x : List ℕ). overAt (a .to + l .loop .done * a .size) x (l .loop .out)) (p .before .before .word-at .ensures ∙ ap (ordered (orderOf (a .order))) (sym (fixed-value 0 (a .size) (a .s .now) (l .loop .i) (zero-add (l .loop .i * a .size))))))
+    (laid-as (a .to + l .loop .done * a .size) (l .loop .out) (p .put-word .ensures) (p .before .before .word-at .ensures ∙ ap (ordered (orderOf (a .order))) (sym piece)))
     (ap (λ (m : ℕ). l .loop .done + m) (c .live-mark .ensures))
 
 same-length : tie.Need-same-length Inv-loop μ-loop
