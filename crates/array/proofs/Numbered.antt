@@ -10,15 +10,14 @@ use lib.ListN.{length, take, drop, getD, length-drop, length-map}
 use lib.Seq.{drop-drop, drop-cons, getD-take, getD-drop, length-take-le}
 use Rattle.array.specs.Lists.{from, pick, joined, pieces, All}
 use Rattle.array.specs.Kind.{Kind, Form, fixed, ragged, nullOf}
-use Rattle.array.specs.Cells.{Value, Cell, maskOf, leaf, rest}
+use Rattle.array.specs.Cells.{Value, Cell, leaf, rest}
 use Rattle.array.specs.Content.{Content, ValuesOk, ContentOk, masksOf, leaves, offsetsFor, layout, pairUp, attach, valuesIn, cellsOf, nullCell, restForm}
 use Rattle.array.specs.Offsets.{slices, slicesFrom}
 use Rattle.array.specs.Places.{fixedAt, offsetAt, valueAt, valueIn, valuesAt, maskAt, masksAt, planesBy, planesAt, cellBy, shownAt, cellAt, laidBy}
-use Rattle.array.proofs.Lists.{map-from, from-suc, entry, by-number, map-below, map-map, map-cong, length-from, All-image, All-getD}
+use Rattle.array.proofs.Lists.{from-suc, entry, by-number, map-below, map-map, map-cong, length-from, All-image, All-getD}
 use Rattle.array.proofs.Geometry.{All-from}
 use Rattle.array.proofs.Sizes.{OfSize, null-sized}
-use Rattle.array.proofs.LayoutLaws.{content-path, cells-layout, values-sized}
-use Rattle.array.proofs.Inverse.{layout-cells}
+use Rattle.array.proofs.LayoutLaws.{content-path, mask-map, cells-layout, values-sized}
 use Rattle.array.proofs.RestLaws.{leaf-blank, hidden-by, rest-by}
 use Rattle.array.proofs.Places.{fixed-value}
 
@@ -104,15 +103,7 @@ module _ {k : Kind} {n : ℕ} {c : Content} (ok : ContentOk k n c) where
   pub cells-at : (z : Cell (k .depth)) (js : List ℕ) → All (λ j. j < n) js → map (λ j. getD (cellsOf k n c) j z) js ≡ map (cellAt k n c) js
   cells-at z js p = map-below (λ j. getD (cellsOf k n c) j z) (cellAt k n c) n (cell-is z) js p
 
-  -- the content whose cells are these
-  pub content-is : (g : ℕ → Cell (k .depth)) → ((j : ℕ) → j < n → cellAt k n c j ≡ g j) → c ≡ layout (k .form) (k .depth) (map g (from 0 n))
-  content-is g e = sym (layout-cells k n c ok) ∙ ap (layout (k .form) (k .depth)) (cells-are ∙ map-from (cellAt k n c) g 0 n (λ j h. e j (omega arith)))
-
 -- ---- what is laid out: cell j has the mask byte m l j at level l, and the value v j
-
-pub mask-map : {A : Type 0} (g : ℕ → ℕ × A) (js : List ℕ) → maskOf (map g js) ≡ map (λ j. g j .0) js
-mask-map g [] = refl
-mask-map g (j ∷ js) = ap (λ (r : List ℕ). g j .0 ∷ r) (mask-map g js)
 
 leaf-by : (m : ℕ → ℕ) (v : Value) (d l : ℕ) → leaf d (cellBy m v d l) ≡ v
 leaf-by m v zero l = refl
@@ -122,7 +113,7 @@ module _ (m : ℕ → ℕ → ℕ) (v : ℕ → Value) (js : List ℕ) where
   masks-laid : (d l : ℕ) → masksOf d (map (λ j. cellBy (λ i. m i j) (v j) d l) js) ≡ planesBy m d l js
   masks-laid zero l = refl
   masks-laid (suc d) l =
-      ap₂ (λ (a b : List ℕ). a ++ b) (mask-map (λ j. cellBy (λ i. m i j) (v j) (suc d) l) js)
+      ap₂ (λ (a b : List ℕ). a ++ b) (mask-map (map (λ j. cellBy (λ i. m i j) (v j) (suc d) l) js) ∙ map-map (λ j. cellBy (λ i. m i j) (v j) (suc d) l) (λ c. c .0) js)
       (ap (masksOf d) (map-map (λ j. cellBy (λ i. m i j) (v j) (suc d) l) (λ c. c .1) js) ∙ masks-laid d (suc l))
 
   leaves-laid : (d : ℕ) → leaves d (map (λ j. cellBy (λ l. m l j) (v j) d 0) js) ≡ map v js

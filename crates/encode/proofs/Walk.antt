@@ -10,7 +10,9 @@ use Rattle.array.specs.Kind.{Kind}
 use Rattle.array.specs.Cells.{Value, Cell, setTest}
 use Rattle.array.specs.Content.{Content, ContentOk}
 use Rattle.array.specs.Places.{valueIn, maskAt, masksAt, cellBy, shownAt}
-use Rattle.array.proofs.Numbered.{cells-are, mask-map}
+use Rattle.array.proofs.Lists.{map-map}
+use Rattle.array.proofs.LayoutLaws.{mask-map}
+use Rattle.array.proofs.Numbered.{cells-are}
 use Rattle.codec.specs.Mask.{maskForm}
 use Rattle.codec.specs.Frame.{keep, wrap, unlessNone, frame}
 use Rattle.codec.specs.Values.{putValues}
@@ -61,7 +63,7 @@ module _ (k : Kind) (n : ℕ) (c : Content) where
       let l : ℕ = levelOf k (suc d) in
       let e : suc l ≡ levelOf k d = omega arith in
       unless-map (cell (suc d) l) (framed (suc d)) (λ is. wrap (maskForm (k .masks) .put (masksAt n (c .masks) l is)) (storedFrom k n c d)) (liveAt n (c .masks) l)
-      (ap₂ (λ (ms ct : List ℕ). wrap (maskForm (k .masks) .put ms) ct) (mask-map (cell (suc d) l) (liveAt n (c .masks) l))
+      (ap₂ (λ (ms ct : List ℕ). wrap (maskForm (k .masks) .put ms) ct) (mask-map (map (cell (suc d) l) (liveAt n (c .masks) l)) ∙ map-map (cell (suc d) l) (λ x. x .0) (liveAt n (c .masks) l))
       (ap (unlessNone (framed d)) (keep-at n (c .masks) (valueIn (k .form) c) d l (from 0 n) ∙ ap (λ (j : ℕ). map (cell d j) (liveAt n (c .masks) j)) e)
       ∙ from-frame d (omega arith)))
 

@@ -21,35 +21,35 @@ use Rattle.encode_cells.proofs.Packing.{none-left}
 use Rattle.encode_ragged.proofs.Spans.{rises, values-long}
 
 -- the value bytes of those that pass, of the first i cells
-abbrev pub soFar : List ℕ → (ℕ → Bool) → ℕ → ℕ
-soFar os t zero = 0
-soFar os t (suc i) = soFar os t i + pick (t i) (stepAt (offsetAt os) i) 0
+abbrev pub soFar : (ℕ → ℕ) → (ℕ → Bool) → ℕ → ℕ
+soFar off t zero = 0
+soFar off t (suc i) = soFar off t i + pick (t i) (stepAt off i) 0
 
-module _ (os : List ℕ) (t : ℕ → Bool) where
-  so-far : (i m : ℕ) → soFar os t i + bytesAt (offsetAt os) (passing t (from i m)) ≡ soFar os t (i + m)
-  so-far i zero = add-zero (soFar os t i) ∙ ap (soFar os t) (sym (add-zero i))
+module _ (off : ℕ → ℕ) (t : ℕ → Bool) where
+  so-far : (i m : ℕ) → soFar off t i + bytesAt off (passing t (from i m)) ≡ soFar off t (i + m)
+  so-far i zero = add-zero (soFar off t i) ∙ ap (soFar off t) (sym (add-zero i))
   so-far i (suc m) =
       let q : suc i + m ≡ i + suc m = omega arith in
-      omega (arith, go (t i) (passing t (from (suc i) m)), so-far (suc i) m, ap (soFar os t) q)
+      omega (arith, go (t i) (passing t (from (suc i) m)), so-far (suc i) m, ap (soFar off t) q)
     where
-      go : (b : Bool) (r : List ℕ) → bytesAt (offsetAt os) (pick b (i ∷ r) r) ≡ pick b (stepAt (offsetAt os) i) 0 + bytesAt (offsetAt os) r
+      go : (b : Bool) (r : List ℕ) → bytesAt off (pick b (i ∷ r) r) ≡ pick b (stepAt off i) 0 + bytesAt off r
       go true r = refl
-      go false r = sym (zero-add (bytesAt (offsetAt os) r))
+      go false r = sym (zero-add (bytesAt off r))
 
-  pub so-far-all : (n : ℕ) → soFar os t n ≡ bytesAt (offsetAt os) (passing t (from 0 n))
-  so-far-all n = sym (sym (zero-add (bytesAt (offsetAt os) (passing t (from 0 n)))) ∙ so-far 0 n ∙ ap (soFar os t) (zero-add n))
+  pub so-far-all : (n : ℕ) → soFar off t n ≡ bytesAt off (passing t (from 0 n))
+  so-far-all n = sym (sym (zero-add (bytesAt off (passing t (from 0 n)))) ∙ so-far 0 n ∙ ap (soFar off t) (zero-add n))
 
   -- no more than lie before cell i
-  so-far-le : {n : ℕ} → Rises (offsetAt os) n → (i : ℕ) → i ≤ n → soFar os t i ≤ getD os i 0
+  so-far-le : {n : ℕ} → Rises off n → (i : ℕ) → i ≤ n → soFar off t i ≤ off i
   so-far-le r zero h = omega arith
   so-far-le r (suc i) h = go (t i) (so-far-le r i (omega arith)) (r i h)
     where
-      go : (b : Bool) → soFar os t i ≤ getD os i 0 → getD os i 0 ≤ getD os (suc i) 0 → soFar os t i + pick b (stepAt (offsetAt os) i) 0 ≤ getD os (suc i) 0
+      go : (b : Bool) → soFar off t i ≤ off i → off i ≤ off (suc i) → soFar off t i + pick b (stepAt off i) 0 ≤ off (suc i)
       go true a b = omega arith
       go false a b = omega arith
 
 pub bytes-le : {n : ℕ} {os : List ℕ} → Offsets n os → (t : ℕ → Bool) → bytesAt (offsetAt os) (passing t (from 0 n)) ≤ last os
-bytes-le {n} {os} o t = omega (arith, so-far-all os t n, so-far-le os t (rises o) n (omega arith), last-at os n (o .counted))
+bytes-le {n} {os} o t = omega (arith, so-far-all (offsetAt os) t n, so-far-le (offsetAt os) t (rises o) n (omega arith), last-at os n (o .counted))
 
 -- where there is no byte, there is nothing to write
 pub none-written : {n : ℕ} {os : List ℕ} (masks : List ℕ) (l : ℕ) → Offsets n os → (s : List ℕ) → last os ≡ length s → length s ≡ 0
@@ -65,7 +65,7 @@ none-written {n} {os} masks l o s e z to out h =
 pub record Summing (t : ℕ → Bool) (n : ℕ) (os : List ℕ) (total i : ℕ) : Type 0 where
   pub offsets : Offsets n os
   pub within : i ≤ n
-  pub sum : total ≡ soFar os t i
+  pub sum : total ≡ soFar (offsetAt os) t i
 
 pub summing-begins : {t : ℕ → Bool} {n : ℕ} {os : List ℕ} → Offsets n os → Summing t n os 0 0
 summing-begins o = record { offsets = o; within = omega arith; sum = refl }
@@ -77,7 +77,7 @@ marked false x = mul-zero x
 
 module _ {t : ℕ → Bool} {n : ℕ} {os : List ℕ} {total i : ℕ} (l : Summing t n os total i) where
   pub summing-ends : n ≤ i → total ≡ bytesAt (offsetAt os) (passing t (from 0 n))
-  summing-ends h = let q : i ≡ n = omega (arith, l .within) in l .sum ∙ ap (soFar os t) q ∙ so-far-all os t n
+  summing-ends h = let q : i ≡ n = omega (arith, l .within) in l .sum ∙ ap (soFar (offsetAt os) t) q ∙ so-far-all (offsetAt os) t n
 
   module _ (h : i < n) where
     pub summing-inside : i + 1 < length os
@@ -87,14 +87,14 @@ module _ {t : ℕ → Bool} {n : ℕ} {os : List ℕ} {total i : ℕ} (l : Summi
     summing-rises = run-rises (rises (l .offsets)) i 1 (omega arith)
 
     module _ {m : ℕ} (e : m ≡ pick (t i) 1 0) where
-      pub summing-step : total + (getD os (i + 1) 0 - getD os i 0) * m ≡ soFar os t (suc i)
+      pub summing-step : total + (getD os (i + 1) 0 - getD os i 0) * m ≡ soFar (offsetAt os) t (suc i)
       summing-step =
           ap₂ (λ (a b : ℕ). a + b) (l .sum)
           (ap₂ (λ (j k : ℕ). (getD os j 0 - getD os i 0) * k) (add-one i) e ∙ marked (t i) (stepAt (offsetAt os) i))
 
       pub summing-fits : total + (getD os (i + 1) 0 - getD os i 0) * m ≤ getD os (i + 1) 0
       summing-fits =
-          omega (arith, summing-step, so-far-le os t (rises (l .offsets)) (suc i) h, ap (λ (j : ℕ). getD os j 0) (add-one i))
+          omega (arith, summing-step, so-far-le (offsetAt os) t (rises (l .offsets)) (suc i) h, ap (λ (j : ℕ). getD os j 0) (add-one i))
 
       pub summing-more : Summing t n os (total + (getD os (i + 1) 0 - getD os i 0) * m) (i + 1)
-      summing-more = record { offsets = l .offsets; within = omega arith; sum = summing-step ∙ ap (soFar os t) (sym (add-one i)) }
+      summing-more = record { offsets = l .offsets; within = omega arith; sum = summing-step ∙ ap (soFar (offsetAt os) t) (sym (add-one i)) }
