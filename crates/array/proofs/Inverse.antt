@@ -1,34 +1,29 @@
 -- The other way round: valid content is the layout of its cells.
 -- Assumes nothing.
 use mathlib.Core.Path.{_≡_, refl, sym, ap, ap₂, _∙_}
-use Prim.Native.Nat.{ℕ, zero, suc, _*_}
-use native.Mathlib.Nat.{zero-mul}
+use Prim.Native.Nat.{ℕ, zero, suc, _+_, _*_, _<_}
+use native.Mathlib.Nat.{zero-mul, suc-mul, add-mul, zero-add}
 use native.Mathlib.Omega.{arith}
-use mathlib.Core.List.{List, [], _∷_, _++_}
-use lib.ListN.{length, take, drop, take-append-drop}
-use Rattle.array.specs.Lists.{joined}
+use mathlib.Core.List.{List, [], _∷_, _++_, map}
+use lib.ListN.{length, drop, take-append-drop, drop-of-length-le}
+use lib.Seq.{drop-drop}
+use Rattle.array.specs.Lists.{from, joined}
 use Rattle.array.specs.Kind.{Kind, Form, fixed, ragged}
-use Rattle.array.specs.Cells.{Value, Cell, maskOf}
-use Rattle.array.specs.Content.{Content, ContentOk, ValuesOk, masksOf, leaves, offsetsFor, layout, pairUp, attach, valuesIn, cellsOf}
-use Rattle.array.proofs.Lists.{joined-pieces}
+use Rattle.array.specs.Cells.{Cell}
+use Rattle.array.specs.Content.{Content, ContentOk, ValuesOk, offsetsFor, layout, valuesIn, cellsOf}
+use Rattle.array.specs.Places.{valueIn, maskAt, planesBy, cellAt}
+use Rattle.array.proofs.Lists.{map-from, joined-pieces}
 use Rattle.array.proofs.Offsets.{joined-slices-all, offsets-slices-all}
-use Rattle.array.proofs.LayoutLaws.{content-path, inners-pairUp, first-plane, later-planes, length-attach, leaves-attach, values-length}
+use Rattle.array.proofs.LayoutLaws.{content-path}
+use Rattle.array.proofs.Numbered.{plane-is, values-are, cells-are, laid-is}
 
-masks-pairUp : {A : Type 0} (ms : List ℕ) (xs : List A) → length ms ≡ length xs → maskOf (pairUp ms xs) ≡ ms
-masks-pairUp [] [] e = refl
-masks-pairUp [] (x ∷ xs) e = absurd (omega arith)
-masks-pairUp (m ∷ ms) [] e = absurd (omega arith)
-masks-pairUp (m ∷ ms) (x ∷ xs) e = ap (λ (r : List ℕ). m ∷ r) (masks-pairUp ms xs (omega arith))
-
-masks-attach : (n : ℕ) (vs : List Value) → length vs ≡ n → (d : ℕ) (ps : List ℕ) → length ps ≡ d * n → masksOf d (attach d n ps vs) ≡ ps
-masks-attach n vs ev zero [] e = refl
-masks-attach n vs ev zero (p ∷ ps) e = absurd (omega (arith, zero-mul n))
-masks-attach n vs ev (suc d) ps e =
-    let xs : List (Cell d) = attach d n (drop n ps) vs in
-    let same : length (take n ps) ≡ length xs = first-plane n vs ev d ps e ∙ sym (length-attach n vs ev d (drop n ps) (later-planes n vs ev d ps e)) in
-    ap₂ (λ (a b : List ℕ). a ++ b) (masks-pairUp (take n ps) xs same)
-    (ap (masksOf d) (inners-pairUp (take n ps) xs same) ∙ masks-attach n vs ev d (drop n ps) (later-planes n vs ev d ps e))
-    ∙ take-append-drop n ps
+-- the mask bytes of all cells are the planes
+planes-whole : (n : ℕ) (masks : List ℕ) (d l : ℕ) → length masks ≡ (l + d) * n → planesBy (maskAt n masks) d l (from 0 n) ≡ drop (l * n) masks
+planes-whole n masks zero l e = sym (drop-of-length-le masks {i = l * n} (omega (arith, add-mul l 0 n, zero-mul n)))
+planes-whole n masks (suc d) l e =
+    ap₂ (λ (a b : List ℕ). a ++ b) (sym (plane-is n masks l (omega (arith, suc-mul (l + d) n, add-mul l d n))))
+    (planes-whole n masks d (suc l) (omega arith) ∙ ap (λ (m : ℕ). drop m masks) (suc-mul l n) ∙ sym (drop-drop n (l * n) masks))
+    ∙ take-append-drop n (drop (l * n) masks)
 
 joined-values : (f : Form) (n : ℕ) (c : Content) → ValuesOk f n c → joined (valuesIn f n c) ≡ c .values
 joined-values (fixed k o) n c p = joined-pieces k n (c .values) (p .0)
@@ -42,12 +37,17 @@ offsets-values (fixed k o) n c p = go (c .offsets) (p .1)
     go (x ∷ os) e = absurd (omega arith)
 offsets-values (ragged w q) n c p = offsets-slices-all n (c .offsets) (c .values) (p .0) (p .1) (p .2)
 
--- valid content is the layout of its cells
-pub layout-cells : (k : Kind) (n : ℕ) (c : Content) → ContentOk k n c → layout (k .form) (k .depth) (cellsOf k n c) ≡ c
-layout-cells k n c ok =
-    let vs : List Value = valuesIn (k .form) n c in
-    let ev : length vs ≡ n = values-length (k .form) n c (ok .values-fit) in
-    let el : leaves (k .depth) (cellsOf k n c) ≡ vs = leaves-attach n vs ev (k .depth) (c .masks) (ok .masks-fit) in
-    content-path (masks-attach n vs ev (k .depth) (c .masks) (ok .masks-fit))
-    (ap joined el ∙ joined-values (k .form) n c (ok .values-fit))
-    (ap (offsetsFor (k .form)) el ∙ offsets-values (k .form) n c (ok .values-fit))
+module _ (k : Kind) (n : ℕ) (c : Content) (ok : ContentOk k n c) where
+  -- valid content is the layout of its cells
+  pub layout-cells : layout (k .form) (k .depth) (cellsOf k n c) ≡ c
+  layout-cells =
+      let vs : map (valueIn (k .form) c) (from 0 n) ≡ valuesIn (k .form) n c = sym (values-are (k .form) n c (ok .values-fit)) in
+      ap (layout (k .form) (k .depth)) (cells-are ok)
+      ∙ laid-is (k .form) (k .depth) (cellAt k n c) (maskAt n (c .masks)) (valueIn (k .form) c) (λ j. refl) (from 0 n)
+      ∙ content-path
+      (planes-whole n (c .masks) (k .depth) 0 (ok .masks-fit ∙ ap (λ (d : ℕ). d * n) (sym (zero-add (k .depth)))) ∙ ap (λ (m : ℕ). drop m (c .masks)) (zero-mul n))
+      (ap joined vs ∙ joined-values (k .form) n c (ok .values-fit)) (ap (offsetsFor (k .form)) vs ∙ offsets-values (k .form) n c (ok .values-fit))
+
+  -- and what its cells are says what it is
+  pub content-is : (g : ℕ → Cell (k .depth)) → ((j : ℕ) → j < n → cellAt k n c j ≡ g j) → c ≡ layout (k .form) (k .depth) (map g (from 0 n))
+  content-is g e = sym layout-cells ∙ ap (layout (k .form) (k .depth)) (cells-are ok ∙ map-from (cellAt k n c) g 0 n (λ j h. e j (omega arith)))

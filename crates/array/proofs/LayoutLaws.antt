@@ -4,7 +4,7 @@ use mathlib.Core.Path.{_≡_, refl, sym, ap, _∙_, subst}
 use Prim.Native.Nat.{ℕ, zero, suc, _*_, _≤_}
 use native.Mathlib.Nat.{zero-mul, suc-mul, zero-add, le-trans, le-of-eq}
 use native.Mathlib.Omega.{arith}
-use mathlib.Core.List.{List, [], _∷_}
+use mathlib.Core.List.{List, [], _∷_, map}
 use lib.ListN.{length, take, drop, length-append, length-map, length-drop}
 use lib.Seq.{take-at, drop-at, length-take-le}
 use Rattle.array.specs.Limits.{mostBytes}
@@ -29,9 +29,12 @@ pair-up : {A : Type 0} (cs : List (ℕ × A)) → pairUp (maskOf cs) (inners cs)
 pair-up [] = refl
 pair-up {A} (c ∷ cs) = ap (λ (r : List (ℕ × A)). c ∷ r) (pair-up cs)
 
+pub mask-map : {A : Type 0} (cs : List (ℕ × A)) → maskOf cs ≡ map (λ c. c .0) cs
+mask-map [] = refl
+mask-map (c ∷ cs) = ap (λ (r : List ℕ). c .0 ∷ r) (mask-map cs)
+
 pub length-maskOf : {A : Type 0} (cs : List (ℕ × A)) → length (maskOf cs) ≡ length cs
-length-maskOf [] = refl
-length-maskOf (c ∷ cs) = ap suc (length-maskOf cs)
+length-maskOf cs = ap length (mask-map cs) ∙ length-map cs (λ c. c .0)
 
 pub length-masksOf : (d : ℕ) (cs : List (Cell d)) → length (masksOf d cs) ≡ d * length cs
 length-masksOf zero cs = sym (zero-mul (length cs))
@@ -98,10 +101,10 @@ inners-pairUp (m ∷ ms) [] e = absurd (omega arith)
 inners-pairUp {A} (m ∷ ms) (x ∷ xs) e = ap (λ (r : List A). x ∷ r) (inners-pairUp ms xs (omega arith))
 
 module _ (n : ℕ) (vs : List Value) (ev : length vs ≡ n) where
-  pub first-plane : (d : ℕ) (ps : List ℕ) → length ps ≡ suc d * n → length (take n ps) ≡ n
+  first-plane : (d : ℕ) (ps : List ℕ) → length ps ≡ suc d * n → length (take n ps) ≡ n
   first-plane d ps e = length-take-le n ps (omega (arith, suc-mul d n))
 
-  pub later-planes : (d : ℕ) (ps : List ℕ) → length ps ≡ suc d * n → length (drop n ps) ≡ d * n
+  later-planes : (d : ℕ) (ps : List ℕ) → length ps ≡ suc d * n → length (drop n ps) ≡ d * n
   later-planes d ps e = omega (arith, suc-mul d n, length-drop n ps)
 
   pub length-attach : (d : ℕ) (ps : List ℕ) → length ps ≡ d * n → length (attach d n ps vs) ≡ n

@@ -22,3 +22,4 @@ pub mod Refusals
 pub mod Resting
 pub mod Putting
 pub mod Places
+pub mod Numbered

@@ -2,7 +2,7 @@
 -- Assumes nothing.
 use mathlib.Core.Path.{_≡_, refl, sym, ap, ap₂, _∙_}
 use Prim.Native.Nat.{ℕ, zero, suc, _+_, _*_, _≤_, _<_}
-use native.Mathlib.Nat.{zero-mul, suc-mul, add-comm}
+use native.Mathlib.Nat.{zero-mul, suc-mul, add-comm, add-zero, zero-add}
 use native.Mathlib.Omega.{arith}
 use mathlib.Core.List.{List, [], _∷_, _++_, map, append-assoc}
 use lib.ListN.{length, take, drop, getD, length-append, length-drop, take-append-drop}
@@ -25,6 +25,25 @@ module _ {A : Type 0} where
   pub in-place : (z : A) (xs : List A) → map (λ i. getD xs i z) (from 0 (length xs)) ≡ xs
   in-place z [] = refl
   in-place z (x ∷ xs) = ap (λ (r : List A). x ∷ r) (from-suc (λ i. getD (x ∷ xs) i z) 0 (length xs) ∙ in-place z xs)
+
+  pub at-from : (z : A) (f : ℕ → A) (n a i : ℕ) → i < n → getD (map f (from a n)) i z ≡ f (a + i)
+  at-from z f zero a i h = absurd (omega arith)
+  at-from z f (suc n) a zero h = ap f (sym (add-zero a))
+  at-from z f (suc n) a (suc i) h = let e : suc a + i ≡ a + suc i = omega arith in at-from z f n (suc a) i (omega arith) ∙ ap f e
+
+  -- what holds of the list holds of each entry
+  pub entry : (f : ℕ → A) {l : List A} (n : ℕ) → l ≡ map f (from 0 n) → (z : A) (i : ℕ) → i < n → getD l i z ≡ f i
+  entry f n e z i h = ap (λ (xs : List A). getD xs i z) e ∙ at-from z f n 0 i h ∙ ap f (zero-add i)
+
+  -- a list by its elements
+  pub by-number : (z : A) (f : ℕ → A) (xs : List A) {n : ℕ} → length xs ≡ n → ((i : ℕ) → i < n → getD xs i z ≡ f i) → xs ≡ map f (from 0 n)
+  by-number z f xs {n} e g =
+      sym (in-place z xs) ∙ ap (λ (m : ℕ). map (λ i. getD xs i z) (from 0 m)) e ∙ map-from (λ i. getD xs i z) f 0 n (λ i h. g i (omega arith))
+
+  -- maps that agree below n
+  pub map-below : (f g : ℕ → A) (n : ℕ) → ((i : ℕ) → i < n → f i ≡ g i) → (is : List ℕ) → All (λ i. i < n) is → map f is ≡ map g is
+  map-below f g n e [] p = refl
+  map-below f g n e (i ∷ is) p = ap₂ (λ (x : A) (r : List A). x ∷ r) (e i (p .0)) (map-below f g n e is (p .1))
 
   -- ---- a rule for every element
 

@@ -5,7 +5,7 @@ use Prim.Native.Nat.{ℕ, zero, suc, _+_, _-_, _<_, _≤_}
 use native.Mathlib.Nat.{add-sub-cancel-left, add-sub-of-le, add-assoc, min-le-left, le-refl, le-trans}
 use native.Mathlib.Omega.{arith}
 use mathlib.Core.List.{List, [], _∷_, _++_}
-use lib.ListN.{length, take, drop, length-append, length-take, length-drop, take-append-drop, drop-of-length-le}
+use lib.ListN.{length, getD, take, drop, length-append, length-take, length-drop, take-append-drop, drop-of-length-le}
 use lib.Seq.{take-at, drop-at, drop-drop, length-take-le}
 use Rattle.array.specs.Lists.{joined, All}
 use Rattle.array.specs.Cells.{Value}
@@ -47,6 +47,17 @@ rising-all m a (b ∷ bs) p h = (omega (arith, rising-le b bs (p .1)), rising-al
 pub rising-below : (m : ℕ) (os : List ℕ) → Rising os → last os < m → All (λ o. o < m) os
 rising-below m [] p h = tt
 rising-below m (a ∷ bs) p h = (omega (arith, rising-le a bs (p .1)), rising-all m a bs (p .1) h)
+
+-- the last of n + 1 offsets is the one at n
+pub last-at : (os : List ℕ) (n : ℕ) → length os ≡ suc n → last os ≡ getD os n 0
+last-at [] n h = absurd (omega arith)
+last-at (a ∷ os) n h = go os a n (omega arith)
+  where
+    go : (xs : List ℕ) (a m : ℕ) → length xs ≡ m → lastFrom a xs ≡ getD (a ∷ xs) m 0
+    go [] a zero h = refl
+    go [] a (suc m) h = absurd (omega arith)
+    go (x ∷ xs) a zero h = absurd (omega arith)
+    go (x ∷ xs) a (suc m) h = go xs x m (omega arith)
 
 -- ---- the values between offsets
 

@@ -2,18 +2,18 @@
 -- Assumes nothing.
 use mathlib.Core.Path.{_≡_, refl, sym, ap, ap₂, _∙_}
 use Prim.Native.Nat.{ℕ, zero, suc, _+_, _-_, _*_, _≤_, _<_}
-use native.Mathlib.Nat.{zero-mul, suc-mul, add-zero, zero-add, sub-self, le-refl}
-use native.Mathlib.Numerals.{add-one}
+use native.Mathlib.Nat.{zero-mul, suc-mul, add-zero, sub-self, le-refl, le-of-eq}
 use native.Mathlib.Omega.{arith}
 use mathlib.Core.List.{List, [], _∷_, _++_, map}
 use lib.ListN.{length, take, drop, getD, length-append, length-drop}
 use lib.Seq.{take-add, drop-drop, length-take-le}
-use Rattle.array.specs.Lists.{from, joined, pieces, All}
+use Rattle.array.specs.Lists.{from, joined, All}
 use Rattle.array.specs.Kind.{Form, fixed, ragged}
 use Rattle.array.specs.Cells.{Value}
-use Rattle.array.specs.Content.{Content, ValuesOk, valuesIn}
-use Rattle.array.specs.Offsets.{ends, slices, slicesFrom}
-use Rattle.array.specs.Places.{fixedAt, offsetAt, beginsAt, Rises, stepAt, valueAt, bytesAt, valuesAt}
+use Rattle.array.specs.Content.{Content, ValuesOk}
+use Rattle.array.specs.Offsets.{Rising, RisingFrom, ends}
+use Rattle.array.specs.Places.{fixedAt, offsetAt, beginsAt, Rises, stepAt, valueAt, valuesAt, bytesAt, endsAt}
+use Rattle.array.proofs.Offsets.{last-at}
 
 -- ---- lists of values, one part after another
 
@@ -32,6 +32,9 @@ ends-append a (x ∷ xs) ys =
 pub fixed-step : (base k j : ℕ) → stepAt (fixedAt base k) j ≡ k
 fixed-step base k j = omega (arith, suc-mul j k)
 
+pub fixed-value : (base k : ℕ) (s : List ℕ) (j : ℕ) {at : ℕ} → base + j * k ≡ at → valueAt (fixedAt base k) s j ≡ take k (drop at s)
+fixed-value base k s j e = ap₂ (λ (x y : ℕ). take x (drop y s)) (fixed-step base k j) e
+
 pub fixed-rises : (base k v : ℕ) → Rises (fixedAt base k) v
 fixed-rises base k v j h = omega (arith, suc-mul j k)
 
@@ -48,8 +51,11 @@ module _ {off : ℕ → ℕ} {v : ℕ} (r : Rises off v) where
       let e : off (suc a + n) ≡ off (a + suc n) = let q : suc a + n ≡ a + suc n = omega arith in ap off q in
       omega (arith, r a (omega arith), run-rises (suc a) n (omega arith), e)
 
+  pub below : (j : ℕ) → j ≤ v → off j ≤ off v
+  below j h = let q : j + (v - j) ≡ v = omega arith in omega (arith, run-rises j (v - j) (omega arith), ap off q)
+
   pub run-below : (a n : ℕ) → a + n ≤ v → off (a + n) ≤ off v
-  run-below a n h = let q : a + n + (v - (a + n)) ≡ v = omega arith in omega (arith, run-rises (a + n) (v - (a + n)) (omega arith), ap off q)
+  run-below a n h = below (a + n) h
 
   -- its bytes are those from where it begins up to where it ends
   pub run-bytes : (s : List ℕ) (a n : ℕ) → a + n ≤ v → joined (valuesAt off s (from a n)) ≡ take (off (a + n) - off a) (drop (off a) s)
@@ -94,36 +100,40 @@ module _ {off : ℕ → ℕ} {v : ℕ} (r : Rises off v) where
       let e : t ≡ t + (off a - off a) = omega arith in
       ap (λ (k : ℕ). ends k (valuesAt off s (from a n))) e ∙ run-ends-from s t a a n (le-refl a) h l (le-refl (off a))
 
-  -- ---- any cells
+  -- ---- any cells: as many bytes as their steps say
 
-  -- as many bytes as their steps say
+  pub value-long : (s : List ℕ) → off v ≤ length s → (j : ℕ) → j < v → length (valueAt off s j) ≡ stepAt off j
+  value-long s l j h =
+      length-take-le (stepAt off j) (drop (off j) s) (omega (arith, length-drop (off j) s, r j h, below (suc j) h))
+
   pub bytes-long : (s : List ℕ) → off v ≤ length s → (js : List ℕ) → All (λ j. j < v) js → length (joined (valuesAt off s js)) ≡ bytesAt off js
   bytes-long s l [] p = refl
-  bytes-long s l (j ∷ js) p =
-      let top : off (suc j) ≤ off v = let q : j + 1 ≡ suc j = add-one j in omega (arith, run-below j 1 (omega (arith, p .0)), ap off q) in
-      let up : off j ≤ off (suc j) = r j (p .0) in
-      let len : length (valueAt off s j) ≡ stepAt off j = length-take-le (stepAt off j) (drop (off j) s) (omega (arith, length-drop (off j) s)) in
-      omega (arith, length-append (valueAt off s j) (joined (valuesAt off s js)), bytes-long s l js (p .1))
+  bytes-long s l (j ∷ js) p = omega (arith, length-append (valueAt off s j) (joined (valuesAt off s js)), value-long s l j (p .0), bytes-long s l js (p .1))
 
--- ---- the value of cell j of an array is what lies at its place
+  pub ends-are : (s : List ℕ) → off v ≤ length s → (a : ℕ) (js : List ℕ) → All (λ j. j < v) js → ends a (valuesAt off s js) ≡ endsAt off a js
+  ends-are s l a [] p = refl
+  ends-are s l a (j ∷ js) p =
+      let e : a + length (valueAt off s j) ≡ a + stepAt off j = omega (arith, value-long s l j (p .0)) in
+      ap₂ (λ (x : ℕ) (r : List ℕ). x ∷ r) e (ap (λ (b : ℕ). ends b (valuesAt off s js)) e ∙ ends-are s l (a + stepAt off j) js (p .1))
 
-pub piece-at : (k n : ℕ) (s : List ℕ) (j : ℕ) (z : Value) → j < n → getD (pieces k n s) j z ≡ take k (drop (j * k) s)
-piece-at k zero s j z h = absurd (omega arith)
-piece-at k (suc n) s zero z h = ap (λ (i : ℕ). take k (drop i s)) (sym (zero-mul k))
-piece-at k (suc n) s (suc j) z h =
-    let q : k + j * k ≡ suc j * k = omega (arith, suc-mul j k) in
-    piece-at k n (drop k s) j z (omega arith) ∙ ap (take k) (drop-drop (j * k) k s ∙ ap (λ (i : ℕ). drop i s) q)
+pub length-ends-at : (off : ℕ → ℕ) (a : ℕ) (js : List ℕ) → length (endsAt off a js) ≡ length js
+length-ends-at off a [] = refl
+length-ends-at off a (j ∷ js) = ap suc (length-ends-at off (a + stepAt off j) js)
 
-pub slice-at : (os s : List ℕ) (j : ℕ) (z : Value) → suc j < length os → getD (slices os s) j z ≡ valueAt (offsetAt os) s j
-slice-at [] s j z h = absurd (omega arith)
-slice-at (a ∷ os) s j z h = go a os j (omega arith)
+-- ---- the values of an array lie in their order, within the bytes
+pub offsets-rise : (os : List ℕ) → Rising os → {n : ℕ} → length os ≡ suc n → Rises (offsetAt os) n
+offsets-rise [] r e j h = absurd (omega arith)
+offsets-rise (a ∷ os) r e j h = go a os (r .1) j (omega arith)
   where
-    go : (a : ℕ) (os : List ℕ) (j : ℕ) → j < length os → getD (slicesFrom a os s) j z ≡ valueAt (offsetAt (a ∷ os)) s j
-    go a [] j h = absurd (omega arith)
-    go a (b ∷ os) zero h = refl
-    go a (b ∷ os) (suc j) h = go b os j (omega arith)
+    go : (a : ℕ) (os : List ℕ) → RisingFrom a os → (j : ℕ) → j < length os → getD (a ∷ os) j 0 ≤ getD os j 0
+    go a [] r j h = absurd (omega arith)
+    go a (b ∷ os) r zero h = r .0
+    go a (b ∷ os) r (suc j) h = go b os (r .1) j (omega arith)
 
-pub value-is : (f : Form) (n : ℕ) (c : Content) → ValuesOk f n c → (z : Value) (j : ℕ) → j < n → getD (valuesIn f n c) j z ≡ valueAt (beginsAt f (c .offsets)) (c .values) j
-value-is (fixed k o) n c p z j h =
-    piece-at k n (c .values) j z h ∙ ap₂ (λ (x y : ℕ). take x (drop y (c .values))) (sym (fixed-step 0 k j)) (sym (zero-add (j * k)))
-value-is (ragged w q) n c p z j h = slice-at (c .offsets) (c .values) j z (omega (arith, p .0))
+pub begins-rise : (f : Form) (n : ℕ) (c : Content) → ValuesOk f n c → Rises (beginsAt f (c .offsets)) n
+begins-rise (fixed k o) n c p = fixed-rises 0 k n
+begins-rise (ragged w q) n c p = offsets-rise (c .offsets) (p .1) (p .0)
+
+pub begins-end : (f : Form) (n : ℕ) (c : Content) → ValuesOk f n c → beginsAt f (c .offsets) n ≤ length (c .values)
+begins-end (fixed k o) n c p = omega (arith, p .0)
+begins-end (ragged w q) n c p = le-of-eq (sym (last-at (c .offsets) n (p .0)) ∙ p .2)

@@ -1,64 +1,61 @@
 -- The rest form, by the words of docs/SPEC.md, S2.1 and S2.2: a level's mask byte stays if all outer masks there are set, else it is 0; the value
 -- stays if all masks are set, else it is that of a null.
 -- Assumes nothing.
-use mathlib.Core.Path.{_≡_, refl, ap}
-use Prim.Native.Nat.{ℕ, zero, suc}
+use mathlib.Core.Path.{_≡_, refl, sym, ap, _∙_}
+use Prim.Native.Nat.{ℕ, zero, suc, _+_}
+use native.Mathlib.Nat.{zero-add}
 use native.Mathlib.Omega.{arith}
-use mathlib.Core.Bool.{Bool, true, _&&_}
+use mathlib.Core.Bool.{Bool, true, false, _&&_}
 use Rattle.array.specs.Lists.{pick}
 use Rattle.array.specs.Cells.{Value, Cell, Strict, setTest, leaf, blank, restOne, rest}
+use Rattle.array.specs.Places.{cellBy, shownBy}
 
--- the mask byte of level l, outermost first; 0 past the innermost
-abbrev pub maskAt : (d l : ℕ) → Cell d → ℕ
-maskAt zero l c = 0
-maskAt (suc d) zero c = c .0
-maskAt (suc d) (suc l) c = maskAt d l (c .1)
+-- ---- any cell by its mask bytes and its value
 
--- the masks of the first l levels are all set
-abbrev pub outerSet : (d l : ℕ) → Cell d → Bool
-outerSet zero l c = true
-outerSet (suc d) zero c = true
-outerSet (suc d) (suc l) c = setTest (c .0) && outerSet d l (c .1)
+-- the mask bytes, outermost first; 0 past the innermost
+abbrev pub masksIn : (d : ℕ) → Cell d → ℕ → ℕ
+masksIn zero c l = 0
+masksIn (suc d) c zero = c .0
+masksIn (suc d) c (suc l) = masksIn d (c .1) l
+
+pub cell-by : (d : ℕ) (c : Cell d) → c ≡ cellBy (masksIn d c) (leaf d c) d 0
+cell-by zero c = refl
+cell-by (suc d) c = ap (λ (r : Cell d). (c .0, r)) (cell-by d (c .1) ∙ sym (later (masksIn (suc d) c) (leaf d (c .1)) d 0))
+  where
+    later : (m : ℕ → ℕ) (v : Value) (d l : ℕ) → cellBy m v d (suc l) ≡ cellBy (λ i. m (suc i)) v d l
+    later m v zero l = refl
+    later m v (suc d) l = ap (λ (r : Cell d). (m (suc l), r)) (later m v d (suc l))
 
 module _ (z : Value) where
   pub rest-blank : (d : ℕ) → rest z d (blank z d) ≡ blank z d
   rest-blank zero = refl
   rest-blank (suc d) = refl
 
-  mask-blank : (d l : ℕ) → maskAt d l (blank z d) ≡ 0
-  mask-blank zero l = refl
-  mask-blank (suc d) zero = refl
-  mask-blank (suc d) (suc l) = mask-blank d l
+  -- a cell that is hidden
+  pub hidden-by : (m : ℕ → ℕ) (v : Value) (d l : ℕ) (b : Bool) → pick b (cellBy m v d l) (blank z d) ≡ cellBy (λ i. pick b (m i) 0) (pick b v z) d l
+  hidden-by m v d l true = refl
+  hidden-by m v zero l false = refl
+  hidden-by m v (suc d) l false = ap (λ (r : Cell d). (zero, r)) (hidden-by m v d (suc l) false)
 
-  leaf-of-blank : (d : ℕ) → leaf d (blank z d) ≡ z
-  leaf-of-blank zero = refl
-  leaf-of-blank (suc d) = leaf-of-blank d
+  -- the rest form from level l on, where t levels end
+  rest-from : (m : ℕ → ℕ) (v : Value) (d l t : ℕ) → l + d ≡ t
+      → pick (shownBy m l) (rest z d (cellBy m v d l)) (blank z d) ≡ cellBy (λ i. pick (shownBy m i) (m i) 0) (pick (shownBy m t) v z) d l
+  rest-from m v zero l t e = let q : l ≡ t = omega arith in ap (λ (i : ℕ). pick (shownBy m i) v z) q
+  rest-from m v (suc d) l t e = one (shownBy m l) (m l) (rest-from m v d (suc l) t (omega arith))
+    where
+      one : {r : Cell d} (b : Bool) (x : ℕ) → pick (b && setTest x) (rest z d (cellBy m v d (suc l))) (blank z d) ≡ r
+          → pick b (restOne z (blank z d) (rest z d) x (cellBy m v d (suc l))) (zero, blank z d) ≡ (pick b x 0, r)
+      one true zero q = ap (λ (r : Cell d). (zero, r)) q
+      one true (suc zero) q = ap (λ (r : Cell d). (1, r)) q
+      one true (suc (suc x)) q = ap (λ (r : Cell d). (suc (suc x), r)) q
+      one false x q = ap (λ (r : Cell d). (zero, r)) q
 
-  pub rest-mask : (d l : ℕ) (c : Cell d) → maskAt d l (rest z d c) ≡ pick (outerSet d l c) (maskAt d l c) 0
-  rest-mask zero l c = refl
-  rest-mask (suc d) zero c = one (c .0)
-    where
-      one : (m : ℕ) → restOne z (blank z d) (rest z d) m (c .1) .0 ≡ m
-      one zero = refl
-      one (suc zero) = refl
-      one (suc (suc m)) = refl
-  rest-mask (suc d) (suc l) c = one (c .0) (rest-mask d l (c .1))
-    where
-      one : (m : ℕ) → maskAt d l (rest z d (c .1)) ≡ pick (outerSet d l (c .1)) (maskAt d l (c .1)) 0
-          → maskAt d l (restOne z (blank z d) (rest z d) m (c .1) .1) ≡ pick (setTest m && outerSet d l (c .1)) (maskAt d l (c .1)) 0
-      one zero e = mask-blank d l
-      one (suc zero) e = e
-      one (suc (suc m)) e = mask-blank d l
+  pub rest-by : (m : ℕ → ℕ) (v : Value) (d : ℕ) → rest z d (cellBy m v d 0) ≡ cellBy (λ l. pick (shownBy m l) (m l) 0) (pick (shownBy m d) v z) d 0
+  rest-by m v d = rest-from m v d 0 d (zero-add d)
 
-  pub rest-value : (d : ℕ) (c : Cell d) → leaf d (rest z d c) ≡ pick (outerSet d d c) (leaf d c) z
-  rest-value zero c = refl
-  rest-value (suc d) c = one (c .0) (rest-value d (c .1))
-    where
-      one : (m : ℕ) → leaf d (rest z d (c .1)) ≡ pick (outerSet d d (c .1)) (leaf d (c .1)) z
-          → leaf d (restOne z (blank z d) (rest z d) m (c .1) .1) ≡ pick (setTest m && outerSet d d (c .1)) (leaf d (c .1)) z
-      one zero e = leaf-of-blank d
-      one (suc zero) e = e
-      one (suc (suc m)) e = leaf-of-blank d
+  pub rest-is : (d : ℕ) (c : Cell d)
+      → rest z d c ≡ cellBy (λ l. pick (shownBy (masksIn d c) l) (masksIn d c l) 0) (pick (shownBy (masksIn d c) d) (leaf d c) z) d 0
+  rest-is d c = ap (rest z d) (cell-by d c) ∙ rest-by (masksIn d c) (leaf d c) d
 
   -- the rest form of a rest form is itself
   pub rest-again : (d : ℕ) (c : Cell d) → rest z d (rest z d c) ≡ rest z d c

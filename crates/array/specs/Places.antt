@@ -1,13 +1,17 @@
--- Redundant by the law value-is in array/proofs/Places.antt: where the bytes of a cell lie in an array.
--- Cell j lies from off j up to off (j + 1): the bytes of a mask plane and fixed values at equal steps, ragged values between their
--- offsets. So do those of a cut: cut-masks and cut-values in extract/proofs/Cutting.antt.
+-- Redundant by the laws cell-is and laid-is in array/proofs/Numbered.antt: a cell by its number.
+-- Its mask bytes, one of each plane, and its value, which lies from off j up to off (j + 1): the bytes of a mask plane and fixed values at
+-- equal steps, ragged values between their offsets.
 -- Assumes nothing.
 use Prim.Native.Nat.{ℕ, zero, suc, _+_, _-_, _*_, _≤_, _<_}
+use mathlib.Core.Bool.{Bool, true, _&&_}
 use mathlib.Core.List.{List, [], _∷_, _++_, map}
 use lib.ListN.{getD, take, drop}
 use Rattle.array.specs.Lists.{joined}
-use Rattle.array.specs.Kind.{Form, fixed, ragged}
-use Rattle.array.specs.Cells.{Value}
+use Rattle.array.specs.Kind.{Kind, Form, fixed, ragged}
+use Rattle.array.specs.Cells.{Value, Cell, setTest}
+use Rattle.array.specs.Content.{Content, offsetsFor}
+
+-- ---- values
 
 -- cells of k bytes, the first at base
 abbrev pub fixedAt : ℕ → ℕ → ℕ → ℕ
@@ -31,15 +35,60 @@ stepAt off j = off (suc j) - off j
 abbrev pub valueAt : (ℕ → ℕ) → List ℕ → ℕ → Value
 valueAt off s j = take (stepAt off j) (drop (off j) s)
 
--- how many bytes the cells js have, and their values
+-- the value of cell j of an array
+abbrev pub valueIn : Form → Content → ℕ → Value
+valueIn f c j = valueAt (beginsAt f (c .offsets)) (c .values) j
+
+-- the values of the cells js, how many bytes they have, and where each ends when they lie end to end from a on
+abbrev pub valuesAt : (ℕ → ℕ) → List ℕ → List ℕ → List Value
+valuesAt off s js = map (valueAt off s) js
+
 abbrev pub bytesAt : (ℕ → ℕ) → List ℕ → ℕ
 bytesAt off [] = 0
 bytesAt off (j ∷ js) = stepAt off j + bytesAt off js
 
-abbrev pub valuesAt : (ℕ → ℕ) → List ℕ → List ℕ → List Value
-valuesAt off s js = map (valueAt off s) js
+abbrev pub endsAt : (ℕ → ℕ) → ℕ → List ℕ → List ℕ
+endsAt off a [] = []
+endsAt off a (j ∷ js) = (a + stepAt off j) ∷ endsAt off (a + stepAt off j) js
 
--- the mask bytes of the cells js, of planes of n bytes: d levels, from level l on
+-- ---- mask bytes
+
+-- of cell j at level l, of planes of n bytes; of the cells js
+abbrev pub maskAt : ℕ → List ℕ → ℕ → ℕ → ℕ
+maskAt n masks l j = getD masks (l * n + j) 0
+
+abbrev pub masksAt : ℕ → List ℕ → ℕ → List ℕ → List ℕ
+masksAt n masks l js = map (maskAt n masks l) js
+
+-- of the cells js at d levels, from level l on: m l j is that of cell j at level l
+abbrev pub planesBy : (ℕ → ℕ → ℕ) → (d l : ℕ) → List ℕ → List ℕ
+planesBy m zero l js = []
+planesBy m (suc d) l js = map (m l) js ++ planesBy m d (suc l) js
+
+-- the same by places, a byte of a plane being a cell of one byte
 abbrev pub planesAt : ℕ → ℕ → ℕ → List ℕ → List ℕ → List ℕ
 planesAt zero l n ps js = []
 planesAt (suc d) l n ps js = joined (valuesAt (fixedAt (l * n) 1) ps js) ++ planesAt d (suc l) n ps js
+
+-- ---- cells
+
+-- the cell with the mask bytes m l, m (l + 1) and so on, d of them, and the value v
+abbrev pub cellBy : (ℕ → ℕ) → Value → (d l : ℕ) → Cell d
+cellBy m v zero l = v
+cellBy m v (suc d) l = (m l, cellBy m v d (suc l))
+
+-- what such a cell has at level l is shown: all mask bytes before it are set
+abbrev pub shownBy : (ℕ → ℕ) → ℕ → Bool
+shownBy m zero = true
+shownBy m (suc l) = shownBy m l && setTest (m l)
+
+-- the same of cell j of an array of n cells
+abbrev pub shownAt : ℕ → List ℕ → ℕ → ℕ → Bool
+shownAt n masks l j = shownBy (λ i. maskAt n masks i j) l
+
+abbrev pub cellAt : (k : Kind) → ℕ → Content → ℕ → Cell (k .depth)
+cellAt k n c j = cellBy (λ l. maskAt n (c .masks) l j) (valueIn (k .form) c j) (k .depth) 0
+
+-- the content whose cells js have the mask bytes m l j and the values v j
+abbrev pub laidBy : Form → ℕ → (ℕ → ℕ → ℕ) → (ℕ → Value) → List ℕ → Content
+laidBy f d m v js = record { masks = planesBy m d 0 js; values = joined (map v js); offsets = offsetsFor f (map v js) }

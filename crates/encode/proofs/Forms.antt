@@ -6,7 +6,7 @@ use native.Mathlib.Nat.{le-of-eq, zero-mul}
 use native.Mathlib.Numerals.{add-one}
 use native.Mathlib.Omega.{arith}
 use mathlib.Core.List.{List, map}
-use lib.ListN.{length, drop, getD}
+use lib.ListN.{length, getD}
 use Rattle.array.specs.declared.kind.ByteOrder.{ByteOrder}
 use Rattle.array.specs.declared.kind.IndexWidth.{IndexWidth}
 use Rattle.array.specs.declared.kind.IndexWidth.the-variants.{Four, Eight}
@@ -19,22 +19,22 @@ use Rattle.array.specs.Lists.{from, joined, pieces}
 use Rattle.array.specs.Kind.{Kind, Form, fixed, ragged, FormOk, ordered}
 use Rattle.array.specs.Meaning.{orderOf, widthOf, placeOf, formOf, kindOf}
 use Rattle.array.specs.Offsets.{last, Rising}
+use Rattle.array.specs.Cells.{Value}
 use Rattle.array.specs.Content.{Content, ValuesOk}
+use Rattle.array.specs.Places.{fixedAt, offsetAt, valueIn, valuesAt, bytesAt, shownAt}
+use Rattle.array.proofs.Numbered.{pieces-are, values-are}
 use Rattle.codec.specs.Ragged.{putRagged}
 use Rattle.codec.specs.Values.{putValues}
 use Rattle.codec.proofs.Flat.{flat-put}
 use Rattle.encode_cells.specs.Live.{liveAt, Planes}
-use Rattle.encode_ragged.specs.Slices.{sliceAt, spansOf, Offsets}
-use Rattle.encode_cells.specs.Pieces.{piecesAt}
+use Rattle.encode_ragged.specs.Offsets.{Offsets}
 use Rattle.encode.specs.Ready.{MeasuresOk, Measured, Encodable}
-use Rattle.encode.specs.Stored.{valueAt, valuesFrom, valuesLengthAt, lengthFrom}
-use Rattle.encode_cells.proofs.Numbered.{live-all}
-use Rattle.encode_cells.proofs.Runs.{live-le}
-use Rattle.encode_cells.proofs.Gathering.{run-pieces}
+use Rattle.encode.specs.Stored.{valuesFrom, valuesLengthAt, lengthFrom}
+use Rattle.encode_cells.proofs.Runs.{live-le, live-all}
+use Rattle.encode_cells.proofs.Packing.{fixed-long}
 use Rattle.encode_cells.proofs.LiveMarks.{count-all}
-use Rattle.encode_ragged.proofs.Spans.{all-spans}
-use Rattle.encode.proofs.Levels.{NarrowOk, values-small, flat-length, fixed-put, fixed-long}
-use Rattle.encode.proofs.Walk.{values-at}
+use Rattle.encode_ragged.proofs.Spans.{all-bytes}
+use Rattle.encode.proofs.Levels.{NarrowOk, values-small, flat-length}
 
 -- ---- the masks of all levels
 
@@ -94,7 +94,7 @@ module _ (k : declared.Kind) {n : ℕ} {masks os : List ℕ} (m : Measured (kind
     pub ragged-offsets : Offsets n os
     ragged-offsets = record { counted = sizes .0; rising = sizes .1 }
 
-    module _ {j : ℕ} (ej : j ≡ widthOf w) {bytes : ℕ} (eb : bytes ≡ spansOf os live) where
+    module _ {j : ℕ} (ej : j ≡ widthOf w) {bytes : ℕ} (eb : bytes ≡ bytesAt (offsetAt os) live) where
       pub ragged-length : 8 + j * (count + 1) + bytes ≡ valuesLengthAt (formOf (k .values)) os live
       ragged-length =
           ap₂ (λ (a b : ℕ). 8 + a + b) (ap₂ (λ (a b : ℕ). a * b) ej (add-one count ∙ ap suc ec)) eb
@@ -124,8 +124,8 @@ module _ (k : declared.Kind) (z : k .depth ≡ 0) {n : ℕ} {masks os : List ℕ
     flat-offsets = ragged-offsets k m all e
 
     -- the last offset counts all value bytes
-    bytes : getD os n 0 ≡ spansOf os (liveAt n masks (k .depth))
-    bytes = all-spans flat-offsets masks (k .depth) all refl
+    bytes : getD os n 0 ≡ bytesAt (offsetAt os) (liveAt n masks (k .depth))
+    bytes = all-bytes flat-offsets masks (k .depth) all refl
 
     pub flat-ragged : 8 + j * (n + 1) + getD os n 0 ≡ lengthFrom (kindOf k) n masks os (k .depth)
     flat-ragged = ragged-length k m all e ej bytes ∙ is
@@ -147,22 +147,19 @@ module _ (k : declared.Kind) {n : ℕ} {c : Content} (r : Encodable (kindOf k) n
     fixed-source = omega (arith, fixed-fits)
 
     -- as the kind says
-    put-as : putValues (fixed s (orderOf o)) (map (valueAt (fixed s (orderOf o)) c) (liveAt n (c .masks) (k .depth))) ≡ valuesFrom (kindOf k) n c
-    put-as = ap (λ (v : Values). putValues (formOf v) (map (valueAt (formOf v) c) (liveAt n (c .masks) (k .depth)))) (sym e)
-
-    pub fixed-writes : piecesAt (orderOf o) s (c .values) (liveAt n (c .masks) (k .depth)) ≡ valuesFrom (kindOf k) n c
-    fixed-writes = fixed-put s (orderOf o) c (liveAt n (c .masks) (k .depth)) ∙ put-as
+    pub fixed-writes : putValues (fixed s (orderOf o)) (valuesAt (fixedAt 0 s) (c .values) (liveAt n (c .masks) (k .depth))) ≡ valuesFrom (kindOf k) n c
+    fixed-writes = ap (λ (v : Values). putValues (formOf v) (map (valueIn (formOf v) c) (liveAt n (c .masks) (k .depth)))) (sym e)
 
     -- at depth 0 all cells
     pub fixed-all : k .depth ≡ 0 → joined (map (ordered (orderOf o)) (pieces s n (c .values))) ≡ valuesFrom (kindOf k) n c
+    unfolding putValues
     fixed-all z =
-        ap (λ (m : ℕ). joined (map (ordered (orderOf o)) (pieces s n (drop m (c .values))))) (sym (zero-mul s))
-        ∙ sym (run-pieces (orderOf o) s (c .values) 0 n)
-        ∙ ap (piecesAt (orderOf o) s (c .values)) (all-cells z)
+        ap (λ (vs : List Value). joined (map (ordered (orderOf o)) vs))
+        (pieces-are 0 s n 0 (c .values) {at = 0} (omega (arith, zero-mul s)) ∙ ap (valuesAt (fixedAt 0 s) (c .values)) (all-cells z))
         ∙ fixed-writes
 
     pub fixed-wrote : {count : ℕ} → count ≡ length (liveAt n (c .masks) (k .depth)) → count * s ≡ length (valuesFrom (kindOf k) n c)
-    fixed-wrote ec = ap (λ (j : ℕ). j * s) ec ∙ sym (fixed-long s n (orderOf o) c (k .depth) fixed-fits) ∙ ap length put-as
+    fixed-wrote ec = ap (λ (j : ℕ). j * s) ec ∙ sym (fixed-long (orderOf o) s (c .values) (shownAt n (c .masks) (k .depth)) n fixed-source) ∙ ap length fixed-writes
 
   module _ {w : IndexWidth} {p : IndexPlace} (e : k .values ≡ Ragged w p) where
     fits : (length (c .offsets) ≡ suc n) × Rising (c .offsets) × (last (c .offsets) ≡ length (c .values))
@@ -174,13 +171,13 @@ module _ (k : declared.Kind) {n : ℕ} {c : Content} (r : Encodable (kindOf k) n
     pub offsets-end : last (c .offsets) ≡ length (c .values)
     offsets-end = fits .2
 
-    pub ragged-writes : putValues (ragged (widthOf w) (placeOf p)) (map (sliceAt (c .offsets) (c .values)) (liveAt n (c .masks) (k .depth))) ≡ valuesFrom (kindOf k) n c
-    ragged-writes = ap (λ (v : Values). putValues (formOf v) (map (valueAt (formOf v) c) (liveAt n (c .masks) (k .depth)))) (sym e)
+    pub ragged-writes : putValues (ragged (widthOf w) (placeOf p)) (valuesAt (offsetAt (c .offsets)) (c .values) (liveAt n (c .masks) (k .depth))) ≡ valuesFrom (kindOf k) n c
+    ragged-writes = ap (λ (v : Values). putValues (formOf v) (map (valueIn (formOf v) c) (liveAt n (c .masks) (k .depth)))) (sym e)
 
     -- at depth 0 with all cells, as they lie
     pub ragged-all : k .depth ≡ 0 → putRagged (widthOf w) (placeOf p) (record { values = c .values; offsets = c .offsets }) ≡ valuesFrom (kindOf k) n c
     ragged-all z =
         sym (flat-put (widthOf w) (placeOf p) (record { values = c .values; offsets = c .offsets }) (fits .0) (fits .1) (fits .2))
-        ∙ ap (putValues (ragged (widthOf w) (placeOf p))) (values-at (ragged (widthOf w) (placeOf p)) n c fits)
-        ∙ ap (λ (is : List ℕ). putValues (ragged (widthOf w) (placeOf p)) (map (sliceAt (c .offsets) (c .values)) is)) (all-cells z)
+        ∙ ap (putValues (ragged (widthOf w) (placeOf p))) (values-are (ragged (widthOf w) (placeOf p)) n c fits)
+        ∙ ap (λ (is : List ℕ). putValues (ragged (widthOf w) (placeOf p)) (valuesAt (offsetAt (c .offsets)) (c .values) is)) (all-cells z)
         ∙ ragged-writes

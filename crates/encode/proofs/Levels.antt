@@ -9,25 +9,22 @@ use native.Mathlib.Omega.{arith}
 use mathlib.Core.List.{List, [], _∷_, map}
 use lib.ListN.{length}
 use Rattle.array.specs.Limits.{mostBytes, mostCells}
-use Rattle.array.specs.Lists.{joined}
-use Rattle.array.specs.Kind.{Kind, Form, fixed, ragged, Order, ordered}
+use Rattle.array.specs.Kind.{Kind, Form, fixed, ragged}
 use Rattle.array.specs.Content.{Content, ValuesOk}
-use Rattle.array.proofs.Lists.{map-map}
+use Rattle.array.specs.Places.{offsetAt, valueIn, bytesAt, masksAt, shownAt}
 use Rattle.codec.specs.Mask.{maskForm}
 use Rattle.codec.specs.Frame.{wrap, unlessNone}
 use Rattle.codec.specs.Values.{putValues}
 use Rattle.codec.proofs.Frames.{length-wrap}
 use Rattle.codec.proofs.Masks.{mask-laws}
-use Rattle.encode_cells.specs.Live.{masksAt, liveTest, liveAt}
-use Rattle.encode_cells.specs.Pieces.{pieceAt, piecesAt}
-use Rattle.encode.specs.Stored.{levelOf, valueAt, valuesFrom, storedFrom, maskFrom, frameFrom, orNothing, valuesLengthAt, lengthFrom}
-use Rattle.encode_ragged.specs.Slices.{spansOf}
+use Rattle.encode_cells.specs.Live.{liveAt}
+use Rattle.encode.specs.Stored.{levelOf, valuesFrom, storedFrom, maskFrom, frameFrom, orNothing, valuesLengthAt, lengthFrom}
 use Rattle.encode.specs.Ready.{MeasuresOk, Measured}
 use Rattle.encode_cells.proofs.Runs.{live-le}
 use Rattle.encode_cells.proofs.LiveMarks.{count-all}
-use Rattle.encode_cells.proofs.Packing.{pieces-long}
+use Rattle.encode_cells.proofs.Packing.{fixed-long}
 use Rattle.encode_cells.proofs.Blocks.{live-mask-long}
-use Rattle.encode_ragged.proofs.Summing.{spans-le}
+use Rattle.encode_ragged.proofs.Summing.{bytes-le}
 use Rattle.encode_ragged.proofs.Parts.{ragged-long}
 
 -- ---- the cases of a content
@@ -47,14 +44,14 @@ innermost n masks d = ap (λ (l : ℕ). length (liveAt n masks l)) (sym (sub-zer
 module _ (k : Kind) (n : ℕ) (c : Content) where
   pub stored-none : (left : ℕ) → length (liveAt n (c .masks) (levelOf k left)) ≡ 0 → storedFrom k n c left ≡ []
   unfolding storedFrom
-  stored-none zero e = unless-none (λ is. putValues (k .form) (map (valueAt (k .form) c) is)) (liveAt n (c .masks) (k .depth)) (innermost n (c .masks) (k .depth) ∙ e)
+  stored-none zero e = unless-none (λ is. putValues (k .form) (map (valueIn (k .form) c) is)) (liveAt n (c .masks) (k .depth)) (innermost n (c .masks) (k .depth) ∙ e)
   stored-none (suc left) e =
       unless-none (λ is. wrap (maskForm (k .masks) .put (masksAt n (c .masks) (levelOf k (suc left)) is)) (storedFrom k n c left)) (liveAt n (c .masks) (levelOf k (suc left))) e
 
   pub stored-values : (left : ℕ) → left ≡ 0 → length (liveAt n (c .masks) (levelOf k left)) ≢ 0 → storedFrom k n c left ≡ valuesFrom k n c
   unfolding storedFrom
   stored-values zero z e =
-      unless-some (λ is. putValues (k .form) (map (valueAt (k .form) c) is)) (liveAt n (c .masks) (k .depth)) (λ q. e (sym (innermost n (c .masks) (k .depth)) ∙ q))
+      unless-some (λ is. putValues (k .form) (map (valueIn (k .form) c) is)) (liveAt n (c .masks) (k .depth)) (λ q. e (sym (innermost n (c .masks) (k .depth)) ∙ q))
   stored-values (suc left) z e = absurd (omega arith)
 
   pub stored-frame : (left : ℕ) → left ≢ 0 → length (liveAt n (c .masks) (levelOf k left)) ≢ 0 → storedFrom k n c left ≡ frameFrom k n c left
@@ -64,25 +61,14 @@ module _ (k : Kind) (n : ℕ) (c : Content) where
       unless-some (λ is. wrap (maskForm (k .masks) .put (masksAt n (c .masks) (levelOf k (suc left)) is)) (storedFrom k n c left)) (liveAt n (c .masks) (levelOf k (suc left))) e
       ∙ ap (λ (d : ℕ). wrap (maskFrom k n c (suc left)) (storedFrom k n c d)) (sym (sub-one (suc left)))
 
--- ---- values of one size
-
-pub fixed-put : (k : ℕ) (o : Order) (c : Content) (is : List ℕ) → piecesAt o k (c .values) is ≡ putValues (fixed k o) (map (valueAt (fixed k o) c) is)
-unfolding putValues
-fixed-put k o c is = ap joined (sym (map-map (pieceAt k (c .values)) (ordered o) is))
-
-pub fixed-long : (k n : ℕ) (o : Order) (c : Content) (l : ℕ) → length (c .values) ≡ n * k
-    → length (putValues (fixed k o) (map (valueAt (fixed k o) c) (liveAt n (c .masks) l))) ≡ length (liveAt n (c .masks) l) * k
-fixed-long k n o c l e =
-    ap length (sym (fixed-put k o c (liveAt n (c .masks) l))) ∙ pieces-long o k (c .values) (liveTest n (c .masks) l) n (omega arith)
-
 -- ---- the written length
 
 pub values-long : (f : Form) (n : ℕ) (c : Content) (l : ℕ) → ValuesOk f n c
-    → length (putValues f (map (valueAt f c) (liveAt n (c .masks) l))) ≡ valuesLengthAt f (c .offsets) (liveAt n (c .masks) l)
-values-long (fixed k o) n c l p = fixed-long k n o c l (p .0)
+    → length (putValues f (map (valueIn f c) (liveAt n (c .masks) l))) ≡ valuesLengthAt f (c .offsets) (liveAt n (c .masks) l)
+values-long (fixed k o) n c l p = fixed-long o k (c .values) (shownAt n (c .masks) l) n (omega (arith, p .0))
 values-long (ragged w q) n c l p =
-    ragged-long w q (c .masks) l (record { counted = p .0; rising = p .1 }) (c .values) (p .2) {count = length (liveAt n (c .masks) l)} refl refl refl
-    ∙ ap (λ (m : ℕ). 8 + w * m + spansOf (c .offsets) (liveAt n (c .masks) l)) (add-one (length (liveAt n (c .masks) l)))
+    ragged-long w q (c .masks) l {os = c .offsets} (record { counted = p .0; rising = p .1 }) (c .values) (p .2) {count = length (liveAt n (c .masks) l)} refl refl refl
+    ∙ ap (λ (m : ℕ). 8 + w * m + bytesAt (offsetAt (c .offsets)) (liveAt n (c .masks) l)) (add-one (length (liveAt n (c .masks) l)))
 
 or-nothing : {A : Type 0} (f : List A → List ℕ) (is : List A) {x : ℕ} → length (f is) ≡ x → length (unlessNone f is) ≡ orNothing (length is) x
 or-nothing f [] {x = x} e = refl
@@ -92,7 +78,7 @@ pub stored-long : (k : Kind) (n : ℕ) (c : Content) → ValuesOk (k .form) n c 
 unfolding storedFrom lengthFrom
 stored-long k n c p zero =
     let live : List ℕ = liveAt n (c .masks) (k .depth) in
-    or-nothing (λ is. putValues (k .form) (map (valueAt (k .form) c) is)) live (values-long (k .form) n c (k .depth) p)
+    or-nothing (λ is. putValues (k .form) (map (valueIn (k .form) c) is)) live (values-long (k .form) n c (k .depth) p)
 stored-long k n c p (suc left) =
     let l : ℕ = levelOf k (suc left) in
     let live : List ℕ = liveAt n (c .masks) l in
@@ -162,7 +148,7 @@ values-small (fixed k o) n masks os l w h p = le-trans (mul-le-mul {n₁ = lengt
 values-small (ragged w q) n masks os l nw h p =
     let m : ℕ = length (liveAt n masks l) in
     let a : w * suc m ≤ 8 * suc m = mul-le-mul-right (suc m) nw in
-    omega (arith, live-le n masks l, spans-le os (liveTest n masks l) n (p .0) (p .1), p .2)
+    omega (arith, live-le n masks l, bytes-le {os = os} (record { counted = p .0; rising = p .1 }) (shownAt n masks l), p .2)
 
 pub length-small : {k : Kind} {n : ℕ} {masks os : List ℕ} → NarrowOk (k .form) → Measured k n masks os → (left : ℕ) → lengthFrom k n masks os left ≤ left * 65552 + 17301520
 unfolding lengthFrom mostCells

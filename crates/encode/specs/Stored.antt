@@ -7,33 +7,26 @@ use lib.ListN.{length}
 use lib.Dec.{leb}
 use Rattle.array.specs.Answer.{gives, unless, Outcome}
 use Rattle.array.specs.Buffers.{listOutcome}
-use Rattle.array.specs.Cells.{Value}
 use Rattle.array.specs.Kind.{Kind, Form, fixed, ragged}
 use Rattle.array.specs.Content.{Content}
+use Rattle.array.specs.Places.{offsetAt, valueIn, bytesAt, masksAt}
 use Rattle.codec.specs.Mask.{maskForm}
 use Rattle.codec.specs.Frame.{unlessNone, wrap}
 use Rattle.codec.specs.Values.{putValues}
 use Rattle.codec.specs.Length.{raggedLength}
-use Rattle.encode_cells.specs.Live.{masksAt, liveAt, liveMask}
-use Rattle.encode_cells.specs.Pieces.{pieceAt}
-use Rattle.encode_ragged.specs.Slices.{sliceAt, spansOf}
+use Rattle.encode_cells.specs.Live.{liveAt, liveMask}
 
 -- the level that has so many levels left, itself among them
 abbrev pub levelOf : Kind → ℕ → ℕ
 levelOf k left = k .depth - left
 
--- the value of cell i
-abbrev pub valueAt : Form → Content → ℕ → Value
-valueAt (fixed k o) c i = pieceAt k (c .values) i
-valueAt (ragged w p) c i = sliceAt (c .offsets) (c .values) i
-
 -- the values of the cells that every level sets
 abbrev pub valuesFrom : Kind → ℕ → Content → List ℕ
-valuesFrom k n c = putValues (k .form) (map (valueAt (k .form) c) (liveAt n (c .masks) (k .depth)))
+valuesFrom k n c = putValues (k .form) (map (valueIn (k .form) c) (liveAt n (c .masks) (k .depth)))
 
 -- a content of the cells that a level counts: a frame, or the values; nothing where no cell is left
 unfoldable pub storedFrom : Kind → ℕ → Content → (left : ℕ) → List ℕ
-storedFrom k n c zero = unlessNone (λ is. putValues (k .form) (map (valueAt (k .form) c) is)) (liveAt n (c .masks) (k .depth))
+storedFrom k n c zero = unlessNone (λ is. putValues (k .form) (map (valueIn (k .form) c) is)) (liveAt n (c .masks) (k .depth))
 storedFrom k n c (suc left) =
     unlessNone (λ is. wrap (maskForm (k .masks) .put (masksAt n (c .masks) (levelOf k (suc left)) is)) (storedFrom k n c left)) (liveAt n (c .masks) (levelOf k (suc left)))
 
@@ -53,7 +46,7 @@ orNothing (suc k) x = x
 
 abbrev pub valuesLengthAt : Form → List ℕ → List ℕ → ℕ
 valuesLengthAt (fixed k o) os is = length is * k
-valuesLengthAt (ragged w p) os is = raggedLength w (length is) (spansOf os is)
+valuesLengthAt (ragged w p) os is = raggedLength w (length is) (bytesAt (offsetAt os) is)
 
 unfoldable pub lengthFrom : Kind → ℕ → List ℕ → List ℕ → (left : ℕ) → ℕ
 lengthFrom k n masks os zero = orNothing (length (liveAt n masks (k .depth))) (valuesLengthAt (k .form) os (liveAt n masks (k .depth)))

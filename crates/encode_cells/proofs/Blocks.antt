@@ -13,12 +13,13 @@ use borrow.Author.Tests.{leb-true, leb-false}
 use Rattle.array.specs.Lists.{pick}
 use Rattle.array.specs.Buffers.{overAt}
 use Rattle.array.specs.Kind.{Masks}
+use Rattle.array.specs.Places.{maskAt, masksAt, shownAt}
 use Rattle.array.proofs.Lists.{map-append}
 use Rattle.array.proofs.Laying.{Laying, laying-begins, laying-same, laying-left, laying-ends, laying-part, laying-is}
 use Rattle.codec.specs.Mask.{maskForm}
 use Rattle.codec.proofs.Frames.{MaskLaws}
 use Rattle.codec.proofs.Masks.{mask-laws}
-use Rattle.encode_cells.specs.Live.{maskAt, masksAt, liveTest, liveOne, liveAt, liveFrom, liveMask, Gathered}
+use Rattle.encode_cells.specs.Live.{liveOne, liveAt, liveFrom, liveMask, Gathered}
 use Rattle.encode_cells.proofs.Runs.{passing-start}
 use Rattle.encode_cells.proofs.LiveMarks.{passing-next, live-end}
 use Rattle.encode_cells.proofs.Packing.{none-left}
@@ -52,7 +53,7 @@ module _ {n : ℕ} {masks : List ℕ} {l : ℕ} {block₀ : List ℕ} {start m :
 
     pub picking-more : {block′ : List ℕ} → block′ ≡ set block done (maskAt n masks l i) → {done′ : ℕ} → done′ ≡ done + liveOne n masks l i
         → Picking n masks l block₀ start m block′ (i + 1) done′
-    picking-more {block′} eb {done′} ed = go (liveTest n masks l i) refl
+    picking-more {block′} eb {done′} ed = go (shownAt n masks l i) refl
       where
         cells : List ℕ
         cells = liveFrom n masks l start
@@ -66,10 +67,10 @@ module _ {n : ℕ} {masks : List ℕ} {l : ℕ} {block₀ : List ℕ} {start m :
         g : ℕ → ℕ
         g = maskAt n masks l
 
-        next : (b : Bool) → liveTest n masks l i ≡ b → drop done cells ≡ pick b (i ∷ rest) rest
-        next b e = sym (p .left) ∙ passing-next (liveTest n masks l) i n picking-cell ∙ ap (λ (c : Bool). pick c (i ∷ rest) rest) e
+        next : (b : Bool) → shownAt n masks l i ≡ b → drop done cells ≡ pick b (i ∷ rest) rest
+        next b e = sym (p .left) ∙ passing-next (shownAt n masks l) i n picking-cell ∙ ap (λ (c : Bool). pick c (i ∷ rest) rest) e
 
-        go : (b : Bool) → liveTest n masks l i ≡ b → Picking n masks l block₀ start m block′ (i + 1) done′
+        go : (b : Bool) → shownAt n masks l i ≡ b → Picking n masks l block₀ start m block′ (i + 1) done′
         go true e =
             let e1 : done′ ≡ done + 1 = ed ∙ ap (λ (c : Bool). done + pick c 1 0) e in
             record {
@@ -159,7 +160,7 @@ module _ {x : Masks} {n : ℕ} {masks : List ℕ} {l : ℕ} {d : List ℕ} {to :
   pub blocks-begin : {count : ℕ} → count ≡ length (liveAt n masks l) → to + maskForm x .size count ≤ length d → Blocks x n masks l d to d 0 0
   blocks-begin ec h =
       let mask : List ℕ = liveMask x n masks l in
-      let start : liveFrom n masks l 0 ≡ liveAt n masks l = passing-start (liveTest n masks l) n in
+      let start : liveFrom n masks l 0 ≡ liveAt n masks l = passing-start (shownAt n masks l) n in
       let room : to + length mask ≤ length d = omega (arith, live-mask-long x n masks l, ap (maskForm x .size) ec) in
       record {
         laid = subst (λ (k : ℕ). Laying mask d to d k (maskForm x .put (masksAt n masks l (liveFrom n masks l 0)))) (sym (size-none x))

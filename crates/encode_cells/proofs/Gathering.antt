@@ -1,24 +1,27 @@
 -- The loops that write what belongs to the cells that a level counts, run by run.
 -- Assumes nothing.
 use mathlib.Core.Path.{_≡_, sym, ap, _∙_}
-use Prim.Native.Nat.{ℕ, zero, suc, _+_, _-_, _*_, _<_, _≤_}
-use native.Mathlib.Nat.{suc-mul, mul-le-mul-right, add-mul}
+use Prim.Native.Nat.{ℕ, _+_, _-_, _*_, _<_, _≤_}
+use native.Mathlib.Nat.{mul-le-mul-right, add-mul, zero-add}
 use native.Mathlib.Omega.{arith}
 use mathlib.Core.Bool.{Bool}
 use mathlib.Core.List.{List, _++_, map}
-use lib.ListN.{length, drop, length-append, length-drop, length-map}
-use lib.Seq.{length-take-le}
-use Rattle.array.specs.Lists.{from, joined, pieces, passing}
+use lib.ListN.{length, drop, length-append, length-map}
+use Rattle.array.specs.Lists.{from, joined, pieces, passing, All}
 use Rattle.array.specs.Buffers.{overAt}
-use Rattle.array.specs.Kind.{Order, ordered}
+use Rattle.array.specs.Kind.{Order, fixed, ordered}
 use Rattle.array.specs.Cells.{Value}
-use Rattle.array.proofs.Lists.{Sized, joined-append, map-append, map-map, length-joined, length-pieces, All-image, All-map}
+use Rattle.array.specs.Places.{fixedAt, valueAt, valuesAt}
+use Rattle.array.proofs.Lists.{joined-append, map-append, map-map, length-joined, length-from, All-image}
+use Rattle.array.proofs.Geometry.{All-from}
 use Rattle.array.proofs.Sizes.{length-ordered}
 use Rattle.array.proofs.Laying.{Laying, laying-begins, laying-same, laying-left, laying-ends, laying-part, laying-is}
+use Rattle.array.proofs.Places.{fixed-step, fixed-rises, value-long}
+use Rattle.array.proofs.Numbered.{pieces-are}
+use Rattle.codec.specs.Values.{putValues}
 use Rattle.encode_cells.specs.Live.{runOf}
-use Rattle.encode_cells.specs.Pieces.{pieceAt, orderedAt, piecesAt}
+use Rattle.encode_cells.proofs.Placing.{laid-as}
 use Rattle.encode_cells.proofs.Runs.{run-le, passing-run, passing-end, passing-start}
-use Rattle.encode_cells.proofs.Numbered.{pieces-at}
 
 -- ---- by runs: g i is what cell i writes
 
@@ -69,23 +72,28 @@ module _ {t : ℕ → Bool} {n : ℕ} {g : ℕ → List ℕ} {d : List ℕ} {to 
       laid = laying-part (wholeOf t n g) d to out done x (leftFrom t n g (i + (r + 1))) (laying-is (l .laid) next) out′ eo (done + k) (ap (λ (m : ℕ). done + m) (sym ek));
     }
 
--- ---- pieces of one size
+-- ---- values of one size
 
--- the pieces of a run lie end to end
-pub run-pieces : (o : Order) (k : ℕ) (s : List ℕ) (i r : ℕ) → piecesAt o k s (from i r) ≡ joined (map (ordered o) (pieces k r (drop (i * k) s)))
-run-pieces o k s i r = ap joined (sym (map-map (pieceAt k s) (ordered o) (from i r)) ∙ ap (map (ordered o)) (sym (pieces-at k r i s)))
+-- what cell j writes
+abbrev pub orderedAt : Order → ℕ → List ℕ → ℕ → Value
+orderedAt o k s j = ordered o (valueAt (fixedAt 0 k) s j)
 
-sized-whole : (k n : ℕ) (s : List ℕ) → n * k ≤ length s → Sized k (pieces k n s)
-sized-whole k zero s h = tt
-sized-whole k (suc n) s h = (length-take-le k s (omega (arith, suc-mul n k)), sized-whole k n (drop k s) (omega (arith, suc-mul n k, length-drop k s)))
+module _ (o : Order) (k : ℕ) (s : List ℕ) where
+  pub ordered-put : (is : List ℕ) → joined (map (orderedAt o k s) is) ≡ putValues (fixed k o) (valuesAt (fixedAt 0 k) s is)
+  unfolding putValues
+  ordered-put is = ap joined (sym (map-map (valueAt (fixedAt 0 k) s) (ordered o) is))
 
-sized-ordered : (k : ℕ) (o : Order) (vs : List Value) → Sized k vs → Sized k (map (ordered o) vs)
-sized-ordered k o vs p = All-image (λ v. length v ≡ k) (ordered o) vs (All-map (λ v. length v ≡ k) (λ v. length (ordered o v) ≡ k) (λ v e. length-ordered o v ∙ e) vs p)
+  -- the values of a run lie end to end
+  pub run-pieces : (i r : ℕ) → joined (map (orderedAt o k s) (from i r)) ≡ joined (map (ordered o) (pieces k r (drop (i * k) s)))
+  run-pieces i r =
+      ap joined (sym (map-map (valueAt (fixedAt 0 k) s) (ordered o) (from i r)) ∙ ap (map (ordered o)) (sym (pieces-are 0 k r i s (zero-add (i * k)))))
 
-length-run : (o : Order) (k n : ℕ) (s : List ℕ) → n * k ≤ length s → length (joined (map (ordered o) (pieces k n s))) ≡ n * k
-length-run o k n s h =
-    length-joined k (map (ordered o) (pieces k n s)) (sized-ordered k o (pieces k n s) (sized-whole k n s h))
-    ∙ ap (λ (m : ℕ). m * k) (length-map (pieces k n s) (ordered o) ∙ length-pieces k n s)
+  pub ordered-sized : {n : ℕ} → n * k ≤ length s → (j : ℕ) → j < n → length (orderedAt o k s j) ≡ k
+  ordered-sized {n} h j l = length-ordered o (valueAt (fixedAt 0 k) s j) ∙ value-long (fixed-rises 0 k n) s (omega arith) j l ∙ fixed-step 0 k j
+
+-- g j is what cell j writes, of size k
+pub sized-long : (g : ℕ → List ℕ) (k : ℕ) (is : List ℕ) → All (λ j. length (g j) ≡ k) is → length (joined (map g is)) ≡ length is * k
+sized-long g k is p = length-joined k (map g is) (All-image (λ v. length v ≡ k) g is p) ∙ ap (λ (m : ℕ). m * k) (length-map is g)
 
 -- i pieces and then r more, of n
 pub rows-fit : (i r n k : ℕ) → i + r ≤ n → i * k + r * k ≤ n * k
@@ -96,15 +104,15 @@ pub record Storing (o : Order) (k : ℕ) (s : List ℕ) (t : ℕ → Bool) (n : 
   pub gathers : Gathering t n (orderedAt o k s) d to out i done
 
 pub storing-begins : {o : Order} {k : ℕ} {s : List ℕ} {t : ℕ → Bool} {n : ℕ} {d : List ℕ} {to : ℕ}
-    → n * k ≤ length s → to + length (piecesAt o k s (passing t (from 0 n))) ≤ length d → Storing o k s t n d to d 0 0
-storing-begins q h = record { source = q; gathers = gathering-begins h }
+    → n * k ≤ length s → to + length (putValues (fixed k o) (valuesAt (fixedAt 0 k) s (passing t (from 0 n)))) ≤ length d → Storing o k s t n d to d 0 0
+storing-begins {o} {k} {s} {t} {n} q h = record { source = q; gathers = gathering-begins (omega (arith, ap length (ordered-put o k s (passing t (from 0 n))))) }
 
 module _ {o : Order} {k : ℕ} {s : List ℕ} {t : ℕ → Bool} {n : ℕ} {d : List ℕ} {to : ℕ} {out : List ℕ} {i done : ℕ} (l : Storing o k s t n d to out i done) where
   pub storing-same : length out ≡ length d
   storing-same = gathering-same (l .gathers)
 
-  pub storing-ends : n ≤ i → out ≡ overAt to (piecesAt o k s (passing t (from 0 n))) d
-  storing-ends h = gathering-ends (l .gathers) h
+  pub storing-ends : n ≤ i → out ≡ overAt to (putValues (fixed k o) (valuesAt (fixedAt 0 k) s (passing t (from 0 n)))) d
+  storing-ends h = laid-as to d (gathering-ends (l .gathers) h) (ordered-put o k s (passing t (from 0 n)))
 
   module _ {r : ℕ} (e : r ≡ runOf t i (n - i)) (h : i < n) where
     pub storing-within : i + r ≤ n
@@ -114,7 +122,10 @@ module _ {o : Order} {k : ℕ} {s : List ℕ} {t : ℕ → Bool} {n : ℕ} {d : 
     storing-source = omega (arith, l .source, rows-fit i r n k storing-within)
 
     long : length (joined (map (ordered o) (pieces k r (drop (i * k) s)))) ≡ r * k
-    long = length-run o k r (drop (i * k) s) (omega (arith, length-drop (i * k) s, storing-source))
+    long =
+        ap length (sym (run-pieces o k s i r))
+        ∙ sized-long (orderedAt o k s) k (from i r) (All-from (λ j. length (orderedAt o k s j) ≡ k) i r (λ j a b. ordered-sized o k s (l .source) j (omega (arith, storing-within))))
+        ∙ ap (λ (m : ℕ). m * k) (length-from i r)
 
     pub storing-room : to + done + r * k ≤ length out
     storing-room = omega (arith, gathering-room (l .gathers) e (run-pieces o k s i r), long)

@@ -1,4 +1,3 @@
-pub mod Numbered
 pub mod Runs
 pub mod LiveMarks
 pub mod Placing

@@ -11,13 +11,13 @@ use mathlib.Core.List.{List, [], _∷_}
 use lib.ListN.{length, take, drop, getD}
 use lib.Seq.{drop-cons}
 use Rattle.array.specs.Lists.{pick, from, passing}
+use Rattle.array.specs.Cells.{Mark, isNull, isSet, isOther, markOf, setTest, setTestBy}
+use Rattle.array.specs.Places.{maskAt, shownAt}
 use Rattle.array.proofs.Lists.{All-of, length-from}
 use Rattle.array.proofs.Geometry.{passing-cong}
 use Rattle.codec.specs.Frame.{countSet, countBy}
-use Rattle.array.specs.Cells.{Mark, isNull, isSet, isOther, markOf, setTest, setTestBy}
-use Rattle.encode_cells.specs.Live.{maskAt, setOne, liveTest, liveOne, liveAt, liveFrom}
-use Rattle.encode_cells.proofs.Numbered.{live-all}
-use Rattle.encode_cells.proofs.Runs.{passing-start, passing-end}
+use Rattle.encode_cells.specs.Live.{setOne, liveOne, liveAt, liveFrom}
+use Rattle.encode_cells.proofs.Runs.{passing-start, passing-end, live-all}
 
 -- ---- one cell
 
@@ -48,14 +48,14 @@ module _ (n : ℕ) (masks : List ℕ) (i : ℕ) where
   mark-one ea el = ea ∙ ap (λ (x : ℕ). liveOne n masks x i) (sym el)
 
   pub mark-more : {a b l : ℕ} (k : ℕ) → a ≡ liveOne n masks k i → b ≡ setOne (maskAt n masks k i) → l ≡ suc k → a * b ≡ liveOne n masks l i
-  mark-more k ea eb el = ap₂ (λ (x y : ℕ). x * y) ea eb ∙ go (liveTest n masks k i) (setTest (maskAt n masks k i)) ∙ ap (λ (x : ℕ). liveOne n masks x i) (sym el)
+  mark-more k ea eb el = ap₂ (λ (x y : ℕ). x * y) ea eb ∙ go (shownAt n masks k i) (setTest (maskAt n masks k i)) ∙ ap (λ (x : ℕ). liveOne n masks x i) (sym el)
     where
       go : (a b : Bool) → pick a 1 0 * pick b 1 0 ≡ pick (a && b) 1 0
       go true b = one-mul (pick b 1 0)
       go false b = zero-mul (pick b 1 0)
 
   pub mark-le : {a : ℕ} (l : ℕ) → a ≡ liveOne n masks l i → a ≤ 1
-  mark-le l e = omega (arith, one-le (liveTest n masks l i))
+  mark-le l e = omega (arith, one-le (shownAt n masks l i))
 
 -- the byte of the cell at a level above l
 pub row-in : (k : ℕ) {l n i m : ℕ} → k < l → i < n → l * n ≤ m → k * n + i < m
@@ -75,17 +75,17 @@ passing-next t i n h =
 
 module _ (n : ℕ) (masks : List ℕ) (l : ℕ) where
   pub live-next : (i : ℕ) → i < n → length (liveFrom n masks l i) ≡ liveOne n masks l i + length (liveFrom n masks l (i + 1))
-  live-next i h = ap length (passing-next (liveTest n masks l) i n h) ∙ go (liveTest n masks l i) (liveFrom n masks l (i + 1))
+  live-next i h = ap length (passing-next (shownAt n masks l) i n h) ∙ go (shownAt n masks l i) (liveFrom n masks l (i + 1))
     where
       go : (b : Bool) (r : List ℕ) → length (pick b (i ∷ r) r) ≡ pick b 1 0 + length r
       go true r = omega arith
       go false r = omega arith
 
   pub live-end : (i : ℕ) → n ≤ i → length (liveFrom n masks l i) ≡ 0
-  live-end i h = ap length (passing-end (liveTest n masks l) i n h)
+  live-end i h = ap length (passing-end (shownAt n masks l) i n h)
 
   pub live-whole : length (liveFrom n masks l 0) ≡ length (liveAt n masks l)
-  live-whole = ap length (passing-start (liveTest n masks l) n)
+  live-whole = ap length (passing-start (shownAt n masks l) n)
 
 -- ---- level 0 counts every cell, and level 1 those that are set in the first mask
 
@@ -110,6 +110,6 @@ count-one n masks e h =
     ∙ sym
     (ap (λ (x : ℕ). length (liveAt n masks x)) e
     ∙ ap length
-    (passing-cong (liveTest n masks 1) (λ i. setTest (getD masks i 0)) (from 0 n)
+    (passing-cong (shownAt n masks 1) (λ i. setTest (getD masks i 0)) (from 0 n)
     (All-of (λ i. setTest (getD masks (0 * n + i) 0) ≡ setTest (getD masks i 0)) (λ i. ap (λ (x : ℕ). setTest (getD masks x 0)) (ap (λ (x : ℕ). x + i) (zero-mul n) ∙ zero-add i)) (from 0 n)))
     ∙ count-from masks 0 n (omega (arith, ap (λ (x : ℕ). x * n) e, one-mul n)))

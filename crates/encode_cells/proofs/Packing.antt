@@ -8,23 +8,23 @@ use native.Mathlib.Numerals.{add-one}
 use native.Mathlib.Omega.{arith}
 use mathlib.Core.Bool.{Bool, true, false}
 use mathlib.Core.List.{List, [], _∷_, map}
-use lib.ListN.{length, take, drop, length-drop, length-map}
-use lib.Seq.{length-take-le}
+use lib.ListN.{length, take, drop}
 use Rattle.array.specs.Lists.{pick, from, joined, pieces, passing}
 use Rattle.array.specs.Buffers.{overAt}
-use Rattle.array.specs.Kind.{Order, ordered}
-use Rattle.array.proofs.Lists.{length-joined, length-from, All-image}
+use Rattle.array.specs.Kind.{Order, fixed, ordered}
+use Rattle.array.specs.Cells.{Value}
+use Rattle.array.specs.Places.{fixedAt, valuesAt, masksAt, shownAt}
+use Rattle.array.proofs.Lists.{length-from}
 use Rattle.array.proofs.Geometry.{All-from}
 use Rattle.array.proofs.Over.{over-at-length}
-use Rattle.array.proofs.Sizes.{length-ordered}
 use Rattle.array.proofs.Laying.{Laying, laying-same, laying-left, laying-ends, laying-part, laying-is}
-use Rattle.encode_cells.specs.Live.{maskAt, liveTest, liveAt, Planes}
-use Rattle.encode_cells.specs.Pieces.{orderedAt, piecesAt}
-use Rattle.encode_cells.proofs.Numbered.{plane-at}
+use Rattle.encode_cells.specs.Live.{liveAt, Planes}
+use Rattle.array.proofs.Numbered.{pieces-are, plane-is}
+use Rattle.codec.specs.Values.{putValues}
 use Rattle.encode_cells.proofs.Runs.{passing-le, passing-start, All-passing, all-counted}
 use Rattle.encode_cells.proofs.LiveMarks.{passing-next}
 use Rattle.encode_cells.proofs.Placing.{at-none, at-again}
-use Rattle.encode_cells.proofs.Gathering.{wholeOf, leftFrom, gathering-begins, run-pieces}
+use Rattle.encode_cells.proofs.Gathering.{wholeOf, leftFrom, gathering-begins, orderedAt, ordered-put, ordered-sized, sized-long}
 
 pub none-left : (l : List ℕ) → length l ≡ 0 → l ≡ []
 none-left [] e = refl
@@ -33,11 +33,8 @@ none-left (x ∷ l) e = absurd (omega arith)
 -- g i is what cell i writes, of size k
 left-long : (t : ℕ → Bool) (n : ℕ) (g : ℕ → List ℕ) (k : ℕ) → ((j : ℕ) → j < n → length (g j) ≡ k) → (i : ℕ) → length (leftFrom t n g i) ≡ length (passing t (from i (n - i))) * k
 left-long t n g k sz i =
-    let is : List ℕ = passing t (from i (n - i)) in
-    length-joined k (map g is)
-    (All-image (λ v. length v ≡ k) g is
-    (All-passing t (λ j. length (g j) ≡ k) (from i (n - i)) (All-from (λ j. length (g j) ≡ k) i (n - i) (λ j a b. sz j (omega arith)))))
-    ∙ ap (λ (m : ℕ). m * k) (length-map is g)
+    let P : ℕ → Type 0 = λ j. length (g j) ≡ k in
+    sized-long g k (passing t (from i (n - i))) (All-passing t P (from i (n - i)) (All-from P i (n - i) (λ j a b. sz j (omega arith))))
 
 -- `done` cells lie at `to` in what was d, and behind them what a cell that is not counted left; the cells from i on are left
 pub record Packing (t : ℕ → Bool) (n : ℕ) (g : ℕ → List ℕ) (k : ℕ) (d : List ℕ) (to : ℕ) (out : List ℕ) (i done : ℕ) : Type 0 where
@@ -144,31 +141,29 @@ module _ {t : ℕ → Bool} {n : ℕ} {g : ℕ → List ℕ} {k : ℕ} {d : List
               counted = omega (arith, p .counted, ap length es);
             })
 
--- ---- pieces of one size
+-- ---- values of one size
 
 pub piece-in : (k : ℕ) {i n m : ℕ} → i < n → n * k ≤ m → i * k + k ≤ m
 piece-in k {i} {n} {m} h q = omega (arith, mul-le-mul-right {m = suc i} {n = n} k h, suc-mul i k)
 
-pub pieces-sized : (o : Order) (k n : ℕ) (s : List ℕ) → n * k ≤ length s → (j : ℕ) → j < n → length (orderedAt o k s j) ≡ k
-pieces-sized o k n s h j l =
-    length-ordered o (take k (drop (j * k) s))
-    ∙ length-take-le k (drop (j * k) s) (omega (arith, length-drop (j * k) s, mul-le-mul-right {m = suc j} {n = n} k l, suc-mul j k))
-
-pub pieces-long : (o : Order) (k : ℕ) (s : List ℕ) (t : ℕ → Bool) (n : ℕ) → n * k ≤ length s
-    → length (piecesAt o k s (passing t (from 0 n))) ≡ length (passing t (from 0 n)) * k
-pieces-long o k s t n h =
-    ap (λ (is : List ℕ). length (piecesAt o k s is)) (sym (passing-start t n)) ∙ left-long t n (orderedAt o k s) k (pieces-sized o k n s h) 0
-    ∙ ap (λ (is : List ℕ). length is * k) (passing-start t n)
+pub fixed-long : (o : Order) (k : ℕ) (s : List ℕ) (t : ℕ → Bool) (n : ℕ) → n * k ≤ length s
+    → length (putValues (fixed k o) (valuesAt (fixedAt 0 k) s (passing t (from 0 n)))) ≡ length (passing t (from 0 n)) * k
+fixed-long o k s t n h =
+    let P : ℕ → Type 0 = λ j. length (orderedAt o k s j) ≡ k in
+    ap length (sym (ordered-put o k s (passing t (from 0 n))))
+    ∙ sized-long (orderedAt o k s) k (passing t (from 0 n)) (All-passing t P (from 0 n) (All-from P 0 n (λ j a b. ordered-sized o k s h j (omega arith))))
 
 -- where every cell is counted, they lie end to end
 pub all-pieces : (o : Order) (k : ℕ) (s : List ℕ) (t : ℕ → Bool) {n : ℕ} {count : ℕ} → count ≡ length (passing t (from 0 n)) → count ≡ n
-    → joined (map (ordered o) (pieces k n (drop 0 s))) ≡ piecesAt o k s (passing t (from 0 n))
+    → joined (map (ordered o) (pieces k n (drop 0 s))) ≡ putValues (fixed k o) (valuesAt (fixedAt 0 k) s (passing t (from 0 n)))
+unfolding putValues
 all-pieces o k s t {n = n} ec en =
-    ap (λ (m : ℕ). joined (map (ordered o) (pieces k n (drop m s)))) (sym (zero-mul k)) ∙ sym (run-pieces o k s 0 n) ∙ ap (piecesAt o k s) (sym (all-counted t (sym ec ∙ en)))
+    ap (λ (vs : List Value). joined (map (ordered o) vs))
+    (pieces-are 0 k n 0 s {at = 0} (omega (arith, zero-mul k)) ∙ ap (valuesAt (fixedAt 0 k) s) (sym (all-counted t (sym ec ∙ en))))
 
 pub all-long : (o : Order) (k : ℕ) (s : List ℕ) (t : ℕ → Bool) {n : ℕ} {count : ℕ} → n * k ≤ length s → count ≡ length (passing t (from 0 n)) → count ≡ n
-    → length (piecesAt o k s (passing t (from 0 n))) ≡ n * k
-all-long o k s t {n = n} h ec en = pieces-long o k s t n h ∙ ap (λ (m : ℕ). m * k) (sym ec ∙ en)
+    → length (putValues (fixed k o) (valuesAt (fixedAt 0 k) s (passing t (from 0 n)))) ≡ n * k
+all-long o k s t {n = n} h ec en = fixed-long o k s t n h ∙ ap (λ (m : ℕ). m * k) (sym ec ∙ en)
 
 -- ---- the planes of levels
 
@@ -180,5 +175,5 @@ module _ {n : ℕ} {masks : List ℕ} (l : ℕ) (h : Planes n masks (l + 1)) whe
   pub mask-plane : l * n + n ≤ length masks
   mask-plane = omega (arith, h .planes, suc-mul l n, ap (λ (m : ℕ). m * n) (add-one l))
 
-  pub mask-all : {count : ℕ} → count ≡ length (liveAt n masks l) → count ≡ n → take n (drop (l * n) masks) ≡ map (maskAt n masks l) (liveAt n masks l)
-  mask-all ec en = plane-at n masks l mask-plane ∙ ap (map (maskAt n masks l)) (sym (all-counted (liveTest n masks l) (sym ec ∙ en)))
+  pub mask-all : {count : ℕ} → count ≡ length (liveAt n masks l) → count ≡ n → take n (drop (l * n) masks) ≡ masksAt n masks l (liveAt n masks l)
+  mask-all ec en = plane-is n masks l mask-plane ∙ ap (masksAt n masks l) (sym (all-counted (shownAt n masks l) (sym ec ∙ en)))

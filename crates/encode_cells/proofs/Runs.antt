@@ -9,14 +9,16 @@ use mathlib.Core.Bool.{Bool, true, false}
 use mathlib.Core.List.{List, [], _∷_, _++_}
 use lib.ListN.{length}
 use Rattle.array.specs.Lists.{pick, from, passing, All}
-use Rattle.array.proofs.Lists.{length-from}
-use Rattle.encode_cells.specs.Live.{liveTest, liveAt, runOf}
+use Rattle.array.specs.Places.{shownAt}
+use Rattle.array.proofs.Lists.{All-of, length-from}
+use Rattle.array.proofs.Geometry.{passing-all}
+use Rattle.encode_cells.specs.Live.{liveAt, runOf}
 
 -- ---- one cell
 
 module _ (n : ℕ) (masks : List ℕ) (i : ℕ) where
   -- no level
-  pub live-none : (l : ℕ) → l ≡ 0 → liveTest n masks l i ≡ true
+  pub live-none : (l : ℕ) → l ≡ 0 → shownAt n masks l i ≡ true
   live-none zero h = refl
   live-none (suc l) h = absurd (omega arith)
 
@@ -112,4 +114,8 @@ all-counted t {n} e = go (from 0 n) (e ∙ sym (length-from 0 n))
 
 -- a level counts no more cells than there are
 pub live-le : (n : ℕ) (masks : List ℕ) (l : ℕ) → length (liveAt n masks l) ≤ n
-live-le n masks l = omega (arith, passing-le (liveTest n masks l) (from 0 n), length-from 0 n)
+live-le n masks l = omega (arith, passing-le (shownAt n masks l) (from 0 n), length-from 0 n)
+
+-- level 0 counts every cell
+pub live-all : (n : ℕ) (masks : List ℕ) → liveAt n masks 0 ≡ from 0 n
+live-all n masks = passing-all (λ i. true) (from 0 n) (All-of (λ i. true ≡ true) (λ i. refl) (from 0 n))

@@ -1,40 +1,32 @@
 -- Redundant by the law keep-at in encode/proofs/Walk.antt: the cells that a level counts (S4.7), by their numbers.
 -- Code that goes by places speaks of them.
 -- Assumes nothing.
-use Prim.Native.Nat.{ℕ, zero, suc, _+_, _-_, _*_, _≤_}
+use Prim.Native.Nat.{ℕ, zero, suc, _-_, _*_, _≤_}
 use mathlib.Core.Path.{_≡_}
-use mathlib.Core.Bool.{Bool, true, _&&_}
-use mathlib.Core.List.{List, map}
-use lib.ListN.{length, getD, take, drop}
+use mathlib.Core.Bool.{Bool}
+use mathlib.Core.List.{List}
+use lib.ListN.{length, take, drop}
 use Rattle.array.specs.Limits.{mostCells, mostDepth}
 use Rattle.array.specs.Lists.{pick, from, passing}
 use Rattle.array.specs.Buffers.{over}
 use Rattle.array.specs.Kind.{Masks}
 use Rattle.array.specs.Cells.{setTest}
+use Rattle.array.specs.Places.{masksAt, shownAt}
 use Rattle.codec.specs.Mask.{maskForm}
 
--- the mask byte of cell i at level l, of n cells
-abbrev pub maskAt : ℕ → List ℕ → ℕ → ℕ → ℕ
-maskAt n masks l i = getD masks (l * n + i) 0
-
--- cell i is set at each of the first l levels
-abbrev pub liveTest : ℕ → List ℕ → ℕ → ℕ → Bool
-liveTest n masks zero i = true
-liveTest n masks (suc l) i = liveTest n masks l i && setTest (maskAt n masks l i)
-
--- the same as numbers, 1 or 0
+-- whether a byte is set, and whether cell i is set at each of the first l levels, as numbers, 1 or 0
 abbrev pub setOne : ℕ → ℕ
 setOne m = pick (setTest m) 1 0
 
 abbrev pub liveOne : ℕ → List ℕ → ℕ → ℕ → ℕ
-liveOne n masks l i = pick (liveTest n masks l i) 1 0
+liveOne n masks l i = pick (shownAt n masks l i) 1 0
 
 -- the cells that level l counts, all of them and those from i on
 abbrev pub liveAt : ℕ → List ℕ → ℕ → List ℕ
-liveAt n masks l = passing (liveTest n masks l) (from 0 n)
+liveAt n masks l = passing (shownAt n masks l) (from 0 n)
 
 abbrev pub liveFrom : ℕ → List ℕ → ℕ → ℕ → List ℕ
-liveFrom n masks l i = passing (liveTest n masks l) (from i (n - i))
+liveFrom n masks l i = passing (shownAt n masks l) (from i (n - i))
 
 -- how many of the m numbers from i on pass before the first that does not
 abbrev pub runOf : (ℕ → Bool) → ℕ → ℕ → ℕ
@@ -47,10 +39,7 @@ pub record Planes (n : ℕ) (masks : List ℕ) (l : ℕ) : Type 0 where
   pub few : n ≤ mostCells
   pub planes : l * n ≤ length masks
 
--- the mask bytes of cells in a list, and the stored mask of the cells that level l counts
-abbrev pub masksAt : ℕ → List ℕ → ℕ → List ℕ → List ℕ
-masksAt n masks l is = map (maskAt n masks l) is
-
+-- the stored mask of the cells that level l counts
 abbrev pub liveMask : Masks → ℕ → List ℕ → ℕ → List ℕ
 liveMask x n masks l = maskForm x .put (masksAt n masks l (liveAt n masks l))
 

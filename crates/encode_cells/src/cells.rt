@@ -11,13 +11,14 @@ ghost use mathlib.Core.List.{map};
 ghost use Prim.Native.Nat.{_+_, _*_, _≤_, min};
 ghost use lib.ListN.{length};
 ghost use Rattle.array.specs.Buffers.{overAt};
-ghost use Rattle.array.specs.Kind.{ordered};
+ghost use Rattle.array.specs.Kind.{fixed, ordered};
 ghost use Rattle.array.specs.Lists.{joined, pieces};
 ghost use Rattle.array.specs.Meaning.{orderOf, masksOf};
+ghost use Rattle.array.specs.Places.{fixedAt, valuesAt};
 ghost use Rattle.codec.specs.Mask.{maskForm};
+ghost use Rattle.codec.specs.Values.{putValues};
 ghost use Rattle.word.specs.Word.{wordTest};
 ghost use Rattle.encode_cells.specs.Live.{liveAt, liveFrom, liveMask, Gathered, Planes};
-ghost use Rattle.encode_cells.specs.Pieces.{piecesAt};
 
 // All cells of values with no mask: as endian's copy_cells, which with one more caller would be a call of its own everywhere.
 pub fn put_all(out: &mut [u8], s: &[u8], size: usize, order: ByteOrder, cells: usize)
@@ -42,8 +43,8 @@ fn put_live_runs(
     level: usize,
 )
     requires { ⌜ Planes cells (now masks) level × (cells * size ≤ length (now s))
-        × (to + length (piecesAt (orderOf order) size (now s) (liveAt cells (now masks) level)) ≤ length (now out)) ⌝ }
-    ensures { λ _. ⌜ now (out .exit) ≡ overAt to (piecesAt (orderOf order) size (now (s .entry)) (liveAt cells (now (masks .entry)) level)) (now (out .entry)) ⌝ }
+        × (to + length (putValues (fixed size (orderOf order)) (valuesAt (fixedAt 0 size) (now s) (liveAt cells (now masks) level))) ≤ length (now out)) ⌝ }
+    ensures { λ _. ⌜ now (out .exit) ≡ overAt to (putValues (fixed size (orderOf order)) (valuesAt (fixedAt 0 size) (now (s .entry)) (liveAt cells (now (masks .entry)) level))) (now (out .entry)) ⌝ }
 {
     let mut i = 0;
     let mut done = 0;
@@ -69,8 +70,8 @@ fn put_live_words(
 )
     requires { ⌜ Planes cells (now masks) level × (count ≡ length (liveAt cells (now masks) level))
         × (wordTest size ≡ true) × (cells * size ≤ length (now s))
-        × (to + length (piecesAt (orderOf order) size (now s) (liveAt cells (now masks) level)) ≤ length (now out)) ⌝ }
-    ensures { λ _. ⌜ now (out .exit) ≡ overAt to (piecesAt (orderOf order) size (now (s .entry)) (liveAt cells (now (masks .entry)) level)) (now (out .entry)) ⌝ }
+        × (to + length (putValues (fixed size (orderOf order)) (valuesAt (fixedAt 0 size) (now s) (liveAt cells (now masks) level))) ≤ length (now out)) ⌝ }
+    ensures { λ _. ⌜ now (out .exit) ≡ overAt to (putValues (fixed size (orderOf order)) (valuesAt (fixedAt 0 size) (now (s .entry)) (liveAt cells (now (masks .entry)) level))) (now (out .entry)) ⌝ }
 {
     let mut i = 0;
     let mut done = 0;
@@ -96,8 +97,8 @@ fn put_level_words(
 )
     requires { ⌜ Planes cells (now masks) level × (count ≡ length (liveAt cells (now masks) level))
         × (wordTest size ≡ true) × (cells * size ≤ length (now s))
-        × (to + length (piecesAt (orderOf order) size (now s) (liveAt cells (now masks) level)) ≤ length (now out)) ⌝ }
-    ensures { λ _. ⌜ now (out .exit) ≡ overAt to (piecesAt (orderOf order) size (now (s .entry)) (liveAt cells (now (masks .entry)) level)) (now (out .entry)) ⌝ }
+        × (to + length (putValues (fixed size (orderOf order)) (valuesAt (fixedAt 0 size) (now s) (liveAt cells (now masks) level))) ≤ length (now out)) ⌝ }
+    ensures { λ _. ⌜ now (out .exit) ≡ overAt to (putValues (fixed size (orderOf order)) (valuesAt (fixedAt 0 size) (now (s .entry)) (liveAt cells (now (masks .entry)) level))) (now (out .entry)) ⌝ }
 {
     match level {
         1 => put_live_words(out, to, s, size, order, masks, cells, 1, count),
@@ -122,8 +123,8 @@ pub fn put_live(
 )
     requires { ⌜ Planes cells (now masks) level × (count ≡ length (liveAt cells (now masks) level))
         × (cells * size ≤ length (now s))
-        × (to + length (piecesAt (orderOf order) size (now s) (liveAt cells (now masks) level)) ≤ length (now out)) ⌝ }
-    ensures { λ _. ⌜ now (out .exit) ≡ overAt to (piecesAt (orderOf order) size (now (s .entry)) (liveAt cells (now (masks .entry)) level)) (now (out .entry)) ⌝ }
+        × (to + length (putValues (fixed size (orderOf order)) (valuesAt (fixedAt 0 size) (now s) (liveAt cells (now masks) level))) ≤ length (now out)) ⌝ }
+    ensures { λ _. ⌜ now (out .exit) ≡ overAt to (putValues (fixed size (orderOf order)) (valuesAt (fixedAt 0 size) (now (s .entry)) (liveAt cells (now (masks .entry)) level))) (now (out .entry)) ⌝ }
 {
     if count == cells {
         cells::copy_cells(out, to, s, 0, size, order, cells);

@@ -4,7 +4,8 @@ ghost use mathlib.Core.Path.{_≡_};
 ghost use Prim.Native.Nat.{_+_, _-_, _*_, _<_, _≤_};
 ghost use lib.ListN.{length};
 ghost use Rattle.array.specs.Limits.{mostDepth};
-ghost use Rattle.encode_cells.specs.Live.{maskAt, setOne, liveTest, liveOne, liveAt, liveFrom, runOf, Planes};
+ghost use Rattle.array.specs.Places.{maskAt, shownAt};
+ghost use Rattle.encode_cells.specs.Live.{setOne, liveOne, liveAt, liveFrom, runOf, Planes};
 
 // 1 where the byte of cell i at level l is set, else 0.
 fn mark_at(masks: &[u8], cells: usize, l: usize, i: usize) -> u8
@@ -38,7 +39,7 @@ pub fn live_mark(masks: &[u8], cells: usize, level: usize, i: usize) -> u8
 // How many cells from i on are live before the first that is not. Level 0 counts every cell.
 pub fn live_run(masks: &[u8], cells: usize, level: usize, i: usize) -> usize
     requires { ⌜ (i ≤ cells) × (level ≤ mostDepth) × (level * cells ≤ length (now masks)) ⌝ }
-    ensures { λ r. ⌜ r ≡ runOf (liveTest cells (now (masks .entry)) level) i (cells - i) ⌝ }
+    ensures { λ r. ⌜ r ≡ runOf (shownAt cells (now (masks .entry)) level) i (cells - i) ⌝ }
 {
     if level == 0 {
         return cells - i;

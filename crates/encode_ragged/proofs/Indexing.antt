@@ -11,52 +11,53 @@ use lib.Seq.{drop-cons}
 use Rattle.array.specs.Lists.{pick, from, joined, passing}
 use Rattle.array.specs.Buffers.{overAt}
 use Rattle.array.specs.Bytes.{le}
+use Rattle.array.specs.Places.{endsAt, offsetAt, stepAt}
 use Rattle.array.proofs.Bytes.{length-le}
 use Rattle.array.proofs.Lists.{map-map}
 use Rattle.array.proofs.Laying.{Laying, laying-begins, laying-same, laying-left, laying-ends, laying-part, laying-is}
 use Rattle.codec.specs.Ragged.{indexOf}
 use Rattle.encode_cells.proofs.Packing.{Packing, packing-begins, packing-same, packing-ends, packing-cell, packing-room, packing-more}
-use Rattle.encode_ragged.specs.Slices.{Offsets, spanAt, endsAt}
+use Rattle.encode_ragged.specs.Offsets.{Offsets}
 use Rattle.encode_ragged.proofs.Summing.{soFar, Summing, summing-begins, summing-step, summing-more}
 
 -- ---- of the cells that a level counts
 
 -- what cell j writes: where it ends, or, if it does not count, where the one before it does
-abbrev endOf : ℕ → List ℕ → (ℕ → Bool) → ℕ → List ℕ
-endOf w os t j = le w (soFar os t (suc j))
+abbrev endOf : ℕ → (ℕ → ℕ) → (ℕ → Bool) → ℕ → List ℕ
+endOf w off t j = le w (soFar off t (suc j))
 
-ends-so-far : (os : List ℕ) (t : ℕ → Bool) (i m : ℕ) → map (λ j. soFar os t (suc j)) (passing t (from i m)) ≡ endsAt os (soFar os t i) (passing t (from i m))
-ends-so-far os t i zero = refl
-ends-so-far os t i (suc m) = go (t i) refl (ends-so-far os t (suc i) m)
+ends-so-far : (off : ℕ → ℕ) (t : ℕ → Bool) (i m : ℕ) → map (λ j. soFar off t (suc j)) (passing t (from i m)) ≡ endsAt off (soFar off t i) (passing t (from i m))
+ends-so-far off t i zero = refl
+ends-so-far off t i (suc m) = go (t i) refl (ends-so-far off t (suc i) m)
   where
-    go : (b : Bool) → t i ≡ b → map (λ j. soFar os t (suc j)) (passing t (from (suc i) m)) ≡ endsAt os (soFar os t (suc i)) (passing t (from (suc i) m))
-        → map (λ j. soFar os t (suc j)) (pick b (i ∷ passing t (from (suc i) m)) (passing t (from (suc i) m)))
-        ≡ endsAt os (soFar os t i) (pick b (i ∷ passing t (from (suc i) m)) (passing t (from (suc i) m)))
+    go : (b : Bool) → t i ≡ b → map (λ j. soFar off t (suc j)) (passing t (from (suc i) m)) ≡ endsAt off (soFar off t (suc i)) (passing t (from (suc i) m))
+        → map (λ j. soFar off t (suc j)) (pick b (i ∷ passing t (from (suc i) m)) (passing t (from (suc i) m)))
+        ≡ endsAt off (soFar off t i) (pick b (i ∷ passing t (from (suc i) m)) (passing t (from (suc i) m)))
     go true e ih =
-        let q : soFar os t (suc i) ≡ soFar os t i + spanAt os i = ap (λ (b : Bool). soFar os t i + pick b (spanAt os i) 0) e in
-        ap₂ (λ (x : ℕ) (r : List ℕ). x ∷ r) q (ih ∙ ap (λ (x : ℕ). endsAt os x (passing t (from (suc i) m))) q)
+        let q : soFar off t (suc i) ≡ soFar off t i + stepAt off i = ap (λ (b : Bool). soFar off t i + pick b (stepAt off i) 0) e in
+        ap₂ (λ (x : ℕ) (r : List ℕ). x ∷ r) q (ih ∙ ap (λ (x : ℕ). endsAt off x (passing t (from (suc i) m))) q)
     go false e ih =
-        let q : soFar os t (suc i) ≡ soFar os t i = ap (λ (b : Bool). soFar os t i + pick b (spanAt os i) 0) e ∙ omega arith in
-        ih ∙ ap (λ (x : ℕ). endsAt os x (passing t (from (suc i) m))) q
+        let q : soFar off t (suc i) ≡ soFar off t i = ap (λ (b : Bool). soFar off t i + pick b (stepAt off i) 0) e ∙ omega arith in
+        ih ∙ ap (λ (x : ℕ). endsAt off x (passing t (from (suc i) m))) q
 
-index-whole : (w : ℕ) (os : List ℕ) (t : ℕ → Bool) (n : ℕ) → joined (map (endOf w os t) (passing t (from 0 n))) ≡ indexOf w (endsAt os 0 (passing t (from 0 n)))
-index-whole w os t n = ap joined (sym (map-map (λ j. soFar os t (suc j)) (le w) (passing t (from 0 n)))) ∙ ap (indexOf w) (ends-so-far os t 0 n)
+index-whole : (w : ℕ) (off : ℕ → ℕ) (t : ℕ → Bool) (n : ℕ) → joined (map (endOf w off t) (passing t (from 0 n))) ≡ indexOf w (endsAt off 0 (passing t (from 0 n)))
+index-whole w off t n = ap joined (sym (map-map (λ j. soFar off t (suc j)) (le w) (passing t (from 0 n)))) ∙ ap (indexOf w) (ends-so-far off t 0 n)
 
 pub record Indexing (t : ℕ → Bool) (n w : ℕ) (os d : List ℕ) (to : ℕ) (out : List ℕ) (i total done : ℕ) : Type 0 where
   pub sums : Summing t n os total i
-  pub packs : Packing t n (endOf w os t) w d to out i done
+  pub packs : Packing t n (endOf w (offsetAt os) t) w d to out i done
 
 pub indexing-begins : {t : ℕ → Bool} {n w : ℕ} {os d : List ℕ} {to : ℕ} → Offsets n os
-    → to + length (indexOf w (endsAt os 0 (passing t (from 0 n)))) ≤ length d → Indexing t n w os d to d 0 0 0
+    → to + length (indexOf w (endsAt (offsetAt os) 0 (passing t (from 0 n)))) ≤ length d → Indexing t n w os d to d 0 0 0
 indexing-begins {t} {n} {w} {os} {d} {to} o h =
-    record { sums = summing-begins o; packs = packing-begins (λ j q. length-le w (soFar os t (suc j))) (omega (arith, ap length (index-whole w os t n))) }
+    record { sums = summing-begins o; packs = packing-begins (λ j q. length-le w (soFar (offsetAt os) t (suc j))) (omega (arith, ap length (index-whole w (offsetAt os) t n))) }
 
 module _ {t : ℕ → Bool} {n w : ℕ} {os d : List ℕ} {to : ℕ} {out : List ℕ} {i total done : ℕ} (l : Indexing t n w os d to out i total done) where
   pub indexing-same : length out ≡ length d
   indexing-same = packing-same (l .packs)
 
-  pub indexing-ends : length (passing t (from 0 n)) ≤ done → out ≡ overAt to (indexOf w (endsAt os 0 (passing t (from 0 n)))) d
-  indexing-ends h = packing-ends (l .packs) h ∙ ap (λ (x : List ℕ). overAt to x d) (index-whole w os t n)
+  pub indexing-ends : length (passing t (from 0 n)) ≤ done → out ≡ overAt to (indexOf w (endsAt (offsetAt os) 0 (passing t (from 0 n)))) d
+  indexing-ends h = packing-ends (l .packs) h ∙ ap (λ (x : List ℕ). overAt to x d) (index-whole w (offsetAt os) t n)
 
   module _ (h : done < length (passing t (from 0 n))) where
     pub indexing-inside : i < n

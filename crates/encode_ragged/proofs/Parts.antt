@@ -5,21 +5,24 @@ use Prim.Native.Nat.{ℕ, suc, _+_, _*_, _≤_}
 use native.Mathlib.Nat.{zero-add}
 use native.Mathlib.Numerals.{add-one}
 use native.Mathlib.Omega.{arith}
-use mathlib.Core.List.{List, _∷_, map}
+use mathlib.Core.List.{List, _∷_}
 use lib.ListN.{length, take, drop, length-append}
 use lib.Seq.{take-all}
 use Rattle.array.specs.Buffers.{over, overAt}
 use Rattle.array.specs.Bytes.{le}
 use Rattle.array.specs.Kind.{Place, ragged}
 use Rattle.array.specs.Offsets.{last, offsetsOf}
+use Rattle.array.specs.Lists.{joined}
+use Rattle.array.specs.Places.{bytesAt, endsAt, offsetAt, valuesAt}
 use Rattle.array.proofs.Bytes.{length-le}
+use Rattle.array.proofs.Places.{ends-are, length-ends-at}
 use Rattle.codec.specs.Ragged.{put, indexOf, putRagged, lengthAt, indexAt, dataAt}
 use Rattle.codec.specs.Values.{putValues}
 use Rattle.codec.proofs.Ragged.{length-put, length-index}
 use Rattle.codec.proofs.Values.{ragged-length}
 use Rattle.encode_cells.specs.Live.{liveAt}
-use Rattle.encode_ragged.specs.Slices.{Offsets, sliceAt, slicesAt, spansOf, endsAt}
-use Rattle.encode_ragged.proofs.Spans.{live-within, slices-long, ends-slices, length-endsAt}
+use Rattle.encode_ragged.specs.Offsets.{Offsets}
+use Rattle.encode_ragged.proofs.Spans.{rises, ends-within, live-below, values-long}
 use Rattle.encode_cells.proofs.Placing.{at-behind}
 use Rattle.encode_ragged.proofs.Placed.{ragged-laid}
 
@@ -38,39 +41,39 @@ module _ (w : ℕ) (p : Place) (masks : List ℕ) (l : ℕ) {n : ℕ} {os : List
   abbrev cells : List ℕ
   cells = liveAt n masks l
 
-  data-long : length (slicesAt os s (liveAt n masks l)) ≡ spansOf os (liveAt n masks l)
-  data-long = slices-long masks l o s ended
+  data-long : length (joined (valuesAt (offsetAt os) s (liveAt n masks l))) ≡ bytesAt (offsetAt os) (liveAt n masks l)
+  data-long = values-long masks l o s ended
 
-  offsets-are : offsetsOf (map (sliceAt os s) cells) ≡ 0 ∷ endsAt os 0 cells
-  offsets-are = ap (λ (r : List ℕ). 0 ∷ r) (ends-slices os s 0 cells (live-within masks l o s ended))
+  offsets-are : offsetsOf (valuesAt (offsetAt os) s cells) ≡ 0 ∷ endsAt (offsetAt os) 0 cells
+  offsets-are = ap (λ (r : List ℕ). 0 ∷ r) (ends-are (rises o) s (ends-within o ended) 0 cells (live-below n masks l))
 
-  index-count : length (indexOf w (0 ∷ endsAt os 0 cells)) ≡ w * (length cells + 1)
-  index-count = length-index w (0 ∷ endsAt os 0 cells) ∙ ap (λ (m : ℕ). w * suc m) (length-endsAt os 0 cells) ∙ ap (λ (m : ℕ). w * m) (sym (add-one (length cells)))
+  index-count : length (indexOf w (0 ∷ endsAt (offsetAt os) 0 cells)) ≡ w * (length cells + 1)
+  index-count = length-index w (0 ∷ endsAt (offsetAt os) 0 cells) ∙ ap (λ (m : ℕ). w * suc m) (length-ends-at (offsetAt os) 0 cells) ∙ ap (λ (m : ℕ). w * m) (sym (add-one (length cells)))
 
   -- so many cells, and an index of offsets of so many bytes
   module _ {count k : ℕ} (ec : count ≡ length (liveAt n masks l)) (ek : k ≡ w) where
     counted : k * (count + 1) ≡ w * (length cells + 1)
     counted = ap₂ (λ (x m : ℕ). x * (m + 1)) ek ec
 
-    pub index-long : length (indexOf w (0 ∷ endsAt os 0 (liveAt n masks l))) ≡ k * (count + 1)
+    pub index-long : length (indexOf w (0 ∷ endsAt (offsetAt os) 0 (liveAt n masks l))) ≡ k * (count + 1)
     index-long = index-count ∙ sym counted
 
-    pub ragged-long : {bytes : ℕ} → bytes ≡ spansOf os (liveAt n masks l) → length (putValues (ragged w p) (map (sliceAt os s) (liveAt n masks l))) ≡ 8 + k * (count + 1) + bytes
+    pub ragged-long : {bytes : ℕ} → bytes ≡ bytesAt (offsetAt os) (liveAt n masks l) → length (putValues (ragged w p) (valuesAt (offsetAt os) s (liveAt n masks l))) ≡ 8 + k * (count + 1) + bytes
     unfolding putValues
     ragged-long {bytes} eb =
-        ragged-length w p (record { values = slicesAt os s cells; offsets = offsetsOf (map (sliceAt os s) cells) }) (length cells)
-        (ap length offsets-are ∙ ap suc (length-endsAt os 0 cells))
+        ragged-length w p (record { values = joined (valuesAt (offsetAt os) s cells); offsets = offsetsOf (valuesAt (offsetAt os) s cells) }) (length cells)
+        (ap length offsets-are ∙ ap suc (length-ends-at (offsetAt os) 0 cells))
         ∙ ap₂ (λ (a b : ℕ). 8 + a + b) (ap (λ (m : ℕ). w * m) (sym (add-one (length cells))) ∙ sym counted) (data-long ∙ sym eb)
 
-    pub ragged-put : (at : ℕ) (out : List ℕ) {bytes place start field : ℕ} {o1 o2 o3 : List ℕ} → bytes ≡ spansOf os (liveAt n masks l)
-        → at + length (putValues (ragged w p) (map (sliceAt os s) (liveAt n masks l))) ≤ length out
-        → place ≡ dataAt p (k * (count + 1)) → o1 ≡ overAt (at + place) (slicesAt os s (liveAt n masks l)) out
-        → start ≡ indexAt p (8 + k * (count + 1) + bytes) (k * (count + 1)) → o2 ≡ overAt (at + start) (indexOf w (0 ∷ endsAt os 0 (liveAt n masks l))) o1
+    pub ragged-put : (at : ℕ) (out : List ℕ) {bytes place start field : ℕ} {o1 o2 o3 : List ℕ} → bytes ≡ bytesAt (offsetAt os) (liveAt n masks l)
+        → at + length (putValues (ragged w p) (valuesAt (offsetAt os) s (liveAt n masks l))) ≤ length out
+        → place ≡ dataAt p (k * (count + 1)) → o1 ≡ overAt (at + place) (joined (valuesAt (offsetAt os) s (liveAt n masks l))) out
+        → start ≡ indexAt p (8 + k * (count + 1) + bytes) (k * (count + 1)) → o2 ≡ overAt (at + start) (indexOf w (0 ∷ endsAt (offsetAt os) 0 (liveAt n masks l))) o1
         → field ≡ lengthAt p (8 + k * (count + 1) + bytes) → o3 ≡ overAt (at + field) (le 8 (k * (count + 1))) o2
-        → o3 ≡ overAt at (putValues (ragged w p) (map (sliceAt os s) (liveAt n masks l))) out
+        → o3 ≡ overAt at (putValues (ragged w p) (valuesAt (offsetAt os) s (liveAt n masks l))) out
     unfolding putValues
     ragged-put at out {bytes} {place} {start} {field} {o1} {o2} {o3} eb h ed e1 es e2 ef e3 =
-        ragged-laid p w at out (record { values = slicesAt os s cells; offsets = offsetsOf (map (sliceAt os s) cells) })
+        ragged-laid p w at out (record { values = joined (valuesAt (offsetAt os) s cells); offsets = offsetsOf (valuesAt (offsetAt os) s cells) })
         (ap (λ (x : List ℕ). length (indexOf w x)) offsets-are ∙ index-long)
         (data-long ∙ sym eb)
         (omega (arith, ragged-long eb))

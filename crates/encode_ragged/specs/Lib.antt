@@ -1,1 +1,1 @@
-pub mod Slices
+pub mod Offsets

@@ -6,13 +6,15 @@ ghost use Prim.Native.Nat.{_+_, _≤_};
 ghost use lib.ListN.{length};
 ghost use Rattle.array.specs.Buffers.{overAt};
 ghost use Rattle.array.specs.Offsets.{last};
+ghost use Rattle.array.specs.Lists.{joined};
+ghost use Rattle.array.specs.Places.{bytesAt, offsetAt, valuesAt};
 ghost use Rattle.encode_cells.specs.Live.{liveAt, Planes};
-ghost use Rattle.encode_ragged.specs.Slices.{slicesAt, spansOf, Offsets};
+ghost use Rattle.encode_ragged.specs.Offsets.{Offsets};
 
 // Value bytes of the cells that the level counts: each length by its mark, so that nothing branches on a mask.
 fn sum_live_bytes(offsets: &[u64], masks: &[u8], cells: usize, level: usize) -> usize
     requires { ⌜ Planes cells (now masks) level × Offsets cells (now offsets) ⌝ }
-    ensures { λ r. ⌜ r ≡ spansOf (now (offsets .entry)) (liveAt cells (now (masks .entry)) level) ⌝ }
+    ensures { λ r. ⌜ r ≡ bytesAt (offsetAt (now (offsets .entry))) (liveAt cells (now (masks .entry)) level) ⌝ }
 {
     let mut total: usize = 0;
     let mut i: usize = 0;
@@ -29,7 +31,7 @@ fn sum_live_bytes(offsets: &[u64], masks: &[u8], cells: usize, level: usize) -> 
 // The same of the `count` cells that the level counts, without a walk where all count or there is nothing to sum up.
 pub fn live_bytes(offsets: &[u64], masks: &[u8], cells: usize, level: usize, count: usize) -> usize
     requires { ⌜ Planes cells (now masks) level × (count ≡ length (liveAt cells (now masks) level)) × Offsets cells (now offsets) ⌝ }
-    ensures { λ r. ⌜ r ≡ spansOf (now (offsets .entry)) (liveAt cells (now (masks .entry)) level) ⌝ }
+    ensures { λ r. ⌜ r ≡ bytesAt (offsetAt (now (offsets .entry))) (liveAt cells (now (masks .entry)) level) ⌝ }
 {
     let all = offsets[cells] as usize;
     if count == cells {
@@ -53,9 +55,9 @@ fn put_live_runs(
 ) -> usize
     requires { ⌜ Planes cells (now masks) level
         × Offsets cells (now offsets) × (last (now offsets) ≡ length (now values))
-        × (to + length (slicesAt (now offsets) (now values) (liveAt cells (now masks) level)) ≤ length (now out)) ⌝ }
-    ensures wrote { λ r. ⌜ r ≡ length (slicesAt (now (offsets .entry)) (now (values .entry)) (liveAt cells (now (masks .entry)) level)) ⌝ }
-    ensures bytes { λ _. ⌜ now (out .exit) ≡ overAt to (slicesAt (now (offsets .entry)) (now (values .entry)) (liveAt cells (now (masks .entry)) level)) (now (out .entry)) ⌝ }
+        × (to + length (joined (valuesAt (offsetAt (now offsets)) (now values) (liveAt cells (now masks) level))) ≤ length (now out)) ⌝ }
+    ensures wrote { λ r. ⌜ r ≡ length (joined (valuesAt (offsetAt (now (offsets .entry))) (now (values .entry)) (liveAt cells (now (masks .entry)) level))) ⌝ }
+    ensures bytes { λ _. ⌜ now (out .exit) ≡ overAt to (joined (valuesAt (offsetAt (now (offsets .entry))) (now (values .entry)) (liveAt cells (now (masks .entry)) level))) (now (out .entry)) ⌝ }
 {
     let mut i = 0;
     let mut done = 0;
@@ -86,9 +88,9 @@ fn put_level_runs(
 ) -> usize
     requires { ⌜ Planes cells (now masks) level
         × Offsets cells (now offsets) × (last (now offsets) ≡ length (now values))
-        × (to + length (slicesAt (now offsets) (now values) (liveAt cells (now masks) level)) ≤ length (now out)) ⌝ }
-    ensures wrote { λ r. ⌜ r ≡ length (slicesAt (now (offsets .entry)) (now (values .entry)) (liveAt cells (now (masks .entry)) level)) ⌝ }
-    ensures bytes { λ _. ⌜ now (out .exit) ≡ overAt to (slicesAt (now (offsets .entry)) (now (values .entry)) (liveAt cells (now (masks .entry)) level)) (now (out .entry)) ⌝ }
+        × (to + length (joined (valuesAt (offsetAt (now offsets)) (now values) (liveAt cells (now masks) level))) ≤ length (now out)) ⌝ }
+    ensures wrote { λ r. ⌜ r ≡ length (joined (valuesAt (offsetAt (now (offsets .entry))) (now (values .entry)) (liveAt cells (now (masks .entry)) level))) ⌝ }
+    ensures bytes { λ _. ⌜ now (out .exit) ≡ overAt to (joined (valuesAt (offsetAt (now (offsets .entry))) (now (values .entry)) (liveAt cells (now (masks .entry)) level))) (now (out .entry)) ⌝ }
 {
     match level {
         1 => put_live_runs(out, to, values, offsets, masks, cells, 1),
@@ -112,9 +114,9 @@ pub fn put_live_data(
 ) -> usize
     requires { ⌜ Planes cells (now masks) level × (count ≡ length (liveAt cells (now masks) level))
         × Offsets cells (now offsets) × (last (now offsets) ≡ length (now values))
-        × (to + length (slicesAt (now offsets) (now values) (liveAt cells (now masks) level)) ≤ length (now out)) ⌝ }
-    ensures wrote { λ r. ⌜ r ≡ length (slicesAt (now (offsets .entry)) (now (values .entry)) (liveAt cells (now (masks .entry)) level)) ⌝ }
-    ensures bytes { λ _. ⌜ now (out .exit) ≡ overAt to (slicesAt (now (offsets .entry)) (now (values .entry)) (liveAt cells (now (masks .entry)) level)) (now (out .entry)) ⌝ }
+        × (to + length (joined (valuesAt (offsetAt (now offsets)) (now values) (liveAt cells (now masks) level))) ≤ length (now out)) ⌝ }
+    ensures wrote { λ r. ⌜ r ≡ length (joined (valuesAt (offsetAt (now (offsets .entry))) (now (values .entry)) (liveAt cells (now (masks .entry)) level))) ⌝ }
+    ensures bytes { λ _. ⌜ now (out .exit) ≡ overAt to (joined (valuesAt (offsetAt (now (offsets .entry))) (now (values .entry)) (liveAt cells (now (masks .entry)) level))) (now (out .entry)) ⌝ }
 {
     let bytes = values.len();
     if count == cells {

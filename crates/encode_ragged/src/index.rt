@@ -10,9 +10,10 @@ ghost use lib.ListN.{length};
 ghost use Rattle.array.specs.Buffers.{overAt};
 ghost use Rattle.array.specs.Bytes.{le};
 ghost use Rattle.array.specs.Meaning.{widthOf};
+ghost use Rattle.array.specs.Places.{endsAt, offsetAt};
 ghost use Rattle.codec.specs.Ragged.{indexOf};
 ghost use Rattle.encode_cells.specs.Live.{liveAt, Planes};
-ghost use Rattle.encode_ragged.specs.Slices.{Offsets, endsAt};
+ghost use Rattle.encode_ragged.specs.Offsets.{Offsets};
 
 fn put_offset(out: &mut [u8], at: usize, width: IndexWidth, v: u64)
     requires { ⌜ at + widthOf width ≤ length (now out) ⌝ }
@@ -37,8 +38,8 @@ fn put_marked_ends(
     count: usize,
 )
     requires { ⌜ Planes cells (now masks) level × (count ≡ length (liveAt cells (now masks) level)) × Offsets cells (now offsets)
-        × (to + length (indexOf (widthOf width) (endsAt (now offsets) 0 (liveAt cells (now masks) level))) ≤ length (now out)) ⌝ }
-    ensures { λ _. ⌜ now (out .exit) ≡ overAt to (indexOf (widthOf width) (endsAt (now (offsets .entry)) 0 (liveAt cells (now (masks .entry)) level))) (now (out .entry)) ⌝ }
+        × (to + length (indexOf (widthOf width) (endsAt (offsetAt (now offsets)) 0 (liveAt cells (now masks) level))) ≤ length (now out)) ⌝ }
+    ensures { λ _. ⌜ now (out .exit) ≡ overAt to (indexOf (widthOf width) (endsAt (offsetAt (now (offsets .entry))) 0 (liveAt cells (now (masks .entry)) level))) (now (out .entry)) ⌝ }
 {
     let k = kind::width_bytes(width);
     let mut i = 0;
@@ -68,8 +69,8 @@ fn put_live_ends(
     count: usize,
 )
     requires { ⌜ Planes cells (now masks) level × (count ≡ length (liveAt cells (now masks) level)) × Offsets cells (now offsets)
-        × (to + length (indexOf (widthOf width) (endsAt (now offsets) 0 (liveAt cells (now masks) level))) ≤ length (now out)) ⌝ }
-    ensures { λ _. ⌜ now (out .exit) ≡ overAt to (indexOf (widthOf width) (endsAt (now (offsets .entry)) 0 (liveAt cells (now (masks .entry)) level))) (now (out .entry)) ⌝ }
+        × (to + length (indexOf (widthOf width) (endsAt (offsetAt (now offsets)) 0 (liveAt cells (now masks) level))) ≤ length (now out)) ⌝ }
+    ensures { λ _. ⌜ now (out .exit) ≡ overAt to (indexOf (widthOf width) (endsAt (offsetAt (now (offsets .entry))) 0 (liveAt cells (now (masks .entry)) level))) (now (out .entry)) ⌝ }
 {
     match level {
         1 => put_marked_ends(out, to, width, offsets, masks, cells, 1, count),
@@ -106,8 +107,8 @@ pub fn put_live_index(
     count: usize,
 )
     requires { ⌜ Planes cells (now masks) level × (count ≡ length (liveAt cells (now masks) level)) × Offsets cells (now offsets)
-        × (to + length (indexOf (widthOf width) (0 ∷ endsAt (now offsets) 0 (liveAt cells (now masks) level))) ≤ length (now out)) ⌝ }
-    ensures { λ _. ⌜ now (out .exit) ≡ overAt to (indexOf (widthOf width) (0 ∷ endsAt (now (offsets .entry)) 0 (liveAt cells (now (masks .entry)) level))) (now (out .entry)) ⌝ }
+        × (to + length (indexOf (widthOf width) (0 ∷ endsAt (offsetAt (now offsets)) 0 (liveAt cells (now masks) level))) ≤ length (now out)) ⌝ }
+    ensures { λ _. ⌜ now (out .exit) ≡ overAt to (indexOf (widthOf width) (0 ∷ endsAt (offsetAt (now (offsets .entry))) 0 (liveAt cells (now (masks .entry)) level))) (now (out .entry)) ⌝ }
 {
     if count == cells {
         put_index(out, to, width, offsets);

@@ -17,10 +17,11 @@ ghost use Rattle.array.specs.Buffers.{over, overAt};
 ghost use Rattle.array.specs.Kind.{ragged};
 ghost use Rattle.array.specs.Meaning.{widthOf, placeOf};
 ghost use Rattle.array.specs.Offsets.{last};
+ghost use Rattle.array.specs.Places.{offsetAt, valuesAt};
 ghost use Rattle.codec.specs.Ragged.{putRagged};
 ghost use Rattle.codec.specs.Values.{putValues};
 ghost use Rattle.encode_cells.specs.Live.{liveAt, Planes};
-ghost use Rattle.encode_ragged.specs.Slices.{sliceAt, Offsets};
+ghost use Rattle.encode_ragged.specs.Offsets.{Offsets};
 
 // Ragged values of the `count` cells that the level counts, end to end from offset 0; says how many bytes it wrote.
 // Ten parameters: the place, the form, the values, and four for which cells.
@@ -38,9 +39,9 @@ pub fn put_ragged(
 ) -> usize
     requires { ⌜ Planes cells (now masks) level × (count ≡ length (liveAt cells (now masks) level))
         × Offsets cells (now offsets) × (last (now offsets) ≡ length (now values))
-        × (at + length (putValues (ragged (widthOf width) (placeOf place)) (map (sliceAt (now offsets) (now values)) (liveAt cells (now masks) level))) ≤ length (now out)) ⌝ }
-    ensures wrote { λ r. ⌜ r ≡ length (putValues (ragged (widthOf width) (placeOf place)) (map (sliceAt (now (offsets .entry)) (now (values .entry))) (liveAt cells (now (masks .entry)) level))) ⌝ }
-    ensures bytes { λ _. ⌜ now (out .exit) ≡ overAt at (putValues (ragged (widthOf width) (placeOf place)) (map (sliceAt (now (offsets .entry)) (now (values .entry))) (liveAt cells (now (masks .entry)) level))) (now (out .entry)) ⌝ }
+        × (at + length (putValues (ragged (widthOf width) (placeOf place)) (valuesAt (offsetAt (now offsets)) (now values) (liveAt cells (now masks) level))) ≤ length (now out)) ⌝ }
+    ensures wrote { λ r. ⌜ r ≡ length (putValues (ragged (widthOf width) (placeOf place)) (valuesAt (offsetAt (now (offsets .entry))) (now (values .entry)) (liveAt cells (now (masks .entry)) level))) ⌝ }
+    ensures bytes { λ _. ⌜ now (out .exit) ≡ overAt at (putValues (ragged (widthOf width) (placeOf place)) (valuesAt (offsetAt (now (offsets .entry))) (now (values .entry)) (liveAt cells (now (masks .entry)) level))) (now (out .entry)) ⌝ }
 {
     let index = kind::width_bytes(width) * (count + 1);
     let data = at + place::data_at(place, index);

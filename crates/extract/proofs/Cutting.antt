@@ -10,15 +10,16 @@ use Rattle.array.specs.Kind.{Kind}
 use Rattle.array.specs.Shape.{volume}
 use Rattle.array.specs.Subset.{pairs, cellsIn}
 use Rattle.array.specs.Content.{Content, offsetsFor}
+use Rattle.array.specs.Places.{beginsAt, bytesAt, valuesAt, planesAt}
 use Rattle.chunks.specs.Chunks.{offsetCount}
 use Rattle.chunks.specs.Cut.{cutOf}
-use Rattle.array.specs.Places.{beginsAt, bytesAt, valuesAt, planesAt}
 use Rattle.subset.specs.Walk.{SubsetAsked}
 use Rattle.subset.proofs.Rows.{asked-below, asked-count}
 use Rattle.extract.specs.Asked.{PlanesAsked, OffsetsFor, ValuesAsked, ArrayAsked}
 use Rattle.extract.proofs.Walk.{planes-long}
 use Rattle.extract.proofs.Closing.{cutBy, cut-is}
-use Rattle.extract.proofs.Forms.{begins-end, offsets-for, offsets-long, values-long}
+use Rattle.array.proofs.Places.{begins-end}
+use Rattle.extract.proofs.Forms.{offsets-for, offsets-long, values-long}
 
 module _ {k : Kind} {cells : ℕ} {shape starts lens : List ℕ} {c : Content} {count : ℕ} (s : SubsetAsked shape starts lens count) (a : ArrayAsked k cells shape c) where
   abbrev js : List ℕ

@@ -1,23 +1,20 @@
 -- Values of either form: what an array that keeps the rules says of their places, and how long their cut is.
 -- Assumes nothing.
-use mathlib.Core.Path.{_≡_, refl, sym, ap, _∙_}
-use Prim.Native.Nat.{ℕ, zero, suc, _*_, _≤_, _<_}
-use native.Mathlib.Nat.{le-of-eq}
+use mathlib.Core.Path.{_≡_, refl, ap, _∙_}
+use Prim.Native.Nat.{ℕ, suc, _*_, _≤_, _<_}
 use native.Mathlib.Omega.{arith}
-use mathlib.Core.List.{List, [], _∷_}
-use lib.ListN.{length, getD, length-map}
+use mathlib.Core.List.{List}
+use lib.ListN.{length, length-map}
 use Rattle.array.specs.Limits.{mostBytes}
 use Rattle.array.specs.Lists.{joined, All}
 use Rattle.array.specs.Kind.{Form, fixed, ragged, Order, Place}
 use Rattle.array.specs.Shape.{volume}
-use Rattle.array.specs.Offsets.{Rising, RisingFrom}
 use Rattle.array.specs.Content.{Content, ValuesOk, offsetsFor}
-use Rattle.array.specs.Places.{offsetAt, beginsAt, Rises, valueAt, bytesAt, valuesAt}
-use Rattle.valid.proofs.CheckLaws.{last-at}
+use Rattle.array.specs.Places.{offsetAt, beginsAt, valueAt, bytesAt, valuesAt}
 use Rattle.array.proofs.Offsets.{length-ends}
 use Rattle.chunks.specs.Chunks.{offsetCount}
 use Rattle.extract.specs.Asked.{CellsAsked, RaggedAsked, OffsetsFor, ValuesAsked}
-use Rattle.array.proofs.Places.{fixed-rises, bytes-long}
+use Rattle.array.proofs.Places.{bytes-long, begins-rise, begins-end}
 use Rattle.extract.proofs.Walk.{fixed-long}
 
 -- ---- by form
@@ -44,23 +41,6 @@ offsets-long (fixed k o) os values cells e = refl
 offsets-long (ragged w p) os values cells e = ap suc (length-ends 0 (valuesAt (offsetAt os) values cells) ∙ length-map cells (valueAt (offsetAt os) values) ∙ e)
 
 -- ---- where the values of an array that keeps the rules lie
-
-rising-at : (os : List ℕ) → Rising os → (j : ℕ) → suc j < length os → getD os j 0 ≤ getD os (suc j) 0
-rising-at [] r j h = absurd (omega arith)
-rising-at (a ∷ os) r j h = go a os (r .1) j (omega arith)
-  where
-    go : (a : ℕ) (os : List ℕ) → RisingFrom a os → (j : ℕ) → j < length os → getD (a ∷ os) j 0 ≤ getD os j 0
-    go a [] r j h = absurd (omega arith)
-    go a (b ∷ os) r zero h = r .0
-    go a (b ∷ os) r (suc j) h = go b os (r .1) j (omega arith)
-
-pub begins-rise : (f : Form) (n : ℕ) (c : Content) → ValuesOk f n c → Rises (beginsAt f (c .offsets)) n
-begins-rise (fixed k o) n c p = fixed-rises 0 k n
-begins-rise (ragged w q) n c p = λ j h. rising-at (c .offsets) (p .1) j (omega (arith, p .0))
-
-pub begins-end : (f : Form) (n : ℕ) (c : Content) → ValuesOk f n c → beginsAt f (c .offsets) n ≤ length (c .values)
-begins-end (fixed k o) n c p = omega (arith, p .0)
-begins-end (ragged w q) n c p = le-of-eq (sym (last-at (c .offsets) n (p .0)) ∙ p .2)
 
 pub offsets-for : (f : Form) (shape : List ℕ) (c : Content) → ValuesOk f (volume shape) c → length (c .values) ≤ mostBytes → OffsetsFor f (c .offsets) shape
 offsets-for (fixed k o) shape c p h = tt

@@ -1,4 +1,3 @@
-pub mod Entries
 pub mod Ones
 pub mod Said
 pub mod Words

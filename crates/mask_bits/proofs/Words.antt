@@ -17,14 +17,13 @@ use Rattle.array.specs.Lists.{All, from, pieces}
 use Rattle.array.specs.Bytes.{digits, number, le, unle}
 use Rattle.array.specs.Buffers.{over, overAt}
 use Rattle.array.specs.Cells.{bitOf}
-use Rattle.array.proofs.Lists.{map-id, map-append, All-append, All-take, All-drop, take-within}
+use Rattle.array.proofs.Lists.{entry, map-id, map-append, All-append, All-take, All-drop, take-within}
 use Rattle.array.proofs.Bytes.{digits-number, length-digits, le-unle}
 use Rattle.array.proofs.Over.{over-again}
 use Rattle.codec.specs.Mask.{packedMask, bytesFor, bitsOf, padded, packBits}
 use Rattle.codec.proofs.Masks.{length-bits, bits-zeros, length-padded, length-packed, pack-append}
 use Rattle.codec.specs.MaskAt.{saidMask}
 use Rattle.mask_bits.specs.Bits.{packedWord}
-use Rattle.mask_bits.proofs.Entries.{entry}
 use Rattle.mask_bits.proofs.Ones.{part-bytes}
 use Rattle.mask_bits.proofs.Said.{bits-append, said-packed}
 
@@ -48,7 +47,7 @@ word-packed bs l p =
     let few : x < 256 = rw l at (number-below bs p) in
     let bits : digits 2 8 x ≡ bs = ap (λ (k : ℕ). digits 2 k x) (sym l) ∙ digits-number 2 (zero-lt-suc 1) bs p in
     ap halves (sym bits)
-    ∙ sym (entry (λ i. halves (digits 2 8 i)) 0 256 (sym packs) x few) ∙ entry (λ i. i) 0 256 (sym (map-id (from 0 256))) x few
+    ∙ sym (entry (λ i. halves (digits 2 8 i)) 256 (sym packs) 0 x few) ∙ entry (λ i. i) 256 (sym (map-id (from 0 256))) 0 x few
 
 -- ---- reading
 
@@ -62,7 +61,7 @@ pub eight-at : (b : ℕ) → b < 256 → le 8 (eightOf b) ≡ digits 2 8 b
 unfolding le
 eight-at b h =
     let all : List (List ℕ) = map (λ k. digits 256 8 (eightOf k)) (from 0 256) in
-    sym (entry (λ k. digits 256 8 (eightOf k)) [] {l = all} 256 refl b h) ∙ entry (digits 2 8) [] 256 eight b h
+    sym (entry (λ k. digits 256 8 (eightOf k)) {l = all} 256 refl [] b h) ∙ entry (digits 2 8) 256 eight [] b h
 
 -- ---- bytes that are all alike
 

@@ -19,7 +19,7 @@ use Rattle.array.specs.Offsets.{last, Rising}
 use Rattle.array.specs.Content.{Content, RaggedContent, unmasked, ValuesOk, sizeTest, endToEnd}
 use Rattle.array.specs.Places.{offsetAt, Rises, valuesAt}
 use Rattle.array.proofs.Lists.{length-pieces, take-within}
-use Rattle.valid.proofs.CheckLaws as check
+use Rattle.array.proofs.Offsets.{last-at}
 use Rattle.array.proofs.SubsetLaws.{cellsIn-below}
 use Rattle.codec.specs.Ragged.{getRagged}
 use Rattle.stored.specs.declared.vlen.Index.{Index}
@@ -27,7 +27,7 @@ use Rattle.stored.specs.Index.{offsetsIn, foundIn, raggedAt, endsIn, IndexWithi
 use Rattle.stored.proofs.CheckedIndex.{IndexFound, index-found}
 use Rattle.chunks.specs.Calls.{raggedCut}
 use Rattle.array.proofs.Places.{run-below}
-use Rattle.extract.proofs.Forms.{begins-rise}
+use Rattle.array.proofs.Places.{begins-rise}
 use Rattle.extract.proofs.Closing.{cut-is}
 use Rattle.partial.specs.Stored.{storedAt, DataAsked}
 
@@ -71,7 +71,7 @@ module _ (w : ℕ) (p : Place) (s : List ℕ) (i : Index) where
   many = length-map (pieces w (suc cells) (drop (i .index) s)) unle ∙ length-pieces w (suc cells) (drop (i .index) s)
 
   last-stored : last os ≡ storedAt w s (i .index) cells
-  last-stored = check.last-at os cells many ∙ stored-is w cells s (i .index) cells (omega arith)
+  last-stored = last-at os cells many ∙ stored-is w cells s (i .index) cells (omega arith)
 
   by-places : IndexWithin w s i → os ≡ 0 ∷ endsIn w s i → getRagged w p s cells ≡ unless (sizeTest (i .last)) 5 (gives (raggedAt w s i)) → Read w p s cells i
   by-places h os-are g =

@@ -1,7 +1,7 @@
 -- The check of the array's rules: offsets that begin at 0 and never fall, turn by turn; what content fits; what a check's answer says of the array.
 -- Assumes nothing.
 use mathlib.Core.Path.{_≡_, refl, sym, ap, ap₂, _∙_}
-use Prim.Native.Nat.{ℕ, zero, suc, _+_, _-_, _*_, _<_, _≤_}
+use Prim.Native.Nat.{ℕ, suc, _+_, _-_, _*_, _<_, _≤_}
 use native.Mathlib.Nat.{mul-le-mul}
 use native.Mathlib.Numerals.{add-one}
 use native.Mathlib.Omega.{arith}
@@ -14,7 +14,7 @@ use borrow.Author.Tests.{le-leb, lt-leb, eq-eqb, ne-eqb, not-true, not-false}
 use Rattle.array.specs.Limits.{mostBytes, mostCells}
 use Rattle.array.specs.Answer.{Answer, gives, refuses, unless, andThen}
 use Rattle.array.specs.Kind.{Kind, fixed, ragged, Order, Place}
-use Rattle.array.specs.Offsets.{last, lastFrom, risingTest, risingFromTest}
+use Rattle.array.specs.Offsets.{last, risingTest, risingFromTest}
 use Rattle.array.specs.Content.{Content, ArrayOk, contentTest, valuesTest, masksTest, arrayTest, sizeTest, unlessKept}
 use Rattle.valid.specs.Check.{checkOf, toldChecked}
 use Rattle.array.specs.Meaning.{formOf, kindOf}
@@ -22,6 +22,7 @@ use Rattle.array.specs.declared.kind.Kind as declared
 use Rattle.array.specs.declared.kind.Values.{Values}
 use Rattle.valid.specs.declared.array_bytes.Checked.{Checked}
 use Rattle.array.proofs.Answers.{passed}
+use Rattle.array.proofs.Offsets.{last-at}
 use Rattle.array.proofs.Rules.{array-ok, size-ok}
 
 and-true : (b : Bool) → b && true ≡ b
@@ -61,17 +62,6 @@ module _ {os : List ℕ} {n i : ℕ} {b : Bool} (c : Rise os n b i) where
         ∙ ap (λ (k : ℕ). b && (leb (getD os i 0) (getD os k 0) && risingFromTest (getD os k 0) (take (n - (i + 1)) (drop (suc k) os)))) (sym (add-one i))
         ∙ and-assoc b (leb (getD os i 0) (getD os (i + 1) 0)) (risingFromTest (getD os (i + 1) 0) (take (n - (i + 1)) (drop (suc (i + 1)) os)));
   }
-
--- the last of n + 1 offsets is the one at n
-pub last-at : (os : List ℕ) (n : ℕ) → length os ≡ suc n → last os ≡ getD os n 0
-last-at [] n h = absurd (omega arith)
-last-at (a ∷ os) n h = go os a n (omega arith)
-  where
-    go : (xs : List ℕ) (a m : ℕ) → length xs ≡ m → lastFrom a xs ≡ getD (a ∷ xs) m 0
-    go [] a zero h = refl
-    go [] a (suc m) h = absurd (omega arith)
-    go (x ∷ xs) a zero h = absurd (omega arith)
-    go (x ∷ xs) a (suc m) h = go xs x m (omega arith)
 
 -- a depth or a size times cells is far from wrapping
 pub small-product : (a b : ℕ) → a ≤ 255 → b ≤ mostCells → a * b ≤ 16711680

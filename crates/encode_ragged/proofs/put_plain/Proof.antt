@@ -3,7 +3,7 @@
 use Prim.Native.Nat.{_≤_, _+_, _*_}
 use native.Mathlib.Omega.{arith}
 use lib.ListN.{length}
-use Rattle.array.specs.Meaning.{widthOf, placeOf}
+use Rattle.array.specs.Meaning.{placeOf}
 use Rattle.encode_ragged.proofs.Placed.{data-room, index-room, length-room}
 use Rattle.encode_ragged.proofs.Parts.{plain-index, plain-long, plain-put}
 use borrow.Author.Needs.{needs}

@@ -7,10 +7,11 @@ use lib.ListN.{length}
 use borrow.Author.Needs.{needs}
 use Rattle.array.specs.Limits.{mostCells}
 use Rattle.array.specs.Meaning.{widthOf, placeOf}
+use Rattle.array.specs.Lists.{joined}
+use Rattle.array.specs.Places.{bytesAt, offsetAt, valuesAt}
 use Rattle.encode_cells.specs.Live.{liveAt}
 use Rattle.encode_cells.proofs.Runs.{live-le}
-use Rattle.encode_ragged.specs.Slices.{slicesAt, spansOf}
-use Rattle.encode_ragged.proofs.Spans.{slices-long}
+use Rattle.encode_ragged.proofs.Spans.{values-long}
 use Rattle.encode_ragged.proofs.Placed.{data-room, index-room, length-room}
 use Rattle.encode_ragged.proofs.Parts.{index-long, ragged-long, ragged-put}
 use Rattle.encode_ragged.proofs.put_ragged.Statement.{statement}
@@ -48,7 +49,7 @@ abbrev origin : tie.After-slice-known4 → tie.Start
 origin c = start-of-out (after-out (after-length-at c))
 
 fits : (c : tie.After-width-bytes) → let a = entry (c .before) .args in a .at +
-    (8 + c .width-bytes .result * (a .count + 1) + spansOf (a .offsets .now) (liveAt (a .cells) (a .masks .now) (a .level))) ≤ length (a .out .now)
+    (8 + c .width-bytes .result * (a .count + 1) + bytesAt (offsetAt (a .offsets .now)) (liveAt (a .cells) (a .masks .now) (a .level))) ≤ length (a .out .now)
 fits c =
     let s = entry (c .before) in
     let a = s .args in
@@ -60,14 +61,14 @@ fits c =
           (c .width-bytes .ensures) refl,
     )
 
-wrote : (c : tie.After-put-live-data) → let a = start (c .before) .args in c .put-live-data .result ≡ spansOf (a .offsets .now)
+wrote : (c : tie.After-put-live-data) → let a = start (c .before) .args in c .put-live-data .result ≡ bytesAt (offsetAt (a .offsets .now))
     (liveAt (a .cells) (a .masks .now) (a .level))
 wrote c =
     let s = start (c .before) in
     let a = s .args in
     _∙_ {b =
-    length (slicesAt (a .offsets .now) (a .values .now) (liveAt (a .cells) (a .masks .now) (a .level)))} (c .put-live-data .ensures .0)
-    (slices-long (a .masks .now) (a .level) (s .pre .2) (a .values .now) (s .pre .3))
+    length (joined (valuesAt (offsetAt (a .offsets .now)) (a .values .now) (liveAt (a .cells) (a .masks .now) (a .level))))} (c .put-live-data .ensures .0)
+    (values-long (a .masks .now) (a .level) (s .pre .2) (a .values .now) (s .pre .3))
 
 room : (c : tie.After-put-live-data) → let a = start (c .before) .args in a .at +
     (8 + c .before .before .before .width-bytes .result * (a .count + 1) + c .put-live-data .result) ≤ length
@@ -87,12 +88,11 @@ mul-index c = omega (arith, fits c)
 data-at-requires : tie.Need-data-at-requires
 data-at-requires c κs = omega (arith, fits c)
 
-data-fits : (c : tie.After-data-at) → let a = begun c .args in a .at + c .data-at .result + spansOf
-    (a .offsets .now)
+data-fits : (c : tie.After-data-at) → let a = begun c .args in a .at + c .data-at .result + bytesAt (offsetAt (a .offsets .now))
     (liveAt (a .cells) (a .masks .now) (a .level)) ≤ length (a .out .now)
 data-fits c =
     let a = begun c .args in
-    data-room (placeOf (a .place)) (a .at) (c .before .width-bytes .result * (a .count + 1)) (spansOf (a .offsets .now) (liveAt (a .cells) (a .masks .now) (a .level)))
+    data-room (placeOf (a .place)) (a .at) (c .before .width-bytes .result * (a .count + 1)) (bytesAt (offsetAt (a .offsets .now)) (liveAt (a .cells) (a .masks .now) (a .level)))
     (fits (c .before)) (c .data-at .ensures)
 
 add-data : tie.Need-add-data
@@ -109,7 +109,7 @@ put-live-data-requires c κs =
       omega (
         arith,
         data-fits (c .before),
-        slices-long (a .masks .now) (a .level) (p .2) (a .values .now)
+        values-long (a .masks .now) (a .level) (p .2) (a .values .now)
             (p .3),
       ),
     )

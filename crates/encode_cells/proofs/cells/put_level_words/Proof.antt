@@ -8,32 +8,34 @@ use lib.ListN.{length}
 use borrow.Author.Needs.{needs}
 use Rattle.array.specs.Buffers.{overAt}
 use Rattle.array.specs.Meaning.{orderOf}
+use Rattle.array.specs.Kind.{fixed}
+use Rattle.array.specs.Places.{fixedAt, valuesAt}
 use Rattle.word.specs.Word.{wordTest}
 use Rattle.encode_cells.specs.Live.{liveAt, Planes}
-use Rattle.encode_cells.specs.Pieces.{piecesAt}
+use Rattle.codec.specs.Values.{putValues}
 use Rattle.encode_cells.proofs.cells.put_level_words.Statement.{statement}
 use Rattle.encode_cells.proofs.cells.put_level_words.Tie as tie
 
 abbrev start : tie.After-shared-slice-known2 → tie.Start
 start c = c .before .before .before
 
--- the pieces of the cells that level l counts
-abbrev pieces : tie.Start → ℕ → List ℕ
-pieces s l = piecesAt (orderOf (s .args .order)) (s .args .size) (s .args .s .now) (liveAt (s .args .cells) (s .args .masks .now) l)
+-- the values of the cells that level l counts
+abbrev put : tie.Start → ℕ → List ℕ
+put s l = putValues (fixed (s .args .size) (orderOf (s .args .order))) (valuesAt (fixedAt 0 (s .args .size)) (s .args .s .now) (liveAt (s .args .cells) (s .args .masks .now) l))
 
 -- what the loop of level l asks, and gives
 abbrev Asked : tie.Start → ℕ → Type 0
 Asked s l =
     Planes (s .args .cells) (s .args .masks .now) l × (s .args .count ≡ length (liveAt (s .args .cells) (s .args .masks .now) l))
     × (wordTest (s .args .size) ≡ true) × (s .args .cells * s .args .size ≤ length (s .args .s .now))
-    × (s .args .to + length (pieces s l) ≤ length (s .args .out .now))
+    × (s .args .to + length (put s l) ≤ length (s .args .out .now))
 
 asked : (s : tie.Start) {l : ℕ} → s .args .level ≡ l → Asked s l
 asked s e = subst (Asked s) e (s .pre)
 
-given : (s : tie.Start) {l : ℕ} → s .args .level ≡ l → {o : List ℕ} → o ≡ overAt (s .args .to) (pieces s l) (s .args .out .now)
-    → o ≡ overAt (s .args .to) (pieces s (s .args .level)) (s .args .out .now)
-given s {l = l} e q = q ∙ ap (λ (k : ℕ). overAt (s .args .to) (pieces s k) (s .args .out .now)) (sym e)
+given : (s : tie.Start) {l : ℕ} → s .args .level ≡ l → {o : List ℕ} → o ≡ overAt (s .args .to) (put s l) (s .args .out .now)
+    → o ≡ overAt (s .args .to) (put s (s .args .level)) (s .args .out .now)
+given s {l = l} e q = q ∙ ap (λ (k : ℕ). overAt (s .args .to) (put s k) (s .args .out .now)) (sym e)
 
 put-live-words-requires : tie.Need-put-live-words-requires
 put-live-words-requires c κs = asked (start (c .before .before)) (c .before .match .keys1)

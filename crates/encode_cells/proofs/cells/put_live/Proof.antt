@@ -7,8 +7,10 @@ use native.Mathlib.Omega.{arith}
 use lib.ListN.{length}
 use Rattle.array.specs.Buffers.{overAt}
 use Rattle.array.specs.Meaning.{orderOf}
-use Rattle.encode_cells.specs.Live.{liveTest, liveAt}
-use Rattle.encode_cells.specs.Pieces.{piecesAt}
+use Rattle.array.specs.Places.{fixedAt, valuesAt, shownAt}
+use Rattle.array.specs.Kind.{fixed}
+use Rattle.encode_cells.specs.Live.{liveAt}
+use Rattle.codec.specs.Values.{putValues}
 use Rattle.encode_cells.proofs.Placing.{laid-as}
 use Rattle.encode_cells.proofs.Packing.{all-pieces, all-long}
 use borrow.Author.Needs.{needs}
@@ -21,23 +23,23 @@ whole c = c .before .before .before .before
 abbrev parted : tie.Else1 → tie.Start
 parted c = c .before .before .before .before
 
--- the pieces of size k of the cells that the level counts
-abbrev pieces : tie.Start → ℕ → List ℕ
-pieces s k = piecesAt (orderOf (s .args .order)) k (s .args .s .now) (liveAt (s .args .cells) (s .args .masks .now) (s .args .level))
+-- the values of size k of the cells that the level counts
+abbrev put : tie.Start → ℕ → List ℕ
+put s k = putValues (fixed k (orderOf (s .args .order))) (valuesAt (fixedAt 0 k) (s .args .s .now) (liveAt (s .args .cells) (s .args .masks .now) (s .args .level)))
 
 -- the room that the loop of size k asks, and what it gives
-room : (s : tie.Start) {k : ℕ} → s .args .size ≡ k → (s .args .cells * k ≤ length (s .args .s .now)) × (s .args .to + length (pieces s k) ≤ length (s .args .out .now))
-room s e = subst (λ (j : ℕ). (s .args .cells * j ≤ length (s .args .s .now)) × (s .args .to + length (pieces s j) ≤ length (s .args .out .now))) e (s .pre .2, s .pre .3)
+room : (s : tie.Start) {k : ℕ} → s .args .size ≡ k → (s .args .cells * k ≤ length (s .args .s .now)) × (s .args .to + length (put s k) ≤ length (s .args .out .now))
+room s e = subst (λ (j : ℕ). (s .args .cells * j ≤ length (s .args .s .now)) × (s .args .to + length (put s j) ≤ length (s .args .out .now))) e (s .pre .2, s .pre .3)
 
-given : (s : tie.Start) {k : ℕ} → s .args .size ≡ k → {o : List ℕ} → o ≡ overAt (s .args .to) (pieces s k) (s .args .out .now)
-    → o ≡ overAt (s .args .to) (pieces s (s .args .size)) (s .args .out .now)
-given s {k = k} e q = q ∙ ap (λ (j : ℕ). overAt (s .args .to) (pieces s j) (s .args .out .now)) (sym e)
+given : (s : tie.Start) {k : ℕ} → s .args .size ≡ k → {o : List ℕ} → o ≡ overAt (s .args .to) (put s k) (s .args .out .now)
+    → o ≡ overAt (s .args .to) (put s (s .args .size)) (s .args .out .now)
+given s {k = k} e q = q ∙ ap (λ (j : ℕ). overAt (s .args .to) (put s j) (s .args .out .now)) (sym e)
 
 copy-cells-requires : tie.Need-copy-cells-requires
 copy-cells-requires c κs =
     let s = whole (c .before) in
     let a = s .args in
-    let long = all-long (orderOf (a .order)) (a .size) (a .s .now) (liveTest (a .cells) (a .masks .now) (a .level)) (s .pre .2) (s .pre .1) (c .before .if1 .taken) in
+    let long = all-long (orderOf (a .order)) (a .size) (a .s .now) (shownAt (a .cells) (a .masks .now) (a .level)) (s .pre .2) (s .pre .1) (c .before .if1 .taken) in
     (omega (arith, s .pre .3, long), omega (arith, s .pre .2))
 
 put-level-words-requires : tie.Need-put-level-words-requires
@@ -70,7 +72,7 @@ returns c =
     let s = whole t in
     let a = s .args in
     laid-as (a .to) (a .out .now) (c .before .before .copy-cells .ensures)
-    (all-pieces (orderOf (a .order)) (a .size) (a .s .now) (liveTest (a .cells) (a .masks .now) (a .level)) (s .pre .1) (t .if1 .taken))
+    (all-pieces (orderOf (a .order)) (a .size) (a .s .now) (shownAt (a .cells) (a .masks .now) (a .level)) (s .pre .1) (t .if1 .taken))
 
 returns-2 : tie.Need-returns-2
 returns-2 c = let m = c .before .before .before .before in given (parted (m .before)) (m .match .keys1) (c .before .before .put-level-words .ensures)

@@ -6,13 +6,13 @@ use native.Mathlib.Omega.{arith}
 use lib.ListN.{length}
 use Rattle.array.specs.Limits.{mostCells}
 use Rattle.array.specs.Meaning.{orderOf}
-use Rattle.encode_cells.specs.Live.{liveTest}
+use Rattle.array.specs.Places.{shownAt}
 use Rattle.encode_cells.proofs.Gathering.{Storing, storing-begins, storing-same, storing-ends, storing-within, storing-source, storing-room, storing-more}
 use Rattle.encode_cells.proofs.cells.put_live_runs.Statement.{statement}
 use Rattle.encode_cells.proofs.cells.put_live_runs.Tie as tie
 
 abbrev Inv-loop : tie.InvT-loop
-Inv-loop out₀ to s size order masks cells level i₀ done₀ out i done = Storing (orderOf order) size s (liveTest cells masks level) cells out₀ to out i done
+Inv-loop out₀ to s size order masks cells level i₀ done₀ out i done = Storing (orderOf order) size s (shownAt cells masks level) cells out₀ to out i done
 
 abbrev μ-loop : tie.MeasureT-loop
 μ-loop out₀ to s size order masks cells level i₀ done₀ out i done = cells - i

@@ -1,7 +1,9 @@
 -- `encode_cells::cells::put_live_words` meets its contract: by the laws of Packing.
 -- Assumes nothing.
 use borrow.Author.Needs.{needs}
-use mathlib.Core.Path.{ap, _∙_}
+use mathlib.Core.Path.{sym, ap, _∙_}
+use native.Mathlib.Nat.{zero-add}
+use Rattle.array.specs.Kind.{ordered}
 use Prim.Native.Nat.{ℕ, _≤_, _<_, _+_, _*_, _-_}
 use native.Mathlib.Omega.{arith}
 use lib.ListN.{length}
@@ -9,16 +11,19 @@ use mathlib.Core.List.{List}
 use Rattle.array.specs.Buffers.{overAt}
 use Rattle.array.specs.Limits.{mostCells}
 use Rattle.array.specs.Meaning.{orderOf}
-use Rattle.encode_cells.specs.Live.{liveTest, liveAt}
-use Rattle.encode_cells.specs.Pieces.{orderedAt}
+use Rattle.array.specs.Places.{shownAt}
+use Rattle.encode_cells.specs.Live.{liveAt}
+use Rattle.array.proofs.Places.{fixed-value}
+use Rattle.encode_cells.proofs.Placing.{laid-as}
+use Rattle.encode_cells.proofs.Gathering.{orderedAt, ordered-put, ordered-sized}
 use Rattle.encode_cells.proofs.Runs.{live-le}
 use Rattle.encode_cells.proofs.LiveMarks.{mark-le}
-use Rattle.encode_cells.proofs.Packing.{Packing, packing-begins, packing-same, packing-cell, packing-room, packing-more, packing-ends, pieces-sized, piece-in}
+use Rattle.encode_cells.proofs.Packing.{Packing, packing-begins, packing-same, packing-cell, packing-room, packing-more, packing-ends, piece-in}
 use Rattle.encode_cells.proofs.cells.put_live_words.Statement.{statement}
 use Rattle.encode_cells.proofs.cells.put_live_words.Tie as tie
 
 abbrev Inv-loop : tie.InvT-loop
-Inv-loop out₀ to s size order masks cells level count i₀ done₀ out i done = Packing (liveTest cells masks level) cells (orderedAt (orderOf order) size s) size out₀ to out i done
+Inv-loop out₀ to s size order masks cells level count i₀ done₀ out i done = Packing (shownAt cells masks level) cells (orderedAt (orderOf order) size s) size out₀ to out i done
 
 abbrev μ-loop : tie.MeasureT-loop
 μ-loop out₀ to s size order masks cells level count i₀ done₀ out i done = cells - i
@@ -61,7 +66,8 @@ loop-holds : tie.Need-loop-holds Inv-loop μ-loop
 loop-holds c =
     let s = c .before .before .before in
     let a = s .args in
-    packing-begins (pieces-sized (orderOf (a .order)) (a .size) (a .cells) (a .s .now) (s .pre .3)) (s .pre .4)
+    let put = ordered-put (orderOf (a .order)) (a .size) (a .s .now) (liveAt (a .cells) (a .masks .now) (a .level)) in
+    packing-begins (ordered-sized (orderOf (a .order)) (a .size) (a .s .now) (s .pre .3)) (omega (arith, s .pre .4, ap length put))
 
 mul-word-at : tie.Need-mul-word-at Inv-loop μ-loop
 mul-word-at c = omega (arith, source c)
@@ -106,15 +112,20 @@ loop-again c =
     let l = t .before in
     let a = start l .args in
     let p = wrote (c .before) in
+    let piece = fixed-value 0 (a .size) (a .s .now) (l .loop .i) (zero-add (l .loop .i * a .size)) in
     packing-more (l .loop .inv) (more t)
-    (p .put-word .ensures ∙ ap (λ (x : List ℕ). overAt (a .to + l .loop .done * a .size) x (l .loop .out)) (p .before .before .word-at .ensures))
+    (laid-as (a .to + l .loop .done * a .size) (l .loop .out) (p .put-word .ensures) (p .before .before .word-at .ensures ∙ ap (ordered (orderOf (a .order))) (sym piece)))
     (ap (λ (m : ℕ). l .loop .done + m) (c .live-mark .ensures))
 
 same-length : tie.Need-same-length Inv-loop μ-loop
 same-length c = packing-same (c .before .loop .inv)
 
 returns : tie.Need-returns Inv-loop μ-loop
-returns c = packing-ends (c .before .loop .inv) (omega (arith, c .loop-test .left, start (c .before) .pre .1))
+returns c =
+    let s = start (c .before) in
+    let a = s .args in
+    laid-as (a .to) (a .out .now) (packing-ends (c .before .loop .inv) (omega (arith, c .loop-test .left, s .pre .1)))
+    (ordered-put (orderOf (a .order)) (a .size) (a .s .now) (liveAt (a .cells) (a .masks .now) (a .level)))
 
 pub put-live-words-spec : {M : Type 1} → statement M
 put-live-words-spec =

@@ -3,14 +3,15 @@
 use mathlib.Core.Path.{_≡_, sym, _∙_}
 use Prim.Native.Nat.{_≤_, _+_, _-_}
 use native.Mathlib.Omega.{arith}
-use Rattle.encode_cells.specs.Live.{liveTest, runOf}
+use Rattle.array.specs.Places.{shownAt}
+use Rattle.encode_cells.specs.Live.{runOf}
 use Rattle.encode_cells.proofs.Runs.{live-none, run-stops, run-goes, run-none, run-all}
 use Rattle.encode_cells.proofs.LiveMarks.{zero-false, one-true}
 use Rattle.encode_cells.proofs.live.live_run.Statement.{statement}
 use Rattle.encode_cells.proofs.live.live_run.Tie as tie
 
 abbrev Inv-loop : tie.InvT-loop
-Inv-loop masks cells level i j₀ j = (i ≤ j) × (j ≤ cells) × (runOf (liveTest cells masks level) i (cells - i) ≡ (j - i) + runOf (liveTest cells masks level) j (cells - j))
+Inv-loop masks cells level i j₀ j = (i ≤ j) × (j ≤ cells) × (runOf (shownAt cells masks level) i (cells - i) ≡ (j - i) + runOf (shownAt cells masks level) j (cells - j))
 
 abbrev μ-loop : tie.MeasureT-loop
 μ-loop masks cells level i j₀ j = cells - j
@@ -18,7 +19,7 @@ abbrev μ-loop : tie.MeasureT-loop
 returns : tie.Need-returns Inv-loop μ-loop
 returns c =
     let a = c .before .before .args in
-    sym (run-all (liveTest (a .cells) (a .masks .now) (a .level)) (λ i. live-none (a .cells) (a .masks .now) i (a .level) (c .if1 .taken)) (a .i) (a .cells - a .i))
+    sym (run-all (shownAt (a .cells) (a .masks .now) (a .level)) (λ i. live-none (a .cells) (a .masks .now) i (a .level) (c .if1 .taken)) (a .i) (a .cells - a .i))
 
 loop-holds : tie.Need-loop-holds Inv-loop μ-loop
 loop-holds c = (omega arith, omega arith, omega arith)
@@ -27,20 +28,20 @@ returns-2 : tie.Need-returns-2 Inv-loop μ-loop
 returns-2 c =
     let l = c .before .before .before in
     let a = l .before .before .before .args in
-    let dead = zero-false (liveTest (a .cells) (a .masks .now) (a .level) (l .loop .j)) (sym (c .before .live-mark .ensures) ∙ c .if2 .taken) in
-    omega (arith, l .loop .inv .2, run-stops (liveTest (a .cells) (a .masks .now) (a .level)) (l .loop .j) (a .cells) (c .before .before .loop-test .taken) dead)
+    let dead = zero-false (shownAt (a .cells) (a .masks .now) (a .level) (l .loop .j)) (sym (c .before .live-mark .ensures) ∙ c .if2 .taken) in
+    omega (arith, l .loop .inv .2, run-stops (shownAt (a .cells) (a .masks .now) (a .level)) (l .loop .j) (a .cells) (c .before .before .loop-test .taken) dead)
 
 loop-again : tie.Need-loop-again Inv-loop μ-loop
 loop-again c =
     let l = c .before .before .before in
     let a = l .before .before .before .args in
-    let one = one-true (liveTest (a .cells) (a .masks .now) (a .level) (l .loop .j)) (λ z. c .if2 .left (c .before .live-mark .ensures ∙ z)) in
-    (omega arith, omega arith, omega (arith, l .loop .inv .2, run-goes (liveTest (a .cells) (a .masks .now) (a .level)) (l .loop .j) (a .cells) (c .before .before .loop-test .taken) one))
+    let one = one-true (shownAt (a .cells) (a .masks .now) (a .level) (l .loop .j)) (λ z. c .if2 .left (c .before .live-mark .ensures ∙ z)) in
+    (omega arith, omega arith, omega (arith, l .loop .inv .2, run-goes (shownAt (a .cells) (a .masks .now) (a .level)) (l .loop .j) (a .cells) (c .before .before .loop-test .taken) one))
 
 returns-3 : tie.Need-returns-3 Inv-loop μ-loop
 returns-3 c =
     let a = c .before .before .before .before .args in
-    omega (arith, c .before .loop .inv .2, run-none (liveTest (a .cells) (a .masks .now) (a .level)) (c .before .loop .j) (a .cells) (c .loop-test .left))
+    omega (arith, c .before .loop .inv .2, run-none (shownAt (a .cells) (a .masks .now) (a .level)) (c .before .loop .j) (a .cells) (c .loop-test .left))
 
 pub live-run-spec : {M : Type 1} → statement M
 live-run-spec =

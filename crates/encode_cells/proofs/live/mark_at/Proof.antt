@@ -1,7 +1,7 @@
 -- `encode_cells::live::mark_at` meets its contract: the byte is counted as one, or not.
 -- Assumes nothing.
 use mathlib.Core.Path.{_∙_}
-use Rattle.encode_cells.specs.Live.{maskAt}
+use Rattle.array.specs.Places.{maskAt}
 use Rattle.encode_cells.proofs.LiveMarks.{set-one}
 use borrow.Author.Needs.{needs}
 use Rattle.encode_cells.proofs.live.mark_at.Statement.{statement}

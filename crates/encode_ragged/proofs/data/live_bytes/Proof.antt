@@ -2,10 +2,10 @@
 -- Assumes nothing.
 use native.Mathlib.Omega.{arith}
 use borrow.Author.Needs.{needs}
-use Rattle.encode_cells.specs.Live.{liveTest}
-use Rattle.valid.proofs.CheckLaws.{last-at}
-use Rattle.encode_ragged.proofs.Spans.{all-spans}
-use Rattle.encode_ragged.proofs.Summing.{spans-le}
+use Rattle.array.specs.Places.{shownAt}
+use Rattle.array.proofs.Offsets.{last-at}
+use Rattle.encode_ragged.proofs.Spans.{all-bytes}
+use Rattle.encode_ragged.proofs.Summing.{bytes-le}
 use Rattle.encode_ragged.proofs.data.live_bytes.Statement.{statement}
 use Rattle.encode_ragged.proofs.data.live_bytes.Tie as tie
 
@@ -15,15 +15,14 @@ start c = c .before .before .before
 returns : tie.Need-returns
 returns c =
     let s = start (c .before) in
-    all-spans (s .pre .2) (s .args .masks .now) (s .args .level) (s .pre .1) (c .if1 .taken)
+    all-bytes (s .pre .2) (s .args .masks .now) (s .args .level) (s .pre .1) (c .if1 .taken)
 
 returns-2 : tie.Need-returns-2
 returns-2 c =
     let s = start (c .before .before) in
     let a = s .args in
     let o = s .pre .2 in
-    let os = a .offsets .now in
-    omega (arith, c .if2 .taken, last-at os (a .cells) (o .counted), spans-le os (liveTest (a .cells) (a .masks .now) (a .level)) (a .cells) (o .counted) (o .rising))
+    omega (arith, c .if2 .taken, last-at (a .offsets .now) (a .cells) (o .counted), bytes-le o (shownAt (a .cells) (a .masks .now) (a .level)))
 
 pub live-bytes-spec : {M : Type 1} → statement M
 live-bytes-spec = tie.close (tie.spec (λ c. search needs) (λ c. search needs) returns returns-2 (λ c κs. search needs) (λ c. search needs))

@@ -7,8 +7,10 @@ use lib.ListN.{length}
 use borrow.Author.Needs.{needs}
 use Rattle.array.specs.Buffers.{overAt}
 use Rattle.array.specs.Offsets.{last}
+use Rattle.array.specs.Lists.{joined}
+use Rattle.array.specs.Places.{offsetAt, valuesAt}
 use Rattle.encode_cells.specs.Live.{liveAt, Planes}
-use Rattle.encode_ragged.specs.Slices.{slicesAt, Offsets}
+use Rattle.encode_ragged.specs.Offsets.{Offsets}
 use Rattle.encode_ragged.proofs.data.put_level_runs.Statement.{statement}
 use Rattle.encode_ragged.proofs.data.put_level_runs.Tie as tie
 
@@ -18,7 +20,7 @@ start c = c .before .before .before .before
 
 -- what the level counts
 abbrev slices : tie.Start → ℕ → List ℕ
-slices c l = slicesAt (c .args .offsets .now) (c .args .values .now) (liveAt (c .args .cells) (c .args .masks .now) l)
+slices c l = joined (valuesAt (offsetAt (c .args .offsets .now)) (c .args .values .now) (liveAt (c .args .cells) (c .args .masks .now) l))
 
 asked : (c : tie.Start) {l : ℕ} → c .args .level ≡ l
     → Planes (c .args .cells) (c .args .masks .now) l × Offsets (c .args .cells) (c .args .offsets .now) × (last (c .args .offsets .now) ≡ length (c .args .values .now))

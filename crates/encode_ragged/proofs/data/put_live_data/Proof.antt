@@ -5,10 +5,11 @@ use native.Mathlib.Omega.{arith}
 use lib.ListN.{length}
 use lib.Seq.{take-all}
 use borrow.Author.Needs.{needs}
+use Rattle.array.specs.Lists.{joined}
+use Rattle.array.specs.Places.{offsetAt, valuesAt}
 use Rattle.encode_cells.specs.Live.{liveAt}
 use Rattle.encode_cells.proofs.Placing.{laid-as}
-use Rattle.encode_ragged.specs.Slices.{slicesAt}
-use Rattle.encode_ragged.proofs.Spans.{all-slices}
+use Rattle.encode_ragged.proofs.Spans.{all-values}
 use Rattle.encode_ragged.proofs.Summing.{none-written}
 use Rattle.encode_ragged.proofs.data.put_live_data.Statement.{statement}
 use Rattle.encode_ragged.proofs.data.put_live_data.Tie as tie
@@ -18,8 +19,8 @@ start c = c .before .before .before .before
 
 -- every cell counts
 full : (s : tie.Start) → s .args .count ≡ s .args .cells
-    → slicesAt (s .args .offsets .now) (s .args .values .now) (liveAt (s .args .cells) (s .args .masks .now) (s .args .level)) ≡ s .args .values .now
-full s e = all-slices (s .pre .2) (s .args .masks .now) (s .args .level) (s .pre .1) e (s .args .values .now) (s .pre .3)
+    → joined (valuesAt (offsetAt (s .args .offsets .now)) (s .args .values .now) (liveAt (s .args .cells) (s .args .masks .now) (s .args .level))) ≡ s .args .values .now
+full s e = all-values (s .pre .2) (s .args .masks .now) (s .args .level) (s .pre .1) e (s .args .values .now) (s .pre .3)
 
 copy-many-requires : tie.Need-copy-many-requires
 copy-many-requires c κs =

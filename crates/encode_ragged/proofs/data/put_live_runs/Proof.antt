@@ -6,14 +6,14 @@ use native.Mathlib.Omega.{arith}
 use lib.ListN.{length, getD}
 use borrow.Author.Needs.{needs}
 use Rattle.array.specs.Limits.{mostCells}
-use Rattle.encode_cells.specs.Live.{liveTest}
+use Rattle.array.specs.Places.{shownAt}
 use Rattle.encode_ragged.proofs.Slicing.{Slicing, slicing-begins, slicing-same, slicing-ends, slicing-wrote}
 use Rattle.encode_ragged.proofs.Slicing.{slicing-skip, slicing-inside, slicing-rises, slicing-source, slicing-room, slicing-more}
 use Rattle.encode_ragged.proofs.data.put_live_runs.Statement.{statement}
 use Rattle.encode_ragged.proofs.data.put_live_runs.Tie as tie
 
 abbrev Inv-loop : tie.InvT-loop
-Inv-loop out₀ to values offsets masks cells level i₀ done₀ out i done = Slicing (liveTest cells masks level) cells offsets values out₀ to out i done
+Inv-loop out₀ to values offsets masks cells level i₀ done₀ out i done = Slicing (shownAt cells masks level) cells offsets values out₀ to out i done
 
 abbrev μ-loop : tie.MeasureT-loop
 μ-loop out₀ to values offsets masks cells level i₀ done₀ out i done = cells - i

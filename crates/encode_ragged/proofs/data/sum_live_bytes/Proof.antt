@@ -5,13 +5,13 @@ use native.Mathlib.Omega.{arith}
 use lib.ListN.{length}
 use borrow.Author.Needs.{needs}
 use Rattle.array.specs.Limits.{mostCells}
-use Rattle.encode_cells.specs.Live.{liveTest}
+use Rattle.array.specs.Places.{shownAt}
 use Rattle.encode_ragged.proofs.Summing.{Summing, summing-begins, summing-ends, summing-inside, summing-rises, summing-fits, summing-more}
 use Rattle.encode_ragged.proofs.data.sum_live_bytes.Statement.{statement}
 use Rattle.encode_ragged.proofs.data.sum_live_bytes.Tie as tie
 
 abbrev Inv-loop : tie.InvT-loop
-Inv-loop offsets masks cells level total₀ i₀ total i = Summing (liveTest cells masks level) cells offsets total i
+Inv-loop offsets masks cells level total₀ i₀ total i = Summing (shownAt cells masks level) cells offsets total i
 
 abbrev μ-loop : tie.MeasureT-loop
 μ-loop offsets masks cells level total₀ i₀ total i = cells - i

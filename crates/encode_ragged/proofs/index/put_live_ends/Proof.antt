@@ -7,9 +7,10 @@ use lib.ListN.{length}
 use borrow.Author.Needs.{needs}
 use Rattle.array.specs.Buffers.{overAt}
 use Rattle.array.specs.Meaning.{widthOf}
+use Rattle.array.specs.Places.{endsAt, offsetAt}
 use Rattle.codec.specs.Ragged.{indexOf}
 use Rattle.encode_cells.specs.Live.{liveAt, Planes}
-use Rattle.encode_ragged.specs.Slices.{endsAt, Offsets}
+use Rattle.encode_ragged.specs.Offsets.{Offsets}
 use Rattle.encode_ragged.proofs.index.put_live_ends.Statement.{statement}
 use Rattle.encode_ragged.proofs.index.put_live_ends.Tie as tie
 
@@ -19,7 +20,7 @@ start c = c .before .before .before
 
 -- where what the level counts ends
 abbrev ends : tie.Start → ℕ → List ℕ
-ends c l = indexOf (widthOf (c .args .width)) (endsAt (c .args .offsets .now) 0 (liveAt (c .args .cells) (c .args .masks .now) l))
+ends c l = indexOf (widthOf (c .args .width)) (endsAt (offsetAt (c .args .offsets .now)) 0 (liveAt (c .args .cells) (c .args .masks .now) l))
 
 asked : (c : tie.Start) {l : ℕ} → c .args .level ≡ l
     → Planes (c .args .cells) (c .args .masks .now) l × (c .args .count ≡ length (liveAt (c .args .cells) (c .args .masks .now) l)) × Offsets (c .args .cells) (c .args .offsets .now)

@@ -7,10 +7,10 @@ use native.Mathlib.Omega.{arith}
 use lib.ListN.{length}
 use borrow.Author.Needs.{needs}
 use Rattle.array.specs.Meaning.{widthOf}
+use Rattle.array.specs.Places.{endsAt, offsetAt}
 use Rattle.codec.specs.Ragged.{indexOf}
 use Rattle.encode_cells.specs.Live.{liveAt}
 use Rattle.encode_cells.proofs.Placing.{laid-as}
-use Rattle.encode_ragged.specs.Slices.{endsAt}
 use Rattle.encode_ragged.proofs.Spans.{all-ends}
 use Rattle.encode_ragged.proofs.Parts.{index-head, index-laid}
 use Rattle.encode_ragged.proofs.index.put_live_index.Statement.{statement}
@@ -24,12 +24,12 @@ abbrev some : tie.After-width-bytes → tie.Start
 some w = let o = w .before .before .before .before in start (o .before .before)
 
 room : (c : tie.Start) → c .args .to + (widthOf (c .args .width) + length
-    (indexOf (widthOf (c .args .width)) (endsAt (c .args .offsets .now) 0 (liveAt (c .args .cells) (c .args .masks .now) (c .args .level))))) ≤ length (c .args .out .now)
-room c = let a = c .args in omega (arith, c .pre .3, index-head (widthOf (a .width)) (endsAt (a .offsets .now) 0 (liveAt (a .cells) (a .masks .now) (a .level))))
+    (indexOf (widthOf (c .args .width)) (endsAt (offsetAt (c .args .offsets .now)) 0 (liveAt (c .args .cells) (c .args .masks .now) (c .args .level))))) ≤ length (c .args .out .now)
+room c = let a = c .args in omega (arith, c .pre .3, index-head (widthOf (a .width)) (endsAt (offsetAt (a .offsets .now)) 0 (liveAt (a .cells) (a .masks .now) (a .level))))
 
 -- every cell counts
 full : (s : tie.Start) → s .args .count ≡ s .args .cells → indexOf (widthOf (s .args .width)) (s .args .offsets .now)
-    ≡ indexOf (widthOf (s .args .width)) (0 ∷ endsAt (s .args .offsets .now) 0 (liveAt (s .args .cells) (s .args .masks .now) (s .args .level)))
+    ≡ indexOf (widthOf (s .args .width)) (0 ∷ endsAt (offsetAt (s .args .offsets .now)) 0 (liveAt (s .args .cells) (s .args .masks .now) (s .args .level)))
 full s e = ap (indexOf (widthOf (s .args .width))) (all-ends (s .pre .2) (s .args .masks .now) (s .args .level) (s .pre .1) e)
 
 put-index-requires : tie.Need-put-index-requires
@@ -60,7 +60,7 @@ returns-2 c =
     let w = c .before .before .before .before in
     let s = some w in
     let a = s .args in
-    index-laid (a .to) (endsAt (a .offsets .now) 0 (liveAt (a .cells) (a .masks .now) (a .level))) (a .out .now) (s .pre .3) (w .width-bytes .ensures)
+    index-laid (a .to) (endsAt (offsetAt (a .offsets .now)) 0 (liveAt (a .cells) (a .masks .now) (a .level))) (a .out .now) (s .pre .3) (w .width-bytes .ensures)
     (w .before .before .before .put-offset .ensures) (c .before .before .put-live-ends .ensures)
 
 pub put-live-index-spec : {M : Type 1} → statement M

@@ -7,7 +7,8 @@ use lib.ListN.{length}
 use borrow.Author.Needs.{needs}
 use Rattle.array.specs.Limits.{mostCells}
 use Rattle.array.specs.Meaning.{widthOf}
-use Rattle.encode_cells.specs.Live.{liveTest, liveAt}
+use Rattle.array.specs.Places.{shownAt}
+use Rattle.encode_cells.specs.Live.{liveAt}
 use Rattle.encode_cells.proofs.LiveMarks.{mark-le}
 use Rattle.encode_ragged.proofs.Summing.{summing-inside, summing-rises, summing-fits}
 use Rattle.encode_ragged.proofs.Indexing.{Indexing, indexing-begins, indexing-same, indexing-ends, indexing-inside, indexing-room, indexing-more}
@@ -15,7 +16,7 @@ use Rattle.encode_ragged.proofs.index.put_marked_ends.Statement.{statem
 use Rattle.encode_ragged.proofs.index.put_marked_ends.Tie as tie
 
 abbrev Inv-loop : tie.InvT-loop
-Inv-loop out₀ to width offsets masks cells level count k i₀ total₀ done₀ out i total done = Indexing (liveTest cells masks level) cells (widthOf width) offsets out₀ to out i total done
+Inv-loop out₀ to width offsets masks cells level count k i₀ total₀ done₀ out i total done = Indexing (shownAt cells masks level) cells (widthOf width) offsets out₀ to out i total done
 
 abbrev μ-loop : tie.MeasureT-loop
 μ-loop out₀ to width offsets masks cells level count k i₀ total₀ done₀ out i total done = cells - i
