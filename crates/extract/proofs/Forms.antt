@@ -45,19 +45,6 @@ offsets-long (ragged w p) os values cells e = ap suc (length-ends 0 (valuesAt (o
 
 -- ---- where the values of an array that keeps the rules lie
 
-rising-at : (os : List ℕ) → Rising os → (j : ℕ) → suc j < length os → getD os j 0 ≤ getD os (suc j) 0
-rising-at [] r j h = absurd (omega arith)
-rising-at (a ∷ os) r j h = go a os (r .1) j (omega arith)
-  where
-    go : (a : ℕ) (os : List ℕ) → RisingFrom a os → (j : ℕ) → j < length os → getD (a ∷ os) j 0 ≤ getD os j 0
-    go a [] r j h = absurd (omega arith)
-    go a (b ∷ os) r zero h = r .0
-    go a (b ∷ os) r (suc j) h = go b os (r .1) j (omega arith)
-
-pub begins-rise : (f : Form) (n : ℕ) (c : Content) → ValuesOk f n c → Rises (beginsAt f (c .offsets)) n
-begins-rise (fixed k o) n c p = fixed-rises 0 k n
-begins-rise (ragged w q) n c p = λ j h. rising-at (c .offsets) (p .1) j (omega (arith, p .0))
-
 pub begins-end : (f : Form) (n : ℕ) (c : Content) → ValuesOk f n c → beginsAt f (c .offsets) n ≤ length (c .values)
 begins-end (fixed k o) n c p = omega (arith, p .0)
 begins-end (ragged w q) n c p = le-of-eq (sym (last-at (c .offsets) n (p .0)) ∙ p .2)

@@ -7,13 +7,13 @@ use mathlib.Core.List.{List}
 use native.Mathlib.Omega.{arith}
 use borrow.Author.Needs.{needs}
 use borrow.Author.Tests.{not-true, not-false}
-use lib.ListN.{length, drop}
+use lib.ListN.{length}
 use Rattle.array.specs.Limits.{mostCells}
+use Rattle.array.specs.declared.kind.IndexWidth.{IndexWidth}
 use Rattle.array.specs.Kind.{Place}
 use Rattle.array.specs.Shape.{volume}
 use Rattle.valid.specs.ShapeCells.{toldCells}
 use Rattle.array.specs.Subset.{Subset, numbersTest, NumbersOk, cellsIn}
-use Rattle.array.specs.Cells.{Value}
 use Rattle.array.specs.Content.{RaggedContent}
 use Rattle.array.specs.Buffers.{raggedLengthsOf, raggedOutcome}
 use Rattle.array.specs.Meaning.{widthOf, placeOf}
@@ -23,8 +23,7 @@ use Rattle.valid.proofs.ShapeLaws.{Counted, counted, not-counted}
 use Rattle.array.proofs.SubsetLists.{subset-parts, within-parts}
 use Rattle.stored.specs.declared.vlen.Index.{Index}
 use Rattle.stored.specs.Index.{foundIn, toldIndex}
-use Rattle.array.specs.Places.{valuesAt}
-use Rattle.partial.specs.Stored.{storedAt, cutAnswer}
+use Rattle.partial.specs.Stored.{storedValues, cutAnswer}
 use Rattle.partial.proofs.Stored.{Read, read-found}
 use Rattle.partial.proofs.Outcomes.{no-shape, no-subset, not-read, cut-read}
 use Rattle.partial.proofs.vlen_partial.partial_decode.Statement.{statement}
@@ -38,8 +37,8 @@ abbrev asked : tie.After-shape-cells → tie.Start
 asked k = entry (k .before .before)
 
 -- where the function starts: the width and the place of the index, what is handed over, the outputs
-abbrev width : tie.Start → ℕ
-width s = widthOf (s .args .width)
+abbrev width : tie.Start → IndexWidth
+width s = s .args .width
 
 abbrev place : tie.Start → Place
 place s = placeOf (s .args .place)
@@ -84,10 +83,10 @@ Checked = tie.After-find-index
 abbrev begun : Checked → tie.Start
 begun k = start (told (k .before))
 
-checks : (k : Checked) → toldIndex (k .find-index .result) ≡ foundIn (width (begun k)) (place (begun k)) (bytes (begun k)) 0 (volume (shape (begun k)))
+checks : (k : Checked) → toldIndex (k .find-index .result) ≡ foundIn (widthOf (width (begun k))) (place (begun k)) (bytes (begun k)) 0 (volume (shape (begun k)))
 checks k =
     let s = begun k in
-    k .find-index .ensures ∙ ap (foundIn (width s) (place s) (bytes s) 0) (shaped (told (k .before)) .is)
+    k .find-index .ensures ∙ ap (foundIn (widthOf (width s)) (place s) (bytes s) 0) (shaped (told (k .before)) .is)
 
 -- the index was found
 abbrev Found : Type 0
@@ -193,9 +192,8 @@ returns-4 c =
     let i = index f in
     let e = checked f .before in
     let s = start (told e) in
-    let cut : Subset → List Value = λ b. valuesAt (storedAt (width s) (bytes s) (i .index)) (drop (i .from) (bytes s)) (cellsIn (shape s) b) in
     r .cut-stored .ensures
-    ∙ ap (λ (b : Subset). raggedOutcome (cutAnswer (i .last) (cut b) (raggedLengthsOf (outputs s))) (outputs s)) (subset-parts (length (shape s)) (numbers s))
+    ∙ ap (λ (b : Subset). raggedOutcome (cutAnswer (i .last) (storedValues (width s) (bytes s) i (cellsIn (shape s) b)) (raggedLengthsOf (outputs s))) (outputs s)) (subset-parts (length (shape s)) (numbers s))
     ∙ cut-read (width s) (place s) (shape s) (numbers s) (bytes s) (outputs s) (shaped (told e) .passes) (subset-passes e) i (read f)
 
 pub partial-decode-spec : {M : Type 1} → statement M

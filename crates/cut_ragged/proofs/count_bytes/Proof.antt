@@ -1,4 +1,4 @@
--- `count_bytes` meets its contract: the rows before `at` are counted (proofs/Counting of extract).
+-- `count_bytes` meets its contract: the rows before `at` are counted (proofs/Counting).
 -- Assumes nothing.
 use Prim.Native.Nat.{ℕ, _+_, _-_, _*_, _≤_, _<_}
 use mathlib.Core.Path.{sym, ap₂, subst}
@@ -7,23 +7,22 @@ use lib.ListN.{length}
 use Rattle.array.specs.Limits.{mostCells}
 use Rattle.array.specs.Shape.{volume}
 use Rattle.array.specs.Subset.{pairs, cellsIn}
-use Rattle.array.specs.Meaning.{widthOf}
 use Rattle.subset.specs.Walk.{rowOf}
 use Rattle.subset.proofs.Rows.{asked-left, asked-few}
 use Rattle.array.specs.Places.{bytesAt}
 use Rattle.array.proofs.Places.{run-rises}
-use Rattle.extract.proofs.Counting.{bytes-most, Counting, counting-begins, counting-ends, counting-more}
-use Rattle.partial.specs.Stored.{storedAt}
-use Rattle.partial.proofs.Stored.{offset-room}
-use Rattle.partial.proofs.vlen_partial.count_bytes.Statement.{statement}
-use Rattle.partial.proofs.vlen_partial.count_bytes.Tie as tie
+use Rattle.cut_ragged.proofs.Counting.{bytes-most, Counting, counting-begins, counting-ends, counting-more}
+use Rattle.cut_ragged.specs.Source.{sourceAt, There}
+use Rattle.cut_ragged.proofs.Offsets.{there-below}
+use Rattle.cut_ragged.proofs.count_bytes.Statement.{statement}
+use Rattle.cut_ragged.proofs.count_bytes.Tie as tie
 
 abbrev Inv-loop : tie.InvT-loop
-Inv-loop bytes index width shape starts lens count at₀ total₀ at total =
-    Counting (storedAt (widthOf width) bytes index) (cellsIn shape (pairs starts lens)) count (rowOf lens) at total
+Inv-loop source numbers bytes shape starts lens count at₀ total₀ at total =
+    Counting (sourceAt source numbers bytes) (cellsIn shape (pairs starts lens)) count (rowOf lens) at total
 
 abbrev μ-loop : tie.MeasureT-loop
-μ-loop bytes index width shape starts lens count at₀ total₀ at total = count - at
+μ-loop source numbers bytes shape starts lens count at₀ total₀ at total = count - at
 
 -- the start, the loop's head, and where the next row and its end are known
 abbrev Start : Type 0
@@ -33,7 +32,7 @@ abbrev entry : tie.After-shared-slice-known4 Inv-loop μ-loop → Start
 entry c = c .before .before .before .before
 
 abbrev begun : tie.At-loop Inv-loop μ-loop → Start
-begun l = entry (l .before)
+begun l = entry (l .before .before)
 
 abbrev Known : Type 0
 Known = tie.After-row-at Inv-loop μ-loop
@@ -46,7 +45,7 @@ Ended = tie.After-offset-at2 Inv-loop μ-loop
 
 -- where a cell begins
 abbrev off : Start → ℕ → ℕ
-off a = storedAt (widthOf (a .args .width)) (a .args .bytes .now) (a .args .index)
+off a = sourceAt (a .args .source) (a .args .numbers .now) (a .args .bytes .now)
 
 rises : (k : Known) → off (start k) (k .row-at .result .first) ≤ off (start k) (k .row-at .result .first + k .row-at .result .cells)
 rises k = run-rises (start k .pre .1 .rises) (k .row-at .result .first) (k .row-at .result .cells) (k .row-at .ensures .inside)
@@ -69,28 +68,28 @@ short a =
     omega (
       arith,
       bytes-most (a .args .shape .now) (pairs (a .args .starts .now) (a .args .lens .now)) (a .pre .1 .rises) (a .pre .0 .within .inside),
-      a .pre .1 .few-bytes,
+      a .pre .1 .data-room,
     )
 
--- an offset of the index lies in the bytes
-room-for : (a : Start) (j : ℕ) → j ≤ volume (a .args .shape .now) → a .args .index + (widthOf (a .args .width) + j * widthOf (a .args .width)) ≤ length (a .args .bytes .now)
-room-for a j h = offset-room (widthOf (a .args .width)) (volume (a .args .shape .now)) j (a .args .index) (length (a .args .bytes .now)) h (a .pre .1 .room)
+-- an offset of the shape's cells is there
+there-for : (a : Start) (j : ℕ) → j ≤ volume (a .args .shape .now) → There (a .args .source) (a .args .numbers .now) (a .args .bytes .now) j
+there-for a j h = there-below (a .args .source) (a .args .numbers .now) (a .args .bytes .now) (volume (a .args .shape .now)) j (a .pre .1 .there) h
 
 loop-holds : tie.Need-loop-holds Inv-loop μ-loop
-loop-holds c = let a = entry c in counting-begins (off a) (asked-left (a .pre .0))
+loop-holds c = let a = entry (c .before) in counting-begins (off a) (asked-left (a .pre .0))
 
 row-at-requires : tie.Need-row-at-requires Inv-loop μ-loop
 row-at-requires c κs = (begun (c .before) .pre .0, c .before .loop .inv .geo, c .loop-test .taken)
 
 offset-at-requires : tie.Need-offset-at-requires Inv-loop μ-loop
-offset-at-requires c κs = room-for (start c) (c .row-at .result .first) (omega (arith, c .row-at .ensures .inside))
+offset-at-requires c κs = there-for (start c) (c .row-at .result .first) (omega (arith, c .row-at .ensures .inside))
 
 add-offset-at : tie.Need-add-offset-at Inv-loop μ-loop
 unfolding mostCells
 add-offset-at c = let k = c .before in omega (arith, k .row-at .ensures .inside, start k .pre .0 .shaped .few-cells)
 
 offset-at-requires-2 : tie.Need-offset-at-requires-2 Inv-loop μ-loop
-offset-at-requires-2 c κs = let k = c .before in room-for (start k) (k .row-at .result .first + k .row-at .result .cells) (k .row-at .ensures .inside)
+offset-at-requires-2 c κs = let k = c .before in there-for (start k) (k .row-at .result .first + k .row-at .result .cells) (k .row-at .ensures .inside)
 
 sub-total : tie.Need-sub-total Inv-loop μ-loop
 sub-total c = omega (arith, rises (c .before .before), c .offset-at2 .ensures, c .before .offset-at .ensures)

@@ -1,4 +1,4 @@
--- `offset_at` meets its contract: the bytes at its place.
+-- `stored_at` meets its contract: the bytes at its place.
 -- Assumes nothing.
 use Prim.Native.Nat.{ℕ, _+_, _*_}
 use mathlib.Core.Path.{_≡_, ap, _∙_}
@@ -7,9 +7,9 @@ use borrow.Author.Needs.{needs}
 use lib.ListN.{take, drop}
 use Rattle.array.specs.Bytes.{unle}
 use Rattle.array.specs.Meaning.{widthOf}
-use Rattle.partial.specs.Stored.{storedAt}
-use Rattle.partial.proofs.vlen_partial.offset_at.Statement.{statement}
-use Rattle.partial.proofs.vlen_partial.offset_at.Tie as tie
+use Rattle.cut_ragged.specs.Source.{storedAt}
+use Rattle.cut_ragged.proofs.stored_at.Statement.{statement}
+use Rattle.cut_ragged.proofs.stored_at.Tie as tie
 
 steps : (c : tie.After-width-bytes) → c .before .before .args .j * c .width-bytes .result ≡ c .before .before .args .j * widthOf (c .before .before .args .width)
 steps c = ap (λ (x : ℕ). c .before .before .args .j * x) (c .width-bytes .ensures)
@@ -32,6 +32,6 @@ returns c =
     let a = c .before .before .before .args in
     c .le-at .ensures ∙ ap (λ (x : ℕ). unle (take (widthOf (a .width)) (drop (a .index + x) (a .bytes .now)))) (steps (c .before))
 
-pub offset-at-spec : {M : Type 1} → statement M
-offset-at-spec =
+pub stored-at-spec : {M : Type 1} → statement M
+stored-at-spec =
     tie.close (tie.spec width-bytes-requires mul-le-at add-le-at le-at-requires returns)

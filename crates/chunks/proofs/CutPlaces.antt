@@ -1,4 +1,4 @@
--- What the loops lay is the cut: masks and values by their places are those of the cells that the definition gathers.
+-- A cut by places: masks and values where they lie in an array that keeps the rules are those of the cells that the definition gathers.
 -- Assumes nothing.
 use mathlib.Core.Path.{_≡_, refl, sym, ap, ap₂, _∙_}
 use Prim.Native.Nat.{ℕ, zero, suc, _+_, _*_, _≤_, _<_}
@@ -8,18 +8,36 @@ use mathlib.Core.List.{List, [], _∷_, _++_, map}
 use lib.ListN.{length, take, drop, getD, length-drop}
 use lib.Seq.{drop-drop, drop-cons, getD-take, getD-drop}
 use Rattle.array.specs.Lists.{joined, All}
-use Rattle.array.specs.Kind.{Kind, nullOf}
+use Rattle.array.specs.Kind.{Kind, Form, fixed, ragged, nullOf}
 use Rattle.array.specs.Shape.{volume}
 use Rattle.array.specs.Subset.{Subset, SubsetOk, cellsIn}
 use Rattle.array.specs.Cells.{Value, Cell, maskOf, leaf, blank}
-use Rattle.array.specs.Content.{Content, ContentOk, masksOf, leaves, offsetsFor, pairUp, attach, valuesIn, cellsOf, nullCell}
-use Rattle.array.specs.Places.{fixedAt, beginsAt, valueAt, valuesAt, planesAt}
-use Rattle.array.proofs.Places.{fixed-step, value-is}
+use Rattle.array.specs.Offsets.{Rising, RisingFrom}
+use Rattle.array.specs.Content.{Content, ContentOk, ValuesOk, masksOf, leaves, offsetsFor, pairUp, attach, valuesIn, cellsOf, nullCell}
+use Rattle.array.specs.Places.{fixedAt, beginsAt, Rises, valueAt, valuesAt, planesAt}
+use Rattle.array.proofs.Places.{fixed-step, fixed-rises, value-is}
 use Rattle.array.proofs.SubsetLaws.{cellsIn-below}
 use Rattle.array.proofs.LayoutLaws.{content-path, inners-pairUp, first-plane, later-planes, length-attach, leaves-attach, values-length}
 use Rattle.chunks.specs.Gather.{gather}
 use Rattle.chunks.specs.Cut.{cutOf}
 use Rattle.chunks.proofs.Gather.{gather-map}
+
+-- ---- no cell of an array that keeps the rules ends before it begins
+
+rising-at : (os : List ℕ) → Rising os → (j : ℕ) → suc j < length os → getD os j 0 ≤ getD os (suc j) 0
+rising-at [] r j h = absurd (omega arith)
+rising-at (a ∷ os) r j h = go a os (r .1) j (omega arith)
+  where
+    go : (a : ℕ) (os : List ℕ) → RisingFrom a os → (j : ℕ) → j < length os → getD (a ∷ os) j 0 ≤ getD os j 0
+    go a [] r j h = absurd (omega arith)
+    go a (b ∷ os) r zero h = r .0
+    go a (b ∷ os) r (suc j) h = go b os (r .1) j (omega arith)
+
+pub begins-rise : (f : Form) (n : ℕ) (c : Content) → ValuesOk f n c → Rises (beginsAt f (c .offsets)) n
+begins-rise (fixed k o) n c p = fixed-rises 0 k n
+begins-rise (ragged w q) n c p = λ j h. rising-at (c .offsets) (p .1) j (omega (arith, p .0))
+
+-- ---- what is gathered
 
 -- what is gathered at places below n, by what stands there
 gather-by : {A : Type 0} (z : A) (xs : List A) (n : ℕ) (g : ℕ → A) → ((j : ℕ) → j < n → getD xs j z ≡ g j) → (js : List ℕ) → All (λ j. j < n) js → gather z xs js ≡ map g js

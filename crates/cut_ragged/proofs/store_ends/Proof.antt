@@ -1,4 +1,4 @@
--- `store_ends` meets its contract: the ends of the cells before `i` lie in place (the laws of the loop are extract's).
+-- `store_ends` meets its contract: the ends of the cells before `i` lie in place (proofs/Ragged).
 -- Assumes nothing.
 use Prim.Native.Nat.{ℕ, suc, _+_, _-_, _*_, _≤_, _<_}
 use mathlib.Core.Path.{_≡_, ap, ap₂, _∙_}
@@ -6,38 +6,41 @@ use native.Mathlib.Omega.{arith}
 use native.Mathlib.Numerals.{add-one}
 use lib.ListN.{length}
 use Rattle.array.specs.Limits.{mostCells}
-use Rattle.array.specs.Meaning.{widthOf}
 use Rattle.array.proofs.Places.{run-rises, run-below}
-use Rattle.extract.proofs.Walk.{ImagesLaid, images-begin, images-same, images-end, images-room, images-more}
-use Rattle.partial.specs.Stored.{storedAt}
-use Rattle.partial.proofs.Stored.{offset-room}
-use Rattle.partial.proofs.vlen_partial.store_ends.Statement.{statement}
-use Rattle.partial.proofs.vlen_partial.store_ends.Tie as tie
+use Rattle.cut_ragged.proofs.Ragged.{ImagesLaid, images-begin, images-same, images-end, images-room, images-more}
+use Rattle.cut_ragged.specs.Source.{sourceAt, There}
+use Rattle.cut_ragged.proofs.Offsets.{there-below}
+use Rattle.cut_ragged.proofs.store_ends.Statement.{statement}
+use Rattle.cut_ragged.proofs.store_ends.Tie as tie
 
 abbrev Inv-loop : tie.InvT-loop
-Inv-loop out₀ to bytes index width first n total begin i₀ out i =
-    ImagesLaid (λ j. total + (storedAt (widthOf width) bytes index (suc j) - storedAt (widthOf width) bytes index first)) out₀ to first n out i
+Inv-loop out₀ to source numbers bytes first n total begin i₀ out i =
+    ImagesLaid (λ j. total + (sourceAt source numbers bytes (suc j) - sourceAt source numbers bytes first)) out₀ to first n out i
 
 abbrev μ-loop : tie.MeasureT-loop
-μ-loop out₀ to bytes index width first n total begin i₀ out i = n - i
+μ-loop out₀ to source numbers bytes first n total begin i₀ out i = n - i
 
--- at the loop's head
-abbrev begun : tie.At-loop Inv-loop μ-loop → tie.Start Inv-loop μ-loop
-begun c = c .before .before .before .before
-
--- where the function starts, where a cell begins, where it ends in the output
+-- where the function starts, and the loop's head
 abbrev Start : Type 0
 Start = tie.Start Inv-loop μ-loop
 
+abbrev entry : tie.After-shared-slice-known2 Inv-loop μ-loop → Start
+entry c = c .before .before .before
+
+abbrev begun : tie.At-loop Inv-loop μ-loop → Start
+begun l = entry (l .before .before)
+
+-- where a cell begins, where it ends in the output
+
 abbrev off : Start → ℕ → ℕ
-off a = storedAt (widthOf (a .args .width)) (a .args .bytes .now) (a .args .index)
+off a = sourceAt (a .args .source) (a .args .numbers .now) (a .args .bytes .now)
 
 abbrev ended : Start → ℕ → ℕ
 ended a j = a .args .total + (off a (suc j) - off a (a .args .first))
 
--- the room of an offset of the row, and how many there are
-room-for : (a : Start) (j : ℕ) → j ≤ a .args .first + a .args .n → a .args .index + (widthOf (a .args .width) + j * widthOf (a .args .width)) ≤ length (a .args .bytes .now)
-room-for a j h = offset-room (widthOf (a .args .width)) (a .args .first + a .args .n) j (a .args .index) (length (a .args .bytes .now)) h (a .pre .1 .room)
+-- an offset of the row is there
+there-for : (a : Start) (j : ℕ) → j ≤ a .args .first + a .args .n → There (a .args .source) (a .args .numbers .now) (a .args .bytes .now) j
+there-for a j h = there-below (a .args .source) (a .args .numbers .now) (a .args .bytes .now) (a .args .first + a .args .n) j (a .pre .1 .there) h
 
 -- in the loop
 abbrev Inside : Type 0
@@ -71,10 +74,10 @@ same i =
     images-same (ended a) (a .args .out .now) (a .args .to) (a .args .first) (a .args .n) (i .before .loop .out) (i .before .loop .i) (i .before .loop .inv)
 
 offset-at-requires : tie.Need-offset-at-requires Inv-loop μ-loop
-offset-at-requires c κs = let a = c .before .before in room-for a (a .args .first) (omega arith)
+offset-at-requires c κs = let a = entry c in there-for a (a .args .first) (omega arith)
 
 loop-holds : tie.Need-loop-holds Inv-loop μ-loop
-loop-holds c = let a = c .before .before .before in images-begin (ended a) (a .args .out .now) (a .args .to) (a .args .first) (a .args .n) (a .pre .0)
+loop-holds c = let a = entry (c .before) in images-begin (ended a) (a .args .out .now) (a .args .to) (a .args .first) (a .args .n) (a .pre .0)
 
 add-offset-at : tie.Need-add-offset-at Inv-loop μ-loop
 unfolding mostCells
@@ -85,7 +88,7 @@ unfolding mostCells
 add-offset-at-2 c = omega (arith, c .loop-test .taken, start c .pre .1 .few-cells)
 
 offset-at-requires-2 : tie.Need-offset-at-requires-2 Inv-loop μ-loop
-offset-at-requires-2 c κs = let a = start c in room-for a (a .args .first + c .before .loop .i + 1) (omega (arith, c .loop-test .taken))
+offset-at-requires-2 c κs = let a = start c in there-for a (a .args .first + c .before .loop .i + 1) (omega (arith, c .loop-test .taken))
 
 sub-out : tie.Need-sub-out Inv-loop μ-loop
 sub-out c = omega (arith, above (c .before), c .offset-at2 .ensures, c .before .before .before .offset-at .ensures)

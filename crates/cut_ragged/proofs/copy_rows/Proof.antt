@@ -1,41 +1,44 @@
--- `copy_rows` meets its contract: the values of the rows before `at`, and where they end, lie in place (proofs/Rows).
+-- `copy_rows` meets its contract: the values of the rows before `at`, and where they end, lie in place (proofs/Ragged).
 -- Assumes nothing.
 use Prim.Native.Nat.{ℕ, _+_, _-_, _*_, _≤_, _<_}
 use mathlib.Core.Path.{_≡_}
 use native.Mathlib.Omega.{arith}
+use borrow.Author.Needs.{needs}
 use lib.ListN.{length, drop}
 use Rattle.array.specs.Limits.{mostCells}
 use Rattle.array.specs.Shape.{volume}
 use Rattle.array.specs.Subset.{pairs, cellsIn}
-use Rattle.array.specs.Meaning.{widthOf}
 use Rattle.subset.specs.Walk.{rowOf}
 use Rattle.subset.proofs.Rows.{asked-left, asked-few}
-use Rattle.extract.proofs.Walk.{Ragged, ragged-begins, ragged-same, ragged-same-offsets, ragged-values, ragged-offsets}
-use Rattle.partial.specs.Stored.{storedAt}
-use Rattle.partial.proofs.Stored.{offset-room}
-use Rattle.partial.proofs.Rows.{NextRow, next-row, next-copied}
-use Rattle.partial.proofs.vlen_partial.copy_rows.Statement.{statement}
-use Rattle.partial.proofs.vlen_partial.copy_rows.Tie as tie
+use Rattle.cut_ragged.proofs.Ragged.{Ragged, ragged-begins, ragged-same, ragged-same-offsets, ragged-values, ragged-offsets}
+use Rattle.cut_ragged.specs.Source.{sourceAt, dataAt, There}
+use Rattle.cut_ragged.proofs.Offsets.{there-below}
+use Rattle.cut_ragged.proofs.Ragged.{NextRow, next-row, next-copied}
+use Rattle.cut_ragged.proofs.copy_rows.Statement.{statement}
+use Rattle.cut_ragged.proofs.copy_rows.Tie as tie
 
 abbrev Inv-loop : tie.InvT-loop
-Inv-loop values₀ offsets₀ bytes index source width shape starts lens count at₀ total₀ values offsets at total =
-    Ragged (storedAt (widthOf width) bytes index) (drop source bytes) (cellsIn shape (pairs starts lens)) values₀ offsets₀ values offsets count (rowOf lens) at total
+Inv-loop values₀ offsets₀ source numbers bytes shape starts lens count base at₀ total₀ values offsets at total =
+    Ragged (sourceAt source numbers bytes) (drop (dataAt source) bytes) (cellsIn shape (pairs starts lens)) values₀ offsets₀ values offsets count (rowOf lens) at total
 
 abbrev μ-loop : tie.MeasureT-loop
-μ-loop values₀ offsets₀ bytes index source width shape starts lens count at₀ total₀ values offsets at total = count - at
+μ-loop values₀ offsets₀ source numbers bytes shape starts lens count base at₀ total₀ values offsets at total = count - at
 
 -- the start, the loop's head, and where the next row is known
 abbrev Start : Type 0
 Start = tie.Start Inv-loop μ-loop
 
-abbrev entry : tie.After-shared-slice-known2 Inv-loop μ-loop → Start
-entry c = c .before .before .before .before
+abbrev lent : tie.After-shared-slice-known2 Inv-loop μ-loop → Start
+lent c = c .before .before .before .before
+
+abbrev entry : tie.After-shared-slice-known5 Inv-loop μ-loop → Start
+entry c = lent (c .before .before .before)
 
 abbrev Head : Type 0
 Head = tie.At-loop Inv-loop μ-loop
 
 abbrev begun : Head → Start
-begun l = entry (l .before .before .before)
+begun l = entry (l .before .before)
 
 abbrev Known : Type 0
 Known = tie.After-row-at Inv-loop μ-loop
@@ -58,7 +61,7 @@ given-back c = c .before .before .before
 
 -- where a cell begins
 abbrev off : Start → ℕ → ℕ
-off a = storedAt (widthOf (a .args .width)) (a .args .bytes .now) (a .args .index)
+off a = sourceAt (a .args .source) (a .args .numbers .now) (a .args .bytes .now)
 
 short : (a : Start) → length (a .args .bytes .now) < 18446744073709551616
 short a = omega arith
@@ -66,53 +69,63 @@ short a = omega arith
 short-values : (a : Start) → length (a .args .values .now) < 18446744073709551616
 short-values a = omega arith
 
--- an offset of the index lies in the bytes
-room-for : (a : Start) (j : ℕ) → j ≤ volume (a .args .shape .now) → a .args .index + (widthOf (a .args .width) + j * widthOf (a .args .width)) ≤ length (a .args .bytes .now)
-room-for a j h = offset-room (widthOf (a .args .width)) (volume (a .args .shape .now)) j (a .args .index) (length (a .args .bytes .now)) h (a .pre .1 .stored .index-asked .room)
+-- an offset of the shape's cells is there
+there-for : (a : Start) (j : ℕ) → j ≤ volume (a .args .shape .now) → There (a .args .source) (a .args .numbers .now) (a .args .bytes .now) j
+there-for a j h = there-below (a .args .source) (a .args .numbers .now) (a .args .bytes .now) (volume (a .args .shape .now)) j (a .pre .1 .asked .there) h
+
+-- where the data begins
+based : (k : Known) → head k .before .data-at .result ≡ dataAt (start k .args .source)
+based k = head k .before .data-at .ensures
 
 same : (l : Head) → length (l .loop .values) ≡ length (begun l .args .values .now)
 same l = ragged-same (l .loop .inv)
 
 next : (k : Known)
-    → NextRow (off (start k)) (start k .args .bytes .now) (start k .args .source) (head k .loop .values) (head k .loop .offsets)
+    → NextRow (off (start k)) (start k .args .bytes .now) (dataAt (start k .args .source)) (head k .loop .values) (head k .loop .offsets)
     (head k .loop .at) (head k .loop .total) (k .row-at .result .first) (k .row-at .result .cells)
 next k =
     let a = start k in
-    next-row (a .args .bytes .now) (a .args .source) (head k .loop .inv) (k .row-at .ensures) (a .pre .1 .stored .index-asked .rises) (a .pre .1 .stored .data-room)
+    next-row (a .args .bytes .now) (dataAt (a .args .source)) (head k .loop .inv) (k .row-at .ensures) (a .pre .1 .asked .rises) (a .pre .1 .asked .data-room)
+
+data-at-requires : tie.Need-data-at-requires Inv-loop μ-loop
+data-at-requires c κs = search needs
 
 loop-holds : tie.Need-loop-holds Inv-loop μ-loop
 loop-holds c =
-    let a = entry (c .before .before) in
-    ragged-begins (off a) (drop (a .args .source) (a .args .bytes .now)) (a .args .values .now) (a .args .offsets .now)
+    let a = entry (c .before) in
+    ragged-begins (off a) (drop (dataAt (a .args .source)) (a .args .bytes .now)) (a .args .values .now) (a .args .offsets .now)
     (asked-left (a .pre .0)) (a .pre .1 .room) (a .pre .1 .room-offsets)
 
 row-at-requires : tie.Need-row-at-requires Inv-loop μ-loop
 row-at-requires c κs = (begun (c .before) .pre .0, c .before .loop .inv .copied .geo, c .loop-test .taken)
 
 offset-at-requires : tie.Need-offset-at-requires Inv-loop μ-loop
-offset-at-requires c κs = room-for (start c) (c .row-at .result .first) (omega (arith, c .row-at .ensures .inside))
+offset-at-requires c κs = there-for (start c) (c .row-at .result .first) (omega (arith, c .row-at .ensures .inside))
 
 add-offset-at : tie.Need-add-offset-at Inv-loop μ-loop
 unfolding mostCells
 add-offset-at c = let k = c .before in omega (arith, k .row-at .ensures .inside, start k .pre .0 .shaped .few-cells)
 
 offset-at-requires-2 : tie.Need-offset-at-requires-2 Inv-loop μ-loop
-offset-at-requires-2 c κs = let k = c .before in room-for (start k) (k .row-at .result .first + k .row-at .result .cells) (k .row-at .ensures .inside)
+offset-at-requires-2 c κs = let k = c .before in there-for (start k) (k .row-at .result .first + k .row-at .result .cells) (k .row-at .ensures .inside)
 
-sub-data : tie.Need-sub-data Inv-loop μ-loop
-sub-data c = omega (arith, next (known c) .rises, c .offset-at2 .ensures, c .before .offset-at .ensures)
+sub-size : tie.Need-sub-size Inv-loop μ-loop
+sub-size c = omega (arith, next (known c) .rises, c .offset-at2 .ensures, c .before .offset-at .ensures)
 
 add-copy-bytes : tie.Need-add-copy-bytes Inv-loop μ-loop
 add-copy-bytes c =
     let e = c .before in
     let k = known e in
-    omega (arith, next k .rises, next k .data-room, e .before .offset-at .ensures, short (start k))
+    omega (arith, next k .rises, next k .data-room, based k, e .before .offset-at .ensures, short (start k))
 
 copy-bytes-requires : tie.Need-copy-bytes-requires Inv-loop μ-loop
 copy-bytes-requires c κs =
     let e = c .before in
-    let x = next (known e) in
-    (omega (arith, x .room, e .offset-at2 .ensures, e .before .offset-at .ensures), omega (arith, x .rises, x .data-room, e .offset-at2 .ensures, e .before .offset-at .ensures))
+    let k = known e in
+    let x = next k in (
+      omega (arith, x .room, e .offset-at2 .ensures, e .before .offset-at .ensures),
+      omega (arith, x .rises, x .data-room, based k, e .offset-at2 .ensures, e .before .offset-at .ensures),
+    )
 
 add-store-ends : tie.Need-add-store-ends Inv-loop μ-loop
 add-store-ends c =
@@ -125,8 +138,8 @@ store-ends-requires c κs =
     let a = start k in (
       next k .room-offsets,
       record {
-        room = room-for a (k .row-at .result .first + k .row-at .result .cells) (k .row-at .ensures .inside);
-        rises = λ j h. a .pre .1 .stored .index-asked .rises j (omega (arith, k .row-at .ensures .inside));
+        there = there-for a (k .row-at .result .first + k .row-at .result .cells) (k .row-at .ensures .inside);
+        rises = λ j h. a .pre .1 .asked .rises j (omega (arith, k .row-at .ensures .inside));
         few-cells = omega (arith, k .row-at .ensures .inside, a .pre .0 .shaped .few-cells);
         few-bytes = omega (arith, next k .room, same (head k), short-values a);
       },
@@ -158,8 +171,8 @@ loop-again c =
     let e = ended d in
     let k = known e in
     let a = start k in
-    next-copied (a .args .bytes .now) (a .args .source) (head k .loop .inv) (k .row-at .ensures) (a .pre .1 .stored .index-asked .rises) (a .pre .1 .stored .data-room)
-    (e .before .offset-at .ensures) (e .offset-at2 .ensures) (b .copy-bytes .ensures) (d .store-ends .ensures)
+    next-copied (a .args .bytes .now) (dataAt (a .args .source)) (head k .loop .inv) (k .row-at .ensures) (a .pre .1 .asked .rises) (a .pre .1 .asked .data-room)
+    (based k) (e .before .offset-at .ensures) (e .offset-at2 .ensures) (b .copy-bytes .ensures) (d .store-ends .ensures)
 
 same-length : tie.Need-same-length Inv-loop μ-loop
 same-length c = same (c .before)
@@ -176,12 +189,13 @@ copy-rows-spec =
     (tie.spec
     Inv-loop
     μ-loop
+    data-at-requires
     loop-holds
     row-at-requires
     offset-at-requires
     add-offset-at
     offset-at-requires-2
-    sub-data
+    sub-size
     add-copy-bytes
     copy-bytes-requires
     add-store-ends
