@@ -173,7 +173,7 @@ cut-valid-requires c κs =
     let e = checked p .before in
     let s = begun (checked p) in (
       record { shaped = shaped (told e) .shaped; within = within-parts (shape s) (numbers s) (fitting e); counted = refl },
-      record { whole = shaped (told e) .is; content = keeps p .array .fits; small = keeps p .small },
+      record { whole = shaped (told e) .is; content = keeps p .array .fits },
     )
 
 returns-4 : tie.Need-returns-4

@@ -9,7 +9,8 @@ use Rattle.array.specs.Subset.{pairs, cellsIn}
 use Rattle.array.specs.Places.{fixedAt}
 use Rattle.subset.specs.Walk.{rowOf, RowAt}
 use Rattle.subset.proofs.Rows.{asked-left, asked-below, asked-count, asked-few, asked-lengths, row-is}
-use Rattle.extract.proofs.Walk.{Copied, copied-begins, copied-same, copied-ends, fixed-long, fixed-source, fixed-room, fixed-copied}
+use Rattle.cut_ragged.proofs.Walk.{Copied, copied-begins, copied-same, copied-ends}
+use Rattle.extract.proofs.Walk.{fixed-long, fixed-source, fixed-room, fixed-copied}
 use Rattle.extract.proofs.cells.copy_cells.Statement.{statement}
 use Rattle.extract.proofs.cells.copy_cells.Tie as tie
 
