@@ -76,7 +76,7 @@ module _ {off : ℕ → ℕ} (s : List ℕ) (base : ℕ) {cs oldv oldo ov oo : L
 
   -- it is copied, from its begin up to its end
   pub next-copied : {b x y : ℕ} → b ≡ base → x ≡ off a → y ≡ off (a + n) → {ov′ oo′ : List ℕ} → ov′ ≡ overAt total (take (y - x) (drop (b + x) s)) ov
-      → oo′ ≡ overAt (at + 1) (map (λ j. total + (off (suc j) - off a)) (from a n)) oo
+      → oo′ ≡ overAt (at + 1) (map (λ j. total + (off (suc j) - x)) (from a n)) oo
       → Ragged off (drop base s) cs oldv oldo ov′ oo′ cells (rowOf ls) (at + n) (total + (y - x))
   next-copied {b} {x} {y} eb ex ey {ov′} {oo′} e w =
       let step : y - x ≡ off (a + n) - off a = ap₂ (λ (i j : ℕ). i - j) ey ex in
@@ -85,41 +85,44 @@ module _ {off : ℕ → ℕ} (s : List ℕ) (base : ℕ) {cs oldv oldo ov oo : L
         copied = row-copied q r (drop base s) within-data (c .copied) step
             (e ∙ ap₂ (λ (i : ℕ) (u : List ℕ). overAt i (take (y - x) u) ov) (sym (zero-add total)) here);
         ended = subst (λ (i : ℕ). Laying (ends 0 (valuesAt off (drop base s) cs)) oldo 1 oo′ (at + n) (ends (total + i) (valuesAt off (drop base s) (drop (at + n) cs))))
-            (sym step) (row-ended q r (drop base s) within-data total (c .ended) w);
+            (sym step) (row-ended q r (drop base s) within-data total (c .ended)
+            (w ∙ ap (λ (i : ℕ). overAt (at + 1) (map (λ j. total + (off (suc j) - i)) (from a n)) oo) ex));
       }
 
 -- one element stored at the front, and what is laid behind it
 pub first-then : (d : List ℕ) (x : ℕ) (g : List ℕ) → 1 ≤ length d → overAt 1 g (set d 0 x) ≡ over (x ∷ g) d
 first-then d x g h = ap (overAt 1 g) (over-store [] d 0 x refl (omega arith)) ∙ over-again (x ∷ []) g d 1 refl
 
--- ---- the cells of a row, one by one: f of n numbers from a on
+-- ---- the cells of a row, one by one: f of i of n numbers from a on
 
-abbrev pub ImagesLaid : (ℕ → ℕ) → List ℕ → ℕ → ℕ → ℕ → List ℕ → ℕ → Type 0
-ImagesLaid f d to a n out i = Laying (map f (from a n)) d to out i (map f (from (a + i) (n - i)))
+pub record Images (f : ℕ → ℕ) (d : List ℕ) (to a n : ℕ) (out : List ℕ) (i : ℕ) : Type 0 where
+  pub laid : Laying (map f (from a n)) d to out i (map f (from (a + i) (n - i)))
 
-images-next : (f : ℕ → ℕ) (a n i : ℕ) → i < n → map f (from (a + i) (n - i)) ≡ f (a + i) ∷ map f (from (a + (i + 1)) (n - (i + 1)))
-images-next f a n i h =
-    let e : n - i ≡ suc (n - (i + 1)) = omega arith in
-    let q : suc (a + i) ≡ a + (i + 1) = omega arith in
-    ap (λ (k : ℕ). map f (from (a + i) k)) e ∙ ap (λ (k : ℕ). f (a + i) ∷ map f (from k (n - (i + 1)))) q
+pub images-begin : (f : ℕ → ℕ) (d : List ℕ) (to a n : ℕ) → to + n ≤ length d → Images f d to a n d 0
+images-begin f d to a n h = record {
+  laid = laying-is (laying-begins (map f (from a n)) d to (omega (arith, length-map (from a n) f, length-from a n)))
+      (ap₂ (λ (x y : ℕ). map f (from x y)) (sym (add-zero a)) (sym (sub-zero n)));
+}
 
-pub images-begin : (f : ℕ → ℕ) (d : List ℕ) (to a n : ℕ) → to + n ≤ length d → ImagesLaid f d to a n d 0
-images-begin f d to a n h =
-    laying-is (laying-begins (map f (from a n)) d to (omega (arith, length-map (from a n) f, length-from a n)))
-    (ap₂ (λ (x y : ℕ). map f (from x y)) (sym (add-zero a)) (sym (sub-zero n)))
-
-module _ (f : ℕ → ℕ) (d : List ℕ) (to a n : ℕ) (out : List ℕ) (i : ℕ) (l : ImagesLaid f d to a n out i) where
+module _ {f : ℕ → ℕ} {d : List ℕ} {to a n : ℕ} {out : List ℕ} {i : ℕ} (l : Images f d to a n out i) where
   pub images-same : length out ≡ length d
-  images-same = laying-same (map f (from a n)) d to out i (map f (from (a + i) (n - i))) l
+  images-same = laying-same (map f (from a n)) d to out i (map f (from (a + i) (n - i))) (l .laid)
 
   pub images-end : n ≤ i → out ≡ overAt to (map f (from a n)) d
-  images-end h = let e : n - i ≡ 0 = omega arith in laying-ends (map f (from a n)) d to out i (laying-is l (ap (λ (k : ℕ). map f (from (a + i) k)) e))
+  images-end h = let e : n - i ≡ 0 = omega arith in laying-ends (map f (from a n)) d to out i (laying-is (l .laid) (ap (λ (k : ℕ). map f (from (a + i) k)) e))
 
   module _ (h : i < n) where
-    pub images-room : to + i < length out
-    images-room = laying-room (map f (from a n)) d to out i (f (a + i)) (map f (from (a + (i + 1)) (n - (i + 1)))) (laying-is l (images-next f a n i h))
+    images-next : map f (from (a + i) (n - i)) ≡ f (a + i) ∷ map f (from (a + (i + 1)) (n - (i + 1)))
+    images-next =
+        let e : n - i ≡ suc (n - (i + 1)) = omega arith in
+        let q : suc (a + i) ≡ a + (i + 1) = omega arith in
+        ap (λ (k : ℕ). map f (from (a + i) k)) e ∙ ap (λ (k : ℕ). f (a + i) ∷ map f (from k (n - (i + 1)))) q
 
-    pub images-more : {x : ℕ} → x ≡ f (a + i) → ImagesLaid f d to a n (set out (to + i) x) (i + 1)
-    images-more {x} e =
-        laying-store (map f (from a n)) d to out i x (map f (from (a + (i + 1)) (n - (i + 1))))
-        (laying-is l (images-next f a n i h ∙ ap (λ (k : ℕ). k ∷ map f (from (a + (i + 1)) (n - (i + 1)))) (sym e)))
+    pub images-room : to + i < length out
+    images-room = laying-room (map f (from a n)) d to out i (f (a + i)) (map f (from (a + (i + 1)) (n - (i + 1)))) (laying-is (l .laid) images-next)
+
+    pub images-more : {x : ℕ} → x ≡ f (a + i) → Images f d to a n (set out (to + i) x) (i + 1)
+    images-more {x} e = record {
+      laid = laying-store (map f (from a n)) d to out i x (map f (from (a + (i + 1)) (n - (i + 1))))
+          (laying-is (l .laid) (images-next ∙ ap (λ (k : ℕ). k ∷ map f (from (a + (i + 1)) (n - (i + 1)))) (sym e)));
+    }

@@ -1,6 +1,7 @@
 -- Redundant by the law cut-read in partial/proofs/Outcomes.antt and the law cut-values in extract/proofs/Cutting.antt: where ragged values lie,
 -- and what a cut of them asks and leaves.
 -- Assumes nothing.
+use mathlib.Core.Path.{_≡_}
 use Prim.Native.Nat.{ℕ, suc, _+_, _-_, _*_, _^_, _≤_, _<_}
 use mathlib.Core.List.{List}
 use lib.ListN.{length, take, drop}
@@ -45,12 +46,13 @@ pub record SourceAsked (source : Source) (os s : List ℕ) (n : ℕ) : Type 0 wh
   pub rises : Rises (sourceAt source os s) n
   pub data-room : dataAt source + sourceAt source os s n ≤ length s
 
--- the offsets of n neighbours from the cell a on, with so many bytes before them
-pub record RowAsked (source : Source) (os s : List ℕ) (a n total : ℕ) : Type 0 where
+-- the offsets of n neighbours from the cell a on, which begins here, with so many bytes before them
+pub record RowAsked (source : Source) (os s : List ℕ) (a n begin total : ℕ) : Type 0 where
   pub there : There source os s (a + n)
   pub rises : Rises (sourceAt source os s) (a + n)
   pub few-cells : a + n ≤ mostCells
-  pub few-bytes : total + (sourceAt source os s (a + n) - sourceAt source os s a) < 2 ^ 64
+  pub here : begin ≡ sourceAt source os s a
+  pub few-bytes : total + (sourceAt source os s (a + n) - begin) < 2 ^ 64
 
 -- the cells of a subset, with room for them in the outputs
 pub record CutAsked (outv outo : List ℕ) (source : Source) (os s shape cells : List ℕ) : Type 0 where

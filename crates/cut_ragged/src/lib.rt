@@ -88,7 +88,7 @@ fn count_bytes(
     total
 }
 
-// Writes where n neighbours end, from the cell `first` on, where `total` bytes lie before them.
+// Writes where n neighbours end that begin at `begin`, from the cell `first` on, where `total` bytes lie before them.
 fn store_ends(
     out: &mut [u64],
     to: usize,
@@ -97,13 +97,13 @@ fn store_ends(
     bytes: &[u8],
     first: usize,
     n: usize,
+    begin: u64,
     total: u64,
 )
-    requires { ⌜ (to + n ≤ length (now «out»)) × RowAsked source (now numbers) (now bytes) first n total ⌝ }
-    ensures { λ _. ⌜ now («out» .exit) ≡ overAt to (map (λ (j : ℕ). total + (sourceAt source (now (numbers .entry)) (now (bytes .entry)) (suc j)
-        - sourceAt source (now (numbers .entry)) (now (bytes .entry)) first)) (from first n)) (now («out» .entry)) ⌝ }
+    requires { ⌜ (to + n ≤ length (now «out»)) × RowAsked source (now numbers) (now bytes) first n begin total ⌝ }
+    ensures { λ _. ⌜ now («out» .exit) ≡ overAt to (map (λ (j : ℕ). total + (sourceAt source (now (numbers .entry)) (now (bytes .entry)) (suc j) - begin))
+        (from first n)) (now («out» .entry)) ⌝ }
 {
-    let begin = offset_at(source, numbers, bytes, first);
     let mut i = 0;
     while i < n {
         let end = offset_at(source, numbers, bytes, first + i + 1);
@@ -150,6 +150,7 @@ fn copy_rows(
             bytes,
             first,
             n,
+            begin as u64,
             total as u64,
         );
         total += size;

@@ -141,7 +141,8 @@ store-ends-requires c κs =
         there = there-for a (k .row-at .result .first + k .row-at .result .cells) (k .row-at .ensures .inside);
         rises = λ j h. a .pre .1 .asked .rises j (omega (arith, k .row-at .ensures .inside));
         few-cells = omega (arith, k .row-at .ensures .inside, a .pre .0 .shaped .few-cells);
-        few-bytes = omega (arith, next k .room, same (head k), short-values a);
+        here = given-back (c .before .before) .before .offset-at .ensures;
+        few-bytes = omega (arith, next k .room, given-back (c .before .before) .before .offset-at .ensures, same (head k), short-values a);
       },
     )
 
