@@ -1,10 +1,9 @@
 -- An offset that is there, and those before it.
 -- Assumes nothing.
-use Prim.Native.Nat.{ℕ, _+_, _*_, _≤_, _<_}
+use Prim.Native.Nat.{ℕ, _≤_}
 use native.Mathlib.Nat.{mul-le-mul-right}
 use native.Mathlib.Omega.{arith}
 use mathlib.Core.List.{List}
-use lib.ListN.{length}
 use Rattle.array.specs.Meaning.{widthOf}
 use Rattle.cut_ragged.specs.declared.Source.{Source}
 use Rattle.cut_ragged.specs.declared.Source.the-variants.{Numbers, Stored}

@@ -1,9 +1,9 @@
 -- The rows of a subset, copied one after another: what holds at the loop's head, and a turn. Any cells, by where they lie.
 -- Assumes nothing.
-use mathlib.Core.Path.{_≡_, refl, sym, ap, ap₂, _∙_}
-use Prim.Native.Nat.{ℕ, zero, suc, _+_, _-_, _*_, _≤_, _<_}
+use mathlib.Core.Path.{_≡_, sym, ap, ap₂, _∙_}
+use Prim.Native.Nat.{ℕ, suc, _+_, _-_, _≤_}
 use native.Mathlib.Omega.{arith}
-use mathlib.Core.List.{List, [], _∷_, _++_, map}
+use mathlib.Core.List.{List, _++_, map}
 use lib.ListN.{length, take, drop, length-append, length-map}
 use Rattle.array.specs.Lists.{from, joined}
 use Rattle.array.specs.Shape.{volume}

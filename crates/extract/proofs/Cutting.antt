@@ -9,7 +9,7 @@ use Rattle.array.specs.Lists.{All}
 use Rattle.array.specs.Kind.{Kind, Form, fixed, ragged}
 use Rattle.array.specs.Shape.{volume}
 use Rattle.array.specs.Subset.{pairs, cellsIn}
-use Rattle.array.specs.Content.{Content, RaggedContent, ValuesOk}
+use Rattle.array.specs.Content.{Content, ValuesOk}
 use Rattle.array.specs.Places.{planesAt}
 use Rattle.valid.proofs.CheckLaws.{last-at}
 use Rattle.chunks.specs.Cut.{cutOf}

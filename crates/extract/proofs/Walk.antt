@@ -1,11 +1,11 @@
 -- The loops that cut masks and fixed values: over the rows of a subset, over the levels. What holds at the head, and a turn.
 -- Assumes nothing.
-use mathlib.Core.Path.{_≡_, refl, sym, ap, ap₂, _∙_}
+use mathlib.Core.Path.{_≡_, sym, ap, _∙_}
 use Prim.Native.Nat.{ℕ, zero, suc, _+_, _-_, _*_, _≤_, _<_}
 use native.Mathlib.Nat.{zero-mul, suc-mul, mul-one, add-mul, sub-zero, zero-add, mul-le-mul-right}
 use native.Mathlib.Numerals.{add-one}
 use native.Mathlib.Omega.{arith}
-use mathlib.Core.List.{List, [], _∷_, _++_, map}
+use mathlib.Core.List.{List, _++_}
 use lib.ListN.{length, take, drop, length-append}
 use Rattle.array.specs.Lists.{joined, All}
 use Rattle.array.specs.Shape.{volume}

@@ -1,20 +1,17 @@
 -- What the call answers: each refusal in its order, and success.
 -- Assumes nothing.
-use mathlib.Core.Path.{_≡_, refl, sym, ap, ap₂, _∙_}
+use mathlib.Core.Path.{_≡_, refl, sym, ap, _∙_}
 use mathlib.Core.Bool.{Bool, true, false}
-use Prim.Native.Nat.{ℕ, _≤_, _<_}
-use native.Mathlib.Omega.{arith}
+use Prim.Native.Nat.{ℕ}
 use mathlib.Core.List.{List}
-use lib.ListN.{length, drop}
+use lib.ListN.{length}
 use Rattle.array.specs.Answer.{Answer, gives, refuses, unless, andThen, Outcome}
-use Rattle.array.specs.Lists.{joined}
 use Rattle.array.specs.declared.kind.IndexWidth.{IndexWidth}
 use Rattle.array.specs.Meaning.{widthOf}
 use Rattle.array.specs.Kind.{Place}
 use Rattle.array.specs.Shape.{volume, shapeTest}
 use Rattle.array.specs.Subset.{subsetOf, numbersTest, cellsIn}
 use Rattle.array.specs.Cells.{Value}
-use Rattle.array.specs.Offsets.{offsetsOf}
 use Rattle.array.specs.Content.{RaggedContent, sizeTest, endToEnd}
 use Rattle.array.specs.Buffers.{RaggedLengths, raggedLengthsOf, raggedEnoughTest, ifRoom, raggedOutcome}
 use Rattle.array.proofs.Rules.{numbers-ok}

@@ -1,6 +1,6 @@
 -- `copy_rows` meets its contract: the values of the rows before `at`, and where they end, lie in place (proofs/Ragged).
 -- Assumes nothing.
-use Prim.Native.Nat.{ℕ, _+_, _-_, _*_, _≤_, _<_}
+use Prim.Native.Nat.{ℕ, _+_, _-_, _≤_, _<_}
 use mathlib.Core.Path.{_≡_}
 use native.Mathlib.Omega.{arith}
 use borrow.Author.Needs.{needs}
@@ -86,9 +86,6 @@ next : (k : Known)
 next k =
     let a = start k in
     next-row (a .args .bytes .now) (dataAt (a .args .source)) (head k .loop .inv) (k .row-at .ensures) (a .pre .1 .asked .rises) (a .pre .1 .asked .data-room)
-
-data-at-requires : tie.Need-data-at-requires Inv-loop μ-loop
-data-at-requires c κs = search needs
 
 loop-holds : tie.Need-loop-holds Inv-loop μ-loop
 loop-holds c =
@@ -190,7 +187,7 @@ copy-rows-spec =
     (tie.spec
     Inv-loop
     μ-loop
-    data-at-requires
+    (λ c κs. search needs)
     loop-holds
     row-at-requires
     offset-at-requires

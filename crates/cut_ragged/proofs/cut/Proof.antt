@@ -1,6 +1,6 @@
 -- `cut` meets its contract: what the cut needs, the first offset with the others behind it (proofs/Ragged), and the laws of its answer (proofs/Outcomes).
 -- Assumes nothing.
-use Prim.Native.Nat.{ℕ, _+_}
+use Prim.Native.Nat.{_+_}
 use mathlib.Core.Path.{_≡_, sym, _∙_}
 use mathlib.Core.List.{List}
 use native.Mathlib.Omega.{arith}
@@ -13,7 +13,7 @@ use Rattle.array.specs.Offsets.{ends, offsetsOf}
 use Rattle.array.specs.Content.{RaggedContent, endToEnd}
 use Rattle.array.specs.Outcome.{contentRagged}
 use Rattle.subset.proofs.Rows.{asked-few, asked-count}
-use Rattle.cut_ragged.specs.Source.{sourceAt, sourceValues}
+use Rattle.cut_ragged.specs.Source.{sourceValues}
 use Rattle.cut_ragged.proofs.Ragged.{first-then}
 use Rattle.cut_ragged.proofs.Outcomes.{need-values, need-offsets, no-values, no-offsets, all-put}
 use Rattle.cut_ragged.proofs.cut.Statement.{statement}
@@ -42,9 +42,6 @@ values-need b = need-values (start b .pre .0) (start b .pre .1) ∙ sym (b .coun
 offsets-need : (s : tie.Start) → length (offsetsOf (values s)) ≡ s .args .count + 1
 offsets-need s = need-offsets (s .pre .0) (s .pre .1)
 
-count-bytes-requires : tie.Need-count-bytes-requires
-count-bytes-requires c κs = search needs
-
 returns : tie.Need-returns
 returns c = let b = c .before in no-values (endToEnd (values (start b))) (outputs (start b)) (values-need b) (c .if1 .taken)
 
@@ -53,9 +50,6 @@ add-many c = let s = start (c .before) in omega (arith, asked-few (s .pre .0))
 
 returns-2 : tie.Need-returns-2
 returns-2 c = let s = start (c .before .before) in no-offsets (endToEnd (values s)) (outputs s) (offsets-need s) (c .if2 .taken)
-
-slice-write-offsets : tie.Need-slice-write-offsets
-slice-write-offsets c = search needs
 
 copy-rows-requires : tie.Need-copy-rows-requires
 copy-rows-requires c κs =
@@ -69,9 +63,6 @@ copy-rows-requires c κs =
         room-offsets = omega (arith, asked-count (s .pre .0), f .if2 .left, length-set (s .args .offsets .now) 0 0);
       },
     )
-
-same-length : tie.Need-same-length
-same-length c = search needs
 
 same-length-2 : tie.Need-same-length-2
 same-length-2 c = c .before .before .before .before .copy-rows .kept .1 .0 ∙ simp length-set
@@ -89,12 +80,12 @@ pub cut-spec : {M : Type 1} → statement M
 cut-spec =
     tie.close
     (tie.spec
-    count-bytes-requires
+    (λ c κs. search needs)
     returns
     add-many
     returns-2
-    slice-write-offsets
+    (λ c. search needs)
     copy-rows-requires
-    same-length
+    (λ c. search needs)
     same-length-2
     returns-3)

@@ -13,17 +13,11 @@ use Rattle.cut_ragged.proofs.offset_at.Tie as tie
 there : (a : tie.Start) → a .args .source ≡ Source.Numbers → a .args .j < length (a .args .numbers .now)
 there a e = rw e at (a .pre)
 
-enum-told : tie.Need-enum-told
-enum-told c = search needs
-
 mul-result : tie.Need-mul-result
 mul-result c = let a = c .before .before .before .before in omega (arith, there a (c .enum-told .given .1))
 
 shared-slice-read-result : tie.Need-shared-slice-read-result
 shared-slice-read-result c = let e = c .before in there (e .before .before .before .before) (e .enum-told .given .1)
-
-enum-known-source : tie.Need-enum-known-source
-enum-known-source c = search needs
 
 stored-at-requires : tie.Need-stored-at-requires
 stored-at-requires c κs = let e = c .before in rw (e .source .given .1) at (e .before .before .before .before .pre)
@@ -36,4 +30,4 @@ returns-2 c = rw (c .before .before .source .given .1) (c .stored-at .ensures)
 
 pub offset-at-spec : {M : Type 1} → statement M
 offset-at-spec =
-    tie.close (tie.spec enum-told mul-result shared-slice-read-result enum-known-source stored-at-requires returns returns-2)
+    tie.close (tie.spec (λ c. search needs) mul-result shared-slice-read-result (λ c. search needs) stored-at-requires returns returns-2)

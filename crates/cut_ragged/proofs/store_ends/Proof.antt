@@ -1,6 +1,6 @@
 -- `store_ends` meets its contract: the ends of the cells before `i` lie in place (proofs/Ragged).
 -- Assumes nothing.
-use Prim.Native.Nat.{ℕ, suc, _+_, _-_, _*_, _≤_, _<_}
+use Prim.Native.Nat.{ℕ, suc, _+_, _-_, _≤_, _<_}
 use mathlib.Core.Path.{_≡_, ap, _∙_}
 use native.Mathlib.Omega.{arith}
 use native.Mathlib.Numerals.{add-one}
@@ -92,12 +92,6 @@ mul-out c = omega (arith, room (c .before), same (c .before))
 slice-write-out : tie.Need-slice-write-out Inv-loop μ-loop
 slice-write-out c = room (c .before)
 
-add-i : tie.Need-add-i Inv-loop μ-loop
-add-i c = omega arith
-
-loop-less : tie.Need-loop-less Inv-loop μ-loop
-loop-less c = omega arith
-
 loop-again : tie.Need-loop-again Inv-loop μ-loop
 loop-again c =
     let i = c .before in
@@ -126,8 +120,8 @@ store-ends-spec =
     add-out-2
     mul-out
     slice-write-out
-    add-i
-    loop-less
+    (λ c. omega arith)
+    (λ c. omega arith)
     loop-again
     same-length
     returns)

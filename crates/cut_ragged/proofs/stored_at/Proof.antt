@@ -14,9 +14,6 @@ use Rattle.cut_ragged.proofs.stored_at.Tie as tie
 steps : (c : tie.After-width-bytes) → c .before .before .args .j * c .width-bytes .result ≡ c .before .before .args .j * widthOf (c .before .before .args .width)
 steps c = ap (λ (x : ℕ). c .before .before .args .j * x) (c .width-bytes .ensures)
 
-width-bytes-requires : tie.Need-width-bytes-requires
-width-bytes-requires c κs = search needs
-
 mul-le-at : tie.Need-mul-le-at
 mul-le-at c = omega (arith, steps c, c .before .before .pre)
 
@@ -34,4 +31,4 @@ returns c =
 
 pub stored-at-spec : {M : Type 1} → statement M
 stored-at-spec =
-    tie.close (tie.spec width-bytes-requires mul-le-at add-le-at le-at-requires returns)
+    tie.close (tie.spec (λ c κs. search needs) mul-le-at add-le-at le-at-requires returns)

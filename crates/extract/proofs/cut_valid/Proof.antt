@@ -97,9 +97,6 @@ written w q =
     (ap (λ (x : WrittenRagged). outcomeRagged x (w .cut-values .last .1 .0) (w .cut-values .last .1 .1 .0)) (sym q)
     ∙ w .cut-values .ensures ∙ ap (λ (c : RaggedContent). putRagged c (raggedOf (outputs v))) (sym (cut-values (asked v) (kept v))))
 
-cast-depth : tie.Need-cast-depth
-cast-depth c = search needs
-
 volume-of-requires : tie.Need-volume-of-requires
 volume-of-requires c κs =
     let s = begun (c .before .before) in
@@ -115,35 +112,14 @@ returns c = let v = c .before in no-masks (cut v) (outputs v) (start v .args .ki
 cut-values-requires : tie.Need-cut-values-requires
 cut-values-requires c κs = let v = c .before .before .before in (asked v, cut-values-asked (asked v) (kept v))
 
-enum-known-written : tie.Need-enum-known-written
-enum-known-written c = search needs
-
-enum-known-written-2 : tie.Need-enum-known-written-2
-enum-known-written-2 c = search needs
-
 copy-masks-requires : tie.Need-copy-masks-requires
 copy-masks-requires c κs =
     let e = given (c .before .before .before .before) .before .before .before in
     let v = e .before in
     (asked v, cut-planes-asked (asked v) (kept v) (start v .args .out-masks .now) (depth-fits v) (e .if1 .left))
 
-same-length : tie.Need-same-length
-same-length c = search needs
-
-same-length-2 : tie.Need-same-length-2
-same-length-2 c = search needs
-
 returns-2 : tie.Need-returns-2
 returns-2 c = let t = c .before in written (given (t .before .before)) (t .written .given .1)
-
-same-length-3 : tie.Need-same-length-3
-same-length-3 c = search needs
-
-same-length-4 : tie.Need-same-length-4
-same-length-4 c = search needs
-
-same-length-5 : tie.Need-same-length-5
-same-length-5 c = search needs
 
 returns-3 : tie.Need-returns-3
 returns-3 c =
@@ -160,18 +136,18 @@ pub cut-valid-spec : {M : Type 1} → statement M
 cut-valid-spec =
     tie.close
     (tie.spec
-    cast-depth
+    (λ c. search needs)
     volume-of-requires
     mul-mask-bytes
     returns
     cut-values-requires
-    enum-known-written
-    enum-known-written-2
+    (λ c. search needs)
+    (λ c. search needs)
     copy-masks-requires
-    same-length
-    same-length-2
+    (λ c. search needs)
+    (λ c. search needs)
     returns-2
-    same-length-3
-    same-length-4
-    same-length-5
+    (λ c. search needs)
+    (λ c. search needs)
+    (λ c. search needs)
     returns-3)

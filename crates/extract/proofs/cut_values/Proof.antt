@@ -61,12 +61,6 @@ long k =
     fixed-long 0 (size k) (volume (s .args .shape .now)) (s .args .values .now) (cells s) (source k) (asked-below (s .pre .0))
     ∙ ap (λ (n : ℕ). n * size k) (asked-count (s .pre .0))
 
-enum-known-form : tie.Need-enum-known-form
-enum-known-form c = search needs
-
-cast-bytes : tie.Need-cast-bytes
-cast-bytes c = search needs
-
 mul-bytes : tie.Need-mul-bytes
 unfolding mostCells
 mul-bytes c = let s = start c in omega (arith, small-product (size c) (s .args .count) (omega arith) (asked-few (s .pre .0)))
@@ -74,26 +68,17 @@ mul-bytes c = let s = start c in omega (arith, small-product (size c) (s .args .
 returns : tie.Need-returns
 returns c = let k = c .before in rw (k .before .form .given .1) (no-values (cut k) (outputs (start k)) (long k) (c .if1 .taken))
 
-cast-copy-cells : tie.Need-cast-copy-cells
-cast-copy-cells c = search needs
-
 copy-cells-requires : tie.Need-copy-cells-requires
 copy-cells-requires c κs =
     let e = c .before in
     let k = e .before in
     (start k .pre .0, record { source = source k; room = omega (arith, e .if1 .left) })
 
-enum-told : tie.Need-enum-told
-enum-told c = search needs
-
 cut-requires : tie.Need-cut-requires
 cut-requires c κs =
     let e = c .before .before in
     let s = entry (e .before .before) in
     (s .pre .0, asked s (e .enum-told .given .1))
-
-same-length : tie.Need-same-length
-same-length c = search needs
 
 returns-2 : tie.Need-returns-2
 returns-2 c =
@@ -102,12 +87,6 @@ returns-2 c =
     let k = e .before in
     rw (k .before .form .given .1) (all-put (cut k) (outputs (start k)) (long k) refl (e .if1 .left) (omega arith) (r .copy-cells .ensures) refl)
 
-same-length-2 : tie.Need-same-length-2
-same-length-2 c = search needs
-
-same-length-3 : tie.Need-same-length-3
-same-length-3 c = search needs
-
 returns-3 : tie.Need-returns-3
 returns-3 c = let r = c .before .before .before .before in let e = r .before .before .before in rw (e .enum-told .given .1) (r .cut .ensures)
 
@@ -115,16 +94,16 @@ pub cut-values-spec : {M : Type 1} → statement M
 cut-values-spec =
     tie.close
     (tie.spec
-    enum-known-form
-    cast-bytes
+    (λ c. search needs)
+    (λ c. search needs)
     mul-bytes
     returns
-    cast-copy-cells
+    (λ c. search needs)
     copy-cells-requires
-    enum-told
+    (λ c. search needs)
     cut-requires
-    same-length
+    (λ c. search needs)
     returns-2
-    same-length-2
-    same-length-3
+    (λ c. search needs)
+    (λ c. search needs)
     returns-3)

@@ -40,31 +40,10 @@ volume-of-requires c κs =
     let s = entry (c .before .before) in
     few-within (s .args .starts .now) (s .args .lens .now) (s .pre .0 .shaped) (s .pre .0 .within)
 
-too-large-requires : tie.Need-too-large-requires
-too-large-requires c κs = search needs
-
 returns : tie.Need-returns
 returns c =
     let s = start (c .before) in
     too-many (last s) (cut s) (outputs s) (not-true (sizeTest (last s)) (sym (c .before .too-large .ensures) ∙ c .if1 .taken))
-
-sub-cut : tie.Need-sub-cut
-sub-cut c = search needs
-
-part-cut-start : tie.Need-part-cut-start
-part-cut-start c = search needs
-
-part-cut-end : tie.Need-part-cut-end
-part-cut-end c = search needs
-
-cut-requires : tie.Need-cut-requires
-cut-requires c κs = search needs
-
-same-length : tie.Need-same-length
-same-length c = search needs
-
-same-length-2 : tie.Need-same-length-2
-same-length-2 c = search needs
 
 returns-2 : tie.Need-returns-2
 returns-2 c =
@@ -78,12 +57,12 @@ cut-stored-spec =
     tie.close
     (tie.spec
     volume-of-requires
-    too-large-requires
+    (λ c κs. search needs)
     returns
-    sub-cut
-    part-cut-start
-    part-cut-end
-    cut-requires
-    same-length
-    same-length-2
+    (λ c. search needs)
+    (λ c. search needs)
+    (λ c. search needs)
+    (λ c κs. search needs)
+    (λ c. search needs)
+    (λ c. search needs)
     returns-2)

@@ -107,24 +107,12 @@ read f =
     let s = begun (checked f) in
     read-found (width s) (place s) (bytes s) (volume (shape s)) (index f) (sym (checks (checked f)) ∙ ap toldIndex (f .before .found2 .given .1))
 
-shape-cells-requires : tie.Need-shape-cells-requires
-shape-cells-requires c κs = search needs
-
-enum-known-cells : tie.Need-enum-known-cells
-enum-known-cells c = search needs
-
-enum-told : tie.Need-enum-told
-enum-told c = search needs
-
 returns : tie.Need-returns
 returns c =
     let m = c .before .before in
     let s = asked m in
     no-shape (width s) (place s) (shape s) (numbers s) (bytes s) (outputs s)
     (not-counted (shape s) (c .enum-told .given .0 .0) (sym (ap toldCells (c .enum-told .given .1)) ∙ m .shape-cells .ensures) .0)
-
-subset-fits-requires : tie.Need-subset-fits-requires
-subset-fits-requires c κs = search needs
 
 returns-2 : tie.Need-returns-2
 returns-2 c =
@@ -137,32 +125,14 @@ find-index-requires : tie.Need-find-index-requires
 unfolding mostCells
 find-index-requires c κs = (shaped (told c) .few, omega arith)
 
-enum-known-found : tie.Need-enum-known-found
-enum-known-found c = search needs
-
-enum-known-found-2 : tie.Need-enum-known-found-2
-enum-known-found-2 c = search needs
-
-sub-cut-stored : tie.Need-sub-cut-stored
-sub-cut-stored c = search needs
-
-part-cut-stored-start : tie.Need-part-cut-stored-start
-part-cut-stored-start c = search needs
-
 part-cut-stored-end : tie.Need-part-cut-stored-end
 part-cut-stored-end c = omega (arith, fitting (checked c .before) .counted)
-
-mul-cut-stored : tie.Need-mul-cut-stored
-mul-cut-stored c = search needs
 
 sub-cut-stored-2 : tie.Need-sub-cut-stored-2
 sub-cut-stored-2 c = omega (arith, fitting (checked (c .before) .before) .counted)
 
 part-cut-stored-start-2 : tie.Need-part-cut-stored-start-2
 part-cut-stored-start-2 c = omega (arith, fitting (checked (c .before) .before) .counted)
-
-part-cut-stored-end-2 : tie.Need-part-cut-stored-end-2
-part-cut-stored-end-2 c = search needs
 
 cut-stored-requires : tie.Need-cut-stored-requires
 cut-stored-requires c κs =
@@ -179,12 +149,6 @@ returns-3 c =
     not-read (width s) (place s) (shape s) (numbers s) (bytes s) (outputs s) (shaped (told e) .passes) (subset-passes e) (c .before .found .given .0 .0)
     (sym (checks k) ∙ ap toldIndex (c .before .found .given .1))
 
-same-length : tie.Need-same-length
-same-length c = search needs
-
-same-length-2 : tie.Need-same-length-2
-same-length-2 c = search needs
-
 returns-4 : tie.Need-returns-4
 returns-4 c =
     let r = c .before .before .before .before in
@@ -193,31 +157,32 @@ returns-4 c =
     let e = checked f .before in
     let s = start (told e) in
     r .cut-stored .ensures
-    ∙ ap (λ (b : Subset). raggedOutcome (cutAnswer (i .last) (storedValues (width s) (bytes s) i (cellsIn (shape s) b)) (raggedLengthsOf (outputs s))) (outputs s)) (subset-parts (length (shape s)) (numbers s))
+    ∙ ap (λ (b : Subset). raggedOutcome (cutAnswer (i .last) (storedValues (width s) (bytes s) i (cellsIn (shape s) b)) (raggedLengthsOf (outputs s))) (outputs s))
+    (subset-parts (length (shape s)) (numbers s))
     ∙ cut-read (width s) (place s) (shape s) (numbers s) (bytes s) (outputs s) (shaped (told e) .passes) (subset-passes e) i (read f)
 
 pub partial-decode-spec : {M : Type 1} → statement M
 partial-decode-spec =
     tie.close
     (tie.spec
-    shape-cells-requires
-    enum-known-cells
-    enum-told
+    (λ c κs. search needs)
+    (λ c. search needs)
+    (λ c. search needs)
     returns
-    subset-fits-requires
+    (λ c κs. search needs)
     returns-2
     find-index-requires
-    enum-known-found
-    enum-known-found-2
-    sub-cut-stored
-    part-cut-stored-start
+    (λ c. search needs)
+    (λ c. search needs)
+    (λ c. search needs)
+    (λ c. search needs)
     part-cut-stored-end
-    mul-cut-stored
+    (λ c. search needs)
     sub-cut-stored-2
     part-cut-stored-start-2
-    part-cut-stored-end-2
+    (λ c. search needs)
     cut-stored-requires
     returns-3
-    same-length
-    same-length-2
+    (λ c. search needs)
+    (λ c. search needs)
     returns-4)
