@@ -6,14 +6,12 @@ use native.Mathlib.Omega.{arith}
 use borrow.Author.Needs.{needs}
 use lib.ListN.{length, drop}
 use Rattle.array.specs.Limits.{mostCells}
-use Rattle.array.specs.Shape.{volume}
 use Rattle.array.specs.Subset.{pairs, cellsIn}
 use Rattle.subset.specs.Walk.{rowOf}
 use Rattle.subset.proofs.Rows.{asked-left, asked-few}
-use Rattle.cut_ragged.proofs.Ragged.{Ragged, ragged-begins, ragged-same, ragged-same-offsets, ragged-values, ragged-offsets}
-use Rattle.cut_ragged.specs.Source.{sourceAt, dataAt, There}
-use Rattle.cut_ragged.proofs.Offsets.{there-below}
-use Rattle.cut_ragged.proofs.Ragged.{NextRow, next-row, next-copied}
+use Rattle.cut_ragged.specs.Source.{sourceAt, dataAt}
+use Rattle.cut_ragged.proofs.Offsets.{offset-there}
+use Rattle.cut_ragged.proofs.Ragged.{Ragged, ragged-begins, ragged-same, ragged-same-offsets, ragged-values, ragged-offsets, NextRow, next-row, next-copied}
 use Rattle.cut_ragged.proofs.copy_rows.Statement.{statement}
 use Rattle.cut_ragged.proofs.copy_rows.Tie as tie
 
@@ -69,10 +67,6 @@ short a = omega arith
 short-values : (a : Start) → length (a .args .values .now) < 18446744073709551616
 short-values a = omega arith
 
--- an offset of the shape's cells is there
-there-for : (a : Start) (j : ℕ) → j ≤ volume (a .args .shape .now) → There (a .args .source) (a .args .numbers .now) (a .args .bytes .now) j
-there-for a j h = there-below (a .args .source) (a .args .numbers .now) (a .args .bytes .now) (volume (a .args .shape .now)) j (a .pre .1 .asked .there) h
-
 -- where the data begins
 based : (k : Known) → head k .before .data-at .result ≡ dataAt (start k .args .source)
 based k = head k .before .data-at .ensures
@@ -97,14 +91,14 @@ row-at-requires : tie.Need-row-at-requires Inv-loop μ-loop
 row-at-requires c κs = (begun (c .before) .pre .0, c .before .loop .inv .copied .geo, c .loop-test .taken)
 
 offset-at-requires : tie.Need-offset-at-requires Inv-loop μ-loop
-offset-at-requires c κs = there-for (start c) (c .row-at .result .first) (omega (arith, c .row-at .ensures .inside))
+offset-at-requires c κs = offset-there (start c .pre .1 .asked) (c .row-at .result .first) (omega (arith, c .row-at .ensures .inside))
 
 add-offset-at : tie.Need-add-offset-at Inv-loop μ-loop
 unfolding mostCells
 add-offset-at c = let k = c .before in omega (arith, k .row-at .ensures .inside, start k .pre .0 .shaped .few-cells)
 
 offset-at-requires-2 : tie.Need-offset-at-requires-2 Inv-loop μ-loop
-offset-at-requires-2 c κs = let k = c .before in there-for (start k) (k .row-at .result .first + k .row-at .result .cells) (k .row-at .ensures .inside)
+offset-at-requires-2 c κs = let k = c .before in offset-there (start k .pre .1 .asked) (k .row-at .result .first + k .row-at .result .cells) (k .row-at .ensures .inside)
 
 sub-size : tie.Need-sub-size Inv-loop μ-loop
 sub-size c = omega (arith, next (known c) .rises, c .offset-at2 .ensures, c .before .offset-at .ensures)
@@ -135,7 +129,7 @@ store-ends-requires c κs =
     let a = start k in (
       next k .room-offsets,
       record {
-        there = there-for a (k .row-at .result .first + k .row-at .result .cells) (k .row-at .ensures .inside);
+        there = offset-there (a .pre .1 .asked) (k .row-at .result .first + k .row-at .result .cells) (k .row-at .ensures .inside);
         rises = λ j h. a .pre .1 .asked .rises j (omega (arith, k .row-at .ensures .inside));
         few-cells = omega (arith, k .row-at .ensures .inside, a .pre .0 .shaped .few-cells);
         here = given-back (c .before .before) .before .offset-at .ensures;

@@ -4,15 +4,14 @@ use Prim.Native.Nat.{ℕ, _+_, _-_, _≤_, _<_}
 use mathlib.Core.Path.{sym, ap₂, subst}
 use native.Mathlib.Omega.{arith}
 use Rattle.array.specs.Limits.{mostCells}
-use Rattle.array.specs.Shape.{volume}
 use Rattle.array.specs.Subset.{pairs, cellsIn}
 use Rattle.subset.specs.Walk.{rowOf}
 use Rattle.subset.proofs.Rows.{asked-left, asked-few}
 use Rattle.array.specs.Places.{bytesAt}
 use Rattle.array.proofs.Places.{run-rises}
 use Rattle.cut_ragged.proofs.Counting.{bytes-most, Counting, counting-begins, counting-ends, counting-more}
-use Rattle.cut_ragged.specs.Source.{sourceAt, There}
-use Rattle.cut_ragged.proofs.Offsets.{there-below}
+use Rattle.cut_ragged.specs.Source.{sourceAt}
+use Rattle.cut_ragged.proofs.Offsets.{offset-there}
 use Rattle.cut_ragged.proofs.count_bytes.Statement.{statement}
 use Rattle.cut_ragged.proofs.count_bytes.Tie as tie
 
@@ -70,10 +69,6 @@ short a =
       a .pre .1 .data-room,
     )
 
--- an offset of the shape's cells is there
-there-for : (a : Start) (j : ℕ) → j ≤ volume (a .args .shape .now) → There (a .args .source) (a .args .numbers .now) (a .args .bytes .now) j
-there-for a j h = there-below (a .args .source) (a .args .numbers .now) (a .args .bytes .now) (volume (a .args .shape .now)) j (a .pre .1 .there) h
-
 loop-holds : tie.Need-loop-holds Inv-loop μ-loop
 loop-holds c = let a = entry (c .before) in counting-begins (off a) (asked-left (a .pre .0))
 
@@ -81,14 +76,14 @@ row-at-requires : tie.Need-row-at-requires Inv-loop μ-loop
 row-at-requires c κs = (begun (c .before) .pre .0, c .before .loop .inv .geo, c .loop-test .taken)
 
 offset-at-requires : tie.Need-offset-at-requires Inv-loop μ-loop
-offset-at-requires c κs = there-for (start c) (c .row-at .result .first) (omega (arith, c .row-at .ensures .inside))
+offset-at-requires c κs = offset-there (start c .pre .1) (c .row-at .result .first) (omega (arith, c .row-at .ensures .inside))
 
 add-offset-at : tie.Need-add-offset-at Inv-loop μ-loop
 unfolding mostCells
 add-offset-at c = let k = c .before in omega (arith, k .row-at .ensures .inside, start k .pre .0 .shaped .few-cells)
 
 offset-at-requires-2 : tie.Need-offset-at-requires-2 Inv-loop μ-loop
-offset-at-requires-2 c κs = let k = c .before in there-for (start k) (k .row-at .result .first + k .row-at .result .cells) (k .row-at .ensures .inside)
+offset-at-requires-2 c κs = let k = c .before in offset-there (start k .pre .1) (k .row-at .result .first + k .row-at .result .cells) (k .row-at .ensures .inside)
 
 sub-total : tie.Need-sub-total Inv-loop μ-loop
 sub-total c = omega (arith, rises (c .before .before), c .offset-at2 .ensures, c .before .offset-at .ensures)
