@@ -60,7 +60,7 @@ copy-rows-requires c κs =
       record {
         asked = s .pre .1;
         room = omega (arith, values-need b, f .before .if1 .left);
-        room-offsets = omega (arith, asked-count (s .pre .0), f .if2 .left, length-set (s .args .offsets .now) 0 0);
+        room-offsets = simp length-set (omega (arith, asked-count (s .pre .0), f .if2 .left));
       },
     )
 
