@@ -1,5 +1,5 @@
--- Redundant by the law cut-read in partial/proofs/Outcomes.antt and the law cut-values in extract/proofs/Cutting.antt: where ragged values lie,
--- and what a cut of them asks and leaves.
+-- Redundant by the law cut-read in partial/proofs/Outcomes.antt: where ragged values lie, and what a cut of them asks and leaves.
+-- Of offsets that are numbers: cut-values in extract/proofs/Cutting.antt.
 -- Assumes nothing.
 use mathlib.Core.Path.{_≡_}
 use Prim.Native.Nat.{ℕ, suc, _+_, _-_, _*_, _^_, _≤_, _<_}
