@@ -43,6 +43,7 @@ fn cut_stored(
     if vlen::too_large(last) {
         return WrittenRagged::Refused(refusal::SIZE);
     }
+    // No offset is a number by itself: all are read where they are stored.
     cut_ragged::cut(
         source,
         &shape[0..0],
