@@ -1,4 +1,5 @@
 pub mod Gather
+pub mod CutPlaces
 pub mod GoodCells
 pub mod Chunks
 pub mod Calls

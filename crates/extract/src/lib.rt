@@ -1,61 +1,28 @@
 // Layer 3: a subset cut from an array.
 use array::answer::WrittenArray;
+use array::answer::WrittenRagged;
 use array::kind::Kind;
 use array::kind::Values;
 use array::refusal;
+use cut_ragged::Source;
 use valid::array_bytes::Checked;
 use valid::shape::Cells;
 ghost use mathlib.Core.Path.{_≡_};
-ghost use Prim.Native.Nat.{_≤_};
-ghost use Rattle.array.specs.Limits.{mostCells};
-ghost use Rattle.array.specs.Lists.{joined};
 ghost use Rattle.array.specs.Shape.{volume};
 ghost use Rattle.array.specs.Subset.{pairs, cellsIn};
-ghost use Rattle.array.specs.Content.{offsetsFor};
-ghost use Rattle.array.specs.Buffers.{over, putInto};
-ghost use Rattle.array.specs.Outcome.{contentArray, outcomeArray};
+ghost use Rattle.array.specs.Buffers.{putInto};
+ghost use Rattle.array.specs.Outcome.{contentRagged, outcomeRagged, contentArray, outcomeArray};
 ghost use Rattle.array.specs.Meaning.{formOf, kindOf};
-ghost use Rattle.chunks.specs.Chunks.{offsetCount};
 ghost use Rattle.chunks.specs.Cut.{cutOf};
 ghost use Rattle.chunks.specs.Calls.{extracted};
 ghost use Rattle.subset.specs.Walk.{SubsetAsked};
-ghost use Rattle.array.specs.Places.{beginsAt, bytesAt, valuesAt};
-ghost use Rattle.extract.specs.Asked.{OffsetsFor, ValuesAsked, ArrayAsked};
+ghost use Rattle.cut_ragged.specs.Source.{putRagged};
+ghost use Rattle.extract.specs.Asked.{valuesCut, ValuesAsked, ArrayAsked};
 
 pub mod cells;
-pub mod ragged;
 
-// How many value bytes the cells of a subset have.
-fn value_bytes(
-    form: Values,
-    offsets: &[u64],
-    shape: &[u64],
-    starts: &[u64],
-    lens: &[u64],
-    count: usize,
-) -> usize
-    requires { ⌜ SubsetAsked (now shape) (now starts) (now lens) count × OffsetsFor (formOf form) (now offsets) (now shape) ⌝ }
-    ensures { λ r. ⌜ r ≡ bytesAt (beginsAt (formOf form) (now (offsets .entry))) (cellsIn (now (shape .entry)) (pairs (now (starts .entry)) (now (lens .entry)))) ⌝ }
-{
-    match form {
-        Values::Fixed(size, _) => count * (size as usize),
-        Values::Ragged(_, _) => ragged::count_bytes(offsets, shape, starts, lens, count),
-    }
-}
-
-// How many offsets they have.
-fn count_offsets(form: Values, count: usize) -> usize
-    requires { ⌜ count ≤ mostCells ⌝ }
-    ensures { λ r. ⌜ r ≡ offsetCount (formOf form) count ⌝ }
-{
-    match form {
-        Values::Fixed(_, _) => 0,
-        Values::Ragged(_, _) => count + 1,
-    }
-}
-
-// Copies their values, and the offsets of ragged ones.
-fn copy_values(
+// The values of a subset's cells, with the offsets of ragged ones; or 6. Nothing is stored before the last check.
+fn cut_values(
     form: Values,
     out_values: &mut [u8],
     out_offsets: &mut [u64],
@@ -65,40 +32,48 @@ fn copy_values(
     starts: &[u64],
     lens: &[u64],
     count: usize,
-)
-    requires { ⌜ SubsetAsked (now shape) (now starts) (now lens) count
-        × ValuesAsked (formOf form) (now «out_values») (now «out_offsets») (now values) (now offsets) (now shape) (cellsIn (now shape) (pairs (now starts) (now lens))) ⌝ }
-    ensures values { λ _. ⌜ now («out_values» .exit) ≡ over (joined (valuesAt (beginsAt (formOf form) (now (offsets .entry))) (now (values .entry))
-        (cellsIn (now (shape .entry)) (pairs (now (starts .entry)) (now (lens .entry)))))) (now («out_values» .entry)) ⌝ }
-    ensures offsets { λ _. ⌜ now («out_offsets» .exit) ≡ over (offsetsFor (formOf form) (valuesAt (beginsAt (formOf form) (now (offsets .entry))) (now (values .entry))
-        (cellsIn (now (shape .entry)) (pairs (now (starts .entry)) (now (lens .entry)))))) (now («out_offsets» .entry)) ⌝ }
+) -> WrittenRagged
+    requires { ⌜ SubsetAsked (now shape) (now starts) (now lens) count × ValuesAsked (formOf form) (now values) (now offsets) (now shape) ⌝ }
+    ensures { λ r. ⌜ outcomeRagged r (now («out_values» .exit)) (now («out_offsets» .exit))
+        ≡ putRagged (valuesCut (formOf form) (now (values .entry)) (now (offsets .entry)) (cellsIn (now (shape .entry)) (pairs (now (starts .entry)) (now (lens .entry)))))
+        (contentRagged (now («out_values» .entry)) (now («out_offsets» .entry))) ⌝ }
 {
     match form {
-        Values::Fixed(size, _) => cells::copy_cells(
-            out_values,
-            0,
+        Values::Fixed(size, _) => {
+            let bytes = count * (size as usize);
+            if out_values.len() < bytes {
+                return WrittenRagged::Refused(refusal::OUTPUT);
+            }
+            cells::copy_cells(
+                out_values,
+                0,
+                values,
+                0,
+                size as usize,
+                shape,
+                starts,
+                lens,
+                count,
+            );
+            WrittenRagged::Lengths(bytes, 0)
+        }
+        Values::Ragged(_, _) => cut_ragged::cut(
+            Source::Numbers,
+            offsets,
             values,
-            0,
-            size as usize,
             shape,
             starts,
             lens,
             count,
-        ),
-        Values::Ragged(_, _) => ragged::copy_ragged(
             out_values,
             out_offsets,
-            values,
-            offsets,
-            shape,
-            starts,
-            lens,
-            count,
         ),
     }
 }
 
-// The cut of an array that keeps the rules: 6, or the masks, values and offsets of the subset's cells.
+// The cut of an array that keeps the rules: 6, or the masks, values and offsets of the subset's cells. Masks come last, as the room for
+// them is known before that for values.
+// 11 parameters: an array and the outputs are three slices each.
 fn cut_valid(
     kind: Kind,
     cells: usize,
@@ -125,16 +100,7 @@ fn cut_valid(
     if out_masks.len() < mask_bytes {
         return WrittenArray::Refused(refusal::OUTPUT);
     }
-    let bytes = value_bytes(form, offsets, shape, starts, lens, count);
-    if out_values.len() < bytes {
-        return WrittenArray::Refused(refusal::OUTPUT);
-    }
-    let numbers = count_offsets(form, count);
-    if out_offsets.len() < numbers {
-        return WrittenArray::Refused(refusal::OUTPUT);
-    }
-    cells::copy_masks(out_masks, masks, depth, cells, shape, starts, lens, count);
-    copy_values(
+    let written = cut_values(
         form,
         out_values,
         out_offsets,
@@ -145,7 +111,13 @@ fn cut_valid(
         lens,
         count,
     );
-    WrittenArray::Lengths(mask_bytes, bytes, numbers)
+    match written {
+        WrittenRagged::Refused(e) => WrittenArray::Refused(e),
+        WrittenRagged::Lengths(bytes, numbers) => {
+            cells::copy_masks(out_masks, masks, depth, cells, shape, starts, lens, count);
+            WrittenArray::Lengths(mask_bytes, bytes, numbers)
+        }
+    }
 }
 
 // The masks, values and offsets of the cells of a subset, cut from an array. Nothing is stored before the last check.

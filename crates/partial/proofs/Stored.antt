@@ -3,7 +3,7 @@
 -- Assumes nothing.
 use mathlib.Core.Path.{_≡_, refl, sym, ap, ap₂, _∙_, subst}
 use Prim.Native.Nat.{ℕ, zero, suc, _+_, _-_, _*_, _≤_, _<_}
-use native.Mathlib.Nat.{zero-mul, suc-mul, mul-le-mul-right}
+use native.Mathlib.Nat.{zero-mul, suc-mul}
 use native.Mathlib.Omega.{arith}
 use mathlib.Core.List.{List, [], _∷_}
 use lib.ListN.{length, take, drop, getD, length-drop, length-map}
@@ -17,6 +17,8 @@ use Rattle.array.specs.Subset.{SubsetOk, subsetOf, cellsIn}
 use Rattle.array.specs.Cells.{Value}
 use Rattle.array.specs.Offsets.{last, Rising}
 use Rattle.array.specs.Content.{Content, RaggedContent, unmasked, ValuesOk, sizeTest, endToEnd}
+use Rattle.array.specs.declared.kind.IndexWidth.{IndexWidth}
+use Rattle.array.specs.Meaning.{widthOf}
 use Rattle.array.specs.Places.{offsetAt, Rises, valuesAt}
 use Rattle.array.proofs.Lists.{length-pieces, take-within}
 use Rattle.array.proofs.Offsets.{last-at}
@@ -26,10 +28,10 @@ use Rattle.stored.specs.declared.vlen.Index.{Index}
 use Rattle.stored.specs.Index.{offsetsIn, foundIn, raggedAt, endsIn, IndexWithin}
 use Rattle.stored.proofs.CheckedIndex.{IndexFound, index-found}
 use Rattle.chunks.specs.Calls.{raggedCut}
-use Rattle.array.proofs.Places.{run-below}
-use Rattle.array.proofs.Places.{begins-rise}
-use Rattle.extract.proofs.Closing.{cut-is}
-use Rattle.partial.specs.Stored.{storedAt, DataAsked}
+use Rattle.array.proofs.Places.{run-below, begins-rise}
+use Rattle.chunks.proofs.CutPlaces.{cut-is}
+use Rattle.cut_ragged.specs.Source.{storedAt}
+use Rattle.partial.specs.Stored.{storedValues, StoredAsked}
 
 -- ---- offset j of an index
 
@@ -46,21 +48,20 @@ unfolding storedAt
 stored-is w n s index j h =
     offset-in w (suc n) (drop index s) j (omega arith) ∙ ap (λ (l : List ℕ). unle (take w l)) (drop-drop (j * w) index s)
 
--- it lies within the index
-pub offset-room : (w n j index l : ℕ) → j ≤ n → index + (w + n * w) ≤ l → index + (w + j * w) ≤ l
-offset-room w n j index l h r = omega (arith, mul-le-mul-right {m = j} {n = n} w h)
-
 -- ---- values whose index was found, by where they lie
 
 abbrev pub readAt : ℕ → List ℕ → ℕ → ℕ → ℕ → RaggedContent
 readAt w s n index source = record { values = take (storedAt w s index n) (drop source s); offsets = offsetsIn w (suc n) (drop index s) }
 
-pub record Read (w : ℕ) (p : Place) (s : List ℕ) (n : ℕ) (i : Index) : Type 0 where
-  pub stored : DataAsked w s (i .index) (i .from) n
-  pub gave : getRagged w p s n ≡ unless (sizeTest (i .last)) 5 (gives (readAt w s n (i .index) (i .from)))
-  pub keeps : ValuesOk (ragged w p) n (unmasked (readAt w s n (i .index) (i .from)))
+pub record Read (width : IndexWidth) (p : Place) (s : List ℕ) (n : ℕ) (i : Index) : Type 0 where
+  pub stored : StoredAsked width s i n
+  pub gave : getRagged (widthOf width) p s n ≡ unless (sizeTest (i .last)) 5 (gives (readAt (widthOf width) s n (i .index) (i .from)))
+  pub keeps : ValuesOk (ragged (widthOf width) p) n (unmasked (readAt (widthOf width) s n (i .index) (i .from)))
 
-module _ (w : ℕ) (p : Place) (s : List ℕ) (i : Index) where
+module _ (width : IndexWidth) (p : Place) (s : List ℕ) (i : Index) where
+  abbrev w : ℕ
+  w = widthOf width
+
   abbrev cells : ℕ
   cells = i .cells
 
@@ -73,7 +74,7 @@ module _ (w : ℕ) (p : Place) (s : List ℕ) (i : Index) where
   last-stored : last os ≡ storedAt w s (i .index) cells
   last-stored = last-at os cells many ∙ stored-is w cells s (i .index) cells (omega arith)
 
-  by-places : IndexWithin w s i → os ≡ 0 ∷ endsIn w s i → getRagged w p s cells ≡ unless (sizeTest (i .last)) 5 (gives (raggedAt w s i)) → Read w p s cells i
+  by-places : IndexWithin w s i → os ≡ 0 ∷ endsIn w s i → getRagged w p s cells ≡ unless (sizeTest (i .last)) 5 (gives (raggedAt w s i)) → Read width p s cells i
   by-places h os-are g =
       let e : i .last ≡ storedAt w s (i .index) cells = h .last-is ∙ ap last (sym os-are) ∙ last-stored in
       let up : Rising os = subst Rising (sym os-are) (refl, h .rising) in
@@ -81,17 +82,14 @@ module _ (w : ℕ) (p : Place) (s : List ℕ) (i : Index) where
       (many, up, last-stored ∙ sym (length-take-le (storedAt w s (i .index) cells) (drop (i .from) s) (omega (arith, length-drop (i .from) s, h .data-room)))) in
       record {
         stored = record {
-          index-asked = record {
-            room = h .index-room;
-            rises = λ j l.
-                omega (
-                  arith,
-                  begins-rise (ragged w p) cells (unmasked (readAt w s cells (i .index) (i .from))) ok j l,
-                  stored-is w cells s (i .index) j (omega arith),
-                  stored-is w cells s (i .index) (suc j) (omega arith),
-                );
-            few-bytes = omega (arith, h .data-room);
-          };
+          there = h .index-room;
+          rises = λ j l.
+              omega (
+                arith,
+                begins-rise (ragged w p) cells (unmasked (readAt w s cells (i .index) (i .from))) ok j l,
+                stored-is w cells s (i .index) j (omega arith),
+                stored-is w cells s (i .index) (suc j) (omega arith),
+              );
           data-room = omega (arith, h .data-room);
         };
         gave = g ∙ ap (λ (l : ℕ). unless (sizeTest (i .last)) 5 (gives (record { values = take l (drop (i .from) s); offsets = os }))) e;
@@ -99,10 +97,10 @@ module _ (w : ℕ) (p : Place) (s : List ℕ) (i : Index) where
       }
 
 -- the check's answer says where they lie
-pub read-found : (w : ℕ) (p : Place) (s : List ℕ) (n : ℕ) (i : Index) → foundIn w p s 0 n ≡ gives i → Read w p s n i
-read-found w p s n i h =
-    let c : IndexFound w p s 0 n i = index-found w p s 0 n i (omega arith) h in
-    subst (λ (m : ℕ). Read w p s m i) (c .cells-are) (by-places w p s i (c .within) (c .offsets-are) (ap (getRagged w p s) (c .cells-are) ∙ c .gave))
+pub read-found : (width : IndexWidth) (p : Place) (s : List ℕ) (n : ℕ) (i : Index) → foundIn (widthOf width) p s 0 n ≡ gives i → Read width p s n i
+read-found width p s n i h =
+    let c : IndexFound (widthOf width) p s 0 n i = index-found (widthOf width) p s 0 n i (omega arith) h in
+    subst (λ (m : ℕ). Read width p s m i) (c .cells-are) (by-places width p s i (c .within) (c .offsets-are) (ap (getRagged (widthOf width) p s) (c .cells-are) ∙ c .gave))
 
 -- ---- the cut
 
@@ -118,15 +116,13 @@ values-same off {to} {n} q r e (j ∷ js) a =
     (ap₂ (λ (x y : ℕ). take (x - y) (drop y (take (to n) q))) (e (suc j) (omega arith)) (e j (omega arith)) ∙ take-within (to j) (to (suc j) - to j) (to n) q (omega arith))
     (values-same off q r e js (a .1))
 
-pub read-cut : {w : ℕ} {p : Place} {s : List ℕ} {i : Index} (shape ns : List ℕ) → Read w p s (volume shape) i → SubsetOk shape (subsetOf (length shape) ns)
-    → raggedCut w p shape ns (readAt w s (volume shape) (i .index) (i .from))
-    ≡ endToEnd (valuesAt (storedAt w s (i .index)) (drop (i .from) s) (cellsIn shape (subsetOf (length shape) ns)))
-read-cut {w} {p} {s} {i} shape ns r ok =
+pub read-cut : {width : IndexWidth} {p : Place} {s : List ℕ} {i : Index} (shape ns : List ℕ) → Read width p s (volume shape) i → SubsetOk shape (subsetOf (length shape) ns)
+    → raggedCut (widthOf width) p shape ns (readAt (widthOf width) s (volume shape) (i .index) (i .from)) ≡ endToEnd (storedValues width s i (cellsIn shape (subsetOf (length shape) ns)))
+read-cut {width} {p} {s} {i} shape ns r ok =
     let n : ℕ = volume shape in
-    let x : RaggedContent = readAt w s n (i .index) (i .from) in
-    let js : List ℕ = cellsIn shape (subsetOf (length shape) ns) in
+    let x : RaggedContent = readAt (widthOf width) s n (i .index) (i .from) in
     ap (λ (c : Content). record { values = c .values; offsets = c .offsets })
-    (cut-is {k = byteKind 0 (ragged w p)} shape {c = unmasked x} (record { masks-fit = sym (zero-mul n); values-fit = r .keeps }) (subsetOf (length shape) ns) ok)
+    (cut-is {k = byteKind 0 (ragged (widthOf width) p)} shape {c = unmasked x} (record { masks-fit = sym (zero-mul n); values-fit = r .keeps }) (subsetOf (length shape) ns) ok)
     ∙ ap endToEnd
-    (values-same (offsetAt (x .offsets)) (drop (i .from) s) (r .stored .index-asked .rises) (stored-is w n s (i .index)) js
+    (values-same (offsetAt (x .offsets)) (drop (i .from) s) (r .stored .rises) (stored-is (widthOf width) n s (i .index)) (cellsIn shape (subsetOf (length shape) ns))
     (cellsIn-below shape (subsetOf (length shape) ns) ok))

@@ -1,4 +1,4 @@
--- `cut_valid` meets its contract: the needs are the lengths of the cut's parts, and what is copied is the cut (proofs/Cutting).
+-- `cut_valid` meets its contract: what is copied is the cut (proofs/Cutting), and its masks stand before the rest (proofs/Outcomes).
 -- Assumes nothing.
 use Prim.Native.Nat.{ℕ, _*_, _≤_}
 use mathlib.Core.Path.{_≡_, sym, ap, _∙_}
@@ -6,12 +6,14 @@ use mathlib.Core.List.{List}
 use native.Mathlib.Omega.{arith}
 use borrow.Author.Needs.{needs}
 use lib.ListN.{length}
+use Rattle.array.specs.declared.answer.WrittenRagged.{WrittenRagged}
+use Rattle.array.specs.declared.answer.WrittenArray.{WrittenArray}
 use Rattle.array.specs.Limits.{mostCells}
 use Rattle.array.specs.Kind.{Kind}
 use Rattle.array.specs.Subset.{pairs}
-use Rattle.array.specs.Content.{Content}
-use Rattle.array.specs.Buffers.{over}
-use Rattle.array.specs.Outcome.{contentArray}
+use Rattle.array.specs.Content.{Content, RaggedContent}
+use Rattle.array.specs.Buffers.{over, putInto}
+use Rattle.array.specs.Outcome.{contentArray, outcomeRagged, outcomeArray}
 use Rattle.array.specs.Meaning.{kindOf}
 use Rattle.valid.proofs.CheckLaws.{small-product}
 use Rattle.subset.specs.Walk.{SubsetAsked}
@@ -19,20 +21,13 @@ use Rattle.subset.proofs.Index.{few-within}
 use Rattle.subset.proofs.Rows.{asked-few}
 use Rattle.chunks.specs.Cut.{cutOf}
 use Rattle.extract.specs.Asked.{ArrayAsked}
-use Rattle.extract.proofs.Cutting.{cut-masks, cut-values, cut-offsets, cut-masks-long, cut-values-long, cut-offsets-long, cut-planes-asked, cut-offsets-for, cut-values-asked}
-use Rattle.array.proofs.Putting.{no-masks, no-values, no-offsets, put}
+use Rattle.chunks.specs.ReadThenCut.{raggedOf}
+use Rattle.cut_ragged.specs.Source.{putRagged}
+use Rattle.extract.proofs.Cutting.{cut-masks, cut-values, cut-masks-long, cut-planes-asked, cut-values-asked}
+use Rattle.extract.proofs.Outcomes.{withMasks, masks-first}
+use Rattle.array.proofs.Putting.{no-masks}
 use Rattle.extract.proofs.cut_valid.Statement.{statement}
 use Rattle.extract.proofs.cut_valid.Tie as tie
-
--- places that the answers go back to
-abbrev masks-fit : tie.Else3 → tie.Else1
-masks-fit c = c .before .before .before .before
-
-abbrev masks-copied : tie.After-copy-values-arg2 → tie.After-copy-masks
-masks-copied c = c .before .before .before .before
-
-abbrev all-fit : tie.After-out-masks → tie.Else3
-all-fit c = c .before .before .before
 
 abbrev entry : tie.After-shared-slice-known4 → tie.Start
 entry c = c .before .before .before .before
@@ -86,18 +81,21 @@ depth-fits v = omega arith
 masks-need : (v : Counted) → length (cut v .masks) ≡ start v .args .kind .depth * count v
 masks-need v = cut-masks-long (asked v) (kept v)
 
-values-need : (b : tie.After-value-bytes) → length (cut (b .before .before) .values) ≡ b .value-bytes .result
-values-need b =
-    let v = b .before .before in
-    cut-values-long (asked v) (kept v) ∙ sym (b .value-bytes .ensures)
+-- where the outputs of values came back
+abbrev given : tie.After-slice-known5 → tie.After-cut-values
+given c = c .before .before .before .before
 
-offsets-need : (o : tie.After-count-offsets) → length (cut (o .before .before .before .before) .offsets) ≡ o .count-offsets .result
-offsets-need o =
-    let v = o .before .before .before .before in
-    cut-offsets-long (asked v) (kept v) ∙ sym (o .count-offsets .ensures)
-
-cast-depth : tie.Need-cast-depth
-cast-depth c = search needs
+-- what a cut of the values answers, with the masks put before it
+written : (w : tie.After-cut-values) {r : WrittenRagged} → w .cut-values .result ≡ r → let v = w .before .before .before .before in
+    withMasks (start v .args .kind .depth * count v) (over (cut v .masks) (start v .args .out-masks .now)) (start v .args .out-masks .now)
+    (outcomeRagged r (w .cut-values .last .1 .0) (w .cut-values .last .1 .1 .0))
+    ≡ putInto (cut v) (outputs v)
+written w q =
+    let e = w .before .before .before in
+    let v = e .before in
+    masks-first (cut v) (outputs v) (masks-need v) (e .if1 .left)
+    (ap (λ (x : WrittenRagged). outcomeRagged x (w .cut-values .last .1 .0) (w .cut-values .last .1 .1 .0)) (sym q)
+    ∙ w .cut-values .ensures ∙ ap (λ (c : RaggedContent). putRagged c (raggedOf (outputs v))) (sym (cut-values (asked v) (kept v))))
 
 volume-of-requires : tie.Need-volume-of-requires
 volume-of-requires c κs =
@@ -111,81 +109,45 @@ mul-mask-bytes c = omega (arith, small-product (start c .args .kind .depth) (cou
 returns : tie.Need-returns
 returns c = let v = c .before in no-masks (cut v) (outputs v) (start v .args .kind .depth * count v) (masks-need v) (c .if1 .taken)
 
-value-bytes-requires : tie.Need-value-bytes-requires
-value-bytes-requires c κs =
-    let v = c .before in
-    (asked v, cut-offsets-for (asked v) (kept v))
-
-returns-2 : tie.Need-returns-2
-returns-2 c = let b = c .before in let v = b .before .before in no-values (cut v) (outputs v) (b .value-bytes .result) (values-need b) (c .if2 .taken)
-
-count-offsets-requires : tie.Need-count-offsets-requires
-unfolding mostCells
-count-offsets-requires c κs = few (c .before .before .before)
-
-returns-3 : tie.Need-returns-3
-returns-3 c = let o = c .before in let v = o .before .before .before .before in no-offsets (cut v) (outputs v) (o .count-offsets .result) (offsets-need o) (c .if3 .taken)
+cut-values-requires : tie.Need-cut-values-requires
+cut-values-requires c κs = let v = c .before .before .before in (asked v, cut-values-asked (asked v) (kept v))
 
 copy-masks-requires : tie.Need-copy-masks-requires
 copy-masks-requires c κs =
-    let e = masks-fit (c .before) in
+    let e = given (c .before .before .before .before) .before .before .before in
     let v = e .before in
     (asked v, cut-planes-asked (asked v) (kept v) (start v .args .out-masks .now) (depth-fits v) (e .if1 .left))
 
-copy-values-requires : tie.Need-copy-values-requires
-copy-values-requires c κs =
-    let f = all-fit (c .before .before .before) in
-    let o = f .before in
-    let b = o .before .before in
-    let v = b .before .before in (
-      asked v,
-      cut-values-asked (asked v) (kept v) (start v .args .out-values .now) (start v .args .out-offsets .now)
-          (omega (arith, values-need b, o .before .if2 .left)) (omega (arith, offsets-need o, f .if3 .left)),
-    )
+returns-2 : tie.Need-returns-2
+returns-2 c = let t = c .before in written (given (t .before .before)) (t .written .given .1)
 
-same-length : tie.Need-same-length
-same-length c = search needs
-
-same-length-2 : tie.Need-same-length-2
-same-length-2 c = search needs
-
-same-length-3 : tie.Need-same-length-3
-same-length-3 c = search needs
-
-returns-4 : tie.Need-returns-4
-returns-4 c =
-    let w = c .before .before .before .before in
-    let m = masks-copied (w .before) in
-    let f = m .before .before in
-    let o = f .before in
-    let b = o .before .before in
-    let v = b .before .before in
-    let a = start v .args in
-    put (cut v) (outputs v) (a .kind .depth * count v) (b .value-bytes .result) (o .count-offsets .result) (masks-need v) (values-need b) (offsets-need o)
-    (b .before .if1 .left) (o .before .if2 .left) (f .if3 .left)
-    (m .copy-masks .last .0) (w .copy-values .last .1 .0) (w .copy-values .last .1 .1 .0)
-    (m .copy-masks .ensures
-    ∙ ap (λ (x : List ℕ). over x (a .out-masks .now)) (sym (cut-masks (asked v) (kept v))))
-    (w .copy-values .ensures .0
-    ∙ ap (λ (x : List ℕ). over x (a .out-values .now)) (sym (cut-values (asked v) (kept v))))
-    (w .copy-values .ensures .1
-    ∙ ap (λ (x : List ℕ). over x (a .out-offsets .now)) (sym (cut-offsets (asked v) (kept v))))
+returns-3 : tie.Need-returns-3
+returns-3 c =
+    let m = c .before .before in
+    let t = m .before .before .before in
+    let w = given (t .before .before) in
+    let v = w .before .before .before .before in
+    let lengths = t .written2 .given .0 in
+    ap (λ (x : List ℕ). outcomeArray (WrittenArray.Lengths (start v .args .kind .depth * count v) (lengths .0) (lengths .1 .0)) x (w .cut-values .last .1 .0) (w .cut-values .last .1 .1 .0))
+    (m .copy-masks .ensures ∙ ap (λ (x : List ℕ). over x (start v .args .out-masks .now)) (sym (cut-masks (asked v) (kept v))))
+    ∙ written w (t .written2 .given .1)
 
 pub cut-valid-spec : {M : Type 1} → statement M
 cut-valid-spec =
     tie.close
     (tie.spec
-    cast-depth
+    (λ c. search needs)
     volume-of-requires
     mul-mask-bytes
     returns
-    value-bytes-requires
-    returns-2
-    count-offsets-requires
-    returns-3
+    cut-values-requires
+    (λ c. search needs)
+    (λ c. search needs)
     copy-masks-requires
-    copy-values-requires
-    same-length
-    same-length-2
-    same-length-3
-    returns-4)
+    (λ c. search needs)
+    (λ c. search needs)
+    returns-2
+    (λ c. search needs)
+    (λ c. search needs)
+    (λ c. search needs)
+    returns-3)

@@ -99,23 +99,11 @@ checked p = p .before .before
 keeps : (p : Passed) → KeepsRules (kind (begun (checked p))) (volume (shape (begun (checked p)))) (array (begun (checked p)))
 keeps p = let k = checked p in let s = begun k in check-valid (kind s) (volume (shape s)) (array s) (k .check-array .result) (checks k) (p .enum-told2 .given .1)
 
-check-kind-requires : tie.Need-check-kind-requires
-check-kind-requires c κs = search needs
-
 returns : tie.Need-returns
 returns c =
     let k = c .before in
     let s = lent (k .before) in
     no-kind (kind s) (shape s) (numbers s) (array s) (outputs s) (sym (k .check-kind .ensures) ∙ not-true (k .check-kind .result) (c .if1 .taken))
-
-shape-cells-requires : tie.Need-shape-cells-requires
-shape-cells-requires c κs = search needs
-
-enum-known-cells : tie.Need-enum-known-cells
-enum-known-cells c = search needs
-
-enum-told : tie.Need-enum-told
-enum-told c = search needs
 
 returns-2 : tie.Need-returns-2
 returns-2 c =
@@ -124,9 +112,6 @@ returns-2 c =
     let s = start e in
     no-shape (kind s) (shape s) (numbers s) (array s) (outputs s) (kind-passes e)
     (not-counted (shape s) (c .enum-told .given .0 .0) (sym (ap toldCells (c .enum-told .given .1)) ∙ m .shape-cells .ensures) .0)
-
-subset-fits-requires : tie.Need-subset-fits-requires
-subset-fits-requires c κs = search needs
 
 returns-3 : tie.Need-returns-3
 returns-3 c =
@@ -140,23 +125,8 @@ check-array-requires : tie.Need-check-array-requires
 unfolding mostCells
 check-array-requires c κs = shaped (told c) .few
 
-enum-known-checked : tie.Need-enum-known-checked
-enum-known-checked c = search needs
-
-enum-told-2 : tie.Need-enum-told-2
-enum-told-2 c = search needs
-
-sub-cut-valid : tie.Need-sub-cut-valid
-sub-cut-valid c = search needs
-
-part-cut-valid-start : tie.Need-part-cut-valid-start
-part-cut-valid-start c = search needs
-
 part-cut-valid-end : tie.Need-part-cut-valid-end
 part-cut-valid-end c = omega (arith, fitting (checked c .before) .counted)
-
-mul-cut-valid : tie.Need-mul-cut-valid
-mul-cut-valid c = search needs
 
 sub-cut-valid-2 : tie.Need-sub-cut-valid-2
 sub-cut-valid-2 c = omega (arith, fitting (checked (c .before) .before) .counted)
@@ -164,16 +134,13 @@ sub-cut-valid-2 c = omega (arith, fitting (checked (c .before) .before) .counted
 part-cut-valid-start-2 : tie.Need-part-cut-valid-start-2
 part-cut-valid-start-2 c = omega (arith, fitting (checked (c .before) .before) .counted)
 
-part-cut-valid-end-2 : tie.Need-part-cut-valid-end-2
-part-cut-valid-end-2 c = search needs
-
 cut-valid-requires : tie.Need-cut-valid-requires
 cut-valid-requires c κs =
     let p = array-told (c .before) in
     let e = checked p .before in
     let s = begun (checked p) in (
       record { shaped = shaped (told e) .shaped; within = within-parts (shape s) (numbers s) (fitting e); counted = refl },
-      record { whole = shaped (told e) .is; content = keeps p .array .fits; small = keeps p .small },
+      record { whole = shaped (told e) .is; content = keeps p .array .fits },
     )
 
 returns-4 : tie.Need-returns-4
@@ -183,15 +150,6 @@ returns-4 c =
     let s = begun k in
     not-kept (kind s) (shape s) (numbers s) (array s) (outputs s) (kind-passes (sound (told e))) (shaped (told e) .passes) (subset-passes e) (checks k)
     (c .before .checked .given .0 .0) (c .before .checked .given .1)
-
-same-length : tie.Need-same-length
-same-length c = search needs
-
-same-length-2 : tie.Need-same-length-2
-same-length-2 c = search needs
-
-same-length-3 : tie.Need-same-length-3
-same-length-3 c = search needs
 
 returns-5 : tie.Need-returns-5
 returns-5 c =
@@ -207,27 +165,27 @@ pub extract-spec : {M : Type 1} → statement M
 extract-spec =
     tie.close
     (tie.spec
-    check-kind-requires
+    (λ c κs. search needs)
     returns
-    shape-cells-requires
-    enum-known-cells
-    enum-told
+    (λ c κs. search needs)
+    (λ c. search needs)
+    (λ c. search needs)
     returns-2
-    subset-fits-requires
+    (λ c κs. search needs)
     returns-3
     check-array-requires
-    enum-known-checked
-    enum-told-2
-    sub-cut-valid
-    part-cut-valid-start
+    (λ c. search needs)
+    (λ c. search needs)
+    (λ c. search needs)
+    (λ c. search needs)
     part-cut-valid-end
-    mul-cut-valid
+    (λ c. search needs)
     sub-cut-valid-2
     part-cut-valid-start-2
-    part-cut-valid-end-2
+    (λ c. search needs)
     cut-valid-requires
     returns-4
-    same-length
-    same-length-2
-    same-length-3
+    (λ c. search needs)
+    (λ c. search needs)
+    (λ c. search needs)
     returns-5)

@@ -9,7 +9,8 @@ use Rattle.array.specs.Subset.{pairs, cellsIn}
 use Rattle.array.specs.Places.{fixedAt}
 use Rattle.subset.specs.Walk.{rowOf, RowAt}
 use Rattle.subset.proofs.Rows.{asked-left, asked-below, asked-count, asked-few, asked-lengths, row-is}
-use Rattle.extract.proofs.Walk.{Copied, copied-begins, copied-same, copied-ends, fixed-long, fixed-source, fixed-room, fixed-copied}
+use Rattle.cut_ragged.proofs.Walk.{Copied, copied-begins, copied-same, copied-ends}
+use Rattle.extract.proofs.Walk.{fixed-long, fixed-source, fixed-room, fixed-copied}
 use Rattle.extract.proofs.cells.copy_cells.Statement.{statement}
 use Rattle.extract.proofs.cells.copy_cells.Tie as tie
 
@@ -61,9 +62,6 @@ same k = copied-same (k .before .before .loop .inv)
 
 sub-last : tie.Need-sub-last Inv-loop μ-loop
 sub-last c = omega (arith, asked-lengths (entry (c .before) .pre .0))
-
-mul-n : tie.Need-mul-n Inv-loop μ-loop
-mul-n c = omega arith
 
 shared-slice-read-n : tie.Need-shared-slice-read-n Inv-loop μ-loop
 shared-slice-read-n c = omega (arith, asked-lengths (entry (c .before .before) .pre .0))
@@ -123,7 +121,7 @@ copy-cells-spec =
     Inv-loop
     μ-loop
     sub-last
-    mul-n
+    (λ c. omega arith)
     shared-slice-read-n
     loop-holds
     cell-at-requires

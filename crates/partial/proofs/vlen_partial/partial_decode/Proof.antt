@@ -7,13 +7,13 @@ use mathlib.Core.List.{List}
 use native.Mathlib.Omega.{arith}
 use borrow.Author.Needs.{needs}
 use borrow.Author.Tests.{not-true, not-false}
-use lib.ListN.{length, drop}
+use lib.ListN.{length}
 use Rattle.array.specs.Limits.{mostCells}
+use Rattle.array.specs.declared.kind.IndexWidth.{IndexWidth}
 use Rattle.array.specs.Kind.{Place}
 use Rattle.array.specs.Shape.{volume}
 use Rattle.valid.specs.ShapeCells.{toldCells}
 use Rattle.array.specs.Subset.{Subset, numbersTest, NumbersOk, cellsIn}
-use Rattle.array.specs.Cells.{Value}
 use Rattle.array.specs.Content.{RaggedContent}
 use Rattle.array.specs.Buffers.{raggedLengthsOf, raggedOutcome}
 use Rattle.array.specs.Meaning.{widthOf, placeOf}
@@ -23,8 +23,7 @@ use Rattle.valid.proofs.ShapeLaws.{Counted, counted, not-counted}
 use Rattle.array.proofs.SubsetLists.{subset-parts, within-parts}
 use Rattle.stored.specs.declared.vlen.Index.{Index}
 use Rattle.stored.specs.Index.{foundIn, toldIndex}
-use Rattle.array.specs.Places.{valuesAt}
-use Rattle.partial.specs.Stored.{storedAt, cutAnswer}
+use Rattle.partial.specs.Stored.{storedValues, cutAnswer}
 use Rattle.partial.proofs.Stored.{Read, read-found}
 use Rattle.partial.proofs.Outcomes.{no-shape, no-subset, not-read, cut-read}
 use Rattle.partial.proofs.vlen_partial.partial_decode.Statement.{statement}
@@ -38,8 +37,8 @@ abbrev asked : tie.After-shape-cells → tie.Start
 asked k = entry (k .before .before)
 
 -- where the function starts: the width and the place of the index, what is handed over, the outputs
-abbrev width : tie.Start → ℕ
-width s = widthOf (s .args .width)
+abbrev width : tie.Start → IndexWidth
+width s = s .args .width
 
 abbrev place : tie.Start → Place
 place s = placeOf (s .args .place)
@@ -84,10 +83,10 @@ Checked = tie.After-find-index
 abbrev begun : Checked → tie.Start
 begun k = start (told (k .before))
 
-checks : (k : Checked) → toldIndex (k .find-index .result) ≡ foundIn (width (begun k)) (place (begun k)) (bytes (begun k)) 0 (volume (shape (begun k)))
+checks : (k : Checked) → toldIndex (k .find-index .result) ≡ foundIn (widthOf (width (begun k))) (place (begun k)) (bytes (begun k)) 0 (volume (shape (begun k)))
 checks k =
     let s = begun k in
-    k .find-index .ensures ∙ ap (foundIn (width s) (place s) (bytes s) 0) (shaped (told (k .before)) .is)
+    k .find-index .ensures ∙ ap (foundIn (widthOf (width s)) (place s) (bytes s) 0) (shaped (told (k .before)) .is)
 
 -- the index was found
 abbrev Found : Type 0
@@ -108,24 +107,12 @@ read f =
     let s = begun (checked f) in
     read-found (width s) (place s) (bytes s) (volume (shape s)) (index f) (sym (checks (checked f)) ∙ ap toldIndex (f .before .found2 .given .1))
 
-shape-cells-requires : tie.Need-shape-cells-requires
-shape-cells-requires c κs = search needs
-
-enum-known-cells : tie.Need-enum-known-cells
-enum-known-cells c = search needs
-
-enum-told : tie.Need-enum-told
-enum-told c = search needs
-
 returns : tie.Need-returns
 returns c =
     let m = c .before .before in
     let s = asked m in
     no-shape (width s) (place s) (shape s) (numbers s) (bytes s) (outputs s)
     (not-counted (shape s) (c .enum-told .given .0 .0) (sym (ap toldCells (c .enum-told .given .1)) ∙ m .shape-cells .ensures) .0)
-
-subset-fits-requires : tie.Need-subset-fits-requires
-subset-fits-requires c κs = search needs
 
 returns-2 : tie.Need-returns-2
 returns-2 c =
@@ -138,32 +125,14 @@ find-index-requires : tie.Need-find-index-requires
 unfolding mostCells
 find-index-requires c κs = (shaped (told c) .few, omega arith)
 
-enum-known-found : tie.Need-enum-known-found
-enum-known-found c = search needs
-
-enum-known-found-2 : tie.Need-enum-known-found-2
-enum-known-found-2 c = search needs
-
-sub-cut-stored : tie.Need-sub-cut-stored
-sub-cut-stored c = search needs
-
-part-cut-stored-start : tie.Need-part-cut-stored-start
-part-cut-stored-start c = search needs
-
 part-cut-stored-end : tie.Need-part-cut-stored-end
 part-cut-stored-end c = omega (arith, fitting (checked c .before) .counted)
-
-mul-cut-stored : tie.Need-mul-cut-stored
-mul-cut-stored c = search needs
 
 sub-cut-stored-2 : tie.Need-sub-cut-stored-2
 sub-cut-stored-2 c = omega (arith, fitting (checked (c .before) .before) .counted)
 
 part-cut-stored-start-2 : tie.Need-part-cut-stored-start-2
 part-cut-stored-start-2 c = omega (arith, fitting (checked (c .before) .before) .counted)
-
-part-cut-stored-end-2 : tie.Need-part-cut-stored-end-2
-part-cut-stored-end-2 c = search needs
 
 cut-stored-requires : tie.Need-cut-stored-requires
 cut-stored-requires c κs =
@@ -180,12 +149,6 @@ returns-3 c =
     not-read (width s) (place s) (shape s) (numbers s) (bytes s) (outputs s) (shaped (told e) .passes) (subset-passes e) (c .before .found .given .0 .0)
     (sym (checks k) ∙ ap toldIndex (c .before .found .given .1))
 
-same-length : tie.Need-same-length
-same-length c = search needs
-
-same-length-2 : tie.Need-same-length-2
-same-length-2 c = search needs
-
 returns-4 : tie.Need-returns-4
 returns-4 c =
     let r = c .before .before .before .before in
@@ -193,33 +156,33 @@ returns-4 c =
     let i = index f in
     let e = checked f .before in
     let s = start (told e) in
-    let cut : Subset → List Value = λ b. valuesAt (storedAt (width s) (bytes s) (i .index)) (drop (i .from) (bytes s)) (cellsIn (shape s) b) in
     r .cut-stored .ensures
-    ∙ ap (λ (b : Subset). raggedOutcome (cutAnswer (i .last) (cut b) (raggedLengthsOf (outputs s))) (outputs s)) (subset-parts (length (shape s)) (numbers s))
+    ∙ ap (λ (b : Subset). raggedOutcome (cutAnswer (i .last) (storedValues (width s) (bytes s) i (cellsIn (shape s) b)) (raggedLengthsOf (outputs s))) (outputs s))
+    (subset-parts (length (shape s)) (numbers s))
     ∙ cut-read (width s) (place s) (shape s) (numbers s) (bytes s) (outputs s) (shaped (told e) .passes) (subset-passes e) i (read f)
 
 pub partial-decode-spec : {M : Type 1} → statement M
 partial-decode-spec =
     tie.close
     (tie.spec
-    shape-cells-requires
-    enum-known-cells
-    enum-told
+    (λ c κs. search needs)
+    (λ c. search needs)
+    (λ c. search needs)
     returns
-    subset-fits-requires
+    (λ c κs. search needs)
     returns-2
     find-index-requires
-    enum-known-found
-    enum-known-found-2
-    sub-cut-stored
-    part-cut-stored-start
+    (λ c. search needs)
+    (λ c. search needs)
+    (λ c. search needs)
+    (λ c. search needs)
     part-cut-stored-end
-    mul-cut-stored
+    (λ c. search needs)
     sub-cut-stored-2
     part-cut-stored-start-2
-    part-cut-stored-end-2
+    (λ c. search needs)
     cut-stored-requires
     returns-3
-    same-length
-    same-length-2
+    (λ c. search needs)
+    (λ c. search needs)
     returns-4)
