@@ -58,7 +58,7 @@ extern "C" {
 #define DPX_VERSION_MAJOR 0
 #define DPX_VERSION_MINOR 6
 #define DPX_VERSION_PATCH 0
-#define DPX_VERSION "0.6.0"
+#define DPX_VERSION "0.6.1"
 #define DPX_VERSION_NUMBER (DPX_VERSION_MAJOR * 1000000 + DPX_VERSION_MINOR * 1000 + DPX_VERSION_PATCH)
 
 /* Limits. One more of any of these is refused. */
