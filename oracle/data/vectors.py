@@ -111,7 +111,7 @@ def main():
             assert [bytes(item) for item in VLenBytes().decode(longer)] == decoded
             line(len(decoded), longer, decoded)
 
-    print("# the last item cut short: numcodecs raises ValueError; document 01's number is 7 or 11, by the length")
+    print("# the last item cut short: numcodecs raises ValueError; the number of docs/SPEC.md is 7 or 11, by the length")
     for stored, decoded in whole:
         if decoded and decoded[-1] and len(stored) < 300 and rng.random() < 0.3:
             cut = stored[: len(stored) - rng.randint(1, len(decoded[-1]))]

@@ -1,5 +1,5 @@
 #!/usr/bin/env python3
-"""Makes the tables that the program crates/whole_way reads, and says by the rules of document 01, and of document 02's request 1, what it
+"""Makes the tables that the program crates/whole_way reads, and says by the rules of docs/SPEC.md what it
 must print of them.
 
     whole_way.py    writes crates/whole_way/stdin and crates/whole_way/stdout

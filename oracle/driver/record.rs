@@ -1,4 +1,4 @@
-//! Recorded answers: a sample of the Rust's answers in document 01's domain, for a replay with no Rust at hand.
+//! Recorded answers: a sample of the Rust's answers in the domain of docs/SPEC.md, for a replay with no Rust at hand.
 
 use crate::cases::{self, Sink};
 use crate::rng::Rng;
@@ -49,7 +49,7 @@ impl Sink for Sample {
         if list.len() >= wanted(sort) {
             return;
         }
-        // What is recorded is the Rust's: all four builds agree. Where they refuse, the number is document 01's.
+        // What is recorded is the Rust's: all four builds agree. Where they refuse, the number is that of docs/SPEC.md.
         let answers: Vec<_> = BUILDS.iter().map(|build| build.answer(&request)).collect();
         let rust: Outcome = match &answers[0] {
             Ok(results) => Ok(results.clone()),
@@ -79,7 +79,7 @@ pub fn record(args: &[String]) -> Result<bool, String> {
         return Err(format!("the builds of the Rust do not agree, or not with the judge: {line}"));
     }
     println!("# Answers of the Rust, zarrs 0.23.14: stand-in chain and listed chain, debug and release, all four alike.");
-    println!("# Made by make record, seed {seed}. Where it gives an error or a panic, the number is document 01's.");
+    println!("# Made by make record, seed {seed}. Where it gives an error or a panic, the number is that of docs/SPEC.md.");
     println!("# The form is told in README.md beside this file.");
     for line in sample.kept.values().flatten() {
         println!("{line}");

@@ -1,4 +1,4 @@
-//! The judge: what document 01, document 02's requests 1 to 6 and docs/DECISIONS.md say of the ten calls, as plain code.
+//! The judge: what docs/SPEC.md and docs/DECISIONS.md say of the ten calls, as plain code.
 //!
 //! Each function takes what the call takes, as numbers and slices, and gives the result or the refusal number. Outputs are not lent:
 //! `fits` says where a lent output is too short (6), and c.rs puts a result into lent outputs.

@@ -1,5 +1,5 @@
 /*
- * Tests of the C interface: document 01's lines, every refusal of every call, and what stays untouched.
+ * Tests of the C interface: the lines of docs/SPEC.md, S10, every refusal of every call, and what stays untouched.
  *
  * Inputs are copied into blocks of exactly their size, so that valgrind sees a read past an end. Outputs lie between
  * guard bytes, and everything lent is filled first, so that a byte written where none may be is seen.

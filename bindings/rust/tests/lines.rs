@@ -1,4 +1,4 @@
-//! Document 01's lines, "Bytes to hold against", and the smallest inputs of docs/DECISIONS.md that a caller can hand over.
+//! The lines of docs/SPEC.md, S10, and the smallest inputs of docs/DECISIONS.md that a caller can hand over.
 
 use durpaxeta::*;
 

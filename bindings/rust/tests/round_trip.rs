@@ -100,7 +100,7 @@ impl Draws {
     }
 }
 
-/// The rest form, by document 01's sentences.
+/// The rest form, by the sentences of docs/SPEC.md.
 fn rest(array: &Array) -> Array {
     let count = array.shape.iter().product::<u64>() as usize;
     let depth = array.kind.depth as usize;
