@@ -18,7 +18,7 @@ use Rattle.array.proofs.Lists.{from-suc, entry, by-number, map-below, m
 use Rattle.array.proofs.Geometry.{All-from}
 use Rattle.array.proofs.Sizes.{OfSize, null-sized}
 use Rattle.array.proofs.LayoutLaws.{content-path, mask-map, cells-layout, values-sized}
-use Rattle.array.proofs.RestLaws.{leaf-blank, hidden-by, rest-by}
+use Rattle.array.proofs.RestLaws.{leaf-by, leaf-blank, hidden-by, rest-by}
 use Rattle.array.proofs.Places.{fixed-value}
 
 -- ---- values
@@ -104,10 +104,6 @@ module _ {k : Kind} {n : ℕ} {c : Content} (ok : ContentOk k n c) where
   cells-at z js p = map-below (λ j. getD (cellsOf k n c) j z) (cellAt k n c) n (cell-is z) js p
 
 -- ---- what is laid out: cell j has the mask byte m l j at level l, and the value v j
-
-leaf-by : (m : ℕ → ℕ) (v : Value) (d l : ℕ) → leaf d (cellBy m v d l) ≡ v
-leaf-by m v zero l = refl
-leaf-by m v (suc d) l = leaf-by m v d (suc l)
 
 module _ (m : ℕ → ℕ → ℕ) (v : ℕ → Value) (js : List ℕ) where
   masks-laid : (d l : ℕ) → masksOf d (map (λ j. cellBy (λ i. m i j) (v j) d l) js) ≡ planesBy m d l js

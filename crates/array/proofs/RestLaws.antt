@@ -1,7 +1,7 @@
 -- The rest form, by the words of docs/SPEC.md, S2.1 and S2.2: a level's mask byte stays if all outer masks there are set, else it is 0; the value
 -- stays if all masks are set, else it is that of a null.
 -- Assumes nothing.
-use mathlib.Core.Path.{_≡_, refl, sym, ap, _∙_}
+use mathlib.Core.Path.{_≡_, refl, sym, ap, _∙_, subst}
 use Prim.Native.Nat.{ℕ, zero, suc, _+_}
 use native.Mathlib.Nat.{zero-add}
 use native.Mathlib.Omega.{arith}
@@ -25,6 +25,10 @@ cell-by (suc d) c = ap (λ (r : Cell d). (c .0, r)) (cell-by d (c .1) ∙ sym (l
     later : (m : ℕ → ℕ) (v : Value) (d l : ℕ) → cellBy m v d (suc l) ≡ cellBy (λ i. m (suc i)) v d l
     later m v zero l = refl
     later m v (suc d) l = ap (λ (r : Cell d). (m (suc l), r)) (later m v d (suc l))
+
+pub leaf-by : (m : ℕ → ℕ) (v : Value) (d l : ℕ) → leaf d (cellBy m v d l) ≡ v
+leaf-by m v zero l = refl
+leaf-by m v (suc d) l = leaf-by m v d (suc l)
 
 module _ (z : Value) where
   pub rest-blank : (d : ℕ) → rest z d (blank z d) ≡ blank z d
@@ -74,13 +78,11 @@ module _ (z : Value) where
   leaf-blank P (suc d) p = leaf-blank P d p
 
   pub leaf-rest : (P : Value → Type 0) (d : ℕ) (c : Cell d) → P z → P (leaf d c) → P (leaf d (rest z d c))
-  leaf-rest P zero c p q = q
-  leaf-rest P (suc d) c p q = one (c .0) (leaf-rest P d (c .1) p q)
+  leaf-rest P d c p q = subst P (sym (ap (leaf d) (rest-is d c) ∙ leaf-by _ _ d 0)) (one (shownBy (masksIn d c) d))
     where
-      one : (m : ℕ) → P (leaf d (rest z d (c .1))) → P (leaf (suc d) (restOne z (blank z d) (rest z d) m (c .1)))
-      one zero h = leaf-blank P d p
-      one (suc zero) h = h
-      one (suc (suc m)) h = leaf-blank P d p
+      one : (b : Bool) → P (pick b (leaf d c) z)
+      one true = q
+      one false = p
 
 -- ---- mask bytes that keep their rule
 

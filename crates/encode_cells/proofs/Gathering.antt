@@ -74,12 +74,16 @@ module _ {t : ℕ → Bool} {n : ℕ} {g : ℕ → List ℕ} {d : List ℕ} {to 
 
 -- ---- values of one size
 
+-- what the cells write
+abbrev pub putFixed : Order → ℕ → List ℕ → List ℕ → List ℕ
+putFixed o k s is = putValues (fixed k o) (valuesAt (fixedAt 0 k) s is)
+
 -- what cell j writes
 abbrev pub orderedAt : Order → ℕ → List ℕ → ℕ → Value
 orderedAt o k s j = ordered o (valueAt (fixedAt 0 k) s j)
 
 module _ (o : Order) (k : ℕ) (s : List ℕ) where
-  pub ordered-put : (is : List ℕ) → joined (map (orderedAt o k s) is) ≡ putValues (fixed k o) (valuesAt (fixedAt 0 k) s is)
+  pub ordered-put : (is : List ℕ) → joined (map (orderedAt o k s) is) ≡ putFixed o k s is
   unfolding putValues
   ordered-put is = ap joined (sym (map-map (valueAt (fixedAt 0 k) s) (ordered o) is))
 
@@ -104,14 +108,14 @@ pub record Storing (o : Order) (k : ℕ) (s : List ℕ) (t : ℕ → Bool) (n : 
   pub gathers : Gathering t n (orderedAt o k s) d to out i done
 
 pub storing-begins : {o : Order} {k : ℕ} {s : List ℕ} {t : ℕ → Bool} {n : ℕ} {d : List ℕ} {to : ℕ}
-    → n * k ≤ length s → to + length (putValues (fixed k o) (valuesAt (fixedAt 0 k) s (passing t (from 0 n)))) ≤ length d → Storing o k s t n d to d 0 0
+    → n * k ≤ length s → to + length (putFixed o k s (passing t (from 0 n))) ≤ length d → Storing o k s t n d to d 0 0
 storing-begins {o} {k} {s} {t} {n} q h = record { source = q; gathers = gathering-begins (omega (arith, ap length (ordered-put o k s (passing t (from 0 n))))) }
 
 module _ {o : Order} {k : ℕ} {s : List ℕ} {t : ℕ → Bool} {n : ℕ} {d : List ℕ} {to : ℕ} {out : List ℕ} {i done : ℕ} (l : Storing o k s t n d to out i done) where
   pub storing-same : length out ≡ length d
   storing-same = gathering-same (l .gathers)
 
-  pub storing-ends : n ≤ i → out ≡ overAt to (putValues (fixed k o) (valuesAt (fixedAt 0 k) s (passing t (from 0 n)))) d
+  pub storing-ends : n ≤ i → out ≡ overAt to (putFixed o k s (passing t (from 0 n))) d
   storing-ends h = laid-as to d (gathering-ends (l .gathers) h) (ordered-put o k s (passing t (from 0 n)))
 
   module _ {r : ℕ} (e : r ≡ runOf t i (n - i)) (h : i < n) where

@@ -11,7 +11,7 @@ use mathlib.Core.List.{List, [], _∷_, map}
 use lib.ListN.{length, take, drop}
 use Rattle.array.specs.Lists.{pick, from, joined, pieces, passing}
 use Rattle.array.specs.Buffers.{overAt}
-use Rattle.array.specs.Kind.{Order, fixed, ordered}
+use Rattle.array.specs.Kind.{Order, ordered}
 use Rattle.array.specs.Cells.{Value}
 use Rattle.array.specs.Places.{fixedAt, valuesAt, masksAt, shownAt}
 use Rattle.array.proofs.Lists.{length-from}
@@ -24,17 +24,17 @@ use Rattle.codec.specs.Values.{putValues}
 use Rattle.encode_cells.proofs.Runs.{passing-le, passing-start, All-passing, all-counted}
 use Rattle.encode_cells.proofs.LiveMarks.{passing-next}
 use Rattle.encode_cells.proofs.Placing.{at-none, at-again}
-use Rattle.encode_cells.proofs.Gathering.{wholeOf, leftFrom, gathering-begins, orderedAt, ordered-put, ordered-sized, sized-long}
+use Rattle.encode_cells.proofs.Gathering.{wholeOf, leftFrom, gathering-begins, putFixed, orderedAt, ordered-put, ordered-sized, sized-long}
 
 pub none-left : (l : List ℕ) → length l ≡ 0 → l ≡ []
 none-left [] e = refl
 none-left (x ∷ l) e = absurd (omega arith)
 
 -- g i is what cell i writes, of size k
-left-long : (t : ℕ → Bool) (n : ℕ) (g : ℕ → List ℕ) (k : ℕ) → ((j : ℕ) → j < n → length (g j) ≡ k) → (i : ℕ) → length (leftFrom t n g i) ≡ length (passing t (from i (n - i))) * k
-left-long t n g k sz i =
-    let P : ℕ → Type 0 = λ j. length (g j) ≡ k in
-    sized-long g k (passing t (from i (n - i))) (All-passing t P (from i (n - i)) (All-from P i (n - i) (λ j a b. sz j (omega arith))))
+passing-long : (t : ℕ → Bool) (g : ℕ → List ℕ) (k i m : ℕ) → ((j : ℕ) → i ≤ j → j < i + m → length (g j) ≡ k)
+    → length (joined (map g (passing t (from i m)))) ≡ length (passing t (from i m)) * k
+passing-long t g k i m sz =
+    let P : ℕ → Type 0 = λ j. length (g j) ≡ k in sized-long g k (passing t (from i m)) (All-passing t P (from i m) (All-from P i m sz))
 
 -- `done` cells lie at `to` in what was d, and behind them what a cell that is not counted left; the cells from i on are left
 pub record Packing (t : ℕ → Bool) (n : ℕ) (g : ℕ → List ℕ) (k : ℕ) (d : List ℕ) (to : ℕ) (out : List ℕ) (i done : ℕ) : Type 0 where
@@ -91,7 +91,7 @@ module _ {t : ℕ → Bool} {n : ℕ} {g : ℕ → List ℕ} {k : ℕ} {d : List
     fits : done * k + k ≤ length (wholeOf t n g)
     fits =
         let m : ℕ = length (passing t (from i (n - i))) in
-        omega (arith, whole-long, left-long t n g k (p .sized) i, mul-le-mul-right {m = 1} {n = m} k (omega (arith, p .counted)), one-mul k)
+        omega (arith, whole-long, passing-long t g k i (n - i) (λ j a b. p .sized j (omega arith)), mul-le-mul-right {m = 1} {n = m} k (omega (arith, p .counted)), one-mul k)
 
     pub packing-room : to + done * k + k ≤ length out
     packing-room = omega (arith, fits, p .laid .room, packing-same)
@@ -147,22 +147,20 @@ pub piece-in : (k : ℕ) {i n m : ℕ} → i < n → n * k ≤ m → i * k + k �
 piece-in k {i} {n} {m} h q = omega (arith, mul-le-mul-right {m = suc i} {n = n} k h, suc-mul i k)
 
 pub fixed-long : (o : Order) (k : ℕ) (s : List ℕ) (t : ℕ → Bool) (n : ℕ) → n * k ≤ length s
-    → length (putValues (fixed k o) (valuesAt (fixedAt 0 k) s (passing t (from 0 n)))) ≡ length (passing t (from 0 n)) * k
+    → length (putFixed o k s (passing t (from 0 n))) ≡ length (passing t (from 0 n)) * k
 fixed-long o k s t n h =
-    let P : ℕ → Type 0 = λ j. length (orderedAt o k s j) ≡ k in
-    ap length (sym (ordered-put o k s (passing t (from 0 n))))
-    ∙ sized-long (orderedAt o k s) k (passing t (from 0 n)) (All-passing t P (from 0 n) (All-from P 0 n (λ j a b. ordered-sized o k s h j (omega arith))))
+    ap length (sym (ordered-put o k s (passing t (from 0 n)))) ∙ passing-long t (orderedAt o k s) k 0 n (λ j a b. ordered-sized o k s h j (omega arith))
 
 -- where every cell is counted, they lie end to end
 pub all-pieces : (o : Order) (k : ℕ) (s : List ℕ) (t : ℕ → Bool) {n : ℕ} {count : ℕ} → count ≡ length (passing t (from 0 n)) → count ≡ n
-    → joined (map (ordered o) (pieces k n (drop 0 s))) ≡ putValues (fixed k o) (valuesAt (fixedAt 0 k) s (passing t (from 0 n)))
+    → joined (map (ordered o) (pieces k n (drop 0 s))) ≡ putFixed o k s (passing t (from 0 n))
 unfolding putValues
 all-pieces o k s t {n = n} ec en =
     ap (λ (vs : List Value). joined (map (ordered o) vs))
     (pieces-are 0 k n 0 s {at = 0} (omega (arith, zero-mul k)) ∙ ap (valuesAt (fixedAt 0 k) s) (sym (all-counted t (sym ec ∙ en))))
 
 pub all-long : (o : Order) (k : ℕ) (s : List ℕ) (t : ℕ → Bool) {n : ℕ} {count : ℕ} → n * k ≤ length s → count ≡ length (passing t (from 0 n)) → count ≡ n
-    → length (putValues (fixed k o) (valuesAt (fixedAt 0 k) s (passing t (from 0 n)))) ≡ n * k
+    → length (putFixed o k s (passing t (from 0 n))) ≡ n * k
 all-long o k s t {n = n} h ec en = fixed-long o k s t n h ∙ ap (λ (m : ℕ). m * k) (sym ec ∙ en)
 
 -- ---- the planes of levels

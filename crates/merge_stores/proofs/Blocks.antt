@@ -9,7 +9,7 @@ use lib.ListN.{length, getD, take, drop, set, length-drop, length-append, length
 use lib.Seq.{take-at, drop-at, take-all, take-length, split-at, set-split, map-set-same, length-take-le, drop-drop, take-suc}
 use Rattle.array.specs.Cells.{Value}
 use Rattle.array.specs.Lists.{All, joined, from}
-use Rattle.array.specs.Places.{fixedAt}
+use Rattle.array.specs.Places.{fixedAt, stepAt}
 use Rattle.array.proofs.Lists.{length-from, joined-append}
 use Rattle.chunks.specs.Gather.{putBack, Once}
 use Rattle.merge_stores.specs.Ragged.{sum}
@@ -67,7 +67,7 @@ beside-long P (j ∷ js) [] b = absurd b
 beside-long P (j ∷ js) (v ∷ vs) b = ap suc (beside-long P js vs (b .1))
 
 module _ (ls : List ℕ) (off : ℕ → ℕ) (p q : List ℕ) (eo : (j : ℕ) → j ≤ length ls → off j ≡ length p + sum (take j ls)) where
-  width : (j : ℕ) → j < length ls → off (suc j) - off j ≡ getD ls j 0
+  width : (j : ℕ) → j < length ls → stepAt off j ≡ getD ls j 0
   width j h =
       omega (arith, eo j (omega arith), eo (suc j) (omega arith), ap sum (take-suc ls j 0 h), sum-append (take j ls) (getD ls j 0 ∷ []))
 
@@ -81,7 +81,7 @@ module _ (ls : List ℕ) (off : ℕ → ℕ) (p q : List ℕ) (eo : (j : ℕ) �
     pub lengths-set : map length (set vs j v) ≡ ls
     lengths-set = map-set-same length vs j v [] as-long ∙ e
 
-    one-value : scatter (p ++ joined vs ++ q) (from (off j) (off (suc j) - off j)) v ≡ p ++ joined (set vs j v) ++ q
+    one-value : scatter (p ++ joined vs ++ q) (from (off j) (stepAt off j)) v ≡ p ++ joined (set vs j v) ++ q
     one-value =
         let x : List ℕ = p ++ joined (take j vs) in
         let y : List ℕ = joined (drop (suc j) vs) ++ q in
@@ -89,7 +89,7 @@ module _ (ls : List ℕ) (off : ℕ → ℕ) (p q : List ℕ) (eo : (j : ℕ) �
         λ w. ap (λ (r : List ℕ). p ++ r ++ q) (joined-append (take j vs) (w ∷ drop (suc j) vs)) ∙ simp append-assoc in
         let ex : off j ≡ length x =
         eo j (omega arith) ∙ sym (length-append p (joined (take j vs)) ∙ ap (λ (k : ℕ). length p + k) (length-joined (take j vs) ∙ ap sum (map-take length vs j ∙ ap (take j) e))) in
-        ap₂ (λ (o : List ℕ) (k : ℕ). scatter o (from k (off (suc j) - off j)) v) (ap (λ (r : List Value). p ++ joined r ++ q) (split-at vs j [] h′) ∙ whole (getD vs j [])) ex
+        ap₂ (λ (o : List ℕ) (k : ℕ). scatter o (from k (stepAt off j)) v) (ap (λ (r : List Value). p ++ joined r ++ q) (split-at vs j [] h′) ∙ whole (getD vs j [])) ex
         ∙ ap (λ (k : ℕ). scatter (x ++ getD vs j [] ++ y) (from (length x) k) v) (width j h ∙ sym ev) ∙ middle x (getD vs j []) v y as-long
         ∙ sym (whole v) ∙ ap (λ (r : List Value). p ++ joined r ++ q) (sym (set-split vs j v h′))
 
@@ -100,7 +100,7 @@ module _ (ls : List ℕ) (off : ℕ → ℕ) (p q : List ℕ) (eo : (j : ℕ) �
   scatter-joined as′ [] (v ∷ vs) e a b = absurd b
   scatter-joined as′ (j ∷ js) [] e a b = absurd b
   scatter-joined as′ (j ∷ js) (v ∷ vs) e a b =
-      scatter-then (p ++ joined as′ ++ q) (from (off j) (off (suc j) - off j)) (places off js) v (joined vs) (length-from (off j) (off (suc j) - off j) ∙ width j (a .0) ∙ sym (b .0))
+      scatter-then (p ++ joined as′ ++ q) (from (off j) (stepAt off j)) (places off js) v (joined vs) (length-from (off j) (stepAt off j) ∙ width j (a .0) ∙ sym (b .0))
       ∙ ap (λ (r : List ℕ). scatter r (places off js) (joined vs)) (one-value as′ j v e (a .0) (b .0))
       ∙ scatter-joined (set as′ j v) js vs (lengths-set as′ j v e (a .0) (b .0)) (a .1) (b .1)
 

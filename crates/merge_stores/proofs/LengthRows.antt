@@ -1,7 +1,7 @@
 -- Storing the lengths of ragged values at their cells' places.
 -- Assumes nothing.
 use mathlib.Core.Path.{_≡_, refl, sym, ap, _∙_, subst}
-use Prim.Native.Nat.{ℕ, suc, _+_, _-_, _<_, _≤_}
+use Prim.Native.Nat.{ℕ, _+_, _-_, _<_, _≤_}
 use native.Mathlib.Nat.{mul-one}
 use native.Mathlib.Numerals.{add-one}
 use native.Mathlib.Omega.{arith}
@@ -10,6 +10,8 @@ use lib.ListN.{length, getD, take, drop, set, length-drop}
 use lib.Seq.{drop-drop}
 use Rattle.array.specs.Buffers.{overAt}
 use Rattle.array.specs.Places.{fixedAt}
+use Rattle.array.specs.Shape.{volume}
+use Rattle.array.proofs.Places.{fixed-rises}
 use Rattle.subset.specs.Walk.{rowOf, RowAt}
 use Rattle.buffer.proofs.Copying.{Copying, copy-more}
 use Rattle.merge_stores.specs.Ragged.{steps}
@@ -29,6 +31,6 @@ module _ (base : ℕ) {cs : List ℕ} (xs : List ℕ) (first : ℕ) {d o : List 
     (p : o′ ≡ overAt (base + a) (take n (drop (first + at) xs)) o) where
   pub unit-more : Store (fixedAt base 1) cs (drop first xs) d o′ cells (rowOf ls) (at + n) (at + n)
   unit-more =
-      store-more c q (λ i h l. omega (arith, mul-one i, mul-one (suc i))) (base + a) n (at + n)
+      store-more c q (fixed-rises base 1 (volume sh)) (base + a) n (at + n)
       (ap (λ (k : ℕ). base + k) (sym (mul-one a))) (omega (arith, mul-one a, mul-one (a + n))) refl room (omega (arith, length-drop first xs))
       (p ∙ ap (λ (x : List ℕ). overAt (base + a) (take n x) o) (sym (drop-drop at first xs)))

@@ -9,13 +9,15 @@ use lib.ListN.{length, take, drop, length-drop}
 use lib.Seq.{drop-drop, getD-drop}
 use Rattle.array.specs.Offsets.{Rising}
 use Rattle.array.specs.Subset.{Subset, subsetsOf, pairs, cellsIn}
-use Rattle.array.specs.Places.{fixedAt, offsetAt}
+use Rattle.array.specs.Places.{fixedAt}
+use Rattle.array.proofs.Places.{fixed-total}
 use Rattle.subset.specs.Subsets.{part, SubsetAt}
 use Rattle.subset.proofs.Rows.{asked-count, asked-volume}
 use Rattle.merge_stores.specs.Ragged.{steps, stepParts, LengthsAsked, LengthChunks, LengthsAllAsked}
 use Rattle.merge_stores.specs.Scatter.{scatter, places}
-use Rattle.merge_stores.proofs.ListStored.{ListStored, list-begins, list-more, length-places}
+use Rattle.merge_stores.proofs.ListStored.{ListStored, list-begins, list-more}
 use Rattle.merge_stores.proofs.RaggedTies.{length-steps, rises-of}
+use Rattle.merge_stores.proofs.Scattering.{length-places}
 
 drop-steps : (n : ℕ) (os : List ℕ) → drop n (steps os) ≡ steps (drop n os)
 drop-steps zero os = refl
@@ -49,10 +51,7 @@ module _ {sh flat d src : List ℕ} (q : LengthsAllAsked sh flat d src) where
 
     pub lengths-asked : LengthsAsked sh o src first m
     lengths-asked = record {
-      rises = λ k l.
-          let e₁ : offsetAt (drop first src) (0 + k) ≡ offsetAt src (first + k) = getD-drop first src (0 + k) 0 ∙ ap (offsetAt src) (omega arith) in
-          let e₂ : offsetAt (drop first src) (suc (0 + k)) ≡ offsetAt src (suc (first + k)) = getD-drop first src (suc (0 + k)) 0 ∙ ap (offsetAt src) (omega arith) in
-          omega (arith, rises-of m (drop first src) (now .1) (now .0) k l);
+      rises = λ k l. omega (arith, rises-of m (drop first src) (now .1) (now .0) k l, getD-drop first src k 0, getD-drop first src (suc k) 0);
       indexed = lengths-indexed;
       room = omega (arith, q .room, c .list .long);
     }
@@ -69,7 +68,7 @@ module _ {sh flat d src : List ℕ} (q : LengthsAllAsked sh flat d src) where
     pub lengths-more : {o′ : List ℕ} → o′ ≡ scatter o (places (fixedAt 1 1) cs) (drop first (steps src)) → LengthsAll sh flat d src o′ end (first + (m + 1))
     lengths-more p = record {
       list =
-          list-more (c .list) t (drop first (steps src)) (length-places 1 1 cs ∙ mul-one (length cs) ∙ asked-count (t .asked))
+          list-more (c .list) t (drop first (steps src)) (length-places (fixedAt 1 1) cs ∙ fixed-total 1 1 cs ∙ mul-one (length cs) ∙ asked-count (t .asked))
           (omega (arith, lengths-indexed, length-drop first (steps src), length-steps src)) split p;
       chunks = subst (LengthChunks later) behind (now .2);
     }

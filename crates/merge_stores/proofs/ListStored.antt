@@ -1,16 +1,11 @@
 -- Storing the chunks of a list, whatever the width of a cell: what holds at the head of the loop over the subsets, and a turn of it.
 -- Assumes nothing.
 use mathlib.Core.Path.{_≡_, refl, sym, ap, ap₂, _∙_}
-use Prim.Native.Nat.{ℕ, suc, _+_, _-_, _*_, _≤_}
-use native.Mathlib.Nat.{suc-mul, zero-mul}
-use native.Mathlib.Omega.{arith}
-use mathlib.Core.List.{List, [], _∷_, _++_, append-nil}
-use lib.ListN.{length, take, drop, length-append, take-append-drop}
+use Prim.Native.Nat.{ℕ, _+_, _-_, _≤_}
+use mathlib.Core.List.{List, [], _++_, append-nil}
+use lib.ListN.{length, take, drop, take-append-drop}
 use lib.Seq.{length-take-le}
-use Rattle.array.specs.Lists.{from}
 use Rattle.array.specs.Subset.{Subset, subsetsOf, pairs, cellsIn, cellsOfAll}
-use Rattle.array.specs.Places.{fixedAt}
-use Rattle.array.proofs.Lists.{length-from}
 use Rattle.subset.specs.Subsets.{SubsetsOk, part, SubsetAt}
 use Rattle.subset.proofs.Subsets.{none-left}
 use Rattle.merge_stores.specs.Scatter.{scatter, places}
@@ -20,14 +15,6 @@ use Rattle.merge_stores.proofs.Scattering.{length-scatter, scatter-then
 scatter-enough : (acc : List ℕ) (js xs : List ℕ) {n : ℕ} → length js ≡ n → n ≤ length xs → scatter acc js xs ≡ scatter acc js (take n xs)
 scatter-enough acc js xs {n} e h =
     ap₂ (scatter acc) (sym (append-nil js)) (sym (take-append-drop n xs)) ∙ scatter-then acc js [] (take n xs) (drop n xs) (e ∙ sym (length-take-le n xs h))
-
-pub length-places : (base k : ℕ) (js : List ℕ) → length (places (fixedAt base k) js) ≡ length js * k
-length-places base k [] = sym (zero-mul k)
-length-places base k (j ∷ js) =
-    let q : fixedAt base k (suc j) - fixedAt base k j ≡ k = omega (arith, suc-mul j k) in
-    length-append (from (base + j * k) (fixedAt base k (suc j) - fixedAt base k j)) (places (fixedAt base k) js)
-    ∙ ap₂ (λ (a b : ℕ). a + b) (length-from (base + j * k) (fixedAt base k (suc j) - fixedAt base k j) ∙ q) (length-places base k js)
-    ∙ omega (arith, suc-mul (length js) k)
 
 -- the chunks before `at` are stored: of all that is stored, xs, the others take ys
 pub record ListStored (off : ℕ → ℕ) (sh flat d xs o ys : List ℕ) (at : ℕ) : Type 0 where
@@ -50,7 +37,7 @@ module _ {off : ℕ → ℕ} {sh flat d xs o ys : List ℕ} {at : ℕ} (c : List
     later = cellsOfAll sh (subsetsOf (length sh) (drop end flat))
 
     -- the places of the next chunk's cells, and of the others
-    pub next-places : places off (cellsOfAll sh (subsetsOf (length sh) (drop at flat)))
+    next-places : places off (cellsOfAll sh (subsetsOf (length sh) (drop at flat)))
         ≡ places off (cellsIn sh (pairs (part flat at mid) (part flat mid end))) ++ places off (cellsOfAll sh (subsetsOf (length sh) (drop end flat)))
     next-places = ap (λ (bs : List Subset). places off (cellsOfAll sh bs)) (t .next) ∙ places-append off cs later
 

@@ -9,11 +9,13 @@ use lib.ListN.{length, take, drop, length-drop}
 use lib.Seq.{drop-drop}
 use Rattle.array.specs.Subset.{Subset, subsetsOf, pairs, cellsIn}
 use Rattle.array.specs.Places.{fixedAt}
+use Rattle.array.proofs.Places.{fixed-total}
 use Rattle.subset.specs.Subsets.{part, SubsetAt}
 use Rattle.subset.proofs.Rows.{asked-count, asked-volume}
 use Rattle.merge_stores.specs.Scatter.{scatter, places}
 use Rattle.merge_stores.specs.Store.{parts, cellsTotal, StoreAsked, PartsAsked}
-use Rattle.merge_stores.proofs.ListStored.{ListStored, list-begins, list-more, length-places}
+use Rattle.merge_stores.proofs.ListStored.{ListStored, list-begins, list-more}
+use Rattle.merge_stores.proofs.Scattering.{length-places}
 
 -- the parts of the chunks that are left lie from `pos` on
 pub record StoreAll (sh flat d : List ℕ) (base size : ℕ) (src : List ℕ) (lead step : ℕ) (o : List ℕ) (at pos : ℕ) : Type 0 where
@@ -59,7 +61,7 @@ module _ {sh flat d : List ℕ} {base size : ℕ} {src : List ℕ} {lead step : 
         → StoreAll sh flat d base size src lead step o′ end (pos + m * step)
     all-more p = record {
       list =
-          list-more (c .list) t (drop (pos + m * lead) src) (length-places base size cs ∙ ap (λ (k : ℕ). k * size) (asked-count (t .asked)))
+          list-more (c .list) t (drop (pos + m * lead) src) (length-places (fixedAt base size) cs ∙ fixed-total base size cs ∙ ap (λ (k : ℕ). k * size) (asked-count (t .asked)))
           (omega (arith, part-room, length-drop (pos + m * lead) src)) split p;
       enough = all-room;
     }

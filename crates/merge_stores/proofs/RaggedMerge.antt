@@ -6,15 +6,15 @@ use native.Mathlib.Nat.{add-zero, zero-add, add-assoc}
 use native.Mathlib.Omega.{arith}
 use mathlib.Core.Bool.{Bool, true, false}
 use mathlib.Core.List.{List, [], _∷_, _++_, map}
-use lib.ListN.{length, getD, take, drop, length-append, length-map, List·getD-append, List·getD-map}
+use lib.ListN.{length, getD, take, drop, length-map, List·getD-append, List·getD-map}
 use lib.Dec.{eqb}
 use lib.Seq.{take-suc}
 use borrow.Author.Tests.{eq-eqb}
 use Rattle.array.specs.Cells.{Value}
 use Rattle.array.specs.Lists.{All, joined, from, pick, count}
 use Rattle.array.specs.Offsets.{ends, offsetsOf}
-use Rattle.array.specs.Places.{offsetAt}
-use Rattle.array.proofs.Lists.{length-from}
+use Rattle.array.specs.Places.{offsetAt, Rises, stepAt, bytesAt}
+use Rattle.array.proofs.Lists.{length-from, at-from}
 use Rattle.chunks.specs.Gather.{lookup, putBack, Once}
 use Rattle.merge_stores.specs.Ragged.{sums, sum}
 use Rattle.merge_stores.specs.Scatter.{scatter, places}
@@ -64,11 +64,6 @@ lookup-at {A} z (j ∷ js) (x ∷ xs) (suc i) e h o = go (eqb (getD js i 0) j) (
     go true ih o = absurd (omega (arith, count-some js i (omega arith)))
     go false ih o = ih o
 
-map-from-at : {A : Type 0} (f : ℕ → A) (z : A) (n a j : ℕ) → j < n → getD (map f (from a n)) j z ≡ f (a + j)
-map-from-at f z zero a j h = absurd (omega arith)
-map-from-at f z (suc n) a zero h = ap f (sym (add-zero a))
-map-from-at f z (suc n) a (suc j) h = let q : suc a + j ≡ a + suc j = omega arith in map-from-at f z n (suc a) j (omega arith) ∙ ap f q
-
 pub All-at : (P : ℕ → Type 0) (js : List ℕ) → All P js → (i : ℕ) → i < length js → P (getD js i 0)
 All-at P [] a i h = absurd (omega arith)
 All-at P (j ∷ js) a zero h = a .0
@@ -81,19 +76,15 @@ map-at f [] (l ∷ ls) e h = absurd (omega arith)
 map-at f (j ∷ js) [] e h = absurd (omega arith)
 map-at f (j ∷ js) (l ∷ ls) e h = ap₂ (λ (x : ℕ) (r : List ℕ). x ∷ r) (h 0 (omega arith)) (map-at f js ls (omega arith) (λ i k. h (suc i) (omega arith)))
 
--- how many places a cell has, and so many have they together
-abbrev pub stepOf : (ℕ → ℕ) → ℕ → ℕ
-stepOf off j = off (suc j) - off j
-
-pub places-sum : (off : ℕ → ℕ) (js : List ℕ) → length (places off js) ≡ sum (map (stepOf off) js)
-places-sum off [] = refl
-places-sum off (j ∷ js) = omega (arith, length-append (from (off j) (stepOf off j)) (places off js), length-from (off j) (stepOf off j), places-sum off js)
+pub bytes-sum : (off : ℕ → ℕ) (js : List ℕ) → bytesAt off js ≡ sum (map (stepAt off) js)
+bytes-sum off [] = refl
+bytes-sum off (j ∷ js) = ap (λ (k : ℕ). stepAt off j + k) (bytes-sum off js)
 
 module _ (n : ℕ) (js : List ℕ) (a : All (λ j. j < n) js) (once : Once n js) where
   pub putBack-at : {A : Type 0} (z : A) (xs : List A) (i : ℕ) → length js ≡ length xs → i < length js → getD (putBack z n js xs) (getD js i 0) z ≡ getD xs i z
   putBack-at z xs i e h =
       let l : getD js i 0 < n = All-at (λ j. j < n) js a i h in
-      map-from-at (λ k. lookup z k js xs) z n 0 (getD js i 0) l ∙ ap (λ k. lookup z k js xs) (zero-add (getD js i 0)) ∙ lookup-at z js xs i e h (once (getD js i 0) l)
+      at-from z (λ k. lookup z k js xs) n 0 (getD js i 0) l ∙ ap (λ k. lookup z k js xs) (zero-add (getD js i 0)) ∙ lookup-at z js xs i e h (once (getD js i 0) l)
 
   module _ (ls t : List ℕ) (e : length js ≡ length ls) where
     long : length (putBack 0 n js ls) ≡ n
@@ -106,12 +97,12 @@ module _ (n : ℕ) (js : List ℕ) (a : All (λ j. j < n) js) (once : Once n js)
         omega (arith, offset-is xs t j (omega (arith, long)), offset-is xs t (suc j) (omega (arith, long)), s)
 
     -- the merged offsets step, at the cells of the list, by the lengths
-    pub steps-merged : map (stepOf (offsetAt ((0 ∷ sums 0 (putBack 0 n js ls)) ++ t))) js ≡ ls
+    pub steps-merged : map (stepAt (offsetAt ((0 ∷ sums 0 (putBack 0 n js ls)) ++ t))) js ≡ ls
     steps-merged =
-        map-at (stepOf (offsetAt ((0 ∷ sums 0 (putBack 0 n js ls)) ++ t))) js ls e
+        map-at (stepAt (offsetAt ((0 ∷ sums 0 (putBack 0 n js ls)) ++ t))) js ls e
         (λ i h. omega (arith, step (getD js i 0) (All-at (λ j. j < n) js a i h), putBack-at 0 ls i e h))
 
-    pub rises-merged : (j : ℕ) → j < n → offsetAt ((0 ∷ sums 0 (putBack 0 n js ls)) ++ t) j ≤ offsetAt ((0 ∷ sums 0 (putBack 0 n js ls)) ++ t) (suc j)
+    pub rises-merged : Rises (offsetAt ((0 ∷ sums 0 (putBack 0 n js ls)) ++ t)) n
     rises-merged j h = omega (arith, step j h)
 
   beside-from : (P : ℕ → Value → Type 0) (ks : List ℕ) (vs : List Value) → length ks ≡ length vs → ((i : ℕ) → i < length ks → P (getD ks i 0) (getD vs i [])) → Beside P ks vs

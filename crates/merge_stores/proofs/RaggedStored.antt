@@ -4,21 +4,23 @@ use mathlib.Core.Path.{_≡_, sym, ap, _∙_, subst}
 use Prim.Native.Nat.{ℕ, suc, _+_, _<_, _≤_}
 use native.Mathlib.Omega.{arith}
 use mathlib.Core.List.{List, _++_}
-use lib.ListN.{length, take, drop, length-append, length-drop, take-append-drop}
+use lib.ListN.{length, take, drop, length-drop, take-append-drop}
 use lib.Seq.{drop-drop, getD-drop, take-all}
 use Rattle.array.specs.Subset.{Subset, subsetsOf, cellsIn, cellsOfAll, pairs}
-use Rattle.array.specs.Places.{offsetAt}
+use Rattle.array.specs.Places.{offsetAt, bytesAt}
+use Rattle.array.proofs.Places.{bytes-append}
 use Rattle.subset.specs.Subsets.{part, SubsetAt}
 use Rattle.subset.proofs.Rows.{asked-count, asked-volume}
 use Rattle.merge_stores.specs.Ragged.{Agrees, RaggedAsked, RaggedChunks, RaggedAllAsked}
 use Rattle.merge_stores.specs.Scatter.{scatter, places}
-use Rattle.merge_stores.proofs.ListStored.{ListStored, list-begins, next-places, list-more}
+use Rattle.merge_stores.proofs.ListStored.{ListStored, list-begins, list-more}
+use Rattle.merge_stores.proofs.Scattering.{length-places}
 
 -- the bytes of the chunks that are left lie from `base` on, their offsets from `first` on
 pub record RaggedAll (sh flat d begins values src o : List ℕ) (at base first : ℕ) : Type 0 where
   pub list : ListStored (offsetAt begins) sh flat d values o (drop base values) at
   pub chunks : RaggedChunks begins sh (subsetsOf (length sh) (drop at flat)) (drop first src)
-  pub enough : base + length (places (offsetAt begins) (cellsOfAll sh (subsetsOf (length sh) (drop at flat)))) ≤ length values
+  pub enough : base + bytesAt (offsetAt begins) (cellsOfAll sh (subsetsOf (length sh) (drop at flat))) ≤ length values
 
 module _ {sh flat d begins values src : List ℕ} (q : RaggedAllAsked sh flat d begins values src) where
   pub raggeds-begin : RaggedAll sh flat d begins values src d 0 0 0
@@ -36,8 +38,8 @@ module _ {sh flat d begins values src : List ℕ} (q : RaggedAllAsked sh flat d 
         subst (λ (k : ℕ). (k < length (drop first src)) × Agrees begins (drop first src) 0 cs × RaggedChunks begins sh later (drop (suc k) (drop first src)))
         (asked-volume (t .asked)) (subst (λ (bs : List Subset). RaggedChunks begins sh bs (drop first src)) (t .next) (c .chunks))
 
-    room : base + length (places (offsetAt begins) cs) + length (places (offsetAt begins) (cellsOfAll sh later)) ≤ length values
-    room = omega (arith, c .enough, ap length (next-places (c .list) t), length-append (places (offsetAt begins) cs) (places (offsetAt begins) (cellsOfAll sh later)))
+    room : base + bytesAt (offsetAt begins) cs + bytesAt (offsetAt begins) (cellsOfAll sh later) ≤ length values
+    room = omega (arith, c .enough, ap (λ (bs : List Subset). bytesAt (offsetAt begins) (cellsOfAll sh bs)) (t .next), bytes-append (offsetAt begins) cs (cellsOfAll sh later))
 
     at-first : (k : ℕ) → offsetAt (drop first src) (0 + k) ≡ offsetAt src (first + k)
     at-first k = getD-drop first src (0 + k) 0 ∙ ap (offsetAt src) (omega arith)
@@ -46,9 +48,9 @@ module _ {sh flat d begins values src : List ℕ} (q : RaggedAllAsked sh flat d 
     chunk-indexed = omega (arith, now .0, length-drop first src)
 
     -- the chunk's last offset says how many bytes it has
-    bytes-now : length (places (offsetAt begins) cs) ≡ offsetAt src (first + m)
+    bytes-now : bytesAt (offsetAt begins) cs ≡ offsetAt src (first + m)
     bytes-now =
-        ap (λ (js : List ℕ). length (places (offsetAt begins) js)) (sym (take-all (length cs) cs (omega arith))) ∙ now .1 (length cs) (omega arith) ∙ at-first (length cs)
+        ap (bytesAt (offsetAt begins)) (sym (take-all (length cs) cs (omega arith))) ∙ now .1 (length cs) (omega arith) ∙ at-first (length cs)
         ∙ ap (λ (k : ℕ). offsetAt src (first + k)) (asked-count (t .asked))
 
     pub chunk-enough : base + offsetAt src (first + m) ≤ length values
@@ -72,7 +74,7 @@ module _ {sh flat d begins values src : List ℕ} (q : RaggedAllAsked sh flat d 
     raggeds-more p =
         let z : first + suc m ≡ first + m + 1 = omega arith in
         record {
-          list = list-more (c .list) t (drop base values) bytes-now (omega (arith, chunk-enough, length-drop base values)) split p;
+          list = list-more (c .list) t (drop base values) (length-places (offsetAt begins) cs ∙ bytes-now) (omega (arith, chunk-enough, length-drop base values)) split p;
           chunks = subst (RaggedChunks begins sh later) (drop-drop (suc m) first src ∙ ap (λ (x : ℕ). drop x src) z) (now .2);
           enough = omega (arith, room, bytes-now);
         }

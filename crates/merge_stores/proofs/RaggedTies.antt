@@ -1,12 +1,12 @@
 -- The lengths of a chunk list's ragged values, by its offsets, and that places which step by them agree with the offsets.
 -- Assumes nothing.
-use mathlib.Core.Path.{_≡_, refl, sym, ap, ap₂, _∙_, subst}
+use mathlib.Core.Path.{_≡_, refl, sym, ap, ap₂, _∙_}
 use Prim.Native.Nat.{ℕ, zero, suc, _+_, _-_, _<_, _≤_}
 use native.Mathlib.Nat.{add-sub-cancel-left, min-le-right}
 use native.Mathlib.Omega.{arith}
 use mathlib.Core.List.{List, [], _∷_, _++_, map}
 use lib.ListN.{length, getD, take, drop, length-take, length-map}
-use lib.Seq.{take-at, drop-at, take-take, length-take-le}
+use lib.Seq.{take-at, drop-at, take-take, length-take-le, getD-take}
 use Rattle.array.specs.Cells.{Value, Cell}
 use Rattle.array.specs.Content.{Content, ContentOk, leaves, cellsOf}
 use Rattle.array.specs.Kind.{Kind, Masks, ragged, Place}
@@ -14,15 +14,16 @@ use Rattle.array.specs.Offsets.{last, lastFrom, Rising, RisingFrom, ends}
 use Rattle.array.specs.Shape.{volume}
 use Rattle.array.specs.Lists.{All}
 use Rattle.array.specs.Subset.{Subset, lengths, cellsIn, cellsOfAll, SubsetOk}
-use Rattle.array.specs.Places.{offsetAt}
+use Rattle.array.specs.Places.{offsetAt, Rises, stepAt}
 use Rattle.array.proofs.Inverse.{layout-cells}
 use Rattle.array.proofs.Lists.{map-append}
+use Rattle.array.proofs.Places.{offsets-rise}
 use Rattle.array.proofs.SubsetLaws.{length-cellsIn}
 use Rattle.chunks.specs.Chunks.{firstChunk}
-use Rattle.merge_stores.specs.Ragged.{RisesFor, LengthChunks, RaggedChunks, stepsFrom, steps, stepParts, sum}
+use Rattle.merge_stores.specs.Ragged.{LengthChunks, RaggedChunks, stepsFrom, steps, stepParts, sum}
 use Rattle.merge_stores.proofs.Blocks.{map-take}
 use Rattle.merge_stores.proofs.FirstChunk.{Chunked, none-of, first-of, first-leaves}
-use Rattle.merge_stores.proofs.RaggedMerge.{stepOf, places-sum}
+use Rattle.merge_stores.proofs.RaggedMerge.{bytes-sum}
 
 -- ---- offsets, and the lengths between them
 
@@ -67,15 +68,15 @@ length-steps (a ∷ os) = go a os ∙ omega arith
     go a [] = refl
     go a (b ∷ os) = ap suc (go b os)
 
-pub rises-of : (m : ℕ) (os : List ℕ) → Rising (take (suc m) os) → m < length os → RisesFor os 0 m
-rises-of m [] r h = absurd (omega arith)
-rises-of m (a ∷ os) r h = λ i l. let z : 0 + i ≡ i = omega arith in subst (λ (k : ℕ). offsetAt (a ∷ os) k ≤ offsetAt (a ∷ os) (suc k)) (sym z) (go m a os i (r .1) l (omega arith))
-  where
-    go : (m a : ℕ) (os : List ℕ) (i : ℕ) → RisingFrom a (take m os) → i < m → m ≤ length os → getD (a ∷ os) i 0 ≤ getD os i 0
-    go zero a os i r l h = absurd (omega arith)
-    go (suc m) a [] i r l h = absurd (omega arith)
-    go (suc m) a (b ∷ os) zero r l h = r .0
-    go (suc m) a (b ∷ os) (suc i) r l h = go m b os i (r .1) (omega arith) (omega arith)
+-- the first m + 1 offsets never fall
+pub rises-of : (m : ℕ) (os : List ℕ) → Rising (take (suc m) os) → m < length os → Rises (offsetAt os) m
+rises-of m os r h j l =
+    omega (
+      arith,
+      offsets-rise (take (suc m) os) r (length-take-le (suc m) os h) j l,
+      getD-take (suc m) os j 0 (omega arith),
+      getD-take (suc m) os (suc j) 0 (omega arith),
+    )
 
 -- the first i lengths sum to the offset i
 sum-steps : (m : ℕ) (os : List ℕ) → Rising (take (suc m) os) → m < length os → (i : ℕ) → i ≤ m → sum (take i (steps os)) ≡ offsetAt os i
@@ -97,19 +98,19 @@ split-same xs ys zs ws l e =
 
 -- places that step by the chunks' lengths agree with their offsets
 pub chunks-agree : (begins sh : List ℕ) (bs : List Subset) → All (SubsetOk sh) bs → (os : List ℕ) → LengthChunks bs os
-    → map (stepOf (offsetAt begins)) (cellsOfAll sh bs) ≡ stepParts bs os → RaggedChunks begins sh bs os
+    → map (stepAt (offsetAt begins)) (cellsOfAll sh bs) ≡ stepParts bs os → RaggedChunks begins sh bs os
 chunks-agree begins sh [] inside os l e = tt
 chunks-agree begins sh (b ∷ bs) inside os l e =
     let m : ℕ = volume (lengths b) in
     let cs : List ℕ = cellsIn sh b in
-    let f : ℕ → ℕ = stepOf (offsetAt begins) in
+    let f : ℕ → ℕ = stepAt (offsetAt begins) in
     let lc : length cs ≡ m = length-cellsIn sh b (inside .0) in
     let ls : length (take m (steps os)) ≡ m = length-take-le m (steps os) (omega (arith, l .0, length-steps os)) in
     let p = split-same (map f cs) (map f (cellsOfAll sh bs)) (take m (steps os)) (stepParts bs (drop (suc m) os)) (length-map cs f ∙ lc ∙ sym ls) (sym (map-append f cs (cellsOfAll sh bs)) ∙ e) in (
       l .0,
       λ i h.
           let z : 0 + i ≡ i = omega arith in
-          places-sum (offsetAt begins) (take i cs) ∙ ap sum (map-take f cs i ∙ ap (take i) (p .0) ∙ take-take i m (steps os) (omega arith))
+          bytes-sum (offsetAt begins) (take i cs) ∙ ap sum (map-take f cs i ∙ ap (take i) (p .0) ∙ take-take i m (steps os) (omega arith))
           ∙ sum-steps m os (l .1) (l .0) i (omega arith) ∙ ap (offsetAt os) (sym z),
       chunks-agree begins sh bs (inside .1) (drop (suc m) os) (l .2) (p .1),
     )

@@ -10,7 +10,7 @@ use Rattle.array.specs.Limits.{mostBytes}
 use Rattle.array.specs.Lists.{All, from}
 use Rattle.array.specs.Shape.{volume}
 use Rattle.array.specs.Subset.{Subset, subsetsOf, cellsOfAll, SubsetOk}
-use Rattle.array.specs.Places.{fixedAt, offsetAt}
+use Rattle.array.specs.Places.{fixedAt, offsetAt, stepAt}
 use Rattle.array.proofs.Lists.{length-from}
 use Rattle.array.proofs.SubsetLaws.{all-below}
 use Rattle.chunks.specs.Gather.{lookup, putBack}
@@ -20,7 +20,7 @@ use Rattle.merge_stores.specs.Scatter.{scatter, places}
 use Rattle.merge_stores.proofs.Blocks.{sum-append}
 use Rattle.merge_stores.proofs.Closing.{sum-putBack}
 use Rattle.merge_stores.proofs.Levels.{level-block}
-use Rattle.merge_stores.proofs.RaggedMerge.{offset-is, length-sums, stepOf, places-sum, steps-merged, rises-merged}
+use Rattle.merge_stores.proofs.RaggedMerge.{offset-is, length-sums, bytes-sum, steps-merged, rises-merged}
 use Rattle.merge_stores.proofs.RaggedTies.{chunks-agree}
 use Rattle.merge_stores.proofs.Scattering.{length-scatter}
 
@@ -73,7 +73,7 @@ module _ {sh flat dv d values src : List ℕ} {n : ℕ} (q : RaggedMergeAsked sh
           let s : sum xs ≡ sum (take j xs) + sum (drop j xs) = ap sum (sym (take-append-drop j xs)) ∙ sum-append (take j xs) (drop j xs) in
           omega (arith, offset-is xs (drop (n + 1) d) j (omega (arith, long-xs, q .counted)), s, sum-is, q .enough)
 
-      stepped : map (stepOf (offsetAt (offsetsMerged sh bs src ++ drop (n + 1) d))) (cellsOfAll sh bs) ≡ stepParts bs src
+      stepped : map (stepAt (offsetAt (offsetsMerged sh bs src ++ drop (n + 1) d))) (cellsOfAll sh bs) ≡ stepParts bs src
       stepped = steps-merged (volume sh) (cellsOfAll sh bs) (all-below sh bs ok) (q .once) (stepParts bs src) (drop (n + 1) d) (q .as-many)
 
       pub third-asked : RaggedAllAsked sh flat dv o′ values src
@@ -87,5 +87,5 @@ module _ {sh flat dv d values src : List ℕ} {n : ℕ} (q : RaggedMergeAsked sh
               room = below;
             };
             chunks = chunks-agree (offsetsMerged sh bs src ++ drop (n + 1) d) sh bs ok src (q .lengths-fit) stepped;
-            enough = omega (arith, places-sum (offsetAt (offsetsMerged sh bs src ++ drop (n + 1) d)) (cellsOfAll sh bs), ap sum stepped, q .summed);
+            enough = omega (arith, bytes-sum (offsetAt (offsetsMerged sh bs src ++ drop (n + 1) d)) (cellsOfAll sh bs), ap sum stepped, q .summed);
           })

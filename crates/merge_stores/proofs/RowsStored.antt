@@ -2,27 +2,29 @@
 -- Assumes nothing.
 use mathlib.Core.Path.{_≡_, refl, sym, ap, ap₂, _∙_}
 use Prim.Native.Nat.{ℕ, _+_, _-_, _*_, _≤_}
-use native.Mathlib.Nat.{suc-mul, mul-le-mul-right, add-mul}
+use native.Mathlib.Nat.{mul-le-mul-right, add-mul}
 use native.Mathlib.Omega.{arith}
 use mathlib.Core.List.{List, _++_}
 use lib.ListN.{length, take, drop, length-drop}
 use lib.Seq.{paste, length-paste, drop-drop}
 use Rattle.array.specs.Lists.{from}
 use Rattle.array.specs.Buffers.{overAt}
-use Rattle.array.specs.Places.{fixedAt}
+use Rattle.array.specs.Shape.{volume}
+use Rattle.array.specs.Places.{fixedAt, Rises}
 use Rattle.array.proofs.Over.{paste-over}
+use Rattle.array.proofs.Places.{fixed-rises}
 use Rattle.subset.specs.Walk.{rowOf, Left, RowAt}
 use Rattle.subset.proofs.Rows.{left-ends}
 use Rattle.merge_stores.specs.Scatter.{scatter, places}
-use Rattle.merge_stores.proofs.Scattering.{scatter-next, places-append, places-run, Steps}
+use Rattle.merge_stores.proofs.Scattering.{scatter-next, places-append, places-run}
 
 -- the places of the cells that are left begin with those of the next row
-row-places : (off : ℕ → ℕ) {sh ls cs : List ℕ} {cells at a n : ℕ} → RowAt sh ls cs cells at a n → Steps off a n
+row-places : {off : ℕ → ℕ} {sh ls cs : List ℕ} {cells at a n : ℕ} → RowAt sh ls cs cells at a n → Rises off (volume sh)
     → places off (drop at cs) ≡ from (off a) (off (a + n) - off a) ++ places off (drop (at + n) cs)
-row-places off {cs = cs} {at = at} {a = a} {n = n} q s =
+row-places {off} {cs = cs} {at = at} {a = a} {n = n} q s =
     ap (places off) (q .next)
     ∙ places-append off (from a n) (drop (at + n) cs)
-    ∙ ap (λ (r : List ℕ). r ++ places off (drop (at + n) cs)) (places-run off n a s)
+    ∙ ap (λ (r : List ℕ). r ++ places off (drop (at + n) cs)) (places-run s a n (q .inside))
 
 -- the rows before `at` are stored, `done` bytes of the chunk
 
@@ -39,7 +41,7 @@ module _ {off : ℕ → ℕ} {cs xs d o : List ℕ} {cells m at done : ℕ} (c :
   store-ends h = sym (c .same ∙ ap (λ (r : List ℕ). scatter o (places off r) (drop done xs)) (left-ends (c .geo) h))
 
   -- the row's bytes lie at `to`, w of them, and go on `done′` in all
-  module _ {sh ls : List ℕ} {a n : ℕ} (q : RowAt sh ls cs cells at a n) (s : Steps off a n) (to w done′ : ℕ) (eo : to ≡ off a) (ew : off (a + n) ≡ off a + w) (ed : done′ ≡ done + w)
+  module _ {sh ls : List ℕ} {a n : ℕ} (q : RowAt sh ls cs cells at a n) (s : Rises off (volume sh)) (to w done′ : ℕ) (eo : to ≡ off a) (ew : off (a + n) ≡ off a + w) (ed : done′ ≡ done + w)
       (room : to + w ≤ length d) (enough : done′ ≤ length xs) {o′ : List ℕ} (p : o′ ≡ overAt to (take w (drop done xs)) o) where
     pub store-more : Store off cs xs d o′ cells (rowOf ls) (at + n) done′
     store-more =
@@ -48,7 +50,7 @@ module _ {off : ℕ → ℕ} {cs xs d o : List ℕ} {cells m at done : ℕ} (c :
         let ew′ : off (a + n) - off a ≡ w = omega arith in
         let e : o′ ≡ paste o to (drop done xs) w = p ∙ sym (paste-over o to (drop done xs) w (omega arith) l) in
         let next : places off (drop at cs) ≡ from to w ++ places off (drop (at + n) cs) =
-        row-places off q s ∙ ap₂ (λ (x y : ℕ). from x y ++ places off (drop (at + n) cs)) (sym eo) ew′ in
+        row-places q s ∙ ap₂ (λ (x y : ℕ). from x y ++ places off (drop (at + n) cs)) (sym eo) ew′ in
         record {
           geo = q .rest;
           long = ap length e ∙ length-paste o to (drop done xs) w r l ∙ c .long;
@@ -67,6 +69,6 @@ module _ (base size : ℕ) {cs : List ℕ} (src : List ℕ) (first : ℕ) {d o :
     (p : o′ ≡ overAt (base + a * size) (take (n * size) (drop (first + at * size) src)) o) where
   pub fixed-more : Store (fixedAt base size) cs (drop first src) d o′ cells (rowOf ls) (at + n) ((at + n) * size)
   fixed-more =
-      store-more c q (λ i h l. omega (arith, suc-mul i size)) (base + a * size) (n * size) ((at + n) * size) refl
+      store-more c q (fixed-rises base size (volume sh)) (base + a * size) (n * size) ((at + n) * size) refl
       (omega (arith, add-mul a n size)) (add-mul at n size) room (omega (arith, add-mul at n size, length-drop first src))
       (p ∙ ap (λ (x : List ℕ). overAt (base + a * size) (take (n * size) x) o) (sym (drop-drop (at * size) first src)))

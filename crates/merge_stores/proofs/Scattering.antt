@@ -5,16 +5,17 @@ use Prim.Native.Nat.{ℕ, zero, suc, _+_, _-_, _<_, _≤_}
 use native.Mathlib.Nat.{add-zero}
 use native.Mathlib.Omega.{arith}
 use mathlib.Core.Bool.{Bool, true, false}
-use mathlib.Core.List.{List, [], _∷_, _++_, map, append-assoc}
-use lib.ListN.{length, getD, take, drop, set, length-set}
+use mathlib.Core.List.{List, [], _∷_, _++_, append-assoc}
+use lib.ListN.{length, getD, take, drop, set, length-append, length-set}
 use lib.Seq.{paste, take-suc-set, drop-set-lt, append-snoc, getD-set-same, getD-set-other}
 use lib.Dec.{eqb}
 use borrow.Author.Tests.{eqb-true, eqb-false}
 use Rattle.array.specs.Lists.{from, pick, count}
-use Rattle.array.proofs.Lists.{length-from, map-from}
+use Rattle.array.specs.Places.{Rises, stepAt, bytesAt}
+use Rattle.array.proofs.Lists.{length-from, by-number}
 use Rattle.array.proofs.Geometry as geometry
+use Rattle.array.proofs.Places.{run-rises}
 use Rattle.chunks.specs.Gather.{lookup, putBack}
-use Rattle.chunks.proofs.Gather.{gather-all}
 use Rattle.merge_stores.specs.Scatter.{scatter, places}
 
 -- ---- scatter
@@ -56,10 +57,6 @@ scatter-next acc a n js xs h l =
 
 -- ---- a merge by stores is the merge
 
--- a list by its elements
-by-index : {A : Type 0} (z : A) (xs : List A) {n : ℕ} → length xs ≡ n → xs ≡ map (λ i. getD xs i z) (from 0 n)
-by-index z xs {n = n} e = sym (gather-all z xs) ∙ ap (λ (m : ℕ). map (λ i. getD xs i z) (from 0 m)) e
-
 module _ {A : Type 0} (z : A) where
   -- a place that stands nowhere in the list keeps its element
   scatter-miss : (acc : List A) (js : List ℕ) (xs : List A) (i : ℕ) → count i js ≡ 0 → getD (scatter acc js xs) i z ≡ getD acc i z
@@ -88,8 +85,7 @@ module _ {A : Type 0} (z : A) where
   pub scatter-putBack : (acc : List A) {n : ℕ} (js : List ℕ) (xs : List A) → length acc ≡ n → length js ≡ length xs → ((i : ℕ) → i < n → count i js ≡ 1)
       → scatter acc js xs ≡ putBack z n js xs
   scatter-putBack acc {n} js xs e l o =
-      by-index z (scatter acc js xs) (length-scatter acc js xs ∙ e)
-      ∙ map-from (λ i. getD (scatter acc js xs) i z) (λ i. lookup z i js xs) 0 n (λ i h. scatter-hit acc js xs i (omega arith) l (o i (omega arith)))
+      by-number z (λ i. lookup z i js xs) (scatter acc js xs) (length-scatter acc js xs ∙ e) (λ i h. scatter-hit acc js xs i (omega arith) l (o i h))
 
 -- ---- the places of a run of cells are a run of bytes
 
@@ -99,28 +95,19 @@ from-append a n m = sym (geometry.from-append a n m (a + n) (n + m) refl refl)
 pub places-append : (off : ℕ → ℕ) (js ks : List ℕ) → places off (js ++ ks) ≡ places off js ++ places off ks
 places-append off [] ks = refl
 places-append off (j ∷ js) ks =
-    ap (λ (r : List ℕ). from (off j) (off (suc j) - off j) ++ r) (places-append off js ks) ∙ sym (append-assoc (from (off j) (off (suc j) - off j)) (places off js) (places off ks))
+    ap (λ (r : List ℕ). from (off j) (stepAt off j) ++ r) (places-append off js ks) ∙ sym (append-assoc (from (off j) (stepAt off j)) (places off js) (places off ks))
 
--- off never falls from a on, n times
-abbrev pub Steps : (ℕ → ℕ) → ℕ → ℕ → Type 0
-Steps off a n = (i : ℕ) → a ≤ i → i < a + n → off i ≤ off (suc i)
+-- as many as the cells' bytes
+pub length-places : (off : ℕ → ℕ) (js : List ℕ) → length (places off js) ≡ bytesAt off js
+length-places off [] = refl
+length-places off (j ∷ js) = omega (arith, length-append (from (off j) (stepAt off j)) (places off js), length-from (off j) (stepAt off j), length-places off js)
 
-pub steps-le : (off : ℕ → ℕ) (n a : ℕ) → Steps off a n → off a ≤ off (a + n)
-steps-le off zero a s = let q : a ≡ a + zero = omega arith in subst (λ (k : ℕ). off a ≤ off k) q (omega arith)
-steps-le off (suc n) a s =
+pub places-run : {off : ℕ → ℕ} {v : ℕ} → Rises off v → (a n : ℕ) → a + n ≤ v → places off (from a n) ≡ from (off a) (off (a + n) - off a)
+places-run {off} r a zero h = let q : 0 ≡ off (a + zero) - off a = let e : off (a + zero) ≡ off a = ap off (add-zero a) in omega (arith, e) in ap (from (off a)) q
+places-run {off} r a (suc n) h =
     let q : suc a + n ≡ a + suc n = omega arith in
-    let r : off (suc a) ≤ off (suc a + n) = steps-le off n (suc a) (λ i h l. s i (omega arith) (omega arith)) in
-    let t : off a ≤ off (suc a) = s a (omega arith) (omega arith) in
-    subst (λ (k : ℕ). off a ≤ off k) q (omega arith)
-
-pub places-run : (off : ℕ → ℕ) (n a : ℕ) → Steps off a n → places off (from a n) ≡ from (off a) (off (a + n) - off a)
-places-run off zero a s = let q : 0 ≡ off (a + zero) - off a = let e : off (a + zero) ≡ off a = ap off (add-zero a) in omega (arith, e) in ap (from (off a)) q
-places-run off (suc n) a s =
-    let q : suc a + n ≡ a + suc n = omega arith in
-    let s′ : Steps off (suc a) n = λ i h l. s i (omega arith) (omega arith) in
-    let r : off (suc a) ≤ off (suc a + n) = steps-le off n (suc a) s′ in
-    let t : off a ≤ off (suc a) = s a (omega arith) (omega arith) in
-    let u : off (suc a) ≡ off a + (off (suc a) - off a) = omega arith in
-    let v : off (suc a) - off a + (off (suc a + n) - off (suc a)) ≡ off (suc a + n) - off a = omega arith in
-    ap (λ (x : List ℕ). from (off a) (off (suc a) - off a) ++ x) (places-run off n (suc a) s′ ∙ ap (λ (k : ℕ). from k (off (suc a + n) - off (suc a))) u)
-    ∙ from-append (off a) (off (suc a) - off a) (off (suc a + n) - off (suc a)) ∙ ap (from (off a)) v ∙ ap (λ (k : ℕ). from (off a) (off k - off a)) q
+    let t : off a ≤ off (suc a) = r a (omega arith) in
+    let u : off a + stepAt off a ≡ off (suc a) = omega arith in
+    let v : stepAt off a + (off (suc a + n) - off (suc a)) ≡ off (a + suc n) - off a = omega (arith, run-rises r (suc a) n (omega arith), ap off q) in
+    ap (λ (x : List ℕ). from (off a) (stepAt off a) ++ x) (places-run r (suc a) n (omega arith))
+    ∙ sym (geometry.from-append (off a) (stepAt off a) (off (suc a + n) - off (suc a)) (off (suc a)) (off (a + suc n) - off a) u v)

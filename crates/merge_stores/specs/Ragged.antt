@@ -9,10 +9,9 @@ use Rattle.array.specs.Limits.{mostBytes}
 use Rattle.array.specs.Shape.{volume}
 use Rattle.array.specs.Subset.{Subset, lengths, subsetsOf, cellsIn, cellsOfAll}
 use Rattle.array.specs.Offsets.{Rising}
-use Rattle.array.specs.Places.{offsetAt}
+use Rattle.array.specs.Places.{offsetAt, Rises, bytesAt}
 use Rattle.subset.specs.Subsets.{SubsetsOk}
 use Rattle.chunks.specs.Gather.{putBack, Once}
-use Rattle.merge_stores.specs.Scatter.{places}
 
 -- ---- lengths, and offsets from them
 
@@ -45,23 +44,19 @@ offsetsMerged shape bs src = 0 ∷ sums 0 (putBack 0 (volume shape) (cellsOfAll 
 
 -- ---- what the stores ask
 
--- m offsets from `first` on never fall
-abbrev pub RisesFor : List ℕ → ℕ → ℕ → Type 0
-RisesFor src first m = (i : ℕ) → i < m → offsetAt src (first + i) ≤ offsetAt src (suc (first + i))
-
 -- the output's offsets never fall, and lie within its values
 pub record Begins (shape out begins : List ℕ) : Type 0 where
   pub covered : volume shape < length begins
-  pub rises : (j : ℕ) → j < volume shape → offsetAt begins j ≤ offsetAt begins (suc j)
+  pub rises : Rises (offsetAt begins) (volume shape)
   pub room : (j : ℕ) → j ≤ volume shape → offsetAt begins j ≤ length out
 
 -- the output has as many places for the first i of a chunk's cells as the chunk's own offset i says
 abbrev pub Agrees : List ℕ → List ℕ → ℕ → List ℕ → Type 0
-Agrees begins src first cs = (i : ℕ) → i ≤ length cs → length (places (offsetAt begins) (take i cs)) ≡ offsetAt src (first + i)
+Agrees begins src first cs = (i : ℕ) → i ≤ length cs → bytesAt (offsetAt begins) (take i cs) ≡ offsetAt src (first + i)
 
 -- of one chunk: its lengths, its values
 pub record LengthsAsked (shape out src : List ℕ) (first count : ℕ) : Type 0 where
-  pub rises : RisesFor src first count
+  pub rises : Rises (λ i. offsetAt src (first + i)) count
   pub indexed : first + count < length src
   pub room : volume shape < length out
 
@@ -69,7 +64,7 @@ pub record RaggedAsked (shape out begins values : List ℕ) (base : ℕ) (src : 
   pub laid : Begins shape out begins
   pub agrees : Agrees begins src first cs
   pub indexed : first + length cs < length src
-  pub enough : base + length (places (offsetAt begins) cs) ≤ length values
+  pub enough : base + bytesAt (offsetAt begins) cs ≤ length values
 
 -- chunk by chunk: offsets that begin at 0 and never fall; offsets that the output agrees with
 abbrev pub LengthChunks : List Subset → List ℕ → Type 0
@@ -91,7 +86,7 @@ pub record RaggedAllAsked (shape flat out begins values src : List ℕ) : Type 0
   pub subsets : SubsetsOk shape flat
   pub laid : Begins shape out begins
   pub chunks : RaggedChunks begins shape (subsetsOf (length shape) flat) src
-  pub enough : length (places (offsetAt begins) (cellsOfAll shape (subsetsOf (length shape) flat))) ≤ length values
+  pub enough : bytesAt (offsetAt begins) (cellsOfAll shape (subsetsOf (length shape) flat)) ≤ length values
 
 -- of both: the value bytes are as many as the lengths say, few, and fit the output
 pub record RaggedMergeAsked (shape flat outv outo values src : List ℕ) (n : ℕ) : Type 0 where

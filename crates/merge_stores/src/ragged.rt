@@ -6,15 +6,15 @@ ghost use lib.ListN.{length, take, drop};
 ghost use Rattle.array.specs.Limits.{mostBytes};
 ghost use Rattle.array.specs.Buffers.{overAt};
 ghost use Rattle.array.specs.Subset.{pairs, subsetsOf, cellsIn, cellsOfAll};
-ghost use Rattle.array.specs.Places.{fixedAt, offsetAt};
+ghost use Rattle.array.specs.Places.{fixedAt, offsetAt, Rises};
 ghost use Rattle.subset.specs.Walk.{SubsetAsked};
 ghost use Rattle.merge_stores.specs.Scatter.{scatter, places};
 ghost use Rattle.merge_stores.specs.Ragged.{steps, stepParts, sums, sum, offsetsMerged};
-ghost use Rattle.merge_stores.specs.Ragged.{RisesFor, LengthsAsked, LengthsAllAsked, RaggedAsked, RaggedAllAsked, RaggedMergeAsked};
+ghost use Rattle.merge_stores.specs.Ragged.{LengthsAsked, LengthsAllAsked, RaggedAsked, RaggedAllAsked, RaggedMergeAsked};
 
 // The lengths of n neighbours, from their offsets.
 fn store_steps(out: &mut [u64], at: usize, src: &[u64], first: usize, n: usize)
-    requires { ⌜ (at + n ≤ length (now out)) × (first + n < length (now src)) × RisesFor (now src) first n ⌝ }
+    requires { ⌜ (at + n ≤ length (now out)) × (first + n < length (now src)) × Rises (λ i. offsetAt (now src) (first + i)) n ⌝ }
     ensures { λ _. ⌜ now (out .exit) ≡ overAt at (take n (drop first (steps (now (src .entry))))) (now (out .entry)) ⌝ }
 {
     let mut i: usize = 0;

@@ -8,11 +8,9 @@ use lib.ListN.{length}
 use borrow.Author.Needs.{needs}
 use Rattle.array.specs.Buffers.{overAt}
 use Rattle.array.specs.Meaning.{orderOf}
-use Rattle.array.specs.Kind.{fixed}
-use Rattle.array.specs.Places.{fixedAt, valuesAt}
 use Rattle.word.specs.Word.{wordTest}
 use Rattle.encode_cells.specs.Live.{liveAt, Planes}
-use Rattle.codec.specs.Values.{putValues}
+use Rattle.encode_cells.proofs.Gathering.{putFixed}
 use Rattle.encode_cells.proofs.cells.put_level_words.Statement.{statement}
 use Rattle.encode_cells.proofs.cells.put_level_words.Tie as tie
 
@@ -21,7 +19,7 @@ start c = c .before .before .before
 
 -- the values of the cells that level l counts
 abbrev put : tie.Start → ℕ → List ℕ
-put s l = putValues (fixed (s .args .size) (orderOf (s .args .order))) (valuesAt (fixedAt 0 (s .args .size)) (s .args .s .now) (liveAt (s .args .cells) (s .args .masks .now) l))
+put s l = putFixed (orderOf (s .args .order)) (s .args .size) (s .args .s .now) (liveAt (s .args .cells) (s .args .masks .now) l)
 
 -- what the loop of level l asks, and gives
 abbrev Asked : tie.Start → ℕ → Type 0

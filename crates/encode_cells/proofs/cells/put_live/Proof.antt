@@ -7,11 +7,10 @@ use native.Mathlib.Omega.{arith}
 use lib.ListN.{length}
 use Rattle.array.specs.Buffers.{overAt}
 use Rattle.array.specs.Meaning.{orderOf}
-use Rattle.array.specs.Places.{fixedAt, valuesAt, shownAt}
-use Rattle.array.specs.Kind.{fixed}
+use Rattle.array.specs.Places.{shownAt}
 use Rattle.encode_cells.specs.Live.{liveAt}
-use Rattle.codec.specs.Values.{putValues}
 use Rattle.encode_cells.proofs.Placing.{laid-as}
+use Rattle.encode_cells.proofs.Gathering.{putFixed}
 use Rattle.encode_cells.proofs.Packing.{all-pieces, all-long}
 use borrow.Author.Needs.{needs}
 use Rattle.encode_cells.proofs.cells.put_live.Statement.{statement}
@@ -25,7 +24,7 @@ parted c = c .before .before .before .before
 
 -- the values of size k of the cells that the level counts
 abbrev put : tie.Start → ℕ → List ℕ
-put s k = putValues (fixed k (orderOf (s .args .order))) (valuesAt (fixedAt 0 k) (s .args .s .now) (liveAt (s .args .cells) (s .args .masks .now) (s .args .level)))
+put s k = putFixed (orderOf (s .args .order)) k (s .args .s .now) (liveAt (s .args .cells) (s .args .masks .now) (s .args .level))
 
 -- the room that the loop of size k asks, and what it gives
 room : (s : tie.Start) {k : ℕ} → s .args .size ≡ k → (s .args .cells * k ≤ length (s .args .s .now)) × (s .args .to + length (put s k) ≤ length (s .args .out .now))

@@ -7,8 +7,6 @@ use Rattle.array.specs.Kind.{ordered}
 use Prim.Native.Nat.{ℕ, _≤_, _<_, _+_, _*_, _-_}
 use native.Mathlib.Omega.{arith}
 use lib.ListN.{length}
-use mathlib.Core.List.{List}
-use Rattle.array.specs.Buffers.{overAt}
 use Rattle.array.specs.Limits.{mostCells}
 use Rattle.array.specs.Meaning.{orderOf}
 use Rattle.array.specs.Places.{shownAt}

@@ -1,15 +1,15 @@
 -- `store_lengths` meets its contract: the rows before `at` are stored (proofs/RowsStored, proofs/LengthRows).
 -- Assumes nothing.
-use Prim.Native.Nat.{ℕ, suc, _+_, _-_, _*_, _<_, _≤_}
-use mathlib.Core.Path.{_≡_, subst}
+use Prim.Native.Nat.{suc, _+_, _-_, _*_, _<_}
+use mathlib.Core.Path.{_≡_, ap}
 use native.Mathlib.Omega.{arith}
 use lib.ListN.{length, drop}
 use Rattle.array.specs.Limits.{mostCells}
 use Rattle.array.specs.Subset.{cellsIn, pairs}
-use Rattle.array.specs.Places.{fixedAt, offsetAt}
+use Rattle.array.specs.Places.{fixedAt, offsetAt, Rises}
 use Rattle.subset.specs.Walk.{rowOf, RowAt}
 use Rattle.subset.proofs.Rows.{asked-left, asked-few, asked-lengths, row-is}
-use Rattle.merge_stores.specs.Ragged.{steps, RisesFor}
+use Rattle.merge_stores.specs.Ragged.{steps}
 use Rattle.merge_stores.proofs.LengthRows.{unit-more}
 use Rattle.merge_stores.proofs.RaggedTies.{length-steps}
 use Rattle.merge_stores.proofs.RowsStored.{Store, store-begins, store-ends}
@@ -54,12 +54,13 @@ short : (a : Start) → length (a .args .src .now) * 8 < 18446744073709551616
 short a = omega arith
 
 -- a row's offsets never fall
-rising : (k : Known) → RisesFor (start k .args .src .now) (start k .args .first + head k .loop .at) (rowOf (start k .args .lens .now))
+rising : (k : Known) → let a = start k .args in Rises (λ i. offsetAt (a .src .now) (a .first + head k .loop .at + i)) (rowOf (a .lens .now))
 rising k i h =
     let a = start k in
     let at = head k .loop .at in
-    let q : a .args .first + (at + i) ≡ a .args .first + at + i = omega arith in
-    subst (λ (x : ℕ). offsetAt (a .args .src .now) x ≤ offsetAt (a .args .src .now) (suc x)) q (a .pre .1 .rises (at + i) (omega (arith, next k .within)))
+    let e : a .args .first + (at + i) ≡ a .args .first + at + i = omega arith in
+    let e′ : a .args .first + suc (at + i) ≡ a .args .first + at + suc i = omega arith in
+    omega (arith, a .pre .1 .rises (at + i) (omega (arith, next k .within)), ap (offsetAt (a .args .src .now)) e, ap (offsetAt (a .args .src .now)) e′)
 
 sub-last : tie.Need-sub-last Inv-loop μ-loop
 sub-last c = omega (arith, asked-lengths (entry (c .before) .pre .0))

@@ -1,10 +1,9 @@
 -- `store_steps` meets its contract: i lengths are copied, as if they lay there (proofs/LengthRows over array's Copying).
 -- Assumes nothing.
-use Prim.Native.Nat.{ℕ, _+_, _-_}
-use mathlib.Core.Path.{ap}
-use native.Mathlib.Numerals.{add-one}
+use Prim.Native.Nat.{suc, _+_, _-_}
+use mathlib.Core.Path.{_≡_, ap}
 use native.Mathlib.Omega.{arith}
-use lib.ListN.{getD}
+use Rattle.array.specs.Places.{offsetAt}
 use Rattle.buffer.proofs.Copying.{Copying, copy-begins, copy-same, copy-room, copy-ends}
 use Rattle.merge_stores.specs.Ragged.{steps}
 use Rattle.merge_stores.proofs.LengthRows.{steps-more}
@@ -25,7 +24,8 @@ sub-out : tie.Need-sub-out Inv-loop μ-loop
 sub-out c =
     let l = c .before .before .before in
     let a = l .before in
-    omega (arith, a .pre .2 (l .loop .i) (omega arith), ap (λ (k : ℕ). getD (a .args .src .now) k 0) (add-one (a .args .first + l .loop .i)))
+    let e : a .args .first + suc (l .loop .i) ≡ a .args .first + l .loop .i + 1 = omega arith in
+    omega (arith, a .pre .2 (l .loop .i) (omega arith), ap (offsetAt (a .args .src .now)) e)
 
 mul-out : tie.Need-mul-out Inv-loop μ-loop
 mul-out c = let l = c .before .before .before in omega (arith, copy-same (l .loop .inv))
