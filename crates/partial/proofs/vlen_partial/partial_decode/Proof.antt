@@ -95,9 +95,9 @@ Found = tie.After-known-told3
 abbrev checked : Found → Checked
 checked f = f .before .before .before
 
--- and the parts of the subset lent
-abbrev lent : tie.After-cut-stored-arg4 → Found
-lent c = c .before .before .before .before
+-- and the outputs lent
+abbrev lent : tie.After-cut-stored-arg2 → Found
+lent c = c .before .before
 
 abbrev index : Found → Index
 index f = f .before .found2 .given .0 .0
@@ -125,21 +125,11 @@ find-index-requires : tie.Need-find-index-requires
 unfolding mostCells
 find-index-requires c κs = (shaped (told c) .few, omega arith)
 
-part-cut-stored-end : tie.Need-part-cut-stored-end
-part-cut-stored-end c = omega (arith, fitting (checked c .before) .counted)
-
-sub-cut-stored-2 : tie.Need-sub-cut-stored-2
-sub-cut-stored-2 c = omega (arith, fitting (checked (c .before) .before) .counted)
-
-part-cut-stored-start-2 : tie.Need-part-cut-stored-start-2
-part-cut-stored-start-2 c = omega (arith, fitting (checked (c .before) .before) .counted)
-
 cut-stored-requires : tie.Need-cut-stored-requires
 cut-stored-requires c κs =
     let f = lent c in
     let e = checked f .before in
-    let s = start (told e) in
-    (record { shaped = shaped (told e) .shaped; within = within-parts (shape s) (numbers s) (fitting e); counted = refl }, read f .stored)
+    (record { shaped = shaped (told e) .shaped; numbers = fitting e; counted = refl }, read f .stored)
 
 returns-3 : tie.Need-returns-3
 returns-3 c =
@@ -157,8 +147,6 @@ returns-4 c =
     let e = checked f .before in
     let s = start (told e) in
     r .cut-stored .ensures
-    ∙ ap (λ (b : Subset). raggedOutcome (cutAnswer (i .last) (storedValues (width s) (bytes s) i (cellsIn (shape s) b)) (raggedLengthsOf (outputs s))) (outputs s))
-    (subset-parts (length (shape s)) (numbers s))
     ∙ cut-read (width s) (place s) (shape s) (numbers s) (bytes s) (outputs s) (shaped (told e) .passes) (subset-passes e) i (read f)
 
 pub partial-decode-spec : {M : Type 1} → statement M
@@ -173,13 +161,6 @@ partial-decode-spec =
     returns-2
     find-index-requires
     (λ c. search needs)
-    (λ c. search needs)
-    (λ c. search needs)
-    (λ c. search needs)
-    part-cut-stored-end
-    (λ c. search needs)
-    sub-cut-stored-2
-    part-cut-stored-start-2
     (λ c. search needs)
     cut-stored-requires
     returns-3
