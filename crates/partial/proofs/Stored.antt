@@ -134,6 +134,7 @@ read-cut {width} {p} {s} {i} shape ns r ok =
     ap (λ (c : Content). record { values = c .values; offsets = c .offsets })
     (cut-is {k = byteKind 0 (ragged (widthOf width) p)} shape {c = unmasked x} (record { masks-fit = sym (zero-mul n); values-fit = r .keeps }) (subsetOf (length shape) ns) ok)
     ∙ ap endToEnd
-    (values-same (offsetAt (x .offsets)) (drop (i .from) s) (subst (λ (off : ℕ → ℕ). Rises off n) at-source (r .stored .rises)) (stored-is (widthOf width) n s (i .index)) (cellsIn shape (subsetOf (length shape) ns))
+    (values-same (offsetAt (x .offsets)) (drop (i .from) s) (subst (λ (off : ℕ → ℕ). Rises off n) at-source (r .stored .rises)) (stored-is (widthOf width) n s (i .index))
+    (cellsIn shape (subsetOf (length shape) ns))
     (cellsIn-below shape (subsetOf (length shape) ns) ok))
     ∙ ap (λ (off : ℕ → ℕ). endToEnd (valuesAt off (drop (i .from) s) (cellsIn shape (subsetOf (length shape) ns)))) (sym at-source)

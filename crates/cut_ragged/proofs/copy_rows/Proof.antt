@@ -1,9 +1,8 @@
 -- `copy_rows` meets its contract: the values of the rows before `at`, and where they end, lie in place (proofs/Ragged).
 -- Assumes nothing.
-use Prim.Native.Nat.{ℕ, _+_, _-_, _≤_, _<_}
+use Prim.Native.Nat.{ℕ, _+_, _-_, _<_}
 use mathlib.Core.Path.{_≡_}
 use native.Mathlib.Omega.{arith}
-use borrow.Author.Needs.{needs}
 use lib.ListN.{length, drop}
 use Rattle.array.specs.Limits.{mostCells}
 use Rattle.array.specs.Subset.{pairs, cellsIn}

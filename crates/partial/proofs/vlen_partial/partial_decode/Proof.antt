@@ -7,23 +7,19 @@ use mathlib.Core.List.{List}
 use native.Mathlib.Omega.{arith}
 use borrow.Author.Needs.{needs}
 use borrow.Author.Tests.{not-true, not-false}
-use lib.ListN.{length}
 use Rattle.array.specs.Limits.{mostCells}
 use Rattle.array.specs.declared.kind.IndexWidth.{IndexWidth}
 use Rattle.array.specs.Kind.{Place}
 use Rattle.array.specs.Shape.{volume}
 use Rattle.valid.specs.ShapeCells.{toldCells}
-use Rattle.array.specs.Subset.{Subset, numbersTest, NumbersOk, cellsIn}
+use Rattle.array.specs.Subset.{numbersTest, NumbersOk}
 use Rattle.array.specs.Content.{RaggedContent}
-use Rattle.array.specs.Buffers.{raggedLengthsOf, raggedOutcome}
 use Rattle.array.specs.Meaning.{widthOf, placeOf}
 use Rattle.array.specs.Outcome.{contentRagged}
 use Rattle.array.proofs.Rules.{numbers-ok}
 use Rattle.valid.proofs.ShapeLaws.{Counted, counted, not-counted}
-use Rattle.array.proofs.SubsetLists.{subset-parts, within-parts}
 use Rattle.stored.specs.declared.vlen.Index.{Index}
 use Rattle.stored.specs.Index.{foundIn, toldIndex}
-use Rattle.partial.specs.Stored.{storedValues, cutAnswer}
 use Rattle.partial.proofs.Stored.{Read, read-found}
 use Rattle.partial.proofs.Outcomes.{no-shape, no-subset, not-read, cut-read}
 use Rattle.partial.proofs.vlen_partial.partial_decode.Statement.{statement}
