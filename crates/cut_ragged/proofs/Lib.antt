@@ -1,3 +1,4 @@
+pub mod Numbers
 pub mod Offsets
 pub mod Walk
 pub mod Counting

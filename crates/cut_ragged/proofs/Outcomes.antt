@@ -21,21 +21,22 @@ use Rattle.array.proofs.Rules.{ragged-enough-test, ragged-enough-ok}
 use Rattle.subset.specs.Walk.{SubsetAsked}
 use Rattle.subset.proofs.Rows.{asked-below, asked-count}
 use Rattle.cut_ragged.specs.declared.Source.{Source}
-use Rattle.cut_ragged.specs.Source.{sourceAt, dataAt, sourceValues, SourceAsked, putRagged}
+use Rattle.cut_ragged.specs.Source.{sourceAt, sourceValues, SourceAsked, putRagged}
 
 -- ---- what it needs
 
-module _ {shape starts lens : List ℕ} {count : ℕ} (a : SubsetAsked shape starts lens count) {source : Source} {os s : List ℕ} (d : SourceAsked source os s (volume shape)) where
+module _ {shape starts lens : List ℕ} {count : ℕ} (a : SubsetAsked shape starts lens count) {source : Source} {index base : ℕ} {os s : List ℕ}
+    (d : SourceAsked source index base os s (volume shape)) where
   abbrev cells : List ℕ
   cells = cellsIn shape (pairs starts lens)
 
-  pub need-values : length (joined (sourceValues source os s (cellsIn shape (pairs starts lens)))) ≡ bytesAt (sourceAt source os s) (cellsIn shape (pairs starts lens))
+  pub need-values : length (joined (sourceValues source index base os s (cellsIn shape (pairs starts lens)))) ≡ bytesAt (sourceAt source index os s) (cellsIn shape (pairs starts lens))
   need-values =
-      bytes-long (d .rises) (drop (dataAt source) s) (omega (arith, length-drop (dataAt source) s, d .data-room)) cells (asked-below a)
+      bytes-long (d .rises) (drop base s) (omega (arith, length-drop base s, d .data-room)) cells (asked-below a)
 
-  pub need-offsets : length (offsetsOf (sourceValues source os s (cellsIn shape (pairs starts lens)))) ≡ count + 1
+  pub need-offsets : length (offsetsOf (sourceValues source index base os s (cellsIn shape (pairs starts lens)))) ≡ count + 1
   need-offsets =
-      omega (arith, length-ends 0 (sourceValues source os s cells), length-map cells (valueAt (sourceAt source os s) (drop (dataAt source) s)), asked-count a)
+      omega (arith, length-ends 0 (sourceValues source index base os s cells), length-map cells (valueAt (sourceAt source index os s) (drop base s)), asked-count a)
 
 -- ---- what it answers
 

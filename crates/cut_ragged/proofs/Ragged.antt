@@ -15,7 +15,7 @@ use Rattle.array.specs.Places.{Rises, stepAt, valuesAt}
 use Rattle.array.proofs.Lists.{length-from}
 use Rattle.array.proofs.Offsets.{length-ends}
 use Rattle.array.proofs.Over.{over-store, over-again}
-use Rattle.array.proofs.Laying.{Laying, laying-begins, laying-same, laying-ends, laying-store, laying-is, laying-room}
+use Rattle.array.proofs.Laying.{Laying, laying-begins, laying-same, laying-ends, laying-left, laying-store, laying-is, laying-room}
 use Rattle.array.proofs.Places.{run-rises, run-below}
 use Rattle.subset.specs.Walk.{rowOf, Left, RowAt}
 use Rattle.subset.proofs.Rows.{left-ends}
@@ -53,6 +53,14 @@ module _ {off : ℕ → ℕ} {s cs oldv oldo ov oo : List ℕ} {cells m at total
         laying-ends (ends 0 (valuesAt off s cs)) oldo 1 oo at
         (laying-is (c .ended) (ap (λ (js : List ℕ). ends total (valuesAt off s js)) (left-ends (c .copied .geo) h)))
 
+    pub ragged-total : total ≡ length (joined (valuesAt off s cs))
+    ragged-total =
+        omega (
+          arith,
+          laying-left (joined (valuesAt off s cs)) oldv 0 ov total (joined (valuesAt off s (drop at cs))) (c .copied .laid),
+          ap (λ (js : List ℕ). length (joined (valuesAt off s js))) (left-ends (c .copied .geo) h),
+        )
+
 -- ---- the next row: n neighbours from the cell a on
 
 pub record NextRow (off : ℕ → ℕ) (s : List ℕ) (base : ℕ) (ov oo : List ℕ) (at total a n : ℕ) : Type 0 where
@@ -75,12 +83,12 @@ module _ {off : ℕ → ℕ} (s : List ℕ) (base : ℕ) {cs oldv oldo ov oo : L
   }
 
   -- it is copied, from its begin up to its end
-  pub next-copied : {b x y : ℕ} → b ≡ base → x ≡ off a → y ≡ off (a + n) → {ov′ oo′ : List ℕ} → ov′ ≡ overAt total (take (y - x) (drop (b + x) s)) ov
+  pub next-copied : {x y : ℕ} → x ≡ off a → y ≡ off (a + n) → {ov′ oo′ : List ℕ} → ov′ ≡ overAt total (take (y - x) (drop (base + x) s)) ov
       → oo′ ≡ overAt (at + 1) (map (λ j. total + (off (suc j) - x)) (from a n)) oo
       → Ragged off (drop base s) cs oldv oldo ov′ oo′ cells (rowOf ls) (at + n) (total + (y - x))
-  next-copied {b} {x} {y} eb ex ey {ov′} {oo′} e w =
+  next-copied {x} {y} ex ey {ov′} {oo′} e w =
       let step : y - x ≡ off (a + n) - off a = ap₂ (λ (i j : ℕ). i - j) ey ex in
-      let here : drop (b + x) s ≡ drop (off a) (drop base s) = ap₂ (λ (i j : ℕ). drop (i + j) s) eb ex ∙ sym (drop-drop (off a) base s) in
+      let here : drop (base + x) s ≡ drop (off a) (drop base s) = ap (λ (i : ℕ). drop (base + i) s) ex ∙ sym (drop-drop (off a) base s) in
       record {
         copied = row-copied q r (drop base s) within-data (c .copied) step
             (e ∙ ap₂ (λ (i : ℕ) (u : List ℕ). overAt i (take (y - x) u) ov) (sym (zero-add total)) here);

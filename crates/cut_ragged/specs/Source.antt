@@ -9,55 +9,58 @@ use Rattle.array.specs.Answer.{Outcome}
 use Rattle.array.specs.Limits.{mostCells}
 use Rattle.array.specs.Lists.{joined}
 use Rattle.array.specs.Bytes.{unle}
-use Rattle.array.specs.Shape.{volume}
+use Rattle.array.specs.Shape.{volume, ShapeOk}
+use Rattle.array.specs.Subset.{NumbersOk}
 use Rattle.array.specs.Content.{RaggedContent}
 use Rattle.array.specs.Buffers.{RaggedLengths, raggedLengthsOf, raggedEnoughTest, ifRoom, raggedOutcome}
-use Rattle.array.specs.Meaning.{widthOf}
 use Rattle.array.specs.Places.{offsetAt, Rises, valuesAt}
 use Rattle.cut_ragged.specs.declared.Source.{Source}
-use Rattle.cut_ragged.specs.declared.Source.the-variants.{Numbers, Stored}
+use Rattle.cut_ragged.specs.declared.Source.the-variants.{Numbers, Four, Eight}
 
 -- offset j of an index of width w
 unfoldable pub storedAt : ℕ → List ℕ → ℕ → ℕ → ℕ
 storedAt w s index j = unle (take w (drop (index + j * w) s))
 
--- where cell j begins, counted from the data's begin
-abbrev pub sourceAt : Source → List ℕ → List ℕ → ℕ → ℕ
-sourceAt Numbers os s = offsetAt os
-sourceAt (Stored index begin width) os s = storedAt (widthOf width) s index
+-- where cell j begins, counted from the data's begin; fields begin at `index`
+abbrev pub sourceAt : Source → ℕ → List ℕ → List ℕ → ℕ → ℕ
+sourceAt Numbers index os s = offsetAt os
+sourceAt Four index os s = storedAt 4 s index
+sourceAt Eight index os s = storedAt 8 s index
 
--- where the data begins
-abbrev pub dataAt : Source → ℕ
-dataAt Numbers = 0
-dataAt (Stored index begin width) = begin
-
--- the values of the cells js
-abbrev pub sourceValues : Source → List ℕ → List ℕ → List ℕ → List (List ℕ)
-sourceValues source os s js = valuesAt (sourceAt source os s) (drop (dataAt source) s) js
+-- the values of the cells js, of data that begins at `base`
+abbrev pub sourceValues : Source → ℕ → ℕ → List ℕ → List ℕ → List ℕ → List (List ℕ)
+sourceValues source index base os s js = valuesAt (sourceAt source index os s) (drop base s) js
 
 -- offset j is there
-abbrev pub There : Source → List ℕ → List ℕ → ℕ → Type 0
-There Numbers os s j = j < length os
-There (Stored index begin width) os s j = index + (widthOf width + j * widthOf width) ≤ length s
+abbrev pub There : Source → ℕ → List ℕ → List ℕ → ℕ → Type 0
+There Numbers index os s j = j < length os
+There Four index os s j = index + (4 + j * 4) ≤ length s
+There Eight index os s j = index + (8 + j * 8) ≤ length s
+
+-- numbers that are a subset of so many cells, within its shape
+pub record NumbersAsked (shape ns : List ℕ) (count : ℕ) : Type 0 where
+  pub shaped : ShapeOk shape
+  pub numbers : NumbersOk shape ns
+  pub counted : count ≡ volume (drop (length shape) ns)
 
 -- n cells whose offsets are there and never fall, and whose bytes are there too
-pub record SourceAsked (source : Source) (os s : List ℕ) (n : ℕ) : Type 0 where
-  pub there : There source os s n
-  pub rises : Rises (sourceAt source os s) n
-  pub data-room : dataAt source + sourceAt source os s n ≤ length s
+pub record SourceAsked (source : Source) (index base : ℕ) (os s : List ℕ) (n : ℕ) : Type 0 where
+  pub there : There source index os s n
+  pub rises : Rises (sourceAt source index os s) n
+  pub data-room : base + sourceAt source index os s n ≤ length s
 
 -- the offsets of n neighbours from the cell a on, which begins here, with so many bytes before them
-pub record RowAsked (source : Source) (os s : List ℕ) (a n begin total : ℕ) : Type 0 where
-  pub there : There source os s (a + n)
-  pub rises : Rises (sourceAt source os s) (a + n)
+pub record RowAsked (source : Source) (index : ℕ) (os s : List ℕ) (a n begin total : ℕ) : Type 0 where
+  pub there : There source index os s (a + n)
+  pub rises : Rises (sourceAt source index os s) (a + n)
   pub few-cells : a + n ≤ mostCells
-  pub here : begin ≡ sourceAt source os s a
-  pub few-bytes : total + (sourceAt source os s (a + n) - begin) < 2 ^ 64
+  pub here : begin ≡ sourceAt source index os s a
+  pub few-bytes : total + (sourceAt source index os s (a + n) - begin) < 2 ^ 64
 
 -- the cells of a subset, with room for them in the outputs
-pub record CutAsked (outv outo : List ℕ) (source : Source) (os s shape cells : List ℕ) : Type 0 where
-  pub asked : SourceAsked source os s (volume shape)
-  pub room : length (joined (sourceValues source os s cells)) ≤ length outv
+pub record CutAsked (outv outo : List ℕ) (source : Source) (index base : ℕ) (os s shape cells : List ℕ) : Type 0 where
+  pub asked : SourceAsked source index base os s (volume shape)
+  pub room : length (joined (sourceValues source index base os s cells)) ≤ length outv
   pub room-offsets : suc (length cells) ≤ length outo
 
 -- a result laid into outputs that are long enough for it, else refusal 6

@@ -12,7 +12,7 @@ ghost use Prim.Native.Nat.{ℕ, suc, _+_, _-_, _*_, _≤_};
 ghost use lib.ListN.{length};
 ghost use Rattle.array.specs.Lists.{from, joined};
 ghost use Rattle.array.specs.Shape.{volume};
-ghost use Rattle.array.specs.Subset.{pairs, cellsIn};
+ghost use Rattle.array.specs.Subset.{pairs, subsetOf, cellsIn};
 ghost use Rattle.array.specs.Offsets.{ends, offsetsOf};
 ghost use Rattle.array.specs.Content.{endToEnd};
 ghost use Rattle.array.specs.Buffers.{over, overAt};
@@ -20,14 +20,13 @@ ghost use Rattle.array.specs.Meaning.{widthOf};
 ghost use Rattle.array.specs.Outcome.{contentRagged, outcomeRagged};
 ghost use Rattle.array.specs.Places.{bytesAt};
 ghost use Rattle.subset.specs.Walk.{SubsetAsked};
-ghost use Rattle.cut_ragged.specs.Source.{storedAt, sourceAt, dataAt, sourceValues, There, SourceAsked, RowAsked, CutAsked, putRagged};
+ghost use Rattle.cut_ragged.specs.Source.{storedAt, sourceAt, sourceValues, There, NumbersAsked, SourceAsked, RowAsked, CutAsked, putRagged};
 
-// Where ragged values lie.
+// How offsets lie: as numbers, or as little-endian fields of so many bytes. No variant holds more, so that it is passed in a register.
 pub enum Source {
-    // The offsets are numbers, and the bytes are the data.
     Numbers,
-    // The bytes hold both: where the index and the data begin.
-    Stored(usize, usize, IndexWidth),
+    Four,
+    Eight,
 }
 
 // Offset j of an index.
@@ -39,30 +38,22 @@ fn stored_at(bytes: &[u8], index: usize, width: IndexWidth, j: usize) -> u64
     field::le_at(bytes, index + j * w, width)
 }
 
-// Where cell j begins, counted from the data's begin.
-fn offset_at(source: Source, numbers: &[u64], bytes: &[u8], j: usize) -> u64
-    requires { ⌜ There source (now numbers) (now bytes) j ⌝ }
-    ensures { λ r. ⌜ r ≡ sourceAt source (now (numbers .entry)) (now (bytes .entry)) j ⌝ }
+// Where cell j begins, counted from the data's begin. Fields begin at `index` of the bytes.
+fn offset_at(source: Source, index: usize, numbers: &[u64], bytes: &[u8], j: usize) -> u64
+    requires { ⌜ There source index (now numbers) (now bytes) j ⌝ }
+    ensures { λ r. ⌜ r ≡ sourceAt source index (now (numbers .entry)) (now (bytes .entry)) j ⌝ }
 {
     match source {
         Source::Numbers => numbers[j],
-        Source::Stored(index, _, width) => stored_at(bytes, index, width, j),
-    }
-}
-
-// Where the data begins.
-fn data_at(source: Source) -> usize
-    ensures { λ r. ⌜ r ≡ dataAt source ⌝ }
-{
-    match source {
-        Source::Numbers => 0,
-        Source::Stored(_, begin, _) => begin,
+        Source::Four => stored_at(bytes, index, IndexWidth::Four, j),
+        Source::Eight => stored_at(bytes, index, IndexWidth::Eight, j),
     }
 }
 
 // How many bytes the cells of a subset have.
 fn count_bytes(
     source: Source,
+    index: usize,
     numbers: &[u64],
     bytes: &[u8],
     shape: &[u64],
@@ -70,8 +61,8 @@ fn count_bytes(
     lens: &[u64],
     count: usize,
 ) -> usize
-    requires { ⌜ SubsetAsked (now shape) (now starts) (now lens) count × SourceAsked source (now numbers) (now bytes) (volume (now shape)) ⌝ }
-    ensures { λ r. ⌜ r ≡ bytesAt (sourceAt source (now (numbers .entry)) (now (bytes .entry)))
+    requires { ⌜ SubsetAsked (now shape) (now starts) (now lens) count × SourceAsked source index 0 (now numbers) (now bytes) (volume (now shape)) ⌝ }
+    ensures { λ r. ⌜ r ≡ bytesAt (sourceAt source index (now (numbers .entry)) (now (bytes .entry)))
         (cellsIn (now (shape .entry)) (pairs (now (starts .entry)) (now (lens .entry)))) ⌝ }
 {
     let mut at: usize = 0;
@@ -80,8 +71,8 @@ fn count_bytes(
         let row = subset::row_at(shape, starts, lens, count, at);
         let first = row.first;
         let n = row.cells;
-        let begin = offset_at(source, numbers, bytes, first) as usize;
-        let end = offset_at(source, numbers, bytes, first + n) as usize;
+        let begin = offset_at(source, index, numbers, bytes, first) as usize;
+        let end = offset_at(source, index, numbers, bytes, first + n) as usize;
         total += end - begin;
         at += n;
     }
@@ -89,10 +80,12 @@ fn count_bytes(
 }
 
 // Writes where n neighbours end that begin at `begin`, from the cell `first` on, where `total` bytes lie before them.
+// 10 parameters: where offsets lie is four of them, since a struct would go through memory at each row.
 fn store_ends(
     out: &mut [u64],
     to: usize,
     source: Source,
+    index: usize,
     numbers: &[u64],
     bytes: &[u8],
     first: usize,
@@ -100,52 +93,57 @@ fn store_ends(
     begin: u64,
     total: u64,
 )
-    requires { ⌜ (to + n ≤ length (now «out»)) × RowAsked source (now numbers) (now bytes) first n begin total ⌝ }
-    ensures { λ _. ⌜ now («out» .exit) ≡ overAt to (map (λ (j : ℕ). total + (sourceAt source (now (numbers .entry)) (now (bytes .entry)) (suc j) - begin))
+    requires { ⌜ (to + n ≤ length (now «out»)) × RowAsked source index (now numbers) (now bytes) first n begin total ⌝ }
+    ensures { λ _. ⌜ now («out» .exit) ≡ overAt to (map (λ (j : ℕ). total + (sourceAt source index (now (numbers .entry)) (now (bytes .entry)) (suc j) - begin))
         (from first n)) (now («out» .entry)) ⌝ }
 {
     let mut i = 0;
     while i < n {
-        let end = offset_at(source, numbers, bytes, first + i + 1);
+        let end = offset_at(source, index, numbers, bytes, first + i + 1);
         out[to + i] = total + (end - begin);
         i += 1;
     }
 }
 
-// Copies the values of a subset's cells, and writes where each ends from the place 1 on.
+// Copies the values of a subset's cells, and writes where each ends from the place 1 on. The data begins at `base` of the bytes.
+// 11 parameters: where values lie is five of them, a subset of a shape four.
 fn copy_rows(
     values: &mut [u8],
     offsets: &mut [u64],
     source: Source,
+    index: usize,
+    base: usize,
     numbers: &[u64],
     bytes: &[u8],
     shape: &[u64],
     starts: &[u64],
     lens: &[u64],
     count: usize,
-)
+) -> usize
     requires { ⌜ SubsetAsked (now shape) (now starts) (now lens) count
-        × CutAsked (now values) (now offsets) source (now numbers) (now bytes) (now shape) (cellsIn (now shape) (pairs (now starts) (now lens))) ⌝ }
-    ensures values { λ _. ⌜ now (values .exit) ≡ over (joined (sourceValues source (now (numbers .entry)) (now (bytes .entry))
+        × CutAsked (now values) (now offsets) source index base (now numbers) (now bytes) (now shape) (cellsIn (now shape) (pairs (now starts) (now lens))) ⌝ }
+    ensures values { λ _. ⌜ now (values .exit) ≡ over (joined (sourceValues source index base (now (numbers .entry)) (now (bytes .entry))
         (cellsIn (now (shape .entry)) (pairs (now (starts .entry)) (now (lens .entry)))))) (now (values .entry)) ⌝ }
-    ensures offsets { λ _. ⌜ now (offsets .exit) ≡ overAt 1 (ends 0 (sourceValues source (now (numbers .entry)) (now (bytes .entry))
+    ensures offsets { λ _. ⌜ now (offsets .exit) ≡ overAt 1 (ends 0 (sourceValues source index base (now (numbers .entry)) (now (bytes .entry))
         (cellsIn (now (shape .entry)) (pairs (now (starts .entry)) (now (lens .entry)))))) (now (offsets .entry)) ⌝ }
+    ensures total { λ r. ⌜ r ≡ length (joined (sourceValues source index base (now (numbers .entry)) (now (bytes .entry))
+        (cellsIn (now (shape .entry)) (pairs (now (starts .entry)) (now (lens .entry)))))) ⌝ }
 {
-    let base = data_at(source);
     let mut at: usize = 0;
     let mut total: usize = 0;
     while at < count {
         let row = subset::row_at(shape, starts, lens, count, at);
         let first = row.first;
         let n = row.cells;
-        let begin = offset_at(source, numbers, bytes, first) as usize;
-        let end = offset_at(source, numbers, bytes, first + n) as usize;
+        let begin = offset_at(source, index, numbers, bytes, first) as usize;
+        let end = offset_at(source, index, numbers, bytes, first + n) as usize;
         let size = end - begin;
         copy::copy_bytes(values, total, bytes, base + begin, size);
         store_ends(
             offsets,
             at + 1,
             source,
+            index,
             numbers,
             bytes,
             first,
@@ -156,38 +154,50 @@ fn copy_rows(
         total += size;
         at += n;
     }
+    total
 }
 
 // The values of a subset's cells end to end, with their offsets, the first of which is 0; or 6. Nothing is stored before the last check.
+// An output as long as the source has room for any cut, so that the bytes need not be counted first.
+// 10 parameters: where values lie is five of them, and the outputs are two slices.
 pub fn cut(
     source: Source,
+    index: usize,
+    base: usize,
     numbers: &[u64],
     bytes: &[u8],
     shape: &[u64],
-    starts: &[u64],
-    lens: &[u64],
+    subset: &[u64],
     count: usize,
     values: &mut [u8],
     offsets: &mut [u64],
 ) -> WrittenRagged
-    requires { ⌜ SubsetAsked (now shape) (now starts) (now lens) count × SourceAsked source (now numbers) (now bytes) (volume (now shape)) ⌝ }
+    requires { ⌜ NumbersAsked (now shape) (now subset) count × SourceAsked source index base (now numbers) (now bytes) (volume (now shape)) ⌝ }
     ensures { λ r. ⌜ outcomeRagged r (now (values .exit)) (now (offsets .exit))
-        ≡ putRagged (endToEnd (sourceValues source (now (numbers .entry)) (now (bytes .entry)) (cellsIn (now (shape .entry)) (pairs (now (starts .entry)) (now (lens .entry))))))
+        ≡ putRagged (endToEnd (sourceValues source index base (now (numbers .entry)) (now (bytes .entry))
+        (cellsIn (now (shape .entry)) (subsetOf (length (now (shape .entry))) (now (subset .entry))))))
         (contentRagged (now (values .entry)) (now (offsets .entry))) ⌝ }
 {
-    let need = count_bytes(source, numbers, bytes, shape, starts, lens, count);
-    if values.len() < need {
-        return WrittenRagged::Refused(refusal::OUTPUT);
-    }
+    let sides = shape.len();
+    let starts = &subset[0..sides];
+    let lens = &subset[sides..];
     let many = count + 1;
     if offsets.len() < many {
         return WrittenRagged::Refused(refusal::OUTPUT);
     }
+    if values.len() < bytes.len() {
+        let need = count_bytes(source, index, numbers, bytes, shape, starts, lens, count);
+        if values.len() < need {
+            return WrittenRagged::Refused(refusal::OUTPUT);
+        }
+    }
     offsets[0] = 0;
-    copy_rows(
+    let total = copy_rows(
         values,
         offsets,
         source,
+        index,
+        base,
         numbers,
         bytes,
         shape,
@@ -195,5 +205,5 @@ pub fn cut(
         lens,
         count,
     );
-    WrittenRagged::Lengths(need, many)
+    WrittenRagged::Lengths(total, many)
 }

@@ -8,15 +8,16 @@ use lib.ListN.{length}
 use Rattle.array.specs.Lists.{All}
 use Rattle.array.specs.Kind.{Kind, Form, fixed, ragged}
 use Rattle.array.specs.Shape.{volume}
-use Rattle.array.specs.Subset.{pairs, cellsIn}
+use Rattle.array.specs.Subset.{subsetOf, cellsIn}
 use Rattle.array.specs.Content.{Content, ValuesOk}
 use Rattle.array.specs.Places.{planesAt}
 use Rattle.chunks.specs.Cut.{cutOf}
 use Rattle.chunks.specs.ReadThenCut.{raggedOf}
 use Rattle.array.proofs.Places.{begins-rise, begins-end}
 use Rattle.chunks.proofs.CutPlaces.{cutBy, cut-is}
-use Rattle.subset.specs.Walk.{SubsetAsked}
 use Rattle.subset.proofs.Rows.{asked-below, asked-count}
+use Rattle.cut_ragged.specs.Source.{NumbersAsked}
+use Rattle.cut_ragged.proofs.Numbers.{asked-numbers}
 use Rattle.extract.specs.Asked.{PlanesAsked, ValuesAsked, valuesCut, ArrayAsked}
 use Rattle.extract.proofs.Walk.{planes-long}
 
@@ -29,17 +30,17 @@ values-asked (ragged w q) shape c p = record {
   data-room = omega (arith, begins-end (ragged w q) (volume shape) c p);
 }
 
-module _ {k : Kind} {cells : ℕ} {shape starts lens : List ℕ} {c : Content} {count : ℕ} (s : SubsetAsked shape starts lens count) (a : ArrayAsked k cells shape c) where
+module _ {k : Kind} {cells : ℕ} {shape ns : List ℕ} {c : Content} {count : ℕ} (s : NumbersAsked shape ns count) (a : ArrayAsked k cells shape c) where
   abbrev js : List ℕ
-  js = cellsIn shape (pairs starts lens)
+  js = cellsIn shape (subsetOf (length shape) ns)
 
   abbrev cut : Content
-  cut = cutOf k shape c (pairs starts lens)
+  cut = cutOf k shape c (subsetOf (length shape) ns)
 
   -- ---- the parts, by places
 
   by-places : cut ≡ cutBy k cells c js
-  by-places = cut-is shape (a .content) (pairs starts lens) (s .within .inside) ∙ ap (λ (n : ℕ). cutBy k n c js) (sym (a .whole))
+  by-places = cut-is shape (a .content) (subsetOf (length shape) ns) (s .numbers .fits) ∙ ap (λ (n : ℕ). cutBy k n c js) (sym (a .whole))
 
   pub cut-masks : cut .masks ≡ planesAt (k .depth) 0 cells (c .masks) js
   cut-masks = ap (λ (x : Content). x .masks) by-places
@@ -55,7 +56,7 @@ module _ {k : Kind} {cells : ℕ} {shape starts lens : List ℕ} {c : Content} {
   pub cut-masks-long : length (cut .masks) ≡ k .depth * count
   cut-masks-long =
       ap length cut-masks
-      ∙ planes-long cells (c .masks) js (subst (λ (n : ℕ). All (λ j. j < n) js) (sym (a .whole)) (asked-below s)) (asked-count s) (k .depth) masks-fit
+      ∙ planes-long cells (c .masks) js (subst (λ (n : ℕ). All (λ j. j < n) js) (sym (a .whole)) (asked-below (asked-numbers s))) (asked-count (asked-numbers s)) (k .depth) masks-fit
 
   -- ---- what the loops ask
 

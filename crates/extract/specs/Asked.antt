@@ -27,7 +27,7 @@ pub record PlanesAsked (out src : List ℕ) (depth cells : ℕ) (shape : List �
 -- values of either form, of the cells of a shape
 abbrev pub ValuesAsked : Form → List ℕ → List ℕ → List ℕ → Type 0
 ValuesAsked (fixed k o) values os shape = 0 + volume shape * k ≤ length values
-ValuesAsked (ragged w p) values os shape = SourceAsked Numbers os values (volume shape)
+ValuesAsked (ragged w p) values os shape = SourceAsked Numbers 0 0 os values (volume shape)
 
 -- those of the cells js, with the offsets of ragged ones
 abbrev pub valuesCut : Form → List ℕ → List ℕ → List ℕ → RaggedContent

@@ -8,15 +8,15 @@ use cut_ragged::Source;
 use valid::array_bytes::Checked;
 use valid::shape::Cells;
 ghost use mathlib.Core.Path.{_≡_};
+ghost use lib.ListN.{length, drop};
 ghost use Rattle.array.specs.Shape.{volume};
-ghost use Rattle.array.specs.Subset.{pairs, cellsIn};
+ghost use Rattle.array.specs.Subset.{subsetOf, cellsIn};
 ghost use Rattle.array.specs.Buffers.{putInto};
 ghost use Rattle.array.specs.Outcome.{contentRagged, outcomeRagged, contentArray, outcomeArray};
 ghost use Rattle.array.specs.Meaning.{formOf, kindOf};
 ghost use Rattle.chunks.specs.Cut.{cutOf};
 ghost use Rattle.chunks.specs.Calls.{extracted};
-ghost use Rattle.subset.specs.Walk.{SubsetAsked};
-ghost use Rattle.cut_ragged.specs.Source.{putRagged};
+ghost use Rattle.cut_ragged.specs.Source.{NumbersAsked, putRagged};
 ghost use Rattle.extract.specs.Asked.{valuesCut, ValuesAsked, ArrayAsked};
 
 pub mod cells;
@@ -29,41 +29,42 @@ fn cut_values(
     values: &[u8],
     offsets: &[u64],
     shape: &[u64],
-    starts: &[u64],
-    lens: &[u64],
+    subset: &[u64],
     count: usize,
 ) -> WrittenRagged
-    requires { ⌜ SubsetAsked (now shape) (now starts) (now lens) count × ValuesAsked (formOf form) (now values) (now offsets) (now shape) ⌝ }
+    requires { ⌜ NumbersAsked (now shape) (now subset) count × ValuesAsked (formOf form) (now values) (now offsets) (now shape) ⌝ }
     ensures { λ r. ⌜ outcomeRagged r (now («out_values» .exit)) (now («out_offsets» .exit))
-        ≡ putRagged (valuesCut (formOf form) (now (values .entry)) (now (offsets .entry)) (cellsIn (now (shape .entry)) (pairs (now (starts .entry)) (now (lens .entry)))))
+        ≡ putRagged (valuesCut (formOf form) (now (values .entry)) (now (offsets .entry)) (cellsIn (now (shape .entry)) (subsetOf (length (now (shape .entry))) (now (subset .entry)))))
         (contentRagged (now («out_values» .entry)) (now («out_offsets» .entry))) ⌝ }
 {
     match form {
         Values::Fixed(size, _) => {
             let bytes = count * (size as usize);
             if out_values.len() < bytes {
-                return WrittenRagged::Refused(refusal::OUTPUT);
+                WrittenRagged::Refused(refusal::OUTPUT)
+            } else {
+                cells::copy_cells(
+                    out_values,
+                    0,
+                    values,
+                    0,
+                    size as usize,
+                    shape,
+                    &subset[0..shape.len()],
+                    &subset[shape.len()..],
+                    count,
+                );
+                WrittenRagged::Lengths(bytes, 0)
             }
-            cells::copy_cells(
-                out_values,
-                0,
-                values,
-                0,
-                size as usize,
-                shape,
-                starts,
-                lens,
-                count,
-            );
-            WrittenRagged::Lengths(bytes, 0)
         }
         Values::Ragged(_, _) => cut_ragged::cut(
             Source::Numbers,
+            0,
+            0,
             offsets,
             values,
             shape,
-            starts,
-            lens,
+            subset,
             count,
             out_values,
             out_offsets,
@@ -73,13 +74,12 @@ fn cut_values(
 
 // The cut of an array that keeps the rules: 6, or the masks, values and offsets of the subset's cells. Masks come last, as the room for
 // them is known before that for values.
-// 11 parameters: an array and the outputs are three slices each.
+// 10 parameters: an array and the outputs are three slices each.
 fn cut_valid(
     kind: Kind,
     cells: usize,
     shape: &[u64],
-    starts: &[u64],
-    lens: &[u64],
+    subset: &[u64],
     masks: &[u8],
     values: &[u8],
     offsets: &[u64],
@@ -87,13 +87,16 @@ fn cut_valid(
     out_values: &mut [u8],
     out_offsets: &mut [u64],
 ) -> WrittenArray
-    requires { ⌜ SubsetAsked (now shape) (now starts) (now lens) (volume (now lens))
+    requires { ⌜ NumbersAsked (now shape) (now subset) (volume (drop (length (now shape)) (now subset)))
         × ArrayAsked (kindOf kind) cells (now shape) (contentArray (now masks) (now values) (now offsets)) ⌝ }
     ensures { λ r. ⌜ outcomeArray r (now («out_masks» .exit)) (now («out_values» .exit)) (now («out_offsets» .exit))
         ≡ putInto (cutOf (kindOf kind) (now (shape .entry)) (contentArray (now (masks .entry)) (now (values .entry)) (now (offsets .entry)))
-        (pairs (now (starts .entry)) (now (lens .entry)))) (contentArray (now («out_masks» .entry)) (now («out_values» .entry)) (now («out_offsets» .entry))) ⌝ }
+        (subsetOf (length (now (shape .entry))) (now (subset .entry)))) (contentArray (now («out_masks» .entry)) (now («out_values» .entry)) (now («out_offsets» .entry))) ⌝ }
 {
     let depth = kind.depth as usize;
+    let sides = shape.len();
+    let starts = &subset[0..sides];
+    let lens = &subset[sides..];
     let form = kind.values;
     let count = subset::volume_of(lens) as usize;
     let mask_bytes = depth * count;
@@ -107,8 +110,7 @@ fn cut_valid(
         values,
         offsets,
         shape,
-        starts,
-        lens,
+        subset,
         count,
     );
     match written {
@@ -149,13 +151,11 @@ pub fn extract(
     match checked {
         Checked::Refused(e) => WrittenArray::Refused(e),
         Checked::Valid => {
-            let sides = shape.len();
             cut_valid(
                 kind,
                 cells,
                 shape,
-                &subset[0..sides],
-                &subset[sides..],
+                subset,
                 masks,
                 values,
                 offsets,

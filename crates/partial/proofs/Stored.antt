@@ -30,10 +30,18 @@ use Rattle.stored.proofs.CheckedIndex.{IndexFound, index-found}
 use Rattle.chunks.specs.Calls.{raggedCut}
 use Rattle.array.proofs.Places.{run-below, begins-rise}
 use Rattle.chunks.proofs.CutPlaces.{cut-is}
-use Rattle.cut_ragged.specs.Source.{storedAt}
-use Rattle.partial.specs.Stored.{storedValues, StoredAsked}
+use Rattle.cut_ragged.specs.Source.{storedAt, sourceAt, There}
+use Rattle.partial.specs.Stored.{sourceOf, storedValues, StoredAsked}
 
 -- ---- offset j of an index
+
+source-is : (width : IndexWidth) (index : ℕ) (os s : List ℕ) → sourceAt (sourceOf width) index os s ≡ storedAt (widthOf width) s index
+source-is IndexWidth.Four index os s = refl
+source-is IndexWidth.Eight index os s = refl
+
+source-there : (width : IndexWidth) (index : ℕ) (os s : List ℕ) (j : ℕ) → index + (widthOf width + j * widthOf width) ≤ length s → There (sourceOf width) index os s j
+source-there IndexWidth.Four index os s j h = h
+source-there IndexWidth.Eight index os s j h = h
 
 offset-in : (w m : ℕ) (q : List ℕ) (j : ℕ) → j < m → getD (offsetsIn w m q) j 0 ≡ unle (take w (drop (j * w) q))
 offset-in w zero q j h = absurd (omega arith)
@@ -77,20 +85,21 @@ module _ (width : IndexWidth) (p : Place) (s : List ℕ) (i : Index) where
   by-places : IndexWithin w s i → os ≡ 0 ∷ endsIn w s i → getRagged w p s cells ≡ unless (sizeTest (i .last)) 5 (gives (raggedAt w s i)) → Read width p s cells i
   by-places h os-are g =
       let e : i .last ≡ storedAt w s (i .index) cells = h .last-is ∙ ap last (sym os-are) ∙ last-stored in
+      let at-source : sourceAt (sourceOf width) (i .index) [] s ≡ storedAt w s (i .index) = source-is width (i .index) [] s in
       let up : Rising os = subst Rising (sym os-are) (refl, h .rising) in
       let ok : ValuesOk (ragged w p) cells (unmasked (readAt w s cells (i .index) (i .from))) =
       (many, up, last-stored ∙ sym (length-take-le (storedAt w s (i .index) cells) (drop (i .from) s) (omega (arith, length-drop (i .from) s, h .data-room)))) in
       record {
         stored = record {
-          there = h .index-room;
-          rises = λ j l.
+          there = source-there width (i .index) [] s cells (h .index-room);
+          rises = subst (λ (off : ℕ → ℕ). Rises off cells) (sym at-source) (λ j l.
               omega (
                 arith,
                 begins-rise (ragged w p) cells (unmasked (readAt w s cells (i .index) (i .from))) ok j l,
                 stored-is w cells s (i .index) j (omega arith),
                 stored-is w cells s (i .index) (suc j) (omega arith),
-              );
-          data-room = omega (arith, h .data-room);
+              ));
+          data-room = omega (arith, h .data-room, ap (λ (off : ℕ → ℕ). off cells) at-source);
         };
         gave = g ∙ ap (λ (l : ℕ). unless (sizeTest (i .last)) 5 (gives (record { values = take l (drop (i .from) s); offsets = os }))) e;
         keeps = ok;
@@ -120,9 +129,12 @@ pub read-cut : {width : IndexWidth} {p : Place} {s : List ℕ} {i : Index} (shap
     → raggedCut (widthOf width) p shape ns (readAt (widthOf width) s (volume shape) (i .index) (i .from)) ≡ endToEnd (storedValues width s i (cellsIn shape (subsetOf (length shape) ns)))
 read-cut {width} {p} {s} {i} shape ns r ok =
     let n : ℕ = volume shape in
+    let at-source : sourceAt (sourceOf width) (i .index) [] s ≡ storedAt (widthOf width) s (i .index) = source-is width (i .index) [] s in
     let x : RaggedContent = readAt (widthOf width) s n (i .index) (i .from) in
     ap (λ (c : Content). record { values = c .values; offsets = c .offsets })
     (cut-is {k = byteKind 0 (ragged (widthOf width) p)} shape {c = unmasked x} (record { masks-fit = sym (zero-mul n); values-fit = r .keeps }) (subsetOf (length shape) ns) ok)
     ∙ ap endToEnd
-    (values-same (offsetAt (x .offsets)) (drop (i .from) s) (r .stored .rises) (stored-is (widthOf width) n s (i .index)) (cellsIn shape (subsetOf (length shape) ns))
+    (values-same (offsetAt (x .offsets)) (drop (i .from) s) (subst (λ (off : ℕ → ℕ). Rises off n) at-source (r .stored .rises)) (stored-is (widthOf width) n s (i .index))
+    (cellsIn shape (subsetOf (length shape) ns))
     (cellsIn-below shape (subsetOf (length shape) ns) ok))
+    ∙ ap (λ (off : ℕ → ℕ). endToEnd (valuesAt off (drop (i .from) s) (cellsIn shape (subsetOf (length shape) ns)))) (sym at-source)

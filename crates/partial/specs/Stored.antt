@@ -10,16 +10,17 @@ use Rattle.array.specs.Content.{RaggedContent, endToEnd, sizeTest}
 use Rattle.array.specs.Buffers.{RaggedLengths, raggedEnoughTest, ifRoom}
 use Rattle.stored.specs.declared.vlen.Index.{Index}
 use Rattle.cut_ragged.specs.declared.Source.{Source}
-use Rattle.cut_ragged.specs.declared.Source.the-variants.{Stored}
+use Rattle.cut_ragged.specs.declared.Source.the-variants.{Four, Eight}
 use Rattle.cut_ragged.specs.Source.{sourceValues, SourceAsked}
 
--- where they lie
-abbrev pub sourceOf : IndexWidth → Index → Source
-sourceOf width i = Stored (i .index) (i .from) width
+-- how offsets of this width lie
+abbrev pub sourceOf : IndexWidth → Source
+sourceOf IndexWidth.Four = Four
+sourceOf IndexWidth.Eight = Eight
 
 -- the values of the cells js
 abbrev pub storedValues : IndexWidth → List ℕ → Index → List ℕ → List Value
-storedValues width s i js = sourceValues (sourceOf width i) [] s js
+storedValues width s i js = sourceValues (sourceOf width) (i .index) (i .from) [] s js
 
 -- values that are cut: 5 by the last stored offset, whatever they are, and 6 for outputs that are too short for them
 abbrev pub cutAnswer : ℕ → List Value → RaggedLengths → Answer RaggedContent
@@ -27,4 +28,4 @@ cutAnswer last vs room = unless (sizeTest last) 5 (ifRoom (raggedEnoughTest (end
 
 -- n cells whose offsets and bytes are there
 abbrev pub StoredAsked : IndexWidth → List ℕ → Index → ℕ → Type 0
-StoredAsked width s i n = SourceAsked (sourceOf width i) [] s n
+StoredAsked width s i n = SourceAsked (sourceOf width) (i .index) (i .from) [] s n

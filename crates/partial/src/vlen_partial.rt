@@ -10,14 +10,25 @@ use stored::vlen::Index;
 use stored::vlen::Indexed;
 use valid::shape::Cells;
 ghost use mathlib.Core.Path.{_≡_};
+ghost use lib.ListN.{length, drop};
 ghost use Rattle.array.specs.Shape.{volume};
-ghost use Rattle.array.specs.Subset.{pairs, cellsIn};
+ghost use Rattle.array.specs.Subset.{subsetOf, cellsIn};
 ghost use Rattle.array.specs.Buffers.{raggedOutcome, raggedLengthsOf};
 ghost use Rattle.array.specs.Meaning.{widthOf, placeOf};
 ghost use Rattle.array.specs.Outcome.{contentRagged, outcomeRagged};
 ghost use Rattle.chunks.specs.Calls.{partiallyDecoded};
-ghost use Rattle.subset.specs.Walk.{SubsetAsked};
-ghost use Rattle.partial.specs.Stored.{storedValues, cutAnswer, StoredAsked};
+ghost use Rattle.cut_ragged.specs.Source.{NumbersAsked};
+ghost use Rattle.partial.specs.Stored.{sourceOf, storedValues, cutAnswer, StoredAsked};
+
+// How the offsets of an index lie.
+fn source_of(width: IndexWidth) -> Source
+    ensures { λ r. ⌜ r ≡ sourceOf width ⌝ }
+{
+    match width {
+        IndexWidth::Four => Source::Four,
+        IndexWidth::Eight => Source::Eight,
+    }
+}
 
 // The cut of stored values whose index was found: 5, 6, or the values and offsets of the subset's cells. 5 goes by the last stored
 // offset, not by what is cut.
@@ -26,31 +37,33 @@ fn cut_stored(
     found: Index,
     width: IndexWidth,
     shape: &[u64],
-    starts: &[u64],
-    lens: &[u64],
+    subset: &[u64],
     values: &mut [u8],
     offsets: &mut [u64],
 ) -> WrittenRagged
-    requires { ⌜ SubsetAsked (now shape) (now starts) (now lens) (volume (now lens)) × StoredAsked width (now bytes) found (volume (now shape)) ⌝ }
+    requires { ⌜ NumbersAsked (now shape) (now subset) (volume (drop (length (now shape)) (now subset))) × StoredAsked width (now bytes) found (volume (now shape)) ⌝ }
     ensures { λ r. ⌜ outcomeRagged r (now (values .exit)) (now (offsets .exit))
         ≡ raggedOutcome (cutAnswer (found .last) (storedValues width (now (bytes .entry)) found
-        (cellsIn (now (shape .entry)) (pairs (now (starts .entry)) (now (lens .entry))))) (raggedLengthsOf (contentRagged (now (values .entry)) (now (offsets .entry)))))
+        (cellsIn (now (shape .entry)) (subsetOf (length (now (shape .entry))) (now (subset .entry))))) (raggedLengthsOf (contentRagged (now (values .entry)) (now (offsets .entry)))))
         (contentRagged (now (values .entry)) (now (offsets .entry))) ⌝ }
 {
     let last = found.last;
-    let source = Source::Stored(found.index, found.from, width);
-    let count = subset::volume_of(lens) as usize;
+    let index = found.index;
+    let base = found.from;
+    let source = source_of(width);
+    let count = subset::volume_of(&subset[shape.len()..]) as usize;
     if vlen::too_large(last) {
         return WrittenRagged::Refused(refusal::SIZE);
     }
     // No offset is a number by itself: all are read where they are stored.
     cut_ragged::cut(
         source,
+        index,
+        base,
         &shape[0..0],
         bytes,
         shape,
-        starts,
-        lens,
+        subset,
         count,
         values,
         offsets,
@@ -79,18 +92,6 @@ pub fn partial_decode(
     let found = vlen::find_index(bytes, 0, cells, width, place);
     match found {
         Indexed::Refused(e) => WrittenRagged::Refused(e),
-        Indexed::Found(index) => {
-            let sides = shape.len();
-            cut_stored(
-                bytes,
-                index,
-                width,
-                shape,
-                &subset[0..sides],
-                &subset[sides..],
-                values,
-                offsets,
-            )
-        }
+        Indexed::Found(index) => { cut_stored(bytes, index, width, shape, subset, values, offsets) }
     }
 }

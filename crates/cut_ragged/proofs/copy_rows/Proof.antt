@@ -1,26 +1,25 @@
 -- `copy_rows` meets its contract: the values of the rows before `at`, and where they end, lie in place (proofs/Ragged).
 -- Assumes nothing.
-use Prim.Native.Nat.{ℕ, _+_, _-_, _≤_, _<_}
+use Prim.Native.Nat.{ℕ, _+_, _-_, _<_}
 use mathlib.Core.Path.{_≡_}
 use native.Mathlib.Omega.{arith}
-use borrow.Author.Needs.{needs}
 use lib.ListN.{length, drop}
 use Rattle.array.specs.Limits.{mostCells}
 use Rattle.array.specs.Subset.{pairs, cellsIn}
 use Rattle.subset.specs.Walk.{rowOf}
 use Rattle.subset.proofs.Rows.{asked-left, asked-few}
-use Rattle.cut_ragged.specs.Source.{sourceAt, dataAt}
+use Rattle.cut_ragged.specs.Source.{sourceAt}
 use Rattle.cut_ragged.proofs.Offsets.{offset-there}
-use Rattle.cut_ragged.proofs.Ragged.{Ragged, ragged-begins, ragged-same, ragged-same-offsets, ragged-values, ragged-offsets, NextRow, next-row, next-copied}
+use Rattle.cut_ragged.proofs.Ragged.{Ragged, ragged-begins, ragged-same, ragged-same-offsets, ragged-values, ragged-offsets, ragged-total, NextRow, next-row, next-copied}
 use Rattle.cut_ragged.proofs.copy_rows.Statement.{statement}
 use Rattle.cut_ragged.proofs.copy_rows.Tie as tie
 
 abbrev Inv-loop : tie.InvT-loop
-Inv-loop values₀ offsets₀ source numbers bytes shape starts lens count base at₀ total₀ values offsets at total =
-    Ragged (sourceAt source numbers bytes) (drop (dataAt source) bytes) (cellsIn shape (pairs starts lens)) values₀ offsets₀ values offsets count (rowOf lens) at total
+Inv-loop values₀ offsets₀ source index base numbers bytes shape starts lens count at₀ total₀ values offsets at total =
+    Ragged (sourceAt source index numbers bytes) (drop base bytes) (cellsIn shape (pairs starts lens)) values₀ offsets₀ values offsets count (rowOf lens) at total
 
 abbrev μ-loop : tie.MeasureT-loop
-μ-loop values₀ offsets₀ source numbers bytes shape starts lens count base at₀ total₀ values offsets at total = count - at
+μ-loop values₀ offsets₀ source index base numbers bytes shape starts lens count at₀ total₀ values offsets at total = count - at
 
 -- the start, the loop's head, and where the next row is known
 abbrev Start : Type 0
@@ -36,7 +35,7 @@ abbrev Head : Type 0
 Head = tie.At-loop Inv-loop μ-loop
 
 abbrev begun : Head → Start
-begun l = entry (l .before .before)
+begun l = entry (l .before)
 
 abbrev Known : Type 0
 Known = tie.After-row-at Inv-loop μ-loop
@@ -59,7 +58,7 @@ given-back c = c .before .before .before
 
 -- where a cell begins
 abbrev off : Start → ℕ → ℕ
-off a = sourceAt (a .args .source) (a .args .numbers .now) (a .args .bytes .now)
+off a = sourceAt (a .args .source) (a .args .index) (a .args .numbers .now) (a .args .bytes .now)
 
 short : (a : Start) → length (a .args .bytes .now) < 18446744073709551616
 short a = omega arith
@@ -67,24 +66,20 @@ short a = omega arith
 short-values : (a : Start) → length (a .args .values .now) < 18446744073709551616
 short-values a = omega arith
 
--- where the data begins
-based : (k : Known) → head k .before .data-at .result ≡ dataAt (start k .args .source)
-based k = head k .before .data-at .ensures
-
 same : (l : Head) → length (l .loop .values) ≡ length (begun l .args .values .now)
 same l = ragged-same (l .loop .inv)
 
 next : (k : Known)
-    → NextRow (off (start k)) (start k .args .bytes .now) (dataAt (start k .args .source)) (head k .loop .values) (head k .loop .offsets)
+    → NextRow (off (start k)) (start k .args .bytes .now) (start k .args .base) (head k .loop .values) (head k .loop .offsets)
     (head k .loop .at) (head k .loop .total) (k .row-at .result .first) (k .row-at .result .cells)
 next k =
     let a = start k in
-    next-row (a .args .bytes .now) (dataAt (a .args .source)) (head k .loop .inv) (k .row-at .ensures) (a .pre .1 .asked .rises) (a .pre .1 .asked .data-room)
+    next-row (a .args .bytes .now) (a .args .base) (head k .loop .inv) (k .row-at .ensures) (a .pre .1 .asked .rises) (a .pre .1 .asked .data-room)
 
 loop-holds : tie.Need-loop-holds Inv-loop μ-loop
 loop-holds c =
-    let a = entry (c .before) in
-    ragged-begins (off a) (drop (dataAt (a .args .source)) (a .args .bytes .now)) (a .args .values .now) (a .args .offsets .now)
+    let a = entry c in
+    ragged-begins (off a) (drop (a .args .base) (a .args .bytes .now)) (a .args .values .now) (a .args .offsets .now)
     (asked-left (a .pre .0)) (a .pre .1 .room) (a .pre .1 .room-offsets)
 
 row-at-requires : tie.Need-row-at-requires Inv-loop μ-loop
@@ -107,7 +102,7 @@ add-copy-bytes : tie.Need-add-copy-bytes Inv-loop μ-loop
 add-copy-bytes c =
     let e = c .before in
     let k = known e in
-    omega (arith, next k .rises, next k .data-room, based k, e .before .offset-at .ensures, short (start k))
+    omega (arith, next k .rises, next k .data-room, e .before .offset-at .ensures, short (start k))
 
 copy-bytes-requires : tie.Need-copy-bytes-requires Inv-loop μ-loop
 copy-bytes-requires c κs =
@@ -115,7 +110,7 @@ copy-bytes-requires c κs =
     let k = known e in
     let x = next k in (
       omega (arith, x .room, e .offset-at2 .ensures, e .before .offset-at .ensures),
-      omega (arith, x .rises, x .data-room, based k, e .offset-at2 .ensures, e .before .offset-at .ensures),
+      omega (arith, x .rises, x .data-room, e .offset-at2 .ensures, e .before .offset-at .ensures),
     )
 
 add-store-ends : tie.Need-add-store-ends Inv-loop μ-loop
@@ -163,8 +158,8 @@ loop-again c =
     let e = ended d in
     let k = known e in
     let a = start k in
-    next-copied (a .args .bytes .now) (dataAt (a .args .source)) (head k .loop .inv) (k .row-at .ensures) (a .pre .1 .asked .rises) (a .pre .1 .asked .data-room)
-    (based k) (e .before .offset-at .ensures) (e .offset-at2 .ensures) (b .copy-bytes .ensures) (d .store-ends .ensures)
+    next-copied (a .args .bytes .now) (a .args .base) (head k .loop .inv) (k .row-at .ensures) (a .pre .1 .asked .rises) (a .pre .1 .asked .data-room)
+    (e .before .offset-at .ensures) (e .offset-at2 .ensures) (b .copy-bytes .ensures) (d .store-ends .ensures)
 
 same-length : tie.Need-same-length Inv-loop μ-loop
 same-length c = same (c .before)
@@ -173,7 +168,10 @@ same-length-2 : tie.Need-same-length-2 Inv-loop μ-loop
 same-length-2 c = ragged-same-offsets (c .before .loop .inv)
 
 returns : tie.Need-returns Inv-loop μ-loop
-returns c = (ragged-values (c .before .loop .inv) (c .loop-test .left), ragged-offsets (c .before .loop .inv) (c .loop-test .left))
+returns c =
+    let i = c .before .loop .inv in
+    let h = c .loop-test .left in
+    (ragged-values i h, (ragged-offsets i h, ragged-total i h))
 
 pub copy-rows-spec : {M : Type 1} → statement M
 copy-rows-spec =
@@ -181,7 +179,6 @@ copy-rows-spec =
     (tie.spec
     Inv-loop
     μ-loop
-    (λ c κs. search needs)
     loop-holds
     row-at-requires
     offset-at-requires

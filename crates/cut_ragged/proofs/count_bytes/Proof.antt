@@ -16,11 +16,11 @@ use Rattle.cut_ragged.proofs.count_bytes.Statement.{statement}
 use Rattle.cut_ragged.proofs.count_bytes.Tie as tie
 
 abbrev Inv-loop : tie.InvT-loop
-Inv-loop source numbers bytes shape starts lens count at₀ total₀ at total =
-    Counting (sourceAt source numbers bytes) (cellsIn shape (pairs starts lens)) count (rowOf lens) at total
+Inv-loop source index numbers bytes shape starts lens count at₀ total₀ at total =
+    Counting (sourceAt source index numbers bytes) (cellsIn shape (pairs starts lens)) count (rowOf lens) at total
 
 abbrev μ-loop : tie.MeasureT-loop
-μ-loop source numbers bytes shape starts lens count at₀ total₀ at total = count - at
+μ-loop source index numbers bytes shape starts lens count at₀ total₀ at total = count - at
 
 -- the start, the loop's head, and where the next row and its end are known
 abbrev Start : Type 0
@@ -43,7 +43,7 @@ Ended = tie.After-offset-at2 Inv-loop μ-loop
 
 -- where a cell begins
 abbrev off : Start → ℕ → ℕ
-off a = sourceAt (a .args .source) (a .args .numbers .now) (a .args .bytes .now)
+off a = sourceAt (a .args .source) (a .args .index) (a .args .numbers .now) (a .args .bytes .now)
 
 rises : (k : Known) → off (start k) (k .row-at .result .first) ≤ off (start k) (k .row-at .result .first + k .row-at .result .cells)
 rises k = run-rises (start k .pre .1 .rises) (k .row-at .result .first) (k .row-at .result .cells) (k .row-at .ensures .inside)

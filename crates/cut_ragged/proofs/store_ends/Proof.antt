@@ -14,17 +14,17 @@ use Rattle.cut_ragged.proofs.store_ends.Statement.{statement}
 use Rattle.cut_ragged.proofs.store_ends.Tie as tie
 
 abbrev Inv-loop : tie.InvT-loop
-Inv-loop out₀ to source numbers bytes first n begin total i₀ out i = Images (λ j. total + (sourceAt source numbers bytes (suc j) - begin)) out₀ to first n out i
+Inv-loop out₀ to source index numbers bytes first n begin total i₀ out i = Images (λ j. total + (sourceAt source index numbers bytes (suc j) - begin)) out₀ to first n out i
 
 abbrev μ-loop : tie.MeasureT-loop
-μ-loop out₀ to source numbers bytes first n begin total i₀ out i = n - i
+μ-loop out₀ to source index numbers bytes first n begin total i₀ out i = n - i
 
 -- where the function starts, and where a cell begins
 abbrev Start : Type 0
 Start = tie.Start Inv-loop μ-loop
 
 abbrev off : Start → ℕ → ℕ
-off a = sourceAt (a .args .source) (a .args .numbers .now) (a .args .bytes .now)
+off a = sourceAt (a .args .source) (a .args .index) (a .args .numbers .now) (a .args .bytes .now)
 
 abbrev entry : tie.After-shared-slice-known2 Inv-loop μ-loop → Start
 entry c = c .before .before .before
@@ -75,7 +75,7 @@ add-offset-at-2 c = omega (arith, within c, start c .pre .1 .few-cells)
 offset-at-requires : tie.Need-offset-at-requires Inv-loop μ-loop
 offset-at-requires c κs =
     let a = start c in
-    there-below (a .args .source) (a .args .numbers .now) (a .args .bytes .now) (a .args .first + a .args .n) (next c) (a .pre .1 .there) (within c)
+    there-below (a .args .source) (a .args .index) (a .args .numbers .now) (a .args .bytes .now) (a .args .first + a .args .n) (next c) (a .pre .1 .there) (within c)
 
 sub-out : tie.Need-sub-out Inv-loop μ-loop
 sub-out c = omega (arith, above (c .before), c .offset-at .ensures)

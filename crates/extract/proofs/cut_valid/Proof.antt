@@ -10,19 +10,20 @@ use Rattle.array.specs.declared.answer.WrittenRagged.{WrittenRagged}
 use Rattle.array.specs.declared.answer.WrittenArray.{WrittenArray}
 use Rattle.array.specs.Limits.{mostCells}
 use Rattle.array.specs.Kind.{Kind}
-use Rattle.array.specs.Subset.{pairs}
+use Rattle.array.specs.Subset.{Subset, subsetOf, cellsIn}
 use Rattle.array.specs.Content.{Content, RaggedContent}
 use Rattle.array.specs.Buffers.{over, putInto}
 use Rattle.array.specs.Outcome.{contentArray, outcomeRagged, outcomeArray}
 use Rattle.array.specs.Meaning.{kindOf}
+use Rattle.array.specs.Places.{planesAt}
+use Rattle.array.proofs.SubsetLists.{subset-parts}
 use Rattle.valid.proofs.CheckLaws.{small-product}
-use Rattle.subset.specs.Walk.{SubsetAsked}
-use Rattle.subset.proofs.Index.{few-within}
 use Rattle.subset.proofs.Rows.{asked-few}
 use Rattle.chunks.specs.Cut.{cutOf}
 use Rattle.extract.specs.Asked.{ArrayAsked}
 use Rattle.chunks.specs.ReadThenCut.{raggedOf}
-use Rattle.cut_ragged.specs.Source.{putRagged}
+use Rattle.cut_ragged.specs.Source.{NumbersAsked, putRagged}
+use Rattle.cut_ragged.proofs.Numbers.{asked-numbers, asked-parts, few-numbers, numbers-counted}
 use Rattle.extract.proofs.Cutting.{cut-masks, cut-values, cut-masks-long, cut-planes-asked, cut-values-asked}
 use Rattle.extract.proofs.Outcomes.{withMasks, masks-first}
 use Rattle.array.proofs.Putting.{no-masks}
@@ -32,7 +33,7 @@ use Rattle.extract.proofs.cut_valid.Tie as tie
 abbrev entry : tie.After-shared-slice-known4 → tie.Start
 entry c = c .before .before .before .before
 
-abbrev begun : tie.After-slice-known2 → tie.Start
+abbrev begun : tie.After-slice-known3 → tie.Start
 begun c = entry (c .before .before .before .before)
 
 -- once the cells of the subset are counted: the start, the array, the outputs, the cut
@@ -40,7 +41,7 @@ abbrev Counted : Type 0
 Counted = tie.After-volume-of
 
 abbrev start : Counted → tie.Start
-start v = begun (v .before .before .before)
+start v = begun (v .before .before .before .before)
 
 abbrev kind : Counted → Kind
 kind v = kindOf (start v .args .kind)
@@ -48,11 +49,8 @@ kind v = kindOf (start v .args .kind)
 abbrev shape : Counted → List ℕ
 shape v = start v .args .shape .now
 
-abbrev starts : Counted → List ℕ
-starts v = start v .args .starts .now
-
-abbrev lens : Counted → List ℕ
-lens v = start v .args .lens .now
+abbrev numbers : Counted → List ℕ
+numbers v = start v .args .subset .now
 
 abbrev array : Counted → Content
 array v = let a = start v .args in contentArray (a .masks .now) (a .values .now) (a .offsets .now)
@@ -61,19 +59,19 @@ abbrev outputs : Counted → Content
 outputs v = let a = start v .args in contentArray (a .out-masks .now) (a .out-values .now) (a .out-offsets .now)
 
 abbrev cut : Counted → Content
-cut v = cutOf (kind v) (shape v) (array v) (pairs (starts v) (lens v))
+cut v = cutOf (kind v) (shape v) (array v) (subsetOf (length (shape v)) (numbers v))
 
 abbrev count : Counted → ℕ
 count v = v .volume-of .result
 
-asked : (v : Counted) → SubsetAsked (shape v) (starts v) (lens v) (count v)
-asked v = record { shaped = start v .pre .0 .shaped; within = start v .pre .0 .within; counted = v .volume-of .ensures }
+asked : (v : Counted) → NumbersAsked (shape v) (numbers v) (count v)
+asked v = numbers-counted (start v .pre .0) (v .volume-of .ensures)
 
 kept : (v : Counted) → ArrayAsked (kind v) (start v .args .cells) (shape v) (array v)
 kept v = start v .pre .1
 
 few : (v : Counted) → count v ≤ 65536
-few v = asked-few (asked v)
+few v = asked-few (asked-numbers (asked v))
 
 depth-fits : (v : Counted) → start v .args .kind .depth ≤ 255
 depth-fits v = omega arith
@@ -98,9 +96,7 @@ written w q =
     ∙ w .cut-values .ensures ∙ ap (λ (c : RaggedContent). putRagged c (raggedOf (outputs v))) (sym (cut-values (asked v) (kept v))))
 
 volume-of-requires : tie.Need-volume-of-requires
-volume-of-requires c κs =
-    let s = begun (c .before .before) in
-    few-within (s .args .starts .now) (s .args .lens .now) (s .pre .0 .shaped) (s .pre .0 .within)
+volume-of-requires c κs = few-numbers (begun (c .before .before .before) .pre .0)
 
 mul-mask-bytes : tie.Need-mul-mask-bytes
 unfolding mostCells
@@ -116,7 +112,7 @@ copy-masks-requires : tie.Need-copy-masks-requires
 copy-masks-requires c κs =
     let e = given (c .before .before .before .before) .before .before .before in
     let v = e .before in
-    (asked v, cut-planes-asked (asked v) (kept v) (start v .args .out-masks .now) (depth-fits v) (e .if1 .left))
+    (asked-parts (asked v), cut-planes-asked (asked v) (kept v) (start v .args .out-masks .now) (depth-fits v) (e .if1 .left))
 
 returns-2 : tie.Need-returns-2
 returns-2 c = let t = c .before in written (given (t .before .before)) (t .written .given .1)
@@ -129,13 +125,23 @@ returns-3 c =
     let v = w .before .before .before .before in
     let lengths = t .written2 .given .0 in
     ap (λ (x : List ℕ). outcomeArray (WrittenArray.Lengths (start v .args .kind .depth * count v) (lengths .0) (lengths .1 .0)) x (w .cut-values .last .1 .0) (w .cut-values .last .1 .1 .0))
-    (m .copy-masks .ensures ∙ ap (λ (x : List ℕ). over x (start v .args .out-masks .now)) (sym (cut-masks (asked v) (kept v))))
+    (m .copy-masks .ensures
+    ∙ ap (λ (b : Subset). over (planesAt (start v .args .kind .depth) 0 (start v .args .cells) (array v .masks) (cellsIn (shape v) b)) (start v .args .out-masks .now))
+    (subset-parts (length (shape v)) (numbers v))
+    ∙ ap (λ (x : List ℕ). over x (start v .args .out-masks .now)) (sym (cut-masks (asked v) (kept v))))
     ∙ written w (t .written2 .given .1)
 
 pub cut-valid-spec : {M : Type 1} → statement M
 cut-valid-spec =
     tie.close
     (tie.spec
+    (λ c. search needs)
+    (λ c. search needs)
+    (λ c. search needs)
+    (λ c. search needs)
+    (λ c. search needs)
+    (λ c. search needs)
+    (λ c. search needs)
     (λ c. search needs)
     volume-of-requires
     mul-mask-bytes

@@ -4,32 +4,27 @@ use Prim.Native.Nat.{ℕ}
 use mathlib.Core.Path.{_≡_, refl, sym, ap, _∙_}
 use mathlib.Core.Bool.{true}
 use mathlib.Core.List.{List}
-use native.Mathlib.Omega.{arith}
 use borrow.Author.Needs.{needs}
 use borrow.Author.Tests.{not-true, not-false}
-use lib.ListN.{length}
 use Rattle.array.specs.Limits.{mostCells}
 use Rattle.array.specs.Kind.{Kind, kindTest}
 use Rattle.array.specs.Shape.{volume}
 use Rattle.valid.specs.ShapeCells.{toldCells}
-use Rattle.array.specs.Subset.{Subset, numbersTest, NumbersOk}
+use Rattle.array.specs.Subset.{numbersTest, NumbersOk}
 use Rattle.array.specs.Content.{Content}
 use Rattle.valid.specs.Check.{checkOf, toldChecked}
 use Rattle.array.specs.Outcome.{contentArray}
 use Rattle.array.specs.Meaning.{kindOf}
 use Rattle.array.proofs.Rules.{numbers-ok}
 use Rattle.valid.proofs.ShapeLaws.{Counted, counted, not-counted}
-use Rattle.array.proofs.SubsetLists.{subset-parts, within-parts}
 use Rattle.valid.proofs.CheckLaws.{KeepsRules, check-valid}
-use Rattle.chunks.specs.Cut.{cutOf}
 use Rattle.extract.proofs.Outcomes.{no-kind, no-shape, no-subset, not-kept, kept}
 use Rattle.extract.proofs.extract.Statement.{statement}
 use Rattle.extract.proofs.extract.Tie as tie
-use Rattle.array.specs.Buffers.{putInto}
 
 -- places that the answers go back to
-abbrev array-told : tie.After-cut-valid-arg4 → tie.After-enum-told2
-array-told c = c .before .before .before .before
+abbrev array-told : tie.After-cut-valid-arg3 → tie.After-enum-told2
+array-told c = c .before .before .before
 
 abbrev cut-done : tie.After-out-values → tie.After-cut-valid
 cut-done c = c .before .before .before
@@ -125,23 +120,11 @@ check-array-requires : tie.Need-check-array-requires
 unfolding mostCells
 check-array-requires c κs = shaped (told c) .few
 
-part-cut-valid-end : tie.Need-part-cut-valid-end
-part-cut-valid-end c = omega (arith, fitting (checked c .before) .counted)
-
-sub-cut-valid-2 : tie.Need-sub-cut-valid-2
-sub-cut-valid-2 c = omega (arith, fitting (checked (c .before) .before) .counted)
-
-part-cut-valid-start-2 : tie.Need-part-cut-valid-start-2
-part-cut-valid-start-2 c = omega (arith, fitting (checked (c .before) .before) .counted)
-
 cut-valid-requires : tie.Need-cut-valid-requires
 cut-valid-requires c κs =
-    let p = array-told (c .before) in
+    let p = array-told c in
     let e = checked p .before in
-    let s = begun (checked p) in (
-      record { shaped = shaped (told e) .shaped; within = within-parts (shape s) (numbers s) (fitting e); counted = refl },
-      record { whole = shaped (told e) .is; content = keeps p .array .fits },
-    )
+    (record { shaped = shaped (told e) .shaped; numbers = fitting e; counted = refl }, record { whole = shaped (told e) .is; content = keeps p .array .fits })
 
 returns-4 : tie.Need-returns-4
 returns-4 c =
@@ -154,11 +137,11 @@ returns-4 c =
 returns-5 : tie.Need-returns-5
 returns-5 c =
     let r = cut-done (c .before .before .before) in
-    let p = array-told (r .before .before) in
+    let p = array-told (r .before) in
     let k = checked p in
     let e = k .before in
     let s = begun k in
-    r .cut-valid .ensures ∙ ap (λ (b : Subset). putInto (cutOf (kind s) (shape s) (array s) b) (outputs s)) (subset-parts (length (shape s)) (numbers s))
+    r .cut-valid .ensures
     ∙ kept (kind s) (shape s) (numbers s) (array s) (outputs s) (kind-passes (sound (told e))) (shaped (told e) .passes) (subset-passes e) (checks k) (p .enum-told2 .given .1)
 
 pub extract-spec : {M : Type 1} → statement M
@@ -175,13 +158,6 @@ extract-spec =
     returns-3
     check-array-requires
     (λ c. search needs)
-    (λ c. search needs)
-    (λ c. search needs)
-    (λ c. search needs)
-    part-cut-valid-end
-    (λ c. search needs)
-    sub-cut-valid-2
-    part-cut-valid-start-2
     (λ c. search needs)
     cut-valid-requires
     returns-4
