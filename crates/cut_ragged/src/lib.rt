@@ -80,7 +80,7 @@ fn count_bytes(
 }
 
 // Writes where n neighbours end that begin at `begin`, from the cell `first` on, where `total` bytes lie before them.
-// 10 parameters: where offsets lie is four of them, since a struct would go through memory at each row.
+// 10 parameters: where offsets lie is four of them, a row of cells four.
 fn store_ends(
     out: &mut [u64],
     to: usize,
