@@ -22,7 +22,8 @@ ghost use Rattle.array.specs.Places.{bytesAt};
 ghost use Rattle.subset.specs.Walk.{SubsetAsked};
 ghost use Rattle.cut_ragged.specs.Source.{storedAt, sourceAt, sourceValues, There, NumbersAsked, SourceAsked, RowAsked, CutAsked, putRagged};
 
-// How offsets lie: as numbers, or as little-endian fields of so many bytes. No variant holds more, so that it is passed in a register.
+// How offsets lie: as numbers, or as little-endian fields of so many bytes. Where these begin is a number beside it, since a variant
+// that holds numbers goes through memory, which takes longer than a small cut.
 pub enum Source {
     Numbers,
     Four,
