@@ -130,6 +130,10 @@ offsets-rise (a ∷ os) r e j h = go a os (r .1) j (omega arith)
     go a (b ∷ os) r zero h = r .0
     go a (b ∷ os) r (suc j) h = go b os (r .1) j (omega arith)
 
+pub first-zero : (os : List ℕ) → Rising os → offsetAt os 0 ≡ 0
+first-zero [] p = refl
+first-zero (a ∷ bs) p = p .0
+
 pub begins-rise : (f : Form) (n : ℕ) (c : Content) → ValuesOk f n c → Rises (beginsAt f (c .offsets)) n
 begins-rise (fixed k o) n c p = fixed-rises 0 k n
 begins-rise (ragged w q) n c p = offsets-rise (c .offsets) (p .1) (p .0)

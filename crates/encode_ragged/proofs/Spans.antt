@@ -4,23 +4,19 @@ use mathlib.Core.Path.{_≡_, refl, sym, ap, ap₂, _∙_}
 use Prim.Native.Nat.{ℕ, zero, suc, _+_, _-_, _<_, _≤_}
 use native.Mathlib.Nat.{zero-add, le-of-eq}
 use native.Mathlib.Omega.{arith}
-use mathlib.Core.List.{List, [], _∷_, map}
+use mathlib.Core.List.{List, _∷_, map}
 use lib.ListN.{length, take, drop, getD}
 use lib.Seq.{take-all}
 use Rattle.array.specs.Lists.{from, joined, All}
-use Rattle.array.specs.Offsets.{last, Rising}
+use Rattle.array.specs.Offsets.{last}
 use Rattle.array.specs.Places.{offsetAt, Rises, stepAt, valuesAt, bytesAt, endsAt, shownAt}
 use Rattle.array.proofs.Geometry.{All-from}
 use Rattle.array.proofs.Lists.{from-suc, by-number}
 use Rattle.array.proofs.Offsets.{last-at}
-use Rattle.array.proofs.Places.{run-bytes, run-total, bytes-long, offsets-rise}
+use Rattle.array.proofs.Places.{run-bytes, run-total, bytes-long, offsets-rise, first-zero}
 use Rattle.encode_cells.specs.Live.{liveAt}
 use Rattle.encode_cells.proofs.Runs.{All-passing, all-counted}
 use Rattle.encode_ragged.specs.Offsets.{Offsets}
-
-first-zero : (os : List ℕ) → Rising os → getD os 0 0 ≡ 0
-first-zero [] p = refl
-first-zero (a ∷ bs) p = p .0
 
 module _ {n : ℕ} {os : List ℕ} (o : Offsets n os) where
   pub rises : Rises (offsetAt os) n

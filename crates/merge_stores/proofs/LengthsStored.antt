@@ -1,29 +1,34 @@
 -- Storing the lengths of all chunks' ragged values: the loop over the subsets.
 -- Assumes nothing.
-use mathlib.Core.Path.{_≡_, refl, sym, ap, ap₂, _∙_, subst}
-use Prim.Native.Nat.{ℕ, zero, suc, _+_, _<_}
+use mathlib.Core.Path.{_≡_, sym, ap, ap₂, _∙_, subst}
+use Prim.Native.Nat.{ℕ, suc, _+_, _<_}
 use native.Mathlib.Nat.{mul-one}
 use native.Mathlib.Omega.{arith}
-use mathlib.Core.List.{List, [], _∷_, _++_}
+use mathlib.Core.List.{List, _++_, map}
 use lib.ListN.{length, take, drop, length-drop}
-use lib.Seq.{drop-drop, getD-drop}
+use lib.Seq.{drop-drop, getD-drop, take-all}
+use Rattle.array.specs.Lists.{from}
 use Rattle.array.specs.Offsets.{Rising}
 use Rattle.array.specs.Subset.{Subset, subsetsOf, pairs, cellsIn}
-use Rattle.array.specs.Places.{fixedAt}
+use Rattle.array.specs.Places.{fixedAt, offsetAt, stepAt}
+use Rattle.array.proofs.Lists.{at-from, by-number}
 use Rattle.array.proofs.Places.{fixed-total}
 use Rattle.subset.specs.Subsets.{part, SubsetAt}
 use Rattle.subset.proofs.Rows.{asked-count, asked-volume}
-use Rattle.merge_stores.specs.Ragged.{steps, stepParts, LengthsAsked, LengthChunks, LengthsAllAsked}
+use Rattle.merge_stores.specs.Ragged.{stepParts, LengthsAsked, LengthChunks, LengthsAllAsked}
 use Rattle.merge_stores.specs.Scatter.{scatter, places}
 use Rattle.merge_stores.proofs.ListStored.{ListStored, list-begins, list-more}
-use Rattle.merge_stores.proofs.RaggedTies.{length-steps, rises-of}
+use Rattle.merge_stores.proofs.RaggedMerge.{many-from}
+use Rattle.merge_stores.proofs.RaggedTies.{rises-of}
 use Rattle.merge_stores.proofs.Scattering.{length-places}
 
-drop-steps : (n : ℕ) (os : List ℕ) → drop n (steps os) ≡ steps (drop n os)
-drop-steps zero os = refl
-drop-steps (suc n) [] = refl
-drop-steps (suc n) (a ∷ []) = sym (ap steps (lib.Seq.drop-nil n))
-drop-steps (suc n) (a ∷ b ∷ os) = drop-steps n (b ∷ os)
+-- a chunk's lengths, by all offsets
+steps-drop : (first : ℕ) (os : List ℕ) (m : ℕ) → map (stepAt (offsetAt (drop first os))) (from 0 m) ≡ map (stepAt (offsetAt os)) (from first m)
+steps-drop first os m =
+    let f : ℕ → ℕ = stepAt (offsetAt os) in
+    sym (by-number 0 (stepAt (offsetAt (drop first os))) (map f (from first m)) (many-from f first m) (λ i h.
+    let e : first + suc i ≡ suc (first + i) = omega arith in
+    omega (arith, at-from 0 f m first i h, getD-drop first os i 0, getD-drop first os (suc i) 0, ap (offsetAt os) e)))
 
 -- the offsets of the chunks that are left lie from `first` on
 pub record LengthsAll (sh flat d src o : List ℕ) (at first : ℕ) : Type 0 where
@@ -56,19 +61,22 @@ module _ {sh flat d src : List ℕ} (q : LengthsAllAsked sh flat d src) where
       room = omega (arith, q .room, c .list .long);
     }
 
+    as-many : length (map (stepAt (offsetAt src)) (from first m)) ≡ m
+    as-many = many-from (stepAt (offsetAt src)) first m
+
     behind : drop (suc m) (drop first src) ≡ drop (first + (m + 1)) src
     behind = let z : first + suc m ≡ first + (m + 1) = omega arith in drop-drop (suc m) first src ∙ ap (λ (x : ℕ). drop x src) z
 
-    split : stepParts (subsetsOf (length sh) (drop at flat)) (drop first src) ≡ take m (drop first (steps src)) ++ stepParts later (drop (first + (m + 1)) src)
+    split : stepParts (subsetsOf (length sh) (drop at flat)) (drop first src) ≡ take m (map (stepAt (offsetAt src)) (from first m)) ++ stepParts later (drop (first + (m + 1)) src)
     split =
         ap (λ (bs : List Subset). stepParts bs (drop first src)) (t .next)
-        ∙ ap (λ (k : ℕ). take k (steps (drop first src)) ++ stepParts later (drop (suc k) (drop first src))) (asked-volume (t .asked))
-        ∙ ap₂ (λ (x y : List ℕ). take m x ++ stepParts later y) (sym (drop-steps first src)) behind
+        ∙ ap (λ (k : ℕ). map (stepAt (offsetAt (drop first src))) (from 0 k) ++ stepParts later (drop (suc k) (drop first src))) (asked-volume (t .asked))
+        ∙ ap₂ (λ (x y : List ℕ). x ++ stepParts later y) (steps-drop first src m ∙ sym (take-all m (map (stepAt (offsetAt src)) (from first m)) (omega (arith, as-many)))) behind
 
-    pub lengths-more : {o′ : List ℕ} → o′ ≡ scatter o (places (fixedAt 1 1) cs) (drop first (steps src)) → LengthsAll sh flat d src o′ end (first + (m + 1))
+    pub lengths-more : {o′ : List ℕ} → o′ ≡ scatter o (places (fixedAt 1 1) cs) (map (stepAt (offsetAt src)) (from first m)) → LengthsAll sh flat d src o′ end (first + (m + 1))
     lengths-more p = record {
       list =
-          list-more (c .list) t (drop first (steps src)) (length-places (fixedAt 1 1) cs ∙ fixed-total 1 1 cs ∙ mul-one (length cs) ∙ asked-count (t .asked))
-          (omega (arith, lengths-indexed, length-drop first (steps src), length-steps src)) split p;
+          list-more (c .list) t (map (stepAt (offsetAt src)) (from first m)) (length-places (fixedAt 1 1) cs ∙ fixed-total 1 1 cs ∙ mul-one (length cs) ∙ asked-count (t .asked))
+          (omega (arith, as-many)) split p;
       chunks = subst (LengthChunks later) behind (now .2);
     }

@@ -3,8 +3,8 @@
 use mathlib.Core.Path.{_≡_, sym, ap, _∙_}
 use Prim.Native.Nat.{ℕ, _<_, _≤_}
 use mathlib.Core.List.{List}
-use lib.ListN.{length, length-map}
-use Rattle.array.specs.Cells.{Cell, leaf}
+use lib.ListN.{length}
+use Rattle.array.specs.Cells.{Cell}
 use Rattle.array.specs.Content.{Content, leaves}
 use Rattle.array.specs.Limits.{mostBytes}
 use Rattle.array.specs.Kind.{Masks, ragged, Place}
@@ -12,12 +12,9 @@ use Rattle.array.specs.Shape.{volume}
 use Rattle.array.specs.Subset.{Subset, subsetsOf, cellsOfAll}
 use Rattle.chunks.specs.Gather.{Once}
 use Rattle.subset.specs.Subsets.{SubsetsOk}
-use Rattle.subset.proofs.Subsets.{all-inside}
 use Rattle.merge_stores.specs.Ragged.{sum, RaggedMergeAsked}
 use Rattle.merge_stores.proofs.Blocks.{length-joined}
-use Rattle.merge_stores.proofs.Closing.{cells-counted}
 use Rattle.merge_stores.proofs.FirstChunk.{Chunked, all-values}
-use Rattle.merge_stores.proofs.Levels.{length-all}
 use Rattle.merge_stores.proofs.RaggedTies.{length-chunks, ragged-lengths}
 
 pub ragged-asked : (x : Masks) (w d : ℕ) (p : Place) {sh flat : List ℕ} → SubsetsOk sh flat → Once (volume sh) (cellsOfAll sh (subsetsOf (length sh) flat))
@@ -32,8 +29,6 @@ ragged-asked x w d p {sh} {flat} q once {c} {cs} e outv outo {n} counted room sm
       counted = counted;
       room = room;
       lengths-fit = length-chunks x w d p bs e;
-      as-many = length-all sh bs (all-inside sh bs (q .many .each)) ∙ sym (cells-counted bs e) ∙ sym (length-map cs (leaf d)) ∙ sym (length-map (leaves d cs) length)
-          ∙ ap length (ragged-lengths x w d p bs e);
       summed = ap sum (sym (ragged-lengths x w d p bs e)) ∙ sym (length-joined (leaves d cs)) ∙ ap length (all-values bs e);
       small = small;
       enough = enough;

@@ -64,6 +64,9 @@ lookup-at {A} z (j ∷ js) (x ∷ xs) (suc i) e h o = go (eqb (getD js i 0) j) (
     go true ih o = absurd (omega (arith, count-some js i (omega arith)))
     go false ih o = ih o
 
+pub many-from : {A : Type 0} (f : ℕ → A) (a n : ℕ) → length (map f (from a n)) ≡ n
+many-from f a n = length-map (from a n) f ∙ length-from a n
+
 pub All-at : (P : ℕ → Type 0) (js : List ℕ) → All P js → (i : ℕ) → i < length js → P (getD js i 0)
 All-at P [] a i h = absurd (omega arith)
 All-at P (j ∷ js) a zero h = a .0
@@ -88,7 +91,7 @@ module _ (n : ℕ) (js : List ℕ) (a : All (λ j. j < n) js) (once : Once n js)
 
   module _ (ls t : List ℕ) (e : length js ≡ length ls) where
     long : length (putBack 0 n js ls) ≡ n
-    long = length-map (from 0 n) (λ k. lookup 0 k js ls) ∙ length-from 0 n
+    long = many-from (λ k. lookup 0 k js ls) 0 n
 
     step : (j : ℕ) → j < n → offsetAt ((0 ∷ sums 0 (putBack 0 n js ls)) ++ t) (suc j) ≡ offsetAt ((0 ∷ sums 0 (putBack 0 n js ls)) ++ t) j + getD (putBack 0 n js ls) j 0
     step j h =

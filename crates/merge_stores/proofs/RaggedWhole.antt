@@ -4,14 +4,13 @@ use mathlib.Core.Path.{_≡_, sym, ap, ap₂, _∙_, subst}
 use Prim.Native.Nat.{ℕ, _+_, _<_, _≤_}
 use native.Mathlib.Omega.{arith}
 use mathlib.Core.List.{List, _∷_, _++_, map, append-assoc}
-use lib.ListN.{length, take, drop, length-append, length-map, take-append-drop}
+use lib.ListN.{length, take, drop, length-append, take-append-drop}
 use lib.Seq.{length-take-le, take-at, drop-at}
 use Rattle.array.specs.Limits.{mostBytes}
-use Rattle.array.specs.Lists.{All, from}
+use Rattle.array.specs.Lists.{All}
 use Rattle.array.specs.Shape.{volume}
 use Rattle.array.specs.Subset.{Subset, subsetsOf, cellsOfAll, SubsetOk}
 use Rattle.array.specs.Places.{fixedAt, offsetAt, stepAt}
-use Rattle.array.proofs.Lists.{length-from}
 use Rattle.array.proofs.SubsetLaws.{all-below}
 use Rattle.chunks.specs.Gather.{lookup, putBack}
 use Rattle.subset.proofs.Subsets.{all-inside}
@@ -19,9 +18,9 @@ use Rattle.merge_stores.specs.Ragged.{sums, sum, stepParts, offsetsMerge
 use Rattle.merge_stores.specs.Scatter.{scatter, places}
 use Rattle.merge_stores.proofs.Blocks.{sum-append}
 use Rattle.merge_stores.proofs.Closing.{sum-putBack}
-use Rattle.merge_stores.proofs.Levels.{level-block}
-use Rattle.merge_stores.proofs.RaggedMerge.{offset-is, length-sums, bytes-sum, steps-merged, rises-merged}
-use Rattle.merge_stores.proofs.RaggedTies.{chunks-agree}
+use Rattle.merge_stores.proofs.Levels.{level-block, length-all}
+use Rattle.merge_stores.proofs.RaggedMerge.{many-from, offset-is, length-sums, bytes-sum, steps-merged, rises-merged}
+use Rattle.merge_stores.proofs.RaggedTies.{length-steps, chunks-agree}
 use Rattle.merge_stores.proofs.Scattering.{length-scatter}
 
 module _ {sh flat dv d values src : List ℕ} {n : ℕ} (q : RaggedMergeAsked sh flat dv d values src n) where
@@ -34,14 +33,15 @@ module _ {sh flat dv d values src : List ℕ} {n : ℕ} (q : RaggedMergeAsked sh
   ok : All (SubsetOk sh) (subsetsOf (length sh) flat)
   ok = all-inside sh (subsetsOf (length sh) flat) (q .subsets .many .each)
 
+  as-many : length (cellsOfAll sh (subsetsOf (length sh) flat)) ≡ length (stepParts (subsetsOf (length sh) flat) src)
+  as-many = length-all sh bs ok ∙ sym (length-steps bs src)
+
   long-xs : length xs ≡ n
-  long-xs =
-      length-map (from 0 (volume sh)) (λ k. lookup 0 k (cellsOfAll sh (subsetsOf (length sh) flat)) (stepParts (subsetsOf (length sh) flat) src))
-      ∙ length-from 0 (volume sh) ∙ sym (q .counted)
+  long-xs = many-from (λ k. lookup 0 k (cellsOfAll sh (subsetsOf (length sh) flat)) (stepParts (subsetsOf (length sh) flat) src)) 0 (volume sh) ∙ sym (q .counted)
 
   module _ {o : List ℕ} (p : o ≡ scatter d (places (fixedAt 1 1) (cellsOfAll sh (subsetsOf (length sh) flat))) (stepParts (subsetsOf (length sh) flat) src)) where
     is : o ≡ take 1 d ++ xs ++ drop (1 + volume sh) d
-    is = p ∙ level-block 1 (volume sh) d (cellsOfAll sh bs) (stepParts bs src) (omega (arith, q .room, q .counted)) (q .as-many) (all-below sh bs ok) (q .once)
+    is = p ∙ level-block 1 (volume sh) d (cellsOfAll sh bs) (stepParts bs src) (omega (arith, q .room, q .counted)) as-many (all-below sh bs ok) (q .once)
 
     one : length (take 1 d) ≡ 1
     one = length-take-le 1 d (omega (arith, q .room))
@@ -58,7 +58,7 @@ module _ {sh flat dv d values src : List ℕ} {n : ℕ} (q : RaggedMergeAsked sh
 
     -- the lengths sum to the value bytes
     sum-is : sum xs ≡ length values
-    sum-is = sum-putBack (volume sh) (cellsOfAll sh bs) (stepParts bs src) (all-below sh bs ok) (q .once) (q .as-many) ∙ q .summed
+    sum-is = sum-putBack (volume sh) (cellsOfAll sh bs) (stepParts bs src) (all-below sh bs ok) (q .once) as-many ∙ q .summed
 
     pub second-asked : (n < length o) × (sum (take n (drop 1 o)) ≤ mostBytes)
     second-asked =
@@ -74,7 +74,7 @@ module _ {sh flat dv d values src : List ℕ} {n : ℕ} (q : RaggedMergeAsked sh
           omega (arith, offset-is xs (drop (n + 1) d) j (omega (arith, long-xs, q .counted)), s, sum-is, q .enough)
 
       stepped : map (stepAt (offsetAt (offsetsMerged sh bs src ++ drop (n + 1) d))) (cellsOfAll sh bs) ≡ stepParts bs src
-      stepped = steps-merged (volume sh) (cellsOfAll sh bs) (all-below sh bs ok) (q .once) (stepParts bs src) (drop (n + 1) d) (q .as-many)
+      stepped = steps-merged (volume sh) (cellsOfAll sh bs) (all-below sh bs ok) (q .once) (stepParts bs src) (drop (n + 1) d) as-many
 
       pub third-asked : RaggedAllAsked sh flat dv o′ values src
       third-asked =
@@ -83,7 +83,7 @@ module _ {sh flat dv d values src : List ℕ} {n : ℕ} (q : RaggedMergeAsked sh
             subsets = q .subsets;
             laid = record {
               covered = omega (arith, length-append (0 ∷ sums 0 xs) (drop (n + 1) d), length-sums 0 xs, long-xs, q .counted);
-              rises = rises-merged (volume sh) (cellsOfAll sh bs) (all-below sh bs ok) (q .once) (stepParts bs src) (drop (n + 1) d) (q .as-many);
+              rises = rises-merged (volume sh) (cellsOfAll sh bs) (all-below sh bs ok) (q .once) (stepParts bs src) (drop (n + 1) d) as-many;
               room = below;
             };
             chunks = chunks-agree (offsetsMerged sh bs src ++ drop (n + 1) d) sh bs ok src (q .lengths-fit) stepped;

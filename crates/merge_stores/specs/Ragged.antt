@@ -3,31 +3,23 @@
 -- Assumes nothing.
 use mathlib.Core.Path.{_≡_}
 use Prim.Native.Nat.{ℕ, suc, _+_, _-_, _≤_, _<_}
-use mathlib.Core.List.{List, [], _∷_, _++_}
+use mathlib.Core.List.{List, [], _∷_, _++_, map}
 use lib.ListN.{length, take, drop}
 use Rattle.array.specs.Limits.{mostBytes}
+use Rattle.array.specs.Lists.{from}
 use Rattle.array.specs.Shape.{volume}
 use Rattle.array.specs.Subset.{Subset, lengths, subsetsOf, cellsIn, cellsOfAll}
 use Rattle.array.specs.Offsets.{Rising}
-use Rattle.array.specs.Places.{offsetAt, Rises, bytesAt}
+use Rattle.array.specs.Places.{offsetAt, Rises, stepAt, bytesAt}
 use Rattle.subset.specs.Subsets.{SubsetsOk}
 use Rattle.chunks.specs.Gather.{putBack, Once}
 
 -- ---- lengths, and offsets from them
 
--- the lengths between offsets
-abbrev pub stepsFrom : ℕ → List ℕ → List ℕ
-stepsFrom a [] = []
-stepsFrom a (b ∷ bs) = (b - a) ∷ stepsFrom b bs
-
-abbrev pub steps : List ℕ → List ℕ
-steps [] = []
-steps (a ∷ bs) = stepsFrom a bs
-
 -- the lengths of all values of a chunk list
 abbrev pub stepParts : List Subset → List ℕ → List ℕ
 stepParts [] os = []
-stepParts (b ∷ bs) os = take (volume (lengths b)) (steps os) ++ stepParts bs (drop (suc (volume (lengths b))) os)
+stepParts (b ∷ bs) os = map (stepAt (offsetAt os)) (from 0 (volume (lengths b))) ++ stepParts bs (drop (suc (volume (lengths b))) os)
 
 -- each length added to those before it, from a on
 abbrev pub sums : ℕ → List ℕ → List ℕ
@@ -95,7 +87,6 @@ pub record RaggedMergeAsked (shape flat outv outo values src : List ℕ) (n : �
   pub counted : n ≡ volume shape
   pub room : n < length outo
   pub lengths-fit : LengthChunks (subsetsOf (length shape) flat) src
-  pub as-many : length (cellsOfAll shape (subsetsOf (length shape) flat)) ≡ length (stepParts (subsetsOf (length shape) flat) src)
   pub summed : sum (stepParts (subsetsOf (length shape) flat) src) ≡ length values
   pub small : length values ≤ mostBytes
   pub enough : length values ≤ length outv

@@ -3,22 +3,22 @@
 use Prim.Native.Nat.{suc, _+_, _-_, _*_, _<_}
 use mathlib.Core.Path.{_≡_, ap}
 use native.Mathlib.Omega.{arith}
-use lib.ListN.{length, drop}
+use mathlib.Core.List.{map}
+use lib.ListN.{length}
 use Rattle.array.specs.Limits.{mostCells}
+use Rattle.array.specs.Lists.{from}
 use Rattle.array.specs.Subset.{cellsIn, pairs}
-use Rattle.array.specs.Places.{fixedAt, offsetAt, Rises}
+use Rattle.array.specs.Places.{fixedAt, offsetAt, stepAt, Rises}
 use Rattle.subset.specs.Walk.{rowOf, RowAt}
 use Rattle.subset.proofs.Rows.{asked-left, asked-few, asked-lengths, row-is}
-use Rattle.merge_stores.specs.Ragged.{steps}
-use Rattle.merge_stores.proofs.LengthRows.{unit-more}
-use Rattle.merge_stores.proofs.RaggedTies.{length-steps}
+use Rattle.merge_stores.proofs.LengthRows.{lengths-row}
 use Rattle.merge_stores.proofs.RowsStored.{Store, store-begins, store-ends}
 use Rattle.merge_stores.proofs.ragged.store_lengths.Statement.{statement}
 use Rattle.merge_stores.proofs.ragged.store_lengths.Tie as tie
 
 abbrev Inv-loop : tie.InvT-loop
 Inv-loop out₀ src first shape starts lens count last n at₀ out at =
-    Store (fixedAt 1 1) (cellsIn shape (pairs starts lens)) (drop first (steps src)) out₀ out count (rowOf lens) at at
+    Store (fixedAt 1 1) (cellsIn shape (pairs starts lens)) (map (stepAt (offsetAt src)) (from first count)) out₀ out count (rowOf lens) at at
 
 abbrev μ-loop : tie.MeasureT-loop
 μ-loop out₀ src first shape starts lens count last n at₀ out at = count - at
@@ -71,7 +71,7 @@ shared-slice-read-n c = omega (arith, asked-lengths (entry (c .before .before) .
 loop-holds : tie.Need-loop-holds Inv-loop μ-loop
 loop-holds c =
     let a = entry (c .before .before) in
-    store-begins (fixedAt 1 1) (drop (a .args .first) (steps (a .args .src .now))) (a .args .out .now) (asked-left (a .pre .0))
+    store-begins (fixedAt 1 1) (map (stepAt (offsetAt (a .args .src .now))) (from (a .args .first) (a .args .count))) (a .args .out .now) (asked-left (a .pre .0))
 
 cell-at-requires : tie.Need-cell-at-requires Inv-loop μ-loop
 cell-at-requires c κs = let q = begun (c .before) .pre .0 in (q .shaped, q .within, omega (arith, q .counted, c .loop-test .taken))
@@ -103,9 +103,7 @@ loop-again c =
     let r = c .before .before in
     let k = r .before .before in
     let a = start k in
-    unit-more 1 (steps (a .args .src .now)) (a .args .first) (head k .loop .inv) (next k)
-    (omega (arith, next k .inside, a .pre .1 .room)) (omega (arith, next k .within, a .pre .1 .indexed, length-steps (a .args .src .now)))
-    (r .store-steps .ensures)
+    lengths-row (a .args .src .now) (a .args .first) (head k .loop .inv) (next k) (omega (arith, next k .inside, a .pre .1 .room)) (r .store-steps .ensures)
 
 same-length : tie.Need-same-length Inv-loop μ-loop
 same-length c = c .before .loop .inv .long

@@ -3,22 +3,23 @@
 use Prim.Native.Nat.{suc, _+_, _-_}
 use mathlib.Core.Path.{_≡_, ap}
 use native.Mathlib.Omega.{arith}
-use Rattle.array.specs.Places.{offsetAt}
-use Rattle.buffer.proofs.Copying.{Copying, copy-begins, copy-same, copy-room, copy-ends}
-use Rattle.merge_stores.specs.Ragged.{steps}
-use Rattle.merge_stores.proofs.LengthRows.{steps-more}
-use Rattle.merge_stores.proofs.RaggedTies.{length-steps}
+use mathlib.Core.List.{map}
+use Rattle.array.specs.Lists.{from}
+use Rattle.array.specs.Places.{offsetAt, stepAt}
+use Rattle.buffer.proofs.Copying.{Copying, copy-begins, copy-same, copy-room}
+use Rattle.merge_stores.proofs.LengthRows.{steps-more, steps-end}
+use Rattle.merge_stores.proofs.RaggedMerge.{many-from}
 use Rattle.merge_stores.proofs.ragged.store_steps.Statement.{statement}
 use Rattle.merge_stores.proofs.ragged.store_steps.Tie as tie
 
 abbrev Inv-loop : tie.InvT-loop
-Inv-loop out₀ at src first n i₀ out i = Copying out₀ at (steps src) first n out i
+Inv-loop out₀ at src first n i₀ out i = Copying out₀ at (map (stepAt (offsetAt src)) (from first n)) 0 n out i
 
 abbrev μ-loop : tie.MeasureT-loop
 μ-loop out₀ at src first n i₀ out i = n - i
 
 loop-holds : tie.Need-loop-holds Inv-loop μ-loop
-loop-holds c = copy-begins (c .pre .0) (omega (arith, length-steps (c .args .src .now)))
+loop-holds c = copy-begins (c .pre .0) (omega (arith, many-from (stepAt (offsetAt (c .args .src .now))) (c .args .first) (c .args .n)))
 
 sub-out : tie.Need-sub-out Inv-loop μ-loop
 sub-out c =
@@ -34,13 +35,13 @@ slice-write-out : tie.Need-slice-write-out Inv-loop μ-loop
 slice-write-out c = copy-room (c .before .before .before .loop .inv) (omega arith)
 
 loop-again : tie.Need-loop-again Inv-loop μ-loop
-loop-again c = let l = c .before .before .before in steps-more (l .before .args .src .now) (l .loop .inv) (omega arith) (l .before .pre .1)
+loop-again c = let l = c .before .before .before in steps-more (l .before .args .src .now) (l .before .args .first) (l .loop .inv) (omega arith)
 
 same-length : tie.Need-same-length Inv-loop μ-loop
 same-length c = copy-same (c .before .loop .inv)
 
 returns : tie.Need-returns Inv-loop μ-loop
-returns c = copy-ends (c .before .loop .inv) (c .loop-test .left)
+returns c = let l = c .before in steps-end (l .before .args .src .now) (l .before .args .first) (l .loop .inv) (c .loop-test .left)
 
 pub store-steps-spec : {M : Type 1} → statement M
 store-steps-spec =
