@@ -16,7 +16,7 @@ use Rattle.array.specs.Lists.{All, joined, from, pick}
 use Rattle.array.specs.Shape.{volume}
 use Rattle.array.specs.Subset.{Subset, lengths, cellsIn, cellsOfAll, SubsetOk}
 use Rattle.array.specs.Places.{fixedAt}
-use Rattle.array.proofs.LayoutLaws.{inners-pairUp, length-attach, values-length}
+use Rattle.array.proofs.LayoutLaws.{inners-pairUp, length-attach, values-length, mask-map}
 use Rattle.array.proofs.Lists.{map-append, map-map, map-cong, take-within, from-suc}
 use Rattle.array.proofs.SubsetLaws.{length-cellsIn}
 use Rattle.chunks.specs.Chunks.{firstChunk}
@@ -40,17 +40,13 @@ lookup-image {A} {B} f z i (j ∷ js) (x ∷ xs) = go (eqb i j) (lookup-image f 
 pub putBack-map : {A B : Type 0} (f : A → B) (z : A) (n : ℕ) (js : List ℕ) (xs : List A) → putBack (f z) n js (map f xs) ≡ map f (putBack z n js xs)
 putBack-map f z n js xs = map-cong (λ i. lookup (f z) i js (map f xs)) (λ i. f (lookup z i js xs)) (λ i. lookup-image f z i js xs) (from 0 n) ∙ sym (map-map (λ i. lookup z i js xs) f (from 0 n))
 
-maskOf-map : {A : Type 0} (cs : List (ℕ × A)) → maskOf cs ≡ map (λ c. c .0) cs
-maskOf-map [] = refl
-maskOf-map (c ∷ cs) = ap (λ (r : List ℕ). c .0 ∷ r) (maskOf-map cs)
-
 -- the masks of merged cells, level by level
 pub masks-putBack : (v : Value) (d n : ℕ) (js : List ℕ) (cs : List (Cell d)) → masksOf d (putBack (blank v d) n js cs) ≡ joined (map (λ l. putBack 0 n js (levelAt d l cs)) (from 0 d))
 masks-putBack v zero n js cs = refl
 masks-putBack v (suc d) n js cs =
     let z : Cell (suc d) = blank v (suc d) in
     ap₂ (λ (a b : List ℕ). a ++ b)
-    (maskOf-map (putBack z n js cs) ∙ sym (putBack-map (λ (c : Cell (suc d)). c .0) z n js cs) ∙ ap (putBack 0 n js) (sym (maskOf-map cs)))
+    (mask-map (putBack z n js cs) ∙ sym (putBack-map (λ (c : Cell (suc d)). c .0) z n js cs) ∙ ap (putBack 0 n js) (sym (mask-map cs)))
     (ap (masksOf d) (sym (putBack-map (λ (c : Cell (suc d)). c .1) z n js cs)) ∙ masks-putBack v d n js (inners cs)
     ∙ ap joined (sym (from-suc (λ l. putBack 0 n js (levelAt (suc d) l cs)) 0 d)))
 

@@ -95,6 +95,7 @@ fn sum_up(out: &mut [u64], n: usize)
 
 // Stores a chunk's values row by row: they lie in `values` from `base` on, by the offsets in `src` from `first` on; `begins` says
 // where each cell of the output begins.
+// Ten parameters: values and offsets are a slice and a place each, and a subset of a shape is four.
 fn store_ragged(
     out: &mut [u8],
     begins: &[u64],
