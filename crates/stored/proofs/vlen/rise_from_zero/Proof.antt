@@ -157,12 +157,12 @@ loop-again c =
 returns-3 : tie.Need-returns-3 Inv-loop μ-loop
 returns-3 c =
     let l = c .before .before in
-    rises-not (l .loop .inv) (c .if3 .taken) ∙ ap (tested (wide l)) (wide l .width-bytes .ensures)
+    rises-not (l .loop .inv) (omega (arith, c .if3 .taken)) ∙ ap (tested (wide l)) (wide l .width-bytes .ensures)
 
 returns-4 : tie.Need-returns-4 Inv-loop μ-loop
 returns-4 c =
     let l = c .before .before .before in
-    rises-end (l .loop .inv) (c .before .if3 .left) (c .if4 .taken) ∙ ap (tested (wide l)) (wide l .width-bytes .ensures)
+    rises-end (l .loop .inv) (omega (arith, c .before .if3 .left)) (c .if4 .taken) ∙ ap (tested (wide l)) (wide l .width-bytes .ensures)
 
 add-le-at : tie.Need-add-le-at Inv-loop μ-loop
 add-le-at c = omega (arith, last-room c)
@@ -175,7 +175,7 @@ returns-5 c =
     let l = end (c .before) in
     let last-is : c .le-at4 .result ≡ unle (take (width l) (drop (l .loop .p + width l) (bytes (wide l)))) =
     c .le-at4 .ensures ∙ ap (λ (x : ℕ). unle (take x (drop (l .loop .p + width l) (bytes (wide l))))) (sym (wide l .width-bytes .ensures)) in
-    rises-last (l .loop .inv) (omega (arith, one (c .before))) last-is (c .before .before .if3 .left) (one (c .before)) ∙ ap (tested (wide l)) (wide l .width-bytes .ensures)
+    rises-last (l .loop .inv) (omega (arith, one (c .before))) last-is (omega (arith, c .before .before .if3 .left)) (one (c .before)) ∙ ap (tested (wide l)) (wide l .width-bytes .ensures)
 
 pub rise-from-zero-spec : {M : Type 1} → statement M
 rise-from-zero-spec =
