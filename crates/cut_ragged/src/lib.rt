@@ -182,15 +182,15 @@ pub fn cut(
     let sides = shape.len();
     let starts = &subset[0..sides];
     let lens = &subset[sides..];
-    let many = count + 1;
-    if offsets.len() < many {
-        return WrittenRagged::Refused(refusal::OUTPUT);
-    }
     if values.len() < bytes.len() {
         let need = count_bytes(source, index, numbers, bytes, shape, starts, lens, count);
         if values.len() < need {
             return WrittenRagged::Refused(refusal::OUTPUT);
         }
+    }
+    let many = count + 1;
+    if offsets.len() < many {
+        return WrittenRagged::Refused(refusal::OUTPUT);
     }
     offsets[0] = 0;
     let total = copy_rows(

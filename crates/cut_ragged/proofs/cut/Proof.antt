@@ -71,35 +71,38 @@ most : (s : tie.Start) → need s ≤ length (s .args .bytes .now)
 most s = omega (arith, bytes-most (s .args .shape .now) (pairs (starts s) (lens s)) (s .pre .1 .rises) (asked s .within .inside), s .pre .1 .data-room)
 
 -- so there is room, whether they were counted or not
-room : (j : tie.Joined2) → let s = start (j .before .before) in need s ≤ length (s .args .values .now)
-room j = ⊎-elim (λ w. omega (arith, w .1 .ensures, w .2 .left)) (λ w. omega (arith, most (start (j .before .before)), w .left)) (j .if2 .came)
+abbrev Roomy : Type 0
+Roomy = tie.Joined1
 
-add-many : tie.Need-add-many
-add-many c = omega (arith, asked-few (asked (start c)))
-
-returns : tie.Need-returns
-returns c = let s = start (c .before) in whole s (no-offsets (endToEnd (values s)) (outputs s) (offsets-need s) (c .if1 .taken))
+room : (j : Roomy) → need (start (j .before)) ≤ length (start (j .before) .args .values .now)
+room j = ⊎-elim (λ w. omega (arith, w .1 .ensures, w .2 .left)) (λ w. omega (arith, most (start (j .before)), w .left)) (j .if1 .came)
 
 count-bytes-requires : tie.Need-count-bytes-requires
 count-bytes-requires c κs =
-    let s = start (c .before .before) in
+    let s = start (c .before) in
     (asked s, record { there = s .pre .1 .there; rises = s .pre .1 .rises; data-room = omega (arith, s .pre .1 .data-room) })
 
-returns-2 : tie.Need-returns-2
-returns-2 c =
+returns : tie.Need-returns
+returns c =
     let b = c .before in
-    let s = start (b .before .before .before) in
-    whole s (no-values (endToEnd (values s)) (outputs s) (values-need s ∙ sym (b .count-bytes .ensures)) (c .if3 .taken))
+    let s = start (b .before .before) in
+    whole s (no-values (endToEnd (values s)) (outputs s) (values-need s ∙ sym (b .count-bytes .ensures)) (c .if2 .taken))
+
+add-many : tie.Need-add-many
+add-many c = omega (arith, asked-few (asked (start (c .before))))
+
+returns-2 : tie.Need-returns-2
+returns-2 c = let s = start (c .before .before) in whole s (no-offsets (endToEnd (values s)) (outputs s) (offsets-need s) (c .if3 .taken))
 
 copy-rows-requires : tie.Need-copy-rows-requires
 copy-rows-requires c κs =
-    let j = c .before .before in
-    let s = start (j .before .before) in (
+    let e = c .before .before in
+    let s = start (e .before .before) in (
       asked s,
       record {
         asked = s .pre .1;
-        room = omega (arith, values-need s, room j);
-        room-offsets = simp length-set (omega (arith, asked-count (asked s), j .before .if1 .left));
+        room = omega (arith, values-need s, room (e .before));
+        room-offsets = simp length-set (omega (arith, asked-count (asked s), e .if3 .left));
       },
     )
 
@@ -109,11 +112,11 @@ same-length-2 c = c .before .before .before .before .copy-rows .kept .1 .0 ∙ s
 returns-3 : tie.Need-returns-3
 returns-3 c =
     let r = c .before .before .before .before in
-    let j = r .before .before .before in
-    let s = start (j .before .before) in
-    let h = j .before .if1 .left in
+    let e = r .before .before .before in
+    let s = start (e .before .before) in
+    let h = e .if3 .left in
     whole s
-    (all-put (endToEnd (values s)) (outputs s) (sym (r .copy-rows .ensures .1 .1)) (offsets-need s) (omega (arith, r .copy-rows .ensures .1 .1, values-need s, room j)) h
+    (all-put (endToEnd (values s)) (outputs s) (sym (r .copy-rows .ensures .1 .1)) (offsets-need s) (omega (arith, r .copy-rows .ensures .1 .1, values-need s, room (e .before))) h
     (r .copy-rows .ensures .0) (r .copy-rows .ensures .1 .0 ∙ first-then (s .args .offsets .now) 0 (ends 0 (values s)) (omega (arith, h))))
 
 pub cut-spec : {M : Type 1} → statement M
@@ -127,9 +130,9 @@ cut-spec =
     (λ c. search needs)
     (λ c. search needs)
     (λ c. search needs)
-    add-many
-    returns
     count-bytes-requires
+    returns
+    add-many
     returns-2
     (λ c. search needs)
     copy-rows-requires
