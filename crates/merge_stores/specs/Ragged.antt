@@ -27,11 +27,11 @@ offsetsMerged shape bs src = 0 ∷ sums 0 (putBack 0 (volume shape) (cellsOfAll 
 
 -- ---- what the stores ask
 
--- the output's offsets never fall, and lie within its values
+-- the output's offsets never fall, and end within its values
 pub record Begins (shape out begins : List ℕ) : Type 0 where
   pub covered : volume shape < length begins
   pub rises : Rises (offsetAt begins) (volume shape)
-  pub room : (j : ℕ) → j ≤ volume shape → offsetAt begins j ≤ length out
+  pub room : offsetAt begins (volume shape) ≤ length out
 
 -- the output has as many places for the first i of a chunk's cells as the chunk's own offset i says
 abbrev pub Agrees : List ℕ → List ℕ → ℕ → List ℕ → Type 0
