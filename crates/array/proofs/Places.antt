@@ -5,21 +5,29 @@ use Prim.Native.Nat.{ℕ, zero, suc, _+_, _-_, _*_, _≤_, _<_}
 use native.Mathlib.Nat.{zero-mul, suc-mul, add-zero, sub-self, le-refl, le-of-eq}
 use native.Mathlib.Omega.{arith}
 use mathlib.Core.List.{List, [], _∷_, _++_, map}
-use lib.ListN.{length, take, drop, getD, length-append, length-drop}
+use lib.ListN.{length, take, drop, getD, length-append, length-drop, length-map}
 use lib.Seq.{take-add, drop-drop, length-take-le}
 use Rattle.array.specs.Lists.{from, joined, All}
 use Rattle.array.specs.Kind.{Form, fixed, ragged}
 use Rattle.array.specs.Cells.{Value}
 use Rattle.array.specs.Content.{Content, ValuesOk}
 use Rattle.array.specs.Offsets.{Rising, RisingFrom, ends}
-use Rattle.array.specs.Places.{fixedAt, offsetAt, beginsAt, Rises, stepAt, valueAt, valuesAt, bytesAt, endsAt}
+use Rattle.array.specs.Places.{fixedAt, offsetAt, beginsAt, Rises, stepAt, valueAt, sum, sums, valuesAt, stepsAt, bytesAt, endsAt}
+use Rattle.array.proofs.Lists.{map-append}
 use Rattle.array.proofs.Offsets.{last-at}
 
 -- ---- lists of values, one part after another
 
+pub sum-append : (xs ys : List ℕ) → sum (xs ++ ys) ≡ sum xs + sum ys
+sum-append [] ys = omega arith
+sum-append (x ∷ xs) ys = omega (arith, sum-append xs ys)
+
+pub length-sums : (a : ℕ) (xs : List ℕ) → length (sums a xs) ≡ length xs
+length-sums a [] = refl
+length-sums a (x ∷ xs) = ap suc (length-sums (a + x) xs)
+
 pub bytes-append : (off : ℕ → ℕ) (xs ys : List ℕ) → bytesAt off (xs ++ ys) ≡ bytesAt off xs + bytesAt off ys
-bytes-append off [] ys = omega arith
-bytes-append off (x ∷ xs) ys = omega (arith, bytes-append off xs ys)
+bytes-append off xs ys = ap sum (map-append (stepAt off) xs ys) ∙ sum-append (stepsAt off xs) (stepsAt off ys)
 
 pub ends-append : (a : ℕ) (xs ys : List Value) → ends a (xs ++ ys) ≡ ends a xs ++ ends (a + length (joined xs)) ys
 ends-append a [] ys = ap (λ (k : ℕ). ends k ys) (sym (add-zero a))
@@ -117,8 +125,7 @@ module _ {off : ℕ → ℕ} {v : ℕ} (r : Rises off v) where
       ap₂ (λ (x : ℕ) (r : List ℕ). x ∷ r) e (ap (λ (b : ℕ). ends b (valuesAt off s js)) e ∙ ends-are s l (a + stepAt off j) js (p .1))
 
 pub length-ends-at : (off : ℕ → ℕ) (a : ℕ) (js : List ℕ) → length (endsAt off a js) ≡ length js
-length-ends-at off a [] = refl
-length-ends-at off a (j ∷ js) = ap suc (length-ends-at off (a + stepAt off j) js)
+length-ends-at off a js = length-sums a (stepsAt off js) ∙ length-map js (stepAt off)
 
 -- ---- the values of an array lie in their order, within the bytes
 pub offsets-rise : (os : List ℕ) → Rising os → {n : ℕ} → length os ≡ suc n → Rises (offsetAt os) n

@@ -39,17 +39,27 @@ valueAt off s j = take (stepAt off j) (drop (off j) s)
 abbrev pub valueIn : Form → Content → ℕ → Value
 valueIn f c j = valueAt (beginsAt f (c .offsets)) (c .values) j
 
--- the values of the cells js, how many bytes they have, and where each ends when they lie end to end from a on
+-- numbers added up, and each added to those before it, from a on
+abbrev pub sum : List ℕ → ℕ
+sum [] = 0
+sum (x ∷ xs) = x + sum xs
+
+abbrev pub sums : ℕ → List ℕ → List ℕ
+sums a [] = []
+sums a (x ∷ xs) = (a + x) ∷ sums (a + x) xs
+
+-- the values of the cells js, how many bytes each has, and all, and where each ends when they lie end to end from a on
 abbrev pub valuesAt : (ℕ → ℕ) → List ℕ → List ℕ → List Value
 valuesAt off s js = map (valueAt off s) js
 
+abbrev pub stepsAt : (ℕ → ℕ) → List ℕ → List ℕ
+stepsAt off js = map (stepAt off) js
+
 abbrev pub bytesAt : (ℕ → ℕ) → List ℕ → ℕ
-bytesAt off [] = 0
-bytesAt off (j ∷ js) = stepAt off j + bytesAt off js
+bytesAt off js = sum (stepsAt off js)
 
 abbrev pub endsAt : (ℕ → ℕ) → ℕ → List ℕ → List ℕ
-endsAt off a [] = []
-endsAt off a (j ∷ js) = (a + stepAt off j) ∷ endsAt off (a + stepAt off j) js
+endsAt off a js = sums a (stepsAt off js)
 
 -- ---- mask bytes
 

@@ -7,6 +7,7 @@ use mathlib.Core.Bool.{Bool, true, false}
 use mathlib.Core.List.{List, [], _∷_, map}
 use lib.ListN.{length, length-map}
 use lib.Dec.{eqb}
+use Rattle.array.specs.Places.{sum}
 use Rattle.array.specs.Lists.{from, pick, count, joined, All}
 use Rattle.array.specs.Kind.{Kind, Masks, fixed, Order, nullOf}
 use Rattle.array.specs.Offsets.{offsetsOf}
@@ -21,7 +22,6 @@ use Rattle.array.proofs.RestLaws.{leaf-blank}
 use Rattle.array.proofs.LayoutLaws.{length-masksOf}
 use Rattle.array.proofs.SubsetLaws.{all-below}
 use Rattle.chunks.specs.Gather.{lookup, putBack, Once}
-use Rattle.merge_stores.specs.Ragged.{sum}
 use Rattle.merge_stores.proofs.Blocks as blocks
 use Rattle.merge_stores.proofs.FirstChunk.{Chunked, all-values}
 use Rattle.merge_stores.proofs.Levels.{putBack-map, length-all}

@@ -9,16 +9,12 @@ use lib.ListN.{length, getD, take, drop, set, length-drop, length-append, length
 use lib.Seq.{take-at, drop-at, take-all, take-length, split-at, set-split, map-set-same, length-take-le, drop-drop, take-suc}
 use Rattle.array.specs.Cells.{Value}
 use Rattle.array.specs.Lists.{All, joined, from}
-use Rattle.array.specs.Places.{fixedAt, stepAt}
+use Rattle.array.specs.Places.{fixedAt, stepAt, sum}
 use Rattle.array.proofs.Lists.{length-from, joined-append}
+use Rattle.array.proofs.Places.{sum-append}
 use Rattle.chunks.specs.Gather.{putBack, Once}
-use Rattle.merge_stores.specs.Ragged.{sum}
 use Rattle.merge_stores.specs.Scatter.{scatter, places}
 use Rattle.merge_stores.proofs.Scattering.{scatter-putBack, scatter-then, scatter-run}
-
-pub sum-append : (xs ys : List ℕ) → sum (xs ++ ys) ≡ sum xs + sum ys
-sum-append [] ys = omega arith
-sum-append (x ∷ xs) ys = omega (arith, sum-append xs ys)
 
 pub length-joined : (vs : List Value) → length (joined vs) ≡ sum (map length vs)
 length-joined [] = refl

@@ -13,14 +13,14 @@ use Rattle.array.specs.Lists.{All, joined, pieces, from, count}
 use Rattle.array.specs.Offsets.{offsetsOf}
 use Rattle.array.specs.Shape.{volume}
 use Rattle.array.specs.Subset.{Subset, lengths, cellsOfAll, SubsetOk}
-use Rattle.array.specs.Places.{fixedAt, offsetAt}
+use Rattle.array.specs.Places.{fixedAt, offsetAt, sum, sums}
 use Rattle.array.proofs.LayoutLaws.{leaves-attach, length-attach, values-length, values-sized}
 use Rattle.array.proofs.Lists.{joined-append, joined-pieces, All-append, map-from}
 use Rattle.array.proofs.SubsetLaws.{all-below}
 use Rattle.array.proofs.Sums.{sumOf, sum-count}
 use Rattle.chunks.specs.Chunks.{firstChunk}
 use Rattle.chunks.specs.Gather.{lookup, putBack, Once}
-use Rattle.merge_stores.specs.Ragged.{sums, sum, stepParts}
+use Rattle.merge_stores.specs.Ragged.{stepParts}
 use Rattle.merge_stores.specs.Scatter.{scatter, places}
 use Rattle.merge_stores.specs.Store.{parts, levelAt, masksMerged, cellsTotal}
 use Rattle.merge_stores.proofs.Blocks.{fixed-block}

@@ -10,7 +10,7 @@ use lib.Seq.{drop-drop, getD-drop, take-all}
 use Rattle.array.specs.Lists.{from}
 use Rattle.array.specs.Offsets.{Rising}
 use Rattle.array.specs.Subset.{Subset, subsetsOf, pairs, cellsIn}
-use Rattle.array.specs.Places.{fixedAt, offsetAt, stepAt}
+use Rattle.array.specs.Places.{fixedAt, offsetAt, stepAt, stepsAt}
 use Rattle.array.proofs.Lists.{at-from, by-number}
 use Rattle.array.proofs.Places.{fixed-total}
 use Rattle.subset.specs.Subsets.{part, SubsetAt}
@@ -23,7 +23,7 @@ use Rattle.merge_stores.proofs.RaggedTies.{rises-of}
 use Rattle.merge_stores.proofs.Scattering.{length-places}
 
 -- a chunk's lengths, by all offsets
-steps-drop : (first : ℕ) (os : List ℕ) (m : ℕ) → map (stepAt (offsetAt (drop first os))) (from 0 m) ≡ map (stepAt (offsetAt os)) (from first m)
+steps-drop : (first : ℕ) (os : List ℕ) (m : ℕ) → stepsAt (offsetAt (drop first os)) (from 0 m) ≡ stepsAt (offsetAt os) (from first m)
 steps-drop first os m =
     let f : ℕ → ℕ = stepAt (offsetAt os) in
     sym (by-number 0 (stepAt (offsetAt (drop first os))) (map f (from first m)) (many-from f first m) (λ i h.
@@ -61,22 +61,22 @@ module _ {sh flat d src : List ℕ} (q : LengthsAllAsked sh flat d src) where
       room = omega (arith, q .room, c .list .long);
     }
 
-    as-many : length (map (stepAt (offsetAt src)) (from first m)) ≡ m
+    as-many : length (stepsAt (offsetAt src) (from first m)) ≡ m
     as-many = many-from (stepAt (offsetAt src)) first m
 
     behind : drop (suc m) (drop first src) ≡ drop (first + (m + 1)) src
     behind = let z : first + suc m ≡ first + (m + 1) = omega arith in drop-drop (suc m) first src ∙ ap (λ (x : ℕ). drop x src) z
 
-    split : stepParts (subsetsOf (length sh) (drop at flat)) (drop first src) ≡ take m (map (stepAt (offsetAt src)) (from first m)) ++ stepParts later (drop (first + (m + 1)) src)
+    split : stepParts (subsetsOf (length sh) (drop at flat)) (drop first src) ≡ take m (stepsAt (offsetAt src) (from first m)) ++ stepParts later (drop (first + (m + 1)) src)
     split =
         ap (λ (bs : List Subset). stepParts bs (drop first src)) (t .next)
-        ∙ ap (λ (k : ℕ). map (stepAt (offsetAt (drop first src))) (from 0 k) ++ stepParts later (drop (suc k) (drop first src))) (asked-volume (t .asked))
-        ∙ ap₂ (λ (x y : List ℕ). x ++ stepParts later y) (steps-drop first src m ∙ sym (take-all m (map (stepAt (offsetAt src)) (from first m)) (omega (arith, as-many)))) behind
+        ∙ ap (λ (k : ℕ). stepsAt (offsetAt (drop first src)) (from 0 k) ++ stepParts later (drop (suc k) (drop first src))) (asked-volume (t .asked))
+        ∙ ap₂ (λ (x y : List ℕ). x ++ stepParts later y) (steps-drop first src m ∙ sym (take-all m (stepsAt (offsetAt src) (from first m)) (omega (arith, as-many)))) behind
 
-    pub lengths-more : {o′ : List ℕ} → o′ ≡ scatter o (places (fixedAt 1 1) cs) (map (stepAt (offsetAt src)) (from first m)) → LengthsAll sh flat d src o′ end (first + (m + 1))
+    pub lengths-more : {o′ : List ℕ} → o′ ≡ scatter o (places (fixedAt 1 1) cs) (stepsAt (offsetAt src) (from first m)) → LengthsAll sh flat d src o′ end (first + (m + 1))
     lengths-more p = record {
       list =
-          list-more (c .list) t (map (stepAt (offsetAt src)) (from first m)) (length-places (fixedAt 1 1) cs ∙ fixed-total 1 1 cs ∙ mul-one (length cs) ∙ asked-count (t .asked))
+          list-more (c .list) t (stepsAt (offsetAt src) (from first m)) (length-places (fixedAt 1 1) cs ∙ fixed-total 1 1 cs ∙ mul-one (length cs) ∙ asked-count (t .asked))
           (omega (arith, as-many)) split p;
       chunks = subst (LengthChunks later) behind (now .2);
     }

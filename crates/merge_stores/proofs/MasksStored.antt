@@ -12,6 +12,7 @@ use Rattle.array.specs.Lists.{All, joined, from}
 use Rattle.array.specs.Shape.{volume}
 use Rattle.array.specs.Subset.{Subset, subsetsOf, cellsOfAll, SubsetOk}
 use Rattle.array.specs.Places.{fixedAt}
+use Rattle.array.proofs.Geometry.{from-append}
 use Rattle.array.proofs.Lists.{map-append, joined-append, length-from}
 use Rattle.array.proofs.SubsetLaws.{all-below}
 use Rattle.chunks.specs.Gather.{putBack}
@@ -19,7 +20,7 @@ use Rattle.subset.proofs.Subsets.{all-inside}
 use Rattle.merge_stores.specs.Scatter.{scatter, places}
 use Rattle.merge_stores.specs.Store.{parts, cellsTotal, masksMerged, MasksAsked, PartsAsked}
 use Rattle.merge_stores.proofs.Levels.{level-block, length-parts, length-all}
-use Rattle.merge_stores.proofs.Scattering.{from-append, length-scatter}
+use Rattle.merge_stores.proofs.Scattering.{length-scatter}
 
 pub record Stored (sh flat d src : List ℕ) (depth cells : ℕ) (o : List ℕ) (l : ℕ) : Type 0 where
   pub within : l ≤ depth
@@ -75,7 +76,7 @@ module _ {sh flat d src : List ℕ} {depth cells : ℕ} (q : MasksAsked sh flat 
           length-all sh bs ok ∙ sym (length-parts l depth 1 (omega arith) bs src (q .enough) ∙ mul-one (cellsTotal bs)) in
           let e : l * cells + volume sh ≡ (l + 1) * cells = omega (arith, suc-mul l cells, q .counted, ap (λ (k : ℕ). k * cells) (add-one l)) in
           let more : masksMerged sh bs depth src (l + 1) ≡ f ++ level l =
-          ap (λ (r : List ℕ). joined (map level r)) (sym (from-append 0 l 1)) ∙ ap joined (map-append level (from 0 l) (from (0 + l) 1))
+          ap (λ (r : List ℕ). joined (map level r)) (from-append 0 l 1 (0 + l) (l + 1) refl refl) ∙ ap joined (map-append level (from 0 l) (from (0 + l) 1))
           ∙ joined-append (map level (from 0 l)) (map level (from (0 + l) 1)) ∙ ap (λ (k : ℕ). f ++ (level k ++ [])) (native.Mathlib.Nat.zero-add l)
           ∙ ap (λ (r : List ℕ). f ++ r) (append-nil (level l)) in
           let rest : drop (l * cells + volume sh) o ≡ drop ((l + 1) * cells) d =

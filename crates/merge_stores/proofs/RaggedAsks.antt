@@ -4,6 +4,7 @@ use mathlib.Core.Path.{_≡_, sym, ap, _∙_}
 use Prim.Native.Nat.{ℕ, _<_, _≤_}
 use mathlib.Core.List.{List}
 use lib.ListN.{length}
+use Rattle.array.specs.Places.{sum}
 use Rattle.array.specs.Cells.{Cell}
 use Rattle.array.specs.Content.{Content, leaves}
 use Rattle.array.specs.Limits.{mostBytes}
@@ -12,7 +13,7 @@ use Rattle.array.specs.Shape.{volume}
 use Rattle.array.specs.Subset.{Subset, subsetsOf, cellsOfAll}
 use Rattle.chunks.specs.Gather.{Once}
 use Rattle.subset.specs.Subsets.{SubsetsOk}
-use Rattle.merge_stores.specs.Ragged.{sum, RaggedMergeAsked}
+use Rattle.merge_stores.specs.Ragged.{RaggedMergeAsked}
 use Rattle.merge_stores.proofs.Blocks.{length-joined}
 use Rattle.merge_stores.proofs.FirstChunk.{Chunked, all-values}
 use Rattle.merge_stores.proofs.RaggedTies.{length-chunks, ragged-lengths}

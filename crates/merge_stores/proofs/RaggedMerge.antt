@@ -13,12 +13,12 @@ use borrow.Author.Tests.{eq-eqb}
 use Rattle.array.specs.Cells.{Value}
 use Rattle.array.specs.Lists.{All, joined, from, pick, count}
 use Rattle.array.specs.Offsets.{ends, offsetsOf}
-use Rattle.array.specs.Places.{offsetAt, Rises, stepAt, bytesAt}
+use Rattle.array.specs.Places.{offsetAt, Rises, stepAt, sum, sums, stepsAt}
 use Rattle.array.proofs.Lists.{length-from, at-from}
+use Rattle.array.proofs.Places.{sum-append, length-sums}
 use Rattle.chunks.specs.Gather.{lookup, putBack, Once}
-use Rattle.merge_stores.specs.Ragged.{sums, sum}
 use Rattle.merge_stores.specs.Scatter.{scatter, places}
-use Rattle.merge_stores.proofs.Blocks.{sum-append, Beside, merged-block}
+use Rattle.merge_stores.proofs.Blocks.{Beside, merged-block}
 use Rattle.merge_stores.proofs.Levels.{putBack-map}
 
 pub ends-sums : (a : ℕ) (vs : List Value) → ends a vs ≡ sums a (map length vs)
@@ -33,10 +33,6 @@ sums-at : (a : ℕ) (xs : List ℕ) (j : ℕ) → j ≤ length xs → getD (a �
 sums-at a xs zero h = sym (add-zero a)
 sums-at a [] (suc j) h = absurd (omega arith)
 sums-at a (x ∷ xs) (suc j) h = sums-at (a + x) xs j (omega arith) ∙ add-assoc a x (sum (take j xs))
-
-pub length-sums : (a : ℕ) (xs : List ℕ) → length (sums a xs) ≡ length xs
-length-sums a [] = refl
-length-sums a (x ∷ xs) = ap suc (length-sums (a + x) xs)
 
 -- where cell j begins, also with more behind the offsets
 pub offset-is : (xs t : List ℕ) (j : ℕ) → j ≤ length xs → offsetAt ((0 ∷ sums 0 xs) ++ t) j ≡ 0 + sum (take j xs)
@@ -79,10 +75,6 @@ map-at f [] (l ∷ ls) e h = absurd (omega arith)
 map-at f (j ∷ js) [] e h = absurd (omega arith)
 map-at f (j ∷ js) (l ∷ ls) e h = ap₂ (λ (x : ℕ) (r : List ℕ). x ∷ r) (h 0 (omega arith)) (map-at f js ls (omega arith) (λ i k. h (suc i) (omega arith)))
 
-pub bytes-sum : (off : ℕ → ℕ) (js : List ℕ) → bytesAt off js ≡ sum (map (stepAt off) js)
-bytes-sum off [] = refl
-bytes-sum off (j ∷ js) = ap (λ (k : ℕ). stepAt off j + k) (bytes-sum off js)
-
 module _ (n : ℕ) (js : List ℕ) (a : All (λ j. j < n) js) (once : Once n js) where
   pub putBack-at : {A : Type 0} (z : A) (xs : List A) (i : ℕ) → length js ≡ length xs → i < length js → getD (putBack z n js xs) (getD js i 0) z ≡ getD xs i z
   putBack-at z xs i e h =
@@ -100,7 +92,7 @@ module _ (n : ℕ) (js : List ℕ) (a : All (λ j. j < n) js) (once : Once n js)
         omega (arith, offset-is xs t j (omega (arith, long)), offset-is xs t (suc j) (omega (arith, long)), s)
 
     -- the merged offsets step, at the cells of the list, by the lengths
-    pub steps-merged : map (stepAt (offsetAt ((0 ∷ sums 0 (putBack 0 n js ls)) ++ t))) js ≡ ls
+    pub steps-merged : stepsAt (offsetAt ((0 ∷ sums 0 (putBack 0 n js ls)) ++ t)) js ≡ ls
     steps-merged =
         map-at (stepAt (offsetAt ((0 ∷ sums 0 (putBack 0 n js ls)) ++ t))) js ls e
         (λ i h. omega (arith, step (getD js i 0) (All-at (λ j. j < n) js a i h), putBack-at 0 ls i e h))

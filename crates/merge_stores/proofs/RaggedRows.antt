@@ -11,7 +11,7 @@ use Rattle.array.specs.Buffers.{overAt}
 use Rattle.array.specs.Lists.{from}
 use Rattle.array.specs.Places.{offsetAt, bytesAt}
 use Rattle.array.proofs.Lists.{length-from}
-use Rattle.array.proofs.Places.{bytes-append, run-rises, run-total}
+use Rattle.array.proofs.Places.{bytes-append, run-rises, run-below, run-total}
 use Rattle.subset.specs.Walk.{rowOf, Left, RowAt}
 use Rattle.merge_stores.specs.Ragged.{RaggedAsked}
 use Rattle.merge_stores.proofs.RowsStored.{Store, store-begins, store-more}
@@ -47,7 +47,7 @@ module _ {sh d begins values : List ℕ} {base : ℕ} {src : List ℕ} {first : 
 
     -- they have room in the output, and lie in the values
     pub row-room : offsetAt begins a + w ≤ length d
-    row-room = omega (arith, row-bytes, run-rises (q .laid .rises) a n (r .inside), q .laid .room (a + n) (r .inside))
+    row-room = omega (arith, row-bytes, run-rises (q .laid .rises) a n (r .inside), run-below (q .laid .rises) a n (r .inside), q .laid .room)
 
     pub row-enough : base + offsetAt src (first + at) + w ≤ length values
     row-enough =

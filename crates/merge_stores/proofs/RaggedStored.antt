@@ -58,7 +58,7 @@ module _ {sh flat d begins values src : List ℕ} (q : RaggedAllAsked sh flat d 
 
     pub ragged-asked : RaggedAsked sh o begins values base src first cs
     ragged-asked = record {
-      laid = record { covered = q .laid .covered; rises = q .laid .rises; room = λ j l. omega (arith, q .laid .room j l, c .list .long) };
+      laid = record { covered = q .laid .covered; rises = q .laid .rises; room = omega (arith, q .laid .room, c .list .long) };
       agrees = λ k l. now .1 k l ∙ at-first k;
       indexed = omega (arith, asked-count (t .asked), chunk-indexed);
       enough = omega (arith, room);

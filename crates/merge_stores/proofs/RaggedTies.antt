@@ -14,7 +14,7 @@ use Rattle.array.specs.Offsets.{last, Rising}
 use Rattle.array.specs.Shape.{volume}
 use Rattle.array.specs.Lists.{All, from}
 use Rattle.array.specs.Subset.{Subset, lengths, cellsIn, cellsOfAll, SubsetOk}
-use Rattle.array.specs.Places.{offsetAt, Rises, stepAt, bytesAt, valueIn}
+use Rattle.array.specs.Places.{offsetAt, Rises, stepAt, bytesAt, valueIn, sum, stepsAt}
 use Rattle.array.proofs.Offsets.{last-at}
 use Rattle.array.proofs.Lists.{map-append, map-map, map-from}
 use Rattle.array.proofs.Places.{offsets-rise, first-zero, run-total, value-long, begins-rise, begins-end}
@@ -22,11 +22,11 @@ use Rattle.array.proofs.LayoutLaws.{leaves-attach, values-length}
 use Rattle.array.proofs.Numbered.{values-are}
 use Rattle.array.proofs.SubsetLaws.{length-cellsIn}
 use Rattle.chunks.specs.Chunks.{firstChunk}
-use Rattle.merge_stores.specs.Ragged.{LengthChunks, RaggedChunks, stepParts, sum}
+use Rattle.merge_stores.specs.Ragged.{LengthChunks, RaggedChunks, stepParts}
 use Rattle.merge_stores.specs.Store.{cellsTotal}
 use Rattle.merge_stores.proofs.Blocks.{map-take}
 use Rattle.merge_stores.proofs.FirstChunk.{Chunked, none-of, first-of, first-leaves}
-use Rattle.merge_stores.proofs.RaggedMerge.{many-from, bytes-sum}
+use Rattle.merge_stores.proofs.RaggedMerge.{many-from}
 
 -- ---- offsets, and the lengths between them
 
@@ -61,7 +61,7 @@ pub length-steps : (bs : List Subset) (os : List ℕ) → length (stepParts bs o
 length-steps [] os = refl
 length-steps (b ∷ bs) os =
     let m : ℕ = volume (lengths b) in
-    length-append (map (stepAt (offsetAt os)) (from 0 m)) (stepParts bs (drop (suc m) os))
+    length-append (stepsAt (offsetAt os) (from 0 m)) (stepParts bs (drop (suc m) os))
     ∙ ap₂ (λ (x y : ℕ). x + y) (many-from (stepAt (offsetAt os)) 0 m) (length-steps bs (drop (suc m) os))
 
 -- lists with equal parts
@@ -71,20 +71,19 @@ split-same xs ys zs ws l e =
 
 -- places that step by the chunks' lengths agree with their offsets
 pub chunks-agree : (begins sh : List ℕ) (bs : List Subset) → All (SubsetOk sh) bs → (os : List ℕ) → LengthChunks bs os
-    → map (stepAt (offsetAt begins)) (cellsOfAll sh bs) ≡ stepParts bs os → RaggedChunks begins sh bs os
+    → stepsAt (offsetAt begins) (cellsOfAll sh bs) ≡ stepParts bs os → RaggedChunks begins sh bs os
 chunks-agree begins sh [] inside os l e = tt
 chunks-agree begins sh (b ∷ bs) inside os l e =
     let m : ℕ = volume (lengths b) in
     let cs : List ℕ = cellsIn sh b in
     let f : ℕ → ℕ = stepAt (offsetAt begins) in
     let lc : length cs ≡ m = length-cellsIn sh b (inside .0) in
-    let p = split-same (map f cs) (map f (cellsOfAll sh bs)) (map (stepAt (offsetAt os)) (from 0 m)) (stepParts bs (drop (suc m) os))
+    let p = split-same (map f cs) (map f (cellsOfAll sh bs)) (stepsAt (offsetAt os) (from 0 m)) (stepParts bs (drop (suc m) os))
     (length-map cs f ∙ lc ∙ sym (many-from (stepAt (offsetAt os)) 0 m)) (sym (map-append f cs (cellsOfAll sh bs)) ∙ e) in (
       l .0,
       λ i h.
           let same : bytesAt (offsetAt begins) (take i cs) ≡ bytesAt (offsetAt os) (from 0 i) =
-          bytes-sum (offsetAt begins) (take i cs) ∙ ap sum (map-take f cs i ∙ ap (take i) (p .0) ∙ part-from (stepAt (offsetAt os)) 0 0 0 i m refl (omega arith))
-          ∙ sym (bytes-sum (offsetAt os) (from 0 i)) in
+          ap sum (map-take f cs i ∙ ap (take i) (p .0) ∙ part-from (stepAt (offsetAt os)) 0 0 0 i m refl (omega arith)) in
           omega (arith, same, run-total (rises-of m os (l .1) (l .0)) 0 i (omega arith), first-zero (take (suc m) os) (l .1), getD-take (suc m) os 0 0 (omega arith)),
       chunks-agree begins sh bs (inside .1) (drop (suc m) os) (l .2) (p .1),
     )
@@ -96,7 +95,7 @@ module _ (x : Masks) (w d : ℕ) (p : Place) where
   abbrev k : Kind
   k = record { depth = d; masks = x; form = ragged w p }
 
-  chunk-lengths : {m : ℕ} (c : Content) → ContentOk k m (firstChunk k m c) → map length (leaves d (cellsOf k m (firstChunk k m c))) ≡ map (stepAt (offsetAt (c .offsets))) (from 0 m)
+  chunk-lengths : {m : ℕ} (c : Content) → ContentOk k m (firstChunk k m c) → map length (leaves d (cellsOf k m (firstChunk k m c))) ≡ stepsAt (offsetAt (c .offsets)) (from 0 m)
   chunk-lengths {m} c ok =
       let first : Content = firstChunk k m c in
       let v = ok .values-fit in

@@ -3,23 +3,23 @@
 use mathlib.Core.Path.{_≡_, sym, ap, ap₂, _∙_, subst}
 use Prim.Native.Nat.{ℕ, _+_, _<_, _≤_}
 use native.Mathlib.Omega.{arith}
-use mathlib.Core.List.{List, _∷_, _++_, map, append-assoc}
-use lib.ListN.{length, take, drop, length-append, take-append-drop}
-use lib.Seq.{length-take-le, take-at, drop-at}
+use mathlib.Core.List.{List, _∷_, _++_, append-assoc}
+use lib.ListN.{length, take, drop, length-append}
+use lib.Seq.{length-take-le, take-at, take-all, drop-at}
 use Rattle.array.specs.Limits.{mostBytes}
 use Rattle.array.specs.Lists.{All}
 use Rattle.array.specs.Shape.{volume}
 use Rattle.array.specs.Subset.{Subset, subsetsOf, cellsOfAll, SubsetOk}
-use Rattle.array.specs.Places.{fixedAt, offsetAt, stepAt}
+use Rattle.array.specs.Places.{fixedAt, offsetAt, sum, sums, stepsAt}
 use Rattle.array.proofs.SubsetLaws.{all-below}
+use Rattle.array.proofs.Places.{length-sums}
 use Rattle.chunks.specs.Gather.{lookup, putBack}
 use Rattle.subset.proofs.Subsets.{all-inside}
-use Rattle.merge_stores.specs.Ragged.{sums, sum, stepParts, offsetsMerged, RaggedMergeAsked, RaggedAllAsked}
+use Rattle.merge_stores.specs.Ragged.{stepParts, offsetsMerged, RaggedMergeAsked, RaggedAllAsked}
 use Rattle.merge_stores.specs.Scatter.{scatter, places}
-use Rattle.merge_stores.proofs.Blocks.{sum-append}
 use Rattle.merge_stores.proofs.Closing.{sum-putBack}
 use Rattle.merge_stores.proofs.Levels.{level-block, length-all}
-use Rattle.merge_stores.proofs.RaggedMerge.{many-from, offset-is, length-sums, bytes-sum, steps-merged, rises-merged}
+use Rattle.merge_stores.proofs.RaggedMerge.{many-from, offset-is, steps-merged, rises-merged}
 use Rattle.merge_stores.proofs.RaggedTies.{length-steps, chunks-agree}
 use Rattle.merge_stores.proofs.Scattering.{length-scatter}
 
@@ -68,12 +68,12 @@ module _ {sh flat dv d values src : List ℕ} {n : ℕ} (q : RaggedMergeAsked sh
       pub offsets-are : o′ ≡ offsetsMerged sh (subsetsOf (length sh) flat) src ++ drop (n + 1) d
       offsets-are = p′ ∙ ap₂ (λ (x y : List ℕ). (0 ∷ sums 0 x) ++ y) lengths-are rest-is
 
-      below : (j : ℕ) → j ≤ volume sh → offsetAt (offsetsMerged sh (subsetsOf (length sh) flat) src ++ drop (n + 1) d) j ≤ length dv
-      below j h =
-          let s : sum xs ≡ sum (take j xs) + sum (drop j xs) = ap sum (sym (take-append-drop j xs)) ∙ sum-append (take j xs) (drop j xs) in
-          omega (arith, offset-is xs (drop (n + 1) d) j (omega (arith, long-xs, q .counted)), s, sum-is, q .enough)
+      within : offsetAt (offsetsMerged sh (subsetsOf (length sh) flat) src ++ drop (n + 1) d) (volume sh) ≤ length dv
+      within =
+          let e : volume sh ≡ length xs = omega (arith, long-xs, q .counted) in
+          omega (arith, offset-is xs (drop (n + 1) d) (volume sh) (omega arith), ap sum (take-all (volume sh) xs (omega arith)), sum-is, q .enough)
 
-      stepped : map (stepAt (offsetAt (offsetsMerged sh bs src ++ drop (n + 1) d))) (cellsOfAll sh bs) ≡ stepParts bs src
+      stepped : stepsAt (offsetAt (offsetsMerged sh bs src ++ drop (n + 1) d)) (cellsOfAll sh bs) ≡ stepParts bs src
       stepped = steps-merged (volume sh) (cellsOfAll sh bs) (all-below sh bs ok) (q .once) (stepParts bs src) (drop (n + 1) d) as-many
 
       pub third-asked : RaggedAllAsked sh flat dv o′ values src
@@ -84,8 +84,8 @@ module _ {sh flat dv d values src : List ℕ} {n : ℕ} (q : RaggedMergeAsked sh
             laid = record {
               covered = omega (arith, length-append (0 ∷ sums 0 xs) (drop (n + 1) d), length-sums 0 xs, long-xs, q .counted);
               rises = rises-merged (volume sh) (cellsOfAll sh bs) (all-below sh bs ok) (q .once) (stepParts bs src) (drop (n + 1) d) as-many;
-              room = below;
+              room = within;
             };
             chunks = chunks-agree (offsetsMerged sh bs src ++ drop (n + 1) d) sh bs ok src (q .lengths-fit) stepped;
-            enough = omega (arith, bytes-sum (offsetAt (offsetsMerged sh bs src ++ drop (n + 1) d)) (cellsOfAll sh bs), ap sum stepped, q .summed);
+            enough = omega (arith, ap sum stepped, q .summed);
           })

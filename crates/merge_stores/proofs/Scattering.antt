@@ -5,15 +5,15 @@ use Prim.Native.Nat.{ℕ, zero, suc, _+_, _-_, _<_, _≤_}
 use native.Mathlib.Nat.{add-zero}
 use native.Mathlib.Omega.{arith}
 use mathlib.Core.Bool.{Bool, true, false}
-use mathlib.Core.List.{List, [], _∷_, _++_, append-assoc}
+use mathlib.Core.List.{List, [], _∷_, _++_, map}
 use lib.ListN.{length, getD, take, drop, set, length-append, length-set}
 use lib.Seq.{paste, take-suc-set, drop-set-lt, append-snoc, getD-set-same, getD-set-other}
 use lib.Dec.{eqb}
 use borrow.Author.Tests.{eqb-true, eqb-false}
-use Rattle.array.specs.Lists.{from, pick, count}
+use Rattle.array.specs.Lists.{from, joined, pick, count}
 use Rattle.array.specs.Places.{Rises, stepAt, bytesAt}
-use Rattle.array.proofs.Lists.{length-from, by-number}
-use Rattle.array.proofs.Geometry as geometry
+use Rattle.array.proofs.Lists.{length-from, by-number, map-append, joined-append}
+use Rattle.array.proofs.Geometry.{from-append}
 use Rattle.array.proofs.Places.{run-rises}
 use Rattle.chunks.specs.Gather.{lookup, putBack}
 use Rattle.merge_stores.specs.Scatter.{scatter, places}
@@ -89,13 +89,8 @@ module _ {A : Type 0} (z : A) where
 
 -- ---- the places of a run of cells are a run of bytes
 
-pub from-append : (a n m : ℕ) → from a n ++ from (a + n) m ≡ from a (n + m)
-from-append a n m = sym (geometry.from-append a n m (a + n) (n + m) refl refl)
-
 pub places-append : (off : ℕ → ℕ) (js ks : List ℕ) → places off (js ++ ks) ≡ places off js ++ places off ks
-places-append off [] ks = refl
-places-append off (j ∷ js) ks =
-    ap (λ (r : List ℕ). from (off j) (stepAt off j) ++ r) (places-append off js ks) ∙ sym (append-assoc (from (off j) (stepAt off j)) (places off js) (places off ks))
+places-append off js ks = let f : ℕ → List ℕ = λ j. from (off j) (stepAt off j) in ap joined (map-append f js ks) ∙ joined-append (map f js) (map f ks)
 
 -- as many as the cells' bytes
 pub length-places : (off : ℕ → ℕ) (js : List ℕ) → length (places off js) ≡ bytesAt off js
@@ -110,4 +105,4 @@ places-run {off} r a (suc n) h =
     let u : off a + stepAt off a ≡ off (suc a) = omega arith in
     let v : stepAt off a + (off (suc a + n) - off (suc a)) ≡ off (a + suc n) - off a = omega (arith, run-rises r (suc a) n (omega arith), ap off q) in
     ap (λ (x : List ℕ). from (off a) (stepAt off a) ++ x) (places-run r (suc a) n (omega arith))
-    ∙ sym (geometry.from-append (off a) (stepAt off a) (off (suc a + n) - off (suc a)) (off (suc a)) (off (a + suc n) - off a) u v)
+    ∙ sym (from-append (off a) (stepAt off a) (off (suc a + n) - off (suc a)) (off (suc a)) (off (a + suc n) - off a) u v)

@@ -7,7 +7,7 @@ use native.Mathlib.Omega.{arith}
 use mathlib.Core.List.{List, _∷_, _++_}
 use lib.ListN.{length, getD, take, drop, set, length-set}
 use lib.Seq.{take-suc, drop-cons, take-set-le, drop-set-lt, getD-set-same, getD-drop, drop-drop, split-at, append-snoc, set-set}
-use Rattle.merge_stores.specs.Ragged.{sums, sum}
+use Rattle.array.specs.Places.{sum, sums}
 
 pub record Summed (d o : List ℕ) (n i : ℕ) : Type 0 where
   pub within : i ≤ n

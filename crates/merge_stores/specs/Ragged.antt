@@ -2,15 +2,15 @@
 -- How long they are, the offsets that these add up to, and what their stores ask: ragged-asked in merge_stores/proofs/RaggedAsks.antt.
 -- Assumes nothing.
 use mathlib.Core.Path.{_≡_}
-use Prim.Native.Nat.{ℕ, suc, _+_, _-_, _≤_, _<_}
-use mathlib.Core.List.{List, [], _∷_, _++_, map}
+use Prim.Native.Nat.{ℕ, suc, _+_, _≤_, _<_}
+use mathlib.Core.List.{List, [], _∷_, _++_}
 use lib.ListN.{length, take, drop}
 use Rattle.array.specs.Limits.{mostBytes}
 use Rattle.array.specs.Lists.{from}
 use Rattle.array.specs.Shape.{volume}
 use Rattle.array.specs.Subset.{Subset, lengths, subsetsOf, cellsIn, cellsOfAll}
 use Rattle.array.specs.Offsets.{Rising}
-use Rattle.array.specs.Places.{offsetAt, Rises, stepAt, bytesAt}
+use Rattle.array.specs.Places.{offsetAt, Rises, sum, sums, stepsAt, bytesAt}
 use Rattle.subset.specs.Subsets.{SubsetsOk}
 use Rattle.chunks.specs.Gather.{putBack, Once}
 
@@ -19,16 +19,7 @@ use Rattle.chunks.specs.Gather.{putBack, Once}
 -- the lengths of all values of a chunk list
 abbrev pub stepParts : List Subset → List ℕ → List ℕ
 stepParts [] os = []
-stepParts (b ∷ bs) os = map (stepAt (offsetAt os)) (from 0 (volume (lengths b))) ++ stepParts bs (drop (suc (volume (lengths b))) os)
-
--- each length added to those before it, from a on
-abbrev pub sums : ℕ → List ℕ → List ℕ
-sums a [] = []
-sums a (x ∷ xs) = (a + x) ∷ sums (a + x) xs
-
-abbrev pub sum : List ℕ → ℕ
-sum [] = 0
-sum (n ∷ ns) = n + sum ns
+stepParts (b ∷ bs) os = stepsAt (offsetAt os) (from 0 (volume (lengths b))) ++ stepParts bs (drop (suc (volume (lengths b))) os)
 
 -- the offsets of a merge of chunks with these offsets
 abbrev pub offsetsMerged : List ℕ → List Subset → List ℕ → List ℕ
@@ -36,11 +27,11 @@ offsetsMerged shape bs src = 0 ∷ sums 0 (putBack 0 (volume shape) (cellsOfAll 
 
 -- ---- what the stores ask
 
--- the output's offsets never fall, and lie within its values
+-- the output's offsets never fall, and end within its values
 pub record Begins (shape out begins : List ℕ) : Type 0 where
   pub covered : volume shape < length begins
   pub rises : Rises (offsetAt begins) (volume shape)
-  pub room : (j : ℕ) → j ≤ volume shape → offsetAt begins j ≤ length out
+  pub room : offsetAt begins (volume shape) ≤ length out
 
 -- the output has as many places for the first i of a chunk's cells as the chunk's own offset i says
 abbrev pub Agrees : List ℕ → List ℕ → ℕ → List ℕ → Type 0

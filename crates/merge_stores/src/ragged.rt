@@ -1,22 +1,22 @@
 // Ragged values: their lengths, the offsets that these add up to, and their bytes at those offsets.
 ghost use mathlib.Core.Path.{_≡_};
-ghost use mathlib.Core.List.{_∷_, _++_, map};
+ghost use mathlib.Core.List.{_∷_, _++_};
 ghost use Prim.Native.Nat.{_+_, _<_, _≤_};
 ghost use lib.ListN.{length, take, drop};
 ghost use Rattle.array.specs.Limits.{mostBytes};
 ghost use Rattle.array.specs.Lists.{from};
 ghost use Rattle.array.specs.Buffers.{overAt};
 ghost use Rattle.array.specs.Subset.{pairs, subsetsOf, cellsIn, cellsOfAll};
-ghost use Rattle.array.specs.Places.{fixedAt, offsetAt, Rises, stepAt};
+ghost use Rattle.array.specs.Places.{fixedAt, offsetAt, Rises, sum, sums, stepsAt};
 ghost use Rattle.subset.specs.Walk.{SubsetAsked};
 ghost use Rattle.merge_stores.specs.Scatter.{scatter, places};
-ghost use Rattle.merge_stores.specs.Ragged.{stepParts, sums, sum, offsetsMerged};
+ghost use Rattle.merge_stores.specs.Ragged.{stepParts, offsetsMerged};
 ghost use Rattle.merge_stores.specs.Ragged.{LengthsAsked, LengthsAllAsked, RaggedAsked, RaggedAllAsked, RaggedMergeAsked};
 
 // The lengths of n neighbours, from their offsets.
 fn store_steps(out: &mut [u64], at: usize, src: &[u64], first: usize, n: usize)
     requires { ⌜ (at + n ≤ length (now out)) × (first + n < length (now src)) × Rises (λ i. offsetAt (now src) (first + i)) n ⌝ }
-    ensures { λ _. ⌜ now (out .exit) ≡ overAt at (map (stepAt (offsetAt (now (src .entry)))) (from first n)) (now (out .entry)) ⌝ }
+    ensures { λ _. ⌜ now (out .exit) ≡ overAt at (stepsAt (offsetAt (now (src .entry))) (from first n)) (now (out .entry)) ⌝ }
 {
     let mut i: usize = 0;
     while i < n {
@@ -39,7 +39,7 @@ fn store_lengths(
 )
     requires { ⌜ SubsetAsked (now shape) (now starts) (now lens) count × LengthsAsked (now shape) (now out) (now src) first count ⌝ }
     ensures { λ _. ⌜ now (out .exit) ≡ scatter (now (out .entry)) (places (fixedAt 1 1) (cellsIn (now (shape .entry)) (pairs (now (starts .entry)) (now (lens .entry)))))
-        (map (stepAt (offsetAt (now (src .entry)))) (from first count)) ⌝ }
+        (stepsAt (offsetAt (now (src .entry))) (from first count)) ⌝ }
 {
     let last = lens.len() - 1;
     let n = lens[last] as usize;

@@ -3,12 +3,11 @@
 use Prim.Native.Nat.{suc, _+_, _-_, _*_, _<_}
 use mathlib.Core.Path.{_≡_, ap}
 use native.Mathlib.Omega.{arith}
-use mathlib.Core.List.{map}
 use lib.ListN.{length}
 use Rattle.array.specs.Limits.{mostCells}
 use Rattle.array.specs.Lists.{from}
 use Rattle.array.specs.Subset.{cellsIn, pairs}
-use Rattle.array.specs.Places.{fixedAt, offsetAt, stepAt, Rises}
+use Rattle.array.specs.Places.{fixedAt, offsetAt, Rises, stepsAt}
 use Rattle.subset.specs.Walk.{rowOf, RowAt}
 use Rattle.subset.proofs.Rows.{asked-left, asked-few, asked-lengths, row-is}
 use Rattle.merge_stores.proofs.LengthRows.{lengths-row}
@@ -18,7 +17,7 @@ use Rattle.merge_stores.proofs.ragged.store_lengths.Tie as tie
 
 abbrev Inv-loop : tie.InvT-loop
 Inv-loop out₀ src first shape starts lens count last n at₀ out at =
-    Store (fixedAt 1 1) (cellsIn shape (pairs starts lens)) (map (stepAt (offsetAt src)) (from first count)) out₀ out count (rowOf lens) at at
+    Store (fixedAt 1 1) (cellsIn shape (pairs starts lens)) (stepsAt (offsetAt src) (from first count)) out₀ out count (rowOf lens) at at
 
 abbrev μ-loop : tie.MeasureT-loop
 μ-loop out₀ src first shape starts lens count last n at₀ out at = count - at
@@ -71,7 +70,7 @@ shared-slice-read-n c = omega (arith, asked-lengths (entry (c .before .before) .
 loop-holds : tie.Need-loop-holds Inv-loop μ-loop
 loop-holds c =
     let a = entry (c .before .before) in
-    store-begins (fixedAt 1 1) (map (stepAt (offsetAt (a .args .src .now))) (from (a .args .first) (a .args .count))) (a .args .out .now) (asked-left (a .pre .0))
+    store-begins (fixedAt 1 1) (stepsAt (offsetAt (a .args .src .now)) (from (a .args .first) (a .args .count))) (a .args .out .now) (asked-left (a .pre .0))
 
 cell-at-requires : tie.Need-cell-at-requires Inv-loop μ-loop
 cell-at-requires c κs = let q = begun (c .before) .pre .0 in (q .shaped, q .within, omega (arith, q .counted, c .loop-test .taken))

@@ -3,9 +3,8 @@
 use Prim.Native.Nat.{suc, _+_, _-_}
 use mathlib.Core.Path.{_≡_, ap}
 use native.Mathlib.Omega.{arith}
-use mathlib.Core.List.{map}
 use Rattle.array.specs.Lists.{from}
-use Rattle.array.specs.Places.{offsetAt, stepAt}
+use Rattle.array.specs.Places.{offsetAt, stepAt, stepsAt}
 use Rattle.buffer.proofs.Copying.{Copying, copy-begins, copy-same, copy-room}
 use Rattle.merge_stores.proofs.LengthRows.{steps-more, steps-end}
 use Rattle.merge_stores.proofs.RaggedMerge.{many-from}
@@ -13,7 +12,7 @@ use Rattle.merge_stores.proofs.ragged.store_steps.Statement.{statement}
 use Rattle.merge_stores.proofs.ragged.store_steps.Tie as tie
 
 abbrev Inv-loop : tie.InvT-loop
-Inv-loop out₀ at src first n i₀ out i = Copying out₀ at (map (stepAt (offsetAt src)) (from first n)) 0 n out i
+Inv-loop out₀ at src first n i₀ out i = Copying out₀ at (stepsAt (offsetAt src) (from first n)) 0 n out i
 
 abbrev μ-loop : tie.MeasureT-loop
 μ-loop out₀ at src first n i₀ out i = n - i
