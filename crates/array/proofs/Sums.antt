@@ -11,18 +11,18 @@ use lib.Dec.{eqb}
 use lib.Arith.{lt-of-le-ne}
 use borrow.Author.Tests.{eqb-true, eqb-false, ne-eqb}
 use Rattle.array.specs.Lists.{All, joined, from, pick, count}
+use Rattle.array.specs.Places.{sum}
+use Rattle.array.proofs.Lists.{map-map}
 
 abbrev pub sumOf : {A : Type 0} → (A → ℕ) → List A → ℕ
-sumOf f [] = 0
-sumOf f (x ∷ xs) = f x + sumOf f xs
+sumOf f xs = sum (map f xs)
 
 pub length-joined-map : {A : Type 0} (g : A → List ℕ) (xs : List A) → length (joined (map g xs)) ≡ sumOf (λ x. length (g x)) xs
 length-joined-map g [] = refl
 length-joined-map g (x ∷ xs) = length-append (g x) (joined (map g xs)) ∙ ap (λ (n : ℕ). length (g x) + n) (length-joined-map g xs)
 
 pub sumOf-map : {A B : Type 0} (h : A → B) (f : B → ℕ) (xs : List A) → sumOf f (map h xs) ≡ sumOf (λ x. f (h x)) xs
-sumOf-map h f [] = refl
-sumOf-map h f (x ∷ xs) = ap (λ (n : ℕ). f (h x) + n) (sumOf-map h f xs)
+sumOf-map h f xs = ap sum (map-map h f xs)
 
 pub sum-le : {A : Type 0} (f g : A → ℕ) (xs : List A) → All (λ x. f x ≤ g x) xs → sumOf f xs ≤ sumOf g xs
 sum-le f g [] p = le-refl 0

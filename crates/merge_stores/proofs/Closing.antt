@@ -31,10 +31,6 @@ use Rattle.merge_stores.proofs.RaggedTies.{ragged-lengths}
 
 -- ---- the sum of what is merged is the sum of what was there
 
-sum-map : (f : ℕ → ℕ) (xs : List ℕ) → sum (map f xs) ≡ sumOf f xs
-sum-map f [] = refl
-sum-map f (x ∷ xs) = ap (λ (n : ℕ). f x + n) (sum-map f xs)
-
 sum-once-all : (f : ℕ → ℕ) (js : List ℕ) (a n : ℕ) → ((i : ℕ) → i < a + n → count i js ≡ 1) → sumOf (λ i. count i js * f i) (from a n) ≡ sumOf f (from a n)
 sum-once-all f js a zero o = refl
 sum-once-all f js a (suc n) o =
@@ -42,9 +38,8 @@ sum-once-all f js a (suc n) o =
 
 pub sum-putBack : (n : ℕ) (js ls : List ℕ) → All (λ j. j < n) js → Once n js → length js ≡ length ls → sum (putBack 0 n js ls) ≡ sum ls
 sum-putBack n js ls a o e =
-    let f : ℕ → ℕ = λ i. lookup 0 i js ls in
-    sum-map (λ i. lookup 0 i js ls) (from 0 n) ∙ sym (sum-once-all (λ i. lookup 0 i js ls) js 0 n (λ i h. o i (omega arith))) ∙ sym (sum-count (λ i. lookup 0 i js ls) n js a)
-    ∙ sym (sum-map (λ i. lookup 0 i js ls) js) ∙ ap sum (map-at (λ i. lookup 0 i js ls) js ls e (λ i h. lookup-at 0 js ls i e h (o (getD js i 0) (All-at (λ j. j < n) js a i h))))
+    sym (sum-once-all (λ i. lookup 0 i js ls) js 0 n (λ i h. o i (omega arith))) ∙ sym (sum-count (λ i. lookup 0 i js ls) n js a)
+    ∙ ap sum (map-at (λ i. lookup 0 i js ls) js ls e (λ i h. lookup-at 0 js ls i e h (o (getD js i 0) (All-at (λ j. j < n) js a i h))))
 
 -- ---- masks
 
