@@ -1,0 +1,20 @@
+-- docs/SPEC.md, S6.13: what the declared answers of the calls on a table mean, and the lent slices as a table.
+-- Assumes nothing.
+use mathlib.Core.List.{List}
+use Prim.Native.Nat.{ℕ}
+use Rattle.table.specs.declared.answer.WrittenTable as four
+use Rattle.table.specs.declared.answer.Settled as none
+use Rattle.array.specs.Answer.{Answer, gives, refuses}
+use Rattle.table.specs.Table.{Table}
+use Rattle.table.specs.Calls.{TableLengths}
+
+abbrev pub tableBy : List ℕ → List ℕ → List ℕ → List ℕ → Table
+tableBy m s l b = record { masks = m; starts = s; lengths = l; store = b }
+
+abbrev pub toldTable : four.WrittenTable → Answer TableLengths
+toldTable (four.WrittenTable.Lengths m s l b) = gives (record { masks = m; starts = s; lengths = l; store = b })
+toldTable (four.WrittenTable.Refused e) = refuses e
+
+abbrev pub toldSettled : none.Settled → Answer (Unit {0})
+toldSettled none.Settled.Set = gives tt
+toldSettled (none.Settled.Refused e) = refuses e
