@@ -4,7 +4,9 @@ use mathlib.Core.List.{List}
 use Prim.Native.Nat.{ℕ}
 use Rattle.table.specs.declared.answer.WrittenTable as four
 use Rattle.table.specs.declared.answer.Settled as none
-use Rattle.array.specs.Answer.{Answer, gives, refuses}
+use Rattle.array.specs.declared.answer.Written.{Written}
+use Rattle.array.specs.Answer.{Answer, gives, refuses, Outcome}
+use Rattle.array.specs.Meaning.{told}
 use Rattle.table.specs.Table.{Table}
 use Rattle.table.specs.Calls.{TableLengths}
 
@@ -18,3 +20,14 @@ toldTable (four.WrittenTable.Refused e) = refuses e
 abbrev pub toldSettled : none.Settled → Answer (Unit {0})
 toldSettled none.Settled.Set = gives tt
 toldSettled (none.Settled.Refused e) = refuses e
+
+-- what a call leaves behind, its answer and the lent slices as they are then
+abbrev pub outcomeTable : four.WrittenTable → List ℕ → List ℕ → List ℕ → List ℕ → Outcome TableLengths Table
+outcomeTable r m s l b = record { answer = toldTable r; buffers = tableBy m s l b }
+
+abbrev pub outcomeSettled : none.Settled → List ℕ → List ℕ → List ℕ → List ℕ → Outcome (Unit {0}) Table
+outcomeSettled r m s l b = record { answer = toldSettled r; buffers = tableBy m s l b }
+
+-- a packing call names how many it moved
+abbrev pub outcomePacked : Written → List ℕ → List ℕ → List ℕ → List ℕ → Outcome ℕ Table
+outcomePacked r m s l b = record { answer = told r; buffers = tableBy m s l b }
