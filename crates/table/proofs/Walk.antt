@@ -18,11 +18,12 @@ use Rattle.array.proofs.Lists.{All-map, map-append, length-from}
 use Rattle.array.proofs.Places.{sum-append}
 use Rattle.array.proofs.Over.{over-at-length}
 use Rattle.array.proofs.Geometry.{All-from, passing-append, passing-all, passing-none}
-use Rattle.table.specs.Table.{Table, startOf, lengthOf, bytesOf, ending, filledBy, filled}
+use Rattle.table.specs.Table.{Table, TableOk, startOf, lengthOf, bytesOf, Placed, ending, filled}
 use Rattle.table.specs.Lying.{putAmong, lyingBy, packedAt, packedStart, displaced, moveTo, moveAll, movedCells, packed, packedWhole}
-use Rattle.table.specs.Order.{Follow}
+use Rattle.table.specs.Order.{Follow, Lies}
 use Rattle.table.specs.Meaning.{tableBy}
 use Rattle.table.specs.Walk.{InOrder, Moved}
+use Rattle.table.proofs.Order.{All-passing, All-filled, lies-all, lies-some, lies-below, lies-follow, lying-lies, follow-above}
 
 -- ---- lists
 
@@ -35,39 +36,9 @@ module _ {A : Type 0} (P : A → Type 0) where
   All-right [] ys p = p
   All-right (x ∷ xs) ys p = All-right xs ys (p .1)
 
-  -- what passes a test keeps the rule
-  All-passing : (f : A → Bool) (xs : List A) → All P xs → All P (passing f xs)
-  All-passing f [] p = tt
-  All-passing f (x ∷ xs) p = go (f x) (All-passing f xs (p .1))
-    where
-      go : (b : Bool) → All P (passing f xs) → All P (pick b (x ∷ passing f xs) (passing f xs))
-      go true q = (p .0, q)
-      go false q = q
-
-passes : {A : Type 0} (f : A → Bool) (xs : List A) → All (λ x. f x ≡ true) (passing f xs)
-passes f [] = tt
-passes {A} f (x ∷ xs) = go (f x) refl (passes f xs)
-  where
-    go : (b : Bool) → f x ≡ b → All (λ y. f y ≡ true) (passing f xs) → All (λ y. f y ≡ true) (pick b (x ∷ passing f xs) (passing f xs))
-    go true e q = (e, q)
-    go false e q = q
-
 -- ---- the order in which they lie
 
 module _ (start len : ℕ → ℕ) where
-  -- what keeps a rule keeps it in that order
-  put-all : (P : ℕ → Type 0) (j : ℕ) (is : List ℕ) → P j → All P is → All P (putAmong start len j is)
-  put-all P j [] p q = (p, tt)
-  put-all P j (i ∷ is) p q = go (leb (start j) (start i)) (put-all P j is p (q .1))
-    where
-      go : (b : Bool) → All P (putAmong start len j is) → All P (pick b (j ∷ i ∷ is) (i ∷ putAmong start len j is))
-      go true r = (p, q)
-      go false r = (q .0, r)
-
-  pub lying-all : (P : ℕ → Type 0) (js : List ℕ) → All P js → All P (lyingBy start len js)
-  lying-all P [] p = tt
-  lying-all P (j ∷ js) p = put-all P j (lyingBy start len js) (p .0) (lying-all P js (p .1))
-
   -- the lengths of those that pass a test
   abbrev bytes : (ℕ → Bool) → List ℕ → ℕ
   bytes f js = sum (map len (passing f js))
@@ -91,22 +62,7 @@ module _ (start len : ℕ → ℕ) where
   lying-bytes f [] = refl
   lying-bytes f (j ∷ js) = put-bytes f j (lyingBy start len js) ∙ omega (arith, bytes-cons f j (lyingBy start len js), bytes-cons f j js, lying-bytes f js)
 
-  -- those that have bytes
-  pub filled-have : (n : ℕ) → All (λ j. 0 < len j) (lyingBy start len (filledBy start len n))
-  filled-have n =
-      lying-all (λ j. 0 < len j) (filledBy start len n)
-      (All-map (λ j. ltb 0 (len j) ≡ true) (λ j. 0 < len j) (λ j. ltb-true 0 (len j)) (filledBy start len n) (passes (λ j. ltb 0 (len j)) (from 0 n)))
-
-  pub filled-below : (n : ℕ) → All (λ j. j < n) (lyingBy start len (filledBy start len n))
-  filled-below n =
-      lying-all (λ j. j < n) (filledBy start len n) (All-passing (λ j. j < n) (λ j. ltb 0 (len j)) (from 0 n) (All-from (λ j. j < n) 0 n (λ j l h. omega arith)))
-
   -- ---- one that stands between two parts of the list
-
-  follow-after : (at : ℕ) (is : List ℕ) → Follow start len at is → All (λ i. at ≤ start i) is
-  follow-after at [] f = tt
-  follow-after at (i ∷ is) f =
-      (f .0, All-map (λ k. ending start len i ≤ start k) (λ k. at ≤ start k) (λ k h. omega (arith, f .0)) is (follow-after (ending start len i) is (f .1)))
 
   follow-right : (at : ℕ) (xs : List ℕ) (j : ℕ) (ys : List ℕ) → Follow start len at (xs ++ j ∷ ys) → Follow start len (ending start len j) ys
   follow-right at [] j ys f = f .1
@@ -116,13 +72,13 @@ module _ (start len : ℕ → ℕ) where
   follow-before : (at : ℕ) (xs : List ℕ) (j : ℕ) (ys : List ℕ) → Follow start len at (xs ++ j ∷ ys) → All (λ i. 0 < len i) xs → All (λ i. start i < start j) xs
   follow-before at [] j ys f p = tt
   follow-before at (x ∷ xs) j ys f p =
-      let h : ending start len x ≤ start j = All-right (λ i. ending start len x ≤ start i) xs (j ∷ ys) (follow-after (ending start len x) (xs ++ j ∷ ys) (f .1)) .0 in
+      let h : ending start len x ≤ start j = All-right (λ i. ending start len x ≤ start i) xs (j ∷ ys) (follow-above start len (ending start len x) (xs ++ j ∷ ys) (f .1)) .0 in
       (omega (arith, p .0), follow-before (ending start len x) xs j ys (f .1) (p .1))
 
   -- and have no more bytes than there is room for before it
-  follow-sum : (at : ℕ) (xs : List ℕ) (j : ℕ) (ys : List ℕ) → Follow start len at (xs ++ j ∷ ys) → at + sum (map len xs) ≤ start j
-  follow-sum at [] j ys f = omega (arith, f .0)
-  follow-sum at (x ∷ xs) j ys f = omega (arith, f .0, follow-sum (ending start len x) xs j ys (f .1))
+  follow-room : (at : ℕ) (xs : List ℕ) (j : ℕ) (ys : List ℕ) → Follow start len at (xs ++ j ∷ ys) → at + sum (map len xs) ≤ start j
+  follow-room at [] j ys f = omega (arith, f .0)
+  follow-room at (x ∷ xs) j ys f = omega (arith, f .0, follow-room (ending start len x) xs j ys (f .1))
 
   -- its packed start is the sum of their lengths
   between : (xs : List ℕ) (j : ℕ) (ys : List ℕ) → Follow start len 0 (xs ++ j ∷ ys) → All (λ i. 0 < len i) (xs ++ j ∷ ys)
@@ -142,7 +98,7 @@ module _ (start len : ℕ → ℕ) where
       after = (
         le-ltb (start j) (start j) (omega arith),
         All-map (λ i. ending start len j ≤ start i) (λ i. ltb (start i) (start j) ≡ false) (λ i h. le-ltb (start i) (start j) (omega arith)) ys
-            (follow-after (ending start len j) ys (follow-right 0 xs j ys f)),
+            (follow-above start len (ending start len j) ys (follow-right 0 xs j ys f)),
       )
 
 -- ---- cells moved one after another
@@ -188,6 +144,9 @@ pub moving-begins : {most n : ℕ} {t : Table} {js : List ℕ} → Moving most n
 moving-begins = record { within = omega arith; few = omega arith; place = refl; counted = refl; here = refl; size = refl }
 
 module _ {most n : ℕ} {t : Table} {js : List ℕ} {u : Table} {i to moved : ℕ} (o : InOrder n t js) (m : Moving most n t js u i to moved) where
+  lies : Lies (startOf t) (lengthOf t) n js
+  lies = subst (Lies (startOf t) (lengthOf t) n) (sym (o .lying)) (lying-lies (startOf t) (lengthOf t) n)
+
   all-moved : displaced t n ≡ firstMoved n t js i ++ passing (elsewhere n t) (drop i js)
   all-moved =
       ap (passing (elsewhere n t)) (sym (o .lying) ∙ sym (take-append-drop i js)) ∙ passing-append (elsewhere n t) (take i js) (drop i js)
@@ -214,7 +173,7 @@ module _ {most n : ℕ} {t : Table} {js : List ℕ} {u : Table} {i to moved : �
     follows = subst (Follow (startOf t) (lengthOf t) 0) split (o .follow)
 
     have : All (λ k. 0 < lengthOf t k) (take i js ++ j ∷ drop (suc i) js)
-    have = subst (All (λ k. 0 < lengthOf t k)) (sym (o .lying) ∙ split) (filled-have (startOf t) (lengthOf t) n)
+    have = subst (All (λ k. 0 < lengthOf t k)) split (lies-some lies)
 
     packed-is : packedStart t n j ≡ to
     packed-is =
@@ -227,15 +186,15 @@ module _ {most n : ℕ} {t : Table} {js : List ℕ} {u : Table} {i to moved : �
     kept =
         ap (λ (v : Table). startOf v j) (m .here)
         ∙ move-others (packedStart t n) (firstMoved n t js i) t j
-        (All-passing (λ k. k ≡ j → ⊥) (elsewhere n t) (take i js)
+        (All-passing (elsewhere n t) (λ k. k ≡ j → ⊥) (take i js)
         (All-map (λ k. startOf t k < startOf t j) (λ k. k ≡ j → ⊥) (λ k l e. omega (arith, ap (startOf t) e)) (take i js)
         (follow-before (startOf t) (lengthOf t) 0 (take i js) j (drop (suc i) js) follows (All-left (λ k. 0 < lengthOf t k) (take i js) (j ∷ drop (suc i) js) have))))
 
     pub next-below : j < n
-    next-below = All-right (λ k. k < n) (take i js) (j ∷ drop (suc i) js) (subst (All (λ k. k < n)) (sym (o .lying) ∙ split) (filled-below (startOf t) (lengthOf t) n)) .0
+    next-below = All-right (λ k. k < n) (take i js) (j ∷ drop (suc i) js) (subst (All (λ k. k < n)) split (lies-below lies)) .0
 
     pub next-room : to ≤ startOf u j
-    next-room = omega (arith, kept, m .place, follow-sum (startOf t) (lengthOf t) 0 (take i js) j (drop (suc i) js) follows)
+    next-room = omega (arith, kept, m .place, follow-room (startOf t) (lengthOf t) 0 (take i js) j (drop (suc i) js) follows)
 
     pub next-fits : startOf u j + lengthOf t j ≤ length (u .store)
     next-fits =
@@ -341,3 +300,19 @@ displaced-most n t =
       passing-most (λ j. ltb 0 (lengthOf t j)) (from 0 n),
       length-from 0 n,
     )
+
+-- ---- the cells of a table that keeps the rules, in the order in which they lie
+
+pub in-order : {d n : ℕ} {t : Table} {js : List ℕ} → TableOk d n t → js ≡ lyingBy (startOf t) (lengthOf t) (filled t n) → InOrder n t js
+in-order {d} {n} {t} {js} ok e =
+    let start = startOf t in
+    let len = lengthOf t in
+    let size = length (t .store) in
+    let l : Lies start len n js = subst (Lies start len n) (sym e) (lying-lies start len n) in
+    record {
+      lying = e;
+      follow = lies-follow l (ok .apart);
+      ends =
+          lies-all l (λ j. ending start len j ≤ size)
+          (All-filled start len n (λ j. ending start len j ≤ size) (All-map (λ j. Placed size (start j) (len j)) (λ j. ending start len j ≤ size) (λ j p. p .0) (from 0 n) (ok .placed)));
+    }
