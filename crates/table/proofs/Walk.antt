@@ -8,7 +8,7 @@ use native.Mathlib.Omega.{arith}
 use native.Mathlib.Numerals.{add-one}
 use native.Mathlib.Nat.{min-le-right}
 use lib.ListN.{length, take, drop, getD, set, length-append, length-take, length-drop, length-set, take-append-drop, drop-of-length-le}
-use lib.Seq.{take-suc, drop-cons, take-all, take-at, split-at, length-take-le, getD-set-other}
+use lib.Seq.{take-add, take-all, take-at, getD-set-other}
 use lib.Dec.{leb, ltb, eqb}
 use borrow.Author.Tests.{ltb-true, lt-ltb, le-ltb, eq-eqb, ne-eqb}
 use Rattle.array.specs.Lists.{pick, from, passing, All}
@@ -139,9 +139,10 @@ pub record Moving (most n : ℕ) (t : Table) (js : List ℕ) (u : Table) (i to m
   pub counted : moved ≡ length (firstMoved n t js i)
   pub here : u ≡ moveAll (packedStart t n) (firstMoved n t js i) t
   pub size : length (u .store) ≡ length (t .store)
+  pub cells : length (u .starts) ≡ length (t .starts)
 
 pub moving-begins : {most n : ℕ} {t : Table} {js : List ℕ} → Moving most n t js t 0 0 0
-moving-begins = record { within = omega arith; few = omega arith; place = refl; counted = refl; here = refl; size = refl }
+moving-begins = record { within = omega arith; few = omega arith; place = refl; counted = refl; here = refl; size = refl; cells = refl }
 
 module _ {most n : ℕ} {t : Table} {js : List ℕ} {u : Table} {i to moved : ℕ} (o : InOrder n t js) (m : Moving most n t js u i to moved) where
   lies : Lies (startOf t) (lengthOf t) n js
@@ -162,24 +163,21 @@ module _ {most n : ℕ} {t : Table} {js : List ℕ} {u : Table} {i to moved : �
       ∙ take-all most (firstMoved n t js i) (omega (arith, m .counted, m .few))
 
   -- the next cell
-  module _ (h : i < length js) where
-    abbrev j : ℕ
-    j = getD js i 0
+  module _ {j : ℕ} {rest : List ℕ} (next : drop i js ≡ j ∷ rest) where
+    split : js ≡ take i js ++ j ∷ rest
+    split = sym (take-append-drop i js) ∙ ap (λ (l : List ℕ). take i js ++ l) next
 
-    split : js ≡ take i js ++ j ∷ drop (suc i) js
-    split = split-at js i 0 h
-
-    follows : Follow (startOf t) (lengthOf t) 0 (take i js ++ j ∷ drop (suc i) js)
+    follows : Follow (startOf t) (lengthOf t) 0 (take i js ++ j ∷ rest)
     follows = subst (Follow (startOf t) (lengthOf t) 0) split (o .follow)
 
-    have : All (λ k. 0 < lengthOf t k) (take i js ++ j ∷ drop (suc i) js)
+    have : All (λ k. 0 < lengthOf t k) (take i js ++ j ∷ rest)
     have = subst (All (λ k. 0 < lengthOf t k)) split (lies-some lies)
 
     packed-is : packedStart t n j ≡ to
     packed-is =
         sym (lying-bytes (startOf t) (lengthOf t) (λ k. ltb (startOf t k) (startOf t j)) (filled t n))
         ∙ ap (λ (l : List ℕ). packedAt (startOf t) (lengthOf t) l j) (sym (o .lying) ∙ split)
-        ∙ between (startOf t) (lengthOf t) (take i js) j (drop (suc i) js) follows have
+        ∙ between (startOf t) (lengthOf t) (take i js) j rest follows have
         ∙ sym (m .place)
 
     kept : startOf u j ≡ startOf t j
@@ -188,23 +186,23 @@ module _ {most n : ℕ} {t : Table} {js : List ℕ} {u : Table} {i to moved : �
         ∙ move-others (packedStart t n) (firstMoved n t js i) t j
         (All-passing (elsewhere n t) (λ k. k ≡ j → ⊥) (take i js)
         (All-map (λ k. startOf t k < startOf t j) (λ k. k ≡ j → ⊥) (λ k l e. omega (arith, ap (startOf t) e)) (take i js)
-        (follow-before (startOf t) (lengthOf t) 0 (take i js) j (drop (suc i) js) follows (All-left (λ k. 0 < lengthOf t k) (take i js) (j ∷ drop (suc i) js) have))))
+        (follow-before (startOf t) (lengthOf t) 0 (take i js) j rest follows (All-left (λ k. 0 < lengthOf t k) (take i js) (j ∷ rest) have))))
 
     pub next-below : j < n
-    next-below = All-right (λ k. k < n) (take i js) (j ∷ drop (suc i) js) (subst (All (λ k. k < n)) split (lies-below lies)) .0
+    next-below = All-right (λ k. k < n) (take i js) (j ∷ rest) (subst (All (λ k. k < n)) split (lies-below lies)) .0
 
     pub next-room : to ≤ startOf u j
-    next-room = omega (arith, kept, m .place, follow-room (startOf t) (lengthOf t) 0 (take i js) j (drop (suc i) js) follows)
+    next-room = omega (arith, kept, m .place, follow-room (startOf t) (lengthOf t) 0 (take i js) j rest follows)
 
     pub next-fits : startOf u j + lengthOf t j ≤ length (u .store)
     next-fits =
         let e : ending (startOf t) (lengthOf t) j ≤ length (t .store) =
-        All-right (λ k. ending (startOf t) (lengthOf t) k ≤ length (t .store)) (take i js) (j ∷ drop (suc i) js)
+        All-right (λ k. ending (startOf t) (lengthOf t) k ≤ length (t .store)) (take i js) (j ∷ rest)
         (subst (All (λ k. ending (startOf t) (lengthOf t) k ≤ length (t .store))) split (o .ends)) .0 in
         omega (arith, kept, m .size)
 
     one-more : take (i + 1) js ≡ take i js ++ (j ∷ [])
-    one-more = ap (λ (k : ℕ). take k js) (add-one i) ∙ take-suc js i 0 h
+    one-more = take-add i 1 js ∙ ap (λ (l : List ℕ). take i js ++ take 1 l) next
 
     place-after : to + lengthOf t j ≡ sum (map (lengthOf t) (take (i + 1) js))
     place-after =
@@ -223,12 +221,13 @@ module _ {most n : ℕ} {t : Table} {js : List ℕ} {u : Table} {i to moved : �
         ∙ ap (λ (b : Bool). firstMoved n t js i ++ pick (not b) (j ∷ []) []) (eq-eqb (startOf t j) (packedStart t n j) (omega (arith, kept, packed-is)))
         ∙ append-nil (firstMoved n t js i) in
         record {
-          within = omega arith;
+          within = omega (arith, ap length next, length-drop i js);
           few = m .few;
           place = place-after;
           counted = m .counted ∙ ap length (sym f);
           here = m .here ∙ ap (λ (l : List ℕ). moveAll (packedStart t n) l t) (sym f);
           size = m .size;
+          cells = m .cells;
         }
 
     fits : to + length (bytesOf u j) ≤ length (u .store)
@@ -243,7 +242,7 @@ module _ {most n : ℕ} {t : Table} {js : List ℕ} {u : Table} {i to moved : �
         moved-after
         ∙ ap (λ (b : Bool). firstMoved n t js i ++ pick (not b) (j ∷ []) []) (ne-eqb (startOf t j) (packedStart t n j) (λ p. e (kept ∙ p ∙ packed-is))) in
         record {
-          within = omega arith;
+          within = omega (arith, ap length next, length-drop i js);
           few = omega arith;
           place = place-after;
           counted = omega (arith, m .counted, ap length f, length-append (firstMoved n t js i) (j ∷ []));
@@ -251,7 +250,15 @@ module _ {most n : ℕ} {t : Table} {js : List ℕ} {u : Table} {i to moved : �
               ap₂ (λ (p : ℕ) (v : Table). moveTo p j v) (sym packed-is) (m .here) ∙ sym (move-append (packedStart t n) (firstMoved n t js i) (j ∷ []) t)
               ∙ ap (λ (l : List ℕ). moveAll (packedStart t n) l t) (sym f);
           size = over-at-length to (bytesOf u j) (u .store) fits ∙ m .size;
+          cells = length-set (u .starts) j to ∙ m .cells;
         }
+
+-- the same in other words
+pub moving-is : {most n : ℕ} {t : Table} {js m s l b : List ℕ} {i to moved : ℕ} → Moving most n t js (tableBy m s l b) i to moved
+    → {s′ b′ : List ℕ} {moved′ : ℕ} → s′ ≡ s → b′ ≡ b → moved′ ≡ moved → Moving most n t js (tableBy m s′ l b′) i to moved′
+moving-is {most} {n} {t} {js} {m} {s} {l} {b} {i} {to} {moved} c {s′} {b′} e f g =
+    subst (λ (r : ℕ). Moving most n t js (tableBy m s′ l b′) i to r) (sym g)
+    (subst (λ (u : Table). Moving most n t js u i to moved) (sym (ap₂ (λ (x y : List ℕ). tableBy m x l y) e f)) c)
 
 -- what it leaves in starts and store
 pub moving-leaves : {most n : ℕ} {s l b js s′ b′ : List ℕ} {i to moved : ℕ} → Moving most n (tableBy [] s l b) js (tableBy [] s′ l b′) i to moved
