@@ -1,4 +1,5 @@
 // Cells of a working table moved towards the start of its store.
+use buffer::copy;
 ghost use mathlib.Core.Path.{_≡_};
 ghost use mathlib.Core.List.{[]};
 ghost use Prim.Native.Nat.{_+_, _≤_};
@@ -7,17 +8,33 @@ ghost use Rattle.array.specs.Buffers.{overAt};
 ghost use Rattle.table.specs.Meaning.{tableBy};
 ghost use Rattle.table.specs.Walk.{InOrder, Moved};
 
-// Copies the n bytes that begin at `from` to the place `to`, which does not lie behind them. The first goes first: where the two stretches
-// overlap, each byte is read before it is written over.
+fn block() -> [u8; 256] {
+    [0; 256]
+}
+
+// Copies k bytes within the store, by way of an array of our own: all are read before the first is written, and the compiler makes one call
+// of memmove of the two copies.
+fn move_few(store: &mut [u8], to: usize, from: usize, k: usize)
+    requires { ⌜ (to + k ≤ length (now store)) × (from + k ≤ length (now store)) × (k ≤ 256) ⌝ }
+    ensures { λ _. ⌜ now (store .exit) ≡ overAt to (take k (drop from (now (store .entry)))) (now (store .entry)) ⌝ }
+{
+    let mut between = block();
+    copy::copy_bytes(&mut between, 0, store, from, k);
+    copy::copy_bytes(store, to, &between, 0, k);
+}
+
+// Copies the n bytes that begin at `from` to the place `to`, which does not lie behind them. The first block goes first: where the two
+// stretches overlap, what is written over has been read.
 pub fn move_down(store: &mut [u8], to: usize, from: usize, n: usize)
     requires { ⌜ (to ≤ from) × (from + n ≤ length (now store)) ⌝ }
     ensures { λ _. ⌜ now (store .exit) ≡ overAt to (take n (drop from (now (store .entry)))) (now (store .entry)) ⌝ }
 {
-    let mut i = 0;
-    while i < n {
-        store[to + i] = store[from + i];
-        i += 1;
+    let mut done: usize = 0;
+    while n - done > 256 {
+        move_few(store, to + done, from + done, 256);
+        done += 256;
     }
+    move_few(store, to + done, from + done, n - done);
 }
 
 // Moves the lowest-lying `most` of the cells that start elsewhere than where they are packed. The first `count` of `order` are the cells as

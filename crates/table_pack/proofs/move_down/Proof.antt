@@ -1,56 +1,73 @@
--- `table_pack::move_down` meets its contract: a copy of the bytes as they were, since none is written before it is read.
+-- `table_pack::move_down` meets its contract: a copy of the bytes as they were, since none is written over before it is read.
 -- Assumes nothing.
-use Prim.Native.Nat.{_-_}
+use Prim.Native.Nat.{_+_, _-_}
 use native.Mathlib.Omega.{arith}
 use borrow.Author.Needs.{needs}
-use Rattle.buffer.proofs.Copying.{Copying, copy-begins, copy-same, copy-ends, copy-room}
-use Rattle.table_pack.proofs.Within.{move-more}
+use Rattle.buffer.proofs.Copying.{Copying, copy-begins, copy-same, copy-ends}
+use Rattle.table_pack.proofs.Within.{part-moved}
 use Rattle.table_pack.proofs.move_down.Statement.{statement}
 use Rattle.table_pack.proofs.move_down.Tie as tie
 
 abbrev Inv-loop : tie.InvT-loop
-Inv-loop store₀ to from n i₀ store i = Copying store₀ to store₀ from n store i
+Inv-loop store₀ to from n done₀ store done = Copying store₀ to store₀ from n store done
 
 abbrev μ-loop : tie.MeasureT-loop
-μ-loop store₀ to from n i₀ store i = n - i
+μ-loop store₀ to from n done₀ store done = n - done
 
 loop-holds : tie.Need-loop-holds Inv-loop μ-loop
-loop-holds c = copy-begins (omega arith) (c .pre .1)
+loop-holds c = copy-begins (omega arith) (c .before .pre .1)
 
--- src/lib.rt:15:31
-add-store : tie.Need-add-store Inv-loop μ-loop
-add-store c = search needs
+sub-loop : tie.Need-sub-loop Inv-loop μ-loop
+sub-loop c = search needs
 
--- src/lib.rt:15:25
-slice-read-store : tie.Need-slice-read-store Inv-loop μ-loop
-slice-read-store c = omega (arith, copy-same (c .before .before .loop .inv))
+add-move-few : tie.Need-add-move-few Inv-loop μ-loop
+add-move-few c = search needs
 
--- src/lib.rt:15:15
-add-store-2 : tie.Need-add-store-2 Inv-loop μ-loop
-add-store-2 c = search needs
+add-move-few-2 : tie.Need-add-move-few-2 Inv-loop μ-loop
+add-move-few-2 c = search needs
 
-slice-write-store : tie.Need-slice-write-store Inv-loop μ-loop
-slice-write-store c = copy-room (c .before .before .loop .inv) (c .before .loop-test .taken)
+move-few-requires : tie.Need-move-few-requires Inv-loop μ-loop
+move-few-requires c κs =
+    let l = copy-same (c .before .before .loop .inv) in
+    (omega arith, omega arith, omega arith)
 
--- src/lib.rt:16:9
-add-i : tie.Need-add-i Inv-loop μ-loop
-add-i c = search needs
+add-done : tie.Need-add-done Inv-loop μ-loop
+add-done c = search needs
 
--- src/lib.rt:14:5
 loop-less : tie.Need-loop-less Inv-loop μ-loop
 loop-less c = omega arith
 
--- src/lib.rt:14:5
 loop-again : tie.Need-loop-again Inv-loop μ-loop
-loop-again c = move-more (c .before .before .loop .inv) (c .before .before .before .pre .0) (c .before .loop-test .taken)
+loop-again c =
+    let turn = c .before .before .before .before in
+    part-moved (turn .before .loop .inv) (turn .before .before .before .pre .0) 256 (omega arith) (c .before .before .move-few .ensures)
 
--- src/lib.rt:9:1
+add-move-few-3 : tie.Need-add-move-few-3 Inv-loop μ-loop
+add-move-few-3 c = search needs
+
+add-move-few-4 : tie.Need-add-move-few-4 Inv-loop μ-loop
+add-move-few-4 c = search needs
+
+sub-move-few : tie.Need-sub-move-few Inv-loop μ-loop
+sub-move-few c = search needs
+
+move-few-requires-2 : tie.Need-move-few-requires-2 Inv-loop μ-loop
+move-few-requires-2 c κs =
+    let l = copy-same (c .before .before .loop .inv) in
+    (omega (arith, c .before .before .loop .inv .within), omega (arith, c .before .before .loop .inv .within), omega arith)
+
+-- behind the last block
+last : (c : tie.After-move-few2 Inv-loop μ-loop) → let h = c .before .before .before in let a = h .before .before .args in
+    Copying (a .store .now) (a .to) (a .store .now) (a .from) (a .n) (c .move-few2 .last .0) (h .loop .done + (a .n - h .loop .done))
+last c =
+    let h = c .before .before .before in
+    part-moved (h .loop .inv) (h .before .before .pre .0) (h .before .before .args .n - h .loop .done) (omega (arith, h .loop .inv .within)) (c .move-few2 .ensures)
+
 same-length : tie.Need-same-length Inv-loop μ-loop
-same-length c = copy-same (c .before .loop .inv)
+same-length c = copy-same (last (c .before .before))
 
--- src/lib.rt:9:1
 returns : tie.Need-returns Inv-loop μ-loop
-returns c = copy-ends (c .before .loop .inv) (c .loop-test .left)
+returns c = copy-ends (last (c .before .before)) (omega arith)
 
 pub move-down-spec : {M : Type 1} → statement M
 move-down-spec =
@@ -59,12 +76,16 @@ move-down-spec =
     Inv-loop
     μ-loop
     loop-holds
-    add-store
-    slice-read-store
-    add-store-2
-    slice-write-store
-    add-i
+    sub-loop
+    add-move-few
+    add-move-few-2
+    move-few-requires
+    add-done
     loop-less
     loop-again
+    add-move-few-3
+    add-move-few-4
+    sub-move-few
+    move-few-requires-2
     same-length
     returns)
