@@ -4,5 +4,6 @@ pub mod Order
 pub mod Setting
 pub mod Calls
 pub mod Meaning
+pub mod Walk
 pub mod Lines
 pub mod Laws
