@@ -1,3 +1,4 @@
 pub mod Lines
 pub mod Filled
 pub mod Fitting
+pub mod Order
