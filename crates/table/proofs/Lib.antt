@@ -2,3 +2,4 @@ pub mod Lines
 pub mod Filled
 pub mod Fitting
 pub mod Order
+pub mod Rules
