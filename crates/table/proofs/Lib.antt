@@ -3,3 +3,5 @@ pub mod Filled
 pub mod Fitting
 pub mod Order
 pub mod Rules
+pub mod Each
+pub mod Reading
