@@ -1,31 +1,26 @@
 -- Bytes counted: of cells that pass a test, and of cells that lie below a place, which has room for them.
 -- Assumes nothing.
-use Prim.Native.Nat.{ℕ, zero, suc, _+_, _≤_, _<_, max}
+use Prim.Native.Nat.{ℕ, _+_, _≤_, _<_, max}
 use native.Mathlib.Omega.{arith}
-use mathlib.Core.Path.{_≡_, refl, sym, ap, subst, _∙_}
-use mathlib.Core.Logic.{_⊎_, inl, inr, ⊎-elim}
+use mathlib.Core.Path.{_≡_, refl, sym}
+use mathlib.Core.Logic.{_⊎_, inl, inr}
 use mathlib.Core.Bool.{Bool, true, false, false≢true}
 use mathlib.Core.List.{List, [], _∷_, map}
-use lib.Dec.{leb, ltb, eqb}
-use borrow.Author.Tests.{lt-ltb, le-ltb, ltb-true, ltb-false, leb-true, leb-false}
-use Rattle.array.specs.Lists.{pick, passing, All}
+use lib.Dec.{leb, ltb}
+use borrow.Author.Tests.{lt-ltb, le-ltb, ltb-true, ltb-false}
+use Rattle.array.specs.Lists.{pick, passing, All, count}
 use Rattle.array.specs.Places.{sum}
-use Rattle.array.proofs.Lists.{All-map}
-use Rattle.array.proofs.Geometry.{passing-cong}
-use Rattle.table.specs.Table.{ending, filledBy, Clear, Apart}
-use Rattle.table.specs.Lying.{putAmong, lyingBy, packedAt}
+use Rattle.array.proofs.Geometry.{passing-all}
+use Rattle.table.specs.Table.{ending, filledBy, Apart}
+use Rattle.table.specs.Lying.{putAmong, lyingBy, packedAt, topBy}
 use Rattle.table.specs.Order.{Follow}
-use Rattle.table.proofs.Filled.{Full, all-filled, filled-at, Parted, parted}
+use Rattle.table.proofs.Order.{same-or-not, count-other, lying-lies, lies-all, lies-follow}
+use Rattle.table.proofs.Filled.{Full, all-full, full-all, full-some, parted}
 
 -- ---- bytes of the cells that pass
 
 abbrev pub bytesBy : (ℕ → ℕ) → (ℕ → Bool) → List ℕ → ℕ
 bytesBy len f js = sum (map len (passing f js))
-
--- a number that stands in the list
-abbrev pub Within : ℕ → List ℕ → Type 0
-Within i [] = ⊥
-Within i (x ∷ xs) = (x ≡ i) ⊎ Within i xs
 
 module _ (len : ℕ → ℕ) where
   pub bytes-next : (f : ℕ → Bool) (x : ℕ) (xs : List ℕ) → bytesBy len f (x ∷ xs) ≡ pick (f x) (len x) 0 + bytesBy len f xs
@@ -35,32 +30,35 @@ module _ (len : ℕ → ℕ) where
       go true = refl
       go false = omega arith
 
-  pick-le : (f g : ℕ → Bool) → ((m : ℕ) → f m ≡ true → g m ≡ true) → (x : ℕ) → pick (f x) (len x) 0 ≤ pick (g x) (len x) 0
-  pick-le f g h x = go (f x) (g x) (h x)
-    where
-      go : (b c : Bool) → (b ≡ true → c ≡ true) → pick b (len x) 0 ≤ pick c (len x) 0
-      go true true e = omega arith
-      go true false e = absurd (false≢true (e refl))
-      go false c e = omega arith
+  module _ (f g : ℕ → Bool) (h : (m : ℕ) → f m ≡ true → g m ≡ true) where
+    pick-le : (x : ℕ) → pick (f x) (len x) 0 ≤ pick (g x) (len x) 0
+    pick-le x = go (f x) (g x) (h x)
+      where
+        go : (b c : Bool) → (b ≡ true → c ≡ true) → pick b (len x) 0 ≤ pick c (len x) 0
+        go true true e = omega arith
+        go true false e = absurd (false≢true (e refl))
+        go false c e = omega arith
 
-  pub bytes-le : (f g : ℕ → Bool) → ((m : ℕ) → f m ≡ true → g m ≡ true) → (js : List ℕ) → bytesBy len f js ≤ bytesBy len g js
-  bytes-le f g h [] = omega arith
-  bytes-le f g h (x ∷ xs) = omega (arith, bytes-next f x xs, bytes-next g x xs, pick-le f g h x, bytes-le f g h xs)
+    pub bytes-le : (js : List ℕ) → bytesBy len f js ≤ bytesBy len g js
+    bytes-le [] = omega arith
+    bytes-le (x ∷ xs) = omega (arith, bytes-next f x xs, bytes-next g x xs, pick-le x, bytes-le xs)
 
-  -- a cell that passes the wider test alone
-  pub bytes-more : (f g : ℕ → Bool) → ((m : ℕ) → f m ≡ true → g m ≡ true) → (i : ℕ) → f i ≡ false → g i ≡ true → (js : List ℕ) → Within i js
-      → bytesBy len f js + len i ≤ bytesBy len g js
-  bytes-more f g h i out in′ [] w = absurd w
-  bytes-more f g h i out in′ (x ∷ xs) (inl e) =
-      let p : pick (f x) (len x) 0 ≡ 0 = rw (e, out) in
-      let q : pick (g x) (len x) 0 ≡ len i = rw (e, in′) in
-      omega (arith, bytes-next f x xs, bytes-next g x xs, bytes-le f g h xs)
-  bytes-more f g h i out in′ (x ∷ xs) (inr w) = omega (arith, bytes-next f x xs, bytes-next g x xs, pick-le f g h x, bytes-more f g h i out in′ xs w)
-
--- ---- cells put in the order in which they lie
+    -- with a cell that passes the wider test alone
+    pub bytes-more : (i : ℕ) → f i ≡ false → g i ≡ true → (js : List ℕ) → 1 ≤ count i js → bytesBy len f js + len i ≤ bytesBy len g js
+    bytes-more i out within [] c = absurd (omega arith)
+    bytes-more i out within (x ∷ xs) c = go (same-or-not i x) (bytes-more i out within xs)
+      where
+        go : (i ≡ x) ⊎ (i ≡ x → ⊥) → (1 ≤ count i xs → bytesBy len f xs + len i ≤ bytesBy len g xs)
+            → bytesBy len f (x ∷ xs) + len i ≤ bytesBy len g (x ∷ xs)
+        go (inl e) next =
+            let p : pick (f x) (len x) 0 ≡ 0 = rw (← e, out) in
+            let q : pick (g x) (len x) 0 ≡ len i = rw (← e, within) in
+            omega (arith, bytes-next f x xs, bytes-next g x xs, bytes-le xs)
+        go (inr e) next = omega (arith, bytes-next f x xs, bytes-next g x xs, pick-le x, next (omega (arith, count-other i x xs e)))
 
 module _ (start len : ℕ → ℕ) where
-  pub bytes-put : (f : ℕ → Bool) (j : ℕ) (js : List ℕ) → bytesBy len f (putAmong start len j js) ≡ bytesBy len f (j ∷ js)
+  -- in the order in which they lie
+  bytes-put : (f : ℕ → Bool) (j : ℕ) (js : List ℕ) → bytesBy len f (putAmong start len j js) ≡ bytesBy len f (j ∷ js)
   bytes-put f j [] = refl
   bytes-put f j (i ∷ is) = go (leb (start j) (start i)) (bytes-put f j is)
     where
@@ -73,52 +71,9 @@ module _ (start len : ℕ → ℕ) where
   bytes-lying f [] = refl
   bytes-lying f (j ∷ js) = omega (arith, bytes-put f j (lyingBy start len js), bytes-next len f j js, bytes-next len f j (lyingBy start len js), bytes-lying f js)
 
-  -- a rule for every one of them
-  pub all-put : (P : ℕ → Type 0) (j : ℕ) (js : List ℕ) → P j → All P js → All P (putAmong start len j js)
-  all-put P j [] p q = (p, tt)
-  all-put P j (i ∷ is) p q = go (leb (start j) (start i)) (all-put P j is p (q .1))
-    where
-      go : (b : Bool) → All P (putAmong start len j is) → All P (pick b (j ∷ i ∷ is) (i ∷ putAmong start len j is))
-      go true r = (p, q)
-      go false r = (q .0, r)
+  -- ---- a place that none of the cells crosses has room for those below it
 
-  pub all-lying : (P : ℕ → Type 0) (js : List ℕ) → All P js → All P (lyingBy start len js)
-  all-lying P [] p = tt
-  all-lying P (j ∷ js) p = all-put P j (lyingBy start len js) (p .0) (all-lying P js (p .1))
-
-  pub put-all : (P : ℕ → Type 0) (j : ℕ) (js : List ℕ) → All P (putAmong start len j js) → P j × All P js
-  put-all P j [] q = q
-  put-all P j (i ∷ is) q = go (leb (start j) (start i)) q (put-all P j is)
-    where
-      go : (b : Bool) → All P (pick b (j ∷ i ∷ is) (i ∷ putAmong start len j is)) → (All P (putAmong start len j is) → P j × All P is) → P j × All P (i ∷ is)
-      go true q f = (q .0, q .1)
-      go false q f = (f (q .1) .0, (q .0, f (q .1) .1))
-
-  pub lying-all : (P : ℕ → Type 0) (js : List ℕ) → All P (lyingBy start len js) → All P js
-  lying-all P [] q = tt
-  lying-all P (j ∷ js) q = let r : P j × All P (lyingBy start len js) = put-all P j (lyingBy start len js) q in (r .0, lying-all P js (r .1))
-
-  -- cells that lie apart, each behind the one before it
-  pub follow-put : (at j : ℕ) → at ≤ start j → (js : List ℕ) → All (Clear start len j) js → All (λ i. 0 < len i) js → 0 < len j → Follow start len at js
-      → Follow start len at (putAmong start len j js)
-  follow-put at j h [] c p q f = (h, tt)
-  follow-put at j h (i ∷ is) c p q f = go (leb (start j) (start i)) refl (c .0) (λ l. follow-put (ending start len i) j l is (c .1) (p .1) q (f .1))
-    where
-      go : (b : Bool) → leb (start j) (start i) ≡ b → Clear start len j i → (ending start len i ≤ start j → Follow start len (ending start len i) (putAmong start len j is))
-          → Follow start len at (pick b (j ∷ i ∷ is) (i ∷ putAmong start len j is))
-      go true e (inl l) next = (h, (l, f .1))
-      go true e (inr l) next = absurd (omega (arith, leb-true (start j) (start i) e, p .0))
-      go false e (inl l) next = absurd (omega (arith, leb-false (start j) (start i) e))
-      go false e (inr l) next = (f .0, next l)
-
-  pub follow-lying : (js : List ℕ) → Apart start len js → All (λ i. 0 < len i) js → Follow start len 0 (lyingBy start len js)
-  follow-lying [] p q = tt
-  follow-lying (j ∷ js) p q =
-      follow-put 0 j (omega arith) (lyingBy start len js) (all-lying (Clear start len j) js (p .0)) (all-lying (λ i. 0 < len i) js (q .1)) (q .0) (follow-lying js (p .1) (q .1))
-
-  -- ---- cells below a place that none of them crosses: it has room for them
-
-  pub follow-fits : (x at : ℕ) (js : List ℕ) → Follow start len at js → All (λ i. start i < x → ending start len i ≤ x) js
+  follow-fits : (x at : ℕ) (js : List ℕ) → Follow start len at js → All (λ i. start i < x → ending start len i ≤ x) js
       → at + bytesBy len (λ i. ltb (start i) x) js ≤ max at x
   follow-fits x at [] f p = omega arith
   follow-fits x at (j ∷ js) f p = go (ltb (start j) x) refl (follow-fits x (ending start len j) js (f .1) (p .1))
@@ -131,3 +86,31 @@ module _ (start len : ℕ → ℕ) where
       go false e r =
           let w : pick (ltb (start j) x) (len j) 0 ≡ 0 = rw e in
           omega (arith, bytes-next len (λ i. ltb (start i) x) j js, ltb-false (start j) x e)
+
+module _ (start len : ℕ → ℕ) (n : ℕ) where
+  abbrev cells : List ℕ
+  cells = filledBy start len n
+
+  -- the packed start of a cell is at or behind the packed end of one that lies lower
+  pub packed-rises : (i j : ℕ) → Full len n i → start i < start j → packedAt start len cells i + len i ≤ packedAt start len cells j
+  packed-rises i j a h =
+      bytes-more len (λ m. ltb (start m) (start i)) (λ m. ltb (start m) (start j))
+      (λ m t. lt-ltb (start m) (start j) (omega (arith, ltb-true (start m) (start i) t)))
+      i (le-ltb (start i) (start i) (omega arith)) (lt-ltb (start i) (start j) h) cells (full-some start len n i a)
+
+  -- and all cells have room behind it
+  pub packed-within : (i : ℕ) → Full len n i → packedAt start len cells i + len i ≤ sum (map len cells)
+  packed-within i a =
+      let whole : bytesBy len (λ m. true) cells ≡ sum (map len cells) = rw (passing-all (λ m. true) cells (all-full start len n (λ m. true ≡ true) (λ m b. refl))) in
+      omega (arith, bytes-more len (λ m. ltb (start m) (start i)) (λ m. true) (λ m t. refl) i (le-ltb (start i) (start i) (omega arith)) refl cells (full-some start len n i a))
+
+  module _ (p : Apart start len cells) where
+    pub bytes-fit : (x : ℕ) → ((i : ℕ) → Full len n i → start i < x → ending start len i ≤ x) → bytesBy len (λ i. ltb (start i) x) cells ≤ x
+    bytes-fit x h =
+        let lies = lying-lies start len n in
+        let below : All (λ i. start i < x → ending start len i ≤ x) (lyingBy start len cells) =
+        lies-all lies (λ i. start i < x → ending start len i ≤ x) (all-full start len n (λ i. start i < x → ending start len i ≤ x) h) in
+        omega (arith, bytes-lying start len (λ i. ltb (start i) x) cells, follow-fits start len x 0 (lyingBy start len cells) (lies-follow lies p) below)
+
+    pub packed-low : (j : ℕ) → Full len n j → packedAt start len cells j ≤ start j
+    packed-low j b = bytes-fit (start j) (λ i a h. parted start len n p .lower i j a b h)
