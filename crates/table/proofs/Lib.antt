@@ -5,3 +5,4 @@ pub mod Order
 pub mod Rules
 pub mod Each
 pub mod Reading
+pub mod Shifting
