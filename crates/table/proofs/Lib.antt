@@ -6,3 +6,4 @@ pub mod Rules
 pub mod Each
 pub mod Reading
 pub mod Shifting
+pub mod Moving
