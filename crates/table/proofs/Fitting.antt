@@ -2,7 +2,7 @@
 -- Assumes nothing.
 use Prim.Native.Nat.{ℕ, _+_, _≤_, _<_, max}
 use native.Mathlib.Omega.{arith}
-use mathlib.Core.Path.{_≡_, refl, sym}
+use mathlib.Core.Path.{_≡_, refl}
 use mathlib.Core.Logic.{_⊎_, inl, inr}
 use mathlib.Core.Bool.{Bool, true, false, false≢true}
 use mathlib.Core.List.{List, [], _∷_, map}
@@ -12,10 +12,10 @@ use Rattle.array.specs.Lists.{pick, passing, All, count}
 use Rattle.array.specs.Places.{sum}
 use Rattle.array.proofs.Geometry.{passing-all}
 use Rattle.table.specs.Table.{ending, filledBy, Apart}
-use Rattle.table.specs.Lying.{putAmong, lyingBy, packedAt, topBy}
+use Rattle.table.specs.Lying.{putAmong, lyingBy, packedAt}
 use Rattle.table.specs.Order.{Follow}
 use Rattle.table.proofs.Order.{same-or-not, count-other, lying-lies, lies-all, lies-follow}
-use Rattle.table.proofs.Filled.{Full, all-full, full-all, full-some, parted}
+use Rattle.table.proofs.Filled.{Full, all-full, full-some, parted}
 
 -- ---- bytes of the cells that pass
 

@@ -7,3 +7,4 @@ pub mod Each
 pub mod Reading
 pub mod Shifting
 pub mod Moving
+pub mod Packing

@@ -1,25 +1,24 @@
 -- Cells moved to their packed starts, the lowest-lying first: each keeps its bytes, the table its rules, and the others are left to move.
 -- Assumes nothing.
-use Prim.Native.Nat.{ℕ, zero, suc, _+_, _-_, _≤_, _<_}
+use Prim.Native.Nat.{ℕ, _+_, _-_, _≤_, _<_}
 use native.Mathlib.Omega.{arith}
-use mathlib.Core.Path.{_≡_, refl, sym, ap, ap₂, subst, _∙_}
+use mathlib.Core.Path.{_≡_, refl, sym, ap, subst, _∙_}
 use mathlib.Core.Logic.{_⊎_, inl, inr}
-use mathlib.Core.Bool.{Bool, true, false, not}
-use mathlib.Core.List.{List, [], _∷_, _++_, append-assoc}
-use lib.ListN.{length, getD, take, drop, set, length-append, length-set}
+use mathlib.Core.Bool.{Bool, true, false}
+use mathlib.Core.List.{List, _∷_, _++_, append-assoc}
+use lib.ListN.{length, take, drop, length-append, length-set}
 use lib.Seq.{take-at, drop-at, length-take-le, drop-append-add, drop-drop, getD-set-same, getD-set-other}
-use lib.Dec.{ltb, eqb}
+use lib.Dec.{ltb}
 use lib.Arith.{lt-of-le-ne}
 use borrow.Author.Tests.{lt-ltb, ltb-true, ltb-false}
-use Rattle.array.specs.Lists.{from, passing, All}
 use Rattle.array.specs.Buffers.{overAt}
 use Rattle.array.proofs.Lists.{take-within}
 use Rattle.array.proofs.Over.{over-at-length}
-use Rattle.table.specs.Table.{Table, startOf, lengthOf, bytesOf, OrZero, Placed, ending, filled, TableOk}
-use Rattle.table.specs.Lying.{packedAt, packedStart, displaced, moveTo, moveAll}
-use Rattle.table.proofs.Order.{same-or-not, All-passing, lying-lies, lies-all}
+use Rattle.table.specs.Table.{Table, startOf, lengthOf, bytesOf, OrZero, Placed, TableOk}
+use Rattle.table.specs.Lying.{packedStart, displaced, moveTo}
+use Rattle.table.proofs.Order.{same-or-not}
 use Rattle.table.proofs.Each.{all-below, cell-placed, bytes-long}
-use Rattle.table.proofs.Filled.{Full, all-full, parted}
+use Rattle.table.proofs.Filled.{Full, parted}
 use Rattle.table.proofs.Fitting.{packed-low}
 use Rattle.table.proofs.Shifting.{first-full, under, shifted-apart, shifted-packed, shifted-left}
 

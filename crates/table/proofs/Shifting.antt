@@ -1,6 +1,6 @@
 -- The first of the cells that start elsewhere, put at its packed start: the cells lie in the order they had, apart, and the others are left to move.
 -- Assumes nothing.
-use Prim.Native.Nat.{ℕ, suc, _+_, _≤_, _<_}
+use Prim.Native.Nat.{ℕ, _≤_, _<_}
 use native.Mathlib.Omega.{arith}
 use mathlib.Core.Path.{_≡_, refl, sym, ap, ap₂, _∙_}
 use mathlib.Core.Logic.{_⊎_, inl, inr, ⊎-elim}
@@ -13,7 +13,7 @@ use Rattle.array.specs.Lists.{pick, passing, All, count}
 use Rattle.array.specs.Places.{sum}
 use Rattle.array.proofs.Lists.{All-map}
 use Rattle.array.proofs.Geometry.{passing-cong}
-use Rattle.table.specs.Table.{ending, filledBy, Clear, Apart}
+use Rattle.table.specs.Table.{ending, filledBy, Apart}
 use Rattle.table.specs.Lying.{putAmong, lyingBy, packedAt, displacedBy}
 use Rattle.table.specs.Order.{Follow}
 use Rattle.table.proofs.Order.{same-or-not, count-here, count-more, count-All, All-same, follow-above, lying-lies, lies-all, lies-follow, lies-some}
@@ -51,7 +51,10 @@ module _ (start len : ℕ → ℕ) (f : ℕ → Bool) (j : ℕ) (rest : List ℕ
           let others : passing f is ≡ rest = cc in
           record {
             here = omega (arith, count-here j is, ap (λ (x : ℕ). count j (x ∷ is)) same);
-            below = ((λ h. absurd (omega (arith, ap start same))), All-map (λ k. ending start len i ≤ start k) (λ k. start k < start j → f k ≡ false) (λ k l h. absurd (omega (arith, ap start same))) is above);
+            below = (
+              (λ h. absurd (omega (arith, ap start same))),
+              All-map (λ k. ending start len i ≤ start k) (λ k. start k < start j → f k ≡ false) (λ k l h. absurd (omega (arith, ap start same))) is above,
+            );
             without = λ g z a.
                 fails g (ap g same ∙ z)
                 (passing-cong g f is
