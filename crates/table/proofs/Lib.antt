@@ -8,3 +8,4 @@ pub mod Reading
 pub mod Shifting
 pub mod Moving
 pub mod Packing
+pub mod Refusals
