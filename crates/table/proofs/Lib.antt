@@ -1,3 +1,12 @@
 pub mod Lines
+pub mod Filled
+pub mod Fitting
 pub mod Order
 pub mod Walk
+pub mod Rules
+pub mod Each
+pub mod Reading
+pub mod Shifting
+pub mod Moving
+pub mod Packing
+pub mod Refusals

@@ -7,3 +7,4 @@ pub mod Meaning
 pub mod Walk
 pub mod Lines
 pub mod Laws
+pub mod Refusals
