@@ -29,7 +29,7 @@ use Rattle.table.specs.Laws.{Working, ReadLaw, Reads}
 use Rattle.table.proofs.Each.{all-below, bytes-long, cell-rests, cell-strict, lengths-are}
 
 -- any list of ragged values has the form's size
-ragged-sized : (f : Form) → IsRagged f → (vs : List Value) → SizedAs f vs
+pub ragged-sized : (f : Form) → IsRagged f → (vs : List Value) → SizedAs f vs
 ragged-sized (fixed k o) r vs = absurd r
 ragged-sized (ragged w p) r vs = All-of (OfSize (ragged w p)) (λ v. tt) vs
 
