@@ -1,4 +1,5 @@
 pub mod Lines
+pub mod Rules
 pub mod Each
 pub mod Reading
 pub mod Making
