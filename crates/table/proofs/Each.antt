@@ -1,23 +1,22 @@
 -- The rules for a working table (docs/SPEC.md, S13.3, S13.4) cell by cell, and its cells as cells in rest form.
 -- Assumes nothing.
 use mathlib.Core.Path.{_≡_, refl, sym, ap, ap₂, _∙_, subst}
-use mathlib.Core.Logic.{_⊎_}
 use Prim.Native.Nat.{ℕ, zero, suc, _+_, _*_, _≤_, _<_}
 use native.Mathlib.Omega.{arith}
 use mathlib.Core.Bool.{Bool, true, false, false≢true}
 use mathlib.Core.List.{List, [], _∷_, map}
-use lib.ListN.{length, getD, take, drop, length-drop}
+use lib.ListN.{length, drop, length-drop}
 use lib.Seq.{length-take-le}
 use lib.Dec.{ltb, eqb}
 use lib.Arith.{lt-of-le-ne}
 use borrow.Author.Tests.{lt-ltb, ltb-true, ltb-false, eqb-true, eqb-false}
 use Rattle.array.specs.Lists.{from, pick, passing, All}
 use Rattle.array.specs.Cells.{Value, Cell, Strict, leaf, rest}
-use Rattle.array.specs.Places.{maskAt, shownBy, cellBy, sum}
+use Rattle.array.specs.Places.{maskAt, shownBy, cellBy}
 use Rattle.array.proofs.Lists.{All-getD, in-place}
 use Rattle.array.proofs.Geometry.{All-from}
 use Rattle.array.proofs.RestLaws.{StrictCell, leaf-by, rest-by}
-use Rattle.table.specs.Table.{Table, startOf, lengthOf, bytesOf, cellOf, OrZero, RestMasks, RestBy, Placed, ending, filledBy, Clear, Apart, TableOk}
+use Rattle.table.specs.Table.{Table, startOf, lengthOf, bytesOf, cellOf, OrZero, RestMasks, RestBy, Placed, filledBy, Clear, Apart, TableOk}
 
 -- ---- a rule for every number of a run, and for those that pass a test
 

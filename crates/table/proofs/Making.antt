@@ -1,23 +1,23 @@
 -- A valid array made a table (specs/Laws, Makes): a working table, packed in cell order, and read out it is the array's rest form.
 -- Assumes nothing.
 use mathlib.Core.Path.{_≡_, refl, sym, ap, ap₂, _∙_, subst}
-use mathlib.Core.Logic.{_⊎_, inl, inr}
+use mathlib.Core.Logic.{inl}
 use Prim.Native.Nat.{ℕ, zero, suc, _+_, _-_, _*_, _≤_, _<_}
 use native.Mathlib.Nat.{zero-add, le-of-eq}
 use native.Mathlib.Omega.{arith}
 use mathlib.Core.Bool.{Bool, true, false, not}
-use mathlib.Core.List.{List, [], _∷_, _++_, map}
+use mathlib.Core.List.{List, [], _∷_, map}
 use lib.ListN.{length, getD, take, drop, length-map, length-drop}
 use lib.Seq.{take-append-le, drop-append-le}
-use lib.Dec.{leb, ltb, eqb}
-use borrow.Author.Tests.{lt-ltb, le-ltb, ltb-true, ltb-false, leb-true, eq-eqb}
+use lib.Dec.{ltb, eqb}
+use borrow.Author.Tests.{lt-ltb, le-ltb, ltb-true, ltb-false, eq-eqb}
 use Rattle.array.specs.Answer.{Answer, gives, mapAnswer}
 use Rattle.array.specs.Limits.{mostBytes}
-use Rattle.array.specs.Lists.{from, pick, passing, All}
+use Rattle.array.specs.Lists.{from, pick, passing}
 use Rattle.array.specs.Kind.{Kind, Form, fixed, ragged, nullOf}
 use Rattle.array.specs.Cells.{Value, Cell, blank, rest}
 use Rattle.array.specs.Offsets.{Rising, last}
-use Rattle.array.specs.Content.{Content, ValuesOk, ContentOk, ArrayOk, leaves, layout, cellsOf, restForm}
+use Rattle.array.specs.Content.{Content, ValuesOk, ArrayOk, leaves, layout, cellsOf, restForm}
 use Rattle.array.specs.Buffers.{over, lengthsOf, Enough, contentOutcome}
 use Rattle.array.specs.Places.{offsetAt, Rises, stepAt, valueAt, valueIn, maskAt, cellBy, cellAt, sum}
 use Rattle.array.proofs.Answers.{pass}
@@ -33,13 +33,15 @@ use Rattle.array.proofs.RestLaws.{StrictCell, strict-rest, rest-blank, rest-aga
 use Rattle.array.proofs.Rules.{rest-passes}
 use Rattle.array.proofs.Sums.{sumOf}
 use Rattle.codec.specs.Interleaved.{IsRagged}
-use Rattle.table.specs.Table.{Table, startOf, lengthOf, bytesOf, cellOf, OrZero, RestBy, Placed, ending, filledBy, filled, Clear, TableOk, TableKind, tableKindTest, CountOk, countTest, storeTest, mostStore}
-use Rattle.table.specs.Lying.{putAmong, lyingBy, packedAt, displacedBy, displaced}
-use Rattle.table.specs.Calls.{startsAt, tableOf, tableLengths, tableOver, tableAfter, TableLengths, TableEnough, tableEnoughTest, makeAnswer, made, contentOf, readOut}
-use Rattle.table.specs.Laws.{Working, tableIn, MakeLaw, Makes, Reads}
+use Rattle.table.specs.Table.{Table, startOf, lengthOf, bytesOf, cellOf, OrZero, RestBy, Placed, filled, TableOk, TableKind, CountOk, mostStore}
+use Rattle.table.specs.Lying.{lyingBy, packedAt, displaced}
+use Rattle.table.specs.Calls.{startsAt, tableOf, tableLengths, tableAfter, TableLengths, TableEnough, makeAnswer, made, contentOf, readOut}
+use Rattle.table.specs.Laws.{Working, tableIn, MakeLaw, Makes}
 use Rattle.array.proofs.Sizes.{SizedAs}
-use Rattle.table.proofs.Reading.{ragged-sized}
-use Rattle.table.proofs.Each.{below-all, all-below, to-passing, all-apart, rests-by}
+use Rattle.table.proofs.Rules.{table-kind-test, count-test, store-test, table-enough-test}
+use Rattle.table.proofs.Order.{lying-lies, lies-all}
+use Rattle.table.proofs.Reading.{ragged-sized, reads}
+use Rattle.table.proofs.Each.{all-below, to-passing, all-apart, rests-by}
 
 -- ---- sums over those that pass a test
 
@@ -55,28 +57,6 @@ sum-passing f t (j ∷ js) = go (t j) (sum-passing f t js)
 sum-none : (f : ℕ → ℕ) (a n : ℕ) → ((i : ℕ) → a ≤ i → i < a + n → f i ≡ 0) → sumOf f (from a n) ≡ 0
 sum-none f a zero e = refl
 sum-none f a (suc n) e = omega (arith, e a (omega arith) (omega arith), sum-none f (suc a) n (λ i l h. e i (omega arith) (omega arith)))
-
--- ---- cells that start where they belong: none is displaced
-
-module _ (start len : ℕ → ℕ) where
-  all-among : (P : ℕ → Type 0) (j : ℕ) (js : List ℕ) → P j → All P js → All P (putAmong start len j js)
-  all-among P j [] q p = (q, tt)
-  all-among P j (i ∷ is) q p = go (leb (start j) (start i)) (all-among P j is q (p .1))
-    where
-      go : (b : Bool) → All P (putAmong start len j is) → All P (pick b (j ∷ i ∷ is) (i ∷ putAmong start len j is))
-      go true r = (q, p)
-      go false r = (p .0, r)
-
-  all-lying : (P : ℕ → Type 0) (js : List ℕ) → All P js → All P (lyingBy start len js)
-  all-lying P [] p = tt
-  all-lying P (j ∷ js) p = all-among P j (lyingBy start len js) (p .0) (all-lying P js (p .1))
-
-  none-displaced : (js : List ℕ) → All (λ j. start j ≡ packedAt start len js j) js → displacedBy start len js ≡ []
-  none-displaced js p =
-      passing-none (λ j. not (eqb (start j) (packedAt start len js j))) (lyingBy start len js)
-      (all-lying (λ j. not (eqb (start j) (packedAt start len js j)) ≡ false) js
-      (All-map (λ j. start j ≡ packedAt start len js j) (λ j. not (eqb (start j) (packedAt start len js j)) ≡ false)
-      (λ j e. ap not (eq-eqb (start j) (packedAt start len js j) e)) js p))
 
 -- ---- ragged values that lie end to end
 
@@ -218,12 +198,15 @@ module _ {k : Kind} {n : ℕ} {r : Content} (kind : TableKind k) (ok : ArrayOk k
       ∙ ap sum (map-from (λ i. pick (ltb 0 (lengthOf laid i)) (pick (ltb (startOf laid i) (startOf laid j)) (lengthOf laid i) 0) 0) (lower j) 0 n (λ i l. counts j i h (omega arith) p))
       ∙ lower-total j h)
 
+  abbrev elsewhere : ℕ → Bool
+  elsewhere j = not (eqb (startOf laid j) (packedAt (startOf laid) (lengthOf laid) (filled laid n) j))
+
   laid-packed : displaced laid n ≡ []
   laid-packed =
-      none-displaced (startOf laid) (lengthOf laid) (filled laid n)
-      (to-passing (λ j. startOf laid j ≡ packedAt (startOf laid) (lengthOf laid) (filled laid n) j) (λ j. ltb 0 (lengthOf laid j)) (from 0 n)
-      (all-below (λ j. ltb 0 (lengthOf laid j) ≡ true → startOf laid j ≡ packedAt (startOf laid) (lengthOf laid) (filled laid n) j) n
-      (λ j h e. start-packed j h (ltb-true 0 (lengthOf laid j) e))))
+      passing-none elsewhere (lyingBy (startOf laid) (lengthOf laid) (filled laid n))
+      (lies-all (lying-lies (startOf laid) (lengthOf laid) n) (λ j. elsewhere j ≡ false)
+      (to-passing (λ j. elsewhere j ≡ false) (λ j. ltb 0 (lengthOf laid j)) (from 0 n)
+      (all-below (λ j. ltb 0 (lengthOf laid j) ≡ true → elsewhere j ≡ false) n (λ j h e. ap not (eq-eqb _ _ (start-packed j h (ltb-true 0 (lengthOf laid j) e)))))))
 
   -- read out it is the array
   laid-read : contentOf k n laid ≡ r
@@ -277,58 +260,56 @@ module _ {k : Kind} {n : ℕ} {c : Content} (kind : TableKind k) (ok : ArrayOk k
       subst Rests (ap (λ (xs : List (Cell (k .depth))). getD xs j (blank [] (k .depth))) (sym (cells-layout k n cells counted sized)) ∙ cell-is (rest-ok .fits) (blank [] (k .depth)) j h)
       (All-getD Rests (blank [] (k .depth)) (rest-blank [] (k .depth)) cells (All-image Rests resting (cellsOf k n c) (All-of (λ x. Rests (resting x)) each (cellsOf k n c))) j)
 
-module _ (table-enough-test : (t : Table) (r : TableLengths) → TableEnough t r → tableEnoughTest t r ≡ true) (kind-test : (k : Kind) → TableKind k → tableKindTest k ≡ true)
-    (count-test : (n : ℕ) → CountOk n → countTest n ≡ true) (store-test : (t : Table) → length (t .store) ≤ mostStore → storeTest t ≡ true) (reads : Reads) where
-  module _ (k : Kind) (n : ℕ) (c : Content) (out : Table) (kind : TableKind k) (count : CountOk n) (ok : ArrayOk k n c) (few : length (c .values) ≤ mostBytes)
-      (small : length (out .store) ≤ mostStore) (room : TableEnough (tableOf n (restForm k n c)) (tableLengths out)) where
-    abbrev r : Content
-    r = restForm k n c
+module _ (k : Kind) (n : ℕ) (c : Content) (out : Table) (kind : TableKind k) (count : CountOk n) (ok : ArrayOk k n c) (few : length (c .values) ≤ mostBytes)
+    (small : length (out .store) ≤ mostStore) (room : TableEnough (tableOf n (restForm k n c)) (tableLengths out)) where
+  abbrev r : Content
+  r = restForm k n c
 
-    abbrev given-up-to : TableLengths
-    given-up-to = tableLengths (tableOf n r)
+  abbrev given-up-to : TableLengths
+  given-up-to = tableLengths (tableOf n r)
 
-    abbrev t : Table
-    t = laidTable n r (out .store)
+  abbrev t : Table
+  t = laidTable n r (out .store)
 
-    valid : ArrayOk k n r
-    valid = rest-ok kind ok few
+  valid : ArrayOk k n r
+  valid = rest-ok kind ok few
 
-    rests : (j : ℕ) → j < n → rest [] (k .depth) (cellAt k n r j) ≡ cellAt k n r j
-    rests = rest-rests kind ok few
+  rests : (j : ℕ) → j < n → rest [] (k .depth) (cellAt k n r j) ≡ cellAt k n r j
+  rests = rest-rests kind ok few
 
-    answer : makeAnswer k n c out ≡ gives (tableOf n r)
-    unfolding makeAnswer
-    answer =
-        pass 1 (kind-test k kind) (pass 2 (count-test n count) (rest-passes k n c ok few (pass 5 (store-test out small)
-        (pass 6 (table-enough-test (tableOf n r) (tableLengths out) room) refl))))
+  answer : makeAnswer k n c out ≡ gives (tableOf n r)
+  unfolding makeAnswer
+  answer =
+      pass 1 (table-kind-test k kind) (pass 2 (count-test n count) (rest-passes k n c ok few (pass 5 (store-test out small)
+      (pass 6 (table-enough-test (tableOf n r) (tableLengths out) room) refl))))
 
-    left : tableIn given-up-to (made k n c out .buffers) ≡ t
-    unfolding made
-    left =
-        ap (λ (a : Answer Table). tableIn given-up-to (tableAfter a out)) answer
-        ∙ table-path (take-over (r .masks) (out .masks)) (take-over (tableOf n r .starts) (out .starts)) (take-over (tableOf n r .lengths) (out .lengths)) refl
+  left : tableIn given-up-to (made k n c out .buffers) ≡ t
+  unfolding made
+  left =
+      ap (λ (a : Answer Table). tableIn given-up-to (tableAfter a out)) answer
+      ∙ table-path (take-over (r .masks) (out .masks)) (take-over (tableOf n r .starts) (out .starts)) (take-over (tableOf n r .lengths) (out .lengths)) refl
 
-    read : contentOf k n t ≡ r
-    read = laid-read kind valid rests (out .store) (room .for-store)
+  read : contentOf k n t ≡ r
+  read = laid-read kind valid rests (out .store) (room .for-store)
 
-    working : Working k n t
-    working = record {
-      kind = kind;
-      count = count;
-      sound = laid-ok kind valid rests (out .store) (room .for-store);
-      small = omega (arith, store-long kind valid rests (out .store) (room .for-store), small);
-    }
+  working : Working k n t
+  working = record {
+    kind = kind;
+    count = count;
+    sound = laid-ok kind valid rests (out .store) (room .for-store);
+    small = omega (arith, store-long kind valid rests (out .store) (room .for-store), small);
+  }
 
-    make-law : MakeLaw k n c out
-    unfolding made
-    make-law = record {
-      given = ap (mapAnswer tableLengths) answer;
-      working = subst (Working k n) (sym left) working;
-      packed = ap (λ (x : Table). displaced x n) left ∙ laid-packed kind valid rests (out .store) (room .for-store);
-      returns = λ into e. ap (λ (x : Table). readOut k n x into) left
-          ∙ reads k n t working .given into (subst (λ (x : Content). Enough x (lengthsOf into)) (sym read) e)
-          ∙ ap (λ (x : Content). contentOutcome (gives x) into) read;
-    }
+  make-law : MakeLaw k n c out
+  unfolding made
+  make-law = record {
+    given = ap (mapAnswer tableLengths) answer;
+    working = subst (Working k n) (sym left) working;
+    packed = ap (λ (x : Table). displaced x n) left ∙ laid-packed kind valid rests (out .store) (room .for-store);
+    returns = λ into e. ap (λ (x : Table). readOut k n x into) left
+        ∙ reads k n t working .given into (subst (λ (x : Content). Enough x (lengthsOf into)) (sym read) e)
+        ∙ ap (λ (x : Content). contentOutcome (gives x) into) read;
+  }
 
-  pub makes : Makes
-  makes = make-law
+pub makes : Makes
+makes = make-law
