@@ -151,7 +151,7 @@ module _ (m : ℕ → ℕ) (d : ℕ) (v : Value) where
       go true q = tt
       go false q = ap length (sym q)
 
-strict-by : (m : ℕ → ℕ) (v : Value) → ((i : ℕ) → Strict (m i)) → (d l : ℕ) → StrictCell d (cellBy m v d l)
+pub strict-by : (m : ℕ → ℕ) (v : Value) → ((i : ℕ) → Strict (m i)) → (d l : ℕ) → StrictCell d (cellBy m v d l)
 strict-by m v s zero l = tt
 strict-by m v s (suc d) l = (s l, strict-by m v s d (suc l))
 

@@ -4,3 +4,4 @@ pub mod Order
 pub mod Each
 pub mod Reading
 pub mod Making
+pub mod Setting
