@@ -153,7 +153,7 @@ module _ {k : Kind} {n : ℕ} {r : Content} (kind : TableKind k) (ok : ArrayOk k
     rests = all-below (λ j. RestBy (λ l. maskAt n (r .masks) l j) (k .depth) (lengthOf laid j)) n cell-rest;
     placed = all-below (λ j. Placed (length (laid .store)) (startOf laid j) (lengthOf laid j)) n cell-laid;
     apart = all-apart (startOf laid) (lengthOf laid) n
-        (λ i j a h l x y. inl (omega (arith, start-full i (omega arith) x, start-full j l y, length-is i (omega arith), rises i (omega arith), before (suc i) j h (omega arith))));
+        (λ i j h l x y. inl (omega (arith, start-full i (omega arith) x, start-full j l y, length-is i (omega arith), rises i (omega arith), before (suc i) j h (omega arith))));
   }
 
   -- ---- packed

@@ -2,62 +2,37 @@
 -- Assumes nothing.
 use mathlib.Core.Path.{_≡_, refl, sym, ap, ap₂, _∙_, subst}
 use mathlib.Core.Logic.{_⊎_, inl, inr}
-use Prim.Native.Nat.{ℕ, zero, suc, _+_, _-_, _*_, _≤_, _<_, max}
+use Prim.Native.Nat.{ℕ, zero, suc, _+_, _-_, _*_, _≤_, _<_}
 use native.Mathlib.Nat.{zero-mul, suc-mul, zero-add, add-zero}
 use native.Mathlib.Omega.{arith}
 use mathlib.Core.Bool.{Bool, true, false}
-use mathlib.Core.List.{List, [], _∷_, _++_, map, append-assoc}
+use mathlib.Core.List.{List, [], _∷_, map}
 use lib.ListN.{length, getD, take, drop, set, length-append, length-map, length-set, List·getD-append}
-use lib.Seq.{take-at, drop-at, length-take-le, getD-append-add, getD-set-same, getD-set-other}
+use lib.Seq.{getD-append-add, getD-set-same, getD-set-other}
 use lib.Dec.{leb, ltb, eqb}
-use borrow.Author.Tests.{le-leb, leb-true, leb-false, lt-ltb, ltb-true, ltb-false, eq-eqb, ne-eqb}
+use borrow.Author.Tests.{le-leb, leb-true, lt-ltb, ltb-true, ltb-false, eq-eqb, ne-eqb}
 use Rattle.array.specs.Answer.{Answer, gives, mapAnswer}
-use Rattle.array.specs.Lists.{from, pick, passing, All}
+use Rattle.array.specs.Lists.{from, pick, All}
 use Rattle.array.specs.Kind.{Kind}
 use Rattle.array.specs.Cells.{Value, Cell, Strict, leaf, rest}
-use Rattle.array.specs.Content.{masksOf}
-use Rattle.array.specs.Buffers.{overAt}
 use Rattle.array.specs.Places.{maskAt, planesBy, cellBy, shownBy, sum}
 use Rattle.array.proofs.Answers.{pass}
-use Rattle.array.proofs.Lists.{length-from, at-from, take-within, All-getD, All-of, All-append, All-image, All-map}
+use Rattle.array.proofs.Lists.{length-from, at-from, All-getD, All-of, All-append, All-image}
 use Rattle.array.proofs.LayoutLaws.{strict-masks}
 use Rattle.array.proofs.Over.{over-at-length}
 use Rattle.array.proofs.RestLaws.{masksIn, cell-by, StrictCell, strict-rest, rest-again}
 use Rattle.array.proofs.Rules.{both}
-use Rattle.table.specs.Table.{Table, startOf, lengthOf, bytesOf, cellOf, OrZero, RestMasks, RestBy, Placed, ending, filled, Clear, TableOk, mostStore}
-use Rattle.table.specs.Lying.{topBy, topOf, packedWhole}
-use Rattle.table.specs.Setting.{SettingOk, settingOf, settingMasks, givenUp, masked, placedAt, roomyFor, bytesPut, settled, sumAfter}
+use Rattle.table.specs.Table.{Table, startOf, lengthOf, bytesOf, cellOf, OrZero, RestBy, Placed, ending, filled, Clear, TableOk}
+use Rattle.table.specs.Lying.{topOf, packedWhole}
+use Rattle.table.specs.Setting.{SettingOk, settingOf, settingMasks, givenUp, masked, placedAt, bytesPut, settled, sumAfter}
 use Rattle.table.specs.Calls.{inPlace, setAnswer, cellSet}
 use Rattle.table.specs.Laws.{Working, SetLaw, Sets}
 use Rattle.table.proofs.Rules.{table-kind-test, count-test, table-test, store-test, setting-test}
 use Rattle.table.proofs.Order.{same-or-not}
-use Rattle.table.proofs.Each.{below-all, all-below, of-passing, all-apart, cell-same, rests-by, strict-by, cell-placed, cell-resting, cells-clear, bytes-long, cell-rests}
-
--- XXX
-module _ (p : ℕ) (xs s : List ℕ) (h : p ≤ length s) where
-  front : length (take p s) ≡ p
-  front = length-take-le p s h
-
-  pub over-before : (a m : ℕ) → a + m ≤ p → take m (drop a (overAt p xs s)) ≡ take m (drop a s)
-  over-before a m l =
-      let same : take p (overAt p xs s) ≡ take p s =
-      ap (take p) (append-assoc (take p s) xs (drop (length (take p s ++ xs)) s)) ∙ take-at (take p s) (xs ++ drop (length (take p s ++ xs)) s) p front in
-      sym (take-within a m p (overAt p xs s) l) ∙ ap (λ (r : List ℕ). take m (drop a r)) same ∙ take-within a m p s l
-
-  pub over-there : (m : ℕ) → length xs ≡ m → take m (drop p (overAt p xs s)) ≡ xs
-  over-there m e =
-      ap (λ (r : List ℕ). take m (drop p r)) (append-assoc (take p s) xs (drop (length (take p s ++ xs)) s))
-      ∙ ap (take m) (drop-at (take p s) (xs ++ drop (length (take p s ++ xs)) s) p front)
-      ∙ take-at xs (drop (length (take p s ++ xs)) s) m e
-
-pub record Moved (d n : ℕ) (t u : Table) : Type 0 where
-  pub sound : TableOk d n u
-  pub masks : u .masks ≡ t .masks
-  pub lengths : u .lengths ≡ t .lengths
-  pub size : length (u .store) ≡ length (t .store)
-  pub bytes : (i : ℕ) → i < n → bytesOf u i ≡ bytesOf t i
-
--- YYY
+use Rattle.table.proofs.Filled.{full-all}
+use Rattle.table.proofs.Moving.{over-before, over-there, Moved}
+use Rattle.table.proofs.Packing.{moved-none, top-above, packed-whole}
+use Rattle.table.proofs.Each.{all-below, all-apart, cell-same, rests-by, strict-by, cell-placed, cell-resting, cells-clear, bytes-long, cell-rests}
 
 -- ---- one number of a list set
 
@@ -110,16 +85,9 @@ masks-of-one (suc d) x (suc l) = masks-of-one d (x .1) l
 
 -- ---- the top
 
-module _ (start len : ℕ → ℕ) where
-  below-top : (js : List ℕ) → All (λ j. ending start len j ≤ topBy start len js) js
-  below-top [] = tt
-  below-top (j ∷ js) = (omega arith, All-map (λ i. ending start len i ≤ topBy start len js) (λ i. ending start len i ≤ topBy start len (j ∷ js)) (λ i h. omega arith) js (below-top js))
-
-top-above : (t : Table) (n j : ℕ) → j < n → 0 < lengthOf t j → ending (startOf t) (lengthOf t) j ≤ topOf t n
-top-above t n j h p =
-    below-all (λ i. ltb 0 (lengthOf t i) ≡ true → ending (startOf t) (lengthOf t) i ≤ topOf t n) n
-    (of-passing (λ i. ending (startOf t) (lengthOf t) i ≤ topOf t n) (λ i. ltb 0 (lengthOf t i)) (from 0 n) (below-top (startOf t) (lengthOf t) (filled t n))) j h
-    (lt-ltb 0 (lengthOf t j) p)
+above : (t : Table) (n j : ℕ) → j < n → 0 < lengthOf t j → ending (startOf t) (lengthOf t) j ≤ topOf t n
+above t n j h p =
+    full-all (startOf t) (lengthOf t) n (λ i. ending (startOf t) (lengthOf t) i ≤ topOf t n) (top-above (startOf t) (lengthOf t) (filled t n)) j (h, p)
 
 -- ---- what a setting of cell c to x leaves
 
@@ -210,7 +178,7 @@ module _ {d n : ℕ} {t : Table} (ok : TableOk d n t) (c : ℕ) (low : c < n) (x
     strict = base-strict;
     rests = all-below (λ j. RestBy (λ l. maskAt n (base .masks) l j) d (lengthOf base j)) n (λ j h. resting j h (same-or-not j c));
     placed = all-below (λ j. Placed (length (t .store)) (startOf base j) (lengthOf base j)) n (λ j h. placing j h (same-or-not j c));
-    apart = all-apart (startOf base) (lengthOf base) n (λ i j a h k p q. clearing i j h k p q (same-or-not i c) (same-or-not j c));
+    apart = all-apart (startOf base) (lengthOf base) n (λ i j h k p q. clearing i j h k p q (same-or-not i c) (same-or-not j c));
   }
     where
       resting : (j : ℕ) → j < n → (j ≡ c) ⊎ (j ≡ c → ⊥) → RestBy (λ l. maskAt n (base .masks) l j) d (lengthOf base j)
@@ -284,7 +252,7 @@ module _ {d n : ℕ} {t : Table} (ok : TableOk d n t) (c : ℕ) (low : c < n) (x
         ap₂ (λ (l s : ℕ). take l (drop s (put .store))) (other-length j ne) (other-start j ne) ∙ go (ltb 0 (lengthOf u j)) refl
       where
         go : (b : Bool) → ltb 0 (lengthOf u j) ≡ b → take (lengthOf u j) (drop (startOf u j) (put .store)) ≡ bytesOf u j
-        go true q = over-before (topOf u n) v (u .store) (omega arith) (startOf u j) (lengthOf u j) (top-above u n j h (ltb-true 0 (lengthOf u j) q))
+        go true q = over-before (topOf u n) v (u .store) (omega arith) (startOf u j) (lengthOf u j) (above u n j h (ltb-true 0 (lengthOf u j) q))
         go false q =
             let none : lengthOf u j ≡ 0 = omega (arith, ltb-false 0 (lengthOf u j) q) in
             ap (λ (l : ℕ). take l (drop (startOf u j) (put .store))) none ∙ ap (λ (l : ℕ). take l (drop (startOf u j) (u .store))) (sym none)
@@ -300,7 +268,7 @@ module _ {d n : ℕ} {t : Table} (ok : TableOk d n t) (c : ℕ) (low : c < n) (x
       strict = m .sound .strict;
       rests = all-below (λ j. RestAt (u .masks) j (lengthOf put j)) n (λ j h. resting j h (same-or-not j c));
       placed = all-below (λ j. Placed (length (put .store)) (startOf put j) (lengthOf put j)) n (λ j h. placing j h (same-or-not j c));
-      apart = all-apart (startOf put) (lengthOf put) n (λ i j a h k p q. clearing i j h k p q (same-or-not i c) (same-or-not j c));
+      apart = all-apart (startOf put) (lengthOf put) n (λ i j h k p q. clearing i j h k p q (same-or-not i c) (same-or-not j c));
     }
       where
         resting : (j : ℕ) → j < n → (j ≡ c) ⊎ (j ≡ c → ⊥) → RestAt (u .masks) j (lengthOf put j)
@@ -321,9 +289,9 @@ module _ {d n : ℕ} {t : Table} (ok : TableOk d n t) (c : ℕ) (low : c < n) (x
             → Clear (startOf put) (lengthOf put) i j
         clearing i j h k p q (inl a) (inl b) = absurd (omega arith)
         clearing i j h k p q (inl a) (inr ne) =
-            inr (omega (arith, top-above u n j k (omega (arith, other-length j ne)), other-start j ne, other-length j ne, put-start, ap (startOf put) a))
+            inr (omega (arith, above u n j k (omega (arith, other-length j ne)), other-start j ne, other-length j ne, put-start, ap (startOf put) a))
         clearing i j h k p q (inr ne) (inl b) =
-            inl (omega (arith, top-above u n i (omega arith) (omega (arith, other-length i ne)), other-start i ne, other-length i ne, put-start, ap (startOf put) b))
+            inl (omega (arith, above u n i (omega arith) (omega (arith, other-length i ne)), other-start i ne, other-length i ne, put-start, ap (startOf put) b))
         clearing i j h k p q (inr ne) (inr other) =
             clear-same (startOf u) (lengthOf u) (startOf put) (lengthOf put) i j
             (sym (other-start i ne)) (sym (other-length i ne)) (sym (other-start j other)) (sym (other-length j other))
@@ -346,65 +314,60 @@ module _ {d n : ℕ} {t : Table} (ok : TableOk d n t) (c : ℕ) (low : c < n) (x
             ∙ cell-other j h ne (bytesOf put j) (other-bytes j h ne ∙ m .bytes j h ∙ base-bytes j ne)
             ∙ ap (λ (b : Bool). pick b x (cellOf d n t j)) (sym (ne-eqb j c ne))
 
--- nothing moved
-unmoved : {d n : ℕ} {t : Table} → TableOk d n t → Moved d n t t
-unmoved ok = record { sound = ok; masks = refl; lengths = refl; size = refl; bytes = λ i h. refl }
+module _ {d n : ℕ} {t : Table} (ok : TableOk d n t) (c : ℕ) (low : c < n) (x : Cell d) (strict : StrictCell d x) (rests : rest [] d x ≡ x)
+    (fits : sumAfter d c x t ≤ length (t .store)) where
+  settles : (v : Value) → leaf d x ≡ v → Settles d n c x t (bytesPut n c v (masked d n c (settingMasks d x) (givenUp c t)))
+  settles [] e = settles-none ok c low x strict rests e
+  settles (b ∷ bs) e = go (leb (length (b ∷ bs)) (length (t .store) - topOf new n)) refl
+    where
+      new : Table
+      new = masked d n c (settingMasks d x) (givenUp c t)
 
-module _ (packed-whole : (d n : ℕ) (t : Table) → TableOk d n t → Moved d n t (packedWhole n t)) (packed-top : (d n : ℕ) (t : Table) → TableOk d n t → topOf (packedWhole n t) n ≡ sum (t .lengths)) where
-  module _ {d n : ℕ} {t : Table} (ok : TableOk d n t) (c : ℕ) (low : c < n) (x : Cell d) (strict : StrictCell d x) (rests : rest [] d x ≡ x)
-      (fits : sumAfter d c x t ≤ length (t .store)) where
-    settles : (v : Value) → leaf d x ≡ v → Settles d n c x t (bytesPut n c v (masked d n c (settingMasks d x) (givenUp c t)))
-    settles [] e = settles-none ok c low x strict rests e
-    settles (b ∷ bs) e = go (leb (length (b ∷ bs)) (length (t .store) - topOf new n)) refl
-      where
-        new : Table
-        new = masked d n c (settingMasks d x) (givenUp c t)
+      go : (q : Bool) → leb (length (b ∷ bs)) (length (t .store) - topOf new n) ≡ q
+          → Settles d n c x t (placedAt (topOf (pick q new (packedWhole n new)) n) c (b ∷ bs) (pick q new (packedWhole n new)))
+      go true q =
+          settles-some ok c low x strict rests (moved-none (base-ok ok c low x strict rests)) (b ∷ bs) e (omega arith)
+          (omega (arith, leb-true (length (b ∷ bs)) (length (t .store) - topOf new n) q))
+      go false q =
+          let sound : TableOk d n new = base-ok ok c low x strict rests in
+          settles-some ok c low x strict rests (packed-whole sound .moved) (b ∷ bs) e (omega arith)
+          (omega (arith, packed-whole sound .top, packed-whole sound .moved .size, fits, ap length e))
 
-        go : (q : Bool) → leb (length (b ∷ bs)) (length (t .store) - topOf new n) ≡ q
-            → Settles d n c x t (placedAt (topOf (pick q new (packedWhole n new)) n) c (b ∷ bs) (pick q new (packedWhole n new)))
-        go true q =
-            settles-some ok c low x strict rests (unmoved (base-ok ok c low x strict rests)) (b ∷ bs) e (omega arith)
-            (omega (arith, leb-true (length (b ∷ bs)) (length (t .store) - topOf new n) q))
-        go false q =
-            let sound : TableOk d n new = base-ok ok c low x strict rests in
-            settles-some ok c low x strict rests (packed-whole d n new sound) (b ∷ bs) e (omega arith)
-            (omega (arith, packed-top d n new sound, packed-whole d n new sound .size, fits, ap length e))
+-- ---- the law
 
-  -- ---- the law
+module _ (k : Kind) (n : ℕ) (t : Table) (c : ℕ) (ms : List ℕ) (v : Value) (w : Working k n t) (setting : SettingOk (k .depth) ms) (low : c < n)
+    (fits : sumAfter (k .depth) c (settingOf (k .depth) ms v) t ≤ length (t .store)) where
+  abbrev x : Cell (k .depth)
+  x = settingOf (k .depth) ms v
 
-  module _ (k : Kind) (n : ℕ) (t : Table) (c : ℕ) (ms : List ℕ) (v : Value) (w : Working k n t) (setting : SettingOk (k .depth) ms) (low : c < n)
-      (fits : sumAfter (k .depth) c (settingOf (k .depth) ms v) t ≤ length (t .store)) where
-    abbrev x : Cell (k .depth)
-    x = settingOf (k .depth) ms v
+  strict : StrictCell (k .depth) x
+  strict =
+      strict-rest [] (k .depth) (cellBy (λ l. getD ms l 0) v (k .depth) 0)
+      (strict-by (λ l. getD ms l 0) v (λ l. All-getD Strict 0 (omega arith) ms (setting .strict) l) (k .depth) 0)
 
-    strict : StrictCell (k .depth) x
-    strict =
-        strict-rest [] (k .depth) (cellBy (λ l. getD ms l 0) v (k .depth) 0)
-        (strict-by (λ l. getD ms l 0) v (λ l. All-getD Strict 0 (omega arith) ms (setting .strict) l) (k .depth) 0)
+  law : Settles (k .depth) n c x t (settled (k .depth) n c x t)
+  unfolding settled
+  law = settles (w .sound) c low x strict (rest-again [] (k .depth) (cellBy (λ l. getD ms l 0) v (k .depth) 0)) fits (leaf (k .depth) x) refl
 
-    law : Settles (k .depth) n c x t (settled (k .depth) n c x t)
-    unfolding settled
-    law = settles (w .sound) c low x strict (rest-again [] (k .depth) (cellBy (λ l. getD ms l 0) v (k .depth) 0)) fits (leaf (k .depth) x) refl
+  answer : setAnswer k n t c ms v ≡ gives (settled (k .depth) n c x t)
+  unfolding setAnswer
+  answer =
+      pass 1 (table-kind-test k (w .kind)) (pass 2 (count-test n (w .count))
+      (pass 4 (both (table-test (k .depth) n t (w .sound)) (setting-test (k .depth) ms setting)) (pass 5 (store-test t (w .small))
+      (pass 15 (lt-ltb c n low) (pass 16 (le-leb (sumAfter (k .depth) c x t) (length (t .store)) fits) refl)))))
 
-    answer : setAnswer k n t c ms v ≡ gives (settled (k .depth) n c x t)
-    unfolding setAnswer
-    answer =
-        pass 1 (table-kind-test k (w .kind)) (pass 2 (count-test n (w .count))
-        (pass 4 (both (table-test (k .depth) n t (w .sound)) (setting-test (k .depth) ms setting)) (pass 5 (store-test t (w .small))
-        (pass 15 (lt-ltb c n low) (pass 16 (le-leb (sumAfter (k .depth) c x t) (length (t .store)) fits) refl)))))
+  left : cellSet k n t c ms v .buffers ≡ settled (k .depth) n c x t
+  unfolding cellSet
+  left = ap (λ (a : Answer Table). inPlace a t) answer
 
-    left : cellSet k n t c ms v .buffers ≡ settled (k .depth) n c x t
-    unfolding cellSet
-    left = ap (λ (a : Answer Table). inPlace a t) answer
+  set-law : SetLaw k n t c ms v
+  unfolding cellSet
+  set-law = record {
+    given = ap (mapAnswer (λ u. tt)) answer;
+    working = subst (Working k n) (sym left) (record { kind = w .kind; count = w .count; sound = law .sound; small = omega (arith, law .size, w .small) });
+    cells = λ j h. ap (λ (u : Table). cellOf (k .depth) n u j) left ∙ law .cells j h;
+    total = ap (λ (u : Table). sum (u .lengths)) left ∙ law .total;
+  }
 
-    set-law : SetLaw k n t c ms v
-    unfolding cellSet
-    set-law = record {
-      given = ap (mapAnswer (λ u. tt)) answer;
-      working = subst (Working k n) (sym left) (record { kind = w .kind; count = w .count; sound = law .sound; small = omega (arith, law .size, w .small) });
-      cells = λ j h. ap (λ (u : Table). cellOf (k .depth) n u j) left ∙ law .cells j h;
-      total = ap (λ (u : Table). sum (u .lengths)) left ∙ law .total;
-    }
-
-  pub sets : Sets
-  sets = set-law
+pub sets : Sets
+sets = set-law
