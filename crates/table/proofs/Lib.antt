@@ -11,3 +11,4 @@ pub mod Reading
 pub mod Making
 pub mod Setting
 pub mod Refusals
+pub mod Instance
