@@ -39,7 +39,7 @@ ragged-null (fixed k o) r d x e = absurd r
 ragged-null (ragged w p) r d x e = e
 
 -- the cells' bytes, all of them
-bytes-total : {d n : ℕ} {t : Table} → TableOk d n t → length (joined (leaves d (map (cellOf d n t) (from 0 n)))) ≡ sum (t .lengths)
+pub bytes-total : {d n : ℕ} {t : Table} → TableOk d n t → length (joined (leaves d (map (cellOf d n t) (from 0 n)))) ≡ sum (t .lengths)
 bytes-total {d} {n} {t} ok =
     ap (λ (vs : List Value). length (joined vs)) (map-map (cellOf d n t) (leaf d) (from 0 n))
     ∙ length-joined-map (λ j. leaf d (cellOf d n t j)) (from 0 n)

@@ -36,7 +36,7 @@ use Rattle.table.proofs.Each.{all-below, all-apart, cell-same, rests-by
 
 -- ---- one number of a list set
 
-sum-set : (xs : List ℕ) (c v : ℕ) → c < length xs → sum (set xs c v) + getD xs c 0 ≡ sum xs + v
+pub sum-set : (xs : List ℕ) (c v : ℕ) → c < length xs → sum (set xs c v) + getD xs c 0 ≡ sum xs + v
 sum-set [] c v h = absurd (omega arith)
 sum-set (x ∷ xs) zero v h = omega arith
 sum-set (x ∷ xs) (suc c) v h = omega (arith, sum-set xs c v (omega arith))
@@ -44,7 +44,7 @@ sum-set (x ∷ xs) (suc c) v h = omega (arith, sum-set xs c v (omega arith))
 -- ---- mask bytes by level and cell
 
 module _ (m : ℕ → ℕ → ℕ) (n : ℕ) where
-  length-planes : (d l : ℕ) → length (planesBy m d l (from 0 n)) ≡ d * n
+  pub length-planes : (d l : ℕ) → length (planesBy m d l (from 0 n)) ≡ d * n
   length-planes zero l = sym (zero-mul n)
   length-planes (suc d) l =
       omega (
@@ -56,7 +56,7 @@ module _ (m : ℕ → ℕ → ℕ) (n : ℕ) where
         suc-mul d n,
       )
 
-  planes-at : (d l i j : ℕ) → i < d → j < n → maskAt n (planesBy m d l (from 0 n)) i j ≡ m (l + i) j
+  pub planes-at : (d l i j : ℕ) → i < d → j < n → maskAt n (planesBy m d l (from 0 n)) i j ≡ m (l + i) j
   planes-at zero l i j h k = absurd (omega arith)
   planes-at (suc d) l zero j h k =
       let e : zero * n + j ≡ j = omega (arith, zero-mul n) in
@@ -78,24 +78,24 @@ module _ (m : ℕ → ℕ → ℕ) (n : ℕ) where
       All-append P (map (m l) (from 0 n)) (planesBy m d (suc l) (from 0 n)) (All-image P (m l) (from 0 n) (All-of (λ j. P (m l j)) (f l) (from 0 n))) (all-planes P f d (suc l))
 
 -- those of one cell
-masks-of-one : (d : ℕ) (x : Cell d) (l : ℕ) → getD (settingMasks d x) l 0 ≡ masksIn d x l
+pub masks-of-one : (d : ℕ) (x : Cell d) (l : ℕ) → getD (settingMasks d x) l 0 ≡ masksIn d x l
 masks-of-one zero x l = refl
 masks-of-one (suc d) x zero = refl
 masks-of-one (suc d) x (suc l) = masks-of-one d (x .1) l
 
 -- ---- the top
 
-above : (t : Table) (n j : ℕ) → j < n → 0 < lengthOf t j → ending (startOf t) (lengthOf t) j ≤ topOf t n
+pub above : (t : Table) (n j : ℕ) → j < n → 0 < lengthOf t j → ending (startOf t) (lengthOf t) j ≤ topOf t n
 above t n j h p =
     full-all (startOf t) (lengthOf t) n (λ i. ending (startOf t) (lengthOf t) i ≤ topOf t n) (top-above (startOf t) (lengthOf t) (filled t n)) j (h, p)
 
 -- ---- what a setting of cell c to x leaves
 
-record Settles (d n c : ℕ) (x : Cell d) (t u : Table) : Type 0 where
-  sound : TableOk d n u
-  size : length (u .store) ≡ length (t .store)
-  cells : (j : ℕ) → j < n → cellOf d n u j ≡ pick (eqb j c) x (cellOf d n t j)
-  total : sum (u .lengths) ≡ sumAfter d c x t
+pub record Settles (d n c : ℕ) (x : Cell d) (t u : Table) : Type 0 where
+  pub sound : TableOk d n u
+  pub size : length (u .store) ≡ length (t .store)
+  pub cells : (j : ℕ) → j < n → cellOf d n u j ≡ pick (eqb j c) x (cellOf d n t j)
+  pub total : sum (u .lengths) ≡ sumAfter d c x t
 
 -- cells that lie as before
 clear-same : (start len start′ len′ : ℕ → ℕ) (i j : ℕ) → start i ≡ start′ i → len i ≡ len′ i → start j ≡ start′ j → len j ≡ len′ j
@@ -115,12 +115,12 @@ module _ {d n : ℕ} {t : Table} (ok : TableOk d n t) (c : ℕ) (low : c < n) (x
   abbrev mask : ℕ → ℕ → ℕ
   mask l j = pick (eqb j c) (getD (settingMasks d x) l 0) (maskAt n (t .masks) l j)
 
-  mask-here : (l : ℕ) → l < d → maskAt n (base .masks) l c ≡ masksIn d x l
+  pub mask-here : (l : ℕ) → l < d → maskAt n (base .masks) l c ≡ masksIn d x l
   mask-here l h =
       planes-at mask n d 0 l c h low ∙ ap (λ (i : ℕ). mask i c) (zero-add l)
       ∙ ap (λ (b : Bool). pick b (getD (settingMasks d x) l 0) (maskAt n (t .masks) l c)) (eq-eqb c c refl) ∙ masks-of-one d x l
 
-  mask-other : (j l : ℕ) → l < d → j < n → (j ≡ c → ⊥) → maskAt n (base .masks) l j ≡ maskAt n (t .masks) l j
+  pub mask-other : (j l : ℕ) → l < d → j < n → (j ≡ c → ⊥) → maskAt n (base .masks) l j ≡ maskAt n (t .masks) l j
   mask-other j l h k ne =
       planes-at mask n d 0 l j h k ∙ ap (λ (i : ℕ). mask i j) (zero-add l)
       ∙ ap (λ (b : Bool). pick b (getD (settingMasks d x) l 0) (maskAt n (t .masks) l j)) (ne-eqb j c ne)
@@ -170,7 +170,7 @@ module _ {d n : ℕ} {t : Table} (ok : TableOk d n t) (c : ℕ) (low : c < n) (x
       go l j true = All-getD Strict 0 (omega arith) (settingMasks d x) (strict-masks d (x ∷ []) (strict, tt)) l
       go l j false = All-getD Strict 0 (omega arith) (t .masks) (ok .strict) (l * n + j)
 
-  base-ok : TableOk d n base
+  pub base-ok : TableOk d n base
   base-ok = record {
     masks-fit = length-planes mask n d 0;
     starts-fit = length-set (t .starts) c 0 ∙ ok .starts-fit;
@@ -316,7 +316,7 @@ module _ {d n : ℕ} {t : Table} (ok : TableOk d n t) (c : ℕ) (low : c < n) (x
 
 module _ {d n : ℕ} {t : Table} (ok : TableOk d n t) (c : ℕ) (low : c < n) (x : Cell d) (strict : StrictCell d x) (rests : rest [] d x ≡ x)
     (fits : sumAfter d c x t ≤ length (t .store)) where
-  settles : (v : Value) → leaf d x ≡ v → Settles d n c x t (bytesPut n c v (masked d n c (settingMasks d x) (givenUp c t)))
+  pub settles : (v : Value) → leaf d x ≡ v → Settles d n c x t (bytesPut n c v (masked d n c (settingMasks d x) (givenUp c t)))
   settles [] e = settles-none ok c low x strict rests e
   settles (b ∷ bs) e = go (leb (length (b ∷ bs)) (length (t .store) - topOf new n)) refl
     where
