@@ -1,23 +1,24 @@
 -- The rules for a working table (docs/SPEC.md, S13.3, S13.4) cell by cell, and its cells as cells in rest form.
 -- Assumes nothing.
 use mathlib.Core.Path.{_≡_, refl, sym, ap, ap₂, _∙_, subst}
-use mathlib.Core.Logic.{_⊎_}
+use mathlib.Core.Logic.{inl, inr, ⊎-elim}
 use Prim.Native.Nat.{ℕ, zero, suc, _+_, _*_, _≤_, _<_}
 use native.Mathlib.Omega.{arith}
 use mathlib.Core.Bool.{Bool, true, false, false≢true}
 use mathlib.Core.List.{List, [], _∷_, map}
-use lib.ListN.{length, getD, take, drop, length-drop}
+use lib.ListN.{length, drop, length-drop}
 use lib.Seq.{length-take-le}
 use lib.Dec.{ltb, eqb}
 use lib.Arith.{lt-of-le-ne}
 use borrow.Author.Tests.{lt-ltb, ltb-true, ltb-false, eqb-true, eqb-false}
-use Rattle.array.specs.Lists.{from, pick, passing, All}
+use Rattle.array.specs.Lists.{from, pick, passing, All, count}
 use Rattle.array.specs.Cells.{Value, Cell, Strict, leaf, rest}
-use Rattle.array.specs.Places.{maskAt, shownBy, cellBy, sum}
+use Rattle.array.specs.Places.{maskAt, shownBy, cellBy}
 use Rattle.array.proofs.Lists.{All-getD, in-place}
 use Rattle.array.proofs.Geometry.{All-from}
 use Rattle.array.proofs.RestLaws.{StrictCell, leaf-by, rest-by}
-use Rattle.table.specs.Table.{Table, startOf, lengthOf, bytesOf, cellOf, OrZero, RestMasks, RestBy, Placed, ending, filledBy, Clear, Apart, TableOk}
+use Rattle.table.specs.Table.{Table, startOf, lengthOf, bytesOf, cellOf, OrZero, RestMasks, RestBy, Placed, filledBy, Clear, Apart, TableOk}
+use Rattle.table.proofs.Order.{All-count, count-All, filled-some, filled-below, filled-once, apart-each, each-apart}
 
 -- ---- a rule for every number of a run, and for those that pass a test
 
@@ -55,43 +56,35 @@ module _ {A : Type 0} (P : A → Type 0) (f : A → Bool) where
 
 -- ---- cells that share no byte, two by two
 
-module _ (start len : ℕ → ℕ) where
-  abbrev full : ℕ → Bool
-  full j = ltb 0 (len j)
+module _ (start len : ℕ → ℕ) (n : ℕ) where
+  abbrev cells : List ℕ
+  cells = filledBy start len n
 
-  abbrev Pairs : ℕ → ℕ → Type 0
-  Pairs a e = (i j : ℕ) → a ≤ i → i < j → j < e → 0 < len i → 0 < len j → Clear start len i j
+  abbrev Pairs : Type 0
+  Pairs = (i j : ℕ) → i < j → j < n → 0 < len i → 0 < len j → Clear start len i j
 
-  pairs-apart : (a n e : ℕ) → a + n ≡ e → Pairs a e → Apart start len (passing full (from a n))
-  pairs-apart a zero e q p = tt
-  pairs-apart a (suc n) e q p =
-      go (full a) refl (pairs-apart (suc a) n e (omega arith) (λ i j l h k. p i j (omega arith) h k))
-      (λ z. to-passing (Clear start len a) full (from (suc a) n) (All-from (λ j. full j ≡ true → Clear start len a j) (suc a) n (λ j l h t. p a j (omega arith) (omega arith) (omega arith) z (ltb-true 0 (len j) t))))
+  counted : (i : ℕ) → i < n → 0 < len i → 1 ≤ count i cells
+  counted i h p =
+      below-all (λ j. ltb 0 (len j) ≡ true → 1 ≤ count j cells) n
+      (of-passing (λ j. 1 ≤ count j cells) (λ j. ltb 0 (len j)) (from 0 n) (All-count (λ j. 1 ≤ count j cells) cells (λ j l. l))) i h (lt-ltb 0 (len i) p)
+
+  pub apart-all : Apart start len cells → Pairs
+  apart-all p i j h l x y = apart-each start len cells p i j (counted i (omega arith) x) (counted j l y) (λ e. omega arith)
+
+  pub all-apart : Pairs → Apart start len cells
+  all-apart p =
+      each-apart start len cells (filled-once start len n)
+      (λ i j a b ne. go i j ne (below i a) (below j b) (some i a) (some j b) (ltb i j) refl)
     where
-      go : (b : Bool) → full a ≡ b → Apart start len (passing full (from (suc a) n)) → (0 < len a → All (Clear start len a) (passing full (from (suc a) n)))
-          → Apart start len (pick b (a ∷ passing full (from (suc a) n)) (passing full (from (suc a) n)))
-      go true t r c = (c (ltb-true 0 (len a) t), r)
-      go false t r c = r
+      below : (i : ℕ) → 1 ≤ count i cells → i < n
+      below = count-All (λ i. i < n) cells (filled-below start len n)
 
-  apart-pairs : (a n e : ℕ) → a + n ≡ e → Apart start len (passing full (from a n)) → Pairs a e
-  apart-pairs a zero e q p i j l h k x y = absurd (omega arith)
-  apart-pairs a (suc n) e q p i j l h k x y = go (full a) refl p (eqb a i) refl (λ r u. apart-pairs (suc a) n e (omega arith) r i j u h k x y)
-    where
-      go : (b : Bool) → full a ≡ b → Apart start len (pick b (a ∷ passing full (from (suc a) n)) (passing full (from (suc a) n)))
-          → (b′ : Bool) → eqb a i ≡ b′ → (Apart start len (passing full (from (suc a) n)) → suc a ≤ i → Clear start len i j) → Clear start len i j
-      go true t r true u f =
-          subst (λ (m : ℕ). Clear start len m j) (eqb-true a i u)
-          (from-all (λ m. full m ≡ true → Clear start len a m) (suc a) n (of-passing (Clear start len a) full (from (suc a) n) (r .0)) j
-          (omega (arith, eqb-true a i u)) (omega arith) (lt-ltb 0 (len j) y))
-      go true t r false u f = f (r .1) (lt-of-le-ne l (eqb-false a i u))
-      go false t r true u f = absurd (omega (arith, ltb-false 0 (len a) t, ap len (eqb-true a i u)))
-      go false t r false u f = f r (lt-of-le-ne l (eqb-false a i u))
+      some : (i : ℕ) → 1 ≤ count i cells → 0 < len i
+      some = count-All (λ i. 0 < len i) cells (filled-some start len n)
 
-  pub all-apart : (n : ℕ) → Pairs 0 n → Apart start len (filledBy start len n)
-  all-apart n p = pairs-apart 0 n n (omega arith) p
-
-  pub apart-all : (n : ℕ) → Apart start len (filledBy start len n) → Pairs 0 n
-  apart-all n p = apart-pairs 0 n n (omega arith) p
+      go : (i j : ℕ) → (i ≡ j → ⊥) → i < n → j < n → 0 < len i → 0 < len j → (b : Bool) → ltb i j ≡ b → Clear start len i j
+      go i j ne a b x y true e = p i j (ltb-true i j e) b x y
+      go i j ne a b x y false e = ⊎-elim (λ c. inr c) (λ c. inl c) (p j i (lt-of-le-ne (ltb-false i j e) (λ q. ne (sym q))) a y x)
 
 -- ---- a cell in rest form, by its mask bytes and its length
 
@@ -152,7 +145,7 @@ module _ (m : ℕ → ℕ) (d : ℕ) (v : Value) where
       go true q = tt
       go false q = ap length (sym q)
 
-strict-by : (m : ℕ → ℕ) (v : Value) → ((i : ℕ) → Strict (m i)) → (d l : ℕ) → StrictCell d (cellBy m v d l)
+pub strict-by : (m : ℕ → ℕ) (v : Value) → ((i : ℕ) → Strict (m i)) → (d l : ℕ) → StrictCell d (cellBy m v d l)
 strict-by m v s zero l = tt
 strict-by m v s (suc d) l = (s l, strict-by m v s d (suc l))
 
@@ -166,7 +159,7 @@ module _ {d n : ℕ} {t : Table} (ok : TableOk d n t) where
   cell-resting = below-all (λ j. RestBy (λ l. maskAt n (t .masks) l j) d (lengthOf t j)) n (ok .rests)
 
   pub cells-clear : (i j : ℕ) → i < j → j < n → 0 < lengthOf t i → 0 < lengthOf t j → Clear (startOf t) (lengthOf t) i j
-  cells-clear i j h k x y = apart-all (startOf t) (lengthOf t) n (ok .apart) i j (omega arith) h k x y
+  cells-clear i j h k x y = apart-all (startOf t) (lengthOf t) n (ok .apart) i j h k x y
 
   pub bytes-long : (j : ℕ) → j < n → length (bytesOf t j) ≡ lengthOf t j
   bytes-long j h =

@@ -38,8 +38,8 @@ module _ (start len : ℕ → ℕ) (n : ℕ) (p : Apart start len (filledBy star
   clear-of i j a b h = go (ltb i j) refl
     where
       go : (t : Bool) → ltb i j ≡ t → Clear start len i j
-      go true e = apart-all start len n p i j (omega arith) (ltb-true i j e) (b .0) (a .1) (b .1)
-      go false e = ⊎-elim (λ c. inr c) (λ c. inl c) (apart-all start len n p j i (omega arith) (lt-of-le-ne (ltb-false i j e) (λ q. h (sym q))) (a .0) (b .1) (a .1))
+      go true e = apart-all start len n p i j (ltb-true i j e) (b .0) (a .1) (b .1)
+      go false e = ⊎-elim (λ c. inr c) (λ c. inl c) (apart-all start len n p j i (lt-of-le-ne (ltb-false i j e) (λ q. h (sym q))) (a .0) (b .1) (a .1))
 
   pub parted : Parted start len n
   parted = record {

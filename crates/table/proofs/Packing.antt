@@ -32,7 +32,7 @@ use Rattle.table.proofs.Moving.{Moved, moved-one, moved-left, moved-pac
 
 -- ---- cells moved one after another
 
-moved-none : {d n : ℕ} {t : Table} → TableOk d n t → Moved d n t t
+pub moved-none : {d n : ℕ} {t : Table} → TableOk d n t → Moved d n t t
 moved-none ok = record { sound = ok; masks = refl; lengths = refl; size = refl; bytes = λ i l. refl }
 
 moved-then : {d n : ℕ} {t u w : Table} → Moved d n t u → Moved d n u w → Moved d n t w

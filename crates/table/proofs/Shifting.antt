@@ -169,8 +169,8 @@ module _ (start len : ℕ → ℕ) (n : ℕ) (p : Apart start len (filledBy star
     pub shifted-apart : Apart start′ len cells
     shifted-apart =
         all-apart start′ len n
-        (λ i k l h m x y.
-        ⊎-elim (λ c. inl (under i k (omega arith, x) (m, y) c)) (λ c. inr (under k i (m, y) (omega arith, x) c)) (apart-all start len n p i k l h m x y))
+        (λ i k h m x y.
+        ⊎-elim (λ c. inl (under i k (omega arith, x) (m, y) c)) (λ c. inr (under k i (m, y) (omega arith, x) c)) (apart-all start len n p i k h m x y))
 
     pub shifted-packed : (i : ℕ) → Full len n i → packedAt start′ len cells i ≡ place i
     shifted-packed i a = sym (packed-same start start′ len n (parted start len n p) up i a)
