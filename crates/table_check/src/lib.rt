@@ -1,0 +1,2 @@
+// A working table's rules, one stage after another.
+pub mod rules;
