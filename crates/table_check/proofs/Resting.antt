@@ -125,10 +125,31 @@ module _ (e n : ℕ) (masks : List ℕ) (some : 0 < n) (fit : length masks ≡ s
 
 -- ---- a table of any depth
 
-pub no-levels : (n : ℕ) (masks lengths : List ℕ) → true ≡ every (λ j. restByTest (λ l. maskAt n masks l j) 0 (getD lengths j 0)) (from 0 n)
-no-levels n masks lengths = sym (every-from (λ j. true) 0 n (λ i a b. refl))
+module _ (d n : ℕ) (masks lengths : List ℕ) where
+  abbrev restTest : Bool
+  restTest = every (λ j. restByTest (λ l. maskAt n masks l j) d (getD lengths j 0)) (from 0 n)
 
-pub rests-are : (d n : ℕ) (masks lengths : List ℕ) → 0 < d → 0 < n → length masks ≡ d * n → every strictTest masks ≡ true
+  pub no-levels : d ≡ 0 → true ≡ restTest
+  no-levels e =
+      sym (every-from (λ j. true) 0 n (λ i a b. refl)) ∙ ap (λ (k : ℕ). every (λ j. restByTest (λ l. maskAt n masks l j) k (getD lengths j 0)) (from 0 n)) (sym e)
+
+-- a plane is there where there are levels
+pub plane-fits : (d n : ℕ) → (d ≡ 0 → ⊥) → n ≤ d * n
+plane-fits zero n h = absurd (h refl)
+plane-fits (suc d) n h = omega (arith, suc-mul d n)
+
+rests-are : (d n : ℕ) (masks lengths : List ℕ) → (d ≡ 0 → ⊥) → 0 < n → length masks ≡ d * n → every strictTest masks ≡ true
     → fallsTest n masks && nullsTest n (length masks - n) masks lengths ≡ every (λ j. restByTest (λ l. maskAt n masks l j) d (getD lengths j 0)) (from 0 n)
-rests-are zero n masks lengths deep some fit strict = absurd (omega arith)
+rests-are zero n masks lengths deep some fit strict = absurd (deep refl)
 rests-are (suc e) n masks lengths deep some fit strict = stages-are e n masks some fit (all-every Strict strictTest strict-ok masks strict) lengths
+
+-- what the stages answer
+module _ (d n : ℕ) (masks lengths : List ℕ) (deep : d ≡ 0 → ⊥) (some : 0 < n) (fit : length masks ≡ d * n) (strict : every strictTest masks ≡ true) where
+  abbrev nulls : Bool
+  nulls = nullsTest n (length masks - n) masks lengths
+
+  pub planes-rise : {r : Bool} → r ≡ fallsTest n masks → r ≡ false → r ≡ restTest d n masks lengths
+  planes-rise q e = e ∙ ap (λ (b : Bool). b && nulls) (sym (sym q ∙ e)) ∙ rests-are d n masks lengths deep some fit strict
+
+  pub nulls-left : {f r : Bool} → f ≡ fallsTest n masks → f ≡ true → r ≡ nulls → r ≡ restTest d n masks lengths
+  nulls-left q e z = z ∙ ap (λ (b : Bool). b && nulls) (sym (sym q ∙ e)) ∙ rests-are d n masks lengths deep some fit strict

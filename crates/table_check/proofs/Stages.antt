@@ -8,7 +8,10 @@ use native.Mathlib.Omega.{arith}
 use lib.ListN.{length}
 use lib.Dec.{ltb, eqb}
 use borrow.Author.Tests.{le-leb, lt-leb, lt-ltb, le-ltb, eq-eqb, ne-eqb}
-use Rattle.table.specs.Table.{Table, placedTest, fitTest}
+use Rattle.array.specs.Lists.{every}
+use Rattle.array.specs.Cells.{strictTest}
+use Rattle.table.specs.Table.{Table, placedTest, fitTest, restsTest, placesTest}
+use Rattle.table_check.specs.Check.{cellsTest}
 
 -- ---- one cell
 
@@ -33,3 +36,17 @@ module _ (d n : ℕ) (t : Table) where
 
   pub lengths-counted : length (t .masks) ≡ d * n → length (t .starts) ≡ n → eqb (length (t .lengths)) n ≡ fitTest d n t
   lengths-counted e h = simp (eq-eqb (length (t .masks)) (d * n) e, eq-eqb (length (t .starts)) n h)
+
+-- ---- one stage after another
+
+pub fails-1 : {a : Bool} (b c d : Bool) → a ≡ false → false ≡ a && b && c && d
+fails-1 b c d p = rw p
+
+pub fails-2 : {a b : Bool} (c d : Bool) → a ≡ true → b ≡ false → false ≡ a && b && c && d
+fails-2 c d p q = rw (p, q)
+
+pub fails-3 : {a b c : Bool} (d : Bool) → a ≡ true → b ≡ true → c ≡ false → false ≡ a && b && c && d
+fails-3 d p q r = rw (p, q, r)
+
+pub left-4 : {a b c d : Bool} → a ≡ true → b ≡ true → c ≡ true → {r : Bool} → r ≡ d → r ≡ a && b && c && d
+left-4 p q r {r = x} e = rw (p, q, r) e
