@@ -3,21 +3,19 @@
 use mathlib.Core.Path.{_≡_, refl, sym, ap, ap₂, _∙_, subst}
 use mathlib.Core.Bool.{Bool, true, false, not}
 use mathlib.Core.List.{List, [], _∷_, _++_, map, append-nil}
-use Prim.Native.Nat.{ℕ, zero, suc, _+_, _≤_, _<_}
+use Prim.Native.Nat.{ℕ, suc, _+_, _≤_, _<_}
 use native.Mathlib.Omega.{arith}
-use native.Mathlib.Numerals.{add-one}
 use native.Mathlib.Nat.{min-le-right}
-use lib.ListN.{length, take, drop, getD, set, length-append, length-take, length-drop, length-set, take-append-drop, drop-of-length-le}
+use lib.ListN.{length, take, drop, length-append, length-take, length-drop, length-set, take-append-drop, drop-of-length-le}
 use lib.Seq.{take-add, take-all, take-at, getD-set-other}
 use lib.Dec.{leb, ltb, eqb}
-use borrow.Author.Tests.{ltb-true, lt-ltb, le-ltb, eq-eqb, ne-eqb}
+use borrow.Author.Tests.{lt-ltb, le-ltb, eq-eqb, ne-eqb}
 use Rattle.array.specs.Lists.{pick, from, passing, All}
-use Rattle.array.specs.Buffers.{overAt}
 use Rattle.array.specs.Places.{sum}
 use Rattle.array.proofs.Lists.{All-map, map-append, length-from}
 use Rattle.array.proofs.Places.{sum-append}
 use Rattle.array.proofs.Over.{over-at-length}
-use Rattle.array.proofs.Geometry.{All-from, passing-append, passing-all, passing-none}
+use Rattle.array.proofs.Geometry.{passing-append, passing-all, passing-none}
 use Rattle.table.specs.Table.{Table, TableOk, startOf, lengthOf, bytesOf, Placed, ending, filled}
 use Rattle.table.specs.Lying.{putAmong, lyingBy, packedAt, packedStart, displaced, moveTo, moveAll, movedCells, packed, packedWhole}
 use Rattle.table.specs.Order.{Follow, Lies}

@@ -1,13 +1,13 @@
 -- `table_pack::move_cells` meets its contract, by the laws of the walk.
 -- Assumes nothing.
 use mathlib.Core.Path.{_≡_, _∙_}
-use mathlib.Core.List.{[], _∷_}
+use mathlib.Core.List.{List, [], _∷_}
 use mathlib.Core.Logic.{⊎-elim}
 use Prim.Native.Nat.{ℕ, suc, _-_, _<_}
 use native.Mathlib.Omega.{arith}
-use borrow.Author.Needs.{needs}
 use lib.ListN.{length, take, drop, getD}
 use lib.Seq.{length-take-le}
+use Rattle.table.specs.Table.{Table}
 use Rattle.table.specs.Meaning.{tableBy}
 use Rattle.table.specs.Walk.{InOrder}
 use Rattle.table.proofs.Walk.{Moving, moving-begins, next-below, next-room, next-fits, moving-stays, moving-moves, moving-is, moving-full, moving-ends, moving-leaves}
@@ -46,18 +46,24 @@ tested c = c .before .before .before .before
 abbrev turn : tie.After-move-down Inv-loop μ-loop → Turn
 turn c = tested (c .before .before)
 
--- the cells as they lie, and the cell of the turn
-ordered : (h : Head) → InOrder (length (start h .args .starts .now)) (tableBy [] (start h .args .starts .now) (start h .args .lengths .now) (start h .args .store .now)) (take (start h .args .count) (start h .args .order .now))
+-- the table as it was, and its cells as they lie
+abbrev table : Head → Table
+table h = let a = start h .args in tableBy [] (a .starts .now) (a .lengths .now) (a .store .now)
+
+abbrev lie : Head → List ℕ
+lie h = take (start h .args .count) (start h .args .order .now)
+
+ordered : (h : Head) → InOrder (length (table h .starts)) (table h) (lie h)
 ordered h = start h .pre .2
 
+-- the cell of the turn
 abbrev cell : Turn → ℕ
 cell c = getD (start (head c) .args .order .now) (head c .loop .i) 0
 
-next : (c : Turn) → drop (head c .loop .i) (take (start (head c) .args .count) (start (head c) .args .order .now))
-    ≡ cell c ∷ drop (suc (head c .loop .i)) (take (start (head c) .args .count) (start (head c) .args .order .now))
+next : (c : Turn) → drop (head c .loop .i) (lie (head c)) ≡ cell c ∷ drop (suc (head c .loop .i)) (lie (head c))
 next c = next-is (start (head c) .args .order .now) (c .before .loop-test .taken) (start (head c) .pre .1)
 
-below : (c : Turn) → cell c < length (start (head c) .args .starts .now)
+below : (c : Turn) → cell c < length (table (head c) .starts)
 below c = next-below (ordered (head c)) (head c .loop .inv) (next c)
 
 short : (a : tie.Start Inv-loop μ-loop) → length (a .args .starts .now) < 1152921504606846976
@@ -77,9 +83,6 @@ returns c = let h = c .before .before in moving-leaves (h .loop .inv) (moving-fu
 
 mul-j : tie.Need-mul-j Inv-loop μ-loop
 mul-j c = omega (arith, start (head c) .pre .1, c .before .loop-test .taken)
-
-shared-slice-read-j : tie.Need-shared-slice-read-j Inv-loop μ-loop
-shared-slice-read-j c = omega arith
 
 cast-j : tie.Need-cast-j Inv-loop μ-loop
 cast-j c = omega (arith, c .shared-slice-known3 .given (c .before .before .before .loop .i))
@@ -118,9 +121,6 @@ add-to c =
 add-i : tie.Need-add-i Inv-loop μ-loop
 add-i c = omega (arith, c .before .before .before .before .before .loop-test .taken)
 
-loop-less : tie.Need-loop-less Inv-loop μ-loop
-loop-less c = omega arith
-
 loop-again : tie.Need-loop-again Inv-loop μ-loop
 loop-again c =
     let t = c .before .before .before .before in
@@ -138,7 +138,8 @@ same-length-4 : tie.Need-same-length-4 Inv-loop μ-loop
 same-length-4 c = c .before .loop .inv .size
 
 returns-2 : tie.Need-returns-2 Inv-loop μ-loop
-returns-2 c = let h = c .before in moving-leaves (h .loop .inv) (moving-ends (ordered h) (h .loop .inv) (omega (arith, length-take-le (start h .args .count) (start h .args .order .now) (start h .pre .1))))
+returns-2 c =
+    let h = c .before in moving-leaves (h .loop .inv) (moving-ends (ordered h) (h .loop .inv) (omega (arith, length-take-le (start h .args .count) (start h .args .order .now) (start h .pre .1))))
 
 pub move-cells-spec : {M : Type 1} → statement M
 move-cells-spec =
@@ -151,7 +152,7 @@ move-cells-spec =
     same-length-2
     returns
     mul-j
-    shared-slice-read-j
+    (λ c. omega arith)
     cast-j
     mul-start
     slice-read-start
@@ -163,7 +164,7 @@ move-cells-spec =
     add-moved
     add-to
     add-i
-    loop-less
+    (λ c. omega arith)
     loop-again
     same-length-3
     same-length-4

@@ -17,39 +17,15 @@ abbrev μ-loop : tie.MeasureT-loop
 loop-holds : tie.Need-loop-holds Inv-loop μ-loop
 loop-holds c = copy-begins (omega arith) (c .before .pre .1)
 
-sub-loop : tie.Need-sub-loop Inv-loop μ-loop
-sub-loop c = search needs
-
-add-move-few : tie.Need-add-move-few Inv-loop μ-loop
-add-move-few c = search needs
-
-add-move-few-2 : tie.Need-add-move-few-2 Inv-loop μ-loop
-add-move-few-2 c = search needs
-
 move-few-requires : tie.Need-move-few-requires Inv-loop μ-loop
 move-few-requires c κs =
     let l = copy-same (c .before .before .loop .inv) in
     (omega arith, omega arith, omega arith)
 
-add-done : tie.Need-add-done Inv-loop μ-loop
-add-done c = search needs
-
-loop-less : tie.Need-loop-less Inv-loop μ-loop
-loop-less c = omega arith
-
 loop-again : tie.Need-loop-again Inv-loop μ-loop
 loop-again c =
     let turn = c .before .before .before .before in
     part-moved (turn .before .loop .inv) (turn .before .before .before .pre .0) 256 (omega arith) (c .before .before .move-few .ensures)
-
-add-move-few-3 : tie.Need-add-move-few-3 Inv-loop μ-loop
-add-move-few-3 c = search needs
-
-add-move-few-4 : tie.Need-add-move-few-4 Inv-loop μ-loop
-add-move-few-4 c = search needs
-
-sub-move-few : tie.Need-sub-move-few Inv-loop μ-loop
-sub-move-few c = search needs
 
 move-few-requires-2 : tie.Need-move-few-requires-2 Inv-loop μ-loop
 move-few-requires-2 c κs =
@@ -76,16 +52,16 @@ move-down-spec =
     Inv-loop
     μ-loop
     loop-holds
-    sub-loop
-    add-move-few
-    add-move-few-2
+    (λ c. search needs)
+    (λ c. search needs)
+    (λ c. search needs)
     move-few-requires
-    add-done
-    loop-less
+    (λ c. search needs)
+    (λ c. omega arith)
     loop-again
-    add-move-few-3
-    add-move-few-4
-    sub-move-few
+    (λ c. search needs)
+    (λ c. search needs)
+    (λ c. search needs)
     move-few-requires-2
     same-length
     returns)
