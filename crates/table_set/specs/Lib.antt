@@ -1,1 +1,2 @@
 pub mod Masks
+pub mod Place
