@@ -1,3 +1,5 @@
 pub mod Columns
 pub mod Totals
 pub mod Places
+pub mod Settling
+pub mod Judging

@@ -63,6 +63,7 @@ module _ {n : ℕ} {s l b : List ℕ} (ok : TableOk 0 n (tableBy [] s l b)) wher
           let ends : ℕ → Type 0 = λ j. ending (offsetAt s) (offsetAt l) j ≤ length b in
           top-least (offsetAt s) (offsetAt l) (length b) (filled (tableBy [] s l b) n)
           (All-filled (offsetAt s) (offsetAt l) n ends (All-map (λ j. Placed (length b) (offsetAt s j) (offsetAt l j)) ends (λ j p. p .0) (from 0 n) (ok .placed)))
+
       go : (t : Bool) → leb size (length b - topOf (tableBy [] s l b) n) ≡ t → r ≡ topOf (pick t (tableBy [] s l b) (packedWhole n (tableBy [] s l b))) n → r + size ≤ length b
       go true e q = omega (arith, q, top-low, leb-true size (length b - topOf (tableBy [] s l b) n) e)
       go false e q = omega (arith, q, whole-packed ok .top)

@@ -1,6 +1,6 @@
 // Bytes put into the store, right after the highest-lying cell.
-use buffer::copy;
 use crate::sums;
+use buffer::copy;
 ghost use mathlib.Core.Path.{_≡_};
 ghost use mathlib.Core.List.{[]};
 ghost use Prim.Native.Nat.{_+_, _≤_, _<_};
