@@ -1,3 +1,4 @@
 pub mod Lines
 pub mod Order
+pub mod Rules
 pub mod Walk

@@ -6,7 +6,7 @@ ghost use Prim.Native.Nat.{_+_, _≤_};
 ghost use lib.ListN.{length, take, drop};
 ghost use Rattle.array.specs.Buffers.{overAt};
 ghost use Rattle.table.specs.Meaning.{tableBy};
-ghost use Rattle.table.specs.Walk.{InOrder, Moved};
+ghost use Rattle.table.specs.Walk.{AsLying, Moved};
 
 fn block() -> [u8; 256] {
     [0; 256]
@@ -48,7 +48,7 @@ pub fn move_cells(
     most: usize,
 ) -> usize
     requires { ⌜ (length (now lengths) ≡ length (now starts)) × (count ≤ length (now order))
-        × InOrder (length (now starts)) (tableBy [] (now starts) (now lengths) (now store)) (take count (now order)) ⌝ }
+        × AsLying (length (now starts)) (tableBy [] (now starts) (now lengths) (now store)) (take count (now order)) ⌝ }
     ensures { λ r. ⌜ Moved most (length (now (starts .entry))) (now (starts .entry)) (now (lengths .entry)) (now (store .entry)) r (now (starts .exit)) (now (store .exit)) ⌝ }
 {
     let mut i = 0;
