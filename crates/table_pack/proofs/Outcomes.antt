@@ -1,11 +1,11 @@
 -- What a packing call leaves behind, by where it ends: a refusal, each in its turn, or the packed table.
 -- Assumes nothing.
-use mathlib.Core.Path.{_≡_, refl, sym, ap₂, _∙_, subst}
-use mathlib.Core.Bool.{Bool, true, false, _&&_}
+use mathlib.Core.Path.{_≡_, sym, ap₂, _∙_, subst}
+use mathlib.Core.Bool.{true, false, _&&_}
 use mathlib.Core.List.{List, []}
 use Prim.Native.Nat.{ℕ}
-use lib.ListN.{length, take}
-use Rattle.array.specs.Answer.{Answer, gives, refuses, Outcome}
+use lib.ListN.{length}
+use Rattle.array.specs.Answer.{gives, refuses, Outcome}
 use Rattle.array.specs.Kind.{Kind}
 use Rattle.array.proofs.Rules.{both}
 use Rattle.table.specs.Table.{Table, startOf, lengthOf, filled, TableOk, tableKindTest, countTest, tableTest, storeTest}
