@@ -22,6 +22,9 @@ entry c = c .before .before .before .before
 abbrev start : tie.After-is-table-kind → tie.Start
 start c = entry (c .before)
 
+abbrev begun : tie.Else2 → tie.Start
+begun c = start (c .before .before .before)
+
 abbrev table : tie.Start → Table
 table s = tableBy (s .args .masks .now) (s .args .starts .now) (s .args .lengths .now) (s .args .store .now)
 
@@ -29,16 +32,16 @@ table s = tableBy (s .args .masks .now) (s .args .starts .now) (s .args .lengths
 kind : (c : tie.Else1) → tableKindTest (kindOf (start (c .before) .args .kind)) ≡ true
 kind c = sym (c .before .is-table-kind .ensures) ∙ not-false (c .before .is-table-kind .result) (c .if1 .left)
 
-most : (c : tie.Else2) → mostTest (start (c .before .before .before) .args .most) ≡ true
+most : (c : tie.Else2) → mostTest (begun c .args .most) ≡ true
 most c = sym (c .before .most-ok .ensures) ∙ not-false (c .before .most-ok .result) (c .if2 .left)
 
-count : (c : tie.Else3) → countTest (start (c .before .before .before .before .before) .args .cells) ≡ true
+count : (c : tie.Else3) → countTest (begun (c .before .before) .args .cells) ≡ true
 count c = sym (c .before .count-ok .ensures) ∙ not-false (c .before .count-ok .result) (c .if3 .left)
 
-asked : (c : tie.Else3) → let s = start (c .before .before .before .before .before) in Asked (kindOf (s .args .kind)) (s .args .cells) (s .args .most)
+asked : (c : tie.Else3) → let s = begun (c .before .before) in Asked (kindOf (s .args .kind)) (s .args .cells) (s .args .most)
 asked c =
     let f = c .before .before in
-    let s = start (f .before .before .before) in
+    let s = begun f in
     let m = most-ok (s .args .most) (most f) in
     record { kind = table-kind-ok (kindOf (s .args .kind)) (kind (f .before .before)); some = m .0; few = m .1; count = count-ok (s .args .cells) (count c) }
 
@@ -58,7 +61,7 @@ returns-2 c =
 returns-3 : tie.Need-returns-3
 returns-3 c =
     let m = c .before .before in
-    let s = start (m .before .before .before) in
+    let s = begun m in
     no-count (kindOf (s .args .kind)) (s .args .cells) (table s) (s .args .most) (both (kind (m .before .before)) (most m))
     (sym (c .before .count-ok .ensures) ∙ not-true (c .before .count-ok .result) (c .if3 .taken))
 
