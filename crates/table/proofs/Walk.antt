@@ -20,7 +20,7 @@ use Rattle.table.specs.Table.{Table, TableOk, startOf, lengthOf, bytesOf
 use Rattle.table.specs.Lying.{putAmong, lyingBy, packedAt, packedStart, displaced, moveTo, moveAll, movedCells, packed, packedWhole}
 use Rattle.table.specs.Order.{Follow, Lies}
 use Rattle.table.specs.Meaning.{tableBy}
-use Rattle.table.specs.Walk.{AsLying, Moved}
+use Rattle.table.specs.Walk.{InOrder, Moved}
 use Rattle.table.proofs.Order.{All-passing, All-filled, lies-all, lies-some, lies-below, lies-follow, lying-lies, follow-above}
 
 -- ---- lists
@@ -142,7 +142,7 @@ pub record Moving (most n : ℕ) (t : Table) (js : List ℕ) (u : Table) (i to m
 pub moving-begins : {most n : ℕ} {t : Table} {js : List ℕ} → Moving most n t js t 0 0 0
 moving-begins = record { within = omega arith; few = omega arith; place = refl; counted = refl; here = refl; size = refl; cells = refl }
 
-module _ {most n : ℕ} {t : Table} {js : List ℕ} {u : Table} {i to moved : ℕ} (o : AsLying n t js) (m : Moving most n t js u i to moved) where
+module _ {most n : ℕ} {t : Table} {js : List ℕ} {u : Table} {i to moved : ℕ} (o : InOrder n t js) (m : Moving most n t js u i to moved) where
   lies : Lies (startOf t) (lengthOf t) n js
   lies = subst (Lies (startOf t) (lengthOf t) n) (sym (o .lying)) (lying-lies (startOf t) (lengthOf t) n)
 
@@ -308,7 +308,7 @@ displaced-most n t =
 
 -- ---- the cells of a table that keeps the rules, in the order in which they lie
 
-pub in-order : {d n : ℕ} {t : Table} {js : List ℕ} → TableOk d n t → js ≡ lyingBy (startOf t) (lengthOf t) (filled t n) → AsLying n t js
+pub in-order : {d n : ℕ} {t : Table} {js : List ℕ} → TableOk d n t → js ≡ lyingBy (startOf t) (lengthOf t) (filled t n) → InOrder n t js
 in-order {d} {n} {t} {js} ok e =
     let start = startOf t in
     let len = lengthOf t in

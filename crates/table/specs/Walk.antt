@@ -11,7 +11,7 @@ use Rattle.table.specs.Order.{Follow}
 use Rattle.table.specs.Meaning.{tableBy}
 
 -- js are the cells of t that have bytes, as they lie: none begins before the one before it ends, and all lie in the store
-pub record AsLying (n : ℕ) (t : Table) (js : List ℕ) : Type 0 where
+pub record InOrder (n : ℕ) (t : Table) (js : List ℕ) : Type 0 where
   pub lying : js ≡ lyingBy (startOf t) (lengthOf t) (filled t n)
   pub follow : Follow (startOf t) (lengthOf t) 0 js
   pub ends : All (λ j. ending (startOf t) (lengthOf t) j ≤ length (t .store)) js

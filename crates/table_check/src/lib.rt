@@ -11,7 +11,6 @@ ghost use Rattle.table_check.specs.Check.{Reached};
 ghost use Rattle.table_check.specs.Told.{ToldOrder};
 use table_order::lie;
 
-pub mod kind;
 pub mod rules;
 
 // How the cells lie: so many have bytes, and the order begins with their numbers, as they lie; or a rule is broken.

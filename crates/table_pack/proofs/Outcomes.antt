@@ -12,7 +12,7 @@ use Rattle.table.specs.Table.{Table, startOf, lengthOf, filled, TableOk, tableK
 use Rattle.table.specs.Lying.{lyingBy, movedCells, packed}
 use Rattle.table.specs.Calls.{mostTest, packAnswer, cellsPacked}
 use Rattle.table.specs.Meaning.{tableBy}
-use Rattle.table.specs.Walk.{AsLying, Moved}
+use Rattle.table.specs.Walk.{InOrder, Moved}
 use Rattle.table.proofs.Rules.{table-kind-test, most-test, count-test, table-test}
 use Rattle.table.proofs.Walk.{in-order}
 use Rattle.table_pack.specs.Asked.{Asked}
@@ -57,7 +57,7 @@ module _ {k : Kind} {n most : ℕ} (a : Asked k n most) (t : Table) where
 
 -- the cells of a table that keeps the rules may be walked
 pub may-walk : {d n : ℕ} {t : Table} {js : List ℕ} → TableOk d n t → js ≡ lyingBy (startOf t) (lengthOf t) (filled t n)
-    → AsLying (length (t .starts)) (tableBy [] (t .starts) (t .lengths) (t .store)) js
+    → InOrder (length (t .starts)) (tableBy [] (t .starts) (t .lengths) (t .store)) js
 may-walk {d} {n} {t} {js} ok e =
-    let w : AsLying n t js = in-order ok e in
-    subst (λ (c : ℕ). AsLying c (tableBy [] (t .starts) (t .lengths) (t .store)) js) (sym (ok .starts-fit)) (record { lying = w .lying; follow = w .follow; ends = w .ends })
+    let w : InOrder n t js = in-order ok e in
+    subst (λ (c : ℕ). InOrder c (tableBy [] (t .starts) (t .lengths) (t .store)) js) (sym (ok .starts-fit)) (record { lying = w .lying; follow = w .follow; ends = w .ends })

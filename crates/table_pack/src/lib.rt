@@ -5,9 +5,9 @@ use array::refusal;
 use buffer::copy;
 use table_check::Order;
 use table_check::check_cells;
-use table_check::kind::count_ok;
-use table_check::kind::is_table_kind;
-use table_check::kind::store_ok;
+use table_kind::count_ok;
+use table_kind::is_table_kind;
+use table_kind::store_ok;
 ghost use mathlib.Core.Path.{_≡_};
 ghost use mathlib.Core.List.{[]};
 ghost use Prim.Native.Nat.{_+_, _≤_};
@@ -16,7 +16,7 @@ ghost use Rattle.array.specs.Buffers.{overAt};
 ghost use Rattle.array.specs.Meaning.{kindOf};
 ghost use Rattle.table.specs.Calls.{mostTest, cellsPacked};
 ghost use Rattle.table.specs.Meaning.{tableBy, outcomePacked};
-ghost use Rattle.table.specs.Walk.{AsLying, Moved};
+ghost use Rattle.table.specs.Walk.{InOrder, Moved};
 ghost use Rattle.table_pack.specs.Asked.{Asked};
 
 fn block() -> [u8; 256] {
@@ -59,7 +59,7 @@ pub fn move_cells(
     most: usize,
 ) -> usize
     requires { ⌜ (length (now lengths) ≡ length (now starts)) × (count ≤ length (now order))
-        × AsLying (length (now starts)) (tableBy [] (now starts) (now lengths) (now store)) (take count (now order)) ⌝ }
+        × InOrder (length (now starts)) (tableBy [] (now starts) (now lengths) (now store)) (take count (now order)) ⌝ }
     ensures { λ r. ⌜ Moved most (length (now (starts .entry))) (now (starts .entry)) (now (lengths .entry)) (now (store .entry)) r (now (starts .exit)) (now (store .exit)) ⌝ }
 {
     let mut i = 0;

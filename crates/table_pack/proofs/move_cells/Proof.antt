@@ -9,7 +9,7 @@ use lib.ListN.{length, take, drop, getD}
 use lib.Seq.{length-take-le}
 use Rattle.table.specs.Table.{Table}
 use Rattle.table.specs.Meaning.{tableBy}
-use Rattle.table.specs.Walk.{AsLying}
+use Rattle.table.specs.Walk.{InOrder}
 use Rattle.table.proofs.Walk.{Moving, moving-begins, next-below, next-room, next-fits, moving-stays, moving-moves, moving-is, moving-full, moving-ends, moving-leaves}
 use Rattle.table_pack.proofs.Within.{next-is}
 use Rattle.table_pack.proofs.move_cells.Statement.{statement}
@@ -53,7 +53,7 @@ table h = let a = start h .args in tableBy [] (a .starts .now) (a .lengths .now)
 abbrev lie : Head → List ℕ
 lie h = take (start h .args .count) (start h .args .order .now)
 
-ordered : (h : Head) → AsLying (length (table h .starts)) (table h) (lie h)
+ordered : (h : Head) → InOrder (length (table h .starts)) (table h) (lie h)
 ordered h = start h .pre .2
 
 -- the cell of the turn

@@ -1,9 +1,9 @@
--- `kind::store_ok` meets its contract: the limit under its name.
+-- `store_ok` meets its contract: the limit under its name.
 -- Assumes nothing.
 use mathlib.Core.Path.{refl}
 use Rattle.table.specs.Table.{mostStore}
-use Rattle.table_check.proofs.kind.store_ok.Statement.{statement}
-use Rattle.table_check.proofs.kind.store_ok.Tie as tie
+use Rattle.table_kind.proofs.store_ok.Statement.{statement}
+use Rattle.table_kind.proofs.store_ok.Tie as tie
 
 returns : tie.Need-returns
 unfolding mostStore

@@ -1,9 +1,9 @@
--- `kind::count_ok` meets its contract, by its two tests.
+-- `count_ok` meets its contract, by its two tests.
 -- Assumes nothing.
 use borrow.Author.Tests.{le-leb, lt-leb}
 use Rattle.array.specs.Limits.{mostCells}
-use Rattle.table_check.proofs.kind.count_ok.Statement.{statement}
-use Rattle.table_check.proofs.kind.count_ok.Tie as tie
+use Rattle.table_kind.proofs.count_ok.Statement.{statement}
+use Rattle.table_kind.proofs.count_ok.Tie as tie
 
 returns : tie.Need-returns
 unfolding mostCells
