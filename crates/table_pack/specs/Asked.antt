@@ -1,4 +1,4 @@
--- docs/SPEC.md, S6.20, S6.21: what a packing call asks before it looks at the table, refusals 1 and 2.
+-- docs/SPEC.md, S6.21: what a packing call asks before it looks at the table, refusals 1 and 2.
 -- Assumes nothing.
 use Prim.Native.Nat.{ℕ, _≤_}
 use Rattle.array.specs.Kind.{Kind}
