@@ -1,14 +1,13 @@
 -- The check's last stage: cells that keep the other rules share no byte where those that have bytes follow one another as they lie.
 -- Assumes nothing.
 use mathlib.Core.Path.{_≡_, refl, sym, ap, _∙_}
-use mathlib.Core.Bool.{Bool, true, false, _&&_}
+use mathlib.Core.Bool.{Bool, true, false, not, _&&_}
 use mathlib.Core.List.{List, [], _∷_}
 use Prim.Native.Nat.{ℕ, _+_, _≤_, _<_, _^_}
 use native.Mathlib.Omega.{arith}
 use lib.ListN.{length, take}
 use Rattle.array.specs.Lists.{from, All, every}
 use Rattle.array.specs.Cells.{strictTest}
-use Rattle.array.specs.Places.{offsetAt}
 use Rattle.array.proofs.Lists.{All-map}
 use Rattle.array.proofs.Rules.{left-of, right-of, all-every}
 use Rattle.table.specs.Table.{Table, startOf, lengthOf, filled, Placed, placedTest, apartTest, fitTest, restsTest, placesTest, tableTest}
@@ -17,6 +16,7 @@ use Rattle.table.proofs.Order.{All-filled, lies-all, lies-below, lies-are, foll
 use Rattle.table.proofs.Rules.{Fits, fit-ok, placed-ok, table-ok}
 use Rattle.table_check.specs.Check.{cellsTest, Reached}
 use Rattle.table_check.specs.Told.{Lain}
+use Rattle.table_check.proofs.Stages.{denied, granted}
 
 module _ (d n : ℕ) (t : Table) where
   abbrev apart : Bool
@@ -26,8 +26,8 @@ module _ (d n : ℕ) (t : Table) where
   unfolding tableTest
   apart-left = refl
 
-  pub cells-broken : cellsTest d n t ≡ false → tableTest d n t ≡ false
-  cells-broken e = apart-left ∙ ap (λ (b : Bool). b && apart) e
+  pub cells-broken : {r : Bool} → r ≡ cellsTest d n t → not r ≡ true → tableTest d n t ≡ false
+  cells-broken e h = apart-left ∙ ap (λ (b : Bool). b && apart) (denied e h)
 
   module _ (cells : cellsTest d n t ≡ true) where
     abbrev first : Bool
@@ -61,12 +61,10 @@ module _ (d n : ℕ) (t : Table) where
       follow-left : tableTest d n t ≡ followTest (startOf t) (lengthOf t) 0 js
       follow-left = apart-left ∙ ap (λ (b : Bool). b && apart) cells ∙ sym (follow-is l)
 
-      pub cells-overlap : followTest (startOf t) (lengthOf t) 0 js ≡ false → tableTest d n t ≡ false
-      cells-overlap e = follow-left ∙ e
+      pub cells-overlap : {r : Bool} → r ≡ followTest (startOf t) (lengthOf t) 0 js → not r ≡ true → tableTest d n t ≡ false
+      cells-overlap e h = follow-left ∙ denied e h
 
-      pub cells-apart : followTest (startOf t) (lengthOf t) 0 js ≡ true → {m : ℕ} {order : List ℕ} → take m order ≡ js → m ≤ n → Lain d n t order m
-      cells-apart e {m} {order} q h = record {
-        sound = table-ok d n t (follow-left ∙ e);
-        few = h;
-        order = q ∙ lies-are l (follow-ok (startOf t) (lengthOf t) 0 js e);
-      }
+      pub cells-apart : {r : Bool} → r ≡ followTest (startOf t) (lengthOf t) 0 js → not r ≡ false → {m : ℕ} {order : List ℕ} → take m order ≡ js → m ≤ n → Lain d n t order m
+      cells-apart e h {m} {order} q few =
+          let follows : followTest (startOf t) (lengthOf t) 0 js ≡ true = granted e h in
+          record { sound = table-ok d n t (follow-left ∙ follows); few = few; order = q ∙ lies-are l (follow-ok (startOf t) (lengthOf t) 0 js follows) }

@@ -1,13 +1,11 @@
 -- What each stage of the check answers, return by return.
 -- Assumes nothing.
-use mathlib.Core.Path.{_≡_, refl, sym, ap}
-use mathlib.Core.Bool.{Bool, true, false, _&&_}
-use mathlib.Core.List.{List, [], _∷_}
+use mathlib.Core.Path.{_≡_, sym, _∙_}
+use mathlib.Core.Bool.{Bool, true, false, not, _&&_}
 use Prim.Native.Nat.{ℕ, _+_, _*_, _≤_, _<_}
-use native.Mathlib.Omega.{arith}
 use lib.ListN.{length}
 use lib.Dec.{ltb, eqb}
-use borrow.Author.Tests.{le-leb, lt-leb, lt-ltb, le-ltb, eq-eqb, ne-eqb}
+use borrow.Author.Tests.{le-leb, lt-leb, lt-ltb, le-ltb, eq-eqb, ne-eqb, not-true, not-false}
 use Rattle.array.specs.Lists.{every}
 use Rattle.array.specs.Cells.{strictTest}
 use Rattle.table.specs.Table.{Table, placedTest, fitTest, restsTest, placesTest}
@@ -39,14 +37,36 @@ module _ (d n : ℕ) (t : Table) where
 
 -- ---- one stage after another
 
-pub fails-1 : {a : Bool} (b c d : Bool) → a ≡ false → false ≡ a && b && c && d
+-- what a test that was answered says
+pub denied : {b r : Bool} → r ≡ b → not r ≡ true → b ≡ false
+denied {r = r} e h = sym e ∙ not-true r h
+
+pub granted : {b r : Bool} → r ≡ b → not r ≡ false → b ≡ true
+granted {r = r} e h = sym e ∙ not-false r h
+
+fails-1 : {a : Bool} (b c d : Bool) → a ≡ false → false ≡ a && b && c && d
 fails-1 b c d p = rw p
 
-pub fails-2 : {a b : Bool} (c d : Bool) → a ≡ true → b ≡ false → false ≡ a && b && c && d
+fails-2 : {a b : Bool} (c d : Bool) → a ≡ true → b ≡ false → false ≡ a && b && c && d
 fails-2 c d p q = rw (p, q)
 
-pub fails-3 : {a b c : Bool} (d : Bool) → a ≡ true → b ≡ true → c ≡ false → false ≡ a && b && c && d
+fails-3 : {a b c : Bool} (d : Bool) → a ≡ true → b ≡ true → c ≡ false → false ≡ a && b && c && d
 fails-3 d p q r = rw (p, q, r)
 
-pub left-4 : {a b c d : Bool} → a ≡ true → b ≡ true → c ≡ true → {r : Bool} → r ≡ d → r ≡ a && b && c && d
-left-4 p q r {r = x} e = rw (p, q, r) e
+left-4 : {a b c d x : Bool} → a ≡ true → b ≡ true → c ≡ true → x ≡ d → x ≡ a && b && c && d
+left-4 p q r e = rw (p, q, r) e
+
+module _ (d n : ℕ) (t : Table) where
+  pub not-fit : {r : Bool} → r ≡ fitTest d n t → not r ≡ true → false ≡ cellsTest d n t
+  not-fit e h = fails-1 (every strictTest (t .masks)) (restsTest d n t) (placesTest n t) (denied e h)
+
+  module _ (fit : fitTest d n t ≡ true) where
+    pub not-strict : {r : Bool} → r ≡ every strictTest (t .masks) → not r ≡ true → false ≡ cellsTest d n t
+    not-strict e h = fails-2 (restsTest d n t) (placesTest n t) fit (denied e h)
+
+    module _ (strict : every strictTest (t .masks) ≡ true) where
+      pub not-resting : {r : Bool} → r ≡ restsTest d n t → not r ≡ true → false ≡ cellsTest d n t
+      not-resting e h = fails-3 (placesTest n t) fit strict (denied e h)
+
+      pub places-left : {r placed : Bool} → r ≡ restsTest d n t → not r ≡ false → placed ≡ placesTest n t → placed ≡ cellsTest d n t
+      places-left e h p = left-4 fit strict (granted e h) p

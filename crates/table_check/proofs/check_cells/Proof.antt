@@ -1,18 +1,18 @@
 -- `table_check::check_cells` meets its contract, by the laws of Checking.
 -- Assumes nothing.
-use mathlib.Core.Path.{_≡_, refl, sym, _∙_}
+use mathlib.Core.Path.{_≡_, refl, sym}
 use mathlib.Core.Bool.{true}
 use Prim.Native.Nat.{_<_, _^_}
 use native.Mathlib.Omega.{arith}
-use lib.ListN.{length, take}
+use lib.ListN.{length}
 use lib.Seq.{length-take-le}
 use borrow.Author.Needs.{needs}
-use borrow.Author.Tests.{not-true, not-false}
 use Rattle.table.specs.Table.{Table}
 use Rattle.table.specs.Meaning.{tableBy}
 use Rattle.table.proofs.Rules.{Fits}
 use Rattle.table_check.specs.Check.{cellsTest}
 use Rattle.table_check.proofs.Checking.{cells-broken, lists-fit, all-reached, cells-overlap, cells-apart}
+use Rattle.table_check.proofs.Stages.{granted}
 use Rattle.table_check.proofs.check_cells.Statement.{statement}
 use Rattle.table_check.proofs.check_cells.Tie as tie
 
@@ -34,7 +34,7 @@ lain c = c .before .before .before .before
 
 -- what the stages that were passed say
 cells : (c : tie.Else1) → let a = start (c .before) in cellsTest (a .args .depth) (a .args .n) (table a) ≡ true
-cells c = sym (c .before .keep-rules .ensures) ∙ not-false (c .before .keep-rules .result) (c .if1 .left)
+cells c = granted (c .before .keep-rules .ensures) (c .if1 .left)
 
 lists : (c : tie.Else1) → let a = start (c .before) in Fits (a .args .depth) (a .args .n) (table a)
 lists c = let a = start (c .before) in lists-fit (a .args .depth) (a .args .n) (table a) (cells c)
@@ -45,7 +45,7 @@ short a = omega arith
 returns : tie.Need-returns
 returns c =
     let a = start (c .before) in
-    cells-broken (a .args .depth) (a .args .n) (table a) (sym (c .before .keep-rules .ensures) ∙ not-true (c .before .keep-rules .result) (c .if1 .taken))
+    cells-broken (a .args .depth) (a .args .n) (table a) (c .before .keep-rules .ensures) (c .if1 .taken)
 
 lie-requires : tie.Need-lie-requires
 lie-requires c κs = let l = lists (c .before) in let p = start (c .before .before) .pre in omega arith
@@ -67,14 +67,14 @@ returns-2 c =
     let k = lain (c .before) in
     let a = start (kept k .before) in
     cells-overlap (a .args .depth) (a .args .n) (table a) (cells (kept k)) (k .lie .ensures .lies)
-    (sym (c .before .follow .ensures) ∙ not-true (c .before .follow .result) (c .if2 .taken))
+    (c .before .follow .ensures) (c .if2 .taken)
 
 returns-3 : tie.Need-returns-3
 returns-3 c =
     let k = lain (c .before) in
     let a = start (kept k .before) in
     cells-apart (a .args .depth) (a .args .n) (table a) (cells (kept k)) (k .lie .ensures .lies)
-    (sym (c .before .follow .ensures) ∙ not-false (c .before .follow .result) (c .if2 .left)) refl (k .lie .ensures .within)
+    (c .before .follow .ensures) (c .if2 .left) refl (k .lie .ensures .within)
 
 pub check-cells-spec : {M : Type 1} → statement M
 check-cells-spec =

@@ -119,7 +119,7 @@ add-to c =
     omega (arith, next-room (ordered (head t)) (head t .loop .inv) (next t), next-fits (ordered (head t)) (head t .loop .inv) (next t), head t .loop .inv .size)
 
 add-i : tie.Need-add-i Inv-loop μ-loop
-add-i c = omega (arith, c .before .before .before .before .before .loop-test .taken)
+add-i c = let t = c .before .before .before .before in omega (arith, t .before .loop-test .taken)
 
 loop-again : tie.Need-loop-again Inv-loop μ-loop
 loop-again c =

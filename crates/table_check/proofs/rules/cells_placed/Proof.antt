@@ -1,13 +1,13 @@
 -- `table_check::rules::cells_placed` meets its contract: the walk of Walks over the cells, which stops at the first that is not placed.
 -- Assumes nothing.
 use Prim.Native.Nat.{_-_}
-use mathlib.Core.Path.{sym, _∙_}
+use mathlib.Core.Path.{sym}
 use mathlib.Core.Bool.{true}
 use native.Mathlib.Omega.{arith}
 use borrow.Author.Needs.{needs}
-use borrow.Author.Tests.{not-true, not-false}
 use Rattle.table_check.specs.Check.{placedAt}
 use Rattle.table_check.proofs.Walks.{Walk, walk-begins, walk-more, walk-ends, walk-stops}
+use Rattle.table_check.proofs.Stages.{denied, granted}
 use Rattle.table_check.proofs.rules.cells_placed.Statement.{statement}
 use Rattle.table_check.proofs.rules.cells_placed.Tie as tie
 
@@ -26,11 +26,11 @@ loop-holds c = let a = c .before .before .args in walk-begins (placedAt (a .size
 
 returns : tie.Need-returns Inv-loop μ-loop
 returns c =
-    walk-stops (head (c .before) .loop .inv) (omega arith) (sym (c .before .cell-placed .ensures) ∙ not-true (c .before .cell-placed .result) (c .if1 .taken))
+    walk-stops (head (c .before) .loop .inv) (omega arith) (denied (c .before .cell-placed .ensures) (c .if1 .taken))
 
 loop-again : tie.Need-loop-again Inv-loop μ-loop
 loop-again c =
-    walk-more (head (c .before) .loop .inv) (omega arith) (sym (not-false (c .before .cell-placed .result) (c .if1 .left)) ∙ c .before .cell-placed .ensures)
+    walk-more (head (c .before) .loop .inv) (omega arith) (sym (granted (c .before .cell-placed .ensures) (c .if1 .left)))
 
 returns-2 : tie.Need-returns-2 Inv-loop μ-loop
 returns-2 c = walk-ends (c .before .loop .inv) (omega arith)
