@@ -3,3 +3,4 @@ pub mod Totals
 pub mod Places
 pub mod Settling
 pub mod Judging
+pub mod Outcomes

@@ -3,6 +3,9 @@ use array::kind::Kind;
 use array::refusal;
 use table::answer::Settled;
 use table_check::Order;
+use table_check::check_cells;
+use table_kind::count_ok;
+use table_kind::is_table_kind;
 use table_order::few;
 use table_order::many;
 ghost use mathlib.Core.Path.{_≡_};
@@ -14,6 +17,9 @@ ghost use Rattle.table.specs.Table.{TableKind, CountOk};
 ghost use Rattle.table.specs.Calls.{cellSet};
 ghost use Rattle.table.specs.Meaning.{tableBy, outcomeSettled};
 ghost use Rattle.table_set.specs.Settle.{Sound, Ready, settledBy, settingBy};
+
+// Cells of which the lying order takes little of the stack.
+const FEW: usize = 2048;
 
 pub mod masks;
 pub mod place;
@@ -90,4 +96,158 @@ fn set_sound(
         size,
     );
     Settled::Set
+}
+
+// The same of a sound kind and count: 4 before them. `order` has room for the cells as they lie.
+// 10 parameters: a table is four slices, and a setting three.
+fn set_with(
+    kind: Kind,
+    cells: usize,
+    masks: &mut [u8],
+    starts: &mut [u64],
+    lengths: &mut [u64],
+    store: &mut [u8],
+    cell: usize,
+    cell_masks: &[u8],
+    value: &[u8],
+    order: &mut [u16],
+) -> Settled
+    requires { ⌜ TableKind (kindOf kind) × CountOk cells × (cells ≤ length (now order)) ⌝ }
+    ensures { λ r. ⌜ outcomeSettled r (now (masks .exit)) (now (starts .exit)) (now (lengths .exit)) (now (store .exit))
+        ≡ cellSet (kindOf kind) cells (tableBy (now (masks .entry)) (now (starts .entry)) (now (lengths .entry)) (now (store .entry)))
+        cell (now («cell_masks» .entry)) (now (value .entry)) ⌝ }
+{
+    let depth = kind.depth as usize;
+    let lies = check_cells(depth, cells, masks, starts, lengths, store, order);
+    match lies {
+        Order::Broken => Settled::Refused(refusal::CONTENT),
+        Order::Lies(_) => {
+            if !masks::are_sound(cell_masks, depth) {
+                return Settled::Refused(refusal::CONTENT);
+            }
+            set_sound(
+                masks,
+                starts,
+                lengths,
+                store,
+                order,
+                cell,
+                cell_masks,
+                value,
+            )
+        }
+    }
+}
+
+// The same with room for the order of few cells, so that a small table takes little of the stack.
+fn set_few(
+    kind: Kind,
+    cells: usize,
+    masks: &mut [u8],
+    starts: &mut [u64],
+    lengths: &mut [u64],
+    store: &mut [u8],
+    cell: usize,
+    cell_masks: &[u8],
+    value: &[u8],
+) -> Settled
+    requires { ⌜ TableKind (kindOf kind) × CountOk cells × (cells ≤ 2048) ⌝ }
+    ensures { λ r. ⌜ outcomeSettled r (now (masks .exit)) (now (starts .exit)) (now (lengths .exit)) (now (store .exit))
+        ≡ cellSet (kindOf kind) cells (tableBy (now (masks .entry)) (now (starts .entry)) (now (lengths .entry)) (now (store .entry)))
+        cell (now («cell_masks» .entry)) (now (value .entry)) ⌝ }
+{
+    let mut order = few();
+    set_with(
+        kind,
+        cells,
+        masks,
+        starts,
+        lengths,
+        store,
+        cell,
+        cell_masks,
+        value,
+        &mut order,
+    )
+}
+
+// The same with room for the order of any table.
+fn set_many(
+    kind: Kind,
+    cells: usize,
+    masks: &mut [u8],
+    starts: &mut [u64],
+    lengths: &mut [u64],
+    store: &mut [u8],
+    cell: usize,
+    cell_masks: &[u8],
+    value: &[u8],
+) -> Settled
+    requires { ⌜ TableKind (kindOf kind) × CountOk cells ⌝ }
+    ensures { λ r. ⌜ outcomeSettled r (now (masks .exit)) (now (starts .exit)) (now (lengths .exit)) (now (store .exit))
+        ≡ cellSet (kindOf kind) cells (tableBy (now (masks .entry)) (now (starts .entry)) (now (lengths .entry)) (now (store .entry)))
+        cell (now («cell_masks» .entry)) (now (value .entry)) ⌝ }
+{
+    let mut order = many();
+    set_with(
+        kind,
+        cells,
+        masks,
+        starts,
+        lengths,
+        store,
+        cell,
+        cell_masks,
+        value,
+        &mut order,
+    )
+}
+
+// Sets a cell of a working table to other masks and bytes. Refusals 1, 2, 4, 5, 15 and 16, in this order; nothing changes before the last
+// check, also no cell is packed.
+pub fn set_cell(
+    kind: Kind,
+    cells: usize,
+    masks: &mut [u8],
+    starts: &mut [u64],
+    lengths: &mut [u64],
+    store: &mut [u8],
+    cell: usize,
+    cell_masks: &[u8],
+    value: &[u8],
+) -> Settled
+    ensures { λ r. ⌜ outcomeSettled r (now (masks .exit)) (now (starts .exit)) (now (lengths .exit)) (now (store .exit))
+        ≡ cellSet (kindOf kind) cells (tableBy (now (masks .entry)) (now (starts .entry)) (now (lengths .entry)) (now (store .entry)))
+        cell (now («cell_masks» .entry)) (now (value .entry)) ⌝ }
+{
+    if !is_table_kind(kind) {
+        return Settled::Refused(refusal::KIND);
+    }
+    if !count_ok(cells) {
+        return Settled::Refused(refusal::SHAPE);
+    }
+    if cells <= FEW {
+        return set_few(
+            kind,
+            cells,
+            masks,
+            starts,
+            lengths,
+            store,
+            cell,
+            cell_masks,
+            value,
+        );
+    }
+    set_many(
+        kind,
+        cells,
+        masks,
+        starts,
+        lengths,
+        store,
+        cell,
+        cell_masks,
+        value,
+    )
 }
