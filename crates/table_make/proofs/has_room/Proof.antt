@@ -19,7 +19,8 @@ returns : tie.Need-returns
 returns c =
     let a = start c .args in
     let p = start c .pre in
-    sym (le-leb _ (a .room) (omega (arith, c .if1 .taken, p .3, values-long (a .masks .now) (a .depth) (p .2) (a .values .now) (p .3), bytes-le (p .2) (shownAt (a .cells) (a .masks .now) (a .depth)))))
+    let long = values-long (a .masks .now) (a .depth) (p .2) (a .values .now) (p .3) in
+    sym (le-leb _ (a .room) (omega (arith, c .if1 .taken, p .3, long, bytes-le (p .2) (shownAt (a .cells) (a .masks .now) (a .depth)))))
 
 returns-2 : tie.Need-returns-2
 returns-2 c =
