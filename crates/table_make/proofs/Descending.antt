@@ -2,17 +2,17 @@
 -- Assumes nothing.
 use mathlib.Core.Path.{_≡_, refl, sym, ap, ap₂, _∙_, subst}
 use mathlib.Core.Bool.{Bool, true, false, _&&_}
-use mathlib.Core.List.{List, [], _∷_, _++_, map}
+use mathlib.Core.List.{List, _++_, map}
 use Prim.Native.Nat.{ℕ, zero, suc, _+_, _-_, _*_, _≤_, _<_}
 use native.Mathlib.Nat.{zero-add, zero-mul, one-mul, suc-mul, sub-zero, mul-le-mul-right}
 use native.Mathlib.Numerals.{add-one}
 use native.Mathlib.Omega.{arith}
-use lib.ListN.{length, take, drop, getD, length-append, length-map}
+use lib.ListN.{length, take, drop, getD, length-append}
 use lib.Seq.{take-at, getD-take, length-take-le}
 use Rattle.array.specs.Lists.{from, pick}
 use Rattle.array.specs.Buffers.{over, overAt}
 use Rattle.array.specs.Cells.{setTest}
-use Rattle.array.specs.Places.{maskAt, masksAt, planesBy, shownAt}
+use Rattle.array.specs.Places.{maskAt, planesBy, shownAt}
 use Rattle.array.proofs.Lists.{map-from, entry}
 use Rattle.array.proofs.Numbered.{plane-is}
 use Rattle.array.proofs.Over.{over-again, over-at-length}

@@ -23,7 +23,7 @@ use Rattle.valid.proofs.CheckLaws.{KeepsRules, check-refused, check-passed, che
 use Rattle.codec.specs.Interleaved.{IsRagged, raggedTest}
 use Rattle.encode_cells.specs.Live.{Planes}
 use Rattle.encode_ragged.specs.Offsets.{Offsets}
-use Rattle.table.specs.Table.{Table, TableKind, tableKindTest, countTest, storeTest, mostStore}
+use Rattle.table.specs.Table.{Table, TableKind, tableKindTest, countTest, storeTest}
 use Rattle.table.specs.Calls.{TableLengths, tableLengths, TableEnough, tableEnoughTest, tableOf, makeAnswer, made}
 use Rattle.table.specs.Meaning.{tableBy}
 use Rattle.table_make.specs.Rested.{restMask, sizeAt, startAt, restTable, Held, tableOutcome, putTable}

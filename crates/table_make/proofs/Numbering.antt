@@ -1,15 +1,15 @@
 -- Loops that store f j for the cell j: what is left to write, turn by turn.
 -- Assumes nothing.
-use mathlib.Core.Path.{_≡_, sym, ap, ap₂, _∙_}
-use mathlib.Core.List.{List, [], _∷_, _++_, map}
+use mathlib.Core.Path.{_≡_, sym, ap, _∙_}
+use mathlib.Core.List.{List, _∷_, _++_, map}
 use Prim.Native.Nat.{ℕ, suc, _+_, _-_, _≤_, _<_}
 use native.Mathlib.Nat.{sub-zero}
 use native.Mathlib.Numerals.{add-one}
 use native.Mathlib.Omega.{arith}
-use lib.ListN.{length, take, drop, getD, set, length-append, length-map, List·getD-append}
+use lib.ListN.{length, take, getD, set, length-append, length-map, List·getD-append}
 use lib.Seq.{length-take-le, getD-append-add}
 use Rattle.array.specs.Lists.{from}
-use Rattle.array.specs.Buffers.{over, overAt}
+use Rattle.array.specs.Buffers.{overAt}
 use Rattle.array.proofs.Lists.{length-from}
 use Rattle.array.proofs.Laying.{Laying, laying-begins, laying-same, laying-ends, laying-store, laying-is, laying-room, laying-before}
 

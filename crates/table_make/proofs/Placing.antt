@@ -1,12 +1,11 @@
 -- Starts and lengths, cell by cell: what lies there, and how many bytes the cells before have.
 -- Assumes nothing.
-use mathlib.Core.Path.{_≡_, refl, sym, ap, ap₂, _∙_}
+use mathlib.Core.Path.{_≡_, sym, ap₂, _∙_}
 use mathlib.Core.List.{List}
 use Prim.Native.Nat.{ℕ, _+_, _-_, _*_, _≤_, _<_}
 use native.Mathlib.Nat.{zero-add}
 use native.Mathlib.Omega.{arith}
 use lib.ListN.{length, getD, set}
-use Rattle.array.specs.Lists.{pick}
 use Rattle.array.specs.Places.{shownAt, offsetAt}
 use Rattle.encode_cells.specs.Live.{liveOne}
 use Rattle.encode_ragged.specs.Offsets.{Offsets}

@@ -12,7 +12,7 @@ use Rattle.array.specs.Kind.{Kind, Place, Form, fixed, ragged, nullOf}
 use Rattle.array.specs.Cells.{Value}
 use Rattle.array.specs.Content.{Content, ValuesOk, ContentOk, restForm}
 use Rattle.array.specs.Offsets.{ends, offsetsOf}
-use Rattle.array.specs.Places.{offsetAt, stepAt, valueAt, valueIn, valuesAt, shownAt, laidBy}
+use Rattle.array.specs.Places.{offsetAt, stepAt, valueAt, valueIn, shownAt, laidBy}
 use Rattle.array.proofs.Lists.{map-from}
 use Rattle.array.proofs.Places.{value-long}
 use Rattle.array.proofs.Numbered.{rest-laid}

@@ -5,7 +5,7 @@ use mathlib.Core.Path.{_≡_}
 use mathlib.Core.List.{List, map}
 use lib.ListN.{length, getD}
 use Rattle.array.specs.Answer.{Answer, mapAnswer, Outcome}
-use Rattle.array.specs.Limits.{mostDepth, mostCells, mostBytes}
+use Rattle.array.specs.Limits.{mostDepth, mostCells}
 use Rattle.array.specs.Lists.{pick, from, joined, passing}
 use Rattle.array.specs.Offsets.{last, Rising}
 use Rattle.array.specs.Cells.{setTest}

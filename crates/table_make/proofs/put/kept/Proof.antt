@@ -1,7 +1,6 @@
 -- `put::kept` meets its contract, by what the mark of the byte above says.
 -- Assumes nothing.
-use mathlib.Core.Path.{_≡_, sym, ap, _∙_}
-use Prim.Native.Nat.{ℕ}
+use mathlib.Core.Path.{sym, ap, _∙_}
 use borrow.Author.Needs.{needs}
 use Rattle.array.specs.Lists.{pick}
 use Rattle.array.specs.Cells.{Mark, setTestBy}

@@ -2,7 +2,6 @@
 -- Assumes nothing.
 use Prim.Native.Nat.{_-_}
 use native.Mathlib.Omega.{arith}
-use borrow.Author.Needs.{needs}
 use Rattle.table_make.proofs.Descending.{Descending, descending-begins, descending-same, descending-ends, descending-room, descending-more}
 use Rattle.table_make.proofs.put.put_levels.Statement.{statement}
 use Rattle.table_make.proofs.put.put_levels.Tie as tie
