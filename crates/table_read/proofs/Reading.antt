@@ -1,0 +1,145 @@
+-- What copying the cells of a table keeps: those before `at` lie in the outputs, end to end.
+-- Assumes nothing.
+use mathlib.Core.Path.{_≡_, refl, sym, ap, ap₂, _∙_, subst}
+use Prim.Native.Nat.{ℕ, zero, suc, _+_, _-_, _*_, _≤_, _<_}
+use native.Mathlib.Nat.{zero-add}
+use native.Mathlib.Numerals.{add-one}
+use native.Mathlib.Omega.{arith}
+use mathlib.Core.List.{List, [], _∷_, _++_, map}
+use lib.ListN.{length, take, drop, getD, set, length-append, length-drop, length-map, drop-of-length-le}
+use lib.Seq.{length-take-le, drop-cons}
+use Rattle.array.specs.Lists.{from, joined}
+use Rattle.array.specs.Offsets.{ends, offsetsOf}
+use Rattle.array.specs.Cells.{Value}
+use Rattle.array.specs.Buffers.{over, overAt}
+use Rattle.array.specs.Places.{sum}
+use Rattle.array.proofs.Lists.{map-from, in-place, length-from}
+use Rattle.array.proofs.Sums.{sumOf, length-joined-map}
+use Rattle.array.proofs.Offsets.{length-ends}
+use Rattle.array.proofs.Laying.{Laying, laying-begins, laying-same, laying-left, laying-ends, laying-part, laying-store, laying-is, laying-room}
+use Rattle.table.specs.Table.{Table, startOf, lengthOf, bytesOf}
+use Rattle.table_read.specs.Read.{valuesOf, InStore, CellsAsked}
+
+-- ---- cells are as long as the table says
+
+module _ {n : ℕ} {t : Table} (s : InStore n t) where
+  pub bytes-long : (j : ℕ) → j < n → length (bytesOf t j) ≡ lengthOf t j
+  bytes-long j h = length-take-le (lengthOf t j) (drop (startOf t j) (t .store)) (omega (arith, length-drop (startOf t j) (t .store), s .placed j h))
+
+  pub values-long : length (joined (valuesOf n t)) ≡ sum (t .lengths)
+  values-long =
+      length-joined-map (bytesOf t) (from 0 n)
+      ∙ ap sum (map-from (λ j. length (bytesOf t j)) (lengthOf t) 0 n (λ j h. bytes-long j (omega arith))
+      ∙ ap (λ (m : ℕ). map (lengthOf t) (from 0 m)) (sym (s .lengths-fit)) ∙ in-place 0 (t .lengths))
+
+pub offsets-long : (n : ℕ) (t : Table) → length (offsetsOf (valuesOf n t)) ≡ n + 1
+offsets-long n t = omega (arith, length-ends 0 (valuesOf n t), length-map (from 0 n) (bytesOf t), length-from 0 n)
+
+-- ---- the lengths added up
+
+pub record Counting (ls : List ℕ) (total at : ℕ) : Type 0 where
+  pub within : at ≤ length ls
+  pub counted : total + sum (drop at ls) ≡ sum ls
+
+pub count-begins : (ls : List ℕ) → Counting ls 0 0
+count-begins ls = record { within = omega arith; counted = omega arith }
+
+module _ {ls : List ℕ} {total at : ℕ} (c : Counting ls total at) where
+  count-next : at < length ls → total + (getD ls at 0 + sum (drop (at + 1) ls)) ≡ sum ls
+  count-next h =
+      let e : drop at ls ≡ getD ls at 0 ∷ drop (at + 1) ls = drop-cons ls at 0 h ∙ ap (λ (k : ℕ). getD ls at 0 ∷ drop k ls) (sym (add-one at)) in
+      ap (λ (xs : List ℕ). total + sum xs) (sym e) ∙ c .counted
+
+  pub count-fits : at < length ls → total + getD ls at 0 ≤ sum ls
+  count-fits h = omega (arith, count-next h)
+
+  pub count-more : at < length ls → Counting ls (total + getD ls at 0) (at + 1)
+  count-more h = record { within = omega arith; counted = omega (arith, count-next h) }
+
+  pub count-ends : length ls ≤ at → total ≡ sum ls
+  count-ends h = let e : drop at ls ≡ [] = drop-of-length-le ls {i = at} h in omega (arith, c .counted, ap sum e)
+
+-- ---- cells copied one after another
+
+-- the values of the cells from `at` on
+abbrev valuesFrom : ℕ → Table → ℕ → List Value
+valuesFrom n t at = map (bytesOf t) (from at (n - at))
+
+-- what is still to be stored of the offsets, the next cell beginning at `to`
+abbrev offsetsFrom : ℕ → Table → ℕ → ℕ → List ℕ
+offsetsFrom n t at to = to ∷ ends to (valuesFrom n t at)
+
+pub record Reading (n : ℕ) (t : Table) (v₀ o₀ v o : List ℕ) (at to : ℕ) : Type 0 where
+  pub within : at ≤ n
+  pub values : Laying (joined (valuesOf n t)) v₀ 0 v to (joined (valuesFrom n t at))
+  pub offsets : Laying (offsetsOf (valuesOf n t)) o₀ 0 o at (offsetsFrom n t at to)
+
+from-zero : (n : ℕ) (t : Table) → valuesOf n t ≡ valuesFrom n t 0
+from-zero n t = let e : n ≡ n - 0 = omega arith in ap (λ (m : ℕ). map (bytesOf t) (from 0 m)) e
+
+from-next : (n : ℕ) (t : Table) (at : ℕ) → at < n → valuesFrom n t at ≡ bytesOf t at ∷ valuesFrom n t (at + 1)
+from-next n t at h =
+    let e : n - at ≡ suc (n - (at + 1)) = omega arith in
+    ap (λ (m : ℕ). map (bytesOf t) (from at m)) e ∙ ap (λ (k : ℕ). bytesOf t at ∷ map (bytesOf t) (from k (n - (at + 1)))) (sym (add-one at))
+
+from-end : (n : ℕ) (t : Table) (at : ℕ) → n ≤ at → valuesFrom n t at ≡ []
+from-end n t at h = let e : n - at ≡ 0 = omega arith in ap (λ (m : ℕ). map (bytesOf t) (from at m)) e
+
+pub read-begins : {n : ℕ} {t : Table} {v o : List ℕ} → CellsAsked n t v o → Reading n t v o v o 0 0
+read-begins {n} {t} {v} {o} a = record {
+  within = omega arith;
+  values = laying-is (laying-begins (joined (valuesOf n t)) v 0 (omega (arith, values-long (a .cells), a .for-values))) (ap joined (from-zero n t));
+  offsets = laying-is (laying-begins (offsetsOf (valuesOf n t)) o 0 (omega (arith, offsets-long n t, a .for-offsets))) (ap offsetsOf (from-zero n t));
+}
+
+module _ {n : ℕ} {t : Table} {v₀ o₀ v o : List ℕ} {at to : ℕ} (c : Reading n t v₀ o₀ v o at to) where
+  pub read-same : length v ≡ length v₀
+  read-same = laying-same (joined (valuesOf n t)) v₀ 0 v to (joined (valuesFrom n t at)) (c .values)
+
+  pub read-same-offsets : length o ≡ length o₀
+  read-same-offsets = laying-same (offsetsOf (valuesOf n t)) o₀ 0 o at (offsetsFrom n t at to) (c .offsets)
+
+  pub offset-room : at < length o
+  offset-room = omega (arith, laying-room (offsetsOf (valuesOf n t)) o₀ 0 o at to (ends to (valuesFrom n t at)) (c .offsets))
+
+  -- the offset of the next cell, or of the end, is stored
+  offset-stored : Laying (offsetsOf (valuesOf n t)) o₀ 0 (set o at to) (at + 1) (ends to (valuesFrom n t at))
+  offset-stored =
+      let want : List ℕ = offsetsOf (valuesOf n t) in
+      let left : List ℕ = ends to (valuesFrom n t at) in
+      subst (λ (j : ℕ). Laying want o₀ 0 (set o j to) (at + 1) left) (zero-add at) (laying-store want o₀ 0 o at to left (c .offsets))
+
+  module _ (s : InStore n t) (h : at < n) where
+    pub value-room : to + lengthOf t at ≤ length v
+    value-room =
+        let want : List ℕ = joined (valuesOf n t) in
+        let left : List ℕ = joined (valuesFrom n t at) in
+        omega (
+          arith,
+          laying-left want v₀ 0 v to left (c .values),
+          ap (λ (vs : List Value). length (joined vs)) (from-next n t at h),
+          length-append (bytesOf t at) (joined (valuesFrom n t (at + 1))),
+          bytes-long s at h,
+          c .values .room,
+          read-same,
+        )
+
+    pub read-more : {v′ : List ℕ} → v′ ≡ overAt to (bytesOf t at) v → Reading n t v₀ o₀ v′ (set o at to) (at + 1) (to + lengthOf t at)
+    read-more {v′} e =
+        let want : List ℕ = joined (valuesOf n t) in
+        let cut : List Value = valuesFrom n t (at + 1) in
+        let k : ℕ = to + length (bytesOf t at) in
+        let long : k ≡ to + lengthOf t at = omega (arith, bytes-long s at h) in
+        record {
+          within = omega arith;
+          values = laying-part want v₀ 0 v to (bytesOf t at) (joined cut) (laying-is (c .values) (ap joined (from-next n t at h))) v′
+              (e ∙ ap (λ (j : ℕ). overAt j (bytesOf t at) v) (sym (zero-add to))) (to + lengthOf t at) (sym long);
+          offsets = laying-is offset-stored (ap (ends to) (from-next n t at h) ∙ ap (λ (j : ℕ). j ∷ ends j cut) long);
+        }
+
+  module _ (h : n ≤ at) where
+    pub read-values : v ≡ over (joined (valuesOf n t)) v₀
+    read-values = laying-ends (joined (valuesOf n t)) v₀ 0 v to (laying-is (c .values) (ap joined (from-end n t at h)))
+
+    pub read-offsets : set o at to ≡ over (offsetsOf (valuesOf n t)) o₀
+    read-offsets = laying-ends (offsetsOf (valuesOf n t)) o₀ 0 (set o at to) (at + 1) (laying-is offset-stored (ap (ends to) (from-end n t at h)))
