@@ -4,7 +4,6 @@ use Prim.Native.Nat.{ℕ, _+_, _≤_, _<_}
 use mathlib.Core.Path.{_≡_}
 use mathlib.Core.List.{List, [], map}
 use lib.ListN.{length}
-use Rattle.array.specs.Limits.{mostCells}
 use Rattle.array.specs.Lists.{from, joined}
 use Rattle.array.specs.Offsets.{offsetsOf}
 use Rattle.array.specs.Cells.{Value}
@@ -24,15 +23,19 @@ valuesOf n t = map (bytesOf t) (from 0 n)
 abbrev pub readBy : ℕ → Table → Content
 readBy n t = record { masks = t .masks; values = joined (valuesOf n t); offsets = offsetsOf (valuesOf n t) }
 
--- n cells that lie in the store, few enough
+-- n cells that lie in the store
 pub record InStore (n : ℕ) (t : Table) : Type 0 where
   pub starts-fit : length (t .starts) ≡ n
   pub lengths-fit : length (t .lengths) ≡ n
   pub placed : (j : ℕ) → j < n → startOf t j + lengthOf t j ≤ length (t .store)
-  pub few : n ≤ mostCells
 
 -- with room for them in the outputs
 pub record CellsAsked (n : ℕ) (t : Table) (values offsets : List ℕ) : Type 0 where
   pub cells : InStore n t
   pub for-values : sum (t .lengths) ≤ length values
   pub for-offsets : n + 1 ≤ length offsets
+
+-- cells that all fit in the store at once, as those of a sound table do
+pub record ReadAsked (n : ℕ) (t : Table) : Type 0 where
+  pub cells : InStore n t
+  pub total : sum (t .lengths) ≤ length (t .store)

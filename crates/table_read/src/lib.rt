@@ -1,54 +1,46 @@
 // The working table read out, in rest form.
+mod cells;
+
+use crate::cells::copy_values;
+use crate::cells::count_bytes;
 use array::answer::WrittenArray;
 use array::refusal;
 use buffer::copy;
 ghost use mathlib.Core.Path.{_≡_};
-ghost use Prim.Native.Nat.{ℕ, _+_, _^_, _≤_, _<_};
-ghost use lib.ListN.{length};
-ghost use Rattle.array.specs.Lists.{joined};
-ghost use Rattle.array.specs.Offsets.{offsetsOf};
-ghost use Rattle.array.specs.Buffers.{over};
-ghost use Rattle.array.specs.Places.{sum};
-ghost use Rattle.table_read.specs.Read.{cellsBy, valuesOf, CellsAsked};
+ghost use Rattle.array.specs.Buffers.{putInto};
+ghost use Rattle.array.specs.Outcome.{contentArray, outcomeArray};
+ghost use Rattle.table.specs.Meaning.{tableBy};
+ghost use Rattle.table_read.specs.Read.{readBy, ReadAsked};
 
-// How many bytes the cells have.
-fn count_bytes(lengths: &[u64]) -> usize
-    requires { ⌜ sum (now lengths) < 2 ^ 64 ⌝ }
-    ensures { λ r. ⌜ r ≡ sum (now (lengths .entry)) ⌝ }
-{
-    let mut total: usize = 0;
-    let mut at: usize = 0;
-    while at < lengths.len() {
-        total += lengths[at] as usize;
-        at += 1;
-    }
-    total
-}
-
-// Copies the bytes of each cell, end to end, and stores where each begins and the last one ends.
-fn copy_values(
+// The cells of a table that keeps the rules: 6, or the masks as they are, the values end to end and the offsets.
+fn read_checked(
     cells: usize,
+    masks: &[u8],
     starts: &[u64],
     lengths: &[u64],
     store: &[u8],
+    out_masks: &mut [u8],
     out_values: &mut [u8],
     out_offsets: &mut [u64],
-)
-    requires { ⌜ CellsAsked cells (cellsBy (now starts) (now lengths) (now store)) (now «out_values») (now «out_offsets») ⌝ }
-    ensures values { λ _. ⌜ now («out_values» .exit)
-        ≡ over (joined (valuesOf cells (cellsBy (now (starts .entry)) (now (lengths .entry)) (now (store .entry))))) (now («out_values» .entry)) ⌝ }
-    ensures offsets { λ _. ⌜ now («out_offsets» .exit)
-        ≡ over (offsetsOf (valuesOf cells (cellsBy (now (starts .entry)) (now (lengths .entry)) (now (store .entry))))) (now («out_offsets» .entry)) ⌝ }
+) -> WrittenArray
+    requires { ⌜ ReadAsked cells (tableBy (now masks) (now starts) (now lengths) (now store)) ⌝ }
+    ensures { λ r. ⌜ outcomeArray r (now («out_masks» .exit)) (now («out_values» .exit)) (now («out_offsets» .exit))
+        ≡ putInto (readBy cells (tableBy (now (masks .entry)) (now (starts .entry)) (now (lengths .entry)) (now (store .entry))))
+        (contentArray (now («out_masks» .entry)) (now («out_values» .entry)) (now («out_offsets» .entry))) ⌝ }
 {
-    let mut at: usize = 0;
-    let mut to: usize = 0;
-    while at < cells {
-        out_offsets[at] = to as u64;
-        let start = starts[at] as usize;
-        let size = lengths[at] as usize;
-        copy::copy_bytes(out_values, to, store, start, size);
-        to += size;
-        at += 1;
+    let planes = masks.len();
+    let bytes = count_bytes(lengths);
+    let count = cells + 1;
+    if out_masks.len() < planes {
+        return WrittenArray::Refused(refusal::OUTPUT);
     }
-    out_offsets[at] = to as u64;
+    if out_values.len() < bytes {
+        return WrittenArray::Refused(refusal::OUTPUT);
+    }
+    if out_offsets.len() < count {
+        return WrittenArray::Refused(refusal::OUTPUT);
+    }
+    copy::copy_many(out_masks, 0, masks, 0, planes);
+    copy_values(cells, starts, lengths, store, out_values, out_offsets);
+    WrittenArray::Lengths(planes, bytes, count)
 }

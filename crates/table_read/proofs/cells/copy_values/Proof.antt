@@ -1,4 +1,4 @@
--- `copy_values` meets its contract, by the laws of Reading.
+-- `cells::copy_values` meets its contract, by the laws of Reading.
 -- Assumes nothing.
 use mathlib.Core.Path.{_∙_}
 use Prim.Native.Nat.{ℕ, _-_}
@@ -6,8 +6,8 @@ use native.Mathlib.Omega.{arith}
 use lib.ListN.{length, length-set}
 use Rattle.table_read.specs.Read.{cellsBy}
 use Rattle.table_read.proofs.Reading.{Reading, read-begins, read-same, read-same-offsets, offset-room, value-room, read-more, read-values, read-offsets}
-use Rattle.table_read.proofs.copy_values.Statement.{statement}
-use Rattle.table_read.proofs.copy_values.Tie as tie
+use Rattle.table_read.proofs.cells.copy_values.Statement.{statement}
+use Rattle.table_read.proofs.cells.copy_values.Tie as tie
 
 abbrev Inv-loop : tie.InvT-loop
 Inv-loop cells starts lengths store out-values₀ out-offsets₀ at₀ to₀ out-values out-offsets at to =

@@ -1,11 +1,11 @@
--- `count_bytes` meets its contract, by the laws of Reading.
+-- `cells::count_bytes` meets its contract, by the laws of Reading.
 -- Assumes nothing.
 use Prim.Native.Nat.{ℕ, _-_}
 use native.Mathlib.Omega.{arith}
 use lib.ListN.{length}
 use Rattle.table_read.proofs.Reading.{Counting, count-begins, count-fits, count-more, count-ends}
-use Rattle.table_read.proofs.count_bytes.Statement.{statement}
-use Rattle.table_read.proofs.count_bytes.Tie as tie
+use Rattle.table_read.proofs.cells.count_bytes.Statement.{statement}
+use Rattle.table_read.proofs.cells.count_bytes.Tie as tie
 
 abbrev Inv-loop : tie.InvT-loop
 Inv-loop lengths total₀ at₀ total at = Counting lengths total at
