@@ -44,7 +44,7 @@ use Rattle.table.specs.Table.{
   placesTest,
   tableTest,
   mostStore,
-  storeTest
+  storeTest,
 }
 use Rattle.table.specs.Setting.{SettingOk, settingTest}
 use Rattle.table.specs.Calls.{TableLengths, TableEnough, tableEnoughTest, mostTest}
