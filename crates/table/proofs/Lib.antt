@@ -1,6 +1,6 @@
 pub mod Lines
-pub mod Rules
 pub mod Order
+pub mod Rules
 pub mod Each
 pub mod Filled
 pub mod Fitting

@@ -1,8 +1,7 @@
 -- Each rule for a working table and its test: the test passes where the rule holds (X-test), and the rule holds where the test passes (X-ok).
 -- Assumes nothing.
 use mathlib.Core.Path.{_≡_, refl}
-use mathlib.Core.Logic.{_⊎_, inl, inr}
-use mathlib.Core.Bool.{Bool, true, false, _&&_, _||_}
+use mathlib.Core.Bool.{Bool, true, false, _&&_}
 use mathlib.Core.List.{List, [], _∷_}
 use Prim.Native.Nat.{ℕ, zero, suc, _+_, _*_, _≤_}
 use lib.ListN.{length}
@@ -16,38 +15,11 @@ use Rattle.array.specs.Places.{maskAt, shownBy}
 use Rattle.array.proofs.Rules.{both, left-of, right-of, every-all, all-every, kind-test, kind-ok, strict-test, strict-ok}
 use Rattle.codec.specs.Interleaved.{raggedTest}
 use Rattle.codec.proofs.Refusals.{is-ragged-test, is-ragged-ok}
-use Rattle.table.specs.Table.{
-  Table,
-  startOf,
-  lengthOf,
-  TableKind,
-  tableKindTest,
-  CountOk,
-  countTest,
-  OrZero,
-  orZeroTest,
-  RestMasks,
-  restMasksTest,
-  RestBy,
-  restByTest,
-  Placed,
-  placedTest,
-  ending,
-  Clear,
-  clearTest,
-  Apart,
-  apartTest,
-  filled,
-  TableOk,
-  fitTest,
-  restsTest,
-  placesTest,
-  tableTest,
-  mostStore,
-  storeTest,
-}
+use Rattle.table.specs.Table.{Table, startOf, lengthOf, TableKind, tableKindTest, CountOk, countTest, OrZero, orZeroTest, RestMasks, restMasksTest, RestBy, restByTest}
+use Rattle.table.specs.Table.{Placed, placedTest, apartTest, filled, TableOk, fitTest, restsTest, placesTest, tableTest, mostStore, storeTest}
 use Rattle.table.specs.Setting.{SettingOk, settingTest}
 use Rattle.table.specs.Calls.{TableLengths, TableEnough, tableEnoughTest, mostTest}
+use Rattle.table.proofs.Order.{apart-test, apart-ok}
 
 -- ---- 1: the kind, and how many cells a packing call moves
 
@@ -111,34 +83,6 @@ placed-ok size start len e =
     let b : Bool = orZeroTest (ltb 0 len) start in
     (leb-true (start + len) size (left-of a b e), or-zero-ok (ltb 0 len) start (right-of a b e))
 
--- cells that start at start j and have len j bytes
-module _ (start len : ℕ → ℕ) where
-  pub clear-test : (i j : ℕ) → Clear start len i j → clearTest start len i j ≡ true
-  clear-test i j (inl h) = rw (le-leb (start i + len i) (start j) h)
-  clear-test i j (inr h) = or-true (leb (ending start len i) (start j)) (le-leb (ending start len j) (start i) h)
-    where
-      or-true : (a : Bool) {b : Bool} → b ≡ true → a || b ≡ true
-      or-true true e = refl
-      or-true false e = e
-
-  pub clear-ok : (i j : ℕ) → clearTest start len i j ≡ true → Clear start len i j
-  clear-ok i j e = go (leb (ending start len i) (start j)) refl e
-    where
-      go : (b : Bool) → leb (ending start len i) (start j) ≡ b → b || leb (ending start len j) (start i) ≡ true → Clear start len i j
-      go true q e = inl (leb-true (ending start len i) (start j) q)
-      go false q e = inr (leb-true (ending start len j) (start i) e)
-
-  pub apart-test : (is : List ℕ) → Apart start len is → apartTest start len is ≡ true
-  apart-test [] p = refl
-  apart-test (i ∷ is) p = both (every-all (Clear start len i) (clearTest start len i) (clear-test i) is (p .0)) (apart-test is (p .1))
-
-  pub apart-ok : (is : List ℕ) → apartTest start len is ≡ true → Apart start len is
-  apart-ok [] e = tt
-  apart-ok (i ∷ is) e =
-      let a : Bool = every (clearTest start len i) is in
-      let b : Bool = apartTest start len is in
-      (all-every (Clear start len i) (clearTest start len i) (clear-ok i) is (left-of a b e), apart-ok is (right-of a b e))
-
 module _ (d n : ℕ) (t : Table) where
   abbrev maskOf : ℕ → ℕ → ℕ
   maskOf j l = maskAt n (t .masks) l j
@@ -154,12 +98,27 @@ module _ (d n : ℕ) (t : Table) where
       (λ j. placed-test (length (t .store)) (startOf t j) (lengthOf t j)) (from 0 n) (p .placed)))
       (apart-test (startOf t) (lengthOf t) (filled t n) (p .apart))
 
-  pub table-ok : tableTest d n t ≡ true → TableOk d n t
-  unfolding tableTest
-  table-ok e =
+  -- the lists are as long as the cells ask
+  pub record Fits : Type 0 where
+    pub masks-fit : length (t .masks) ≡ d * n
+    pub starts-fit : length (t .starts) ≡ n
+    pub lengths-fit : length (t .lengths) ≡ n
+
+  pub fit-ok : fitTest d n t ≡ true → Fits
+  fit-ok e =
       let a : Bool = eqb (length (t .masks)) (d * n) in
       let b : Bool = eqb (length (t .starts)) n in
       let c : Bool = eqb (length (t .lengths)) n in
+      let e0 : a && b ≡ true = left-of (a && b) c e in
+      record {
+        masks-fit = eqb-true (length (t .masks)) (d * n) (left-of a b e0);
+        starts-fit = eqb-true (length (t .starts)) n (right-of a b e0);
+        lengths-fit = eqb-true (length (t .lengths)) n (right-of (a && b) c e);
+      }
+
+  pub table-ok : tableTest d n t ≡ true → TableOk d n t
+  unfolding tableTest
+  table-ok e =
       let f : Bool = fitTest d n t in
       let s : Bool = every strictTest (t .masks) in
       let r : Bool = restsTest d n t in
@@ -168,12 +127,11 @@ module _ (d n : ℕ) (t : Table) where
       let e4 : f && s && r && q ≡ true = left-of (f && s && r && q) l e in
       let e3 : f && s && r ≡ true = left-of (f && s && r) q e4 in
       let e2 : f && s ≡ true = left-of (f && s) r e3 in
-      let e1 : a && b && c ≡ true = left-of f s e2 in
-      let e0 : a && b ≡ true = left-of (a && b) c e1 in
+      let g : Fits = fit-ok (left-of f s e2) in
       record {
-        masks-fit = eqb-true (length (t .masks)) (d * n) (left-of a b e0);
-        starts-fit = eqb-true (length (t .starts)) n (right-of a b e0);
-        lengths-fit = eqb-true (length (t .lengths)) n (right-of (a && b) c e1);
+        masks-fit = g .masks-fit;
+        starts-fit = g .starts-fit;
+        lengths-fit = g .lengths-fit;
         strict = all-every Strict strictTest strict-ok (t .masks) (right-of f s e2);
         rests =
             all-every (λ j. RestBy (maskOf j) d (lengthOf t j)) (λ j. restByTest (maskOf j) d (lengthOf t j)) (λ j. rest-by-ok (maskOf j) d (lengthOf t j))
