@@ -7,7 +7,7 @@ use native.Mathlib.Numerals.{add-one}
 use native.Mathlib.Omega.{arith}
 use mathlib.Core.List.{List, [], _∷_, _++_, map}
 use lib.ListN.{length, take, drop, getD, set, length-append, length-drop, length-map, drop-of-length-le}
-use lib.Seq.{length-take-le, drop-cons}
+use lib.Seq.{length-take-le, take-all, drop-cons}
 use Rattle.array.specs.Lists.{from, joined}
 use Rattle.array.specs.Offsets.{ends, offsetsOf}
 use Rattle.array.specs.Cells.{Value}
@@ -34,6 +34,10 @@ module _ {n : ℕ} {t : Table} (s : InStore n t) where
 
 pub offsets-long : (n : ℕ) (t : Table) → length (offsetsOf (valuesOf n t)) ≡ n + 1
 offsets-long n t = omega (arith, length-ends 0 (valuesOf n t), length-map (from 0 n) (bytesOf t), length-from 0 n)
+
+-- all of a list copied
+pub whole-copied : (s d : List ℕ) {out : List ℕ} → out ≡ overAt 0 (take (length s) (drop 0 s)) d → out ≡ over s d
+whole-copied s d e = e ∙ ap (λ (l : List ℕ). over l d) (take-all (length s) s (omega arith))
 
 -- ---- the lengths added up
 

@@ -1,20 +1,16 @@
 -- `read_checked` meets its contract: which output is too short, or that all was stored.
 -- Assumes nothing.
-use mathlib.Core.Path.{_≡_, refl, sym, ap, _∙_}
-use Prim.Native.Nat.{ℕ}
+use mathlib.Core.Path.{_≡_, refl, sym, _∙_}
 use native.Mathlib.Omega.{arith}
-use mathlib.Core.List.{List}
 use borrow.Author.Needs.{needs}
 use lib.ListN.{length}
-use lib.Seq.{take-all}
 use Rattle.array.specs.Content.{Content}
-use Rattle.array.specs.Buffers.{over}
 use Rattle.array.specs.Outcome.{contentArray}
 use Rattle.array.proofs.Putting.{no-masks, no-values, no-offsets, put}
 use Rattle.table.specs.Table.{Table}
 use Rattle.table.specs.Meaning.{tableBy}
 use Rattle.table_read.specs.Read.{readBy}
-use Rattle.table_read.proofs.Reading.{values-long, offsets-long}
+use Rattle.table_read.proofs.Reading.{values-long, offsets-long, whole-copied}
 use Rattle.table_read.proofs.read_checked.Statement.{statement}
 use Rattle.table_read.proofs.read_checked.Tie as tie
 
@@ -77,10 +73,9 @@ returns-4 c =
     let roomy = first .before .before in
     let counted = counted roomy in
     let s = start counted in
-    let masks : List ℕ = s .args .masks .now in
     put (content s) (outputs s) _ _ _ refl (bytes-are counted) (offsets-long (s .args .cells) (table s))
     (roomy .before .before .if1 .left) (roomy .before .if2 .left) (roomy .if3 .left) _ _ _
-    (first .copy-many .ensures ∙ ap (λ (l : List ℕ). over l (s .args .out-masks .now)) (take-all (length masks) masks (omega arith)))
+    (whole-copied (s .args .masks .now) (s .args .out-masks .now) (first .copy-many .ensures))
     (copied .copy-values .ensures .0) (copied .copy-values .ensures .1)
 
 pub read-checked-spec : {M : Type 1} → statement M
