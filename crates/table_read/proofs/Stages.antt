@@ -6,14 +6,13 @@ use mathlib.Core.List.{List, map}
 use Prim.Native.Nat.{ℕ, _*_}
 use native.Mathlib.Nat.{zero-mul, zero-add}
 use lib.ListN.{length, drop}
-use Rattle.array.specs.Answer.{Outcome}
 use Rattle.array.specs.Lists.{from}
 use Rattle.array.specs.Offsets.{offsetsOf}
 use Rattle.array.specs.Kind.{Kind, Form, fixed, ragged}
 use Rattle.array.specs.Cells.{Value}
 use Rattle.array.specs.Content.{Content, layout, offsetsFor}
 use Rattle.array.specs.Places.{maskAt}
-use Rattle.array.specs.Buffers.{Lengths, putInto}
+use Rattle.array.specs.Buffers.{putInto}
 use Rattle.array.proofs.Inverse.{planes-whole}
 use Rattle.array.proofs.LayoutLaws.{content-path}
 use Rattle.array.proofs.Numbered.{laid-is}
@@ -67,8 +66,8 @@ module _ (k : Kind) (n : ℕ) (t : Table) (out : Content) where
       unfolding readOut readAnswer
       by-store e = rw (table-kind-test k kind, count-test n count, table-test (k .depth) n t ok, e)
 
-      pub by-cells : storeTest t ≡ true → {r : Outcome Lengths Content} → r ≡ putInto (readBy n t) out → r ≡ readOut k n t out
+      pub by-cells : storeTest t ≡ true → readOut k n t out ≡ putInto (readBy n t) out
       unfolding readOut readAnswer
-      by-cells e r =
+      by-cells e =
           rw (table-kind-test k kind, count-test n count, table-test (k .depth) n t ok, e)
-          (r ∙ ap (λ (c : Content). putInto c out) (sym (read-is ok (k .form) (kind .is-ragged))))
+          (ap (λ (c : Content). putInto c out) (read-is ok (k .form) (kind .is-ragged)))

@@ -1,7 +1,9 @@
 // The bytes of a table's cells: counted, and copied end to end.
 use buffer::copy;
 ghost use mathlib.Core.Path.{_≡_};
+ghost use mathlib.Core.Bool.{_||_};
 ghost use Prim.Native.Nat.{_^_, _<_};
+ghost use lib.Dec.{eqb};
 ghost use Rattle.array.specs.Lists.{joined};
 ghost use Rattle.array.specs.Offsets.{offsetsOf};
 ghost use Rattle.array.specs.Buffers.{over};
@@ -22,7 +24,15 @@ pub fn count_bytes(lengths: &[u64]) -> usize
     total
 }
 
-// Copies the bytes of each cell, end to end, and stores where each begins and the last one ends.
+// Whether a cell goes on where the bytes before it end. One with none goes anywhere.
+fn goes_on(start: usize, size: usize, end: usize) -> bool
+    ensures { λ r. ⌜ r ≡ eqb size 0 || eqb start end ⌝ }
+{
+    size == 0 || start == end
+}
+
+// Copies the bytes of each cell, end to end, and stores where each begins and the last one ends. Cells that also lie one behind another
+// in the store are copied at once.
 pub fn copy_values(
     cells: usize,
     starts: &[u64],
@@ -39,13 +49,21 @@ pub fn copy_values(
 {
     let mut at: usize = 0;
     let mut to: usize = 0;
+    let mut first: usize = 0;
+    let mut waiting: usize = 0;
     while at < cells {
-        out_offsets[at] = to as u64;
         let start = starts[at] as usize;
         let size = lengths[at] as usize;
-        copy::copy_bytes(out_values, to, store, start, size);
-        to += size;
+        if !goes_on(start, size, first + waiting) {
+            copy::copy_many(out_values, to, store, first, waiting);
+            to += waiting;
+            first = start;
+            waiting = 0;
+        }
+        out_offsets[at] = (to + waiting) as u64;
+        waiting += size;
         at += 1;
     }
-    out_offsets[at] = to as u64;
+    copy::copy_many(out_values, to, store, first, waiting);
+    out_offsets[at] = (to + waiting) as u64;
 }

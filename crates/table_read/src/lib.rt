@@ -1,9 +1,10 @@
 // The working table read out, in rest form.
 mod cells;
-pub mod kind;
+mod kind;
 
 use crate::cells::copy_values;
 use crate::cells::count_bytes;
+use crate::kind::MOST_CELLS;
 use crate::kind::count_ok;
 use crate::kind::is_table_kind;
 use crate::kind::store_ok;
@@ -100,12 +101,12 @@ fn read_with(
     }
 }
 
-fn few() -> [u16; 2048] {
-    [0; 2048]
+fn few() -> [u16; FEW] {
+    [0; FEW]
 }
 
-fn many() -> [u16; 65536] {
-    [0; 65536]
+fn many() -> [u16; MOST_CELLS] {
+    [0; MOST_CELLS]
 }
 
 // The same with room for the order of few cells, so that a small table takes little of the stack.

@@ -90,8 +90,8 @@ returns-3 c =
     let tested = read .before .before .before .before in
     let told = tested .before .before in
     let s = begun told in
-    by-cells (kind s) (s .args .cells) (table s) (outputs s) (s .pre .0) (s .pre .1) (sound told)
-    (sym (tested .before .store-ok .ensures) ∙ not-false (tested .before .store-ok .result) (tested .if1 .left)) (read .read-checked .ensures)
+    let tests = sym (tested .before .store-ok .ensures) ∙ not-false (tested .before .store-ok .result) (tested .if1 .left) in
+    rw (by-cells (kind s) (s .args .cells) (table s) (outputs s) (s .pre .0) (s .pre .1) (sound told) tests) (read .read-checked .ensures)
 
 pub read-with-spec : {M : Type 1} → statement M
 read-with-spec =
