@@ -1,7 +1,7 @@
 -- What copying the cells of a table keeps: those before `at` lie in the outputs, end to end.
 -- Assumes nothing.
-use mathlib.Core.Path.{_≡_, refl, sym, ap, ap₂, _∙_, subst}
-use Prim.Native.Nat.{ℕ, zero, suc, _+_, _-_, _*_, _≤_, _<_}
+use mathlib.Core.Path.{_≡_, refl, sym, ap, _∙_, subst}
+use Prim.Native.Nat.{ℕ, suc, _+_, _-_, _≤_, _<_}
 use native.Mathlib.Nat.{zero-add, add-zero}
 use native.Mathlib.Numerals.{add-one}
 use native.Mathlib.Omega.{arith}
@@ -18,7 +18,7 @@ use Rattle.array.specs.Cells.{Value}
 use Rattle.array.specs.Buffers.{over, overAt}
 use Rattle.array.specs.Places.{sum}
 use Rattle.array.proofs.Lists.{map-from, in-place, length-from}
-use Rattle.array.proofs.Sums.{sumOf, length-joined-map}
+use Rattle.array.proofs.Sums.{length-joined-map}
 use Rattle.array.proofs.Offsets.{length-ends}
 use Rattle.array.proofs.Laying.{Laying, laying-begins, laying-same, laying-left, laying-ends, laying-part, laying-store, laying-is, laying-room}
 use Rattle.table.specs.Table.{Table, startOf, lengthOf, bytesOf}

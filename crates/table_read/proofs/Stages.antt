@@ -19,7 +19,7 @@ use Rattle.array.proofs.Numbered.{laid-is}
 use Rattle.array.proofs.Putting.{refused}
 use Rattle.codec.specs.Interleaved.{IsRagged}
 use Rattle.table.specs.Table.{Table, startOf, lengthOf, bytesOf, cellOf, TableKind, tableKindTest, CountOk, countTest, Placed, TableOk, tableTest, storeTest}
-use Rattle.table.specs.Calls.{contentOf, readAnswer, readOut}
+use Rattle.table.specs.Calls.{readAnswer, readOut}
 use Rattle.table.proofs.Each.{below-all}
 use Rattle.table.proofs.Order.{sum-fits}
 use Rattle.table.proofs.Rules.{table-kind-test, count-test, table-test}

@@ -32,7 +32,7 @@ fn goes_on(start: usize, size: usize, end: usize) -> bool
 }
 
 // Copies the bytes of each cell, end to end, and stores where each begins and the last one ends. Cells that also lie one behind another
-// in the store are copied at once.
+// in the store are copied at once: so many bytes of it from `first` on wait for the place `to`.
 pub fn copy_values(
     cells: usize,
     starts: &[u64],

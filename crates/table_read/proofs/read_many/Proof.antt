@@ -12,7 +12,8 @@ lent c = let known = c .before .before .before in known .before .before .before 
 read-with-requires : tie.Need-read-with-requires
 unfolding mostCells
 read-with-requires c κs =
-    let p = lent (c .before .before .before .before .before) .pre in
+    let made = c .before .before .before .before in
+    let p = lent (made .before) .pre in
     (p .0, p .1, omega arith)
 
 pub read-many-spec : {M : Type 1} → statement M

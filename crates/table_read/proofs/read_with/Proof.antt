@@ -1,7 +1,6 @@
 -- `read_with` meets its contract: the stages in their order (Stages), and then the cells.
 -- Assumes nothing.
-use mathlib.Core.Path.{_≡_, sym, _∙_, subst}
-use mathlib.Core.Bool.{true, false}
+use mathlib.Core.Path.{sym, _∙_, subst}
 use Prim.Native.Nat.{ℕ}
 use mathlib.Core.List.{List}
 use borrow.Author.Tests.{not-true, not-false}
@@ -10,7 +9,7 @@ use Rattle.array.specs.Kind.{Kind}
 use Rattle.array.specs.Content.{Content}
 use Rattle.array.specs.Outcome.{contentArray}
 use Rattle.array.specs.Meaning.{kindOf}
-use Rattle.table.specs.Table.{Table, TableOk, tableTest, storeTest}
+use Rattle.table.specs.Table.{Table, TableOk}
 use Rattle.table.specs.Meaning.{tableBy}
 use Rattle.table_check.specs.declared.Order.{Order}
 use Rattle.table_check.specs.Told.{ToldOrder}
@@ -74,7 +73,7 @@ returns c =
     (sym (c .before .store-ok .ensures) ∙ not-true (c .before .store-ok .result) (c .if1 .taken))
 
 read-checked-requires : tie.Need-read-checked-requires
-read-checked-requires c κs = reads-well (sound (c .before .before .before .before .before))
+read-checked-requires c κs = let tested = c .before .before .before in reads-well (sound (tested .before .before))
 
 returns-2 : tie.Need-returns-2
 returns-2 c =

@@ -1,6 +1,6 @@
 -- `cells::count_bytes` meets its contract, by the laws of Reading.
 -- Assumes nothing.
-use Prim.Native.Nat.{ℕ, _-_}
+use Prim.Native.Nat.{_-_}
 use native.Mathlib.Omega.{arith}
 use lib.ListN.{length}
 use Rattle.table_read.proofs.Reading.{Counting, count-begins, count-fits, count-more, count-ends}
