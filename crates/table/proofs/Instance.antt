@@ -9,9 +9,9 @@ use Rattle.array.specs.Limits.{mostCells, mostBytes}
 use Rattle.array.specs.Content.{Content}
 use Rattle.array.proofs.Rules.{array-ok}
 use Rattle.table.specs.Table.{Table, TableKind, CountOk, cellOf, tableTest, mostStore}
-use Rattle.table.specs.Lying.{displaced, packed}
+use Rattle.table.specs.Lying.{displaced}
 use Rattle.table.specs.Calls.{makeAnswer, made, readOut, cellSet, cellsPacked}
-use Rattle.table.specs.Lines.{single, table, array, moves, a, b, c, x, z, o}
+use Rattle.table.specs.Lines.{single, table, array, a, b, c, x, z, o}
 use Rattle.table.specs.Laws.{Working, MakeLaw, SetLaw, PackLaw, packedTimes}
 use Rattle.table.proofs.Rules.{table-ok}
 use Rattle.table.proofs.Reading.{reads}

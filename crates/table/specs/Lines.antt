@@ -1,4 +1,4 @@
--- docs/SPEC.md, S10.24 to S10.31: calls on working tables worked out by hand: where bytes go, what packing moves, and the refusals in their order.
+-- docs/SPEC.md, S10.37 to S10.44: calls on working tables worked out by hand: where bytes go, what packing moves, and the refusals in their order.
 -- Assumes nothing.
 use Prim.Native.Nat.{ℕ}
 use mathlib.Core.Path.{_≡_}

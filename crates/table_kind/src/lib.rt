@@ -1,13 +1,11 @@
 // What every call on a working table asks first: the kind, the count of cells, and the store's length.
 use array::kind::Kind;
 use array::kind::Values;
+use valid::shape::MOST_CELLS;
 ghost use mathlib.Core.Path.{_≡_};
 ghost use lib.Dec.{leb};
 ghost use Rattle.array.specs.Meaning.{kindOf};
 ghost use Rattle.table.specs.Table.{tableKindTest, countTest, mostStore};
-
-// Cells of a table at most.
-pub const MOST_CELLS: usize = 65536;
 
 // Bytes of a store at most.
 pub const MOST_STORE: usize = 16777216;
@@ -26,11 +24,11 @@ pub fn is_table_kind(kind: Kind) -> bool
     }
 }
 
-// Whether a table may have so many cells.
+// Whether a table may have so many cells: some, and no more than a shape has.
 pub fn count_ok(cells: usize) -> bool
     ensures { λ r. ⌜ r ≡ countTest cells ⌝ }
 {
-    1 <= cells && cells <= MOST_CELLS
+    1 <= cells && cells as u64 <= MOST_CELLS
 }
 
 // Whether a store may have so many bytes.

@@ -3,75 +3,32 @@
 use mathlib.Core.Path.{_≡_, refl, sym, ap, _∙_}
 use Prim.Native.Nat.{ℕ, _*_, _≤_, _<_}
 use native.Mathlib.Omega.{arith}
-use mathlib.Core.Bool.{Bool, true, false, _&&_, false≢true}
+use mathlib.Core.Bool.{Bool, true, false}
 use mathlib.Core.List.{List}
 use lib.ListN.{length}
 use lib.Dec.{leb}
-use borrow.Author.Tests.{le-leb, leb-true}
+use borrow.Author.Tests.{leb-true}
 use Rattle.array.specs.Answer.{Answer, gives, refuses, unless, Outcome}
 use Rattle.array.specs.Limits.{mostCells, mostDepth}
-use Rattle.array.specs.Kind.{Kind, kindTest, Form, fixed, ragged}
+use Rattle.array.specs.Kind.{Kind, Form, fixed, ragged}
 use Rattle.array.specs.Content.{Content, ValuesOk, restForm, unlessKept}
 use Rattle.array.specs.Buffers.{over, ifRoom}
-use Rattle.array.specs.Meaning.{formOf, kindOf}
 use Rattle.array.specs.declared.kind.Kind as declared
-use Rattle.array.specs.declared.kind.Values.{Values}
-use Rattle.array.proofs.Rules.{both, left-of, right-of, kind-ok}
+use Rattle.array.proofs.Rules.{right-of}
 use Rattle.valid.specs.declared.array_bytes.Checked.{Checked}
 use Rattle.valid.specs.Check.{checkOf, toldChecked}
 use Rattle.valid.proofs.CheckLaws.{KeepsRules, check-refused, check-passed, check-valid}
-use Rattle.codec.specs.Interleaved.{IsRagged, raggedTest}
+use Rattle.codec.specs.Interleaved.{IsRagged}
 use Rattle.encode_cells.specs.Live.{Planes}
 use Rattle.encode_ragged.specs.Offsets.{Offsets}
 use Rattle.table.specs.Table.{Table, TableKind, tableKindTest, countTest, storeTest}
 use Rattle.table.specs.Calls.{TableLengths, tableLengths, TableEnough, tableEnoughTest, tableOf, makeAnswer, made}
 use Rattle.table.specs.Meaning.{tableBy}
+use Rattle.table.proofs.Rules.{table-kind-ok, table-enough-test, table-enough-ok}
 use Rattle.table_make.specs.Rested.{restMask, sizeAt, startAt, restTable, Held, tableOutcome, putTable}
 use Rattle.table_make.proofs.Numbering.{length-numbered}
 use Rattle.table_make.proofs.Descending.{length-planes}
 use Rattle.table_make.proofs.Rested.{table-path, rested-is}
-
--- ---- the kind
-
-module _ (k : declared.Kind) where
-  pub kind-wrong : kindTest (kindOf k) ≡ false → false ≡ tableKindTest (kindOf k)
-  kind-wrong e = rw e
-
-  pub kind-form : kindTest (kindOf k) ≡ true → {f : Values} → k .values ≡ f → raggedTest (formOf f) ≡ tableKindTest (kindOf k)
-  kind-form p e = rw (p, e)
-
-ragged-ok : (f : Form) → raggedTest f ≡ true → IsRagged f
-ragged-ok (fixed k o) e = false≢true e
-ragged-ok (ragged w p) e = tt
-
-pub table-kind-ok : (k : Kind) → tableKindTest k ≡ true → TableKind k
-table-kind-ok k e = record {
-  sound = kind-ok k (left-of (kindTest k) (raggedTest (k .form)) e);
-  is-ragged = ragged-ok (k .form) (right-of (kindTest k) (raggedTest (k .form)) e);
-}
-
--- ---- outputs that are long enough
-
-table-enough-test : (t : Table) (r : TableLengths) → TableEnough t r → tableEnoughTest t r ≡ true
-table-enough-test t r p =
-    both (both (both (le-leb (length (t .masks)) (r .masks) (p .for-masks)) (le-leb (length (t .starts)) (r .starts) (p .for-starts)))
-    (le-leb (length (t .lengths)) (r .lengths) (p .for-lengths)))
-    (le-leb (length (t .store)) (r .store) (p .for-store))
-
-table-enough-ok : (t : Table) (r : TableLengths) → tableEnoughTest t r ≡ true → TableEnough t r
-table-enough-ok t r e =
-    let a : Bool = leb (length (t .masks)) (r .masks) in
-    let b : Bool = leb (length (t .starts)) (r .starts) in
-    let c : Bool = leb (length (t .lengths)) (r .lengths) in
-    let d : Bool = leb (length (t .store)) (r .store) in
-    let e3 : a && b && c ≡ true = left-of (a && b && c) d e in
-    let e2 : a && b ≡ true = left-of (a && b) c e3 in
-    record {
-      for-masks = leb-true (length (t .masks)) (r .masks) (left-of a b e2);
-      for-starts = leb-true (length (t .starts)) (r .starts) (right-of a b e2);
-      for-lengths = leb-true (length (t .lengths)) (r .lengths) (right-of (a && b) c e3);
-      for-store = leb-true (length (t .store)) (r .store) (right-of (a && b && c) d e);
-    }
 
 -- nothing is stored
 abbrev pub refusedTable : ℕ → Table → Outcome TableLengths Table

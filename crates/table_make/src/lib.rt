@@ -1,10 +1,9 @@
 // A working table made of a valid array's rest form, packed in cell order.
-pub mod kind;
 mod put;
 
-use crate::kind::count_ok;
-use crate::kind::is_table_kind;
-use crate::kind::store_ok;
+use table_kind::count_ok;
+use table_kind::is_table_kind;
+use table_kind::store_ok;
 use crate::put::put_masks;
 use crate::put::put_places;
 use array::kind::Kind;

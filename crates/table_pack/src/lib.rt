@@ -8,6 +8,9 @@ use table_check::check_cells;
 use table_kind::count_ok;
 use table_kind::is_table_kind;
 use table_kind::store_ok;
+use table_order::FEW;
+use table_order::few;
+use table_order::many;
 ghost use mathlib.Core.Path.{_≡_};
 ghost use mathlib.Core.List.{[]};
 ghost use Prim.Native.Nat.{_+_, _≤_};
@@ -86,9 +89,6 @@ pub fn move_cells(
 // Most cells that a call may be asked to move.
 const MOST_MOVED: usize = 256;
 
-// Cells of which the lying order takes little of the stack.
-const FEW: usize = 2048;
-
 // Whether a call may be asked to move so many.
 fn most_ok(most: usize) -> bool
     ensures { λ r. ⌜ r ≡ mostTest most ⌝ }
@@ -122,14 +122,6 @@ fn pack_with(
             Written::Length(move_cells(starts, lengths, store, order, count, most))
         }
     }
-}
-
-fn few() -> [u16; 2048] {
-    [0; 2048]
-}
-
-fn many() -> [u16; 65536] {
-    [0; 65536]
 }
 
 // The same with room for the order of few cells, so that a small table takes little of the stack.

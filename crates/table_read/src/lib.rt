@@ -1,13 +1,14 @@
 // The working table read out, in rest form.
 mod cells;
-mod kind;
 
 use crate::cells::copy_values;
 use crate::cells::count_bytes;
-use crate::kind::MOST_CELLS;
-use crate::kind::count_ok;
-use crate::kind::is_table_kind;
-use crate::kind::store_ok;
+use table_kind::count_ok;
+use table_kind::is_table_kind;
+use table_kind::store_ok;
+use table_order::FEW;
+use table_order::few;
+use table_order::many;
 use array::answer::WrittenArray;
 use array::kind::Kind;
 use array::refusal;
@@ -23,9 +24,6 @@ ghost use Rattle.table.specs.Table.{TableKind, CountOk};
 ghost use Rattle.table.specs.Calls.{readOut};
 ghost use Rattle.table.specs.Meaning.{tableBy};
 ghost use Rattle.table_read.specs.Read.{readBy, ReadAsked};
-
-// Cells of which the lying order takes little of the stack.
-const FEW: usize = 2048;
 
 // The cells of a table that keeps the rules: 6, or the masks as they are, the values end to end and the offsets.
 fn read_checked(
@@ -99,14 +97,6 @@ fn read_with(
             )
         }
     }
-}
-
-fn few() -> [u16; FEW] {
-    [0; FEW]
-}
-
-fn many() -> [u16; MOST_CELLS] {
-    [0; MOST_CELLS]
 }
 
 // The same with room for the order of few cells, so that a small table takes little of the stack.

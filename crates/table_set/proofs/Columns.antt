@@ -7,15 +7,15 @@ use native.Mathlib.Numerals.{add-one}
 use native.Mathlib.Omega.{arith}
 use mathlib.Core.Logic.{_⊎_, inl, inr, ⊎-elim}
 use mathlib.Core.Bool.{Bool, true, false, _&&_}
-use mathlib.Core.List.{List, _++_, map}
-use lib.ListN.{length, take, drop, getD, set, length-set, take-append-drop, length-drop, drop-of-length-le}
+use mathlib.Core.List.{List, _++_}
+use lib.ListN.{length, drop, getD, set, length-set, take-append-drop, drop-of-length-le}
 use lib.Seq.{drop-drop, getD-set-same, getD-set-other}
 use lib.Dec.{eqb, ltb}
 use lib.Arith.{lt-of-le-ne}
 use borrow.Author.Tests.{eqb-true, eqb-false, ltb-true, ltb-false}
 use Rattle.array.specs.Lists.{from, pick}
-use Rattle.array.specs.Cells.{setTest, setTestBy, markOf}
-use Rattle.array.specs.Places.{maskAt, masksAt, planesBy, shownBy}
+use Rattle.array.specs.Cells.{setTest}
+use Rattle.array.specs.Places.{maskAt, planesBy, shownBy}
 use Rattle.array.proofs.Lists.{map-from}
 use Rattle.array.proofs.Numbered.{plane-is}
 use Rattle.table_set.specs.Masks.{shownMask, maskedBy}

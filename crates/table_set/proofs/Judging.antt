@@ -1,6 +1,6 @@
 -- A setting of a table that keeps its rules: 5, 15 and 16, each when it is due, or the setting.
 -- Assumes nothing.
-use mathlib.Core.Path.{_≡_, refl, sym, ap, _∙_}
+use mathlib.Core.Path.{_≡_, sym, ap, _∙_}
 use Prim.Native.Nat.{ℕ, _+_, _-_, _≤_, _<_}
 use native.Mathlib.Omega.{arith}
 use mathlib.Core.Bool.{Bool, true, false, not}
@@ -11,12 +11,12 @@ use borrow.Author.Tests.{le-leb, lt-leb, lt-ltb, le-ltb, not-true, not-false, le
 use Rattle.array.specs.Answer.{Answer, gives, refuses, unless, mapAnswer, Outcome}
 use Rattle.array.specs.Cells.{Value, leaf}
 use Rattle.array.specs.Places.{sum}
-use Rattle.table.specs.Table.{Table, TableOk, mostStore, storeTest}
+use Rattle.table.specs.Table.{Table, mostStore, storeTest}
 use Rattle.table.specs.Setting.{settingOf, sumAfter}
 use Rattle.table.specs.Calls.{inPlace}
 use Rattle.table.proofs.Order.{sum-fits}
 use Rattle.table.proofs.Setting.{sum-set}
-use Rattle.table_set.specs.Settle.{Sound, Ready, settledBy, settingAnswer, settingBy}
+use Rattle.table_set.specs.Settle.{Sound, Ready, settledBy, settingBy}
 
 -- what a call leaves that answers a
 abbrev left : Answer Table → Table → Outcome (Unit {0}) Table

@@ -1,7 +1,7 @@
 -- What a setting leaves behind, by where it ends: a refusal, each in its turn, or what a table that keeps its rules gives.
 -- Assumes nothing.
-use mathlib.Core.Path.{_≡_, refl, sym, ap₂, _∙_, subst}
-use mathlib.Core.Bool.{true, false, _&&_}
+use mathlib.Core.Path.{_≡_, sym, ap₂, _∙_, subst}
+use mathlib.Core.Bool.{true, false}
 use mathlib.Core.List.{List}
 use Prim.Native.Nat.{ℕ, _≤_}
 use native.Mathlib.Omega.{arith}
@@ -14,7 +14,7 @@ use Rattle.array.proofs.Rules.{both}
 use Rattle.table.specs.Table.{Table, TableKind, CountOk, TableOk, tableKindTest, countTest, tableTest, storeTest}
 use Rattle.table.specs.Setting.{SettingOk, settingTest, settingOf, settled, sumAfter}
 use Rattle.table.specs.Calls.{inPlace, setAnswer, cellSet}
-use Rattle.table.proofs.Rules.{table-kind-test, count-test, table-test, setting-test, setting-ok}
+use Rattle.table.proofs.Rules.{table-kind-test, count-test, table-test, setting-ok}
 use Rattle.table_set.specs.Settle.{Sound, settingBy}
 
 -- a refusal keeps the table

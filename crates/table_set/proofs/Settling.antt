@@ -10,18 +10,18 @@ use lib.ListN.{length, getD, set, length-set}
 use lib.Dec.{eqb}
 use Rattle.array.specs.Limits.{mostCells}
 use Rattle.array.specs.Lists.{from, pick}
-use Rattle.array.specs.Cells.{Value, Cell, Strict, leaf, rest}
+use Rattle.array.specs.Cells.{Value, Cell, Strict, leaf}
 use Rattle.array.specs.Places.{sum, maskAt, planesBy, shownBy, cellBy}
 use Rattle.array.proofs.Lists.{All-of, All-getD}
-use Rattle.array.proofs.RestLaws.{masksIn, leaf-by, rest-by, StrictCell, strict-rest, rest-again}
+use Rattle.array.proofs.RestLaws.{masksIn, leaf-by, rest-by, strict-rest, rest-again}
 use Rattle.table.specs.Table.{Table, TableOk, mostStore}
-use Rattle.table.specs.Setting.{SettingOk, settingOf, settingMasks, givenUp, masked, bytesPut, settled, sumAfter}
+use Rattle.table.specs.Setting.{settingOf, settingMasks, givenUp, masked, bytesPut, settled}
 use Rattle.table.specs.Meaning.{tableBy}
 use Rattle.table.proofs.Each.{strict-by}
 use Rattle.table.proofs.Setting.{masks-of-one, base-ok}
 use Rattle.table_set.specs.Masks.{shownMask, maskedBy}
 use Rattle.table_set.specs.Place.{Put}
-use Rattle.table_set.specs.Settle.{Sound, Ready, settledBy}
+use Rattle.table_set.specs.Settle.{Ready, settledBy}
 use Rattle.table_set.proofs.Columns.{planes-alike}
 
 -- ---- the cell that is set, by its parts

@@ -6,6 +6,7 @@ use table_check::Order;
 use table_check::check_cells;
 use table_kind::count_ok;
 use table_kind::is_table_kind;
+use table_order::FEW;
 use table_order::few;
 use table_order::many;
 ghost use mathlib.Core.Path.{_≡_};
@@ -17,9 +18,6 @@ ghost use Rattle.table.specs.Table.{TableKind, CountOk};
 ghost use Rattle.table.specs.Calls.{cellSet};
 ghost use Rattle.table.specs.Meaning.{tableBy, outcomeSettled};
 ghost use Rattle.table_set.specs.Settle.{Sound, Ready, settledBy, settingBy};
-
-// Cells of which the lying order takes little of the stack.
-const FEW: usize = 2048;
 
 pub mod masks;
 pub mod place;

@@ -2,12 +2,9 @@
 -- Assumes nothing.
 use Prim.Native.Nat.{_-_, _≤_}
 use native.Mathlib.Omega.{arith}
-use native.Mathlib.Numerals.{add-one}
-use mathlib.Core.Path.{_≡_, refl, sym, ap, _∙_}
-use mathlib.Core.Bool.{Bool, _&&_}
+use mathlib.Core.Path.{_≡_, refl, ap, _∙_}
 use lib.ListN.{length, getD}
 use borrow.Author.Needs.{needs}
-use Rattle.array.specs.Cells.{setTest}
 use Rattle.array.specs.Places.{shownBy}
 use Rattle.table_set.proofs.Columns.{shown-more}
 use Rattle.table_set.proofs.masks.all_set.Statement.{statement}

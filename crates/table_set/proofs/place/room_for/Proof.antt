@@ -1,10 +1,7 @@
 -- `place::room_for` meets its contract: as it is where enough remains, else by the law of packing.
 -- Assumes nothing.
-use mathlib.Core.Path.{_≡_, refl, sym, ap, _∙_}
-use Prim.Native.Nat.{_≤_}
 use native.Mathlib.Omega.{arith}
 use borrow.Author.Needs.{needs}
-use Rattle.table.specs.Table.{mostStore}
 use Rattle.table_set.proofs.Places.{found, total-small, roomy-left, roomy-packed}
 use Rattle.table_set.proofs.place.room_for.Statement.{statement}
 use Rattle.table_set.proofs.place.room_for.Tie as tie
