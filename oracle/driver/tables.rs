@@ -165,6 +165,13 @@ fn pack_all(sink: &mut dyn Sink, kind: [u64; 5], mut table: Table, most: u64) {
 
 // ---------------------------------------------------------------- broken tables
 
+/// One mask byte more or less, and no byte over 01.
+fn other_length(rng: &mut Rng, masks: &[u8]) -> Vec<u8> {
+    match masks.split_last() {
+        Some((_, fewer)) if rng.below(2) == 0 => fewer.to_vec(),
+        _ => [masks, &[rng.below(2) as u8]].concat(),
+    }
+}
 /// One rule broken, of every sort.
 fn broken(rng: &mut Rng, depth: usize, table: &Table) -> Table {
     let mut t = table.clone();
@@ -172,7 +179,7 @@ fn broken(rng: &mut Rng, depth: usize, table: &Table) -> Table {
     let cell = rng.below(cells);
     let filled: Vec<usize> = (0..cells).filter(|&j| t.lengths[j] > 0).collect();
     match rng.below(16) {
-        0 => t.masks = damaged_bytes(rng, &t.masks),
+        0 => t.masks = other_length(rng, &t.masks),
         1 => t.starts = damaged_numbers(rng, &t.starts),
         2 => t.lengths = damaged_numbers(rng, &t.lengths),
         3 if depth > 0 => spoilt(rng, &mut t.masks),
@@ -257,7 +264,7 @@ fn faulty(rng: &mut Rng, request: &Request) -> Request {
                 _ => {}
             }
             match rng.below(6) {
-                0 => *cell_masks = damaged_bytes(rng, cell_masks),
+                0 => *cell_masks = other_length(rng, cell_masks),
                 1 | 2 if !cell_masks.is_empty() => {
                     let at = rng.below(cell_masks.len());
                     cell_masks[at] = over_01(rng);
