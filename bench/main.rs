@@ -1,6 +1,6 @@
 //! The archive's and the Rust's times, in one process: the two by turns, the best of many rounds each.
 //!
-//!   bench OBJECT [ROUNDS [FILE [interleaved]]]     FILE: every row with its times; interleaved: the rows of the interleaved form alone
+//!   bench OBJECT [ROUNDS [FILE [ONLY]]]     FILE: every row with its times; ONLY: the rows of the interleaved form, generate or table alone
 //!
 //! Both get the same inputs, borrowed. The archive writes to lent outputs, reused from call to call. The Rust allocates: its results, and
 //! inside encode and decode a part of the array for each level, the index and the data; giving that memory back is in its time. Where it
@@ -8,7 +8,8 @@
 //! caller's memory. Kinds, shapes and chunk lists are built before the clock starts. The Rust is built with opt-level 3 over the stand-in chain,
 //! which does less than the listed one.
 //! Packed masks, which the Rust does not have, are timed against masks of bytes, both ours. encode_interleaved and generate, which it does not have either,
-//! are timed against a plain Rust loop with reused buffers, the former also against that loop behind the same checks (bounds.rs).
+//! are timed against a plain Rust loop with reused buffers, the former also against that loop behind the same checks (bounds.rs); working tables against
+//! loops with the same checks (tables.rs).
 
 #[path = "../oracle/driver/archive.rs"]
 #[allow(dead_code)]
@@ -18,6 +19,7 @@ mod inputs;
 #[path = "../oracle/driver/rng.rs"]
 #[allow(dead_code)]
 mod rng;
+mod tables;
 
 use archive::{Archive, c_kind};
 use inputs::*;
@@ -60,6 +62,7 @@ use Call::*;
 const CALLS: [&str; 7] = ["encode", "decode", "decode_interleaved", "extract", "merge", "partial_decode", "reverse_endianness"];
 const OLDER: &str = "encode_interleaved";
 const LOAD: &str = "generate";
+const TABLE: [&str; 4] = ["table_make", "table_read", "table_set", "table_pack"];
 const START: u32 = 7;
 impl Call<'_> {
     fn name(&self) -> &'static str {
@@ -225,6 +228,8 @@ struct Bench {
     checked: Vec<Row>,
     /// generate beside a plain loop that makes the load in one run: as we do, and where we need two.
     loads: [Vec<Row>; 2],
+    /// The calls on working tables beside plain loops.
+    tables: Vec<Row>,
 }
 
 fn keep<T>(result: T) {
@@ -252,7 +257,10 @@ impl Bench {
     /// Ours and another, by turns. Where a buffer lies, or what else the machine does, can cost more than the call: while ours takes more than
     /// `limit` of the other's time, both are tried again a little later, ours with outputs elsewhere, up to eleven times, and the best of each counts.
     /// Not where it takes more than `hopeless` of it: no noise explains that.
-    fn turns(&self, call: Call, mut other: Timed, limit: f64, hopeless: f64) -> [f64; 2] {
+    fn turns(&self, call: Call, other: Timed, limit: f64, hopeless: f64) -> [f64; 2] {
+        self.turns_of(|| self.ours(call), other, limit, hopeless)
+    }
+    fn turns_of<'a>(&self, mine: impl Fn() -> Timed<'a>, mut other: Timed, limit: f64, hopeless: f64) -> [f64; 2] {
         let mut elsewhere = vec![];
         let mut times = [f64::MAX; 2];
         let again = |[ours, other]: [f64; 2]| ours > limit * other && ours <= hopeless * other;
@@ -260,7 +268,7 @@ impl Bench {
             if !elsewhere.is_empty() {
                 std::thread::sleep(Duration::from_millis(500));
             }
-            let now = best(&mut [self.ours(call), Box::new(&mut other)], self.rounds);
+            let now = best(&mut [mine(), Box::new(&mut other)], self.rounds);
             times = [times[0].min(now[0]), times[1].min(now[1])];
             elsewhere.push(Lent::new());
         }
@@ -678,6 +686,208 @@ fn load_rows(b: &mut Bench) {
         }
     }
 }
+/// The four calls on tables of 0 to 8 bytes a cell. What a call changes is put back after each, on both sides alike, within the time: of a setting two
+/// numbers, of a packing, and of a setting that packs beforehand, the starts and the store.
+fn table_rows(b: &mut Bench) {
+    for depth in [0, 2] {
+        for cells in [64, 4_096, 65_536] {
+            for state in tables::State::ALL {
+                table_cases(b, depth, cells, state);
+            }
+        }
+    }
+}
+fn table_cases(b: &mut Bench, depth: usize, cells: usize, state: tables::State) {
+    let kind = ragged(depth as u64, 8, 0);
+    let table = tables::table(depth, cells, state);
+    let column = cells.to_string();
+    let mut row = |call: &'static str, what: &str, sides: [f64; 2]| {
+        let (kind, what) = (format!("d{depth} {}", state.name()), what.to_string());
+        b.tables.push(Row {
+            call,
+            below: false,
+            kind,
+            what,
+            column: column.clone(),
+            other: sides[1],
+            ours: sides[0],
+            held: None,
+        });
+    };
+    let (a, rounds) = (b.archive, b.rounds);
+    let timer = Bench {
+        archive: a,
+        rounds,
+        rows: vec![],
+        packed: vec![],
+        older: vec![],
+        checked: vec![],
+        loads: [vec![], vec![]],
+        tables: vec![],
+    };
+    let (k, n) = (c_kind(&kind), cells as u64);
+    let order = || Vec::with_capacity(cells);
+
+    // read out, and from the first table the array that it gives made again
+    let mut plain =
+        tables::Read { masks: vec![0; depth * cells], values: vec![0; table.store.len()], offsets: vec![0; cells + 1] };
+    tables::read(&kind, cells, &table, &mut order(), &mut plain).unwrap();
+    let reading = |t: &tables::Table, out: &mut tables::Read| unsafe {
+        let mut lengths = [0; 3];
+        #[rustfmt::skip]
+        let answer = (a.table_read)(
+            k, n, t.masks.as_ptr(), t.masks.len(), t.starts.as_ptr(), cells, t.lengths.as_ptr(), cells, t.store.as_ptr(), t.store.len(),
+            out.masks.as_mut_ptr(), out.masks.len(), out.values.as_mut_ptr(), out.values.len(), out.offsets.as_mut_ptr(), out.offsets.len(),
+            lengths.as_mut_ptr(),
+        );
+        assert_eq!(answer, 0);
+        black_box(out);
+    };
+    let room = || tables::Read { masks: vec![0; depth * cells], values: vec![0; table.store.len()], offsets: vec![0; cells + 1] };
+    let (mut mine, from) = (room(), &table);
+    reading(from, &mut mine);
+    assert!(mine == plain, "not the same: table_read");
+    let bytes = plain.offsets[cells] as usize;
+    let array = (plain.masks.clone(), plain.values[..bytes].to_vec(), plain.offsets.clone());
+    let mut o = order();
+    let other = timed(|| {
+        tables::read(black_box(&kind), cells, &table, &mut o, &mut plain).unwrap();
+        black_box(&mut plain);
+    });
+    let sides = timer.turns_of(
+        || {
+            let mut out = room();
+            timed(move || reading(from, &mut out))
+        },
+        other,
+        1.0,
+        2.0,
+    );
+    row(TABLE[1], "", sides);
+
+    if state == tables::State::Fresh {
+        let making = |out: &mut tables::Table| unsafe {
+            let mut lengths = [0; 4];
+            #[rustfmt::skip]
+            let answer = (a.table_make)(
+                k, n, array.0.as_ptr(), array.0.len(), array.1.as_ptr(), bytes, array.2.as_ptr(), cells + 1, out.masks.as_mut_ptr(), out.masks.len(),
+                out.starts.as_mut_ptr(), cells, out.lengths.as_mut_ptr(), cells, out.store.as_mut_ptr(), out.store.len(), lengths.as_mut_ptr(),
+            );
+            assert_eq!(answer, 0);
+            black_box(out);
+        };
+        let (mut mine, mut plain) = (table.clone(), table.clone());
+        making(&mut mine);
+        tables::make(&kind, cells, &array.0, &array.1, &array.2, &mut plain).unwrap();
+        assert!(mine == plain && mine.starts == table.starts, "not the same: table_make");
+        let other = timed(|| {
+            tables::make(black_box(&kind), cells, &array.0, &array.1, &array.2, &mut plain).unwrap();
+            black_box(&mut plain);
+        });
+        let sides = timer.turns_of(
+            || {
+                let mut out = table.clone();
+                timed(move || making(&mut out))
+            },
+            other,
+            1.0,
+            2.0,
+        );
+        row(TABLE[0], "", sides);
+    }
+
+    // a cell in the middle, set to a value of 8 bytes: behind the others; and, in a store with just the room, after packing
+    let cell = (cells / 2..cells).find(|&cell| table.lengths[cell] > 0).unwrap();
+    let (masks, value) = (vec![1; depth], [7; 8]);
+    let setting = |t: &mut tables::Table| unsafe {
+        #[rustfmt::skip]
+        let answer = (a.table_set)(
+            k, n, t.masks.as_mut_ptr(), t.masks.len(), t.starts.as_mut_ptr(), cells, t.lengths.as_mut_ptr(), cells, t.store.as_mut_ptr(), t.store.len(),
+            cell as u64, masks.as_ptr(), depth, value.as_ptr(), 8,
+        );
+        assert_eq!(answer, 0);
+    };
+    let mut tight = table.clone();
+    tight.store.truncate(table.store.len() - 16);
+    for (before, what) in [(&table, "room behind"), (&tight, "packs beforehand")] {
+        let packs = what == "packs beforehand";
+        if packs && state == tables::State::Fresh {
+            continue; // it has no gaps
+        }
+        let back = |t: &mut tables::Table| {
+            if packs {
+                t.starts.copy_from_slice(&before.starts);
+                t.store.copy_from_slice(&before.store);
+            }
+            (t.starts[cell], t.lengths[cell]) = (before.starts[cell], before.lengths[cell]);
+            black_box(t);
+        };
+        let (mut mine, mut plain) = (before.clone(), before.clone());
+        setting(&mut mine);
+        tables::set(&kind, &mut plain, cell, &masks, &value, &mut order()).unwrap();
+        assert!(mine == plain, "not the same: table_set");
+        back(&mut plain);
+        let mut o = order();
+        let other = timed(|| {
+            tables::set(black_box(&kind), &mut plain, cell, &masks, &value, &mut o).unwrap();
+            back(&mut plain);
+        });
+        let sides = timer.turns_of(
+            || {
+                let mut t = before.clone();
+                timed(move || {
+                    setting(&mut t);
+                    back(&mut t);
+                })
+            },
+            other,
+            1.0,
+            2.0,
+        );
+        row(TABLE[2], what, sides);
+    }
+
+    let packing = |t: &mut tables::Table| unsafe {
+        let mut lengths = [0; 1];
+        #[rustfmt::skip]
+        let answer = (a.table_pack)(
+            k, n, t.masks.as_ptr(), t.masks.len(), t.starts.as_mut_ptr(), cells, t.lengths.as_ptr(), cells, t.store.as_mut_ptr(), t.store.len(),
+            256, lengths.as_mut_ptr(),
+        );
+        assert_eq!(answer, 0);
+        lengths[0] as usize
+    };
+    let (mut mine, mut plain) = (table.clone(), table.clone());
+    let moved = packing(&mut mine);
+    assert!(tables::pack(&kind, cells, &mut plain, 256, &mut order()) == Ok(moved) && mine == plain, "not the same: table_pack");
+    let back = |t: &mut tables::Table| {
+        if moved > 0 {
+            t.starts.copy_from_slice(&table.starts);
+            t.store.copy_from_slice(&table.store);
+        }
+        black_box(t);
+    };
+    back(&mut plain);
+    let mut o = order();
+    let other = timed(|| {
+        tables::pack(black_box(&kind), cells, &mut plain, 256, &mut o).unwrap();
+        back(&mut plain);
+    });
+    let sides = timer.turns_of(
+        || {
+            let mut t = table.clone();
+            timed(move || {
+                packing(&mut t);
+                back(&mut t);
+            })
+        },
+        other,
+        1.0,
+        2.0,
+    );
+    row(TABLE[3], "at most 256 cells", sides);
+}
+
 /// In the middle of two sides.
 fn quarter(shape: &[u64]) -> [u64; 4] {
     [shape[0] / 4, shape[1] / 4, shape[0] / 2, shape[1] / 2]
@@ -1013,15 +1223,51 @@ fn loads_said(b: &Bench) {
     }
 }
 
+fn table_tables(b: &mut Bench) {
+    table_rows(b);
+    for call in TABLE {
+        println!(
+            "\n`{call}`, by cells. Ratio: the time of a plain Rust loop with reused buffers and the same checks over ours.\n"
+        );
+        table(&b.tables.iter().filter(|row| row.call == call).collect::<Vec<_>>());
+    }
+}
+fn tables_said(b: &Bench) {
+    for call in TABLE {
+        let list: Vec<f64> = b.tables.iter().filter(|row| row.call == call).map(Row::ratio).collect();
+        println!(
+            "{call} no slower than a plain loop: {} ({} rows, geometric mean {:.2}, {} under 1.0, least {:.2})",
+            said(least(&list) >= 1.0),
+            list.len(),
+            mean(&list),
+            list.iter().filter(|ratio| **ratio < 1.0).count(),
+            least(&list)
+        );
+    }
+}
+
 fn main() {
     let args: Vec<String> = std::env::args().skip(1).collect();
     let archive = Archive::load(&args[0]).unwrap();
     let rounds = args.get(1).map_or(25, |n| n.parse().unwrap());
-    let mut b = Bench { archive, rounds, rows: vec![], packed: vec![], older: vec![], checked: vec![], loads: [vec![], vec![]] };
+    let mut b = Bench {
+        archive,
+        rounds,
+        rows: vec![],
+        packed: vec![],
+        older: vec![],
+        checked: vec![],
+        loads: [vec![], vec![]],
+        tables: vec![],
+    };
     let only = args.get(3).map_or("", |only| &only[..]);
     if only == "generate" {
         load_tables(&mut b);
         return loads_said(&b);
+    }
+    if only == "table" {
+        table_tables(&mut b);
+        return tables_said(&b);
     }
     if only == "interleaved" {
         interleaved_rows(&mut b);
@@ -1040,6 +1286,7 @@ fn main() {
     packed_ratios(&b.packed);
     older_tables(&mut b);
     load_tables(&mut b);
+    table_tables(&mut b);
     let copies = copies(&mut b);
     growth(&mut b);
 
@@ -1066,6 +1313,7 @@ fn main() {
     );
     older_said(&b);
     loads_said(&b);
+    tables_said(&b);
     println!("large plain copies at 0.7 of memcpy or more: {} (least {:.2})", said(least(&copies) >= 0.7), least(&copies));
     if let Some(file) = args.get(2) {
         let lines: Vec<String> = b
@@ -1076,6 +1324,7 @@ fn main() {
             .chain(b.older.iter().map(whole))
             .chain(b.checked.iter().map(|row| whole(row) + " behind the same checks |"))
             .chain(b.loads.iter().flatten().map(whole))
+            .chain(b.tables.iter().map(whole))
             .collect();
         std::fs::write(file, lines.join("\n") + "\n").unwrap();
     }

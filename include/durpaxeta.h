@@ -2,7 +2,7 @@
  * Durpaxeta: tables of optional and variable-length cells in one checked byte layout.
  *
  * Link with libdurpaxeta.a (x86-64). Nothing else is needed but memmove and memset, as of any C library.
- * The archive has the ten calls. All else is static inline here: kinds, answers in words, room for outputs, cells.
+ * The archive has the fourteen calls. All else is static inline here: kinds, answers in words, room for outputs, cells.
  *
  * A TABLE is a kind, a shape and its content.
  *
@@ -20,9 +20,22 @@
  *
  * Masks come before values, and values before offsets, in every call.
  *
- * SLICES. A slice is a pointer and a count, in this order. The count is in elements: bytes for masks, values and stored
- * bytes, 64-bit numbers for shape, subset, offsets and cells. NULL with 0 is an empty slice. `lengths` is a pointer to
- * as many numbers as its brackets say; it must not be NULL.
+ * A WORKING TABLE is a ragged table whose cells are edited in memory: dpx_table_make, dpx_table_set, dpx_table_pack,
+ * dpx_table_read. The caller holds its four lists, and hands all of them to each call.
+ *
+ *   masks         planes as above: depth * cells bytes.
+ *   starts        one number a cell: where its bytes begin in the store. 0 where it has none.
+ *   cell_lengths  one number a cell: how many they are. 0 where the cell is null.
+ *   store         at most 16,777,216 bytes. No two cells share one; those in no cell may be anything.
+ *
+ * It has a count of cells, 1 to 65,536, and no shape. Of its kind the depth counts alone. It is always in rest form: below
+ * a null mask bytes are 00, and a cell with a null has no bytes. Cells lie in the store in any order; the order in which
+ * they lie is that of their starts. Nothing is ever cleared: bytes that a cell had before stay in the store until others
+ * are put there. Who hands a store on hands them on, too; dpx_table_read gives the cells alone.
+ *
+ * SLICES. A slice is a pointer and a count, in this order. The count is in elements: bytes for masks, values, stores and
+ * stored bytes, 64-bit numbers for shape, subset, offsets, cells, starts and cell_lengths. NULL with 0 is an empty slice.
+ * `lengths` is a pointer to as many numbers as its brackets say; it must not be NULL.
  *
  * SUBSETS. A subset (a box of cells) is one slice: all starts, then all lengths. With two sides: start 0, start 1,
  * length 0, length 1. A list of subsets lays them end to end.
@@ -30,17 +43,21 @@
  * ANSWERS. Each call answers 0 (DPX_OK) or one refusal number. The refusals of a call are listed in the order in
  * which they are tested; the first one met is the answer.
  *
- *   On 0     `lengths` holds how many elements of each output were written, in the order masks, values, offsets.
+ *   On 0     `lengths` holds how many elements of each output were written, in the order masks, values, offsets; of a
+ *            table in the order masks, starts, cell_lengths, store.
  *            Elements of an output beyond its length keep what they held.
  *   Refused  no byte of any output changes, `lengths` included.
  *
  * An output that the kind does not use (masks at depth 0, offsets of a fixed kind) may have any length, 0 too. It is not
  * written, and its length is 0.
  *
- * MEMORY. The caller owns all of it: no heap is used and no pointer is kept. Outputs must overlap neither each other
- * nor an input nor `lengths`. Inputs may overlap each other. Pointers to numbers must be aligned for uint64_t.
+ * MEMORY. The caller owns all of it: no heap is used and no pointer is kept. Outputs, and what is edited in place, must
+ * overlap neither each other nor an input nor `lengths`. Inputs may overlap each other. Pointers to numbers must be
+ * aligned for uint64_t.
  *
- * STACK. 16 KiB is enough for any call. dpx_merge takes 8 KiB of that to mark the cells that its subsets hold.
+ * STACK. 16 KiB is enough for any call but those on working tables of more than 2,048 cells: dpx_table_read, dpx_table_set
+ * and dpx_table_pack put the cells in the order in which they lie, in 4 KiB up to 2,048 cells and in 128 KiB above; for
+ * these 136 KiB are enough. dpx_merge takes 8 KiB to mark the cells that its subsets hold.
  *
  * THREADS. There is no state: any number of calls may run at the same time, on outputs that do not overlap.
  */
@@ -56,9 +73,9 @@ extern "C" {
 
 /* The version, as three numbers, as text, and as one number that grows with it: #if DPX_VERSION_NUMBER >= 1002003 */
 #define DPX_VERSION_MAJOR 0
-#define DPX_VERSION_MINOR 6
-#define DPX_VERSION_PATCH 1
-#define DPX_VERSION "0.6.1"
+#define DPX_VERSION_MINOR 7
+#define DPX_VERSION_PATCH 0
+#define DPX_VERSION "0.7.0"
 #define DPX_VERSION_NUMBER (DPX_VERSION_MAJOR * 1000000 + DPX_VERSION_MINOR * 1000 + DPX_VERSION_PATCH)
 
 /* Limits. One more of any of these is refused. */
@@ -67,22 +84,31 @@ extern "C" {
 #define DPX_MAX_SIDES 4             /* sides of a shape, from 1       */
 #define DPX_MAX_CELLS 65536         /* cells of a shape               */
 #define DPX_MAX_VALUE_BYTES 16777216 /* value bytes of a table        */
+#define DPX_MAX_STORE 16777216      /* bytes of a working table's store */
+#define DPX_MAX_MOVES 256           /* cells that one dpx_table_pack moves, from 1 */
 
 /* The answers, by who causes them. */
 enum dpx_refusal {
     DPX_OK = 0,
 
     /* Whoever describes the table. */
-    DPX_KIND = 1,   /* depth, size or another field of the kind is out of its range */
-    DPX_SHAPE = 2,  /* no side, five or more, a side of 0, or over 65,536 cells (also as the count of the older form) */
+    DPX_KIND = 1,   /* depth, size or another field of the kind is out of its range; of a working table also: the kind is not
+                       ragged, or not 1 to 256 cells are to be moved */
+    DPX_SHAPE = 2,  /* no side, five or more, a side of 0, or over 65,536 cells (also as the count of the older form); a
+                       working table of no cells, or of over 65,536 */
     DPX_SUBSET = 3, /* a subset reaches past its shape, or has not one start and one length a side; in a merge also: it
                        holds no cell */
 
-    /* Whoever hands over an array or a chunk list. */
+    /* Whoever hands over an array, a chunk list or a working table. */
     DPX_CONTENT = 4, /* lengths of masks, values, offsets or chunks disagree, a mask byte is over 01, the first offset is not
-                        0, or offsets fall */
-    DPX_SIZE = 5,    /* over 16,777,216 value bytes */
+                        0, or offsets fall; a working table is not in rest form, or its cells overlap, leave the store, or
+                        start elsewhere than at 0 with no bytes */
+    DPX_SIZE = 5,    /* over 16,777,216 value bytes, or bytes of a store */
     DPX_COVER = 12,  /* the subsets of a merge miss a cell or hold one twice */
+
+    /* Whoever sets a cell of a working table. */
+    DPX_CELL = 15, /* the number of the cell is the count of cells, or above it */
+    DPX_FULL = 16, /* the lengths of the cells would sum to more bytes than the store has */
 
     /* Whoever stored the bytes. */
     DPX_SHORT = 7,     /* under 16 bytes for a frame, 8 for ragged values, 4 * (1 + cells) for the older form */
@@ -100,7 +126,8 @@ enum dpx_refusal {
 
 /* An answer in words: what is wrong, and who causes it. */
 #define DPX_DESCRIBER " (caused by whoever describes the table)"
-#define DPX_SUPPLIER " (caused by whoever hands over the array or chunk list)"
+#define DPX_SUPPLIER " (caused by whoever hands over the array, chunk list or working table)"
+#define DPX_SETTER " (caused by whoever sets the cell)"
 #define DPX_STORER " (caused by whoever stored the bytes)"
 #define DPX_LENDER " (caused by whoever lends the output)"
 static inline const char *dpx_refusal_text(uint32_t refusal)
@@ -108,14 +135,15 @@ static inline const char *dpx_refusal_text(uint32_t refusal)
     switch (refusal) {
     case DPX_OK: return "done";
     case DPX_KIND: return "refusal 1: the kind is out of range: depth 0 to 4, cell size 1 to 64 bytes, index width 4 or 8"
-                          " bytes" DPX_DESCRIBER;
+                          " bytes (of a working table: ragged, and 1 to 256 cells to move)" DPX_DESCRIBER;
     case DPX_SHAPE: return "refusal 2: the shape is out of range: 1 to 4 sides, each at least 1, at most 65,536 cells in"
-                           " all" DPX_DESCRIBER;
+                           " all (of a working table: 1 to 65,536 cells)" DPX_DESCRIBER;
     case DPX_SUBSET: return "refusal 3: a subset reaches past the shape, or has not one start and one length for each side,"
                             " or, in a merge, holds no cell" DPX_DESCRIBER;
     case DPX_CONTENT: return "refusal 4: lengths of masks, values, offsets or chunks disagree, a mask byte is neither 00 nor"
-                             " 01, the first offset is not 0, or offsets fall" DPX_SUPPLIER;
-    case DPX_SIZE: return "refusal 5: more than 16,777,216 value bytes" DPX_SUPPLIER;
+                             " 01, the first offset is not 0, or offsets fall (of a working table: it is not in rest form, or"
+                             " cells overlap or lie where they must not)" DPX_SUPPLIER;
+    case DPX_SIZE: return "refusal 5: more than 16,777,216 value bytes, or bytes of a store" DPX_SUPPLIER;
     case DPX_OUTPUT: return "refusal 6: an output is shorter than the result needs" DPX_LENDER;
     case DPX_SHORT: return "refusal 7: too few stored bytes: a frame takes at least 16, ragged values 8, the interleaved form"
                            " 4 and 4 for each cell" DPX_STORER;
@@ -127,11 +155,14 @@ static inline const char *dpx_refusal_text(uint32_t refusal)
     case DPX_COVER: return "refusal 12: the subsets of the merge miss a cell or hold one twice" DPX_SUPPLIER;
     case DPX_UNUSED_BITS: return "refusal 13: a packed mask has a bit after its last cell that is not 0" DPX_STORER;
     case DPX_NOT_BOOLEAN: return "refusal 14: a stored mask byte is neither 00 nor 01" DPX_STORER;
+    case DPX_CELL: return "refusal 15: the working table has no cell of that number" DPX_SETTER;
+    case DPX_FULL: return "refusal 16: the cells would have more bytes than the store" DPX_SETTER;
     default: return "no answer of this version";
     }
 }
 #undef DPX_DESCRIBER
 #undef DPX_SUPPLIER
+#undef DPX_SETTER
 #undef DPX_STORER
 #undef DPX_LENDER
 
@@ -213,6 +244,7 @@ typedef struct dpx_room {
  *   dpx_extract             cells of the subset, bytes: values_len
  *   dpx_merge               cells of the shape,  bytes: values_len
  *   dpx_generate            cells of the shape,  bytes: 8 * cells
+ *   dpx_table_read          its cells,           bytes: store_len
  *   dpx_partial_decode      cells of the subset, bytes: bytes_len, kind: ragged, depth 0
  *   dpx_decode_interleaved  its cells,           bytes: bytes_len, kind: ragged, depth 0
  * All of it is used but for ragged values, which may be shorter.
@@ -316,6 +348,29 @@ static inline dpx_cell dpx_get_cell(dpx_kind kind, uint64_t cells,
     }
     if (cell.length != 0)
         cell.value = values + start;
+    return cell;
+}
+
+/*
+ * Cell `number` of a working table of `cells` cells, one that a call made or accepted; `number` is below `cells`. `value`
+ * points into the store, and holds until the table is set or packed: both may move cells.
+ */
+static inline dpx_cell dpx_table_cell(dpx_kind kind, uint64_t cells,
+                                      const uint8_t *masks, const uint64_t *starts, const uint64_t *cell_lengths,
+                                      const uint8_t *store, uint64_t number)
+{
+    dpx_cell cell = {0, store, 0};
+    uint64_t level;
+    for (level = 0; level < kind.depth; level++) {
+        const enum dpx_mark mark = dpx_mark_of(masks[level * cells + number]);
+        if (mark != DPX_MARK_SET) {
+            cell.null_level = mark == DPX_MARK_NULL ? level + 1 : DPX_NO_CELL;
+            return cell;
+        }
+    }
+    cell.length = cell_lengths[number];
+    if (cell.length != 0)
+        cell.value = store + starts[number];
     return cell;
 }
 
@@ -590,6 +645,116 @@ uint32_t dpx_subset_cells(const uint64_t *shape, size_t shape_len,
                           const uint64_t *subset, size_t subset_len,
                           uint64_t *out_cells, size_t out_cells_len,
                           uint64_t lengths[1]);
+
+/*
+ * An array to a working table.
+ *
+ * The table is the array's rest form, packed in cell order: what lies below a null is left out and takes no room. The store
+ * is lent in the length that the table is to have; the bytes behind the cells keep what they held, and are room for
+ * settings. An array in memory has a shape; here its cells are a count.
+ * Enough room: depth * cells masks, `cells` starts and lengths, values_len bytes of store, or fewer where some are hidden.
+ *
+ *   lengths[0]   mask bytes written: depth * cells
+ *   lengths[1]   starts written: cells
+ *   lengths[2]   lengths written: cells
+ *   lengths[3]   store bytes written: those of the cells
+ *
+ * Refusals, in this order:
+ *   1 DPX_KIND     whoever describes the table: also a fixed kind
+ *   2 DPX_SHAPE    whoever describes the table: no cells, or over 65,536
+ *   4 DPX_CONTENT  whoever hands over the array: as for dpx_encode
+ *   5 DPX_SIZE     whoever hands over the array or the store: the last offset is over 16,777,216, or store_len is
+ *   6 DPX_OUTPUT   whoever lends the outputs: the store too, where the cells have more bytes than it
+ */
+uint32_t dpx_table_make(dpx_kind kind, uint64_t cells,
+                        const uint8_t *masks, size_t masks_len,
+                        const uint8_t *values, size_t values_len,
+                        const uint64_t *offsets, size_t offsets_len,
+                        uint8_t *out_masks, size_t out_masks_len,
+                        uint64_t *out_starts, size_t out_starts_len,
+                        uint64_t *out_cell_lengths, size_t out_cell_lengths_len,
+                        uint8_t *store, size_t store_len,
+                        uint64_t lengths[4]);
+
+/*
+ * A working table to an array: its cells end to end from offset 0, in cell order, whatever lies where in the store. The array
+ * is in rest form, and dpx_encode takes it with any shape of that many cells. The table is not changed.
+ * Enough room: dpx_array_room. That is depth * cells masks, as many values as the lengths of the cells sum to (store_len is
+ * enough), cells + 1 offsets.
+ *
+ *   lengths[0]   mask bytes written: depth * cells
+ *   lengths[1]   value bytes written
+ *   lengths[2]   offsets written: cells + 1
+ *
+ * Refusals, in this order:
+ *   1 DPX_KIND     whoever describes the table: also a fixed kind
+ *   2 DPX_SHAPE    whoever describes the table: no cells, or over 65,536
+ *   4 DPX_CONTENT  whoever hands over the table: masks_len is not depth * cells, or starts_len or cell_lengths_len not cells; a
+ *                  mask byte is over 01, or 01 below a null; a cell with a null has a length; start + length of a cell is
+ *                  over store_len; a cell of length 0 has another start than 0; two cells share a byte
+ *   5 DPX_SIZE     whoever hands over the table: store_len is over 16,777,216
+ *   6 DPX_OUTPUT   whoever lends the outputs
+ */
+uint32_t dpx_table_read(dpx_kind kind, uint64_t cells,
+                        const uint8_t *masks, size_t masks_len,
+                        const uint64_t *starts, size_t starts_len,
+                        const uint64_t *cell_lengths, size_t cell_lengths_len,
+                        const uint8_t *store, size_t store_len,
+                        uint8_t *out_masks, size_t out_masks_len,
+                        uint8_t *out_values, size_t out_values_len,
+                        uint64_t *out_offsets, size_t out_offsets_len,
+                        uint64_t lengths[3]);
+
+/*
+ * Sets one cell of a working table, in place: cell `cell` gets these masks, outermost first, and this value.
+ *
+ * A mask byte 00 makes the cell null: mask bytes below it become 00, and the value is dropped. An empty cell is one with all
+ * mask bytes 01 and no value. The cell's old bytes are given up first; the new ones go right behind the cell that lies
+ * highest then. Where too little is left there, all cells are packed before (dpx_table_pack, with no bound): so a value
+ * always has its place where the sum of lengths allows it. Gaps are not used otherwise. Success names nothing.
+ * `value` must not lie in the store.
+ *
+ * Refusals, in this order:
+ *   1 DPX_KIND     whoever describes the table: also a fixed kind
+ *   2 DPX_SHAPE    whoever describes the table: no cells, or over 65,536
+ *   4 DPX_CONTENT  whoever hands over the table: as for dpx_table_read; or whoever sets the cell: cell_masks_len is not depth,
+ *                  or one of these bytes is over 01
+ *   5 DPX_SIZE     whoever hands over the table: store_len is over 16,777,216
+ *  15 DPX_CELL     whoever sets the cell: `cell` is `cells` or more
+ *  16 DPX_FULL     whoever sets the cell: with the lengths of the other cells the value, if it is not dropped, is over store_len
+ */
+uint32_t dpx_table_set(dpx_kind kind, uint64_t cells,
+                       uint8_t *masks, size_t masks_len,
+                       uint64_t *starts, size_t starts_len,
+                       uint64_t *cell_lengths, size_t cell_lengths_len,
+                       uint8_t *store, size_t store_len,
+                       uint64_t cell,
+                       const uint8_t *cell_masks, size_t cell_masks_len,
+                       const uint8_t *value, size_t value_len);
+
+/*
+ * Moves up to `most` cells of a working table to their packed starts, in place.
+ *
+ * The packed start of a cell is the sum of the lengths of those that lie lower; cells with no bytes have none. Of the cells
+ * that start elsewhere the lowest-lying `most` are moved, or all that there are, the lowest first. No cell changes, only
+ * where it lies. Where r cells start elsewhere, r / most calls, rounded up, pack the table; a call that has nothing left to
+ * move names 0. One call takes the time to put the cells in order, and to move what it moves.
+ *
+ *   lengths[0]   cells moved
+ *
+ * Refusals, in this order:
+ *   1 DPX_KIND     whoever describes the table: also a fixed kind; or `most` is not 1 to 256
+ *   2 DPX_SHAPE    whoever describes the table: no cells, or over 65,536
+ *   4 DPX_CONTENT  whoever hands over the table: as for dpx_table_read
+ *   5 DPX_SIZE     whoever hands over the table: store_len is over 16,777,216
+ */
+uint32_t dpx_table_pack(dpx_kind kind, uint64_t cells,
+                        const uint8_t *masks, size_t masks_len,
+                        uint64_t *starts, size_t starts_len,
+                        const uint64_t *cell_lengths, size_t cell_lengths_len,
+                        uint8_t *store, size_t store_len,
+                        uint64_t most,
+                        uint64_t lengths[1]);
 
 #ifdef __cplusplus
 }

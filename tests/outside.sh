@@ -40,8 +40,12 @@ dpx_merge
 dpx_partial_decode
 dpx_reverse_endianness
 dpx_subset_cells
+dpx_table_make
+dpx_table_pack
+dpx_table_read
+dpx_table_set
 END
-echo 'the ten calls, and nothing else'
+echo 'the fourteen calls, and nothing else'
 
 say 'C interface'
 tests/c/run.sh

@@ -1,4 +1,4 @@
-//! The archive under test, loaded as a shared object: the ten functions of durpaxeta.h.
+//! The archive under test, loaded as a shared object: the functions of durpaxeta.h.
 
 use std::ffi::{CStr, CString, c_char, c_int, c_void};
 
@@ -30,8 +30,16 @@ type ExtractCall = unsafe extern "C" fn(DpxKind, In64, usize, In64, usize, In8, 
 type PartialCall = unsafe extern "C" fn(u64, u64, In64, usize, In64, usize, In8, usize, Out8, usize, Out64, usize, Out64) -> u32;
 type ReverseCall = unsafe extern "C" fn(u64, Out8, usize, Out64) -> u32;
 type CellsCall = unsafe extern "C" fn(In64, usize, In64, usize, Out64, usize, Out64) -> u32;
+#[rustfmt::skip]
+pub type MakeCall = unsafe extern "C" fn(DpxKind, u64, In8, usize, In8, usize, In64, usize, Out8, usize, Out64, usize, Out64, usize, Out8, usize, Out64) -> u32;
+#[rustfmt::skip]
+pub type ReadCall = unsafe extern "C" fn(DpxKind, u64, In8, usize, In64, usize, In64, usize, In8, usize, Out8, usize, Out8, usize, Out64, usize, Out64) -> u32;
+#[rustfmt::skip]
+pub type SetCall = unsafe extern "C" fn(DpxKind, u64, Out8, usize, Out64, usize, Out64, usize, Out8, usize, u64, In8, usize, In8, usize) -> u32;
+#[rustfmt::skip]
+pub type PackCall = unsafe extern "C" fn(DpxKind, u64, In8, usize, Out64, usize, In64, usize, Out8, usize, u64, Out64) -> u32;
 
-/// The ten functions.
+/// The functions.
 #[derive(Clone, Copy)]
 pub struct Archive {
     pub encode: EncodeCall,
@@ -44,6 +52,10 @@ pub struct Archive {
     pub subset_cells: CellsCall,
     pub encode_interleaved: EncodeCall,
     pub generate: GenerateCall,
+    pub table_make: MakeCall,
+    pub table_read: ReadCall,
+    pub table_set: SetCall,
+    pub table_pack: PackCall,
 }
 impl Archive {
     pub fn load(path: &str) -> Result<Archive, String> {
@@ -70,6 +82,10 @@ impl Archive {
                 subset_cells: transmute::<*mut c_void, CellsCall>(find(c"dpx_subset_cells")?),
                 encode_interleaved: transmute::<*mut c_void, EncodeCall>(find(c"dpx_encode_interleaved")?),
                 generate: transmute::<*mut c_void, GenerateCall>(find(c"dpx_generate")?),
+                table_make: transmute::<*mut c_void, MakeCall>(find(c"dpx_table_make")?),
+                table_read: transmute::<*mut c_void, ReadCall>(find(c"dpx_table_read")?),
+                table_set: transmute::<*mut c_void, SetCall>(find(c"dpx_table_set")?),
+                table_pack: transmute::<*mut c_void, PackCall>(find(c"dpx_table_pack")?),
             })
         }
     }

@@ -3,6 +3,7 @@
 
 use crate::request::{Request, Request::*};
 use crate::rng::Rng;
+use crate::tables;
 use std::ops::Range;
 
 pub trait Sink {
@@ -14,17 +15,17 @@ pub trait Sink {
 
 // ---------------------------------------------------------------- kinds, shapes, subsets
 
-fn fixed(depth: usize, size: u64, order: u64) -> [u64; 5] {
+pub fn fixed(depth: usize, size: u64, order: u64) -> [u64; 5] {
     [depth as u64, 0, size, order, 0]
 }
-fn ragged(depth: usize, width: u64, place: u64) -> [u64; 5] {
+pub fn ragged(depth: usize, width: u64, place: u64) -> [u64; 5] {
     [depth as u64, 1, width, place, 0]
 }
 const RAGGED: [(u64, u64); 4] = [(4, 0), (4, 1), (8, 0), (8, 1)];
 const SIZES: [u64; 17] = [1, 1, 2, 2, 3, 4, 5, 7, 8, 9, 15, 16, 17, 32, 33, 63, 64];
 
 /// The same kind with packed masks.
-fn packed(kind: [u64; 5]) -> [u64; 5] {
+pub fn packed(kind: [u64; 5]) -> [u64; 5] {
     [kind[0], kind[1], kind[2], kind[3], 1]
 }
 /// A kind with the same values at another depth.
@@ -109,17 +110,17 @@ fn partition(rng: &mut Rng, shape: &[u64]) -> Vec<Vec<u64>> {
 // ---------------------------------------------------------------- arrays and stored strings
 
 #[derive(Clone)]
-struct Content {
-    masks: Vec<u8>,
-    values: Vec<u8>,
-    offsets: Vec<u64>,
+pub struct Content {
+    pub masks: Vec<u8>,
+    pub values: Vec<u8>,
+    pub offsets: Vec<u64>,
 }
 /// Neither null nor set: no mask has such a byte.
-fn over_01(rng: &mut Rng) -> u8 {
+pub fn over_01(rng: &mut Rng) -> u8 {
     if rng.below(2) == 0 { rng.pick(&[2, 3, 0x10, 0x7F, 0x80, 0x81, 0xFE, 0xFF]) } else { 2 + rng.below(254) as u8 }
 }
 /// One byte, now and then a second one, over 01.
-fn spoilt(rng: &mut Rng, mask: &mut [u8]) {
+pub fn spoilt(rng: &mut Rng, mask: &mut [u8]) {
     if mask.is_empty() {
         return;
     }
@@ -127,7 +128,7 @@ fn spoilt(rng: &mut Rng, mask: &mut [u8]) {
         mask[rng.below(mask.len())] = over_01(rng);
     }
 }
-fn plane(rng: &mut Rng, cells: usize) -> Vec<u8> {
+pub fn plane(rng: &mut Rng, cells: usize) -> Vec<u8> {
     if rng.once_in(4) {
         // runs
         let longest = rng.pick(&[3, 40, 600]);
@@ -144,7 +145,7 @@ fn plane(rng: &mut Rng, cells: usize) -> Vec<u8> {
     (0..cells).map(|_| u8::from(rng.below(8) < of_eight)).collect()
 }
 /// Lengths of ragged values: many empty, most short.
-fn value_lengths(rng: &mut Rng, cells: usize) -> Vec<usize> {
+pub fn value_lengths(rng: &mut Rng, cells: usize) -> Vec<usize> {
     let most = if rng.once_in(100) { rng.pick(&[70, 300, 5000]) } else { rng.pick(&[0, 1, 2, 3, 3, 5, 9, 40]) };
     let mut room = 40_000; // a few long ones are enough
     (0..cells)
@@ -177,7 +178,7 @@ fn late(rng: &mut Rng, c: &Content) -> Content {
     let offsets = c.offsets.iter().map(|offset| offset.wrapping_add(lead as u64)).collect();
     Content { masks: c.masks.clone(), values, offsets }
 }
-fn content(rng: &mut Rng, kind: [u64; 5], cells: usize) -> Content {
+pub fn content(rng: &mut Rng, kind: [u64; 5], cells: usize) -> Content {
     let mut masks = vec![];
     for _ in 0..kind[0] {
         masks.extend(plane(rng, cells));
@@ -310,7 +311,7 @@ const NUMBERS: [u64; 22] = [
     MAX - 15,
     MAX,
 ];
-fn a_number(rng: &mut Rng) -> u64 {
+pub fn a_number(rng: &mut Rng) -> u64 {
     let n = rng.pick(&NUMBERS);
     match rng.below(4) {
         0 => n.wrapping_add(rng.below(5) as u64).wrapping_sub(2),
@@ -477,13 +478,13 @@ fn damaged_part(rng: &mut Rng, bytes: &[u8], parts: &[Range<usize>]) -> Vec<u8> 
     copy
 }
 /// Another kind, shape or list of numbers, mostly a wrong one.
-fn damaged_kind(rng: &mut Rng, kind: [u64; 5]) -> [u64; 5] {
+pub fn damaged_kind(rng: &mut Rng, kind: [u64; 5]) -> [u64; 5] {
     let mut copy = kind;
     let at = rng.below(5);
     copy[at] = if rng.below(2) == 0 { a_number(rng) } else { copy[at].wrapping_add(1) };
     copy
 }
-fn damaged_numbers(rng: &mut Rng, list: &[u64]) -> Vec<u64> {
+pub fn damaged_numbers(rng: &mut Rng, list: &[u64]) -> Vec<u64> {
     let mut copy = list.to_vec();
     if copy.is_empty() {
         return vec![a_number(rng)];
@@ -504,7 +505,7 @@ fn damaged_numbers(rng: &mut Rng, list: &[u64]) -> Vec<u64> {
     }
     copy
 }
-fn damaged_bytes(rng: &mut Rng, list: &[u8]) -> Vec<u8> {
+pub fn damaged_bytes(rng: &mut Rng, list: &[u8]) -> Vec<u8> {
     let mut copy = list.to_vec();
     if copy.is_empty() || rng.below(2) == 0 {
         copy.push(rng.byte());
@@ -569,6 +570,7 @@ fn faulty(rng: &mut Rng, request: &Request) -> Request {
             *subset = damaged_numbers(rng, subset);
         }
         Generate { kind, shape, .. } => faulty_head(rng, kind, shape),
+        TableMake { .. } | TableRead { .. } | TableSet { .. } | TablePack { .. } => {} // tables.rs
     }
     r
 }
@@ -1682,12 +1684,17 @@ fn random_packed(sink: &mut dyn Sink, rng: &mut Rng) {
 /// Everything, and random ones until `requests` have been asked.
 pub fn all(sink: &mut dyn Sink, seed: u64, requests: u64) {
     let rng = &mut Rng(seed);
+    let tables = &mut Rng(seed ^ 0x7461_626C_6573); // their own, so that the others draw as they did
     for _ in 0..200 {
         random(sink, rng);
         random_packed(sink, rng);
         random_older(sink, rng);
         random_load(sink, rng);
+        tables::random(sink, tables);
     }
+    tables::limits(sink, tables);
+    tables::exhaustive(sink, tables);
+    tables::many_cells(sink, tables);
     limits(sink, rng);
     blocks(sink, rng);
     many_bytes(sink, rng);
@@ -1711,6 +1718,7 @@ pub fn all(sink: &mut dyn Sink, seed: u64, requests: u64) {
             random_packed(sink, rng);
             random_older(sink, rng);
             random_load(sink, rng);
+            tables::random(sink, tables);
         }
     }
 }

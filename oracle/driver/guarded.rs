@@ -85,6 +85,10 @@ impl<T: Pattern> Lent<T> {
         // An empty output is NULL every other time.
         if count == 0 && key.is_multiple_of(2) { std::ptr::null_mut() } else { unsafe { self.all.as_mut_ptr().add(GUARD) } }
     }
+    /// What is lent in place holds this list before the call.
+    fn hold(&mut self, list: &[T]) {
+        self.all[GUARD..GUARD + list.len()].copy_from_slice(list);
+    }
     fn inside(&self) -> &[T] {
         &self.all[GUARD..GUARD + self.count]
     }
@@ -122,6 +126,7 @@ pub struct Guarded {
     masks: Lent<u8>,
     values: Lent<u8>,
     offsets: Lent<u64>,
+    cell_lengths: Lent<u64>,
     lengths: Lent<u64>,
     key: u64,
     pub calls: u64,
@@ -137,22 +142,30 @@ impl Guarded {
             masks: Lent::new(),
             values: Lent::new(),
             offsets: Lent::new(),
+            cell_lengths: Lent::new(),
             lengths: Lent::new(),
             key: 0,
             calls: 0,
         }
     }
 
-    /// One call with outputs of these lengths. For `reverse_endianness` the bytes are the values output.
-    pub fn call(&mut self, request: &Request, lent: [usize; 3]) -> u32 {
+    /// One call with outputs of these lengths. What is lent in place has its own.
+    pub fn call(&mut self, request: &Request, lent: [usize; 4]) -> u32 {
         self.calls += 1;
         self.key = self.key.wrapping_add(0x9E37_79B9_7F4A_7C15);
         let key = self.key ^ (self.key >> 29);
-        let named = request.slots().iter().filter(|&&used| used).count();
+        let named = request.named(&Results::default()).len();
         let m = self.masks.lend(lent[0], key);
         let v = self.values.lend(lent[1], key >> 8);
         let o = self.offsets.lend(lent[2], key >> 3);
+        let l = self.cell_lengths.lend(lent[3], key >> 5);
         let n = self.lengths.lend(named, key >> 1);
+        if let Some(before) = request.in_place() {
+            self.masks.hold(&before.masks);
+            self.values.hold(&before.values);
+            self.offsets.hold(&before.offsets);
+            self.cell_lengths.hold(&before.lengths);
+        }
         let [n1, n2, n3] = &mut self.numbers;
         let [b1, b2] = &mut self.bytes;
         let a = &self.archive;
@@ -231,16 +244,82 @@ impl Guarded {
                     lent[2],
                     n,
                 ),
-                ReverseEndianness { size, bytes } => {
-                    self.values.all[GUARD..GUARD + bytes.len()].copy_from_slice(bytes);
-                    (a.reverse_endianness)(*size, v, bytes.len(), n)
-                }
+                ReverseEndianness { size, bytes } => (a.reverse_endianness)(*size, v, bytes.len(), n),
                 SubsetCells { shape, subset } => {
                     (a.subset_cells)(n1.put(shape), shape.len(), n2.put(subset), subset.len(), o, lent[2], n)
                 }
                 Generate { kind, shape, start } => {
                     (a.generate)(c_kind(kind), n1.put(shape), shape.len(), *start, m, lent[0], v, lent[1], o, lent[2], n)
                 }
+                TableMake { kind, cells, masks, values, offsets, .. } => (a.table_make)(
+                    c_kind(kind),
+                    *cells,
+                    b1.put(masks),
+                    masks.len(),
+                    b2.put(values),
+                    values.len(),
+                    n1.put(offsets),
+                    offsets.len(),
+                    m,
+                    lent[0],
+                    o,
+                    lent[2],
+                    l,
+                    lent[3],
+                    v,
+                    lent[1],
+                    n,
+                ),
+                TableRead { kind, cells, table: t } => (a.table_read)(
+                    c_kind(kind),
+                    *cells,
+                    b1.put(&t.masks),
+                    t.masks.len(),
+                    n1.put(&t.starts),
+                    t.starts.len(),
+                    n2.put(&t.lengths),
+                    t.lengths.len(),
+                    b2.put(&t.store),
+                    t.store.len(),
+                    m,
+                    lent[0],
+                    v,
+                    lent[1],
+                    o,
+                    lent[2],
+                    n,
+                ),
+                TableSet { kind, cells, cell, cell_masks, value, .. } => (a.table_set)(
+                    c_kind(kind),
+                    *cells,
+                    m,
+                    lent[0],
+                    o,
+                    lent[2],
+                    l,
+                    lent[3],
+                    v,
+                    lent[1],
+                    *cell,
+                    b1.put(cell_masks),
+                    cell_masks.len(),
+                    b2.put(value),
+                    value.len(),
+                ),
+                TablePack { kind, cells, table: t, most } => (a.table_pack)(
+                    c_kind(kind),
+                    *cells,
+                    b1.put(&t.masks),
+                    t.masks.len(),
+                    o,
+                    lent[2],
+                    n2.put(&t.lengths),
+                    t.lengths.len(),
+                    v,
+                    lent[1],
+                    *most,
+                    n,
+                ),
             }
         }
     }
@@ -262,19 +341,21 @@ impl Guarded {
 
     /// What is wrong with the buffers after the last call, which should have ended as `expected`.
     pub fn fault(&self, request: &Request, expected: &Outcome) -> Option<&'static str> {
-        let nothing = Results::default();
-        let r = expected.as_ref().unwrap_or(&nothing);
-        let before = if let (ReverseEndianness { bytes, .. }, Err(_)) = (request, expected) { bytes } else { &r.values };
+        let before = request.in_place().unwrap_or_default();
+        let r = expected.as_ref().unwrap_or(&before);
         if !self.masks.is(&r.masks) {
             return Some("masks output");
         }
-        if !self.values.is(before) {
-            return Some("values output");
+        if !self.values.is(&r.values) {
+            return Some("values or store output");
         }
         if !self.offsets.is(&r.offsets) {
-            return Some("offsets output");
+            return Some("offsets or starts output");
         }
-        let lengths = if expected.is_ok() { named_lengths(request, r) } else { vec![] };
+        if !self.cell_lengths.is(&r.lengths) {
+            return Some("lengths of cells");
+        }
+        let lengths = if expected.is_ok() { request.named(r) } else { vec![] };
         if !self.lengths.is(&lengths) {
             return Some("lengths");
         }
@@ -294,17 +375,31 @@ impl Guarded {
             ReverseEndianness { .. } => true,
             SubsetCells { shape, subset } => n1.holds(shape) && n2.holds(subset),
             Generate { shape, .. } => n1.holds(shape),
+            TableMake { masks, values, offsets, .. } => b1.holds(masks) && b2.holds(values) && n1.holds(offsets),
+            TableRead { table: t, .. } => b1.holds(&t.masks) && n1.holds(&t.starts) && n2.holds(&t.lengths) && b2.holds(&t.store),
+            TableSet { cell_masks, value, .. } => b1.holds(cell_masks) && b2.holds(value),
+            TablePack { table: t, .. } => b1.holds(&t.masks) && n2.holds(&t.lengths),
         };
         if kept { None } else { Some("an input was changed") }
     }
 
-    /// The results as the archive names and writes them. `None` where a named length is beyond its output.
+    /// The results as the archive names and writes them. `None` where a named length is beyond its output. Of a table: all that was lent.
     pub fn results(&self, request: &Request) -> Option<Results> {
         let named = self.lengths.inside();
         let mut r = Results::default();
-        if let ReverseEndianness { .. } = request {
-            r.whole = named[0];
+        if request.in_place().is_some() {
+            r.whole = named.first().copied().unwrap_or(0);
+            r.masks = self.masks.inside().to_vec();
             r.values = self.values.inside().to_vec();
+            r.offsets = self.offsets.inside().to_vec();
+            r.lengths = self.cell_lengths.inside().to_vec();
+            return Some(r);
+        }
+        if let TableMake { .. } = request {
+            r.masks = self.masks.inside().get(..named[0] as usize)?.to_vec();
+            r.offsets = self.offsets.inside().get(..named[1] as usize)?.to_vec();
+            r.lengths = self.cell_lengths.inside().get(..named[2] as usize)?.to_vec();
+            r.values = self.values.inside().get(..named[3] as usize)?.to_vec();
             return Some(r);
         }
         let mut at = 0;
@@ -319,14 +414,4 @@ impl Guarded {
         r.offsets = self.offsets.inside().get(..length(2))?.to_vec();
         Some(r)
     }
-}
-
-/// What success writes to `lengths`: masks, values, offsets, as far as the call has them.
-fn named_lengths(request: &Request, r: &Results) -> Vec<u64> {
-    if let ReverseEndianness { .. } = request {
-        return vec![r.whole];
-    }
-    let all = [r.masks.len(), r.values.len(), r.offsets.len()];
-    let slots = request.slots();
-    (0..3).filter(|&i| slots[i]).map(|i| all[i] as u64).collect()
 }

@@ -2,6 +2,7 @@
 //! See oracle/data/README.md.
 
 use crate::request::{Outcome, Request, Request::*, Results};
+use judge::Table;
 
 fn put_number(line: &mut String, n: u64) {
     if !line.is_empty() {
@@ -23,6 +24,13 @@ fn put_bytes(line: &mut String, bytes: &[u8]) {
     for b in bytes {
         line.push_str(&format!("{b:02x}"));
     }
+}
+
+fn put_table(line: &mut String, t: &Table) {
+    put_bytes(line, &t.masks);
+    put_numbers(line, &t.starts);
+    put_numbers(line, &t.lengths);
+    put_bytes(line, &t.store);
 }
 
 pub fn request_line(request: &Request) -> String {
@@ -75,6 +83,27 @@ pub fn request_line(request: &Request) -> String {
             put_numbers(l, shape);
             put_number(l, u64::from(*start));
         }
+        TableMake { kind, cells, masks, values, offsets, store } => {
+            kind.iter().for_each(|&n| put_number(l, n));
+            put_number(l, *cells);
+            put_bytes(l, masks);
+            put_bytes(l, values);
+            put_numbers(l, offsets);
+            put_number(l, *store as u64);
+        }
+        TableRead { kind, cells, table } | TableSet { kind, cells, table, .. } | TablePack { kind, cells, table, .. } => {
+            kind.iter().for_each(|&n| put_number(l, n));
+            put_number(l, *cells);
+            put_table(l, table);
+            if let TableSet { cell, cell_masks, value, .. } = request {
+                put_number(l, *cell);
+                put_bytes(l, cell_masks);
+                put_bytes(l, value);
+            }
+            if let TablePack { most, .. } = request {
+                put_number(l, *most);
+            }
+        }
     }
     line
 }
@@ -85,22 +114,33 @@ pub fn line(request: &Request, outcome: &Outcome) -> String {
         Err(refusal) => put_number(&mut line, u64::from(*refusal)),
         Ok(r) => {
             put_number(&mut line, 0);
-            if let ReverseEndianness { .. } = request {
+            if let ReverseEndianness { .. } | TablePack { .. } = request {
                 put_number(&mut line, r.whole);
             }
-            let [masks, values, offsets] = request.slots();
+            let [masks, values, offsets, lengths] = request.slots();
             if masks {
                 put_bytes(&mut line, &r.masks);
             }
-            if values {
+            if values && !table_comes_out(request) {
                 put_bytes(&mut line, &r.values);
             }
             if offsets {
                 put_numbers(&mut line, &r.offsets);
             }
+            if lengths {
+                put_numbers(&mut line, &r.lengths);
+            }
+            if table_comes_out(request) {
+                put_bytes(&mut line, &r.values);
+            }
         }
     }
     line
+}
+
+/// Masks, starts, lengths and store, in this order, as far as the call lends them.
+fn table_comes_out(request: &Request) -> bool {
+    matches!(request, TableMake { .. } | TableSet { .. } | TablePack { .. })
 }
 
 struct Words<'a>(std::str::Split<'a, char>);
@@ -125,6 +165,9 @@ impl Words<'_> {
     }
     fn kind(&mut self) -> Result<[u64; 5], String> {
         Ok([self.number()?, self.number()?, self.number()?, self.number()?, self.number()?])
+    }
+    fn table(&mut self) -> Result<Table, String> {
+        Ok(Table { masks: self.bytes()?, starts: self.numbers()?, lengths: self.numbers()?, store: self.bytes()? })
     }
 }
 
@@ -168,6 +211,24 @@ pub fn parse(text: &str) -> Result<(Request, Option<Outcome>), String> {
             shape: w.numbers()?,
             start: w.number()?.try_into().map_err(|_| "a start number has 32 bits")?,
         },
+        11 => TableMake {
+            kind: w.kind()?,
+            cells: w.number()?,
+            masks: w.bytes()?,
+            values: w.bytes()?,
+            offsets: w.numbers()?,
+            store: w.number()? as usize,
+        },
+        12 => TableRead { kind: w.kind()?, cells: w.number()?, table: w.table()? },
+        13 => TableSet {
+            kind: w.kind()?,
+            cells: w.number()?,
+            table: w.table()?,
+            cell: w.number()?,
+            cell_masks: w.bytes()?,
+            value: w.bytes()?,
+        },
+        14 => TablePack { kind: w.kind()?, cells: w.number()?, table: w.table()?, most: w.number()? },
         n => return Err(format!("no such call: {n}")),
     };
     if w.0.clone().next().is_none() {
@@ -176,18 +237,24 @@ pub fn parse(text: &str) -> Result<(Request, Option<Outcome>), String> {
     let outcome = match w.number()? {
         0 => {
             let mut r = Results::default();
-            if let ReverseEndianness { .. } = request {
+            if let ReverseEndianness { .. } | TablePack { .. } = request {
                 r.whole = w.number()?;
             }
-            let [masks, values, offsets] = request.slots();
+            let [masks, values, offsets, lengths] = request.slots();
             if masks {
                 r.masks = w.bytes()?;
             }
-            if values {
+            if values && !table_comes_out(&request) {
                 r.values = w.bytes()?;
             }
             if offsets {
                 r.offsets = w.numbers()?;
+            }
+            if lengths {
+                r.lengths = w.numbers()?;
+            }
+            if table_comes_out(&request) {
+                r.values = w.bytes()?;
             }
             Ok(r)
         }

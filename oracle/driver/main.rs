@@ -17,6 +17,7 @@ mod record;
 mod request;
 mod rng;
 mod rust;
+mod tables;
 
 use archive::Archive;
 use cases::Sink;
@@ -77,8 +78,38 @@ struct Again {
     /// Hashes of kind, count of cells and string: of all, of damaged copies.
     distinct: [HashSet<u64>; 2],
 }
+/// What was done to working tables.
+#[derive(Default)]
+struct Tables {
+    /// Settings, and those that packed other cells beforehand.
+    settings: [u64; 2],
+    /// Packing calls, and those that moved a cell; cells moved.
+    packings: [u64; 2],
+    moved: u64,
+    /// Of the most cells of one table.
+    cells: usize,
+}
+impl Tables {
+    fn count(&mut self, request: &Request, judged: &Outcome) {
+        let Ok(after) = judged else { return };
+        match request {
+            Request::TableSet { table, cell, .. } => {
+                let moved = |j: usize| j as u64 != *cell && table.starts[j] != after.offsets[j];
+                self.settings[0] += 1;
+                self.settings[1] += u64::from((0..table.starts.len()).any(moved));
+                self.cells = self.cells.max(table.starts.len());
+            }
+            Request::TablePack { .. } => {
+                self.packings[0] += 1;
+                self.packings[1] += u64::from(after.whole > 0);
+                self.moved += after.whole;
+            }
+            _ => {}
+        }
+    }
+}
 const MASKS: [&str; 3] = ["no masks", "masks of bytes", "packed masks"];
-const ANSWERS: usize = 15;
+const ANSWERS: usize = 17;
 #[derive(Default)]
 struct Counts {
     requests: [[u64; ANSWERS]; CALLS.len()],
@@ -91,6 +122,7 @@ struct Counts {
     hidden: [u64; 4],
     /// Kinds, shapes and start numbers of loads that were asked for.
     loads: HashSet<String>,
+    tables: Tables,
     /// By mask form, as in MASKS.
     again: [Again; 3],
     /// Requests that each build of the Rust answered: by its own function, as ragged cells.
@@ -128,7 +160,7 @@ impl Compare {
     }
 
     /// One call of the archive with outputs of these lengths, held to the judge: its answer and every byte afterwards.
-    fn call(&mut self, request: &Request, lent: [usize; 3], judged: &Outcome) -> u32 {
+    fn call(&mut self, request: &Request, lent: [usize; 4], judged: &Outcome) -> u32 {
         let fits = judge::fits(&needs(request, judged), &lent);
         let expected = match (judged, fits) {
             (Ok(_), Err(refusal)) => &Err(refusal),
@@ -156,24 +188,28 @@ impl Compare {
             0 => self.guarded.results(request).ok_or(u32::MAX),
             refusal => Err(refusal),
         };
-        if let Request::ReverseEndianness { .. } = request {
-            return exact; // in place: no other lengths
+        if request.in_place().is_some() {
+            return exact; // no other lengths
         }
         let rng = &mut self.rng;
-        let more = [0, 1, 2].map(|i| if slots[i] { needs[i] + rng.below(9) } else { 0 });
-        let some = [0, 1, 2].map(|i| if slots[i] { rng.below(40) } else { 0 });
+        let mut more = [0, 1, 2, 3].map(|i| if slots[i] { needs[i] + rng.below(9) } else { 0 });
+        let mut some = [0, 1, 2, 3].map(|i| if slots[i] { rng.below(40) } else { 0 });
+        if let Request::TableMake { store, .. } = request {
+            (more[1], some[1]) = (*store, *store); // the store's length is the request's
+        }
         match judged {
             Ok(_) => {
                 self.call(request, more, judged);
-                for i in 0..3 {
+                let making = matches!(request, Request::TableMake { .. });
+                for i in (0..4).filter(|&i| !(making && i == 1)) {
                     if needs[i] > 0 {
                         let mut short = if request.weight() > 100_000 { needs } else { more };
                         short[i] = needs[i] - 1;
                         self.call(request, short, judged);
                     }
                 }
-                if needs != [0; 3] {
-                    self.call(request, [0; 3], judged);
+                if needs != [0; 4] && !making {
+                    self.call(request, [0; 4], judged);
                 }
                 if let Request::Generate { shape, .. } = request {
                     self.room_for_any_load(request, shape.iter().product::<u64>() as usize, more, judged);
@@ -187,11 +223,11 @@ impl Compare {
     }
 
     /// With 8 value bytes a cell a ragged load fits, whatever is drawn; with one byte less that is not known beforehand.
-    fn room_for_any_load(&mut self, request: &Request, cells: usize, more: [usize; 3], judged: &Outcome) {
+    fn room_for_any_load(&mut self, request: &Request, cells: usize, more: [usize; 4], judged: &Outcome) {
         let needs = needs(request, judged);
-        let room = [more[0], more[1].max(8 * cells), more[2]];
+        let room = [more[0], more[1].max(8 * cells), more[2], 0];
         self.call(request, room, judged);
-        self.call(request, [room[0], needs[1].max(8 * cells - 1), room[2]], judged);
+        self.call(request, [room[0], needs[1].max(8 * cells - 1), room[2], 0], judged);
         for i in [0, 2] {
             if needs[i] > 0 {
                 let mut short = room;
@@ -263,6 +299,7 @@ impl Compare {
         if let (Request::Generate { .. }, Ok(_)) = (request, judged) {
             self.counts.loads.insert(lines::request_line(request));
         }
+        self.counts.tables.count(request, judged);
         self.counts.requests[request.call()][judged.as_ref().err().copied().unwrap_or(0) as usize] += 1;
         let observed = self.lent_in_all_ways(request, judged);
         if in_domain(request, judged) {
@@ -308,6 +345,12 @@ impl Compare {
             self.guarded.calls
         );
         println!("loads of {} different kinds, shapes and start numbers", self.counts.loads.len());
+        let Tables { settings, packings, moved, cells } = self.counts.tables;
+        println!(
+            "working tables: {} settings, {} of which packed other cells; {} packing calls, {} of which moved cells, {moved} in all; up to \
+             {cells} cells",
+            settings[0], settings[1], packings[0], packings[1]
+        );
         println!(
             "a mask byte over 01: stored, refused with 14, in {} requests; handed over in {}",
             self.counts.requests[1][14], self.counts.over_01
@@ -359,12 +402,16 @@ impl Compare {
     }
 }
 
-fn needs(request: &Request, judged: &Outcome) -> [usize; 3] {
-    match (request, judged) {
-        (Request::ReverseEndianness { bytes, .. }, _) => [0, bytes.len(), 0],
-        (_, Ok(r)) => [r.masks.len(), r.values.len(), r.offsets.len()],
-        (_, Err(_)) => [0; 3],
+fn needs(request: &Request, judged: &Outcome) -> [usize; 4] {
+    let of = |r: &request::Results| [r.masks.len(), r.values.len(), r.offsets.len(), r.lengths.len()];
+    if let Some(lent) = request.in_place() {
+        return of(&lent);
     }
+    let mut needs = judged.as_ref().map_or([0; 4], of);
+    if let Request::TableMake { store, .. } = request {
+        needs[1] = *store;
+    }
+    needs
 }
 /// A refusal goes with an error or panic.
 fn agree(ours: &Outcome, rust: &Result<request::Results, String>) -> bool {

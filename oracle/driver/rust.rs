@@ -48,7 +48,7 @@ fn even(cells: u64, size: u64) -> Vec<u64> {
     (0..=cells).map(|i| i * size).collect()
 }
 fn array((masks, values, offsets): Array) -> Results {
-    Results { masks, values, offsets, whole: 0 }
+    Results { masks, values, offsets, ..Results::default() }
 }
 
 /// How the Rust answers a request.
@@ -58,8 +58,8 @@ pub enum Body {
     Own,
     /// Extract and merge of fixed kinds and the masks of extract have no body there. They are asked for as ragged cells of one size.
     AsRagged,
-    /// `subset_cells`: the indexers are not listed. `encode_interleaved`: vlen_v2.rs only reads. `generate`: there is no load. Kinds with
-    /// packed masks: the Rust has masks of bytes only.
+    /// `subset_cells`: the indexers are not listed. `encode_interleaved`: vlen_v2.rs only reads. `generate`: there is no load. There is no
+    /// working table. Kinds with packed masks: the Rust has masks of bytes only.
     None,
 }
 pub fn body(request: &Request) -> Body {
@@ -68,6 +68,7 @@ pub fn body(request: &Request) -> Body {
         Extract { kind, .. } if kind[1] == 0 || kind[0] > 0 => Body::AsRagged,
         Merge { kind, .. } if kind[1] == 0 => Body::AsRagged,
         SubsetCells { .. } | EncodeInterleaved { .. } | Generate { .. } => Body::None,
+        TableMake { .. } | TableRead { .. } | TableSet { .. } | TablePack { .. } => Body::None,
         _ => Body::Own,
     }
 }
@@ -115,6 +116,7 @@ impl Build {
                 Ok(Results { values, whole, ..Results::default() })
             }
             SubsetCells { .. } | EncodeInterleaved { .. } | Generate { .. } => unreachable!(),
+            TableMake { .. } | TableRead { .. } | TableSet { .. } | TablePack { .. } => unreachable!(),
         }
     }
 }

@@ -352,3 +352,150 @@ pub unsafe extern "C" fn dpx_subset_cells(
         Ok(())
     })())
 }
+
+#[unsafe(no_mangle)]
+pub unsafe extern "C" fn dpx_table_make(
+    kind: DpxKind,
+    cells: u64,
+    masks: *const u8,
+    masks_count: usize,
+    values: *const u8,
+    values_count: usize,
+    offsets: *const u64,
+    offsets_count: usize,
+    out_masks: *mut u8,
+    out_masks_count: usize,
+    out_starts: *mut u64,
+    out_starts_count: usize,
+    out_cell_lengths: *mut u64,
+    out_cell_lengths_count: usize,
+    store: *mut u8,
+    store_count: usize,
+    lengths: *mut u64,
+) -> u32 {
+    number((|| unsafe {
+        let table = table_make(
+            kind.numbers(),
+            cells,
+            given(masks, masks_count),
+            given(values, values_count),
+            given(offsets, offsets_count),
+            store_count as u64,
+        )?;
+        let needs = [table.masks.len(), table.starts.len(), table.lengths.len(), table.store.len()];
+        fits(&needs, &[out_masks_count, out_starts_count, out_cell_lengths_count, store_count])?;
+        put(&table.masks, out_masks);
+        put(&table.starts, out_starts);
+        put(&table.lengths, out_cell_lengths);
+        put(&table.store, store);
+        put(&needs.map(|need| need as u64), lengths);
+        Ok(())
+    })())
+}
+
+/// A table that is read, or edited in place.
+unsafe fn table_of(
+    masks: (*const u8, usize),
+    starts: (*const u64, usize),
+    lengths: (*const u64, usize),
+    store: (*const u8, usize),
+) -> Table {
+    unsafe {
+        Table {
+            masks: given(masks.0, masks.1).to_vec(),
+            starts: given(starts.0, starts.1).to_vec(),
+            lengths: given(lengths.0, lengths.1).to_vec(),
+            store: given(store.0, store.1).to_vec(),
+        }
+    }
+}
+
+#[unsafe(no_mangle)]
+pub unsafe extern "C" fn dpx_table_read(
+    kind: DpxKind,
+    cells: u64,
+    masks: *const u8,
+    masks_count: usize,
+    starts: *const u64,
+    starts_count: usize,
+    cell_lengths: *const u64,
+    cell_lengths_count: usize,
+    store: *const u8,
+    store_count: usize,
+    out_masks: *mut u8,
+    out_masks_count: usize,
+    out_values: *mut u8,
+    out_values_count: usize,
+    out_offsets: *mut u64,
+    out_offsets_count: usize,
+    lengths: *mut u64,
+) -> u32 {
+    unsafe {
+        let table =
+            table_of((masks, masks_count), (starts, starts_count), (cell_lengths, cell_lengths_count), (store, store_count));
+        deliver(
+            table_read(kind.numbers(), cells, &table),
+            (out_masks, out_masks_count),
+            (out_values, out_values_count),
+            (out_offsets, out_offsets_count),
+            lengths,
+        )
+    }
+}
+
+#[unsafe(no_mangle)]
+pub unsafe extern "C" fn dpx_table_set(
+    kind: DpxKind,
+    cells: u64,
+    masks: *mut u8,
+    masks_count: usize,
+    starts: *mut u64,
+    starts_count: usize,
+    cell_lengths: *mut u64,
+    cell_lengths_count: usize,
+    store: *mut u8,
+    store_count: usize,
+    cell: u64,
+    cell_masks: *const u8,
+    cell_masks_count: usize,
+    value: *const u8,
+    value_count: usize,
+) -> u32 {
+    number((|| unsafe {
+        let table =
+            table_of((masks, masks_count), (starts, starts_count), (cell_lengths, cell_lengths_count), (store, store_count));
+        let after =
+            table_set(kind.numbers(), cells, &table, cell, given(cell_masks, cell_masks_count), given(value, value_count))?;
+        put(&after.masks, masks);
+        put(&after.starts, starts);
+        put(&after.lengths, cell_lengths);
+        put(&after.store, store);
+        Ok(())
+    })())
+}
+
+#[unsafe(no_mangle)]
+pub unsafe extern "C" fn dpx_table_pack(
+    kind: DpxKind,
+    cells: u64,
+    masks: *const u8,
+    masks_count: usize,
+    starts: *mut u64,
+    starts_count: usize,
+    cell_lengths: *const u64,
+    cell_lengths_count: usize,
+    store: *mut u8,
+    store_count: usize,
+    most: u64,
+    lengths: *mut u64,
+) -> u32 {
+    number((|| unsafe {
+        let table =
+            table_of((masks, masks_count), (starts, starts_count), (cell_lengths, cell_lengths_count), (store, store_count));
+        let (after, moved) = table_pack(kind.numbers(), cells, &table, most)?;
+        put(&after.starts, starts);
+        put(&after.store, store);
+        put(&[moved], lengths);
+        Ok(())
+    })())
+}

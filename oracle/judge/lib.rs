@@ -1,4 +1,4 @@
-//! The judge: what docs/SPEC.md and docs/DECISIONS.md say of the ten calls, as plain code.
+//! The judge: what docs/SPEC.md and docs/DECISIONS.md say of the fourteen calls, as plain code.
 //!
 //! Each function takes what the call takes, as numbers and slices, and gives the result or the refusal number. Outputs are not lent:
 //! `fits` says where a lent output is too short (6), and c.rs puts a result into lent outputs.
@@ -9,6 +9,8 @@ pub const MAX_SIZE: u64 = 64;
 pub const MAX_SIDES: usize = 4;
 pub const MAX_CELLS: u64 = 65_536;
 pub const MAX_VALUE_BYTES: u64 = 16_777_216;
+pub const MAX_STORE: u64 = 16_777_216;
+pub const MAX_MOVES: u64 = 256;
 
 pub type Refusal = u32;
 
@@ -625,6 +627,226 @@ pub fn reverse_endianness(size: u64, bytes: &[u8]) -> Result<(Vec<u8>, u64), Ref
 pub fn subset_cells(shape: &[u64], subset: &[u64]) -> Result<Vec<u64>, Refusal> {
     shape_cells(shape)?;
     Ok(cells_of_subset(shape, subset)?.iter().map(|&cell| cell as u64).collect())
+}
+
+// ---------------------------------------------------------------- the working table
+
+/// Planes as in an array; a start and a length for each cell; the bytes that they are in.
+#[derive(Clone, Debug, Default, PartialEq)]
+pub struct Table {
+    pub masks: Vec<u8>,
+    pub starts: Vec<u64>,
+    pub lengths: Vec<u64>,
+    pub store: Vec<u8>,
+}
+
+fn table_kind(k: KindNumbers) -> Result<Kind, Refusal> {
+    let kind = kind(k)?;
+    if matches!(kind.form, Form::Fixed { .. }) {
+        return Err(1);
+    }
+    Ok(kind)
+}
+
+fn table_cells(cells: u64) -> Result<usize, Refusal> {
+    if cells < 1 || cells > MAX_CELLS {
+        return Err(2);
+    }
+    Ok(cells as usize)
+}
+
+fn check_store(length: u64) -> Result<(), Refusal> {
+    if length > MAX_STORE {
+        return Err(5);
+    }
+    Ok(())
+}
+
+/// How many levels of a cell are set from the outside up to the first null.
+fn set_levels(levels: &[u8]) -> usize {
+    levels.iter().take_while(|&&byte| byte == 1).count()
+}
+
+/// The rest form of a cell: what is below a null is cleared.
+fn rested(levels: &[u8], value: &[u8]) -> (Vec<u8>, Vec<u8>) {
+    let set = set_levels(levels);
+    let masks = (0..levels.len()).map(|level| u8::from(level < set)).collect();
+    (masks, if set == levels.len() { value.to_vec() } else { vec![] })
+}
+
+impl Table {
+    /// The mask bytes of a cell, outermost first.
+    fn levels(&self, depth: usize, cell: usize) -> Vec<u8> {
+        (0..depth).map(|level| self.masks[level * self.starts.len() + cell]).collect()
+    }
+
+    fn value(&self, cell: usize) -> &[u8] {
+        &self.store[self.starts[cell] as usize..][..self.lengths[cell] as usize]
+    }
+
+    /// 4: lengths of lists, mask bytes, rest form, places in the store, bytes that two cells have.
+    fn check(&self, depth: usize, cells: usize) -> Result<(), Refusal> {
+        if self.masks.len() != depth * cells || self.starts.len() != cells || self.lengths.len() != cells {
+            return Err(4);
+        }
+        if neither(&self.masks) {
+            return Err(4);
+        }
+        let mut held = vec![false; self.store.len()];
+        for cell in 0..cells {
+            let (start, length) = (self.starts[cell], self.lengths[cell]);
+            let levels = self.levels(depth, cell);
+            let set = set_levels(&levels);
+            if levels[set..].contains(&1) {
+                return Err(4);
+            }
+            if set < depth && length != 0 {
+                return Err(4);
+            }
+            if u128::from(start) + u128::from(length) > self.store.len() as u128 {
+                return Err(4);
+            }
+            if length == 0 && start != 0 {
+                return Err(4);
+            }
+            for byte in &mut held[start as usize..(start + length) as usize] {
+                if *byte {
+                    return Err(4);
+                }
+                *byte = true;
+            }
+        }
+        Ok(())
+    }
+
+    /// The cells that have bytes, in the order in which they lie.
+    fn lying(&self) -> Vec<usize> {
+        let mut cells: Vec<usize> = (0..self.lengths.len()).filter(|&cell| self.lengths[cell] > 0).collect();
+        cells.sort_by_key(|&cell| self.starts[cell]);
+        cells
+    }
+
+    /// The cells that are not at their packed starts, as they lie, each with that start.
+    fn displaced(&self) -> Vec<(usize, u64)> {
+        let mut list = vec![];
+        let mut packed = 0;
+        for cell in self.lying() {
+            if self.starts[cell] != packed {
+                list.push((cell, packed));
+            }
+            packed += self.lengths[cell];
+        }
+        list
+    }
+
+    /// Copied, and nothing cleared.
+    fn move_cell(&mut self, cell: usize, to: u64) {
+        let value = self.value(cell).to_vec();
+        self.store[to as usize..][..value.len()].copy_from_slice(&value);
+        self.starts[cell] = to;
+    }
+}
+
+/// Of the rest form, packed in cell order. The table's store has what is written to the lent one, which has `store` bytes.
+pub fn table_make(
+    k: KindNumbers,
+    cells: u64,
+    masks: &[u8],
+    values: &[u8],
+    offsets: &[u64],
+    store: u64,
+) -> Result<Table, Refusal> {
+    let kind = table_kind(k)?;
+    let cells = table_cells(cells)?;
+    check_array(kind, cells, masks, values, offsets)?;
+    check_store(store)?;
+    let mut planes = planes(kind.depth, cells, masks);
+    let mut table = Table::default();
+    for (cell, value) in cell_values(kind.form, cells, values, offsets).iter().enumerate() {
+        let levels: Vec<u8> = planes.iter().map(|plane| plane[cell]).collect();
+        let (levels, value) = rested(&levels, value);
+        (0..kind.depth).for_each(|level| planes[level][cell] = levels[level]);
+        table.starts.push(if value.is_empty() { 0 } else { table.store.len() as u64 });
+        table.lengths.push(value.len() as u64);
+        table.store.extend(value);
+    }
+    table.masks = planes.concat();
+    if table.store.len() as u64 > store {
+        return Err(6);
+    }
+    Ok(table)
+}
+
+/// In cell order.
+pub fn table_read(k: KindNumbers, cells: u64, table: &Table) -> Result<Array, Refusal> {
+    let kind = table_kind(k)?;
+    let cells = table_cells(cells)?;
+    table.check(kind.depth, cells)?;
+    check_store(table.store.len() as u64)?;
+    let values: Vec<Vec<u8>> = (0..cells).map(|cell| table.value(cell).to_vec()).collect();
+    Ok(array_of(kind.form, &planes(kind.depth, cells, &table.masks), &values))
+}
+
+/// The table afterwards.
+pub fn table_set(
+    k: KindNumbers,
+    cells: u64,
+    table: &Table,
+    cell: u64,
+    cell_masks: &[u8],
+    value: &[u8],
+) -> Result<Table, Refusal> {
+    let kind = table_kind(k)?;
+    let cells = table_cells(cells)?;
+    table.check(kind.depth, cells)?;
+    if cell_masks.len() != kind.depth || neither(cell_masks) {
+        return Err(4);
+    }
+    check_store(table.store.len() as u64)?;
+    if cell >= cells as u64 {
+        return Err(15);
+    }
+    let cell = cell as usize;
+    let (levels, value) = rested(cell_masks, value);
+
+    // the old bytes are given up
+    let mut table = table.clone();
+    (table.starts[cell], table.lengths[cell]) = (0, 0);
+    let room = table.store.len() as u64;
+    let (length, others) = (value.len() as u64, table.lengths.iter().sum::<u64>());
+    if others + length > room {
+        return Err(16);
+    }
+
+    (0..kind.depth).for_each(|level| table.masks[level * cells + cell] = levels[level]);
+    if length == 0 {
+        return Ok(table);
+    }
+    // right after the highest-lying cell left; where too little remains there, after all cells, packed
+    let mut end = table.lying().last().map_or(0, |&highest| table.starts[highest] + table.lengths[highest]);
+    if room - end < length {
+        table.displaced().iter().for_each(|&(cell, to)| table.move_cell(cell, to));
+        end = others;
+    }
+    table.store[end as usize..][..value.len()].copy_from_slice(&value);
+    (table.starts[cell], table.lengths[cell]) = (end, length);
+    Ok(table)
+}
+
+/// The table afterwards, and how many cells were moved.
+pub fn table_pack(k: KindNumbers, cells: u64, table: &Table, most: u64) -> Result<(Table, u64), Refusal> {
+    let kind = table_kind(k)?;
+    if most < 1 || most > MAX_MOVES {
+        return Err(1);
+    }
+    let cells = table_cells(cells)?;
+    table.check(kind.depth, cells)?;
+    check_store(table.store.len() as u64)?;
+    let mut table = table.clone();
+    let displaced = table.displaced();
+    let moved = displaced.len().min(most as usize);
+    displaced[..moved].iter().for_each(|&(cell, to)| table.move_cell(cell, to));
+    Ok((table, moved as u64))
 }
 
 // ---------------------------------------------------------------- 6

@@ -34,7 +34,7 @@ static void texts(void)
         for (other = 1; other < number; other++)
             CHECK(strcmp(text, dpx_refusal_text(other)) != 0);
     }
-    CHECK(number > DPX_NOT_BOOLEAN);
+    CHECK(number > DPX_FULL);
 }
 
 static void counts(void)
@@ -141,6 +141,24 @@ static void marks(void)
     }
 }
 
+/* The cells of a working table: where they lie does not matter; null is not empty. */
+static void table_cells(void)
+{
+    const dpx_kind kind = dpx_ragged(2, 4, DPX_START);
+    const uint8_t masks[] = {1, 1, 0, 1, 1, 1, 0, 0, 0, 1}, store[] = {'-', 'b', 'c', '-', 'a'};
+    const uint64_t starts[] = {4, 0, 0, 0, 1}, lengths[] = {1, 0, 0, 0, 2}, levels[] = {0, 2, 1, 2, 0};
+    const uint8_t other[] = {1, 2}, set[] = {1, 1};
+    uint64_t number;
+    for (number = 0; number < 5; number++) {
+        const dpx_cell cell = dpx_table_cell(kind, 5, masks, starts, lengths, store, number);
+        CHECK(cell.null_level == levels[number] && cell.length == lengths[number]);
+        CHECK(memcmp(cell.value, store + starts[number], cell.length) == 0);
+    }
+    CHECK(dpx_table_cell(kind, 1, other, starts, lengths, store, 0).null_level == DPX_NO_CELL);
+    CHECK(dpx_table_cell(kind, 1, set, starts + 1, lengths + 1, NULL, 0).null_level == 0);
+    CHECK(dpx_table_cell(kind, 1, set, starts + 1, lengths + 1, NULL, 0).length == 0);
+}
+
 /* An extract, one of no cell, and a merge. */
 static void boxes(void)
 {
@@ -209,6 +227,7 @@ int main(void)
             kind_of(dpx_packed(kinds[i]));
         }
     }
+    table_cells();
     boxes();
     edges();
     printf("header: %lu checks, %lu failed\n", checks, failures);

@@ -1,6 +1,7 @@
 /*
  * How much stack the calls take: each runs on a stack of its own, filled before, and no byte below the promised 16 KiB
- * may change. Every call runs on a table of depth 4 with many cells, merge with one subset for each cell.
+ * may change. Every call runs on a table of depth 4 with many cells, merge with one subset for each cell. Working tables
+ * of more than 2,048 cells are promised 136 KiB.
  */
 #define _XOPEN_SOURCE 700
 #include "durpaxeta.h"
@@ -11,7 +12,8 @@
 #include <string.h>
 #include <ucontext.h>
 
-enum { PROMISED = 16 * 1024, ROOM = 256 * 1024, CELLS = 4096, FILL = 0xA5 };
+enum { PROMISED = 16 * 1024, LARGE = 136 * 1024, ROOM = 256 * 1024, CELLS = 4096, FILL = 0xA5 };
+enum { SMALL_TABLE = 2048, STORE = 4 * DPX_MAX_CELLS };
 
 static uint64_t shape[1] = {CELLS}, whole[2] = {0, CELLS}, subsets[2 * CELLS], offsets[CELLS + 1], chunk_offsets[2 * CELLS];
 static uint64_t out_offsets[CELLS + 1], lengths[3];
@@ -94,6 +96,65 @@ static void reverse_endianness(void) { answer = dpx_reverse_endianness(64, turne
 
 static void subset_cells(void) { answer = dpx_subset_cells(shape, 1, whole, 2, out_offsets, CELLS, lengths); }
 
+/*
+ * A working table whose cells lie the other way round, each two bytes behind the next: all are displaced. Cell 0 is null.
+ */
+static uint8_t t_masks[4 * DPX_MAX_CELLS], t_store[STORE], t_values[STORE], t_out[4 * DPX_MAX_CELLS];
+static uint64_t t_starts[DPX_MAX_CELLS], t_lengths[DPX_MAX_CELLS], t_offsets[DPX_MAX_CELLS + 1], t_named[4];
+
+static void scatter(size_t cells)
+{
+    size_t i, level;
+    for (i = 0; i < cells; i++) {
+        t_lengths[i] = i != 0;
+        t_starts[i] = i != 0 ? 4 * (cells - i) - 1 : 0;
+        t_offsets[i + 1] = i;
+        for (level = 0; level < 4; level++)
+            t_masks[level * cells + i] = i != 0;
+    }
+}
+
+#define TABLE(cells) t_masks, 4 * (cells), t_starts, cells, t_lengths, cells, t_store, 4 * (cells)
+
+static void table_make(void)
+{
+    scatter(DPX_MAX_CELLS);
+    answer = dpx_table_make(nested, DPX_MAX_CELLS, t_masks, 4 * DPX_MAX_CELLS, t_values, DPX_MAX_CELLS - 1, t_offsets, DPX_MAX_CELLS + 1,
+                            t_out, sizeof t_out, t_starts, DPX_MAX_CELLS, t_lengths, DPX_MAX_CELLS, t_store, STORE, t_named);
+}
+
+static void table_read(size_t cells)
+{
+    scatter(cells);
+    answer = dpx_table_read(nested, cells, TABLE(cells), t_out, sizeof t_out, t_values, STORE, t_offsets, cells + 1, t_named);
+}
+
+static void table_set(size_t cells)
+{
+    static const uint8_t set[4] = {1, 1, 1, 1};
+    scatter(cells);
+    /* All the room that is left: the cells are packed beforehand. */
+    answer = dpx_table_set(nested, cells, TABLE(cells), 1, set, 4, t_values, 3 * cells);
+}
+
+static void table_pack(size_t cells)
+{
+    scatter(cells);
+    answer = dpx_table_pack(nested, cells, TABLE(cells), DPX_MAX_MOVES, t_named);
+}
+
+static void read_small(void) { table_read(SMALL_TABLE); }
+
+static void read_large(void) { table_read(DPX_MAX_CELLS); }
+
+static void set_small(void) { table_set(SMALL_TABLE); }
+
+static void set_large(void) { table_set(DPX_MAX_CELLS); }
+
+static void pack_small(void) { table_pack(SMALL_TABLE); }
+
+static void pack_large(void) { table_pack(DPX_MAX_CELLS); }
+
 static void nothing(void) { answer = 0; }
 
 static ucontext_t here, there;
@@ -122,12 +183,29 @@ int main(void)
     static const struct {
         const char *name;
         void (*call)(void);
-    } calls[] = {{"encode", encode_nested},       {"encode, depth 0", encode_flat}, {"decode", decode_nested},
-                 {"encode, packed", encode_packed}, {"decode, packed", decode_packed},
-                 {"decode_interleaved", decode_interleaved}, {"encode_interleaved", encode_interleaved},
-                 {"generate", generate_once},   {"generate, two runs", generate_twice}, {"generate, fixed", generate_fixed},
-                 {"extract", extract},          {"merge", merge},
-                 {"partial_decode", partial_decode}, {"reverse_endianness", reverse_endianness}, {"subset_cells", subset_cells}};
+        size_t promised; /* 16 KiB where it is 0 */
+    } calls[] = {{"encode", encode_nested, 0},
+                 {"encode, depth 0", encode_flat, 0},
+                 {"decode", decode_nested, 0},
+                 {"encode, packed", encode_packed, 0},
+                 {"decode, packed", decode_packed, 0},
+                 {"decode_interleaved", decode_interleaved, 0},
+                 {"encode_interleaved", encode_interleaved, 0},
+                 {"generate", generate_once, 0},
+                 {"generate, two runs", generate_twice, 0},
+                 {"generate, fixed", generate_fixed, 0},
+                 {"extract", extract, 0},
+                 {"merge", merge, 0},
+                 {"partial_decode", partial_decode, 0},
+                 {"reverse_endianness", reverse_endianness, 0},
+                 {"subset_cells", subset_cells, 0},
+                 {"table_make", table_make, 0},
+                 {"table_read", read_small, 0},
+                 {"table_set", set_small, 0},
+                 {"table_pack", pack_small, 0},
+                 {"table_read, large", read_large, LARGE},
+                 {"table_set, large", set_large, LARGE},
+                 {"table_pack, large", pack_large, LARGE}};
     size_t i, idle, failed = 0;
 
     for (i = 0; i < CELLS; i++) {
@@ -147,11 +225,11 @@ int main(void)
 
     idle = used(nothing);
     for (i = 0; i < sizeof calls / sizeof calls[0]; i++) {
-        size_t size = used(calls[i].call) - idle;
-        int fine = answer == 0 && size <= PROMISED;
+        const size_t size = used(calls[i].call) - idle, promised = calls[i].promised != 0 ? calls[i].promised : PROMISED;
+        const int fine = answer == 0 && size <= promised;
         printf("stack of %-20s %6zu bytes%s\n", calls[i].name, size, fine ? "" : "  FAILED");
         if (!fine) {
-            printf("  answer %" PRIu32 "; at most %d bytes are promised\n", answer, PROMISED);
+            printf("  answer %" PRIu32 "; at most %zu bytes are promised\n", answer, promised);
             failed++;
         }
     }

@@ -11,6 +11,11 @@ pub struct Arguments {
     pub shape: Option<String>,
     pub subset: Option<String>,
     pub start: Option<String>,
+    /// Of working tables: bytes of the store, the cell to set, what to set it to, how many cells to move.
+    pub store: Option<String>,
+    pub cell: Option<String>,
+    pub to: Option<String>,
+    pub most: Option<String>,
     /// Subset and file of each part of a merge.
     pub parts: Vec<(String, OsString)>,
     pub hex: bool,
@@ -85,6 +90,10 @@ pub fn parse(command: &str, options: &[&str], files: &[&str], words: Vec<OsStrin
             "--kind" => once(&mut arguments.kind, option, value)?,
             "--shape" => once(&mut arguments.shape, option, value)?,
             "--start" => once(&mut arguments.start, option, value)?,
+            "--store" => once(&mut arguments.store, option, value)?,
+            "--cell" => once(&mut arguments.cell, option, value)?,
+            "--to" => once(&mut arguments.to, option, value)?,
+            "--most" => once(&mut arguments.most, option, value)?,
             _ => once(&mut arguments.subset, option, value)?,
         }
     }

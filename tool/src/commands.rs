@@ -8,7 +8,7 @@ use crate::locate::Walk;
 use crate::output::{self, Output};
 use crate::stored::{cells, given_kind, given_shape, missing_kind, missing_shape, stopped, Given, Interleaved, Stored};
 use crate::watch::Watch;
-use crate::{explain, help, json, words, worksheet};
+use crate::{explain, help, json, tables, words, worksheet};
 use durpaxeta::{
     decode, encode, encode_interleaved, extract, generate, merge, partial_decode, subset_cells, Array, Cell, Chunk,
     Kind, Refusal, Subset, Values,
@@ -24,7 +24,7 @@ struct Command {
     run: fn(&Arguments, &Watch) -> Result<u8, Failure>,
 }
 
-const COMMANDS: [Command; 10] = [
+const COMMANDS: [Command; 14] = [
     Command {
         name: "show",
         help: help::SHOW,
@@ -82,8 +82,37 @@ const COMMANDS: [Command; 10] = [
         files: &["FILE"],
         run: explain_bytes,
     },
+    Command {
+        name: "table make",
+        help: help::TABLE,
+        options: &["--kind", "--shape", "--store", "--no-clobber"],
+        files: &["IN", "OUT"],
+        run: tables::make,
+    },
+    Command { name: "table show", help: help::TABLE, options: &["--hex"], files: &["TABLE"], run: tables::show },
+    Command {
+        name: "table set",
+        help: help::TABLE,
+        options: &["--cell", "--to", "--no-clobber"],
+        files: &["TABLE", "OUT"],
+        run: tables::set,
+    },
+    Command {
+        name: "table pack",
+        help: help::TABLE,
+        options: &["--most", "--no-clobber"],
+        files: &["TABLE", "OUT"],
+        run: tables::pack,
+    },
     Command { name: "example", help: help::EXAMPLE_HELP, options: &[], files: &[], run: example },
 ];
+
+impl Command {
+    /// The first word of its name, by which its help is found.
+    fn page(&self) -> &'static str {
+        self.name.split(' ').next().unwrap_or(self.name)
+    }
+}
 
 /// Runs a command line and answers the exit status.
 pub fn run(words: Vec<OsString>) -> Result<u8, Failure> {
@@ -93,7 +122,7 @@ pub fn run(words: Vec<OsString>) -> Result<u8, Failure> {
     let text = first.to_string_lossy().into_owned();
     let page = match text.as_str() {
         "--help" | "-h" | "help" => match words.next() {
-            Some(name) => Some(command(&name.to_string_lossy())?.help),
+            Some(name) => Some(page(&name.to_string_lossy())?),
             None => Some(help::GENERAL),
         },
         "--version" | "-V" => Some(help::VERSION),
@@ -105,7 +134,14 @@ pub fn run(words: Vec<OsString>) -> Result<u8, Failure> {
             None => print(page, &watch),
         };
     }
-    let command = command(&text)?;
+    let command = match text.as_str() {
+        "table" => match words.next().map(|word| word.to_string_lossy().into_owned()).as_deref() {
+            Some("--help" | "-h") => return print(help::TABLE, &watch),
+            second => command(&format!("table {}", second.unwrap_or_default()))
+                .map_err(|_| Failure::usage("table is followed by make, show, set or pack").of_command("table"))?,
+        },
+        _ => command(&text)?,
+    };
     let run = || {
         let arguments = arguments::parse(command.name, command.options, command.files, words.collect())?;
         match arguments.help {
@@ -113,14 +149,23 @@ pub fn run(words: Vec<OsString>) -> Result<u8, Failure> {
             false => (command.run)(&arguments, &watch),
         }
     };
-    run().map_err(|failure| failure.of_command(command.name))
+    run().map_err(|failure| failure.of_command(command.page()))
 }
 
 fn command(name: &str) -> Result<&'static Command, Failure> {
-    COMMANDS.iter().find(|command| command.name == name).ok_or_else(|| {
-        let names: Vec<&str> = COMMANDS.iter().map(|command| command.name).collect();
-        Failure::usage(format!("there is no command \"{name}\"; there are {}", names.join(", ")))
-    })
+    COMMANDS.iter().find(|command| command.name == name).ok_or_else(|| no_command(name))
+}
+
+/// The help of a command.
+fn page(name: &str) -> Result<&'static str, Failure> {
+    let found = COMMANDS.iter().find(|command| command.page() == name);
+    found.map(|command| command.help).ok_or_else(|| no_command(name))
+}
+
+fn no_command(name: &str) -> Failure {
+    let mut names: Vec<&str> = COMMANDS.iter().map(Command::page).collect();
+    names.dedup();
+    Failure::usage(format!("there is no command \"{name}\"; there are {}", names.join(", ")))
 }
 
 fn print(text: &str, watch: &Watch) -> Result<u8, Failure> {

@@ -13,6 +13,7 @@ pub const GENERAL: &str = r#"durpaxeta: stored tables of optional and variable-l
   durpaxeta check     says whether a file is a valid table, and if not, why and at which byte
   durpaxeta same      says whether two files are the same table, and if not, where they differ
   durpaxeta explain   prints the stored bytes, field by field, with what they are
+  durpaxeta table     edits the cells of a working table: make, show, set, pack
   durpaxeta example   prints a worksheet to begin with
 
 'durpaxeta help COMMAND' or 'durpaxeta COMMAND --help' tells more about each; 'durpaxeta help' prints this page.
@@ -28,7 +29,7 @@ A stored table does not say its kind or its shape. You do, or its description do
 Depth is the number of mask levels. Level 1 is the outermost. Bytes are counted from 0.
 A file name of - is standard input or standard output. Inputs of over 268,435,456 bytes are not read.
 
-Where write, cut, merge, convert and generate write to:
+Where write, cut, merge, convert, generate and table write to:
   A file is replaced whole or stays as it was. What is written goes to a temporary file in the same folder, is synced, and
   then takes the place of the old file, with its mode. On an error, or on a signal that ends the command, nothing is left
   of it. (Power loss can leave a file named .durpaxeta-NUMBER-NUMBER, which may be removed.)
@@ -41,9 +42,9 @@ Where write, cut, merge, convert and generate write to:
 
 Exit status:
   0         all went well, and all of it was delivered
-  1 to 14   the number of the refusal, whether or not anyone read the words to it
+  1 to 16   the number of the refusal, whether or not anyone read the words to it
   64        a wrong command line, or an output that is also an input
-  65        a worksheet that cannot be read
+  65        a worksheet, or a listing of a working table, that cannot be read
   66        a description that cannot be read
   67        --kind, --shape or --part that differ from the description; same: two that differ in kind or shape
   68, 69    a file of another length (68) or checksum (69) than its description says
@@ -232,6 +233,36 @@ Examples:
   head -c 40 guests.bin > damaged.bin
   durpaxeta explain --kind "depth 2, ragged, width 4, index at start" --shape 2x2 damaged.bin || echo "refused with $?"
   printf '\002\000\000\000\001\000\000\000A\000\000\000\000' | durpaxeta explain --interleaved --shape 2 -
+"#;
+
+pub const TABLE: &str = r#"durpaxeta table make [--kind KIND --shape SHAPE] --store BYTES [--no-clobber] IN OUT
+durpaxeta table show [--hex] TABLE
+durpaxeta table set --cell CELL --to WHAT [--no-clobber] TABLE OUT
+durpaxeta table pack --most NUMBER [--no-clobber] TABLE OUT
+
+A working table is a ragged table whose cells are edited: each has a start and a length in a store of so many bytes. Here it is a
+text, which says of each cell its masks, its start and its length, and then what bytes the store has; docs/FORMAT.md, part 15.
+A program calls the library instead, on its own memory.
+
+  make   makes a working table of a stored one. Kind and shape may be left out where IN.dpx says them. The store must have room
+         for the cells; what is more is room for other values.
+  show   prints the cells as a worksheet, which 'durpaxeta write' stores.
+  set    sets a cell: --to 'value "0-3"', --to 'value hex 0A 0B' or --to 'null at level 1'. Its old bytes are given up and stay
+         where they are; the new ones go behind the cell that lies highest. Where too little is left there, all cells are packed
+         before. 15 is a cell that the table has not, 16 a value for which the store is too small.
+  pack   moves cells that do not lie end to end, the lowest first, at most 1 to 256 of them, and tells how many it moved.
+
+No byte of the store is ever cleared: bytes that no cell has any more are in the text, marked 'in no cell', until others are put
+there. 'table show' does not print them.
+
+Examples:
+  durpaxeta example | durpaxeta write --describe - guests.bin
+  durpaxeta table make --store 12 guests.bin work.txt
+  durpaxeta table set --cell 1,0 --to 'value "4-7"' work.txt next.txt
+  durpaxeta table set --cell 0,0 --to 'null at level 2' next.txt work.txt
+  durpaxeta table pack --most 256 work.txt next.txt
+  cat next.txt
+  durpaxeta table show next.txt | durpaxeta write - edited.bin
 "#;
 
 pub const EXAMPLE_HELP: &str = r#"durpaxeta example

@@ -1,5 +1,5 @@
 //! The command `durpaxeta`: shows, writes, cuts, merges, converts, generates, checks, compares and explains stored
-//! tables.
+//! tables, and edits working ones.
 
 #![deny(unsafe_code)]
 
@@ -12,6 +12,7 @@ mod failure;
 mod files;
 mod help;
 mod json;
+mod listing;
 mod literal;
 mod locate;
 mod output;
@@ -19,6 +20,7 @@ mod output;
 mod random;
 mod stored;
 mod system;
+mod tables;
 mod watch;
 mod words;
 mod worksheet;

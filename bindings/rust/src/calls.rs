@@ -1,4 +1,4 @@
-//! The ten calls, and those of them that write into lent slices.
+//! The calls on arrays and stored bytes, and those of them that write into lent slices. Working tables are in table.rs.
 
 use crate::ffi::{self, Answer, Content};
 use crate::{
@@ -7,24 +7,24 @@ use crate::{
 use alloc::vec;
 use alloc::vec::Vec;
 
-fn given<T>(answer: Answer<T>) -> Result<T, Refusal> {
+pub(crate) fn given<T>(answer: Answer<T>) -> Result<T, Refusal> {
     answer.map_err(|number| match Refusal::try_from(number) {
         Ok(refusal) => refusal,
         Err(_) => panic!("libdurpaxeta.a gave the unknown answer {number}: it does not belong to this crate"),
     })
 }
 
-fn content(array: ArrayRef<'_>) -> Content<'_> {
+pub(crate) fn content(array: ArrayRef<'_>) -> Content<'_> {
     Content { masks: array.masks, values: array.values, offsets: array.offsets }
 }
 
-fn cut<T>(list: &mut Vec<T>, length: usize) {
+pub(crate) fn cut<T>(list: &mut Vec<T>, length: usize) {
     list.truncate(length);
     list.shrink_to_fit();
 }
 
 /// Lends vectors of that room, and cuts them to what was written.
-fn lend(
+pub(crate) fn lend(
     kind: Kind,
     shape: &[u64],
     room: Room,

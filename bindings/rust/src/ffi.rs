@@ -1,7 +1,7 @@
 //! The archive's functions over slices. The only unsafe code of this crate.
 #![allow(unsafe_code)]
 
-use crate::{Kind, Lent, MaskForm, Order, Place, Room, Values, Width};
+use crate::{Kind, Lent, MaskForm, Order, Place, Room, TableMut, TableRef, Values, Width};
 
 /// `dpx_kind` of durpaxeta.h.
 #[repr(C)]
@@ -190,6 +190,79 @@ extern "C" {
         subset_len: usize,
         out_cells: *mut u64,
         out_cells_len: usize,
+        lengths: *mut u64,
+    ) -> u32;
+
+    fn dpx_table_make(
+        kind: RawKind,
+        cells: u64,
+        masks: *const u8,
+        masks_len: usize,
+        values: *const u8,
+        values_len: usize,
+        offsets: *const u64,
+        offsets_len: usize,
+        out_masks: *mut u8,
+        out_masks_len: usize,
+        out_starts: *mut u64,
+        out_starts_len: usize,
+        out_cell_lengths: *mut u64,
+        out_cell_lengths_len: usize,
+        store: *mut u8,
+        store_len: usize,
+        lengths: *mut u64,
+    ) -> u32;
+
+    fn dpx_table_read(
+        kind: RawKind,
+        cells: u64,
+        masks: *const u8,
+        masks_len: usize,
+        starts: *const u64,
+        starts_len: usize,
+        cell_lengths: *const u64,
+        cell_lengths_len: usize,
+        store: *const u8,
+        store_len: usize,
+        out_masks: *mut u8,
+        out_masks_len: usize,
+        out_values: *mut u8,
+        out_values_len: usize,
+        out_offsets: *mut u64,
+        out_offsets_len: usize,
+        lengths: *mut u64,
+    ) -> u32;
+
+    fn dpx_table_set(
+        kind: RawKind,
+        cells: u64,
+        masks: *mut u8,
+        masks_len: usize,
+        starts: *mut u64,
+        starts_len: usize,
+        cell_lengths: *mut u64,
+        cell_lengths_len: usize,
+        store: *mut u8,
+        store_len: usize,
+        cell: u64,
+        cell_masks: *const u8,
+        cell_masks_len: usize,
+        value: *const u8,
+        value_len: usize,
+    ) -> u32;
+
+    fn dpx_table_pack(
+        kind: RawKind,
+        cells: u64,
+        masks: *const u8,
+        masks_len: usize,
+        starts: *mut u64,
+        starts_len: usize,
+        cell_lengths: *const u64,
+        cell_lengths_len: usize,
+        store: *mut u8,
+        store_len: usize,
+        most: u64,
         lengths: *mut u64,
     ) -> u32;
 }
@@ -417,6 +490,104 @@ pub fn subset_cells(shape: &[u64], subset: &[u64], cells: &mut [u64]) -> Answer<
             subset.len(),
             cells.as_mut_ptr(),
             cells.len(),
+            lengths.as_mut_ptr(),
+        )
+    })?;
+    Ok(lengths[0] as usize)
+}
+
+/// Gives the lengths of masks, starts, lengths and store.
+pub fn table_make(cells: u64, content: Content<'_>, out: &mut TableMut<'_>) -> Answer<[usize; 4]> {
+    let mut lengths = [0; 4];
+    let number = unsafe {
+        dpx_table_make(
+            out.kind.into(),
+            cells,
+            content.masks.as_ptr(),
+            content.masks.len(),
+            content.values.as_ptr(),
+            content.values.len(),
+            content.offsets.as_ptr(),
+            content.offsets.len(),
+            out.masks.as_mut_ptr(),
+            out.masks.len(),
+            out.starts.as_mut_ptr(),
+            out.starts.len(),
+            out.lengths.as_mut_ptr(),
+            out.lengths.len(),
+            out.store.as_mut_ptr(),
+            out.store.len(),
+            lengths.as_mut_ptr(),
+        )
+    };
+    answer(number)?;
+    Ok(lengths.map(|length: u64| length as usize))
+}
+
+pub fn table_read(cells: u64, table: TableRef<'_>, out: &mut Lent<'_>) -> Answer<Room> {
+    let mut lengths = [0; 3];
+    let number = unsafe {
+        dpx_table_read(
+            table.kind.into(),
+            cells,
+            table.masks.as_ptr(),
+            table.masks.len(),
+            table.starts.as_ptr(),
+            table.starts.len(),
+            table.lengths.as_ptr(),
+            table.lengths.len(),
+            table.store.as_ptr(),
+            table.store.len(),
+            out.masks.as_mut_ptr(),
+            out.masks.len(),
+            out.values.as_mut_ptr(),
+            out.values.len(),
+            out.offsets.as_mut_ptr(),
+            out.offsets.len(),
+            lengths.as_mut_ptr(),
+        )
+    };
+    answer(number)?;
+    Ok(room(lengths[0], lengths[1], lengths[2]))
+}
+
+pub fn table_set(table: &mut TableMut<'_>, cell: u64, cell_masks: &[u8], value: &[u8]) -> Answer<()> {
+    answer(unsafe {
+        dpx_table_set(
+            table.kind.into(),
+            table.starts.len() as u64,
+            table.masks.as_mut_ptr(),
+            table.masks.len(),
+            table.starts.as_mut_ptr(),
+            table.starts.len(),
+            table.lengths.as_mut_ptr(),
+            table.lengths.len(),
+            table.store.as_mut_ptr(),
+            table.store.len(),
+            cell,
+            cell_masks.as_ptr(),
+            cell_masks.len(),
+            value.as_ptr(),
+            value.len(),
+        )
+    })
+}
+
+pub fn table_pack(table: &mut TableMut<'_>, most: u64) -> Answer<usize> {
+    let mut lengths = [0; 1];
+    answer(unsafe {
+        dpx_table_pack(
+            table.kind.into(),
+            table.starts.len() as u64,
+            table.masks.as_ptr(),
+            table.masks.len(),
+            table.starts.as_mut_ptr(),
+            table.starts.len(),
+            table.lengths.as_ptr(),
+            table.lengths.len(),
+            table.store.as_mut_ptr(),
+            table.store.len(),
+            most,
             lengths.as_mut_ptr(),
         )
     })?;

@@ -5,6 +5,7 @@
 //! Every function answers a result or one [`Refusal`], which knows its number, its meaning and who causes it.
 //! [`encode_into`], [`encode_interleaved_into`], [`decode_into`], [`extract_into`], [`merge_into`] and [`generate_into`] write into
 //! slices that the caller lends instead.
+//! A [`Table`] is one whose cells are edited in memory; [`table_make_into`], [`table_read_into`] and [`TableMut`] do that in lent slices.
 //! The crate needs `core` and `alloc` only.
 //!
 //! Masks come before values, and values before offsets, everywhere.
@@ -36,6 +37,7 @@ mod lent;
 mod refusal;
 mod sizes;
 mod subset;
+mod table;
 mod text;
 
 pub use array::{Array, ArrayRef, Cell, Cells, Mark, RaggedValues};
@@ -47,6 +49,7 @@ pub use kind::{Kind, MaskForm, Order, Place, Values, Width};
 pub use lent::{cell_count, Lent, Room};
 pub use refusal::{Blame, Refusal, UnknownRefusal};
 pub use subset::Subset;
+pub use table::{table_make_into, table_read_into, Table, TableMut, TableRef};
 pub use text::{read_number, TextError};
 
 /// Most mask levels of a kind.
@@ -59,3 +62,7 @@ pub const MAX_SIDES: usize = 4;
 pub const MAX_CELLS: u64 = 65_536;
 /// Most value bytes of a table.
 pub const MAX_VALUE_BYTES: u64 = 16_777_216;
+/// Most bytes of a working table's store.
+pub const MAX_STORE: u64 = 16_777_216;
+/// Most cells that one [`Table::pack`] moves.
+pub const MAX_MOVES: u64 = 256;

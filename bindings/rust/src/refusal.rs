@@ -23,7 +23,7 @@ macro_rules! refusals {
             /// Its meaning in plain words.
             ///
             /// ```
-            /// assert_eq!(durpaxeta::Refusal::Size.message(), "more than 16,777,216 value bytes");
+            /// assert_eq!(durpaxeta::Refusal::Output.message(), "an output is shorter than the result needs");
             /// ```
             pub fn message(self) -> &'static str {
                 match self {
@@ -47,14 +47,18 @@ macro_rules! refusals {
 }
 
 refusals! {
-    Kind = 1, Describer, "the kind is out of range: depth 0 to 4, cell size 1 to 64 bytes, index width 4 or 8 bytes";
-    Shape = 2, Describer, "the shape is out of range: 1 to 4 sides, each at least 1, at most 65,536 cells in all";
+    Kind = 1, Describer,
+        "the kind is out of range: depth 0 to 4, cell size 1 to 64 bytes, index width 4 or 8 bytes (of a working table: \
+         ragged, and 1 to 256 cells to move)";
+    Shape = 2, Describer,
+        "the shape is out of range: 1 to 4 sides, each at least 1, at most 65,536 cells in all (of a working table: 1 to \
+         65,536 cells)";
     Subset = 3, Describer,
         "a subset reaches past the shape, or has not one start and one length for each side, or, in a merge, holds no cell";
     Content = 4, Supplier,
         "lengths of masks, values, offsets or chunks disagree, a mask byte is neither 00 nor 01, the first offset is not 0, or \
-         offsets fall";
-    Size = 5, Supplier, "more than 16,777,216 value bytes";
+         offsets fall (of a working table: it is not in rest form, or cells overlap or lie where they must not)";
+    Size = 5, Supplier, "more than 16,777,216 value bytes, or bytes of a store";
     Output = 6, Lender, "an output is shorter than the result needs";
     Short = 7, Storer,
         "too few stored bytes: a frame takes at least 16, ragged values 8, the interleaved form 4 and 4 for each cell";
@@ -67,6 +71,8 @@ refusals! {
     Cover = 12, Supplier, "the subsets of the merge miss a cell or hold one twice";
     UnusedBits = 13, Storer, "a packed mask has a bit after its last cell that is not 0";
     NotBoolean = 14, Storer, "a stored mask byte is neither 00 nor 01";
+    Cell = 15, Setter, "the working table has no cell of that number";
+    Full = 16, Setter, "the cells would have more bytes than the store";
 }
 
 /// Who causes a refusal.
@@ -74,8 +80,10 @@ refusals! {
 pub enum Blame {
     /// Whoever describes the table: its kind, its shape, a subset.
     Describer,
-    /// Whoever hands over the array or the chunk list.
+    /// Whoever hands over the array, the chunk list or the working table.
     Supplier,
+    /// Whoever sets a cell of a working table.
+    Setter,
     /// Whoever stored the bytes.
     Storer,
     /// Whoever lends the output.
@@ -128,7 +136,8 @@ impl fmt::Display for Blame {
     fn fmt(&self, f: &mut fmt::Formatter<'_>) -> fmt::Result {
         f.write_str(match self {
             Blame::Describer => "whoever describes the table",
-            Blame::Supplier => "whoever hands over the array or chunk list",
+            Blame::Supplier => "whoever hands over the array, chunk list or working table",
+            Blame::Setter => "whoever sets the cell",
             Blame::Storer => "whoever stored the bytes",
             Blame::Lender => "whoever lends the output",
         })

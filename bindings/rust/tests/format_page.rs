@@ -164,3 +164,36 @@ fn answers_of_the_questions() {
     let table = decode(kind, &[2, 2], &affinity).unwrap();
     assert_eq!((table.cell(0), table.cell(1)), (Some(Cell::Value(b"0-3,")), Some(Cell::Value(b"8"))));
 }
+
+/// Part 15: the store after each step.
+#[test]
+fn stores_are_real() {
+    let kind = Kind::ragged(2, Width::Four, Place::Start);
+    let cells = [Cell::Value(b"0-3,8"), Cell::Value(b""), Cell::Null { level: 1 }, Cell::Null { level: 2 }];
+    let mut table = Table::make(&Array::from_cells(kind, &[2, 2], &cells).unwrap(), 12).unwrap();
+    assert_eq!((&table.starts[..], &table.lengths[..]), (&[0; 4][..], &[5, 0, 0, 0][..]));
+    let mut stores = vec![table.store.clone()];
+    table.set(2, Cell::Value(b"4-7")).unwrap();
+    assert_eq!((table.starts[2], table.lengths[2]), (5, 3));
+    stores.push(table.store.clone());
+    table.set(0, Cell::Null { level: 2 }).unwrap();
+    assert_eq!((table.masks[0], table.masks[4], table.starts[0], table.lengths[0]), (1, 0, 0, 0));
+    stores.push(table.store.clone());
+    table.set(1, Cell::Value(b"12")).unwrap();
+    stores.push(table.store.clone());
+    let before = table.clone();
+    for moved in [1, 1] {
+        assert_eq!(table.pack(1), Ok(moved));
+        stores.push(table.store.clone());
+    }
+    assert_eq!(table.pack(1), Ok(0));
+    table = before;
+    table.set(0, Cell::Value(b"0-1,4-5")).unwrap();
+    assert_eq!(table.starts, [5, 3, 0, 0]);
+    stores.push(table.store.clone());
+    assert_eq!(pictures("store"), stores);
+    assert_eq!(table.set(3, Cell::Value(b"8")), Err(Refusal::Full));
+    let read = table.read(&[2, 2]).unwrap();
+    assert_eq!((&read.values[..], &read.offsets[..]), (&b"0-1,4-5124-7"[..], &[0, 7, 9, 12, 12][..]));
+    assert!(PAGE.contains("values `0-1,4-5124-7`, offsets 0, 7, 9, 12, 12"));
+}

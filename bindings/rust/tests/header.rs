@@ -54,6 +54,8 @@ fn version_and_limits() {
         ("DPX_MAX_SIDES", MAX_SIDES as u64),
         ("DPX_MAX_CELLS", MAX_CELLS),
         ("DPX_MAX_VALUE_BYTES", MAX_VALUE_BYTES),
+        ("DPX_MAX_STORE", MAX_STORE),
+        ("DPX_MAX_MOVES", MAX_MOVES),
     ] {
         assert_eq!(macros[name], limit.to_string(), "{name}");
     }

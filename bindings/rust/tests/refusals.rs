@@ -44,6 +44,7 @@ fn numbers_messages_and_blame() {
     let of = |blame| all.clone().filter(|r| r.blame() == blame).map(Refusal::number).collect::<Vec<_>>();
     assert_eq!(of(Blame::Describer), [1, 2, 3]);
     assert_eq!(of(Blame::Supplier), [4, 5, 12]);
+    assert_eq!(of(Blame::Setter), [15, 16]);
     assert_eq!(of(Blame::Storer), [7, 8, 9, 10, 11, 13, 14]);
     assert_eq!(of(Blame::Lender), [6]);
 }
