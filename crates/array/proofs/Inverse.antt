@@ -18,7 +18,7 @@ use Rattle.array.proofs.LayoutLaws.{content-path}
 use Rattle.array.proofs.Numbered.{plane-is, values-are, cells-are, laid-is}
 
 -- the mask bytes of all cells are the planes
-planes-whole : (n : ℕ) (masks : List ℕ) (d l : ℕ) → length masks ≡ (l + d) * n → planesBy (maskAt n masks) d l (from 0 n) ≡ drop (l * n) masks
+pub planes-whole : (n : ℕ) (masks : List ℕ) (d l : ℕ) → length masks ≡ (l + d) * n → planesBy (maskAt n masks) d l (from 0 n) ≡ drop (l * n) masks
 planes-whole n masks zero l e = sym (drop-of-length-le masks {i = l * n} (omega (arith, add-mul l 0 n, zero-mul n)))
 planes-whole n masks (suc d) l e =
     ap₂ (λ (a b : List ℕ). a ++ b) (sym (plane-is n masks l (omega (arith, suc-mul (l + d) n, add-mul l d n))))

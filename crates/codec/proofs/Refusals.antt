@@ -97,11 +97,11 @@ cell-order zero s = success
 cell-order (suc n) s = stage-le 11 _ _ (stage-le 11 _ _ (named _ (cell-order n (drop (unle (take 4 s)) (drop 4 s)))))
 
 -- the kinds of the older form
-is-ragged-test : (f : Form) → IsRagged f → raggedTest f ≡ true
+pub is-ragged-test : (f : Form) → IsRagged f → raggedTest f ≡ true
 is-ragged-test (fixed k o) p = absurd p
 is-ragged-test (ragged w p) r = refl
 
-is-ragged-ok : (f : Form) → raggedTest f ≡ true → IsRagged f
+pub is-ragged-ok : (f : Form) → raggedTest f ≡ true → IsRagged f
 is-ragged-ok (fixed k o) e = absurd (false≢true e)
 is-ragged-ok (ragged w p) e = tt
 

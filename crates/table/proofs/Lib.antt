@@ -1,1 +1,14 @@
 pub mod Lines
+pub mod Order
+pub mod Rules
+pub mod Each
+pub mod Filled
+pub mod Fitting
+pub mod Shifting
+pub mod Moving
+pub mod Packing
+pub mod Reading
+pub mod Making
+pub mod Setting
+pub mod Refusals
+pub mod Instance

@@ -6,3 +6,4 @@ pub mod Calls
 pub mod Meaning
 pub mod Lines
 pub mod Laws
+pub mod Refusals

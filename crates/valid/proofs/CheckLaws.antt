@@ -25,11 +25,11 @@ use Rattle.array.proofs.Answers.{passed}
 use Rattle.array.proofs.Offsets.{last-at}
 use Rattle.array.proofs.Rules.{array-ok, size-ok}
 
-and-true : (b : Bool) → b && true ≡ b
+pub and-true : (b : Bool) → b && true ≡ b
 and-true true = refl
 and-true false = refl
 
-and-assoc : (a b c : Bool) → a && (b && c) ≡ a && b && c
+pub and-assoc : (a b c : Bool) → a && (b && c) ≡ a && b && c
 and-assoc true b c = refl
 and-assoc false b c = refl
 

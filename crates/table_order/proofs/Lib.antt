@@ -1,0 +1,3 @@
+pub mod Collecting
+pub mod Sinking
+pub mod Sorting
