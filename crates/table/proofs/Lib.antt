@@ -12,3 +12,4 @@ pub mod Making
 pub mod Setting
 pub mod Refusals
 pub mod Instance
+pub mod Walk

@@ -2,13 +2,13 @@
 -- Assumes nothing.
 use mathlib.Core.Path.{_≡_, refl}
 use mathlib.Core.Bool.{Bool, true, false, _&&_}
-use mathlib.Core.List.{List, [], _∷_}
+use mathlib.Core.List.{List}
 use Prim.Native.Nat.{ℕ, zero, suc, _+_, _*_, _≤_}
 use lib.ListN.{length}
 use lib.Dec.{leb, ltb, eqb}
 use borrow.Author.Tests.{le-leb, eq-eqb, leb-true, eqb-true}
 use Rattle.array.specs.Limits.{mostCells}
-use Rattle.array.specs.Lists.{from, All, every}
+use Rattle.array.specs.Lists.{from, every}
 use Rattle.array.specs.Kind.{Kind, kindTest}
 use Rattle.array.specs.Cells.{Strict, strictTest}
 use Rattle.array.specs.Places.{maskAt, shownBy}

@@ -4,6 +4,7 @@ pub mod Order
 pub mod Setting
 pub mod Calls
 pub mod Meaning
+pub mod Walk
 pub mod Lines
 pub mod Laws
 pub mod Refusals

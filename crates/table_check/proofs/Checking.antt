@@ -8,7 +8,6 @@ use native.Mathlib.Omega.{arith}
 use lib.ListN.{length, take}
 use Rattle.array.specs.Lists.{from, All, every}
 use Rattle.array.specs.Cells.{strictTest}
-use Rattle.array.specs.Places.{offsetAt}
 use Rattle.array.proofs.Lists.{All-map}
 use Rattle.array.proofs.Rules.{left-of, right-of, all-every}
 use Rattle.table.specs.Table.{Table, startOf, lengthOf, filled, Placed, placedTest, apartTest, fitTest, restsTest, placesTest, tableTest}

@@ -3,19 +3,18 @@
 -- Assumes nothing.
 use mathlib.Core.Path.{_≡_, refl, sym, ap, _∙_, subst}
 use mathlib.Core.Bool.{Bool, true, false, _&&_}
-use mathlib.Core.List.{List, [], _∷_}
+use mathlib.Core.List.{List}
 use Prim.Native.Nat.{ℕ, zero, suc, _+_, _-_, _*_, _/_, _%_, _≤_, _<_}
 use native.Mathlib.Nat.{zero-mul, suc-mul, div-add-mod', mod-lt, div-lt-iff-lt-mul}
 use native.Mathlib.Omega.{arith}
 use lib.ListN.{length, getD}
-use lib.Dec.{leb, ltb}
+use lib.Dec.{ltb}
 use lib.Arith.{digits-lt}
 use borrow.Author.Tests.{le-leb, leb-true, lt-ltb}
 use Rattle.array.specs.Lists.{from, All, every}
 use Rattle.array.specs.Cells.{Strict, strictTest, setTest}
 use Rattle.array.specs.Places.{maskAt, shownBy}
 use Rattle.array.proofs.Lists.{All-getD}
-use Rattle.array.proofs.Geometry.{All-from}
 use Rattle.array.proofs.Rules.{both, left-of, right-of, all-every, strict-ok}
 use Rattle.table.specs.Table.{OrZero, orZeroTest, RestMasks, restMasksTest, restByTest}
 use Rattle.table.proofs.Rules.{rest-masks-test, rest-masks-ok}
@@ -107,7 +106,9 @@ module _ (e n : ℕ) (masks : List ℕ) (some : 0 < n) (fit : length masks ≡ s
         both
         (every-from (fallAt n masks) n (length masks - n)
         (λ i a b. le-leb (getD masks i 0) (getD masks (i - n) 0) (planes-fall rests i a (omega arith))))
-        (every-from (nullAt (length masks - n) masks lengths) 0 n (λ j a b. let h : j < n = omega arith in sym (null-at j (getD lengths j 0) (rests j h)) ∙ right-of (maskTest j) (lengthTest j) (at j h)))
+        (every-from (nullAt (length masks - n) masks lengths) 0 n (λ j a b.
+        let h : j < n = omega arith in
+        sym (null-at j (getD lengths j 0) (rests j h)) ∙ right-of (maskTest j) (lengthTest j) (at j h)))
 
     from-stages : fallsTest n masks && nullsTest n (length masks - n) masks lengths ≡ true → every restAt (from 0 n) ≡ true
     from-stages t =

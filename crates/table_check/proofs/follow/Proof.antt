@@ -3,7 +3,6 @@
 use Prim.Native.Nat.{_-_}
 use native.Mathlib.Omega.{arith}
 use lib.ListN.{length, getD}
-use borrow.Author.Needs.{needs}
 use Rattle.table_check.specs.Check.{Reached}
 use Rattle.table_check.proofs.Following.{Turn, turn-begins, cell-reached, turn-stops, turn-more, turn-ends}
 use Rattle.table_check.proofs.follow.Statement.{statement}
