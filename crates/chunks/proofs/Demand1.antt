@@ -6,7 +6,7 @@ use mathlib.Core.Bool.{Bool, true, _&&_}
 use mathlib.Core.List.{List, [], _∷_, _++_}
 use Prim.Native.Nat.{ℕ, zero, suc}
 use lib.ListN.{length, take, drop}
-use Rattle.array.specs.Answer.{Answer, gives, refuses}
+use Rattle.array.specs.Answer.{Answer, gives, refuses, mapAnswer}
 use Rattle.array.specs.Bytes.{unle}
 use Rattle.array.specs.Kind.{Kind, Form, fixed, ragged, Masks, asBytes, asBits}
 use Rattle.array.specs.Shape.{volume}
@@ -24,6 +24,10 @@ use Rattle.codec.specs.Refusals.{maskRules, contentRules, frameRules, cellRules
 use Rattle.codec.proofs.Refusals as codec
 use Rattle.load.specs.Calls.{generateAnswer, generated}
 use Rattle.load.proofs.Refusals as load
+use Rattle.table.specs.Table.{Table}
+use Rattle.table.specs.Calls.{tableAfter, inPlace, tableLengths, makeAnswer, made, readAnswer, readOut, setAnswer, cellSet, packAnswer, cellsPacked}
+use Rattle.table.specs.Lying.{movedCells}
+use Rattle.table.proofs.Refusals as table
 use Rattle.chunks.specs.Chunks.{laterChunks}
 use Rattle.chunks.specs.Calls.{extractAnswer, extracted, mergeAnswer, merged, partialAnswer, partiallyDecoded}
 use Rattle.chunks.specs.Refusals.{chunkRules}
@@ -95,10 +99,20 @@ module _ {rs : List Rule} (ns : List ℕ) where
   reverse-answered (gives m) k s h n = tt
   reverse-answered (refuses j) k s h n = (answers-in ns h n, refl)
 
+  table-answered : (a : Answer Table) (old : Table) → InOrder rs (mapAnswer tableLengths a) → numbered ns rs ≡ true
+      → Answered ns old (record { answer = mapAnswer tableLengths a; buffers = tableAfter a old })
+  table-answered (gives t) old h n = tt
+  table-answered (refuses k) old h n = (answers-in ns h n, refl)
+
+  place-answered : {L : Type 0} (f : Table → L) (a : Answer Table) (old : Table) → InOrder rs (mapAnswer f a) → numbered ns rs ≡ true
+      → Answered ns old (record { answer = mapAnswer f a; buffers = inPlace a old })
+  place-answered f (gives t) old h n = tt
+  place-answered f (refuses k) old h n = (answers-in ns h n, refl)
+
 -- ---- the demand
 
 pub demand1 : Demand1
-unfolding encoded decoded interleavedDecoded interleavedEncoded extracted merged partiallyDecoded endiannessReversed subsetCells generated
+unfolding encoded decoded interleavedDecoded interleavedEncoded extracted merged partiallyDecoded endiannessReversed subsetCells generated made readOut cellSet cellsPacked
 demand1 = record {
   encode = λ k shape c out. list-answered _ (encodeAnswer k shape c (length out)) out (codec.refusals .encode k shape c out) refl;
   decode = λ k shape s out. content-answered _ (decodeAnswer k shape s (lengthsOf out)) out (codec.refusals .decode k shape s out)
@@ -113,4 +127,8 @@ demand1 = record {
   reverse-endianness = λ k s. reverse-answered _ (reverseAnswer k s) k s (array.refusals .reverse-endianness k s) refl;
   subset-cells = λ shape ns out. list-answered _ (cellsAnswer shape ns (length out)) out (array.refusals .subset-cells shape ns out) refl;
   generate = λ k shape s out. content-answered _ (generateAnswer k shape s (lengthsOf out)) out (load.refusals .generate k shape s out) refl;
+  make-table = λ k n c out. table-answered _ (makeAnswer k n c out) out (table.refusals .make k n c out) refl;
+  read-table = λ k n t out. content-answered _ (readAnswer k n t (lengthsOf out)) out (table.refusals .read k n t out) refl;
+  set-cell = λ k n t c ms v. place-answered _ (λ u. tt) (setAnswer k n t c ms v) t (table.refusals .set k n t c ms v) refl;
+  pack-cells = λ k n t most. place-answered _ (λ u. length (movedCells most n t)) (packAnswer k n t most) t (table.refusals .pack k n t most) refl;
 }

@@ -8,10 +8,13 @@ use mathlib.Core.List.{List, [], _∷_}
 use lib.Dec.{eqb}
 use Rattle.array.specs.Answer.{Answer, gives, refuses, Outcome}
 use Rattle.array.specs.Kind.{Kind, Place}
+use Rattle.array.specs.Cells.{Value}
 use Rattle.array.specs.Content.{Content, RaggedContent}
 use Rattle.array.specs.Calls.{endiannessReversed, subsetCells}
 use Rattle.codec.specs.Calls.{encoded, decoded, interleavedDecoded, interleavedEncoded}
 use Rattle.load.specs.Calls.{generated}
+use Rattle.table.specs.Table.{Table}
+use Rattle.table.specs.Calls.{made, readOut, cellSet, cellsPacked}
 use Rattle.chunks.specs.Calls.{extracted, merged, partiallyDecoded}
 
 -- ---- the numbers of each call, in the order of their tests
@@ -46,6 +49,18 @@ subsetNumbers = 2 ∷ 3 ∷ 6 ∷ []
 abbrev pub generateNumbers : List ℕ
 generateNumbers = 1 ∷ 2 ∷ 6 ∷ []
 
+abbrev pub makeTableNumbers : List ℕ
+makeTableNumbers = 1 ∷ 2 ∷ 4 ∷ 5 ∷ 6 ∷ []
+
+abbrev pub readTableNumbers : List ℕ
+readTableNumbers = 1 ∷ 2 ∷ 4 ∷ 5 ∷ 6 ∷ []
+
+abbrev pub setCellNumbers : List ℕ
+setCellNumbers = 1 ∷ 2 ∷ 4 ∷ 5 ∷ 15 ∷ 16 ∷ []
+
+abbrev pub packCellsNumbers : List ℕ
+packCellsNumbers = 1 ∷ 2 ∷ 4 ∷ 5 ∷ []
+
 -- ---- the claim
 
 -- whether a number stands in the list
@@ -71,3 +86,7 @@ pub record Demand1 : Type 0 where
   pub reverse-endianness : (k : ℕ) (s : List ℕ) → Answered reverseNumbers s (endiannessReversed k s)
   pub subset-cells : (shape ns out : List ℕ) → Answered subsetNumbers out (subsetCells shape ns out)
   pub generate : (k : Kind) (shape : List ℕ) (s : ℕ) (out : Content) → Answered generateNumbers out (generated k shape s out)
+  pub make-table : (k : Kind) (n : ℕ) (c : Content) (out : Table) → Answered makeTableNumbers out (made k n c out)
+  pub read-table : (k : Kind) (n : ℕ) (t : Table) (out : Content) → Answered readTableNumbers out (readOut k n t out)
+  pub set-cell : (k : Kind) (n : ℕ) (t : Table) (c : ℕ) (ms : List ℕ) (v : Value) → Answered setCellNumbers t (cellSet k n t c ms v)
+  pub pack-cells : (k : Kind) (n : ℕ) (t : Table) (most : ℕ) → Answered packCellsNumbers t (cellsPacked k n t most)

@@ -4,10 +4,12 @@
 use array::answer::Written;
 use array::answer::WrittenArray;
 use array::answer::WrittenRagged;
+use table::answer::Settled;
 use table::answer::WrittenTable;
 use valid::numbers::IndexRead;
 use valid::numbers::KindRead;
 ghost use mathlib.Core.Path.{_≡_};
+ghost use mathlib.Core.List.{[]};
 ghost use Rattle.array.specs.Meaning.{told, toldRagged, toldArray};
 ghost use Rattle.valid.specs.Numbers.{toldKind, numberedKind, numberedIndex};
 ghost use Rattle.array.specs.Outcome.{contentArray, contentRagged};
@@ -16,9 +18,9 @@ ghost use Rattle.array.specs.Calls.{subsetCells};
 ghost use Rattle.codec.specs.Calls.{encoded, decoded, interleavedDecoded, interleavedEncoded};
 ghost use Rattle.load.specs.Calls.{generated};
 ghost use Rattle.chunks.specs.Calls.{extracted, merged, partiallyDecoded};
-ghost use Rattle.table.specs.Calls.{made, readOut, cellsPacked};
-ghost use Rattle.table.specs.Meaning.{tableBy, toldTable};
-ghost use Rattle.ffi.specs.Exported.{handed, withGiven, byIndex, statusOf, oneLength, twoLengths, threeLengths, fourLengths, exportOne, exportTwo, exportThree, exportFour, exportMoved};
+ghost use Rattle.table.specs.Calls.{made, readOut, cellSet, cellsPacked};
+ghost use Rattle.table.specs.Meaning.{tableBy, toldTable, toldSettled};
+ghost use Rattle.ffi.specs.Exported.{handed, withGiven, byIndex, statusOf, oneLength, twoLengths, threeLengths, fourLengths, exportOne, exportTwo, exportThree, exportFour, exportMoved, exportSet};
 
 // A kind as numbers: form 0 fixed, 1 ragged; size is the cell size or the index width; order 0 little or start, 1 big or end; mask 0
 // bytes, 1 packed.
@@ -95,6 +97,16 @@ fn put_four_lengths(answer: WrittenTable, lengths: &mut [u64; 4]) -> u32
             lengths[3] = store as u64;
             0
         }
+    }
+}
+
+// A setting names nothing.
+fn status_of(answer: Settled) -> u32
+    ensures { λ r. ⌜ r ≡ statusOf (toldSettled answer) ⌝ }
+{
+    match answer {
+        Settled::Refused(e) => e as u32,
+        Settled::Set => 0,
     }
 }
 
@@ -423,6 +435,44 @@ pub extern "C" fn dpx_table_read(
                 out_offsets,
             );
             put_three_lengths(answer, lengths)
+        }
+    }
+}
+
+// Nine parameters, as in C.
+#[no_mangle]
+pub extern "C" fn dpx_table_set(
+    kind: DpxKind,
+    cells: u64,
+    masks: &mut [u8],
+    starts: &mut [u64],
+    cell_lengths: &mut [u64],
+    store: &mut [u8],
+    cell: u64,
+    cell_masks: &[u8],
+    value: &[u8],
+) -> u32
+    ensures { λ r. ⌜ handed r [] (tableBy (now (masks .exit)) (now (starts .exit)) (now («cell_lengths» .exit)) (now (store .exit)))
+        ≡ exportSet (withGiven (numberedKind (kind .depth) (kind .form) (kind .size) (kind .order) (kind .mask))
+        (tableBy (now (masks .entry)) (now (starts .entry)) (now («cell_lengths» .entry)) (now (store .entry)))
+        (λ k. cellSet k cells (tableBy (now (masks .entry)) (now (starts .entry)) (now («cell_lengths» .entry)) (now (store .entry)))
+        cell (now («cell_masks» .entry)) (now (value .entry)))) ⌝ }
+{
+    match kind_of(kind) {
+        KindRead::Refused(e) => e as u32,
+        KindRead::Kind(k) => {
+            let answer = table_set::set_cell(
+                k,
+                cells as usize,
+                masks,
+                starts,
+                cell_lengths,
+                store,
+                cell as usize,
+                cell_masks,
+                value,
+            );
+            status_of(answer)
         }
     }
 }

@@ -15,7 +15,8 @@ use Rattle.array.proofs.Rules.{both, left-of, right-of, enough-test, enough-ok}
 use Rattle.table.specs.Lying.{movedCells}
 use Rattle.table.specs.Calls.{tableOf, tableLengths, contentOf, makeAnswer, made, readAnswer, readOut, setAnswer, cellSet, packAnswer, cellsPacked}
 use Rattle.table.specs.Refusals.{Refusals}
-use Rattle.table.proofs.Rules.{table-kind-test, table-kind-ok, most-test, most-ok, count-test, count-ok, table-test, table-ok, setting-test, setting-ok, store-test, store-ok, table-enough-test, table-enough-ok}
+use Rattle.table.proofs.Rules.{table-kind-test, table-kind-ok, most-test, most-ok, count-test, count-ok, store-test, store-ok}
+use Rattle.table.proofs.Rules.{table-test, table-ok, setting-test, setting-ok, table-enough-test, table-enough-ok}
 
 -- two tests with one number
 stage-two : {A : Type 0} {P Q : Type 0} {a b : Bool} {rs : List Rule} {r : Answer A} (k : ℕ) → (P → a ≡ true) → (a ≡ true → P) → (Q → b ≡ true) → (b ≡ true → Q)

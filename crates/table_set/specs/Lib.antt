@@ -1,0 +1,3 @@
+pub mod Masks
+pub mod Place
+pub mod Settle
