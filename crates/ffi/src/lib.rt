@@ -1,12 +1,15 @@
 // The C interface: each public call as an exported function over numbers and slices. The result is the refusal number, 0 for
-// success; lengths are written on success only, masks before values before offsets. Nothing is asked of the numbers
+// success; lengths are written on success only, in the order of the lists. Nothing is asked of the numbers
 // and bytes handed over; what holds of the pointers is in include/durpaxeta.h, under SLICES and MEMORY.
 use array::answer::Written;
 use array::answer::WrittenArray;
 use array::answer::WrittenRagged;
+use table::answer::Settled;
+use table::answer::WrittenTable;
 use valid::numbers::IndexRead;
 use valid::numbers::KindRead;
 ghost use mathlib.Core.Path.{_≡_};
+ghost use mathlib.Core.List.{[]};
 ghost use Rattle.array.specs.Meaning.{told, toldRagged, toldArray};
 ghost use Rattle.valid.specs.Numbers.{toldKind, numberedKind, numberedIndex};
 ghost use Rattle.array.specs.Outcome.{contentArray, contentRagged};
@@ -15,7 +18,9 @@ ghost use Rattle.array.specs.Calls.{subsetCells};
 ghost use Rattle.codec.specs.Calls.{encoded, decoded, interleavedDecoded, interleavedEncoded};
 ghost use Rattle.load.specs.Calls.{generated};
 ghost use Rattle.chunks.specs.Calls.{extracted, merged, partiallyDecoded};
-ghost use Rattle.ffi.specs.Exported.{handed, withGiven, byIndex, statusOf, oneLength, twoLengths, threeLengths, exportOne, exportTwo, exportThree};
+ghost use Rattle.table.specs.Calls.{made, readOut, cellSet, cellsPacked};
+ghost use Rattle.table.specs.Meaning.{tableBy, toldTable, toldSettled};
+ghost use Rattle.ffi.specs.Exported.{handed, withGiven, byIndex, statusOf, oneLength, twoLengths, threeLengths, fourLengths, exportOne, exportTwo, exportThree, exportFour, exportMoved, exportSet};
 
 // A kind as numbers: form 0 fixed, 1 ragged; size is the cell size or the index width; order 0 little or start, 1 big or end; mask 0
 // bytes, 1 packed.
@@ -76,6 +81,32 @@ fn put_three_lengths(answer: WrittenArray, lengths: &mut [u64; 3]) -> u32
             lengths[2] = offsets as u64;
             0
         }
+    }
+}
+
+fn put_four_lengths(answer: WrittenTable, lengths: &mut [u64; 4]) -> u32
+    ensures status { λ r. ⌜ r ≡ statusOf (toldTable answer) ⌝ }
+    ensures lengths { λ _. ⌜ now (lengths .exit) ≡ fourLengths (toldTable answer) (now (lengths .entry)) ⌝ }
+{
+    match answer {
+        WrittenTable::Refused(e) => e as u32,
+        WrittenTable::Lengths(masks, starts, cell_lengths, store) => {
+            lengths[0] = masks as u64;
+            lengths[1] = starts as u64;
+            lengths[2] = cell_lengths as u64;
+            lengths[3] = store as u64;
+            0
+        }
+    }
+}
+
+// A setting names nothing.
+fn status_of(answer: Settled) -> u32
+    ensures { λ r. ⌜ r ≡ statusOf (toldSettled answer) ⌝ }
+{
+    match answer {
+        Settled::Refused(e) => e as u32,
+        Settled::Set => 0,
     }
 }
 
@@ -326,4 +357,155 @@ pub extern "C" fn dpx_subset_cells(
 {
     let answer = subset::subset_cells(shape, subset, cells);
     put_length(answer, lengths)
+}
+
+// ---- the calls on working tables
+
+// Ten parameters, as `dpx_extract`.
+#[no_mangle]
+pub extern "C" fn dpx_table_make(
+    kind: DpxKind,
+    cells: u64,
+    masks: &[u8],
+    values: &[u8],
+    offsets: &[u64],
+    out_masks: &mut [u8],
+    out_starts: &mut [u64],
+    out_cell_lengths: &mut [u64],
+    store: &mut [u8],
+    lengths: &mut [u64; 4],
+) -> u32
+    ensures { λ r. ⌜ handed r (now (lengths .exit)) (tableBy (now («out_masks» .exit)) (now («out_starts» .exit)) (now («out_cell_lengths» .exit)) (now (store .exit)))
+        ≡ exportFour (withGiven (numberedKind (kind .depth) (kind .form) (kind .size) (kind .order) (kind .mask))
+        (tableBy (now («out_masks» .entry)) (now («out_starts» .entry)) (now («out_cell_lengths» .entry)) (now (store .entry)))
+        (λ k. made k cells (contentArray (now (masks .entry)) (now (values .entry)) (now (offsets .entry)))
+        (tableBy (now («out_masks» .entry)) (now («out_starts» .entry)) (now («out_cell_lengths» .entry)) (now (store .entry))))) (now (lengths .entry)) ⌝ }
+{
+    match kind_of(kind) {
+        KindRead::Refused(e) => e as u32,
+        KindRead::Kind(k) => {
+            let answer = table_make::make_table(
+                k,
+                cells as usize,
+                masks,
+                values,
+                offsets,
+                out_masks,
+                out_starts,
+                out_cell_lengths,
+                store,
+            );
+            put_four_lengths(answer, lengths)
+        }
+    }
+}
+
+// Ten parameters, as `dpx_extract`.
+#[no_mangle]
+pub extern "C" fn dpx_table_read(
+    kind: DpxKind,
+    cells: u64,
+    masks: &[u8],
+    starts: &[u64],
+    cell_lengths: &[u64],
+    store: &[u8],
+    out_masks: &mut [u8],
+    out_values: &mut [u8],
+    out_offsets: &mut [u64],
+    lengths: &mut [u64; 3],
+) -> u32
+    ensures { λ r. ⌜ handed r (now (lengths .exit)) (contentArray (now («out_masks» .exit)) (now («out_values» .exit)) (now («out_offsets» .exit)))
+        ≡ exportThree (withGiven (numberedKind (kind .depth) (kind .form) (kind .size) (kind .order) (kind .mask))
+        (contentArray (now («out_masks» .entry)) (now («out_values» .entry)) (now («out_offsets» .entry)))
+        (λ k. readOut k cells (tableBy (now (masks .entry)) (now (starts .entry)) (now («cell_lengths» .entry)) (now (store .entry)))
+        (contentArray (now («out_masks» .entry)) (now («out_values» .entry)) (now («out_offsets» .entry))))) (now (lengths .entry)) ⌝ }
+{
+    match kind_of(kind) {
+        KindRead::Refused(e) => e as u32,
+        KindRead::Kind(k) => {
+            let answer = table_read::read_table(
+                k,
+                cells as usize,
+                masks,
+                starts,
+                cell_lengths,
+                store,
+                out_masks,
+                out_values,
+                out_offsets,
+            );
+            put_three_lengths(answer, lengths)
+        }
+    }
+}
+
+// Nine parameters, as in C.
+#[no_mangle]
+pub extern "C" fn dpx_table_set(
+    kind: DpxKind,
+    cells: u64,
+    masks: &mut [u8],
+    starts: &mut [u64],
+    cell_lengths: &mut [u64],
+    store: &mut [u8],
+    cell: u64,
+    cell_masks: &[u8],
+    value: &[u8],
+) -> u32
+    ensures { λ r. ⌜ handed r [] (tableBy (now (masks .exit)) (now (starts .exit)) (now («cell_lengths» .exit)) (now (store .exit)))
+        ≡ exportSet (withGiven (numberedKind (kind .depth) (kind .form) (kind .size) (kind .order) (kind .mask))
+        (tableBy (now (masks .entry)) (now (starts .entry)) (now («cell_lengths» .entry)) (now (store .entry)))
+        (λ k. cellSet k cells (tableBy (now (masks .entry)) (now (starts .entry)) (now («cell_lengths» .entry)) (now (store .entry)))
+        cell (now («cell_masks» .entry)) (now (value .entry)))) ⌝ }
+{
+    match kind_of(kind) {
+        KindRead::Refused(e) => e as u32,
+        KindRead::Kind(k) => {
+            let answer = table_set::set_cell(
+                k,
+                cells as usize,
+                masks,
+                starts,
+                cell_lengths,
+                store,
+                cell as usize,
+                cell_masks,
+                value,
+            );
+            status_of(answer)
+        }
+    }
+}
+
+#[no_mangle]
+pub extern "C" fn dpx_table_pack(
+    kind: DpxKind,
+    cells: u64,
+    masks: &[u8],
+    starts: &mut [u64],
+    cell_lengths: &[u64],
+    store: &mut [u8],
+    most: u64,
+    lengths: &mut [u64; 1],
+) -> u32
+    ensures { λ r. ⌜ handed r (now (lengths .exit)) (tableBy (now (masks .entry)) (now (starts .exit)) (now («cell_lengths» .entry)) (now (store .exit)))
+        ≡ exportMoved (withGiven (numberedKind (kind .depth) (kind .form) (kind .size) (kind .order) (kind .mask))
+        (tableBy (now (masks .entry)) (now (starts .entry)) (now («cell_lengths» .entry)) (now (store .entry)))
+        (λ k. cellsPacked k cells (tableBy (now (masks .entry)) (now (starts .entry)) (now («cell_lengths» .entry)) (now (store .entry))) most)) (now (lengths .entry)) ⌝ }
+{
+    match kind_of(kind) {
+        KindRead::Refused(e) => e as u32,
+        KindRead::Kind(k) => {
+            let answer = table_pack::pack_table(
+                k,
+                cells as usize,
+                masks,
+                starts,
+                cell_lengths,
+                store,
+                most as usize,
+            );
+            put_length(answer, lengths)
+        }
+    }
 }
