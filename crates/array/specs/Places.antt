@@ -1,4 +1,5 @@
--- Redundant by the laws cell-is and laid-is in array/proofs/Numbered.antt: a cell by its number.
+-- docs/SPEC.md, S1.4 to S1.6, S1.8, S2.1, S2.2: a cell by its number.
+-- The laws cell-is and laid-is in array/proofs/Numbered.antt: an array's cells, and those that are laid out, are these.
 -- Its mask bytes, one of each plane, and its value, which lies from off j up to off (j + 1): the bytes of a mask plane and fixed values at
 -- equal steps, ragged values between their offsets.
 -- Assumes nothing.

@@ -1,4 +1,4 @@
--- Redundant by the law in-order in table/proofs/Walk.antt, and by S13.7: what a walk over the cells in the order in which they lie is given, and what it leaves.
+-- Redundant by the law in-order in table/proofs/Walk.antt: what a walk over the cells as they lie (S13.5, S13.7) is given, and what it leaves.
 -- Assumes nothing.
 use Prim.Native.Nat.{ℕ, _≤_}
 use mathlib.Core.Path.{_≡_}

@@ -1,5 +1,5 @@
--- Redundant by the laws rests-are in table_check/proofs/Resting.antt and apart-left in table_check/proofs/Checking.antt: the rules for a
--- table (S13.2 to S13.4) as code asks for them, one stage after another.
+-- Redundant by the law apart-left in table_check/proofs/Checking.antt: the rules for a table (S13.2 to S13.4), one stage after another.
+-- What mask planes that fall are, the law rests-are in table_check/proofs/Resting.antt says.
 -- Assumes nothing.
 use Prim.Native.Nat.{ℕ, _+_, _-_, _<_, _^_}
 use mathlib.Core.Bool.{Bool, _&&_}

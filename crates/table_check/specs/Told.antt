@@ -1,4 +1,4 @@
--- What the check of a table answers: refusal 4 (S13.2 to S13.4), or the order in which the cells lie (S13.5).
+-- Redundant by the contract of `table_pack::pack_table`, table_pack/proofs/pack_table/Proof.antt: what the check of a table answers.
 -- Assumes nothing.
 use Prim.Native.Nat.{ℕ, _≤_}
 use mathlib.Core.Path.{_≡_}

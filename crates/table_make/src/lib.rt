@@ -1,9 +1,6 @@
 // A working table made of a valid array's rest form, packed in cell order.
 mod put;
 
-use table_kind::count_ok;
-use table_kind::is_table_kind;
-use table_kind::store_ok;
 use crate::put::put_masks;
 use crate::put::put_places;
 use array::kind::Kind;
@@ -11,6 +8,9 @@ use array::refusal;
 use encode_cells::live;
 use encode_ragged::data;
 use table::answer::WrittenTable;
+use table_kind::count_ok;
+use table_kind::is_table_kind;
+use table_kind::store_ok;
 use valid::array_bytes;
 use valid::array_bytes::Checked;
 ghost use mathlib.Core.Path.{_≡_};

@@ -1,4 +1,4 @@
--- docs/SPEC.md, S6.21: what a packing call asks before it looks at the table, refusals 1 and 2.
+-- Redundant by the contract of `table_pack::pack_table`, table_pack/proofs/pack_table/Proof.antt: what packing asks before the table (S6.21).
 -- Assumes nothing.
 use Prim.Native.Nat.{ℕ, _≤_}
 use Rattle.array.specs.Kind.{Kind}

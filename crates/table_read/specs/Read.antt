@@ -1,4 +1,4 @@
--- Redundant by the law read-is in table_read/proofs/Reading.antt: a table read out (S6.19) by its parts, and what copying its cells asks.
+-- Redundant by the law read-is in table_read/proofs/Stages.antt: a table read out (S6.19) by its parts, and what copying its cells asks.
 -- Assumes nothing.
 use Prim.Native.Nat.{ℕ, _+_, _≤_, _<_}
 use mathlib.Core.Path.{_≡_}

@@ -1,4 +1,4 @@
--- Redundant by S13.9 and by the laws roomy-is and put-is in table_set/proofs/Places.antt: bytes put into the store, whatever the masks are.
+-- Redundant by the laws roomy-left and put-is in table_set/proofs/Places.antt: bytes put into the store (S13.9), whatever the masks are.
 -- Assumes nothing.
 use Prim.Native.Nat.{ℕ}
 use mathlib.Core.Path.{_≡_}

@@ -1,4 +1,4 @@
--- Redundant by S13.8 to S13.10 and by the laws of table_set/proofs/Settling.antt: a setting of a table that keeps its rules, by its lent slices.
+-- Redundant by the law set-is in table_set/proofs/Outcomes.antt: a setting (S13.8 to S13.10) of a table that keeps its rules, by its slices.
 -- The levels are as many as the setting's masks, and the cells as many as the starts.
 -- Assumes nothing.
 use Prim.Native.Nat.{ℕ, _≤_, _<_}
