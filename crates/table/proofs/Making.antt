@@ -210,7 +210,9 @@ module _ {k : Kind} {n : ℕ} {r : Content} (kind : TableKind k) (ok : ArrayOk k
 
   -- read out it is the array
   laid-read : contentOf k n laid ≡ r
-  laid-read = ap (layout (k .form) (k .depth)) (map-from (cellOf (k .depth) n laid) (cellAt k n r) 0 n (λ j h. cell-are j (omega arith)) ∙ sym (cells-are (ok .fits))) ∙ layout-cells k n r (ok .fits)
+  laid-read =
+      ap (layout (k .form) (k .depth)) (map-from (cellOf (k .depth) n laid) (cellAt k n r) 0 n (λ j h. cell-are j (omega arith)) ∙ sym (cells-are (ok .fits)))
+      ∙ layout-cells k n r (ok .fits)
 
 -- ---- the law
 

@@ -1,13 +1,14 @@
 -- A test of every number from a on, k of them, walked: what was asked so far and what is left make the whole.
 -- Assumes nothing.
-use mathlib.Core.Path.{_≡_, refl, sym, ap, _∙_, subst}
+use mathlib.Core.Path.{_≡_, refl, sym, ap, _∙_}
 use mathlib.Core.Bool.{Bool, true, false, _&&_}
-use Prim.Native.Nat.{ℕ, zero, suc, _+_, _-_, _≤_, _<_}
+use Prim.Native.Nat.{ℕ, suc, _+_, _-_, _≤_, _<_}
 use native.Mathlib.Omega.{arith}
-use Rattle.array.specs.Lists.{from, All, every}
+use Rattle.array.specs.Lists.{from, every}
 use Rattle.array.proofs.Geometry.{All-from}
 use Rattle.array.proofs.Rules.{every-all, all-every}
 use Rattle.valid.proofs.CheckLaws.{and-true, and-assoc}
+use Rattle.table.proofs.Each.{from-all}
 
 -- two tests that pass for each other's sake are the same
 pub same-test : (a b : Bool) → (a ≡ true → b ≡ true) → (b ≡ true → a ≡ true) → a ≡ b
@@ -17,20 +18,12 @@ same-test false false f g = refl
 
 -- ---- a rule for a run of numbers
 
-all-from : (P : ℕ → Type 0) (a n : ℕ) → All P (from a n) → (i : ℕ) → i < n → P (a + i)
-all-from P a zero p i h = absurd (omega arith)
-all-from P a (suc n) p zero h = rw (let e : a + 0 ≡ a = omega arith in e) (p .0)
-all-from P a (suc n) p (suc i) h = rw (let e : a + suc i ≡ suc a + i = omega arith in e) (all-from P (suc a) n (p .1) i (omega arith))
-
-pub from-at : (P : ℕ → Type 0) (a n : ℕ) → All P (from a n) → (i : ℕ) → a ≤ i → i < a + n → P i
-from-at P a n p i h l = let e : a + (i - a) ≡ i = omega arith in subst P e (all-from P a n p (i - a) (omega arith))
-
 module _ (f : ℕ → Bool) (a n : ℕ) where
   pub every-from : ((i : ℕ) → a ≤ i → i < a + n → f i ≡ true) → every f (from a n) ≡ true
   every-from h = every-all (λ i. f i ≡ true) f (λ i e. e) (from a n) (All-from (λ i. f i ≡ true) a n h)
 
   pub every-at : every f (from a n) ≡ true → (i : ℕ) → a ≤ i → i < a + n → f i ≡ true
-  every-at e = from-at (λ i. f i ≡ true) a n (all-every (λ i. f i ≡ true) f (λ i q. q) (from a n) e)
+  every-at e = from-all (λ i. f i ≡ true) a n (all-every (λ i. f i ≡ true) f (λ i q. q) (from a n) e)
 
 -- ---- the walk
 

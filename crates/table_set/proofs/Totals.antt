@@ -1,17 +1,16 @@
 -- Sums of lengths and the end of the highest-lying cell, cell by cell.
 -- Assumes nothing.
-use mathlib.Core.Path.{_≡_, refl, ap, _∙_, subst}
-use Prim.Native.Nat.{ℕ, zero, suc, _+_, _≤_, _<_, max}
+use mathlib.Core.Path.{_≡_, refl, ap, _∙_}
+use Prim.Native.Nat.{ℕ, _+_, _≤_, _<_, max}
 use native.Mathlib.Numerals.{add-one}
 use native.Mathlib.Omega.{arith}
 use mathlib.Core.Bool.{Bool, true, false}
 use mathlib.Core.List.{List, [], _∷_, _++_, append-nil}
 use lib.ListN.{length, take, drop, getD, take-append-drop}
 use lib.Seq.{take-suc, take-all}
-use lib.Dec.{ltb, eqb}
-use lib.Arith.{lt-of-le-ne}
-use borrow.Author.Tests.{ltb-false, eqb-true, eqb-false}
-use Rattle.array.specs.Lists.{from, pick, passing, All}
+use lib.Dec.{ltb}
+use borrow.Author.Tests.{ltb-false}
+use Rattle.array.specs.Lists.{from, pick, passing}
 use Rattle.array.specs.Places.{sum}
 use Rattle.array.proofs.Places.{sum-append}
 use Rattle.array.proofs.Geometry.{passing-append, from-append}
@@ -51,13 +50,3 @@ module _ (start len : ℕ → ℕ) where
       go : (b : Bool) → ltb 0 (len j) ≡ b → OrZero b (start j) → topBy start len (filledBy start len j ++ pick b (j ∷ []) []) ≡ max (topTo j) (ending start len j)
       go true e z = top-append (filledBy start len j) j
       go false e z = ap (topBy start len) (append-nil (filledBy start len j)) ∙ omega (arith, ltb-false 0 (len j) e)
-
--- ---- a rule for the first n numbers, at one of them
-
-pub rule-at : (P : ℕ → Type 0) (a n : ℕ) → All P (from a n) → (j : ℕ) → a ≤ j → j < a + n → P j
-rule-at P a zero p j h g = absurd (omega arith)
-rule-at P a (suc n) p j h g = go (eqb a j) refl (λ l. rule-at P (suc a) n (p .1) j l (omega arith))
-  where
-    go : (b : Bool) → eqb a j ≡ b → (suc a ≤ j → P j) → P j
-    go true e ih = subst P (eqb-true a j e) (p .0)
-    go false e ih = ih (lt-of-le-ne h (eqb-false a j e))

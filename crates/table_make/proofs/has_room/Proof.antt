@@ -24,7 +24,8 @@ returns c =
 
 returns-2 : tie.Need-returns-2
 returns-2 c =
-    let s = c .before .before .before .before .before in
+    let d = c .before .before .before in
+    let s = d .before .before in
     let a = s .args in
     let p = s .pre in
     ap (λ (b : ℕ). leb b (a .room)) (c .live-bytes .ensures ∙ sym (values-long (a .masks .now) (a .depth) (p .2) (a .values .now) (p .3)))

@@ -43,7 +43,8 @@ same-length-3 c = put c .put-bytes .kept .1 .0 ∙ simp length-set
 returns : tie.Need-returns
 returns c =
     let here = masked (asking (put c .before)) in
-    settles-some (start here .pre) (put c .before .before .before .before .before .if1 .taken) (here .put-masks .ensures) (put c .put-bytes .ensures)
+    let asked = put c .before .before in
+    settles-some (start here .pre) (asked .before .before .before .if1 .taken) (here .put-masks .ensures) (put c .put-bytes .ensures)
 
 returns-2 : tie.Need-returns-2
 returns-2 c = settles-none (start (masked (c .before)) .pre) (c .if1 .left) (masked (c .before) .put-masks .ensures)

@@ -20,11 +20,9 @@ loop-holds : tie.Need-loop-holds Inv-loop μ-loop
 loop-holds c = (omega arith, refl)
 
 loop-again : tie.Need-loop-again Inv-loop μ-loop
-loop-again c = (
-  omega arith,
-  shown-more (λ l. getD (c .before .before .before .before .before .args .cell-masks .now) l 0) (c .before .before .before .loop .level)
-      (c .before .before .before .loop .inv .1) (c .still-shown .ensures),
-)
+loop-again c =
+    let here = c .before .before .before in
+    (omega arith, shown-more (λ l. getD (here .before .before .args .cell-masks .now) l 0) (here .loop .level) (here .loop .inv .1) (c .still-shown .ensures))
 
 returns : tie.Need-returns Inv-loop μ-loop
 returns c =

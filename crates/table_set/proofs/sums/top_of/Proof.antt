@@ -6,7 +6,8 @@ use mathlib.Core.Path.{_≡_, refl, ap, _∙_}
 use borrow.Author.Needs.{needs}
 use Rattle.array.specs.Places.{offsetAt}
 use Rattle.table.specs.Table.{mostStore, Placed}
-use Rattle.table_set.proofs.Totals.{topTo, top-more, rule-at}
+use Rattle.table.proofs.Each.{below-all}
+use Rattle.table_set.proofs.Totals.{topTo, top-more}
 use Rattle.table_set.proofs.sums.top_of.Statement.{statement}
 use Rattle.table_set.proofs.sums.top_of.Tie as tie
 use Rattle.table_set.proofs.sums.top_of.Reads as reads
@@ -29,7 +30,7 @@ placed : (c : tie.In-loop Inv-loop μ-loop) → Placed (entry (c .before) .args 
     (offsetAt (entry (c .before) .args .lengths .now) (c .before .loop .j))
 placed c =
     let args = entry (c .before) .args in
-    rule-at (λ i. Placed (args .size) (offsetAt (args .starts .now) i) (offsetAt (args .lengths .now) i)) 0 (args .n) (entry (c .before) .pre .3) (c .before .loop .j) (omega arith) (omega arith)
+    below-all (λ i. Placed (args .size) (offsetAt (args .starts .now) i) (offsetAt (args .lengths .now) i)) (args .n) (entry (c .before) .pre .3) (c .before .loop .j) (omega arith)
 
 -- ---- answers
 
