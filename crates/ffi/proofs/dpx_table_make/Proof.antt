@@ -17,8 +17,9 @@ returns c =
 returns-2 : tie.Need-returns-2
 returns-2 c =
     let out = c .before .before .before .before in
-    let called = out .before .before .before .before in
-    let asked = called .before .before .before in
+    let lent = out .before .before .before .before in
+    let called = lent .before .before in
+    let asked = called .before .before .before .before in
     let known = asked .before .before in
     let kind = known .before .before .kind-of in
     exported fourLengths _ _
@@ -36,6 +37,7 @@ dpx-table-make-spec =
     (λ c κs. search needs)
     (λ c κs. search needs)
     returns
+    (λ c. search needs)
     (λ c. search needs)
     (λ c. search needs)
     (λ c. search needs)

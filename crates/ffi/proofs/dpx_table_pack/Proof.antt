@@ -17,9 +17,8 @@ returns c =
 returns-2 : tie.Need-returns-2
 returns-2 c =
     let out = c .before .before .before .before in
-    let called = out .before .before .before .before in
-    let asked = called .before .before .before in
-    let known = asked .before .before in
+    let called = out .before .before in
+    let known = called .before .before .before .before in
     let kind = known .before .before .kind-of in
     exported oneLength _ _
     (given toldKind _ _ (kind .result) (kind .ensures) _ (ap toldKind (known .k .given .1)) (called .pack-table .ensures))
@@ -36,7 +35,6 @@ dpx-table-pack-spec =
     (λ c κs. search needs)
     (λ c κs. search needs)
     returns
-    (λ c. search needs)
     (λ c. search needs)
     (λ c. search needs)
     returns-2)
