@@ -55,9 +55,9 @@
  * overlap neither each other nor an input nor `lengths`. Inputs may overlap each other. Pointers to numbers must be
  * aligned for uint64_t.
  *
- * STACK. 16 KiB is enough for any call but those on working tables of more than 2,048 cells: dpx_table_read, dpx_table_set
- * and dpx_table_pack put the cells in the order in which they lie, in 4 KiB up to 2,048 cells and in 128 KiB above; for
- * these 136 KiB are enough. dpx_merge takes 8 KiB to mark the cells that its subsets hold.
+ * STACK. 16 KiB is enough for any call but dpx_table_read, dpx_table_set and dpx_table_pack, which put the cells in the
+ * order in which they lie, in 128 KiB: for these 136 KiB are enough, whatever the number of cells. dpx_merge takes 8 KiB to
+ * mark the cells that its subsets hold.
  *
  * THREADS. There is no state: any number of calls may run at the same time, on outputs that do not overlap.
  */
