@@ -99,7 +99,7 @@ fn read_with(
     }
 }
 
-// The same with room for the order of few cells, so that a small table takes little of the stack.
+// The same with room for the order of few cells, so that little is cleared for a small table.
 fn read_few(
     kind: Kind,
     cells: usize,
