@@ -11,14 +11,21 @@
 //     p WIDTH,PLACE SHAPE SUBSET BYTES ROOMS            partial_decode
 //     r SIZE BYTES                                      reverse_endianness
 //     s SHAPE SUBSET ROOM                               subset_cells
+//     M KIND CELLS MASKS VALUES OFFSETS ROOMS           make_table
+//     R KIND CELLS TABLE ROOMS                          read_table
+//     S KIND CELLS TABLE CELL MASKS VALUE               set_cell
+//     P KIND CELLS TABLE MOST                           pack_table
 //     # a comment is printed as it is
 //
 // A list is `-` where it is empty; numbers are decimal and joined by commas, bytes hexadecimal; COUNT*X is a run, and `+` joins runs
 // and plain parts. KIND is depth,form,size,order, and the mask form where it is named: form 0 is fixed and 1 ragged, masks 0 bytes
-// and 1 packed. ROOMS are the lengths of the outputs to lend.
-// An answer is `refused N`, or `ok LENGTHS: LISTS` with the outputs up to those lengths, masks before values before offsets.
+// and 1 packed. TABLE is MASKS STARTS LENGTHS STORE. ROOMS are the lengths of the outputs to lend.
+// An answer is `refused N`, or `ok LENGTHS: LISTS` with the outputs up to those lengths, masks before values before offsets, or masks
+// before starts before lengths before store. A table that a call works on in place is shown whole, behind `ok:` where a cell was set and
+// behind `ok MOVED:` where it was packed.
 // Outputs are filled with EE beforehand; `spoilt` says that a byte beyond the lengths, or any after a refusal, has changed.
 mod calls;
+mod tables;
 
 use libc::STDIN_FILENO;
 use requests::Parsed;
@@ -92,18 +99,27 @@ fn respond(letter: u8, q: Request, numbers: &[u64], bytes: &[u8]) {
     );
 }
 
-// Answers one line.
-fn answer_line(line: &[u8]) {
-    let letter = requests::letter_of(line);
-    if letter == b'#' {
-        return show::write_line(line);
-    }
+// Answers a line that hands no table over.
+fn answer_request(letter: u8, line: &[u8]) {
     let mut numbers = number_space();
     let mut bytes = byte_space();
     let Parsed::Request(q) = requests::read_line(letter, line, &mut numbers, &mut bytes) else {
         return show::write_line(b"bad line");
     };
+    if letter == b'M' {
+        return tables::respond_make(q, &numbers, &bytes);
+    }
     respond(letter, q, &numbers, &bytes);
+}
+
+// Answers one line.
+fn answer_line(line: &[u8]) {
+    let letter = requests::letter_of(line);
+    match letter {
+        b'#' => show::write_line(line),
+        b'R' | b'S' | b'P' => tables::answer_table(letter, line),
+        _ => answer_request(letter, line),
+    }
 }
 
 fn answer_all(input: &[u8]) {

@@ -1,5 +1,6 @@
 // A request: which lists its line has, in which order, and where they lie once they are read.
 pub mod asked;
+pub mod tables;
 
 use std::num;
 use text::scan;
@@ -76,6 +77,7 @@ fn line_of(letter: u8) -> Line {
         b'x' => of_kind(true, true, 3),
         b'm' => of_kind(true, true, 3),
         b'g' => of_load(),
+        b'M' => of_kind(false, true, 4),
         b'i' => of_numbers(1, false, true, 2),
         b'p' => of_numbers(2, true, true, 2),
         b'r' => of_numbers(1, false, true, 0),
@@ -307,6 +309,14 @@ fn with_start(q: Request, numbers: &[u64]) -> Parsed {
     Parsed::Request(q)
 }
 
+// A request for a working table has one count of cells in the shape's place.
+fn with_count(q: Request) -> Parsed {
+    if num::wrapping_sub_usize(q.subset, q.shape) != 1 {
+        return Parsed::Bad;
+    }
+    Parsed::Request(q)
+}
+
 // Reads a line that calls for what its letter says.
 pub fn read_line(letter: u8, line: &[u8], numbers: &mut [u64], bytes: &mut [u8]) -> Parsed {
     let Line::Request(f) = line_of(letter) else {
@@ -315,8 +325,9 @@ pub fn read_line(letter: u8, line: &[u8], numbers: &mut [u64], bytes: &mut [u8])
     let Parsed::Request(q) = parse(line, f, numbers, bytes) else {
         return Parsed::Bad;
     };
-    if letter == b'g' {
-        return with_start(q, numbers);
+    match letter {
+        b'g' => with_start(q, numbers),
+        b'M' => with_count(q),
+        _ => Parsed::Request(q),
     }
-    Parsed::Request(q)
 }

@@ -2,6 +2,7 @@
 // ` spoilt` where a byte beyond the lengths, or any after a refusal, has changed.
 pub mod lent;
 pub mod show;
+pub mod tables;
 pub mod told;
 
 use crate::lent::Rooms;

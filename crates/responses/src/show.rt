@@ -22,7 +22,7 @@ pub fn write_line(line: &[u8]) {
     write_text(b"\n");
 }
 
-fn write_bytes(s: &[u8]) {
+pub fn write_bytes(s: &[u8]) {
     let mut text = text_space();
     let n = print::put_bytes(&mut text, 0, s);
     write_text(part_of_bytes(&text, 0, n));
