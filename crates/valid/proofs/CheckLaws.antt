@@ -1,6 +1,6 @@
 -- The check of the array's rules: offsets that begin at 0 and never fall, turn by turn; what content fits; what a check's answer says of the array.
 -- Assumes nothing.
-use mathlib.Core.Path.{_≡_, refl, sym, ap, ap₂, _∙_}
+use mathlib.Core.Path.{_≡_, refl, sym, ap, ap₂, subst, _∙_}
 use Prim.Native.Nat.{ℕ, suc, _+_, _-_, _*_, _<_, _≤_}
 use native.Mathlib.Nat.{mul-le-mul}
 use native.Mathlib.Numerals.{add-one}
@@ -33,35 +33,61 @@ pub and-assoc : (a b c : Bool) → a && (b && c) ≡ a && b && c
 and-assoc true b c = refl
 and-assoc false b c = refl
 
--- ---- offsets that begin at 0 and never fall: what the first i of them say, and what is left
+-- ---- offsets that begin at 0 and never fall: what the first i of them say, the i-th being `last`, and what is left
 
-pub record Rise (os : List ℕ) (n : ℕ) (so-far : Bool) (i : ℕ) : Type 0 where
+pub record Rise (os : List ℕ) (n : ℕ) (so-far : Bool) (last i : ℕ) : Type 0 where
   pub enough : n < length os
   pub within : i ≤ n
-  pub same : risingTest (take (suc n) os) ≡ so-far && risingFromTest (getD os i 0) (take (n - i) (drop (suc i) os))
+  pub same : risingTest (take (suc n) os) ≡ so-far && risingFromTest last (take (n - i) (drop (suc i) os))
 
-pub rise-begins : {os : List ℕ} {n : ℕ} → n < length os → Rise os n (eqb (getD os 0 0) 0) 0
-rise-begins {os} {n} h = record { enough = h; within = omega arith; same = go os h }
-  where
-    go : (xs : List ℕ) → n < length xs → risingTest (take (suc n) xs) ≡ eqb (getD xs 0 0) 0 && risingFromTest (getD xs 0 0) (take (n - 0) (drop 1 xs))
-    go [] l = absurd (omega arith)
-    go (x ∷ xs) l = let z : n ≡ n - 0 = omega arith in ap (λ (k : ℕ). eqb x 0 && risingFromTest x (take k xs)) z
+first-is : (os : List ℕ) (n : ℕ) → n < length os → risingTest (take (suc n) os) ≡ eqb (getD os 0 0) 0 && risingFromTest (getD os 0 0) (take n (drop 1 os))
+first-is [] n l = absurd (omega arith)
+first-is (x ∷ xs) n l = refl
 
-module _ {os : List ℕ} {n i : ℕ} {b : Bool} (c : Rise os n b i) where
-  pub rise-ends : n ≤ i → b ≡ risingTest (take (suc n) os)
-  rise-ends l = let z : n - i ≡ 0 = omega arith in sym (c .same ∙ ap (λ (k : ℕ). b && risingFromTest (getD os i 0) (take k (drop (suc i) os))) z ∙ and-true b)
+pub rise-begins : {os : List ℕ} {n : ℕ} → n < length os → getD os 0 0 ≡ 0 → Rise os n true 0 0
+rise-begins {os} {n} l e = record {
+  enough = l;
+  within = omega arith;
+  same = let z : n ≡ n - 0 = omega arith in first-is os n l ∙ ap₂ (λ (x k : ℕ). eqb x 0 && risingFromTest x (take k (drop 1 os))) e z;
+}
 
-  pub rise-more : i < n → Rise os n (b && leb (getD os i 0) (getD os (i + 1) 0)) (i + 1)
-  rise-more l = record {
-    enough = c .enough;
-    within = omega arith;
-    same =
-        let z : n - i ≡ suc (n - (i + 1)) = omega arith in
-        c .same
-        ∙ ap₂ (λ (k : ℕ) (r : List ℕ). b && risingFromTest (getD os i 0) (take k r)) z (drop-cons os (suc i) 0 (omega (arith, c .enough)))
-        ∙ ap (λ (k : ℕ). b && (leb (getD os i 0) (getD os k 0) && risingFromTest (getD os k 0) (take (n - (i + 1)) (drop (suc k) os)))) (sym (add-one i))
-        ∙ and-assoc b (leb (getD os i 0) (getD os (i + 1) 0)) (risingFromTest (getD os (i + 1) 0) (take (n - (i + 1)) (drop (suc (i + 1)) os)));
-  }
+pub rise-not-begun : (os : List ℕ) (n : ℕ) → n < length os → 0 < getD os 0 0 → false ≡ risingTest (take (suc n) os)
+rise-not-begun os n l h = sym (first-is os n l ∙ ap (λ (b : Bool). b && risingFromTest (getD os 0 0) (take n (drop 1 os))) (ne-eqb (getD os 0 0) 0 (λ e. absurd (omega arith))))
+
+module _ {os : List ℕ} {n last i : ℕ} where
+  pub rise-said : {b t : Bool} → Rise os n b last i → b ≡ t → Rise os n t last i
+  rise-said c e = subst (λ (b : Bool). Rise os n b last i) e c
+
+  pub rise-fell : Rise os n false last i → false ≡ risingTest (take (suc n) os)
+  rise-fell c = sym (c .same)
+
+  pub rise-ends : Rise os n true last i → n ≤ i → true ≡ risingTest (take (suc n) os)
+  rise-ends c l = let z : n - i ≡ 0 = omega arith in sym (c .same ∙ ap (λ (k : ℕ). risingFromTest last (take k (drop (suc i) os))) z)
+
+-- one offset more, the j-th, and four
+pub rise-more : {os : List ℕ} {n last i : ℕ} {b : Bool} → Rise os n b last i → (j : ℕ) → j ≡ i + 1 → i < n → Rise os n (b && leb last (getD os j 0)) (getD os j 0) j
+rise-more {os} {n} {last} {i} {b} c j e l = record {
+  enough = c .enough;
+  within = omega arith;
+  same =
+      let z : n - i ≡ suc (n - j) = omega arith in
+      let next : suc i ≡ j = omega arith in
+      c .same
+      ∙ ap₂ (λ (k : ℕ) (r : List ℕ). b && risingFromTest last (take k r)) z (drop-cons os (suc i) 0 (omega (arith, c .enough)))
+      ∙ ap (λ (k : ℕ). b && (leb last (getD os k 0) && risingFromTest (getD os k 0) (take (n - j) (drop (suc k) os)))) next
+      ∙ and-assoc b (leb last (getD os j 0)) (risingFromTest (getD os j 0) (take (n - j) (drop (suc j) os)));
+}
+
+module _ {os : List ℕ} {n last i : ℕ} (c : Rise os n true last i) where
+  abbrev pub four : Bool
+  four = leb last (getD os (i + 1) 0) && leb (getD os (i + 1) 0) (getD os (i + 2) 0) && leb (getD os (i + 2) 0) (getD os (i + 3) 0) && leb (getD os (i + 3) 0) (getD os (i + 4) 0)
+
+  pub rise-four : i + 4 ≤ n → Rise os n four (getD os (i + 4) 0) (i + 4)
+  rise-four l =
+      let one = rise-more c (i + 1) (omega arith) (omega arith) in
+      let two = rise-more one (i + 2) (omega arith) (omega arith) in
+      let three = rise-more two (i + 3) (omega arith) (omega arith) in
+      rise-more three (i + 4) (omega arith) (omega arith)
 
 -- a depth or a size times cells is far from wrapping
 pub small-product : (a b : ℕ) → a ≤ 255 → b ≤ mostCells → a * b ≤ 16711680
