@@ -1,5 +1,11 @@
 //! What the machine allows: the older form of ragged values read by bare loops over the C library's memcpy; and the loops that others would write.
 
+use crate::archive::{DpxKind, EncodeCall, c_kind};
+use crate::inputs::Input;
+use std::hint::black_box;
+use std::slice::from_raw_parts;
+use std::time::{Duration, Instant};
+
 fn length_at(bytes: &[u8], at: usize) -> usize {
     u32::from_le_bytes(bytes[at..at + 4].try_into().unwrap()) as usize
 }
@@ -24,7 +30,7 @@ fn lengths_walk(bytes: &[u8]) {
     for _ in 0..length_at(bytes, 0) {
         let length = length_at(bytes, at);
         if length == last {
-            at += 4 + std::hint::black_box(last);
+            at += 4 + black_box(last);
         } else {
             at += 4 + length;
             last = length;
@@ -58,9 +64,9 @@ fn cells_of(shape: &[u64]) -> Result<u64, &'static str> {
 }
 
 /// The older form written by the plain loop that one would write for it: what does not fit together is an error, found on the way or not at all (values
-/// behind the last offset). Not inlined, as a library's function would not be.
-#[inline(never)]
-pub fn write_older(shape: &[u64], values: &[u8], offsets: &[u64], out: &mut Vec<u8>) -> Result<(), &'static str> {
+/// behind the last offset).
+#[inline(always)]
+fn write_older(shape: &[u64], values: &[u8], offsets: &[u64], out: &mut Vec<u8>) -> Result<(), &'static str> {
     let cells = cells_of(shape)?;
     if offsets.len() as u64 != cells + 1 {
         return Err("not one offset more than cells");
@@ -69,16 +75,16 @@ pub fn write_older(shape: &[u64], values: &[u8], offsets: &[u64], out: &mut Vec<
 }
 
 /// The same loop behind the checks of our call: the same refusals in the same order, and a refusal leaves the buffer as it was.
-#[inline(never)]
-pub fn write_checked(
-    kind: &[u64; 5],
+#[inline(always)]
+fn write_checked(
+    kind: DpxKind,
     shape: &[u64],
     masks: &[u8],
     values: &[u8],
     offsets: &[u64],
     out: &mut Vec<u8>,
 ) -> Result<(), &'static str> {
-    let [depth, form, width, place, mask] = *kind;
+    let DpxKind(depth, form, width, place, mask) = kind;
     if depth > 0 || form != 1 || !matches!(width, 4 | 8) || place > 1 || mask > 1 {
         return Err("not a ragged kind of depth 0");
     }
@@ -101,6 +107,58 @@ pub fn write_checked(
         return Err("no room");
     }
     put_older(cells, values, offsets, out)
+}
+
+/// A loop behind the C signature of our call. In the output's place it gets the Vec.
+#[rustfmt::skip]
+unsafe extern "C" fn older_call<const CHECKED: bool>(
+    kind: DpxKind, shape: *const u64, sides: usize, masks: *const u8, marks: usize, values: *const u8, bytes: usize,
+    offsets: *const u64, ends: usize, out: *mut u8, _: usize, length: *mut u64,
+) -> u32 {
+    let (shape, offsets) = unsafe { (from_raw_parts(shape, sides), from_raw_parts(offsets, ends)) };
+    let (masks, values) = unsafe { (from_raw_parts(masks, marks), from_raw_parts(values, bytes)) };
+    let (out, length) = unsafe { (&mut *out.cast::<Vec<u8>>(), &mut *length) };
+    let done = if CHECKED {
+        write_checked(kind, shape, masks, values, offsets, out)
+    } else {
+        write_older(shape, values, offsets, out)
+    };
+    *length = out.len() as u64;
+    u32::from(done.is_err())
+}
+
+/// Who writes the older form. All are called in the same way: by one signature, through a pointer that the compiler does not see behind, so that handing over
+/// twelve arguments, most of the time of a single cell, costs each the same. And all write to the same memory, as where a buffer lies can cost more
+/// than the call: our call is lent that of the Vec which the loops fill.
+#[derive(Clone, Copy)]
+pub enum Writer {
+    Ours(EncodeCall),
+    Plain,
+    Checked,
+}
+impl Writer {
+    /// So many calls, and the time they took. The Vec has room enough, and holds what was written.
+    pub fn write(self, i: &Input, out: &mut Vec<u8>, times: u32) -> Duration {
+        let (room, whole) = (out.capacity(), (&raw mut *out).cast());
+        let (call, at) = match self {
+            Writer::Ours(call) => (call, out.as_mut_ptr()),
+            Writer::Plain => (older_call::<false> as EncodeCall, whole),
+            Writer::Checked => (older_call::<true> as EncodeCall, whole),
+        };
+        let (call, mut length) = (black_box(call), 0);
+        let clock = Instant::now();
+        for _ in 0..times {
+            #[rustfmt::skip]
+            let answer = unsafe { call(
+                c_kind(&i.kind), i.shape.as_ptr(), i.shape.len(), i.masks.as_ptr(), i.masks.len(),
+                i.values.as_ptr(), i.values.len(), i.offsets.as_ptr(), i.offsets.len(), at, room, &mut length,
+            ) };
+            assert_eq!(answer, 0);
+        }
+        let time = clock.elapsed();
+        unsafe { out.set_len(length as usize) };
+        time
+    }
 }
 
 /// Masks, values and offsets that are used again.

@@ -8,8 +8,8 @@
 //! caller's memory. Kinds, shapes and chunk lists are built before the clock starts. The Rust is built with opt-level 3 over the stand-in chain,
 //! which does less than the listed one.
 //! Packed masks, which the Rust does not have, are timed against masks of bytes, both ours. encode_interleaved and generate, which it does not have either,
-//! are timed against a plain Rust loop with reused buffers, the former also against that loop behind the same checks (bounds.rs); working tables against
-//! loops with the same checks (tables.rs).
+//! are timed against a plain Rust loop with reused buffers (bounds.rs), the former by the same C signature and into the same memory, and also against that
+//! loop behind the same checks; working tables against loops with the same checks (tables.rs).
 
 #[path = "../oracle/driver/archive.rs"]
 #[allow(dead_code)]
@@ -22,10 +22,12 @@ mod rng;
 mod tables;
 
 use archive::{Archive, c_kind};
+use bounds::Writer;
 use inputs::*;
 use rng::Rng;
 use standin_release::{ArrayBytes, CodecOptions, FillValue, door};
 use std::borrow::Cow;
+use std::cell::RefCell;
 use std::hint::black_box;
 use std::time::{Duration, Instant};
 
@@ -261,6 +263,9 @@ impl Bench {
         self.turns_of(|| self.ours(call), other, limit, hopeless)
     }
     fn turns_of<'a>(&self, mine: impl Fn() -> Timed<'a>, mut other: Timed, limit: f64, hopeless: f64) -> [f64; 2] {
+        self.tries(|| best(&mut [mine(), Box::new(&mut other)], self.rounds), limit, hopeless)
+    }
+    fn tries(&self, mut once: impl FnMut() -> Vec<f64>, limit: f64, hopeless: f64) -> [f64; 2] {
         let mut elsewhere = vec![];
         let mut times = [f64::MAX; 2];
         let again = |[ours, other]: [f64; 2]| ours > limit * other && ours <= hopeless * other;
@@ -268,7 +273,7 @@ impl Bench {
             if !elsewhere.is_empty() {
                 std::thread::sleep(Duration::from_millis(500));
             }
-            let now = best(&mut [mine(), Box::new(&mut other)], self.rounds);
+            let now = once();
             times = [times[0].min(now[0]), times[1].min(now[1])];
             elsewhere.push(Lent::new());
         }
@@ -417,31 +422,29 @@ impl Bench {
         self.packed_row(Decode(&bits, &stored[0]), Decode(i, &stored[1]), i, what);
     }
 
-    /// The loops write the same, then the clock.
+    /// The loops write the same, then the clock. Where both are tried again, both write elsewhere.
     fn older_row(&mut self, i: &Input, what: &str) {
-        let Input { kind, shape, masks, .. } = i;
-        let (mut reused, mut again) = (vec![], Vec::with_capacity(20_000_000));
-        bounds::write_older(shape, &i.values, &i.offsets, &mut reused).unwrap();
-        bounds::write_checked(kind, shape, masks, &i.values, &i.offsets, &mut again).unwrap();
-        let mut lent = Lent::new();
-        ours(&self.archive, Older(i), &mut lent);
-        let written = &lent.values[..lent.lengths[0] as usize];
-        assert!(written == &reused[..] && written == &again[..], "not the same: {OLDER} {what}");
-        let plain = timed(|| {
-            bounds::write_older(shape, black_box(&i.values), black_box(&i.offsets), &mut reused).unwrap();
-            black_box(&mut reused);
+        let buffer = || Vec::with_capacity(20_000_000);
+        let mine = Writer::Ours(self.archive.encode_interleaved);
+        let [written, plain, checked] = [mine, Writer::Plain, Writer::Checked].map(|writer| {
+            let mut out = buffer();
+            writer.write(i, &mut out, 1);
+            out
         });
-        let row = |[ours, other]: [f64; 2]| {
-            let (kind, what, column) = (String::new(), what.to_string(), cells_of(shape).to_string());
+        assert!(written == plain && written == checked, "not the same: {OLDER} {what}");
+        let row = |other: Writer| {
+            let once = || {
+                let out = &RefCell::new(buffer());
+                let side = |writer: Writer| -> Timed { Box::new(move |times| writer.write(i, &mut out.borrow_mut(), times)) };
+                best(&mut [side(mine), side(other)], self.rounds)
+            };
+            let [ours, other] = self.tries(once, 1.0, f64::MAX);
+            let (kind, what, column) = (String::new(), what.to_string(), cells_of(&i.shape).to_string());
             Row { call: OLDER, below: false, kind, what, column, other, ours, held: None }
         };
-        self.older.push(row(self.turns(Older(i), plain, 1.0, f64::MAX)));
-        let checked = timed(|| {
-            bounds::write_checked(black_box(kind), shape, masks, black_box(&i.values), black_box(&i.offsets), &mut again)
-                .unwrap();
-            black_box(&mut again);
-        });
-        self.checked.push(row(self.turns(Older(i), checked, 1.0, f64::MAX)));
+        let (plain, checked) = (row(Writer::Plain), row(Writer::Checked));
+        self.older.push(plain);
+        self.checked.push(checked);
     }
 
     /// The loop makes the same, then the clock. One run is enough where the output holds any load.

@@ -10,7 +10,7 @@ unsafe extern "C" {
 
 #[repr(C)]
 #[derive(Clone, Copy)]
-pub struct DpxKind(u64, u64, u64, u64, u64);
+pub struct DpxKind(pub u64, pub u64, pub u64, pub u64, pub u64);
 pub fn c_kind(k: &[u64; 5]) -> DpxKind {
     DpxKind(k[0], k[1], k[2], k[3], k[4])
 }
