@@ -1,3 +1,4 @@
+pub mod Bucketing
 pub mod Collecting
 pub mod Sinking
 pub mod Sorting
