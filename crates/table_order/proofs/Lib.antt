@@ -1,4 +1,6 @@
-pub mod Bucketing
+pub mod Buckets
 pub mod Collecting
+pub mod Placing
 pub mod Sinking
 pub mod Sorting
+pub mod Tallying
