@@ -56,7 +56,7 @@
  * aligned for uint64_t.
  *
  * STACK. 16 KiB is enough for any call but dpx_table_read, dpx_table_set and dpx_table_pack, which put the cells in the
- * order in which they lie, in 128 KiB: for these 136 KiB are enough, whatever the number of cells. dpx_merge takes 8 KiB to
+ * order in which they lie, in 256 KiB: for these 272 KiB are enough, whatever the number of cells. dpx_merge takes 8 KiB to
  * mark the cells that its subsets hold.
  *
  * THREADS. There is no state: any number of calls may run at the same time, on outputs that do not overlap.

@@ -1,7 +1,7 @@
 /*
  * How much stack the calls take: each runs on a stack of its own, filled before, and no byte below the promised 16 KiB
  * may change. Every call runs on a table of depth 4 with many cells, merge with one subset for each cell. Reading, setting and
- * packing a working table are promised 136 KiB.
+ * packing a working table are promised 272 KiB.
  */
 #define _XOPEN_SOURCE 700
 #include "durpaxeta.h"
@@ -12,7 +12,7 @@
 #include <string.h>
 #include <ucontext.h>
 
-enum { PROMISED = 16 * 1024, LARGE = 136 * 1024, ROOM = 256 * 1024, CELLS = 4096, FILL = 0xA5 };
+enum { PROMISED = 16 * 1024, LARGE = 272 * 1024, ROOM = 512 * 1024, CELLS = 4096, FILL = 0xA5 };
 enum { SMALL_TABLE = 2048, STORE = 4 * DPX_MAX_CELLS };
 
 static uint64_t shape[1] = {CELLS}, whole[2] = {0, CELLS}, subsets[2 * CELLS], offsets[CELLS + 1], chunk_offsets[2 * CELLS];
