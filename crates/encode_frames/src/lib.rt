@@ -2,8 +2,6 @@
 use array::kind::Kind;
 use array::kind::Values;
 use buffer::field;
-use encode_cells::cells;
-use encode_cells::live;
 use mask::form;
 ghost use mathlib.Core.Path.{_≡_};
 ghost use Prim.Native.Nat.{_+_, _≤_};
@@ -11,7 +9,7 @@ ghost use lib.ListN.{length};
 ghost use Rattle.array.specs.Buffers.{over, overAt};
 ghost use Rattle.array.specs.Meaning.{kindOf};
 ghost use Rattle.array.specs.Outcome.{contentArray};
-ghost use Rattle.encode_cells.specs.Live.{liveAt};
+ghost use Rattle.live_cells.specs.Live.{liveAt};
 ghost use Rattle.encode_values.specs.Ready.{Encodable};
 ghost use Rattle.encode_values.specs.Stored.{levelOf, storedFrom, frameFrom};
 
@@ -33,7 +31,7 @@ pub fn write_content(
     ensures bytes { λ _. ⌜ now (out .exit) ≡ overAt at (storedFrom (kindOf kind) cells (contentArray (now (masks .entry)) (now (values .entry)) (now (offsets .entry))) left) (now (out .entry)) ⌝ }
 {
     let level = kind.depth as usize - left;
-    let count = live::count_live(masks, cells, level);
+    let count = live_cells::count_live(masks, cells, level);
     if count == 0 {
         return 0;
     }
@@ -76,7 +74,7 @@ fn write_frame(
         offsets,
         left - 1,
     );
-    cells::put_mask(form, out, start, masks, cells, level, count);
+    encode_masks::put_mask(form, out, start, masks, cells, level, count);
     field::put_u64(out, at + 8, length as u64);
     field::put_u64(out, at, mask as u64);
     16 + mask + length
@@ -102,7 +100,13 @@ pub fn write_stored(
     }
     let form = kind.values;
     match form {
-        Values::Fixed(size, order) => cells::put_all(out, values, size as usize, order, cells),
+        Values::Fixed(size, order) => encode_cells::put_all(
+            out,
+            values,
+            size as usize,
+            order,
+            cells,
+        ),
         Values::Ragged(width, place) => encode_ragged::put_plain(
             out,
             width,

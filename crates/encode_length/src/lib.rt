@@ -2,7 +2,6 @@
 use array::kind;
 use array::kind::Kind;
 use array::kind::Values;
-use encode_cells::live;
 use mask::form;
 ghost use mathlib.Core.Path.{_≡_};
 ghost use Prim.Native.Nat.{_≤_};
@@ -17,7 +16,7 @@ pub fn content_length(kind: Kind, cells: usize, masks: &[u8], offsets: &[u64], l
     ensures { λ r. ⌜ r ≡ lengthFrom (kindOf kind) cells (now (masks .entry)) (now (offsets .entry)) left ⌝ }
 {
     let level = kind.depth as usize - left;
-    let count = live::count_live(masks, cells, level);
+    let count = live_cells::count_live(masks, cells, level);
     if count == 0 {
         return 0;
     }

@@ -17,13 +17,13 @@ use Rattle.codec.specs.Frame.{wrap, unlessNone}
 use Rattle.codec.specs.Values.{putValues}
 use Rattle.codec.proofs.Frames.{length-wrap}
 use Rattle.codec.proofs.Masks.{mask-laws}
-use Rattle.encode_cells.specs.Live.{liveAt}
+use Rattle.live_cells.specs.Live.{liveAt}
 use Rattle.encode_values.specs.Stored.{levelOf, valuesFrom, storedFrom, maskFrom, frameFrom, orNothing, valuesLengthAt, lengthFrom}
 use Rattle.encode_values.specs.Ready.{MeasuresOk, Measured}
-use Rattle.encode_cells.proofs.Runs.{live-le}
-use Rattle.encode_cells.proofs.LiveMarks.{count-all}
+use Rattle.live_cells.proofs.Runs.{live-le}
+use Rattle.live_cells.proofs.LiveMarks.{count-all}
 use Rattle.encode_cells.proofs.Packing.{fixed-long}
-use Rattle.encode_cells.proofs.Blocks.{live-mask-long}
+use Rattle.encode_masks.proofs.Blocks.{live-mask-long}
 use Rattle.encode_ragged.proofs.Summing.{bytes-le}
 use Rattle.encode_ragged.proofs.Parts.{ragged-long}
 

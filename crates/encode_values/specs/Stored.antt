@@ -14,7 +14,7 @@ use Rattle.codec.specs.Mask.{maskForm}
 use Rattle.codec.specs.Frame.{unlessNone, wrap}
 use Rattle.codec.specs.Values.{putValues}
 use Rattle.codec.specs.Length.{raggedLength}
-use Rattle.encode_cells.specs.Live.{liveAt, liveMask}
+use Rattle.live_cells.specs.Live.{liveAt, liveMask}
 
 -- the level that has so many levels left, itself among them
 abbrev pub levelOf : Kind → ℕ → ℕ

@@ -2,14 +2,13 @@
 use array::kind;
 use array::kind::Kind;
 use array::kind::Values;
-use encode_cells::cells;
 ghost use mathlib.Core.Path.{_≡_};
 ghost use Prim.Native.Nat.{_+_, _≤_};
 ghost use lib.ListN.{length};
 ghost use Rattle.array.specs.Buffers.{overAt};
 ghost use Rattle.array.specs.Meaning.{kindOf};
 ghost use Rattle.array.specs.Outcome.{contentArray};
-ghost use Rattle.encode_cells.specs.Live.{liveAt};
+ghost use Rattle.live_cells.specs.Live.{liveAt};
 ghost use Rattle.encode_values.specs.Ready.{Measured, Encodable};
 ghost use Rattle.encode_values.specs.Stored.{valuesFrom, valuesLengthAt};
 
@@ -52,7 +51,7 @@ pub fn put_values(
     match form {
         Values::Fixed(size, order) => {
             let k = size as usize;
-            cells::put_live(out, at, values, k, order, masks, cells, level, count);
+            encode_cells::put_live(out, at, values, k, order, masks, cells, level, count);
             count * k
         }
         Values::Ragged(width, place) => encode_ragged::put_ragged(

@@ -13,8 +13,8 @@ use Rattle.array.specs.Meaning.{kindOf}
 use Rattle.array.specs.Outcome.{contentArray}
 use Rattle.codec.specs.Mask.{maskForm}
 use Rattle.codec.proofs.Frames.{length-wrap}
-use Rattle.encode_cells.specs.Live.{liveAt}
-use Rattle.encode_cells.proofs.Blocks.{live-mask-long}
+use Rattle.live_cells.specs.Live.{liveAt}
+use Rattle.encode_masks.proofs.Blocks.{live-mask-long}
 use Rattle.encode_cells.proofs.Packing.{planes-to}
 use Rattle.encode_cells.proofs.Placing.{at-none, laid-as}
 use Rattle.encode_values.specs.Stored.{levelOf, valuesFrom, storedFrom, maskFrom, frameFrom}
@@ -32,8 +32,8 @@ use Rattle.encode_frames.proofs.write_frame.Kinds as write-frame-kinds
 use Rattle.encode_frames.proofs.+write_content+write_frame.Lts-write_frame as write-frame-lts
 use Rattle.buffer.proofs.field.put_u64.Reads as put-u64-reads
 use Rattle.encode_values.proofs.put_values.Reads as put-values-reads
-use Rattle.encode_cells.proofs.cells.put_mask.Reads as put-mask-reads
-use Rattle.encode_cells.proofs.live.count_live.Reads as count-live-reads
+use Rattle.encode_masks.proofs.put_mask.Reads as put-mask-reads
+use Rattle.live_cells.proofs.count_live.Reads as count-live-reads
 use Rattle.mask.proofs.form.mask_length.Reads as mask-length-reads
 use Rattle.encode_frames.proofs.+write_content+write_frame.{statement}
 use Rattle.encode_frames.proofs.+write_content+write_frame.Tie.{close}

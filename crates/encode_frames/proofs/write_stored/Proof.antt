@@ -6,7 +6,7 @@ use lib.ListN.{length}
 use Rattle.array.specs.Content.{Content}
 use Rattle.array.specs.Meaning.{kindOf}
 use Rattle.array.specs.Outcome.{contentArray}
-use Rattle.encode_cells.proofs.LiveMarks.{count-all}
+use Rattle.live_cells.proofs.LiveMarks.{count-all}
 use Rattle.encode_cells.proofs.Placing.{laid-as}
 use Rattle.encode_values.specs.Stored.{valuesFrom, storedFrom}
 use Rattle.encode_values.proofs.Levels.{flat-stored}

@@ -10,9 +10,9 @@ use Rattle.array.specs.Limits.{mostCells}
 use Rattle.array.specs.Meaning.{masksOf, formOf, kindOf}
 use Rattle.codec.specs.Mask.{maskForm}
 use Rattle.codec.proofs.Masks.{mask-laws}
-use Rattle.encode_cells.specs.Live.{liveAt}
+use Rattle.live_cells.specs.Live.{liveAt}
 use Rattle.encode_cells.proofs.Packing.{planes-to}
-use Rattle.encode_cells.proofs.Runs.{live-le}
+use Rattle.live_cells.proofs.Runs.{live-le}
 use Rattle.encode_values.specs.Stored.{levelOf, valuesLengthAt}
 use Rattle.encode_values.proofs.Levels.{length-none, length-values, length-frame, length-small}
 use Rattle.encode_values.proofs.Forms.{measured-planes, narrow-of}
@@ -23,7 +23,7 @@ use Rattle.encode_length.proofs.content_length.Reads as content-length
 use Rattle.encode_length.proofs.content_length.Kinds as content-length-kinds
 use Rattle.encode_length.proofs.+content_length.Lts-content_length as content-length-lts
 use Rattle.encode_values.proofs.values_length.Reads as values-length-reads
-use Rattle.encode_cells.proofs.live.count_live.Reads as count-live-reads
+use Rattle.live_cells.proofs.count_live.Reads as count-live-reads
 use Rattle.mask.proofs.form.mask_length.Reads as mask-length-reads
 use Rattle.encode_length.proofs.+content_length.{statement}
 use Rattle.encode_length.proofs.+content_length.Tie.{close}
