@@ -1,5 +1,5 @@
 -- Redundant by the laws leaves-expand and planes-expand in codec/proofs/SpreadLaws.antt: reading, plane by plane.
--- Code that places each level straight into its plane speaks of it: masks-from and leaves-from in stored/proofs/Reading.antt.
+-- Code that places each level straight into its plane speaks of it: masks-from and leaves-from in stored_frames/proofs/Reading.antt.
 -- Assumes nothing.
 use Prim.Native.Nat.{ℕ, zero, suc}
 use mathlib.Core.List.{List, [], _∷_}

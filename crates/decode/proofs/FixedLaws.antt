@@ -24,10 +24,10 @@ use Rattle.codec.specs.Frame.{countSet}
 use Rattle.codec.specs.Spread.{spread}
 use Rattle.codec.specs.Values.{getValues}
 use Rattle.codec.specs.Calls.{readIn}
-use Rattle.stored.specs.Walk.{walked}
-use Rattle.stored.specs.Stored.{cellsFrom, innermostBy, answerBy, innermostCount}
-use Rattle.stored.proofs.Reading.{read-walked}
-use Rattle.stored.proofs.Walks.{WalkPassed, walk-passed, passed-count}
+use Rattle.stored_frames.specs.Walk.{walked}
+use Rattle.stored_frames.specs.Stored.{cellsFrom, innermostBy, answerBy, innermostCount}
+use Rattle.stored_frames.proofs.Reading.{read-walked}
+use Rattle.stored_frames.proofs.Walks.{WalkPassed, walk-passed, passed-count}
 use Rattle.decode_cells.specs.Values.{valuesOver, ValuesWithin}
 use Rattle.decode_cells.proofs.ValueRuns.{cellsLeft, valuesLeft}
 use Rattle.decode_cells.proofs.SpreadingValues.{cells-length, values-length}

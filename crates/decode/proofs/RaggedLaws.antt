@@ -23,13 +23,13 @@ use Rattle.codec.specs.Values.{getValues}
 use Rattle.codec.specs.Calls.{readIn}
 use Rattle.codec.proofs.SpreadLaws.{length-spread}
 use Rattle.codec.proofs.Flat.{flat-read}
-use Rattle.stored.specs.declared.vlen.Index.{Index}
-use Rattle.stored.specs.Walk.{walked}
-use Rattle.stored.specs.Stored.{cellsFrom, answerBy}
-use Rattle.stored.specs.Index.{endsIn}
-use Rattle.stored.proofs.Reading.{innermost-some, read-walked}
-use Rattle.stored.proofs.Walks.{WalkPassed, passed-count}
-use Rattle.stored.proofs.CheckedIndex.{IndexChecked}
+use Rattle.stored_index.specs.declared.Index.{Index}
+use Rattle.stored_frames.specs.Walk.{walked}
+use Rattle.stored_frames.specs.Stored.{cellsFrom, answerBy}
+use Rattle.stored_index.specs.Index.{endsIn}
+use Rattle.stored_frames.proofs.Reading.{innermost-some, read-walked}
+use Rattle.stored_frames.proofs.Walks.{WalkPassed, passed-count}
+use Rattle.stored_index.proofs.CheckedIndex.{IndexChecked}
 use Rattle.decode_cells.specs.Ends.{endsBy}
 use Rattle.decode_cells.proofs.CopyingOffsets.{length-offsets}
 use Rattle.decode_planes.specs.Within.{planesIn, innermostIn}

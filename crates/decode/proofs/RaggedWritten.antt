@@ -15,8 +15,8 @@ use Rattle.array.specs.Buffers.{over, readOutcome}
 use Rattle.array.specs.Outcome.{contentArray, outcomeArray}
 use Rattle.codec.specs.Mask.{maskForm}
 use Rattle.codec.specs.Frame.{countSet}
-use Rattle.stored.specs.declared.vlen.Index.{Index}
-use Rattle.stored.specs.Index.{offsetsIn, raggedAt, IndexWithin}
+use Rattle.stored_index.specs.declared.Index.{Index}
+use Rattle.stored_index.specs.Index.{offsetsIn, raggedAt, IndexWithin}
 use Rattle.decode_cells.specs.Ends.{endsBy, EndsStored}
 use Rattle.decode_cells.proofs.CopyingOffsets.{length-offsets}
 use Rattle.decode_planes.specs.Within.{planesIn, innermostIn}

@@ -13,10 +13,10 @@ use Rattle.array.specs.Kind.{Masks, Order, fixed, ragged, atStart, ordered}
 use Rattle.array.specs.Offsets.{slicesFrom}
 use Rattle.array.specs.Content.{Content, layout}
 use Rattle.codec.specs.Mask.{MaskForm, maskForm}
-use Rattle.stored.specs.declared.vlen.Index.{Index}
-use Rattle.stored.specs.Walk.{walked}
-use Rattle.stored.specs.Stored.{cellsFrom, MasksWithin, innermostCount}
-use Rattle.stored.specs.Index.{endsIn, IndexWithin}
+use Rattle.stored_index.specs.declared.Index.{Index}
+use Rattle.stored_frames.specs.Walk.{walked}
+use Rattle.stored_frames.specs.Stored.{cellsFrom, MasksWithin, innermostCount}
+use Rattle.stored_index.specs.Index.{endsIn, IndexWithin}
 use Rattle.decode.specs.declared.fixed.Found.{Found}
 
 -- the limits, checked before anything is read

@@ -13,8 +13,8 @@ use Rattle.array.specs.Bytes.{unle}
 use Rattle.array.specs.Buffers.{over}
 use Rattle.array.proofs.Lists.{length-pieces}
 use Rattle.array.proofs.Laying.{Laying, laying-begins, laying-same, laying-ends, laying-store, laying-is, laying-room}
-use Rattle.stored.specs.Index.{offsetsIn}
-use Rattle.stored.proofs.IndexLaws.{times-less}
+use Rattle.stored_index.specs.Index.{offsetsIn}
+use Rattle.stored_index.proofs.IndexLaws.{times-less}
 
 pub length-offsets : (w n : ℕ) (q : List ℕ) → length (offsetsIn w n q) ≡ n
 length-offsets w n q = length-map (pieces w n q) unle ∙ length-pieces w n q

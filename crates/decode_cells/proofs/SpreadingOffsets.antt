@@ -13,8 +13,8 @@ use Rattle.array.specs.Cells.{Mark, isNull, isSet, isOther, markOf}
 use Rattle.array.specs.Buffers.{over, overAt}
 use Rattle.array.proofs.Laying.{Laying, laying-begins, laying-same, laying-ends, laying-part, laying-store, laying-is, laying-room}
 use Rattle.codec.specs.Frame.{countBy, countSet, nextBy, leftBy}
-use Rattle.stored.specs.Index.{offsetsIn}
-use Rattle.stored.proofs.IndexLaws.{last-at}
+use Rattle.stored_index.specs.Index.{offsetsIn}
+use Rattle.stored_index.proofs.IndexLaws.{last-at}
 use Rattle.codec.proofs.Marks.{count-le, count-mark}
 use Rattle.decode_cells.specs.Next.{nextAt}
 use Rattle.decode_cells.specs.Ends.{endsBy, EndsStored}

@@ -8,7 +8,7 @@ use Rattle.array.specs.Bytes.{unle}
 use Rattle.array.specs.Offsets.{lastFrom}
 use Rattle.array.specs.Cells.{markOf}
 use Rattle.codec.specs.Frame.{nextBy, leftBy}
-use Rattle.stored.specs.Index.{offsetsIn}
+use Rattle.stored_index.specs.Index.{offsetsIn}
 
 -- a set cell of the plane takes the next stored end, and any other ends at t, where the one before does
 abbrev pub endsBy : ℕ → List ℕ → List ℕ → List ℕ

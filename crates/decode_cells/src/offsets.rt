@@ -12,7 +12,7 @@ ghost use lib.ListN.{length, take, drop, replicate};
 ghost use Rattle.array.specs.Buffers.{over, overAt};
 ghost use Rattle.array.specs.Meaning.{widthOf};
 ghost use Rattle.codec.specs.Frame.{countSet};
-ghost use Rattle.stored.specs.Index.{offsetsIn};
+ghost use Rattle.stored_index.specs.Index.{offsetsIn};
 ghost use Rattle.decode_cells.specs.Ends.{endsBy, EndsStored};
 
 // Writes the n + 1 offsets that are stored from `at` on.

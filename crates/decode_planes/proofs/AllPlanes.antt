@@ -19,9 +19,9 @@ use Rattle.codec.specs.Frame.{countSet}
 use Rattle.codec.specs.Spread.{spread, innermostPlane}
 use Rattle.codec.proofs.SpreadLaws.{length-spread}
 use Rattle.codec.specs.MaskAt.{saidMask}
-use Rattle.stored.specs.Stored.{maskIn, contentAt, storedMasks, cellsFrom, planesBelow, MaskPassed, MasksWithin, innermostCount}
-use Rattle.stored.proofs.Reading.{masks-from, leaves-from}
-use Rattle.stored.proofs.Walks.{mask-long}
+use Rattle.stored_frames.specs.Stored.{maskIn, contentAt, storedMasks, cellsFrom, planesBelow, MaskPassed, MasksWithin, innermostCount}
+use Rattle.stored_frames.proofs.Reading.{masks-from, leaves-from}
+use Rattle.stored_frames.proofs.Walks.{mask-long}
 use Rattle.decode_planes.specs.Within.{planesIn, innermostIn, LevelsWithin, PlanesWithin}
 use Rattle.decode_planes.proofs.Levels.{times-first, below-length, within-now, within-next}
 

@@ -17,8 +17,8 @@ use Rattle.codec.specs.Frame.{countSet}
 use Rattle.codec.specs.Spread.{spread}
 use Rattle.codec.proofs.Marks.{count-zeros}
 use Rattle.codec.proofs.SpreadLaws.{length-spread, spread-none, count-spread}
-use Rattle.stored.specs.Stored.{maskIn, contentAt, storedMasks, planesBelow, MaskPassed, MasksWithin}
-use Rattle.stored.proofs.Walks.{mask-long}
+use Rattle.stored_frames.specs.Stored.{maskIn, contentAt, storedMasks, planesBelow, MaskPassed, MasksWithin}
+use Rattle.stored_frames.proofs.Walks.{mask-long}
 use Rattle.decode_planes.specs.Within.{PlaneWithin, LevelsWithin}
 use Rattle.decode_planes.proofs.Placing.{plane-again}
 

@@ -19,7 +19,7 @@ use Rattle.codec.proofs.Marks.{count-mark, count-le}
 use Rattle.codec.proofs.SpreadLaws.{length-spread, spread-none, spread-all, spread-mark}
 use Rattle.codec.specs.MaskAt.{saidMask}
 use Rattle.mask.proofs.Said.{length-said}
-use Rattle.stored.proofs.IndexLaws.{drop-take}
+use Rattle.stored_index.proofs.IndexLaws.{drop-take}
 use Rattle.decode_cells.specs.Next.{ifSet, nextAt}
 use Rattle.decode_cells.proofs.PlaneLaws.{planeAt, plane-length, plane-byte}
 use Rattle.decode_planes.specs.Within.{LaidWithin, PlaneWithin}

@@ -9,7 +9,7 @@ use Rattle.array.specs.Kind.{Masks}
 use Rattle.codec.specs.Mask.{MaskForm, maskForm}
 use Rattle.codec.specs.Frame.{countSet}
 use Rattle.codec.specs.Spread.{innermostPlane}
-use Rattle.stored.specs.Stored.{maskIn, contentAt, storedMasks, planesBelow, MasksWithin}
+use Rattle.stored_frames.specs.Stored.{maskIn, contentAt, storedMasks, planesBelow, MasksWithin}
 
 -- the planes of d + 1 levels of n cells, the first frame at the front of s, and the innermost of them
 abbrev pub planesIn : MaskForm → List ℕ → ℕ → ℕ → List ℕ

@@ -15,7 +15,7 @@ ghost use Rattle.array.specs.Buffers.{over, overAt};
 ghost use Rattle.codec.specs.Mask.{maskForm};
 ghost use Rattle.codec.specs.Spread.{spread};
 ghost use Rattle.codec.specs.MaskAt.{saidMask};
-ghost use Rattle.stored.specs.Stored.{planesBelow};
+ghost use Rattle.stored_frames.specs.Stored.{planesBelow};
 ghost use Rattle.decode_planes.specs.Within.{LaidWithin, PlaneWithin, LevelsWithin, PlanesWithin, planesIn};
 
 // Spreads the `cells` mask bytes at the end of the plane at `to` over the plane of n cells at `from`, in which as many are set. A byte is

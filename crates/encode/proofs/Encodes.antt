@@ -19,10 +19,10 @@ use Rattle.valid.proofs.CheckLaws.{KeepsRules, check-refused, check-passed, che
 use Rattle.array.proofs.Rules.{kind-ok}
 use Rattle.valid.proofs.ShapeLaws.{Counted, counted, not-counted}
 use Rattle.codec.specs.Calls.{storedForm, encodeAnswer, encoded}
-use Rattle.encode.specs.Ready.{Encodable}
-use Rattle.encode.specs.Stored.{storedFrom, lengthFrom}
+use Rattle.encode_values.specs.Ready.{Encodable}
+use Rattle.encode_values.specs.Stored.{storedFrom, lengthFrom}
 use Rattle.encode.proofs.Walk.{stored-by}
-use Rattle.encode.proofs.Levels.{stored-long}
+use Rattle.encode_values.proofs.Levels.{stored-long}
 
 -- a refusal leaves the output as it was
 abbrev pub refused : ℕ → List ℕ → Outcome ℕ (List ℕ)

@@ -1,5 +1,2 @@
 pub mod Walk
-pub mod Framing
-pub mod Levels
-pub mod Forms
 pub mod Encodes

@@ -17,9 +17,9 @@ use Rattle.codec.specs.Mask.{maskForm}
 use Rattle.codec.specs.Frame.{keep, wrap, unlessNone, frame}
 use Rattle.codec.specs.Values.{putValues}
 use Rattle.codec.specs.Calls.{storedForm}
-use Rattle.encode_cells.specs.Live.{liveAt}
-use Rattle.encode_cells.proofs.Runs.{live-all}
-use Rattle.encode.specs.Stored.{levelOf, storedFrom}
+use Rattle.live_cells.specs.Live.{liveAt}
+use Rattle.live_cells.proofs.Runs.{live-all}
+use Rattle.encode_values.specs.Stored.{levelOf, storedFrom}
 
 unless-map : {A : Type 0} (g : ℕ → A) (f : List A → List ℕ) (h : List ℕ → List ℕ) (is : List ℕ) → f (map g is) ≡ h is → unlessNone f (map g is) ≡ unlessNone h is
 unless-map g f h [] e = refl

@@ -6,16 +6,11 @@ use valid::array_bytes;
 use valid::array_bytes::Checked;
 use valid::shape;
 use valid::shape::Cells;
-
-mod length;
-mod values;
-mod write;
-
 ghost use mathlib.Core.Path.{_≡_};
 ghost use Rattle.array.specs.Meaning.{kindOf};
 ghost use Rattle.array.specs.Outcome.{contentArray, outcome};
 ghost use Rattle.codec.specs.Calls.{storedForm, encoded};
-ghost use Rattle.encode.specs.Ready.{Encodable};
+ghost use Rattle.encode_values.specs.Ready.{Encodable};
 ghost use Rattle.array.specs.Buffers.{putList};
 
 // Writes an array into its stored form. Refusals 1, 2, 4, 5 and 6, in this order; nothing is stored before the last check.
@@ -54,10 +49,10 @@ fn encode_valid(
     requires { ⌜ Encodable (kindOf kind) cells (contentArray (now masks) (now values) (now offsets)) ⌝ }
     ensures { λ r. ⌜ outcome r (now (out .exit)) ≡ putList (storedForm (kindOf kind) cells (contentArray (now (masks .entry)) (now (values .entry)) (now (offsets .entry)))) (now (out .entry)) ⌝ }
 {
-    let need = length::stored_length(kind, cells, masks, offsets);
+    let need = encode_length::stored_length(kind, cells, masks, offsets);
     if out.len() < need {
         return Written::Refused(refusal::OUTPUT);
     }
-    write::write_stored(out, kind, cells, masks, values, offsets);
+    encode_frames::write_stored(out, kind, cells, masks, values, offsets);
     Written::Length(need)
 }

@@ -19,9 +19,9 @@ use Rattle.array.proofs.Laying.{Laying, laying-begins, laying-same, laying-left
 use Rattle.array.proofs.Places.{fixed-step, fixed-rises, value-long}
 use Rattle.array.proofs.Numbered.{pieces-are}
 use Rattle.codec.specs.Values.{putValues}
-use Rattle.encode_cells.specs.Live.{runOf}
+use Rattle.live_cells.specs.Live.{runOf}
 use Rattle.encode_cells.proofs.Placing.{laid-as}
-use Rattle.encode_cells.proofs.Runs.{run-le, passing-run, passing-end, passing-start}
+use Rattle.live_cells.proofs.Runs.{run-le, passing-run, passing-end, passing-start}
 
 -- ---- by runs: g i is what cell i writes
 

@@ -18,11 +18,11 @@ use Rattle.array.proofs.Lists.{length-from}
 use Rattle.array.proofs.Geometry.{All-from}
 use Rattle.array.proofs.Over.{over-at-length}
 use Rattle.array.proofs.Laying.{Laying, laying-same, laying-left, laying-ends, laying-part, laying-is}
-use Rattle.encode_cells.specs.Live.{liveAt, Planes}
+use Rattle.live_cells.specs.Live.{liveAt, Planes}
 use Rattle.array.proofs.Numbered.{pieces-are, plane-is}
 use Rattle.codec.specs.Values.{putValues}
-use Rattle.encode_cells.proofs.Runs.{passing-le, passing-start, All-passing, all-counted}
-use Rattle.encode_cells.proofs.LiveMarks.{passing-next}
+use Rattle.live_cells.proofs.Runs.{passing-le, passing-start, All-passing, all-counted}
+use Rattle.live_cells.proofs.LiveMarks.{passing-next}
 use Rattle.encode_cells.proofs.Placing.{at-none, at-again}
 use Rattle.encode_cells.proofs.Gathering.{wholeOf, leftFrom, gathering-begins, putFixed, orderedAt, ordered-put, ordered-sized, sized-long}
 

@@ -20,7 +20,7 @@ use Rattle.codec.specs.Ragged.{put, indexOf, putRagged, lengthAt, indexAt, data
 use Rattle.codec.specs.Values.{putValues}
 use Rattle.codec.proofs.Ragged.{length-put, length-index}
 use Rattle.codec.proofs.Values.{ragged-length}
-use Rattle.encode_cells.specs.Live.{liveAt}
+use Rattle.live_cells.specs.Live.{liveAt}
 use Rattle.encode_ragged.specs.Offsets.{Offsets}
 use Rattle.encode_ragged.proofs.Spans.{rises, ends-within, live-below, values-long}
 use Rattle.encode_cells.proofs.Placing.{at-behind}

@@ -13,9 +13,9 @@ use Rattle.array.specs.Offsets.{last}
 use Rattle.array.specs.Places.{offsetAt, valueAt, valuesAt}
 use Rattle.array.proofs.Laying.{laying-left, laying-is}
 use Rattle.array.proofs.Places.{run-rises, below, run-bytes, run-long}
-use Rattle.encode_cells.specs.Live.{runOf}
-use Rattle.encode_cells.proofs.Runs.{run-le, passing-end}
-use Rattle.encode_cells.proofs.LiveMarks.{zero-false, passing-next}
+use Rattle.live_cells.specs.Live.{runOf}
+use Rattle.live_cells.proofs.Runs.{run-le, passing-end}
+use Rattle.live_cells.proofs.LiveMarks.{zero-false, passing-next}
 use Rattle.encode_cells.proofs.Gathering.{Gathering, gathering-begins, gathering-same, gathering-ends, gathering-room, gathering-more}
 use Rattle.encode_ragged.specs.Offsets.{Offsets}
 use Rattle.encode_ragged.proofs.Spans.{rises, ends-within}

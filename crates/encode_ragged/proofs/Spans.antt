@@ -14,8 +14,8 @@ use Rattle.array.proofs.Geometry.{All-from}
 use Rattle.array.proofs.Lists.{from-suc, by-number}
 use Rattle.array.proofs.Offsets.{last-at}
 use Rattle.array.proofs.Places.{run-bytes, run-total, bytes-long, offsets-rise, first-zero}
-use Rattle.encode_cells.specs.Live.{liveAt}
-use Rattle.encode_cells.proofs.Runs.{All-passing, all-counted}
+use Rattle.live_cells.specs.Live.{liveAt}
+use Rattle.live_cells.proofs.Runs.{All-passing, all-counted}
 use Rattle.encode_ragged.specs.Offsets.{Offsets}
 
 module _ {n : ℕ} {os : List ℕ} (o : Offsets n os) where

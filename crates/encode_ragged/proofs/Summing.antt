@@ -15,7 +15,7 @@ use Rattle.array.specs.Places.{Rises, shownAt, bytesAt, offsetAt, stepAt, value
 use Rattle.array.proofs.Laying.{laying-begins, laying-ends, laying-is}
 use Rattle.array.proofs.Offsets.{last-at}
 use Rattle.array.proofs.Places.{run-rises}
-use Rattle.encode_cells.specs.Live.{liveAt}
+use Rattle.live_cells.specs.Live.{liveAt}
 use Rattle.encode_ragged.specs.Offsets.{Offsets}
 use Rattle.encode_cells.proofs.Packing.{none-left}
 use Rattle.encode_ragged.proofs.Spans.{rises, values-long}

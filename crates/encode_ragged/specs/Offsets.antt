@@ -1,4 +1,4 @@
--- Redundant by the law offsets-fit in encode/proofs/Forms.antt: what the writing of ragged values asks of their offsets (S1.8).
+-- Redundant by the law offsets-fit in encode_values/proofs/Forms.antt: what the writing of ragged values asks of their offsets (S1.8).
 -- Assumes nothing.
 use Prim.Native.Nat.{ℕ, suc}
 use mathlib.Core.Path.{_≡_}

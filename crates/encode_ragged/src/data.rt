@@ -1,6 +1,5 @@
 // The bytes of ragged values: how many, and copied end to end.
 use buffer::copy;
-use encode_cells::live;
 ghost use mathlib.Core.Path.{_≡_};
 ghost use Prim.Native.Nat.{_+_, _≤_};
 ghost use lib.ListN.{length};
@@ -8,7 +7,7 @@ ghost use Rattle.array.specs.Buffers.{overAt};
 ghost use Rattle.array.specs.Offsets.{last};
 ghost use Rattle.array.specs.Lists.{joined};
 ghost use Rattle.array.specs.Places.{bytesAt, offsetAt, valuesAt};
-ghost use Rattle.encode_cells.specs.Live.{liveAt, Planes};
+ghost use Rattle.live_cells.specs.Live.{liveAt, Planes};
 ghost use Rattle.encode_ragged.specs.Offsets.{Offsets};
 
 // Value bytes of the cells that the level counts: each length by its mark, so that nothing branches on a mask.
@@ -19,7 +18,7 @@ fn sum_live_bytes(offsets: &[u64], masks: &[u8], cells: usize, level: usize) -> 
     let mut total: usize = 0;
     let mut i: usize = 0;
     while i < cells {
-        let mark = live::live_mark(masks, cells, level, i) as u64;
+        let mark = live_cells::live_mark(masks, cells, level, i) as u64;
         let start = offsets[i];
         let end = offsets[i + 1];
         total += ((end - start) * mark) as usize;
@@ -62,10 +61,10 @@ fn put_live_runs(
     let mut i = 0;
     let mut done = 0;
     while i < cells {
-        if live::live_mark(masks, cells, level, i) == 0 {
+        if live_cells::live_mark(masks, cells, level, i) == 0 {
             i += 1;
         } else {
-            let run = live::live_run(masks, cells, level, i);
+            let run = live_cells::live_run(masks, cells, level, i);
             let start = offsets[i] as usize;
             let end = offsets[i + run] as usize;
             copy::copy_bytes(out, to + done, values, start, end - start);

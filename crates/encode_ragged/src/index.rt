@@ -2,7 +2,6 @@
 use array::kind;
 use array::kind::IndexWidth;
 use buffer::field;
-use encode_cells::live;
 ghost use mathlib.Core.Path.{_≡_};
 ghost use mathlib.Core.List.{_∷_};
 ghost use Prim.Native.Nat.{_+_, _≤_};
@@ -12,7 +11,7 @@ ghost use Rattle.array.specs.Bytes.{le};
 ghost use Rattle.array.specs.Meaning.{widthOf};
 ghost use Rattle.array.specs.Places.{endsAt, offsetAt};
 ghost use Rattle.codec.specs.Ragged.{indexOf};
-ghost use Rattle.encode_cells.specs.Live.{liveAt, Planes};
+ghost use Rattle.live_cells.specs.Live.{liveAt, Planes};
 ghost use Rattle.encode_ragged.specs.Offsets.{Offsets};
 
 fn put_offset(out: &mut [u8], at: usize, width: IndexWidth, v: u64)
@@ -46,7 +45,7 @@ fn put_marked_ends(
     let mut total: u64 = 0;
     let mut done = 0;
     while done < count {
-        let mark = live::live_mark(masks, cells, level, i) as u64;
+        let mark = live_cells::live_mark(masks, cells, level, i) as u64;
         let start = offsets[i];
         let end = offsets[i + 1];
         let bytes = (end - start) * mark;

@@ -20,7 +20,7 @@ ghost use Rattle.array.specs.Offsets.{last};
 ghost use Rattle.array.specs.Places.{offsetAt, valuesAt};
 ghost use Rattle.codec.specs.Ragged.{putRagged};
 ghost use Rattle.codec.specs.Values.{putValues};
-ghost use Rattle.encode_cells.specs.Live.{liveAt, Planes};
+ghost use Rattle.live_cells.specs.Live.{liveAt, Planes};
 ghost use Rattle.encode_ragged.specs.Offsets.{Offsets};
 
 // Ragged values of the `count` cells that the level counts, end to end from offset 0; says how many bytes it wrote.

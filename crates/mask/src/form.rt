@@ -3,9 +3,7 @@ use crate::strict;
 use array::kind::MaskForm;
 use array::refusal;
 use buffer::copy;
-use mask_bits::pack;
 use mask_bits::packed;
-use mask_bits::unpack;
 use mask_marks::count_set;
 ghost use mathlib.Core.Path.{_≡_};
 ghost use mathlib.Core.Bool.{true};
@@ -35,7 +33,7 @@ pub fn copy_to_plane(form: MaskForm, planes: &mut [u8], to: usize, s: &[u8], at:
 {
     match form {
         MaskForm::Bytes => copy::copy_many(planes, to, s, at, n),
-        MaskForm::Packed => unpack::unpack(planes, to, s, at, n),
+        MaskForm::Packed => mask_unpack::unpack(planes, to, s, at, n),
     }
 }
 
@@ -46,7 +44,7 @@ pub fn put_plane(form: MaskForm, out: &mut [u8], to: usize, planes: &[u8], at: u
 {
     match form {
         MaskForm::Bytes => copy::copy_many(out, to, planes, at, n),
-        MaskForm::Packed => pack::pack(out, to, planes, at, n),
+        MaskForm::Packed => mask_pack::pack(out, to, planes, at, n),
     }
 }
 

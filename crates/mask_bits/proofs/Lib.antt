@@ -1,3 +1,3 @@
 pub mod Ones
 pub mod Said
-pub mod Words
+pub mod Parts

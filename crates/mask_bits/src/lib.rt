@@ -1,5 +1,3 @@
-// Layer 2, packed masks: the bits of a stored mask counted, tested, packed and unpacked.
+// Layer 2, packed masks: the bits of a stored mask counted and tested.
 pub mod bits;
-pub mod pack;
 pub mod packed;
-pub mod unpack;

@@ -16,9 +16,9 @@ use Rattle.array.specs.Content.{RaggedContent, sizeTest, endToEnd}
 use Rattle.array.specs.Buffers.{RaggedLengths, raggedLengthsOf, raggedEnoughTest, ifRoom, raggedOutcome}
 use Rattle.array.proofs.Rules.{numbers-ok}
 use Rattle.codec.specs.Ragged.{getRagged}
-use Rattle.stored.specs.declared.vlen.Index.{Index}
-use Rattle.stored.specs.Index.{foundIn}
-use Rattle.stored.proofs.CheckedIndex.{found-refused}
+use Rattle.stored_index.specs.declared.Index.{Index}
+use Rattle.stored_index.specs.Index.{foundIn}
+use Rattle.stored_index.proofs.CheckedIndex.{found-refused}
 use Rattle.chunks.specs.Calls.{raggedCut, partialAnswer, partiallyDecoded}
 use Rattle.cut_ragged.specs.Source.{putRagged}
 use Rattle.cut_ragged.proofs.Outcomes.{refused}

@@ -24,9 +24,9 @@ use Rattle.array.proofs.Lists.{length-pieces, take-within}
 use Rattle.array.proofs.Offsets.{last-at}
 use Rattle.array.proofs.SubsetLaws.{cellsIn-below}
 use Rattle.codec.specs.Ragged.{getRagged}
-use Rattle.stored.specs.declared.vlen.Index.{Index}
-use Rattle.stored.specs.Index.{offsetsIn, foundIn, raggedAt, endsIn, IndexWithin}
-use Rattle.stored.proofs.CheckedIndex.{IndexFound, index-found}
+use Rattle.stored_index.specs.declared.Index.{Index}
+use Rattle.stored_index.specs.Index.{offsetsIn, foundIn, raggedAt, endsIn, IndexWithin}
+use Rattle.stored_index.proofs.CheckedIndex.{IndexFound, index-found}
 use Rattle.chunks.specs.Calls.{raggedCut}
 use Rattle.array.proofs.Places.{run-below, begins-rise}
 use Rattle.chunks.proofs.CutPlaces.{cut-is}

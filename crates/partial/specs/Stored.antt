@@ -8,7 +8,7 @@ use Rattle.array.specs.Answer.{Answer, unless}
 use Rattle.array.specs.Cells.{Value}
 use Rattle.array.specs.Content.{RaggedContent, endToEnd, sizeTest}
 use Rattle.array.specs.Buffers.{RaggedLengths, raggedEnoughTest, ifRoom}
-use Rattle.stored.specs.declared.vlen.Index.{Index}
+use Rattle.stored_index.specs.declared.Index.{Index}
 use Rattle.cut_ragged.specs.declared.Source.{Source}
 use Rattle.cut_ragged.specs.declared.Source.the-variants.{Four, Eight}
 use Rattle.cut_ragged.specs.Source.{sourceValues, SourceAsked}

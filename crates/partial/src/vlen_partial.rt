@@ -5,9 +5,8 @@ use array::kind::IndexPlace;
 use array::kind::IndexWidth;
 use array::refusal;
 use cut_ragged::Source;
-use stored::vlen;
-use stored::vlen::Index;
-use stored::vlen::Indexed;
+use stored_index::Index;
+use stored_index::Indexed;
 use valid::shape::Cells;
 ghost use mathlib.Core.Path.{_≡_};
 ghost use lib.ListN.{length, drop};
@@ -52,7 +51,7 @@ fn cut_stored(
     let base = found.from;
     let source = source_of(width);
     let count = subset::volume_of(&subset[shape.len()..]) as usize;
-    if vlen::too_large(last) {
+    if stored_index::too_large(last) {
         return WrittenRagged::Refused(refusal::SIZE);
     }
     // No offset is a number by itself: all are read where they are stored.
@@ -89,7 +88,7 @@ pub fn partial_decode(
     if !subset::subset_fits(shape, subset) {
         return WrittenRagged::Refused(refusal::SUBSET);
     }
-    let found = vlen::find_index(bytes, 0, cells, width, place);
+    let found = stored_index::find_index(bytes, 0, cells, width, place);
     match found {
         Indexed::Refused(e) => WrittenRagged::Refused(e),
         Indexed::Found(index) => { cut_stored(bytes, index, width, shape, subset, values, offsets) }

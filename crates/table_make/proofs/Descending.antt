@@ -17,7 +17,7 @@ use Rattle.array.proofs.Lists.{map-from, entry}
 use Rattle.array.proofs.Numbered.{plane-is}
 use Rattle.array.proofs.Over.{over-again, over-at-length}
 use Rattle.array.proofs.Laying.{Laying, laying-begins, laying-same, laying-part, laying-ends, laying-is}
-use Rattle.encode_cells.specs.Live.{Planes}
+use Rattle.live_cells.specs.Live.{Planes}
 use Rattle.table_make.specs.Rested.{restMask, restPlanes, keptAt}
 use Rattle.table_make.proofs.Numbering.{length-numbered, laid-at}
 

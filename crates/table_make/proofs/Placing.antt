@@ -7,7 +7,7 @@ use native.Mathlib.Nat.{zero-add}
 use native.Mathlib.Omega.{arith}
 use lib.ListN.{length, getD, set}
 use Rattle.array.specs.Places.{shownAt, offsetAt}
-use Rattle.encode_cells.specs.Live.{liveOne}
+use Rattle.live_cells.specs.Live.{liveOne}
 use Rattle.encode_ragged.specs.Offsets.{Offsets}
 use Rattle.encode_ragged.proofs.Summing.{soFar, so-far-all, Summing, summing-begins, summing-step, summing-more}
 use Rattle.table.specs.Calls.{startsAt}

@@ -12,7 +12,7 @@ use Rattle.array.specs.Cells.{setTest}
 use Rattle.array.specs.Content.{Content}
 use Rattle.array.specs.Buffers.{ifRoom}
 use Rattle.array.specs.Places.{offsetAt, stepAt, bytesAt, valuesAt, maskAt, planesBy, shownAt}
-use Rattle.encode_cells.specs.Live.{liveAt}
+use Rattle.live_cells.specs.Live.{liveAt}
 use Rattle.table.specs.Table.{Table}
 use Rattle.table.specs.Calls.{startsAt, TableLengths, tableLengths, tableEnoughTest, tableAfter}
 

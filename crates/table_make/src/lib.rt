@@ -5,7 +5,6 @@ use crate::put::put_masks;
 use crate::put::put_places;
 use array::kind::Kind;
 use array::refusal;
-use encode_cells::live;
 use encode_ragged::data;
 use table::answer::WrittenTable;
 use table_kind::count_ok;
@@ -19,7 +18,7 @@ ghost use lib.ListN.{length};
 ghost use Rattle.array.specs.Meaning.{kindOf};
 ghost use Rattle.array.specs.Offsets.{last};
 ghost use Rattle.array.specs.Outcome.{contentArray};
-ghost use Rattle.encode_cells.specs.Live.{liveAt, Planes};
+ghost use Rattle.live_cells.specs.Live.{liveAt, Planes};
 ghost use Rattle.encode_ragged.specs.Offsets.{Offsets};
 ghost use Rattle.table.specs.Calls.{made};
 ghost use Rattle.table.specs.Meaning.{tableBy, outcomeTable};
@@ -72,7 +71,7 @@ fn make_valid(
     if out_lengths.len() < cells {
         return WrittenTable::Refused(refusal::OUTPUT);
     }
-    let count = live::count_live(masks, cells, depth);
+    let count = live_cells::count_live(masks, cells, depth);
     if !has_room(depth, cells, masks, values, offsets, count, store.len()) {
         return WrittenTable::Refused(refusal::OUTPUT);
     }

@@ -2,7 +2,6 @@
 use array::mark::Mark;
 use array::mark::mark_of;
 use buffer::copy;
-use encode_cells::live;
 ghost use mathlib.Core.Path.{_≡_};
 ghost use mathlib.Core.List.{map};
 ghost use Prim.Native.Nat.{_+_, _*_, _≤_, suc};
@@ -11,7 +10,7 @@ ghost use Rattle.array.specs.Buffers.{over, overAt};
 ghost use Rattle.array.specs.Cells.{setTest};
 ghost use Rattle.array.specs.Lists.{from, pick};
 ghost use Rattle.array.specs.Places.{planesBy};
-ghost use Rattle.encode_cells.specs.Live.{Planes};
+ghost use Rattle.live_cells.specs.Live.{Planes};
 ghost use Rattle.encode_ragged.specs.Offsets.{Offsets};
 ghost use Rattle.table.specs.Calls.{startsAt};
 ghost use Rattle.table_make.specs.Rested.{restMask, keptAt, restPlanes, restStarts, restLengths};
@@ -90,7 +89,7 @@ pub fn put_places(
     let mut to: u64 = 0;
     let mut j: usize = 0;
     while j < cells {
-        let mark = live::live_mark(masks, cells, depth, j) as u64;
+        let mark = live_cells::live_mark(masks, cells, depth, j) as u64;
         let begin = offsets[j];
         let end = offsets[j + 1];
         let size = (end - begin) * mark;

@@ -11,7 +11,7 @@ use Rattle.buffer.proofs.copy.fill_bytes.Reads as fill-bytes-reads
 use Rattle.codec.specs.Mask.{maskForm}
 use Rattle.mask.proofs.form.count_stored.Reads as count-stored-reads
 use Rattle.mask.proofs.form.mask_length.Reads as mask-length-reads
-use Rattle.stored.specs.Stored.{MaskPassed}
+use Rattle.stored_frames.specs.Stored.{MaskPassed}
 use Rattle.decode_planes.proofs.Levels.{levels-none, levels-null, levels-mask, levels-fits, levels-plane, levels-last, levels-next, levels-done}
 use Rattle.decode_planes.proofs.place_levels.Reads as place-levels
 use Rattle.decode_planes.proofs.place_levels.Kinds as place-levels-kinds

@@ -1,6 +1,6 @@
 -- `encode::encode_valid` meets its contract: the written length is known before the first store.
 -- Assumes nothing.
-use Rattle.encode.proofs.Forms.{encodable-measured}
+use Rattle.encode_values.proofs.Forms.{encodable-measured}
 use Rattle.encode.proofs.Encodes.{encode-room, encode-short, encode-written}
 use borrow.Author.Needs.{needs}
 use Rattle.encode.proofs.encode_valid.Statement.{statement}

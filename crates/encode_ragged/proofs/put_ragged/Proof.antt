@@ -9,8 +9,8 @@ use Rattle.array.specs.Limits.{mostCells}
 use Rattle.array.specs.Meaning.{widthOf, placeOf}
 use Rattle.array.specs.Lists.{joined}
 use Rattle.array.specs.Places.{bytesAt, offsetAt, valuesAt}
-use Rattle.encode_cells.specs.Live.{liveAt}
-use Rattle.encode_cells.proofs.Runs.{live-le}
+use Rattle.live_cells.specs.Live.{liveAt}
+use Rattle.live_cells.proofs.Runs.{live-le}
 use Rattle.encode_ragged.proofs.Spans.{values-long}
 use Rattle.encode_ragged.proofs.Placed.{data-room, index-room, length-room}
 use Rattle.encode_ragged.proofs.Parts.{index-long, ragged-long, ragged-put}

@@ -5,7 +5,7 @@ use native.Mathlib.Omega.{arith}
 use borrow.Author.Needs.{needs}
 use Rattle.array.specs.Meaning.{orderOf, masksOf}
 use Rattle.codec.specs.Mask.{maskForm}
-use Rattle.stored.specs.Walk.{walked, toldWalk}
+use Rattle.stored_frames.specs.Walk.{walked, toldWalk}
 use Rattle.decode.specs.declared.fixed.Found.{Found}
 use Rattle.decode.specs.Reads.{FixedFound}
 use Rattle.decode.proofs.FixedLaws.{none-within, fixed-refused, fixed-none}

@@ -9,11 +9,11 @@ use borrow.Author.Needs.{needs}
 use Rattle.array.specs.Answer.{gives}
 use Rattle.array.specs.Meaning.{widthOf, placeOf, masksOf}
 use Rattle.codec.specs.Mask.{maskForm}
-use Rattle.stored.specs.Walk.{walked, toldWalk}
-use Rattle.stored.specs.Index.{checkedIn, toldIndex}
-use Rattle.stored.proofs.Walks.{WalkPassed, walk-passed}
-use Rattle.stored.proofs.IndexLaws.{width-most}
-use Rattle.stored.proofs.CheckedIndex.{IndexChecked, index-checked, checked-refused}
+use Rattle.stored_frames.specs.Walk.{walked, toldWalk}
+use Rattle.stored_index.specs.Index.{checkedIn, toldIndex}
+use Rattle.stored_frames.proofs.Walks.{WalkPassed, walk-passed}
+use Rattle.stored_index.proofs.IndexLaws.{width-most}
+use Rattle.stored_index.proofs.CheckedIndex.{IndexChecked, index-checked, checked-refused}
 use Rattle.decode.proofs.RaggedLaws.{none-within, some-within, ragged-refused, ragged-none-set, ragged-wrong, ragged-given}
 use Rattle.decode.proofs.ragged.decode_ragged.Statement.{statement}
 use Rattle.decode.proofs.ragged.decode_ragged.Tie as tie

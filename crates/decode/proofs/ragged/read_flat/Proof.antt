@@ -7,8 +7,8 @@ use borrow.Author.Needs.{needs}
 use Rattle.array.specs.Limits.{mostCells}
 use Rattle.array.specs.Meaning.{widthOf, placeOf}
 use Rattle.codec.specs.Mask.{maskForm}
-use Rattle.stored.specs.Index.{checkedIn, toldIndex}
-use Rattle.stored.proofs.CheckedIndex.{IndexChecked, index-checked, checked-refused}
+use Rattle.stored_index.specs.Index.{checkedIn, toldIndex}
+use Rattle.stored_index.proofs.CheckedIndex.{IndexChecked, index-checked, checked-refused}
 use Rattle.decode.proofs.RaggedLaws.{flat-is}
 use Rattle.decode.proofs.ragged.read_flat.Statement.{statement}
 use Rattle.decode.proofs.ragged.read_flat.Tie as tie

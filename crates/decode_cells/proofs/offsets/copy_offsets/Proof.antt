@@ -7,7 +7,7 @@ use lib.ListN.{length, take, drop}
 use borrow.Author.Needs.{needs}
 use Rattle.array.specs.Bytes.{unle}
 use Rattle.array.specs.Buffers.{over}
-use Rattle.stored.specs.Index.{offsetsIn}
+use Rattle.stored_index.specs.Index.{offsetsIn}
 use Rattle.decode_cells.proofs.CopyingOffsets.{CopyingOffsets, offsets-begin, offsets-same, offsets-end, offsets-source, offsets-room, offsets-more}
 use Rattle.decode_cells.proofs.offsets.copy_offsets.Statement.{statement}
 use Rattle.decode_cells.proofs.offsets.copy_offsets.Tie as tie

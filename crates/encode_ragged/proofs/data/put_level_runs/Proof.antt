@@ -9,7 +9,7 @@ use Rattle.array.specs.Buffers.{overAt}
 use Rattle.array.specs.Offsets.{last}
 use Rattle.array.specs.Lists.{joined}
 use Rattle.array.specs.Places.{offsetAt, valuesAt}
-use Rattle.encode_cells.specs.Live.{liveAt, Planes}
+use Rattle.live_cells.specs.Live.{liveAt, Planes}
 use Rattle.encode_ragged.specs.Offsets.{Offsets}
 use Rattle.encode_ragged.proofs.data.put_level_runs.Statement.{statement}
 use Rattle.encode_ragged.proofs.data.put_level_runs.Tie as tie

@@ -7,7 +7,7 @@ use lib.Seq.{take-all}
 use borrow.Author.Needs.{needs}
 use Rattle.array.specs.Lists.{joined}
 use Rattle.array.specs.Places.{offsetAt, valuesAt}
-use Rattle.encode_cells.specs.Live.{liveAt}
+use Rattle.live_cells.specs.Live.{liveAt}
 use Rattle.encode_cells.proofs.Placing.{laid-as}
 use Rattle.encode_ragged.proofs.Spans.{all-values}
 use Rattle.encode_ragged.proofs.Summing.{none-written}

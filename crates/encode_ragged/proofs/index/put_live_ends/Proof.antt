@@ -9,7 +9,7 @@ use Rattle.array.specs.Buffers.{overAt}
 use Rattle.array.specs.Meaning.{widthOf}
 use Rattle.array.specs.Places.{endsAt, offsetAt}
 use Rattle.codec.specs.Ragged.{indexOf}
-use Rattle.encode_cells.specs.Live.{liveAt, Planes}
+use Rattle.live_cells.specs.Live.{liveAt, Planes}
 use Rattle.encode_ragged.specs.Offsets.{Offsets}
 use Rattle.encode_ragged.proofs.index.put_live_ends.Statement.{statement}
 use Rattle.encode_ragged.proofs.index.put_live_ends.Tie as tie

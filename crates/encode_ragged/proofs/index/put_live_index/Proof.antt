@@ -9,7 +9,7 @@ use borrow.Author.Needs.{needs}
 use Rattle.array.specs.Meaning.{widthOf}
 use Rattle.array.specs.Places.{endsAt, offsetAt}
 use Rattle.codec.specs.Ragged.{indexOf}
-use Rattle.encode_cells.specs.Live.{liveAt}
+use Rattle.live_cells.specs.Live.{liveAt}
 use Rattle.encode_cells.proofs.Placing.{laid-as}
 use Rattle.encode_ragged.proofs.Spans.{all-ends}
 use Rattle.encode_ragged.proofs.Parts.{index-head, index-laid}

@@ -8,8 +8,8 @@ use borrow.Author.Needs.{needs}
 use Rattle.array.specs.Limits.{mostCells}
 use Rattle.array.specs.Meaning.{widthOf}
 use Rattle.array.specs.Places.{shownAt}
-use Rattle.encode_cells.specs.Live.{liveAt}
-use Rattle.encode_cells.proofs.LiveMarks.{mark-le}
+use Rattle.live_cells.specs.Live.{liveAt}
+use Rattle.live_cells.proofs.LiveMarks.{mark-le}
 use Rattle.encode_ragged.proofs.Summing.{summing-inside, summing-rises, summing-fits}
 use Rattle.encode_ragged.proofs.Indexing.{Indexing, indexing-begins, indexing-same, indexing-ends, indexing-inside, indexing-room, indexing-more}
 use Rattle.encode_ragged.proofs.index.put_marked_ends.Statement.{statement}

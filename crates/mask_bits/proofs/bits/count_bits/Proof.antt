@@ -1,4 +1,4 @@
--- `mask::bits::count_bits` meets its contract: the bytes of whole words and those after them (Ones).
+-- `mask_bits::bits::count_bits` meets its contract: the bytes of whole words and those after them (Ones).
 -- Assumes nothing.
 use mathlib.Core.Path.{_≡_}
 use Prim.Native.Nat.{_+_, _-_, _*_, _/_}

@@ -1,4 +1,4 @@
--- `mask::bits::count_bytes` meets its contract. The invariant: what is counted and the set bits of what is left make those of all bytes.
+-- `mask_bits::bits::count_bytes` meets its contract. The invariant: what is counted and the set bits of what is left make those of all bytes.
 -- Assumes nothing.
 use mathlib.Core.Path.{_≡_, ap}
 use Prim.Native.Nat.{ℕ, _+_, _-_, _≤_}
@@ -8,7 +8,7 @@ use lib.Count.{ones}
 use Rattle.codec.specs.Frame.{setBits}
 use Rattle.mask_bits.specs.Bits.{bitsIn}
 use Rattle.mask_bits.proofs.Ones.{ones-byte}
-use Rattle.mask_bits.proofs.Words.{part-next, part-end}
+use Rattle.mask_bits.proofs.Parts.{part-next, part-end}
 use Rattle.mask_bits.proofs.bits.count_bytes.Statement.{statement}
 use Rattle.mask_bits.proofs.bits.count_bytes.Tie as tie
 

@@ -1,4 +1,4 @@
--- `mask::bits::count_words` meets its contract. The invariant: what is counted and the set bits of what is left make those of all bytes.
+-- `mask_bits::bits::count_words` meets its contract. The invariant: what is counted and the set bits of what is left make those of all bytes.
 -- Assumes nothing.
 use mathlib.Core.Path.{_≡_, sym, ap, ap₂, _∙_}
 use Prim.Native.Nat.{ℕ, _+_, _-_, _*_, _≤_}
@@ -7,7 +7,7 @@ use lib.ListN.{take, drop}
 use lib.Count.{ones}
 use Rattle.mask_bits.specs.Bits.{bitsIn}
 use Rattle.mask_bits.proofs.Ones.{word-next}
-use Rattle.mask_bits.proofs.Words.{part-end}
+use Rattle.mask_bits.proofs.Parts.{part-end}
 use Rattle.mask_bits.proofs.bits.count_words.Statement.{statement}
 use Rattle.mask_bits.proofs.bits.count_words.Tie as tie
 

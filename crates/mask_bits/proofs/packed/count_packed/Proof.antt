@@ -1,4 +1,4 @@
--- `mask::packed::count_packed` meets its contract: the set bits of a mask that passes its test are its set cells (Said).
+-- `mask_bits::packed::count_packed` meets its contract: the set bits of a mask that passes its test are its set cells (Said).
 -- Assumes nothing.
 use mathlib.Core.Path.{_≡_, ap, _∙_}
 use Prim.Native.Nat.{ℕ}

@@ -1,4 +1,4 @@
--- `mask::packed::unused_clear` meets its contract: only the last byte can have unused bits (Said).
+-- `mask_bits::packed::unused_clear` meets its contract: only the last byte can have unused bits (Said).
 -- Assumes nothing.
 use borrow.Author.Needs.{needs}
 use Rattle.mask_bits.proofs.Said.{no-unused, unused-last}

@@ -18,8 +18,8 @@ use Rattle.array.specs.Meaning.{widthOf, placeOf}
 use Rattle.array.specs.Outcome.{contentRagged}
 use Rattle.array.proofs.Rules.{numbers-ok}
 use Rattle.valid.proofs.ShapeLaws.{Counted, counted, not-counted}
-use Rattle.stored.specs.declared.vlen.Index.{Index}
-use Rattle.stored.specs.Index.{foundIn, toldIndex}
+use Rattle.stored_index.specs.declared.Index.{Index}
+use Rattle.stored_index.specs.Index.{foundIn, toldIndex}
 use Rattle.partial.proofs.Stored.{Read, read-found}
 use Rattle.partial.proofs.Outcomes.{no-shape, no-subset, not-read, cut-read}
 use Rattle.partial.proofs.vlen_partial.partial_decode.Statement.{statement}
