@@ -28,9 +28,9 @@ use Rattle.stored.specs.Walk.{walked}
 use Rattle.stored.specs.Stored.{cellsFrom, innermostBy, answerBy, innermostCount}
 use Rattle.stored.proofs.Reading.{read-walked}
 use Rattle.stored.proofs.Walks.{WalkPassed, walk-passed, passed-count}
-use Rattle.decode_cells.specs.Values.{valuesOver, ValuesWithin}
-use Rattle.decode_cells.proofs.ValueRuns.{cellsLeft, valuesLeft}
-use Rattle.decode_cells.proofs.SpreadingValues.{cells-length, values-length}
+use Rattle.decode_words.specs.Values.{valuesOver, ValuesWithin}
+use Rattle.decode_words.proofs.ValueRuns.{cellsLeft, valuesLeft}
+use Rattle.decode_words.proofs.SpreadingValues.{cells-length, values-length}
 use Rattle.decode_planes.specs.Within.{planesIn, innermostIn}
 use Rattle.decode_planes.proofs.Levels.{times-first}
 use Rattle.decode_planes.proofs.AllPlanes.{masks-are, leaves-are, leaves-flat, count-are, planes-long, innermost-read, innermost-long}

@@ -30,8 +30,8 @@ use Rattle.stored.specs.Index.{endsIn}
 use Rattle.stored.proofs.Reading.{innermost-some, read-walked}
 use Rattle.stored.proofs.Walks.{WalkPassed, passed-count}
 use Rattle.stored.proofs.CheckedIndex.{IndexChecked}
-use Rattle.decode_cells.specs.Ends.{endsBy}
-use Rattle.decode_cells.proofs.CopyingOffsets.{length-offsets}
+use Rattle.decode_offsets.specs.Ends.{endsBy}
+use Rattle.decode_offsets.proofs.CopyingOffsets.{length-offsets}
 use Rattle.decode_planes.specs.Within.{planesIn, innermostIn}
 use Rattle.decode_planes.proofs.Levels.{within-now}
 use Rattle.decode_planes.proofs.AllPlanes.{masks-are, leaves-are, count-are, planes-long, innermost-long}

@@ -17,8 +17,8 @@ use Rattle.codec.specs.Mask.{maskForm}
 use Rattle.codec.specs.Frame.{countSet}
 use Rattle.stored.specs.declared.vlen.Index.{Index}
 use Rattle.stored.specs.Index.{offsetsIn, raggedAt, IndexWithin}
-use Rattle.decode_cells.specs.Ends.{endsBy, EndsStored}
-use Rattle.decode_cells.proofs.CopyingOffsets.{length-offsets}
+use Rattle.decode_offsets.specs.Ends.{endsBy, EndsStored}
+use Rattle.decode_offsets.proofs.CopyingOffsets.{length-offsets}
 use Rattle.decode_planes.specs.Within.{planesIn, innermostIn}
 use Rattle.decode_planes.proofs.AllPlanes.{innermost-read}
 use Rattle.decode.specs.Reads.{RaggedWithin}
