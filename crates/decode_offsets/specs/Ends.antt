@@ -1,4 +1,4 @@
--- Redundant by the law ends-by in decode/proofs/RaggedLaws.antt: where the cells of a plane end (S4.8, S4.9).
+-- Redundant by the law ends-by in decode_ragged/proofs/RaggedLaws.antt: where the cells of a plane end (S4.8, S4.9).
 -- Assumes nothing.
 use Prim.Native.Nat.{ℕ, _+_, _*_, _≤_}
 use mathlib.Core.Path.{_≡_}

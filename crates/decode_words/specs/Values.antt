@@ -1,4 +1,4 @@
--- Redundant by the laws deep-written and values-within in decode/proofs/FixedLaws.antt: fixed values below a plane (S4.8).
+-- Redundant by the laws deep-written and values-within in decode_fixed/proofs/FixedLaws.antt: fixed values below a plane (S4.8).
 -- Assumes nothing.
 use Prim.Native.Nat.{ℕ, _+_, _*_, _≤_}
 use mathlib.Core.Path.{_≡_}
