@@ -17,7 +17,7 @@ use Rattle.chunks.specs.Chunks.{chunkCells, firstChunk, laterChunks}
 use Rattle.merge_stores.specs.Store.{cellsTotal}
 use Rattle.merge_stores.proofs.FirstChunk.{Chunked, first-of}
 use Rattle.merge_stores.proofs.RaggedTies.{take-long}
-use Rattle.merge.specs.Chunks.{chunksTest}
+use Rattle.merge_rules.specs.Chunks.{chunksTest}
 
 -- the check tells whether the list has cells; its refusal is theirs
 cells-by-test : (k : Kind) (bs : List Subset) (c : Content) → (cs : List (Cell (k .depth))) × (chunkCells k bs c ≡ unless (chunksTest k bs c) 4 (gives cs))

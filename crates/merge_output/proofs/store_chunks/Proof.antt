@@ -11,9 +11,9 @@ use Rattle.array.specs.Meaning.{formOf, orderOf, widthOf, placeOf}
 use Rattle.array.specs.Content.{Content}
 use Rattle.array.specs.Outcome.{contentArray}
 use Rattle.valid.proofs.CheckLaws.{small-product}
-use Rattle.merge.proofs.Closed.{no-masks, no-values, no-offsets, masks-asked, parts-asked, ragged-merge-asked, fixed-stored, ragged-stored}
-use Rattle.merge.proofs.store_chunks.Statement.{statement}
-use Rattle.merge.proofs.store_chunks.Tie as tie
+use Rattle.merge_output.proofs.Closed.{no-masks, no-values, no-offsets, masks-asked, parts-asked, ragged-merge-asked, fixed-stored, ragged-stored}
+use Rattle.merge_output.proofs.store_chunks.Statement.{statement}
+use Rattle.merge_output.proofs.store_chunks.Tie as tie
 
 -- where the function starts, and what was lent
 abbrev start : tie.After-struct-known → tie.Start

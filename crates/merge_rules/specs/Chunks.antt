@@ -1,4 +1,4 @@
--- Redundant by the laws found and refused in merge/proofs/Totals.antt: the checking walk over a chunk list (S3.6, refusal 4).
+-- Redundant by the laws found and refused in merge_output/proofs/Totals.antt: the checking walk over a chunk list (S3.6, refusal 4).
 -- What it answers of one chunk, and of all.
 -- Assumes nothing.
 use Prim.Native.Nat.{ℕ}
@@ -12,7 +12,7 @@ use Rattle.array.specs.Shape.{volume}
 use Rattle.array.specs.Subset.{Subset, lengths}
 use Rattle.array.specs.Content.{Content, arrayTest}
 use Rattle.chunks.specs.Chunks.{offsetCount, valueCount, firstChunk, laterChunks, nothingTest}
-use Rattle.merge.specs.declared.rules.Chunk.{Chunk}
+use Rattle.merge_rules.specs.declared.Chunk.{Chunk}
 
 -- the value bytes of a chunk of m cells, where the offsets os are left
 abbrev pub chunkTaken : Form → ℕ → List ℕ → ℕ

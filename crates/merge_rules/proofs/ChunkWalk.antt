@@ -19,8 +19,8 @@ use Rattle.subset.specs.Subsets.{SubsetsOk, SubsetAt}
 use Rattle.subset.proofs.Rows.{asked-volume}
 use Rattle.subset.proofs.Subsets.{none-left}
 use Rattle.chunks.specs.Chunks.{firstChunk, laterChunks}
-use Rattle.merge.specs.Chunks.{takes, chunkAnswer, chunksTest}
-use Rattle.merge.proofs.OneChunk.{Fitting, chunk-fits, chunk-bad}
+use Rattle.merge_rules.specs.Chunks.{takes, chunkAnswer, chunksTest}
+use Rattle.merge_rules.proofs.OneChunk.{Fitting, chunk-fits, chunk-bad}
 
 -- what is left after so many masks, values and offsets, and as a call is lent it
 abbrev pub left : Content → ℕ → ℕ → ℕ → Content

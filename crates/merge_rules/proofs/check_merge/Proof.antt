@@ -14,10 +14,10 @@ use Rattle.array.specs.Kind.{Kind, kindTest}
 use Rattle.array.specs.Subset.{subsetsOf, manyTest}
 use Rattle.valid.specs.ShapeCells.{toldCells}
 use Rattle.valid.proofs.ShapeLaws.{Counted, counted, not-counted}
-use Rattle.merge.specs.Chunks.{chunksTest}
-use Rattle.merge.proofs.Passing.{tested-subsets, no-kind, no-shape, no-subsets, bad-chunks, too-many, passes}
-use Rattle.merge.proofs.rules.check_merge.Statement.{statement}
-use Rattle.merge.proofs.rules.check_merge.Tie as tie
+use Rattle.merge_rules.specs.Chunks.{chunksTest}
+use Rattle.merge_rules.proofs.Passing.{tested-subsets, no-kind, no-shape, no-subsets, bad-chunks, too-many, passes}
+use Rattle.merge_rules.proofs.check_merge.Statement.{statement}
+use Rattle.merge_rules.proofs.check_merge.Tie as tie
 
 -- where the function starts, and what was handed over
 abbrev entered : tie.After-check-kind → tie.Start

@@ -17,7 +17,7 @@ use Rattle.array.proofs.Answers.{passed, same-given}
 use Rattle.array.proofs.Rules.{array-ok}
 use Rattle.chunks.specs.Chunks.{offsetCount, firstChunk}
 use Rattle.merge_stores.proofs.RaggedTies.{last-take, take-long}
-use Rattle.merge.specs.Chunks.{chunkTaken, takes, chunkTakes, sizeAnswer, chunkAnswer}
+use Rattle.merge_rules.specs.Chunks.{chunkTaken, takes, chunkTakes, sizeAnswer, chunkAnswer}
 
 -- ---- what a chunk takes, by its offsets
 

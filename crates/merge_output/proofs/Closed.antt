@@ -24,10 +24,10 @@ use Rattle.merge_stores.specs.Ragged.{offsetsMerged, RaggedMergeAsked}
 use Rattle.merge_stores.proofs.Closing.{masks-close, fixed-close, offsets-close, values-close}
 use Rattle.merge_stores.proofs.FirstChunk.{Chunked}
 use Rattle.merge_stores.proofs.RaggedAsks.{ragged-asked}
-use Rattle.merge.specs.Merge.{storeAnswer, MergeAsked}
-use Rattle.merge.proofs.Totals.{found, masks-total, values-total}
-use Rattle.merge.proofs.Lengths.{merged-masks, merged-bytes, fixed-bytes, ragged-offsets}
-use Rattle.merge.proofs.Written.{short-masks, short-values, short-offsets, written}
+use Rattle.merge_output.specs.Stores.{storeAnswer, MergeAsked}
+use Rattle.merge_output.proofs.Totals.{found, masks-total, values-total}
+use Rattle.merge_output.proofs.Lengths.{merged-masks, merged-bytes, fixed-bytes, ragged-offsets}
+use Rattle.merge_output.proofs.Written.{short-masks, short-values, short-offsets, written}
 
 -- a result with what lies beyond it is that result over the output
 over-is : {s t : List ℕ} (old : List ℕ) {n : ℕ} → s ≡ t → length s ≡ n → t ++ drop n old ≡ over s old

@@ -8,10 +8,10 @@ use borrow.Author.Needs.{needs}
 use Rattle.array.specs.Meaning.{formOf, orderOf, widthOf, placeOf}
 use Rattle.array.specs.declared.kind.Values.{Values}
 use Rattle.valid.proofs.CheckLaws.{small-product}
-use Rattle.merge.specs.Chunks.{sizeAnswer}
-use Rattle.merge.proofs.OneChunk.{size-fixed, size-bad, size-ragged}
-use Rattle.merge.proofs.rules.chunk_size.Statement.{statement}
-use Rattle.merge.proofs.rules.chunk_size.Tie as tie
+use Rattle.merge_rules.specs.Chunks.{sizeAnswer}
+use Rattle.merge_rules.proofs.OneChunk.{size-fixed, size-bad, size-ragged}
+use Rattle.merge_rules.proofs.chunk_size.Statement.{statement}
+use Rattle.merge_rules.proofs.chunk_size.Tie as tie
 
 -- what the form's cases say of the answer
 abbrev by : {x y : Values} (m : ℕ) (os : List ℕ) → x ≡ y → sizeAnswer (formOf y) m os ≡ sizeAnswer (formOf x) m os

@@ -11,10 +11,10 @@ use Rattle.array.specs.Meaning.{kindOf}
 use Rattle.array.specs.Outcome.{contentArray}
 use Rattle.valid.proofs.CheckLaws.{small-product}
 use Rattle.subset.proofs.Rows.{asked-few}
-use Rattle.merge.specs.Chunks.{takes, chunkAnswer, toldChunk}
-use Rattle.merge.proofs.ChunkWalk.{lent, Walked, walked-begins, masks-left, values-left, by-offsets, walked-bad, walked-more}
-use Rattle.merge.proofs.rules.check_chunks.Statement.{statement}
-use Rattle.merge.proofs.rules.check_chunks.Tie as tie
+use Rattle.merge_rules.specs.Chunks.{takes, chunkAnswer, toldChunk}
+use Rattle.merge_rules.proofs.ChunkWalk.{lent, Walked, walked-begins, masks-left, values-left, by-offsets, walked-bad, walked-more}
+use Rattle.merge_rules.proofs.check_chunks.Statement.{statement}
+use Rattle.merge_rules.proofs.check_chunks.Tie as tie
 
 abbrev Inv-loop : tie.InvT-loop
 Inv-loop kind shape subsets masks values offsets depth at₀ p₀ v₀ o₀ at p v o =

@@ -10,10 +10,10 @@ use Rattle.array.specs.Kind.{Kind}
 use Rattle.array.specs.Meaning.{kindOf}
 use Rattle.array.specs.Outcome.{contentArray}
 use Rattle.valid.proofs.CheckLaws.{small-product}
-use Rattle.merge.specs.Chunks.{toldChunk}
-use Rattle.merge.proofs.OneChunk.{Sized, size-known, size-lacking, chunk-lacks, chunk-breaks, chunk-keeps}
-use Rattle.merge.proofs.rules.check_chunk.Statement.{statement}
-use Rattle.merge.proofs.rules.check_chunk.Tie as tie
+use Rattle.merge_rules.specs.Chunks.{toldChunk}
+use Rattle.merge_rules.proofs.OneChunk.{Sized, size-known, size-lacking, chunk-lacks, chunk-breaks, chunk-keeps}
+use Rattle.merge_rules.proofs.check_chunk.Statement.{statement}
+use Rattle.merge_rules.proofs.check_chunk.Tie as tie
 
 -- where the function starts, and what is left
 abbrev start : tie.After-struct-known → tie.Start

@@ -12,8 +12,8 @@ ghost use Rattle.array.specs.Meaning.{formOf, kindOf};
 ghost use Rattle.array.specs.Outcome.{contentArray};
 ghost use Rattle.array.specs.Subset.{subsetsOf};
 ghost use Rattle.subset.specs.Subsets.{SubsetsOk};
-ghost use Rattle.merge.specs.Chunks.{sizeAnswer, chunkAnswer, chunksTest, toldChunk};
-ghost use Rattle.merge.specs.Merge.{checkAnswer, toldChecks};
+ghost use Rattle.merge_rules.specs.Chunks.{sizeAnswer, chunkAnswer, chunksTest, toldChunk};
+ghost use Rattle.merge_rules.specs.Checks.{checkAnswer, toldChecks};
 
 // What a chunk takes: its value bytes, its offsets.
 pub enum Chunk {

@@ -16,8 +16,8 @@ use Rattle.array.proofs.Answers.{same-given}
 use Rattle.array.proofs.Answers as answers
 use Rattle.array.proofs.Rules.{kind-ok, shape-ok, many-ok, size-ok}
 use Rattle.subset.specs.Subsets.{SubsetsOk}
-use Rattle.merge.specs.Chunks.{chunksTest}
-use Rattle.merge.specs.Merge.{checkAnswer, MergeChecked}
+use Rattle.merge_rules.specs.Chunks.{chunksTest}
+use Rattle.merge_rules.specs.Checks.{checkAnswer, MergeChecked}
 
 -- ---- the subsets, once they are tested
 
