@@ -1,4 +1,4 @@
-// The calls on a working table, each on the lists of a request.
+// Requests of calls on working tables, answered.
 use array::answer::Written;
 use array::answer::WrittenArray;
 use requests::Request;

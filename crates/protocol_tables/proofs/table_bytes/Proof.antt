@@ -1,10 +1,10 @@
--- `protocol::tables::table_bytes` meets its contract by a law: to count so many elements one by one takes long.
+-- `protocol_tables::table_bytes` meets its contract by a law: to count so many elements one by one takes long.
 -- Assumes nothing.
 use mathlib.Core.Path.{sym}
 use Prim.Native.Nat.{ℕ}
 use lib.ListN.{length-replicate}
-use Rattle.protocol.proofs.tables.table_bytes.Statement.{statement}
-use Rattle.protocol.proofs.tables.table_bytes.Tie as tie
+use Rattle.protocol_tables.proofs.table_bytes.Statement.{statement}
+use Rattle.protocol_tables.proofs.table_bytes.Tie as tie
 
 returns : tie.Need-returns
 returns c = sym (length-replicate {A = ℕ} 32768 0)
