@@ -1,2 +1,1 @@
-pub mod Reads
 pub mod Strict

@@ -1,8 +1,4 @@
 // Reading a stored array into lent masks, values and offsets: the public call `decode`.
-mod fixed;
-mod plain;
-mod ragged;
-
 use array::answer::WrittenArray;
 use array::kind::Kind;
 use array::kind::Values;
@@ -36,10 +32,10 @@ pub fn decode(
     let form = kind.values;
     match form {
         Values::Fixed(size, order) => {
-            fixed::decode_fixed(kind, size as usize, order, n, bytes, masks, values)
+            decode_fixed::decode_fixed(kind, size as usize, order, n, bytes, masks, values)
         }
         Values::Ragged(width, place) => {
-            ragged::decode_ragged(kind, width, place, n, bytes, masks, values, offsets)
+            decode_ragged::decode_ragged(kind, width, place, n, bytes, masks, values, offsets)
         }
     }
 }

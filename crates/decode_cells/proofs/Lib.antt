@@ -1,7 +1,3 @@
-pub mod PlaneLaws
 pub mod RunLaws
-pub mod ValueRuns
-pub mod SpreadingValues
+pub mod SpreadingRuns
 pub mod PairLaws
-pub mod CopyingOffsets
-pub mod SpreadingOffsets

@@ -12,8 +12,8 @@ use Rattle.array.specs.Cells.{Mark, isNull, isSet, isOther}
 use Rattle.array.specs.Buffers.{over, overAt}
 use Rattle.array.proofs.Bytes.{length-le}
 use Rattle.array.proofs.Over.{over-again}
-use Rattle.decode_cells.specs.Next.{ifSet, wordAt, firstWord}
-use Rattle.decode_cells.proofs.SpreadingValues.{word-left, word-cell}
+use Rattle.decode_marks.specs.Next.{ifSet, wordAt, firstWord}
+use Rattle.decode_words.proofs.SpreadingValues.{word-left, word-cell}
 
 -- two words written one after the other
 pub pair-laid : (at x y : ℕ) (d : List ℕ) {m out : List ℕ} → at + 16 ≤ length d → m ≡ overAt at (le 8 x) d → out ≡ overAt (at + 8) (le 8 y) m → out ≡ overAt at (le 8 x ++ le 8 y) d

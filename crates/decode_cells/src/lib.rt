@@ -1,7 +1,4 @@
-// Handing the stored values and offsets of set cells out to the cells of a plane.
-pub mod next;
-pub mod offsets;
+// Handing the stored values of set cells out to the cells of a plane.
 mod pairs;
 mod runs;
 pub mod values;
-mod words;

@@ -1,10 +1,10 @@
 // Values of two machine words.
-use crate::next::number_if;
-use crate::next::skip;
-use crate::words::next_word;
 use array::kind::ByteOrder;
 use array::mark::mark_of;
 use buffer::copy::fill_bytes;
+use decode_marks::number_if;
+use decode_marks::skip;
+use decode_words::next_word;
 use word::put_word;
 ghost use mathlib.Core.Path.{_≡_};
 ghost use mathlib.Core.List.{_++_};
@@ -13,8 +13,8 @@ ghost use lib.ListN.{length, take, drop};
 ghost use Rattle.array.specs.Bytes.{le};
 ghost use Rattle.array.specs.Buffers.{over, overAt};
 ghost use Rattle.array.specs.Meaning.{orderOf};
-ghost use Rattle.decode_cells.specs.Next.{wordAt, firstWord};
-ghost use Rattle.decode_cells.specs.Values.{valuesOver, ValuesWithin};
+ghost use Rattle.decode_marks.specs.Next.{wordAt, firstWord};
+ghost use Rattle.decode_words.specs.Values.{valuesOver, ValuesWithin};
 
 // Which of a cell's two words is its first, in the array's byte order.
 fn first_word(order: ByteOrder) -> usize

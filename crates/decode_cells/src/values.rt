@@ -1,15 +1,15 @@
 // Fixed values below masks, in the array's byte order. Those of the set cells are stored end to end.
 use crate::pairs::spread_pairs;
 use crate::runs::run_length;
-use crate::words::spread_words;
 use array::kind::ByteOrder;
 use buffer::copy::fill_bytes;
+use decode_words::spread_words;
 use endian::cells::copy_cells;
 ghost use mathlib.Core.Path.{_≡_};
 ghost use lib.ListN.{take, drop};
 ghost use Rattle.array.specs.Buffers.{over};
 ghost use Rattle.array.specs.Meaning.{orderOf};
-ghost use Rattle.decode_cells.specs.Values.{valuesOver, ValuesWithin};
+ghost use Rattle.decode_words.specs.Values.{valuesOver, ValuesWithin};
 
 // Writes the values of the n cells of the plane at `from`, of which `cells` are set: these from `at` on, the others as zero bytes.
 pub fn spread_values(

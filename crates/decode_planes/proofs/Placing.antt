@@ -20,8 +20,8 @@ use Rattle.codec.proofs.SpreadLaws.{length-spread, spread-none, spread-all, spr
 use Rattle.codec.specs.MaskAt.{saidMask}
 use Rattle.mask.proofs.Said.{length-said}
 use Rattle.stored_index.proofs.IndexLaws.{drop-take}
-use Rattle.decode_cells.specs.Next.{ifSet, nextAt}
-use Rattle.decode_cells.proofs.PlaneLaws.{planeAt, plane-length, plane-byte}
+use Rattle.decode_marks.specs.Next.{ifSet, nextAt}
+use Rattle.decode_marks.proofs.PlaneLaws.{planeAt, plane-length, plane-byte}
 use Rattle.decode_planes.specs.Within.{LaidWithin, PlaneWithin}
 
 -- ---- what lies in a buffer

@@ -2,8 +2,8 @@
 use array::kind::MaskForm;
 use array::mark::mark_of;
 use buffer::copy::fill_bytes;
-use decode_cells::next::byte_if;
-use decode_cells::next::skip;
+use decode_marks::byte_if;
+use decode_marks::skip;
 use mask::form::copy_to_plane;
 use mask::form::count_stored;
 use mask::form::mask_length;

@@ -6,7 +6,7 @@ use native.Mathlib.Nat.{zero-add}
 use native.Mathlib.Numerals.{add-one}
 use native.Mathlib.Omega.{arith}
 use mathlib.Core.List.{List, _∷_}
-use lib.ListN.{length, take, drop, length-append}
+use lib.ListN.{length, take, drop}
 use lib.Seq.{take-all}
 use Rattle.array.specs.Buffers.{over, overAt}
 use Rattle.array.specs.Bytes.{le}
@@ -21,19 +21,9 @@ use Rattle.codec.specs.Values.{putValues}
 use Rattle.codec.proofs.Ragged.{length-put, length-index}
 use Rattle.codec.proofs.Values.{ragged-length}
 use Rattle.live_cells.specs.Live.{liveAt}
-use Rattle.encode_ragged.specs.Offsets.{Offsets}
-use Rattle.encode_ragged.proofs.Spans.{rises, ends-within, live-below, values-long}
-use Rattle.encode_cells.proofs.Placing.{at-behind}
+use Rattle.encode_data.specs.Offsets.{Offsets}
+use Rattle.encode_data.proofs.Spans.{rises, ends-within, live-below, values-long}
 use Rattle.encode_ragged.proofs.Placed.{ragged-laid}
-
--- the index begins with 0
-pub index-head : (w : ℕ) (os : List ℕ) → length (indexOf w (0 ∷ os)) ≡ w + length (indexOf w os)
-index-head w os = length-append (le w 0) (indexOf w os) ∙ ap (λ (m : ℕ). m + length (indexOf w os)) (length-le w 0)
-
-pub index-laid : {w : ℕ} (to : ℕ) (os out : List ℕ) {k : ℕ} {o1 o2 : List ℕ} → to + length (indexOf w (0 ∷ os)) ≤ length out → k ≡ w
-    → o1 ≡ overAt to (le w 0) out → o2 ≡ overAt (to + k) (indexOf w os) o1 → o2 ≡ overAt to (indexOf w (0 ∷ os)) out
-index-laid {w = w} to os out {k} {o1} {o2} h ek e1 e2 =
-    e2 ∙ ap (overAt (to + k) (indexOf w os)) e1 ∙ at-behind to (le w 0) (indexOf w os) out (to + k) (ap (λ (m : ℕ). to + m) (length-le w 0 ∙ sym ek)) (omega arith)
 
 -- ---- the values of the cells that a level counts
 

@@ -5,10 +5,6 @@ use array::kind::IndexWidth;
 use buffer::copy;
 use buffer::field;
 use codec::place;
-
-pub mod data;
-mod index;
-
 ghost use mathlib.Core.Path.{_≡_};
 ghost use mathlib.Core.List.{map};
 ghost use Prim.Native.Nat.{_+_, _≤_};
@@ -21,7 +17,7 @@ ghost use Rattle.array.specs.Places.{offsetAt, valuesAt};
 ghost use Rattle.codec.specs.Ragged.{putRagged};
 ghost use Rattle.codec.specs.Values.{putValues};
 ghost use Rattle.live_cells.specs.Live.{liveAt, Planes};
-ghost use Rattle.encode_ragged.specs.Offsets.{Offsets};
+ghost use Rattle.encode_data.specs.Offsets.{Offsets};
 
 // Ragged values of the `count` cells that the level counts, end to end from offset 0; says how many bytes it wrote.
 // Ten parameters: the place, the form, the values, and four for which cells.
@@ -45,10 +41,10 @@ pub fn put_ragged(
 {
     let index = kind::width_bytes(width) * (count + 1);
     let data = at + place::data_at(place, index);
-    let bytes = data::put_live_data(out, data, values, offsets, masks, cells, level, count);
+    let bytes = encode_data::put_live_data(out, data, values, offsets, masks, cells, level, count);
     let stored = 8 + index + bytes;
     let start = at + place::index_at(place, stored, index);
-    index::put_live_index(out, start, width, offsets, masks, cells, level, count);
+    encode_index::put_live_index(out, start, width, offsets, masks, cells, level, count);
     let field = at + place::length_at(place, stored);
     field::put_u64(out, field, index as u64);
     stored
@@ -71,7 +67,7 @@ pub fn put_plain(
     copy::copy_many(out, data, values, 0, bytes);
     let stored = 8 + index + bytes;
     let start = place::index_at(place, stored, index);
-    index::put_index(out, start, width, offsets);
+    encode_index::put_index(out, start, width, offsets);
     let field = place::length_at(place, stored);
     field::put_u64(out, field, index as u64);
 }

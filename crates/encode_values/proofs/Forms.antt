@@ -27,13 +27,13 @@ use Rattle.codec.specs.Ragged.{putRagged}
 use Rattle.codec.specs.Values.{putValues}
 use Rattle.codec.proofs.Flat.{flat-put}
 use Rattle.live_cells.specs.Live.{liveAt, Planes}
-use Rattle.encode_ragged.specs.Offsets.{Offsets}
+use Rattle.encode_data.specs.Offsets.{Offsets}
 use Rattle.encode_values.specs.Ready.{MeasuresOk, Measured, Encodable}
 use Rattle.encode_values.specs.Stored.{valuesFrom, valuesLengthAt, lengthFrom}
 use Rattle.live_cells.proofs.Runs.{live-le, live-all}
 use Rattle.encode_cells.proofs.Packing.{fixed-long}
 use Rattle.live_cells.proofs.LiveMarks.{count-all}
-use Rattle.encode_ragged.proofs.Spans.{all-bytes}
+use Rattle.encode_data.proofs.Spans.{all-bytes}
 use Rattle.encode_values.proofs.Levels.{NarrowOk, values-small, flat-length}
 
 -- ---- the masks of all levels

@@ -24,7 +24,7 @@ use Rattle.live_cells.proofs.Runs.{live-le}
 use Rattle.live_cells.proofs.LiveMarks.{count-all}
 use Rattle.encode_cells.proofs.Packing.{fixed-long}
 use Rattle.encode_masks.proofs.Blocks.{live-mask-long}
-use Rattle.encode_ragged.proofs.Summing.{bytes-le}
+use Rattle.encode_data.proofs.Summing.{bytes-le}
 use Rattle.encode_ragged.proofs.Parts.{ragged-long}
 
 -- ---- the cases of a content

@@ -24,7 +24,7 @@ pub fn values_length(kind: Kind, cells: usize, masks: &[u8], offsets: &[u64], co
         Values::Fixed(size, _) => count * (size as usize),
         Values::Ragged(width, _) => {
             let index = kind::width_bytes(width) * (count + 1);
-            8 + index + encode_ragged::data::live_bytes(offsets, masks, cells, level, count)
+            8 + index + encode_data::live_bytes(offsets, masks, cells, level, count)
         }
     }
 }

@@ -17,11 +17,13 @@ use Rattle.array.proofs.Answers.{then-unless}
 use Rattle.chunks.specs.Gather.{onceTest}
 use Rattle.chunks.specs.Chunks.{chunkCells, mergeOf}
 use Rattle.chunks.specs.Calls.{mergeAnswer, merged}
-use Rattle.merge.specs.Merge.{checkAnswer, storeAnswer, coverAnswer, MergeChecked}
+use Rattle.merge_rules.specs.Checks.{checkAnswer, MergeChecked}
+use Rattle.merge_output.specs.Stores.{storeAnswer}
+use Rattle.merge.specs.Merge.{coverAnswer}
 use Rattle.merge_stores.proofs.FirstChunk.{all-values}
-use Rattle.merge.specs.Chunks.{chunksTest}
-use Rattle.merge.proofs.Totals.{found, refused}
-use Rattle.merge.proofs.Passing.{passed}
+use Rattle.merge_rules.specs.Chunks.{chunksTest}
+use Rattle.merge_output.proofs.Totals.{found, refused}
+use Rattle.merge_rules.proofs.Passing.{passed}
 
 module _ (k : Kind) (sh ns : List ℕ) (c : Content) where
   abbrev bs : List Subset

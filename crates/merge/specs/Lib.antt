@@ -1,2 +1,1 @@
-pub mod Chunks
 pub mod Merge

@@ -1,9 +1,8 @@
 // Merging chunks: everything is checked before the first byte is stored.
 use array::answer::WrittenArray;
 use array::kind::Kind;
-use array::kind::Values;
 use array::refusal;
-use rules::Checks;
+use merge_rules::Checks;
 ghost use mathlib.Core.Path.{_≡_};
 ghost use lib.ListN.{length};
 ghost use Rattle.array.specs.Meaning.{kindOf};
@@ -11,69 +10,11 @@ ghost use Rattle.array.specs.Subset.{subsetsOf};
 ghost use Rattle.array.specs.Buffers.{lengthsOf, contentOutcome};
 ghost use Rattle.array.specs.Outcome.{contentArray, outcomeArray};
 ghost use Rattle.chunks.specs.Calls.{merged};
-ghost use Rattle.merge.specs.Merge.{storeAnswer, coverAnswer, MergeChecked, MergeAsked};
-
-pub mod rules;
-
-// Stores chunks that passed the checks and cover the shape, where the outputs are long enough.
-// Over nine parameters: those of `merge`, and what its checks counted.
-fn store_chunks(
-    kind: Kind,
-    cells: usize,
-    shape: &[u64],
-    subsets: &[u64],
-    masks: &[u8],
-    values: &[u8],
-    offsets: &[u64],
-    out_masks: &mut [u8],
-    out_values: &mut [u8],
-    out_offsets: &mut [u64],
-) -> WrittenArray
-    requires { ⌜ MergeAsked (kindOf kind) (now shape) (now subsets) (contentArray (now masks) (now values) (now offsets)) cells ⌝ }
-    ensures { λ r. ⌜ outcomeArray r (now («out_masks» .exit)) (now («out_values» .exit)) (now («out_offsets» .exit))
-        ≡ contentOutcome (storeAnswer (kindOf kind) (now (shape .entry)) (subsetsOf (length (now (shape .entry))) (now (subsets .entry)))
-        (contentArray (now (masks .entry)) (now (values .entry)) (now (offsets .entry)))
-        (lengthsOf (contentArray (now («out_masks» .entry)) (now («out_values» .entry)) (now («out_offsets» .entry)))))
-        (contentArray (now («out_masks» .entry)) (now («out_values» .entry)) (now («out_offsets» .entry))) ⌝ }
-{
-    let depth = kind.depth as usize;
-    let mask_bytes = depth * cells;
-    let bytes = values.len();
-    if out_masks.len() < mask_bytes {
-        return WrittenArray::Refused(refusal::OUTPUT);
-    }
-    if out_values.len() < bytes {
-        return WrittenArray::Refused(refusal::OUTPUT);
-    }
-    let form = kind.values;
-    match form {
-        Values::Fixed(size, _) => {
-            let wide = size as usize;
-            merge_stores::cells::store_masks(out_masks, masks, depth, cells, shape, subsets);
-            merge_stores::cells::store_parts(out_values, 0, wide, values, 0, wide, shape, subsets);
-            WrittenArray::Lengths(mask_bytes, bytes, 0)
-        }
-        Values::Ragged(_, _) => {
-            if out_offsets.len() <= cells {
-                return WrittenArray::Refused(refusal::OUTPUT);
-            }
-            merge_stores::cells::store_masks(out_masks, masks, depth, cells, shape, subsets);
-            merge_stores::ragged::merge_ragged(
-                out_values,
-                out_offsets,
-                values,
-                offsets,
-                shape,
-                subsets,
-                cells,
-            );
-            WrittenArray::Lengths(mask_bytes, bytes, cells + 1)
-        }
-    }
-}
+ghost use Rattle.merge_rules.specs.Checks.{MergeChecked};
+ghost use Rattle.merge.specs.Merge.{coverAnswer};
 
 // Stores chunks that passed the other checks, where their subsets cover the shape.
-// Over nine parameters, as `store_chunks`.
+// Over nine parameters: those of `merge`, and what its checks counted.
 fn store_covering(
     kind: Kind,
     cells: usize,
@@ -96,7 +37,7 @@ fn store_covering(
     if !merge_cover::covers(shape, subsets) {
         return WrittenArray::Refused(refusal::COVER);
     }
-    store_chunks(
+    merge_output::store_chunks(
         kind,
         cells,
         shape,
@@ -127,7 +68,7 @@ pub fn merge(
         ≡ merged (kindOf kind) (now (shape .entry)) (now (subsets .entry)) (contentArray (now (masks .entry)) (now (values .entry)) (now (offsets .entry)))
         (contentArray (now («out_masks» .entry)) (now («out_values» .entry)) (now («out_offsets» .entry))) ⌝ }
 {
-    match rules::check_merge(kind, shape, subsets, masks, values, offsets) {
+    match merge_rules::check_merge(kind, shape, subsets, masks, values, offsets) {
         Checks::Refused(e) => WrittenArray::Refused(e),
         Checks::Passed(cells) => store_covering(
             kind,

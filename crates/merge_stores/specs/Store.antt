@@ -1,5 +1,5 @@
 -- Redundant by the laws masks-close and fixed-close in merge_stores/proofs/Closing.antt: masks, and values of one width, of a chunk list.
--- Where they lie (S3.6), and what their stores ask: masks-asked and parts-asked in merge/proofs/Closed.antt.
+-- Where they lie (S3.6), and what their stores ask: masks-asked and parts-asked in merge_output/proofs/Closed.antt.
 -- Assumes nothing.
 use mathlib.Core.Path.{_≡_}
 use Prim.Native.Nat.{ℕ, zero, suc, _+_, _*_, _≤_}

@@ -25,7 +25,6 @@
 // behind `ok MOVED:` where it was packed.
 // Outputs are filled with EE beforehand; `spoilt` says that a byte beyond the lengths, or any after a refusal, has changed.
 mod calls;
-mod tables;
 
 use libc::STDIN_FILENO;
 use requests::Parsed;
@@ -107,7 +106,7 @@ fn answer_request(letter: u8, line: &[u8]) {
         return show::write_line(b"bad line");
     };
     if letter == b'M' {
-        return tables::respond_make(q, &numbers, &bytes);
+        return protocol_tables::respond_make(q, &numbers, &bytes);
     }
     respond(letter, q, &numbers, &bytes);
 }
@@ -117,7 +116,7 @@ fn answer_line(line: &[u8]) {
     let letter = requests::letter_of(line);
     match letter {
         b'#' => show::write_line(line),
-        b'R' | b'S' | b'P' => tables::answer_table(letter, line),
+        b'R' | b'S' | b'P' => protocol_tables::answer_table(letter, line),
         _ => answer_request(letter, line),
     }
 }

@@ -1,4 +1,4 @@
--- Redundant by the law tested-subsets in merge/proofs/Passing.antt: a list of subsets (S3.1, S3.2, S3.6), subset by subset.
+-- Redundant by the law tested-subsets in merge_rules/proofs/Passing.antt: a list of subsets (S3.1, S3.2, S3.6), subset by subset.
 -- What a walk asks, which is what is left at each turn, and what the next subset is.
 -- Assumes nothing.
 use mathlib.Core.Path.{_≡_}

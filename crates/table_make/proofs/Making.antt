@@ -20,7 +20,7 @@ use Rattle.valid.specs.Check.{checkOf, toldChecked}
 use Rattle.valid.proofs.CheckLaws.{KeepsRules, check-refused, check-passed, check-valid}
 use Rattle.codec.specs.Interleaved.{IsRagged}
 use Rattle.live_cells.specs.Live.{Planes}
-use Rattle.encode_ragged.specs.Offsets.{Offsets}
+use Rattle.encode_data.specs.Offsets.{Offsets}
 use Rattle.table.specs.Table.{Table, TableKind, tableKindTest, countTest, storeTest}
 use Rattle.table.specs.Calls.{TableLengths, tableLengths, TableEnough, tableEnoughTest, tableOf, makeAnswer, made}
 use Rattle.table.specs.Meaning.{tableBy}

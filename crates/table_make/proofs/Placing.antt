@@ -8,8 +8,8 @@ use native.Mathlib.Omega.{arith}
 use lib.ListN.{length, getD, set}
 use Rattle.array.specs.Places.{shownAt, offsetAt}
 use Rattle.live_cells.specs.Live.{liveOne}
-use Rattle.encode_ragged.specs.Offsets.{Offsets}
-use Rattle.encode_ragged.proofs.Summing.{soFar, so-far-all, Summing, summing-begins, summing-step, summing-more}
+use Rattle.encode_data.specs.Offsets.{Offsets}
+use Rattle.encode_data.proofs.Summing.{soFar, so-far-all, Summing, summing-begins, summing-step, summing-more}
 use Rattle.table.specs.Calls.{startsAt}
 use Rattle.table_make.specs.Rested.{sizeAt, startAt}
 use Rattle.table_make.proofs.Numbering.{Numbering, number-begins, number-more}

@@ -17,9 +17,9 @@ use Rattle.array.proofs.Lists.{map-from}
 use Rattle.array.proofs.Places.{value-long}
 use Rattle.array.proofs.Numbered.{rest-laid}
 use Rattle.codec.specs.Interleaved.{IsRagged}
-use Rattle.encode_ragged.specs.Offsets.{Offsets}
-use Rattle.encode_ragged.proofs.Spans.{rises, ends-within}
-use Rattle.encode_ragged.proofs.Summing.{soFar, so-far-all}
+use Rattle.encode_data.specs.Offsets.{Offsets}
+use Rattle.encode_data.proofs.Spans.{rises, ends-within}
+use Rattle.encode_data.proofs.Summing.{soFar, so-far-all}
 use Rattle.table.specs.Table.{Table}
 use Rattle.table.specs.Calls.{startsAt, tableOf}
 use Rattle.table_make.specs.Rested.{restMask, sizeAt, startAt, restTable}

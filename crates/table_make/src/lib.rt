@@ -5,7 +5,6 @@ use crate::put::put_masks;
 use crate::put::put_places;
 use array::kind::Kind;
 use array::refusal;
-use encode_ragged::data;
 use table::answer::WrittenTable;
 use table_kind::count_ok;
 use table_kind::is_table_kind;
@@ -19,7 +18,7 @@ ghost use Rattle.array.specs.Meaning.{kindOf};
 ghost use Rattle.array.specs.Offsets.{last};
 ghost use Rattle.array.specs.Outcome.{contentArray};
 ghost use Rattle.live_cells.specs.Live.{liveAt, Planes};
-ghost use Rattle.encode_ragged.specs.Offsets.{Offsets};
+ghost use Rattle.encode_data.specs.Offsets.{Offsets};
 ghost use Rattle.table.specs.Calls.{made};
 ghost use Rattle.table.specs.Meaning.{tableBy, outcomeTable};
 ghost use Rattle.table_make.specs.Rested.{restStore, restTable, Held, putTable};
@@ -41,7 +40,7 @@ fn has_room(
     if values.len() <= room {
         return true;
     }
-    data::live_bytes(offsets, masks, cells, depth, count) <= room
+    encode_data::live_bytes(offsets, masks, cells, depth, count) <= room
 }
 
 // The table of an array that keeps its rules: refusal 6, or all is stored.
@@ -77,7 +76,7 @@ fn make_valid(
     }
     put_masks(out_masks, masks, cells, depth);
     put_places(out_starts, out_lengths, offsets, masks, cells, depth);
-    let bytes = data::put_live_data(store, 0, values, offsets, masks, cells, depth, count);
+    let bytes = encode_data::put_live_data(store, 0, values, offsets, masks, cells, depth, count);
     WrittenTable::Lengths(planes, cells, cells, bytes)
 }
 

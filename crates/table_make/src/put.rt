@@ -11,7 +11,7 @@ ghost use Rattle.array.specs.Cells.{setTest};
 ghost use Rattle.array.specs.Lists.{from, pick};
 ghost use Rattle.array.specs.Places.{planesBy};
 ghost use Rattle.live_cells.specs.Live.{Planes};
-ghost use Rattle.encode_ragged.specs.Offsets.{Offsets};
+ghost use Rattle.encode_data.specs.Offsets.{Offsets};
 ghost use Rattle.table.specs.Calls.{startsAt};
 ghost use Rattle.table_make.specs.Rested.{restMask, keptAt, restPlanes, restStarts, restLengths};
 

@@ -13,7 +13,7 @@ use Rattle.array.proofs.Rules.{kind-ok}
 use Rattle.codec.specs.Mask.{maskForm}
 use Rattle.codec.specs.Calls.{readIn, decoded}
 use Rattle.valid.specs.ShapeCells.{toldCells}
-use Rattle.decode.specs.Reads.{Limited}
+use Rattle.decode_planes.specs.Limited.{Limited}
 use Rattle.decode.proofs.Stages.{ShapeCounted, shape-counted, shape-refused, by-kind, by-shape, by-reading}
 use Rattle.decode.proofs.decode.Statement.{statement}
 use Rattle.decode.proofs.decode.Tie as tie

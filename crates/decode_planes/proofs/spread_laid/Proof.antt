@@ -6,7 +6,7 @@ use native.Mathlib.Omega.{arith}
 use lib.ListN.{length}
 use borrow.Author.Needs.{needs}
 use Rattle.array.specs.Meaning.{toldMark}
-use Rattle.decode_cells.proofs.PlaneLaws.{next-most}
+use Rattle.decode_marks.proofs.PlaneLaws.{next-most}
 use Rattle.decode_planes.proofs.Placing.{Placing, Turn, few, placing-begins, placing-same, placing-ends, placing-turn, placing-more}
 use Rattle.decode_planes.proofs.spread_laid.Statement.{statement}
 use Rattle.decode_planes.proofs.spread_laid.Tie as tie

@@ -11,7 +11,7 @@ use Rattle.array.specs.Lists.{joined}
 use Rattle.array.specs.Places.{bytesAt, offsetAt, valuesAt}
 use Rattle.live_cells.specs.Live.{liveAt}
 use Rattle.live_cells.proofs.Runs.{live-le}
-use Rattle.encode_ragged.proofs.Spans.{values-long}
+use Rattle.encode_data.proofs.Spans.{values-long}
 use Rattle.encode_ragged.proofs.Placed.{data-room, index-room, length-room}
 use Rattle.encode_ragged.proofs.Parts.{index-long, ragged-long, ragged-put}
 use Rattle.encode_ragged.proofs.put_ragged.Statement.{statement}

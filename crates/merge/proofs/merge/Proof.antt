@@ -8,7 +8,7 @@ use Rattle.array.specs.Kind.{Kind}
 use Rattle.array.specs.Meaning.{kindOf}
 use Rattle.array.specs.Content.{Content}
 use Rattle.array.specs.Outcome.{contentArray}
-use Rattle.merge.specs.Merge.{checkAnswer, toldChecks}
+use Rattle.merge_rules.specs.Checks.{checkAnswer, toldChecks}
 use Rattle.merge.proofs.Steps.{merge-refused, merge-checked, merge-stored}
 use Rattle.merge.proofs.merge.Statement.{statement}
 use Rattle.merge.proofs.merge.Tie as tie

@@ -7,8 +7,8 @@ use borrow.Author.Needs.{needs}
 use borrow.Author.Tests.{le-leb}
 use lib.Dec.{leb}
 use Rattle.array.specs.Places.{shownAt}
-use Rattle.encode_ragged.proofs.Spans.{values-long}
-use Rattle.encode_ragged.proofs.Summing.{bytes-le}
+use Rattle.encode_data.proofs.Spans.{values-long}
+use Rattle.encode_data.proofs.Summing.{bytes-le}
 use Rattle.table_make.proofs.has_room.Statement.{statement}
 use Rattle.table_make.proofs.has_room.Tie as tie
 

@@ -9,9 +9,9 @@ use Rattle.array.specs.Bytes.{le}
 use Rattle.array.specs.Kind.{ordered}
 use Rattle.array.specs.Cells.{markOf}
 use Rattle.array.specs.Meaning.{orderOf, toldMark}
-use Rattle.decode_cells.specs.Next.{wordAt}
-use Rattle.decode_cells.proofs.PlaneLaws.{planeAt, plane-byte, next-most}
-use Rattle.decode_cells.proofs.SpreadingValues.{SpreadingValues, values-start, values-same, values-inside, values-room, values-cell, values-end, plane-long, values-rest}
+use Rattle.decode_marks.specs.Next.{wordAt}
+use Rattle.decode_marks.proofs.PlaneLaws.{planeAt, plane-byte, next-most}
+use Rattle.decode_words.proofs.SpreadingValues.{SpreadingValues, values-start, values-same, values-inside, values-room, values-cell, values-end, plane-long, values-rest}
 use Rattle.decode_cells.proofs.PairLaws.{pair-is, pair-cell, first-most, other-most}
 use Rattle.decode_cells.proofs.pairs.spread_pairs.Statement.{statement}
 use Rattle.decode_cells.proofs.pairs.spread_pairs.Tie as tie

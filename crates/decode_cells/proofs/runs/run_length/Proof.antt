@@ -5,7 +5,7 @@ use Prim.Native.Nat.{_-_, _<_}
 use native.Mathlib.Omega.{arith}
 use lib.ListN.{length, getD}
 use Rattle.array.specs.Cells.{setTest}
-use Rattle.decode_cells.proofs.PlaneLaws.{planeAt, plane-length, plane-byte}
+use Rattle.decode_marks.proofs.PlaneLaws.{planeAt, plane-length, plane-byte}
 use Rattle.decode_cells.proofs.RunLaws.{Running, running-begins, running-ends, running-stops, running-more}
 use Rattle.decode_cells.proofs.runs.run_length.Statement.{statement}
 use Rattle.decode_cells.proofs.runs.run_length.Tie as tie

@@ -1,13 +1,13 @@
--- `spread_runs` meets its contract, by the laws of SpreadingValues: a null run and a set run a turn.
+-- `spread_runs` meets its contract, by the laws of SpreadingRuns: a null run and a set run a turn.
 -- Assumes nothing.
 use mathlib.Core.Path.{_≡_, _∙_}
 use Prim.Native.Nat.{_+_, _-_, _*_, _≤_, _<_}
 use native.Mathlib.Omega.{arith}
 use lib.ListN.{length}
 use Rattle.array.specs.Meaning.{orderOf}
-use Rattle.decode_cells.proofs.PlaneLaws.{planeAt}
-use Rattle.decode_cells.proofs.SpreadingValues.{SpreadingValues, values-start, values-same, values-room, values-source, values-end, nulls-fit}
-use Rattle.decode_cells.proofs.SpreadingValues.{nulls-laid, sets-some, sets-fit, sets-stored, sets-laid, plane-long, values-rest}
+use Rattle.decode_marks.proofs.PlaneLaws.{planeAt}
+use Rattle.decode_words.proofs.SpreadingValues.{SpreadingValues, values-start, values-same, values-room, values-source, values-end, plane-long, values-rest}
+use Rattle.decode_cells.proofs.SpreadingRuns.{nulls-fit, nulls-laid, sets-some, sets-fit, sets-stored, sets-laid}
 use Rattle.decode_cells.proofs.values.spread_runs.Statement.{statement}
 use Rattle.decode_cells.proofs.values.spread_runs.Tie as tie
 

@@ -8,10 +8,10 @@ use lib.ListN.{length, drop}
 use borrow.Author.Needs.{needs}
 use Rattle.array.specs.Meaning.{orderOf}
 use Rattle.array.specs.Buffers.{over}
-use Rattle.decode_cells.specs.Values.{valuesOver, ValuesWithin}
-use Rattle.decode_cells.proofs.PlaneLaws.{planeAt}
-use Rattle.decode_cells.proofs.SpreadingValues.{values-start, values-all, plane-long}
-use Rattle.decode_cells.proofs.ValueRuns.{sized-as}
+use Rattle.decode_words.specs.Values.{valuesOver, ValuesWithin}
+use Rattle.decode_marks.proofs.PlaneLaws.{planeAt}
+use Rattle.decode_words.proofs.SpreadingValues.{values-start, values-all, plane-long}
+use Rattle.decode_words.proofs.ValueRuns.{sized-as}
 use Rattle.decode_cells.proofs.values.spread_values.Statement.{statement}
 use Rattle.decode_cells.proofs.values.spread_values.Tie as tie
 

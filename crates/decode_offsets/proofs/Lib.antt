@@ -1,0 +1,2 @@
+pub mod CopyingOffsets
+pub mod SpreadingOffsets

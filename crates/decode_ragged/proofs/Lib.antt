@@ -1,0 +1,2 @@
+pub mod RaggedLaws
+pub mod RaggedWritten

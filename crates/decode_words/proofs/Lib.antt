@@ -1,0 +1,2 @@
+pub mod ValueRuns
+pub mod SpreadingValues

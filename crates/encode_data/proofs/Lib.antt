@@ -1,0 +1,3 @@
+pub mod Spans
+pub mod Slicing
+pub mod Summing

@@ -1,0 +1,2 @@
+pub mod IndexLaid
+pub mod Indexing

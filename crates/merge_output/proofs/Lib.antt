@@ -1,0 +1,4 @@
+pub mod Totals
+pub mod Lengths
+pub mod Written
+pub mod Closed

@@ -1,0 +1,3 @@
+pub mod OneChunk
+pub mod ChunkWalk
+pub mod Passing
