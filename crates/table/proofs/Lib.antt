@@ -13,3 +13,4 @@ pub mod Making
 pub mod Setting
 pub mod Refusals
 pub mod Instance
+pub mod Previewing
