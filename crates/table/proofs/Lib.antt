@@ -14,3 +14,4 @@ pub mod Setting
 pub mod Refusals
 pub mod Instance
 pub mod Previewing
+pub mod Foreseeing

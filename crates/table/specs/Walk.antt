@@ -1,11 +1,11 @@
 -- Redundant by the laws in-order and walk-counts in table/proofs/Walk.antt: what a walk over the cells as they lie (S13.5, S13.7) is given, and leaves.
 -- Assumes nothing.
-use Prim.Native.Nat.{ℕ, _+_, _≤_}
+use Prim.Native.Nat.{ℕ, _+_, _-_, _≤_}
 use mathlib.Core.Path.{_≡_}
 use mathlib.Core.Bool.{not}
 use mathlib.Core.List.{List, [], _∷_}
 use lib.ListN.{length}
-use lib.Dec.{eqb}
+use lib.Dec.{leb, ltb, eqb}
 use Rattle.array.specs.Lists.{All, pick, passing}
 use Rattle.table.specs.Table.{Table, startOf, lengthOf, ending, filled}
 use Rattle.table.specs.Lying.{lyingBy, movedCells, packed}
@@ -31,3 +31,8 @@ elsewhereBy start len at (j ∷ js) = pick (eqb (start j) at) 0 1 + elsewhereBy 
 -- the cells js without cell c
 abbrev pub without : ℕ → List ℕ → List ℕ
 without c js = passing (λ j. not (eqb j c)) js
+
+-- how many start elsewhere after a setting of so many bytes in a store of `room`: of the others so many do, they end at `top` and have `total` bytes.
+-- Behind them the new bytes start elsewhere too, unless the others are packed; where too little remains all are packed first
+abbrev pub unpackedBy : (there top total size room : ℕ) → ℕ
+unpackedBy there top total size room = pick (ltb 0 size) (pick (leb size (room - top)) (there + pick (eqb top total) 0 1) 0) there

@@ -33,7 +33,7 @@ sum-whole xs {j} e h = e ∙ ap sum (take-all j xs h)
 -- ---- the highest end
 
 module _ (start len : ℕ → ℕ) where
-  top-append : (xs : List ℕ) (j : ℕ) → topBy start len (xs ++ (j ∷ [])) ≡ max (topBy start len xs) (ending start len j)
+  pub top-append : (xs : List ℕ) (j : ℕ) → topBy start len (xs ++ (j ∷ [])) ≡ max (topBy start len xs) (ending start len j)
   top-append [] j = omega arith
   top-append (x ∷ xs) j = omega (arith, top-append xs j)
 

@@ -21,7 +21,8 @@ pub fn sum_of(lengths: &[u64]) -> usize
     total
 }
 
-fn greater(a: usize, b: usize) -> usize
+// The greater of two numbers.
+pub fn greater(a: usize, b: usize) -> usize
     ensures { λ r. ⌜ r ≡ max a b ⌝ }
 {
     if a < b { b } else { a }

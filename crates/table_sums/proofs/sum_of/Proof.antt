@@ -18,19 +18,15 @@ Inv-loop lengths total₀ j₀ total j = (j ≤ length lengths) × (total ≡ su
 abbrev μ-loop : tie.MeasureT-loop
 μ-loop lengths total₀ j₀ total j = length lengths - j
 
--- src/sums.rt:17:5
 loop-holds : tie.Need-loop-holds Inv-loop μ-loop
 loop-holds c = (omega arith, refl)
 
--- src/sums.rt:18:18
 mul-total : tie.Need-mul-total Inv-loop μ-loop
 mul-total c = omega arith
 
--- src/sums.rt:18:18
 shared-slice-read-total : tie.Need-shared-slice-read-total Inv-loop μ-loop
 shared-slice-read-total c = omega arith
 
--- src/sums.rt:18:9
 add-total : tie.Need-add-total Inv-loop μ-loop
 unfolding mostStore
 add-total c =
@@ -38,19 +34,15 @@ add-total c =
     let xs = c .before .before .before .args .lengths .now in
     omega (arith, sum-more xs (c .before .before .loop .inv .1) (c .before .loop-test .taken), sum-part xs (j + 1), c .before .before .before .pre)
 
--- src/sums.rt:19:9
 add-j : tie.Need-add-j Inv-loop μ-loop
 add-j c = omega arith
 
--- src/sums.rt:17:5
 loop-less : tie.Need-loop-less Inv-loop μ-loop
 loop-less c = omega arith
 
--- src/sums.rt:17:5
 loop-again : tie.Need-loop-again Inv-loop μ-loop
 loop-again c = (omega arith, sum-more (c .before .before .before .args .lengths .now) (c .before .before .loop .inv .1) (c .before .loop-test .taken))
 
--- src/sums.rt:11:1
 returns : tie.Need-returns Inv-loop μ-loop
 returns c = sum-whole (c .before .before .args .lengths .now) (c .before .loop .inv .1) (c .loop-test .left)
 

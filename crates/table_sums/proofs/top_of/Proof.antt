@@ -34,44 +34,34 @@ placed c =
 
 -- ---- answers
 
--- src/sums.rt:39:5
 loop-holds : tie.Need-loop-holds Inv-loop μ-loop
 loop-holds c = (omega arith, refl, omega arith)
 
--- src/sums.rt:40:29
 mul-greater : tie.Need-mul-greater Inv-loop μ-loop
 mul-greater c = omega arith
 
--- src/sums.rt:40:29
 shared-slice-read-greater : tie.Need-shared-slice-read-greater Inv-loop μ-loop
 shared-slice-read-greater c = omega arith
 
--- src/sums.rt:40:41
 mul-greater-2 : tie.Need-mul-greater-2 Inv-loop μ-loop
 mul-greater-2 c = omega arith
 
--- src/sums.rt:40:41
 shared-slice-read-greater-2 : tie.Need-shared-slice-read-greater-2 Inv-loop μ-loop
 shared-slice-read-greater-2 c = omega arith
 
--- src/sums.rt:40:29
 add-greater : tie.Need-add-greater Inv-loop μ-loop
 unfolding mostStore
 add-greater c = omega (arith, placed (c .before .before), entry (c .before .before .before) .pre)
 
--- src/sums.rt:40:9
 greater-requires : tie.Need-greater-requires Inv-loop μ-loop
 greater-requires c κs = search needs
 
--- src/sums.rt:41:9
 add-j : tie.Need-add-j Inv-loop μ-loop
 add-j c = omega arith
 
--- src/sums.rt:39:5
 loop-less : tie.Need-loop-less Inv-loop μ-loop
 loop-less c = omega arith
 
--- src/sums.rt:39:5
 loop-again : tie.Need-loop-again Inv-loop μ-loop
 loop-again c =
     let here = c .before .before .before .before in
@@ -80,7 +70,6 @@ loop-again c =
     let more = top-more (offsetAt (args .starts .now)) (offsetAt (args .lengths .now)) (here .loop .j) p in
     (omega arith, omega (arith, c .greater .ensures, here .loop .inv .1, more), omega (arith, c .greater .ensures, p .0, here .loop .inv .2))
 
--- src/sums.rt:31:1
 returns : tie.Need-returns Inv-loop μ-loop
 returns c =
     let args = entry (c .before) .args in
