@@ -162,7 +162,7 @@ walk-append start len at (x ∷ xs) j =
     let e : at + len x + sum (map len xs) ≡ at + (len x + sum (map len xs)) = omega arith in
     omega (arith, walk-append start len (at + len x) xs j, ap (one start j) e)
 
-lying-sum : {d : ℕ} (t : Table) (n : ℕ) → TableOk d n t → sum (map (lengthOf t) (lyingBy (startOf t) (lengthOf t) (filled t n))) ≡ sum (t .lengths)
+pub lying-sum : {d : ℕ} (t : Table) (n : ℕ) → TableOk d n t → sum (map (lengthOf t) (lyingBy (startOf t) (lengthOf t) (filled t n))) ≡ sum (t .lengths)
 lying-sum t n ok =
     sum-same (lengthOf t) n (lyingBy (startOf t) (lengthOf t) (filled t n)) (filled t n) (lying-lies (startOf t) (lengthOf t) n .same)
     (lies-below (lying-lies (startOf t) (lengthOf t) n))
@@ -170,7 +170,7 @@ lying-sum t n ok =
 
 -- ---- a setting
 
-lies-of : {n : ℕ} {t : Table} {js : List ℕ} → InOrder n t js → Lies (startOf t) (lengthOf t) n js
+pub lies-of : {n : ℕ} {t : Table} {js : List ℕ} → InOrder n t js → Lies (startOf t) (lengthOf t) n js
 lies-of {n} {t} o = subst (Lies (startOf t) (lengthOf t) n) (sym (o .lying)) (lying-lies (startOf t) (lengthOf t) n)
 
 order-of : {d n : ℕ} {t : Table} {js : List ℕ} → TableOk d n t → Lies (startOf t) (lengthOf t) n js → InOrder n t js

@@ -36,13 +36,14 @@ passing-sum f p (x ∷ xs) = go (p x) (passing-sum f p xs)
 -- behind the first i of the cells js
 pub record Looked (starts lengths : List ℕ) (c : ℕ) (js : List ℕ) (unpacked packed top i : ℕ) : Type 0 where
   pub walkable : Walkable starts lengths js
+  pub within : i ≤ length js
   pub few : unpacked ≤ i
   pub elsewhere : unpacked ≡ elsewhereBy (offsetAt starts) (offsetAt lengths) 0 (without c (take i js))
   pub bytes : packed ≡ sum (map (offsetAt lengths) (without c (take i js)))
   pub ends : top ≡ topBy (offsetAt starts) (offsetAt lengths) (without c (take i js))
 
 pub looked-begins : {starts lengths js : List ℕ} {c : ℕ} → Walkable starts lengths js → Looked starts lengths c js 0 0 0 0
-looked-begins w = record { walkable = w; few = omega arith; elsewhere = refl; bytes = refl; ends = refl }
+looked-begins w = record { walkable = w; within = omega arith; few = omega arith; elsewhere = refl; bytes = refl; ends = refl }
 
 module _ {starts lengths js : List ℕ} {c unpacked packed top i : ℕ} (l : Looked starts lengths c js unpacked packed top i) where
   abbrev start : ℕ → ℕ
@@ -54,7 +55,7 @@ module _ {starts lengths js : List ℕ} {c unpacked packed top i : ℕ} (l : Loo
   pub looked-ends : length js ≤ i → Found start len c js unpacked top
   looked-ends h =
       let all : without c (take i js) ≡ without c js = ap (without c) (take-all i js h) in
-      record { elsewhere = l .elsewhere ∙ ap (elsewhereBy start len 0) all; ends = l .ends ∙ ap (topBy start len) all }
+      record { elsewhere = l .elsewhere ∙ ap (elsewhereBy start len 0) all; few = omega (arith, l .few, l .within); ends = l .ends ∙ ap (topBy start len) all }
 
   module _ (h : i < length js) where
     abbrev j : ℕ
@@ -77,6 +78,7 @@ module _ {starts lengths js : List ℕ} {c unpacked packed top i : ℕ} (l : Loo
         let same : without c (take i js) ≡ without c (take (i + 1) js) = sym (one-more (eq-eqb j c e) ∙ append-nil (without c (take i js))) in
         record {
           walkable = l .walkable;
+          within = omega arith;
           few = omega (arith, l .few);
           elsewhere = l .elsewhere ∙ ap (elsewhereBy start len 0) same;
           bytes = l .bytes ∙ ap (λ (ks : List ℕ). sum (map len ks)) same;
@@ -108,6 +110,7 @@ module _ {starts lengths js : List ℕ} {c unpacked packed top i : ℕ} (l : Loo
           → Looked starts lengths c js unpacked′ (packed + len j) top′ (i + 1)
       looked-more e f = record {
         walkable = l .walkable;
+        within = omega arith;
         few = omega (arith, e, l .few, at-most (eqb (start j) packed));
         elsewhere =
             e ∙ ap₂ (λ (u a : ℕ). u + pick (eqb (start j) a) 0 1) (l .elsewhere) (l .bytes ∙ sym (zero-add (sum (map len (without c (take i js))))))
@@ -119,3 +122,8 @@ module _ {starts lengths js : List ℕ} {c unpacked packed top i : ℕ} (l : Loo
           at-most : (b : Bool) → pick b 0 1 ≤ 1
           at-most true = omega arith
           at-most false = omega arith
+
+-- the same in other words
+pub looked-is : {starts lengths js : List ℕ} {c unpacked packed top i : ℕ} → Looked starts lengths c js unpacked packed top i
+    → {unpacked′ packed′ top′ : ℕ} → unpacked′ ≡ unpacked → packed′ ≡ packed → top′ ≡ top → Looked starts lengths c js unpacked′ packed′ top′ i
+looked-is l e f g = record { walkable = l .walkable; within = l .within; few = omega (arith, l .few, e); elsewhere = e ∙ l .elsewhere; bytes = f ∙ l .bytes; ends = g ∙ l .ends }

@@ -17,7 +17,11 @@ pub fn counted(unpacked: usize, start: usize, packed: usize) -> usize
     requires { ⌜ unpacked + 1 < 2 ^ 64 ⌝ }
     ensures { λ r. ⌜ r ≡ unpacked + pick (eqb start packed) 0 1 ⌝ }
 {
-    if start == packed { unpacked } else { unpacked + 1 }
+    if start == packed {
+        unpacked
+    } else {
+        unpacked + 1
+    }
 }
 
 // Looks at the cells of the order, but for one.

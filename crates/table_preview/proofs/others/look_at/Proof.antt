@@ -1,79 +1,89 @@
+-- `others::look_at` meets its contract, by the laws of Looking.
+-- Assumes nothing.
+use mathlib.Core.Path.{_≡_, _∙_}
+use mathlib.Core.Logic.{⊎-elim}
+use Prim.Native.Nat.{ℕ, _-_}
+use native.Mathlib.Omega.{arith}
+use lib.ListN.{length, getD}
+use borrow.Author.Needs.{needs}
+use Rattle.table.specs.Table.{mostStore}
+use Rattle.table_check.specs.Check.{Reached}
+use Rattle.table_preview.proofs.Looking.{Looked, looked-begins, looked-ends, cell-reached, looked-past, bytes-small, looked-more, looked-is}
 use Rattle.table_preview.proofs.others.look_at.Statement.{statement}
 use Rattle.table_preview.proofs.others.look_at.Tie as tie
-use Rattle.table_preview.proofs.others.look_at.Reads as reads
-use Rattle.table_preview.proofs.others.look_at.Lts as lts
-use Rattle.table_preview.proofs.others.counted.Reads as counted-reads
-use Rattle.table_sums.proofs.greater.Reads as greater-reads
 
 abbrev Inv-loop : tie.InvT-loop
-Inv-loop starts lengths order cell unpacked₀ packed₀ top₀ i₀ unpacked packed top i = ?
+Inv-loop starts lengths order cell unpacked₀ packed₀ top₀ i₀ unpacked packed top i = Looked starts lengths cell order unpacked packed top i
 
 abbrev μ-loop : tie.MeasureT-loop
-μ-loop starts lengths order cell unpacked₀ packed₀ top₀ i₀ unpacked packed top i = ?
+μ-loop starts lengths order cell unpacked₀ packed₀ top₀ i₀ unpacked packed top i = length order - i
 
--- src/others.rt:32:5
+-- ---- places
+
+-- a turn, and its cell
+abbrev Turn : Type 0
+Turn = tie.After-shared-slice-known4 Inv-loop μ-loop
+
+abbrev start : tie.At-loop Inv-loop μ-loop → tie.Start Inv-loop μ-loop
+start h = h .before .before .before .before
+
+abbrev head : Turn → tie.At-loop Inv-loop μ-loop
+head c = c .before .before
+
+reached : (c : Turn) → let a = start (head c) .args in Reached (a .starts .now) (a .lengths .now) (getD (a .order .now) (head c .loop .i) 0)
+reached c = cell-reached (head c .loop .inv) (c .before .loop-test .taken)
+
+-- ---- answers
+
 loop-holds : tie.Need-loop-holds Inv-loop μ-loop
-loop-holds c = ?
+loop-holds c = looked-begins (c .before .before .before .pre)
 
--- src/others.rt:33:17
 mul-j : tie.Need-mul-j Inv-loop μ-loop
-mul-j c = ?
+mul-j c = omega arith
 
--- src/others.rt:33:17
 shared-slice-read-j : tie.Need-shared-slice-read-j Inv-loop μ-loop
-shared-slice-read-j c = ?
+shared-slice-read-j c = omega arith
 
--- src/others.rt:33:17
 cast-j : tie.Need-cast-j Inv-loop μ-loop
-cast-j c = ?
+cast-j c = omega (arith, c .shared-slice-known4 .given (head c .loop .i))
 
--- src/others.rt:35:25
 mul-start : tie.Need-mul-start Inv-loop μ-loop
-mul-start c = ?
+mul-start c = omega (arith, reached (c .before))
 
--- src/others.rt:35:25
 shared-slice-read-start : tie.Need-shared-slice-read-start Inv-loop μ-loop
-shared-slice-read-start c = ?
+shared-slice-read-start c = omega (arith, reached (c .before .before))
 
--- src/others.rt:36:24
 mul-size : tie.Need-mul-size Inv-loop μ-loop
-mul-size c = ?
+mul-size c = omega (arith, reached (c .before .before))
 
--- src/others.rt:36:24
 shared-slice-read-size : tie.Need-shared-slice-read-size Inv-loop μ-loop
-shared-slice-read-size c = ?
+shared-slice-read-size c = omega (arith, reached (c .before .before .before))
 
--- src/others.rt:37:13
 counted-requires : tie.Need-counted-requires Inv-loop μ-loop
-counted-requires c κs = ?
+counted-requires c κs = let t = c .before .before .before in omega (arith, head t .loop .inv .few, t .before .loop-test .taken)
 
--- src/others.rt:38:13
 add-packed : tie.Need-add-packed Inv-loop μ-loop
-add-packed c = ?
+unfolding mostStore
+add-packed c =
+    let p = c .before .before .before in
+    let t = p .before in
+    omega (arith, bytes-small (head t .loop .inv) (t .before .loop-test .taken) (p .if1 .taken))
 
--- src/others.rt:39:32
 add-greater : tie.Need-add-greater Inv-loop μ-loop
-add-greater c = ?
+add-greater c = omega (arith, reached (c .before .before .before .before))
 
--- src/others.rt:39:13
-greater-requires : tie.Need-greater-requires Inv-loop μ-loop
-greater-requires c κs = ?
-
--- src/others.rt:41:9
-add-i : tie.Need-add-i Inv-loop μ-loop
-add-i c = ?
-
--- src/others.rt:32:5
-loop-less : tie.Need-loop-less Inv-loop μ-loop
-loop-less c = ?
-
--- src/others.rt:32:5
 loop-again : tie.Need-loop-again Inv-loop μ-loop
-loop-again c = ?
+loop-again c =
+    let t = c .before in
+    let l = head t .loop .inv in
+    let h = t .before .loop-test .taken in
+    ⊎-elim
+    (λ w. looked-is (looked-more l h (w .0 .taken) (w .3 .ensures) (w .4 .ensures)) (w .5) (w .6) (w .7))
+    (λ w. looked-is (looked-past l h (w .0 .left)) (w .1) (w .2) (w .3))
+    (c .if1 .came)
 
--- src/others.rt:24:1
 returns : tie.Need-returns Inv-loop μ-loop
-returns c = ?
+returns c = looked-ends (c .before .loop .inv) (c .loop-test .left)
 
 pub look-at-spec : {M : Type 1} → statement M
 look-at-spec =
@@ -92,8 +102,8 @@ look-at-spec =
     counted-requires
     add-packed
     add-greater
-    greater-requires
-    add-i
-    loop-less
+    (λ c κs. search needs)
+    (λ c. omega arith)
+    (λ c. omega arith)
     loop-again
     returns)
