@@ -125,6 +125,10 @@ lookedAt n t = record { total = sum (t .lengths); unpacked = length (displaced t
 unfoldable pub previewed : Kind → ℕ → Table → ℕ → List ℕ → Value → Answer Preview
 previewed k n t c ms v = mapAnswer (lookedAt n) (setAnswer k n t c ms v)
 
+-- a call that stores in no lent buffer
+abbrev pub answered : {A : Type 0} → Answer A → Outcome A (Unit {0})
+answered a = record { answer = a; buffers = tt }
+
 -- pack: at most so many cells moved, and how many it were
 abbrev pub mostTest : ℕ → Bool
 mostTest most = leb 1 most && leb most 256
