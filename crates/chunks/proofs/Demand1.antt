@@ -25,7 +25,7 @@ use Rattle.codec.proofs.Refusals as codec
 use Rattle.load.specs.Calls.{generateAnswer, generated}
 use Rattle.load.proofs.Refusals as load
 use Rattle.table.specs.Table.{Table}
-use Rattle.table.specs.Calls.{tableAfter, inPlace, tableLengths, makeAnswer, made, readAnswer, readOut, setAnswer, cellSet, packAnswer, cellsPacked}
+use Rattle.table.specs.Calls.{tableAfter, inPlace, tableLengths, makeAnswer, made, readAnswer, readOut, setAnswer, cellSet, previewed, answered, packAnswer, cellsPacked}
 use Rattle.table.specs.Lying.{movedCells}
 use Rattle.table.proofs.Refusals as table
 use Rattle.chunks.specs.Chunks.{laterChunks}
@@ -109,6 +109,10 @@ module _ {rs : List Rule} (ns : List ℕ) where
   place-answered f (gives t) old h n = tt
   place-answered f (refuses k) old h n = (answers-in ns h n, refl)
 
+  answer-answered : {L : Type 0} (a : Answer L) → InOrder rs a → numbered ns rs ≡ true → Answered ns tt (answered a)
+  answer-answered (gives l) h n = tt
+  answer-answered (refuses k) h n = (answers-in ns h n, refl)
+
 -- ---- the demand
 
 pub demand1 : Demand1
@@ -130,5 +134,6 @@ demand1 = record {
   make-table = λ k n c out. table-answered _ (makeAnswer k n c out) out (table.refusals .make k n c out) refl;
   read-table = λ k n t out. content-answered _ (readAnswer k n t (lengthsOf out)) out (table.refusals .read k n t out) refl;
   set-cell = λ k n t c ms v. place-answered _ (λ u. tt) (setAnswer k n t c ms v) t (table.refusals .set k n t c ms v) refl;
+  preview-cell = λ k n t c ms v. answer-answered _ (previewed k n t c ms v) (table.refusals .preview k n t c ms v) refl;
   pack-cells = λ k n t most. place-answered _ (λ u. length (movedCells most n t)) (packAnswer k n t most) t (table.refusals .pack k n t most) refl;
 }

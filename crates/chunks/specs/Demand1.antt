@@ -14,7 +14,7 @@ use Rattle.array.specs.Calls.{endiannessReversed, subsetCells}
 use Rattle.codec.specs.Calls.{encoded, decoded, interleavedDecoded, interleavedEncoded}
 use Rattle.load.specs.Calls.{generated}
 use Rattle.table.specs.Table.{Table}
-use Rattle.table.specs.Calls.{made, readOut, cellSet, cellsPacked}
+use Rattle.table.specs.Calls.{made, readOut, cellSet, previewed, answered, cellsPacked}
 use Rattle.chunks.specs.Calls.{extracted, merged, partiallyDecoded}
 
 -- ---- the numbers of each call, in the order of their tests
@@ -55,6 +55,7 @@ makeTableNumbers = 1 ∷ 2 ∷ 4 ∷ 5 ∷ 6 ∷ []
 abbrev pub readTableNumbers : List ℕ
 readTableNumbers = 1 ∷ 2 ∷ 4 ∷ 5 ∷ 6 ∷ []
 
+-- a setting's, and its preview's
 abbrev pub setCellNumbers : List ℕ
 setCellNumbers = 1 ∷ 2 ∷ 4 ∷ 5 ∷ 15 ∷ 16 ∷ []
 
@@ -89,4 +90,5 @@ pub record Demand1 : Type 0 where
   pub make-table : (k : Kind) (n : ℕ) (c : Content) (out : Table) → Answered makeTableNumbers out (made k n c out)
   pub read-table : (k : Kind) (n : ℕ) (t : Table) (out : Content) → Answered readTableNumbers out (readOut k n t out)
   pub set-cell : (k : Kind) (n : ℕ) (t : Table) (c : ℕ) (ms : List ℕ) (v : Value) → Answered setCellNumbers t (cellSet k n t c ms v)
+  pub preview-cell : (k : Kind) (n : ℕ) (t : Table) (c : ℕ) (ms : List ℕ) (v : Value) → Answered setCellNumbers tt (answered (previewed k n t c ms v))
   pub pack-cells : (k : Kind) (n : ℕ) (t : Table) (most : ℕ) → Answered packCellsNumbers t (cellsPacked k n t most)

@@ -9,7 +9,7 @@ use Rattle.array.specs.Kind.{Form, fixed, ragged, Place}
 use Rattle.array.specs.Content.{Content, RaggedContent}
 use Rattle.array.specs.Buffers.{Lengths, RaggedLengths}
 use Rattle.table.specs.Table.{Table}
-use Rattle.table.specs.Calls.{TableLengths}
+use Rattle.table.specs.Calls.{TableLengths, Preview}
 
 pub record Exported (B : Type 0) : Type 0 where
   pub status : ℕ
@@ -36,6 +36,11 @@ abbrev pub fourLengths : Answer TableLengths → List ℕ → List ℕ
 fourLengths (gives n) old = set (set (set (set old 0 (n .masks)) 1 (n .starts)) 2 (n .lengths)) 3 (n .store)
 fourLengths (refuses k) old = old
 
+-- a preview names the sum of lengths and how many cells are not packed
+abbrev pub previewLengths : Answer Preview → List ℕ → List ℕ
+previewLengths (gives p) old = set (set old 0 (p .total)) 1 (p .unpacked)
+previewLengths (refuses k) old = old
+
 -- a setting names nothing
 abbrev pub noLength : Answer (Unit {0}) → List ℕ → List ℕ
 noLength a old = old
@@ -59,6 +64,9 @@ exportFour o old = exportBy fourLengths o old
 -- a packing call names how many it moved
 abbrev pub exportMoved : Outcome ℕ Table → List ℕ → Exported Table
 exportMoved o old = exportBy oneLength o old
+
+abbrev pub exportPreview : Outcome Preview (Unit {0}) → List ℕ → Exported (Unit {0})
+exportPreview o old = exportBy previewLengths o old
 
 abbrev pub exportSet : Outcome (Unit {0}) Table → Exported Table
 exportSet o = exportBy noLength o []

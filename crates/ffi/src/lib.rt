@@ -4,6 +4,7 @@
 use array::answer::Written;
 use array::answer::WrittenArray;
 use array::answer::WrittenRagged;
+use table::answer::Previewed;
 use table::answer::Settled;
 use table::answer::WrittenTable;
 use valid::numbers::IndexRead;
@@ -18,9 +19,9 @@ ghost use Rattle.array.specs.Calls.{subsetCells};
 ghost use Rattle.codec.specs.Calls.{encoded, decoded, interleavedDecoded, interleavedEncoded};
 ghost use Rattle.load.specs.Calls.{generated};
 ghost use Rattle.chunks.specs.Calls.{extracted, merged, partiallyDecoded};
-ghost use Rattle.table.specs.Calls.{made, readOut, cellSet, cellsPacked};
-ghost use Rattle.table.specs.Meaning.{tableBy, toldTable, toldSettled};
-ghost use Rattle.ffi.specs.Exported.{handed, withGiven, byIndex, statusOf, oneLength, twoLengths, threeLengths, fourLengths, exportOne, exportTwo, exportThree, exportFour, exportMoved, exportSet};
+ghost use Rattle.table.specs.Calls.{made, readOut, cellSet, previewed, answered, cellsPacked};
+ghost use Rattle.table.specs.Meaning.{tableBy, toldTable, toldSettled, toldPreview};
+ghost use Rattle.ffi.specs.Exported.{handed, withGiven, byIndex, statusOf, oneLength, twoLengths, threeLengths, fourLengths, previewLengths, exportOne, exportTwo, exportThree, exportFour, exportMoved, exportPreview, exportSet};
 
 // A kind as numbers: form 0 fixed, 1 ragged; size is the cell size or the index width; order 0 little or start, 1 big or end; mask 0
 // bytes, 1 packed.
@@ -95,6 +96,20 @@ fn put_four_lengths(answer: WrittenTable, lengths: &mut [u64; 4]) -> u32
             lengths[1] = starts as u64;
             lengths[2] = cell_lengths as u64;
             lengths[3] = store as u64;
+            0
+        }
+    }
+}
+
+fn put_preview(answer: Previewed, lengths: &mut [u64; 2]) -> u32
+    ensures status { λ r. ⌜ r ≡ statusOf (toldPreview answer) ⌝ }
+    ensures lengths { λ _. ⌜ now (lengths .exit) ≡ previewLengths (toldPreview answer) (now (lengths .entry)) ⌝ }
+{
+    match answer {
+        Previewed::Refused(e) => e as u32,
+        Previewed::After(total, unpacked) => {
+            lengths[0] = total as u64;
+            lengths[1] = unpacked as u64;
             0
         }
     }
@@ -473,6 +488,44 @@ pub extern "C" fn dpx_table_set(
                 value,
             );
             status_of(answer)
+        }
+    }
+}
+
+// The parameters of dpx_table_set, nothing in place, and the lengths.
+#[no_mangle]
+pub extern "C" fn dpx_table_preview(
+    kind: DpxKind,
+    cells: u64,
+    masks: &[u8],
+    starts: &[u64],
+    cell_lengths: &[u64],
+    store: &[u8],
+    cell: u64,
+    cell_masks: &[u8],
+    value: &[u8],
+    lengths: &mut [u64; 2],
+) -> u32
+    ensures { λ r. ⌜ handed r (now (lengths .exit)) tt
+        ≡ exportPreview (withGiven (numberedKind (kind .depth) (kind .form) (kind .size) (kind .order) (kind .mask)) tt
+        (λ k. answered (previewed k cells (tableBy (now (masks .entry)) (now (starts .entry)) (now («cell_lengths» .entry)) (now (store .entry)))
+        cell (now («cell_masks» .entry)) (now (value .entry))))) (now (lengths .entry)) ⌝ }
+{
+    match kind_of(kind) {
+        KindRead::Refused(e) => e as u32,
+        KindRead::Kind(k) => {
+            let answer = table_preview::preview_cell(
+                k,
+                cells as usize,
+                masks,
+                starts,
+                cell_lengths,
+                store,
+                cell as usize,
+                cell_masks,
+                value,
+            );
+            put_preview(answer, lengths)
         }
     }
 }

@@ -13,3 +13,5 @@ pub mod Making
 pub mod Setting
 pub mod Refusals
 pub mod Instance
+pub mod Previewing
+pub mod Foreseeing

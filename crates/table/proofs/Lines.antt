@@ -5,11 +5,11 @@ use Rattle.array.specs.Limits.{mostCells, mostBytes}
 use Rattle.table.specs.Table.{mostStore, tableTest}
 use Rattle.table.specs.Lying.{packed, packedWhole}
 use Rattle.table.specs.Setting.{settled}
-use Rattle.table.specs.Calls.{makeAnswer, made, readAnswer, readOut, setAnswer, cellSet, packAnswer, cellsPacked}
+use Rattle.table.specs.Calls.{makeAnswer, made, readAnswer, readOut, setAnswer, cellSet, previewed, packAnswer, cellsPacked}
 use Rattle.table.specs.Lines.{Lines}
 
 pub lines : Lines
-unfolding mostCells mostBytes mostStore tableTest packed packedWhole settled makeAnswer made readAnswer readOut setAnswer cellSet packAnswer cellsPacked
+unfolding mostCells mostBytes mostStore tableTest packed packedWhole settled makeAnswer made readAnswer readOut setAnswer cellSet previewed packAnswer cellsPacked
 lines = record {
   rests = refl;
   no-room = refl;
@@ -37,4 +37,10 @@ lines = record {
   beyond = refl;
   no-cell = refl;
   full = refl;
+  foreseen = refl;
+  foreseen-packed = refl;
+  foreseen-empty = refl;
+  foreseen-hidden = refl;
+  foreseen-no-cell = refl;
+  foreseen-full = refl;
 }

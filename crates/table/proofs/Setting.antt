@@ -154,13 +154,13 @@ module _ {d n : ℕ} {t : Table} (ok : TableOk d n t) (c : ℕ) (low : c < n) (x
   start-here : startOf base c ≡ 0
   start-here = getD-set-same (t .starts) c 0 0 (omega (arith, ok .starts-fit))
 
-  start-other : (j : ℕ) → (j ≡ c → ⊥) → startOf base j ≡ startOf t j
+  pub start-other : (j : ℕ) → (j ≡ c → ⊥) → startOf base j ≡ startOf t j
   start-other j ne = getD-set-other (t .starts) c j 0 0 ne
 
-  length-here : lengthOf base c ≡ 0
+  pub length-here : lengthOf base c ≡ 0
   length-here = getD-set-same (t .lengths) c 0 0 (omega (arith, ok .lengths-fit))
 
-  length-other : (j : ℕ) → (j ≡ c → ⊥) → lengthOf base j ≡ lengthOf t j
+  pub length-other : (j : ℕ) → (j ≡ c → ⊥) → lengthOf base j ≡ lengthOf t j
   length-other j ne = getD-set-other (t .lengths) c j 0 0 ne
 
   base-strict : All Strict (base .masks)
@@ -225,19 +225,19 @@ module _ {d n : ℕ} {t : Table} (ok : TableOk d n t) (c : ℕ) (low : c < n) (x
     abbrev put : Table
     put = placedAt (topOf u n) c v u
 
-    none-there : lengthOf u c ≡ 0
+    pub none-there : lengthOf u c ≡ 0
     none-there = ap (λ (ls : List ℕ). getD ls c 0) (m .lengths) ∙ length-here
 
-    put-start : startOf put c ≡ topOf u n
+    pub put-start : startOf put c ≡ topOf u n
     put-start = getD-set-same (u .starts) c (topOf u n) 0 (omega (arith, m .sound .starts-fit))
 
-    other-start : (j : ℕ) → (j ≡ c → ⊥) → startOf put j ≡ startOf u j
+    pub other-start : (j : ℕ) → (j ≡ c → ⊥) → startOf put j ≡ startOf u j
     other-start j ne = getD-set-other (u .starts) c j (topOf u n) 0 ne
 
-    put-length : lengthOf put c ≡ length v
+    pub put-length : lengthOf put c ≡ length v
     put-length = getD-set-same (u .lengths) c (length v) 0 (omega (arith, m .sound .lengths-fit))
 
-    other-length : (j : ℕ) → (j ≡ c → ⊥) → lengthOf put j ≡ lengthOf u j
+    pub other-length : (j : ℕ) → (j ≡ c → ⊥) → lengthOf put j ≡ lengthOf u j
     other-length j ne = getD-set-other (u .lengths) c j (length v) 0 ne
 
     put-size : length (put .store) ≡ length (u .store)
@@ -260,7 +260,7 @@ module _ {d n : ℕ} {t : Table} (ok : TableOk d n t) (c : ℕ) (low : c < n) (x
     abbrev RestAt : List ℕ → ℕ → ℕ → Type 0
     RestAt ms j len = RestBy (λ l. maskAt n ms l j) d len
 
-    put-ok : TableOk d n put
+    pub put-ok : TableOk d n put
     put-ok = record {
       masks-fit = m .sound .masks-fit;
       starts-fit = length-set (u .starts) c (topOf u n) ∙ m .sound .starts-fit;

@@ -2,7 +2,7 @@
 -- Assumes nothing.
 use mathlib.Core.Path.{_≡_, refl, sym, ap, ap₂, _∙_, subst}
 use mathlib.Core.Bool.{Bool, true, false, not}
-use mathlib.Core.List.{List, [], _∷_, _++_, map, append-nil}
+use mathlib.Core.List.{List, [], _∷_, _++_, map, append-assoc, append-nil}
 use Prim.Native.Nat.{ℕ, suc, _+_, _≤_, _<_}
 use native.Mathlib.Omega.{arith}
 use native.Mathlib.Nat.{min-le-right}
@@ -20,7 +20,7 @@ use Rattle.table.specs.Table.{Table, TableOk, startOf, lengthOf, bytesOf
 use Rattle.table.specs.Lying.{putAmong, lyingBy, packedAt, packedStart, displaced, moveTo, moveAll, movedCells, packed, packedWhole}
 use Rattle.table.specs.Order.{Follow, Lies}
 use Rattle.table.specs.Meaning.{tableBy}
-use Rattle.table.specs.Walk.{InOrder, Moved}
+use Rattle.table.specs.Walk.{InOrder, Moved, elsewhereBy}
 use Rattle.table.proofs.Order.{All-passing, All-filled, lies-all, lies-some, lies-below, lies-follow, lying-lies, follow-above}
 
 -- ---- lists
@@ -121,6 +121,16 @@ module _ (to : ℕ → ℕ) where
 
 -- ---- the walk
 
+-- the packed start of a cell of js, the cells of t as they lie: where the bytes of those before it end
+packed-here : {n : ℕ} {t : Table} {js : List ℕ} → InOrder n t js → (xs : List ℕ) (j : ℕ) (ys : List ℕ) → js ≡ xs ++ j ∷ ys → packedStart t n j ≡ sum (map (lengthOf t) xs)
+packed-here {n} {t} {js} o xs j ys split =
+    let start = startOf t in
+    let len = lengthOf t in
+    let lies : Lies start len n js = subst (Lies start len n) (sym (o .lying)) (lying-lies start len n) in
+    sym (lying-bytes start len (λ k. ltb (start k) (start j)) (filled t n))
+    ∙ ap (λ (l : List ℕ). packedAt start len l j) (sym (o .lying) ∙ split)
+    ∙ between start len xs j ys (subst (Follow start len 0) split (o .follow)) (subst (All (λ k. 0 < len k)) split (lies-some lies))
+
 -- cell j starts elsewhere than where it is packed
 abbrev elsewhere : ℕ → Table → ℕ → Bool
 elsewhere n t j = not (eqb (startOf t j) (packedStart t n j))
@@ -172,11 +182,7 @@ module _ {most n : ℕ} {t : Table} {js : List ℕ} {u : Table} {i to moved : �
     have = subst (All (λ k. 0 < lengthOf t k)) split (lies-some lies)
 
     packed-is : packedStart t n j ≡ to
-    packed-is =
-        sym (lying-bytes (startOf t) (lengthOf t) (λ k. ltb (startOf t k) (startOf t j)) (filled t n))
-        ∙ ap (λ (l : List ℕ). packedAt (startOf t) (lengthOf t) l j) (sym (o .lying) ∙ split)
-        ∙ between (startOf t) (lengthOf t) (take i js) j rest follows have
-        ∙ sym (m .place)
+    packed-is = packed-here o (take i js) j rest split ∙ sym (m .place)
 
     kept : startOf u j ≡ startOf t j
     kept =
@@ -321,3 +327,23 @@ in-order {d} {n} {t} {js} ok e =
           lies-all l (λ j. ending start len j ≤ size)
           (All-filled start len n (λ j. ending start len j ≤ size) (All-map (λ j. Placed size (start j) (len j)) (λ j. ending start len j ≤ size) (λ j p. p .0) (from 0 n) (ok .placed)));
     }
+
+-- ---- how many start elsewhere, counted on the way
+
+pub walk-counts : {n : ℕ} {t : Table} {js : List ℕ} → InOrder n t js → length (displaced t n) ≡ elsewhereBy (startOf t) (lengthOf t) 0 js
+walk-counts {n} {t} {js} o = ap (λ (l : List ℕ). length (passing (elsewhere n t) l)) (sym (o .lying)) ∙ go [] js refl
+  where
+    one : (b : Bool) (j : ℕ) (zs : List ℕ) → length (pick (not b) (j ∷ zs) zs) ≡ pick b 0 1 + length zs
+    one true j zs = omega arith
+    one false j zs = omega arith
+
+    go : (xs ys : List ℕ) → js ≡ xs ++ ys → length (passing (elsewhere n t) ys) ≡ elsewhereBy (startOf t) (lengthOf t) (sum (map (lengthOf t) xs)) ys
+    go xs [] e = refl
+    go xs (j ∷ ys) e =
+        let at = sum (map (lengthOf t) xs) in
+        let here : eqb (startOf t j) (packedStart t n j) ≡ eqb (startOf t j) at = ap (eqb (startOf t j)) (packed-here o xs j ys e) in
+        let behind : sum (map (lengthOf t) (xs ++ (j ∷ []))) ≡ at + lengthOf t j =
+        omega (arith, ap sum (map-append (lengthOf t) xs (j ∷ [])), sum-append (map (lengthOf t) xs) (lengthOf t j ∷ [])) in
+        let rest : length (passing (elsewhere n t) ys) ≡ elsewhereBy (startOf t) (lengthOf t) (at + lengthOf t j) ys =
+        go (xs ++ (j ∷ [])) ys (e ∙ sym (append-assoc xs (j ∷ []) ys)) ∙ ap (λ (a : ℕ). elsewhereBy (startOf t) (lengthOf t) a ys) behind in
+        one (eqb (startOf t j) (packedStart t n j)) j (passing (elsewhere n t) ys) ∙ ap₂ (λ (b : Bool) (m : ℕ). pick b 0 1 + m) here rest

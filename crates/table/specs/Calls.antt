@@ -1,4 +1,4 @@
--- docs/SPEC.md, S6.18 to S6.21: the calls on a working table: what each answers, with the refusals in their order, and what it leaves behind.
+-- docs/SPEC.md, S6.18 to S6.22: the calls on a working table: what each answers, with the refusals in their order, and what it leaves behind.
 -- Assumes nothing.
 use Prim.Native.Nat.{ℕ, _≤_}
 use mathlib.Core.Bool.{Bool, _&&_}
@@ -11,9 +11,9 @@ use Rattle.array.specs.Kind.{Kind}
 use Rattle.array.specs.Cells.{Cell, Value}
 use Rattle.array.specs.Content.{Content, layout, restForm, unlessKept}
 use Rattle.array.specs.Buffers.{Lengths, lengthsOf, enoughTest, contentOutcome, ifRoom, over}
-use Rattle.array.specs.Places.{offsetAt, stepAt}
+use Rattle.array.specs.Places.{sum, offsetAt, stepAt}
 use Rattle.table.specs.Table.{Table, cellOf, tableKindTest, countTest, tableTest, storeTest}
-use Rattle.table.specs.Lying.{movedCells, packed}
+use Rattle.table.specs.Lying.{displaced, movedCells, packed}
 use Rattle.table.specs.Setting.{settingTest, settingOf, settled, sumAfter}
 
 -- ---- make: the table of a valid array's rest form, packed in cell order
@@ -112,6 +112,22 @@ setAnswer k n t c ms v =
 unfoldable pub cellSet : Kind → ℕ → Table → ℕ → List ℕ → Value → Outcome (Unit {0}) Table
 unfolding setAnswer
 cellSet k n t c ms v = record { answer = mapAnswer (λ u. tt) (setAnswer k n t c ms v); buffers = inPlace (setAnswer k n t c ms v) t }
+
+-- preview: the setting's refusal, or what would be there after it; nothing is changed
+pub record Preview : Type 0 where
+  pub total : ℕ
+  pub unpacked : ℕ
+
+-- the sum of lengths of a table, and how many of its n cells start elsewhere than where they are packed
+abbrev pub lookedAt : ℕ → Table → Preview
+lookedAt n t = record { total = sum (t .lengths); unpacked = length (displaced t n) }
+
+unfoldable pub previewed : Kind → ℕ → Table → ℕ → List ℕ → Value → Answer Preview
+previewed k n t c ms v = mapAnswer (lookedAt n) (setAnswer k n t c ms v)
+
+-- a call that stores in no lent buffer
+abbrev pub answered : {A : Type 0} → Answer A → Outcome A (Unit {0})
+answered a = record { answer = a; buffers = tt }
 
 -- pack: at most so many cells moved, and how many it were
 abbrev pub mostTest : ℕ → Bool

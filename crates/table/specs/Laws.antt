@@ -1,11 +1,11 @@
--- docs/SPEC.md, S13.11 to S13.14: what holds of working tables over several calls, outputs long enough.
+-- docs/SPEC.md, S13.11 to S13.15: what holds of working tables over several calls, outputs long enough.
 -- Assumes nothing.
-use Prim.Native.Nat.{ℕ, zero, suc, _+_, _*_, _≤_, _<_}
+use Prim.Native.Nat.{ℕ, zero, suc, _+_, _*_, _≤_, _<_, min}
 use mathlib.Core.Path.{_≡_}
 use mathlib.Core.List.{List, []}
 use lib.ListN.{length, take, drop}
 use lib.Dec.{eqb}
-use Rattle.array.specs.Answer.{Answer, gives, Outcome}
+use Rattle.array.specs.Answer.{Answer, gives, mapAnswer, Outcome}
 use Rattle.array.specs.Limits.{mostBytes}
 use Rattle.array.specs.Lists.{pick}
 use Rattle.array.specs.Kind.{Kind}
@@ -16,7 +16,7 @@ use Rattle.array.specs.Places.{sum}
 use Rattle.table.specs.Table.{Table, cellOf, TableKind, CountOk, TableOk, mostStore}
 use Rattle.table.specs.Lying.{displaced, movedCells}
 use Rattle.table.specs.Setting.{SettingOk, settingOf, sumAfter}
-use Rattle.table.specs.Calls.{TableLengths, tableLengths, TableEnough, tableOf, contentOf, made, readOut, cellSet, cellsPacked}
+use Rattle.table.specs.Calls.{TableLengths, tableLengths, TableEnough, tableOf, contentOf, made, readOut, cellSet, Preview, lookedAt, previewed, cellsPacked}
 
 -- a table that the calls accept
 pub record Working (k : Kind) (n : ℕ) (t : Table) : Type 0 where
@@ -85,3 +85,17 @@ pub record Packs : Type 0 where
   -- r / most calls, rounded up, are the least q with r ≤ q × most
   pub whole : (k : Kind) (n : ℕ) (t : Table) (most q : ℕ) → Working k n t → 1 ≤ most → most ≤ 256 → length (displaced t n) ≤ q * most
       → displaced (packedTimes q k n most t) n ≡ []
+
+-- ---- a preview is the setting made on a copy, and a look there
+
+pub record PreviewLaw (k : Kind) (n : ℕ) (t : Table) (c : ℕ) (ms : List ℕ) (v : Value) : Type 0 where
+  -- refused by the same number, or by none
+  pub refusal : mapAnswer (λ p. tt) (previewed k n t c ms v) ≡ cellSet k n t c ms v .answer
+  pub looks : cellSet k n t c ms v .answer ≡ gives tt → previewed k n t c ms v ≡ gives (lookedAt n (cellSet k n t c ms v .buffers))
+  -- so many cells a packing call would move there, and at most as many as it is asked for
+  pub packs : (p : Preview) (most : ℕ) → previewed k n t c ms v ≡ gives p → 1 ≤ most → most ≤ 256
+      → cellsPacked k n (cellSet k n t c ms v .buffers) most .answer ≡ gives (min most (p .unpacked))
+
+-- on all input
+abbrev pub Previews : Type 0
+Previews = (k : Kind) (n : ℕ) (t : Table) (c : ℕ) (ms : List ℕ) (v : Value) → PreviewLaw k n t c ms v

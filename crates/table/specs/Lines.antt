@@ -1,16 +1,16 @@
--- docs/SPEC.md, S10.37 to S10.44: calls on working tables worked out by hand: where bytes go, what packing moves, and the refusals in their order.
+-- docs/SPEC.md, S10.37 to S10.46: calls on working tables worked out by hand: where bytes go, what packing moves, and the refusals in their order.
 -- Assumes nothing.
 use Prim.Native.Nat.{ℕ}
 use mathlib.Core.Path.{_≡_}
 use mathlib.Core.List.{List, [], _∷_}
 use lib.ListN.{length}
-use Rattle.array.specs.Answer.{gives, refuses, Outcome}
+use Rattle.array.specs.Answer.{Answer, gives, refuses, Outcome}
 use Rattle.array.specs.Kind.{Kind, byteKind, ragged, fixed, little, atStart}
 use Rattle.array.specs.Content.{Content}
 use Rattle.array.specs.Buffers.{Lengths}
 use Rattle.table.specs.Table.{Table}
 use Rattle.table.specs.Lying.{displaced}
-use Rattle.table.specs.Calls.{TableLengths, made, readOut, cellSet, cellsPacked}
+use Rattle.table.specs.Calls.{TableLengths, made, readOut, cellSet, Preview, previewed, cellsPacked}
 
 -- ragged kinds of depth 0, 1 and 2
 abbrev pub flat : Kind
@@ -34,6 +34,10 @@ leaves t = record { answer = gives tt; buffers = t }
 
 abbrev pub moves : ℕ → Table → Outcome ℕ Table
 moves r t = record { answer = gives r; buffers = t }
+
+-- after the setting the lengths would sum to so many, with so many cells not packed
+abbrev pub foresees : ℕ → ℕ → Answer Preview
+foresees total unpacked = gives (record { total = total; unpacked = unpacked })
 
 -- nothing is stored
 abbrev pub keeps : {A B : Type 0} → ℕ → B → Outcome A B
@@ -106,3 +110,12 @@ pub record Lines : Type 0 where
   pub beyond : cellsPacked flat 1 (table [] (18446744073709551615 ∷ []) (1 ∷ []) (x ∷ [])) 1 ≡ keeps 4 (table [] (18446744073709551615 ∷ []) (1 ∷ []) (x ∷ []))
   pub no-cell : cellSet flat 1 (table [] (0 ∷ []) (0 ∷ []) []) 1 [] (a ∷ []) ≡ keeps 15 (table [] (0 ∷ []) (0 ∷ []) [])
   pub full : cellSet flat 1 (table [] (0 ∷ []) (0 ∷ []) []) 0 [] (a ∷ []) ≡ keeps 16 (table [] (0 ∷ []) (0 ∷ []) [])
+  -- a preview: right behind the highest-lying cell both start elsewhere; where all are packed first, none does
+  pub foreseen : previewed flat 2 (table [] (0 ∷ 1 ∷ []) (1 ∷ 1 ∷ []) (x ∷ y ∷ o ∷ o ∷ o ∷ [])) 0 [] (a ∷ b ∷ c ∷ []) ≡ foresees 4 2
+  pub foreseen-packed : previewed flat 2 (table [] (0 ∷ 1 ∷ []) (1 ∷ 1 ∷ []) (x ∷ y ∷ o ∷ o ∷ [])) 0 [] (a ∷ b ∷ c ∷ []) ≡ foresees 4 0
+  -- bytes given up leave those behind them displaced
+  pub foreseen-empty : previewed flat 2 (table [] (0 ∷ 1 ∷ []) (1 ∷ 1 ∷ []) (x ∷ y ∷ o ∷ o ∷ [])) 0 [] [] ≡ foresees 1 1
+  pub foreseen-hidden : previewed single 1 (table (1 ∷ []) (0 ∷ []) (1 ∷ []) (x ∷ [])) 0 (0 ∷ []) (a ∷ b ∷ c ∷ []) ≡ foresees 0 0
+  -- refused as the setting is
+  pub foreseen-no-cell : previewed flat 1 (table [] (0 ∷ []) (0 ∷ []) []) 1 [] (a ∷ []) ≡ refuses 15
+  pub foreseen-full : previewed flat 1 (table [] (0 ∷ []) (0 ∷ []) []) 0 [] (a ∷ []) ≡ refuses 16

@@ -11,3 +11,9 @@ pub enum Settled {
     Set,
     Refused(u8),
 }
+
+// What would be there after a setting: the sum of lengths, and how many cells are not where they are packed.
+pub enum Previewed {
+    After(usize, usize),
+    Refused(u8),
+}

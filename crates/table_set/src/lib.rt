@@ -9,26 +9,18 @@ use table_kind::is_table_kind;
 use table_order::FEW;
 use table_order::few;
 use table_order::many;
+use table_setting::fit::Fitted;
+use table_setting::fit::fit;
+use table_setting::masks;
 ghost use mathlib.Core.Path.{_≡_};
 ghost use Prim.Native.Nat.{_≤_};
 ghost use lib.ListN.{length};
-ghost use Rattle.array.specs.Lists.{pick};
 ghost use Rattle.array.specs.Meaning.{kindOf};
 ghost use Rattle.table.specs.Table.{TableKind, CountOk};
 ghost use Rattle.table.specs.Calls.{cellSet};
 ghost use Rattle.table.specs.Meaning.{tableBy, outcomeSettled};
-ghost use Rattle.table_set.specs.Settle.{Sound, Ready, settledBy, settingBy};
-
-pub mod masks;
-pub mod place;
-pub mod sums;
-
-// A length that counts only where the value is shown.
-fn kept_length(shown: bool, length: usize) -> usize
-    ensures { λ r. ⌜ r ≡ pick shown length 0 ⌝ }
-{
-    if shown { length } else { 0 }
-}
+ghost use Rattle.table_setting.specs.Settle.{Sound, Ready, settledBy};
+ghost use Rattle.table_set.specs.Settle.{settingBy};
 
 // The setting made, in a table that has room for it: the old bytes are given up, and `size` new ones put in.
 // 9 parameters: a table is four slices, and a setting three.
@@ -51,7 +43,7 @@ fn settle(
     starts[cell] = 0;
     lengths[cell] = 0;
     if 0 < size {
-        place::put_bytes(starts, lengths, store, order, cell, value);
+        table_place::put_bytes(starts, lengths, store, order, cell, value);
     }
 }
 
@@ -70,30 +62,24 @@ fn set_sound(
     ensures { λ r. ⌜ outcomeSettled r (now (masks .exit)) (now (starts .exit)) (now (lengths .exit)) (now (store .exit))
         ≡ settingBy cell (now («cell_masks» .entry)) (now (value .entry)) (tableBy (now (masks .entry)) (now (starts .entry)) (now (lengths .entry)) (now (store .entry))) ⌝ }
 {
-    if !table_kind::store_ok(store.len()) {
-        return Settled::Refused(refusal::SIZE);
+    let fitted = fit(lengths, store.len(), cell, cell_masks, value.len());
+    match fitted {
+        Fitted::Refused(e) => Settled::Refused(e),
+        Fitted::Fits(size, _) => {
+            settle(
+                masks,
+                starts,
+                lengths,
+                store,
+                order,
+                cell,
+                cell_masks,
+                value,
+                size,
+            );
+            Settled::Set
+        }
     }
-    if starts.len() <= cell {
-        return Settled::Refused(table::refusal::CELL);
-    }
-    let shown = masks::all_set(cell_masks);
-    let size = kept_length(shown, value.len());
-    let others = sums::sum_of(lengths) - lengths[cell] as usize;
-    if store.len() - others < size {
-        return Settled::Refused(table::refusal::FULL);
-    }
-    settle(
-        masks,
-        starts,
-        lengths,
-        store,
-        order,
-        cell,
-        cell_masks,
-        value,
-        size,
-    );
-    Settled::Set
 }
 
 // The same of a sound kind and count: 4 before them. `order` has room for the cells as they lie.

@@ -8,7 +8,8 @@ use Rattle.array.specs.Meaning.{kindOf}
 use Rattle.table.specs.Table.{Table, TableKind, CountOk, tableKindTest}
 use Rattle.table.specs.Meaning.{tableBy}
 use Rattle.table.proofs.Rules.{table-kind-ok, count-ok}
-use Rattle.table_set.proofs.Outcomes.{no-kind, no-count}
+use Rattle.table_setting.proofs.Outcomes.{no-kind, no-count}
+use Rattle.table_set.proofs.Outcomes.{set-is}
 use Rattle.table_set.proofs.set_cell.Statement.{statement}
 use Rattle.table_set.proofs.set_cell.Tie as tie
 
@@ -42,14 +43,16 @@ asked c =
 returns : tie.Need-returns
 returns c =
     let s = start (c .before) in
-    no-kind (kindOf (s .args .kind)) (s .args .cells) (table s) (s .args .cell) (s .args .cell-masks .now) (s .args .value .now)
-    (sym (c .before .is-table-kind .ensures) ∙ not-true (c .before .is-table-kind .result) (c .if1 .taken))
+    set-is (kindOf (s .args .kind)) (s .args .cells) (table s) (s .args .cell) (s .args .cell-masks .now) (s .args .value .now)
+    (no-kind (kindOf (s .args .kind)) (s .args .cells) (table s) (s .args .cell) (s .args .cell-masks .now) (s .args .value .now)
+    (sym (c .before .is-table-kind .ensures) ∙ not-true (c .before .is-table-kind .result) (c .if1 .taken)))
 
 returns-2 : tie.Need-returns-2
 returns-2 c =
     let s = counted (c .before) in
-    no-count (kindOf (s .args .kind)) (s .args .cells) (table s) (s .args .cell) (s .args .cell-masks .now) (s .args .value .now) (kind (c .before .before))
-    (sym (c .before .count-ok .ensures) ∙ not-true (c .before .count-ok .result) (c .if2 .taken))
+    set-is (kindOf (s .args .kind)) (s .args .cells) (table s) (s .args .cell) (s .args .cell-masks .now) (s .args .value .now)
+    (no-count (kindOf (s .args .kind)) (s .args .cells) (table s) (s .args .cell) (s .args .cell-masks .now) (s .args .value .now) (kind (c .before .before))
+    (sym (c .before .count-ok .ensures) ∙ not-true (c .before .count-ok .result) (c .if2 .taken)))
 
 set-few-requires : tie.Need-set-few-requires
 set-few-requires c κs =

@@ -1,12 +1,17 @@
--- `set_sound` meets its contract, by the laws of Judging.
+-- `set_sound` meets its contract: where the setting fits it is made, and else refused.
 -- Assumes nothing.
-use mathlib.Core.Path.{_≡_}
+use mathlib.Core.Path.{_≡_, sym, ap, _∙_}
 use lib.ListN.{length}
 use borrow.Author.Needs.{needs}
-use Rattle.array.specs.Cells.{leaf}
-use Rattle.table.specs.Setting.{settingOf}
-use Rattle.table_set.proofs.Settling.{size-set}
-use Rattle.table_set.proofs.Judging.{long-store, no-cell, total-small, one-of-all, others-fit, too-full, ready, made}
+use Rattle.array.specs.Answer.{gives}
+use Rattle.table.specs.Table.{Table}
+use Rattle.table.specs.Meaning.{tableBy}
+use Rattle.table.proofs.Order.{sum-fits}
+use Rattle.table_setting.specs.Fit.{Fitting, fitted}
+use Rattle.table_setting.specs.Meaning.{toldFit}
+use Rattle.table_setting.proofs.Judging.{ready}
+use Rattle.table_set.specs.Settle.{left}
+use Rattle.table_set.proofs.Outcomes.{fits-by}
 use Rattle.table_set.proofs.set_sound.Statement.{statement}
 use Rattle.table_set.proofs.set_sound.Tie as tie
 
@@ -15,109 +20,73 @@ use Rattle.table_set.proofs.set_sound.Tie as tie
 abbrev entry : tie.After-slice-known4 → tie.Start
 entry c = c .before .before .before .before
 
-abbrev start : tie.After-store-ok → tie.Start
-start c = entry (c .before .before .before .before)
+abbrev lent : tie.After-shared-slice-known2 → tie.Start
+lent c = entry (c .before .before .before)
 
-abbrev judged : tie.Else2 → tie.After-store-ok
-judged c = c .before .before
+abbrev start : tie.After-fit → tie.Start
+start c = lent (c .before .before)
 
-abbrev measured : tie.After-sum-of-arg → tie.Else2
-measured c = c .before .before .before
+abbrev asked : tie.After-fitted2 → tie.After-fit
+asked c = c .before .before
 
-abbrev summed : tie.After-slice-known6 → tie.After-sum-of
-summed c = c .before
+abbrev asking : tie.After-settle-arg5 → tie.After-fitted2
+asking c = let d = c .before .before .before in d .before .before .before
 
-abbrev setting : tie.After-settle → tie.Else3
-setting c = let d = c .before .before .before in d .before .before .before
-
-abbrev settled : tie.After-slice-known11 → tie.After-settle
-settled c =
+abbrev made : tie.After-slice-known10 → tie.After-settle
+made c =
     let d = c .before .before .before .before in
     let e = d .before .before .before .before in
     e .before .before
 
--- how many bytes are kept
-sized : (c : tie.After-sum-of-arg) → c .before .kept-length .result
-    ≡ length (leaf (length (start (judged (measured c)) .args .cell-masks .now))
-    (settingOf (length (start (judged (measured c)) .args .cell-masks .now)) (start (judged (measured c)) .args .cell-masks .now) (start (judged (measured c)) .args .value .now)))
-sized c =
-    let args = start (judged (measured c)) .args in
-    size-set (length (args .cell-masks .now)) (args .cell-masks .now) (args .value .now) (c .before .before .all-set .ensures) (c .before .kept-length .ensures)
+abbrev table : tie.Start → Table
+table s = tableBy (s .args .masks .now) (s .args .starts .now) (s .args .lengths .now) (s .args .store .now)
+
+-- it fits
+abbrev fit-of : tie.After-fitted2 → Fitting
+fit-of c = record { size = c .fitted2 .given .0 .0; others = c .fitted2 .given .0 .1 .0 }
+
+fits : (c : tie.After-fitted2) → let a = start (asked c) .args in fitted (a .lengths .now) (length (a .store .now)) (a .cell) (a .cell-masks .now) (length (a .value .now)) ≡ gives (fit-of c)
+fits c = sym (asked c .fit .ensures) ∙ ap toldFit (c .fitted2 .given .1)
 
 -- ---- answers
 
+fit-requires : tie.Need-fit-requires
+fit-requires c κs =
+    let s = lent (c .before) in
+    let ok = s .pre .table in
+    sum-fits (table s) (length (s .args .starts .now)) (ok .placed) (ok .apart) (ok .lengths-fit)
+
 returns : tie.Need-returns
 returns c =
-    let here = c .before in
-    long-store (start here .pre) (start here .args .cell) (start here .args .value .now) (here .store-ok .ensures) (c .if1 .taken)
-
-returns-2 : tie.Need-returns-2
-returns-2 c =
-    let here = c .before .before in
-    no-cell (start here .pre) (start here .args .cell) (start here .args .value .now) (here .store-ok .ensures) (c .before .if1 .left) (c .if2 .taken)
-
-sum-of-requires : tie.Need-sum-of-requires
-sum-of-requires c κs =
-    let here = judged (measured c) in
-    total-small (start here .pre) (start here .args .cell) (start here .args .value .now) (here .store-ok .ensures) (measured c .before .if1 .left)
-
-sub-others : tie.Need-sub-others
-sub-others c =
-    let known = measured (summed c .before) in
-    let here = judged known in
-    one-of-all (start here .pre) (start here .args .cell) (start here .args .value .now) (here .store-ok .ensures) (known .before .if1 .left) (known .if2 .left)
-    (summed c .sum-of .ensures) (sized (summed c .before))
-
-sub-if3 : tie.Need-sub-if3
-sub-if3 c =
-    let known = measured (summed c .before) in
-    let here = judged known in
-    others-fit (start here .pre) (start here .args .cell) (start here .args .value .now) (here .store-ok .ensures) (known .before .if1 .left) (known .if2 .left)
-    (summed c .sum-of .ensures) (sized (summed c .before))
-
-returns-3 : tie.Need-returns-3
-returns-3 c =
-    let known = measured (summed (c .before) .before) in
-    let here = judged known in
-    too-full (start here .pre) (start here .args .cell) (start here .args .value .now) (here .store-ok .ensures) (known .before .if1 .left) (known .if2 .left)
-    (summed (c .before) .sum-of .ensures) (sized (summed (c .before) .before)) (c .if3 .taken)
+    let here = c .before .before .before in
+    let s = start here in
+    fits-by (s .pre) (s .args .cell) (s .args .value .now) (sym (ap toldFit (c .before .fitted .given .1)) ∙ here .fit .ensures)
 
 settle-requires : tie.Need-settle-requires
 settle-requires c κs =
-    let last = let d = c .before .before .before in d .before .before in
-    let known = measured (summed (last .before) .before) in
-    let here = judged known in
-    ready (start here .pre) (start here .args .cell) (start here .args .value .now) (here .store-ok .ensures) (known .before .if1 .left) (known .if2 .left)
-    (summed (last .before) .sum-of .ensures) (sized (summed (last .before) .before)) (last .if3 .left)
+    let here = asking c in
+    let s = start (asked here) in
+    ready (s .pre) (s .args .cell) (s .args .value .now) (fits here)
 
-returns-4 : tie.Need-returns-4
-returns-4 c =
-    let last = setting (settled c) in
-    let known = measured (summed (last .before) .before) in
-    let here = judged known in
-    made (start here .pre) (start here .args .cell) (start here .args .value .now) (here .store-ok .ensures) (known .before .if1 .left) (known .if2 .left)
-    (summed (last .before) .sum-of .ensures) (sized (summed (last .before) .before)) (last .if3 .left) (settled c .settle .ensures)
+returns-2 : tie.Need-returns-2
+returns-2 c =
+    let here = asking (made c .before) in
+    let s = start (asked here) in
+    ap (λ (u : Table). left (gives u) (table s)) (made c .settle .ensures) ∙ fits-by (s .pre) (s .args .cell) (s .args .value .now) (sym (fits here))
 
 pub set-sound-spec : {M : Type 1} → statement M
 set-sound-spec =
     tie.close
     (tie.spec
-    (λ c κs. search needs)
-    returns
-    returns-2
-    (λ c κs. search needs)
-    (λ c κs. search needs)
-    sum-of-requires
+    fit-requires
     (λ c. search needs)
     (λ c. search needs)
-    sub-others
-    sub-if3
-    (λ c. search needs)
-    returns-3
     settle-requires
     (λ c. search needs)
+    returns
     (λ c. search needs)
     (λ c. search needs)
     (λ c. search needs)
     (λ c. search needs)
-    returns-4)
+    (λ c. search needs)
+    returns-2)

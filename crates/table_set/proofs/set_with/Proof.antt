@@ -15,7 +15,8 @@ use Rattle.table.specs.Setting.{settingTest}
 use Rattle.table.specs.Meaning.{tableBy}
 use Rattle.table_check.specs.declared.Order.{Order}
 use Rattle.table_check.specs.Told.{ToldOrder}
-use Rattle.table_set.proofs.Outcomes.{broken, bad-setting, sound, set-is}
+use Rattle.table_setting.proofs.Outcomes.{broken, bad-setting, sound, answer-is}
+use Rattle.table_set.proofs.Outcomes.{set-is}
 use Rattle.table_set.proofs.set_with.Statement.{statement}
 use Rattle.table_set.proofs.set_with.Tie as tie
 
@@ -74,8 +75,9 @@ returns : tie.Need-returns
 returns c =
     let told = c .before .before in
     let s = start (checked told) in
-    bad-setting (s .pre .0) (s .pre .1) (table s) (s .args .cell) (s .args .cell-masks .now) (s .args .value .now) (keeps told)
-    (sym (c .before .are-sound .ensures) ∙ not-true (c .before .are-sound .result) (c .if1 .taken))
+    set-is (kind s) (s .args .cells) (table s) (s .args .cell) (s .args .cell-masks .now) (s .args .value .now)
+    (bad-setting (s .pre .0) (s .pre .1) (table s) (s .args .cell) (s .args .cell-masks .now) (s .args .value .now) (keeps told)
+    (sym (c .before .are-sound .ensures) ∙ not-true (c .before .are-sound .result) (c .if1 .taken)))
 
 set-sound-requires : tie.Need-set-sound-requires
 set-sound-requires c κs =
@@ -90,8 +92,9 @@ returns-2 : tie.Need-returns-2
 returns-2 c =
     let k = c .before .before .before .before in
     let s = start k in
-    broken (s .pre .0) (s .pre .1) (table s) (s .args .cell) (s .args .cell-masks .now) (s .args .value .now)
-    (subst (λ (r : Order). ToldOrder (kind s .depth) (s .args .cells) (table s) (order k) r) (c .enum-told .given .1) (k .check-cells .ensures))
+    set-is (kind s) (s .args .cells) (table s) (s .args .cell) (s .args .cell-masks .now) (s .args .value .now)
+    (broken (s .pre .0) (s .pre .1) (table s) (s .args .cell) (s .args .cell-masks .now) (s .args .value .now)
+    (subst (λ (r : Order). ToldOrder (kind s .depth) (s .args .cells) (table s) (order k) r) (c .enum-told .given .1) (k .check-cells .ensures)))
 
 returns-3 : tie.Need-returns-3
 returns-3 c =
@@ -99,7 +102,8 @@ returns-3 c =
     let told = e .before .before in
     let s = start (checked told) in
     ended c .set-sound .ensures
-    ∙ set-is (s .pre .0) (s .pre .1) (table s) (s .args .cell) (s .args .cell-masks .now) (s .args .value .now) (keeps told) (setting e)
+    ∙ set-is (kind s) (s .args .cells) (table s) (s .args .cell) (s .args .cell-masks .now) (s .args .value .now)
+    (answer-is (s .pre .0) (s .pre .1) (table s) (s .args .cell) (s .args .cell-masks .now) (s .args .value .now) (keeps told) (setting e))
 
 pub set-with-spec : {M : Type 1} → statement M
 set-with-spec =

@@ -1,0 +1,4 @@
+pub mod Masks
+pub mod Fit
+pub mod Settle
+pub mod Meaning
