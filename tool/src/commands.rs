@@ -24,7 +24,7 @@ struct Command {
     run: fn(&Arguments, &Watch) -> Result<u8, Failure>,
 }
 
-const COMMANDS: [Command; 14] = [
+const COMMANDS: [Command; 15] = [
     Command {
         name: "show",
         help: help::SHOW,
