@@ -1,5 +1,6 @@
 //! Requests on working tables: small ones in all ways, sequences of settings and packings, tables that are scattered, full or broken,
-//! and large ones; each setting is previewed. A sequence goes on from what the judge says; each step is held against the archive with every byte.
+//! and large ones. A sequence goes on from what the judge says; each step is held against the archive with every byte. Each setting is
+//! previewed first.
 
 use crate::cases::{
     Content, Sink, a_number, content, damaged_bytes, damaged_kind, damaged_numbers, fixed, over_01, packed, plane, ragged,
