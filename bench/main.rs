@@ -64,7 +64,7 @@ use Call::*;
 const CALLS: [&str; 7] = ["encode", "decode", "decode_interleaved", "extract", "merge", "partial_decode", "reverse_endianness"];
 const OLDER: &str = "encode_interleaved";
 const LOAD: &str = "generate";
-const TABLE: [&str; 4] = ["table_make", "table_read", "table_set", "table_pack"];
+const TABLE: [&str; 5] = ["table_make", "table_read", "table_set", "table_pack", "table_preview"];
 const START: u32 = 7;
 impl Call<'_> {
     fn name(&self) -> &'static str {
@@ -689,7 +689,7 @@ fn load_rows(b: &mut Bench) {
         }
     }
 }
-/// The four calls on tables of 0 to 8 bytes a cell. What a call changes is put back after each, on both sides alike, within the time: of a setting two
+/// The five calls on tables of 0 to 8 bytes a cell. What a call changes is put back after each, on both sides alike, within the time: of a setting two
 /// numbers, of a packing, and of a setting that packs beforehand, the starts and the store.
 fn table_rows(b: &mut Bench) {
     for depth in [0, 2] {
@@ -848,6 +848,34 @@ fn table_cases(b: &mut Bench, depth: usize, cells: usize, state: tables::State) 
             2.0,
         );
         row(TABLE[2], what, sides);
+
+        let previewing = || unsafe {
+            let (t, mut lengths) = (before, [0; 2]);
+            #[rustfmt::skip]
+            let answer = (a.table_preview)(
+                k, n, t.masks.as_ptr(), t.masks.len(), t.starts.as_ptr(), cells, t.lengths.as_ptr(), cells, t.store.as_ptr(), t.store.len(),
+                cell as u64, masks.as_ptr(), depth, value.as_ptr(), 8, lengths.as_mut_ptr(),
+            );
+            assert_eq!(answer, 0);
+            lengths
+        };
+        let foreseen = tables::preview(&kind, before, cell, &masks, &value, &mut order());
+        assert!(foreseen == Ok(previewing()), "not the same: table_preview");
+        let mut o = order();
+        let other = timed(|| {
+            black_box(tables::preview(black_box(&kind), before, cell, &masks, &value, &mut o).unwrap());
+        });
+        let sides = timer.turns_of(
+            || {
+                timed(|| {
+                    black_box(previewing());
+                })
+            },
+            other,
+            1.0,
+            2.0,
+        );
+        row(TABLE[4], what, sides);
     }
 
     let packing = |t: &mut tables::Table| unsafe {

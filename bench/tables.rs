@@ -1,4 +1,4 @@
-//! Working tables: the plain loops that one would write for the four calls, with the same checks in the same order and the same outcome. Buffers are used
+//! Working tables: the plain loops that one would write for the five calls, with the same checks in the same order and the same outcome. Buffers are used
 //! again, the list for the order in which cells lie too.
 
 use crate::rng::Rng;
@@ -164,8 +164,15 @@ pub fn pack(kind: &[u64; 5], cells: usize, t: &mut Table, most: usize, order: &m
     Ok(move_cells(t, order, most))
 }
 
-#[inline(never)]
-pub fn set(kind: &[u64; 5], t: &mut Table, cell: usize, masks: &[u8], value: &[u8], order: &mut Vec<u32>) -> Result<(), u32> {
+/// How many levels of a setting are set, its value in rest form, and the bytes of all other cells.
+fn check_setting<'a>(
+    kind: &[u64; 5],
+    t: &Table,
+    cell: usize,
+    masks: &[u8],
+    value: &'a [u8],
+    order: &mut Vec<u32>,
+) -> Result<(usize, &'a [u8], u64), u32> {
     let cells = t.starts.len();
     let depth = kind_and_count(kind, cells)?;
     check(depth, cells, t, order)?;
@@ -182,6 +189,13 @@ pub fn set(kind: &[u64; 5], t: &mut Table, cell: usize, masks: &[u8], value: &[u
     if others + value.len() as u64 > t.store.len() as u64 {
         return Err(16);
     }
+    Ok((set, value, others))
+}
+
+#[inline(never)]
+pub fn set(kind: &[u64; 5], t: &mut Table, cell: usize, masks: &[u8], value: &[u8], order: &mut Vec<u32>) -> Result<(), u32> {
+    let (set, value, others) = check_setting(kind, t, cell, masks, value, order)?;
+    let (depth, cells) = (masks.len(), t.starts.len());
     (0..depth).for_each(|level| t.masks[level * cells + cell] = u8::from(level < set));
     if t.lengths[cell] > 0 {
         order.retain(|&other| other as usize != cell);
@@ -198,6 +212,33 @@ pub fn set(kind: &[u64; 5], t: &mut Table, cell: usize, masks: &[u8], value: &[u
     t.store[end..end + value.len()].copy_from_slice(value);
     (t.starts[cell], t.lengths[cell]) = (end as u64, value.len() as u64);
     Ok(())
+}
+
+/// The sum of lengths and how many cells are not packed after a setting: no copy, one walk over the other cells as they lie.
+#[inline(never)]
+pub fn preview(
+    kind: &[u64; 5],
+    t: &Table,
+    cell: usize,
+    masks: &[u8],
+    value: &[u8],
+    order: &mut Vec<u32>,
+) -> Result<[u64; 2], u32> {
+    let (_, value, others) = check_setting(kind, t, cell, masks, value, order)?;
+    let (mut packed, mut end, mut displaced) = (0, 0, 0);
+    for &other in order.iter().filter(|&&other| other as usize != cell) {
+        let (start, length) = (t.starts[other as usize], t.lengths[other as usize]);
+        displaced += u64::from(start != packed);
+        packed += length;
+        end = start + length;
+    }
+    let length = value.len() as u64;
+    let unpacked = match length {
+        0 => displaced,
+        _ if t.store.len() as u64 - end < length => 0,
+        _ => displaced + u64::from(end != packed),
+    };
+    Ok([others + length, unpacked])
 }
 
 // ---------------------------------------------------------------- inputs

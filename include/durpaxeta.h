@@ -2,7 +2,7 @@
  * Durpaxeta: tables of optional and variable-length cells in one checked byte layout.
  *
  * Link with libdurpaxeta.a (x86-64). Nothing else is needed but memmove and memset, as of any C library.
- * The archive has the fourteen calls. All else is static inline here: kinds, answers in words, room for outputs, cells.
+ * The archive has the fifteen calls. All else is static inline here: kinds, answers in words, room for outputs, cells.
  *
  * A TABLE is a kind, a shape and its content.
  *
@@ -20,8 +20,8 @@
  *
  * Masks come before values, and values before offsets, in every call.
  *
- * A WORKING TABLE is a ragged table whose cells are edited in memory: dpx_table_make, dpx_table_set, dpx_table_pack,
- * dpx_table_read. The caller holds its four lists, and hands all of them to each call.
+ * A WORKING TABLE is a ragged table whose cells are edited in memory: dpx_table_make, dpx_table_set, dpx_table_preview,
+ * dpx_table_pack, dpx_table_read. The caller holds its four lists, and hands all of them to each call.
  *
  *   masks         planes as above: depth * cells bytes.
  *   starts        one number a cell: where its bytes begin in the store. 0 where it has none.
@@ -44,7 +44,8 @@
  * which they are tested; the first one met is the answer.
  *
  *   On 0     `lengths` holds how many elements of each output were written, in the order masks, values, offsets; of a
- *            table in the order masks, starts, cell_lengths, store.
+ *            table in the order masks, starts, cell_lengths, store. Of a call that writes no such output it holds what that
+ *            call says.
  *            Elements of an output beyond its length keep what they held.
  *   Refused  no byte of any output changes, `lengths` included.
  *
@@ -55,9 +56,9 @@
  * overlap neither each other nor an input nor `lengths`. Inputs may overlap each other. Pointers to numbers must be
  * aligned for uint64_t.
  *
- * STACK. 16 KiB is enough for any call but dpx_table_read, dpx_table_set and dpx_table_pack, which put the cells in the
- * order in which they lie, in 256 KiB: for these 272 KiB are enough, whatever the number of cells. dpx_merge takes 8 KiB to
- * mark the cells that its subsets hold.
+ * STACK. 16 KiB is enough for any call but dpx_table_read, dpx_table_set, dpx_table_preview and dpx_table_pack, which put the
+ * cells in the order in which they lie, in 256 KiB: for these 272 KiB are enough, whatever the number of cells. dpx_merge
+ * takes 8 KiB to mark the cells that its subsets hold.
  *
  * THREADS. There is no state: any number of calls may run at the same time, on outputs that do not overlap.
  */
@@ -73,9 +74,9 @@ extern "C" {
 
 /* The version, as three numbers, as text, and as one number that grows with it: #if DPX_VERSION_NUMBER >= 1002003 */
 #define DPX_VERSION_MAJOR 0
-#define DPX_VERSION_MINOR 7
+#define DPX_VERSION_MINOR 8
 #define DPX_VERSION_PATCH 0
-#define DPX_VERSION "0.7.0"
+#define DPX_VERSION "0.8.0"
 #define DPX_VERSION_NUMBER (DPX_VERSION_MAJOR * 1000000 + DPX_VERSION_MINOR * 1000 + DPX_VERSION_PATCH)
 
 /* Limits. One more of any of these is refused. */
@@ -106,7 +107,7 @@ enum dpx_refusal {
     DPX_SIZE = 5,    /* over 16,777,216 value bytes, or bytes of a store */
     DPX_COVER = 12,  /* the subsets of a merge miss a cell or hold one twice */
 
-    /* Whoever sets a cell of a working table. */
+    /* Whoever sets a cell of a working table, or asks what a setting would do. */
     DPX_CELL = 15, /* the number of the cell is the count of cells, or above it */
     DPX_FULL = 16, /* the lengths of the cells would sum to more bytes than the store has */
 
@@ -731,6 +732,37 @@ uint32_t dpx_table_set(dpx_kind kind, uint64_t cells,
                        uint64_t cell,
                        const uint8_t *cell_masks, size_t cell_masks_len,
                        const uint8_t *value, size_t value_len);
+
+/*
+ * What a setting would do: dpx_table_set with the same arguments would be refused with the same number, or leave a table with
+ * these two numbers. It is as if the setting were made on a copy and the copy looked at, the packing included that it may
+ * start. The table is not changed. `value` may lie in the store.
+ *
+ * A cell counts in the second number where it has bytes and does not start at its packed start (dpx_table_pack): the cell that
+ * is set too, and those behind the bytes that it gives up. Where the setting packs all cells before, the number is 0. So many
+ * cells there are for dpx_table_pack to move after the setting.
+ *
+ *   lengths[0]   the sum of the lengths of all cells after the setting
+ *   lengths[1]   cells that would not be at their packed starts
+ *
+ * Refusals, in this order, as for dpx_table_set:
+ *   1 DPX_KIND     whoever describes the table: also a fixed kind
+ *   2 DPX_SHAPE    whoever describes the table: no cells, or over 65,536
+ *   4 DPX_CONTENT  whoever hands over the table: as for dpx_table_read; or whoever asks: cell_masks_len is not depth, or one of
+ *                  these bytes is over 01
+ *   5 DPX_SIZE     whoever hands over the table: store_len is over 16,777,216
+ *  15 DPX_CELL     whoever asks: `cell` is `cells` or more
+ *  16 DPX_FULL     whoever asks: with the lengths of the other cells the value, if it is not dropped, is over store_len
+ */
+uint32_t dpx_table_preview(dpx_kind kind, uint64_t cells,
+                           const uint8_t *masks, size_t masks_len,
+                           const uint64_t *starts, size_t starts_len,
+                           const uint64_t *cell_lengths, size_t cell_lengths_len,
+                           const uint8_t *store, size_t store_len,
+                           uint64_t cell,
+                           const uint8_t *cell_masks, size_t cell_masks_len,
+                           const uint8_t *value, size_t value_len,
+                           uint64_t lengths[2]);
 
 /*
  * Moves up to `most` cells of a working table to their packed starts, in place.

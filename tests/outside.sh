@@ -42,10 +42,11 @@ dpx_reverse_endianness
 dpx_subset_cells
 dpx_table_make
 dpx_table_pack
+dpx_table_preview
 dpx_table_read
 dpx_table_set
 END
-echo 'the fourteen calls, and nothing else'
+echo 'the fifteen calls, and nothing else'
 
 say 'C interface'
 tests/c/run.sh

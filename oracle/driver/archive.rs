@@ -38,6 +38,8 @@ pub type ReadCall = unsafe extern "C" fn(DpxKind, u64, In8, usize, In64, usize, 
 pub type SetCall = unsafe extern "C" fn(DpxKind, u64, Out8, usize, Out64, usize, Out64, usize, Out8, usize, u64, In8, usize, In8, usize) -> u32;
 #[rustfmt::skip]
 pub type PackCall = unsafe extern "C" fn(DpxKind, u64, In8, usize, Out64, usize, In64, usize, Out8, usize, u64, Out64) -> u32;
+#[rustfmt::skip]
+pub type PreviewCall = unsafe extern "C" fn(DpxKind, u64, In8, usize, In64, usize, In64, usize, In8, usize, u64, In8, usize, In8, usize, Out64) -> u32;
 
 /// The functions.
 #[derive(Clone, Copy)]
@@ -56,6 +58,7 @@ pub struct Archive {
     pub table_read: ReadCall,
     pub table_set: SetCall,
     pub table_pack: PackCall,
+    pub table_preview: PreviewCall,
 }
 impl Archive {
     pub fn load(path: &str) -> Result<Archive, String> {
@@ -86,6 +89,7 @@ impl Archive {
                 table_read: transmute::<*mut c_void, ReadCall>(find(c"dpx_table_read")?),
                 table_set: transmute::<*mut c_void, SetCall>(find(c"dpx_table_set")?),
                 table_pack: transmute::<*mut c_void, PackCall>(find(c"dpx_table_pack")?),
+                table_preview: transmute::<*mut c_void, PreviewCall>(find(c"dpx_table_preview")?),
             })
         }
     }

@@ -570,7 +570,7 @@ fn faulty(rng: &mut Rng, request: &Request) -> Request {
             *subset = damaged_numbers(rng, subset);
         }
         Generate { kind, shape, .. } => faulty_head(rng, kind, shape),
-        TableMake { .. } | TableRead { .. } | TableSet { .. } | TablePack { .. } => {} // tables.rs
+        TableMake { .. } | TableRead { .. } | TableSet { .. } | TablePack { .. } | TablePreview { .. } => {} // tables.rs
     }
     r
 }

@@ -122,7 +122,7 @@ unsafe extern "C" {
 pub struct Guarded {
     archive: Archive,
     numbers: [Edge; 3],
-    bytes: [Edge; 2],
+    bytes: [Edge; 4],
     masks: Lent<u8>,
     values: Lent<u8>,
     offsets: Lent<u64>,
@@ -138,7 +138,7 @@ impl Guarded {
         Guarded {
             archive,
             numbers: [edge(), edge(), edge()],
-            bytes: [edge(), edge()],
+            bytes: [edge(), edge(), edge(), edge()],
             masks: Lent::new(),
             values: Lent::new(),
             offsets: Lent::new(),
@@ -167,7 +167,7 @@ impl Guarded {
             self.cell_lengths.hold(&before.lengths);
         }
         let [n1, n2, n3] = &mut self.numbers;
-        let [b1, b2] = &mut self.bytes;
+        let [b1, b2, b3, b4] = &mut self.bytes;
         let a = &self.archive;
         unsafe {
             match request {
@@ -320,6 +320,24 @@ impl Guarded {
                     *most,
                     n,
                 ),
+                TablePreview { kind, cells, table: t, cell, cell_masks, value } => (a.table_preview)(
+                    c_kind(kind),
+                    *cells,
+                    b1.put(&t.masks),
+                    t.masks.len(),
+                    n1.put(&t.starts),
+                    t.starts.len(),
+                    n2.put(&t.lengths),
+                    t.lengths.len(),
+                    b2.put(&t.store),
+                    t.store.len(),
+                    *cell,
+                    b3.put(cell_masks),
+                    cell_masks.len(),
+                    b4.put(value),
+                    value.len(),
+                    n,
+                ),
             }
         }
     }
@@ -360,7 +378,7 @@ impl Guarded {
             return Some("lengths");
         }
         let [n1, n2, n3] = &self.numbers;
-        let [b1, b2] = &self.bytes;
+        let [b1, b2, b3, b4] = &self.bytes;
         let kept = match request {
             Encode { shape, masks, values, offsets, .. } | EncodeInterleaved { shape, masks, values, offsets, .. } => {
                 n1.holds(shape) && b1.holds(masks) && b2.holds(values) && n3.holds(offsets)
@@ -377,6 +395,10 @@ impl Guarded {
             Generate { shape, .. } => n1.holds(shape),
             TableMake { masks, values, offsets, .. } => b1.holds(masks) && b2.holds(values) && n1.holds(offsets),
             TableRead { table: t, .. } => b1.holds(&t.masks) && n1.holds(&t.starts) && n2.holds(&t.lengths) && b2.holds(&t.store),
+            TablePreview { table: t, cell_masks, value, .. } => {
+                let table = b1.holds(&t.masks) && n1.holds(&t.starts) && n2.holds(&t.lengths) && b2.holds(&t.store);
+                table && b3.holds(cell_masks) && b4.holds(value)
+            }
             TableSet { cell_masks, value, .. } => b1.holds(cell_masks) && b2.holds(value),
             TablePack { table: t, .. } => b1.holds(&t.masks) && n2.holds(&t.lengths),
         };
@@ -393,6 +415,10 @@ impl Guarded {
             r.values = self.values.inside().to_vec();
             r.offsets = self.offsets.inside().to_vec();
             r.lengths = self.cell_lengths.inside().to_vec();
+            return Some(r);
+        }
+        if let TablePreview { .. } = request {
+            (r.whole, r.unpacked) = (named[0], named[1]);
             return Some(r);
         }
         if let TableMake { .. } = request {

@@ -91,11 +91,14 @@ pub fn request_line(request: &Request) -> String {
             put_numbers(l, offsets);
             put_number(l, *store as u64);
         }
-        TableRead { kind, cells, table } | TableSet { kind, cells, table, .. } | TablePack { kind, cells, table, .. } => {
+        TableRead { kind, cells, table }
+        | TableSet { kind, cells, table, .. }
+        | TablePack { kind, cells, table, .. }
+        | TablePreview { kind, cells, table, .. } => {
             kind.iter().for_each(|&n| put_number(l, n));
             put_number(l, *cells);
             put_table(l, table);
-            if let TableSet { cell, cell_masks, value, .. } = request {
+            if let TableSet { cell, cell_masks, value, .. } | TablePreview { cell, cell_masks, value, .. } = request {
                 put_number(l, *cell);
                 put_bytes(l, cell_masks);
                 put_bytes(l, value);
@@ -114,8 +117,11 @@ pub fn line(request: &Request, outcome: &Outcome) -> String {
         Err(refusal) => put_number(&mut line, u64::from(*refusal)),
         Ok(r) => {
             put_number(&mut line, 0);
-            if let ReverseEndianness { .. } | TablePack { .. } = request {
+            if let ReverseEndianness { .. } | TablePack { .. } | TablePreview { .. } = request {
                 put_number(&mut line, r.whole);
+            }
+            if let TablePreview { .. } = request {
+                put_number(&mut line, r.unpacked);
             }
             let [masks, values, offsets, lengths] = request.slots();
             if masks {
@@ -229,6 +235,14 @@ pub fn parse(text: &str) -> Result<(Request, Option<Outcome>), String> {
             value: w.bytes()?,
         },
         14 => TablePack { kind: w.kind()?, cells: w.number()?, table: w.table()?, most: w.number()? },
+        15 => TablePreview {
+            kind: w.kind()?,
+            cells: w.number()?,
+            table: w.table()?,
+            cell: w.number()?,
+            cell_masks: w.bytes()?,
+            value: w.bytes()?,
+        },
         n => return Err(format!("no such call: {n}")),
     };
     if w.0.clone().next().is_none() {
@@ -237,8 +251,11 @@ pub fn parse(text: &str) -> Result<(Request, Option<Outcome>), String> {
     let outcome = match w.number()? {
         0 => {
             let mut r = Results::default();
-            if let ReverseEndianness { .. } | TablePack { .. } = request {
+            if let ReverseEndianness { .. } | TablePack { .. } | TablePreview { .. } = request {
                 r.whole = w.number()?;
+            }
+            if let TablePreview { .. } = request {
+                r.unpacked = w.number()?;
             }
             let [masks, values, offsets, lengths] = request.slots();
             if masks {

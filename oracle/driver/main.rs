@@ -86,6 +86,8 @@ struct Tables {
     /// Packing calls, and those that moved a cell; cells moved.
     packings: [u64; 2],
     moved: u64,
+    /// Previews, and those of settings that would pack other cells, or leave some displaced.
+    previews: [u64; 3],
     /// Of the most cells of one table.
     cells: usize,
 }
@@ -103,6 +105,14 @@ impl Tables {
                 self.packings[0] += 1;
                 self.packings[1] += u64::from(after.whole > 0);
                 self.moved += after.whole;
+            }
+            Request::TablePreview { table, cell, .. } => {
+                let others = (0..table.starts.len()).filter(|&j| j as u64 != *cell);
+                let top = others.map(|j| table.starts[j] + table.lengths[j]).max().unwrap_or(0);
+                let others: u64 = table.lengths.iter().sum::<u64>() - table.lengths[*cell as usize];
+                self.previews[0] += 1;
+                self.previews[1] += u64::from(top > others && after.whole - others > table.store.len() as u64 - top);
+                self.previews[2] += u64::from(after.unpacked > 0);
             }
             _ => {}
         }
@@ -130,9 +140,15 @@ struct Counts {
     /// By build and refusal: errors and panics of the Rust.
     refused: [[[u64; 2]; ANSWERS]; 4],
     /// As in BETWEEN.
-    differences: [u64; 4],
+    differences: [u64; BETWEEN.len()],
 }
-const BETWEEN: [&str; 4] = ["archive and judge", "archive and Rust", "judge and Rust", "a string and the one written again"];
+const BETWEEN: [&str; 5] = [
+    "archive and judge",
+    "archive and Rust",
+    "judge and Rust",
+    "a string and the one written again",
+    "a preview and the setting on a copy",
+];
 
 fn say(outcome: &Outcome) -> String {
     match outcome {
@@ -188,7 +204,7 @@ impl Compare {
             0 => self.guarded.results(request).ok_or(u32::MAX),
             refusal => Err(refusal),
         };
-        if request.in_place().is_some() {
+        if request.in_place().is_some() || slots == [false; 4] {
             return exact; // no other lengths
         }
         let rng = &mut self.rng;
@@ -289,6 +305,26 @@ impl Compare {
         }
     }
 
+    /// What a preview said beside what the archive's own setting then does to a copy: its refusal, and what is there afterwards.
+    fn set_on_a_copy(&mut self, request: &Request, foreseen: &Outcome) {
+        let Request::TablePreview { kind, cells, table, cell, cell_masks, value } = request else { return };
+        let (kind, cells, table, cell) = (*kind, *cells, table.clone(), *cell);
+        let setting = Request::TableSet { kind, cells, table, cell, cell_masks: cell_masks.clone(), value: value.clone() };
+        let lent = needs(&setting, &Err(0));
+        let after = match self.guarded.call(&setting, lent) {
+            0 => {
+                let r = self.guarded.results(&setting).unwrap();
+                let after = judge::Table { masks: r.masks, starts: r.offsets, lengths: r.lengths, store: r.values };
+                Ok(after.looked_at())
+            }
+            refusal => Err(refusal),
+        };
+        let foreseen = foreseen.as_ref().map(|r| [r.whole, r.unpacked]).map_err(|refusal| *refusal);
+        if foreseen != after {
+            self.differ(4, request, &format!("{foreseen:?}, but then {after:?}"));
+        }
+    }
+
     fn hold(&mut self, request: &Request, judged: &Outcome) {
         NOW.fetch_add(1, Ordering::Relaxed);
         self.counts.packed += u64::from(request.packed());
@@ -306,8 +342,9 @@ impl Compare {
             self.with_the_rust(request, judged, &observed);
         }
         self.again(request, judged);
-        if self.stop_at_first && self.counts.differences != [0; 4] {
-            let seen: Vec<&str> = (0..4).filter(|&i| self.counts.differences[i] > 0).map(|i| BETWEEN[i]).collect();
+        self.set_on_a_copy(request, &observed);
+        if self.stop_at_first && self.counts.differences != [0; BETWEEN.len()] {
+            let seen: Vec<&str> = (0..BETWEEN.len()).filter(|&i| self.counts.differences[i] > 0).map(|i| BETWEEN[i]).collect();
             println!("first difference at request {}: {}", self.asked(), seen.join(", "));
             std::process::exit(1);
         }
@@ -345,11 +382,15 @@ impl Compare {
             self.guarded.calls
         );
         println!("loads of {} different kinds, shapes and start numbers", self.counts.loads.len());
-        let Tables { settings, packings, moved, cells } = self.counts.tables;
+        let Tables { settings, packings, moved, previews, cells } = self.counts.tables;
         println!(
             "working tables: {} settings, {} of which packed other cells; {} packing calls, {} of which moved cells, {moved} in all; up to \
              {cells} cells",
             settings[0], settings[1], packings[0], packings[1]
+        );
+        println!(
+            "previews, each held against the setting on a copy: {}; of settings that pack other cells {}, that leave cells displaced {}",
+            previews[0], previews[1], previews[2]
         );
         println!(
             "a mask byte over 01: stored, refused with 14, in {} requests; handed over in {}",
@@ -472,7 +513,7 @@ fn hold_lines(args: &[String]) -> Result<bool, String> {
     for (between, n) in compare.counts.differences.iter().enumerate() {
         println!("differences between {}: {n}", BETWEEN[between]);
     }
-    Ok(bad == 0 && compare.counts.differences == [0; 4])
+    Ok(bad == 0 && compare.counts.differences == [0; BETWEEN.len()])
 }
 
 /// Counts requests, and shows one.

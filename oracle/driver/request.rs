@@ -19,11 +19,12 @@ pub enum Request {
     TableRead { kind: KindNumbers, cells: u64, table: Table },
     TableSet { kind: KindNumbers, cells: u64, table: Table, cell: u64, cell_masks: Vec<u8>, value: Vec<u8> },
     TablePack { kind: KindNumbers, cells: u64, table: Table, most: u64 },
+    TablePreview { kind: KindNumbers, cells: u64, table: Table, cell: u64, cell_masks: Vec<u8>, value: Vec<u8> },
 }
 use Request::*;
 
 /// In the order of the numbers that they have in oracle/data: a new call is the last.
-pub const CALLS: [&str; 14] = [
+pub const CALLS: [&str; 15] = [
     "encode",
     "decode",
     "decode_interleaved",
@@ -38,11 +39,12 @@ pub const CALLS: [&str; 14] = [
     "table_read",
     "table_set",
     "table_pack",
+    "table_preview",
 ];
 
 /// The refusals that a call can give, by docs/DECISIONS.md, part 0. At the C boundary width and place come as numbers, so
 /// `partial_decode` has 1 as well.
-pub const REFUSALS: [&[u32]; 14] = [
+pub const REFUSALS: [&[u32]; 15] = [
     &[1, 2, 4, 5, 6],
     &[1, 2, 7, 8, 13, 14, 10, 5, 6],
     &[2, 7, 9, 11, 5, 6],
@@ -57,6 +59,7 @@ pub const REFUSALS: [&[u32]; 14] = [
     &[1, 2, 4, 5, 6],
     &[1, 2, 4, 5, 15, 16],
     &[1, 2, 4, 5],
+    &[1, 2, 4, 5, 15, 16],
 ];
 
 /// Results by slot: a call uses some of masks (or none), values (the stored bytes of `encode`, the bytes of `reverse_endianness`, the
@@ -67,8 +70,10 @@ pub struct Results {
     pub values: Vec<u8>,
     pub offsets: Vec<u64>,
     pub lengths: Vec<u64>,
-    /// Of `reverse_endianness` the length of the whole cells, of `table_pack` how many cells were moved.
+    /// Of `reverse_endianness` the length of the whole cells, of `table_pack` how many cells were moved, of `table_preview` the sum of lengths.
     pub whole: u64,
+    /// Of `table_preview` how many cells are not packed.
+    pub unpacked: u64,
 }
 impl From<judge::Array> for Results {
     fn from(a: judge::Array) -> Self {
@@ -77,7 +82,7 @@ impl From<judge::Array> for Results {
 }
 impl From<Table> for Results {
     fn from(t: Table) -> Self {
-        Results { masks: t.masks, values: t.store, offsets: t.starts, lengths: t.lengths, whole: 0 }
+        Results { masks: t.masks, values: t.store, offsets: t.starts, lengths: t.lengths, ..Results::default() }
     }
 }
 
@@ -100,6 +105,7 @@ impl Request {
             TableRead { .. } => 11,
             TableSet { .. } => 12,
             TablePack { .. } => 13,
+            TablePreview { .. } => 14,
         }
     }
 
@@ -115,7 +121,8 @@ impl Request {
             | TableMake { kind, .. }
             | TableRead { kind, .. }
             | TableSet { kind, .. }
-            | TablePack { kind, .. } => kind[4] == 1,
+            | TablePack { kind, .. }
+            | TablePreview { kind, .. } => kind[4] == 1,
             _ => false,
         }
     }
@@ -149,6 +156,7 @@ impl Request {
             [true, true, true, false],
             [true, true, true, true],
             [false, true, true, false],
+            [false; 4],
         ][self.call()]
     }
 
@@ -171,6 +179,7 @@ impl Request {
         match self {
             ReverseEndianness { .. } | TablePack { .. } => vec![r.whole],
             TableSet { .. } => vec![],
+            TablePreview { .. } => vec![r.whole, r.unpacked],
             TableMake { .. } => vec![masks, offsets, lengths, values],
             _ => {
                 let slots = self.slots();
@@ -219,6 +228,10 @@ impl Request {
                 whole,
                 ..Results::default()
             }),
+            TablePreview { kind, cells, table, cell, cell_masks, value } => {
+                let foreseen = judge::table_preview(*kind, *cells, table, *cell, cell_masks, value);
+                foreseen.map(|[whole, unpacked]| Results { whole, unpacked, ..Results::default() })
+            }
         }
     }
 
@@ -236,7 +249,7 @@ impl Request {
             | ReverseEndianness { bytes, .. } => bytes.len(),
             SubsetCells { .. } | Generate { .. } => 0,
             TableMake { masks, values, offsets, store, .. } => masks.len() + values.len() + offsets.len() + store,
-            TableRead { table, .. } | TableSet { table, .. } | TablePack { table, .. } => {
+            TableRead { table, .. } | TableSet { table, .. } | TablePack { table, .. } | TablePreview { table, .. } => {
                 table.masks.len() + table.starts.len() + table.lengths.len() + table.store.len()
             }
         }

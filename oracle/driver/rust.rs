@@ -68,7 +68,7 @@ pub fn body(request: &Request) -> Body {
         Extract { kind, .. } if kind[1] == 0 || kind[0] > 0 => Body::AsRagged,
         Merge { kind, .. } if kind[1] == 0 => Body::AsRagged,
         SubsetCells { .. } | EncodeInterleaved { .. } | Generate { .. } => Body::None,
-        TableMake { .. } | TableRead { .. } | TableSet { .. } | TablePack { .. } => Body::None,
+        TableMake { .. } | TableRead { .. } | TableSet { .. } | TablePack { .. } | TablePreview { .. } => Body::None,
         _ => Body::Own,
     }
 }
@@ -116,7 +116,7 @@ impl Build {
                 Ok(Results { values, whole, ..Results::default() })
             }
             SubsetCells { .. } | EncodeInterleaved { .. } | Generate { .. } => unreachable!(),
-            TableMake { .. } | TableRead { .. } | TableSet { .. } | TablePack { .. } => unreachable!(),
+            TableMake { .. } | TableRead { .. } | TableSet { .. } | TablePack { .. } | TablePreview { .. } => unreachable!(),
         }
     }
 }

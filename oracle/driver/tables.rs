@@ -1,5 +1,6 @@
 //! Requests on working tables: small ones in all ways, sequences of settings and packings, tables that are scattered, full or broken,
-//! and large ones. A sequence goes on from what the judge says; each step is held against the archive with every byte.
+//! and large ones. A sequence goes on from what the judge says; each step is held against the archive with every byte. Each setting is
+//! previewed first.
 
 use crate::cases::{
     Content, Sink, a_number, content, damaged_bytes, damaged_kind, damaged_numbers, fixed, over_01, packed, plane, ragged,
@@ -25,6 +26,14 @@ fn set(kind: [u64; 5], table: &Table, cell: u64, cell_masks: &[u8], value: &[u8]
 }
 fn pack(kind: [u64; 5], table: &Table, most: u64) -> Request {
     TablePack { kind, cells: table.starts.len() as u64, table: table.clone(), most }
+}
+
+/// A setting is previewed first.
+fn ask(sink: &mut dyn Sink, request: Request) {
+    if let TableSet { kind, cells, table, cell, cell_masks, value } = request.clone() {
+        sink.ask(TablePreview { kind, cells, table, cell, cell_masks, value });
+    }
+    sink.ask(request);
 }
 
 /// A table kind, with either mask form.
@@ -147,15 +156,15 @@ fn sequence(sink: &mut dyn Sink, rng: &mut Rng, kind: [u64; 5], mut table: Table
         if let Some(next) = after(&request) {
             table = next;
         }
-        sink.ask(request);
+        ask(sink, request);
     }
-    sink.ask(read(kind, &table));
+    ask(sink, read(kind, &table));
 }
 /// Packed by k cells a call until none is left.
 fn pack_all(sink: &mut dyn Sink, kind: [u64; 5], mut table: Table, most: u64) {
     loop {
         let (next, moved) = judge::table_pack(kind, table.starts.len() as u64, &table, most).unwrap();
-        sink.ask(pack(kind, &table, most));
+        ask(sink, pack(kind, &table, most));
         table = next;
         if moved == 0 {
             return;
@@ -284,9 +293,9 @@ fn faulty(rng: &mut Rng, request: &Request) -> Request {
 }
 fn ask_with_faults(sink: &mut dyn Sink, rng: &mut Rng, request: Request) {
     for _ in 0..3 {
-        sink.ask(faulty(rng, &request));
+        ask(sink, faulty(rng, &request));
     }
-    sink.ask(request);
+    ask(sink, request);
 }
 
 // ---------------------------------------------------------------- all of it
@@ -324,18 +333,18 @@ pub fn exhaustive(sink: &mut dyn Sink, rng: &mut Rng) {
 }
 fn every_edit(sink: &mut dyn Sink, rng: &mut Rng, kind: [u64; 5], table: &Table) {
     let cells = table.starts.len();
-    sink.ask(read(kind, table));
-    sink.ask(pack(kind, table, 1));
+    ask(sink, read(kind, table));
+    ask(sink, pack(kind, table, 1));
     if judge::table_read(kind, cells as u64, table).is_err() {
-        return sink.ask(set(kind, table, rng.below(cells + 1) as u64, &vec![1; kind[0] as usize], b"k"));
+        return ask(sink, set(kind, table, rng.below(cells + 1) as u64, &vec![1; kind[0] as usize], b"k"));
     }
-    sink.ask(pack(kind, table, 2));
-    sink.ask(pack(kind, table, 3));
+    ask(sink, pack(kind, table, 2));
+    ask(sink, pack(kind, table, 3));
     for cell in 0..=cells as u64 {
         for number in 0..3_usize.pow(kind[0] as u32) {
             let masks: Vec<u8> = (0..kind[0] as u32).map(|i| (number / 3_usize.pow(i) % 3) as u8).collect();
             for length in 0..=(table.store.len() + 1).min(4) {
-                sink.ask(set(kind, table, cell, &masks, &b"KLMN"[..length]));
+                ask(sink, set(kind, table, cell, &masks, &b"KLMN"[..length]));
             }
         }
     }
@@ -347,46 +356,46 @@ pub fn limits(sink: &mut dyn Sink, rng: &mut Rng) {
     let table = Table { masks: vec![1, 1], starts: vec![2, 0], lengths: vec![1, 1], store: b"a.b".to_vec() };
     let numbers: Vec<u64> = (0..400).chain((0..200).map(|_| a_number(rng))).collect();
     for n in numbers {
-        sink.ask(pack(kind, &table, n));
-        sink.ask(pack(fixed(1, 1, 0), &table, n));
-        sink.ask(TablePack { kind, cells: 0, table: Table::default(), most: n });
-        sink.ask(set(kind, &table, n, &[1], b"c"));
-        sink.ask(set(kind, &table, n, &[2], b"c"));
-        sink.ask(set(kind, &table, n, &[1], b"cccc"));
+        ask(sink, pack(kind, &table, n));
+        ask(sink, pack(fixed(1, 1, 0), &table, n));
+        ask(sink, TablePack { kind, cells: 0, table: Table::default(), most: n });
+        ask(sink, set(kind, &table, n, &[1], b"c"));
+        ask(sink, set(kind, &table, n, &[2], b"c"));
+        ask(sink, set(kind, &table, n, &[1], b"cccc"));
         for at in 0..5 {
             let mut k = kind;
             k[at] = n;
-            sink.ask(pack(k, &table, 1));
-            sink.ask(set(k, &table, 0, &[1], b"c"));
-            sink.ask(read(k, &table));
-            sink.ask(make(k, 2, &Content { masks: vec![1, 1], values: b"ab".to_vec(), offsets: vec![0, 1, 2] }, 2));
+            ask(sink, pack(k, &table, 1));
+            ask(sink, set(k, &table, 0, &[1], b"c"));
+            ask(sink, read(k, &table));
+            ask(sink, make(k, 2, &Content { masks: vec![1, 1], values: b"ab".to_vec(), offsets: vec![0, 1, 2] }, 2));
         }
-        sink.ask(TablePack { kind, cells: n, table: table.clone(), most: 1 });
-        sink.ask(TableRead { kind, cells: n, table: table.clone() });
-        sink.ask(TableSet { kind, cells: n, table: table.clone(), cell: 0, cell_masks: vec![1], value: b"c".to_vec() });
-        sink.ask(TableMake { kind, cells: n, masks: vec![], values: vec![], offsets: vec![0], store: 0 });
+        ask(sink, TablePack { kind, cells: n, table: table.clone(), most: 1 });
+        ask(sink, TableRead { kind, cells: n, table: table.clone() });
+        ask(sink, TableSet { kind, cells: n, table: table.clone(), cell: 0, cell_masks: vec![1], value: b"c".to_vec() });
+        ask(sink, TableMake { kind, cells: n, masks: vec![], values: vec![], offsets: vec![0], store: 0 });
     }
     // the longest store, and one byte more; 4 comes before 5
     for size in [STORE, STORE + 1] {
         let store = rng.bytes(size);
         let end = size as u64;
         let table = Table { masks: vec![1, 1], starts: vec![end - 1, 0], lengths: vec![1, 1], store };
-        sink.ask(pack(kind, &table, 1));
-        sink.ask(read(kind, &table));
-        sink.ask(set(kind, &table, 2, &[1], b"c"));
-        sink.ask(set(kind, &table, 0, &[1], &vec![7; STORE - 1]));
-        sink.ask(set(kind, &table, 1, &[1], &vec![7; STORE]));
-        sink.ask(set(kind, &table, 1, &[2], b"c"));
+        ask(sink, pack(kind, &table, 1));
+        ask(sink, read(kind, &table));
+        ask(sink, set(kind, &table, 2, &[1], b"c"));
+        ask(sink, set(kind, &table, 0, &[1], &vec![7; STORE - 1]));
+        ask(sink, set(kind, &table, 1, &[1], &vec![7; STORE]));
+        ask(sink, set(kind, &table, 1, &[2], b"c"));
         let over = Table { starts: vec![0, 0], ..table };
-        sink.ask(pack(kind, &over, 1));
+        ask(sink, pack(kind, &over, 1));
         let c = Content { masks: vec![1, 0], values: b"ab".to_vec(), offsets: vec![0, 1, 2] };
-        sink.ask(make(kind, 2, &c, size));
-        sink.ask(make(kind, 2, &Content { masks: vec![1, 2], ..c }, size));
+        ask(sink, make(kind, 2, &c, size));
+        ask(sink, make(kind, 2, &Content { masks: vec![1, 2], ..c }, size));
         // hidden bytes: over the limit for arrays 5, though nothing of them is stored
         let c = Content { masks: vec![1, 0], values: vec![7; size], offsets: vec![0, 1, end] };
-        sink.ask(make(kind, 2, &c, 1));
-        sink.ask(make(kind, 2, &c, 0));
-        sink.ask(make(ragged(0, 4, 0), 1, &Content { masks: vec![], values: vec![7; size], offsets: vec![0, end] }, STORE));
+        ask(sink, make(kind, 2, &c, 1));
+        ask(sink, make(kind, 2, &c, 0));
+        ask(sink, make(ragged(0, 4, 0), 1, &Content { masks: vec![], values: vec![7; size], offsets: vec![0, end] }, STORE));
     }
 }
 
@@ -395,23 +404,23 @@ pub fn many_cells(sink: &mut dyn Sink, rng: &mut Rng) {
     for (cells, depth) in [(2_047, 0), (2_048, 1), (2_049, 0), (4_096, 2), (65_535, 1), (65_536, 0), (65_536, 4)] {
         let kind = ragged(depth, 8, 0);
         let c = content(rng, kind, cells);
-        sink.ask(make(kind, cells, &c, c.values.len() + 7));
+        ask(sink, make(kind, cells, &c, c.values.len() + 7));
         let fresh = made(rng, kind, cells, 9);
-        sink.ask(read(kind, &fresh));
-        sink.ask(pack(kind, &fresh, 256));
+        ask(sink, read(kind, &fresh));
+        ask(sink, pack(kind, &fresh, 256));
         for gap in [0, 1, 3] {
             let table = scattered(rng, kind, cells, gap, 5);
-            sink.ask(read(kind, &table));
-            sink.ask(pack(kind, &table, 256));
-            sink.ask(pack(kind, &table, 1));
+            ask(sink, read(kind, &table));
+            ask(sink, pack(kind, &table, 256));
+            ask(sink, pack(kind, &table, 1));
             for _ in 0..3 {
-                sink.ask(a_setting(rng, kind, &table));
+                ask(sink, a_setting(rng, kind, &table));
             }
-            sink.ask(broken_by_overlap(&table));
+            ask(sink, broken_by_overlap(&table));
             sequence(sink, rng, kind, table, 4);
         }
         let over = scattered(rng, kind, cells + 1, 1, 1);
-        sink.ask(pack(kind, &over, 1));
+        ask(sink, pack(kind, &over, 1));
     }
 }
 /// The two cells that lie highest, over each other by one byte: only the whole order shows it.
@@ -438,9 +447,9 @@ pub fn random(sink: &mut dyn Sink, rng: &mut Rng) {
         ask_with_faults(sink, rng, make(kind, cells, &c, store));
     }
     if need > 0 {
-        sink.ask(make(kind, cells, &c, need - 1));
+        ask(sink, make(kind, cells, &c, need - 1));
     }
-    sink.ask(make(kind, cells, &c, 0));
+    ask(sink, make(kind, cells, &c, 0));
 
     let (behind, gap) = (rng.pick(&[0, 1, 5, 30]), rng.pick(&[0, 1, 2, 9]));
     let table = made(rng, kind, cells, behind);
@@ -455,10 +464,10 @@ pub fn random(sink: &mut dyn Sink, rng: &mut Rng) {
         let request = a_setting(rng, kind, &table);
         ask_with_faults(sink, rng, request);
         let bad = broken(rng, depth, &table);
-        sink.ask(pack(kind, &bad, 1));
-        sink.ask(read(kind, &bad));
+        ask(sink, pack(kind, &bad, 1));
+        ask(sink, read(kind, &bad));
         let cell = rng.below(bad.starts.len().max(1)) as u64;
-        sink.ask(TableSet { kind, cells: cells as u64, table: bad, cell, cell_masks: vec![1; depth], value: rng.bytes(1) });
+        ask(sink, TableSet { kind, cells: cells as u64, table: bad, cell, cell_masks: vec![1; depth], value: rng.bytes(1) });
     }
     // no gap and nothing behind: what is given up is all that is free
     let full = scattered(rng, kind, cells, 0, 0);

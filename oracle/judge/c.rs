@@ -499,3 +499,32 @@ pub unsafe extern "C" fn dpx_table_pack(
         Ok(())
     })())
 }
+
+#[unsafe(no_mangle)]
+pub unsafe extern "C" fn dpx_table_preview(
+    kind: DpxKind,
+    cells: u64,
+    masks: *const u8,
+    masks_count: usize,
+    starts: *const u64,
+    starts_count: usize,
+    cell_lengths: *const u64,
+    cell_lengths_count: usize,
+    store: *const u8,
+    store_count: usize,
+    cell: u64,
+    cell_masks: *const u8,
+    cell_masks_count: usize,
+    value: *const u8,
+    value_count: usize,
+    lengths: *mut u64,
+) -> u32 {
+    number((|| unsafe {
+        let table =
+            table_of((masks, masks_count), (starts, starts_count), (cell_lengths, cell_lengths_count), (store, store_count));
+        let (cell_masks, value) = (given(cell_masks, cell_masks_count), given(value, value_count));
+        let foreseen = table_preview(kind.numbers(), cells, &table, cell, cell_masks, value)?;
+        put(&foreseen, lengths);
+        Ok(())
+    })())
+}

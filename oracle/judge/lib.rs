@@ -1,4 +1,4 @@
-//! The judge: what docs/SPEC.md and docs/DECISIONS.md say of the fourteen calls, as plain code.
+//! The judge: what docs/SPEC.md and docs/DECISIONS.md say of the fifteen calls, as plain code.
 //!
 //! Each function takes what the call takes, as numbers and slices, and gives the result or the refusal number. Outputs are not lent:
 //! `fits` says where a lent output is too short (6), and c.rs puts a result into lent outputs.
@@ -739,6 +739,11 @@ impl Table {
         list
     }
 
+    /// The sum of lengths, and how many cells are not at their packed starts.
+    pub fn looked_at(&self) -> [u64; 2] {
+        [self.lengths.iter().sum(), self.displaced().len() as u64]
+    }
+
     /// Copied, and nothing cleared.
     fn move_cell(&mut self, cell: usize, to: u64) {
         let value = self.value(cell).to_vec();
@@ -831,6 +836,19 @@ pub fn table_set(
     table.store[end as usize..][..value.len()].copy_from_slice(&value);
     (table.starts[cell], table.lengths[cell]) = (end, length);
     Ok(table)
+}
+
+/// The sum of lengths and how many cells are not packed, after the setting made on a copy.
+pub fn table_preview(
+    k: KindNumbers,
+    cells: u64,
+    table: &Table,
+    cell: u64,
+    cell_masks: &[u8],
+    value: &[u8],
+) -> Result<[u64; 2], Refusal> {
+    let after = table_set(k, cells, table, cell, cell_masks, value)?;
+    Ok(after.looked_at())
 }
 
 /// The table afterwards, and how many cells were moved.

@@ -1,7 +1,7 @@
 /*
  * How much stack the calls take: each runs on a stack of its own, filled before, and no byte below the promised 16 KiB
- * may change. Every call runs on a table of depth 4 with many cells, merge with one subset for each cell. Reading, setting and
- * packing a working table are promised 272 KiB.
+ * may change. Every call runs on a table of depth 4 with many cells, merge with one subset for each cell. Reading, setting,
+ * previewing and packing a working table are promised 272 KiB.
  */
 #define _XOPEN_SOURCE 700
 #include "durpaxeta.h"
@@ -137,6 +137,14 @@ static void table_set(size_t cells)
     answer = dpx_table_set(nested, cells, TABLE(cells), 1, set, 4, t_values, 3 * cells);
 }
 
+/* The same, asked for before: with packing, and behind the highest-lying cell. */
+static void table_preview(size_t cells, size_t length)
+{
+    static const uint8_t set[4] = {1, 1, 1, 1};
+    scatter(cells);
+    answer = dpx_table_preview(nested, cells, TABLE(cells), 1, set, 4, t_values, length, t_named);
+}
+
 static void table_pack(size_t cells)
 {
     scatter(cells);
@@ -150,6 +158,12 @@ static void read_large(void) { table_read(DPX_MAX_CELLS); }
 static void set_small(void) { table_set(SMALL_TABLE); }
 
 static void set_large(void) { table_set(DPX_MAX_CELLS); }
+
+static void preview_small(void) { table_preview(SMALL_TABLE, 3 * SMALL_TABLE); }
+
+static void preview_large(void) { table_preview(DPX_MAX_CELLS, 3 * DPX_MAX_CELLS); }
+
+static void preview_behind(void) { table_preview(DPX_MAX_CELLS, 4); }
 
 static void pack_small(void) { table_pack(SMALL_TABLE); }
 
@@ -202,9 +216,12 @@ int main(void)
                  {"table_make", table_make, 0},
                  {"table_read", read_small, LARGE},
                  {"table_set", set_small, LARGE},
+                 {"table_preview", preview_small, LARGE},
                  {"table_pack", pack_small, LARGE},
                  {"table_read, large", read_large, LARGE},
                  {"table_set, large", set_large, LARGE},
+                 {"table_preview, large", preview_large, LARGE},
+                 {"table_preview, behind", preview_behind, LARGE},
                  {"table_pack, large", pack_large, LARGE}};
     size_t i, idle, failed = 0;
 
@@ -227,7 +244,7 @@ int main(void)
     for (i = 0; i < sizeof calls / sizeof calls[0]; i++) {
         const size_t size = used(calls[i].call) - idle, promised = calls[i].promised != 0 ? calls[i].promised : PROMISED;
         const int fine = answer == 0 && size <= promised;
-        printf("stack of %-20s %6zu bytes%s\n", calls[i].name, size, fine ? "" : "  FAILED");
+        printf("stack of %-21s %6zu bytes%s\n", calls[i].name, size, fine ? "" : "  FAILED");
         if (!fine) {
             printf("  answer %" PRIu32 "; at most %zu bytes are promised\n", answer, promised);
             failed++;

@@ -1,8 +1,9 @@
 /*
- * Working tables from C: the lines of docs/SPEC.md, S10.37 to S10.44, every refusal of every call in its order, what stays
+ * Working tables from C: the lines of docs/SPEC.md, S10.37 to S10.46, every refusal of every call in its order, what stays
  * untouched, and a large table that is edited and packed until it is read out again.
  *
- * The four lists of a table lie between guards; after each call every byte of them is held against what it should be.
+ * The four lists of a table lie between guards; after each call every byte of them is held against what it should be. Before
+ * each setting its preview is asked for, which must be refused alike, or say what is there afterwards, and change nothing.
  */
 #include "lent.h"
 
@@ -65,15 +66,95 @@ static void check_named(uint64_t a, uint64_t b, uint64_t c, uint64_t d, int line
 #define HOLD(...) hold(__VA_ARGS__)
 #define TABLE t.masks, t.masks_len, t.starts, t.starts_len, t.lengths, t.lengths_len, t.store, t.store_len
 #define AFTER(...) check_table(__VA_ARGS__, __LINE__)
-#define SETS(kind, cells, cell, masks, value) \
-    ANSWERS(dpx_table_set(kind, cells, TABLE, cell, masks, value), DPX_OK), check_named(FILL64, FILL64, FILL64, FILL64, __LINE__)
-#define NOT_SET(kind, cells, cell, masks, value, wanted) ANSWERS(dpx_table_set(kind, cells, TABLE, cell, masks, value), wanted)
+#define SETS(kind, cells, cell, masks, value)                                        \
+    do {                                                                             \
+        foresee(kind, cells, cell, masks, value, DPX_OK, __LINE__);                  \
+        ANSWERS(dpx_table_set(kind, cells, TABLE, cell, masks, value), DPX_OK);      \
+        check_named(FILL64, FILL64, FILL64, FILL64, __LINE__);                       \
+        check_foreseen(__LINE__);                                                    \
+    } while (0)
+#define NOT_SET(kind, cells, cell, masks, value, wanted)                             \
+    do {                                                                             \
+        foresee(kind, cells, cell, masks, value, wanted, __LINE__);                  \
+        ANSWERS(dpx_table_set(kind, cells, TABLE, cell, masks, value), wanted);      \
+    } while (0)
 #define PACKS(kind, cells, most, moved) \
     ANSWERS(dpx_table_pack(kind, cells, TABLE, most, t.named), DPX_OK), check_named(moved, FILL64, FILL64, FILL64, __LINE__)
 #define NOT_PACKED(kind, cells, most, wanted) \
     ANSWERS(dpx_table_pack(kind, cells, TABLE, most, t.named), wanted), check_named(FILL64, FILL64, FILL64, FILL64, __LINE__)
 
 static dpx_kind r(uint64_t depth) { return dpx_ragged(depth, 8, DPX_START); }
+
+/* ------------------------------------------------------------------------------------------------------- preview */
+
+/* What the last preview said. */
+static uint64_t foreseen[2];
+
+/* A preview of the table: its answer, and no byte changed; on a refusal neither of the two numbers, nor what lies beside them. */
+static void foresee(dpx_kind kind, uint64_t cells, uint64_t cell, const uint8_t *masks, size_t masks_len, const uint8_t *value,
+                    size_t value_len, uint32_t wanted, int line)
+{
+    const void *lists[6] = {t.masks, t.starts, t.lengths, t.store, masks, value};
+    const size_t sizes[6] = {t.masks_len, t.starts_len * 8, t.lengths_len * 8, t.store_len, masks_len, value_len};
+    uint8_t *before[6], *room = guarded(sizeof foreseen);
+    uint32_t answer;
+    size_t i;
+    for (i = 0; i < 6; i++) {
+        before[i] = guarded(sizes[i]);
+        put(before[i], lists[i], sizes[i]);
+    }
+    answer = dpx_table_preview(kind, cells, TABLE, cell, masks, masks_len, value, value_len, (uint64_t *)(void *)room);
+    check_answer(answer, wanted, "dpx_table_preview", line);
+    for (i = 0; i < 6; i++)
+        check_is(lists[i], before[i], sizes[i], "a preview changes nothing", line);
+    check(kept(room, answer == DPX_OK ? sizeof foreseen : 0, sizeof foreseen), "lengths of a preview", line);
+    memcpy(foreseen, room, sizeof foreseen);
+}
+
+/* The sum of lengths of the table as it is now, and how many of its cells do not start where the lengths of lower ones end. */
+static void check_foreseen(int line)
+{
+    uint64_t sum = 0, displaced = 0, packed;
+    size_t i, j;
+    for (i = 0; i < t.lengths_len; i++) {
+        packed = 0;
+        for (j = 0; j < t.lengths_len; j++)
+            if (t.lengths[j] != 0 && t.starts[j] < t.starts[i])
+                packed += t.lengths[j];
+        sum += t.lengths[i];
+        displaced += t.lengths[i] != 0 && t.starts[i] != packed;
+    }
+    check(foreseen[0] == sum, "the sum of lengths that was foreseen", line);
+    check(foreseen[1] == displaced, "the cells not packed that were foreseen", line);
+}
+
+#define FORESEES(kind, cells, cell, masks, value, sum, displaced)                   \
+    do {                                                                            \
+        foresee(kind, cells, cell, masks, value, DPX_OK, __LINE__);                 \
+        check(foreseen[0] == (sum) && foreseen[1] == (displaced), "what is foreseen", __LINE__); \
+    } while (0)
+
+static void test_preview(void)
+{
+    /* Behind the highest-lying cell both are displaced; where all are packed before, none is. */
+    HOLD(NO, S(0, 1), S(1, 1), TEXT("xy..."));
+    FORESEES(r(0), 2, 0, NO, TEXT("abc"), 4, 2);
+    HOLD(NO, S(0, 1), S(1, 1), TEXT("xy.."));
+    FORESEES(r(0), 2, 0, NO, TEXT("abc"), 4, 0);
+    /* What is given up displaces those behind it; hidden bytes do not count. */
+    FORESEES(r(0), 2, 0, NO, NONE, 1, 1);
+    HOLD(BYTES(1), S(0), S(1), TEXT("x"));
+    FORESEES(r(1), 1, 0, BYTES(0), TEXT("abc"), 0, 0);
+    FORESEES(r(1), 1, 0, BYTES(1), TEXT("y"), 1, 0);
+    /* The value may be bytes of the store. */
+    HOLD(NO, S(2, 0), S(2, 2), TEXT("abcd.."));
+    foresee(r(0), 2, 1, NO, t.store + 1, 2, DPX_OK, __LINE__);
+    CHECK(foreseen[0] == 4 && foreseen[1] == 2);
+    HOLD(NO, S(0), S(0), NONE);
+    foresee(r(0), 1, 1, NO, TEXT("a"), DPX_CELL, __LINE__);
+    foresee(r(0), 1, 0, NO, TEXT("a"), DPX_FULL, __LINE__);
+    release();
+}
 
 /* ---------------------------------------------------------------------------------------------------------- make */
 
@@ -342,11 +423,15 @@ static void test_store(void)
     ANSWERS(dpx_table_pack(r(0), 1, NONE, starts, 1, lengths, 1, store, size + 1, 1, named), DPX_SIZE);
     ANSWERS(dpx_table_read(r(0), 1, NONE, starts, 1, lengths, 1, store, size + 1, NONE, value, 1, offsets, 2, named), DPX_SIZE);
     ANSWERS(dpx_table_set(r(0), 1, NONE, starts, 1, lengths, 1, store, size + 1, 1, NONE, NONE), DPX_SIZE);
+    ANSWERS(dpx_table_preview(r(0), 1, NONE, starts, 1, lengths, 1, store, size + 1, 1, NONE, NONE, named), DPX_SIZE);
+    ANSWERS(dpx_table_preview(r(0), 1, NONE, starts, 1, lengths, 1, store, size + 1, 1, value, 1, NONE, named), DPX_CONTENT);
     ANSWERS(dpx_table_set(r(0), 1, NONE, starts, 1, lengths, 1, store, size + 1, 1, value, 1, NONE), DPX_CONTENT);
     ANSWERS(dpx_table_make(r(0), 1, NONE, value, 1, offsets, 2, NONE, starts, 1, lengths, 1, store, size + 1, named), DPX_CONTENT);
     ANSWERS(dpx_table_make(r(0), 1, NONE, NONE, offsets, 2, NONE, starts, 1, lengths, 1, store, size + 1, named), DPX_SIZE);
     CHECK(starts[0] == DPX_MAX_STORE - 1 && lengths[0] == 1);
     store[size - 1] = 'z';
+    ANSWERS(dpx_table_preview(r(0), 1, NONE, starts, 1, lengths, 1, store, size, 0, NONE, store, size, named), DPX_OK);
+    CHECK(named[0] == size && named[1] == 0 && starts[0] == size - 1 && lengths[0] == 1);
     ANSWERS(dpx_table_pack(r(0), 1, NONE, starts, 1, lengths, 1, store, size, 1, named), DPX_OK);
     CHECK(named[0] == 1 && starts[0] == 0 && store[0] == 'z' && store[size - 1] == 'z');
     ANSWERS(dpx_table_set(r(0), 1, NONE, starts, 1, lengths, 1, store, size, 0, NONE, TEXT("y")), DPX_OK);
@@ -362,7 +447,7 @@ static void test_large(size_t cells)
     const size_t room = 8 * cells;
     uint8_t *masks = block(cells), *values = block(room), *store = block(room), *out = block(cells), *back = block(room);
     uint64_t *offsets = block(8 * (cells + 1)), *starts = block(8 * cells), *lengths = block(8 * cells), *again = block(8 * (cells + 1));
-    uint64_t named[4], moved = 0, sum = 0;
+    uint64_t named[4], moved = 0, sum = 0, previewed[2] = {0, 0};
     uint32_t state = 1;
     size_t i, calls = 0;
 
@@ -377,6 +462,8 @@ static void test_large(size_t cells)
         dpx_cell set;
         memset(value, (int)(i & 255), sizeof value);
         mask[0] = state >> 31 == 0;
+        ANSWERS(dpx_table_preview(kind, cells, out, cells, starts, cells, lengths, cells, store, room, cell, mask, 1, value, length, previewed),
+                DPX_OK);
         ANSWERS(dpx_table_set(kind, cells, out, cells, starts, cells, lengths, cells, store, room, cell, mask, 1, value, length), DPX_OK);
         set = dpx_table_cell(kind, cells, out, starts, lengths, store, cell);
         CHECK(set.null_level == (mask[0] ? 0 : 1) && set.length == (mask[0] ? length : 0) && memcmp(set.value, value, set.length) == 0);
@@ -393,6 +480,8 @@ static void test_large(size_t cells)
     CHECK(calls == (moved + 255) / 256 + 1);
     for (i = 0; i < cells; i++)
         sum += lengths[i];
+    /* What was said before the last setting. */
+    CHECK(previewed[0] == sum && previewed[1] == moved);
     ANSWERS(dpx_table_read(kind, cells, out, cells, starts, cells, lengths, cells, store, room, masks, cells, back, room, again, cells + 1,
                            named),
             DPX_OK);
@@ -404,6 +493,7 @@ int main(void)
 {
     test_make();
     test_read();
+    test_preview();
     test_set();
     test_pack();
     test_rules();

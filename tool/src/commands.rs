@@ -24,7 +24,7 @@ struct Command {
     run: fn(&Arguments, &Watch) -> Result<u8, Failure>,
 }
 
-const COMMANDS: [Command; 14] = [
+const COMMANDS: [Command; 15] = [
     Command {
         name: "show",
         help: help::SHOW,
@@ -98,6 +98,13 @@ const COMMANDS: [Command; 14] = [
         run: tables::set,
     },
     Command {
+        name: "table preview",
+        help: help::TABLE,
+        options: &["--cell", "--to"],
+        files: &["TABLE"],
+        run: tables::preview,
+    },
+    Command {
         name: "table pack",
         help: help::TABLE,
         options: &["--most", "--no-clobber"],
@@ -137,8 +144,9 @@ pub fn run(words: Vec<OsString>) -> Result<u8, Failure> {
     let command = match text.as_str() {
         "table" => match words.next().map(|word| word.to_string_lossy().into_owned()).as_deref() {
             Some("--help" | "-h") => return print(help::TABLE, &watch),
-            second => command(&format!("table {}", second.unwrap_or_default()))
-                .map_err(|_| Failure::usage("table is followed by make, show, set or pack").of_command("table"))?,
+            second => command(&format!("table {}", second.unwrap_or_default())).map_err(|_| {
+                Failure::usage("table is followed by make, show, set, preview or pack").of_command("table")
+            })?,
         },
         _ => command(&text)?,
     };

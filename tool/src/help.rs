@@ -13,7 +13,7 @@ pub const GENERAL: &str = r#"durpaxeta: stored tables of optional and variable-l
   durpaxeta check     says whether a file is a valid table, and if not, why and at which byte
   durpaxeta same      says whether two files are the same table, and if not, where they differ
   durpaxeta explain   prints the stored bytes, field by field, with what they are
-  durpaxeta table     edits the cells of a working table: make, show, set, pack
+  durpaxeta table     edits the cells of a working table: make, show, set, preview, pack
   durpaxeta example   prints a worksheet to begin with
 
 'durpaxeta help COMMAND' or 'durpaxeta COMMAND --help' tells more about each; 'durpaxeta help' prints this page.
@@ -238,6 +238,7 @@ Examples:
 pub const TABLE: &str = r#"durpaxeta table make [--kind KIND --shape SHAPE] --store BYTES [--no-clobber] IN OUT
 durpaxeta table show [--hex] TABLE
 durpaxeta table set --cell CELL --to WHAT [--no-clobber] TABLE OUT
+durpaxeta table preview --cell CELL --to WHAT TABLE
 durpaxeta table pack --most NUMBER [--no-clobber] TABLE OUT
 
 A working table is a ragged table whose cells are edited: each has a start and a length in a store of so many bytes. Here it is a
@@ -250,6 +251,9 @@ A program calls the library instead, on its own memory.
   set    sets a cell: --to 'value "0-3"', --to 'value hex 0A 0B' or --to 'null at level 1'. Its old bytes are given up and stay
          where they are; the new ones go behind the cell that lies highest. Where too little is left there, all cells are packed
          before. 15 is a cell that the table has not, 16 a value for which the store is too small.
+  preview
+         says what set would do, and writes no file: the sum of the lengths of all cells afterwards, and how many cells pack would
+         then find to move; or the refusal, with the same exit status.
   pack   moves cells that do not lie end to end, the lowest first, at most 1 to 256 of them, and tells how many it moved.
 
 No byte of the store is ever cleared: bytes that no cell has any more are in the text, marked 'in no cell', until others are put
@@ -259,6 +263,7 @@ Examples:
   durpaxeta example | durpaxeta write --describe - guests.bin
   durpaxeta table make --store 12 guests.bin work.txt
   durpaxeta table set --cell 1,0 --to 'value "4-7"' work.txt next.txt
+  durpaxeta table preview --cell 0,0 --to 'null at level 2' next.txt
   durpaxeta table set --cell 0,0 --to 'null at level 2' next.txt work.txt
   durpaxeta table pack --most 256 work.txt next.txt
   cat next.txt

@@ -1,4 +1,4 @@
-//! The commands on working tables: make, show, set, pack. Each is one call of the library over a listing.
+//! The commands on working tables: make, show, set, preview, pack. Each is one call of the library over a listing.
 
 use crate::arguments::Arguments;
 use crate::failure::Failure;
@@ -9,7 +9,7 @@ use crate::output::{self, Output};
 use crate::stored::Stored;
 use crate::watch::Watch;
 use crate::{words, worksheet};
-use durpaxeta::{read_number, Cell, Mark, Refusal, Table};
+use durpaxeta::{read_number, Cell, Mark, Preview, Refusal, Table};
 use std::ffi::OsStr;
 
 fn missing(option: &str, example: &str) -> Failure {
@@ -142,18 +142,49 @@ fn cell_of(text: &str, shape: &[u64]) -> Result<u64, Failure> {
     Ok(words::cell_number(shape, text).map_or(u64::MAX, |cell| cell as u64))
 }
 
+/// A setting that was asked for, and the table that it is of.
+struct Setting {
+    cell: String,
+    number: u64,
+    to: Result<Vec<u8>, usize>,
+    input: Input,
+    listing: Listing,
+}
+
+impl Setting {
+    fn read(arguments: &Arguments, watch: &Watch) -> Result<Setting, Failure> {
+        let cell = arguments.cell.clone().ok_or_else(|| missing("--cell", "0,1"))?;
+        let to = arguments.to.as_ref().ok_or_else(|| missing("--to", "'value \"0-3\"'"))?;
+        let to = wanted(to)?;
+        let (input, listing) = read(&arguments.files[0], watch)?;
+        let number = cell_of(&cell, &listing.shape)?;
+        Ok(Setting { cell, number, to, input, listing })
+    }
+
+    fn refused(&self, refusal: Refusal) -> Failure {
+        not_set(&self.input.name, &self.listing, &self.cell, &self.to, refusal)
+    }
+}
+
+fn cell_to(to: &Result<Vec<u8>, usize>) -> Cell<'_> {
+    match to {
+        Ok(value) => Cell::Value(value),
+        Err(level) => Cell::Null { level: *level },
+    }
+}
+
 pub fn set(arguments: &Arguments, watch: &Watch) -> Result<u8, Failure> {
-    let cell = arguments.cell.as_ref().ok_or_else(|| missing("--cell", "0,1"))?;
-    let to = arguments.to.as_ref().ok_or_else(|| missing("--to", "'value \"0-3\"'"))?;
-    let to = wanted(to)?;
-    let (input, mut listing) = read(&arguments.files[0], watch)?;
-    let number = cell_of(cell, &listing.shape)?;
-    let set = match &to {
-        Ok(value) => listing.table.set(number, Cell::Value(value)),
-        Err(level) => listing.table.set(number, Cell::Null { level: *level }),
-    };
-    set.map_err(|refusal| not_set(&input.name, &listing, cell, &to, refusal))?;
-    write(&listing, &arguments.files[1], &[&input], arguments, watch)?;
+    let mut setting = Setting::read(arguments, watch)?;
+    setting.listing.table.set(setting.number, cell_to(&setting.to)).map_err(|refusal| setting.refused(refusal))?;
+    write(&setting.listing, &arguments.files[1], &[&setting.input], arguments, watch)?;
+    Ok(0)
+}
+
+pub fn preview(arguments: &Arguments, watch: &Watch) -> Result<u8, Failure> {
+    let setting = Setting::read(arguments, watch)?;
+    let foreseen = setting.listing.table.preview(setting.number, cell_to(&setting.to));
+    let Preview { total, unpacked } = foreseen.map_err(|refusal| setting.refused(refusal))?;
+    output::print(&format!("sum of lengths: {total}\ncells not packed: {unpacked}\n"), watch)?;
     Ok(0)
 }
 

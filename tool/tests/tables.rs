@@ -72,12 +72,40 @@ fn made_set_packed_and_shown() {
     assert!(good(&folder, &["table", "show", "--hex", "full.txt"]).text().contains("value hex 34 2D 37"));
 }
 
+/// The two numbers of a preview, and the table that the setting then leaves; no file is written.
+#[test]
+fn previewed() {
+    let folder = folder("previewed");
+    made(&folder, "12");
+    assert_eq!(set(&folder, "1,0", "value \"4-7\"", "work.txt", "next.txt").status, 0);
+    let files = || fs::read_dir(&folder).unwrap().count();
+    let before = (files(), fs::read(folder.join("next.txt")).unwrap());
+    for (cell, to, total, unpacked) in [
+        ("1,0", "value \"4-7\"", 8, 0),
+        ("0,0", "null at level 2", 3, 1),
+        ("0,0", "value \"\"", 3, 1),
+        ("0,0", "value \"0\"", 4, 2),
+        ("0,1", "value hex 00 FF", 10, 0),
+        ("0,0", "value \"12345\"", 8, 0),
+    ] {
+        let said = good(&folder, &["table", "preview", "--cell", cell, "--to", to, "next.txt"]);
+        assert_eq!(said.text(), format!("sum of lengths: {total}\ncells not packed: {unpacked}\n"), "{cell} {to}");
+        assert_eq!(said.err, "");
+        assert_eq!((files(), fs::read(folder.join("next.txt")).unwrap()), before);
+        let from = String::from_utf8(before.1.clone()).unwrap();
+        let after = run(&folder, &["table", "set", "--cell", cell, "--to", to, "-", "-"], from.as_bytes());
+        let packed = run(&folder, &["table", "pack", "--most", "256", "-", "-"], &after.out);
+        let word = if unpacked == 1 { "cell" } else { "cells" };
+        assert!(packed.err.contains(&format!(": {unpacked} {word} moved\n")), "{}", packed.err);
+    }
+}
+
 #[test]
 fn what_is_refused() {
     let folder = folder("not-working");
     made(&folder, "6");
     let kind = ["--kind", KIND, "--shape", "2x2"];
-    let cases: [(Vec<&str>, i32, &str); 21] = [
+    let cases: [(Vec<&str>, i32, &str); 24] = [
         (
             [&["make"][..], &kind, &["--store", "4", "guests.bin", "no"]].concat(),
             6,
@@ -141,6 +169,13 @@ fn what_is_refused() {
             64,
             "work.txt is input and output",
         ),
+        (vec!["preview", "--cell", "1,1", "work.txt"], 64, "--to is missing"),
+        (vec!["preview", "--cell", "1,1", "--to", "value \"\"", "work.txt", "no"], 64, "table preview takes TABLE"),
+        (
+            vec!["preview", "--cell", "1,1", "--to", "value \"\"", "--no-clobber", "work.txt"],
+            64,
+            "table preview does not take --no-clobber",
+        ),
         (vec!["pack", "--most", "257", "work.txt", "no"], 1, "257 cells are to be moved; one call moves 1 to 256"),
         (vec!["pack", "work.txt", "no"], 64, "--most is missing; for example --most 256"),
         (vec!["pack", "--most", "1", "guests.txt", "no"], 65, "the first line of a working table"),
@@ -150,13 +185,19 @@ fn what_is_refused() {
         let said = run(&folder, &[&["table"][..], &arguments].concat(), b"");
         assert_eq!(said.status, status, "{arguments:?}: {}", said.err);
         assert!(said.err.contains(says), "{arguments:?}: {}", said.err);
+        // A preview is refused in the same words.
+        if let ["set", option @ .., "work.txt", "no"] = &arguments[..] {
+            let foreseen = run(&folder, &[&["table", "preview"][..], option, &["work.txt"]].concat(), b"");
+            assert_eq!((foreseen.status, foreseen.out.is_empty()), (status, true), "{arguments:?}: {}", foreseen.err);
+            assert_eq!(foreseen.err.replace("help table", ""), said.err.replace("help table", ""));
+        }
     }
     assert!(!folder.join("no").exists());
     for arguments in [&["table"][..], &["table", "edit"]] {
         let said = run(&folder, arguments, b"");
         assert_eq!(
             (said.status, said.err.as_str()),
-            (64, "durpaxeta: table is followed by make, show, set or pack\nSee 'durpaxeta help table'.\n")
+            (64, "durpaxeta: table is followed by make, show, set, preview or pack\nSee 'durpaxeta help table'.\n")
         );
     }
     assert_eq!(good(&folder, &["table", "--help"]).out, good(&folder, &["help", "table"]).out);
@@ -189,6 +230,7 @@ fn tables_that_are_none() {
             &["show", "-"][..],
             &["pack", "--most", "1", "-", "no"],
             &["set", "--cell", "0", "--to", "value \"\"", "-", "no"],
+            &["preview", "--cell", "0", "--to", "value \"\"", "-"],
         ] {
             let said = run(&folder, &[&["table"][..], command].concat(), text.as_bytes());
             assert_eq!(said.status, 4, "{text}{}", said.err);

@@ -265,6 +265,25 @@ extern "C" {
         most: u64,
         lengths: *mut u64,
     ) -> u32;
+
+    fn dpx_table_preview(
+        kind: RawKind,
+        cells: u64,
+        masks: *const u8,
+        masks_len: usize,
+        starts: *const u64,
+        starts_len: usize,
+        cell_lengths: *const u64,
+        cell_lengths_len: usize,
+        store: *const u8,
+        store_len: usize,
+        cell: u64,
+        cell_masks: *const u8,
+        cell_masks_len: usize,
+        value: *const u8,
+        value_len: usize,
+        lengths: *mut u64,
+    ) -> u32;
 }
 
 /// Content handed over.
@@ -592,4 +611,30 @@ pub fn table_pack(table: &mut TableMut<'_>, most: u64) -> Answer<usize> {
         )
     })?;
     Ok(lengths[0] as usize)
+}
+
+/// Gives the sum of lengths and how many cells are not packed.
+pub fn table_preview(table: TableRef<'_>, cell: u64, cell_masks: &[u8], value: &[u8]) -> Answer<[u64; 2]> {
+    let mut lengths = [0; 2];
+    answer(unsafe {
+        dpx_table_preview(
+            table.kind.into(),
+            table.starts.len() as u64,
+            table.masks.as_ptr(),
+            table.masks.len(),
+            table.starts.as_ptr(),
+            table.starts.len(),
+            table.lengths.as_ptr(),
+            table.lengths.len(),
+            table.store.as_ptr(),
+            table.store.len(),
+            cell,
+            cell_masks.as_ptr(),
+            cell_masks.len(),
+            value.as_ptr(),
+            value.len(),
+            lengths.as_mut_ptr(),
+        )
+    })?;
+    Ok(lengths)
 }

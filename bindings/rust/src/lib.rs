@@ -49,7 +49,7 @@ pub use kind::{Kind, MaskForm, Order, Place, Values, Width};
 pub use lent::{cell_count, Lent, Room};
 pub use refusal::{Blame, Refusal, UnknownRefusal};
 pub use subset::Subset;
-pub use table::{table_make_into, table_read_into, Table, TableMut, TableRef};
+pub use table::{table_make_into, table_read_into, Preview, Table, TableMut, TableRef};
 pub use text::{read_number, TextError};
 
 /// Most mask levels of a kind.

@@ -74,6 +74,15 @@ pub struct TableRef<'a> {
     pub store: &'a [u8],
 }
 
+/// What a table would be after a setting.
+#[derive(Clone, Copy, Debug, PartialEq, Eq, Hash)]
+pub struct Preview {
+    /// The sum of the lengths of all cells.
+    pub total: u64,
+    /// How many cells with bytes would not be at their packed starts: so many [`Table::pack`] would find to move.
+    pub unpacked: usize,
+}
+
 /// The mask bytes that make a cell what it is to be. Where it has no such level they are too many, and the call refuses them.
 fn masks_of(depth: u64, cell: Cell<'_>) -> Vec<u8> {
     let depth = depth.min(MAX_DEPTH + 1) as usize;
@@ -292,6 +301,28 @@ impl Table {
         self.lent().set(cell, to)
     }
 
+    /// What [`Table::set`] would do, as if it were made on a copy and the copy looked at, the packing included that it may start.
+    /// Nothing is changed.
+    ///
+    /// # Errors
+    ///
+    /// Those of [`Table::set`].
+    ///
+    /// ```
+    /// use durpaxeta::{Cell, Kind, Place, Preview, Refusal, Table, Width};
+    ///
+    /// let kind = Kind::ragged(0, Width::Four, Place::Start);
+    /// let table = Table { kind, masks: vec![], starts: vec![0, 1], lengths: vec![1, 1], store: b"xy...".to_vec() };
+    /// // Behind "y": the store would be "xyabc", and both cells could be moved down.
+    /// assert_eq!(table.preview(0, Cell::Value(b"abc")), Ok(Preview { total: 4, unpacked: 2 }));
+    /// // Too little is left behind "y", so all are packed first: "yabcd".
+    /// assert_eq!(table.preview(0, Cell::Value(b"abcd")), Ok(Preview { total: 5, unpacked: 0 }));
+    /// assert_eq!(table.preview(0, Cell::Value(b"abcde")), Err(Refusal::Full));
+    /// ```
+    pub fn preview(&self, cell: u64, to: Cell<'_>) -> Result<Preview, Refusal> {
+        self.view().preview(cell, to)
+    }
+
     /// Moves at most that many cells, 1 to 256, to their packed starts, the lowest-lying first; answers how many it moved. 0 says
     /// that all are packed.
     ///
@@ -367,6 +398,28 @@ impl TableMut<'_> {
         given(ffi::table_set(self, cell, masks, value))
     }
 
+    /// What a setting would do, as [`Table::preview`] says it.
+    ///
+    /// # Errors
+    ///
+    /// Those of [`Table::set`].
+    ///
+    /// ```
+    /// use durpaxeta::{Cell, Kind, Place, Table, Width};
+    ///
+    /// let kind = Kind::ragged(0, Width::Four, Place::Start);
+    /// let mut table = Table { kind, masks: vec![], starts: vec![0, 1], lengths: vec![1, 1], store: b"xy".to_vec() };
+    /// let mut table = table.lent();
+    /// // What is given up displaces the cell behind it.
+    /// assert_eq!(table.preview(0, Cell::Value(b""))?.unpacked, 1);
+    /// table.set(0, Cell::Value(b""))?;
+    /// assert_eq!(table.pack(256)?, 1);
+    /// # Ok::<(), durpaxeta::Refusal>(())
+    /// ```
+    pub fn preview(&self, cell: u64, to: Cell<'_>) -> Result<Preview, Refusal> {
+        self.view().preview(cell, to)
+    }
+
     /// Packs, as [`Table::pack`] does.
     ///
     /// # Errors
@@ -427,6 +480,46 @@ impl<'a> TableRef<'a> {
         let start = usize::try_from(*self.starts.get(number)?).ok()?;
         let length = usize::try_from(*self.lengths.get(number)?).ok()?;
         self.store.get(start..start.checked_add(length)?).map(Cell::Value)
+    }
+
+    /// What a setting would do, as [`Table::preview`] says it.
+    ///
+    /// # Errors
+    ///
+    /// Those of [`Table::set`].
+    ///
+    /// ```
+    /// use durpaxeta::{Cell, Kind, Place, Preview, TableRef, Width};
+    ///
+    /// let kind = Kind::ragged(1, Width::Four, Place::Start);
+    /// let table = TableRef { kind, masks: &[1, 0], starts: &[0, 0], lengths: &[2, 0], store: b"ab.." };
+    /// assert_eq!(table.preview(1, Cell::Value(b"cd")), Ok(Preview { total: 4, unpacked: 0 }));
+    /// assert_eq!(table.preview(0, Cell::Null { level: 1 }), Ok(Preview { total: 0, unpacked: 0 }));
+    /// ```
+    pub fn preview(self, cell: u64, to: Cell<'_>) -> Result<Preview, Refusal> {
+        let masks = masks_of(self.kind.depth, to);
+        self.preview_masks(cell, &masks, value_of(to))
+    }
+
+    /// What [`TableMut::set_masks`] would do: the same, with mask bytes, outermost first.
+    ///
+    /// # Errors
+    ///
+    /// Those of [`TableMut::set_masks`].
+    ///
+    /// ```
+    /// use durpaxeta::{Kind, Place, Preview, Refusal, TableRef, Width};
+    ///
+    /// let kind = Kind::ragged(1, Width::Four, Place::Start);
+    /// let table = TableRef { kind, masks: &[1], starts: &[0], lengths: &[1], store: b"x" };
+    /// // Hidden bytes are dropped, and do not count.
+    /// assert_eq!(table.preview_masks(0, &[0], b"abc"), Ok(Preview { total: 0, unpacked: 0 }));
+    /// assert_eq!(table.preview_masks(0, &[1], b"abc"), Err(Refusal::Full));
+    /// assert_eq!(table.preview_masks(0, &[2], b""), Err(Refusal::Content));
+    /// ```
+    pub fn preview_masks(self, cell: u64, masks: &[u8], value: &[u8]) -> Result<Preview, Refusal> {
+        let [total, unpacked] = given(ffi::table_preview(self, cell, masks, value))?;
+        Ok(Preview { total, unpacked: unpacked as usize })
     }
 }
 

@@ -165,7 +165,7 @@ fn answers_of_the_questions() {
     assert_eq!((table.cell(0), table.cell(1)), (Some(Cell::Value(b"0-3,")), Some(Cell::Value(b"8"))));
 }
 
-/// Part 15: the store after each step.
+/// Part 15: the store after each step, and previews of the next.
 #[test]
 fn stores_are_real() {
     let kind = Kind::ragged(2, Width::Four, Place::Start);
@@ -182,6 +182,18 @@ fn stores_are_real() {
     table.set(1, Cell::Value(b"12")).unwrap();
     stores.push(table.store.clone());
     let before = table.clone();
+    for (cell, to, what) in [
+        (0, Cell::Value(b"A"), "0,0 to \"A\""),
+        (0, Cell::Value(b"0-1,4-5"), "0,0 to \"0-1,4-5\""),
+        (1, Cell::Value(b""), "0,1 to \"\""),
+        (2, Cell::Null { level: 1 }, "1,0 to null at level 1"),
+    ] {
+        let Preview { total, unpacked } = before.preview(cell, to).unwrap();
+        let row = format!("\n| {what} | {total} | {unpacked} | ");
+        assert!(PAGE.contains(&row), "{row}");
+    }
+    assert_eq!(before.preview(0, Cell::Value(b"0-1,4-5,")), Err(Refusal::Full));
+    assert!(PAGE.contains("\n| 0,0 to \"0-1,4-5,\" | | | refused with 16: 5 and 8 are more than 12 |"));
     for moved in [1, 1] {
         assert_eq!(table.pack(1), Ok(moved));
         stores.push(table.store.clone());

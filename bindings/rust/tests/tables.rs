@@ -1,5 +1,5 @@
-//! Working tables: the lines of docs/SPEC.md, S10.37 to S10.44, refusals in their order, lent slices, and tables that are edited and
-//! packed at random beside a plain list of cells.
+//! Working tables: the lines of docs/SPEC.md, S10.37 to S10.46, refusals in their order, lent slices, and tables that are edited and
+//! packed at random beside a plain list of cells, each setting previewed.
 
 use durpaxeta::*;
 
@@ -37,11 +37,22 @@ fn after<T>(before: &Table, call: impl FnOnce(&mut TableMut<'_>) -> Result<T, Re
 
 /// A setting of a table without masks.
 fn set(before: &Table, cell: u64, value: &[u8]) -> Result<Table, Refusal> {
-    after(before, |table| table.set(cell, Cell::Value(value))).map(|((), table)| table)
+    let set = after(before, |table| table.set(cell, Cell::Value(value))).map(|((), table)| table);
+    let foreseen = before.preview(cell, Cell::Value(value));
+    assert_eq!(foreseen, set.as_ref().map(looked_at).map_err(|refusal| *refusal), "{before:?}");
+    set
 }
 
+/// A setting, and its preview: refused alike, or what the table is then.
 fn set_masks(before: &Table, cell: u64, masks: &[u8], value: &[u8]) -> Result<Table, Refusal> {
-    after(before, |table| table.set_masks(cell, masks, value)).map(|((), table)| table)
+    let set = after(before, |table| table.set_masks(cell, masks, value)).map(|((), table)| table);
+    let foreseen = before.view().preview_masks(cell, masks, value);
+    assert_eq!(foreseen, set.as_ref().map(looked_at).map_err(|refusal| *refusal), "{before:?}");
+    set
+}
+
+fn looked_at(table: &Table) -> Preview {
+    Preview { total: table.lengths.iter().sum(), unpacked: displaced(table) }
 }
 
 fn pack(before: &Table, most: u64) -> Result<(usize, Table), Refusal> {
@@ -104,6 +115,34 @@ fn what_packing_moves() {
     assert_eq!(pack(&table(&[], &[0, 2], &[1, 1], b"a.b"), 1), Ok((1, table(&[], &[0, 1], &[1, 1], b"abb"))));
     assert_eq!(pack(&table(&[], &[3, 1], &[1, 1], b".b.a"), 1), Ok((1, table(&[], &[3, 0], &[1, 1], b"bb.a"))));
     assert_eq!(pack(&table(&[], &[0], &[1], b"a"), 256), Ok((0, table(&[], &[0], &[1], b"a"))));
+}
+
+#[test]
+fn what_a_preview_says() {
+    let two = |store: &[u8]| table(&[], &[0, 1], &[1, 1], store);
+    for (before, cell, value, total, unpacked) in [
+        (two(b"xy..."), 0, &b"abc"[..], 4, 2),
+        (two(b"xy.."), 0, b"abc", 4, 0),
+        (two(b"xy.."), 0, b"", 1, 1),
+        (two(b"xy"), 1, b"b", 2, 0),
+        (table(&[], &[3, 1, 0], &[1, 2, 1], b"zyyx.."), 2, b"w", 4, 3),
+        (table(&[], &[1], &[3], b".abc"), 0, b"x", 1, 0),
+        (table(&[], &[1, 0], &[1, 1], b"xy"), 1, b"", 1, 1),
+    ] {
+        assert_eq!(before.preview(cell, Cell::Value(value)), Ok(Preview { total, unpacked }), "{before:?}");
+        let mut lent = before.clone();
+        assert_eq!(lent.lent().preview(cell, Cell::Value(value)), Ok(Preview { total, unpacked }));
+        assert_eq!(lent, before);
+    }
+    let one = table(&[1], &[0], &[1], b"x");
+    let nothing = Preview { total: 0, unpacked: 0 };
+    assert_eq!(one.view().preview_masks(0, &[0], b"abc"), Ok(nothing));
+    assert_eq!(one.preview(0, Cell::Null { level: 1 }), Ok(nothing));
+    assert_eq!(one.preview(0, Cell::Null { level: 2 }), Err(Refusal::Content));
+    let empty = table(&[], &[0], &[0], b"");
+    assert_eq!(empty.preview(1, Cell::Value(b"a")), Err(Refusal::Cell));
+    assert_eq!(empty.preview(0, Cell::Value(b"a")), Err(Refusal::Full));
+    assert_eq!(empty.preview(0, Cell::Value(b"")), Ok(nothing));
 }
 
 #[test]
@@ -244,10 +283,13 @@ fn edited_and_packed_at_random() {
                     _ => Ok(value),
                 };
                 let others: usize = (0..cells).filter(|&other| other != cell).map(|other| bytes(&model[other])).sum();
-                let set = match &to {
-                    Ok(value) => table.set(cell as u64, Cell::Value(value)),
-                    Err(level) => table.set(cell as u64, Cell::Null { level: *level }),
+                let wanted = match &to {
+                    Ok(value) => Cell::Value(value),
+                    Err(level) => Cell::Null { level: *level },
                 };
+                let foreseen = table.preview(cell as u64, wanted);
+                let set = table.set(cell as u64, wanted);
+                assert_eq!(foreseen, set.map(|()| looked_at(&table)));
                 if others + bytes(&to) > size {
                     assert_eq!(set, Err(Refusal::Full));
                 } else {
