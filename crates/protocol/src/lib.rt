@@ -116,7 +116,7 @@ fn answer_line(line: &[u8]) {
     let letter = requests::letter_of(line);
     match letter {
         b'#' => show::write_line(line),
-        b'R' | b'S' | b'P' => protocol_tables::answer_table(letter, line),
+        b'R' | b'S' | b'V' | b'P' => protocol_tables::answer_table(letter, line),
         _ => answer_request(letter, line),
     }
 }

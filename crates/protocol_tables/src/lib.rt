@@ -9,6 +9,7 @@ use requests::tables::read_table_line;
 use responses::lent;
 use responses::show;
 use responses::tables;
+use table::answer::Previewed;
 use table::answer::Settled;
 use table::answer::WrittenTable;
 use text::scan::number_at;
@@ -300,6 +301,23 @@ fn respond_in_place(letter: u8, q: TableRequest, numbers: &[u64], bytes: &[u8]) 
     );
 }
 
+fn preview(q: TableRequest, numbers: &[u64], bytes: &[u8]) -> Previewed {
+    match head_kind(part_of_numbers(numbers, 0, q.cells)) {
+        KindRead::Refused(e) => Previewed::Refused(e),
+        KindRead::Kind(kind) => table_preview::preview_cell(
+            kind,
+            number_at(numbers, q.cells) as usize,
+            part_of_bytes(bytes, 0, q.store),
+            part_of_numbers(numbers, q.starts, q.lengths),
+            part_of_numbers(numbers, q.lengths, q.more),
+            part_of_bytes(bytes, q.store, q.cell_masks),
+            number_at(numbers, q.more) as usize,
+            part_of_bytes(bytes, q.cell_masks, q.value),
+            part_of_bytes(bytes, q.value, q.bytes),
+        ),
+    }
+}
+
 // Answers a line that hands a table over.
 pub fn answer_table(letter: u8, line: &[u8]) {
     let mut numbers = table_numbers();
@@ -309,6 +327,9 @@ pub fn answer_table(letter: u8, line: &[u8]) {
     };
     if letter == b'R' {
         return respond_read(q, &numbers, &bytes);
+    }
+    if letter == b'V' {
+        return tables::write_previewed(preview(q, &numbers, &bytes));
     }
     respond_in_place(letter, q, &numbers, &bytes);
 }

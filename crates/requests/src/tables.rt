@@ -1,5 +1,6 @@
 // A request on a working table that is handed over: which lists its line has, in which order, and where they lie once they are read.
-// Behind the table are the lengths of the outputs to read it into, or the cell to set, its masks and its value, or the most cells to move.
+// Behind the table are the lengths of the outputs to read it into, or the cell to set or to preview, its masks and its value, or the most
+// cells to move.
 use crate::Pair;
 use crate::next_bytes;
 use crate::next_numbers;
@@ -92,10 +93,15 @@ fn read_lists(line: &[u8], at: usize, numbers: &mut [u64], from: usize, bytes: &
     }
 }
 
+// Whether a line has a setting, made or previewed.
+fn has_setting(letter: u8) -> bool {
+    letter == b'S' || letter == b'V'
+}
+
 // The masks and the value of a cell, where one is set.
 fn read_setting(letter: u8, line: &[u8], at: usize, bytes: &mut [u8], from: usize) -> Pair {
-    let masks = next_bytes(letter == b'S', line, at, bytes, from);
-    let value = next_bytes(letter == b'S', line, masks.at, bytes, masks.to);
+    let masks = next_bytes(has_setting(letter), line, at, bytes, from);
+    let value = next_bytes(has_setting(letter), line, masks.at, bytes, masks.to);
     Pair {
         at: value.at,
         first: masks.to,

@@ -1,9 +1,10 @@
 // Answers of the calls on a working table as text: `refused N`; `ok LENGTHS: LISTS` where a table is made, its lists up to those lengths;
-// `ok: LISTS` where a cell is set and `ok MOVED: LISTS` where cells are packed, the lists whole. Masks before starts before lengths before
-// store; ` spoilt` where a byte beyond the lengths, or any after a refusal, has changed.
+// `ok: LISTS` where a cell is set and `ok MOVED: LISTS` where cells are packed, the lists whole; `ok SUM,UNPACKED` where a setting is
+// previewed. Masks before starts before lengths before store; ` spoilt` where a byte beyond the lengths, or any after a refusal, has changed.
 use crate::lent;
 use crate::show;
 use array::answer::Written;
+use table::answer::Previewed;
 use table::answer::Settled;
 use table::answer::WrittenTable;
 use text::scan::part_of_bytes;
@@ -99,6 +100,19 @@ pub fn write_packed(
             show::write_text(b"ok ");
             show::write_number(moved as u64);
             write_table(masks, starts, lengths, store);
+            write_end(true)
+        }
+    }
+}
+
+// The answer of preview_cell, which is lent nothing that it could change.
+pub fn write_previewed(answer: Previewed) {
+    match answer {
+        Previewed::Refused(e) => write_refused(e, true),
+        Previewed::After(total, unpacked) => {
+            let counts = [total as u64, unpacked as u64];
+            show::write_text(b"ok ");
+            show::write_numbers(&counts);
             write_end(true)
         }
     }

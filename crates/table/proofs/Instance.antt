@@ -10,7 +10,7 @@ use Rattle.array.specs.Content.{Content}
 use Rattle.array.proofs.Rules.{array-ok}
 use Rattle.table.specs.Table.{Table, TableKind, CountOk, cellOf, tableTest, mostStore}
 use Rattle.table.specs.Lying.{displaced}
-use Rattle.table.specs.Calls.{makeAnswer, made, readOut, cellSet, cellsPacked}
+use Rattle.table.specs.Calls.{makeAnswer, made, readOut, cellSet, lookedAt, previewed, cellsPacked}
 use Rattle.table.specs.Lines.{single, table, array, a, b, c, x, z, o}
 use Rattle.table.specs.Laws.{Working, MakeLaw, SetLaw, PackLaw, packedTimes}
 use Rattle.table.proofs.Rules.{table-ok}
@@ -18,6 +18,7 @@ use Rattle.table.proofs.Reading.{reads}
 use Rattle.table.proofs.Making.{makes}
 use Rattle.table.proofs.Setting.{sets}
 use Rattle.table.proofs.Packing.{packs}
+use Rattle.table.proofs.Previewing.{previews}
 
 kind : TableKind single
 kind = record { sound = record { shallow = lit≤ tt; sound = inr refl }; is-ragged = tt }
@@ -75,6 +76,11 @@ here = set-law .cells 1 (lit< tt)
 
 pub there : cellOf 1 3 (cellSet single 3 lying 1 (1 ∷ []) (c ∷ []) .buffers) 0 ≡ (1, a ∷ b ∷ [])
 there = set-law .cells 0 (lit< tt)
+
+-- ---- that setting previewed: the packing is foreseen
+
+pub foreseen : previewed single 3 lying 1 (1 ∷ []) (c ∷ []) ≡ gives (lookedAt 3 (cellSet single 3 lying 1 (1 ∷ []) (c ∷ []) .buffers))
+foreseen = previews single 3 lying 1 (1 ∷ []) (c ∷ []) .looks (set-law .given)
 
 -- ---- packed by one call that moves one cell
 

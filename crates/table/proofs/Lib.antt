@@ -12,6 +12,6 @@ pub mod Packing
 pub mod Making
 pub mod Setting
 pub mod Refusals
-pub mod Instance
 pub mod Previewing
 pub mod Foreseeing
+pub mod Instance

@@ -1,4 +1,4 @@
--- Redundant by the laws in-order and walk-counts in table/proofs/Walk.antt: what a walk over the cells as they lie (S13.5, S13.7) is given, and leaves.
+-- Redundant by the laws in-order and walk-counts in table/proofs/Walk.antt: walks over the cells as they lie (S13.5, S13.7).
 -- Assumes nothing.
 use Prim.Native.Nat.{ℕ, _+_, _-_, _≤_}
 use mathlib.Core.Path.{_≡_}

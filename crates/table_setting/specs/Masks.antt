@@ -1,4 +1,4 @@
--- Redundant by the law masks-are in table_set/proofs/Settling.antt: the mask bytes of a table after a setting (S13.8), by level and cell.
+-- Redundant by the law masks-are in table_setting/proofs/Values.antt: the mask bytes of a table after a setting (S13.8), by level and cell.
 -- Assumes nothing.
 use Prim.Native.Nat.{ℕ}
 use mathlib.Core.List.{List}

@@ -1,4 +1,4 @@
--- docs/SPEC.md, S6.13: what the declared answer of `table_setting::fit::fit` means.
+-- Redundant by the contract of `table_setting::fit::fit`, table_setting/proofs/fit/fit/Proof.antt: what its declared answer means.
 -- Assumes nothing.
 use Rattle.table_setting.specs.declared.fit.Fitted as fit
 use Rattle.array.specs.Answer.{Answer, gives, refuses}
