@@ -48,14 +48,25 @@ dpx_table_set
 END
 echo 'the fifteen calls, and nothing else'
 
+# The tests by cargo need nothing of those in C, and run beside them; what they say comes behind.
+cargo_tests() {
+    say 'Rust wrapper'
+    cargo test --offline --locked --quiet --manifest-path bindings/rust/Cargo.toml
+
+    say 'command'
+    cargo test --offline --locked --quiet --manifest-path tool/Cargo.toml
+}
+(cargo_tests) > build/cargo-tests.log 2>&1 &
+beside=$!
+trap wait EXIT # where a test in C fails, those by cargo end first
+
 say 'C interface'
 tests/c/run.sh
 
-say 'Rust wrapper'
-cargo test --offline --locked --quiet --manifest-path bindings/rust/Cargo.toml
-
-say 'command'
-cargo test --offline --locked --quiet --manifest-path tool/Cargo.toml
+status=0
+wait "$beside" || status=$?
+cat build/cargo-tests.log
+[ "$status" = 0 ] || exit "$status"
 
 say 'installation'
 tests/install.sh
