@@ -8,10 +8,11 @@
 # make compare   holds the archive against the original Rust; make teeth, make fuzz, make bench: oracle/README.md.
 .PHONY: test lib tool demo install uninstall
 
-# rt's last line is kept back until the rest has passed.
+# rt's last line is kept back until the rest has passed. It waits for the last of a batch of checks before it begins the next, so four at a time
+# keep two cores busier than two.
 test:
 	@mkdir -p build
-	@bash -c 'set -o pipefail; rt ci | tee build/rt-ci.log | sed "$$ d"'
+	@bash -c 'set -o pipefail; RT_JOBS=$${RT_JOBS:-4} rt ci | tee build/rt-ci.log | sed "$$ d"'
 	@tests/outside.sh
 	@tail -n 1 build/rt-ci.log
 
