@@ -8,7 +8,7 @@ use text::scan::{Filled, number_at, part_of_bytes};
 
 // The lists of a line, in their order: so many numbers at the head, or so many more; shape; subset; masks; values or stored bytes;
 // offsets; and so many lengths of outputs.
-#[derive(Drop)]
+#[derive(Clone, Copy)]
 struct Fields {
     pub head: usize,
     pub more: usize,
@@ -20,7 +20,7 @@ struct Fields {
     pub rooms: usize,
 }
 
-#[derive(Drop)]
+#[derive(Clone, Copy)]
 enum Line {
     Request(Fields),
     Unknown,
@@ -87,7 +87,7 @@ fn line_of(letter: u8) -> Line {
 }
 
 // Where the lists lie: numbers and bytes are read into one output each, a list behind the other. The head begins at 0, and so do the masks.
-#[derive(Drop)]
+#[derive(Clone, Copy)]
 pub struct Request {
     pub shape: usize,
     pub subset: usize,
@@ -98,21 +98,21 @@ pub struct Request {
     pub bytes: usize,
 }
 
-#[derive(Drop)]
+#[derive(Clone, Copy)]
 pub enum Parsed {
     Request(Request),
     Bad,
 }
 
 // Where a list of the line ends, and where its elements do.
-#[derive(Drop)]
+#[derive(Clone, Copy)]
 pub struct Step {
     pub at: usize,
     pub to: usize,
 }
 
 // Where the description ends in the line, and where shape, subset and offsets begin.
-#[derive(Drop)]
+#[derive(Clone, Copy)]
 pub struct Description {
     pub at: usize,
     pub shape: usize,
@@ -121,7 +121,7 @@ pub struct Description {
 }
 
 // Where two lists end in the line, and where the elements of each do.
-#[derive(Drop)]
+#[derive(Clone, Copy)]
 pub struct Pair {
     pub at: usize,
     pub first: usize,

@@ -13,7 +13,7 @@ use array::answer::WrittenArray;
 use text::scan::{number_at, part_of_bytes, part_of_numbers};
 
 // The outputs that a call has: from masks, values and offsets, which are 0 to 2, those from `first` on before `end`.
-#[derive(Drop)]
+#[derive(Clone, Copy)]
 pub struct Outputs {
     pub first: usize,
     pub end: usize,

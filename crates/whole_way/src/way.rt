@@ -88,7 +88,7 @@ fn store_subset(
 }
 
 // The way of one subset: cut and written, and exactly the bytes written read back.
-fn one_way_lem(
+fn one_way(
     kind: Kind,
     shape: &[u64],
     subset: &[u64],
@@ -116,7 +116,7 @@ fn one_way_lem(
 }
 
 // How far chunks reach that were read one behind the other, and the first refusal; 0 where there is none.
-#[derive(Drop)]
+#[derive(Clone, Copy)]
 pub struct Reach {
     pub masks: usize,
     pub values: usize,
@@ -167,7 +167,7 @@ fn next_chunk(
     let m = at_most(reach.masks, chunk_masks.len());
     let v = at_most(reach.values, chunk_values.len());
     let o = at_most(reach.offsets, chunk_offsets.len());
-    let chunk = one_way_lem(
+    let chunk = one_way(
         kind,
         shape,
         subset,
