@@ -8,22 +8,17 @@
 # make compare   holds the archive against the original Rust; make teeth, make fuzz, make bench: oracle/README.md.
 .PHONY: test lib tool demo install uninstall
 
-# rt's last line is kept back until the rest has passed. It waits for the last of a batch of checks before it begins the next, so four at a time
-# keep two cores busier than two.
 test:
-	@mkdir -p build
-	@bash -c 'set -o pipefail; RT_JOBS=$${RT_JOBS:-4} rt ci | tee build/rt-ci.log | sed "$$ d"'
-	@tests/outside.sh
-	@tail -n 1 build/rt-ci.log
+	@.ci/run
 
 lib: build/libdurpaxeta.a build/durpaxeta.h
 	@echo "build/libdurpaxeta.a and build/durpaxeta.h are there"
 
-# A failed rt leaves the archive of an earlier run in target/, so its status decides. The old copy stays until the new one is there.
-build/libdurpaxeta.a: crates.txt $(shell find crates -type f)
+# A failed rt leaves the archive of an earlier run in out/, so its status decides. The old copy stays until the new one is there.
+build/libdurpaxeta.a: crates.txt $(shell find crates -name out -prune -o -type f -print)
 	@mkdir -p build
 	@package/archive.sh
-	@cp target/staticlib/libffi.a $@.new
+	@cp crates/ffi/out/libffi.a $@.new
 	@mv -f $@.new $@
 
 build/durpaxeta.h: include/durpaxeta.h
