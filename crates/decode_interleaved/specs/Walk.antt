@@ -1,4 +1,4 @@
--- Redundant by the laws all-found and past-end in decode_interleaved/proofs/Outcomes.antt: the steps of decode_interleaved (S6.4).
+-- Redundant by the laws all_found and past_end in decode_interleaved/proofs/Outcomes.antt: the steps of decode_interleaved (S6.4).
 -- The walk over the stored cells, and what becomes of the cells that it found.
 -- Assumes nothing.
 use Rattle.std.specs.Prelude.{ℕ, ◌≤◌, ◌≡◌, List, [], length, drop}

@@ -1,5 +1,5 @@
 -- Redundant by the law cut_read in partial/proofs/Outcomes.antt: ragged values (S4.3) cut where they are stored.
--- What a cut asks of an index that was found: read-found in partial/proofs/Stored.antt.
+-- What a cut asks of an index that was found: read_found in partial/proofs/Stored.antt.
 -- Assumes nothing.
 use Rattle.std.specs.Prelude.{ℕ, List, []}
 use Rattle.array.specs.declared.kind.IndexWidth.{IndexWidth}
