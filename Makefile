@@ -1,5 +1,5 @@
 # make demo      builds all, then writes, shows, cuts, merges and checks a table of CPU affinities.
-# make test      proves every crate from nothing, tries every must-fail edit, runs every program; then builds the archive and tries
+# make test      the gate, .ci/run: proves every crate, tries every must-fail edit, runs every program; then builds the archive and tries
 #                it from C, from Rust and by the command. Its last line is rt's own: 'N passed, 0 failed'.
 # make lib       proves and builds the archive: build/libdurpaxeta.a and build/durpaxeta.h.
 # make tool      builds the command build/durpaxeta over that archive.
