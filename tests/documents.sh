@@ -78,7 +78,7 @@ found=$(grep -liE 'documents? 0[12]' "${code[@]}" || true)
 # contract of a function, that makes it redundant. What only the gate's programs use needs neither.
 states='^-- docs/SPEC\.md, (S[0-9]+\.[0-9]+((, | to )S[0-9]+\.[0-9]+)*): .'
 by_law='^-- Redundant by the laws? ([A-Za-z0-9_-]+)( and ([A-Za-z0-9_-]+))? in ([a-z_]+/proofs/[A-Za-z]+\.antt): .'
-by_contract='^-- Redundant by the contract of `([a-z_]+)::([a-z_0-9]+::)*([a-z_0-9]+)`, ([a-z_]+/proofs/[A-Za-z_0-9/+]+\.antt): .'
+by_contract='^-- Redundant by the contract of `([a-z_]+)::([a-z_0-9]+::)*([a-z_0-9]+)`, ([a-z_]+/src/[a-z_0-9/]+\.rt): .'
 unused="^-- Redundant: no promise of a call rests on it, only the gate's programs do\\. ."
 believed=''
 lines=0
@@ -101,8 +101,8 @@ for spec in $(find crates -name out -prune -o -path '*/specs/*.antt' ! -name Lib
             [ -z "$law" ] || grep -qsE "^ *(pub )?$law :" "crates/$proofs" || wrong "$path names the law $law, which is not in $proofs"
         done
     elif [[ $line =~ $by_contract ]]; then
-        [ -f "crates/${BASH_REMATCH[4]}" ] || wrong "$path names ${BASH_REMATCH[4]}, which is not there"
-        grep -rqE "fn ${BASH_REMATCH[3]}\b" "crates/${BASH_REMATCH[1]}/src" || wrong "$path names ${BASH_REMATCH[3]}, which is not there"
+        grep -qsE "^ *(pub )?fn ${BASH_REMATCH[3]}\b" "crates/${BASH_REMATCH[4]}" || wrong "$path names ${BASH_REMATCH[3]}, which is not in ${BASH_REMATCH[4]}"
+        [ "${BASH_REMATCH[4]%%/*}" = "${BASH_REMATCH[1]}" ] || wrong "$path names a function and a file of two crates"
     elif ! [[ $line =~ $unused && $path =~ ^(print|text|requests|responses)/ ]]; then
         wrong "the first line of $path names neither rules of docs/SPEC.md nor a law: $line"
     fi

@@ -1,4 +1,4 @@
--- Redundant by the contract of `endian::cells::copy_block_2`, endian/proofs/cells/copy_block_2/Proof.antt: the bytes of an `Eight`, in their order.
+-- Redundant by the contract of `endian::cells::copy_block_2`, endian/src/cells.rt: the bytes of an `Eight`, in their order.
 -- In place: `endian::in_place_lem::reverse_block_2`.
 -- Assumes nothing.
 use Rattle.std.specs.Prelude.{ℕ, List, [], ◌∷◌}
