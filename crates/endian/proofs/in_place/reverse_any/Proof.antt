@@ -1,4 +1,4 @@
--- `endian::in_place_lem::reverse_any`: by its callee, whatever the size.
+-- `endian::in_place::reverse_any`: by its callee, whatever the size.
 -- Assumes nothing.
 use mathlib.Core.Path.{sym, ap, ◌∙◌}
 use Prim.Native.Nat.{ℕ, ◌*◌}
@@ -7,8 +7,8 @@ use lib.ListN.{drop}
 use Rattle.array.specs.Buffers.{over_at}
 use Rattle.array.specs.Calls.{reversed_cells}
 use borrow.Author.Rules.{rules}
-use Rattle.endian.proofs.in_place_lem.reverse_any.Statement.{statement}
-use Rattle.endian.proofs.in_place_lem.reverse_any.Tie as tie
+use Rattle.endian.proofs.in_place.reverse_any.Statement.{statement}
+use Rattle.endian.proofs.in_place.reverse_any.Tie as tie
 
 reverse_cells_requires : tie.Need-reverse-cells-requires
 reverse_cells_requires c κs = omega (arith, ap (λ (k : ℕ). c.before.before.before.args.cells * k) c.before.match.keys1)

@@ -1,4 +1,4 @@
--- `endian::in_place_lem::reverse_block`: by cases on the size, each by its callee.
+-- `endian::in_place::reverse_block`: by cases on the size, each by its callee.
 -- Assumes nothing.
 use mathlib.Core.Path.{sym, ap, ◌∙◌}
 use Prim.Native.Nat.{ℕ, ◌/◌}
@@ -8,8 +8,8 @@ use Rattle.array.specs.Calls.{reversed_cells}
 use Rattle.endian.proofs.Sizes.{narrow_wide}
 use Rattle.endian.proofs.Copying.{reversing_twice}
 use borrow.Author.Rules.{rules}
-use Rattle.endian.proofs.in_place_lem.reverse_block.Statement.{statement}
-use Rattle.endian.proofs.in_place_lem.reverse_block.Tie as tie
+use Rattle.endian.proofs.in_place.reverse_block.Statement.{statement}
+use Rattle.endian.proofs.in_place.reverse_block.Tie as tie
 
 reverse_block_wide_requires : tie.Need-reverse-block-wide-requires
 reverse_block_wide_requires c κs =

@@ -1,11 +1,11 @@
--- `endian::in_place_lem::reverse_block_2`: twice eight bytes, by the laws for any size (CellLaws).
+-- `endian::in_place::reverse_block_2`: twice eight bytes, by the laws for any size (CellLaws).
 -- Assumes nothing.
 use Prim.Native.Nat.{◌+◌}
 use native.Mathlib.Omega.{arith}
 use Rattle.endian.proofs.CellLaws.{run_written, two_runs}
 use borrow.Author.Rules.{rules}
-use Rattle.endian.proofs.in_place_lem.reverse_block_2.Statement.{statement}
-use Rattle.endian.proofs.in_place_lem.reverse_block_2.Tie as tie
+use Rattle.endian.proofs.in_place.reverse_block_2.Statement.{statement}
+use Rattle.endian.proofs.in_place.reverse_block_2.Tie as tie
 
 returns : tie.Need-returns
 returns c =

@@ -1,4 +1,4 @@
--- `endian::in_place_lem::reverse_block_wide`: four words, each by its number (Backing).
+-- `endian::in_place::reverse_block_wide`: four words, each by its number (Backing).
 -- Assumes nothing.
 use mathlib.Core.Path.{ap, ◌∙◌}
 use mathlib.Core.List.{List}
@@ -9,8 +9,8 @@ use Rattle.array.specs.Calls.{reversed_cells}
 use Rattle.endian.proofs.Sizes.{wide_block, wide_word}
 use Rattle.endian.proofs.Backing.{four_words}
 use borrow.Author.Rules.{rules}
-use Rattle.endian.proofs.in_place_lem.reverse_block_wide.Statement.{statement}
-use Rattle.endian.proofs.in_place_lem.reverse_block_wide.Tie as tie
+use Rattle.endian.proofs.in_place.reverse_block_wide.Statement.{statement}
+use Rattle.endian.proofs.in_place.reverse_block_wide.Tie as tie
 
 -- places that the answers go back to
 abbrev after_turned_at3 : tie.After-turned-at4 → tie.After-turned-at3

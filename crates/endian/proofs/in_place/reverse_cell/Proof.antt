@@ -1,12 +1,12 @@
--- `endian::in_place_lem::reverse_cell`: each turn leaves a smaller cell to reverse (Reversing, Swapping).
+-- `endian::in_place::reverse_cell`: each turn leaves a smaller cell to reverse (Reversing, Swapping).
 -- Assumes nothing.
 use mathlib.Core.List.{List}
 use Prim.Native.Nat.{ℕ}
 use native.Mathlib.Omega.{arith}
 use lib.ListN.{length-set}
 use Rattle.endian.proofs.Reversing.{Swapping, swapping_begins, swapping_more, swapping_ends, bytes_swapped}
-use Rattle.endian.proofs.in_place_lem.reverse_cell.Statement.{statement}
-use Rattle.endian.proofs.in_place_lem.reverse_cell.Tie as tie
+use Rattle.endian.proofs.in_place.reverse_cell.Statement.{statement}
+use Rattle.endian.proofs.in_place.reverse_cell.Tie as tie
 
 abbrev invariant-loop : tie.invariant-loop
 invariant-loop bytes₀ at size low₀ left₀ bytes low left = Swapping at size bytes₀ bytes low left

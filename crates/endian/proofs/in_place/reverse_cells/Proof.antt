@@ -1,12 +1,12 @@
--- `endian::in_place_lem::reverse_cells`: the first i cells are reversed, by the laws for any size (Copying).
+-- `endian::in_place::reverse_cells`: the first i cells are reversed, by the laws for any size (Copying).
 -- Assumes nothing.
 use mathlib.Core.Path.{◌≡◌, refl}
 use Prim.Native.Nat.{◌+◌, ◌-◌, ◌*◌, ◌≤◌}
 use native.Mathlib.Omega.{arith}
 use lib.ListN.{length}
 use Rattle.endian.proofs.Copying.{Copies, copies_begin, copies_same, copies_end, copies_room, reversing_next}
-use Rattle.endian.proofs.in_place_lem.reverse_cells.Statement.{statement}
-use Rattle.endian.proofs.in_place_lem.reverse_cells.Tie as tie
+use Rattle.endian.proofs.in_place.reverse_cells.Statement.{statement}
+use Rattle.endian.proofs.in_place.reverse_cells.Tie as tie
 
 abbrev invariant-loop : tie.invariant-loop
 invariant-loop bytes₀ at size cells i₀ bytes i = Copies bytes₀ at bytes₀ at size cells bytes i

@@ -1,4 +1,4 @@
--- `endian::in_place_lem::reverse_word`: the bytes of the number written are those read, in the other order (Words).
+-- `endian::in_place::reverse_word`: the bytes of the number written are those read, in the other order (Words).
 -- Assumes nothing.
 use mathlib.Core.Path.{ap, ◌∙◌}
 use mathlib.Core.List.{List}
@@ -7,8 +7,8 @@ use Rattle.array.specs.Buffers.{over_at}
 use Rattle.array.specs.Kind.{big}
 use Rattle.word.proofs.Words.{le_read}
 use borrow.Author.Rules.{rules}
-use Rattle.endian.proofs.in_place_lem.reverse_word.Statement.{statement}
-use Rattle.endian.proofs.in_place_lem.reverse_word.Tie as tie
+use Rattle.endian.proofs.in_place.reverse_word.Statement.{statement}
+use Rattle.endian.proofs.in_place.reverse_word.Tie as tie
 
 returns : tie.Need-returns
 returns c =

@@ -1,4 +1,4 @@
--- `endian::in_place_lem::reverse_words`: the first cells are reversed, a line a turn and then one, by the laws for any size (Copying).
+-- `endian::in_place::reverse_words`: the first cells are reversed, a line a turn and then one, by the laws for any size (Copying).
 -- Assumes nothing.
 use mathlib.Core.Path.{◌≡◌, refl, sym, ap}
 use mathlib.Core.List.{List}
@@ -8,8 +8,8 @@ use native.Mathlib.Omega.{arith}
 use lib.ListN.{length}
 use Rattle.endian.proofs.Sizes.{narrow_word, narrow_some, narrow_line, narrow_block, lines_fit}
 use Rattle.endian.proofs.Copying.{Copies, copies_begin, copies_cast, copies_same, copies_end, copies_room, reversing_next, line_within, reversing_line}
-use Rattle.endian.proofs.in_place_lem.reverse_words.Statement.{statement}
-use Rattle.endian.proofs.in_place_lem.reverse_words.Tie as tie
+use Rattle.endian.proofs.in_place.reverse_words.Statement.{statement}
+use Rattle.endian.proofs.in_place.reverse_words.Tie as tie
 
 abbrev invariant-loop : tie.invariant-loop
 invariant-loop bytes₀ size all line lines i₀ bytes i = (i ≤ lines) × Copies bytes₀ 0 bytes₀ 0 size (all / size) bytes (i * line)

@@ -1,4 +1,4 @@
--- `endian::in_place_lem::swap_words`: the bytes of each number written are those read, in the other order (Words).
+-- `endian::in_place::swap_words`: the bytes of each number written are those read, in the other order (Words).
 -- Assumes nothing.
 use mathlib.Core.Path.{ap, ap₂, ◌∙◌}
 use mathlib.Core.List.{List}
@@ -8,8 +8,8 @@ use Rattle.array.specs.Buffers.{over_at}
 use Rattle.array.specs.Kind.{big}
 use Rattle.word.proofs.Words.{Slice, le_read}
 use borrow.Author.Rules.{rules}
-use Rattle.endian.proofs.in_place_lem.swap_words.Statement.{statement}
-use Rattle.endian.proofs.in_place_lem.swap_words.Tie as tie
+use Rattle.endian.proofs.in_place.swap_words.Statement.{statement}
+use Rattle.endian.proofs.in_place.swap_words.Tie as tie
 
 returns : tie.Need-returns
 returns c =
