@@ -68,8 +68,8 @@ module _ (k : Kind) (shape : List ℕ) (c : Content) (v : Valid k shape c) where
   rest_cells b = layout k.form d (map resting (cells_at k shape c b))
 
   -- they are the rest form of the cut, by the words of docs/SPEC.md, S2.1 to S2.3
-  rest_of_cut : (ns : List ℕ) → NumbersOk shape ns → rest_of_cut k shape c ns ≡ rest_cells (subset_of sides ns)
-  rest_of_cut ns p =
+  rest_of_cut_lem : (ns : List ℕ) → NumbersOk shape ns → rest_of_cut k shape c ns ≡ rest_cells (subset_of sides ns)
+  rest_of_cut_lem ns p =
       let q : Subset = subset_of sides ns in
       let f : Form = k.form in
       let nc : Cell d = null_cell k in
@@ -97,7 +97,7 @@ module _ (k : Kind) (shape : List ℕ) (c : Content) (v : Valid k shape c) where
       let el : lengths b ≡ ls = lengths_subset sides ns ok.numbers.counted in
       let sh : ShapeOk ls = subst ShapeOk el (subset_shape shape b v.shaped ok.numbers.fits (subst (All (λ n. 1 ≤ n)) (sym el) ok.full)) in
       let g : Good k (volume ls) xs = subst (λ (l : List ℕ). Good k (volume l) xs) el (good_subset b ok.numbers.fits o) in
-      let back : Enough (rest_cells b) (lengths_of e.back) = subst (λ (x : Content). Enough x (lengths_of e.back)) (rest_of_cut ns ok.numbers) ok.back_enough in
+      let back : Enough (rest_cells b) (lengths_of e.back) = subst (λ (x : Content). Enough x (lengths_of e.back)) (rest_of_cut_lem ns ok.numbers) ok.back_enough in
       ap (λ (a : Answer Taken). and_then a (λ x. and_then (taken_bytes (encoded k ls x.content e.stored)) (λ s. and_then (taken (decoded k ls s e.back)) (λ y. gives y.content))))
       (taken_content (extract_answer k shape ns c (lengths_of e.cut)) e.cut
       ∙ ap (λ (a : Answer Content). and_then a (λ x. gives (whole x))) (extract_gives k shape c v ns ok.numbers (lengths_of e.cut) ok.cut_enough))
@@ -232,7 +232,7 @@ module _ (k : Kind) (shape : List ℕ) (c : Content) (v : Valid k shape c) where
       let q : Subset = subset_of sides Q in
       let same : cut_of k shape (rest_form k size c) q ≡ rest_of_cut k shape c Q =
       ap (λ (ys : List (Cell d)). layout k.form d (gather (null_cell k) ys (cells_in shape q))) (cells_layout k size (map resting own) good_outcome.counted good_outcome.sized)
-      ∙ ap (layout k.form d) (sym (gather_rest (cells_in shape q))) ∙ sym (rest_of_cut Q p) in
+      ∙ ap (layout k.form d) (sym (gather_rest (cells_in shape q))) ∙ sym (rest_of_cut_lem Q p) in
       extract_gives k shape (rest_form k size c) (valid_layout k v.kind shape v.shaped (map resting own) good_outcome) Q p r
       (subst (λ (x : Content). Enough x r) (sym same) e)
       ∙ ap gives same

@@ -67,8 +67,8 @@ module _ (m : ℕ → ℕ) where
   rest_masks_ok (suc l) e =
       (rest_masks_ok l (left_of_lem (rest_masks_test m l) (or_zero_test (shown_by m l) (m l)) e), or_zero_ok (shown_by m l) (m l) (right_of (rest_masks_test m l) (or_zero_test (shown_by m l) (m l)) e))
 
-  pub rest_by_test : (d len : ℕ) → RestBy m d len → rest_by_test m d len ≡ true
-  rest_by_test d len p = both (rest_masks_test_lem d p.0) (or_zero_test_lem (shown_by m d) len p.1)
+  pub rest_by_test_lem : (d len : ℕ) → RestBy m d len → rest_by_test m d len ≡ true
+  rest_by_test_lem d len p = both (rest_masks_test_lem d p.0) (or_zero_test_lem (shown_by m d) len p.1)
 
   pub rest_by_ok : (d len : ℕ) → rest_by_test m d len ≡ true → RestBy m d len
   rest_by_ok d len e =
@@ -93,7 +93,7 @@ module _ (d n : ℕ) (t : Table) where
       both (both (both (both (both (both (eq-eqb (length t.masks) (d * n) p.masks_fit) (eq-eqb (length t.starts) n p.starts_fit))
       (eq-eqb (length t.lengths) n p.lengths_fit))
       (every_all Strict strict_test strict_test_lem t.masks p.strict))
-      (every_all (λ j. RestBy (mask_of j) d (length_of t j)) (λ j. rest_by_test (mask_of j) d (length_of t j)) (λ j. rest_by_test (mask_of j) d (length_of t j)) (from 0 n) p.rests))
+      (every_all (λ j. RestBy (mask_of j) d (length_of t j)) (λ j. rest_by_test (mask_of j) d (length_of t j)) (λ j. rest_by_test_lem (mask_of j) d (length_of t j)) (from 0 n) p.rests))
       (every_all (λ j. Placed (length t.store) (start_of t j) (length_of t j)) (λ j. placed_test (length t.store) (start_of t j) (length_of t j))
       (λ j. placed_test_lem (length t.store) (start_of t j) (length_of t j)) (from 0 n) p.placed))
       (apart_test_lem (start_of t) (length_of t) (filled t n) p.apart)
