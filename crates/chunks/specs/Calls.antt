@@ -1,7 +1,7 @@
 -- docs/SPEC.md, S3.9, S6.5 to S6.7, S7.2: extract, merge and partial_decode, their answers, refusals in order, and what is left in the outputs.
 -- Assumes nothing.
 use Rattle.std.specs.Prelude.{ℕ, List, length}
-use Rattle.array.specs.Answer.{Answer, gives, unless, and_then, Outcome}
+use Rattle.array.specs.Answer.{Answer, unless, and_then, Outcome}
 use Rattle.array.specs.Lists.{joined}
 use Rattle.array.specs.Kind.{Kind, Place, ragged, byte_kind}
 use Rattle.array.specs.Shape.{volume, shape_test}
