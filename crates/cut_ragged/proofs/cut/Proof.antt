@@ -25,6 +25,7 @@ use Rattle.cut_ragged.proofs.Counting.{bytes_most}
 use Rattle.cut_ragged.proofs.Ragged.{first_then}
 use Rattle.cut_ragged.proofs.Outcomes.{need_values, need_offsets, no_values, no_offsets, all_put}
 use Rattle.cut_ragged.proofs.cut.Statement.{statement}
+use Rattle.cut_ragged.proofs.cut.Goals.{then-values-bytes, else-values-bytes}
 use Rattle.cut_ragged.proofs.cut.Tie as tie
 
 -- once the numbers are in two parts: the start, the values of the cut, the outputs
@@ -75,7 +76,10 @@ abbrev Roomy : Type 0
 Roomy = tie.Joined1
 
 room : (j : Roomy) → need (start j.before) ≤ length (start j.before).args.values.now
-room j = ⊎_elim (λ w. omega (arith, w.1.ensures, w.2.left)) (λ w. omega (arith, most (start j.before), w.left)) j.if1.branch
+room j = elim j.if1.branch [
+    then-values-bytes w ↦ omega (arith, w.count_bytes-need.ensures, w.if-values-need.false)
+    | else-values-bytes w ↦ omega (arith, most (start j.before), w.if-values-bytes.false)
+  ]
 
 count_bytes_requires : tie.Need-count-bytes-requires
 count_bytes_requires c κs =
