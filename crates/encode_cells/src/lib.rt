@@ -1,4 +1,6 @@
 // Layer 2, gathering: of values of one size those of the cells that a level counts, end to end.
+#![tactic(auto)]
+
 ghost use Rattle.std.specs.Prelude.{◌≡◌, true, map, ◌+◌, ◌*◌, ◌≤◌, length};
 ghost use Rattle.array.specs.Buffers.{over_at};
 ghost use Rattle.array.specs.Kind.{fixed, ordered};
