@@ -1,5 +1,7 @@
 // Layer 3: the ragged values of the cells of a subset. A row of neighbours is copied as one run of bytes, and where its cells end is
 // written as the run now lies. Offsets are numbers, or are read where they are stored, so that no other memory is needed.
+#![tactic(auto)]
+
 ghost use Rattle.std.specs.Prelude.{◌≡◌, map, ℕ, suc, ◌+◌, ◌-◌, ◌*◌, ◌≤◌, length};
 ghost use Rattle.array.specs.Lists.{from, joined};
 ghost use Rattle.array.specs.Shape.{volume};
