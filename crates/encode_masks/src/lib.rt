@@ -1,4 +1,6 @@
 // Layer 2, gathering: the stored mask of the cells that a level counts.
+#![tactic(auto)]
+
 ghost use Rattle.std.specs.Prelude.{◌≡◌, ◌+◌, ◌*◌, ◌≤◌, min, length};
 ghost use Rattle.array.specs.Buffers.{over_at};
 ghost use Rattle.array.specs.Meaning.{masks_of};
