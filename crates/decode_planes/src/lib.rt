@@ -1,4 +1,6 @@
 // Mask planes, outermost first. Each level goes straight into its plane: what its stored mask says, spread over the plane above.
+#![tactic(auto)]
+
 ghost use Rattle.std.specs.Prelude.{◌≡◌, ◌+◌, ◌-◌, take, drop};
 ghost use Rattle.array.specs.Meaning.{masks_of};
 ghost use Rattle.array.specs.Buffers.{over, over_at};
