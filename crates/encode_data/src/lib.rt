@@ -1,4 +1,6 @@
 // The bytes of ragged values: how many, and copied end to end.
+#![tactic(auto)]
+
 ghost use Rattle.std.specs.Prelude.{◌≡◌, ◌+◌, ◌≤◌, length};
 ghost use Rattle.array.specs.Buffers.{over_at};
 ghost use Rattle.array.specs.Offsets.{last};
