@@ -2,14 +2,13 @@
 -- Assumes nothing.
 use mathlib.Core.Path.{◌≡◌, refl, sym, ap, ◌∙◌}
 use mathlib.Core.Bool.{Bool, true, false}
-use mathlib.Core.List.{List, map}
+use mathlib.Core.List.{List}
 use Prim.Native.Nat.{ℕ, ◌<◌}
 use native.Mathlib.Omega.{arith}
 use lib.ListN.{length}
-use Rattle.array.specs.Answer.{Answer, unless}
-use Rattle.array.specs.Lists.{from, pick}
+use Rattle.array.specs.Lists.{pick}
 use Rattle.array.specs.Kind.{Kind, kind_test, null_of}
-use Rattle.array.specs.Cells.{Cell, rest}
+use Rattle.array.specs.Cells.{rest}
 use Rattle.array.specs.Shape.{volume, shape_test}
 use Rattle.array.specs.Content.{Content, Valid, layout, null_cell}
 use Rattle.array.specs.Buffers.{lengths_of, enough_test, content_outcome, if_room}

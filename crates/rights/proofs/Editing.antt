@@ -5,26 +5,25 @@ use mathlib.Core.Logic.{◌⊎◌, inl, inr}
 use mathlib.Core.Bool.{Bool, true, false, ◌&&◌, false≢true}
 use mathlib.Core.List.{List}
 use Prim.Native.Nat.{ℕ, ◌<◌}
-use native.Mathlib.Omega.{arith}
 use lib.ListN.{length}
 use lib.Dec.{leb, ltb, eqb}
 use borrow.Author.Tests.{ne_eqb}
 use Rattle.array.specs.Answer.{Answer, gives, refuses, unless, map_answer}
 use Rattle.array.specs.Lists.{pick}
 use Rattle.array.specs.Kind.{Kind}
-use Rattle.array.specs.Cells.{Value, Cell}
+use Rattle.array.specs.Cells.{Value}
 use Rattle.array.proofs.Answers.{passed}
 use Rattle.array.proofs.Rules.{strict_bytes_test_lem}
 use Rattle.table.specs.Table.{Table, cell_of, table_kind_test, count_test, table_test, store_test}
-use Rattle.table.specs.Setting.{setting_test, setting_of, settled, sum_after}
+use Rattle.table.specs.Setting.{setting_test, setting_of, sum_after}
 use Rattle.table.specs.Calls.{in_place, set_answer, cell_set}
 use Rattle.table.specs.Laws.{Working}
 use Rattle.table.proofs.Rules.{table_test_lem, store_test_lem}
 use Rattle.table.proofs.Setting.{sets}
 use Rattle.table.proofs.Previewing.{accepted}
-use Rattle.rights.specs.Rights.{RightsOk, rights_test, permits, masked_test}
+use Rattle.rights.specs.Rights.{rights_test, permits, masked_test}
 use Rattle.rights.specs.Calls.{edit_answer, guest_edit}
-use Rattle.rights.specs.Laws.{EditLaw, Edits}
+use Rattle.rights.specs.Laws.{Edits}
 use Rattle.rights.proofs.Rules.{masked_test_lem}
 
 module _ (k : Kind) (n : ℕ) (rights : List ℕ) (t : Table) (c : ℕ) (ms : List ℕ) (v : Value) where

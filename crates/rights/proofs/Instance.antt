@@ -1,25 +1,23 @@
 -- The laws' hypotheses can be met: two arrays that differ where the plane hides them, and a table of two cells of which it hides one.
 -- Assumes nothing.
 use mathlib.Core.Path.{◌≡◌, refl}
-use mathlib.Core.Logic.{◌⊎◌, inr}
-use mathlib.Core.Bool.{true, false, false≢true}
+use mathlib.Core.Logic.{◌⊎◌}
+use mathlib.Core.Bool.{true, false≢true}
 use mathlib.Core.List.{List, [], ◌∷◌}
-use Prim.Native.Nat.{ℕ, zero, suc, ◌<◌}
+use Prim.Native.Nat.{ℕ, zero, suc}
 use native.Mathlib.Omega.{arith}
 use lib.ListN.{length}
 use lib.Dec.{leb, lit≤, lit<}
-use Rattle.array.specs.Answer.{gives, refuses}
+use Rattle.array.specs.Answer.{refuses}
 use Rattle.array.specs.Limits.{most_cells, most_bytes}
-use Rattle.array.specs.Kind.{KindOk}
-use Rattle.array.specs.Shape.{volume, ShapeOk}
 use Rattle.array.specs.Content.{Content, Valid}
 use Rattle.array.proofs.Rules.{kind_ok, shape_ok, array_ok, strict_bytes_ok}
-use Rattle.table.specs.Table.{Table, TableKind, CountOk, table_test, most_store, cell_of}
+use Rattle.table.specs.Table.{Table, table_test, most_store, cell_of}
 use Rattle.table.specs.Calls.{cell_set}
 use Rattle.table.specs.Laws.{Working}
-use Rattle.table.specs.Lines.{single, table, array, a, b, x, y, z, o}
+use Rattle.table.specs.Lines.{single, table, array, a, b, x, y, z}
 use Rattle.table.proofs.Rules.{table_kind_ok, count_ok, table_ok, store_ok}
-use Rattle.rights.specs.Rights.{RightsOk, permits}
+use Rattle.rights.specs.Rights.{RightsOk}
 use Rattle.rights.specs.Calls.{guest_read, guest_edit}
 use Rattle.rights.specs.Laws.{ShowsLaw, AgreeWhere, EditLaw}
 use Rattle.rights.specs.Lines.{lent, two}

@@ -12,8 +12,8 @@ use Rattle.array.specs.Lists.{from, pick}
 use Rattle.array.specs.Kind.{Kind, Form, fixed, ragged, null_of}
 use Rattle.array.specs.Cells.{Value, Cell, blank, rest}
 use Rattle.array.specs.Shape.{volume}
-use Rattle.array.specs.Content.{Content, ContentOk, ArrayOk, Valid, layout, null_cell, rest_form}
-use Rattle.array.specs.Buffers.{lengths_of, Enough, content_outcome, enough_test}
+use Rattle.array.specs.Content.{Content, ContentOk, ArrayOk, Valid, layout, null_cell}
+use Rattle.array.specs.Buffers.{lengths_of, Enough, content_outcome}
 use Rattle.array.specs.Places.{mask_at, value_in, cell_by, cell_at}
 use Rattle.array.proofs.Answers.{pass}
 use Rattle.array.proofs.Lists.{map-map, map-from}
@@ -22,7 +22,7 @@ use Rattle.array.proofs.Resting.{rest_ok, rest_small, rest_cell, rest_rests}
 use Rattle.array.proofs.Rules.{kind_test_lem, shape_test_lem, strict_bytes_test_lem, rest_passes, enough_test_lem}
 use Rattle.rights.specs.Rights.{RightsOk, permits, hidden_by, guest_form}
 use Rattle.rights.specs.Calls.{guest_answer, guest_read}
-use Rattle.rights.specs.Laws.{ShowsLaw, Shows}
+use Rattle.rights.specs.Laws.{Shows}
 use Rattle.rights.proofs.Rules.{masked_test_lem}
 use Rattle.rights.proofs.Cleared.{outermost_at, inner_at, hidden_fits, hidden_ok}
 

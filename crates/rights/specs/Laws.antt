@@ -1,7 +1,7 @@
 -- docs/SPEC.md, S14.4 to S14.7: what a guest sees and learns, and what its edits change.
 -- Assumes nothing.
 use Rattle.std.specs.Prelude.{ℕ, ◌<◌, ◌≡◌, ◌⊎◌, true, false, List}
-use Rattle.array.specs.Answer.{Answer, gives, refuses, Outcome}
+use Rattle.array.specs.Answer.{gives, refuses}
 use Rattle.array.specs.Lists.{pick}
 use Rattle.array.specs.Kind.{Kind}
 use Rattle.array.specs.Cells.{Value}

@@ -1,10 +1,9 @@
 -- docs/SPEC.md, S10.47 to S10.51: guests' calls worked out by hand: what is hidden, what an edit moves, and the refusals in their order.
 -- Assumes nothing.
-use Rattle.std.specs.Prelude.{ℕ, ◌≡◌, List, [], ◌∷◌}
-use Rattle.array.specs.Answer.{gives, Outcome}
+use Rattle.std.specs.Prelude.{ℕ, ◌≡◌, [], ◌∷◌}
+use Rattle.array.specs.Answer.{gives}
 use Rattle.array.specs.Kind.{Kind, byte_kind, fixed, little}
 use Rattle.array.specs.Content.{Content}
-use Rattle.array.specs.Buffers.{Lengths}
 use Rattle.table.specs.Table.{Table}
 use Rattle.table.specs.Lines.{flat, single, double, table, array, leaves, keeps, a, b, x, y, z, o}
 use Rattle.rights.specs.Calls.{guest_read, guest_edit}
