@@ -1,4 +1,6 @@
 // The index of ragged values.
+#![tactic(auto)]
+
 ghost use Rattle.std.specs.Prelude.{◌≡◌, ◌∷◌, ◌+◌, ◌≤◌, length};
 ghost use Rattle.array.specs.Buffers.{over_at};
 ghost use Rattle.array.specs.Bytes.{le};

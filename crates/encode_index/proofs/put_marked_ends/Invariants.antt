@@ -1,0 +1,13 @@
+-- `encode_index::put_marked_ends` meets its contract: by the laws of Indexing.
+-- Assumes nothing.
+use Prim.Native.Nat.{◌-◌}
+use Rattle.array.specs.Meaning.{width_of}
+use Rattle.array.specs.Places.{shown_at}
+use Rattle.encode_index.proofs.Indexing.{Indexing}
+use Rattle.encode_index.proofs.put_marked_ends.Given as goal
+
+abbrev pub invariant-loop-done : goal.invariant-loop-done
+invariant-loop-done l = Indexing (shown_at l.cells l.masks l.level) l.cells (width_of l.width) l.offsets l.initial.out l.to l.out l.i l.total l.done
+
+abbrev pub decreases-loop-done : goal.decreases-loop-done
+decreases-loop-done l = l.cells - l.i
