@@ -1,4 +1,6 @@
 // A working table's rules (refusal 4), and the order in which its cells lie.
+#![tactic(auto)]
+
 ghost use Rattle.std.specs.Prelude.{◌≡◌, ◌<◌, ◌≤◌, length};
 ghost use Rattle.array.specs.Limits.{most_cells};
 ghost use Rattle.array.specs.Lists.{All};
