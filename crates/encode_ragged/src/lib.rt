@@ -1,4 +1,6 @@
 // Ragged values: their bytes, their index and the index's length, each at its place.
+#![tactic(auto)]
+
 ghost use Rattle.std.specs.Prelude.{◌≡◌, map, ◌+◌, ◌≤◌, length};
 ghost use Rattle.array.specs.Buffers.{over, over_at};
 ghost use Rattle.array.specs.Kind.{ragged};
