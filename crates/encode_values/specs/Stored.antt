@@ -1,9 +1,7 @@
 -- Redundant by the law stored_by in encode/proofs/Walk.antt: the stored form (S4.6 to S4.10), by the numbers of the cells.
 -- What is written with so many levels left; with all of them left it is the stored form. How long it is: stored_long in encode_values/proofs/Levels.antt.
 -- Assumes nothing.
-use Rattle.std.specs.Prelude.{ℕ, zero, suc, ◌+◌, ◌-◌, ◌*◌, List, map, length, leb}
-use Rattle.array.specs.Answer.{gives, unless, Outcome}
-use Rattle.array.specs.Buffers.{list_outcome}
+use Rattle.std.specs.Prelude.{ℕ, zero, suc, ◌+◌, ◌-◌, ◌*◌, List, map, length}
 use Rattle.array.specs.Kind.{Kind, Form, fixed, ragged}
 use Rattle.array.specs.Content.{Content}
 use Rattle.array.specs.Places.{offset_at, value_in, bytes_at, masks_at}

@@ -1,4 +1,6 @@
 // Layer 2, writing: the innermost content, values of one size or ragged values, of the `count` cells that every level sets.
+#![tactic(auto)]
+
 ghost use Rattle.std.specs.Prelude.{◌≡◌, ◌+◌, ◌≤◌, length};
 ghost use Rattle.array.specs.Buffers.{over_at};
 ghost use Rattle.array.specs.Meaning.{kind_of};
@@ -11,13 +13,7 @@ use array::kind;
 use array::kind::{Kind, Values};
 
 // How long these values are when written.
-pub fn values_length(
-    kind: Kind,
-    cells: usize,
-    masks: &[u8],
-    offsets: &[u64],
-    count: usize,
-) -> usize
+pub fn values_length(kind: Kind, cells: usize, masks: &[u8], offsets: &[u64], count: usize) -> usize
     requires counted { count ≡ length (live_at cells masks.now (kind_of kind).depth) }
     requires ready { Measured (kind_of kind) cells masks.now offsets.now }
     ensures { result ≡ values_length_at (kind_of kind).form offsets.now (live_at cells masks.now (kind_of kind).depth) }
