@@ -1,4 +1,6 @@
 // Reading stored arrays of ragged values: the walk, the check of the index, then the need, and then the copying.
+#![tactic(auto)]
+
 ghost use Rattle.std.specs.Prelude.{◌≡◌, List, ℕ, ◌≤◌};
 ghost use Rattle.array.specs.Answer.{gives};
 ghost use Rattle.array.specs.Limits.{most_cells};
