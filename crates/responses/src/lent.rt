@@ -115,8 +115,8 @@ pub fn blank_table(
 }
 
 // Whether the lent values from `from` on are as they were lent: the bytes of the request where the call works in place, else blank.
-fn kept_values(in_place_lem: bool, bytes: &[u8], values: &[u8], from: usize) -> bool {
-    if !in_place_lem {
+fn kept_values(in_place: bool, bytes: &[u8], values: &[u8], from: usize) -> bool {
+    if !in_place {
         return blank_bytes(values, from);
     }
     if from > values.len() {
@@ -129,10 +129,10 @@ fn kept_values(in_place_lem: bool, bytes: &[u8], values: &[u8], from: usize) -> 
 }
 
 // The values before the call.
-fn lend_values(in_place_lem: bool, bytes: &[u8], values: &mut [u8]) {
+fn lend_values(in_place: bool, bytes: &[u8], values: &mut [u8]) {
     let n = values.len();
     copy::fill_bytes(values, 0, n, BLANK);
-    if !in_place_lem {
+    if !in_place {
         return;
     }
     if n != bytes.len() {
@@ -143,7 +143,7 @@ fn lend_values(in_place_lem: bool, bytes: &[u8], values: &mut [u8]) {
 
 // The outputs before the call.
 pub fn lend(
-    in_place_lem: bool,
+    in_place: bool,
     bytes: &[u8],
     masks: &mut [u8],
     values: &mut [u8],
@@ -151,7 +151,7 @@ pub fn lend(
 ) {
     let m = masks.len();
     copy::fill_bytes(masks, 0, m, BLANK);
-    lend_values(in_place_lem, bytes, values);
+    lend_values(in_place, bytes, values);
     let o = offsets.len();
     copy::fill_numbers(offsets, 0, o, BLANK_NUMBER);
 }
@@ -209,7 +209,7 @@ pub fn lend_table(
 
 // Whether the outputs beyond some lengths are as they were lent.
 fn kept_beyond(
-    in_place_lem: bool,
+    in_place: bool,
     m: usize,
     v: usize,
     o: usize,
@@ -219,13 +219,13 @@ fn kept_beyond(
     offsets: &[u64],
 ) -> bool {
     blank_bytes(masks, m)
-        && kept_values(in_place_lem, bytes, values, v)
+        && kept_values(in_place, bytes, values, v)
         && blank_numbers(offsets, o)
 }
 
 // Whether the outputs are as they were lent beyond the lengths that an answer names; a refusal names none.
 pub fn kept(
-    in_place_lem: bool,
+    in_place: bool,
     answer: WrittenArray,
     bytes: &[u8],
     masks: &[u8],
@@ -234,7 +234,7 @@ pub fn kept(
 ) -> bool {
     match answer {
         WrittenArray::Refused(_) => kept_beyond(
-            in_place_lem,
+            in_place,
             0,
             0,
             0,
@@ -244,7 +244,7 @@ pub fn kept(
             offsets,
         ),
         WrittenArray::Lengths(m, v, o) => kept_beyond(
-            in_place_lem,
+            in_place,
             m,
             v,
             o,

@@ -88,7 +88,7 @@ fn store_subset(
 }
 
 // The way of one subset: cut and written, and exactly the bytes written read back.
-fn one_way_lem(
+fn one_way(
     kind: Kind,
     shape: &[u64],
     subset: &[u64],
@@ -167,7 +167,7 @@ fn next_chunk(
     let m = at_most(reach.masks, chunk_masks.len());
     let v = at_most(reach.values, chunk_values.len());
     let o = at_most(reach.offsets, chunk_offsets.len());
-    let chunk = one_way_lem(
+    let chunk = one_way(
         kind,
         shape,
         subset,
