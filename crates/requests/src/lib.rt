@@ -1,5 +1,8 @@
 // A request: which lists its line has, in which order, and where they lie once they are read.
+#![tactic(auto)]
+
 pub mod asked;
+pub mod input;
 pub mod tables;
 
 use std::num;
@@ -8,7 +11,7 @@ use text::scan::{Filled, number_at, part_of_bytes};
 
 // The lists of a line, in their order: so many numbers at the head, or so many more; shape; subset; masks; values or stored bytes;
 // offsets; and so many lengths of outputs.
-#[derive(Drop)]
+#[derive(Clone, Copy)]
 struct Fields {
     pub head: usize,
     pub more: usize,
@@ -20,7 +23,7 @@ struct Fields {
     pub rooms: usize,
 }
 
-#[derive(Drop)]
+#[derive(Clone, Copy)]
 enum Line {
     Request(Fields),
     Unknown,
@@ -87,7 +90,7 @@ fn line_of(letter: u8) -> Line {
 }
 
 // Where the lists lie: numbers and bytes are read into one output each, a list behind the other. The head begins at 0, and so do the masks.
-#[derive(Drop)]
+#[derive(Clone, Copy)]
 pub struct Request {
     pub shape: usize,
     pub subset: usize,
@@ -98,21 +101,21 @@ pub struct Request {
     pub bytes: usize,
 }
 
-#[derive(Drop)]
+#[derive(Clone, Copy)]
 pub enum Parsed {
     Request(Request),
     Bad,
 }
 
 // Where a list of the line ends, and where its elements do.
-#[derive(Drop)]
+#[derive(Clone, Copy)]
 pub struct Step {
     pub at: usize,
     pub to: usize,
 }
 
 // Where the description ends in the line, and where shape, subset and offsets begin.
-#[derive(Drop)]
+#[derive(Clone, Copy)]
 pub struct Description {
     pub at: usize,
     pub shape: usize,
@@ -121,7 +124,7 @@ pub struct Description {
 }
 
 // Where two lists end in the line, and where the elements of each do.
-#[derive(Drop)]
+#[derive(Clone, Copy)]
 pub struct Pair {
     pub at: usize,
     pub first: usize,

@@ -6,7 +6,7 @@ use std::num;
 
 // Where the lists lie: numbers and bytes are read into one output each, a list behind the other. The kind begins at 0, and so do the
 // masks; `more` is what is behind the table in numbers.
-#[derive(Drop)]
+#[derive(Clone, Copy)]
 pub struct TableRequest {
     pub cells: usize,
     pub starts: usize,
@@ -19,14 +19,14 @@ pub struct TableRequest {
     pub bytes: usize,
 }
 
-#[derive(Drop)]
+#[derive(Clone, Copy)]
 pub enum TableParsed {
     Request(TableRequest),
     Bad,
 }
 
 // Where the lists of a table end in the line, and where the elements of each do.
-#[derive(Drop)]
+#[derive(Clone, Copy)]
 pub struct Lists {
     pub at: usize,
     pub masks: usize,

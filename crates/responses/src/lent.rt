@@ -218,9 +218,7 @@ fn kept_beyond(
     values: &[u8],
     offsets: &[u64],
 ) -> bool {
-    blank_bytes(masks, m)
-        && kept_values(in_place, bytes, values, v)
-        && blank_numbers(offsets, o)
+    blank_bytes(masks, m) && kept_values(in_place, bytes, values, v) && blank_numbers(offsets, o)
 }
 
 // Whether the outputs are as they were lent beyond the lengths that an answer names; a refusal names none.
@@ -233,31 +231,15 @@ pub fn kept(
     offsets: &[u64],
 ) -> bool {
     match answer {
-        WrittenArray::Refused(_) => kept_beyond(
-            in_place,
-            0,
-            0,
-            0,
-            bytes,
-            masks,
-            values,
-            offsets,
-        ),
+        WrittenArray::Refused(_) => kept_beyond(in_place, 0, 0, 0, bytes, masks, values, offsets),
         WrittenArray::Lengths(m, v, o) => kept_beyond(
-            in_place,
-            m,
-            v,
-            o,
-            bytes,
-            masks,
-            values,
-            offsets,
+            in_place, m, v, o, bytes, masks, values, offsets,
         ),
     }
 }
 
 // The lengths of the outputs to lend, none beyond what there is, and whether the request names just these.
-#[derive(Drop)]
+#[derive(Clone, Copy)]
 pub struct Rooms {
     pub masks: usize,
     pub values: usize,
@@ -284,7 +266,7 @@ pub fn rooms_of(m: u64, v: u64, o: u64, masks: usize, values: usize, offsets: us
 }
 
 // The same of a working table: masks and store within so many bytes, starts and lengths within so many numbers.
-#[derive(Drop)]
+#[derive(Clone, Copy)]
 pub struct TableRooms {
     pub masks: usize,
     pub starts: usize,

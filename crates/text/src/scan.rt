@@ -7,21 +7,21 @@ ghost use Rattle.text.specs.Scan.{digit_of, next_number, number_of, octet_of, be
 use buffer::copy;
 
 // A number that the text says, or none.
-#[derive(Drop)]
+#[derive(Clone, Copy)]
 pub enum Number {
     Value(u64),
     Bad,
 }
 
 // A byte that two digits say, or none.
-#[derive(Drop)]
+#[derive(Clone, Copy)]
 pub enum Octet {
     Value(u8),
     Bad,
 }
 
 // Where the elements read so far end in their output, or that the text is no list or too long a one.
-#[derive(Drop)]
+#[derive(Clone, Copy)]
 pub enum Filled {
     To(usize),
     Bad,
@@ -153,7 +153,7 @@ fn hex_part(part: &[u8], out: &mut [u8], from: usize) -> Filled
 }
 
 // How often a part says its element, and where the element begins.
-#[derive(Drop)]
+#[derive(Clone, Copy)]
 pub struct Run {
     pub count: u64,
     pub begin: usize,

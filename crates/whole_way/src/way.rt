@@ -116,7 +116,7 @@ fn one_way(
 }
 
 // How far chunks reach that were read one behind the other, and the first refusal; 0 where there is none.
-#[derive(Drop)]
+#[derive(Clone, Copy)]
 pub struct Reach {
     pub masks: usize,
     pub values: usize,
