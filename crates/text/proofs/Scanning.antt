@@ -1,17 +1,14 @@
 -- Text read byte by byte: what is left of it gives what the whole gives.
 -- Assumes nothing.
-use mathlib.Core.Path.{◌≡◌, refl, sym, ap, subst, ◌∙◌}
+use mathlib.Core.Path.{◌≡◌, refl, sym, ap, ◌∙◌}
 use mathlib.Core.Logic.{◌≢◌}
 use mathlib.Core.List.{List, [], ◌∷◌}
-use Prim.Native.Nat.{ℕ, suc, ◌+◌, ◌-◌, ◌*◌, ◌/◌, ◌^◌, ◌≤◌, ◌<◌}
+use Prim.Native.Nat.{ℕ, suc, ◌+◌, ◌≤◌, ◌<◌}
 use native.Mathlib.Omega.{arith}
 use lib.ListN.{length, drop, get_or, drop_of_length-le}
-use borrow.Author.Tests.{lt-ltb, le-ltb, le-leb, lt-leb, eq-eqb, ne_eqb}
+use borrow.Author.Tests.{eq-eqb, ne_eqb}
 use Rattle.text.specs.declared.scan.Number.{Number}
-use Rattle.text.specs.declared.scan.Octet.{Octet}
-use Rattle.text.specs.declared.scan.Filled.{Filled}
-use Rattle.text.specs.Scan.{digit_of, next_number, go_on, number_from, number_of, octet_of, before, Fills}
-use Rattle.print.specs.Print.{Onward}
+use Rattle.text.specs.Scan.{digit_of, next_number, go_on, number_from, number_of, before}
 use Rattle.print.proofs.Showing.{next_of}
 
 -- ---- numbers
