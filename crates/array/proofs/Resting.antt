@@ -7,11 +7,11 @@ use native.Mathlib.Omega.{arith}
 use mathlib.Core.List.{List, [], ◌∷◌, map}
 use lib.ListN.{length, get_or, length-map}
 use Rattle.array.specs.Limits.{most_bytes}
-use Rattle.array.specs.Lists.{from, joined, All}
+use Rattle.array.specs.Lists.{from, All}
 use Rattle.array.specs.Kind.{Kind, KindOk, Form, null_of}
 use Rattle.array.specs.Shape.{volume, ShapeOk}
 use Rattle.array.specs.Cells.{Value, Cell, leaf, rest}
-use Rattle.array.specs.Content.{Content, ArrayOk, Valid, leaves, layout, cells_of, null_cell, rest_form}
+use Rattle.array.specs.Content.{Content, ArrayOk, Valid, layout, cells_of, null_cell, rest_form}
 use Rattle.array.specs.Places.{cell_at}
 use Rattle.array.proofs.Lists.{map-map, entry, All-map, All-image, All-of}
 use Rattle.array.proofs.Sums.{sum_of_map, sum-le}

@@ -4,27 +4,27 @@ ghost use Rattle.array.specs.Kind.{fixed, ragged, byte_kind, as_bits};
 ghost use Rattle.array.specs.Meaning.{kind_of, order_of, width_of, place_of};
 
 // Byte order of a stored fixed cell.
-#[derive(Drop)]
+#[derive(Clone, Copy)]
 pub enum ByteOrder {
     Little,
     Big,
 }
 
 // Bytes of an offset in a stored index.
-#[derive(Drop)]
+#[derive(Clone, Copy)]
 pub enum IndexWidth {
     Four,
     Eight,
 }
 
 // Where the index of stored ragged values lies.
-#[derive(Drop)]
+#[derive(Clone, Copy)]
 pub enum IndexPlace {
     Start,
     End,
 }
 
-#[derive(Drop)]
+#[derive(Clone, Copy)]
 pub enum Values {
     // Cell size in bytes.
     Fixed(u8, ByteOrder),
@@ -32,13 +32,13 @@ pub enum Values {
 }
 
 // How a stored mask lies: a byte or a bit for each cell.
-#[derive(Drop)]
+#[derive(Clone, Copy)]
 pub enum MaskForm {
     Bytes,
     Packed,
 }
 
-#[derive(Drop)]
+#[derive(Clone, Copy)]
 pub struct Kind {
     // Mask levels.
     pub depth: u8,

@@ -1,4 +1,6 @@
 // Layer 1: what an array is: its kind, what a mask byte says, the answers of the calls, the refusals.
+#![tactic(auto)]
+
 pub mod answer;
 pub mod kind;
 pub mod mark;

@@ -5,7 +5,7 @@ ghost use Rattle.array.specs.Others.{other_by};
 ghost use Rattle.array.specs.Meaning.{told_mark};
 
 // 00 is null, 01 is set, and no other byte is a mask byte.
-#[derive(Drop)]
+#[derive(Clone, Copy)]
 pub enum Mark {
     Null,
     Set,

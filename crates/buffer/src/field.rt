@@ -9,7 +9,7 @@ use array::kind::IndexWidth;
 use array::refusal;
 
 // A field that was read, or the number of the refusal.
-#[derive(Drop)]
+#[derive(Clone, Copy)]
 pub enum Field {
     Value(u64),
     Refused(u8),

@@ -20,7 +20,7 @@ use buffer::{copy, field};
 
 // How offsets lie: as numbers, or as little-endian fields of so many bytes. Where these begin is a number beside it, since a variant
 // that holds numbers goes through memory, which takes longer than a small cut.
-#[derive(Drop)]
+#[derive(Clone, Copy)]
 pub enum Source {
     Numbers,
     Four,

@@ -22,7 +22,7 @@ use decode_planes::place_planes;
 use stored_frames::{Walked, walk_content};
 
 // Values that the walk found: where they begin, and of how many cells.
-#[derive(Drop)]
+#[derive(Clone, Copy)]
 pub struct Found {
     at: usize,
     cells: usize,

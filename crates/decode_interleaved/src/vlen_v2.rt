@@ -15,7 +15,7 @@ use buffer::{copy, field};
 use valid::{array_bytes, shape};
 
 // What the checking walk over the stored cells finds: how many value bytes they have, or the refusal.
-#[derive(Drop)]
+#[derive(Clone, Copy)]
 pub enum Walk {
     Sum(usize),
     Refused(u8),

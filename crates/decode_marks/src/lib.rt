@@ -1,4 +1,6 @@
 // One cell of a plane, by its mark: a set cell takes the next stored one.
+#![tactic(auto)]
+
 ghost use Rattle.std.specs.Prelude.{◌≡◌, ◌<◌};
 ghost use Rattle.array.specs.Meaning.{told_mark};
 ghost use Rattle.decode_marks.specs.Next.{if_set, next_at};

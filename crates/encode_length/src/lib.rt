@@ -20,7 +20,7 @@ pub fn content_length(kind: Kind, cells: usize, masks: &[u8], offsets: &[u64], l
         return 0;
     }
     if left == 0 {
-        return encode_values::values_length_lem(kind, cells, masks, offsets, count);
+        return encode_values::values_length(kind, cells, masks, offsets, count);
     }
     let form = kind.masks;
     let mask = form::mask_length(form, count);

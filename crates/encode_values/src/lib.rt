@@ -11,7 +11,7 @@ use array::kind;
 use array::kind::{Kind, Values};
 
 // How long these values are when written.
-pub fn values_length_lem(
+pub fn values_length(
     kind: Kind,
     cells: usize,
     masks: &[u8],

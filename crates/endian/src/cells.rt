@@ -8,7 +8,7 @@ ghost use Rattle.array.specs.Calls.{reversed_cells};
 ghost use Rattle.endian.specs.Sizes.{Narrow, Wide};
 ghost use Rattle.word.specs.Word.{word_test};
 
-use crate::{eight, in_place_lem, turned};
+use crate::{eight, in_place, turned};
 use array::kind::ByteOrder;
 use buffer::{copy, field};
 
@@ -110,7 +110,7 @@ fn copy_any(out: &mut [u8], to: usize, s: &[u8], at: usize, size: usize, cells: 
     ensures { «out».new ≡ over_at to (reversed_cells size cells (drop at s.now)) «out».old }
 {
     copy::copy_bytes(out, to, s, at, cells * size);
-    in_place_lem::reverse_any(out, to, size, cells);
+    in_place::reverse_any(out, to, size, cells);
 }
 
 // The cells of 32 bytes.

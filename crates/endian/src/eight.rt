@@ -4,7 +4,7 @@ ghost use Rattle.array.specs.Buffers.{over_at};
 ghost use Rattle.array.specs.Calls.{reversed_cells};
 ghost use Rattle.endian.specs.Eight.{eight_bytes};
 
-#[derive(Drop)]
+#[derive(Clone, Copy)]
 pub struct Eight {
     pub b0: u8,
     pub b1: u8,

@@ -1,7 +1,7 @@
 // Cells with their bytes reversed: in place, and on the way to another slice.
 pub mod cells;
 pub mod eight;
-pub mod in_place_lem;
+pub mod in_place;
 pub mod turned;
 
 ghost use Rattle.std.specs.Prelude.{◌≡◌};
@@ -20,13 +20,13 @@ pub fn reverse_endianness(size: usize, bytes: &mut [u8]) -> Written
     if size < 4 {
         match size {
             1 => Written::Length(bytes.len()),
-            2 => Written::Length(in_place_lem::reverse_words(bytes, 2)),
+            2 => Written::Length(in_place::reverse_words(bytes, 2)),
             _ => reverse_others(size, bytes),
         }
     } else {
         match size {
-            4 => Written::Length(in_place_lem::reverse_words(bytes, 4)),
-            8 => Written::Length(in_place_lem::reverse_words(bytes, 8)),
+            4 => Written::Length(in_place::reverse_words(bytes, 4)),
+            8 => Written::Length(in_place::reverse_words(bytes, 8)),
             _ => reverse_others(size, bytes),
         }
     }
@@ -45,15 +45,15 @@ fn reverse_others(size: usize, bytes: &mut [u8]) -> Written
     match size {
         16 => {
             let cells = bytes.len() / 16;
-            Written::Length(in_place_lem::reverse_cells(bytes, 0, 16, cells))
+            Written::Length(in_place::reverse_cells(bytes, 0, 16, cells))
         }
         64 => {
             let cells = bytes.len() / 64;
-            Written::Length(in_place_lem::reverse_cells(bytes, 0, 64, cells))
+            Written::Length(in_place::reverse_cells(bytes, 0, 64, cells))
         }
         _ => {
             let cells = bytes.len() / size;
-            Written::Length(in_place_lem::reverse_any(bytes, 0, size, cells))
+            Written::Length(in_place::reverse_any(bytes, 0, size, cells))
         }
     }
 }

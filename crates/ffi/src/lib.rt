@@ -21,7 +21,7 @@ use valid::numbers::{IndexRead, KindRead};
 // A kind as numbers: form 0 fixed, 1 ragged; size is the cell size or the index width; order 0 little or start, 1 big or end; mask 0
 // bytes, 1 packed.
 #[repr(C)]
-#[derive(Drop)]
+#[derive(Clone, Copy)]
 pub struct DpxKind {
     pub depth: u64,
     pub form: u64,

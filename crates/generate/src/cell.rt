@@ -10,7 +10,7 @@ use crate::ahead::state_after;
 use crate::generator::Generator;
 
 // How many levels are set, and the generator after the last draw for them.
-#[derive(Drop)]
+#[derive(Clone, Copy)]
 pub struct Levels {
     pub set: usize,
     pub next: Generator,

@@ -3,13 +3,13 @@ ghost use Rattle.std.specs.Prelude.{◌≡◌};
 ghost use Rattle.load.specs.Generator.{draw};
 ghost use Rattle.generate.specs.Generator.{drew};
 
-#[derive(Drop)]
+#[derive(Clone, Copy)]
 pub struct Generator {
     pub state: u32,
 }
 
 // What was drawn, at most 65535, and the generator of the next draw.
-#[derive(Drop)]
+#[derive(Clone, Copy)]
 pub struct Drawn {
     pub draw: u32,
     pub next: Generator,

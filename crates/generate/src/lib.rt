@@ -1,4 +1,6 @@
 // A load anyone can repeat: the public call `generate`.
+#![tactic(auto)]
+
 mod ahead;
 mod cell;
 mod fixed;

@@ -28,7 +28,7 @@ fn length_of(draw: u32) -> usize
 }
 
 // How many bytes a value has, and the generator after it.
-#[derive(Drop)]
+#[derive(Clone, Copy)]
 pub struct Value {
     pub bytes: usize,
     pub next: Generator,

@@ -88,7 +88,7 @@ pub fn count_live(masks: &[u8], cells: usize, level: usize) -> usize
 {
     match level {
         0 => cells,
-        1 => mask_marks::count_set_lem(&masks[0..cells]),
+        1 => mask_marks::count_set(&masks[0..cells]),
         _ => count_blocks(masks, cells, level),
     }
 }

@@ -1,7 +1,7 @@
 -- docs/SPEC.md, S6.17, S12.3: the call that makes a load: its answer, with the refusals in order, and what it leaves in the outputs.
 -- Assumes nothing.
 use Rattle.std.specs.Prelude.{ℕ, List}
-use Rattle.array.specs.Answer.{Answer, gives, unless, Outcome}
+use Rattle.array.specs.Answer.{Answer, unless, Outcome}
 use Rattle.array.specs.Kind.{Kind, kind_test}
 use Rattle.array.specs.Shape.{shape_test}
 use Rattle.array.specs.Content.{Content}

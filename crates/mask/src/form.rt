@@ -12,7 +12,7 @@ use array::kind::MaskForm;
 use array::refusal;
 use buffer::copy;
 use mask_bits::packed;
-use mask_marks::count_set_lem;
+use mask_marks::count_set;
 
 // Stored bytes of the mask of so many cells.
 pub fn mask_length(form: MaskForm, cells: usize) -> usize
@@ -55,14 +55,14 @@ pub fn count_stored(form: MaskForm, s: &[u8], at: usize, n: usize) -> usize
     match form {
         MaskForm::Bytes => {
             let end = at + n;
-            count_set_lem(&s[at..end])
+            count_set(&s[at..end])
         }
         MaskForm::Packed => packed::count_packed(s, at, n),
     }
 }
 
 // How many cells a stored mask sets, or the refusal of it or of its frame.
-#[derive(Drop)]
+#[derive(Clone, Copy)]
 pub enum Counted {
     Cells(usize),
     Refused(u8),

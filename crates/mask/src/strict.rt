@@ -11,7 +11,7 @@ use array::refusal;
 use mask_marks::one_if_set;
 
 // Of a block of mask bytes: how many are set, and how many are over 01.
-#[derive(Drop)]
+#[derive(Clone, Copy)]
 pub struct Tally {
     pub set: u8,
     pub other: u8,

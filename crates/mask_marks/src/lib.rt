@@ -45,7 +45,7 @@ fn count_block(mask: &[u8], from: usize, end: usize) -> u8
 }
 
 // How many bytes of a plane are set.
-pub fn count_set_lem(mask: &[u8]) -> usize
+pub fn count_set(mask: &[u8]) -> usize
     ensures { result ≡ count_set mask.now }
 {
     let mut n: usize = 0;

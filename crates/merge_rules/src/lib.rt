@@ -14,7 +14,7 @@ use valid::array_bytes::MOST_BYTES;
 use valid::shape::Cells;
 
 // What a chunk takes: its value bytes, its offsets.
-#[derive(Drop)]
+#[derive(Clone, Copy)]
 pub enum Chunk {
     Takes(usize, usize),
     Bad,
@@ -106,7 +106,7 @@ pub fn check_chunks(
 }
 
 // What the stores of a merge go by: the cells of the shape.
-#[derive(Drop)]
+#[derive(Clone, Copy)]
 pub enum Checks {
     Passed(usize),
     Refused(u8),

@@ -13,7 +13,7 @@ use buffer::field::{Field, read_u64};
 use mask::form::{Counted, check_mask, mask_length};
 
 // The innermost content: where it starts and how many cells it has; none where a level has no cell set.
-#[derive(Drop)]
+#[derive(Clone, Copy)]
 pub enum Walked {
     Values(usize, usize),
     Refused(u8),

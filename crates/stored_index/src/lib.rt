@@ -16,7 +16,7 @@ use codec::place::{data_at, index_at, length_at};
 use valid::array_bytes;
 
 // An index that was found: how many cells it has, where it and the data lie, and its last offset.
-#[derive(Drop)]
+#[derive(Clone, Copy)]
 pub struct Index {
     pub cells: usize,
     pub index: usize,
@@ -25,7 +25,7 @@ pub struct Index {
 }
 
 // What the check of ragged values tells.
-#[derive(Drop)]
+#[derive(Clone, Copy)]
 pub enum Indexed {
     Found(Index),
     Refused(u8),

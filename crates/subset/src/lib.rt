@@ -135,7 +135,7 @@ pub fn cell_at(shape: &[u64], starts: &[u64], lens: &[u64], i: u64) -> u64
 }
 
 // A row of a subset: so many neighbours from a cell on.
-#[derive(Drop)]
+#[derive(Clone, Copy)]
 pub struct Row {
     pub first: usize,
     pub cells: usize,
@@ -154,7 +154,7 @@ pub fn row_at(shape: &[u64], starts: &[u64], lens: &[u64], count: usize, at: usi
 }
 
 // A subset of a list, all starts and then all lengths: its lengths begin at `mid`, the next subset at `end`.
-#[derive(Drop)]
+#[derive(Clone, Copy)]
 pub struct Listed {
     pub mid: usize,
     pub end: usize,

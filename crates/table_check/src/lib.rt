@@ -13,7 +13,7 @@ use table_order::lie;
 pub mod rules;
 
 // How the cells lie: so many have bytes, and the order begins with their numbers, as they lie; or a rule is broken.
-#[derive(Drop)]
+#[derive(Clone, Copy)]
 pub enum Order {
     Lies(usize),
     Broken,

@@ -6,7 +6,7 @@ ghost use Rattle.table_preview.specs.Others.{Walkable, Found};
 
 use table_sums::greater;
 
-#[derive(Drop)]
+#[derive(Clone, Copy)]
 pub struct Others {
     pub unpacked: usize,
     pub top: usize,

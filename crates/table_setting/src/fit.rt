@@ -11,7 +11,7 @@ use table_kind::store_ok;
 use table_sums::sum_of;
 
 // How many bytes the setting has, and how many all other cells have.
-#[derive(Drop)]
+#[derive(Clone, Copy)]
 pub enum Fitted {
     Fits(usize, usize),
     Refused(u8),

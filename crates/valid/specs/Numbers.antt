@@ -2,7 +2,7 @@
 -- Form 0 is fixed and 1 ragged; size is the cell size or the index width; order 0 is little or start, 1 big or end; mask form 0 is bytes and 1
 -- packed. A number outside its range is refusal 1.
 -- Assumes nothing.
-use Rattle.std.specs.Prelude.{ℕ, zero, suc, leb, eqb}
+use Rattle.std.specs.Prelude.{ℕ, zero, suc, leb}
 use Rattle.valid.specs.declared.numbers.KindRead as declared
 use Rattle.valid.specs.declared.numbers.IndexRead as index
 use Rattle.array.specs.Answer.{Answer, gives, refuses, and_then, unless, map_answer}

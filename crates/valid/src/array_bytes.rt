@@ -15,7 +15,7 @@ use array::refusal;
 // Value bytes of an array at most.
 pub const MOST_BYTES: usize = 16777216;
 
-#[derive(Drop)]
+#[derive(Clone, Copy)]
 pub enum Checked {
     Valid,
     Refused(u8),

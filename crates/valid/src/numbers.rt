@@ -9,7 +9,7 @@ use array::kind::{ByteOrder, IndexPlace, IndexWidth, Kind};
 use array::{kind, refusal};
 
 // What numbers say: a kind, or the number of the refusal.
-#[derive(Drop)]
+#[derive(Clone, Copy)]
 pub enum KindRead {
     Kind(Kind),
     Refused(u8),
@@ -88,7 +88,7 @@ fn ragged_of_width(depth: u8, width: IndexWidth, place: u64) -> KindRead
 }
 
 // What numbers say of an index: its width and place, or the number of the refusal.
-#[derive(Drop)]
+#[derive(Clone, Copy)]
 pub enum IndexRead {
     Index(IndexWidth, IndexPlace),
     Refused(u8),

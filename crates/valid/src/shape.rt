@@ -10,7 +10,7 @@ pub const MOST_SIDES: usize = 4;
 // Cells of a shape at most.
 pub const MOST_CELLS: u64 = 65536;
 
-#[derive(Drop)]
+#[derive(Clone, Copy)]
 pub enum Cells {
     Count(usize),
     Refused(u8),
