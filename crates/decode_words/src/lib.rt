@@ -1,4 +1,6 @@
 // Values of a machine word's size.
+#![tactic(auto)]
+
 ghost use Rattle.std.specs.Prelude.{◌≡◌, true, ◌+◌, ◌*◌, ◌≤◌, length, take, drop};
 ghost use Rattle.array.specs.Bytes.{le};
 ghost use Rattle.array.specs.Buffers.{over};

@@ -2,7 +2,7 @@
 -- The offsets of n cells over these value bytes.
 -- Assumes nothing.
 use Rattle.std.specs.Prelude.{ℕ, suc, ◌≤◌, ◌≡◌, List, length, leb}
-use Rattle.array.specs.Answer.{gives, unless, Outcome}
+use Rattle.array.specs.Answer.{Outcome}
 use Rattle.array.specs.Limits.{most_bytes, most_cells}
 use Rattle.array.specs.Kind.{Kind}
 use Rattle.array.specs.Offsets.{last, Rising, slices}

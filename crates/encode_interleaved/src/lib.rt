@@ -1,2 +1,4 @@
 // Layer 2: the older interleaved form, written.
+#![tactic(auto)]
+
 pub mod write;

@@ -1,4 +1,6 @@
 // One cell, copied.
+#![tactic(auto)]
+
 ghost use Rattle.std.specs.Prelude.{◌≡◌, ◌+◌, ◌<◌, ◌≤◌, length, take, drop};
 ghost use Rattle.array.specs.Buffers.{over_at};
 ghost use Rattle.interleaved_cells.specs.Cell.{Copied};

@@ -3,20 +3,18 @@
 use mathlib.Core.Path.{◌≡◌, refl, sym, ap, ap₂, ◌∙◌}
 use Prim.Native.Nat.{ℕ, zero, suc, ◌+◌, ◌*◌, ◌/◌, ◌%◌, ◌^◌, ◌<◌, ◌≤◌}
 use native.Mathlib.Omega.{arith}
-use mathlib.Core.Bool.{Bool, true, false}
+use mathlib.Core.Bool.{true}
 use mathlib.Core.Logic.{◌≢◌}
 use mathlib.Core.List.{List, [], ◌∷◌, ◌++◌, map}
 use lib.ListN.{length, take, drop, get_or, length-take, length-drop, drop_of_length-le, take-append-drop}
 use lib.Seq.{length-take-le, take-append-le, take-suc, get_or-drop}
 use lib.Dec.{eqb}
-use Rattle.array.specs.Answer.{gives, refuses, unless, and_then}
-use Rattle.array.specs.Kind.{Masks, as_bytes, as_bits}
 use Rattle.array.specs.Lists.{joined, every}
 use Rattle.array.specs.Bytes.{digits}
 use Rattle.array.specs.Cells.{bit_of}
 use Rattle.array.proofs.Lists.{map-append, joined-append}
 use Rattle.array.proofs.Sums.{sum_of}
-use Rattle.codec.specs.Mask.{MaskForm, mask_form, packed_mask, bytes_for, bits_of}
+use Rattle.codec.specs.Mask.{packed_mask, bytes_for, bits_of}
 use Rattle.codec.specs.Frame.{count_set, set_bits}
 use Rattle.codec.proofs.Marks.{count-le}
 use Rattle.codec.proofs.Masks.{length_bits, packed_test, count-packed}

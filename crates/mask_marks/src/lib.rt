@@ -1,4 +1,6 @@
 // Mask bytes of a plane: whether one is set, and how many are.
+#![tactic(auto)]
+
 ghost use Rattle.std.specs.Prelude.{◌≡◌, [], ◌∷◌, ◌+◌, ◌≤◌, ◌<◌, length, get_or, drop};
 ghost use Rattle.array.specs.Cells.{set_test};
 ghost use Rattle.codec.specs.Frame.{count_set};

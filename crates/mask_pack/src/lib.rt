@@ -1,4 +1,6 @@
 // Layer 2, packed masks written from a plane: a block holds each mask byte as its bit, and is packed eight cells a step.
+#![tactic(auto)]
+
 ghost use Rattle.std.specs.Prelude.{◌≡◌, map, ◌+◌, ◌*◌, ◌≤◌, ◌<◌, min, length, take, drop};
 ghost use Rattle.array.specs.Buffers.{over_at};
 ghost use Rattle.array.specs.Bytes.{number};

@@ -1,4 +1,6 @@
 // Values of one size, of which a plane shows some: each at its place, and zero bytes where it shows none.
+#![tactic(auto)]
+
 ghost use Rattle.std.specs.Prelude.{◌≡◌, true, ◌+◌, ◌≤◌, ◌<◌, length, take, drop, get_or, replicate};
 ghost use Rattle.array.specs.Buffers.{over, over_at};
 ghost use Rattle.array.specs.Cells.{set_test};

@@ -1,4 +1,6 @@
 // Subsets of a shape: whether numbers are some, and which cells they have, row by row.
+#![tactic(auto)]
+
 ghost use Rattle.std.specs.Prelude.{◌≡◌, ◌+◌, ◌-◌, ◌≤◌, ◌<◌, length, get_or, drop, leb};
 ghost use Rattle.array.specs.Limits.{most_cells};
 ghost use Rattle.array.specs.Lists.{from, every};

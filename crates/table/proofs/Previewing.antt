@@ -1,7 +1,7 @@
 -- A preview is the setting made on a copy, and a look there: the law of previews.
 -- Assumes nothing.
-use mathlib.Core.Path.{◌≡◌, refl, sym, ap, ◌∙◌, subst}
-use mathlib.Core.Bool.{true, ◌&&◌}
+use mathlib.Core.Path.{◌≡◌, refl, ap, ◌∙◌}
+use mathlib.Core.Bool.{◌&&◌}
 use mathlib.Core.List.{List}
 use Prim.Native.Nat.{ℕ, ◌≤◌, ◌<◌, min}
 use native.Mathlib.Omega.{arith}
@@ -17,7 +17,7 @@ use Rattle.table.specs.Table.{Table, table_kind_test, count_test, table_test, st
 use Rattle.table.specs.Lying.{displaced}
 use Rattle.table.specs.Setting.{SettingOk, setting_test, setting_of, sum_after}
 use Rattle.table.specs.Calls.{in_place, set_answer, cell_set, Preview, looked_at, previewed, cells_packed}
-use Rattle.table.specs.Laws.{Working, PreviewLaw, Previews}
+use Rattle.table.specs.Laws.{Working, Previews}
 use Rattle.table.proofs.Rules.{table_kind_ok, count_ok, store_ok, table_ok, setting_ok}
 use Rattle.table.proofs.Setting.{sets}
 use Rattle.table.proofs.Packing.{packs}

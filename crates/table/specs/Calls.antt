@@ -1,10 +1,10 @@
 -- docs/SPEC.md, S6.18 to S6.22: the calls on a working table: what each answers, with the refusals in their order, and what it leaves behind.
 -- Assumes nothing.
-use Rattle.std.specs.Prelude.{ℕ, ◌≤◌, Bool, ◌&&◌, List, map, length, leb, ltb, eqb}
+use Rattle.std.specs.Prelude.{ℕ, ◌≤◌, Bool, ◌&&◌, List, map, length, leb, ltb}
 use Rattle.array.specs.Answer.{Answer, gives, refuses, unless, map_answer, Outcome}
 use Rattle.array.specs.Lists.{from, pick}
 use Rattle.array.specs.Kind.{Kind}
-use Rattle.array.specs.Cells.{Cell, Value}
+use Rattle.array.specs.Cells.{Value}
 use Rattle.array.specs.Content.{Content, layout, rest_form, unless_kept}
 use Rattle.array.specs.Buffers.{Lengths, lengths_of, enough_test, content_outcome, if_room, over}
 use Rattle.array.specs.Places.{sum, offset_at, step_at}

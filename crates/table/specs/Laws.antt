@@ -1,13 +1,13 @@
 -- docs/SPEC.md, S13.11 to S13.15: what holds of working tables over several calls, outputs long enough.
 -- Assumes nothing.
-use Rattle.std.specs.Prelude.{ℕ, zero, suc, ◌+◌, ◌*◌, ◌≤◌, ◌<◌, min, ◌≡◌, List, [], length, take, drop, eqb}
-use Rattle.array.specs.Answer.{Answer, gives, map_answer, Outcome}
+use Rattle.std.specs.Prelude.{ℕ, zero, suc, ◌*◌, ◌≤◌, ◌<◌, min, ◌≡◌, List, [], length, take, drop, eqb}
+use Rattle.array.specs.Answer.{gives, map_answer}
 use Rattle.array.specs.Limits.{most_bytes}
 use Rattle.array.specs.Lists.{pick}
 use Rattle.array.specs.Kind.{Kind}
-use Rattle.array.specs.Cells.{Cell, Value, leaf}
+use Rattle.array.specs.Cells.{Value}
 use Rattle.array.specs.Content.{Content, ArrayOk, rest_form}
-use Rattle.array.specs.Buffers.{Lengths, lengths_of, Enough, content_outcome}
+use Rattle.array.specs.Buffers.{lengths_of, Enough, content_outcome}
 use Rattle.array.specs.Places.{sum}
 use Rattle.table.specs.Table.{Table, cell_of, TableKind, CountOk, TableOk, most_store}
 use Rattle.table.specs.Lying.{displaced, moved_cells}

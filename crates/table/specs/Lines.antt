@@ -1,13 +1,11 @@
 -- docs/SPEC.md, S10.37 to S10.46: calls on working tables worked out by hand: where bytes go, what packing moves, and the refusals in their order.
 -- Assumes nothing.
-use Rattle.std.specs.Prelude.{ℕ, ◌≡◌, List, [], ◌∷◌, length}
+use Rattle.std.specs.Prelude.{ℕ, ◌≡◌, List, [], ◌∷◌}
 use Rattle.array.specs.Answer.{Answer, gives, refuses, Outcome}
 use Rattle.array.specs.Kind.{Kind, byte_kind, ragged, fixed, little, at_start}
 use Rattle.array.specs.Content.{Content}
-use Rattle.array.specs.Buffers.{Lengths}
 use Rattle.table.specs.Table.{Table}
-use Rattle.table.specs.Lying.{displaced}
-use Rattle.table.specs.Calls.{TableLengths, made, read_out, cell_set, Preview, previewed, cells_packed}
+use Rattle.table.specs.Calls.{made, read_out, cell_set, Preview, previewed, cells_packed}
 
 -- ragged kinds of depth 0, 1 and 2
 abbrev pub flat : Kind

@@ -1,10 +1,10 @@
 -- docs/SPEC.md, S13.5 to S13.7: how the cells lie in the store, and what packing moves where.
 -- Assumes nothing.
-use Rattle.std.specs.Prelude.{ℕ, ◌+◌, max, Bool, true, false, not, List, [], ◌∷◌, map, length, take, set, leb, ltb, eqb}
+use Rattle.std.specs.Prelude.{ℕ, max, not, List, [], ◌∷◌, map, take, set, leb, ltb, eqb}
 use Rattle.array.specs.Lists.{pick, passing}
 use Rattle.array.specs.Buffers.{over_at}
 use Rattle.array.specs.Places.{sum}
-use Rattle.table.specs.Table.{Table, start_of, length_of, bytes_of, ending, filled_by, filled}
+use Rattle.table.specs.Table.{Table, start_of, length_of, bytes_of, ending, filled}
 
 module _ (start len : ℕ → ℕ) where
   -- a cell put among others, before the first that starts no lower; cells in the order in which they lie

@@ -1,6 +1,6 @@
 -- docs/SPEC.md, S13.8 to S13.10: a cell set to other masks and bytes.
 -- Assumes nothing.
-use Rattle.std.specs.Prelude.{ℕ, ◌+◌, ◌-◌, ◌≤◌, ◌≡◌, Bool, ◌&&◌, List, [], ◌∷◌, length, get_or, set, leb, eqb}
+use Rattle.std.specs.Prelude.{ℕ, ◌+◌, ◌-◌, ◌≡◌, Bool, ◌&&◌, List, [], ◌∷◌, length, get_or, set, leb, eqb}
 use Rattle.array.specs.Lists.{from, pick, All, every}
 use Rattle.array.specs.Cells.{Value, Cell, Strict, strict_test, leaf, rest}
 use Rattle.array.specs.Content.{masks_of}

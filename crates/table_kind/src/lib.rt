@@ -1,4 +1,6 @@
 // What every call on a working table asks first: the kind, the count of cells, and the store's length.
+#![tactic(auto)]
+
 ghost use Rattle.std.specs.Prelude.{◌≡◌, leb};
 ghost use Rattle.array.specs.Meaning.{kind_of};
 ghost use Rattle.table.specs.Table.{table_kind_test, count_test, most_store};

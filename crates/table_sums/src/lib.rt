@@ -1,4 +1,6 @@
 // Sums and ends of the cells of a table that keeps its rules.
+#![tactic(auto)]
+
 ghost use Rattle.std.specs.Prelude.{◌≡◌, ◌≤◌, max, length};
 ghost use Rattle.array.specs.Lists.{All, from};
 ghost use Rattle.array.specs.Places.{sum, offset_at};

@@ -1,4 +1,6 @@
 // Cells of a machine word's size, as numbers: read in either byte order, and written.
+#![tactic(auto)]
+
 ghost use Rattle.std.specs.Prelude.{◌≡◌, true, ◌++◌, reverse, ◌+◌, ◌≤◌, length, take, drop};
 ghost use Rattle.array.specs.Bytes.{le, unle};
 ghost use Rattle.array.specs.Buffers.{over_at};

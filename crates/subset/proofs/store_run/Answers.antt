@@ -1,0 +1,42 @@
+-- `store_run` meets its contract: the first i of the run lie in place (proofs/StoringCells).
+-- Assumes nothing.
+use native.Mathlib.Omega.{arith}
+use Rattle.array.specs.Limits.{most_cells}
+use Rattle.subset.proofs.StoringCells.{run_begins, run_same, run_room, run_more, run_ends}
+use Rattle.subset.proofs.store_run.Goals as goal
+
+pub loop-i-init : goal.loop-i-init
+loop-i-init c = (omega arith, run_begins c.args.cells.now c.args.at c.args.first c.args.n c.requires.0)
+
+pub overflow_add-cells : goal.overflow_add-cells
+unfolding most_cells
+overflow_add-cells c = omega arith
+
+pub overflow_add-cells-in-loop-i : goal.overflow_add-cells-in-loop-i
+unfolding most_cells
+overflow_add-cells-in-loop-i c = omega arith
+
+pub offset_bounds-cells-at : goal.offset_bounds-cells-at
+offset_bounds-cells-at c =
+    let a = c.args in
+    omega (arith, run_same a.cells.now a.at a.first a.n c.loop-i.cells c.loop-i.i c.loop-i.invariant.1)
+
+pub bounds-cells-at : goal.bounds-cells-at
+bounds-cells-at c =
+    let a = c.args in
+    run_room a.cells.now a.at a.first a.n c.loop-i.cells c.loop-i.i c.loop-i.invariant.1 c.loop-i-test.true
+
+pub loop-i-preserved : goal.loop-i-preserved
+loop-i-preserved c =
+    let a = c.args in
+    (omega arith, run_more a.cells.now a.at a.first a.n c.loop-i.cells c.loop-i.i c.loop-i.invariant.1 c.loop-i-test.true)
+
+pub shape_of-cells : goal.shape_of-cells
+shape_of-cells c =
+    let a = c.args in
+    run_same a.cells.now a.at a.first a.n c.loop-i.cells c.loop-i.i c.loop-i.invariant.1
+
+pub returns : goal.returns
+returns c =
+    let a = c.args in
+    run_ends a.cells.now a.at a.first a.n c.loop-i.cells c.loop-i.i c.loop-i.invariant.1 c.loop-i-test.false

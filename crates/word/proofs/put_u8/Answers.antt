@@ -1,0 +1,10 @@
+-- `word::put_u8`: one store is the byte laid over the output (Unrolled).
+-- Assumes nothing.
+use Rattle.array.specs.Bytes.{le}
+use Rattle.buffer.proofs.Unrolled.{stores_over}
+use Rattle.word.proofs.put_u8.Goals as goal
+
+pub returns : goal.returns
+unfolding le
+returns c =
+    let a = c.args in stores_over a.at (le 1 a.v) a.out.now c.requires
