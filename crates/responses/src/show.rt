@@ -1,5 +1,6 @@
 // Answers and lists written to a writer.
-ghost use Rattle.std.specs.Prelude.{◌≡◌, length};
+ghost use Rattle.std.specs.Prelude.{◌≡◌, [], ◌∷◌, ◌++◌, length, OnOk};
+ghost use Rattle.std.specs.Io.KnownBytes.{Appends};
 
 use array::answer::WrittenArray;
 use std::io;
@@ -13,11 +14,15 @@ fn text_space() -> [u8; 16384]
     [0; 16384]
 }
 
-pub fn write_text(out: &mut impl Write, text: &[u8]) -> io::Result<()> {
+pub fn write_text<W: Write>(out: &mut W, text: &[u8]) -> io::Result<()>
+    ensures { OnOk result (Appends (W.contents out.old) (W.contents out.new) text.now) }
+{
     out.write_all(text)
 }
 
-pub fn write_line(out: &mut impl Write, line: &[u8]) -> io::Result<()> {
+pub fn write_line<W: Write>(out: &mut W, line: &[u8]) -> io::Result<()>
+    ensures { OnOk result (Appends (W.contents out.old) (W.contents out.new) (line.now ++ 10 ∷ [])) }
+{
     write_text(out, line)?;
     write_text(out, b"\n")
 }
