@@ -1,5 +1,5 @@
 # make demo      builds all, then writes, shows, cuts, merges and checks a table of CPU affinities.
-# make test      proves every crate from nothing, tries every must-fail edit, runs every program; then builds the archive and tries
+# make test      the gate, .ci/run: proves every crate, tries every must-fail edit, runs every program; then builds the archive and tries
 #                it from C, from Rust and by the command. Its last line is rt's own: 'N passed, 0 failed'.
 # make lib       proves and builds the archive: build/libdurpaxeta.a and build/durpaxeta.h.
 # make tool      builds the command build/durpaxeta over that archive.
@@ -8,22 +8,17 @@
 # make compare   holds the archive against the original Rust; make teeth, make fuzz, make bench: oracle/README.md.
 .PHONY: test lib tool demo install uninstall
 
-# rt's last line is kept back until the rest has passed. It waits for the last of a batch of checks before it begins the next, so four at a time
-# keep two cores busier than two.
 test:
-	@mkdir -p build
-	@bash -c 'set -o pipefail; RT_JOBS=$${RT_JOBS:-4} rt ci | tee build/rt-ci.log | sed "$$ d"'
-	@tests/outside.sh
-	@tail -n 1 build/rt-ci.log
+	@.ci/run
 
 lib: build/libdurpaxeta.a build/durpaxeta.h
 	@echo "build/libdurpaxeta.a and build/durpaxeta.h are there"
 
-# A failed rt leaves the archive of an earlier run in target/, so its status decides. The old copy stays until the new one is there.
-build/libdurpaxeta.a: crates.txt $(shell find crates -type f)
+# A failed rt leaves the archive of an earlier run in out/, so its status decides. The old copy stays until the new one is there.
+build/libdurpaxeta.a: crates.txt $(shell find crates -name out -prune -o -type f -print)
 	@mkdir -p build
 	@package/archive.sh
-	@cp target/staticlib/libffi.a $@.new
+	@cp crates/ffi/out/libffi.a $@.new
 	@mv -f $@.new $@
 
 build/durpaxeta.h: include/durpaxeta.h

@@ -58,7 +58,8 @@ cargo_tests() {
 }
 (cargo_tests) > build/cargo-tests.log 2>&1 &
 beside=$!
-trap wait EXIT # where a test in C fails, those by cargo end first
+# Where a test in C fails, those by cargo end first. They leave links, which rt ci takes nowhere in a checkout.
+trap 'wait; rm -rf build/cargo/tmp' EXIT
 
 say 'C interface'
 tests/c/run.sh

@@ -1,11 +1,11 @@
 #!/usr/bin/env bash
 # The README's commands and examples work as printed, in a folder that has what `make demo` leaves in build/. Needs
-# build/libdurpaxeta.a (make lib).
+# build/libdurpaxeta.a (make lib). The folder has links, which rt ci takes nowhere in a checkout, so it lies outside.
 set -euo pipefail
 cd "$(dirname "$0")/.."
 root=$PWD
-out=build/readme
-rm -rf "$out"
+out=$(mktemp -d)
+trap 'rm -rf "$out"' EXIT
 mkdir -p "$out/build" "$out/rust/src"
 make --no-print-directory tool > /dev/null
 ln -s "$root/build/libdurpaxeta.a" "$root/build/durpaxeta" "$root/include/durpaxeta.h" "$out/build/"

@@ -35,7 +35,7 @@ def read(path):
 
 
 def snake(word):
-    word = re.sub(r"([a-z0-9'])([A-Z][a-z])", lambda m: m.group(1) + "_" + m.group(2).lower(), word)
+    word = re.sub(r"(?<=[a-z0-9'])([A-Z])(?=[a-z])", lambda m: "_" + m.group(1).lower(), word)
     return re.sub(r"([a-z])(FF|LE|BE)\b", lambda m: m.group(1) + "_" + m.group(2).lower(), word)
 
 

@@ -8,14 +8,15 @@ cd "$(dirname "$0")/../.."
 limit=$1
 word=${2:-}
 from=${CRATES:-.}
-work=build/fuzz/teeth
+work=$(mktemp -d) # outside: rt ci takes no source of another crate in a checkout
+trap 'rm -rf "$work"' EXIT
 missed=0
 
 try() {
     local name=$1 file=$2 began took what
-    rm -rf "$work"
+    rm -rf "$work"/*
     mkdir -p "$work/corpus"
-    cp -r "$from/crates" "$work/crates"
+    tar -C "$from" --exclude='crates/*/out' -cf - crates | tar -C "$work" -xf -
     OLD=$3 NEW=$4 awk '
         { text = text $0 "\n" }
         END {

@@ -11,7 +11,7 @@ use lib.Arith.{lt_of_le-ne}
 use borrow.Author.Tests.{eqb-true, eqb-false, ne_eqb, le-leb, lt-leb, lt-ltb, le-ltb}
 use Rattle.array.specs.Lists.{pick, from, passing, count_passing, count, All}
 use Rattle.array.specs.Shape.{volume}
-use Rattle.array.specs.Subset.{Subset, SubsetOk, rows, cells_in, cells_ofAll, coordinates, inside_test}
+use Rattle.array.specs.Subset.{Subset, SubsetOk, rows, cells_in, cells_of_all, coordinates, inside_test}
 use Rattle.array.proofs.Lists.{All-of}
 use Rattle.array.proofs.Sums.{count-append}
 
@@ -201,10 +201,10 @@ count_cells shape b p i h =
 
 -- a cell of the shape stands in the cells of the subsets as often as there are subsets that its coordinates lie in
 pub count_all : (shape : List ℕ) (bs : List Subset) → All (SubsetOk shape) bs → (i : ℕ) → i < volume shape
-    → count i (cells_ofAll shape bs) ≡ count_passing (λ b. inside_test b (coordinates shape i)) bs
+    → count i (cells_of_all shape bs) ≡ count_passing (λ b. inside_test b (coordinates shape i)) bs
 count_all shape [] p i h = refl
 count_all shape (b ∷ bs) p i h =
-    count-append i (cells_in shape b) (cells_ofAll shape bs)
+    count-append i (cells_in shape b) (cells_of_all shape bs)
     ∙ ap₂ ◌+◌ (count_cells shape b p.0 i h) (count_all shape bs p.1 i h)
     ∙ go (inside_test b (coordinates shape i)) (count_passing (λ c. inside_test c (coordinates shape i)) bs)
   where

@@ -9,7 +9,7 @@ use lib.ListN.{length, take, drop, length-append, length-map, length-drop}
 use lib.Seq.{length-take-le}
 use Rattle.array.specs.Lists.{from, joined, pieces, All}
 use Rattle.array.specs.Shape.{volume, ShapeOk}
-use Rattle.array.specs.Subset.{Subset, lengths, pairs, subset_of, subsets_of, SubsetOk, rows, cells_in, cells_ofAll}
+use Rattle.array.specs.Subset.{Subset, lengths, pairs, subset_of, subsets_of, SubsetOk, rows, cells_in, cells_of_all}
 use Rattle.array.proofs.Lists.{Sized, All-append, All-image, All-map, length_from_lem, length-joined, pieces-joined}
 
 pub length-rows : (v : ℕ) (is js : List ℕ) → length (rows v is js) ≡ length is * length js
@@ -41,9 +41,9 @@ cells_in_below [] (b ∷ bs) p = absurd p
 cells_in_below (s ∷ ss) [] p = absurd p
 cells_in_below (s ∷ ss) (b ∷ bs) p = rows_below s (volume ss) b.0 b.1 (cells_in ss bs) p.0 (cells_in_below ss bs p.1)
 
-pub all_below : (shape : List ℕ) (bs : List Subset) → All (SubsetOk shape) bs → All (λ j. j < volume shape) (cells_ofAll shape bs)
+pub all_below : (shape : List ℕ) (bs : List Subset) → All (SubsetOk shape) bs → All (λ j. j < volume shape) (cells_of_all shape bs)
 all_below shape [] p = tt
-all_below shape (b ∷ bs) p = All-append (λ j. j < volume shape) (cells_in shape b) (cells_ofAll shape bs) (cells_in_below shape b p.0) (all_below shape bs p.1)
+all_below shape (b ∷ bs) p = All-append (λ j. j < volume shape) (cells_in shape b) (cells_of_all shape bs) (cells_in_below shape b p.0) (all_below shape bs p.1)
 
 -- the lengths of a subset that holds a cell are a shape
 pub length-lengths : (shape : List ℕ) (b : Subset) → SubsetOk shape b → length (lengths b) ≡ length shape

@@ -21,8 +21,8 @@ pub record RaggedContent : Type 0 where
   pub offsets : List ℕ
 
 -- values laid end to end from offset 0
-abbrev pub end_toEnd : List Value → RaggedContent
-end_toEnd vs = record { values = joined vs; offsets = offsets_of vs }
+abbrev pub end_to_end : List Value → RaggedContent
+end_to_end vs = record { values = joined vs; offsets = offsets_of vs }
 
 abbrev pub unmasked : RaggedContent → Content
 unmasked c = record { masks = []; values = c.values; offsets = c.offsets }

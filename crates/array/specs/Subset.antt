@@ -78,9 +78,9 @@ cells_in (s ∷ ss) [] = []
 cells_in (s ∷ ss) (b ∷ bs) = rows (volume ss) (from b.0 b.1) (cells_in ss bs)
 
 -- the cells of all subsets, in the list's order
-abbrev pub cells_ofAll : List ℕ → List Subset → List ℕ
-cells_ofAll shape [] = []
-cells_ofAll shape (b ∷ bs) = cells_in shape b ++ cells_ofAll shape bs
+abbrev pub cells_of_all : List ℕ → List Subset → List ℕ
+cells_of_all shape [] = []
+cells_of_all shape (b ∷ bs) = cells_in shape b ++ cells_of_all shape bs
 
 -- ---- what these cells are: those whose coordinates lie in the subset (proofs/Geometry)
 

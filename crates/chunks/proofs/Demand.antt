@@ -10,7 +10,7 @@ use Rattle.array.specs.Answer.{Answer, gives, and_then, unless}
 use Rattle.array.specs.Lists.{joined, All, count}
 use Rattle.array.specs.Kind.{Kind, Form, null_of}
 use Rattle.array.specs.Shape.{volume, ShapeOk}
-use Rattle.array.specs.Subset.{Subset, lengths, subset_of, subsets_of, SubsetOk, FullOk, NumbersOk, ManyOk, cells_in, cells_ofAll}
+use Rattle.array.specs.Subset.{Subset, lengths, subset_of, subsets_of, SubsetOk, FullOk, NumbersOk, ManyOk, cells_in, cells_of_all}
 use Rattle.array.specs.Cells.{Cell, leaf, rest}
 use Rattle.array.specs.Content.{Content, Valid, cells_of, array_test, size_test, leaves, layout, null_cell, rest_form}
 use Rattle.array.specs.Buffers.{Lengths, lengths_of, Enough, enough_test, Taken, taken, taken_bytes, whole}
@@ -30,7 +30,7 @@ use Rattle.chunks.specs.Gather.{gather, put_back, Once, once_test}
 use Rattle.chunks.specs.Cut.{cells_at, cut_of}
 use Rattle.chunks.specs.Chunks.{no_content, follow, chunk_cells, merge_of}
 use Rattle.chunks.specs.Calls.{extracted, extract_answer, merged, merge_answer}
-use Rattle.chunks.specs.Demand.{Entry, shape_of, rest_ofCut, one_way, each_way, whole_way, EntryOk, Covers, subsets_in, Demand3}
+use Rattle.chunks.specs.Demand.{Entry, shape_of, rest_of_cut, one_way, each_way, whole_way, EntryOk, Covers, subsets_in, Demand3}
 use Rattle.chunks.proofs.Gather.{gather-map, put_back-gather, once_test_lem}
 use Rattle.chunks.proofs.GoodCells.{good_rest, good_gather}
 use Rattle.chunks.proofs.Chunks.{first_chunk_lem, later_chunks_lem}
@@ -68,8 +68,8 @@ module _ (k : Kind) (shape : List ℕ) (c : Content) (v : Valid k shape c) where
   rest_cells b = layout k.form d (map resting (cells_at k shape c b))
 
   -- they are the rest form of the cut, by the words of docs/SPEC.md, S2.1 to S2.3
-  rest_of_cut : (ns : List ℕ) → NumbersOk shape ns → rest_ofCut k shape c ns ≡ rest_cells (subset_of sides ns)
-  rest_of_cut ns p =
+  rest_of_cut_lem : (ns : List ℕ) → NumbersOk shape ns → rest_of_cut k shape c ns ≡ rest_cells (subset_of sides ns)
+  rest_of_cut_lem ns p =
       let q : Subset = subset_of sides ns in
       let f : Form = k.form in
       let nc : Cell d = null_cell k in
@@ -97,7 +97,7 @@ module _ (k : Kind) (shape : List ℕ) (c : Content) (v : Valid k shape c) where
       let el : lengths b ≡ ls = lengths_subset sides ns ok.numbers.counted in
       let sh : ShapeOk ls = subst ShapeOk el (subset_shape shape b v.shaped ok.numbers.fits (subst (All (λ n. 1 ≤ n)) (sym el) ok.full)) in
       let g : Good k (volume ls) xs = subst (λ (l : List ℕ). Good k (volume l) xs) el (good_subset b ok.numbers.fits o) in
-      let back : Enough (rest_cells b) (lengths_of e.back) = subst (λ (x : Content). Enough x (lengths_of e.back)) (rest_of_cut ns ok.numbers) ok.back_enough in
+      let back : Enough (rest_cells b) (lengths_of e.back) = subst (λ (x : Content). Enough x (lengths_of e.back)) (rest_of_cut_lem ns ok.numbers) ok.back_enough in
       ap (λ (a : Answer Taken). and_then a (λ x. and_then (taken_bytes (encoded k ls x.content e.stored)) (λ s. and_then (taken (decoded k ls s e.back)) (λ y. gives y.content))))
       (taken_content (extract_answer k shape ns c (lengths_of e.cut)) e.cut
       ∙ ap (λ (a : Answer Content). and_then a (λ x. gives (whole x))) (extract_gives k shape c v ns ok.numbers (lengths_of e.cut) ok.cut_enough))
@@ -115,21 +115,21 @@ module _ (k : Kind) (shape : List ℕ) (c : Content) (v : Valid k shape c) where
   chunks [] = no_content
   chunks (b ∷ bs) = follow (rest_cells b) (chunks bs)
 
-  once_first : (b : Subset) (bs : List Subset) → AtMostOnce (cells_ofAll shape (b ∷ bs)) → AtMostOnce (cells_in shape b)
-  once_first b bs o i h = omega (arith, o i h, count-append i (cells_in shape b) (cells_ofAll shape bs))
+  once_first : (b : Subset) (bs : List Subset) → AtMostOnce (cells_of_all shape (b ∷ bs)) → AtMostOnce (cells_in shape b)
+  once_first b bs o i h = omega (arith, o i h, count-append i (cells_in shape b) (cells_of_all shape bs))
 
-  once_later : (b : Subset) (bs : List Subset) → AtMostOnce (cells_ofAll shape (b ∷ bs)) → AtMostOnce (cells_ofAll shape bs)
-  once_later b bs o i h = omega (arith, o i h, count-append i (cells_in shape b) (cells_ofAll shape bs))
+  once_later : (b : Subset) (bs : List Subset) → AtMostOnce (cells_of_all shape (b ∷ bs)) → AtMostOnce (cells_of_all shape bs)
+  once_later b bs o i h = omega (arith, o i h, count-append i (cells_in shape b) (cells_of_all shape bs))
 
-  each_way_lem : (es : List Entry) → All (EntryOk k shape c) es → AtMostOnce (cells_ofAll shape (subsets_in shape es)) → each_way k shape c es ≡ gives (chunks (subsets_in shape es))
+  each_way_lem : (es : List Entry) → All (EntryOk k shape c) es → AtMostOnce (cells_of_all shape (subsets_in shape es)) → each_way k shape c es ≡ gives (chunks (subsets_in shape es))
   each_way_lem [] s o = refl
   each_way_lem (e ∷ es) s o =
       ap₂ (λ (x y : Answer Content). and_then x (λ a. and_then y (λ t. gives (follow a t))))
       (one_way_lem e s.0 (once_first (subset_in e) (subsets_in shape es) o)) (each_way_lem es s.1 (once_later (subset_in e) (subsets_in shape es) o))
 
   -- the chunks that were read are taken apart into the cells that were cut, in rest form
-  chunk_cells_lem : (bs : List Subset) → All (SubsetOk shape) bs → AtMostOnce (cells_ofAll shape bs)
-      → chunk_cells k bs (chunks bs) ≡ gives (map resting (gather (null_cell k) own (cells_ofAll shape bs)))
+  chunk_cells_lem : (bs : List Subset) → All (SubsetOk shape) bs → AtMostOnce (cells_of_all shape bs)
+      → chunk_cells k bs (chunks bs) ≡ gives (map resting (gather (null_cell k) own (cells_of_all shape bs)))
   unfolding chunk_cells
   chunk_cells_lem [] p o = refl
   chunk_cells_lem (b ∷ bs) p o =
@@ -140,9 +140,9 @@ module _ (k : Kind) (shape : List ℕ) (c : Content) (v : Valid k shape c) where
       ap₂ (λ (x y : Content). unless (array_test k m x) 4 (and_then (chunk_cells k bs y) (λ cs. gives (cells_of k m x ++ cs)))) (first_chunk_lem k m xs g t) (later_chunks_lem k m xs g t)
       ∙ pass 4 (array_test_lem k m (layout k.form d xs) (good_layout k m xs g)) refl
       ∙ ap (λ (a : Answer (List (Cell d))). and_then a (λ cs. gives (cells_of k m (layout k.form d xs) ++ cs))) (chunk_cells_lem bs p.1 (once_later b bs o))
-      ∙ ap (λ (ys : List (Cell d)). gives (ys ++ map resting (gather (null_cell k) own (cells_ofAll shape bs)))) (cells_layout k m xs g.counted g.sized)
-      ∙ ap gives (sym (map-append resting (cells_at k shape c b) (gather (null_cell k) own (cells_ofAll shape bs)))
-      ∙ ap (map resting) (sym (map-append (λ i. get_or own i (null_cell k)) (cells_in shape b) (cells_ofAll shape bs))))
+      ∙ ap (λ (ys : List (Cell d)). gives (ys ++ map resting (gather (null_cell k) own (cells_of_all shape bs)))) (cells_layout k m xs g.counted g.sized)
+      ∙ ap gives (sym (map-append resting (cells_at k shape c b) (gather (null_cell k) own (cells_of_all shape bs)))
+      ∙ ap (map resting) (sym (map-append (λ i. get_or own i (null_cell k)) (cells_in shape b) (cells_of_all shape bs))))
 
   -- ---- the merge
 
@@ -187,17 +187,17 @@ module _ (k : Kind) (shape : List ℕ) (c : Content) (v : Valid k shape c) where
   fit_subsets es s = All-map (FullOk shape) (SubsetOk shape) (λ b p. p.fits) (subsets_in shape es) (full_subsets es s)
 
   -- each cell in exactly one subset: each cell stands once in the subsets' cells
-  once_each : (es : List Entry) → All (EntryOk k shape c) es → Covers shape (subsets_in shape es) → Once size (cells_ofAll shape (subsets_in shape es))
+  once_each : (es : List Entry) → All (EntryOk k shape c) es → Covers shape (subsets_in shape es) → Once size (cells_of_all shape (subsets_in shape es))
   once_each es s o i h = count_all shape (subsets_in shape es) (fit_subsets es s) i h ∙ o i h
 
   -- ---- the whole way
 
-  merge_gives : (es : List Entry) → All (EntryOk k shape c) es → Once size (cells_ofAll shape (subsets_in shape es)) → (r : Lengths) → Enough (rest_form k size c) r
+  merge_gives : (es : List Entry) → All (EntryOk k shape c) es → Once size (cells_of_all shape (subsets_in shape es)) → (r : Lengths) → Enough (rest_form k size c) r
       → merge_answer k shape (joined (numbers_in es)) (chunks (subsets_in shape es)) r ≡ gives (rest_form k size c)
   unfolding merge_answer
   merge_gives es s o r e =
       let bs : List Subset = subsets_in shape es in
-      let all : List ℕ = cells_ofAll shape bs in
+      let all : List ℕ = cells_of_all shape bs in
       let fit : All (SubsetOk shape) bs = fit_subsets es s in
       let cs : List (Cell d) = map resting (gather (null_cell k) own all) in
       let o' : AtMostOnce all = λ i h. le_of_eq (o i h) in
@@ -205,7 +205,7 @@ module _ (k : Kind) (shape : List ℕ) (c : Content) (v : Valid k shape c) where
       pass 1 (kind_test_lem k v.kind) (pass 2 (shape_test_lem shape v.shaped) (pass 3 (many_test_lem shape (joined (numbers_in es)) (many es s))
       (ap (λ (bs' : List Subset). and_then (chunk_cells k bs' (chunks bs)) (λ xs.
       unless (size_test (length (joined (leaves d xs)))) 5
-      (unless (once_test size (cells_ofAll shape bs')) 12 (unless (enough_test (merge_of k shape bs' xs) r) 6 (gives (merge_of k shape bs' xs)))))) (subsets_are es s)
+      (unless (once_test size (cells_of_all shape bs')) 12 (unless (enough_test (merge_of k shape bs' xs) r) 6 (gives (merge_of k shape bs' xs)))))) (subsets_are es s)
       ∙ ap (λ (a : Answer (List (Cell d))). and_then a (λ xs.
       unless (size_test (length (joined (leaves d xs)))) 5 (unless (once_test size all) 12 (unless (enough_test (merge_of k shape bs xs) r) 6 (gives (merge_of k shape bs xs)))))) (chunk_cells_lem bs fit o')
       ∙ pass 5 (size_test_lem (length (joined (leaves d cs))) g.small) (pass 12 (once_test_lem size all o)
@@ -216,7 +216,7 @@ module _ (k : Kind) (shape : List ℕ) (c : Content) (v : Valid k shape c) where
       → whole_way k shape c es out ≡ gives (whole (rest_form k size c))
   unfolding merged
   whole_way_lem es s o out e =
-      let once : Once size (cells_ofAll shape (subsets_in shape es)) = once_each es s o in
+      let once : Once size (cells_of_all shape (subsets_in shape es)) = once_each es s o in
       ap (λ (a : Answer Content). and_then a (λ all. taken (merged k shape (joined (numbers_in es)) all out))) (each_way_lem es s (λ i h. le_of_eq (once i h)))
       ∙ taken_content (merge_answer k shape (joined (numbers_in es)) (chunks (subsets_in shape es)) (lengths_of out)) out
       ∙ ap (λ (a : Answer Content). and_then a (λ x. gives (whole x))) (merge_gives es s once (lengths_of out) e)
@@ -226,13 +226,13 @@ module _ (k : Kind) (shape : List ℕ) (c : Content) (v : Valid k shape c) where
   good_outcome : Good k size (map resting own)
   good_outcome = good_rest k size own good_own
 
-  pub cut_gives : (Q : List ℕ) → NumbersOk shape Q → (r : Lengths) → Enough (rest_ofCut k shape c Q) r
-      → extract_answer k shape Q (rest_form k size c) r ≡ gives (rest_ofCut k shape c Q)
+  pub cut_gives : (Q : List ℕ) → NumbersOk shape Q → (r : Lengths) → Enough (rest_of_cut k shape c Q) r
+      → extract_answer k shape Q (rest_form k size c) r ≡ gives (rest_of_cut k shape c Q)
   cut_gives Q p r e =
       let q : Subset = subset_of sides Q in
-      let same : cut_of k shape (rest_form k size c) q ≡ rest_ofCut k shape c Q =
+      let same : cut_of k shape (rest_form k size c) q ≡ rest_of_cut k shape c Q =
       ap (λ (ys : List (Cell d)). layout k.form d (gather (null_cell k) ys (cells_in shape q))) (cells_layout k size (map resting own) good_outcome.counted good_outcome.sized)
-      ∙ ap (layout k.form d) (sym (gather_rest (cells_in shape q))) ∙ sym (rest_of_cut Q p) in
+      ∙ ap (layout k.form d) (sym (gather_rest (cells_in shape q))) ∙ sym (rest_of_cut_lem Q p) in
       extract_gives k shape (rest_form k size c) (valid_layout k v.kind shape v.shaped (map resting own) good_outcome) Q p r
       (subst (λ (x : Content). Enough x r) (sym same) e)
       ∙ ap gives same

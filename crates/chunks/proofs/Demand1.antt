@@ -31,7 +31,7 @@ use Rattle.table.proofs.Refusals as table
 use Rattle.chunks.specs.Chunks.{later_chunks}
 use Rattle.chunks.specs.Calls.{extract_answer, extracted, merge_answer, merged, partial_answer, partially_decoded}
 use Rattle.chunks.specs.Refusals.{chunk_rules}
-use Rattle.chunks.specs.Demand1.{decode_numbers, interleaved_numbers, merge_numbers, listed, Answered, Demand1}
+use Rattle.chunks.specs.Demand1.{encode_numbers, decode_numbers, interleaved_numbers, encode_interleaved_numbers, extract_numbers, merge_numbers, partial_numbers, reverse_numbers, subset_numbers, generate_numbers, make_table_numbers, read_table_numbers, set_cell_numbers, pack_cells_numbers, listed, Answered, Demand1}
 use Rattle.chunks.proofs.Refusals as chunks
 
 -- ---- the numbers of rules stand in the list
@@ -118,22 +118,22 @@ module _ {rs : List Rule} (ns : List ℕ) where
 pub demand1 : Demand1
 unfolding encoded decoded interleaved_decoded interleaved_encoded extracted merged partially_decoded endianness_reversed subset_cells generated made read_out cell_set cells_packed
 demand1 = record {
-  encode = λ k shape c out. list_answered _ (encode_answer k shape c (length out)) out ((codec.refusals).encode k shape c out) refl;
-  decode = λ k shape s out. content_answered _ (decode_answer k shape s (lengths_of out)) out ((codec.refusals).decode k shape s out)
+  encode = λ k shape c out. list_answered encode_numbers (encode_answer k shape c (length out)) out ((codec.refusals).encode k shape c out) refl;
+  decode = λ k shape s out. content_answered decode_numbers (decode_answer k shape s (lengths_of out)) out ((codec.refusals).decode k shape s out)
       (numbered_append decode_numbers (frame_rules k.masks k.form k.depth s (volume shape)) _ (frame_numbered k.masks k.form k.depth s (volume shape)) refl);
-  decode_interleaved = λ n s out. ragged_answered _ (interleaved_answer n s (ragged_lengths_of out)) out ((codec.refusals).decode_interleaved n s out)
+  decode_interleaved = λ n s out. ragged_answered interleaved_numbers (interleaved_answer n s (ragged_lengths_of out)) out ((codec.refusals).decode_interleaved n s out)
       (numbered_append interleaved_numbers (cell_rules n (drop 4 s)) _ (cell_numbered n (drop 4 s)) refl);
-  encode_interleaved = λ k shape c out. list_answered _ (encode_interleaved_answer k shape c (length out)) out ((codec.refusals).encode_interleaved k shape c out) refl;
-  extract = λ k shape ns c out. content_answered _ (extract_answer k shape ns c (lengths_of out)) out ((chunks.refusals).extract k shape ns c out) refl;
-  merge = λ k shape ns c out. content_answered _ (merge_answer k shape ns c (lengths_of out)) out ((chunks.refusals).merge k shape ns c out)
+  encode_interleaved = λ k shape c out. list_answered encode_interleaved_numbers (encode_interleaved_answer k shape c (length out)) out ((codec.refusals).encode_interleaved k shape c out) refl;
+  extract = λ k shape ns c out. content_answered extract_numbers (extract_answer k shape ns c (lengths_of out)) out ((chunks.refusals).extract k shape ns c out) refl;
+  merge = λ k shape ns c out. content_answered merge_numbers (merge_answer k shape ns c (lengths_of out)) out ((chunks.refusals).merge k shape ns c out)
       (numbered_append merge_numbers (chunk_rules k (subsets_of (length shape) ns) c) _ (chunk_numbered k (subsets_of (length shape) ns) c) refl);
-  partial_decode = λ w p shape ns s out. ragged_answered _ (partial_answer w p shape ns s (ragged_lengths_of out)) out ((chunks.refusals).partial_decode w p shape ns s out) refl;
-  reverse_endianness = λ k s. reverse-answered _ (reverse_answer k s) k s ((array.refusals).reverse_endianness k s) refl;
-  subset_cells_call = λ shape ns out. list_answered _ (cells_answer shape ns (length out)) out ((array.refusals).subset_cells_call shape ns out) refl;
-  generate = λ k shape s out. content_answered _ (generate_answer k shape s (lengths_of out)) out ((load.refusals).generate k shape s out) refl;
-  make_table = λ k n c out. table-answered _ (make_answer k n c out) out ((table.refusals).make k n c out) refl;
-  read_table = λ k n t out. content_answered _ (read_answer k n t (lengths_of out)) out ((table.refusals).read k n t out) refl;
-  set_cell = λ k n t c ms v. place_answered _ (λ u. tt) (set_answer k n t c ms v) t ((table.refusals).set k n t c ms v) refl;
-  preview_cell = λ k n t c ms v. answer_answered _ (previewed k n t c ms v) ((table.refusals).preview k n t c ms v) refl;
-  pack_cells = λ k n t most. place_answered _ (λ u. length (moved_cells most n t)) (pack_answer k n t most) t ((table.refusals).pack k n t most) refl;
+  partial_decode = λ w p shape ns s out. ragged_answered partial_numbers (partial_answer w p shape ns s (ragged_lengths_of out)) out ((chunks.refusals).partial_decode w p shape ns s out) refl;
+  reverse_endianness = λ k s. reverse-answered reverse_numbers (reverse_answer k s) k s ((array.refusals).reverse_endianness k s) refl;
+  subset_cells_call = λ shape ns out. list_answered subset_numbers (cells_answer shape ns (length out)) out ((array.refusals).subset_cells_call shape ns out) refl;
+  generate = λ k shape s out. content_answered generate_numbers (generate_answer k shape s (lengths_of out)) out ((load.refusals).generate k shape s out) refl;
+  make_table = λ k n c out. table-answered make_table_numbers (make_answer k n c out) out ((table.refusals).make k n c out) refl;
+  read_table = λ k n t out. content_answered read_table_numbers (read_answer k n t (lengths_of out)) out ((table.refusals).read k n t out) refl;
+  set_cell = λ k n t c ms v. place_answered set_cell_numbers (λ u. tt) (set_answer k n t c ms v) t ((table.refusals).set k n t c ms v) refl;
+  preview_cell = λ k n t c ms v. answer_answered set_cell_numbers (previewed k n t c ms v) ((table.refusals).preview k n t c ms v) refl;
+  pack_cells = λ k n t most. place_answered pack_cells_numbers (λ u. length (moved_cells most n t)) (pack_answer k n t most) t ((table.refusals).pack k n t most) refl;
 }

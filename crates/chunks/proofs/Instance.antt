@@ -120,15 +120,15 @@ empty_cut =
 
 -- the first of the two cells of the 34 bytes
 
-abbrev first_ofTwo : List ℕ
-first_ofTwo = 0 ∷ 1 ∷ []
+abbrev first_of_two : List ℕ
+first_of_two = 0 ∷ 1 ∷ []
 
 long_enough : LongEnough 8 at_start (2 ∷ []) bytes34 (lent 0 2 3)
 unfolding most_bytes most_cells unle get_ragged get_values read_frame read_in decode_answer decoded
 long_enough e = let never : ◌≡◌ {A = ℕ} 0 1 = cc in omega arith
 
-pub first_cell : partially_decoded 8 at_start (2 ∷ []) first_ofTwo bytes34 (lent_ragged 3 3) ≡ without_masks (read_then_cut 8 at_start (2 ∷ []) bytes34 first_ofTwo (lent 0 2 3) (lent 0 3 3))
-first_cell = (partial_decode 8 at_start (inr refl) (2 ∷ []) bytes34 (lent 0 2 3) long_enough first_ofTwo (lent 0 3 3)).else_equal (λ sh. record { counted = refl; fits = omega arith })
+pub first_cell : partially_decoded 8 at_start (2 ∷ []) first_of_two bytes34 (lent_ragged 3 3) ≡ without_masks (read_then_cut 8 at_start (2 ∷ []) bytes34 first_of_two (lent 0 2 3) (lent 0 3 3))
+first_cell = (partial_decode 8 at_start (inr refl) (2 ∷ []) bytes34 (lent 0 2 3) long_enough first_of_two (lent 0 3 3)).else_equal (λ sh. record { counted = refl; fits = omega arith })
 
 -- one cell in the older form: written, and read again
 

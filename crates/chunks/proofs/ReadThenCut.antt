@@ -23,7 +23,7 @@ use Rattle.codec.proofs.Flat.{flat_read}
 use Rattle.chunks.specs.Cut.{cut_of}
 use Rattle.chunks.specs.Calls.{extract_answer, extracted, partially_decoded}
 use Rattle.chunks.specs.ReadThenCut.{ragged_of, without_masks, next_call, flat, read_then_cut, LongEnough, PartialDecode}
-use Rattle.chunks.proofs.Refusals.{cut_orSix, subset_first}
+use Rattle.chunks.proofs.Refusals.{cut_or_six, subset_first}
 
 module _ (w : ℕ) (p : Place) (ok : FormOk (ragged w p)) (shape ns s : List ℕ) (read out : Content) where
   abbrev kind : Kind
@@ -37,7 +37,7 @@ module _ (w : ℕ) (p : Place) (ok : FormOk (ragged w p)) (shape ns s : List ℕ
 
   -- partial_decode and decode by what their tests say and what is read
   abbrev given : RaggedContent → Answer RaggedContent
-  given x = cut_orSix w p shape ns s (ragged_of out) x
+  given x = cut_or_six w p shape ns s (ragged_of out) x
 
   partial_is : (a b : Bool) (g : Answer RaggedContent) → shape_test shape ≡ a → numbers_test shape ns ≡ b → stored ≡ g
       → partially_decoded w p shape ns s (ragged_of out) ≡ ragged_outcome (unless a 2 (unless b 3 (and_then g given))) (ragged_of out)

@@ -11,7 +11,7 @@ use Rattle.array.specs.Lists.{joined}
 use Rattle.array.specs.Answer.{Answer, gives, unless, and_then}
 use Rattle.array.specs.Kind.{Kind, Place}
 use Rattle.array.specs.Shape.{volume, shape_test}
-use Rattle.array.specs.Subset.{Subset, lengths, subsets_of, numbers_test, cells_ofAll}
+use Rattle.array.specs.Subset.{Subset, lengths, subsets_of, numbers_test, cells_of_all}
 use Rattle.array.specs.Content.{Content, RaggedContent, cells_of, leaves}
 use Rattle.array.specs.Buffers.{RaggedLengths, lengths_of, ragged_lengths_of, ragged_enough_test}
 use Rattle.array.specs.Refusals.{InOrder, success}
@@ -57,11 +57,11 @@ module _ (w : ℕ) (p : Place) (shape ns s : List ℕ) (out : RaggedContent) whe
   abbrev room : RaggedLengths
   room = ragged_lengths_of out
 
-  abbrev pub cut_orSix : RaggedContent → Answer RaggedContent
-  cut_orSix x = unless (ragged_enough_test (ragged_cut w p shape ns x) room) 6 (gives (ragged_cut w p shape ns x))
+  abbrev pub cut_or_six : RaggedContent → Answer RaggedContent
+  cut_or_six x = unless (ragged_enough_test (ragged_cut w p shape ns x) room) 6 (gives (ragged_cut w p shape ns x))
 
   pub subset_first : (b : Bool) → numbers_test shape ns ≡ b
-      → partial_answer w p shape ns s room ≡ unless (shape_test shape) 2 (unless b 3 (and_then (get_ragged w p s (volume shape)) cut_orSix))
+      → partial_answer w p shape ns s room ≡ unless (shape_test shape) 2 (unless b 3 (and_then (get_ragged w p s (volume shape)) cut_or_six))
   unfolding partial_answer
   subset_first true e = rw e
   subset_first false e = rw e
@@ -87,7 +87,7 @@ refusals = record {
       (stage 6 (enough_test_lem _ (lengths_of out)) (enough_ok _ (lengths_of out)) success)))));
   merge = λ k shape ns c out.
       let bs : List Subset = subsets_of (length shape) ns in
-      let all : List ℕ = cells_ofAll shape bs in
+      let all : List ℕ = cells_of_all shape bs in
       named lengths_of
       (stage 1 (kind_test_lem k) (kind_ok k)
       (stage 2 (shape_test_lem shape) (shape_ok shape)

@@ -1,12 +1,12 @@
 -- docs/SPEC.md, S3.9, S6.5 to S6.7, S7.2: extract, merge and partial_decode, their answers, refusals in order, and what is left in the outputs.
 -- Assumes nothing.
 use Rattle.std.specs.Prelude.{ℕ, List, length}
-use Rattle.array.specs.Answer.{Answer, gives, unless, and_then, Outcome}
+use Rattle.array.specs.Answer.{Answer, unless, and_then, Outcome}
 use Rattle.array.specs.Lists.{joined}
 use Rattle.array.specs.Kind.{Kind, Place, ragged, byte_kind}
 use Rattle.array.specs.Shape.{volume, shape_test}
 use Rattle.array.specs.Kind.{kind_test}
-use Rattle.array.specs.Subset.{subset_of, subsets_of, numbers_test, many_test, cells_ofAll}
+use Rattle.array.specs.Subset.{subset_of, subsets_of, numbers_test, many_test, cells_of_all}
 use Rattle.array.specs.Content.{Content, RaggedContent, unmasked, leaves, size_test, unless_kept}
 use Rattle.array.specs.Buffers.{Lengths, RaggedLengths, lengths_of, ragged_lengths_of, enough_test, ragged_enough_test, ragged_outcome, content_outcome, if_room}
 use Rattle.codec.specs.Ragged.{get_ragged}
@@ -41,7 +41,7 @@ merge_answer k shape ns c room =
     (unless (many_test shape ns) 3
     (and_then (chunk_cells k bs c) (λ cs.
     unless (size_test (length (joined (leaves k.depth cs)))) 5
-    (unless (once_test (volume shape) (cells_ofAll shape bs)) 12
+    (unless (once_test (volume shape) (cells_of_all shape bs)) 12
     (if_room (enough_test (merge_of k shape bs cs) room) (merge_of k shape bs cs)))))))
 
 unfoldable pub merged : Kind → List ℕ → List ℕ → Content → Content → Outcome Lengths Content

@@ -5,7 +5,7 @@ use Rattle.std.specs.Prelude.{ℕ, suc, ◌*◌, ◌≡◌, Bool, ◌&&◌, List
 use Rattle.array.specs.Answer.{Answer, gives, unless, and_then}
 use Rattle.array.specs.Kind.{Kind, Form, fixed, ragged}
 use Rattle.array.specs.Shape.{volume}
-use Rattle.array.specs.Subset.{Subset, lengths, cells_ofAll}
+use Rattle.array.specs.Subset.{Subset, lengths, cells_of_all}
 use Rattle.array.specs.Offsets.{last}
 use Rattle.array.specs.Cells.{Cell}
 use Rattle.array.specs.Content.{Content, layout, cells_of, array_test, null_cell}
@@ -62,4 +62,4 @@ chunk_cells k (b ∷ bs) c =
 
 -- the chunks' cells, each in its place of the shape
 abbrev pub merge_of : (k : Kind) → List ℕ → List Subset → List (Cell k.depth) → Content
-merge_of k shape bs cs = layout k.form k.depth (put_back (null_cell k) (volume shape) (cells_ofAll shape bs) cs)
+merge_of k shape bs cs = layout k.form k.depth (put_back (null_cell k) (volume shape) (cells_of_all shape bs) cs)

@@ -33,8 +33,8 @@ module _ (k : Kind) (shape : List ℕ) (A : Content) where
   abbrev pub cut_from : List ℕ → Content
   cut_from Q = cut_of k shape A (subset_of (length shape) Q)
 
-  abbrev pub rest_ofCut : List ℕ → Content
-  rest_ofCut Q = rest_form k (volume (shape_of shape Q)) (cut_from Q)
+  abbrev pub rest_of_cut : List ℕ → Content
+  rest_of_cut Q = rest_form k (volume (shape_of shape Q)) (cut_from Q)
 
   -- cut from A; the cut as it came written, with A's kind and the subset's lengths as shape; exactly these bytes read
   abbrev pub one_way : Entry → Answer Content
@@ -59,7 +59,7 @@ module _ (k : Kind) (shape : List ℕ) (A : Content) where
     pub full : All (λ n. 1 ≤ n) (shape_of shape e.subset)
     pub cut_enough : Enough (cut_from e.subset) (lengths_of e.cut)
     pub stored_enough : length (stored_form k (volume (shape_of shape e.subset)) (cut_from e.subset)) ≤ length e.stored
-    pub back_enough : Enough (rest_ofCut e.subset) (lengths_of e.back)
+    pub back_enough : Enough (rest_of_cut e.subset) (lengths_of e.back)
 
 -- each cell of the shape lies in exactly one of the subsets
 abbrev pub Covers : List ℕ → List Subset → Type 0
@@ -76,5 +76,5 @@ Demand3 =
     → (es : List Entry) → All (EntryOk k shape A) es → Covers shape (subsets_in shape es)
     → (out : Content) → Enough (rest_form k (volume shape) A) (lengths_of out)
     → (whole_way k shape A es out ≡ gives (whole (rest_form k (volume shape) A)))
-    × ((Q : List ℕ) → NumbersOk shape Q → (outQ : Content) → Enough (rest_ofCut k shape A Q) (lengths_of outQ)
-    → and_then (whole_way k shape A es out) (λ m. taken (extracted k shape Q m.content outQ)) ≡ gives (whole (rest_ofCut k shape A Q)))
+    × ((Q : List ℕ) → NumbersOk shape Q → (outQ : Content) → Enough (rest_of_cut k shape A Q) (lengths_of outQ)
+    → and_then (whole_way k shape A es out) (λ m. taken (extracted k shape Q m.content outQ)) ≡ gives (whole (rest_of_cut k shape A Q)))

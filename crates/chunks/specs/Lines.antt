@@ -5,7 +5,7 @@
 use Rattle.std.specs.Prelude.{ℕ, ◌≡◌, List, [], ◌∷◌, ◌++◌, replicate, take}
 use Rattle.array.specs.Answer.{gives, refuses, Outcome}
 use Rattle.array.specs.Kind.{Kind, byte_kind, as_bits, fixed, ragged, little, big, at_start, at_end}
-use Rattle.array.specs.Content.{Content, RaggedContent, cells_of}
+use Rattle.array.specs.Content.{Content, RaggedContent}
 use Rattle.array.specs.Buffers.{Lengths, RaggedLengths}
 use Rattle.array.specs.Calls.{endianness_reversed, subset_cells}
 use Rattle.codec.specs.Calls.{encoded, decoded, interleaved_decoded, interleaved_encoded}

@@ -6,7 +6,7 @@ use Rattle.array.specs.Limits.{most_bytes}
 use Rattle.array.specs.Lists.{joined}
 use Rattle.array.specs.Kind.{Kind, KindOk, Place}
 use Rattle.array.specs.Shape.{volume, ShapeOk}
-use Rattle.array.specs.Subset.{Subset, lengths, subset_of, subsets_of, NumbersOk, ManyOk, cells_ofAll}
+use Rattle.array.specs.Subset.{Subset, lengths, subset_of, subsets_of, NumbersOk, ManyOk, cells_of_all}
 use Rattle.array.specs.Content.{Content, RaggedContent, ArrayOk, leaves}
 use Rattle.array.specs.Buffers.{lengths_of, ragged_lengths_of, Enough, RaggedEnough}
 use Rattle.array.specs.Refusals.{Rule, InOrder, Given}
@@ -36,7 +36,7 @@ merge_rules k shape ns c out =
     (1, KindOk k) ∷ (2, ShapeOk shape) ∷ (3, ManyOk shape ns)
     ∷ (chunk_rules k bs c
     ++ (5, Given (chunk_cells k bs c) (λ cs. length (joined (leaves k.depth cs)) ≤ most_bytes))
-    ∷ (12, Once (volume shape) (cells_ofAll shape bs))
+    ∷ (12, Once (volume shape) (cells_of_all shape bs))
     ∷ (6, Given (chunk_cells k bs c) (λ cs. Enough (merge_of k shape bs cs) (lengths_of out))) ∷ [])
 
 -- 3 before any stored byte

@@ -1,1 +1,2 @@
 // Layer 3: cutting and merging.
+#![tactic(auto)]

@@ -7,7 +7,7 @@ use lib.ListN.{length}
 use Rattle.array.specs.Answer.{Answer, gives, refuses, and_then}
 use Rattle.array.specs.Kind.{Place, ragged, byte_kind}
 use Rattle.array.specs.Offsets.{last, Rising, slices}
-use Rattle.array.specs.Content.{RaggedContent, end_toEnd, unmasked, layout}
+use Rattle.array.specs.Content.{RaggedContent, end_to_end, unmasked, layout}
 use Rattle.array.proofs.Offsets.{joined-slices_all, offsets_slices_all}
 use Rattle.array.proofs.Inverse.{layout_cells}
 use Rattle.codec.specs.Mask.{MaskForm}
@@ -19,7 +19,7 @@ use Rattle.codec.proofs.Accepted.{read_content}
 
 -- the values between offsets that begin at 0 have these offsets
 pub again : (c : RaggedContent) {n : ℕ} → length c.offsets ≡ suc n → Rising c.offsets → last c.offsets ≡ length c.values
-    → end_toEnd (slices c.offsets c.values) ≡ c
+    → end_to_end (slices c.offsets c.values) ≡ c
 again c {n} e r l =
     let pair : List ℕ → List ℕ → RaggedContent = λ vs os. record { values = vs; offsets = os } in
     ap₂ pair (joined-slices_all n c.offsets c.values e r l) (offsets_slices_all n c.offsets c.values e r l)

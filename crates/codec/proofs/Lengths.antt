@@ -18,7 +18,7 @@ use Rattle.array.proofs.LayoutLaws.{length-mask_of, cells_sized}
 use Rattle.codec.specs.Mask.{MaskForm, mask_form}
 use Rattle.codec.specs.Frame.{keep_one, keep, unless_none, frame, live}
 use Rattle.codec.specs.Values.{put_values}
-use Rattle.codec.specs.Length.{length_orNone, frame_length, written_length}
+use Rattle.codec.specs.Length.{length_or_none, frame_length, written_length}
 use Rattle.codec.specs.Calls.{stored_form}
 use Rattle.codec.proofs.Frames.{length-keep-le, All-keep, length-wrap}
 use Rattle.codec.proofs.Masks.{mask_laws}
@@ -35,7 +35,7 @@ frame-length mf lm f (suc d) cs s =
     ∙ ap₂ (λ (a b : ℕ). 16 + a + b) (lm (mask_of cs) ∙ ap mf.size (length-mask_of cs)) (inner (keep cs) (frame-length mf lm f d (keep cs)) (All-keep (λ c. OfSize f (leaf d c)) cs s))
   where
     inner : (ks : List (Cell d)) → (All (λ c. OfSize f (leaf d c)) ks → length (frame mf (put_values f) d ks) ≡ frame_length mf f d ks) → All (λ c. OfSize f (leaf d c)) ks
-        → length (unless_none (frame mf (put_values f) d) ks) ≡ length_orNone (frame_length mf f d) ks
+        → length (unless_none (frame mf (put_values f) d) ks) ≡ length_or_none (frame_length mf f d) ks
     inner [] ih t = refl
     inner (k ∷ ks) ih t = ih t
 

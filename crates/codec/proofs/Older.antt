@@ -15,7 +15,7 @@ use Rattle.array.specs.Bytes.{le, unle}
 use Rattle.array.specs.Kind.{Kind}
 use Rattle.array.specs.Shape.{volume}
 use Rattle.array.specs.Cells.{Value}
-use Rattle.array.specs.Content.{RaggedContent, end_toEnd, values_in, size_test}
+use Rattle.array.specs.Content.{RaggedContent, end_to_end, values_in, size_test}
 use Rattle.array.specs.Buffers.{RaggedLengths, ragged_lengths_of, RaggedEnough, ragged_enough_test, list_outcome, ragged_outcome}
 use Rattle.array.proofs.Answers.{pass}
 use Rattle.array.proofs.Bytes.{length-le, unle-le}
@@ -71,8 +71,8 @@ fields_fit m [] h = tt
 fields_fit m (v ∷ vs) h = (omega (arith, length-append v (joined vs)), fields_fit m vs (omega (arith, length-append v (joined vs))))
 
 -- over the reading call
-pub older_reads : (vs : List Value) → length vs ≤ most_cells → All FieldFits vs → length (joined vs) ≤ most_bytes → (r : RaggedLengths) → RaggedEnough (end_toEnd vs) r
-    → interleaved_answer (length vs) (put_interleaved vs) r ≡ gives (end_toEnd vs)
+pub older_reads : (vs : List Value) → length vs ≤ most_cells → All FieldFits vs → length (joined vs) ≤ most_bytes → (r : RaggedLengths) → RaggedEnough (end_to_end vs) r
+    → interleaved_answer (length vs) (put_interleaved vs) r ≡ gives (end_to_end vs)
 unfolding interleaved_answer put_interleaved most_cells
 older_reads vs few fit small r e =
     let field : List ℕ = le 4 (length vs) in
@@ -80,9 +80,9 @@ older_reads vs few fit small r e =
     pass 2 (le-leb (length vs) most_cells few)
     (pass 7 (le-leb (4 * suc (length vs)) (length (field ++ put_cells vs)) (omega (arith, length-append field (put_cells vs), length_cells vs)))
     (pass 9 (eq-eqb (unle (take 4 (field ++ put_cells vs))) (length vs) (ap unle (take_at field (put_cells vs) 4 lf) ∙ unle-le 4 (length vs) (omega arith)))
-    (ap (λ (a : Answer (List Value)). and_then a (λ us. unless (size_test (length (joined us))) 5 (unless (ragged_enough_test (end_toEnd us) r) 6 (gives (end_toEnd us)))))
+    (ap (λ (a : Answer (List Value)). and_then a (λ us. unless (size_test (length (joined us))) 5 (unless (ragged_enough_test (end_to_end us) r) 6 (gives (end_to_end us)))))
     (ap (interleaved_cells (length vs)) (drop_at field (put_cells vs) 4 lf) ∙ cells_back vs fit)
-    ∙ pass 5 (size_test_lem (length (joined vs)) small) (pass 6 (ragged_enough_test_lem (end_toEnd vs) r e) refl))))
+    ∙ pass 5 (size_test_lem (length (joined vs)) small) (pass 6 (ragged_enough_test_lem (end_to_end vs) r e) refl))))
 
 -- within the limits each length fits its field
 small_fits : (vs : List Value) → length (joined vs) ≤ most_bytes → All FieldFits vs
@@ -97,7 +97,7 @@ older_returns x w p shape A v out ho back hb =
     let vs : List Value = values_in k.form n A in
     let lv : length vs ≡ n = values_length_lem k.form n A v.content.fits.values_fit in
     let total : length (joined vs) ≤ most_bytes = le_trans (values_total k.form n A v.content.fits.values_fit) v.small in
-    let same : end_toEnd vs ≡ rest_ragged k shape A = ap end_toEnd (sym (map_id vs) ∙ ap (map (λ (u : Value). u)) (sym (map_id vs))) in
+    let same : end_to_end vs ≡ rest_ragged k shape A = ap end_to_end (sym (map_id vs) ∙ ap (map (λ (u : Value). u)) (sym (map_id vs))) in
     record {
       writes = ap (λ (a : Answer (List ℕ)). list_outcome a out)
           (pass 1 (both (both (kind_test_lem k v.kind) refl) refl) (pass 2 (shape_test_lem shape v.shaped) (rest_passes k n A v.content v.small

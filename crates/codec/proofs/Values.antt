@@ -16,7 +16,7 @@ use Rattle.array.specs.Bytes.{le}
 use Rattle.array.specs.Kind.{Place, Form, fixed, ragged, FormOk, Order, little, big, ordered}
 use Rattle.array.specs.Offsets.{slices}
 use Rattle.array.specs.Cells.{Value}
-use Rattle.array.specs.Content.{RaggedContent, end_toEnd}
+use Rattle.array.specs.Content.{RaggedContent, end_to_end}
 use Rattle.array.proofs.Bytes.{length-le}
 use Rattle.array.proofs.Lists.{Sized, All-map, All-image, length-joined, pieces-joined}
 use Rattle.array.proofs.Offsets.{length-ends, rising_ends, last-ends, slices_offsets}
@@ -50,9 +50,9 @@ fits_width w (inr e) = rw e (lit< tt)
 
 -- the ragged content of values that lie end to end from offset 0
 pub back_offsets : (w : ℕ) (p : Place) → (w ≡ 4) ⊎ (w ≡ 8) → (vs : List Value) → length (joined vs) ≤ most_bytes
-    → length (put_ragged w p (end_toEnd vs)) < 256 ^ 8 → get_ragged w p (put_ragged w p (end_toEnd vs)) (length vs) ≡ gives (end_toEnd vs)
+    → length (put_ragged w p (end_to_end vs)) < 256 ^ 8 → get_ragged w p (put_ragged w p (end_to_end vs)) (length vs) ≡ gives (end_to_end vs)
 back_offsets w p ok vs g h =
-    back_ragged w p (end_toEnd vs) (length vs) (fits_width w ok) (ap suc (length-ends 0 vs)) (refl, rising_ends 0 vs)
+    back_ragged w p (end_to_end vs) (length vs) (fits_width w ok) (ap suc (length-ends 0 vs)) (refl, rising_ends 0 vs)
     (last-ends 0 vs ∙ zero-add (length (joined vs))) g h
 
 pub back_values : (f : Form) → FormOk f → (vs : List Value) → SizedAs f vs × (length (joined vs) ≤ most_bytes)
@@ -85,7 +85,7 @@ ragged_length_lem w p c n e =
 pub values_length_lem : (f : Form) (vs : List Value) → SizedAs f vs → length (put_values f vs) ≡ values_length f vs
 unfolding put_values
 values_length_lem (fixed k o) vs s = length-joined-ordered o vs ∙ length-joined k vs s
-values_length_lem (ragged w p) vs s = ragged_length_lem w p (end_toEnd vs) (length vs) (ap suc (length-ends 0 vs))
+values_length_lem (ragged w p) vs s = ragged_length_lem w p (end_to_end vs) (length vs) (ap suc (length-ends 0 vs))
 
 pub width_le : (w m : ℕ) → (w ≡ 4) ⊎ (w ≡ 8) → w * m ≤ 8 * m
 width_le w m (inl e) = rw e (omega arith)
@@ -94,4 +94,4 @@ width_le w m (inr e) = rw e (omega arith)
 pub length-put_values : (f : Form) → FormOk f → (vs : List Value) → length (put_values f vs) ≤ 8 + 8 * suc (length vs) + length (joined vs)
 unfolding put_values
 length-put_values (fixed k o) ok vs = omega (arith, length-joined-ordered o vs)
-length-put_values (ragged w p) ok vs = omega (arith, ragged_length_lem w p (end_toEnd vs) (length vs) (ap suc (length-ends 0 vs)), width_le w (suc (length vs)) ok)
+length-put_values (ragged w p) ok vs = omega (arith, ragged_length_lem w p (end_to_end vs) (length vs) (ap suc (length-ends 0 vs)), width_le w (suc (length vs)) ok)

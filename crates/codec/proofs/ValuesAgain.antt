@@ -17,7 +17,7 @@ use Rattle.array.specs.Bytes.{digits, number, AllBytes}
 use Rattle.array.specs.Kind.{Masks, as_bytes, as_bits, Form, fixed, ragged, ordered}
 use Rattle.array.specs.Offsets.{slices}
 use Rattle.array.specs.Cells.{Value, Strict, strict_test}
-use Rattle.array.specs.Content.{RaggedContent, end_toEnd, unmasked}
+use Rattle.array.specs.Content.{RaggedContent, end_to_end, unmasked}
 use Rattle.array.proofs.Answers.{passed, went_on, same_given}
 use Rattle.array.proofs.Bytes.{number_digits, digits_below}
 use Rattle.array.proofs.Lists.{All-map, All-append, All-of, All-take, length-pieces, pieces-joined, joined-pieces, sized-pieces}
@@ -105,7 +105,7 @@ values_again (ragged w p) n s b e =
     let c : RaggedContent = g.0 in
     let us : List Value = slices c.offsets c.values in
     let ok = ragged_ok w p s n c g.1.0 in
-    let same : end_toEnd us ≡ c = again c ok.0 ok.1 ok.2 in
+    let same : end_to_end us ≡ c = again c ok.0 ok.1 ok.2 in
     subst (ValuesAgain (ragged w p) n s) (same_given g.1.1) (record {
       counted = values_length_lem (ragged w p) n (unmasked c) (ok.0, ok.1, ok.2);
       fit = (All-of (OfSize (ragged w p)) (λ v. tt) us, omega (arith, ap (λ (x : RaggedContent). length x.values) same, ok.3));

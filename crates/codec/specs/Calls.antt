@@ -7,7 +7,7 @@ use Rattle.array.specs.Lists.{joined}
 use Rattle.array.specs.Bytes.{unle}
 use Rattle.array.specs.Kind.{Kind, Form, null_of, kind_test}
 use Rattle.array.specs.Shape.{volume, shape_test}
-use Rattle.array.specs.Content.{Content, RaggedContent, end_toEnd, layout, cells_of, values_in, size_test, unless_kept}
+use Rattle.array.specs.Content.{Content, RaggedContent, end_to_end, layout, cells_of, values_in, size_test, unless_kept}
 use Rattle.array.specs.Buffers.{Lengths, RaggedLengths, lengths_of, ragged_lengths_of, enough_test, ragged_enough_test, list_outcome, ragged_outcome, content_outcome, if_room}
 use Rattle.codec.specs.Mask.{MaskForm, mask_form}
 use Rattle.codec.specs.Frame.{frame, read_frame}
@@ -58,7 +58,7 @@ interleaved_answer n s room =
     (unless (leb (4 * suc n) (length s)) 7
     (unless (eqb (unle (take 4 s)) n) 9
     (and_then (interleaved_cells n (drop 4 s)) (λ vs.
-    let c : RaggedContent = end_toEnd vs in
+    let c : RaggedContent = end_to_end vs in
     unless (size_test (length (joined vs))) 5
     (if_room (ragged_enough_test c room) c)))))
 

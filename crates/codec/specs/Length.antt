@@ -17,13 +17,13 @@ values_length (fixed k o) vs = length vs * k
 values_length (ragged w p) vs = ragged_length w (length vs) (length (joined vs))
 
 -- nothing where no cell is left
-abbrev pub length_orNone : {A : Type 0} → (List A → ℕ) → List A → ℕ
-length_orNone f [] = 0
-length_orNone f (x ∷ xs) = f (x ∷ xs)
+abbrev pub length_or_none : {A : Type 0} → (List A → ℕ) → List A → ℕ
+length_or_none f [] = 0
+length_or_none f (x ∷ xs) = f (x ∷ xs)
 
 unfoldable pub frame_length : MaskForm → Form → (d : ℕ) → List (Cell d) → ℕ
 frame_length mf f zero cs = values_length f cs
-frame_length mf f (suc d) cs = 16 + mf.size (length cs) + length_orNone (frame_length mf f d) (keep cs)
+frame_length mf f (suc d) cs = 16 + mf.size (length cs) + length_or_none (frame_length mf f d) (keep cs)
 
 -- the written length of an array of n cells
 abbrev pub written_length : Kind → ℕ → Content → ℕ

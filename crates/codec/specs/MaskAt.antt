@@ -1,4 +1,4 @@
--- Redundant by the law body-is in stored_frames/proofs/Reading.antt: a stored mask (S4.11 to S4.14) by its place, over its form.
+-- Redundant by the law body_is in stored_frames/proofs/Reading.antt: a stored mask (S4.11 to S4.14) by its place, over its form.
 -- Assumes nothing.
 use Rattle.std.specs.Prelude.{ℕ, List, take, drop}
 use Rattle.codec.specs.Mask.{MaskForm}

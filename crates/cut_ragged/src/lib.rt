@@ -5,7 +5,7 @@ ghost use Rattle.array.specs.Lists.{from, joined};
 ghost use Rattle.array.specs.Shape.{volume};
 ghost use Rattle.array.specs.Subset.{pairs, subset_of, cells_in};
 ghost use Rattle.array.specs.Offsets.{ends, offsets_of};
-ghost use Rattle.array.specs.Content.{end_toEnd};
+ghost use Rattle.array.specs.Content.{end_to_end};
 ghost use Rattle.array.specs.Buffers.{over, over_at};
 ghost use Rattle.array.specs.Meaning.{width_of};
 ghost use Rattle.array.specs.Outcome.{content_ragged, outcome_ragged};
@@ -172,7 +172,7 @@ pub fn cut(
 ) -> WrittenRagged
     requires { NumbersAsked shape.now subset.now count × SourceAsked source index base numbers.now bytes.now (volume shape.now) }
     ensures { outcome_ragged result values.new offsets.new
-        ≡ put_ragged (end_toEnd (source_values source index base numbers.now bytes.now
+        ≡ put_ragged (end_to_end (source_values source index base numbers.now bytes.now
         (cells_in shape.now (subset_of (length shape.now) subset.now))))
         (content_ragged values.old offsets.old) }
 {

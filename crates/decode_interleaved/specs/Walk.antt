@@ -1,4 +1,4 @@
--- Redundant by the laws all-found and past-end in decode_interleaved/proofs/Outcomes.antt: the steps of decode_interleaved (S6.4).
+-- Redundant by the laws all_found and past_end in decode_interleaved/proofs/Outcomes.antt: the steps of decode_interleaved (S6.4).
 -- The walk over the stored cells, and what becomes of the cells that it found.
 -- Assumes nothing.
 use Rattle.std.specs.Prelude.{ℕ, ◌≤◌, ◌≡◌, List, [], length, drop}
@@ -6,7 +6,7 @@ use Rattle.array.specs.Answer.{Answer, gives, refuses, unless, map_answer}
 use Rattle.array.specs.Limits.{most_cells}
 use Rattle.array.specs.Lists.{joined}
 use Rattle.array.specs.Cells.{Value}
-use Rattle.array.specs.Content.{RaggedContent, end_toEnd, size_test}
+use Rattle.array.specs.Content.{RaggedContent, end_to_end, size_test}
 use Rattle.array.specs.Buffers.{RaggedLengths, ragged_enough_test, if_room}
 use Rattle.codec.specs.Interleaved.{interleaved_cells}
 use Rattle.decode_interleaved.specs.declared.vlen_v2.Walk.{Walk}
@@ -46,4 +46,4 @@ pub record Walked (n : ℕ) (s : List ℕ) (sum : ℕ) : Type 0 where
 
 -- what becomes of the cells: 5, and last 6
 abbrev pub found_answer : List Value → RaggedLengths → Answer RaggedContent
-found_answer vs room = unless (size_test (total_of vs)) 5 (if_room (ragged_enough_test (end_toEnd vs) room) (end_toEnd vs))
+found_answer vs room = unless (size_test (total_of vs)) 5 (if_room (ragged_enough_test (end_to_end vs) room) (end_to_end vs))

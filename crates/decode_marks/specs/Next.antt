@@ -1,5 +1,5 @@
 -- Redundant by the law values_cell in decode_words/proofs/SpreadingValues.antt: one cell of a plane, by its mark (S4.8).
--- What it gets, and where the next stored one is. In words: word_left there, and pair-is in decode_cells/proofs/PairLaws.antt.
+-- What it gets, and where the next stored one is. In words: word_left there, and pair_is in decode_cells/proofs/PairLaws.antt.
 -- Assumes nothing.
 use Rattle.std.specs.Prelude.{ℕ, ◌+◌, ◌*◌, List, take, drop, replicate, ltb}
 use Rattle.array.specs.Lists.{pick}

@@ -1,4 +1,4 @@
--- Redundant by the law ends-by in decode_ragged/proofs/RaggedLaws.antt: where the cells of a plane end (S4.8, S4.9).
+-- Redundant by the law ends_by_lem in decode_ragged/proofs/RaggedLaws.antt: where the cells of a plane end (S4.8, S4.9).
 -- Assumes nothing.
 use Rattle.std.specs.Prelude.{ℕ, ◌+◌, ◌*◌, ◌≤◌, ◌≡◌, List, [], ◌∷◌, length, take, drop}
 use Rattle.array.specs.Bytes.{unle}

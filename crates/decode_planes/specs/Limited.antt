@@ -1,4 +1,4 @@
--- Redundant by the contract of `decode::decode`, decode/proofs/decode/Proof.antt: the limits of an array (S1.2, S1.3).
+-- Redundant by the contract of `decode::decode`, decode/src/lib.rt: the limits of an array (S1.2, S1.3).
 -- Assumes nothing.
 use Rattle.std.specs.Prelude.{ℕ, ◌≤◌}
 use Rattle.array.specs.Limits.{most_cells, most_depth}

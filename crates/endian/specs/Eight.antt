@@ -1,5 +1,5 @@
--- Redundant by the contract of `endian::cells::copy_block_2`, endian/proofs/cells/copy_block_2/Proof.antt: the bytes of an `Eight`, in their order.
--- In place: `endian::in_place_lem::reverse_block_2`.
+-- Redundant by the contract of `endian::cells::copy_block_2`, endian/src/cells.rt: the bytes of an `Eight`, in their order.
+-- In place: `endian::in_place::reverse_block_2`.
 -- Assumes nothing.
 use Rattle.std.specs.Prelude.{ℕ, List, [], ◌∷◌}
 use Rattle.endian.specs.declared.eight.Eight as declared

@@ -1,4 +1,4 @@
--- Redundant by the contract of `endian::reverse_endianness`, endian/proofs/reverse_endianness/Proof.antt: sizes reversed by blocks of 32 bytes.
+-- Redundant by the contract of `endian::reverse_endianness`, endian/src/lib.rt: sizes reversed by blocks of 32 bytes.
 -- Copied: `endian::cells::copy_cells_reversed`.
 -- Assumes nothing.
 use Rattle.std.specs.Prelude.{ℕ, ◌≡◌, ◌⊎◌}

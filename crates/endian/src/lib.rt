@@ -1,4 +1,6 @@
 // Cells with their bytes reversed: in place, and on the way to another slice.
+#![tactic(auto)]
+
 pub mod cells;
 pub mod eight;
 pub mod in_place;

@@ -1,4 +1,4 @@
--- Redundant by the contract of `generate::generate`, generate/proofs/generate/Proof.antt: what the code's draws mean (S12.1).
+-- Redundant by the contract of `generate::generate`, generate/src/lib.rt: what the code's draws mean (S12.1).
 -- Assumes nothing.
 use Rattle.std.specs.Prelude.{ℕ}
 use Rattle.generate.specs.declared.generator.Drawn.{Drawn}

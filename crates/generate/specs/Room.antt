@@ -1,4 +1,4 @@
--- Redundant by the contract of `generate::generate`, generate/proofs/generate/Proof.antt: places for the bytes that are drawn (S12.3).
+-- Redundant by the contract of `generate::generate`, generate/src/lib.rt: places for the bytes that are drawn (S12.3).
 -- Assumes nothing.
 use Rattle.std.specs.Prelude.{ℕ, ◌+◌, ◌*◌, ◌<◌, ◌≤◌, List, length}
 use Rattle.array.specs.Limits.{most_depth, most_size, most_cells}

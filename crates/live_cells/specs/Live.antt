@@ -1,4 +1,4 @@
--- Redundant by the law keep-at in encode/proofs/Walk.antt: the cells that a level counts (S4.7), by their numbers.
+-- Redundant by the law keep_at in encode/proofs/Walk.antt: the cells that a level counts (S4.7), by their numbers.
 -- Code that goes by places speaks of them.
 -- Assumes nothing.
 use Rattle.std.specs.Prelude.{ℕ, zero, suc, ◌-◌, ◌*◌, ◌≤◌, ◌≡◌, Bool, List, length, take, drop}

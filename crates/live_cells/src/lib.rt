@@ -1,4 +1,6 @@
 // Layer 2, the cells that a level counts: those whose masks are set at every level above it.
+#![tactic(auto)]
+
 ghost use Rattle.std.specs.Prelude.{◌≡◌, ◌+◌, ◌-◌, ◌*◌, ◌<◌, ◌≤◌, length};
 ghost use Rattle.array.specs.Limits.{most_depth};
 ghost use Rattle.array.specs.Places.{mask_at, shown_at};

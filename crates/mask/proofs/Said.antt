@@ -1,28 +1,20 @@
 -- A stored mask by its place, over its form: how long it is, and its check.
 -- Assumes nothing.
-use mathlib.Core.Path.{◌≡◌, refl, sym, ap, ap₂, ◌∙◌}
-use Prim.Native.Nat.{ℕ, zero, suc, ◌+◌, ◌*◌, ◌/◌, ◌%◌, ◌^◌, ◌<◌, ◌≤◌}
+use mathlib.Core.Path.{◌≡◌, sym, ap, ◌∙◌}
+use Prim.Native.Nat.{ℕ, ◌≤◌}
 use native.Mathlib.Omega.{arith}
 use mathlib.Core.Bool.{Bool, true, false}
-use mathlib.Core.Logic.{◌≢◌}
-use mathlib.Core.List.{List, [], ◌∷◌, ◌++◌, map}
-use lib.ListN.{length, take, drop, get_or, length-take, length-drop, drop_of_length-le, take-append-drop}
-use lib.Seq.{length-take-le, take-append-le, take-suc, get_or-drop}
-use lib.Dec.{eqb}
+use mathlib.Core.List.{List}
+use lib.ListN.{length, drop}
+use lib.Seq.{length-take-le}
 use Rattle.array.specs.Answer.{gives, refuses, unless, and_then}
 use Rattle.array.specs.Kind.{Masks, as_bytes, as_bits}
-use Rattle.array.specs.Lists.{joined, every}
-use Rattle.array.specs.Bytes.{digits}
-use Rattle.array.specs.Cells.{bit_of}
-use Rattle.array.proofs.Lists.{map-append, joined-append}
-use Rattle.array.proofs.Sums.{sum_of}
-use Rattle.codec.specs.Mask.{MaskForm, mask_form, packed_mask, bytes_for, bits_of}
-use Rattle.codec.specs.Frame.{count_set, set_bits}
-use Rattle.codec.proofs.Marks.{count-le}
-use Rattle.codec.proofs.Masks.{length_bits, packed_test, count-packed}
+use Rattle.codec.specs.Mask.{MaskForm, mask_form, bits_of}
+use Rattle.codec.specs.Frame.{count_set}
+use Rattle.codec.proofs.Masks.{length_bits}
 use Rattle.mask.specs.Marks.{counted_in}
 use Rattle.mask_bits.proofs.Said.{said_packed}
-use Rattle.codec.specs.MaskAt.{stored_mask, said_mask}
+use Rattle.codec.specs.MaskAt.{said_mask}
 
 -- a mask says as many bytes as it has cells
 pub length_said : (x : Masks) (s : List ℕ) (at n : ℕ) → (mask_form x).size n ≤ length (drop at s) → length (said_mask (mask_form x) s at n) ≡ n

@@ -1,4 +1,4 @@
--- Redundant by the law body-is in stored_frames/proofs/Reading.antt: how many cells a stored mask (S4.11 to S4.14) sets, over its form.
+-- Redundant by the law body_is in stored_frames/proofs/Reading.antt: how many cells a stored mask (S4.11 to S4.14) sets, over its form.
 -- Assumes nothing.
 use Rattle.std.specs.Prelude.{ℕ, List}
 use Rattle.array.specs.Answer.{Answer, gives, refuses, and_then}

@@ -1,4 +1,4 @@
--- Redundant by the law count-left in mask_bits/proofs/Said.antt: how many bits of bytes are set (S4.11), the sum of each byte's set bits.
+-- Redundant by the law count_left in mask_bits/proofs/Said.antt: how many bits of bytes are set (S4.11), the sum of each byte's set bits.
 -- Assumes nothing.
 use Rattle.std.specs.Prelude.{ℕ, ◌+◌, List, [], ◌∷◌}
 use Rattle.codec.specs.Frame.{set_bits}

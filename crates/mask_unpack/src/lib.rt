@@ -1,4 +1,6 @@
 // Layer 2, packed masks read into a plane: eight cells a step.
+#![tactic(auto)]
+
 ghost use Rattle.std.specs.Prelude.{◌≡◌, true, ℕ, ◌+◌, ◌*◌, ◌≤◌, ◌<◌, length, take, drop, replicate};
 ghost use Rattle.array.specs.Buffers.{over_at};
 ghost use Rattle.array.specs.Bytes.{digits, le, unle};

@@ -9,7 +9,7 @@ use Rattle.array.specs.Answer.{Answer, gives, refuses, and_then, unless, Outcome
 use Rattle.array.specs.Lists.{joined}
 use Rattle.array.specs.Kind.{Kind, kind_test}
 use Rattle.array.specs.Shape.{volume, shape_test}
-use Rattle.array.specs.Subset.{Subset, subsets_of, many_test, cells_ofAll}
+use Rattle.array.specs.Subset.{Subset, subsets_of, many_test, cells_of_all}
 use Rattle.array.specs.Cells.{Cell}
 use Rattle.array.specs.Content.{Content, leaves, size_test}
 use Rattle.array.specs.Buffers.{Lengths, lengths_of, enough_test, content_outcome}
@@ -36,7 +36,7 @@ module _ (k : Kind) (sh ns : List ℕ) (c : Content) where
     where
       -- 12, and then what is left of the call
       covering : Answer Content → Answer Content
-      covering a = unless (once_test (volume sh) (cells_ofAll sh bs)) 12 a
+      covering a = unless (once_test (volume sh) (cells_of_all sh bs)) 12 a
 
       storing : List (Cell k.depth) → Answer Content
       storing cs = unless (enough_test (merge_of k sh bs cs) room) 6 (gives (merge_of k sh bs cs))

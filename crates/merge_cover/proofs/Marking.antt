@@ -11,7 +11,7 @@ use borrow.Author.Tests.{eq-eqb, ne_eqb, eqb-true, eqb-false}
 use Rattle.array.specs.Answer.{Answer, gives, refuses, and_then}
 use Rattle.array.specs.Lists.{from, All}
 use Rattle.array.specs.Shape.{volume}
-use Rattle.array.specs.Subset.{Subset, subsets_of, pairs, cells_in, cells_ofAll}
+use Rattle.array.specs.Subset.{Subset, subsets_of, pairs, cells_in, cells_of_all}
 use Rattle.array.proofs.SubsetLaws.{all_below}
 use Rattle.subset.specs.Walk.{row_of, Left, RowAt}
 use Rattle.subset.specs.Subsets.{SubsetsOk, part, SubsetAt}
@@ -55,12 +55,12 @@ module _ {cs m₀ m : List ℕ} {cells n at : ℕ} (w : Marked cs m₀ m cells n
 
 pub record AllMarked (sh flat m : List ℕ) (at left : ℕ) : Type 0 where
   pub geo : SubsetsOk sh (drop at flat)
-  pub same : marking unmarked (cells_ofAll sh (subsets_of (length sh) flat)) ≡ marking m (cells_ofAll sh (subsets_of (length sh) (drop at flat)))
-  pub counted : length (cells_ofAll sh (subsets_of (length sh) flat)) + left ≡ volume sh + length (cells_ofAll sh (subsets_of (length sh) (drop at flat)))
+  pub same : marking unmarked (cells_of_all sh (subsets_of (length sh) flat)) ≡ marking m (cells_of_all sh (subsets_of (length sh) (drop at flat)))
+  pub counted : length (cells_of_all sh (subsets_of (length sh) flat)) + left ≡ volume sh + length (cells_of_all sh (subsets_of (length sh) (drop at flat)))
 
 module _ {sh flat : List ℕ} (q : SubsetsOk sh flat) where
   abbrev all : List ℕ
-  all = cells_ofAll sh (subsets_of (length sh) flat)
+  all = cells_of_all sh (subsets_of (length sh) flat)
 
   below : All (λ j. j < volume sh) all
   below = all_below sh (subsets_of (length sh) flat) (all_inside sh (subsets_of (length sh) flat) q.many.each)
@@ -73,8 +73,8 @@ module _ {sh flat : List ℕ} (q : SubsetsOk sh flat) where
     unfolding marking
     cover_ends h =
         let n : subsets_of (length sh) (drop at flat) ≡ [] = none_left (length sh) flat h in
-        once_marked (volume sh) all q.shaped.few_cells below m (sym (c.same ∙ ap (λ (bs : List Subset). marking m (cells_ofAll sh bs)) n))
-        ∙ none (omega (arith, c.counted, ap (λ (bs : List Subset). length (cells_ofAll sh bs)) n)) (eqb left 0) refl
+        once_marked (volume sh) all q.shaped.few_cells below m (sym (c.same ∙ ap (λ (bs : List Subset). marking m (cells_of_all sh bs)) n))
+        ∙ none (omega (arith, c.counted, ap (λ (bs : List Subset). length (cells_of_all sh bs)) n)) (eqb left 0) refl
       where
         none : length all + left ≡ volume sh → (b : Bool) → eqb left 0 ≡ b → eqb (length all) (volume sh) ≡ b
         none e true z = eq-eqb (length all) (volume sh) (omega (arith, eqb-true left 0 z))
@@ -86,16 +86,16 @@ module _ {sh flat : List ℕ} (q : SubsetsOk sh flat) where
       cs = cells_in sh (pairs (part flat at mid) (part flat mid end))
 
       abbrev later : List ℕ
-      later = cells_ofAll sh (subsets_of (length sh) (drop end flat))
+      later = cells_of_all sh (subsets_of (length sh) (drop end flat))
 
       -- the cells that are left, those of the next subset taken off
       next_left : length all + left ≡ volume sh + (cells + length later)
       next_left =
-          omega (arith, c.counted, ap (λ (bs : List Subset). length (cells_ofAll sh bs)) t.next, length-append cs later, asked_count t.asked)
+          omega (arith, c.counted, ap (λ (bs : List Subset). length (cells_of_all sh bs)) t.next, length-append cs later, asked_count t.asked)
 
       next_subset : {r : Answer (List ℕ)} → r ≡ marking m cs → marking unmarked all ≡ and_then r (λ u. marking u later)
       next_subset e =
-          c.same ∙ ap (λ (bs : List Subset). marking m (cells_ofAll sh bs)) t.next
+          c.same ∙ ap (λ (bs : List Subset). marking m (cells_of_all sh bs)) t.next
           ∙ marking-append m cs later ∙ ap (λ (x : Answer (List ℕ)). and_then x (λ u. marking u later)) (sym e)
 
       pub cover_beyond : left < cells → once_test (volume sh) all ≡ false

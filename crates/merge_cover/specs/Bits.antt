@@ -1,4 +1,4 @@
--- Redundant by the contract of `merge_cover::covers`, merge_cover/proofs/covers/Proof.antt: marks as the bits of 64-bit words.
+-- Redundant by the contract of `merge_cover::covers`, merge_cover/src/lib.rt: marks as the bits of 64-bit words.
 -- Assumes nothing.
 use Rattle.std.specs.Prelude.{ℕ, zero, suc, ◌/◌, ◌%◌, ◌^◌, List, [], ◌∷◌, ◌++◌, get_or, replicate}
 

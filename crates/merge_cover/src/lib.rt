@@ -3,7 +3,7 @@ ghost use Rattle.std.specs.Prelude.{◌≡◌, ◌+◌, ◌-◌, ◌%◌, ◌^�
 ghost use Rattle.array.specs.Answer.{gives};
 ghost use Rattle.array.specs.Lists.{from};
 ghost use Rattle.array.specs.Shape.{volume};
-ghost use Rattle.array.specs.Subset.{pairs, subsets_of, cells_in, cells_ofAll};
+ghost use Rattle.array.specs.Subset.{pairs, subsets_of, cells_in, cells_of_all};
 ghost use Rattle.subset.specs.Walk.{SubsetAsked};
 ghost use Rattle.subset.specs.Subsets.{SubsetsOk};
 ghost use Rattle.chunks.specs.Gather.{once_test};
@@ -100,7 +100,7 @@ fn mark_subset(words: &mut [u64], shape: &[u64], starts: &[u64], lens: &[u64], c
 // shape, and none is marked twice. What is left is counted down, so that no sum wraps.
 pub fn covers(shape: &[u64], subsets: &[u64]) -> bool
     requires { SubsetsOk shape.now subsets.now }
-    ensures { result ≡ once_test (volume shape.now) (cells_ofAll shape.now (subsets_of (length shape.now) subsets.now)) }
+    ensures { result ≡ once_test (volume shape.now) (cells_of_all shape.now (subsets_of (length shape.now) subsets.now)) }
 {
     let mut words = no_marks();
     let mut left = subset::volume_of(shape) as usize;

@@ -10,7 +10,7 @@ use Rattle.array.specs.Answer.{Answer, gives, refuses, and_then, unless, Outcome
 use Rattle.array.specs.Lists.{All}
 use Rattle.array.specs.Kind.{Kind, Masks, Form, fixed, ragged, Order, Place, null_of}
 use Rattle.array.specs.Shape.{volume}
-use Rattle.array.specs.Subset.{Subset, subsets_of, SubsetOk, cells_ofAll}
+use Rattle.array.specs.Subset.{Subset, subsets_of, SubsetOk, cells_of_all}
 use Rattle.array.specs.Cells.{Cell, blank}
 use Rattle.array.specs.Content.{Content}
 use Rattle.array.specs.Buffers.{Lengths, lengths_of, enough_test, over, content_outcome}
@@ -101,7 +101,7 @@ module _ {x : Masks} {d s : ℕ} {r : Order} {sh flat : List ℕ} {c : Content} 
 
   fixed_now : d * n ≤ length old.masks → length c.values ≤ length old.values → {ms vs : List ℕ}
       → ms ≡ masks_merged sh (bs q) d c.masks d ++ drop (d * n) old.masks
-      → vs ≡ scatter old.values (places (fixed_at 0 s) (cells_ofAll sh (bs q))) (parts 0 s s (bs q) c.values)
+      → vs ≡ scatter old.values (places (fixed_at 0 s) (cells_of_all sh (bs q))) (parts 0 s s (bs q) c.values)
       → record { answer = gives (record { masks = d * n; values = length c.values; offsets = 0 }); buffers = content_array ms vs old.offsets }
       ≡ left (record { depth = d; masks = x; form = fixed s r }) sh flat c old
   fixed_now hm hv {ms} {vs} em ev =
@@ -117,7 +117,7 @@ module _ {x : Masks} {d s : ℕ} {r : Order} {sh flat : List ℕ} {c : Content} 
 
 module _ {x : Masks} {w d : ℕ} {p : Place} {sh flat : List ℕ} {c : Content} {n : ℕ} (q : MergeAsked (record { depth = d; masks = x; form = ragged w p }) sh flat c n) (old : Content) where
   offset_count_lem : length (merged q).offsets ≡ n + 1
-  offset_count_lem = ragged_offsets d (volume sh) (blank [] d) (cells_ofAll sh (bs q)) (cells q) ∙ ap (λ (n : ℕ). n + 1) (sym q.checked.counted)
+  offset_count_lem = ragged_offsets d (volume sh) (blank [] d) (cells_of_all sh (bs q)) (cells q) ∙ ap (λ (n : ℕ). n + 1) (sym q.checked.counted)
 
   short_now : length old.offsets ≤ n → record { answer = refuses 6; buffers = old } ≡ left (record { depth = d; masks = x; form = ragged w p }) sh flat c old
   short_now h = short_offsets (merged q) old (n + 1) (mask_bytes q) (value_bytes q) offset_count_lem (omega arith) ∙ left_is q old
@@ -130,13 +130,13 @@ module _ {x : Masks} {w d : ℕ} {p : Place} {sh flat : List ℕ} {c : Content} 
   stored_now : d * n ≤ length old.masks → length c.values ≤ length old.values → n < length old.offsets → {ms vs os : List ℕ}
       → ms ≡ masks_merged sh (bs q) d c.masks d ++ drop (d * n) old.masks
       → os ≡ offsets_merged sh (bs q) c.offsets ++ drop (n + 1) old.offsets
-      → vs ≡ scatter old.values (places (offset_at os) (cells_ofAll sh (bs q))) c.values
+      → vs ≡ scatter old.values (places (offset_at os) (cells_of_all sh (bs q))) c.values
       → record { answer = gives (record { masks = d * n; values = length c.values; offsets = n + 1 }); buffers = content_array ms vs os }
       ≡ left (record { depth = d; masks = x; form = ragged w p }) sh flat c old
   stored_now hm hv ho {ms} {vs} {os} em eo ev =
       let m : Content = merged q in
       written m old (n + 1) (mask_bytes q) (value_bytes q) offset_count_lem hm hv (omega arith) (em ∙ masks_done q old)
-      (ev ∙ ap (λ (y : List ℕ). scatter old.values (places (offset_at y) (cells_ofAll sh (bs q))) c.values) eo
+      (ev ∙ ap (λ (y : List ℕ). scatter old.values (places (offset_at y) (cells_of_all sh (bs q))) c.values) eo
       ∙ values_close x w d p sh (inside q) q.once (are q) (drop (n + 1) old.offsets) old.values hv
       ∙ over_is {s = m.values} {t = m.values} old.values refl (value_bytes q))
       (eo ∙ over_is old.offsets (sym (offsets_close x w d p sh (inside q) q.once (are q))) offset_count_lem)
@@ -160,7 +160,7 @@ module _ {k : Kind} {sh flat : List ℕ} {c : Content} {n : ℕ} (q : MergeAsked
 
     pub fixed_stored : k.depth * n ≤ length old.masks → length c.values ≤ length old.values → {ms vs : List ℕ}
         → ms ≡ masks_merged sh (bs q) k.depth c.masks k.depth ++ drop (k.depth * n) old.masks
-        → vs ≡ scatter old.values (places (fixed_at 0 s) (cells_ofAll sh (bs q))) (parts 0 s s (bs q) c.values)
+        → vs ≡ scatter old.values (places (fixed_at 0 s) (cells_of_all sh (bs q))) (parts 0 s s (bs q) c.values)
         → record { answer = gives (record { masks = k.depth * n; values = length c.values; offsets = 0 }); buffers = content_array ms vs old.offsets } ≡ left k sh flat c old
     fixed_stored hm hv {ms} {vs} em ev = fixed_now (as_form e) old hm hv em ev ∙ back e
 
@@ -175,6 +175,6 @@ module _ {k : Kind} {sh flat : List ℕ} {c : Content} {n : ℕ} (q : MergeAsked
     pub ragged_stored : k.depth * n ≤ length old.masks → length c.values ≤ length old.values → n < length old.offsets → {ms vs os : List ℕ}
         → ms ≡ masks_merged sh (bs q) k.depth c.masks k.depth ++ drop (k.depth * n) old.masks
         → os ≡ offsets_merged sh (bs q) c.offsets ++ drop (n + 1) old.offsets
-        → vs ≡ scatter old.values (places (offset_at os) (cells_ofAll sh (bs q))) c.values
+        → vs ≡ scatter old.values (places (offset_at os) (cells_of_all sh (bs q))) c.values
         → record { answer = gives (record { masks = k.depth * n; values = length c.values; offsets = n + 1 }); buffers = content_array ms vs os } ≡ left k sh flat c old
     ragged_stored hm hv ho {ms} {vs} {os} em eo ev = stored_now (as_form e) old hm hv ho em eo ev ∙ back e

@@ -12,7 +12,7 @@ use Rattle.array.specs.Lists.{from, pick, count, joined, All}
 use Rattle.array.specs.Kind.{Kind, Masks, fixed, Order, null_of}
 use Rattle.array.specs.Offsets.{offsets_of}
 use Rattle.array.specs.Shape.{volume}
-use Rattle.array.specs.Subset.{Subset, SubsetOk, cells_ofAll}
+use Rattle.array.specs.Subset.{Subset, SubsetOk, cells_of_all}
 use Rattle.array.specs.Cells.{Value, Cell, leaf, blank}
 use Rattle.array.specs.Content.{Content, masks_of, leaves, null_cell}
 use Rattle.array.proofs.Lists.{All-of, All-image, length_from_lem, length-joined, map-from}
@@ -61,19 +61,19 @@ length-put_back z n js xs = length-map (from 0 n) (λ i. lookup z i js xs) ∙ l
 
 -- ---- the merged cells
 
-module _ {k : Kind} (sh : List ℕ) {bs : List Subset} (inside : All (SubsetOk sh) bs) (once : Once (volume sh) (cells_ofAll sh bs)) {c : Content} {cs : List (Cell k.depth)}
+module _ {k : Kind} (sh : List ℕ) {bs : List Subset} (inside : All (SubsetOk sh) bs) (once : Once (volume sh) (cells_of_all sh bs)) {c : Content} {cs : List (Cell k.depth)}
     (e : Chunked k bs c cs) where
   abbrev js : List ℕ
-  js = cells_ofAll sh bs
+  js = cells_of_all sh bs
 
   as_many : length js ≡ length cs
   as_many = length_all sh bs inside ∙ sym (cells_counted bs e)
 
-  pub merged_masks : length (masks_of k.depth (put_back (null_cell k) (volume sh) (cells_ofAll sh bs) cs)) ≡ k.depth * volume sh
+  pub merged_masks : length (masks_of k.depth (put_back (null_cell k) (volume sh) (cells_of_all sh bs) cs)) ≡ k.depth * volume sh
   merged_masks = length-masks_of k.depth (put_back (null_cell k) (volume sh) js cs) ∙ ap (λ (n : ℕ). k.depth * n) (length-put_back (null_cell k) (volume sh) js cs)
 
   -- the merged values have the bytes of the chunks' values
-  pub merged_bytes : length (joined (leaves k.depth (put_back (null_cell k) (volume sh) (cells_ofAll sh bs) cs))) ≡ length c.values
+  pub merged_bytes : length (joined (leaves k.depth (put_back (null_cell k) (volume sh) (cells_of_all sh bs) cs))) ≡ length c.values
   merged_bytes =
       let d : ℕ = k.depth in
       let z : Value = leaf d (null_cell k) in
@@ -85,16 +85,16 @@ module _ {k : Kind} (sh : List ℕ) {bs : List Subset} (inside : All (SubsetOk s
       ∙ sym (blocks.length-joined (leaves d cs)) ∙ ap length (all_values bs e)
 
 -- values of one width: as many bytes as cells of that width
-pub fixed_bytes : (x : Masks) (k d : ℕ) (r : Order) (sh : List ℕ) {bs : List Subset} → All (SubsetOk sh) bs → Once (volume sh) (cells_ofAll sh bs) → {c : Content} {cs : List (Cell d)}
+pub fixed_bytes : (x : Masks) (k d : ℕ) (r : Order) (sh : List ℕ) {bs : List Subset} → All (SubsetOk sh) bs → Once (volume sh) (cells_of_all sh bs) → {c : Content} {cs : List (Cell d)}
     → Chunked (record { depth = d; masks = x; form = fixed k r }) bs c cs → length c.values ≡ volume sh * k
 fixed_bytes x k d r sh {bs = bs} inside once {c} {cs} e =
     let z : Cell d = blank (null_of (fixed k r)) d in
-    let vs : List Value = put_back (leaf d z) (volume sh) (cells_ofAll sh bs) (leaves d cs) in
+    let vs : List Value = put_back (leaf d z) (volume sh) (cells_of_all sh bs) (leaves d cs) in
     let sized : All (λ v. length v ≡ k) vs =
-    put_back_all (λ v. length v ≡ k) (leaf d z) (leaf_blank (null_of (fixed k r)) (λ v. length v ≡ k) d (null_sized (fixed k r))) (volume sh) (cells_ofAll sh bs) (leaves d cs)
+    put_back_all (λ v. length v ≡ k) (leaf d z) (leaf_blank (null_of (fixed k r)) (λ v. length v ≡ k) d (null_sized (fixed k r))) (volume sh) (cells_of_all sh bs) (leaves d cs)
     (fixed_cells x k d r bs e).sized in
-    sym (merged_bytes sh inside once e) ∙ ap (λ (y : List Value). length (joined y)) (sym (put_back-map (leaf d) z (volume sh) (cells_ofAll sh bs) cs))
-    ∙ length-joined k vs sized ∙ ap (λ (n : ℕ). n * k) (length-put_back (leaf d z) (volume sh) (cells_ofAll sh bs) (leaves d cs))
+    sym (merged_bytes sh inside once e) ∙ ap (λ (y : List Value). length (joined y)) (sym (put_back-map (leaf d) z (volume sh) (cells_of_all sh bs) cs))
+    ∙ length-joined k vs sized ∙ ap (λ (n : ℕ). n * k) (length-put_back (leaf d z) (volume sh) (cells_of_all sh bs) (leaves d cs))
 
 -- ragged values: one offset more than cells
 pub ragged_offsets : (d n : ℕ) (z : Cell d) (js : List ℕ) (cs : List (Cell d)) → length (offsets_of (leaves d (put_back z n js cs))) ≡ n + 1

@@ -4,7 +4,7 @@ use Rattle.std.specs.Prelude.{ℕ, List, length}
 use Rattle.array.specs.Answer.{Answer, and_then}
 use Rattle.array.specs.Kind.{Kind}
 use Rattle.array.specs.Shape.{volume}
-use Rattle.array.specs.Subset.{Subset, subsets_of, cells_ofAll}
+use Rattle.array.specs.Subset.{Subset, subsets_of, cells_of_all}
 use Rattle.array.specs.Content.{Content}
 use Rattle.array.specs.Buffers.{Lengths, enough_test, if_room}
 use Rattle.chunks.specs.Gather.{Once}
@@ -19,4 +19,4 @@ store_answer k shape bs c room = and_then (chunk_cells k bs c) (λ cs. if_room (
 -- what the stores ask: that no chunk overlaps another or leaves a gap either
 pub record MergeAsked (k : Kind) (shape flat : List ℕ) (c : Content) (cells : ℕ) : Type 0 where
   pub checked : MergeChecked k shape flat c cells
-  pub once : Once (volume shape) (cells_ofAll shape (subsets_of (length shape) flat))
+  pub once : Once (volume shape) (cells_of_all shape (subsets_of (length shape) flat))

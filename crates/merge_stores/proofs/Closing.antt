@@ -12,7 +12,7 @@ use Rattle.array.specs.Kind.{Kind, Masks, fixed, ragged, Order, Place}
 use Rattle.array.specs.Lists.{All, joined, pieces, from, count}
 use Rattle.array.specs.Offsets.{offsets_of}
 use Rattle.array.specs.Shape.{volume}
-use Rattle.array.specs.Subset.{Subset, lengths, cells_ofAll, SubsetOk}
+use Rattle.array.specs.Subset.{Subset, lengths, cells_of_all, SubsetOk}
 use Rattle.array.specs.Places.{fixed_at, offset_at, sum, sums}
 use Rattle.array.proofs.LayoutLaws.{leaves-attach, length-attach, values_length_lem, values_sized}
 use Rattle.array.proofs.Lists.{joined-append, joined-pieces, All-append, map-from}
@@ -44,12 +44,12 @@ sum-put_back n js ls a o e =
 -- ---- masks
 
 pub masks_close : {k : Kind} (v : Value) (sh : List ℕ) {bs : List Subset} {c : Content} {cs : List (Cell k.depth)} → Chunked k bs c cs
-    → masks_of k.depth (put_back (blank v k.depth) (volume sh) (cells_ofAll sh bs) cs) ≡ masks_merged sh bs k.depth c.masks k.depth
+    → masks_of k.depth (put_back (blank v k.depth) (volume sh) (cells_of_all sh bs) cs) ≡ masks_merged sh bs k.depth c.masks k.depth
 masks_close {k} v sh {bs = bs} {c} {cs} e =
     let d : ℕ = k.depth in
-    masks_put_back v d (volume sh) (cells_ofAll sh bs) cs
-    ∙ ap joined (map-from (λ l. put_back 0 (volume sh) (cells_ofAll sh bs) (level_at d l cs)) (λ l. put_back 0 (volume sh) (cells_ofAll sh bs) (parts l d 1 bs c.masks)) 0 d
-    (λ l h. ap (put_back 0 (volume sh) (cells_ofAll sh bs)) (chunk_levels l (omega arith) bs e)))
+    masks_put_back v d (volume sh) (cells_of_all sh bs) cs
+    ∙ ap joined (map-from (λ l. put_back 0 (volume sh) (cells_of_all sh bs) (level_at d l cs)) (λ l. put_back 0 (volume sh) (cells_of_all sh bs) (parts l d 1 bs c.masks)) 0 d
+    (λ l h. ap (put_back 0 (volume sh) (cells_of_all sh bs)) (chunk_levels l (omega arith) bs e)))
 
 -- ---- as many cells as the subsets have
 
@@ -65,13 +65,13 @@ cells_counted {k} (b ∷ bs) {c} e =
 
 -- ---- ragged values
 
-module _ (x : Masks) (w d : ℕ) (p : Place) (sh : List ℕ) {bs : List Subset} (inside : All (SubsetOk sh) bs) (once : Once (volume sh) (cells_ofAll sh bs)) {c : Content} {cs : List (Cell d)}
+module _ (x : Masks) (w d : ℕ) (p : Place) (sh : List ℕ) {bs : List Subset} (inside : All (SubsetOk sh) bs) (once : Once (volume sh) (cells_of_all sh bs)) {c : Content} {cs : List (Cell d)}
     (e : Chunked (record { depth = d; masks = x; form = ragged w p }) bs c cs) where
   abbrev js : List ℕ
-  js = cells_ofAll sh bs
+  js = cells_of_all sh bs
 
   abbrev merged : List (Cell d)
-  merged = put_back (blank [] d) (volume sh) (cells_ofAll sh bs) cs
+  merged = put_back (blank [] d) (volume sh) (cells_of_all sh bs) cs
 
   leaf_blank : (d : ℕ) → leaf d (blank [] d) ≡ []
   leaf_blank zero = refl
@@ -128,12 +128,12 @@ module _ (x : Masks) (k d : ℕ) (r : Order) where
       }
 
   -- the values stored are the merged values, whatever stands for a null cell
-  pub fixed_close : (v : Value) (sh : List ℕ) {bs : List Subset} → All (SubsetOk sh) bs → Once (volume sh) (cells_ofAll sh bs) → {c : Content} {cs : List (Cell d)} → Chunked kind bs c cs
+  pub fixed_close : (v : Value) (sh : List ℕ) {bs : List Subset} → All (SubsetOk sh) bs → Once (volume sh) (cells_of_all sh bs) → {c : Content} {cs : List (Cell d)} → Chunked kind bs c cs
       → (o : List ℕ) → volume sh * k ≤ length o
-      → scatter o (places (fixed_at 0 k) (cells_ofAll sh bs)) (parts 0 k k bs c.values) ≡ joined (leaves d (put_back (blank v d) (volume sh) (cells_ofAll sh bs) cs)) ++ drop (volume sh * k) o
+      → scatter o (places (fixed_at 0 k) (cells_of_all sh bs)) (parts 0 k k bs c.values) ≡ joined (leaves d (put_back (blank v d) (volume sh) (cells_of_all sh bs) cs)) ++ drop (volume sh * k) o
   fixed_close v sh {bs} inside once {c} {cs} e o room =
       let f = fixed_cells bs e in
-      let as_many : length (cells_ofAll sh bs) ≡ length (leaves d cs) = length_all sh bs inside ∙ sym (length-map cs (leaf d) ∙ cells_counted bs e) in
-      ap (scatter o (places (fixed_at 0 k) (cells_ofAll sh bs))) (sym f.laid)
-      ∙ fixed_block 0 k (volume sh) o (leaf d (blank v d)) (cells_ofAll sh bs) (leaves d cs) (omega arith) as_many (all_below sh bs inside) f.sized once
-      ∙ ap₂ (λ (y : List Value) (n : ℕ). joined y ++ drop n o) (put_back-map (leaf d) (blank v d) (volume sh) (cells_ofAll sh bs) cs) (zero-add (volume sh * k))
+      let as_many : length (cells_of_all sh bs) ≡ length (leaves d cs) = length_all sh bs inside ∙ sym (length-map cs (leaf d) ∙ cells_counted bs e) in
+      ap (scatter o (places (fixed_at 0 k) (cells_of_all sh bs))) (sym f.laid)
+      ∙ fixed_block 0 k (volume sh) o (leaf d (blank v d)) (cells_of_all sh bs) (leaves d cs) (omega arith) as_many (all_below sh bs inside) f.sized once
+      ∙ ap₂ (λ (y : List Value) (n : ℕ). joined y ++ drop n o) (put_back-map (leaf d) (blank v d) (volume sh) (cells_of_all sh bs) cs) (zero-add (volume sh * k))

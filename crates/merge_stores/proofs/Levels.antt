@@ -14,7 +14,7 @@ use Rattle.array.specs.Content.{Content, attach, pair_up, values_in, cells_of, m
 use Rattle.array.specs.Kind.{Kind}
 use Rattle.array.specs.Lists.{All, joined, from, pick}
 use Rattle.array.specs.Shape.{volume}
-use Rattle.array.specs.Subset.{Subset, lengths, cells_in, cells_ofAll, SubsetOk}
+use Rattle.array.specs.Subset.{Subset, lengths, cells_in, cells_of_all, SubsetOk}
 use Rattle.array.specs.Places.{fixed_at}
 use Rattle.array.proofs.LayoutLaws.{inners-pair_up, length-attach, values_length_lem, mask_map}
 use Rattle.array.proofs.Lists.{map-append, map-map, map_cong, take_within, from_suc}
@@ -111,9 +111,9 @@ length-parts lead step size h (b ∷ bs) s l =
     ∙ ap₂ (λ (x y : ℕ). x + y) lp (length-parts lead step size h bs (drop (m * step) s) (omega (arith, length-drop (m * step) s, add-mul m (cells_total bs) step)))
     ∙ sym (add-mul m (cells_total bs) size)
 
-pub length_all : (sh : List ℕ) (bs : List Subset) → All (SubsetOk sh) bs → length (cells_ofAll sh bs) ≡ cells_total bs
+pub length_all : (sh : List ℕ) (bs : List Subset) → All (SubsetOk sh) bs → length (cells_of_all sh bs) ≡ cells_total bs
 length_all sh [] a = refl
-length_all sh (b ∷ bs) a = length-append (cells_in sh b) (cells_ofAll sh bs) ∙ ap₂ (λ (x y : ℕ). x + y) (length-cells_in sh b a.0) (length_all sh bs a.1)
+length_all sh (b ∷ bs) a = length-append (cells_in sh b) (cells_of_all sh bs) ∙ ap₂ (λ (x y : ℕ). x + y) (length-cells_in sh b a.0) (length_all sh bs a.1)
 
 -- ---- a level
 

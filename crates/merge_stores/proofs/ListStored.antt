@@ -5,7 +5,7 @@ use Prim.Native.Nat.{ℕ, ◌+◌, ◌-◌, ◌≤◌}
 use mathlib.Core.List.{List, [], ◌++◌, append-nil}
 use lib.ListN.{length, take, drop, take-append-drop}
 use lib.Seq.{length-take-le}
-use Rattle.array.specs.Subset.{Subset, subsets_of, pairs, cells_in, cells_ofAll}
+use Rattle.array.specs.Subset.{Subset, subsets_of, pairs, cells_in, cells_of_all}
 use Rattle.subset.specs.Subsets.{SubsetsOk, part, SubsetAt}
 use Rattle.subset.proofs.Subsets.{none_left}
 use Rattle.merge_stores.specs.Scatter.{scatter, places}
@@ -20,26 +20,26 @@ scatter_enough acc js xs {n} e h =
 pub record ListStored (off : ℕ → ℕ) (sh flat d xs o ys : List ℕ) (at : ℕ) : Type 0 where
   pub geo : SubsetsOk sh (drop at flat)
   pub long : length o ≡ length d
-  pub same : scatter d (places off (cells_ofAll sh (subsets_of (length sh) flat))) xs ≡ scatter o (places off (cells_ofAll sh (subsets_of (length sh) (drop at flat)))) ys
+  pub same : scatter d (places off (cells_of_all sh (subsets_of (length sh) flat))) xs ≡ scatter o (places off (cells_of_all sh (subsets_of (length sh) (drop at flat)))) ys
 
 pub list_begins : (off : ℕ → ℕ) {sh flat : List ℕ} (d xs : List ℕ) → SubsetsOk sh flat → ListStored off sh flat d xs d xs 0
 list_begins off d xs q = record { geo = q; long = refl; same = refl }
 
 module _ {off : ℕ → ℕ} {sh flat d xs o ys : List ℕ} {at : ℕ} (c : ListStored off sh flat d xs o ys at) where
-  pub list_ends : length flat ≤ at → o ≡ scatter d (places off (cells_ofAll sh (subsets_of (length sh) flat))) xs
-  list_ends h = sym (c.same ∙ ap (λ (bs : List Subset). scatter o (places off (cells_ofAll sh bs)) ys) (none_left (length sh) flat h))
+  pub list_ends : length flat ≤ at → o ≡ scatter d (places off (cells_of_all sh (subsets_of (length sh) flat))) xs
+  list_ends h = sym (c.same ∙ ap (λ (bs : List Subset). scatter o (places off (cells_of_all sh bs)) ys) (none_left (length sh) flat h))
 
   module _ {mid end m : ℕ} (t : SubsetAt sh flat at mid end m) where
     abbrev cs : List ℕ
     cs = cells_in sh (pairs (part flat at mid) (part flat mid end))
 
     abbrev later : List ℕ
-    later = cells_ofAll sh (subsets_of (length sh) (drop end flat))
+    later = cells_of_all sh (subsets_of (length sh) (drop end flat))
 
     -- the places of the next chunk's cells, and of the others
-    next_places : places off (cells_ofAll sh (subsets_of (length sh) (drop at flat)))
-        ≡ places off (cells_in sh (pairs (part flat at mid) (part flat mid end))) ++ places off (cells_ofAll sh (subsets_of (length sh) (drop end flat)))
-    next_places = ap (λ (bs : List Subset). places off (cells_ofAll sh bs)) t.next ∙ places-append off cs later
+    next_places : places off (cells_of_all sh (subsets_of (length sh) (drop at flat)))
+        ≡ places off (cells_in sh (pairs (part flat at mid) (part flat mid end))) ++ places off (cells_of_all sh (subsets_of (length sh) (drop end flat)))
+    next_places = ap (λ (bs : List Subset). places off (cells_of_all sh bs)) t.next ∙ places-append off cs later
 
     -- the next chunk is the first n of zs
     module _ (zs : List ℕ) {n : ℕ} (l : length (places off cs) ≡ n) (h : n ≤ length zs) {zs' : List ℕ} (e : ys ≡ take n zs ++ zs')

@@ -10,7 +10,7 @@ use lib.ListN.{length, take, drop, length-append, length-map}
 use lib.Seq.{drop-drop, take_at, drop_at}
 use Rattle.array.specs.Lists.{All, joined, from}
 use Rattle.array.specs.Shape.{volume}
-use Rattle.array.specs.Subset.{Subset, subsets_of, cells_ofAll, SubsetOk}
+use Rattle.array.specs.Subset.{Subset, subsets_of, cells_of_all, SubsetOk}
 use Rattle.array.specs.Places.{fixed_at}
 use Rattle.array.proofs.Geometry.{from-append}
 use Rattle.array.proofs.Lists.{map-append, joined-append, length_from_lem}
@@ -32,13 +32,13 @@ module _ {sh flat d src : List ℕ} {depth cells : ℕ} (q : MasksAsked sh flat 
   bs = subsets_of (length sh) flat
 
   abbrev js : List ℕ
-  js = cells_ofAll sh (subsets_of (length sh) flat)
+  js = cells_of_all sh (subsets_of (length sh) flat)
 
   ok : All (SubsetOk sh) (subsets_of (length sh) flat)
   ok = all_inside sh (subsets_of (length sh) flat) q.subsets.many.each
 
   abbrev level : ℕ → List ℕ
-  level l = put_back 0 (volume sh) (cells_ofAll sh (subsets_of (length sh) flat)) (parts l depth 1 (subsets_of (length sh) flat) src)
+  level l = put_back 0 (volume sh) (cells_of_all sh (subsets_of (length sh) flat)) (parts l depth 1 (subsets_of (length sh) flat) src)
 
   long_level : (l : ℕ) → length (level l) ≡ cells
   long_level l = length-map (from 0 (volume sh)) _ ∙ length_from_lem 0 (volume sh) ∙ sym q.counted
@@ -67,7 +67,7 @@ module _ {sh flat d src : List ℕ} {depth cells : ℕ} (q : MasksAsked sh flat 
         enough = q.enough;
       }
 
-      pub masks_more : {o' : List ℕ} → o' ≡ scatter o (places (fixed_at (l * cells) 1) (cells_ofAll sh (subsets_of (length sh) flat))) (parts l depth 1 (subsets_of (length sh) flat) src)
+      pub masks_more : {o' : List ℕ} → o' ≡ scatter o (places (fixed_at (l * cells) 1) (cells_of_all sh (subsets_of (length sh) flat))) (parts l depth 1 (subsets_of (length sh) flat) src)
           → Stored sh flat d src depth cells o' (l + 1)
       masks_more p =
           let f : List ℕ = joined (map level (from 0 l)) in

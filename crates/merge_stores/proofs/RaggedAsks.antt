@@ -10,7 +10,7 @@ use Rattle.array.specs.Content.{Content, leaves}
 use Rattle.array.specs.Limits.{most_bytes}
 use Rattle.array.specs.Kind.{Masks, ragged, Place}
 use Rattle.array.specs.Shape.{volume}
-use Rattle.array.specs.Subset.{Subset, subsets_of, cells_ofAll}
+use Rattle.array.specs.Subset.{Subset, subsets_of, cells_of_all}
 use Rattle.chunks.specs.Gather.{Once}
 use Rattle.subset.specs.Subsets.{SubsetsOk}
 use Rattle.merge_stores.specs.Ragged.{RaggedMergeAsked}
@@ -18,7 +18,7 @@ use Rattle.merge_stores.proofs.Blocks.{length-joined}
 use Rattle.merge_stores.proofs.FirstChunk.{Chunked, all_values}
 use Rattle.merge_stores.proofs.RaggedTies.{length_chunks, ragged_lengths_lem}
 
-pub ragged_asked : (x : Masks) (w d : ℕ) (p : Place) {sh flat : List ℕ} → SubsetsOk sh flat → Once (volume sh) (cells_ofAll sh (subsets_of (length sh) flat))
+pub ragged_asked : (x : Masks) (w d : ℕ) (p : Place) {sh flat : List ℕ} → SubsetsOk sh flat → Once (volume sh) (cells_of_all sh (subsets_of (length sh) flat))
     → {c : Content} {cs : List (Cell d)} → Chunked (record { depth = d; masks = x; form = ragged w p }) (subsets_of (length sh) flat) c cs
     → (outv outo : List ℕ) {n : ℕ} → n ≡ volume sh → n < length outo → length c.values ≤ most_bytes → length c.values ≤ length outv
     → RaggedMergeAsked sh flat outv outo c.values c.offsets n

@@ -6,7 +6,7 @@ use native.Mathlib.Omega.{arith}
 use mathlib.Core.List.{List, ◌++◌}
 use lib.ListN.{length, take, drop, length-drop, take-append-drop}
 use lib.Seq.{drop-drop, get_or-drop, take_all}
-use Rattle.array.specs.Subset.{Subset, subsets_of, cells_in, cells_ofAll, pairs}
+use Rattle.array.specs.Subset.{Subset, subsets_of, cells_in, cells_of_all, pairs}
 use Rattle.array.specs.Places.{offset_at, bytes_at}
 use Rattle.array.proofs.Places.{bytes_append}
 use Rattle.subset.specs.Subsets.{part, SubsetAt}
@@ -20,7 +20,7 @@ use Rattle.merge_stores.proofs.Scattering.{length-places}
 pub record RaggedAll (sh flat d begins values src o : List ℕ) (at base first : ℕ) : Type 0 where
   pub list : ListStored (offset_at begins) sh flat d values o (drop base values) at
   pub chunks : RaggedChunks begins sh (subsets_of (length sh) (drop at flat)) (drop first src)
-  pub enough : base + bytes_at (offset_at begins) (cells_ofAll sh (subsets_of (length sh) (drop at flat))) ≤ length values
+  pub enough : base + bytes_at (offset_at begins) (cells_of_all sh (subsets_of (length sh) (drop at flat))) ≤ length values
 
 module _ {sh flat d begins values src : List ℕ} (q : RaggedAllAsked sh flat d begins values src) where
   pub raggeds_begin : RaggedAll sh flat d begins values src d 0 0 0
@@ -38,8 +38,8 @@ module _ {sh flat d begins values src : List ℕ} (q : RaggedAllAsked sh flat d 
         subst (λ (k : ℕ). (k < length (drop first src)) × Agrees begins (drop first src) 0 cs × RaggedChunks begins sh later (drop (suc k) (drop first src)))
         (asked_volume t.asked) (subst (λ (bs : List Subset). RaggedChunks begins sh bs (drop first src)) t.next c.chunks)
 
-    room : base + bytes_at (offset_at begins) cs + bytes_at (offset_at begins) (cells_ofAll sh later) ≤ length values
-    room = omega (arith, c.enough, ap (λ (bs : List Subset). bytes_at (offset_at begins) (cells_ofAll sh bs)) t.next, bytes_append (offset_at begins) cs (cells_ofAll sh later))
+    room : base + bytes_at (offset_at begins) cs + bytes_at (offset_at begins) (cells_of_all sh later) ≤ length values
+    room = omega (arith, c.enough, ap (λ (bs : List Subset). bytes_at (offset_at begins) (cells_of_all sh bs)) t.next, bytes_append (offset_at begins) cs (cells_of_all sh later))
 
     at_first : (k : ℕ) → offset_at (drop first src) (0 + k) ≡ offset_at src (first + k)
     at_first k = get_or-drop first src (0 + k) 0 ∙ ap (offset_at src) (omega arith)

@@ -13,7 +13,7 @@ use Rattle.array.specs.Kind.{Kind, Masks, ragged, Place}
 use Rattle.array.specs.Offsets.{last, Rising}
 use Rattle.array.specs.Shape.{volume}
 use Rattle.array.specs.Lists.{All, from}
-use Rattle.array.specs.Subset.{Subset, lengths, cells_in, cells_ofAll, SubsetOk}
+use Rattle.array.specs.Subset.{Subset, lengths, cells_in, cells_of_all, SubsetOk}
 use Rattle.array.specs.Places.{offset_at, Rises, step_at, bytes_at, value_in, sum, steps_at}
 use Rattle.array.proofs.Offsets.{last_at}
 use Rattle.array.proofs.Lists.{map-append, map-map, map-from}
@@ -71,15 +71,15 @@ split_same xs ys zs ws l e =
 
 -- places that step by the chunks' lengths agree with their offsets
 pub chunks_agree : (begins sh : List ℕ) (bs : List Subset) → All (SubsetOk sh) bs → (os : List ℕ) → LengthChunks bs os
-    → steps_at (offset_at begins) (cells_ofAll sh bs) ≡ step_parts bs os → RaggedChunks begins sh bs os
+    → steps_at (offset_at begins) (cells_of_all sh bs) ≡ step_parts bs os → RaggedChunks begins sh bs os
 chunks_agree begins sh [] inside os l e = tt
 chunks_agree begins sh (b ∷ bs) inside os l e =
     let m : ℕ = volume (lengths b) in
     let cs : List ℕ = cells_in sh b in
     let f : ℕ → ℕ = step_at (offset_at begins) in
     let lc : length cs ≡ m = length-cells_in sh b inside.0 in
-    let p = split_same (map f cs) (map f (cells_ofAll sh bs)) (steps_at (offset_at os) (from 0 m)) (step_parts bs (drop (suc m) os))
-    (length-map cs f ∙ lc ∙ sym (many_from (step_at (offset_at os)) 0 m)) (sym (map-append f cs (cells_ofAll sh bs)) ∙ e) in (
+    let p = split_same (map f cs) (map f (cells_of_all sh bs)) (steps_at (offset_at os) (from 0 m)) (step_parts bs (drop (suc m) os))
+    (length-map cs f ∙ lc ∙ sym (many_from (step_at (offset_at os)) 0 m)) (sym (map-append f cs (cells_of_all sh bs)) ∙ e) in (
       l.0,
       λ i h.
           let same : bytes_at (offset_at begins) (take i cs) ≡ bytes_at (offset_at os) (from 0 i) =

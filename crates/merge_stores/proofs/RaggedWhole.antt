@@ -9,7 +9,7 @@ use lib.Seq.{length-take-le, take_at, take_all, drop_at}
 use Rattle.array.specs.Limits.{most_bytes}
 use Rattle.array.specs.Lists.{All}
 use Rattle.array.specs.Shape.{volume}
-use Rattle.array.specs.Subset.{Subset, subsets_of, cells_ofAll, SubsetOk}
+use Rattle.array.specs.Subset.{Subset, subsets_of, cells_of_all, SubsetOk}
 use Rattle.array.specs.Places.{fixed_at, offset_at, sum, sums, steps_at}
 use Rattle.array.proofs.SubsetLaws.{all_below}
 use Rattle.array.proofs.Places.{length-sums}
@@ -28,20 +28,20 @@ module _ {sh flat dv d values src : List ℕ} {n : ℕ} (q : RaggedMergeAsked sh
   bs = subsets_of (length sh) flat
 
   abbrev xs : List ℕ
-  xs = put_back 0 (volume sh) (cells_ofAll sh (subsets_of (length sh) flat)) (step_parts (subsets_of (length sh) flat) src)
+  xs = put_back 0 (volume sh) (cells_of_all sh (subsets_of (length sh) flat)) (step_parts (subsets_of (length sh) flat) src)
 
   ok : All (SubsetOk sh) (subsets_of (length sh) flat)
   ok = all_inside sh (subsets_of (length sh) flat) q.subsets.many.each
 
-  as_many : length (cells_ofAll sh (subsets_of (length sh) flat)) ≡ length (step_parts (subsets_of (length sh) flat) src)
+  as_many : length (cells_of_all sh (subsets_of (length sh) flat)) ≡ length (step_parts (subsets_of (length sh) flat) src)
   as_many = length_all sh bs ok ∙ sym (length_steps bs src)
 
   long_xs : length xs ≡ n
-  long_xs = many_from (λ k. lookup 0 k (cells_ofAll sh (subsets_of (length sh) flat)) (step_parts (subsets_of (length sh) flat) src)) 0 (volume sh) ∙ sym q.counted
+  long_xs = many_from (λ k. lookup 0 k (cells_of_all sh (subsets_of (length sh) flat)) (step_parts (subsets_of (length sh) flat) src)) 0 (volume sh) ∙ sym q.counted
 
-  module _ {o : List ℕ} (p : o ≡ scatter d (places (fixed_at 1 1) (cells_ofAll sh (subsets_of (length sh) flat))) (step_parts (subsets_of (length sh) flat) src)) where
+  module _ {o : List ℕ} (p : o ≡ scatter d (places (fixed_at 1 1) (cells_of_all sh (subsets_of (length sh) flat))) (step_parts (subsets_of (length sh) flat) src)) where
     is : o ≡ take 1 d ++ xs ++ drop (1 + volume sh) d
-    is = p ∙ level_block 1 (volume sh) d (cells_ofAll sh bs) (step_parts bs src) (omega (arith, q.room, q.counted)) as_many (all_below sh bs ok) q.once
+    is = p ∙ level_block 1 (volume sh) d (cells_of_all sh bs) (step_parts bs src) (omega (arith, q.room, q.counted)) as_many (all_below sh bs ok) q.once
 
     one : length (take 1 d) ≡ 1
     one = length-take-le 1 d (omega (arith, q.room))
@@ -58,11 +58,11 @@ module _ {sh flat dv d values src : List ℕ} {n : ℕ} (q : RaggedMergeAsked sh
 
     -- the lengths sum to the value bytes
     sum_is : sum xs ≡ length values
-    sum_is = sum-put_back (volume sh) (cells_ofAll sh bs) (step_parts bs src) (all_below sh bs ok) q.once as_many ∙ q.summed
+    sum_is = sum-put_back (volume sh) (cells_of_all sh bs) (step_parts bs src) (all_below sh bs ok) q.once as_many ∙ q.summed
 
     pub second_asked : (n < length o) × (sum (take n (drop 1 o)) ≤ most_bytes)
     second_asked =
-        (omega (arith, q.room, ap length p, length-scatter d (places (fixed_at 1 1) (cells_ofAll sh bs)) (step_parts bs src)), omega (arith, ap sum lengths_are, sum_is, q.small))
+        (omega (arith, q.room, ap length p, length-scatter d (places (fixed_at 1 1) (cells_of_all sh bs)) (step_parts bs src)), omega (arith, ap sum lengths_are, sum_is, q.small))
 
     module _ {o' : List ℕ} (p' : o' ≡ (0 ∷ sums 0 (take n (drop 1 o))) ++ drop (n + 1) o) where
       pub offsets_are : o' ≡ offsets_merged sh (subsets_of (length sh) flat) src ++ drop (n + 1) d
@@ -73,8 +73,8 @@ module _ {sh flat dv d values src : List ℕ} {n : ℕ} (q : RaggedMergeAsked sh
           let e : volume sh ≡ length xs = omega (arith, long_xs, q.counted) in
           omega (arith, offset_is xs (drop (n + 1) d) (volume sh) (omega arith), ap sum (take_all (volume sh) xs (omega arith)), sum_is, q.enough)
 
-      stepped : steps_at (offset_at (offsets_merged sh bs src ++ drop (n + 1) d)) (cells_ofAll sh bs) ≡ step_parts bs src
-      stepped = steps_merged (volume sh) (cells_ofAll sh bs) (all_below sh bs ok) q.once (step_parts bs src) (drop (n + 1) d) as_many
+      stepped : steps_at (offset_at (offsets_merged sh bs src ++ drop (n + 1) d)) (cells_of_all sh bs) ≡ step_parts bs src
+      stepped = steps_merged (volume sh) (cells_of_all sh bs) (all_below sh bs ok) q.once (step_parts bs src) (drop (n + 1) d) as_many
 
       pub third_asked : RaggedAllAsked sh flat dv o' values src
       third_asked =
@@ -83,7 +83,7 @@ module _ {sh flat dv d values src : List ℕ} {n : ℕ} (q : RaggedMergeAsked sh
             subsets = q.subsets;
             laid = record {
               covered = omega (arith, length-append (0 ∷ sums 0 xs) (drop (n + 1) d), length-sums 0 xs, long_xs, q.counted);
-              rises = rises_merged (volume sh) (cells_ofAll sh bs) (all_below sh bs ok) q.once (step_parts bs src) (drop (n + 1) d) as_many;
+              rises = rises_merged (volume sh) (cells_of_all sh bs) (all_below sh bs ok) q.once (step_parts bs src) (drop (n + 1) d) as_many;
               room = within;
             };
             chunks = chunks_agree (offsets_merged sh bs src ++ drop (n + 1) d) sh bs ok src q.lengths_fit stepped;

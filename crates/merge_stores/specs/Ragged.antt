@@ -5,7 +5,7 @@ use Rattle.std.specs.Prelude.{◌≡◌, ℕ, suc, ◌+◌, ◌≤◌, ◌<◌, 
 use Rattle.array.specs.Limits.{most_bytes}
 use Rattle.array.specs.Lists.{from}
 use Rattle.array.specs.Shape.{volume}
-use Rattle.array.specs.Subset.{Subset, lengths, subsets_of, cells_in, cells_ofAll}
+use Rattle.array.specs.Subset.{Subset, lengths, subsets_of, cells_in, cells_of_all}
 use Rattle.array.specs.Offsets.{Rising}
 use Rattle.array.specs.Places.{offset_at, Rises, sum, sums, steps_at, bytes_at}
 use Rattle.subset.specs.Subsets.{SubsetsOk}
@@ -20,7 +20,7 @@ step_parts (b ∷ bs) os = steps_at (offset_at os) (from 0 (volume (lengths b)))
 
 -- the offsets of a merge of chunks with these offsets
 abbrev pub offsets_merged : List ℕ → List Subset → List ℕ → List ℕ
-offsets_merged shape bs src = 0 ∷ sums 0 (put_back 0 (volume shape) (cells_ofAll shape bs) (step_parts bs src))
+offsets_merged shape bs src = 0 ∷ sums 0 (put_back 0 (volume shape) (cells_of_all shape bs) (step_parts bs src))
 
 -- ---- what the stores ask
 
@@ -66,12 +66,12 @@ pub record RaggedAllAsked (shape flat out begins values src : List ℕ) : Type 0
   pub subsets : SubsetsOk shape flat
   pub laid : Begins shape out begins
   pub chunks : RaggedChunks begins shape (subsets_of (length shape) flat) src
-  pub enough : bytes_at (offset_at begins) (cells_ofAll shape (subsets_of (length shape) flat)) ≤ length values
+  pub enough : bytes_at (offset_at begins) (cells_of_all shape (subsets_of (length shape) flat)) ≤ length values
 
 -- of both: the value bytes are as many as the lengths say, few, and fit the output
 pub record RaggedMergeAsked (shape flat outv outo values src : List ℕ) (n : ℕ) : Type 0 where
   pub subsets : SubsetsOk shape flat
-  pub once : Once (volume shape) (cells_ofAll shape (subsets_of (length shape) flat))
+  pub once : Once (volume shape) (cells_of_all shape (subsets_of (length shape) flat))
   pub counted : n ≡ volume shape
   pub room : n < length outo
   pub lengths_fit : LengthChunks (subsets_of (length shape) flat) src

@@ -5,7 +5,7 @@ use Rattle.std.specs.Prelude.{◌≡◌, ℕ, zero, suc, ◌+◌, ◌*◌, ◌�
 use Rattle.array.specs.Limits.{most_size}
 use Rattle.array.specs.Lists.{from, joined}
 use Rattle.array.specs.Shape.{volume}
-use Rattle.array.specs.Subset.{Subset, lengths, subsets_of, cells_ofAll}
+use Rattle.array.specs.Subset.{Subset, lengths, subsets_of, cells_of_all}
 use Rattle.array.specs.Cells.{Cell, mask_of, inners}
 use Rattle.subset.specs.Subsets.{SubsetsOk}
 use Rattle.chunks.specs.Gather.{put_back, Once}
@@ -29,7 +29,7 @@ level_at (suc d) (suc l) cs = level_at d l (inners cs)
 
 -- the first `upto` mask levels of a merge of chunks of this depth
 abbrev pub masks_merged : List ℕ → List Subset → ℕ → List ℕ → ℕ → List ℕ
-masks_merged shape bs depth masks upto = joined (map (λ l. put_back 0 (volume shape) (cells_ofAll shape bs) (parts l depth 1 bs masks)) (from 0 upto))
+masks_merged shape bs depth masks upto = joined (map (λ l. put_back 0 (volume shape) (cells_of_all shape bs) (parts l depth 1 bs masks)) (from 0 upto))
 
 -- ---- what the stores ask: of one chunk, of one part of each chunk, of all mask levels
 
@@ -47,7 +47,7 @@ pub record PartsAsked (shape flat out : List ℕ) (base size : ℕ) (src : List 
 
 pub record MasksAsked (shape flat out src : List ℕ) (depth cells : ℕ) : Type 0 where
   pub subsets : SubsetsOk shape flat
-  pub once : Once (volume shape) (cells_ofAll shape (subsets_of (length shape) flat))
+  pub once : Once (volume shape) (cells_of_all shape (subsets_of (length shape) flat))
   pub counted : cells ≡ volume shape
   pub room : depth * cells ≤ length out
   pub enough : cells_total (subsets_of (length shape) flat) * depth ≤ length src

@@ -1,6 +1,6 @@
 // Masks, and values of one width.
 ghost use Rattle.std.specs.Prelude.{◌≡◌, ◌++◌, ◌*◌, length, drop};
-ghost use Rattle.array.specs.Subset.{pairs, subsets_of, cells_in, cells_ofAll};
+ghost use Rattle.array.specs.Subset.{pairs, subsets_of, cells_in, cells_of_all};
 ghost use Rattle.array.specs.Places.{fixed_at};
 ghost use Rattle.subset.specs.Walk.{SubsetAsked};
 ghost use Rattle.merge_stores.specs.Scatter.{scatter, places};
@@ -47,7 +47,7 @@ pub fn store_parts(
     subsets: &[u64],
 )
     requires { PartsAsked shape.now subsets.now out.old base size src.now lead step }
-    ensures { out.new ≡ scatter out.old (places (fixed_at base size) (cells_ofAll shape.now (subsets_of (length shape.now) subsets.now)))
+    ensures { out.new ≡ scatter out.old (places (fixed_at base size) (cells_of_all shape.now (subsets_of (length shape.now) subsets.now)))
         (parts lead step size (subsets_of (length shape.now) subsets.now) src.now) }
 {
     let mut at: usize = 0;

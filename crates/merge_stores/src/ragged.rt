@@ -3,7 +3,7 @@ ghost use Rattle.std.specs.Prelude.{◌≡◌, ◌∷◌, ◌++◌, ◌+◌, ◌
 ghost use Rattle.array.specs.Limits.{most_bytes};
 ghost use Rattle.array.specs.Lists.{from};
 ghost use Rattle.array.specs.Buffers.{over_at};
-ghost use Rattle.array.specs.Subset.{pairs, subsets_of, cells_in, cells_ofAll};
+ghost use Rattle.array.specs.Subset.{pairs, subsets_of, cells_in, cells_of_all};
 ghost use Rattle.array.specs.Places.{fixed_at, offset_at, Rises, sum, sums, steps_at};
 ghost use Rattle.subset.specs.Walk.{SubsetAsked};
 ghost use Rattle.merge_stores.specs.Scatter.{scatter, places};
@@ -51,7 +51,7 @@ fn store_lengths(
 // Stores the lengths of the values of all chunks.
 fn store_lengths_all(out: &mut [u64], src: &[u64], shape: &[u64], subsets: &[u64])
     requires { LengthsAllAsked shape.now subsets.now out.old src.now }
-    ensures { out.new ≡ scatter out.old (places (fixed_at 1 1) (cells_ofAll shape.now (subsets_of (length shape.now) subsets.now)))
+    ensures { out.new ≡ scatter out.old (places (fixed_at 1 1) (cells_of_all shape.now (subsets_of (length shape.now) subsets.now)))
         (step_parts (subsets_of (length shape.now) subsets.now) src.now) }
 {
     let mut at: usize = 0;
@@ -135,7 +135,7 @@ fn store_ragged_all(
     subsets: &[u64],
 )
     requires { RaggedAllAsked shape.now subsets.now out.old begins.now values.now src.now }
-    ensures { out.new ≡ scatter out.old (places (offset_at begins.now) (cells_ofAll shape.now (subsets_of (length shape.now) subsets.now)))
+    ensures { out.new ≡ scatter out.old (places (offset_at begins.now) (cells_of_all shape.now (subsets_of (length shape.now) subsets.now)))
         values.now }
 {
     let mut at: usize = 0;
@@ -177,7 +177,7 @@ pub fn merge_ragged(
 )
     requires { RaggedMergeAsked shape.now subsets.now outv.old outo.old values.now src.now n }
     ensures offsets { outo.new ≡ offsets_merged shape.now (subsets_of (length shape.now) subsets.now) src.now ++ drop (n + 1) outo.old }
-    ensures bytes { outv.new ≡ scatter outv.old (places (offset_at outo.new) (cells_ofAll shape.now (subsets_of (length shape.now) subsets.now)))
+    ensures bytes { outv.new ≡ scatter outv.old (places (offset_at outo.new) (cells_of_all shape.now (subsets_of (length shape.now) subsets.now)))
         values.now }
 {
     store_lengths_all(outo, src, shape, subsets);

@@ -12,7 +12,7 @@ use Rattle.array.specs.Kind.{Place}
 use Rattle.array.specs.Shape.{volume, shape_test}
 use Rattle.array.specs.Subset.{subset_of, numbers_test, cells_in}
 use Rattle.array.specs.Cells.{Value}
-use Rattle.array.specs.Content.{RaggedContent, size_test, end_toEnd}
+use Rattle.array.specs.Content.{RaggedContent, size_test, end_to_end}
 use Rattle.array.specs.Buffers.{RaggedLengths, ragged_lengths_of, ragged_enough_test, if_room, ragged_outcome}
 use Rattle.array.proofs.Rules.{numbers_ok}
 use Rattle.codec.specs.Ragged.{get_ragged}
@@ -31,13 +31,13 @@ module _ (l : ℕ) (vs : List Value) (old : RaggedContent) where
   abbrev answer : Outcome RaggedLengths RaggedContent
   answer = ragged_outcome (cut_answer l vs (ragged_lengths_of old)) old
 
-  by_test : {b : Bool} → size_test l ≡ b → ragged_outcome (unless b 5 (if_room (ragged_enough_test (end_toEnd vs) (ragged_lengths_of old)) (end_toEnd vs))) old ≡ answer
-  by_test e = ap (λ (x : Bool). ragged_outcome (unless x 5 (if_room (ragged_enough_test (end_toEnd vs) (ragged_lengths_of old)) (end_toEnd vs))) old) (sym e)
+  by_test : {b : Bool} → size_test l ≡ b → ragged_outcome (unless b 5 (if_room (ragged_enough_test (end_to_end vs) (ragged_lengths_of old)) (end_to_end vs))) old ≡ answer
+  by_test e = ap (λ (x : Bool). ragged_outcome (unless x 5 (if_room (ragged_enough_test (end_to_end vs) (ragged_lengths_of old)) (end_to_end vs))) old) (sym e)
 
   pub too_many : size_test l ≡ false → refused 5 old ≡ answer
   too_many e = by_test e
 
-  pub few_enough : size_test l ≡ true → put_ragged (end_toEnd vs) old ≡ answer
+  pub few_enough : size_test l ≡ true → put_ragged (end_to_end vs) old ≡ answer
   few_enough e = by_test e
 
 -- ---- the call

@@ -16,7 +16,7 @@ use Rattle.array.specs.Shape.{volume}
 use Rattle.array.specs.Subset.{SubsetOk, subset_of, cells_in}
 use Rattle.array.specs.Cells.{Value}
 use Rattle.array.specs.Offsets.{last, Rising}
-use Rattle.array.specs.Content.{Content, RaggedContent, unmasked, ValuesOk, size_test, end_toEnd}
+use Rattle.array.specs.Content.{Content, RaggedContent, unmasked, ValuesOk, size_test, end_to_end}
 use Rattle.array.specs.declared.kind.IndexWidth.{IndexWidth}
 use Rattle.array.specs.Meaning.{width_of}
 use Rattle.array.specs.Places.{offset_at, Rises, values_at}
@@ -126,15 +126,15 @@ values_same off {to} {n} q r e (j ∷ js) a =
     (values_same off q r e js a.1)
 
 pub read_cut : {width : IndexWidth} {p : Place} {s : List ℕ} {i : Index} (shape ns : List ℕ) → Read width p s (volume shape) i → SubsetOk shape (subset_of (length shape) ns)
-    → ragged_cut (width_of width) p shape ns (read_at (width_of width) s (volume shape) i.index i.from) ≡ end_toEnd (stored_values width s i (cells_in shape (subset_of (length shape) ns)))
+    → ragged_cut (width_of width) p shape ns (read_at (width_of width) s (volume shape) i.index i.from) ≡ end_to_end (stored_values width s i (cells_in shape (subset_of (length shape) ns)))
 read_cut {width} {p} {s} {i} shape ns r ok =
     let n : ℕ = volume shape in
     let at_source : source_at (source_of width) i.index [] s ≡ stored_at (width_of width) s i.index = source_is width i.index [] s in
     let x : RaggedContent = read_at (width_of width) s n i.index i.from in
     ap (λ (c : Content). record { values = c.values; offsets = c.offsets })
     (cut_is {k = byte_kind 0 (ragged (width_of width) p)} shape {c = unmasked x} (record { masks_fit = sym (zero-mul n); values_fit = r.keeps }) (subset_of (length shape) ns) ok)
-    ∙ ap end_toEnd
+    ∙ ap end_to_end
     (values_same (offset_at x.offsets) (drop i.from s) (subst (λ (off : ℕ → ℕ). Rises off n) at_source r.stored.rises) (stored_is (width_of width) n s i.index)
     (cells_in shape (subset_of (length shape) ns))
     (cells_in_below shape (subset_of (length shape) ns) ok))
-    ∙ ap (λ (off : ℕ → ℕ). end_toEnd (values_at off (drop i.from s) (cells_in shape (subset_of (length shape) ns)))) (sym at_source)
+    ∙ ap (λ (off : ℕ → ℕ). end_to_end (values_at off (drop i.from s) (cells_in shape (subset_of (length shape) ns)))) (sym at_source)

@@ -1,20 +1,19 @@
 -- The mask planes of the rest form, each by the one above it.
 -- Assumes nothing.
-use mathlib.Core.Path.{◌≡◌, refl, sym, ap, ap₂, ◌∙◌, subst}
+use mathlib.Core.Path.{◌≡◌, refl, sym, ap, ap₂, ◌∙◌}
 use mathlib.Core.Bool.{Bool, true, false, ◌&&◌}
 use mathlib.Core.List.{List, ◌++◌, map}
 use Prim.Native.Nat.{ℕ, zero, suc, ◌+◌, ◌-◌, ◌*◌, ◌≤◌, ◌<◌}
-use native.Mathlib.Nat.{zero-add, zero-mul, one-mul, suc-mul, sub-zero, mul-le-mul_right}
+use native.Mathlib.Nat.{zero-add, zero-mul, suc-mul, sub-zero, mul-le-mul_right}
 use native.Mathlib.Numerals.{add-one}
 use native.Mathlib.Omega.{arith}
 use lib.ListN.{length, take, drop, get_or, length-append, get_or-append}
 use lib.Seq.{get_or-take, get_or-drop, get_or-append-add, length-take-le}
 use Rattle.array.specs.Lists.{from, pick}
-use Rattle.array.specs.Buffers.{over, over_at}
+use Rattle.array.specs.Buffers.{over_at}
 use Rattle.array.specs.Cells.{set_test}
 use Rattle.array.specs.Places.{mask_at, planes_by, shown_at}
 use Rattle.array.proofs.Lists.{map-from, entry, by_number}
-use Rattle.array.proofs.Over.{over_again, over_at_length}
 use Rattle.array.proofs.Laying.{Laying, laying_begins, laying_same, laying_part, laying_ends, laying_is}
 use Rattle.rest_masks.specs.Rested.{rest_mask, kept_at, under}
 use Rattle.rest_masks.proofs.Numbering.{length_numbered, laid_at}

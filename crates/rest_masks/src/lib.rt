@@ -1,4 +1,6 @@
 // The mask planes of the rest form, each by the one above it.
+#![tactic(auto)]
+
 ghost use Rattle.std.specs.Prelude.{◌≡◌, map, ◌+◌, ◌*◌, ◌≤◌, suc, length};
 ghost use Rattle.array.specs.Buffers.{over_at};
 ghost use Rattle.array.specs.Cells.{set_test};

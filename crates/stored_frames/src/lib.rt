@@ -1,5 +1,7 @@
 // Layer 2, frames read: the checking walk. It stores nothing, and tells where the innermost content lies.
 // A frame: 8-byte mask length, 8-byte content length, the mask, the content.
+#![tactic(auto)]
+
 ghost use Rattle.std.specs.Prelude.{◌≡◌, ◌≤◌, length, drop};
 ghost use Rattle.array.specs.Limits.{most_cells};
 ghost use Rattle.array.specs.Meaning.{masks_of};

@@ -3,7 +3,7 @@
 -- Assumes nothing.
 use mathlib.Core.Path.{◌≡◌, refl, sym, ap, ap₂, ◌∙◌}
 use mathlib.Core.List.{List, [], ◌∷◌, map}
-use mathlib.Core.Bool.{Bool, true, false, not, ◌&&◌, and_true, and_false}
+use mathlib.Core.Bool.{Bool, true, false, not, ◌&&◌, and-true, and-false}
 use Prim.Native.Nat.{ℕ, zero, suc, ◌+◌, ◌-◌, ◌*◌, ◌≤◌, ◌<◌}
 use native.Mathlib.Omega.{arith}
 use native.Mathlib.Nat.{suc-mul, zero-mul, mul_comm}
@@ -75,7 +75,7 @@ module _ {w n : ℕ} {s : List ℕ} {at first prev p left : ℕ} (r : Rises w n 
       by_next et = next_is ∙ ap (λ (t : Bool). eqb first 0 && (t && behind)) et
 
       pub rises_falls : next < prev → false ≡ all
-      rises_falls f = sym (by_next (lt-leb prev next f) ∙ and_false (eqb first 0))
+      rises_falls f = sym (by_next (lt-leb prev next f) ∙ and-false (eqb first 0))
 
       pub rises_more : prev ≤ next → Rises w n s at first next (p + w) (left - 1)
       rises_more f = record { room = omega (arith, rises_room); rest = by_next (le-leb prev next f) }
@@ -85,7 +85,7 @@ module _ {w n : ℕ} {s : List ℕ} {at first prev p left : ℕ} (r : Rises w n 
       rises_last z f =
           let none : left - 1 ≡ 0 = omega arith in
           sym (next_is ∙ ap₂ (λ (b : Bool) (k : ℕ). b && (leb prev next && rising_from_test next (offsets_in w k (drop (p + w + w) s)))) (eq-eqb first 0 (omega arith)) none
-          ∙ and_true (leb prev next))
+          ∙ and-true (leb prev next))
 
   -- by the first offset
   by_first : {t : Bool} → eqb first 0 ≡ t → all ≡ t && rising_from_test prev (offsets_in w left (drop (p + w) s))

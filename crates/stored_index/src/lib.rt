@@ -1,4 +1,6 @@
 // Layer 2, ragged values read by their index: the check. It stores nothing. The index is n + 1 offsets for n cells.
+#![tactic(auto)]
+
 ghost use Rattle.std.specs.Prelude.{◌≡◌, not, suc, ◌+◌, ◌-◌, ◌*◌, ◌≤◌, ◌<◌, length, drop};
 ghost use Rattle.array.specs.Answer.{map_answer};
 ghost use Rattle.array.specs.Limits.{most_cells};

@@ -1,4 +1,4 @@
--- Redundant by the laws asked_left and row-is in subset/proofs/Rows.antt: the cells of a subset (S3.3) row by row, runs of neighbours.
+-- Redundant by the laws asked_left and row_is in subset/proofs/Rows.antt: the cells of a subset (S3.3) row by row, runs of neighbours.
 -- What a walk asks, what is left at each turn, and what the next row is.
 -- Assumes nothing.
 use Rattle.std.specs.Prelude.{◌≡◌, ℕ, ◌+◌, ◌-◌, ◌≤◌, List, [], ◌++◌, length, get_or, drop}

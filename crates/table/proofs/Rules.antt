@@ -15,7 +15,7 @@ use Rattle.array.specs.Places.{mask_at, shown_by}
 use Rattle.array.proofs.Rules.{both, left_of_lem, right_of, every_all, all_every, kind_test_lem, kind_ok, strict_test_lem, strict_ok}
 use Rattle.codec.specs.Interleaved.{ragged_test}
 use Rattle.codec.proofs.Refusals.{is_ragged_test, is_ragged_ok}
-use Rattle.table.specs.Table.{Table, start_of, length_of, TableKind, table_kind_test, CountOk, count_test, OrZero, or_zero_test, RestMasks, rest_masks_test, RestBy, rest_byTest}
+use Rattle.table.specs.Table.{Table, start_of, length_of, TableKind, table_kind_test, CountOk, count_test, OrZero, or_zero_test, RestMasks, rest_masks_test, RestBy, rest_by_test}
 use Rattle.table.specs.Table.{Placed, placed_test, apart_test, filled, TableOk, fit_test, rests_test, places_test, table_test, most_store, store_test}
 use Rattle.table.specs.Setting.{SettingOk, setting_test}
 use Rattle.table.specs.Calls.{TableLengths, TableEnough, table_enough_test, most_test}
@@ -67,10 +67,10 @@ module _ (m : ℕ → ℕ) where
   rest_masks_ok (suc l) e =
       (rest_masks_ok l (left_of_lem (rest_masks_test m l) (or_zero_test (shown_by m l) (m l)) e), or_zero_ok (shown_by m l) (m l) (right_of (rest_masks_test m l) (or_zero_test (shown_by m l) (m l)) e))
 
-  pub rest_by_test : (d len : ℕ) → RestBy m d len → rest_byTest m d len ≡ true
-  rest_by_test d len p = both (rest_masks_test_lem d p.0) (or_zero_test_lem (shown_by m d) len p.1)
+  pub rest_by_test_lem : (d len : ℕ) → RestBy m d len → rest_by_test m d len ≡ true
+  rest_by_test_lem d len p = both (rest_masks_test_lem d p.0) (or_zero_test_lem (shown_by m d) len p.1)
 
-  pub rest_by_ok : (d len : ℕ) → rest_byTest m d len ≡ true → RestBy m d len
+  pub rest_by_ok : (d len : ℕ) → rest_by_test m d len ≡ true → RestBy m d len
   rest_by_ok d len e =
       (rest_masks_ok d (left_of_lem (rest_masks_test m d) (or_zero_test (shown_by m d) len) e), or_zero_ok (shown_by m d) len (right_of (rest_masks_test m d) (or_zero_test (shown_by m d) len) e))
 
@@ -93,7 +93,7 @@ module _ (d n : ℕ) (t : Table) where
       both (both (both (both (both (both (eq-eqb (length t.masks) (d * n) p.masks_fit) (eq-eqb (length t.starts) n p.starts_fit))
       (eq-eqb (length t.lengths) n p.lengths_fit))
       (every_all Strict strict_test strict_test_lem t.masks p.strict))
-      (every_all (λ j. RestBy (mask_of j) d (length_of t j)) (λ j. rest_byTest (mask_of j) d (length_of t j)) (λ j. rest_by_test (mask_of j) d (length_of t j)) (from 0 n) p.rests))
+      (every_all (λ j. RestBy (mask_of j) d (length_of t j)) (λ j. rest_by_test (mask_of j) d (length_of t j)) (λ j. rest_by_test_lem (mask_of j) d (length_of t j)) (from 0 n) p.rests))
       (every_all (λ j. Placed (length t.store) (start_of t j) (length_of t j)) (λ j. placed_test (length t.store) (start_of t j) (length_of t j))
       (λ j. placed_test_lem (length t.store) (start_of t j) (length_of t j)) (from 0 n) p.placed))
       (apart_test_lem (start_of t) (length_of t) (filled t n) p.apart)
@@ -134,7 +134,7 @@ module _ (d n : ℕ) (t : Table) where
         lengths_fit = g.lengths_fit;
         strict = all_every Strict strict_test strict_ok t.masks (right_of f s e2);
         rests =
-            all_every (λ j. RestBy (mask_of j) d (length_of t j)) (λ j. rest_byTest (mask_of j) d (length_of t j)) (λ j. rest_by_ok (mask_of j) d (length_of t j))
+            all_every (λ j. RestBy (mask_of j) d (length_of t j)) (λ j. rest_by_test (mask_of j) d (length_of t j)) (λ j. rest_by_ok (mask_of j) d (length_of t j))
             (from 0 n) (right_of (f && s) r e3);
         placed =
             all_every (λ j. Placed (length t.store) (start_of t j) (length_of t j)) (λ j. placed_test (length t.store) (start_of t j) (length_of t j))

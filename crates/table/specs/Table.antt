@@ -71,8 +71,8 @@ rest_masks_test m (suc l) = rest_masks_test m l && or_zero_test (shown_by m l) (
 abbrev pub RestBy : (ℕ → ℕ) → ℕ → ℕ → Type 0
 RestBy m d len = RestMasks m d × OrZero (shown_by m d) len
 
-abbrev pub rest_byTest : (ℕ → ℕ) → ℕ → ℕ → Bool
-rest_byTest m d len = rest_masks_test m d && or_zero_test (shown_by m d) len
+abbrev pub rest_by_test : (ℕ → ℕ) → ℕ → ℕ → Bool
+rest_by_test m d len = rest_masks_test m d && or_zero_test (shown_by m d) len
 
 -- a cell lies in a store of so many bytes, and starts at 0 where it has none
 abbrev pub Placed : ℕ → ℕ → ℕ → Type 0
@@ -122,7 +122,7 @@ abbrev pub fit_test : ℕ → ℕ → Table → Bool
 fit_test d n t = eqb (length t.masks) (d * n) && eqb (length t.starts) n && eqb (length t.lengths) n
 
 abbrev pub rests_test : ℕ → ℕ → Table → Bool
-rests_test d n t = every (λ j. rest_byTest (λ l. mask_at n t.masks l j) d (length_of t j)) (from 0 n)
+rests_test d n t = every (λ j. rest_by_test (λ l. mask_at n t.masks l j) d (length_of t j)) (from 0 n)
 
 abbrev pub places_test : ℕ → Table → Bool
 places_test n t = every (λ j. placed_test (length t.store) (start_of t j) (length_of t j)) (from 0 n)

@@ -1,4 +1,4 @@
--- Redundant by the laws in-order and walk_counts in table/proofs/Walk.antt: walks over the cells as they lie (S13.5, S13.7).
+-- Redundant by the laws in_order and walk_counts in table/proofs/Walk.antt: walks over the cells as they lie (S13.5, S13.7).
 -- Assumes nothing.
 use Rattle.std.specs.Prelude.{ℕ, ◌+◌, ◌-◌, ◌≤◌, ◌≡◌, not, List, [], ◌∷◌, length, leb, ltb, eqb}
 use Rattle.array.specs.Lists.{All, pick, passing}

@@ -16,7 +16,7 @@ use Rattle.array.specs.Cells.{Strict, strict_test, set_test}
 use Rattle.array.specs.Places.{mask_at, shown_by}
 use Rattle.array.proofs.Lists.{All-get_or}
 use Rattle.array.proofs.Rules.{both, left_of_lem, right_of, all_every, strict_ok}
-use Rattle.table.specs.Table.{OrZero, or_zero_test, RestMasks, rest_masks_test, rest_byTest}
+use Rattle.table.specs.Table.{OrZero, or_zero_test, RestMasks, rest_masks_test, rest_by_test}
 use Rattle.table.proofs.Rules.{rest_masks_test_lem, rest_masks_ok}
 use Rattle.table_check.specs.Check.{fall_at, falls_test, null_at, nulls_test}
 use Rattle.table_check.proofs.Walks.{same_test, every-from, every_at}
@@ -91,7 +91,7 @@ module _ (e n : ℕ) (masks : List ℕ) (some : 0 < n) (fit : length masks ≡ s
 
   module _ (lengths : List ℕ) where
     abbrev rest_at : ℕ → Bool
-    rest_at j = rest_byTest (cell_masks_lem j) (suc e) (get_or lengths j 0)
+    rest_at j = rest_by_test (cell_masks_lem j) (suc e) (get_or lengths j 0)
 
     abbrev mask_test : ℕ → Bool
     mask_test j = rest_masks_test (cell_masks_lem j) (suc e)
@@ -128,11 +128,11 @@ module _ (e n : ℕ) (masks : List ℕ) (some : 0 < n) (fit : length masks ≡ s
 
 module _ (d n : ℕ) (masks lengths : List ℕ) where
   abbrev rest_test : Bool
-  rest_test = every (λ j. rest_byTest (λ l. mask_at n masks l j) d (get_or lengths j 0)) (from 0 n)
+  rest_test = every (λ j. rest_by_test (λ l. mask_at n masks l j) d (get_or lengths j 0)) (from 0 n)
 
   pub no_levels : d ≡ 0 → true ≡ rest_test
   no_levels e =
-      sym (every-from (λ j. true) 0 n (λ i a b. refl)) ∙ ap (λ (k : ℕ). every (λ j. rest_byTest (λ l. mask_at n masks l j) k (get_or lengths j 0)) (from 0 n)) (sym e)
+      sym (every-from (λ j. true) 0 n (λ i a b. refl)) ∙ ap (λ (k : ℕ). every (λ j. rest_by_test (λ l. mask_at n masks l j) k (get_or lengths j 0)) (from 0 n)) (sym e)
 
 -- a plane is there where there are levels
 pub plane_fits : (d n : ℕ) → (d ≡ 0 → ⊥) → n ≤ d * n
@@ -140,7 +140,7 @@ plane_fits zero n h = absurd (h refl)
 plane_fits (suc d) n h = omega (arith, suc-mul d n)
 
 rests_are : (d n : ℕ) (masks lengths : List ℕ) → (d ≡ 0 → ⊥) → 0 < n → length masks ≡ d * n → every strict_test masks ≡ true
-    → falls_test n masks && nulls_test n (length masks - n) masks lengths ≡ every (λ j. rest_byTest (λ l. mask_at n masks l j) d (get_or lengths j 0)) (from 0 n)
+    → falls_test n masks && nulls_test n (length masks - n) masks lengths ≡ every (λ j. rest_by_test (λ l. mask_at n masks l j) d (get_or lengths j 0)) (from 0 n)
 rests_are zero n masks lengths deep some fit strict = absurd (deep refl)
 rests_are (suc e) n masks lengths deep some fit strict = stages_are e n masks some fit (all_every Strict strict_test strict_ok masks strict) lengths
 

@@ -1,4 +1,4 @@
--- Redundant by the contract of `table_pack::pack_table`, table_pack/proofs/pack_table/Proof.antt: what the check of a table answers.
+-- Redundant by the contract of `table_pack::pack_table`, table_pack/src/lib.rt: what the check of a table answers.
 -- Assumes nothing.
 use Rattle.std.specs.Prelude.{ℕ, ◌≤◌, ◌≡◌, false, List, take}
 use Rattle.table.specs.Table.{Table, start_of, length_of, filled, TableOk, table_test}

@@ -1,4 +1,6 @@
 // Cells of a working table moved towards the start of the store.
+#![tactic(auto)]
+
 ghost use Rattle.std.specs.Prelude.{◌≡◌, [], ◌+◌, ◌≤◌, length, take, drop};
 ghost use Rattle.array.specs.Buffers.{over_at};
 ghost use Rattle.table.specs.Meaning.{table_by};

@@ -1,4 +1,4 @@
--- Redundant by the contract of `table_pack::pack_table`, table_pack/proofs/pack_table/Proof.antt: what packing asks before the table (S6.21).
+-- Redundant by the contract of `table_pack::pack_table`, table_pack/src/lib.rt: what packing asks before the table (S6.21).
 -- Assumes nothing.
 use Rattle.std.specs.Prelude.{ℕ, ◌≤◌}
 use Rattle.array.specs.Kind.{Kind}

@@ -1,4 +1,4 @@
--- Redundant by the laws roomy_left and put-is in table_place/proofs/Places.antt: bytes put into the store (S13.9), whatever the masks are.
+-- Redundant by the laws roomy_left and put_is in table_place/proofs/Places.antt: bytes put into the store (S13.9), whatever the masks are.
 -- Assumes nothing.
 use Rattle.std.specs.Prelude.{ℕ, ◌≡◌, List, []}
 use Rattle.array.specs.Cells.{Value}

@@ -1,4 +1,4 @@
--- Redundant by the law read-is in table_read/proofs/Stages.antt: a table read out (S6.19) by its parts, and what copying its cells asks.
+-- Redundant by the law read_is in table_read/proofs/Stages.antt: a table read out (S6.19) by its parts, and what copying its cells asks.
 -- Assumes nothing.
 use Rattle.std.specs.Prelude.{ℕ, ◌+◌, ◌≤◌, ◌<◌, ◌≡◌, List, [], map, length}
 use Rattle.array.specs.Lists.{from, joined}

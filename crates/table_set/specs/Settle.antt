@@ -1,4 +1,4 @@
--- Redundant by the law set-is in table_set/proofs/Outcomes.antt: what a setting leaves of a table that keeps its rules (S6.20).
+-- Redundant by the law set_is in table_set/proofs/Outcomes.antt: what a setting leaves of a table that keeps its rules (S6.20).
 -- Assumes nothing.
 use Rattle.std.specs.Prelude.{ℕ, List}
 use Rattle.array.specs.Answer.{Answer, map_answer, Outcome}

@@ -13,7 +13,7 @@ use Rattle.array.specs.Cells.{Value, leaf}
 use Rattle.array.specs.Places.{sum}
 use Rattle.array.proofs.Answers.{passed, same_given}
 use Rattle.table.specs.Table.{Table, most_store}
-use Rattle.table.specs.Setting.{setting_of, sum_after}
+use Rattle.table.specs.Setting.{setting_of}
 use Rattle.table.proofs.Setting.{sum-set}
 use Rattle.table_setting.specs.Fit.{Fitting, size_by, fitting, fitted}
 use Rattle.table_setting.specs.Settle.{Sound, Ready, settled_by, setting_answer}

@@ -7,7 +7,7 @@ use Prim.Native.Nat.{ℕ, ◌≤◌}
 use native.Mathlib.Omega.{arith}
 use lib.ListN.{length}
 use lib.Dec.{leb, ltb}
-use Rattle.array.specs.Answer.{Answer, gives, refuses, unless}
+use Rattle.array.specs.Answer.{gives, refuses, unless}
 use Rattle.array.specs.Kind.{Kind}
 use Rattle.array.specs.Cells.{Value}
 use Rattle.array.proofs.Rules.{both}

@@ -1,4 +1,4 @@
--- Redundant by the contract of `table_setting::fit::fit`, table_setting/proofs/fit/fit/Proof.antt: what its declared answer means.
+-- Redundant by the contract of `table_setting::fit::fit`, table_setting/src/fit.rt: what its declared answer means.
 -- Assumes nothing.
 use Rattle.table_setting.specs.declared.fit.Fitted as fit
 use Rattle.array.specs.Answer.{Answer, gives, refuses}

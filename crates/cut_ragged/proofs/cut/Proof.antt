@@ -12,7 +12,7 @@ use Rattle.array.specs.Lists.{joined}
 use Rattle.array.specs.Subset.{Subset, pairs, subset_of, cells_in}
 use Rattle.array.specs.Cells.{Value}
 use Rattle.array.specs.Offsets.{ends, offsets_of}
-use Rattle.array.specs.Content.{RaggedContent, end_toEnd}
+use Rattle.array.specs.Content.{RaggedContent, end_to_end}
 use Rattle.array.specs.Buffers.{RaggedLengths}
 use Rattle.array.specs.Outcome.{content_ragged}
 use Rattle.array.specs.Places.{bytes_at}
@@ -25,6 +25,7 @@ use Rattle.cut_ragged.proofs.Counting.{bytes_most}
 use Rattle.cut_ragged.proofs.Ragged.{first_then}
 use Rattle.cut_ragged.proofs.Outcomes.{need_values, need_offsets, no_values, no_offsets, all_put}
 use Rattle.cut_ragged.proofs.cut.Statement.{statement}
+use Rattle.cut_ragged.proofs.cut.Goals.{then-values-bytes, else-values-bytes}
 use Rattle.cut_ragged.proofs.cut.Tie as tie
 
 -- once the numbers are in two parts: the start, the values of the cut, the outputs
@@ -49,9 +50,9 @@ values s = values_in s (pairs (starts s) (lens s))
 abbrev outputs : tie.Start → RaggedContent
 outputs s = content_ragged s.args.values.now s.args.offsets.now
 
-whole : (s : tie.Start) {o : Outcome RaggedLengths RaggedContent} → o ≡ put_ragged (end_toEnd (values s)) (outputs s)
-    → o ≡ put_ragged (end_toEnd (values_in s (subset_of (length s.args.shape.now) s.args.subset.now))) (outputs s)
-whole s e = e ∙ ap (λ (b : Subset). put_ragged (end_toEnd (values_in s b)) (outputs s)) (subset_parts (length s.args.shape.now) s.args.subset.now)
+whole : (s : tie.Start) {o : Outcome RaggedLengths RaggedContent} → o ≡ put_ragged (end_to_end (values s)) (outputs s)
+    → o ≡ put_ragged (end_to_end (values_in s (subset_of (length s.args.shape.now) s.args.subset.now))) (outputs s)
+whole s e = e ∙ ap (λ (b : Subset). put_ragged (end_to_end (values_in s b)) (outputs s)) (subset_parts (length s.args.shape.now) s.args.subset.now)
 
 -- what it needs
 asked : (s : tie.Start) → SubsetAsked s.args.shape.now (starts s) (lens s) s.args.count
@@ -75,7 +76,10 @@ abbrev Roomy : Type 0
 Roomy = tie.Joined1
 
 room : (j : Roomy) → need (start j.before) ≤ length (start j.before).args.values.now
-room j = ⊎_elim (λ w. omega (arith, w.1.ensures, w.2.left)) (λ w. omega (arith, most (start j.before), w.left)) j.if1.branch
+room j = elim j.if1.branch [
+    then-values-bytes w ↦ omega (arith, w.count_bytes-need.ensures, w.if-values-need.false)
+    | else-values-bytes w ↦ omega (arith, most (start j.before), w.if-values-bytes.false)
+  ]
 
 count_bytes_requires : tie.Need-count-bytes-requires
 count_bytes_requires c κs =
@@ -86,13 +90,13 @@ returns : tie.Need-returns
 returns c =
     let b = c.before in
     let s = start b.before.before in
-    whole s (no_values (end_toEnd (values s)) (outputs s) (values_need s ∙ sym b.count-bytes.ensures) c.if2.true)
+    whole s (no_values (end_to_end (values s)) (outputs s) (values_need s ∙ sym b.count-bytes.ensures) c.if2.true)
 
 add_many : tie.Need-overflow-add-many
 add_many c = omega (arith, asked_few (asked (start c.before)))
 
 returns_2 : tie.Need-returns-2
-returns_2 c = let s = start c.before.before in whole s (no_offsets (end_toEnd (values s)) (outputs s) (offsets_need s) c.if3.true)
+returns_2 c = let s = start c.before.before in whole s (no_offsets (end_to_end (values s)) (outputs s) (offsets_need s) c.if3.true)
 
 copy_rows_requires : tie.Need-copy-rows-requires
 copy_rows_requires c κs =
@@ -116,7 +120,7 @@ returns_3 c =
     let s = start e.before.before in
     let h = e.if3.false in
     whole s
-    (all_put (end_toEnd (values s)) (outputs s) (sym r.copy-rows.ensures.1.1) (offsets_need s) (omega (arith, r.copy-rows.ensures.1.1, values_need s, room e.before)) h
+    (all_put (end_to_end (values s)) (outputs s) (sym r.copy-rows.ensures.1.1) (offsets_need s) (omega (arith, r.copy-rows.ensures.1.1, values_need s, room e.before)) h
     r.copy-rows.ensures.0 (r.copy-rows.ensures.1.0 ∙ first_then s.args.offsets.now 0 (ends 0 (values s)) (omega (arith, h))))
 
 pub cut_spec : {M : Type 1} → statement M

@@ -5,7 +5,7 @@ use borrow.Author.Rules.{rules}
 use borrow.Author.Tests.{not-true, not-false}
 use lib.ListN.{length}
 use Rattle.array.specs.Shape.{volume}
-use Rattle.array.specs.Subset.{subsets_of, cells_ofAll}
+use Rattle.array.specs.Subset.{subsets_of, cells_of_all}
 use Rattle.chunks.proofs.Gather.{once_ok}
 use Rattle.merge.proofs.Steps.{uncovered, covered}
 use Rattle.merge.proofs.store_covering.Statement.{statement}
@@ -25,7 +25,7 @@ store_chunks_requires c κs =
     record {
       checked = a.pre;
       once = once_ok (volume a.args.shape.now)
-          (cells_ofAll a.args.shape.now (subsets_of (length a.args.shape.now) a.args.subsets.now))
+          (cells_of_all a.args.shape.now (subsets_of (length a.args.shape.now) a.args.subsets.now))
           (sym e.before.covers.ensures ∙ not-false e.before.covers.result e.if1.false);
     }
 

@@ -9,7 +9,7 @@ use lib.ListN.{length}
 use Rattle.array.specs.Shape.{volume}
 use Rattle.array.specs.Subset.{subset_of, cells_in}
 use Rattle.array.specs.Cells.{Value}
-use Rattle.array.specs.Content.{RaggedContent, end_toEnd, size_test}
+use Rattle.array.specs.Content.{RaggedContent, end_to_end, size_test}
 use Rattle.array.specs.Outcome.{content_ragged}
 use Rattle.cut_ragged.specs.declared.Source.{Source}
 use Rattle.cut_ragged.specs.Source.{source_values, SourceAsked, put_ragged}
@@ -74,7 +74,7 @@ returns_2 c =
     let e = r.before.before.before.before in
     let t = e.before in
     let s = start t in
-    r.cut.ensures ∙ ap (λ (x : Source). put_ragged (end_toEnd (values_by s x)) (outputs s)) (known t).source_of.ensures
+    r.cut.ensures ∙ ap (λ (x : Source). put_ragged (end_to_end (values_by s x)) (outputs s)) (known t).source_of.ensures
     ∙ few_enough (last s) (cut s) (outputs s) (not-false (size_test (last s)) (sym t.too_large.ensures ∙ e.if1.false))
 
 pub cut_stored_spec : {M : Type 1} → statement M

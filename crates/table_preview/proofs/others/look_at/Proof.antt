@@ -10,6 +10,7 @@ use Rattle.table.specs.Table.{most_store}
 use Rattle.table_check.specs.Check.{Reached}
 use Rattle.table_preview.proofs.Looking.{Looked, looked_begins, looked_ends, cell_reached, looked_past, bytes_small, looked_more, looked_is}
 use Rattle.table_preview.proofs.others.look_at.Statement.{statement}
+use Rattle.table_preview.proofs.others.look_at.Goals.{then-j-cell, else-j-cell}
 use Rattle.table_preview.proofs.others.look_at.Tie as tie
 
 abbrev invariant-loop : tie.invariant-loop
@@ -77,10 +78,10 @@ loop_again c =
     let t = c.before in
     let l = (head t).loop.invariant in
     let h = t.before.loop-test.true in
-    ⊎_elim
-    (λ w. looked_is (looked_more l h w.0.taken w.3.ensures w.4.ensures) w.5 w.6 w.7)
-    (λ w. looked_is (looked_past l h w.0.left) w.1 w.2 w.3)
-    c.if1.branch
+    elim c.if1.branch [
+      then-j-cell w ↦ looked_is (looked_more l h w.if-j-cell.true w.counted-unpacked.ensures w.greater-top.ensures) w.unpacked-is w.packed-is w.top-is
+      | else-j-cell w ↦ looked_is (looked_past l h w.if-j-cell.false) w.unpacked-is w.packed-is w.top-is
+    ]
 
 returns : tie.Need-returns invariant-loop decreases-loop
 returns c = looked_ends c.before.loop.invariant c.loop-test.false

@@ -12,6 +12,7 @@ use Rattle.table_read.specs.Read.{cells_by}
 use Rattle.table_read.proofs.Reading.{Reading, goes_on, read_begins, read_same, read_same_offsets, offset_room, value_room, read_values, read_offsets}
 use Rattle.table_read.proofs.Reading.{Ready, ready_is, ready_again, ready_more}
 use Rattle.table_read.proofs.cells.copy_values.Statement.{statement}
+use Rattle.table_read.proofs.cells.copy_values.Goals.{then-not-goes_on, else-not-goes_on}
 use Rattle.table_read.proofs.cells.copy_values.Tie as tie
 
 abbrev invariant-loop : tie.invariant-loop
@@ -68,13 +69,13 @@ ready c =
     let k = c.before in
     let t = turn k in
     let s = start t in
-    ⊎_elim
-    (λ w. ready_is (ready_again t.before.loop.inv s.pre.cells t.loop-test.taken w.2.ensures) w.5 w.6 w.7 w.8)
-    (λ w. ready_is (record {
-      reading = t.before.loop.inv;
-      goes = goes_on (table s) t.before.loop.at _ (sym k.goes_on.ensures ∙ not-false k.goes_on.result w.0.left);
-    }) w.1 w.2 w.3 w.4)
-    c.if1.branch
+    elim c.if1.branch [
+      then-not-goes_on w ↦ ready_is (ready_again t.before.loop.inv s.pre.cells t.loop-test.taken w.copy_many.ensures) w.out_values-is w.to-is w.first-is w.waiting-is
+      | else-not-goes_on w ↦ ready_is (record {
+        reading = t.before.loop.inv;
+        goes = goes_on (table s) t.before.loop.at _ (sym k.goes_on.ensures ∙ not-false k.goes_on.result w.if-not-goes_on.false-raw);
+      }) w.out_values-is w.to-is w.first-is w.waiting-is
+    ]
 
 -- with the cell it is the next turn's
 more : (c : Joined) → let t = turn c.before in let s = start t in let l = t.before.loop in

@@ -1,0 +1,15 @@
+-- `endian::in_place::reverse_word`: the bytes of the number written are those read, in the other order (Words).
+-- Assumes nothing.
+use mathlib.Core.Path.{ap, ◌∙◌}
+use mathlib.Core.List.{List}
+use Prim.Native.Nat.{ℕ}
+use Rattle.array.specs.Buffers.{over_at}
+use Rattle.array.specs.Kind.{big}
+use Rattle.word.proofs.Words.{le_read}
+use Rattle.endian.proofs.in_place.reverse_word.Goals as goal
+
+pub returns : goal.returns
+returns c =
+    let a = c.args in
+    c.put_word.ensures ∙ ap (λ (l : List ℕ). over_at a.at l a.bytes.now)
+    (le_read big a.bytes.now (λ i. (c.slice_known-1.given i).fits) a.at a.size c.requires.1 c.big_at-v.ensures)
