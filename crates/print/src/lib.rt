@@ -1,6 +1,10 @@
 // Numbers and lists as text: written into a lent text from a place on, and cut off where it is full.
+#![tactic(auto)]
+
 ghost use Rattle.std.specs.Prelude.{◌≡◌, ◌≤◌, ◌<◌, length, drop, set};
 ghost use Rattle.print.specs.Print.{Onward, glyph_of, shown_of, shown_part};
+
+use itoa::Buffer;
 
 // From so many equal ones on a list shows a run.
 const LONG_RUN: usize = 5;
@@ -37,12 +41,12 @@ pub fn put_number(text: &mut [u8], at: usize, n: u64) -> usize
     requires { at ≤ length text.old }
     ensures { Onward at result (length text.old) }
 {
-    let mut digits = [0u8; 20];
-    let k = io::decimal(n, &mut digits);
-    put_text(text, at, &digits[..k])
+    let mut digits = Buffer::new();
+    put_text(text, at, digits.format(n).as_bytes())
 }
 
 // A hexadecimal digit, in upper case.
+#[tactic(auto, unfolding(crate::specs::Print::glyph_of))]
 fn glyph(d: u8) -> u8
     requires { d ≤ 15 }
     ensures { result ≡ glyph_of d }
@@ -92,6 +96,7 @@ fn run_of_numbers(s: &[u64], at: usize) -> usize
 }
 
 // How many of n equal ones are shown as one part.
+#[tactic(auto, unfolding(crate::specs::Print::shown_of))]
 fn shown(n: usize) -> usize
     ensures { result ≡ shown_of n }
 {

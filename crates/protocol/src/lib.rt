@@ -24,13 +24,16 @@
 // before starts before lengths before store. A table that a call works on in place is shown whole, behind `ok:` where a cell was set and
 // behind `ok MOVED:` where it was packed.
 // Outputs are filled with EE beforehand; `spoilt` says that a byte beyond the lengths, or any after a refusal, has changed.
+#![tactic(auto)]
+
 mod calls;
 
 ghost use Rattle.std.specs.Prelude.{◌≡◌, length};
 
-use libc::STDIN_FILENO;
-use requests::{Parsed, Request};
+use requests::{Parsed, Request, input};
 use responses::{lent, show};
+use std::io;
+use std::io::{Input, Print, Write};
 use text::scan;
 use text::scan::{part_of_bytes, part_of_numbers};
 
@@ -57,6 +60,7 @@ fn number_space() -> [u64; 66560]
 
 // Lends the outputs, makes the call, and writes its answer.
 fn run_call(
+    out: &mut impl Write,
     letter: u8,
     q: Request,
     numbers: &[u64],
@@ -64,19 +68,25 @@ fn run_call(
     masks: &mut [u8],
     values: &mut [u8],
     offsets: &mut [u64],
-) {
+) -> io::Result<()> {
     let content = part_of_bytes(bytes, q.values, q.bytes);
     lent::lend(letter == b'r', content, masks, values, offsets);
     let answer = calls::run(letter, q, numbers, bytes, masks, values, offsets);
-    responses::write_answer(letter, answer, content, masks, values, offsets);
+    responses::write_answer(out, letter, answer, content, masks, values, offsets)
 }
 
-fn respond(letter: u8, q: Request, numbers: &[u64], bytes: &[u8]) {
+fn respond(
+    out: &mut impl Write,
+    letter: u8,
+    q: Request,
+    numbers: &[u64],
+    bytes: &[u8],
+) -> io::Result<()> {
     let rooms = part_of_numbers(numbers, q.rooms, q.numbers);
     let content = part_of_bytes(bytes, q.values, q.bytes);
     let rooms = responses::rooms_of(letter, rooms, content.len(), 393216, 393216, 66560);
     if !rooms.named {
-        return show::write_line(b"bad line");
+        return show::write_line(out, b"bad line");
     }
     let m = rooms.masks;
     let v = rooms.values;
@@ -85,6 +95,7 @@ fn respond(letter: u8, q: Request, numbers: &[u64], bytes: &[u8]) {
     let mut values = byte_space();
     let mut offsets = number_space();
     run_call(
+        out,
         letter,
         q,
         numbers,
@@ -92,44 +103,45 @@ fn respond(letter: u8, q: Request, numbers: &[u64], bytes: &[u8]) {
         &mut masks[0..m],
         &mut values[0..v],
         &mut offsets[0..o],
-    );
+    )
 }
 
 // Answers a line that hands no table over.
-fn answer_request(letter: u8, line: &[u8]) {
+fn answer_request(out: &mut impl Write, letter: u8, line: &[u8]) -> io::Result<()> {
     let mut numbers = number_space();
     let mut bytes = byte_space();
     let Parsed::Request(q) = requests::read_line(letter, line, &mut numbers, &mut bytes) else {
-        return show::write_line(b"bad line");
+        return show::write_line(out, b"bad line");
     };
     if letter == b'M' {
-        return protocol_tables::respond_make(q, &numbers, &bytes);
+        return protocol_tables::respond_make(out, q, &numbers, &bytes);
     }
-    respond(letter, q, &numbers, &bytes);
+    respond(out, letter, q, &numbers, &bytes)
 }
 
 // Answers one line.
-fn answer_line(line: &[u8]) {
+fn answer_line(out: &mut impl Write, line: &[u8]) -> io::Result<()> {
     let letter = requests::letter_of(line);
     match letter {
-        b'#' => show::write_line(line),
-        b'R' | b'S' | b'V' | b'P' => protocol_tables::answer_table(letter, line),
-        _ => answer_request(letter, line),
+        b'#' => show::write_line(out, line),
+        b'R' | b'S' | b'V' | b'P' => protocol_tables::answer_table(out, letter, line),
+        _ => answer_request(out, letter, line),
     }
 }
 
-fn answer_all(input: &[u8]) {
+fn answer_all(out: &mut impl Write, input: &[u8]) -> io::Result<()> {
     let mut at = 0;
     while at < input.len() {
         let end = scan::find(input, at, b'\n', b'\n');
-        answer_line(&input[at..end]);
+        answer_line(out, &input[at..end])?;
         at = end + 1;
     }
+    Ok(())
 }
 
 // Answers all of standard input.
-pub fn answer_input() {
+pub fn answer_input(rt: &(impl Input + Print)) -> io::Result<()> {
     let mut input = input_space();
-    let n = io::read_full(STDIN_FILENO, &mut input);
-    answer_all(&input[..n]);
+    let n = input::read_full(&mut rt.reader(), &mut input)?;
+    answer_all(&mut io::writer(rt), &input[..n])
 }

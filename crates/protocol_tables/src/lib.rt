@@ -1,4 +1,6 @@
 // Requests of calls on working tables, answered.
+#![tactic(auto)]
+
 ghost use Rattle.std.specs.Prelude.{◌≡◌, length};
 
 use array::answer::{Written, WrittenArray};
@@ -6,6 +8,8 @@ use requests::Request;
 use requests::asked::head_kind;
 use requests::tables::{TableParsed, TableRequest, read_table_line};
 use responses::{lent, show, tables};
+use std::io;
+use std::io::Write;
 use table::answer::{Previewed, Settled, WrittenTable};
 use text::scan::{number_at, part_of_bytes, part_of_numbers};
 use valid::numbers::KindRead;
@@ -51,6 +55,7 @@ fn make(
 
 // Lends the outputs, makes a table, and writes the answer.
 fn run_make(
+    out: &mut impl Write,
     q: Request,
     numbers: &[u64],
     bytes: &[u8],
@@ -58,20 +63,25 @@ fn run_make(
     starts: &mut [u64],
     lengths: &mut [u64],
     store: &mut [u8],
-) {
+) -> io::Result<()> {
     lent::lend_blank(masks, starts, lengths, store);
     let answer = make(q, numbers, bytes, masks, starts, lengths, store);
-    tables::write_made(answer, masks, starts, lengths, store);
+    tables::write_made(out, answer, masks, starts, lengths, store)
 }
 
-pub fn respond_make(q: Request, numbers: &[u64], bytes: &[u8]) {
+pub fn respond_make(
+    out: &mut impl Write,
+    q: Request,
+    numbers: &[u64],
+    bytes: &[u8],
+) -> io::Result<()> {
     let rooms = part_of_numbers(numbers, q.rooms, q.numbers);
     let m = number_at(rooms, 0);
     let s = number_at(rooms, 1);
     let l = number_at(rooms, 2);
     let rooms = lent::table_rooms(m, s, l, number_at(rooms, 3), 32768, 8192);
     if !rooms.named {
-        return show::write_line(b"bad line");
+        return show::write_line(out, b"bad line");
     }
     let m = rooms.masks;
     let s = rooms.starts;
@@ -82,6 +92,7 @@ pub fn respond_make(q: Request, numbers: &[u64], bytes: &[u8]) {
     let mut lengths = table_numbers();
     let mut store = table_bytes();
     run_make(
+        out,
         q,
         numbers,
         bytes,
@@ -89,7 +100,7 @@ pub fn respond_make(q: Request, numbers: &[u64], bytes: &[u8]) {
         &mut starts[0..s],
         &mut lengths[0..l],
         &mut store[0..b],
-    );
+    )
 }
 
 fn read(
@@ -118,23 +129,29 @@ fn read(
 
 // Lends the outputs, reads the table, and writes the answer.
 fn run_read(
+    out: &mut impl Write,
     q: TableRequest,
     numbers: &[u64],
     bytes: &[u8],
     masks: &mut [u8],
     values: &mut [u8],
     offsets: &mut [u64],
-) {
+) -> io::Result<()> {
     lent::lend(false, bytes, masks, values, offsets);
     let answer = read(q, numbers, bytes, masks, values, offsets);
-    responses::write_answer(b'R', answer, bytes, masks, values, offsets);
+    responses::write_answer(out, b'R', answer, bytes, masks, values, offsets)
 }
 
-fn respond_read(q: TableRequest, numbers: &[u64], bytes: &[u8]) {
+fn respond_read(
+    out: &mut impl Write,
+    q: TableRequest,
+    numbers: &[u64],
+    bytes: &[u8],
+) -> io::Result<()> {
     let rooms = part_of_numbers(numbers, q.more, q.numbers);
     let rooms = responses::rooms_of(b'R', rooms, 0, 32768, 32768, 8192);
     if !rooms.named {
-        return show::write_line(b"bad line");
+        return show::write_line(out, b"bad line");
     }
     let m = rooms.masks;
     let v = rooms.values;
@@ -143,13 +160,14 @@ fn respond_read(q: TableRequest, numbers: &[u64], bytes: &[u8]) {
     let mut values = table_bytes();
     let mut offsets = table_numbers();
     run_read(
+        out,
         q,
         numbers,
         bytes,
         &mut masks[0..m],
         &mut values[0..v],
         &mut offsets[0..o],
-    );
+    )
 }
 
 fn set(
@@ -223,6 +241,7 @@ fn kept(
 
 // Sets a cell or packs, in a table that is lent, and writes the answer.
 fn run_in_place(
+    out: &mut impl Write,
     letter: u8,
     q: TableRequest,
     numbers: &[u64],
@@ -231,19 +250,20 @@ fn run_in_place(
     starts: &mut [u64],
     lengths: &mut [u64],
     store: &mut [u8],
-) {
+) -> io::Result<()> {
     if letter == b'S' {
         let answer = set(q, numbers, bytes, masks, starts, lengths, store);
         let same = kept(q, numbers, bytes, masks, starts, lengths, store);
-        return tables::write_settled(answer, same, masks, starts, lengths, store);
+        return tables::write_settled(out, answer, same, masks, starts, lengths, store);
     }
     let answer = pack(q, numbers, masks, starts, lengths, store);
     let same = kept(q, numbers, bytes, masks, starts, lengths, store);
-    tables::write_packed(answer, same, masks, starts, lengths, store);
+    tables::write_packed(out, answer, same, masks, starts, lengths, store)
 }
 
 // The same, the table lent first.
 fn run_lent(
+    out: &mut impl Write,
     letter: u8,
     q: TableRequest,
     numbers: &[u64],
@@ -252,7 +272,7 @@ fn run_lent(
     starts: &mut [u64],
     lengths: &mut [u64],
     store: &mut [u8],
-) {
+) -> io::Result<()> {
     lent::lend_table(
         part_of_bytes(bytes, 0, q.store),
         part_of_numbers(numbers, q.starts, q.lengths),
@@ -263,10 +283,18 @@ fn run_lent(
         lengths,
         store,
     );
-    run_in_place(letter, q, numbers, bytes, masks, starts, lengths, store);
+    run_in_place(
+        out, letter, q, numbers, bytes, masks, starts, lengths, store,
+    )
 }
 
-fn respond_in_place(letter: u8, q: TableRequest, numbers: &[u64], bytes: &[u8]) {
+fn respond_in_place(
+    out: &mut impl Write,
+    letter: u8,
+    q: TableRequest,
+    numbers: &[u64],
+    bytes: &[u8],
+) -> io::Result<()> {
     let m = part_of_bytes(bytes, 0, q.store).len() as u64;
     let s = part_of_numbers(numbers, q.starts, q.lengths).len() as u64;
     let l = part_of_numbers(numbers, q.lengths, q.more).len() as u64;
@@ -281,6 +309,7 @@ fn respond_in_place(letter: u8, q: TableRequest, numbers: &[u64], bytes: &[u8]) 
     let mut lengths = table_numbers();
     let mut store = table_bytes();
     run_lent(
+        out,
         letter,
         q,
         numbers,
@@ -289,7 +318,7 @@ fn respond_in_place(letter: u8, q: TableRequest, numbers: &[u64], bytes: &[u8]) 
         &mut starts[0..s],
         &mut lengths[0..l],
         &mut store[0..b],
-    );
+    )
 }
 
 fn preview(q: TableRequest, numbers: &[u64], bytes: &[u8]) -> Previewed {
@@ -310,17 +339,17 @@ fn preview(q: TableRequest, numbers: &[u64], bytes: &[u8]) -> Previewed {
 }
 
 // Answers a line that hands a table over.
-pub fn answer_table(letter: u8, line: &[u8]) {
+pub fn answer_table(out: &mut impl Write, letter: u8, line: &[u8]) -> io::Result<()> {
     let mut numbers = table_numbers();
     let mut bytes = table_bytes();
     let TableParsed::Request(q) = read_table_line(letter, line, &mut numbers, &mut bytes) else {
-        return show::write_line(b"bad line");
+        return show::write_line(out, b"bad line");
     };
     if letter == b'R' {
-        return respond_read(q, &numbers, &bytes);
+        return respond_read(out, q, &numbers, &bytes);
     }
     if letter == b'V' {
-        return tables::write_previewed(preview(q, &numbers, &bytes));
+        return tables::write_previewed(out, preview(q, &numbers, &bytes));
     }
-    respond_in_place(letter, q, &numbers, &bytes);
+    respond_in_place(out, letter, q, &numbers, &bytes)
 }

@@ -1,5 +1,8 @@
 // A request: which lists its line has, in which order, and where they lie once they are read.
+#![tactic(auto)]
+
 pub mod asked;
+pub mod input;
 pub mod tables;
 
 use std::num;

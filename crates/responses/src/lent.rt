@@ -218,9 +218,7 @@ fn kept_beyond(
     values: &[u8],
     offsets: &[u64],
 ) -> bool {
-    blank_bytes(masks, m)
-        && kept_values(in_place, bytes, values, v)
-        && blank_numbers(offsets, o)
+    blank_bytes(masks, m) && kept_values(in_place, bytes, values, v) && blank_numbers(offsets, o)
 }
 
 // Whether the outputs are as they were lent beyond the lengths that an answer names; a refusal names none.
@@ -233,25 +231,9 @@ pub fn kept(
     offsets: &[u64],
 ) -> bool {
     match answer {
-        WrittenArray::Refused(_) => kept_beyond(
-            in_place,
-            0,
-            0,
-            0,
-            bytes,
-            masks,
-            values,
-            offsets,
-        ),
+        WrittenArray::Refused(_) => kept_beyond(in_place, 0, 0, 0, bytes, masks, values, offsets),
         WrittenArray::Lengths(m, v, o) => kept_beyond(
-            in_place,
-            m,
-            v,
-            o,
-            bytes,
-            masks,
-            values,
-            offsets,
+            in_place, m, v, o, bytes, masks, values, offsets,
         ),
     }
 }

@@ -1,5 +1,7 @@
 // Answers as text: `refused N`, or `ok LENGTHS: LISTS` with the outputs up to those lengths, masks before values before offsets;
 // ` spoilt` where a byte beyond the lengths, or any after a refusal, has changed.
+#![tactic(auto)]
+
 pub mod lent;
 pub mod show;
 pub mod tables;
@@ -10,6 +12,8 @@ ghost use Rattle.print.specs.Print.{Onward};
 
 use crate::lent::Rooms;
 use array::answer::WrittenArray;
+use std::io;
+use std::io::Write;
 use text::scan::{number_at, part_of_bytes, part_of_numbers};
 
 // The outputs that a call has: from masks, values and offsets, which are 0 to 2, those from `first` on before `end`.
@@ -160,14 +164,15 @@ fn text_space() -> [u8; 262144]
 
 // Writes the answer of the call of a letter, and the outputs.
 pub fn write_answer(
+    out: &mut impl Write,
     letter: u8,
     answer: WrittenArray,
     bytes: &[u8],
     masks: &[u8],
     values: &[u8],
     offsets: &[u64],
-) {
+) -> io::Result<()> {
     let mut text = text_space();
     let n = put_answer(&mut text, letter, answer, bytes, masks, values, offsets);
-    show::write_line(part_of_bytes(&text, 0, n));
+    show::write_line(out, part_of_bytes(&text, 0, n))
 }

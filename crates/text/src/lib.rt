@@ -1,2 +1,4 @@
 // Lists of numbers and of bytes read from text, for programs.
+#![tactic(auto)]
+
 pub mod scan;

@@ -28,6 +28,7 @@ pub enum Filled {
 }
 
 // The value of a hexadecimal digit; 16 for any other byte.
+#[tactic(auto, unfolding(crate::specs::Scan::digit_of))]
 fn digit(b: u8) -> u8
     ensures { result ≡ digit_of b }
 {
@@ -47,6 +48,7 @@ fn digit(b: u8) -> u8
 }
 
 // The number with one more decimal digit behind it.
+#[tactic(auto, unfolding(crate::specs::Scan::next_number))]
 fn next_number(v: u64, d: u8) -> Number
     ensures { result ≡ next_number v d }
 {
@@ -80,6 +82,7 @@ pub fn read_number(text: &[u8]) -> Number
 }
 
 // The byte that two hexadecimal digits say.
+#[tactic(auto, unfolding(crate::specs::Scan::octet_of))]
 fn read_octet(high: u8, low: u8) -> Octet
     ensures { result ≡ octet_of high low }
 {
@@ -278,6 +281,7 @@ pub fn read_numbers(text: &[u8], out: &mut [u64], from: usize) -> Filled
 }
 
 // The elements between two places; none where these are no places of the list.
+#[tactic(auto, unfolding(crate::specs::Scan::between))]
 pub fn part_of_bytes(s: &[u8], from: usize, to: usize) -> &[u8]
     ensures { result.now ≡ between from to s.now }
 {
@@ -290,6 +294,7 @@ pub fn part_of_bytes(s: &[u8], from: usize, to: usize) -> &[u8]
     &s[from..to]
 }
 
+#[tactic(auto, unfolding(crate::specs::Scan::between))]
 pub fn part_of_numbers(s: &[u64], from: usize, to: usize) -> &[u64]
     ensures { result.now ≡ between from to s.now }
 {

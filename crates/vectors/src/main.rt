@@ -1,4 +1,8 @@
 // The directed vectors: the worked bytes of docs/SPEC.md (S10.1 to S10.44), each refusal, each pair of them, each thing that is kept.
-fn main() {
-    protocol::answer_input();
+#![tactic(auto)]
+
+use std::io;
+
+fn main(rt: HostRuntime) -> io::Result<()> {
+    protocol::answer_input(&rt)
 }

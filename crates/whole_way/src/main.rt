@@ -6,14 +6,17 @@
 //
 // The lists are those of crate requests. SUBSETS cover the table, CUTS are cut from the outcome; either is a list of subsets, all
 // starts and then all lengths of each.
+#![tactic(auto)]
+
 mod table;
 mod way;
 
 ghost use Rattle.std.specs.Prelude.{◌≡◌, length};
 
-use libc::STDIN_FILENO;
+use requests::input;
 use responses::show;
-use std::num;
+use std::io::Write;
+use std::{io, num};
 use text::scan;
 
 // Room for all tables.
@@ -24,31 +27,32 @@ fn input_space() -> [u8; 524288]
 }
 
 // A comment, or the table behind `number` others; how many tables there are now.
-fn run_line(number: u64, line: &[u8]) -> u64 {
+fn run_line(out: &mut impl Write, number: u64, line: &[u8]) -> io::Result<u64> {
     if line.len() == 0 {
-        return number;
+        return Ok(number);
     }
     if line[0] == b'#' {
-        show::write_line(line);
-        return number;
+        show::write_line(out, line)?;
+        return Ok(number);
     }
     let next = num::wrapping_add_u64(number, 1);
-    table::run_table(next, line);
-    next
+    table::run_table(out, next, line)?;
+    Ok(next)
 }
 
-fn run_all(input: &[u8]) {
+fn run_all(out: &mut impl Write, input: &[u8]) -> io::Result<()> {
     let mut number: u64 = 0;
     let mut at = 0;
     while at < input.len() {
         let end = scan::find(input, at, b'\n', b'\n');
-        number = run_line(number, &input[at..end]);
+        number = run_line(out, number, &input[at..end])?;
         at = end + 1;
     }
+    Ok(())
 }
 
-fn main() {
+fn main(rt: HostRuntime) -> io::Result<()> {
     let mut input = input_space();
-    let n = io::read_full(STDIN_FILENO, &mut input);
-    run_all(&input[..n]);
+    let n = input::read_full(&mut rt.reader(), &mut input)?;
+    run_all(&mut io::writer(&rt), &input[..n])
 }
