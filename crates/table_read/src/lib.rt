@@ -1,4 +1,6 @@
 // The working table read out, in rest form.
+#![tactic(auto)]
+
 mod cells;
 
 ghost use Rattle.std.specs.Prelude.{◌≡◌, ◌≤◌, length};

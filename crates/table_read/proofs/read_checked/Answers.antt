@@ -1,0 +1,49 @@
+-- `read_checked` meets its contract: which output is too short, or that all was stored.
+-- Assumes nothing.
+use mathlib.Core.Path.{◌≡◌, refl, sym, ◌∙◌}
+use native.Mathlib.Omega.{arith}
+use lib.ListN.{length}
+use Rattle.array.specs.Content.{Content}
+use Rattle.array.specs.Outcome.{content_array}
+use Rattle.array.proofs.Putting.{without_masks_lem, no_values, no_offsets, put}
+use Rattle.table.specs.Table.{Table}
+use Rattle.table.specs.Meaning.{table_by}
+use Rattle.table_read.specs.Read.{read_by}
+use Rattle.table_read.proofs.Reading.{values_long, offsets_long, whole_copied}
+use Rattle.table_read.proofs.read_checked.Goals as goal
+
+pub count_bytes-bytes-requires : goal.count_bytes-bytes-requires
+count_bytes-bytes-requires c = omega (arith, c.requires.total)
+
+pub returns-then-out_masks-planes : goal.returns-then-out_masks-planes
+returns-then-out_masks-planes c =
+    let table : Table = table_by c.args.masks.now c.args.starts.now c.args.lengths.now c.args.store.now in
+    let content : Content = read_by c.args.cells table in
+    let outputs : Content = content_array c.args.out_masks.now c.args.out_values.now c.args.out_offsets.now in
+    without_masks_lem content outputs _ refl c.if-out_masks-planes.true
+
+pub returns-then-out_values-bytes : goal.returns-then-out_values-bytes
+returns-then-out_values-bytes c =
+    let table : Table = table_by c.args.masks.now c.args.starts.now c.args.lengths.now c.args.store.now in
+    let content : Content = read_by c.args.cells table in
+    let outputs : Content = content_array c.args.out_masks.now c.args.out_values.now c.args.out_offsets.now in
+    let bytes_are : length content.values ≡ c.count_bytes-bytes.result = values_long c.requires.cells ∙ sym c.count_bytes-bytes.ensures in
+    no_values content outputs _ bytes_are c.if-out_values-bytes.true
+
+pub returns-then-out_offsets-count : goal.returns-then-out_offsets-count
+returns-then-out_offsets-count c =
+    let table : Table = table_by c.args.masks.now c.args.starts.now c.args.lengths.now c.args.store.now in
+    let content : Content = read_by c.args.cells table in
+    let outputs : Content = content_array c.args.out_masks.now c.args.out_values.now c.args.out_offsets.now in
+    no_offsets content outputs _ (offsets_long c.args.cells table) c.if-out_offsets-count.true
+
+pub returns : goal.returns
+returns c =
+    let table : Table = table_by c.args.masks.now c.args.starts.now c.args.lengths.now c.args.store.now in
+    let content : Content = read_by c.args.cells table in
+    let outputs : Content = content_array c.args.out_masks.now c.args.out_values.now c.args.out_offsets.now in
+    let bytes_are : length content.values ≡ c.count_bytes-bytes.result = values_long c.requires.cells ∙ sym c.count_bytes-bytes.ensures in
+    put content outputs _ _ _ refl bytes_are (offsets_long c.args.cells table)
+    c.if-out_masks-planes.false c.if-out_values-bytes.false c.if-out_offsets-count.false _ _ _
+    (whole_copied c.args.masks.now c.args.out_masks.now c.copy_many.ensures)
+    c.copy_values.ensures.values c.copy_values.ensures.offsets
