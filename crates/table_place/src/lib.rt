@@ -1,4 +1,6 @@
 // Bytes put into the store, right after the highest-lying cell.
+#![tactic(auto)]
+
 ghost use Rattle.std.specs.Prelude.{◌≡◌, [], ◌+◌, ◌≤◌, ◌<◌, length};
 ghost use Rattle.array.specs.Limits.{most_cells};
 ghost use Rattle.array.specs.Places.{sum};
