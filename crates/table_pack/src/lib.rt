@@ -1,4 +1,6 @@
 // A working table packed.
+#![tactic(auto)]
+
 ghost use Rattle.std.specs.Prelude.{◌≡◌, ◌≤◌, length};
 ghost use Rattle.array.specs.Meaning.{kind_of};
 ghost use Rattle.table.specs.Calls.{most_test, cells_packed};
