@@ -1,4 +1,6 @@
 // Layer 2, writing: the written length, the sum over the levels, outermost first.
+#![tactic(auto)]
+
 ghost use Rattle.std.specs.Prelude.{◌≡◌, ◌≤◌};
 ghost use Rattle.array.specs.Meaning.{kind_of};
 ghost use Rattle.encode_values.specs.Ready.{Measured};
