@@ -1,4 +1,6 @@
 // Reading stored arrays of fixed values: the walk, then the need, and then the copying. They have no offsets: what is lent for them stays.
+#![tactic(auto)]
+
 mod plain;
 
 ghost use Rattle.std.specs.Prelude.{◌≡◌, List, ℕ, ◌≤◌};
