@@ -1,9 +1,9 @@
 -- What a preview answers, by where it ends: a refusal of the setting, or what a walk over the other cells says of the table after it.
 -- Assumes nothing.
 use mathlib.Core.Path.{◌≡◌, refl, sym, ap, ap₂, ◌∙◌}
-use mathlib.Core.Bool.{Bool, not}
+use mathlib.Core.Bool.{not}
 use mathlib.Core.List.{List, [], ◌∷◌, map}
-use Prim.Native.Nat.{ℕ, ◌+◌, ◌≤◌, ◌<◌, ◌^◌}
+use Prim.Native.Nat.{ℕ, ◌+◌, ◌≤◌, ◌<◌}
 use native.Mathlib.Omega.{arith}
 use lib.ListN.{length, get_or, set}
 use lib.Dec.{eqb}
@@ -12,12 +12,12 @@ use Rattle.array.specs.Kind.{Kind}
 use Rattle.array.specs.Lists.{All}
 use Rattle.array.specs.Cells.{Value, Cell, Strict, leaf}
 use Rattle.array.specs.Places.{sum, offset_at, cell_by}
-use Rattle.array.proofs.Lists.{All-map, All-get_or}
+use Rattle.array.proofs.Lists.{All-get_or}
 use Rattle.array.proofs.RestLaws.{StrictCell, strict_rest, rest_again}
 use Rattle.table.specs.Table.{Table, most_store, start_of, length_of, ending}
-use Rattle.table.specs.Lying.{top_by, displaced}
+use Rattle.table.specs.Lying.{displaced}
 use Rattle.table.specs.Setting.{setting_of, settled}
-use Rattle.table.specs.Calls.{set_answer, Preview, looked_at, previewed}
+use Rattle.table.specs.Calls.{set_answer, looked_at, previewed}
 use Rattle.table.specs.Walk.{InOrder, without, unpacked_by}
 use Rattle.table.proofs.Order.{All-passing, lies_below, sum_fits}
 use Rattle.table.proofs.Each.{strict_by_lem}

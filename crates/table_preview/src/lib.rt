@@ -1,4 +1,6 @@
 // What a setting would do to a working table, which stays as it is.
+#![tactic(auto)]
+
 ghost use Rattle.std.specs.Prelude.{◌≡◌, ◌+◌, ◌≤◌, ◌<◌, ◌^◌, length};
 ghost use Rattle.array.specs.Answer.{map_answer};
 ghost use Rattle.array.specs.Meaning.{kind_of};

@@ -1,0 +1,64 @@
+-- `others::look_at` meets its contract, by the laws of Looking.
+-- Assumes nothing.
+use native.Mathlib.Omega.{arith}
+use lib.ListN.{get_or}
+use Rattle.table.specs.Table.{most_store}
+use Rattle.table_check.specs.Check.{Reached}
+use Rattle.table_preview.proofs.Looking.{looked_begins, looked_ends, cell_reached, looked_past, bytes_small, looked_more, looked_is}
+use Rattle.table_preview.proofs.others.look_at.Goals.{then-j-cell, else-j-cell}
+use Rattle.table_preview.proofs.others.look_at.Goals as goal
+
+pub loop-i-init : goal.loop-i-init
+loop-i-init c = looked_begins c.requires
+
+pub overflow_cast-j : goal.overflow_cast-j
+overflow_cast-j c = omega (arith, c.shared_slice_known-in-loop-i-1.given c.loop-i.i)
+
+pub offset_bounds-starts-j : goal.offset_bounds-starts-j
+offset_bounds-starts-j c =
+    let reached : let a = c.args in Reached a.starts.now a.lengths.now (get_or a.order.now c.loop-i.i 0) =
+    cell_reached c.loop-i.invariant c.loop-i-test.true in
+    omega (arith, reached)
+
+pub bounds-starts-j : goal.bounds-starts-j
+bounds-starts-j c =
+    let reached : let a = c.args in Reached a.starts.now a.lengths.now (get_or a.order.now c.loop-i.i 0) =
+    cell_reached c.loop-i.invariant c.loop-i-test.true in
+    omega (arith, reached)
+
+pub offset_bounds-lengths-j : goal.offset_bounds-lengths-j
+offset_bounds-lengths-j c =
+    let reached : let a = c.args in Reached a.starts.now a.lengths.now (get_or a.order.now c.loop-i.i 0) =
+    cell_reached c.loop-i.invariant c.loop-i-test.true in
+    omega (arith, reached)
+
+pub bounds-lengths-j : goal.bounds-lengths-j
+bounds-lengths-j c =
+    let reached : let a = c.args in Reached a.starts.now a.lengths.now (get_or a.order.now c.loop-i.i 0) =
+    cell_reached c.loop-i.invariant c.loop-i-test.true in
+    omega (arith, reached)
+
+pub counted-unpacked-requires : goal.counted-unpacked-requires
+counted-unpacked-requires c = omega (arith, c.loop-i.invariant.few, c.loop-i-test.true)
+
+pub overflow_add-packed : goal.overflow_add-packed
+unfolding most_store
+overflow_add-packed c = omega (arith, bytes_small c.loop-i.invariant c.loop-i-test.true c.if-j-cell.true)
+
+pub overflow_add-start : goal.overflow_add-start
+overflow_add-start c =
+    let reached : let a = c.args in Reached a.starts.now a.lengths.now (get_or a.order.now c.loop-i.i 0) =
+    cell_reached c.loop-i.invariant c.loop-i-test.true in
+    omega (arith, reached)
+
+pub loop-i-preserved : goal.loop-i-preserved
+loop-i-preserved c =
+    let l = c.loop-i.invariant in
+    let h = c.loop-i-test.true in
+    elim c.if-j-cell.branch [
+      | then-j-cell w ↦ looked_is (looked_more l h w.if-j-cell.true w.counted-unpacked.ensures w.greater-top.ensures) w.unpacked-is w.packed-is w.top-is
+      | else-j-cell w ↦ looked_is (looked_past l h w.if-j-cell.false) w.unpacked-is w.packed-is w.top-is
+    ]
+
+pub returns : goal.returns
+returns c = looked_ends c.loop-i.invariant c.loop-i-test.false
