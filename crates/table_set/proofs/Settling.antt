@@ -1,24 +1,22 @@
 -- A setting made: the masks of one cell, its bytes given up, and new ones put in.
 -- Assumes nothing.
-use mathlib.Core.Path.{◌≡◌, refl, sym, ap, ◌∙◌, subst}
-use Prim.Native.Nat.{ℕ, zero, suc, ◌+◌, ◌≤◌, ◌<◌}
-use native.Mathlib.Nat.{zero-add, zero-mul, add-zero}
+use mathlib.Core.Path.{◌≡◌, sym, ap, ◌∙◌, subst}
+use Prim.Native.Nat.{ℕ, ◌+◌, ◌≤◌, ◌<◌}
+use native.Mathlib.Nat.{zero-mul}
 use native.Mathlib.Omega.{arith}
-use mathlib.Core.Bool.{Bool, true, false}
-use mathlib.Core.List.{List, [], ◌∷◌}
+use mathlib.Core.List.{List, []}
 use lib.ListN.{length, get_or, set, length-set}
-use lib.Dec.{eqb}
 use Rattle.array.specs.Limits.{most_cells}
-use Rattle.array.specs.Lists.{from, pick}
+use Rattle.array.specs.Lists.{from}
 use Rattle.array.specs.Cells.{Value, Cell, Strict, leaf}
-use Rattle.array.specs.Places.{sum, mask_at, planes_by, shown_by, cell_by}
+use Rattle.array.specs.Places.{sum, cell_by}
 use Rattle.array.proofs.Lists.{All-of, All-get_or}
-use Rattle.array.proofs.RestLaws.{masks_in, leaf_by, rest_by_lem, strict_rest, rest_again}
+use Rattle.array.proofs.RestLaws.{strict_rest, rest_again}
 use Rattle.table.specs.Table.{Table, TableOk, most_store}
 use Rattle.table.specs.Setting.{setting_of, setting_masks, given_up, masked, bytes_put, settled}
 use Rattle.table.specs.Meaning.{table_by}
 use Rattle.table.proofs.Each.{strict_by_lem}
-use Rattle.table.proofs.Setting.{masks_of_one, base_ok}
+use Rattle.table.proofs.Setting.{base_ok}
 use Rattle.table_setting.specs.Masks.{masked_by}
 use Rattle.table_place.specs.Place.{Put}
 use Rattle.table_setting.specs.Settle.{Ready, settled_by}

@@ -1,4 +1,6 @@
 // A cell of a working table set to other masks and bytes, in place.
+#![tactic(auto)]
+
 ghost use Rattle.std.specs.Prelude.{◌≡◌, ◌≤◌, length};
 ghost use Rattle.array.specs.Meaning.{kind_of};
 ghost use Rattle.table.specs.Table.{TableKind, CountOk};
