@@ -1,4 +1,6 @@
 // Layer 2, writing: the stored form by position; a frame holds a content, and a content may be a frame again.
+#![tactic(auto)]
+
 ghost use Rattle.std.specs.Prelude.{◌≡◌, ◌+◌, ◌≤◌, length};
 ghost use Rattle.array.specs.Buffers.{over, over_at};
 ghost use Rattle.array.specs.Meaning.{kind_of};
