@@ -1,4 +1,6 @@
 // Reading a stored array into lent masks, values and offsets: the public call `decode`.
+#![tactic(auto)]
+
 ghost use Rattle.std.specs.Prelude.{◌≡◌};
 ghost use Rattle.array.specs.Meaning.{kind_of};
 ghost use Rattle.codec.specs.Calls.{decoded};
