@@ -13,7 +13,6 @@ use Rattle.array.specs.Limits.{most_cells, most_depth}
 use Rattle.array.specs.Kind.{Kind, Form, fixed, ragged}
 use Rattle.array.specs.Content.{Content, ValuesOk, rest_form, unless_kept}
 use Rattle.array.specs.Buffers.{over, if_room}
-use Rattle.array.specs.declared.kind.Kind as declared
 use Rattle.array.proofs.Rules.{right_of}
 use Rattle.valid.specs.declared.array_bytes.Checked.{Checked}
 use Rattle.valid.specs.Check.{check_of, told_checked}

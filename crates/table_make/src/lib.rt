@@ -1,4 +1,6 @@
 // A working table made of a valid array's rest form, packed in cell order.
+#![tactic(auto)]
+
 mod put;
 
 ghost use Rattle.std.specs.Prelude.{◌≡◌, leb, length};
