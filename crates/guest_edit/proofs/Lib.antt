@@ -1,1 +1,1 @@
-pub mod Hidden
+pub mod Hiding

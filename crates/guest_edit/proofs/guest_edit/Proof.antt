@@ -16,7 +16,7 @@ use Rattle.table.specs.Table.{Table, table_kind_test, count_test}
 use Rattle.table.specs.Meaning.{table_by}
 use Rattle.rights.specs.Rights.{rights_test, permits, masked_test}
 use Rattle.guest_edit.specs.Hidden.{hidden_number}
-use Rattle.guest_edit.proofs.Hidden.{edit_refused, no_kind, no_count, without_masks_lem, no_plane, edit_hidden, edit_shown}
+use Rattle.guest_edit.proofs.Hiding.{edit_refused, no_kind, no_count, without_masks_lem, no_plane, edit_hidden, edit_shown}
 use Rattle.guest_edit.proofs.guest_edit.Statement.{statement}
 use Rattle.guest_edit.proofs.guest_edit.Tie as tie
 
