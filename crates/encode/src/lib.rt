@@ -1,4 +1,6 @@
 // Layer 2, writing: an array into its stored form.
+#![tactic(auto)]
+
 ghost use Rattle.std.specs.Prelude.{◌≡◌};
 ghost use Rattle.array.specs.Meaning.{kind_of};
 ghost use Rattle.array.specs.Outcome.{content_array, outcome};
