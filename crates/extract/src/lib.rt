@@ -1,4 +1,6 @@
 // Layer 3: a subset cut from an array.
+#![tactic(auto)]
+
 ghost use Rattle.std.specs.Prelude.{◌≡◌, length, drop};
 ghost use Rattle.array.specs.Shape.{volume};
 ghost use Rattle.array.specs.Subset.{subset_of, cells_in};
