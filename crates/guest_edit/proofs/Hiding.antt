@@ -1,6 +1,6 @@
 -- A guest's edit behind its own four tests: of a hidden cell what its preview is refused by before 16, else 18; of any other cell the setting.
 -- Assumes nothing.
-use mathlib.Core.Path.{◌≡◌, refl, sym, ap, ◌∙◌}
+use mathlib.Core.Path.{◌≡◌, refl, sym, ap}
 use mathlib.Core.Bool.{Bool, true, false, not, ◌&&◌, false≢true}
 use mathlib.Core.List.{List}
 use Prim.Native.Nat.{ℕ}
@@ -12,7 +12,7 @@ use Rattle.array.specs.Cells.{Value}
 use Rattle.array.proofs.Rules.{left_of_lem, right_of}
 use Rattle.table.specs.Table.{Table, table_kind_test, count_test, table_test, store_test}
 use Rattle.table.specs.Setting.{setting_test, setting_of, settled, sum_after}
-use Rattle.table.specs.Calls.{Preview, looked_at, in_place, set_answer, cell_set, previewed}
+use Rattle.table.specs.Calls.{looked_at, in_place, set_answer, cell_set, previewed}
 use Rattle.rights.specs.Rights.{rights_test, permits, masked_test}
 use Rattle.rights.specs.Calls.{edit_answer, guest_edit}
 use Rattle.rights.proofs.Editing.{edit_sets}

@@ -1,4 +1,6 @@
 // A guest's edit: the setting of a cell that its rights plane shows.
+#![tactic(auto)]
+
 ghost use Rattle.std.specs.Prelude.{◌≡◌};
 ghost use Rattle.array.specs.Meaning.{kind_of};
 ghost use Rattle.table.specs.Meaning.{table_by, outcome_settled, told_preview};
