@@ -3,11 +3,10 @@
 use mathlib.Core.Path.{◌≡◌, refl, sym, ap, ◌∙◌}
 use mathlib.Core.Bool.{Bool, true, false}
 use mathlib.Core.List.{List}
-use Prim.Native.Nat.{ℕ, ◌≤◌, ◌<◌}
-use lib.ListN.{length}
+use Prim.Native.Nat.{ℕ, ◌≤◌}
 use Rattle.array.specs.Answer.{Answer, gives, unless}
-use Rattle.array.specs.Limits.{most_depth, most_cells}
-use Rattle.array.specs.Kind.{Kind, KindOk, kind_test}
+use Rattle.array.specs.Limits.{most_cells}
+use Rattle.array.specs.Kind.{Kind, kind_test}
 use Rattle.array.specs.Shape.{volume, shape_test}
 use Rattle.array.specs.Content.{Content, unless_kept}
 use Rattle.array.specs.Buffers.{lengths_of, enough_test, content_outcome, put_into}

@@ -3,7 +3,7 @@
 use mathlib.Core.Path.{◌≡◌, refl, sym, ap, ap₂, ◌∙◌}
 use mathlib.Core.Bool.{Bool, true, false, ◌&&◌}
 use mathlib.Core.List.{List, [], ◌++◌, map, append_assoc}
-use Prim.Native.Nat.{ℕ, zero, suc, ◌+◌, ◌-◌, ◌*◌, ◌≤◌, ◌<◌}
+use Prim.Native.Nat.{ℕ, zero, suc, ◌+◌, ◌-◌, ◌*◌, ◌<◌}
 use native.Mathlib.Nat.{zero-mul, suc-mul, add-zero}
 use native.Mathlib.Omega.{arith}
 use lib.ListN.{length, get_or, take, drop}
@@ -14,7 +14,7 @@ use Rattle.array.specs.Cells.{set_test}
 use Rattle.array.specs.Content.{Content, ContentOk}
 use Rattle.array.specs.Buffers.{over}
 use Rattle.array.specs.Places.{mask_at, value_in, planes_by, shown_by, shown_at, laid_by}
-use Rattle.array.proofs.Lists.{entry, map-from}
+use Rattle.array.proofs.Lists.{entry}
 use Rattle.array.proofs.Numbered.{rest_laid}
 use Rattle.valid.proofs.CheckLaws.{and_assoc}
 use Rattle.rest_masks.specs.Rested.{rest_mask, rest_planes}

@@ -1,18 +1,17 @@
 -- The values of what is seen: how many bytes, and that what the innermost plane shows, as it is written, are they.
 -- Assumes nothing.
-use mathlib.Core.Path.{◌≡◌, refl, sym, ap, ap₂, ◌∙◌}
+use mathlib.Core.Path.{◌≡◌, sym, ap, ◌∙◌}
 use mathlib.Core.Bool.{Bool, true, false}
 use mathlib.Core.List.{List, [], map}
-use Prim.Native.Nat.{ℕ, suc, ◌+◌, ◌-◌, ◌*◌, ◌≤◌, ◌<◌}
+use Prim.Native.Nat.{ℕ, suc, ◌+◌, ◌*◌, ◌≤◌, ◌<◌}
 use native.Mathlib.Nat.{one-mul, mul-le-mul_right}
 use native.Mathlib.Numerals.{add-one}
 use native.Mathlib.Omega.{arith}
 use lib.ListN.{length, get_or, replicate, length-map, length-replicate}
-use Rattle.array.specs.Lists.{from, pick, joined, passing, All}
+use Rattle.array.specs.Lists.{from, pick, joined, passing}
 use Rattle.array.specs.Kind.{Form, fixed, ragged, Order, Place}
 use Rattle.array.specs.Cells.{Value, set_test}
-use Rattle.array.specs.Content.{Content, ValuesOk}
-use Rattle.array.specs.Offsets.{last}
+use Rattle.array.specs.Content.{Content}
 use Rattle.array.specs.Places.{fixed_at, value_at, values_at, offset_at, bytes_at, shown_at}
 use Rattle.array.proofs.Lists.{map-from, length_from_lem, length-joined, All-image}
 use Rattle.array.proofs.Geometry.{All-from, passing_cong}

@@ -1,4 +1,6 @@
 // What a rights plane shows of an array, in rest form.
+#![tactic(auto)]
+
 mod planes;
 mod ragged;
 
