@@ -1,4 +1,6 @@
 // Whether each cell of a shape lies in exactly one subset of a list. Marks are bits, so that those of all cells take 8 KiB.
+#![tactic(auto)]
+
 ghost use Rattle.std.specs.Prelude.{◌≡◌, ◌+◌, ◌-◌, ◌%◌, ◌^◌, ◌≤◌, ◌<◌, min, length};
 ghost use Rattle.array.specs.Answer.{gives};
 ghost use Rattle.array.specs.Lists.{from};
