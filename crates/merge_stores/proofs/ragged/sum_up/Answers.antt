@@ -1,0 +1,47 @@
+-- `sum_up` meets its contract: the first i lengths are summed (proofs/Summing).
+-- Assumes nothing.
+use mathlib.Core.Path.{◌≡◌, ◌∙◌}
+use native.Mathlib.Omega.{arith}
+use lib.ListN.{length, set, length-set}
+use Rattle.array.specs.Limits.{most_bytes}
+use Rattle.merge_stores.proofs.Summing.{summed_start, same_sum, summed_over, sum_small, summed_more}
+use Rattle.merge_stores.proofs.ragged.sum_up.Goals as goal
+
+pub loop-i-init : goal.loop-i-init
+loop-i-init c = summed_start c.args.out.now c.args.n c.requires.0
+
+pub bounds-out-i : goal.bounds-out-i
+bounds-out-i c =
+    let long : length c.loop-i.out ≡ length c.args.out.now = c.loop-i.invariant.long ∙ length-set c.args.out.now 0 0 in
+    omega (arith, long)
+
+pub bounds-out-i-in-loop-i : goal.bounds-out-i-in-loop-i
+bounds-out-i-in-loop-i c =
+    let long : length c.loop-i.out ≡ length c.args.out.now = c.loop-i.invariant.long ∙ length-set c.args.out.now 0 0 in
+    omega (arith, long)
+
+pub overflow_add-out : goal.overflow_add-out
+unfolding most_bytes
+overflow_add-out c =
+    omega (
+      arith,
+      sum_small (set c.args.out.now 0 0) c.args.n (omega (arith, length-set c.args.out.now 0 0)) c.loop-i.invariant (omega arith),
+      same_sum c.args.out.now c.args.n,
+      c.requires.1,
+    )
+
+pub bounds-out-i-in-loop-i-2 : goal.bounds-out-i-in-loop-i-2
+bounds-out-i-in-loop-i-2 c =
+    let long : length c.loop-i.out ≡ length c.args.out.now = c.loop-i.invariant.long ∙ length-set c.args.out.now 0 0 in
+    omega (arith, long)
+
+pub loop-i-preserved : goal.loop-i-preserved
+loop-i-preserved c = summed_more (set c.args.out.now 0 0) c.args.n (omega (arith, length-set c.args.out.now 0 0)) c.loop-i.invariant (omega arith)
+
+pub shape_of-out : goal.shape_of-out
+shape_of-out c =
+    let long : length c.loop-i.out ≡ length c.args.out.now = c.loop-i.invariant.long ∙ length-set c.args.out.now 0 0 in
+    long
+
+pub returns : goal.returns
+returns c = summed_over c.args.out.now c.requires.0 c.loop-i.invariant (omega arith)
