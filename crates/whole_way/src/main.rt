@@ -8,7 +8,7 @@
 // starts and then all lengths of each.
 #![tactic(auto)]
 
-mod table;
+mod line;
 mod way;
 
 ghost use Rattle.std.specs.Prelude.{◌≡◌, length};
@@ -36,7 +36,7 @@ fn run_line(out: &mut impl Write, number: u64, line: &[u8]) -> io::Result<u64> {
         return Ok(number);
     }
     let next = num::wrapping_add_u64(number, 1);
-    table::run_table(out, next, line)?;
+    line::run_table(out, next, line)?;
     Ok(next)
 }
 
