@@ -129,7 +129,11 @@ pub many_ok : (shape ns : List ℕ) → many_test shape ns ≡ true → ManyOk s
 many_ok shape ns e =
     let a : Bool = eqb (length ns % (2 * length shape)) 0 in
     let b : Bool = every (full_test shape) (subsets_of (length shape) ns) in
-    record { counted = eqb-true (length ns % (2 * length shape)) 0 (left_of_lem a b e); each = all_every (FullOk shape) (full_test shape) (full_ok shape) (subsets_of (length shape) ns) (right_of a b e) }
+    record {
+      counted = eqb-true (length ns % (2 * length shape)) 0 (left_of_lem a b e);
+      each =
+          all_every (FullOk shape) (full_test shape) (full_ok shape) (subsets_of (length shape) ns) (right_of a b e);
+    }
 
 -- ---- 4: content
 

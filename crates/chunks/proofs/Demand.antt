@@ -207,7 +207,8 @@ module _ (k : Kind) (shape : List ℕ) (c : Content) (v : Valid k shape c) where
       unless (size_test (length (joined (leaves d xs)))) 5
       (unless (once_test size (cells_of_all shape bs')) 12 (unless (enough_test (merge_of k shape bs' xs) r) 6 (gives (merge_of k shape bs' xs)))))) (subsets_are es s)
       ∙ ap (λ (a : Answer (List (Cell d))). and_then a (λ xs.
-      unless (size_test (length (joined (leaves d xs)))) 5 (unless (once_test size all) 12 (unless (enough_test (merge_of k shape bs xs) r) 6 (gives (merge_of k shape bs xs)))))) (chunk_cells_lem bs fit o')
+      unless (size_test (length (joined (leaves d xs)))) 5
+      (unless (once_test size all) 12 (unless (enough_test (merge_of k shape bs xs) r) 6 (gives (merge_of k shape bs xs)))))) (chunk_cells_lem bs fit o')
       ∙ pass 5 (size_test_lem (length (joined (leaves d cs))) g.small) (pass 12 (once_test_lem size all o)
       (ap (λ (xs : List (Cell d)). unless (enough_test (layout k.form d xs) r) 6 (gives (layout k.form d xs))) (put_back_lem all o)
       ∙ pass 6 (enough_test_lem (rest_form k size c) r e) refl)))))

@@ -48,7 +48,8 @@ module _ (w : ℕ) (p : Place) (masks : List ℕ) (l : ℕ) {n : ℕ} {os : List
     pub index_long : length (index_of w (0 ∷ ends_at (offset_at os) 0 (live_at n masks l))) ≡ k * (count + 1)
     index_long = index_count ∙ sym counted
 
-    pub ragged_long : {bytes : ℕ} → bytes ≡ bytes_at (offset_at os) (live_at n masks l) → length (put_values (ragged w p) (values_at (offset_at os) s (live_at n masks l))) ≡ 8 + k * (count + 1) + bytes
+    pub ragged_long : {bytes : ℕ} → bytes ≡ bytes_at (offset_at os) (live_at n masks l) →
+        length (put_values (ragged w p) (values_at (offset_at os) s (live_at n masks l))) ≡ 8 + k * (count + 1) + bytes
     unfolding put_values
     ragged_long {bytes} eb =
         ragged_length_lem w p (record { values = joined (values_at (offset_at os) s cells); offsets = offsets_of (values_at (offset_at os) s cells) }) (length cells)

@@ -49,7 +49,8 @@ module _ {size : ℕ} {o : Order} {d n : ℕ} {rights : List ℕ} {c : Content} 
   pub fixed_long : length (seen_content (fixed size o) d n rights c).values ≡ n * size
   fixed_long =
       let v : ℕ → Value = λ j. pick (shown_at n (cleared rights c.masks) d j) (value_at (fixed_at 0 size) c.values j) (replicate size 0) in
-      length-joined size (map v (from 0 n)) (All-image (λ x. length x ≡ size) v (from 0 n) (All-from (λ j. length (v j) ≡ size) 0 n (λ j l h. one j (omega arith) (shown_at n (cleared rights c.masks) d j))))
+      length-joined size (map v (from 0 n))
+      (All-image (λ x. length x ≡ size) v (from 0 n) (All-from (λ j. length (v j) ≡ size) 0 n (λ j l h. one j (omega arith) (shown_at n (cleared rights c.masks) d j))))
       ∙ ap (λ (m : ℕ). m * size) (length-map (from 0 n) v ∙ length_from_lem 0 n)
     where
       one : (j : ℕ) → j < n → (b : Bool) → length (pick b (value_at (fixed_at 0 size) c.values j) (replicate size 0)) ≡ size

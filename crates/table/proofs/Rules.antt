@@ -64,8 +64,10 @@ module _ (m : ℕ → ℕ) where
 
   pub rest_masks_ok : (d : ℕ) → rest_masks_test m d ≡ true → RestMasks m d
   rest_masks_ok zero e = tt
-  rest_masks_ok (suc l) e =
-      (rest_masks_ok l (left_of_lem (rest_masks_test m l) (or_zero_test (shown_by m l) (m l)) e), or_zero_ok (shown_by m l) (m l) (right_of (rest_masks_test m l) (or_zero_test (shown_by m l) (m l)) e))
+  rest_masks_ok (suc l) e = (
+    rest_masks_ok l (left_of_lem (rest_masks_test m l) (or_zero_test (shown_by m l) (m l)) e),
+    or_zero_ok (shown_by m l) (m l) (right_of (rest_masks_test m l) (or_zero_test (shown_by m l) (m l)) e),
+  )
 
   pub rest_by_test_lem : (d len : ℕ) → RestBy m d len → rest_by_test m d len ≡ true
   rest_by_test_lem d len p = both (rest_masks_test_lem d p.0) (or_zero_test_lem (shown_by m d) len p.1)

@@ -33,20 +33,23 @@ offset_at-end-requires c = offset_there c.requires.1.asked (c.row_at-row.result.
 pub overflow_sub-size : goal.overflow_sub-size
 overflow_sub-size c =
     let off : ℕ → ℕ = source_at c.args.source c.args.index c.args.numbers.now c.args.bytes.now in
-    let next : NextRow off c.args.bytes.now c.args.base c.loop-at.values c.loop-at.offsets c.loop-at.at c.loop-at.total c.row_at-row.result.first c.row_at-row.result.cells = next_row c.args.bytes.now c.args.base c.loop-at.invariant c.row_at-row.ensures c.requires.1.asked.rises c.requires.1.asked.data_room in
+    let next : NextRow off c.args.bytes.now c.args.base c.loop-at.values c.loop-at.offsets c.loop-at.at c.loop-at.total c.row_at-row.result.first
+    c.row_at-row.result.cells = next_row c.args.bytes.now c.args.base c.loop-at.invariant c.row_at-row.ensures c.requires.1.asked.rises c.requires.1.asked.data_room in
     omega (arith, next.rises, c.offset_at-end.ensures, c.offset_at-begin.ensures)
 
 pub overflow_add-base : goal.overflow_add-base
 overflow_add-base c =
     let off : ℕ → ℕ = source_at c.args.source c.args.index c.args.numbers.now c.args.bytes.now in
     let short : length c.args.bytes.now < 18446744073709551616 = omega arith in
-    let next : NextRow off c.args.bytes.now c.args.base c.loop-at.values c.loop-at.offsets c.loop-at.at c.loop-at.total c.row_at-row.result.first c.row_at-row.result.cells = next_row c.args.bytes.now c.args.base c.loop-at.invariant c.row_at-row.ensures c.requires.1.asked.rises c.requires.1.asked.data_room in
+    let next : NextRow off c.args.bytes.now c.args.base c.loop-at.values c.loop-at.offsets c.loop-at.at c.loop-at.total c.row_at-row.result.first
+    c.row_at-row.result.cells = next_row c.args.bytes.now c.args.base c.loop-at.invariant c.row_at-row.ensures c.requires.1.asked.rises c.requires.1.asked.data_room in
     omega (arith, next.rises, next.data_room, c.offset_at-begin.ensures, short)
 
 pub copy_bytes-requires : goal.copy_bytes-requires
 copy_bytes-requires c =
     let off : ℕ → ℕ = source_at c.args.source c.args.index c.args.numbers.now c.args.bytes.now in
-    let next : NextRow off c.args.bytes.now c.args.base c.loop-at.values c.loop-at.offsets c.loop-at.at c.loop-at.total c.row_at-row.result.first c.row_at-row.result.cells = next_row c.args.bytes.now c.args.base c.loop-at.invariant c.row_at-row.ensures c.requires.1.asked.rises c.requires.1.asked.data_room in
+    let next : NextRow off c.args.bytes.now c.args.base c.loop-at.values c.loop-at.offsets c.loop-at.at c.loop-at.total c.row_at-row.result.first
+    c.row_at-row.result.cells = next_row c.args.bytes.now c.args.base c.loop-at.invariant c.row_at-row.ensures c.requires.1.asked.rises c.requires.1.asked.data_room in
     let x = next in (
       omega (arith, x.room, c.offset_at-end.ensures, c.offset_at-begin.ensures),
       omega (arith, x.rises, x.data_room, c.offset_at-end.ensures, c.offset_at-begin.ensures),
@@ -60,7 +63,8 @@ store_ends-requires c =
     let off : ℕ → ℕ = source_at c.args.source c.args.index c.args.numbers.now c.args.bytes.now in
     let short_values : length c.args.values.now < 18446744073709551616 = omega arith in
     let same : length c.loop-at.values ≡ length c.args.values.now = ragged_same c.loop-at.invariant in
-    let next : NextRow off c.args.bytes.now c.args.base c.loop-at.values c.loop-at.offsets c.loop-at.at c.loop-at.total c.row_at-row.result.first c.row_at-row.result.cells = next_row c.args.bytes.now c.args.base c.loop-at.invariant c.row_at-row.ensures c.requires.1.asked.rises c.requires.1.asked.data_room in (
+    let next : NextRow off c.args.bytes.now c.args.base c.loop-at.values c.loop-at.offsets c.loop-at.at c.loop-at.total c.row_at-row.result.first
+    c.row_at-row.result.cells = next_row c.args.bytes.now c.args.base c.loop-at.invariant c.row_at-row.ensures c.requires.1.asked.rises c.requires.1.asked.data_room in (
       next.room_offsets,
       record {
         there = offset_there c.requires.1.asked (c.row_at-row.result.first + c.row_at-row.result.cells) c.row_at-row.ensures.inside;
@@ -76,7 +80,8 @@ overflow_add-total c =
     let off : ℕ → ℕ = source_at c.args.source c.args.index c.args.numbers.now c.args.bytes.now in
     let short_values : length c.args.values.now < 18446744073709551616 = omega arith in
     let same : length c.loop-at.values ≡ length c.args.values.now = ragged_same c.loop-at.invariant in
-    let next : NextRow off c.args.bytes.now c.args.base c.loop-at.values c.loop-at.offsets c.loop-at.at c.loop-at.total c.row_at-row.result.first c.row_at-row.result.cells = next_row c.args.bytes.now c.args.base c.loop-at.invariant c.row_at-row.ensures c.requires.1.asked.rises c.requires.1.asked.data_room in
+    let next : NextRow off c.args.bytes.now c.args.base c.loop-at.values c.loop-at.offsets c.loop-at.at c.loop-at.total c.row_at-row.result.first
+    c.row_at-row.result.cells = next_row c.args.bytes.now c.args.base c.loop-at.invariant c.row_at-row.ensures c.requires.1.asked.rises c.requires.1.asked.data_room in
     omega (arith, next.room, c.offset_at-end.ensures, c.offset_at-begin.ensures, same, short_values)
 
 pub overflow_add-at-in-loop-at : goal.overflow_add-at-in-loop-at

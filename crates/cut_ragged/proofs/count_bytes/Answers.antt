@@ -35,13 +35,15 @@ offset_at-end-requires c = offset_there c.requires.1 (c.row_at-row.result.first 
 pub overflow_sub-total : goal.overflow_sub-total
 overflow_sub-total c =
     let off : ℕ → ℕ = source_at c.args.source c.args.index c.args.numbers.now c.args.bytes.now in
-    let rises : off c.row_at-row.result.first ≤ off (c.row_at-row.result.first + c.row_at-row.result.cells) = run_rises c.requires.1.rises c.row_at-row.result.first c.row_at-row.result.cells c.row_at-row.ensures.inside in
+    let rises : off c.row_at-row.result.first ≤ off (c.row_at-row.result.first + c.row_at-row.result.cells) =
+    run_rises c.requires.1.rises c.row_at-row.result.first c.row_at-row.result.cells c.row_at-row.ensures.inside in
     omega (arith, rises, c.offset_at-end.ensures, c.offset_at-begin.ensures)
 
 pub overflow_add-total : goal.overflow_add-total
 overflow_add-total c =
     let off : ℕ → ℕ = source_at c.args.source c.args.index c.args.numbers.now c.args.bytes.now in
-    let counted : let a = c.args in Counting off (cells_in a.shape.now (pairs a.starts.now a.lens.now)) a.count (row_of a.lens.now) (c.loop-at.at + c.row_at-row.result.cells) (c.loop-at.total + (c.offset_at-end.result - c.offset_at-begin.result)) = let a = c.args in
+    let counted : let a = c.args in Counting off (cells_in a.shape.now (pairs a.starts.now a.lens.now)) a.count (row_of a.lens.now)
+    (c.loop-at.at + c.row_at-row.result.cells) (c.loop-at.total + (c.offset_at-end.result - c.offset_at-begin.result)) = let a = c.args in
     let l = c.loop-at in
     subst (λ (i : ℕ). Counting off (cells_in a.shape.now (pairs a.starts.now a.lens.now)) a.count (row_of a.lens.now) (l.at + c.row_at-row.result.cells) (l.total + i))
     (sym (ap₂ (λ (x y : ℕ). x - y) c.offset_at-end.ensures c.offset_at-begin.ensures))
@@ -62,7 +64,8 @@ loop-at-smaller c = omega (arith, c.row_at-row.ensures.within, c.row_at-row.ensu
 pub loop-at-preserved : goal.loop-at-preserved
 loop-at-preserved c =
     let off : ℕ → ℕ = source_at c.args.source c.args.index c.args.numbers.now c.args.bytes.now in
-    let counted : let a = c.args in Counting off (cells_in a.shape.now (pairs a.starts.now a.lens.now)) a.count (row_of a.lens.now) (c.loop-at.at + c.row_at-row.result.cells) (c.loop-at.total + (c.offset_at-end.result - c.offset_at-begin.result)) = let a = c.args in
+    let counted : let a = c.args in Counting off (cells_in a.shape.now (pairs a.starts.now a.lens.now)) a.count (row_of a.lens.now)
+    (c.loop-at.at + c.row_at-row.result.cells) (c.loop-at.total + (c.offset_at-end.result - c.offset_at-begin.result)) = let a = c.args in
     let l = c.loop-at in
     subst (λ (i : ℕ). Counting off (cells_in a.shape.now (pairs a.starts.now a.lens.now)) a.count (row_of a.lens.now) (l.at + c.row_at-row.result.cells) (l.total + i))
     (sym (ap₂ (λ (x y : ℕ). x - y) c.offset_at-end.ensures c.offset_at-begin.ensures))

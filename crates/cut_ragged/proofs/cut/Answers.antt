@@ -39,7 +39,9 @@ returns-then-values-need c =
     let values_in : Subset → List Value = λ b. let a = c.args in source_values a.source a.index a.base a.numbers.now a.bytes.now (cells_in a.shape.now b) in
     let values : List Value = values_in (pairs starts lens) in
     let outputs : RaggedContent = content_ragged c.args.values.now c.args.offsets.now in
-    let whole : (o : Outcome RaggedLengths RaggedContent) → o ≡ put_ragged (end_to_end values) outputs → o ≡ put_ragged (end_to_end (values_in (subset_of (length c.args.shape.now) c.args.subset.now))) outputs = λ o e. e ∙ ap (λ (b : Subset). put_ragged (end_to_end (values_in b)) outputs) (subset_parts (length c.args.shape.now) c.args.subset.now) in
+    let whole : (o : Outcome RaggedLengths RaggedContent) → o ≡ put_ragged (end_to_end values) outputs →
+    o ≡ put_ragged (end_to_end (values_in (subset_of (length c.args.shape.now) c.args.subset.now))) outputs =
+    λ o e. e ∙ ap (λ (b : Subset). put_ragged (end_to_end (values_in b)) outputs) (subset_parts (length c.args.shape.now) c.args.subset.now) in
     let asked : SubsetAsked c.args.shape.now starts lens c.args.count = asked_parts c.requires.0 in
     let need : ℕ = let a = c.args in bytes_at (source_at a.source a.index a.numbers.now a.bytes.now) (cells_in a.shape.now (pairs starts lens)) in
     let values_need : length (joined values) ≡ need = need_values asked c.requires.1 in
@@ -59,7 +61,9 @@ returns-then-offsets-many c =
     let values_in : Subset → List Value = λ b. let a = c.args in source_values a.source a.index a.base a.numbers.now a.bytes.now (cells_in a.shape.now b) in
     let values : List Value = values_in (pairs starts lens) in
     let outputs : RaggedContent = content_ragged c.args.values.now c.args.offsets.now in
-    let whole : (o : Outcome RaggedLengths RaggedContent) → o ≡ put_ragged (end_to_end values) outputs → o ≡ put_ragged (end_to_end (values_in (subset_of (length c.args.shape.now) c.args.subset.now))) outputs = λ o e. e ∙ ap (λ (b : Subset). put_ragged (end_to_end (values_in b)) outputs) (subset_parts (length c.args.shape.now) c.args.subset.now) in
+    let whole : (o : Outcome RaggedLengths RaggedContent) → o ≡ put_ragged (end_to_end values) outputs →
+    o ≡ put_ragged (end_to_end (values_in (subset_of (length c.args.shape.now) c.args.subset.now))) outputs =
+    λ o e. e ∙ ap (λ (b : Subset). put_ragged (end_to_end (values_in b)) outputs) (subset_parts (length c.args.shape.now) c.args.subset.now) in
     let asked : SubsetAsked c.args.shape.now starts lens c.args.count = asked_parts c.requires.0 in
     let offsets_need : length (offsets_of values) ≡ c.args.count + 1 = need_offsets asked c.requires.1 in
     whole _ (no_offsets (end_to_end values) outputs offsets_need c.if-offsets-many.true)
@@ -96,7 +100,9 @@ returns c =
     let values_in : Subset → List Value = λ b. let a = c.args in source_values a.source a.index a.base a.numbers.now a.bytes.now (cells_in a.shape.now b) in
     let values : List Value = values_in (pairs starts lens) in
     let outputs : RaggedContent = content_ragged c.args.values.now c.args.offsets.now in
-    let whole : (o : Outcome RaggedLengths RaggedContent) → o ≡ put_ragged (end_to_end values) outputs → o ≡ put_ragged (end_to_end (values_in (subset_of (length c.args.shape.now) c.args.subset.now))) outputs = λ o e. e ∙ ap (λ (b : Subset). put_ragged (end_to_end (values_in b)) outputs) (subset_parts (length c.args.shape.now) c.args.subset.now) in
+    let whole : (o : Outcome RaggedLengths RaggedContent) → o ≡ put_ragged (end_to_end values) outputs →
+    o ≡ put_ragged (end_to_end (values_in (subset_of (length c.args.shape.now) c.args.subset.now))) outputs =
+    λ o e. e ∙ ap (λ (b : Subset). put_ragged (end_to_end (values_in b)) outputs) (subset_parts (length c.args.shape.now) c.args.subset.now) in
     let asked : SubsetAsked c.args.shape.now starts lens c.args.count = asked_parts c.requires.0 in
     let need : ℕ = let a = c.args in bytes_at (source_at a.source a.index a.numbers.now a.bytes.now) (cells_in a.shape.now (pairs starts lens)) in
     let values_need : length (joined values) ≡ need = need_values asked c.requires.1 in

@@ -18,12 +18,14 @@ pub loop-k-init : goal.loop-k-init
 loop-k-init c =
     let plane : List ℕ = plane_at c.args.from c.args.n c.args.masks.now in
     let long : length plane ≡ c.args.n = plane_length c.args.from c.args.n c.args.masks.now c.requires.0 in
-    let ends_stored : let a = c.args in EndsStored c.width_bytes-w.result a.s.now a.at a.cells a.last = let a = c.args in subst (λ (w : ℕ). EndsStored w a.s.now a.at a.cells a.last) (sym c.width_bytes-w.ensures) c.requires.3 in
+    let ends_stored : let a = c.args in EndsStored c.width_bytes-w.result a.s.now a.at a.cells a.last = let a =
+    c.args in subst (λ (w : ℕ). EndsStored w a.s.now a.at a.cells a.last) (sym c.width_bytes-w.ensures) c.requires.3 in
     ends_begin plane c.args.offsets.now ends_stored c.requires.2 (omega (arith, long, c.requires.1))
 
 pub overflow_mul-k : goal.overflow_mul-k
 overflow_mul-k c =
-    let ends_stored : let a = c.args in EndsStored c.width_bytes-w.result a.s.now a.at a.cells a.last = let a = c.args in subst (λ (w : ℕ). EndsStored w a.s.now a.at a.cells a.last) (sym c.width_bytes-w.ensures) c.requires.3 in
+    let ends_stored : let a = c.args in EndsStored c.width_bytes-w.result a.s.now a.at a.cells a.last = let a =
+    c.args in subst (λ (w : ℕ). EndsStored w a.s.now a.at a.cells a.last) (sym c.width_bytes-w.ensures) c.requires.3 in
     let width : ℕ = c.width_bytes-w.result in
     let stored : ℕ = c.args.at + c.loop-k.k * width in
     let source : stored + width ≤ length c.args.s.now = next_within width c.args.at c.loop-k.k c.args.cells (length c.args.s.now) c.loop-k-test.true ends_stored.room in
@@ -31,7 +33,8 @@ overflow_mul-k c =
 
 pub overflow_add-at : goal.overflow_add-at
 overflow_add-at c =
-    let ends_stored : let a = c.args in EndsStored c.width_bytes-w.result a.s.now a.at a.cells a.last = let a = c.args in subst (λ (w : ℕ). EndsStored w a.s.now a.at a.cells a.last) (sym c.width_bytes-w.ensures) c.requires.3 in
+    let ends_stored : let a = c.args in EndsStored c.width_bytes-w.result a.s.now a.at a.cells a.last = let a =
+    c.args in subst (λ (w : ℕ). EndsStored w a.s.now a.at a.cells a.last) (sym c.width_bytes-w.ensures) c.requires.3 in
     let width : ℕ = c.width_bytes-w.result in
     let stored : ℕ = c.args.at + c.loop-k.k * width in
     let source : stored + width ≤ length c.args.s.now = next_within width c.args.at c.loop-k.k c.args.cells (length c.args.s.now) c.loop-k-test.true ends_stored.room in
@@ -39,7 +42,8 @@ overflow_add-at c =
 
 pub le_at-requires : goal.le_at-requires
 le_at-requires c =
-    let ends_stored : let a = c.args in EndsStored c.width_bytes-w.result a.s.now a.at a.cells a.last = let a = c.args in subst (λ (w : ℕ). EndsStored w a.s.now a.at a.cells a.last) (sym c.width_bytes-w.ensures) c.requires.3 in
+    let ends_stored : let a = c.args in EndsStored c.width_bytes-w.result a.s.now a.at a.cells a.last = let a =
+    c.args in subst (λ (w : ℕ). EndsStored w a.s.now a.at a.cells a.last) (sym c.width_bytes-w.ensures) c.requires.3 in
     let width : ℕ = c.width_bytes-w.result in
     let stored : ℕ = c.args.at + c.loop-k.k * width in
     let source : stored + width ≤ length c.args.s.now = next_within width c.args.at c.loop-k.k c.args.cells (length c.args.s.now) c.loop-k-test.true ends_stored.room in
@@ -125,6 +129,7 @@ pub returns : goal.returns
 returns c =
     let plane : List ℕ = plane_at c.args.from c.args.n c.args.masks.now in
     let long : length plane ≡ c.args.n = plane_length c.args.from c.args.n c.args.masks.now c.requires.0 in
-    let ends_stored : let a = c.args in EndsStored c.width_bytes-w.result a.s.now a.at a.cells a.last = let a = c.args in subst (λ (w : ℕ). EndsStored w a.s.now a.at a.cells a.last) (sym c.width_bytes-w.ensures) c.requires.3 in
+    let ends_stored : let a = c.args in EndsStored c.width_bytes-w.result a.s.now a.at a.cells a.last = let a =
+    c.args in subst (λ (w : ℕ). EndsStored w a.s.now a.at a.cells a.last) (sym c.width_bytes-w.ensures) c.requires.3 in
     ends_end c.loop-k.invariant c.loop-k-test.false ends_stored long c.fill_ends.ensures
     ∙ ap (λ (w : ℕ). over (ends_of w plane c.args.s.now c.args.at) c.args.offsets.now) c.width_bytes-w.ensures

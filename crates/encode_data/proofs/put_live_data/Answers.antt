@@ -32,4 +32,5 @@ returns-then-count-cells c =
 
 pub returns-then-bytes-eq0 : goal.returns-then-bytes-eq0
 returns-then-bytes-eq0 c =
-    let all = none_written c.args.masks.now c.args.level c.requires.2 c.args.values.now c.requires.3 c.if-bytes-eq0.true c.args.to c.args.out.now c.requires.4 in record { wrote = all.0; bytes = all.1 }
+    let all = none_written c.args.masks.now c.args.level c.requires.2 c.args.values.now c.requires.3 c.if-bytes-eq0.true c.args.to c.args.out.now c.requires.4 in record
+    { wrote = all.0; bytes = all.1 }

@@ -25,21 +25,24 @@ put_index-requires c =
 pub put_offset-requires : goal.put_offset-requires
 put_offset-requires c =
     let room :
-    c.args.to + (width_of c.args.width + length (index_of (width_of c.args.width) (ends_at (offset_at c.args.offsets.now) 0 (live_at c.args.cells c.args.masks.now c.args.level)))) ≤ length c.args.out.now =
+    c.args.to + (width_of c.args.width + length
+    (index_of (width_of c.args.width) (ends_at (offset_at c.args.offsets.now) 0 (live_at c.args.cells c.args.masks.now c.args.level)))) ≤ length c.args.out.now =
     let a = c.args in omega (arith, c.requires.3, index_head (width_of a.width) (ends_at (offset_at a.offsets.now) 0 (live_at a.cells a.masks.now a.level))) in
     omega (arith, room)
 
 pub overflow_add-behind : goal.overflow_add-behind
 overflow_add-behind c =
     let room :
-    c.args.to + (width_of c.args.width + length (index_of (width_of c.args.width) (ends_at (offset_at c.args.offsets.now) 0 (live_at c.args.cells c.args.masks.now c.args.level)))) ≤ length c.args.out.now =
+    c.args.to + (width_of c.args.width + length
+    (index_of (width_of c.args.width) (ends_at (offset_at c.args.offsets.now) 0 (live_at c.args.cells c.args.masks.now c.args.level)))) ≤ length c.args.out.now =
     let a = c.args in omega (arith, c.requires.3, index_head (width_of a.width) (ends_at (offset_at a.offsets.now) 0 (live_at a.cells a.masks.now a.level))) in
     omega (arith, room, c.width_bytes.ensures)
 
 pub put_live_ends-requires : goal.put_live_ends-requires
 put_live_ends-requires c =
     let room :
-    c.args.to + (width_of c.args.width + length (index_of (width_of c.args.width) (ends_at (offset_at c.args.offsets.now) 0 (live_at c.args.cells c.args.masks.now c.args.level)))) ≤ length c.args.out.now =
+    c.args.to + (width_of c.args.width + length
+    (index_of (width_of c.args.width) (ends_at (offset_at c.args.offsets.now) 0 (live_at c.args.cells c.args.masks.now c.args.level)))) ≤ length c.args.out.now =
     let a = c.args in omega (arith, c.requires.3, index_head (width_of a.width) (ends_at (offset_at a.offsets.now) 0 (live_at a.cells a.masks.now a.level))) in
     (c.requires.0, c.requires.1, c.requires.2, omega (arith, room, c.width_bytes.ensures, c.put_offset.auto.out))
 

@@ -20,19 +20,25 @@ put_plane-requires c =
 
 pub put_live_mask-requires : goal.put_live_mask-requires
 put_live_mask-requires c =
-    let asked : (l : ℕ) → c.args.level ≡ l → Planes c.args.cells c.args.masks.now (l + 1) × (c.args.count ≡ length (live_at c.args.cells c.args.masks.now l)) × (c.args.to + (mask_form (masks_of c.args.form)).size c.args.count ≤ length c.args.out.now) = λ l e. let a = c.args in
+    let asked : (l : ℕ) → c.args.level ≡ l →
+    Planes c.args.cells c.args.masks.now (l + 1) × (c.args.count ≡ length (live_at c.args.cells c.args.masks.now l)) ×
+    (c.args.to + (mask_form (masks_of c.args.form)).size c.args.count ≤ length c.args.out.now) = λ l e. let a = c.args in
     (subst (λ (k : ℕ). Planes a.cells a.masks.now (k + 1)) e c.requires.0, c.requires.1 ∙ ap (λ (k : ℕ). length (live_at a.cells a.masks.now k)) e, c.requires.2) in
     asked _ c.in-1.is
 
 pub put_live_mask-requires-in-2 : goal.put_live_mask-requires-in-2
 put_live_mask-requires-in-2 c =
-    let asked : (l : ℕ) → c.args.level ≡ l → Planes c.args.cells c.args.masks.now (l + 1) × (c.args.count ≡ length (live_at c.args.cells c.args.masks.now l)) × (c.args.to + (mask_form (masks_of c.args.form)).size c.args.count ≤ length c.args.out.now) = λ l e. let a = c.args in
+    let asked : (l : ℕ) → c.args.level ≡ l →
+    Planes c.args.cells c.args.masks.now (l + 1) × (c.args.count ≡ length (live_at c.args.cells c.args.masks.now l)) ×
+    (c.args.to + (mask_form (masks_of c.args.form)).size c.args.count ≤ length c.args.out.now) = λ l e. let a = c.args in
     (subst (λ (k : ℕ). Planes a.cells a.masks.now (k + 1)) e c.requires.0, c.requires.1 ∙ ap (λ (k : ℕ). length (live_at a.cells a.masks.now k)) e, c.requires.2) in
     asked _ c.in-2.is
 
 pub put_live_mask-requires-in-3 : goal.put_live_mask-requires-in-3
 put_live_mask-requires-in-3 c =
-    let asked : (l : ℕ) → c.args.level ≡ l → Planes c.args.cells c.args.masks.now (l + 1) × (c.args.count ≡ length (live_at c.args.cells c.args.masks.now l)) × (c.args.to + (mask_form (masks_of c.args.form)).size c.args.count ≤ length c.args.out.now) = λ l e. let a = c.args in
+    let asked : (l : ℕ) → c.args.level ≡ l →
+    Planes c.args.cells c.args.masks.now (l + 1) × (c.args.count ≡ length (live_at c.args.cells c.args.masks.now l)) ×
+    (c.args.to + (mask_form (masks_of c.args.form)).size c.args.count ≤ length c.args.out.now) = λ l e. let a = c.args in
     (subst (λ (k : ℕ). Planes a.cells a.masks.now (k + 1)) e c.requires.0, c.requires.1 ∙ ap (λ (k : ℕ). length (live_at a.cells a.masks.now k)) e, c.requires.2) in
     asked _ c.in-3.is
 

@@ -93,7 +93,9 @@ returns-in-Refused c =
     let masks_need : length cut.masks ≡ c.args.kind.depth * count = cut_masks_long asked kept in
     let written :
     (r : WrittenRagged) →
-    c.cut_values-written.result ≡ r → with_masks (c.args.kind.depth * count) (over cut.masks c.args.out_masks.now) c.args.out_masks.now (outcome_ragged r c.cut_values-written.new.out_values c.cut_values-written.new.out_offsets) ≡ put_into cut outputs =
+    c.cut_values-written.result ≡ r →
+    with_masks (c.args.kind.depth * count) (over cut.masks c.args.out_masks.now) c.args.out_masks.now
+    (outcome_ragged r c.cut_values-written.new.out_values c.cut_values-written.new.out_offsets) ≡ put_into cut outputs =
     λ r q. masks_first cut outputs masks_need c.if-out_masks-mask_bytes.false
     (ap (λ (x : WrittenRagged). outcome_ragged x c.cut_values-written.new.out_values c.cut_values-written.new.out_offsets) (sym q)
     ∙ c.cut_values-written.ensures ∙ ap (λ (c : RaggedContent). put_ragged c (ragged_of outputs)) (sym (cut_values asked kept))) in
@@ -113,11 +115,14 @@ returns-in-Lengths c =
     let masks_need : length cut.masks ≡ c.args.kind.depth * count = cut_masks_long asked kept in
     let written :
     (r : WrittenRagged) →
-    c.cut_values-written.result ≡ r → with_masks (c.args.kind.depth * count) (over cut.masks c.args.out_masks.now) c.args.out_masks.now (outcome_ragged r c.cut_values-written.new.out_values c.cut_values-written.new.out_offsets) ≡ put_into cut outputs =
+    c.cut_values-written.result ≡ r →
+    with_masks (c.args.kind.depth * count) (over cut.masks c.args.out_masks.now) c.args.out_masks.now
+    (outcome_ragged r c.cut_values-written.new.out_values c.cut_values-written.new.out_offsets) ≡ put_into cut outputs =
     λ r q. masks_first cut outputs masks_need c.if-out_masks-mask_bytes.false
     (ap (λ (x : WrittenRagged). outcome_ragged x c.cut_values-written.new.out_values c.cut_values-written.new.out_offsets) (sym q)
     ∙ c.cut_values-written.ensures ∙ ap (λ (c : RaggedContent). put_ragged c (ragged_of outputs)) (sym (cut_values asked kept))) in
-    ap (λ (x : List ℕ). outcome_array (WrittenArray.Lengths (c.args.kind.depth * count) c.in-Lengths.bytes c.in-Lengths.numbers) x c.cut_values-written.new.out_values c.cut_values-written.new.out_offsets)
+    ap (λ (x : List ℕ). outcome_array
+    (WrittenArray.Lengths (c.args.kind.depth * count) c.in-Lengths.bytes c.in-Lengths.numbers) x c.cut_values-written.new.out_values c.cut_values-written.new.out_offsets)
     (c.copy_masks.ensures
     ∙ ap (λ (b : Subset). over (planes_at c.args.kind.depth 0 c.args.cells array.masks (cells_in shape b)) c.args.out_masks.now)
     (subset_parts (length shape) numbers)

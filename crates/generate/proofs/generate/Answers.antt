@@ -60,7 +60,9 @@ returns-in-Fixed c =
     let lent : Content = content_array c.args.masks.now c.args.values.now c.args.offsets.now in
     let kind_is : kind_test (kind_of c.args.kind) ≡ true = sym c.check_kind.ensures ∙ not-false c.check_kind.result c.if-not-check_kind.false-raw in
     let shaped : Counted c.args.shape.now cells = counted c.args.shape.now cells (sym (ap told_cells c.in-Count.is) ∙ c.shape_cells.ensures) in
-    let drawn : (f : Form) → SameSize (form_of c.args.kind.values) f → let a = c.args in generated (kind_of a.kind) a.shape.now a.start lent ≡ put_into (layout f a.kind.depth (cells_from f a.kind.depth cells a.start)) lent = λ f e. let a = c.args in by_cells (kind_of a.kind) a.shape.now a.start lent kind_is shaped f e in
+    let drawn : (f : Form) → SameSize (form_of c.args.kind.values) f → let a =
+    c.args in generated (kind_of a.kind) a.shape.now a.start lent ≡ put_into (layout f a.kind.depth (cells_from f a.kind.depth cells a.start)) lent = λ f e. let a =
+    c.args in by_cells (kind_of a.kind) a.shape.now a.start lent kind_is shaped f e in
     let size = c.in-Fixed.size in
     rw (drawn (sized size) (subst (λ (f : Form). SameSize f (sized size)) (sym (ap form_of c.in-Fixed.is)) refl))
     (c.make_fixed.ensures c.args.offsets.now)
@@ -71,5 +73,7 @@ returns-in-Ragged c =
     let lent : Content = content_array c.args.masks.now c.args.values.now c.args.offsets.now in
     let kind_is : kind_test (kind_of c.args.kind) ≡ true = sym c.check_kind.ensures ∙ not-false c.check_kind.result c.if-not-check_kind.false-raw in
     let shaped : Counted c.args.shape.now cells = counted c.args.shape.now cells (sym (ap told_cells c.in-Count.is) ∙ c.shape_cells.ensures) in
-    let drawn : (f : Form) → SameSize (form_of c.args.kind.values) f → let a = c.args in generated (kind_of a.kind) a.shape.now a.start lent ≡ put_into (layout f a.kind.depth (cells_from f a.kind.depth cells a.start)) lent = λ f e. let a = c.args in by_cells (kind_of a.kind) a.shape.now a.start lent kind_is shaped f e in
+    let drawn : (f : Form) → SameSize (form_of c.args.kind.values) f → let a =
+    c.args in generated (kind_of a.kind) a.shape.now a.start lent ≡ put_into (layout f a.kind.depth (cells_from f a.kind.depth cells a.start)) lent = λ f e. let a =
+    c.args in by_cells (kind_of a.kind) a.shape.now a.start lent kind_is shaped f e in
     rw (drawn lengthy (subst (λ (f : Form). SameSize f lengthy) (sym (ap form_of c.in-Ragged.is)) tt)) c.make_ragged.ensures

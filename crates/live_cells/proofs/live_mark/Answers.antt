@@ -49,12 +49,14 @@ overflow_mul-result-in-3-2 c =
 
 pub mark_at-requires-in_default : goal.mark_at-requires-in_default
 mark_at-requires-in_default c =
-    let four : c.args.level ≡ 4 = deepest c.requires.1 c.in_default.in_default-own.rest.0.0.0.1 c.in_default.in_default-own.rest.0.0.1 c.in_default.in_default-own.rest.0.1 c.in_default.in_default-own.rest.1 in
+    let four : c.args.level ≡ 4 = deepest c.requires.1 c.in_default.in_default-own.rest.0.0.0.1 c.in_default.in_default-own.rest.0.0.1
+    c.in_default.in_default-own.rest.0.1 c.in_default.in_default-own.rest.1 in
     row_in 0 (omega (arith, four)) c.requires.0 c.requires.2
 
 pub mark_at-requires-in_default-2 : goal.mark_at-requires-in_default-2
 mark_at-requires-in_default-2 c =
-    let four : c.args.level ≡ 4 = deepest c.requires.1 c.in_default.in_default-own.rest.0.0.0.1 c.in_default.in_default-own.rest.0.0.1 c.in_default.in_default-own.rest.0.1 c.in_default.in_default-own.rest.1 in
+    let four : c.args.level ≡ 4 = deepest c.requires.1 c.in_default.in_default-own.rest.0.0.0.1 c.in_default.in_default-own.rest.0.0.1
+    c.in_default.in_default-own.rest.0.1 c.in_default.in_default-own.rest.1 in
     row_in 1 (omega (arith, four)) c.requires.0 c.requires.2
 
 pub overflow_mul-result-in_default : goal.overflow_mul-result-in_default
@@ -66,7 +68,8 @@ overflow_mul-result-in_default c =
 
 pub mark_at-requires-in_default-3 : goal.mark_at-requires-in_default-3
 mark_at-requires-in_default-3 c =
-    let four : c.args.level ≡ 4 = deepest c.requires.1 c.in_default.in_default-own.rest.0.0.0.1 c.in_default.in_default-own.rest.0.0.1 c.in_default.in_default-own.rest.0.1 c.in_default.in_default-own.rest.1 in
+    let four : c.args.level ≡ 4 = deepest c.requires.1 c.in_default.in_default-own.rest.0.0.0.1 c.in_default.in_default-own.rest.0.0.1
+    c.in_default.in_default-own.rest.0.1 c.in_default.in_default-own.rest.1 in
     row_in 2 (omega (arith, four)) c.requires.0 c.requires.2
 
 pub overflow_mul-result-in_default-2 : goal.overflow_mul-result-in_default-2
@@ -74,12 +77,14 @@ overflow_mul-result-in_default-2 c =
     let live : ℕ → ℕ = λ l. live_one c.args.cells c.args.masks.now l c.args.i in
     let both_4 : c.mark_at-in_default.result * c.mark_at-in_default-2.result ≡ live 2 = let a = c.args in
     mark_more a.cells a.masks.now a.i 1 (mark_one a.cells a.masks.now a.i c.mark_at-in_default.ensures refl) c.mark_at-in_default-2.ensures refl in
-    let three_4 : c.mark_at-in_default.result * c.mark_at-in_default-2.result * c.mark_at-in_default-3.result ≡ live 3 = let a = c.args in mark_more a.cells a.masks.now a.i 2 both_4 c.mark_at-in_default-3.ensures refl in
+    let three_4 : c.mark_at-in_default.result * c.mark_at-in_default-2.result * c.mark_at-in_default-3.result ≡ live 3 = let a =
+    c.args in mark_more a.cells a.masks.now a.i 2 both_4 c.mark_at-in_default-3.ensures refl in
     let a = c.args in omega (arith, mark_le a.cells a.masks.now a.i 3 three_4)
 
 pub mark_at-requires-in_default-4 : goal.mark_at-requires-in_default-4
 mark_at-requires-in_default-4 c =
-    let four : c.args.level ≡ 4 = deepest c.requires.1 c.in_default.in_default-own.rest.0.0.0.1 c.in_default.in_default-own.rest.0.0.1 c.in_default.in_default-own.rest.0.1 c.in_default.in_default-own.rest.1 in
+    let four : c.args.level ≡ 4 = deepest c.requires.1 c.in_default.in_default-own.rest.0.0.0.1 c.in_default.in_default-own.rest.0.0.1
+    c.in_default.in_default-own.rest.0.1 c.in_default.in_default-own.rest.1 in
     row_in 3 (omega (arith, four)) c.requires.0 c.requires.2
 
 pub overflow_mul-result-in_default-3 : goal.overflow_mul-result-in_default-3
@@ -87,8 +92,10 @@ overflow_mul-result-in_default-3 c =
     let live : ℕ → ℕ = λ l. live_one c.args.cells c.args.masks.now l c.args.i in
     let both_4 : c.mark_at-in_default.result * c.mark_at-in_default-2.result ≡ live 2 = let a = c.args in
     mark_more a.cells a.masks.now a.i 1 (mark_one a.cells a.masks.now a.i c.mark_at-in_default.ensures refl) c.mark_at-in_default-2.ensures refl in
-    let three_4 : c.mark_at-in_default.result * c.mark_at-in_default-2.result * c.mark_at-in_default-3.result ≡ live 3 = let a = c.args in mark_more a.cells a.masks.now a.i 2 both_4 c.mark_at-in_default-3.ensures refl in
-    let all_4 : c.mark_at-in_default.result * c.mark_at-in_default-2.result * c.mark_at-in_default-3.result * c.mark_at-in_default-4.result ≡ live 4 = let a = c.args in mark_more a.cells a.masks.now a.i 3 three_4 c.mark_at-in_default-4.ensures refl in
+    let three_4 : c.mark_at-in_default.result * c.mark_at-in_default-2.result * c.mark_at-in_default-3.result ≡ live 3 = let a =
+    c.args in mark_more a.cells a.masks.now a.i 2 both_4 c.mark_at-in_default-3.ensures refl in
+    let all_4 : c.mark_at-in_default.result * c.mark_at-in_default-2.result * c.mark_at-in_default-3.result * c.mark_at-in_default-4.result ≡ live 4 = let a =
+    c.args in mark_more a.cells a.masks.now a.i 3 three_4 c.mark_at-in_default-4.ensures refl in
     let a = c.args in omega (arith, mark_le a.cells a.masks.now a.i 4 all_4)
 
 pub returns-in-0 : goal.returns-in-0
@@ -114,9 +121,11 @@ returns-in-3 c =
 pub returns-in_default : goal.returns-in_default
 returns-in_default c =
     let live : ℕ → ℕ = λ l. live_one c.args.cells c.args.masks.now l c.args.i in
-    let four : c.args.level ≡ 4 = deepest c.requires.1 c.in_default.in_default-own.rest.0.0.0.1 c.in_default.in_default-own.rest.0.0.1 c.in_default.in_default-own.rest.0.1 c.in_default.in_default-own.rest.1 in
+    let four : c.args.level ≡ 4 = deepest c.requires.1 c.in_default.in_default-own.rest.0.0.0.1 c.in_default.in_default-own.rest.0.0.1
+    c.in_default.in_default-own.rest.0.1 c.in_default.in_default-own.rest.1 in
     let both_4 : c.mark_at-in_default.result * c.mark_at-in_default-2.result ≡ live 2 = let a = c.args in
     mark_more a.cells a.masks.now a.i 1 (mark_one a.cells a.masks.now a.i c.mark_at-in_default.ensures refl) c.mark_at-in_default-2.ensures refl in
-    let three_4 : c.mark_at-in_default.result * c.mark_at-in_default-2.result * c.mark_at-in_default-3.result ≡ live 3 = let a = c.args in mark_more a.cells a.masks.now a.i 2 both_4 c.mark_at-in_default-3.ensures refl in
+    let three_4 : c.mark_at-in_default.result * c.mark_at-in_default-2.result * c.mark_at-in_default-3.result ≡ live 3 = let a =
+    c.args in mark_more a.cells a.masks.now a.i 2 both_4 c.mark_at-in_default-3.ensures refl in
     let a = c.args in
     mark_more a.cells a.masks.now a.i 3 three_4 c.mark_at-in_default-4.ensures four

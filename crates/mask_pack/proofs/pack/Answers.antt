@@ -27,7 +27,8 @@ pub pack_block-requires : goal.pack_block-requires
 pack_block-requires c =
     let left : ℕ → List ℕ = λ done. let a = c.args in
     pack_bits (map bit_of (drop done (take a.n (drop a.at a.planes.now)))) in
-    let same : length c.loop-done.out ≡ length c.args.out.now = laying_same (left 0) c.args.out.now c.args.to c.loop-done.out (bytes_for c.loop-done.done) (left c.loop-done.done) c.loop-done.invariant.2 in
+    let same : length c.loop-done.out ≡ length c.args.out.now =
+    laying_same (left 0) c.args.out.now c.args.to c.loop-done.out (bytes_for c.loop-done.done) (left c.loop-done.done) c.loop-done.invariant.2 in
     omega (arith, same, c.block_at_most-count.ensures, c.loop-done.invariant.1 c.loop-done-test.true)
 
 pub overflow_add-done : goal.overflow_add-done
@@ -62,7 +63,8 @@ pub shape_of-out : goal.shape_of-out
 shape_of-out c =
     let left : ℕ → List ℕ = λ done. let a = c.args in
     pack_bits (map bit_of (drop done (take a.n (drop a.at a.planes.now)))) in
-    let same : length c.loop-done.out ≡ length c.args.out.now = laying_same (left 0) c.args.out.now c.args.to c.loop-done.out (bytes_for c.loop-done.done) (left c.loop-done.done) c.loop-done.invariant.2 in
+    let same : length c.loop-done.out ≡ length c.args.out.now =
+    laying_same (left 0) c.args.out.now c.args.to c.loop-done.out (bytes_for c.loop-done.done) (left c.loop-done.done) c.loop-done.invariant.2 in
     same
 
 pub returns : goal.returns

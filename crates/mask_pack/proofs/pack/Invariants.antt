@@ -10,7 +10,8 @@ use Rattle.codec.specs.Mask.{pack_bits, bytes_for}
 use Rattle.mask_pack.proofs.pack.Given as goal
 
 abbrev pub invariant-loop-done : goal.invariant-loop-done
-invariant-loop-done l = (l.done ≤ l.n) × (l.done < l.n → l.done % 8 ≡ 0) × Laying (pack_bits (map bit_of (take l.n (drop l.at l.planes)))) l.initial.out l.to l.out (bytes_for l.done) (pack_bits (map bit_of (drop l.done (take l.n (drop l.at l.planes)))))
+invariant-loop-done l = (l.done ≤ l.n) × (l.done < l.n → l.done % 8 ≡ 0) × Laying (pack_bits (map bit_of (take l.n (drop l.at l.planes)))) l.initial.out l.to l.out
+    (bytes_for l.done) (pack_bits (map bit_of (drop l.done (take l.n (drop l.at l.planes)))))
 
 abbrev pub decreases-loop-done : goal.decreases-loop-done
 decreases-loop-done l = l.n - l.done

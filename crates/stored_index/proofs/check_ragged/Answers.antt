@@ -17,7 +17,8 @@ returns-then-too_large c =
     let limits : limited_index (told_index c.find_index-found.result) ≡ answer = let a = c.args in
     ap limited_index c.find_index-found.ensures ∙ found-limited (width_of a.width) (place_of a.place) a.s.now a.at a.n in
     let index : Index = c.in-Found.index in
-    let by_size : (b : Bool) → size_test index.last ≡ b → unless b 5 (gives index) ≡ answer = λ b e. ap (λ (t : Bool). unless t 5 (gives index)) (sym e) ∙ ap (λ i. limited_index (told_index i)) (sym c.in-Found.is) ∙ limits in
+    let by_size : (b : Bool) → size_test index.last ≡ b → unless b 5 (gives index) ≡ answer =
+    λ b e. ap (λ (t : Bool). unless t 5 (gives index)) (sym e) ∙ ap (λ i. limited_index (told_index i)) (sym c.in-Found.is) ∙ limits in
     by_size _ (not-true (size_test index.last) (sym c.too_large.ensures ∙ c.if-too_large.true))
 
 pub returns-in-Refused : goal.returns-in-Refused
@@ -33,5 +34,6 @@ returns-else-too_large c =
     let limits : limited_index (told_index c.find_index-found.result) ≡ answer = let a = c.args in
     ap limited_index c.find_index-found.ensures ∙ found-limited (width_of a.width) (place_of a.place) a.s.now a.at a.n in
     let index : Index = c.in-Found.index in
-    let by_size : (b : Bool) → size_test index.last ≡ b → unless b 5 (gives index) ≡ answer = λ b e. ap (λ (t : Bool). unless t 5 (gives index)) (sym e) ∙ ap (λ i. limited_index (told_index i)) (sym c.in-Found.is) ∙ limits in
+    let by_size : (b : Bool) → size_test index.last ≡ b → unless b 5 (gives index) ≡ answer =
+    λ b e. ap (λ (t : Bool). unless t 5 (gives index)) (sym e) ∙ ap (λ i. limited_index (told_index i)) (sym c.in-Found.is) ∙ limits in
     by_size _ (not-false (size_test index.last) (sym c.too_large.ensures ∙ c.if-too_large.false))

@@ -98,7 +98,8 @@ overflow_add-index c =
     let field_is : (8 ≤ length bytes - lies) × (says ≡ unle (take 8 (drop lies bytes))) = field_value 8 7 bytes lies says (sym c.read_length.ensures ∙ ap told_field c.in-Value.is) in
     let long : 8 ≤ left = omega (arith, field_is.0) in
     let size_is : c.index_length-length.result ≡ width + c.args.n * width = c.index_length-length.ensures in
-    let there : c.args.at + c.index_at.result + (width + c.args.n * width) ≤ length bytes = omega (arith, size_is, c.index_at.ensures, index_within place left c.index_length-length.result long (omega arith)) in
+    let there : c.args.at + c.index_at.result + (width + c.args.n * width) ≤ length bytes =
+    omega (arith, size_is, c.index_at.ensures, index_within place left c.index_length-length.result long (omega arith)) in
     omega (arith, there)
 
 pub data_at-requires : goal.data_at-requires
@@ -112,7 +113,8 @@ data_at-requires c =
     let field_is : (8 ≤ length bytes - lies) × (says ≡ unle (take 8 (drop lies bytes))) = field_value 8 7 bytes lies says (sym c.read_length.ensures ∙ ap told_field c.in-Value.is) in
     let long : 8 ≤ left = omega (arith, field_is.0) in
     let size_is : c.index_length-length.result ≡ width + c.args.n * width = c.index_length-length.ensures in
-    let there : c.args.at + c.index_at.result + (width + c.args.n * width) ≤ length bytes = omega (arith, size_is, c.index_at.ensures, index_within place left c.index_length-length.result long (omega arith)) in
+    let there : c.args.at + c.index_at.result + (width + c.args.n * width) ≤ length bytes =
+    omega (arith, size_is, c.index_at.ensures, index_within place left c.index_length-length.result long (omega arith)) in
     omega (arith, there, size_is)
 
 pub overflow_add-from : goal.overflow_add-from
@@ -137,7 +139,8 @@ check_index-requires c =
     let field_is : (8 ≤ length bytes - lies) × (says ≡ unle (take 8 (drop lies bytes))) = field_value 8 7 bytes lies says (sym c.read_length.ensures ∙ ap told_field c.in-Value.is) in
     let long : 8 ≤ left = omega (arith, field_is.0) in
     let size_is : c.index_length-length.result ≡ width + c.args.n * width = c.index_length-length.ensures in
-    let there : c.args.at + c.index_at.result + (width + c.args.n * width) ≤ length bytes = omega (arith, size_is, c.index_at.ensures, index_within place left c.index_length-length.result long (omega arith)) in
+    let there : c.args.at + c.index_at.result + (width + c.args.n * width) ≤ length bytes =
+    omega (arith, size_is, c.index_at.ensures, index_within place left c.index_length-length.result long (omega arith)) in
     there
 
 pub returns : goal.returns

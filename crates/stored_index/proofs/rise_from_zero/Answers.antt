@@ -15,7 +15,8 @@ use Rattle.stored_index.proofs.rise_from_zero.Goals as goal
 pub loop-left-init : goal.loop-left-init
 loop-left-init c =
     let bytes : List ℕ = c.args.s.now in
-    let first_is : c.le_at-first.result ≡ unle (take c.width_bytes-w.result (drop c.args.at bytes)) = c.le_at-first.ensures ∙ ap (λ (x : ℕ). unle (take x (drop c.args.at bytes))) (sym c.width_bytes-w.ensures) in
+    let first_is : c.le_at-first.result ≡ unle (take c.width_bytes-w.result (drop c.args.at bytes)) =
+    c.le_at-first.ensures ∙ ap (λ (x : ℕ). unle (take x (drop c.args.at bytes))) (sym c.width_bytes-w.ensures) in
     let a = c.args in
     rises_start c.width_bytes-w.result a.n bytes a.at first_is
     (subst (λ (x : ℕ). a.at + (x + a.n * x) ≤ length bytes) (sym c.width_bytes-w.ensures) c.requires)
@@ -42,7 +43,8 @@ returns-then-next-prev c =
     let tested : ℕ → Bool = λ w. let a = c.args in rising_test (offsets_in w (suc a.n) (drop a.at bytes)) in
     let width : ℕ = c.width_bytes-w.result in
     let some : 0 < c.loop-left.left = omega arith in
-    let next_is : c.le_at-next.result ≡ unle (take width (drop (c.loop-left.p + width) bytes)) = c.le_at-next.ensures ∙ ap (λ (x : ℕ). unle (take x (drop (c.loop-left.p + width) bytes))) (sym c.width_bytes-w.ensures) in
+    let next_is : c.le_at-next.result ≡ unle (take width (drop (c.loop-left.p + width) bytes)) =
+    c.le_at-next.ensures ∙ ap (λ (x : ℕ). unle (take x (drop (c.loop-left.p + width) bytes))) (sym c.width_bytes-w.ensures) in
     rises_falls c.loop-left.invariant some next_is c.if-next-prev.true ∙ ap tested c.width_bytes-w.ensures
 
 pub overflow_add-p-in-loop-left : goal.overflow_add-p-in-loop-left
@@ -50,8 +52,10 @@ overflow_add-p-in-loop-left c =
     let bytes : List ℕ = c.args.s.now in
     let width : ℕ = c.width_bytes-w.result in
     let some : 0 < c.loop-left.left = omega arith in
-    let next_is : c.le_at-next.result ≡ unle (take width (drop (c.loop-left.p + width) bytes)) = c.le_at-next.ensures ∙ ap (λ (x : ℕ). unle (take x (drop (c.loop-left.p + width) bytes))) (sym c.width_bytes-w.ensures) in
-    let first : let a = c.args in Rises width a.n bytes a.at c.le_at-first.result c.le_at-next.result (c.loop-left.p + width) (c.loop-left.left - 1) = rises_more c.loop-left.invariant some next_is c.if-next-prev.false in
+    let next_is : c.le_at-next.result ≡ unle (take width (drop (c.loop-left.p + width) bytes)) =
+    c.le_at-next.ensures ∙ ap (λ (x : ℕ). unle (take x (drop (c.loop-left.p + width) bytes))) (sym c.width_bytes-w.ensures) in
+    let first : let a = c.args in Rises width a.n bytes a.at c.le_at-first.result c.le_at-next.result (c.loop-left.p + width) (c.loop-left.left - 1) =
+    rises_more c.loop-left.invariant some next_is c.if-next-prev.false in
     let more : 0 < c.loop-left.left - 1 = omega (arith, c.loop-left-test.true) in
     let room_2 : c.loop-left.p + width + width + width ≤ length bytes = omega (arith, rises_room first more) in
     omega (arith, room_2)
@@ -61,8 +65,10 @@ le_at-prev-requires c =
     let bytes : List ℕ = c.args.s.now in
     let width : ℕ = c.width_bytes-w.result in
     let some : 0 < c.loop-left.left = omega arith in
-    let next_is : c.le_at-next.result ≡ unle (take width (drop (c.loop-left.p + width) bytes)) = c.le_at-next.ensures ∙ ap (λ (x : ℕ). unle (take x (drop (c.loop-left.p + width) bytes))) (sym c.width_bytes-w.ensures) in
-    let first : let a = c.args in Rises width a.n bytes a.at c.le_at-first.result c.le_at-next.result (c.loop-left.p + width) (c.loop-left.left - 1) = rises_more c.loop-left.invariant some next_is c.if-next-prev.false in
+    let next_is : c.le_at-next.result ≡ unle (take width (drop (c.loop-left.p + width) bytes)) =
+    c.le_at-next.ensures ∙ ap (λ (x : ℕ). unle (take x (drop (c.loop-left.p + width) bytes))) (sym c.width_bytes-w.ensures) in
+    let first : let a = c.args in Rises width a.n bytes a.at c.le_at-first.result c.le_at-next.result (c.loop-left.p + width) (c.loop-left.left - 1) =
+    rises_more c.loop-left.invariant some next_is c.if-next-prev.false in
     let more : 0 < c.loop-left.left - 1 = omega (arith, c.loop-left-test.true) in
     let room_2 : c.loop-left.p + width + width + width ≤ length bytes = omega (arith, rises_room first more) in
     omega (arith, room_2, c.width_bytes-w.ensures)
@@ -73,10 +79,13 @@ returns-then-prev-next c =
     let tested : ℕ → Bool = λ w. let a = c.args in rising_test (offsets_in w (suc a.n) (drop a.at bytes)) in
     let width : ℕ = c.width_bytes-w.result in
     let some : 0 < c.loop-left.left = omega arith in
-    let next_is : c.le_at-next.result ≡ unle (take width (drop (c.loop-left.p + width) bytes)) = c.le_at-next.ensures ∙ ap (λ (x : ℕ). unle (take x (drop (c.loop-left.p + width) bytes))) (sym c.width_bytes-w.ensures) in
-    let first : let a = c.args in Rises width a.n bytes a.at c.le_at-first.result c.le_at-next.result (c.loop-left.p + width) (c.loop-left.left - 1) = rises_more c.loop-left.invariant some next_is c.if-next-prev.false in
+    let next_is : c.le_at-next.result ≡ unle (take width (drop (c.loop-left.p + width) bytes)) =
+    c.le_at-next.ensures ∙ ap (λ (x : ℕ). unle (take x (drop (c.loop-left.p + width) bytes))) (sym c.width_bytes-w.ensures) in
+    let first : let a = c.args in Rises width a.n bytes a.at c.le_at-first.result c.le_at-next.result (c.loop-left.p + width) (c.loop-left.left - 1) =
+    rises_more c.loop-left.invariant some next_is c.if-next-prev.false in
     let more : 0 < c.loop-left.left - 1 = omega (arith, c.loop-left-test.true) in
-    let second_is : c.le_at-prev.result ≡ unle (take width (drop (c.loop-left.p + width + width) bytes)) = c.le_at-prev.ensures ∙ ap (λ (x : ℕ). unle (take x (drop (c.loop-left.p + width + width) bytes))) (sym c.width_bytes-w.ensures) in
+    let second_is : c.le_at-prev.result ≡ unle (take width (drop (c.loop-left.p + width + width) bytes)) =
+    c.le_at-prev.ensures ∙ ap (λ (x : ℕ). unle (take x (drop (c.loop-left.p + width + width) bytes))) (sym c.width_bytes-w.ensures) in
     rises_falls first more second_is c.if-prev-next.true ∙ ap tested c.width_bytes-w.ensures
 
 pub overflow_sub-left : goal.overflow_sub-left
@@ -90,10 +99,13 @@ loop-left-preserved c =
     let bytes : List ℕ = c.args.s.now in
     let width : ℕ = c.width_bytes-w.result in
     let some : 0 < c.loop-left.left = omega arith in
-    let next_is : c.le_at-next.result ≡ unle (take width (drop (c.loop-left.p + width) bytes)) = c.le_at-next.ensures ∙ ap (λ (x : ℕ). unle (take x (drop (c.loop-left.p + width) bytes))) (sym c.width_bytes-w.ensures) in
-    let first : let a = c.args in Rises width a.n bytes a.at c.le_at-first.result c.le_at-next.result (c.loop-left.p + width) (c.loop-left.left - 1) = rises_more c.loop-left.invariant some next_is c.if-next-prev.false in
+    let next_is : c.le_at-next.result ≡ unle (take width (drop (c.loop-left.p + width) bytes)) =
+    c.le_at-next.ensures ∙ ap (λ (x : ℕ). unle (take x (drop (c.loop-left.p + width) bytes))) (sym c.width_bytes-w.ensures) in
+    let first : let a = c.args in Rises width a.n bytes a.at c.le_at-first.result c.le_at-next.result (c.loop-left.p + width) (c.loop-left.left - 1) =
+    rises_more c.loop-left.invariant some next_is c.if-next-prev.false in
     let more : 0 < c.loop-left.left - 1 = omega (arith, c.loop-left-test.true) in
-    let second_is : c.le_at-prev.result ≡ unle (take width (drop (c.loop-left.p + width + width) bytes)) = c.le_at-prev.ensures ∙ ap (λ (x : ℕ). unle (take x (drop (c.loop-left.p + width + width) bytes))) (sym c.width_bytes-w.ensures) in
+    let second_is : c.le_at-prev.result ≡ unle (take width (drop (c.loop-left.p + width + width) bytes)) =
+    c.le_at-prev.ensures ∙ ap (λ (x : ℕ). unle (take x (drop (c.loop-left.p + width + width) bytes))) (sym c.width_bytes-w.ensures) in
     let a = c.args in
     let two : c.loop-left.left - 1 - 1 ≡ c.loop-left.left - 2 = omega arith in
     subst (Rises width a.n bytes a.at c.le_at-first.result c.le_at-prev.result (c.loop-left.p + width + width)) two

@@ -24,10 +24,12 @@ move_few-requires-2 c =
 
 pub shape_of-store : goal.shape_of-store
 shape_of-store c =
-    let last : let a = c.args in Copying a.store.now a.to a.store.now a.from a.n c.move_few-2.new.store (c.loop-done.done + (a.n - c.loop-done.done)) = part_moved c.loop-done.invariant c.requires.0 (c.args.n - c.loop-done.done) (omega (arith, c.loop-done.invariant.within)) c.move_few-2.ensures in
+    let last : let a = c.args in Copying a.store.now a.to a.store.now a.from a.n c.move_few-2.new.store (c.loop-done.done + (a.n - c.loop-done.done)) =
+    part_moved c.loop-done.invariant c.requires.0 (c.args.n - c.loop-done.done) (omega (arith, c.loop-done.invariant.within)) c.move_few-2.ensures in
     copy_same last
 
 pub returns : goal.returns
 returns c =
-    let last : let a = c.args in Copying a.store.now a.to a.store.now a.from a.n c.move_few-2.new.store (c.loop-done.done + (a.n - c.loop-done.done)) = part_moved c.loop-done.invariant c.requires.0 (c.args.n - c.loop-done.done) (omega (arith, c.loop-done.invariant.within)) c.move_few-2.ensures in
+    let last : let a = c.args in Copying a.store.now a.to a.store.now a.from a.n c.move_few-2.new.store (c.loop-done.done + (a.n - c.loop-done.done)) =
+    part_moved c.loop-done.invariant c.requires.0 (c.args.n - c.loop-done.done) (omega (arith, c.loop-done.invariant.within)) c.move_few-2.ensures in
     copy_ends last (omega arith)

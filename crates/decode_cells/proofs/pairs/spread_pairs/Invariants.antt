@@ -10,7 +10,8 @@ use Rattle.decode_words.proofs.SpreadingValues.{SpreadingValues}
 use Rattle.decode_cells.proofs.pairs.spread_pairs.Given as goal
 
 abbrev pub invariant-loop-k : goal.invariant-loop-k
-invariant-loop-k l = SpreadingValues 16 (order_of l.order) (plane_at l.from l.n l.masks) l.s l.initial.values l.at l.cells l.values l.i l.k × (le 8 l.v ≡ word_at 8 (order_of l.order) l.s l.at (2 * l.k + l.a) (2 * l.cells)) ×
+invariant-loop-k l = SpreadingValues 16 (order_of l.order) (plane_at l.from l.n l.masks) l.s l.initial.values l.at l.cells l.values l.i l.k ×
+    (le 8 l.v ≡ word_at 8 (order_of l.order) l.s l.at (2 * l.k + l.a) (2 * l.cells)) ×
     (le 8 l.u ≡ word_at 8 (order_of l.order) l.s l.at (2 * l.k + (1 - l.a)) (2 * l.cells))
 
 abbrev pub decreases-loop-k : goal.decreases-loop-k

@@ -23,77 +23,95 @@ run_length-nulls-requires c =
 
 pub overflow_mul-i : goal.overflow_mul-i
 overflow_mul-i c =
-    let nulls_room : let a = c.args in c.loop-k.i * a.size + c.run_length-nulls.result * a.size ≤ length c.loop-k.values = values_room c.loop-k.invariant c.run_length-nulls.result (nulls_fit c.loop-k.invariant c.run_length-nulls.ensures) in
+    let nulls_room : let a = c.args in c.loop-k.i * a.size + c.run_length-nulls.result * a.size ≤ length c.loop-k.values =
+    values_room c.loop-k.invariant c.run_length-nulls.result (nulls_fit c.loop-k.invariant c.run_length-nulls.ensures) in
     omega (arith, nulls_room, values_same c.loop-k.invariant)
 
 pub overflow_mul-nulls : goal.overflow_mul-nulls
 overflow_mul-nulls c =
-    let nulls_room : let a = c.args in c.loop-k.i * a.size + c.run_length-nulls.result * a.size ≤ length c.loop-k.values = values_room c.loop-k.invariant c.run_length-nulls.result (nulls_fit c.loop-k.invariant c.run_length-nulls.ensures) in
+    let nulls_room : let a = c.args in c.loop-k.i * a.size + c.run_length-nulls.result * a.size ≤ length c.loop-k.values =
+    values_room c.loop-k.invariant c.run_length-nulls.result (nulls_fit c.loop-k.invariant c.run_length-nulls.ensures) in
     omega (arith, nulls_room, values_same c.loop-k.invariant)
 
 pub fill_bytes-requires : goal.fill_bytes-requires
 fill_bytes-requires c =
-    let nulls_room : let a = c.args in c.loop-k.i * a.size + c.run_length-nulls.result * a.size ≤ length c.loop-k.values = values_room c.loop-k.invariant c.run_length-nulls.result (nulls_fit c.loop-k.invariant c.run_length-nulls.ensures) in
+    let nulls_room : let a = c.args in c.loop-k.i * a.size + c.run_length-nulls.result * a.size ≤ length c.loop-k.values =
+    values_room c.loop-k.invariant c.run_length-nulls.result (nulls_fit c.loop-k.invariant c.run_length-nulls.ensures) in
     omega (arith, nulls_room)
 
 pub overflow_add-i : goal.overflow_add-i
 overflow_add-i c =
     let long : length (plane_at c.args.from c.args.n c.args.masks.now) ≡ c.args.n = plane_long c.requires in
-    let between : let a = c.args in SpreadingValues a.size (order_of a.order) (plane_at a.from a.n a.masks.now) a.s.now a.values.now a.at a.cells c.fill_bytes.new.out (c.loop-k.i + c.run_length-nulls.result) c.loop-k.k = nulls_laid c.loop-k.invariant c.run_length-nulls.ensures c.fill_bytes.ensures in
+    let between : let a = c.args in SpreadingValues a.size (order_of a.order) (plane_at a.from a.n a.masks.now) a.s.now a.values.now a.at a.cells c.fill_bytes.new.out
+    (c.loop-k.i + c.run_length-nulls.result) c.loop-k.k = nulls_laid c.loop-k.invariant c.run_length-nulls.ensures c.fill_bytes.ensures in
     omega (arith, long, between.within)
 
 pub run_length-sets-requires : goal.run_length-sets-requires
 run_length-sets-requires c =
     let long : length (plane_at c.args.from c.args.n c.args.masks.now) ≡ c.args.n = plane_long c.requires in
-    let between : let a = c.args in SpreadingValues a.size (order_of a.order) (plane_at a.from a.n a.masks.now) a.s.now a.values.now a.at a.cells c.fill_bytes.new.out (c.loop-k.i + c.run_length-nulls.result) c.loop-k.k = nulls_laid c.loop-k.invariant c.run_length-nulls.ensures c.fill_bytes.ensures in
+    let between : let a = c.args in SpreadingValues a.size (order_of a.order) (plane_at a.from a.n a.masks.now) a.s.now a.values.now a.at a.cells c.fill_bytes.new.out
+    (c.loop-k.i + c.run_length-nulls.result) c.loop-k.k = nulls_laid c.loop-k.invariant c.run_length-nulls.ensures c.fill_bytes.ensures in
     (c.requires.plane, omega (arith, long, between.within))
 
 pub overflow_mul-i-in-loop-k : goal.overflow_mul-i-in-loop-k
 overflow_mul-i-in-loop-k c =
-    let between : let a = c.args in SpreadingValues a.size (order_of a.order) (plane_at a.from a.n a.masks.now) a.s.now a.values.now a.at a.cells c.fill_bytes.new.out (c.loop-k.i + c.run_length-nulls.result) c.loop-k.k = nulls_laid c.loop-k.invariant c.run_length-nulls.ensures c.fill_bytes.ensures in
-    let sets_room : (c.loop-k.i + c.run_length-nulls.result) * c.args.size + c.run_length-sets.result * c.args.size ≤ length c.fill_bytes.new.out = values_room between c.run_length-sets.result (sets_fit between c.run_length-sets.ensures) in
+    let between : let a = c.args in SpreadingValues a.size (order_of a.order) (plane_at a.from a.n a.masks.now) a.s.now a.values.now a.at a.cells c.fill_bytes.new.out
+    (c.loop-k.i + c.run_length-nulls.result) c.loop-k.k = nulls_laid c.loop-k.invariant c.run_length-nulls.ensures c.fill_bytes.ensures in
+    let sets_room : (c.loop-k.i + c.run_length-nulls.result) * c.args.size + c.run_length-sets.result * c.args.size ≤ length c.fill_bytes.new.out =
+    values_room between c.run_length-sets.result (sets_fit between c.run_length-sets.ensures) in
     omega (arith, sets_room, values_same between)
 
 pub overflow_mul-k : goal.overflow_mul-k
 overflow_mul-k c =
-    let between : let a = c.args in SpreadingValues a.size (order_of a.order) (plane_at a.from a.n a.masks.now) a.s.now a.values.now a.at a.cells c.fill_bytes.new.out (c.loop-k.i + c.run_length-nulls.result) c.loop-k.k = nulls_laid c.loop-k.invariant c.run_length-nulls.ensures c.fill_bytes.ensures in
-    let sets_source : let a = c.args in a.at + c.loop-k.k * a.size + c.run_length-sets.result * a.size ≤ length a.s.now = values_source between c.run_length-sets.result (sets_stored between c.run_length-sets.ensures) in
+    let between : let a = c.args in SpreadingValues a.size (order_of a.order) (plane_at a.from a.n a.masks.now) a.s.now a.values.now a.at a.cells c.fill_bytes.new.out
+    (c.loop-k.i + c.run_length-nulls.result) c.loop-k.k = nulls_laid c.loop-k.invariant c.run_length-nulls.ensures c.fill_bytes.ensures in
+    let sets_source : let a = c.args in a.at + c.loop-k.k * a.size + c.run_length-sets.result * a.size ≤ length a.s.now =
+    values_source between c.run_length-sets.result (sets_stored between c.run_length-sets.ensures) in
     omega (arith, sets_source)
 
 pub overflow_add-at : goal.overflow_add-at
 overflow_add-at c =
-    let between : let a = c.args in SpreadingValues a.size (order_of a.order) (plane_at a.from a.n a.masks.now) a.s.now a.values.now a.at a.cells c.fill_bytes.new.out (c.loop-k.i + c.run_length-nulls.result) c.loop-k.k = nulls_laid c.loop-k.invariant c.run_length-nulls.ensures c.fill_bytes.ensures in
-    let sets_source : let a = c.args in a.at + c.loop-k.k * a.size + c.run_length-sets.result * a.size ≤ length a.s.now = values_source between c.run_length-sets.result (sets_stored between c.run_length-sets.ensures) in
+    let between : let a = c.args in SpreadingValues a.size (order_of a.order) (plane_at a.from a.n a.masks.now) a.s.now a.values.now a.at a.cells c.fill_bytes.new.out
+    (c.loop-k.i + c.run_length-nulls.result) c.loop-k.k = nulls_laid c.loop-k.invariant c.run_length-nulls.ensures c.fill_bytes.ensures in
+    let sets_source : let a = c.args in a.at + c.loop-k.k * a.size + c.run_length-sets.result * a.size ≤ length a.s.now =
+    values_source between c.run_length-sets.result (sets_stored between c.run_length-sets.ensures) in
     omega (arith, sets_source)
 
 pub copy_cells-requires : goal.copy_cells-requires
 copy_cells-requires c =
-    let between : let a = c.args in SpreadingValues a.size (order_of a.order) (plane_at a.from a.n a.masks.now) a.s.now a.values.now a.at a.cells c.fill_bytes.new.out (c.loop-k.i + c.run_length-nulls.result) c.loop-k.k = nulls_laid c.loop-k.invariant c.run_length-nulls.ensures c.fill_bytes.ensures in
-    let sets_room : (c.loop-k.i + c.run_length-nulls.result) * c.args.size + c.run_length-sets.result * c.args.size ≤ length c.fill_bytes.new.out = values_room between c.run_length-sets.result (sets_fit between c.run_length-sets.ensures) in
-    let sets_source : let a = c.args in a.at + c.loop-k.k * a.size + c.run_length-sets.result * a.size ≤ length a.s.now = values_source between c.run_length-sets.result (sets_stored between c.run_length-sets.ensures) in
+    let between : let a = c.args in SpreadingValues a.size (order_of a.order) (plane_at a.from a.n a.masks.now) a.s.now a.values.now a.at a.cells c.fill_bytes.new.out
+    (c.loop-k.i + c.run_length-nulls.result) c.loop-k.k = nulls_laid c.loop-k.invariant c.run_length-nulls.ensures c.fill_bytes.ensures in
+    let sets_room : (c.loop-k.i + c.run_length-nulls.result) * c.args.size + c.run_length-sets.result * c.args.size ≤ length c.fill_bytes.new.out =
+    values_room between c.run_length-sets.result (sets_fit between c.run_length-sets.ensures) in
+    let sets_source : let a = c.args in a.at + c.loop-k.k * a.size + c.run_length-sets.result * a.size ≤ length a.s.now =
+    values_source between c.run_length-sets.result (sets_stored between c.run_length-sets.ensures) in
     (omega (arith, sets_room), omega (arith, sets_source))
 
 pub overflow_add-i-in-loop-k : goal.overflow_add-i-in-loop-k
 overflow_add-i-in-loop-k c =
     let long : length (plane_at c.args.from c.args.n c.args.masks.now) ≡ c.args.n = plane_long c.requires in
-    let between : let a = c.args in SpreadingValues a.size (order_of a.order) (plane_at a.from a.n a.masks.now) a.s.now a.values.now a.at a.cells c.fill_bytes.new.out (c.loop-k.i + c.run_length-nulls.result) c.loop-k.k = nulls_laid c.loop-k.invariant c.run_length-nulls.ensures c.fill_bytes.ensures in
+    let between : let a = c.args in SpreadingValues a.size (order_of a.order) (plane_at a.from a.n a.masks.now) a.s.now a.values.now a.at a.cells c.fill_bytes.new.out
+    (c.loop-k.i + c.run_length-nulls.result) c.loop-k.k = nulls_laid c.loop-k.invariant c.run_length-nulls.ensures c.fill_bytes.ensures in
     omega (arith, long, c.ranges.n, sets_fit between c.run_length-sets.ensures)
 
 pub overflow_add-k : goal.overflow_add-k
 overflow_add-k c =
-    let between : let a = c.args in SpreadingValues a.size (order_of a.order) (plane_at a.from a.n a.masks.now) a.s.now a.values.now a.at a.cells c.fill_bytes.new.out (c.loop-k.i + c.run_length-nulls.result) c.loop-k.k = nulls_laid c.loop-k.invariant c.run_length-nulls.ensures c.fill_bytes.ensures in
+    let between : let a = c.args in SpreadingValues a.size (order_of a.order) (plane_at a.from a.n a.masks.now) a.s.now a.values.now a.at a.cells c.fill_bytes.new.out
+    (c.loop-k.i + c.run_length-nulls.result) c.loop-k.k = nulls_laid c.loop-k.invariant c.run_length-nulls.ensures c.fill_bytes.ensures in
     omega (arith, sets_stored between c.run_length-sets.ensures)
 
 pub loop-k-smaller : goal.loop-k-smaller
 loop-k-smaller c =
     let long : length (plane_at c.args.from c.args.n c.args.masks.now) ≡ c.args.n = plane_long c.requires in
-    let between : let a = c.args in SpreadingValues a.size (order_of a.order) (plane_at a.from a.n a.masks.now) a.s.now a.values.now a.at a.cells c.fill_bytes.new.out (c.loop-k.i + c.run_length-nulls.result) c.loop-k.k = nulls_laid c.loop-k.invariant c.run_length-nulls.ensures c.fill_bytes.ensures in
+    let between : let a = c.args in SpreadingValues a.size (order_of a.order) (plane_at a.from a.n a.masks.now) a.s.now a.values.now a.at a.cells c.fill_bytes.new.out
+    (c.loop-k.i + c.run_length-nulls.result) c.loop-k.k = nulls_laid c.loop-k.invariant c.run_length-nulls.ensures c.fill_bytes.ensures in
     let some : 0 < c.run_length-sets.result = sets_some c.loop-k.invariant c.run_length-nulls.ensures c.loop-k-test.true c.run_length-sets.ensures in
     omega (arith, long, sets_fit between c.run_length-sets.ensures, some)
 
 pub loop-k-preserved : goal.loop-k-preserved
 loop-k-preserved c =
-    let between : let a = c.args in SpreadingValues a.size (order_of a.order) (plane_at a.from a.n a.masks.now) a.s.now a.values.now a.at a.cells c.fill_bytes.new.out (c.loop-k.i + c.run_length-nulls.result) c.loop-k.k = nulls_laid c.loop-k.invariant c.run_length-nulls.ensures c.fill_bytes.ensures in
+    let between : let a = c.args in SpreadingValues a.size (order_of a.order) (plane_at a.from a.n a.masks.now) a.s.now a.values.now a.at a.cells c.fill_bytes.new.out
+    (c.loop-k.i + c.run_length-nulls.result) c.loop-k.k = nulls_laid c.loop-k.invariant c.run_length-nulls.ensures c.fill_bytes.ensures in
     sets_laid between c.run_length-sets.ensures c.copy_cells.ensures
 
 pub overflow_mul-i-2 : goal.overflow_mul-i-2

@@ -35,12 +35,14 @@ overflow_add-i c =
 
 pub overflow_sub-sum : goal.overflow_sub-sum
 overflow_sub-sum c =
-    let room : (c.loop-i.to ≤ c.args.sum) × (c.le4_at-length.result ≤ c.args.sum - c.loop-i.to) = copy_fits c.loop-i.invariant c.loop-i-test.true c.le4_at-length.result c.le4_at-length.ensures c.requires.1 in
+    let room : (c.loop-i.to ≤ c.args.sum) × (c.le4_at-length.result ≤ c.args.sum - c.loop-i.to) =
+    copy_fits c.loop-i.invariant c.loop-i-test.true c.le4_at-length.result c.le4_at-length.ensures c.requires.1 in
     (room).0
 
 pub copy_cell-requires : goal.copy_cell-requires
 copy_cell-requires c =
-    let room : (c.loop-i.to ≤ c.args.sum) × (c.le4_at-length.result ≤ c.args.sum - c.loop-i.to) = copy_fits c.loop-i.invariant c.loop-i-test.true c.le4_at-length.result c.le4_at-length.ensures c.requires.1 in (
+    let room : (c.loop-i.to ≤ c.args.sum) × (c.le4_at-length.result ≤ c.args.sum - c.loop-i.to) =
+    copy_fits c.loop-i.invariant c.loop-i-test.true c.le4_at-length.result c.le4_at-length.ensures c.requires.1 in (
       c.if-length-gt0.true,
       room.1,
       omega (arith, room, c.requires.2, c.loop-i.invariant.placed.same),
@@ -54,7 +56,8 @@ overflow_add-at-then-length-gt0 c =
 
 pub overflow_add-to : goal.overflow_add-to
 overflow_add-to c =
-    let room : (c.loop-i.to ≤ c.args.sum) × (c.le4_at-length.result ≤ c.args.sum - c.loop-i.to) = copy_fits c.loop-i.invariant c.loop-i-test.true c.le4_at-length.result c.le4_at-length.ensures c.requires.1 in
+    let room : (c.loop-i.to ≤ c.args.sum) × (c.le4_at-length.result ≤ c.args.sum - c.loop-i.to) =
+    copy_fits c.loop-i.invariant c.loop-i-test.true c.le4_at-length.result c.le4_at-length.ensures c.requires.1 in
     omega (arith, room)
 
 pub loop-i-preserved-then-length-gt0 : goal.loop-i-preserved-then-length-gt0

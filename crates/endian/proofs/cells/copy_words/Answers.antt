@@ -23,7 +23,8 @@ overflow_mul-k c =
     let inside : let a = c.args in c.loop-i.i * (64 / a.size) + 32 / a.size + 32 / a.size ≤ a.cells = let a = c.args in
     line_within a.size (32 / a.size) (narrow_line a.size c.requires.0) (narrow_block a.size c.requires.0) c.loop-i.i (a.cells / (64 / a.size)) a.cells
     (div-mul-le_self a.cells (64 / a.size)) c.loop-i-test.true in
-    let fits : c.loop-i.i * 64 + 64 ≤ c.args.cells * c.args.size = let a = c.args in line_room a.size (32 / a.size) (narrow_line a.size c.requires.0) (narrow_block a.size c.requires.0) a.cells c.loop-i.i inside in
+    let fits : c.loop-i.i * 64 + 64 ≤ c.args.cells * c.args.size = let a =
+    c.args in line_room a.size (32 / a.size) (narrow_line a.size c.requires.0) (narrow_block a.size c.requires.0) a.cells c.loop-i.i inside in
     omega (arith, fits)
 
 pub overflow_add-to : goal.overflow_add-to
@@ -31,7 +32,8 @@ overflow_add-to c =
     let inside : let a = c.args in c.loop-i.i * (64 / a.size) + 32 / a.size + 32 / a.size ≤ a.cells = let a = c.args in
     line_within a.size (32 / a.size) (narrow_line a.size c.requires.0) (narrow_block a.size c.requires.0) c.loop-i.i (a.cells / (64 / a.size)) a.cells
     (div-mul-le_self a.cells (64 / a.size)) c.loop-i-test.true in
-    let fits : c.loop-i.i * 64 + 64 ≤ c.args.cells * c.args.size = let a = c.args in line_room a.size (32 / a.size) (narrow_line a.size c.requires.0) (narrow_block a.size c.requires.0) a.cells c.loop-i.i inside in
+    let fits : c.loop-i.i * 64 + 64 ≤ c.args.cells * c.args.size = let a =
+    c.args in line_room a.size (32 / a.size) (narrow_line a.size c.requires.0) (narrow_block a.size c.requires.0) a.cells c.loop-i.i inside in
     omega (arith, fits)
 
 pub overflow_add-at : goal.overflow_add-at
@@ -39,7 +41,8 @@ overflow_add-at c =
     let inside : let a = c.args in c.loop-i.i * (64 / a.size) + 32 / a.size + 32 / a.size ≤ a.cells = let a = c.args in
     line_within a.size (32 / a.size) (narrow_line a.size c.requires.0) (narrow_block a.size c.requires.0) c.loop-i.i (a.cells / (64 / a.size)) a.cells
     (div-mul-le_self a.cells (64 / a.size)) c.loop-i-test.true in
-    let fits : c.loop-i.i * 64 + 64 ≤ c.args.cells * c.args.size = let a = c.args in line_room a.size (32 / a.size) (narrow_line a.size c.requires.0) (narrow_block a.size c.requires.0) a.cells c.loop-i.i inside in
+    let fits : c.loop-i.i * 64 + 64 ≤ c.args.cells * c.args.size = let a =
+    c.args in line_room a.size (32 / a.size) (narrow_line a.size c.requires.0) (narrow_block a.size c.requires.0) a.cells c.loop-i.i inside in
     omega (arith, fits)
 
 pub copy_block-requires : goal.copy_block-requires
@@ -48,7 +51,8 @@ copy_block-requires c =
     let inside : let a = c.args in c.loop-i.i * (64 / a.size) + 32 / a.size + 32 / a.size ≤ a.cells = let a = c.args in
     line_within a.size (32 / a.size) (narrow_line a.size c.requires.0) (narrow_block a.size c.requires.0) c.loop-i.i (a.cells / (64 / a.size)) a.cells
     (div-mul-le_self a.cells (64 / a.size)) c.loop-i-test.true in
-    let fits : c.loop-i.i * 64 + 64 ≤ c.args.cells * c.args.size = let a = c.args in line_room a.size (32 / a.size) (narrow_line a.size c.requires.0) (narrow_block a.size c.requires.0) a.cells c.loop-i.i inside in
+    let fits : c.loop-i.i * 64 + 64 ≤ c.args.cells * c.args.size = let a =
+    c.args in line_room a.size (32 / a.size) (narrow_line a.size c.requires.0) (narrow_block a.size c.requires.0) a.cells c.loop-i.i inside in
     (c.requires.0, omega (arith, fits, same), omega (arith, fits))
 
 pub overflow_add-k : goal.overflow_add-k
@@ -56,7 +60,8 @@ overflow_add-k c =
     let inside : let a = c.args in c.loop-i.i * (64 / a.size) + 32 / a.size + 32 / a.size ≤ a.cells = let a = c.args in
     line_within a.size (32 / a.size) (narrow_line a.size c.requires.0) (narrow_block a.size c.requires.0) c.loop-i.i (a.cells / (64 / a.size)) a.cells
     (div-mul-le_self a.cells (64 / a.size)) c.loop-i-test.true in
-    let fits : c.loop-i.i * 64 + 64 ≤ c.args.cells * c.args.size = let a = c.args in line_room a.size (32 / a.size) (narrow_line a.size c.requires.0) (narrow_block a.size c.requires.0) a.cells c.loop-i.i inside in
+    let fits : c.loop-i.i * 64 + 64 ≤ c.args.cells * c.args.size = let a =
+    c.args in line_room a.size (32 / a.size) (narrow_line a.size c.requires.0) (narrow_block a.size c.requires.0) a.cells c.loop-i.i inside in
     omega (arith, fits)
 
 pub overflow_add-to-in-loop-i : goal.overflow_add-to-in-loop-i
@@ -64,7 +69,8 @@ overflow_add-to-in-loop-i c =
     let inside : let a = c.args in c.loop-i.i * (64 / a.size) + 32 / a.size + 32 / a.size ≤ a.cells = let a = c.args in
     line_within a.size (32 / a.size) (narrow_line a.size c.requires.0) (narrow_block a.size c.requires.0) c.loop-i.i (a.cells / (64 / a.size)) a.cells
     (div-mul-le_self a.cells (64 / a.size)) c.loop-i-test.true in
-    let fits : c.loop-i.i * 64 + 64 ≤ c.args.cells * c.args.size = let a = c.args in line_room a.size (32 / a.size) (narrow_line a.size c.requires.0) (narrow_block a.size c.requires.0) a.cells c.loop-i.i inside in
+    let fits : c.loop-i.i * 64 + 64 ≤ c.args.cells * c.args.size = let a =
+    c.args in line_room a.size (32 / a.size) (narrow_line a.size c.requires.0) (narrow_block a.size c.requires.0) a.cells c.loop-i.i inside in
     omega (arith, fits)
 
 pub overflow_add-k-in-loop-i : goal.overflow_add-k-in-loop-i
@@ -72,7 +78,8 @@ overflow_add-k-in-loop-i c =
     let inside : let a = c.args in c.loop-i.i * (64 / a.size) + 32 / a.size + 32 / a.size ≤ a.cells = let a = c.args in
     line_within a.size (32 / a.size) (narrow_line a.size c.requires.0) (narrow_block a.size c.requires.0) c.loop-i.i (a.cells / (64 / a.size)) a.cells
     (div-mul-le_self a.cells (64 / a.size)) c.loop-i-test.true in
-    let fits : c.loop-i.i * 64 + 64 ≤ c.args.cells * c.args.size = let a = c.args in line_room a.size (32 / a.size) (narrow_line a.size c.requires.0) (narrow_block a.size c.requires.0) a.cells c.loop-i.i inside in
+    let fits : c.loop-i.i * 64 + 64 ≤ c.args.cells * c.args.size = let a =
+    c.args in line_room a.size (32 / a.size) (narrow_line a.size c.requires.0) (narrow_block a.size c.requires.0) a.cells c.loop-i.i inside in
     omega (arith, fits)
 
 pub overflow_add-at-in-loop-i : goal.overflow_add-at-in-loop-i
@@ -80,7 +87,8 @@ overflow_add-at-in-loop-i c =
     let inside : let a = c.args in c.loop-i.i * (64 / a.size) + 32 / a.size + 32 / a.size ≤ a.cells = let a = c.args in
     line_within a.size (32 / a.size) (narrow_line a.size c.requires.0) (narrow_block a.size c.requires.0) c.loop-i.i (a.cells / (64 / a.size)) a.cells
     (div-mul-le_self a.cells (64 / a.size)) c.loop-i-test.true in
-    let fits : c.loop-i.i * 64 + 64 ≤ c.args.cells * c.args.size = let a = c.args in line_room a.size (32 / a.size) (narrow_line a.size c.requires.0) (narrow_block a.size c.requires.0) a.cells c.loop-i.i inside in
+    let fits : c.loop-i.i * 64 + 64 ≤ c.args.cells * c.args.size = let a =
+    c.args in line_room a.size (32 / a.size) (narrow_line a.size c.requires.0) (narrow_block a.size c.requires.0) a.cells c.loop-i.i inside in
     omega (arith, fits)
 
 pub copy_block-requires-in-loop-i : goal.copy_block-requires-in-loop-i
@@ -89,7 +97,8 @@ copy_block-requires-in-loop-i c =
     let inside : let a = c.args in c.loop-i.i * (64 / a.size) + 32 / a.size + 32 / a.size ≤ a.cells = let a = c.args in
     line_within a.size (32 / a.size) (narrow_line a.size c.requires.0) (narrow_block a.size c.requires.0) c.loop-i.i (a.cells / (64 / a.size)) a.cells
     (div-mul-le_self a.cells (64 / a.size)) c.loop-i-test.true in
-    let fits : c.loop-i.i * 64 + 64 ≤ c.args.cells * c.args.size = let a = c.args in line_room a.size (32 / a.size) (narrow_line a.size c.requires.0) (narrow_block a.size c.requires.0) a.cells c.loop-i.i inside in
+    let fits : c.loop-i.i * 64 + 64 ≤ c.args.cells * c.args.size = let a =
+    c.args in line_room a.size (32 / a.size) (narrow_line a.size c.requires.0) (narrow_block a.size c.requires.0) a.cells c.loop-i.i inside in
     (c.requires.0, omega (arith, fits, same, c.copy_block.auto.out), omega (arith, fits))
 
 pub overflow_add-i : goal.overflow_add-i
@@ -97,7 +106,8 @@ overflow_add-i c =
     let inside : let a = c.args in c.loop-i.i * (64 / a.size) + 32 / a.size + 32 / a.size ≤ a.cells = let a = c.args in
     line_within a.size (32 / a.size) (narrow_line a.size c.requires.0) (narrow_block a.size c.requires.0) c.loop-i.i (a.cells / (64 / a.size)) a.cells
     (div-mul-le_self a.cells (64 / a.size)) c.loop-i-test.true in
-    let fits : c.loop-i.i * 64 + 64 ≤ c.args.cells * c.args.size = let a = c.args in line_room a.size (32 / a.size) (narrow_line a.size c.requires.0) (narrow_block a.size c.requires.0) a.cells c.loop-i.i inside in
+    let fits : c.loop-i.i * 64 + 64 ≤ c.args.cells * c.args.size = let a =
+    c.args in line_room a.size (32 / a.size) (narrow_line a.size c.requires.0) (narrow_block a.size c.requires.0) a.cells c.loop-i.i inside in
     omega (arith, fits)
 
 pub loop-i-preserved : goal.loop-i-preserved

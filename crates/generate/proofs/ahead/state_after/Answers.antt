@@ -14,12 +14,14 @@ overflow_cast-term c = omega (arith, listed_term c.args.j c.requires)
 
 pub overflow_mul-result : goal.overflow_mul-result
 overflow_mul-result c =
-    let product : let a = c.args in get_or factors a.j 0 * a.first.state ≤ 18446744065119617025 = let a = c.args in product_small (get_or factors a.j 0) a.first.state (listed_factor a.j c.requires) (omega arith) in
+    let product : let a = c.args in get_or factors a.j 0 * a.first.state ≤ 18446744065119617025 = let a =
+    c.args in product_small (get_or factors a.j 0) a.first.state (listed_factor a.j c.requires) (omega arith) in
     omega (arith, product)
 
 pub overflow_add-result : goal.overflow_add-result
 overflow_add-result c =
-    let product : let a = c.args in get_or factors a.j 0 * a.first.state ≤ 18446744065119617025 = let a = c.args in product_small (get_or factors a.j 0) a.first.state (listed_factor a.j c.requires) (omega arith) in
+    let product : let a = c.args in get_or factors a.j 0 * a.first.state ≤ 18446744065119617025 = let a =
+    c.args in product_small (get_or factors a.j 0) a.first.state (listed_factor a.j c.requires) (omega arith) in
     omega (arith, product, listed_term c.args.j c.requires)
 
 pub returns : goal.returns

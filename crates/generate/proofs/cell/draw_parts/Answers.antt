@@ -46,11 +46,13 @@ draw_part-requires c =
 
 pub shape_of-values : goal.shape_of-values
 shape_of-values c =
-    let done : let a = c.args in Storing a.n a.first.state a.values.now a.to c.draw_part.new.values c.draw_part.result.state (c.loop-i.i + (a.n - c.loop-i.i)) = store_part c.loop-i.invariant (c.args.n - c.loop-i.i) (omega (arith, c.loop-i.invariant.skipped.within)) c.draw_part.ensures.stores c.draw_part.ensures.draws in
+    let done : let a = c.args in Storing a.n a.first.state a.values.now a.to c.draw_part.new.values c.draw_part.result.state (c.loop-i.i + (a.n - c.loop-i.i)) =
+    store_part c.loop-i.invariant (c.args.n - c.loop-i.i) (omega (arith, c.loop-i.invariant.skipped.within)) c.draw_part.ensures.stores c.draw_part.ensures.draws in
     store_same done
 
 pub returns : goal.returns
 returns c =
-    let done : let a = c.args in Storing a.n a.first.state a.values.now a.to c.draw_part.new.values c.draw_part.result.state (c.loop-i.i + (a.n - c.loop-i.i)) = store_part c.loop-i.invariant (c.args.n - c.loop-i.i) (omega (arith, c.loop-i.invariant.skipped.within)) c.draw_part.ensures.stores c.draw_part.ensures.draws in
+    let done : let a = c.args in Storing a.n a.first.state a.values.now a.to c.draw_part.new.values c.draw_part.result.state (c.loop-i.i + (a.n - c.loop-i.i)) =
+    store_part c.loop-i.invariant (c.args.n - c.loop-i.i) (omega (arith, c.loop-i.invariant.skipped.within)) c.draw_part.ensures.stores c.draw_part.ensures.draws in
     let all = done in
     record { draws = skip_ends all.skipped (omega arith); stores = store_ends all (omega arith) }

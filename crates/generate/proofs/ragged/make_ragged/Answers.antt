@@ -51,7 +51,8 @@ returns c =
     let fits : bytes ≤ length c.args.values.now = let room = c.has_room in leb-true bytes _ (sym room.ensures ∙ not-false room.result c.if-not-has_room.false-raw) in
     let a = c.args in
     put load lent _ _ _ (count_masks lengthy a.depth a.n a.first.state) (sym c.draw_cells-bytes.ensures.counts) (count_offsets lengthy a.depth a.n a.first.state)
-    c.if-masks-planes.false (omega (arith, fits, c.draw_cells-bytes.ensures.counts)) c.if-offsets-count.false _ _ _ c.draw_cells-bytes.ensures.planes c.draw_cells-bytes.ensures.joins c.draw_cells-bytes.ensures.places
+    c.if-masks-planes.false (omega (arith, fits, c.draw_cells-bytes.ensures.counts)) c.if-offsets-count.false _ _ _ c.draw_cells-bytes.ensures.planes
+    c.draw_cells-bytes.ensures.joins c.draw_cells-bytes.ensures.places
 
 pub overflow_add-count : goal.overflow_add-count
 unfolding most_cells

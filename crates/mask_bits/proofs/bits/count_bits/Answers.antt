@@ -10,20 +10,28 @@ use Rattle.mask_bits.proofs.bits.count_bits.Goals as goal
 
 pub count_words-most-requires : goal.count_words-most-requires
 count_words-most-requires c =
-    let parts : bits_in (take c.args.size (drop c.args.at c.args.s.now)) ≡ bits_in (take (c.args.size / 8 * 8) (drop c.args.at c.args.s.now)) + bits_in (take (c.args.size - c.args.size / 8 * 8) (drop (c.args.at + c.args.size / 8 * 8) c.args.s.now)) = bits_parts c.args.s.now c.args.at (c.args.size / 8 * 8) c.args.size (omega arith) in
+    let parts : bits_in (take c.args.size (drop c.args.at c.args.s.now)) ≡ bits_in (take (c.args.size / 8 * 8) (drop c.args.at c.args.s.now)) + bits_in
+    (take (c.args.size - c.args.size / 8 * 8) (drop (c.args.at + c.args.size / 8 * 8) c.args.s.now)) =
+    bits_parts c.args.s.now c.args.at (c.args.size / 8 * 8) c.args.size (omega arith) in
     (omega arith, omega (arith, parts))
 
 pub count_bytes-requires : goal.count_bytes-requires
 count_bytes-requires c =
-    let parts : bits_in (take c.args.size (drop c.args.at c.args.s.now)) ≡ bits_in (take (c.args.size / 8 * 8) (drop c.args.at c.args.s.now)) + bits_in (take (c.args.size - c.args.size / 8 * 8) (drop (c.args.at + c.args.size / 8 * 8) c.args.s.now)) = bits_parts c.args.s.now c.args.at (c.args.size / 8 * 8) c.args.size (omega arith) in
+    let parts : bits_in (take c.args.size (drop c.args.at c.args.s.now)) ≡ bits_in (take (c.args.size / 8 * 8) (drop c.args.at c.args.s.now)) + bits_in
+    (take (c.args.size - c.args.size / 8 * 8) (drop (c.args.at + c.args.size / 8 * 8) c.args.s.now)) =
+    bits_parts c.args.s.now c.args.at (c.args.size / 8 * 8) c.args.size (omega arith) in
     (omega arith, omega (arith, parts))
 
 pub overflow_add-result : goal.overflow_add-result
 overflow_add-result c =
-    let parts : bits_in (take c.args.size (drop c.args.at c.args.s.now)) ≡ bits_in (take (c.args.size / 8 * 8) (drop c.args.at c.args.s.now)) + bits_in (take (c.args.size - c.args.size / 8 * 8) (drop (c.args.at + c.args.size / 8 * 8) c.args.s.now)) = bits_parts c.args.s.now c.args.at (c.args.size / 8 * 8) c.args.size (omega arith) in
+    let parts : bits_in (take c.args.size (drop c.args.at c.args.s.now)) ≡ bits_in (take (c.args.size / 8 * 8) (drop c.args.at c.args.s.now)) + bits_in
+    (take (c.args.size - c.args.size / 8 * 8) (drop (c.args.at + c.args.size / 8 * 8) c.args.s.now)) =
+    bits_parts c.args.s.now c.args.at (c.args.size / 8 * 8) c.args.size (omega arith) in
     omega (arith, parts)
 
 pub returns : goal.returns
 returns c =
-    let parts : bits_in (take c.args.size (drop c.args.at c.args.s.now)) ≡ bits_in (take (c.args.size / 8 * 8) (drop c.args.at c.args.s.now)) + bits_in (take (c.args.size - c.args.size / 8 * 8) (drop (c.args.at + c.args.size / 8 * 8) c.args.s.now)) = bits_parts c.args.s.now c.args.at (c.args.size / 8 * 8) c.args.size (omega arith) in
+    let parts : bits_in (take c.args.size (drop c.args.at c.args.s.now)) ≡ bits_in (take (c.args.size / 8 * 8) (drop c.args.at c.args.s.now)) + bits_in
+    (take (c.args.size - c.args.size / 8 * 8) (drop (c.args.at + c.args.size / 8 * 8) c.args.s.now)) =
+    bits_parts c.args.s.now c.args.at (c.args.size / 8 * 8) c.args.size (omega arith) in
     omega (arith, parts)

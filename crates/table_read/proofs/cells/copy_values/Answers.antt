@@ -43,7 +43,8 @@ pub overflow_add-out_offsets : goal.overflow_add-out_offsets
 overflow_add-out_offsets c =
     let table : Table = cells_by c.args.starts.now c.args.lengths.now c.args.store.now in
     let ready :
-    Ready c.args.cells table c.args.out_values.now c.args.out_offsets.now c.if-not-goes_on.out_values c.loop-at.out_offsets c.loop-at.at c.if-not-goes_on.to c.if-not-goes_on.first c.if-not-goes_on.waiting =
+    Ready c.args.cells table c.args.out_values.now c.args.out_offsets.now c.if-not-goes_on.out_values c.loop-at.out_offsets c.loop-at.at c.if-not-goes_on.to
+    c.if-not-goes_on.first c.if-not-goes_on.waiting =
     elim c.if-not-goes_on.branch [
       | then-not-goes_on w ↦ ready_is (ready_again c.loop-at.invariant c.requires.cells c.loop-at-test.true w.copy_many.ensures) w.out_values-is w.to-is w.first-is w.waiting-is
       | else-not-goes_on w ↦ ready_is (record {
@@ -57,7 +58,8 @@ pub offset_bounds-out_offsets-at : goal.offset_bounds-out_offsets-at
 offset_bounds-out_offsets-at c =
     let table : Table = cells_by c.args.starts.now c.args.lengths.now c.args.store.now in
     let ready :
-    Ready c.args.cells table c.args.out_values.now c.args.out_offsets.now c.if-not-goes_on.out_values c.loop-at.out_offsets c.loop-at.at c.if-not-goes_on.to c.if-not-goes_on.first c.if-not-goes_on.waiting =
+    Ready c.args.cells table c.args.out_values.now c.args.out_offsets.now c.if-not-goes_on.out_values c.loop-at.out_offsets c.loop-at.at c.if-not-goes_on.to
+    c.if-not-goes_on.first c.if-not-goes_on.waiting =
     elim c.if-not-goes_on.branch [
       | then-not-goes_on w ↦ ready_is (ready_again c.loop-at.invariant c.requires.cells c.loop-at-test.true w.copy_many.ensures) w.out_values-is w.to-is w.first-is w.waiting-is
       | else-not-goes_on w ↦ ready_is (record {
@@ -71,7 +73,8 @@ pub bounds-out_offsets-at : goal.bounds-out_offsets-at
 bounds-out_offsets-at c =
     let table : Table = cells_by c.args.starts.now c.args.lengths.now c.args.store.now in
     let ready :
-    Ready c.args.cells table c.args.out_values.now c.args.out_offsets.now c.if-not-goes_on.out_values c.loop-at.out_offsets c.loop-at.at c.if-not-goes_on.to c.if-not-goes_on.first c.if-not-goes_on.waiting =
+    Ready c.args.cells table c.args.out_values.now c.args.out_offsets.now c.if-not-goes_on.out_values c.loop-at.out_offsets c.loop-at.at c.if-not-goes_on.to
+    c.if-not-goes_on.first c.if-not-goes_on.waiting =
     elim c.if-not-goes_on.branch [
       | then-not-goes_on w ↦ ready_is (ready_again c.loop-at.invariant c.requires.cells c.loop-at-test.true w.copy_many.ensures) w.out_values-is w.to-is w.first-is w.waiting-is
       | else-not-goes_on w ↦ ready_is (record {
@@ -85,7 +88,8 @@ pub overflow_add-waiting : goal.overflow_add-waiting
 overflow_add-waiting c =
     let table : Table = cells_by c.args.starts.now c.args.lengths.now c.args.store.now in
     let ready :
-    Ready c.args.cells table c.args.out_values.now c.args.out_offsets.now c.if-not-goes_on.out_values c.loop-at.out_offsets c.loop-at.at c.if-not-goes_on.to c.if-not-goes_on.first c.if-not-goes_on.waiting =
+    Ready c.args.cells table c.args.out_values.now c.args.out_offsets.now c.if-not-goes_on.out_values c.loop-at.out_offsets c.loop-at.at c.if-not-goes_on.to
+    c.if-not-goes_on.first c.if-not-goes_on.waiting =
     elim c.if-not-goes_on.branch [
       | then-not-goes_on w ↦ ready_is (ready_again c.loop-at.invariant c.requires.cells c.loop-at-test.true w.copy_many.ensures) w.out_values-is w.to-is w.first-is w.waiting-is
       | else-not-goes_on w ↦ ready_is (record {
@@ -94,7 +98,9 @@ overflow_add-waiting c =
       }) w.out_values-is w.to-is w.first-is w.waiting-is
     ] in
     let more :
-    let l = c.loop-at in Reading c.args.cells table c.args.out_values.now c.args.out_offsets.now c.if-not-goes_on.out_values (set l.out_offsets l.at (c.if-not-goes_on.to + c.if-not-goes_on.waiting)) (l.at + 1) c.if-not-goes_on.to c.if-not-goes_on.first (c.if-not-goes_on.waiting + length_of table l.at) =
+    let l = c.loop-at in Reading c.args.cells table c.args.out_values.now c.args.out_offsets.now c.if-not-goes_on.out_values
+    (set l.out_offsets l.at (c.if-not-goes_on.to + c.if-not-goes_on.waiting)) (l.at + 1) c.if-not-goes_on.to c.if-not-goes_on.first
+    (c.if-not-goes_on.waiting + length_of table l.at) =
     ready_more ready c.requires.cells c.loop-at-test.true in
     omega (arith, more.stored)
 
@@ -102,7 +108,8 @@ pub loop-at-preserved : goal.loop-at-preserved
 loop-at-preserved c =
     let table : Table = cells_by c.args.starts.now c.args.lengths.now c.args.store.now in
     let ready :
-    Ready c.args.cells table c.args.out_values.now c.args.out_offsets.now c.if-not-goes_on.out_values c.loop-at.out_offsets c.loop-at.at c.if-not-goes_on.to c.if-not-goes_on.first c.if-not-goes_on.waiting =
+    Ready c.args.cells table c.args.out_values.now c.args.out_offsets.now c.if-not-goes_on.out_values c.loop-at.out_offsets c.loop-at.at c.if-not-goes_on.to
+    c.if-not-goes_on.first c.if-not-goes_on.waiting =
     elim c.if-not-goes_on.branch [
       | then-not-goes_on w ↦ ready_is (ready_again c.loop-at.invariant c.requires.cells c.loop-at-test.true w.copy_many.ensures) w.out_values-is w.to-is w.first-is w.waiting-is
       | else-not-goes_on w ↦ ready_is (record {
@@ -111,7 +118,9 @@ loop-at-preserved c =
       }) w.out_values-is w.to-is w.first-is w.waiting-is
     ] in
     let more :
-    let l = c.loop-at in Reading c.args.cells table c.args.out_values.now c.args.out_offsets.now c.if-not-goes_on.out_values (set l.out_offsets l.at (c.if-not-goes_on.to + c.if-not-goes_on.waiting)) (l.at + 1) c.if-not-goes_on.to c.if-not-goes_on.first (c.if-not-goes_on.waiting + length_of table l.at) =
+    let l = c.loop-at in Reading c.args.cells table c.args.out_values.now c.args.out_offsets.now c.if-not-goes_on.out_values
+    (set l.out_offsets l.at (c.if-not-goes_on.to + c.if-not-goes_on.waiting)) (l.at + 1) c.if-not-goes_on.to c.if-not-goes_on.first
+    (c.if-not-goes_on.waiting + length_of table l.at) =
     ready_more ready c.requires.cells c.loop-at-test.true in
     more
 
