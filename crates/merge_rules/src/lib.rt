@@ -1,4 +1,6 @@
 // Whether chunks may be merged: each keeps the array's rules on its own masks, values and offsets.
+#![tactic(auto)]
+
 ghost use Rattle.std.specs.Prelude.{◌≡◌, ◌≤◌, length};
 ghost use Rattle.array.specs.Limits.{most_cells};
 ghost use Rattle.array.specs.Meaning.{form_of, kind_of};
