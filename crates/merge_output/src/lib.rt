@@ -1,4 +1,6 @@
 // The stores of a merge whose checks passed.
+#![tactic(auto)]
+
 ghost use Rattle.std.specs.Prelude.{◌≡◌, length};
 ghost use Rattle.array.specs.Meaning.{kind_of};
 ghost use Rattle.array.specs.Subset.{subsets_of};
