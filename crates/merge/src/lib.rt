@@ -1,4 +1,6 @@
 // Merging chunks: everything is checked before the first byte is stored.
+#![tactic(auto)]
+
 ghost use Rattle.std.specs.Prelude.{◌≡◌, length};
 ghost use Rattle.array.specs.Meaning.{kind_of};
 ghost use Rattle.array.specs.Subset.{subsets_of};
