@@ -1,6 +1,8 @@
 // The C interface: each public call as an exported function over numbers and slices. The result is the refusal number, 0 for
 // success; lengths are written on success only, in the order of the lists. Nothing is asked of the numbers
 // and bytes handed over; what holds of the pointers is in include/durpaxeta.h, under SLICES and MEMORY.
+#![tactic(auto)]
+
 ghost use Rattle.std.specs.Prelude.{◌≡◌, []};
 ghost use Rattle.array.specs.Meaning.{told, told_ragged, told_array};
 ghost use Rattle.valid.specs.Numbers.{told_kind, numbered_kind, numbered_index};
