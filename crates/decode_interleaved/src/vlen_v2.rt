@@ -114,6 +114,7 @@ fn write_cells(
 }
 
 // Reads `cells` cells of the older form: their bytes end to end, and their offsets from 0. Bytes after the last cell are ignored.
+#[tactic(auto, using(crate::proofs::Outcomes::few_bytes), unfolding(array::specs::Limits::most_cells))]
 pub fn decode_interleaved(
     cells: u64,
     bytes: &[u8],

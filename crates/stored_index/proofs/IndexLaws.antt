@@ -94,6 +94,10 @@ module _ {w n : ℕ} {s : List ℕ} {at first prev p left : ℕ} (r : Rises w n 
   pub rises_not : 0 < first → false ≡ all
   rises_not f = sym (by_first (ne_eqb first 0 (λ z. absurd (omega arith))))
 
+  -- the same of a width that is as wide
+  pub rises_never : 0 < first → {v : ℕ} → w ≡ v → false ≡ rising_test (offsets_in v (suc n) (drop at s))
+  rises_never f e = rises_not f ∙ ap (λ (v : ℕ). rising_test (offsets_in v (suc n) (drop at s))) e
+
   pub rises_end : first ≤ 0 → left ≡ 0 → true ≡ all
   rises_end z e = sym (by_first (eq-eqb first 0 (omega arith)) ∙ ap (λ (k : ℕ). rising_from_test prev (offsets_in w k (drop (p + w) s))) e)
 

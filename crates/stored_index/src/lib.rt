@@ -44,6 +44,7 @@ fn index_length(n: usize, width: IndexWidth) -> usize
 
 // Whether the n + 1 offsets from `at` on begin at 0 and never fall. Two a turn: a shorter loop is as fast only where it lies within one
 // line of 64 bytes. The first is looked at behind the loop, which is faster than before it.
+#[tactic(auto, using(crate::proofs::IndexLaws::rises_never))]
 fn rise_from_zero(s: &[u8], at: usize, n: usize, width: IndexWidth) -> bool
     requires { at + (width_of width + n * width_of width) ≤ length s.now }
     ensures { result ≡ rising_test (offsets_in (width_of width) (suc n) (drop at s.now)) }

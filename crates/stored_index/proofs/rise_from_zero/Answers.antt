@@ -9,7 +9,7 @@ use lib.ListN.{length, take, drop}
 use Rattle.array.specs.Bytes.{unle}
 use Rattle.array.specs.Offsets.{rising_test}
 use Rattle.stored_index.specs.Index.{offsets_in}
-use Rattle.stored_index.proofs.IndexLaws.{Rises, rises_not, rises_start, rises_room, rises_falls, rises_more, rises_last, rises_end}
+use Rattle.stored_index.proofs.IndexLaws.{Rises, rises_start, rises_room, rises_falls, rises_more, rises_last, rises_end}
 use Rattle.stored_index.proofs.rise_from_zero.Goals as goal
 
 pub loop-left-init : goal.loop-left-init
@@ -111,17 +111,11 @@ loop-left-preserved c =
     subst (Rises width a.n bytes a.at c.le_at-first.result c.le_at-prev.result (c.loop-left.p + width + width)) two
     (rises_more first more second_is c.if-prev-next.false)
 
-pub returns-then-first-gt0 : goal.returns-then-first-gt0
-returns-then-first-gt0 c =
-    let bytes : List ℕ = c.args.s.now in
-    let tested : ℕ → Bool = λ w. let a = c.args in rising_test (offsets_in w (suc a.n) (drop a.at bytes)) in
-    rises_not c.loop-left.invariant (omega (arith, c.if-first-gt0.true)) ∙ ap tested c.width_bytes-w.ensures
-
 pub returns-then-left-eq0 : goal.returns-then-left-eq0
 returns-then-left-eq0 c =
     let bytes : List ℕ = c.args.s.now in
     let tested : ℕ → Bool = λ w. let a = c.args in rising_test (offsets_in w (suc a.n) (drop a.at bytes)) in
-    rises_end c.loop-left.invariant (omega (arith, c.if-first-gt0.false)) c.if-left-eq0.true ∙ ap tested c.width_bytes-w.ensures
+    rises_end c.loop-left.invariant (omega arith) c.if-left-eq0.true ∙ ap tested c.width_bytes-w.ensures
 
 pub overflow_add-p-2 : goal.overflow_add-p-2
 overflow_add-p-2 c =
@@ -147,4 +141,4 @@ returns c =
     let one : c.loop-left.left ≡ 1 = omega arith in
     let last_is : c.le_at.result ≡ unle (take width (drop (c.loop-left.p + width) bytes)) =
     c.le_at.ensures ∙ ap (λ (x : ℕ). unle (take x (drop (c.loop-left.p + width) bytes))) (sym c.width_bytes-w.ensures) in
-    rises_last c.loop-left.invariant (omega (arith, one)) last_is (omega (arith, c.if-first-gt0.false)) one ∙ ap tested c.width_bytes-w.ensures
+    rises_last c.loop-left.invariant (omega (arith, one)) last_is (omega arith) one ∙ ap tested c.width_bytes-w.ensures

@@ -4,20 +4,16 @@ use mathlib.Core.Path.{sym, ap, ◌∙◌}
 use native.Mathlib.Omega.{arith}
 use Rattle.array.specs.Limits.{most_cells}
 use Rattle.decode_interleaved.specs.Walk.{told_sum}
-use Rattle.decode_interleaved.proofs.Outcomes.{many_cells, few_bytes, other_count, past_end, walk_found, all_found}
+use Rattle.decode_interleaved.proofs.Outcomes.{many_cells, other_count, past_end, walk_found, all_found}
 use Rattle.decode_interleaved.proofs.vlen_v2.decode_interleaved.Goals as goal
 
 pub returns-then-cells-gt-MOST_CELLS : goal.returns-then-cells-gt-MOST_CELLS
 unfolding most_cells
 returns-then-cells-gt-MOST_CELLS c = many_cells _ _ _ c.if-cells-gt-MOST_CELLS.true
 
-pub returns-then-bytes-n : goal.returns-then-bytes-n
-unfolding most_cells
-returns-then-bytes-n c = few_bytes _ _ _ c.if-cells-gt-MOST_CELLS.false (omega arith)
-
 pub returns-then-le4_at-cells : goal.returns-then-le4_at-cells
 unfolding most_cells
-returns-then-le4_at-cells c = other_count _ _ _ c.if-cells-gt-MOST_CELLS.false c.if-bytes-n.false (λ e. c.if-le4_at-cells.true (c.le4_at.ensures ∙ e))
+returns-then-le4_at-cells c = other_count _ _ _ c.if-cells-gt-MOST_CELLS.false (omega arith) (λ e. c.if-le4_at-cells.true (c.le4_at.ensures ∙ e))
 
 pub write_cells-requires : goal.write_cells-requires
 unfolding most_cells
@@ -26,11 +22,11 @@ write_cells-requires c = walk_found _ _ _ c.if-cells-gt-MOST_CELLS.false (sym (a
 pub returns-in-Refused : goal.returns-in-Refused
 unfolding most_cells
 returns-in-Refused c =
-    past_end _ _ _ c.if-cells-gt-MOST_CELLS.false c.if-bytes-n.false (sym c.le4_at.ensures ∙ c.if-le4_at-cells.false) _
+    past_end _ _ _ c.if-cells-gt-MOST_CELLS.false (omega arith) (sym c.le4_at.ensures ∙ c.if-le4_at-cells.false) _
     (sym (ap told_sum c.in-Refused.is) ∙ c.walk_cells-walk.ensures)
 
 pub returns-in-Sum : goal.returns-in-Sum
 unfolding most_cells
 returns-in-Sum c =
-    all_found _ _ _ c.if-cells-gt-MOST_CELLS.false c.if-bytes-n.false (sym c.le4_at.ensures ∙ c.if-le4_at-cells.false) _
+    all_found _ _ _ c.if-cells-gt-MOST_CELLS.false (omega arith) (sym c.le4_at.ensures ∙ c.if-le4_at-cells.false) _
     (sym (ap told_sum c.in-Sum.is) ∙ c.walk_cells-walk.ensures) c.write_cells.ensures
