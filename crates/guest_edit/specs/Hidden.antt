@@ -1,4 +1,4 @@
--- Redundant by the law edit_hidden in guest_edit/proofs/Hidden.antt: what refuses the setting of a hidden cell (S6.24), told by a preview of it.
+-- Redundant by the law edit_hidden in guest_edit/proofs/Hiding.antt: what refuses the setting of a hidden cell (S6.24), told by a preview of it.
 -- Assumes nothing.
 use Rattle.std.specs.Prelude.{ℕ, eqb}
 use Rattle.array.specs.Answer.{Answer, gives, refuses}
