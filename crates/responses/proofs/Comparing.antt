@@ -1,6 +1,6 @@
 -- Lent outputs looked through, element by element: what is left of them gives what the whole gives.
 -- Assumes nothing.
-use mathlib.Core.Path.{◌≡◌, refl, ap, ◌∙◌}
+use mathlib.Core.Path.{◌≡◌, refl, sym, ap, ◌∙◌}
 use mathlib.Core.Logic.{◌≢◌}
 use mathlib.Core.Bool.{Bool, true, false, ◌&&◌}
 use mathlib.Core.List.{List, [], ◌∷◌}
@@ -9,8 +9,22 @@ use native.Mathlib.Omega.{arith}
 use lib.ListN.{length, drop, get_or, drop_of_length-le}
 use lib.Dec.{eqb}
 use borrow.Author.Tests.{eq-eqb, ne_eqb}
+use Rattle.array.specs.Lists.{every}
 use Rattle.print.proofs.Showing.{next_of}
 use Rattle.responses.specs.Kept.{equal}
+
+-- ---- outputs as they were lent
+
+module _ (v : ℕ) (s : List ℕ) (i : ℕ) where
+  pub same_end : length s ≤ i → every (eqb v) (drop i s) ≡ true
+  same_end h = ap (every (eqb v)) (drop_of_length-le s h)
+
+  module _ (h : i < length s) where
+    pub same_more : get_or s i 0 ≡ v → every (eqb v) (drop i s) ≡ every (eqb v) (drop (i + 1) s)
+    same_more e = ap (every (eqb v)) (next_of s i h) ∙ ap (λ (b : Bool). b && every (eqb v) (drop (i + 1) s)) (eq-eqb v (get_or s i 0) (sym e))
+
+    pub same_not : get_or s i 0 ≢ v → every (eqb v) (drop i s) ≡ false
+    same_not n = ap (every (eqb v)) (next_of s i h) ∙ ap (λ (b : Bool). b && every (eqb v) (drop (i + 1) s)) (ne_eqb v (get_or s i 0) (λ e. n (sym e)))
 
 -- ---- two lists compared
 

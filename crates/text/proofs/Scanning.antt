@@ -1,17 +1,33 @@
 -- Text read byte by byte: what is left of it gives what the whole gives.
 -- Assumes nothing.
-use mathlib.Core.Path.{◌≡◌, refl, sym, ap, ◌∙◌}
+use mathlib.Core.Path.{◌≡◌, refl, sym, ap, subst, ◌∙◌}
 use mathlib.Core.Logic.{◌≢◌}
 use mathlib.Core.List.{List, [], ◌∷◌}
-use Prim.Native.Nat.{ℕ, suc, ◌+◌, ◌≤◌, ◌<◌}
+use Prim.Native.Nat.{ℕ, suc, ◌+◌, ◌-◌, ◌*◌, ◌/◌, ◌^◌, ◌≤◌, ◌<◌}
 use native.Mathlib.Omega.{arith}
 use lib.ListN.{length, drop, get_or, drop_of_length-le}
-use borrow.Author.Tests.{eq-eqb, ne_eqb}
+use borrow.Author.Tests.{lt-ltb, le-ltb, le-leb, lt-leb, eq-eqb, ne_eqb}
 use Rattle.text.specs.declared.scan.Number.{Number}
-use Rattle.text.specs.Scan.{digit_of, next_number, go_on, number_from, number_of, before}
+use Rattle.text.specs.declared.scan.Octet.{Octet}
+use Rattle.text.specs.declared.scan.Filled.{Filled}
+use Rattle.text.specs.Scan.{digit_of, next_number, go_on, number_from, number_of, octet_of, before, Fills}
+use Rattle.print.specs.Print.{Onward}
 use Rattle.print.proofs.Showing.{next_of}
 
 -- ---- numbers
+
+module _ (v d : ℕ) where
+  pub next_no_digit : 9 < d → next_number v d ≡ Number.Bad
+  unfolding next_number
+  next_no_digit h = rw (lt-leb d 9 h)
+
+  pub next_too_large : d ≤ 9 → (18446744073709551615 - d) / 10 < v → next_number v d ≡ Number.Bad
+  unfolding next_number
+  next_too_large h g = rw (le-leb d 9 h, le-ltb (v * 10 + d) (2 ^ 64) (omega arith))
+
+  pub next_is : d ≤ 9 → v ≤ (18446744073709551615 - d) / 10 → next_number v d ≡ Number.Value (v * 10 + d)
+  unfolding next_number
+  next_is h g = rw (le-leb d 9 h, lt-ltb (v * 10 + d) (2 ^ 64) (omega arith))
 
 pub number_none : (s : List ℕ) → length s ≡ 0 → number_of s ≡ Number.Bad
 unfolding number_of
@@ -38,6 +54,21 @@ module _ (s : List ℕ) (v i : ℕ) where
 
     pub number_stops : next_number v d ≡ Number.Bad → number_from v (drop i s) ≡ Number.Bad
     number_stops f = number_next ∙ ap (λ (n : Number). go_on n (λ (w : ℕ). number_from w (drop (i + 1) s))) f
+
+-- ---- bytes
+
+module _ (high low : ℕ) where
+  pub octet_high : 15 < high → octet_of high low ≡ Octet.Bad
+  unfolding octet_of
+  octet_high h = rw (lt-leb high 15 h)
+
+  pub octet_low : high ≤ 15 → 15 < low → octet_of high low ≡ Octet.Bad
+  unfolding octet_of
+  octet_low h g = rw (le-leb high 15 h, lt-leb low 15 g)
+
+  pub octet_is : high ≤ 15 → low ≤ 15 → octet_of high low ≡ Octet.Value (16 * high + low)
+  unfolding octet_of
+  octet_is h g = rw (le-leb high 15 h, le-leb low 15 g)
 
 -- ---- marks
 
@@ -81,3 +112,8 @@ module _ {a b : ℕ} {s : List ℕ} {at i : ℕ} (k : Seeking a b s at i) where
           let e = k.same in
           let f = later m in
           record { behind = omega arith; within = omega arith; same = omega arith }
+
+-- ---- answers taken apart
+
+pub filled : {r : Filled} {from room n : ℕ} → Fills r from room → r ≡ Filled.To n → Onward from n room
+filled {r} {from} {room} {n} f e = subst (λ (q : Filled). Fills q from room) e f
