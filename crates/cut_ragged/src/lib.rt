@@ -181,7 +181,8 @@ pub fn cut(
     let sides = shape.len();
     let starts = &subset[0..sides];
     let lens = &subset[sides..];
-    if values.len() < bytes.len() {
+    let short = values.len() < bytes.len();
+    if short {
         let need = count_bytes(source, index, numbers, bytes, shape, starts, lens, count);
         if values.len() < need {
             return WrittenRagged::Refused(refusal::OUTPUT);

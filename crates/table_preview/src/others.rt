@@ -35,7 +35,8 @@ pub fn look_at(starts: &[u64], lengths: &[u64], order: &[u16], cell: usize) -> O
     let mut i: usize = 0;
     while i < order.len() {
         let j = order[i] as usize;
-        if j != cell {
+        let other = j != cell;
+        if other {
             let start = starts[j] as usize;
             let size = lengths[j] as usize;
             unpacked = counted(unpacked, start, packed);

@@ -23,7 +23,7 @@ use Rattle.cut_ragged.proofs.Counting.{bytes_most}
 use Rattle.cut_ragged.proofs.Ragged.{first_then}
 use Rattle.cut_ragged.proofs.Outcomes.{need_values, need_offsets, no_values, no_offsets, all_put}
 use Rattle.cut_ragged.proofs.cut.Goals as goal
-use Rattle.cut_ragged.proofs.cut.Goals.{then-values-bytes+else-values-need, else-values-bytes}
+use Rattle.cut_ragged.proofs.cut.Goals.{then-short+else-values-need, else-short}
 
 pub count_bytes-need-requires : goal.count_bytes-need-requires
 count_bytes-need-requires c =
@@ -78,9 +78,9 @@ copy_rows-total-requires c =
     let need : ℕ = let a = c.args in bytes_at (source_at a.source a.index a.numbers.now a.bytes.now) (cells_in a.shape.now (pairs starts lens)) in
     let values_need : length (joined values) ≡ need = need_values asked c.requires.1 in
     let most : need ≤ length c.args.bytes.now = omega (arith, bytes_most c.args.shape.now (pairs starts lens) c.requires.1.rises asked.within.inside, c.requires.1.data_room) in
-    let room : need ≤ length c.args.values.now = elim c.if-values-bytes.branch [
-      | then-values-bytes+else-values-need w ↦ omega (arith, w.count_bytes-need.ensures, w.if-values-need.false)
-      | else-values-bytes w ↦ omega (arith, most, w.if-values-bytes.false)
+    let room : need ≤ length c.args.values.now = elim c.if-short.branch [
+      | then-short+else-values-need w ↦ omega (arith, w.count_bytes-need.ensures, w.if-values-need.false)
+      | else-short w ↦ omega (arith, most, w.if-short.false)
     ] in (
       asked,
       record {
@@ -108,9 +108,9 @@ returns c =
     let values_need : length (joined values) ≡ need = need_values asked c.requires.1 in
     let offsets_need : length (offsets_of values) ≡ c.args.count + 1 = need_offsets asked c.requires.1 in
     let most : need ≤ length c.args.bytes.now = omega (arith, bytes_most c.args.shape.now (pairs starts lens) c.requires.1.rises asked.within.inside, c.requires.1.data_room) in
-    let room : need ≤ length c.args.values.now = elim c.if-values-bytes.branch [
-      | then-values-bytes+else-values-need w ↦ omega (arith, w.count_bytes-need.ensures, w.if-values-need.false)
-      | else-values-bytes w ↦ omega (arith, most, w.if-values-bytes.false)
+    let room : need ≤ length c.args.values.now = elim c.if-short.branch [
+      | then-short+else-values-need w ↦ omega (arith, w.count_bytes-need.ensures, w.if-values-need.false)
+      | else-short w ↦ omega (arith, most, w.if-short.false)
     ] in
     let h = c.if-offsets-many.false in
     whole _

@@ -5,7 +5,7 @@ use lib.ListN.{get_or}
 use Rattle.table.specs.Table.{most_store}
 use Rattle.table_check.specs.Check.{Reached}
 use Rattle.table_preview.proofs.Looking.{looked_begins, looked_ends, cell_reached, looked_past, bytes_small, looked_more, looked_is}
-use Rattle.table_preview.proofs.others.look_at.Goals.{then-j-cell, else-j-cell}
+use Rattle.table_preview.proofs.others.look_at.Goals.{then-other, else-other}
 use Rattle.table_preview.proofs.others.look_at.Goals as goal
 
 pub loop-i-init : goal.loop-i-init
@@ -43,7 +43,7 @@ counted-unpacked-requires c = omega (arith, c.loop-i.invariant.few, c.loop-i-tes
 
 pub overflow_add-packed : goal.overflow_add-packed
 unfolding most_store
-overflow_add-packed c = omega (arith, bytes_small c.loop-i.invariant c.loop-i-test.true c.if-j-cell.true)
+overflow_add-packed c = omega (arith, bytes_small c.loop-i.invariant c.loop-i-test.true c.if-other.true)
 
 pub overflow_add-start : goal.overflow_add-start
 overflow_add-start c =
@@ -55,9 +55,9 @@ pub loop-i-preserved : goal.loop-i-preserved
 loop-i-preserved c =
     let l = c.loop-i.invariant in
     let h = c.loop-i-test.true in
-    elim c.if-j-cell.branch [
-      | then-j-cell w ↦ looked_is (looked_more l h w.if-j-cell.true w.counted-unpacked.ensures w.greater-top.ensures) w.unpacked-is w.packed-is w.top-is
-      | else-j-cell w ↦ looked_is (looked_past l h w.if-j-cell.false) w.unpacked-is w.packed-is w.top-is
+    elim c.if-other.branch [
+      | then-other w ↦ looked_is (looked_more l h w.if-other.true w.counted-unpacked.ensures w.greater-top.ensures) w.unpacked-is w.packed-is w.top-is
+      | else-other w ↦ looked_is (looked_past l h w.if-other.false) w.unpacked-is w.packed-is w.top-is
     ]
 
 pub returns : goal.returns
