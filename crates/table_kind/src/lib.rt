@@ -26,6 +26,7 @@ pub fn is_table_kind(kind: Kind) -> bool
 }
 
 // Whether a table may have so many cells: some, and no more than a shape has.
+#[tactic(auto, using(std::proofs::lemmas::Bool::Decides::nat_tests), unfolding(array::specs::Limits::most_cells))]
 pub fn count_ok(cells: usize) -> bool
     ensures { result ≡ count_test cells }
 {

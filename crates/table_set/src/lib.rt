@@ -38,7 +38,8 @@ fn settle(
     masks::put_masks(masks, starts.len(), cell, cell_masks);
     starts[cell] = 0;
     lengths[cell] = 0;
-    if 0 < size {
+    let some = 0 < size;
+    if some {
         table_place::put_bytes(starts, lengths, store, order, cell, value);
     }
 }

@@ -33,7 +33,7 @@ write_nested-requires c =
     let passed : WalkPassed (masks_of c.args.kind.masks) c.args.kind.depth c.args.s.now 0 c.args.n at cells =
     let a = c.args in
     walk_passed (masks_of a.kind.masks) a.kind.depth a.s.now 0 a.n at cells c.requires.some (omega arith) values_are in
-    let a = c.args in record { within = none_within c.requires (width_of a.width) passed (width_most a.width) deep (omega (arith, c.if-cells-eq0.true)); deep = omega (arith, deep) }
+    let a = c.args in record { within = none_within c.requires (width_of a.width) passed (width_most a.width) deep (omega arith); deep = omega (arith, deep) }
 
 pub check_ragged-checked-requires : goal.check_ragged-checked-requires
 check_ragged-checked-requires c =
@@ -88,7 +88,7 @@ returns-then-cells-eq0 c =
     let a = c.args in
     rw
     (ragged_none_set (mask_form (masks_of a.kind.masks)) (width_of a.width) (place_of a.place) a.s.now a.kind.depth a.n c.requires.some values_are
-    (omega (arith, c.if-cells-eq0.true)))
+    (omega arith))
     c.write_nested.ensures
 
 pub returns-in-Refused-checked : goal.returns-in-Refused-checked
@@ -104,7 +104,7 @@ returns-in-Refused-checked c =
     let a = c.args in
     rw
     (ragged_wrong (mask_form (masks_of a.kind.masks)) (width_of a.width) (place_of a.place) a.s.now a.kind.depth a.n c.requires.some values_are
-    (omega (arith, c.if-cells-eq0.false)) _
+    (omega arith) _
     (checked_refused (width_of a.width) (place_of a.place) a.s.now at cells _ (check_is ∙ ap told_index c.in-Refused-checked.is)))
 
 pub returns-in-Found : goal.returns-in-Found
@@ -127,5 +127,5 @@ returns-in-Found c =
     let a = c.args in
     rw
     (ragged_given (mask_form (masks_of a.kind.masks)) (width_of a.width) (place_of a.place) a.s.now a.kind.depth a.n c.requires.some values_are
-    (omega (arith, c.if-cells-eq0.false)) checked_is)
+    (omega arith) checked_is)
     c.write_nested-in-Found.ensures

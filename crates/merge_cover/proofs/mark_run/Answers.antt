@@ -32,7 +32,7 @@ set_marks-requires c =
     let stop : ℕ = c.args.start + c.args.len in
     let inside : (1 ≤ c.in_word-n.result) × (c.loop-i.i % 64 + c.in_word-n.result ≤ 64) × (c.loop-i.i + c.in_word-n.result ≤ stop) =
     in_word c.loop-i.i stop (omega arith) c.in_word-n.ensures in
-    (c.loop-i.invariant.3, omega arith, inside.0, inside.1, omega (arith, c.marks_at.ensures, c.if-marks_at-ne0.false))
+    (c.loop-i.invariant.3, omega arith, inside.0, inside.1, omega (arith, c.marks_at.ensures))
 
 pub overflow_add-i : goal.overflow_add-i
 overflow_add-i c =

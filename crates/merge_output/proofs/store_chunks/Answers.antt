@@ -38,7 +38,7 @@ pub store_parts-requires : goal.store_parts-requires
 store_parts-requires c =
     let lent : Content = content_array c.args.out_masks.now c.args.out_values.now c.args.out_offsets.now in
     let form : Form = form_of c.args.kind.values in
-    let values_fit : length c.args.values.now ≤ length c.args.out_values.now = c.if-out_values-bytes.false in
+    let values_fit : length c.args.values.now ≤ length c.args.out_values.now = omega arith in
     let is_fixed : form ≡ fixed c.in-Fixed.size (order_of c.in-Fixed.field-1) = ap form_of c.in-Fixed.is in
     parts_asked c.requires lent is_fixed values_fit
 
@@ -59,7 +59,7 @@ pub merge_ragged-requires : goal.merge_ragged-requires
 merge_ragged-requires c =
     let lent : Content = content_array c.args.out_masks.now c.args.out_values.now c.args.out_offsets.now in
     let form : Form = form_of c.args.kind.values in
-    let values_fit : length c.args.values.now ≤ length c.args.out_values.now = c.if-out_values-bytes.false in
+    let values_fit : length c.args.values.now ≤ length c.args.out_values.now = omega arith in
     let is_ragged : form ≡ ragged (width_of c.in-Ragged.field-0) (place_of c.in-Ragged.field-1) = ap form_of c.in-Ragged.is in
     ragged_merge_asked c.requires lent is_ragged values_fit c.if-out_offsets-cells.false
 
@@ -74,7 +74,7 @@ returns-in-Fixed c =
     let lent : Content = content_array c.args.out_masks.now c.args.out_values.now c.args.out_offsets.now in
     let form : Form = form_of c.args.kind.values in
     let masks_fit : let a = c.args in a.kind.depth * a.cells ≤ length a.out_masks.now = c.if-out_masks-mask_bytes.false in
-    let values_fit : length c.args.values.now ≤ length c.args.out_values.now = c.if-out_values-bytes.false in
+    let values_fit : length c.args.values.now ≤ length c.args.out_values.now = omega arith in
     let is_fixed : form ≡ fixed c.in-Fixed.size (order_of c.in-Fixed.field-1) = ap form_of c.in-Fixed.is in
     fixed_stored c.requires lent is_fixed
     masks_fit values_fit c.store_masks.ensures c.store_parts.ensures
@@ -84,7 +84,7 @@ returns-else-out_offsets-cells c =
     let lent : Content = content_array c.args.out_masks.now c.args.out_values.now c.args.out_offsets.now in
     let form : Form = form_of c.args.kind.values in
     let masks_fit : let a = c.args in a.kind.depth * a.cells ≤ length a.out_masks.now = c.if-out_masks-mask_bytes.false in
-    let values_fit : length c.args.values.now ≤ length c.args.out_values.now = c.if-out_values-bytes.false in
+    let values_fit : length c.args.values.now ≤ length c.args.out_values.now = omega arith in
     let is_ragged : form ≡ ragged (width_of c.in-Ragged.field-0) (place_of c.in-Ragged.field-1) = ap form_of c.in-Ragged.is in
     ragged_stored c.requires lent is_ragged
     masks_fit values_fit c.if-out_offsets-cells.false c.store_masks-in-Ragged.ensures c.merge_ragged.ensures.offsets c.merge_ragged.ensures.bytes

@@ -2,6 +2,7 @@
 -- Assumes nothing.
 use mathlib.Core.Path.{◌≡◌, sym, ap, ◌∙◌}
 use mathlib.Core.Bool.{true}
+use native.Mathlib.Omega.{arith}
 use borrow.Author.Tests.{not-true, not-false}
 use lib.ListN.{length}
 use Rattle.array.specs.Limits.{most_bytes}
@@ -103,4 +104,4 @@ returns c =
     sym c.check_chunks.ensures ∙ not-false c.check_chunks.result c.if-not-check_chunks.false-raw in
     ap gives shape_counted.is
     ∙ passes kind c.args.shape.now c.args.subsets.now handed kind_passed shape_counted.passes subsets_passed
-    kept c.if-values-gt-MOST_BYTES.false
+    kept (omega arith)

@@ -109,7 +109,7 @@ bounds-starts-j-then-start-to c =
     omega (arith, below, c.loop-i.invariant.cells)
 
 pub overflow_add-moved : goal.overflow_add-moved
-overflow_add-moved c = omega (arith, c.loop-i.invariant.few, c.if-moved-most.false)
+overflow_add-moved c = omega (arith, c.loop-i.invariant.few)
 
 pub overflow_add-to : goal.overflow_add-to
 overflow_add-to c =
@@ -133,7 +133,7 @@ loop-i-preserved c =
     let o = ordered in
     let m = c.loop-i.invariant in
     elim c.if-start-to.branch [
-      | then-start-to w ↦ moving_is (moving_moves o m next w.if-start-to.true (omega (arith, m.few, c.if-moved-most.false))) w.starts-is
+      | then-start-to w ↦ moving_is (moving_moves o m next w.if-start-to.true (omega (arith, m.few))) w.starts-is
           (w.store-is ∙ w.move_down.ensures) w.moved-is
       | else-start-to w ↦ moving_is (moving_stays o m next w.if-start-to.false) w.starts-is w.store-is w.moved-is
     ]

@@ -11,16 +11,16 @@ put_masks-requires c =
     (pre.sound.table.masks_fit, pre.low, pre.sound.few, pre.sound.shallow)
 
 pub put_bytes-requires : goal.put_bytes-requires
-put_bytes-requires c = put_asked c.requires c.if-size-gt0.true
+put_bytes-requires c = put_asked c.requires c.if-some.true
 
-pub shape_of-starts-then-size-gt0 : goal.shape_of-starts-then-size-gt0
-shape_of-starts-then-size-gt0 c = c.put_bytes.auto.starts ∙ simp length-set
+pub shape_of-starts-then-some : goal.shape_of-starts-then-some
+shape_of-starts-then-some c = c.put_bytes.auto.starts ∙ simp length-set
 
-pub shape_of-lengths-then-size-gt0 : goal.shape_of-lengths-then-size-gt0
-shape_of-lengths-then-size-gt0 c = c.put_bytes.auto.lengths ∙ simp length-set
+pub shape_of-lengths-then-some : goal.shape_of-lengths-then-some
+shape_of-lengths-then-some c = c.put_bytes.auto.lengths ∙ simp length-set
 
-pub returns-then-size-gt0 : goal.returns-then-size-gt0
-returns-then-size-gt0 c = settles_some c.requires c.if-size-gt0.true c.put_masks.ensures c.put_bytes.ensures
+pub returns-then-some : goal.returns-then-some
+returns-then-some c = settles_some c.requires c.if-some.true c.put_masks.ensures c.put_bytes.ensures
 
-pub returns-else-size-gt0 : goal.returns-else-size-gt0
-returns-else-size-gt0 c = settles_none c.requires c.if-size-gt0.false c.put_masks.ensures
+pub returns-else-some : goal.returns-else-some
+returns-else-some c = settles_none c.requires c.if-some.false c.put_masks.ensures
