@@ -6,9 +6,9 @@ ghost use Rattle.array.specs.Meaning.{kind_of};
 ghost use Rattle.codec.specs.Calls.{decoded};
 ghost use Rattle.array.specs.Outcome.{content_array, outcome_array};
 
-use array::answer::WrittenArray;
+use array::answer::Lengths;
 use array::kind::{Kind, Values};
-use array::refusal;
+use array::refusal::Refusal;
 use valid::kind::check_kind;
 use valid::shape::{Cells, shape_cells};
 
@@ -20,15 +20,15 @@ pub fn decode(
     masks: &mut [u8],
     values: &mut [u8],
     offsets: &mut [u64],
-) -> WrittenArray
+) -> Result<Lengths, Refusal>
     ensures { outcome_array result masks.new values.new offsets.new
         ≡ decoded (kind_of kind) shape.now bytes.now (content_array masks.old values.old offsets.old) }
 {
     if !check_kind(kind) {
-        return WrittenArray::Refused(refusal::KIND);
+        return Err(Refusal::Kind);
     }
-    let Cells::Count(n) = shape_cells(shape) else {
-        return WrittenArray::Refused(refusal::SHAPE);
+    let Ok(n) = shape_cells(shape) else {
+        return Err(Refusal::Shape);
     };
     let form = kind.values;
     match form {

@@ -9,9 +9,8 @@ ghost use Rattle.codec.specs.Interleaved.{put_interleaved, interleaved_test};
 ghost use Rattle.codec.specs.Calls.{interleaved_encoded};
 ghost use Rattle.encode_interleaved.specs.Held.{Held, interleaved_of, encoded_cells};
 
-use array::answer::Written;
 use array::kind::{Kind, Values};
-use array::refusal;
+use array::refusal::Refusal;
 use buffer::field;
 use valid::array_bytes::Checked;
 use valid::shape::Cells;
@@ -60,34 +59,34 @@ fn put_cells(out: &mut [u8], values: &[u8], offsets: &[u64], cells: usize)
 }
 
 // The cells of a valid array: refusal 6, or their interleaved form.
-fn write_cells(cells: usize, values: &[u8], offsets: &[u64], out: &mut [u8]) -> Written
+fn write_cells(cells: usize, values: &[u8], offsets: &[u64], out: &mut [u8]) -> Result<usize, Refusal>
     requires { Held cells values.now offsets.now }
     ensures { outcome result out.new ≡ put_list (interleaved_of values.now offsets.now) out.old }
 {
     let need = 4 + 4 * cells + values.len();
     if out.len() < need {
-        return Written::Refused(refusal::OUTPUT);
+        return Err(Refusal::Output);
     }
     put_cells(out, values, offsets, cells);
-    Written::Length(need)
+    Ok(need)
 }
 
 // The same of one cell, which has all the values.
-fn write_one(values: &[u8], out: &mut [u8]) -> Written
+fn write_one(values: &[u8], out: &mut [u8]) -> Result<usize, Refusal>
     requires { length values.now ≤ most_bytes }
     ensures { outcome result out.new ≡ put_list (put_interleaved (values.now ∷ [])) out.old }
 {
     let size = values.len();
     let need = 8 + size;
     if out.len() < need {
-        return Written::Refused(refusal::OUTPUT);
+        return Err(Refusal::Output);
     }
     field::put_u32(out, 0, 1);
     field::put_u32(out, 4, size as u64);
     if 0 < size {
         interleaved_cells::copy_exactly(out, 8, values, 0, size);
     }
-    Written::Length(need)
+    Ok(need)
 }
 
 // Kind and shape are sound: refusals 4, 5 and 6, or the form.
@@ -98,28 +97,28 @@ fn encode_cells(
     values: &[u8],
     offsets: &[u64],
     out: &mut [u8],
-) -> Written
+) -> Result<usize, Refusal>
     requires { (interleaved_test (kind_of kind) ≡ true) × (cells ≤ most_cells) }
     ensures { outcome result out.new
         ≡ encoded_cells (kind_of kind) cells (content_array masks.now values.now offsets.now) out.old }
 {
     let checked = array_bytes::check_array(kind, cells, masks, values, offsets);
     match checked {
-        Checked::Refused(number) => Written::Refused(number),
-        Checked::Valid => write_cells(cells, values, offsets, out),
+        Err(number) => Err(number),
+        Ok(()) => write_cells(cells, values, offsets, out),
     }
 }
 
 // The same of one cell. Here the compiler knows the count, and the walk over the offsets becomes one test.
-fn encode_one(kind: Kind, masks: &[u8], values: &[u8], offsets: &[u64], out: &mut [u8]) -> Written
+fn encode_one(kind: Kind, masks: &[u8], values: &[u8], offsets: &[u64], out: &mut [u8]) -> Result<usize, Refusal>
     requires { interleaved_test (kind_of kind) ≡ true }
     ensures { outcome result out.new
         ≡ encoded_cells (kind_of kind) 1 (content_array masks.now values.now offsets.now) out.old }
 {
     let checked = array_bytes::check_array(kind, 1, masks, values, offsets);
     match checked {
-        Checked::Refused(e) => Written::Refused(e),
-        Checked::Valid => write_one(values, out),
+        Err(e) => Err(e),
+        Ok(()) => write_one(values, out),
     }
 }
 
@@ -132,15 +131,15 @@ pub fn encode_interleaved(
     values: &[u8],
     offsets: &[u64],
     out: &mut [u8],
-) -> Written
+) -> Result<usize, Refusal>
     ensures { outcome result out.new ≡ interleaved_encoded (kind_of kind) shape.now
         (record { masks = masks.entry.now; values = values.now; offsets = offsets.now }) out.old }
 {
     if !is_interleaved(kind) {
-        return Written::Refused(refusal::KIND);
+        return Err(Refusal::Kind);
     }
-    let Cells::Count(cells) = shape::shape_cells(shape) else {
-        return Written::Refused(refusal::SHAPE);
+    let Ok(cells) = shape::shape_cells(shape) else {
+        return Err(Refusal::Shape);
     };
     if cells == 1 {
         return encode_one(kind, masks, values, offsets, out);

@@ -13,9 +13,9 @@ ghost use Rattle.array.specs.Outcome.{content_array, outcome_array};
 ghost use Rattle.load.specs.Calls.{generated};
 
 use crate::generator::Generator;
-use array::answer::WrittenArray;
+use array::answer::Lengths;
 use array::kind::{Kind, Values};
-use array::refusal;
+use array::refusal::Refusal;
 use valid::kind::check_kind;
 use valid::shape::{Cells, shape_cells};
 
@@ -27,15 +27,15 @@ pub fn generate(
     masks: &mut [u8],
     values: &mut [u8],
     offsets: &mut [u64],
-) -> WrittenArray
+) -> Result<Lengths, Refusal>
     ensures { outcome_array result masks.new values.new offsets.new
         ≡ generated (kind_of kind) shape.now start (content_array masks.old values.old offsets.old) }
 {
     if !check_kind(kind) {
-        return WrittenArray::Refused(refusal::KIND);
+        return Err(Refusal::Kind);
     }
-    let Cells::Count(n) = shape_cells(shape) else {
-        return WrittenArray::Refused(refusal::SHAPE);
+    let Ok(n) = shape_cells(shape) else {
+        return Err(Refusal::Shape);
     };
     let depth = kind.depth as usize;
     let first = Generator { state: start };

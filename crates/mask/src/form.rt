@@ -9,7 +9,7 @@ ghost use Rattle.mask.specs.Marks.{counted_in, told_counted};
 
 use crate::strict;
 use array::kind::MaskForm;
-use array::refusal;
+use array::refusal::Refusal;
 use buffer::copy;
 use mask_bits::packed;
 use mask_marks::count_set;
@@ -69,9 +69,9 @@ pub enum Counted {
 }
 
 // Checks the stored mask of n cells at `at`, and counts those that it sets.
-pub fn check_mask(form: MaskForm, s: &[u8], at: usize, n: usize) -> Counted
+pub fn check_mask(form: MaskForm, s: &[u8], at: usize, n: usize) -> Result<usize, Refusal>
     requires { at + (mask_form (masks_of form)).size n ≤ length s.now }
-    ensures { told_counted result ≡ counted_in (mask_form (masks_of form)) (stored_mask (mask_form (masks_of form)) s.now at n) n }
+    ensures { told result ≡ counted_in (mask_form (masks_of form)) (stored_mask (mask_form (masks_of form)) s.now at n) n }
 {
     match form {
         MaskForm::Bytes => {
@@ -80,9 +80,9 @@ pub fn check_mask(form: MaskForm, s: &[u8], at: usize, n: usize) -> Counted
         }
         MaskForm::Packed => {
             if !packed::unused_clear(s, at, n) {
-                return Counted::Refused(refusal::UNUSED_BITS);
+                return Err(Refusal::UnusedBits);
             }
-            Counted::Cells(packed::count_packed(s, at, n))
+            Ok(packed::count_packed(s, at, n))
         }
     }
 }

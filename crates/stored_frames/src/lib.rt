@@ -10,7 +10,7 @@ ghost use Rattle.mask.specs.Marks.{told_counted};
 ghost use Rattle.stored_frames.specs.Walk.{opened, walked, walked_frame, told_walk};
 
 use array::kind::MaskForm;
-use array::refusal;
+use array::refusal::Refusal;
 use buffer::field::{Field, read_u64};
 use mask::form::{Counted, check_mask, mask_length};
 
@@ -22,39 +22,39 @@ pub enum Walked {
 }
 
 // Opens the frame of so many cells at `at`: how many its content has. Its lengths are compared by what is left, so that no sum wraps.
-pub fn open_frame(form: MaskForm, s: &[u8], at: usize, cells: usize) -> Counted
+pub fn open_frame(form: MaskForm, s: &[u8], at: usize, cells: usize) -> Result<usize, Refusal>
     requires { (at ≤ length s.now) × (cells ≤ most_cells) }
-    ensures { told_counted result ≡ opened (mask_form (masks_of form)) (drop at s.now) cells }
+    ensures { told result ≡ opened (mask_form (masks_of form)) (drop at s.now) cells }
 {
-    let Field::Value(mask) = read_u64(s, at) else {
-        return Counted::Refused(refusal::SHORT);
+    let Ok(mask) = read_u64(s, at) else {
+        return Err(Refusal::Short);
     };
-    let Field::Value(content) = read_u64(s, at + 8) else {
-        return Counted::Refused(refusal::SHORT);
+    let Ok(content) = read_u64(s, at + 8) else {
+        return Err(Refusal::Short);
     };
     let start = at + 16;
     let left = s.len() - start;
     let size = mask_length(form, cells);
     if mask != size as u64 {
-        return Counted::Refused(refusal::LENGTH);
+        return Err(Refusal::Length);
     }
     if left < size {
-        return Counted::Refused(refusal::LENGTH);
+        return Err(Refusal::Length);
     }
     if (left - size) as u64 != content {
-        return Counted::Refused(refusal::LENGTH);
+        return Err(Refusal::Length);
     }
     check_mask(form, s, start, cells)
 }
 
 // Walks a content of so many cells: the values, or a frame again.
 #[cycle(walk_content_walk_frame)]
-pub fn walk_content(form: MaskForm, s: &[u8], at: usize, cells: usize, depth: usize) -> Walked
+pub fn walk_content(form: MaskForm, s: &[u8], at: usize, cells: usize, depth: usize) -> Result<(usize, usize), Refusal>
     requires { (at ≤ length s.now) × (cells ≤ most_cells) }
-    ensures { told_walk result ≡ walked (mask_form (masks_of form)) depth s.now at cells }
+    ensures { told result ≡ walked (mask_form (masks_of form)) depth s.now at cells }
 {
     if depth == 0 {
-        Walked::Values(at, cells)
+        Ok((at, cells))
     } else {
         walk_frame(form, s, at, cells, depth - 1)
     }
@@ -62,21 +62,21 @@ pub fn walk_content(form: MaskForm, s: &[u8], at: usize, cells: usize, depth: us
 
 // Walks a frame of so many cells, with `below` levels in its content. Where none is set its content must be empty.
 #[cycle(walk_content_walk_frame)]
-pub fn walk_frame(form: MaskForm, s: &[u8], at: usize, cells: usize, below: usize) -> Walked
+pub fn walk_frame(form: MaskForm, s: &[u8], at: usize, cells: usize, below: usize) -> Result<(usize, usize), Refusal>
     requires { (at ≤ length s.now) × (cells ≤ most_cells) }
-    ensures { told_walk result ≡ walked_frame (mask_form (masks_of form)) below s.now at cells }
+    ensures { told result ≡ walked_frame (mask_form (masks_of form)) below s.now at cells }
 {
     let frame = open_frame(form, s, at, cells);
     match frame {
-        Counted::Refused(e) => Walked::Refused(e),
-        Counted::Cells(set) => {
+        Err(e) => Err(e),
+        Ok(set) => {
             let content = at + (16 + mask_length(form, cells));
             if set > 0 {
                 walk_content(form, s, content, set, below)
             } else if content != s.len() {
-                Walked::Refused(refusal::LENGTH)
+                Err(Refusal::Length)
             } else {
-                Walked::Values(content, 0)
+                Ok((content, 0))
             }
         }
     }
