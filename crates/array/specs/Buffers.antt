@@ -6,8 +6,8 @@ use Rattle.array.specs.Content.{Content, RaggedContent}
 
 -- ---- lengths: of what was written, or of the outputs lent for it
 
-pub use Rattle.array.specs.declared.answer.Lengths.{Lengths}
-pub use Rattle.array.specs.declared.answer.RaggedLengths.{RaggedLengths}
+use Rattle.array.specs.declared.answer.Lengths.{Lengths}
+use Rattle.array.specs.declared.answer.RaggedLengths.{RaggedLengths}
 
 abbrev pub lengths_of : Content → Lengths
 lengths_of c = record { masks = length c.masks; values = length c.values; offsets = length c.offsets }

@@ -4,7 +4,8 @@ use Rattle.std.specs.Prelude.{ℕ, List, Result}
 use Rattle.array.specs.declared.refusal.Refusal.{Refusal}
 use Rattle.array.specs.Answer.{Outcome}
 use Rattle.array.specs.Content.{Content, RaggedContent}
-use Rattle.array.specs.Buffers.{Lengths, RaggedLengths}
+use Rattle.array.specs.declared.answer.Lengths.{Lengths}
+use Rattle.array.specs.declared.answer.RaggedLengths.{RaggedLengths}
 use Rattle.array.specs.Meaning.{told}
 
 abbrev pub outcome : Result ℕ Refusal → List ℕ → Outcome ℕ (List ℕ)

@@ -6,7 +6,6 @@ use mathlib.Core.List.{List, [], ◌∷◌}
 use Prim.Native.Nat.{ℕ, ◌≤◌}
 use native.Mathlib.Nat.{le_refl, mul-le-mul}
 use native.Mathlib.Omega.{arith}
-use Rattle.array.specs.declared.answer.WrittenArray.TheVariants.{Refused}
 use Rattle.array.specs.Answer.{gives, refuses, unless}
 use Rattle.array.specs.Limits.{most_cells}
 use Rattle.array.specs.Lists.{All}

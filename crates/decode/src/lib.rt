@@ -10,7 +10,7 @@ use array::answer::Lengths;
 use array::kind::{Kind, Values};
 use array::refusal::Refusal;
 use valid::kind::check_kind;
-use valid::shape::{Cells, shape_cells};
+use valid::shape::shape_cells;
 
 // Reads the stored array of a kind and shape. Nothing is stored before the last check; success names the three lengths.
 pub fn decode(

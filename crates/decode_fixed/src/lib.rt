@@ -21,7 +21,7 @@ use array::kind::{ByteOrder, Kind};
 use array::refusal::Refusal;
 use decode_cells::values::spread_values;
 use decode_planes::place_planes;
-use stored_frames::{Walked, walk_content};
+use stored_frames::walk_content;
 
 // Values that the walk found: where they begin, and of how many cells.
 #[derive(Clone, Copy)]

@@ -6,20 +6,13 @@ ghost use Rattle.array.specs.Offsets.{offsets_of};
 ghost use Rattle.array.specs.Buffers.{over, ragged_outcome, ragged_lengths_of};
 ghost use Rattle.array.specs.Outcome.{content_ragged, outcome_ragged};
 ghost use Rattle.codec.specs.Calls.{interleaved_decoded};
-ghost use Rattle.decode_interleaved.specs.Walk.{told_sum, walk_answer, total_of, found, Found, Walked, found_answer};
+ghost use Rattle.decode_interleaved.specs.Walk.{walk_answer, total_of, found, Found, Walked, found_answer};
+ghost use Rattle.array.specs.Meaning.{told};
 
 use array::answer::RaggedLengths;
 use array::refusal::Refusal;
-use buffer::field::Field;
 use buffer::{copy, field};
 use valid::{array_bytes, shape};
-
-// What the checking walk over the stored cells finds: how many value bytes they have, or the refusal.
-#[derive(Clone, Copy)]
-pub enum Walk {
-    Sum(usize),
-    Refused(u8),
-}
 
 // Each length is held against what is left, so that no position wraps; the sum stays below the position.
 // An empty cell, and one as long as the one before, has a branch of its own: there the next place does not wait for the length.

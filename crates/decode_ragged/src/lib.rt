@@ -21,8 +21,8 @@ use array::refusal::Refusal;
 use buffer::copy::copy_many;
 use decode_offsets::{copy_offsets, spread_offsets};
 use decode_planes::place_planes;
-use stored_frames::{Walked, walk_content};
-use stored_index::{Index, Indexed, check_ragged};
+use stored_frames::walk_content;
+use stored_index::{Index, check_ragged};
 
 // Values with no mask: the stored offsets and bytes. What is lent for masks stays.
 fn write_flat(

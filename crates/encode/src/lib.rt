@@ -10,8 +10,6 @@ ghost use Rattle.array.specs.Buffers.{put_list};
 
 use array::kind::Kind;
 use array::refusal::Refusal;
-use valid::array_bytes::Checked;
-use valid::shape::Cells;
 use valid::{array_bytes, shape};
 
 // Writes an array into its stored form. Refusals 1, 2, 4, 5 and 6, in this order; nothing is stored before the last check.

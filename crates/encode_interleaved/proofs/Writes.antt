@@ -15,11 +15,10 @@ use Rattle.array.specs.Offsets.{slices}
 use Rattle.array.specs.Cells.{Value}
 use Rattle.array.specs.Content.{Content, ValuesOk, values_in}
 use Rattle.array.specs.Buffers.{over, list_outcome, put_list}
-use Rattle.array.specs.Meaning.{form_of, kind_of}
+use Rattle.array.specs.Meaning.{form_of, kind_of, told}
 use Rattle.array.specs.declared.kind.Kind as declared
 use Rattle.array.specs.declared.kind.Values.{Values}
-use Rattle.valid.specs.declared.array_bytes.Checked.{Checked}
-use Rattle.valid.specs.Check.{check_of, told_checked}
+use Rattle.valid.specs.Check.{check_of}
 use Rattle.valid.specs.ShapeCells.{shape_answer}
 use Rattle.valid.proofs.CheckLaws.{KeepsRules, check_refused, check_passed, check_valid}
 use Rattle.valid.proofs.ShapeLaws.{Counted, counted, not_counted}
@@ -73,13 +72,13 @@ module _ (k : Kind) (shape : List ℕ) (c : Content) (out : List ℕ) where
         let s : Counted shape n = counted shape n q in
         sym (rw (p, s.passes) (ap (λ (m : ℕ). encoded_cells k m c out) (sym s.is)))
 
-module _ (k : Kind) (n : ℕ) (c : Content) (out : List ℕ) {r : Checked} (f : told_checked r ≡ check_of k n c) where
-  pub write_content : {number : ℕ} → r ≡ Checked.Refused number → refused_list number out ≡ encoded_cells k n c out
+module _ (k : Kind) (n : ℕ) (c : Content) (out : List ℕ) {r : Checked} (f : told r ≡ check_of k n c) where
+  pub write_content : {number : ℕ} → r ≡ Err number → refused_list number out ≡ encoded_cells k n c out
   write_content {number} e =
       let stored : List ℕ = interleaved_form k n c in
       sym (ap (λ (a : Answer (List ℕ)). list_outcome a out) (check_refused k n c r f (unless (leb (length stored) (length out)) 6 (gives stored)) number e))
 
-  module _ (p : interleaved_test k ≡ true) (e : r ≡ Checked.Valid) where
+  module _ (p : interleaved_test k ≡ true) (e : r ≡ (Ok tt)) where
     pub write_held : n ≤ most_cells → Held n c.values c.offsets
     write_held few =
         let h : KeepsRules k n c = check_valid k n c r f e in

@@ -12,8 +12,6 @@ ghost use Rattle.encode_interleaved.specs.Held.{Held, interleaved_of, encoded_ce
 use array::kind::{Kind, Values};
 use array::refusal::Refusal;
 use buffer::field;
-use valid::array_bytes::Checked;
-use valid::shape::Cells;
 use valid::{array_bytes, shape};
 
 // Whether arrays of this kind have an interleaved form: ragged values with no mask. Width, place and mask form say nothing of it.

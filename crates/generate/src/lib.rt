@@ -17,7 +17,7 @@ use array::answer::Lengths;
 use array::kind::{Kind, Values};
 use array::refusal::Refusal;
 use valid::kind::check_kind;
-use valid::shape::{Cells, shape_cells};
+use valid::shape::shape_cells;
 
 // Makes the load of a kind, a shape and a start number. Refusals 1, 2 and 6, in this order; nothing is stored before the last check.
 pub fn generate(

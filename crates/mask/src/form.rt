@@ -1,11 +1,11 @@
 // Stored masks, over their form: a byte a cell or a bit a cell. No other crate knows how a mask lies in stored bytes.
 ghost use Rattle.std.specs.Prelude.{◌≡◌, true, ◌+◌, ◌≤◌, length, take, drop};
 ghost use Rattle.array.specs.Buffers.{over_at};
-ghost use Rattle.array.specs.Meaning.{masks_of};
+ghost use Rattle.array.specs.Meaning.{masks_of, told};
 ghost use Rattle.codec.specs.Mask.{mask_form};
 ghost use Rattle.codec.specs.Frame.{count_set};
 ghost use Rattle.codec.specs.MaskAt.{stored_mask, said_mask};
-ghost use Rattle.mask.specs.Marks.{counted_in, told_counted};
+ghost use Rattle.mask.specs.Marks.{counted_in};
 
 use crate::strict;
 use array::kind::MaskForm;
@@ -59,13 +59,6 @@ pub fn count_stored(form: MaskForm, s: &[u8], at: usize, n: usize) -> usize
         }
         MaskForm::Packed => packed::count_packed(s, at, n),
     }
-}
-
-// How many cells a stored mask sets, or the refusal of it or of its frame.
-#[derive(Clone, Copy)]
-pub enum Counted {
-    Cells(usize),
-    Refused(u8),
 }
 
 // Checks the stored mask of n cells at `at`, and counts those that it sets.

@@ -3,9 +3,9 @@ ghost use Rattle.std.specs.Prelude.{◌≡◌, ◌+◌, ◌≤◌, length, drop}
 ghost use Rattle.array.specs.Others.{others};
 ghost use Rattle.codec.specs.Mask.{byte_mask};
 ghost use Rattle.codec.specs.Frame.{count_set};
-ghost use Rattle.mask.specs.Marks.{counted_in, told_counted};
+ghost use Rattle.mask.specs.Marks.{counted_in};
+ghost use Rattle.array.specs.Meaning.{told};
 
-use crate::form::Counted;
 use array::mark::{block_end, one_if_other};
 use array::refusal::Refusal;
 use mask_marks::one_if_set;

@@ -4,22 +4,14 @@
 
 ghost use Rattle.std.specs.Prelude.{◌≡◌, ◌≤◌, length, drop};
 ghost use Rattle.array.specs.Limits.{most_cells};
-ghost use Rattle.array.specs.Meaning.{masks_of};
+ghost use Rattle.array.specs.Meaning.{masks_of, told};
 ghost use Rattle.codec.specs.Mask.{mask_form};
-ghost use Rattle.mask.specs.Marks.{told_counted};
-ghost use Rattle.stored_frames.specs.Walk.{opened, walked, walked_frame, told_walk};
+ghost use Rattle.stored_frames.specs.Walk.{opened, walked, walked_frame};
 
 use array::kind::MaskForm;
 use array::refusal::Refusal;
-use buffer::field::{Field, read_u64};
-use mask::form::{Counted, check_mask, mask_length};
-
-// The innermost content: where it starts and how many cells it has; none where a level has no cell set.
-#[derive(Clone, Copy)]
-pub enum Walked {
-    Values(usize, usize),
-    Refused(u8),
-}
+use buffer::field::read_u64;
+use mask::form::{check_mask, mask_length};
 
 // Opens the frame of so many cells at `at`: how many its content has. Its lengths are compared by what is left, so that no sum wraps.
 pub fn open_frame(form: MaskForm, s: &[u8], at: usize, cells: usize) -> Result<usize, Refusal>
@@ -66,18 +58,13 @@ pub fn walk_frame(form: MaskForm, s: &[u8], at: usize, cells: usize, below: usiz
     requires { (at ≤ length s.now) × (cells ≤ most_cells) }
     ensures { told result ≡ walked_frame (mask_form (masks_of form)) below s.now at cells }
 {
-    let frame = open_frame(form, s, at, cells);
-    match frame {
-        Err(e) => Err(e),
-        Ok(set) => {
-            let content = at + (16 + mask_length(form, cells));
-            if set > 0 {
-                walk_content(form, s, content, set, below)
-            } else if content != s.len() {
-                Err(Refusal::Length)
-            } else {
-                Ok((content, 0))
-            }
-        }
+    let set = open_frame(form, s, at, cells)?;
+    let content = at + (16 + mask_length(form, cells));
+    if set > 0 {
+        walk_content(form, s, content, set, below)
+    } else if content != s.len() {
+        Err(Refusal::Length)
+    } else {
+        Ok((content, 0))
     }
 }

@@ -4,16 +4,16 @@
 ghost use Rattle.std.specs.Prelude.{◌≡◌, not, suc, ◌+◌, ◌-◌, ◌*◌, ◌≤◌, ◌<◌, length, drop};
 ghost use Rattle.array.specs.Answer.{map_answer};
 ghost use Rattle.array.specs.Limits.{most_cells};
-ghost use Rattle.array.specs.Meaning.{width_of, place_of};
+ghost use Rattle.array.specs.Meaning.{width_of, place_of, told};
 ghost use Rattle.array.specs.Offsets.{rising_test};
 ghost use Rattle.array.specs.Content.{size_test};
-ghost use Rattle.buffer.specs.Field.{field_at, told_field};
+ghost use Rattle.buffer.specs.Field.{field_at};
 ghost use Rattle.codec.specs.Ragged.{length_at};
-ghost use Rattle.stored_index.specs.Index.{offsets_in, indexed_by, index_with, found_in, checked_in, told_index};
+ghost use Rattle.stored_index.specs.Index.{offsets_in, indexed_by, index_with, found_in, checked_in};
 
 use array::kind::{IndexPlace, IndexWidth, width_bytes};
 use array::refusal::Refusal;
-use buffer::field::{Field, le_at, read_u64};
+use buffer::field::{le_at, read_u64};
 use codec::place::{data_at, index_at, length_at};
 use valid::array_bytes;
 
@@ -24,13 +24,6 @@ pub struct Index {
     pub index: usize,
     pub from: usize,
     pub last: u64,
-}
-
-// What the check of ragged values tells.
-#[derive(Clone, Copy)]
-pub enum Indexed {
-    Found(Index),
-    Refused(u8),
 }
 
 // Bytes of the index of n cells.
@@ -151,14 +144,9 @@ pub fn check_ragged(s: &[u8], at: usize, n: usize, width: IndexWidth, place: Ind
     requires { (n ≤ most_cells) × (at ≤ length s.now) }
     ensures { told result ≡ checked_in (width_of width) (place_of place) s.now at n }
 {
-    let found = find_index(s, at, n, width, place);
-    match found {
-        Err(e) => Err(e),
-        Ok(index) => {
-            if too_large(index.last) {
-                return Err(Refusal::Size);
-            }
-            Ok(index)
-        }
+    let index = find_index(s, at, n, width, place)?;
+    if too_large(index.last) {
+        return Err(Refusal::Size);
     }
+    Ok(index)
 }

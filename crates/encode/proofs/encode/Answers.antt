@@ -7,9 +7,9 @@ use Rattle.array.specs.Answer.{gives}
 use Rattle.array.specs.Content.{Content}
 use Rattle.array.specs.Kind.{kind_test}
 use Rattle.array.specs.Limits.{most_cells}
-use Rattle.array.specs.Meaning.{kind_of}
+use Rattle.array.specs.Meaning.{kind_of, told}
 use Rattle.array.specs.Outcome.{content_array}
-use Rattle.valid.specs.ShapeCells.{told_cells, shape_answer}
+use Rattle.valid.specs.ShapeCells.{shape_answer}
 use Rattle.valid.proofs.ShapeLaws.{counted}
 use Rattle.encode.proofs.Encodes.{encode_kind, encode_shape, encode_content, encode_encodable, encode_rest}
 use Rattle.encode.proofs.encode.Goals as goal
@@ -24,38 +24,38 @@ returns-in_default c =
     let held : Content = content_array c.args.masks.now c.args.values.now c.args.offsets.now in
     let sound : kind_test (kind_of c.args.kind) ≡ true =
     sym c.check_kind.ensures ∙ not-false c.check_kind.result c.if-not-check_kind.false-raw in
-    encode_shape (kind_of c.args.kind) c.args.shape.now held c.args.out.now sound (sym (ap told_cells c.in_default.is) ∙ c.shape_cells.ensures)
+    encode_shape (kind_of c.args.kind) c.args.shape.now held c.args.out.now sound (sym (ap told c.in_default.is) ∙ c.shape_cells.ensures)
 
 pub check_array-checked-requires : goal.check_array-checked-requires
 unfolding most_cells
 check_array-checked-requires c =
-    let shape_is : gives c.in-Count.cells ≡ shape_answer c.args.shape.now = sym (ap told_cells c.in-Count.is) ∙ c.shape_cells.ensures in
-    (counted c.args.shape.now c.in-Count.cells shape_is).few
+    let shape_is : gives c.in-Ok.cells ≡ shape_answer c.args.shape.now = sym (ap told c.in-Ok.is) ∙ c.shape_cells.ensures in
+    (counted c.args.shape.now c.in-Ok.cells shape_is).few
 
 pub encode_valid-requires : goal.encode_valid-requires
 encode_valid-requires c =
     let held : Content = content_array c.args.masks.now c.args.values.now c.args.offsets.now in
     let sound : kind_test (kind_of c.args.kind) ≡ true =
     sym c.check_kind.ensures ∙ not-false c.check_kind.result c.if-not-check_kind.false-raw in
-    let shape_is : gives c.in-Count.cells ≡ shape_answer c.args.shape.now = sym (ap told_cells c.in-Count.is) ∙ c.shape_cells.ensures in
+    let shape_is : gives c.in-Ok.cells ≡ shape_answer c.args.shape.now = sym (ap told c.in-Ok.is) ∙ c.shape_cells.ensures in
     encode_encodable (kind_of c.args.kind) c.args.shape.now held c.args.out.now sound shape_is c.check_array-checked.result c.check_array-checked.ensures
-    c.in-Valid.is
+    c.in-Ok.is
 
-pub returns-in-Refused : goal.returns-in-Refused
-returns-in-Refused c =
+pub returns-in-Err : goal.returns-in-Err
+returns-in-Err c =
     let held : Content = content_array c.args.masks.now c.args.values.now c.args.offsets.now in
     let sound : kind_test (kind_of c.args.kind) ≡ true =
     sym c.check_kind.ensures ∙ not-false c.check_kind.result c.if-not-check_kind.false-raw in
-    let shape_is : gives c.in-Count.cells ≡ shape_answer c.args.shape.now = sym (ap told_cells c.in-Count.is) ∙ c.shape_cells.ensures in
+    let shape_is : gives c.in-Ok.cells ≡ shape_answer c.args.shape.now = sym (ap told c.in-Ok.is) ∙ c.shape_cells.ensures in
     encode_content (kind_of c.args.kind) c.args.shape.now held c.args.out.now sound shape_is c.check_array-checked.result c.check_array-checked.ensures
-    c.in-Refused.is
+    c.in-Err.is
 
-pub returns-in-Valid : goal.returns-in-Valid
-returns-in-Valid c =
+pub returns-in-Ok : goal.returns-in-Ok
+returns-in-Ok c =
     let held : Content = content_array c.args.masks.now c.args.values.now c.args.offsets.now in
     let sound : kind_test (kind_of c.args.kind) ≡ true =
     sym c.check_kind.ensures ∙ not-false c.check_kind.result c.if-not-check_kind.false-raw in
-    let shape_is : gives c.in-Count.cells ≡ shape_answer c.args.shape.now = sym (ap told_cells c.in-Count.is) ∙ c.shape_cells.ensures in
+    let shape_is : gives c.in-Ok.cells ≡ shape_answer c.args.shape.now = sym (ap told c.in-Ok.is) ∙ c.shape_cells.ensures in
     c.encode_valid.ensures
     ∙ encode_rest (kind_of c.args.kind) c.args.shape.now held c.args.out.now sound shape_is c.check_array-checked.result c.check_array-checked.ensures
-    c.in-Valid.is
+    c.in-Ok.is

@@ -8,8 +8,7 @@ use lib.ListN.{length, take, drop, length-drop}
 use Rattle.array.specs.Answer.{Answer, map_answer}
 use Rattle.array.specs.Bytes.{unle}
 use Rattle.array.specs.Kind.{Place}
-use Rattle.array.specs.Meaning.{width_of, place_of}
-use Rattle.buffer.specs.Field.{told_field}
+use Rattle.array.specs.Meaning.{width_of, place_of, told}
 use Rattle.buffer.proofs.Fields.{field_value, field_refused}
 use Rattle.codec.specs.Ragged.{length_at, index_at, data_at}
 use Rattle.stored_index.specs.declared.Index.{Index}
@@ -27,7 +26,7 @@ returns-in_default c =
     let left : ℕ = length bytes - c.args.at in
     let lies : ℕ = c.args.at + length_at place left in
     let told : Answer ℕ → Answer Index = λ a. map_answer (located width place bytes c.args.at c.args.n) a in
-    let r = field_refused 8 7 bytes lies _ (sym c.read_length.ensures ∙ ap told_field c.in_default.is) in
+    let r = field_refused 8 7 bytes lies _ (sym c.read_length.ensures ∙ ap told c.in_default.is) in
     ap told
     (read_none index_check width c.args.n (drop c.args.at bytes) place
     (omega (arith, length-drop c.args.at bytes, length_short place left (omega (arith, r.0)))))
@@ -39,7 +38,7 @@ overflow_sub-left c =
     let left : ℕ = length bytes - c.args.at in
     let lies : ℕ = c.args.at + length_at place left in
     let says : ℕ = c.in-Value.l in
-    let field_is : (8 ≤ length bytes - lies) × (says ≡ unle (take 8 (drop lies bytes))) = field_value 8 7 bytes lies says (sym c.read_length.ensures ∙ ap told_field c.in-Value.is) in
+    let field_is : (8 ≤ length bytes - lies) × (says ≡ unle (take 8 (drop lies bytes))) = field_value 8 7 bytes lies says (sym c.read_length.ensures ∙ ap told c.in-Value.is) in
     let long : 8 ≤ left = omega (arith, field_is.0) in
     long
 
@@ -53,7 +52,7 @@ returns-then-left-length c =
     let lies : ℕ = c.args.at + length_at place left in
     let told : Answer ℕ → Answer Index = λ a. map_answer (located width place bytes c.args.at c.args.n) a in
     let says : ℕ = c.in-Value.l in
-    let field_is : (8 ≤ length bytes - lies) × (says ≡ unle (take 8 (drop lies bytes))) = field_value 8 7 bytes lies says (sym c.read_length.ensures ∙ ap told_field c.in-Value.is) in
+    let field_is : (8 ≤ length bytes - lies) × (says ≡ unle (take 8 (drop lies bytes))) = field_value 8 7 bytes lies says (sym c.read_length.ensures ∙ ap told c.in-Value.is) in
     let long : 8 ≤ left = omega (arith, field_is.0) in
     let size_is : c.index_length-length.result ≡ width + c.args.n * width = c.index_length-length.ensures in
     let l = length-drop c.args.at bytes in
@@ -70,7 +69,7 @@ returns-then-l-length c =
     let lies : ℕ = c.args.at + length_at place left in
     let told : Answer ℕ → Answer Index = λ a. map_answer (located width place bytes c.args.at c.args.n) a in
     let says : ℕ = c.in-Value.l in
-    let field_is : (8 ≤ length bytes - lies) × (says ≡ unle (take 8 (drop lies bytes))) = field_value 8 7 bytes lies says (sym c.read_length.ensures ∙ ap told_field c.in-Value.is) in
+    let field_is : (8 ≤ length bytes - lies) × (says ≡ unle (take 8 (drop lies bytes))) = field_value 8 7 bytes lies says (sym c.read_length.ensures ∙ ap told c.in-Value.is) in
     let long : 8 ≤ left = omega (arith, field_is.0) in
     let size_is : c.index_length-length.result ≡ width + c.args.n * width = c.index_length-length.ensures in
     ap told
@@ -83,7 +82,7 @@ index_at-requires c =
     let left : ℕ = length bytes - c.args.at in
     let lies : ℕ = c.args.at + length_at place left in
     let says : ℕ = c.in-Value.l in
-    let field_is : (8 ≤ length bytes - lies) × (says ≡ unle (take 8 (drop lies bytes))) = field_value 8 7 bytes lies says (sym c.read_length.ensures ∙ ap told_field c.in-Value.is) in
+    let field_is : (8 ≤ length bytes - lies) × (says ≡ unle (take 8 (drop lies bytes))) = field_value 8 7 bytes lies says (sym c.read_length.ensures ∙ ap told c.in-Value.is) in
     let long : 8 ≤ left = omega (arith, field_is.0) in
     omega (arith, long)
 
@@ -95,7 +94,7 @@ overflow_add-index c =
     let left : ℕ = length bytes - c.args.at in
     let lies : ℕ = c.args.at + length_at place left in
     let says : ℕ = c.in-Value.l in
-    let field_is : (8 ≤ length bytes - lies) × (says ≡ unle (take 8 (drop lies bytes))) = field_value 8 7 bytes lies says (sym c.read_length.ensures ∙ ap told_field c.in-Value.is) in
+    let field_is : (8 ≤ length bytes - lies) × (says ≡ unle (take 8 (drop lies bytes))) = field_value 8 7 bytes lies says (sym c.read_length.ensures ∙ ap told c.in-Value.is) in
     let long : 8 ≤ left = omega (arith, field_is.0) in
     let size_is : c.index_length-length.result ≡ width + c.args.n * width = c.index_length-length.ensures in
     let there : c.args.at + c.index_at.result + (width + c.args.n * width) ≤ length bytes =
@@ -110,7 +109,7 @@ data_at-requires c =
     let left : ℕ = length bytes - c.args.at in
     let lies : ℕ = c.args.at + length_at place left in
     let says : ℕ = c.in-Value.l in
-    let field_is : (8 ≤ length bytes - lies) × (says ≡ unle (take 8 (drop lies bytes))) = field_value 8 7 bytes lies says (sym c.read_length.ensures ∙ ap told_field c.in-Value.is) in
+    let field_is : (8 ≤ length bytes - lies) × (says ≡ unle (take 8 (drop lies bytes))) = field_value 8 7 bytes lies says (sym c.read_length.ensures ∙ ap told c.in-Value.is) in
     let long : 8 ≤ left = omega (arith, field_is.0) in
     let size_is : c.index_length-length.result ≡ width + c.args.n * width = c.index_length-length.ensures in
     let there : c.args.at + c.index_at.result + (width + c.args.n * width) ≤ length bytes =
@@ -124,7 +123,7 @@ overflow_add-from c =
     let left : ℕ = length bytes - c.args.at in
     let lies : ℕ = c.args.at + length_at place left in
     let says : ℕ = c.in-Value.l in
-    let field_is : (8 ≤ length bytes - lies) × (says ≡ unle (take 8 (drop lies bytes))) = field_value 8 7 bytes lies says (sym c.read_length.ensures ∙ ap told_field c.in-Value.is) in
+    let field_is : (8 ≤ length bytes - lies) × (says ≡ unle (take 8 (drop lies bytes))) = field_value 8 7 bytes lies says (sym c.read_length.ensures ∙ ap told c.in-Value.is) in
     let long : 8 ≤ left = omega (arith, field_is.0) in
     omega (arith, c.data_at.ensures, data-within place left c.index_length-length.result long (omega arith))
 
@@ -136,7 +135,7 @@ check_index-requires c =
     let left : ℕ = length bytes - c.args.at in
     let lies : ℕ = c.args.at + length_at place left in
     let says : ℕ = c.in-Value.l in
-    let field_is : (8 ≤ length bytes - lies) × (says ≡ unle (take 8 (drop lies bytes))) = field_value 8 7 bytes lies says (sym c.read_length.ensures ∙ ap told_field c.in-Value.is) in
+    let field_is : (8 ≤ length bytes - lies) × (says ≡ unle (take 8 (drop lies bytes))) = field_value 8 7 bytes lies says (sym c.read_length.ensures ∙ ap told c.in-Value.is) in
     let long : 8 ≤ left = omega (arith, field_is.0) in
     let size_is : c.index_length-length.result ≡ width + c.args.n * width = c.index_length-length.ensures in
     let there : c.args.at + c.index_at.result + (width + c.args.n * width) ≤ length bytes =
@@ -153,7 +152,7 @@ returns c =
     let lies : ℕ = c.args.at + length_at place left in
     let told : Answer ℕ → Answer Index = λ a. map_answer (located width place bytes c.args.at c.args.n) a in
     let says : ℕ = c.in-Value.l in
-    let field_is : (8 ≤ length bytes - lies) × (says ≡ unle (take 8 (drop lies bytes))) = field_value 8 7 bytes lies says (sym c.read_length.ensures ∙ ap told_field c.in-Value.is) in
+    let field_is : (8 ≤ length bytes - lies) × (says ≡ unle (take 8 (drop lies bytes))) = field_value 8 7 bytes lies says (sym c.read_length.ensures ∙ ap told c.in-Value.is) in
     let long : 8 ≤ left = omega (arith, field_is.0) in
     let size_is : c.index_length-length.result ≡ width + c.args.n * width = c.index_length-length.ensures in
     let a = c.args in

@@ -3,9 +3,9 @@
 use mathlib.Core.Path.{sym, ap, ◌∙◌}
 use native.Mathlib.Omega.{arith}
 use Rattle.array.specs.Limits.{most_cells}
-use Rattle.decode_interleaved.specs.Walk.{told_sum}
 use Rattle.decode_interleaved.proofs.Outcomes.{many_cells, other_count, past_end, walk_found, all_found}
 use Rattle.decode_interleaved.proofs.vlen_v2.decode_interleaved.Goals as goal
+use Rattle.array.specs.Meaning.{told}
 
 pub returns-then-cells-gt-MOST_CELLS : goal.returns-then-cells-gt-MOST_CELLS
 unfolding most_cells
@@ -17,16 +17,16 @@ returns-then-le4_at-cells c = other_count _ _ _ c.if-cells-gt-MOST_CELLS.false (
 
 pub write_cells-requires : goal.write_cells-requires
 unfolding most_cells
-write_cells-requires c = walk_found _ _ _ c.if-cells-gt-MOST_CELLS.false (sym (ap told_sum c.in-Sum.is) ∙ c.walk_cells-walk.ensures)
+write_cells-requires c = walk_found _ _ _ c.if-cells-gt-MOST_CELLS.false (sym (ap told c.in-Ok.is) ∙ c.walk_cells-walk.ensures)
 
-pub returns-in-Refused : goal.returns-in-Refused
+pub returns-in-Err : goal.returns-in-Err
 unfolding most_cells
-returns-in-Refused c =
+returns-in-Err c =
     past_end _ _ _ c.if-cells-gt-MOST_CELLS.false (omega arith) (sym c.le4_at.ensures ∙ c.if-le4_at-cells.false) _
-    (sym (ap told_sum c.in-Refused.is) ∙ c.walk_cells-walk.ensures)
+    (sym (ap told c.in-Err.is) ∙ c.walk_cells-walk.ensures)
 
-pub returns-in-Sum : goal.returns-in-Sum
+pub returns-in-Ok : goal.returns-in-Ok
 unfolding most_cells
-returns-in-Sum c =
+returns-in-Ok c =
     all_found _ _ _ c.if-cells-gt-MOST_CELLS.false (omega arith) (sym c.le4_at.ensures ∙ c.if-le4_at-cells.false) _
-    (sym (ap told_sum c.in-Sum.is) ∙ c.walk_cells-walk.ensures) c.write_cells.ensures
+    (sym (ap told c.in-Ok.is) ∙ c.walk_cells-walk.ensures) c.write_cells.ensures

@@ -10,15 +10,15 @@ use Rattle.encode_interleaved.proofs.write.encode_cells.Goals as goal
 pub write_cells-requires : goal.write_cells-requires
 write_cells-requires c =
     let content : Content = content_array c.args.masks.now c.args.values.now c.args.offsets.now in
-    write_held (kind_of c.args.kind) c.args.cells content c.args.out.now c.check_array-checked.ensures c.requires.0 c.in-Valid.is c.requires.1
+    write_held (kind_of c.args.kind) c.args.cells content c.args.out.now c.check_array-checked.ensures c.requires.0 c.in-Ok.is c.requires.1
 
-pub returns-in-Refused : goal.returns-in-Refused
-returns-in-Refused c =
+pub returns-in-Err : goal.returns-in-Err
+returns-in-Err c =
     let content : Content = content_array c.args.masks.now c.args.values.now c.args.offsets.now in
-    write_content (kind_of c.args.kind) c.args.cells content c.args.out.now c.check_array-checked.ensures c.in-Refused.is
+    write_content (kind_of c.args.kind) c.args.cells content c.args.out.now c.check_array-checked.ensures c.in-Err.is
 
-pub returns-in-Valid : goal.returns-in-Valid
-returns-in-Valid c =
+pub returns-in-Ok : goal.returns-in-Ok
+returns-in-Ok c =
     let content : Content = content_array c.args.masks.now c.args.values.now c.args.offsets.now in
     c.write_cells.ensures
-    ∙ write_rest (kind_of c.args.kind) c.args.cells content c.args.out.now c.check_array-checked.ensures c.requires.0 c.in-Valid.is
+    ∙ write_rest (kind_of c.args.kind) c.args.cells content c.args.out.now c.check_array-checked.ensures c.requires.0 c.in-Ok.is

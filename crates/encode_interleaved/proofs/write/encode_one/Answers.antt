@@ -23,19 +23,19 @@ pub write_one-requires : goal.write_one-requires
 unfolding most_cells
 write_one-requires c =
     let content : Content = content_array c.args.masks.now c.args.values.now c.args.offsets.now in
-    let held : let a = c.args in Held 1 a.values.now a.offsets.now = write_held (kind_of c.args.kind) 1 content c.args.out.now c.check_array-checked.ensures c.requires c.in-Valid.is (omega arith) in
+    let held : let a = c.args in Held 1 a.values.now a.offsets.now = write_held (kind_of c.args.kind) 1 content c.args.out.now c.check_array-checked.ensures c.requires c.in-Ok.is (omega arith) in
     (held).small
 
-pub returns-in-Refused : goal.returns-in-Refused
-returns-in-Refused c =
+pub returns-in-Err : goal.returns-in-Err
+returns-in-Err c =
     let content : Content = content_array c.args.masks.now c.args.values.now c.args.offsets.now in
-    write_content (kind_of c.args.kind) 1 content c.args.out.now c.check_array-checked.ensures c.in-Refused.is
+    write_content (kind_of c.args.kind) 1 content c.args.out.now c.check_array-checked.ensures c.in-Err.is
 
-pub returns-in-Valid : goal.returns-in-Valid
+pub returns-in-Ok : goal.returns-in-Ok
 unfolding most_cells
-returns-in-Valid c =
+returns-in-Ok c =
     let content : Content = content_array c.args.masks.now c.args.values.now c.args.offsets.now in
-    let held : let a = c.args in Held 1 a.values.now a.offsets.now = write_held (kind_of c.args.kind) 1 content c.args.out.now c.check_array-checked.ensures c.requires c.in-Valid.is (omega arith) in
+    let held : let a = c.args in Held 1 a.values.now a.offsets.now = write_held (kind_of c.args.kind) 1 content c.args.out.now c.check_array-checked.ensures c.requires c.in-Ok.is (omega arith) in
     c.write_one.ensures
     ∙ ap (λ (vs : List Value). put_list (put_interleaved vs) c.args.out.now) (one_cell held)
-    ∙ write_rest (kind_of c.args.kind) 1 content c.args.out.now c.check_array-checked.ensures c.requires c.in-Valid.is
+    ∙ write_rest (kind_of c.args.kind) 1 content c.args.out.now c.check_array-checked.ensures c.requires c.in-Ok.is
