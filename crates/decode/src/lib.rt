@@ -27,11 +27,8 @@ pub fn decode(
     if !check_kind(kind) {
         return Err(Refusal::Kind);
     }
-    let Ok(n) = shape_cells(shape) else {
-        return Err(Refusal::Shape);
-    };
-    let form = kind.values;
-    match form {
+    let n = shape_cells(shape)?;
+    match kind.values {
         Values::Fixed(size, order) => {
             decode_fixed::decode_fixed(kind, size as usize, order, n, bytes, masks, values)
         }

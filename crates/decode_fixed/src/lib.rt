@@ -108,18 +108,13 @@ pub fn decode_fixed(
     if depth == 0 {
         return read_plain(size, order, n, s, values);
     }
-    let walk = walk_content(form, s, 0, n, depth);
-    match walk {
-        Err(e) => Err(e),
-        Ok((at, cells)) => {
-            // no cell is set, and no value stored
-            if cells == 0 {
-                let none = Found { at: 0, cells: 0 };
-                write_fixed(kind, size, order, n, s, none, masks, values)
-            } else {
-                let found = Found { at, cells };
-                write_found(kind, size, order, n, s, found, masks, values)
-            }
-        }
+    let (at, cells) = walk_content(form, s, 0, n, depth)?;
+    // no cell is set, and no value stored
+    if cells == 0 {
+        let none = Found { at: 0, cells: 0 };
+        write_fixed(kind, size, order, n, s, none, masks, values)
+    } else {
+        let found = Found { at, cells };
+        write_found(kind, size, order, n, s, found, masks, values)
     }
 }

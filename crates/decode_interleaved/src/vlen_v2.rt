@@ -100,10 +100,16 @@ fn write_cells(
     if sum == 0 {
         // no cell has a byte: each begins and ends at 0
         copy::fill_numbers(offsets, 0, count, 0);
-        return Ok(RaggedLengths { values: sum, offsets: count });
+        return Ok(RaggedLengths {
+            values: sum,
+            offsets: count,
+        });
     }
     copy_cells(values, offsets, bytes, cells, sum);
-    Ok(RaggedLengths { values: sum, offsets: count })
+    Ok(RaggedLengths {
+        values: sum,
+        offsets: count,
+    })
 }
 
 // Reads `cells` cells of the older form: their bytes end to end, and their offsets from 0. Bytes after the last cell are ignored.
@@ -127,9 +133,6 @@ pub fn decode_interleaved(
     if field::le4_at(bytes, 0) != cells {
         return Err(Refusal::Count);
     }
-    let walk = walk_cells(bytes, n);
-    match walk {
-        Err(e) => Err(e),
-        Ok(sum) => write_cells(n, bytes, sum, values, offsets),
-    }
+    let sum = walk_cells(bytes, n)?;
+    write_cells(n, bytes, sum, values, offsets)
 }

@@ -106,11 +106,8 @@ fn read_flat(
     ensures { (x : Masks) (masks : List ℕ) → outcome_array result masks values.new offsets.new
         ≡ read_outcome (content_array masks values.old offsets.old) (read_in (mask_form x) (ragged (width_of width) (place_of place)) 0 n s.now) }
 {
-    let checked = check_ragged(s, 0, n, width, place);
-    match checked {
-        Err(e) => Err(e),
-        Ok(found) => write_flat(width, s, found, values, offsets),
-    }
+    let found = check_ragged(s, 0, n, width, place)?;
+    write_flat(width, s, found, values, offsets)
 }
 
 // Reads an array of n cells with ragged values.
@@ -134,28 +131,18 @@ pub fn decode_ragged(
     if depth == 0 {
         return read_flat(width, place, n, s, values, offsets);
     }
-    let walk = walk_content(form, s, 0, n, depth);
-    match walk {
-        Err(e) => Err(e),
-        Ok((at, cells)) => {
-            // no cell is set, and no index stored
-            if cells == 0 {
-                let none = Index {
-                    cells: 0,
-                    index: 0,
-                    from: 0,
-                    last: 0,
-                };
-                write_nested(kind, width, n, s, none, masks, values, offsets)
-            } else {
-                let checked = check_ragged(s, at, cells, width, place);
-                match checked {
-                    Err(e) => Err(e),
-                    Ok(found) => {
-                        write_nested(kind, width, n, s, found, masks, values, offsets)
-                    }
-                }
-            }
-        }
+    let (at, cells) = walk_content(form, s, 0, n, depth)?;
+    // no cell is set, and no index stored
+    if cells == 0 {
+        let none = Index {
+            cells: 0,
+            index: 0,
+            from: 0,
+            last: 0,
+        };
+        write_nested(kind, width, n, s, none, masks, values, offsets)
+    } else {
+        let found = check_ragged(s, at, cells, width, place)?;
+        write_nested(kind, width, n, s, found, masks, values, offsets)
     }
 }

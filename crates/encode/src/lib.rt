@@ -26,14 +26,9 @@ pub fn encode(
     if !valid::kind::check_kind(kind) {
         return Err(Refusal::Kind);
     }
-    let Ok(cells) = shape::shape_cells(shape) else {
-        return Err(Refusal::Shape);
-    };
-    let checked = array_bytes::check_array(kind, cells, masks, values, offsets);
-    match checked {
-        Err(number) => Err(number),
-        Ok(()) => encode_valid(kind, cells, masks, values, offsets, out),
-    }
+    let cells = shape::shape_cells(shape)?;
+    array_bytes::check_array(kind, cells, masks, values, offsets)?;
+    encode_valid(kind, cells, masks, values, offsets, out)
 }
 
 // The same of valid content of `cells` cells: refusal 6, or its stored form.

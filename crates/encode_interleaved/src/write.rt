@@ -18,18 +18,7 @@ use valid::{array_bytes, shape};
 fn is_interleaved(kind: Kind) -> bool
     ensures { result ≡ interleaved_test (kind_of kind) }
 {
-    if !valid::kind::check_kind(kind) {
-        return false;
-    }
-    let depth = kind.depth;
-    if 0 < depth {
-        return false;
-    }
-    let values = kind.values;
-    match values {
-        Values::Fixed(_, _) => false,
-        Values::Ragged(_, _) => true,
-    }
+    valid::kind::check_kind(kind) && kind.depth == 0 && matches!(kind.values, Values::Ragged(_, _))
 }
 
 // The count, then each cell: its length and its bytes. What is copied beyond a cell, the cells after it write over.
@@ -57,7 +46,12 @@ fn put_cells(out: &mut [u8], values: &[u8], offsets: &[u64], cells: usize)
 }
 
 // The cells of a valid array: refusal 6, or their interleaved form.
-fn write_cells(cells: usize, values: &[u8], offsets: &[u64], out: &mut [u8]) -> Result<usize, Refusal>
+fn write_cells(
+    cells: usize,
+    values: &[u8],
+    offsets: &[u64],
+    out: &mut [u8],
+) -> Result<usize, Refusal>
     requires { Held cells values.now offsets.now }
     ensures { outcome result out.new ≡ put_list (interleaved_of values.now offsets.now) out.old }
 {
@@ -100,24 +94,24 @@ fn encode_cells(
     ensures { outcome result out.new
         ≡ encoded_cells (kind_of kind) cells (content_array masks.now values.now offsets.now) out.old }
 {
-    let checked = array_bytes::check_array(kind, cells, masks, values, offsets);
-    match checked {
-        Err(number) => Err(number),
-        Ok(()) => write_cells(cells, values, offsets, out),
-    }
+    array_bytes::check_array(kind, cells, masks, values, offsets)?;
+    write_cells(cells, values, offsets, out)
 }
 
 // The same of one cell. Here the compiler knows the count, and the walk over the offsets becomes one test.
-fn encode_one(kind: Kind, masks: &[u8], values: &[u8], offsets: &[u64], out: &mut [u8]) -> Result<usize, Refusal>
+fn encode_one(
+    kind: Kind,
+    masks: &[u8],
+    values: &[u8],
+    offsets: &[u64],
+    out: &mut [u8],
+) -> Result<usize, Refusal>
     requires { interleaved_test (kind_of kind) ≡ true }
     ensures { outcome result out.new
         ≡ encoded_cells (kind_of kind) 1 (content_array masks.now values.now offsets.now) out.old }
 {
-    let checked = array_bytes::check_array(kind, 1, masks, values, offsets);
-    match checked {
-        Err(e) => Err(e),
-        Ok(()) => write_one(values, out),
-    }
+    array_bytes::check_array(kind, 1, masks, values, offsets)?;
+    write_one(values, out)
 }
 
 // Writes a ragged array of depth 0 in the interleaved form. Refusals 1, 2, 4, 5 and 6, in this order; nothing is stored before the
@@ -136,9 +130,7 @@ pub fn encode_interleaved(
     if !is_interleaved(kind) {
         return Err(Refusal::Kind);
     }
-    let Ok(cells) = shape::shape_cells(shape) else {
-        return Err(Refusal::Shape);
-    };
+    let cells = shape::shape_cells(shape)?;
     if cells == 1 {
         return encode_one(kind, masks, values, offsets, out);
     }

@@ -34,13 +34,10 @@ pub fn generate(
     if !check_kind(kind) {
         return Err(Refusal::Kind);
     }
-    let Ok(n) = shape_cells(shape) else {
-        return Err(Refusal::Shape);
-    };
+    let n = shape_cells(shape)?;
     let depth = kind.depth as usize;
     let first = Generator { state: start };
-    let form = kind.values;
-    match form {
+    match kind.values {
         Values::Fixed(size, _) => fixed::make_fixed(first, depth, n, size as usize, masks, values),
         Values::Ragged(_, _) => ragged::make_ragged(first, depth, n, masks, values, offsets),
     }

@@ -10,7 +10,6 @@ use Rattle.array.specs.Offsets.{last, last_from, RisingFrom, rising_test}
 use Rattle.array.specs.Content.{RaggedContent, size_test}
 use Rattle.codec.specs.Ragged.{part_of, left_of, get_ragged, index_at, data_at}
 use Rattle.stored_index.specs.declared.Index.{Index}
-use Rattle.stored_index.specs.declared.Indexed.TheVariants.{Found, Refused}
 
 -- the first n offsets of width w that the bytes hold
 abbrev pub offsets_in : ℕ → ℕ → List ℕ → List ℕ

@@ -118,7 +118,13 @@ fn read_length(s: &[u8], at: usize, place: IndexPlace) -> Result<u64, Refusal>
 
 // Finds the index of the ragged values of n cells that lie from `at` to the end. Whether it fits is told before its length is looked
 // at: no other answer is possible there.
-pub fn find_index(s: &[u8], at: usize, n: usize, width: IndexWidth, place: IndexPlace) -> Result<Index, Refusal>
+pub fn find_index(
+    s: &[u8],
+    at: usize,
+    n: usize,
+    width: IndexWidth,
+    place: IndexPlace,
+) -> Result<Index, Refusal>
     requires { (n ≤ most_cells) × (at ≤ length s.now) }
     ensures { told result ≡ found_in (width_of width) (place_of place) s.now at n }
 {
@@ -140,7 +146,13 @@ pub fn find_index(s: &[u8], at: usize, n: usize, width: IndexWidth, place: Index
 }
 
 // Checks the ragged values of n cells that lie from `at` to the end: their index, and then how many bytes they have.
-pub fn check_ragged(s: &[u8], at: usize, n: usize, width: IndexWidth, place: IndexPlace) -> Result<Index, Refusal>
+pub fn check_ragged(
+    s: &[u8],
+    at: usize,
+    n: usize,
+    width: IndexWidth,
+    place: IndexPlace,
+) -> Result<Index, Refusal>
     requires { (n ≤ most_cells) × (at ≤ length s.now) }
     ensures { told result ≡ checked_in (width_of width) (place_of place) s.now at n }
 {

@@ -22,7 +22,7 @@ use Rattle.array.specs.declared.refusal.Refusal.{Refusal}
 use Rattle.array.specs.Meaning.{form_of, kind_of, number_of, told}
 use Rattle.array.specs.declared.kind.Kind as declared
 use Rattle.array.specs.declared.kind.Values.{Values}
-use Rattle.array.proofs.Answers.{passed}
+use Rattle.array.proofs.Answers.{passed, told_same}
 use Rattle.array.proofs.Offsets.{last_at}
 use Rattle.array.proofs.Rules.{array_ok, size_ok}
 
@@ -187,6 +187,6 @@ module _ (k : Kind) (n : ℕ) (c : Content) (r : Result (Unit {0}) Refusal) (e :
 
     pub check_valid : KeepsRules k n c
     check_valid =
-        let four = passed (array_test k n c) 4 (unless (size_test (length c.values)) 5 (gives (tt {0}))) (sym e ∙ ap told f) in
+        let four = passed (array_test k n c) 4 (unless (size_test (length c.values)) 5 (gives (tt {0}))) (sym e ∙ told_same f) in
         let five = passed (size_test (length c.values)) 5 (gives (tt {0})) four.1 in
         record { array = array_ok k n c four.0; small = size_ok (length c.values) five.0 }

@@ -8,6 +8,7 @@ use Rattle.array.specs.Kind.{Form, fixed, FormOk, KindOk, kind_test}
 use Rattle.array.specs.Meaning.{kind_of, form_of, masks_of, order_of, told}
 use Rattle.array.specs.Content.{Content}
 use Rattle.array.specs.Outcome.{content_array}
+use Rattle.array.proofs.Answers.{told_same}
 use Rattle.array.proofs.Rules.{kind_ok}
 use Rattle.codec.specs.Mask.{mask_form}
 use Rattle.codec.specs.Calls.{read_in, decoded}
@@ -27,7 +28,7 @@ returns-in_default c =
     sym c.check_kind.ensures ∙ not-false c.check_kind.result c.if-not-check_kind.false-raw in
     let a = c.args in
     by_shape (kind_of a.kind) a.shape.now a.bytes.now a.masks.now a.values.now a.offsets.now kind_is
-    (shape_refused a.shape.now _ (sym c.shape_cells.ensures ∙ ap told c.in_default.is))
+    (shape_refused a.shape.now _ (sym c.shape_cells.ensures ∙ told_same c.in_default.is))
 
 pub decode_fixed-requires : goal.decode_fixed-requires
 decode_fixed-requires c =
@@ -36,7 +37,7 @@ decode_fixed-requires c =
     sym c.check_kind.ensures ∙ not-false c.check_kind.result c.if-not-check_kind.false-raw in
     let sound : KindOk (kind_of c.args.kind) = kind_ok (kind_of c.args.kind) kind_is in
     let counted : ShapeCounted c.args.shape.now cells =
-    shape_counted c.args.shape.now cells (sym c.shape_cells.ensures ∙ ap told c.in-Ok.is) in
+    shape_counted c.args.shape.now cells (sym c.shape_cells.ensures ∙ told_same c.in-Ok.is) in
     let limits : Limited c.args.kind.depth cells = record { some = counted.some; few = counted.few; shallow = sound.shallow } in
     let sized : FormOk (fixed c.in-Fixed.size (order_of c.in-Fixed.order)) = subst FormOk (ap form_of c.in-Fixed.is) sound.sound in
     (limits, sized.1)
@@ -48,7 +49,7 @@ decode_ragged-requires c =
     sym c.check_kind.ensures ∙ not-false c.check_kind.result c.if-not-check_kind.false-raw in
     let sound : KindOk (kind_of c.args.kind) = kind_ok (kind_of c.args.kind) kind_is in
     let counted : ShapeCounted c.args.shape.now cells =
-    shape_counted c.args.shape.now cells (sym c.shape_cells.ensures ∙ ap told c.in-Ok.is) in
+    shape_counted c.args.shape.now cells (sym c.shape_cells.ensures ∙ told_same c.in-Ok.is) in
     let limits : Limited c.args.kind.depth cells = record { some = counted.some; few = counted.few; shallow = sound.shallow } in
     limits
 
@@ -59,7 +60,7 @@ returns-in-Fixed c =
     let kind_is : kind_test (kind_of c.args.kind) ≡ true =
     sym c.check_kind.ensures ∙ not-false c.check_kind.result c.if-not-check_kind.false-raw in
     let counted : ShapeCounted c.args.shape.now cells =
-    shape_counted c.args.shape.now cells (sym c.shape_cells.ensures ∙ ap told c.in-Ok.is) in
+    shape_counted c.args.shape.now cells (sym c.shape_cells.ensures ∙ told_same c.in-Ok.is) in
     let read :
     (f : Form) → form_of c.args.kind.values ≡ f →
     decoded (kind_of c.args.kind) c.args.shape.now c.args.bytes.now lent ≡ read_outcome lent (read_in (mask_form (masks_of c.args.kind.masks)) f c.args.kind.depth cells c.args.bytes.now) =
@@ -75,7 +76,7 @@ returns-in-Ragged c =
     let kind_is : kind_test (kind_of c.args.kind) ≡ true =
     sym c.check_kind.ensures ∙ not-false c.check_kind.result c.if-not-check_kind.false-raw in
     let counted : ShapeCounted c.args.shape.now cells =
-    shape_counted c.args.shape.now cells (sym c.shape_cells.ensures ∙ ap told c.in-Ok.is) in
+    shape_counted c.args.shape.now cells (sym c.shape_cells.ensures ∙ told_same c.in-Ok.is) in
     let read :
     (f : Form) → form_of c.args.kind.values ≡ f →
     decoded (kind_of c.args.kind) c.args.shape.now c.args.bytes.now lent ≡ read_outcome lent (read_in (mask_form (masks_of c.args.kind.masks)) f c.args.kind.depth cells c.args.bytes.now) =

@@ -7,6 +7,7 @@ use native.Mathlib.Nat.{le_trans}
 use native.Mathlib.Omega.{arith}
 use Rattle.array.specs.Answer.{gives}
 use Rattle.array.specs.Meaning.{width_of, place_of, masks_of, told}
+use Rattle.array.proofs.Answers.{told_same}
 use Rattle.codec.specs.Mask.{mask_form}
 use Rattle.stored_frames.specs.Walk.{walked}
 use Rattle.stored_index.specs.Index.{checked_in}
@@ -26,10 +27,10 @@ write_nested-requires c =
     let deep : c.args.kind.depth ≢ 0 = c.if-depth-eq0.false in
     let walk_is : walked (mask_form (masks_of c.args.kind.masks)) c.args.kind.depth c.args.s.now 0 c.args.n ≡ told c.walk_content-walk.result =
     sym c.walk_content-walk.ensures in
-    let at : ℕ = c.in-Values.at in
-    let cells : ℕ = c.in-Values.cells in
+    let at : ℕ = c.in-Oks.at in
+    let cells : ℕ = c.in-Oks.cells in
     let values_are : walked (mask_form (masks_of c.args.kind.masks)) c.args.kind.depth c.args.s.now 0 c.args.n ≡ gives (at, cells) =
-    walk_is ∙ ap told c.in-Values.is in
+    walk_is ∙ told_same c.in-Oks.is in
     let passed : WalkPassed (masks_of c.args.kind.masks) c.args.kind.depth c.args.s.now 0 c.args.n at cells =
     let a = c.args in
     walk_passed (masks_of a.kind.masks) a.kind.depth a.s.now 0 a.n at cells c.requires.some (omega arith) values_are in
@@ -39,10 +40,10 @@ pub check_ragged-checked-requires : goal.check_ragged-checked-requires
 check_ragged-checked-requires c =
     let walk_is : walked (mask_form (masks_of c.args.kind.masks)) c.args.kind.depth c.args.s.now 0 c.args.n ≡ told c.walk_content-walk.result =
     sym c.walk_content-walk.ensures in
-    let at : ℕ = c.in-Values.at in
-    let cells : ℕ = c.in-Values.cells in
+    let at : ℕ = c.in-Oks.at in
+    let cells : ℕ = c.in-Oks.cells in
     let values_are : walked (mask_form (masks_of c.args.kind.masks)) c.args.kind.depth c.args.s.now 0 c.args.n ≡ gives (at, cells) =
-    walk_is ∙ ap told c.in-Values.is in
+    walk_is ∙ told_same c.in-Oks.is in
     let passed : WalkPassed (masks_of c.args.kind.masks) c.args.kind.depth c.args.s.now 0 c.args.n at cells =
     let a = c.args in
     walk_passed (masks_of a.kind.masks) a.kind.depth a.s.now 0 a.n at cells c.requires.some (omega arith) values_are in
@@ -53,10 +54,10 @@ write_nested-requires-in-Ok c =
     let deep : c.args.kind.depth ≢ 0 = c.if-depth-eq0.false in
     let walk_is : walked (mask_form (masks_of c.args.kind.masks)) c.args.kind.depth c.args.s.now 0 c.args.n ≡ told c.walk_content-walk.result =
     sym c.walk_content-walk.ensures in
-    let at : ℕ = c.in-Values.at in
-    let cells : ℕ = c.in-Values.cells in
+    let at : ℕ = c.in-Oks.at in
+    let cells : ℕ = c.in-Oks.cells in
     let values_are : walked (mask_form (masks_of c.args.kind.masks)) c.args.kind.depth c.args.s.now 0 c.args.n ≡ gives (at, cells) =
-    walk_is ∙ ap told c.in-Values.is in
+    walk_is ∙ told_same c.in-Oks.is in
     let passed : WalkPassed (masks_of c.args.kind.masks) c.args.kind.depth c.args.s.now 0 c.args.n at cells =
     let a = c.args in
     walk_passed (masks_of a.kind.masks) a.kind.depth a.s.now 0 a.n at cells c.requires.some (omega arith) values_are in
@@ -65,7 +66,7 @@ write_nested-requires-in-Ok c =
     let checked_is : let a = c.args in IndexChecked (width_of a.width) (place_of a.place) a.s.now at cells c.in-Ok.found =
     let a = c.args in
     index_checked (width_of a.width) (place_of a.place) a.s.now at cells c.in-Ok.found passed.inside
-    (check_is ∙ ap told c.in-Ok.is) in
+    (check_is ∙ told_same c.in-Ok.is) in
     let a = c.args in
     record { within = some_within c.requires (width_of a.width) passed checked_is; deep = omega (arith, deep) }
 
@@ -75,16 +76,16 @@ returns-in-Err c =
     sym c.walk_content-walk.ensures in
     let a = c.args in
     rw (ragged_refused (mask_form (masks_of a.kind.masks)) (width_of a.width) (place_of a.place) a.s.now a.kind.depth a.n c.requires.some _
-    (walk_is ∙ ap told c.in-Err.is))
+    (walk_is ∙ told_same c.in-Err.is))
 
 pub returns-then-cells-eq0 : goal.returns-then-cells-eq0
 returns-then-cells-eq0 c =
     let walk_is : walked (mask_form (masks_of c.args.kind.masks)) c.args.kind.depth c.args.s.now 0 c.args.n ≡ told c.walk_content-walk.result =
     sym c.walk_content-walk.ensures in
-    let at : ℕ = c.in-Values.at in
-    let cells : ℕ = c.in-Values.cells in
+    let at : ℕ = c.in-Oks.at in
+    let cells : ℕ = c.in-Oks.cells in
     let values_are : walked (mask_form (masks_of c.args.kind.masks)) c.args.kind.depth c.args.s.now 0 c.args.n ≡ gives (at, cells) =
-    walk_is ∙ ap told c.in-Values.is in
+    walk_is ∙ told_same c.in-Oks.is in
     let a = c.args in
     rw
     (ragged_none_set (mask_form (masks_of a.kind.masks)) (width_of a.width) (place_of a.place) a.s.now a.kind.depth a.n c.requires.some values_are
@@ -95,26 +96,26 @@ pub returns-in-Err-checked : goal.returns-in-Err-checked
 returns-in-Err-checked c =
     let walk_is : walked (mask_form (masks_of c.args.kind.masks)) c.args.kind.depth c.args.s.now 0 c.args.n ≡ told c.walk_content-walk.result =
     sym c.walk_content-walk.ensures in
-    let at : ℕ = c.in-Values.at in
-    let cells : ℕ = c.in-Values.cells in
+    let at : ℕ = c.in-Oks.at in
+    let cells : ℕ = c.in-Oks.cells in
     let values_are : walked (mask_form (masks_of c.args.kind.masks)) c.args.kind.depth c.args.s.now 0 c.args.n ≡ gives (at, cells) =
-    walk_is ∙ ap told c.in-Values.is in
+    walk_is ∙ told_same c.in-Oks.is in
     let check_is : let a = c.args in checked_in (width_of a.width) (place_of a.place) a.s.now at cells ≡ told c.check_ragged-checked.result =
     sym c.check_ragged-checked.ensures in
     let a = c.args in
     rw
     (ragged_wrong (mask_form (masks_of a.kind.masks)) (width_of a.width) (place_of a.place) a.s.now a.kind.depth a.n c.requires.some values_are
     (omega arith) _
-    (checked_refused (width_of a.width) (place_of a.place) a.s.now at cells _ (check_is ∙ ap told c.in-Err-checked.is)))
+    (checked_refused (width_of a.width) (place_of a.place) a.s.now at cells _ (check_is ∙ told_same c.in-Err-checked.is)))
 
 pub returns-in-Ok : goal.returns-in-Ok
 returns-in-Ok c =
     let walk_is : walked (mask_form (masks_of c.args.kind.masks)) c.args.kind.depth c.args.s.now 0 c.args.n ≡ told c.walk_content-walk.result =
     sym c.walk_content-walk.ensures in
-    let at : ℕ = c.in-Values.at in
-    let cells : ℕ = c.in-Values.cells in
+    let at : ℕ = c.in-Oks.at in
+    let cells : ℕ = c.in-Oks.cells in
     let values_are : walked (mask_form (masks_of c.args.kind.masks)) c.args.kind.depth c.args.s.now 0 c.args.n ≡ gives (at, cells) =
-    walk_is ∙ ap told c.in-Values.is in
+    walk_is ∙ told_same c.in-Oks.is in
     let passed : WalkPassed (masks_of c.args.kind.masks) c.args.kind.depth c.args.s.now 0 c.args.n at cells =
     let a = c.args in
     walk_passed (masks_of a.kind.masks) a.kind.depth a.s.now 0 a.n at cells c.requires.some (omega arith) values_are in
@@ -123,7 +124,7 @@ returns-in-Ok c =
     let checked_is : let a = c.args in IndexChecked (width_of a.width) (place_of a.place) a.s.now at cells c.in-Ok.found =
     let a = c.args in
     index_checked (width_of a.width) (place_of a.place) a.s.now at cells c.in-Ok.found passed.inside
-    (check_is ∙ ap told c.in-Ok.is) in
+    (check_is ∙ told_same c.in-Ok.is) in
     let a = c.args in
     rw
     (ragged_given (mask_form (masks_of a.kind.masks)) (width_of a.width) (place_of a.place) a.s.now a.kind.depth a.n c.requires.some values_are

@@ -5,6 +5,7 @@ use Prim.Native.Nat.{ℕ, ◌≤◌}
 use native.Mathlib.Omega.{arith}
 use Rattle.array.specs.Limits.{most_cells}
 use Rattle.array.specs.Meaning.{width_of, place_of, told}
+use Rattle.array.proofs.Answers.{told_same}
 use Rattle.codec.specs.Mask.{mask_form}
 use Rattle.stored_index.specs.Index.{checked_in}
 use Rattle.stored_index.proofs.CheckedIndex.{IndexChecked, index_checked, checked_refused}
@@ -17,7 +18,7 @@ write_flat-requires c =
     sym c.check_ragged-checked.ensures in
     let checked_is : let a = c.args in IndexChecked (width_of a.width) (place_of a.place) a.s.now 0 a.n c.in-Ok.found =
     let a = c.args in
-    index_checked (width_of a.width) (place_of a.place) a.s.now 0 a.n c.in-Ok.found (omega arith) (check_is ∙ ap told c.in-Ok.is) in
+    index_checked (width_of a.width) (place_of a.place) a.s.now 0 a.n c.in-Ok.found (omega arith) (check_is ∙ told_same c.in-Ok.is) in
     let checked = checked_is in
     (subst (λ (k : ℕ). k ≤ most_cells) (sym checked.cells_are) c.requires, checked.within)
 
@@ -28,7 +29,7 @@ returns-in-Err c =
     let a = c.args in
     λ x masks. rw
     (flat_is (mask_form x) (width_of a.width) (place_of a.place) a.s.now a.n
-    (checked_refused (width_of a.width) (place_of a.place) a.s.now 0 a.n _ (check_is ∙ ap told c.in-Err.is)))
+    (checked_refused (width_of a.width) (place_of a.place) a.s.now 0 a.n _ (check_is ∙ told_same c.in-Err.is)))
 
 pub returns-in-Ok : goal.returns-in-Ok
 returns-in-Ok c =
@@ -36,6 +37,6 @@ returns-in-Ok c =
     sym c.check_ragged-checked.ensures in
     let checked_is : let a = c.args in IndexChecked (width_of a.width) (place_of a.place) a.s.now 0 a.n c.in-Ok.found =
     let a = c.args in
-    index_checked (width_of a.width) (place_of a.place) a.s.now 0 a.n c.in-Ok.found (omega arith) (check_is ∙ ap told c.in-Ok.is) in
+    index_checked (width_of a.width) (place_of a.place) a.s.now 0 a.n c.in-Ok.found (omega arith) (check_is ∙ told_same c.in-Ok.is) in
     let a = c.args in
     λ x masks. rw (flat_is (mask_form x) (width_of a.width) (place_of a.place) a.s.now a.n checked_is.gave) (c.write_flat.ensures masks)

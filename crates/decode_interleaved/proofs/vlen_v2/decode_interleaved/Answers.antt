@@ -3,6 +3,7 @@
 use mathlib.Core.Path.{sym, ap, ◌∙◌}
 use native.Mathlib.Omega.{arith}
 use Rattle.array.specs.Limits.{most_cells}
+use Rattle.array.proofs.Answers.{told_same}
 use Rattle.decode_interleaved.proofs.Outcomes.{many_cells, other_count, past_end, walk_found, all_found}
 use Rattle.decode_interleaved.proofs.vlen_v2.decode_interleaved.Goals as goal
 use Rattle.array.specs.Meaning.{told}
@@ -17,16 +18,16 @@ returns-then-le4_at-cells c = other_count _ _ _ c.if-cells-gt-MOST_CELLS.false (
 
 pub write_cells-requires : goal.write_cells-requires
 unfolding most_cells
-write_cells-requires c = walk_found _ _ _ c.if-cells-gt-MOST_CELLS.false (sym (ap told c.in-Ok.is) ∙ c.walk_cells-walk.ensures)
+write_cells-requires c = walk_found _ _ _ c.if-cells-gt-MOST_CELLS.false (sym (told_same c.in-Ok.is) ∙ c.walk_cells-walk.ensures)
 
 pub returns-in-Err : goal.returns-in-Err
 unfolding most_cells
 returns-in-Err c =
     past_end _ _ _ c.if-cells-gt-MOST_CELLS.false (omega arith) (sym c.le4_at.ensures ∙ c.if-le4_at-cells.false) _
-    (sym (ap told c.in-Err.is) ∙ c.walk_cells-walk.ensures)
+    (sym (told_same c.in-Err.is) ∙ c.walk_cells-walk.ensures)
 
 pub returns-in-Ok : goal.returns-in-Ok
 unfolding most_cells
 returns-in-Ok c =
     all_found _ _ _ c.if-cells-gt-MOST_CELLS.false (omega arith) (sym c.le4_at.ensures ∙ c.if-le4_at-cells.false) _
-    (sym (ap told c.in-Ok.is) ∙ c.walk_cells-walk.ensures) c.write_cells.ensures
+    (sym (told_same c.in-Ok.is) ∙ c.walk_cells-walk.ensures) c.write_cells.ensures

@@ -8,6 +8,7 @@ use Rattle.array.specs.Limits.{most_cells}
 use Rattle.array.specs.Meaning.{kind_of, told}
 use Rattle.array.specs.Outcome.{content_array}
 use Rattle.array.specs.Content.{Content}
+use Rattle.array.proofs.Answers.{told_same}
 use Rattle.valid.specs.ShapeCells.{shape_answer}
 use Rattle.valid.proofs.ShapeLaws.{counted}
 use Rattle.codec.specs.Interleaved.{interleaved_test}
@@ -25,7 +26,7 @@ returns-in_default c =
     let content : Content = content_array c.args.masks.now c.args.values.now c.args.offsets.now in
     let sound : interleaved_test (kind_of c.args.kind) ≡ true = sym c.is_interleaved.ensures ∙ not-false c.is_interleaved.result c.if-not-is_interleaved.false-raw in
     write_shape (kind_of c.args.kind) c.args.shape.now content c.args.out.now sound
-    (sym (ap told c.in_default.is) ∙ c.shape_cells.ensures)
+    (sym (told_same c.in_default.is) ∙ c.shape_cells.ensures)
 
 pub encode_one-requires : goal.encode_one-requires
 encode_one-requires c =
@@ -36,7 +37,7 @@ pub returns-then-cells-eq1 : goal.returns-then-cells-eq1
 returns-then-cells-eq1 c =
     let content : Content = content_array c.args.masks.now c.args.values.now c.args.offsets.now in
     let sound : interleaved_test (kind_of c.args.kind) ≡ true = sym c.is_interleaved.ensures ∙ not-false c.is_interleaved.result c.if-not-is_interleaved.false-raw in
-    let shaped : gives c.in-Ok.cells ≡ shape_answer c.args.shape.now = sym (ap told c.in-Ok.is) ∙ c.shape_cells.ensures in
+    let shaped : gives c.in-Ok.cells ≡ shape_answer c.args.shape.now = sym (told_same c.in-Ok.is) ∙ c.shape_cells.ensures in
     c.encode_one.ensures
     ∙ write_past (kind_of c.args.kind) c.args.shape.now content c.args.out.now sound
     (ap gives (sym c.if-cells-eq1.true) ∙ shaped)
@@ -45,13 +46,13 @@ pub encode_cells-requires : goal.encode_cells-requires
 unfolding most_cells
 encode_cells-requires c =
     let sound : interleaved_test (kind_of c.args.kind) ≡ true = sym c.is_interleaved.ensures ∙ not-false c.is_interleaved.result c.if-not-is_interleaved.false-raw in
-    let shaped : gives c.in-Ok.cells ≡ shape_answer c.args.shape.now = sym (ap told c.in-Ok.is) ∙ c.shape_cells.ensures in
+    let shaped : gives c.in-Ok.cells ≡ shape_answer c.args.shape.now = sym (told_same c.in-Ok.is) ∙ c.shape_cells.ensures in
     (sound, (counted c.args.shape.now c.in-Ok.cells shaped).few)
 
 pub returns : goal.returns
 returns c =
     let content : Content = content_array c.args.masks.now c.args.values.now c.args.offsets.now in
     let sound : interleaved_test (kind_of c.args.kind) ≡ true = sym c.is_interleaved.ensures ∙ not-false c.is_interleaved.result c.if-not-is_interleaved.false-raw in
-    let shaped : gives c.in-Ok.cells ≡ shape_answer c.args.shape.now = sym (ap told c.in-Ok.is) ∙ c.shape_cells.ensures in
+    let shaped : gives c.in-Ok.cells ≡ shape_answer c.args.shape.now = sym (told_same c.in-Ok.is) ∙ c.shape_cells.ensures in
     c.encode_cells.ensures
     ∙ write_past (kind_of c.args.kind) c.args.shape.now content c.args.out.now sound shaped
