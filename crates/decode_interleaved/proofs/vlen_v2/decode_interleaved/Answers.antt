@@ -1,5 +1,6 @@
 -- `interleaved::vlen_v2::decode_interleaved` meets its contract, by the laws of Outcomes: one for each refusal, and one for the cells that the walk found.
 -- Assumes nothing.
+use Rattle.std.proofs.lemmas.Result.{err_from_is_err_and}
 use mathlib.Core.Path.{sym, ap, ◌∙◌}
 use native.Mathlib.Omega.{arith}
 use Rattle.array.specs.Limits.{most_cells}
@@ -18,16 +19,18 @@ returns-then-le4_at-cells c = other_count _ _ _ c.if-cells-gt-MOST_CELLS.false (
 
 pub write_cells-requires : goal.write_cells-requires
 unfolding most_cells
-write_cells-requires c = walk_found _ _ _ c.if-cells-gt-MOST_CELLS.false (sym (told_same c.in-Ok.is) ∙ c.walk_cells-walk.ensures)
+write_cells-requires c = walk_found _ _ _ c.if-cells-gt-MOST_CELLS.false (sym (told_same c.in_ok-sum.was) ∙ c.walk_cells.ensures)
 
-pub returns-in-Err : goal.returns-in-Err
+pub returns-in_err-sum : goal.returns-in_err-sum
 unfolding most_cells
-returns-in-Err c =
-    past_end _ _ _ c.if-cells-gt-MOST_CELLS.false (omega arith) (sym c.le4_at.ensures ∙ c.if-le4_at-cells.false) _
-    (sym (told_same c.in-Err.is) ∙ c.walk_cells-walk.ensures)
+returns-in_err-sum c =
+    let p = err_from_is_err_and c.from_residual.result c.from_residual.ensures.1 in
+    rw (p.1, p.2)
+    (past_end _ _ _ c.if-cells-gt-MOST_CELLS.false (omega arith) (sym c.le4_at.ensures ∙ c.if-le4_at-cells.false) _
+    (sym (told_same c.in_err-sum.was) ∙ c.walk_cells.ensures))
 
-pub returns-in-Ok : goal.returns-in-Ok
+pub returns : goal.returns
 unfolding most_cells
-returns-in-Ok c =
+returns c =
     all_found _ _ _ c.if-cells-gt-MOST_CELLS.false (omega arith) (sym c.le4_at.ensures ∙ c.if-le4_at-cells.false) _
-    (sym (told_same c.in-Ok.is) ∙ c.walk_cells-walk.ensures) c.write_cells.ensures
+    (sym (told_same c.in_ok-sum.was) ∙ c.walk_cells.ensures) c.write_cells.ensures
