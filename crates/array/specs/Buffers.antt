@@ -3,7 +3,6 @@
 use Rattle.std.specs.Prelude.{ℕ, ◌≤◌, Bool, ◌&&◌, List, ◌++◌, length, take, drop, leb}
 use Rattle.array.specs.Answer.{Answer, gives, refuses, and_then, unless, map_answer, Outcome}
 use Rattle.array.specs.Content.{Content, RaggedContent}
-
 -- ---- lengths: of what was written, or of the outputs lent for it
 
 use Rattle.array.specs.declared.answer.Lengths.{Lengths}

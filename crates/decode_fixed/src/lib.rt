@@ -61,7 +61,11 @@ fn write_fixed(
     }
     place_planes(form, masks, n, depth, s);
     spread_values(values, masks, planes - n, n, s, at, size, order, cells);
-    Ok(Lengths { masks: planes, values: bytes, offsets: 0 })
+    Ok(Lengths {
+        masks: planes,
+        values: bytes,
+        offsets: 0,
+    })
 }
 
 // Writes the values that the walk found, if the stored bytes end with them.

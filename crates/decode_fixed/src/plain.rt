@@ -34,5 +34,9 @@ pub fn read_plain(
         return Err(Refusal::Output);
     }
     copy_cells(values, 0, s, 0, size, order, n);
-    Ok(Lengths { masks: 0, values: bytes, offsets: 0 })
+    Ok(Lengths {
+        masks: 0,
+        values: bytes,
+        offsets: 0,
+    })
 }

@@ -49,7 +49,11 @@ fn write_flat(
     }
     copy_many(values, 0, s, from, bytes);
     copy_offsets(offsets, s, index, n, width);
-    Ok(Lengths { masks: 0, values: bytes, offsets: count })
+    Ok(Lengths {
+        masks: 0,
+        values: bytes,
+        offsets: count,
+    })
 }
 
 // Values below masks: the stored bytes, and the ends of the set cells.
@@ -90,7 +94,11 @@ fn write_nested(
     place_planes(form, masks, n, depth, s);
     copy_many(values, 0, s, from, bytes);
     spread_offsets(offsets, masks, planes - n, n, s, index, width, cells, last);
-    Ok(Lengths { masks: planes, values: bytes, offsets: count })
+    Ok(Lengths {
+        masks: planes,
+        values: bytes,
+        offsets: count,
+    })
 }
 
 // Reads n ragged values with no mask: there is nothing to walk.

@@ -89,5 +89,9 @@ pub fn make_fixed(
         return Err(Refusal::Output);
     }
     draw_cells(first, depth, n, size, masks, values);
-    Ok(Lengths { masks: planes, values: bytes, offsets: 0 })
+    Ok(Lengths {
+        masks: planes,
+        values: bytes,
+        offsets: 0,
+    })
 }

@@ -161,5 +161,9 @@ pub fn make_ragged(
         return Err(Refusal::Output);
     }
     let bytes = draw_cells(first, depth, n, masks, values, offsets);
-    Ok(Lengths { masks: planes, values: bytes, offsets: count })
+    Ok(Lengths {
+        masks: planes,
+        values: bytes,
+        offsets: count,
+    })
 }

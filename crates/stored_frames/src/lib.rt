@@ -41,7 +41,13 @@ pub fn open_frame(form: MaskForm, s: &[u8], at: usize, cells: usize) -> Result<u
 
 // Walks a content of so many cells: the values, or a frame again.
 #[cycle(walk_content_walk_frame)]
-pub fn walk_content(form: MaskForm, s: &[u8], at: usize, cells: usize, depth: usize) -> Result<(usize, usize), Refusal>
+pub fn walk_content(
+    form: MaskForm,
+    s: &[u8],
+    at: usize,
+    cells: usize,
+    depth: usize,
+) -> Result<(usize, usize), Refusal>
     requires { (at ≤ length s.now) × (cells ≤ most_cells) }
     ensures { told result ≡ walked (mask_form (masks_of form)) depth s.now at cells }
 {
@@ -54,7 +60,13 @@ pub fn walk_content(form: MaskForm, s: &[u8], at: usize, cells: usize, depth: us
 
 // Walks a frame of so many cells, with `below` levels in its content. Where none is set its content must be empty.
 #[cycle(walk_content_walk_frame)]
-pub fn walk_frame(form: MaskForm, s: &[u8], at: usize, cells: usize, below: usize) -> Result<(usize, usize), Refusal>
+pub fn walk_frame(
+    form: MaskForm,
+    s: &[u8],
+    at: usize,
+    cells: usize,
+    below: usize,
+) -> Result<(usize, usize), Refusal>
     requires { (at ≤ length s.now) × (cells ≤ most_cells) }
     ensures { told result ≡ walked_frame (mask_form (masks_of form)) below s.now at cells }
 {

@@ -1,6 +1,6 @@
 -- `decode` meets its contract: the stages in the order of docs/SPEC.md, S7.2 (Stages).
 -- Assumes nothing.
-use mathlib.Core.Path.{sym, ap, subst}
+use mathlib.Core.Path.{sym, ap, ◌∙◌, subst}
 use Rattle.std.proofs.lemmas.Result.{err_from_is_err_and}
 use Rattle.array.specs.Kind.{FormOk}
 use Rattle.array.specs.Meaning.{kind_of, form_of}
@@ -31,9 +31,16 @@ decode_ragged-requires c =
 
 pub returns-in-Fixed : goal.returns-in-Fixed
 returns-in-Fixed c =
-    rw (by_reading _ _ _ _ _ c.args.offsets.now (sym c.if-not-check_kind.ensures) (counted _ _ c.in_ok-n.ensures) (ap form_of c.in-Fixed.is))
-    (c.decode_fixed.ensures c.args.offsets.now)
+    let a = c.args in
+    c.decode_fixed.ensures a.offsets.now
+    ∙ sym
+    (by_reading (kind_of a.kind) a.shape.now a.bytes.now a.masks.now a.values.now a.offsets.now (sym c.if-not-check_kind.ensures) (counted _ _ c.in_ok-n.ensures)
+    (ap form_of c.in-Fixed.is))
 
 pub returns-in-Ragged : goal.returns-in-Ragged
 returns-in-Ragged c =
-    rw (by_reading _ _ _ _ _ _ (sym c.if-not-check_kind.ensures) (counted _ _ c.in_ok-n.ensures) (ap form_of c.in-Ragged.is)) c.decode_ragged.ensures
+    let a = c.args in
+    c.decode_ragged.ensures
+    ∙ sym
+    (by_reading (kind_of a.kind) a.shape.now a.bytes.now a.masks.now a.values.now a.offsets.now (sym c.if-not-check_kind.ensures) (counted _ _ c.in_ok-n.ensures)
+    (ap form_of c.in-Ragged.is))

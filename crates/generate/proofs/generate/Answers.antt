@@ -1,10 +1,11 @@
 -- `generate` meets its contract: the stages in their order (Stages).
 -- Assumes nothing.
-use mathlib.Core.Path.{refl, sym, ap, subst}
+use mathlib.Core.Path.{refl, sym, ap, ◌∙◌, subst}
 use Rattle.std.proofs.lemmas.Result.{err_from_is_err_and}
 use Rattle.array.specs.Limits.{most_cells}
 use Rattle.array.specs.Kind.{Form, FormOk}
 use Rattle.array.specs.Meaning.{kind_of, form_of}
+use Rattle.array.specs.Outcome.{content_array}
 use Rattle.array.proofs.Rules.{kind_ok}
 use Rattle.valid.proofs.ShapeLaws.{counted}
 use Rattle.load.specs.Law.{SameSize}
@@ -35,10 +36,16 @@ make_ragged-requires c =
 pub returns-in-Fixed : goal.returns-in-Fixed
 returns-in-Fixed c =
     let form = sized c.in-Fixed.size in
-    let same = subst (λ (f : Form). SameSize f form) (sym (ap form_of c.in-Fixed.is)) refl in
-    rw (by_cells _ _ _ _ (sym c.if-not-check_kind.ensures) (counted _ _ c.in_ok-n.ensures) form same) (c.make_fixed.ensures c.args.offsets.now)
+    let same : SameSize (form_of c.args.kind.values) form = subst (λ (f : Form). SameSize f form) (sym (ap form_of c.in-Fixed.is)) refl in
+    let a = c.args in
+    let lent = content_array a.masks.now a.values.now a.offsets.now in
+    c.make_fixed.ensures a.offsets.now
+    ∙ sym (by_cells (kind_of a.kind) a.shape.now a.start lent (sym c.if-not-check_kind.ensures) (counted _ _ c.in_ok-n.ensures) form same)
 
 pub returns-in-Ragged : goal.returns-in-Ragged
 returns-in-Ragged c =
-    let same = subst (λ (f : Form). SameSize f lengthy) (sym (ap form_of c.in-Ragged.is)) tt in
-    rw (by_cells _ _ _ _ (sym c.if-not-check_kind.ensures) (counted _ _ c.in_ok-n.ensures) lengthy same) c.make_ragged.ensures
+    let same : SameSize (form_of c.args.kind.values) lengthy = subst (λ (f : Form). SameSize f lengthy) (sym (ap form_of c.in-Ragged.is)) tt in
+    let a = c.args in
+    let lent = content_array a.masks.now a.values.now a.offsets.now in
+    c.make_ragged.ensures
+    ∙ sym (by_cells (kind_of a.kind) a.shape.now a.start lent (sym c.if-not-check_kind.ensures) (counted _ _ c.in_ok-n.ensures) lengthy same)
