@@ -2,6 +2,7 @@
 -- Assumes nothing.
 use mathlib.Core.Path.{sym, ap, ◌∙◌, subst}
 use Rattle.std.proofs.lemmas.Result.{err_from_is_err_and}
+use Rattle.array.specs.Limits.{most_cells}
 use Rattle.array.specs.Kind.{FormOk}
 use Rattle.array.specs.Meaning.{kind_of, form_of}
 use Rattle.array.proofs.Rules.{kind_ok}
@@ -18,12 +19,14 @@ returns-in_err-n c =
     rw (p.1, p.2) (by_shape _ _ _ _ _ _ (sym c.if-not-check_kind.ensures) c.in_err-n.ensures)
 
 pub decode_fixed-requires : goal.decode_fixed-requires
+unfolding most_cells
 decode_fixed-requires c =
     let sound = kind_ok (kind_of c.args.kind) (sym c.if-not-check_kind.ensures) in
     let n = counted _ _ c.in_ok-n.ensures in
     (record { some = n.some; few = n.few; shallow = sound.shallow }, (subst FormOk (ap form_of c.in-Fixed.is) sound.sound).1)
 
 pub decode_ragged-requires : goal.decode_ragged-requires
+unfolding most_cells
 decode_ragged-requires c =
     let sound = kind_ok (kind_of c.args.kind) (sym c.if-not-check_kind.ensures) in
     let n = counted _ _ c.in_ok-n.ensures in

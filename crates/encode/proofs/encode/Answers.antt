@@ -1,6 +1,7 @@
 -- `encode::encode` meets its contract: each way it ends has a law.
 -- Assumes nothing.
-use mathlib.Core.Path.{◌≡◌, sym, ◌∙◌}
+use mathlib.Core.Path.{refl, sym, ◌∙◌}
+use Rattle.std.specs.Prelude.{Ok, Err}
 use Rattle.std.proofs.lemmas.Result.{err_from_is_err_and}
 use Rattle.array.specs.Limits.{most_cells}
 use Rattle.valid.proofs.ShapeLaws.{counted}
@@ -23,13 +24,13 @@ pub returns-in_err-check_array : goal.returns-in_err-check_array
 returns-in_err-check_array c =
     let p = err_from_is_err_and c.from_residual-in_err-check_array.result c.from_residual-in_err-check_array.ensures.1 in
     rw (p.1, p.2)
-    (encode_content _ _ _ _ (sym c.if-not-check_kind.ensures) c.in_ok-cells.ensures c.check_array.result c.check_array.ensures c.in_err-check_array.was)
+    (encode_content _ _ _ _ (sym c.if-not-check_kind.ensures) c.in_ok-cells.ensures (Err c.in_err-check_array.field-0.0) c.in_err-check_array.ensures refl)
 
 pub encode_valid-requires : goal.encode_valid-requires
 encode_valid-requires c =
-    encode_encodable _ _ _ c.args.out.now (sym c.if-not-check_kind.ensures) c.in_ok-cells.ensures c.check_array.result c.check_array.ensures c.in_ok-check_array.was
+    encode_encodable _ _ _ c.args.out.now (sym c.if-not-check_kind.ensures) c.in_ok-cells.ensures (Ok tt) c.in_ok-check_array.ensures refl
 
 pub returns : goal.returns
 returns c =
     c.encode_valid.ensures
-    ∙ encode_rest _ _ _ _ (sym c.if-not-check_kind.ensures) c.in_ok-cells.ensures c.check_array.result c.check_array.ensures c.in_ok-check_array.was
+    ∙ encode_rest _ _ _ _ (sym c.if-not-check_kind.ensures) c.in_ok-cells.ensures (Ok tt) c.in_ok-check_array.ensures refl

@@ -1,6 +1,6 @@
 -- `interleaved::vlen_v2::walk_cells` meets its contract, by the laws of Walking.
 -- Assumes nothing.
-use mathlib.Core.Path.{◌≡◌, sym, ap, ◌∙◌}
+use mathlib.Core.Path.{◌≡◌, sym, ◌∙◌}
 use Prim.Native.Nat.{◌-◌, ◌≤◌}
 use native.Mathlib.Omega.{arith}
 use lib.ListN.{length}
@@ -9,7 +9,6 @@ use Rattle.buffer.proofs.Fields.{field_value, field_refused}
 use Rattle.decode_interleaved.proofs.Steps.{length_at}
 use Rattle.decode_interleaved.proofs.Loops.{walk_begins, walk_ends, walk_field_past, walk_cell_past, walk_more, walk_none}
 use Rattle.decode_interleaved.proofs.vlen_v2.walk_cells.Goals as goal
-use Rattle.array.specs.Meaning.{told}
 
 pub loop-left-init : goal.loop-left-init
 loop-left-init c = walk_begins _ _

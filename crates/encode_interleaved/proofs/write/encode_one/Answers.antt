@@ -1,8 +1,9 @@
 -- `interleaved::write::encode_one` meets its contract, by the laws of Writes.
 -- Assumes nothing.
-use mathlib.Core.Path.{ap, ◌∙◌}
+use mathlib.Core.Path.{refl, ap, ◌∙◌}
 use mathlib.Core.List.{List}
 use native.Mathlib.Omega.{arith}
+use Rattle.std.specs.Prelude.{Ok, Err}
 use Rattle.std.proofs.lemmas.Result.{err_from_is_err_and}
 use Rattle.array.specs.Limits.{most_cells}
 use Rattle.array.specs.Buffers.{put_list}
@@ -23,21 +24,21 @@ unfolding most_cells
 write_one-requires c =
     let a = c.args in
     let content = content_array a.masks.now a.values.now a.offsets.now in
-    (write_held (kind_of a.kind) 1 content a.out.now c.check_array.ensures c.requires c.in_ok-check_array.was (omega arith)).small
+    (write_held (kind_of a.kind) 1 content a.out.now {r = Ok tt} c.in_ok-check_array.ensures c.requires refl (omega arith)).small
 
 pub returns-in_err-check_array : goal.returns-in_err-check_array
 returns-in_err-check_array c =
     let a = c.args in
     let content = content_array a.masks.now a.values.now a.offsets.now in
     let p = err_from_is_err_and c.from_residual.result c.from_residual.ensures.1 in
-    rw (p.1, p.2) (write_content (kind_of a.kind) 1 content a.out.now c.check_array.ensures c.in_err-check_array.was)
+    rw (p.1, p.2) (write_content (kind_of a.kind) 1 content a.out.now {r = Err c.in_err-check_array.field-0.0} c.in_err-check_array.ensures refl)
 
 pub returns : goal.returns
 unfolding most_cells
 returns c =
     let a = c.args in
     let content = content_array a.masks.now a.values.now a.offsets.now in
-    let held = write_held (kind_of a.kind) 1 content a.out.now c.check_array.ensures c.requires c.in_ok-check_array.was (omega arith) in
+    let held = write_held (kind_of a.kind) 1 content a.out.now {r = Ok tt} c.in_ok-check_array.ensures c.requires refl (omega arith) in
     c.write_one.ensures
     ∙ ap (λ (vs : List Value). put_list (put_interleaved vs) a.out.now) (one_cell held)
-    ∙ write_rest (kind_of a.kind) 1 content a.out.now c.check_array.ensures c.requires c.in_ok-check_array.was
+    ∙ write_rest (kind_of a.kind) 1 content a.out.now {r = Ok tt} c.in_ok-check_array.ensures c.requires refl
