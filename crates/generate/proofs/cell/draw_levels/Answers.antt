@@ -1,10 +1,7 @@
 -- `cell::draw_levels` meets its contract, by the laws of Drawing.
 -- Assumes nothing.
-use Rattle.generate.proofs.Drawing.{climb_begins, climb_null, climb_more, climb_ends}
+use Rattle.generate.proofs.Drawing.{climb_null, climb_more, climb_ends}
 use Rattle.generate.proofs.cell.draw_levels.Goals as goal
-
-pub loop-set-init : goal.loop-set-init
-loop-set-init c = climb_begins c.args.depth c.args.first.state
 
 pub returns-then-drawn-eq0 : goal.returns-then-drawn-eq0
 returns-then-drawn-eq0 c = climb_null c.loop-set.invariant c.draw-drawn.ensures c.loop-set-test.true c.if-drawn-eq0.true

@@ -1,10 +1,7 @@
 -- `cell::skip_bytes` meets its contract, by the laws of Drawing.
 -- Assumes nothing.
-use Rattle.generate.proofs.Drawing.{skip_begins, skip_more, skip_ends}
+use Rattle.generate.proofs.Drawing.{skip_more, skip_ends}
 use Rattle.generate.proofs.cell.skip_bytes.Goals as goal
-
-pub loop-i-init : goal.loop-i-init
-loop-i-init c = skip_begins _ _
 
 pub loop-i-preserved : goal.loop-i-preserved
 loop-i-preserved c = skip_more c.loop-i.invariant c.draw-drawn.ensures c.loop-i-test.true

@@ -4,12 +4,8 @@ use mathlib.Core.Path.{ap}
 use Prim.Native.Nat.{ℕ}
 use native.Mathlib.Omega.{arith}
 use Rattle.load.specs.Generator.{Drew}
-use Rattle.generate.specs.Cells.{lengthy}
-use Rattle.generate.proofs.Making.{count_begins, count_fits, count_more, count-ends, ragged_small}
+use Rattle.generate.proofs.Making.{count_fits, count_more, count-ends, ragged_small}
 use Rattle.generate.proofs.ragged.count_bytes.Goals as goal
-
-pub loop-at-init : goal.loop-at-init
-loop-at-init c = count_begins lengthy _ _ _
 
 pub overflow_add-sum : goal.overflow_add-sum
 overflow_add-sum c =
