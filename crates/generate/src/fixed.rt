@@ -57,11 +57,9 @@ fn draw_cells(
 {
     fill_bytes(masks, 0, depth * n, 0);
     let mut g = first;
-    let mut at: usize = 0;
     let mut to: usize = 0;
-    while at < n {
+    for at in 0..n {
         g = draw_cell(g, depth, n, at, size, to, masks, values);
-        at += 1;
         to += size;
     }
 }

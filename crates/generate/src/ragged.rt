@@ -94,16 +94,14 @@ fn draw_cells(
 {
     fill_bytes(masks, 0, depth * n, 0);
     let mut g = first;
-    let mut at: usize = 0;
     let mut to: usize = 0;
-    while at < n {
+    for at in 0..n {
         offsets[at] = to as u64;
         let value = draw_cell(g, depth, n, at, to, masks, values);
         g = value.next;
-        at += 1;
         to += value.bytes;
     }
-    offsets[at] = to as u64;
+    offsets[n] = to as u64;
     to
 }
 
@@ -113,12 +111,10 @@ fn count_bytes(first: Generator, depth: usize, n: usize) -> usize
     ensures { result ≡ bytes_from lengthy depth n first.state }
 {
     let mut g = first;
-    let mut at: usize = 0;
     let mut sum: usize = 0;
-    while at < n {
+    for _ in 0..n {
         let value = skip_cell(g, depth);
         g = value.next;
-        at += 1;
         sum += value.bytes;
     }
     sum

@@ -12,9 +12,9 @@ unfolding draw_bytes
 loop-i-init c = store_begins _ _ _ _ c.requires.0
 
 pub loop-i-preserved : goal.loop-i-preserved
-loop-i-preserved c = store_ahead c.loop-i.invariant c.loop-i-test.true c.state_after.ensures
+loop-i-preserved c = store_ahead c.loop-i.invariant (omega arith) c.state_after.ensures
 
 pub returns : goal.returns
 returns c =
     let all : c.args.n - 1 + 1 ≡ c.args.n = omega (arith, c.requires.1) in
-    record { draws = c.state_after-2.ensures ∙ ap (λ (j : ℕ). (draw_bytes j c.args.first.state).state) all; stores = store_ends c.loop-i.invariant c.loop-i-test.false }
+    record { draws = c.state_after-2.ensures ∙ ap (λ (j : ℕ). (draw_bytes j c.args.first.state).state) all; stores = store_ends c.loop-i.invariant (omega arith) }

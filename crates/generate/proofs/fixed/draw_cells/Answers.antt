@@ -22,14 +22,14 @@ pub draw_cell-g-requires : goal.draw_cell-g-requires
 draw_cell-g-requires c =
     let size_of : let a = c.args in length (leaf a.depth (draw_cell (sized a.size) a.depth c.loop-at.g.state).made) ≡ a.size = let a =
     c.args in (drawn_cell (sized a.size) a.depth c.loop-at.g.state).value.sized in
-    let room : c.loop-at.to + c.args.size ≤ length c.loop-at.values = omega (arith, make_room c.loop-at.invariant c.loop-at-test.true, size_of) in
-    (make_column c.loop-at.invariant c.requires.0 c.loop-at-test.true, room)
+    let room : c.loop-at.to + c.args.size ≤ length c.loop-at.values = omega (arith, make_room c.loop-at.invariant (omega arith), size_of) in
+    (make_column c.loop-at.invariant c.requires.0 (omega arith), room)
 
 pub loop-at-preserved : goal.loop-at-preserved
 loop-at-preserved c =
     let size_of : let a = c.args in length (leaf a.depth (draw_cell (sized a.size) a.depth c.loop-at.g.state).made) ≡ a.size = let a =
     c.args in (drawn_cell (sized a.size) a.depth c.loop-at.g.state).value.sized in
-    make_more c.loop-at.invariant c.loop-at-test.true c.draw_cell-g.ensures.marks c.draw_cell-g.ensures.stores (sym size_of) c.draw_cell-g.ensures.draws
+    make_more c.loop-at.invariant (omega arith) c.draw_cell-g.ensures.marks c.draw_cell-g.ensures.stores (sym size_of) c.draw_cell-g.ensures.draws
 
 pub returns : goal.returns
 returns c =

@@ -22,14 +22,14 @@ loop-at-init c =
 pub draw_cell-value-requires : goal.draw_cell-value-requires
 draw_cell-value-requires c =
     let inv = c.loop-at.invariant.0 in
-    (make_column inv c.requires.0 c.loop-at-test.true, make_room inv c.loop-at-test.true)
+    (make_column inv c.requires.0 (omega arith), make_room inv (omega arith))
 
 pub loop-at-preserved : goal.loop-at-preserved
 loop-at-preserved c =
     let bytes = ap (λ (r : Drew ℕ). r.made) c.draw_cell-value.ensures.draws in
     let state = ap (λ (r : Drew ℕ). r.state) c.draw_cell-value.ensures.draws in (
-      make_more c.loop-at.invariant.0 c.loop-at-test.true c.draw_cell-value.ensures.marks c.draw_cell-value.ensures.stores bytes state,
-      place_more c.loop-at.invariant.1 c.loop-at-test.true bytes state,
+      make_more c.loop-at.invariant.0 (omega arith) c.draw_cell-value.ensures.marks c.draw_cell-value.ensures.stores bytes state,
+      place_more c.loop-at.invariant.1 (omega arith) bytes state,
     )
 
 pub returns : goal.returns
@@ -37,4 +37,4 @@ returns c =
     let inv = c.loop-at.invariant in
     let end = c.loop-at-test.false in
     let masks = make_masks inv.0 end c.args.masks.now c.fill_bytes.ensures c.requires.1.for_masks in
-    record { counts = count-ends inv.0.counted end; planes = masks; joins = make_values inv.0 end; places = place_ends inv.1 end }
+    record { counts = count-ends inv.0.counted end; planes = masks; joins = make_values inv.0 end; places = place_ends inv.1 (omega arith) }
