@@ -3,7 +3,7 @@
 -- of values, and mf is how the masks lie.
 -- Assumes nothing.
 use Rattle.std.specs.Prelude.{ℕ, zero, suc, ◌+◌, ◌-◌, List, length, take, drop, leb, eqb}
-use Rattle.array.specs.Answer.{Answer, gives, refuses, unless, and_then}
+use Rattle.array.specs.Answer.{Answer, gives, unless, and_then}
 use Rattle.array.specs.Bytes.{unle}
 use Rattle.codec.specs.Mask.{MaskForm}
 use Rattle.codec.specs.MaskAt.{stored_mask}

@@ -1,10 +1,10 @@
 -- `open_frame` meets its contract: each answer by the fields that were read (Opening).
 -- Assumes nothing.
-use mathlib.Core.Path.{sym, ap, ◌∙◌}
+use mathlib.Core.Path.{sym, ◌∙◌}
 use mathlib.Core.List.{List}
 use Prim.Native.Nat.{ℕ}
 use native.Mathlib.Omega.{arith}
-use Rattle.array.specs.Meaning.{masks_of, told}
+use Rattle.array.specs.Meaning.{masks_of}
 use Rattle.array.proofs.Answers.{told_same}
 use Rattle.codec.specs.Mask.{MaskForm, mask_form}
 use Rattle.stored_frames.proofs.Opening.{short_first, short_second, Fields, fields_read, by_mask, by_total, by_count}
