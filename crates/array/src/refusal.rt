@@ -2,6 +2,9 @@
 ghost use Rattle.std.specs.Prelude.{◌≡◌};
 ghost use Rattle.array.specs.Meaning.{number_of};
 
+use std::error::Error;
+use std::fmt;
+
 #[derive(Clone, Copy, Debug, PartialEq, Eq, Hash)]
 pub enum Refusal {
     // Whoever describes the table.
@@ -83,3 +86,30 @@ impl Refusal {
         }
     }
 }
+
+impl fmt::Display for Refusal {
+    fn fmt<W: fmt::Write>(&self, f: &mut fmt::Formatter<W>) -> fmt::Result {
+        f.write_str(match self {
+            Refusal::Kind => "a field of the kind is outside its range",
+            Refusal::Shape => "the shape is outside the rules",
+            Refusal::Subset => "a subset does not lie within the shape",
+            Refusal::NoMasks => "the kind has no masks",
+            Refusal::Content => "masks, values, offsets or chunks do not keep the rules",
+            Refusal::Size => "there are too many value bytes",
+            Refusal::Cover => "the subsets do not cover the shape once",
+            Refusal::Output => "an output is shorter than the result",
+            Refusal::Short => "the stored bytes are too few for their fields",
+            Refusal::Length => "a stored length disagrees",
+            Refusal::Count => "the stored count differs",
+            Refusal::Falling => "the stored offsets fall, or begin above 0",
+            Refusal::PastEnd => "a stored length or cell runs past the end",
+            Refusal::UnusedBits => "an unused bit of a stored mask is set",
+            Refusal::MaskByte => "a stored mask byte is over 01",
+            Refusal::Cell => "the table has no such cell",
+            Refusal::Full => "the store is full",
+            Refusal::Hidden => "the cell is hidden",
+        })
+    }
+}
+
+impl Error for Refusal {}
