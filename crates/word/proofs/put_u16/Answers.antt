@@ -1,13 +1,8 @@
 -- `word::put_u16`: two stores are the two bytes laid over the output (Unrolled).
 -- Assumes nothing.
-use native.Mathlib.Omega.{arith}
-use lib.ListN.{length-set}
 use Rattle.array.specs.Bytes.{le}
 use Rattle.buffer.proofs.Unrolled.{stores_over}
 use Rattle.word.proofs.put_u16.Goals as goal
-
-pub bounds-out-at-2 : goal.bounds-out-at-2
-bounds-out-at-2 c = simp length-set (omega arith)
 
 pub returns : goal.returns
 unfolding le
