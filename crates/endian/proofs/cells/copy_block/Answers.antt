@@ -5,12 +5,8 @@ use Prim.Native.Nat.{ℕ, ◌/◌}
 use lib.ListN.{drop}
 use Rattle.array.specs.Buffers.{over_at}
 use Rattle.array.specs.Calls.{reversed_cells}
-use Rattle.endian.proofs.Sizes.{narrow_wide}
 use Rattle.endian.proofs.CellLaws.{two_runs}
 use Rattle.endian.proofs.cells.copy_block.Goals as goal
-
-pub copy_block_wide-requires : goal.copy_block_wide-requires
-copy_block_wide-requires c = (narrow_wide c.requires.0 c.in_default.in_default-own.rest.1, c.requires.1, c.requires.2)
 
 pub returns-in-2 : goal.returns-in-2
 returns-in-2 c =

@@ -5,12 +5,8 @@ use Prim.Native.Nat.{ℕ, ◌/◌}
 use lib.ListN.{drop}
 use Rattle.array.specs.Buffers.{over_at}
 use Rattle.array.specs.Calls.{reversed_cells}
-use Rattle.endian.proofs.Sizes.{narrow_wide}
 use Rattle.endian.proofs.Copying.{reversing_twice}
 use Rattle.endian.proofs.in_place.reverse_block.Goals as goal
-
-pub reverse_block_wide-requires : goal.reverse_block_wide-requires
-reverse_block_wide-requires c = (narrow_wide c.requires.0 c.in_default.in_default-own.rest.1, c.requires.1)
 
 pub returns-in-2 : goal.returns-in-2
 returns-in-2 c =
