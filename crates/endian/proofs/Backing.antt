@@ -47,6 +47,14 @@ module _ {d : List ℕ} {to : ℕ} {s : List ℕ} {at k : ℕ} {out : List ℕ} 
   pub back_same : length out ≡ length d
   back_same = ap length l.here ∙ over_at_length to (reverse (take i (drop (at + left) s))) d (omega (arith, long, l.all, l.room))
 
+  pub back_cast : {j rest : ℕ} → i ≡ j → left ≡ rest → Backing d to s at k out j rest
+  back_cast e f = record {
+    all = omega (arith, l.all);
+    room = l.room;
+    source = l.source;
+    here = l.here ∙ ap₂ (λ (x y : ℕ). over_at to (reverse (take x (drop (at + y) s))) d) e f;
+  }
+
   pub back_ends : left ≡ 0 → out ≡ over_at to (reverse (take k (drop at s))) d
   back_ends h =
       let e : i ≡ k = omega (arith, l.all) in

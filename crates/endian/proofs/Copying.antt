@@ -1,7 +1,7 @@
 -- Cells of any size, one after another, any number of them a turn: copied, and reversed where they lie.
 -- Assumes nothing.
 use mathlib.Core.Path.{◌≡◌, refl, sym, ap, ◌∙◌}
-use mathlib.Core.List.{List, ◌++◌, reverse}
+use mathlib.Core.List.{List, [], ◌∷◌, ◌++◌, reverse, append-nil}
 use Prim.Native.Nat.{ℕ, suc, ◌+◌, ◌*◌, ◌≤◌, ◌<◌}
 use native.Mathlib.Nat.{zero-add, zero-mul, suc-mul, add-mul, mul_assoc, mul-le-mul_right}
 use native.Mathlib.Omega.{arith}
@@ -46,6 +46,17 @@ module _ {d : List ℕ} {to : ℕ} {s : List ℕ} {at k n : ℕ} {out : List ℕ
 
   pub copies_end : n ≤ i → out ≡ over_at to (reversed_cells k n (drop at s)) d
   copies_end h = (copies_cast {j = n} (omega (arith, l.within))).here
+
+  -- where there is room for the cells alone
+  pub copies_all : n ≤ i → n * k ≡ length d → to ≡ 0 → out ≡ reversed_cells k n (drop at s)
+  copies_all h e z =
+      let x : List ℕ = reversed_cells k n (drop at s) in
+      copies_end h ∙ ap (λ (j : ℕ). over_at j x d) z
+      ∙ ap (λ (r : List ℕ). x ++ r) (none (drop (length x) d) (omega (arith, length-drop (length x) d, length_reversed k n (drop at s) (omega (arith, length-drop at s, l.source))))) ∙ append-nil x
+    where
+      none : (r : List ℕ) → length r ≡ 0 → r ≡ []
+      none [] q = refl
+      none (y ∷ r) q = absurd (omega arith)
 
   -- what lies behind the cells
   copies_behind : drop (to + i * k) out ≡ drop (to + i * k) d

@@ -6,6 +6,3 @@ use Rattle.endian.proofs.in_place.reverse_cells.Given as goal
 
 abbrev pub invariant-loop-i : goal.invariant-loop-i
 invariant-loop-i l = Copies l.initial.bytes l.at l.initial.bytes l.at l.size l.cells l.bytes l.i
-
-abbrev pub decreases-loop-i : goal.decreases-loop-i
-decreases-loop-i l = l.cells - l.i
