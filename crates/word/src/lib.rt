@@ -21,13 +21,6 @@ fn big_number_at<const N: usize>(s: &[u8], at: usize) -> u64
     u64::from_be_bytes(bytes)
 }
 
-// The number with its halves of four bytes in the other order: it compiles to one rotation.
-pub fn swap_halves(v: u64) -> u64
-    ensures { le 8 result ≡ drop 4 (le 8 v) ++ take 4 (le 8 v) }
-{
-    v.rotate_left(32)
-}
-
 // Taken from the number and not from the bytes, it compiles to one byte swap.
 pub fn be8_at(s: &[u8], at: usize) -> u64
     requires { at + 8 ≤ length s.now }

@@ -1,6 +1,5 @@
 -- `endian::cells::copy_large`: the first i cells lie there, by the laws for any size (Copying).
 -- Assumes nothing.
-use Prim.Native.Nat.{◌-◌}
 use Rattle.endian.proofs.Copying.{Copies}
 use Rattle.endian.proofs.cells.copy_large.Given as goal
 

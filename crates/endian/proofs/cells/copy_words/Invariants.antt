@@ -1,7 +1,7 @@
 -- `endian::cells::copy_words`: the first cells lie there, a line a turn and then one, by the laws for any size (Copying).
 -- Assumes nothing.
 use mathlib.Core.List.{List}
-use Prim.Native.Nat.{ℕ, ◌-◌, ◌*◌, ◌≤◌}
+use Prim.Native.Nat.{ℕ, ◌*◌, ◌≤◌}
 use Rattle.endian.proofs.Copying.{Copies}
 use Rattle.endian.proofs.cells.copy_words.Given as goal
 

@@ -1,6 +1,5 @@
 -- `endian::in_place::reverse_cells`: the first i cells are reversed, by the laws for any size (Copying).
 -- Assumes nothing.
-use Prim.Native.Nat.{◌-◌}
 use Rattle.endian.proofs.Copying.{Copies}
 use Rattle.endian.proofs.in_place.reverse_cells.Given as goal
 

@@ -1,7 +1,7 @@
 -- `endian::in_place::reverse_words`: the first cells are reversed, a line a turn and then one, by the laws for any size (Copying).
 -- Assumes nothing.
 use mathlib.Core.List.{List}
-use Prim.Native.Nat.{ℕ, ◌-◌, ◌*◌, ◌/◌, ◌≤◌}
+use Prim.Native.Nat.{ℕ, ◌*◌, ◌/◌, ◌≤◌}
 use Rattle.endian.proofs.Copying.{Copies}
 use Rattle.endian.proofs.in_place.reverse_words.Given as goal
 
