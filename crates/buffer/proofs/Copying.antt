@@ -1,11 +1,11 @@
--- The loops that copy and that fill: what is left to write, turn by turn.
+-- A loop that copies: what is left to write, turn by turn.
 -- Assumes nothing.
 use mathlib.Core.Path.{◌≡◌, sym, ap, ap₂, ◌∙◌}
 use mathlib.Core.List.{List, ◌∷◌}
 use Prim.Native.Nat.{ℕ, suc, ◌+◌, ◌-◌, ◌≤◌, ◌<◌}
 use native.Mathlib.Omega.{arith}
 use native.Mathlib.Nat.{sub-zero, add-zero}
-use lib.ListN.{length, take, drop, get_or, set, replicate, length-drop, length-replicate}
+use lib.ListN.{length, take, drop, get_or, set, length-drop}
 use lib.Seq.{drop-cons, take_at, length-take-le}
 use Rattle.array.specs.Buffers.{over_at}
 use Rattle.array.proofs.Laying.{Laying, laying_begins, laying_same, laying_ends, laying_store, laying_is, laying_room}
@@ -60,33 +60,3 @@ module _ (to : ℕ) (s : List ℕ) (at k : ℕ) (d : List ℕ) where
   through b h first second =
       let g = take k (drop at s) in
       second ∙ ap (λ (w : List ℕ). over_at to w d) (ap (take k) first ∙ take_at g (drop (length g) b) k (length-take-le k (drop at s) (omega (arith, length-drop at s))))
-
--- ---- i of k places from `to` on hold b
-
-pub record Filling (d : List ℕ) (to k b : ℕ) (out : List ℕ) (i : ℕ) : Type 0 where
-  pub within : i ≤ k
-  pub laid : Laying (replicate k b) d to out i (replicate (k - i) b)
-
-fill_next : (k b i : ℕ) → i < k → ◌≡◌ {A = List ℕ} (replicate (k - i) b) (b ∷ replicate (k - (i + 1)) b)
-fill_next k b i h = let e : k - i ≡ suc (k - (i + 1)) = omega arith in ap (λ (j : ℕ). replicate {A = ℕ} j b) e
-
-pub fill_begins : {d : List ℕ} {to k b : ℕ} → to + k ≤ length d → Filling d to k b d 0
-fill_begins {d} {to} {k} {b} h = record {
-  within = omega arith;
-  laid = laying_is (laying_begins (replicate k b) d to (omega (arith, length-replicate {A = ℕ} k b))) (ap (λ (j : ℕ). replicate {A = ℕ} j b) (sym (sub-zero k)));
-}
-
-module _ {d : List ℕ} {to k b : ℕ} {out : List ℕ} {i : ℕ} (c : Filling d to k b out i) where
-  pub fill_same : length out ≡ length d
-  fill_same = laying_same (replicate k b) d to out i _ c.laid
-
-  pub fill_ends : k ≤ i → out ≡ over_at to (replicate k b) d
-  fill_ends h =
-      let e : k - i ≡ 0 = omega arith in
-      laying_ends (replicate k b) d to out i (laying_is c.laid (ap (λ (j : ℕ). replicate {A = ℕ} j b) e))
-
-  pub fill_room : i < k → to + i < length out
-  fill_room h = laying_room (replicate k b) d to out i _ _ (laying_is c.laid (fill_next k b i h))
-
-  pub fill_more : i < k → Filling d to k b (set out (to + i) b) (i + 1)
-  fill_more h = record { within = omega arith; laid = laying_store (replicate k b) d to out i _ _ (laying_is c.laid (fill_next k b i h)) }

@@ -1,3 +1,4 @@
 pub mod Copying
 pub mod Unrolled
 pub mod Fields
+pub mod Numbers

@@ -34,38 +34,36 @@ pub fn read_u32(s: &[u8], at: usize) -> Result<u64, Refusal>
     Ok(le4_at(s, at))
 }
 
-// A byte as a number.
-fn wide(b: u8) -> u64
-    ensures { (result ≡ b) × (result ≤ 255) }
+// The number of the N bytes at `at`, the lowest first. N is a constant, so that it compiles to one load.
+pub fn number_at<const N: usize>(s: &[u8], at: usize) -> u64
+    requires { (N ≤ 8) × (at + N ≤ length s.now) }
+    ensures { result ≡ unle (take N (drop at s.now)) }
 {
-    b as u64
+    let mut bytes = [0; 8];
+    bytes[..N].copy_from_slice(&s[at..at + N]);
+    u64::from_le_bytes(bytes)
 }
 
-// All bytes are read before they are put together, so that it compiles to one load.
+// Writes the lowest N bytes of v: one store.
+pub fn put_number<const N: usize>(out: &mut [u8], at: usize, v: u64)
+    requires { (N ≤ 8) × (at + N ≤ length «out».old) }
+    ensures { «out».new ≡ over_at at (le N v) «out».old }
+{
+    out[at..at + N].copy_from_slice(&v.to_le_bytes()[..N]);
+}
+
 pub fn le4_at(s: &[u8], at: usize) -> u64
     requires { at + 4 ≤ length s.now }
     ensures { result ≡ unle (take 4 (drop at s.now)) }
 {
-    let b0 = wide(s[at]);
-    let b1 = wide(s[at + 1]);
-    let b2 = wide(s[at + 2]);
-    let b3 = wide(s[at + 3]);
-    b0 + 256 * (b1 + 256 * (b2 + 256 * b3))
+    number_at::<4>(s, at)
 }
 
 pub fn le8_at(s: &[u8], at: usize) -> u64
     requires { at + 8 ≤ length s.now }
     ensures { result ≡ unle (take 8 (drop at s.now)) }
 {
-    let b0 = wide(s[at]);
-    let b1 = wide(s[at + 1]);
-    let b2 = wide(s[at + 2]);
-    let b3 = wide(s[at + 3]);
-    let b4 = wide(s[at + 4]);
-    let b5 = wide(s[at + 5]);
-    let b6 = wide(s[at + 6]);
-    let b7 = wide(s[at + 7]);
-    b0 + 256 * (b1 + 256 * (b2 + 256 * (b3 + 256 * (b4 + 256 * (b5 + 256 * (b6 + 256 * b7))))))
+    number_at::<8>(s, at)
 }
 
 // The offset of an index, by its width.
@@ -79,49 +77,16 @@ pub fn le_at(s: &[u8], at: usize, width: IndexWidth) -> u64
     }
 }
 
-// Writes the lowest 4 bytes of v. All are taken before the stores, so that it compiles to one store.
 pub fn put_u32(out: &mut [u8], at: usize, v: u64)
     requires { at + 4 ≤ length «out».old }
     ensures { «out».new ≡ over_at at (le 4 v) «out».old }
 {
-    let v1 = v / 256;
-    let v2 = v1 / 256;
-    let v3 = v2 / 256;
-    let b0 = (v % 256) as u8;
-    let b1 = (v1 % 256) as u8;
-    let b2 = (v2 % 256) as u8;
-    let b3 = (v3 % 256) as u8;
-    out[at] = b0;
-    out[at + 1] = b1;
-    out[at + 2] = b2;
-    out[at + 3] = b3;
+    put_number::<4>(out, at, v);
 }
 
 pub fn put_u64(out: &mut [u8], at: usize, v: u64)
     requires { at + 8 ≤ length «out».old }
     ensures { «out».new ≡ over_at at (le 8 v) «out».old }
 {
-    let v1 = v / 256;
-    let v2 = v1 / 256;
-    let v3 = v2 / 256;
-    let v4 = v3 / 256;
-    let v5 = v4 / 256;
-    let v6 = v5 / 256;
-    let v7 = v6 / 256;
-    let b0 = (v % 256) as u8;
-    let b1 = (v1 % 256) as u8;
-    let b2 = (v2 % 256) as u8;
-    let b3 = (v3 % 256) as u8;
-    let b4 = (v4 % 256) as u8;
-    let b5 = (v5 % 256) as u8;
-    let b6 = (v6 % 256) as u8;
-    let b7 = (v7 % 256) as u8;
-    out[at] = b0;
-    out[at + 1] = b1;
-    out[at + 2] = b2;
-    out[at + 3] = b3;
-    out[at + 4] = b4;
-    out[at + 5] = b5;
-    out[at + 6] = b6;
-    out[at + 7] = b7;
+    put_number::<8>(out, at, v);
 }

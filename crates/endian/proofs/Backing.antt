@@ -1,20 +1,16 @@
 -- A copy, the last byte first: any number of bytes a turn, each number reversed by itself.
 -- Assumes nothing.
 use mathlib.Core.Path.{◌≡◌, sym, ap, ap₂, ◌∙◌}
-use mathlib.Core.List.{List, [], ◌∷◌, ◌++◌, reverse, append-nil, reverse-append}
-use Prim.Native.Nat.{ℕ, ◌+◌, ◌-◌, ◌*◌, ◌≤◌, ◌<◌}
-use native.Mathlib.Nat.{add-mul}
+use mathlib.Core.List.{List, [], ◌∷◌, ◌++◌, reverse, reverse-append}
+use Prim.Native.Nat.{ℕ, ◌+◌, ◌-◌, ◌≤◌, ◌<◌}
 use native.Mathlib.Omega.{arith}
 use lib.ListN.{length, take, drop, get_or, set, length-drop, length-reverse}
-use lib.Seq.{drop-drop, take-add, take_at, drop_at, length-take-le}
-use Rattle.array.specs.Bytes.{le, unle}
+use lib.Seq.{drop-drop, take-add, length-take-le}
 use Rattle.array.specs.Buffers.{over_at}
-use Rattle.array.specs.Kind.{big}
 use Rattle.array.proofs.Over.{over_at_length}
 use Rattle.buffer.proofs.Unrolled.{reads_take, stores_over}
-use Rattle.array.specs.Calls.{reversed_cells}
-use Rattle.endian.proofs.CellLaws.{over_none, over_next, reversed_one, two_runs}
-use Rattle.word.proofs.Words.{Slice, le_read, reverse_one}
+use Rattle.endian.proofs.CellLaws.{over_none, over_next}
+use Rattle.word.proofs.Words.{reverse_one}
 
 -- what lies behind comes first
 reverse-add : (m i : ℕ) (q : List ℕ) → reverse (take (m + i) q) ≡ reverse (take i (drop m q)) ++ reverse (take m q)
@@ -46,6 +42,14 @@ module _ {d : List ℕ} {to : ℕ} {s : List ℕ} {at k : ℕ} {out : List ℕ} 
 
   pub back_same : length out ≡ length d
   back_same = ap length l.here ∙ over_at_length to (reverse (take i (drop (at + left) s))) d (omega (arith, long, l.all, l.room))
+
+  pub back_cast : {j rest : ℕ} → i ≡ j → left ≡ rest → Backing d to s at k out j rest
+  back_cast e f = record {
+    all = omega (arith, l.all);
+    room = l.room;
+    source = l.source;
+    here = l.here ∙ ap₂ (λ (x y : ℕ). over_at to (reverse (take x (drop (at + y) s))) d) e f;
+  }
 
   pub back_ends : left ≡ 0 → out ≡ over_at to (reverse (take k (drop at s))) d
   back_ends h =
@@ -82,35 +86,3 @@ two-parts d to s at m p q e f =
     let y : List ℕ = reverse (take m (drop at s)) in
     f ∙ ap (over_at (to + m) y) e ∙ over_next to x y d (omega arith) (length_back s (at + m) m (omega arith))
     ∙ ap (λ (w : List ℕ). over_at to w d) (sym (reverse-add m m (drop at s) ∙ ap (λ (r : List ℕ). reverse (take m r) ++ y) (drop-drop m at s)))
-
--- two cells by their number: reversed as one, and then the halves in the other's place
-halves_swapped : (m : ℕ) (q : List ℕ) → m + m ≤ length q → drop m (reverse (take (m + m) q)) ++ take m (reverse (take (m + m) q)) ≡ reversed_cells m 2 q
-halves_swapped m q h =
-    let x : List ℕ = reverse (take m q) in
-    let y : List ℕ = reverse (take m (drop m q)) in
-    let l : length y ≡ m = length_back q m m h in
-    let e : reverse (take (m + m) q) ≡ y ++ x = reverse-add m m q in
-    ap₂ (λ (a b : List ℕ). a ++ b) (ap (drop m) e ∙ drop_at y x m l) (ap (take m) e ∙ take_at y x m l) ∙ ap (λ (r : List ℕ). x ++ r) (sym (append-nil y))
-
--- eight bytes by their number: two cells, and one
-module _ (s : List ℕ) (f : Slice s) (at : ℕ) (h : at + 8 ≤ length s) {w : ℕ} (e : w ≡ unle (reverse (take 8 (drop at s)))) where
-  pub pair_turned : (v : ℕ) → le 8 v ≡ drop 4 (le 8 w) ++ take 4 (le 8 w) → le 8 v ≡ reversed_cells 4 2 (drop at s)
-  pair_turned v g = g ∙ ap (λ (l : List ℕ). drop 4 l ++ take 4 l) (le_read big s f at 8 h e) ∙ halves_swapped 4 (drop at s) (omega (arith, length-drop at s))
-
-  pub one_turned : le 8 w ≡ reversed_cells 8 1 (drop at s)
-  one_turned = le_read big s f at 8 h e ∙ reversed_one 8 (drop at s)
-
--- four times eight bytes, n cells each
-pub four_words : (k n : ℕ) → n * k ≡ 8 → (s d : List ℕ) (at to : ℕ) → to + 32 ≤ length d → at + 32 ≤ length s → {o1 o2 o3 o4 : List ℕ} → length o2 ≡ length d
-    → o1 ≡ over_at to (reversed_cells k n (drop at s)) d → o2 ≡ over_at (to + 8) (reversed_cells k n (drop (at + 8) s)) o1
-    → o3 ≡ over_at (to + 16) (reversed_cells k n (drop (at + 16) s)) o2 → o4 ≡ over_at (to + 24) (reversed_cells k n (drop (at + 24) s)) o3
-    → o4 ≡ over_at to (reversed_cells k (n + n + (n + n)) (drop at s)) d
-four_words k n w s d at to p q {o1} {o2} {o3} {o4} l e1 e2 e3 e4 =
-    let two : (n + n) * k ≡ 16 = omega (arith, add-mul n n k) in
-    let four : (n + n + (n + n)) * k ≡ 32 = omega (arith, add-mul (n + n) (n + n) k) in
-    let a : to + 24 ≡ to + 16 + n * k = omega arith in
-    let b : at + 24 ≡ at + 16 + n * k = omega arith in
-    two_runs k (n + n) s d at to (omega arith) (omega arith)
-    (two_runs k n s d at to (omega arith) (omega arith) e1 (e2 ∙ ap (λ (j : ℕ). over_at (to + j) (reversed_cells k n (drop (at + j) s)) o1) (sym w)))
-    (two_runs k n s o2 (at + 16) (to + 16) (omega arith) (omega arith) e3 (e4 ∙ ap₂ (λ (i j : ℕ). over_at i (reversed_cells k n (drop j s)) o3) a b)
-    ∙ ap (λ (j : ℕ). over_at (to + j) (reversed_cells k (n + n) (drop (at + j) s)) o2) (sym two))

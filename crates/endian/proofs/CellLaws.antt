@@ -62,12 +62,6 @@ reversed_take k (suc n) s h =
     ∙ ap₂ (λ (v r : List ℕ). reverse v ++ reversed_cells k n r) (take_at a b k la) (drop_at a b k la)
     ∙ ap (λ (r : List ℕ). reverse a ++ r) (reversed_take k n (drop k s) (omega (arith, length-drop k s)))
 
--- the cells of a run that was read, and of two
-pub run_written : (k n : ℕ) (s d : List ℕ) (at to : ℕ) → at + n * k ≤ length s → {x : List ℕ} → x ≡ take (n * k) (drop at s) → {y : List ℕ} → y ≡ reversed_cells k n x
-    → {out : List ℕ} → out ≡ over_at to y d → out ≡ over_at to (reversed_cells k n (drop at s)) d
-run_written k n s d at to q e f g =
-    g ∙ ap (λ (l : List ℕ). over_at to l d) (f ∙ ap (reversed_cells k n) e ∙ reversed_take k n (drop at s) (omega (arith, length-drop at s)))
-
 pub two_runs : (k n : ℕ) (s d : List ℕ) (at to : ℕ) → to + (n + n) * k ≤ length d → at + (n + n) * k ≤ length s → {out out' : List ℕ}
     → out ≡ over_at to (reversed_cells k n (drop at s)) d → out' ≡ over_at (to + n * k) (reversed_cells k n (drop (at + n * k) s)) out
     → out' ≡ over_at to (reversed_cells k (n + n) (drop at s)) d

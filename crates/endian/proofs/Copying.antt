@@ -1,9 +1,9 @@
 -- Cells of any size, one after another, any number of them a turn: copied, and reversed where they lie.
 -- Assumes nothing.
 use mathlib.Core.Path.{◌≡◌, refl, sym, ap, ◌∙◌}
-use mathlib.Core.List.{List, ◌++◌, reverse}
+use mathlib.Core.List.{List, [], ◌∷◌, ◌++◌, reverse, append-nil}
 use Prim.Native.Nat.{ℕ, suc, ◌+◌, ◌*◌, ◌≤◌, ◌<◌}
-use native.Mathlib.Nat.{zero-add, zero-mul, suc-mul, add-mul, mul_assoc, mul-le-mul_right}
+use native.Mathlib.Nat.{suc-mul, add-mul, mul_assoc, mul-le-mul_right}
 use native.Mathlib.Omega.{arith}
 use native.Mathlib.Numerals.{add-one}
 use lib.ListN.{length, take, drop, length-append, length-drop}
@@ -47,6 +47,17 @@ module _ {d : List ℕ} {to : ℕ} {s : List ℕ} {at k n : ℕ} {out : List ℕ
   pub copies_end : n ≤ i → out ≡ over_at to (reversed_cells k n (drop at s)) d
   copies_end h = (copies_cast {j = n} (omega (arith, l.within))).here
 
+  -- where there is room for the cells alone
+  pub copies_all : n ≤ i → n * k ≡ length d → to ≡ 0 → out ≡ reversed_cells k n (drop at s)
+  copies_all h e z =
+      let x : List ℕ = reversed_cells k n (drop at s) in
+      copies_end h ∙ ap (λ (j : ℕ). over_at j x d) z
+      ∙ ap (λ (r : List ℕ). x ++ r) (none (drop (length x) d) (omega (arith, length-drop (length x) d, length_reversed k n (drop at s) (omega (arith, length-drop at s, l.source))))) ∙ append-nil x
+    where
+      none : (r : List ℕ) → length r ≡ 0 → r ≡ []
+      none [] q = refl
+      none (y ∷ r) q = absurd (omega arith)
+
   -- what lies behind the cells
   copies_behind : drop (to + i * k) out ≡ drop (to + i * k) d
   copies_behind =
@@ -84,15 +95,6 @@ module _ {d : List ℕ} {to k n : ℕ} {out : List ℕ} {i : ℕ} (l : Copies d 
 
   pub reversing_next : i < n → (p : ℕ) → p ≡ to + i * k → {out' : List ℕ} → out' ≡ over_at p (reverse (take k (drop p out))) out → Copies d to d to k n out' (i + 1)
   reversing_next h p q e = reversing_more 1 (omega arith) q (e ∙ ap (λ (g : List ℕ). over_at p g out) (reversed_one k (drop p out)))
-
--- n cells, and as many again
-pub reversing_twice : (k n : ℕ) (d : List ℕ) (at : ℕ) → at + (n + n) * k ≤ length d → {out : List ℕ} → out ≡ over_at at (reversed_cells k n (drop at d)) d
-    → {out' : List ℕ} → out' ≡ over_at (at + n * k) (reversed_cells k n (drop (at + n * k) out)) out → out' ≡ over_at at (reversed_cells k (n + n) (drop at d)) d
-reversing_twice k n d at h {out} e {out'} f =
-    let p : at ≡ at + 0 * k = omega (arith, zero-mul k) in
-    let q : at + n * k ≡ at + (0 + n) * k = omega (arith, ap (λ (j : ℕ). j * k) (zero-add n)) in
-    let a : Copies d at d at k (n + n) out (0 + n) = reversing_more (copies_begin h h) n (omega arith) p e in
-    copies_end (reversing_more a n (omega arith) q f) (omega arith)
 
 -- ---- by lines of 64 bytes, m cells each: two blocks of b cells
 

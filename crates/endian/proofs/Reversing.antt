@@ -155,6 +155,13 @@ module _ {at k : ℕ} {d out : List ℕ} {low left : ℕ} (l : Swapping at k d o
         comes_to = l.comes_to ∙ swap_ends out low left j h l.room ∙ ap (cell_reversed (low + j) (left - (j + j))) (sym e);
       }
 
+  pub swapping_cast : {i j : ℕ} → low ≡ i → left ≡ j → Swapping at k d out i j
+  swapping_cast {i} {j} e f = record {
+    same = l.same;
+    room = omega (arith, l.room);
+    comes_to = l.comes_to ∙ ap₂ (λ (x y : ℕ). cell_reversed x y out) e f;
+  }
+
   pub swapping_ends : left ≤ 1 → out ≡ cell_reversed at k d
   swapping_ends h = sym (l.comes_to ∙ ap (λ (r : List ℕ). over_at low r out) (short (take left (drop low out)) (omega (arith, length-take left (drop low out)))) ∙ kept)
     where

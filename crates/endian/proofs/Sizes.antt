@@ -1,4 +1,4 @@
--- How many cells of each size reversed by blocks lie in a word of 8 bytes, a block of 32 and a line of 64.
+-- How many cells of each size reversed by blocks lie in a block of 32 bytes and a line of 64.
 -- Assumes nothing.
 use mathlib.Core.Path.{◌≡◌, refl, ap}
 use mathlib.Core.Bool.{true}
@@ -6,20 +6,12 @@ use mathlib.Core.Logic.{inl, inr}
 use Prim.Native.Nat.{ℕ, ◌+◌, ◌*◌, ◌/◌, ◌≤◌}
 use native.Mathlib.Omega.{arith}
 use Rattle.word.specs.Word.{word_test}
-use Rattle.endian.specs.Sizes.{Wide, Narrow}
+use Rattle.endian.specs.Sizes.{Narrow}
 
 pub narrow_word : (k : ℕ) → Narrow k → word_test k ≡ true
 narrow_word k (inl e) = ap word_test e
 narrow_word k (inr (inl e)) = ap word_test e
 narrow_word k (inr (inr e)) = ap word_test e
-
-pub narrow_wide : {k : ℕ} → Narrow k → (k ≡ 2 → ⊥) → Wide k
-narrow_wide (inl e) h = absurd (h e)
-narrow_wide (inr w) h = w
-
-pub wide_eight : {k : ℕ} → Wide k → (k ≡ 4 → ⊥) → k ≡ 8
-wide_eight (inl e) h = absurd (h e)
-wide_eight (inr e) h = e
 
 pub narrow_some : (k : ℕ) → Narrow k → 1 ≤ k
 narrow_some k (inl e) = omega arith
@@ -41,15 +33,6 @@ pub narrow_block : (k : ℕ) → Narrow k → 32 / k * k ≡ 32
 narrow_block k (inl e) = rw e refl
 narrow_block k (inr (inl e)) = rw e refl
 narrow_block k (inr (inr e)) = rw e refl
-
--- a block is four words
-pub wide_block : (k : ℕ) → Wide k → 8 / k + 8 / k + (8 / k + 8 / k) ≡ 32 / k
-wide_block k (inl e) = rw e refl
-wide_block k (inr e) = rw e refl
-
-pub wide_word : (k : ℕ) → Wide k → 8 / k * k ≡ 8
-wide_word k (inl e) = rw e refl
-wide_word k (inr e) = rw e refl
 
 pub lines_fit : (k : ℕ) → Narrow k → (n : ℕ) → n / 64 * (64 / k) ≤ n / k
 lines_fit k (inl e) n = rw e (omega arith)

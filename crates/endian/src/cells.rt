@@ -5,10 +5,10 @@ ghost use Rattle.array.specs.Kind.{ordered};
 ghost use Rattle.array.specs.Lists.{joined, pieces};
 ghost use Rattle.array.specs.Meaning.{order_of};
 ghost use Rattle.array.specs.Calls.{reversed_cells};
-ghost use Rattle.endian.specs.Sizes.{Narrow, Wide};
+ghost use Rattle.endian.specs.Sizes.{Narrow};
 ghost use Rattle.word.specs.Word.{word_test};
 
-use crate::{eight, in_place, turned};
+use crate::{in_place, turned};
 use array::kind::ByteOrder;
 use buffer::{copy, field};
 
@@ -76,18 +76,14 @@ fn copy_words(out: &mut [u8], to: usize, s: &[u8], at: usize, size: usize, cells
 {
     let line = 64 / size;
     let lines = cells / line;
-    let mut i = 0;
-    while i < lines {
+    for i in 0..lines {
         let k = i * 64;
         copy_block(out, to + k, s, at + k, size);
         copy_block(out, to + (k + 32), s, at + (k + 32), size);
-        i += 1;
     }
-    let mut j = lines * line;
-    while j < cells {
+    for j in lines * line..cells {
         let k = j * size;
         copy_word(out, to + k, s, at + k, size);
-        j += 1;
     }
 }
 
@@ -96,11 +92,9 @@ fn copy_large(out: &mut [u8], to: usize, s: &[u8], at: usize, size: usize, cells
     requires { (size % 16 ≡ 0) × (to + cells * size ≤ length «out».old) × (at + cells * size ≤ length s.now) }
     ensures { «out».new ≡ over_at to (reversed_cells size cells (drop at s.now)) «out».old }
 {
-    let mut i = 0;
-    while i < cells {
+    for i in 0..cells {
         let k = i * size;
         copy_cell(out, to + k, s, at + k, size);
-        i += 1;
     }
 }
 
@@ -113,44 +107,12 @@ fn copy_any(out: &mut [u8], to: usize, s: &[u8], at: usize, size: usize, cells: 
     in_place::reverse_any(out, to, size, cells);
 }
 
-// The cells of 32 bytes.
+// The cells of 32 bytes. All are read before the first is written.
 fn copy_block(out: &mut [u8], to: usize, s: &[u8], at: usize, size: usize)
     requires { Narrow size × (to + 32 ≤ length «out».old) × (at + 32 ≤ length s.now) }
     ensures { «out».new ≡ over_at to (reversed_cells size (32 / size) (drop at s.now)) «out».old }
 {
-    match size {
-        2 => {
-            copy_block_2(out, to, s, at);
-            copy_block_2(out, to + 16, s, at + 16);
-        }
-        _ => copy_block_wide(out, to, s, at, size),
-    }
-}
-
-// Eight cells of two bytes. All are read before the first is written, so that they go as one vector.
-fn copy_block_2(out: &mut [u8], to: usize, s: &[u8], at: usize)
-    requires { (to + 16 ≤ length «out».old) × (at + 16 ≤ length s.now) }
-    ensures { «out».new ≡ over_at to (reversed_cells 2 8 (drop at s.now)) «out».old }
-{
-    let x = eight::reverse_pairs(eight::read(s, at));
-    let y = eight::reverse_pairs(eight::read(s, at + 8));
-    eight::put(out, to, x);
-    eight::put(out, to + 8, y);
-}
-
-// Four words. All are read before the first is written.
-fn copy_block_wide(out: &mut [u8], to: usize, s: &[u8], at: usize, size: usize)
-    requires { Wide size × (to + 32 ≤ length «out».old) × (at + 32 ≤ length s.now) }
-    ensures { «out».new ≡ over_at to (reversed_cells size (32 / size) (drop at s.now)) «out».old }
-{
-    let w0 = turned::turned_at(s, at, size);
-    let w1 = turned::turned_at(s, at + 8, size);
-    let w2 = turned::turned_at(s, at + 16, size);
-    let w3 = turned::turned_at(s, at + 24, size);
-    field::put_u64(out, to, w0);
-    field::put_u64(out, to + 8, w1);
-    field::put_u64(out, to + 16, w2);
-    field::put_u64(out, to + 24, w3);
+    out[to..to + 32].copy_from_slice(&turned::block_at(s, at, size));
 }
 
 fn copy_word(out: &mut [u8], to: usize, s: &[u8], at: usize, size: usize)
@@ -165,12 +127,9 @@ fn copy_cell(out: &mut [u8], to: usize, s: &[u8], at: usize, size: usize)
     requires { (size % 16 ≡ 0) × (to + size ≤ length «out».old) × (at + size ≤ length s.now) }
     ensures { «out».new ≡ over_at to (reverse (take size (drop at s.now))) «out».old }
 {
-    let mut i = 0;
-    let mut left = size;
-    while 0 < left {
-        left -= 16;
-        copy_cell_16(out, to + i, s, at + left);
-        i += 16;
+    for i in 0..size / 16 {
+        let k = i * 16;
+        copy_cell_16(out, to + k, s, at + (size - k - 16));
     }
 }
 

@@ -2,7 +2,6 @@
 #![tactic(auto)]
 
 pub mod cells;
-pub mod eight;
 pub mod in_place;
 pub mod turned;
 

@@ -1,25 +1,20 @@
 -- Bytes and the numbers of them: any bytes are those of their number, in either order; and the sizes of a word.
 -- Assumes nothing.
-use mathlib.Core.Path.{◌≡◌, refl, sym, ap, ap₂, ◌∙◌}
+use mathlib.Core.Path.{◌≡◌, refl, ap, ◌∙◌}
 use mathlib.Core.Bool.{true, false}
-use mathlib.Core.List.{List, [], ◌∷◌, ◌++◌, reverse, reverse_aux}
-use Prim.Native.Nat.{ℕ, zero, suc, ◌+◌, ◌*◌, ◌/◌, ◌%◌, ◌^◌, ◌≤◌, ◌<◌}
-use native.Mathlib.Nat.{zero-add, mul_comm, mul_assoc, pow-suc, div-one, div-div-eq-div-mul, div-lt_iff_lt-mul, zero-lt-suc}
+use mathlib.Core.List.{List, [], ◌∷◌, reverse, reverse_aux}
+use Prim.Native.Nat.{ℕ, zero, suc, ◌+◌, ◌≤◌, ◌<◌}
 use native.Mathlib.Omega.{arith}
 use lib.ListN.{length, take, drop, get_or, replicate, length-drop}
-use lib.Seq.{length-take-le, take_at, drop_at}
+use lib.Seq.{length-take-le}
 use borrow.Author.Tests.{ne_eqb, eqb-true}
-use Rattle.array.specs.Bytes.{le, unle}
+use Rattle.array.specs.Bytes.{le, unle, AllBytes}
 use Rattle.array.specs.Kind.{Order, little, big, ordered}
-use Rattle.array.specs.Lists.{All}
-use Rattle.array.proofs.Bytes.{length-le}
+use Rattle.array.proofs.Bytes.{number_again, bytes_take, bytes_drop}
 use Rattle.array.proofs.Sizes.{length-ordered}
 use Rattle.word.specs.Word.{word_test}
 
 -- ---- each element is a byte
-
-abbrev pub AllBytes : List ℕ → Type 0
-AllBytes s = All (λ b. b < 256) s
 
 -- as the elements of a slice are
 abbrev pub Slice : List ℕ → Type 0
@@ -28,16 +23,6 @@ Slice s = (i : ℕ) → get_or s i 0 < 256
 slice_bytes : (s : List ℕ) → Slice s → AllBytes s
 slice_bytes [] f = tt
 slice_bytes (x ∷ s) f = (f 0, slice_bytes s (λ i. f (suc i)))
-
-bytes_take : (k : ℕ) (s : List ℕ) → AllBytes s → AllBytes (take k s)
-bytes_take zero s p = tt
-bytes_take (suc k) [] p = tt
-bytes_take (suc k) (x ∷ s) p = (p.0, bytes_take k s p.1)
-
-bytes_drop : (k : ℕ) (s : List ℕ) → AllBytes s → AllBytes (drop k s)
-bytes_drop zero s p = p
-bytes_drop (suc k) [] p = tt
-bytes_drop (suc k) (x ∷ s) p = bytes_drop k s p.1
 
 bytes_reverse : (s r : List ℕ) → AllBytes s → AllBytes r → AllBytes (reverse_aux s r)
 bytes_reverse [] r p q = q
@@ -49,54 +34,11 @@ bytes_ordered big s p = bytes_reverse s [] p tt
 
 -- ---- bytes are the bytes of their number
 
-le-unle : (bs : List ℕ) → AllBytes bs → le (length bs) (unle bs) ≡ bs
-unfolding le unle
-le-unle [] p = refl
-le-unle (b ∷ bs) p =
-    let h : b < 256 = p.0 in
-    let m : (b + 256 * unle bs) % 256 ≡ b = omega arith in
-    let d : (b + 256 * unle bs) / 256 ≡ unle bs = omega arith in
-    ap₂ (λ (x : ℕ) (r : List ℕ). x ∷ r) m (ap (le (length bs)) d ∙ le-unle bs p.1)
-
 pub le_read : (o : Order) (s : List ℕ) → Slice s → (at k : ℕ) → at + k ≤ length s → {r : ℕ} → r ≡ unle (ordered o (take k (drop at s))) → le k r ≡ ordered o (take k (drop at s))
 le_read o s f at k h e =
     let v : List ℕ = ordered o (take k (drop at s)) in
     let l : length v ≡ k = length-ordered o (take k (drop at s)) ∙ length-take-le k (drop at s) (omega (arith, length-drop at s)) in
-    ap (le k) e ∙ ap (λ (j : ℕ). le j (unle v)) (sym l) ∙ le-unle v (bytes_ordered o (take k (drop at s)) (bytes_take k (drop at s) (bytes_drop at s (slice_bytes s f))))
-
--- ---- the low bytes and the others
-
-le_low : (m a b : ℕ) → le m (a + 256 ^ m * b) ≡ le m a
-unfolding le
-le_low zero a b = refl
-le_low (suc m) a b =
-    let p : 256 ^ suc m * b ≡ 256 * (256 ^ m * b) = ap (λ (x : ℕ). x * b) (pow-suc 256 m ∙ mul_comm (256 ^ m) 256) ∙ mul_assoc 256 (256 ^ m) b in
-    let r : (a + 256 ^ suc m * b) % 256 ≡ a % 256 = omega arith in
-    let d : (a + 256 ^ suc m * b) / 256 ≡ a / 256 + 256 ^ m * b = omega arith in
-    ap₂ (λ (x : ℕ) (l : List ℕ). x ∷ l) r (ap (le m) d ∙ le_low m (a / 256) b)
-
-le_split : (m n v : ℕ) → le (m + n) v ≡ le m v ++ le n (v / 256 ^ m)
-unfolding le
-le_split zero n v = ap₂ le (zero-add n) (sym (div-one v))
-le_split (suc m) n v =
-    let e : suc m + n ≡ suc (m + n) = omega arith in
-    let p : v / 256 / 256 ^ m ≡ v / 256 ^ suc m = div-div-eq-div-mul v 256 (256 ^ m) ∙ ap (λ (x : ℕ). v / x) (mul_comm 256 (256 ^ m) ∙ sym (pow-suc 256 m)) in
-    ap (λ (j : ℕ). le j v) e ∙ ap (λ (l : List ℕ). v % 256 ∷ l) (le_split m n (v / 256) ∙ ap (λ (x : ℕ). le m (v / 256) ++ le n x) p)
-
-pub high_half : (v : ℕ) → v < 18446744073709551616 → v / 4294967296 < 4294967296
-high_half v h = (div-lt_iff_lt-mul (zero-lt-suc 4294967295)).1 h
-
--- the halves of eight bytes, each in the other's place
-pub le_halves : (v : ℕ) → v / 4294967296 < 4294967296 → le 8 (v / 4294967296 + 4294967296 * (v % 4294967296)) ≡ drop 4 (le 8 v) ++ take 4 (le 8 v)
-le_halves v h =
-    let high : ℕ = v / 4294967296 in
-    let low : ℕ = v % 4294967296 in
-    let d : (high + 4294967296 * low) / 4294967296 ≡ low = omega arith in
-    let e : low + 4294967296 * high ≡ v = omega arith in
-    let f : le 8 v ≡ le 4 v ++ le 4 high = le_split 4 4 v in
-    let g : le 4 v ≡ le 4 low = ap (le 4) (sym e) ∙ le_low 4 low high in
-    le_split 4 4 (high + 4294967296 * low) ∙ ap₂ (λ (a b : List ℕ). a ++ b) (le_low 4 high low) (ap (le 4) d ∙ sym g)
-    ∙ sym (ap₂ (λ (a b : List ℕ). a ++ b) (ap (drop 4) f ∙ drop_at (le 4 v) (le 4 high) 4 (length-le 4 v)) (ap (take 4) f ∙ take_at (le 4 v) (le 4 high) 4 (length-le 4 v)))
+    ap (le k) e ∙ number_again v l (bytes_ordered o (take k (drop at s)) (bytes_take k (drop at s) (bytes_drop at s (slice_bytes s f))))
 
 -- zero is zero bytes
 pub le-zero : (k : ℕ) → le k 0 ≡ replicate k 0

@@ -1,7 +1,5 @@
 -- `endian::reverse_endianness`: by cases on the size, each by its callee; cells of one byte stay (Reversing).
 -- Assumes nothing.
-use mathlib.Core.Path.{refl}
-use mathlib.Core.Logic.{inl, inr}
 use Prim.Native.Nat.{◌/◌}
 use native.Mathlib.Omega.{arith}
 use lib.ListN.{length}
@@ -10,15 +8,6 @@ use Rattle.valid.proofs.SizeLaws.{size_fits}
 use Rattle.endian.proofs.Reversing.{ones_reversed}
 use Rattle.array.proofs.Reversed.{reverse-whole}
 use Rattle.endian.proofs.reverse_endianness.Goals as goal
-
-pub reverse_words-requires : goal.reverse_words-requires
-reverse_words-requires c = inl refl
-
-pub reverse_words-requires-in-4 : goal.reverse_words-requires-in-4
-reverse_words-requires-in-4 c = inr (inl refl)
-
-pub reverse_words-requires-in-8 : goal.reverse_words-requires-in-8
-reverse_words-requires-in-8 c = inr (inr refl)
 
 pub returns-in-1 : goal.returns-in-1
 returns-in-1 c =

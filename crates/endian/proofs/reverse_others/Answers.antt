@@ -1,9 +1,7 @@
 -- `endian::reverse_others`: the two refusals, and each size by its callee (Reversing).
 -- Assumes nothing.
 use mathlib.Core.Path.{refl}
-use native.Mathlib.Nat.{div-mul-le_self}
 use native.Mathlib.Omega.{arith}
-use lib.ListN.{length}
 use Rattle.array.specs.Kind.{little}
 use Rattle.valid.proofs.SizeLaws.{size_fits, size_none, size_over}
 use Rattle.array.proofs.Reversed.{reverse_refused, reverse-whole}
@@ -16,9 +14,6 @@ returns-then-size-eq0 c =
 pub returns-then-size : goal.returns-then-size
 returns-then-size c =
     let a = c.args in reverse_refused a.size a.bytes.now (size_over a.size little c.if-size.true)
-
-pub reverse_any-requires : goal.reverse_any-requires
-reverse_any-requires c = omega (arith, div-mul-le_self (length c.args.bytes.now) c.args.size)
 
 pub returns-in-16 : goal.returns-in-16
 returns-in-16 c =

@@ -3,6 +3,7 @@
 use mathlib.Core.Path.{sym, ap, ◌∙◌}
 use lib.ListN.{take, drop}
 use Rattle.array.specs.declared.kind.ByteOrder.{ByteOrder}
+use Rattle.std.proofs.Common.{rules}
 use Rattle.array.specs.Kind.{little, big, ordered}
 use Rattle.array.specs.Meaning.{order_of}
 use Rattle.word.proofs.Words.{le_read}
@@ -11,11 +12,11 @@ use Rattle.word.proofs.word_at.Goals as goal
 pub returns-in-Little : goal.returns-in-Little
 returns-in-Little c =
     let a = c.args in
-    le_read little a.s.now (λ i. (c.shared_slice_known-1.given i).fits) a.at a.size c.requires.1 c.little_at.ensures
+    le_read little a.s.now (search rules) a.at a.size c.requires.1 c.little_at.ensures
     ∙ ap (λ (o : ByteOrder). ordered (order_of o) (take a.size (drop a.at a.s.now))) (sym c.in-Little.is)
 
 pub returns-in-Big : goal.returns-in-Big
 returns-in-Big c =
     let a = c.args in
-    le_read big a.s.now (λ i. (c.shared_slice_known-1.given i).fits) a.at a.size c.requires.1 c.big_at.ensures ∙ ap
+    le_read big a.s.now (search rules) a.at a.size c.requires.1 c.big_at.ensures ∙ ap
     (λ (o : ByteOrder). ordered (order_of o) (take a.size (drop a.at a.s.now))) (sym c.in-Big.is)

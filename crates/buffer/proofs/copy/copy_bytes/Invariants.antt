@@ -1,11 +1,7 @@
 -- `buffer::copy::copy_bytes` meets its contract, by the laws of Copying.
 -- Assumes nothing.
-use Prim.Native.Nat.{◌-◌}
 use Rattle.buffer.proofs.Copying.{Copying}
 use Rattle.buffer.proofs.copy.copy_bytes.Given as goal
 
 abbrev pub invariant-loop-i : goal.invariant-loop-i
 invariant-loop-i l = Copying l.initial.out l.to l.s l.at l.k l.out l.i
-
-abbrev pub decreases-loop-i : goal.decreases-loop-i
-decreases-loop-i l = l.k - l.i

@@ -4,6 +4,7 @@ use mathlib.Core.Path.{ap, ◌∙◌}
 use mathlib.Core.List.{List}
 use Prim.Native.Nat.{ℕ, ◌+◌}
 use native.Mathlib.Omega.{arith}
+use Rattle.std.proofs.Common.{rules}
 use Rattle.array.specs.Buffers.{over_at}
 use Rattle.array.specs.Kind.{big}
 use Rattle.word.proofs.Words.{Slice, le_read}
@@ -14,7 +15,7 @@ pub returns : goal.returns
 returns c =
     let a = c.args in
     let p = c.requires in
-    let f : Slice a.s.now = λ i. (c.shared_slice_known-1.given i).fits in
+    let f : Slice a.s.now = search rules in
     let high = le_read big a.s.now f (a.at + 8) 8 (omega arith) c.be8_at-high.ensures in
     let low = le_read big a.s.now f a.at 8 (omega arith) c.be8_at-low.ensures in
     two-parts a.out.now a.to a.s.now a.at 8 p.0 p.1

@@ -3,6 +3,7 @@
 use mathlib.Core.Path.{ap, ◌∙◌}
 use mathlib.Core.List.{List}
 use Prim.Native.Nat.{ℕ}
+use Rattle.std.proofs.Common.{rules}
 use Rattle.array.specs.Buffers.{over_at}
 use Rattle.array.specs.Kind.{big}
 use Rattle.word.proofs.Words.{le_read}
@@ -12,4 +13,4 @@ pub returns : goal.returns
 returns c =
     let a = c.args in
     c.put_word.ensures ∙ ap (λ (l : List ℕ). over_at a.to l a.out.now)
-    (le_read big a.s.now (λ i. (c.shared_slice_known-1.given i).fits) a.at a.size c.requires.2 c.big_at.ensures)
+    (le_read big a.s.now (search rules) a.at a.size c.requires.2 c.big_at.ensures)

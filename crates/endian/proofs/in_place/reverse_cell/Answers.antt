@@ -1,70 +1,32 @@
 -- `endian::in_place::reverse_cell`: each turn leaves a smaller cell to reverse (Reversing, Swapping).
 -- Assumes nothing.
+use mathlib.Core.Path.{ap, ◌∙◌}
 use native.Mathlib.Omega.{arith}
-use lib.ListN.{length-set}
-use Rattle.endian.proofs.Reversing.{Swapping, swapping_begins, swapping_more, swapping_ends, bytes_swapped}
+use Rattle.std.proofs.Common.{ℕ, ◌≡◌, ◌+◌, ◌-◌, ◌*◌, ◌/◌, ◌≤◌}
+use Rattle.endian.proofs.Reversing.{swapped, bytes_swapped, swapping_more, swapping_cast, swapping_ends}
 use Rattle.endian.proofs.in_place.reverse_cell.Goals as goal
 
-pub loop-left-init : goal.loop-left-init
-loop-left-init c = swapping_begins c.requires
+pub loop-i-preserved : goal.loop-i-preserved
+loop-i-preserved c =
+    swapping_cast (swapping_more c.loop-i.invariant 8 (omega (arith, c.loop-i-test.true)) c.swap_words.ensures) (omega arith) (omega arith)
 
-pub overflow_add-low : goal.overflow_add-low
-overflow_add-low c = omega (arith, c.loop-left.invariant)
-
-pub swap_words-requires : goal.swap_words-requires
-swap_words-requires c = omega (arith, c.loop-left.invariant)
-
-pub overflow_add-low-in-loop-left : goal.overflow_add-low-in-loop-left
-overflow_add-low-in-loop-left c = omega (arith, c.loop-left.invariant)
-
-pub loop-left-preserved : goal.loop-left-preserved
-loop-left-preserved c = swapping_more c.loop-left.invariant 8 c.loop-left-test.true c.swap_words.ensures
-
-pub loop-left-2-init : goal.loop-left-2-init
-loop-left-2-init c = λ d p. p
-
-pub overflow_add-high : goal.overflow_add-high
-overflow_add-high c =
-    let laid : let a = c.args in Swapping a.at a.size a.bytes.now c.loop-left-2.bytes c.loop-left-2.low c.loop-left-2.left = c.loop-left-2.invariant c.args.bytes.now c.loop-left.invariant in
-    omega (arith, laid)
-
-pub bounds-bytes-low : goal.bounds-bytes-low
-bounds-bytes-low c =
-    let laid : let a = c.args in Swapping a.at a.size a.bytes.now c.loop-left-2.bytes c.loop-left-2.low c.loop-left-2.left = c.loop-left-2.invariant c.args.bytes.now c.loop-left.invariant in
-    omega (arith, laid)
-
-pub bounds-bytes-high : goal.bounds-bytes-high
-bounds-bytes-high c =
-    let laid : let a = c.args in Swapping a.at a.size a.bytes.now c.loop-left-2.bytes c.loop-left-2.low c.loop-left-2.left = c.loop-left-2.invariant c.args.bytes.now c.loop-left.invariant in
-    omega (arith, laid)
-
-pub bounds-bytes-low-in-loop-left-2 : goal.bounds-bytes-low-in-loop-left-2
-bounds-bytes-low-in-loop-left-2 c =
-    let laid : let a = c.args in Swapping a.at a.size a.bytes.now c.loop-left-2.bytes c.loop-left-2.low c.loop-left-2.left = c.loop-left-2.invariant c.args.bytes.now c.loop-left.invariant in
-    omega (arith, laid)
-
-pub bounds-bytes-high-in-loop-left-2 : goal.bounds-bytes-high-in-loop-left-2
-bounds-bytes-high-in-loop-left-2 c =
-    let laid : let a = c.args in Swapping a.at a.size a.bytes.now c.loop-left-2.bytes c.loop-left-2.low c.loop-left-2.left = c.loop-left-2.invariant c.args.bytes.now c.loop-left.invariant in
-    simp length-set (omega (arith, laid))
-
-pub overflow_add-low-in-loop-left-2 : goal.overflow_add-low-in-loop-left-2
-overflow_add-low-in-loop-left-2 c =
-    let laid : let a = c.args in Swapping a.at a.size a.bytes.now c.loop-left-2.bytes c.loop-left-2.low c.loop-left-2.left = c.loop-left-2.invariant c.args.bytes.now c.loop-left.invariant in
-    omega (arith, laid)
-
-pub loop-left-2-preserved : goal.loop-left-2-preserved
-loop-left-2-preserved c =
+pub loop-j-preserved : goal.loop-j-preserved
+loop-j-preserved c =
     λ d p.
-    let l = c.loop-left-2.invariant d p in
-    swapping_more l 1 c.loop-left-2-test.true (bytes_swapped c.loop-left-2.low _ c.loop-left-2.bytes (omega (arith, l)) (omega (arith, l)))
-
-pub shape_of-bytes : goal.shape_of-bytes
-shape_of-bytes c =
-    let laid : let a = c.args in Swapping a.at a.size a.bytes.now c.loop-left-2.bytes c.loop-left-2.low c.loop-left-2.left = c.loop-left-2.invariant c.args.bytes.now c.loop-left.invariant in
-    (laid).same
+    let pairs = c.args.size / 16 in
+    let low = c.args.at + pairs * 8 + c.loop-j.j in
+    let left = c.args.size - pairs * 16 in
+    let high = c.args.at + pairs * 8 + (left - 1 - c.loop-j.j) in
+    let l = c.loop-j.invariant d p in
+    let two : 2 ≤ left - c.loop-j.j * 2 = omega (arith, c.loop-j-test.true) in
+    let end : high ≡ low + (left - c.loop-j.j * 2 - 1) = omega arith in
+    swapping_cast
+    (swapping_more l 1 two (bytes_swapped low high c.loop-j.bytes (omega (arith, l.room)) (omega (arith, l.room)) ∙ ap (λ (h : ℕ). swapped 1 low h c.loop-j.bytes) end))
+    (omega arith) (omega arith)
 
 pub returns : goal.returns
 returns c =
-    let laid : let a = c.args in Swapping a.at a.size a.bytes.now c.loop-left-2.bytes c.loop-left-2.low c.loop-left-2.left = c.loop-left-2.invariant c.args.bytes.now c.loop-left.invariant in
-    swapping_ends laid (omega arith)
+    let pairs = c.args.size / 16 in
+    let done : c.loop-i.i ≡ pairs = omega (arith, c.loop-i-test.false, c.loop-i.auto.i-end) in
+    let begun = swapping_cast c.loop-i.invariant {i = c.args.at + pairs * 8} {j = c.args.size - pairs * 16} (omega arith) (omega arith) in
+    swapping_ends (c.loop-j.invariant c.args.bytes.now begun) (omega (arith, c.loop-j-test.false))

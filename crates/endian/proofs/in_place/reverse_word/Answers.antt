@@ -3,6 +3,7 @@
 use mathlib.Core.Path.{ap, ◌∙◌}
 use mathlib.Core.List.{List}
 use Prim.Native.Nat.{ℕ}
+use Rattle.std.proofs.Common.{rules}
 use Rattle.array.specs.Buffers.{over_at}
 use Rattle.array.specs.Kind.{big}
 use Rattle.word.proofs.Words.{le_read}
@@ -12,4 +13,4 @@ pub returns : goal.returns
 returns c =
     let a = c.args in
     c.put_word.ensures ∙ ap (λ (l : List ℕ). over_at a.at l a.bytes.now)
-    (le_read big a.bytes.now (λ i. (c.slice_known-1.given i).fits) a.at a.size c.requires.1 c.big_at-v.ensures)
+    (le_read big a.bytes.now (search rules) a.at a.size c.requires.1 c.big_at-v.ensures)

@@ -3,6 +3,7 @@
 use mathlib.Core.Path.{ap, ap₂, ◌∙◌}
 use mathlib.Core.List.{List}
 use Prim.Native.Nat.{ℕ}
+use Rattle.std.proofs.Common.{rules}
 use Rattle.array.specs.Bytes.{le}
 use Rattle.array.specs.Buffers.{over_at}
 use Rattle.array.specs.Kind.{big}
@@ -12,7 +13,7 @@ use Rattle.endian.proofs.in_place.swap_words.Goals as goal
 pub returns : goal.returns
 returns c =
     let a = c.args in
-    let f : Slice a.bytes.now = λ i. (c.slice_known-1.given i).fits in
+    let f : Slice a.bytes.now = search rules in
     let x = le_read big a.bytes.now f a.low 8 c.requires.0 c.be8_at-a.ensures in
     let y = le_read big a.bytes.now f a.high 8 c.requires.1 c.be8_at-b.ensures in
     c.put_u64-2.ensures ∙ ap (λ (o : List ℕ). over_at a.high (le 8 c.be8_at-a.result) o) c.put_u64.ensures
