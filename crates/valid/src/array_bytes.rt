@@ -25,16 +25,7 @@ pub enum Checked {
 fn four_rise(a: u64, b: u64, c: u64, d: u64, e: u64) -> bool
     ensures { result ≡ leb a b && leb b c && leb c d && leb d e }
 {
-    if b < a {
-        return false;
-    }
-    if c < b {
-        return false;
-    }
-    if d < c {
-        return false;
-    }
-    d <= e
+    a <= b && b <= c && c <= d && d <= e
 }
 
 // Whether the first n + 1 offsets begin at 0 and never fall. Four at a time, as a turn of the loop costs more than a test.

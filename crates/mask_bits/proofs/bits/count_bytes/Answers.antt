@@ -8,13 +8,8 @@ use lib.Count.{ones}
 use Rattle.codec.specs.Frame.{set_bits}
 use Rattle.mask_bits.specs.Bits.{bits_in}
 use Rattle.mask_bits.proofs.Ones.{ones_byte}
-use Rattle.mask_bits.proofs.Parts.{part_next, part_end}
+use Rattle.mask_bits.proofs.Parts.{part_next}
 use Rattle.mask_bits.proofs.bits.count_bytes.Goals as goal
-
-pub overflow_cast-b : goal.overflow_cast-b
-overflow_cast-b c =
-    let index : ℕ = c.loop-i.i in
-    omega (arith, c.shared_slice_known-in-loop-i-1.given (c.args.at + index))
 
 pub overflow_add-set : goal.overflow_add-set
 overflow_add-set c =
@@ -37,9 +32,3 @@ loop-i-preserved c =
     let next : left index ≡ set_bits byte_of + left (index + 1) = let a = c.args in
     ap bits_in (part_next a.s.now a.at a.size c.requires.0 index c.loop-i-test.true) in
     omega (arith, counted, next)
-
-pub returns : goal.returns
-returns c =
-    let a = c.args in
-    let none = ap bits_in (part_end a.s.now a.at a.size c.requires.0 c.loop-i.i (omega arith)) in
-    omega (arith, none)

