@@ -1,32 +1,38 @@
 -- `mask_bits::bits::count_words` meets its contract. The invariant: what is counted and the set bits of what is left make those of all bytes.
 -- Assumes nothing.
-use mathlib.Core.Path.{◌≡◌, sym, ap₂, ◌∙◌}
-use Prim.Native.Nat.{ℕ, ◌+◌, ◌*◌}
+use mathlib.Core.Path.{◌≡◌, sym, ap, subst, ◌∙◌}
 use native.Mathlib.Omega.{arith}
-use lib.ListN.{take, drop}
 use lib.Count.{ones}
+use lib.ListN.{length, length-append}
+use Rattle.std.specs.Slice.Iter.{chunks_exact_rest}
+use Rattle.std.proofs.Common.{rules}
+use Rattle.array.specs.Bytes.{AllBytes}
 use Rattle.mask_bits.specs.Bits.{bits_in}
-use Rattle.mask_bits.proofs.Ones.{word_next}
+use Rattle.mask_bits.proofs.Ones.{all_bytes, word_next}
 use Rattle.mask_bits.proofs.bits.count_words.Goals as goal
+
+pub loop-word-init : goal.loop-word-init
+loop-word-init c =
+    let bytes = c.args.bytes.now in
+    let all : chunks_exact_rest c.into_iter-word-iterator.result ≡ bytes = search rules in
+    let given = all_bytes bytes (λ i. omega (arith, (c.type_inv.bytes i).fits)) in
+    (search rules, omega (arith, ap length all, c.requires.0), subst AllBytes (sym all) given, omega (arith, ap bits_in all))
 
 pub overflow_add-set : goal.overflow_add-set
 overflow_add-set c =
-    let index : ℕ = c.loop-i.i in
-    let left : ℕ → ℕ = λ i. let a = c.args in
-    bits_in (drop (i * 8) (take (a.words * 8) (drop a.at a.s.now))) in
-    let next : left index ≡ ones c.le8_at-word.result + left (index + 1) = let a = c.args in
-    let e : index * 8 + 8 ≡ (index + 1) * 8 = omega arith in
-    word_next a.s.now (λ j. omega (arith, c.shared_slice_known-1.given j)) a.at (a.words * 8) (index * 8) (omega arith)
-    ∙ ap₂ (λ (w i : ℕ). ones w + bits_in (drop i (take (a.words * 8) (drop a.at a.s.now)))) (sym c.le8_at-word.ensures) e in
-    omega (arith, next, c.requires.1)
+    let left = chunks_exact_rest c.loop-word.word-iterator in
+    let rest = chunks_exact_rest c.next.new.self in
+    let inv = c.loop-word.invariant in
+    let steps = c.in-Some.ensures.steps.1 in
+    let next = word_next left c.in-Some.word.now rest steps.0 (omega (arith, inv.0, steps.1)) inv.2 in
+    omega (arith, ap ones c.le8_at.ensures, next.0, c.requires.1)
 
-pub loop-i-preserved : goal.loop-i-preserved
-loop-i-preserved c =
-    let index : ℕ = c.loop-i.i in
-    let left : ℕ → ℕ = λ i. let a = c.args in
-    bits_in (drop (i * 8) (take (a.words * 8) (drop a.at a.s.now))) in
-    let next : left index ≡ ones c.le8_at-word.result + left (index + 1) = let a = c.args in
-    let e : index * 8 + 8 ≡ (index + 1) * 8 = omega arith in
-    word_next a.s.now (λ j. omega (arith, c.shared_slice_known-1.given j)) a.at (a.words * 8) (index * 8) (omega arith)
-    ∙ ap₂ (λ (w i : ℕ). ones w + bits_in (drop i (take (a.words * 8) (drop a.at a.s.now)))) (sym c.le8_at-word.ensures) e in
-    omega (arith, next)
+pub loop-word-preserved : goal.loop-word-preserved
+loop-word-preserved c =
+    let left = chunks_exact_rest c.loop-word.word-iterator in
+    let rest = chunks_exact_rest c.next.new.self in
+    let inv = c.loop-word.invariant in
+    let steps = c.in-Some.ensures.steps.1 in
+    let next = word_next left c.in-Some.word.now rest steps.0 (omega (arith, inv.0, steps.1)) inv.2 in
+    let sizes = ap length steps.0 ∙ length-append c.in-Some.word.now rest in
+    (omega (arith, inv.0, c.in-Some.ensures.steps.0), omega (arith, inv.0, sizes, steps.1), next.1, omega (arith, ap ones c.le8_at.ensures, next.0))
