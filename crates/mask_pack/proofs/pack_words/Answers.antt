@@ -21,12 +21,12 @@ loop-i-init c =
     let want : List ℕ = map (number 2) (pieces 8 a.count a.block.now) in
     let begins : Laying want a.out.now a.to a.out.now 0 want =
     laying_begins want a.out.now a.to (omega (arith, c.requires.0, length-map (pieces 8 a.count a.block.now) (number 2), length-pieces 8 a.count a.block.now)) in
-    (omega arith, laying_is begins (sym (ap (λ (k : ℕ). map (number 2) (pieces 8 k a.block.now)) (sub-zero a.count))))
+    laying_is begins (sym (ap (λ (k : ℕ). map (number 2) (pieces 8 k a.block.now)) (sub-zero a.count)))
 
 pub bounds-out-to : goal.bounds-out-to
 bounds-out-to c =
     let same : length c.loop-i.out ≡ length c.args.out.now = let a = c.args in
-    laying_same (map (number 2) (pieces 8 a.count a.block.now)) a.out.now a.to c.loop-i.out c.loop-i.i (bytes_from a.block.now a.count c.loop-i.i) c.loop-i.invariant.1 in
+    laying_same (map (number 2) (pieces 8 a.count a.block.now)) a.out.now a.to c.loop-i.out c.loop-i.i (bytes_from a.block.now a.count c.loop-i.i) c.loop-i.invariant in
     omega (arith, same)
 
 pub loop-i-preserved : goal.loop-i-preserved
@@ -39,16 +39,16 @@ loop-i-preserved c =
     ap₂ packed_word (sym c.le4_at-low.ensures) (sym c.le4_at-high.ensures) ∙ sym c.packed_word.ensures in
     let next : bytes_from a.block.now a.count i ≡ c.packed_word.result ∷ rest =
     words_next a.block.now a.count c.requires.2 c.requires.1 i (omega arith) ∙ ap (λ (b : ℕ). b ∷ rest) word in
-    (omega arith, laying_store (map (number 2) (pieces 8 a.count a.block.now)) a.out.now a.to c.loop-i.out i c.packed_word.result rest (laying_is c.loop-i.invariant.1 next))
+    laying_store (map (number 2) (pieces 8 a.count a.block.now)) a.out.now a.to c.loop-i.out i c.packed_word.result rest (laying_is c.loop-i.invariant next)
 
 pub shape_of-out : goal.shape_of-out
 shape_of-out c =
     let same : length c.loop-i.out ≡ length c.args.out.now = let a = c.args in
-    laying_same (map (number 2) (pieces 8 a.count a.block.now)) a.out.now a.to c.loop-i.out c.loop-i.i (bytes_from a.block.now a.count c.loop-i.i) c.loop-i.invariant.1 in
+    laying_same (map (number 2) (pieces 8 a.count a.block.now)) a.out.now a.to c.loop-i.out c.loop-i.i (bytes_from a.block.now a.count c.loop-i.i) c.loop-i.invariant in
     same
 
 pub returns : goal.returns
 returns c =
     let a = c.args in
     let none : bytes_from a.block.now a.count c.loop-i.i ≡ [] = words_end a.block.now a.count c.requires.2 c.requires.1 c.loop-i.i (omega arith) in
-    laying_ends (map (number 2) (pieces 8 a.count a.block.now)) a.out.now a.to c.loop-i.out c.loop-i.i (laying_is c.loop-i.invariant.1 none)
+    laying_ends (map (number 2) (pieces 8 a.count a.block.now)) a.out.now a.to c.loop-i.out c.loop-i.i (laying_is c.loop-i.invariant none)
