@@ -44,6 +44,9 @@ pub all_bytes : (s : List ℕ) → ((i : ℕ) → get_or s i 0 < 256) → All (�
 all_bytes [] f = tt
 all_bytes (b ∷ s) f = (f 0, all_bytes s (λ i. f (suc i)))
 
+pub part_bytes : (s : List ℕ) → ((i : ℕ) → get_or s i 0 < 256) → (at k : ℕ) → AllBytes (take k (drop at s))
+part_bytes s f at k = All-take (λ b. b < 256) k (drop at s) (All-drop (λ b. b < 256) at s (all_bytes s f))
+
 bits_append : (s t : List ℕ) → bits_in (s ++ t) ≡ bits_in s + bits_in t
 bits_append [] t = omega arith
 bits_append (b ∷ s) t = omega (arith, bits_append s t)

@@ -7,7 +7,5 @@ use Rattle.array.specs.Bytes.{unle}
 use Rattle.mask_unpack.proofs.all_words.Given as goal
 
 abbrev pub invariant-loop-i : goal.invariant-loop-i
-invariant-loop-i l = (l.i ≤ l.count) × ((j : ℕ) → j < l.i → unle (take 8 (drop (l.at + j * 8) l.s)) ≡ l.word)
+invariant-loop-i l = (j : ℕ) → j < l.i → unle (take 8 (drop (l.at + j * 8) l.s)) ≡ l.word
 
-abbrev pub decreases-loop-i : goal.decreases-loop-i
-decreases-loop-i l = l.count - l.i
