@@ -63,7 +63,7 @@ loop-j-smaller c =
 pub loop-j-preserved : goal.loop-j-preserved
 loop-j-preserved c =
     let mark = c.mark_of-mark in
-    rw c.skip-j.ensures (placing_more c.loop-j.invariant c.loop-j-test.true (told_mark mark.result) mark.ensures c.byte_if.ensures)
+    rw c.skip-j.ensures (placing_more c.loop-j.invariant c.loop-j-test.true (told_mark mark.result) mark.ensures c.if_set.ensures)
 
 pub overflow_add-to : goal.overflow_add-to
 overflow_add-to c =

@@ -74,7 +74,7 @@ loop-k-preserved c =
     let word_is = loop.invariant.1 ∙ word_left args.size (order_of args.order) args.s.now args.at loop.k args.cells c.loop-k-test.true in
     let mark = told_mark c.mark_of-mark.result in (
       rw c.skip-k.ensures
-          (values_cell loop.invariant.0 inside mark mark_is (word_cell args.size mark loop.v q c.number_if-w.ensures word_is)
+          (values_cell loop.invariant.0 inside mark mark_is (word_cell args.size mark loop.v q c.if_set-w.ensures word_is)
           c.put_word.ensures),
       c.next_word-v-in-loop-k.ensures,
     )

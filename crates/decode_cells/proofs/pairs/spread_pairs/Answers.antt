@@ -91,8 +91,8 @@ loop-k-preserved c =
     let loop = c.loop-k in
     let q = ordered (order_of args.order) (take 16 (drop (args.at + loop.k * 16) args.s.now)) in
     let mark = told_mark c.mark_of-mark.result in
-    let x = c.number_if-x in
-    let y = c.number_if-y in
+    let x = c.if_set-x in
+    let y = c.if_set-y in
     let is = pair_is args.s.now args.at loop.k args.cells c.loop-k-test.true (order_of args.order) c.first_word-a.ensures loop.v
     loop.u loop.invariant.1 loop.invariant.2 in (
       rw c.skip-k.ensures
