@@ -15,9 +15,6 @@ copy_few-requires c =
     let pre = c.requires in
     (omega (arith, pre, test, blocks_same c.loop-done.invariant (omega (arith, pre))), omega (arith, pre, test), omega arith)
 
-pub loop-done-smaller : goal.loop-done-smaller
-loop-done-smaller c = omega (arith, c.loop-done-test.true)
-
 pub loop-done-preserved : goal.loop-done-preserved
 loop-done-preserved c =
     let pre = c.requires in
@@ -28,3 +25,9 @@ shape_of-values c = blocks_same c.loop-done.invariant (omega (arith, c.requires)
 
 pub returns : goal.returns
 returns c = blocks_end c.loop-done.invariant c.requires.0 c.loop-done-test.false
+
+pub returns-2 : goal.returns-2
+returns-2 c =
+    let pre = c.requires in
+    let last = blocks_next c.loop-done.invariant c.loop-done-test.true (omega (arith, pre)) (omega (arith, pre, c.loop-done-test.true)) c.copy_few.ensures in
+    blocks_end last pre.0 (omega arith)
