@@ -59,6 +59,7 @@ pub fn spread_pairs(
     let mut k = 0;
     let mut v = pair_word(s, at, k, a, cells, order);
     let mut u = pair_word(s, at, k, b, cells, order);
+    // it ends with the last stored one and not with the last cell: a `for` over the cells would test for both
     while k < cells {
         let mark = mark_of(masks[from + i]);
         let x = if_set(mark, v, 0);

@@ -59,6 +59,7 @@ pub fn spread_offsets(
     let w = width_bytes(width);
     let mut i = 0;
     let mut k = 0;
+    // it ends with the last stored one and not with the last cell: a `for` over the cells would test for both
     while k < cells {
         offsets[i] = le_at(s, at + k * w, width);
         let mark = mark_of(masks[from + i]);

@@ -26,6 +26,7 @@ fn spread_laid(masks: &mut [u8], from: usize, to: usize, n: usize, cells: usize)
     let laid = to + (n - cells);
     let mut i = 0;
     let mut j = 0;
+    // it ends with the last stored one and not with the last cell: a `for` over the cells would test for both
     while j < cells {
         let b = masks[laid + j];
         let mark = mark_of(masks[from + i]);

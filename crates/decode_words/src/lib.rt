@@ -46,6 +46,7 @@ pub fn spread_words(
     let mut i = 0;
     let mut k = 0;
     let mut v = next_word(s, at, k, cells, size, order);
+    // it ends with the last stored one and not with the last cell: a `for` over the cells would test for both
     while k < cells {
         let mark = mark_of(masks[from + i]);
         let w = if_set(mark, v, 0);

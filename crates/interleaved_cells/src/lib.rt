@@ -7,10 +7,6 @@ ghost use Rattle.interleaved_cells.specs.Cell.{Copied};
 
 use buffer::copy;
 
-fn block() -> [u8; 256] {
-    [0; 256]
-}
-
 // Copies k bytes, by way of an array of our own: no slice overlaps it, so all are read before the first is written, and the compiler
 // drops the array. Of a k that it knows it makes as many loads and stores, of any other a call of memmove. `copy_from_slice` tests
 // whether its slices overlap, and copies byte by byte where they do.
@@ -18,7 +14,7 @@ fn copy_few(values: &mut [u8], to: usize, bytes: &[u8], at: usize, k: usize)
     requires { (to + k ≤ length values.old) × (at + k ≤ length bytes.now) × (k ≤ 256) }
     ensures { values.new ≡ over_at to (take k (drop at bytes.now)) values.old }
 {
-    let mut between = block();
+    let mut between = [0u8; 256];
     copy::copy_bytes(&mut between, 0, bytes, at, k);
     copy::copy_bytes(values, to, &between, 0, k);
 }
