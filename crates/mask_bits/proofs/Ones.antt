@@ -1,7 +1,7 @@
 -- The count of ones: of a byte it is how many of its bits are set, and of bytes read as one number the sum over them.
 -- Assumes nothing.
 use mathlib.Core.Path.{◌≡◌, refl, sym, ap, ap₂, subst, ◌∙◌}
-use Prim.Native.Nat.{ℕ, zero, suc, ◌+◌, ◌-◌, ◌*◌, ◌/◌, ◌%◌, ◌^◌, ◌<◌, ◌≤◌}
+use Prim.Native.Nat.{ℕ, zero, suc, ◌+◌, ◌*◌, ◌/◌, ◌%◌, ◌^◌, ◌<◌}
 use native.Mathlib.Nat.{pow-zero, pow-suc, mod-lt, zero-lt-suc, add_comm}
 use native.Mathlib.Omega.{arith}
 use mathlib.Core.List.{List, [], ◌∷◌, ◌++◌}
@@ -11,7 +11,7 @@ use lib.Arith.{lt-one}
 use lib.Count.{ones, ones_step, ones_cat}
 use Rattle.array.specs.Lists.{All}
 use Rattle.array.specs.Bytes.{digits, number, unle, AllBytes}
-use Rattle.array.proofs.Lists.{All-take, All-drop, take_within}
+use Rattle.array.proofs.Lists.{All-take, All-drop}
 use Rattle.array.specs.Cells.{mark_of}
 use Rattle.codec.specs.Frame.{count_by, count_set, set_bits}
 use Rattle.mask_bits.specs.Bits.{bits_in}

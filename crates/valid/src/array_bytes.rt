@@ -36,23 +36,19 @@ fn rise_from_zero(offsets: &[u64], n: usize) -> bool
     if offsets[0] > 0 {
         return false;
     }
+    let (fours, rest) = offsets[1..n + 1].split_at(n / 4 * 4);
     let mut last: u64 = 0;
-    let mut i: usize = 0;
-    while i + 4 <= n {
-        let next = offsets[i + 4];
-        if !four_rise(last, offsets[i + 1], offsets[i + 2], offsets[i + 3], next) {
+    for four in fours.chunks_exact(4) {
+        if !four_rise(last, four[0], four[1], four[2], four[3]) {
             return false;
         }
-        last = next;
-        i += 4;
+        last = four[3];
     }
-    while i < n {
-        let next = offsets[i + 1];
-        if next < last {
+    for next in rest {
+        if *next < last {
             return false;
         }
-        last = next;
-        i += 1;
+        last = *next;
     }
     true
 }

@@ -1,7 +1,6 @@
 -- `mask_marks::count_set` meets its contract. The invariant: what is counted and what is left to count make the whole count.
 -- Assumes nothing.
-use mathlib.Core.Path.{◌≡◌, ap, ◌∙◌}
-use Prim.Native.Nat.{◌+◌}
+use mathlib.Core.Path.{ap, ◌∙◌}
 use native.Mathlib.Omega.{arith}
 use Rattle.std.specs.Slice.Iter.{chunks_rest}
 use Rattle.codec.specs.Frame.{count_set}

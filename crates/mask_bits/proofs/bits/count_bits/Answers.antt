@@ -1,6 +1,6 @@
 -- `mask_bits::bits::count_bits` meets its contract: the bytes of whole words and those after them (Ones).
 -- Assumes nothing.
-use mathlib.Core.Path.{◌≡◌, sym, ap, ◌∙◌}
+use mathlib.Core.Path.{◌≡◌, ap, ◌∙◌}
 use Prim.Native.Nat.{ℕ, ◌+◌, ◌-◌, ◌*◌, ◌/◌}
 use mathlib.Core.List.{List}
 use native.Mathlib.Omega.{arith}

