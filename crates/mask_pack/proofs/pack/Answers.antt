@@ -1,7 +1,7 @@
 -- `mask_pack::pack` meets its contract. The invariant: the bytes of the cells so far lie there, whole ones while cells are left, and those of the others are left.
 -- Assumes nothing.
 use mathlib.Core.Path.{◌≡◌, sym, ap, subst, ◌∙◌}
-use mathlib.Core.List.{List, [], map}
+use mathlib.Core.List.{List, map}
 use Prim.Native.Nat.{ℕ, ◌+◌, ◌-◌, ◌/◌, ◌%◌, ◌<◌, ◌≤◌, min}
 use native.Mathlib.Omega.{arith}
 use lib.ListN.{length, take, drop}
@@ -33,7 +33,7 @@ module _ (planes old : List ℕ) (to at n : ℕ) where
         length-packed (map bit_of (take count (drop (at + done) planes))) ∙ ap bytes_for (length-part_bits planes (at + done) count (omega (arith, size, h))) in
         let laid : new ≡ over_at (to + bytes_for done) g now = e ∙ ap (λ (k : ℕ). over_at (to + k) g now) (sym e8) in
         laying_part (packed_from planes at n 0) old to now (bytes_for done) g (packed_from planes at n (done + count))
-            (laying_is inv (packed_next planes at n h done (omega arith) size)) new laid (bytes_for (done + count)) (omega arith)
+        (laying_is inv (packed_next planes at n h done (omega arith) size)) new laid (bytes_for (done + count)) (omega arith)
 
     reached_ends : {now : List ℕ} (r : ℕ) → n ≤ r → Reached now r → now ≡ over_at to (packed_from planes at n 0) old
     reached_ends {now} r l inv = laying_ends (packed_from planes at n 0) old to now (bytes_for r) (laying_is inv (packed_end planes at n h r l))
@@ -52,7 +52,7 @@ loop-done-preserved c =
     let next : l.done + c.min-count.result ≡ min (l.done + 256) a.n = omega (arith, c.min-count.ensures) in
     let reached = Reached a.planes.now a.out.now a.to a.at a.n in
     let more = reached_more a.planes.now a.out.now a.to a.at a.n c.requires.1 l.done c.min-count.result (omega arith) l.invariant.0
-        (omega (arith, c.min-count.ensures)) (subst (reached l.out) here l.invariant.1) c.pack_block.ensures in
+    (omega (arith, c.min-count.ensures)) (subst (reached l.out) here l.invariant.1) c.pack_block.ensures in
     (omega (arith, l.invariant.0), subst (reached c.pack_block.new.out) next more)
 
 pub returns-2 : goal.returns-2
@@ -62,5 +62,5 @@ returns-2 c =
     let here : min l.done a.n ≡ l.done = omega arith in
     let reached = Reached a.planes.now a.out.now a.to a.at a.n in
     let more = reached_more a.planes.now a.out.now a.to a.at a.n c.requires.1 l.done c.min-count.result (omega arith) l.invariant.0
-        (omega (arith, c.min-count.ensures)) (subst (reached l.out) here l.invariant.1) c.pack_block.ensures in
+    (omega (arith, c.min-count.ensures)) (subst (reached l.out) here l.invariant.1) c.pack_block.ensures in
     reached_ends a.planes.now a.out.now a.to a.at a.n c.requires.1 (l.done + c.min-count.result) (omega (arith, c.min-count.ensures)) more

@@ -4,12 +4,12 @@ use mathlib.Core.Path.{◌≡◌, sym, ap, ap₂, ◌∙◌}
 use mathlib.Core.List.{List, [], ◌∷◌, map}
 use Prim.Native.Nat.{ℕ, ◌+◌, ◌*◌}
 use native.Mathlib.Omega.{arith}
-use lib.ListN.{length, take, drop, length-map}
+use lib.ListN.{take, drop, length-map}
 use Rattle.array.specs.Lists.{pieces}
 use native.Mathlib.Nat.{sub-zero}
 use Rattle.array.specs.Bytes.{number, unle}
 use Rattle.array.proofs.Lists.{length-pieces}
-use Rattle.array.proofs.Laying.{Laying, laying_begins, laying_same, laying_store, laying_is, laying_ends}
+use Rattle.array.proofs.Laying.{Laying, laying_begins, laying_store, laying_is, laying_ends}
 use Rattle.mask_pack.specs.PackedWord.{packed_word}
 use Rattle.mask_pack.proofs.Words.{words_next, words_end}
 use Rattle.mask_pack.proofs.pack_words.Invariants.{bytes_from}
@@ -23,12 +23,6 @@ loop-i-init c =
     laying_begins want a.out.now a.to (omega (arith, c.requires.0, length-map (pieces 8 a.count a.block.now) (number 2), length-pieces 8 a.count a.block.now)) in
     laying_is begins (sym (ap (λ (k : ℕ). map (number 2) (pieces 8 k a.block.now)) (sub-zero a.count)))
 
-pub bounds-out-to : goal.bounds-out-to
-bounds-out-to c =
-    let same : length c.loop-i.out ≡ length c.args.out.now = let a = c.args in
-    laying_same (map (number 2) (pieces 8 a.count a.block.now)) a.out.now a.to c.loop-i.out c.loop-i.i (bytes_from a.block.now a.count c.loop-i.i) c.loop-i.invariant in
-    omega (arith, same)
-
 pub loop-i-preserved : goal.loop-i-preserved
 loop-i-preserved c =
     let a = c.args in
@@ -40,12 +34,6 @@ loop-i-preserved c =
     let next : bytes_from a.block.now a.count i ≡ c.packed_word.result ∷ rest =
     words_next a.block.now a.count c.requires.2 c.requires.1 i (omega arith) ∙ ap (λ (b : ℕ). b ∷ rest) word in
     laying_store (map (number 2) (pieces 8 a.count a.block.now)) a.out.now a.to c.loop-i.out i c.packed_word.result rest (laying_is c.loop-i.invariant next)
-
-pub shape_of-out : goal.shape_of-out
-shape_of-out c =
-    let same : length c.loop-i.out ≡ length c.args.out.now = let a = c.args in
-    laying_same (map (number 2) (pieces 8 a.count a.block.now)) a.out.now a.to c.loop-i.out c.loop-i.i (bytes_from a.block.now a.count c.loop-i.i) c.loop-i.invariant in
-    same
 
 pub returns : goal.returns
 returns c =

@@ -1,7 +1,7 @@
 -- `mask_pack::pack_words` meets its contract. The invariant: the first i bytes lie there, and those of the other words are left.
 -- Assumes nothing.
 use mathlib.Core.List.{List, map}
-use Prim.Native.Nat.{ℕ, ◌-◌, ◌*◌, ◌≤◌}
+use Prim.Native.Nat.{ℕ, ◌-◌, ◌*◌}
 use lib.ListN.{drop}
 use Rattle.array.specs.Lists.{pieces}
 use Rattle.array.specs.Bytes.{number}

@@ -1,7 +1,7 @@
 -- `mask_pack::put_bits` meets its contract. The invariant: the bits of the first i mask bytes lie there, and those of the others are left.
 -- Assumes nothing.
 use mathlib.Core.List.{List, map}
-use Prim.Native.Nat.{ℕ, ◌-◌, ◌≤◌}
+use Prim.Native.Nat.{ℕ}
 use lib.ListN.{take, drop}
 use Rattle.array.specs.Cells.{bit_of}
 use Rattle.array.proofs.Laying.{Laying}
