@@ -1,7 +1,7 @@
 -- `mask_unpack::unpack_whole` meets its contract. The invariant: the cells of the first i bytes lie there, and those of the others are left.
 -- Assumes nothing.
 use mathlib.Core.List.{List}
-use Prim.Native.Nat.{ℕ, ◌-◌, ◌*◌, ◌≤◌}
+use Prim.Native.Nat.{ℕ, ◌*◌}
 use lib.ListN.{take, drop}
 use Rattle.array.proofs.Laying.{Laying}
 use Rattle.codec.specs.Mask.{bits_of}
