@@ -1,20 +1,19 @@
--- The check of the array's rules: offsets that begin at 0 and never fall, turn by turn; what content fits; what a check's answer says of the array.
+-- The check of the array's rules: what content fits; what a check's answer says of the array.
 -- Assumes nothing.
-use mathlib.Core.Path.{◌≡◌, refl, sym, ap, ap₂, subst, ◌∙◌}
-use Prim.Native.Nat.{ℕ, suc, ◌+◌, ◌-◌, ◌*◌, ◌<◌, ◌≤◌}
+use mathlib.Core.Path.{◌≡◌, refl, sym, ap, ap₂, ◌∙◌}
+use Prim.Native.Nat.{ℕ, suc, ◌+◌, ◌*◌, ◌<◌, ◌≤◌}
 use native.Mathlib.Nat.{mul-le-mul}
 use native.Mathlib.Numerals.{add-one}
 use native.Mathlib.Omega.{arith}
 use mathlib.Core.Bool.{Bool, true, false, not, ◌&&◌}
-use mathlib.Core.List.{List, [], ◌∷◌, ◌++◌}
-use lib.ListN.{length, get_or, take, drop}
-use lib.Dec.{leb, eqb}
-use lib.Seq.{drop-cons, take_all}
+use lib.ListN.{length, get_or, take}
+use lib.Dec.{eqb}
+use lib.Seq.{take_all}
 use borrow.Author.Tests.{le-leb, lt-leb, eq-eqb, ne_eqb, not-true, not-false}
 use Rattle.array.specs.Limits.{most_bytes, most_cells}
 use Rattle.array.specs.Answer.{Answer, gives, refuses, unless, and_then}
 use Rattle.array.specs.Kind.{Kind, fixed, ragged, Order, Place}
-use Rattle.array.specs.Offsets.{last, rising_test, rising_from_test}
+use Rattle.array.specs.Offsets.{last, rising_test}
 use Rattle.array.specs.Content.{Content, ArrayOk, content_test, values_test, masks_test, array_test, size_test, unless_kept}
 use Rattle.valid.specs.Check.{check_of, told_checked}
 use Rattle.array.specs.Meaning.{form_of, kind_of}

@@ -1,7 +1,7 @@
 -- `count_strict` meets its contract. The invariant: what is counted and what is left to count make the whole count, and no byte over 01 has passed.
 -- Assumes nothing.
 use mathlib.Core.Path.{◌≡◌, ap, ◌∙◌}
-use Prim.Native.Nat.{ℕ, ◌<◌}
+use Prim.Native.Nat.{◌<◌}
 use native.Mathlib.Omega.{arith}
 use lib.ListN.{length}
 use Rattle.std.specs.Slice.Iter.{chunks_rest}
