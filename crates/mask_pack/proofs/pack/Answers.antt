@@ -11,8 +11,7 @@ use Rattle.array.proofs.Laying.{Laying, laying_begins, laying_part, laying_is, l
 use Rattle.codec.specs.Mask.{pack_bits, bytes_for}
 use Rattle.codec.proofs.Masks.{length-packed}
 use Rattle.mask_bits.proofs.Parts.{length-part_bits}
-use Rattle.mask_pack.proofs.Words.{length-packed-from, packed_next, packed_end}
-use Rattle.mask_pack.proofs.pack.Invariants.{packed_from}
+use Rattle.mask_pack.proofs.Words.{packed_from, length-packed-from, packed_next, packed_end}
 use Rattle.mask_pack.proofs.pack.Goals as goal
 
 -- what lies there once the cells up to r are packed
