@@ -6,13 +6,8 @@ use native.Mathlib.Omega.{arith}
 use lib.ListN.{length, get_or}
 use Rattle.array.specs.Cells.{set_test}
 use Rattle.decode_marks.proofs.PlaneLaws.{plane_at, plane_length, plane_byte}
-use Rattle.decode_cells.proofs.RunLaws.{running_begins, running_ends, running_stops, running_more}
+use Rattle.decode_cells.proofs.RunLaws.{running_ends, running_stops, running_more}
 use Rattle.decode_cells.proofs.runs.run_length.Goals as goal
-
-pub loop-e-init : goal.loop-e-init
-loop-e-init c =
-    let long : length (plane_at c.args.from c.args.n c.args.masks.now) ≡ c.args.n = plane_length c.args.from c.args.n c.args.masks.now c.requires.0 in
-    running_begins c.args.set (plane_at c.args.from c.args.n c.args.masks.now) c.args.i (omega (arith, long, c.requires.1))
 
 pub returns-then-is_set-set : goal.returns-then-is_set-set
 returns-then-is_set-set c =
