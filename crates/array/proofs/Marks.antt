@@ -5,7 +5,7 @@ use Prim.Native.Nat.{ℕ, zero, suc, ◌+◌, ◌<◌, ◌≤◌}
 use native.Mathlib.Omega.{arith}
 use native.Mathlib.Numerals.{add-one}
 use mathlib.Core.Bool.{true, false}
-use mathlib.Core.List.{List, [], ◌∷◌}
+use mathlib.Core.List.{List, [], ◌∷◌, ◌++◌}
 use lib.ListN.{length, get_or, drop, drop_of_length-le}
 use lib.Seq.{drop-cons}
 use Rattle.array.specs.Lists.{every}
@@ -35,6 +35,10 @@ some_others [] h = absurd (omega arith)
 some_others (zero ∷ s) h = some_others s (omega arith)
 some_others (suc zero ∷ s) h = some_others s (omega arith)
 some_others (suc (suc b) ∷ s) h = refl
+
+pub others-append : (s t : List ℕ) → others (s ++ t) ≡ others s + others t
+others-append [] t = omega arith
+others-append (b ∷ s) t = omega (arith, others-append s t)
 
 -- from the byte i on
 module _ (s : List ℕ) (i : ℕ) where

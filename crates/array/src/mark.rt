@@ -37,6 +37,9 @@ pub fn one_if_other(b: u8) -> u8
     }
 }
 
+// As many bytes as are counted in one byte.
+pub const BLOCK: usize = 240;
+
 // Where the block that begins at `at` ends: as many bytes as are counted in one byte.
 pub fn block_end(at: usize, length: usize) -> usize
     requires { at < length }

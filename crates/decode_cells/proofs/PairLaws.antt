@@ -55,10 +55,3 @@ pub pair_cell : (m : Mark) {x y : ℕ} (v u : ℕ) {q : List ℕ} → x ≡ if_s
 pair_cell m {x} {y} v u {q} ex ey e =
     ap₂ (λ (a b : List ℕ). a ++ b) (word_cell 8 m v (le 8 v) ex refl) (word_cell 8 m u (le 8 u) ey refl)
     ∙ both m (le 8 v) (le 8 u) (replicate 8 0) (replicate 8 0) ∙ ap (λ (p : List ℕ). if_set m p (replicate 16 0)) e
-
-pub first_most : (o : Order) → first_word o ≤ 1
-first_most little = omega arith
-first_most big = omega arith
-
-pub other_most : (a : ℕ) → 1 - a ≤ 1
-other_most a = omega arith

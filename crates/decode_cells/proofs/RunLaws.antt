@@ -45,9 +45,6 @@ pub record Running (b : Bool) (p : List ℕ) (i e : ℕ) : Type 0 where
   pub within : e ≤ length p
   pub left : e - i + mark_run b (drop e p) ≡ mark_run b (drop i p)
 
-pub running_begins : (b : Bool) (p : List ℕ) (i : ℕ) → i ≤ length p → Running b p i i
-running_begins b p i h = record { begun = omega arith; within = h; left = omega arith }
-
 module _ {b : Bool} {p : List ℕ} {i e : ℕ} (r : Running b p i e) where
   pub running_ends : length p ≤ e → e - i ≡ mark_run b (drop i p)
   running_ends h = omega (arith, r.left, ap (mark_run b) (drop_of_length-le p {i = e} h))

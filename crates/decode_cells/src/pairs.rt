@@ -9,7 +9,7 @@ ghost use Rattle.decode_words.specs.Values.{values_over, ValuesWithin};
 use array::kind::ByteOrder;
 use array::mark::mark_of;
 use buffer::copy::fill_bytes;
-use decode_marks::{number_if, skip};
+use decode_marks::{if_set, skip};
 use decode_words::next_word;
 use word::put_word;
 
@@ -59,10 +59,11 @@ pub fn spread_pairs(
     let mut k = 0;
     let mut v = pair_word(s, at, k, a, cells, order);
     let mut u = pair_word(s, at, k, b, cells, order);
+    // it ends with the last stored one and not with the last cell: a `for` over the cells would test for both
     while k < cells {
         let mark = mark_of(masks[from + i]);
-        let x = number_if(mark, v, 0);
-        let y = number_if(mark, u, 0);
+        let x = if_set(mark, v, 0);
+        let y = if_set(mark, u, 0);
         k = skip(mark, k, 1);
         v = pair_word(s, at, k, a, cells, order);
         u = pair_word(s, at, k, b, cells, order);

@@ -9,12 +9,10 @@ pub fn run_length(masks: &[u8], from: usize, n: usize, i: usize, set: bool) -> u
     requires { (from + n ≤ length masks.now) × (i ≤ n) }
     ensures { result ≡ mark_run set (drop i (take n (drop from masks.now))) }
 {
-    let mut e = i;
-    while e < n {
+    for e in i..n {
         if is_set(masks, from + e) != set {
             return e - i;
         }
-        e += 1;
     }
-    e - i
+    n - i
 }

@@ -58,6 +58,7 @@ fn spread_runs(
 {
     let mut i = 0;
     let mut k = 0;
+    // a turn takes as many cells as two runs have, so it has no step that a `for` could take
     while k < cells {
         let nulls = run_length(masks, from, n, i, false);
         fill_bytes(values, i * size, nulls * size, 0);

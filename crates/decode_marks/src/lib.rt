@@ -13,30 +13,17 @@ pub fn skip(mark: Mark, at: usize, size: usize) -> usize
     ensures { result ≡ next_at (told_mark mark) at size }
 {
     match mark {
-        Mark::Null => at,
         Mark::Set => at + size,
-        Mark::Other => at,
+        Mark::Null | Mark::Other => at,
     }
 }
 
-// The byte b for a set cell, and 0 for any other.
-pub fn byte_if(mark: Mark, b: u8) -> u8
-    ensures { result ≡ if_set (told_mark mark) b 0 }
+// x for a set cell, and z for any other.
+pub fn if_set<T: Copy>(mark: Mark, x: T, z: T) -> T
+    ensures { result ≡ if_set (told_mark mark) x z }
 {
     match mark {
-        Mark::Null => 0,
-        Mark::Set => b,
-        Mark::Other => 0,
-    }
-}
-
-// The number v for a set cell, and z for any other.
-pub fn number_if(mark: Mark, v: u64, z: u64) -> u64
-    ensures { result ≡ if_set (told_mark mark) v z }
-{
-    match mark {
-        Mark::Null => z,
-        Mark::Set => v,
-        Mark::Other => z,
+        Mark::Set => x,
+        Mark::Null | Mark::Other => z,
     }
 }

@@ -1,62 +1,55 @@
 -- The loop that writes offsets as they are stored: what is left to write, turn by turn.
 -- Assumes nothing.
-use mathlib.Core.Path.{◌≡◌, sym, ap, ap₂, ◌∙◌, subst}
+use mathlib.Core.Path.{◌≡◌, ap, ◌∙◌, subst}
 use mathlib.Core.List.{List, ◌∷◌}
-use Prim.Native.Nat.{ℕ, zero, suc, ◌+◌, ◌-◌, ◌*◌, ◌≤◌, ◌<◌}
+use Prim.Native.Nat.{ℕ, suc, ◌+◌, ◌-◌, ◌*◌, ◌≤◌, ◌<◌}
 use native.Mathlib.Omega.{arith}
 use native.Mathlib.Nat.{suc-mul, zero-add}
-use native.Mathlib.Numerals.{sub-one, add-one}
+use native.Mathlib.Numerals.{add-one}
 use lib.ListN.{length, take, drop, set, length-map}
 use lib.Seq.{drop-drop}
 use Rattle.array.specs.Lists.{pieces}
 use Rattle.array.specs.Bytes.{unle}
 use Rattle.array.specs.Buffers.{over}
 use Rattle.array.proofs.Lists.{length-pieces}
-use Rattle.array.proofs.Laying.{Laying, laying_begins, laying_same, laying_ends, laying_store, laying_is, laying_room}
+use Rattle.array.proofs.Laying.{Laying, laying_begins, laying_ends, laying_store, laying_is}
 use Rattle.stored_index.specs.Index.{offsets_in}
-use Rattle.stored_index.proofs.IndexLaws.{times_less}
 
 pub length_offsets : (w n : ℕ) (q : List ℕ) → length (offsets_in w n q) ≡ n
 length_offsets w n q = length-map (pieces w n q) unle ∙ length-pieces w n q
 
--- `left` offsets are left, stored from j on
-pub record CopyingOffsets (w n : ℕ) (s d : List ℕ) (at : ℕ) (out : List ℕ) (left i j : ℕ) : Type 0 where
-  pub enough : j + left * w ≤ length s
-  pub laid : Laying (offsets_in w (suc n) (drop at s)) d 0 out i (offsets_in w left (drop j s))
-
+-- the offsets from the i-th on, and what is written before it
 module _ (w n : ℕ) (s d : List ℕ) (at : ℕ) where
-  pub offsets_begin : at + (w + n * w) ≤ length s → n + 1 ≤ length d → CopyingOffsets w n s d at d (n + 1) 0 at
-  offsets_begin h r =
-      let e : n + 1 ≡ suc n = add-one n in
-      record {
-        enough = omega (arith, ap (λ (k : ℕ). k * w) e, suc-mul n w);
-        laid = laying_is (laying_begins (offsets_in w (suc n) (drop at s)) d 0 (omega (arith, length_offsets w (suc n) (drop at s)))) (ap (λ (k : ℕ). offsets_in w k (drop at s)) (sym e));
-      }
+  abbrev pub offsets_from : ℕ → List ℕ
+  offsets_from i = offsets_in w (n + 1 - i) (drop (at + i * w) s)
 
-module _ {w n : ℕ} {s d : List ℕ} {at : ℕ} {out : List ℕ} {left i j : ℕ} (c : CopyingOffsets w n s d at out left i j) where
-  pub offsets_same : length out ≡ length d
-  offsets_same = laying_same (offsets_in w (suc n) (drop at s)) d 0 out i _ c.laid
+  abbrev pub Copied : List ℕ → ℕ → Type 0
+  Copied out i = Laying (offsets_in w (suc n) (drop at s)) d 0 out i (offsets_from i)
 
-  pub offsets_end : left ≡ 0 → out ≡ over (offsets_in w (suc n) (drop at s)) d
-  offsets_end e = laying_ends (offsets_in w (suc n) (drop at s)) d 0 out i (laying_is c.laid (ap (λ (k : ℕ). offsets_in w k (drop j s)) e))
+  offsets_next : (i : ℕ) → i < n + 1 → offsets_from i ≡ unle (take w (drop (at + i * w) s)) ∷ offsets_from (i + 1)
+  offsets_next i h =
+      let first = unle (take w (drop (at + i * w) s)) in
+      let one : n + 1 - i ≡ suc (n + 1 - (i + 1)) = omega arith in
+      let next : at + i * w + w ≡ at + (i + 1) * w = omega (arith, ap (λ (k : ℕ). k * w) (add-one i), suc-mul i w) in
+      ap (λ (k : ℕ). offsets_in w k (drop (at + i * w) s)) one
+      ∙ ap (λ (q : List ℕ). first ∷ offsets_in w (n + 1 - (i + 1)) q) (drop-drop w (at + i * w) s ∙ ap (λ (j : ℕ). drop j s) next)
 
-  module _ (h : 0 < left) where
-    pub offsets_source : j + w + (left - 1) * w ≤ length s
-    offsets_source = omega (arith, c.enough, times_less left w h)
+  pub copied_begins : n + 1 ≤ length d → Copied d 0
+  copied_begins r =
+      let want = offsets_in w (suc n) (drop at s) in
+      let count : suc n ≡ n + 1 - 0 = omega arith in
+      let from : at ≡ at + 0 * w = omega arith in
+      laying_is (laying_begins want d 0 (omega (arith, r, length_offsets w (suc n) (drop at s))))
+      (ap (λ (k : ℕ). offsets_in w k (drop at s)) count ∙ ap (λ (j : ℕ). offsets_in w (n + 1 - 0) (drop j s)) from)
 
-    next : offsets_in w left (drop j s) ≡ unle (take w (drop j s)) ∷ offsets_in w (left - 1) (drop (j + w) s)
-    next = go left h
-      where
-        go : (k : ℕ) → 0 < k → offsets_in w k (drop j s) ≡ unle (take w (drop j s)) ∷ offsets_in w (k - 1) (drop (j + w) s)
-        go zero f = absurd (omega arith)
-        go (suc k) f = ap₂ (λ (m : ℕ) (q : List ℕ). unle (take w (drop j s)) ∷ offsets_in w m q) (sym (sub-one (suc k))) (drop-drop w j s)
+  module _ {out : List ℕ} {i : ℕ} (c : Copied out i) where
+    pub copied_ends : n + 1 ≤ i → out ≡ over (offsets_in w (suc n) (drop at s)) d
+    copied_ends h =
+        let none : n + 1 - i ≡ 0 = omega arith in
+        laying_ends (offsets_in w (suc n) (drop at s)) d 0 out i (laying_is c (ap (λ (k : ℕ). offsets_in w k (drop (at + i * w) s)) none))
 
-    pub offsets_room : i < length out
-    offsets_room = omega (arith, laying_room (offsets_in w (suc n) (drop at s)) d 0 out i _ _ (laying_is c.laid next))
-
-    pub offsets_more : {v : ℕ} → v ≡ unle (take w (drop j s)) → CopyingOffsets w n s d at (set out i v) (left - 1) (i + 1) (j + w)
-    offsets_more {v} e = record {
-      enough = offsets_source;
-      laid = subst (λ (k : ℕ). Laying (offsets_in w (suc n) (drop at s)) d 0 (set out k v) (i + 1) (offsets_in w (left - 1) (drop (j + w) s))) (zero-add i)
-          (laying_store (offsets_in w (suc n) (drop at s)) d 0 out i v _ (laying_is c.laid (next ∙ ap (λ (x : ℕ). x ∷ offsets_in w (left - 1) (drop (j + w) s)) (sym e))));
-    }
+    pub copied_more : i < n + 1 → (v : ℕ) → unle (take w (drop (at + i * w) s)) ≡ v → Copied (set out i v) (i + 1)
+    copied_more h v e =
+        let want = offsets_in w (suc n) (drop at s) in
+        let next = offsets_next i h ∙ ap (λ (x : ℕ). x ∷ offsets_from (i + 1)) e in
+        subst (λ (k : ℕ). Laying want d 0 (set out k v) (i + 1) (offsets_from (i + 1))) (zero-add i) (laying_store want d 0 out i v (offsets_from (i + 1)) (laying_is c next))

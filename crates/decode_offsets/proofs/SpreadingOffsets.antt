@@ -11,7 +11,7 @@ use lib.Seq.{drop-drop, drop-cons}
 use Rattle.array.specs.Bytes.{unle}
 use Rattle.array.specs.Cells.{Mark, is_null, is_set, is_other, mark_of}
 use Rattle.array.specs.Buffers.{over, over_at}
-use Rattle.array.proofs.Laying.{Laying, laying_begins, laying_same, laying_ends, laying_part, laying_store, laying_is, laying_room}
+use Rattle.array.proofs.Laying.{Laying, laying_begins, laying_ends, laying_part, laying_store, laying_is}
 use Rattle.codec.specs.Frame.{count_by, count_set, next_by, left_by}
 use Rattle.stored_index.specs.Index.{offsets_in}
 use Rattle.stored_index.proofs.IndexLaws.{last_at}
@@ -74,12 +74,6 @@ ends_begin p d {w} {s} {at} {cells} q e r =
     }
 
 module _ {w : ℕ} {p s d : List ℕ} {at cells : ℕ} {out : List ℕ} {i k : ℕ} (c : SpreadingOffsets w p s d at cells out i k) where
-  pub ends_same : length out ≡ length d
-  ends_same = laying_same (ends_of w p s at) d 0 out i _ c.laid
-
-  pub ends_room : i < length out
-  ends_room = omega (arith, laying_room (ends_of w p s at) d 0 out i (end_at w s at cells k) _ c.laid)
-
   -- no stored one is left: all others are the last
   pub ends_end : cells ≤ k → {last : ℕ} → EndsStored w s at cells last → {n : ℕ} → length p ≡ n → {out' : List ℕ}
       → out' ≡ over_at i (replicate (n + 1 - i) last) out → out' ≡ over (ends_of w p s at) d

@@ -20,15 +20,8 @@ pub fn copy_offsets(offsets: &mut [u64], s: &[u8], at: usize, n: usize, width: I
     ensures { offsets.new ≡ over (offsets_in (width_of width) (suc n) (drop at s.now)) offsets.old }
 {
     let w = width_bytes(width);
-    let mut left = n + 1;
-    let mut i = 0;
-    let mut j = at;
-    while 0 < left {
-        let v = le_at(s, j, width);
-        offsets[i] = v;
-        j += w;
-        i += 1;
-        left -= 1;
+    for i in 0..n + 1 {
+        offsets[i] = le_at(s, at + i * w, width);
     }
 }
 
@@ -66,6 +59,7 @@ pub fn spread_offsets(
     let w = width_bytes(width);
     let mut i = 0;
     let mut k = 0;
+    // it ends with the last stored one and not with the last cell: a `for` over the cells would test for both
     while k < cells {
         offsets[i] = le_at(s, at + k * w, width);
         let mark = mark_of(masks[from + i]);

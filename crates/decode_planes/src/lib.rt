@@ -13,7 +13,7 @@ ghost use Rattle.decode_planes.specs.Within.{LaidWithin, PlaneWithin, LevelsWith
 use array::kind::MaskForm;
 use array::mark::mark_of;
 use buffer::copy::fill_bytes;
-use decode_marks::{byte_if, skip};
+use decode_marks::{if_set, skip};
 use mask::form::{copy_to_plane, count_stored, mask_length};
 
 // Spreads the `cells` mask bytes at the end of the plane at `to` over the plane of n cells at `from`, in which as many are set. A byte is
@@ -26,10 +26,11 @@ fn spread_laid(masks: &mut [u8], from: usize, to: usize, n: usize, cells: usize)
     let laid = to + (n - cells);
     let mut i = 0;
     let mut j = 0;
+    // it ends with the last stored one and not with the last cell: a `for` over the cells would test for both
     while j < cells {
         let b = masks[laid + j];
         let mark = mark_of(masks[from + i]);
-        masks[to + i] = byte_if(mark, b);
+        masks[to + i] = if_set(mark, b, 0);
         j = skip(mark, j, 1);
         i += 1;
     }

@@ -12,7 +12,7 @@ ghost use Rattle.decode_words.specs.Values.{values_over, ValuesWithin};
 use array::kind::ByteOrder;
 use array::mark::mark_of;
 use buffer::copy::fill_bytes;
-use decode_marks::{number_if, skip};
+use decode_marks::{if_set, skip};
 use word::{put_word, word_at};
 
 // The stored word k, of `cells` words from `at` on, or 0 behind them.
@@ -46,9 +46,10 @@ pub fn spread_words(
     let mut i = 0;
     let mut k = 0;
     let mut v = next_word(s, at, k, cells, size, order);
+    // it ends with the last stored one and not with the last cell: a `for` over the cells would test for both
     while k < cells {
         let mark = mark_of(masks[from + i]);
-        let w = number_if(mark, v, 0);
+        let w = if_set(mark, v, 0);
         k = skip(mark, k, 1);
         v = next_word(s, at, k, cells, size, order);
         put_word(values, i * size, size, w);

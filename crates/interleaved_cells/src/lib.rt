@@ -7,17 +7,14 @@ ghost use Rattle.interleaved_cells.specs.Cell.{Copied};
 
 use buffer::copy;
 
-fn block() -> [u8; 256] {
-    [0; 256]
-}
-
 // Copies k bytes, by way of an array of our own: no slice overlaps it, so all are read before the first is written, and the compiler
-// drops the array. Of a k that it knows it makes as many loads and stores, of any other a call of memmove.
+// drops the array. Of a k that it knows it makes as many loads and stores, of any other a call of memmove. `copy_from_slice` tests
+// whether its slices overlap, and copies byte by byte where they do.
 fn copy_few(values: &mut [u8], to: usize, bytes: &[u8], at: usize, k: usize)
     requires { (to + k ≤ length values.old) × (at + k ≤ length bytes.now) × (k ≤ 256) }
     ensures { values.new ≡ over_at to (take k (drop at bytes.now)) values.old }
 {
-    let mut between = block();
+    let mut between = [0u8; 256];
     copy::copy_bytes(&mut between, 0, bytes, at, k);
     copy::copy_bytes(values, to, &between, 0, k);
 }
@@ -39,10 +36,8 @@ fn copy_blocks(values: &mut [u8], to: usize, bytes: &[u8], at: usize, size: usiz
     requires { (size + 31 ≤ room) × (to + room ≤ length values.old) × (at + room ≤ length bytes.now) }
     ensures { Copied size room (drop at bytes.now) to values.old values.new }
 {
-    let mut done: usize = 0;
-    while done < size {
+    for done in (0..size).step_by(32) {
         copy_few(values, to + done, bytes, at + done, 32);
-        done += 32;
     }
 }
 
@@ -52,13 +47,11 @@ pub fn put_cell(values: &mut [u8], to: usize, bytes: &[u8], at: usize, size: usi
     requires { (size ≤ room) × (to + room ≤ length values.old) × (at + room ≤ length bytes.now) }
     ensures { Copied size room (drop at bytes.now) to values.old values.new }
 {
-    if size <= 64 {
-        if 32 <= room - size {
-            copy_blocks(values, to, bytes, at, size, room);
-            return;
-        }
+    if size <= 64 && 32 <= room - size {
+        copy_blocks(values, to, bytes, at, size, room);
+    } else {
+        copy_exactly(values, to, bytes, at, size);
     }
-    copy_exactly(values, to, bytes, at, size);
 }
 
 // Copies a cell that is read, and what lies behind it, up to a whole number of blocks or to the end of the room. The loop that reads has
@@ -67,7 +60,7 @@ pub fn copy_cell(values: &mut [u8], to: usize, bytes: &[u8], at: usize, size: us
     requires { (0 < size) × (size ≤ room) × (to + room ≤ length values.old) × (at + room ≤ length bytes.now) }
     ensures { Copied size room (drop at bytes.now) to values.old values.new }
 {
-    let blocks = (size - 1) / 32 * 32 + 32;
+    let blocks = size.next_multiple_of(32);
     if room < blocks {
         copy::copy_bytes(values, to, bytes, at, room);
     } else {

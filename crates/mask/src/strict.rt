@@ -1,12 +1,12 @@
 // Stored masks of a byte a cell: their bytes are checked and counted in one pass.
-ghost use Rattle.std.specs.Prelude.{◌≡◌, ◌+◌, ◌≤◌, length, drop};
+ghost use Rattle.std.specs.Prelude.{◌≡◌, ◌≤◌, length};
 ghost use Rattle.array.specs.Others.{others};
 ghost use Rattle.codec.specs.Mask.{byte_mask};
 ghost use Rattle.codec.specs.Frame.{count_set};
 ghost use Rattle.mask.specs.Marks.{counted_in};
 ghost use Rattle.array.specs.Meaning.{told};
 
-use array::mark::{block_end, one_if_other};
+use array::mark::{BLOCK, one_if_other};
 use array::refusal::Refusal;
 use mask_marks::one_if_set;
 
@@ -17,20 +17,17 @@ pub struct Tally {
     pub other: u8,
 }
 
-// The bytes from `from` to `end`, few enough for a byte: narrow counters are what makes counting fast.
-fn tally_block(mask: &[u8], from: usize, end: usize) -> Tally
-    requires { (from ≤ end) × (end ≤ from + 240) × (end ≤ length mask.now) }
-    ensures set { result.set + count_set (drop end mask.now) ≡ count_set (drop from mask.now) }
-    ensures other { result.other + others (drop end mask.now) ≡ others (drop from mask.now) }
+// The bytes of a block, few enough for a byte: narrow counters are what makes counting fast.
+fn tally_block(block: &[u8]) -> Tally
+    requires { length block.now ≤ 240 }
+    ensures set { result.set ≡ count_set block.now }
+    ensures other { result.other ≡ others block.now }
 {
     let mut set: u8 = 0;
     let mut other: u8 = 0;
-    let mut i = from;
-    while i < end {
-        let b = mask[i];
-        set += one_if_set(b);
-        other += one_if_other(b);
-        i += 1;
+    for b in block {
+        set += one_if_set(*b);
+        other += one_if_other(*b);
     }
     Tally { set, other }
 }
@@ -40,15 +37,12 @@ pub fn count_strict(mask: &[u8]) -> Result<usize, Refusal>
     ensures { told result ≡ counted_in byte_mask mask.now (length mask.now) }
 {
     let mut n: usize = 0;
-    let mut at = 0;
-    while at < mask.len() {
-        let end = block_end(at, mask.len());
-        let block = tally_block(mask, at, end);
-        if 0 < block.other {
+    for block in mask.chunks(BLOCK) {
+        let tally = tally_block(block);
+        if 0 < tally.other {
             return Err(Refusal::MaskByte);
         }
-        n += block.set as usize;
-        at = end;
+        n += usize::from(tally.set);
     }
     Ok(n)
 }

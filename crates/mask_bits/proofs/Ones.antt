@@ -1,17 +1,17 @@
 -- The count of ones: of a byte it is how many of its bits are set, and of bytes read as one number the sum over them.
 -- Assumes nothing.
-use mathlib.Core.Path.{◌≡◌, refl, sym, ap, ap₂, ◌∙◌}
-use Prim.Native.Nat.{ℕ, zero, suc, ◌+◌, ◌-◌, ◌*◌, ◌/◌, ◌%◌, ◌^◌, ◌<◌, ◌≤◌}
+use mathlib.Core.Path.{◌≡◌, refl, sym, ap, ap₂, subst, ◌∙◌}
+use Prim.Native.Nat.{ℕ, zero, suc, ◌+◌, ◌*◌, ◌/◌, ◌%◌, ◌^◌, ◌<◌}
 use native.Mathlib.Nat.{pow-zero, pow-suc, mod-lt, zero-lt-suc, add_comm}
 use native.Mathlib.Omega.{arith}
 use mathlib.Core.List.{List, [], ◌∷◌, ◌++◌}
-use lib.ListN.{get_or, take, drop, take-append-drop}
-use lib.Seq.{drop-drop, take-add}
+use lib.ListN.{length, get_or, take, drop, take-append-drop}
+use lib.Seq.{take_all}
 use lib.Arith.{lt-one}
 use lib.Count.{ones, ones_step, ones_cat}
 use Rattle.array.specs.Lists.{All}
-use Rattle.array.specs.Bytes.{digits, number, unle}
-use Rattle.array.proofs.Lists.{All-take, All-drop, take_within}
+use Rattle.array.specs.Bytes.{digits, number, unle, AllBytes}
+use Rattle.array.proofs.Lists.{All-take, All-drop}
 use Rattle.array.specs.Cells.{mark_of}
 use Rattle.codec.specs.Frame.{count_by, count_set, set_bits}
 use Rattle.mask_bits.specs.Bits.{bits_in}
@@ -40,32 +40,31 @@ ones_bytes (b ∷ s) p =
     ap ones e ∙ ones_cat 8 (number 256 s) b p.0 ∙ ap₂ (λ (x y : ℕ). x + y) (ones_bytes s p.1) (ones_byte b p.0) ∙ add_comm (bits_in s) (set_bits b)
 
 -- the elements of a slice are bytes, and so are those of its parts
-all_bytes : (s : List ℕ) → ((i : ℕ) → get_or s i 0 < 256) → All (λ b. b < 256) s
+pub all_bytes : (s : List ℕ) → ((i : ℕ) → get_or s i 0 < 256) → All (λ b. b < 256) s
 all_bytes [] f = tt
 all_bytes (b ∷ s) f = (f 0, all_bytes s (λ i. f (suc i)))
 
-pub part_bytes : (s : List ℕ) → ((i : ℕ) → get_or s i 0 < 256) → (at k : ℕ) → All (λ b. b < 256) (take k (drop at s))
+pub part_bytes : (s : List ℕ) → ((i : ℕ) → get_or s i 0 < 256) → (at k : ℕ) → AllBytes (take k (drop at s))
 part_bytes s f at k = All-take (λ b. b < 256) k (drop at s) (All-drop (λ b. b < 256) at s (all_bytes s f))
 
 bits_append : (s t : List ℕ) → bits_in (s ++ t) ≡ bits_in s + bits_in t
 bits_append [] t = omega arith
 bits_append (b ∷ s) t = omega (arith, bits_append s t)
 
--- the eight bytes at i, read as one number, and what is left after them
-pub word_next : (s : List ℕ) → ((i : ℕ) → get_or s i 0 < 256) → (at k i : ℕ) → i + 8 ≤ k
-    → bits_in (drop i (take k (drop at s))) ≡ ones (unle (take 8 (drop (at + i) s))) + bits_in (drop (i + 8) (take k (drop at s)))
-unfolding unle
-word_next s f at k i h =
-    let p : List ℕ = take k (drop at s) in
-    let word : take 8 (drop i p) ≡ take 8 (drop (at + i) s) = take_within i 8 k (drop at s) h ∙ ap (take 8) (drop-drop i at s) in
-    ap bits_in (sym (take-append-drop 8 (drop i p))) ∙ bits_append (take 8 (drop i p)) (drop 8 (drop i p))
-    ∙ ap₂ (λ (x y : ℕ). x + y) (ap bits_in word ∙ sym (ones_bytes (take 8 (drop (at + i) s)) (part_bytes s f (at + i) 8))) (ap bits_in (drop-drop 8 i p))
+all_front : (s t : List ℕ) → AllBytes (s ++ t) → AllBytes s × AllBytes t
+all_front [] t p = (tt, p)
+all_front (b ∷ s) t p = let q = all_front s t p.1 in ((p.0, q.0), q.1)
 
--- `size` bytes are those of whole words and those after them
-pub bits_parts : (s : List ℕ) (at whole size : ℕ) → whole ≤ size
-    → bits_in (take size (drop at s)) ≡ bits_in (take whole (drop at s)) + bits_in (take (size - whole) (drop (at + whole) s))
-bits_parts s at whole size h =
-    let e : size ≡ whole + (size - whole) = omega arith in
-    ap (λ (k : ℕ). bits_in (take k (drop at s))) e ∙ ap bits_in (take-add whole (size - whole) (drop at s))
-    ∙ bits_append (take whole (drop at s)) (take (size - whole) (drop whole (drop at s)))
-    ∙ ap (λ (r : List ℕ). bits_in (take whole (drop at s)) + bits_in (take (size - whole) r)) (drop-drop whole at s)
+-- eight bytes, read as one number, and what is left after them
+pub word_next : (left word rest : List ℕ) → left ≡ word ++ rest → length word ≡ 8 → AllBytes left
+    → (bits_in left ≡ ones (unle (take 8 (drop 0 word))) + bits_in rest) × AllBytes rest
+unfolding unle
+word_next left word rest e n p =
+    let parts = all_front word rest (subst AllBytes e p) in
+    let whole : take 8 word ≡ word = take_all 8 word (omega (arith, n)) in
+    let counted : ones (number 256 (take 8 word)) ≡ bits_in word = ap (λ (s : List ℕ). ones (number 256 s)) whole ∙ ones_bytes word parts.0 in
+    (omega (arith, ap bits_in e ∙ bits_append word rest, counted), parts.1)
+
+-- bytes are those of whole words and those after them
+pub bits_parts : (s : List ℕ) (whole : ℕ) → bits_in s ≡ bits_in (take whole s) + bits_in (drop whole s)
+bits_parts s whole = ap bits_in (sym (take-append-drop whole s)) ∙ bits_append (take whole s) (drop whole s)

@@ -10,7 +10,7 @@ use crate::bits::count_bits;
 pub fn bytes_for(n: usize) -> usize
     ensures { result ≡ bytes_for n }
 {
-    n / 8 + (n % 8 + 7) / 8
+    n.div_ceil(8)
 }
 
 // Whether the bits after the n cells of the mask at `at` are 0. Only its last byte can have any.
@@ -19,10 +19,7 @@ pub fn unused_clear(s: &[u8], at: usize, n: usize) -> bool
     ensures { result ≡ packed_mask.test (stored_mask packed_mask s.now at n) n }
 {
     let used = n % 8;
-    if used == 0 {
-        return true;
-    }
-    s[at + n / 8] >> used == 0
+    used == 0 || s[at + n / 8] >> used == 0
 }
 
 // How many bits of the mask of n cells at `at` are set, none of the unused ones being so.

@@ -95,18 +95,18 @@ block_packed bs h =
         ∙ drop_at (replicate l 0) (replicate (m + (256 - l - m)) 0) l (length-replicate l 0) ∙ replicate-add m (256 - l - m)
 
 -- the packed mask of the n cells of a plane, from cell `done` on
-module _ (planes : List ℕ) (at n : ℕ) (h : at + n ≤ length planes) where
-  abbrev pub packed_from : ℕ → List ℕ
-  packed_from done = pack_bits (map bit_of (drop done (take n (drop at planes))))
+abbrev pub packed_from : List ℕ → ℕ → ℕ → ℕ → List ℕ
+packed_from planes at n done = pack_bits (map bit_of (drop done (take n (drop at planes))))
 
-  pub length-packed-from : length (packed_from 0) ≡ bytes_for n
+module _ (planes : List ℕ) (at n : ℕ) (h : at + n ≤ length planes) where
+  pub length-packed-from : length (packed_from planes at n 0) ≡ bytes_for n
   length-packed-from = length-packed (map bit_of (take n (drop at planes))) ∙ ap bytes_for (length-part_bits planes at n h)
 
-  pub packed_end : (done : ℕ) → n ≤ done → packed_from done ≡ []
+  pub packed_end : (done : ℕ) → n ≤ done → packed_from planes at n done ≡ []
   packed_end done l = ap (λ (xs : List ℕ). pack_bits (map bit_of xs)) (part_end planes at n h done l)
 
   pub packed_next : (done : ℕ) {count : ℕ} → done ≤ n → count ≡ min 256 (n - done)
-      → packed_from done ≡ pack_bits (map bit_of (take count (drop (at + done) planes))) ++ packed_from (done + count)
+      → packed_from planes at n done ≡ pack_bits (map bit_of (take count (drop (at + done) planes))) ++ packed_from planes at n (done + count)
   packed_next done {count} l e =
       let xs : List ℕ = drop done (take n (drop at planes)) in
       let front : take count xs ≡ take count (drop (at + done) planes) = take_within done count n (drop at planes) (omega arith) ∙ ap (take count) (drop-drop done at planes) in
@@ -115,7 +115,7 @@ module _ (planes : List ℕ) (at n : ℕ) (h : at + n ≤ length planes) where
       ∙ go (leb 256 (n - done)) refl xs front back
     where
       go : (c : Bool) → leb 256 (n - done) ≡ c → (xs : List ℕ) → take count xs ≡ take count (drop (at + done) planes) → drop count xs ≡ drop (done + count) (take n (drop at planes))
-          → pack_bits (map bit_of (take count xs) ++ map bit_of (drop count xs)) ≡ pack_bits (map bit_of (take count (drop (at + done) planes))) ++ packed_from (done + count)
+          → pack_bits (map bit_of (take count xs) ++ map bit_of (drop count xs)) ≡ pack_bits (map bit_of (take count (drop (at + done) planes))) ++ packed_from planes at n (done + count)
       go true f xs a b =
           let q : 256 ≤ n - done = leb-true 256 (n - done) f in
           let len : length (map bit_of (take count xs)) ≡ 32 * 8 =

@@ -27,10 +27,8 @@ fn put_bits(block: &mut [u8], planes: &[u8], at: usize, count: usize)
     requires { (at + count ≤ length planes.now) × (count ≤ length block.old) }
     ensures { block.new ≡ over_at 0 (map bit_of (take count (drop at planes.now))) block.old }
 {
-    let mut i = 0;
-    while i < count {
+    for i in 0..count {
         block[i] = one_if_set(planes[at + i]);
-        i += 1;
     }
 }
 
@@ -39,12 +37,10 @@ fn pack_words(out: &mut [u8], to: usize, block: &[u8], count: usize)
     requires { (to + count ≤ length out.old) × (count * 8 ≤ length block.now) × All (λ b. b < 2) block.now }
     ensures { out.new ≡ over_at to (map (number 2) (pieces 8 count block.now)) out.old }
 {
-    let mut i = 0;
-    while i < count {
+    for i in 0..count {
         let low = field::le4_at(block, i * 8);
         let high = field::le4_at(block, i * 8 + 4);
         out[to + i] = packed_word(low, high);
-        i += 1;
     }
 }
 
@@ -58,21 +54,13 @@ fn pack_block(out: &mut [u8], to: usize, planes: &[u8], at: usize, count: usize)
     pack_words(out, to, &block, bytes_for(count));
 }
 
-fn block_at_most(left: usize) -> usize
-    ensures { result ≡ min 256 left }
-{
-    if left < 256 { left } else { 256 }
-}
-
 // Writes the packed mask of the n cells of the plane at `at`. Every block but the last fills whole bytes.
 pub fn pack(out: &mut [u8], to: usize, planes: &[u8], at: usize, n: usize)
     requires { (to + bytes_for n ≤ length out.old) × (at + n ≤ length planes.now) }
     ensures { out.new ≡ over_at to (pack_bits (map bit_of (take n (drop at planes.now)))) out.old }
 {
-    let mut done = 0;
-    while done < n {
-        let count = block_at_most(n - done);
+    for done in (0..n).step_by(256) {
+        let count = (n - done).min(256);
         pack_block(out, to + done / 8, planes, at + done, count);
-        done += count;
     }
 }

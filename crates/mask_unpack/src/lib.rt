@@ -22,10 +22,8 @@ fn unpack_whole(planes: &mut [u8], to: usize, s: &[u8], at: usize, whole: usize)
     requires { (to + whole * 8 ≤ length planes.old) × (at + whole ≤ length s.now) }
     ensures { planes.new ≡ over_at to (bits_of (take whole (drop at s.now))) planes.old }
 {
-    let mut i = 0;
-    while i < whole {
+    for i in 0..whole {
         field::put_u64(planes, to + i * 8, eight_bytes(s[at + i]));
-        i += 1;
     }
 }
 
@@ -34,12 +32,10 @@ fn all_words(s: &[u8], at: usize, count: usize, word: u64) -> bool
     requires { at + count * 8 ≤ length s.now }
     ensures { result ≡ true → (i : ℕ) → i < count → unle (take 8 (drop (at + i * 8) s.now)) ≡ word }
 {
-    let mut i = 0;
-    while i < count {
+    for i in 0..count {
         if field::le8_at(s, at + i * 8) != word {
             return false;
         }
-        i += 1;
     }
     true
 }

@@ -11,7 +11,7 @@ ghost use Rattle.shown_cells.specs.Shown.{shown_values, ShownWithin, Alike};
 use array::kind::ByteOrder;
 use array::mark::mark_of;
 use buffer::copy::{copy_many, fill_bytes};
-use decode_marks::{byte_if, number_if};
+use decode_marks::if_set;
 use mask_marks::is_set;
 use word::{put_word, word_at};
 
@@ -22,7 +22,7 @@ fn put_bytes(out: &mut [u8], values: &[u8], plane: &[u8])
 {
     let mut j: usize = 0;
     while j < plane.len() {
-        out[j] = byte_if(mark_of(plane[j]), values[j]);
+        out[j] = if_set(mark_of(plane[j]), values[j], 0);
         j += 1;
     }
 }
@@ -35,7 +35,7 @@ fn put_words(out: &mut [u8], values: &[u8], size: usize, plane: &[u8])
     let mut j: usize = 0;
     while j < plane.len() {
         let v = word_at(values, j * size, size, ByteOrder::Little);
-        let w = number_if(mark_of(plane[j]), v, 0);
+        let w = if_set(mark_of(plane[j]), v, 0);
         put_word(out, j * size, size, w);
         j += 1;
     }
@@ -52,8 +52,8 @@ fn put_ends(out: &mut [u8], values: &[u8], size: usize, word: usize, plane: &[u8
         let mark = mark_of(plane[j]);
         let x = word_at(values, j * size, word, ByteOrder::Little);
         let y = word_at(values, j * size + behind, word, ByteOrder::Little);
-        let first = number_if(mark, x, 0);
-        let last = number_if(mark, y, 0);
+        let first = if_set(mark, x, 0);
+        let last = if_set(mark, y, 0);
         put_word(out, j * size, word, first);
         put_word(out, j * size + behind, word, last);
         j += 1;

@@ -46,8 +46,7 @@ fn rise_from_zero(s: &[u8], at: usize, n: usize, width: IndexWidth) -> bool
     let first = le_at(s, at, width);
     let mut prev = first;
     let mut p = at;
-    let mut left = n;
-    while 1 < left {
+    for _turn in 0..n / 2 {
         p += w;
         let next = le_at(s, p, width);
         if next < prev {
@@ -58,12 +57,11 @@ fn rise_from_zero(s: &[u8], at: usize, n: usize, width: IndexWidth) -> bool
         if prev < next {
             return false;
         }
-        left -= 2;
     }
     if first > 0 {
         return false;
     }
-    if left == 0 {
+    if n % 2 == 0 {
         return true;
     }
     prev <= le_at(s, p + w, width)

@@ -1,20 +1,19 @@
--- The check of the array's rules: offsets that begin at 0 and never fall, turn by turn; what content fits; what a check's answer says of the array.
+-- The check of the array's rules: what content fits; what a check's answer says of the array.
 -- Assumes nothing.
-use mathlib.Core.Path.{◌≡◌, refl, sym, ap, ap₂, subst, ◌∙◌}
-use Prim.Native.Nat.{ℕ, suc, ◌+◌, ◌-◌, ◌*◌, ◌<◌, ◌≤◌}
+use mathlib.Core.Path.{◌≡◌, refl, sym, ap, ap₂, ◌∙◌}
+use Prim.Native.Nat.{ℕ, suc, ◌+◌, ◌*◌, ◌<◌, ◌≤◌}
 use native.Mathlib.Nat.{mul-le-mul}
 use native.Mathlib.Numerals.{add-one}
 use native.Mathlib.Omega.{arith}
 use mathlib.Core.Bool.{Bool, true, false, not, ◌&&◌}
-use mathlib.Core.List.{List, [], ◌∷◌}
-use lib.ListN.{length, get_or, take, drop}
-use lib.Dec.{leb, eqb}
-use lib.Seq.{drop-cons, take_all}
+use lib.ListN.{length, get_or, take}
+use lib.Dec.{eqb}
+use lib.Seq.{take_all}
 use borrow.Author.Tests.{le-leb, lt-leb, eq-eqb, ne_eqb, not-true, not-false}
 use Rattle.array.specs.Limits.{most_bytes, most_cells}
 use Rattle.array.specs.Answer.{Answer, gives, refuses, unless, and_then}
 use Rattle.array.specs.Kind.{Kind, fixed, ragged, Order, Place}
-use Rattle.array.specs.Offsets.{last, rising_test, rising_from_test}
+use Rattle.array.specs.Offsets.{last, rising_test}
 use Rattle.array.specs.Content.{Content, ArrayOk, content_test, values_test, masks_test, array_test, size_test, unless_kept}
 use Rattle.valid.specs.Check.{check_of}
 use Rattle.std.specs.Prelude.{Result, Ok, Err}
@@ -33,62 +32,6 @@ and_true false = refl
 pub and_assoc : (a b c : Bool) → a && (b && c) ≡ a && b && c
 and_assoc true b c = refl
 and_assoc false b c = refl
-
--- ---- offsets that begin at 0 and never fall: what the first i of them say, the i-th being `last`, and what is left
-
-pub record Rise (os : List ℕ) (n : ℕ) (so_far_lem : Bool) (last i : ℕ) : Type 0 where
-  pub enough : n < length os
-  pub within : i ≤ n
-  pub same : rising_test (take (suc n) os) ≡ so_far_lem && rising_from_test last (take (n - i) (drop (suc i) os))
-
-first_is : (os : List ℕ) (n : ℕ) → n < length os → rising_test (take (suc n) os) ≡ eqb (get_or os 0 0) 0 && rising_from_test (get_or os 0 0) (take n (drop 1 os))
-first_is [] n l = absurd (omega arith)
-first_is (x ∷ xs) n l = refl
-
-pub rise_begins : {os : List ℕ} {n : ℕ} → n < length os → get_or os 0 0 ≡ 0 → Rise os n true 0 0
-rise_begins {os} {n} l e = record {
-  enough = l;
-  within = omega arith;
-  same = let z : n ≡ n - 0 = omega arith in first_is os n l ∙ ap₂ (λ (x k : ℕ). eqb x 0 && rising_from_test x (take k (drop 1 os))) e z;
-}
-
-pub rise_not_begun : (os : List ℕ) (n : ℕ) → n < length os → 0 < get_or os 0 0 → false ≡ rising_test (take (suc n) os)
-rise_not_begun os n l h = sym (first_is os n l ∙ ap (λ (b : Bool). b && rising_from_test (get_or os 0 0) (take n (drop 1 os))) (ne_eqb (get_or os 0 0) 0 (λ e. absurd (omega arith))))
-
-module _ {os : List ℕ} {n last i : ℕ} where
-  pub rise_said : {b t : Bool} → Rise os n b last i → b ≡ t → Rise os n t last i
-  rise_said c e = subst (λ (b : Bool). Rise os n b last i) e c
-
-  pub rise_fell : Rise os n false last i → false ≡ rising_test (take (suc n) os)
-  rise_fell c = sym c.same
-
-  pub rise_ends : Rise os n true last i → n ≤ i → true ≡ rising_test (take (suc n) os)
-  rise_ends c l = let z : n - i ≡ 0 = omega arith in sym (c.same ∙ ap (λ (k : ℕ). rising_from_test last (take k (drop (suc i) os))) z)
-
--- one offset more, the j-th, and four
-pub rise_more : {os : List ℕ} {n last i : ℕ} {b : Bool} → Rise os n b last i → (j : ℕ) → j ≡ i + 1 → i < n → Rise os n (b && leb last (get_or os j 0)) (get_or os j 0) j
-rise_more {os} {n} {last} {i} {b} c j e l = record {
-  enough = c.enough;
-  within = omega arith;
-  same =
-      let z : n - i ≡ suc (n - j) = omega arith in
-      let next : suc i ≡ j = omega arith in
-      c.same
-      ∙ ap₂ (λ (k : ℕ) (r : List ℕ). b && rising_from_test last (take k r)) z (drop-cons os (suc i) 0 (omega (arith, c.enough)))
-      ∙ ap (λ (k : ℕ). b && (leb last (get_or os k 0) && rising_from_test (get_or os k 0) (take (n - j) (drop (suc k) os)))) next
-      ∙ and_assoc b (leb last (get_or os j 0)) (rising_from_test (get_or os j 0) (take (n - j) (drop (suc j) os)));
-}
-
-module _ {os : List ℕ} {n last i : ℕ} (c : Rise os n true last i) where
-  abbrev pub four : Bool
-  four = leb last (get_or os (i + 1) 0) && leb (get_or os (i + 1) 0) (get_or os (i + 2) 0) && leb (get_or os (i + 2) 0) (get_or os (i + 3) 0) && leb (get_or os (i + 3) 0) (get_or os (i + 4) 0)
-
-  pub rise_four : i + 4 ≤ n → Rise os n four (get_or os (i + 4) 0) (i + 4)
-  rise_four l =
-      let one = rise_more c (i + 1) (omega arith) (omega arith) in
-      let two = rise_more one (i + 2) (omega arith) (omega arith) in
-      let three = rise_more two (i + 3) (omega arith) (omega arith) in
-      rise_more three (i + 4) (omega arith) (omega arith)
 
 -- a depth or a size times cells is far from wrapping
 pub small_product : (a b : ℕ) → a ≤ 255 → b ≤ most_cells → a * b ≤ 16711680

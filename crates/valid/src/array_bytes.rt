@@ -19,16 +19,7 @@ pub const MOST_BYTES: usize = 16777216;
 fn four_rise(a: u64, b: u64, c: u64, d: u64, e: u64) -> bool
     ensures { result ≡ leb a b && leb b c && leb c d && leb d e }
 {
-    if b < a {
-        return false;
-    }
-    if c < b {
-        return false;
-    }
-    if d < c {
-        return false;
-    }
-    d <= e
+    a <= b && b <= c && c <= d && d <= e
 }
 
 // Whether the first n + 1 offsets begin at 0 and never fall. Four at a time, as a turn of the loop costs more than a test.
@@ -39,23 +30,19 @@ fn rise_from_zero(offsets: &[u64], n: usize) -> bool
     if offsets[0] > 0 {
         return false;
     }
+    let (fours, rest) = offsets[1..n + 1].split_at(n / 4 * 4);
     let mut last: u64 = 0;
-    let mut i: usize = 0;
-    while i + 4 <= n {
-        let next = offsets[i + 4];
-        if !four_rise(last, offsets[i + 1], offsets[i + 2], offsets[i + 3], next) {
+    for four in fours.chunks_exact(4) {
+        if !four_rise(last, four[0], four[1], four[2], four[3]) {
             return false;
         }
-        last = next;
-        i += 4;
+        last = four[3];
     }
-    while i < n {
-        let next = offsets[i + 1];
-        if next < last {
+    for next in rest {
+        if *next < last {
             return false;
         }
-        last = next;
-        i += 1;
+        last = *next;
     }
     true
 }

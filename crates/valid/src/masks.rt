@@ -1,37 +1,28 @@
 // The rule of mask bytes: each is 00 or 01.
-ghost use Rattle.std.specs.Prelude.{◌≡◌, ◌+◌, ◌≤◌, length, drop};
+ghost use Rattle.std.specs.Prelude.{◌≡◌, ◌≤◌, length};
 ghost use Rattle.array.specs.Lists.{every};
 ghost use Rattle.array.specs.Cells.{strict_test};
 ghost use Rattle.array.specs.Content.{strict_bytes_test};
 ghost use Rattle.array.specs.Others.{others};
 
-use array::mark;
+use array::mark::{BLOCK, one_if_other};
 
-// The bytes over 01 from `from` to `end`, few enough for a byte: a narrow counter is what makes counting fast.
-fn count_others(masks: &[u8], from: usize, end: usize) -> u8
-    requires { (from ≤ end) × (end ≤ from + 240) × (end ≤ length masks.now) }
-    ensures { result + others (drop end masks.now) ≡ others (drop from masks.now) }
+// The bytes over 01 of a block, few enough for a byte: a narrow counter is what makes counting fast.
+fn count_others(block: &[u8]) -> u8
+    requires { length block.now ≤ 240 }
+    ensures { result ≡ others block.now }
 {
-    let mut n: u8 = 0;
-    let mut i = from;
-    while i < end {
-        n += mark::one_if_other(masks[i]);
-        i += 1;
-    }
-    n
+    block.iter().map(|b| one_if_other(*b)).sum()
 }
 
 // Whether every mask byte is 00 or 01.
 pub fn masks_strict(masks: &[u8]) -> bool
     ensures { result ≡ every strict_test masks.now }
 {
-    let mut at = 0;
-    while at < masks.len() {
-        let end = mark::block_end(at, masks.len());
-        if 0 < count_others(masks, at, end) {
+    for block in masks.chunks(BLOCK) {
+        if 0 < count_others(block) {
             return false;
         }
-        at = end;
     }
     true
 }
@@ -40,8 +31,5 @@ pub fn masks_strict(masks: &[u8]) -> bool
 pub fn are_strict(masks: &[u8], count: usize) -> bool
     ensures { result ≡ strict_bytes_test count masks.now }
 {
-    if masks.len() != count {
-        return false;
-    }
-    masks_strict(masks)
+    masks.len() == count && masks_strict(masks)
 }

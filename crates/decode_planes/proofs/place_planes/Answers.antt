@@ -4,9 +4,6 @@ use native.Mathlib.Omega.{arith}
 use Rattle.decode_planes.proofs.AllPlanes.{first_mask, first_fits, first_next, planes_one, planes_done}
 use Rattle.decode_planes.proofs.place_planes.Goals as goal
 
-pub overflow_add-end : goal.overflow_add-end
-overflow_add-end c = omega (arith, (first_mask c.requires).room, c.mask_length-end.ensures)
-
 pub copy_to_plane-requires : goal.copy_to_plane-requires
 copy_to_plane-requires c =
     let pre = c.requires in omega (arith, (first_mask pre).room, first_fits pre)

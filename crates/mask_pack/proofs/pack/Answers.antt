@@ -1,76 +1,65 @@
 -- `mask_pack::pack` meets its contract. The invariant: the bytes of the cells so far lie there, whole ones while cells are left, and those of the others are left.
 -- Assumes nothing.
-use mathlib.Core.Path.{◌≡◌, sym, ap, ◌∙◌}
-use mathlib.Core.List.{List, [], map}
-use Prim.Native.Nat.{ℕ, ◌+◌, ◌/◌, ◌%◌}
+use mathlib.Core.Path.{◌≡◌, sym, ap, subst, ◌∙◌}
+use mathlib.Core.List.{List, map}
+use Prim.Native.Nat.{ℕ, ◌+◌, ◌-◌, ◌/◌, ◌%◌, ◌<◌, ◌≤◌, min}
 use native.Mathlib.Omega.{arith}
 use lib.ListN.{length, take, drop}
 use Rattle.array.specs.Cells.{bit_of}
 use Rattle.array.specs.Buffers.{over_at}
-use Rattle.array.proofs.Laying.{laying_begins, laying_same, laying_part, laying_is, laying_ends}
+use Rattle.array.proofs.Laying.{Laying, laying_begins, laying_part, laying_is, laying_ends}
 use Rattle.codec.specs.Mask.{pack_bits, bytes_for}
 use Rattle.codec.proofs.Masks.{length-packed}
 use Rattle.mask_bits.proofs.Parts.{length-part_bits}
-use Rattle.mask_pack.proofs.Words.{length-packed-from, packed_next, packed_end}
+use Rattle.mask_pack.proofs.Words.{packed_from, length-packed-from, packed_next, packed_end}
 use Rattle.mask_pack.proofs.pack.Goals as goal
+
+-- what lies there once the cells up to r are packed
+module _ (planes old : List ℕ) (to at n : ℕ) where
+  abbrev pub Reached : List ℕ → ℕ → Type 0
+  Reached now r = Laying (packed_from planes at n 0) old to now (bytes_for r) (packed_from planes at n r)
+
+  module _ (h : at + n ≤ length planes) where
+    reached_begins : to + bytes_for n ≤ length old → Reached old 0
+    reached_begins room = laying_begins (packed_from planes at n 0) old to (omega (arith, room, length-packed-from planes at n h))
+
+    reached_more : {now new : List ℕ} (done count : ℕ) → done < n → done % 8 ≡ 0 → count ≡ min 256 (n - done) → Reached now done
+        → new ≡ over_at (to + done / 8) (pack_bits (map bit_of (take count (drop (at + done) planes)))) now → Reached new (done + count)
+    reached_more {now} {new} done count l whole size inv e =
+        let e8 : bytes_for done ≡ done / 8 = omega arith in
+        let g : List ℕ = pack_bits (map bit_of (take count (drop (at + done) planes))) in
+        let long : length g ≡ bytes_for count =
+        length-packed (map bit_of (take count (drop (at + done) planes))) ∙ ap bytes_for (length-part_bits planes (at + done) count (omega (arith, size, h))) in
+        let laid : new ≡ over_at (to + bytes_for done) g now = e ∙ ap (λ (k : ℕ). over_at (to + k) g now) (sym e8) in
+        laying_part (packed_from planes at n 0) old to now (bytes_for done) g (packed_from planes at n (done + count))
+        (laying_is inv (packed_next planes at n h done (omega arith) size)) new laid (bytes_for (done + count)) (omega arith)
+
+    reached_ends : {now : List ℕ} (r : ℕ) → n ≤ r → Reached now r → now ≡ over_at to (packed_from planes at n 0) old
+    reached_ends {now} r l inv = laying_ends (packed_from planes at n 0) old to now (bytes_for r) (laying_is inv (packed_end planes at n h r l))
 
 pub loop-done-init : goal.loop-done-init
 loop-done-init c =
-    let a = c.args in (
-      omega arith,
-      λ h. omega arith,
-      laying_begins (pack_bits (map bit_of (take a.n (drop a.at a.planes.now)))) a.out.now a.to
-          (omega (arith, c.requires.0, length-packed-from a.planes.now a.at a.n c.requires.1)),
-    )
-
-pub pack_block-requires : goal.pack_block-requires
-pack_block-requires c =
-    let left : ℕ → List ℕ = λ done. let a = c.args in
-    pack_bits (map bit_of (drop done (take a.n (drop a.at a.planes.now)))) in
-    let same : length c.loop-done.out ≡ length c.args.out.now =
-    laying_same (left 0) c.args.out.now c.args.to c.loop-done.out (bytes_for c.loop-done.done) (left c.loop-done.done) c.loop-done.invariant.2 in
-    omega (arith, same, c.block_at_most-count.ensures, c.loop-done.invariant.1 c.loop-done-test.true)
-
-pub overflow_add-done : goal.overflow_add-done
-overflow_add-done c = omega (arith, c.block_at_most-count.ensures)
-
-pub loop-done-smaller : goal.loop-done-smaller
-loop-done-smaller c = omega (arith, c.block_at_most-count.ensures)
+    let a = c.args in
+    let z : 0 ≡ min 0 a.n = omega arith in
+    (omega arith, subst (Reached a.planes.now a.out.now a.to a.at a.n a.out.now) z (reached_begins a.planes.now a.out.now a.to a.at a.n c.requires.1 c.requires.0))
 
 pub loop-done-preserved : goal.loop-done-preserved
 loop-done-preserved c =
-    let left : ℕ → List ℕ = λ done. let a = c.args in
-    pack_bits (map bit_of (drop done (take a.n (drop a.at a.planes.now)))) in
     let a = c.args in
-    let done : ℕ = c.loop-done.done in
-    let count : ℕ = c.block_at_most-count.result in
-    let whole : done % 8 ≡ 0 = c.loop-done.invariant.1 c.loop-done-test.true in
-    let e : bytes_for done ≡ done / 8 = omega arith in
-    let g : List ℕ = pack_bits (map bit_of (take count (drop (a.at + done) a.planes.now))) in
-    let long : length g ≡ bytes_for count =
-    length-packed (map bit_of (take count (drop (a.at + done) a.planes.now)))
-    ∙ ap bytes_for (length-part_bits a.planes.now (a.at + done) count (omega (arith, c.block_at_most-count.ensures, c.requires.1))) in
-    let laid : c.pack_block.new.out ≡ over_at (a.to + bytes_for done) g c.loop-done.out =
-    c.pack_block.ensures ∙ ap (λ (k : ℕ). over_at (a.to + k) g c.loop-done.out) (sym e) in (
-      omega (arith, c.block_at_most-count.ensures),
-      λ h. omega (arith, c.block_at_most-count.ensures),
-      laying_part (left 0) a.out.now a.to c.loop-done.out (bytes_for done) g (left (done + count))
-          (laying_is c.loop-done.invariant.2 (packed_next a.planes.now a.at a.n c.requires.1 done c.loop-done.invariant.0 c.block_at_most-count.ensures))
-          c.pack_block.new.out laid (bytes_for (done + count)) (omega arith),
-    )
+    let l = c.loop-done in
+    let here : min l.done a.n ≡ l.done = omega arith in
+    let next : l.done + c.min-count.result ≡ min (l.done + 256) a.n = omega (arith, c.min-count.ensures) in
+    let reached = Reached a.planes.now a.out.now a.to a.at a.n in
+    let more = reached_more a.planes.now a.out.now a.to a.at a.n c.requires.1 l.done c.min-count.result (omega arith) l.invariant.0
+    (omega (arith, c.min-count.ensures)) (subst (reached l.out) here l.invariant.1) c.pack_block.ensures in
+    (omega (arith, l.invariant.0), subst (reached c.pack_block.new.out) next more)
 
-pub shape_of-out : goal.shape_of-out
-shape_of-out c =
-    let left : ℕ → List ℕ = λ done. let a = c.args in
-    pack_bits (map bit_of (drop done (take a.n (drop a.at a.planes.now)))) in
-    let same : length c.loop-done.out ≡ length c.args.out.now =
-    laying_same (left 0) c.args.out.now c.args.to c.loop-done.out (bytes_for c.loop-done.done) (left c.loop-done.done) c.loop-done.invariant.2 in
-    same
-
-pub returns : goal.returns
-returns c =
-    let left : ℕ → List ℕ = λ done. let a = c.args in
-    pack_bits (map bit_of (drop done (take a.n (drop a.at a.planes.now)))) in
+pub returns-2 : goal.returns-2
+returns-2 c =
     let a = c.args in
-    let none : left c.loop-done.done ≡ [] = packed_end a.planes.now a.at a.n c.requires.1 c.loop-done.done (omega arith) in
-    laying_ends (left 0) a.out.now a.to c.loop-done.out (bytes_for c.loop-done.done) (laying_is c.loop-done.invariant.2 none)
+    let l = c.loop-done in
+    let here : min l.done a.n ≡ l.done = omega arith in
+    let reached = Reached a.planes.now a.out.now a.to a.at a.n in
+    let more = reached_more a.planes.now a.out.now a.to a.at a.n c.requires.1 l.done c.min-count.result (omega arith) l.invariant.0
+    (omega (arith, c.min-count.ensures)) (subst (reached l.out) here l.invariant.1) c.pack_block.ensures in
+    reached_ends a.planes.now a.out.now a.to a.at a.n c.requires.1 (l.done + c.min-count.result) (omega (arith, c.min-count.ensures)) more

@@ -2,27 +2,16 @@
 -- Assumes nothing.
 use mathlib.Core.Path.{◌≡◌, sym, ap, subst, ◌∙◌}
 use native.Mathlib.Nat.{zero-add}
-use mathlib.Core.List.{List, [], ◌∷◌, map}
+use mathlib.Core.List.{List, ◌∷◌, map}
 use Prim.Native.Nat.{ℕ, ◌+◌}
 use native.Mathlib.Omega.{arith}
-use lib.ListN.{length, get_or, set}
+use lib.ListN.{get_or, set}
 use Rattle.array.specs.Cells.{bit_of}
-use Rattle.array.proofs.Laying.{Laying, laying_begins, laying_same, laying_store, laying_is, laying_ends}
+use Rattle.array.proofs.Laying.{Laying, laying_store, laying_is}
 use Rattle.mask_bits.proofs.Said.{bit_one}
-use Rattle.mask_bits.proofs.Parts.{part_next, part_end, length-part_bits}
+use Rattle.mask_bits.proofs.Parts.{part_next}
 use Rattle.mask_pack.proofs.put_bits.Invariants.{bits_from}
 use Rattle.mask_pack.proofs.put_bits.Goals as goal
-
-pub loop-i-init : goal.loop-i-init
-loop-i-init c =
-    let a = c.args in
-    (omega arith, laying_begins (bits_from a.planes.now a.at a.count 0) a.block.now 0 (omega (arith, c.requires.1, length-part_bits a.planes.now a.at a.count c.requires.0)))
-
-pub bounds-block-i : goal.bounds-block-i
-bounds-block-i c =
-    let same : length c.loop-i.block ≡ length c.args.block.now = let a = c.args in
-    laying_same (bits_from a.planes.now a.at a.count 0) a.block.now 0 c.loop-i.block c.loop-i.i (bits_from a.planes.now a.at a.count c.loop-i.i) c.loop-i.invariant.1 in
-    omega (arith, same)
 
 pub loop-i-preserved : goal.loop-i-preserved
 loop-i-preserved c =
@@ -32,20 +21,6 @@ loop-i-preserved c =
     let bit : bit_of (get_or a.planes.now (a.at + i) 0) ≡ c.one_if_set.result = sym (c.one_if_set.ensures ∙ bit_one (get_or a.planes.now (a.at + i) 0)) in
     let next : bits_from a.planes.now a.at a.count i ≡ c.one_if_set.result ∷ rest =
     ap (map bit_of) (part_next a.planes.now a.at a.count c.requires.0 i (omega arith)) ∙ ap (λ (b : ℕ). b ∷ rest) bit in
-    let want : List ℕ = bits_from a.planes.now a.at a.count 0 in (
-      omega arith,
-      subst (λ (k : ℕ). Laying want a.block.now 0 (set c.loop-i.block k c.one_if_set.result) (i + 1) rest) (zero-add i)
-          (laying_store want a.block.now 0 c.loop-i.block i c.one_if_set.result rest (laying_is c.loop-i.invariant.1 next)),
-    )
-
-pub shape_of-block : goal.shape_of-block
-shape_of-block c =
-    let same : length c.loop-i.block ≡ length c.args.block.now = let a = c.args in
-    laying_same (bits_from a.planes.now a.at a.count 0) a.block.now 0 c.loop-i.block c.loop-i.i (bits_from a.planes.now a.at a.count c.loop-i.i) c.loop-i.invariant.1 in
-    same
-
-pub returns : goal.returns
-returns c =
-    let a = c.args in
-    let none : bits_from a.planes.now a.at a.count c.loop-i.i ≡ [] = ap (map bit_of) (part_end a.planes.now a.at a.count c.requires.0 c.loop-i.i (omega arith)) in
-    laying_ends (bits_from a.planes.now a.at a.count 0) a.block.now 0 c.loop-i.block c.loop-i.i (laying_is c.loop-i.invariant.1 none)
+    let want : List ℕ = bits_from a.planes.now a.at a.count 0 in
+    subst (λ (k : ℕ). Laying want a.block.now 0 (set c.loop-i.block k c.one_if_set.result) (i + 1) rest) (zero-add i)
+    (laying_store want a.block.now 0 c.loop-i.block i c.one_if_set.result rest (laying_is c.loop-i.invariant next))

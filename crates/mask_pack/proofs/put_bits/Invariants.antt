@@ -1,7 +1,7 @@
 -- `mask_pack::put_bits` meets its contract. The invariant: the bits of the first i mask bytes lie there, and those of the others are left.
 -- Assumes nothing.
 use mathlib.Core.List.{List, map}
-use Prim.Native.Nat.{ℕ, ◌-◌, ◌≤◌}
+use Prim.Native.Nat.{ℕ}
 use lib.ListN.{take, drop}
 use Rattle.array.specs.Cells.{bit_of}
 use Rattle.array.proofs.Laying.{Laying}
@@ -11,7 +11,4 @@ abbrev pub bits_from : List ℕ → ℕ → ℕ → ℕ → List ℕ
 bits_from planes at count i = map bit_of (drop i (take count (drop at planes)))
 
 abbrev pub invariant-loop-i : goal.invariant-loop-i
-invariant-loop-i l = (l.i ≤ l.count) × Laying (bits_from l.planes l.at l.count 0) l.initial.block 0 l.block l.i (bits_from l.planes l.at l.count l.i)
-
-abbrev pub decreases-loop-i : goal.decreases-loop-i
-decreases-loop-i l = l.count - l.i
+invariant-loop-i l = Laying (bits_from l.planes l.at l.count 0) l.initial.block 0 l.block l.i (bits_from l.planes l.at l.count l.i)

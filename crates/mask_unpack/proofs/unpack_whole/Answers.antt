@@ -4,11 +4,11 @@ use mathlib.Core.Path.{◌≡◌, ap, ◌∙◌}
 use mathlib.Core.List.{List, [], ◌++◌}
 use Prim.Native.Nat.{ℕ, ◌+◌, ◌*◌}
 use native.Mathlib.Omega.{arith}
-use lib.ListN.{length, get_or}
+use lib.ListN.{get_or}
 use Rattle.array.specs.Bytes.{digits}
 use Rattle.array.specs.Buffers.{over_at}
 use Rattle.array.proofs.Bytes.{length_digits}
-use Rattle.array.proofs.Laying.{laying_begins, laying_same, laying_part, laying_is, laying_ends}
+use Rattle.array.proofs.Laying.{laying_begins, laying_part, laying_is, laying_ends}
 use Rattle.codec.specs.Mask.{bits_of}
 use Rattle.mask_bits.proofs.Parts.{part_next, part_end, length_whole}
 use Rattle.mask_unpack.proofs.unpack_whole.Invariants.{bits_from}
@@ -17,13 +17,7 @@ use Rattle.mask_unpack.proofs.unpack_whole.Goals as goal
 pub loop-i-init : goal.loop-i-init
 loop-i-init c =
     let a = c.args in
-    (omega arith, laying_begins (bits_from a.s.now a.at a.whole 0) a.planes.now a.to (omega (arith, c.requires.0, length_whole a.s.now a.at a.whole c.requires.1)))
-
-pub put_u64-requires : goal.put_u64-requires
-put_u64-requires c =
-    let same : length c.loop-i.planes ≡ length c.args.planes.now = let a = c.args in
-    laying_same (bits_from a.s.now a.at a.whole 0) a.planes.now a.to c.loop-i.planes (c.loop-i.i * 8) (bits_from a.s.now a.at a.whole c.loop-i.i) c.loop-i.invariant.1 in
-    omega (arith, same)
+    laying_begins (bits_from a.s.now a.at a.whole 0) a.planes.now a.to (omega (arith, c.requires.0, length_whole a.s.now a.at a.whole c.requires.1))
 
 pub loop-i-preserved : goal.loop-i-preserved
 loop-i-preserved c =
@@ -33,20 +27,12 @@ loop-i-preserved c =
     let rest : List ℕ = bits_from a.s.now a.at a.whole (i + 1) in
     let next : bits_from a.s.now a.at a.whole i ≡ g ++ rest = ap bits_of (part_next a.s.now a.at a.whole c.requires.1 i (omega arith)) in
     let laid : c.put_u64.new.out ≡ over_at (a.to + i * 8) g c.loop-i.planes =
-    c.put_u64.ensures ∙ ap (λ (x : List ℕ). over_at (a.to + i * 8) x c.loop-i.planes) c.eight_bytes.ensures in (
-      omega arith,
-      laying_part (bits_from a.s.now a.at a.whole 0) a.planes.now a.to c.loop-i.planes (i * 8) g rest (laying_is c.loop-i.invariant.1 next)
-          c.put_u64.new.out laid ((i + 1) * 8) (omega (arith, length_digits 2 8 (get_or a.s.now (a.at + i) 0))),
-    )
-
-pub shape_of-planes : goal.shape_of-planes
-shape_of-planes c =
-    let same : length c.loop-i.planes ≡ length c.args.planes.now = let a = c.args in
-    laying_same (bits_from a.s.now a.at a.whole 0) a.planes.now a.to c.loop-i.planes (c.loop-i.i * 8) (bits_from a.s.now a.at a.whole c.loop-i.i) c.loop-i.invariant.1 in
-    same
+    c.put_u64.ensures ∙ ap (λ (x : List ℕ). over_at (a.to + i * 8) x c.loop-i.planes) c.eight_bytes.ensures in
+    laying_part (bits_from a.s.now a.at a.whole 0) a.planes.now a.to c.loop-i.planes (i * 8) g rest (laying_is c.loop-i.invariant next)
+    c.put_u64.new.out laid ((i + 1) * 8) (omega (arith, length_digits 2 8 (get_or a.s.now (a.at + i) 0)))
 
 pub returns : goal.returns
 returns c =
     let a = c.args in
     let none : bits_from a.s.now a.at a.whole c.loop-i.i ≡ [] = ap bits_of (part_end a.s.now a.at a.whole c.requires.1 c.loop-i.i (omega arith)) in
-    laying_ends (bits_from a.s.now a.at a.whole 0) a.planes.now a.to c.loop-i.planes (c.loop-i.i * 8) (laying_is c.loop-i.invariant.1 none)
+    laying_ends (bits_from a.s.now a.at a.whole 0) a.planes.now a.to c.loop-i.planes (c.loop-i.i * 8) (laying_is c.loop-i.invariant none)

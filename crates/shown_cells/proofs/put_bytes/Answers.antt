@@ -13,7 +13,7 @@ pub bounds-out-j : goal.bounds-out-j
 bounds-out-j c = byte_room c.loop-j.invariant c.loop-j-test.true
 
 pub loop-j-preserved : goal.loop-j-preserved
-loop-j-preserved c = showing_byte c.loop-j.invariant c.loop-j-test.true c.mark_of.ensures c.byte_if.ensures
+loop-j-preserved c = showing_byte c.loop-j.invariant c.loop-j-test.true c.mark_of.ensures c.if_set.ensures
 
 pub shape_of-out : goal.shape_of-out
 shape_of-out c = showing_same c.loop-j.invariant

@@ -64,7 +64,7 @@ put_word-requires-in-loop-j c =
 pub loop-j-preserved : goal.loop-j-preserved
 loop-j-preserved c =
     showing_words c.loop-j.invariant c.loop-j-test.true c.mark_of-mark.ensures c.args.word (omega (arith, c.requires.2)) (omega (arith, c.requires.3))
-    c.word_at-x.result c.word_at-y.result c.word_at-x.ensures c.word_at-y.ensures c.number_if-first.ensures c.number_if-last.ensures
+    c.word_at-x.result c.word_at-y.result c.word_at-x.ensures c.word_at-y.ensures c.if_set-first.ensures c.if_set-last.ensures
     c.put_word.ensures c.put_word-in-loop-j.ensures
 
 pub shape_of-out : goal.shape_of-out

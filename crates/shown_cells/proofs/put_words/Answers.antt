@@ -33,7 +33,7 @@ pub loop-j-preserved : goal.loop-j-preserved
 loop-j-preserved c =
     let a = c.args in
     showing_cell c.loop-j.invariant c.loop-j-test.true
-    (word_shown a.size a.values.now a.plane.now c.loop-j.j c.mark_of.ensures c.word_at-v.result c.number_if-w.ensures c.word_at-v.ensures)
+    (word_shown a.size a.values.now a.plane.now c.loop-j.j c.mark_of.ensures c.word_at-v.result c.if_set-w.ensures c.word_at-v.ensures)
     c.put_word.ensures
 
 pub shape_of-out : goal.shape_of-out

@@ -12,133 +12,140 @@ use Rattle.stored_index.specs.Index.{offsets_in}
 use Rattle.stored_index.proofs.IndexLaws.{Rises, rises_start, rises_room, rises_falls, rises_more, rises_last, rises_end}
 use Rattle.stored_index.proofs.rise_from_zero.Goals as goal
 
-pub loop-left-init : goal.loop-left-init
-loop-left-init c =
+pub loop-turn-init : goal.loop-turn-init
+loop-turn-init c =
     let bytes : List ℕ = c.args.s.now in
     let first_is : c.le_at-first.result ≡ unle (take c.width_bytes-w.result (drop c.args.at bytes)) =
     c.le_at-first.ensures ∙ ap (λ (x : ℕ). unle (take x (drop c.args.at bytes))) (sym c.width_bytes-w.ensures) in
     let a = c.args in
-    rises_start c.width_bytes-w.result a.n bytes a.at first_is
-    (subst (λ (x : ℕ). a.at + (x + a.n * x) ≤ length bytes) (sym c.width_bytes-w.ensures) c.requires)
+    let all : a.n ≡ a.n - 2 * 0 = omega arith in
+    subst (Rises c.width_bytes-w.result a.n bytes a.at c.le_at-first.result c.le_at-first.result a.at) all
+    (rises_start c.width_bytes-w.result a.n bytes a.at first_is
+    (subst (λ (x : ℕ). a.at + (x + a.n * x) ≤ length bytes) (sym c.width_bytes-w.ensures) c.requires))
 
 pub overflow_add-p : goal.overflow_add-p
 overflow_add-p c =
+    let left : ℕ = c.args.n - 2 * c.loop-turn._turn in
     let bytes : List ℕ = c.args.s.now in
     let width : ℕ = c.width_bytes-w.result in
-    let some : 0 < c.loop-left.left = omega arith in
-    let room : c.loop-left.p + width + width ≤ length bytes = omega (arith, rises_room c.loop-left.invariant some) in
+    let some : 0 < left = omega arith in
+    let room : c.loop-turn.p + width + width ≤ length bytes = omega (arith, rises_room c.loop-turn.invariant some) in
     omega (arith, room)
 
 pub le_at-next-requires : goal.le_at-next-requires
 le_at-next-requires c =
+    let left : ℕ = c.args.n - 2 * c.loop-turn._turn in
     let bytes : List ℕ = c.args.s.now in
     let width : ℕ = c.width_bytes-w.result in
-    let some : 0 < c.loop-left.left = omega arith in
-    let room : c.loop-left.p + width + width ≤ length bytes = omega (arith, rises_room c.loop-left.invariant some) in
+    let some : 0 < left = omega arith in
+    let room : c.loop-turn.p + width + width ≤ length bytes = omega (arith, rises_room c.loop-turn.invariant some) in
     omega (arith, room, c.width_bytes-w.ensures)
 
 pub returns-then-next-prev : goal.returns-then-next-prev
 returns-then-next-prev c =
+    let left : ℕ = c.args.n - 2 * c.loop-turn._turn in
     let bytes : List ℕ = c.args.s.now in
     let tested : ℕ → Bool = λ w. let a = c.args in rising_test (offsets_in w (suc a.n) (drop a.at bytes)) in
     let width : ℕ = c.width_bytes-w.result in
-    let some : 0 < c.loop-left.left = omega arith in
-    let next_is : c.le_at-next.result ≡ unle (take width (drop (c.loop-left.p + width) bytes)) =
-    c.le_at-next.ensures ∙ ap (λ (x : ℕ). unle (take x (drop (c.loop-left.p + width) bytes))) (sym c.width_bytes-w.ensures) in
-    rises_falls c.loop-left.invariant some next_is c.if-next-prev.true ∙ ap tested c.width_bytes-w.ensures
+    let some : 0 < left = omega arith in
+    let next_is : c.le_at-next.result ≡ unle (take width (drop (c.loop-turn.p + width) bytes)) =
+    c.le_at-next.ensures ∙ ap (λ (x : ℕ). unle (take x (drop (c.loop-turn.p + width) bytes))) (sym c.width_bytes-w.ensures) in
+    rises_falls c.loop-turn.invariant some next_is c.if-next-prev.true ∙ ap tested c.width_bytes-w.ensures
 
-pub overflow_add-p-in-loop-left : goal.overflow_add-p-in-loop-left
-overflow_add-p-in-loop-left c =
+pub overflow_add-p-in-loop-turn : goal.overflow_add-p-in-loop-turn
+overflow_add-p-in-loop-turn c =
+    let left : ℕ = c.args.n - 2 * c.loop-turn._turn in
     let bytes : List ℕ = c.args.s.now in
     let width : ℕ = c.width_bytes-w.result in
-    let some : 0 < c.loop-left.left = omega arith in
-    let next_is : c.le_at-next.result ≡ unle (take width (drop (c.loop-left.p + width) bytes)) =
-    c.le_at-next.ensures ∙ ap (λ (x : ℕ). unle (take x (drop (c.loop-left.p + width) bytes))) (sym c.width_bytes-w.ensures) in
-    let first : let a = c.args in Rises width a.n bytes a.at c.le_at-first.result c.le_at-next.result (c.loop-left.p + width) (c.loop-left.left - 1) =
-    rises_more c.loop-left.invariant some next_is c.if-next-prev.false in
-    let more : 0 < c.loop-left.left - 1 = omega (arith, c.loop-left-test.true) in
-    let room_2 : c.loop-left.p + width + width + width ≤ length bytes = omega (arith, rises_room first more) in
+    let some : 0 < left = omega arith in
+    let next_is : c.le_at-next.result ≡ unle (take width (drop (c.loop-turn.p + width) bytes)) =
+    c.le_at-next.ensures ∙ ap (λ (x : ℕ). unle (take x (drop (c.loop-turn.p + width) bytes))) (sym c.width_bytes-w.ensures) in
+    let first : let a = c.args in Rises width a.n bytes a.at c.le_at-first.result c.le_at-next.result (c.loop-turn.p + width) (left - 1) =
+    rises_more c.loop-turn.invariant some next_is c.if-next-prev.false in
+    let more : 0 < left - 1 = omega arith in
+    let room_2 : c.loop-turn.p + width + width + width ≤ length bytes = omega (arith, rises_room first more) in
     omega (arith, room_2)
 
 pub le_at-prev-requires : goal.le_at-prev-requires
 le_at-prev-requires c =
+    let left : ℕ = c.args.n - 2 * c.loop-turn._turn in
     let bytes : List ℕ = c.args.s.now in
     let width : ℕ = c.width_bytes-w.result in
-    let some : 0 < c.loop-left.left = omega arith in
-    let next_is : c.le_at-next.result ≡ unle (take width (drop (c.loop-left.p + width) bytes)) =
-    c.le_at-next.ensures ∙ ap (λ (x : ℕ). unle (take x (drop (c.loop-left.p + width) bytes))) (sym c.width_bytes-w.ensures) in
-    let first : let a = c.args in Rises width a.n bytes a.at c.le_at-first.result c.le_at-next.result (c.loop-left.p + width) (c.loop-left.left - 1) =
-    rises_more c.loop-left.invariant some next_is c.if-next-prev.false in
-    let more : 0 < c.loop-left.left - 1 = omega (arith, c.loop-left-test.true) in
-    let room_2 : c.loop-left.p + width + width + width ≤ length bytes = omega (arith, rises_room first more) in
+    let some : 0 < left = omega arith in
+    let next_is : c.le_at-next.result ≡ unle (take width (drop (c.loop-turn.p + width) bytes)) =
+    c.le_at-next.ensures ∙ ap (λ (x : ℕ). unle (take x (drop (c.loop-turn.p + width) bytes))) (sym c.width_bytes-w.ensures) in
+    let first : let a = c.args in Rises width a.n bytes a.at c.le_at-first.result c.le_at-next.result (c.loop-turn.p + width) (left - 1) =
+    rises_more c.loop-turn.invariant some next_is c.if-next-prev.false in
+    let more : 0 < left - 1 = omega arith in
+    let room_2 : c.loop-turn.p + width + width + width ≤ length bytes = omega (arith, rises_room first more) in
     omega (arith, room_2, c.width_bytes-w.ensures)
 
 pub returns-then-prev-next : goal.returns-then-prev-next
 returns-then-prev-next c =
+    let left : ℕ = c.args.n - 2 * c.loop-turn._turn in
     let bytes : List ℕ = c.args.s.now in
     let tested : ℕ → Bool = λ w. let a = c.args in rising_test (offsets_in w (suc a.n) (drop a.at bytes)) in
     let width : ℕ = c.width_bytes-w.result in
-    let some : 0 < c.loop-left.left = omega arith in
-    let next_is : c.le_at-next.result ≡ unle (take width (drop (c.loop-left.p + width) bytes)) =
-    c.le_at-next.ensures ∙ ap (λ (x : ℕ). unle (take x (drop (c.loop-left.p + width) bytes))) (sym c.width_bytes-w.ensures) in
-    let first : let a = c.args in Rises width a.n bytes a.at c.le_at-first.result c.le_at-next.result (c.loop-left.p + width) (c.loop-left.left - 1) =
-    rises_more c.loop-left.invariant some next_is c.if-next-prev.false in
-    let more : 0 < c.loop-left.left - 1 = omega (arith, c.loop-left-test.true) in
-    let second_is : c.le_at-prev.result ≡ unle (take width (drop (c.loop-left.p + width + width) bytes)) =
-    c.le_at-prev.ensures ∙ ap (λ (x : ℕ). unle (take x (drop (c.loop-left.p + width + width) bytes))) (sym c.width_bytes-w.ensures) in
+    let some : 0 < left = omega arith in
+    let next_is : c.le_at-next.result ≡ unle (take width (drop (c.loop-turn.p + width) bytes)) =
+    c.le_at-next.ensures ∙ ap (λ (x : ℕ). unle (take x (drop (c.loop-turn.p + width) bytes))) (sym c.width_bytes-w.ensures) in
+    let first : let a = c.args in Rises width a.n bytes a.at c.le_at-first.result c.le_at-next.result (c.loop-turn.p + width) (left - 1) =
+    rises_more c.loop-turn.invariant some next_is c.if-next-prev.false in
+    let more : 0 < left - 1 = omega arith in
+    let second_is : c.le_at-prev.result ≡ unle (take width (drop (c.loop-turn.p + width + width) bytes)) =
+    c.le_at-prev.ensures ∙ ap (λ (x : ℕ). unle (take x (drop (c.loop-turn.p + width + width) bytes))) (sym c.width_bytes-w.ensures) in
     rises_falls first more second_is c.if-prev-next.true ∙ ap tested c.width_bytes-w.ensures
 
-pub overflow_sub-left : goal.overflow_sub-left
-overflow_sub-left c = omega (arith, c.loop-left-test.true)
-
-pub loop-left-smaller : goal.loop-left-smaller
-loop-left-smaller c = omega (arith, c.loop-left-test.true)
-
-pub loop-left-preserved : goal.loop-left-preserved
-loop-left-preserved c =
+pub loop-turn-preserved : goal.loop-turn-preserved
+loop-turn-preserved c =
+    let left : ℕ = c.args.n - 2 * c.loop-turn._turn in
     let bytes : List ℕ = c.args.s.now in
     let width : ℕ = c.width_bytes-w.result in
-    let some : 0 < c.loop-left.left = omega arith in
-    let next_is : c.le_at-next.result ≡ unle (take width (drop (c.loop-left.p + width) bytes)) =
-    c.le_at-next.ensures ∙ ap (λ (x : ℕ). unle (take x (drop (c.loop-left.p + width) bytes))) (sym c.width_bytes-w.ensures) in
-    let first : let a = c.args in Rises width a.n bytes a.at c.le_at-first.result c.le_at-next.result (c.loop-left.p + width) (c.loop-left.left - 1) =
-    rises_more c.loop-left.invariant some next_is c.if-next-prev.false in
-    let more : 0 < c.loop-left.left - 1 = omega (arith, c.loop-left-test.true) in
-    let second_is : c.le_at-prev.result ≡ unle (take width (drop (c.loop-left.p + width + width) bytes)) =
-    c.le_at-prev.ensures ∙ ap (λ (x : ℕ). unle (take x (drop (c.loop-left.p + width + width) bytes))) (sym c.width_bytes-w.ensures) in
+    let some : 0 < left = omega arith in
+    let next_is : c.le_at-next.result ≡ unle (take width (drop (c.loop-turn.p + width) bytes)) =
+    c.le_at-next.ensures ∙ ap (λ (x : ℕ). unle (take x (drop (c.loop-turn.p + width) bytes))) (sym c.width_bytes-w.ensures) in
+    let first : let a = c.args in Rises width a.n bytes a.at c.le_at-first.result c.le_at-next.result (c.loop-turn.p + width) (left - 1) =
+    rises_more c.loop-turn.invariant some next_is c.if-next-prev.false in
+    let more : 0 < left - 1 = omega arith in
+    let second_is : c.le_at-prev.result ≡ unle (take width (drop (c.loop-turn.p + width + width) bytes)) =
+    c.le_at-prev.ensures ∙ ap (λ (x : ℕ). unle (take x (drop (c.loop-turn.p + width + width) bytes))) (sym c.width_bytes-w.ensures) in
     let a = c.args in
-    let two : c.loop-left.left - 1 - 1 ≡ c.loop-left.left - 2 = omega arith in
-    subst (Rises width a.n bytes a.at c.le_at-first.result c.le_at-prev.result (c.loop-left.p + width + width)) two
+    let two : left - 1 - 1 ≡ a.n - 2 * (c.loop-turn._turn + 1) = omega arith in
+    subst (Rises width a.n bytes a.at c.le_at-first.result c.le_at-prev.result (c.loop-turn.p + width + width)) two
     (rises_more first more second_is c.if-prev-next.false)
 
-pub returns-then-left-eq0 : goal.returns-then-left-eq0
-returns-then-left-eq0 c =
+pub returns-then-n-eq0 : goal.returns-then-n-eq0
+returns-then-n-eq0 c =
+    let left : ℕ = c.args.n - 2 * c.loop-turn._turn in
     let bytes : List ℕ = c.args.s.now in
     let tested : ℕ → Bool = λ w. let a = c.args in rising_test (offsets_in w (suc a.n) (drop a.at bytes)) in
-    rises_end c.loop-left.invariant (omega arith) c.if-left-eq0.true ∙ ap tested c.width_bytes-w.ensures
+    rises_end c.loop-turn.invariant (omega arith) (omega (arith, c.if-n-eq0.true)) ∙ ap tested c.width_bytes-w.ensures
 
 pub overflow_add-p-2 : goal.overflow_add-p-2
 overflow_add-p-2 c =
+    let left : ℕ = c.args.n - 2 * c.loop-turn._turn in
     let bytes : List ℕ = c.args.s.now in
     let width : ℕ = c.width_bytes-w.result in
-    let one : c.loop-left.left ≡ 1 = omega arith in
-    let last_room : c.loop-left.p + width + width ≤ length bytes = omega (arith, rises_room c.loop-left.invariant (omega (arith, one))) in
+    let one : left ≡ 1 = omega (arith, c.if-n-eq0.false) in
+    let last_room : c.loop-turn.p + width + width ≤ length bytes = omega (arith, rises_room c.loop-turn.invariant (omega (arith, one))) in
     omega (arith, last_room)
 
 pub le_at-requires : goal.le_at-requires
 le_at-requires c =
+    let left : ℕ = c.args.n - 2 * c.loop-turn._turn in
     let bytes : List ℕ = c.args.s.now in
     let width : ℕ = c.width_bytes-w.result in
-    let one : c.loop-left.left ≡ 1 = omega arith in
-    let last_room : c.loop-left.p + width + width ≤ length bytes = omega (arith, rises_room c.loop-left.invariant (omega (arith, one))) in
+    let one : left ≡ 1 = omega (arith, c.if-n-eq0.false) in
+    let last_room : c.loop-turn.p + width + width ≤ length bytes = omega (arith, rises_room c.loop-turn.invariant (omega (arith, one))) in
     omega (arith, last_room, c.width_bytes-w.ensures)
 
 pub returns : goal.returns
 returns c =
+    let left : ℕ = c.args.n - 2 * c.loop-turn._turn in
     let bytes : List ℕ = c.args.s.now in
     let tested : ℕ → Bool = λ w. let a = c.args in rising_test (offsets_in w (suc a.n) (drop a.at bytes)) in
     let width : ℕ = c.width_bytes-w.result in
-    let one : c.loop-left.left ≡ 1 = omega arith in
-    let last_is : c.le_at.result ≡ unle (take width (drop (c.loop-left.p + width) bytes)) =
-    c.le_at.ensures ∙ ap (λ (x : ℕ). unle (take x (drop (c.loop-left.p + width) bytes))) (sym c.width_bytes-w.ensures) in
-    rises_last c.loop-left.invariant (omega (arith, one)) last_is (omega arith) one ∙ ap tested c.width_bytes-w.ensures
+    let one : left ≡ 1 = omega (arith, c.if-n-eq0.false) in
+    let last_is : c.le_at.result ≡ unle (take width (drop (c.loop-turn.p + width) bytes)) =
+    c.le_at.ensures ∙ ap (λ (x : ℕ). unle (take x (drop (c.loop-turn.p + width) bytes))) (sym c.width_bytes-w.ensures) in
+    rises_last c.loop-turn.invariant (omega (arith, one)) last_is (omega arith) one ∙ ap tested c.width_bytes-w.ensures

@@ -1,27 +1,13 @@
 -- `run_length` meets its contract, by the laws of RunLaws.
 -- Assumes nothing.
 use mathlib.Core.Path.{◌≡◌, ap, ◌∙◌}
-use Prim.Native.Nat.{◌<◌}
+use Prim.Native.Nat.{◌-◌, ◌<◌}
 use native.Mathlib.Omega.{arith}
 use lib.ListN.{length, get_or}
 use Rattle.array.specs.Cells.{set_test}
 use Rattle.decode_marks.proofs.PlaneLaws.{plane_at, plane_length, plane_byte}
-use Rattle.decode_cells.proofs.RunLaws.{running_begins, running_ends, running_stops, running_more}
+use Rattle.decode_cells.proofs.RunLaws.{running_ends, running_stops, running_more}
 use Rattle.decode_cells.proofs.runs.run_length.Goals as goal
-
-pub loop-e-init : goal.loop-e-init
-loop-e-init c =
-    let long : length (plane_at c.args.from c.args.n c.args.masks.now) ≡ c.args.n = plane_length c.args.from c.args.n c.args.masks.now c.requires.0 in
-    running_begins c.args.set (plane_at c.args.from c.args.n c.args.masks.now) c.args.i (omega (arith, long, c.requires.1))
-
-pub overflow_add-from : goal.overflow_add-from
-overflow_add-from c = omega (arith, c.requires)
-
-pub is_set-requires : goal.is_set-requires
-is_set-requires c = omega (arith, c.requires)
-
-pub overflow_sub-result : goal.overflow_sub-result
-overflow_sub-result c = omega (arith, c.loop-e.invariant.begun)
 
 pub returns-then-is_set-set : goal.returns-then-is_set-set
 returns-then-is_set-set c =
@@ -31,9 +17,6 @@ returns-then-is_set-set c =
     c.is_set.ensures ∙ ap set_test (plane_byte a.from a.n a.masks.now c.loop-e.e c.loop-e-test.true) in
     running_stops c.loop-e.invariant inside test_is c.if-is_set-set.true
 
-pub overflow_add-e : goal.overflow_add-e
-overflow_add-e c = omega (arith, c.requires)
-
 pub loop-e-preserved : goal.loop-e-preserved
 loop-e-preserved c =
     let long : length (plane_at c.args.from c.args.n c.args.masks.now) ≡ c.args.n = plane_length c.args.from c.args.n c.args.masks.now c.requires.0 in
@@ -42,10 +25,8 @@ loop-e-preserved c =
     c.is_set.ensures ∙ ap set_test (plane_byte a.from a.n a.masks.now c.loop-e.e c.loop-e-test.true) in
     running_more c.loop-e.invariant inside test_is c.if-is_set-set.false
 
-pub overflow_sub-result-2 : goal.overflow_sub-result-2
-overflow_sub-result-2 c = omega (arith, c.loop-e.invariant.begun)
-
 pub returns : goal.returns
 returns c =
     let long : length (plane_at c.args.from c.args.n c.args.masks.now) ≡ c.args.n = plane_length c.args.from c.args.n c.args.masks.now c.requires.0 in
-    running_ends c.loop-e.invariant (omega (arith, long, c.loop-e-test.false))
+    let end : c.args.n - c.args.i ≡ c.loop-e.e - c.args.i = omega (arith, c.requires.1) in
+    end ∙ running_ends c.loop-e.invariant (omega (arith, long, c.loop-e-test.false))

@@ -1,6 +1,6 @@
 -- `spread_runs` meets its contract, by the laws of SpreadingRuns: a null run and a set run a turn.
 -- Assumes nothing.
-use mathlib.Core.Path.{◌≡◌, ◌∙◌}
+use mathlib.Core.Path.{◌≡◌}
 use Prim.Native.Nat.{◌+◌, ◌-◌, ◌*◌, ◌≤◌, ◌<◌}
 use native.Mathlib.Omega.{arith}
 use lib.ListN.{length}
@@ -15,17 +15,6 @@ loop-k-init c =
     let args = c.args in
     let pre = c.requires in
     values_start pre (order_of args.order)
-
-pub run_length-nulls-requires : goal.run_length-nulls-requires
-run_length-nulls-requires c =
-    let long : length (plane_at c.args.from c.args.n c.args.masks.now) ≡ c.args.n = plane_long c.requires in
-    (c.requires.plane, omega (arith, long, c.loop-k.invariant.within))
-
-pub overflow_mul-i : goal.overflow_mul-i
-overflow_mul-i c =
-    let nulls_room : let a = c.args in c.loop-k.i * a.size + c.run_length-nulls.result * a.size ≤ length c.loop-k.values =
-    values_room c.loop-k.invariant c.run_length-nulls.result (nulls_fit c.loop-k.invariant c.run_length-nulls.ensures) in
-    omega (arith, nulls_room, values_same c.loop-k.invariant)
 
 pub overflow_mul-nulls : goal.overflow_mul-nulls
 overflow_mul-nulls c =
@@ -52,30 +41,6 @@ run_length-sets-requires c =
     let between : let a = c.args in SpreadingValues a.size (order_of a.order) (plane_at a.from a.n a.masks.now) a.s.now a.values.now a.at a.cells c.fill_bytes.new.out
     (c.loop-k.i + c.run_length-nulls.result) c.loop-k.k = nulls_laid c.loop-k.invariant c.run_length-nulls.ensures c.fill_bytes.ensures in
     (c.requires.plane, omega (arith, long, between.within))
-
-pub overflow_mul-i-in-loop-k : goal.overflow_mul-i-in-loop-k
-overflow_mul-i-in-loop-k c =
-    let between : let a = c.args in SpreadingValues a.size (order_of a.order) (plane_at a.from a.n a.masks.now) a.s.now a.values.now a.at a.cells c.fill_bytes.new.out
-    (c.loop-k.i + c.run_length-nulls.result) c.loop-k.k = nulls_laid c.loop-k.invariant c.run_length-nulls.ensures c.fill_bytes.ensures in
-    let sets_room : (c.loop-k.i + c.run_length-nulls.result) * c.args.size + c.run_length-sets.result * c.args.size ≤ length c.fill_bytes.new.out =
-    values_room between c.run_length-sets.result (sets_fit between c.run_length-sets.ensures) in
-    omega (arith, sets_room, values_same between)
-
-pub overflow_mul-k : goal.overflow_mul-k
-overflow_mul-k c =
-    let between : let a = c.args in SpreadingValues a.size (order_of a.order) (plane_at a.from a.n a.masks.now) a.s.now a.values.now a.at a.cells c.fill_bytes.new.out
-    (c.loop-k.i + c.run_length-nulls.result) c.loop-k.k = nulls_laid c.loop-k.invariant c.run_length-nulls.ensures c.fill_bytes.ensures in
-    let sets_source : let a = c.args in a.at + c.loop-k.k * a.size + c.run_length-sets.result * a.size ≤ length a.s.now =
-    values_source between c.run_length-sets.result (sets_stored between c.run_length-sets.ensures) in
-    omega (arith, sets_source)
-
-pub overflow_add-at : goal.overflow_add-at
-overflow_add-at c =
-    let between : let a = c.args in SpreadingValues a.size (order_of a.order) (plane_at a.from a.n a.masks.now) a.s.now a.values.now a.at a.cells c.fill_bytes.new.out
-    (c.loop-k.i + c.run_length-nulls.result) c.loop-k.k = nulls_laid c.loop-k.invariant c.run_length-nulls.ensures c.fill_bytes.ensures in
-    let sets_source : let a = c.args in a.at + c.loop-k.k * a.size + c.run_length-sets.result * a.size ≤ length a.s.now =
-    values_source between c.run_length-sets.result (sets_stored between c.run_length-sets.ensures) in
-    omega (arith, sets_source)
 
 pub copy_cells-requires : goal.copy_cells-requires
 copy_cells-requires c =
@@ -114,17 +79,6 @@ loop-k-preserved c =
     (c.loop-k.i + c.run_length-nulls.result) c.loop-k.k = nulls_laid c.loop-k.invariant c.run_length-nulls.ensures c.fill_bytes.ensures in
     sets_laid between c.run_length-sets.ensures c.copy_cells.ensures
 
-pub overflow_mul-i-2 : goal.overflow_mul-i-2
-overflow_mul-i-2 c =
-    let long : length (plane_at c.args.from c.args.n c.args.masks.now) ≡ c.args.n = plane_long c.requires in
-    let rest : let a = c.args in c.loop-k.i * a.size + (a.n - c.loop-k.i) * a.size ≤ length c.loop-k.values = values_rest c.loop-k.invariant long in
-    omega (arith, rest, values_same c.loop-k.invariant)
-
-pub overflow_sub-n : goal.overflow_sub-n
-overflow_sub-n c =
-    let long : length (plane_at c.args.from c.args.n c.args.masks.now) ≡ c.args.n = plane_long c.requires in
-    omega (arith, long, c.loop-k.invariant.within)
-
 pub overflow_mul-n : goal.overflow_mul-n
 overflow_mul-n c =
     let long : length (plane_at c.args.from c.args.n c.args.masks.now) ≡ c.args.n = plane_long c.requires in
@@ -136,9 +90,6 @@ fill_bytes-requires-2 c =
     let long : length (plane_at c.args.from c.args.n c.args.masks.now) ≡ c.args.n = plane_long c.requires in
     let rest : let a = c.args in c.loop-k.i * a.size + (a.n - c.loop-k.i) * a.size ≤ length c.loop-k.values = values_rest c.loop-k.invariant long in
     omega (arith, rest)
-
-pub shape_of-values : goal.shape_of-values
-shape_of-values c = c.fill_bytes-2.auto.out ∙ values_same c.loop-k.invariant
 
 pub returns : goal.returns
 returns c =

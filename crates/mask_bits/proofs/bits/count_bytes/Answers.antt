@@ -1,45 +1,26 @@
 -- `mask_bits::bits::count_bytes` meets its contract. The invariant: what is counted and the set bits of what is left make those of all bytes.
 -- Assumes nothing.
 use mathlib.Core.Path.{◌≡◌, ap}
-use Prim.Native.Nat.{ℕ, ◌+◌}
+use Prim.Native.Nat.{ℕ, ◌+◌, ◌<◌}
+use mathlib.Core.List.{List}
 use native.Mathlib.Omega.{arith}
-use lib.ListN.{get_or, take, drop}
+use lib.ListN.{length, get_or, drop}
 use lib.Count.{ones}
-use Rattle.codec.specs.Frame.{set_bits}
+use lib.Seq.{drop-cons}
+use native.Mathlib.Numerals.{add-one}
 use Rattle.mask_bits.specs.Bits.{bits_in}
 use Rattle.mask_bits.proofs.Ones.{ones_byte}
-use Rattle.mask_bits.proofs.Parts.{part_next, part_end}
 use Rattle.mask_bits.proofs.bits.count_bytes.Goals as goal
 
-pub overflow_cast-b : goal.overflow_cast-b
-overflow_cast-b c =
-    let index : ℕ = c.loop-i.i in
-    omega (arith, c.shared_slice_known-in-loop-i-1.given (c.args.at + index))
+byte_next : (s : List ℕ) (i : ℕ) → i < length s → get_or s i 0 < 256 → bits_in (drop i s) ≡ ones (get_or s i 0) + bits_in (drop (i + 1) s)
+byte_next s i h b = omega (arith, ap bits_in (drop-cons s i 0 h), ap (λ (k : ℕ). bits_in (drop k s)) (add-one i), ones_byte (get_or s i 0) b)
 
 pub overflow_add-set : goal.overflow_add-set
 overflow_add-set c =
-    let index : ℕ = c.loop-i.i in
-    let byte_of : ℕ = get_or c.args.s.now (c.args.at + index) 0 in
-    let counted : ones byte_of ≡ set_bits byte_of = ones_byte byte_of (omega (arith, c.shared_slice_known-in-loop-i-1.given (c.args.at + index))) in
-    let left : ℕ → ℕ = λ i. let a = c.args in
-    bits_in (drop i (take a.size (drop a.at a.s.now))) in
-    let next : left index ≡ set_bits byte_of + left (index + 1) = let a = c.args in
-    ap bits_in (part_next a.s.now a.at a.size c.requires.0 index c.loop-i-test.true) in
-    omega (arith, counted, next, c.requires.1)
+    let index = c.loop-b.b-index in
+    omega (arith, byte_next c.args.bytes.now index (omega arith) (omega (arith, (c.type_inv.bytes index).fits)), c.requires)
 
-pub loop-i-preserved : goal.loop-i-preserved
-loop-i-preserved c =
-    let index : ℕ = c.loop-i.i in
-    let byte_of : ℕ = get_or c.args.s.now (c.args.at + index) 0 in
-    let counted : ones byte_of ≡ set_bits byte_of = ones_byte byte_of (omega (arith, c.shared_slice_known-in-loop-i-1.given (c.args.at + index))) in
-    let left : ℕ → ℕ = λ i. let a = c.args in
-    bits_in (drop i (take a.size (drop a.at a.s.now))) in
-    let next : left index ≡ set_bits byte_of + left (index + 1) = let a = c.args in
-    ap bits_in (part_next a.s.now a.at a.size c.requires.0 index c.loop-i-test.true) in
-    omega (arith, counted, next)
-
-pub returns : goal.returns
-returns c =
-    let a = c.args in
-    let none = ap bits_in (part_end a.s.now a.at a.size c.requires.0 c.loop-i.i (omega arith)) in
-    omega (arith, none)
+pub loop-b-preserved : goal.loop-b-preserved
+loop-b-preserved c =
+    let index = c.loop-b.b-index in
+    omega (arith, byte_next c.args.bytes.now index (omega arith) (omega (arith, (c.type_inv.bytes index).fits)))

@@ -1,39 +1,28 @@
 -- `mask_bits::bits::count_words` meets its contract. The invariant: what is counted and the set bits of what is left make those of all bytes.
 -- Assumes nothing.
-use mathlib.Core.Path.{◌≡◌, sym, ap, ap₂, ◌∙◌}
-use Prim.Native.Nat.{ℕ, ◌+◌, ◌*◌}
+use mathlib.Core.Path.{ap, ◌∙◌}
 use native.Mathlib.Omega.{arith}
-use lib.ListN.{take, drop}
 use lib.Count.{ones}
-use Rattle.mask_bits.specs.Bits.{bits_in}
+use lib.ListN.{length, length-append}
+use Rattle.std.specs.Slice.Iter.{chunks_exact_rest}
 use Rattle.mask_bits.proofs.Ones.{word_next}
-use Rattle.mask_bits.proofs.Parts.{part_end}
 use Rattle.mask_bits.proofs.bits.count_words.Goals as goal
 
 pub overflow_add-set : goal.overflow_add-set
 overflow_add-set c =
-    let index : ℕ = c.loop-i.i in
-    let left : ℕ → ℕ = λ i. let a = c.args in
-    bits_in (drop (i * 8) (take (a.words * 8) (drop a.at a.s.now))) in
-    let next : left index ≡ ones c.le8_at-word.result + left (index + 1) = let a = c.args in
-    let e : index * 8 + 8 ≡ (index + 1) * 8 = omega arith in
-    word_next a.s.now (λ j. omega (arith, c.shared_slice_known-1.given j)) a.at (a.words * 8) (index * 8) (omega arith)
-    ∙ ap₂ (λ (w i : ℕ). ones w + bits_in (drop i (take (a.words * 8) (drop a.at a.s.now)))) (sym c.le8_at-word.ensures) e in
-    omega (arith, next, c.requires.1)
+    let left = chunks_exact_rest c.loop-word.word-iterator in
+    let rest = chunks_exact_rest c.next.new.self in
+    let inv = c.loop-word.invariant in
+    let steps = c.in-Some.ensures.steps.1 in
+    let next = word_next left c.in-Some.word.now rest steps.0 (omega (arith, inv.0, steps.1)) inv.2 in
+    omega (arith, ap ones c.le8_at.ensures, next.0, c.requires.1)
 
-pub loop-i-preserved : goal.loop-i-preserved
-loop-i-preserved c =
-    let index : ℕ = c.loop-i.i in
-    let left : ℕ → ℕ = λ i. let a = c.args in
-    bits_in (drop (i * 8) (take (a.words * 8) (drop a.at a.s.now))) in
-    let next : left index ≡ ones c.le8_at-word.result + left (index + 1) = let a = c.args in
-    let e : index * 8 + 8 ≡ (index + 1) * 8 = omega arith in
-    word_next a.s.now (λ j. omega (arith, c.shared_slice_known-1.given j)) a.at (a.words * 8) (index * 8) (omega arith)
-    ∙ ap₂ (λ (w i : ℕ). ones w + bits_in (drop i (take (a.words * 8) (drop a.at a.s.now)))) (sym c.le8_at-word.ensures) e in
-    omega (arith, next)
-
-pub returns : goal.returns
-returns c =
-    let a = c.args in
-    let none = ap bits_in (part_end a.s.now a.at (a.words * 8) c.requires.0 (c.loop-i.i * 8) (omega arith)) in
-    omega (arith, none)
+pub loop-word-preserved : goal.loop-word-preserved
+loop-word-preserved c =
+    let left = chunks_exact_rest c.loop-word.word-iterator in
+    let rest = chunks_exact_rest c.next.new.self in
+    let inv = c.loop-word.invariant in
+    let steps = c.in-Some.ensures.steps.1 in
+    let next = word_next left c.in-Some.word.now rest steps.0 (omega (arith, inv.0, steps.1)) inv.2 in
+    let sizes = ap length steps.0 ∙ length-append c.in-Some.word.now rest in
+    (omega (arith, inv.0, c.in-Some.ensures.steps.0), omega (arith, inv.0, sizes, steps.1), next.1, omega (arith, ap ones c.le8_at.ensures, next.0))

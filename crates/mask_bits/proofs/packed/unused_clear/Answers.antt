@@ -1,15 +1,19 @@
 -- `mask_bits::packed::unused_clear` meets its contract: only the last byte can have unused bits (Said).
 -- Assumes nothing.
-use Rattle.mask_bits.proofs.Said.{no_unused, unused_last}
-use Prim.Native.Nat.{◌+◌, ◌/◌}
+use mathlib.Core.Path.{◌≡◌, ◌∙◌}
+use Prim.Native.Nat.{◌+◌, ◌/◌, ◌%◌}
 use native.Mathlib.Omega.{arith}
+use borrow.Author.Tests.{eq-eqb}
+use Rattle.mask_bits.proofs.Said.{no_unused, unused_last}
 use Rattle.mask_bits.proofs.packed.unused_clear.Goals as goal
 
 pub returns-then-used-eq0 : goal.returns-then-used-eq0
 returns-then-used-eq0 c =
-    let a = c.args in no_unused a.s.now a.at a.n c.requires (omega (arith, c.if-used-eq0.true))
-
-pub returns : goal.returns
-returns c =
     let a = c.args in
-    unused_last a.s.now a.at a.n c.requires (λ e. omega (arith, e, c.if-used-eq0.false)) (omega (arith, c.shared_slice_known-1.given (a.at + a.n / 8)))
+    let none : a.n % 8 ≡ 0 = omega (arith, c.if-used-eq0.true) in
+    eq-eqb (a.n % 8) 0 none ∙ no_unused a.s.now a.at a.n c.requires none
+
+pub returns-else-used-eq0 : goal.returns-else-used-eq0
+returns-else-used-eq0 c =
+    let a = c.args in
+    unused_last a.s.now a.at a.n c.requires (λ e. omega (arith, e, c.if-used-eq0.false)) (omega (arith, (c.type_inv.s (a.at + a.n / 8)).fits))

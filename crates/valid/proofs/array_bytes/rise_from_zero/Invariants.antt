@@ -1,18 +1,18 @@
--- `valid::array_bytes::rise_from_zero` meets its contract, by the laws of Rise.
+-- `valid::array_bytes::rise_from_zero` meets its contract. The invariants: the test of all offsets is the test of those that are left.
 -- Assumes nothing.
-use Prim.Native.Nat.{◌-◌}
-use mathlib.Core.Bool.{true}
-use Rattle.valid.proofs.CheckLaws.{Rise}
+use mathlib.Core.Path.{◌≡◌}
+use mathlib.Core.List.{◌++◌}
+use Prim.Native.Nat.{suc, ◌%◌}
+use lib.ListN.{length, take, drop}
+use Rattle.std.specs.Slice.Iter.{chunks_exact_rest, chunks_exact_size}
+use Rattle.array.specs.Offsets.{rising_test, rising_from_test}
 use Rattle.valid.proofs.array_bytes.rise_from_zero.Given as goal
 
-abbrev pub invariant-loop-i : goal.invariant-loop-i
-invariant-loop-i l = Rise l.offsets l.n true l.last l.i
+abbrev pub invariant-loop-four : goal.invariant-loop-four
+invariant-loop-four l =
+    let left = chunks_exact_rest l.four-iterator in
+    (chunks_exact_size l.four-iterator ≡ 4) × (length left % 4 ≡ 0)
+    × (rising_test (take (suc l.n) l.offsets) ≡ rising_from_test l.last (left ++ l.rest))
 
-abbrev pub decreases-loop-i : goal.decreases-loop-i
-decreases-loop-i l = l.n - l.i
-
-abbrev pub invariant-loop-i-2 : goal.invariant-loop-i-2
-invariant-loop-i-2 l = Rise l.offsets l.n true l.last l.i
-
-abbrev pub decreases-loop-i-2 : goal.decreases-loop-i-2
-decreases-loop-i-2 l = l.n - l.i
+abbrev pub invariant-loop-next : goal.invariant-loop-next
+invariant-loop-next l = rising_test (take (suc l.n) l.offsets) ≡ rising_from_test l.last (drop l.next-index l.rest)
