@@ -13,9 +13,6 @@ returns-then-level-eq0 c =
     let a = c.args in
     sym (run_all (shown_at a.cells a.masks.now a.level) (λ i. live_none a.cells a.masks.now i a.level c.if-level-eq0.true) a.i (a.cells - a.i))
 
-pub loop-j-init : goal.loop-j-init
-loop-j-init c = (omega arith, omega arith, omega arith)
-
 pub returns-then-live_mark-eq0 : goal.returns-then-live_mark-eq0
 returns-then-live_mark-eq0 c =
     let a = c.args in
