@@ -43,13 +43,7 @@ pub fn live_bytes(offsets: &[u64], live: Counted) -> usize
 }
 
 // The values of the cells that the level counts, end to end; says how many bytes it wrote. Neighbours go as one run.
-fn put_live_runs(
-    out: &mut [u8],
-    to: usize,
-    values: &[u8],
-    offsets: &[u64],
-    level: Level,
-) -> usize
+fn put_live_runs(out: &mut [u8], to: usize, values: &[u8], offsets: &[u64], level: Level) -> usize
     requires { Offsets level.cells offsets.now × (last offsets.now ≡ length values.now)
         × (to + length (joined (values_at (offset_at offsets.now) values.now (live_in level))) ≤ length out.old) }
     ensures wrote { result ≡ length (joined (values_at (offset_at offsets.now) values.now (live_in level.entry))) }
