@@ -48,7 +48,11 @@ pub fn put_mask(form: MaskForm, out: &mut [u8], to: usize, live: Counted)
     requires { ((live.level.depth + 1) * live.level.cells ≤ length live.level.masks.now) × (to + (mask_form (masks_of form)).size live.count ≤ length out.old) }
     ensures { out.new ≡ over_at to (live_mask (masks_of form) live.entry.level.cells live.entry.level.masks.now live.entry.level.depth) out.old }
 {
-    let Level { masks, cells, depth } = live.level;
+    let Level {
+        masks,
+        cells,
+        depth,
+    } = live.level;
     if live.count == cells {
         form::put_plane(form, out, to, masks, depth * cells, cells);
     } else {
