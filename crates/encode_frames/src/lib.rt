@@ -32,7 +32,12 @@ pub fn write_content(
     ensures bytes { out.new ≡ over_at at (stored_from (kind_of kind) cells (content_array masks.now values.now offsets.now) left) out.old }
 {
     let depth = kind.depth as usize - left;
-    let live = Level { masks, cells, depth }.counted();
+    let live = Level {
+        masks,
+        cells,
+        depth,
+    }
+    .counted();
     if live.count == 0 {
         return 0;
     }
