@@ -18,7 +18,7 @@ use Rattle.array.proofs.Lists.{length_from_lem}
 use Rattle.array.proofs.Geometry.{All-from}
 use Rattle.array.proofs.Over.{over_at_length}
 use Rattle.array.proofs.Laying.{Laying, laying_same, laying_left, laying_ends, laying_part, laying_is}
-use Rattle.live_cells.specs.Live.{live_at, Planes}
+use Rattle.live_cells.specs.Live.{live_at}
 use Rattle.array.proofs.Numbered.{pieces_are, plane_is}
 use Rattle.codec.specs.Values.{put_values}
 use Rattle.live_cells.proofs.Runs.{passing-le, passing_start, All-passing, all_counted}
@@ -165,13 +165,9 @@ all_long o k s t {n = n} h ec en = fixed_long o k s t n h ∙ ap (λ (m : ℕ). 
 
 -- ---- the planes of levels
 
--- of fewer levels
-pub planes_to : {n : ℕ} {masks : List ℕ} {d l : ℕ} → Planes n masks d → l ≤ d → Planes n masks l
-planes_to {n} {masks} {d} {l} p h = record { shallow = omega (arith, p.shallow); few = p.few; planes = omega (arith, p.planes, mul-le-mul_right {m = l} {n = d} n h) }
-
-module _ {n : ℕ} {masks : List ℕ} (l : ℕ) (h : Planes n masks (l + 1)) where
+module _ (n : ℕ) (masks : List ℕ) (l : ℕ) (h : (l + 1) * n ≤ length masks) where
   pub mask_plane : l * n + n ≤ length masks
-  mask_plane = omega (arith, h.planes, suc-mul l n, ap (λ (m : ℕ). m * n) (add-one l))
+  mask_plane = omega (arith, h, suc-mul l n, ap (λ (m : ℕ). m * n) (add-one l))
 
   pub mask_all : {count : ℕ} → count ≡ length (live_at n masks l) → count ≡ n → take n (drop (l * n) masks) ≡ masks_at n masks l (live_at n masks l)
   mask_all ec en = plane_is n masks l mask_plane ∙ ap (masks_at n masks l) (sym (all_counted (shown_at n masks l) (sym ec ∙ en)))

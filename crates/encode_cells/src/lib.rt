@@ -4,16 +4,18 @@
 ghost use Rattle.std.specs.Prelude.{◌≡◌, true, map, ◌+◌, ◌*◌, ◌≤◌, length};
 ghost use Rattle.array.specs.Buffers.{over_at};
 ghost use Rattle.array.specs.Kind.{fixed, ordered};
+ghost use Rattle.array.specs.Limits.{most_cells};
 ghost use Rattle.array.specs.Lists.{joined, pieces};
 ghost use Rattle.array.specs.Meaning.{order_of};
 ghost use Rattle.array.specs.Places.{fixed_at, values_at};
 ghost use Rattle.codec.specs.Values.{put_values};
 ghost use Rattle.word.specs.Word.{word_test};
-ghost use Rattle.live_cells.specs.Live.{live_at, Planes};
+ghost use Rattle.live_cells.specs.Levels.{live_in};
 
 use array::kind::ByteOrder;
 use buffer::copy;
 use endian::cells;
+use live_cells::{Counted, Level};
 
 // All cells of values with no mask: as endian's copy_cells, which with one more caller would be a call of its own everywhere.
 pub fn put_all(out: &mut [u8], s: &[u8], size: usize, order: ByteOrder, cells: usize)
@@ -27,24 +29,16 @@ pub fn put_all(out: &mut [u8], s: &[u8], size: usize, order: ByteOrder, cells: u
 }
 
 // Of cells of one size, those that the level counts. Neighbours go as one run.
-fn put_live_runs(
-    out: &mut [u8],
-    to: usize,
-    s: &[u8],
-    size: usize,
-    order: ByteOrder,
-    masks: &[u8],
-    cells: usize,
-    level: usize,
-)
-    requires { Planes cells masks.now level × (cells * size ≤ length s.now)
-        × (to + length (put_values (fixed size (order_of order)) (values_at (fixed_at 0 size) s.now (live_at cells masks.now level))) ≤ length out.old) }
-    ensures { out.new ≡ over_at to (put_values (fixed size (order_of order)) (values_at (fixed_at 0 size) s.now (live_at cells masks.now level))) out.old }
+fn put_live_runs(out: &mut [u8], to: usize, s: &[u8], size: usize, order: ByteOrder, level: Level)
+    requires { (level.cells ≤ most_cells) × (level.cells * size ≤ length s.now)
+        × (to + length (put_values (fixed size (order_of order)) (values_at (fixed_at 0 size) s.now (live_in level))) ≤ length out.old) }
+    ensures { out.new ≡ over_at to (put_values (fixed size (order_of order)) (values_at (fixed_at 0 size) s.now (live_in level.entry))) out.old }
 {
     let mut i = 0;
     let mut done = 0;
-    while i < cells {
-        let run = live_cells::live_run(masks, cells, level, i);
+    // a turn takes a run and the cell behind it, so a range of cells has no turn for it
+    while i < level.cells {
+        let run = level.run(i);
         cells::copy_cells(out, to + done, s, i * size, size, order, run);
         done += run * size;
         i += run + 1;
@@ -52,28 +46,18 @@ fn put_live_runs(
 }
 
 // The same of cells of a word's size, without a branch: a cell that the level does not count is written too, and the next is written over it.
-fn put_live_words(
-    out: &mut [u8],
-    to: usize,
-    s: &[u8],
-    size: usize,
-    order: ByteOrder,
-    masks: &[u8],
-    cells: usize,
-    level: usize,
-    count: usize,
-)
-    requires { Planes cells masks.now level × (count ≡ length (live_at cells masks.now level))
-        × (word_test size ≡ true) × (cells * size ≤ length s.now)
-        × (to + length (put_values (fixed size (order_of order)) (values_at (fixed_at 0 size) s.now (live_at cells masks.now level))) ≤ length out.old) }
-    ensures { out.new ≡ over_at to (put_values (fixed size (order_of order)) (values_at (fixed_at 0 size) s.now (live_at cells masks.now level))) out.old }
+fn put_live_words(out: &mut [u8], to: usize, s: &[u8], size: usize, order: ByteOrder, live: Counted)
+    requires { (word_test size ≡ true) × (live.level.cells * size ≤ length s.now)
+        × (to + length (put_values (fixed size (order_of order)) (values_at (fixed_at 0 size) s.now (live_in live.level))) ≤ length out.old) }
+    ensures { out.new ≡ over_at to (put_values (fixed size (order_of order)) (values_at (fixed_at 0 size) s.now (live_in live.entry.level))) out.old }
 {
     let mut i = 0;
     let mut done = 0;
-    while done < count {
+    // over a range of cells the last that counts would be a second test in each turn
+    while done < live.count {
         let v = word::word_at(s, i * size, size, order);
         word::put_word(out, to + done * size, size, v);
-        done += live_cells::live_mark(masks, cells, level, i) as usize;
+        done += live.level.mark(i) as usize;
         i += 1;
     }
 }
@@ -85,51 +69,36 @@ fn put_level_words(
     s: &[u8],
     size: usize,
     order: ByteOrder,
-    masks: &[u8],
-    cells: usize,
-    level: usize,
-    count: usize,
+    live: Counted,
 )
-    requires { Planes cells masks.now level × (count ≡ length (live_at cells masks.now level))
-        × (word_test size ≡ true) × (cells * size ≤ length s.now)
-        × (to + length (put_values (fixed size (order_of order)) (values_at (fixed_at 0 size) s.now (live_at cells masks.now level))) ≤ length out.old) }
-    ensures { out.new ≡ over_at to (put_values (fixed size (order_of order)) (values_at (fixed_at 0 size) s.now (live_at cells masks.now level))) out.old }
+    requires { (word_test size ≡ true) × (live.level.cells * size ≤ length s.now)
+        × (to + length (put_values (fixed size (order_of order)) (values_at (fixed_at 0 size) s.now (live_in live.level))) ≤ length out.old) }
+    ensures { out.new ≡ over_at to (put_values (fixed size (order_of order)) (values_at (fixed_at 0 size) s.now (live_in live.entry.level))) out.old }
 {
-    match level {
-        1 => put_live_words(out, to, s, size, order, masks, cells, 1, count),
-        2 => put_live_words(out, to, s, size, order, masks, cells, 2, count),
-        3 => put_live_words(out, to, s, size, order, masks, cells, 3, count),
-        4 => put_live_words(out, to, s, size, order, masks, cells, 4, count),
-        _ => put_live_words(out, to, s, size, order, masks, cells, level, count),
+    match live.level.depth {
+        1 => put_live_words(out, to, s, size, order, live.at_depth(1)),
+        2 => put_live_words(out, to, s, size, order, live.at_depth(2)),
+        3 => put_live_words(out, to, s, size, order, live.at_depth(3)),
+        4 => put_live_words(out, to, s, size, order, live.at_depth(4)),
+        _ => put_live_words(out, to, s, size, order, live),
     }
 }
 
-// Of cells of one size, the `count` that the level counts. Each size of a word has a loop of its own.
-pub fn put_live(
-    out: &mut [u8],
-    to: usize,
-    s: &[u8],
-    size: usize,
-    order: ByteOrder,
-    masks: &[u8],
-    cells: usize,
-    level: usize,
-    count: usize,
-)
-    requires { Planes cells masks.now level × (count ≡ length (live_at cells masks.now level))
-        × (cells * size ≤ length s.now)
-        × (to + length (put_values (fixed size (order_of order)) (values_at (fixed_at 0 size) s.now (live_at cells masks.now level))) ≤ length out.old) }
-    ensures { out.new ≡ over_at to (put_values (fixed size (order_of order)) (values_at (fixed_at 0 size) s.now (live_at cells masks.now level))) out.old }
+// Of cells of one size, those that the level counts. Each size of a word has a loop of its own.
+pub fn put_live(out: &mut [u8], to: usize, s: &[u8], size: usize, order: ByteOrder, live: Counted)
+    requires { (live.level.cells ≤ most_cells) × (live.level.cells * size ≤ length s.now)
+        × (to + length (put_values (fixed size (order_of order)) (values_at (fixed_at 0 size) s.now (live_in live.level))) ≤ length out.old) }
+    ensures { out.new ≡ over_at to (put_values (fixed size (order_of order)) (values_at (fixed_at 0 size) s.now (live_in live.entry.level))) out.old }
 {
-    if count == cells {
-        cells::copy_cells(out, to, s, 0, size, order, cells);
+    if live.count == live.level.cells {
+        cells::copy_cells(out, to, s, 0, size, order, live.level.cells);
     } else {
         match size {
-            1 => put_level_words(out, to, s, 1, order, masks, cells, level, count),
-            2 => put_level_words(out, to, s, 2, order, masks, cells, level, count),
-            4 => put_level_words(out, to, s, 4, order, masks, cells, level, count),
-            8 => put_level_words(out, to, s, 8, order, masks, cells, level, count),
-            _ => put_live_runs(out, to, s, size, order, masks, cells, level),
+            1 => put_level_words(out, to, s, 1, order, live),
+            2 => put_level_words(out, to, s, 2, order, live),
+            4 => put_level_words(out, to, s, 4, order, live),
+            8 => put_level_words(out, to, s, 8, order, live),
+            _ => put_live_runs(out, to, s, size, order, live.level),
         }
     }
 }

@@ -6,66 +6,57 @@ ghost use Rattle.array.specs.Buffers.{over_at};
 ghost use Rattle.array.specs.Offsets.{last};
 ghost use Rattle.array.specs.Lists.{joined};
 ghost use Rattle.array.specs.Places.{bytes_at, offset_at, values_at};
-ghost use Rattle.live_cells.specs.Live.{live_at, Planes};
+ghost use Rattle.live_cells.specs.Levels.{live_in};
 ghost use Rattle.encode_data.specs.Offsets.{Offsets};
 
 use buffer::copy;
+use live_cells::{Counted, Level};
 
 // Value bytes of the cells that the level counts: each length by its mark, so that nothing branches on a mask.
-fn sum_live_bytes(offsets: &[u64], masks: &[u8], cells: usize, level: usize) -> usize
-    requires { Planes cells masks.now level × Offsets cells offsets.now }
-    ensures { result ≡ bytes_at (offset_at offsets.now) (live_at cells masks.now level) }
+fn sum_live_bytes(offsets: &[u64], level: Level) -> usize
+    requires { Offsets level.cells offsets.now }
+    ensures { result ≡ bytes_at (offset_at offsets.now) (live_in level.entry) }
 {
     let mut total: usize = 0;
-    let mut i: usize = 0;
-    while i < cells {
-        let mark = live_cells::live_mark(masks, cells, level, i) as u64;
+    for i in 0..level.cells {
+        let mark = level.mark(i) as u64;
         let start = offsets[i];
         let end = offsets[i + 1];
         total += ((end - start) * mark) as usize;
-        i += 1;
     }
     total
 }
 
-// The same of the `count` cells that the level counts, without a walk where all count or there is nothing to sum up.
-pub fn live_bytes(offsets: &[u64], masks: &[u8], cells: usize, level: usize, count: usize) -> usize
-    requires { Planes cells masks.now level × (count ≡ length (live_at cells masks.now level)) × Offsets cells offsets.now }
-    ensures { result ≡ bytes_at (offset_at offsets.now) (live_at cells masks.now level) }
+// The same, without a walk where all cells count or there is nothing to sum up.
+pub fn live_bytes(offsets: &[u64], live: Counted) -> usize
+    requires { Offsets live.level.cells offsets.now }
+    ensures { result ≡ bytes_at (offset_at offsets.now) (live_in live.entry.level) }
 {
-    let all = offsets[cells] as usize;
-    if count == cells {
+    let all = offsets[live.level.cells] as usize;
+    if live.count == live.level.cells {
         return all;
     }
     if all == 0 {
         return 0;
     }
-    sum_live_bytes(offsets, masks, cells, level)
+    sum_live_bytes(offsets, live.level)
 }
 
 // The values of the cells that the level counts, end to end; says how many bytes it wrote. Neighbours go as one run.
-fn put_live_runs(
-    out: &mut [u8],
-    to: usize,
-    values: &[u8],
-    offsets: &[u64],
-    masks: &[u8],
-    cells: usize,
-    level: usize,
-) -> usize
-    requires { Planes cells masks.now level
-        × Offsets cells offsets.now × (last offsets.now ≡ length values.now)
-        × (to + length (joined (values_at (offset_at offsets.now) values.now (live_at cells masks.now level))) ≤ length out.old) }
-    ensures wrote { result ≡ length (joined (values_at (offset_at offsets.now) values.now (live_at cells masks.now level))) }
-    ensures bytes { out.new ≡ over_at to (joined (values_at (offset_at offsets.now) values.now (live_at cells masks.now level))) out.old }
+fn put_live_runs(out: &mut [u8], to: usize, values: &[u8], offsets: &[u64], level: Level) -> usize
+    requires { Offsets level.cells offsets.now × (last offsets.now ≡ length values.now)
+        × (to + length (joined (values_at (offset_at offsets.now) values.now (live_in level))) ≤ length out.old) }
+    ensures wrote { result ≡ length (joined (values_at (offset_at offsets.now) values.now (live_in level.entry))) }
+    ensures bytes { out.new ≡ over_at to (joined (values_at (offset_at offsets.now) values.now (live_in level.entry))) out.old }
 {
     let mut i = 0;
     let mut done = 0;
-    while i < cells {
-        if live_cells::live_mark(masks, cells, level, i) == 0 {
+    // a turn takes a run and the cell behind it, so a range of cells has no turn for it
+    while i < level.cells {
+        if level.mark(i) == 0 {
             i += 1;
         } else {
-            let run = live_cells::live_run(masks, cells, level, i);
+            let run = level.run(i);
             let start = offsets[i] as usize;
             let end = offsets[i + run] as usize;
             copy::copy_bytes(out, to + done, values, start, end - start);
@@ -76,55 +67,33 @@ fn put_live_runs(
     done
 }
 
-// The same by level: where the level is a constant, the walk is compiled for it and does not ask for it at each cell.
-fn put_level_runs(
-    out: &mut [u8],
-    to: usize,
-    values: &[u8],
-    offsets: &[u64],
-    masks: &[u8],
-    cells: usize,
-    level: usize,
-) -> usize
-    requires { Planes cells masks.now level
-        × Offsets cells offsets.now × (last offsets.now ≡ length values.now)
-        × (to + length (joined (values_at (offset_at offsets.now) values.now (live_at cells masks.now level))) ≤ length out.old) }
-    ensures wrote { result ≡ length (joined (values_at (offset_at offsets.now) values.now (live_at cells masks.now level))) }
-    ensures bytes { out.new ≡ over_at to (joined (values_at (offset_at offsets.now) values.now (live_at cells masks.now level))) out.old }
-{
-    match level {
-        1 => put_live_runs(out, to, values, offsets, masks, cells, 1),
-        2 => put_live_runs(out, to, values, offsets, masks, cells, 2),
-        3 => put_live_runs(out, to, values, offsets, masks, cells, 3),
-        4 => put_live_runs(out, to, values, offsets, masks, cells, 4),
-        _ => put_live_runs(out, to, values, offsets, masks, cells, level),
-    }
-}
-
-// The same of the `count` cells that the level counts. Where all count, it is the values as they lie.
+// The same. Where all cells count, it is the values as they lie; where the level is a constant, the walk is compiled for it and does not
+// ask for it at each cell.
 pub fn put_live_data(
     out: &mut [u8],
     to: usize,
     values: &[u8],
     offsets: &[u64],
-    masks: &[u8],
-    cells: usize,
-    level: usize,
-    count: usize,
+    live: Counted,
 ) -> usize
-    requires { Planes cells masks.now level × (count ≡ length (live_at cells masks.now level))
-        × Offsets cells offsets.now × (last offsets.now ≡ length values.now)
-        × (to + length (joined (values_at (offset_at offsets.now) values.now (live_at cells masks.now level))) ≤ length out.old) }
-    ensures wrote { result ≡ length (joined (values_at (offset_at offsets.now) values.now (live_at cells masks.now level))) }
-    ensures bytes { out.new ≡ over_at to (joined (values_at (offset_at offsets.now) values.now (live_at cells masks.now level))) out.old }
+    requires { Offsets live.level.cells offsets.now × (last offsets.now ≡ length values.now)
+        × (to + length (joined (values_at (offset_at offsets.now) values.now (live_in live.level))) ≤ length out.old) }
+    ensures wrote { result ≡ length (joined (values_at (offset_at offsets.now) values.now (live_in live.entry.level))) }
+    ensures bytes { out.new ≡ over_at to (joined (values_at (offset_at offsets.now) values.now (live_in live.entry.level))) out.old }
 {
     let bytes = values.len();
-    if count == cells {
+    if live.count == live.level.cells {
         copy::copy_many(out, to, values, 0, bytes);
         return bytes;
     }
     if bytes == 0 {
         return 0;
     }
-    put_level_runs(out, to, values, offsets, masks, cells, level)
+    match live.level.depth {
+        1 => put_live_runs(out, to, values, offsets, live.at_depth(1).level),
+        2 => put_live_runs(out, to, values, offsets, live.at_depth(2).level),
+        3 => put_live_runs(out, to, values, offsets, live.at_depth(3).level),
+        4 => put_live_runs(out, to, values, offsets, live.at_depth(4).level),
+        _ => put_live_runs(out, to, values, offsets, live.level),
+    }
 }

@@ -5,12 +5,12 @@ ghost use Rattle.std.specs.Prelude.{◌≡◌, ◌+◌, ◌≤◌, length};
 ghost use Rattle.array.specs.Buffers.{over, over_at};
 ghost use Rattle.array.specs.Meaning.{kind_of};
 ghost use Rattle.array.specs.Outcome.{content_array};
-ghost use Rattle.live_cells.specs.Live.{live_at};
 ghost use Rattle.encode_values.specs.Ready.{Encodable};
 ghost use Rattle.encode_values.specs.Stored.{level_of, stored_from, frame_from};
 
 use array::kind::{Kind, Values};
 use buffer::field;
+use live_cells::{Counted, Level};
 use mask::form;
 
 // Writes the content of the cells that the level with so many levels left counts; says how many bytes it wrote.
@@ -31,41 +31,43 @@ pub fn write_content(
     ensures wrote { result ≡ length (stored_from (kind_of kind) cells (content_array masks.now values.now offsets.now) left) }
     ensures bytes { out.new ≡ over_at at (stored_from (kind_of kind) cells (content_array masks.now values.now offsets.now) left) out.old }
 {
-    let level = kind.depth as usize - left;
-    let count = live_cells::count_live(masks, cells, level);
-    if count == 0 {
+    let depth = kind.depth as usize - left;
+    let live = Level {
+        masks,
+        cells,
+        depth,
+    }
+    .counted();
+    if live.count == 0 {
         return 0;
     }
     if left == 0 {
-        return encode_values::put_values(out, at, kind, cells, masks, values, offsets, count);
+        return encode_values::put_values(out, at, kind, values, offsets, live);
     }
-    write_frame(out, at, kind, cells, masks, values, offsets, left, count)
+    write_frame(out, at, kind, values, offsets, left, live)
 }
 
-// Writes the frame of these `count` cells: the content, then the mask, then their lengths.
+// Writes the frame of these cells: the content, then the mask, then their lengths.
 #[cycle(write_content_write_frame)]
 fn write_frame(
     out: &mut [u8],
     at: usize,
     kind: Kind,
-    cells: usize,
-    masks: &[u8],
     values: &[u8],
     offsets: &[u64],
     left: usize,
-    count: usize,
+    live: Counted,
 ) -> usize
-    requires counted { count ≡ length (live_at cells masks.now (level_of (kind_of kind) left)) }
-    requires ready { Encodable (kind_of kind) cells (content_array masks.now values.now offsets.now) }
+    requires level { live.level.depth ≡ level_of (kind_of kind) left }
+    requires ready { Encodable (kind_of kind) live.level.cells (content_array live.level.masks.now values.now offsets.now) }
     requires within { (1 ≤ left) × (left ≤ (kind_of kind).depth) }
-    requires room { at + length (frame_from (kind_of kind) cells (content_array masks.now values.now offsets.now) left) ≤ length out.old }
-    ensures wrote { result ≡ length (frame_from (kind_of kind) cells (content_array masks.now values.now offsets.now) left) }
-    ensures bytes { out.new ≡ over_at at (frame_from (kind_of kind) cells (content_array masks.now values.now offsets.now) left) out.old }
+    requires room { at + length (frame_from (kind_of kind) live.level.cells (content_array live.level.masks.now values.now offsets.now) left) ≤ length out.old }
+    ensures wrote { result ≡ length (frame_from (kind_of kind) live.entry.level.cells (content_array live.entry.level.masks.now values.now offsets.now) left) }
+    ensures bytes { out.new ≡ over_at at (frame_from (kind_of kind) live.entry.level.cells (content_array live.entry.level.masks.now values.now offsets.now) left) out.old }
 {
-    let form = kind.masks;
-    let level = kind.depth as usize - left;
+    let Level { masks, cells, .. } = live.level;
     let start = at + 16;
-    let mask = form::mask_length(form, count);
+    let mask = form::mask_length(kind.masks, live.count);
     let length = write_content(
         out,
         start + mask,
@@ -76,7 +78,7 @@ fn write_frame(
         offsets,
         left - 1,
     );
-    encode_masks::put_mask(form, out, start, masks, cells, level, count);
+    encode_masks::put_mask(kind.masks, out, start, live);
     field::put_u64(out, at + 8, length as u64);
     field::put_u64(out, at, mask as u64);
     16 + mask + length
@@ -100,8 +102,7 @@ pub fn write_stored(
         write_content(out, 0, kind, cells, masks, values, offsets, depth);
         return;
     }
-    let form = kind.values;
-    match form {
+    match kind.values {
         Values::Fixed(size, order) => encode_cells::put_all(
             out,
             values,

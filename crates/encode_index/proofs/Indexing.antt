@@ -59,7 +59,10 @@ module _ {t : ℕ → Bool} {n w : ℕ} {os d : List ℕ} {to : ℕ} {out : List
   pub indexing_ends : length (passing t (from 0 n)) ≤ done → out ≡ over_at to (index_of w (ends_at (offset_at os) 0 (passing t (from 0 n)))) d
   indexing_ends h = packing_ends l.packs h ∙ ap (λ (x : List ℕ). over_at to x d) (index_whole w (offset_at os) t n)
 
-  module _ (h : done < length (passing t (from 0 n))) where
+  module _ {count : ℕ} (ec : count ≡ length (passing t (from 0 n))) (left : done < count) where
+    h : done < length (passing t (from 0 n))
+    h = omega arith
+
     pub indexing_inside : i < n
     indexing_inside = packing_cell l.packs h
 

@@ -7,12 +7,13 @@ ghost use Rattle.array.specs.Bytes.{le};
 ghost use Rattle.array.specs.Meaning.{width_of};
 ghost use Rattle.array.specs.Places.{ends_at, offset_at};
 ghost use Rattle.codec.specs.Ragged.{index_of};
-ghost use Rattle.live_cells.specs.Live.{live_at, Planes};
+ghost use Rattle.live_cells.specs.Levels.{live_in};
 ghost use Rattle.encode_data.specs.Offsets.{Offsets};
 
 use array::kind;
 use array::kind::IndexWidth;
 use buffer::field;
+use live_cells::Counted;
 
 fn put_offset(out: &mut [u8], at: usize, width: IndexWidth, v: u64)
     requires { at + width_of width ≤ length out.old }
@@ -24,28 +25,20 @@ fn put_offset(out: &mut [u8], at: usize, width: IndexWidth, v: u64)
     }
 }
 
-// Where the `count` cells that the level counts end, when they lie end to end from 0. What a cell that it does not count puts
+// Where the cells that the level counts end, when they lie end to end from 0. What a cell that it does not count puts
 // is overwritten by the next that it counts, so that nothing branches on a mask.
-fn put_marked_ends(
-    out: &mut [u8],
-    to: usize,
-    width: IndexWidth,
-    offsets: &[u64],
-    masks: &[u8],
-    cells: usize,
-    level: usize,
-    count: usize,
-)
-    requires { Planes cells masks.now level × (count ≡ length (live_at cells masks.now level)) × Offsets cells offsets.now
-        × (to + length (index_of (width_of width) (ends_at (offset_at offsets.now) 0 (live_at cells masks.now level))) ≤ length out.old) }
-    ensures { out.new ≡ over_at to (index_of (width_of width) (ends_at (offset_at offsets.now) 0 (live_at cells masks.now level))) out.old }
+fn put_marked_ends(out: &mut [u8], to: usize, width: IndexWidth, offsets: &[u64], live: Counted)
+    requires { Offsets live.level.cells offsets.now
+        × (to + length (index_of (width_of width) (ends_at (offset_at offsets.now) 0 (live_in live.level))) ≤ length out.old) }
+    ensures { out.new ≡ over_at to (index_of (width_of width) (ends_at (offset_at offsets.now) 0 (live_in live.entry.level))) out.old }
 {
     let k = kind::width_bytes(width);
     let mut i = 0;
     let mut total: u64 = 0;
     let mut done = 0;
-    while done < count {
-        let mark = live_cells::live_mark(masks, cells, level, i) as u64;
+    // over a range of cells the last that counts would be a second test in each turn
+    while done < live.count {
+        let mark = live.level.mark(i) as u64;
         let start = offsets[i];
         let end = offsets[i + 1];
         let bytes = (end - start) * mark;
@@ -56,27 +49,18 @@ fn put_marked_ends(
     }
 }
 
-// The same by level, as put_level_runs of `encode_data`.
-fn put_live_ends(
-    out: &mut [u8],
-    to: usize,
-    width: IndexWidth,
-    offsets: &[u64],
-    masks: &[u8],
-    cells: usize,
-    level: usize,
-    count: usize,
-)
-    requires { Planes cells masks.now level × (count ≡ length (live_at cells masks.now level)) × Offsets cells offsets.now
-        × (to + length (index_of (width_of width) (ends_at (offset_at offsets.now) 0 (live_at cells masks.now level))) ≤ length out.old) }
-    ensures { out.new ≡ over_at to (index_of (width_of width) (ends_at (offset_at offsets.now) 0 (live_at cells masks.now level))) out.old }
+// The same by level, as put_live_data of `encode_data`.
+fn put_live_ends(out: &mut [u8], to: usize, width: IndexWidth, offsets: &[u64], live: Counted)
+    requires { Offsets live.level.cells offsets.now
+        × (to + length (index_of (width_of width) (ends_at (offset_at offsets.now) 0 (live_in live.level))) ≤ length out.old) }
+    ensures { out.new ≡ over_at to (index_of (width_of width) (ends_at (offset_at offsets.now) 0 (live_in live.entry.level))) out.old }
 {
-    match level {
-        1 => put_marked_ends(out, to, width, offsets, masks, cells, 1, count),
-        2 => put_marked_ends(out, to, width, offsets, masks, cells, 2, count),
-        3 => put_marked_ends(out, to, width, offsets, masks, cells, 3, count),
-        4 => put_marked_ends(out, to, width, offsets, masks, cells, 4, count),
-        _ => put_marked_ends(out, to, width, offsets, masks, cells, level, count),
+    match live.level.depth {
+        1 => put_marked_ends(out, to, width, offsets, live.at_depth(1)),
+        2 => put_marked_ends(out, to, width, offsets, live.at_depth(2)),
+        3 => put_marked_ends(out, to, width, offsets, live.at_depth(3)),
+        4 => put_marked_ends(out, to, width, offsets, live.at_depth(4)),
+        _ => put_marked_ends(out, to, width, offsets, live),
     }
 }
 
@@ -85,35 +69,24 @@ pub fn put_index(out: &mut [u8], to: usize, width: IndexWidth, offsets: &[u64])
     requires { to + length (index_of (width_of width) offsets.now) ≤ length out.old }
     ensures { out.new ≡ over_at to (index_of (width_of width) offsets.now) out.old }
 {
-    let mut j = 0;
     let mut done = 0;
-    while j < offsets.len() {
-        put_offset(out, to + done, width, offsets[j]);
+    for offset in offsets {
+        put_offset(out, to + done, width, *offset);
         done += kind::width_bytes(width);
-        j += 1;
     }
 }
 
-// The index of the `count` cells that the level counts, from offset 0. Where all count, it is the offsets as they lie.
-pub fn put_live_index(
-    out: &mut [u8],
-    to: usize,
-    width: IndexWidth,
-    offsets: &[u64],
-    masks: &[u8],
-    cells: usize,
-    level: usize,
-    count: usize,
-)
-    requires { Planes cells masks.now level × (count ≡ length (live_at cells masks.now level)) × Offsets cells offsets.now
-        × (to + length (index_of (width_of width) (0 ∷ ends_at (offset_at offsets.now) 0 (live_at cells masks.now level))) ≤ length out.old) }
-    ensures { out.new ≡ over_at to (index_of (width_of width) (0 ∷ ends_at (offset_at offsets.now) 0 (live_at cells masks.now level))) out.old }
+// The index of the cells that the level counts, from offset 0. Where all count, it is the offsets as they lie.
+pub fn put_live_index(out: &mut [u8], to: usize, width: IndexWidth, offsets: &[u64], live: Counted)
+    requires { Offsets live.level.cells offsets.now
+        × (to + length (index_of (width_of width) (0 ∷ ends_at (offset_at offsets.now) 0 (live_in live.level))) ≤ length out.old) }
+    ensures { out.new ≡ over_at to (index_of (width_of width) (0 ∷ ends_at (offset_at offsets.now) 0 (live_in live.entry.level))) out.old }
 {
-    if count == cells {
+    if live.count == live.level.cells {
         put_index(out, to, width, offsets);
     } else {
         put_offset(out, to, width, 0);
         let behind = to + kind::width_bytes(width);
-        put_live_ends(out, behind, width, offsets, masks, cells, level, count);
+        put_live_ends(out, behind, width, offsets, live);
     }
 }

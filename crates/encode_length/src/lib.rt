@@ -8,6 +8,7 @@ ghost use Rattle.encode_values.specs.Stored.{length_from};
 
 use array::kind;
 use array::kind::{Kind, Values};
+use live_cells::Level;
 use mask::form;
 
 // With so many levels left: 16 + the stored mask of the cells that the level counts + what is below, or nothing where no cell is left.
@@ -16,16 +17,20 @@ pub fn content_length(kind: Kind, cells: usize, masks: &[u8], offsets: &[u64], l
     requires within { left ≤ (kind_of kind).depth }
     ensures { result ≡ length_from (kind_of kind) cells masks.now offsets.now left }
 {
-    let level = kind.depth as usize - left;
-    let count = live_cells::count_live(masks, cells, level);
-    if count == 0 {
+    let depth = kind.depth as usize - left;
+    let live = Level {
+        masks,
+        cells,
+        depth,
+    }
+    .counted();
+    if live.count == 0 {
         return 0;
     }
     if left == 0 {
-        return encode_values::values_length(kind, cells, masks, offsets, count);
+        return encode_values::values_length(kind, offsets, live);
     }
-    let form = kind.masks;
-    let mask = form::mask_length(form, count);
+    let mask = form::mask_length(kind.masks, live.count);
     16 + mask + content_length(kind, cells, masks, offsets, left - 1)
 }
 
@@ -38,8 +43,7 @@ pub fn stored_length(kind: Kind, cells: usize, masks: &[u8], offsets: &[u64]) ->
     if 0 < depth {
         return content_length(kind, cells, masks, offsets, depth);
     }
-    let form = kind.values;
-    match form {
+    match kind.values {
         Values::Fixed(size, _) => cells * (size as usize),
         Values::Ragged(width, _) => {
             8 + kind::width_bytes(width) * (cells + 1) + offsets[cells] as usize

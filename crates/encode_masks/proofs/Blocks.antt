@@ -1,7 +1,7 @@
 -- Stored masks block by block: mask bytes of cells that a level counts are gathered, and put into stored bytes by the laws of a mask form.
 -- Assumes nothing.
 use mathlib.Core.Path.{◌≡◌, refl, sym, ap, ap₂, ◌∙◌, subst}
-use Prim.Native.Nat.{ℕ, ◌+◌, ◌%◌, ◌<◌, ◌≤◌}
+use Prim.Native.Nat.{ℕ, ◌+◌, ◌-◌, ◌%◌, ◌<◌, ◌≤◌, min}
 use native.Mathlib.Numerals.{add-one}
 use native.Mathlib.Omega.{arith}
 use mathlib.Core.Bool.{Bool, true, false}
@@ -228,3 +228,21 @@ module _ {x : Masks} {n : ℕ} {masks : List ℕ} {l : ℕ} {d : List ℕ} {to :
         counted = omega (arith, p.counted, rest_long);
         whole = λ h. omega (arith, eights (omega (arith, p.counted, rest_long)), p.whole (omega (arith, block_fits)));
       }
+
+-- ---- the next block: as many cells as are left, and at most 256
+
+pub blocks_at : {x : Masks} {n : ℕ} {masks : List ℕ} {l : ℕ} {d : List ℕ} {to : ℕ} {out : List ℕ} {i j k : ℕ} → j ≡ k → Blocks x n masks l d to out i j → Blocks x n masks l d to out i k
+blocks_at {x} {n} {masks} {l} {d} {to} {out} {i} e p = subst (λ (j : ℕ). Blocks x n masks l d to out i j) e p
+
+module _ {all count done m : ℕ} (ec : count ≡ all) (h : done < count) (e : m ≡ min (count - done) 256) where
+  pub next_some : 1 ≤ m
+  next_some = omega arith
+
+  pub next_fits : done + m ≤ all
+  next_fits = omega arith
+
+  pub next_eights : done + m < all → m % 8 ≡ 0
+  next_eights q = omega arith
+
+  pub next_done : done + m ≡ min (done + 256) count
+  next_done = omega arith

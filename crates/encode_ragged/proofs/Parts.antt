@@ -56,6 +56,11 @@ module _ (w : ℕ) (p : Place) (masks : List ℕ) (l : ℕ) {n : ℕ} {os : List
         (ap length offsets_are ∙ ap suc (length-ends_at (offset_at os) 0 cells))
         ∙ ap₂ (λ (a b : ℕ). 8 + a + b) (ap (λ (m : ℕ). w * m) (sym (add-one (length cells))) ∙ sym counted) (data_long ∙ sym eb)
 
+    -- there is room for the index, its length and the bytes
+    pub ragged_room : (at : ℕ) {m bytes : ℕ} → at + length (put_values (ragged w p) (values_at (offset_at os) s (live_at n masks l))) ≤ m
+        → bytes ≡ bytes_at (offset_at os) (live_at n masks l) → at + (8 + k * (count + 1) + bytes) ≤ m
+    ragged_room at h eb = omega (arith, h, ragged_long eb)
+
     pub ragged_put : (at : ℕ) (out : List ℕ) {bytes place start field : ℕ} {o1 o2 o3 : List ℕ} → bytes ≡ bytes_at (offset_at os) (live_at n masks l)
         → at + length (put_values (ragged w p) (values_at (offset_at os) s (live_at n masks l))) ≤ length out
         → place ≡ data_at p (k * (count + 1)) → o1 ≡ over_at (at + place) (joined (values_at (offset_at os) s (live_at n masks l))) out

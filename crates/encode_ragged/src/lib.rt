@@ -9,16 +9,16 @@ ghost use Rattle.array.specs.Offsets.{last};
 ghost use Rattle.array.specs.Places.{offset_at, values_at};
 ghost use Rattle.codec.specs.Ragged.{put_ragged};
 ghost use Rattle.codec.specs.Values.{put_values};
-ghost use Rattle.live_cells.specs.Live.{live_at, Planes};
+ghost use Rattle.live_cells.specs.Levels.{live_in};
 ghost use Rattle.encode_data.specs.Offsets.{Offsets};
 
 use array::kind;
 use array::kind::{IndexPlace, IndexWidth};
 use buffer::{copy, field};
 use codec::place;
+use live_cells::Counted;
 
-// Ragged values of the `count` cells that the level counts, end to end from offset 0; says how many bytes it wrote.
-// Ten parameters: the place, the form, the values, and four for which cells.
+// Ragged values of the cells that the level counts, end to end from offset 0; says how many bytes it wrote.
 pub fn put_ragged(
     out: &mut [u8],
     at: usize,
@@ -26,23 +26,19 @@ pub fn put_ragged(
     place: IndexPlace,
     values: &[u8],
     offsets: &[u64],
-    masks: &[u8],
-    cells: usize,
-    level: usize,
-    count: usize,
+    live: Counted,
 ) -> usize
-    requires { Planes cells masks.now level × (count ≡ length (live_at cells masks.now level))
-        × Offsets cells offsets.now × (last offsets.now ≡ length values.now)
-        × (at + length (put_values (ragged (width_of width) (place_of place)) (values_at (offset_at offsets.now) values.now (live_at cells masks.now level))) ≤ length out.old) }
-    ensures wrote { result ≡ length (put_values (ragged (width_of width) (place_of place)) (values_at (offset_at offsets.now) values.now (live_at cells masks.now level))) }
-    ensures bytes { out.new ≡ over_at at (put_values (ragged (width_of width) (place_of place)) (values_at (offset_at offsets.now) values.now (live_at cells masks.now level))) out.old }
+    requires { Offsets live.level.cells offsets.now × (last offsets.now ≡ length values.now)
+        × (at + length (put_values (ragged (width_of width) (place_of place)) (values_at (offset_at offsets.now) values.now (live_in live.level))) ≤ length out.old) }
+    ensures wrote { result ≡ length (put_values (ragged (width_of width) (place_of place)) (values_at (offset_at offsets.now) values.now (live_in live.entry.level))) }
+    ensures bytes { out.new ≡ over_at at (put_values (ragged (width_of width) (place_of place)) (values_at (offset_at offsets.now) values.now (live_in live.entry.level))) out.old }
 {
-    let index = kind::width_bytes(width) * (count + 1);
+    let index = kind::width_bytes(width) * (live.count + 1);
     let data = at + place::data_at(place, index);
-    let bytes = encode_data::put_live_data(out, data, values, offsets, masks, cells, level, count);
+    let bytes = encode_data::put_live_data(out, data, values, offsets, live);
     let stored = 8 + index + bytes;
     let start = at + place::index_at(place, stored, index);
-    encode_index::put_live_index(out, start, width, offsets, masks, cells, level, count);
+    encode_index::put_live_index(out, start, width, offsets, live);
     let field = at + place::length_at(place, stored);
     field::put_u64(out, field, index as u64);
     stored

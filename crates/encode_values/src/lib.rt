@@ -1,4 +1,4 @@
-// Layer 2, writing: the innermost content, values of one size or ragged values, of the `count` cells that every level sets.
+// Layer 2, writing: the innermost content, values of one size or ragged values, of the cells that every level sets.
 #![tactic(auto)]
 
 ghost use Rattle.std.specs.Prelude.{◌≡◌, ◌+◌, ◌≤◌, length};
@@ -11,20 +11,19 @@ ghost use Rattle.encode_values.specs.Stored.{values_from, values_length_at};
 
 use array::kind;
 use array::kind::{Kind, Values};
+use live_cells::Counted;
 
 // How long these values are when written.
-pub fn values_length(kind: Kind, cells: usize, masks: &[u8], offsets: &[u64], count: usize) -> usize
-    requires counted { count ≡ length (live_at cells masks.now (kind_of kind).depth) }
-    requires ready { Measured (kind_of kind) cells masks.now offsets.now }
-    ensures { result ≡ values_length_at (kind_of kind).form offsets.now (live_at cells masks.now (kind_of kind).depth) }
+pub fn values_length(kind: Kind, offsets: &[u64], live: Counted) -> usize
+    requires innermost { live.level.depth ≡ (kind_of kind).depth }
+    requires ready { Measured (kind_of kind) live.level.cells live.level.masks.now offsets.now }
+    ensures { result ≡ values_length_at (kind_of kind).form offsets.now (live_at live.entry.level.cells live.entry.level.masks.now (kind_of kind).depth) }
 {
-    let level = kind.depth as usize;
-    let form = kind.values;
-    match form {
-        Values::Fixed(size, _) => count * (size as usize),
+    match kind.values {
+        Values::Fixed(size, _) => live.count * (size as usize),
         Values::Ragged(width, _) => {
-            let index = kind::width_bytes(width) * (count + 1);
-            8 + index + encode_data::live_bytes(offsets, masks, cells, level, count)
+            let index = kind::width_bytes(width) * (live.count + 1);
+            8 + index + encode_data::live_bytes(offsets, live)
         }
     }
 }
@@ -34,28 +33,24 @@ pub fn put_values(
     out: &mut [u8],
     at: usize,
     kind: Kind,
-    cells: usize,
-    masks: &[u8],
     values: &[u8],
     offsets: &[u64],
-    count: usize,
+    live: Counted,
 ) -> usize
-    requires counted { count ≡ length (live_at cells masks.now (kind_of kind).depth) }
-    requires ready { Encodable (kind_of kind) cells (content_array masks.now values.now offsets.now) }
-    requires room { at + length (values_from (kind_of kind) cells (content_array masks.now values.now offsets.now)) ≤ length out.old }
-    ensures wrote { result ≡ length (values_from (kind_of kind) cells (content_array masks.now values.now offsets.now)) }
-    ensures bytes { out.new ≡ over_at at (values_from (kind_of kind) cells (content_array masks.now values.now offsets.now)) out.old }
+    requires innermost { live.level.depth ≡ (kind_of kind).depth }
+    requires ready { Encodable (kind_of kind) live.level.cells (content_array live.level.masks.now values.now offsets.now) }
+    requires room { at + length (values_from (kind_of kind) live.level.cells (content_array live.level.masks.now values.now offsets.now)) ≤ length out.old }
+    ensures wrote { result ≡ length (values_from (kind_of kind) live.entry.level.cells (content_array live.entry.level.masks.now values.now offsets.now)) }
+    ensures bytes { out.new ≡ over_at at (values_from (kind_of kind) live.entry.level.cells (content_array live.entry.level.masks.now values.now offsets.now)) out.old }
 {
-    let level = kind.depth as usize;
-    let form = kind.values;
-    match form {
+    match kind.values {
         Values::Fixed(size, order) => {
             let k = size as usize;
-            encode_cells::put_live(out, at, values, k, order, masks, cells, level, count);
-            count * k
+            encode_cells::put_live(out, at, values, k, order, live);
+            live.count * k
         }
-        Values::Ragged(width, place) => encode_ragged::put_ragged(
-            out, at, width, place, values, offsets, masks, cells, level, count,
-        ),
+        Values::Ragged(width, place) => {
+            encode_ragged::put_ragged(out, at, width, place, values, offsets, live)
+        }
     }
 }

@@ -14,7 +14,7 @@ ghost use Rattle.guest_read.specs.Seen.{seen_at, seen_content, places_by, Asked}
 use crate::planes::put_masks;
 use array::answer::WrittenArray;
 use array::refusal;
-use live_cells::live_mark;
+use live_cells::Level;
 use mask_marks::one_if_set;
 
 // 1 where the plane and all masks show cell i, else 0: a product, so that what goes by it has no branch.
@@ -22,7 +22,12 @@ fn seen_mark(rights: &[u8], masks: &[u8], cells: usize, depth: usize, i: usize) 
     requires { (i < length rights.now) × (i < cells) × (depth ≤ most_depth) × (depth * cells ≤ length masks.now) }
     ensures { result ≡ pick (seen_at cells rights.now masks.now depth i) 1 0 }
 {
-    one_if_set(rights[i]) * live_mark(masks, cells, depth, i)
+    let level = Level {
+        masks,
+        cells,
+        depth,
+    };
+    one_if_set(rights[i]) * level.mark(i)
 }
 
 // Value bytes of the cells that are seen.
@@ -69,7 +74,12 @@ fn put_offsets(out: &mut [u64], offsets: &[u64], plane: &[u8], cells: usize)
     let mut to: u64 = 0;
     let mut j: usize = 0;
     while j < cells {
-        let mark = live_mark(plane, cells, 1, j) as u64;
+        let level = Level {
+            masks: plane,
+            cells,
+            depth: 1,
+        };
+        let mark = level.mark(j) as u64;
         let begin = offsets[j];
         let end = offsets[j + 1];
         out[j] = to;
@@ -117,8 +127,13 @@ pub fn read_ragged(
     }
     put_masks(out_masks, rights, masks, cells, depth);
     let plane = &out_masks[planes - cells..planes];
-    let shown = live_cells::count_live(plane, cells, 1);
+    let level = Level {
+        masks: plane,
+        cells,
+        depth: 1,
+    };
+    let shown = level.counted();
     put_offsets(out_offsets, offsets, plane, cells);
-    let bytes = encode_data::put_live_data(out_values, 0, values, offsets, plane, cells, 1, shown);
+    let bytes = encode_data::put_live_data(out_values, 0, values, offsets, shown);
     WrittenArray::Lengths(planes, bytes, count)
 }

@@ -1,2 +1,3 @@
 pub mod Runs
 pub mod LiveMarks
+pub mod Levels

@@ -3,7 +3,7 @@
 use mathlib.Core.Path.{◌≡◌, refl, sym, ap, ap₂, ◌∙◌}
 use mathlib.Core.Logic.{◌≢◌}
 use Prim.Native.Nat.{ℕ, zero, suc, ◌+◌, ◌-◌, ◌*◌, ◌<◌, ◌≤◌}
-use native.Mathlib.Nat.{sub-zero, zero-add, zero-mul, one-mul, suc-mul, mul-le-mul_right}
+use native.Mathlib.Nat.{sub-zero, zero-add, zero-mul, one-mul}
 use native.Mathlib.Numerals.{add-one}
 use native.Mathlib.Omega.{arith}
 use mathlib.Core.Bool.{Bool, true, false, ◌&&◌}
@@ -17,7 +17,7 @@ use Rattle.array.proofs.Lists.{All-of, length_from_lem}
 use Rattle.array.proofs.Geometry.{passing_cong}
 use Rattle.codec.specs.Frame.{count_set, count_by}
 use Rattle.live_cells.specs.Live.{set_one, live_one, live_at, live_from}
-use Rattle.live_cells.proofs.Runs.{passing_start, passing_end, live_all}
+use Rattle.live_cells.proofs.Runs.{passing_end, live_all}
 
 -- ---- one cell
 
@@ -58,13 +58,6 @@ module _ (n : ℕ) (masks : List ℕ) (i : ℕ) where
   pub mark_le : {a : ℕ} (l : ℕ) → a ≡ live_one n masks l i → a ≤ 1
   mark_le l e = omega (arith, one_le (shown_at n masks l i))
 
--- the byte of the cell at a level above l
-pub row_in : (k : ℕ) {l n i m : ℕ} → k < l → i < n → l * n ≤ m → k * n + i < m
-row_in k {l} {n} {i} {m} h p q = omega (arith, mul-le-mul_right {m = suc k} {n = l} n h, suc-mul k n)
-
-pub deepest : {l : ℕ} → l ≤ 4 → l ≢ 0 → l ≢ 1 → l ≢ 2 → l ≢ 3 → l ≡ 4
-deepest h a b c d = omega arith
-
 -- ---- the cells from i on
 
 pub passing_next : (t : ℕ → Bool) (i n : ℕ) → i < n
@@ -84,9 +77,6 @@ module _ (n : ℕ) (masks : List ℕ) (l : ℕ) where
 
   pub live_end : (i : ℕ) → n ≤ i → length (live_from n masks l i) ≡ 0
   live_end i h = ap length (passing_end (shown_at n masks l) i n h)
-
-  pub live-whole : length (live_from n masks l 0) ≡ length (live_at n masks l)
-  live-whole = ap length (passing_start (shown_at n masks l) n)
 
 -- ---- level 0 counts every cell, and level 1 those that are set in the first mask
 

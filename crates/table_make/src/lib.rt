@@ -16,6 +16,7 @@ ghost use Rattle.table_make.specs.Rested.{rest_store, rest_table, Held, put_tabl
 use crate::put::{put_masks, put_places};
 use array::kind::Kind;
 use array::refusal;
+use live_cells::{Counted, Level};
 use table::answer::WrittenTable;
 use table_kind::{count_ok, is_table_kind, store_ok};
 use valid::array_bytes;
@@ -38,7 +39,12 @@ fn has_room(
     if values.len() <= room {
         return true;
     }
-    encode_data::live_bytes(offsets, masks, cells, depth, count) <= room
+    let level = Level {
+        masks,
+        cells,
+        depth,
+    };
+    encode_data::live_bytes(offsets, Counted { level, count }) <= room
 }
 
 // The table of an array that keeps its rules: refusal 6, or all is stored.
@@ -68,13 +74,26 @@ fn make_valid(
     if out_lengths.len() < cells {
         return WrittenTable::Refused(refusal::OUTPUT);
     }
-    let count = live_cells::count_live(masks, cells, depth);
-    if !has_room(depth, cells, masks, values, offsets, count, store.len()) {
+    let live = Level {
+        masks,
+        cells,
+        depth,
+    }
+    .counted();
+    if !has_room(
+        depth,
+        cells,
+        masks,
+        values,
+        offsets,
+        live.count,
+        store.len(),
+    ) {
         return WrittenTable::Refused(refusal::OUTPUT);
     }
     put_masks(out_masks, masks, cells, depth);
     put_places(out_starts, out_lengths, offsets, masks, cells, depth);
-    let bytes = encode_data::put_live_data(store, 0, values, offsets, masks, cells, depth, count);
+    let bytes = encode_data::put_live_data(store, 0, values, offsets, live);
     WrittenTable::Lengths(planes, cells, cells, bytes)
 }
 

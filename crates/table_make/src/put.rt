@@ -11,6 +11,7 @@ ghost use Rattle.table_make.specs.Rested.{rest_mask, kept_at, rest_planes, rest_
 
 use array::mark::{Mark, mark_of};
 use buffer::copy;
+use live_cells::Level;
 
 // The mask byte below another: it stays where that one is set.
 fn kept(above: u8, mask: u8) -> u8
@@ -86,7 +87,12 @@ pub fn put_places(
     let mut to: u64 = 0;
     let mut j: usize = 0;
     while j < cells {
-        let mark = live_cells::live_mark(masks, cells, depth, j) as u64;
+        let level = Level {
+            masks,
+            cells,
+            depth,
+        };
+        let mark = level.mark(j) as u64;
         let begin = offsets[j];
         let end = offsets[j + 1];
         let size = (end - begin) * mark;

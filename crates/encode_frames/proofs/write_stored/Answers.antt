@@ -1,6 +1,6 @@
 -- `encode_frames::write_stored` meets its contract: below masks the content with all levels left, and without them the values, a case for each form.
 -- Assumes nothing.
-use mathlib.Core.Path.{◌≡◌, sym, ap, ◌∙◌}
+use mathlib.Core.Path.{◌≡◌, refl, sym, ap, ◌∙◌}
 use native.Mathlib.Omega.{arith}
 use lib.ListN.{length}
 use Rattle.array.specs.Content.{Content}
@@ -22,7 +22,7 @@ put_all-requires c =
     let a = c.args in
     let r = c.requires.ready in
     let count = count_all a.cells a.masks.now depth_none in
-    (omega (arith, c.requires.room, ap length flat, fixed_wrote a.kind r c.in-Fixed.is count), omega (arith, fixed_source a.kind r c.in-Fixed.is))
+    (omega (arith, c.requires.room, ap length flat, fixed_wrote a.kind r c.in-Fixed.is refl count), omega (arith, fixed_source a.kind r c.in-Fixed.is))
 
 pub put_plain-requires : goal.put_plain-requires
 put_plain-requires c =

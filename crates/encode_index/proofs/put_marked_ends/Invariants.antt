@@ -2,12 +2,12 @@
 -- Assumes nothing.
 use Prim.Native.Nat.{◌-◌}
 use Rattle.array.specs.Meaning.{width_of}
-use Rattle.array.specs.Places.{shown_at}
+use Rattle.live_cells.specs.Levels.{shown_in}
 use Rattle.encode_index.proofs.Indexing.{Indexing}
 use Rattle.encode_index.proofs.put_marked_ends.Given as goal
 
 abbrev pub invariant-loop-done : goal.invariant-loop-done
-invariant-loop-done l = Indexing (shown_at l.cells l.masks l.level) l.cells (width_of l.width) l.offsets l.initial.out l.to l.out l.i l.total l.done
+invariant-loop-done l = Indexing (shown_in l.live.level) l.live.level.cells (width_of l.width) l.offsets l.initial.out l.to l.out l.i l.total l.done
 
 abbrev pub decreases-loop-done : goal.decreases-loop-done
-decreases-loop-done l = l.cells - l.i
+decreases-loop-done l = l.live.level.cells - l.i

@@ -5,7 +5,7 @@ use Rattle.encode_masks.proofs.Blocks.{Picking}
 use Rattle.encode_masks.proofs.gather_masks.Given as goal
 
 abbrev pub invariant-loop-done : goal.invariant-loop-done
-invariant-loop-done l = Picking l.cells l.masks l.level l.initial.block l.start l.m l.block l.i l.done
+invariant-loop-done l = Picking l.level.cells l.level.masks.now l.level.depth l.initial.block l.start l.m l.block l.i l.done
 
 abbrev pub decreases-loop-done : goal.decreases-loop-done
-decreases-loop-done l = l.cells - l.i
+decreases-loop-done l = l.level.cells - l.i

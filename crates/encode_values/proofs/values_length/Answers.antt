@@ -1,37 +1,60 @@
--- `encode_values::values_length_lem` meets its contract: a case for each form.
+-- `encode_values::values_length` meets its contract: a case for each form.
 -- Assumes nothing.
-use mathlib.Core.Path.{refl}
-use Prim.Native.Nat.{◌+◌, ◌*◌, ◌≤◌}
+use mathlib.Core.Path.{refl, ap, ◌∙◌}
+use Prim.Native.Nat.{ℕ, ◌≤◌}
 use native.Mathlib.Omega.{arith}
-use Rattle.encode_values.proofs.Forms.{measured_planes, count_small, fixed_length, fixed_small, ragged_offsets, ragged_length_lem, ragged_small}
+use lib.ListN.{length}
+use Rattle.array.specs.Places.{bytes_at, offset_at}
+use Rattle.live_cells.specs.Live.{live_at}
+use Rattle.encode_values.proofs.Forms.{count_small, fixed_length, fixed_small, ragged_offsets, ragged_length_lem, ragged_small}
 use Rattle.encode_values.proofs.values_length.Goals as goal
 
 pub overflow_mul-result : goal.overflow_mul-result
-overflow_mul-result c = omega (arith, fixed_small c.args.kind c.requires.ready c.requires.counted c.in-Fixed.is)
+overflow_mul-result c =
+    let v = c.args.live.level in
+    let ec = c.args.live.counted ∙ ap (λ (l : ℕ). length (live_at v.cells v.masks.now l)) c.requires.innermost in
+    omega (arith, fixed_small c.args.kind c.requires.ready ec c.in-Fixed.is)
 
 pub overflow_add-index : goal.overflow_add-index
-overflow_add-index c = omega (arith, count_small c.args.kind c.requires.ready c.requires.counted)
+overflow_add-index c =
+    let v = c.args.live.level in
+    let ec = c.args.live.counted ∙ ap (λ (l : ℕ). length (live_at v.cells v.masks.now l)) c.requires.innermost in
+    omega (arith, count_small c.args.kind c.requires.ready ec)
 
 pub overflow_mul-index : goal.overflow_mul-index
 overflow_mul-index c =
-    let index_small : 8 + c.width_bytes.result * (c.args.count + 1) ≤ 17301520 =
-    omega (arith, ragged_small c.args.kind c.requires.ready c.requires.counted c.in-Ragged.is c.width_bytes.ensures refl) in
-    omega (arith, index_small)
+    let v = c.args.live.level in
+    let ec = c.args.live.counted ∙ ap (λ (l : ℕ). length (live_at v.cells v.masks.now l)) c.requires.innermost in
+    omega (arith, ragged_small c.args.kind c.requires.ready ec c.in-Ragged.is c.width_bytes.ensures refl)
 
 pub overflow_add-result : goal.overflow_add-result
 overflow_add-result c =
-    let index_small : 8 + c.width_bytes.result * (c.args.count + 1) ≤ 17301520 =
-    omega (arith, ragged_small c.args.kind c.requires.ready c.requires.counted c.in-Ragged.is c.width_bytes.ensures refl) in
-    omega (arith, index_small)
+    let v = c.args.live.level in
+    let ec = c.args.live.counted ∙ ap (λ (l : ℕ). length (live_at v.cells v.masks.now l)) c.requires.innermost in
+    omega (arith, ragged_small c.args.kind c.requires.ready ec c.in-Ragged.is c.width_bytes.ensures refl)
 
 pub live_bytes-requires : goal.live_bytes-requires
-live_bytes-requires c = (measured_planes c.requires.ready, c.requires.counted, ragged_offsets c.args.kind c.requires.ready c.requires.counted c.in-Ragged.is)
+live_bytes-requires c =
+    let v = c.args.live.level in
+    let ec = c.args.live.counted ∙ ap (λ (l : ℕ). length (live_at v.cells v.masks.now l)) c.requires.innermost in
+    ragged_offsets c.args.kind c.requires.ready ec c.in-Ragged.is
 
 pub overflow_add-result-in-Ragged : goal.overflow_add-result-in-Ragged
-overflow_add-result-in-Ragged c = omega (arith, ragged_small c.args.kind c.requires.ready c.requires.counted c.in-Ragged.is c.width_bytes.ensures c.live_bytes.ensures)
+overflow_add-result-in-Ragged c =
+    let v = c.args.live.level in
+    let ec = c.args.live.counted ∙ ap (λ (l : ℕ). length (live_at v.cells v.masks.now l)) c.requires.innermost in
+    let bytes = c.live_bytes.ensures ∙ ap (λ (l : ℕ). bytes_at (offset_at c.args.offsets.now) (live_at v.cells v.masks.now l)) c.requires.innermost in
+    omega (arith, ragged_small c.args.kind c.requires.ready ec c.in-Ragged.is c.width_bytes.ensures bytes)
 
 pub returns-in-Fixed : goal.returns-in-Fixed
-returns-in-Fixed c = fixed_length c.args.kind c.requires.ready c.requires.counted c.in-Fixed.is
+returns-in-Fixed c =
+    let v = c.args.live.level in
+    let ec = c.args.live.counted ∙ ap (λ (l : ℕ). length (live_at v.cells v.masks.now l)) c.requires.innermost in
+    fixed_length c.args.kind c.requires.ready ec c.in-Fixed.is
 
 pub returns-in-Ragged : goal.returns-in-Ragged
-returns-in-Ragged c = ragged_length_lem c.args.kind c.requires.ready c.requires.counted c.in-Ragged.is c.width_bytes.ensures c.live_bytes.ensures
+returns-in-Ragged c =
+    let v = c.args.live.level in
+    let ec = c.args.live.counted ∙ ap (λ (l : ℕ). length (live_at v.cells v.masks.now l)) c.requires.innermost in
+    let bytes = c.live_bytes.ensures ∙ ap (λ (l : ℕ). bytes_at (offset_at c.args.offsets.now) (live_at v.cells v.masks.now l)) c.requires.innermost in
+    ragged_length_lem c.args.kind c.requires.ready ec c.in-Ragged.is c.width_bytes.ensures bytes

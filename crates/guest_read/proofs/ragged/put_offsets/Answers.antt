@@ -13,10 +13,6 @@ use Rattle.guest_read.proofs.ragged.put_offsets.Goals as goal
 pub loop-j-init : goal.loop-j-init
 loop-j-init c = placed_begins (shown_at c.args.cells c.args.plane.now 1) c.requires.1 c.requires.2
 
-pub live_mark-mark-requires : goal.live_mark-mark-requires
-live_mark-mark-requires c =
-    let p = c.requires in omega (arith, c.loop-j-test.true, p.0.shallow, p.0.planes)
-
 pub offset_bounds-offsets-j : goal.offset_bounds-offsets-j
 unfolding most_cells
 offset_bounds-offsets-j c = omega (arith, c.loop-j-test.true, c.requires.0.few)
@@ -54,7 +50,7 @@ pub overflow_mul-to : goal.overflow_mul-to
 overflow_mul-to c =
     omega (
       arith,
-      summing_fits c.loop-j.invariant.sums c.loop-j-test.true c.live_mark-mark.ensures,
+      summing_fits c.loop-j.invariant.sums c.loop-j-test.true c.mark-mark.ensures,
       c.shared_slice_known-in-loop-j-2-1.given (c.loop-j.j + 1),
     )
 
@@ -62,12 +58,12 @@ pub overflow_add-to : goal.overflow_add-to
 overflow_add-to c =
     omega (
       arith,
-      summing_fits c.loop-j.invariant.sums c.loop-j-test.true c.live_mark-mark.ensures,
+      summing_fits c.loop-j.invariant.sums c.loop-j-test.true c.mark-mark.ensures,
       c.shared_slice_known-in-loop-j-2-1.given (c.loop-j.j + 1),
     )
 
 pub loop-j-preserved : goal.loop-j-preserved
-loop-j-preserved c = placed_more c.loop-j.invariant c.loop-j-test.true c.live_mark-mark.ensures
+loop-j-preserved c = placed_more c.loop-j.invariant c.loop-j-test.true c.mark-mark.ensures
 
 pub offset_bounds-out-j-2 : goal.offset_bounds-out-j-2
 unfolding most_cells

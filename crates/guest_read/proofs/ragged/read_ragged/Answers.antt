@@ -9,11 +9,14 @@ use lib.ListN.{length}
 use Rattle.array.specs.Lists.{joined}
 use Rattle.array.specs.Places.{offset_at, values_at}
 use Rattle.array.specs.Content.{Content}
-use Rattle.array.specs.Buffers.{over}
+use Rattle.array.specs.Buffers.{over, over_at}
 use Rattle.array.specs.Outcome.{content_array}
 use Rattle.array.specs.Kind.{ragged, at_start}
 use Rattle.array.proofs.Putting.{without_masks_lem, no_values, no_offsets, put}
 use Rattle.live_cells.specs.Live.{live_at, Planes}
+use Rattle.live_cells.specs.Levels.{live_in}
+use Rattle.live_cells.specs.declared.Level.{Level}
+use Rattle.encode_data.specs.Offsets.{Offsets}
 use Rattle.rights.specs.Rights.{cleared}
 use Rattle.guest_read.specs.Seen.{seen_content}
 use Rattle.guest_read.proofs.Seen.{last_plane, plane_long, plane_live}
@@ -55,19 +58,6 @@ put_masks-requires c =
 pub overflow_sub-plane : goal.overflow_sub-plane
 overflow_sub-plane c = one_plane c.requires
 
-pub count_live-shown-requires : goal.count_live-shown-requires
-count_live-shown-requires c =
-    let under : List ℕ = cleared c.args.rights.now c.args.masks.now in
-    let plane : List ℕ = last_plane c.args.depth c.args.cells c.put_masks.new.out in
-    let one_level : Planes c.args.cells plane 1 =
-    let a = c.requires in
-    record {
-      shallow = omega (arith, a.some, a.shallow);
-      few = a.few;
-      planes = omega (arith, plane_long c.args.cells under a.some c.args.out_masks.now c.put_masks.ensures);
-    } in
-    one_level
-
 pub put_offsets-requires : goal.put_offsets-requires
 put_offsets-requires c =
     let under : List ℕ = cleared c.args.rights.now c.args.masks.now in
@@ -87,18 +77,16 @@ put_live_data-bytes-requires c =
     let seen : Content = seen_content (ragged 8 at_start) c.args.depth c.args.cells c.args.rights.now array in
     let under : List ℕ = cleared c.args.rights.now c.args.masks.now in
     let plane : List ℕ = last_plane c.args.depth c.args.cells c.put_masks.new.out in
-    let one_level : Planes c.args.cells plane 1 =
-    let a = c.requires in
-    record {
-      shallow = omega (arith, a.some, a.shallow);
-      few = a.few;
-      planes = omega (arith, plane_long c.args.cells under a.some c.args.out_masks.now c.put_masks.ensures);
-    } in
     let values : joined (values_at (offset_at c.args.offsets.now) c.args.values.now (live_at c.args.cells plane 1)) ≡ seen.values =
     plane_values c.requires plane (plane_live c.args.cells under c.requires.some c.args.out_masks.now c.put_masks.ensures) in
     let fits : length seen.values ≤ length c.args.out_values.now =
     subst (λ (m : ℕ). m ≤ length c.args.out_values.now) (sym (ragged_long c.requires)) (leb-true _ _ (sym c.has_room.ensures ∙ not-false c.has_room.result c.if-not-has_room.false-raw)) in
-    (one_level, c.count_live-shown.ensures, offsets_ok c.requires, c.requires.values_fit.2, omega (arith, ap length values, fits))
+    let e = sym c.counted-shown.ensures in
+    let room : length (joined (values_at (offset_at c.args.offsets.now) c.args.values.now (live_at c.args.cells plane 1))) ≤ length c.args.out_values.now = omega (arith, ap length values, fits) in (
+      subst (λ (v : Level). Offsets v.cells c.args.offsets.now) e (offsets_ok c.requires),
+      c.requires.values_fit.2,
+      subst (λ (v : Level). 0 + length (joined (values_at (offset_at c.args.offsets.now) c.args.values.now (live_in v))) ≤ length c.args.out_values.now) e (omega (arith, room)),
+    )
 
 pub returns : goal.returns
 returns c =
@@ -112,11 +100,14 @@ returns c =
     let fits : length seen.values ≤ length c.args.out_values.now =
     subst (λ (m : ℕ). m ≤ length c.args.out_values.now) (sym (ragged_long c.requires)) (leb-true _ _ (sym c.has_room.ensures ∙ not-false c.has_room.result c.if-not-has_room.false-raw)) in
     let a = c.requires in
+    let stored : Level → List ℕ = λ v. joined (values_at (offset_at c.args.offsets.now) c.args.values.now (live_in v)) in
+    let wrote = c.put_live_data-bytes.ensures.wrote ∙ ap (λ (v : Level). length (stored v)) c.counted-shown.ensures in
+    let bytes = c.put_live_data-bytes.ensures.bytes ∙ ap (λ (v : Level). over_at 0 (stored v) c.args.out_values.now) c.counted-shown.ensures in
     let live = plane_live c.args.cells under a.some c.args.out_masks.now c.put_masks.ensures in
     put seen outputs (c.args.depth * c.args.cells) _ (c.args.cells + 1)
     (masks_long (ragged 8 at_start) c.args.depth c.args.cells c.args.rights.now array)
-    (sym (c.put_live_data-bytes.ensures.wrote ∙ ap length values)) (offsets_long a)
-    c.if-out_masks-planes.false (omega (arith, fits, c.put_live_data-bytes.ensures.wrote, ap length values)) c.if-out_offsets-count.false
+    (sym (wrote ∙ ap length values)) (offsets_long a)
+    c.if-out_masks-planes.false (omega (arith, fits, wrote, ap length values)) c.if-out_offsets-count.false
     _ _ _ c.put_masks.ensures
-    (c.put_live_data-bytes.ensures.bytes ∙ ap (λ (vs : List ℕ). over vs c.args.out_values.now) values)
+    (bytes ∙ ap (λ (vs : List ℕ). over vs c.args.out_values.now) values)
     (c.put_offsets.ensures ∙ ap (λ (os : List ℕ). over os c.args.out_offsets.now) (plane_offsets a plane live))

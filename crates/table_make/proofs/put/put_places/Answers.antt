@@ -14,10 +14,6 @@ loop-j-init c =
     let a = c.args in
     place_begins a.cells a.masks.now a.depth a.offsets.now a.starts.now a.lengths.now c.requires.1 c.requires.2 c.requires.3
 
-pub live_mark-mark-requires : goal.live_mark-mark-requires
-live_mark-mark-requires c =
-    let p = c.requires in omega (arith, p.0.shallow, p.0.planes)
-
 pub offset_bounds-offsets-j : goal.offset_bounds-offsets-j
 unfolding most_cells
 offset_bounds-offsets-j c = omega (arith, c.requires.0.few)
@@ -48,7 +44,7 @@ pub overflow_mul-size : goal.overflow_mul-size
 overflow_mul-size c =
     omega (
       arith,
-      summing_fits c.loop-j.invariant.sums c.loop-j-test.true c.live_mark-mark.ensures,
+      summing_fits c.loop-j.invariant.sums c.loop-j-test.true c.mark-mark.ensures,
       c.shared_slice_known-in-loop-j-2-1.given (c.loop-j.j + 1),
     )
 
@@ -70,12 +66,12 @@ pub overflow_add-to : goal.overflow_add-to
 overflow_add-to c =
     omega (
       arith,
-      summing_fits c.loop-j.invariant.sums c.loop-j-test.true c.live_mark-mark.ensures,
+      summing_fits c.loop-j.invariant.sums c.loop-j-test.true c.mark-mark.ensures,
       c.shared_slice_known-in-loop-j-2-1.given (c.loop-j.j + 1),
     )
 
 pub loop-j-preserved : goal.loop-j-preserved
-loop-j-preserved c = place_more c.loop-j.invariant c.loop-j-test.true c.live_mark-mark.ensures c.start_at.ensures
+loop-j-preserved c = place_more c.loop-j.invariant c.loop-j-test.true c.mark-mark.ensures c.start_at.ensures
 
 pub shape_of-starts : goal.shape_of-starts
 shape_of-starts c = number_same c.loop-j.invariant.begins

@@ -1,0 +1,31 @@
+-- Levels with the same masks, cells and depth are the same, and so are those with their counts: their ghost fields have one proof each.
+-- Assumes nothing.
+use mathlib.Core.Path.{◌≡◌}
+use mathlib.Core.HLevel.{is_prop→PathP}
+use Prim.Native.Nat.{ℕ, ◌*◌, ◌≤◌}
+use lib.ListN.{length}
+use Rattle.std.specs.Coded.{le_prop, Coded-set, coded_ℕ}
+use Rattle.array.specs.Limits.{most_depth}
+use Rattle.live_cells.specs.Live.{live_at}
+use Rattle.live_cells.specs.declared.Level.{Level}
+use Rattle.live_cells.specs.declared.Counted.{Counted}
+
+pub level_same : (l : Level) {d : ℕ} → d ≡ l.depth → (s : d ≤ most_depth) (p : d * l.cells ≤ length l.masks.now)
+    → ◌≡◌ {A = Level} record { masks = l.masks; cells = l.cells; depth = d; shallow = s; planes = p } l
+level_same l e s p =
+    λ i. record {
+      masks = l.masks;
+      cells = l.cells;
+      depth = e i;
+      shallow = is_prop→PathP (λ j. e j ≤ most_depth) (λ j. le_prop) s l.shallow i;
+      planes = is_prop→PathP (λ j. e j * l.cells ≤ length l.masks.now) (λ j. le_prop) p l.planes i;
+    }
+
+pub counted_same : (c : Counted) {l : Level} → l ≡ c.level → (p : c.count ≡ length (live_at l.cells l.masks.now l.depth))
+    → ◌≡◌ {A = Counted} record { level = l; count = c.count; counted = p } c
+counted_same c e p =
+    λ i. record {
+      level = e i;
+      count = c.count;
+      counted = is_prop→PathP (λ j. c.count ≡ length (live_at (e j).cells (e j).masks.now (e j).depth)) (λ j. Coded-set coded_ℕ _ _) p c.counted i;
+    }
