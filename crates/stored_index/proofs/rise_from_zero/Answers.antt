@@ -3,43 +3,14 @@
 use mathlib.Core.Path.{◌≡◌, sym, ap, ◌∙◌, subst}
 use mathlib.Core.Bool.{Bool}
 use mathlib.Core.List.{List}
-use Prim.Native.Nat.{ℕ, suc, ◌+◌, ◌-◌, ◌*◌, ◌≤◌, ◌<◌}
+use Prim.Native.Nat.{ℕ, suc, ◌+◌, ◌-◌, ◌*◌, ◌<◌}
 use native.Mathlib.Omega.{arith}
-use lib.ListN.{length, take, drop}
+use lib.ListN.{take, drop}
 use Rattle.array.specs.Bytes.{unle}
 use Rattle.array.specs.Offsets.{rising_test}
 use Rattle.stored_index.specs.Index.{offsets_in}
-use Rattle.stored_index.proofs.IndexLaws.{Rises, rises_start, rises_room, rises_falls, rises_more, rises_last, rises_end}
+use Rattle.stored_index.proofs.IndexLaws.{Rises, rises_falls, rises_more, rises_last}
 use Rattle.stored_index.proofs.rise_from_zero.Goals as goal
-
-pub loop-turn-init : goal.loop-turn-init
-loop-turn-init c =
-    let bytes : List ℕ = c.args.s.now in
-    let first_is : c.le_at-first.result ≡ unle (take c.width_bytes-w.result (drop c.args.at bytes)) =
-    c.le_at-first.ensures ∙ ap (λ (x : ℕ). unle (take x (drop c.args.at bytes))) (sym c.width_bytes-w.ensures) in
-    let a = c.args in
-    let all : a.n ≡ a.n - 2 * 0 = omega arith in
-    subst (Rises c.width_bytes-w.result a.n bytes a.at c.le_at-first.result c.le_at-first.result a.at) all
-    (rises_start c.width_bytes-w.result a.n bytes a.at first_is
-    (subst (λ (x : ℕ). a.at + (x + a.n * x) ≤ length bytes) (sym c.width_bytes-w.ensures) c.requires))
-
-pub overflow_add-p : goal.overflow_add-p
-overflow_add-p c =
-    let left : ℕ = c.args.n - 2 * c.loop-turn._turn in
-    let bytes : List ℕ = c.args.s.now in
-    let width : ℕ = c.width_bytes-w.result in
-    let some : 0 < left = omega arith in
-    let room : c.loop-turn.p + width + width ≤ length bytes = omega (arith, rises_room c.loop-turn.invariant some) in
-    omega (arith, room)
-
-pub le_at-next-requires : goal.le_at-next-requires
-le_at-next-requires c =
-    let left : ℕ = c.args.n - 2 * c.loop-turn._turn in
-    let bytes : List ℕ = c.args.s.now in
-    let width : ℕ = c.width_bytes-w.result in
-    let some : 0 < left = omega arith in
-    let room : c.loop-turn.p + width + width ≤ length bytes = omega (arith, rises_room c.loop-turn.invariant some) in
-    omega (arith, room, c.width_bytes-w.ensures)
 
 pub returns-then-next-prev : goal.returns-then-next-prev
 returns-then-next-prev c =
@@ -51,34 +22,6 @@ returns-then-next-prev c =
     let next_is : c.le_at-next.result ≡ unle (take width (drop (c.loop-turn.p + width) bytes)) =
     c.le_at-next.ensures ∙ ap (λ (x : ℕ). unle (take x (drop (c.loop-turn.p + width) bytes))) (sym c.width_bytes-w.ensures) in
     rises_falls c.loop-turn.invariant some next_is c.if-next-prev.true ∙ ap tested c.width_bytes-w.ensures
-
-pub overflow_add-p-in-loop-turn : goal.overflow_add-p-in-loop-turn
-overflow_add-p-in-loop-turn c =
-    let left : ℕ = c.args.n - 2 * c.loop-turn._turn in
-    let bytes : List ℕ = c.args.s.now in
-    let width : ℕ = c.width_bytes-w.result in
-    let some : 0 < left = omega arith in
-    let next_is : c.le_at-next.result ≡ unle (take width (drop (c.loop-turn.p + width) bytes)) =
-    c.le_at-next.ensures ∙ ap (λ (x : ℕ). unle (take x (drop (c.loop-turn.p + width) bytes))) (sym c.width_bytes-w.ensures) in
-    let first : let a = c.args in Rises width a.n bytes a.at c.le_at-first.result c.le_at-next.result (c.loop-turn.p + width) (left - 1) =
-    rises_more c.loop-turn.invariant some next_is c.if-next-prev.false in
-    let more : 0 < left - 1 = omega arith in
-    let room_2 : c.loop-turn.p + width + width + width ≤ length bytes = omega (arith, rises_room first more) in
-    omega (arith, room_2)
-
-pub le_at-prev-requires : goal.le_at-prev-requires
-le_at-prev-requires c =
-    let left : ℕ = c.args.n - 2 * c.loop-turn._turn in
-    let bytes : List ℕ = c.args.s.now in
-    let width : ℕ = c.width_bytes-w.result in
-    let some : 0 < left = omega arith in
-    let next_is : c.le_at-next.result ≡ unle (take width (drop (c.loop-turn.p + width) bytes)) =
-    c.le_at-next.ensures ∙ ap (λ (x : ℕ). unle (take x (drop (c.loop-turn.p + width) bytes))) (sym c.width_bytes-w.ensures) in
-    let first : let a = c.args in Rises width a.n bytes a.at c.le_at-first.result c.le_at-next.result (c.loop-turn.p + width) (left - 1) =
-    rises_more c.loop-turn.invariant some next_is c.if-next-prev.false in
-    let more : 0 < left - 1 = omega arith in
-    let room_2 : c.loop-turn.p + width + width + width ≤ length bytes = omega (arith, rises_room first more) in
-    omega (arith, room_2, c.width_bytes-w.ensures)
 
 pub returns-then-prev-next : goal.returns-then-prev-next
 returns-then-prev-next c =
@@ -113,31 +56,6 @@ loop-turn-preserved c =
     let two : left - 1 - 1 ≡ a.n - 2 * (c.loop-turn._turn + 1) = omega arith in
     subst (Rises width a.n bytes a.at c.le_at-first.result c.le_at-prev.result (c.loop-turn.p + width + width)) two
     (rises_more first more second_is c.if-prev-next.false)
-
-pub returns-then-n-eq0 : goal.returns-then-n-eq0
-returns-then-n-eq0 c =
-    let left : ℕ = c.args.n - 2 * c.loop-turn._turn in
-    let bytes : List ℕ = c.args.s.now in
-    let tested : ℕ → Bool = λ w. let a = c.args in rising_test (offsets_in w (suc a.n) (drop a.at bytes)) in
-    rises_end c.loop-turn.invariant (omega arith) (omega (arith, c.if-n-eq0.true)) ∙ ap tested c.width_bytes-w.ensures
-
-pub overflow_add-p-2 : goal.overflow_add-p-2
-overflow_add-p-2 c =
-    let left : ℕ = c.args.n - 2 * c.loop-turn._turn in
-    let bytes : List ℕ = c.args.s.now in
-    let width : ℕ = c.width_bytes-w.result in
-    let one : left ≡ 1 = omega (arith, c.if-n-eq0.false) in
-    let last_room : c.loop-turn.p + width + width ≤ length bytes = omega (arith, rises_room c.loop-turn.invariant (omega (arith, one))) in
-    omega (arith, last_room)
-
-pub le_at-requires : goal.le_at-requires
-le_at-requires c =
-    let left : ℕ = c.args.n - 2 * c.loop-turn._turn in
-    let bytes : List ℕ = c.args.s.now in
-    let width : ℕ = c.width_bytes-w.result in
-    let one : left ≡ 1 = omega (arith, c.if-n-eq0.false) in
-    let last_room : c.loop-turn.p + width + width ≤ length bytes = omega (arith, rises_room c.loop-turn.invariant (omega (arith, one))) in
-    omega (arith, last_room, c.width_bytes-w.ensures)
 
 pub returns : goal.returns
 returns c =
