@@ -7,11 +7,8 @@ use lib.ListN.{length}
 use Rattle.array.proofs.Answers.{told_same}
 use Rattle.buffer.proofs.Fields.{field_value, field_refused}
 use Rattle.decode_interleaved.proofs.Steps.{length_at}
-use Rattle.decode_interleaved.proofs.Loops.{walk_begins, walk_ends, walk_field_past, walk_cell_past, walk_more, walk_none}
+use Rattle.decode_interleaved.proofs.Loops.{walk_ends, walk_field_past, walk_cell_past, walk_more, walk_none}
 use Rattle.decode_interleaved.proofs.vlen_v2.walk_cells.Goals as goal
-
-pub loop-left-init : goal.loop-left-init
-loop-left-init c = walk_begins _ _
 
 pub returns-in_default : goal.returns-in_default
 returns-in_default c =
@@ -43,12 +40,6 @@ overflow_add-at-then-length-last c =
     field_value 4 11 _ _ _ (sym c.read_u32.ensures ∙ told_same c.in-Ok.is) in
     omega (arith, read)
 
-pub overflow_add-sum : goal.overflow_add-sum
-overflow_add-sum c =
-    let read : (4 ≤ length c.args.bytes.now - c.loop-left.at) × (c.in-Ok.field ≡ length_at c.args.bytes.now c.loop-left.at) =
-    field_value 4 11 _ _ _ (sym c.read_u32.ensures ∙ told_same c.in-Ok.is) in
-    omega (arith, read)
-
 pub loop-left-preserved-then-length-last : goal.loop-left-preserved-then-length-last
 loop-left-preserved-then-length-last c =
     let read : (4 ≤ length c.args.bytes.now - c.loop-left.at) × (c.in-Ok.field ≡ length_at c.args.bytes.now c.loop-left.at) =
@@ -70,12 +61,6 @@ returns-then-bytes-at-2 c =
 
 pub overflow_add-at-else-length-last : goal.overflow_add-at-else-length-last
 overflow_add-at-else-length-last c =
-    let read : (4 ≤ length c.args.bytes.now - c.loop-left.at) × (c.in-Ok.field ≡ length_at c.args.bytes.now c.loop-left.at) =
-    field_value 4 11 _ _ _ (sym c.read_u32.ensures ∙ told_same c.in-Ok.is) in
-    omega (arith, read)
-
-pub overflow_add-sum-else-length-last : goal.overflow_add-sum-else-length-last
-overflow_add-sum-else-length-last c =
     let read : (4 ≤ length c.args.bytes.now - c.loop-left.at) × (c.in-Ok.field ≡ length_at c.args.bytes.now c.loop-left.at) =
     field_value 4 11 _ _ _ (sym c.read_u32.ensures ∙ told_same c.in-Ok.is) in
     omega (arith, read)

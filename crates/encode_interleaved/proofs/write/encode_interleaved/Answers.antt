@@ -16,9 +16,6 @@ returns-in_err-cells c =
     let p = err_from_is_err_and c.from_residual.result c.from_residual.ensures.1 in
     rw (p.1, p.2) (write_shape _ _ _ _ (sym c.if-not-is_interleaved.ensures) c.in_err-cells.ensures)
 
-pub encode_one-requires : goal.encode_one-requires
-encode_one-requires c = sym c.if-not-is_interleaved.ensures
-
 pub returns-then-cells-eq1 : goal.returns-then-cells-eq1
 returns-then-cells-eq1 c =
     c.encode_one.ensures

@@ -19,13 +19,6 @@ pub check_array-requires : goal.check_array-requires
 unfolding most_cells
 check_array-requires c = omega arith
 
-pub write_one-requires : goal.write_one-requires
-unfolding most_cells
-write_one-requires c =
-    let a = c.args in
-    let content = content_array a.masks.now a.values.now a.offsets.now in
-    (write_held (kind_of a.kind) 1 content a.out.now {r = Ok tt} c.in_ok-check_array.ensures c.requires refl (omega arith)).small
-
 pub returns-in_err-check_array : goal.returns-in_err-check_array
 returns-in_err-check_array c =
     let a = c.args in

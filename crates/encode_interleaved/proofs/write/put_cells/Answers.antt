@@ -1,13 +1,9 @@
 -- `interleaved::write::put_cells` meets its contract, by the laws of Storing.
 -- Assumes nothing.
-use mathlib.Core.Path.{◌∙◌}
-use Prim.Native.Nat.{◌<◌, ◌≤◌}
+use Prim.Native.Nat.{◌<◌}
 use native.Mathlib.Omega.{arith}
-use lib.ListN.{length}
-use Rattle.array.specs.Limits.{most_bytes, most_cells}
-use Rattle.encode_interleaved.specs.Held.{interleaved_of}
-use Rattle.encode_interleaved.proofs.Storing.{need_is, storing_begins, storing_done, count_same, storing_same, storing_ends, storing_inside, storing_rises}
-use Rattle.encode_interleaved.proofs.Storing.{storing_room, storing_output, stored_same, storing_none, storing_more}
+use Rattle.encode_interleaved.proofs.Storing.{need_is, storing_begins, storing_done, storing_same, storing_ends, storing_rises}
+use Rattle.encode_interleaved.proofs.Storing.{storing_output, stored_same, storing_none, storing_more}
 use Rattle.encode_interleaved.proofs.write.put_cells.Goals as goal
 
 pub put_u32-requires : goal.put_u32-requires
@@ -16,30 +12,8 @@ put_u32-requires c = omega (arith, need_is c.requires.held, c.requires.room)
 pub loop-i-init : goal.loop-i-init
 loop-i-init c = storing_begins c.requires.held c.args.out.now c.requires.room c.put_u32.ensures
 
-pub overflow_add-i : goal.overflow_add-i
-unfolding most_cells
-overflow_add-i c = omega (arith, c.requires.held.few)
-
-pub offset_bounds-offsets-i : goal.offset_bounds-offsets-i
-unfolding most_cells
-offset_bounds-offsets-i c = omega (arith, c.requires.held.few)
-
-pub bounds-offsets-i : goal.bounds-offsets-i
-bounds-offsets-i c = storing_inside c.loop-i.invariant c.loop-i-test.true
-
-pub overflow_sub-size : goal.overflow_sub-size
-overflow_sub-size c = (storing_rises c.loop-i.invariant c.loop-i-test.true).0
-
 pub put_u32-requires-in-loop-i : goal.put_u32-requires-in-loop-i
 put_u32-requires-in-loop-i c = omega (arith, storing_output c.loop-i.invariant c.loop-i-test.true)
-
-pub overflow_add-at : goal.overflow_add-at
-unfolding most_bytes most_cells
-overflow_add-at c =
-    let long : length (interleaved_of c.args.values.now c.args.offsets.now) ≤ 17039364 = let held = c.requires.held in
-    omega (arith, need_is held, held.few, held.small) in
-    let within : c.loop-i.i < c.args.cells = c.loop-i-test.true in
-    omega (arith, storing_room c.loop-i.invariant within, long)
 
 pub overflow_sub-values : goal.overflow_sub-values
 overflow_sub-values c =
@@ -55,14 +29,6 @@ put_cell-requires c =
       omega (arith, storing_rises inv within),
     )
 
-pub overflow_add-at-then-size-gt0 : goal.overflow_add-at-then-size-gt0
-unfolding most_bytes most_cells
-overflow_add-at-then-size-gt0 c =
-    let long : length (interleaved_of c.args.values.now c.args.offsets.now) ≤ 17039364 = let held = c.requires.held in
-    omega (arith, need_is held, held.few, held.small) in
-    let within : c.loop-i.i < c.args.cells = c.loop-i-test.true in
-    omega (arith, storing_room c.loop-i.invariant within, storing_rises c.loop-i.invariant within, long)
-
 pub loop-i-preserved-then-size-gt0 : goal.loop-i-preserved-then-size-gt0
 loop-i-preserved-then-size-gt0 c =
     let within : c.loop-i.i < c.args.cells = c.loop-i-test.true in
@@ -72,9 +38,6 @@ pub loop-i-preserved : goal.loop-i-preserved
 loop-i-preserved c =
     let within : c.loop-i.i < c.args.cells = c.loop-i-test.true in
     storing_none c.loop-i.invariant within c.put_u32-in-loop-i.ensures (omega arith) c.if-size-gt0.false
-
-pub shape_of-out : goal.shape_of-out
-shape_of-out c = storing_same c.loop-i.invariant ∙ count_same c.requires.held c.args.out.now c.requires.room c.put_u32.ensures
 
 pub returns : goal.returns
 returns c = storing_done c.requires.held c.args.out.now c.requires.room c.put_u32.ensures (storing_ends c.loop-i.invariant c.loop-i-test.false)
