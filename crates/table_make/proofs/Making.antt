@@ -24,9 +24,10 @@ use Rattle.table.specs.Table.{Table, TableKind, table_kind_test, count_test, sto
 use Rattle.table.specs.Calls.{TableLengths, table_lengths, TableEnough, table_enough_test, table_of, make_answer, made}
 use Rattle.table.specs.Meaning.{table_by}
 use Rattle.table.proofs.Rules.{table_kind_ok, table_enough_test_lem, table_enough_ok}
-use Rattle.table_make.specs.Rested.{rest_mask, size_at, start_at, rest_table, Held, table_outcome, put_table}
-use Rattle.table_make.proofs.Numbering.{length_numbered}
-use Rattle.table_make.proofs.Descending.{length_planes}
+use Rattle.rest_masks.specs.Rested.{rest_mask}
+use Rattle.table_make.specs.Rested.{size_at, start_at, rest_table, Held, table_outcome, put_table}
+use Rattle.rest_masks.proofs.Numbering.{length_numbered}
+use Rattle.rest_masks.proofs.Descending.{length_planes}
 use Rattle.table_make.proofs.Rested.{table_path, rested_is}
 
 -- nothing is stored
