@@ -13,7 +13,7 @@ use array::refusal;
 use table_check::{Order, check_cells};
 use table_kind::{count_ok, is_table_kind, store_ok};
 use table_move::move_cells;
-use table_order::{FEW, few, many};
+use table_order::{FEW, MANY};
 
 // Most cells that a call may be asked to move.
 const MOST_MOVED: usize = 256;
@@ -53,8 +53,8 @@ fn pack_with(
     }
 }
 
-// The same with room for the order of few cells, so that little is cleared for a small table.
-fn pack_few(
+// The same with room for the order of so many cells: little is cleared for a small table.
+fn pack_in<const ROOM: usize>(
     kind: Kind,
     cells: usize,
     masks: &[u8],
@@ -63,29 +63,11 @@ fn pack_few(
     store: &mut [u8],
     most: usize,
 ) -> Written
-    requires { Asked (kind_of kind) cells most × (cells ≤ 2048) }
+    requires { Asked (kind_of kind) cells most × (cells ≤ ROOM) × (ROOM ≤ 65536) }
     ensures { outcome_packed result masks.now starts.new lengths.now store.new
         ≡ cells_packed (kind_of kind) cells (table_by masks.now starts.old lengths.now store.old) most }
 {
-    let mut order = few();
-    pack_with(kind, cells, masks, starts, lengths, store, most, &mut order)
-}
-
-// The same with room for the order of any table.
-fn pack_many(
-    kind: Kind,
-    cells: usize,
-    masks: &[u8],
-    starts: &mut [u64],
-    lengths: &[u64],
-    store: &mut [u8],
-    most: usize,
-) -> Written
-    requires { Asked (kind_of kind) cells most }
-    ensures { outcome_packed result masks.now starts.new lengths.now store.new
-        ≡ cells_packed (kind_of kind) cells (table_by masks.now starts.old lengths.now store.old) most }
-{
-    let mut order = many();
+    let mut order = [0u16; ROOM];
     pack_with(kind, cells, masks, starts, lengths, store, most, &mut order)
 }
 
@@ -113,7 +95,7 @@ pub fn pack_table(
         return Written::Refused(refusal::SHAPE);
     }
     if cells <= FEW {
-        return pack_few(kind, cells, masks, starts, lengths, store, most);
+        return pack_in::<FEW>(kind, cells, masks, starts, lengths, store, most);
     }
-    pack_many(kind, cells, masks, starts, lengths, store, most)
+    pack_in::<MANY>(kind, cells, masks, starts, lengths, store, most)
 }

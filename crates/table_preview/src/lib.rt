@@ -15,7 +15,7 @@ use array::refusal;
 use table::answer::Previewed;
 use table_check::{Order, check_cells};
 use table_kind::{count_ok, is_table_kind};
-use table_order::{FEW, few, many};
+use table_order::{FEW, MANY};
 use table_setting::fit::{Fitted, fit};
 use table_setting::masks;
 
@@ -105,8 +105,8 @@ fn preview_with(
     }
 }
 
-// The same with room for the order of few cells, so that little is cleared for a small table.
-fn preview_few(
+// The same with room for the order of so many cells: little is cleared for a small table.
+fn preview_in<const ROOM: usize>(
     kind: Kind,
     cells: usize,
     masks: &[u8],
@@ -117,33 +117,11 @@ fn preview_few(
     cell_masks: &[u8],
     value: &[u8],
 ) -> Previewed
-    requires { TableKind (kind_of kind) × CountOk cells × (cells ≤ 2048) }
+    requires { TableKind (kind_of kind) × CountOk cells × (cells ≤ ROOM) × (ROOM ≤ 65536) }
     ensures { told_preview result ≡ previewed (kind_of kind) cells (table_by masks.now starts.now lengths.now store.now)
         cell cell_masks.now value.now }
 {
-    let mut order = few();
-    preview_with(
-        kind, cells, masks, starts, lengths, store, cell, cell_masks, value, &mut order,
-    )
-}
-
-// The same with room for the order of any table.
-fn preview_many(
-    kind: Kind,
-    cells: usize,
-    masks: &[u8],
-    starts: &[u64],
-    lengths: &[u64],
-    store: &[u8],
-    cell: usize,
-    cell_masks: &[u8],
-    value: &[u8],
-) -> Previewed
-    requires { TableKind (kind_of kind) × CountOk cells }
-    ensures { told_preview result ≡ previewed (kind_of kind) cells (table_by masks.now starts.now lengths.now store.now)
-        cell cell_masks.now value.now }
-{
-    let mut order = many();
+    let mut order = [0u16; ROOM];
     preview_with(
         kind, cells, masks, starts, lengths, store, cell, cell_masks, value, &mut order,
     )
@@ -172,11 +150,11 @@ pub fn preview_cell(
         return Previewed::Refused(refusal::SHAPE);
     }
     if cells <= FEW {
-        return preview_few(
+        return preview_in::<FEW>(
             kind, cells, masks, starts, lengths, store, cell, cell_masks, value,
         );
     }
-    preview_many(
+    preview_in::<MANY>(
         kind, cells, masks, starts, lengths, store, cell, cell_masks, value,
     )
 }

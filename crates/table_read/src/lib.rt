@@ -12,14 +12,14 @@ ghost use Rattle.table.specs.Calls.{read_out};
 ghost use Rattle.table.specs.Meaning.{table_by};
 ghost use Rattle.table_read.specs.Read.{read_by, ReadAsked};
 
-use crate::cells::{copy_values, count_bytes};
+use crate::cells::copy_values;
 use array::answer::WrittenArray;
 use array::kind::Kind;
 use array::refusal;
 use buffer::copy;
 use table_check::Order;
 use table_kind::{count_ok, is_table_kind, store_ok};
-use table_order::{FEW, few, many};
+use table_order::{FEW, MANY};
 
 // The cells of a table that keeps the rules: 6, or the masks as they are, the values end to end and the offsets.
 fn read_checked(
@@ -38,7 +38,7 @@ fn read_checked(
         (content_array out_masks.old out_values.old out_offsets.old) }
 {
     let planes = masks.len();
-    let bytes = count_bytes(lengths);
+    let bytes = lengths.iter().sum::<u64>() as usize;
     let count = cells + 1;
     if out_masks.len() < planes {
         return WrittenArray::Refused(refusal::OUTPUT);
@@ -95,8 +95,8 @@ fn read_with(
     }
 }
 
-// The same with room for the order of few cells, so that little is cleared for a small table.
-fn read_few(
+// The same with room for the order of so many cells: little is cleared for a small table.
+fn read_in<const ROOM: usize>(
     kind: Kind,
     cells: usize,
     masks: &[u8],
@@ -107,44 +107,12 @@ fn read_few(
     out_values: &mut [u8],
     out_offsets: &mut [u64],
 ) -> WrittenArray
-    requires { TableKind (kind_of kind) × CountOk cells × (cells ≤ 2048) }
+    requires { TableKind (kind_of kind) × CountOk cells × (cells ≤ ROOM) × (ROOM ≤ 65536) }
     ensures { outcome_array result out_masks.new out_values.new out_offsets.new
         ≡ read_out (kind_of kind) cells (table_by masks.now starts.now lengths.now store.now)
         (content_array out_masks.old out_values.old out_offsets.old) }
 {
-    let mut order = few();
-    read_with(
-        kind,
-        cells,
-        masks,
-        starts,
-        lengths,
-        store,
-        out_masks,
-        out_values,
-        out_offsets,
-        &mut order,
-    )
-}
-
-// The same with room for the order of any table.
-fn read_many(
-    kind: Kind,
-    cells: usize,
-    masks: &[u8],
-    starts: &[u64],
-    lengths: &[u64],
-    store: &[u8],
-    out_masks: &mut [u8],
-    out_values: &mut [u8],
-    out_offsets: &mut [u64],
-) -> WrittenArray
-    requires { TableKind (kind_of kind) × CountOk cells }
-    ensures { outcome_array result out_masks.new out_values.new out_offsets.new
-        ≡ read_out (kind_of kind) cells (table_by masks.now starts.now lengths.now store.now)
-        (content_array out_masks.old out_values.old out_offsets.old) }
-{
-    let mut order = many();
+    let mut order = [0u16; ROOM];
     read_with(
         kind,
         cells,
@@ -182,7 +150,7 @@ pub fn read_table(
         return WrittenArray::Refused(refusal::SHAPE);
     }
     if cells <= FEW {
-        return read_few(
+        return read_in::<FEW>(
             kind,
             cells,
             masks,
@@ -194,7 +162,7 @@ pub fn read_table(
             out_offsets,
         );
     }
-    read_many(
+    read_in::<MANY>(
         kind,
         cells,
         masks,

@@ -14,7 +14,7 @@ use array::refusal;
 use table::answer::Settled;
 use table_check::{Order, check_cells};
 use table_kind::{count_ok, is_table_kind};
-use table_order::{FEW, few, many};
+use table_order::{FEW, MANY};
 use table_setting::fit::{Fitted, fit};
 use table_setting::masks;
 
@@ -105,8 +105,8 @@ fn set_with(
     }
 }
 
-// The same with room for the order of few cells, so that little is cleared for a small table.
-fn set_few(
+// The same with room for the order of so many cells: little is cleared for a small table.
+fn set_in<const ROOM: usize>(
     kind: Kind,
     cells: usize,
     masks: &mut [u8],
@@ -117,35 +117,12 @@ fn set_few(
     cell_masks: &[u8],
     value: &[u8],
 ) -> Settled
-    requires { TableKind (kind_of kind) × CountOk cells × (cells ≤ 2048) }
+    requires { TableKind (kind_of kind) × CountOk cells × (cells ≤ ROOM) × (ROOM ≤ 65536) }
     ensures { outcome_settled result masks.new starts.new lengths.new store.new
         ≡ cell_set (kind_of kind) cells (table_by masks.old starts.old lengths.old store.old)
         cell cell_masks.now value.now }
 {
-    let mut order = few();
-    set_with(
-        kind, cells, masks, starts, lengths, store, cell, cell_masks, value, &mut order,
-    )
-}
-
-// The same with room for the order of any table.
-fn set_many(
-    kind: Kind,
-    cells: usize,
-    masks: &mut [u8],
-    starts: &mut [u64],
-    lengths: &mut [u64],
-    store: &mut [u8],
-    cell: usize,
-    cell_masks: &[u8],
-    value: &[u8],
-) -> Settled
-    requires { TableKind (kind_of kind) × CountOk cells }
-    ensures { outcome_settled result masks.new starts.new lengths.new store.new
-        ≡ cell_set (kind_of kind) cells (table_by masks.old starts.old lengths.old store.old)
-        cell cell_masks.now value.now }
-{
-    let mut order = many();
+    let mut order = [0u16; ROOM];
     set_with(
         kind, cells, masks, starts, lengths, store, cell, cell_masks, value, &mut order,
     )
@@ -175,11 +152,11 @@ pub fn set_cell(
         return Settled::Refused(refusal::SHAPE);
     }
     if cells <= FEW {
-        return set_few(
+        return set_in::<FEW>(
             kind, cells, masks, starts, lengths, store, cell, cell_masks, value,
         );
     }
-    set_many(
+    set_in::<MANY>(
         kind, cells, masks, starts, lengths, store, cell, cell_masks, value,
     )
 }
