@@ -17,13 +17,6 @@ pub enum Fitted {
     Refused(u8),
 }
 
-// A length that counts only where the value is shown.
-fn kept_length(shown: bool, length: usize) -> usize
-    ensures { result ≡ pick shown length 0 }
-{
-    if shown { length } else { 0 }
-}
-
 // A setting of `length` value bytes in a table with those lengths and a store of `room` bytes: 5, 15 and 16, or it fits.
 pub fn fit(lengths: &[u64], room: usize, cell: usize, cell_masks: &[u8], length: usize) -> Fitted
     requires { sum lengths.now ≤ room }
@@ -36,7 +29,7 @@ pub fn fit(lengths: &[u64], room: usize, cell: usize, cell_masks: &[u8], length:
         return Fitted::Refused(table::refusal::CELL);
     }
     let shown = masks::all_set(cell_masks);
-    let size = kept_length(shown, length);
+    let size = if shown { length } else { 0 };
     let others = sum_of(lengths) - lengths[cell] as usize;
     if room - others < size {
         return Fitted::Refused(table::refusal::FULL);
