@@ -27,15 +27,13 @@ fn follow(starts: &[u64], lengths: &[u64], order: &[u16]) -> bool
     ensures { result ≡ follow_test (offset_at starts.now) (offset_at lengths.now) 0 order.now }
 {
     let mut end: u64 = 0;
-    let mut i: usize = 0;
-    while i < order.len() {
-        let cell = order[i] as usize;
+    for number in order {
+        let cell = *number as usize;
         let start = starts[cell];
         if start < end {
             return false;
         }
         end = start + lengths[cell];
-        i += 1;
     }
     true
 }
