@@ -31,13 +31,11 @@ fn seen_bytes(offsets: &[u64], rights: &[u8], masks: &[u8], cells: usize, depth:
     ensures { result ≡ bytes_at (offset_at offsets.now) (passing (seen_at cells rights.now masks.now depth) (from 0 cells)) }
 {
     let mut total: usize = 0;
-    let mut i: usize = 0;
-    while i < cells {
+    for i in 0..cells {
         let mark = seen_mark(rights, masks, cells, depth, i) as u64;
         let start = offsets[i];
         let end = offsets[i + 1];
         total += ((end - start) * mark) as usize;
-        i += 1;
     }
     total
 }
@@ -67,16 +65,14 @@ fn put_offsets(out: &mut [u64], offsets: &[u64], plane: &[u8], cells: usize)
     ensures { out.new ≡ over (places_by (shown_at cells plane.now 1) offsets.now (cells + 1)) out.old }
 {
     let mut to: u64 = 0;
-    let mut j: usize = 0;
-    while j < cells {
+    for j in 0..cells {
         let mark = live_mark(plane, cells, 1, j) as u64;
         let begin = offsets[j];
         let end = offsets[j + 1];
         out[j] = to;
         to += (end - begin) * mark;
-        j += 1;
     }
-    out[j] = to;
+    out[cells] = to;
 }
 
 // What is shown of ragged values: 6, or all is stored. What the innermost plane shows, as it is written, is what is shown at all.
