@@ -13,8 +13,8 @@ ghost use Rattle.generate.specs.Room.{Column, Limited, RaggedRoom};
 
 use crate::cell::{draw_few, draw_levels, mark_levels, skip_bytes};
 use crate::generator::Generator;
-use array::answer::WrittenArray;
-use array::refusal;
+use array::answer::Lengths;
+use array::refusal::Refusal;
 use buffer::copy::fill_bytes;
 
 // The most bytes of a ragged value.
@@ -143,7 +143,7 @@ pub fn make_ragged(
     masks: &mut [u8],
     values: &mut [u8],
     offsets: &mut [u64],
-) -> WrittenArray
+) -> Result<Lengths, Refusal>
     requires { Limited depth n }
     ensures { outcome_array result masks.new values.new offsets.new
         ≡ put_into (layout lengthy depth (cells_from lengthy depth n first.state))
@@ -152,14 +152,14 @@ pub fn make_ragged(
     let planes = depth * n;
     let count = n + 1;
     if masks.len() < planes {
-        return WrittenArray::Refused(refusal::OUTPUT);
+        return Err(Refusal::Output);
     }
     if offsets.len() < count {
-        return WrittenArray::Refused(refusal::OUTPUT);
+        return Err(Refusal::Output);
     }
     if !has_room(first, depth, n, values.len()) {
-        return WrittenArray::Refused(refusal::OUTPUT);
+        return Err(Refusal::Output);
     }
     let bytes = draw_cells(first, depth, n, masks, values, offsets);
-    WrittenArray::Lengths(planes, bytes, count)
+    Ok(Lengths { masks: planes, values: bytes, offsets: count })
 }

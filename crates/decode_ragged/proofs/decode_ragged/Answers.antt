@@ -6,10 +6,11 @@ use Prim.Native.Nat.{ℕ}
 use native.Mathlib.Nat.{le_trans}
 use native.Mathlib.Omega.{arith}
 use Rattle.array.specs.Answer.{gives}
-use Rattle.array.specs.Meaning.{width_of, place_of, masks_of}
+use Rattle.array.specs.Meaning.{width_of, place_of, masks_of, told}
+use Rattle.array.proofs.Answers.{told_same}
 use Rattle.codec.specs.Mask.{mask_form}
-use Rattle.stored_frames.specs.Walk.{walked, told_walk}
-use Rattle.stored_index.specs.Index.{checked_in, told_index}
+use Rattle.stored_frames.specs.Walk.{walked}
+use Rattle.stored_index.specs.Index.{checked_in}
 use Rattle.stored_frames.proofs.Walks.{WalkPassed, walk_passed}
 use Rattle.stored_index.proofs.IndexLaws.{width_most}
 use Rattle.stored_index.proofs.CheckedIndex.{IndexChecked, index_checked, checked_refused}
@@ -24,12 +25,12 @@ returns-then-depth-eq0 c =
 pub write_nested-requires : goal.write_nested-requires
 write_nested-requires c =
     let deep : c.args.kind.depth ≢ 0 = c.if-depth-eq0.false in
-    let walk_is : walked (mask_form (masks_of c.args.kind.masks)) c.args.kind.depth c.args.s.now 0 c.args.n ≡ told_walk c.walk_content-walk.result =
+    let walk_is : walked (mask_form (masks_of c.args.kind.masks)) c.args.kind.depth c.args.s.now 0 c.args.n ≡ told c.walk_content-walk.result =
     sym c.walk_content-walk.ensures in
-    let at : ℕ = c.in-Values.at in
-    let cells : ℕ = c.in-Values.cells in
+    let at : ℕ = c.in-Oks.at in
+    let cells : ℕ = c.in-Oks.cells in
     let values_are : walked (mask_form (masks_of c.args.kind.masks)) c.args.kind.depth c.args.s.now 0 c.args.n ≡ gives (at, cells) =
-    walk_is ∙ ap told_walk c.in-Values.is in
+    walk_is ∙ told_same c.in-Oks.is in
     let passed : WalkPassed (masks_of c.args.kind.masks) c.args.kind.depth c.args.s.now 0 c.args.n at cells =
     let a = c.args in
     walk_passed (masks_of a.kind.masks) a.kind.depth a.s.now 0 a.n at cells c.requires.some (omega arith) values_are in
@@ -37,95 +38,95 @@ write_nested-requires c =
 
 pub check_ragged-checked-requires : goal.check_ragged-checked-requires
 check_ragged-checked-requires c =
-    let walk_is : walked (mask_form (masks_of c.args.kind.masks)) c.args.kind.depth c.args.s.now 0 c.args.n ≡ told_walk c.walk_content-walk.result =
+    let walk_is : walked (mask_form (masks_of c.args.kind.masks)) c.args.kind.depth c.args.s.now 0 c.args.n ≡ told c.walk_content-walk.result =
     sym c.walk_content-walk.ensures in
-    let at : ℕ = c.in-Values.at in
-    let cells : ℕ = c.in-Values.cells in
+    let at : ℕ = c.in-Oks.at in
+    let cells : ℕ = c.in-Oks.cells in
     let values_are : walked (mask_form (masks_of c.args.kind.masks)) c.args.kind.depth c.args.s.now 0 c.args.n ≡ gives (at, cells) =
-    walk_is ∙ ap told_walk c.in-Values.is in
+    walk_is ∙ told_same c.in-Oks.is in
     let passed : WalkPassed (masks_of c.args.kind.masks) c.args.kind.depth c.args.s.now 0 c.args.n at cells =
     let a = c.args in
     walk_passed (masks_of a.kind.masks) a.kind.depth a.s.now 0 a.n at cells c.requires.some (omega arith) values_are in
     (le_trans passed.few c.requires.few, passed.inside)
 
-pub write_nested-requires-in-Found : goal.write_nested-requires-in-Found
-write_nested-requires-in-Found c =
+pub write_nested-requires-in-Ok : goal.write_nested-requires-in-Ok
+write_nested-requires-in-Ok c =
     let deep : c.args.kind.depth ≢ 0 = c.if-depth-eq0.false in
-    let walk_is : walked (mask_form (masks_of c.args.kind.masks)) c.args.kind.depth c.args.s.now 0 c.args.n ≡ told_walk c.walk_content-walk.result =
+    let walk_is : walked (mask_form (masks_of c.args.kind.masks)) c.args.kind.depth c.args.s.now 0 c.args.n ≡ told c.walk_content-walk.result =
     sym c.walk_content-walk.ensures in
-    let at : ℕ = c.in-Values.at in
-    let cells : ℕ = c.in-Values.cells in
+    let at : ℕ = c.in-Oks.at in
+    let cells : ℕ = c.in-Oks.cells in
     let values_are : walked (mask_form (masks_of c.args.kind.masks)) c.args.kind.depth c.args.s.now 0 c.args.n ≡ gives (at, cells) =
-    walk_is ∙ ap told_walk c.in-Values.is in
+    walk_is ∙ told_same c.in-Oks.is in
     let passed : WalkPassed (masks_of c.args.kind.masks) c.args.kind.depth c.args.s.now 0 c.args.n at cells =
     let a = c.args in
     walk_passed (masks_of a.kind.masks) a.kind.depth a.s.now 0 a.n at cells c.requires.some (omega arith) values_are in
-    let check_is : let a = c.args in checked_in (width_of a.width) (place_of a.place) a.s.now at cells ≡ told_index c.check_ragged-checked.result =
+    let check_is : let a = c.args in checked_in (width_of a.width) (place_of a.place) a.s.now at cells ≡ told c.check_ragged-checked.result =
     sym c.check_ragged-checked.ensures in
-    let checked_is : let a = c.args in IndexChecked (width_of a.width) (place_of a.place) a.s.now at cells c.in-Found.found =
+    let checked_is : let a = c.args in IndexChecked (width_of a.width) (place_of a.place) a.s.now at cells c.in-Ok.found =
     let a = c.args in
-    index_checked (width_of a.width) (place_of a.place) a.s.now at cells c.in-Found.found passed.inside
-    (check_is ∙ ap told_index c.in-Found.is) in
+    index_checked (width_of a.width) (place_of a.place) a.s.now at cells c.in-Ok.found passed.inside
+    (check_is ∙ told_same c.in-Ok.is) in
     let a = c.args in
     record { within = some_within c.requires (width_of a.width) passed checked_is; deep = omega (arith, deep) }
 
-pub returns-in-Refused : goal.returns-in-Refused
-returns-in-Refused c =
-    let walk_is : walked (mask_form (masks_of c.args.kind.masks)) c.args.kind.depth c.args.s.now 0 c.args.n ≡ told_walk c.walk_content-walk.result =
+pub returns-in-Err : goal.returns-in-Err
+returns-in-Err c =
+    let walk_is : walked (mask_form (masks_of c.args.kind.masks)) c.args.kind.depth c.args.s.now 0 c.args.n ≡ told c.walk_content-walk.result =
     sym c.walk_content-walk.ensures in
     let a = c.args in
     rw (ragged_refused (mask_form (masks_of a.kind.masks)) (width_of a.width) (place_of a.place) a.s.now a.kind.depth a.n c.requires.some _
-    (walk_is ∙ ap told_walk c.in-Refused.is))
+    (walk_is ∙ told_same c.in-Err.is))
 
 pub returns-then-cells-eq0 : goal.returns-then-cells-eq0
 returns-then-cells-eq0 c =
-    let walk_is : walked (mask_form (masks_of c.args.kind.masks)) c.args.kind.depth c.args.s.now 0 c.args.n ≡ told_walk c.walk_content-walk.result =
+    let walk_is : walked (mask_form (masks_of c.args.kind.masks)) c.args.kind.depth c.args.s.now 0 c.args.n ≡ told c.walk_content-walk.result =
     sym c.walk_content-walk.ensures in
-    let at : ℕ = c.in-Values.at in
-    let cells : ℕ = c.in-Values.cells in
+    let at : ℕ = c.in-Oks.at in
+    let cells : ℕ = c.in-Oks.cells in
     let values_are : walked (mask_form (masks_of c.args.kind.masks)) c.args.kind.depth c.args.s.now 0 c.args.n ≡ gives (at, cells) =
-    walk_is ∙ ap told_walk c.in-Values.is in
+    walk_is ∙ told_same c.in-Oks.is in
     let a = c.args in
     rw
     (ragged_none_set (mask_form (masks_of a.kind.masks)) (width_of a.width) (place_of a.place) a.s.now a.kind.depth a.n c.requires.some values_are
     (omega arith))
     c.write_nested.ensures
 
-pub returns-in-Refused-checked : goal.returns-in-Refused-checked
-returns-in-Refused-checked c =
-    let walk_is : walked (mask_form (masks_of c.args.kind.masks)) c.args.kind.depth c.args.s.now 0 c.args.n ≡ told_walk c.walk_content-walk.result =
+pub returns-in-Err-checked : goal.returns-in-Err-checked
+returns-in-Err-checked c =
+    let walk_is : walked (mask_form (masks_of c.args.kind.masks)) c.args.kind.depth c.args.s.now 0 c.args.n ≡ told c.walk_content-walk.result =
     sym c.walk_content-walk.ensures in
-    let at : ℕ = c.in-Values.at in
-    let cells : ℕ = c.in-Values.cells in
+    let at : ℕ = c.in-Oks.at in
+    let cells : ℕ = c.in-Oks.cells in
     let values_are : walked (mask_form (masks_of c.args.kind.masks)) c.args.kind.depth c.args.s.now 0 c.args.n ≡ gives (at, cells) =
-    walk_is ∙ ap told_walk c.in-Values.is in
-    let check_is : let a = c.args in checked_in (width_of a.width) (place_of a.place) a.s.now at cells ≡ told_index c.check_ragged-checked.result =
+    walk_is ∙ told_same c.in-Oks.is in
+    let check_is : let a = c.args in checked_in (width_of a.width) (place_of a.place) a.s.now at cells ≡ told c.check_ragged-checked.result =
     sym c.check_ragged-checked.ensures in
     let a = c.args in
     rw
     (ragged_wrong (mask_form (masks_of a.kind.masks)) (width_of a.width) (place_of a.place) a.s.now a.kind.depth a.n c.requires.some values_are
     (omega arith) _
-    (checked_refused (width_of a.width) (place_of a.place) a.s.now at cells _ (check_is ∙ ap told_index c.in-Refused-checked.is)))
+    (checked_refused (width_of a.width) (place_of a.place) a.s.now at cells _ (check_is ∙ told_same c.in-Err-checked.is)))
 
-pub returns-in-Found : goal.returns-in-Found
-returns-in-Found c =
-    let walk_is : walked (mask_form (masks_of c.args.kind.masks)) c.args.kind.depth c.args.s.now 0 c.args.n ≡ told_walk c.walk_content-walk.result =
+pub returns-in-Ok : goal.returns-in-Ok
+returns-in-Ok c =
+    let walk_is : walked (mask_form (masks_of c.args.kind.masks)) c.args.kind.depth c.args.s.now 0 c.args.n ≡ told c.walk_content-walk.result =
     sym c.walk_content-walk.ensures in
-    let at : ℕ = c.in-Values.at in
-    let cells : ℕ = c.in-Values.cells in
+    let at : ℕ = c.in-Oks.at in
+    let cells : ℕ = c.in-Oks.cells in
     let values_are : walked (mask_form (masks_of c.args.kind.masks)) c.args.kind.depth c.args.s.now 0 c.args.n ≡ gives (at, cells) =
-    walk_is ∙ ap told_walk c.in-Values.is in
+    walk_is ∙ told_same c.in-Oks.is in
     let passed : WalkPassed (masks_of c.args.kind.masks) c.args.kind.depth c.args.s.now 0 c.args.n at cells =
     let a = c.args in
     walk_passed (masks_of a.kind.masks) a.kind.depth a.s.now 0 a.n at cells c.requires.some (omega arith) values_are in
-    let check_is : let a = c.args in checked_in (width_of a.width) (place_of a.place) a.s.now at cells ≡ told_index c.check_ragged-checked.result =
+    let check_is : let a = c.args in checked_in (width_of a.width) (place_of a.place) a.s.now at cells ≡ told c.check_ragged-checked.result =
     sym c.check_ragged-checked.ensures in
-    let checked_is : let a = c.args in IndexChecked (width_of a.width) (place_of a.place) a.s.now at cells c.in-Found.found =
+    let checked_is : let a = c.args in IndexChecked (width_of a.width) (place_of a.place) a.s.now at cells c.in-Ok.found =
     let a = c.args in
-    index_checked (width_of a.width) (place_of a.place) a.s.now at cells c.in-Found.found passed.inside
-    (check_is ∙ ap told_index c.in-Found.is) in
+    index_checked (width_of a.width) (place_of a.place) a.s.now at cells c.in-Ok.found passed.inside
+    (check_is ∙ told_same c.in-Ok.is) in
     let a = c.args in
     rw
     (ragged_given (mask_form (masks_of a.kind.masks)) (width_of a.width) (place_of a.place) a.s.now a.kind.depth a.n c.requires.some values_are
     (omega arith) checked_is)
-    c.write_nested-in-Found.ensures
+    c.write_nested-in-Ok.ensures
