@@ -12,8 +12,8 @@ ghost use Rattle.encode_data.specs.Offsets.{Offsets};
 ghost use Rattle.guest_read.specs.Seen.{seen_at, seen_content, places_by, Asked};
 
 use crate::planes::put_masks;
-use array::answer::WrittenArray;
-use array::refusal;
+use array::answer::Lengths;
+use array::refusal::Refusal;
 use live_cells::live_mark;
 use mask_marks::one_if_set;
 
@@ -86,7 +86,7 @@ pub fn read_ragged(
     out_masks: &mut [u8],
     out_values: &mut [u8],
     out_offsets: &mut [u64],
-) -> WrittenArray
+) -> Result<Lengths, Refusal>
     requires { Asked (ragged 8 at_start) depth cells rights.now (content_array masks.now values.now offsets.now) }
     ensures { outcome_array result out_masks.new out_values.new out_offsets.new
         ≡ put_into (seen_content (ragged 8 at_start) depth cells rights.now (content_array masks.now values.now offsets.now))
@@ -95,10 +95,10 @@ pub fn read_ragged(
     let planes = depth * cells;
     let count = cells + 1;
     if out_masks.len() < planes {
-        return WrittenArray::Refused(refusal::OUTPUT);
+        return Err(Refusal::Output);
     }
     if out_offsets.len() < count {
-        return WrittenArray::Refused(refusal::OUTPUT);
+        return Err(Refusal::Output);
     }
     if !has_room(
         depth,
@@ -109,12 +109,16 @@ pub fn read_ragged(
         offsets,
         out_values.len(),
     ) {
-        return WrittenArray::Refused(refusal::OUTPUT);
+        return Err(Refusal::Output);
     }
     put_masks(out_masks, rights, masks, cells, depth);
     let plane = &out_masks[planes - cells..planes];
     let shown = live_cells::count_live(plane, cells, 1);
     put_offsets(out_offsets, offsets, plane, cells);
     let bytes = encode_data::put_live_data(out_values, 0, values, offsets, plane, cells, 1, shown);
-    WrittenArray::Lengths(planes, bytes, count)
+    Ok(Lengths {
+        masks: planes,
+        values: bytes,
+        offsets: count,
+    })
 }

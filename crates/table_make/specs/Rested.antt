@@ -12,7 +12,8 @@ use Rattle.array.specs.Places.{offset_at, step_at, bytes_at, values_at, mask_at,
 use Rattle.live_cells.specs.Live.{live_at}
 use Rattle.rest_masks.specs.Rested.{rest_planes}
 use Rattle.table.specs.Table.{Table}
-use Rattle.table.specs.Calls.{starts_at, TableLengths, table_lengths, table_enough_test, table_after}
+use Rattle.table.specs.declared.answer.TableLengths.{TableLengths}
+use Rattle.table.specs.Calls.{starts_at, table_lengths, table_enough_test, table_after}
 
 -- ---- n cells of d levels: cell j has bytes where all its masks are set, and starts behind those of the cells before it
 

@@ -13,11 +13,10 @@ ghost use Rattle.table.specs.Meaning.{table_by};
 ghost use Rattle.table_read.specs.Read.{read_by, ReadAsked};
 
 use crate::cells::copy_values;
-use array::answer::WrittenArray;
+use array::answer::Lengths;
 use array::kind::Kind;
-use array::refusal;
+use array::refusal::Refusal;
 use buffer::copy;
-use table_check::Order;
 use table_kind::{count_ok, is_table_kind, store_ok};
 use table_order::{FEW, MANY};
 
@@ -31,7 +30,7 @@ fn read_checked(
     out_masks: &mut [u8],
     out_values: &mut [u8],
     out_offsets: &mut [u64],
-) -> WrittenArray
+) -> Result<Lengths, Refusal>
     requires { ReadAsked cells (table_by masks.now starts.now lengths.now store.now) }
     ensures { outcome_array result out_masks.new out_values.new out_offsets.new
         ≡ put_into (read_by cells (table_by masks.now starts.now lengths.now store.now))
@@ -41,17 +40,21 @@ fn read_checked(
     let bytes = lengths.iter().sum::<u64>() as usize;
     let count = cells + 1;
     if out_masks.len() < planes {
-        return WrittenArray::Refused(refusal::OUTPUT);
+        return Err(Refusal::Output);
     }
     if out_values.len() < bytes {
-        return WrittenArray::Refused(refusal::OUTPUT);
+        return Err(Refusal::Output);
     }
     if out_offsets.len() < count {
-        return WrittenArray::Refused(refusal::OUTPUT);
+        return Err(Refusal::Output);
     }
     copy::copy_many(out_masks, 0, masks, 0, planes);
     copy_values(cells, starts, lengths, store, out_values, out_offsets);
-    WrittenArray::Lengths(planes, bytes, count)
+    Ok(Lengths {
+        masks: planes,
+        values: bytes,
+        offsets: count,
+    })
 }
 
 // The same of a table of a sound kind and count: 4, 5, and then 6. The lying order is found in `order`, which nobody reads here.
@@ -67,7 +70,7 @@ fn read_with(
     out_values: &mut [u8],
     out_offsets: &mut [u64],
     order: &mut [u16],
-) -> WrittenArray
+) -> Result<Lengths, Refusal>
     requires { TableKind (kind_of kind) × CountOk cells × (cells ≤ length order.old) }
     ensures { outcome_array result out_masks.new out_values.new out_offsets.new
         ≡ read_out (kind_of kind) cells (table_by masks.now starts.now lengths.now store.now)
@@ -75,24 +78,22 @@ fn read_with(
 {
     let depth = kind.depth as usize;
     let lies = table_check::check_cells(depth, cells, masks, starts, lengths, store, order);
-    match lies {
-        Order::Broken => WrittenArray::Refused(refusal::CONTENT),
-        Order::Lies(_) => {
-            if !store_ok(store.len()) {
-                return WrittenArray::Refused(refusal::SIZE);
-            }
-            read_checked(
-                cells,
-                masks,
-                starts,
-                lengths,
-                store,
-                out_masks,
-                out_values,
-                out_offsets,
-            )
-        }
+    let Some(_) = lies else {
+        return Err(Refusal::Content);
+    };
+    if !store_ok(store.len()) {
+        return Err(Refusal::Size);
     }
+    read_checked(
+        cells,
+        masks,
+        starts,
+        lengths,
+        store,
+        out_masks,
+        out_values,
+        out_offsets,
+    )
 }
 
 // The same with room for the order of so many cells: little is cleared for a small table.
@@ -106,7 +107,7 @@ fn read_in<const ROOM: usize>(
     out_masks: &mut [u8],
     out_values: &mut [u8],
     out_offsets: &mut [u64],
-) -> WrittenArray
+) -> Result<Lengths, Refusal>
     requires { TableKind (kind_of kind) × CountOk cells × (cells ≤ ROOM) × (ROOM ≤ 65536) }
     ensures { outcome_array result out_masks.new out_values.new out_offsets.new
         ≡ read_out (kind_of kind) cells (table_by masks.now starts.now lengths.now store.now)
@@ -138,16 +139,16 @@ pub fn read_table(
     out_masks: &mut [u8],
     out_values: &mut [u8],
     out_offsets: &mut [u64],
-) -> WrittenArray
+) -> Result<Lengths, Refusal>
     ensures { outcome_array result out_masks.new out_values.new out_offsets.new
         ≡ read_out (kind_of kind) cells (table_by masks.now starts.now lengths.now store.now)
         (content_array out_masks.old out_values.old out_offsets.old) }
 {
     if !is_table_kind(kind) {
-        return WrittenArray::Refused(refusal::KIND);
+        return Err(Refusal::Kind);
     }
     if !count_ok(cells) {
-        return WrittenArray::Refused(refusal::SHAPE);
+        return Err(Refusal::Shape);
     }
     if cells <= FEW {
         return read_in::<FEW>(
