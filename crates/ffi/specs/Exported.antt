@@ -8,7 +8,8 @@ use Rattle.array.specs.Content.{Content, RaggedContent}
 use Rattle.array.specs.declared.answer.Lengths.{Lengths}
 use Rattle.array.specs.declared.answer.RaggedLengths.{RaggedLengths}
 use Rattle.table.specs.Table.{Table}
-use Rattle.table.specs.Calls.{TableLengths, Preview}
+use Rattle.table.specs.declared.answer.TableLengths.{TableLengths}
+use Rattle.table.specs.declared.answer.Preview.{Preview}
 
 pub record Exported (B : Type 0) : Type 0 where
   pub status : ℕ

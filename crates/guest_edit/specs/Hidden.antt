@@ -3,7 +3,7 @@
 use Rattle.std.specs.Prelude.{ℕ, eqb}
 use Rattle.array.specs.Answer.{Answer, gives, refuses}
 use Rattle.array.specs.Lists.{pick}
-use Rattle.table.specs.Calls.{Preview}
+use Rattle.table.specs.declared.answer.Preview.{Preview}
 
 abbrev pub hidden_number : Answer Preview → ℕ
 hidden_number (gives p) = 18

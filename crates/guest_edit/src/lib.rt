@@ -2,29 +2,28 @@
 #![tactic(auto)]
 
 ghost use Rattle.std.specs.Prelude.{◌≡◌};
-ghost use Rattle.array.specs.Meaning.{kind_of};
-ghost use Rattle.table.specs.Meaning.{table_by, outcome_settled, told_preview};
+ghost use Rattle.array.specs.Meaning.{kind_of, number_of, told};
+ghost use Rattle.table.specs.Meaning.{table_by, outcome_settled};
 ghost use Rattle.rights.specs.Calls.{guest_edit};
 ghost use Rattle.guest_edit.specs.Hidden.{hidden_number};
 
 use array::kind::Kind;
-use array::refusal;
+use array::refusal::Refusal;
 use rights::plane::hides;
-use rights::refusal::{HIDDEN, NO_MASKS};
-use table::answer::{Previewed, Settled};
-use table::refusal::FULL;
+use table::answer::Preview;
 use table_kind::{count_ok, is_table_kind};
 use table_preview::preview_cell;
 use table_set::set_cell;
 use valid::masks::are_strict;
 
-// The number that refuses the setting of a hidden cell: what comes before 18, but not 16, which comes behind it.
-fn hidden_number(preview: Previewed) -> u8
-    ensures { result ≡ hidden_number (told_preview preview) }
+// What refuses the setting of a hidden cell: what comes before it, but not that the store is full, which comes behind it.
+fn hidden_refusal(preview: Result<Preview, Refusal>) -> Refusal
+    ensures { number_of result ≡ hidden_number (told preview) }
 {
     match preview {
-        Previewed::After(_, _) => HIDDEN,
-        Previewed::Refused(number) => { if number == FULL { HIDDEN } else { number } }
+        Ok(_) => Refusal::Hidden,
+        Err(Refusal::Full) => Refusal::Hidden,
+        Err(e) => e,
     }
 }
 
@@ -41,28 +40,28 @@ pub fn guest_edit(
     cell: usize,
     cell_masks: &[u8],
     value: &[u8],
-) -> Settled
+) -> Result<(), Refusal>
     ensures { outcome_settled result masks.new starts.new lengths.new store.new
         ≡ guest_edit (kind_of kind) cells rights.now (table_by masks.old starts.old lengths.old store.old)
         cell cell_masks.now value.now }
 {
     if !is_table_kind(kind) {
-        return Settled::Refused(refusal::KIND);
+        return Err(Refusal::Kind);
     }
     if !count_ok(cells) {
-        return Settled::Refused(refusal::SHAPE);
+        return Err(Refusal::Shape);
     }
     if kind.depth == 0 {
-        return Settled::Refused(NO_MASKS);
+        return Err(Refusal::NoMasks);
     }
     if !are_strict(rights, cells) {
-        return Settled::Refused(refusal::CONTENT);
+        return Err(Refusal::Content);
     }
     if hides(rights, cell) {
         let preview = preview_cell(
             kind, cells, masks, starts, lengths, store, cell, cell_masks, value,
         );
-        return Settled::Refused(hidden_number(preview));
+        return Err(hidden_refusal(preview));
     }
     set_cell(
         kind, cells, masks, starts, lengths, store, cell, cell_masks, value,

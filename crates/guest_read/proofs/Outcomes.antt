@@ -4,6 +4,9 @@ use mathlib.Core.Path.{◌≡◌, refl, sym, ap, ◌∙◌}
 use mathlib.Core.Bool.{Bool, true, false}
 use mathlib.Core.List.{List}
 use Prim.Native.Nat.{ℕ, ◌≤◌}
+use Rattle.std.specs.Prelude.{Result, Ok, Err}
+use Rattle.array.specs.declared.refusal.Refusal.{Refusal}
+use Rattle.array.specs.Meaning.{number_of, told}
 use Rattle.array.specs.Answer.{Answer, gives, unless}
 use Rattle.array.specs.Limits.{most_cells}
 use Rattle.array.specs.Kind.{Kind, kind_test}
@@ -12,8 +15,7 @@ use Rattle.array.specs.Content.{Content, unless_kept}
 use Rattle.array.specs.Buffers.{lengths_of, enough_test, content_outcome, put_into}
 use Rattle.array.proofs.Putting.{refused}
 use Rattle.array.proofs.Rules.{kind_ok, strict_bytes_ok}
-use Rattle.valid.specs.declared.array_bytes.Checked.{Checked}
-use Rattle.valid.specs.Check.{check_of, told_checked}
+use Rattle.valid.specs.Check.{check_of}
 use Rattle.valid.proofs.CheckLaws.{KeepsRules, check_refused, check_passed, check_valid}
 use Rattle.rights.specs.Rights.{rights_test, masked_test, guest_form}
 use Rattle.rights.specs.Calls.{guest_answer, guest_read}
@@ -49,13 +51,13 @@ module _ (k : Kind) (shape rights : List ℕ) (c out : Content) where
         pub no_plane : rights_test n rights ≡ false → refused 4 out ≡ guest_read k shape rights c out
         no_plane s = sym (answered p q r s)
 
-        module _ (s : rights_test n rights ≡ true) {x : Checked} (e : told_checked x ≡ check_of k n c) where
-          pub not_kept : (number : ℕ) → x ≡ Checked.Refused number → refused number out ≡ guest_read k shape rights c out
-          not_kept number f =
+        module _ (s : rights_test n rights ≡ true) {x : Result (Unit {0}) Refusal} (e : told x ≡ check_of k n c) where
+          pub not_kept : (why : Refusal) → x ≡ Err why → refused (number_of why) out ≡ guest_read k shape rights c out
+          not_kept why f =
               sym (answered p q r s
-              ∙ ap (λ (a : Answer Content). content_outcome a out) (check_refused k n c x e (unless (enough_test seen (lengths_of out)) 6 (gives seen)) number f))
+              ∙ ap (λ (a : Answer Content). content_outcome a out) (check_refused k n c x e (unless (enough_test seen (lengths_of out)) 6 (gives seen)) why f))
 
-          pub asked : n ≤ most_cells → x ≡ Checked.Valid → Asked k.form k.depth n rights c
+          pub asked : n ≤ most_cells → x ≡ Ok tt → Asked k.form k.depth n rights c
           asked few f =
               let keeps : KeepsRules k n c = check_valid k n c x e f in
               record {
@@ -67,7 +69,7 @@ module _ (k : Kind) (shape rights : List ℕ) (c out : Content) where
                 values_fit = keeps.array.fits.values_fit;
               }
 
-          pub kept : x ≡ Checked.Valid → put_into (seen_content k.form k.depth n rights c) out ≡ guest_read k shape rights c out
+          pub kept : x ≡ Ok tt → put_into (seen_content k.form k.depth n rights c) out ≡ guest_read k shape rights c out
           kept f =
               ap (λ (y : Content). put_into y out) (seen_is rights (check_valid k n c x e f).array.fits)
               ∙ sym (answered p q r s

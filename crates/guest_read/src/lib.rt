@@ -14,14 +14,11 @@ ghost use Rattle.guest_read.specs.Seen.{seen_content, Asked};
 
 use crate::planes::put_masks;
 use crate::ragged::read_ragged;
-use array::answer::WrittenArray;
+use array::answer::Lengths;
 use array::kind::{Kind, Values};
-use array::refusal;
-use rights::refusal::NO_MASKS;
+use array::refusal::Refusal;
 use shown_cells::put_shown;
-use valid::array_bytes::Checked;
 use valid::masks::are_strict;
-use valid::shape::Cells;
 
 // What is shown of values of one size: 6, or all is stored. What the innermost plane shows, as it is written, is what is shown at all.
 fn read_fixed(
@@ -34,7 +31,7 @@ fn read_fixed(
     out_masks: &mut [u8],
     out_values: &mut [u8],
     out_offsets: &mut [u64],
-) -> WrittenArray
+) -> Result<Lengths, Refusal>
     requires { Asked (fixed size little) depth cells rights.now (content_array masks.now values.now []) }
     ensures { outcome_array result out_masks.new out_values.new out_offsets.new
         ≡ put_into (seen_content (fixed size little) depth cells rights.now (content_array masks.now values.now []))
@@ -43,14 +40,18 @@ fn read_fixed(
     let planes = depth * cells;
     let bytes = cells * size;
     if out_masks.len() < planes {
-        return WrittenArray::Refused(refusal::OUTPUT);
+        return Err(Refusal::Output);
     }
     if out_values.len() < bytes {
-        return WrittenArray::Refused(refusal::OUTPUT);
+        return Err(Refusal::Output);
     }
     put_masks(out_masks, rights, masks, cells, depth);
     put_shown(out_values, values, size, &out_masks[planes - cells..planes]);
-    WrittenArray::Lengths(planes, bytes, 0)
+    Ok(Lengths {
+        masks: planes,
+        values: bytes,
+        offsets: 0,
+    })
 }
 
 // What is shown of an array that keeps its rules, under a plane that keeps its own: 6, or all is stored.
@@ -65,7 +66,7 @@ fn read_valid(
     out_masks: &mut [u8],
     out_values: &mut [u8],
     out_offsets: &mut [u64],
-) -> WrittenArray
+) -> Result<Lengths, Refusal>
     requires { Asked (form_of kind.values) kind.depth cells rights.now (content_array masks.now values.now offsets.now) }
     ensures { outcome_array result out_masks.new out_values.new out_offsets.new
         ≡ put_into (seen_content (form_of kind.values) kind.depth cells rights.now (content_array masks.now values.now offsets.now))
@@ -111,38 +112,31 @@ pub fn guest_read(
     out_masks: &mut [u8],
     out_values: &mut [u8],
     out_offsets: &mut [u64],
-) -> WrittenArray
+) -> Result<Lengths, Refusal>
     ensures { outcome_array result out_masks.new out_values.new out_offsets.new
         ≡ guest_read (kind_of kind) shape.now rights.now (content_array masks.now values.now offsets.now)
         (content_array out_masks.old out_values.old out_offsets.old) }
 {
     if !valid::kind::check_kind(kind) {
-        return WrittenArray::Refused(refusal::KIND);
+        return Err(Refusal::Kind);
     }
-    let Cells::Count(cells) = valid::shape::shape_cells(shape) else {
-        return WrittenArray::Refused(refusal::SHAPE);
-    };
+    let cells = valid::shape::shape_cells(shape)?;
     if kind.depth == 0 {
-        return WrittenArray::Refused(NO_MASKS);
+        return Err(Refusal::NoMasks);
     }
     if !are_strict(rights, cells) {
-        return WrittenArray::Refused(refusal::CONTENT);
+        return Err(Refusal::Content);
     }
-    let checked = valid::array_bytes::check_array(kind, cells, masks, values, offsets);
-    match checked {
-        Checked::Refused(e) => WrittenArray::Refused(e),
-        Checked::Valid => {
-            read_valid(
-                kind,
-                cells,
-                rights,
-                masks,
-                values,
-                offsets,
-                out_masks,
-                out_values,
-                out_offsets,
-            )
-        }
-    }
+    valid::array_bytes::check_array(kind, cells, masks, values, offsets)?;
+    read_valid(
+        kind,
+        cells,
+        rights,
+        masks,
+        values,
+        offsets,
+        out_masks,
+        out_values,
+        out_offsets,
+    )
 }

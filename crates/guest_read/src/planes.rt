@@ -14,10 +14,8 @@ fn put_outermost(out: &mut [u8], rights: &[u8], masks: &[u8])
     requires { (length rights.now ≤ length out.old) × (length rights.now ≤ length masks.now) }
     ensures { out.new ≡ over (map (cleared_at rights.now masks.now) (from 0 (length rights.now))) out.old }
 {
-    let mut j: usize = 0;
-    while j < rights.len() {
+    for j in 0..rights.len() {
         out[j] = kept(rights[j], masks[j]);
-        j += 1;
     }
 }
 

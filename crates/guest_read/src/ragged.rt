@@ -12,8 +12,8 @@ ghost use Rattle.encode_data.specs.Offsets.{Offsets};
 ghost use Rattle.guest_read.specs.Seen.{seen_at, seen_content, places_by, Asked};
 
 use crate::planes::put_masks;
-use array::answer::WrittenArray;
-use array::refusal;
+use array::answer::Lengths;
+use array::refusal::Refusal;
 use live_cells::Level;
 use mask_marks::one_if_set;
 
@@ -36,13 +36,11 @@ fn seen_bytes(offsets: &[u64], rights: &[u8], masks: &[u8], cells: usize, depth:
     ensures { result ≡ bytes_at (offset_at offsets.now) (passing (seen_at cells rights.now masks.now depth) (from 0 cells)) }
 {
     let mut total: usize = 0;
-    let mut i: usize = 0;
-    while i < cells {
+    for i in 0..cells {
         let mark = seen_mark(rights, masks, cells, depth, i) as u64;
         let start = offsets[i];
         let end = offsets[i + 1];
         total += ((end - start) * mark) as usize;
-        i += 1;
     }
     total
 }
@@ -72,21 +70,19 @@ fn put_offsets(out: &mut [u64], offsets: &[u64], plane: &[u8], cells: usize)
     ensures { out.new ≡ over (places_by (shown_at cells plane.now 1) offsets.now (cells + 1)) out.old }
 {
     let mut to: u64 = 0;
-    let mut j: usize = 0;
-    while j < cells {
-        let level = Level {
-            masks: plane,
-            cells,
-            depth: 1,
-        };
+    let level = Level {
+        masks: plane,
+        cells,
+        depth: 1,
+    };
+    for j in 0..cells {
         let mark = level.mark(j) as u64;
         let begin = offsets[j];
         let end = offsets[j + 1];
         out[j] = to;
         to += (end - begin) * mark;
-        j += 1;
     }
-    out[j] = to;
+    out[cells] = to;
 }
 
 // What is shown of ragged values: 6, or all is stored. What the innermost plane shows, as it is written, is what is shown at all.
@@ -100,7 +96,7 @@ pub fn read_ragged(
     out_masks: &mut [u8],
     out_values: &mut [u8],
     out_offsets: &mut [u64],
-) -> WrittenArray
+) -> Result<Lengths, Refusal>
     requires { Asked (ragged 8 at_start) depth cells rights.now (content_array masks.now values.now offsets.now) }
     ensures { outcome_array result out_masks.new out_values.new out_offsets.new
         ≡ put_into (seen_content (ragged 8 at_start) depth cells rights.now (content_array masks.now values.now offsets.now))
@@ -109,10 +105,10 @@ pub fn read_ragged(
     let planes = depth * cells;
     let count = cells + 1;
     if out_masks.len() < planes {
-        return WrittenArray::Refused(refusal::OUTPUT);
+        return Err(Refusal::Output);
     }
     if out_offsets.len() < count {
-        return WrittenArray::Refused(refusal::OUTPUT);
+        return Err(Refusal::Output);
     }
     if !has_room(
         depth,
@@ -123,7 +119,7 @@ pub fn read_ragged(
         offsets,
         out_values.len(),
     ) {
-        return WrittenArray::Refused(refusal::OUTPUT);
+        return Err(Refusal::Output);
     }
     put_masks(out_masks, rights, masks, cells, depth);
     let plane = &out_masks[planes - cells..planes];
@@ -135,5 +131,9 @@ pub fn read_ragged(
     let shown = level.counted();
     put_offsets(out_offsets, offsets, plane, cells);
     let bytes = encode_data::put_live_data(out_values, 0, values, offsets, shown);
-    WrittenArray::Lengths(planes, bytes, count)
+    Ok(Lengths {
+        masks: planes,
+        values: bytes,
+        offsets: count,
+    })
 }

@@ -1,6 +1,6 @@
 -- The mask planes of the rest form, each by the one above it.
 -- Assumes nothing.
-use mathlib.Core.Path.{◌≡◌, refl, sym, ap, ap₂, ◌∙◌}
+use mathlib.Core.Path.{◌≡◌, refl, sym, ap, ap₂, ◌∙◌, subst}
 use mathlib.Core.Bool.{Bool, true, false, ◌&&◌}
 use mathlib.Core.List.{List, ◌++◌, map}
 use Prim.Native.Nat.{ℕ, zero, suc, ◌+◌, ◌-◌, ◌*◌, ◌≤◌, ◌<◌}
@@ -66,6 +66,10 @@ descending_begins {n} {ms} {left} {d} h =
       laid = laying_is (laying_begins (planes_by m left 1 (from 0 n)) d n (omega (arith, length_planes m n left 1, suc-mul left n)))
           (ap (λ (k : ℕ). planes_by m k 1 (from 0 n)) (sym (sub-zero left)));
     }
+
+-- the place by its level
+pub descending_at : {n : ℕ} {ms : List ℕ} {left : ℕ} {d out : List ℕ} {l at : ℕ} → Descending n ms left d out l at → Descending n ms left d out l (l * n)
+descending_at {n} {ms} {left} {d} {out} {l} c = subst (Descending n ms left d out l) c.place c
 
 module _ {n : ℕ} {ms : List ℕ} {left : ℕ} {d out : List ℕ} {l at : ℕ} (c : Descending n ms left d out l at) where
   abbrev m : ℕ → ℕ → ℕ

@@ -29,10 +29,8 @@ fn put_below(out: &mut [u8], masks: &[u8], cells: usize, at: usize)
     ensures { out.new ≡ over_at (at + cells) (map (kept_at cells out.old masks.now at) (from 0 cells)) out.old }
 {
     let to = at + cells;
-    let mut j: usize = 0;
-    while j < cells {
+    for j in 0..cells {
         out[to + j] = kept(out[at + j], masks[to + j]);
-        j += 1;
     }
 }
 
@@ -41,11 +39,7 @@ pub fn put_levels(out: &mut [u8], masks: &[u8], cells: usize, left: usize)
     requires { Planes cells masks.now (suc left) × (suc left * cells ≤ length out.old) }
     ensures { out.new ≡ over_at cells (planes_by (rest_mask cells (under cells out.old masks.now)) left 1 (from 0 cells)) out.old }
 {
-    let mut l: usize = 0;
-    let mut at: usize = 0;
-    while l < left {
-        put_below(out, masks, cells, at);
-        at += cells;
-        l += 1;
+    for l in 0..left {
+        put_below(out, masks, cells, l * cells);
     }
 }

@@ -20,10 +20,8 @@ fn put_bytes(out: &mut [u8], values: &[u8], plane: &[u8])
     requires { ShownWithin out.old values.now 1 plane.now }
     ensures { out.new ≡ over (shown_values 1 values.now plane.now) out.old }
 {
-    let mut j: usize = 0;
-    while j < plane.len() {
+    for j in 0..plane.len() {
         out[j] = if_set(mark_of(plane[j]), values[j], 0);
-        j += 1;
     }
 }
 
@@ -32,12 +30,10 @@ fn put_words(out: &mut [u8], values: &[u8], size: usize, plane: &[u8])
     requires { ShownWithin out.old values.now size plane.now × (word_test size ≡ true) }
     ensures { out.new ≡ over (shown_values size values.now plane.now) out.old }
 {
-    let mut j: usize = 0;
-    while j < plane.len() {
+    for j in 0..plane.len() {
         let v = word_at(values, j * size, size, ByteOrder::Little);
         let w = if_set(mark_of(plane[j]), v, 0);
         put_word(out, j * size, size, w);
-        j += 1;
     }
 }
 
@@ -47,8 +43,7 @@ fn put_ends(out: &mut [u8], values: &[u8], size: usize, word: usize, plane: &[u8
     ensures { out.new ≡ over (shown_values size values.now plane.now) out.old }
 {
     let behind = size - word;
-    let mut j: usize = 0;
-    while j < plane.len() {
+    for j in 0..plane.len() {
         let mark = mark_of(plane[j]);
         let x = word_at(values, j * size, word, ByteOrder::Little);
         let y = word_at(values, j * size + behind, word, ByteOrder::Little);
@@ -56,7 +51,6 @@ fn put_ends(out: &mut [u8], values: &[u8], size: usize, word: usize, plane: &[u8
         let last = if_set(mark, y, 0);
         put_word(out, j * size, word, first);
         put_word(out, j * size + behind, word, last);
-        j += 1;
     }
 }
 
@@ -65,14 +59,12 @@ fn run_end(plane: &[u8], i: usize, shown: bool) -> usize
     requires { (i < length plane.now) × (set_test (get_or plane.now i 0) ≡ shown) }
     ensures { Alike plane.now shown i result }
 {
-    let mut e = i + 1;
-    while e < plane.len() {
+    for e in i + 1..plane.len() {
         if is_set(plane, e) != shown {
             return e;
         }
-        e += 1;
     }
-    e
+    plane.len()
 }
 
 // The k bytes at `at` of cells that are all shown, or all not.
@@ -93,6 +85,7 @@ fn put_runs(out: &mut [u8], values: &[u8], size: usize, plane: &[u8])
     ensures { out.new ≡ over (shown_values size values.now plane.now) out.old }
 {
     let mut i: usize = 0;
+    // the next turn begins where this run ends, which no range counts
     while i < plane.len() {
         let shown = is_set(plane, i);
         let end = run_end(plane, i, shown);

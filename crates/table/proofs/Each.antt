@@ -11,14 +11,21 @@ use lib.Seq.{length-take-le}
 use lib.Dec.{ltb, eqb}
 use lib.Arith.{lt_of_le-ne}
 use borrow.Author.Tests.{lt-ltb, ltb-true, ltb-false, eqb-true, eqb-false}
+use Rattle.std.specs.List.{sum_by}
+use Rattle.std.proofs.lemmas.List.Recursion.{is_sum_by}
 use Rattle.array.specs.Lists.{from, pick, passing, All, count}
 use Rattle.array.specs.Cells.{Value, Cell, Strict, leaf, rest}
-use Rattle.array.specs.Places.{mask_at, shown_by, cell_by}
+use Rattle.array.specs.Places.{mask_at, shown_by, cell_by, sum}
 use Rattle.array.proofs.Lists.{All-get_or, in_place_lem}
 use Rattle.array.proofs.Geometry.{All-from}
 use Rattle.array.proofs.RestLaws.{StrictCell, leaf_by, rest_by_lem}
 use Rattle.table.specs.Table.{Table, start_of, length_of, bytes_of, cell_of, OrZero, RestMasks, RestBy, Placed, filled_by, Clear, Apart, TableOk}
 use Rattle.table.proofs.Order.{All-count, count-All, filled_some, filled_below, filled_once, apart_each, each_apart}
+
+-- ---- a sum, as what an iterator sums up
+
+pub sum_is : (xs : List ℕ) → sum xs ≡ sum_by (λ x. x) xs
+sum_is xs = is_sum_by sum (λ x. x) refl (λ _ _. refl) xs
 
 -- ---- a rule for every number of a run, and for those that pass a test
 

@@ -35,7 +35,8 @@ use Rattle.array.proofs.Sums.{sum_of}
 use Rattle.codec.specs.Interleaved.{IsRagged}
 use Rattle.table.specs.Table.{Table, start_of, length_of, bytes_of, cell_of, OrZero, RestBy, Placed, filled, TableOk, TableKind, CountOk, most_store}
 use Rattle.table.specs.Lying.{lying_by, packed_at, displaced}
-use Rattle.table.specs.Calls.{starts_at, table_of, table_lengths, table_after, TableLengths, TableEnough, make_answer, made, content_of, read_out}
+use Rattle.table.specs.declared.answer.TableLengths.{TableLengths}
+use Rattle.table.specs.Calls.{starts_at, table_of, table_lengths, table_after, TableEnough, make_answer, made, content_of, read_out}
 use Rattle.table.specs.Laws.{Working, table_in, MakeLaw, Makes}
 use Rattle.array.proofs.Sizes.{SizedAs}
 use Rattle.table.proofs.Rules.{table_kind_test_lem, count_test_lem, store_test_lem, table_enough_test_lem}

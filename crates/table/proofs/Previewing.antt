@@ -16,7 +16,8 @@ use Rattle.array.proofs.Rules.{left_of_lem, right_of}
 use Rattle.table.specs.Table.{Table, table_kind_test, count_test, table_test, store_test}
 use Rattle.table.specs.Lying.{displaced}
 use Rattle.table.specs.Setting.{SettingOk, setting_test, setting_of, sum_after}
-use Rattle.table.specs.Calls.{in_place, set_answer, cell_set, Preview, looked_at, previewed, cells_packed}
+use Rattle.table.specs.declared.answer.Preview.{Preview}
+use Rattle.table.specs.Calls.{in_place, set_answer, cell_set, looked_at, previewed, cells_packed}
 use Rattle.table.specs.Laws.{Working, Previews}
 use Rattle.table.proofs.Rules.{table_kind_ok, count_ok, store_ok, table_ok, setting_ok}
 use Rattle.table.proofs.Setting.{sets}

@@ -18,7 +18,8 @@ use Rattle.codec.proofs.Refusals.{is_ragged_test, is_ragged_ok}
 use Rattle.table.specs.Table.{Table, start_of, length_of, TableKind, table_kind_test, CountOk, count_test, OrZero, or_zero_test, RestMasks, rest_masks_test, RestBy, rest_by_test}
 use Rattle.table.specs.Table.{Placed, placed_test, apart_test, filled, TableOk, fit_test, rests_test, places_test, table_test, most_store, store_test}
 use Rattle.table.specs.Setting.{SettingOk, setting_test}
-use Rattle.table.specs.Calls.{TableLengths, TableEnough, table_enough_test, most_test}
+use Rattle.table.specs.declared.answer.TableLengths.{TableLengths}
+use Rattle.table.specs.Calls.{TableEnough, table_enough_test, most_test}
 use Rattle.table.proofs.Order.{apart_test_lem, apart_ok}
 
 -- ---- 1: the kind, and how many cells a packing call moves

@@ -9,6 +9,8 @@ use Rattle.array.specs.Content.{Content, layout, rest_form, unless_kept}
 use Rattle.array.specs.declared.answer.Lengths.{Lengths}
 use Rattle.array.specs.Buffers.{lengths_of, enough_test, content_outcome, if_room, over}
 use Rattle.array.specs.Places.{sum, offset_at, step_at}
+use Rattle.table.specs.declared.answer.TableLengths.{TableLengths}
+use Rattle.table.specs.declared.answer.Preview.{Preview}
 use Rattle.table.specs.Table.{Table, cell_of, table_kind_test, count_test, table_test, store_test}
 use Rattle.table.specs.Lying.{displaced, moved_cells, packed}
 use Rattle.table.specs.Setting.{setting_test, setting_of, settled, sum_after}
@@ -27,12 +29,6 @@ table_of n r = record {
   lengths = map (step_at (offset_at r.offsets)) (from 0 n);
   store = r.values;
 }
-
-pub record TableLengths : Type 0 where
-  pub masks : ℕ
-  pub starts : ℕ
-  pub lengths : ℕ
-  pub store : ℕ
 
 abbrev pub table_lengths : Table → TableLengths
 table_lengths t = record { masks = length t.masks; starts = length t.starts; lengths = length t.lengths; store = length t.store }
@@ -111,9 +107,6 @@ unfolding set_answer
 cell_set k n t c ms v = record { answer = map_answer (λ u. tt) (set_answer k n t c ms v); buffers = in_place (set_answer k n t c ms v) t }
 
 -- preview: the setting's refusal, or what would be there after it; nothing is changed
-pub record Preview : Type 0 where
-  pub total : ℕ
-  pub unpacked : ℕ
 
 -- the sum of lengths of a table, and how many of its n cells start elsewhere than where they are packed
 abbrev pub looked_at : ℕ → Table → Preview

@@ -12,7 +12,9 @@ use Rattle.array.specs.Places.{sum}
 use Rattle.table.specs.Table.{Table, cell_of, TableKind, CountOk, TableOk, most_store}
 use Rattle.table.specs.Lying.{displaced, moved_cells}
 use Rattle.table.specs.Setting.{SettingOk, setting_of, sum_after}
-use Rattle.table.specs.Calls.{TableLengths, table_lengths, TableEnough, table_of, content_of, made, read_out, cell_set, Preview, looked_at, previewed, cells_packed}
+use Rattle.table.specs.declared.answer.TableLengths.{TableLengths}
+use Rattle.table.specs.declared.answer.Preview.{Preview}
+use Rattle.table.specs.Calls.{table_lengths, TableEnough, table_of, content_of, made, read_out, cell_set, looked_at, previewed, cells_packed}
 
 -- a table that the calls accept
 pub record Working (k : Kind) (n : ℕ) (t : Table) : Type 0 where

@@ -5,7 +5,8 @@ use Rattle.array.specs.Answer.{Answer, gives, refuses, Outcome}
 use Rattle.array.specs.Kind.{Kind, byte_kind, ragged, fixed, little, at_start}
 use Rattle.array.specs.Content.{Content}
 use Rattle.table.specs.Table.{Table}
-use Rattle.table.specs.Calls.{made, read_out, cell_set, Preview, previewed, cells_packed}
+use Rattle.table.specs.declared.answer.Preview.{Preview}
+use Rattle.table.specs.Calls.{made, read_out, cell_set, previewed, cells_packed}
 
 -- ragged kinds of depth 0, 1 and 2
 abbrev pub flat : Kind

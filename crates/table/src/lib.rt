@@ -2,4 +2,3 @@
 #![tactic(auto)]
 
 pub mod answer;
-pub mod refusal;

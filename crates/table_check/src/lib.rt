@@ -14,33 +14,25 @@ use table_order::lie;
 
 pub mod rules;
 
-// How the cells lie: so many have bytes, and the order begins with their numbers, as they lie; or a rule is broken.
-#[derive(Clone, Copy)]
-pub enum Order {
-    Lies(usize),
-    Broken,
-}
-
 // Whether each cell of the order starts no lower than the one before it ends.
 fn follow(starts: &[u64], lengths: &[u64], order: &[u16]) -> bool
     requires { All (Reached starts.now lengths.now) order.now }
     ensures { result ≡ follow_test (offset_at starts.now) (offset_at lengths.now) 0 order.now }
 {
     let mut end: u64 = 0;
-    let mut i: usize = 0;
-    while i < order.len() {
-        let cell = order[i] as usize;
+    for number in order {
+        let cell = *number as usize;
         let start = starts[cell];
         if start < end {
             return false;
         }
         end = start + lengths[cell];
-        i += 1;
     }
     true
 }
 
-// The rules for a table of n cells, and the order in which they lie.
+// The rules for a table of n cells, and the order in which they lie: so many have bytes, and the order begins with their numbers, as they
+// lie; or a rule is broken.
 pub fn check_cells(
     depth: usize,
     n: usize,
@@ -49,16 +41,16 @@ pub fn check_cells(
     lengths: &[u64],
     store: &[u8],
     order: &mut [u16],
-) -> Order
+) -> Option<usize>
     requires { (n ≤ most_cells) × (1 ≤ n) × (depth ≤ 4) × (n ≤ length order.old) }
     ensures { ToldOrder depth n (table_by masks.now starts.now lengths.now store.now) order.new result }
 {
     if !rules::keep_rules(depth, n, masks, starts, lengths, store) {
-        return Order::Broken;
+        return None;
     }
     let count = lie(starts, lengths, n, order);
     if !follow(starts, lengths, &order[..count]) {
-        return Order::Broken;
+        return None;
     }
-    Order::Lies(count)
+    Some(count)
 }

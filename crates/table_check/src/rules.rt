@@ -37,10 +37,8 @@ fn masks_fall(n: usize, masks: &[u8]) -> bool
     ensures { result ≡ falls_test n masks.now }
 {
     let mut falling = true;
-    let mut i = n;
-    while i < masks.len() {
+    for i in n..masks.len() {
         falling = still_falls(falling, masks[i], masks[i - n]);
-        i += 1;
     }
     falling
 }
@@ -58,10 +56,8 @@ fn nulls_empty(n: usize, at: usize, masks: &[u8], lengths: &[u64]) -> bool
     ensures { result ≡ nulls_test n at masks.now lengths.now }
 {
     let mut empty = true;
-    let mut j = 0;
-    while j < n {
+    for j in 0..n {
         empty = still_empty(empty, masks[at + j], lengths[j]);
-        j += 1;
     }
     empty
 }
@@ -84,12 +80,10 @@ fn cells_placed(size: u64, n: usize, starts: &[u64], lengths: &[u64]) -> bool
     requires { (n ≤ length starts.now) × (n ≤ length lengths.now) }
     ensures { result ≡ placed_in size n starts.now lengths.now }
 {
-    let mut j = 0;
-    while j < n {
+    for j in 0..n {
         if !cell_placed(size, starts[j], lengths[j]) {
             return false;
         }
-        j += 1;
     }
     true
 }

@@ -1,5 +1,3 @@
-pub mod Numbering
-pub mod Descending
 pub mod Placing
 pub mod Rested
 pub mod Making

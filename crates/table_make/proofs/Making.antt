@@ -8,25 +8,29 @@ use mathlib.Core.List.{List}
 use lib.ListN.{length}
 use lib.Dec.{leb}
 use borrow.Author.Tests.{leb-true}
+use Rattle.std.specs.Prelude.{Result, Ok, Err}
+use Rattle.array.specs.declared.refusal.Refusal.{Refusal}
+use Rattle.array.specs.Meaning.{number_of, told}
 use Rattle.array.specs.Answer.{Answer, gives, refuses, unless, Outcome}
 use Rattle.array.specs.Limits.{most_cells, most_depth}
 use Rattle.array.specs.Kind.{Kind, Form, fixed, ragged}
 use Rattle.array.specs.Content.{Content, ValuesOk, rest_form, unless_kept}
 use Rattle.array.specs.Buffers.{over, if_room}
 use Rattle.array.proofs.Rules.{right_of}
-use Rattle.valid.specs.declared.array_bytes.Checked.{Checked}
-use Rattle.valid.specs.Check.{check_of, told_checked}
+use Rattle.valid.specs.Check.{check_of}
 use Rattle.valid.proofs.CheckLaws.{KeepsRules, check_refused, check_passed, check_valid}
 use Rattle.codec.specs.Interleaved.{IsRagged}
 use Rattle.live_cells.specs.Live.{Planes}
 use Rattle.encode_data.specs.Offsets.{Offsets}
 use Rattle.table.specs.Table.{Table, TableKind, table_kind_test, count_test, store_test}
-use Rattle.table.specs.Calls.{TableLengths, table_lengths, TableEnough, table_enough_test, table_of, make_answer, made}
+use Rattle.table.specs.declared.answer.TableLengths.{TableLengths}
+use Rattle.table.specs.Calls.{table_lengths, TableEnough, table_enough_test, table_of, make_answer, made}
 use Rattle.table.specs.Meaning.{table_by}
 use Rattle.table.proofs.Rules.{table_kind_ok, table_enough_test_lem, table_enough_ok}
-use Rattle.table_make.specs.Rested.{rest_mask, size_at, start_at, rest_table, Held, table_outcome, put_table}
-use Rattle.table_make.proofs.Numbering.{length_numbered}
-use Rattle.table_make.proofs.Descending.{length_planes}
+use Rattle.rest_masks.specs.Rested.{rest_mask}
+use Rattle.table_make.specs.Rested.{size_at, start_at, rest_table, Held, table_outcome, put_table}
+use Rattle.rest_masks.proofs.Numbering.{length_numbered}
+use Rattle.rest_masks.proofs.Descending.{length_planes}
 use Rattle.table_make.proofs.Rested.{table_path, rested_is}
 
 -- nothing is stored
@@ -107,11 +111,11 @@ module _ (k : Kind) (n : ℕ) (c : Content) (out : Table) where
       unfolding made make_answer
       past e = sym (rw (p, q) (ap (λ (a : Answer Table). table_outcome a out) e))
 
-      module _ {r : Checked} (f : told_checked r ≡ check_of k n c) where
-        pub make_array : {number : ℕ} → r ≡ Checked.Refused number → refused_table number out ≡ made k n c out
-        make_array {number} e = past (check_refused k n c r f (behind k n c out) number e)
+      module _ {r : Result (Unit {0}) Refusal} (f : told r ≡ check_of k n c) where
+        pub make_array : {why : Refusal} → r ≡ Err why → refused_table (number_of why) out ≡ made k n c out
+        make_array {why} e = past (check_refused k n c r f (behind k n c out) why e)
 
-        module _ (e : r ≡ Checked.Valid) where
+        module _ (e : r ≡ Ok tt) where
           pub make_held : Held k.depth n c
           make_held =
               let h : KeepsRules k n c = check_valid k n c r f e in

@@ -12,7 +12,7 @@ use Rattle.encode_data.specs.Offsets.{Offsets}
 use Rattle.encode_data.proofs.Summing.{so_far_lem, so_far_all, Summing, summing_begins, summing_step, summing_more}
 use Rattle.table.specs.Calls.{starts_at}
 use Rattle.table_make.specs.Rested.{size_at, start_at}
-use Rattle.table_make.proofs.Numbering.{Numbering, number_begins, number_more}
+use Rattle.rest_masks.proofs.Numbering.{Numbering, number_begins, number_more}
 
 pub record Placing (n : ℕ) (ms : List ℕ) (d : ℕ) (os s₀ l₀ starts lengths : List ℕ) (to j : ℕ) : Type 0 where
   pub sums : Summing (shown_at n ms d) n os to j

@@ -22,7 +22,8 @@ use Rattle.encode_data.proofs.Spans.{rises, ends-within}
 use Rattle.encode_data.proofs.Summing.{so_far_lem, so_far_all}
 use Rattle.table.specs.Table.{Table}
 use Rattle.table.specs.Calls.{starts_at, table_of}
-use Rattle.table_make.specs.Rested.{rest_mask, size_at, start_at, rest_table}
+use Rattle.rest_masks.specs.Rested.{rest_mask}
+use Rattle.table_make.specs.Rested.{size_at, start_at, rest_table}
 
 -- tables are equal by their parts
 pub table_path : {a a' b b' c c' d d' : List ℕ} → a ≡ a' → b ≡ b' → c ≡ c' → d ≡ d'

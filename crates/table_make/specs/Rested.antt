@@ -10,21 +10,10 @@ use Rattle.array.specs.Content.{Content}
 use Rattle.array.specs.Buffers.{if_room}
 use Rattle.array.specs.Places.{offset_at, step_at, bytes_at, values_at, mask_at, planes_by, shown_at}
 use Rattle.live_cells.specs.Live.{live_at}
+use Rattle.rest_masks.specs.Rested.{rest_planes}
 use Rattle.table.specs.Table.{Table}
-use Rattle.table.specs.Calls.{starts_at, TableLengths, table_lengths, table_enough_test, table_after}
-
--- ---- masks
-
--- of cell j at level l: it stays where it is shown
-abbrev pub rest_mask : ℕ → List ℕ → ℕ → ℕ → ℕ
-rest_mask n ms l j = pick (shown_at n ms l j) (mask_at n ms l j) 0
-
-abbrev pub rest_planes : ℕ → List ℕ → ℕ → List ℕ
-rest_planes n ms d = planes_by (rest_mask n ms) d 0 (from 0 n)
-
--- of cell j in the plane behind the one at `at`: it stays where the byte above it is set
-abbrev pub kept_at : ℕ → List ℕ → List ℕ → ℕ → ℕ → ℕ
-kept_at n out ms at j = pick (set_test (get_or out (at + j) 0)) (get_or ms (at + n + j) 0) 0
+use Rattle.table.specs.declared.answer.TableLengths.{TableLengths}
+use Rattle.table.specs.Calls.{starts_at, table_lengths, table_enough_test, table_after}
 
 -- ---- n cells of d levels: cell j has bytes where all its masks are set, and starts behind those of the cells before it
 

@@ -15,12 +15,11 @@ ghost use Rattle.table_make.specs.Rested.{rest_store, rest_table, Held, put_tabl
 
 use crate::put::{put_masks, put_places};
 use array::kind::Kind;
-use array::refusal;
+use array::refusal::Refusal;
 use live_cells::{Counted, Level};
-use table::answer::WrittenTable;
+use table::answer::TableLengths;
 use table_kind::{count_ok, is_table_kind, store_ok};
 use valid::array_bytes;
-use valid::array_bytes::Checked;
 
 // Whether the values of the `count` cells that are shown have room. Where all values have it, nothing need be summed up.
 fn has_room(
@@ -58,7 +57,7 @@ fn make_valid(
     out_starts: &mut [u64],
     out_lengths: &mut [u64],
     store: &mut [u8],
-) -> WrittenTable
+) -> Result<TableLengths, Refusal>
     requires { Held depth cells (content_array masks.now values.now offsets.now) }
     ensures { outcome_table result out_masks.new out_starts.new out_lengths.new store.new
         ≡ put_table (rest_table depth cells (content_array masks.now values.now offsets.now))
@@ -66,13 +65,13 @@ fn make_valid(
 {
     let planes = depth * cells;
     if out_masks.len() < planes {
-        return WrittenTable::Refused(refusal::OUTPUT);
+        return Err(Refusal::Output);
     }
     if out_starts.len() < cells {
-        return WrittenTable::Refused(refusal::OUTPUT);
+        return Err(Refusal::Output);
     }
     if out_lengths.len() < cells {
-        return WrittenTable::Refused(refusal::OUTPUT);
+        return Err(Refusal::Output);
     }
     let live = Level {
         masks,
@@ -89,12 +88,17 @@ fn make_valid(
         live.count,
         store.len(),
     ) {
-        return WrittenTable::Refused(refusal::OUTPUT);
+        return Err(Refusal::Output);
     }
     put_masks(out_masks, masks, cells, depth);
     put_places(out_starts, out_lengths, offsets, masks, cells, depth);
     let bytes = encode_data::put_live_data(store, 0, values, offsets, live);
-    WrittenTable::Lengths(planes, cells, cells, bytes)
+    Ok(TableLengths {
+        masks: planes,
+        starts: cells,
+        lengths: cells,
+        store: bytes,
+    })
 }
 
 // Makes a working table of an array's rest form, packed in cell order. Refusals 1, 2, 4, 5 and 6, in this order; nothing is stored before
@@ -109,23 +113,20 @@ pub fn make_table(
     out_starts: &mut [u64],
     out_lengths: &mut [u64],
     store: &mut [u8],
-) -> WrittenTable
+) -> Result<TableLengths, Refusal>
     ensures { outcome_table result out_masks.new out_starts.new out_lengths.new store.new
         ≡ made (kind_of kind) cells (content_array masks.now values.now offsets.now)
         (table_by out_masks.old out_starts.old out_lengths.old store.old) }
 {
     if !is_table_kind(kind) {
-        return WrittenTable::Refused(refusal::KIND);
+        return Err(Refusal::Kind);
     }
     if !count_ok(cells) {
-        return WrittenTable::Refused(refusal::SHAPE);
+        return Err(Refusal::Shape);
     }
-    let checked = array_bytes::check_array(kind, cells, masks, values, offsets);
-    if let Checked::Refused(number) = checked {
-        return WrittenTable::Refused(number);
-    }
+    array_bytes::check_array(kind, cells, masks, values, offsets)?;
     if !store_ok(store.len()) {
-        return WrittenTable::Refused(refusal::SIZE);
+        return Err(Refusal::Size);
     }
     let depth = kind.depth as usize;
     make_valid(

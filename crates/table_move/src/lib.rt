@@ -30,6 +30,7 @@ pub fn move_down(store: &mut [u8], to: usize, from: usize, n: usize)
     ensures { store.new ≡ over_at to (take n (drop from store.old)) store.old }
 {
     let mut done: usize = 0;
+    // `(0..n).step_by(256)` would take the last block too, whose size is its own: the others are of a size that the compiler knows
     while n - done > 256 {
         move_few(store, to + done, from + done, 256);
         done += 256;
@@ -51,10 +52,9 @@ pub fn move_cells(
         × InOrder (length starts.old) (table_by [] starts.old lengths.now store.old) (take count order.now) }
     ensures { Moved most (length starts.old) starts.old lengths.now store.old result starts.new store.new }
 {
-    let mut i = 0;
     let mut to: usize = 0;
     let mut moved: usize = 0;
-    while i < count {
+    for i in 0..count {
         if moved == most {
             return moved;
         }
@@ -67,7 +67,6 @@ pub fn move_cells(
             moved += 1;
         }
         to += n;
-        i += 1;
     }
     moved
 }

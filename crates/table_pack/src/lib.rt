@@ -7,13 +7,12 @@ ghost use Rattle.table.specs.Calls.{most_test, cells_packed};
 ghost use Rattle.table.specs.Meaning.{table_by, outcome_packed};
 ghost use Rattle.table_pack.specs.Asked.{Asked};
 
-use array::answer::Written;
 use array::kind::Kind;
-use array::refusal;
-use table_check::{Order, check_cells};
+use array::refusal::Refusal;
+use table_check::check_cells;
 use table_kind::{count_ok, is_table_kind, store_ok};
 use table_move::move_cells;
-use table_order::{FEW, few, many};
+use table_order::{FEW, MANY};
 
 // Most cells that a call may be asked to move.
 const MOST_MOVED: usize = 256;
@@ -35,26 +34,24 @@ fn pack_with(
     store: &mut [u8],
     most: usize,
     order: &mut [u16],
-) -> Written
+) -> Result<usize, Refusal>
     requires { Asked (kind_of kind) cells most × (cells ≤ length order.old) }
     ensures { outcome_packed result masks.now starts.new lengths.now store.new
         ≡ cells_packed (kind_of kind) cells (table_by masks.now starts.old lengths.now store.old) most }
 {
     let depth = kind.depth as usize;
     let lies = check_cells(depth, cells, masks, starts, lengths, store, order);
-    match lies {
-        Order::Broken => Written::Refused(refusal::CONTENT),
-        Order::Lies(count) => {
-            if !store_ok(store.len()) {
-                return Written::Refused(refusal::SIZE);
-            }
-            Written::Length(move_cells(starts, lengths, store, order, count, most))
-        }
+    let Some(count) = lies else {
+        return Err(Refusal::Content);
+    };
+    if !store_ok(store.len()) {
+        return Err(Refusal::Size);
     }
+    Ok(move_cells(starts, lengths, store, order, count, most))
 }
 
-// The same with room for the order of few cells, so that little is cleared for a small table.
-fn pack_few(
+// The same with room for the order of so many cells: little is cleared for a small table.
+fn pack_in<const ROOM: usize>(
     kind: Kind,
     cells: usize,
     masks: &[u8],
@@ -62,30 +59,12 @@ fn pack_few(
     lengths: &[u64],
     store: &mut [u8],
     most: usize,
-) -> Written
-    requires { Asked (kind_of kind) cells most × (cells ≤ 2048) }
+) -> Result<usize, Refusal>
+    requires { Asked (kind_of kind) cells most × (cells ≤ ROOM) × (ROOM ≤ 65536) }
     ensures { outcome_packed result masks.now starts.new lengths.now store.new
         ≡ cells_packed (kind_of kind) cells (table_by masks.now starts.old lengths.now store.old) most }
 {
-    let mut order = few();
-    pack_with(kind, cells, masks, starts, lengths, store, most, &mut order)
-}
-
-// The same with room for the order of any table.
-fn pack_many(
-    kind: Kind,
-    cells: usize,
-    masks: &[u8],
-    starts: &mut [u64],
-    lengths: &[u64],
-    store: &mut [u8],
-    most: usize,
-) -> Written
-    requires { Asked (kind_of kind) cells most }
-    ensures { outcome_packed result masks.now starts.new lengths.now store.new
-        ≡ cells_packed (kind_of kind) cells (table_by masks.now starts.old lengths.now store.old) most }
-{
-    let mut order = many();
+    let mut order = [0u16; ROOM];
     pack_with(kind, cells, masks, starts, lengths, store, most, &mut order)
 }
 
@@ -99,21 +78,21 @@ pub fn pack_table(
     lengths: &[u64],
     store: &mut [u8],
     most: usize,
-) -> Written
+) -> Result<usize, Refusal>
     ensures { outcome_packed result masks.now starts.new lengths.now store.new
         ≡ cells_packed (kind_of kind) cells (table_by masks.now starts.old lengths.now store.old) most }
 {
     if !is_table_kind(kind) {
-        return Written::Refused(refusal::KIND);
+        return Err(Refusal::Kind);
     }
     if !most_ok(most) {
-        return Written::Refused(refusal::KIND);
+        return Err(Refusal::Kind);
     }
     if !count_ok(cells) {
-        return Written::Refused(refusal::SHAPE);
+        return Err(Refusal::Shape);
     }
     if cells <= FEW {
-        return pack_few(kind, cells, masks, starts, lengths, store, most);
+        return pack_in::<FEW>(kind, cells, masks, starts, lengths, store, most);
     }
-    pack_many(kind, cells, masks, starts, lengths, store, most)
+    pack_in::<MANY>(kind, cells, masks, starts, lengths, store, most)
 }

@@ -25,7 +25,8 @@ use Rattle.table.proofs.Packing.{top_least}
 use Rattle.table.proofs.Setting.{settles}
 use Rattle.table.proofs.Foreseeing.{lies_of, lying_sum, unpacked_is}
 use Rattle.table_check.specs.Check.{Reached}
-use Rattle.table_setting.specs.Fit.{Fitting, fitted}
+use Rattle.table_setting.specs.declared.fit.Fitting.{Fitting}
+use Rattle.table_setting.specs.Fit.{fitted}
 use Rattle.table_setting.specs.Settle.{Sound, Ready, settled_by, setting_answer}
 use Rattle.table_setting.proofs.Judging.{ready, others_known, fitted_is}
 use Rattle.table_preview.specs.Others.{Walkable, Found}

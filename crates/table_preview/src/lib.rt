@@ -3,20 +3,20 @@
 
 ghost use Rattle.std.specs.Prelude.{◌≡◌, ◌+◌, ◌≤◌, ◌<◌, ◌^◌, length};
 ghost use Rattle.array.specs.Answer.{map_answer};
-ghost use Rattle.array.specs.Meaning.{kind_of};
+ghost use Rattle.array.specs.Meaning.{kind_of, told};
 ghost use Rattle.table.specs.Table.{TableKind, CountOk};
 ghost use Rattle.table.specs.Calls.{looked_at, previewed};
-ghost use Rattle.table.specs.Meaning.{table_by, told_preview};
+ghost use Rattle.table.specs.Meaning.{table_by};
 ghost use Rattle.table.specs.Walk.{InOrder, unpacked_by};
 ghost use Rattle.table_setting.specs.Settle.{Sound, setting_answer};
 
 use array::kind::Kind;
-use array::refusal;
-use table::answer::Previewed;
-use table_check::{Order, check_cells};
+use array::refusal::Refusal;
+use table::answer::Preview;
+use table_check::check_cells;
 use table_kind::{count_ok, is_table_kind};
-use table_order::{FEW, few, many};
-use table_setting::fit::{Fitted, fit};
+use table_order::{FEW, MANY};
+use table_setting::fit::fit;
 use table_setting::masks;
 
 pub mod others;
@@ -47,22 +47,22 @@ fn preview_sound(
     cell: usize,
     cell_masks: &[u8],
     value: &[u8],
-) -> Previewed
+) -> Result<Preview, Refusal>
     requires { Sound (length starts.now) (table_by masks.now starts.now lengths.now store.now) cell_masks.now
         × InOrder (length starts.now) (table_by masks.now starts.now lengths.now store.now) order.now }
-    ensures { told_preview result ≡ map_answer (looked_at (length starts.now))
+    ensures { told result ≡ map_answer (looked_at (length starts.now))
         (setting_answer cell cell_masks.now value.now (table_by masks.now starts.now lengths.now store.now)) }
 {
     let room = store.len();
-    let fitted = fit(lengths, room, cell, cell_masks, value.len());
-    match fitted {
-        Fitted::Refused(e) => Previewed::Refused(e),
-        Fitted::Fits(size, total) => {
-            let found = others::look_at(starts, lengths, order, cell);
-            let unpacked = unpacked_after(found.unpacked, found.top, total, size, room);
-            Previewed::After(total + size, unpacked)
-        }
-    }
+    let fitting = fit(lengths, room, cell, cell_masks, value.len())?;
+    let size = fitting.size;
+    let total = fitting.others;
+    let found = others::look_at(starts, lengths, order, cell);
+    let unpacked = unpacked_after(found.unpacked, found.top, total, size, room);
+    Ok(Preview {
+        total: total + size,
+        unpacked,
+    })
 }
 
 // The same of a sound kind and count: 4 before them. `order` has room for the cells as they lie.
@@ -78,57 +78,33 @@ fn preview_with(
     cell_masks: &[u8],
     value: &[u8],
     order: &mut [u16],
-) -> Previewed
+) -> Result<Preview, Refusal>
     requires { TableKind (kind_of kind) × CountOk cells × (cells ≤ length order.old) }
-    ensures { told_preview result ≡ previewed (kind_of kind) cells (table_by masks.now starts.now lengths.now store.now)
+    ensures { told result ≡ previewed (kind_of kind) cells (table_by masks.now starts.now lengths.now store.now)
         cell cell_masks.now value.now }
 {
     let depth = kind.depth as usize;
     let lies = check_cells(depth, cells, masks, starts, lengths, store, order);
-    match lies {
-        Order::Broken => Previewed::Refused(refusal::CONTENT),
-        Order::Lies(count) => {
-            if !masks::are_sound(cell_masks, depth) {
-                return Previewed::Refused(refusal::CONTENT);
-            }
-            preview_sound(
-                masks,
-                starts,
-                lengths,
-                store,
-                &order[..count],
-                cell,
-                cell_masks,
-                value,
-            )
-        }
+    let Some(count) = lies else {
+        return Err(Refusal::Content);
+    };
+    if !masks::are_sound(cell_masks, depth) {
+        return Err(Refusal::Content);
     }
-}
-
-// The same with room for the order of few cells, so that little is cleared for a small table.
-fn preview_few(
-    kind: Kind,
-    cells: usize,
-    masks: &[u8],
-    starts: &[u64],
-    lengths: &[u64],
-    store: &[u8],
-    cell: usize,
-    cell_masks: &[u8],
-    value: &[u8],
-) -> Previewed
-    requires { TableKind (kind_of kind) × CountOk cells × (cells ≤ 2048) }
-    ensures { told_preview result ≡ previewed (kind_of kind) cells (table_by masks.now starts.now lengths.now store.now)
-        cell cell_masks.now value.now }
-{
-    let mut order = few();
-    preview_with(
-        kind, cells, masks, starts, lengths, store, cell, cell_masks, value, &mut order,
+    preview_sound(
+        masks,
+        starts,
+        lengths,
+        store,
+        &order[..count],
+        cell,
+        cell_masks,
+        value,
     )
 }
 
-// The same with room for the order of any table.
-fn preview_many(
+// The same with room for the order of so many cells: little is cleared for a small table.
+fn preview_in<const ROOM: usize>(
     kind: Kind,
     cells: usize,
     masks: &[u8],
@@ -138,12 +114,12 @@ fn preview_many(
     cell: usize,
     cell_masks: &[u8],
     value: &[u8],
-) -> Previewed
-    requires { TableKind (kind_of kind) × CountOk cells }
-    ensures { told_preview result ≡ previewed (kind_of kind) cells (table_by masks.now starts.now lengths.now store.now)
+) -> Result<Preview, Refusal>
+    requires { TableKind (kind_of kind) × CountOk cells × (cells ≤ ROOM) × (ROOM ≤ 65536) }
+    ensures { told result ≡ previewed (kind_of kind) cells (table_by masks.now starts.now lengths.now store.now)
         cell cell_masks.now value.now }
 {
-    let mut order = many();
+    let mut order = [0u16; ROOM];
     preview_with(
         kind, cells, masks, starts, lengths, store, cell, cell_masks, value, &mut order,
     )
@@ -161,22 +137,22 @@ pub fn preview_cell(
     cell: usize,
     cell_masks: &[u8],
     value: &[u8],
-) -> Previewed
-    ensures { told_preview result ≡ previewed (kind_of kind) cells (table_by masks.now starts.now lengths.now store.now)
+) -> Result<Preview, Refusal>
+    ensures { told result ≡ previewed (kind_of kind) cells (table_by masks.now starts.now lengths.now store.now)
         cell cell_masks.now value.now }
 {
     if !is_table_kind(kind) {
-        return Previewed::Refused(refusal::KIND);
+        return Err(Refusal::Kind);
     }
     if !count_ok(cells) {
-        return Previewed::Refused(refusal::SHAPE);
+        return Err(Refusal::Shape);
     }
     if cells <= FEW {
-        return preview_few(
+        return preview_in::<FEW>(
             kind, cells, masks, starts, lengths, store, cell, cell_masks, value,
         );
     }
-    preview_many(
+    preview_in::<MANY>(
         kind, cells, masks, starts, lengths, store, cell, cell_masks, value,
     )
 }

@@ -4,8 +4,6 @@ ghost use Rattle.array.specs.Lists.{pick};
 ghost use Rattle.array.specs.Places.{offset_at};
 ghost use Rattle.table_preview.specs.Others.{Walkable, Found};
 
-use table_sums::greater;
-
 #[derive(Clone, Copy)]
 pub struct Others {
     pub unpacked: usize,
@@ -32,18 +30,16 @@ pub fn look_at(starts: &[u64], lengths: &[u64], order: &[u16], cell: usize) -> O
     let mut unpacked: usize = 0;
     let mut packed: usize = 0;
     let mut top: usize = 0;
-    let mut i: usize = 0;
-    while i < order.len() {
-        let j = order[i] as usize;
+    for number in order {
+        let j = *number as usize;
         let other = j != cell;
         if other {
             let start = starts[j] as usize;
             let size = lengths[j] as usize;
             unpacked = counted(unpacked, start, packed);
             packed += size;
-            top = greater(top, start + size);
+            top = top.max(start + size);
         }
-        i += 1;
     }
     Others { unpacked, top }
 }

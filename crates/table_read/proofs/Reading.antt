@@ -87,6 +87,12 @@ pub record Reading (n : ℕ) (t : Table) (v₀ o₀ v o : List ℕ) (at to first
   pub values : Laying (joined (values_of n t)) v₀ 0 v to (waiting t first size ++ joined (values_from n t at))
   pub offsets : Laying (offsets_of (values_of n t)) o₀ 0 o at (offsets_from n t at (to + size))
 
+-- at the last cell
+pub reading_ended : {n : ℕ} {t : Table} {v₀ o₀ v o : List ℕ} {at to first size : ℕ} → Reading n t v₀ o₀ v o at to first size → n ≤ at
+    → Reading n t v₀ o₀ v o n to first size
+reading_ended {n} {t} {v₀} {o₀} {v} {o} {to = to} {first = first} {size = size} r h =
+    subst (λ (k : ℕ). Reading n t v₀ o₀ v o k to first size) (omega (arith, r.within)) r
+
 from_zero : (n : ℕ) (t : Table) → values_of n t ≡ values_from n t 0
 from_zero n t = let e : n ≡ n - 0 = omega arith in ap (λ (m : ℕ). map (bytes_of t) (from 0 m)) e
 

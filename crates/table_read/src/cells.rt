@@ -1,26 +1,11 @@
-// The bytes of a table's cells: counted, and copied end to end.
-ghost use Rattle.std.specs.Prelude.{◌≡◌, ◌||◌, ◌^◌, ◌<◌, eqb};
+// The bytes of a table's cells, copied end to end.
+ghost use Rattle.std.specs.Prelude.{◌≡◌, ◌||◌, eqb};
 ghost use Rattle.array.specs.Lists.{joined};
 ghost use Rattle.array.specs.Offsets.{offsets_of};
 ghost use Rattle.array.specs.Buffers.{over};
-ghost use Rattle.array.specs.Places.{sum};
 ghost use Rattle.table_read.specs.Read.{cells_by, values_of, CellsAsked};
 
 use buffer::copy;
-
-// How many bytes the cells have.
-pub fn count_bytes(lengths: &[u64]) -> usize
-    requires { sum lengths.now < 2 ^ 64 }
-    ensures { result ≡ sum lengths.now }
-{
-    let mut total: usize = 0;
-    let mut at: usize = 0;
-    while at < lengths.len() {
-        total += lengths[at] as usize;
-        at += 1;
-    }
-    total
-}
 
 // Whether a cell goes on where the bytes before it end. One with none goes anywhere.
 fn goes_on(start: usize, size: usize, end: usize) -> bool
@@ -45,11 +30,10 @@ pub fn copy_values(
     ensures offsets { out_offsets.new
         ≡ over (offsets_of (values_of cells (cells_by starts.now lengths.now store.now))) out_offsets.old }
 {
-    let mut at: usize = 0;
     let mut to: usize = 0;
     let mut first: usize = 0;
     let mut waiting: usize = 0;
-    while at < cells {
+    for at in 0..cells {
         let start = starts[at] as usize;
         let size = lengths[at] as usize;
         if !goes_on(start, size, first + waiting) {
@@ -60,8 +44,7 @@ pub fn copy_values(
         }
         out_offsets[at] = (to + waiting) as u64;
         waiting += size;
-        at += 1;
     }
     copy::copy_many(out_values, to, store, first, waiting);
-    out_offsets[at] = (to + waiting) as u64;
+    out_offsets[cells] = (to + waiting) as u64;
 }

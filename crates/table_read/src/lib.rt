@@ -12,14 +12,13 @@ ghost use Rattle.table.specs.Calls.{read_out};
 ghost use Rattle.table.specs.Meaning.{table_by};
 ghost use Rattle.table_read.specs.Read.{read_by, ReadAsked};
 
-use crate::cells::{copy_values, count_bytes};
-use array::answer::WrittenArray;
+use crate::cells::copy_values;
+use array::answer::Lengths;
 use array::kind::Kind;
-use array::refusal;
+use array::refusal::Refusal;
 use buffer::copy;
-use table_check::Order;
 use table_kind::{count_ok, is_table_kind, store_ok};
-use table_order::{FEW, few, many};
+use table_order::{FEW, MANY};
 
 // The cells of a table that keeps the rules: 6, or the masks as they are, the values end to end and the offsets.
 fn read_checked(
@@ -31,27 +30,31 @@ fn read_checked(
     out_masks: &mut [u8],
     out_values: &mut [u8],
     out_offsets: &mut [u64],
-) -> WrittenArray
+) -> Result<Lengths, Refusal>
     requires { ReadAsked cells (table_by masks.now starts.now lengths.now store.now) }
     ensures { outcome_array result out_masks.new out_values.new out_offsets.new
         ≡ put_into (read_by cells (table_by masks.now starts.now lengths.now store.now))
         (content_array out_masks.old out_values.old out_offsets.old) }
 {
     let planes = masks.len();
-    let bytes = count_bytes(lengths);
+    let bytes = lengths.iter().sum::<u64>() as usize;
     let count = cells + 1;
     if out_masks.len() < planes {
-        return WrittenArray::Refused(refusal::OUTPUT);
+        return Err(Refusal::Output);
     }
     if out_values.len() < bytes {
-        return WrittenArray::Refused(refusal::OUTPUT);
+        return Err(Refusal::Output);
     }
     if out_offsets.len() < count {
-        return WrittenArray::Refused(refusal::OUTPUT);
+        return Err(Refusal::Output);
     }
     copy::copy_many(out_masks, 0, masks, 0, planes);
     copy_values(cells, starts, lengths, store, out_values, out_offsets);
-    WrittenArray::Lengths(planes, bytes, count)
+    Ok(Lengths {
+        masks: planes,
+        values: bytes,
+        offsets: count,
+    })
 }
 
 // The same of a table of a sound kind and count: 4, 5, and then 6. The lying order is found in `order`, which nobody reads here.
@@ -67,7 +70,7 @@ fn read_with(
     out_values: &mut [u8],
     out_offsets: &mut [u64],
     order: &mut [u16],
-) -> WrittenArray
+) -> Result<Lengths, Refusal>
     requires { TableKind (kind_of kind) × CountOk cells × (cells ≤ length order.old) }
     ensures { outcome_array result out_masks.new out_values.new out_offsets.new
         ≡ read_out (kind_of kind) cells (table_by masks.now starts.now lengths.now store.now)
@@ -75,46 +78,13 @@ fn read_with(
 {
     let depth = kind.depth as usize;
     let lies = table_check::check_cells(depth, cells, masks, starts, lengths, store, order);
-    match lies {
-        Order::Broken => WrittenArray::Refused(refusal::CONTENT),
-        Order::Lies(_) => {
-            if !store_ok(store.len()) {
-                return WrittenArray::Refused(refusal::SIZE);
-            }
-            read_checked(
-                cells,
-                masks,
-                starts,
-                lengths,
-                store,
-                out_masks,
-                out_values,
-                out_offsets,
-            )
-        }
+    let Some(_) = lies else {
+        return Err(Refusal::Content);
+    };
+    if !store_ok(store.len()) {
+        return Err(Refusal::Size);
     }
-}
-
-// The same with room for the order of few cells, so that little is cleared for a small table.
-fn read_few(
-    kind: Kind,
-    cells: usize,
-    masks: &[u8],
-    starts: &[u64],
-    lengths: &[u64],
-    store: &[u8],
-    out_masks: &mut [u8],
-    out_values: &mut [u8],
-    out_offsets: &mut [u64],
-) -> WrittenArray
-    requires { TableKind (kind_of kind) × CountOk cells × (cells ≤ 2048) }
-    ensures { outcome_array result out_masks.new out_values.new out_offsets.new
-        ≡ read_out (kind_of kind) cells (table_by masks.now starts.now lengths.now store.now)
-        (content_array out_masks.old out_values.old out_offsets.old) }
-{
-    let mut order = few();
-    read_with(
-        kind,
+    read_checked(
         cells,
         masks,
         starts,
@@ -123,12 +93,11 @@ fn read_few(
         out_masks,
         out_values,
         out_offsets,
-        &mut order,
     )
 }
 
-// The same with room for the order of any table.
-fn read_many(
+// The same with room for the order of so many cells: little is cleared for a small table.
+fn read_in<const ROOM: usize>(
     kind: Kind,
     cells: usize,
     masks: &[u8],
@@ -138,13 +107,13 @@ fn read_many(
     out_masks: &mut [u8],
     out_values: &mut [u8],
     out_offsets: &mut [u64],
-) -> WrittenArray
-    requires { TableKind (kind_of kind) × CountOk cells }
+) -> Result<Lengths, Refusal>
+    requires { TableKind (kind_of kind) × CountOk cells × (cells ≤ ROOM) × (ROOM ≤ 65536) }
     ensures { outcome_array result out_masks.new out_values.new out_offsets.new
         ≡ read_out (kind_of kind) cells (table_by masks.now starts.now lengths.now store.now)
         (content_array out_masks.old out_values.old out_offsets.old) }
 {
-    let mut order = many();
+    let mut order = [0u16; ROOM];
     read_with(
         kind,
         cells,
@@ -170,19 +139,19 @@ pub fn read_table(
     out_masks: &mut [u8],
     out_values: &mut [u8],
     out_offsets: &mut [u64],
-) -> WrittenArray
+) -> Result<Lengths, Refusal>
     ensures { outcome_array result out_masks.new out_values.new out_offsets.new
         ≡ read_out (kind_of kind) cells (table_by masks.now starts.now lengths.now store.now)
         (content_array out_masks.old out_values.old out_offsets.old) }
 {
     if !is_table_kind(kind) {
-        return WrittenArray::Refused(refusal::KIND);
+        return Err(Refusal::Kind);
     }
     if !count_ok(cells) {
-        return WrittenArray::Refused(refusal::SHAPE);
+        return Err(Refusal::Shape);
     }
     if cells <= FEW {
-        return read_few(
+        return read_in::<FEW>(
             kind,
             cells,
             masks,
@@ -194,7 +163,7 @@ pub fn read_table(
             out_offsets,
         );
     }
-    read_many(
+    read_in::<MANY>(
         kind,
         cells,
         masks,

@@ -9,7 +9,8 @@ use Rattle.array.specs.Kind.{Kind}
 use Rattle.array.specs.Cells.{Value}
 use Rattle.table.specs.Table.{Table}
 use Rattle.table.specs.Calls.{set_answer, cell_set}
-use Rattle.table_setting.specs.Fit.{Fitting, fitted}
+use Rattle.table_setting.specs.declared.fit.Fitting.{Fitting}
+use Rattle.table_setting.specs.Fit.{fitted}
 use Rattle.table_setting.specs.Settle.{Sound, settled_by}
 use Rattle.table_setting.proofs.Judging.{fitted_is}
 use Rattle.table_set.specs.Settle.{left, setting_by}

@@ -10,12 +10,11 @@ ghost use Rattle.table_setting.specs.Settle.{Sound, Ready, settled_by};
 ghost use Rattle.table_set.specs.Settle.{setting_by};
 
 use array::kind::Kind;
-use array::refusal;
-use table::answer::Settled;
-use table_check::{Order, check_cells};
+use array::refusal::Refusal;
+use table_check::check_cells;
 use table_kind::{count_ok, is_table_kind};
-use table_order::{FEW, few, many};
-use table_setting::fit::{Fitted, fit};
+use table_order::{FEW, MANY};
+use table_setting::fit::fit;
 use table_setting::masks;
 
 // The setting made, in a table that has room for it: the old bytes are given up, and `size` new ones put in.
@@ -54,21 +53,16 @@ fn set_sound(
     cell: usize,
     cell_masks: &[u8],
     value: &[u8],
-) -> Settled
+) -> Result<(), Refusal>
     requires { Sound (length order.old) (table_by masks.old starts.old lengths.old store.old) cell_masks.now }
     ensures { outcome_settled result masks.new starts.new lengths.new store.new
         ≡ setting_by cell cell_masks.now value.now (table_by masks.old starts.old lengths.old store.old) }
 {
-    let fitted = fit(lengths, store.len(), cell, cell_masks, value.len());
-    match fitted {
-        Fitted::Refused(e) => Settled::Refused(e),
-        Fitted::Fits(size, _) => {
-            settle(
-                masks, starts, lengths, store, order, cell, cell_masks, value, size,
-            );
-            Settled::Set
-        }
-    }
+    let fitting = fit(lengths, store.len(), cell, cell_masks, value.len())?;
+    settle(
+        masks, starts, lengths, store, order, cell, cell_masks, value, fitting.size,
+    );
+    Ok(())
 }
 
 // The same of a sound kind and count: 4 before them. `order` has room for the cells as they lie.
@@ -84,7 +78,7 @@ fn set_with(
     cell_masks: &[u8],
     value: &[u8],
     order: &mut [u16],
-) -> Settled
+) -> Result<(), Refusal>
     requires { TableKind (kind_of kind) × CountOk cells × (cells ≤ length order.old) }
     ensures { outcome_settled result masks.new starts.new lengths.new store.new
         ≡ cell_set (kind_of kind) cells (table_by masks.old starts.old lengths.old store.old)
@@ -92,44 +86,19 @@ fn set_with(
 {
     let depth = kind.depth as usize;
     let lies = check_cells(depth, cells, masks, starts, lengths, store, order);
-    match lies {
-        Order::Broken => Settled::Refused(refusal::CONTENT),
-        Order::Lies(_) => {
-            if !masks::are_sound(cell_masks, depth) {
-                return Settled::Refused(refusal::CONTENT);
-            }
-            set_sound(
-                masks, starts, lengths, store, order, cell, cell_masks, value,
-            )
-        }
+    let Some(_) = lies else {
+        return Err(Refusal::Content);
+    };
+    if !masks::are_sound(cell_masks, depth) {
+        return Err(Refusal::Content);
     }
-}
-
-// The same with room for the order of few cells, so that little is cleared for a small table.
-fn set_few(
-    kind: Kind,
-    cells: usize,
-    masks: &mut [u8],
-    starts: &mut [u64],
-    lengths: &mut [u64],
-    store: &mut [u8],
-    cell: usize,
-    cell_masks: &[u8],
-    value: &[u8],
-) -> Settled
-    requires { TableKind (kind_of kind) × CountOk cells × (cells ≤ 2048) }
-    ensures { outcome_settled result masks.new starts.new lengths.new store.new
-        ≡ cell_set (kind_of kind) cells (table_by masks.old starts.old lengths.old store.old)
-        cell cell_masks.now value.now }
-{
-    let mut order = few();
-    set_with(
-        kind, cells, masks, starts, lengths, store, cell, cell_masks, value, &mut order,
+    set_sound(
+        masks, starts, lengths, store, order, cell, cell_masks, value,
     )
 }
 
-// The same with room for the order of any table.
-fn set_many(
+// The same with room for the order of so many cells: little is cleared for a small table.
+fn set_in<const ROOM: usize>(
     kind: Kind,
     cells: usize,
     masks: &mut [u8],
@@ -139,13 +108,13 @@ fn set_many(
     cell: usize,
     cell_masks: &[u8],
     value: &[u8],
-) -> Settled
-    requires { TableKind (kind_of kind) × CountOk cells }
+) -> Result<(), Refusal>
+    requires { TableKind (kind_of kind) × CountOk cells × (cells ≤ ROOM) × (ROOM ≤ 65536) }
     ensures { outcome_settled result masks.new starts.new lengths.new store.new
         ≡ cell_set (kind_of kind) cells (table_by masks.old starts.old lengths.old store.old)
         cell cell_masks.now value.now }
 {
-    let mut order = many();
+    let mut order = [0u16; ROOM];
     set_with(
         kind, cells, masks, starts, lengths, store, cell, cell_masks, value, &mut order,
     )
@@ -163,23 +132,23 @@ pub fn set_cell(
     cell: usize,
     cell_masks: &[u8],
     value: &[u8],
-) -> Settled
+) -> Result<(), Refusal>
     ensures { outcome_settled result masks.new starts.new lengths.new store.new
         ≡ cell_set (kind_of kind) cells (table_by masks.old starts.old lengths.old store.old)
         cell cell_masks.now value.now }
 {
     if !is_table_kind(kind) {
-        return Settled::Refused(refusal::KIND);
+        return Err(Refusal::Kind);
     }
     if !count_ok(cells) {
-        return Settled::Refused(refusal::SHAPE);
+        return Err(Refusal::Shape);
     }
     if cells <= FEW {
-        return set_few(
+        return set_in::<FEW>(
             kind, cells, masks, starts, lengths, store, cell, cell_masks, value,
         );
     }
-    set_many(
+    set_in::<MANY>(
         kind, cells, masks, starts, lengths, store, cell, cell_masks, value,
     )
 }

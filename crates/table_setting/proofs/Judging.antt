@@ -15,7 +15,8 @@ use Rattle.array.proofs.Answers.{passed, same_given}
 use Rattle.table.specs.Table.{Table, most_store}
 use Rattle.table.specs.Setting.{setting_of}
 use Rattle.table.proofs.Setting.{sum-set}
-use Rattle.table_setting.specs.Fit.{Fitting, size_by, fitting, fitted}
+use Rattle.table_setting.specs.declared.fit.Fitting.{Fitting}
+use Rattle.table_setting.specs.Fit.{size_by, fitting, fitted}
 use Rattle.table_setting.specs.Settle.{Sound, Ready, settled_by, setting_answer}
 use Rattle.table_setting.proofs.Values.{size_set}
 

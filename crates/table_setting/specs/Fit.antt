@@ -5,11 +5,7 @@ use Rattle.array.specs.Answer.{Answer, gives, unless}
 use Rattle.array.specs.Lists.{pick}
 use Rattle.array.specs.Places.{sum, shown_by}
 use Rattle.table.specs.Table.{most_store}
-
--- how many bytes a setting has, and all other cells
-pub record Fitting : Type 0 where
-  pub size : ℕ
-  pub others : ℕ
+use Rattle.table_setting.specs.declared.fit.Fitting.{Fitting}
 
 -- the bytes of a value count where all levels are set
 abbrev pub size_by : List ℕ → ℕ → ℕ

@@ -1,4 +1,3 @@
 pub mod Masks
 pub mod Fit
 pub mod Settle
-pub mod Meaning

@@ -1,45 +1,44 @@
 // Whether a setting fits: the store's length, the cell's number and the sum of lengths after it.
 ghost use Rattle.std.specs.Prelude.{◌≡◌, ◌≤◌};
 ghost use Rattle.array.specs.Lists.{pick};
+ghost use Rattle.array.specs.Meaning.{told};
 ghost use Rattle.array.specs.Places.{sum};
 ghost use Rattle.table_setting.specs.Fit.{fitted};
-ghost use Rattle.table_setting.specs.Meaning.{told_fit};
 
 use crate::masks;
-use array::refusal;
+use array::refusal::Refusal;
 use table_kind::store_ok;
 use table_sums::sum_of;
 
 // How many bytes the setting has, and how many all other cells have.
-#[derive(Clone, Copy)]
-pub enum Fitted {
-    Fits(usize, usize),
-    Refused(u8),
-}
-
-// A length that counts only where the value is shown.
-fn kept_length(shown: bool, length: usize) -> usize
-    ensures { result ≡ pick shown length 0 }
-{
-    if shown { length } else { 0 }
+#[derive(Clone, Copy, Debug, PartialEq, Eq, Hash)]
+pub struct Fitting {
+    pub size: usize,
+    pub others: usize,
 }
 
 // A setting of `length` value bytes in a table with those lengths and a store of `room` bytes: 5, 15 and 16, or it fits.
-pub fn fit(lengths: &[u64], room: usize, cell: usize, cell_masks: &[u8], length: usize) -> Fitted
+pub fn fit(
+    lengths: &[u64],
+    room: usize,
+    cell: usize,
+    cell_masks: &[u8],
+    length: usize,
+) -> Result<Fitting, Refusal>
     requires { sum lengths.now ≤ room }
-    ensures { told_fit result ≡ fitted lengths.now room cell cell_masks.now length }
+    ensures { told result ≡ fitted lengths.now room cell cell_masks.now length }
 {
     if !store_ok(room) {
-        return Fitted::Refused(refusal::SIZE);
+        return Err(Refusal::Size);
     }
     if lengths.len() <= cell {
-        return Fitted::Refused(table::refusal::CELL);
+        return Err(Refusal::Cell);
     }
     let shown = masks::all_set(cell_masks);
-    let size = kept_length(shown, length);
+    let size = if shown { length } else { 0 };
     let others = sum_of(lengths) - lengths[cell] as usize;
     if room - others < size {
-        return Fitted::Refused(table::refusal::FULL);
+        return Err(Refusal::Full);
     }
-    Fitted::Fits(size, others)
+    Ok(Fitting { size, others })
 }

@@ -38,34 +38,22 @@ pub fn all_set(cell_masks: &[u8]) -> bool
     ensures { result ≡ shown_by (λ l. get_or cell_masks.now l 0) (length cell_masks.now) }
 {
     let mut shown = true;
-    let mut level: usize = 0;
-    while level < cell_masks.len() {
-        shown = still_shown(shown, cell_masks[level]);
-        level += 1;
+    for b in cell_masks {
+        shown = still_shown(shown, *b);
     }
     shown
 }
 
-// A mask byte where it is shown, else 00.
-fn kept(shown: bool, b: u8) -> u8
-    ensures { result ≡ pick shown b 0 }
-{
-    if shown { b } else { 0 }
-}
-
-// Stores the mask bytes of a cell, one in each plane of n bytes.
+// Stores the mask bytes of a cell, one in each plane of n bytes: 00 where it is not shown.
 pub fn put_masks(masks: &mut [u8], n: usize, cell: usize, cell_masks: &[u8])
     requires { (length masks.old ≡ length cell_masks.now * n) × (cell < n) × (n ≤ most_cells) × (length cell_masks.now ≤ 4) }
     ensures { masks.new ≡ masked_by n cell (λ l. get_or cell_masks.now l 0) (length cell_masks.now) masks.old }
 {
     let mut shown = true;
     let mut place = cell;
-    let mut level: usize = 0;
-    while level < cell_masks.len() {
-        let b = cell_masks[level];
-        masks[place] = kept(shown, b);
-        shown = still_shown(shown, b);
+    for b in cell_masks {
+        masks[place] = if shown { *b } else { 0 };
+        shown = still_shown(shown, *b);
         place += n;
-        level += 1;
     }
 }

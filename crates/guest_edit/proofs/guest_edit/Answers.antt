@@ -72,7 +72,7 @@ returns-then-hides c =
     edit_refused kind c.args.cells c.args.rights.now table c.args.cell c.args.cell_masks.now c.args.value.now
     (edit_hidden kind c.args.cells c.args.rights.now table c.args.cell c.args.cell_masks.now c.args.value.now
     sound some_cells some_masks plane (sym hides ∙ c.if-hides.true)
-    ∙ ap (λ (m : ℕ). refuses m) (sym (c.hidden_number.ensures ∙ ap hidden_number c.preview_cell-preview.ensures)))
+    ∙ ap (λ (m : ℕ). refuses m) (sym (c.hidden_refusal.ensures ∙ ap hidden_number c.preview_cell-preview.ensures)))
 
 pub returns : goal.returns
 returns c =

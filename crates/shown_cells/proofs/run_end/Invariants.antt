@@ -1,12 +1,8 @@
 -- `run_end` meets its contract, by the laws of Showing.
 -- Assumes nothing.
-use Prim.Native.Nat.{◌-◌}
 use lib.ListN.{length}
 use Rattle.shown_cells.specs.Shown.{Alike}
 use Rattle.shown_cells.proofs.run_end.Given as goal
 
 abbrev pub invariant-loop-e : goal.invariant-loop-e
 invariant-loop-e l = Alike l.plane l.shown l.i l.e
-
-abbrev pub decreases-loop-e : goal.decreases-loop-e
-decreases-loop-e l = length l.plane - l.e

@@ -4,6 +4,7 @@ use mathlib.Core.Path.{◌≡◌, sym, ◌∙◌}
 use mathlib.Core.Bool.{true}
 use borrow.Author.Tests.{leb-true, not-true, not-false}
 use lib.Dec.{leb}
+use Rattle.std.proofs.lemmas.Result.{err_from_is_err_and}
 use Rattle.array.specs.Limits.{most_cells}
 use Rattle.array.specs.Content.{Content}
 use Rattle.array.specs.Meaning.{kind_of}
@@ -30,22 +31,23 @@ returns-then-not-count_ok c =
     let asked = c.count_ok in
     make_count (kind_of c.args.kind) c.args.cells content lent sound (sym asked.ensures ∙ not-true asked.result c.if-not-count_ok.true-raw)
 
-pub check_array-checked-requires : goal.check_array-checked-requires
-check_array-checked-requires c =
+pub check_array-requires : goal.check_array-requires
+check_array-requires c =
     let counted : count_test c.args.cells ≡ true =
     let asked = c.count_ok in sym asked.ensures ∙ not-false asked.result c.if-not-count_ok.false-raw in
     let n = c.args.cells in
     leb-true n most_cells (right_of (leb 1 n) (leb n most_cells) counted)
 
-pub returns-in-Refused : goal.returns-in-Refused
-returns-in-Refused c =
+pub returns-in_err-check_array : goal.returns-in_err-check_array
+returns-in_err-check_array c =
     let content : Content = content_array c.args.masks.now c.args.values.now c.args.offsets.now in
     let lent : Table = table_by c.args.out_masks.now c.args.out_starts.now c.args.out_lengths.now c.args.store.now in
     let sound : table_kind_test (kind_of c.args.kind) ≡ true =
     let asked = c.is_table_kind in sym asked.ensures ∙ not-false asked.result c.if-not-is_table_kind.false-raw in
     let counted : count_test c.args.cells ≡ true =
     let asked = c.count_ok in sym asked.ensures ∙ not-false asked.result c.if-not-count_ok.false-raw in
-    make_array (kind_of c.args.kind) c.args.cells content lent sound counted c.check_array-checked.ensures c.in-Refused.is
+    let p = err_from_is_err_and c.from_residual.result c.from_residual.ensures.1 in
+    rw (p.1, p.2) (make_array (kind_of c.args.kind) c.args.cells content lent sound counted c.check_array.ensures c.in_err-check_array.was)
 
 pub returns-then-not-store_ok : goal.returns-then-not-store_ok
 returns-then-not-store_ok c =
@@ -56,7 +58,7 @@ returns-then-not-store_ok c =
     let counted : count_test c.args.cells ≡ true =
     let asked = c.count_ok in sym asked.ensures ∙ not-false asked.result c.if-not-count_ok.false-raw in
     let asked = c.store_ok in
-    make_store (kind_of c.args.kind) c.args.cells content lent sound counted c.check_array-checked.ensures c.in_default.is
+    make_store (kind_of c.args.kind) c.args.cells content lent sound counted c.check_array.ensures c.in_ok-check_array.was
     (sym asked.ensures ∙ not-true asked.result c.if-not-store_ok.true-raw)
 
 pub make_valid-requires : goal.make_valid-requires
@@ -67,7 +69,7 @@ make_valid-requires c =
     let asked = c.is_table_kind in sym asked.ensures ∙ not-false asked.result c.if-not-is_table_kind.false-raw in
     let counted : count_test c.args.cells ≡ true =
     let asked = c.count_ok in sym asked.ensures ∙ not-false asked.result c.if-not-count_ok.false-raw in
-    make_held (kind_of c.args.kind) c.args.cells content lent sound counted c.check_array-checked.ensures c.in_default.is
+    make_held (kind_of c.args.kind) c.args.cells content lent sound counted c.check_array.ensures c.in_ok-check_array.was
 
 pub returns : goal.returns
 returns c =
@@ -79,5 +81,5 @@ returns c =
     let asked = c.count_ok in sym asked.ensures ∙ not-false asked.result c.if-not-count_ok.false-raw in
     let asked = c.store_ok in
     c.make_valid.ensures
-    ∙ make_rest (kind_of c.args.kind) c.args.cells content lent sound counted c.check_array-checked.ensures c.in_default.is
+    ∙ make_rest (kind_of c.args.kind) c.args.cells content lent sound counted c.check_array.ensures c.in_ok-check_array.was
     (sym asked.ensures ∙ not-false asked.result c.if-not-store_ok.false-raw)

@@ -120,9 +120,6 @@ overflow_add-to c =
     let next : drop c.loop-i.i lie ≡ cell ∷ drop (suc c.loop-i.i) lie = next_is c.args.order.now c.loop-i-test.true c.requires.1 in
     omega (arith, next_room ordered c.loop-i.invariant next, next_fits ordered c.loop-i.invariant next, c.loop-i.invariant.size)
 
-pub overflow_add-i : goal.overflow_add-i
-overflow_add-i c = omega (arith, c.loop-i-test.true)
-
 pub loop-i-preserved : goal.loop-i-preserved
 loop-i-preserved c =
     let table : Table = let a = c.args in table_by [] a.starts.now a.lengths.now a.store.now in

@@ -1,8 +1,10 @@
 -- `table_pack::pack_table` meets its contract: refusals 1 and 2, each in its turn, and then what pack_with leaves.
 -- Assumes nothing.
 use mathlib.Core.Path.{◌≡◌, sym, ◌∙◌}
+use native.Mathlib.Omega.{arith}
 use mathlib.Core.Bool.{true, false}
 use borrow.Author.Tests.{not-true, not-false}
+use Rattle.array.specs.Limits.{most_cells}
 use Rattle.array.specs.Meaning.{kind_of}
 use Rattle.array.proofs.Rules.{both}
 use Rattle.table.specs.Table.{Table, table_kind_test, count_test}
@@ -36,8 +38,8 @@ returns-then-not-count_ok c =
     no_count (kind_of c.args.kind) c.args.cells table c.args.most (both kind most)
     (sym c.count_ok.ensures ∙ not-true c.count_ok.result c.if-not-count_ok.true-raw)
 
-pub pack_few-requires : goal.pack_few-requires
-pack_few-requires c =
+pub pack_in-requires : goal.pack_in-requires
+pack_in-requires c =
     let kind : table_kind_test (kind_of c.args.kind) ≡ true =
     sym c.is_table_kind.ensures ∙ not-false c.is_table_kind.result c.if-not-is_table_kind.false-raw in
     let most : most_test c.args.most ≡ true = sym c.most_ok.ensures ∙ not-false c.most_ok.result c.if-not-most_ok.false-raw in
@@ -45,10 +47,11 @@ pack_few-requires c =
     let asked : Asked (kind_of c.args.kind) c.args.cells c.args.most =
     let m = most_ok c.args.most most in
     record { kind = table_kind_ok (kind_of c.args.kind) kind; some = m.0; few = m.1; count = count_ok c.args.cells count } in
-    (asked, c.if-cells-le-FEW.true)
+    (asked, c.if-cells-le-FEW.true, omega arith)
 
-pub pack_many-requires : goal.pack_many-requires
-pack_many-requires c =
+pub pack_in-requires-2 : goal.pack_in-requires-2
+unfolding most_cells
+pack_in-requires-2 c =
     let kind : table_kind_test (kind_of c.args.kind) ≡ true =
     sym c.is_table_kind.ensures ∙ not-false c.is_table_kind.result c.if-not-is_table_kind.false-raw in
     let most : most_test c.args.most ≡ true = sym c.most_ok.ensures ∙ not-false c.most_ok.result c.if-not-most_ok.false-raw in
@@ -56,4 +59,4 @@ pack_many-requires c =
     let asked : Asked (kind_of c.args.kind) c.args.cells c.args.most =
     let m = most_ok c.args.most most in
     record { kind = table_kind_ok (kind_of c.args.kind) kind; some = m.0; few = m.1; count = count_ok c.args.cells count } in
-    asked
+    (asked, omega (arith, asked.count), omega arith)

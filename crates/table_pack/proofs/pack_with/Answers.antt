@@ -10,7 +10,6 @@ use Rattle.array.specs.Kind.{Kind}
 use Rattle.array.specs.Meaning.{kind_of}
 use Rattle.table.specs.Table.{Table, store_test}
 use Rattle.table.specs.Meaning.{table_by}
-use Rattle.table_check.specs.declared.Order.{Order}
 use Rattle.table_check.specs.Told.{ToldOrder, Lain}
 use Rattle.table_pack.proofs.Outcomes.{broken, too_long, packs_moved, may_walk}
 use Rattle.table_pack.proofs.pack_with.Goals as goal
@@ -24,9 +23,9 @@ returns-then-not-store_ok c =
     let order : List ℕ = c.check_cells-lies.new.order in
     let kind : Kind = kind_of c.args.kind in
     let table : Table = table_by c.args.masks.now c.args.starts.now c.args.lengths.now c.args.store.now in
-    let count : ℕ = c.in-Lies.count in
+    let count : ℕ = c.in-Some.count in
     let lain : Lain kind.depth c.args.cells table order count =
-    subst (λ (r : Order). ToldOrder kind.depth c.args.cells table order r) c.in-Lies.is c.check_cells-lies.ensures in
+    c.in-Some.ensures in
     too_long c.requires.0 table lain.sound (sym c.store_ok.ensures ∙ not-true c.store_ok.result c.if-not-store_ok.true-raw)
 
 pub move_cells-requires : goal.move_cells-requires
@@ -34,27 +33,24 @@ move_cells-requires c =
     let order : List ℕ = c.check_cells-lies.new.order in
     let kind : Kind = kind_of c.args.kind in
     let table : Table = table_by c.args.masks.now c.args.starts.now c.args.lengths.now c.args.store.now in
-    let count : ℕ = c.in-Lies.count in
+    let count : ℕ = c.in-Some.count in
     let lain : Lain kind.depth c.args.cells table order count =
-    subst (λ (r : Order). ToldOrder kind.depth c.args.cells table order r) c.in-Lies.is c.check_cells-lies.ensures in
+    c.in-Some.ensures in
     let l = lain in
     (l.sound.lengths_fit ∙ sym l.sound.starts_fit, omega (arith, l.few, c.requires.1, c.check_cells-lies.auto.order), may_walk l.sound l.order)
 
-pub returns-in-Broken : goal.returns-in-Broken
-returns-in-Broken c =
-    let order : List ℕ = c.check_cells-lies.new.order in
-    let kind : Kind = kind_of c.args.kind in
+pub returns-in_default : goal.returns-in_default
+returns-in_default c =
     let table : Table = table_by c.args.masks.now c.args.starts.now c.args.lengths.now c.args.store.now in
-    broken c.requires.0 table
-    (subst (λ (r : Order). ToldOrder kind.depth c.args.cells table order r) c.in-Broken.is c.check_cells-lies.ensures)
+    broken c.requires.0 table c.in_default.ensures
 
-pub returns-else-not-store_ok : goal.returns-else-not-store_ok
-returns-else-not-store_ok c =
+pub returns : goal.returns
+returns c =
     let order : List ℕ = c.check_cells-lies.new.order in
     let kind : Kind = kind_of c.args.kind in
     let table : Table = table_by c.args.masks.now c.args.starts.now c.args.lengths.now c.args.store.now in
-    let count : ℕ = c.in-Lies.count in
+    let count : ℕ = c.in-Some.count in
     let lain : Lain kind.depth c.args.cells table order count =
-    subst (λ (r : Order). ToldOrder kind.depth c.args.cells table order r) c.in-Lies.is c.check_cells-lies.ensures in
+    c.in-Some.ensures in
     let fits : store_test table ≡ true = sym c.store_ok.ensures ∙ not-false c.store_ok.result c.if-not-store_ok.false-raw in
     packs_moved c.requires.0 table lain.sound fits c.move_cells.ensures

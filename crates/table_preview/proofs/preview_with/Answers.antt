@@ -17,7 +17,6 @@ use Rattle.table.specs.Calls.{looked_at}
 use Rattle.table.specs.Meaning.{table_by}
 use Rattle.table.specs.Walk.{InOrder}
 use Rattle.table.proofs.Walk.{in_order}
-use Rattle.table_check.specs.declared.Order.{Order}
 use Rattle.table_check.specs.Told.{Lain, ToldOrder}
 use Rattle.table_setting.specs.Settle.{setting_answer}
 use Rattle.table_setting.proofs.Outcomes.{broken, bad_setting, sound, answer_is}
@@ -34,9 +33,9 @@ returns-then-not-are_sound c =
     let order : List ℕ = c.check_cells-lies.new.order in
     let kind : Kind = kind_of c.args.kind in
     let table : Table = table_by c.args.masks.now c.args.starts.now c.args.lengths.now c.args.store.now in
-    let count : ℕ = c.in-Lies.count in
+    let count : ℕ = c.in-Some.count in
     let lain : Lain kind.depth c.args.cells table order count =
-    subst (λ (r : Order). ToldOrder kind.depth c.args.cells table order r) c.in-Lies.is c.check_cells-lies.ensures in
+    c.in-Some.ensures in
     preview_is kind c.args.cells table c.args.cell c.args.cell_masks.now c.args.value.now
     (bad_setting c.requires.0 c.requires.1 table c.args.cell c.args.cell_masks.now c.args.value.now lain.sound
     (sym c.are_sound.ensures ∙ not-true c.are_sound.result c.if-not-are_sound.true-raw))
@@ -46,31 +45,20 @@ slice_bounds-preview_sound-end c =
     let order : List ℕ = c.check_cells-lies.new.order in
     let kind : Kind = kind_of c.args.kind in
     let table : Table = table_by c.args.masks.now c.args.starts.now c.args.lengths.now c.args.store.now in
-    let count : ℕ = c.in-Lies.count in
+    let count : ℕ = c.in-Some.count in
     let lain : Lain kind.depth c.args.cells table order count =
-    subst (λ (r : Order). ToldOrder kind.depth c.args.cells table order r) c.in-Lies.is c.check_cells-lies.ensures in
+    c.in-Some.ensures in
     let held : count ≤ length order = omega (arith, lain.few, c.requires.2, c.check_cells-lies.auto.order) in
     held
-
-pub slice_bounds-preview_sound-end-in-Lies : goal.slice_bounds-preview_sound-end-in-Lies
-slice_bounds-preview_sound-end-in-Lies c =
-    let order : List ℕ = c.check_cells-lies.new.order in
-    let kind : Kind = kind_of c.args.kind in
-    let table : Table = table_by c.args.masks.now c.args.starts.now c.args.lengths.now c.args.store.now in
-    let count : ℕ = c.in-Lies.count in
-    let lain : Lain kind.depth c.args.cells table order count =
-    subst (λ (r : Order). ToldOrder kind.depth c.args.cells table order r) c.in-Lies.is c.check_cells-lies.ensures in
-    let held : count ≤ length order = omega (arith, lain.few, c.requires.2, c.check_cells-lies.auto.order) in
-    sym (length-take-le count order held)
 
 pub preview_sound-requires : goal.preview_sound-requires
 preview_sound-requires c =
     let order : List ℕ = c.check_cells-lies.new.order in
     let kind : Kind = kind_of c.args.kind in
     let table : Table = table_by c.args.masks.now c.args.starts.now c.args.lengths.now c.args.store.now in
-    let count : ℕ = c.in-Lies.count in
+    let count : ℕ = c.in-Some.count in
     let lain : Lain kind.depth c.args.cells table order count =
-    subst (λ (r : Order). ToldOrder kind.depth c.args.cells table order r) c.in-Lies.is c.check_cells-lies.ensures in
+    c.in-Some.ensures in
     let setting : setting_test kind.depth c.args.cell_masks.now ≡ true =
     sym c.are_sound.ensures ∙ not-false c.are_sound.result c.if-not-are_sound.false-raw in
     let ok = lain.sound in (
@@ -78,23 +66,22 @@ preview_sound-requires c =
       subst (λ (n : ℕ). InOrder n table (take count order)) (sym ok.starts_fit) (in_order ok lain.order),
     )
 
-pub returns-in-Broken : goal.returns-in-Broken
-returns-in-Broken c =
-    let order : List ℕ = c.check_cells-lies.new.order in
+pub returns-in_default : goal.returns-in_default
+returns-in_default c =
     let kind : Kind = kind_of c.args.kind in
     let table : Table = table_by c.args.masks.now c.args.starts.now c.args.lengths.now c.args.store.now in
     preview_is kind c.args.cells table c.args.cell c.args.cell_masks.now c.args.value.now
     (broken c.requires.0 c.requires.1 table c.args.cell c.args.cell_masks.now c.args.value.now
-    (subst (λ (r : Order). ToldOrder kind.depth c.args.cells table order r) c.in-Broken.is c.check_cells-lies.ensures))
+    c.in_default.ensures)
 
-pub returns-else-not-are_sound : goal.returns-else-not-are_sound
-returns-else-not-are_sound c =
+pub returns : goal.returns
+returns c =
     let order : List ℕ = c.check_cells-lies.new.order in
     let kind : Kind = kind_of c.args.kind in
     let table : Table = table_by c.args.masks.now c.args.starts.now c.args.lengths.now c.args.store.now in
-    let count : ℕ = c.in-Lies.count in
+    let count : ℕ = c.in-Some.count in
     let lain : Lain kind.depth c.args.cells table order count =
-    subst (λ (r : Order). ToldOrder kind.depth c.args.cells table order r) c.in-Lies.is c.check_cells-lies.ensures in
+    c.in-Some.ensures in
     let setting : setting_test kind.depth c.args.cell_masks.now ≡ true =
     sym c.are_sound.ensures ∙ not-false c.are_sound.result c.if-not-are_sound.false-raw in
     let ok = lain.sound in

@@ -1,11 +1,13 @@
 -- `read_table` meets its contract: the kind and the count (Stages), and then the table with room for its order.
 -- Assumes nothing.
 use mathlib.Core.Path.{◌≡◌, sym, ◌∙◌}
+use native.Mathlib.Omega.{arith}
 use mathlib.Core.Bool.{true}
 use borrow.Author.Tests.{not-true, not-false}
 use Rattle.array.specs.Kind.{Kind}
 use Rattle.array.specs.Content.{Content}
 use Rattle.array.specs.Outcome.{content_array}
+use Rattle.array.specs.Limits.{most_cells}
 use Rattle.array.specs.Meaning.{kind_of}
 use Rattle.table.specs.Table.{Table, TableKind, table_kind_test, CountOk}
 use Rattle.table.specs.Meaning.{table_by}
@@ -29,22 +31,23 @@ returns-then-not-count_ok c =
     sym c.is_table_kind.ensures ∙ not-false c.is_table_kind.result c.if-not-is_table_kind.false-raw in
     by_count kind c.args.cells table outputs kind_passes (sym c.count_ok.ensures ∙ not-true c.count_ok.result c.if-not-count_ok.true-raw)
 
-pub read_few-requires : goal.read_few-requires
-read_few-requires c =
+pub read_in-requires : goal.read_in-requires
+read_in-requires c =
     let kind : Kind = kind_of c.args.kind in
     let kind_passes : table_kind_test kind ≡ true =
     sym c.is_table_kind.ensures ∙ not-false c.is_table_kind.result c.if-not-is_table_kind.false-raw in
     let kind_is : TableKind kind = table_kind_ok kind kind_passes in
     let count_is : CountOk c.args.cells =
     count_ok c.args.cells (sym c.count_ok.ensures ∙ not-false c.count_ok.result c.if-not-count_ok.false-raw) in
-    (kind_is, count_is, c.if-cells-le-FEW.true)
+    (kind_is, count_is, c.if-cells-le-FEW.true, omega arith)
 
-pub read_many-requires : goal.read_many-requires
-read_many-requires c =
+pub read_in-requires-2 : goal.read_in-requires-2
+unfolding most_cells
+read_in-requires-2 c =
     let kind : Kind = kind_of c.args.kind in
     let kind_passes : table_kind_test kind ≡ true =
     sym c.is_table_kind.ensures ∙ not-false c.is_table_kind.result c.if-not-is_table_kind.false-raw in
     let kind_is : TableKind kind = table_kind_ok kind kind_passes in
     let count_is : CountOk c.args.cells =
     count_ok c.args.cells (sym c.count_ok.ensures ∙ not-false c.count_ok.result c.if-not-count_ok.false-raw) in
-    (kind_is, count_is)
+    (kind_is, count_is, count_is.1, omega arith)

@@ -10,7 +10,6 @@ use Rattle.array.specs.Outcome.{content_array}
 use Rattle.array.specs.Meaning.{kind_of}
 use Rattle.table.specs.Table.{Table, TableOk}
 use Rattle.table.specs.Meaning.{table_by}
-use Rattle.table_check.specs.declared.Order.{Order}
 use Rattle.table_check.specs.Told.{ToldOrder}
 use Rattle.table_read.proofs.Stages.{reads_well, by_table, by_store, by_cells}
 use Rattle.table_read.proofs.read_with.Goals as goal
@@ -21,40 +20,36 @@ check_cells-lies-requires c =
 
 pub returns-then-not-store_ok : goal.returns-then-not-store_ok
 returns-then-not-store_ok c =
-    let order : List ℕ = c.check_cells-lies.new.order in
     let kind : Kind = kind_of c.args.kind in
     let table : Table = table_by c.args.masks.now c.args.starts.now c.args.lengths.now c.args.store.now in
     let outputs : Content = content_array c.args.out_masks.now c.args.out_values.now c.args.out_offsets.now in
     let sound : TableOk kind.depth c.args.cells table =
-    (subst (λ (r : Order). ToldOrder kind.depth c.args.cells table order r) c.in-Lies.is c.check_cells-lies.ensures).sound in
+    c.in-Some.ensures.sound in
     by_store kind c.args.cells table outputs c.requires.0 c.requires.1 sound
     (sym c.store_ok.ensures ∙ not-true c.store_ok.result c.if-not-store_ok.true-raw)
 
 pub read_checked-requires : goal.read_checked-requires
 read_checked-requires c =
-    let order : List ℕ = c.check_cells-lies.new.order in
     let kind : Kind = kind_of c.args.kind in
     let table : Table = table_by c.args.masks.now c.args.starts.now c.args.lengths.now c.args.store.now in
     let sound : TableOk kind.depth c.args.cells table =
-    (subst (λ (r : Order). ToldOrder kind.depth c.args.cells table order r) c.in-Lies.is c.check_cells-lies.ensures).sound in
+    c.in-Some.ensures.sound in
     reads_well sound
 
-pub returns-in-Broken : goal.returns-in-Broken
-returns-in-Broken c =
-    let order : List ℕ = c.check_cells-lies.new.order in
+pub returns-in_default : goal.returns-in_default
+returns-in_default c =
     let kind : Kind = kind_of c.args.kind in
     let table : Table = table_by c.args.masks.now c.args.starts.now c.args.lengths.now c.args.store.now in
     let outputs : Content = content_array c.args.out_masks.now c.args.out_values.now c.args.out_offsets.now in
     by_table kind c.args.cells table outputs c.requires.0 c.requires.1
-    (subst (λ (r : Order). ToldOrder kind.depth c.args.cells table order r) c.in-Broken.is c.check_cells-lies.ensures)
+    c.in_default.ensures
 
-pub returns-else-not-store_ok : goal.returns-else-not-store_ok
-returns-else-not-store_ok c =
-    let order : List ℕ = c.check_cells-lies.new.order in
+pub returns : goal.returns
+returns c =
     let kind : Kind = kind_of c.args.kind in
     let table : Table = table_by c.args.masks.now c.args.starts.now c.args.lengths.now c.args.store.now in
     let outputs : Content = content_array c.args.out_masks.now c.args.out_values.now c.args.out_offsets.now in
     let sound : TableOk kind.depth c.args.cells table =
-    (subst (λ (r : Order). ToldOrder kind.depth c.args.cells table order r) c.in-Lies.is c.check_cells-lies.ensures).sound in
+    c.in-Some.ensures.sound in
     let tests = sym c.store_ok.ensures ∙ not-false c.store_ok.result c.if-not-store_ok.false-raw in
     rw (by_cells kind c.args.cells table outputs c.requires.0 c.requires.1 sound tests) c.read_checked.ensures

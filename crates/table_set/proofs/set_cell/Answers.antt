@@ -1,8 +1,10 @@
 -- `set_cell` meets its contract: refusals 1 and 2, each in its turn, and then what set_with leaves.
 -- Assumes nothing.
 use mathlib.Core.Path.{◌≡◌, sym, ◌∙◌}
+use native.Mathlib.Omega.{arith}
 use mathlib.Core.Bool.{true}
 use borrow.Author.Tests.{not-true, not-false}
+use Rattle.array.specs.Limits.{most_cells}
 use Rattle.array.specs.Meaning.{kind_of}
 use Rattle.table.specs.Table.{Table, TableKind, CountOk, table_kind_test}
 use Rattle.table.specs.Meaning.{table_by}
@@ -27,8 +29,8 @@ returns-then-not-count_ok c =
     (no_count (kind_of c.args.kind) c.args.cells table c.args.cell c.args.cell_masks.now c.args.value.now kind
     (sym c.count_ok.ensures ∙ not-true c.count_ok.result c.if-not-count_ok.true-raw))
 
-pub set_few-requires : goal.set_few-requires
-set_few-requires c =
+pub set_in-requires : goal.set_in-requires
+set_in-requires c =
     let kind : table_kind_test (kind_of c.args.kind) ≡ true =
     sym c.is_table_kind.ensures ∙ not-false c.is_table_kind.result c.if-not-is_table_kind.false-raw in
     let asked : TableKind (kind_of c.args.kind) × CountOk c.args.cells = (
@@ -36,14 +38,15 @@ set_few-requires c =
       count_ok c.args.cells (sym c.count_ok.ensures ∙ not-false c.count_ok.result c.if-not-count_ok.false-raw),
     ) in
     let a = asked in
-    (a.0, a.1, c.if-cells-le-FEW.true)
+    (a.0, a.1, c.if-cells-le-FEW.true, omega arith)
 
-pub set_many-requires : goal.set_many-requires
-set_many-requires c =
+pub set_in-requires-2 : goal.set_in-requires-2
+unfolding most_cells
+set_in-requires-2 c =
     let kind : table_kind_test (kind_of c.args.kind) ≡ true =
     sym c.is_table_kind.ensures ∙ not-false c.is_table_kind.result c.if-not-is_table_kind.false-raw in
     let asked : TableKind (kind_of c.args.kind) × CountOk c.args.cells = (
       table_kind_ok (kind_of c.args.kind) kind,
       count_ok c.args.cells (sym c.count_ok.ensures ∙ not-false c.count_ok.result c.if-not-count_ok.false-raw),
     ) in
-    asked
+    (asked.0, asked.1, asked.1.1, omega arith)

@@ -12,7 +12,6 @@ use Rattle.array.specs.Meaning.{kind_of}
 use Rattle.table.specs.Table.{Table, TableOk}
 use Rattle.table.specs.Setting.{setting_test}
 use Rattle.table.specs.Meaning.{table_by}
-use Rattle.table_check.specs.declared.Order.{Order}
 use Rattle.table_check.specs.Told.{ToldOrder}
 use Rattle.table_setting.proofs.Outcomes.{broken, bad_setting, sound, answer_is}
 use Rattle.table_set.proofs.Outcomes.{set_is}
@@ -25,11 +24,10 @@ check_cells-lies-requires c =
 
 pub returns-then-not-are_sound : goal.returns-then-not-are_sound
 returns-then-not-are_sound c =
-    let order : List ℕ = c.check_cells-lies.new.order in
     let kind : Kind = kind_of c.args.kind in
     let table : Table = table_by c.args.masks.now c.args.starts.now c.args.lengths.now c.args.store.now in
     let keeps : TableOk kind.depth c.args.cells table =
-    (subst (λ (r : Order). ToldOrder kind.depth c.args.cells table order r) c.in-Lies.is c.check_cells-lies.ensures).sound in
+    c.in-Some.ensures.sound in
     set_is kind c.args.cells table c.args.cell c.args.cell_masks.now c.args.value.now
     (bad_setting c.requires.0 c.requires.1 table c.args.cell c.args.cell_masks.now c.args.value.now keeps
     (sym c.are_sound.ensures ∙ not-true c.are_sound.result c.if-not-are_sound.true-raw))
@@ -40,28 +38,26 @@ set_sound-requires c =
     let kind : Kind = kind_of c.args.kind in
     let table : Table = table_by c.args.masks.now c.args.starts.now c.args.lengths.now c.args.store.now in
     let keeps : TableOk kind.depth c.args.cells table =
-    (subst (λ (r : Order). ToldOrder kind.depth c.args.cells table order r) c.in-Lies.is c.check_cells-lies.ensures).sound in
+    c.in-Some.ensures.sound in
     let setting : setting_test kind.depth c.args.cell_masks.now ≡ true =
     sym c.are_sound.ensures ∙ not-false c.are_sound.result c.if-not-are_sound.false-raw in
     let room : c.args.cells ≤ length order = omega (arith, c.requires.2, c.check_cells-lies.auto.order) in
     sound c.requires.0 c.requires.1 table c.args.cell c.args.cell_masks.now c.args.value.now keeps setting room
 
-pub returns-in-Broken : goal.returns-in-Broken
-returns-in-Broken c =
-    let order : List ℕ = c.check_cells-lies.new.order in
+pub returns-in_default : goal.returns-in_default
+returns-in_default c =
     let kind : Kind = kind_of c.args.kind in
     let table : Table = table_by c.args.masks.now c.args.starts.now c.args.lengths.now c.args.store.now in
     set_is kind c.args.cells table c.args.cell c.args.cell_masks.now c.args.value.now
     (broken c.requires.0 c.requires.1 table c.args.cell c.args.cell_masks.now c.args.value.now
-    (subst (λ (r : Order). ToldOrder kind.depth c.args.cells table order r) c.in-Broken.is c.check_cells-lies.ensures))
+    c.in_default.ensures)
 
-pub returns-else-not-are_sound : goal.returns-else-not-are_sound
-returns-else-not-are_sound c =
-    let order : List ℕ = c.check_cells-lies.new.order in
+pub returns : goal.returns
+returns c =
     let kind : Kind = kind_of c.args.kind in
     let table : Table = table_by c.args.masks.now c.args.starts.now c.args.lengths.now c.args.store.now in
     let keeps : TableOk kind.depth c.args.cells table =
-    (subst (λ (r : Order). ToldOrder kind.depth c.args.cells table order r) c.in-Lies.is c.check_cells-lies.ensures).sound in
+    c.in-Some.ensures.sound in
     let setting : setting_test kind.depth c.args.cell_masks.now ≡ true =
     sym c.are_sound.ensures ∙ not-false c.are_sound.result c.if-not-are_sound.false-raw in
     c.set_sound.ensures

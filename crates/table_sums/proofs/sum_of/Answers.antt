@@ -1,24 +1,18 @@
--- `table_sums::sum_of` meets its contract: the sum of the first lengths.
+-- `table_sums::sum_of` meets its contract: what the iterator sums up is the sum of the lengths.
 -- Assumes nothing.
-use Prim.Native.Nat.{◌+◌}
-use native.Mathlib.Omega.{arith}
-use mathlib.Core.Path.{refl}
+use Rattle.std.proofs.Common.{rules, arith, ◌≡◌, ◌<◌, ◌^◌, ◌∙◌, sym}
+use Rattle.std.specs.List.{sum_by}
 use Rattle.table.specs.Table.{most_store}
-use Rattle.table_sums.proofs.Totals.{sum_more, sum-part, sum-whole}
+use Rattle.table.proofs.Each.{sum_is}
 use Rattle.table_sums.proofs.sum_of.Goals as goal
 
-pub loop-j-init : goal.loop-j-init
-loop-j-init c = (omega arith, refl)
-
-pub overflow_add-total : goal.overflow_add-total
+pub sum-requires-clause-fits : goal.sum-requires-clause-fits
 unfolding most_store
-overflow_add-total c =
-    let j = c.loop-j.j in
-    let xs = c.args.lengths.now in
-    omega (arith, sum_more xs c.loop-j.invariant.1 c.loop-j-test.true, sum-part xs (j + 1), c.requires)
-
-pub loop-j-preserved : goal.loop-j-preserved
-loop-j-preserved c = (omega arith, sum_more c.args.lengths.now c.loop-j.invariant.1 c.loop-j-test.true)
+sum-requires-clause-fits c =
+    let fits : sum_by (λ x. x) c.args.lengths.now < 2 ^ 64 = omega (arith, sum_is c.args.lengths.now, c.requires) in
+    search rules
 
 pub returns : goal.returns
-returns c = sum-whole c.args.lengths.now c.loop-j.invariant.1 c.loop-j-test.false
+returns c =
+    let summed : c.sum.result ≡ sum_by (λ x. x) c.args.lengths.now = search rules in
+    summed ∙ sym (sum_is c.args.lengths.now)

@@ -25,7 +25,7 @@ loop-j-preserved c =
     let args = c.args in
     let p = placed in
     let more = top_more (offset_at args.starts.now) (offset_at args.lengths.now) c.loop-j.j p in
-    (omega arith, omega (arith, c.greater-top.ensures, c.loop-j.invariant.1, more), omega (arith, c.greater-top.ensures, p.0, c.loop-j.invariant.2))
+    (omega arith, omega (arith, c.max-top.ensures, c.loop-j.invariant.1, more), omega (arith, c.max-top.ensures, p.0, c.loop-j.invariant.2))
 
 pub returns : goal.returns
 returns c =

@@ -1,9 +1,9 @@
 -- `ragged::put_offsets` meets its contract, by the laws of Placed.
 -- Assumes nothing.
-use mathlib.Core.Path.{◌∙◌}
-use Prim.Native.Nat.{◌+◌, ◌<◌}
+use mathlib.Core.Path.{◌≡◌, ap, ◌∙◌}
+use Prim.Native.Nat.{ℕ, ◌+◌, ◌<◌}
 use native.Mathlib.Omega.{arith}
-use lib.ListN.{length, length-set}
+use lib.ListN.{length, set, length-set}
 use Rattle.array.specs.Limits.{most_cells}
 use Rattle.array.specs.Places.{shown_at}
 use Rattle.encode_data.proofs.Summing.{summing_inside, summing_rises, summing_fits}
@@ -65,17 +65,19 @@ overflow_add-to c =
 pub loop-j-preserved : goal.loop-j-preserved
 loop-j-preserved c = placed_more c.loop-j.invariant c.loop-j-test.true c.mark-mark.ensures
 
-pub offset_bounds-out-j-2 : goal.offset_bounds-out-j-2
+pub offset_bounds-out-cells : goal.offset_bounds-out-cells
 unfolding most_cells
-offset_bounds-out-j-2 c = omega (arith, c.loop-j.invariant.sums.within, c.requires.0.few)
+offset_bounds-out-cells c = omega (arith, c.requires.0.few)
 
-pub bounds-out-j-2 : goal.bounds-out-j-2
-bounds-out-j-2 c =
-    let inv = c.loop-j.invariant in omega (arith, inv.sums.within, placed_same inv, c.requires.2)
+pub bounds-out-cells : goal.bounds-out-cells
+bounds-out-cells c = omega (arith, placed_same c.loop-j.invariant, c.requires.2)
 
 pub shape_of-out : goal.shape_of-out
 shape_of-out c =
-    let l = c.loop-j in length-set l.out l.j l.to ∙ placed_same l.invariant
+    let l = c.loop-j in length-set l.out c.args.cells l.to ∙ placed_same l.invariant
 
 pub returns : goal.returns
-returns c = placed-ends c.loop-j.invariant c.loop-j-test.false
+returns c =
+    let l = c.loop-j in
+    let end : c.args.cells ≡ l.j = omega (arith, l.invariant.sums.within, c.loop-j-test.false) in
+    ap (λ (k : ℕ). set l.out k l.to) end ∙ placed-ends l.invariant c.loop-j-test.false

@@ -57,11 +57,6 @@ overflow_add-total c =
       c.shared_slice_known-in-loop-i-2-1.given (c.loop-i.i + 1),
     )
 
-pub overflow_add-i : goal.overflow_add-i
-overflow_add-i c =
-    let inside : c.loop-i.i + 1 < length c.args.offsets.now = summing_inside c.loop-i.invariant c.loop-i-test.true in
-    omega (arith, inside)
-
 pub loop-i-preserved : goal.loop-i-preserved
 loop-i-preserved c = summing_more c.loop-i.invariant c.loop-i-test.true c.seen_mark-mark.ensures
 

@@ -8,6 +8,3 @@ use Rattle.table_check.proofs.rules.masks_fall.Given as goal
 
 abbrev pub invariant-loop-i : goal.invariant-loop-i
 invariant-loop-i l = Walk (fall_at l.n l.masks) l.n (length l.masks - l.n) l.falling l.i
-
-abbrev pub decreases-loop-i : goal.decreases-loop-i
-decreases-loop-i l = length l.masks - l.i

@@ -1,12 +1,8 @@
 -- `table_check::rules::nulls_empty` meets its contract: the walk of Walks over the cells.
 -- Assumes nothing.
-use Prim.Native.Nat.{◌-◌}
 use Rattle.table_check.specs.Check.{null_at}
 use Rattle.table_check.proofs.Walks.{Walk}
 use Rattle.table_check.proofs.rules.nulls_empty.Given as goal
 
 abbrev pub invariant-loop-j : goal.invariant-loop-j
 invariant-loop-j l = Walk (null_at l.at l.masks l.lengths) 0 l.n l.empty l.j
-
-abbrev pub decreases-loop-j : goal.decreases-loop-j
-decreases-loop-j l = l.n - l.j

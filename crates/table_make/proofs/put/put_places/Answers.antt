@@ -5,7 +5,7 @@ use native.Mathlib.Omega.{arith}
 use lib.ListN.{length}
 use Rattle.array.specs.Limits.{most_cells}
 use Rattle.encode_data.proofs.Summing.{summing_inside, summing_rises, summing_fits}
-use Rattle.table_make.proofs.Numbering.{number_same, number-ends, number_room}
+use Rattle.rest_masks.proofs.Numbering.{number_same, number-ends, number_room}
 use Rattle.table_make.proofs.Placing.{place_begins, place_more}
 use Rattle.table_make.proofs.put.put_places.Goals as goal
 

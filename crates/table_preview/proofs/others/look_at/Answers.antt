@@ -8,57 +8,54 @@ use Rattle.table_preview.proofs.Looking.{looked_begins, looked_ends, cell_reache
 use Rattle.table_preview.proofs.others.look_at.Goals.{then-other, else-other}
 use Rattle.table_preview.proofs.others.look_at.Goals as goal
 
-pub loop-i-init : goal.loop-i-init
-loop-i-init c = looked_begins c.requires
-
-pub overflow_cast-j : goal.overflow_cast-j
-overflow_cast-j c = omega (arith, c.shared_slice_known-in-loop-i-1.given c.loop-i.i)
+pub loop-number-init : goal.loop-number-init
+loop-number-init c = looked_begins c.requires
 
 pub offset_bounds-starts-j : goal.offset_bounds-starts-j
 offset_bounds-starts-j c =
-    let reached : let a = c.args in Reached a.starts.now a.lengths.now (get_or a.order.now c.loop-i.i 0) =
-    cell_reached c.loop-i.invariant c.loop-i-test.true in
+    let reached : let a = c.args in Reached a.starts.now a.lengths.now (get_or a.order.now c.loop-number.number-index 0) =
+    cell_reached c.loop-number.invariant c.loop-number-test.true in
     omega (arith, reached)
 
 pub bounds-starts-j : goal.bounds-starts-j
 bounds-starts-j c =
-    let reached : let a = c.args in Reached a.starts.now a.lengths.now (get_or a.order.now c.loop-i.i 0) =
-    cell_reached c.loop-i.invariant c.loop-i-test.true in
+    let reached : let a = c.args in Reached a.starts.now a.lengths.now (get_or a.order.now c.loop-number.number-index 0) =
+    cell_reached c.loop-number.invariant c.loop-number-test.true in
     omega (arith, reached)
 
 pub offset_bounds-lengths-j : goal.offset_bounds-lengths-j
 offset_bounds-lengths-j c =
-    let reached : let a = c.args in Reached a.starts.now a.lengths.now (get_or a.order.now c.loop-i.i 0) =
-    cell_reached c.loop-i.invariant c.loop-i-test.true in
+    let reached : let a = c.args in Reached a.starts.now a.lengths.now (get_or a.order.now c.loop-number.number-index 0) =
+    cell_reached c.loop-number.invariant c.loop-number-test.true in
     omega (arith, reached)
 
 pub bounds-lengths-j : goal.bounds-lengths-j
 bounds-lengths-j c =
-    let reached : let a = c.args in Reached a.starts.now a.lengths.now (get_or a.order.now c.loop-i.i 0) =
-    cell_reached c.loop-i.invariant c.loop-i-test.true in
+    let reached : let a = c.args in Reached a.starts.now a.lengths.now (get_or a.order.now c.loop-number.number-index 0) =
+    cell_reached c.loop-number.invariant c.loop-number-test.true in
     omega (arith, reached)
 
 pub counted-unpacked-requires : goal.counted-unpacked-requires
-counted-unpacked-requires c = omega (arith, c.loop-i.invariant.few, c.loop-i-test.true)
+counted-unpacked-requires c = omega (arith, c.loop-number.invariant.few, c.loop-number-test.true)
 
 pub overflow_add-packed : goal.overflow_add-packed
 unfolding most_store
-overflow_add-packed c = omega (arith, bytes_small c.loop-i.invariant c.loop-i-test.true c.if-other.true)
+overflow_add-packed c = omega (arith, bytes_small c.loop-number.invariant c.loop-number-test.true c.if-other.true)
 
 pub overflow_add-start : goal.overflow_add-start
 overflow_add-start c =
-    let reached : let a = c.args in Reached a.starts.now a.lengths.now (get_or a.order.now c.loop-i.i 0) =
-    cell_reached c.loop-i.invariant c.loop-i-test.true in
+    let reached : let a = c.args in Reached a.starts.now a.lengths.now (get_or a.order.now c.loop-number.number-index 0) =
+    cell_reached c.loop-number.invariant c.loop-number-test.true in
     omega (arith, reached)
 
-pub loop-i-preserved : goal.loop-i-preserved
-loop-i-preserved c =
-    let l = c.loop-i.invariant in
-    let h = c.loop-i-test.true in
+pub loop-number-preserved : goal.loop-number-preserved
+loop-number-preserved c =
+    let l = c.loop-number.invariant in
+    let h = c.loop-number-test.true in
     elim c.if-other.branch [
-      | then-other w ↦ looked_is (looked_more l h w.if-other.true w.counted-unpacked.ensures w.greater-top.ensures) w.unpacked-is w.packed-is w.top-is
+      | then-other w ↦ looked_is (looked_more l h w.if-other.true w.counted-unpacked.ensures w.max-top.ensures) w.unpacked-is w.packed-is w.top-is
       | else-other w ↦ looked_is (looked_past l h w.if-other.false) w.unpacked-is w.packed-is w.top-is
     ]
 
 pub returns : goal.returns
-returns c = looked_ends c.loop-i.invariant c.loop-i-test.false
+returns c = looked_ends c.loop-number.invariant c.loop-number-test.false

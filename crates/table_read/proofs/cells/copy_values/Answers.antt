@@ -7,7 +7,7 @@ use borrow.Author.Tests.{not-false}
 use lib.ListN.{length, set, length-set}
 use Rattle.table.specs.Table.{Table, length_of}
 use Rattle.table_read.specs.Read.{cells_by}
-use Rattle.table_read.proofs.Reading.{Reading, goes_on, read_begins, read_same, read_same_offsets, offset_room, value_room, read_values, read_offsets}
+use Rattle.table_read.proofs.Reading.{Reading, goes_on, read_begins, read_same, read_same_offsets, offset_room, value_room, read_values, read_offsets, reading_ended}
 use Rattle.table_read.proofs.Reading.{Ready, ready_is, ready_again, ready_more}
 use Rattle.table_read.proofs.cells.copy_values.Goals.{then-not-goes_on, else-not-goes_on}
 use Rattle.table_read.proofs.cells.copy_values.Goals as goal
@@ -132,22 +132,21 @@ pub overflow_add-out_offsets-2 : goal.overflow_add-out_offsets-2
 overflow_add-out_offsets-2 c =
     let inv = c.loop-at.invariant in omega (arith, value_room inv, read_same inv)
 
-pub offset_bounds-out_offsets-at-2 : goal.offset_bounds-out_offsets-at-2
-offset_bounds-out_offsets-at-2 c =
-    let inv = c.loop-at.invariant in omega (arith, offset_room inv, read_same_offsets inv)
+pub offset_bounds-out_offsets-cells : goal.offset_bounds-out_offsets-cells
+offset_bounds-out_offsets-cells c =
+    let inv = reading_ended c.loop-at.invariant c.loop-at-test.false in omega (arith, offset_room inv, read_same_offsets inv)
 
-pub bounds-out_offsets-at-2 : goal.bounds-out_offsets-at-2
-bounds-out_offsets-at-2 c = offset_room c.loop-at.invariant
+pub bounds-out_offsets-cells : goal.bounds-out_offsets-cells
+bounds-out_offsets-cells c = offset_room (reading_ended c.loop-at.invariant c.loop-at-test.false)
 
 pub shape_of-out_values : goal.shape_of-out_values
 shape_of-out_values c = c.copy_many-2.auto.out ∙ read_same c.loop-at.invariant
 
 pub shape_of-out_offsets : goal.shape_of-out_offsets
 shape_of-out_offsets c =
-    let l = c.loop-at in length-set l.out_offsets l.at (l.to + l.waiting) ∙ read_same_offsets l.invariant
+    let l = c.loop-at in length-set l.out_offsets c.args.cells (l.to + l.waiting) ∙ read_same_offsets l.invariant
 
 pub returns : goal.returns
 returns c =
-    let inv = c.loop-at.invariant in
-    let end = c.loop-at-test.false in
-    record { values = read_values inv end c.copy_many-2.ensures; offsets = read_offsets inv end }
+    let inv = reading_ended c.loop-at.invariant c.loop-at-test.false in
+    record { values = read_values inv (omega arith) c.copy_many-2.ensures; offsets = read_offsets inv (omega arith) }

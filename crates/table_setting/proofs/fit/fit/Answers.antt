@@ -8,6 +8,7 @@ use Rattle.array.specs.Lists.{pick}
 use Rattle.table.specs.Table.{most_store}
 use Rattle.table_setting.specs.Fit.{size_by}
 use Rattle.table_setting.proofs.Judging.{long_store, no_cell, total_small, one_of_all, others_fit, too_full, fits}
+use Rattle.table_setting.proofs.fit.fit.Goals.{then-shown, else-shown}
 use Rattle.table_setting.proofs.fit.fit.Goals as goal
 
 pub returns-then-not-store_ok : goal.returns-then-not-store_ok
@@ -42,7 +43,9 @@ overflow_sub-room c =
 pub returns-then-room-others : goal.returns-then-room-others
 returns-then-room-others c =
     let small : leb c.args.room most_store ≡ true = sym c.store_ok.ensures ∙ not-false c.store_ok.result c.if-not-store_ok.false-raw in
-    let sized : let a = c.args in c.kept_length-size.result ≡ size_by a.cell_masks.now a.length = c.kept_length-size.ensures ∙ ap (λ (b : Bool). pick b c.args.length 0) c.all_set-shown.ensures in
+    let kept : c.if-shown.size ≡ pick c.all_set-shown.result c.args.length 0 =
+    elim c.if-shown.branch [ then-shown w ↦ rw w.if-shown.true w.size-is | else-shown w ↦ rw w.if-shown.false w.size-is ] in
+    let sized : c.if-shown.size ≡ size_by c.args.cell_masks.now c.args.length = kept ∙ ap (λ (b : Bool). pick b c.args.length 0) c.all_set-shown.ensures in
     let a = c.args in
     too_full a.lengths.now a.room a.cell a.cell_masks.now a.length small c.if-lengths-cell.false c.requires c.sum_of.ensures
     sized c.if-room-others.true
@@ -50,7 +53,9 @@ returns-then-room-others c =
 pub returns : goal.returns
 returns c =
     let small : leb c.args.room most_store ≡ true = sym c.store_ok.ensures ∙ not-false c.store_ok.result c.if-not-store_ok.false-raw in
-    let sized : let a = c.args in c.kept_length-size.result ≡ size_by a.cell_masks.now a.length = c.kept_length-size.ensures ∙ ap (λ (b : Bool). pick b c.args.length 0) c.all_set-shown.ensures in
+    let kept : c.if-shown.size ≡ pick c.all_set-shown.result c.args.length 0 =
+    elim c.if-shown.branch [ then-shown w ↦ rw w.if-shown.true w.size-is | else-shown w ↦ rw w.if-shown.false w.size-is ] in
+    let sized : c.if-shown.size ≡ size_by c.args.cell_masks.now c.args.length = kept ∙ ap (λ (b : Bool). pick b c.args.length 0) c.all_set-shown.ensures in
     let a = c.args in
     fits a.lengths.now a.room a.cell a.cell_masks.now a.length small c.if-lengths-cell.false c.requires c.sum_of.ensures
     sized c.if-room-others.false
