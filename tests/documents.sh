@@ -13,8 +13,8 @@ wrong() {
 }
 unfinished=" $(awk '/^#/ {is = /unfinished/} is && /^[a-z]/ {sub(/[ :].*/, ""); printf "%s ", $0}' crates.txt)"
 is_unfinished() { case $unfinished in *" $1 "*) ;; *) return 1 ;; esac }
-# docs/PORT.md says what things were called
-pages=(README.md CONTRIBUTING.md CHANGELOG.md BENCHMARKS.md $(ls docs/*.md | grep -vxF docs/PORT.md) oracle/README.md oracle/data/README.md)
+# docs/PORT.md and docs/DESIGN-PASS.md say what things were called
+pages=(README.md CONTRIBUTING.md CHANGELOG.md BENCHMARKS.md $(ls docs/*.md | grep -vxE 'docs/(PORT|DESIGN-PASS)\.md') oracle/README.md oracle/data/README.md)
 
 # `crate/src/x.rt`, `crate/specs/X.antt`, `crate/proofs/X.antt`, below crates/
 named=$(grep -ohE '`(crates/)?[a-z_]+/(src|specs|proofs|must-fail)/[A-Za-z_/+]+\.(rt|antt|edit)`' "${pages[@]}" | tr -d '`' | sort -u)
