@@ -34,6 +34,10 @@ map_same f g e (refuses k) = refl
 pub walk_begins : (n : ℕ) (s : List ℕ) → Walking n s n 4 0
 walk_begins n s = record { small = omega arith; whole = map_same total_of (λ vs. 0 + total_of vs) (λ vs. omega arith) (stored_cells n s) }
 
+pub walk_is : {n left at sum left' at' sum' : ℕ} {s : List ℕ} → Walking n s left at sum → left' ≡ left → at' ≡ at → sum' ≡ sum → Walking n s left' at' sum'
+walk_is {n} {left} {at} {sum} {left'} {at'} {sum'} {s} w e f g =
+    subst (λ (k : ℕ). Walking n s k at' sum') (sym e) (subst (λ (k : ℕ). Walking n s left k sum') (sym f) (subst (Walking n s left at) (sym g) w))
+
 module _ {n : ℕ} {s : List ℕ} {left at sum : ℕ} (w : Walking n s left at sum) where
   -- the walk ends with all cells found
   pub walk_ends : left ≤ 0 → gives sum ≡ walk_answer n s
@@ -121,6 +125,12 @@ copy_begins {n} {s} {vs₀} {os₀} e h g = record {
   laid = laying_begins (offsets_of (found n s)) os₀ 0 (omega (arith, length-ends 0 (found n s), length_cells n (drop 4 s) (found n s) e));
 }
 
+pub copy_is : {n i at to at' to' : ℕ} {s vs₀ vs vs' os₀ os : List ℕ} → Copying n s vs₀ vs os₀ os i at to
+    → vs' ≡ vs → at' ≡ at → to' ≡ to → Copying n s vs₀ vs' os₀ os i at' to'
+copy_is {n} {i} {at} {to} {at'} {to'} {s} {vs₀} {vs} {vs'} {os₀} {os} c e f g =
+    subst (λ (l : List ℕ). Copying n s vs₀ l os₀ os i at' to') (sym e)
+    (subst (λ (k : ℕ). Copying n s vs₀ vs os₀ os i k to') (sym f) (subst (Copying n s vs₀ vs os₀ os i at) (sym g) c))
+
 module _ {n : ℕ} {s vs₀ vs os₀ os : List ℕ} {i at to : ℕ} (c : Copying n s vs₀ vs os₀ os i at to) where
   pub copy_same : length os ≡ length os₀
   copy_same = laying_same (offsets_of (found n s)) os₀ 0 os i _ c.laid
@@ -141,8 +151,10 @@ module _ {n : ℕ} {s vs₀ vs os₀ os : List ℕ} {i at to : ℕ} (c : Copying
     pub copy_values_end : vs ≡ over (joined (found n s)) vs₀
     copy_values_end = placing_ends (placing_is c.placed (ap joined none))
 
-    pub copy_offsets_end : set os i to ≡ over (offsets_of (found n s)) os₀
-    copy_offsets_end = laying_ends (offsets_of (found n s)) os₀ 0 (set os i to) (i + 1) (laying_is offset_next (ap (ends to) none))
+    pub copy_offsets_end : i ≡ n → set os n to ≡ over (offsets_of (found n s)) os₀
+    copy_offsets_end e =
+        ap (λ (k : ℕ). set os k to) (sym e)
+        ∙ laying_ends (offsets_of (found n s)) os₀ 0 (set os i to) (i + 1) (laying_is offset_next (ap (ends to) none))
 
   module _ (h : i < n) where
     cell : Cell s at (n - i - 1) c.cells

@@ -1,6 +1,6 @@
 -- One stored cell, by its place: what the definition does with it, and what stands there where nothing is refused.
 -- Assumes nothing.
-use mathlib.Core.Path.{◌≡◌, refl, ap, ◌∙◌}
+use mathlib.Core.Path.{◌≡◌, refl, sym, ap, ◌∙◌}
 use Prim.Native.Nat.{ℕ, zero, suc, ◌+◌, ◌-◌, ◌*◌, ◌<◌, ◌≤◌}
 use native.Mathlib.Omega.{arith}
 use mathlib.Core.Bool.{Bool, true, false}
@@ -9,10 +9,16 @@ use lib.ListN.{length, take, drop, length-append, length-drop}
 use lib.Dec.{leb}
 use lib.Seq.{drop-drop, length-take-le}
 use borrow.Author.Tests.{le-leb, lt-leb, leb-true, leb-false}
+use Rattle.std.specs.Prelude.{Result, Ok}
+use Rattle.array.specs.declared.refusal.Refusal.{Refusal}
+use Rattle.array.specs.Meaning.{told}
 use Rattle.array.specs.Answer.{Answer, gives, refuses, and_then}
 use Rattle.array.specs.Lists.{joined}
 use Rattle.array.specs.Bytes.{unle}
 use Rattle.array.specs.Cells.{Value}
+use Rattle.array.proofs.Answers.{told_same}
+use Rattle.buffer.specs.Field.{field_at}
+use Rattle.buffer.proofs.Fields.{field_value}
 use Rattle.codec.specs.Interleaved.{interleaved_cells}
 
 -- no answer is both
@@ -22,6 +28,10 @@ never p q = let z : ◌≡◌ {A = ℕ} 0 1 = cc in omega arith
 -- the length that stands at a place
 abbrev pub length_at : List ℕ → ℕ → ℕ
 length_at s at = unle (take 4 (drop at s))
+
+-- a length that was read
+pub field_read : (s : List ℕ) (at : ℕ) {v : ℕ} {r : Result ℕ Refusal} → told r ≡ field_at 4 11 s at → r ≡ Ok v → (4 ≤ length s - at) × (v ≡ length_at s at)
+field_read s at e f = field_value 4 11 s at _ (sym e ∙ told_same f)
 
 module _ (s : List ℕ) (at n : ℕ) where
   pub field_past : length s - at < 4 → interleaved_cells (suc n) (drop at s) ≡ refuses 11

@@ -19,17 +19,15 @@ use valid::{array_bytes, shape};
 fn walk_cells(bytes: &[u8], cells: usize) -> Result<usize, Refusal>
     ensures { told result ≡ walk_answer cells bytes.now }
 {
-    let mut left = cells;
     let mut at: usize = 4;
     let mut sum: usize = 0;
     let mut last: usize = 0;
-    while 0 < left {
+    for _ in 0..cells {
         let Ok(field) = field::read_u32(bytes, at) else {
             return Err(Refusal::PastEnd);
         };
         let length = field as usize;
         at += 4;
-        left -= 1;
         if 0 < length {
             if length == last {
                 if bytes.len() - at < last {
@@ -57,21 +55,19 @@ fn copy_cells(values: &mut [u8], offsets: &mut [u64], bytes: &[u8], cells: usize
     ensures joins { values.new ≡ over (joined (found cells bytes.now)) values.old }
     ensures places { offsets.new ≡ over (offsets_of (found cells bytes.now)) offsets.old }
 {
-    let mut i: usize = 0;
     let mut at: usize = 4;
     let mut to: usize = 0;
-    while i < cells {
+    for i in 0..cells {
         let length = field::le4_at(bytes, at) as usize;
         offsets[i] = to as u64;
         at += 4;
-        i += 1;
         if 0 < length {
             interleaved_cells::copy_cell(values, to, bytes, at, length, sum - to);
             at += length;
             to += length;
         }
     }
-    offsets[i] = to as u64;
+    offsets[cells] = to as u64;
 }
 
 // Cells that the walk found, `sum` bytes in all: 5, 6, and then the copying.

@@ -84,6 +84,12 @@ module _ {n : ℕ} {s os : List ℕ} (h : Held n s os) (d : List ℕ) (room : le
   pub count_same : length out ≡ length d
   count_same = behind.same
 
+pub storing_is : {n start i at start' at' : ℕ} {s os d out out' : List ℕ} → Storing n s os d out start i at
+    → out' ≡ out → start' ≡ start → at' ≡ at → Storing n s os d out' start' i at'
+storing_is {n} {start} {i} {at} {start'} {at'} {s} {os} {d} {out} {out'} c e f g =
+    subst (λ (l : List ℕ). Storing n s os d l start' i at') (sym e)
+    (subst (λ (k : ℕ). Storing n s os d out k i at') (sym f) (subst (Storing n s os d out start i) (sym g) c))
+
 module _ {n : ℕ} {s os d out : List ℕ} {start i at : ℕ} (c : Storing n s os d out start i at) where
   pub storing_same : length out ≡ length d
   storing_same = c.placed.same

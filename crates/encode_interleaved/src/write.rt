@@ -29,11 +29,9 @@ fn put_cells(out: &mut [u8], values: &[u8], offsets: &[u64], cells: usize)
 {
     field::put_u32(out, 0, cells as u64);
     let mut start: usize = 0;
-    let mut i: usize = 0;
     let mut at: usize = 4;
-    while i < cells {
-        i += 1;
-        let end = offsets[i] as usize;
+    for i in 0..cells {
+        let end = offsets[i + 1] as usize;
         let size = end - start;
         field::put_u32(out, at, size as u64);
         at += 4;

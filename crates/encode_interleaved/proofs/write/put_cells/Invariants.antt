@@ -1,11 +1,7 @@
 -- `interleaved::write::put_cells` meets its contract, by the laws of Storing.
 -- Assumes nothing.
-use Prim.Native.Nat.{◌-◌}
 use Rattle.encode_interleaved.proofs.Storing.{Storing}
 use Rattle.encode_interleaved.proofs.write.put_cells.Given as goal
 
 abbrev pub invariant-loop-i : goal.invariant-loop-i
 invariant-loop-i l = Storing l.cells l.values l.offsets l.initial.out l.out l.start l.i l.at
-
-abbrev pub decreases-loop-i : goal.decreases-loop-i
-decreases-loop-i l = l.cells - l.i
