@@ -18,7 +18,7 @@ use Rattle.array.proofs.Lists.{length_from_lem}
 use Rattle.array.proofs.Geometry.{All-from}
 use Rattle.array.proofs.Over.{over_at_length}
 use Rattle.array.proofs.Laying.{Laying, laying_same, laying_left, laying_ends, laying_part, laying_is}
-use Rattle.live_cells.specs.Live.{live_at}
+use Rattle.live_cells.specs.Live.{live_at, Planes}
 use Rattle.array.proofs.Numbered.{pieces_are, plane_is}
 use Rattle.codec.specs.Values.{put_values}
 use Rattle.live_cells.proofs.Runs.{passing-le, passing_start, All-passing, all_counted}
@@ -164,6 +164,10 @@ pub all_long : (o : Order) (k : ℕ) (s : List ℕ) (t : ℕ → Bool) {n : ℕ}
 all_long o k s t {n = n} h ec en = fixed_long o k s t n h ∙ ap (λ (m : ℕ). m * k) (sym ec ∙ en)
 
 -- ---- the planes of levels
+
+-- of fewer levels
+pub planes_to : {n : ℕ} {masks : List ℕ} {d l : ℕ} → Planes n masks d → l ≤ d → Planes n masks l
+planes_to {n} {masks} {d} {l} p h = record { shallow = omega (arith, p.shallow); few = p.few; planes = omega (arith, p.planes, mul-le-mul_right {m = l} {n = d} n h) }
 
 module _ (n : ℕ) (masks : List ℕ) (l : ℕ) (h : (l + 1) * n ≤ length masks) where
   pub mask_plane : l * n + n ≤ length masks

@@ -42,7 +42,8 @@ pub fn live_bytes(offsets: &[u64], live: Counted) -> usize
     sum_live_bytes(offsets, live.level)
 }
 
-// The values of the cells that the level counts, end to end; says how many bytes it wrote. Neighbours go as one run.
+// The values of the cells that the level counts, end to end; says how many bytes it wrote. Neighbours go as one run. As put_live_runs of
+// `encode_cells`, but a run lies between two offsets and has no size or order of cells: one function for both would have both sets of parameters.
 fn put_live_runs(out: &mut [u8], to: usize, values: &[u8], offsets: &[u64], level: Level) -> usize
     requires { Offsets level.cells offsets.now × (last offsets.now ≡ length values.now)
         × (to + length (joined (values_at (offset_at offsets.now) values.now (live_in level))) ≤ length out.old) }

@@ -38,6 +38,9 @@ use Rattle.encode_values.proofs.Levels.{NarrowOk, values_small, flat-length}
 
 -- ---- the masks of all levels
 
+pub measured_planes : {k : Kind} {n : ℕ} {masks os : List ℕ} → Measured k n masks os → Planes n masks k.depth
+measured_planes m = record { shallow = m.shallow; few = m.few; planes = m.planes }
+
 module _ {k : Kind} {n : ℕ} {c : Content} (r : Encodable k n c) where
   pub encodable_planes : Planes n c.masks k.depth
   encodable_planes = record { shallow = r.kind.shallow; few = r.few; planes = le_of_eq (sym r.content.masks_fit) }

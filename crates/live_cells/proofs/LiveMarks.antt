@@ -3,7 +3,7 @@
 use mathlib.Core.Path.{◌≡◌, refl, sym, ap, ap₂, ◌∙◌}
 use mathlib.Core.Logic.{◌≢◌}
 use Prim.Native.Nat.{ℕ, zero, suc, ◌+◌, ◌-◌, ◌*◌, ◌<◌, ◌≤◌}
-use native.Mathlib.Nat.{sub-zero, zero-add, zero-mul, one-mul}
+use native.Mathlib.Nat.{sub-zero, zero-add, zero-mul, one-mul, suc-mul, mul-le-mul_right}
 use native.Mathlib.Numerals.{add-one}
 use native.Mathlib.Omega.{arith}
 use mathlib.Core.Bool.{Bool, true, false, ◌&&◌}
@@ -57,6 +57,10 @@ module _ (n : ℕ) (masks : List ℕ) (i : ℕ) where
 
   pub mark_le : {a : ℕ} (l : ℕ) → a ≡ live_one n masks l i → a ≤ 1
   mark_le l e = omega (arith, one_le (shown_at n masks l i))
+
+-- the byte of the cell at a level above l
+pub row_in : (k : ℕ) {l n i m : ℕ} → k < l → i < n → l * n ≤ m → k * n + i < m
+row_in k {l} {n} {i} {m} h p q = omega (arith, mul-le-mul_right {m = suc k} {n = l} n h, suc-mul k n)
 
 -- ---- the cells from i on
 

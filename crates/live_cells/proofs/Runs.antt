@@ -45,6 +45,9 @@ module _ (t : ℕ → Bool) where
       ap (run_of t i) q ∙ ap (λ (b : Bool). pick b (suc (run_of t (suc i) (n - suc i))) 0) e
       ∙ ap (λ (j : ℕ). suc (run_of t j (n - j))) (sym (add-one i)) ∙ omega arith
 
+  pub run_none : (i n : ℕ) → n ≤ i → run_of t i (n - i) ≡ 0
+  run_none i n h = let q : n - i ≡ 0 = omega arith in ap (run_of t i) q
+
   pub run_all : ((i : ℕ) → t i ≡ true) → (i m : ℕ) → run_of t i m ≡ m
   run_all e i zero = refl
   run_all e i (suc m) = ap (λ (b : Bool). pick b (suc (run_of t (suc i) m)) 0) (e i) ∙ ap suc (run_all e (suc i) m)

@@ -116,6 +116,7 @@ pub struct Counted<'a> {
 
 impl<'a> Counted<'a> {
     // The same, with the depth as the caller writes it: where that is a constant, what goes by the level is compiled for it.
+    // Each caller matches on the depth itself: one match for all would take the call as a closure and its output beside it, and save no line.
     pub fn at_depth(self, depth: usize) -> Counted<'a>
         requires { depth ≡ self.level.depth }
         ensures { result ≡ self.entry }

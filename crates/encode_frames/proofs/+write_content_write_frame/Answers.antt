@@ -1,7 +1,7 @@
 -- `encode_frames::write_content` and `encode_frames::write_frame` meet their contracts: a content calls the frame of its level, and a frame the
 -- content with one level fewer left.
 -- Assumes nothing.
-use Rattle.std.proofs.Common.{◌≡◌, ◌≢◌, ◌≤◌, ◌<◌, ◌+◌, ◌-◌, ◌*◌, ℕ, List, [], length, subst, sym, ap, ap₂, ◌∙◌, arith}
+use Rattle.std.proofs.Common.{◌≡◌, ◌≢◌, ◌≤◌, ◌<◌, ◌+◌, ◌-◌, ℕ, List, [], length, subst, sym, ap, ap₂, ◌∙◌, arith}
 use native.Mathlib.Nat.{pos_of_ne-zero, mul-le-mul_right}
 use Rattle.array.specs.Content.{Content}
 use Rattle.array.specs.Kind.{Kind}

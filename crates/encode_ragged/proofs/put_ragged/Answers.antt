@@ -1,7 +1,7 @@
 -- `encode_ragged::put_ragged` meets its contract: each part has its place, and the parts are the stored values.
 -- Assumes nothing.
 use mathlib.Core.Path.{◌≡◌, refl, sym, ◌∙◌}
-use Prim.Native.Nat.{◌≤◌, ◌+◌, ◌*◌}
+use Prim.Native.Nat.{◌+◌, ◌*◌}
 use native.Mathlib.Omega.{arith}
 use lib.ListN.{length}
 use Rattle.array.specs.Meaning.{width_of, place_of}
@@ -17,7 +17,7 @@ use Rattle.encode_ragged.proofs.put_ragged.Goals as goal
 pub overflow_add-index : goal.overflow_add-index
 overflow_add-index c =
     let live = c.args.live in
-    omega (arith, c.type_inv.offsets, c.requires.0.counted, live.counted, live-le live.level.cells live.level.masks.now live.level.depth)
+    omega (arith, c.requires.0.counted, live.counted, live-le live.level.cells live.level.masks.now live.level.depth)
 
 pub overflow_mul-index : goal.overflow_mul-index
 overflow_mul-index c =
