@@ -60,7 +60,15 @@ fn set_sound(
 {
     let fitting = fit(lengths, store.len(), cell, cell_masks, value.len())?;
     settle(
-        masks, starts, lengths, store, order, cell, cell_masks, value, fitting.size,
+        masks,
+        starts,
+        lengths,
+        store,
+        order,
+        cell,
+        cell_masks,
+        value,
+        fitting.size,
     );
     Ok(())
 }
