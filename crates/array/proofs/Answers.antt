@@ -6,7 +6,6 @@ use native.Mathlib.Omega.{arith}
 use mathlib.Core.Bool.{Bool, true, false, ◌&&◌}
 use Rattle.std.specs.Prelude.{Result, Ok}
 use Rattle.array.specs.declared.answer.Lengths.{Lengths}
-use Rattle.array.specs.declared.answer.RaggedLengths.{RaggedLengths}
 use Rattle.array.specs.declared.refusal.Refusal.{Refusal}
 use Rattle.array.specs.Meaning.{told}
 use Rattle.array.specs.Answer.{Answer, gives, refuses, and_then, unless}
@@ -50,6 +49,3 @@ told_same e = ap told e
 -- success that names these lengths
 abbrev pub wrote : ℕ → ℕ → ℕ → Result Lengths Refusal
 wrote m v o = Ok (record { masks = m; values = v; offsets = o })
-
-abbrev pub wrote_ragged : ℕ → ℕ → Result RaggedLengths Refusal
-wrote_ragged v o = Ok (record { values = v; offsets = o })

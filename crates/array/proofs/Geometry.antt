@@ -2,13 +2,14 @@
 -- Assumes nothing.
 use mathlib.Core.Path.{◌≡◌, refl, sym, ap, ap₂, ◌∙◌, subst}
 use Prim.Native.Nat.{ℕ, zero, suc, ◌+◌, ◌*◌, ◌-◌, ◌/◌, ◌%◌, ◌<◌, ◌≤◌}
-use native.Mathlib.Nat.{add-zero, zero-mul, suc-mul, mul-add-div_right, div-eq_of_lt, mul-add-mod_self_right, mod-eq_of_lt}
+use native.Mathlib.Nat.{add-zero, zero-mul, suc-mul}
 use native.Mathlib.Omega.{arith}
 use mathlib.Core.Bool.{Bool, true, false, ◌&&◌}
 use mathlib.Core.List.{List, [], ◌∷◌, ◌++◌, map, append-nil}
 use lib.Dec.{leb, ltb, eqb}
 use lib.Arith.{lt_of_le-ne}
 use borrow.Author.Tests.{eqb-true, eqb-false, ne_eqb, le-leb, lt-leb, lt-ltb, le-ltb}
+use Rattle.std.proofs.lemmas.Nat.{div-mul-add, mod-mul-add}
 use Rattle.array.specs.Lists.{pick, from, passing, count_passing, count, All}
 use Rattle.array.specs.Shape.{volume}
 use Rattle.array.specs.Subset.{Subset, SubsetOk, rows, cells_in, cells_of_all, coordinates, inside_test}
@@ -133,19 +134,11 @@ module _ (a n : ℕ) where
 
 -- ---- place j of row i
 
--- its row is i
-row_of : (v i j : ℕ) → j < v → (i * v + j) / v ≡ i
-row_of v i j l = mul-add-div_right (omega arith) i j ∙ ap (λ (k : ℕ). i + k) (div-eq_of_lt l) ∙ add-zero i
-
--- its place in the row is j
-place_of : (v i j : ℕ) → j < v → (i * v + j) % v ≡ j
-place_of v i j l = mul-add-mod_self_right i v j ∙ mod-eq_of_lt l
-
--- so a test of row and place is, along row i, the row's test of i and the place's of j
+-- a test of row and place is, along row i, the row's test of i and the place's of j
 along_row : (v : ℕ) (t g : ℕ → Bool) (i : ℕ) → All (λ j. (t ((i * v + j) / v) && g ((i * v + j) % v)) ≡ (t i && g j)) (from 0 v)
 along_row v t g i =
     All-from (λ j. (t ((i * v + j) / v) && g ((i * v + j) % v)) ≡ (t i && g j)) 0 v
-    (λ j h l. ap₂ (λ (x y : ℕ). t x && g y) (row_of v i j (omega arith)) (place_of v i j (omega arith)))
+    (λ j h l. ap₂ (λ (x y : ℕ). t x && g y) (div-mul-add i v j (omega arith)) (mod-mul-add i v j (omega arith)))
 
 -- ---- the cells of a subset
 

@@ -1,27 +1,16 @@
 -- Subsets laid end to end as numbers: those that the definitions speak of, taken one after another.
 -- Assumes nothing.
-use mathlib.Core.Path.{◌≡◌, refl, sym, ap, ap₂, ◌∙◌}
+use mathlib.Core.Path.{◌≡◌, sym, ap, ap₂, ◌∙◌}
 use Prim.Native.Nat.{ℕ, zero, suc, ◌+◌, ◌-◌, ◌*◌, ◌/◌, ◌%◌, ◌<◌, ◌≤◌}
 use native.Mathlib.Nat.{mul-div_cancel, div-add-mod', mul-mod_left, zero-div, zero-mul, suc-mul, sub-zero}
 use native.Mathlib.Omega.{arith}
 use mathlib.Core.List.{List, [], ◌∷◌, map}
 use lib.ListN.{length, take, drop, length-drop}
-use lib.Seq.{take-nil, take_all, length-take-le, drop-drop}
+use lib.Seq.{take-take, take_all, length-take-le, drop-drop}
+use Rattle.std.proofs.lemmas.List.{drop-take}
 use Rattle.array.specs.Lists.{pieces}
 use Rattle.array.specs.Subset.{Subset, pairs, subset_of, subsets_of, SubsetOk, NumbersOk}
 use Rattle.array.specs.Rows.{Within}
-
-take_front : (d e : ℕ) (xs : List ℕ) → take d (take (d + e) xs) ≡ take d xs
-take_front zero e xs = refl
-take_front (suc d) e [] = let q : suc d + e ≡ suc (d + e) = omega arith in ap (λ (k : ℕ). take (suc d) (take k [])) q
-take_front (suc d) e (x ∷ xs) =
-    let q : suc d + e ≡ suc (d + e) = omega arith in
-    ap (λ (k : ℕ). take (suc d) (take k (x ∷ xs))) q ∙ ap (λ (r : List ℕ). x ∷ r) (take_front d e xs)
-
-drop_front : (d e : ℕ) (xs : List ℕ) → drop d (take (d + e) xs) ≡ take e (drop d xs)
-drop_front zero e xs = let q : 0 + e ≡ e = omega arith in ap (λ (k : ℕ). take k xs) q
-drop_front (suc d) e [] = let q : suc d + e ≡ suc (d + e) = omega arith in ap (λ (k : ℕ). drop (suc d) (take k [])) q ∙ sym (take-nil e)
-drop_front (suc d) e (x ∷ xs) = let q : suc d + e ≡ suc (d + e) = omega arith in ap (λ (k : ℕ). drop (suc d) (take k (x ∷ xs))) q ∙ drop_front d e xs
 
 -- no numbers are no subsets
 pub subsets_none : (d : ℕ) → subsets_of d [] ≡ []
@@ -71,8 +60,8 @@ module _ (d at : ℕ) (flat : List ℕ) where
       let e₂ : at + d + d - (at + d) ≡ d = omega arith in
       let e₃ : 2 * d ≡ d + d = omega arith in
       ap (λ (k : ℕ). subset_of d (take k (drop at flat))) e₃
-      ∙ ap₂ pairs (take_front d d (drop at flat) ∙ ap (λ (j : ℕ). take j (drop at flat)) (sym e₁))
-      (drop_front d d (drop at flat) ∙ ap₂ (λ (j : ℕ) (r : List ℕ). take j r) (sym e₂) (drop-drop d at flat))
+      ∙ ap₂ pairs (take-take d (d + d) (drop at flat) (omega arith) ∙ ap (λ (j : ℕ). take j (drop at flat)) (sym e₁))
+      (drop-take d d (drop at flat) ∙ ap₂ (λ (j : ℕ) (r : List ℕ). take j r) (sym e₂) (drop-drop d at flat))
 
   behind : drop (2 * d) (drop at flat) ≡ drop (at + d + d) flat
   behind = let e : at + 2 * d ≡ at + d + d = omega arith in drop-drop (2 * d) at flat ∙ ap (λ (k : ℕ). drop k flat) e
