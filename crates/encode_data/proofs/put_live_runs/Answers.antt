@@ -12,7 +12,7 @@ pub overflow_add-end : goal.overflow_add-end
 overflow_add-end c = omega (arith, slicing_inside c.loop-i.invariant c.run-run.ensures c.loop-i-test.true)
 
 pub offset_bounds-offsets-i-else-mark-eq0 : goal.offset_bounds-offsets-i-else-mark-eq0
-offset_bounds-offsets-i-else-mark-eq0 c = omega (arith, c.type_inv.offsets, slicing_inside c.loop-i.invariant c.run-run.ensures c.loop-i-test.true)
+offset_bounds-offsets-i-else-mark-eq0 c = omega (arith, slicing_inside c.loop-i.invariant c.run-run.ensures c.loop-i-test.true)
 
 pub bounds-offsets-i-else-mark-eq0 : goal.bounds-offsets-i-else-mark-eq0
 bounds-offsets-i-else-mark-eq0 c = slicing_inside c.loop-i.invariant c.run-run.ensures c.loop-i-test.true
