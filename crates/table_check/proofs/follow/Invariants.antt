@@ -1,6 +1,5 @@
 -- `table_check::follow` meets its contract, by the laws of Following.
 -- Assumes nothing.
-use lib.ListN.{length}
 use Rattle.table_check.proofs.Following.{Turn}
 use Rattle.table_check.proofs.follow.Given as goal
 
