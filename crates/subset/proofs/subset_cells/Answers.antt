@@ -4,7 +4,6 @@ use Prim.Native.Nat.{ℕ}
 use mathlib.Core.Path.{◌≡◌, sym, ap, ◌∙◌}
 use mathlib.Core.Bool.{true}
 use mathlib.Core.List.{List}
-use native.Mathlib.Omega.{arith}
 use borrow.Author.Tests.{not-true, not-false}
 use lib.ListN.{length}
 use Rattle.valid.specs.ShapeCells.{told_cells}
@@ -31,22 +30,6 @@ returns-then-not-subset_fits c =
     let shaped : Counted shape c.in-Count.field-0 = counted shape c.in-Count.field-0 (sym (ap told_cells c.in-Count.is) ∙ c.shape_cells.ensures) in
     cells_no_subset shape numbers lent shaped.passes (sym c.subset_fits.ensures ∙ not-true c.subset_fits.result c.if-not-subset_fits.true-raw)
 
-pub slice_bounds-volume_of-count : goal.slice_bounds-volume_of-count
-slice_bounds-volume_of-count c =
-    let shape : List ℕ = c.args.shape.now in
-    let numbers : List ℕ = c.args.numbers.now in
-    let passed : numbers_test shape numbers ≡ true = sym c.subset_fits.ensures ∙ not-false c.subset_fits.result c.if-not-subset_fits.false-raw in
-    let fitting : NumbersOk shape numbers = numbers_ok shape numbers passed in
-    omega (arith, fitting.counted)
-
-pub slice_bounds-volume_of-start : goal.slice_bounds-volume_of-start
-slice_bounds-volume_of-start c =
-    let shape : List ℕ = c.args.shape.now in
-    let numbers : List ℕ = c.args.numbers.now in
-    let passed : numbers_test shape numbers ≡ true = sym c.subset_fits.ensures ∙ not-false c.subset_fits.result c.if-not-subset_fits.false-raw in
-    let fitting : NumbersOk shape numbers = numbers_ok shape numbers passed in
-    omega (arith, fitting.counted)
-
 pub volume_of-count-requires : goal.volume_of-count-requires
 volume_of-count-requires c =
     let shape : List ℕ = c.args.shape.now in
@@ -68,30 +51,6 @@ returns-then-cells-count c =
     ∙ sym (within_cells shape _ _ (within-parts shape numbers fitting))
     ∙ ap (λ (b : Subset). length (cells_in shape b)) (subset_parts (length shape) numbers) in
     cells_no_room shape numbers lent shaped.passes passed c.volume_of-count.result total c.if-cells-count.true
-
-pub slice_bounds-store_rows-end : goal.slice_bounds-store_rows-end
-slice_bounds-store_rows-end c =
-    let shape : List ℕ = c.args.shape.now in
-    let numbers : List ℕ = c.args.numbers.now in
-    let passed : numbers_test shape numbers ≡ true = sym c.subset_fits.ensures ∙ not-false c.subset_fits.result c.if-not-subset_fits.false-raw in
-    let fitting : NumbersOk shape numbers = numbers_ok shape numbers passed in
-    omega (arith, fitting.counted)
-
-pub slice_bounds-store_rows-count-2 : goal.slice_bounds-store_rows-count-2
-slice_bounds-store_rows-count-2 c =
-    let shape : List ℕ = c.args.shape.now in
-    let numbers : List ℕ = c.args.numbers.now in
-    let passed : numbers_test shape numbers ≡ true = sym c.subset_fits.ensures ∙ not-false c.subset_fits.result c.if-not-subset_fits.false-raw in
-    let fitting : NumbersOk shape numbers = numbers_ok shape numbers passed in
-    omega (arith, fitting.counted)
-
-pub slice_bounds-store_rows-start-2 : goal.slice_bounds-store_rows-start-2
-slice_bounds-store_rows-start-2 c =
-    let shape : List ℕ = c.args.shape.now in
-    let numbers : List ℕ = c.args.numbers.now in
-    let passed : numbers_test shape numbers ≡ true = sym c.subset_fits.ensures ∙ not-false c.subset_fits.result c.if-not-subset_fits.false-raw in
-    let fitting : NumbersOk shape numbers = numbers_ok shape numbers passed in
-    omega (arith, fitting.counted)
 
 pub store_rows-requires : goal.store_rows-requires
 store_rows-requires c =
