@@ -2,14 +2,23 @@
 -- What a walk asks, which is what is left at each turn, and what the next subset is.
 -- Assumes nothing.
 use Rattle.std.specs.Prelude.{◌≡◌, ℕ, ◌-◌, ◌<◌, ◌≤◌, List, ◌∷◌, length, take, drop}
+use Rattle.std.specs.Coded.{le_prop}
+use native.Mathlib.Nat.{ℕ_set}
 use Rattle.array.specs.Shape.{ShapeOk}
-use Rattle.array.specs.Subset.{subsets_of, pairs, ManyOk}
-use Rattle.subset.specs.Walk.{SubsetAsked}
+use Rattle.array.specs.Subset.{Subset, FullOk, lengths, subsets_of, pairs, ManyOk}
+use Rattle.subset.specs.Walk.{SubsetAsked, All-prop, SubsetOk-prop, ShapeOk-prop}
 
 -- a shape, and numbers that are subsets of it, each of which holds a cell
 pub record SubsetsOk (shape numbers : List ℕ) : Type 0 where
   pub shaped : ShapeOk shape
   pub many : ManyOk shape numbers
+
+-- it has one proof at most, so that a struct may hold it
+FullOk-prop : (shape : List ℕ) (b : Subset) → IsProp (FullOk shape b)
+FullOk-prop shape b = hlevel (SubsetOk-prop shape b, All-prop (λ n. 1 ≤ n) (λ n. le_prop) (lengths b))
+
+pub SubsetsOk-prop : (shape numbers : List ℕ) → IsProp (SubsetsOk shape numbers)
+SubsetsOk-prop shape numbers = hlevel (ℕ_set, ShapeOk-prop, All-prop (FullOk shape) (FullOk-prop shape) (subsets_of (length shape) numbers))
 
 -- the numbers from a up to e, as a call is lent them
 abbrev pub part : List ℕ → ℕ → ℕ → List ℕ

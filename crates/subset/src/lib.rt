@@ -17,6 +17,8 @@ use array::answer::Written;
 use array::refusal;
 use valid::shape::Cells;
 
+pub mod walk;
+
 // Whether a start leaves room for the length in its side. The length is taken off the side, since a sum could wrap.
 fn leaves_room(side: u64, start: u64, len: u64) -> bool
     requires { len ≤ side }
