@@ -1,7 +1,7 @@
 -- `extract` meets its contract: each refusal in its order (proofs/Outcomes), then the cut of an array that keeps the rules.
 -- Assumes nothing.
 use Prim.Native.Nat.{ℕ}
-use mathlib.Core.Path.{◌≡◌, refl, sym, ap, ◌∙◌}
+use mathlib.Core.Path.{◌≡◌, sym, ap, ◌∙◌}
 use mathlib.Core.Bool.{true}
 use mathlib.Core.List.{List}
 use borrow.Author.Tests.{not-true, not-false}
@@ -76,7 +76,17 @@ cut_valid-requires c =
     c.check_array-checked.ensures ∙ ap (λ (n : ℕ). check_of kind n array) shaped.is in
     let keeps : KeepsRules kind (volume shape) array =
     check_valid kind (volume shape) array c.check_array-checked.result checks c.in-Valid.is in
-    (record { shaped = shaped.shaped; numbers = fitting; counted = refl }, record { whole = shaped.is; content = keeps.array.fits })
+    rw c.new.ensures.shape (record { whole = shaped.is; content = keeps.array.fits })
+
+pub new-requires : goal.new-requires
+new-requires c =
+    let shape : List ℕ = c.args.shape.now in
+    let numbers : List ℕ = c.args.subset.now in
+    let cells : ℕ = c.in-Count.cells in
+    let shaped : Counted shape cells = counted shape cells (sym (ap told_cells c.in-Count.is) ∙ c.shape_cells.ensures) in
+    let subset_passes : numbers_test shape numbers ≡ true =
+    sym c.subset_fits.ensures ∙ not-false c.subset_fits.result c.if-not-subset_fits.false-raw in
+    (shaped.shaped, numbers_ok shape numbers subset_passes)
 
 pub returns-in-Refused : goal.returns-in-Refused
 returns-in-Refused c =
@@ -109,5 +119,5 @@ returns-in-Valid c =
     sym c.subset_fits.ensures ∙ not-false c.subset_fits.result c.if-not-subset_fits.false-raw in
     let checks : told_checked c.check_array-checked.result ≡ check_of kind (volume shape) array =
     c.check_array-checked.ensures ∙ ap (λ (n : ℕ). check_of kind n array) shaped.is in
-    c.cut_valid.ensures
+    rw (c.new.ensures.shape, c.new.ensures.said) at c.cut_valid.ensures
     ∙ kept kind shape numbers array outputs kind_passes shaped.passes subset_passes checks c.in-Valid.is
