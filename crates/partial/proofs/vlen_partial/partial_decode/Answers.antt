@@ -1,7 +1,7 @@
 -- `partial_decode` meets its contract: each refusal in its order (proofs/Outcomes), then the cut of what the check found (proofs/Stored).
 -- Assumes nothing.
 use Prim.Native.Nat.{ℕ}
-use mathlib.Core.Path.{◌≡◌, refl, sym, ap, ◌∙◌}
+use mathlib.Core.Path.{◌≡◌, sym, ap, ◌∙◌}
 use mathlib.Core.Bool.{true}
 use mathlib.Core.List.{List}
 use native.Mathlib.Omega.{arith}
@@ -68,7 +68,16 @@ cut_stored-requires c =
     let checks : told_index c.find_index-found.result ≡ found_in (width_of width) place bytes 0 (volume shape) = c.find_index-found.ensures ∙ ap (found_in (width_of width) place bytes 0) shaped.is in
     let index : Index = c.in-Found.index in
     let read : Read width place bytes (volume shape) index = read_found width place bytes (volume shape) index (sym checks ∙ ap told_index c.in-Found.is) in
-    (record { shaped = shaped.shaped; numbers = fitting; counted = refl }, read.stored)
+    rw c.new.ensures.shape read.stored
+
+pub new-requires : goal.new-requires
+new-requires c =
+    let shape : List ℕ = c.args.shape.now in
+    let numbers : List ℕ = c.args.subset.now in
+    let cells : ℕ = c.in-Count.cells in
+    let shaped : Counted shape cells = counted shape cells (sym (ap told_cells c.in-Count.is) ∙ c.shape_cells.ensures) in
+    let subset_passes : numbers_test shape numbers ≡ true = sym c.subset_fits.ensures ∙ not-false c.subset_fits.result c.if-not-subset_fits.false-raw in
+    (shaped.shaped, numbers_ok shape numbers subset_passes)
 
 pub returns-in-Refused : goal.returns-in-Refused
 returns-in-Refused c =
@@ -100,5 +109,5 @@ returns-in-Found c =
     let index : Index = c.in-Found.index in
     let read : Read width place bytes (volume shape) index = read_found width place bytes (volume shape) index (sym checks ∙ ap told_index c.in-Found.is) in
     let i = index in
-    c.cut_stored.ensures
+    rw (c.new.ensures.shape, c.new.ensures.said) at c.cut_stored.ensures
     ∙ cut_read width place shape numbers bytes outputs shaped.passes subset_passes i read
