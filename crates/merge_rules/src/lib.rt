@@ -12,59 +12,69 @@ ghost use Rattle.merge_rules.specs.Checks.{check_answer, told_checks};
 
 use array::kind::{Kind, Values};
 use array::refusal;
+use subset::walk::Parts;
 use valid::array_bytes::MOST_BYTES;
 use valid::shape::Cells;
 
 // What a chunk takes: its value bytes, its offsets.
 #[derive(Clone, Copy)]
-pub enum Chunk {
-    Takes(usize, usize),
-    Bad,
+pub struct Chunk {
+    pub bytes: usize,
+    pub numbers: usize,
 }
 
 // What a chunk takes by the offsets that are left: a ragged one has as many value bytes as its last offset says.
-fn chunk_size(form: Values, cells: usize, offsets: &[u64]) -> Chunk
+fn chunk_size(form: Values, cells: usize, offsets: &[u64]) -> Option<Chunk>
     requires { cells ≤ most_cells }
     ensures { told_chunk result ≡ size_answer (form_of form) cells offsets.now }
 {
     match form {
-        Values::Fixed(size, _) => Chunk::Takes(cells * (size as usize), 0),
+        Values::Fixed(size, _) => Some(Chunk {
+            bytes: cells * (size as usize),
+            numbers: 0,
+        }),
         Values::Ragged(_, _) => {
             if offsets.len() <= cells {
-                return Chunk::Bad;
+                return None;
             }
-            Chunk::Takes(offsets[cells] as usize, cells + 1)
+            Some(Chunk {
+                bytes: offsets[cells] as usize,
+                numbers: cells + 1,
+            })
         }
     }
 }
 
 // The first of the chunks that are left, of `cells` cells: what it takes, where it keeps the array's rules.
-fn check_chunk(kind: Kind, cells: usize, masks: &[u8], values: &[u8], offsets: &[u64]) -> Chunk
+fn check_chunk(
+    kind: Kind,
+    cells: usize,
+    masks: &[u8],
+    values: &[u8],
+    offsets: &[u64],
+) -> Option<Chunk>
     requires { cells ≤ most_cells }
     ensures { told_chunk result ≡ chunk_answer (kind_of kind) cells (content_array masks.now values.now offsets.now) }
 {
     let depth = kind.depth as usize;
     let planes = depth * cells;
     if masks.len() < planes {
-        return Chunk::Bad;
+        return None;
     }
-    let form = kind.values;
-    let Chunk::Takes(bytes, numbers) = chunk_size(form, cells, offsets) else {
-        return Chunk::Bad;
-    };
-    if values.len() < bytes {
-        return Chunk::Bad;
+    let chunk = chunk_size(kind.values, cells, offsets)?;
+    if values.len() < chunk.bytes {
+        return None;
     }
     if !valid::array_bytes::keeps_rules(
         kind,
         cells,
         &masks[0..planes],
-        &values[0..bytes],
-        &offsets[0..numbers],
+        &values[0..chunk.bytes],
+        &offsets[0..chunk.numbers],
     ) {
-        return Chunk::Bad;
+        return None;
     }
-    Chunk::Takes(bytes, numbers)
+    Some(chunk)
 }
 
 // Whether all chunks of a list keep the array's rules, and nothing is left over.
@@ -81,22 +91,18 @@ pub fn check_chunks(
         (content_array masks.now values.now offsets.now) }
 {
     let depth = kind.depth as usize;
-    let mut at: usize = 0;
     let mut p: usize = 0;
     let mut v: usize = 0;
     let mut o: usize = 0;
-    while at < subsets.len() {
-        let next = subset::subset_at(shape, subsets, at);
-        let end = next.end;
-        let m = next.cells;
+    for part in Parts::new(shape, subsets) {
+        let m = part.count;
         let chunk = check_chunk(kind, m, &masks[p..], &values[v..], &offsets[o..]);
-        let Chunk::Takes(bytes, numbers) = chunk else {
+        let Some(taken) = chunk else {
             return false;
         };
         p += depth * m;
-        v += bytes;
-        o += numbers;
-        at = end;
+        v += taken.bytes;
+        o += taken.numbers;
     }
     if p != masks.len() {
         return false;
