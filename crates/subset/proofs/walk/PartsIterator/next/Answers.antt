@@ -2,7 +2,7 @@
 -- Assumes nothing.
 use mathlib.Core.Path.{refl}
 use native.Mathlib.Omega.{arith}
-use Rattle.subset.proofs.Subsets.{Split, split_room, split_first}
+use Rattle.subset.proofs.Subsets.{Split, split_first}
 use Rattle.subset.proofs.walk.PartsIterator.next.Goals.{After-split_at-2}
 use Rattle.subset.proofs.walk.PartsIterator.next.Goals as goal
 

@@ -1,6 +1,5 @@
 -- `next` of the rows meets its contract: a row begins at the iterator's place (proofs/Rows).
 -- Assumes nothing.
-use Prim.Native.Nat.{◌+◌}
 use mathlib.Core.Path.{refl}
 use native.Mathlib.Omega.{arith}
 use Rattle.subset.specs.Walk.{RowAt}
