@@ -14,9 +14,10 @@ ghost use Rattle.array.specs.Places.{bytes_at};
 ghost use Rattle.subset.specs.Cells.{cells_of};
 ghost use Rattle.cut_ragged.specs.Source.{stored_at, begins_in, values_in, There, Holds, RowAsked, CutAsked, put_ragged};
 
-use array::answer::WrittenRagged;
+use array::answer::RaggedLengths;
+use array::kind;
 use array::kind::IndexWidth;
-use array::{kind, refusal};
+use array::refusal::Refusal;
 use buffer::{copy, field};
 use subset::walk::{Row, Subset};
 
@@ -115,7 +116,7 @@ pub fn cut(
     subset: Subset,
     values: &mut [u8],
     offsets: &mut [u64],
-) -> WrittenRagged
+) -> Result<RaggedLengths, Refusal>
     requires { Holds src (volume subset.shape.now) }
     ensures { outcome_ragged result values.new offsets.new
         ≡ put_ragged (end_to_end (values_in src.entry (cells_of subset.entry))) (content_ragged values.old offsets.old) }
@@ -124,14 +125,17 @@ pub fn cut(
     if short {
         let need = count_bytes(src, subset);
         if values.len() < need {
-            return WrittenRagged::Refused(refusal::OUTPUT);
+            return Err(Refusal::Output);
         }
     }
     let many = subset.count + 1;
     if offsets.len() < many {
-        return WrittenRagged::Refused(refusal::OUTPUT);
+        return Err(Refusal::Output);
     }
     offsets[0] = 0;
     let total = copy_rows(values, offsets, src, subset);
-    WrittenRagged::Lengths(total, many)
+    Ok(RaggedLengths {
+        values: total,
+        offsets: many,
+    })
 }

@@ -12,13 +12,11 @@ ghost use Rattle.subset.specs.Cells.{cells_of};
 ghost use Rattle.cut_ragged.specs.Source.{put_ragged};
 ghost use Rattle.extract.specs.Asked.{values_cut, ValuesAsked, ArrayAsked};
 
-use array::answer::{WrittenArray, WrittenRagged};
+use array::answer::{Lengths, RaggedLengths};
 use array::kind::{Kind, Values};
-use array::refusal;
+use array::refusal::Refusal;
 use cut_ragged::{RaggedValues, Source};
 use subset::walk::Subset;
-use valid::array_bytes::Checked;
-use valid::shape::Cells;
 
 pub mod cells;
 
@@ -30,7 +28,7 @@ fn cut_values(
     values: &[u8],
     offsets: &[u64],
     subset: Subset,
-) -> WrittenRagged
+) -> Result<RaggedLengths, Refusal>
     requires { ValuesAsked (form_of form) values.now offsets.now subset.shape.now }
     ensures { outcome_ragged result out_values.new out_offsets.new
         ≡ put_ragged (values_cut (form_of form) values.now offsets.now (cells_of subset.entry)) (content_ragged out_values.old out_offsets.old) }
@@ -39,10 +37,13 @@ fn cut_values(
         Values::Fixed(size, _) => {
             let bytes = subset.count * (size as usize);
             if out_values.len() < bytes {
-                WrittenRagged::Refused(refusal::OUTPUT)
+                Err(Refusal::Output)
             } else {
                 cells::copy_cells(out_values, 0, values, 0, size as usize, subset);
-                WrittenRagged::Lengths(bytes, 0)
+                Ok(RaggedLengths {
+                    values: bytes,
+                    offsets: 0,
+                })
             }
         }
         Values::Ragged(_, _) => {
@@ -70,7 +71,7 @@ fn cut_valid(
     out_masks: &mut [u8],
     out_values: &mut [u8],
     out_offsets: &mut [u64],
-) -> WrittenArray
+) -> Result<Lengths, Refusal>
     requires { ArrayAsked (kind_of kind) cells subset.shape.now (content_array masks.now values.now offsets.now) }
     ensures { outcome_array result out_masks.new out_values.new out_offsets.new
         ≡ put_into (cut_of (kind_of kind) subset.entry.shape.now (content_array masks.now values.now offsets.now)
@@ -79,23 +80,15 @@ fn cut_valid(
     let depth = kind.depth as usize;
     let mask_bytes = depth * subset.count;
     if out_masks.len() < mask_bytes {
-        return WrittenArray::Refused(refusal::OUTPUT);
+        return Err(Refusal::Output);
     }
-    let written = cut_values(
-        kind.values,
-        out_values,
-        out_offsets,
-        values,
-        offsets,
-        subset,
-    );
-    match written {
-        WrittenRagged::Refused(e) => WrittenArray::Refused(e),
-        WrittenRagged::Lengths(bytes, numbers) => {
-            cells::copy_masks(out_masks, masks, depth, cells, subset);
-            WrittenArray::Lengths(mask_bytes, bytes, numbers)
-        }
-    }
+    let written = cut_values(kind.values, out_values, out_offsets, values, offsets, subset)?;
+    cells::copy_masks(out_masks, masks, depth, cells, subset);
+    Ok(Lengths {
+        masks: mask_bytes,
+        values: written.values,
+        offsets: written.offsets,
+    })
 }
 
 // The masks, values and offsets of the cells of a subset, cut from an array. Nothing is stored before the last check.
@@ -109,35 +102,28 @@ pub fn extract(
     out_masks: &mut [u8],
     out_values: &mut [u8],
     out_offsets: &mut [u64],
-) -> WrittenArray
+) -> Result<Lengths, Refusal>
     ensures { outcome_array result out_masks.new out_values.new out_offsets.new
         ≡ extracted (kind_of kind) shape.now subset.now (content_array masks.now values.now offsets.now)
         (content_array out_masks.old out_values.old out_offsets.old) }
 {
     if !valid::kind::check_kind(kind) {
-        return WrittenArray::Refused(refusal::KIND);
+        return Err(Refusal::Kind);
     }
-    let Cells::Count(cells) = valid::shape::shape_cells(shape) else {
-        return WrittenArray::Refused(refusal::SHAPE);
-    };
+    let cells = valid::shape::shape_cells(shape)?;
     if !subset::subset_fits(shape, subset) {
-        return WrittenArray::Refused(refusal::SUBSET);
+        return Err(Refusal::Subset);
     }
-    let checked = valid::array_bytes::check_array(kind, cells, masks, values, offsets);
-    match checked {
-        Checked::Refused(e) => WrittenArray::Refused(e),
-        Checked::Valid => {
-            cut_valid(
-                kind,
-                cells,
-                Subset::new(shape, subset),
-                masks,
-                values,
-                offsets,
-                out_masks,
-                out_values,
-                out_offsets,
-            )
-        }
-    }
+    valid::array_bytes::check_array(kind, cells, masks, values, offsets)?;
+    cut_valid(
+        kind,
+        cells,
+        Subset::new(shape, subset),
+        masks,
+        values,
+        offsets,
+        out_masks,
+        out_values,
+        out_offsets,
+    )
 }

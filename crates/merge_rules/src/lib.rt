@@ -3,18 +3,17 @@
 
 ghost use Rattle.std.specs.Prelude.{◌≡◌, ◌≤◌, length};
 ghost use Rattle.array.specs.Limits.{most_cells};
-ghost use Rattle.array.specs.Meaning.{form_of, kind_of};
+ghost use Rattle.array.specs.Meaning.{form_of, kind_of, told};
 ghost use Rattle.array.specs.Outcome.{content_array};
 ghost use Rattle.array.specs.Subset.{subsets_of};
 ghost use Rattle.subset.specs.Subsets.{SubsetsOk};
 ghost use Rattle.merge_rules.specs.Chunks.{size_answer, chunk_answer, chunks_test, told_chunk};
-ghost use Rattle.merge_rules.specs.Checks.{check_answer, told_checks};
+ghost use Rattle.merge_rules.specs.Checks.{check_answer};
 
 use array::kind::{Kind, Values};
-use array::refusal;
+use array::refusal::Refusal;
 use subset::walk::Parts;
 use valid::array_bytes::MOST_BYTES;
-use valid::shape::Cells;
 
 // What a chunk takes: its value bytes, its offsets.
 #[derive(Clone, Copy)]
@@ -113,14 +112,8 @@ pub fn check_chunks(
     o == offsets.len()
 }
 
-// What the stores of a merge go by: the cells of the shape.
-#[derive(Clone, Copy)]
-pub enum Checks {
-    Passed(usize),
-    Refused(u8),
-}
-
-// All checks of a merge but those of its cover and its outputs. 5 goes by the value bytes, which are all in cells.
+// All checks of a merge but those of its cover and its outputs, and how many cells the shape has. 5 goes by the value bytes, which are all
+// in cells.
 pub fn check_merge(
     kind: Kind,
     shape: &[u64],
@@ -128,24 +121,22 @@ pub fn check_merge(
     masks: &[u8],
     values: &[u8],
     offsets: &[u64],
-) -> Checks
-    ensures { told_checks result ≡ check_answer (kind_of kind) shape.now subsets.now
+) -> Result<usize, Refusal>
+    ensures { told result ≡ check_answer (kind_of kind) shape.now subsets.now
         (content_array masks.now values.now offsets.now) }
 {
     if !valid::kind::check_kind(kind) {
-        return Checks::Refused(refusal::KIND);
+        return Err(Refusal::Kind);
     }
-    let Cells::Count(cells) = valid::shape::shape_cells(shape) else {
-        return Checks::Refused(refusal::SHAPE);
-    };
+    let cells = valid::shape::shape_cells(shape)?;
     if !subset::subsets_fit(shape, subsets) {
-        return Checks::Refused(refusal::SUBSET);
+        return Err(Refusal::Subset);
     }
     if !check_chunks(kind, shape, subsets, masks, values, offsets) {
-        return Checks::Refused(refusal::CONTENT);
+        return Err(Refusal::Content);
     }
     if values.len() > MOST_BYTES {
-        return Checks::Refused(refusal::SIZE);
+        return Err(Refusal::Size);
     }
-    Checks::Passed(cells)
+    Ok(cells)
 }

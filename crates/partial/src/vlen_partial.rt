@@ -9,13 +9,12 @@ ghost use Rattle.chunks.specs.Calls.{partially_decoded};
 ghost use Rattle.subset.specs.Cells.{cells_of};
 ghost use Rattle.partial.specs.Stored.{source_of, stored_values, cut_answer, StoredAsked};
 
-use array::answer::WrittenRagged;
+use array::answer::RaggedLengths;
 use array::kind::{IndexPlace, IndexWidth};
-use array::refusal;
+use array::refusal::Refusal;
 use cut_ragged::{RaggedValues, Source};
-use stored_index::{Index, Indexed};
+use stored_index::Index;
 use subset::walk::Subset;
-use valid::shape::Cells;
 
 // How the offsets of an index lie.
 fn source_of(width: IndexWidth) -> Source
@@ -36,7 +35,7 @@ fn cut_stored(
     subset: Subset,
     values: &mut [u8],
     offsets: &mut [u64],
-) -> WrittenRagged
+) -> Result<RaggedLengths, Refusal>
     requires { StoredAsked width bytes.now found (volume subset.shape.now) }
     ensures { outcome_ragged result values.new offsets.new
         ≡ ragged_outcome (cut_answer found.last (stored_values width bytes.now found (cells_of subset.entry))
@@ -44,7 +43,7 @@ fn cut_stored(
 {
     let last = found.last;
     if stored_index::too_large(last) {
-        return WrittenRagged::Refused(refusal::SIZE);
+        return Err(Refusal::Size);
     }
     let source = source_of(width);
     // No offset is a number by itself: all are read where they are stored.
@@ -67,28 +66,14 @@ pub fn partial_decode(
     bytes: &[u8],
     values: &mut [u8],
     offsets: &mut [u64],
-) -> WrittenRagged
+) -> Result<RaggedLengths, Refusal>
     ensures { outcome_ragged result values.new offsets.new
         ≡ partially_decoded (width_of width) (place_of place) shape.now subset.now bytes.now (content_ragged values.old offsets.old) }
 {
-    let Cells::Count(cells) = valid::shape::shape_cells(shape) else {
-        return WrittenRagged::Refused(refusal::SHAPE);
-    };
+    let cells = valid::shape::shape_cells(shape)?;
     if !subset::subset_fits(shape, subset) {
-        return WrittenRagged::Refused(refusal::SUBSET);
+        return Err(Refusal::Subset);
     }
-    let found = stored_index::find_index(bytes, 0, cells, width, place);
-    match found {
-        Indexed::Refused(e) => WrittenRagged::Refused(e),
-        Indexed::Found(index) => {
-            cut_stored(
-                bytes,
-                index,
-                width,
-                Subset::new(shape, subset),
-                values,
-                offsets,
-            )
-        }
-    }
+    let index = stored_index::find_index(bytes, 0, cells, width, place)?;
+    cut_stored(bytes, index, width, Subset::new(shape, subset), values, offsets)
 }

@@ -12,9 +12,7 @@ ghost use Rattle.array.specs.Outcome.{outcome};
 ghost use Rattle.array.specs.Calls.{subset_cells};
 ghost use Rattle.subset.specs.Cells.{cells_of};
 
-use array::answer::Written;
-use array::refusal;
-use valid::shape::Cells;
+use array::refusal::Refusal;
 use walk::Subset;
 
 pub mod walk;
@@ -151,19 +149,17 @@ fn store_rows(cells: &mut [u64], subset: Subset)
 }
 
 // The numbers of the cells of a subset, in row order.
-pub fn subset_cells(shape: &[u64], numbers: &[u64], cells: &mut [u64]) -> Written
+pub fn subset_cells(shape: &[u64], numbers: &[u64], cells: &mut [u64]) -> Result<usize, Refusal>
     ensures { outcome result cells.new ≡ subset_cells shape.now numbers.now cells.old }
 {
-    let Cells::Count(_) = valid::shape::shape_cells(shape) else {
-        return Written::Refused(refusal::SHAPE);
-    };
+    valid::shape::shape_cells(shape)?;
     if !subset_fits(shape, numbers) {
-        return Written::Refused(refusal::SUBSET);
+        return Err(Refusal::Subset);
     }
     let subset = Subset::new(shape, numbers);
     if cells.len() < subset.count {
-        return Written::Refused(refusal::OUTPUT);
+        return Err(Refusal::Output);
     }
     store_rows(cells, subset);
-    Written::Length(subset.count)
+    Ok(subset.count)
 }

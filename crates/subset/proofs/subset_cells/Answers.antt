@@ -3,9 +3,8 @@
 use Prim.Native.Nat.{ℕ}
 use mathlib.Core.Path.{◌≡◌, sym, ap, ◌∙◌}
 use mathlib.Core.List.{List}
-use borrow.Author.Tests.{not-true, not-false}
 use lib.ListN.{length}
-use Rattle.valid.specs.ShapeCells.{told_cells}
+use Rattle.std.proofs.lemmas.Result.{err_from_is_err_and}
 use Rattle.array.specs.Subset.{subset_of, NumbersOk, cells_in}
 use Rattle.array.proofs.Rules.{numbers_ok}
 use Rattle.valid.proofs.ShapeLaws.{Counted, counted, not_counted}
@@ -14,27 +13,25 @@ use Rattle.subset.proofs.Rows.{asked_count}
 use Rattle.subset.proofs.subset_cells.Goals.{Else-not-subset_fits, After-new-subset}
 use Rattle.subset.proofs.subset_cells.Goals as goal
 
-pub returns-in_default : goal.returns-in_default
-returns-in_default c =
+pub returns-in_err-shape_cells : goal.returns-in_err-shape_cells
+returns-in_err-shape_cells c =
     let a = c.args in
-    cells_no_shape a.shape.now a.numbers.now a.cells.now
-    (not_counted a.shape.now c.in_default.field-0 (sym (ap told_cells c.in_default.is) ∙ c.shape_cells.ensures)).0
+    let p = err_from_is_err_and c.from_residual.result c.from_residual.ensures.1 in
+    let n = not_counted a.shape.now _ c.in_err-shape_cells.ensures in
+    rw (p.1, p.2, n.1) (cells_no_shape a.shape.now a.numbers.now a.cells.now n.0)
 
 pub returns-then-not-subset_fits : goal.returns-then-not-subset_fits
 returns-then-not-subset_fits c =
-    let shape : List ℕ = c.args.shape.now in
-    let numbers : List ℕ = c.args.numbers.now in
-    let lent : List ℕ = c.args.cells.now in
-    let shaped : Counted shape c.in-Count.field-0 = counted shape c.in-Count.field-0 (sym (ap told_cells c.in-Count.is) ∙ c.shape_cells.ensures) in
-    cells_no_subset shape numbers lent shaped.passes (sym c.subset_fits.ensures ∙ not-true c.subset_fits.result c.if-not-subset_fits.true-raw)
+    let a = c.args in
+    cells_no_subset a.shape.now a.numbers.now a.cells.now (counted a.shape.now _ c.in_ok-shape_cells.ensures).passes (sym c.if-not-subset_fits.ensures)
 
 fitting : (c : Else-not-subset_fits) → NumbersOk c.args.shape.now c.args.numbers.now
 fitting c =
-    numbers_ok c.args.shape.now c.args.numbers.now (sym c.subset_fits.ensures ∙ not-false c.subset_fits.result c.if-not-subset_fits.false-raw)
+    numbers_ok c.args.shape.now c.args.numbers.now (sym c.if-not-subset_fits.ensures)
 
 pub new-subset-requires : goal.new-subset-requires
 new-subset-requires c =
-    let shaped = counted c.args.shape.now c.in-Count.field-0 (sym (ap told_cells c.in-Count.is) ∙ c.shape_cells.ensures) in
+    let shaped = counted c.args.shape.now _ c.in_ok-shape_cells.ensures in
     (shaped.shaped, fitting (goal.at.new-subset-requires c).Else-not-subset_fits)
 
 -- as many cells as the numbers say
@@ -44,8 +41,8 @@ total c = rw (c.new-subset.ensures.shape, c.new-subset.ensures.said) at (sym (as
 pub returns-then-cells-subset : goal.returns-then-cells-subset
 returns-then-cells-subset c =
     let a = c.args in
-    let shaped = counted a.shape.now c.in-Count.field-0 (sym (ap told_cells c.in-Count.is) ∙ c.shape_cells.ensures) in
-    let passed = sym c.subset_fits.ensures ∙ not-false c.subset_fits.result c.if-not-subset_fits.false-raw in
+    let shaped = counted a.shape.now _ c.in_ok-shape_cells.ensures in
+    let passed = sym c.if-not-subset_fits.ensures in
     cells_no_room a.shape.now a.numbers.now a.cells.now shaped.passes passed c.new-subset.result.count (total (goal.at.returns-then-cells-subset c).After-new-subset)
     c.if-cells-subset.true
 
@@ -53,7 +50,7 @@ pub returns : goal.returns
 returns c =
     let a = c.args in
     let n = c.new-subset.ensures in
-    let shaped = counted a.shape.now c.in-Count.field-0 (sym (ap told_cells c.in-Count.is) ∙ c.shape_cells.ensures) in
-    let passed = sym c.subset_fits.ensures ∙ not-false c.subset_fits.result c.if-not-subset_fits.false-raw in
+    let shaped = counted a.shape.now _ c.in_ok-shape_cells.ensures in
+    let passed = sym c.if-not-subset_fits.ensures in
     cells_stored a.shape.now a.numbers.now a.cells.now shaped.passes passed c.new-subset.result.count (total (goal.at.returns c).After-new-subset) c.if-cells-subset.false
     _ n.said c.store_rows.new.cells (rw n.shape at c.store_rows.ensures)
