@@ -37,11 +37,13 @@ check_array-requires c = (shaped (goal.at.check_array-requires c).In_ok-cells).f
 
 pub returns-in_err-check_array : goal.returns-in_err-check_array
 returns-in_err-check_array c =
+    let a = c.args in
+    let array : Content = content_array a.masks.now a.values.now a.offsets.now in
     let s = shaped (goal.at.returns-in_err-check_array c).In_ok-cells in
     let p = err_from_is_err_and c.from_residual-in_err-check_array.result c.from_residual-in_err-check_array.ensures.1 in
     rw (p.1, p.2)
     (not_kept _ _ _ _ _ (sym c.if-not-check_kind.ensures) s.passes (sym c.if-not-subset_fits.ensures) (Err c.in_err-check_array.field-0.0)
-    (c.in_err-check_array.ensures ∙ ap (λ n. check_of _ n _) s.is) _ refl)
+    (c.in_err-check_array.ensures ∙ ap (λ n. check_of (kind_of a.kind) n array) s.is) _ refl)
 
 pub new-requires : goal.new-requires
 new-requires c = ((shaped (goal.at.new-requires c).In_ok-cells).shaped, numbers_ok _ _ (sym c.if-not-subset_fits.ensures))
