@@ -82,7 +82,14 @@ fn cut_valid(
     if out_masks.len() < mask_bytes {
         return Err(Refusal::Output);
     }
-    let written = cut_values(kind.values, out_values, out_offsets, values, offsets, subset)?;
+    let written = cut_values(
+        kind.values,
+        out_values,
+        out_offsets,
+        values,
+        offsets,
+        subset,
+    )?;
     cells::copy_masks(out_masks, masks, depth, cells, subset);
     Ok(Lengths {
         masks: mask_bytes,

@@ -75,5 +75,12 @@ pub fn partial_decode(
         return Err(Refusal::Subset);
     }
     let index = stored_index::find_index(bytes, 0, cells, width, place)?;
-    cut_stored(bytes, index, width, Subset::new(shape, subset), values, offsets)
+    cut_stored(
+        bytes,
+        index,
+        width,
+        Subset::new(shape, subset),
+        values,
+        offsets,
+    )
 }
