@@ -1,4 +1,3 @@
-pub mod Numbers
 pub mod Offsets
 pub mod Walk
 pub mod Counting

@@ -9,7 +9,6 @@ use lib.ListN.{length, drop, length-drop, length-map}
 use Rattle.array.specs.Answer.{gives, refuses, unless, Outcome}
 use Rattle.array.specs.Lists.{joined}
 use Rattle.array.specs.Shape.{volume}
-use Rattle.array.specs.Subset.{pairs, cells_in}
 use Rattle.array.specs.Offsets.{offsets_of}
 use Rattle.array.specs.Content.{RaggedContent}
 use Rattle.array.specs.declared.answer.RaggedLengths.{RaggedLengths}
@@ -19,25 +18,22 @@ use Rattle.array.specs.Places.{value_at, bytes_at}
 use Rattle.array.proofs.Offsets.{length-ends}
 use Rattle.array.proofs.Places.{bytes_long}
 use Rattle.array.proofs.Rules.{ragged_enough_test_lem, ragged_enough_ok}
-use Rattle.subset.specs.Walk.{SubsetAsked}
+use Rattle.subset.specs.Cells.{cells_of}
+use Rattle.subset.specs.declared.walk.Subset.{Subset}
 use Rattle.subset.proofs.Rows.{asked_below, asked_count}
-use Rattle.cut_ragged.specs.declared.Source.{Source}
-use Rattle.cut_ragged.specs.Source.{source_at, source_values, SourceAsked, put_ragged}
+use Rattle.cut_ragged.specs.declared.RaggedValues.{RaggedValues}
+use Rattle.cut_ragged.specs.Source.{begins_in, values_in, Holds, put_ragged}
 
 -- ---- what it needs
 
-module _ {shape starts lens : List ℕ} {count : ℕ} (a : SubsetAsked shape starts lens count) {source : Source} {index base : ℕ} {os s : List ℕ}
-    (d : SourceAsked source index base os s (volume shape)) where
-  abbrev cells : List ℕ
-  cells = cells_in shape (pairs starts lens)
-
-  pub need_values : length (joined (source_values source index base os s (cells_in shape (pairs starts lens)))) ≡ bytes_at (source_at source index os s) (cells_in shape (pairs starts lens))
+module _ (src : RaggedValues) (subset : Subset) (d : Holds src (volume subset.shape.now)) where
+  pub need_values : length (joined (values_in src (cells_of subset))) ≡ bytes_at (begins_in src) (cells_of subset)
   need_values =
-      bytes_long d.rises (drop base s) (omega (arith, length-drop base s, d.data_room)) cells (asked_below a)
+      bytes_long d.rises (drop src.base src.bytes.now) (omega (arith, length-drop src.base src.bytes.now, d.data_room)) (cells_of subset) (asked_below subset.asked)
 
-  pub need_offsets : length (offsets_of (source_values source index base os s (cells_in shape (pairs starts lens)))) ≡ count + 1
+  pub need_offsets : length (offsets_of (values_in src (cells_of subset))) ≡ subset.count + 1
   need_offsets =
-      omega (arith, length-ends 0 (source_values source index base os s cells), length-map cells (value_at (source_at source index os s) (drop base s)), asked_count a)
+      omega (arith, length-ends 0 (values_in src (cells_of subset)), length-map (cells_of subset) (value_at (begins_in src) (drop src.base src.bytes.now)), asked_count subset.asked)
 
 -- ---- what it answers
 

@@ -6,13 +6,13 @@ use Rattle.array.specs.Answer.{Outcome}
 use Rattle.array.specs.Limits.{most_cells}
 use Rattle.array.specs.Lists.{joined}
 use Rattle.array.specs.Bytes.{unle}
-use Rattle.array.specs.Shape.{volume, ShapeOk}
-use Rattle.array.specs.Subset.{NumbersOk}
+use Rattle.array.specs.Shape.{volume}
 use Rattle.array.specs.Content.{RaggedContent}
 use Rattle.array.specs.declared.answer.RaggedLengths.{RaggedLengths}
 use Rattle.array.specs.Buffers.{ragged_lengths_of, ragged_enough_test, if_room, ragged_outcome}
 use Rattle.array.specs.Places.{offset_at, Rises, values_at}
 use Rattle.cut_ragged.specs.declared.Source.{Source}
+use Rattle.cut_ragged.specs.declared.RaggedValues.{RaggedValues}
 use Rattle.cut_ragged.specs.declared.Source.TheVariants.{Numbers, Four, Eight}
 
 -- offset j of an index of width w
@@ -35,12 +35,6 @@ There Numbers index os s j = j < length os
 There Four index os s j = index + (4 + j * 4) ≤ length s
 There Eight index os s j = index + (8 + j * 8) ≤ length s
 
--- numbers that are a subset of so many cells, within its shape
-pub record NumbersAsked (shape ns : List ℕ) (count : ℕ) : Type 0 where
-  pub shaped : ShapeOk shape
-  pub numbers : NumbersOk shape ns
-  pub counted : count ≡ volume (drop (length shape) ns)
-
 -- n cells whose offsets are there and never fall, and whose bytes are there too
 pub record SourceAsked (source : Source) (index base : ℕ) (os s : List ℕ) (n : ℕ) : Type 0 where
   pub there : There source index os s n
@@ -55,10 +49,24 @@ pub record RowAsked (source : Source) (index : ℕ) (os s : List ℕ) (a n begin
   pub here : begin ≡ source_at source index os s a
   pub few_bytes : total + (source_at source index os s (a + n) - begin) < 2 ^ 64
 
+-- ---- the same of the struct that holds them together
+
+-- where cell j begins, counted from the data's begin
+abbrev pub begins_in : RaggedValues → ℕ → ℕ
+begins_in v = source_at v.source v.index v.numbers.now v.bytes.now
+
+-- the values of the cells js
+abbrev pub values_in : RaggedValues → List ℕ → List (List ℕ)
+values_in v js = source_values v.source v.index v.base v.numbers.now v.bytes.now js
+
+-- n cells whose offsets and bytes are there
+abbrev pub Holds : RaggedValues → ℕ → Type 0
+Holds v n = SourceAsked v.source v.index v.base v.numbers.now v.bytes.now n
+
 -- the cells of a subset, with room for them in the outputs
-pub record CutAsked (outv outo : List ℕ) (source : Source) (index base : ℕ) (os s shape cells : List ℕ) : Type 0 where
-  pub asked : SourceAsked source index base os s (volume shape)
-  pub room : length (joined (source_values source index base os s cells)) ≤ length outv
+pub record CutAsked (outv outo : List ℕ) (v : RaggedValues) (shape cells : List ℕ) : Type 0 where
+  pub asked : Holds v (volume shape)
+  pub room : length (joined (values_in v cells)) ≤ length outv
   pub room_offsets : suc (length cells) ≤ length outo
 
 -- a result laid into outputs that are long enough for it, else refusal 6

@@ -5,20 +5,21 @@
 ghost use Rattle.std.specs.Prelude.{◌≡◌, map, ℕ, suc, ◌+◌, ◌-◌, ◌*◌, ◌≤◌, length};
 ghost use Rattle.array.specs.Lists.{from, joined};
 ghost use Rattle.array.specs.Shape.{volume};
-ghost use Rattle.array.specs.Subset.{pairs, subset_of, cells_in};
 ghost use Rattle.array.specs.Offsets.{ends, offsets_of};
 ghost use Rattle.array.specs.Content.{end_to_end};
 ghost use Rattle.array.specs.Buffers.{over, over_at};
 ghost use Rattle.array.specs.Meaning.{width_of};
 ghost use Rattle.array.specs.Outcome.{content_ragged, outcome_ragged};
 ghost use Rattle.array.specs.Places.{bytes_at};
-ghost use Rattle.subset.specs.Walk.{SubsetAsked};
-ghost use Rattle.cut_ragged.specs.Source.{stored_at, source_at, source_values, There, NumbersAsked, SourceAsked, RowAsked, CutAsked, put_ragged};
+ghost use Rattle.subset.specs.Cells.{cells_of};
+ghost use Rattle.cut_ragged.specs.Source.{stored_at, begins_in, values_in, There, Holds, RowAsked, CutAsked, put_ragged};
 
-use array::answer::WrittenRagged;
+use array::answer::RaggedLengths;
+use array::kind;
 use array::kind::IndexWidth;
-use array::{kind, refusal};
+use array::refusal::Refusal;
 use buffer::{copy, field};
+use subset::walk::{Row, Subset};
 
 // How offsets lie: as numbers, or as little-endian fields of so many bytes. Where these begin is a number beside it, since a variant
 // that holds numbers goes through memory, which takes longer than a small cut.
@@ -38,163 +39,103 @@ fn stored_at(bytes: &[u8], index: usize, width: IndexWidth, j: usize) -> u64
     field::le_at(bytes, index + j * w, width)
 }
 
-// Where cell j begins, counted from the data's begin. Fields begin at `index` of the bytes.
-fn offset_at(source: Source, index: usize, numbers: &[u64], bytes: &[u8], j: usize) -> u64
-    requires { There source index numbers.now bytes.now j }
-    ensures { result ≡ source_at source index numbers.now bytes.now j }
-{
-    match source {
-        Source::Numbers => numbers[j],
-        Source::Four => stored_at(bytes, index, IndexWidth::Four, j),
-        Source::Eight => stored_at(bytes, index, IndexWidth::Eight, j),
+// Ragged values: their data begins at `base` of the bytes. Fields of offsets begin at `index` of them.
+#[derive(Clone, Copy)]
+pub struct RaggedValues<'a> {
+    pub source: Source,
+    pub index: usize,
+    pub base: usize,
+    pub numbers: &'a [u64],
+    pub bytes: &'a [u8],
+}
+
+impl<'a> RaggedValues<'a> {
+    // Where cell j begins, counted from the data's begin.
+    fn offset_at(self, j: usize) -> u64
+        requires { There self.source self.index self.numbers.now self.bytes.now j }
+        ensures { result ≡ begins_in self.entry j }
+    {
+        match self.source {
+            Source::Numbers => self.numbers[j],
+            Source::Four => stored_at(self.bytes, self.index, IndexWidth::Four, j),
+            Source::Eight => stored_at(self.bytes, self.index, IndexWidth::Eight, j),
+        }
     }
 }
 
 // How many bytes the cells of a subset have.
-fn count_bytes(
-    source: Source,
-    index: usize,
-    numbers: &[u64],
-    bytes: &[u8],
-    shape: &[u64],
-    starts: &[u64],
-    lens: &[u64],
-    count: usize,
-) -> usize
-    requires { SubsetAsked shape.now starts.now lens.now count × SourceAsked source index 0 numbers.now bytes.now (volume shape.now) }
-    ensures { result ≡ bytes_at (source_at source index numbers.now bytes.now)
-        (cells_in shape.now (pairs starts.now lens.now)) }
+fn count_bytes(src: RaggedValues, subset: Subset) -> usize
+    requires { Holds src (volume subset.shape.now) }
+    ensures { result ≡ bytes_at (begins_in src.entry) (cells_of subset.entry) }
 {
-    let mut at: usize = 0;
     let mut total: usize = 0;
-    while at < count {
-        let row = subset::row_at(shape, starts, lens, count, at);
-        let first = row.first;
-        let n = row.cells;
-        let begin = offset_at(source, index, numbers, bytes, first) as usize;
-        let end = offset_at(source, index, numbers, bytes, first + n) as usize;
+    for row in subset.rows() {
+        let begin = src.offset_at(row.first) as usize;
+        let end = src.offset_at(row.first + row.cells) as usize;
         total += end - begin;
-        at += n;
     }
     total
 }
 
-// Writes where n neighbours end that begin at `begin`, from the cell `first` on, where `total` bytes lie before them.
-// 10 parameters: where offsets lie is four of them, a row of cells four.
-fn store_ends(
-    out: &mut [u64],
-    to: usize,
-    source: Source,
-    index: usize,
-    numbers: &[u64],
-    bytes: &[u8],
-    first: usize,
-    n: usize,
-    begin: u64,
-    total: u64,
-)
-    requires { (to + n ≤ length «out».old) × RowAsked source index numbers.now bytes.now first n begin total }
-    ensures { «out».new ≡ over_at to (map (λ (j : ℕ). total + (source_at source index numbers.now bytes.now (suc j) - begin))
-        (from first n)) «out».old }
+// Writes where the cells of a row end, the first of which begins at `begin`, where `total` bytes lie before them.
+fn store_ends(out: &mut [u64], src: RaggedValues, row: Row, begin: u64, total: u64)
+    requires { (row.at + 1 + row.cells ≤ length «out».old)
+        × RowAsked src.source src.index src.numbers.now src.bytes.now row.first row.cells begin total }
+    ensures { «out».new ≡ over_at (row.at + 1) (map (λ j. total + (begins_in src.entry (suc j) - begin))
+        (from row.first row.cells)) «out».old }
 {
-    let mut i = 0;
-    while i < n {
-        let end = offset_at(source, index, numbers, bytes, first + i + 1);
-        out[to + i] = total + (end - begin);
-        i += 1;
+    for i in 0..row.cells {
+        let end = src.offset_at(row.first + i + 1);
+        out[row.at + 1 + i] = total + (end - begin);
     }
 }
 
-// Copies the values of a subset's cells, and writes where each ends from the place 1 on. The data begins at `base` of the bytes.
-// 11 parameters: where values lie is five of them, a subset of a shape four.
-fn copy_rows(
-    values: &mut [u8],
-    offsets: &mut [u64],
-    source: Source,
-    index: usize,
-    base: usize,
-    numbers: &[u64],
-    bytes: &[u8],
-    shape: &[u64],
-    starts: &[u64],
-    lens: &[u64],
-    count: usize,
-) -> usize
-    requires { SubsetAsked shape.now starts.now lens.now count
-        × CutAsked values.old offsets.old source index base numbers.now bytes.now shape.now (cells_in shape.now (pairs starts.now lens.now)) }
-    ensures values { values.new ≡ over (joined (source_values source index base numbers.now bytes.now
-        (cells_in shape.now (pairs starts.now lens.now)))) values.old }
-    ensures offsets { offsets.new ≡ over_at 1 (ends 0 (source_values source index base numbers.now bytes.now
-        (cells_in shape.now (pairs starts.now lens.now)))) offsets.old }
-    ensures total { result ≡ length (joined (source_values source index base numbers.now bytes.now
-        (cells_in shape.now (pairs starts.now lens.now)))) }
+// Copies the values of a subset's cells, and writes where each ends from the place 1 on.
+fn copy_rows(values: &mut [u8], offsets: &mut [u64], src: RaggedValues, subset: Subset) -> usize
+    requires { CutAsked values.old offsets.old src subset.shape.now (cells_of subset) }
+    ensures values { values.new ≡ over (joined (values_in src.entry (cells_of subset.entry))) values.old }
+    ensures offsets { offsets.new ≡ over_at 1 (ends 0 (values_in src.entry (cells_of subset.entry))) offsets.old }
+    ensures total { result ≡ length (joined (values_in src.entry (cells_of subset.entry))) }
 {
-    let mut at: usize = 0;
     let mut total: usize = 0;
-    while at < count {
-        let row = subset::row_at(shape, starts, lens, count, at);
-        let first = row.first;
-        let n = row.cells;
-        let begin = offset_at(source, index, numbers, bytes, first) as usize;
-        let end = offset_at(source, index, numbers, bytes, first + n) as usize;
+    for row in subset.rows() {
+        let begin = src.offset_at(row.first) as usize;
+        let end = src.offset_at(row.first + row.cells) as usize;
         let size = end - begin;
-        copy::copy_bytes(values, total, bytes, base + begin, size);
-        store_ends(
-            offsets,
-            at + 1,
-            source,
-            index,
-            numbers,
-            bytes,
-            first,
-            n,
-            begin as u64,
-            total as u64,
-        );
+        copy::copy_bytes(values, total, src.bytes, src.base + begin, size);
+        store_ends(offsets, src, row, begin as u64, total as u64);
         total += size;
-        at += n;
     }
     total
 }
 
 // The values of a subset's cells end to end, with their offsets, the first of which is 0; or 6. Nothing is stored before the last check.
 // An output as long as the source has room for any cut, so that the bytes need not be counted first.
-// 10 parameters: where values lie is five of them, and the outputs are two slices.
 pub fn cut(
-    source: Source,
-    index: usize,
-    base: usize,
-    numbers: &[u64],
-    bytes: &[u8],
-    shape: &[u64],
-    subset: &[u64],
-    count: usize,
+    src: RaggedValues,
+    subset: Subset,
     values: &mut [u8],
     offsets: &mut [u64],
-) -> WrittenRagged
-    requires { NumbersAsked shape.now subset.now count × SourceAsked source index base numbers.now bytes.now (volume shape.now) }
+) -> Result<RaggedLengths, Refusal>
+    requires { Holds src (volume subset.shape.now) }
     ensures { outcome_ragged result values.new offsets.new
-        ≡ put_ragged (end_to_end (source_values source index base numbers.now bytes.now
-        (cells_in shape.now (subset_of (length shape.now) subset.now))))
-        (content_ragged values.old offsets.old) }
+        ≡ put_ragged (end_to_end (values_in src.entry (cells_of subset.entry))) (content_ragged values.old offsets.old) }
 {
-    let sides = shape.len();
-    let starts = &subset[0..sides];
-    let lens = &subset[sides..];
-    let short = values.len() < bytes.len();
+    let short = values.len() < src.bytes.len();
     if short {
-        let need = count_bytes(source, index, numbers, bytes, shape, starts, lens, count);
+        let need = count_bytes(src, subset);
         if values.len() < need {
-            return WrittenRagged::Refused(refusal::OUTPUT);
+            return Err(Refusal::Output);
         }
     }
-    let many = count + 1;
+    let many = subset.count + 1;
     if offsets.len() < many {
-        return WrittenRagged::Refused(refusal::OUTPUT);
+        return Err(Refusal::Output);
     }
     offsets[0] = 0;
-    let total = copy_rows(
-        values, offsets, source, index, base, numbers, bytes, shape, starts, lens, count,
-    );
-    WrittenRagged::Lengths(total, many)
+    let total = copy_rows(values, offsets, src, subset);
+    Ok(RaggedLengths {
+        values: total,
+        offsets: many,
+    })
 }

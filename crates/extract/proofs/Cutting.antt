@@ -8,7 +8,9 @@ use lib.ListN.{length}
 use Rattle.array.specs.Lists.{All}
 use Rattle.array.specs.Kind.{Kind, Form, fixed, ragged}
 use Rattle.array.specs.Shape.{volume}
-use Rattle.array.specs.Subset.{subset_of, cells_in}
+use Rattle.array.specs.Subset.{pairs}
+use Rattle.subset.specs.Cells.{cells_of}
+use Rattle.subset.specs.declared.walk.Subset.{Subset}
 use Rattle.array.specs.Content.{Content, ValuesOk}
 use Rattle.array.specs.Places.{planes_at}
 use Rattle.chunks.specs.Cut.{cut_of}
@@ -16,8 +18,6 @@ use Rattle.chunks.specs.ReadThenCut.{ragged_of}
 use Rattle.array.proofs.Places.{begins_rise, begins_end}
 use Rattle.chunks.proofs.CutPlaces.{cut_by, cut_is}
 use Rattle.subset.proofs.Rows.{asked_below, asked_count}
-use Rattle.cut_ragged.specs.Source.{NumbersAsked}
-use Rattle.cut_ragged.proofs.Numbers.{asked_numbers}
 use Rattle.extract.specs.Asked.{PlanesAsked, ValuesAsked, values_cut, ArrayAsked}
 use Rattle.extract.proofs.Walk.{planes_long}
 
@@ -30,22 +30,19 @@ values_asked (ragged w q) shape c p = record {
   data_room = omega (arith, begins_end (ragged w q) (volume shape) c p);
 }
 
-module _ {k : Kind} {cells : ℕ} {shape ns : List ℕ} {c : Content} {count : ℕ} (s : NumbersAsked shape ns count) (a : ArrayAsked k cells shape c) where
-  abbrev js : List ℕ
-  js = cells_in shape (subset_of (length shape) ns)
-
+module _ {k : Kind} {cells : ℕ} (s : Subset) {c : Content} (a : ArrayAsked k cells s.shape.now c) where
   abbrev cut : Content
-  cut = cut_of k shape c (subset_of (length shape) ns)
+  cut = cut_of k s.shape.now c (pairs s.starts.now s.lens.now)
 
   -- ---- the parts, by places
 
-  by_places : cut ≡ cut_by k cells c js
-  by_places = cut_is shape a.content (subset_of (length shape) ns) s.numbers.fits ∙ ap (λ (n : ℕ). cut_by k n c js) (sym a.whole)
+  by_places : cut ≡ cut_by k cells c (cells_of s)
+  by_places = cut_is s.shape.now a.content (pairs s.starts.now s.lens.now) s.asked.within.inside ∙ ap (λ (n : ℕ). cut_by k n c (cells_of s)) (sym a.whole)
 
-  pub cut_masks : cut.masks ≡ planes_at k.depth 0 cells c.masks js
+  pub cut_masks : cut.masks ≡ planes_at k.depth 0 cells c.masks (cells_of s)
   cut_masks = ap (λ (x : Content). x.masks) by_places
 
-  pub cut_values : ragged_of cut ≡ values_cut k.form c.values c.offsets js
+  pub cut_values : ragged_of cut ≡ values_cut k.form c.values c.offsets (cells_of s)
   cut_values = ap ragged_of by_places
 
   -- ---- how long the masks are
@@ -53,15 +50,15 @@ module _ {k : Kind} {cells : ℕ} {shape ns : List ℕ} {c : Content} {count : �
   masks_fit : length c.masks ≡ k.depth * cells
   masks_fit = a.content.masks_fit ∙ ap (λ (n : ℕ). k.depth * n) (sym a.whole)
 
-  pub cut_masks_long : length cut.masks ≡ k.depth * count
+  pub cut_masks_long : length cut.masks ≡ k.depth * s.count
   cut_masks_long =
       ap length cut_masks
-      ∙ planes_long cells c.masks js (subst (λ (n : ℕ). All (λ j. j < n) js) (sym a.whole) (asked_below (asked_numbers s))) (asked_count (asked_numbers s)) k.depth masks_fit
+      ∙ planes_long cells c.masks (cells_of s) (subst (λ (n : ℕ). All (λ j. j < n) (cells_of s)) (sym a.whole) (asked_below s.asked)) (asked_count s.asked) k.depth masks_fit
 
   -- ---- what the loops ask
 
-  pub cut_planes_asked : (out : List ℕ) → k.depth ≤ 255 → k.depth * count ≤ length out → PlanesAsked out c.masks k.depth cells shape count
+  pub cut_planes_asked : (out : List ℕ) → k.depth ≤ 255 → k.depth * s.count ≤ length out → PlanesAsked out c.masks k.depth cells s.shape.now s.count
   cut_planes_asked out d h = record { shallow = d; whole = a.whole; source = masks_fit; room = h }
 
-  pub cut_values_asked : ValuesAsked k.form c.values c.offsets shape
-  cut_values_asked = values_asked k.form shape c a.content.values_fit
+  pub cut_values_asked : ValuesAsked k.form c.values c.offsets s.shape.now
+  cut_values_asked = values_asked k.form s.shape.now c a.content.values_fit

@@ -8,7 +8,8 @@ use mathlib.Core.List.{List}
 use borrow.Author.Tests.{le-leb}
 use lib.ListN.{length}
 use lib.Dec.{leb}
-use Rattle.valid.specs.declared.array_bytes.Checked.{Checked}
+use Rattle.std.specs.Prelude.{Result, Ok, Err}
+use Rattle.array.specs.declared.refusal.Refusal.{Refusal}
 use Rattle.array.specs.Answer.{Answer, gives, refuses, unless, map_answer, Outcome}
 use Rattle.array.specs.Kind.{Kind, kind_test}
 use Rattle.array.specs.Shape.{volume, shape_test}
@@ -18,7 +19,10 @@ use Rattle.array.specs.declared.answer.Lengths.{Lengths}
 use Rattle.array.specs.declared.answer.RaggedLengths.{RaggedLengths}
 use Rattle.array.specs.Buffers.{lengths_of, ragged_lengths_of, enough_test, ragged_enough_test, if_room, over, content_after, ragged_outcome, content_outcome, put_into}
 use Rattle.array.specs.Outcome.{content_array}
-use Rattle.valid.specs.Check.{check_of, told_checked}
+use Rattle.array.specs.Meaning.{told, number_of}
+use Rattle.valid.specs.ShapeCells.{shape_answer}
+use Rattle.valid.specs.Check.{check_of}
+use Rattle.valid.proofs.ShapeLaws.{not_counted}
 use Rattle.array.proofs.Putting.{refused}
 use Rattle.valid.proofs.CheckLaws.{check_refused, check_passed}
 use Rattle.chunks.specs.Cut.{cut_of}
@@ -66,20 +70,20 @@ module _ (k : Kind) (shape ns : List ℕ) (c out : Content) where
   no_kind p = sym (answered {b = shape_test shape} {d = numbers_test shape ns} p refl refl)
 
   module _ (p : kind_test k ≡ true) where
-    pub no_shape : shape_test shape ≡ false → refused 2 out ≡ extracted k shape ns c out
-    no_shape q = sym (answered {d = numbers_test shape ns} p q refl)
+    pub no_shape : {number : ℕ} → refuses number ≡ shape_answer shape → refused number out ≡ extracted k shape ns c out
+    no_shape {number} e = let n = not_counted shape number e in rw n.1 (sym (answered {d = numbers_test shape ns} p n.0 refl))
 
     module _ (q : shape_test shape ≡ true) where
       pub no_subset : numbers_test shape ns ≡ false → refused 3 out ≡ extracted k shape ns c out
       no_subset r = sym (answered p q r)
 
-      module _ (r : numbers_test shape ns ≡ true) {x : Checked} (e : told_checked x ≡ check_of k (volume shape) c) where
-        pub not_kept : (number : ℕ) → x ≡ Checked.Refused number → refused number out ≡ extracted k shape ns c out
+      module _ (r : numbers_test shape ns ≡ true) (x : Result (Unit {0}) Refusal) (e : told x ≡ check_of k (volume shape) c) where
+        pub not_kept : (number : Refusal) → x ≡ Err number → refused (number_of number) out ≡ extracted k shape ns c out
         not_kept number f =
             sym (answered p q r
             ∙ ap (λ (a : Answer Content). content_outcome a out) (check_refused k (volume shape) c x e (unless (enough_test cut (lengths_of out)) 6 (gives cut)) number f))
 
-        pub kept : x ≡ Checked.Valid → put_into cut out ≡ extracted k shape ns c out
+        pub kept : x ≡ Ok tt → put_into cut out ≡ extracted k shape ns c out
         kept f =
             sym (answered p q r
             ∙ ap (λ (a : Answer Content). content_outcome a out) (check_passed k (volume shape) c x e f (unless (enough_test cut (lengths_of out)) 6 (gives cut))))

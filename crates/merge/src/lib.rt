@@ -10,10 +10,9 @@ ghost use Rattle.chunks.specs.Calls.{merged};
 ghost use Rattle.merge_rules.specs.Checks.{MergeChecked};
 ghost use Rattle.merge.specs.Merge.{cover_answer};
 
-use array::answer::WrittenArray;
+use array::answer::Lengths;
 use array::kind::Kind;
-use array::refusal;
-use merge_rules::Checks;
+use array::refusal::Refusal;
 
 // Stores chunks that passed the other checks, where their subsets cover the shape.
 // Over nine parameters: those of `merge`, and what its checks counted.
@@ -28,7 +27,7 @@ fn store_covering(
     out_masks: &mut [u8],
     out_values: &mut [u8],
     out_offsets: &mut [u64],
-) -> WrittenArray
+) -> Result<Lengths, Refusal>
     requires { MergeChecked (kind_of kind) shape.now subsets.now (content_array masks.now values.now offsets.now) cells }
     ensures { outcome_array result out_masks.new out_values.new out_offsets.new
         ≡ content_outcome (cover_answer (kind_of kind) shape.now (subsets_of (length shape.now) subsets.now)
@@ -37,7 +36,7 @@ fn store_covering(
         (content_array out_masks.old out_values.old out_offsets.old) }
 {
     if !merge_cover::covers(shape, subsets) {
-        return WrittenArray::Refused(refusal::COVER);
+        return Err(Refusal::Cover);
     }
     merge_output::store_chunks(
         kind,
@@ -65,24 +64,22 @@ pub fn merge(
     out_masks: &mut [u8],
     out_values: &mut [u8],
     out_offsets: &mut [u64],
-) -> WrittenArray
+) -> Result<Lengths, Refusal>
     ensures { outcome_array result out_masks.new out_values.new out_offsets.new
         ≡ merged (kind_of kind) shape.now subsets.now (content_array masks.now values.now offsets.now)
         (content_array out_masks.old out_values.old out_offsets.old) }
 {
-    match merge_rules::check_merge(kind, shape, subsets, masks, values, offsets) {
-        Checks::Refused(e) => WrittenArray::Refused(e),
-        Checks::Passed(cells) => store_covering(
-            kind,
-            cells,
-            shape,
-            subsets,
-            masks,
-            values,
-            offsets,
-            out_masks,
-            out_values,
-            out_offsets,
-        ),
-    }
+    let cells = merge_rules::check_merge(kind, shape, subsets, masks, values, offsets)?;
+    store_covering(
+        kind,
+        cells,
+        shape,
+        subsets,
+        masks,
+        values,
+        offsets,
+        out_masks,
+        out_values,
+        out_offsets,
+    )
 }

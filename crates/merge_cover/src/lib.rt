@@ -5,12 +5,14 @@ ghost use Rattle.std.specs.Prelude.{◌≡◌, ◌+◌, ◌-◌, ◌%◌, ◌^�
 ghost use Rattle.array.specs.Answer.{gives};
 ghost use Rattle.array.specs.Lists.{from};
 ghost use Rattle.array.specs.Shape.{volume};
-ghost use Rattle.array.specs.Subset.{pairs, subsets_of, cells_in, cells_of_all};
-ghost use Rattle.subset.specs.Walk.{SubsetAsked};
+ghost use Rattle.array.specs.Subset.{subsets_of, cells_of_all};
+ghost use Rattle.subset.specs.Cells.{cells_of};
 ghost use Rattle.subset.specs.Subsets.{SubsetsOk};
 ghost use Rattle.chunks.specs.Gather.{once_test};
 ghost use Rattle.merge_cover.specs.Marks.{marking, told_marks};
 ghost use Rattle.merge_cover.specs.Bits.{marks_of, bits_at, no_words};
+
+use subset::walk::{Parts, Subset};
 
 // No cell is marked.
 fn no_marks() -> [u64; 1024]
@@ -24,9 +26,7 @@ fn in_word(i: usize, end: usize) -> usize
     requires { i < end }
     ensures { result ≡ min (64 - i % 64) (end - i) }
 {
-    let word = 64 - i % 64;
-    let run = end - i;
-    if word < run { word } else { run }
+    (64 - i % 64).min(end - i)
 }
 
 // n bits, all of them set.
@@ -81,19 +81,14 @@ fn mark_run(words: &mut [u64], start: usize, len: usize) -> bool
 }
 
 // Marks the cells of a subset, row by row; whether none was marked already.
-fn mark_subset(words: &mut [u64], shape: &[u64], starts: &[u64], lens: &[u64], count: usize) -> bool
-    requires { SubsetAsked shape.now starts.now lens.now count × (length words.old ≡ 1024) }
-    ensures { told_marks result (marks_of words.new) ≡ marking (marks_of words.old) (cells_in shape.now (pairs starts.now lens.now)) }
+fn mark_subset(words: &mut [u64], subset: Subset) -> bool
+    requires { length words.old ≡ 1024 }
+    ensures { told_marks result (marks_of words.new) ≡ marking (marks_of words.old) (cells_of subset.entry) }
 {
-    let mut at: usize = 0;
-    while at < count {
-        let row = subset::row_at(shape, starts, lens, count, at);
-        let first = row.first;
-        let n = row.cells;
-        if !mark_run(words, first, n) {
+    for row in subset.rows() {
+        if !mark_run(words, row.first, row.cells) {
             return false;
         }
-        at += n;
     }
     true
 }
@@ -106,26 +101,14 @@ pub fn covers(shape: &[u64], subsets: &[u64]) -> bool
 {
     let mut words = no_marks();
     let mut left = subset::volume_of(shape) as usize;
-    let mut at: usize = 0;
-    while at < subsets.len() {
-        let next = subset::subset_at(shape, subsets, at);
-        let mid = next.mid;
-        let end = next.end;
-        let cells = next.cells;
-        if left < cells {
+    for part in Parts::new(shape, subsets) {
+        if left < part.count {
             return false;
         }
-        if !mark_subset(
-            &mut words,
-            shape,
-            &subsets[at..mid],
-            &subsets[mid..end],
-            cells,
-        ) {
+        if !mark_subset(&mut words, part) {
             return false;
         }
-        left -= cells;
-        at = end;
+        left -= part.count;
     }
     left == 0
 }

@@ -8,9 +8,9 @@ ghost use Rattle.array.specs.Buffers.{lengths_of, content_outcome};
 ghost use Rattle.array.specs.Outcome.{content_array, outcome_array};
 ghost use Rattle.merge_output.specs.Stores.{store_answer, MergeAsked};
 
-use array::answer::WrittenArray;
+use array::answer::Lengths;
 use array::kind::{Kind, Values};
-use array::refusal;
+use array::refusal::Refusal;
 
 // Stores chunks that passed the checks and cover the shape, where the outputs are long enough.
 // Over nine parameters: those of `merge`, and what its checks counted.
@@ -25,7 +25,7 @@ pub fn store_chunks(
     out_masks: &mut [u8],
     out_values: &mut [u8],
     out_offsets: &mut [u64],
-) -> WrittenArray
+) -> Result<Lengths, Refusal>
     requires { MergeAsked (kind_of kind) shape.now subsets.now (content_array masks.now values.now offsets.now) cells }
     ensures { outcome_array result out_masks.new out_values.new out_offsets.new
         ≡ content_outcome (store_answer (kind_of kind) shape.now (subsets_of (length shape.now) subsets.now)
@@ -37,10 +37,10 @@ pub fn store_chunks(
     let mask_bytes = depth * cells;
     let bytes = values.len();
     if out_masks.len() < mask_bytes {
-        return WrittenArray::Refused(refusal::OUTPUT);
+        return Err(Refusal::Output);
     }
     if out_values.len() < bytes {
-        return WrittenArray::Refused(refusal::OUTPUT);
+        return Err(Refusal::Output);
     }
     let form = kind.values;
     match form {
@@ -48,11 +48,15 @@ pub fn store_chunks(
             let wide = size as usize;
             merge_stores::cells::store_masks(out_masks, masks, depth, cells, shape, subsets);
             merge_stores::cells::store_parts(out_values, 0, wide, values, 0, wide, shape, subsets);
-            WrittenArray::Lengths(mask_bytes, bytes, 0)
+            Ok(Lengths {
+                masks: mask_bytes,
+                values: bytes,
+                offsets: 0,
+            })
         }
         Values::Ragged(_, _) => {
             if out_offsets.len() <= cells {
-                return WrittenArray::Refused(refusal::OUTPUT);
+                return Err(Refusal::Output);
             }
             merge_stores::cells::store_masks(out_masks, masks, depth, cells, shape, subsets);
             merge_stores::ragged::merge_ragged(
@@ -64,7 +68,11 @@ pub fn store_chunks(
                 subsets,
                 cells,
             );
-            WrittenArray::Lengths(mask_bytes, bytes, cells + 1)
+            Ok(Lengths {
+                masks: mask_bytes,
+                values: bytes,
+                offsets: cells + 1,
+            })
         }
     }
 }

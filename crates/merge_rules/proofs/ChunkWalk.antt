@@ -5,7 +5,7 @@ use mathlib.Core.Logic.{◌≢◌}
 use Prim.Native.Nat.{ℕ, ◌+◌, ◌-◌, ◌*◌, ◌≤◌}
 use native.Mathlib.Omega.{arith}
 use mathlib.Core.Bool.{Bool, true, false, ◌&&◌}
-use mathlib.Core.List.{List}
+use mathlib.Core.List.{List, [], ◌∷◌}
 use lib.ListN.{length, take, drop, length-drop}
 use lib.Dec.{eqb}
 use lib.Seq.{drop-drop, take_all}
@@ -13,11 +13,10 @@ use borrow.Author.Tests.{eq-eqb, ne_eqb, eqb-true, eqb-false}
 use Rattle.array.specs.Answer.{refuses}
 use Rattle.array.specs.Content.{Content, array_test}
 use Rattle.array.specs.Kind.{Kind}
-use Rattle.array.specs.Subset.{Subset, subsets_of}
+use Rattle.array.specs.Subset.{Subset, subsets_of, pairs}
 use Rattle.array.proofs.LayoutLaws.{content_path}
-use Rattle.subset.specs.Subsets.{SubsetsOk, SubsetAt}
+use Rattle.subset.specs.Walk.{SubsetAsked}
 use Rattle.subset.proofs.Rows.{asked_volume}
-use Rattle.subset.proofs.Subsets.{none_left}
 use Rattle.chunks.specs.Chunks.{first_chunk, later_chunks}
 use Rattle.merge_rules.specs.Chunks.{takes, chunk_answer, chunks_test}
 use Rattle.merge_rules.proofs.OneChunk.{Fitting, chunk_fits, chunk_bad}
@@ -39,18 +38,17 @@ rest_part o os = take_all (length os - o) (drop o os) (omega (arith, length-drop
 pub lent-left : (c : Content) (p v o : ℕ) → lent c p v o ≡ left c p v o
 lent-left c p v o = content_path (rest_part p c.masks) (rest_part v c.values) (rest_part o c.offsets)
 
--- the chunks before `at` keep the rules; the masks, values and offsets of the others begin at p, v and o
-pub record Walked (k : Kind) (sh flat : List ℕ) (c : Content) (at p v o : ℕ) : Type 0 where
-  pub geo : SubsetsOk sh (drop at flat)
+-- the chunks before those of `rest` keep the rules; the masks, values and offsets of the others begin at p, v and o
+pub record Walked (k : Kind) (sh flat : List ℕ) (c : Content) (rest : List Subset) (p v o : ℕ) : Type 0 where
   pub masks : p ≤ length c.masks
   pub values : v ≤ length c.values
   pub offsets : o ≤ length c.offsets
-  pub same : chunks_test k (subsets_of (length sh) flat) c ≡ chunks_test k (subsets_of (length sh) (drop at flat)) (left c p v o)
+  pub same : chunks_test k (subsets_of (length sh) flat) c ≡ chunks_test k rest (left c p v o)
 
-pub walked_begins : (k : Kind) {sh flat : List ℕ} (c : Content) → SubsetsOk sh flat → Walked k sh flat c 0 0 0 0
-walked_begins k c q = record { geo = q; masks = omega arith; values = omega arith; offsets = omega arith; same = refl }
+pub walked_begins : (k : Kind) (sh flat : List ℕ) (c : Content) → Walked k sh flat c (subsets_of (length sh) flat) 0 0 0
+walked_begins k sh flat c = record { masks = omega arith; values = omega arith; offsets = omega arith; same = refl }
 
-module _ {k : Kind} {sh flat : List ℕ} {c : Content} {at p v o : ℕ} (w : Walked k sh flat c at p v o) where
+module _ {k : Kind} {sh flat : List ℕ} {c : Content} {rest : List Subset} {p v o : ℕ} (w : Walked k sh flat c rest p v o) where
   abbrev whole : Bool
   whole = chunks_test k (subsets_of (length sh) flat) c
 
@@ -59,10 +57,10 @@ module _ {k : Kind} {sh flat : List ℕ} {c : Content} {at p v o : ℕ} (w : Wal
 
   -- ---- all chunks are done
 
-  module _ (h : length flat ≤ at) where
+  module _ (h : rest ≡ []) where
     done : {x y z : Bool} → eqb (length here.masks) 0 ≡ x → eqb (length here.values) 0 ≡ y → eqb (length here.offsets) 0 ≡ z → whole ≡ x && y && z
     done e₁ e₂ e₃ =
-        w.same ∙ ap (λ (bs : List Subset). chunks_test k bs here) (none_left (length sh) flat h)
+        w.same ∙ ap (λ (bs : List Subset). chunks_test k bs here) h
         ∙ ap₂ (λ (a b : Bool). a && b) (ap₂ (λ (a b : Bool). a && b) e₁ e₂) e₃
 
     none : {n : ℕ} (xs : List ℕ) → n ≡ length xs → eqb (length (drop n xs)) 0 ≡ true
@@ -87,14 +85,11 @@ module _ {k : Kind} {sh flat : List ℕ} {c : Content} {at p v o : ℕ} (w : Wal
 
   -- ---- the first of the chunks that are left
 
-  module _ {mid end m : ℕ} (s : SubsetAt sh flat at mid end m) where
-    abbrev later : List Subset
-    later = subsets_of (length sh) (drop end flat)
-
+  module _ {starts lens : List ℕ} {later : List Subset} (s : rest ≡ pairs starts lens ∷ later) {m : ℕ} (a : SubsetAsked sh starts lens m) where
     turn : {t : Bool} → array_test k m (first_chunk k m here) ≡ t → whole ≡ t && chunks_test k later (later_chunks k m here)
     turn et =
-        w.same ∙ ap (λ (bs : List Subset). chunks_test k bs here) s.next
-        ∙ ap (λ (n : ℕ). array_test k n (first_chunk k n here) && chunks_test k later (later_chunks k n here)) (asked_volume s.asked)
+        w.same ∙ ap (λ (bs : List Subset). chunks_test k bs here) s
+        ∙ ap (λ (n : ℕ). array_test k n (first_chunk k n here) && chunks_test k later (later_chunks k n here)) (asked_volume a)
         ∙ ap (λ (x : Bool). x && chunks_test k later (later_chunks k m here)) et
 
     pub walked_bad : refuses 4 ≡ chunk_answer k m (lent c p v o) → false ≡ whole
@@ -111,9 +106,8 @@ module _ {k : Kind} {sh flat : List ℕ} {c : Content} {at p v o : ℕ} (w : Wal
           (ap (λ (n : ℕ). drop n (drop v c.values)) (sym z.is_taken) ∙ drop-drop taken v c.values)
           (ap (λ (n : ℕ). drop n (drop o c.offsets)) (sym z.is_numbers) ∙ drop-drop numbers o c.offsets)
 
-      pub walked_more : Walked k sh flat c end (p + k.depth * m) (v + taken) (o + numbers)
+      pub walked_more : Walked k sh flat c later (p + k.depth * m) (v + taken) (o + numbers)
       walked_more = record {
-        geo = s.rest;
         masks = omega (arith, fitting.held.masks, length-drop p c.masks, w.masks);
         values = omega (arith, fitting.held.values, fitting.size.is_taken, length-drop v c.values, w.values);
         offsets = omega (arith, fitting.held.offsets, fitting.size.is_numbers, length-drop o c.offsets, w.offsets);

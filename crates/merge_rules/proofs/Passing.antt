@@ -15,6 +15,8 @@ use Rattle.array.specs.Content.{Content, size_test}
 use Rattle.array.proofs.Answers.{same_given}
 use Rattle.array.proofs.Answers as answers
 use Rattle.array.proofs.Rules.{kind_ok, shape_ok, many_ok, size_ok}
+use Rattle.valid.specs.ShapeCells.{shape_answer}
+use Rattle.valid.proofs.ShapeLaws.{not_counted}
 use Rattle.subset.specs.Subsets.{SubsetsOk}
 use Rattle.merge_rules.specs.Chunks.{chunks_test}
 use Rattle.merge_rules.specs.Checks.{check_answer, MergeChecked}
@@ -41,8 +43,10 @@ module _ (k : Kind) (sh ns : List ℕ) (c : Content) where
   no_kind p = sym (answered {b = shape_test sh} {m = many_test sh ns} kept (size_test (length c.values)) p refl refl refl refl)
 
   module _ (p : kind_test k ≡ true) where
-    pub no_shape : shape_test sh ≡ false → refuses 2 ≡ check_answer k sh ns c
-    no_shape q = sym (answered {m = many_test sh ns} kept (size_test (length c.values)) p q refl refl refl)
+    pub no_shape : {number : ℕ} → refuses number ≡ shape_answer sh → refuses number ≡ check_answer k sh ns c
+    no_shape {number} e =
+        let n = not_counted sh number e in
+        rw n.1 (sym (answered {m = many_test sh ns} kept (size_test (length c.values)) p n.0 refl refl refl))
 
     module _ (q : shape_test sh ≡ true) where
       pub no_subsets : many_test sh ns ≡ false → refuses 3 ≡ check_answer k sh ns c

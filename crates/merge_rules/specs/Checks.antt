@@ -2,14 +2,13 @@
 -- Assumes nothing.
 use Rattle.std.specs.Prelude.{◌≡◌, ℕ, ◌≤◌, true, List, length}
 use Rattle.array.specs.Limits.{most_bytes}
-use Rattle.array.specs.Answer.{Answer, gives, refuses, unless}
+use Rattle.array.specs.Answer.{Answer, gives, unless}
 use Rattle.array.specs.Kind.{Kind, KindOk, kind_test}
 use Rattle.array.specs.Shape.{volume, shape_test}
 use Rattle.array.specs.Subset.{subsets_of, many_test}
 use Rattle.array.specs.Content.{Content, size_test}
 use Rattle.subset.specs.Subsets.{SubsetsOk}
 use Rattle.merge_rules.specs.Chunks.{chunks_test}
-use Rattle.merge_rules.specs.declared.Checks.{Checks}
 
 -- 1, 2, 3, 4, 5, and how many cells the stores go by. Every value byte of a chunk list is in a cell
 unfoldable pub check_answer : Kind → List ℕ → List ℕ → Content → Answer ℕ
@@ -20,10 +19,6 @@ check_answer k shape ns c =
     (unless (chunks_test k (subsets_of (length shape) ns) c) 4
     (unless (size_test (length c.values)) 5
     (gives (volume shape))))))
-
-abbrev pub told_checks : Checks → Answer ℕ
-told_checks (Checks.Passed n) = gives n
-told_checks (Checks.Refused e) = refuses e
 
 -- what is known where the checks passed
 pub record MergeChecked (k : Kind) (shape flat : List ℕ) (c : Content) (cells : ℕ) : Type 0 where

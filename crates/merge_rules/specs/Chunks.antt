@@ -1,7 +1,7 @@
 -- Redundant by the laws found and refused in merge_output/proofs/Totals.antt: the checking walk over a chunk list (S3.6, refusal 4).
 -- What it answers of one chunk, and of all.
 -- Assumes nothing.
-use Rattle.std.specs.Prelude.{ℕ, Bool, ◌&&◌, List, [], ◌∷◌, length, take, leb}
+use Rattle.std.specs.Prelude.{ℕ, Bool, ◌&&◌, List, [], ◌∷◌, length, take, leb, Option, Some, None}
 use Rattle.array.specs.Answer.{Answer, gives, refuses, unless}
 use Rattle.array.specs.Kind.{Kind, Form}
 use Rattle.array.specs.Shape.{volume}
@@ -35,6 +35,6 @@ chunks_test k [] c = nothing_test c
 chunks_test k (b ∷ bs) c = array_test k (volume (lengths b)) (first_chunk k (volume (lengths b)) c) && chunks_test k bs (later_chunks k (volume (lengths b)) c)
 
 -- as the code answers
-abbrev pub told_chunk : Chunk → Answer (ℕ × ℕ)
-told_chunk (Chunk.Takes v o) = takes v o
-told_chunk Chunk.Bad = refuses 4
+abbrev pub told_chunk : Option Chunk → Answer (ℕ × ℕ)
+told_chunk (Some c) = takes c.bytes c.numbers
+told_chunk None = refuses 4

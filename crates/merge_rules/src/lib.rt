@@ -3,68 +3,77 @@
 
 ghost use Rattle.std.specs.Prelude.{◌≡◌, ◌≤◌, length};
 ghost use Rattle.array.specs.Limits.{most_cells};
-ghost use Rattle.array.specs.Meaning.{form_of, kind_of};
+ghost use Rattle.array.specs.Meaning.{form_of, kind_of, told};
 ghost use Rattle.array.specs.Outcome.{content_array};
 ghost use Rattle.array.specs.Subset.{subsets_of};
 ghost use Rattle.subset.specs.Subsets.{SubsetsOk};
 ghost use Rattle.merge_rules.specs.Chunks.{size_answer, chunk_answer, chunks_test, told_chunk};
-ghost use Rattle.merge_rules.specs.Checks.{check_answer, told_checks};
+ghost use Rattle.merge_rules.specs.Checks.{check_answer};
 
 use array::kind::{Kind, Values};
-use array::refusal;
+use array::refusal::Refusal;
+use subset::walk::Parts;
 use valid::array_bytes::MOST_BYTES;
-use valid::shape::Cells;
 
 // What a chunk takes: its value bytes, its offsets.
 #[derive(Clone, Copy)]
-pub enum Chunk {
-    Takes(usize, usize),
-    Bad,
+pub struct Chunk {
+    pub bytes: usize,
+    pub numbers: usize,
 }
 
 // What a chunk takes by the offsets that are left: a ragged one has as many value bytes as its last offset says.
-fn chunk_size(form: Values, cells: usize, offsets: &[u64]) -> Chunk
+fn chunk_size(form: Values, cells: usize, offsets: &[u64]) -> Option<Chunk>
     requires { cells ≤ most_cells }
     ensures { told_chunk result ≡ size_answer (form_of form) cells offsets.now }
 {
     match form {
-        Values::Fixed(size, _) => Chunk::Takes(cells * (size as usize), 0),
+        Values::Fixed(size, _) => Some(Chunk {
+            bytes: cells * (size as usize),
+            numbers: 0,
+        }),
         Values::Ragged(_, _) => {
             if offsets.len() <= cells {
-                return Chunk::Bad;
+                return None;
             }
-            Chunk::Takes(offsets[cells] as usize, cells + 1)
+            Some(Chunk {
+                bytes: offsets[cells] as usize,
+                numbers: cells + 1,
+            })
         }
     }
 }
 
 // The first of the chunks that are left, of `cells` cells: what it takes, where it keeps the array's rules.
-fn check_chunk(kind: Kind, cells: usize, masks: &[u8], values: &[u8], offsets: &[u64]) -> Chunk
+fn check_chunk(
+    kind: Kind,
+    cells: usize,
+    masks: &[u8],
+    values: &[u8],
+    offsets: &[u64],
+) -> Option<Chunk>
     requires { cells ≤ most_cells }
     ensures { told_chunk result ≡ chunk_answer (kind_of kind) cells (content_array masks.now values.now offsets.now) }
 {
     let depth = kind.depth as usize;
     let planes = depth * cells;
     if masks.len() < planes {
-        return Chunk::Bad;
+        return None;
     }
-    let form = kind.values;
-    let Chunk::Takes(bytes, numbers) = chunk_size(form, cells, offsets) else {
-        return Chunk::Bad;
-    };
-    if values.len() < bytes {
-        return Chunk::Bad;
+    let chunk = chunk_size(kind.values, cells, offsets)?;
+    if values.len() < chunk.bytes {
+        return None;
     }
     if !valid::array_bytes::keeps_rules(
         kind,
         cells,
         &masks[0..planes],
-        &values[0..bytes],
-        &offsets[0..numbers],
+        &values[0..chunk.bytes],
+        &offsets[0..chunk.numbers],
     ) {
-        return Chunk::Bad;
+        return None;
     }
-    Chunk::Takes(bytes, numbers)
+    Some(chunk)
 }
 
 // Whether all chunks of a list keep the array's rules, and nothing is left over.
@@ -81,22 +90,18 @@ pub fn check_chunks(
         (content_array masks.now values.now offsets.now) }
 {
     let depth = kind.depth as usize;
-    let mut at: usize = 0;
     let mut p: usize = 0;
     let mut v: usize = 0;
     let mut o: usize = 0;
-    while at < subsets.len() {
-        let next = subset::subset_at(shape, subsets, at);
-        let end = next.end;
-        let m = next.cells;
+    for part in Parts::new(shape, subsets) {
+        let m = part.count;
         let chunk = check_chunk(kind, m, &masks[p..], &values[v..], &offsets[o..]);
-        let Chunk::Takes(bytes, numbers) = chunk else {
+        let Some(taken) = chunk else {
             return false;
         };
         p += depth * m;
-        v += bytes;
-        o += numbers;
-        at = end;
+        v += taken.bytes;
+        o += taken.numbers;
     }
     if p != masks.len() {
         return false;
@@ -107,14 +112,8 @@ pub fn check_chunks(
     o == offsets.len()
 }
 
-// What the stores of a merge go by: the cells of the shape.
-#[derive(Clone, Copy)]
-pub enum Checks {
-    Passed(usize),
-    Refused(u8),
-}
-
-// All checks of a merge but those of its cover and its outputs. 5 goes by the value bytes, which are all in cells.
+// All checks of a merge but those of its cover and its outputs, and how many cells the shape has. 5 goes by the value bytes, which are all
+// in cells.
 pub fn check_merge(
     kind: Kind,
     shape: &[u64],
@@ -122,24 +121,22 @@ pub fn check_merge(
     masks: &[u8],
     values: &[u8],
     offsets: &[u64],
-) -> Checks
-    ensures { told_checks result ≡ check_answer (kind_of kind) shape.now subsets.now
+) -> Result<usize, Refusal>
+    ensures { told result ≡ check_answer (kind_of kind) shape.now subsets.now
         (content_array masks.now values.now offsets.now) }
 {
     if !valid::kind::check_kind(kind) {
-        return Checks::Refused(refusal::KIND);
+        return Err(Refusal::Kind);
     }
-    let Cells::Count(cells) = valid::shape::shape_cells(shape) else {
-        return Checks::Refused(refusal::SHAPE);
-    };
+    let cells = valid::shape::shape_cells(shape)?;
     if !subset::subsets_fit(shape, subsets) {
-        return Checks::Refused(refusal::SUBSET);
+        return Err(Refusal::Subset);
     }
     if !check_chunks(kind, shape, subsets, masks, values, offsets) {
-        return Checks::Refused(refusal::CONTENT);
+        return Err(Refusal::Content);
     }
     if values.len() > MOST_BYTES {
-        return Checks::Refused(refusal::SIZE);
+        return Err(Refusal::Size);
     }
-    Checks::Passed(cells)
+    Ok(cells)
 }

@@ -3,48 +3,33 @@ ghost use Rattle.std.specs.Prelude.{◌≡◌, ◌∷◌, ◌++◌, ◌+◌, ◌
 ghost use Rattle.array.specs.Limits.{most_bytes};
 ghost use Rattle.array.specs.Lists.{from};
 ghost use Rattle.array.specs.Buffers.{over_at};
-ghost use Rattle.array.specs.Subset.{pairs, subsets_of, cells_in, cells_of_all};
+ghost use Rattle.array.specs.Subset.{subsets_of, cells_of_all};
 ghost use Rattle.array.specs.Places.{fixed_at, offset_at, Rises, sum, sums, steps_at};
-ghost use Rattle.subset.specs.Walk.{SubsetAsked};
+ghost use Rattle.subset.specs.Cells.{cells_of};
 ghost use Rattle.merge_stores.specs.Scatter.{scatter, places};
 ghost use Rattle.merge_stores.specs.Ragged.{step_parts, offsets_merged};
 ghost use Rattle.merge_stores.specs.Ragged.{LengthsAsked, LengthsAllAsked, RaggedAsked, RaggedAllAsked, RaggedMergeAsked};
+
+use subset::walk::{Parts, Subset};
 
 // The lengths of n neighbours, from their offsets.
 fn store_steps(out: &mut [u64], at: usize, src: &[u64], first: usize, n: usize)
     requires { (at + n ≤ length out.old) × (first + n < length src.now) × Rises (λ i. offset_at src.now (first + i)) n }
     ensures { out.new ≡ over_at at (steps_at (offset_at src.now) (from first n)) out.old }
 {
-    let mut i: usize = 0;
-    while i < n {
-        let a = src[first + i];
-        let b = src[first + i + 1];
-        out[at + i] = b - a;
-        i += 1;
+    for i in 0..n {
+        out[at + i] = src[first + i + 1] - src[first + i];
     }
 }
 
 // Stores the lengths of a chunk's values at their cells' places, where cell 0 lies at 1.
-fn store_lengths(
-    out: &mut [u64],
-    src: &[u64],
-    first: usize,
-    shape: &[u64],
-    starts: &[u64],
-    lens: &[u64],
-    count: usize,
-)
-    requires { SubsetAsked shape.now starts.now lens.now count × LengthsAsked shape.now out.old src.now first count }
-    ensures { out.new ≡ scatter out.old (places (fixed_at 1 1) (cells_in shape.now (pairs starts.now lens.now)))
-        (steps_at (offset_at src.now) (from first count)) }
+fn store_lengths(out: &mut [u64], src: &[u64], first: usize, subset: Subset)
+    requires { LengthsAsked subset.shape.now out.old src.now first subset.count }
+    ensures { out.new ≡ scatter out.old (places (fixed_at 1 1) (cells_of subset.entry))
+        (steps_at (offset_at src.now) (from first subset.entry.count)) }
 {
-    let last = lens.len() - 1;
-    let n = lens[last] as usize;
-    let mut at: usize = 0;
-    while at < count {
-        let a = subset::cell_at(shape, starts, lens, at as u64) as usize;
-        store_steps(out, 1 + a, src, first + at, n);
-        at += n;
+    for row in subset.rows() {
+        store_steps(out, 1 + row.first, src, first + row.at, row.cells);
     }
 }
 
@@ -54,24 +39,11 @@ fn store_lengths_all(out: &mut [u64], src: &[u64], shape: &[u64], subsets: &[u64
     ensures { out.new ≡ scatter out.old (places (fixed_at 1 1) (cells_of_all shape.now (subsets_of (length shape.now) subsets.now)))
         (step_parts (subsets_of (length shape.now) subsets.now) src.now) }
 {
-    let mut at: usize = 0;
     let mut first: usize = 0;
-    while at < subsets.len() {
-        let next = subset::subset_at(shape, subsets, at);
-        let mid = next.mid;
-        let end = next.end;
-        let m = next.cells;
-        store_lengths(
-            out,
-            src,
-            first,
-            shape,
-            &subsets[at..mid],
-            &subsets[mid..end],
-            m,
-        );
+    for part in Parts::new(shape, subsets) {
+        let m = part.count;
+        store_lengths(out, src, first, part);
         first += m + 1;
-        at = end;
     }
 }
 
@@ -81,18 +53,13 @@ fn sum_up(out: &mut [u64], n: usize)
     ensures { out.new ≡ (0 ∷ sums 0 (take n (drop 1 out.old))) ++ drop (n + 1) out.old }
 {
     out[0] = 0;
-    let mut i: usize = 0;
-    while i < n {
-        let a = out[i];
-        let b = out[i + 1];
-        out[i + 1] = a + b;
-        i += 1;
+    for i in 0..n {
+        out[i + 1] += out[i];
     }
 }
 
 // Stores a chunk's values row by row: they lie in `values` from `base` on, by the offsets in `src` from `first` on; `begins` says
 // where each cell of the output begins.
-// Ten parameters: values and offsets are a slice and a place each, and a subset of a shape is four.
 fn store_ragged(
     out: &mut [u8],
     begins: &[u64],
@@ -100,28 +67,17 @@ fn store_ragged(
     base: usize,
     src: &[u64],
     first: usize,
-    shape: &[u64],
-    starts: &[u64],
-    lens: &[u64],
-    count: usize,
+    subset: Subset,
 )
-    requires { SubsetAsked shape.now starts.now lens.now count
-        × RaggedAsked shape.now out.old begins.now values.now base src.now first (cells_in shape.now (pairs starts.now lens.now)) }
-    ensures { out.new ≡ scatter out.old (places (offset_at begins.now) (cells_in shape.now (pairs starts.now lens.now)))
-        (drop base values.now) }
+    requires { RaggedAsked subset.shape.now out.old begins.now values.now base src.now first (cells_of subset) }
+    ensures { out.new ≡ scatter out.old (places (offset_at begins.now) (cells_of subset.entry)) (drop base values.now) }
 {
-    let last = lens.len() - 1;
-    let n = lens[last] as usize;
-    let mut at: usize = 0;
-    while at < count {
-        let a = subset::cell_at(shape, starts, lens, at as u64) as usize;
-        let to = begins[a] as usize;
-        let i = first + at;
+    for row in subset.rows() {
+        let to = begins[row.first] as usize;
+        let i = first + row.at;
         let begin = src[i] as usize;
-        let e = i + n;
-        let end = src[e] as usize;
+        let end = src[i + row.cells] as usize;
         buffer::copy::copy_bytes(out, to, values, base + begin, end - begin);
-        at += n;
     }
 }
 
@@ -138,30 +94,13 @@ fn store_ragged_all(
     ensures { out.new ≡ scatter out.old (places (offset_at begins.now) (cells_of_all shape.now (subsets_of (length shape.now) subsets.now)))
         values.now }
 {
-    let mut at: usize = 0;
     let mut base: usize = 0;
     let mut first: usize = 0;
-    while at < subsets.len() {
-        let next = subset::subset_at(shape, subsets, at);
-        let mid = next.mid;
-        let end = next.end;
-        let m = next.cells;
-        store_ragged(
-            out,
-            begins,
-            values,
-            base,
-            src,
-            first,
-            shape,
-            &subsets[at..mid],
-            &subsets[mid..end],
-            m,
-        );
-        let last = first + m;
+    for part in Parts::new(shape, subsets) {
+        let last = first + part.count;
+        store_ragged(out, begins, values, base, src, first, part);
         base += src[last] as usize;
         first = last + 1;
-        at = end;
     }
 }
 

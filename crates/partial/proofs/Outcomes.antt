@@ -16,6 +16,8 @@ use Rattle.array.specs.Content.{RaggedContent, size_test, end_to_end}
 use Rattle.array.specs.declared.answer.RaggedLengths.{RaggedLengths}
 use Rattle.array.specs.Buffers.{ragged_lengths_of, ragged_enough_test, if_room, ragged_outcome}
 use Rattle.array.proofs.Rules.{numbers_ok}
+use Rattle.valid.specs.ShapeCells.{shape_answer}
+use Rattle.valid.proofs.ShapeLaws.{not_counted}
 use Rattle.codec.specs.Ragged.{get_ragged}
 use Rattle.stored_index.specs.declared.Index.{Index}
 use Rattle.stored_index.specs.Index.{found_in}
@@ -56,8 +58,10 @@ module _ (width : IndexWidth) (p : Place) (shape ns s : List ℕ) (old : RaggedC
   unfolding partially_decoded partial_answer
   answered ea eb er = rw (ea, eb, er)
 
-  pub no_shape : shape_test shape ≡ false → refused 2 old ≡ partially_decoded (width_of width) p shape ns s old
-  no_shape ea = sym (answered {b = numbers_test shape ns} {r = get_ragged w p s (volume shape)} ea refl refl)
+  pub no_shape : {number : ℕ} → refuses number ≡ shape_answer shape → refused number old ≡ partially_decoded (width_of width) p shape ns s old
+  no_shape {number} e =
+      let n = not_counted shape number e in
+      rw n.1 (sym (answered {b = numbers_test shape ns} {r = get_ragged w p s (volume shape)} n.0 refl refl))
 
   module _ (ea : shape_test shape ≡ true) where
     pub no_subset : numbers_test shape ns ≡ false → refused 3 old ≡ partially_decoded (width_of width) p shape ns s old

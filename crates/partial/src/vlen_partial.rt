@@ -1,21 +1,20 @@
 // Stored ragged values of depth 0, of which the cells of a subset are handed out. Offsets are read where they are stored, so that
 // no other memory is needed; nothing is stored before the last check.
-ghost use Rattle.std.specs.Prelude.{◌≡◌, length, drop};
+ghost use Rattle.std.specs.Prelude.{◌≡◌};
 ghost use Rattle.array.specs.Shape.{volume};
-ghost use Rattle.array.specs.Subset.{subset_of, cells_in};
 ghost use Rattle.array.specs.Buffers.{ragged_outcome, ragged_lengths_of};
 ghost use Rattle.array.specs.Meaning.{width_of, place_of};
 ghost use Rattle.array.specs.Outcome.{content_ragged, outcome_ragged};
 ghost use Rattle.chunks.specs.Calls.{partially_decoded};
-ghost use Rattle.cut_ragged.specs.Source.{NumbersAsked};
+ghost use Rattle.subset.specs.Cells.{cells_of};
 ghost use Rattle.partial.specs.Stored.{source_of, stored_values, cut_answer, StoredAsked};
 
-use array::answer::WrittenRagged;
+use array::answer::RaggedLengths;
 use array::kind::{IndexPlace, IndexWidth};
-use array::refusal;
-use cut_ragged::Source;
-use stored_index::{Index, Indexed};
-use valid::shape::Cells;
+use array::refusal::Refusal;
+use cut_ragged::{RaggedValues, Source};
+use stored_index::Index;
+use subset::walk::Subset;
 
 // How the offsets of an index lie.
 fn source_of(width: IndexWidth) -> Source
@@ -33,38 +32,29 @@ fn cut_stored(
     bytes: &[u8],
     found: Index,
     width: IndexWidth,
-    shape: &[u64],
-    subset: &[u64],
+    subset: Subset,
     values: &mut [u8],
     offsets: &mut [u64],
-) -> WrittenRagged
-    requires { NumbersAsked shape.now subset.now (volume (drop (length shape.now) subset.now)) × StoredAsked width bytes.now found (volume shape.now) }
+) -> Result<RaggedLengths, Refusal>
+    requires { StoredAsked width bytes.now found (volume subset.shape.now) }
     ensures { outcome_ragged result values.new offsets.new
-        ≡ ragged_outcome (cut_answer found.last (stored_values width bytes.now found
-        (cells_in shape.now (subset_of (length shape.now) subset.now))) (ragged_lengths_of (content_ragged values.old offsets.old)))
-        (content_ragged values.old offsets.old) }
+        ≡ ragged_outcome (cut_answer found.last (stored_values width bytes.now found (cells_of subset.entry))
+        (ragged_lengths_of (content_ragged values.old offsets.old))) (content_ragged values.old offsets.old) }
 {
     let last = found.last;
-    let index = found.index;
-    let base = found.from;
-    let source = source_of(width);
-    let count = subset::volume_of(&subset[shape.len()..]) as usize;
     if stored_index::too_large(last) {
-        return WrittenRagged::Refused(refusal::SIZE);
+        return Err(Refusal::Size);
     }
+    let source = source_of(width);
     // No offset is a number by itself: all are read where they are stored.
-    cut_ragged::cut(
+    let src = RaggedValues {
         source,
-        index,
-        base,
-        &shape[0..0],
+        index: found.index,
+        base: found.from,
+        numbers: &subset.shape[0..0],
         bytes,
-        shape,
-        subset,
-        count,
-        values,
-        offsets,
-    )
+    };
+    cut_ragged::cut(src, subset, values, offsets)
 }
 
 // The values and offsets of the cells of a subset, from the stored ragged values of an array of this shape.
@@ -76,19 +66,21 @@ pub fn partial_decode(
     bytes: &[u8],
     values: &mut [u8],
     offsets: &mut [u64],
-) -> WrittenRagged
+) -> Result<RaggedLengths, Refusal>
     ensures { outcome_ragged result values.new offsets.new
         ≡ partially_decoded (width_of width) (place_of place) shape.now subset.now bytes.now (content_ragged values.old offsets.old) }
 {
-    let Cells::Count(cells) = valid::shape::shape_cells(shape) else {
-        return WrittenRagged::Refused(refusal::SHAPE);
-    };
+    let cells = valid::shape::shape_cells(shape)?;
     if !subset::subset_fits(shape, subset) {
-        return WrittenRagged::Refused(refusal::SUBSET);
+        return Err(Refusal::Subset);
     }
-    let found = stored_index::find_index(bytes, 0, cells, width, place);
-    match found {
-        Indexed::Refused(e) => WrittenRagged::Refused(e),
-        Indexed::Found(index) => { cut_stored(bytes, index, width, shape, subset, values, offsets) }
-    }
+    let index = stored_index::find_index(bytes, 0, cells, width, place)?;
+    cut_stored(
+        bytes,
+        index,
+        width,
+        Subset::new(shape, subset),
+        values,
+        offsets,
+    )
 }

@@ -4,3 +4,4 @@ pub mod Rows
 pub mod Subsets
 pub mod Fitting
 pub mod StoringCells
+pub mod Steps

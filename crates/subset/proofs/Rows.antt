@@ -119,3 +119,8 @@ module _ {sh st ls : List ℕ} {count : ℕ} (a : SubsetAsked sh st ls count) wh
     inside = omega (arith, e, left_room g h (volume sh) asked_below);
     rest = left_more g h;
   }
+
+  -- where the row's length was read before
+  pub row_long : {at first n : ℕ} → Left (cells_in sh (pairs st ls)) count (row_of ls) at → at < count → first ≡ get_or (cells_in sh (pairs st ls)) at 0
+      → n ≡ row_of ls → RowAt sh ls (cells_in sh (pairs st ls)) count at first n
+  row_long {at} {first} g h e l = subst (λ (k : ℕ). RowAt sh ls (cells_in sh (pairs st ls)) count at first k) (sym l) (row_is g h e)

@@ -1,17 +1,17 @@
--- A loop over a list of subsets, whatever it does with them: what is left at its head is subsets again, and begins with the next one.
+-- A loop over a list of subsets, whatever it does with them: what is left is subsets again, and begins with the next one.
 -- Assumes nothing.
-use mathlib.Core.Path.{◌≡◌, ap, ◌∙◌, subst}
-use Prim.Native.Nat.{ℕ, ◌+◌, ◌<◌, ◌≤◌}
+use mathlib.Core.Path.{◌≡◌, sym, ap, ap₂, ◌∙◌, subst}
+use Prim.Native.Nat.{ℕ, ◌+◌, ◌-◌, ◌≤◌}
 use native.Mathlib.Omega.{arith}
 use mathlib.Core.List.{List, [], ◌∷◌}
-use lib.ListN.{length, drop, drop_of_length-le}
+use lib.ListN.{length, take, drop, drop_of_length-le}
+use lib.Seq.{drop-drop}
 use Rattle.array.specs.Lists.{All}
-use Rattle.array.specs.Shape.{volume}
 use Rattle.array.specs.Subset.{Subset, subsets_of, SubsetOk, FullOk, pairs}
 use Rattle.array.specs.Rows.{Within, FewCells}
 use Rattle.array.proofs.Lists.{All-map}
 use Rattle.array.proofs.SubsetLists.{starts_at, lengths_at, subsets_none, next_room, next_whole, next_subset, within_at}
-use Rattle.subset.specs.Subsets.{SubsetsOk, SubsetAt}
+use Rattle.subset.specs.Subsets.{SubsetsOk}
 use Rattle.subset.proofs.Index.{few_within}
 
 -- full subsets lie within the shape
@@ -22,31 +22,34 @@ all_inside sh bs p = All-map (FullOk sh) (SubsetOk sh) (λ b f. f.fits) bs p
 pub none_left : (d : ℕ) (flat : List ℕ) {at : ℕ} → length flat ≤ at → subsets_of d (drop at flat) ≡ []
 none_left d flat h = ap (subsets_of d) (drop_of_length-le flat h) ∙ subsets_none d
 
-module _ {sh : List ℕ} (flat : List ℕ) (at : ℕ) (q : SubsetsOk sh (drop at flat)) (h : at < length flat) where
-  abbrev d : ℕ
-  d = length sh
+-- numbers that are at least one subset, as a call splits them: the starts and the lengths of the first, and the others
+pub record Split (sh flat starts lens others : List ℕ) : Type 0 where
+  pub next : subsets_of (length sh) flat ≡ pairs starts lens ∷ subsets_of (length sh) others
+  pub within : Within sh starts lens
+  pub few : FewCells lens
+  pub rest : SubsetsOk sh others
 
-  pub subset_room : at + length sh + length sh ≤ length flat
-  subset_room = next_room d at flat q.shaped.some_sides q.many.counted h
+module _ {sh : List ℕ} (flat : List ℕ) (q : SubsetsOk sh flat) (h : 1 ≤ length flat) where
+  pub split_room : length sh + length sh ≤ length flat
+  split_room = omega (arith, next_room (length sh) 0 flat q.shaped.some_sides q.many.counted h)
 
-  now : subsets_of d (drop at flat) ≡ pairs (starts_at d at flat) (lengths_at d at flat) ∷ subsets_of d (drop (at + d + d) flat)
-  now = next_subset d at flat q.shaped.some_sides q.many.counted h
-
-  each : All (FullOk sh) (pairs (starts_at d at flat) (lengths_at d at flat) ∷ subsets_of d (drop (at + d + d) flat))
-  each = subst (All (FullOk sh)) now q.many.each
-
-  inside : Within sh (starts_at d at flat) (lengths_at d at flat)
-  inside = within_at sh flat at subset_room each.0.fits
-
-  pub subset_few : FewCells (lengths_at (length sh) at flat)
-  subset_few = few_within (starts_at d at flat) (lengths_at d at flat) q.shaped inside
-
-  pub subset_is : {cells : ℕ} → cells ≡ volume (lengths_at (length sh) at flat) → SubsetAt sh flat at (at + length sh) (at + length sh + length sh) cells
-  subset_is e = record {
-    next = now;
-    asked = record { shaped = q.shaped; within = inside; counted = e };
-    some = omega (arith, q.shaped.some_sides);
-    forth = omega arith;
-    within = subset_room;
-    rest = record { shaped = q.shaped; many = record { counted = next_whole d at flat q.shaped.some_sides q.many.counted h; each = each.1 } };
-  }
+  pub split_first : {starts behind lens others : List ℕ} → starts ≡ take (length sh) flat → behind ≡ drop (length sh) flat
+      → lens ≡ take (length sh) behind → others ≡ drop (length sh) behind → Split sh flat starts lens others
+  split_first {starts} {behind} {lens} {others} es eb el eo =
+      let d : ℕ = length sh in
+      let z : 0 + d ≡ d = omega arith in
+      let zd : 0 + d - 0 ≡ d = omega arith in
+      let zl : 0 + d + d - (0 + d) ≡ d = omega arith in
+      let first : starts_at d 0 flat ≡ starts = ap (λ (k : ℕ). take k flat) zd ∙ sym es in
+      let second : lengths_at d 0 flat ≡ lens = ap₂ (λ (k j : ℕ). take k (drop j flat)) zl z ∙ ap (take d) (sym eb) ∙ sym el in
+      let third : drop (0 + d + d) flat ≡ others = ap (λ (k : ℕ). drop (k + d) flat) z ∙ sym (drop-drop d d flat) ∙ ap (drop d) (sym eb) ∙ sym eo in
+      let next : subsets_of d flat ≡ pairs starts lens ∷ subsets_of d others =
+      rw (first, second, third) at (next_subset d 0 flat q.shaped.some_sides q.many.counted h) in
+      let each : All (FullOk sh) (pairs starts lens ∷ subsets_of d others) = subst (All (FullOk sh)) next q.many.each in
+      let within : Within sh starts lens = rw (first, second) at (within_at sh flat 0 (omega (arith, split_room)) (rw (first, second) each.0.fits)) in
+      record {
+        next = next;
+        within = within;
+        few = few_within starts lens q.shaped within;
+        rest = record { shaped = q.shaped; many = record { counted = rw third at (next_whole d 0 flat q.shaped.some_sides q.many.counted h); each = each.1 } };
+      }

@@ -1,7 +1,7 @@
 // Subsets of a shape: whether numbers are some, and which cells they have, row by row.
 #![tactic(auto)]
 
-ghost use Rattle.std.specs.Prelude.{◌≡◌, ◌+◌, ◌-◌, ◌≤◌, ◌<◌, length, get_or, drop, leb};
+ghost use Rattle.std.specs.Prelude.{◌≡◌, ◌+◌, ◌-◌, ◌≤◌, ◌<◌, length, get_or, leb};
 ghost use Rattle.array.specs.Limits.{most_cells};
 ghost use Rattle.array.specs.Lists.{from, every};
 ghost use Rattle.array.specs.Shape.{volume, ShapeOk};
@@ -10,12 +10,12 @@ ghost use Rattle.array.specs.Buffers.{over, over_at};
 ghost use Rattle.array.specs.Rows.{Within, FewCells};
 ghost use Rattle.array.specs.Outcome.{outcome};
 ghost use Rattle.array.specs.Calls.{subset_cells};
-ghost use Rattle.subset.specs.Walk.{SubsetAsked, row_of, Left, RowAt};
-ghost use Rattle.subset.specs.Subsets.{SubsetsOk, SubsetAt};
+ghost use Rattle.subset.specs.Cells.{cells_of};
 
-use array::answer::Written;
-use array::refusal;
-use valid::shape::Cells;
+use array::refusal::Refusal;
+use walk::Subset;
+
+pub mod walk;
 
 // Whether a start leaves room for the length in its side. The length is taken off the side, since a sum could wrap.
 fn leaves_room(side: u64, start: u64, len: u64) -> bool
@@ -30,8 +30,7 @@ fn lies_within(shape: &[u64], starts: &[u64], lens: &[u64]) -> bool
     requires { (length starts.now ≡ length shape.now) × (length lens.now ≡ length shape.now) }
     ensures { result ≡ subset_test shape.now (pairs starts.now lens.now) }
 {
-    let mut i = 0;
-    while i < shape.len() {
+    for i in 0..shape.len() {
         let side = shape[i];
         let len = lens[i];
         if side < len {
@@ -40,7 +39,6 @@ fn lies_within(shape: &[u64], starts: &[u64], lens: &[u64]) -> bool
         if !leaves_room(side, starts[i], len) {
             return false;
         }
-        i += 1;
     }
     true
 }
@@ -49,12 +47,10 @@ fn lies_within(shape: &[u64], starts: &[u64], lens: &[u64]) -> bool
 fn has_cells(lens: &[u64]) -> bool
     ensures { result ≡ every (leb 1) lens.now }
 {
-    let mut i = 0;
-    while i < lens.len() {
-        if lens[i] < 1 {
+    for len in lens {
+        if *len < 1 {
             return false;
         }
-        i += 1;
     }
     true
 }
@@ -108,25 +104,21 @@ pub fn volume_of(sides: &[u64]) -> u64
     ensures { result ≡ volume sides.now }
 {
     let mut v: u64 = 1;
-    let mut k = sides.len();
-    while 0 < k {
-        k -= 1;
+    for k in (0..sides.len()).rev() {
         v = sides[k] * v;
     }
     v
 }
 
 // Cell i of a subset.
-pub fn cell_at(shape: &[u64], starts: &[u64], lens: &[u64], i: u64) -> u64
+fn cell_at(shape: &[u64], starts: &[u64], lens: &[u64], i: u64) -> u64
     requires { ShapeOk shape.now × Within shape.now starts.now lens.now × (i < volume lens.now) }
     ensures { result ≡ get_or (cells_in shape.now (pairs starts.now lens.now)) i 0 }
 {
-    let mut k = shape.len();
     let mut v: u64 = 1;
     let mut cell: u64 = 0;
     let mut q = i;
-    while 0 < k {
-        k -= 1;
+    for k in (0..shape.len()).rev() {
         let n = lens[k];
         let row = starts[k] + q % n;
         cell = row * v + cell;
@@ -136,86 +128,38 @@ pub fn cell_at(shape: &[u64], starts: &[u64], lens: &[u64], i: u64) -> u64
     cell
 }
 
-// A row of a subset: so many neighbours from a cell on.
-#[derive(Clone, Copy)]
-pub struct Row {
-    pub first: usize,
-    pub cells: usize,
-}
-
-// The row that begins at cell `at` of a subset of `count` cells: what each loop over rows asks at each turn.
-pub fn row_at(shape: &[u64], starts: &[u64], lens: &[u64], count: usize, at: usize) -> Row
-    requires { SubsetAsked shape.now starts.now lens.now count
-        × Left (cells_in shape.now (pairs starts.now lens.now)) count (row_of lens.now) at × (at < count) }
-    ensures { RowAt shape.now lens.now (cells_in shape.now (pairs starts.now lens.now)) count at result.first result.cells }
-{
-    let last = lens.len() - 1;
-    let cells = lens[last] as usize;
-    let first = cell_at(shape, starts, lens, at as u64) as usize;
-    Row { first, cells }
-}
-
-// A subset of a list, all starts and then all lengths: its lengths begin at `mid`, the next subset at `end`.
-#[derive(Clone, Copy)]
-pub struct Listed {
-    pub mid: usize,
-    pub end: usize,
-    pub cells: usize,
-}
-
-// The subset that begins at `at` in a list of subsets: what each loop over a list asks at each turn.
-pub fn subset_at(shape: &[u64], subsets: &[u64], at: usize) -> Listed
-    requires { SubsetsOk shape.now (drop at subsets.now) × (at < length subsets.now) }
-    ensures { SubsetAt shape.now subsets.now at result.mid result.end result.cells }
-{
-    let mid = at + shape.len();
-    let end = mid + shape.len();
-    let cells = volume_of(&subsets[mid..end]) as usize;
-    Listed { mid, end, cells }
-}
-
 // Stores n cells that are neighbours, from the cell `first` on.
 fn store_run(cells: &mut [u64], at: usize, first: u64, n: usize)
     requires { (at + n ≤ length cells.old) × (first + n ≤ most_cells) }
     ensures { cells.new ≡ over_at at (from first n) cells.old }
 {
-    let mut i = 0;
-    while i < n {
+    for i in 0..n {
         cells[at + i] = first + i as u64;
-        i += 1;
     }
 }
 
 // Stores the cells of a subset, row by row.
-fn store_rows(cells: &mut [u64], shape: &[u64], starts: &[u64], lens: &[u64], count: usize)
-    requires { SubsetAsked shape.now starts.now lens.now count × (count ≤ length cells.old) }
-    ensures { cells.new ≡ over (cells_in shape.now (pairs starts.now lens.now)) cells.old }
+fn store_rows(cells: &mut [u64], subset: Subset)
+    requires { subset.count ≤ length cells.old }
+    ensures { cells.new ≡ over (cells_of subset.entry) cells.old }
 {
-    let mut at: usize = 0;
-    while at < count {
-        let row = row_at(shape, starts, lens, count, at);
-        let first = row.first;
-        let n = row.cells;
-        store_run(cells, at, first as u64, n);
-        at += n;
+    for row in subset.rows() {
+        store_run(cells, row.at, row.first as u64, row.cells);
     }
 }
 
 // The numbers of the cells of a subset, in row order.
-pub fn subset_cells(shape: &[u64], numbers: &[u64], cells: &mut [u64]) -> Written
+pub fn subset_cells(shape: &[u64], numbers: &[u64], cells: &mut [u64]) -> Result<usize, Refusal>
     ensures { outcome result cells.new ≡ subset_cells shape.now numbers.now cells.old }
 {
-    let Cells::Count(_) = valid::shape::shape_cells(shape) else {
-        return Written::Refused(refusal::SHAPE);
-    };
+    valid::shape::shape_cells(shape)?;
     if !subset_fits(shape, numbers) {
-        return Written::Refused(refusal::SUBSET);
+        return Err(Refusal::Subset);
     }
-    let sides = shape.len();
-    let count = volume_of(&numbers[sides..]) as usize;
-    if cells.len() < count {
-        return Written::Refused(refusal::OUTPUT);
+    let subset = Subset::new(shape, numbers);
+    if cells.len() < subset.count {
+        return Err(Refusal::Output);
     }
-    store_rows(cells, shape, &numbers[0..sides], &numbers[sides..], count);
-    Written::Length(count)
+    store_rows(cells, subset);
+    Ok(subset.count)
 }

@@ -1,14 +1,13 @@
--- `count_bytes` meets its contract: the rows before `at` are counted (proofs/Counting).
+-- `count_bytes` meets its contract: the rows before the iterator's place are counted (proofs/Counting).
 -- Assumes nothing.
-use Prim.Native.Nat.{◌-◌}
-use Rattle.array.specs.Subset.{pairs, cells_in}
+use mathlib.Core.Path.{◌≡◌}
 use Rattle.subset.specs.Walk.{row_of}
+use Rattle.subset.specs.Cells.{cells_of}
 use Rattle.cut_ragged.proofs.Counting.{Counting}
-use Rattle.cut_ragged.specs.Source.{source_at}
+use Rattle.cut_ragged.specs.Source.{begins_in}
 use Rattle.cut_ragged.proofs.count_bytes.Given as goal
 
-abbrev pub invariant-loop-at : goal.invariant-loop-at
-invariant-loop-at l = Counting (source_at l.source l.index l.numbers l.bytes) (cells_in l.shape (pairs l.starts l.lens)) l.count (row_of l.lens) l.at l.total
-
-abbrev pub decreases-loop-at : goal.decreases-loop-at
-decreases-loop-at l = l.count - l.at
+abbrev pub invariant-loop-row : goal.invariant-loop-row
+invariant-loop-row l =
+    let s = l.fn.subset in
+    Counting (begins_in l.src) (cells_of s) s.count (row_of s.lens.now) l.row-iterator.at l.total × (l.row-iterator.subset ≡ s)

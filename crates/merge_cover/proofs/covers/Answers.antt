@@ -1,45 +1,41 @@
--- `covers` meets its contract: the subsets before `at` are marked, and as many cells as they have are taken off (proofs/Marking, proofs/Once).
+-- `covers` meets its contract: the subsets before those that are left are marked, and as many cells as they have are taken off (proofs/Marking, proofs/Once).
 -- Assumes nothing.
-use mathlib.Core.Path.{sym, ◌∙◌}
-use borrow.Author.Tests.{not-true, not-false}
+use mathlib.Core.Path.{sym, ap, ◌∙◌}
 use native.Mathlib.Omega.{arith}
 use Rattle.subset.proofs.Index.{few_shape}
-use Rattle.merge_cover.specs.Bits.{marks_of}
+use Rattle.subset.proofs.Steps.{PartStep, part_step, parts_end}
+use Rattle.merge_cover.specs.Marks.{marking}
 use Rattle.merge_cover.proofs.BitLaws.{none_marked}
 use Rattle.merge_cover.proofs.Marking.{cover_begins, cover_ends, cover_more, cover_over, cover_beyond}
+use Rattle.merge_cover.proofs.covers.Goals.{In-Some}
 use Rattle.merge_cover.proofs.covers.Goals as goal
+
+turn : (c : In-Some) → PartStep c.args.shape.now c.loop-part.part-iterator c.in-Some.part c.next.new.self
+turn c = part_step c.args.shape.now c.loop-part.part-iterator c.loop-part.invariant.1 c.in-Some.part c.next.new.self c.in-Some.ensures.steps
 
 pub volume_of-left-requires : goal.volume_of-left-requires
 volume_of-left-requires c = few_shape c.args.shape.now c.requires.shaped.sides c.requires.shaped.few_cells
 
-pub loop-at-init : goal.loop-at-init
-loop-at-init c =
+pub loop-part-init : goal.loop-part-init
+loop-part-init c =
     let z = none_marked c.no_marks-words.ensures in
-    (cover_begins c.requires z.0 c.volume_of-left.ensures, z.1)
+    let p = c.new-part-items.ensures in
+    rw (c.into_iter-part-iterator.ensures.into_iter_gives, p.all) (cover_begins c.requires z.0 c.volume_of-left.ensures, p.shape, z.1)
 
-pub subset_at-next-requires : goal.subset_at-next-requires
-subset_at-next-requires c = (c.loop-at.invariant.0.geo, c.loop-at-test.true)
-
-pub returns-then-left-cells : goal.returns-then-left-cells
-returns-then-left-cells c = sym (cover_beyond c.requires c.loop-at.invariant.0 c.subset_at-next.ensures c.if-left-cells.true)
-
-pub slice_bounds-mark_subset-end : goal.slice_bounds-mark_subset-end
-slice_bounds-mark_subset-end c = sym c.loop-at.invariant.1
-
-pub mark_subset-requires : goal.mark_subset-requires
-mark_subset-requires c = (c.subset_at-next.ensures.asked, c.loop-at.invariant.1)
+pub returns-then-left-part : goal.returns-then-left-part
+returns-then-left-part c =
+    let t = turn (goal.at.returns-then-left-part c).In-Some in
+    sym (cover_beyond c.requires c.loop-part.invariant.0 t.next t.asked c.if-left-part.true)
 
 pub returns-then-not-mark_subset : goal.returns-then-not-mark_subset
 returns-then-not-mark_subset c =
-    sym (cover_over c.requires c.loop-at.invariant.0 c.subset_at-next.ensures
-    (marks_of c.mark_subset.new.words) c.mark_subset.ensures (not-true c.mark_subset.result c.if-not-mark_subset.true-raw))
+    let t = turn (goal.at.returns-then-not-mark_subset c).In-Some in
+    sym (cover_over c.requires c.loop-part.invariant.0 t.next t.asked (c.if-not-mark_subset.ensures ∙ ap (marking _) t.cells))
 
-pub loop-at-preserved : goal.loop-at-preserved
-loop-at-preserved c = (
-  cover_more c.requires c.loop-at.invariant.0 c.subset_at-next.ensures
-      (marks_of c.mark_subset.new.words) c.mark_subset.ensures (omega arith) (not-false c.mark_subset.result c.if-not-mark_subset.false-raw),
-  c.mark_subset.auto.words ∙ c.loop-at.invariant.1,
-)
+pub loop-part-preserved : goal.loop-part-preserved
+loop-part-preserved c =
+    let t = turn (goal.at.loop-part-preserved c).In-Some in
+    (cover_more c.requires c.loop-part.invariant.0 t.next t.asked (c.if-not-mark_subset.ensures ∙ ap (marking _) t.cells) (omega arith), t.same, c.mark_subset.auto.words ∙ c.loop-part.invariant.2)
 
 pub returns : goal.returns
-returns c = sym (cover_ends c.requires c.loop-at.invariant.0 c.loop-at-test.false)
+returns c = sym (cover_ends c.requires c.loop-part.invariant.0 (parts_end c.args.shape.now c.loop-part.part-iterator c.loop-part.invariant.1 c.in-None.ensures.steps))

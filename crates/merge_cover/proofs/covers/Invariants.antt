@@ -1,14 +1,13 @@
--- `covers` meets its contract: the subsets before `at` are marked, and as many cells as they have are taken off (proofs/Marking, proofs/Once).
+-- `covers` meets its contract: the subsets before those that are left are marked, and as many cells as they have are taken off (proofs/Marking, proofs/Once).
 -- Assumes nothing.
-use Prim.Native.Nat.{◌-◌}
 use mathlib.Core.Path.{◌≡◌}
 use lib.ListN.{length}
+use Rattle.array.specs.Subset.{subsets_of}
 use Rattle.merge_cover.specs.Bits.{marks_of}
 use Rattle.merge_cover.proofs.Marking.{AllMarked}
 use Rattle.merge_cover.proofs.covers.Given as goal
 
-abbrev pub invariant-loop-at : goal.invariant-loop-at
-invariant-loop-at l = AllMarked l.shape l.subsets (marks_of l.words) l.at l.left × (length l.words ≡ 1024)
-
-abbrev pub decreases-loop-at : goal.decreases-loop-at
-decreases-loop-at l = length l.subsets - l.at
+abbrev pub invariant-loop-part : goal.invariant-loop-part
+invariant-loop-part l =
+    AllMarked l.shape l.subsets (marks_of l.words) (subsets_of (length l.shape) l.part-iterator.left.now) l.left
+    × (l.part-iterator.shape.now ≡ l.shape) × (length l.words ≡ 1024)

@@ -1,45 +1,46 @@
--- `mark_subset` meets its contract: the rows before `at` are marked (proofs/Marking).
+-- `mark_subset` meets its contract: the rows before the iterator's place are marked (proofs/Marking).
 -- Assumes nothing.
-use mathlib.Core.Path.{sym, ◌∙◌}
-use borrow.Author.Tests.{not-true, not-false}
+use mathlib.Core.Path.{◌∙◌}
 use native.Mathlib.Omega.{arith}
 use Rattle.array.specs.Limits.{most_cells}
-use Rattle.subset.proofs.Rows.{asked_left, asked_few}
+use Rattle.subset.proofs.Rows.{asked_left}
+use Rattle.subset.proofs.Steps.{RowStep, row_step, rows_end, rows_left}
 use Rattle.merge_cover.specs.Bits.{marks_of}
 use Rattle.merge_cover.proofs.Marking.{marked_begins, marked_ends, marked_more, marked_over}
+use Rattle.merge_cover.proofs.mark_subset.Goals.{In-Some}
 use Rattle.merge_cover.proofs.mark_subset.Goals as goal
 
-pub loop-at-init : goal.loop-at-init
-loop-at-init c = (marked_begins (marks_of c.args.words.now) (asked_left c.requires.0), c.requires.1, c.requires.1)
+turn : (c : In-Some) → RowStep c.args.subset c.loop-row.row-iterator c.in-Some.row c.next.new.self
+turn c = row_step c.args.subset c.loop-row.row-iterator c.loop-row.invariant.1 c.in-Some.row c.next.new.self c.in-Some.ensures.steps
 
-pub row_at-row-requires : goal.row_at-row-requires
-row_at-row-requires c = (c.requires.0, c.loop-at.invariant.0.geo, c.loop-at-test.true)
+pub loop-row-init : goal.loop-row-init
+loop-row-init c =
+    let r = c.rows-row-items.ensures in
+    rw (c.into_iter-row-iterator.ensures.into_iter_gives, r.begin)
+    (marked_begins (marks_of c.args.words.now) (asked_left c.args.subset.asked), r.of, c.requires, c.requires)
+
+pub next-requires : goal.next-requires
+next-requires c = rows_left c.args.subset c.loop-row.row-iterator c.loop-row.invariant.1 c.loop-row.invariant.0.geo
 
 pub mark_run-requires : goal.mark_run-requires
 unfolding most_cells
-mark_run-requires c = (c.loop-at.invariant.2, omega (arith, c.row_at-row.ensures.inside, c.requires.0.shaped.few_cells))
-
-pub shape_of-words-then-not-mark_run : goal.shape_of-words-then-not-mark_run
-shape_of-words-then-not-mark_run c = c.mark_run.auto.words ∙ c.loop-at.invariant.2 ∙ sym c.loop-at.invariant.1
+mark_run-requires c =
+    let t = turn (goal.at.mark_run-requires c).In-Some in
+    (c.loop-row.invariant.3, omega (arith, t.row.inside, c.args.subset.asked.shaped.few_cells))
 
 pub returns-then-not-mark_run : goal.returns-then-not-mark_run
-returns-then-not-mark_run c = marked_over c.loop-at.invariant.0 c.row_at-row.ensures (marks_of c.mark_run.new.words) c.mark_run.ensures (not-true c.mark_run.result c.if-not-mark_run.true-raw)
+returns-then-not-mark_run c =
+    let t = turn (goal.at.returns-then-not-mark_run c).In-Some in
+    marked_over c.loop-row.invariant.0 t.row c.if-not-mark_run.ensures
 
-pub overflow_add-at : goal.overflow_add-at
-overflow_add-at c = omega (arith, c.row_at-row.ensures.within, asked_few c.requires.0)
-
-pub loop-at-smaller : goal.loop-at-smaller
-loop-at-smaller c = omega (arith, c.row_at-row.ensures.within, c.row_at-row.ensures.some)
-
-pub loop-at-preserved : goal.loop-at-preserved
-loop-at-preserved c = (
-  marked_more c.loop-at.invariant.0 c.row_at-row.ensures (marks_of c.mark_run.new.words) c.mark_run.ensures (not-false c.mark_run.result c.if-not-mark_run.false-raw),
-  c.loop-at.invariant.1,
-  c.mark_run.auto.words ∙ c.loop-at.invariant.2,
-)
-
-pub shape_of-words : goal.shape_of-words
-shape_of-words c = c.loop-at.invariant.2 ∙ sym c.loop-at.invariant.1
+pub loop-row-preserved : goal.loop-row-preserved
+loop-row-preserved c =
+    let t = turn (goal.at.loop-row-preserved c).In-Some in (
+      rw t.on (marked_more c.loop-row.invariant.0 t.row c.if-not-mark_run.ensures),
+      t.same,
+      c.loop-row.invariant.2,
+      c.mark_run.auto.words ∙ c.loop-row.invariant.3,
+    )
 
 pub returns : goal.returns
-returns c = marked_ends c.loop-at.invariant.0 c.loop-at-test.false
+returns c = marked_ends c.loop-row.invariant.0 (rows_end c.args.subset c.loop-row.row-iterator c.loop-row.invariant.1 c.in-None.ensures.steps)

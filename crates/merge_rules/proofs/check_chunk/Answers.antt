@@ -1,69 +1,51 @@
 -- `check_chunk` meets its contract: what is left holds the chunk, and the slices are its own (proofs/OneChunk).
 -- Assumes nothing.
-use Prim.Native.Nat.{ℕ, ◌≤◌}
-use mathlib.Core.Path.{sym, ap, ◌∙◌}
+use Prim.Native.Nat.{◌≤◌}
 use native.Mathlib.Omega.{arith}
 use lib.ListN.{length}
-use Rattle.array.specs.Content.{Content}
-use Rattle.array.specs.Kind.{Kind}
 use Rattle.array.specs.Meaning.{kind_of}
 use Rattle.array.specs.Outcome.{content_array}
 use Rattle.valid.proofs.CheckLaws.{small_product}
-use Rattle.merge_rules.specs.Chunks.{told_chunk}
 use Rattle.merge_rules.proofs.OneChunk.{Sized, size_known, size_lacking, chunk_lacks, chunk_breaks, chunk_keeps}
+use Rattle.merge_rules.proofs.check_chunk.Goals.{In_ok-chunk}
 use Rattle.merge_rules.proofs.check_chunk.Goals as goal
+
+size : (c : In_ok-chunk) → let a = c.args in let t = c.in_ok-chunk.chunk in
+    Sized (kind_of a.kind).form a.cells a.offsets.now t.bytes t.numbers × (t.numbers ≤ length a.offsets.now)
+size c = size_known (kind_of c.args.kind).form c.args.cells c.args.offsets.now c.in_ok-chunk.ensures
 
 pub overflow_mul-planes : goal.overflow_mul-planes
 overflow_mul-planes c = omega (arith, small_product c.args.kind.depth c.args.cells (omega arith) c.requires)
 
 pub returns-then-masks-planes : goal.returns-then-masks-planes
 returns-then-masks-planes c =
-    let kind : Kind = kind_of c.args.kind in
-    let left : Content = content_array c.args.masks.now c.args.values.now c.args.offsets.now in
-    chunk_lacks kind c.args.cells left (λ h. omega (arith, h.masks))
+    let a = c.args in
+    chunk_lacks (kind_of a.kind) a.cells (content_array a.masks.now a.values.now a.offsets.now) (λ h. omega (arith, h.masks))
 
-pub returns-in_default : goal.returns-in_default
-returns-in_default c =
-    let kind : Kind = kind_of c.args.kind in
-    let left : Content = content_array c.args.masks.now c.args.values.now c.args.offsets.now in
-    chunk_lacks kind c.args.cells left
-    (λ h. omega (arith, h.offsets, size_lacking kind.form c.args.cells c.args.offsets.now (sym (ap told_chunk c.in_default.is) ∙ c.chunk_size.ensures)))
+pub returns-in_err-chunk : goal.returns-in_err-chunk
+returns-in_err-chunk c =
+    let a = c.args in
+    rw c.from_residual.ensures
+    (chunk_lacks (kind_of a.kind) a.cells (content_array a.masks.now a.values.now a.offsets.now)
+    (λ h. omega (arith, h.offsets, size_lacking (kind_of a.kind).form a.cells a.offsets.now c.in_err-chunk.ensures)))
 
-pub returns-then-values-bytes : goal.returns-then-values-bytes
-returns-then-values-bytes c =
-    let kind : Kind = kind_of c.args.kind in
-    let left : Content = content_array c.args.masks.now c.args.values.now c.args.offsets.now in
-    let taken : ℕ = c.in-Takes.bytes in
-    let numbers : ℕ = c.in-Takes.numbers in
-    let size : let a = c.args in Sized kind.form a.cells a.offsets.now taken numbers × (numbers ≤ length a.offsets.now) =
-    size_known kind.form c.args.cells c.args.offsets.now (sym (ap told_chunk c.in-Takes.is) ∙ c.chunk_size.ensures) in
-    chunk_lacks kind c.args.cells left (λ h. omega (arith, h.values, size.0.is_taken))
+pub returns-then-values-chunk : goal.returns-then-values-chunk
+returns-then-values-chunk c =
+    let a = c.args in
+    let z = size (goal.at.returns-then-values-chunk c).In_ok-chunk in
+    chunk_lacks (kind_of a.kind) a.cells (content_array a.masks.now a.values.now a.offsets.now) (λ h. omega (arith, h.values, z.0.is_taken))
 
 pub slice_bounds-keeps_rules-end-3 : goal.slice_bounds-keeps_rules-end-3
-slice_bounds-keeps_rules-end-3 c =
-    let kind : Kind = kind_of c.args.kind in
-    let taken : ℕ = c.in-Takes.bytes in
-    let numbers : ℕ = c.in-Takes.numbers in
-    let size : let a = c.args in Sized kind.form a.cells a.offsets.now taken numbers × (numbers ≤ length a.offsets.now) =
-    size_known kind.form c.args.cells c.args.offsets.now (sym (ap told_chunk c.in-Takes.is) ∙ c.chunk_size.ensures) in
-    (size).1
+slice_bounds-keeps_rules-end-3 c = (size (goal.at.slice_bounds-keeps_rules-end-3 c).In_ok-chunk).1
 
 pub returns-then-not-keeps_rules : goal.returns-then-not-keeps_rules
 returns-then-not-keeps_rules c =
-    let kind : Kind = kind_of c.args.kind in
-    let left : Content = content_array c.args.masks.now c.args.values.now c.args.offsets.now in
-    let taken : ℕ = c.in-Takes.bytes in
-    let numbers : ℕ = c.in-Takes.numbers in
-    let size : let a = c.args in Sized kind.form a.cells a.offsets.now taken numbers × (numbers ≤ length a.offsets.now) =
-    size_known kind.form c.args.cells c.args.offsets.now (sym (ap told_chunk c.in-Takes.is) ∙ c.chunk_size.ensures) in
-    chunk_breaks kind c.args.cells left size.0 c.keeps_rules.ensures c.if-not-keeps_rules.true-raw
+    let a = c.args in
+    chunk_breaks (kind_of a.kind) a.cells (content_array a.masks.now a.values.now a.offsets.now) (size (goal.at.returns-then-not-keeps_rules c).In_ok-chunk).0
+    c.keeps_rules.ensures c.if-not-keeps_rules.true-raw
 
 pub returns : goal.returns
 returns c =
-    let kind : Kind = kind_of c.args.kind in
-    let left : Content = content_array c.args.masks.now c.args.values.now c.args.offsets.now in
-    let taken : ℕ = c.in-Takes.bytes in
-    let numbers : ℕ = c.in-Takes.numbers in
-    let size : let a = c.args in Sized kind.form a.cells a.offsets.now taken numbers × (numbers ≤ length a.offsets.now) =
-    size_known kind.form c.args.cells c.args.offsets.now (sym (ap told_chunk c.in-Takes.is) ∙ c.chunk_size.ensures) in
-    chunk_keeps kind c.args.cells left size.0 c.keeps_rules.ensures c.if-not-keeps_rules.false-raw
+    let a = c.args in
+    chunk_keeps (kind_of a.kind) a.cells (content_array a.masks.now a.values.now a.offsets.now) (size (goal.at.returns c).In_ok-chunk).0
+    c.keeps_rules.ensures c.if-not-keeps_rules.false-raw

@@ -2,11 +2,8 @@
 -- Assumes nothing.
 use Prim.Native.Nat.{◌<◌}
 use native.Mathlib.Omega.{arith}
-use Rattle.subset.proofs.Index.{cell_begins, cell_more, cell_ends, Turn, turn}
+use Rattle.subset.proofs.Index.{cell_more, cell_ends, Turn, turn}
 use Rattle.subset.proofs.cell_at.Goals as goal
-
-pub loop-k-init : goal.loop-k-init
-loop-k-init c = cell_begins c.args.shape.now c.args.starts.now c.args.lens.now c.args.i c.requires.1 c.requires.2
 
 pub nonzero_rem-row : goal.nonzero_rem-row
 nonzero_rem-row c =

@@ -5,6 +5,3 @@ use Rattle.subset.proofs.cell_at.Given as goal
 
 abbrev pub invariant-loop-k : goal.invariant-loop-k
 invariant-loop-k l = CellAt l.shape l.starts l.lens l.i l.k l.v l.cell l.q
-
-abbrev pub decreases-loop-k : goal.decreases-loop-k
-decreases-loop-k l = l.k

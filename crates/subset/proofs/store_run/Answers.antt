@@ -2,7 +2,7 @@
 -- Assumes nothing.
 use native.Mathlib.Omega.{arith}
 use Rattle.array.specs.Limits.{most_cells}
-use Rattle.subset.proofs.StoringCells.{run_begins, run_same, run_room, run_more, run_ends}
+use Rattle.subset.proofs.StoringCells.{run_begins, run_more, run_ends}
 use Rattle.subset.proofs.store_run.Goals as goal
 
 pub loop-i-init : goal.loop-i-init
@@ -16,25 +16,10 @@ pub overflow_add-cells-in-loop-i : goal.overflow_add-cells-in-loop-i
 unfolding most_cells
 overflow_add-cells-in-loop-i c = omega arith
 
-pub offset_bounds-cells-at : goal.offset_bounds-cells-at
-offset_bounds-cells-at c =
-    let a = c.args in
-    omega (arith, run_same a.cells.now a.at a.first a.n c.loop-i.cells c.loop-i.i c.loop-i.invariant.1)
-
-pub bounds-cells-at : goal.bounds-cells-at
-bounds-cells-at c =
-    let a = c.args in
-    run_room a.cells.now a.at a.first a.n c.loop-i.cells c.loop-i.i c.loop-i.invariant.1 c.loop-i-test.true
-
 pub loop-i-preserved : goal.loop-i-preserved
 loop-i-preserved c =
     let a = c.args in
     (omega arith, run_more a.cells.now a.at a.first a.n c.loop-i.cells c.loop-i.i c.loop-i.invariant.1 c.loop-i-test.true)
-
-pub shape_of-cells : goal.shape_of-cells
-shape_of-cells c =
-    let a = c.args in
-    run_same a.cells.now a.at a.first a.n c.loop-i.cells c.loop-i.i c.loop-i.invariant.1
 
 pub returns : goal.returns
 returns c =

@@ -2,116 +2,55 @@
 -- Assumes nothing.
 use Prim.Native.Nat.{ℕ}
 use mathlib.Core.Path.{◌≡◌, sym, ap, ◌∙◌}
-use mathlib.Core.Bool.{true}
 use mathlib.Core.List.{List}
-use native.Mathlib.Omega.{arith}
-use borrow.Author.Tests.{not-true, not-false}
 use lib.ListN.{length}
-use Rattle.valid.specs.ShapeCells.{told_cells}
-use Rattle.array.specs.Subset.{Subset, subset_of, numbers_test, NumbersOk, cells_in}
+use Rattle.std.proofs.lemmas.Result.{err_from_is_err_and}
+use Rattle.array.specs.Subset.{subset_of, NumbersOk, cells_in}
 use Rattle.array.proofs.Rules.{numbers_ok}
 use Rattle.valid.proofs.ShapeLaws.{Counted, counted, not_counted}
-use Rattle.array.proofs.SubsetLists.{subset_parts, within-parts}
-use Rattle.subset.proofs.Index.{few_within}
-use Rattle.subset.proofs.Rows.{within_cells}
 use Rattle.array.proofs.CellAnswers.{cells_no_shape, cells_no_subset, cells_no_room, cells_stored}
+use Rattle.subset.proofs.Rows.{asked_count}
+use Rattle.subset.proofs.subset_cells.Goals.{Else-not-subset_fits, After-new-subset}
 use Rattle.subset.proofs.subset_cells.Goals as goal
 
-pub returns-in_default : goal.returns-in_default
-returns-in_default c =
+pub returns-in_err-shape_cells : goal.returns-in_err-shape_cells
+returns-in_err-shape_cells c =
     let a = c.args in
-    cells_no_shape a.shape.now a.numbers.now a.cells.now
-    (not_counted a.shape.now c.in_default.field-0 (sym (ap told_cells c.in_default.is) ∙ c.shape_cells.ensures)).0
+    let p = err_from_is_err_and c.from_residual.result c.from_residual.ensures.1 in
+    let n = not_counted a.shape.now _ c.in_err-shape_cells.ensures in
+    rw (p.1, p.2, n.1) (cells_no_shape a.shape.now a.numbers.now a.cells.now n.0)
 
 pub returns-then-not-subset_fits : goal.returns-then-not-subset_fits
 returns-then-not-subset_fits c =
-    let shape : List ℕ = c.args.shape.now in
-    let numbers : List ℕ = c.args.numbers.now in
-    let lent : List ℕ = c.args.cells.now in
-    let shaped : Counted shape c.in-Count.field-0 = counted shape c.in-Count.field-0 (sym (ap told_cells c.in-Count.is) ∙ c.shape_cells.ensures) in
-    cells_no_subset shape numbers lent shaped.passes (sym c.subset_fits.ensures ∙ not-true c.subset_fits.result c.if-not-subset_fits.true-raw)
+    let a = c.args in
+    cells_no_subset a.shape.now a.numbers.now a.cells.now (counted a.shape.now _ c.in_ok-shape_cells.ensures).passes (sym c.if-not-subset_fits.ensures)
 
-pub slice_bounds-volume_of-count : goal.slice_bounds-volume_of-count
-slice_bounds-volume_of-count c =
-    let shape : List ℕ = c.args.shape.now in
-    let numbers : List ℕ = c.args.numbers.now in
-    let passed : numbers_test shape numbers ≡ true = sym c.subset_fits.ensures ∙ not-false c.subset_fits.result c.if-not-subset_fits.false-raw in
-    let fitting : NumbersOk shape numbers = numbers_ok shape numbers passed in
-    omega (arith, fitting.counted)
+fitting : (c : Else-not-subset_fits) → NumbersOk c.args.shape.now c.args.numbers.now
+fitting c =
+    numbers_ok c.args.shape.now c.args.numbers.now (sym c.if-not-subset_fits.ensures)
 
-pub slice_bounds-volume_of-start : goal.slice_bounds-volume_of-start
-slice_bounds-volume_of-start c =
-    let shape : List ℕ = c.args.shape.now in
-    let numbers : List ℕ = c.args.numbers.now in
-    let passed : numbers_test shape numbers ≡ true = sym c.subset_fits.ensures ∙ not-false c.subset_fits.result c.if-not-subset_fits.false-raw in
-    let fitting : NumbersOk shape numbers = numbers_ok shape numbers passed in
-    omega (arith, fitting.counted)
+pub new-subset-requires : goal.new-subset-requires
+new-subset-requires c =
+    let shaped = counted c.args.shape.now _ c.in_ok-shape_cells.ensures in
+    (shaped.shaped, fitting (goal.at.new-subset-requires c).Else-not-subset_fits)
 
-pub volume_of-count-requires : goal.volume_of-count-requires
-volume_of-count-requires c =
-    let shape : List ℕ = c.args.shape.now in
-    let numbers : List ℕ = c.args.numbers.now in
-    let shaped : Counted shape c.in-Count.field-0 = counted shape c.in-Count.field-0 (sym (ap told_cells c.in-Count.is) ∙ c.shape_cells.ensures) in
-    let passed : numbers_test shape numbers ≡ true = sym c.subset_fits.ensures ∙ not-false c.subset_fits.result c.if-not-subset_fits.false-raw in
-    let fitting : NumbersOk shape numbers = numbers_ok shape numbers passed in
-    few_within _ _ shaped.shaped (within-parts shape numbers fitting)
+-- as many cells as the numbers say
+total : (c : After-new-subset) → c.new-subset.result.count ≡ length (cells_in c.args.shape.now (subset_of (length c.args.shape.now) c.args.numbers.now))
+total c = rw (c.new-subset.ensures.shape, c.new-subset.ensures.said) at (sym (asked_count c.new-subset.result.asked))
 
-pub returns-then-cells-count : goal.returns-then-cells-count
-returns-then-cells-count c =
-    let shape : List ℕ = c.args.shape.now in
-    let numbers : List ℕ = c.args.numbers.now in
-    let lent : List ℕ = c.args.cells.now in
-    let shaped : Counted shape c.in-Count.field-0 = counted shape c.in-Count.field-0 (sym (ap told_cells c.in-Count.is) ∙ c.shape_cells.ensures) in
-    let passed : numbers_test shape numbers ≡ true = sym c.subset_fits.ensures ∙ not-false c.subset_fits.result c.if-not-subset_fits.false-raw in
-    let fitting : NumbersOk shape numbers = numbers_ok shape numbers passed in
-    let total : c.volume_of-count.result ≡ length (cells_in shape (subset_of (length shape) numbers)) = c.volume_of-count.ensures
-    ∙ sym (within_cells shape _ _ (within-parts shape numbers fitting))
-    ∙ ap (λ (b : Subset). length (cells_in shape b)) (subset_parts (length shape) numbers) in
-    cells_no_room shape numbers lent shaped.passes passed c.volume_of-count.result total c.if-cells-count.true
-
-pub slice_bounds-store_rows-end : goal.slice_bounds-store_rows-end
-slice_bounds-store_rows-end c =
-    let shape : List ℕ = c.args.shape.now in
-    let numbers : List ℕ = c.args.numbers.now in
-    let passed : numbers_test shape numbers ≡ true = sym c.subset_fits.ensures ∙ not-false c.subset_fits.result c.if-not-subset_fits.false-raw in
-    let fitting : NumbersOk shape numbers = numbers_ok shape numbers passed in
-    omega (arith, fitting.counted)
-
-pub slice_bounds-store_rows-count-2 : goal.slice_bounds-store_rows-count-2
-slice_bounds-store_rows-count-2 c =
-    let shape : List ℕ = c.args.shape.now in
-    let numbers : List ℕ = c.args.numbers.now in
-    let passed : numbers_test shape numbers ≡ true = sym c.subset_fits.ensures ∙ not-false c.subset_fits.result c.if-not-subset_fits.false-raw in
-    let fitting : NumbersOk shape numbers = numbers_ok shape numbers passed in
-    omega (arith, fitting.counted)
-
-pub slice_bounds-store_rows-start-2 : goal.slice_bounds-store_rows-start-2
-slice_bounds-store_rows-start-2 c =
-    let shape : List ℕ = c.args.shape.now in
-    let numbers : List ℕ = c.args.numbers.now in
-    let passed : numbers_test shape numbers ≡ true = sym c.subset_fits.ensures ∙ not-false c.subset_fits.result c.if-not-subset_fits.false-raw in
-    let fitting : NumbersOk shape numbers = numbers_ok shape numbers passed in
-    omega (arith, fitting.counted)
-
-pub store_rows-requires : goal.store_rows-requires
-store_rows-requires c =
-    let shape : List ℕ = c.args.shape.now in
-    let numbers : List ℕ = c.args.numbers.now in
-    let shaped : Counted shape c.in-Count.field-0 = counted shape c.in-Count.field-0 (sym (ap told_cells c.in-Count.is) ∙ c.shape_cells.ensures) in
-    let passed : numbers_test shape numbers ≡ true = sym c.subset_fits.ensures ∙ not-false c.subset_fits.result c.if-not-subset_fits.false-raw in
-    let fitting : NumbersOk shape numbers = numbers_ok shape numbers passed in
-    (record { shaped = shaped.shaped; within = within-parts shape numbers fitting; counted = c.volume_of-count.ensures }, c.if-cells-count.false)
+pub returns-then-cells-subset : goal.returns-then-cells-subset
+returns-then-cells-subset c =
+    let a = c.args in
+    let shaped = counted a.shape.now _ c.in_ok-shape_cells.ensures in
+    let passed = sym c.if-not-subset_fits.ensures in
+    cells_no_room a.shape.now a.numbers.now a.cells.now shaped.passes passed c.new-subset.result.count (total (goal.at.returns-then-cells-subset c).After-new-subset)
+    c.if-cells-subset.true
 
 pub returns : goal.returns
 returns c =
-    let shape : List ℕ = c.args.shape.now in
-    let numbers : List ℕ = c.args.numbers.now in
-    let lent : List ℕ = c.args.cells.now in
-    let shaped : Counted shape c.in-Count.field-0 = counted shape c.in-Count.field-0 (sym (ap told_cells c.in-Count.is) ∙ c.shape_cells.ensures) in
-    let passed : numbers_test shape numbers ≡ true = sym c.subset_fits.ensures ∙ not-false c.subset_fits.result c.if-not-subset_fits.false-raw in
-    let fitting : NumbersOk shape numbers = numbers_ok shape numbers passed in
-    let total : c.volume_of-count.result ≡ length (cells_in shape (subset_of (length shape) numbers)) = c.volume_of-count.ensures
-    ∙ sym (within_cells shape _ _ (within-parts shape numbers fitting))
-    ∙ ap (λ (b : Subset). length (cells_in shape b)) (subset_parts (length shape) numbers) in
-    cells_stored shape numbers lent shaped.passes passed c.volume_of-count.result total c.if-cells-count.false
-    _ (subset_parts (length shape) numbers) c.store_rows.new.cells c.store_rows.ensures
+    let a = c.args in
+    let n = c.new-subset.ensures in
+    let shaped = counted a.shape.now _ c.in_ok-shape_cells.ensures in
+    let passed = sym c.if-not-subset_fits.ensures in
+    cells_stored a.shape.now a.numbers.now a.cells.now shaped.passes passed c.new-subset.result.count (total (goal.at.returns c).After-new-subset) c.if-cells-subset.false
+    _ n.said c.store_rows.new.cells (rw n.shape at c.store_rows.ensures)

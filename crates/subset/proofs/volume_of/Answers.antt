@@ -7,13 +7,13 @@ use Rattle.subset.proofs.Index.{volume_end, volume-whole, volume_more, volume_fi
 use Rattle.subset.proofs.volume_of.Goals as goal
 
 pub loop-k-init : goal.loop-k-init
-loop-k-init c = (omega arith, sym (volume_end c.args.sides.now (length c.args.sides.now) (omega arith)))
+loop-k-init c = sym (volume_end c.args.sides.now (length c.args.sides.now) (omega arith))
 
 pub overflow_mul-v : goal.overflow_mul-v
-overflow_mul-v c = omega (arith, volume_fits c.args.sides.now c.loop-k.k (omega arith) (omega arith) c.loop-k.invariant.1 c.requires)
+overflow_mul-v c = omega (arith, volume_fits c.args.sides.now c.loop-k.k (omega arith) (omega arith) c.loop-k.invariant c.requires)
 
 pub loop-k-preserved : goal.loop-k-preserved
-loop-k-preserved c = (omega arith, volume_more c.args.sides.now c.loop-k.k (omega arith) (omega arith) c.loop-k.invariant.1)
+loop-k-preserved c = volume_more c.args.sides.now c.loop-k.k (omega arith) (omega arith) c.loop-k.invariant
 
 pub returns : goal.returns
-returns c = c.loop-k.invariant.1 ∙ volume-whole c.args.sides.now c.loop-k.k (omega arith)
+returns c = c.loop-k.invariant ∙ volume-whole c.args.sides.now c.loop-k.k (omega arith)

@@ -1,11 +1,7 @@
 -- `store_masks` meets its contract: the first l mask levels are merged (proofs/MasksStored).
 -- Assumes nothing.
-use Prim.Native.Nat.{◌-◌}
 use Rattle.merge_stores.proofs.MasksStored.{Stored}
 use Rattle.merge_stores.proofs.cells.store_masks.Given as goal
 
 abbrev pub invariant-loop-l : goal.invariant-loop-l
 invariant-loop-l l = Stored l.shape l.subsets l.initial.out l.src l.depth l.cells l.out l.l
-
-abbrev pub decreases-loop-l : goal.decreases-loop-l
-decreases-loop-l l = l.depth - l.l

@@ -1,50 +1,49 @@
--- `store_parts` meets its contract: the parts of the chunks before `at` are stored (proofs/PartsStored).
+-- `store_parts` meets its contract: the parts of the chunks before those that are left are stored (proofs/PartsStored).
 -- Assumes nothing.
-use Prim.Native.Nat.{◌+◌, ◌*◌, ◌<◌, ◌≤◌}
 use native.Mathlib.Omega.{arith}
-use lib.ListN.{length}
+use Rattle.subset.proofs.Steps.{PartStep, part_step, parts_end}
 use Rattle.merge_stores.proofs.ListStored.{list_ends}
 use Rattle.merge_stores.proofs.PartsStored.{all_begins, all_room, part_room, all_asked, all_more}
+use Rattle.merge_stores.proofs.cells.store_parts.Goals.{In-Some}
 use Rattle.merge_stores.proofs.cells.store_parts.Goals as goal
 
-pub loop-at-init : goal.loop-at-init
-loop-at-init c = all_begins c.requires
+turn : (c : In-Some) → PartStep c.args.shape.now c.loop-part.part-iterator c.in-Some.part c.next.new.self
+turn c = part_step c.args.shape.now c.loop-part.part-iterator c.loop-part.invariant.1 c.in-Some.part c.next.new.self c.in-Some.ensures.steps
 
-pub subset_at-next-requires : goal.subset_at-next-requires
-subset_at-next-requires c = (c.loop-at.invariant.list.geo, c.loop-at-test.true)
+pub loop-part-init : goal.loop-part-init
+loop-part-init c =
+    let p = c.new-part-items.ensures in
+    rw (c.into_iter-part-iterator.ensures.into_iter_gives, p.all) (all_begins c.requires, p.shape)
 
-pub overflow_mul-first : goal.overflow_mul-first
-overflow_mul-first c =
-    let lead : let a = c.args in (c.loop-at.pos + c.subset_at-next.result.cells * a.lead ≤ length a.src.now) × (length a.src.now < 18446744073709551616) =
-    (omega (arith, part_room c.requires c.loop-at.invariant c.subset_at-next.ensures), omega arith) in
-    omega (arith, lead)
-
-pub overflow_add-first : goal.overflow_add-first
-overflow_add-first c =
-    let lead : let a = c.args in (c.loop-at.pos + c.subset_at-next.result.cells * a.lead ≤ length a.src.now) × (length a.src.now < 18446744073709551616) =
-    (omega (arith, part_room c.requires c.loop-at.invariant c.subset_at-next.ensures), omega arith) in
-    omega (arith, lead)
-
-pub store_subset-requires : goal.store_subset-requires
-store_subset-requires c = (c.subset_at-next.ensures.asked, all_asked c.requires c.loop-at.invariant c.subset_at-next.ensures)
-
-pub overflow_mul-pos : goal.overflow_mul-pos
-overflow_mul-pos c =
-    let whole : let a = c.args in (c.loop-at.pos + c.subset_at-next.result.cells * a.step ≤ length a.src.now) × (length a.src.now < 18446744073709551616) =
-    (omega (arith, all_room c.requires c.loop-at.invariant c.subset_at-next.ensures), omega arith) in
-    omega (arith, whole)
+pub overflow_mul-m : goal.overflow_mul-m
+overflow_mul-m c =
+    let t = turn (goal.at.overflow_mul-m c).In-Some in
+    omega (arith, part_room c.requires c.loop-part.invariant.0 t.next t.asked)
 
 pub overflow_add-pos : goal.overflow_add-pos
 overflow_add-pos c =
-    let whole : let a = c.args in (c.loop-at.pos + c.subset_at-next.result.cells * a.step ≤ length a.src.now) × (length a.src.now < 18446744073709551616) =
-    (omega (arith, all_room c.requires c.loop-at.invariant c.subset_at-next.ensures), omega arith) in
-    omega (arith, whole)
+    let t = turn (goal.at.overflow_add-pos c).In-Some in
+    omega (arith, part_room c.requires c.loop-part.invariant.0 t.next t.asked)
 
-pub loop-at-preserved : goal.loop-at-preserved
-loop-at-preserved c = all_more c.requires c.loop-at.invariant c.subset_at-next.ensures c.store_subset.ensures
+pub overflow_mul-pos : goal.overflow_mul-pos
+overflow_mul-pos c =
+    let t = turn (goal.at.overflow_mul-pos c).In-Some in
+    omega (arith, all_room c.requires c.loop-part.invariant.0 t.next t.asked)
 
-pub shape_of-out : goal.shape_of-out
-shape_of-out c = c.loop-at.invariant.list.long
+pub overflow_add-pos-in-loop-part : goal.overflow_add-pos-in-loop-part
+overflow_add-pos-in-loop-part c =
+    let t = turn (goal.at.overflow_add-pos-in-loop-part c).In-Some in
+    omega (arith, all_room c.requires c.loop-part.invariant.0 t.next t.asked)
+
+pub store_subset-requires : goal.store_subset-requires
+store_subset-requires c =
+    let t = turn (goal.at.store_subset-requires c).In-Some in
+    rw t.of (all_asked c.requires c.loop-part.invariant.0 t.next t.asked)
+
+pub loop-part-preserved : goal.loop-part-preserved
+loop-part-preserved c =
+    let t = turn (goal.at.loop-part-preserved c).In-Some in
+    (all_more c.requires c.loop-part.invariant.0 t.next t.asked (rw t.of at c.store_subset.ensures), t.same)
 
 pub returns : goal.returns
-returns c = list_ends c.loop-at.invariant.list c.loop-at-test.false
+returns c = list_ends c.loop-part.invariant.0.list (parts_end c.args.shape.now c.loop-part.part-iterator c.loop-part.invariant.1 c.in-None.ensures.steps)

@@ -1,12 +1,12 @@
--- `store_parts` meets its contract: the parts of the chunks before `at` are stored (proofs/PartsStored).
+-- `store_parts` meets its contract: the parts of the chunks before those that are left are stored (proofs/PartsStored).
 -- Assumes nothing.
-use Prim.Native.Nat.{◌-◌}
+use mathlib.Core.Path.{◌≡◌}
 use lib.ListN.{length}
+use Rattle.array.specs.Subset.{subsets_of}
 use Rattle.merge_stores.proofs.PartsStored.{StoreAll}
 use Rattle.merge_stores.proofs.cells.store_parts.Given as goal
 
-abbrev pub invariant-loop-at : goal.invariant-loop-at
-invariant-loop-at l = StoreAll l.shape l.subsets l.initial.out l.base l.size l.src l.lead l.step l.out l.at l.pos
-
-abbrev pub decreases-loop-at : goal.decreases-loop-at
-decreases-loop-at l = length l.subsets - l.at
+abbrev pub invariant-loop-part : goal.invariant-loop-part
+invariant-loop-part l =
+    StoreAll l.shape l.subsets l.initial.out l.base l.size l.src l.lead l.step l.out (subsets_of (length l.shape) l.part-iterator.left.now) l.pos
+    × (l.part-iterator.shape.now ≡ l.shape)

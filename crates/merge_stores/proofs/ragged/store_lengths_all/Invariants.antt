@@ -1,12 +1,12 @@
--- `store_lengths_all` meets its contract: the lengths of the chunks before `at` are stored (proofs/LengthsStored).
+-- `store_lengths_all` meets its contract: the lengths of the chunks before those that are left are stored (proofs/LengthsStored).
 -- Assumes nothing.
-use Prim.Native.Nat.{◌-◌}
+use mathlib.Core.Path.{◌≡◌}
 use lib.ListN.{length}
+use Rattle.array.specs.Subset.{subsets_of}
 use Rattle.merge_stores.proofs.LengthsStored.{LengthsAll}
 use Rattle.merge_stores.proofs.ragged.store_lengths_all.Given as goal
 
-abbrev pub invariant-loop-at : goal.invariant-loop-at
-invariant-loop-at l = LengthsAll l.shape l.subsets l.initial.out l.src l.out l.at l.first
-
-abbrev pub decreases-loop-at : goal.decreases-loop-at
-decreases-loop-at l = length l.subsets - l.at
+abbrev pub invariant-loop-part : goal.invariant-loop-part
+invariant-loop-part l =
+    LengthsAll l.shape l.subsets l.initial.out l.src l.out (subsets_of (length l.shape) l.part-iterator.left.now) l.first
+    × (l.part-iterator.shape.now ≡ l.shape)

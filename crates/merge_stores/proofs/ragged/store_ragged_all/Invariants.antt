@@ -1,12 +1,12 @@
--- `store_ragged_all` meets its contract: the values of the chunks before `at` are stored (proofs/RaggedStored).
+-- `store_ragged_all` meets its contract: the values of the chunks before those that are left are stored (proofs/RaggedStored).
 -- Assumes nothing.
-use Prim.Native.Nat.{◌-◌}
+use mathlib.Core.Path.{◌≡◌}
 use lib.ListN.{length}
+use Rattle.array.specs.Subset.{subsets_of}
 use Rattle.merge_stores.proofs.RaggedStored.{RaggedAll}
 use Rattle.merge_stores.proofs.ragged.store_ragged_all.Given as goal
 
-abbrev pub invariant-loop-at : goal.invariant-loop-at
-invariant-loop-at l = RaggedAll l.shape l.subsets l.initial.out l.begins l.values l.src l.out l.at l.base l.first
-
-abbrev pub decreases-loop-at : goal.decreases-loop-at
-decreases-loop-at l = length l.subsets - l.at
+abbrev pub invariant-loop-part : goal.invariant-loop-part
+invariant-loop-part l =
+    RaggedAll l.shape l.subsets l.initial.out l.begins l.values l.src l.out (subsets_of (length l.shape) l.part-iterator.left.now) l.base l.first
+    × (l.part-iterator.shape.now ≡ l.shape)

@@ -1,10 +1,12 @@
 -- `sum_up` meets its contract: the first i lengths are summed (proofs/Summing).
 -- Assumes nothing.
-use mathlib.Core.Path.{◌≡◌, ◌∙◌}
+use Prim.Native.Nat.{ℕ, ◌+◌}
+use native.Mathlib.Nat.{add_comm}
+use mathlib.Core.Path.{◌≡◌, ◌∙◌, subst}
 use native.Mathlib.Omega.{arith}
-use lib.ListN.{length, set, length-set}
+use lib.ListN.{length, get_or, set, length-set}
 use Rattle.array.specs.Limits.{most_bytes}
-use Rattle.merge_stores.proofs.Summing.{summed_start, same_sum, summed_over, sum_small, summed_more}
+use Rattle.merge_stores.proofs.Summing.{Summed, summed_start, same_sum, summed_over, sum_small, summed_more}
 use Rattle.merge_stores.proofs.ragged.sum_up.Goals as goal
 
 pub loop-i-init : goal.loop-i-init
@@ -20,9 +22,9 @@ bounds-out-i-in-loop-i c =
     let long : length c.loop-i.out ≡ length c.args.out.now = c.loop-i.invariant.long ∙ length-set c.args.out.now 0 0 in
     omega (arith, long)
 
-pub overflow_add-out : goal.overflow_add-out
+pub overflow_add-out-in-loop-i : goal.overflow_add-out-in-loop-i
 unfolding most_bytes
-overflow_add-out c =
+overflow_add-out-in-loop-i c =
     omega (
       arith,
       sum_small (set c.args.out.now 0 0) c.args.n (omega (arith, length-set c.args.out.now 0 0)) c.loop-i.invariant (omega arith),
@@ -36,7 +38,10 @@ bounds-out-i-in-loop-i-2 c =
     omega (arith, long)
 
 pub loop-i-preserved : goal.loop-i-preserved
-loop-i-preserved c = summed_more (set c.args.out.now 0 0) c.args.n (omega (arith, length-set c.args.out.now 0 0)) c.loop-i.invariant (omega arith)
+loop-i-preserved c =
+    let l = c.loop-i in
+    subst (λ (x : ℕ). Summed (set c.args.out.now 0 0) (set l.out (l.i + 1) x) c.args.n (l.i + 1)) (add_comm (get_or l.out l.i 0) (get_or l.out (l.i + 1) 0))
+    (summed_more (set c.args.out.now 0 0) c.args.n (omega (arith, length-set c.args.out.now 0 0)) l.invariant (omega arith))
 
 pub shape_of-out : goal.shape_of-out
 shape_of-out c =

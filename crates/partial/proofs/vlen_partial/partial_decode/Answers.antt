@@ -1,104 +1,60 @@
 -- `partial_decode` meets its contract: each refusal in its order (proofs/Outcomes), then the cut of what the check found (proofs/Stored).
 -- Assumes nothing.
-use Prim.Native.Nat.{ℕ}
-use mathlib.Core.Path.{◌≡◌, refl, sym, ap, ◌∙◌}
-use mathlib.Core.Bool.{true}
-use mathlib.Core.List.{List}
+use mathlib.Core.Path.{sym, ap, ◌∙◌}
 use native.Mathlib.Omega.{arith}
-use borrow.Author.Tests.{not-true, not-false}
+use Rattle.std.proofs.lemmas.Result.{err_from_is_err_and}
 use Rattle.array.specs.Limits.{most_cells}
-use Rattle.array.specs.declared.kind.IndexWidth.{IndexWidth}
-use Rattle.array.specs.Kind.{Place}
 use Rattle.array.specs.Shape.{volume}
-use Rattle.valid.specs.ShapeCells.{told_cells}
-use Rattle.array.specs.Subset.{numbers_test, NumbersOk}
-use Rattle.array.specs.Content.{RaggedContent}
 use Rattle.array.specs.Meaning.{width_of, place_of}
-use Rattle.array.specs.Outcome.{content_ragged}
 use Rattle.array.proofs.Rules.{numbers_ok}
-use Rattle.valid.proofs.ShapeLaws.{Counted, counted, not_counted}
-use Rattle.stored_index.specs.declared.Index.{Index}
-use Rattle.stored_index.specs.Index.{found_in, told_index}
+use Rattle.valid.proofs.ShapeLaws.{Counted, counted}
+use Rattle.stored_index.specs.Index.{found_in}
 use Rattle.partial.proofs.Stored.{Read, read_found}
 use Rattle.partial.proofs.Outcomes.{no_shape, no_subset, not_read, cut_read}
+use Rattle.partial.proofs.vlen_partial.partial_decode.Goals.{In_ok-cells, In_ok-index}
 use Rattle.partial.proofs.vlen_partial.partial_decode.Goals as goal
 
-pub returns-in_default : goal.returns-in_default
-returns-in_default c =
-    let width : IndexWidth = c.args.width in
-    let place : Place = place_of c.args.place in
-    let shape : List ℕ = c.args.shape.now in
-    let numbers : List ℕ = c.args.subset.now in
-    let bytes : List ℕ = c.args.bytes.now in
-    let outputs : RaggedContent = content_ragged c.args.values.now c.args.offsets.now in
-    no_shape width place shape numbers bytes outputs
-    (not_counted shape c.in_default.field-0 (sym (ap told_cells c.in_default.is) ∙ c.shape_cells.ensures)).0
+shaped : (c : In_ok-cells) → Counted c.args.shape.now c.in_ok-cells.cells
+shaped c = counted _ _ c.in_ok-cells.ensures
+
+read : (c : In_ok-index) → let a = c.args in Read a.width (place_of a.place) a.bytes.now (volume a.shape.now) c.in_ok-index.index
+read c =
+    let a = c.args in
+    let s = shaped (goal.at.new-requires c).In_ok-cells in
+    read_found a.width (place_of a.place) a.bytes.now (volume a.shape.now) c.in_ok-index.index
+    (sym (c.in_ok-index.ensures ∙ ap (found_in (width_of a.width) (place_of a.place) a.bytes.now 0) s.is))
+
+pub returns-in_err-cells : goal.returns-in_err-cells
+returns-in_err-cells c =
+    let p = err_from_is_err_and c.from_residual.result c.from_residual.ensures.1 in
+    rw (p.1, p.2) (no_shape _ _ _ _ _ _ c.in_err-cells.ensures)
 
 pub returns-then-not-subset_fits : goal.returns-then-not-subset_fits
 returns-then-not-subset_fits c =
-    let width : IndexWidth = c.args.width in
-    let place : Place = place_of c.args.place in
-    let shape : List ℕ = c.args.shape.now in
-    let numbers : List ℕ = c.args.subset.now in
-    let bytes : List ℕ = c.args.bytes.now in
-    let outputs : RaggedContent = content_ragged c.args.values.now c.args.offsets.now in
-    let cells : ℕ = c.in-Count.cells in
-    let shaped : Counted shape cells = counted shape cells (sym (ap told_cells c.in-Count.is) ∙ c.shape_cells.ensures) in
-    no_subset width place shape numbers bytes outputs shaped.passes (sym c.subset_fits.ensures ∙ not-true c.subset_fits.result c.if-not-subset_fits.true-raw)
+    no_subset _ _ _ _ _ _ (shaped (goal.at.returns-then-not-subset_fits c).In_ok-cells).passes (sym c.if-not-subset_fits.ensures)
 
-pub find_index-found-requires : goal.find_index-found-requires
+pub find_index-requires : goal.find_index-requires
 unfolding most_cells
-find_index-found-requires c =
-    let shape : List ℕ = c.args.shape.now in
-    let cells : ℕ = c.in-Count.cells in
-    let shaped : Counted shape cells = counted shape cells (sym (ap told_cells c.in-Count.is) ∙ c.shape_cells.ensures) in
-    (shaped.few, omega arith)
+find_index-requires c = ((shaped (goal.at.find_index-requires c).In_ok-cells).few, omega arith)
+
+pub returns-in_err-index : goal.returns-in_err-index
+returns-in_err-index c =
+    let a = c.args in
+    let s = shaped (goal.at.returns-in_err-index c).In_ok-cells in
+    let p = err_from_is_err_and c.from_residual-in_err-index.result c.from_residual-in_err-index.ensures.1 in
+    rw (p.1, p.2)
+    (not_read _ _ _ _ _ _ s.passes (sym c.if-not-subset_fits.ensures) _
+    (sym (c.in_err-index.ensures ∙ ap (found_in (width_of a.width) (place_of a.place) a.bytes.now 0) s.is)))
+
+pub new-requires : goal.new-requires
+new-requires c = ((shaped (goal.at.new-requires c).In_ok-cells).shaped, numbers_ok _ _ (sym c.if-not-subset_fits.ensures))
 
 pub cut_stored-requires : goal.cut_stored-requires
-cut_stored-requires c =
-    let width : IndexWidth = c.args.width in
-    let place : Place = place_of c.args.place in
-    let shape : List ℕ = c.args.shape.now in
-    let numbers : List ℕ = c.args.subset.now in
-    let bytes : List ℕ = c.args.bytes.now in
-    let cells : ℕ = c.in-Count.cells in
-    let shaped : Counted shape cells = counted shape cells (sym (ap told_cells c.in-Count.is) ∙ c.shape_cells.ensures) in
-    let subset_passes : numbers_test shape numbers ≡ true = sym c.subset_fits.ensures ∙ not-false c.subset_fits.result c.if-not-subset_fits.false-raw in
-    let fitting : NumbersOk shape numbers = numbers_ok shape numbers subset_passes in
-    let checks : told_index c.find_index-found.result ≡ found_in (width_of width) place bytes 0 (volume shape) = c.find_index-found.ensures ∙ ap (found_in (width_of width) place bytes 0) shaped.is in
-    let index : Index = c.in-Found.index in
-    let read : Read width place bytes (volume shape) index = read_found width place bytes (volume shape) index (sym checks ∙ ap told_index c.in-Found.is) in
-    (record { shaped = shaped.shaped; numbers = fitting; counted = refl }, read.stored)
+cut_stored-requires c = rw c.new.ensures.shape (read (goal.at.cut_stored-requires c).In_ok-index).stored
 
-pub returns-in-Refused : goal.returns-in-Refused
-returns-in-Refused c =
-    let width : IndexWidth = c.args.width in
-    let place : Place = place_of c.args.place in
-    let shape : List ℕ = c.args.shape.now in
-    let numbers : List ℕ = c.args.subset.now in
-    let bytes : List ℕ = c.args.bytes.now in
-    let outputs : RaggedContent = content_ragged c.args.values.now c.args.offsets.now in
-    let cells : ℕ = c.in-Count.cells in
-    let shaped : Counted shape cells = counted shape cells (sym (ap told_cells c.in-Count.is) ∙ c.shape_cells.ensures) in
-    let subset_passes : numbers_test shape numbers ≡ true = sym c.subset_fits.ensures ∙ not-false c.subset_fits.result c.if-not-subset_fits.false-raw in
-    let checks : told_index c.find_index-found.result ≡ found_in (width_of width) place bytes 0 (volume shape) = c.find_index-found.ensures ∙ ap (found_in (width_of width) place bytes 0) shaped.is in
-    not_read width place shape numbers bytes outputs shaped.passes subset_passes c.in-Refused.e
-    (sym checks ∙ ap told_index c.in-Refused.is)
-
-pub returns-in-Found : goal.returns-in-Found
-returns-in-Found c =
-    let width : IndexWidth = c.args.width in
-    let place : Place = place_of c.args.place in
-    let shape : List ℕ = c.args.shape.now in
-    let numbers : List ℕ = c.args.subset.now in
-    let bytes : List ℕ = c.args.bytes.now in
-    let outputs : RaggedContent = content_ragged c.args.values.now c.args.offsets.now in
-    let cells : ℕ = c.in-Count.cells in
-    let shaped : Counted shape cells = counted shape cells (sym (ap told_cells c.in-Count.is) ∙ c.shape_cells.ensures) in
-    let subset_passes : numbers_test shape numbers ≡ true = sym c.subset_fits.ensures ∙ not-false c.subset_fits.result c.if-not-subset_fits.false-raw in
-    let checks : told_index c.find_index-found.result ≡ found_in (width_of width) place bytes 0 (volume shape) = c.find_index-found.ensures ∙ ap (found_in (width_of width) place bytes 0) shaped.is in
-    let index : Index = c.in-Found.index in
-    let read : Read width place bytes (volume shape) index = read_found width place bytes (volume shape) index (sym checks ∙ ap told_index c.in-Found.is) in
-    let i = index in
-    c.cut_stored.ensures
-    ∙ cut_read width place shape numbers bytes outputs shaped.passes subset_passes i read
+pub returns : goal.returns
+returns c =
+    let a = c.args in
+    rw (c.new.ensures.shape, c.new.ensures.said) at c.cut_stored.ensures
+    ∙ cut_read a.width (place_of a.place) a.shape.now a.subset.now a.bytes.now _ (shaped (goal.at.returns c).In_ok-cells).passes (sym c.if-not-subset_fits.ensures)
+    c.in_ok-index.index (read (goal.at.returns c).In_ok-index)

@@ -5,16 +5,16 @@ use mathlib.Core.Path.{◌≡◌, refl}
 use native.Mathlib.Omega.{arith}
 use lib.ListN.{length}
 use Rattle.cut_ragged.specs.declared.Source.{Source}
-use Rattle.cut_ragged.proofs.offset_at.Goals as goal
+use Rattle.cut_ragged.proofs.RaggedValues.offset_at.Goals as goal
 
-pub offset_bounds-numbers-j : goal.offset_bounds-numbers-j
-offset_bounds-numbers-j c =
-    let there : c.args.source ≡ Source.Numbers → c.args.j < length c.args.numbers.now = λ e. rw e at c.requires in
+pub offset_bounds-self-j : goal.offset_bounds-self-j
+offset_bounds-self-j c =
+    let there : c.args.self.source ≡ Source.Numbers → c.args.j < length c.args.self.numbers.now = λ e. rw e at c.requires in
     omega (arith, there c.in-Numbers.is)
 
-pub bounds-numbers-j : goal.bounds-numbers-j
-bounds-numbers-j c =
-    let there : c.args.source ≡ Source.Numbers → c.args.j < length c.args.numbers.now = λ e. rw e at c.requires in
+pub bounds-self-j : goal.bounds-self-j
+bounds-self-j c =
+    let there : c.args.self.source ≡ Source.Numbers → c.args.j < length c.args.self.numbers.now = λ e. rw e at c.requires in
     there c.in-Numbers.is
 
 pub stored_at-requires : goal.stored_at-requires

@@ -1,0 +1,154 @@
+// A subset of a shape, its rows, and the subsets of a list: what each loop over cells or chunks walks along.
+ghost use Rattle.std.specs.Prelude.{◌≡◌, length, drop};
+ghost use Rattle.array.specs.Shape.{volume, ShapeOk};
+ghost use Rattle.array.specs.Subset.{NumbersOk, pairs, subset_of};
+ghost use Rattle.subset.specs.Walk.{SubsetAsked, SubsetAsked-prop, row_of};
+ghost use Rattle.subset.specs.Subsets.{SubsetsOk, SubsetsOk-prop};
+
+use crate::{cell_at, volume_of};
+
+// A subset that lies within its shape, of so many cells.
+#[derive(Clone, Copy)]
+pub struct Subset<'a> {
+    pub shape: &'a [u64],
+    pub starts: &'a [u64],
+    pub lens: &'a [u64],
+    pub count: usize,
+    pub ghost asked: { SubsetAsked shape.now starts.now lens.now count } by { SubsetAsked-prop shape.now starts.now lens.now count },
+}
+
+impl<'a> Subset<'a> {
+    ghost use Rattle.subset.specs.Cells.{RowsLeft};
+
+    // The subset that the numbers say, all starts and then all lengths.
+    pub fn new(shape: &'a [u64], numbers: &'a [u64]) -> Subset<'a>
+        requires { ShapeOk shape.now × NumbersOk shape.now numbers.now }
+        ensures shape { result.shape.now ≡ shape.now }
+        ensures said { pairs result.starts.now result.lens.now ≡ subset_of (length shape.now) numbers.now }
+        ensures count { result.count ≡ volume (drop (length shape.now) numbers.now) }
+    {
+        let (starts, lens) = numbers.split_at(shape.len());
+        let count = volume_of(lens) as usize;
+        Subset {
+            shape,
+            starts,
+            lens,
+            count,
+        }
+    }
+
+    // Its rows, from the first on.
+    pub fn rows(self) -> Rows<'a>
+        ensures begin { result.at ≡ 0 }
+        ensures of { result.subset ≡ self.entry }
+        ensures left { RowsLeft result }
+    {
+        let last = self.lens.len() - 1;
+        let cells = self.lens[last] as usize;
+        Rows {
+            subset: self,
+            cells,
+            at: 0,
+        }
+    }
+}
+
+// A row of a subset: so many neighbours from the cell `first` on, before which the subset has `at` cells.
+#[derive(Clone, Copy)]
+pub struct Row {
+    pub at: usize,
+    pub first: usize,
+    pub cells: usize,
+}
+
+// The rows of a subset from its cell `at` on. All have as many cells.
+#[derive(Drop)]
+pub struct Rows<'a> {
+    subset: Subset<'a>,
+    cells: usize,
+    at: usize,
+    ghost as_long: { cells ≡ row_of subset.lens.now },
+}
+
+impl<'a> Iterator for Rows<'a> {
+    ghost use Rattle.std.specs.Prelude.{◌-◌};
+    ghost use Rattle.std.specs.Iterator.{at_most};
+    ghost use Rattle.subset.specs.Cells.{RowsLeft, GivesRow};
+
+    type Item = Row;
+
+    ghost can_next = { RowsLeft };
+
+    ghost next_gives = { GivesRow };
+
+    ghost remaining = { λ rows. at_most (rows.subset.count - rows.at) };
+
+    #[inline(always)]
+    fn next(&mut self) -> Option<Row> {
+        let Subset {
+            shape,
+            starts,
+            lens,
+            count,
+        } = self.subset;
+        let at = self.at;
+        if count <= at {
+            return None;
+        }
+        let first = cell_at(shape, starts, lens, at as u64) as usize;
+        let cells = self.cells;
+        self.at = at + cells;
+        Some(Row { at, first, cells })
+    }
+}
+
+// The subsets of a list that are left, whose numbers lie end to end. Each holds a cell.
+#[derive(Drop)]
+pub struct Parts<'a> {
+    shape: &'a [u64],
+    left: &'a [u64],
+    pub ghost each: { SubsetsOk shape.now left.now } by { SubsetsOk-prop shape.now left.now },
+}
+
+impl<'a> Parts<'a> {
+    pub fn new(shape: &'a [u64], subsets: &'a [u64]) -> Parts<'a>
+        requires { SubsetsOk shape.now subsets.now }
+        ensures shape { result.shape.now ≡ shape.now }
+        ensures all { result.left.now ≡ subsets.now }
+    {
+        Parts {
+            shape,
+            left: subsets,
+        }
+    }
+}
+
+impl<'a> Iterator for Parts<'a> {
+    ghost use Rattle.std.specs.Iterator.{at_most};
+    ghost use Rattle.subset.specs.Cells.{GivesPart};
+
+    type Item = Subset<'a>;
+
+    ghost next_gives = { GivesPart };
+
+    ghost remaining = { λ parts. at_most (length parts.left.now) };
+
+    #[inline(always)]
+    fn next(&mut self) -> Option<Subset<'a>> {
+        let shape = self.shape;
+        let left = self.left;
+        if left.is_empty() {
+            return None;
+        }
+        let (starts, rest) = left.split_at(shape.len());
+        let (lens, rest) = rest.split_at(shape.len());
+        self.left = rest;
+        let cells = volume_of(lens) as usize;
+        Some(Subset {
+            shape,
+            starts,
+            lens,
+            count: cells,
+        })
+    }
+}
