@@ -1,4 +1,4 @@
--- Redundant by their bodies: the cells that a level counts, by the level itself.
+-- Redundant by the contract of `live_cells::mark`, live_cells/src/lib.rt: the cells that a level counts, by the level itself.
 -- Assumes nothing.
 use Rattle.std.specs.Prelude.{ℕ, Bool, List}
 use Rattle.array.specs.Places.{shown_at}
