@@ -18,7 +18,7 @@ use Rattle.array.specs.Outcome.{content_array}
 use Rattle.table.specs.Table.{Table}
 use Rattle.table.specs.Meaning.{table_by}
 use Rattle.table_make.specs.Rested.{rest_table}
-use Rattle.table_make.proofs.Making.{held_planes, held_offsets, without_masks_lem, no_starts, no_lengths, no_store, all_stored}
+use Rattle.table_make.proofs.Making.{held_offsets, without_masks_lem, no_starts, no_lengths, no_store, all_stored}
 use Rattle.table_make.proofs.make_valid.Goals as goal
 
 pub returns-then-out_masks-planes : goal.returns-then-out_masks-planes
