@@ -1,6 +1,6 @@
 -- `table_pack::pack_with` meets its contract: refusals 4 and 5, each in its turn, and then the walk over the cells as they lie.
 -- Assumes nothing.
-use mathlib.Core.Path.{◌≡◌, sym, ◌∙◌, subst}
+use mathlib.Core.Path.{◌≡◌, sym, ◌∙◌}
 use mathlib.Core.Bool.{true}
 use mathlib.Core.List.{List}
 use Prim.Native.Nat.{ℕ}
@@ -10,7 +10,7 @@ use Rattle.array.specs.Kind.{Kind}
 use Rattle.array.specs.Meaning.{kind_of}
 use Rattle.table.specs.Table.{Table, store_test}
 use Rattle.table.specs.Meaning.{table_by}
-use Rattle.table_check.specs.Told.{ToldOrder, Lain}
+use Rattle.table_check.specs.Told.{Lain}
 use Rattle.table_pack.proofs.Outcomes.{broken, too_long, packs_moved, may_walk}
 use Rattle.table_pack.proofs.pack_with.Goals as goal
 

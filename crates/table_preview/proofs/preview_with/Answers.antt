@@ -6,7 +6,6 @@ use mathlib.Core.List.{List}
 use Prim.Native.Nat.{ℕ, ◌≤◌}
 use native.Mathlib.Omega.{arith}
 use lib.ListN.{length, take}
-use lib.Seq.{length-take-le}
 use borrow.Author.Tests.{not-true, not-false}
 use Rattle.array.specs.Answer.{map_answer}
 use Rattle.array.specs.Kind.{Kind}
@@ -17,7 +16,7 @@ use Rattle.table.specs.Calls.{looked_at}
 use Rattle.table.specs.Meaning.{table_by}
 use Rattle.table.specs.Walk.{InOrder}
 use Rattle.table.proofs.Walk.{in_order}
-use Rattle.table_check.specs.Told.{Lain, ToldOrder}
+use Rattle.table_check.specs.Told.{Lain}
 use Rattle.table_setting.specs.Settle.{setting_answer}
 use Rattle.table_setting.proofs.Outcomes.{broken, bad_setting, sound, answer_is}
 use Rattle.table_preview.proofs.Outcomes.{preview_is}

@@ -1,8 +1,6 @@
 -- `read_with` meets its contract: the stages in their order (Stages), and then the cells.
 -- Assumes nothing.
-use mathlib.Core.Path.{sym, ◌∙◌, subst}
-use Prim.Native.Nat.{ℕ}
-use mathlib.Core.List.{List}
+use mathlib.Core.Path.{sym, ◌∙◌}
 use borrow.Author.Tests.{not-true, not-false}
 use Rattle.array.specs.Kind.{Kind}
 use Rattle.array.specs.Content.{Content}
@@ -10,7 +8,6 @@ use Rattle.array.specs.Outcome.{content_array}
 use Rattle.array.specs.Meaning.{kind_of}
 use Rattle.table.specs.Table.{Table, TableOk}
 use Rattle.table.specs.Meaning.{table_by}
-use Rattle.table_check.specs.Told.{ToldOrder}
 use Rattle.table_read.proofs.Stages.{reads_well, by_table, by_store, by_cells}
 use Rattle.table_read.proofs.read_with.Goals as goal
 

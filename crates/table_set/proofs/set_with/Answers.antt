@@ -1,6 +1,6 @@
 -- `set_with` meets its contract: refusal 4, and then what a table and a setting that keep their rules give.
 -- Assumes nothing.
-use mathlib.Core.Path.{◌≡◌, sym, ◌∙◌, subst}
+use mathlib.Core.Path.{◌≡◌, sym, ◌∙◌}
 use mathlib.Core.Bool.{true}
 use mathlib.Core.List.{List}
 use Prim.Native.Nat.{ℕ, ◌≤◌}
@@ -12,7 +12,6 @@ use Rattle.array.specs.Meaning.{kind_of}
 use Rattle.table.specs.Table.{Table, TableOk}
 use Rattle.table.specs.Setting.{setting_test}
 use Rattle.table.specs.Meaning.{table_by}
-use Rattle.table_check.specs.Told.{ToldOrder}
 use Rattle.table_setting.proofs.Outcomes.{broken, bad_setting, sound, answer_is}
 use Rattle.table_set.proofs.Outcomes.{set_is}
 use Rattle.table_set.proofs.set_with.Goals as goal

@@ -1,6 +1,5 @@
 -- `others::look_at` meets its contract, by the laws of Looking.
 -- Assumes nothing.
-use lib.ListN.{length}
 use Rattle.table_preview.proofs.Looking.{Looked}
 use Rattle.table_preview.proofs.others.look_at.Given as goal
 
