@@ -4,6 +4,11 @@ use mathlib.Core.Path.{◌≡◌, refl, ap, ◌∙◌}
 use Prim.Native.Nat.{ℕ}
 use native.Mathlib.Omega.{arith}
 use mathlib.Core.Bool.{Bool, true, false, ◌&&◌}
+use Rattle.std.specs.Prelude.{Result, Ok}
+use Rattle.array.specs.declared.answer.Lengths.{Lengths}
+use Rattle.array.specs.declared.answer.RaggedLengths.{RaggedLengths}
+use Rattle.array.specs.declared.refusal.Refusal.{Refusal}
+use Rattle.array.specs.Meaning.{told}
 use Rattle.array.specs.Answer.{Answer, gives, refuses, and_then, unless}
 
 pub pass : {A : Type 0} {b : Bool} {a c : Answer A} (k : ℕ) → b ≡ true → a ≡ c → unless b k a ≡ c
@@ -37,3 +42,14 @@ both_tests false b k r = refl
 pub unless_same : {A : Type 0} (b : Bool) (k : ℕ) {a c : Answer A} → (b ≡ true → a ≡ c) → unless b k a ≡ unless b k c
 unless_same true k e = e refl
 unless_same false k e = refl
+
+-- what equal answers of the code say
+pub told_same : {A : Type 0} {r t : Result A Refusal} → r ≡ t → told r ≡ told t
+told_same e = ap told e
+
+-- success that names these lengths
+abbrev pub wrote : ℕ → ℕ → ℕ → Result Lengths Refusal
+wrote m v o = Ok (record { masks = m; values = v; offsets = o })
+
+abbrev pub wrote_ragged : ℕ → ℕ → Result RaggedLengths Refusal
+wrote_ragged v o = Ok (record { values = v; offsets = o })

@@ -8,7 +8,8 @@ use mathlib.Core.List.{List}
 use lib.ListN.{length}
 use Rattle.array.specs.Answer.{gives, refuses, unless, Outcome}
 use Rattle.array.specs.Content.{Content}
-use Rattle.array.specs.Buffers.{Lengths, lengths_of, Enough, enough_test, over, content_outcome, put_into}
+use Rattle.array.specs.declared.answer.Lengths.{Lengths}
+use Rattle.array.specs.Buffers.{lengths_of, Enough, enough_test, over, content_outcome, put_into}
 use Rattle.array.specs.Outcome.{content_array}
 use Rattle.array.proofs.Rules.{enough_test_lem, enough_ok}
 

@@ -18,7 +18,9 @@ use Rattle.array.specs.Subset.{Subset, lengths, subset_of, subsets_of, SubsetOk,
 use Rattle.array.specs.Offsets.{last, Rising, RisingFrom, rising_test, rising_from_test}
 use Rattle.array.specs.Cells.{Strict, strict_test}
 use Rattle.array.specs.Content.{Content, RaggedContent, ContentOk, content_test, MasksOk, masks_test, StrictBytes, strict_bytes_test, ArrayOk, array_test, unless_kept, ValuesOk, values_test, size_test}
-use Rattle.array.specs.Buffers.{Lengths, Enough, enough_test, RaggedLengths, RaggedEnough, ragged_enough_test}
+use Rattle.array.specs.declared.answer.Lengths.{Lengths}
+use Rattle.array.specs.declared.answer.RaggedLengths.{RaggedLengths}
+use Rattle.array.specs.Buffers.{Enough, enough_test, RaggedEnough, ragged_enough_test}
 use Rattle.array.proofs.Answers.{pass}
 
 -- ---- tests of several parts

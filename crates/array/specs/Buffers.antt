@@ -3,17 +3,10 @@
 use Rattle.std.specs.Prelude.{ℕ, ◌≤◌, Bool, ◌&&◌, List, ◌++◌, length, take, drop, leb}
 use Rattle.array.specs.Answer.{Answer, gives, refuses, and_then, unless, map_answer, Outcome}
 use Rattle.array.specs.Content.{Content, RaggedContent}
-
 -- ---- lengths: of what was written, or of the outputs lent for it
 
-pub record Lengths : Type 0 where
-  pub masks : ℕ
-  pub values : ℕ
-  pub offsets : ℕ
-
-pub record RaggedLengths : Type 0 where
-  pub values : ℕ
-  pub offsets : ℕ
+use Rattle.array.specs.declared.answer.Lengths.{Lengths}
+use Rattle.array.specs.declared.answer.RaggedLengths.{RaggedLengths}
 
 abbrev pub lengths_of : Content → Lengths
 lengths_of c = record { masks = length c.masks; values = length c.values; offsets = length c.offsets }

@@ -1,6 +1,6 @@
 -- docs/SPEC.md, S6.13: what the declared types of the code mean: the kind, the mark of a mask byte, and the answers, case by case.
 -- Assumes nothing.
-use Rattle.std.specs.Prelude.{ℕ}
+use Rattle.std.specs.Prelude.{ℕ, Result, Ok, Err}
 use Rattle.array.specs.declared.kind.ByteOrder.{ByteOrder}
 use Rattle.array.specs.declared.kind.ByteOrder.TheVariants.{Little, Big}
 use Rattle.array.specs.declared.kind.IndexWidth.{IndexWidth}
@@ -13,13 +13,10 @@ use Rattle.array.specs.declared.kind.Values.{Values}
 use Rattle.array.specs.declared.kind.Values.TheVariants.{Fixed, Ragged}
 use Rattle.array.specs.declared.kind.Kind as declared
 use Rattle.array.specs.declared.mark.Mark as marks
-use Rattle.array.specs.declared.answer.Written as one
-use Rattle.array.specs.declared.answer.WrittenRagged as two
-use Rattle.array.specs.declared.answer.WrittenArray as three
+use Rattle.array.specs.declared.refusal.Refusal.{Refusal}
 use Rattle.array.specs.Answer.{Answer, gives, refuses}
 use Rattle.array.specs.Kind.{Kind, Form, fixed, ragged, Order, little, big, Place, at_start, at_end, Masks, as_bytes, as_bits}
 use Rattle.array.specs.Cells.{Mark, is_null, is_set, is_other}
-use Rattle.array.specs.Buffers.{Lengths, RaggedLengths}
 
 abbrev pub order_of : ByteOrder → Order
 order_of Little = little
@@ -49,17 +46,28 @@ told_mark marks.Mark.Null = is_null
 told_mark marks.Mark.Set = is_set
 told_mark marks.Mark.Other = is_other
 
--- one length: encode, reverse_endianness, subset_cells
-abbrev pub told : one.Written → Answer ℕ
-told (one.Written.Length n) = gives n
-told (one.Written.Refused e) = refuses e
+-- the number of each refusal
+abbrev pub number_of : Refusal → ℕ
+number_of Refusal.Kind = 1
+number_of Refusal.Shape = 2
+number_of Refusal.Subset = 3
+number_of Refusal.Content = 4
+number_of Refusal.Size = 5
+number_of Refusal.Output = 6
+number_of Refusal.Short = 7
+number_of Refusal.Length = 8
+number_of Refusal.Count = 9
+number_of Refusal.Falling = 10
+number_of Refusal.PastEnd = 11
+number_of Refusal.Cover = 12
+number_of Refusal.UnusedBits = 13
+number_of Refusal.MaskByte = 14
+number_of Refusal.Cell = 15
+number_of Refusal.Full = 16
+number_of Refusal.NoMasks = 17
+number_of Refusal.Hidden = 18
 
--- two lengths: decode_interleaved, partial_decode
-abbrev pub told_ragged : two.WrittenRagged → Answer RaggedLengths
-told_ragged (two.WrittenRagged.Lengths v o) = gives (record { values = v; offsets = o })
-told_ragged (two.WrittenRagged.Refused e) = refuses e
-
--- three lengths: decode, extract, merge
-abbrev pub told_array : three.WrittenArray → Answer Lengths
-told_array (three.WrittenArray.Lengths m v o) = gives (record { masks = m; values = v; offsets = o })
-told_array (three.WrittenArray.Refused e) = refuses e
+-- what an answer of the code says: what is given, a length or the lengths, or the refusal by its number
+abbrev pub told : {A : Type 0} → Result A Refusal → Answer A
+told (Ok a) = gives a
+told (Err e) = refuses (number_of e)

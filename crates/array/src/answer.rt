@@ -1,19 +1,16 @@
-// What a call answers: the lengths that it wrote, masks before values before offsets, or the number of its refusal.
+// What success names: the lengths that a call wrote, masks before values before offsets. A call answers them, or its refusal.
 
-#[derive(Clone, Copy)]
-pub enum Written {
-    Length(usize),
-    Refused(u8),
+// Of an array.
+#[derive(Clone, Copy, Debug, PartialEq, Eq, Hash)]
+pub struct Lengths {
+    pub masks: usize,
+    pub values: usize,
+    pub offsets: usize,
 }
 
-#[derive(Clone, Copy)]
-pub enum WrittenRagged {
-    Lengths(usize, usize),
-    Refused(u8),
-}
-
-#[derive(Clone, Copy)]
-pub enum WrittenArray {
-    Lengths(usize, usize, usize),
-    Refused(u8),
+// Of ragged values.
+#[derive(Clone, Copy, Debug, PartialEq, Eq, Hash)]
+pub struct RaggedLengths {
+    pub values: usize,
+    pub offsets: usize,
 }

@@ -1,41 +1,85 @@
-// The numbers of the refusals, each named once, by who causes it.
+// The refusals, each named once, by who causes it, and their numbers.
+ghost use Rattle.std.specs.Prelude.{◌≡◌};
+ghost use Rattle.array.specs.Meaning.{number_of};
 
-// Whoever describes the table.
+#[derive(Clone, Copy, Debug, PartialEq, Eq, Hash)]
+pub enum Refusal {
+    // Whoever describes the table.
 
-// Depth, size, or another kind field outside its range.
-pub const KIND: u8 = 1;
-// Sides outside the rules, or over 65,536 cells.
-pub const SHAPE: u8 = 2;
-// A subset past its shape, or numbers that are not one start and one length a side; when merging, an empty subset too.
-pub const SUBSET: u8 = 3;
+    // Depth, size, or another kind field outside its range.
+    Kind,
+    // Sides outside the rules, or over 65,536 cells.
+    Shape,
+    // A subset past its shape, or numbers that are not one start and one length a side; when merging, an empty subset too.
+    Subset,
+    // A kind without masks: nothing could be hidden in it.
+    NoMasks,
 
-// Whoever hands over an array or a chunk list.
+    // Whoever hands over an array or a chunk list.
 
-// Mask, value, offset or chunk lengths disagree, offsets break their rule, or a mask byte is over 01.
-pub const CONTENT: u8 = 4;
-// Over 16,777,216 value bytes.
-pub const SIZE: u8 = 5;
-// The subsets miss a cell or hold one twice.
-pub const COVER: u8 = 12;
+    // Mask, value, offset or chunk lengths disagree, offsets break their rule, or a mask byte is over 01.
+    Content,
+    // Over 16,777,216 value bytes.
+    Size,
+    // The subsets miss a cell or hold one twice.
+    Cover,
 
-// Whoever lends the output.
+    // Whoever lends the output.
 
-// An output shorter than the result needs.
-pub const OUTPUT: u8 = 6;
+    // An output shorter than the result needs.
+    Output,
 
-// Whoever stored the bytes.
+    // Whoever stored the bytes.
 
-// Fewer bytes than the fields of a frame, of ragged values or of the older form take.
-pub const SHORT: u8 = 7;
-// A length that disagrees: frame total, mask, content where nothing is set, index or data.
-pub const LENGTH: u8 = 8;
-// The older form's count differs.
-pub const COUNT: u8 = 9;
-// Offsets fall, or the first is above 0.
-pub const FALLING: u8 = 10;
-// In the older form a length field or a cell runs past the end.
-pub const PAST_END: u8 = 11;
-// A packed mask with an unused bit that is not 0.
-pub const UNUSED_BITS: u8 = 13;
-// A stored mask byte over 01.
-pub const MASK_BYTE: u8 = 14;
+    // Fewer bytes than the fields of a frame, of ragged values or of the older form take.
+    Short,
+    // A length that disagrees: frame total, mask, content where nothing is set, index or data.
+    Length,
+    // The older form's count differs.
+    Count,
+    // Offsets fall, or the first is above 0.
+    Falling,
+    // In the older form a length field or a cell runs past the end.
+    PastEnd,
+    // A packed mask with an unused bit that is not 0.
+    UnusedBits,
+    // A stored mask byte over 01.
+    MaskByte,
+
+    // Whoever sets a cell.
+
+    // A cell number at or past the count.
+    Cell,
+    // Lengths that would sum to more than the store holds.
+    Full,
+    // A cell that a rights plane hides from the guest that sets it.
+    Hidden,
+}
+
+impl Refusal {
+    // The number that names it in C and in text.
+    pub fn number(self) -> u8
+        ensures { result ≡ number_of self }
+    {
+        match self {
+            Refusal::Kind => 1,
+            Refusal::Shape => 2,
+            Refusal::Subset => 3,
+            Refusal::Content => 4,
+            Refusal::Size => 5,
+            Refusal::Output => 6,
+            Refusal::Short => 7,
+            Refusal::Length => 8,
+            Refusal::Count => 9,
+            Refusal::Falling => 10,
+            Refusal::PastEnd => 11,
+            Refusal::Cover => 12,
+            Refusal::UnusedBits => 13,
+            Refusal::MaskByte => 14,
+            Refusal::Cell => 15,
+            Refusal::Full => 16,
+            Refusal::NoMasks => 17,
+            Refusal::Hidden => 18,
+        }
+    }
+}

@@ -2,43 +2,36 @@
 ghost use Rattle.std.specs.Prelude.{◌≡◌, ◌+◌, ◌≤◌, length, take, drop};
 ghost use Rattle.array.specs.Bytes.{le, unle};
 ghost use Rattle.array.specs.Buffers.{over_at};
-ghost use Rattle.buffer.specs.Field.{field_at, told_field};
-ghost use Rattle.array.specs.Meaning.{width_of};
+ghost use Rattle.buffer.specs.Field.{field_at};
+ghost use Rattle.array.specs.Meaning.{width_of, told};
 
 use array::kind::IndexWidth;
-use array::refusal;
-
-// A field that was read, or the number of the refusal.
-#[derive(Clone, Copy)]
-pub enum Field {
-    Value(u64),
-    Refused(u8),
-}
+use array::refusal::Refusal;
 
 // The 8-byte number at `at`, or refusal 7 where the bytes end before it does.
-pub fn read_u64(s: &[u8], at: usize) -> Field
-    ensures { told_field result ≡ field_at 8 7 s.now at }
+pub fn read_u64(s: &[u8], at: usize) -> Result<u64, Refusal>
+    ensures { told result ≡ field_at 8 7 s.now at }
 {
     if s.len() < at {
-        return Field::Refused(refusal::SHORT);
+        return Err(Refusal::Short);
     }
     if s.len() - at < 8 {
-        return Field::Refused(refusal::SHORT);
+        return Err(Refusal::Short);
     }
-    Field::Value(le8_at(s, at))
+    Ok(le8_at(s, at))
 }
 
 // The 4-byte number at `at`, a length in the older form, or refusal 11 where the bytes end before it does.
-pub fn read_u32(s: &[u8], at: usize) -> Field
-    ensures { told_field result ≡ field_at 4 11 s.now at }
+pub fn read_u32(s: &[u8], at: usize) -> Result<u64, Refusal>
+    ensures { told result ≡ field_at 4 11 s.now at }
 {
     if s.len() < at {
-        return Field::Refused(refusal::PAST_END);
+        return Err(Refusal::PastEnd);
     }
     if s.len() - at < 4 {
-        return Field::Refused(refusal::PAST_END);
+        return Err(Refusal::PastEnd);
     }
-    Field::Value(le4_at(s, at))
+    Ok(le4_at(s, at))
 }
 
 // A byte as a number.

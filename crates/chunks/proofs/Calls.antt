@@ -12,7 +12,8 @@ use Rattle.array.specs.Shape.{volume, ShapeOk}
 use Rattle.array.specs.Subset.{subset_of, NumbersOk}
 use Rattle.array.specs.Cells.{Cell, rest}
 use Rattle.array.specs.Content.{Content, Valid, layout}
-use Rattle.array.specs.Buffers.{Lengths, Enough, enough_test}
+use Rattle.array.specs.declared.answer.Lengths.{Lengths}
+use Rattle.array.specs.Buffers.{Enough, enough_test}
 use Rattle.array.proofs.Answers.{pass}
 use Rattle.array.proofs.Rules.{kind_test_lem, shape_test_lem, numbers_test_lem, rest_passes, enough_test_lem}
 use Rattle.array.proofs.LayoutLaws.{Good}

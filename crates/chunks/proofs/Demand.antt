@@ -13,7 +13,8 @@ use Rattle.array.specs.Shape.{volume, ShapeOk}
 use Rattle.array.specs.Subset.{Subset, lengths, subset_of, subsets_of, SubsetOk, FullOk, NumbersOk, ManyOk, cells_in, cells_of_all}
 use Rattle.array.specs.Cells.{Cell, leaf, rest}
 use Rattle.array.specs.Content.{Content, Valid, cells_of, array_test, size_test, leaves, layout, null_cell, rest_form}
-use Rattle.array.specs.Buffers.{Lengths, lengths_of, Enough, enough_test, Taken, taken, taken_bytes, whole}
+use Rattle.array.specs.declared.answer.Lengths.{Lengths}
+use Rattle.array.specs.Buffers.{lengths_of, Enough, enough_test, Taken, taken, taken_bytes, whole}
 use Rattle.array.proofs.Answers.{pass}
 use Rattle.array.proofs.Lists.{Sized, All-map, All-image, All-get_or, All-of, length-joined, map-append}
 use Rattle.array.proofs.Sums.{count-append}

@@ -14,7 +14,8 @@ use Rattle.array.specs.Limits.{most_bytes, most_cells}
 use Rattle.array.specs.Bytes.{le, unle}
 use Rattle.array.specs.Kind.{Kind, as_bytes, as_bits, ragged, at_start, at_end}
 use Rattle.array.specs.Content.{Content, Valid}
-use Rattle.array.specs.Buffers.{Lengths, lengths_of, Enough, taken, whole}
+use Rattle.array.specs.declared.answer.Lengths.{Lengths}
+use Rattle.array.specs.Buffers.{lengths_of, Enough, taken, whole}
 use Rattle.array.proofs.Rules.{all_every}
 use Rattle.codec.specs.Frame.{wrap, frame, read_frame}
 use Rattle.codec.specs.Ragged.{put_ragged, get_ragged}

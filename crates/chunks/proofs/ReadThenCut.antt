@@ -11,7 +11,8 @@ use Rattle.array.specs.Kind.{Kind, KindOk, Place, ragged, FormOk, as_bytes}
 use Rattle.array.specs.Shape.{volume, ShapeOk, shape_test}
 use Rattle.array.specs.Subset.{subset_of, NumbersOk, numbers_test}
 use Rattle.array.specs.Content.{Content, RaggedContent, unmasked}
-use Rattle.array.specs.Buffers.{Lengths, lengths_of, ragged_lengths_of, enough_test, ragged_enough_test, ragged_outcome, content_outcome, Taken, whole}
+use Rattle.array.specs.declared.answer.Lengths.{Lengths}
+use Rattle.array.specs.Buffers.{lengths_of, ragged_lengths_of, enough_test, ragged_enough_test, ragged_outcome, content_outcome, Taken, whole}
 use Rattle.array.proofs.Answers.{pass}
 use Rattle.array.proofs.Rules.{kind_test_lem, shape_test_lem, shape_ok, numbers_test_lem, numbers_ok, rest_passes}
 use Rattle.array.proofs.Taken.{taken_content}

@@ -13,7 +13,8 @@ use Rattle.array.specs.Kind.{Kind, Place}
 use Rattle.array.specs.Shape.{volume, shape_test}
 use Rattle.array.specs.Subset.{Subset, lengths, subsets_of, numbers_test, cells_of_all}
 use Rattle.array.specs.Content.{Content, RaggedContent, cells_of, leaves}
-use Rattle.array.specs.Buffers.{RaggedLengths, lengths_of, ragged_lengths_of, ragged_enough_test}
+use Rattle.array.specs.declared.answer.RaggedLengths.{RaggedLengths}
+use Rattle.array.specs.Buffers.{lengths_of, ragged_lengths_of, ragged_enough_test}
 use Rattle.array.specs.Refusals.{InOrder, success}
 use Rattle.array.proofs.Refusals.{stage, stage_given, stage_array, and_then_lem, named}
 use Rattle.array.proofs.Rules.{both, left_of_lem, right_of}

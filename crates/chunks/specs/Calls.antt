@@ -8,7 +8,9 @@ use Rattle.array.specs.Shape.{volume, shape_test}
 use Rattle.array.specs.Kind.{kind_test}
 use Rattle.array.specs.Subset.{subset_of, subsets_of, numbers_test, many_test, cells_of_all}
 use Rattle.array.specs.Content.{Content, RaggedContent, unmasked, leaves, size_test, unless_kept}
-use Rattle.array.specs.Buffers.{Lengths, RaggedLengths, lengths_of, ragged_lengths_of, enough_test, ragged_enough_test, ragged_outcome, content_outcome, if_room}
+use Rattle.array.specs.declared.answer.Lengths.{Lengths}
+use Rattle.array.specs.declared.answer.RaggedLengths.{RaggedLengths}
+use Rattle.array.specs.Buffers.{lengths_of, ragged_lengths_of, enough_test, ragged_enough_test, ragged_outcome, content_outcome, if_room}
 use Rattle.codec.specs.Ragged.{get_ragged}
 use Rattle.chunks.specs.Gather.{once_test}
 use Rattle.chunks.specs.Cut.{cut_of}

@@ -6,7 +6,8 @@ use Rattle.std.specs.Prelude.{ℕ, ◌≡◌, List, [], ◌∷◌, ◌++◌, rep
 use Rattle.array.specs.Answer.{gives, refuses, Outcome}
 use Rattle.array.specs.Kind.{Kind, byte_kind, as_bits, fixed, ragged, little, big, at_start, at_end}
 use Rattle.array.specs.Content.{Content, RaggedContent}
-use Rattle.array.specs.Buffers.{Lengths, RaggedLengths}
+use Rattle.array.specs.declared.answer.Lengths.{Lengths}
+use Rattle.array.specs.declared.answer.RaggedLengths.{RaggedLengths}
 use Rattle.array.specs.Calls.{endianness_reversed, subset_cells}
 use Rattle.codec.specs.Calls.{encoded, decoded, interleaved_decoded, interleaved_encoded}
 use Rattle.chunks.specs.Calls.{extracted, merged}

@@ -8,7 +8,9 @@ use Rattle.array.specs.Kind.{Kind, Place, ragged, byte_kind, FormOk}
 use Rattle.array.specs.Shape.{ShapeOk}
 use Rattle.array.specs.Subset.{NumbersOk}
 use Rattle.array.specs.Content.{Content, RaggedContent}
-use Rattle.array.specs.Buffers.{Lengths, RaggedLengths, Taken, taken}
+use Rattle.array.specs.declared.answer.Lengths.{Lengths}
+use Rattle.array.specs.declared.answer.RaggedLengths.{RaggedLengths}
+use Rattle.array.specs.Buffers.{Taken, taken}
 use Rattle.codec.specs.Calls.{decoded}
 use Rattle.chunks.specs.Calls.{extracted, partially_decoded}
 

@@ -16,7 +16,8 @@ use Rattle.array.specs.Kind.{Kind}
 use Rattle.array.specs.Shape.{volume}
 use Rattle.array.specs.Cells.{Value}
 use Rattle.array.specs.Content.{RaggedContent, end_to_end, values_in, size_test}
-use Rattle.array.specs.Buffers.{RaggedLengths, ragged_lengths_of, RaggedEnough, ragged_enough_test, list_outcome, ragged_outcome}
+use Rattle.array.specs.declared.answer.RaggedLengths.{RaggedLengths}
+use Rattle.array.specs.Buffers.{ragged_lengths_of, RaggedEnough, ragged_enough_test, list_outcome, ragged_outcome}
 use Rattle.array.proofs.Answers.{pass}
 use Rattle.array.proofs.Bytes.{length-le, unle-le}
 use Rattle.array.proofs.Lists.{map_id}

@@ -15,7 +15,8 @@ use Rattle.array.specs.Kind.{Kind, KindOk, Form, fixed, ragged, FormOk, null_of,
 use Rattle.array.specs.Shape.{volume, ShapeOk, shape_test}
 use Rattle.array.specs.Cells.{Value, Cell, leaf}
 use Rattle.array.specs.Content.{Content, leaves, layout}
-use Rattle.array.specs.Buffers.{Lengths, lengths_of, enough_test, list_outcome, Taken, taken_bytes, whole}
+use Rattle.array.specs.declared.answer.Lengths.{Lengths}
+use Rattle.array.specs.Buffers.{lengths_of, enough_test, list_outcome, Taken, taken_bytes, whole}
 use Rattle.array.proofs.Answers.{pass, passed, went_on, same_given}
 use Rattle.array.proofs.Lists.{length-joined}
 use Rattle.array.proofs.Rules.{kind_ok, shape_ok}

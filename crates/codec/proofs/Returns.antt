@@ -11,7 +11,8 @@ use Rattle.array.specs.Kind.{Kind}
 use Rattle.array.specs.Shape.{volume}
 use Rattle.array.specs.Cells.{Cell}
 use Rattle.array.specs.Content.{Content, Valid, cells_of, rest_form}
-use Rattle.array.specs.Buffers.{Lengths, Enough, enough_test}
+use Rattle.array.specs.declared.answer.Lengths.{Lengths}
+use Rattle.array.specs.Buffers.{Enough, enough_test}
 use Rattle.array.proofs.Answers.{pass}
 use Rattle.array.proofs.Rules.{kind_test_lem, shape_test_lem, rest_passes, enough_test_lem}
 use Rattle.array.proofs.LayoutLaws.{Good, good_cells}

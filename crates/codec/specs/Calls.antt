@@ -8,7 +8,9 @@ use Rattle.array.specs.Bytes.{unle}
 use Rattle.array.specs.Kind.{Kind, Form, null_of, kind_test}
 use Rattle.array.specs.Shape.{volume, shape_test}
 use Rattle.array.specs.Content.{Content, RaggedContent, end_to_end, layout, cells_of, values_in, size_test, unless_kept}
-use Rattle.array.specs.Buffers.{Lengths, RaggedLengths, lengths_of, ragged_lengths_of, enough_test, ragged_enough_test, list_outcome, ragged_outcome, content_outcome, if_room}
+use Rattle.array.specs.declared.answer.Lengths.{Lengths}
+use Rattle.array.specs.declared.answer.RaggedLengths.{RaggedLengths}
+use Rattle.array.specs.Buffers.{lengths_of, ragged_lengths_of, enough_test, ragged_enough_test, list_outcome, ragged_outcome, content_outcome, if_room}
 use Rattle.codec.specs.Mask.{MaskForm, mask_form}
 use Rattle.codec.specs.Frame.{frame, read_frame}
 use Rattle.codec.specs.Values.{put_values, get_values}

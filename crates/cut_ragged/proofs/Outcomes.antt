@@ -12,7 +12,8 @@ use Rattle.array.specs.Shape.{volume}
 use Rattle.array.specs.Subset.{pairs, cells_in}
 use Rattle.array.specs.Offsets.{offsets_of}
 use Rattle.array.specs.Content.{RaggedContent}
-use Rattle.array.specs.Buffers.{RaggedLengths, ragged_lengths_of, RaggedEnough, ragged_enough_test, over, ragged_outcome}
+use Rattle.array.specs.declared.answer.RaggedLengths.{RaggedLengths}
+use Rattle.array.specs.Buffers.{ragged_lengths_of, RaggedEnough, ragged_enough_test, over, ragged_outcome}
 use Rattle.array.specs.Outcome.{content_ragged}
 use Rattle.array.specs.Places.{value_at, bytes_at}
 use Rattle.array.proofs.Offsets.{length-ends}

@@ -9,7 +9,8 @@ use Rattle.array.specs.Bytes.{unle}
 use Rattle.array.specs.Shape.{volume, ShapeOk}
 use Rattle.array.specs.Subset.{NumbersOk}
 use Rattle.array.specs.Content.{RaggedContent}
-use Rattle.array.specs.Buffers.{RaggedLengths, ragged_lengths_of, ragged_enough_test, if_room, ragged_outcome}
+use Rattle.array.specs.declared.answer.RaggedLengths.{RaggedLengths}
+use Rattle.array.specs.Buffers.{ragged_lengths_of, ragged_enough_test, if_room, ragged_outcome}
 use Rattle.array.specs.Places.{offset_at, Rises, values_at}
 use Rattle.cut_ragged.specs.declared.Source.{Source}
 use Rattle.cut_ragged.specs.declared.Source.TheVariants.{Numbers, Four, Eight}

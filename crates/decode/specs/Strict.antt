@@ -5,7 +5,7 @@ use Rattle.std.specs.Prelude.{◌≡◌, List, ℕ}
 use Rattle.array.specs.Answer.{gives}
 use Rattle.array.specs.Kind.{Kind}
 use Rattle.array.specs.Content.{Content, MasksOk}
-use Rattle.array.specs.Buffers.{Lengths}
+use Rattle.array.specs.declared.answer.Lengths.{Lengths}
 use Rattle.codec.specs.Calls.{decode_answer}
 
 abbrev pub ReadStrict : Type 0

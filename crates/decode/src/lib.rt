@@ -6,11 +6,11 @@ ghost use Rattle.array.specs.Meaning.{kind_of};
 ghost use Rattle.codec.specs.Calls.{decoded};
 ghost use Rattle.array.specs.Outcome.{content_array, outcome_array};
 
-use array::answer::WrittenArray;
+use array::answer::Lengths;
 use array::kind::{Kind, Values};
-use array::refusal;
+use array::refusal::Refusal;
 use valid::kind::check_kind;
-use valid::shape::{Cells, shape_cells};
+use valid::shape::shape_cells;
 
 // Reads the stored array of a kind and shape. Nothing is stored before the last check; success names the three lengths.
 pub fn decode(
@@ -20,18 +20,15 @@ pub fn decode(
     masks: &mut [u8],
     values: &mut [u8],
     offsets: &mut [u64],
-) -> WrittenArray
+) -> Result<Lengths, Refusal>
     ensures { outcome_array result masks.new values.new offsets.new
         ≡ decoded (kind_of kind) shape.now bytes.now (content_array masks.old values.old offsets.old) }
 {
     if !check_kind(kind) {
-        return WrittenArray::Refused(refusal::KIND);
+        return Err(Refusal::Kind);
     }
-    let Cells::Count(n) = shape_cells(shape) else {
-        return WrittenArray::Refused(refusal::SHAPE);
-    };
-    let form = kind.values;
-    match form {
+    let n = shape_cells(shape)?;
+    match kind.values {
         Values::Fixed(size, order) => {
             decode_fixed::decode_fixed(kind, size as usize, order, n, bytes, masks, values)
         }

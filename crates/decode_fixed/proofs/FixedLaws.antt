@@ -10,6 +10,7 @@ use native.Mathlib.Nat.{zero-mul, sub-zero, le_trans}
 use lib.Dec.{eqb}
 use lib.ListN.{length, take, drop, replicate, length-drop}
 use borrow.Author.Tests.{eq-eqb, ne_eqb}
+use Rattle.array.proofs.Answers.{wrote}
 use Rattle.array.specs.Answer.{Answer, gives, refuses, and_then, unless}
 use Rattle.array.specs.Limits.{most_size}
 use Rattle.array.specs.Lists.{joined, pieces}
@@ -18,7 +19,8 @@ use Rattle.array.specs.Cells.{Value, Cell}
 use Rattle.array.specs.Content.{Content, layout}
 use Rattle.array.specs.Buffers.{over, read_outcome}
 use Rattle.array.specs.Outcome.{content_array, outcome_array}
-use Rattle.array.specs.declared.answer.WrittenArray.TheVariants.{Refused, Lengths}
+use Rattle.std.specs.Prelude.{Err}
+use Rattle.array.specs.declared.refusal.Refusal.{Refusal}
 use Rattle.codec.specs.Mask.{MaskForm, mask_form}
 use Rattle.codec.specs.Frame.{count_set}
 use Rattle.codec.specs.Spread.{spread}
@@ -108,15 +110,15 @@ module _ (o : Order) {x : Masks} {size d : ℕ} {s : List ℕ} {n : ℕ} {f : Fo
 -- ---- what is left behind: m and v are the outputs, and the offsets stay
 
 module _ (o : Order) {x : Masks} {size d : ℕ} {s : List ℕ} {n : ℕ} {f : Found} (r : FixedWithin x size d s n f) (m v : List ℕ) where
-  pub fixed_short_masks : length m < d * n → (off : List ℕ) → outcome_array (Refused 6) m v off ≡ read_outcome (content_array m v off) (gives (content o r))
+  pub fixed_short_masks : length m < d * n → (off : List ℕ) → outcome_array (Err Refusal.Output) m v off ≡ read_outcome (content_array m v off) (gives (content o r))
   fixed_short_masks h off = short_masks (content o r) m v off (omega (arith, masks_long o r))
 
-  pub fixed_short_values : length v < n * size → (off : List ℕ) → outcome_array (Refused 6) m v off ≡ read_outcome (content_array m v off) (gives (content o r))
+  pub fixed_short_values : length v < n * size → (off : List ℕ) → outcome_array (Err Refusal.Output) m v off ≡ read_outcome (content_array m v off) (gives (content o r))
   fixed_short_values h off = short_values (content o r) m v off (omega (arith, values_long o r))
 
   module _ (h : d * n ≤ length m) (i : n * size ≤ length v) where
     written : {m' v' : List ℕ} → m' ≡ over (content o r).masks m → v' ≡ over (content o r).values v → (off : List ℕ)
-        → outcome_array (Lengths (d * n) (n * size) 0) m' v' off ≡ read_outcome (content_array m v off) (gives (content o r))
+        → outcome_array (wrote (d * n) (n * size) 0) m' v' off ≡ read_outcome (content_array m v off) (gives (content o r))
     written {m'} {v'} em ev off =
         let lm : length (content o r).masks ≡ d * n = masks_long o r in
         let lv : length (content o r).values ≡ n * size = values_long o r in
@@ -125,7 +127,7 @@ module _ (o : Order) {x : Masks} {size d : ℕ} {s : List ℕ} {n : ℕ} {f : Fo
         (ap (λ (p : List ℕ). over p off) (sym (no_offsets o r)))
 
     flat_written : d ≡ 0 → {v' : List ℕ} → v' ≡ over (cells_left size o s f.cells f.at) v → (off : List ℕ)
-        → outcome_array (Lengths (d * n) (n * size) 0) m v' off ≡ read_outcome (content_array m v off) (gives (content o r))
+        → outcome_array (wrote (d * n) (n * size) 0) m v' off ≡ read_outcome (content_array m v off) (gives (content o r))
     flat_written e {v'} ev = written (ap (λ (p : List ℕ). over p m) (sym (flat_masks o r e))) (ev ∙ ap (λ (p : List ℕ). over p v) (sym (flat_values o r e)))
 
     -- m' has the planes, and from the innermost of them the values are spread
@@ -142,7 +144,7 @@ module _ (o : Order) {x : Masks} {size d : ℕ} {s : List ℕ} {n : ℕ} {f : Fo
       }
 
       pub deep_written : {v' : List ℕ} → v' ≡ over (values_over size o (take n (drop (d * n - n) m')) (drop f.at s)) v → (off : List ℕ)
-          → outcome_array (Lengths (d * n) (n * size) 0) m' v' off ≡ read_outcome (content_array m v off) (gives (content o r))
+          → outcome_array (wrote (d * n) (n * size) 0) m' v' off ≡ read_outcome (content_array m v off) (gives (content o r))
       deep_written {v'} ev =
           written (em ∙ ap (λ (p : List ℕ). over p m) (sym (fixed_masks o r g)))
           (ev ∙ ap (λ (p : List ℕ). over (values_over size o p (drop f.at s)) v) innermost ∙ ap (λ (p : List ℕ). over p v) (sym (fixed_values o r g)))
@@ -242,11 +244,11 @@ module _ (o : Order) (x : Masks) {size : ℕ} (s : List ℕ) {n : ℕ} (l : Limi
     all : length s - 0 ≡ n * size
     all = sub-zero (length s) ∙ e
 
-    pub plain_short : length v < n * size → outcome_array (Refused 6) m v off ≡ read_outcome (content_array m v off) (read_in (mask_form x) (fixed size o) 0 n s)
+    pub plain_short : length v < n * size → outcome_array (Err Refusal.Output) m v off ≡ read_outcome (content_array m v off) (read_in (mask_form x) (fixed size o) 0 n s)
     plain_short k = rw (fixed_given o plain all) (fixed_short_values o (some_within plain all) m v k off)
 
     pub plain_written : n * size ≤ length v → {v' : List ℕ} → v' ≡ over (cells_left size o s n 0) v
-        → outcome_array (Lengths 0 (n * size) 0) m v' off ≡ read_outcome (content_array m v off) (read_in (mask_form x) (fixed size o) 0 n s)
+        → outcome_array (wrote 0 (n * size) 0) m v' off ≡ read_outcome (content_array m v off) (read_in (mask_form x) (fixed size o) 0 n s)
     plain_written k {v'} ev =
         rw (fixed_given o plain all)
-        (ap (λ (j : ℕ). outcome_array (Lengths j (n * size) 0) m v' off) (sym (zero-mul n)) ∙ flat_written o (some_within plain all) m v (omega (arith, zero-mul n)) k refl ev off)
+        (ap (λ (j : ℕ). outcome_array (wrote j (n * size) 0) m v' off) (sym (zero-mul n)) ∙ flat_written o (some_within plain all) m v (omega (arith, zero-mul n)) k refl ev off)

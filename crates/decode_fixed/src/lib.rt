@@ -16,12 +16,12 @@ ghost use Rattle.decode_fixed.specs.Reads.{fixed_from, FixedFound, FixedWithin};
 ghost use Rattle.array.specs.Buffers.{read_outcome};
 
 use crate::plain::read_plain;
-use array::answer::WrittenArray;
+use array::answer::Lengths;
 use array::kind::{ByteOrder, Kind};
-use array::refusal;
+use array::refusal::Refusal;
 use decode_cells::values::spread_values;
 use decode_planes::place_planes;
-use stored_frames::{Walked, walk_content};
+use stored_frames::walk_content;
 
 // Values that the walk found: where they begin, and of how many cells.
 #[derive(Clone, Copy)]
@@ -40,7 +40,7 @@ fn write_fixed(
     found: Found,
     masks: &mut [u8],
     values: &mut [u8],
-) -> WrittenArray
+) -> Result<Lengths, Refusal>
     requires within { FixedWithin (masks_of kind.masks) size kind.depth s.now n found }
     requires deep { 1 ≤ kind.depth }
     ensures { (offsets : List ℕ) → outcome_array result masks.new values.new offsets
@@ -54,14 +54,18 @@ fn write_fixed(
     let planes = depth * n;
     let bytes = n * size;
     if masks.len() < planes {
-        return WrittenArray::Refused(refusal::OUTPUT);
+        return Err(Refusal::Output);
     }
     if values.len() < bytes {
-        return WrittenArray::Refused(refusal::OUTPUT);
+        return Err(Refusal::Output);
     }
     place_planes(form, masks, n, depth, s);
     spread_values(values, masks, planes - n, n, s, at, size, order, cells);
-    WrittenArray::Lengths(planes, bytes, 0)
+    Ok(Lengths {
+        masks: planes,
+        values: bytes,
+        offsets: 0,
+    })
 }
 
 // Writes the values that the walk found, if the stored bytes end with them.
@@ -74,7 +78,7 @@ fn write_found(
     found: Found,
     masks: &mut [u8],
     values: &mut [u8],
-) -> WrittenArray
+) -> Result<Lengths, Refusal>
     requires found { FixedFound (masks_of kind.masks) size kind.depth s.now n found }
     requires deep { 1 ≤ kind.depth }
     ensures { (offsets : List ℕ) → outcome_array result masks.new values.new offsets
@@ -82,7 +86,7 @@ fn write_found(
         (read_in (mask_form (masks_of kind.masks)) (fixed size (order_of order)) kind.depth n s.now) }
 {
     if s.len() - found.at != found.cells * size {
-        WrittenArray::Refused(refusal::LENGTH)
+        Err(Refusal::Length)
     } else {
         write_fixed(kind, size, order, n, s, found, masks, values)
     }
@@ -97,7 +101,7 @@ pub fn decode_fixed(
     s: &[u8],
     masks: &mut [u8],
     values: &mut [u8],
-) -> WrittenArray
+) -> Result<Lengths, Refusal>
     requires { Limited kind.depth n × (size ≤ most_size) }
     ensures { (offsets : List ℕ) → outcome_array result masks.new values.new offsets
         ≡ read_outcome (content_array masks.old values.old offsets)
@@ -108,18 +112,13 @@ pub fn decode_fixed(
     if depth == 0 {
         return read_plain(size, order, n, s, values);
     }
-    let walk = walk_content(form, s, 0, n, depth);
-    match walk {
-        Walked::Refused(e) => WrittenArray::Refused(e),
-        Walked::Values(at, cells) => {
-            // no cell is set, and no value stored
-            if cells == 0 {
-                let none = Found { at: 0, cells: 0 };
-                write_fixed(kind, size, order, n, s, none, masks, values)
-            } else {
-                let found = Found { at, cells };
-                write_found(kind, size, order, n, s, found, masks, values)
-            }
-        }
+    let (at, cells) = walk_content(form, s, 0, n, depth)?;
+    // no cell is set, and no value stored
+    if cells == 0 {
+        let none = Found { at: 0, cells: 0 };
+        write_fixed(kind, size, order, n, s, none, masks, values)
+    } else {
+        let found = Found { at, cells };
+        write_found(kind, size, order, n, s, found, masks, values)
     }
 }

@@ -16,7 +16,8 @@ use Rattle.array.specs.Bytes.{unle}
 use Rattle.array.specs.Offsets.{ends, offsets_of}
 use Rattle.array.specs.Cells.{Value}
 use Rattle.array.specs.Content.{RaggedContent}
-use Rattle.array.specs.Buffers.{RaggedLengths, ragged_lengths_of, over, ragged_outcome}
+use Rattle.array.specs.declared.answer.RaggedLengths.{RaggedLengths}
+use Rattle.array.specs.Buffers.{ragged_lengths_of, over, ragged_outcome}
 use Rattle.array.specs.Outcome.{content_ragged}
 use Rattle.array.proofs.Offsets.{length-ends}
 use Rattle.codec.specs.Calls.{interleaved_answer, interleaved_decoded}

@@ -7,9 +7,9 @@ use Rattle.array.specs.Limits.{most_cells}
 use Rattle.array.specs.Lists.{joined}
 use Rattle.array.specs.Cells.{Value}
 use Rattle.array.specs.Content.{RaggedContent, end_to_end, size_test}
-use Rattle.array.specs.Buffers.{RaggedLengths, ragged_enough_test, if_room}
+use Rattle.array.specs.declared.answer.RaggedLengths.{RaggedLengths}
+use Rattle.array.specs.Buffers.{ragged_enough_test, if_room}
 use Rattle.codec.specs.Interleaved.{interleaved_cells}
-use Rattle.decode_interleaved.specs.declared.vlen_v2.Walk.{Walk}
 
 -- the cells behind the count field
 abbrev pub stored_cells : ℕ → List ℕ → Answer (List Value)
@@ -22,10 +22,6 @@ total_of vs = length (joined vs)
 -- the walk tells so much of them, or the refusal
 abbrev pub walk_answer : ℕ → List ℕ → Answer ℕ
 walk_answer n s = map_answer total_of (stored_cells n s)
-
-abbrev pub told_sum : Walk → Answer ℕ
-told_sum (Walk.Sum n) = gives n
-told_sum (Walk.Refused e) = refuses e
 
 -- the cells, where the walk refused nothing
 abbrev pub given : Answer (List Value) → List Value

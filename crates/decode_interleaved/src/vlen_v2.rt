@@ -6,33 +6,26 @@ ghost use Rattle.array.specs.Offsets.{offsets_of};
 ghost use Rattle.array.specs.Buffers.{over, ragged_outcome, ragged_lengths_of};
 ghost use Rattle.array.specs.Outcome.{content_ragged, outcome_ragged};
 ghost use Rattle.codec.specs.Calls.{interleaved_decoded};
-ghost use Rattle.decode_interleaved.specs.Walk.{told_sum, walk_answer, total_of, found, Found, Walked, found_answer};
+ghost use Rattle.decode_interleaved.specs.Walk.{walk_answer, total_of, found, Found, Walked, found_answer};
+ghost use Rattle.array.specs.Meaning.{told};
 
-use array::answer::WrittenRagged;
-use array::refusal;
-use buffer::field::Field;
+use array::answer::RaggedLengths;
+use array::refusal::Refusal;
 use buffer::{copy, field};
 use valid::{array_bytes, shape};
 
-// What the checking walk over the stored cells finds: how many value bytes they have, or the refusal.
-#[derive(Clone, Copy)]
-pub enum Walk {
-    Sum(usize),
-    Refused(u8),
-}
-
 // Each length is held against what is left, so that no position wraps; the sum stays below the position.
 // An empty cell, and one as long as the one before, has a branch of its own: there the next place does not wait for the length.
-fn walk_cells(bytes: &[u8], cells: usize) -> Walk
-    ensures { told_sum result ≡ walk_answer cells bytes.now }
+fn walk_cells(bytes: &[u8], cells: usize) -> Result<usize, Refusal>
+    ensures { told result ≡ walk_answer cells bytes.now }
 {
     let mut left = cells;
     let mut at: usize = 4;
     let mut sum: usize = 0;
     let mut last: usize = 0;
     while 0 < left {
-        let Field::Value(field) = field::read_u32(bytes, at) else {
-            return Walk::Refused(refusal::PAST_END);
+        let Ok(field) = field::read_u32(bytes, at) else {
+            return Err(Refusal::PastEnd);
         };
         let length = field as usize;
         at += 4;
@@ -40,13 +33,13 @@ fn walk_cells(bytes: &[u8], cells: usize) -> Walk
         if 0 < length {
             if length == last {
                 if bytes.len() - at < last {
-                    return Walk::Refused(refusal::PAST_END);
+                    return Err(Refusal::PastEnd);
                 }
                 at += last;
                 sum += last;
             } else {
                 if bytes.len() - at < length {
-                    return Walk::Refused(refusal::PAST_END);
+                    return Err(Refusal::PastEnd);
                 }
                 at += length;
                 sum += length;
@@ -54,7 +47,7 @@ fn walk_cells(bytes: &[u8], cells: usize) -> Walk
             }
         }
     }
-    Walk::Sum(sum)
+    Ok(sum)
 }
 
 // The bytes of all cells, `sum` of them, end to end; where each cell begins, and where the last one ends.
@@ -88,29 +81,35 @@ fn write_cells(
     sum: usize,
     values: &mut [u8],
     offsets: &mut [u64],
-) -> WrittenRagged
+) -> Result<RaggedLengths, Refusal>
     requires { Walked cells bytes.now sum }
     ensures { outcome_ragged result values.new offsets.new
         ≡ ragged_outcome (found_answer (found cells bytes.now) (ragged_lengths_of (content_ragged values.old offsets.old)))
         (content_ragged values.old offsets.old) }
 {
     if sum > array_bytes::MOST_BYTES {
-        return WrittenRagged::Refused(refusal::SIZE);
+        return Err(Refusal::Size);
     }
     if values.len() < sum {
-        return WrittenRagged::Refused(refusal::OUTPUT);
+        return Err(Refusal::Output);
     }
     let count = cells + 1;
     if offsets.len() < count {
-        return WrittenRagged::Refused(refusal::OUTPUT);
+        return Err(Refusal::Output);
     }
     if sum == 0 {
         // no cell has a byte: each begins and ends at 0
         copy::fill_numbers(offsets, 0, count, 0);
-        return WrittenRagged::Lengths(sum, count);
+        return Ok(RaggedLengths {
+            values: sum,
+            offsets: count,
+        });
     }
     copy_cells(values, offsets, bytes, cells, sum);
-    WrittenRagged::Lengths(sum, count)
+    Ok(RaggedLengths {
+        values: sum,
+        offsets: count,
+    })
 }
 
 // Reads `cells` cells of the older form: their bytes end to end, and their offsets from 0. Bytes after the last cell are ignored.
@@ -120,23 +119,20 @@ pub fn decode_interleaved(
     bytes: &[u8],
     values: &mut [u8],
     offsets: &mut [u64],
-) -> WrittenRagged
+) -> Result<RaggedLengths, Refusal>
     ensures { outcome_ragged result values.new offsets.new
         ≡ interleaved_decoded cells bytes.now (content_ragged values.old offsets.old) }
 {
     if cells > shape::MOST_CELLS {
-        return WrittenRagged::Refused(refusal::SHAPE);
+        return Err(Refusal::Shape);
     }
     let n = cells as usize;
     if bytes.len() < 4 * (1 + n) {
-        return WrittenRagged::Refused(refusal::SHORT);
+        return Err(Refusal::Short);
     }
     if field::le4_at(bytes, 0) != cells {
-        return WrittenRagged::Refused(refusal::COUNT);
+        return Err(Refusal::Count);
     }
-    let walk = walk_cells(bytes, n);
-    match walk {
-        Walk::Refused(e) => WrittenRagged::Refused(e),
-        Walk::Sum(sum) => write_cells(n, bytes, sum, values, offsets),
-    }
+    let sum = walk_cells(bytes, n)?;
+    write_cells(n, bytes, sum, values, offsets)
 }

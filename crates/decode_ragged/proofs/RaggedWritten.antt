@@ -7,7 +7,9 @@ use Prim.Native.Nat.{ℕ, suc, ◌+◌, ◌-◌, ◌*◌, ◌≤◌, ◌<◌}
 use native.Mathlib.Omega.{arith}
 use lib.ListN.{length, take, drop, length-drop}
 use lib.Seq.{length-take-le}
-use Rattle.array.specs.declared.answer.WrittenArray.TheVariants.{Lengths, Refused}
+use Rattle.std.specs.Prelude.{Err}
+use Rattle.array.specs.declared.refusal.Refusal.{Refusal}
+use Rattle.array.proofs.Answers.{wrote}
 use Rattle.array.specs.Answer.{gives}
 use Rattle.array.specs.Kind.{Masks}
 use Rattle.array.specs.Content.{Content, unmasked}
@@ -37,14 +39,14 @@ module _ {w : ℕ} {s : List ℕ} {i : Index} (r : IndexWithin w s i) (v off : L
   flat_offsets : length flat.offsets ≡ i.cells + 1
   flat_offsets = omega (arith, length_offsets w (suc i.cells) (drop i.index s))
 
-  pub flat_short_values : length v < i.last → (m : List ℕ) → outcome_array (Refused 6) m v off ≡ read_outcome (content_array m v off) (gives flat)
+  pub flat_short_values : length v < i.last → (m : List ℕ) → outcome_array (Err Refusal.Output) m v off ≡ read_outcome (content_array m v off) (gives flat)
   flat_short_values h m = short_values flat m v off (omega (arith, flat_values))
 
-  pub flat_short_offsets : length off < i.cells + 1 → (m : List ℕ) → outcome_array (Refused 6) m v off ≡ read_outcome (content_array m v off) (gives flat)
+  pub flat_short_offsets : length off < i.cells + 1 → (m : List ℕ) → outcome_array (Err Refusal.Output) m v off ≡ read_outcome (content_array m v off) (gives flat)
   flat_short_offsets h m = short_offsets flat m v off (omega (arith, flat_offsets))
 
   pub flat_written : i.last ≤ length v → i.cells + 1 ≤ length off → {v' o' : List ℕ} → v' ≡ over flat.values v → o' ≡ over flat.offsets off → (m : List ℕ)
-      → outcome_array (Lengths 0 i.last (i.cells + 1)) m v' o' ≡ read_outcome (content_array m v off) (gives flat)
+      → outcome_array (wrote 0 i.last (i.cells + 1)) m v' o' ≡ read_outcome (content_array m v off) (gives flat)
   flat_written h j {v'} {o'} ev eo m =
       all_written flat m v off (omega arith) (omega (arith, flat_values)) (omega (arith, flat_offsets)) {a = 0} {m' = m} refl (sym flat_values) (sym flat_offsets) refl ev eo
 
@@ -54,13 +56,13 @@ pub nested_ends : {x : Masks} {w d : ℕ} {s : List ℕ} {n : ℕ} {i : Index} �
 nested_ends r = record { room = omega (arith, r.index.index_room); first_is = r.index.first_is; last_is = r.index.last_is }
 
 module _ {x : Masks} {w d : ℕ} {s : List ℕ} {n : ℕ} {i : Index} (r : RaggedWithin x w d s n i) (g : d ≢ 0) (m v off : List ℕ) where
-  pub nested_short_masks : length m < d * n → outcome_array (Refused 6) m v off ≡ read_outcome (content_array m v off) (gives (content r g))
+  pub nested_short_masks : length m < d * n → outcome_array (Err Refusal.Output) m v off ≡ read_outcome (content_array m v off) (gives (content r g))
   nested_short_masks h = short_masks (content r g) m v off (omega (arith, nested_masks_long r g))
 
-  pub nested_short_values : length v < i.last → outcome_array (Refused 6) m v off ≡ read_outcome (content_array m v off) (gives (content r g))
+  pub nested_short_values : length v < i.last → outcome_array (Err Refusal.Output) m v off ≡ read_outcome (content_array m v off) (gives (content r g))
   nested_short_values h = short_values (content r g) m v off (omega (arith, nested_values_long r g))
 
-  pub nested_short_offsets : length off < n + 1 → outcome_array (Refused 6) m v off ≡ read_outcome (content_array m v off) (gives (content r g))
+  pub nested_short_offsets : length off < n + 1 → outcome_array (Err Refusal.Output) m v off ≡ read_outcome (content_array m v off) (gives (content r g))
   nested_short_offsets h = short_offsets (content r g) m v off (omega (arith, nested_offsets_long r g))
 
   -- m' has the planes
@@ -74,7 +76,7 @@ module _ {x : Masks} {w d : ℕ} {s : List ℕ} {n : ℕ} {i : Index} (r : Ragge
     pub nested_written : d * n ≤ length m → i.last ≤ length v → n + 1 ≤ length off → {v' o' : List ℕ}
         → v' ≡ over (take i.last (drop i.from s)) v
         → o' ≡ over (0 ∷ ends_by 0 (take n (drop (d * n - n) m')) (offsets_in w (count_set (take n (drop (d * n - n) m'))) (drop (i.index + w) s))) off
-        → outcome_array (Lengths (d * n) i.last (n + 1)) m' v' o' ≡ read_outcome (content_array m v off) (gives (content r g))
+        → outcome_array (wrote (d * n) i.last (n + 1)) m' v' o' ≡ read_outcome (content_array m v off) (gives (content r g))
     nested_written h j k {v'} {o'} ev eo =
         let lm : length (content r g).masks ≡ d * n = nested_masks_long r g in
         let lv : length (content r g).values ≡ i.last = nested_values_long r g in

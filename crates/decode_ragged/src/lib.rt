@@ -15,14 +15,14 @@ ghost use Rattle.decode_planes.specs.Limited.{Limited};
 ghost use Rattle.decode_ragged.specs.Nested.{nested_from, RaggedWithin};
 ghost use Rattle.array.specs.Buffers.{read_outcome};
 
-use array::answer::WrittenArray;
+use array::answer::Lengths;
 use array::kind::{IndexPlace, IndexWidth, Kind};
-use array::refusal;
+use array::refusal::Refusal;
 use buffer::copy::copy_many;
 use decode_offsets::{copy_offsets, spread_offsets};
 use decode_planes::place_planes;
-use stored_frames::{Walked, walk_content};
-use stored_index::{Index, Indexed, check_ragged};
+use stored_frames::walk_content;
+use stored_index::{Index, check_ragged};
 
 // Values with no mask: the stored offsets and bytes. What is lent for masks stays.
 fn write_flat(
@@ -31,7 +31,7 @@ fn write_flat(
     found: Index,
     values: &mut [u8],
     offsets: &mut [u64],
-) -> WrittenArray
+) -> Result<Lengths, Refusal>
     requires { (found.cells ≤ most_cells) × IndexWithin (width_of width) s.now found }
     ensures { (masks : List ℕ) → outcome_array result masks values.new offsets.new
         ≡ read_outcome (content_array masks values.old offsets.old) (gives (unmasked (ragged_at (width_of width) s.now found))) }
@@ -42,14 +42,18 @@ fn write_flat(
     let bytes = found.last as usize;
     let count = n + 1;
     if values.len() < bytes {
-        return WrittenArray::Refused(refusal::OUTPUT);
+        return Err(Refusal::Output);
     }
     if offsets.len() < count {
-        return WrittenArray::Refused(refusal::OUTPUT);
+        return Err(Refusal::Output);
     }
     copy_many(values, 0, s, from, bytes);
     copy_offsets(offsets, s, index, n, width);
-    WrittenArray::Lengths(0, bytes, count)
+    Ok(Lengths {
+        masks: 0,
+        values: bytes,
+        offsets: count,
+    })
 }
 
 // Values below masks: the stored bytes, and the ends of the set cells.
@@ -62,7 +66,7 @@ fn write_nested(
     masks: &mut [u8],
     values: &mut [u8],
     offsets: &mut [u64],
-) -> WrittenArray
+) -> Result<Lengths, Refusal>
     requires within { RaggedWithin (masks_of kind.masks) (width_of width) kind.depth s.now n found }
     requires deep { 1 ≤ kind.depth }
     ensures { outcome_array result masks.new values.new offsets.new
@@ -79,18 +83,22 @@ fn write_nested(
     let bytes = last as usize;
     let count = n + 1;
     if masks.len() < planes {
-        return WrittenArray::Refused(refusal::OUTPUT);
+        return Err(Refusal::Output);
     }
     if values.len() < bytes {
-        return WrittenArray::Refused(refusal::OUTPUT);
+        return Err(Refusal::Output);
     }
     if offsets.len() < count {
-        return WrittenArray::Refused(refusal::OUTPUT);
+        return Err(Refusal::Output);
     }
     place_planes(form, masks, n, depth, s);
     copy_many(values, 0, s, from, bytes);
     spread_offsets(offsets, masks, planes - n, n, s, index, width, cells, last);
-    WrittenArray::Lengths(planes, bytes, count)
+    Ok(Lengths {
+        masks: planes,
+        values: bytes,
+        offsets: count,
+    })
 }
 
 // Reads n ragged values with no mask: there is nothing to walk.
@@ -101,16 +109,13 @@ fn read_flat(
     s: &[u8],
     values: &mut [u8],
     offsets: &mut [u64],
-) -> WrittenArray
+) -> Result<Lengths, Refusal>
     requires { n ≤ most_cells }
     ensures { (x : Masks) (masks : List ℕ) → outcome_array result masks values.new offsets.new
         ≡ read_outcome (content_array masks values.old offsets.old) (read_in (mask_form x) (ragged (width_of width) (place_of place)) 0 n s.now) }
 {
-    let checked = check_ragged(s, 0, n, width, place);
-    match checked {
-        Indexed::Refused(e) => WrittenArray::Refused(e),
-        Indexed::Found(found) => write_flat(width, s, found, values, offsets),
-    }
+    let found = check_ragged(s, 0, n, width, place)?;
+    write_flat(width, s, found, values, offsets)
 }
 
 // Reads an array of n cells with ragged values.
@@ -123,7 +128,7 @@ pub fn decode_ragged(
     masks: &mut [u8],
     values: &mut [u8],
     offsets: &mut [u64],
-) -> WrittenArray
+) -> Result<Lengths, Refusal>
     requires { Limited kind.depth n }
     ensures { outcome_array result masks.new values.new offsets.new
         ≡ read_outcome (content_array masks.old values.old offsets.old)
@@ -134,28 +139,18 @@ pub fn decode_ragged(
     if depth == 0 {
         return read_flat(width, place, n, s, values, offsets);
     }
-    let walk = walk_content(form, s, 0, n, depth);
-    match walk {
-        Walked::Refused(e) => WrittenArray::Refused(e),
-        Walked::Values(at, cells) => {
-            // no cell is set, and no index stored
-            if cells == 0 {
-                let none = Index {
-                    cells: 0,
-                    index: 0,
-                    from: 0,
-                    last: 0,
-                };
-                write_nested(kind, width, n, s, none, masks, values, offsets)
-            } else {
-                let checked = check_ragged(s, at, cells, width, place);
-                match checked {
-                    Indexed::Refused(e) => WrittenArray::Refused(e),
-                    Indexed::Found(found) => {
-                        write_nested(kind, width, n, s, found, masks, values, offsets)
-                    }
-                }
-            }
-        }
+    let (at, cells) = walk_content(form, s, 0, n, depth)?;
+    // no cell is set, and no index stored
+    if cells == 0 {
+        let none = Index {
+            cells: 0,
+            index: 0,
+            from: 0,
+            last: 0,
+        };
+        write_nested(kind, width, n, s, none, masks, values, offsets)
+    } else {
+        let found = check_ragged(s, at, cells, width, place)?;
+        write_nested(kind, width, n, s, found, masks, values, offsets)
     }
 }

@@ -7,10 +7,12 @@ use mathlib.Core.List.{List}
 use lib.ListN.{length}
 use lib.Dec.{leb}
 use borrow.Author.Tests.{le-leb, lt-leb}
-use Rattle.valid.specs.declared.array_bytes.Checked.{Checked}
+use Rattle.std.specs.Prelude.{Result, Ok, Err}
+use Rattle.array.specs.declared.refusal.Refusal.{Refusal}
+use Rattle.array.specs.Meaning.{number_of, told}
 use Rattle.array.specs.Answer.{Answer, gives, refuses, unless, Outcome}
 use Rattle.array.specs.Buffers.{over, list_outcome, put_list}
-use Rattle.valid.specs.Check.{check_of, told_checked}
+use Rattle.valid.specs.Check.{check_of}
 use Rattle.array.specs.Kind.{Kind, kind_test}
 use Rattle.array.specs.Limits.{most_cells}
 use Rattle.valid.specs.ShapeCells.{shape_answer}
@@ -36,16 +38,16 @@ module _ (k : Kind) (shape : List ℕ) (c : Content) (out : List ℕ) where
   encode_kind e = rw e
 
   module _ (p : kind_test k ≡ true) where
-    pub encode_shape : {number : ℕ} → refuses number ≡ shape_answer shape → refused 2 out ≡ encoded k shape c out
+    pub encode_shape : {number : ℕ} → refuses number ≡ shape_answer shape → refused number out ≡ encoded k shape c out
     unfolding encoded encode_answer
-    encode_shape {number} e = rw (p, (not_counted shape number e).0)
+    encode_shape {number} e = let n = not_counted shape number e in rw (p, n.0, n.1)
 
-    module _ {n : ℕ} (q : gives n ≡ shape_answer shape) (r : Checked) (f : told_checked r ≡ check_of k n c) where
+    module _ {n : ℕ} (q : gives n ≡ shape_answer shape) (r : Result (Unit {0}) Refusal) (f : told r ≡ check_of k n c) where
       -- the rest, once kind and shape have passed
       whole : ℕ → Answer (List ℕ)
       whole m = unless (leb (length (stored_form k m c)) (length out)) 6 (gives (stored_form k m c))
 
-      pub encode_content : {number : ℕ} → r ≡ Checked.Refused number → refused number out ≡ encoded k shape c out
+      pub encode_content : {number : Refusal} → r ≡ Err number → refused (number_of number) out ≡ encoded k shape c out
       unfolding encoded encode_answer whole
       encode_content {number} e =
           let s : Counted shape n = counted shape n q in
@@ -53,14 +55,14 @@ module _ (k : Kind) (shape : List ℕ) (c : Content) (out : List ℕ) where
           (rw (p, s.passes) (ap (λ (a : Answer (List ℕ)). list_outcome a out)
           (ap (λ (m : ℕ). unless_kept k m c (whole m)) (sym s.is) ∙ check_refused k n c r f (whole n) number e)))
 
-      pub encode_encodable : r ≡ Checked.Valid → Encodable k n c
+      pub encode_encodable : r ≡ Ok tt → Encodable k n c
       unfolding most_cells
       encode_encodable e =
           let s : Counted shape n = counted shape n q in
           let h : KeepsRules k n c = check_valid k n c r f e in
           record { kind = kind_ok k p; some = s.some; few = s.few; content = h.array.fits; small = h.small }
 
-      pub encode_rest : r ≡ Checked.Valid → put_list (stored_form k n c) out ≡ encoded k shape c out
+      pub encode_rest : r ≡ Ok tt → put_list (stored_form k n c) out ≡ encoded k shape c out
       unfolding encoded encode_answer whole
       encode_rest e =
           let s : Counted shape n = counted shape n q in

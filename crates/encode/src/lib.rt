@@ -8,11 +8,8 @@ ghost use Rattle.codec.specs.Calls.{stored_form, encoded};
 ghost use Rattle.encode_values.specs.Ready.{Encodable};
 ghost use Rattle.array.specs.Buffers.{put_list};
 
-use array::answer::Written;
 use array::kind::Kind;
-use array::refusal;
-use valid::array_bytes::Checked;
-use valid::shape::Cells;
+use array::refusal::Refusal;
 use valid::{array_bytes, shape};
 
 // Writes an array into its stored form. Refusals 1, 2, 4, 5 and 6, in this order; nothing is stored before the last check.
@@ -23,20 +20,15 @@ pub fn encode(
     values: &[u8],
     offsets: &[u64],
     out: &mut [u8],
-) -> Written
+) -> Result<usize, Refusal>
     ensures { outcome result out.new ≡ encoded (kind_of kind) shape.now (content_array masks.now values.now offsets.now) out.old }
 {
     if !valid::kind::check_kind(kind) {
-        return Written::Refused(refusal::KIND);
+        return Err(Refusal::Kind);
     }
-    let Cells::Count(cells) = shape::shape_cells(shape) else {
-        return Written::Refused(refusal::SHAPE);
-    };
-    let checked = array_bytes::check_array(kind, cells, masks, values, offsets);
-    match checked {
-        Checked::Refused(number) => Written::Refused(number),
-        Checked::Valid => encode_valid(kind, cells, masks, values, offsets, out),
-    }
+    let cells = shape::shape_cells(shape)?;
+    array_bytes::check_array(kind, cells, masks, values, offsets)?;
+    encode_valid(kind, cells, masks, values, offsets, out)
 }
 
 // The same of valid content of `cells` cells: refusal 6, or its stored form.
@@ -47,14 +39,14 @@ fn encode_valid(
     values: &[u8],
     offsets: &[u64],
     out: &mut [u8],
-) -> Written
+) -> Result<usize, Refusal>
     requires { Encodable (kind_of kind) cells (content_array masks.now values.now offsets.now) }
     ensures { outcome result out.new ≡ put_list (stored_form (kind_of kind) cells (content_array masks.now values.now offsets.now)) out.old }
 {
     let need = encode_length::stored_length(kind, cells, masks, offsets);
     if out.len() < need {
-        return Written::Refused(refusal::OUTPUT);
+        return Err(Refusal::Output);
     }
     encode_frames::write_stored(out, kind, cells, masks, values, offsets);
-    Written::Length(need)
+    Ok(need)
 }

@@ -8,6 +8,8 @@ use mathlib.Core.List.{List}
 use lib.ListN.{length}
 use lib.Dec.{leb}
 use borrow.Author.Tests.{le-leb, lt-leb, eq-eqb, ne_eqb}
+use Rattle.std.specs.Prelude.{Result, Ok, Err}
+use Rattle.array.specs.declared.refusal.Refusal.{Refusal}
 use Rattle.array.specs.Answer.{Answer, gives, refuses, unless, Outcome}
 use Rattle.array.specs.Limits.{most_bytes, most_cells}
 use Rattle.array.specs.Kind.{Kind, kind_test, Form, fixed, ragged}
@@ -15,11 +17,10 @@ use Rattle.array.specs.Offsets.{slices}
 use Rattle.array.specs.Cells.{Value}
 use Rattle.array.specs.Content.{Content, ValuesOk, values_in}
 use Rattle.array.specs.Buffers.{over, list_outcome, put_list}
-use Rattle.array.specs.Meaning.{form_of, kind_of}
+use Rattle.array.specs.Meaning.{number_of, form_of, kind_of, told}
 use Rattle.array.specs.declared.kind.Kind as declared
 use Rattle.array.specs.declared.kind.Values.{Values}
-use Rattle.valid.specs.declared.array_bytes.Checked.{Checked}
-use Rattle.valid.specs.Check.{check_of, told_checked}
+use Rattle.valid.specs.Check.{check_of}
 use Rattle.valid.specs.ShapeCells.{shape_answer}
 use Rattle.valid.proofs.CheckLaws.{KeepsRules, check_refused, check_passed, check_valid}
 use Rattle.valid.proofs.ShapeLaws.{Counted, counted, not_counted}
@@ -62,9 +63,9 @@ module _ (k : Kind) (shape : List ℕ) (c : Content) (out : List ℕ) where
   write_kind e = rw e
 
   module _ (p : interleaved_test k ≡ true) where
-    pub write_shape : {number : ℕ} → refuses number ≡ shape_answer shape → refused_list 2 out ≡ interleaved_encoded k shape c out
+    pub write_shape : {number : ℕ} → refuses number ≡ shape_answer shape → refused_list number out ≡ interleaved_encoded k shape c out
     unfolding interleaved_encoded encode_interleaved_answer
-    write_shape {number} e = rw (p, (not_counted shape number e).0)
+    write_shape {number} e = let n = not_counted shape number e in rw (p, n.0, n.1)
 
     -- the rest, once kind and shape have passed
     pub write_past : {n : ℕ} → gives n ≡ shape_answer shape → encoded_cells k n c out ≡ interleaved_encoded k shape c out
@@ -73,13 +74,13 @@ module _ (k : Kind) (shape : List ℕ) (c : Content) (out : List ℕ) where
         let s : Counted shape n = counted shape n q in
         sym (rw (p, s.passes) (ap (λ (m : ℕ). encoded_cells k m c out) (sym s.is)))
 
-module _ (k : Kind) (n : ℕ) (c : Content) (out : List ℕ) {r : Checked} (f : told_checked r ≡ check_of k n c) where
-  pub write_content : {number : ℕ} → r ≡ Checked.Refused number → refused_list number out ≡ encoded_cells k n c out
+module _ (k : Kind) (n : ℕ) (c : Content) (out : List ℕ) {r : Result (Unit {0}) Refusal} (f : told r ≡ check_of k n c) where
+  pub write_content : {number : Refusal} → r ≡ Err number → refused_list (number_of number) out ≡ encoded_cells k n c out
   write_content {number} e =
       let stored : List ℕ = interleaved_form k n c in
       sym (ap (λ (a : Answer (List ℕ)). list_outcome a out) (check_refused k n c r f (unless (leb (length stored) (length out)) 6 (gives stored)) number e))
 
-  module _ (p : interleaved_test k ≡ true) (e : r ≡ Checked.Valid) where
+  module _ (p : interleaved_test k ≡ true) (e : r ≡ Ok tt) where
     pub write_held : n ≤ most_cells → Held n c.values c.offsets
     write_held few =
         let h : KeepsRules k n c = check_valid k n c r f e in

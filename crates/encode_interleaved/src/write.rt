@@ -9,30 +9,16 @@ ghost use Rattle.codec.specs.Interleaved.{put_interleaved, interleaved_test};
 ghost use Rattle.codec.specs.Calls.{interleaved_encoded};
 ghost use Rattle.encode_interleaved.specs.Held.{Held, interleaved_of, encoded_cells};
 
-use array::answer::Written;
 use array::kind::{Kind, Values};
-use array::refusal;
+use array::refusal::Refusal;
 use buffer::field;
-use valid::array_bytes::Checked;
-use valid::shape::Cells;
 use valid::{array_bytes, shape};
 
 // Whether arrays of this kind have an interleaved form: ragged values with no mask. Width, place and mask form say nothing of it.
 fn is_interleaved(kind: Kind) -> bool
     ensures { result ≡ interleaved_test (kind_of kind) }
 {
-    if !valid::kind::check_kind(kind) {
-        return false;
-    }
-    let depth = kind.depth;
-    if 0 < depth {
-        return false;
-    }
-    let values = kind.values;
-    match values {
-        Values::Fixed(_, _) => false,
-        Values::Ragged(_, _) => true,
-    }
+    valid::kind::check_kind(kind) && kind.depth == 0 && matches!(kind.values, Values::Ragged(_, _))
 }
 
 // The count, then each cell: its length and its bytes. What is copied beyond a cell, the cells after it write over.
@@ -60,34 +46,39 @@ fn put_cells(out: &mut [u8], values: &[u8], offsets: &[u64], cells: usize)
 }
 
 // The cells of a valid array: refusal 6, or their interleaved form.
-fn write_cells(cells: usize, values: &[u8], offsets: &[u64], out: &mut [u8]) -> Written
+fn write_cells(
+    cells: usize,
+    values: &[u8],
+    offsets: &[u64],
+    out: &mut [u8],
+) -> Result<usize, Refusal>
     requires { Held cells values.now offsets.now }
     ensures { outcome result out.new ≡ put_list (interleaved_of values.now offsets.now) out.old }
 {
     let need = 4 + 4 * cells + values.len();
     if out.len() < need {
-        return Written::Refused(refusal::OUTPUT);
+        return Err(Refusal::Output);
     }
     put_cells(out, values, offsets, cells);
-    Written::Length(need)
+    Ok(need)
 }
 
 // The same of one cell, which has all the values.
-fn write_one(values: &[u8], out: &mut [u8]) -> Written
+fn write_one(values: &[u8], out: &mut [u8]) -> Result<usize, Refusal>
     requires { length values.now ≤ most_bytes }
     ensures { outcome result out.new ≡ put_list (put_interleaved (values.now ∷ [])) out.old }
 {
     let size = values.len();
     let need = 8 + size;
     if out.len() < need {
-        return Written::Refused(refusal::OUTPUT);
+        return Err(Refusal::Output);
     }
     field::put_u32(out, 0, 1);
     field::put_u32(out, 4, size as u64);
     if 0 < size {
         interleaved_cells::copy_exactly(out, 8, values, 0, size);
     }
-    Written::Length(need)
+    Ok(need)
 }
 
 // Kind and shape are sound: refusals 4, 5 and 6, or the form.
@@ -98,29 +89,29 @@ fn encode_cells(
     values: &[u8],
     offsets: &[u64],
     out: &mut [u8],
-) -> Written
+) -> Result<usize, Refusal>
     requires { (interleaved_test (kind_of kind) ≡ true) × (cells ≤ most_cells) }
     ensures { outcome result out.new
         ≡ encoded_cells (kind_of kind) cells (content_array masks.now values.now offsets.now) out.old }
 {
-    let checked = array_bytes::check_array(kind, cells, masks, values, offsets);
-    match checked {
-        Checked::Refused(number) => Written::Refused(number),
-        Checked::Valid => write_cells(cells, values, offsets, out),
-    }
+    array_bytes::check_array(kind, cells, masks, values, offsets)?;
+    write_cells(cells, values, offsets, out)
 }
 
 // The same of one cell. Here the compiler knows the count, and the walk over the offsets becomes one test.
-fn encode_one(kind: Kind, masks: &[u8], values: &[u8], offsets: &[u64], out: &mut [u8]) -> Written
+fn encode_one(
+    kind: Kind,
+    masks: &[u8],
+    values: &[u8],
+    offsets: &[u64],
+    out: &mut [u8],
+) -> Result<usize, Refusal>
     requires { interleaved_test (kind_of kind) ≡ true }
     ensures { outcome result out.new
         ≡ encoded_cells (kind_of kind) 1 (content_array masks.now values.now offsets.now) out.old }
 {
-    let checked = array_bytes::check_array(kind, 1, masks, values, offsets);
-    match checked {
-        Checked::Refused(e) => Written::Refused(e),
-        Checked::Valid => write_one(values, out),
-    }
+    array_bytes::check_array(kind, 1, masks, values, offsets)?;
+    write_one(values, out)
 }
 
 // Writes a ragged array of depth 0 in the interleaved form. Refusals 1, 2, 4, 5 and 6, in this order; nothing is stored before the
@@ -132,16 +123,14 @@ pub fn encode_interleaved(
     values: &[u8],
     offsets: &[u64],
     out: &mut [u8],
-) -> Written
+) -> Result<usize, Refusal>
     ensures { outcome result out.new ≡ interleaved_encoded (kind_of kind) shape.now
         (record { masks = masks.entry.now; values = values.now; offsets = offsets.now }) out.old }
 {
     if !is_interleaved(kind) {
-        return Written::Refused(refusal::KIND);
+        return Err(Refusal::Kind);
     }
-    let Cells::Count(cells) = shape::shape_cells(shape) else {
-        return Written::Refused(refusal::SHAPE);
-    };
+    let cells = shape::shape_cells(shape)?;
     if cells == 1 {
         return encode_one(kind, masks, values, offsets, out);
     }

@@ -14,7 +14,9 @@ use Rattle.array.specs.Kind.{Kind, kind_test}
 use Rattle.array.specs.Shape.{volume, shape_test}
 use Rattle.array.specs.Subset.{subset_of, numbers_test}
 use Rattle.array.specs.Content.{Content, RaggedContent, unless_kept}
-use Rattle.array.specs.Buffers.{Lengths, RaggedLengths, lengths_of, ragged_lengths_of, enough_test, ragged_enough_test, if_room, over, content_after, ragged_outcome, content_outcome, put_into}
+use Rattle.array.specs.declared.answer.Lengths.{Lengths}
+use Rattle.array.specs.declared.answer.RaggedLengths.{RaggedLengths}
+use Rattle.array.specs.Buffers.{lengths_of, ragged_lengths_of, enough_test, ragged_enough_test, if_room, over, content_after, ragged_outcome, content_outcome, put_into}
 use Rattle.array.specs.Outcome.{content_array}
 use Rattle.valid.specs.Check.{check_of, told_checked}
 use Rattle.array.proofs.Putting.{refused}

@@ -5,7 +5,8 @@ use Rattle.std.specs.Prelude.{ℕ, List, [], set}
 use Rattle.array.specs.Answer.{Answer, gives, refuses, Outcome}
 use Rattle.array.specs.Kind.{Form, fixed, ragged, Place}
 use Rattle.array.specs.Content.{Content, RaggedContent}
-use Rattle.array.specs.Buffers.{Lengths, RaggedLengths}
+use Rattle.array.specs.declared.answer.Lengths.{Lengths}
+use Rattle.array.specs.declared.answer.RaggedLengths.{RaggedLengths}
 use Rattle.table.specs.Table.{Table}
 use Rattle.table.specs.Calls.{TableLengths, Preview}
 

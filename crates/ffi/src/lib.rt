@@ -4,7 +4,7 @@
 #![tactic(auto)]
 
 ghost use Rattle.std.specs.Prelude.{◌≡◌, []};
-ghost use Rattle.array.specs.Meaning.{told, told_ragged, told_array};
+ghost use Rattle.array.specs.Meaning.{told};
 ghost use Rattle.valid.specs.Numbers.{told_kind, numbered_kind, numbered_index};
 ghost use Rattle.array.specs.Outcome.{content_array, content_ragged};
 ghost use Rattle.array.specs.Calls.{endianness_reversed};
@@ -13,12 +13,13 @@ ghost use Rattle.codec.specs.Calls.{encoded, decoded, interleaved_decoded, inter
 ghost use Rattle.load.specs.Calls.{generated};
 ghost use Rattle.chunks.specs.Calls.{extracted, merged, partially_decoded};
 ghost use Rattle.table.specs.Calls.{made, read_out, cell_set, previewed, answered, cells_packed};
-ghost use Rattle.table.specs.Meaning.{table_by, told_table, told_settled, told_preview};
+ghost use Rattle.table.specs.Meaning.{table_by};
 ghost use Rattle.ffi.specs.Exported.{handed, with_given, by_index, status_of, one_length, two_lengths, three_lengths, four_lengths, preview_lengths, export_one, export_two, export_three, export_four, export_moved, export_preview, export_set};
 
-use array::answer::{Written, WrittenArray, WrittenRagged};
-use table::answer::{Previewed, Settled, WrittenTable};
-use valid::numbers::{IndexRead, KindRead};
+use array::answer::{Lengths, RaggedLengths};
+use array::kind::Kind;
+use array::refusal::Refusal;
+use table::answer::{Preview, TableLengths};
 
 // A kind as numbers: form 0 fixed, 1 ragged; size is the cell size or the index width; order 0 little or start, 1 big or end; mask 0
 // bytes, 1 packed.
@@ -33,7 +34,7 @@ pub struct DpxKind {
 }
 
 // A kind that a caller hands over.
-fn kind_of(kind: DpxKind) -> KindRead
+fn kind_of(kind: DpxKind) -> Result<Kind, Refusal>
     ensures { told_kind result ≡ numbered_kind kind.depth kind.form kind.size kind.order kind.mask }
 {
     valid::numbers::kind_from_numbers(kind.depth, kind.form, kind.size, kind.order, kind.mask)
@@ -41,85 +42,85 @@ fn kind_of(kind: DpxKind) -> KindRead
 
 // ---- an answer, handed over
 
-fn put_length(answer: Written, lengths: &mut [u64; 1]) -> u32
+fn put_length(answer: Result<usize, Refusal>, lengths: &mut [u64; 1]) -> u32
     ensures status { result ≡ status_of (told answer) }
     ensures lengths { lengths.new ≡ one_length (told answer) lengths.old }
 {
     match answer {
-        Written::Refused(e) => e as u32,
-        Written::Length(n) => {
+        Err(e) => e.number() as u32,
+        Ok(n) => {
             lengths[0] = n as u64;
             0
         }
     }
 }
 
-fn put_two_lengths(answer: WrittenRagged, lengths: &mut [u64; 2]) -> u32
-    ensures status { result ≡ status_of (told_ragged answer) }
-    ensures lengths { lengths.new ≡ two_lengths (told_ragged answer) lengths.old }
+fn put_two_lengths(answer: Result<RaggedLengths, Refusal>, lengths: &mut [u64; 2]) -> u32
+    ensures status { result ≡ status_of (told answer) }
+    ensures lengths { lengths.new ≡ two_lengths (told answer) lengths.old }
 {
     match answer {
-        WrittenRagged::Refused(e) => e as u32,
-        WrittenRagged::Lengths(values, offsets) => {
-            lengths[0] = values as u64;
-            lengths[1] = offsets as u64;
+        Err(e) => e.number() as u32,
+        Ok(n) => {
+            lengths[0] = n.values as u64;
+            lengths[1] = n.offsets as u64;
             0
         }
     }
 }
 
-fn put_three_lengths(answer: WrittenArray, lengths: &mut [u64; 3]) -> u32
-    ensures status { result ≡ status_of (told_array answer) }
-    ensures lengths { lengths.new ≡ three_lengths (told_array answer) lengths.old }
+fn put_three_lengths(answer: Result<Lengths, Refusal>, lengths: &mut [u64; 3]) -> u32
+    ensures status { result ≡ status_of (told answer) }
+    ensures lengths { lengths.new ≡ three_lengths (told answer) lengths.old }
 {
     match answer {
-        WrittenArray::Refused(e) => e as u32,
-        WrittenArray::Lengths(masks, values, offsets) => {
-            lengths[0] = masks as u64;
-            lengths[1] = values as u64;
-            lengths[2] = offsets as u64;
+        Err(e) => e.number() as u32,
+        Ok(n) => {
+            lengths[0] = n.masks as u64;
+            lengths[1] = n.values as u64;
+            lengths[2] = n.offsets as u64;
             0
         }
     }
 }
 
-fn put_four_lengths(answer: WrittenTable, lengths: &mut [u64; 4]) -> u32
-    ensures status { result ≡ status_of (told_table answer) }
-    ensures lengths { lengths.new ≡ four_lengths (told_table answer) lengths.old }
+fn put_four_lengths(answer: Result<TableLengths, Refusal>, lengths: &mut [u64; 4]) -> u32
+    ensures status { result ≡ status_of (told answer) }
+    ensures lengths { lengths.new ≡ four_lengths (told answer) lengths.old }
 {
     match answer {
-        WrittenTable::Refused(e) => e as u32,
-        WrittenTable::Lengths(masks, starts, cell_lengths, store) => {
-            lengths[0] = masks as u64;
-            lengths[1] = starts as u64;
-            lengths[2] = cell_lengths as u64;
-            lengths[3] = store as u64;
+        Err(e) => e.number() as u32,
+        Ok(n) => {
+            lengths[0] = n.masks as u64;
+            lengths[1] = n.starts as u64;
+            lengths[2] = n.lengths as u64;
+            lengths[3] = n.store as u64;
             0
         }
     }
 }
 
-fn put_preview(answer: Previewed, lengths: &mut [u64; 2]) -> u32
-    ensures status { result ≡ status_of (told_preview answer) }
-    ensures lengths { lengths.new ≡ preview_lengths (told_preview answer) lengths.old }
+fn put_preview(answer: Result<Preview, Refusal>, lengths: &mut [u64; 2]) -> u32
+    ensures status { result ≡ status_of (told answer) }
+    ensures lengths { lengths.new ≡ preview_lengths (told answer) lengths.old }
 {
     match answer {
-        Previewed::Refused(e) => e as u32,
-        Previewed::After(total, unpacked) => {
-            lengths[0] = total as u64;
-            lengths[1] = unpacked as u64;
+        Err(e) => e.number() as u32,
+        Ok(preview) => {
+            lengths[0] = preview.total as u64;
+            lengths[1] = preview.unpacked as u64;
             0
         }
     }
 }
 
 // A setting names nothing.
-fn status_of(answer: Settled) -> u32
-    ensures { result ≡ status_of (told_settled answer) }
+fn status_of(answer: Result<(), Refusal>) -> u32
+    ensures { result ≡ status_of (told answer) }
 {
     match answer {
-        Settled::Refused(e) => e as u32,
-        Settled::Set => 0,
+        Err(e) => e.number() as u32,
+        Ok(()) => 0,
     }
 }
 
@@ -140,8 +141,8 @@ pub extern "C" fn dpx_encode(
         (λ k. encoded k shape.now (content_array masks.now values.now offsets.now) out.old)) lengths.old }
 {
     match kind_of(kind) {
-        KindRead::Refused(e) => e as u32,
-        KindRead::Kind(k) => {
+        Err(e) => e.number() as u32,
+        Ok(k) => {
             let answer = encode::encode(k, shape, masks, values, offsets, out);
             put_length(answer, lengths)
         }
@@ -164,8 +165,8 @@ pub extern "C" fn dpx_decode(
         (λ k. decoded k shape.now bytes.now (content_array masks.old values.old offsets.old))) lengths.old }
 {
     match kind_of(kind) {
-        KindRead::Refused(e) => e as u32,
-        KindRead::Kind(k) => {
+        Err(e) => e.number() as u32,
+        Ok(k) => {
             let answer = decode::decode(k, shape, bytes, masks, values, offsets);
             put_three_lengths(answer, lengths)
         }
@@ -202,8 +203,8 @@ pub extern "C" fn dpx_encode_interleaved(
         (λ k. interleaved_encoded k shape.now (content_array masks.now values.now offsets.now) out.old)) lengths.old }
 {
     match kind_of(kind) {
-        KindRead::Refused(e) => e as u32,
-        KindRead::Kind(k) => {
+        Err(e) => e.number() as u32,
+        Ok(k) => {
             let answer = encode_interleaved::write::encode_interleaved(
                 k, shape, masks, values, offsets, out,
             );
@@ -228,8 +229,8 @@ pub extern "C" fn dpx_generate(
         (λ k. generated k shape.now start (content_array masks.old values.old offsets.old))) lengths.old }
 {
     match kind_of(kind) {
-        KindRead::Refused(e) => e as u32,
-        KindRead::Kind(k) => {
+        Err(e) => e.number() as u32,
+        Ok(k) => {
             let answer = generate::generate(k, shape, start, masks, values, offsets);
             put_three_lengths(answer, lengths)
         }
@@ -257,8 +258,8 @@ pub extern "C" fn dpx_extract(
         (content_array out_masks.old out_values.old out_offsets.old))) lengths.old }
 {
     match kind_of(kind) {
-        KindRead::Refused(e) => e as u32,
-        KindRead::Kind(k) => {
+        Err(e) => e.number() as u32,
+        Ok(k) => {
             let answer = extract::extract(
                 k,
                 shape,
@@ -296,8 +297,8 @@ pub extern "C" fn dpx_merge(
         (content_array out_masks.old out_values.old out_offsets.old))) lengths.old }
 {
     match kind_of(kind) {
-        KindRead::Refused(e) => e as u32,
-        KindRead::Kind(k) => {
+        Err(e) => e.number() as u32,
+        Ok(k) => {
             let answer = merge::merge(
                 k,
                 shape,
@@ -330,8 +331,8 @@ pub extern "C" fn dpx_partial_decode(
         (by_index (content_ragged values.old offsets.old) (λ w p. partially_decoded w p shape.now subset.now bytes.now (content_ragged values.old offsets.old)))) lengths.old }
 {
     match valid::numbers::index_from_numbers(width, place) {
-        IndexRead::Refused(e) => e as u32,
-        IndexRead::Index(w, p) => {
+        Err(e) => e.number() as u32,
+        Ok((w, p)) => {
             let answer = partial::vlen_partial::partial_decode(
                 w, p, shape, subset, bytes, values, offsets,
             );
@@ -384,8 +385,8 @@ pub extern "C" fn dpx_table_make(
         (table_by out_masks.old out_starts.old out_cell_lengths.old store.old))) lengths.old }
 {
     match kind_of(kind) {
-        KindRead::Refused(e) => e as u32,
-        KindRead::Kind(k) => {
+        Err(e) => e.number() as u32,
+        Ok(k) => {
             let answer = table_make::make_table(
                 k,
                 cells as usize,
@@ -423,8 +424,8 @@ pub extern "C" fn dpx_table_read(
         (content_array out_masks.old out_values.old out_offsets.old))) lengths.old }
 {
     match kind_of(kind) {
-        KindRead::Refused(e) => e as u32,
-        KindRead::Kind(k) => {
+        Err(e) => e.number() as u32,
+        Ok(k) => {
             let answer = table_read::read_table(
                 k,
                 cells as usize,
@@ -461,8 +462,8 @@ pub extern "C" fn dpx_table_set(
         cell cell_masks.now value.now)) }
 {
     match kind_of(kind) {
-        KindRead::Refused(e) => e as u32,
-        KindRead::Kind(k) => {
+        Err(e) => e.number() as u32,
+        Ok(k) => {
             let answer = table_set::set_cell(
                 k,
                 cells as usize,
@@ -499,8 +500,8 @@ pub extern "C" fn dpx_table_preview(
         cell cell_masks.now value.now))) lengths.old }
 {
     match kind_of(kind) {
-        KindRead::Refused(e) => e as u32,
-        KindRead::Kind(k) => {
+        Err(e) => e.number() as u32,
+        Ok(k) => {
             let answer = table_preview::preview_cell(
                 k,
                 cells as usize,
@@ -534,8 +535,8 @@ pub extern "C" fn dpx_table_pack(
         (λ k. cells_packed k cells (table_by masks.now starts.old cell_lengths.now store.old) most)) lengths.old }
 {
     match kind_of(kind) {
-        KindRead::Refused(e) => e as u32,
-        KindRead::Kind(k) => {
+        Err(e) => e.number() as u32,
+        Ok(k) => {
             let answer = table_pack::pack_table(
                 k,
                 cells as usize,

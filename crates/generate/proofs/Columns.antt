@@ -44,6 +44,9 @@ pub mark_begins : (d : List ℕ) (n at : ℕ) → Marking d n at d 0 at
 mark_begins d n at = record { here = omega (arith, zero-mul n); stored = refl }
 
 module _ {d : List ℕ} {n at : ℕ} {out : List ℕ} {k place : ℕ} (c : Marking d n at out k place) where
+  pub mark_ends : {depth : ℕ} → k ≡ depth → out ≡ column n at (replicate depth 1) d
+  mark_ends e = c.stored ∙ ap (λ (j : ℕ). column n at (replicate j 1) d) e
+
   pub mark_same : length out ≡ length d
   mark_same = ap length c.stored ∙ column-length n at (replicate k 1) d
 

@@ -52,11 +52,13 @@ module _ {depth s₀ s k : ℕ} (c : Climbing depth s₀ s k) where
           let r : Drew ℕ = set_levels (depth - (k + 1)) (draw s).state in
           record { within = omega arith; is = next_level h z ∙ ap (λ (j : ℕ). record { made = j; state = r.state }) (omega arith) }
 
-  pub climb_ends : depth ≤ k → record { made = k; state = s } ≡ set_levels depth s₀
+  pub climb_ends : depth ≤ k → record { made = depth; state = s } ≡ set_levels depth s₀
   unfolding set_levels
   climb_ends h =
       let none : depth - k ≡ 0 = omega arith in
-      sym (c.is ∙ ap (λ (j : ℕ). above k (set_levels j s)) none ∙ simp unary_clauses)
+      let all : depth ≡ k = omega (arith, c.within) in
+      ap (λ (j : ℕ). record { made = j; state = s }) all
+      ∙ sym (c.is ∙ ap (λ (j : ℕ). above k (set_levels j s)) none ∙ simp unary_clauses)
 
 -- ---- value bytes
 

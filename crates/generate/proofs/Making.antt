@@ -184,8 +184,8 @@ module _ {f : Form} {d n s₀ : ℕ} {o₀ o : List ℕ} {s at to : ℕ} (c : Pl
         ∙ ap₂ (λ (j y : ℕ). starts_from f d (n - (at + 1)) y (to + j)) (sym ek) (sym et));
   }
 
-  pub place_ends : n ≤ at → set o at to ≡ over all_offsets o₀
-  place_ends h = laying_ends all_offsets o₀ 0 (set o at to) (at + 1) (laying_is stored (ap (λ (cs : List (Cell d)). ends to (leaves d cs)) (no_cells f d s h)))
+  pub place_ends : at ≡ n → set o n to ≡ over all_offsets o₀
+  place_ends h = ap (λ (j : ℕ). set o j to) (sym h) ∙ laying_ends all_offsets o₀ 0 (set o at to) (at + 1) (laying_is stored (ap (λ (cs : List (Cell d)). ends to (leaves d cs)) (no_cells f d s (omega arith))))
 
 -- ---- how much is stored
 

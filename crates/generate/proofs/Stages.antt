@@ -5,10 +5,11 @@ use mathlib.Core.Bool.{true, false}
 use mathlib.Core.List.{List}
 use Prim.Native.Nat.{ℕ}
 use Rattle.array.specs.Kind.{Kind, Form, kind_test, byte_kind}
-use Rattle.array.specs.Shape.{shape_test}
+use Rattle.array.specs.Answer.{refuses}
+use Rattle.valid.specs.ShapeCells.{shape_answer}
 use Rattle.array.specs.Content.{Content, layout}
 use Rattle.array.proofs.Putting.{refused}
-use Rattle.valid.proofs.ShapeLaws.{Counted}
+use Rattle.valid.proofs.ShapeLaws.{Counted, not_counted}
 use Rattle.load.specs.Calls.{generate_answer, generated}
 use Rattle.load.specs.Law.{SameSize}
 use Rattle.load.proofs.Law.{load_same}
@@ -21,9 +22,9 @@ module _ (k : Kind) (shape : List ℕ) (s : ℕ) (out : Content) where
   by_kind e = rw e
 
   module _ (e : kind_test k ≡ true) where
-    pub by_shape : shape_test shape ≡ false → refused 2 out ≡ generated k shape s out
+    pub by_shape : {number : ℕ} → refuses number ≡ shape_answer shape → refused number out ≡ generated k shape s out
     unfolding generated generate_answer
-    by_shape f = rw (e, f)
+    by_shape {number} f = let n = not_counted shape number f in rw (e, n.0, n.1)
 
     -- the form may differ in byte order, index width or index place
     pub by_cells : {n : ℕ} → Counted shape n → (f : Form) → SameSize k.form f → generated k shape s out ≡ put_into (layout f k.depth (cells_from f k.depth n s)) out

@@ -21,17 +21,18 @@ pub fn draw_levels(first: Generator, depth: usize) -> Levels
     ensures { drew_levels result ≡ set_levels depth first.state }
 {
     let mut g = first;
-    let mut set: usize = 0;
-    while set < depth {
+    for set in 0..depth {
         let drawn = g.draw();
         let next = drawn.next;
         if drawn.draw % 4 == 0 {
             return Levels { set, next };
         }
         g = next;
-        set += 1;
     }
-    Levels { set, next: g }
+    Levels {
+        set: depth,
+        next: g,
+    }
 }
 
 // The same for the cell `at` of n, and stores 01 in the planes of its levels that are set. Those below are 00 already.
@@ -41,9 +42,8 @@ pub fn mark_levels(first: Generator, depth: usize, n: usize, at: usize, masks: &
     ensures marks { masks.new ≡ column n at (replicate result.set 1) masks.old }
 {
     let mut g = first;
-    let mut set: usize = 0;
     let mut place = at;
-    while set < depth {
+    for set in 0..depth {
         let drawn = g.draw();
         let next = drawn.next;
         if drawn.draw % 4 == 0 {
@@ -52,9 +52,11 @@ pub fn mark_levels(first: Generator, depth: usize, n: usize, at: usize, masks: &
         masks[place] = 1;
         g = next;
         place += n;
-        set += 1;
     }
-    Levels { set, next: g }
+    Levels {
+        set: depth,
+        next: g,
+    }
 }
 
 // Draws n value bytes, one after another.
@@ -64,12 +66,10 @@ pub fn draw_few(first: Generator, values: &mut [u8], to: usize, n: usize) -> Gen
     ensures stores { values.new ≡ over_at to (draw_bytes n first.state).made values.old }
 {
     let mut g = first;
-    let mut i: usize = 0;
-    while i < n {
+    for i in 0..n {
         let drawn = g.draw();
         values[to + i] = (drawn.draw % 256) as u8;
         g = drawn.next;
-        i += 1;
     }
     g
 }
@@ -80,10 +80,8 @@ fn draw_part(first: Generator, values: &mut [u8], to: usize, n: usize) -> Genera
     ensures draws { result.state ≡ (draw_bytes n first.state).state }
     ensures stores { values.new ≡ over_at to (draw_bytes n first.state).made values.old }
 {
-    let mut i: usize = 0;
-    while i < n {
+    for i in 0..n {
         values[to + i] = (state_after(first, i) / 65536 % 256) as u8;
-        i += 1;
     }
     Generator {
         state: state_after(first, n - 1),
@@ -98,6 +96,7 @@ fn draw_parts(first: Generator, values: &mut [u8], to: usize, n: usize) -> Gener
 {
     let mut g = first;
     let mut i: usize = 0;
+    // No `for` over whole sixteens: the rest begins where the count stands.
     while 16 <= n - i {
         g = draw_part(g, values, to + i, 16);
         i += 16;
@@ -125,11 +124,8 @@ pub fn skip_bytes(first: Generator, n: usize) -> Generator
     ensures { result.state ≡ (draw_bytes n first.state).state }
 {
     let mut g = first;
-    let mut i: usize = 0;
-    while i < n {
-        let drawn = g.draw();
-        g = drawn.next;
-        i += 1;
+    for _ in 0..n {
+        g = g.draw().next;
     }
     g
 }

@@ -12,8 +12,8 @@ ghost use Rattle.generate.specs.Room.{Column, Limited, FixedRoom};
 
 use crate::cell::{draw_bytes, mark_levels};
 use crate::generator::Generator;
-use array::answer::WrittenArray;
-use array::refusal;
+use array::answer::Lengths;
+use array::refusal::Refusal;
 use buffer::copy::fill_bytes;
 
 // Draws the cell `at` of n, its value going to the place `to`. A null leaves zeros.
@@ -57,11 +57,9 @@ fn draw_cells(
 {
     fill_bytes(masks, 0, depth * n, 0);
     let mut g = first;
-    let mut at: usize = 0;
     let mut to: usize = 0;
-    while at < n {
+    for at in 0..n {
         g = draw_cell(g, depth, n, at, size, to, masks, values);
-        at += 1;
         to += size;
     }
 }
@@ -74,7 +72,7 @@ pub fn make_fixed(
     size: usize,
     masks: &mut [u8],
     values: &mut [u8],
-) -> WrittenArray
+) -> Result<Lengths, Refusal>
     requires { Limited depth n × (size ≤ most_size) }
     ensures { (offsets : List ℕ) → outcome_array result masks.new values.new offsets
         ≡ put_into (layout (sized size) depth (cells_from (sized size) depth n first.state))
@@ -83,11 +81,15 @@ pub fn make_fixed(
     let planes = depth * n;
     let bytes = n * size;
     if masks.len() < planes {
-        return WrittenArray::Refused(refusal::OUTPUT);
+        return Err(Refusal::Output);
     }
     if values.len() < bytes {
-        return WrittenArray::Refused(refusal::OUTPUT);
+        return Err(Refusal::Output);
     }
     draw_cells(first, depth, n, size, masks, values);
-    WrittenArray::Lengths(planes, bytes, 0)
+    Ok(Lengths {
+        masks: planes,
+        values: bytes,
+        offsets: 0,
+    })
 }

@@ -13,11 +13,11 @@ ghost use Rattle.array.specs.Outcome.{content_array, outcome_array};
 ghost use Rattle.load.specs.Calls.{generated};
 
 use crate::generator::Generator;
-use array::answer::WrittenArray;
+use array::answer::Lengths;
 use array::kind::{Kind, Values};
-use array::refusal;
+use array::refusal::Refusal;
 use valid::kind::check_kind;
-use valid::shape::{Cells, shape_cells};
+use valid::shape::shape_cells;
 
 // Makes the load of a kind, a shape and a start number. Refusals 1, 2 and 6, in this order; nothing is stored before the last check.
 pub fn generate(
@@ -27,20 +27,17 @@ pub fn generate(
     masks: &mut [u8],
     values: &mut [u8],
     offsets: &mut [u64],
-) -> WrittenArray
+) -> Result<Lengths, Refusal>
     ensures { outcome_array result masks.new values.new offsets.new
         ≡ generated (kind_of kind) shape.now start (content_array masks.old values.old offsets.old) }
 {
     if !check_kind(kind) {
-        return WrittenArray::Refused(refusal::KIND);
+        return Err(Refusal::Kind);
     }
-    let Cells::Count(n) = shape_cells(shape) else {
-        return WrittenArray::Refused(refusal::SHAPE);
-    };
+    let n = shape_cells(shape)?;
     let depth = kind.depth as usize;
     let first = Generator { state: start };
-    let form = kind.values;
-    match form {
+    match kind.values {
         Values::Fixed(size, _) => fixed::make_fixed(first, depth, n, size as usize, masks, values),
         Values::Ragged(_, _) => ragged::make_ragged(first, depth, n, masks, values, offsets),
     }

@@ -13,8 +13,8 @@ ghost use Rattle.generate.specs.Room.{Column, Limited, RaggedRoom};
 
 use crate::cell::{draw_few, draw_levels, mark_levels, skip_bytes};
 use crate::generator::Generator;
-use array::answer::WrittenArray;
-use array::refusal;
+use array::answer::Lengths;
+use array::refusal::Refusal;
 use buffer::copy::fill_bytes;
 
 // The most bytes of a ragged value.
@@ -94,16 +94,14 @@ fn draw_cells(
 {
     fill_bytes(masks, 0, depth * n, 0);
     let mut g = first;
-    let mut at: usize = 0;
     let mut to: usize = 0;
-    while at < n {
+    for at in 0..n {
         offsets[at] = to as u64;
         let value = draw_cell(g, depth, n, at, to, masks, values);
         g = value.next;
-        at += 1;
         to += value.bytes;
     }
-    offsets[at] = to as u64;
+    offsets[n] = to as u64;
     to
 }
 
@@ -113,12 +111,10 @@ fn count_bytes(first: Generator, depth: usize, n: usize) -> usize
     ensures { result ≡ bytes_from lengthy depth n first.state }
 {
     let mut g = first;
-    let mut at: usize = 0;
     let mut sum: usize = 0;
-    while at < n {
+    for _ in 0..n {
         let value = skip_cell(g, depth);
         g = value.next;
-        at += 1;
         sum += value.bytes;
     }
     sum
@@ -143,7 +139,7 @@ pub fn make_ragged(
     masks: &mut [u8],
     values: &mut [u8],
     offsets: &mut [u64],
-) -> WrittenArray
+) -> Result<Lengths, Refusal>
     requires { Limited depth n }
     ensures { outcome_array result masks.new values.new offsets.new
         ≡ put_into (layout lengthy depth (cells_from lengthy depth n first.state))
@@ -152,14 +148,18 @@ pub fn make_ragged(
     let planes = depth * n;
     let count = n + 1;
     if masks.len() < planes {
-        return WrittenArray::Refused(refusal::OUTPUT);
+        return Err(Refusal::Output);
     }
     if offsets.len() < count {
-        return WrittenArray::Refused(refusal::OUTPUT);
+        return Err(Refusal::Output);
     }
     if !has_room(first, depth, n, values.len()) {
-        return WrittenArray::Refused(refusal::OUTPUT);
+        return Err(Refusal::Output);
     }
     let bytes = draw_cells(first, depth, n, masks, values, offsets);
-    WrittenArray::Lengths(planes, bytes, count)
+    Ok(Lengths {
+        masks: planes,
+        values: bytes,
+        offsets: count,
+    })
 }

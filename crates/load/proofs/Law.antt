@@ -12,7 +12,8 @@ use Rattle.array.specs.Kind.{Kind, KindOk, Form, fixed, ragged}
 use Rattle.array.specs.Shape.{volume, ShapeOk, shape_test}
 use Rattle.array.specs.Cells.{Value, Cell, leaf}
 use Rattle.array.specs.Content.{Content, leaves, layout}
-use Rattle.array.specs.Buffers.{Lengths, lengths_of, enough_test, content_outcome}
+use Rattle.array.specs.declared.answer.Lengths.{Lengths}
+use Rattle.array.specs.Buffers.{lengths_of, enough_test, content_outcome}
 use Rattle.array.proofs.Answers.{pass}
 use Rattle.array.proofs.Lists.{All-map, All-image, All-append}
 use Rattle.array.proofs.Rules.{kind_test_lem, shape_test_lem, enough_test_lem}

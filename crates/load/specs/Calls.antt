@@ -5,7 +5,8 @@ use Rattle.array.specs.Answer.{Answer, unless, Outcome}
 use Rattle.array.specs.Kind.{Kind, kind_test}
 use Rattle.array.specs.Shape.{shape_test}
 use Rattle.array.specs.Content.{Content}
-use Rattle.array.specs.Buffers.{Lengths, lengths_of, enough_test, content_outcome, if_room}
+use Rattle.array.specs.declared.answer.Lengths.{Lengths}
+use Rattle.array.specs.Buffers.{lengths_of, enough_test, content_outcome, if_room}
 use Rattle.load.specs.Load.{load_of}
 
 -- ---- generate: the load of a start number

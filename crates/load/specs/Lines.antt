@@ -4,7 +4,7 @@ use Rattle.std.specs.Prelude.{ℕ, ◌≡◌, List, [], ◌∷◌}
 use Rattle.array.specs.Answer.{gives, refuses, Outcome}
 use Rattle.array.specs.Kind.{Kind, byte_kind, fixed, ragged, little, at_start}
 use Rattle.array.specs.Content.{Content}
-use Rattle.array.specs.Buffers.{Lengths}
+use Rattle.array.specs.declared.answer.Lengths.{Lengths}
 use Rattle.load.specs.Generator.{draw}
 use Rattle.load.specs.Load.{load_of}
 use Rattle.load.specs.Calls.{generated}

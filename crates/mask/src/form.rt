@@ -1,15 +1,15 @@
 // Stored masks, over their form: a byte a cell or a bit a cell. No other crate knows how a mask lies in stored bytes.
 ghost use Rattle.std.specs.Prelude.{◌≡◌, true, ◌+◌, ◌≤◌, length, take, drop};
 ghost use Rattle.array.specs.Buffers.{over_at};
-ghost use Rattle.array.specs.Meaning.{masks_of};
+ghost use Rattle.array.specs.Meaning.{masks_of, told};
 ghost use Rattle.codec.specs.Mask.{mask_form};
 ghost use Rattle.codec.specs.Frame.{count_set};
 ghost use Rattle.codec.specs.MaskAt.{stored_mask, said_mask};
-ghost use Rattle.mask.specs.Marks.{counted_in, told_counted};
+ghost use Rattle.mask.specs.Marks.{counted_in};
 
 use crate::strict;
 use array::kind::MaskForm;
-use array::refusal;
+use array::refusal::Refusal;
 use buffer::copy;
 use mask_bits::packed;
 use mask_marks::count_set;
@@ -61,17 +61,10 @@ pub fn count_stored(form: MaskForm, s: &[u8], at: usize, n: usize) -> usize
     }
 }
 
-// How many cells a stored mask sets, or the refusal of it or of its frame.
-#[derive(Clone, Copy)]
-pub enum Counted {
-    Cells(usize),
-    Refused(u8),
-}
-
 // Checks the stored mask of n cells at `at`, and counts those that it sets.
-pub fn check_mask(form: MaskForm, s: &[u8], at: usize, n: usize) -> Counted
+pub fn check_mask(form: MaskForm, s: &[u8], at: usize, n: usize) -> Result<usize, Refusal>
     requires { at + (mask_form (masks_of form)).size n ≤ length s.now }
-    ensures { told_counted result ≡ counted_in (mask_form (masks_of form)) (stored_mask (mask_form (masks_of form)) s.now at n) n }
+    ensures { told result ≡ counted_in (mask_form (masks_of form)) (stored_mask (mask_form (masks_of form)) s.now at n) n }
 {
     match form {
         MaskForm::Bytes => {
@@ -80,9 +73,9 @@ pub fn check_mask(form: MaskForm, s: &[u8], at: usize, n: usize) -> Counted
         }
         MaskForm::Packed => {
             if !packed::unused_clear(s, at, n) {
-                return Counted::Refused(refusal::UNUSED_BITS);
+                return Err(Refusal::UnusedBits);
             }
-            Counted::Cells(packed::count_packed(s, at, n))
+            Ok(packed::count_packed(s, at, n))
         }
     }
 }

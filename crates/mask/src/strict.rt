@@ -3,11 +3,11 @@ ghost use Rattle.std.specs.Prelude.{◌≡◌, ◌+◌, ◌≤◌, length, drop}
 ghost use Rattle.array.specs.Others.{others};
 ghost use Rattle.codec.specs.Mask.{byte_mask};
 ghost use Rattle.codec.specs.Frame.{count_set};
-ghost use Rattle.mask.specs.Marks.{counted_in, told_counted};
+ghost use Rattle.mask.specs.Marks.{counted_in};
+ghost use Rattle.array.specs.Meaning.{told};
 
-use crate::form::Counted;
 use array::mark::{block_end, one_if_other};
-use array::refusal;
+use array::refusal::Refusal;
 use mask_marks::one_if_set;
 
 // Of a block of mask bytes: how many are set, and how many are over 01.
@@ -36,8 +36,8 @@ fn tally_block(mask: &[u8], from: usize, end: usize) -> Tally
 }
 
 // How many bytes of a stored mask are set; where one is over 01, the refusal of it.
-pub fn count_strict(mask: &[u8]) -> Counted
-    ensures { told_counted result ≡ counted_in byte_mask mask.now (length mask.now) }
+pub fn count_strict(mask: &[u8]) -> Result<usize, Refusal>
+    ensures { told result ≡ counted_in byte_mask mask.now (length mask.now) }
 {
     let mut n: usize = 0;
     let mut at = 0;
@@ -45,10 +45,10 @@ pub fn count_strict(mask: &[u8]) -> Counted
         let end = block_end(at, mask.len());
         let block = tally_block(mask, at, end);
         if 0 < block.other {
-            return Counted::Refused(refusal::MASK_BYTE);
+            return Err(Refusal::MaskByte);
         }
         n += block.set as usize;
         at = end;
     }
-    Counted::Cells(n)
+    Ok(n)
 }

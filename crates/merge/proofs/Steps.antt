@@ -12,7 +12,8 @@ use Rattle.array.specs.Shape.{volume, shape_test}
 use Rattle.array.specs.Subset.{Subset, subsets_of, many_test, cells_of_all}
 use Rattle.array.specs.Cells.{Cell}
 use Rattle.array.specs.Content.{Content, leaves, size_test}
-use Rattle.array.specs.Buffers.{Lengths, lengths_of, enough_test, content_outcome}
+use Rattle.array.specs.declared.answer.Lengths.{Lengths}
+use Rattle.array.specs.Buffers.{lengths_of, enough_test, content_outcome}
 use Rattle.array.proofs.Answers.{then_unless}
 use Rattle.chunks.specs.Gather.{once_test}
 use Rattle.chunks.specs.Chunks.{chunk_cells, merge_of}

@@ -6,7 +6,7 @@ use Rattle.array.specs.Kind.{Kind}
 use Rattle.array.specs.Shape.{volume}
 use Rattle.array.specs.Subset.{Subset, cells_of_all}
 use Rattle.array.specs.Content.{Content}
-use Rattle.array.specs.Buffers.{Lengths}
+use Rattle.array.specs.declared.answer.Lengths.{Lengths}
 use Rattle.chunks.specs.Gather.{once_test}
 use Rattle.merge_output.specs.Stores.{store_answer}
 

@@ -13,7 +13,8 @@ use Rattle.array.specs.Shape.{volume}
 use Rattle.array.specs.Subset.{Subset, subsets_of, SubsetOk, cells_of_all}
 use Rattle.array.specs.Cells.{Cell, blank}
 use Rattle.array.specs.Content.{Content}
-use Rattle.array.specs.Buffers.{Lengths, lengths_of, enough_test, over, content_outcome}
+use Rattle.array.specs.declared.answer.Lengths.{Lengths}
+use Rattle.array.specs.Buffers.{lengths_of, enough_test, over, content_outcome}
 use Rattle.array.specs.Outcome.{content_array}
 use Rattle.array.specs.Places.{fixed_at, offset_at}
 use Rattle.subset.proofs.Subsets.{all_inside}

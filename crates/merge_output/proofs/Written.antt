@@ -11,7 +11,8 @@ use lib.Dec.{leb}
 use borrow.Author.Tests.{le-leb, lt-leb}
 use Rattle.array.specs.Answer.{Answer, gives, refuses, unless, Outcome}
 use Rattle.array.specs.Content.{Content}
-use Rattle.array.specs.Buffers.{Lengths, lengths_of, enough_test, over, content_outcome}
+use Rattle.array.specs.declared.answer.Lengths.{Lengths}
+use Rattle.array.specs.Buffers.{lengths_of, enough_test, over, content_outcome}
 use Rattle.array.specs.Outcome.{content_array}
 use Rattle.array.proofs.LayoutLaws.{content_path}
 

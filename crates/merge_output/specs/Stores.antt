@@ -6,7 +6,8 @@ use Rattle.array.specs.Kind.{Kind}
 use Rattle.array.specs.Shape.{volume}
 use Rattle.array.specs.Subset.{Subset, subsets_of, cells_of_all}
 use Rattle.array.specs.Content.{Content}
-use Rattle.array.specs.Buffers.{Lengths, enough_test, if_room}
+use Rattle.array.specs.declared.answer.Lengths.{Lengths}
+use Rattle.array.specs.Buffers.{enough_test, if_room}
 use Rattle.chunks.specs.Gather.{Once}
 use Rattle.chunks.specs.Chunks.{chunk_cells, merge_of}
 use Rattle.merge_rules.specs.Checks.{MergeChecked}

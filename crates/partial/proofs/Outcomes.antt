@@ -13,7 +13,8 @@ use Rattle.array.specs.Shape.{volume, shape_test}
 use Rattle.array.specs.Subset.{subset_of, numbers_test, cells_in}
 use Rattle.array.specs.Cells.{Value}
 use Rattle.array.specs.Content.{RaggedContent, size_test, end_to_end}
-use Rattle.array.specs.Buffers.{RaggedLengths, ragged_lengths_of, ragged_enough_test, if_room, ragged_outcome}
+use Rattle.array.specs.declared.answer.RaggedLengths.{RaggedLengths}
+use Rattle.array.specs.Buffers.{ragged_lengths_of, ragged_enough_test, if_room, ragged_outcome}
 use Rattle.array.proofs.Rules.{numbers_ok}
 use Rattle.codec.specs.Ragged.{get_ragged}
 use Rattle.stored_index.specs.declared.Index.{Index}

@@ -6,7 +6,8 @@ use Rattle.array.specs.declared.kind.IndexWidth.{IndexWidth}
 use Rattle.array.specs.Answer.{Answer, unless}
 use Rattle.array.specs.Cells.{Value}
 use Rattle.array.specs.Content.{RaggedContent, end_to_end, size_test}
-use Rattle.array.specs.Buffers.{RaggedLengths, ragged_enough_test, if_room}
+use Rattle.array.specs.declared.answer.RaggedLengths.{RaggedLengths}
+use Rattle.array.specs.Buffers.{ragged_enough_test, if_room}
 use Rattle.stored_index.specs.declared.Index.{Index}
 use Rattle.cut_ragged.specs.declared.Source.{Source}
 use Rattle.cut_ragged.specs.declared.Source.TheVariants.{Four, Eight}

@@ -1,7 +1,8 @@
 -- Redundant: no promise of a call rests on it, only the gate's programs do. The lengths that answers name, as three lengths.
 -- Assumes nothing.
 use Rattle.std.specs.Prelude.{ℕ}
-use Rattle.array.specs.Buffers.{Lengths, RaggedLengths}
+use Rattle.array.specs.declared.answer.Lengths.{Lengths}
+use Rattle.array.specs.declared.answer.RaggedLengths.{RaggedLengths}
 
 abbrev pub only_values : ℕ → Lengths
 only_values n = record { masks = 0; values = n; offsets = 0 }

@@ -6,7 +6,8 @@ use Rattle.array.specs.Kind.{Kind, kind_test}
 use Rattle.array.specs.Cells.{Value}
 use Rattle.array.specs.Shape.{volume, shape_test}
 use Rattle.array.specs.Content.{Content, unless_kept}
-use Rattle.array.specs.Buffers.{Lengths, lengths_of, enough_test, content_outcome, if_room}
+use Rattle.array.specs.declared.answer.Lengths.{Lengths}
+use Rattle.array.specs.Buffers.{lengths_of, enough_test, content_outcome, if_room}
 use Rattle.table.specs.Table.{Table, table_kind_test, count_test, table_test, store_test}
 use Rattle.table.specs.Setting.{setting_test, setting_of, settled, sum_after}
 use Rattle.table.specs.Calls.{in_place}

@@ -8,7 +8,6 @@ use Rattle.array.specs.Bytes.{unle}
 use Rattle.codec.specs.Mask.{MaskForm}
 use Rattle.codec.specs.MaskAt.{stored_mask}
 use Rattle.mask.specs.Marks.{counted_in}
-use Rattle.stored_frames.specs.declared.Walked as walks
 
 -- how many cells the content of a frame of n cells has
 unfoldable pub opened : MaskForm → List ℕ → ℕ → Answer ℕ
@@ -34,8 +33,3 @@ walked mf (suc d) s at n = frame_by mf (walked mf d s) s at n
 -- a frame with d levels below it
 unfoldable pub walked_frame : MaskForm → ℕ → List ℕ → ℕ → ℕ → Answer (ℕ × ℕ)
 walked_frame mf d s at n = frame_by mf (walked mf d s) s at n
-
--- what the declared answer means
-abbrev pub told_walk : walks.Walked → Answer (ℕ × ℕ)
-told_walk (walks.Walked.Values at n) = gives (at, n)
-told_walk (walks.Walked.Refused e) = refuses e

@@ -4,57 +4,55 @@
 
 ghost use Rattle.std.specs.Prelude.{◌≡◌, ◌≤◌, length, drop};
 ghost use Rattle.array.specs.Limits.{most_cells};
-ghost use Rattle.array.specs.Meaning.{masks_of};
+ghost use Rattle.array.specs.Meaning.{masks_of, told};
 ghost use Rattle.codec.specs.Mask.{mask_form};
-ghost use Rattle.mask.specs.Marks.{told_counted};
-ghost use Rattle.stored_frames.specs.Walk.{opened, walked, walked_frame, told_walk};
+ghost use Rattle.stored_frames.specs.Walk.{opened, walked, walked_frame};
 
 use array::kind::MaskForm;
-use array::refusal;
-use buffer::field::{Field, read_u64};
-use mask::form::{Counted, check_mask, mask_length};
-
-// The innermost content: where it starts and how many cells it has; none where a level has no cell set.
-#[derive(Clone, Copy)]
-pub enum Walked {
-    Values(usize, usize),
-    Refused(u8),
-}
+use array::refusal::Refusal;
+use buffer::field::read_u64;
+use mask::form::{check_mask, mask_length};
 
 // Opens the frame of so many cells at `at`: how many its content has. Its lengths are compared by what is left, so that no sum wraps.
-pub fn open_frame(form: MaskForm, s: &[u8], at: usize, cells: usize) -> Counted
+pub fn open_frame(form: MaskForm, s: &[u8], at: usize, cells: usize) -> Result<usize, Refusal>
     requires { (at ≤ length s.now) × (cells ≤ most_cells) }
-    ensures { told_counted result ≡ opened (mask_form (masks_of form)) (drop at s.now) cells }
+    ensures { told result ≡ opened (mask_form (masks_of form)) (drop at s.now) cells }
 {
-    let Field::Value(mask) = read_u64(s, at) else {
-        return Counted::Refused(refusal::SHORT);
+    let Ok(mask) = read_u64(s, at) else {
+        return Err(Refusal::Short);
     };
-    let Field::Value(content) = read_u64(s, at + 8) else {
-        return Counted::Refused(refusal::SHORT);
+    let Ok(content) = read_u64(s, at + 8) else {
+        return Err(Refusal::Short);
     };
     let start = at + 16;
     let left = s.len() - start;
     let size = mask_length(form, cells);
     if mask != size as u64 {
-        return Counted::Refused(refusal::LENGTH);
+        return Err(Refusal::Length);
     }
     if left < size {
-        return Counted::Refused(refusal::LENGTH);
+        return Err(Refusal::Length);
     }
     if (left - size) as u64 != content {
-        return Counted::Refused(refusal::LENGTH);
+        return Err(Refusal::Length);
     }
     check_mask(form, s, start, cells)
 }
 
 // Walks a content of so many cells: the values, or a frame again.
 #[cycle(walk_content_walk_frame)]
-pub fn walk_content(form: MaskForm, s: &[u8], at: usize, cells: usize, depth: usize) -> Walked
+pub fn walk_content(
+    form: MaskForm,
+    s: &[u8],
+    at: usize,
+    cells: usize,
+    depth: usize,
+) -> Result<(usize, usize), Refusal>
     requires { (at ≤ length s.now) × (cells ≤ most_cells) }
-    ensures { told_walk result ≡ walked (mask_form (masks_of form)) depth s.now at cells }
+    ensures { told result ≡ walked (mask_form (masks_of form)) depth s.now at cells }
 {
     if depth == 0 {
-        Walked::Values(at, cells)
+        Ok((at, cells))
     } else {
         walk_frame(form, s, at, cells, depth - 1)
     }
@@ -62,22 +60,23 @@ pub fn walk_content(form: MaskForm, s: &[u8], at: usize, cells: usize, depth: us
 
 // Walks a frame of so many cells, with `below` levels in its content. Where none is set its content must be empty.
 #[cycle(walk_content_walk_frame)]
-pub fn walk_frame(form: MaskForm, s: &[u8], at: usize, cells: usize, below: usize) -> Walked
+pub fn walk_frame(
+    form: MaskForm,
+    s: &[u8],
+    at: usize,
+    cells: usize,
+    below: usize,
+) -> Result<(usize, usize), Refusal>
     requires { (at ≤ length s.now) × (cells ≤ most_cells) }
-    ensures { told_walk result ≡ walked_frame (mask_form (masks_of form)) below s.now at cells }
+    ensures { told result ≡ walked_frame (mask_form (masks_of form)) below s.now at cells }
 {
-    let frame = open_frame(form, s, at, cells);
-    match frame {
-        Counted::Refused(e) => Walked::Refused(e),
-        Counted::Cells(set) => {
-            let content = at + (16 + mask_length(form, cells));
-            if set > 0 {
-                walk_content(form, s, content, set, below)
-            } else if content != s.len() {
-                Walked::Refused(refusal::LENGTH)
-            } else {
-                Walked::Values(content, 0)
-            }
-        }
+    let set = open_frame(form, s, at, cells)?;
+    let content = at + (16 + mask_length(form, cells));
+    if set > 0 {
+        walk_content(form, s, content, set, below)
+    } else if content != s.len() {
+        Err(Refusal::Length)
+    } else {
+        Ok((content, 0))
     }
 }

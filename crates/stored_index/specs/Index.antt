@@ -10,8 +10,6 @@ use Rattle.array.specs.Offsets.{last, last_from, RisingFrom, rising_test}
 use Rattle.array.specs.Content.{RaggedContent, size_test}
 use Rattle.codec.specs.Ragged.{part_of, left_of, get_ragged, index_at, data_at}
 use Rattle.stored_index.specs.declared.Index.{Index}
-use Rattle.stored_index.specs.declared.Indexed.{Indexed}
-use Rattle.stored_index.specs.declared.Indexed.TheVariants.{Found, Refused}
 
 -- the first n offsets of width w that the bytes hold
 abbrev pub offsets_in : ℕ → ℕ → List ℕ → List ℕ
@@ -59,11 +57,6 @@ found_in w p s at n = map_answer (located w p s at n) (index_in w p (drop at s) 
 
 unfoldable pub checked_in : ℕ → Place → List ℕ → ℕ → ℕ → Answer Index
 checked_in w p s at n = map_answer (located w p s at n) (last_in (get_ragged w p (drop at s) n))
-
--- what the declared answer means
-abbrev pub told_index : Indexed → Answer Index
-told_index (Found i) = gives i
-told_index (Refused e) = refuses e
 
 -- the values of a checked index
 abbrev pub ragged_at : ℕ → List ℕ → Index → RaggedContent

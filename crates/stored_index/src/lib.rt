@@ -4,16 +4,16 @@
 ghost use Rattle.std.specs.Prelude.{◌≡◌, not, suc, ◌+◌, ◌-◌, ◌*◌, ◌≤◌, ◌<◌, length, drop};
 ghost use Rattle.array.specs.Answer.{map_answer};
 ghost use Rattle.array.specs.Limits.{most_cells};
-ghost use Rattle.array.specs.Meaning.{width_of, place_of};
+ghost use Rattle.array.specs.Meaning.{width_of, place_of, told};
 ghost use Rattle.array.specs.Offsets.{rising_test};
 ghost use Rattle.array.specs.Content.{size_test};
-ghost use Rattle.buffer.specs.Field.{field_at, told_field};
+ghost use Rattle.buffer.specs.Field.{field_at};
 ghost use Rattle.codec.specs.Ragged.{length_at};
-ghost use Rattle.stored_index.specs.Index.{offsets_in, indexed_by, index_with, found_in, checked_in, told_index};
+ghost use Rattle.stored_index.specs.Index.{offsets_in, indexed_by, index_with, found_in, checked_in};
 
 use array::kind::{IndexPlace, IndexWidth, width_bytes};
-use array::refusal;
-use buffer::field::{Field, le_at, read_u64};
+use array::refusal::Refusal;
+use buffer::field::{le_at, read_u64};
 use codec::place::{data_at, index_at, length_at};
 use valid::array_bytes;
 
@@ -24,13 +24,6 @@ pub struct Index {
     pub index: usize,
     pub from: usize,
     pub last: u64,
-}
-
-// What the check of ragged values tells.
-#[derive(Clone, Copy)]
-pub enum Indexed {
-    Found(Index),
-    Refused(u8),
 }
 
 // Bytes of the index of n cells.
@@ -91,19 +84,19 @@ fn check_index(
     n: usize,
     width: IndexWidth,
     count: usize,
-) -> Indexed
+) -> Result<Index, Refusal>
     requires { index + (width_of width + n * width_of width) ≤ length s.now }
-    ensures { told_index result ≡ map_answer (index_with n index from) (indexed_by (offsets_in (width_of width) (suc n) (drop index s.now)) count) }
+    ensures { told result ≡ map_answer (index_with n index from) (indexed_by (offsets_in (width_of width) (suc n) (drop index s.now)) count) }
 {
     let w = width_bytes(width);
     let last = le_at(s, index + n * w, width);
     if last != count as u64 {
-        return Indexed::Refused(refusal::LENGTH);
+        return Err(Refusal::Length);
     }
     if !rise_from_zero(s, index, n, width) {
-        return Indexed::Refused(refusal::FALLING);
+        return Err(Refusal::Falling);
     }
-    Indexed::Found(Index {
+    Ok(Index {
         cells: n,
         index,
         from,
@@ -112,34 +105,40 @@ fn check_index(
 }
 
 // The index length of the ragged values that lie from `at` to the end, or refusal 7 where they are too short for it.
-fn read_length(s: &[u8], at: usize, place: IndexPlace) -> Field
+fn read_length(s: &[u8], at: usize, place: IndexPlace) -> Result<u64, Refusal>
     requires { at ≤ length s.now }
-    ensures { told_field result ≡ field_at 8 7 s.now (at + length_at (place_of place) (length s.now - at)) }
+    ensures { told result ≡ field_at 8 7 s.now (at + length_at (place_of place) (length s.now - at)) }
 {
     let size = s.len() - at;
     if size < 8 {
-        return Field::Refused(refusal::SHORT);
+        return Err(Refusal::Short);
     }
     read_u64(s, at + length_at(place, size))
 }
 
 // Finds the index of the ragged values of n cells that lie from `at` to the end. Whether it fits is told before its length is looked
 // at: no other answer is possible there.
-pub fn find_index(s: &[u8], at: usize, n: usize, width: IndexWidth, place: IndexPlace) -> Indexed
+pub fn find_index(
+    s: &[u8],
+    at: usize,
+    n: usize,
+    width: IndexWidth,
+    place: IndexPlace,
+) -> Result<Index, Refusal>
     requires { (n ≤ most_cells) × (at ≤ length s.now) }
-    ensures { told_index result ≡ found_in (width_of width) (place_of place) s.now at n }
+    ensures { told result ≡ found_in (width_of width) (place_of place) s.now at n }
 {
-    let Field::Value(l) = read_length(s, at, place) else {
-        return Indexed::Refused(refusal::SHORT);
+    let Ok(l) = read_length(s, at, place) else {
+        return Err(Refusal::Short);
     };
     let size = s.len() - at;
     let left = size - 8;
     let length = index_length(n, width);
     if left < length {
-        return Indexed::Refused(refusal::LENGTH);
+        return Err(Refusal::Length);
     }
     if l != length as u64 {
-        return Indexed::Refused(refusal::LENGTH);
+        return Err(Refusal::Length);
     }
     let index = at + index_at(place, size, length);
     let from = at + data_at(place, length);
@@ -147,18 +146,19 @@ pub fn find_index(s: &[u8], at: usize, n: usize, width: IndexWidth, place: Index
 }
 
 // Checks the ragged values of n cells that lie from `at` to the end: their index, and then how many bytes they have.
-pub fn check_ragged(s: &[u8], at: usize, n: usize, width: IndexWidth, place: IndexPlace) -> Indexed
+pub fn check_ragged(
+    s: &[u8],
+    at: usize,
+    n: usize,
+    width: IndexWidth,
+    place: IndexPlace,
+) -> Result<Index, Refusal>
     requires { (n ≤ most_cells) × (at ≤ length s.now) }
-    ensures { told_index result ≡ checked_in (width_of width) (place_of place) s.now at n }
+    ensures { told result ≡ checked_in (width_of width) (place_of place) s.now at n }
 {
-    let found = find_index(s, at, n, width, place);
-    match found {
-        Indexed::Refused(e) => Indexed::Refused(e),
-        Indexed::Found(index) => {
-            if too_large(index.last) {
-                return Indexed::Refused(refusal::SIZE);
-            }
-            Indexed::Found(index)
-        }
+    let index = find_index(s, at, n, width, place)?;
+    if too_large(index.last) {
+        return Err(Refusal::Size);
     }
+    Ok(index)
 }

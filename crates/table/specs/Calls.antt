@@ -6,7 +6,8 @@ use Rattle.array.specs.Lists.{from, pick}
 use Rattle.array.specs.Kind.{Kind}
 use Rattle.array.specs.Cells.{Value}
 use Rattle.array.specs.Content.{Content, layout, rest_form, unless_kept}
-use Rattle.array.specs.Buffers.{Lengths, lengths_of, enough_test, content_outcome, if_room, over}
+use Rattle.array.specs.declared.answer.Lengths.{Lengths}
+use Rattle.array.specs.Buffers.{lengths_of, enough_test, content_outcome, if_room, over}
 use Rattle.array.specs.Places.{sum, offset_at, step_at}
 use Rattle.table.specs.Table.{Table, cell_of, table_kind_test, count_test, table_test, store_test}
 use Rattle.table.specs.Lying.{displaced, moved_cells, packed}

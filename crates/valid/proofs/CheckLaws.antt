@@ -16,12 +16,13 @@ use Rattle.array.specs.Answer.{Answer, gives, refuses, unless, and_then}
 use Rattle.array.specs.Kind.{Kind, fixed, ragged, Order, Place}
 use Rattle.array.specs.Offsets.{last, rising_test, rising_from_test}
 use Rattle.array.specs.Content.{Content, ArrayOk, content_test, values_test, masks_test, array_test, size_test, unless_kept}
-use Rattle.valid.specs.Check.{check_of, told_checked}
-use Rattle.array.specs.Meaning.{form_of, kind_of}
+use Rattle.valid.specs.Check.{check_of}
+use Rattle.std.specs.Prelude.{Result, Ok, Err}
+use Rattle.array.specs.declared.refusal.Refusal.{Refusal}
+use Rattle.array.specs.Meaning.{form_of, kind_of, number_of, told}
 use Rattle.array.specs.declared.kind.Kind as declared
 use Rattle.array.specs.declared.kind.Values.{Values}
-use Rattle.valid.specs.declared.array_bytes.Checked.{Checked}
-use Rattle.array.proofs.Answers.{passed}
+use Rattle.array.proofs.Answers.{passed, told_same}
 use Rattle.array.proofs.Offsets.{last_at}
 use Rattle.array.proofs.Rules.{array_ok, size_ok}
 
@@ -167,9 +168,9 @@ pub record KeepsRules (k : Kind) (n : ℕ) (c : Content) : Type 0 where
   pub array : ArrayOk k n c
   pub small : length c.values ≤ most_bytes
 
-module _ (k : Kind) (n : ℕ) (c : Content) (r : Checked) (e : told_checked r ≡ check_of k n c) where
+module _ (k : Kind) (n : ℕ) (c : Content) (r : Result (Unit {0}) Refusal) (e : told r ≡ check_of k n c) where
   -- the rest after a check that passed, else the check's refusal
-  pub check_then : {A : Type 0} (rest : Answer A) → unless_kept k n c rest ≡ and_then (told_checked r) (λ _. rest)
+  pub check_then : {A : Type 0} (rest : Answer A) → unless_kept k n c rest ≡ and_then (told r) (λ _. rest)
   check_then rest = sym (ap (λ (a : Answer (Unit {0})). and_then a (λ _. rest)) e ∙ go (array_test k n c) (size_test (length c.values)))
     where
       go : (a b : Bool) → and_then (unless a 4 (unless b 5 (gives (tt {0})))) (λ _. rest) ≡ unless a 4 (unless b 5 rest)
@@ -177,15 +178,15 @@ module _ (k : Kind) (n : ℕ) (c : Content) (r : Checked) (e : told_checked r �
       go true false = refl
       go false b = refl
 
-  pub check_refused : {A : Type 0} (rest : Answer A) (number : ℕ) → r ≡ Checked.Refused number → unless_kept k n c rest ≡ refuses number
-  check_refused rest number f = check_then rest ∙ ap (λ (x : Checked). and_then (told_checked x) (λ _. rest)) f
+  pub check_refused : {A : Type 0} (rest : Answer A) (number : Refusal) → r ≡ Err number → unless_kept k n c rest ≡ refuses (number_of number)
+  check_refused rest number f = check_then rest ∙ ap (λ (x : Result (Unit {0}) Refusal). and_then (told x) (λ _. rest)) f
 
-  module _ (f : r ≡ Checked.Valid) where
+  module _ (f : r ≡ Ok tt) where
     pub check_passed : {A : Type 0} (rest : Answer A) → unless_kept k n c rest ≡ rest
-    check_passed rest = check_then rest ∙ ap (λ (x : Checked). and_then (told_checked x) (λ _. rest)) f
+    check_passed rest = check_then rest ∙ ap (λ (x : Result (Unit {0}) Refusal). and_then (told x) (λ _. rest)) f
 
     pub check_valid : KeepsRules k n c
     check_valid =
-        let four = passed (array_test k n c) 4 (unless (size_test (length c.values)) 5 (gives (tt {0}))) (sym e ∙ ap told_checked f) in
+        let four = passed (array_test k n c) 4 (unless (size_test (length c.values)) 5 (gives (tt {0}))) (sym e ∙ told_same f) in
         let five = passed (size_test (length c.values)) 5 (gives (tt {0})) four.1 in
         record { array = array_ok k n c four.0; small = size_ok (length c.values) five.0 }

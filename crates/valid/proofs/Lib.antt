@@ -1,3 +1,3 @@
 pub mod CheckLaws
-pub mod NumberLaws
 pub mod ShapeLaws
+pub mod SizeLaws

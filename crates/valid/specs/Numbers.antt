@@ -2,19 +2,15 @@
 -- Form 0 is fixed and 1 ragged; size is the cell size or the index width; order 0 is little or start, 1 big or end; mask form 0 is bytes and 1
 -- packed. A number outside its range is refusal 1.
 -- Assumes nothing.
-use Rattle.std.specs.Prelude.{ℕ, zero, suc, leb}
-use Rattle.valid.specs.declared.numbers.KindRead as declared
-use Rattle.valid.specs.declared.numbers.IndexRead as index
-use Rattle.array.specs.Answer.{Answer, gives, refuses, and_then, unless, map_answer}
+use Rattle.std.specs.Prelude.{ℕ, leb, Result}
+use Rattle.array.specs.declared.kind.Kind as declared
+use Rattle.array.specs.declared.kind.IndexWidth.{IndexWidth}
+use Rattle.array.specs.declared.kind.IndexPlace.{IndexPlace}
+use Rattle.array.specs.declared.refusal.Refusal.{Refusal}
+use Rattle.array.specs.Answer.{Answer, gives, and_then, unless, map_answer, one_of}
 use Rattle.array.specs.Limits.{most_depth}
 use Rattle.array.specs.Kind.{Kind, Form, fixed, ragged, byte_kind, as_bits, little, big, at_start, at_end, form_test}
-use Rattle.array.specs.Meaning.{kind_of, width_of, place_of}
-
--- the first of two is number 0, the second number 1
-abbrev pub one_of : {A : Type 0} → A → A → ℕ → Answer A
-one_of a b zero = gives a
-one_of a b (suc zero) = gives b
-one_of a b (suc (suc n)) = refuses 1
+use Rattle.array.specs.Meaning.{kind_of, width_of, place_of, told}
 
 abbrev pub fixed_of : ℕ → ℕ → Answer Form
 fixed_of size order = map_answer (fixed size) (one_of little big order)
@@ -40,9 +36,8 @@ unfoldable pub numbered_kind : ℕ → ℕ → ℕ → ℕ → ℕ → Answer Ki
 numbered_kind depth form size order mask = and_then (numbered_byte_kind depth form size order) (masked_by mask)
 
 -- what the declared answer means
-abbrev pub told_kind : declared.KindRead → Answer Kind
-told_kind (declared.KindRead.Kind k) = gives (kind_of k)
-told_kind (declared.KindRead.Refused e) = refuses e
+abbrev pub told_kind : Result declared.Kind Refusal → Answer Kind
+told_kind r = map_answer kind_of (told r)
 
 -- width and place alone, as partial_decode takes them: a ragged form within its range
 abbrev pub within : Form → Answer Form
@@ -51,6 +46,5 @@ within f = unless (form_test f) 1 (gives f)
 abbrev pub numbered_index : ℕ → ℕ → Answer Form
 numbered_index width place = and_then (ragged_of width place) within
 
-abbrev pub told_form : index.IndexRead → Answer Form
-told_form (index.IndexRead.Index w p) = gives (ragged (width_of w) (place_of p))
-told_form (index.IndexRead.Refused e) = refuses e
+abbrev pub told_form : Result (IndexWidth × IndexPlace) Refusal → Answer Form
+told_form r = map_answer (λ i. ragged (width_of i.0) (place_of i.1)) (told r)

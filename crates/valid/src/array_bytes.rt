@@ -4,22 +4,16 @@ ghost use Rattle.std.specs.Prelude.{◌≡◌, ◌&&◌, suc, ◌≤◌, ◌<◌
 ghost use Rattle.array.specs.Limits.{most_cells};
 ghost use Rattle.array.specs.Offsets.{rising_test};
 ghost use Rattle.array.specs.Content.{content_test, array_test};
-ghost use Rattle.array.specs.Meaning.{kind_of};
+ghost use Rattle.array.specs.Meaning.{kind_of, told};
 ghost use Rattle.array.specs.Outcome.{content_array};
-ghost use Rattle.valid.specs.Check.{check_of, told_checked};
+ghost use Rattle.valid.specs.Check.{check_of};
 
 use crate::masks::masks_strict;
 use array::kind::{Kind, Values};
-use array::refusal;
+use array::refusal::Refusal;
 
 // Value bytes of an array at most.
 pub const MOST_BYTES: usize = 16777216;
-
-#[derive(Clone, Copy)]
-pub enum Checked {
-    Valid,
-    Refused(u8),
-}
 
 // Whether none of four steps falls.
 fn four_rise(a: u64, b: u64, c: u64, d: u64, e: u64) -> bool
@@ -111,15 +105,15 @@ pub fn check_array(
     masks: &[u8],
     values: &[u8],
     offsets: &[u64],
-) -> Checked
+) -> Result<(), Refusal>
     requires { cells ≤ most_cells }
-    ensures { told_checked result ≡ check_of (kind_of kind) cells (content_array masks.now values.now offsets.now) }
+    ensures { told result ≡ check_of (kind_of kind) cells (content_array masks.now values.now offsets.now) }
 {
     if !keeps_rules(kind, cells, masks, values, offsets) {
-        return Checked::Refused(refusal::CONTENT);
+        return Err(Refusal::Content);
     }
     if values.len() > MOST_BYTES {
-        return Checked::Refused(refusal::SIZE);
+        return Err(Refusal::Size);
     }
-    Checked::Valid
+    Ok(())
 }

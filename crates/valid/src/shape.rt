@@ -1,8 +1,9 @@
 // How many cells a shape has, and whether it is one.
 ghost use Rattle.std.specs.Prelude.{◌≡◌};
-ghost use Rattle.valid.specs.ShapeCells.{told_cells, shape_answer};
+ghost use Rattle.array.specs.Meaning.{told};
+ghost use Rattle.valid.specs.ShapeCells.{shape_answer};
 
-use array::refusal;
+use array::refusal::Refusal;
 
 // Sides of a shape at most.
 pub const MOST_SIDES: usize = 4;
@@ -10,21 +11,15 @@ pub const MOST_SIDES: usize = 4;
 // Cells of a shape at most.
 pub const MOST_CELLS: u64 = 65536;
 
-#[derive(Clone, Copy)]
-pub enum Cells {
-    Count(usize),
-    Refused(u8),
-}
-
 // The number of cells of a shape. Each side is limited before it is multiplied, so that no product wraps.
-pub fn shape_cells(shape: &[u64]) -> Cells
-    ensures { told_cells result ≡ shape_answer shape.now }
+pub fn shape_cells(shape: &[u64]) -> Result<usize, Refusal>
+    ensures { told result ≡ shape_answer shape.now }
 {
     if shape.len() < 1 {
-        return Cells::Refused(refusal::SHAPE);
+        return Err(Refusal::Shape);
     }
     if MOST_SIDES < shape.len() {
-        return Cells::Refused(refusal::SHAPE);
+        return Err(Refusal::Shape);
     }
     let mut cells: u64 = 1;
     let mut k = shape.len();
@@ -32,15 +27,15 @@ pub fn shape_cells(shape: &[u64]) -> Cells
         k -= 1;
         let side = shape[k];
         if side < 1 {
-            return Cells::Refused(refusal::SHAPE);
+            return Err(Refusal::Shape);
         }
         if MOST_CELLS < side {
-            return Cells::Refused(refusal::SHAPE);
+            return Err(Refusal::Shape);
         }
         if MOST_CELLS < side * cells {
-            return Cells::Refused(refusal::SHAPE);
+            return Err(Refusal::Shape);
         }
         cells = side * cells;
     }
-    Cells::Count(cells as usize)
+    Ok(cells as usize)
 }

@@ -11,7 +11,7 @@ use Rattle.array.specs.Subset.{Subset, pairs, subset_of, cells_in}
 use Rattle.array.specs.Cells.{Value}
 use Rattle.array.specs.Offsets.{ends, offsets_of}
 use Rattle.array.specs.Content.{RaggedContent, end_to_end}
-use Rattle.array.specs.Buffers.{RaggedLengths}
+use Rattle.array.specs.declared.answer.RaggedLengths.{RaggedLengths}
 use Rattle.array.specs.Outcome.{content_ragged}
 use Rattle.array.specs.Places.{bytes_at}
 use Rattle.array.proofs.SubsetLists.{subset_parts}

@@ -1,85 +1,49 @@
 -- `decode` meets its contract: the stages in the order of docs/SPEC.md, S7.2 (Stages).
 -- Assumes nothing.
-use mathlib.Core.Path.{◌≡◌, sym, ap, ◌∙◌, subst}
-use mathlib.Core.Bool.{true}
-use Prim.Native.Nat.{ℕ}
-use borrow.Author.Tests.{not-true, not-false}
-use Rattle.array.specs.Kind.{Form, fixed, FormOk, KindOk, kind_test}
-use Rattle.array.specs.Meaning.{kind_of, form_of, masks_of, order_of}
-use Rattle.array.specs.Content.{Content}
-use Rattle.array.specs.Outcome.{content_array}
+use mathlib.Core.Path.{sym, ap, ◌∙◌, subst}
+use Rattle.std.proofs.lemmas.Result.{err_from_is_err_and}
+use Rattle.array.specs.Limits.{most_cells}
+use Rattle.array.specs.Kind.{FormOk}
+use Rattle.array.specs.Meaning.{kind_of, form_of}
 use Rattle.array.proofs.Rules.{kind_ok}
-use Rattle.codec.specs.Mask.{mask_form}
-use Rattle.codec.specs.Calls.{read_in, decoded}
-use Rattle.valid.specs.ShapeCells.{told_cells}
-use Rattle.decode_planes.specs.Limited.{Limited}
-use Rattle.decode.proofs.Stages.{ShapeCounted, shape_counted, shape_refused, by_kind, by_shape, by_reading}
-use Rattle.array.specs.Buffers.{read_outcome}
+use Rattle.valid.proofs.ShapeLaws.{counted}
+use Rattle.decode.proofs.Stages.{by_kind, by_shape, by_reading}
 use Rattle.decode.proofs.decode.Goals as goal
 
 pub returns-then-not-check_kind : goal.returns-then-not-check_kind
-returns-then-not-check_kind c =
-    let a = c.args in
-    by_kind (kind_of a.kind) a.shape.now a.bytes.now a.masks.now a.values.now a.offsets.now (sym c.check_kind.ensures ∙ not-true c.check_kind.result c.if-not-check_kind.true-raw)
+returns-then-not-check_kind c = by_kind _ _ _ _ _ _ (sym c.if-not-check_kind.ensures)
 
-pub returns-in_default : goal.returns-in_default
-returns-in_default c =
-    let kind_is : kind_test (kind_of c.args.kind) ≡ true =
-    sym c.check_kind.ensures ∙ not-false c.check_kind.result c.if-not-check_kind.false-raw in
-    let a = c.args in
-    by_shape (kind_of a.kind) a.shape.now a.bytes.now a.masks.now a.values.now a.offsets.now kind_is
-    (shape_refused a.shape.now _ (sym c.shape_cells.ensures ∙ ap told_cells c.in_default.is))
+pub returns-in_err-n : goal.returns-in_err-n
+returns-in_err-n c =
+    let p = err_from_is_err_and c.from_residual.result c.from_residual.ensures.1 in
+    rw (p.1, p.2) (by_shape _ _ _ _ _ _ (sym c.if-not-check_kind.ensures) c.in_err-n.ensures)
 
 pub decode_fixed-requires : goal.decode_fixed-requires
+unfolding most_cells
 decode_fixed-requires c =
-    let cells : ℕ = c.in-Count.n in
-    let kind_is : kind_test (kind_of c.args.kind) ≡ true =
-    sym c.check_kind.ensures ∙ not-false c.check_kind.result c.if-not-check_kind.false-raw in
-    let sound : KindOk (kind_of c.args.kind) = kind_ok (kind_of c.args.kind) kind_is in
-    let counted : ShapeCounted c.args.shape.now cells =
-    shape_counted c.args.shape.now cells (sym c.shape_cells.ensures ∙ ap told_cells c.in-Count.is) in
-    let limits : Limited c.args.kind.depth cells = record { some = counted.some; few = counted.few; shallow = sound.shallow } in
-    let sized : FormOk (fixed c.in-Fixed.size (order_of c.in-Fixed.order)) = subst FormOk (ap form_of c.in-Fixed.is) sound.sound in
-    (limits, sized.1)
+    let sound = kind_ok (kind_of c.args.kind) (sym c.if-not-check_kind.ensures) in
+    let n = counted _ _ c.in_ok-n.ensures in
+    (record { some = n.some; few = n.few; shallow = sound.shallow }, (subst FormOk (ap form_of c.in-Fixed.is) sound.sound).1)
 
 pub decode_ragged-requires : goal.decode_ragged-requires
+unfolding most_cells
 decode_ragged-requires c =
-    let cells : ℕ = c.in-Count.n in
-    let kind_is : kind_test (kind_of c.args.kind) ≡ true =
-    sym c.check_kind.ensures ∙ not-false c.check_kind.result c.if-not-check_kind.false-raw in
-    let sound : KindOk (kind_of c.args.kind) = kind_ok (kind_of c.args.kind) kind_is in
-    let counted : ShapeCounted c.args.shape.now cells =
-    shape_counted c.args.shape.now cells (sym c.shape_cells.ensures ∙ ap told_cells c.in-Count.is) in
-    let limits : Limited c.args.kind.depth cells = record { some = counted.some; few = counted.few; shallow = sound.shallow } in
-    limits
+    let sound = kind_ok (kind_of c.args.kind) (sym c.if-not-check_kind.ensures) in
+    let n = counted _ _ c.in_ok-n.ensures in
+    record { some = n.some; few = n.few; shallow = sound.shallow }
 
 pub returns-in-Fixed : goal.returns-in-Fixed
 returns-in-Fixed c =
-    let cells : ℕ = c.in-Count.n in
-    let lent : Content = content_array c.args.masks.now c.args.values.now c.args.offsets.now in
-    let kind_is : kind_test (kind_of c.args.kind) ≡ true =
-    sym c.check_kind.ensures ∙ not-false c.check_kind.result c.if-not-check_kind.false-raw in
-    let counted : ShapeCounted c.args.shape.now cells =
-    shape_counted c.args.shape.now cells (sym c.shape_cells.ensures ∙ ap told_cells c.in-Count.is) in
-    let read :
-    (f : Form) → form_of c.args.kind.values ≡ f →
-    decoded (kind_of c.args.kind) c.args.shape.now c.args.bytes.now lent ≡ read_outcome lent (read_in (mask_form (masks_of c.args.kind.masks)) f c.args.kind.depth cells c.args.bytes.now) =
-    λ f e. let a = c.args in
-    by_reading (kind_of a.kind) a.shape.now a.bytes.now a.masks.now a.values.now a.offsets.now kind_is counted e in
     let a = c.args in
-    rw (read _ (ap form_of c.in-Fixed.is)) (c.decode_fixed.ensures a.offsets.now)
+    c.decode_fixed.ensures a.offsets.now
+    ∙ sym
+    (by_reading (kind_of a.kind) a.shape.now a.bytes.now a.masks.now a.values.now a.offsets.now (sym c.if-not-check_kind.ensures) (counted _ _ c.in_ok-n.ensures)
+    (ap form_of c.in-Fixed.is))
 
 pub returns-in-Ragged : goal.returns-in-Ragged
 returns-in-Ragged c =
-    let cells : ℕ = c.in-Count.n in
-    let lent : Content = content_array c.args.masks.now c.args.values.now c.args.offsets.now in
-    let kind_is : kind_test (kind_of c.args.kind) ≡ true =
-    sym c.check_kind.ensures ∙ not-false c.check_kind.result c.if-not-check_kind.false-raw in
-    let counted : ShapeCounted c.args.shape.now cells =
-    shape_counted c.args.shape.now cells (sym c.shape_cells.ensures ∙ ap told_cells c.in-Count.is) in
-    let read :
-    (f : Form) → form_of c.args.kind.values ≡ f →
-    decoded (kind_of c.args.kind) c.args.shape.now c.args.bytes.now lent ≡ read_outcome lent (read_in (mask_form (masks_of c.args.kind.masks)) f c.args.kind.depth cells c.args.bytes.now) =
-    λ f e. let a = c.args in
-    by_reading (kind_of a.kind) a.shape.now a.bytes.now a.masks.now a.values.now a.offsets.now kind_is counted e in
-    rw (read _ (ap form_of c.in-Ragged.is)) c.decode_ragged.ensures
+    let a = c.args in
+    c.decode_ragged.ensures
+    ∙ sym
+    (by_reading (kind_of a.kind) a.shape.now a.bytes.now a.masks.now a.values.now a.offsets.now (sym c.if-not-check_kind.ensures) (counted _ _ c.in_ok-n.ensures)
+    (ap form_of c.in-Ragged.is))

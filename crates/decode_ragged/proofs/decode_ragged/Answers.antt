@@ -1,18 +1,14 @@
 -- `decode_ragged` meets its contract: the reader's answer by the walk and the check (RaggedLaws), and what the copying rests on.
 -- Assumes nothing.
-use mathlib.Core.Path.{◌≡◌, sym, ap, ◌∙◌}
-use mathlib.Core.Logic.{◌≢◌}
-use Prim.Native.Nat.{ℕ}
+use mathlib.Core.Path.{sym}
 use native.Mathlib.Nat.{le_trans}
 use native.Mathlib.Omega.{arith}
-use Rattle.array.specs.Answer.{gives}
+use Rattle.std.proofs.lemmas.Result.{err_from_is_err_and}
 use Rattle.array.specs.Meaning.{width_of, place_of, masks_of}
 use Rattle.codec.specs.Mask.{mask_form}
-use Rattle.stored_frames.specs.Walk.{walked, told_walk}
-use Rattle.stored_index.specs.Index.{checked_in, told_index}
-use Rattle.stored_frames.proofs.Walks.{WalkPassed, walk_passed}
+use Rattle.stored_frames.proofs.Walks.{walk_passed}
 use Rattle.stored_index.proofs.IndexLaws.{width_most}
-use Rattle.stored_index.proofs.CheckedIndex.{IndexChecked, index_checked, checked_refused}
+use Rattle.stored_index.proofs.CheckedIndex.{index_checked, checked_refused}
 use Rattle.decode_ragged.proofs.RaggedLaws.{none_within, some_within, ragged_refused, ragged_none_set, ragged_wrong, ragged_given}
 use Rattle.decode_ragged.proofs.decode_ragged.Goals as goal
 
@@ -21,111 +17,66 @@ returns-then-depth-eq0 c =
     let a = c.args in
     rw c.if-depth-eq0.true (c.read_flat.ensures (masks_of a.kind.masks) a.masks.now)
 
-pub write_nested-requires : goal.write_nested-requires
-write_nested-requires c =
-    let deep : c.args.kind.depth ≢ 0 = c.if-depth-eq0.false in
-    let walk_is : walked (mask_form (masks_of c.args.kind.masks)) c.args.kind.depth c.args.s.now 0 c.args.n ≡ told_walk c.walk_content-walk.result =
-    sym c.walk_content-walk.ensures in
-    let at : ℕ = c.in-Values.at in
-    let cells : ℕ = c.in-Values.cells in
-    let values_are : walked (mask_form (masks_of c.args.kind.masks)) c.args.kind.depth c.args.s.now 0 c.args.n ≡ gives (at, cells) =
-    walk_is ∙ ap told_walk c.in-Values.is in
-    let passed : WalkPassed (masks_of c.args.kind.masks) c.args.kind.depth c.args.s.now 0 c.args.n at cells =
+pub returns-in_err-at : goal.returns-in_err-at
+returns-in_err-at c =
     let a = c.args in
-    walk_passed (masks_of a.kind.masks) a.kind.depth a.s.now 0 a.n at cells c.requires.some (omega arith) values_are in
-    let a = c.args in record { within = none_within c.requires (width_of a.width) passed (width_most a.width) deep (omega arith); deep = omega (arith, deep) }
+    let p = err_from_is_err_and c.from_residual.result c.from_residual.ensures.1 in
+    rw (
+      p.1,
+      p.2,
+      ragged_refused (mask_form (masks_of a.kind.masks)) (width_of a.width) (place_of a.place) a.s.now a.kind.depth a.n c.requires.some _ (sym c.in_err-at.ensures),
+    )
 
-pub check_ragged-checked-requires : goal.check_ragged-checked-requires
-check_ragged-checked-requires c =
-    let walk_is : walked (mask_form (masks_of c.args.kind.masks)) c.args.kind.depth c.args.s.now 0 c.args.n ≡ told_walk c.walk_content-walk.result =
-    sym c.walk_content-walk.ensures in
-    let at : ℕ = c.in-Values.at in
-    let cells : ℕ = c.in-Values.cells in
-    let values_are : walked (mask_form (masks_of c.args.kind.masks)) c.args.kind.depth c.args.s.now 0 c.args.n ≡ gives (at, cells) =
-    walk_is ∙ ap told_walk c.in-Values.is in
-    let passed : WalkPassed (masks_of c.args.kind.masks) c.args.kind.depth c.args.s.now 0 c.args.n at cells =
+pub write_nested-requires-clause-within : goal.write_nested-requires-clause-within
+write_nested-requires-clause-within c =
     let a = c.args in
-    walk_passed (masks_of a.kind.masks) a.kind.depth a.s.now 0 a.n at cells c.requires.some (omega arith) values_are in
+    let found = c.in_ok-at in
+    let passed = walk_passed (masks_of a.kind.masks) a.kind.depth a.s.now 0 a.n found.at found.cells c.requires.some (omega arith) (sym found.ensures) in
+    none_within c.requires (width_of a.width) passed (width_most a.width) c.if-depth-eq0.false (omega arith)
+
+pub check_ragged-requires : goal.check_ragged-requires
+check_ragged-requires c =
+    let a = c.args in
+    let found = c.in_ok-at in
+    let passed = walk_passed (masks_of a.kind.masks) a.kind.depth a.s.now 0 a.n found.at found.cells c.requires.some (omega arith) (sym found.ensures) in
     (le_trans passed.few c.requires.few, passed.inside)
 
-pub write_nested-requires-in-Found : goal.write_nested-requires-in-Found
-write_nested-requires-in-Found c =
-    let deep : c.args.kind.depth ≢ 0 = c.if-depth-eq0.false in
-    let walk_is : walked (mask_form (masks_of c.args.kind.masks)) c.args.kind.depth c.args.s.now 0 c.args.n ≡ told_walk c.walk_content-walk.result =
-    sym c.walk_content-walk.ensures in
-    let at : ℕ = c.in-Values.at in
-    let cells : ℕ = c.in-Values.cells in
-    let values_are : walked (mask_form (masks_of c.args.kind.masks)) c.args.kind.depth c.args.s.now 0 c.args.n ≡ gives (at, cells) =
-    walk_is ∙ ap told_walk c.in-Values.is in
-    let passed : WalkPassed (masks_of c.args.kind.masks) c.args.kind.depth c.args.s.now 0 c.args.n at cells =
+pub returns-in_err-found : goal.returns-in_err-found
+returns-in_err-found c =
     let a = c.args in
-    walk_passed (masks_of a.kind.masks) a.kind.depth a.s.now 0 a.n at cells c.requires.some (omega arith) values_are in
-    let check_is : let a = c.args in checked_in (width_of a.width) (place_of a.place) a.s.now at cells ≡ told_index c.check_ragged-checked.result =
-    sym c.check_ragged-checked.ensures in
-    let checked_is : let a = c.args in IndexChecked (width_of a.width) (place_of a.place) a.s.now at cells c.in-Found.found =
-    let a = c.args in
-    index_checked (width_of a.width) (place_of a.place) a.s.now at cells c.in-Found.found passed.inside
-    (check_is ∙ ap told_index c.in-Found.is) in
-    let a = c.args in
-    record { within = some_within c.requires (width_of a.width) passed checked_is; deep = omega (arith, deep) }
+    let w = width_of a.width in
+    let place = place_of a.place in
+    let p = err_from_is_err_and c.from_residual-in_err-found.result c.from_residual-in_err-found.ensures.1 in
+    rw (
+      p.1,
+      p.2,
+      ragged_wrong (mask_form (masks_of a.kind.masks)) w place a.s.now a.kind.depth a.n c.requires.some (sym c.in_ok-at.ensures) (omega arith) _
+          (checked_refused w place a.s.now c.in_ok-at.at c.in_ok-at.cells _ (sym c.in_err-found.ensures)),
+    )
 
-pub returns-in-Refused : goal.returns-in-Refused
-returns-in-Refused c =
-    let walk_is : walked (mask_form (masks_of c.args.kind.masks)) c.args.kind.depth c.args.s.now 0 c.args.n ≡ told_walk c.walk_content-walk.result =
-    sym c.walk_content-walk.ensures in
+pub write_nested-requires-else-cells-eq0-clause-within : goal.write_nested-requires-else-cells-eq0-clause-within
+write_nested-requires-else-cells-eq0-clause-within c =
     let a = c.args in
-    rw (ragged_refused (mask_form (masks_of a.kind.masks)) (width_of a.width) (place_of a.place) a.s.now a.kind.depth a.n c.requires.some _
-    (walk_is ∙ ap told_walk c.in-Refused.is))
+    let found = c.in_ok-at in
+    let passed = walk_passed (masks_of a.kind.masks) a.kind.depth a.s.now 0 a.n found.at found.cells c.requires.some (omega arith) (sym found.ensures) in
+    some_within c.requires (width_of a.width) passed
+    (index_checked (width_of a.width) (place_of a.place) a.s.now found.at found.cells c.in_ok-found.found passed.inside (sym c.in_ok-found.ensures))
 
 pub returns-then-cells-eq0 : goal.returns-then-cells-eq0
 returns-then-cells-eq0 c =
-    let walk_is : walked (mask_form (masks_of c.args.kind.masks)) c.args.kind.depth c.args.s.now 0 c.args.n ≡ told_walk c.walk_content-walk.result =
-    sym c.walk_content-walk.ensures in
-    let at : ℕ = c.in-Values.at in
-    let cells : ℕ = c.in-Values.cells in
-    let values_are : walked (mask_form (masks_of c.args.kind.masks)) c.args.kind.depth c.args.s.now 0 c.args.n ≡ gives (at, cells) =
-    walk_is ∙ ap told_walk c.in-Values.is in
     let a = c.args in
     rw
-    (ragged_none_set (mask_form (masks_of a.kind.masks)) (width_of a.width) (place_of a.place) a.s.now a.kind.depth a.n c.requires.some values_are
+    (ragged_none_set (mask_form (masks_of a.kind.masks)) (width_of a.width) (place_of a.place) a.s.now a.kind.depth a.n c.requires.some (sym c.in_ok-at.ensures)
     (omega arith))
     c.write_nested.ensures
 
-pub returns-in-Refused-checked : goal.returns-in-Refused-checked
-returns-in-Refused-checked c =
-    let walk_is : walked (mask_form (masks_of c.args.kind.masks)) c.args.kind.depth c.args.s.now 0 c.args.n ≡ told_walk c.walk_content-walk.result =
-    sym c.walk_content-walk.ensures in
-    let at : ℕ = c.in-Values.at in
-    let cells : ℕ = c.in-Values.cells in
-    let values_are : walked (mask_form (masks_of c.args.kind.masks)) c.args.kind.depth c.args.s.now 0 c.args.n ≡ gives (at, cells) =
-    walk_is ∙ ap told_walk c.in-Values.is in
-    let check_is : let a = c.args in checked_in (width_of a.width) (place_of a.place) a.s.now at cells ≡ told_index c.check_ragged-checked.result =
-    sym c.check_ragged-checked.ensures in
+pub returns-in_ok-found : goal.returns-in_ok-found
+returns-in_ok-found c =
     let a = c.args in
-    rw
-    (ragged_wrong (mask_form (masks_of a.kind.masks)) (width_of a.width) (place_of a.place) a.s.now a.kind.depth a.n c.requires.some values_are
-    (omega arith) _
-    (checked_refused (width_of a.width) (place_of a.place) a.s.now at cells _ (check_is ∙ ap told_index c.in-Refused-checked.is)))
-
-pub returns-in-Found : goal.returns-in-Found
-returns-in-Found c =
-    let walk_is : walked (mask_form (masks_of c.args.kind.masks)) c.args.kind.depth c.args.s.now 0 c.args.n ≡ told_walk c.walk_content-walk.result =
-    sym c.walk_content-walk.ensures in
-    let at : ℕ = c.in-Values.at in
-    let cells : ℕ = c.in-Values.cells in
-    let values_are : walked (mask_form (masks_of c.args.kind.masks)) c.args.kind.depth c.args.s.now 0 c.args.n ≡ gives (at, cells) =
-    walk_is ∙ ap told_walk c.in-Values.is in
-    let passed : WalkPassed (masks_of c.args.kind.masks) c.args.kind.depth c.args.s.now 0 c.args.n at cells =
-    let a = c.args in
-    walk_passed (masks_of a.kind.masks) a.kind.depth a.s.now 0 a.n at cells c.requires.some (omega arith) values_are in
-    let check_is : let a = c.args in checked_in (width_of a.width) (place_of a.place) a.s.now at cells ≡ told_index c.check_ragged-checked.result =
-    sym c.check_ragged-checked.ensures in
-    let checked_is : let a = c.args in IndexChecked (width_of a.width) (place_of a.place) a.s.now at cells c.in-Found.found =
-    let a = c.args in
-    index_checked (width_of a.width) (place_of a.place) a.s.now at cells c.in-Found.found passed.inside
-    (check_is ∙ ap told_index c.in-Found.is) in
-    let a = c.args in
-    rw
-    (ragged_given (mask_form (masks_of a.kind.masks)) (width_of a.width) (place_of a.place) a.s.now a.kind.depth a.n c.requires.some values_are
-    (omega arith) checked_is)
-    c.write_nested-in-Found.ensures
+    let w = width_of a.width in
+    let place = place_of a.place in
+    let found = c.in_ok-at in
+    let passed = walk_passed (masks_of a.kind.masks) a.kind.depth a.s.now 0 a.n found.at found.cells c.requires.some (omega arith) (sym found.ensures) in
+    let checked = index_checked w place a.s.now found.at found.cells c.in_ok-found.found passed.inside (sym c.in_ok-found.ensures) in
+    rw (ragged_given (mask_form (masks_of a.kind.masks)) w place a.s.now a.kind.depth a.n c.requires.some (sym found.ensures) (omega arith) checked)
+    c.write_nested-else-cells-eq0.ensures

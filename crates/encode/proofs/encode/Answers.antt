@@ -1,61 +1,36 @@
 -- `encode::encode` meets its contract: each way it ends has a law.
 -- Assumes nothing.
-use mathlib.Core.Path.{◌≡◌, sym, ap, ◌∙◌}
-use mathlib.Core.Bool.{true}
-use borrow.Author.Tests.{not-true, not-false}
-use Rattle.array.specs.Answer.{gives}
-use Rattle.array.specs.Content.{Content}
-use Rattle.array.specs.Kind.{kind_test}
+use mathlib.Core.Path.{refl, sym, ◌∙◌}
+use Rattle.std.specs.Prelude.{Ok, Err}
+use Rattle.std.proofs.lemmas.Result.{err_from_is_err_and}
 use Rattle.array.specs.Limits.{most_cells}
-use Rattle.array.specs.Meaning.{kind_of}
-use Rattle.array.specs.Outcome.{content_array}
-use Rattle.valid.specs.ShapeCells.{told_cells, shape_answer}
 use Rattle.valid.proofs.ShapeLaws.{counted}
 use Rattle.encode.proofs.Encodes.{encode_kind, encode_shape, encode_content, encode_encodable, encode_rest}
 use Rattle.encode.proofs.encode.Goals as goal
 
 pub returns-then-not-check_kind : goal.returns-then-not-check_kind
-returns-then-not-check_kind c =
-    let held : Content = content_array c.args.masks.now c.args.values.now c.args.offsets.now in
-    encode_kind (kind_of c.args.kind) c.args.shape.now held c.args.out.now (sym c.check_kind.ensures ∙ not-true c.check_kind.result c.if-not-check_kind.true-raw)
+returns-then-not-check_kind c = encode_kind _ _ _ _ (sym c.if-not-check_kind.ensures)
 
-pub returns-in_default : goal.returns-in_default
-returns-in_default c =
-    let held : Content = content_array c.args.masks.now c.args.values.now c.args.offsets.now in
-    let sound : kind_test (kind_of c.args.kind) ≡ true =
-    sym c.check_kind.ensures ∙ not-false c.check_kind.result c.if-not-check_kind.false-raw in
-    encode_shape (kind_of c.args.kind) c.args.shape.now held c.args.out.now sound (sym (ap told_cells c.in_default.is) ∙ c.shape_cells.ensures)
+pub returns-in_err-cells : goal.returns-in_err-cells
+returns-in_err-cells c =
+    let p = err_from_is_err_and c.from_residual.result c.from_residual.ensures.1 in
+    rw (p.1, p.2) (encode_shape _ _ _ _ (sym c.if-not-check_kind.ensures) c.in_err-cells.ensures)
 
-pub check_array-checked-requires : goal.check_array-checked-requires
+pub check_array-requires : goal.check_array-requires
 unfolding most_cells
-check_array-checked-requires c =
-    let shape_is : gives c.in-Count.cells ≡ shape_answer c.args.shape.now = sym (ap told_cells c.in-Count.is) ∙ c.shape_cells.ensures in
-    (counted c.args.shape.now c.in-Count.cells shape_is).few
+check_array-requires c = (counted _ _ c.in_ok-cells.ensures).few
+
+pub returns-in_err-check_array : goal.returns-in_err-check_array
+returns-in_err-check_array c =
+    let p = err_from_is_err_and c.from_residual-in_err-check_array.result c.from_residual-in_err-check_array.ensures.1 in
+    rw (p.1, p.2)
+    (encode_content _ _ _ _ (sym c.if-not-check_kind.ensures) c.in_ok-cells.ensures (Err c.in_err-check_array.field-0.0) c.in_err-check_array.ensures refl)
 
 pub encode_valid-requires : goal.encode_valid-requires
 encode_valid-requires c =
-    let held : Content = content_array c.args.masks.now c.args.values.now c.args.offsets.now in
-    let sound : kind_test (kind_of c.args.kind) ≡ true =
-    sym c.check_kind.ensures ∙ not-false c.check_kind.result c.if-not-check_kind.false-raw in
-    let shape_is : gives c.in-Count.cells ≡ shape_answer c.args.shape.now = sym (ap told_cells c.in-Count.is) ∙ c.shape_cells.ensures in
-    encode_encodable (kind_of c.args.kind) c.args.shape.now held c.args.out.now sound shape_is c.check_array-checked.result c.check_array-checked.ensures
-    c.in-Valid.is
+    encode_encodable _ _ _ c.args.out.now (sym c.if-not-check_kind.ensures) c.in_ok-cells.ensures (Ok tt) c.in_ok-check_array.ensures refl
 
-pub returns-in-Refused : goal.returns-in-Refused
-returns-in-Refused c =
-    let held : Content = content_array c.args.masks.now c.args.values.now c.args.offsets.now in
-    let sound : kind_test (kind_of c.args.kind) ≡ true =
-    sym c.check_kind.ensures ∙ not-false c.check_kind.result c.if-not-check_kind.false-raw in
-    let shape_is : gives c.in-Count.cells ≡ shape_answer c.args.shape.now = sym (ap told_cells c.in-Count.is) ∙ c.shape_cells.ensures in
-    encode_content (kind_of c.args.kind) c.args.shape.now held c.args.out.now sound shape_is c.check_array-checked.result c.check_array-checked.ensures
-    c.in-Refused.is
-
-pub returns-in-Valid : goal.returns-in-Valid
-returns-in-Valid c =
-    let held : Content = content_array c.args.masks.now c.args.values.now c.args.offsets.now in
-    let sound : kind_test (kind_of c.args.kind) ≡ true =
-    sym c.check_kind.ensures ∙ not-false c.check_kind.result c.if-not-check_kind.false-raw in
-    let shape_is : gives c.in-Count.cells ≡ shape_answer c.args.shape.now = sym (ap told_cells c.in-Count.is) ∙ c.shape_cells.ensures in
+pub returns : goal.returns
+returns c =
     c.encode_valid.ensures
-    ∙ encode_rest (kind_of c.args.kind) c.args.shape.now held c.args.out.now sound shape_is c.check_array-checked.result c.check_array-checked.ensures
-    c.in-Valid.is
+    ∙ encode_rest _ _ _ _ (sym c.if-not-check_kind.ensures) c.in_ok-cells.ensures (Ok tt) c.in_ok-check_array.ensures refl

@@ -6,7 +6,7 @@ use Prim.Native.Nat.{◌/◌}
 use native.Mathlib.Omega.{arith}
 use lib.ListN.{length}
 use Rattle.array.specs.Kind.{little}
-use Rattle.valid.proofs.NumberLaws.{size_fits}
+use Rattle.valid.proofs.SizeLaws.{size_fits}
 use Rattle.endian.proofs.Reversing.{ones_reversed}
 use Rattle.array.proofs.Reversed.{reverse-whole}
 use Rattle.endian.proofs.reverse_endianness.Goals as goal

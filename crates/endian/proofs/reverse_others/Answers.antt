@@ -5,7 +5,7 @@ use native.Mathlib.Nat.{div-mul-le_self}
 use native.Mathlib.Omega.{arith}
 use lib.ListN.{length}
 use Rattle.array.specs.Kind.{little}
-use Rattle.valid.proofs.NumberLaws.{size_fits, size_none, size_over}
+use Rattle.valid.proofs.SizeLaws.{size_fits, size_none, size_over}
 use Rattle.array.proofs.Reversed.{reverse_refused, reverse-whole}
 use Rattle.endian.proofs.reverse_others.Goals as goal
 

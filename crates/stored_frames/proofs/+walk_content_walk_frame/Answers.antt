@@ -1,6 +1,6 @@
 -- The walk of contents and frames meets its contracts: an opened frame's mask lies within the bytes (Opening).
 -- Assumes nothing.
-use Rattle.std.proofs.Common.{◌≡◌, ◌≤◌, ◌+◌, ℕ, List, length, drop, length-drop, sym, ap, ◌∙◌, arith}
+use Rattle.std.proofs.Common.{rules, ◌≡◌, ◌≤◌, ◌+◌, ℕ, List, length, drop, length-drop, sym, ap, ◌∙◌, arith}
 use Rattle.array.specs.Answer.{gives}
 use Rattle.array.specs.Kind.{Masks}
 use Rattle.array.specs.Meaning.{masks_of}
@@ -30,30 +30,30 @@ walk_content-returns-else-depth-eq0 t c =
 pub walk_frame-overflow_add-content : goal.walk_frame-overflow_add-content
 walk_frame-overflow_add-content t c =
     let a = c.args in
-    omega (arith, content_room (masks_of a.form) a.s.now a.at a.cells _ _ (sym c.in-Cells.ensures) c.mask_length.ensures (omega arith))
+    omega (arith, content_room (masks_of a.form) a.s.now a.at a.cells _ _ (sym c.in_ok-set.ensures) c.mask_length.ensures (omega arith))
 
-pub walk_frame-overflow_add-content-in-Cells : goal.walk_frame-overflow_add-content-in-Cells
-walk_frame-overflow_add-content-in-Cells t c =
+pub walk_frame-overflow_add-content-2 : goal.walk_frame-overflow_add-content-2
+walk_frame-overflow_add-content-2 t c =
     let a = c.args in
-    omega (arith, content_room (masks_of a.form) a.s.now a.at a.cells _ _ (sym c.in-Cells.ensures) c.mask_length.ensures (omega arith))
+    omega (arith, content_room (masks_of a.form) a.s.now a.at a.cells _ _ (sym c.in_ok-set.ensures) c.mask_length.ensures (omega arith))
 
 pub walk_frame-walk_content-requires : goal.walk_frame-walk_content-requires
 walk_frame-walk_content-requires t c =
     let a = c.args in
     let m : Masks = masks_of a.form in
-    let was_open : opened (mask_form m) (drop a.at a.s.now) a.cells ≡ gives c.in-Cells.set = sym c.in-Cells.ensures in
+    let was_open : opened (mask_form m) (drop a.at a.s.now) a.cells ≡ gives c.in_ok-set.set = sym c.in_ok-set.ensures in
     let room : a.at + (16 + c.mask_length.result) ≤ length a.s.now = content_room m a.s.now a.at a.cells _ _ was_open c.mask_length.ensures (omega arith) in
-    omega (arith, room, (frame_open m (drop a.at a.s.now) a.cells c.in-Cells.set was_open).few)
+    omega (arith, room, (frame_open m (drop a.at a.s.now) a.cells c.in_ok-set.set was_open).few)
 
-pub walk_frame-returns-in-Refused : goal.walk_frame-returns-in-Refused
-walk_frame-returns-in-Refused t c =
-    let a = c.args in frame_refused (mask_form (masks_of a.form)) a.below a.s.now a.at a.cells _ (sym c.in-Refused.ensures)
+pub walk_frame-returns-in_err-set : goal.walk_frame-returns-in_err-set
+walk_frame-returns-in_err-set t c =
+    let a = c.args in let e = frame_refused (mask_form (masks_of a.form)) a.below a.s.now a.at a.cells _ (sym c.in_err-set.ensures) in search rules
 
 pub walk_frame-returns-then-set-gt0 : goal.walk_frame-returns-then-set-gt0
 walk_frame-returns-then-set-gt0 t c =
     let a = c.args in
     let m : Masks = masks_of a.form in
-    let was_open : opened (mask_form m) (drop a.at a.s.now) a.cells ≡ gives c.in-Cells.set = sym c.in-Cells.ensures in
+    let was_open : opened (mask_form m) (drop a.at a.s.now) a.cells ≡ gives c.in_ok-set.set = sym c.in_ok-set.ensures in
     c.walk_content.ensures
     ∙ frame_content (mask_form m) a.below a.s.now a.at a.cells _ was_open (content_is m a.s.now a.at a.cells _ _ was_open c.mask_length.ensures) (omega (arith, c.if-set-gt0.true))
 
@@ -61,7 +61,7 @@ pub walk_frame-returns-then-content-s : goal.walk_frame-returns-then-content-s
 walk_frame-returns-then-content-s t c =
     let a = c.args in
     let m : Masks = masks_of a.form in
-    let was_open : opened (mask_form m) (drop a.at a.s.now) a.cells ≡ gives c.in-Cells.set = sym c.in-Cells.ensures in
+    let was_open : opened (mask_form m) (drop a.at a.s.now) a.cells ≡ gives c.in_ok-set.set = sym c.in_ok-set.ensures in
     let room : a.at + (16 + c.mask_length.result) ≤ length a.s.now = content_room m a.s.now a.at a.cells _ _ was_open c.mask_length.ensures (omega arith) in
     frame_hidden (mask_form m) a.below a.s.now a.at a.cells _ was_open (content_is m a.s.now a.at a.cells _ _ was_open c.mask_length.ensures) (omega (arith, c.if-set-gt0.false))
     (λ e. absurd (omega (arith, room, c.if-content-s.true)))
@@ -70,6 +70,6 @@ pub walk_frame-returns-else-content-s : goal.walk_frame-returns-else-content-s
 walk_frame-returns-else-content-s t c =
     let a = c.args in
     let m : Masks = masks_of a.form in
-    let was_open : opened (mask_form m) (drop a.at a.s.now) a.cells ≡ gives c.in-Cells.set = sym c.in-Cells.ensures in
+    let was_open : opened (mask_form m) (drop a.at a.s.now) a.cells ≡ gives c.in_ok-set.set = sym c.in_ok-set.ensures in
     frame_none (mask_form m) a.below a.s.now a.at a.cells _ was_open (content_is m a.s.now a.at a.cells _ _ was_open c.mask_length.ensures) (omega (arith, c.if-set-gt0.false))
     (omega (arith, c.if-content-s.false))

@@ -8,10 +8,10 @@ use lib.ListN.{length, take, drop, length-drop}
 use Rattle.array.specs.Answer.{Answer, map_answer}
 use Rattle.array.specs.Bytes.{unle}
 use Rattle.array.specs.Kind.{Place}
-use Rattle.array.specs.Meaning.{width_of, place_of}
-use Rattle.buffer.specs.Field.{told_field}
+use Rattle.array.specs.Meaning.{width_of, place_of, told}
 use Rattle.buffer.proofs.Fields.{field_value, field_refused}
 use Rattle.codec.specs.Ragged.{length_at, index_at, data_at}
+use Rattle.array.proofs.Answers.{told_same}
 use Rattle.stored_index.specs.declared.Index.{Index}
 use Rattle.stored_index.specs.Index.{offsets_in, indexed_by, index_check, index_in, index_with, located, found_in}
 use Rattle.stored_index.proofs.IndexLaws.{length_short, read_none, read_short, found_other, found_index}
@@ -27,7 +27,7 @@ returns-in_default c =
     let left : ℕ = length bytes - c.args.at in
     let lies : ℕ = c.args.at + length_at place left in
     let told : Answer ℕ → Answer Index = λ a. map_answer (located width place bytes c.args.at c.args.n) a in
-    let r = field_refused 8 7 bytes lies _ (sym c.read_length.ensures ∙ ap told_field c.in_default.is) in
+    let r = field_refused 8 7 bytes lies _ (sym c.read_length.ensures ∙ told_same c.in_default.is) in
     ap told
     (read_none index_check width c.args.n (drop c.args.at bytes) place
     (omega (arith, length-drop c.args.at bytes, length_short place left (omega (arith, r.0)))))
@@ -38,8 +38,8 @@ overflow_sub-left c =
     let bytes : List ℕ = c.args.s.now in
     let left : ℕ = length bytes - c.args.at in
     let lies : ℕ = c.args.at + length_at place left in
-    let says : ℕ = c.in-Value.l in
-    let field_is : (8 ≤ length bytes - lies) × (says ≡ unle (take 8 (drop lies bytes))) = field_value 8 7 bytes lies says (sym c.read_length.ensures ∙ ap told_field c.in-Value.is) in
+    let says : ℕ = c.in-Ok.l in
+    let field_is : (8 ≤ length bytes - lies) × (says ≡ unle (take 8 (drop lies bytes))) = field_value 8 7 bytes lies says (sym c.read_length.ensures ∙ told_same c.in-Ok.is) in
     let long : 8 ≤ left = omega (arith, field_is.0) in
     long
 
@@ -52,8 +52,8 @@ returns-then-left-length c =
     let left : ℕ = length bytes - c.args.at in
     let lies : ℕ = c.args.at + length_at place left in
     let told : Answer ℕ → Answer Index = λ a. map_answer (located width place bytes c.args.at c.args.n) a in
-    let says : ℕ = c.in-Value.l in
-    let field_is : (8 ≤ length bytes - lies) × (says ≡ unle (take 8 (drop lies bytes))) = field_value 8 7 bytes lies says (sym c.read_length.ensures ∙ ap told_field c.in-Value.is) in
+    let says : ℕ = c.in-Ok.l in
+    let field_is : (8 ≤ length bytes - lies) × (says ≡ unle (take 8 (drop lies bytes))) = field_value 8 7 bytes lies says (sym c.read_length.ensures ∙ told_same c.in-Ok.is) in
     let long : 8 ≤ left = omega (arith, field_is.0) in
     let size_is : c.index_length-length.result ≡ width + c.args.n * width = c.index_length-length.ensures in
     let l = length-drop c.args.at bytes in
@@ -69,8 +69,8 @@ returns-then-l-length c =
     let left : ℕ = length bytes - c.args.at in
     let lies : ℕ = c.args.at + length_at place left in
     let told : Answer ℕ → Answer Index = λ a. map_answer (located width place bytes c.args.at c.args.n) a in
-    let says : ℕ = c.in-Value.l in
-    let field_is : (8 ≤ length bytes - lies) × (says ≡ unle (take 8 (drop lies bytes))) = field_value 8 7 bytes lies says (sym c.read_length.ensures ∙ ap told_field c.in-Value.is) in
+    let says : ℕ = c.in-Ok.l in
+    let field_is : (8 ≤ length bytes - lies) × (says ≡ unle (take 8 (drop lies bytes))) = field_value 8 7 bytes lies says (sym c.read_length.ensures ∙ told_same c.in-Ok.is) in
     let long : 8 ≤ left = omega (arith, field_is.0) in
     let size_is : c.index_length-length.result ≡ width + c.args.n * width = c.index_length-length.ensures in
     ap told
@@ -82,8 +82,8 @@ index_at-requires c =
     let bytes : List ℕ = c.args.s.now in
     let left : ℕ = length bytes - c.args.at in
     let lies : ℕ = c.args.at + length_at place left in
-    let says : ℕ = c.in-Value.l in
-    let field_is : (8 ≤ length bytes - lies) × (says ≡ unle (take 8 (drop lies bytes))) = field_value 8 7 bytes lies says (sym c.read_length.ensures ∙ ap told_field c.in-Value.is) in
+    let says : ℕ = c.in-Ok.l in
+    let field_is : (8 ≤ length bytes - lies) × (says ≡ unle (take 8 (drop lies bytes))) = field_value 8 7 bytes lies says (sym c.read_length.ensures ∙ told_same c.in-Ok.is) in
     let long : 8 ≤ left = omega (arith, field_is.0) in
     omega (arith, long)
 
@@ -94,8 +94,8 @@ overflow_add-index c =
     let bytes : List ℕ = c.args.s.now in
     let left : ℕ = length bytes - c.args.at in
     let lies : ℕ = c.args.at + length_at place left in
-    let says : ℕ = c.in-Value.l in
-    let field_is : (8 ≤ length bytes - lies) × (says ≡ unle (take 8 (drop lies bytes))) = field_value 8 7 bytes lies says (sym c.read_length.ensures ∙ ap told_field c.in-Value.is) in
+    let says : ℕ = c.in-Ok.l in
+    let field_is : (8 ≤ length bytes - lies) × (says ≡ unle (take 8 (drop lies bytes))) = field_value 8 7 bytes lies says (sym c.read_length.ensures ∙ told_same c.in-Ok.is) in
     let long : 8 ≤ left = omega (arith, field_is.0) in
     let size_is : c.index_length-length.result ≡ width + c.args.n * width = c.index_length-length.ensures in
     let there : c.args.at + c.index_at.result + (width + c.args.n * width) ≤ length bytes =
@@ -109,8 +109,8 @@ data_at-requires c =
     let bytes : List ℕ = c.args.s.now in
     let left : ℕ = length bytes - c.args.at in
     let lies : ℕ = c.args.at + length_at place left in
-    let says : ℕ = c.in-Value.l in
-    let field_is : (8 ≤ length bytes - lies) × (says ≡ unle (take 8 (drop lies bytes))) = field_value 8 7 bytes lies says (sym c.read_length.ensures ∙ ap told_field c.in-Value.is) in
+    let says : ℕ = c.in-Ok.l in
+    let field_is : (8 ≤ length bytes - lies) × (says ≡ unle (take 8 (drop lies bytes))) = field_value 8 7 bytes lies says (sym c.read_length.ensures ∙ told_same c.in-Ok.is) in
     let long : 8 ≤ left = omega (arith, field_is.0) in
     let size_is : c.index_length-length.result ≡ width + c.args.n * width = c.index_length-length.ensures in
     let there : c.args.at + c.index_at.result + (width + c.args.n * width) ≤ length bytes =
@@ -123,8 +123,8 @@ overflow_add-from c =
     let bytes : List ℕ = c.args.s.now in
     let left : ℕ = length bytes - c.args.at in
     let lies : ℕ = c.args.at + length_at place left in
-    let says : ℕ = c.in-Value.l in
-    let field_is : (8 ≤ length bytes - lies) × (says ≡ unle (take 8 (drop lies bytes))) = field_value 8 7 bytes lies says (sym c.read_length.ensures ∙ ap told_field c.in-Value.is) in
+    let says : ℕ = c.in-Ok.l in
+    let field_is : (8 ≤ length bytes - lies) × (says ≡ unle (take 8 (drop lies bytes))) = field_value 8 7 bytes lies says (sym c.read_length.ensures ∙ told_same c.in-Ok.is) in
     let long : 8 ≤ left = omega (arith, field_is.0) in
     omega (arith, c.data_at.ensures, data-within place left c.index_length-length.result long (omega arith))
 
@@ -135,8 +135,8 @@ check_index-requires c =
     let bytes : List ℕ = c.args.s.now in
     let left : ℕ = length bytes - c.args.at in
     let lies : ℕ = c.args.at + length_at place left in
-    let says : ℕ = c.in-Value.l in
-    let field_is : (8 ≤ length bytes - lies) × (says ≡ unle (take 8 (drop lies bytes))) = field_value 8 7 bytes lies says (sym c.read_length.ensures ∙ ap told_field c.in-Value.is) in
+    let says : ℕ = c.in-Ok.l in
+    let field_is : (8 ≤ length bytes - lies) × (says ≡ unle (take 8 (drop lies bytes))) = field_value 8 7 bytes lies says (sym c.read_length.ensures ∙ told_same c.in-Ok.is) in
     let long : 8 ≤ left = omega (arith, field_is.0) in
     let size_is : c.index_length-length.result ≡ width + c.args.n * width = c.index_length-length.ensures in
     let there : c.args.at + c.index_at.result + (width + c.args.n * width) ≤ length bytes =
@@ -152,8 +152,8 @@ returns c =
     let left : ℕ = length bytes - c.args.at in
     let lies : ℕ = c.args.at + length_at place left in
     let told : Answer ℕ → Answer Index = λ a. map_answer (located width place bytes c.args.at c.args.n) a in
-    let says : ℕ = c.in-Value.l in
-    let field_is : (8 ≤ length bytes - lies) × (says ≡ unle (take 8 (drop lies bytes))) = field_value 8 7 bytes lies says (sym c.read_length.ensures ∙ ap told_field c.in-Value.is) in
+    let says : ℕ = c.in-Ok.l in
+    let field_is : (8 ≤ length bytes - lies) × (says ≡ unle (take 8 (drop lies bytes))) = field_value 8 7 bytes lies says (sym c.read_length.ensures ∙ told_same c.in-Ok.is) in
     let long : 8 ≤ left = omega (arith, field_is.0) in
     let size_is : c.index_length-length.result ≡ width + c.args.n * width = c.index_length-length.ensures in
     let a = c.args in

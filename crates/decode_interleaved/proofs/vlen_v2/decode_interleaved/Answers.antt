@@ -1,9 +1,9 @@
 -- `interleaved::vlen_v2::decode_interleaved` meets its contract, by the laws of Outcomes: one for each refusal, and one for the cells that the walk found.
 -- Assumes nothing.
-use mathlib.Core.Path.{sym, ap, ◌∙◌}
+use Rattle.std.proofs.lemmas.Result.{err_from_is_err_and}
+use mathlib.Core.Path.{sym, ◌∙◌}
 use native.Mathlib.Omega.{arith}
 use Rattle.array.specs.Limits.{most_cells}
-use Rattle.decode_interleaved.specs.Walk.{told_sum}
 use Rattle.decode_interleaved.proofs.Outcomes.{many_cells, other_count, past_end, walk_found, all_found}
 use Rattle.decode_interleaved.proofs.vlen_v2.decode_interleaved.Goals as goal
 
@@ -17,16 +17,18 @@ returns-then-le4_at-cells c = other_count _ _ _ c.if-cells-gt-MOST_CELLS.false (
 
 pub write_cells-requires : goal.write_cells-requires
 unfolding most_cells
-write_cells-requires c = walk_found _ _ _ c.if-cells-gt-MOST_CELLS.false (sym (ap told_sum c.in-Sum.is) ∙ c.walk_cells-walk.ensures)
+write_cells-requires c = walk_found _ _ _ c.if-cells-gt-MOST_CELLS.false c.in_ok-sum.ensures
 
-pub returns-in-Refused : goal.returns-in-Refused
+pub returns-in_err-sum : goal.returns-in_err-sum
 unfolding most_cells
-returns-in-Refused c =
-    past_end _ _ _ c.if-cells-gt-MOST_CELLS.false (omega arith) (sym c.le4_at.ensures ∙ c.if-le4_at-cells.false) _
-    (sym (ap told_sum c.in-Refused.is) ∙ c.walk_cells-walk.ensures)
+returns-in_err-sum c =
+    let p = err_from_is_err_and c.from_residual.result c.from_residual.ensures.1 in
+    rw (p.1, p.2)
+    (past_end _ _ _ c.if-cells-gt-MOST_CELLS.false (omega arith) (sym c.le4_at.ensures ∙ c.if-le4_at-cells.false) _
+    c.in_err-sum.ensures)
 
-pub returns-in-Sum : goal.returns-in-Sum
+pub returns : goal.returns
 unfolding most_cells
-returns-in-Sum c =
+returns c =
     all_found _ _ _ c.if-cells-gt-MOST_CELLS.false (omega arith) (sym c.le4_at.ensures ∙ c.if-le4_at-cells.false) _
-    (sym (ap told_sum c.in-Sum.is) ∙ c.walk_cells-walk.ensures) c.write_cells.ensures
+    c.in_ok-sum.ensures c.write_cells.ensures

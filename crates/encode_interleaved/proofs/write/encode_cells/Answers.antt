@@ -1,24 +1,29 @@
 -- `interleaved::write::encode_cells` meets its contract, by the laws of Writes.
 -- Assumes nothing.
-use mathlib.Core.Path.{◌∙◌}
+use mathlib.Core.Path.{refl, ◌∙◌}
+use Rattle.std.specs.Prelude.{Ok, Err}
+use Rattle.std.proofs.lemmas.Result.{err_from_is_err_and}
 use Rattle.array.specs.Meaning.{kind_of}
 use Rattle.array.specs.Outcome.{content_array}
-use Rattle.array.specs.Content.{Content}
 use Rattle.encode_interleaved.proofs.Writes.{write_content, write_held, write_rest}
 use Rattle.encode_interleaved.proofs.write.encode_cells.Goals as goal
 
 pub write_cells-requires : goal.write_cells-requires
 write_cells-requires c =
-    let content : Content = content_array c.args.masks.now c.args.values.now c.args.offsets.now in
-    write_held (kind_of c.args.kind) c.args.cells content c.args.out.now c.check_array-checked.ensures c.requires.0 c.in-Valid.is c.requires.1
+    let a = c.args in
+    let content = content_array a.masks.now a.values.now a.offsets.now in
+    write_held (kind_of a.kind) a.cells content a.out.now {r = Ok tt} c.in_ok-check_array.ensures c.requires.0 refl c.requires.1
 
-pub returns-in-Refused : goal.returns-in-Refused
-returns-in-Refused c =
-    let content : Content = content_array c.args.masks.now c.args.values.now c.args.offsets.now in
-    write_content (kind_of c.args.kind) c.args.cells content c.args.out.now c.check_array-checked.ensures c.in-Refused.is
+pub returns-in_err-check_array : goal.returns-in_err-check_array
+returns-in_err-check_array c =
+    let a = c.args in
+    let content = content_array a.masks.now a.values.now a.offsets.now in
+    let p = err_from_is_err_and c.from_residual.result c.from_residual.ensures.1 in
+    rw (p.1, p.2) (write_content (kind_of a.kind) a.cells content a.out.now {r = Err c.in_err-check_array.field-0.0} c.in_err-check_array.ensures refl)
 
-pub returns-in-Valid : goal.returns-in-Valid
-returns-in-Valid c =
-    let content : Content = content_array c.args.masks.now c.args.values.now c.args.offsets.now in
+pub returns : goal.returns
+returns c =
+    let a = c.args in
+    let content = content_array a.masks.now a.values.now a.offsets.now in
     c.write_cells.ensures
-    ∙ write_rest (kind_of c.args.kind) c.args.cells content c.args.out.now c.check_array-checked.ensures c.requires.0 c.in-Valid.is
+    ∙ write_rest (kind_of a.kind) a.cells content a.out.now {r = Ok tt} c.in_ok-check_array.ensures c.requires.0 refl

@@ -1,57 +1,32 @@
 -- `interleaved::write::encode_interleaved` meets its contract: each way it ends has a law in Writes.
 -- Assumes nothing.
-use mathlib.Core.Path.{◌≡◌, sym, ap, ◌∙◌}
-use mathlib.Core.Bool.{true}
-use borrow.Author.Tests.{not-true, not-false}
+use mathlib.Core.Path.{sym, ap, ◌∙◌}
+use Rattle.std.proofs.lemmas.Result.{err_from_is_err_and}
 use Rattle.array.specs.Answer.{gives}
 use Rattle.array.specs.Limits.{most_cells}
-use Rattle.array.specs.Meaning.{kind_of}
-use Rattle.array.specs.Outcome.{content_array}
-use Rattle.array.specs.Content.{Content}
-use Rattle.valid.specs.ShapeCells.{told_cells, shape_answer}
 use Rattle.valid.proofs.ShapeLaws.{counted}
-use Rattle.codec.specs.Interleaved.{interleaved_test}
 use Rattle.encode_interleaved.proofs.Writes.{write_kind, write_shape, write_past}
 use Rattle.encode_interleaved.proofs.write.encode_interleaved.Goals as goal
 
 pub returns-then-not-is_interleaved : goal.returns-then-not-is_interleaved
-returns-then-not-is_interleaved c =
-    let content : Content = content_array c.args.masks.now c.args.values.now c.args.offsets.now in
-    write_kind (kind_of c.args.kind) c.args.shape.now content c.args.out.now
-    (sym c.is_interleaved.ensures ∙ not-true c.is_interleaved.result c.if-not-is_interleaved.true-raw)
+returns-then-not-is_interleaved c = write_kind _ _ _ _ (sym c.if-not-is_interleaved.ensures)
 
-pub returns-in_default : goal.returns-in_default
-returns-in_default c =
-    let content : Content = content_array c.args.masks.now c.args.values.now c.args.offsets.now in
-    let sound : interleaved_test (kind_of c.args.kind) ≡ true = sym c.is_interleaved.ensures ∙ not-false c.is_interleaved.result c.if-not-is_interleaved.false-raw in
-    write_shape (kind_of c.args.kind) c.args.shape.now content c.args.out.now sound
-    (sym (ap told_cells c.in_default.is) ∙ c.shape_cells.ensures)
+pub returns-in_err-cells : goal.returns-in_err-cells
+returns-in_err-cells c =
+    let p = err_from_is_err_and c.from_residual.result c.from_residual.ensures.1 in
+    rw (p.1, p.2) (write_shape _ _ _ _ (sym c.if-not-is_interleaved.ensures) c.in_err-cells.ensures)
 
 pub encode_one-requires : goal.encode_one-requires
-encode_one-requires c =
-    let sound : interleaved_test (kind_of c.args.kind) ≡ true = sym c.is_interleaved.ensures ∙ not-false c.is_interleaved.result c.if-not-is_interleaved.false-raw in
-    sound
+encode_one-requires c = sym c.if-not-is_interleaved.ensures
 
 pub returns-then-cells-eq1 : goal.returns-then-cells-eq1
 returns-then-cells-eq1 c =
-    let content : Content = content_array c.args.masks.now c.args.values.now c.args.offsets.now in
-    let sound : interleaved_test (kind_of c.args.kind) ≡ true = sym c.is_interleaved.ensures ∙ not-false c.is_interleaved.result c.if-not-is_interleaved.false-raw in
-    let shaped : gives c.in-Count.cells ≡ shape_answer c.args.shape.now = sym (ap told_cells c.in-Count.is) ∙ c.shape_cells.ensures in
     c.encode_one.ensures
-    ∙ write_past (kind_of c.args.kind) c.args.shape.now content c.args.out.now sound
-    (ap gives (sym c.if-cells-eq1.true) ∙ shaped)
+    ∙ write_past _ _ _ _ (sym c.if-not-is_interleaved.ensures) (ap gives (sym c.if-cells-eq1.true) ∙ c.in_ok-cells.ensures)
 
 pub encode_cells-requires : goal.encode_cells-requires
 unfolding most_cells
-encode_cells-requires c =
-    let sound : interleaved_test (kind_of c.args.kind) ≡ true = sym c.is_interleaved.ensures ∙ not-false c.is_interleaved.result c.if-not-is_interleaved.false-raw in
-    let shaped : gives c.in-Count.cells ≡ shape_answer c.args.shape.now = sym (ap told_cells c.in-Count.is) ∙ c.shape_cells.ensures in
-    (sound, (counted c.args.shape.now c.in-Count.cells shaped).few)
+encode_cells-requires c = (sym c.if-not-is_interleaved.ensures, (counted _ _ c.in_ok-cells.ensures).few)
 
 pub returns : goal.returns
-returns c =
-    let content : Content = content_array c.args.masks.now c.args.values.now c.args.offsets.now in
-    let sound : interleaved_test (kind_of c.args.kind) ≡ true = sym c.is_interleaved.ensures ∙ not-false c.is_interleaved.result c.if-not-is_interleaved.false-raw in
-    let shaped : gives c.in-Count.cells ≡ shape_answer c.args.shape.now = sym (ap told_cells c.in-Count.is) ∙ c.shape_cells.ensures in
-    c.encode_cells.ensures
-    ∙ write_past (kind_of c.args.kind) c.args.shape.now content c.args.out.now sound shaped
+returns c = c.encode_cells.ensures ∙ write_past _ _ _ _ (sym c.if-not-is_interleaved.ensures) c.in_ok-cells.ensures

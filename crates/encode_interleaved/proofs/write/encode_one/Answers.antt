@@ -1,41 +1,44 @@
 -- `interleaved::write::encode_one` meets its contract, by the laws of Writes.
 -- Assumes nothing.
-use mathlib.Core.Path.{ap, ◌∙◌}
+use mathlib.Core.Path.{refl, ap, ◌∙◌}
 use mathlib.Core.List.{List}
 use native.Mathlib.Omega.{arith}
+use Rattle.std.specs.Prelude.{Ok, Err}
+use Rattle.std.proofs.lemmas.Result.{err_from_is_err_and}
 use Rattle.array.specs.Limits.{most_cells}
+use Rattle.array.specs.Buffers.{put_list}
+use Rattle.array.specs.Cells.{Value}
+use Rattle.codec.specs.Interleaved.{put_interleaved}
+use Rattle.encode_interleaved.proofs.Storing.{one_cell}
 use Rattle.array.specs.Meaning.{kind_of}
 use Rattle.array.specs.Outcome.{content_array}
-use Rattle.array.specs.Cells.{Value}
-use Rattle.array.specs.Content.{Content}
-use Rattle.codec.specs.Interleaved.{put_interleaved}
-use Rattle.encode_interleaved.specs.Held.{Held}
-use Rattle.encode_interleaved.proofs.Storing.{one_cell}
 use Rattle.encode_interleaved.proofs.Writes.{write_content, write_held, write_rest}
-use Rattle.array.specs.Buffers.{put_list}
 use Rattle.encode_interleaved.proofs.write.encode_one.Goals as goal
 
-pub check_array-checked-requires : goal.check_array-checked-requires
+pub check_array-requires : goal.check_array-requires
 unfolding most_cells
-check_array-checked-requires c = omega arith
+check_array-requires c = omega arith
 
 pub write_one-requires : goal.write_one-requires
 unfolding most_cells
 write_one-requires c =
-    let content : Content = content_array c.args.masks.now c.args.values.now c.args.offsets.now in
-    let held : let a = c.args in Held 1 a.values.now a.offsets.now = write_held (kind_of c.args.kind) 1 content c.args.out.now c.check_array-checked.ensures c.requires c.in-Valid.is (omega arith) in
-    (held).small
+    let a = c.args in
+    let content = content_array a.masks.now a.values.now a.offsets.now in
+    (write_held (kind_of a.kind) 1 content a.out.now {r = Ok tt} c.in_ok-check_array.ensures c.requires refl (omega arith)).small
 
-pub returns-in-Refused : goal.returns-in-Refused
-returns-in-Refused c =
-    let content : Content = content_array c.args.masks.now c.args.values.now c.args.offsets.now in
-    write_content (kind_of c.args.kind) 1 content c.args.out.now c.check_array-checked.ensures c.in-Refused.is
+pub returns-in_err-check_array : goal.returns-in_err-check_array
+returns-in_err-check_array c =
+    let a = c.args in
+    let content = content_array a.masks.now a.values.now a.offsets.now in
+    let p = err_from_is_err_and c.from_residual.result c.from_residual.ensures.1 in
+    rw (p.1, p.2) (write_content (kind_of a.kind) 1 content a.out.now {r = Err c.in_err-check_array.field-0.0} c.in_err-check_array.ensures refl)
 
-pub returns-in-Valid : goal.returns-in-Valid
+pub returns : goal.returns
 unfolding most_cells
-returns-in-Valid c =
-    let content : Content = content_array c.args.masks.now c.args.values.now c.args.offsets.now in
-    let held : let a = c.args in Held 1 a.values.now a.offsets.now = write_held (kind_of c.args.kind) 1 content c.args.out.now c.check_array-checked.ensures c.requires c.in-Valid.is (omega arith) in
+returns c =
+    let a = c.args in
+    let content = content_array a.masks.now a.values.now a.offsets.now in
+    let held = write_held (kind_of a.kind) 1 content a.out.now {r = Ok tt} c.in_ok-check_array.ensures c.requires refl (omega arith) in
     c.write_one.ensures
-    ∙ ap (λ (vs : List Value). put_list (put_interleaved vs) c.args.out.now) (one_cell held)
-    ∙ write_rest (kind_of c.args.kind) 1 content c.args.out.now c.check_array-checked.ensures c.requires c.in-Valid.is
+    ∙ ap (λ (vs : List Value). put_list (put_interleaved vs) a.out.now) (one_cell held)
+    ∙ write_rest (kind_of a.kind) 1 content a.out.now {r = Ok tt} c.in_ok-check_array.ensures c.requires refl

@@ -4,29 +4,17 @@ use mathlib.Core.Path.{◌≡◌, ap, ◌∙◌}
 use Prim.Native.Nat.{ℕ, ◌+◌, ◌-◌}
 use native.Mathlib.Omega.{arith}
 use Rattle.load.specs.Generator.{draw_bytes}
-use Rattle.generate.proofs.Drawing.{store_begins, store_ahead, store_same, store_room, store_ends}
+use Rattle.generate.proofs.Drawing.{store_begins, store_ahead, store_ends}
 use Rattle.generate.proofs.cell.draw_part.Goals as goal
 
 pub loop-i-init : goal.loop-i-init
 unfolding draw_bytes
 loop-i-init c = store_begins _ _ _ _ c.requires.0
 
-pub overflow_add-values : goal.overflow_add-values
-overflow_add-values c = omega (arith, store_room c.loop-i.invariant c.loop-i-test.true)
-
-pub bounds-values-to : goal.bounds-values-to
-bounds-values-to c = store_room c.loop-i.invariant c.loop-i-test.true
-
 pub loop-i-preserved : goal.loop-i-preserved
-loop-i-preserved c = store_ahead c.loop-i.invariant c.loop-i-test.true c.state_after.ensures
-
-pub shape_of-values : goal.shape_of-values
-shape_of-values c = store_same c.loop-i.invariant
+loop-i-preserved c = store_ahead c.loop-i.invariant (omega arith) c.state_after.ensures
 
 pub returns : goal.returns
 returns c =
     let all : c.args.n - 1 + 1 ≡ c.args.n = omega (arith, c.requires.1) in
-    record { draws = c.state_after-2.ensures ∙ ap (λ (j : ℕ). (draw_bytes j c.args.first.state).state) all; stores = store_ends c.loop-i.invariant c.loop-i-test.false }
-
-pub state_after-requires : goal.state_after-requires
-state_after-requires c = omega (arith, c.requires.2)
+    record { draws = c.state_after-2.ensures ∙ ap (λ (j : ℕ). (draw_bytes j c.args.first.state).state) all; stores = store_ends c.loop-i.invariant (omega arith) }

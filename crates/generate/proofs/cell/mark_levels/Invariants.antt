@@ -7,6 +7,3 @@ use Rattle.generate.proofs.cell.mark_levels.Given as goal
 
 abbrev pub invariant-loop-set : goal.invariant-loop-set
 invariant-loop-set l = Climbing l.depth l.initial.g.state l.g.state l.set × Marking l.initial.masks l.n l.at l.masks l.set l.place
-
-abbrev pub decreases-loop-set : goal.decreases-loop-set
-decreases-loop-set l = l.depth - l.set

@@ -1,13 +1,11 @@
 -- `cell::skip_bytes` meets its contract, by the laws of Drawing.
 -- Assumes nothing.
-use Rattle.generate.proofs.Drawing.{skip_begins, skip_more, skip_ends}
+use native.Mathlib.Omega.{arith}
+use Rattle.generate.proofs.Drawing.{skip_more, skip_ends}
 use Rattle.generate.proofs.cell.skip_bytes.Goals as goal
 
-pub loop-i-init : goal.loop-i-init
-loop-i-init c = skip_begins _ _
-
-pub loop-i-preserved : goal.loop-i-preserved
-loop-i-preserved c = skip_more c.loop-i.invariant c.draw-drawn.ensures c.loop-i-test.true
+pub loop-preserved : goal.loop-preserved
+loop-preserved c = skip_more c.loop.invariant c.draw.ensures (omega arith)
 
 pub returns : goal.returns
-returns c = skip_ends c.loop-i.invariant c.loop-i-test.false
+returns c = skip_ends c.loop.invariant (omega arith)

@@ -4,22 +4,18 @@ use mathlib.Core.Path.{ap}
 use Prim.Native.Nat.{ℕ}
 use native.Mathlib.Omega.{arith}
 use Rattle.load.specs.Generator.{Drew}
-use Rattle.generate.specs.Cells.{lengthy}
-use Rattle.generate.proofs.Making.{count_begins, count_fits, count_more, count-ends, ragged_small}
+use Rattle.generate.proofs.Making.{count_fits, count_more, count-ends, ragged_small}
 use Rattle.generate.proofs.ragged.count_bytes.Goals as goal
-
-pub loop-at-init : goal.loop-at-init
-loop-at-init c = count_begins lengthy _ _ _
 
 pub overflow_add-sum : goal.overflow_add-sum
 overflow_add-sum c =
-    let fits = count_fits c.loop-at.invariant c.loop-at-test.true in
+    let fits = count_fits c.loop.invariant (omega arith) in
     omega (arith, fits, ap (λ (r : Drew ℕ). r.made) c.skip_cell-value.ensures, ragged_small c.requires c.args.first.state)
 
-pub loop-at-preserved : goal.loop-at-preserved
-loop-at-preserved c =
-    count_more c.loop-at.invariant c.loop-at-test.true (ap (λ (r : Drew ℕ). r.made) c.skip_cell-value.ensures)
+pub loop-preserved : goal.loop-preserved
+loop-preserved c =
+    count_more c.loop.invariant (omega arith) (ap (λ (r : Drew ℕ). r.made) c.skip_cell-value.ensures)
     (ap (λ (r : Drew ℕ). r.state) c.skip_cell-value.ensures)
 
 pub returns : goal.returns
-returns c = count-ends c.loop-at.invariant c.loop-at-test.false
+returns c = count-ends c.loop.invariant (omega arith)

@@ -1,21 +1,14 @@
 -- `ragged::draw_cells` meets its contract, by the laws of Making.
 -- Assumes nothing.
-use mathlib.Core.Path.{◌≡◌, ap, ◌∙◌}
+use mathlib.Core.Path.{◌≡◌, ap}
 use Prim.Native.Nat.{ℕ, ◌*◌}
 use native.Mathlib.Omega.{arith}
-use lib.ListN.{length, length-set}
-use Rattle.array.specs.Limits.{most_cells}
+use lib.ListN.{length}
 use Rattle.load.specs.Generator.{Drew}
 use Rattle.generate.specs.Cells.{lengthy}
-use Rattle.generate.proofs.Making.{make_begins, make_column, make_same, make_room, make_more, make_masks, make_values}
-use Rattle.generate.proofs.Making.{count_fits, count-ends, ragged_small, planes_small, zeros_length, place_begins, place_same, place_room, place_more, place_ends}
+use Rattle.generate.proofs.Making.{make_begins, make_column, make_room, make_more, make_masks, make_values}
+use Rattle.generate.proofs.Making.{count-ends, zeros_length, place_begins, place_more, place_ends}
 use Rattle.generate.proofs.ragged.draw_cells.Goals as goal
-
-pub overflow_mul-depth : goal.overflow_mul-depth
-overflow_mul-depth c = omega (arith, planes_small c.requires.0)
-
-pub fill_bytes-requires : goal.fill_bytes-requires
-fill_bytes-requires c = omega (arith, c.requires.1.for_masks)
 
 pub loop-at-init : goal.loop-at-init
 loop-at-init c =
@@ -26,52 +19,22 @@ loop-at-init c =
       place_begins lengthy a.depth a.n a.first.state a.offsets.now room.for_offsets,
     )
 
-pub offset_bounds-offsets-at : goal.offset_bounds-offsets-at
-unfolding most_cells
-offset_bounds-offsets-at c = omega (arith, c.loop-at.invariant.1.within, c.requires.0.few)
-
-pub bounds-offsets-at : goal.bounds-offsets-at
-bounds-offsets-at c = place_room c.loop-at.invariant.1
-
 pub draw_cell-value-requires : goal.draw_cell-value-requires
 draw_cell-value-requires c =
     let inv = c.loop-at.invariant.0 in
-    (make_column inv c.requires.0 c.loop-at-test.true, make_room inv c.loop-at-test.true)
-
-pub overflow_add-to : goal.overflow_add-to
-overflow_add-to c =
-    let fits = count_fits c.loop-at.invariant.0.counted c.loop-at-test.true in
-    omega (arith, fits, ap (λ (r : Drew ℕ). r.made) c.draw_cell-value.ensures.draws, ragged_small c.requires.0 c.args.first.state)
+    (make_column inv c.requires.0 (omega arith), make_room inv (omega arith))
 
 pub loop-at-preserved : goal.loop-at-preserved
 loop-at-preserved c =
     let bytes = ap (λ (r : Drew ℕ). r.made) c.draw_cell-value.ensures.draws in
     let state = ap (λ (r : Drew ℕ). r.state) c.draw_cell-value.ensures.draws in (
-      make_more c.loop-at.invariant.0 c.loop-at-test.true c.draw_cell-value.ensures.marks c.draw_cell-value.ensures.stores bytes state,
-      place_more c.loop-at.invariant.1 c.loop-at-test.true bytes state,
+      make_more c.loop-at.invariant.0 (omega arith) c.draw_cell-value.ensures.marks c.draw_cell-value.ensures.stores bytes state,
+      place_more c.loop-at.invariant.1 (omega arith) bytes state,
     )
-
-pub offset_bounds-offsets-at-2 : goal.offset_bounds-offsets-at-2
-unfolding most_cells
-offset_bounds-offsets-at-2 c = omega (arith, c.loop-at.invariant.1.within, c.requires.0.few)
-
-pub bounds-offsets-at-2 : goal.bounds-offsets-at-2
-bounds-offsets-at-2 c = place_room c.loop-at.invariant.1
-
-pub shape_of-masks : goal.shape_of-masks
-shape_of-masks c =
-    let zeros_same : length c.fill_bytes.new.out ≡ length c.args.masks.now = let a = c.args in zeros_length (a.depth * a.n) a.masks.now c.requires.1.for_masks c.fill_bytes.ensures in
-    c.loop-at.invariant.0.same ∙ zeros_same
-
-pub shape_of-values : goal.shape_of-values
-shape_of-values c = make_same c.loop-at.invariant.0
-
-pub shape_of-offsets : goal.shape_of-offsets
-shape_of-offsets c = length-set c.loop-at.offsets c.loop-at.at c.loop-at.to ∙ place_same c.loop-at.invariant.1
 
 pub returns : goal.returns
 returns c =
     let inv = c.loop-at.invariant in
     let end = c.loop-at-test.false in
     let masks = make_masks inv.0 end c.args.masks.now c.fill_bytes.ensures c.requires.1.for_masks in
-    record { counts = count-ends inv.0.counted end; planes = masks; joins = make_values inv.0 end; places = place_ends inv.1 end }
+    record { counts = count-ends inv.0.counted end; planes = masks; joins = make_values inv.0 end; places = place_ends inv.1 (omega arith) }

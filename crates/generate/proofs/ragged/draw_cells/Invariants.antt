@@ -9,6 +9,3 @@ use Rattle.generate.proofs.ragged.draw_cells.Given as goal
 abbrev pub invariant-loop-at : goal.invariant-loop-at
 invariant-loop-at l = Making lengthy l.depth l.n l.initial.g.state l.initial.masks l.initial.values l.masks l.values l.g.state l.at l.to × Placing lengthy l.depth l.n
     l.initial.g.state l.initial.offsets l.offsets l.g.state l.at l.to
-
-abbrev pub decreases-loop-at : goal.decreases-loop-at
-decreases-loop-at l = l.n - l.at

@@ -22,7 +22,3 @@ returns c = ap (λ (b : ℕ). leb b c.args.room) c.count_bytes.ensures
 pub overflow_mul-n : goal.overflow_mul-n
 unfolding most_cells
 overflow_mul-n c = search rules
-
-pub count_bytes-requires : goal.count_bytes-requires
-unfolding most_cells
-count_bytes-requires c = search rules

@@ -37,12 +37,6 @@ returns-then-not-has_room c =
     let room = c.has_room in
     no_values load lent bytes refl (leb-false bytes _ (sym room.ensures ∙ not-true room.result c.if-not-has_room.true-raw))
 
-pub draw_cells-bytes-requires : goal.draw_cells-bytes-requires
-draw_cells-bytes-requires c =
-    let bytes : ℕ = bytes_from lengthy c.args.depth c.args.n c.args.first.state in
-    let fits : bytes ≤ length c.args.values.now = let room = c.has_room in leb-true bytes _ (sym room.ensures ∙ not-false room.result c.if-not-has_room.false-raw) in
-    (c.requires, record { for_masks = c.if-masks-planes.false; for_values = fits; for_offsets = c.if-offsets-count.false })
-
 pub returns : goal.returns
 returns c =
     let bytes : ℕ = bytes_from lengthy c.args.depth c.args.n c.args.first.state in
@@ -57,19 +51,3 @@ returns c =
 pub overflow_add-count : goal.overflow_add-count
 unfolding most_cells
 overflow_add-count c = search rules
-
-pub has_room-requires : goal.has_room-requires
-unfolding most_cells
-has_room-requires c = search rules
-
-pub shape_of-masks : goal.shape_of-masks
-unfolding most_cells
-shape_of-masks c = search rules
-
-pub shape_of-values : goal.shape_of-values
-unfolding most_cells
-shape_of-values c = search rules
-
-pub shape_of-offsets : goal.shape_of-offsets
-unfolding most_cells
-shape_of-offsets c = search rules
