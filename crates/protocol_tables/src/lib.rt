@@ -3,7 +3,8 @@
 
 ghost use Rattle.std.specs.Prelude.{◌≡◌, length};
 
-use array::answer::{Written, WrittenArray};
+use array::answer::Lengths;
+use array::refusal::Refusal;
 use requests::Request;
 use requests::asked::head_kind;
 use requests::tables::{TableCall, TableRequest, read_table_line};
@@ -11,9 +12,8 @@ use responses::lent::{LentArray, LentTable};
 use responses::{Outputs, lent, show, tables};
 use std::io;
 use std::io::Write;
-use table::answer::{Previewed, Settled, WrittenTable};
+use table::answer::{Preview, TableLengths};
 use text::scan::number_at;
-use valid::numbers::KindRead;
 
 // Room for the masks or the store of a table. Tables are small, so that all of one takes little of the stack.
 fn table_bytes() -> [u8; 32768]
@@ -29,21 +29,19 @@ fn table_numbers() -> [u64; 8192]
     [0; 8192]
 }
 
-fn make(q: Request<'_>, table: &mut LentTable<'_>) -> WrittenTable {
-    match head_kind(q.head) {
-        KindRead::Refused(e) => WrittenTable::Refused(e),
-        KindRead::Kind(kind) => table_make::make_table(
-            kind,
-            number_at(q.shape, 0) as usize,
-            q.masks,
-            q.values,
-            q.offsets,
-            table.masks,
-            table.starts,
-            table.lengths,
-            table.store,
-        ),
-    }
+fn make(q: Request<'_>, table: &mut LentTable<'_>) -> Result<TableLengths, Refusal> {
+    let kind = head_kind(q.head)?;
+    table_make::make_table(
+        kind,
+        number_at(q.shape, 0) as usize,
+        q.masks,
+        q.values,
+        q.offsets,
+        table.masks,
+        table.starts,
+        table.lengths,
+        table.store,
+    )
 }
 
 pub fn respond_make(out: &mut impl Write, q: Request<'_>) -> io::Result<()> {
@@ -68,21 +66,19 @@ pub fn respond_make(out: &mut impl Write, q: Request<'_>) -> io::Result<()> {
     tables::write_made(out, answer, &table)
 }
 
-fn read(q: TableRequest<'_>, outputs: &mut LentArray<'_>) -> WrittenArray {
-    match head_kind(q.head) {
-        KindRead::Refused(e) => WrittenArray::Refused(e),
-        KindRead::Kind(kind) => table_read::read_table(
-            kind,
-            q.cells,
-            q.table.masks,
-            q.table.starts,
-            q.table.lengths,
-            q.table.store,
-            outputs.masks,
-            outputs.values,
-            outputs.offsets,
-        ),
-    }
+fn read(q: TableRequest<'_>, outputs: &mut LentArray<'_>) -> Result<Lengths, Refusal> {
+    let kind = head_kind(q.head)?;
+    table_read::read_table(
+        kind,
+        q.cells,
+        q.table.masks,
+        q.table.starts,
+        q.table.lengths,
+        q.table.store,
+        outputs.masks,
+        outputs.values,
+        outputs.offsets,
+    )
 }
 
 fn respond_read(out: &mut impl Write, q: TableRequest<'_>) -> io::Result<()> {
@@ -105,54 +101,48 @@ fn respond_read(out: &mut impl Write, q: TableRequest<'_>) -> io::Result<()> {
     responses::write_answer(out, Outputs::Array, answer, None, &outputs)
 }
 
-fn set(q: TableRequest<'_>, cell: u64, table: &mut LentTable<'_>) -> Settled {
-    match head_kind(q.head) {
-        KindRead::Refused(e) => Settled::Refused(e),
-        KindRead::Kind(kind) => table_set::set_cell(
-            kind,
-            q.cells,
-            table.masks,
-            table.starts,
-            table.lengths,
-            table.store,
-            cell as usize,
-            q.cell_masks,
-            q.value,
-        ),
-    }
+fn set(q: TableRequest<'_>, cell: u64, table: &mut LentTable<'_>) -> Result<(), Refusal> {
+    let kind = head_kind(q.head)?;
+    table_set::set_cell(
+        kind,
+        q.cells,
+        table.masks,
+        table.starts,
+        table.lengths,
+        table.store,
+        cell as usize,
+        q.cell_masks,
+        q.value,
+    )
 }
 
 // The masks and the lengths, which the call only reads, are the request's own.
-fn pack(q: TableRequest<'_>, most: u64, table: &mut LentTable<'_>) -> Written {
-    match head_kind(q.head) {
-        KindRead::Refused(e) => Written::Refused(e),
-        KindRead::Kind(kind) => table_pack::pack_table(
-            kind,
-            q.cells,
-            q.table.masks,
-            table.starts,
-            q.table.lengths,
-            table.store,
-            most as usize,
-        ),
-    }
+fn pack(q: TableRequest<'_>, most: u64, table: &mut LentTable<'_>) -> Result<usize, Refusal> {
+    let kind = head_kind(q.head)?;
+    table_pack::pack_table(
+        kind,
+        q.cells,
+        q.table.masks,
+        table.starts,
+        q.table.lengths,
+        table.store,
+        most as usize,
+    )
 }
 
-fn preview(q: TableRequest<'_>, cell: u64) -> Previewed {
-    match head_kind(q.head) {
-        KindRead::Refused(e) => Previewed::Refused(e),
-        KindRead::Kind(kind) => table_preview::preview_cell(
-            kind,
-            q.cells,
-            q.table.masks,
-            q.table.starts,
-            q.table.lengths,
-            q.table.store,
-            cell as usize,
-            q.cell_masks,
-            q.value,
-        ),
-    }
+fn preview(q: TableRequest<'_>, cell: u64) -> Result<Preview, Refusal> {
+    let kind = head_kind(q.head)?;
+    table_preview::preview_cell(
+        kind,
+        q.cells,
+        q.table.masks,
+        q.table.starts,
+        q.table.lengths,
+        q.table.store,
+        cell as usize,
+        q.cell_masks,
+        q.value,
+    )
 }
 
 // Sets a cell or packs, in a table that is lent, and writes the answer.

@@ -2,8 +2,10 @@
 ghost use Rattle.std.specs.Prelude.{◌≡◌, ◌&&◌, ◌≤◌, length, drop, leb, IfSome};
 ghost use Rattle.std.specs.List.{list_all};
 
-use array::answer::WrittenArray;
+use array::answer::Lengths;
+use array::refusal::Refusal;
 use requests::tables::Table;
+use table::answer::TableLengths;
 
 // What every byte and every number of a lent output is beforehand.
 const BLANK: u8 = 238;
@@ -63,18 +65,20 @@ impl LentArray<'_> {
     }
 
     // Whether the outputs beyond some lengths are as they were lent.
-    fn kept_beyond(&self, in_place: Option<&[u8]>, m: usize, v: usize, o: usize) -> bool {
-        all_from(self.masks, m, &BLANK)
-            && kept_values(in_place, self.values, v)
-            && all_from(self.offsets, o, &BLANK_NUMBER)
+    fn kept_beyond(&self, in_place: Option<&[u8]>, lengths: Lengths) -> bool {
+        all_from(self.masks, lengths.masks, &BLANK)
+            && kept_values(in_place, self.values, lengths.values)
+            && all_from(self.offsets, lengths.offsets, &BLANK_NUMBER)
     }
 
     // Whether the outputs are as they were lent beyond the lengths that an answer names; a refusal names none.
-    pub fn kept(&self, in_place: Option<&[u8]>, answer: WrittenArray) -> bool {
-        match answer {
-            WrittenArray::Refused(_) => self.kept_beyond(in_place, 0, 0, 0),
-            WrittenArray::Lengths(m, v, o) => self.kept_beyond(in_place, m, v, o),
-        }
+    pub fn kept(&self, in_place: Option<&[u8]>, answer: Result<Lengths, Refusal>) -> bool {
+        let none = Lengths {
+            masks: 0,
+            values: 0,
+            offsets: 0,
+        };
+        self.kept_beyond(in_place, answer.unwrap_or(none))
     }
 }
 
@@ -113,11 +117,11 @@ impl LentTable<'_> {
     }
 
     // Whether the outputs beyond some lengths are as they were lent.
-    pub fn is_blank_beyond(&self, m: usize, s: usize, l: usize, b: usize) -> bool {
-        all_from(self.masks, m, &BLANK)
-            && all_from(self.starts, s, &BLANK_NUMBER)
-            && all_from(self.lengths, l, &BLANK_NUMBER)
-            && all_from(self.store, b, &BLANK)
+    pub fn is_blank_beyond(&self, lengths: TableLengths) -> bool {
+        all_from(self.masks, lengths.masks, &BLANK)
+            && all_from(self.starts, lengths.starts, &BLANK_NUMBER)
+            && all_from(self.lengths, lengths.lengths, &BLANK_NUMBER)
+            && all_from(self.store, lengths.store, &BLANK)
     }
 }
 
@@ -128,14 +132,6 @@ fn within(n: u64, all: usize) -> Option<usize>
     (n <= all as u64).then_some(n as usize)
 }
 
-// The lengths of the outputs to lend.
-#[derive(Clone, Copy)]
-pub struct Rooms {
-    pub masks: usize,
-    pub values: usize,
-    pub offsets: usize,
-}
-
 // The lengths that a request names; none where one is beyond what there is.
 pub fn rooms_of(
     m: u64,
@@ -144,29 +140,20 @@ pub fn rooms_of(
     masks: usize,
     values: usize,
     offsets: usize,
-) -> Option<Rooms>
+) -> Option<Lengths>
     ensures { IfSome result (λ r. (r.masks ≤ masks) × (r.values ≤ values) × (r.offsets ≤ offsets)) }
 {
     let masks = within(m, masks)?;
     let values = within(v, values)?;
     let offsets = within(o, offsets)?;
-    Some(Rooms {
+    Some(Lengths {
         masks,
         values,
         offsets,
     })
 }
 
-// The same of a working table.
-#[derive(Clone, Copy)]
-pub struct TableRooms {
-    pub masks: usize,
-    pub starts: usize,
-    pub lengths: usize,
-    pub store: usize,
-}
-
-// Masks and store within so many bytes, starts and lengths within so many numbers.
+// The same of a working table: masks and store within so many bytes, starts and lengths within so many numbers.
 pub fn table_rooms(
     m: u64,
     s: u64,
@@ -174,14 +161,14 @@ pub fn table_rooms(
     b: u64,
     bytes: usize,
     numbers: usize,
-) -> Option<TableRooms>
+) -> Option<TableLengths>
     ensures { IfSome result (λ r. (r.masks ≤ bytes) × (r.starts ≤ numbers) × (r.lengths ≤ numbers) × (r.store ≤ bytes)) }
 {
     let masks = within(m, bytes)?;
     let starts = within(s, numbers)?;
     let lengths = within(l, numbers)?;
     let store = within(b, bytes)?;
-    Some(TableRooms {
+    Some(TableLengths {
         masks,
         starts,
         lengths,

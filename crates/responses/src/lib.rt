@@ -9,8 +9,9 @@ pub mod told;
 
 ghost use Rattle.std.specs.Prelude.{◌≤◌, IfSome};
 
-use crate::lent::{LentArray, Rooms};
-use array::answer::WrittenArray;
+use crate::lent::LentArray;
+use array::answer::Lengths;
+use array::refusal::Refusal;
 use print::Listed;
 use requests::call::Call;
 use std::io;
@@ -44,7 +45,7 @@ pub fn rooms_of(
     masks: usize,
     values: usize,
     offsets: usize,
-) -> Option<Rooms>
+) -> Option<Lengths>
     ensures { IfSome result (λ r. (r.masks ≤ masks) × (r.values ≤ values) × (r.offsets ≤ offsets)) }
 {
     if matches!(call, Call::ReverseEndianness) {
@@ -63,11 +64,12 @@ pub fn rooms_of(
 fn write_ok(
     out: &mut impl Write,
     shown: Outputs,
-    m: usize,
-    v: usize,
-    o: usize,
+    lengths: Lengths,
     outputs: &LentArray<'_>,
 ) -> io::Result<()> {
+    let m = lengths.masks;
+    let v = lengths.values;
+    let o = lengths.offsets;
     let masks = Listed(part_of(outputs.masks, 0, m));
     let values = Listed(part_of(outputs.values, 0, v));
     let offsets = Listed(part_of(outputs.offsets, 0, o));
@@ -83,13 +85,13 @@ fn write_ok(
 pub fn write_answer(
     out: &mut impl Write,
     shown: Outputs,
-    answer: WrittenArray,
+    answer: Result<Lengths, Refusal>,
     in_place: Option<&[u8]>,
     outputs: &LentArray<'_>,
 ) -> io::Result<()> {
     match answer {
-        WrittenArray::Refused(e) => write!(out, "refused {e}")?,
-        WrittenArray::Lengths(m, v, o) => write_ok(out, shown, m, v, o, outputs)?,
+        Ok(lengths) => write_ok(out, shown, lengths, outputs)?,
+        Err(e) => show::write_refused(out, e)?,
     }
     show::write_end(out, outputs.kept(in_place, answer))
 }

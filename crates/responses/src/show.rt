@@ -2,7 +2,8 @@
 ghost use Rattle.std.specs.Prelude.{[], ◌∷◌, ◌++◌, OnOk};
 ghost use Rattle.std.specs.Io.KnownBytes.{Appends};
 
-use array::answer::WrittenArray;
+use array::answer::Lengths;
+use array::refusal::Refusal;
 use print::Listed;
 use std::io;
 use std::io::Write;
@@ -39,26 +40,32 @@ pub fn write_lists(
     writeln!(out, "{masks} {values} {offsets}")
 }
 
-pub fn write_refusal(out: &mut impl Write, e: u8) -> io::Result<()> {
-    writeln!(out, "refused {e}")
+pub(crate) fn write_refused(out: &mut impl Write, e: Refusal) -> io::Result<()> {
+    let e = e.number();
+    write!(out, "refused {e}")
+}
+
+pub fn write_refusal(out: &mut impl Write, e: Refusal) -> io::Result<()> {
+    write_refused(out, e)?;
+    write_text(out, b"\n")
 }
 
 // The lists up to the lengths that success names, or the number of the refusal.
 pub fn write_answer(
     out: &mut impl Write,
-    answer: WrittenArray,
+    answer: Result<Lengths, Refusal>,
     masks: &[u8],
     values: &[u8],
     offsets: &[u64],
 ) -> io::Result<()> {
     match answer {
-        WrittenArray::Refused(e) => write_refusal(out, e),
-        WrittenArray::Lengths(m, v, o) => write_lists(
+        Ok(lengths) => write_lists(
             out,
-            part_of(masks, 0, m),
-            part_of(values, 0, v),
-            part_of(offsets, 0, o),
+            part_of(masks, 0, lengths.masks),
+            part_of(values, 0, lengths.values),
+            part_of(offsets, 0, lengths.offsets),
         ),
+        Err(e) => write_refusal(out, e),
     }
 }
 

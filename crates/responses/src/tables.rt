@@ -2,56 +2,69 @@
 // `ok: LISTS` where a cell is set and `ok MOVED: LISTS` where cells are packed, the lists whole; `ok SUM,UNPACKED` where a setting is
 // previewed. Masks before starts before lengths before store; ` spoilt` where a byte beyond the lengths, or any after a refusal, has changed.
 use crate::lent::LentTable;
+use crate::show;
 use crate::show::write_end;
-use array::answer::Written;
+use array::refusal::Refusal;
 use print::Listed;
 use std::io;
 use std::io::Write;
-use table::answer::{Previewed, Settled, WrittenTable};
+use table::answer::{Preview, TableLengths};
 use text::scan::part_of;
 
-fn write_refused(out: &mut impl Write, e: u8, kept: bool) -> io::Result<()> {
-    write!(out, "refused {e}")?;
+fn write_refused(out: &mut impl Write, e: Refusal, kept: bool) -> io::Result<()> {
+    show::write_refused(out, e)?;
     write_end(out, kept)
 }
 
 // The lists of a table up to some lengths, behind what is said of it.
 fn write_lists(
     out: &mut impl Write,
-    m: usize,
-    s: usize,
-    l: usize,
-    b: usize,
+    lengths: TableLengths,
     table: &LentTable<'_>,
 ) -> io::Result<()> {
-    let masks = Listed(part_of(table.masks, 0, m));
-    let starts = Listed(part_of(table.starts, 0, s));
-    let lengths = Listed(part_of(table.lengths, 0, l));
-    let store = Listed(part_of(table.store, 0, b));
-    write!(out, ": {masks} {starts} {lengths} {store}")
+    let masks = Listed(part_of(table.masks, 0, lengths.masks));
+    let starts = Listed(part_of(table.starts, 0, lengths.starts));
+    let sizes = Listed(part_of(table.lengths, 0, lengths.lengths));
+    let store = Listed(part_of(table.store, 0, lengths.store));
+    write!(out, ": {masks} {starts} {sizes} {store}")
 }
 
 // The whole table, and the end of its line.
 fn write_whole(out: &mut impl Write, table: &LentTable<'_>) -> io::Result<()> {
-    let m = table.masks.len();
-    let s = table.starts.len();
-    let l = table.lengths.len();
-    write_lists(out, m, s, l, table.store.len(), table)?;
+    let whole = TableLengths {
+        masks: table.masks.len(),
+        starts: table.starts.len(),
+        lengths: table.lengths.len(),
+        store: table.store.len(),
+    };
+    write_lists(out, whole, table)?;
     write_end(out, true)
 }
 
 // The answer of make_table, and the table up to the lengths that it names.
 pub fn write_made(
     out: &mut impl Write,
-    answer: WrittenTable,
+    answer: Result<TableLengths, Refusal>,
     table: &LentTable<'_>,
 ) -> io::Result<()> {
     match answer {
-        WrittenTable::Refused(e) => write_refused(out, e, table.is_blank_beyond(0, 0, 0, 0)),
-        WrittenTable::Lengths(m, s, l, b) => {
+        Ok(lengths) => {
+            let m = lengths.masks;
+            let s = lengths.starts;
+            let l = lengths.lengths;
+            let b = lengths.store;
             write!(out, "ok {m},{s},{l},{b}")?;
-            write_lists(out, m, s, l, b, table)?;
-            write_end(out, table.is_blank_beyond(m, s, l, b))
+            write_lists(out, lengths, table)?;
+            write_end(out, table.is_blank_beyond(lengths))
+        }
+        Err(e) => {
+            let none = TableLengths {
+                masks: 0,
+                starts: 0,
+                lengths: 0,
+                store: 0,
+            };
+            write_refused(out, e, table.is_blank_beyond(none))
         }
     }
 }
@@ -59,39 +72,39 @@ pub fn write_made(
 // The answer of set_cell, and the table; whether it is as it was handed over is asked where the call refuses.
 pub fn write_settled(
     out: &mut impl Write,
-    answer: Settled,
+    answer: Result<(), Refusal>,
     kept: bool,
     table: &LentTable<'_>,
 ) -> io::Result<()> {
     match answer {
-        Settled::Refused(e) => write_refused(out, e, kept),
-        Settled::Set => {
+        Ok(()) => {
             write!(out, "ok")?;
             write_whole(out, table)
         }
+        Err(e) => write_refused(out, e, kept),
     }
 }
 
 // The answer of pack_table, and the table, likewise.
 pub fn write_packed(
     out: &mut impl Write,
-    answer: Written,
+    answer: Result<usize, Refusal>,
     kept: bool,
     table: &LentTable<'_>,
 ) -> io::Result<()> {
     match answer {
-        Written::Refused(e) => write_refused(out, e, kept),
-        Written::Length(moved) => {
+        Ok(moved) => {
             write!(out, "ok {moved}")?;
             write_whole(out, table)
         }
+        Err(e) => write_refused(out, e, kept),
     }
 }
 
 // The answer of preview_cell, which is lent nothing that it could change.
-pub fn write_previewed(out: &mut impl Write, answer: Previewed) -> io::Result<()> {
+pub fn write_previewed(out: &mut impl Write, answer: Result<Preview, Refusal>) -> io::Result<()> {
     match answer {
-        Previewed::Refused(e) => write_refused(out, e, true),
-        Previewed::After(total, unpacked) => writeln!(out, "ok {total},{unpacked}"),
+        Ok(Preview { total, unpacked }) => writeln!(out, "ok {total},{unpacked}"),
+        Err(e) => write_refused(out, e, true),
     }
 }

@@ -1,7 +1,6 @@
 // A table as a line of text, and what is run on it.
 use crate::way;
 use crate::way::Array;
-use array::answer::WrittenArray;
 use array::kind::Kind;
 use requests::Request;
 use requests::asked::head_kind;
@@ -9,7 +8,6 @@ use responses::show;
 use std::io;
 use std::io::Write;
 use text::scan::part_of;
-use valid::numbers::KindRead;
 
 // Cuts a subset from an outcome.
 fn cut(
@@ -23,7 +21,14 @@ fn cut(
     let mut values = way::byte_space();
     let mut offsets = way::number_space();
     let answer = extract::extract(
-        kind, shape, subset, array.masks, array.values, array.offsets, &mut masks, &mut values,
+        kind,
+        shape,
+        subset,
+        array.masks,
+        array.values,
+        array.offsets,
+        &mut masks,
+        &mut values,
         &mut offsets,
     );
     show::write_cut(out, subset)?;
@@ -58,16 +63,23 @@ fn run_merge(
     let mut values = way::byte_space();
     let mut offsets = way::number_space();
     let answer = merge::merge(
-        kind, q.shape, q.subset, chunks.masks, chunks.values, chunks.offsets, &mut masks,
-        &mut values, &mut offsets,
+        kind,
+        q.shape,
+        q.subset,
+        chunks.masks,
+        chunks.values,
+        chunks.offsets,
+        &mut masks,
+        &mut values,
+        &mut offsets,
     );
     match answer {
-        WrittenArray::Refused(e) => show::write_refusal(out, e),
-        WrittenArray::Lengths(m, v, o) => {
+        Err(e) => show::write_refusal(out, e),
+        Ok(lengths) => {
             let array = Array {
-                masks: part_of(&masks, 0, m),
-                values: part_of(&values, 0, v),
-                offsets: part_of(&offsets, 0, o),
+                masks: part_of(&masks, 0, lengths.masks),
+                values: part_of(&values, 0, lengths.values),
+                offsets: part_of(&offsets, 0, lengths.offsets),
             };
             show_outcome(out, kind, q.shape, cuts, array)
         }
@@ -75,12 +87,7 @@ fn run_merge(
 }
 
 // The whole way of a table, and the cuts from its outcome.
-fn run_way(
-    out: &mut impl Write,
-    kind: Kind,
-    q: Request<'_>,
-    cuts: &[u64],
-) -> io::Result<()> {
+fn run_way(out: &mut impl Write, kind: Kind, q: Request<'_>, cuts: &[u64]) -> io::Result<()> {
     let mut masks = way::mask_space();
     let mut values = way::byte_space();
     let mut offsets = way::number_space();
@@ -90,16 +97,22 @@ fn run_way(
         offsets: q.offsets,
     };
     let reach = way::read_chunks(
-        kind, q.shape, q.subset, table, &mut masks, &mut values, &mut offsets,
+        kind,
+        q.shape,
+        q.subset,
+        table,
+        &mut masks,
+        &mut values,
+        &mut offsets,
     );
     show::write_text(out, b"outcome: ")?;
     match reach {
-        WrittenArray::Refused(e) => show::write_refusal(out, e),
-        WrittenArray::Lengths(m, v, o) => {
+        Err(e) => show::write_refusal(out, e),
+        Ok(lengths) => {
             let chunks = Array {
-                masks: part_of(&masks, 0, m),
-                values: part_of(&values, 0, v),
-                offsets: part_of(&offsets, 0, o),
+                masks: part_of(&masks, 0, lengths.masks),
+                values: part_of(&values, 0, lengths.values),
+                offsets: part_of(&offsets, 0, lengths.offsets),
             };
             run_merge(out, kind, q, chunks, cuts)
         }
@@ -115,7 +128,7 @@ pub fn run_table(out: &mut impl Write, number: u64, line: &[u8]) -> io::Result<(
     };
     show::write_title(out, number, q.head)?;
     match head_kind(q.head) {
-        KindRead::Refused(_) => show::write_text(out, b"bad kind\n"),
-        KindRead::Kind(kind) => run_way(out, kind, q, cuts),
+        Err(_) => show::write_text(out, b"bad kind\n"),
+        Ok(kind) => run_way(out, kind, q, cuts),
     }
 }

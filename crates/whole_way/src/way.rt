@@ -2,8 +2,9 @@
 // EE beforehand, so that a byte which nobody wrote is seen.
 ghost use Rattle.std.specs.Prelude.{◌≡◌, ◌≤◌, length};
 
-use array::answer::{Written, WrittenArray};
+use array::answer::Lengths;
 use array::kind::Kind;
+use array::refusal::Refusal;
 use std::num;
 use text::scan::part_of;
 
@@ -43,25 +44,30 @@ fn store_subset(
     subset: &[u64],
     array: Array<'_>,
     stored: &mut [u8],
-) -> Written {
+) -> Result<usize, Refusal> {
     let mut masks = mask_space();
     let mut values = byte_space();
     let mut offsets = number_space();
-    let cut = extract::extract(
-        kind, shape, subset, array.masks, array.values, array.offsets, &mut masks, &mut values,
+    let answer = extract::extract(
+        kind,
+        shape,
+        subset,
+        array.masks,
+        array.values,
+        array.offsets,
+        &mut masks,
+        &mut values,
         &mut offsets,
     );
-    match cut {
-        WrittenArray::Refused(e) => Written::Refused(e),
-        WrittenArray::Lengths(m, v, o) => encode::encode(
-            kind,
-            part_of(subset, shape.len(), subset.len()),
-            part_of(&masks, 0, m),
-            part_of(&values, 0, v),
-            part_of(&offsets, 0, o),
-            stored,
-        ),
-    }
+    let cut = answer?;
+    encode::encode(
+        kind,
+        part_of(subset, shape.len(), subset.len()),
+        part_of(&masks, 0, cut.masks),
+        part_of(&values, 0, cut.values),
+        part_of(&offsets, 0, cut.offsets),
+        stored,
+    )
 }
 
 // The way of one subset: cut and written, and exactly the bytes written read back.
@@ -73,19 +79,17 @@ fn one_way(
     masks: &mut [u8],
     values: &mut [u8],
     offsets: &mut [u64],
-) -> WrittenArray {
+) -> Result<Lengths, Refusal> {
     let mut stored = byte_space();
-    match store_subset(kind, shape, subset, array, &mut stored) {
-        Written::Refused(e) => WrittenArray::Refused(e),
-        Written::Length(n) => decode::decode(
-            kind,
-            part_of(subset, shape.len(), subset.len()),
-            part_of(&stored, 0, n),
-            masks,
-            values,
-            offsets,
-        ),
-    }
+    let n = store_subset(kind, shape, subset, array, &mut stored)?;
+    decode::decode(
+        kind,
+        part_of(subset, shape.len(), subset.len()),
+        part_of(&stored, 0, n),
+        masks,
+        values,
+        offsets,
+    )
 }
 
 // How many numbers a subset has: a start and a length a side. A shape outside the rules, which every call refuses, counts as one side.
@@ -112,29 +116,26 @@ pub fn read_chunks(
     masks: &mut [u8],
     values: &mut [u8],
     offsets: &mut [u64],
-) -> WrittenArray {
+) -> Result<Lengths, Refusal> {
     let numbers = numbers_of_subset(shape);
-    let mut m = 0;
-    let mut v = 0;
-    let mut o = 0;
+    let mut reach = Lengths {
+        masks: 0,
+        values: 0,
+        offsets: 0,
+    };
     for subset in subsets.chunks(numbers) {
         let chunk = one_way(
             kind,
             shape,
             whole(subset, numbers),
             array,
-            masks.get_mut(m..).unwrap_or_default(),
-            values.get_mut(v..).unwrap_or_default(),
-            offsets.get_mut(o..).unwrap_or_default(),
-        );
-        match chunk {
-            WrittenArray::Refused(_) => return chunk,
-            WrittenArray::Lengths(more_masks, more_values, more_offsets) => {
-                m = num::wrapping_add_usize(m, more_masks);
-                v = num::wrapping_add_usize(v, more_values);
-                o = num::wrapping_add_usize(o, more_offsets);
-            }
-        }
+            masks.get_mut(reach.masks..).unwrap_or_default(),
+            values.get_mut(reach.values..).unwrap_or_default(),
+            offsets.get_mut(reach.offsets..).unwrap_or_default(),
+        )?;
+        reach.masks = num::wrapping_add_usize(reach.masks, chunk.masks);
+        reach.values = num::wrapping_add_usize(reach.values, chunk.values);
+        reach.offsets = num::wrapping_add_usize(reach.offsets, chunk.offsets);
     }
-    WrittenArray::Lengths(m, v, o)
+    Ok(reach)
 }
