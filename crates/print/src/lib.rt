@@ -66,7 +66,11 @@ fn show_each<W: Write, T: Element>(f: &mut Formatter<W>, list: &[T], last: Last)
 }
 
 // Equal elements, as a run where they are many; what stands last then.
-fn show_equal<W: Write, T: Element>(f: &mut Formatter<W>, list: &[T], last: Last) -> Result<Last, fmt::Error> {
+fn show_equal<W: Write, T: Element>(
+    f: &mut Formatter<W>,
+    list: &[T],
+    last: Last,
+) -> Result<Last, fmt::Error> {
     let n = list.len();
     if n < LONG_RUN {
         show_each(f, list, last)?;

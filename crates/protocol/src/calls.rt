@@ -22,9 +22,7 @@ fn run_kind(call: Call, kind: Kind, q: Request<'_>, out: &mut LentArray<'_>) -> 
         Call::EncodeInterleaved => values_told(write::encode_interleaved(
             kind, q.shape, q.masks, q.values, q.offsets, out.values,
         )),
-        Call::Decode => decode::decode(
-            kind, q.shape, q.values, out.masks, out.values, out.offsets,
-        ),
+        Call::Decode => decode::decode(kind, q.shape, q.values, out.masks, out.values, out.offsets),
         Call::Generate => generate::generate(
             kind,
             q.shape,
@@ -34,11 +32,25 @@ fn run_kind(call: Call, kind: Kind, q: Request<'_>, out: &mut LentArray<'_>) -> 
             out.offsets,
         ),
         Call::Extract => extract::extract(
-            kind, q.shape, q.subset, q.masks, q.values, q.offsets, out.masks, out.values,
+            kind,
+            q.shape,
+            q.subset,
+            q.masks,
+            q.values,
+            q.offsets,
+            out.masks,
+            out.values,
             out.offsets,
         ),
         _ => merge::merge(
-            kind, q.shape, q.subset, q.masks, q.values, q.offsets, out.masks, out.values,
+            kind,
+            q.shape,
+            q.subset,
+            q.masks,
+            q.values,
+            q.offsets,
+            out.masks,
+            out.values,
             out.offsets,
         ),
     }
@@ -48,7 +60,13 @@ fn partial_decode(q: Request<'_>, out: &mut LentArray<'_>) -> WrittenArray {
     match numbers::index_from_numbers(number_at(q.head, 0), number_at(q.head, 1)) {
         IndexRead::Refused(e) => WrittenArray::Refused(e),
         IndexRead::Index(width, place) => ragged_told(vlen_partial::partial_decode(
-            width, place, q.shape, q.subset, q.values, out.values, out.offsets,
+            width,
+            place,
+            q.shape,
+            q.subset,
+            q.values,
+            out.values,
+            out.offsets,
         )),
     }
 }
@@ -58,11 +76,15 @@ pub fn run(call: Call, q: Request<'_>, out: &mut LentArray<'_>) -> WrittenArray 
     let first = number_at(q.head, 0);
     match call {
         Call::DecodeInterleaved => ragged_told(vlen_v2::decode_interleaved(
-            first, q.values, out.values, out.offsets,
+            first,
+            q.values,
+            out.values,
+            out.offsets,
         )),
         Call::PartialDecode => partial_decode(q, out),
         Call::ReverseEndianness => values_told(endian::reverse_endianness(
-            first as usize, out.values,
+            first as usize,
+            out.values,
         )),
         Call::SubsetCells => offsets_told(subset::subset_cells(q.shape, q.subset, out.offsets)),
         _ => match head_kind(q.head) {

@@ -1,7 +1,6 @@
 -- Text read digit by digit: what is left of it gives what the whole gives.
 -- Assumes nothing.
 use mathlib.Core.Path.{◌≡◌, refl, sym, ap, ◌∙◌}
-use mathlib.Core.Logic.{◌≢◌}
 use mathlib.Core.List.{List, [], ◌∷◌}
 use Prim.Native.Nat.{ℕ, suc, ◌+◌, ◌≤◌, ◌<◌}
 use native.Mathlib.Omega.{arith}
@@ -10,7 +9,7 @@ use lib.ListN.{length, drop, get_or, drop_of_length-le}
 use lib.Seq.{drop-cons}
 use lib.Dec.{eqb}
 use borrow.Author.Tests.{ne_eqb}
-use Rattle.std.specs.Prelude.{Bool, true, false, ◌==◌, Option, None, Some}
+use Rattle.std.specs.Prelude.{true, false, ◌==◌, Option, None, Some}
 use Rattle.text.specs.Scan.{next_number, go_on, number_from, number_of}
 
 pub number_none : (s : List ℕ) → true ≡ (length s == 0) → None ≡ number_of s

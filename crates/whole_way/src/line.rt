@@ -23,7 +23,14 @@ fn cut(
     let mut values = way::byte_space();
     let mut offsets = way::number_space();
     let answer = extract::extract(
-        kind, shape, subset, array.masks, array.values, array.offsets, &mut masks, &mut values,
+        kind,
+        shape,
+        subset,
+        array.masks,
+        array.values,
+        array.offsets,
+        &mut masks,
+        &mut values,
         &mut offsets,
     );
     show::write_cut(out, subset)?;
@@ -58,8 +65,15 @@ fn run_merge(
     let mut values = way::byte_space();
     let mut offsets = way::number_space();
     let answer = merge::merge(
-        kind, q.shape, q.subset, chunks.masks, chunks.values, chunks.offsets, &mut masks,
-        &mut values, &mut offsets,
+        kind,
+        q.shape,
+        q.subset,
+        chunks.masks,
+        chunks.values,
+        chunks.offsets,
+        &mut masks,
+        &mut values,
+        &mut offsets,
     );
     match answer {
         WrittenArray::Refused(e) => show::write_refusal(out, e),
@@ -75,12 +89,7 @@ fn run_merge(
 }
 
 // The whole way of a table, and the cuts from its outcome.
-fn run_way(
-    out: &mut impl Write,
-    kind: Kind,
-    q: Request<'_>,
-    cuts: &[u64],
-) -> io::Result<()> {
+fn run_way(out: &mut impl Write, kind: Kind, q: Request<'_>, cuts: &[u64]) -> io::Result<()> {
     let mut masks = way::mask_space();
     let mut values = way::byte_space();
     let mut offsets = way::number_space();
@@ -90,7 +99,13 @@ fn run_way(
         offsets: q.offsets,
     };
     let reach = way::read_chunks(
-        kind, q.shape, q.subset, table, &mut masks, &mut values, &mut offsets,
+        kind,
+        q.shape,
+        q.subset,
+        table,
+        &mut masks,
+        &mut values,
+        &mut offsets,
     );
     show::write_text(out, b"outcome: ")?;
     match reach {

@@ -48,7 +48,14 @@ fn store_subset(
     let mut values = byte_space();
     let mut offsets = number_space();
     let cut = extract::extract(
-        kind, shape, subset, array.masks, array.values, array.offsets, &mut masks, &mut values,
+        kind,
+        shape,
+        subset,
+        array.masks,
+        array.values,
+        array.offsets,
+        &mut masks,
+        &mut values,
         &mut offsets,
     );
     match cut {

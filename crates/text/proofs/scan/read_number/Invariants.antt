@@ -1,5 +1,5 @@
 -- The digits from the next on give what all give.
-use Rattle.std.proofs.Common.{length, drop, ◌≡◌}
+use Rattle.std.proofs.Common.{drop, ◌≡◌}
 use Rattle.text.specs.Scan.{number_of, number_from}
 use Rattle.text.proofs.scan.read_number.Given as goal
 
