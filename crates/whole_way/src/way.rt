@@ -103,7 +103,7 @@ pub fn numbers_of_subset(shape: &[u64]) -> usize
 }
 
 // A subset of a list of them; what is too short to be one counts as empty.
-pub fn whole(subset: &[u64], numbers: usize) -> &[u64] {
+pub(crate) fn whole(subset: &[u64], numbers: usize) -> &[u64] {
     if subset.len() == numbers { subset } else { &[] }
 }
 
