@@ -1,183 +1,102 @@
-// Numbers and lists as text: written into a lent text from a place on, and cut off where it is full.
+// Lists of numbers and of bytes as text, `-` where they are empty: numbers are decimal and joined by commas, bytes pairs of hexadecimal
+// digits; COUNT*X is a run of equal ones, and `+` joins runs and plain parts.
 #![tactic(auto)]
 
-ghost use Rattle.std.specs.Prelude.{◌≡◌, ◌≤◌, ◌<◌, length, drop, set};
-ghost use Rattle.print.specs.Print.{Onward, glyph_of, shown_of, shown_part};
-
-use itoa::Buffer;
+use std::fmt;
+use std::fmt::{Formatter, Write};
 
 // From so many equal ones on a list shows a run.
 const LONG_RUN: usize = 5;
 
-// One byte of text.
-pub fn put_byte(text: &mut [u8], at: usize, b: u8) -> usize
-    requires { at ≤ length text.old }
-    ensures stored { text.new ≡ set text.old at b }
-    ensures next { Onward at result (length text.old) }
-{
-    if at < text.len() {
-        text[at] = b;
-        return at + 1;
+// What a list is of.
+pub trait Element: Copy + PartialEq + Drop {
+    // What joins two of them in a plain part.
+    fn joint() -> &'static str;
+
+    // One of them.
+    fn show<W: Write>(self, f: &mut Formatter<W>) -> fmt::Result;
+}
+
+impl Element for u8 {
+    fn joint() -> &'static str {
+        ""
     }
-    at
-}
 
-// Text as it is.
-pub fn put_text(text: &mut [u8], at: usize, s: &[u8]) -> usize
-    requires { at ≤ length text.old }
-    ensures { Onward at result (length text.old) }
-{
-    let mut to = at;
-    let mut i = 0;
-    while i < s.len() {
-        to = put_byte(text, to, s[i]);
-        i += 1;
+    fn show<W: Write>(self, f: &mut Formatter<W>) -> fmt::Result {
+        write!(f, "{self:02X}")
     }
-    to
 }
 
-// A number in decimal.
-pub fn put_number(text: &mut [u8], at: usize, n: u64) -> usize
-    requires { at ≤ length text.old }
-    ensures { Onward at result (length text.old) }
-{
-    let mut digits = Buffer::new();
-    put_text(text, at, digits.format(n).as_bytes())
-}
-
-// A hexadecimal digit, in upper case.
-#[tactic(auto, unfolding(crate::specs::Print::glyph_of))]
-fn glyph(d: u8) -> u8
-    requires { d ≤ 15 }
-    ensures { result ≡ glyph_of d }
-{
-    if d < 10 {
-        return 48 + d;
+impl Element for u64 {
+    fn joint() -> &'static str {
+        ","
     }
-    55 + d
+
+    fn show<W: Write>(self, f: &mut Formatter<W>) -> fmt::Result {
+        write!(f, "{self}")
+    }
 }
 
-// A byte in two hexadecimal digits.
-fn put_hex(text: &mut [u8], at: usize, b: u8) -> usize
-    requires { at ≤ length text.old }
-    ensures { Onward at result (length text.old) }
-{
-    let to = put_byte(text, at, glyph(b / 16));
-    put_byte(text, to, glyph(b % 16))
+// What stands last in the text so far.
+#[derive(Clone, Copy)]
+enum Last {
+    Nothing,
+    Plain,
+    Run,
 }
 
-// How many equal bytes from `at` on are shown as one part: a long run, or one.
-fn run_of_bytes(s: &[u8], at: usize) -> usize
-    requires { at < length s.now }
-    ensures { result ≡ shown_part (drop at s.now) }
-{
-    let mut i = at;
-    while i < s.len() {
-        if s[i] != s[at] {
-            return shown(i - at);
+// What joins an element to it.
+fn joint<T: Element>(last: Last) -> &'static str {
+    match last {
+        Last::Nothing => "",
+        Last::Plain => T::joint(),
+        Last::Run => "+",
+    }
+}
+
+// Elements one by one.
+fn show_each<W: Write, T: Element>(f: &mut Formatter<W>, list: &[T], last: Last) -> fmt::Result {
+    let mut before = joint::<T>(last);
+    for x in list {
+        write!(f, "{before}")?;
+        x.show(f)?;
+        before = T::joint();
+    }
+    Ok(())
+}
+
+// Equal elements, as a run where they are many; what stands last then.
+fn show_equal<W: Write, T: Element>(
+    f: &mut Formatter<W>,
+    list: &[T],
+    last: Last,
+) -> Result<Last, fmt::Error> {
+    let n = list.len();
+    if n < LONG_RUN {
+        show_each(f, list, last)?;
+        return Ok(Last::Plain);
+    }
+    if !matches!(last, Last::Nothing) {
+        write!(f, "+")?;
+    }
+    write!(f, "{n}*")?;
+    list[0].show(f)?;
+    Ok(Last::Run)
+}
+
+// A list that shows as text.
+#[derive(Clone, Copy)]
+pub struct Listed<'a, T>(pub &'a [T]);
+
+impl<T: Element> fmt::Display for Listed<'_, T> {
+    fn fmt<W: Write>(&self, f: &mut Formatter<W>) -> fmt::Result {
+        if self.0.is_empty() {
+            return write!(f, "-");
         }
-        i += 1;
-    }
-    shown(i - at)
-}
-
-fn run_of_numbers(s: &[u64], at: usize) -> usize
-    requires { at < length s.now }
-    ensures { result ≡ shown_part (drop at s.now) }
-{
-    let mut i = at;
-    while i < s.len() {
-        if s[i] != s[at] {
-            return shown(i - at);
+        let mut last = Last::Nothing;
+        for equal in self.0.chunk_by(|a, b| a == b) {
+            last = show_equal(f, equal, last)?;
         }
-        i += 1;
+        Ok(())
     }
-    shown(i - at)
-}
-
-// How many of n equal ones are shown as one part.
-#[tactic(auto, unfolding(crate::specs::Print::shown_of))]
-fn shown(n: usize) -> usize
-    ensures { result ≡ shown_of n }
-{
-    if n < LONG_RUN { 1 } else { n }
-}
-
-// What joins a part of n equal ones to those before it, `before` of them, the last in a plain part or not; 0 where nothing does.
-fn joint(before: usize, plain: bool, n: usize, comma: bool) -> u8 {
-    if before == 0 {
-        return 0;
-    }
-    if !plain {
-        return b'+';
-    }
-    if n != 1 {
-        return b'+';
-    }
-    if comma { b',' } else { 0 }
-}
-
-fn put_joint(text: &mut [u8], at: usize, joint: u8) -> usize
-    requires { at ≤ length text.old }
-    ensures { Onward at result (length text.old) }
-{
-    if joint == 0 {
-        return at;
-    }
-    put_byte(text, at, joint)
-}
-
-// The head of a part of n equal ones: what joins it, and the count of a run.
-fn put_head(text: &mut [u8], at: usize, joint: u8, n: usize) -> usize
-    requires { at ≤ length text.old }
-    ensures { Onward at result (length text.old) }
-{
-    let mut to = put_joint(text, at, joint);
-    if n == 1 {
-        return to;
-    }
-    to = put_number(text, to, n as u64);
-    put_byte(text, to, b'*')
-}
-
-// The bytes of a list; `-` where it is empty.
-pub fn put_bytes(text: &mut [u8], at: usize, s: &[u8]) -> usize
-    requires { at ≤ length text.old }
-    ensures { Onward at result (length text.old) }
-{
-    if s.len() == 0 {
-        return put_byte(text, at, b'-');
-    }
-    let mut to = at;
-    let mut i = 0;
-    let mut plain = false;
-    while i < s.len() {
-        let n = run_of_bytes(s, i);
-        to = put_head(text, to, joint(i, plain, n, false), n);
-        to = put_hex(text, to, s[i]);
-        plain = n == 1;
-        i += n;
-    }
-    to
-}
-
-// The numbers of a list; `-` where it is empty.
-pub fn put_numbers(text: &mut [u8], at: usize, s: &[u64]) -> usize
-    requires { at ≤ length text.old }
-    ensures { Onward at result (length text.old) }
-{
-    if s.len() == 0 {
-        return put_byte(text, at, b'-');
-    }
-    let mut to = at;
-    let mut i = 0;
-    let mut plain = false;
-    while i < s.len() {
-        let n = run_of_numbers(s, i);
-        to = put_head(text, to, joint(i, plain, n, true), n);
-        to = put_number(text, to, s[i]);
-        plain = n == 1;
-        i += n;
-    }
-    to
 }

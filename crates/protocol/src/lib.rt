@@ -30,12 +30,12 @@ mod calls;
 
 ghost use Rattle.std.specs.Prelude.{◌≡◌, length};
 
-use requests::{Parsed, Request, input};
-use responses::{lent, show};
+use requests::call::Call;
+use requests::{Request, input};
+use responses::lent::LentArray;
+use responses::show;
 use std::io;
 use std::io::{Input, Print, Write};
-use text::scan;
-use text::scan::{part_of_bytes, part_of_numbers};
 
 // Room for all requests.
 fn input_space() -> [u8; 524288]
@@ -59,82 +59,48 @@ fn number_space() -> [u64; 66560]
 }
 
 // Lends the outputs, makes the call, and writes its answer.
-fn run_call(
-    out: &mut impl Write,
-    letter: u8,
-    q: Request,
-    numbers: &[u64],
-    bytes: &[u8],
-    masks: &mut [u8],
-    values: &mut [u8],
-    offsets: &mut [u64],
-) -> io::Result<()> {
-    let content = part_of_bytes(bytes, q.values, q.bytes);
-    lent::lend(letter == b'r', content, masks, values, offsets);
-    let answer = calls::run(letter, q, numbers, bytes, masks, values, offsets);
-    responses::write_answer(out, letter, answer, content, masks, values, offsets)
-}
-
-fn respond(
-    out: &mut impl Write,
-    letter: u8,
-    q: Request,
-    numbers: &[u64],
-    bytes: &[u8],
-) -> io::Result<()> {
-    let rooms = part_of_numbers(numbers, q.rooms, q.numbers);
-    let content = part_of_bytes(bytes, q.values, q.bytes);
-    let rooms = responses::rooms_of(letter, rooms, content.len(), 393216, 393216, 66560);
-    if !rooms.named {
+fn respond(out: &mut impl Write, call: Call, q: Request<'_>) -> io::Result<()> {
+    let bytes = q.values.len();
+    let Some(rooms) = responses::rooms_of(call, q.rooms, bytes, 393216, 393216, 66560) else {
         return show::write_line(out, b"bad line");
-    }
-    let m = rooms.masks;
-    let v = rooms.values;
-    let o = rooms.offsets;
+    };
     let mut masks = byte_space();
     let mut values = byte_space();
     let mut offsets = number_space();
-    run_call(
-        out,
-        letter,
-        q,
-        numbers,
-        bytes,
-        &mut masks[0..m],
-        &mut values[0..v],
-        &mut offsets[0..o],
-    )
+    let mut lent = LentArray {
+        masks: &mut masks[..rooms.masks],
+        values: &mut values[..rooms.values],
+        offsets: &mut offsets[..rooms.offsets],
+    };
+    let in_place = matches!(call, Call::ReverseEndianness).then_some(q.values);
+    lent.lend(in_place);
+    let answer = calls::run(call, q, &mut lent);
+    responses::write_answer(out, responses::outputs_of(call), answer, in_place, &lent)
 }
 
 // Answers a line that hands no table over.
-fn answer_request(out: &mut impl Write, letter: u8, line: &[u8]) -> io::Result<()> {
+fn answer_request(out: &mut impl Write, line: &[u8]) -> io::Result<()> {
     let mut numbers = number_space();
     let mut bytes = byte_space();
-    let Parsed::Request(q) = requests::read_line(letter, line, &mut numbers, &mut bytes) else {
-        return show::write_line(out, b"bad line");
-    };
-    if letter == b'M' {
-        return protocol_tables::respond_make(out, q, &numbers, &bytes);
+    match requests::read_line(line, &mut numbers, &mut bytes) {
+        Some((Call::MakeTable, q)) => protocol_tables::respond_make(out, q),
+        Some((call, q)) => respond(out, call, q),
+        None => show::write_line(out, b"bad line"),
     }
-    respond(out, letter, q, &numbers, &bytes)
 }
 
 // Answers one line.
 fn answer_line(out: &mut impl Write, line: &[u8]) -> io::Result<()> {
-    let letter = requests::letter_of(line);
-    match letter {
-        b'#' => show::write_line(out, line),
-        b'R' | b'S' | b'V' | b'P' => protocol_tables::answer_table(out, letter, line),
-        _ => answer_request(out, letter, line),
+    match line {
+        [b'#', ..] => show::write_line(out, line),
+        [b'R' | b'S' | b'V' | b'P', ..] => protocol_tables::answer_table(out, line),
+        _ => answer_request(out, line),
     }
 }
 
 fn answer_all(out: &mut impl Write, input: &[u8]) -> io::Result<()> {
-    let mut at = 0;
-    while at < input.len() {
-        let end = scan::find(input, at, b'\n', b'\n');
-        answer_line(out, &input[at..end])?;
-        at = end + 1;
+    for line in input.split_inclusive(|b| *b == b'\n') {
+        answer_line(out, line.strip_suffix(b"\n").unwrap_or(line))?;
     }
     Ok(())
 }

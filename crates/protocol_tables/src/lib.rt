@@ -3,16 +3,17 @@
 
 ghost use Rattle.std.specs.Prelude.{◌≡◌, length};
 
-use array::answer::{Written, WrittenArray};
+use array::answer::Lengths;
+use array::refusal::Refusal;
 use requests::Request;
 use requests::asked::head_kind;
-use requests::tables::{TableParsed, TableRequest, read_table_line};
-use responses::{lent, show, tables};
+use requests::tables::{TableCall, TableRequest, read_table_line};
+use responses::lent::{LentArray, LentTable};
+use responses::{Outputs, lent, show, tables};
 use std::io;
 use std::io::Write;
-use table::answer::{Previewed, Settled, WrittenTable};
-use text::scan::{number_at, part_of_bytes, part_of_numbers};
-use valid::numbers::KindRead;
+use table::answer::{Preview, TableLengths};
+use text::scan::number_at;
 
 // Room for the masks or the store of a table. Tables are small, so that all of one takes little of the stack.
 fn table_bytes() -> [u8; 32768]
@@ -28,328 +29,176 @@ fn table_numbers() -> [u64; 8192]
     [0; 8192]
 }
 
-fn make(
-    q: Request,
-    numbers: &[u64],
-    bytes: &[u8],
-    masks: &mut [u8],
-    starts: &mut [u64],
-    lengths: &mut [u64],
-    store: &mut [u8],
-) -> WrittenTable {
-    match head_kind(part_of_numbers(numbers, 0, q.shape)) {
-        KindRead::Refused(e) => WrittenTable::Refused(e),
-        KindRead::Kind(kind) => table_make::make_table(
-            kind,
-            number_at(numbers, q.shape) as usize,
-            part_of_bytes(bytes, 0, q.values),
-            part_of_bytes(bytes, q.values, q.bytes),
-            part_of_numbers(numbers, q.offsets, q.rooms),
-            masks,
-            starts,
-            lengths,
-            store,
-        ),
-    }
+fn make(q: Request<'_>, table: &mut LentTable<'_>) -> Result<TableLengths, Refusal> {
+    let kind = head_kind(q.head)?;
+    table_make::make_table(
+        kind,
+        number_at(q.shape, 0) as usize,
+        q.masks,
+        q.values,
+        q.offsets,
+        table.masks,
+        table.starts,
+        table.lengths,
+        table.store,
+    )
 }
 
-// Lends the outputs, makes a table, and writes the answer.
-fn run_make(
-    out: &mut impl Write,
-    q: Request,
-    numbers: &[u64],
-    bytes: &[u8],
-    masks: &mut [u8],
-    starts: &mut [u64],
-    lengths: &mut [u64],
-    store: &mut [u8],
-) -> io::Result<()> {
-    lent::lend_blank(masks, starts, lengths, store);
-    let answer = make(q, numbers, bytes, masks, starts, lengths, store);
-    tables::write_made(out, answer, masks, starts, lengths, store)
-}
-
-pub fn respond_make(
-    out: &mut impl Write,
-    q: Request,
-    numbers: &[u64],
-    bytes: &[u8],
-) -> io::Result<()> {
-    let rooms = part_of_numbers(numbers, q.rooms, q.numbers);
-    let m = number_at(rooms, 0);
-    let s = number_at(rooms, 1);
-    let l = number_at(rooms, 2);
-    let rooms = lent::table_rooms(m, s, l, number_at(rooms, 3), 32768, 8192);
-    if !rooms.named {
+pub fn respond_make(out: &mut impl Write, q: Request<'_>) -> io::Result<()> {
+    let [m, s, l, b] = q.rooms else {
         return show::write_line(out, b"bad line");
-    }
-    let m = rooms.masks;
-    let s = rooms.starts;
-    let l = rooms.lengths;
-    let b = rooms.store;
+    };
+    let Some(rooms) = lent::table_rooms(*m, *s, *l, *b, 32768, 8192) else {
+        return show::write_line(out, b"bad line");
+    };
     let mut masks = table_bytes();
     let mut starts = table_numbers();
     let mut lengths = table_numbers();
     let mut store = table_bytes();
-    run_make(
-        out,
-        q,
-        numbers,
-        bytes,
-        &mut masks[0..m],
-        &mut starts[0..s],
-        &mut lengths[0..l],
-        &mut store[0..b],
+    let mut table = LentTable {
+        masks: &mut masks[..rooms.masks],
+        starts: &mut starts[..rooms.starts],
+        lengths: &mut lengths[..rooms.lengths],
+        store: &mut store[..rooms.store],
+    };
+    table.lend_blank();
+    let answer = make(q, &mut table);
+    tables::write_made(out, answer, &table)
+}
+
+fn read(q: TableRequest<'_>, outputs: &mut LentArray<'_>) -> Result<Lengths, Refusal> {
+    let kind = head_kind(q.head)?;
+    table_read::read_table(
+        kind,
+        q.cells,
+        q.table.masks,
+        q.table.starts,
+        q.table.lengths,
+        q.table.store,
+        outputs.masks,
+        outputs.values,
+        outputs.offsets,
     )
 }
 
-fn read(
-    q: TableRequest,
-    numbers: &[u64],
-    bytes: &[u8],
-    masks: &mut [u8],
-    values: &mut [u8],
-    offsets: &mut [u64],
-) -> WrittenArray {
-    match head_kind(part_of_numbers(numbers, 0, q.cells)) {
-        KindRead::Refused(e) => WrittenArray::Refused(e),
-        KindRead::Kind(kind) => table_read::read_table(
-            kind,
-            number_at(numbers, q.cells) as usize,
-            part_of_bytes(bytes, 0, q.store),
-            part_of_numbers(numbers, q.starts, q.lengths),
-            part_of_numbers(numbers, q.lengths, q.more),
-            part_of_bytes(bytes, q.store, q.cell_masks),
-            masks,
-            values,
-            offsets,
-        ),
-    }
-}
-
-// Lends the outputs, reads the table, and writes the answer.
-fn run_read(
-    out: &mut impl Write,
-    q: TableRequest,
-    numbers: &[u64],
-    bytes: &[u8],
-    masks: &mut [u8],
-    values: &mut [u8],
-    offsets: &mut [u64],
-) -> io::Result<()> {
-    lent::lend(false, bytes, masks, values, offsets);
-    let answer = read(q, numbers, bytes, masks, values, offsets);
-    responses::write_answer(out, b'R', answer, bytes, masks, values, offsets)
-}
-
-fn respond_read(
-    out: &mut impl Write,
-    q: TableRequest,
-    numbers: &[u64],
-    bytes: &[u8],
-) -> io::Result<()> {
-    let rooms = part_of_numbers(numbers, q.more, q.numbers);
-    let rooms = responses::rooms_of(b'R', rooms, 0, 32768, 32768, 8192);
-    if !rooms.named {
+fn respond_read(out: &mut impl Write, q: TableRequest<'_>) -> io::Result<()> {
+    let [m, v, o] = q.more else {
         return show::write_line(out, b"bad line");
-    }
-    let m = rooms.masks;
-    let v = rooms.values;
-    let o = rooms.offsets;
+    };
+    let Some(rooms) = lent::rooms_of(*m, *v, *o, 32768, 32768, 8192) else {
+        return show::write_line(out, b"bad line");
+    };
     let mut masks = table_bytes();
     let mut values = table_bytes();
     let mut offsets = table_numbers();
-    run_read(
-        out,
-        q,
-        numbers,
-        bytes,
-        &mut masks[0..m],
-        &mut values[0..v],
-        &mut offsets[0..o],
+    let mut outputs = LentArray {
+        masks: &mut masks[..rooms.masks],
+        values: &mut values[..rooms.values],
+        offsets: &mut offsets[..rooms.offsets],
+    };
+    outputs.lend(None);
+    let answer = read(q, &mut outputs);
+    responses::write_answer(out, Outputs::Array, answer, None, &outputs)
+}
+
+fn set(q: TableRequest<'_>, cell: u64, table: &mut LentTable<'_>) -> Result<(), Refusal> {
+    let kind = head_kind(q.head)?;
+    table_set::set_cell(
+        kind,
+        q.cells,
+        table.masks,
+        table.starts,
+        table.lengths,
+        table.store,
+        cell as usize,
+        q.cell_masks,
+        q.value,
     )
 }
 
-fn set(
-    q: TableRequest,
-    numbers: &[u64],
-    bytes: &[u8],
-    masks: &mut [u8],
-    starts: &mut [u64],
-    lengths: &mut [u64],
-    store: &mut [u8],
-) -> Settled {
-    match head_kind(part_of_numbers(numbers, 0, q.cells)) {
-        KindRead::Refused(e) => Settled::Refused(e),
-        KindRead::Kind(kind) => table_set::set_cell(
-            kind,
-            number_at(numbers, q.cells) as usize,
-            masks,
-            starts,
-            lengths,
-            store,
-            number_at(numbers, q.more) as usize,
-            part_of_bytes(bytes, q.cell_masks, q.value),
-            part_of_bytes(bytes, q.value, q.bytes),
-        ),
-    }
+// The masks and the lengths, which the call only reads, are the request's own.
+fn pack(q: TableRequest<'_>, most: u64, table: &mut LentTable<'_>) -> Result<usize, Refusal> {
+    let kind = head_kind(q.head)?;
+    table_pack::pack_table(
+        kind,
+        q.cells,
+        q.table.masks,
+        table.starts,
+        q.table.lengths,
+        table.store,
+        most as usize,
+    )
 }
 
-fn pack(
-    q: TableRequest,
-    numbers: &[u64],
-    masks: &[u8],
-    starts: &mut [u64],
-    lengths: &[u64],
-    store: &mut [u8],
-) -> Written {
-    match head_kind(part_of_numbers(numbers, 0, q.cells)) {
-        KindRead::Refused(e) => Written::Refused(e),
-        KindRead::Kind(kind) => table_pack::pack_table(
-            kind,
-            number_at(numbers, q.cells) as usize,
-            masks,
-            starts,
-            lengths,
-            store,
-            number_at(numbers, q.more) as usize,
-        ),
-    }
-}
-
-// Whether a table is as the request has it.
-fn kept(
-    q: TableRequest,
-    numbers: &[u64],
-    bytes: &[u8],
-    masks: &[u8],
-    starts: &[u64],
-    lengths: &[u64],
-    store: &[u8],
-) -> bool {
-    lent::same_table(
-        masks,
-        starts,
-        lengths,
-        store,
-        part_of_bytes(bytes, 0, q.store),
-        part_of_numbers(numbers, q.starts, q.lengths),
-        part_of_numbers(numbers, q.lengths, q.more),
-        part_of_bytes(bytes, q.store, q.cell_masks),
+fn preview(q: TableRequest<'_>, cell: u64) -> Result<Preview, Refusal> {
+    let kind = head_kind(q.head)?;
+    table_preview::preview_cell(
+        kind,
+        q.cells,
+        q.table.masks,
+        q.table.starts,
+        q.table.lengths,
+        q.table.store,
+        cell as usize,
+        q.cell_masks,
+        q.value,
     )
 }
 
 // Sets a cell or packs, in a table that is lent, and writes the answer.
 fn run_in_place(
     out: &mut impl Write,
-    letter: u8,
-    q: TableRequest,
-    numbers: &[u64],
-    bytes: &[u8],
-    masks: &mut [u8],
-    starts: &mut [u64],
-    lengths: &mut [u64],
-    store: &mut [u8],
+    call: TableCall,
+    q: TableRequest<'_>,
+    number: u64,
+    table: &mut LentTable<'_>,
 ) -> io::Result<()> {
-    if letter == b'S' {
-        let answer = set(q, numbers, bytes, masks, starts, lengths, store);
-        let same = kept(q, numbers, bytes, masks, starts, lengths, store);
-        return tables::write_settled(out, answer, same, masks, starts, lengths, store);
+    table.lend(q.table);
+    if matches!(call, TableCall::Pack) {
+        let answer = pack(q, number, table);
+        return tables::write_packed(out, answer, table.is(q.table), table);
     }
-    let answer = pack(q, numbers, masks, starts, lengths, store);
-    let same = kept(q, numbers, bytes, masks, starts, lengths, store);
-    tables::write_packed(out, answer, same, masks, starts, lengths, store)
-}
-
-// The same, the table lent first.
-fn run_lent(
-    out: &mut impl Write,
-    letter: u8,
-    q: TableRequest,
-    numbers: &[u64],
-    bytes: &[u8],
-    masks: &mut [u8],
-    starts: &mut [u64],
-    lengths: &mut [u64],
-    store: &mut [u8],
-) -> io::Result<()> {
-    lent::lend_table(
-        part_of_bytes(bytes, 0, q.store),
-        part_of_numbers(numbers, q.starts, q.lengths),
-        part_of_numbers(numbers, q.lengths, q.more),
-        part_of_bytes(bytes, q.store, q.cell_masks),
-        masks,
-        starts,
-        lengths,
-        store,
-    );
-    run_in_place(
-        out, letter, q, numbers, bytes, masks, starts, lengths, store,
-    )
+    let answer = set(q, number, table);
+    tables::write_settled(out, answer, table.is(q.table), table)
 }
 
 fn respond_in_place(
     out: &mut impl Write,
-    letter: u8,
-    q: TableRequest,
-    numbers: &[u64],
-    bytes: &[u8],
+    call: TableCall,
+    q: TableRequest<'_>,
+    number: u64,
 ) -> io::Result<()> {
-    let m = part_of_bytes(bytes, 0, q.store).len() as u64;
-    let s = part_of_numbers(numbers, q.starts, q.lengths).len() as u64;
-    let l = part_of_numbers(numbers, q.lengths, q.more).len() as u64;
-    let b = part_of_bytes(bytes, q.store, q.cell_masks).len() as u64;
-    let rooms = lent::table_rooms(m, s, l, b, 32768, 8192);
-    let m = rooms.masks;
-    let s = rooms.starts;
-    let l = rooms.lengths;
-    let b = rooms.store;
+    let m = q.table.masks.len() as u64;
+    let s = q.table.starts.len() as u64;
+    let l = q.table.lengths.len() as u64;
+    let b = q.table.store.len() as u64;
+    let Some(rooms) = lent::table_rooms(m, s, l, b, 32768, 8192) else {
+        return show::write_line(out, b"bad line");
+    };
     let mut masks = table_bytes();
     let mut starts = table_numbers();
     let mut lengths = table_numbers();
     let mut store = table_bytes();
-    run_lent(
-        out,
-        letter,
-        q,
-        numbers,
-        bytes,
-        &mut masks[0..m],
-        &mut starts[0..s],
-        &mut lengths[0..l],
-        &mut store[0..b],
-    )
-}
-
-fn preview(q: TableRequest, numbers: &[u64], bytes: &[u8]) -> Previewed {
-    match head_kind(part_of_numbers(numbers, 0, q.cells)) {
-        KindRead::Refused(e) => Previewed::Refused(e),
-        KindRead::Kind(kind) => table_preview::preview_cell(
-            kind,
-            number_at(numbers, q.cells) as usize,
-            part_of_bytes(bytes, 0, q.store),
-            part_of_numbers(numbers, q.starts, q.lengths),
-            part_of_numbers(numbers, q.lengths, q.more),
-            part_of_bytes(bytes, q.store, q.cell_masks),
-            number_at(numbers, q.more) as usize,
-            part_of_bytes(bytes, q.cell_masks, q.value),
-            part_of_bytes(bytes, q.value, q.bytes),
-        ),
-    }
+    let mut table = LentTable {
+        masks: &mut masks[..rooms.masks],
+        starts: &mut starts[..rooms.starts],
+        lengths: &mut lengths[..rooms.lengths],
+        store: &mut store[..rooms.store],
+    };
+    run_in_place(out, call, q, number, &mut table)
 }
 
 // Answers a line that hands a table over.
-pub fn answer_table(out: &mut impl Write, letter: u8, line: &[u8]) -> io::Result<()> {
+pub fn answer_table(out: &mut impl Write, line: &[u8]) -> io::Result<()> {
     let mut numbers = table_numbers();
     let mut bytes = table_bytes();
-    let TableParsed::Request(q) = read_table_line(letter, line, &mut numbers, &mut bytes) else {
+    let Some((call, q)) = read_table_line(line, &mut numbers, &mut bytes) else {
         return show::write_line(out, b"bad line");
     };
-    if letter == b'R' {
-        return respond_read(out, q, &numbers, &bytes);
+    match (call, q.more) {
+        (TableCall::Read, _) => respond_read(out, q),
+        (TableCall::Preview, [cell]) => tables::write_previewed(out, preview(q, *cell)),
+        (TableCall::Set | TableCall::Pack, [number]) => respond_in_place(out, call, q, *number),
+        _ => show::write_line(out, b"bad line"),
     }
-    if letter == b'V' {
-        return tables::write_previewed(out, preview(q, &numbers, &bytes));
-    }
-    respond_in_place(out, letter, q, &numbers, &bytes)
 }

@@ -6,6 +6,7 @@ use std::io;
 use std::io::Read;
 
 // Reads until the room is full or the input ends; how many bytes were read.
+// A loop over `read`: std's `read_exact` does not say what a short input had, and its `read_to_end` takes a heap.
 pub fn read_full<R: Read>(input: &mut R, room: &mut [u8]) -> io::Result<usize>
     ensures within { IfOk result (λ n. n ≤ length room.new) }
     ensures read { IfOk result (λ n. Consumes (R.remaining input.old) (R.remaining input.new) (take n room.new)) }

@@ -1,136 +1,103 @@
-// A request on a working table that is handed over: which lists its line has, in which order, and where they lie once they are read.
-// Behind the table are the lengths of the outputs to read it into, or the cell to set or to preview, its masks and its value, or the most
-// cells to move.
-use crate::{Pair, next_bytes, next_numbers};
-use std::num;
+// A request on a working table that is handed over. Behind the table are the lengths of the outputs to read it into, or the cell to set or
+// to preview, its masks and its value, or the most cells to move.
+use crate::call::Head;
+use crate::lists::Lists;
 
-// Where the lists lie: numbers and bytes are read into one output each, a list behind the other. The kind begins at 0, and so do the
-// masks; `more` is what is behind the table in numbers.
 #[derive(Clone, Copy)]
-pub struct TableRequest {
+pub enum TableCall {
+    Read,
+    Set,
+    Preview,
+    Pack,
+}
+
+impl TableCall {
+    fn of_letter(letter: u8) -> Option<TableCall> {
+        match letter {
+            b'R' => Some(TableCall::Read),
+            b'S' => Some(TableCall::Set),
+            b'V' => Some(TableCall::Preview),
+            b'P' => Some(TableCall::Pack),
+            _ => None,
+        }
+    }
+
+    // Whether a line has a setting, made or previewed.
+    fn has_setting(self) -> bool {
+        matches!(self, TableCall::Set | TableCall::Preview)
+    }
+}
+
+// The lists of a working table.
+#[derive(Clone, Copy)]
+pub struct Table<'a> {
+    pub masks: &'a [u8],
+    pub starts: &'a [u64],
+    pub lengths: &'a [u64],
+    pub store: &'a [u8],
+}
+
+// The kind's numbers, the count of cells, the table, the numbers behind it, and the masks and the value of a cell, where one is set.
+#[derive(Clone, Copy)]
+pub struct TableRequest<'a> {
+    pub head: &'a [u64],
     pub cells: usize,
-    pub starts: usize,
-    pub lengths: usize,
-    pub more: usize,
-    pub numbers: usize,
-    pub store: usize,
-    pub cell_masks: usize,
-    pub value: usize,
-    pub bytes: usize,
-}
-
-#[derive(Clone, Copy)]
-pub enum TableParsed {
-    Request(TableRequest),
-    Bad,
-}
-
-// Where the lists of a table end in the line, and where the elements of each do.
-#[derive(Clone, Copy)]
-pub struct Lists {
-    pub at: usize,
-    pub masks: usize,
-    pub starts: usize,
-    pub lengths: usize,
-    pub store: usize,
-}
-
-// How many numbers are behind the table.
-fn more_of(letter: u8) -> usize {
-    if letter == b'R' { 3 } else { 1 }
-}
-
-// A request whose lists end at `at`, if its kind, its count and what is behind the table have as many numbers as are wanted, and nothing
-// follows.
-fn complete_table(letter: u8, q: TableRequest, at: usize, length: usize) -> TableParsed {
-    if at != length {
-        return TableParsed::Bad;
-    }
-    if num::wrapping_sub_usize(q.cells, 4) > 1 {
-        return TableParsed::Bad;
-    }
-    if num::wrapping_sub_usize(q.starts, q.cells) != 1 {
-        return TableParsed::Bad;
-    }
-    if num::wrapping_sub_usize(q.numbers, q.more) != more_of(letter) {
-        return TableParsed::Bad;
-    }
-    TableParsed::Request(q)
-}
-
-// Kind and count of cells.
-fn read_kind(line: &[u8], numbers: &mut [u64]) -> Pair {
-    let kind = next_numbers(true, line, 1, numbers, 0);
-    let cells = next_numbers(true, line, kind.at, numbers, kind.to);
-    Pair {
-        at: cells.at,
-        first: kind.to,
-        second: cells.to,
-    }
-}
-
-// Starts and lengths.
-fn read_places(line: &[u8], at: usize, numbers: &mut [u64], from: usize) -> Pair {
-    let starts = next_numbers(true, line, at, numbers, from);
-    let lengths = next_numbers(true, line, starts.at, numbers, starts.to);
-    Pair {
-        at: lengths.at,
-        first: starts.to,
-        second: lengths.to,
-    }
+    pub table: Table<'a>,
+    pub more: &'a [u64],
+    pub cell_masks: &'a [u8],
+    pub value: &'a [u8],
 }
 
 // The four lists of a table.
-fn read_lists(line: &[u8], at: usize, numbers: &mut [u64], from: usize, bytes: &mut [u8]) -> Lists {
-    let masks = next_bytes(true, line, at, bytes, 0);
-    let places = read_places(line, masks.at, numbers, from);
-    let store = next_bytes(true, line, places.at, bytes, masks.to);
-    Lists {
-        at: store.at,
-        masks: masks.to,
-        starts: places.first,
-        lengths: places.second,
-        store: store.to,
-    }
+fn read_table<'a>(lists: &mut Lists<'a, '_>) -> Option<Table<'a>> {
+    let masks = lists.bytes(true)?;
+    let starts = lists.numbers(true)?;
+    let lengths = lists.numbers(true)?;
+    let store = lists.bytes(true)?;
+    Some(Table {
+        masks,
+        starts,
+        lengths,
+        store,
+    })
 }
 
-// Whether a line has a setting, made or previewed.
-fn has_setting(letter: u8) -> bool {
-    letter == b'S' || letter == b'V'
-}
-
-// The masks and the value of a cell, where one is set.
-fn read_setting(letter: u8, line: &[u8], at: usize, bytes: &mut [u8], from: usize) -> Pair {
-    let masks = next_bytes(has_setting(letter), line, at, bytes, from);
-    let value = next_bytes(has_setting(letter), line, masks.at, bytes, masks.to);
-    Pair {
-        at: value.at,
-        first: masks.to,
-        second: value.to,
-    }
-}
-
-// Reads the lists of a line behind its letter.
-pub fn read_table_line(
-    letter: u8,
-    line: &[u8],
-    numbers: &mut [u64],
-    bytes: &mut [u8],
-) -> TableParsed {
-    let kind = read_kind(line, numbers);
-    let lists = read_lists(line, kind.at, numbers, kind.second, bytes);
-    let more = next_numbers(true, line, lists.at, numbers, lists.lengths);
-    let setting = read_setting(letter, line, more.at, bytes, lists.store);
-    let q = TableRequest {
-        cells: kind.first,
-        starts: kind.second,
-        lengths: lists.starts,
-        more: lists.lengths,
-        numbers: more.to,
-        store: lists.masks,
-        cell_masks: lists.store,
-        value: setting.first,
-        bytes: setting.second,
+// All lists up to the end of a line, if the head has as many numbers as a kind, and one is the count of cells.
+fn read_request<'a>(call: TableCall, lists: &mut Lists<'a, '_>) -> Option<TableRequest<'a>> {
+    let head = lists.numbers(true)?;
+    let [cells] = lists.numbers(true)? else {
+        return None;
     };
-    complete_table(letter, q, setting.at, line.len())
+    let table = read_table(lists)?;
+    let more = lists.numbers(true)?;
+    let cell_masks = lists.bytes(call.has_setting())?;
+    let value = lists.bytes(call.has_setting())?;
+    if !lists.are_all() || !Head::Kind.has(head.len()) {
+        return None;
+    }
+    Some(TableRequest {
+        head,
+        cells: *cells as usize,
+        table,
+        more,
+        cell_masks,
+        value,
+    })
+}
+
+// Reads a line that hands a table over, for what its letter says.
+pub fn read_table_line<'a>(
+    line: &[u8],
+    numbers: &'a mut [u64],
+    bytes: &'a mut [u8],
+) -> Option<(TableCall, TableRequest<'a>)> {
+    let (letter, line) = line.split_first()?;
+    let call = TableCall::of_letter(*letter)?;
+    let mut lists = Lists {
+        line,
+        numbers,
+        bytes,
+    };
+    let request = read_request(call, &mut lists)?;
+    Some((call, request))
 }

@@ -7,172 +7,91 @@ pub mod show;
 pub mod tables;
 pub mod told;
 
-ghost use Rattle.std.specs.Prelude.{◌≡◌, ◌≤◌, length};
-ghost use Rattle.print.specs.Print.{Onward};
+ghost use Rattle.std.specs.Prelude.{◌≤◌, IfSome};
 
-use crate::lent::Rooms;
-use array::answer::WrittenArray;
+use crate::lent::LentArray;
+use array::answer::Lengths;
+use array::refusal::Refusal;
+use print::Listed;
+use requests::call::Call;
 use std::io;
 use std::io::Write;
-use text::scan::{number_at, part_of_bytes, part_of_numbers};
+use text::scan::part_of;
 
-// The outputs that a call has: from masks, values and offsets, which are 0 to 2, those from `first` on before `end`.
+// The outputs that a call has.
 #[derive(Clone, Copy)]
-pub struct Outputs {
-    pub first: usize,
-    pub end: usize,
+pub enum Outputs {
+    Values,
+    Offsets,
+    Ragged,
+    Array,
 }
 
-// The outputs of the call of a letter.
-pub fn outputs_of(letter: u8) -> Outputs {
-    match letter {
-        b'e' | b'o' | b'r' => Outputs { first: 1, end: 2 },
-        b'i' | b'p' => Outputs { first: 1, end: 3 },
-        b's' => Outputs { first: 2, end: 3 },
-        _ => Outputs { first: 0, end: 3 },
+pub fn outputs_of(call: Call) -> Outputs {
+    match call {
+        Call::Encode | Call::EncodeInterleaved | Call::ReverseEndianness => Outputs::Values,
+        Call::DecodeInterleaved | Call::PartialDecode => Outputs::Ragged,
+        Call::SubsetCells => Outputs::Offsets,
+        _ => Outputs::Array,
     }
 }
 
-// The length of an output to lend, masks, values and offsets being 0 to 2.
-fn room_of(f: Outputs, output: usize, rooms: &[u64]) -> u64 {
-    if output < f.first {
-        return 0;
-    }
-    number_at(rooms, output - f.first)
-}
-
-// The lengths of the outputs to lend. A call that works in place is lent the bytes of the request.
+// The lengths of the outputs to lend, as a request names them; none where it does not name one for each output of the call, or one is
+// beyond what there is. A call that works in place is lent the bytes of the request.
 pub fn rooms_of(
-    letter: u8,
+    call: Call,
     rooms: &[u64],
     bytes: usize,
     masks: usize,
     values: usize,
     offsets: usize,
-) -> Rooms
-    ensures { (result.masks ≤ masks) × (result.values ≤ values) × (result.offsets ≤ offsets) }
+) -> Option<Lengths>
+    ensures { IfSome result (λ r. (r.masks ≤ masks) × (r.values ≤ values) × (r.offsets ≤ offsets)) }
 {
-    if letter == b'r' {
+    if matches!(call, Call::ReverseEndianness) {
         return lent::rooms_of(0, bytes as u64, 0, masks, values, offsets);
     }
-    let f = outputs_of(letter);
-    let m = room_of(f, 0, rooms);
-    let v = room_of(f, 1, rooms);
-    lent::rooms_of(m, v, room_of(f, 2, rooms), masks, values, offsets)
-}
-
-// The lengths that success names.
-fn put_lengths(text: &mut [u8], f: Outputs, m: usize, v: usize, o: usize) -> usize
-    ensures { Onward 0 result (length text.old) }
-{
-    let lengths = [m as u64, v as u64, o as u64];
-    let to = print::put_text(text, 0, b"ok ");
-    print::put_numbers(text, to, part_of_numbers(&lengths, f.first, f.end))
-}
-
-// An output up to the length that success names.
-fn put_bytes_out(text: &mut [u8], at: usize, wanted: bool, out: &[u8], n: usize) -> usize
-    requires { at ≤ length text.old }
-    ensures { Onward at result (length text.old) }
-{
-    if !wanted {
-        return at;
-    }
-    let to = print::put_byte(text, at, b' ');
-    print::put_bytes(text, to, part_of_bytes(out, 0, n))
-}
-
-fn put_numbers_out(text: &mut [u8], at: usize, wanted: bool, out: &[u64], n: usize) -> usize
-    requires { at ≤ length text.old }
-    ensures { Onward at result (length text.old) }
-{
-    if !wanted {
-        return at;
-    }
-    let to = print::put_byte(text, at, b' ');
-    print::put_numbers(text, to, part_of_numbers(out, 0, n))
-}
-
-fn put_refused(text: &mut [u8], e: u8) -> usize
-    ensures { Onward 0 result (length text.old) }
-{
-    let to = print::put_text(text, 0, b"refused ");
-    print::put_number(text, to, e as u64)
-}
-
-fn put_ok(
-    text: &mut [u8],
-    f: Outputs,
-    m: usize,
-    v: usize,
-    o: usize,
-    masks: &[u8],
-    values: &[u8],
-    offsets: &[u64],
-) -> usize
-    ensures { Onward 0 result (length text.old) }
-{
-    let mut to = put_lengths(text, f, m, v, o);
-    to = print::put_byte(text, to, b':');
-    to = put_bytes_out(text, to, f.first == 0, masks, m);
-    to = put_bytes_out(text, to, f.first < 2, values, v);
-    put_numbers_out(text, to, f.end == 3, offsets, o)
-}
-
-// The answer and the outputs up to the lengths that it names.
-fn put_outcome(
-    text: &mut [u8],
-    f: Outputs,
-    answer: WrittenArray,
-    masks: &[u8],
-    values: &[u8],
-    offsets: &[u64],
-) -> usize
-    ensures { Onward 0 result (length text.old) }
-{
-    match answer {
-        WrittenArray::Refused(e) => put_refused(text, e),
-        WrittenArray::Lengths(m, v, o) => put_ok(text, f, m, v, o, masks, values, offsets),
+    match (outputs_of(call), rooms) {
+        (Outputs::Values, [v]) => lent::rooms_of(0, *v, 0, masks, values, offsets),
+        (Outputs::Offsets, [o]) => lent::rooms_of(0, 0, *o, masks, values, offsets),
+        (Outputs::Ragged, [v, o]) => lent::rooms_of(0, *v, *o, masks, values, offsets),
+        (Outputs::Array, [m, v, o]) => lent::rooms_of(*m, *v, *o, masks, values, offsets),
+        _ => None,
     }
 }
 
-// The answer of the call of a letter, the outputs, and whether they are as they were lent beyond.
-fn put_answer(
-    text: &mut [u8],
-    letter: u8,
-    answer: WrittenArray,
-    bytes: &[u8],
-    masks: &[u8],
-    values: &[u8],
-    offsets: &[u64],
-) -> usize
-    ensures { Onward 0 result (length text.old) }
-{
-    let to = put_outcome(text, outputs_of(letter), answer, masks, values, offsets);
-    if lent::kept(letter == b'r', answer, bytes, masks, values, offsets) {
-        return to;
+// The lengths that success names, and the outputs up to those.
+fn write_ok(
+    out: &mut impl Write,
+    shown: Outputs,
+    lengths: Lengths,
+    outputs: &LentArray<'_>,
+) -> io::Result<()> {
+    let m = lengths.masks;
+    let v = lengths.values;
+    let o = lengths.offsets;
+    let masks = Listed(part_of(outputs.masks, 0, m));
+    let values = Listed(part_of(outputs.values, 0, v));
+    let offsets = Listed(part_of(outputs.offsets, 0, o));
+    match shown {
+        Outputs::Values => write!(out, "ok {v}: {values}"),
+        Outputs::Offsets => write!(out, "ok {o}: {offsets}"),
+        Outputs::Ragged => write!(out, "ok {v},{o}: {values} {offsets}"),
+        Outputs::Array => write!(out, "ok {m},{v},{o}: {masks} {values} {offsets}"),
     }
-    print::put_text(text, to, b" spoilt")
 }
 
-// Room for the text of one answer.
-fn text_space() -> [u8; 262144]
-    ensures { 262144 ≡ length result }
-{
-    [0; 262144]
-}
-
-// Writes the answer of the call of a letter, and the outputs.
+// Writes the answer of a call, its outputs up to the lengths that it names, and whether they are as they were lent beyond.
 pub fn write_answer(
     out: &mut impl Write,
-    letter: u8,
-    answer: WrittenArray,
-    bytes: &[u8],
-    masks: &[u8],
-    values: &[u8],
-    offsets: &[u64],
+    shown: Outputs,
+    answer: Result<Lengths, Refusal>,
+    in_place: Option<&[u8]>,
+    outputs: &LentArray<'_>,
 ) -> io::Result<()> {
-    let mut text = text_space();
-    let n = put_answer(&mut text, letter, answer, bytes, masks, values, offsets);
-    show::write_line(out, part_of_bytes(&text, 0, n))
+    match answer {
+        Ok(lengths) => write_ok(out, shown, lengths, outputs)?,
+        Err(e) => show::write_refused(out, e)?,
+    }
+    show::write_end(out, outputs.kept(in_place, answer))
 }

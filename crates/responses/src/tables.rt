@@ -1,77 +1,70 @@
 // Answers of the calls on a working table as text: `refused N`; `ok LENGTHS: LISTS` where a table is made, its lists up to those lengths;
 // `ok: LISTS` where a cell is set and `ok MOVED: LISTS` where cells are packed, the lists whole; `ok SUM,UNPACKED` where a setting is
 // previewed. Masks before starts before lengths before store; ` spoilt` where a byte beyond the lengths, or any after a refusal, has changed.
-use crate::{lent, show};
-use array::answer::Written;
+use crate::lent::LentTable;
+use crate::show;
+use crate::show::write_end;
+use array::refusal::Refusal;
+use print::Listed;
 use std::io;
 use std::io::Write;
-use table::answer::{Previewed, Settled, WrittenTable};
-use text::scan::{part_of_bytes, part_of_numbers};
+use table::answer::{Preview, TableLengths};
+use text::scan::part_of;
 
-// The lists of a table behind what is said of it.
-fn write_table(
-    out: &mut impl Write,
-    masks: &[u8],
-    starts: &[u64],
-    lengths: &[u64],
-    store: &[u8],
-) -> io::Result<()> {
-    show::write_text(out, b": ")?;
-    show::write_bytes(out, masks)?;
-    show::write_text(out, b" ")?;
-    show::write_numbers(out, starts)?;
-    show::write_text(out, b" ")?;
-    show::write_numbers(out, lengths)?;
-    show::write_text(out, b" ")?;
-    show::write_bytes(out, store)
-}
-
-// The end of a line: whether all is kept that should be.
-fn write_end(out: &mut impl Write, kept: bool) -> io::Result<()> {
-    if !kept {
-        show::write_text(out, b" spoilt")?;
-    }
-    show::write_text(out, b"\n")
-}
-
-fn write_refused(out: &mut impl Write, e: u8, kept: bool) -> io::Result<()> {
-    show::write_text(out, b"refused ")?;
-    show::write_number(out, e as u64)?;
+fn write_refused(out: &mut impl Write, e: Refusal, kept: bool) -> io::Result<()> {
+    show::write_refused(out, e)?;
     write_end(out, kept)
+}
+
+// The lists of a table up to some lengths, behind what is said of it.
+fn write_lists(
+    out: &mut impl Write,
+    lengths: TableLengths,
+    table: &LentTable<'_>,
+) -> io::Result<()> {
+    let masks = Listed(part_of(table.masks, 0, lengths.masks));
+    let starts = Listed(part_of(table.starts, 0, lengths.starts));
+    let sizes = Listed(part_of(table.lengths, 0, lengths.lengths));
+    let store = Listed(part_of(table.store, 0, lengths.store));
+    write!(out, ": {masks} {starts} {sizes} {store}")
+}
+
+// The whole table, and the end of its line.
+fn write_whole(out: &mut impl Write, table: &LentTable<'_>) -> io::Result<()> {
+    let whole = TableLengths {
+        masks: table.masks.len(),
+        starts: table.starts.len(),
+        lengths: table.lengths.len(),
+        store: table.store.len(),
+    };
+    write_lists(out, whole, table)?;
+    write_end(out, true)
 }
 
 // The answer of make_table, and the table up to the lengths that it names.
 pub fn write_made(
     out: &mut impl Write,
-    answer: WrittenTable,
-    masks: &[u8],
-    starts: &[u64],
-    lengths: &[u64],
-    store: &[u8],
+    answer: Result<TableLengths, Refusal>,
+    table: &LentTable<'_>,
 ) -> io::Result<()> {
     match answer {
-        WrittenTable::Refused(e) => {
-            write_refused(
-                out,
-                e,
-                lent::blank_table(0, 0, 0, 0, masks, starts, lengths, store),
-            )
+        Ok(lengths) => {
+            let m = lengths.masks;
+            let s = lengths.starts;
+            let l = lengths.lengths;
+            let b = lengths.store;
+            write!(out, "ok {m},{s},{l},{b}")?;
+            write_lists(out, lengths, table)?;
+            write_end(out, table.is_blank_beyond(lengths))
         }
-        WrittenTable::Lengths(m, s, l, b) => {
-            let counts = [m as u64, s as u64, l as u64, b as u64];
-            show::write_text(out, b"ok ")?;
-            show::write_numbers(out, &counts)?;
-            write_table(
-                out,
-                part_of_bytes(masks, 0, m),
-                part_of_numbers(starts, 0, s),
-                part_of_numbers(lengths, 0, l),
-                part_of_bytes(store, 0, b),
-            )?;
-            write_end(
-                out,
-                lent::blank_table(m, s, l, b, masks, starts, lengths, store),
-            )
+        Err(e) => {
+            let none = TableLengths {
+                masks: 0,
+                starts: 0,
+                lengths: 0,
+                store: 0,
+            };
+            write_refused(out, e, table.is_blank_beyond(none))
         }
     }
 }
@@ -79,53 +72,39 @@ pub fn write_made(
 // The answer of set_cell, and the table; whether it is as it was handed over is asked where the call refuses.
 pub fn write_settled(
     out: &mut impl Write,
-    answer: Settled,
+    answer: Result<(), Refusal>,
     kept: bool,
-    masks: &[u8],
-    starts: &[u64],
-    lengths: &[u64],
-    store: &[u8],
+    table: &LentTable<'_>,
 ) -> io::Result<()> {
     match answer {
-        Settled::Refused(e) => write_refused(out, e, kept),
-        Settled::Set => {
-            show::write_text(out, b"ok")?;
-            write_table(out, masks, starts, lengths, store)?;
-            write_end(out, true)
+        Ok(()) => {
+            write!(out, "ok")?;
+            write_whole(out, table)
         }
+        Err(e) => write_refused(out, e, kept),
     }
 }
 
 // The answer of pack_table, and the table, likewise.
 pub fn write_packed(
     out: &mut impl Write,
-    answer: Written,
+    answer: Result<usize, Refusal>,
     kept: bool,
-    masks: &[u8],
-    starts: &[u64],
-    lengths: &[u64],
-    store: &[u8],
+    table: &LentTable<'_>,
 ) -> io::Result<()> {
     match answer {
-        Written::Refused(e) => write_refused(out, e, kept),
-        Written::Length(moved) => {
-            show::write_text(out, b"ok ")?;
-            show::write_number(out, moved as u64)?;
-            write_table(out, masks, starts, lengths, store)?;
-            write_end(out, true)
+        Ok(moved) => {
+            write!(out, "ok {moved}")?;
+            write_whole(out, table)
         }
+        Err(e) => write_refused(out, e, kept),
     }
 }
 
 // The answer of preview_cell, which is lent nothing that it could change.
-pub fn write_previewed(out: &mut impl Write, answer: Previewed) -> io::Result<()> {
+pub fn write_previewed(out: &mut impl Write, answer: Result<Preview, Refusal>) -> io::Result<()> {
     match answer {
-        Previewed::Refused(e) => write_refused(out, e, true),
-        Previewed::After(total, unpacked) => {
-            let counts = [total as u64, unpacked as u64];
-            show::write_text(out, b"ok ")?;
-            show::write_numbers(out, &counts)?;
-            write_end(out, true)
-        }
+        Ok(Preview { total, unpacked }) => writeln!(out, "ok {total},{unpacked}"),
+        Err(e) => write_refused(out, e, true),
     }
 }

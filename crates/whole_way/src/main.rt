@@ -15,9 +15,8 @@ ghost use Rattle.std.specs.Prelude.{◌≡◌, length};
 
 use requests::input;
 use responses::show;
+use std::io;
 use std::io::Write;
-use std::{io, num};
-use text::scan;
 
 // Room for all tables.
 fn input_space() -> [u8; 524288]
@@ -28,25 +27,24 @@ fn input_space() -> [u8; 524288]
 
 // A comment, or the table behind `number` others; how many tables there are now.
 fn run_line(out: &mut impl Write, number: u64, line: &[u8]) -> io::Result<u64> {
-    if line.len() == 0 {
-        return Ok(number);
+    match line {
+        [] => Ok(number),
+        [b'#', ..] => {
+            show::write_line(out, line)?;
+            Ok(number)
+        }
+        _ => {
+            let next = number.saturating_add(1);
+            line::run_table(out, next, line)?;
+            Ok(next)
+        }
     }
-    if line[0] == b'#' {
-        show::write_line(out, line)?;
-        return Ok(number);
-    }
-    let next = num::wrapping_add_u64(number, 1);
-    line::run_table(out, next, line)?;
-    Ok(next)
 }
 
 fn run_all(out: &mut impl Write, input: &[u8]) -> io::Result<()> {
     let mut number: u64 = 0;
-    let mut at = 0;
-    while at < input.len() {
-        let end = scan::find(input, at, b'\n', b'\n');
-        number = run_line(out, number, &input[at..end])?;
-        at = end + 1;
+    for line in input.split_inclusive(|b| *b == b'\n') {
+        number = run_line(out, number, line.strip_suffix(b"\n").unwrap_or(line))?;
     }
     Ok(())
 }
