@@ -22,9 +22,7 @@ pub fn shape_cells(shape: &[u64]) -> Result<usize, Refusal>
         return Err(Refusal::Shape);
     }
     let mut cells: u64 = 1;
-    let mut k = shape.len();
-    while 0 < k {
-        k -= 1;
+    for k in (0..shape.len()).rev() {
         let side = shape[k];
         if side < 1 {
             return Err(Refusal::Shape);

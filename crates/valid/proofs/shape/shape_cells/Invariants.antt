@@ -5,6 +5,3 @@ use Rattle.valid.proofs.shape.shape_cells.Given as goal
 
 abbrev pub invariant-loop-k : goal.invariant-loop-k
 invariant-loop-k l = Sides l.shape l.cells l.k
-
-abbrev pub decreases-loop-k : goal.decreases-loop-k
-decreases-loop-k l = l.k
