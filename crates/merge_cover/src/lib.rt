@@ -69,6 +69,7 @@ fn mark_run(words: &mut [u64], start: usize, len: usize) -> bool
 {
     let mut i = start;
     let end = start + len;
+    // No range has these steps: a turn takes as many cells as one word has left.
     while i < end {
         let n = in_word(i, end);
         if marks_at(words, i, n) != 0 {

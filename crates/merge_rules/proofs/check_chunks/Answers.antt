@@ -9,8 +9,8 @@ use Rattle.array.specs.Outcome.{content_array}
 use Rattle.array.specs.Subset.{subsets_of}
 use Rattle.valid.proofs.CheckLaws.{small_product}
 use Rattle.subset.proofs.Rows.{asked_few}
-use Rattle.subset.proofs.Steps.{PartStep, part_step}
-use Rattle.merge_rules.proofs.ChunkWalk.{Walked, walked_begins, walked_bad, walked_more}
+use Rattle.subset.proofs.Steps.{PartStep, part_step, parts_end}
+use Rattle.merge_rules.proofs.ChunkWalk.{Walked, walked_begins, by_offsets, walked_bad, walked_more}
 use Rattle.merge_rules.proofs.check_chunks.Goals.{In-Some, In-Some-chunk}
 use Rattle.merge_rules.proofs.check_chunks.Goals as goal
 
@@ -55,3 +55,8 @@ overflow_add-o c = omega (arith, (more (goal.at.overflow_add-o c).In-Some-chunk)
 
 pub loop-part-preserved : goal.loop-part-preserved
 loop-part-preserved c = (more (goal.at.loop-part-preserved c).In-Some-chunk, (turn (goal.at.loop-part-preserved c).In-Some).same)
+
+pub returns : goal.returns
+returns c =
+    let l = c.loop-part in
+    by_offsets l.invariant.0 (parts_end c.args.shape.now l.part-iterator l.invariant.1 c.in-None.ensures.steps) (omega arith) (omega arith)
