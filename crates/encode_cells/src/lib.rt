@@ -29,6 +29,7 @@ pub fn put_all(out: &mut [u8], s: &[u8], size: usize, order: ByteOrder, cells: u
 }
 
 // Of cells of one size, those that the level counts. Neighbours go as one run.
+#[inline(always)]
 fn put_live_runs(out: &mut [u8], to: usize, s: &[u8], size: usize, order: ByteOrder, level: Level)
     requires { (level.cells ≤ most_cells) × (level.cells * size ≤ length s.now)
         × (to + length (put_values (fixed size (order_of order)) (values_at (fixed_at 0 size) s.now (live_in level))) ≤ length out.old) }
@@ -46,6 +47,7 @@ fn put_live_runs(out: &mut [u8], to: usize, s: &[u8], size: usize, order: ByteOr
 }
 
 // The same of cells of a word's size, without a branch: a cell that the level does not count is written too, and the next is written over it.
+#[inline(always)]
 fn put_live_words(out: &mut [u8], to: usize, s: &[u8], size: usize, order: ByteOrder, live: Counted)
     requires { (word_test size ≡ true) × (live.level.cells * size ≤ length s.now)
         × (to + length (put_values (fixed size (order_of order)) (values_at (fixed_at 0 size) s.now (live_in live.level))) ≤ length out.old) }
@@ -63,6 +65,7 @@ fn put_live_words(out: &mut [u8], to: usize, s: &[u8], size: usize, order: ByteO
 }
 
 // The same by level: where the level is a constant, the loop is compiled for it and does not ask for it at each cell.
+#[inline(always)]
 fn put_level_words(
     out: &mut [u8],
     to: usize,
@@ -85,6 +88,7 @@ fn put_level_words(
 }
 
 // Of cells of one size, those that the level counts. Each size of a word has a loop of its own.
+#[inline(always)]
 pub fn put_live(out: &mut [u8], to: usize, s: &[u8], size: usize, order: ByteOrder, live: Counted)
     requires { (live.level.cells ≤ most_cells) × (live.level.cells * size ≤ length s.now)
         × (to + length (put_values (fixed size (order_of order)) (values_at (fixed_at 0 size) s.now (live_in live.level))) ≤ length out.old) }

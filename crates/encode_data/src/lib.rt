@@ -13,6 +13,7 @@ use buffer::copy;
 use live_cells::{Counted, Level};
 
 // Value bytes of the cells that the level counts: each length by its mark, so that nothing branches on a mask.
+#[inline(always)]
 fn sum_live_bytes(offsets: &[u64], level: Level) -> usize
     requires { Offsets level.cells offsets.now }
     ensures { result ≡ bytes_at (offset_at offsets.now) (live_in level.entry) }
@@ -28,6 +29,7 @@ fn sum_live_bytes(offsets: &[u64], level: Level) -> usize
 }
 
 // The same, without a walk where all cells count or there is nothing to sum up.
+#[inline(always)]
 pub fn live_bytes(offsets: &[u64], live: Counted) -> usize
     requires { Offsets live.level.cells offsets.now }
     ensures { result ≡ bytes_at (offset_at offsets.now) (live_in live.entry.level) }
@@ -44,6 +46,7 @@ pub fn live_bytes(offsets: &[u64], live: Counted) -> usize
 
 // The values of the cells that the level counts, end to end; says how many bytes it wrote. Neighbours go as one run. As put_live_runs of
 // `encode_cells`, but a run lies between two offsets and has no size or order of cells: one function for both would have both sets of parameters.
+#[inline(always)]
 fn put_live_runs(out: &mut [u8], to: usize, values: &[u8], offsets: &[u64], level: Level) -> usize
     requires { Offsets level.cells offsets.now × (last offsets.now ≡ length values.now)
         × (to + length (joined (values_at (offset_at offsets.now) values.now (live_in level))) ≤ length out.old) }
@@ -70,6 +73,7 @@ fn put_live_runs(out: &mut [u8], to: usize, values: &[u8], offsets: &[u64], leve
 
 // The same. Where all cells count, it is the values as they lie; where the level is a constant, the walk is compiled for it and does not
 // ask for it at each cell.
+#[inline(always)]
 pub fn put_live_data(
     out: &mut [u8],
     to: usize,

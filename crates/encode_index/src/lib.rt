@@ -28,6 +28,7 @@ fn put_offset(out: &mut [u8], at: usize, width: IndexWidth, v: u64)
 // Where the cells that the level counts end, when they lie end to end from 0. What a cell that it does not count puts
 // is overwritten by the next that it counts, so that nothing branches on a mask. As put_live_words of `encode_cells`, with a total carried
 // along: their law (Packing) is one, and one loop for both would be a trait with two impls for eight lines.
+#[inline(always)]
 fn put_marked_ends(out: &mut [u8], to: usize, width: IndexWidth, offsets: &[u64], live: Counted)
     requires { Offsets live.level.cells offsets.now
         × (to + length (index_of (width_of width) (ends_at (offset_at offsets.now) 0 (live_in live.level))) ≤ length out.old) }
@@ -51,6 +52,7 @@ fn put_marked_ends(out: &mut [u8], to: usize, width: IndexWidth, offsets: &[u64]
 }
 
 // The same by level, as put_live_data of `encode_data`.
+#[inline(always)]
 fn put_live_ends(out: &mut [u8], to: usize, width: IndexWidth, offsets: &[u64], live: Counted)
     requires { Offsets live.level.cells offsets.now
         × (to + length (index_of (width_of width) (ends_at (offset_at offsets.now) 0 (live_in live.level))) ≤ length out.old) }
@@ -78,6 +80,7 @@ pub fn put_index(out: &mut [u8], to: usize, width: IndexWidth, offsets: &[u64])
 }
 
 // The index of the cells that the level counts, from offset 0. Where all count, it is the offsets as they lie.
+#[inline(always)]
 pub fn put_live_index(out: &mut [u8], to: usize, width: IndexWidth, offsets: &[u64], live: Counted)
     requires { Offsets live.level.cells offsets.now
         × (to + length (index_of (width_of width) (0 ∷ ends_at (offset_at offsets.now) 0 (live_in live.level))) ≤ length out.old) }

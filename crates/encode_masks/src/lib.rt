@@ -12,6 +12,7 @@ use live_cells::{Counted, Level};
 use mask::form;
 
 // Gathers the mask bytes of the next m cells from `start` on that the level counts, without a branch; says where the cells behind them begin.
+#[inline(always)]
 fn gather_masks(block: &mut [u8], level: Level, start: usize, m: usize) -> usize
     requires { ((level.depth + 1) * level.cells ≤ length level.masks.now)
         × (m ≤ length (live_from level.cells level.masks.now level.depth start)) × (m ≤ length block.old) }
@@ -30,6 +31,7 @@ fn gather_masks(block: &mut [u8], level: Level, start: usize, m: usize) -> usize
 }
 
 // The stored mask of the cells that the level counts, block by block: all but the last fill whole bytes.
+#[inline(always)]
 fn put_live_mask(form: MaskForm, out: &mut [u8], to: usize, live: Counted)
     requires { ((live.level.depth + 1) * live.level.cells ≤ length live.level.masks.now) × (to + (mask_form (masks_of form)).size live.count ≤ length out.old) }
     ensures { out.new ≡ over_at to (live_mask (masks_of form) live.entry.level.cells live.entry.level.masks.now live.entry.level.depth) out.old }
@@ -44,6 +46,7 @@ fn put_live_mask(form: MaskForm, out: &mut [u8], to: usize, live: Counted)
 }
 
 // The stored mask of the cells that the level counts.
+#[inline(always)]
 pub fn put_mask(form: MaskForm, out: &mut [u8], to: usize, live: Counted)
     requires { ((live.level.depth + 1) * live.level.cells ≤ length live.level.masks.now) × (to + (mask_form (masks_of form)).size live.count ≤ length out.old) }
     ensures { out.new ≡ over_at to (live_mask (masks_of form) live.entry.level.cells live.entry.level.masks.now live.entry.level.depth) out.old }

@@ -22,6 +22,7 @@ impl<'a> Level<'a> {
     ghost use Rattle.live_cells.specs.Levels.{live_in, shown_in};
 
     // 1 where the byte of cell i at level l is set, else 0.
+    #[inline(always)]
     fn mark_at(self, l: usize, i: usize) -> u8
         requires { l * self.cells + i < length self.masks.now }
         ensures { result ≡ set_one (mask_at self.entry.cells self.entry.masks.now l i) }
@@ -30,6 +31,7 @@ impl<'a> Level<'a> {
     }
 
     // 1 where the level counts cell i, else 0: a product, so that what goes by it has no branch.
+    #[inline(always)]
     pub fn mark(self, i: usize) -> u8
         requires { i < self.cells }
         ensures { result ≡ live_one self.entry.cells self.entry.masks.now self.entry.depth i }
@@ -46,6 +48,7 @@ impl<'a> Level<'a> {
     }
 
     // How many cells from i on are live before the first that is not. Level 0 counts every cell.
+    #[inline(always)]
     pub fn run(self, i: usize) -> usize
         requires { i ≤ self.cells }
         ensures { result ≡ run_of (shown_in self.entry) i (self.entry.cells - i) }
@@ -62,6 +65,7 @@ impl<'a> Level<'a> {
     }
 
     // The live cells from `start` to `end`, few enough for a byte: a narrow counter is what makes counting fast.
+    #[inline(always)]
     fn count_block(self, start: usize, end: usize) -> u8
         requires { (start ≤ end) × (end ≤ start + 240) × (end ≤ self.cells) }
         ensures { result + length (live_from self.entry.cells self.entry.masks.now self.entry.depth end)
@@ -74,6 +78,7 @@ impl<'a> Level<'a> {
         n
     }
 
+    #[inline(always)]
     fn count_blocks(self) -> usize
         ensures { result ≡ length (live_in self.entry) }
     {
@@ -85,6 +90,7 @@ impl<'a> Level<'a> {
     }
 
     // How many cells the level counts. Level 1 counts the set bytes of the first mask.
+    #[inline(always)]
     pub fn count(self) -> usize
         ensures { result ≡ length (live_in self.entry) }
     {
@@ -96,6 +102,7 @@ impl<'a> Level<'a> {
     }
 
     // The same, with the level.
+    #[inline(always)]
     pub fn counted(self) -> Counted<'a>
         ensures { result.level ≡ self.entry }
     {
@@ -117,6 +124,7 @@ pub struct Counted<'a> {
 impl<'a> Counted<'a> {
     // The same, with the depth as the caller writes it: where that is a constant, what goes by the level is compiled for it.
     // Each caller matches on the depth itself: one match for all would take the call as a closure and its output beside it, and save no line.
+    #[inline(always)]
     pub fn at_depth(self, depth: usize) -> Counted<'a>
         requires { depth ≡ self.level.depth }
         ensures { result ≡ self.entry }
