@@ -13,9 +13,11 @@ use Rattle.array.specs.declared.kind.Values.{Values}
 use Rattle.array.specs.declared.kind.Values.TheVariants.{Fixed, Ragged}
 use Rattle.array.specs.declared.kind.Kind as declared
 use Rattle.array.specs.declared.mark.Mark as marks
+use Rattle.array.specs.declared.content.ArrayBytes.{ArrayBytes}
 use Rattle.array.specs.declared.refusal.Refusal.{Refusal}
 use Rattle.array.specs.Answer.{Answer, gives, refuses}
 use Rattle.array.specs.Kind.{Kind, Form, fixed, ragged, Order, little, big, Place, at_start, at_end, Masks, as_bytes, as_bits}
+use Rattle.array.specs.Content.{Content}
 use Rattle.array.specs.Cells.{Mark, is_null, is_set, is_other}
 
 abbrev pub order_of : ByteOrder → Order
@@ -45,6 +47,10 @@ abbrev pub told_mark : marks.Mark → Mark
 told_mark marks.Mark.Null = is_null
 told_mark marks.Mark.Set = is_set
 told_mark marks.Mark.Other = is_other
+
+-- an array as it is handed over
+abbrev pub lent : ArrayBytes → Content
+lent a = record { masks = a.masks.now; values = a.values.now; offsets = a.offsets.now }
 
 -- the number of each refusal
 abbrev pub number_of : Refusal → ℕ

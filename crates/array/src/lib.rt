@@ -2,6 +2,7 @@
 #![tactic(auto)]
 
 pub mod answer;
+pub mod content;
 pub mod kind;
 pub mod mark;
 pub mod refusal;

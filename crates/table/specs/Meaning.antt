@@ -2,6 +2,7 @@
 -- Assumes nothing.
 use Rattle.std.specs.Prelude.{List, ℕ, Result}
 use Rattle.table.specs.declared.answer.TableLengths.{TableLengths}
+use Rattle.table.specs.declared.lent.Table as declared
 use Rattle.array.specs.declared.refusal.Refusal.{Refusal}
 use Rattle.array.specs.Answer.{Outcome}
 use Rattle.array.specs.Meaning.{told}
@@ -9,6 +10,10 @@ use Rattle.table.specs.Table.{Table}
 
 abbrev pub table_by : List ℕ → List ℕ → List ℕ → List ℕ → Table
 table_by m s l b = record { masks = m; starts = s; lengths = l; store = b }
+
+-- a table as it is handed over
+abbrev pub lent_table : declared.Table → Table
+lent_table t = table_by t.masks.now t.starts.now t.lengths.now t.store.now
 
 -- what a call leaves behind, its answer and the lent slices as they are then
 abbrev pub outcome_table : Result TableLengths Refusal → List ℕ → List ℕ → List ℕ → List ℕ → Outcome TableLengths Table

@@ -4,11 +4,11 @@ ghost use Rattle.std.specs.Prelude.{◌≡◌, ◌&&◌, suc, ◌≤◌, ◌<◌
 ghost use Rattle.array.specs.Limits.{most_cells};
 ghost use Rattle.array.specs.Offsets.{rising_test};
 ghost use Rattle.array.specs.Content.{content_test, array_test};
-ghost use Rattle.array.specs.Meaning.{kind_of, told};
-ghost use Rattle.array.specs.Outcome.{content_array};
+ghost use Rattle.array.specs.Meaning.{kind_of, lent, told};
 ghost use Rattle.valid.specs.Check.{check_of};
 
 use crate::masks::masks_strict;
+use array::content::ArrayBytes;
 use array::kind::{Kind, Values};
 use array::refusal::Refusal;
 
@@ -48,58 +48,52 @@ fn rise_from_zero(offsets: &[u64], n: usize) -> bool
 }
 
 // Whether an array or a chunk of so many cells has the lengths and offsets of its kind.
-fn content_fits(kind: Kind, cells: usize, masks: &[u8], values: &[u8], offsets: &[u64]) -> bool
+fn content_fits(kind: Kind, cells: usize, array: ArrayBytes) -> bool
     requires { cells ≤ most_cells }
-    ensures { result ≡ content_test (kind_of kind) cells (content_array masks.now values.now offsets.now) }
+    ensures { result ≡ content_test (kind_of kind) cells (lent array.entry) }
 {
     let depth = kind.depth as usize;
-    if masks.len() != depth * cells {
+    if array.masks.len() != depth * cells {
         return false;
     }
     let form = kind.values;
     match form {
         Values::Fixed(size, _) => {
-            if values.len() != cells * (size as usize) {
+            if array.values.len() != cells * (size as usize) {
                 return false;
             }
-            offsets.len() == 0
+            array.offsets.len() == 0
         }
         Values::Ragged(_, _) => {
-            if offsets.len() != cells + 1 {
+            if array.offsets.len() != cells + 1 {
                 return false;
             }
-            if !rise_from_zero(offsets, cells) {
+            if !rise_from_zero(array.offsets, cells) {
                 return false;
             }
-            let last = offsets[cells] as usize;
-            last == values.len()
+            let last = array.offsets[cells] as usize;
+            last == array.values.len()
         }
     }
 }
 
 // Whether an array or a chunk of so many cells keeps the rules of its kind: else it is 4.
-pub fn keeps_rules(kind: Kind, cells: usize, masks: &[u8], values: &[u8], offsets: &[u64]) -> bool
+pub fn keeps_rules(kind: Kind, cells: usize, array: ArrayBytes) -> bool
     requires { cells ≤ most_cells }
-    ensures { result ≡ array_test (kind_of kind) cells (content_array masks.now values.now offsets.now) }
+    ensures { result ≡ array_test (kind_of kind) cells (lent array.entry) }
 {
-    content_fits(kind, cells, masks, values, offsets) && masks_strict(masks)
+    content_fits(kind, cells, array) && masks_strict(array.masks)
 }
 
 // The rules of an array whose kind and shape are sound: 4, and then 5.
-pub fn check_array(
-    kind: Kind,
-    cells: usize,
-    masks: &[u8],
-    values: &[u8],
-    offsets: &[u64],
-) -> Result<(), Refusal>
+pub fn check_array(kind: Kind, cells: usize, array: ArrayBytes) -> Result<(), Refusal>
     requires { cells ≤ most_cells }
-    ensures { told result ≡ check_of (kind_of kind) cells (content_array masks.now values.now offsets.now) }
+    ensures { told result ≡ check_of (kind_of kind) cells (lent array.entry) }
 {
-    if !keeps_rules(kind, cells, masks, values, offsets) {
+    if !keeps_rules(kind, cells, array) {
         return Err(Refusal::Content);
     }
-    if values.len() > MOST_BYTES {
+    if array.values.len() > MOST_BYTES {
         return Err(Refusal::Size);
     }
     Ok(())
