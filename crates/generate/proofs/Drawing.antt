@@ -14,7 +14,7 @@ use Rattle.array.specs.Buffers.{over_at}
 use Rattle.load.specs.Generator.{Drew, draw, draw_bytes}
 use Rattle.load.specs.Load.{length_by, level_by, draw_value, draw_cell}
 use Rattle.load.proofs.Drawn.{drawn_length}
-use Rattle.generate.specs.Cells.{levels_by, set_levels, set_masks, lengthy, length_drawn}
+use Rattle.generate.specs.Cells.{levels_by, set_levels, set_masks, column, lengthy, length_drawn}
 
 -- one more of n
 pub next_of : {n i : ℕ} → i < n → n - i ≡ suc (n - (i + 1))
@@ -210,6 +210,11 @@ module _ (f : Form) where
 -- the same, of levels that the code has drawn
 pub cell_of_lem : (f : Form) (d s : ℕ) {l : Drew ℕ} → l ≡ set_levels d s → Drawn f d (draw_cell f d s) l
 cell_of_lem f d s e = subst (Drawn f d (draw_cell f d s)) (sym e) (drawn f d s)
+
+-- and their mask bytes, that are stored
+pub cell_marked : (f : Form) (d s : ℕ) {l : Drew ℕ} → l ≡ set_levels d s → (n at : ℕ) (m : List ℕ) {out : List ℕ}
+    → out ≡ column n at (replicate l.made 1) m → out ≡ column n at (set_masks d (draw_cell f d s).made) m
+cell_marked f d s e n at m h = rw (cell_of_lem f d s e).marked h
 
 -- ---- a ragged cell
 

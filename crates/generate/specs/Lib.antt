@@ -1,3 +1,4 @@
 pub mod Generator
 pub mod Cells
+pub mod Loads
 pub mod Room

@@ -4,57 +4,34 @@ ghost use Rattle.array.specs.Buffers.{over_at};
 ghost use Rattle.load.specs.Generator.{draw_bytes};
 ghost use Rattle.generate.specs.Cells.{set_levels, column};
 ghost use Rattle.generate.specs.Room.{Column};
-ghost use Rattle.generate.specs.Generator.{drew_levels};
+ghost use Rattle.generate.specs.Generator.{drew};
 
 use crate::ahead::state_after;
-use crate::generator::Generator;
+use crate::generator::{Drawn, Generator};
+use crate::loads::Load;
 
-// How many levels are set, and the generator after the last draw for them.
-#[derive(Clone, Copy)]
-pub struct Levels {
-    pub set: usize,
-    pub next: Generator,
-}
-
-// Draws the levels of a cell. A null ends it: nothing is drawn for what is below.
-pub fn draw_levels(first: Generator, depth: usize) -> Levels
-    ensures { drew_levels result ≡ set_levels depth first.state }
-{
-    let mut g = first;
-    for set in 0..depth {
-        let drawn = g.draw();
-        let next = drawn.next;
-        if drawn.draw % 4 == 0 {
-            return Levels { set, next };
-        }
-        g = next;
-    }
-    Levels {
-        set: depth,
-        next: g,
-    }
-}
-
-// The same for the cell `at` of n, and stores 01 in the planes of its levels that are set. Those below are 00 already.
-pub fn mark_levels(first: Generator, depth: usize, n: usize, at: usize, masks: &mut [u8]) -> Levels
-    requires { Column n at depth masks.old }
-    ensures draws { drew_levels result ≡ set_levels depth first.state }
-    ensures marks { masks.new ≡ column n at (replicate result.set 1) masks.old }
+// Draws how many levels of the cell `at` are set, and stores 01 in their planes. A null ends it: nothing is drawn for the levels below,
+// whose bytes are 00 already.
+#[inline(always)]
+pub fn draw_levels(load: Load, first: Generator, at: usize, masks: &mut [u8]) -> Drawn<usize>
+    requires { Column load.n at load.depth masks.old }
+    ensures draws { drew result ≡ set_levels load.depth first.state }
+    ensures marks { masks.new ≡ column load.n at (replicate result.made 1) masks.old }
 {
     let mut g = first;
     let mut place = at;
-    for set in 0..depth {
+    for set in 0..load.depth {
         let drawn = g.draw();
         let next = drawn.next;
-        if drawn.draw % 4 == 0 {
-            return Levels { set, next };
+        if drawn.made % 4 == 0 {
+            return Drawn { made: set, next };
         }
         masks[place] = 1;
         g = next;
-        place += n;
+        place += load.n;
     }
-    Levels {
-        set: depth,
+    Drawn {
+        made: load.depth,
         next: g,
     }
 }
@@ -68,7 +45,7 @@ pub fn draw_few(first: Generator, values: &mut [u8], to: usize, n: usize) -> Gen
     let mut g = first;
     for i in 0..n {
         let drawn = g.draw();
-        values[to + i] = (drawn.draw % 256) as u8;
+        values[to + i] = (drawn.made % 256) as u8;
         g = drawn.next;
     }
     g
@@ -117,15 +94,4 @@ pub fn draw_bytes(first: Generator, values: &mut [u8], to: usize, n: usize) -> G
         return draw_few(first, values, to, n);
     }
     draw_parts(first, values, to, n)
-}
-
-// Draws n value bytes that nobody keeps.
-pub fn skip_bytes(first: Generator, n: usize) -> Generator
-    ensures { result.state ≡ (draw_bytes n first.state).state }
-{
-    let mut g = first;
-    for _ in 0..n {
-        g = g.draw().next;
-    }
-    g
 }

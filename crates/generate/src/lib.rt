@@ -5,6 +5,7 @@ mod ahead;
 mod cell;
 mod fixed;
 pub mod generator;
+mod loads;
 mod ragged;
 
 ghost use Rattle.std.specs.Prelude.{◌≡◌};
@@ -13,6 +14,7 @@ ghost use Rattle.array.specs.Outcome.{content_array, outcome_array};
 ghost use Rattle.load.specs.Calls.{generated};
 
 use crate::generator::Generator;
+use crate::loads::Load;
 use array::answer::Lengths;
 use array::kind::{Kind, Values};
 use array::refusal::Refusal;
@@ -34,11 +36,13 @@ pub fn generate(
     if !check_kind(kind) {
         return Err(Refusal::Kind);
     }
-    let n = shape_cells(shape)?;
-    let depth = kind.depth as usize;
-    let first = Generator { state: start };
+    let load = Load {
+        depth: kind.depth as usize,
+        n: shape_cells(shape)?,
+        first: Generator { state: start },
+    };
     match kind.values {
-        Values::Fixed(size, _) => fixed::make_fixed(first, depth, n, size as usize, masks, values),
-        Values::Ragged(_, _) => ragged::make_ragged(first, depth, n, masks, values, offsets),
+        Values::Fixed(size, _) => fixed::make_fixed(load, size as usize, masks, values),
+        Values::Ragged(_, _) => ragged::make_ragged(load, masks, values, offsets),
     }
 }

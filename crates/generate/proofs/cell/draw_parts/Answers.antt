@@ -1,8 +1,8 @@
 -- `cell::draw_parts` meets its contract, by the laws of Drawing.
 -- Assumes nothing.
-use Prim.Native.Nat.{◌+◌, ◌-◌}
+use Prim.Native.Nat.{◌-◌}
 use native.Mathlib.Omega.{arith}
-use Rattle.generate.proofs.Drawing.{Storing, store_begins, store_part, store_ends, skip_ends}
+use Rattle.generate.proofs.Drawing.{store_begins, store_part, store_ends, skip_ends}
 use Rattle.generate.proofs.cell.draw_parts.Goals as goal
 
 pub loop-i-init : goal.loop-i-init
@@ -16,9 +16,7 @@ returns-then-i-n c =
     let inv = c.loop-i.invariant in
     record { draws = skip_ends inv.skipped (omega (arith, c.if-i-n.true)); stores = store_ends inv (omega (arith, c.if-i-n.true)) }
 
-pub returns : goal.returns
-returns c =
-    let done : let a = c.args in Storing a.n a.first.state a.values.now a.to c.draw_part.new.values c.draw_part.result.state (c.loop-i.i + (a.n - c.loop-i.i)) =
-    store_part c.loop-i.invariant (c.args.n - c.loop-i.i) (omega (arith, c.loop-i.invariant.skipped.within)) c.draw_part.ensures.stores c.draw_part.ensures.draws in
-    let all = done in
-    record { draws = skip_ends all.skipped (omega arith); stores = store_ends all (omega arith) }
+pub returns-clause-stores : goal.returns-clause-stores
+returns-clause-stores c =
+    let inv = c.loop-i.invariant in
+    store_ends (store_part inv (c.args.n - c.loop-i.i) (omega (arith, inv.skipped.within)) c.draw_part.ensures.stores c.draw_part.ensures.draws) (omega arith)

@@ -1,31 +1,30 @@
 -- `fixed::draw_cell` meets its contract: levels, mask bytes and value are those of the cell (Drawing).
 -- Assumes nothing.
-use mathlib.Core.Path.{◌≡◌, sym, ap, ◌∙◌}
-use Rattle.array.specs.Cells.{Value}
-use Rattle.array.specs.Buffers.{over_at}
-use Rattle.load.specs.Load.{draw_value, draw_cell}
-use Rattle.generate.specs.Generator.{drew_levels}
-use Rattle.generate.specs.Cells.{sized, set_masks, column}
-use Rattle.generate.proofs.Drawing.{Drawn, cell_of_lem}
+use mathlib.Core.Path.{sym, ◌∙◌}
+use Rattle.load.specs.Load.{draw_value}
+use Rattle.generate.specs.Cells.{sized}
+use Rattle.generate.proofs.Drawing.{cell_of_lem, cell_marked}
 use Rattle.generate.proofs.fixed.draw_cell.Goals as goal
 
-pub returns-then-set-depth : goal.returns-then-set-depth
+pub returns-then-levels-load : goal.returns-then-levels-load
 unfolding draw_value
-returns-then-set-depth c =
-    let cell : let a = c.args in Drawn (sized a.size) a.depth (draw_cell (sized a.size) a.depth a.first.state) (drew_levels c.mark_levels-levels.result) = let a =
-    c.args in cell_of_lem (sized a.size) a.depth a.first.state c.mark_levels-levels.ensures.draws in
-    let planes : let a = c.args in c.mark_levels-levels.new.masks ≡ column a.n a.at
-    (set_masks a.depth (draw_cell (sized a.size) a.depth a.first.state).made) a.masks.now = rw cell.marked c.mark_levels-levels.ensures.marks in
+returns-then-levels-load c =
     let a = c.args in
-    let value = cell.if_set_lem c.if-set-depth.true in
-    record { draws = c.draw_bytes.ensures.draws ∙ sym value.1; marks = planes; stores = c.draw_bytes.ensures.stores ∙ sym (ap (λ (v : Value). over_at a.to v a.values.now) value.0) }
+    let levels = c.draw_levels-levels.ensures in
+    let value = (cell_of_lem (sized a.size) a.load.depth a.first.state levels.draws).if_set_lem c.if-levels-load.true in
+    record {
+      draws = c.draw_bytes.ensures.draws ∙ sym value.1;
+      marks = cell_marked (sized a.size) a.load.depth a.first.state levels.draws _ _ _ levels.marks;
+      stores = rw value.0 c.draw_bytes.ensures.stores;
+    }
 
 pub returns : goal.returns
 returns c =
-    let cell : let a = c.args in Drawn (sized a.size) a.depth (draw_cell (sized a.size) a.depth a.first.state) (drew_levels c.mark_levels-levels.result) = let a =
-    c.args in cell_of_lem (sized a.size) a.depth a.first.state c.mark_levels-levels.ensures.draws in
-    let planes : let a = c.args in c.mark_levels-levels.new.masks ≡ column a.n a.at
-    (set_masks a.depth (draw_cell (sized a.size) a.depth a.first.state).made) a.masks.now = rw cell.marked c.mark_levels-levels.ensures.marks in
     let a = c.args in
-    let value = cell.if_null c.if-set-depth.false in
-    record { draws = sym value.1; marks = planes; stores = c.fill_bytes.ensures ∙ sym (ap (λ (v : Value). over_at a.to v a.values.now) value.0) }
+    let levels = c.draw_levels-levels.ensures in
+    let value = (cell_of_lem (sized a.size) a.load.depth a.first.state levels.draws).if_null c.if-levels-load.false in
+    record {
+      draws = sym value.1;
+      marks = cell_marked (sized a.size) a.load.depth a.first.state levels.draws _ _ _ levels.marks;
+      stores = rw value.0 c.fill_bytes.ensures;
+    }
