@@ -18,11 +18,12 @@ use crate::loads::Load;
 use array::answer::Lengths;
 use array::refusal::Refusal;
 use buffer::copy::fill_bytes;
+use valid::kind::MOST_DEPTH;
 
 // The most bytes of a ragged value, and the most levels of a cell.
 const MOST: usize = 8;
 
-const DEEPEST: usize = 4;
+const DEEPEST: usize = MOST_DEPTH as usize;
 
 // The length of a ragged value, by its draw.
 fn length_of(draw: u32) -> usize
