@@ -101,7 +101,22 @@ impl<'a> Level<'a> {
         }
     }
 
-    // The same, with the level.
+    // The same, with the depth as the caller writes it: where that is a constant, what goes by the level is compiled for it.
+    // Each caller matches on the depth itself: one match for all would take the call as a closure and its output beside it, and save no line.
+    #[inline(always)]
+    pub fn at_depth(self, depth: usize) -> Level<'a>
+        requires { depth ≡ self.depth }
+        ensures { result ≡ self.entry }
+    {
+        let Level { masks, cells, .. } = self;
+        Level {
+            masks,
+            cells,
+            depth,
+        }
+    }
+
+    // The same, with the number of its cells.
     #[inline(always)]
     pub fn counted(self) -> Counted<'a>
         ensures { result.level ≡ self.entry }
@@ -122,20 +137,14 @@ pub struct Counted<'a> {
 }
 
 impl<'a> Counted<'a> {
-    // The same, with the depth as the caller writes it: where that is a constant, what goes by the level is compiled for it.
-    // Each caller matches on the depth itself: one match for all would take the call as a closure and its output beside it, and save no line.
+    // The same of its level.
     #[inline(always)]
     pub fn at_depth(self, depth: usize) -> Counted<'a>
         requires { depth ≡ self.level.depth }
         ensures { result ≡ self.entry }
     {
-        let Level { masks, cells, .. } = self.level;
         Counted {
-            level: Level {
-                masks,
-                cells,
-                depth,
-            },
+            level: self.level.at_depth(depth),
             count: self.count,
         }
     }

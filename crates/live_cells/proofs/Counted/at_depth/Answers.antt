@@ -1,7 +1,7 @@
--- `live_cells::Counted::at_depth` meets its contract: the depth is the level's.
+-- `live_cells::Counted::at_depth` meets its contract: its level is the same.
 -- Assumes nothing.
-use Rattle.live_cells.proofs.Levels.{level_same, counted_same}
+use Rattle.live_cells.proofs.Levels.{counted_same}
 use Rattle.live_cells.proofs.Counted.at_depth.Goals as goal
 
 pub returns : goal.returns
-returns c = counted_same c.args.self (level_same c.args.self.level c.requires _ _) _
+returns c = counted_same c.args.self c.at_depth.ensures _
