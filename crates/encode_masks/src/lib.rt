@@ -13,6 +13,7 @@ use mask::form;
 
 // Gathers the mask bytes of the next m cells from `start` on that the level counts, without a branch; says where the cells behind them begin.
 #[inline(always)]
+#[tactic(auto, using(crate::proofs::Blocks::picking_cell, encode_cells::proofs::Packing::mask_plane))]
 fn gather_masks(block: &mut [u8], level: Level, start: usize, m: usize) -> usize
     requires { ((level.depth + 1) * level.cells ≤ length level.masks.now)
         × (m ≤ length (live_from level.cells level.masks.now level.depth start)) × (m ≤ length block.old) }
