@@ -46,6 +46,23 @@ fn put_live_runs(out: &mut [u8], to: usize, s: &[u8], size: usize, order: ByteOr
     }
 }
 
+// The same by level: where the level is a constant, the loop is compiled for it and does not ask for it at each cell. A function of its own,
+// since a loop within a large one has its pointers in memory.
+#[inline(never)]
+fn put_level_runs(out: &mut [u8], to: usize, s: &[u8], size: usize, order: ByteOrder, level: Level)
+    requires { (level.cells ≤ most_cells) × (level.cells * size ≤ length s.now)
+        × (to + length (put_values (fixed size (order_of order)) (values_at (fixed_at 0 size) s.now (live_in level))) ≤ length out.old) }
+    ensures { out.new ≡ over_at to (put_values (fixed size (order_of order)) (values_at (fixed_at 0 size) s.now (live_in level.entry))) out.old }
+{
+    match level.depth {
+        1 => put_live_runs(out, to, s, size, order, level.at_depth(1)),
+        2 => put_live_runs(out, to, s, size, order, level.at_depth(2)),
+        3 => put_live_runs(out, to, s, size, order, level.at_depth(3)),
+        4 => put_live_runs(out, to, s, size, order, level.at_depth(4)),
+        _ => put_live_runs(out, to, s, size, order, level),
+    }
+}
+
 // The same of cells of a word's size, without a branch: a cell that the level does not count is written too, and the next is written over it.
 #[inline(always)]
 fn put_live_words(out: &mut [u8], to: usize, s: &[u8], size: usize, order: ByteOrder, live: Counted)
@@ -64,31 +81,29 @@ fn put_live_words(out: &mut [u8], to: usize, s: &[u8], size: usize, order: ByteO
     }
 }
 
-// The same by level: where the level is a constant, the loop is compiled for it and does not ask for it at each cell.
-#[inline(always)]
-fn put_level_words(
+// The same by level, and each size has a loop of its own.
+#[inline(never)]
+fn put_level_words<const SIZE: usize>(
     out: &mut [u8],
     to: usize,
     s: &[u8],
-    size: usize,
     order: ByteOrder,
     live: Counted,
 )
-    requires { (word_test size ≡ true) × (live.level.cells * size ≤ length s.now)
-        × (to + length (put_values (fixed size (order_of order)) (values_at (fixed_at 0 size) s.now (live_in live.level))) ≤ length out.old) }
-    ensures { out.new ≡ over_at to (put_values (fixed size (order_of order)) (values_at (fixed_at 0 size) s.now (live_in live.entry.level))) out.old }
+    requires { (word_test SIZE ≡ true) × (live.level.cells * SIZE ≤ length s.now)
+        × (to + length (put_values (fixed SIZE (order_of order)) (values_at (fixed_at 0 SIZE) s.now (live_in live.level))) ≤ length out.old) }
+    ensures { out.new ≡ over_at to (put_values (fixed SIZE (order_of order)) (values_at (fixed_at 0 SIZE) s.now (live_in live.entry.level))) out.old }
 {
     match live.level.depth {
-        1 => put_live_words(out, to, s, size, order, live.at_depth(1)),
-        2 => put_live_words(out, to, s, size, order, live.at_depth(2)),
-        3 => put_live_words(out, to, s, size, order, live.at_depth(3)),
-        4 => put_live_words(out, to, s, size, order, live.at_depth(4)),
-        _ => put_live_words(out, to, s, size, order, live),
+        1 => put_live_words(out, to, s, SIZE, order, live.at_depth(1)),
+        2 => put_live_words(out, to, s, SIZE, order, live.at_depth(2)),
+        3 => put_live_words(out, to, s, SIZE, order, live.at_depth(3)),
+        4 => put_live_words(out, to, s, SIZE, order, live.at_depth(4)),
+        _ => put_live_words(out, to, s, SIZE, order, live),
     }
 }
 
-// Of cells of one size, those that the level counts. Each size of a word has a loop of its own.
-#[inline(always)]
+// Of cells of one size, those that the level counts.
 pub fn put_live(out: &mut [u8], to: usize, s: &[u8], size: usize, order: ByteOrder, live: Counted)
     requires { (live.level.cells ≤ most_cells) × (live.level.cells * size ≤ length s.now)
         × (to + length (put_values (fixed size (order_of order)) (values_at (fixed_at 0 size) s.now (live_in live.level))) ≤ length out.old) }
@@ -98,11 +113,11 @@ pub fn put_live(out: &mut [u8], to: usize, s: &[u8], size: usize, order: ByteOrd
         cells::copy_cells(out, to, s, 0, size, order, live.level.cells);
     } else {
         match size {
-            1 => put_level_words(out, to, s, 1, order, live),
-            2 => put_level_words(out, to, s, 2, order, live),
-            4 => put_level_words(out, to, s, 4, order, live),
-            8 => put_level_words(out, to, s, 8, order, live),
-            _ => put_live_runs(out, to, s, size, order, live.level),
+            1 => put_level_words::<1>(out, to, s, order, live),
+            2 => put_level_words::<2>(out, to, s, order, live),
+            4 => put_level_words::<4>(out, to, s, order, live),
+            8 => put_level_words::<8>(out, to, s, order, live),
+            _ => put_level_runs(out, to, s, size, order, live.level),
         }
     }
 }

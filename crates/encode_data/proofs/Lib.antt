@@ -1,3 +1,4 @@
+pub mod Same
 pub mod Spans
 pub mod Slicing
 pub mod Summing

@@ -5,15 +5,13 @@ ghost use Rattle.std.specs.Prelude.{◌≡◌, ◌∷◌, ◌+◌, ◌≤◌, le
 ghost use Rattle.array.specs.Buffers.{over_at};
 ghost use Rattle.array.specs.Bytes.{le};
 ghost use Rattle.array.specs.Meaning.{width_of};
-ghost use Rattle.array.specs.Places.{ends_at, offset_at};
 ghost use Rattle.codec.specs.Ragged.{index_of};
-ghost use Rattle.live_cells.specs.Levels.{live_in};
-ghost use Rattle.encode_data.specs.Offsets.{Offsets};
+ghost use Rattle.encode_data.specs.Values.{live_ends};
 
 use array::kind;
 use array::kind::IndexWidth;
 use buffer::field;
-use live_cells::Counted;
+use encode_data::LiveOffsets;
 
 fn put_offset(out: &mut [u8], at: usize, width: IndexWidth, v: u64)
     requires { at + width_of width ≤ length out.old }
@@ -29,11 +27,11 @@ fn put_offset(out: &mut [u8], at: usize, width: IndexWidth, v: u64)
 // is overwritten by the next that it counts, so that nothing branches on a mask. As put_live_words of `encode_cells`, with a total carried
 // along: their law (Packing) is one, and one loop for both would be a trait with two impls for eight lines.
 #[inline(always)]
-fn put_marked_ends(out: &mut [u8], to: usize, width: IndexWidth, offsets: &[u64], live: Counted)
-    requires { Offsets live.level.cells offsets.now
-        × (to + length (index_of (width_of width) (ends_at (offset_at offsets.now) 0 (live_in live.level))) ≤ length out.old) }
-    ensures { out.new ≡ over_at to (index_of (width_of width) (ends_at (offset_at offsets.now) 0 (live_in live.entry.level))) out.old }
+fn put_marked_ends(out: &mut [u8], to: usize, width: IndexWidth, places: LiveOffsets)
+    requires { to + length (index_of (width_of width) (live_ends places)) ≤ length out.old }
+    ensures { out.new ≡ over_at to (index_of (width_of width) (live_ends places.entry)) out.old }
 {
+    let LiveOffsets { offsets, live } = places;
     let k = kind::width_bytes(width);
     let mut i = 0;
     let mut total: u64 = 0;
@@ -51,19 +49,18 @@ fn put_marked_ends(out: &mut [u8], to: usize, width: IndexWidth, offsets: &[u64]
     }
 }
 
-// The same by level, as put_live_data of `encode_data`.
-#[inline(always)]
-fn put_live_ends(out: &mut [u8], to: usize, width: IndexWidth, offsets: &[u64], live: Counted)
-    requires { Offsets live.level.cells offsets.now
-        × (to + length (index_of (width_of width) (ends_at (offset_at offsets.now) 0 (live_in live.level))) ≤ length out.old) }
-    ensures { out.new ≡ over_at to (index_of (width_of width) (ends_at (offset_at offsets.now) 0 (live_in live.entry.level))) out.old }
+// The same by level, as put_level_runs of `encode_cells`.
+#[inline(never)]
+fn put_live_ends(out: &mut [u8], to: usize, width: IndexWidth, places: LiveOffsets)
+    requires { to + length (index_of (width_of width) (live_ends places)) ≤ length out.old }
+    ensures { out.new ≡ over_at to (index_of (width_of width) (live_ends places.entry)) out.old }
 {
-    match live.level.depth {
-        1 => put_marked_ends(out, to, width, offsets, live.at_depth(1)),
-        2 => put_marked_ends(out, to, width, offsets, live.at_depth(2)),
-        3 => put_marked_ends(out, to, width, offsets, live.at_depth(3)),
-        4 => put_marked_ends(out, to, width, offsets, live.at_depth(4)),
-        _ => put_marked_ends(out, to, width, offsets, live),
+    match places.live.level.depth {
+        1 => put_marked_ends(out, to, width, places.at_depth(1)),
+        2 => put_marked_ends(out, to, width, places.at_depth(2)),
+        3 => put_marked_ends(out, to, width, places.at_depth(3)),
+        4 => put_marked_ends(out, to, width, places.at_depth(4)),
+        _ => put_marked_ends(out, to, width, places),
     }
 }
 
@@ -80,17 +77,16 @@ pub fn put_index(out: &mut [u8], to: usize, width: IndexWidth, offsets: &[u64])
 }
 
 // The index of the cells that the level counts, from offset 0. Where all count, it is the offsets as they lie.
-#[inline(always)]
-pub fn put_live_index(out: &mut [u8], to: usize, width: IndexWidth, offsets: &[u64], live: Counted)
-    requires { Offsets live.level.cells offsets.now
-        × (to + length (index_of (width_of width) (0 ∷ ends_at (offset_at offsets.now) 0 (live_in live.level))) ≤ length out.old) }
-    ensures { out.new ≡ over_at to (index_of (width_of width) (0 ∷ ends_at (offset_at offsets.now) 0 (live_in live.entry.level))) out.old }
+pub fn put_live_index(out: &mut [u8], to: usize, width: IndexWidth, places: LiveOffsets)
+    requires { to + length (index_of (width_of width) (0 ∷ live_ends places)) ≤ length out.old }
+    ensures { out.new ≡ over_at to (index_of (width_of width) (0 ∷ live_ends places.entry)) out.old }
 {
+    let live = places.live;
     if live.count == live.level.cells {
-        put_index(out, to, width, offsets);
+        put_index(out, to, width, places.offsets);
     } else {
         put_offset(out, to, width, 0);
         let behind = to + kind::width_bytes(width);
-        put_live_ends(out, behind, width, offsets, live);
+        put_live_ends(out, behind, width, places);
     }
 }

@@ -6,7 +6,7 @@ use native.Mathlib.Numerals.{add-one}
 use native.Mathlib.Omega.{arith}
 use mathlib.Core.Bool.{Bool, true, false}
 use mathlib.Core.List.{List, [], ◌∷◌, ◌++◌, map, append-nil}
-use lib.ListN.{length, take, drop, set, length-append, length-map, length-set, length-drop, take-append-drop}
+use lib.ListN.{length, take, drop, set, length-map, length-set, length-drop, take-append-drop}
 use lib.Seq.{length-take-le, take_at, take-add, drop-drop, take-set-le, drop-set-lt, take-suc-set}
 use lib.Dec.{leb}
 use borrow.Author.Tests.{leb-true, leb-false}
@@ -15,7 +15,7 @@ use Rattle.array.specs.Buffers.{over_at}
 use Rattle.array.specs.Kind.{Masks}
 use Rattle.array.specs.Places.{mask_at, masks_at, shown_at}
 use Rattle.array.proofs.Lists.{map-append}
-use Rattle.array.proofs.Laying.{Laying, laying_begins, laying_same, laying_left, laying_ends, laying_part, laying_is}
+use Rattle.array.proofs.Laying.{Laying, laying_begins, laying_same, laying_ends, laying_part, laying_is}
 use Rattle.codec.specs.Mask.{mask_form}
 use Rattle.codec.proofs.Frames.{MaskLaws}
 use Rattle.codec.proofs.Masks.{mask_laws}
@@ -35,10 +35,6 @@ pub record Picking (n : ℕ) (masks : List ℕ) (l : ℕ) (block₀ : List ℕ) 
   pub taken : take done block ≡ masks_at n masks l (take done (live_from n masks l start))
   pub kept : drop m block ≡ drop m block₀
   pub left : live_from n masks l i ≡ drop done (live_from n masks l start)
-
-module _ {n : ℕ} {masks : List ℕ} {l : ℕ} {block₀ : List ℕ} {start m : ℕ} where
-  pub picking_begins : m ≤ length block₀ → m ≤ length (live_from n masks l start) → Picking n masks l block₀ start m block₀ start 0
-  picking_begins r e = record { room = r; enough = e; within = omega arith; same = refl; taken = refl; kept = refl; left = refl }
 
 module _ {n : ℕ} {masks : List ℕ} {l : ℕ} {block₀ : List ℕ} {start m : ℕ} {block : List ℕ} {i done : ℕ} (p : Picking n masks l block₀ start m block i done) where
   -- a cell that is counted is still left
@@ -98,19 +94,6 @@ module _ {n : ℕ} {masks : List ℕ} {l : ℕ} {block₀ : List ℕ} {start m :
               kept = ap (drop m) eb ∙ drop-set-lt m block done v h ∙ p.kept;
               left = sym (ap (λ (k : ℕ). drop k cells) e1 ∙ next false e);
             }
-
-  pub picking_ends : m ≤ done → Gathered n masks l block₀ start m block i
-  picking_ends h =
-      let e : done ≡ m = omega (arith, p.within) in
-      let cells : List ℕ = live_from n masks l start in
-      let long : length (masks_at n masks l (take m cells)) ≡ m = length-map (take m cells) (mask_at n masks l) ∙ length-take-le m cells p.enough in
-      record {
-        bytes =
-            sym (take-append-drop m block)
-            ∙ ap₂ ◌++◌ (ap (λ (k : ℕ). take k block) (sym e) ∙ p.taken ∙ ap (λ (k : ℕ). masks_at n masks l (take k cells)) e) p.kept
-            ∙ ap (λ (k : ℕ). masks_at n masks l (take m cells) ++ drop k block₀) (sym long);
-        behind = p.left ∙ ap (λ (k : ℕ). drop k cells) e;
-      }
 
 -- the block that was gathered
 module _ {n : ℕ} {masks : List ℕ} {l : ℕ} {block : List ℕ} {i m : ℕ} {block' : List ℕ} {r : ℕ} (q : Gathered n masks l block i m block' r)
@@ -206,18 +189,6 @@ module _ {x : Masks} {n : ℕ} {masks : List ℕ} {l : ℕ} {d : List ℕ} {to :
           ∙ put-parts x (masks_at n masks l (take m (live_from n masks l i))) (masks_at n masks l (live_from n masks l r))
           (λ h. ap (λ (k : ℕ). k % 8) (gathered_long q block_fits) ∙ eights (omega (arith, length-map (live_from n masks l r) (mask_at n masks l), rest_long, p.counted)))
 
-      pub block_room : to + (mask_form x).size done + (mask_form x).size m ≤ length out
-      block_room =
-          omega (
-            arith,
-            blocks_same,
-            p.laid.room,
-            laying_left (live_mask x n masks l) d to out ((mask_form x).size done) left p.laid,
-            ap length next,
-            length-append part ((mask_form x).put (masks_at n masks l (live_from n masks l r))),
-            part_long,
-          )
-
       pub blocks_more : {at : ℕ} → at ≡ (mask_form x).size done → {out' : List ℕ} → out' ≡ over_at (to + at) ((mask_form x).put (take m block')) out
           → Blocks x n masks l d to out' r (done + m)
       blocks_more {at} ea {out'} eo = record {
@@ -231,18 +202,28 @@ module _ {x : Masks} {n : ℕ} {masks : List ℕ} {l : ℕ} {d : List ℕ} {to :
 
 -- ---- the next block: as many cells as are left, and at most 256
 
+module _ {all count done m : ℕ} (ec : count ≡ all) (h : done < count) (e : m ≡ min (count - done) 256) where
+  next_some : 1 ≤ m
+  next_some = omega arith
+
+  next_fits : done + m ≤ all
+  next_fits = omega arith
+
+  next_eights : done + m < all → m % 8 ≡ 0
+  next_eights q = omega arith
+
+  next_done : done + m ≡ min (done + 256) count
+  next_done = omega arith
+
 pub blocks_at : {x : Masks} {n : ℕ} {masks : List ℕ} {l : ℕ} {d : List ℕ} {to : ℕ} {out : List ℕ} {i j k : ℕ} → j ≡ k → Blocks x n masks l d to out i j → Blocks x n masks l d to out i k
 blocks_at {x} {n} {masks} {l} {d} {to} {out} {i} e p = subst (λ (j : ℕ). Blocks x n masks l d to out i j) e p
 
-module _ {all count done m : ℕ} (ec : count ≡ all) (h : done < count) (e : m ≡ min (count - done) 256) where
-  pub next_some : 1 ≤ m
-  next_some = omega arith
+module _ {x : Masks} {n : ℕ} {masks : List ℕ} {l : ℕ} {d : List ℕ} {to : ℕ} {out : List ℕ} {i done count m : ℕ} (p : Blocks x n masks l d to out i (min done count))
+    (ec : count ≡ length (live_at n masks l)) (h : done < count) (e : m ≡ min (count - done) 256) where
+  now : Blocks x n masks l d to out i done
+  now = blocks_at (omega (arith, h)) p
 
-  pub next_fits : done + m ≤ all
-  next_fits = omega arith
-
-  pub next_eights : done + m < all → m % 8 ≡ 0
-  next_eights q = omega arith
-
-  pub next_done : done + m ≡ min (done + 256) count
-  next_done = omega arith
+  pub next_block : {block block' : List ℕ} {r : ℕ} → Gathered n masks l block i m block' r
+      → {at : ℕ} → at ≡ (mask_form x).size done → {out' : List ℕ} → out' ≡ over_at (to + at) ((mask_form x).put (take m block')) out
+      → Blocks x n masks l d to out' r (min (done + 256) count)
+  next_block q ea eo = blocks_at (next_done ec h e) (blocks_more now (next_some ec h e) (next_fits ec h e) (next_eights ec h e) q ea eo)

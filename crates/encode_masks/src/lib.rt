@@ -13,6 +13,7 @@ use mask::form;
 
 // Gathers the mask bytes of the next m cells from `start` on that the level counts, without a branch; says where the cells behind them begin.
 #[inline(always)]
+#[tactic(auto, using(crate::proofs::Blocks::picking_cell, encode_cells::proofs::Packing::mask_plane))]
 fn gather_masks(block: &mut [u8], level: Level, start: usize, m: usize) -> usize
     requires { ((level.depth + 1) * level.cells ≤ length level.masks.now)
         × (m ≤ length (live_from level.cells level.masks.now level.depth start)) × (m ≤ length block.old) }
@@ -45,8 +46,21 @@ fn put_live_mask(form: MaskForm, out: &mut [u8], to: usize, live: Counted)
     }
 }
 
+// The same by level: one that is a constant has a loop of its own, in a function of its own, as put_level_runs of `encode_cells`.
+#[inline(never)]
+fn put_level_mask(form: MaskForm, out: &mut [u8], to: usize, live: Counted)
+    requires { ((live.level.depth + 1) * live.level.cells ≤ length live.level.masks.now) × (to + (mask_form (masks_of form)).size live.count ≤ length out.old) }
+    ensures { out.new ≡ over_at to (live_mask (masks_of form) live.entry.level.cells live.entry.level.masks.now live.entry.level.depth) out.old }
+{
+    match live.level.depth {
+        1 => put_live_mask(form, out, to, live.at_depth(1)),
+        2 => put_live_mask(form, out, to, live.at_depth(2)),
+        3 => put_live_mask(form, out, to, live.at_depth(3)),
+        _ => put_live_mask(form, out, to, live),
+    }
+}
+
 // The stored mask of the cells that the level counts.
-#[inline(always)]
 pub fn put_mask(form: MaskForm, out: &mut [u8], to: usize, live: Counted)
     requires { ((live.level.depth + 1) * live.level.cells ≤ length live.level.masks.now) × (to + (mask_form (masks_of form)).size live.count ≤ length out.old) }
     ensures { out.new ≡ over_at to (live_mask (masks_of form) live.entry.level.cells live.entry.level.masks.now live.entry.level.depth) out.old }
@@ -59,12 +73,6 @@ pub fn put_mask(form: MaskForm, out: &mut [u8], to: usize, live: Counted)
     if live.count == cells {
         form::put_plane(form, out, to, masks, depth * cells, cells);
     } else {
-        // a level that is a constant has a loop of its own
-        match depth {
-            1 => put_live_mask(form, out, to, live.at_depth(1)),
-            2 => put_live_mask(form, out, to, live.at_depth(2)),
-            3 => put_live_mask(form, out, to, live.at_depth(3)),
-            _ => put_live_mask(form, out, to, live),
-        }
+        put_level_mask(form, out, to, live);
     }
 }

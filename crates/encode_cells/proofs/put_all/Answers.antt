@@ -2,15 +2,10 @@
 -- Assumes nothing.
 use mathlib.Core.Path.{ap}
 use Rattle.array.specs.Meaning.{order_of}
-use Rattle.endian.proofs.CellLaws.{copied_little, copied_big}
+use Rattle.endian.proofs.CellLaws.{copied_little}
 use Rattle.encode_cells.proofs.put_all.Goals as goal
 
 pub returns-in-Little : goal.returns-in-Little
 returns-in-Little c =
     let a = c.args in
     copied_little 0 a.size a.cells a.s.now a.out.now (ap order_of c.in-Little.is) c.copy_many.ensures
-
-pub returns-in-Big : goal.returns-in-Big
-returns-in-Big c =
-    let a = c.args in
-    copied_big 0 a.size a.cells a.s.now a.out.now (ap order_of c.in-Big.is) c.copy_cells_reversed.ensures

@@ -14,32 +14,32 @@ use Rattle.encode_index.proofs.put_live_index.Goals as goal
 
 pub put_index-requires : goal.put_index-requires
 put_index-requires c =
-    let live = c.args.live in
-    let full = all_ends c.requires.0 live.level.masks.now live.level.depth live.counted c.if-live.true in
-    omega (arith, c.requires.1, ap length (ap (index_of (width_of c.args.width)) full))
+    let live = c.args.places.live in
+    let full = all_ends c.args.places.rising live.level.masks.now live.level.depth live.counted c.if-live.true in
+    omega (arith, c.requires, ap length (ap (index_of (width_of c.args.width)) full))
 
 pub put_offset-requires : goal.put_offset-requires
 put_offset-requires c =
-    let head = index_head (width_of c.args.width) (ends_at (offset_at c.args.offsets.now) 0 (live_in c.args.live.level)) in
-    omega (arith, c.requires.1, head)
+    let head = index_head (width_of c.args.width) (ends_at (offset_at c.args.places.offsets.now) 0 (live_in c.args.places.live.level)) in
+    omega (arith, c.requires, head)
 
 pub overflow_add-behind : goal.overflow_add-behind
 overflow_add-behind c =
-    let head = index_head (width_of c.args.width) (ends_at (offset_at c.args.offsets.now) 0 (live_in c.args.live.level)) in
-    omega (arith, c.requires.1, head, c.width_bytes.ensures)
+    let head = index_head (width_of c.args.width) (ends_at (offset_at c.args.places.offsets.now) 0 (live_in c.args.places.live.level)) in
+    omega (arith, c.requires, head, c.width_bytes.ensures)
 
 pub put_live_ends-requires : goal.put_live_ends-requires
 put_live_ends-requires c =
-    let head = index_head (width_of c.args.width) (ends_at (offset_at c.args.offsets.now) 0 (live_in c.args.live.level)) in
-    (c.requires.0, omega (arith, c.requires.1, head, c.width_bytes.ensures, c.put_offset.auto.out))
+    let head = index_head (width_of c.args.width) (ends_at (offset_at c.args.places.offsets.now) 0 (live_in c.args.places.live.level)) in
+    omega (arith, c.requires, head, c.width_bytes.ensures, c.put_offset.auto.out)
 
 pub returns-then-live : goal.returns-then-live
 returns-then-live c =
-    let live = c.args.live in
-    let full = all_ends c.requires.0 live.level.masks.now live.level.depth live.counted c.if-live.true in
+    let live = c.args.places.live in
+    let full = all_ends c.args.places.rising live.level.masks.now live.level.depth live.counted c.if-live.true in
     laid_as c.args.to c.args.out.now c.put_index.ensures (ap (index_of (width_of c.args.width)) full)
 
 pub returns-else-live : goal.returns-else-live
 returns-else-live c =
     let a = c.args in
-    index_laid a.to (ends_at (offset_at a.offsets.now) 0 (live_in a.live.level)) a.out.now c.requires.1 c.width_bytes.ensures c.put_offset.ensures c.put_live_ends.ensures
+    index_laid a.to (ends_at (offset_at a.places.offsets.now) 0 (live_in a.places.live.level)) a.out.now c.requires c.width_bytes.ensures c.put_offset.ensures c.put_live_ends.ensures

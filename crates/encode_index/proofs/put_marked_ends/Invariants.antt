@@ -7,7 +7,7 @@ use Rattle.encode_index.proofs.Indexing.{Indexing}
 use Rattle.encode_index.proofs.put_marked_ends.Given as goal
 
 abbrev pub invariant-loop-done : goal.invariant-loop-done
-invariant-loop-done l = Indexing (shown_in l.live.level) l.live.level.cells (width_of l.width) l.offsets l.initial.out l.to l.out l.i l.total l.done
+invariant-loop-done l = Indexing (shown_in l.places.live.level) l.places.live.level.cells (width_of l.width) l.places.offsets.now l.initial.out l.to l.out l.i l.total l.done
 
 abbrev pub decreases-loop-done : goal.decreases-loop-done
-decreases-loop-done l = l.live.level.cells - l.i
+decreases-loop-done l = l.places.live.level.cells - l.i

@@ -1,18 +1,11 @@
 -- `encode_masks::put_mask` meets its contract: where every cell is counted, the mask is the plane; each level has the loop of its own.
 -- Assumes nothing.
 use mathlib.Core.Path.{ap}
-use native.Mathlib.Omega.{arith}
 use Rattle.array.specs.Meaning.{masks_of}
 use Rattle.codec.specs.Mask.{mask_form}
 use Rattle.encode_cells.proofs.Placing.{laid_as}
-use Rattle.encode_cells.proofs.Packing.{mask_plane, mask_all}
+use Rattle.encode_cells.proofs.Packing.{mask_all}
 use Rattle.encode_masks.proofs.put_mask.Goals as goal
-
-pub put_plane-requires : goal.put_plane-requires
-put_plane-requires c =
-    let v = c.args.live.level in
-    let size = ap (mask_form (masks_of c.args.form)).size c.if-live-cells.true in
-    (omega (arith, size, c.requires.1), omega (arith, mask_plane v.cells v.masks.now v.depth c.requires.0))
 
 pub returns-then-live-cells : goal.returns-then-live-cells
 returns-then-live-cells c =

@@ -1,9 +1,9 @@
--- `encode_data::put_live_runs` meets its contract: by the laws of Slicing.
+-- `encode_data::LiveValues::put_runs` meets its contract: by the laws of Slicing.
 -- Assumes nothing.
 use native.Mathlib.Omega.{arith}
 use Rattle.encode_data.proofs.Slicing.{slicing_same, slicing_ends, slicing_wrote}
 use Rattle.encode_data.proofs.Slicing.{slicing_skip, slicing_inside, slicing_rises, slicing_source, slicing_room, slicing_more}
-use Rattle.encode_data.proofs.put_live_runs.Goals as goal
+use Rattle.encode_data.proofs.LiveValues.put_runs.Goals as goal
 
 pub loop-i-preserved-then-mark-eq0 : goal.loop-i-preserved-then-mark-eq0
 loop-i-preserved-then-mark-eq0 c = slicing_skip c.loop-i.invariant c.loop-i-test.true c.mark.ensures c.if-mark-eq0.true

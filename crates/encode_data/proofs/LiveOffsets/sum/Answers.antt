@@ -1,9 +1,9 @@
--- `encode_data::sum_live_bytes` meets its contract: by the laws of Summing.
+-- `encode_data::LiveOffsets::sum` meets its contract: by the laws of Summing.
 -- Assumes nothing.
 use Prim.Native.Nat.{◌+◌}
 use native.Mathlib.Omega.{arith}
 use Rattle.encode_data.proofs.Summing.{summing_ends, summing_rises, summing_fits}
-use Rattle.encode_data.proofs.sum_live_bytes.Goals as goal
+use Rattle.encode_data.proofs.LiveOffsets.sum.Goals as goal
 
 pub overflow_sub-total : goal.overflow_sub-total
 overflow_sub-total c = summing_rises c.loop-i.invariant c.loop-i-test.true
@@ -11,7 +11,7 @@ overflow_sub-total c = summing_rises c.loop-i.invariant c.loop-i-test.true
 pub overflow_add-total : goal.overflow_add-total
 overflow_add-total c =
     let fits = summing_fits c.loop-i.invariant c.loop-i-test.true c.mark-mark.ensures in
-    omega (arith, fits, c.shared_slice_known-in-loop-i-2-1.given (c.loop-i.i + 1))
+    omega (arith, fits, c.type_inv.offsets (c.loop-i.i + 1))
 
 pub returns : goal.returns
 returns c = summing_ends c.loop-i.invariant (omega (arith, c.loop-i-test.false))
