@@ -24,6 +24,8 @@ use Rattle.load.specs.Generator.{Drew}
 use Rattle.load.specs.Load.{draw_cell, draw_cells}
 use Rattle.load.proofs.Drawn.{DrawnCell, drawn_cells, drawn_count, drawn_total}
 use Rattle.generate.specs.Cells.{set_masks, column, sized, lengthy, cells_from, bytes_from}
+use Rattle.generate.specs.declared.loads.Load.{Load}
+use Rattle.generate.specs.Loads.{bytes_of}
 use Rattle.generate.specs.Room.{Column, Limited}
 use Rattle.generate.proofs.Drawing.{next_of, Falls, drawn}
 use Rattle.generate.proofs.Columns.{column-length, columns, planes_laid}
@@ -201,3 +203,7 @@ count_values size d n s =
 pub ragged_small : {d n : ℕ} → Limited d n → (s : ℕ) → bytes_from lengthy d n s ≤ 524288
 unfolding most_cells
 ragged_small {d} {n} l s = omega (arith, drawn_total lengthy d n s, l.few)
+
+-- eight bytes a cell are always enough
+pub ragged_total : (l : Load) → bytes_of lengthy l ≤ 8 * l.n
+ragged_total l = omega (arith, drawn_total lengthy l.depth l.n l.first.state)

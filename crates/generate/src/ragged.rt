@@ -1,5 +1,5 @@
 // Loads of ragged values: how many bytes they have is known only once they are drawn.
-ghost use Rattle.std.specs.Prelude.{◌≡◌, ◌+◌, ◌≤◌, leb, length};
+ghost use Rattle.std.specs.Prelude.{◌≡◌, ◌+◌, ◌≤◌, length};
 ghost use Rattle.array.specs.Lists.{joined};
 ghost use Rattle.array.specs.Offsets.{offsets_of};
 ghost use Rattle.array.specs.Cells.{leaf};
@@ -18,6 +18,7 @@ use crate::loads::Load;
 use array::answer::Lengths;
 use array::refusal::Refusal;
 use buffer::copy::fill_bytes;
+use buffer::room::has_room;
 use valid::kind::MOST_DEPTH;
 
 // The most bytes of a ragged value, and the most levels of a cell.
@@ -100,17 +101,7 @@ fn count_bytes(load: Load) -> usize
     sum
 }
 
-// Whether the values have room in `room` bytes. Where each cell has room for the longest value, nothing need be counted.
-fn has_room(load: Load, room: usize) -> bool
-    ensures { result ≡ leb (bytes_of lengthy load) room }
-{
-    if MOST * load.n <= room {
-        return true;
-    }
-    count_bytes(load) <= room
-}
-
-// The load of cells with ragged values: 6, by a first run where the values may not fit, and then the drawing.
+// The load of cells with ragged values: 6, by a first run where not every cell has room for the longest value, and then the drawing.
 pub fn make_ragged(
     load: Load,
     masks: &mut [u8],
@@ -128,7 +119,7 @@ pub fn make_ragged(
     if offsets.len() < count {
         return Err(Refusal::Output);
     }
-    if !has_room(load, values.len()) {
+    if !has_room(MOST * load.n, values.len(), || count_bytes(load)) {
         return Err(Refusal::Output);
     }
     let bytes = draw_cells(load, masks, values, offsets);
