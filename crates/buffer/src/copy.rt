@@ -2,7 +2,8 @@
 ghost use Rattle.std.specs.Prelude.{◌≡◌, ◌+◌, ◌≤◌, length, take, drop, replicate};
 ghost use Rattle.array.specs.Buffers.{over_at};
 
-// Copies the k bytes of s that begin at `at` to the place `to`.
+// Copies the k bytes of s that begin at `at` to the place `to`. A loop: a call of the library's costs more than the few bytes that most
+// copies have (docs/DECISIONS.md, part (k)).
 pub fn copy_bytes(out: &mut [u8], to: usize, s: &[u8], at: usize, k: usize)
     requires { (to + k ≤ length out.old) × (at + k ≤ length s.now) }
     ensures { out.new ≡ over_at to (take k (drop at s.now)) out.old }
@@ -25,7 +26,8 @@ pub fn copy_many(out: &mut [u8], to: usize, s: &[u8], at: usize, k: usize)
     }
 }
 
-// Writes the byte b, k times, from the place `to` on.
+// Writes the byte b, k times, from the place `to` on. Not one function with the next: `over_at` lays numbers over numbers, so that a
+// generic one would promise it of a type's numbers, and each caller would say which they are.
 pub fn fill_bytes(out: &mut [u8], to: usize, k: usize, b: u8)
     requires { to + k ≤ length out.old }
     ensures { out.new ≡ over_at to (replicate k b) out.old }

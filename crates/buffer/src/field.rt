@@ -3,35 +3,37 @@ ghost use Rattle.std.specs.Prelude.{◌≡◌, ◌+◌, ◌≤◌, length, take,
 ghost use Rattle.array.specs.Bytes.{le, unle};
 ghost use Rattle.array.specs.Buffers.{over_at};
 ghost use Rattle.buffer.specs.Field.{field_at};
-ghost use Rattle.array.specs.Meaning.{width_of, told};
+ghost use Rattle.array.specs.Meaning.{number_of, width_of, told};
 
 use array::kind::IndexWidth;
 use array::refusal::Refusal;
 
-// The 8-byte number at `at`, or refusal 7 where the bytes end before it does.
+// The number of the N bytes at `at`, or a refusal where the bytes end before it does.
+pub fn read<const N: usize>(s: &[u8], at: usize, short: Refusal) -> Result<u64, Refusal>
+    requires { (1 ≤ N) × (N ≤ 8) }
+    ensures { told result ≡ field_at N (number_of short) s.now at }
+{
+    if s.len() < at {
+        return Err(short);
+    }
+    if s.len() - at < N {
+        return Err(short);
+    }
+    Ok(number_at::<N>(s, at))
+}
+
+// The 8-byte number at `at`, or refusal 7.
 pub fn read_u64(s: &[u8], at: usize) -> Result<u64, Refusal>
     ensures { told result ≡ field_at 8 7 s.now at }
 {
-    if s.len() < at {
-        return Err(Refusal::Short);
-    }
-    if s.len() - at < 8 {
-        return Err(Refusal::Short);
-    }
-    Ok(le8_at(s, at))
+    read::<8>(s, at, Refusal::Short)
 }
 
-// The 4-byte number at `at`, a length in the older form, or refusal 11 where the bytes end before it does.
+// The 4-byte number at `at`, a length in the older form, or refusal 11.
 pub fn read_u32(s: &[u8], at: usize) -> Result<u64, Refusal>
     ensures { told result ≡ field_at 4 11 s.now at }
 {
-    if s.len() < at {
-        return Err(Refusal::PastEnd);
-    }
-    if s.len() - at < 4 {
-        return Err(Refusal::PastEnd);
-    }
-    Ok(le4_at(s, at))
+    read::<4>(s, at, Refusal::PastEnd)
 }
 
 // The number of the N bytes at `at`, the lowest first. N is a constant, so that it compiles to one load.
