@@ -23,11 +23,6 @@ put_offset-requires c =
     let head = index_head (width_of c.args.width) (ends_at (offset_at c.args.places.offsets.now) 0 (live_in c.args.places.live.level)) in
     omega (arith, c.requires, head)
 
-pub overflow_add-behind : goal.overflow_add-behind
-overflow_add-behind c =
-    let head = index_head (width_of c.args.width) (ends_at (offset_at c.args.places.offsets.now) 0 (live_in c.args.places.live.level)) in
-    omega (arith, c.requires, head, c.width_bytes.ensures)
-
 pub put_live_ends-requires : goal.put_live_ends-requires
 put_live_ends-requires c =
     let head = index_head (width_of c.args.width) (ends_at (offset_at c.args.places.offsets.now) 0 (live_in c.args.places.live.level)) in
