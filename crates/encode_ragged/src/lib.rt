@@ -16,6 +16,7 @@ use codec::place;
 use encode_data::LiveValues;
 
 // Ragged values of the cells that the level counts, end to end from offset 0; says how many bytes it wrote.
+#[tactic(auto, using(crate::proofs::Parts::count_below, crate::proofs::Parts::index_long, crate::proofs::Parts::stored_long))]
 pub fn put_ragged(
     out: &mut [u8],
     at: usize,
@@ -40,6 +41,7 @@ pub fn put_ragged(
 }
 
 // The same with no mask, in one go: all cells count, so values and offsets go as they lie.
+#[tactic(auto, using(crate::proofs::Parts::plain_long, codec::proofs::Ragged::length_index))]
 pub fn put_plain(
     out: &mut [u8],
     width: IndexWidth,
