@@ -33,17 +33,17 @@ overflow_add-result c =
     let ec = c.args.live.counted ∙ ap (λ (l : ℕ). length (live_at v.cells v.masks.now l)) c.requires.innermost in
     omega (arith, ragged_small c.args.kind c.requires.ready ec c.in-Ragged.is c.width_bytes.ensures refl)
 
-pub live_bytes-requires : goal.live_bytes-requires
-live_bytes-requires c =
+pub invariant_of-bytes : goal.invariant_of-bytes
+invariant_of-bytes c =
     let v = c.args.live.level in
     let ec = c.args.live.counted ∙ ap (λ (l : ℕ). length (live_at v.cells v.masks.now l)) c.requires.innermost in
-    ragged_offsets c.args.kind c.requires.ready ec c.in-Ragged.is
+    record { rising = ragged_offsets c.args.kind c.requires.ready ec c.in-Ragged.is }
 
 pub overflow_add-result-in-Ragged : goal.overflow_add-result-in-Ragged
 overflow_add-result-in-Ragged c =
     let v = c.args.live.level in
     let ec = c.args.live.counted ∙ ap (λ (l : ℕ). length (live_at v.cells v.masks.now l)) c.requires.innermost in
-    let bytes = c.live_bytes.ensures ∙ ap (λ (l : ℕ). bytes_at (offset_at c.args.offsets.now) (live_at v.cells v.masks.now l)) c.requires.innermost in
+    let bytes = c.bytes.ensures ∙ ap (λ (l : ℕ). bytes_at (offset_at c.args.offsets.now) (live_at v.cells v.masks.now l)) c.requires.innermost in
     omega (arith, ragged_small c.args.kind c.requires.ready ec c.in-Ragged.is c.width_bytes.ensures bytes)
 
 pub returns-in-Fixed : goal.returns-in-Fixed
@@ -56,5 +56,5 @@ pub returns-in-Ragged : goal.returns-in-Ragged
 returns-in-Ragged c =
     let v = c.args.live.level in
     let ec = c.args.live.counted ∙ ap (λ (l : ℕ). length (live_at v.cells v.masks.now l)) c.requires.innermost in
-    let bytes = c.live_bytes.ensures ∙ ap (λ (l : ℕ). bytes_at (offset_at c.args.offsets.now) (live_at v.cells v.masks.now l)) c.requires.innermost in
+    let bytes = c.bytes.ensures ∙ ap (λ (l : ℕ). bytes_at (offset_at c.args.offsets.now) (live_at v.cells v.masks.now l)) c.requires.innermost in
     ragged_length_lem c.args.kind c.requires.ready ec c.in-Ragged.is c.width_bytes.ensures bytes
