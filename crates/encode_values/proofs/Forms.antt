@@ -27,6 +27,7 @@ use Rattle.codec.specs.Ragged.{put_ragged}
 use Rattle.codec.specs.Values.{put_values}
 use Rattle.codec.proofs.Flat.{flat-put}
 use Rattle.live_cells.specs.Live.{live_at, Planes}
+use Rattle.live_cells.specs.declared.Counted.{Counted}
 use Rattle.encode_data.specs.Offsets.{Offsets}
 use Rattle.encode_values.specs.Ready.{MeasuresOk, Measured, Encodable}
 use Rattle.encode_values.specs.Stored.{values_from, values_length_at, length_from}
@@ -37,9 +38,6 @@ use Rattle.encode_data.proofs.Spans.{all_bytes}
 use Rattle.encode_values.proofs.Levels.{NarrowOk, values_small, flat-length}
 
 -- ---- the masks of all levels
-
-pub measured_planes : {k : Kind} {n : ℕ} {masks os : List ℕ} → Measured k n masks os → Planes n masks k.depth
-measured_planes m = record { shallow = m.shallow; few = m.few; planes = m.planes }
 
 module _ {k : Kind} {n : ℕ} {c : Content} (r : Encodable k n c) where
   pub encodable_planes : Planes n c.masks k.depth
@@ -67,6 +65,10 @@ narrow_of (Ragged Four p) = omega arith
 narrow_of (Ragged Eight p) = omega arith
 
 -- ---- how long values are
+
+-- as many cells as the innermost level counts
+pub innermost_count : (live : Counted) {d : ℕ} → live.level.depth ≡ d → live.count ≡ length (live_at live.level.cells live.level.masks.now d)
+innermost_count live e = live.counted ∙ ap (λ (l : ℕ). length (live_at live.level.cells live.level.masks.now l)) e
 
 module _ (k : declared.Kind) {n : ℕ} {masks os : List ℕ} (m : Measured (kind_of k) n masks os) {count : ℕ} (ec : count ≡ length (live_at n masks k.depth)) where
   -- the cells that every level sets
