@@ -27,6 +27,7 @@ use Rattle.codec.specs.Ragged.{put_ragged}
 use Rattle.codec.specs.Values.{put_values}
 use Rattle.codec.proofs.Flat.{flat-put}
 use Rattle.live_cells.specs.Live.{live_at, Planes}
+use Rattle.live_cells.specs.declared.Counted.{Counted}
 use Rattle.encode_data.specs.Offsets.{Offsets}
 use Rattle.encode_values.specs.Ready.{MeasuresOk, Measured, Encodable}
 use Rattle.encode_values.specs.Stored.{values_from, values_length_at, length_from}
@@ -37,9 +38,6 @@ use Rattle.encode_data.proofs.Spans.{all_bytes}
 use Rattle.encode_values.proofs.Levels.{NarrowOk, values_small, flat-length}
 
 -- ---- the masks of all levels
-
-pub measured_planes : {k : Kind} {n : ℕ} {masks os : List ℕ} → Measured k n masks os → Planes n masks k.depth
-measured_planes m = record { shallow = m.shallow; few = m.few; planes = m.planes }
 
 module _ {k : Kind} {n : ℕ} {c : Content} (r : Encodable k n c) where
   pub encodable_planes : Planes n c.masks k.depth
@@ -67,6 +65,10 @@ narrow_of (Ragged Four p) = omega arith
 narrow_of (Ragged Eight p) = omega arith
 
 -- ---- how long values are
+
+-- as many cells as the innermost level counts
+pub innermost_count : (live : Counted) {d : ℕ} → live.level.depth ≡ d → live.count ≡ length (live_at live.level.cells live.level.masks.now d)
+innermost_count live e = live.counted ∙ ap (λ (l : ℕ). length (live_at live.level.cells live.level.masks.now l)) e
 
 module _ (k : declared.Kind) {n : ℕ} {masks os : List ℕ} (m : Measured (kind_of k) n masks os) {count : ℕ} (ec : count ≡ length (live_at n masks k.depth)) where
   -- the cells that every level sets
@@ -147,10 +149,11 @@ module _ (k : declared.Kind) {n : ℕ} {c : Content} (r : Encodable (kind_of k) 
     fixed_source = omega (arith, fixed_fits)
 
     -- as the kind says
-    pub fixed_writes : {l : ℕ} → l ≡ k.depth → put_values (fixed s (order_of o)) (values_at (fixed_at 0 s) c.values (live_at n c.masks l)) ≡ values_from (kind_of k) n c
-    fixed_writes {l} el =
-        ap (λ (v : Values). put_values (form_of v) (map (value_in (form_of v) c) (live_at n c.masks l))) (sym e)
-        ∙ ap (λ (d : ℕ). put_values (form_of k.values) (map (value_in (form_of k.values) c) (live_at n c.masks d))) el
+    pub fixed_writes : {ms : List ℕ} → ms ≡ c.masks → {l : ℕ} → l ≡ k.depth
+        → put_values (fixed s (order_of o)) (values_at (fixed_at 0 s) c.values (live_at n ms l)) ≡ values_from (kind_of k) n c
+    fixed_writes {ms} em {l} el =
+        ap (λ (v : Values). put_values (form_of v) (map (value_in (form_of v) c) (live_at n ms l))) (sym e)
+        ∙ ap₂ (λ (m : List ℕ) (d : ℕ). put_values (form_of k.values) (map (value_in (form_of k.values) c) (live_at n m d))) em el
 
     -- at depth 0 all cells
     pub fixed_all : k.depth ≡ 0 → joined (map (ordered (order_of o)) (pieces s n c.values)) ≡ values_from (kind_of k) n c
@@ -158,10 +161,10 @@ module _ (k : declared.Kind) {n : ℕ} {c : Content} (r : Encodable (kind_of k) 
     fixed_all z =
         ap (λ (vs : List Value). joined (map (ordered (order_of o)) vs))
         (pieces_are 0 s n 0 c.values {at = 0} (omega (arith, zero-mul s)) ∙ ap (values_at (fixed_at 0 s) c.values) (all_cells z))
-        ∙ fixed_writes refl
+        ∙ fixed_writes refl refl
 
-    pub fixed_wrote : {l : ℕ} → l ≡ k.depth → {count : ℕ} → count ≡ length (live_at n c.masks l) → count * s ≡ length (values_from (kind_of k) n c)
-    fixed_wrote {l} el ec = ap (λ (j : ℕ). j * s) ec ∙ sym (fixed_long (order_of o) s c.values (shown_at n c.masks l) n fixed_source) ∙ ap length (fixed_writes el)
+    pub fixed_wrote : {ms : List ℕ} → ms ≡ c.masks → {l : ℕ} → l ≡ k.depth → {count : ℕ} → count ≡ length (live_at n ms l) → count * s ≡ length (values_from (kind_of k) n c)
+    fixed_wrote {ms} em {l} el ec = ap (λ (j : ℕ). j * s) ec ∙ sym (fixed_long (order_of o) s c.values (shown_at n ms l) n fixed_source) ∙ ap length (fixed_writes em el)
 
   module _ {w : IndexWidth} {p : IndexPlace} (e : k.values ≡ Ragged w p) where
     fits : (length c.offsets ≡ suc n) × Rising c.offsets × (last c.offsets ≡ length c.values)
@@ -173,11 +176,11 @@ module _ (k : declared.Kind) {n : ℕ} {c : Content} (r : Encodable (kind_of k) 
     pub offsets_end : last c.offsets ≡ length c.values
     offsets_end = fits.2
 
-    pub ragged_writes : {l : ℕ} → l ≡ k.depth
-        → put_values (ragged (width_of w) (place_of p)) (values_at (offset_at c.offsets) c.values (live_at n c.masks l)) ≡ values_from (kind_of k) n c
-    ragged_writes {l} el =
-        ap (λ (v : Values). put_values (form_of v) (map (value_in (form_of v) c) (live_at n c.masks l))) (sym e)
-        ∙ ap (λ (d : ℕ). put_values (form_of k.values) (map (value_in (form_of k.values) c) (live_at n c.masks d))) el
+    pub ragged_writes : {ms : List ℕ} → ms ≡ c.masks → {l : ℕ} → l ≡ k.depth
+        → put_values (ragged (width_of w) (place_of p)) (values_at (offset_at c.offsets) c.values (live_at n ms l)) ≡ values_from (kind_of k) n c
+    ragged_writes {ms} em {l} el =
+        ap (λ (v : Values). put_values (form_of v) (map (value_in (form_of v) c) (live_at n ms l))) (sym e)
+        ∙ ap₂ (λ (m : List ℕ) (d : ℕ). put_values (form_of k.values) (map (value_in (form_of k.values) c) (live_at n m d))) em el
 
     -- at depth 0 with all cells, as they lie
     pub ragged_all : k.depth ≡ 0 → put_ragged (width_of w) (place_of p) (record { values = c.values; offsets = c.offsets }) ≡ values_from (kind_of k) n c
@@ -185,4 +188,4 @@ module _ (k : declared.Kind) {n : ℕ} {c : Content} (r : Encodable (kind_of k) 
         sym (flat-put (width_of w) (place_of p) (record { values = c.values; offsets = c.offsets }) fits.0 fits.1 fits.2)
         ∙ ap (put_values (ragged (width_of w) (place_of p))) (values_are (ragged (width_of w) (place_of p)) n c fits)
         ∙ ap (λ (is : List ℕ). put_values (ragged (width_of w) (place_of p)) (values_at (offset_at c.offsets) c.values is)) (all_cells z)
-        ∙ ragged_writes refl
+        ∙ ragged_writes refl refl
