@@ -11,14 +11,19 @@ use Rattle.array.specs.Shape.{volume}
 use Rattle.array.specs.Subset.{pairs}
 use Rattle.subset.specs.Cells.{cells_of}
 use Rattle.subset.specs.declared.walk.Subset.{Subset}
-use Rattle.array.specs.Content.{Content, ValuesOk}
+use Rattle.array.specs.Answer.{Outcome}
+use Rattle.array.specs.Content.{Content, RaggedContent, ValuesOk}
+use Rattle.array.specs.declared.answer.RaggedLengths.{RaggedLengths}
+use Rattle.array.specs.Buffers.{over, put_into}
 use Rattle.array.specs.Places.{planes_at}
 use Rattle.chunks.specs.Cut.{cut_of}
 use Rattle.chunks.specs.ReadThenCut.{ragged_of}
 use Rattle.array.proofs.Places.{begins_rise, begins_end}
 use Rattle.chunks.proofs.CutPlaces.{cut_by, cut_is}
 use Rattle.subset.proofs.Rows.{asked_below, asked_count}
+use Rattle.cut_ragged.specs.Source.{put_ragged}
 use Rattle.extract.specs.Asked.{PlanesAsked, ValuesAsked, values_cut, ArrayAsked}
+use Rattle.extract.proofs.Outcomes.{with_masks, masks_first}
 use Rattle.extract.proofs.Walk.{planes_long}
 
 -- where the values lie, by form
@@ -62,3 +67,10 @@ module _ {k : Kind} {cells : ℕ} (s : Subset) {c : Content} (a : ArrayAsked k c
 
   pub cut_values_asked : ValuesAsked k.form c.values c.offsets s.shape.now
   cut_values_asked = values_asked k.form s.shape.now c a.content.values_fit
+
+  -- ---- the cut, where its values are put and its masks before them
+
+  pub masks_before : (out : Content) → k.depth * s.count ≤ length out.masks → {o : Outcome RaggedLengths RaggedContent}
+      → o ≡ put_ragged (values_cut k.form c.values c.offsets (cells_of s)) (ragged_of out)
+      → with_masks (k.depth * s.count) (over cut.masks out.masks) out.masks o ≡ put_into cut out
+  masks_before out h e = masks_first cut out cut_masks_long h (e ∙ ap (λ (x : RaggedContent). put_ragged x (ragged_of out)) (sym cut_values))

@@ -5,7 +5,7 @@ ghost use Rattle.std.specs.Prelude.{◌≡◌};
 ghost use Rattle.array.specs.Subset.{pairs};
 ghost use Rattle.array.specs.Buffers.{put_into};
 ghost use Rattle.array.specs.Outcome.{content_ragged, outcome_ragged, content_array, outcome_array};
-ghost use Rattle.array.specs.Meaning.{form_of, kind_of};
+ghost use Rattle.array.specs.Meaning.{form_of, kind_of, lent};
 ghost use Rattle.chunks.specs.Cut.{cut_of};
 ghost use Rattle.chunks.specs.Calls.{extracted};
 ghost use Rattle.subset.specs.Cells.{cells_of};
@@ -13,6 +13,7 @@ ghost use Rattle.cut_ragged.specs.Source.{put_ragged};
 ghost use Rattle.extract.specs.Asked.{values_cut, ValuesAsked, ArrayAsked};
 
 use array::answer::{Lengths, RaggedLengths};
+use array::content::ArrayBytes;
 use array::kind::{Kind, Values};
 use array::refusal::Refusal;
 use cut_ragged::{RaggedValues, Source};
@@ -65,16 +66,14 @@ fn cut_valid(
     kind: Kind,
     cells: usize,
     subset: Subset,
-    masks: &[u8],
-    values: &[u8],
-    offsets: &[u64],
+    array: ArrayBytes,
     out_masks: &mut [u8],
     out_values: &mut [u8],
     out_offsets: &mut [u64],
 ) -> Result<Lengths, Refusal>
-    requires { ArrayAsked (kind_of kind) cells subset.shape.now (content_array masks.now values.now offsets.now) }
+    requires { ArrayAsked (kind_of kind) cells subset.shape.now (lent array) }
     ensures { outcome_array result out_masks.new out_values.new out_offsets.new
-        ≡ put_into (cut_of (kind_of kind) subset.entry.shape.now (content_array masks.now values.now offsets.now)
+        ≡ put_into (cut_of (kind_of kind) subset.entry.shape.now (lent array.entry)
         (pairs subset.entry.starts.now subset.entry.lens.now)) (content_array out_masks.old out_values.old out_offsets.old) }
 {
     let depth = kind.depth as usize;
@@ -86,11 +85,11 @@ fn cut_valid(
         kind.values,
         out_values,
         out_offsets,
-        values,
-        offsets,
+        array.values,
+        array.offsets,
         subset,
     )?;
-    cells::copy_masks(out_masks, masks, depth, cells, subset);
+    cells::copy_masks(out_masks, array.masks, depth, cells, subset);
     Ok(Lengths {
         masks: mask_bytes,
         values: written.values,
@@ -103,15 +102,13 @@ pub fn extract(
     kind: Kind,
     shape: &[u64],
     subset: &[u64],
-    masks: &[u8],
-    values: &[u8],
-    offsets: &[u64],
+    array: ArrayBytes,
     out_masks: &mut [u8],
     out_values: &mut [u8],
     out_offsets: &mut [u64],
 ) -> Result<Lengths, Refusal>
     ensures { outcome_array result out_masks.new out_values.new out_offsets.new
-        ≡ extracted (kind_of kind) shape.now subset.now (content_array masks.now values.now offsets.now)
+        ≡ extracted (kind_of kind) shape.now subset.now (lent array.entry)
         (content_array out_masks.old out_values.old out_offsets.old) }
 {
     if !valid::kind::check_kind(kind) {
@@ -121,14 +118,12 @@ pub fn extract(
     if !subset::subset_fits(shape, subset) {
         return Err(Refusal::Subset);
     }
-    valid::array_bytes::check_array(kind, cells, masks, values, offsets)?;
+    valid::array_bytes::check_array(kind, cells, array)?;
     cut_valid(
         kind,
         cells,
         Subset::new(shape, subset),
-        masks,
-        values,
-        offsets,
+        array,
         out_masks,
         out_values,
         out_offsets,

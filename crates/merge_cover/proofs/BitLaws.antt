@@ -5,7 +5,7 @@ use Prim.Native.Nat.{ℕ, zero, suc, ◌+◌, ◌*◌, ◌/◌, ◌%◌, ◌^◌
 use native.Mathlib.Nat.{pow-succ', div-one, div-div-eq-div-mul, add-mul-mod_self_left, add-mul-div_left}
 use native.Mathlib.Omega.{arith}
 use mathlib.Core.List.{List, [], ◌∷◌, ◌++◌}
-use lib.ListN.{length, get_or, set, replicate, length-replicate, replicate-append-replicate, get_or-append}
+use lib.ListN.{length, get_or, set, replicate, replicate-append-replicate, get_or-append}
 use lib.Seq.{get_or-append-add, set-append_left}
 use Rattle.array.specs.Limits.{most_cells}
 use Rattle.merge_cover.specs.Bits.{bits_of, marks_of, no_words}
@@ -92,6 +92,6 @@ words_zero (suc n) =
     let q : 64 + n * 64 ≡ suc n * 64 = omega arith in
     ap₂ (λ (x y : List ℕ). x ++ y) (bits_zero 64) (words_zero n) ∙ replicate-append-replicate {A = ℕ} 64 (n * 64) 0 ∙ ap (λ (k : ℕ). replicate k 0) q
 
-pub none_marked : {ws : List ℕ} → ws ≡ no_words → (marks_of ws ≡ unmarked) × (length ws ≡ 1024)
+pub none_marked : {ws : List ℕ} → ws ≡ no_words → marks_of ws ≡ unmarked
 unfolding no_words unmarked most_cells
-none_marked e = (ap marks_of e ∙ words_zero 1024, ap length e ∙ length-replicate {A = ℕ} 1024 0)
+none_marked e = ap marks_of e ∙ words_zero 1024

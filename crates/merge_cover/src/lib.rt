@@ -5,14 +5,12 @@ ghost use Rattle.std.specs.Prelude.{◌≡◌, ◌+◌, ◌-◌, ◌%◌, ◌^�
 ghost use Rattle.array.specs.Answer.{gives};
 ghost use Rattle.array.specs.Lists.{from};
 ghost use Rattle.array.specs.Shape.{volume};
-ghost use Rattle.array.specs.Subset.{subsets_of, cells_of_all};
-ghost use Rattle.subset.specs.Cells.{cells_of};
-ghost use Rattle.subset.specs.Subsets.{SubsetsOk};
+ghost use Rattle.subset.specs.Cells.{cells_of, cells_of_each};
 ghost use Rattle.chunks.specs.Gather.{once_test};
 ghost use Rattle.merge_cover.specs.Marks.{marking, told_marks};
 ghost use Rattle.merge_cover.specs.Bits.{marks_of, bits_at, no_words};
 
-use subset::walk::{Parts, Subset};
+use subset::walk::{Subset, Subsets};
 
 // No cell is marked.
 fn no_marks() -> [u64; 1024]
@@ -39,8 +37,8 @@ fn ones(n: usize) -> u64
 }
 
 // The marks of n cells from i on, which lie in one word, as a number.
-fn marks_at(words: &[u64], i: usize, n: usize) -> u64
-    requires { (length words.now ≡ 1024) × (i < 65536) × (1 ≤ n) × (i % 64 + n ≤ 64) }
+fn marks_at(words: &[u64; 1024], i: usize, n: usize) -> u64
+    requires { (i < 65536) × (1 ≤ n) × (i % 64 + n ≤ 64) }
     ensures { result ≡ bits_at words.now i n }
 {
     let k = i / 64;
@@ -51,8 +49,8 @@ fn marks_at(words: &[u64], i: usize, n: usize) -> u64
 }
 
 // Marks n cells from i on, which lie in one word and are not marked: so their bits are added.
-fn set_marks(words: &mut [u64], i: usize, n: usize)
-    requires { (length words.old ≡ 1024) × (i < 65536) × (1 ≤ n) × (i % 64 + n ≤ 64) × (bits_at words.old i n ≡ 0) }
+fn set_marks(words: &mut [u64; 1024], i: usize, n: usize)
+    requires { (i < 65536) × (1 ≤ n) × (i % 64 + n ≤ 64) × (bits_at words.old i n ≡ 0) }
     ensures { gives (marks_of words.new) ≡ marking (marks_of words.old) (from i n) }
 {
     let k = i / 64;
@@ -63,8 +61,8 @@ fn set_marks(words: &mut [u64], i: usize, n: usize)
 }
 
 // Marks cells that are neighbours, a word at a time; whether none was marked already.
-fn mark_run(words: &mut [u64], start: usize, len: usize) -> bool
-    requires { (length words.old ≡ 1024) × (start + len ≤ 65536) }
+fn mark_run(words: &mut [u64; 1024], start: usize, len: usize) -> bool
+    requires { start + len ≤ 65536 }
     ensures { told_marks result (marks_of words.new) ≡ marking (marks_of words.old) (from start len) }
 {
     let mut i = start;
@@ -82,8 +80,7 @@ fn mark_run(words: &mut [u64], start: usize, len: usize) -> bool
 }
 
 // Marks the cells of a subset, row by row; whether none was marked already.
-fn mark_subset(words: &mut [u64], subset: Subset) -> bool
-    requires { length words.old ≡ 1024 }
+fn mark_subset(words: &mut [u64; 1024], subset: Subset) -> bool
     ensures { told_marks result (marks_of words.new) ≡ marking (marks_of words.old) (cells_of subset.entry) }
 {
     for row in subset.rows() {
@@ -94,15 +91,14 @@ fn mark_subset(words: &mut [u64], subset: Subset) -> bool
     true
 }
 
-// Whether each cell of the shape lies in exactly one of the subsets, whose numbers lie end to end: the subsets have as many cells as the
-// shape, and none is marked twice. What is left is counted down, so that no sum wraps.
-pub fn covers(shape: &[u64], subsets: &[u64]) -> bool
-    requires { SubsetsOk shape.now subsets.now }
-    ensures { result ≡ once_test (volume shape.now) (cells_of_all shape.now (subsets_of (length shape.now) subsets.now)) }
+// Whether each cell of the shape lies in exactly one of the subsets: the subsets have as many cells as the shape, and none is marked
+// twice. What is left is counted down, so that no sum wraps.
+pub fn covers(subsets: Subsets) -> bool
+    ensures { result ≡ once_test (volume subsets.entry.shape.now) (cells_of_each subsets.entry) }
 {
     let mut words = no_marks();
-    let mut left = subset::volume_of(shape) as usize;
-    for part in Parts::new(shape, subsets) {
+    let mut left = subset::volume_of(subsets.shape) as usize;
+    for part in subsets.parts() {
         if left < part.count {
             return false;
         }

@@ -13,7 +13,7 @@ use borrow.Author.Tests.{eq-eqb, ne_eqb, eqb-true, eqb-false}
 use Rattle.array.specs.Answer.{refuses}
 use Rattle.array.specs.Content.{Content, array_test}
 use Rattle.array.specs.Kind.{Kind}
-use Rattle.array.specs.Subset.{Subset, subsets_of, pairs}
+use Rattle.array.specs.Subset.{Subset, pairs}
 use Rattle.array.proofs.LayoutLaws.{content_path}
 use Rattle.subset.specs.Walk.{SubsetAsked}
 use Rattle.subset.proofs.Rows.{asked_volume}
@@ -39,18 +39,18 @@ pub lent-left : (c : Content) (p v o : ℕ) → lent c p v o ≡ left c p v o
 lent-left c p v o = content_path (rest_part p c.masks) (rest_part v c.values) (rest_part o c.offsets)
 
 -- the chunks before those of `rest` keep the rules; the masks, values and offsets of the others begin at p, v and o
-pub record Walked (k : Kind) (sh flat : List ℕ) (c : Content) (rest : List Subset) (p v o : ℕ) : Type 0 where
+pub record Walked (k : Kind) (bs : List Subset) (c : Content) (rest : List Subset) (p v o : ℕ) : Type 0 where
   pub masks : p ≤ length c.masks
   pub values : v ≤ length c.values
   pub offsets : o ≤ length c.offsets
-  pub same : chunks_test k (subsets_of (length sh) flat) c ≡ chunks_test k rest (left c p v o)
+  pub same : chunks_test k bs c ≡ chunks_test k rest (left c p v o)
 
-pub walked_begins : (k : Kind) (sh flat : List ℕ) (c : Content) → Walked k sh flat c (subsets_of (length sh) flat) 0 0 0
-walked_begins k sh flat c = record { masks = omega arith; values = omega arith; offsets = omega arith; same = refl }
+pub walked_begins : (k : Kind) (bs : List Subset) (c : Content) → Walked k bs c bs 0 0 0
+walked_begins k bs c = record { masks = omega arith; values = omega arith; offsets = omega arith; same = refl }
 
-module _ {k : Kind} {sh flat : List ℕ} {c : Content} {rest : List Subset} {p v o : ℕ} (w : Walked k sh flat c rest p v o) where
+module _ {k : Kind} {bs : List Subset} {c : Content} {rest : List Subset} {p v o : ℕ} (w : Walked k bs c rest p v o) where
   abbrev whole : Bool
-  whole = chunks_test k (subsets_of (length sh) flat) c
+  whole = chunks_test k bs c
 
   abbrev here : Content
   here = left c p v o
@@ -85,7 +85,7 @@ module _ {k : Kind} {sh flat : List ℕ} {c : Content} {rest : List Subset} {p v
 
   -- ---- the first of the chunks that are left
 
-  module _ {starts lens : List ℕ} {later : List Subset} (s : rest ≡ pairs starts lens ∷ later) {m : ℕ} (a : SubsetAsked sh starts lens m) where
+  module _ {sh starts lens : List ℕ} {later : List Subset} (s : rest ≡ pairs starts lens ∷ later) {m : ℕ} (a : SubsetAsked sh starts lens m) where
     turn : {t : Bool} → array_test k m (first_chunk k m here) ≡ t → whole ≡ t && chunks_test k later (later_chunks k m here)
     turn et =
         w.same ∙ ap (λ (bs : List Subset). chunks_test k bs here) s
@@ -106,7 +106,7 @@ module _ {k : Kind} {sh flat : List ℕ} {c : Content} {rest : List Subset} {p v
           (ap (λ (n : ℕ). drop n (drop v c.values)) (sym z.is_taken) ∙ drop-drop taken v c.values)
           (ap (λ (n : ℕ). drop n (drop o c.offsets)) (sym z.is_numbers) ∙ drop-drop numbers o c.offsets)
 
-      pub walked_more : Walked k sh flat c later (p + k.depth * m) (v + taken) (o + numbers)
+      pub walked_more : Walked k bs c later (p + k.depth * m) (v + taken) (o + numbers)
       walked_more = record {
         masks = omega (arith, fitting.held.masks, length-drop p c.masks, w.masks);
         values = omega (arith, fitting.held.values, fitting.size.is_taken, length-drop v c.values, w.values);

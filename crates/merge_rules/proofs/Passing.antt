@@ -65,7 +65,7 @@ module _ (k : Kind) (sh ns : List ℕ) (c : Content) where
 
   -- ---- what is known where they pass
 
-  pub passed : (n : ℕ) → gives n ≡ check_answer k sh ns c → MergeChecked k sh ns c n
+  pub passed : (n : ℕ) → gives n ≡ check_answer k sh ns c → SubsetsOk sh ns × MergeChecked k sh (subsets_of (length sh) ns) c n
   passed n e =
       let all = sym (answered {a = kind_test k} {b = shape_test sh} {m = many_test sh ns} kept (size_test (length c.values)) refl refl refl refl refl) in
       let sized : Answer ℕ = unless (size_test (length c.values)) 5 given in
@@ -74,10 +74,4 @@ module _ (k : Kind) (sh ns : List ℕ) (c : Content) where
       let m = answers.passed (many_test sh ns) 3 (unless kept 4 sized) b.1 in
       let t = answers.passed kept 4 sized m.1 in
       let s = answers.passed (size_test (length c.values)) 5 given t.1 in
-      record {
-        kind = kind_ok k a.0;
-        subsets = tested_subsets sh ns b.0 m.0;
-        counted = sym (same_given s.1);
-        kept = t.0;
-        small = size_ok (length c.values) s.0;
-      }
+      (tested_subsets sh ns b.0 m.0, record { kind = kind_ok k a.0; counted = sym (same_given s.1); kept = t.0; small = size_ok (length c.values) s.0 })

@@ -5,9 +5,8 @@ use Rattle.array.specs.Limits.{most_bytes}
 use Rattle.array.specs.Answer.{Answer, gives, unless}
 use Rattle.array.specs.Kind.{Kind, KindOk, kind_test}
 use Rattle.array.specs.Shape.{volume, shape_test}
-use Rattle.array.specs.Subset.{subsets_of, many_test}
+use Rattle.array.specs.Subset.{Subset, subsets_of, many_test}
 use Rattle.array.specs.Content.{Content, size_test}
-use Rattle.subset.specs.Subsets.{SubsetsOk}
 use Rattle.merge_rules.specs.Chunks.{chunks_test}
 
 -- 1, 2, 3, 4, 5, and how many cells the stores go by. Every value byte of a chunk list is in a cell
@@ -21,9 +20,8 @@ check_answer k shape ns c =
     (gives (volume shape))))))
 
 -- what is known where the checks passed
-pub record MergeChecked (k : Kind) (shape flat : List ℕ) (c : Content) (cells : ℕ) : Type 0 where
+pub record MergeChecked (k : Kind) (shape : List ℕ) (bs : List Subset) (c : Content) (cells : ℕ) : Type 0 where
   pub kind : KindOk k
-  pub subsets : SubsetsOk shape flat
   pub counted : cells ≡ volume shape
-  pub kept : chunks_test k (subsets_of (length shape) flat) c ≡ true
+  pub kept : chunks_test k bs c ≡ true
   pub small : length c.values ≤ most_bytes

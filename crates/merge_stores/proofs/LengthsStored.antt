@@ -9,7 +9,7 @@ use lib.ListN.{length, take, drop, length-drop}
 use lib.Seq.{drop-drop, get_or-drop, take_all}
 use Rattle.array.specs.Lists.{from}
 use Rattle.array.specs.Offsets.{Rising}
-use Rattle.array.specs.Subset.{Subset, subsets_of, pairs, cells_in}
+use Rattle.array.specs.Subset.{Subset, pairs, cells_in}
 use Rattle.array.specs.Places.{fixed_at, offset_at, step_at, steps_at}
 use Rattle.array.proofs.Lists.{at_from, by_number}
 use Rattle.array.proofs.Places.{fixed_total}
@@ -31,15 +31,15 @@ steps_drop first os m =
     omega (arith, at_from 0 f m first i h, get_or-drop first os i 0, get_or-drop first os (suc i) 0, ap (offset_at os) e)))
 
 -- the offsets of the chunks that are left lie from `first` on
-pub record LengthsAll (sh flat d src o : List ℕ) (rest : List Subset) (first : ℕ) : Type 0 where
-  pub list : ListStored (fixed_at 1 1) sh flat d (step_parts (subsets_of (length sh) flat) src) o (step_parts rest (drop first src)) rest
+pub record LengthsAll (sh : List ℕ) (bs : List Subset) (d src o : List ℕ) (rest : List Subset) (first : ℕ) : Type 0 where
+  pub list : ListStored (fixed_at 1 1) sh bs d (step_parts bs src) o (step_parts rest (drop first src)) rest
   pub chunks : LengthChunks rest (drop first src)
 
-module _ {sh flat d src : List ℕ} (q : LengthsAllAsked sh flat d src) where
-  pub lengths_begin : LengthsAll sh flat d src d (subsets_of (length sh) flat) 0
-  lengths_begin = record { list = list_begins (fixed_at 1 1) d (step_parts (subsets_of (length sh) flat) src); chunks = q.chunks }
+module _ {sh : List ℕ} {bs : List Subset} {d src : List ℕ} (q : LengthsAllAsked sh bs d src) where
+  pub lengths_begin : LengthsAll sh bs d src d bs 0
+  lengths_begin = record { list = list_begins (fixed_at 1 1) d (step_parts bs src); chunks = q.chunks }
 
-  module _ {o : List ℕ} {rest : List Subset} {first : ℕ} (c : LengthsAll sh flat d src o rest first)
+  module _ {o : List ℕ} {rest : List Subset} {first : ℕ} (c : LengthsAll sh bs d src o rest first)
       {starts lens : List ℕ} {later : List Subset} (t : rest ≡ pairs starts lens ∷ later) {m : ℕ} (a : SubsetAsked sh starts lens m) where
     now : (m < length (drop first src)) × Rising (take (suc m) (drop first src)) × LengthChunks later (drop (suc m) (drop first src))
     now =
@@ -69,7 +69,7 @@ module _ {sh flat d src : List ℕ} (q : LengthsAllAsked sh flat d src) where
         ∙ ap₂ (λ (x y : List ℕ). x ++ step_parts later y) (steps_drop first src m ∙ sym (take_all m (steps_at (offset_at src) (from first m)) (omega (arith, as_many)))) behind
 
     pub lengths_more : {o' : List ℕ} → o' ≡ scatter o (places (fixed_at 1 1) (cells_in sh (pairs starts lens))) (steps_at (offset_at src) (from first m))
-        → LengthsAll sh flat d src o' later (first + (m + 1))
+        → LengthsAll sh bs d src o' later (first + (m + 1))
     lengths_more p =
         let cs : List ℕ = cells_in sh (pairs starts lens) in
         record {

@@ -7,7 +7,7 @@ use native.Mathlib.Omega.{arith}
 use mathlib.Core.List.{List, ◌∷◌, ◌++◌}
 use lib.ListN.{length, take, drop, length-drop}
 use lib.Seq.{drop-drop}
-use Rattle.array.specs.Subset.{Subset, subsets_of, pairs, cells_in}
+use Rattle.array.specs.Subset.{Subset, pairs, cells_in}
 use Rattle.array.specs.Places.{fixed_at}
 use Rattle.array.proofs.Places.{fixed_total}
 use Rattle.subset.specs.Walk.{SubsetAsked}
@@ -18,18 +18,18 @@ use Rattle.merge_stores.proofs.ListStored.{ListStored, list_begins, list_more}
 use Rattle.merge_stores.proofs.Scattering.{length-places}
 
 -- the parts of the chunks that are left lie from `pos` on
-pub record StoreAll (sh flat d : List ℕ) (base size : ℕ) (src : List ℕ) (lead step : ℕ) (o : List ℕ) (rest : List Subset) (pos : ℕ) : Type 0 where
-  pub list : ListStored (fixed_at base size) sh flat d (parts lead step size (subsets_of (length sh) flat) src) o (parts lead step size rest (drop pos src)) rest
+pub record StoreAll (sh : List ℕ) (bs : List Subset) (d : List ℕ) (base size : ℕ) (src : List ℕ) (lead step : ℕ) (o : List ℕ) (rest : List Subset) (pos : ℕ) : Type 0 where
+  pub list : ListStored (fixed_at base size) sh bs d (parts lead step size bs src) o (parts lead step size rest (drop pos src)) rest
   pub enough : pos + cells_total rest * step ≤ length src
 
-module _ {sh flat d : List ℕ} {base size : ℕ} {src : List ℕ} {lead step : ℕ} (q : PartsAsked sh flat d base size src lead step) where
-  pub all_begins : StoreAll sh flat d base size src lead step d (subsets_of (length sh) flat) 0
+module _ {sh : List ℕ} {bs : List Subset} {d : List ℕ} {base size : ℕ} {src : List ℕ} {lead step : ℕ} (q : PartsAsked sh bs d base size src lead step) where
+  pub all_begins : StoreAll sh bs d base size src lead step d bs 0
   all_begins = record {
-    list = list_begins (fixed_at base size) d (parts lead step size (subsets_of (length sh) flat) src);
+    list = list_begins (fixed_at base size) d (parts lead step size bs src);
     enough = omega (arith, q.enough);
   }
 
-  module _ {o : List ℕ} {rest : List Subset} {pos : ℕ} (c : StoreAll sh flat d base size src lead step o rest pos)
+  module _ {o : List ℕ} {rest : List Subset} {pos : ℕ} (c : StoreAll sh bs d base size src lead step o rest pos)
       {starts lens : List ℕ} {later : List Subset} (t : rest ≡ pairs starts lens ∷ later) {m : ℕ} (a : SubsetAsked sh starts lens m) where
     total : cells_total rest ≡ m + cells_total later
     total = ap cells_total t ∙ ap (λ (k : ℕ). k + cells_total later) (asked_volume a)
@@ -51,7 +51,7 @@ module _ {sh flat d : List ℕ} {base size : ℕ} {src : List ℕ} {lead step : 
         ∙ ap₂ (λ (x y : List ℕ). take (m * size) x ++ parts lead step size later y) (drop-drop (m * lead) pos src) (drop-drop (m * step) pos src)
 
     pub all_more : {o' : List ℕ} → o' ≡ scatter o (places (fixed_at base size) (cells_in sh (pairs starts lens))) (drop (pos + m * lead) src)
-        → StoreAll sh flat d base size src lead step o' later (pos + m * step)
+        → StoreAll sh bs d base size src lead step o' later (pos + m * step)
     all_more p =
         let cs : List ℕ = cells_in sh (pairs starts lens) in
         record {

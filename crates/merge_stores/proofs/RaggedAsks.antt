@@ -10,22 +10,19 @@ use Rattle.array.specs.Content.{Content, leaves}
 use Rattle.array.specs.Limits.{most_bytes}
 use Rattle.array.specs.Kind.{Masks, ragged, Place}
 use Rattle.array.specs.Shape.{volume}
-use Rattle.array.specs.Subset.{Subset, subsets_of, cells_of_all}
+use Rattle.array.specs.Subset.{Subset, cells_of_all}
 use Rattle.chunks.specs.Gather.{Once}
-use Rattle.subset.specs.Subsets.{SubsetsOk}
 use Rattle.merge_stores.specs.Ragged.{RaggedMergeAsked}
 use Rattle.merge_stores.proofs.Blocks.{length-joined}
 use Rattle.merge_stores.proofs.FirstChunk.{Chunked, all_values}
 use Rattle.merge_stores.proofs.RaggedTies.{length_chunks, ragged_lengths_lem}
 
-pub ragged_asked : (x : Masks) (w d : ℕ) (p : Place) {sh flat : List ℕ} → SubsetsOk sh flat → Once (volume sh) (cells_of_all sh (subsets_of (length sh) flat))
-    → {c : Content} {cs : List (Cell d)} → Chunked (record { depth = d; masks = x; form = ragged w p }) (subsets_of (length sh) flat) c cs
+pub ragged_asked : (x : Masks) (w d : ℕ) (p : Place) {sh : List ℕ} {bs : List Subset} → Once (volume sh) (cells_of_all sh bs)
+    → {c : Content} {cs : List (Cell d)} → Chunked (record { depth = d; masks = x; form = ragged w p }) bs c cs
     → (outv outo : List ℕ) {n : ℕ} → n ≡ volume sh → n < length outo → length c.values ≤ most_bytes → length c.values ≤ length outv
-    → RaggedMergeAsked sh flat outv outo c.values c.offsets n
-ragged_asked x w d p {sh} {flat} q once {c} {cs} e outv outo {n} counted room small enough =
-    let bs : List Subset = subsets_of (length sh) flat in
+    → RaggedMergeAsked sh bs outv outo c.values c.offsets n
+ragged_asked x w d p {sh} {bs} once {c} {cs} e outv outo {n} counted room small enough =
     record {
-      subsets = q;
       once = once;
       counted = counted;
       room = room;

@@ -6,7 +6,7 @@ use native.Mathlib.Omega.{arith}
 use mathlib.Core.List.{List, ◌∷◌, ◌++◌}
 use lib.ListN.{length, take, drop, length-drop, take-append-drop}
 use lib.Seq.{drop-drop, get_or-drop, take_all}
-use Rattle.array.specs.Subset.{Subset, subsets_of, cells_in, cells_of_all, pairs}
+use Rattle.array.specs.Subset.{Subset, cells_in, cells_of_all, pairs}
 use Rattle.array.specs.Places.{offset_at, bytes_at}
 use Rattle.array.proofs.Places.{bytes_append}
 use Rattle.subset.specs.Walk.{SubsetAsked}
@@ -17,16 +17,16 @@ use Rattle.merge_stores.proofs.ListStored.{ListStored, list_begins, list_more}
 use Rattle.merge_stores.proofs.Scattering.{length-places}
 
 -- the bytes of the chunks that are left lie from `base` on, their offsets from `first` on
-pub record RaggedAll (sh flat d begins values src o : List ℕ) (rest : List Subset) (base first : ℕ) : Type 0 where
-  pub list : ListStored (offset_at begins) sh flat d values o (drop base values) rest
+pub record RaggedAll (sh : List ℕ) (bs : List Subset) (d begins values src o : List ℕ) (rest : List Subset) (base first : ℕ) : Type 0 where
+  pub list : ListStored (offset_at begins) sh bs d values o (drop base values) rest
   pub chunks : RaggedChunks begins sh rest (drop first src)
   pub enough : base + bytes_at (offset_at begins) (cells_of_all sh rest) ≤ length values
 
-module _ {sh flat d begins values src : List ℕ} (q : RaggedAllAsked sh flat d begins values src) where
-  pub raggeds_begin : RaggedAll sh flat d begins values src d (subsets_of (length sh) flat) 0 0
+module _ {sh : List ℕ} {bs : List Subset} {d begins values src : List ℕ} (q : RaggedAllAsked sh bs d begins values src) where
+  pub raggeds_begin : RaggedAll sh bs d begins values src d bs 0 0
   raggeds_begin = record { list = list_begins (offset_at begins) d values; chunks = q.chunks; enough = omega (arith, q.enough) }
 
-  module _ {o : List ℕ} {rest : List Subset} {base first : ℕ} (c : RaggedAll sh flat d begins values src o rest base first)
+  module _ {o : List ℕ} {rest : List Subset} {base first : ℕ} (c : RaggedAll sh bs d begins values src o rest base first)
       {starts lens : List ℕ} {later : List Subset} (t : rest ≡ pairs starts lens ∷ later) {m : ℕ} (a : SubsetAsked sh starts lens m) where
     now : (m < length (drop first src)) × Agrees begins (drop first src) 0 (cells_in sh (pairs starts lens)) × RaggedChunks begins sh later (drop (suc m) (drop first src))
     now =
@@ -65,7 +65,7 @@ module _ {sh flat d begins values src : List ℕ} (q : RaggedAllAsked sh flat d 
         ∙ ap (λ (r : List ℕ). take (offset_at src (first + m)) (drop base values) ++ r) (drop-drop (offset_at src (first + m)) base values)
 
     pub raggeds_more : {o' : List ℕ} → o' ≡ scatter o (places (offset_at begins) (cells_in sh (pairs starts lens))) (drop base values)
-        → RaggedAll sh flat d begins values src o' later (base + offset_at src (first + m)) (first + m + 1)
+        → RaggedAll sh bs d begins values src o' later (base + offset_at src (first + m)) (first + m + 1)
     raggeds_more p =
         let z : first + suc m ≡ first + m + 1 = omega arith in
         record {

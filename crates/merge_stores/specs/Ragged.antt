@@ -5,10 +5,9 @@ use Rattle.std.specs.Prelude.{◌≡◌, ℕ, suc, ◌+◌, ◌≤◌, ◌<◌, 
 use Rattle.array.specs.Limits.{most_bytes}
 use Rattle.array.specs.Lists.{from}
 use Rattle.array.specs.Shape.{volume}
-use Rattle.array.specs.Subset.{Subset, lengths, subsets_of, cells_in, cells_of_all}
+use Rattle.array.specs.Subset.{Subset, lengths, cells_in, cells_of_all}
 use Rattle.array.specs.Offsets.{Rising}
 use Rattle.array.specs.Places.{offset_at, Rises, sum, sums, steps_at, bytes_at}
-use Rattle.subset.specs.Subsets.{SubsetsOk}
 use Rattle.chunks.specs.Gather.{put_back, Once}
 
 -- ---- lengths, and offsets from them
@@ -57,24 +56,21 @@ RaggedChunks begins shape (b ∷ bs) os =
     (volume (lengths b) < length os) × Agrees begins os 0 (cells_in shape b) × RaggedChunks begins shape bs (drop (suc (volume (lengths b))) os)
 
 -- of all chunks: their lengths, their values
-pub record LengthsAllAsked (shape flat out src : List ℕ) : Type 0 where
-  pub subsets : SubsetsOk shape flat
+pub record LengthsAllAsked (shape : List ℕ) (bs : List Subset) (out src : List ℕ) : Type 0 where
   pub room : volume shape < length out
-  pub chunks : LengthChunks (subsets_of (length shape) flat) src
+  pub chunks : LengthChunks bs src
 
-pub record RaggedAllAsked (shape flat out begins values src : List ℕ) : Type 0 where
-  pub subsets : SubsetsOk shape flat
+pub record RaggedAllAsked (shape : List ℕ) (bs : List Subset) (out begins values src : List ℕ) : Type 0 where
   pub laid : Begins shape out begins
-  pub chunks : RaggedChunks begins shape (subsets_of (length shape) flat) src
-  pub enough : bytes_at (offset_at begins) (cells_of_all shape (subsets_of (length shape) flat)) ≤ length values
+  pub chunks : RaggedChunks begins shape bs src
+  pub enough : bytes_at (offset_at begins) (cells_of_all shape bs) ≤ length values
 
 -- of both: the value bytes are as many as the lengths say, few, and fit the output
-pub record RaggedMergeAsked (shape flat outv outo values src : List ℕ) (n : ℕ) : Type 0 where
-  pub subsets : SubsetsOk shape flat
-  pub once : Once (volume shape) (cells_of_all shape (subsets_of (length shape) flat))
+pub record RaggedMergeAsked (shape : List ℕ) (bs : List Subset) (outv outo values src : List ℕ) (n : ℕ) : Type 0 where
+  pub once : Once (volume shape) (cells_of_all shape bs)
   pub counted : n ≡ volume shape
   pub room : n < length outo
-  pub lengths_fit : LengthChunks (subsets_of (length shape) flat) src
-  pub summed : sum (step_parts (subsets_of (length shape) flat) src) ≡ length values
+  pub lengths_fit : LengthChunks bs src
+  pub summed : sum (step_parts bs src) ≡ length values
   pub small : length values ≤ most_bytes
   pub enough : length values ≤ length outv

@@ -5,9 +5,8 @@ use Rattle.std.specs.Prelude.{◌≡◌, ℕ, zero, suc, ◌+◌, ◌*◌, ◌�
 use Rattle.array.specs.Limits.{most_size}
 use Rattle.array.specs.Lists.{from, joined}
 use Rattle.array.specs.Shape.{volume}
-use Rattle.array.specs.Subset.{Subset, lengths, subsets_of, cells_of_all}
+use Rattle.array.specs.Subset.{Subset, lengths, cells_of_all}
 use Rattle.array.specs.Cells.{Cell, mask_of, inners}
-use Rattle.subset.specs.Subsets.{SubsetsOk}
 use Rattle.chunks.specs.Gather.{put_back, Once}
 
 -- of chunks of m cells each: m × lead bytes are passed over, m × size taken, and the next chunk begins m × step bytes on
@@ -38,16 +37,14 @@ pub record StoreAsked (shape out : List ℕ) (base size : ℕ) (src : List ℕ) 
   pub room : base + volume shape * size ≤ length out
   pub enough : first + count * size ≤ length src
 
-pub record PartsAsked (shape flat out : List ℕ) (base size : ℕ) (src : List ℕ) (lead step : ℕ) : Type 0 where
-  pub subsets : SubsetsOk shape flat
+pub record PartsAsked (shape : List ℕ) (bs : List Subset) (out : List ℕ) (base size : ℕ) (src : List ℕ) (lead step : ℕ) : Type 0 where
   pub narrow : size ≤ most_size
   pub inner : lead + size ≤ step
   pub room : base + volume shape * size ≤ length out
-  pub enough : cells_total (subsets_of (length shape) flat) * step ≤ length src
+  pub enough : cells_total bs * step ≤ length src
 
-pub record MasksAsked (shape flat out src : List ℕ) (depth cells : ℕ) : Type 0 where
-  pub subsets : SubsetsOk shape flat
-  pub once : Once (volume shape) (cells_of_all shape (subsets_of (length shape) flat))
+pub record MasksAsked (shape : List ℕ) (bs : List Subset) (out src : List ℕ) (depth cells : ℕ) : Type 0 where
+  pub once : Once (volume shape) (cells_of_all shape bs)
   pub counted : cells ≡ volume shape
   pub room : depth * cells ≤ length out
-  pub enough : cells_total (subsets_of (length shape) flat) * depth ≤ length src
+  pub enough : cells_total bs * depth ≤ length src

@@ -1,12 +1,11 @@
 // Masks, and values of one width.
-ghost use Rattle.std.specs.Prelude.{◌≡◌, ◌++◌, ◌*◌, length, drop};
-ghost use Rattle.array.specs.Subset.{subsets_of, cells_of_all};
+ghost use Rattle.std.specs.Prelude.{◌≡◌, ◌++◌, ◌*◌, drop};
 ghost use Rattle.array.specs.Places.{fixed_at};
-ghost use Rattle.subset.specs.Cells.{cells_of};
+ghost use Rattle.subset.specs.Cells.{cells_of, subsets_in, cells_of_each};
 ghost use Rattle.merge_stores.specs.Scatter.{scatter, places};
 ghost use Rattle.merge_stores.specs.Store.{parts, masks_merged, StoreAsked, PartsAsked, MasksAsked};
 
-use subset::walk::{Parts, Subset};
+use subset::walk::{Subset, Subsets};
 
 // Stores a chunk's cells of `size` bytes, which lie in `src` from `first` on, at their places in `out`, where cell 0 lies at `base`.
 pub fn store_subset(
@@ -37,15 +36,14 @@ pub fn store_parts(
     src: &[u8],
     lead: usize,
     step: usize,
-    shape: &[u64],
-    subsets: &[u64],
+    subsets: Subsets,
 )
-    requires { PartsAsked shape.now subsets.now out.old base size src.now lead step }
-    ensures { out.new ≡ scatter out.old (places (fixed_at base size) (cells_of_all shape.now (subsets_of (length shape.now) subsets.now)))
-        (parts lead step size (subsets_of (length shape.now) subsets.now) src.now) }
+    requires { PartsAsked subsets.shape.now (subsets_in subsets) out.old base size src.now lead step }
+    ensures { out.new ≡ scatter out.old (places (fixed_at base size) (cells_of_each subsets.entry))
+        (parts lead step size (subsets_in subsets.entry) src.now) }
 {
     let mut pos: usize = 0;
-    for part in Parts::new(shape, subsets) {
+    for part in subsets.parts() {
         let m = part.count;
         store_subset(out, base, size, src, pos + m * lead, part);
         pos += m * step;
@@ -53,19 +51,12 @@ pub fn store_parts(
 }
 
 // Stores the masks of all chunks, level by level.
-pub fn store_masks(
-    out: &mut [u8],
-    src: &[u8],
-    depth: usize,
-    cells: usize,
-    shape: &[u64],
-    subsets: &[u64],
-)
-    requires { MasksAsked shape.now subsets.now out.old src.now depth cells }
-    ensures { out.new ≡ masks_merged shape.now (subsets_of (length shape.now) subsets.now) depth src.now depth
+pub fn store_masks(out: &mut [u8], src: &[u8], depth: usize, cells: usize, subsets: Subsets)
+    requires { MasksAsked subsets.shape.now (subsets_in subsets) out.old src.now depth cells }
+    ensures { out.new ≡ masks_merged subsets.entry.shape.now (subsets_in subsets.entry) depth src.now depth
         ++ drop (depth * cells) out.old }
 {
     for l in 0..depth {
-        store_parts(out, l * cells, 1, src, l, depth, shape, subsets);
+        store_parts(out, l * cells, 1, src, l, depth, subsets);
     }
 }

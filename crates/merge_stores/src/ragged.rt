@@ -3,14 +3,13 @@ ghost use Rattle.std.specs.Prelude.{◌≡◌, ◌∷◌, ◌++◌, ◌+◌, ◌
 ghost use Rattle.array.specs.Limits.{most_bytes};
 ghost use Rattle.array.specs.Lists.{from};
 ghost use Rattle.array.specs.Buffers.{over_at};
-ghost use Rattle.array.specs.Subset.{subsets_of, cells_of_all};
 ghost use Rattle.array.specs.Places.{fixed_at, offset_at, Rises, sum, sums, steps_at};
-ghost use Rattle.subset.specs.Cells.{cells_of};
+ghost use Rattle.subset.specs.Cells.{cells_of, subsets_in, cells_of_each};
 ghost use Rattle.merge_stores.specs.Scatter.{scatter, places};
 ghost use Rattle.merge_stores.specs.Ragged.{step_parts, offsets_merged};
 ghost use Rattle.merge_stores.specs.Ragged.{LengthsAsked, LengthsAllAsked, RaggedAsked, RaggedAllAsked, RaggedMergeAsked};
 
-use subset::walk::{Parts, Subset};
+use subset::walk::{Subset, Subsets};
 
 // The lengths of n neighbours, from their offsets.
 fn store_steps(out: &mut [u64], at: usize, src: &[u64], first: usize, n: usize)
@@ -34,13 +33,12 @@ fn store_lengths(out: &mut [u64], src: &[u64], first: usize, subset: Subset)
 }
 
 // Stores the lengths of the values of all chunks.
-fn store_lengths_all(out: &mut [u64], src: &[u64], shape: &[u64], subsets: &[u64])
-    requires { LengthsAllAsked shape.now subsets.now out.old src.now }
-    ensures { out.new ≡ scatter out.old (places (fixed_at 1 1) (cells_of_all shape.now (subsets_of (length shape.now) subsets.now)))
-        (step_parts (subsets_of (length shape.now) subsets.now) src.now) }
+fn store_lengths_all(out: &mut [u64], src: &[u64], subsets: Subsets)
+    requires { LengthsAllAsked subsets.shape.now (subsets_in subsets) out.old src.now }
+    ensures { out.new ≡ scatter out.old (places (fixed_at 1 1) (cells_of_each subsets.entry)) (step_parts (subsets_in subsets.entry) src.now) }
 {
     let mut first: usize = 0;
-    for part in Parts::new(shape, subsets) {
+    for part in subsets.parts() {
         let m = part.count;
         store_lengths(out, src, first, part);
         first += m + 1;
@@ -82,21 +80,13 @@ fn store_ragged(
 }
 
 // Stores the values of all chunks.
-fn store_ragged_all(
-    out: &mut [u8],
-    begins: &[u64],
-    values: &[u8],
-    src: &[u64],
-    shape: &[u64],
-    subsets: &[u64],
-)
-    requires { RaggedAllAsked shape.now subsets.now out.old begins.now values.now src.now }
-    ensures { out.new ≡ scatter out.old (places (offset_at begins.now) (cells_of_all shape.now (subsets_of (length shape.now) subsets.now)))
-        values.now }
+fn store_ragged_all(out: &mut [u8], begins: &[u64], values: &[u8], src: &[u64], subsets: Subsets)
+    requires { RaggedAllAsked subsets.shape.now (subsets_in subsets) out.old begins.now values.now src.now }
+    ensures { out.new ≡ scatter out.old (places (offset_at begins.now) (cells_of_each subsets.entry)) values.now }
 {
     let mut base: usize = 0;
     let mut first: usize = 0;
-    for part in Parts::new(shape, subsets) {
+    for part in subsets.parts() {
         let last = first + part.count;
         store_ragged(out, begins, values, base, src, first, part);
         base += src[last] as usize;
@@ -110,16 +100,14 @@ pub fn merge_ragged(
     outo: &mut [u64],
     values: &[u8],
     src: &[u64],
-    shape: &[u64],
-    subsets: &[u64],
+    subsets: Subsets,
     n: usize,
 )
-    requires { RaggedMergeAsked shape.now subsets.now outv.old outo.old values.now src.now n }
-    ensures offsets { outo.new ≡ offsets_merged shape.now (subsets_of (length shape.now) subsets.now) src.now ++ drop (n + 1) outo.old }
-    ensures bytes { outv.new ≡ scatter outv.old (places (offset_at outo.new) (cells_of_all shape.now (subsets_of (length shape.now) subsets.now)))
-        values.now }
+    requires { RaggedMergeAsked subsets.shape.now (subsets_in subsets) outv.old outo.old values.now src.now n }
+    ensures offsets { outo.new ≡ offsets_merged subsets.entry.shape.now (subsets_in subsets.entry) src.now ++ drop (n + 1) outo.old }
+    ensures bytes { outv.new ≡ scatter outv.old (places (offset_at outo.new) (cells_of_each subsets.entry)) values.now }
 {
-    store_lengths_all(outo, src, shape, subsets);
+    store_lengths_all(outo, src, subsets);
     sum_up(outo, n);
-    store_ragged_all(outv, outo, values, src, shape, subsets);
+    store_ragged_all(outv, outo, values, src, subsets);
 }

@@ -4,18 +4,19 @@ use mathlib.Core.Path.{◌≡◌, refl, sym, ap, ap₂, ◌∙◌}
 use mathlib.Core.Logic.{◌≢◌}
 use mathlib.Core.Bool.{Bool, true, false, ◌&&◌}
 use Prim.Native.Nat.{ℕ, ◌+◌, ◌-◌, ◌*◌, ◌%◌, ◌<◌, ◌≤◌}
+use native.Mathlib.Nat.{mod-eq_of_lt, add-mod_left}
 use native.Mathlib.Numerals.{add-one}
 use native.Mathlib.Omega.{arith}
-use mathlib.Core.List.{List, ◌∷◌}
-use lib.ListN.{length, drop, get_or, drop_of_length-le}
-use lib.Seq.{drop-cons}
+use mathlib.Core.List.{List, ◌∷◌, ◌++◌}
+use lib.ListN.{length, take, drop, get_or, drop_of_length-le, length-append}
+use lib.Seq.{drop-cons, take-take, take_at, drop_at, drop-drop}
 use lib.Dec.{leb}
 use borrow.Author.Tests.{le-leb, lt-leb, leb-true, leb-false, eq-eqb, ne_eqb}
+use Rattle.std.proofs.lemmas.List.{drop-take}
 use Rattle.array.specs.Lists.{every}
 use Rattle.array.specs.Subset.{lengths, pairs, subset_of, subsets_of, subset_test, full_test, numbers_test, many_test}
 use Rattle.array.proofs.SubsetLaws.{lengths-pairs}
-use Rattle.array.proofs.SubsetLists.{next_room, next_whole, next_subset, starts_at, lengths_at}
-use Rattle.subset.proofs.Subsets.{none_left}
+use Rattle.subset.proofs.Subsets.{none_left, next_split}
 
 -- ---- one side after another
 
@@ -78,38 +79,48 @@ module _ (sh ns : List ℕ) where
   pub numbers_counted : length ns ≡ 2 * length sh → numbers_test sh ns ≡ subset_test sh (subset_of (length sh) ns)
   numbers_counted e = ap (λ (b : Bool). b && subset_test sh (subset_of (length sh) ns)) (eq-eqb (length ns) (2 * length sh) e)
 
--- ---- one subset after another: the numbers from `at` on are left
+-- ---- one subset after another: the numbers `left` are those of the others
 
-pub record Fitting (sh ns : List ℕ) (at : ℕ) : Type 0 where
-  pub whole : length (drop at ns) % (2 * length sh) ≡ 0
-  pub same : many_test sh ns ≡ every (full_test sh) (subsets_of (length sh) (drop at ns))
+pub record Fitting (sh ns left : List ℕ) : Type 0 where
+  pub whole : length left % (2 * length sh) ≡ 0
+  pub same : many_test sh ns ≡ every (full_test sh) (subsets_of (length sh) left)
 
 module _ (sh ns : List ℕ) where
   pub many_miscounted : length ns % (2 * length sh) ≢ 0 → many_test sh ns ≡ false
   many_miscounted f = ap (λ (b : Bool). b && every (full_test sh) (subsets_of (length sh) ns)) (ne_eqb (length ns % (2 * length sh)) 0 f)
 
-  pub fitting_begins : length ns % (2 * length sh) ≡ 0 → Fitting sh ns 0
+  pub fitting_begins : length ns % (2 * length sh) ≡ 0 → Fitting sh ns ns
   fitting_begins e = record {
     whole = e;
     same = ap (λ (b : Bool). b && every (full_test sh) (subsets_of (length sh) ns)) (eq-eqb (length ns % (2 * length sh)) 0 e);
   }
 
-  module _ {at : ℕ} (f : Fitting sh ns at) where
-    pub fitting-ends : length ns ≤ at → many_test sh ns ≡ true
-    fitting-ends h = f.same ∙ ap (every (full_test sh)) (none_left (length sh) ns h)
+  module _ {left : List ℕ} (f : Fitting sh ns left) where
+    pub fitting-ends : length left < 2 * length sh → many_test sh ns ≡ true
+    fitting-ends h = let z : length left ≤ 0 = omega (arith, mod-eq_of_lt h, f.whole) in f.same ∙ ap (every (full_test sh)) (none_left (length sh) left z)
 
-    module _ (h : 1 ≤ length sh) (l : at < length ns) where
-      pub fitting_room : at + length sh + length sh ≤ length ns
-      fitting_room = next_room (length sh) at ns h f.whole l
+    -- the next subset is a chunk of the numbers, split in starts and lengths
+    module _ (h : 1 ≤ length sh) (chunk rest : List ℕ) {starts lens : List ℕ} (e : left ≡ chunk ++ rest) (n : length chunk ≡ 2 * length sh)
+        (es : starts ≡ take (length sh) chunk) (el : lens ≡ drop (length sh) chunk) where
+      next : subsets_of (length sh) left ≡ pairs starts lens ∷ subsets_of (length sh) rest
+      next =
+          let d : ℕ = length sh in
+          let whole : take (d + d) left ≡ chunk = ap (take (d + d)) e ∙ take_at chunk rest (d + d) (omega (arith, n)) in
+          let first : take d left ≡ starts = sym (take-take d (d + d) left (omega arith)) ∙ ap (take d) whole ∙ sym es in
+          let second : take d (drop d left) ≡ lens = sym (drop-take d d left) ∙ ap (drop d) whole ∙ sym el in
+          let others : drop d (drop d left) ≡ rest = drop-drop d d left ∙ ap (drop (d + d)) e ∙ drop_at chunk rest (d + d) (omega (arith, n)) in
+          rw (first, second, others) at (next_split d left h f.whole (omega (arith, n, ap length e, length-append chunk rest)))
 
-      first : {t : Bool} → full_test sh (pairs (starts_at (length sh) at ns) (lengths_at (length sh) at ns)) ≡ t
-          → many_test sh ns ≡ (t && every (full_test sh) (subsets_of (length sh) (drop (at + length sh + length sh) ns)))
-      first e =
-          f.same ∙ ap (every (full_test sh)) (next_subset (length sh) at ns h f.whole l)
-          ∙ ap (λ (b : Bool). b && every (full_test sh) (subsets_of (length sh) (drop (at + length sh + length sh) ns))) e
+      first : {t : Bool} → full_test sh (pairs starts lens) ≡ t → many_test sh ns ≡ (t && every (full_test sh) (subsets_of (length sh) rest))
+      first r = f.same ∙ ap (every (full_test sh)) next ∙ ap (λ (b : Bool). b && every (full_test sh) (subsets_of (length sh) rest)) r
 
-      pub fitting_more : full_test sh (pairs (starts_at (length sh) at ns) (lengths_at (length sh) at ns)) ≡ true → Fitting sh ns (at + length sh + length sh)
-      fitting_more t = record { whole = next_whole (length sh) at ns h f.whole l; same = first t }
+      pub fitting_more : full_test sh (pairs starts lens) ≡ true → Fitting sh ns rest
+      fitting_more t = record {
+        whole =
+            let z : length left ≡ 2 * length sh + length rest = omega (arith, ap length e, length-append chunk rest) in
+            sym (add-mod_left (2 * length sh) (length rest)) ∙ ap (λ (k : ℕ). k % (2 * length sh)) (sym z) ∙ f.whole;
+        same = first t;
+      }
 
-      pub fitting-over : full_test sh (pairs (starts_at (length sh) at ns) (lengths_at (length sh) at ns)) ≡ false → many_test sh ns ≡ false
+      pub fitting-over : full_test sh (pairs starts lens) ≡ false → many_test sh ns ≡ false
       fitting-over t = first t

@@ -7,7 +7,7 @@ use lib.ListN.{length}
 use Rattle.std.specs.Prelude.{Some}
 use Rattle.array.specs.Subset.{pairs, subsets_of, cells_in}
 use Rattle.subset.specs.Walk.{SubsetAsked, row_of, Left, RowAt}
-use Rattle.subset.specs.Cells.{cells_of, RowsLeft, GivesRow, GivesPart}
+use Rattle.subset.specs.Cells.{cells_of, subsets_in, RowsLeft, GivesRow, GivesPart}
 use Rattle.subset.specs.declared.walk.Subset.{Subset}
 use Rattle.subset.specs.declared.walk.Row.{Row}
 use Rattle.subset.specs.declared.walk.Rows.{Rows}
@@ -40,23 +40,23 @@ rows_left s rows e g = subst (λ (t : Subset). Left (cells_of t) t.count (row_of
 -- ---- the subsets of a list
 
 pub record PartStep (sh : List ℕ) (old : Parts) (s : Subset) (new : Parts) : Type 0 where
-  pub next : subsets_of (length sh) old.left.now ≡ pairs s.starts.now s.lens.now ∷ subsets_of (length sh) new.left.now
+  pub next : subsets_of (length sh) old.left.numbers.now ≡ pairs s.starts.now s.lens.now ∷ subsets_of (length sh) new.left.numbers.now
   pub asked : SubsetAsked sh s.starts.now s.lens.now s.count
   pub of : s.shape.now ≡ sh
   pub cells : cells_of s ≡ cells_in sh (pairs s.starts.now s.lens.now)
-  pub same : new.shape.now ≡ sh
+  pub same : new.left.shape.now ≡ sh
 
-module _ (sh : List ℕ) (old : Parts) (e : old.shape.now ≡ sh) where
+module _ (sh : List ℕ) (old : Parts) (e : old.left.shape.now ≡ sh) where
   pub part_step : (s : Subset) (new : Parts) → GivesPart old (Some s) new → PartStep sh old s new
   part_step s new g =
       let f : s.shape.now ≡ sh = g.1 ∙ e in
       record {
-        next = subst (λ (x : List ℕ). subsets_of (length x) old.left.now ≡ pairs s.starts.now s.lens.now ∷ subsets_of (length x) new.left.now) e g.0;
+        next = subst (λ (x : List ℕ). subsets_of (length x) old.left.numbers.now ≡ pairs s.starts.now s.lens.now ∷ subsets_of (length x) new.left.numbers.now) e g.0;
         asked = subst (λ (x : List ℕ). SubsetAsked x s.starts.now s.lens.now s.count) f s.asked;
         of = f;
         cells = ap (λ (x : List ℕ). cells_in x (pairs s.starts.now s.lens.now)) f;
         same = g.2 ∙ e;
       }
 
-  pub parts_end : subsets_of (length old.shape.now) old.left.now ≡ [] → subsets_of (length sh) old.left.now ≡ []
-  parts_end g = subst (λ (x : List ℕ). subsets_of (length x) old.left.now ≡ []) e g
+  pub parts_end : subsets_in old.left ≡ [] → subsets_of (length sh) old.left.numbers.now ≡ []
+  parts_end g = subst (λ (x : List ℕ). subsets_of (length x) old.left.numbers.now ≡ []) e g

@@ -1,7 +1,7 @@
 -- A loop over a list of subsets, whatever it does with them: what is left is subsets again, and begins with the next one.
 -- Assumes nothing.
 use mathlib.Core.Path.{◌≡◌, sym, ap, ap₂, ◌∙◌, subst}
-use Prim.Native.Nat.{ℕ, ◌+◌, ◌-◌, ◌≤◌}
+use Prim.Native.Nat.{ℕ, ◌+◌, ◌-◌, ◌*◌, ◌%◌, ◌≤◌}
 use native.Mathlib.Omega.{arith}
 use mathlib.Core.List.{List, [], ◌∷◌}
 use lib.ListN.{length, take, drop, drop_of_length-le}
@@ -18,11 +18,23 @@ use Rattle.subset.proofs.Index.{few_within}
 pub all_inside : (sh : List ℕ) (bs : List Subset) → All (FullOk sh) bs → All (SubsetOk sh) bs
 all_inside sh bs p = All-map (FullOk sh) (SubsetOk sh) (λ b f. f.fits) bs p
 
--- past the last number no subset is left
-pub none_left : (d : ℕ) (flat : List ℕ) {at : ℕ} → length flat ≤ at → subsets_of d (drop at flat) ≡ []
+-- no numbers are no subsets
+pub none_left : (d : ℕ) (flat : List ℕ) → length flat ≤ 0 → subsets_of d flat ≡ []
 none_left d flat h = ap (subsets_of d) (drop_of_length-le flat h) ∙ subsets_none d
 
--- numbers that are at least one subset, as a call splits them: the starts and the lengths of the first, and the others
+-- numbers that are at least one subset: the first, and the others
+pub next_split : (d : ℕ) (flat : List ℕ) → 1 ≤ d → length flat % (2 * d) ≡ 0 → 1 ≤ length flat
+    → subsets_of d flat ≡ pairs (take d flat) (take d (drop d flat)) ∷ subsets_of d (drop d (drop d flat))
+next_split d flat p w h =
+    let z : 0 + d ≡ d = omega arith in
+    let zd : 0 + d - 0 ≡ d = omega arith in
+    let zl : 0 + d + d - (0 + d) ≡ d = omega arith in
+    let first : starts_at d 0 flat ≡ take d flat = ap (λ (k : ℕ). take k flat) zd in
+    let second : lengths_at d 0 flat ≡ take d (drop d flat) = ap₂ (λ (k j : ℕ). take k (drop j flat)) zl z in
+    let others : drop (0 + d + d) flat ≡ drop d (drop d flat) = ap (λ (k : ℕ). drop (k + d) flat) z ∙ sym (drop-drop d d flat) in
+    rw (first, second, others) at (next_subset d 0 flat p w h)
+
+-- as a call splits them: the starts and the lengths of the first, and the others
 pub record Split (sh flat starts lens others : List ℕ) : Type 0 where
   pub next : subsets_of (length sh) flat ≡ pairs starts lens ∷ subsets_of (length sh) others
   pub within : Within sh starts lens

@@ -86,14 +86,11 @@ pub fn subsets_fit(shape: &[u64], numbers: &[u64]) -> bool
     if numbers.len() % (2 * sides) != 0 {
         return false;
     }
-    let mut at = 0;
-    while at < numbers.len() {
-        let mid = at + sides;
-        let end = mid + sides;
-        if !full_within(shape, &numbers[at..mid], &numbers[mid..end]) {
+    for subset in numbers.chunks_exact(2 * sides) {
+        let (starts, lens) = subset.split_at(sides);
+        if !full_within(shape, starts, lens) {
             return false;
         }
-        at = end;
     }
     true
 }

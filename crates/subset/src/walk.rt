@@ -102,25 +102,35 @@ impl<'a> Iterator for Rows<'a> {
     }
 }
 
-// The subsets of a list that are left, whose numbers lie end to end. Each holds a cell.
-#[derive(Drop)]
-pub struct Parts<'a> {
-    shape: &'a [u64],
-    left: &'a [u64],
-    pub ghost each: { SubsetsOk shape.now left.now } by { SubsetsOk-prop shape.now left.now },
+// The subsets of a list, whose numbers lie end to end. Each lies within the shape and holds a cell.
+#[derive(Clone, Copy)]
+pub struct Subsets<'a> {
+    pub shape: &'a [u64],
+    pub numbers: &'a [u64],
+    pub ghost each: { SubsetsOk shape.now numbers.now } by { SubsetsOk-prop shape.now numbers.now },
 }
 
-impl<'a> Parts<'a> {
-    pub fn new(shape: &'a [u64], subsets: &'a [u64]) -> Parts<'a>
-        requires { SubsetsOk shape.now subsets.now }
+impl<'a> Subsets<'a> {
+    pub fn new(shape: &'a [u64], numbers: &'a [u64]) -> Subsets<'a>
+        requires { SubsetsOk shape.now numbers.now }
         ensures shape { result.shape.now ≡ shape.now }
-        ensures all { result.left.now ≡ subsets.now }
+        ensures numbers { result.numbers.now ≡ numbers.now }
     {
-        Parts {
-            shape,
-            left: subsets,
-        }
+        Subsets { shape, numbers }
     }
+
+    // Its subsets, from the first on.
+    pub fn parts(self) -> Parts<'a>
+        ensures { result.left ≡ self.entry }
+    {
+        Parts { left: self }
+    }
+}
+
+// The subsets of a list that are left.
+#[derive(Drop)]
+pub struct Parts<'a> {
+    left: Subsets<'a>,
 }
 
 impl<'a> Iterator for Parts<'a> {
@@ -131,18 +141,20 @@ impl<'a> Iterator for Parts<'a> {
 
     ghost next_gives = { GivesPart };
 
-    ghost remaining = { λ parts. at_most (length parts.left.now) };
+    ghost remaining = { λ parts. at_most (length parts.left.numbers.now) };
 
     #[inline(always)]
     fn next(&mut self) -> Option<Subset<'a>> {
-        let shape = self.shape;
-        let left = self.left;
-        if left.is_empty() {
+        let Subsets { shape, numbers } = self.left;
+        if numbers.is_empty() {
             return None;
         }
-        let (starts, rest) = left.split_at(shape.len());
+        let (starts, rest) = numbers.split_at(shape.len());
         let (lens, rest) = rest.split_at(shape.len());
-        self.left = rest;
+        self.left = Subsets {
+            shape,
+            numbers: rest,
+        };
         let cells = volume_of(lens) as usize;
         Some(Subset {
             shape,

@@ -5,7 +5,7 @@ use native.Mathlib.Omega.{arith}
 use lib.ListN.{drop}
 use Rattle.array.specs.Limits.{most_cells}
 use Rattle.subset.proofs.Rows.{asked_left}
-use Rattle.subset.proofs.Steps.{RowStep, row_step, rows_end, rows_left}
+use Rattle.subset.proofs.Steps.{RowStep, row_step, rows_end}
 use Rattle.cut_ragged.specs.Source.{begins_in}
 use Rattle.cut_ragged.proofs.Offsets.{offset_there}
 use Rattle.cut_ragged.proofs.Ragged.{ragged_begins, ragged_same, ragged_values, ragged_offsets, ragged_total, NextRow, next_row, next_copied}
@@ -28,24 +28,11 @@ loop-row-init c =
     rw (c.into_iter-row-iterator.ensures.into_iter_gives, r.begin)
     (ragged_begins (begins_in v) (drop v.base v.bytes.now) c.args.values.now c.args.offsets.now (asked_left c.args.subset.asked) c.requires.room c.requires.room_offsets, r.of)
 
-pub next-requires : goal.next-requires
-next-requires c = rows_left c.args.subset c.loop-row.row-iterator c.loop-row.invariant.1 c.loop-row.invariant.0.copied.geo
-
-pub offset_at-begin-requires : goal.offset_at-begin-requires
-offset_at-begin-requires c =
-    let t = turn (goal.at.offset_at-begin-requires c).In-Some in
-    offset_there c.requires.asked c.in-Some.row.first (omega (arith, t.row.inside))
-
 pub overflow_add-row : goal.overflow_add-row
 unfolding most_cells
 overflow_add-row c =
     let t = turn (goal.at.overflow_add-row c).In-Some in
     omega (arith, t.row.inside, c.args.subset.asked.shaped.few_cells)
-
-pub offset_at-end-requires : goal.offset_at-end-requires
-offset_at-end-requires c =
-    let t = turn (goal.at.offset_at-end-requires c).In-Some in
-    offset_there c.requires.asked (c.in-Some.row.first + c.in-Some.row.cells) t.row.inside
 
 pub overflow_sub-size : goal.overflow_sub-size
 overflow_sub-size c =

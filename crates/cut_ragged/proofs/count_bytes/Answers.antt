@@ -9,40 +9,20 @@ use Rattle.array.specs.Places.{bytes_at}
 use Rattle.array.proofs.Places.{run_rises}
 use Rattle.subset.specs.Walk.{row_of}
 use Rattle.subset.specs.Cells.{cells_of}
-use Rattle.subset.proofs.Rows.{asked_left}
-use Rattle.subset.proofs.Steps.{RowStep, row_step, rows_end, rows_left}
+use Rattle.subset.proofs.Steps.{RowStep, row_step}
 use Rattle.cut_ragged.specs.Source.{begins_in}
-use Rattle.cut_ragged.proofs.Counting.{bytes_most, Counting, counting_begins, counting_ends, counting_more}
-use Rattle.cut_ragged.proofs.Offsets.{offset_there}
+use Rattle.cut_ragged.proofs.Counting.{bytes_most, Counting, counting_more}
 use Rattle.cut_ragged.proofs.count_bytes.Goals.{In-Some, After-offset_at-end}
 use Rattle.cut_ragged.proofs.count_bytes.Goals as goal
 
 turn : (c : In-Some) → RowStep c.args.subset c.loop-row.row-iterator c.in-Some.row c.next.new.self
 turn c = row_step c.args.subset c.loop-row.row-iterator c.loop-row.invariant.1 c.in-Some.row c.next.new.self c.in-Some.ensures.steps
 
-pub loop-row-init : goal.loop-row-init
-loop-row-init c =
-    let r = c.rows-row-items.ensures in
-    rw (c.into_iter-row-iterator.ensures.into_iter_gives, r.begin) (counting_begins (begins_in c.args.src) (asked_left c.args.subset.asked), r.of)
-
-pub next-requires : goal.next-requires
-next-requires c = rows_left c.args.subset c.loop-row.row-iterator c.loop-row.invariant.1 c.loop-row.invariant.0.geo
-
-pub offset_at-begin-requires : goal.offset_at-begin-requires
-offset_at-begin-requires c =
-    let t = turn (goal.at.offset_at-begin-requires c).In-Some in
-    offset_there c.requires c.in-Some.row.first (omega (arith, t.row.inside))
-
 pub overflow_add-row : goal.overflow_add-row
 unfolding most_cells
 overflow_add-row c =
     let t = turn (goal.at.overflow_add-row c).In-Some in
     omega (arith, t.row.inside, c.args.subset.asked.shaped.few_cells)
-
-pub offset_at-end-requires : goal.offset_at-end-requires
-offset_at-end-requires c =
-    let t = turn (goal.at.offset_at-end-requires c).In-Some in
-    offset_there c.requires (c.in-Some.row.first + c.in-Some.row.cells) t.row.inside
 
 pub overflow_sub-total : goal.overflow_sub-total
 overflow_sub-total c =
@@ -72,6 +52,3 @@ pub loop-row-preserved : goal.loop-row-preserved
 loop-row-preserved c =
     let t = turn (goal.at.loop-row-preserved c).In-Some in
     (rw t.on (counted (goal.at.loop-row-preserved c).After-offset_at-end), t.same)
-
-pub returns : goal.returns
-returns c = counting_ends c.loop-row.invariant.0 (rows_end c.args.subset c.loop-row.row-iterator c.loop-row.invariant.1 c.in-None.ensures.steps)

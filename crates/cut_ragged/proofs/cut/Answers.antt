@@ -52,9 +52,6 @@ copy_rows-total-requires c =
       room_offsets = simp length-set (omega (arith, asked_count a.subset.asked, c.if-offsets-many.false));
     }
 
-pub shape_of-offsets : goal.shape_of-offsets
-shape_of-offsets c = c.copy_rows-total.auto.offsets ∙ simp length-set
-
 pub returns : goal.returns
 returns c =
     let a = c.args in

@@ -8,7 +8,6 @@ use Rattle.array.specs.Limits.{most_cells}
 use Rattle.array.proofs.Places.{run_rises, run_below}
 use Rattle.cut_ragged.proofs.Ragged.{images_begin, images_end, images_more}
 use Rattle.cut_ragged.specs.Source.{begins_in}
-use Rattle.cut_ragged.proofs.Offsets.{there_below}
 use Rattle.cut_ragged.proofs.store_ends.Goals as goal
 
 pub loop-i-init : goal.loop-i-init
@@ -23,12 +22,6 @@ overflow_add-row c = omega (arith, c.requires.1.few_cells)
 pub overflow_add-row-in-loop-i : goal.overflow_add-row-in-loop-i
 unfolding most_cells
 overflow_add-row-in-loop-i c = omega (arith, c.requires.1.few_cells)
-
-pub offset_at-end-requires : goal.offset_at-end-requires
-offset_at-end-requires c =
-    let v = c.args.src in
-    let r = c.args.row in
-    there_below v.source v.index v.numbers.now v.bytes.now (r.first + r.cells) (r.first + c.loop-i.i + 1) c.requires.1.there (omega arith)
 
 pub overflow_sub-out : goal.overflow_sub-out
 overflow_sub-out c =

@@ -2,27 +2,11 @@
 -- Assumes nothing.
 use Prim.Native.Nat.{ℕ, ◌+◌, ◌*◌}
 use mathlib.Core.Path.{◌≡◌, ap, ◌∙◌}
-use native.Mathlib.Omega.{arith}
 use lib.ListN.{take, drop}
 use Rattle.array.specs.Bytes.{unle}
 use Rattle.array.specs.Meaning.{width_of}
 use Rattle.cut_ragged.specs.Source.{stored_at}
 use Rattle.cut_ragged.proofs.stored_at.Goals as goal
-
-pub overflow_mul-j : goal.overflow_mul-j
-overflow_mul-j c =
-    let steps : c.args.j * c.width_bytes-w.result ≡ c.args.j * width_of c.args.width = ap (λ (x : ℕ). c.args.j * x) c.width_bytes-w.ensures in
-    omega (arith, steps, c.requires)
-
-pub overflow_add-index : goal.overflow_add-index
-overflow_add-index c =
-    let steps : c.args.j * c.width_bytes-w.result ≡ c.args.j * width_of c.args.width = ap (λ (x : ℕ). c.args.j * x) c.width_bytes-w.ensures in
-    omega (arith, steps, c.requires)
-
-pub le_at-requires : goal.le_at-requires
-le_at-requires c =
-    let steps : c.args.j * c.width_bytes-w.result ≡ c.args.j * width_of c.args.width = ap (λ (x : ℕ). c.args.j * x) c.width_bytes-w.ensures in
-    omega (arith, steps, c.requires)
 
 pub returns : goal.returns
 unfolding stored_at

@@ -45,20 +45,8 @@ returns-then-out_values-bytes c =
     let p = (goal.at.returns-then-out_values-bytes c).In-Fixed in
     rw c.in-Fixed.is (no_values (cut_now p) (content_ragged c.args.out_values.now c.args.out_offsets.now) (long p) c.if-out_values-bytes.true)
 
-pub copy_cells-requires : goal.copy_cells-requires
-copy_cells-requires c = record { source = source (goal.at.copy_cells-requires c).In-Fixed; room = omega arith }
-
-pub cut-requires : goal.cut-requires
-cut-requires c =
-    let a = c.args in
-    let asked : (form : Values) → a.form ≡ form → ValuesAsked (form_of form) a.values.now a.offsets.now a.subset.shape.now = λ form e. rw e at c.requires in
-    asked _ c.in-Ragged.is
-
 pub returns-else-out_values-bytes : goal.returns-else-out_values-bytes
 returns-else-out_values-bytes c =
     let p = (goal.at.returns-else-out_values-bytes c).In-Fixed in
     rw c.in-Fixed.is
     (all_put (cut_now p) (content_ragged c.args.out_values.now c.args.out_offsets.now) (long p) refl c.if-out_values-bytes.false (omega arith) c.copy_cells.ensures refl)
-
-pub returns-in-Ragged : goal.returns-in-Ragged
-returns-in-Ragged c = rw c.in-Ragged.is c.cut.ensures

@@ -1,6 +1,6 @@
 -- `covers` meets its contract: the subsets before those that are left are marked, and as many cells as they have are taken off (proofs/Marking, proofs/Once).
 -- Assumes nothing.
-use mathlib.Core.Path.{sym, ap, ◌∙◌}
+use mathlib.Core.Path.{refl, sym, ap, ◌∙◌}
 use native.Mathlib.Omega.{arith}
 use Rattle.subset.proofs.Index.{few_shape}
 use Rattle.subset.proofs.Steps.{PartStep, part_step, parts_end}
@@ -10,32 +10,31 @@ use Rattle.merge_cover.proofs.Marking.{cover_begins, cover_ends, cover_more, cov
 use Rattle.merge_cover.proofs.covers.Goals.{In-Some}
 use Rattle.merge_cover.proofs.covers.Goals as goal
 
-turn : (c : In-Some) → PartStep c.args.shape.now c.loop-part.part-iterator c.in-Some.part c.next.new.self
-turn c = part_step c.args.shape.now c.loop-part.part-iterator c.loop-part.invariant.1 c.in-Some.part c.next.new.self c.in-Some.ensures.steps
+turn : (c : In-Some) → PartStep c.args.subsets.shape.now c.loop-part.part-iterator c.in-Some.part c.next.new.self
+turn c = part_step c.args.subsets.shape.now c.loop-part.part-iterator c.loop-part.invariant.1 c.in-Some.part c.next.new.self c.in-Some.ensures.steps
 
 pub volume_of-left-requires : goal.volume_of-left-requires
-volume_of-left-requires c = few_shape c.args.shape.now c.requires.shaped.sides c.requires.shaped.few_cells
+volume_of-left-requires c = let s = c.args.subsets in few_shape s.shape.now s.each.shaped.sides s.each.shaped.few_cells
 
 pub loop-part-init : goal.loop-part-init
 loop-part-init c =
-    let z = none_marked c.no_marks-words.ensures in
-    let p = c.new-part-items.ensures in
-    rw (c.into_iter-part-iterator.ensures.into_iter_gives, p.all) (cover_begins c.requires z.0 c.volume_of-left.ensures, p.shape, z.1)
+    rw (c.into_iter-part-iterator.ensures.into_iter_gives, c.parts-part-items.ensures)
+    (cover_begins c.args.subsets.each (none_marked c.no_marks-words.ensures) c.volume_of-left.ensures, refl)
 
 pub returns-then-left-part : goal.returns-then-left-part
 returns-then-left-part c =
     let t = turn (goal.at.returns-then-left-part c).In-Some in
-    sym (cover_beyond c.requires c.loop-part.invariant.0 t.next t.asked c.if-left-part.true)
+    sym (cover_beyond c.args.subsets.each c.loop-part.invariant.0 t.next t.asked c.if-left-part.true)
 
 pub returns-then-not-mark_subset : goal.returns-then-not-mark_subset
 returns-then-not-mark_subset c =
     let t = turn (goal.at.returns-then-not-mark_subset c).In-Some in
-    sym (cover_over c.requires c.loop-part.invariant.0 t.next t.asked (c.if-not-mark_subset.ensures ∙ ap (marking _) t.cells))
+    sym (cover_over c.args.subsets.each c.loop-part.invariant.0 t.next t.asked (c.if-not-mark_subset.ensures ∙ ap (marking _) t.cells))
 
 pub loop-part-preserved : goal.loop-part-preserved
 loop-part-preserved c =
     let t = turn (goal.at.loop-part-preserved c).In-Some in
-    (cover_more c.requires c.loop-part.invariant.0 t.next t.asked (c.if-not-mark_subset.ensures ∙ ap (marking _) t.cells) (omega arith), t.same, c.mark_subset.auto.words ∙ c.loop-part.invariant.2)
+    (cover_more c.args.subsets.each c.loop-part.invariant.0 t.next t.asked (c.if-not-mark_subset.ensures ∙ ap (marking _) t.cells) (omega arith), t.same)
 
 pub returns : goal.returns
-returns c = sym (cover_ends c.requires c.loop-part.invariant.0 (parts_end c.args.shape.now c.loop-part.part-iterator c.loop-part.invariant.1 c.in-None.ensures.steps))
+returns c = sym (cover_ends c.args.subsets.each c.loop-part.invariant.0 (parts_end c.args.subsets.shape.now c.loop-part.part-iterator c.loop-part.invariant.1 c.in-None.ensures.steps))

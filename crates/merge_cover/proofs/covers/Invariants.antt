@@ -9,5 +9,6 @@ use Rattle.merge_cover.proofs.covers.Given as goal
 
 abbrev pub invariant-loop-part : goal.invariant-loop-part
 invariant-loop-part l =
-    AllMarked l.shape l.subsets (marks_of l.words) (subsets_of (length l.shape) l.part-iterator.left.now) l.left
-    × (l.part-iterator.shape.now ≡ l.shape) × (length l.words ≡ 1024)
+    let s = l.fn.subsets in
+    let left = l.part-iterator.left in
+    AllMarked s.shape.now s.numbers.now (marks_of l.words) (subsets_of (length s.shape.now) left.numbers.now) l.left × (left.shape.now ≡ s.shape.now)

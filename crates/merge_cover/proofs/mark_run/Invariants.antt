@@ -9,7 +9,7 @@ use Rattle.merge_cover.specs.Marks.{marking}
 use Rattle.merge_cover.proofs.mark_run.Given as goal
 
 abbrev pub invariant-loop-i : goal.invariant-loop-i
-invariant-loop-i l = (l.i ≤ l.end) × (l.end ≤ 65536) × (length l.initial.words ≡ 1024) × (length l.words ≡ 1024) ×
+invariant-loop-i l = (l.i ≤ l.end) × (l.end ≤ 65536) × (length l.words ≡ 1024) ×
     (marking (marks_of l.initial.words) (from l.start l.len) ≡ marking (marks_of l.words) (from l.i (l.end - l.i)))
 
 abbrev pub decreases-loop-i : goal.decreases-loop-i

@@ -8,8 +8,8 @@ use Rattle.merge_cover.proofs.set_marks.Goals as goal
 pub overflow_add-words : goal.overflow_add-words
 overflow_add-words c =
     record {
-      fits = run_fits c.args.words.now c.args.i c.args.n (omega arith) c.requires.3 c.ones-v.ensures c.requires.4 (c.slice_known-2-1.given (c.args.i / 64)).fits;
+      fits = run_fits c.args.words.now c.args.i c.args.n (omega arith) c.requires.2 c.ones-v.ensures c.requires.3 (c.fits-words (c.args.i / 64));
     }
 
 pub returns : goal.returns
-returns c = run_marked c.args.words.now c.args.i c.args.n (omega arith) c.requires.3 c.ones-v.ensures c.requires.4
+returns c = run_marked c.args.words.now c.args.i c.args.n (omega arith) c.requires.2 c.ones-v.ensures c.requires.3

@@ -3,49 +3,45 @@
 use Prim.Native.Nat.{◌≤◌}
 use native.Mathlib.Omega.{arith}
 use lib.ListN.{length}
-use Rattle.array.specs.Meaning.{kind_of}
-use Rattle.array.specs.Outcome.{content_array}
+use Rattle.array.specs.Meaning.{kind_of, lent}
 use Rattle.valid.proofs.CheckLaws.{small_product}
 use Rattle.merge_rules.proofs.OneChunk.{Sized, size_known, size_lacking, chunk_lacks, chunk_breaks, chunk_keeps}
 use Rattle.merge_rules.proofs.check_chunk.Goals.{In_ok-chunk}
 use Rattle.merge_rules.proofs.check_chunk.Goals as goal
 
 size : (c : In_ok-chunk) → let a = c.args in let t = c.in_ok-chunk.chunk in
-    Sized (kind_of a.kind).form a.cells a.offsets.now t.bytes t.numbers × (t.numbers ≤ length a.offsets.now)
-size c = size_known (kind_of c.args.kind).form c.args.cells c.args.offsets.now c.in_ok-chunk.ensures
+    Sized (kind_of a.kind).form a.cells a.left.offsets.now t.bytes t.numbers × (t.numbers ≤ length a.left.offsets.now)
+size c = size_known (kind_of c.args.kind).form c.args.cells c.args.left.offsets.now c.in_ok-chunk.ensures
 
 pub overflow_mul-planes : goal.overflow_mul-planes
 overflow_mul-planes c = omega (arith, small_product c.args.kind.depth c.args.cells (omega arith) c.requires)
 
-pub returns-then-masks-planes : goal.returns-then-masks-planes
-returns-then-masks-planes c =
+pub returns-then-left-planes : goal.returns-then-left-planes
+returns-then-left-planes c =
     let a = c.args in
-    chunk_lacks (kind_of a.kind) a.cells (content_array a.masks.now a.values.now a.offsets.now) (λ h. omega (arith, h.masks))
+    chunk_lacks (kind_of a.kind) a.cells (lent a.left) (λ h. omega (arith, h.masks))
 
 pub returns-in_err-chunk : goal.returns-in_err-chunk
 returns-in_err-chunk c =
     let a = c.args in
     rw c.from_residual.ensures
-    (chunk_lacks (kind_of a.kind) a.cells (content_array a.masks.now a.values.now a.offsets.now)
-    (λ h. omega (arith, h.offsets, size_lacking (kind_of a.kind).form a.cells a.offsets.now c.in_err-chunk.ensures)))
+    (chunk_lacks (kind_of a.kind) a.cells (lent a.left)
+    (λ h. omega (arith, h.offsets, size_lacking (kind_of a.kind).form a.cells a.left.offsets.now c.in_err-chunk.ensures)))
 
-pub returns-then-values-chunk : goal.returns-then-values-chunk
-returns-then-values-chunk c =
+pub returns-then-left-chunk : goal.returns-then-left-chunk
+returns-then-left-chunk c =
     let a = c.args in
-    let z = size (goal.at.returns-then-values-chunk c).In_ok-chunk in
-    chunk_lacks (kind_of a.kind) a.cells (content_array a.masks.now a.values.now a.offsets.now) (λ h. omega (arith, h.values, z.0.is_taken))
-
-pub slice_bounds-keeps_rules-end-3 : goal.slice_bounds-keeps_rules-end-3
-slice_bounds-keeps_rules-end-3 c = (size (goal.at.slice_bounds-keeps_rules-end-3 c).In_ok-chunk).1
+    let z = size (goal.at.returns-then-left-chunk c).In_ok-chunk in
+    chunk_lacks (kind_of a.kind) a.cells (lent a.left) (λ h. omega (arith, h.values, z.0.is_taken))
 
 pub returns-then-not-keeps_rules : goal.returns-then-not-keeps_rules
 returns-then-not-keeps_rules c =
     let a = c.args in
-    chunk_breaks (kind_of a.kind) a.cells (content_array a.masks.now a.values.now a.offsets.now) (size (goal.at.returns-then-not-keeps_rules c).In_ok-chunk).0
+    chunk_breaks (kind_of a.kind) a.cells (lent a.left) (size (goal.at.returns-then-not-keeps_rules c).In_ok-chunk).0
     c.keeps_rules.ensures c.if-not-keeps_rules.true-raw
 
 pub returns : goal.returns
 returns c =
     let a = c.args in
-    chunk_keeps (kind_of a.kind) a.cells (content_array a.masks.now a.values.now a.offsets.now) (size (goal.at.returns c).In_ok-chunk).0
+    chunk_keeps (kind_of a.kind) a.cells (lent a.left) (size (goal.at.returns c).In_ok-chunk).0
     c.keeps_rules.ensures c.if-not-keeps_rules.false-raw

@@ -5,8 +5,7 @@ use native.Mathlib.Omega.{arith}
 use Rattle.std.proofs.lemmas.Result.{err_from_is_err_and}
 use Rattle.array.specs.Limits.{most_bytes}
 use Rattle.array.specs.Answer.{gives}
-use Rattle.array.specs.Meaning.{kind_of}
-use Rattle.array.specs.Outcome.{content_array}
+use Rattle.array.specs.Meaning.{lent}
 use Rattle.valid.proofs.ShapeLaws.{Counted, counted}
 use Rattle.merge_rules.proofs.Passing.{tested_subsets, no_kind, no_shape, no_subsets, bad_chunks, too_many, passes}
 use Rattle.merge_rules.proofs.check_merge.Goals.{In_ok-cells}
@@ -30,26 +29,25 @@ pub returns-then-not-subsets_fit : goal.returns-then-not-subsets_fit
 returns-then-not-subsets_fit c =
     no_subsets _ _ _ _ (sym c.if-not-check_kind.ensures) (shaped (goal.at.returns-then-not-subsets_fit c).In_ok-cells).passes (sym c.if-not-subsets_fit.ensures)
 
-pub check_chunks-requires : goal.check_chunks-requires
-check_chunks-requires c = tested_subsets _ _ (shaped (goal.at.check_chunks-requires c).In_ok-cells).passes (sym c.if-not-subsets_fit.ensures)
+pub new-requires : goal.new-requires
+new-requires c = tested_subsets _ _ (shaped (goal.at.new-requires c).In_ok-cells).passes (sym c.if-not-subsets_fit.ensures)
 
 pub returns-then-not-check_chunks : goal.returns-then-not-check_chunks
 returns-then-not-check_chunks c =
-    bad_chunks _ _ _ _ (sym c.if-not-check_kind.ensures) (shaped (goal.at.returns-then-not-check_chunks c).In_ok-cells).passes (sym c.if-not-subsets_fit.ensures)
-    (sym c.if-not-check_chunks.ensures)
+    let s = shaped (goal.at.returns-then-not-check_chunks c).In_ok-cells in
+    let kept = rw (c.new.ensures.shape, c.new.ensures.numbers) at c.if-not-check_chunks.ensures in
+    bad_chunks _ _ _ _ (sym c.if-not-check_kind.ensures) s.passes (sym c.if-not-subsets_fit.ensures) (sym kept)
 
-pub returns-then-values-gt-MOST_BYTES : goal.returns-then-values-gt-MOST_BYTES
+pub returns-then-array-gt-MOST_BYTES : goal.returns-then-array-gt-MOST_BYTES
 unfolding most_bytes
-returns-then-values-gt-MOST_BYTES c =
-    let a = c.args in
-    too_many (kind_of a.kind) a.shape.now a.subsets.now (content_array a.masks.now a.values.now a.offsets.now) (sym c.if-not-check_kind.ensures)
-    (shaped (goal.at.returns-then-values-gt-MOST_BYTES c).In_ok-cells).passes (sym c.if-not-subsets_fit.ensures) (sym c.if-not-check_chunks.ensures) (omega arith)
+returns-then-array-gt-MOST_BYTES c =
+    let s = shaped (goal.at.returns-then-array-gt-MOST_BYTES c).In_ok-cells in
+    let kept = rw (c.new.ensures.shape, c.new.ensures.numbers) at c.if-not-check_chunks.ensures in
+    too_many _ _ _ (lent c.args.array) (sym c.if-not-check_kind.ensures) s.passes (sym c.if-not-subsets_fit.ensures) (sym kept) (omega arith)
 
 pub returns : goal.returns
 unfolding most_bytes
 returns c =
-    let a = c.args in
     let s = shaped (goal.at.returns c).In_ok-cells in
-    ap gives s.is
-    ∙ passes (kind_of a.kind) a.shape.now a.subsets.now (content_array a.masks.now a.values.now a.offsets.now) (sym c.if-not-check_kind.ensures)
-    s.passes (sym c.if-not-subsets_fit.ensures) (sym c.if-not-check_chunks.ensures) (omega arith)
+    let kept = rw (c.new.ensures.shape, c.new.ensures.numbers) at c.if-not-check_chunks.ensures in
+    ap gives s.is ∙ passes _ _ _ (lent c.args.array) (sym c.if-not-check_kind.ensures) s.passes (sym c.if-not-subsets_fit.ensures) (sym kept) (omega arith)

@@ -4,11 +4,11 @@ use Prim.Native.Nat.{ℕ}
 use mathlib.Core.Path.{◌≡◌, sym, ap, ◌∙◌}
 use mathlib.Core.List.{List}
 use native.Mathlib.Omega.{arith}
-use Rattle.array.specs.Meaning.{form_of, order_of, width_of, place_of}
+use Rattle.array.specs.Meaning.{form_of, width_of, place_of}
 use Rattle.array.specs.declared.kind.Values.{Values}
 use Rattle.valid.proofs.CheckLaws.{small_product}
 use Rattle.merge_rules.specs.Chunks.{size_answer}
-use Rattle.merge_rules.proofs.OneChunk.{size_fixed, size_bad, size_ragged}
+use Rattle.merge_rules.proofs.OneChunk.{size_ragged}
 use Rattle.merge_rules.proofs.chunk_size.Goals as goal
 
 abbrev by : {x y : Values} (m : ℕ) (os : List ℕ) → x ≡ y → size_answer (form_of y) m os ≡ size_answer (form_of x) m os
@@ -16,16 +16,6 @@ by m os e = ap (λ (z : Values). size_answer (form_of z) m os) (sym e)
 
 pub overflow_mul-result : goal.overflow_mul-result
 overflow_mul-result c = omega (arith, small_product c.in-Fixed.size c.args.cells (omega arith) c.requires)
-
-pub returns-then-offsets-cells : goal.returns-then-offsets-cells
-returns-then-offsets-cells c =
-    let a = c.args in
-    size_bad a.cells a.offsets.now (width_of c.in-Ragged.field-0) (place_of c.in-Ragged.field-1) (omega arith) ∙ by a.cells a.offsets.now c.in-Ragged.is
-
-pub returns-in-Fixed : goal.returns-in-Fixed
-returns-in-Fixed c =
-    let a = c.args in
-    size_fixed a.cells a.offsets.now c.in-Fixed.size (order_of c.in-Fixed.field-1) ∙ by a.cells a.offsets.now c.in-Fixed.is
 
 pub returns-else-offsets-cells : goal.returns-else-offsets-cells
 returns-else-offsets-cells c =

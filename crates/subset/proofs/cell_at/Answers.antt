@@ -1,45 +1,32 @@
 -- `cell_at` meets its contract: the sides from k on give a cell, and what is left of i counts in the others (proofs/Index).
 -- Assumes nothing.
-use Prim.Native.Nat.{◌<◌}
 use native.Mathlib.Omega.{arith}
-use Rattle.subset.proofs.Index.{cell_more, cell_ends, Turn, turn}
+use Rattle.subset.proofs.Index.{cell_more, cell_ends, turn}
 use Rattle.subset.proofs.cell_at.Goals as goal
 
 pub nonzero_rem-row : goal.nonzero_rem-row
 nonzero_rem-row c =
-    let small : 0 < c.loop-k.k → Turn c.args.shape.now c.args.starts.now c.args.lens.now c.loop-k.k c.loop-k.v c.loop-k.cell c.loop-k.q =
-    λ h. turn c.requires.0 c.requires.1 c.requires.2 c.loop-k.invariant h in
-    (small (omega arith)).some_length
+    (turn c.requires.0 c.requires.1 c.requires.2 c.loop-k.invariant (omega arith)).some_length
 
 pub overflow_add-row : goal.overflow_add-row
 overflow_add-row c =
-    let small : 0 < c.loop-k.k → Turn c.args.shape.now c.args.starts.now c.args.lens.now c.loop-k.k c.loop-k.v c.loop-k.cell c.loop-k.q =
-    λ h. turn c.requires.0 c.requires.1 c.requires.2 c.loop-k.invariant h in
-    omega (arith, small (omega arith))
+    omega (arith, turn c.requires.0 c.requires.1 c.requires.2 c.loop-k.invariant (omega arith))
 
 pub overflow_mul-cell : goal.overflow_mul-cell
 overflow_mul-cell c =
-    let small : 0 < c.loop-k.k → Turn c.args.shape.now c.args.starts.now c.args.lens.now c.loop-k.k c.loop-k.v c.loop-k.cell c.loop-k.q =
-    λ h. turn c.requires.0 c.requires.1 c.requires.2 c.loop-k.invariant h in
-    omega (arith, small (omega arith))
+    omega (arith, turn c.requires.0 c.requires.1 c.requires.2 c.loop-k.invariant (omega arith))
 
 pub overflow_add-cell : goal.overflow_add-cell
 overflow_add-cell c =
-    let small : 0 < c.loop-k.k → Turn c.args.shape.now c.args.starts.now c.args.lens.now c.loop-k.k c.loop-k.v c.loop-k.cell c.loop-k.q =
-    λ h. turn c.requires.0 c.requires.1 c.requires.2 c.loop-k.invariant h in
-    omega (arith, small (omega arith))
+    omega (arith, turn c.requires.0 c.requires.1 c.requires.2 c.loop-k.invariant (omega arith))
 
 pub nonzero_div-q : goal.nonzero_div-q
 nonzero_div-q c =
-    let small : 0 < c.loop-k.k → Turn c.args.shape.now c.args.starts.now c.args.lens.now c.loop-k.k c.loop-k.v c.loop-k.cell c.loop-k.q =
-    λ h. turn c.requires.0 c.requires.1 c.requires.2 c.loop-k.invariant h in
-    (small (omega arith)).some_length
+    (turn c.requires.0 c.requires.1 c.requires.2 c.loop-k.invariant (omega arith)).some_length
 
 pub overflow_mul-v : goal.overflow_mul-v
 overflow_mul-v c =
-    let small : 0 < c.loop-k.k → Turn c.args.shape.now c.args.starts.now c.args.lens.now c.loop-k.k c.loop-k.v c.loop-k.cell c.loop-k.q =
-    λ h. turn c.requires.0 c.requires.1 c.requires.2 c.loop-k.invariant h in
-    omega (arith, small (omega arith))
+    omega (arith, turn c.requires.0 c.requires.1 c.requires.2 c.loop-k.invariant (omega arith))
 
 pub loop-k-preserved : goal.loop-k-preserved
 loop-k-preserved c =

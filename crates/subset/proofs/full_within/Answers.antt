@@ -2,14 +2,9 @@
 -- Assumes nothing.
 use mathlib.Core.Path.{sym, ◌∙◌}
 use native.Mathlib.Omega.{arith}
-use borrow.Author.Tests.{not-true, not-false}
-use Rattle.subset.proofs.Fitting.{full_over, full_by_lengths}
+use borrow.Author.Tests.{not-false}
+use Rattle.subset.proofs.Fitting.{full_by_lengths}
 use Rattle.subset.proofs.full_within.Goals as goal
-
-pub returns-then-not-lies_within : goal.returns-then-not-lies_within
-returns-then-not-lies_within c =
-    sym (full_over c.args.shape.now c.args.starts.now c.args.lens.now (omega (arith, c.requires.0, c.requires.1))
-    (sym c.lies_within.ensures ∙ not-true c.lies_within.result c.if-not-lies_within.true-raw))
 
 pub returns : goal.returns
 returns c =

@@ -12,10 +12,6 @@ pub overflow_add-cells : goal.overflow_add-cells
 unfolding most_cells
 overflow_add-cells c = omega arith
 
-pub overflow_add-cells-in-loop-i : goal.overflow_add-cells-in-loop-i
-unfolding most_cells
-overflow_add-cells-in-loop-i c = omega arith
-
 pub loop-i-preserved : goal.loop-i-preserved
 loop-i-preserved c =
     let a = c.args in

@@ -1,13 +1,11 @@
 -- `subset_cells` meets its contract: each refusal in its order, then the rows (proofs/StoringCells).
 -- Assumes nothing.
-use Prim.Native.Nat.{ℕ}
-use mathlib.Core.Path.{◌≡◌, sym, ap, ◌∙◌}
-use mathlib.Core.List.{List}
+use mathlib.Core.Path.{◌≡◌, sym}
 use lib.ListN.{length}
 use Rattle.std.proofs.lemmas.Result.{err_from_is_err_and}
 use Rattle.array.specs.Subset.{subset_of, NumbersOk, cells_in}
 use Rattle.array.proofs.Rules.{numbers_ok}
-use Rattle.valid.proofs.ShapeLaws.{Counted, counted, not_counted}
+use Rattle.valid.proofs.ShapeLaws.{counted, not_counted}
 use Rattle.array.proofs.CellAnswers.{cells_no_shape, cells_no_subset, cells_no_room, cells_stored}
 use Rattle.subset.proofs.Rows.{asked_count}
 use Rattle.subset.proofs.subset_cells.Goals.{Else-not-subset_fits, After-new-subset}

@@ -1,12 +1,11 @@
--- `subsets_fit` meets its contract: the subsets from `at` on give what all give (proofs/Fitting).
+-- `subsets_fit` meets its contract: the subsets that are left give what all give (proofs/Fitting).
 -- Assumes nothing.
-use Prim.Native.Nat.{◌-◌}
+use mathlib.Core.Path.{◌≡◌}
+use Prim.Native.Nat.{◌*◌}
 use lib.ListN.{length}
+use Rattle.std.specs.Slice.Iter.{chunks_exact_rest, chunks_exact_size}
 use Rattle.subset.proofs.Fitting.{Fitting}
 use Rattle.subset.proofs.subsets_fit.Given as goal
 
-abbrev pub invariant-loop-at : goal.invariant-loop-at
-invariant-loop-at l = Fitting l.shape l.numbers l.at
-
-abbrev pub decreases-loop-at : goal.decreases-loop-at
-decreases-loop-at l = length l.numbers - l.at
+abbrev pub invariant-loop-subset : goal.invariant-loop-subset
+invariant-loop-subset l = Fitting l.shape l.numbers (chunks_exact_rest l.subset-iterator) × (chunks_exact_size l.subset-iterator ≡ 2 * length l.shape)

@@ -7,7 +7,7 @@ use Rattle.array.specs.Shape.{volume}
 use Rattle.array.specs.Places.{fixed_at}
 use Rattle.subset.specs.Cells.{cells_of}
 use Rattle.subset.proofs.Rows.{asked_left, asked_below, asked_count}
-use Rattle.subset.proofs.Steps.{RowStep, row_step, rows_end, rows_left}
+use Rattle.subset.proofs.Steps.{RowStep, row_step, rows_end}
 use Rattle.cut_ragged.proofs.Walk.{copied_begins, copied_ends}
 use Rattle.extract.proofs.Walk.{fixed_long, fixed_source, fixed_room, fixed_copied}
 use Rattle.extract.proofs.cells.copy_cells.Goals.{In-Some}
@@ -29,9 +29,6 @@ loop-row-init c =
     let long = fixed_long a.base a.size (volume a.subset.shape.now) a.src.now (cells_of a.subset) c.requires.source (asked_below a.subset.asked) in
     rw (c.into_iter-row-iterator.ensures.into_iter_gives, r.begin, zero-mul a.size)
     (copied_begins (fixed_at a.base a.size) a.src.now a.out.now a.to (asked_left a.subset.asked) (rw (long, asked_count a.subset.asked) c.requires.room), r.of)
-
-pub next-requires : goal.next-requires
-next-requires c = rows_left c.args.subset c.loop-row.row-iterator c.loop-row.invariant.1 c.loop-row.invariant.0.geo
 
 pub copy_bytes-requires : goal.copy_bytes-requires
 copy_bytes-requires c =

@@ -1,19 +1,13 @@
 -- `store_parts` meets its contract: the parts of the chunks before those that are left are stored (proofs/PartsStored).
 -- Assumes nothing.
 use native.Mathlib.Omega.{arith}
-use Rattle.subset.proofs.Steps.{PartStep, part_step, parts_end}
-use Rattle.merge_stores.proofs.ListStored.{list_ends}
-use Rattle.merge_stores.proofs.PartsStored.{all_begins, all_room, part_room, all_asked, all_more}
+use Rattle.subset.proofs.Steps.{PartStep, part_step}
+use Rattle.merge_stores.proofs.PartsStored.{all_room, part_room, all_asked, all_more}
 use Rattle.merge_stores.proofs.cells.store_parts.Goals.{In-Some}
 use Rattle.merge_stores.proofs.cells.store_parts.Goals as goal
 
-turn : (c : In-Some) → PartStep c.args.shape.now c.loop-part.part-iterator c.in-Some.part c.next.new.self
-turn c = part_step c.args.shape.now c.loop-part.part-iterator c.loop-part.invariant.1 c.in-Some.part c.next.new.self c.in-Some.ensures.steps
-
-pub loop-part-init : goal.loop-part-init
-loop-part-init c =
-    let p = c.new-part-items.ensures in
-    rw (c.into_iter-part-iterator.ensures.into_iter_gives, p.all) (all_begins c.requires, p.shape)
+turn : (c : In-Some) → PartStep c.args.subsets.shape.now c.loop-part.part-iterator c.in-Some.part c.next.new.self
+turn c = part_step c.args.subsets.shape.now c.loop-part.part-iterator c.loop-part.invariant.1 c.in-Some.part c.next.new.self c.in-Some.ensures.steps
 
 pub overflow_mul-m : goal.overflow_mul-m
 overflow_mul-m c =
@@ -44,6 +38,3 @@ pub loop-part-preserved : goal.loop-part-preserved
 loop-part-preserved c =
     let t = turn (goal.at.loop-part-preserved c).In-Some in
     (all_more c.requires c.loop-part.invariant.0 t.next t.asked (rw t.of at c.store_subset.ensures), t.same)
-
-pub returns : goal.returns
-returns c = list_ends c.loop-part.invariant.0.list (parts_end c.args.shape.now c.loop-part.part-iterator c.loop-part.invariant.1 c.in-None.ensures.steps)

@@ -3,10 +3,13 @@
 use mathlib.Core.Path.{◌≡◌}
 use lib.ListN.{length}
 use Rattle.array.specs.Subset.{subsets_of}
+use Rattle.subset.specs.Cells.{subsets_in}
 use Rattle.merge_stores.proofs.PartsStored.{StoreAll}
 use Rattle.merge_stores.proofs.cells.store_parts.Given as goal
 
 abbrev pub invariant-loop-part : goal.invariant-loop-part
 invariant-loop-part l =
-    StoreAll l.shape l.subsets l.initial.out l.base l.size l.src l.lead l.step l.out (subsets_of (length l.shape) l.part-iterator.left.now) l.pos
-    × (l.part-iterator.shape.now ≡ l.shape)
+    let s = l.fn.subsets in
+    let left = l.part-iterator.left in
+    StoreAll s.shape.now (subsets_in s) l.initial.out l.base l.size l.src l.lead l.step l.out (subsets_of (length s.shape.now) left.numbers.now) l.pos
+    × (left.shape.now ≡ s.shape.now)

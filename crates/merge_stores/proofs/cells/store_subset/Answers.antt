@@ -1,29 +1,16 @@
 -- `store_subset` meets its contract: the rows before the iterator's place are stored (proofs/RowsStored).
 -- Assumes nothing.
 use Prim.Native.Nat.{◌+◌, ◌*◌, ◌≤◌}
-use native.Mathlib.Nat.{zero-mul}
 use native.Mathlib.Omega.{arith}
-use lib.ListN.{length, drop}
+use lib.ListN.{length}
 use Rattle.array.specs.Shape.{volume}
-use Rattle.array.specs.Places.{fixed_at}
-use Rattle.subset.proofs.Rows.{asked_left}
-use Rattle.subset.proofs.Steps.{RowStep, row_step, rows_end, rows_left}
-use Rattle.merge_stores.proofs.RowsStored.{store_begins, store_ends, fixed_more, fixed_room}
+use Rattle.subset.proofs.Steps.{RowStep, row_step}
+use Rattle.merge_stores.proofs.RowsStored.{fixed_more, fixed_room}
 use Rattle.merge_stores.proofs.cells.store_subset.Goals.{In-Some}
 use Rattle.merge_stores.proofs.cells.store_subset.Goals as goal
 
 turn : (c : In-Some) → RowStep c.args.subset c.loop-row.row-iterator c.in-Some.row c.next.new.self
 turn c = row_step c.args.subset c.loop-row.row-iterator c.loop-row.invariant.1 c.in-Some.row c.next.new.self c.in-Some.ensures.steps
-
-pub next-requires : goal.next-requires
-next-requires c = rows_left c.args.subset c.loop-row.row-iterator c.loop-row.invariant.1 c.loop-row.invariant.0.geo
-
-pub loop-row-init : goal.loop-row-init
-loop-row-init c =
-    let a = c.args in
-    let r = c.rows-row-items.ensures in
-    rw (c.into_iter-row-iterator.ensures.into_iter_gives, r.begin, zero-mul a.size)
-    (store_begins (fixed_at a.base a.size) (drop a.first a.src.now) a.out.now (asked_left a.subset.asked), r.of)
 
 room : (c : In-Some) → let a = c.args in a.base + c.in-Some.row.first * a.size + c.in-Some.row.cells * a.size ≤ length a.out.now
 room c =
@@ -46,6 +33,3 @@ loop-row-preserved c =
     let p = (goal.at.loop-row-preserved c).In-Some in
     let t = turn p in
     (rw t.on (fixed_more a.base a.size a.src.now a.first c.loop-row.invariant.0 t.row (room p) (enough p) (rw t.here at c.copy_bytes.ensures)), t.same)
-
-pub returns : goal.returns
-returns c = store_ends c.loop-row.invariant.0 (rows_end c.args.subset c.loop-row.row-iterator c.loop-row.invariant.1 c.in-None.ensures.steps)

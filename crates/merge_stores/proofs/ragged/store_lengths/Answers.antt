@@ -3,27 +3,14 @@
 use Prim.Native.Nat.{suc, ◌+◌}
 use mathlib.Core.Path.{◌≡◌, ap}
 use native.Mathlib.Omega.{arith}
-use Rattle.array.specs.Lists.{from}
-use Rattle.array.specs.Places.{fixed_at, offset_at, steps_at}
-use Rattle.subset.proofs.Rows.{asked_left}
-use Rattle.subset.proofs.Steps.{RowStep, row_step, rows_end, rows_left}
+use Rattle.array.specs.Places.{offset_at}
+use Rattle.subset.proofs.Steps.{RowStep, row_step}
 use Rattle.merge_stores.proofs.LengthRows.{lengths_row}
-use Rattle.merge_stores.proofs.RowsStored.{store_begins, store_ends}
 use Rattle.merge_stores.proofs.ragged.store_lengths.Goals.{In-Some}
 use Rattle.merge_stores.proofs.ragged.store_lengths.Goals as goal
 
 turn : (c : In-Some) → RowStep c.args.subset c.loop-row.row-iterator c.in-Some.row c.next.new.self
 turn c = row_step c.args.subset c.loop-row.row-iterator c.loop-row.invariant.1 c.in-Some.row c.next.new.self c.in-Some.ensures.steps
-
-pub next-requires : goal.next-requires
-next-requires c = rows_left c.args.subset c.loop-row.row-iterator c.loop-row.invariant.1 c.loop-row.invariant.0.geo
-
-pub loop-row-init : goal.loop-row-init
-loop-row-init c =
-    let a = c.args in
-    let r = c.rows-row-items.ensures in
-    rw (c.into_iter-row-iterator.ensures.into_iter_gives, r.begin)
-    (store_begins (fixed_at 1 1) (steps_at (offset_at a.src.now) (from a.first a.subset.count)) a.out.now (asked_left a.subset.asked), r.of)
 
 pub store_steps-requires : goal.store_steps-requires
 store_steps-requires c =
@@ -43,6 +30,3 @@ pub loop-row-preserved : goal.loop-row-preserved
 loop-row-preserved c =
     let t = turn (goal.at.loop-row-preserved c).In-Some in
     (rw t.on (lengths_row c.args.src.now c.args.first c.loop-row.invariant.0 t.row (omega (arith, t.row.inside, c.requires.room)) (rw t.here at c.store_steps.ensures)), t.same)
-
-pub returns : goal.returns
-returns c = store_ends c.loop-row.invariant.0 (rows_end c.args.subset c.loop-row.row-iterator c.loop-row.invariant.1 c.in-None.ensures.steps)

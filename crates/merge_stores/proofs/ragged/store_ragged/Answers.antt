@@ -1,23 +1,13 @@
 -- `store_ragged` meets its contract: the rows before the iterator's place are stored (proofs/RaggedRows over proofs/RowsStored).
 -- Assumes nothing.
 use native.Mathlib.Omega.{arith}
-use Rattle.subset.proofs.Rows.{asked_left}
-use Rattle.subset.proofs.Steps.{RowStep, row_step, rows_end, rows_left}
-use Rattle.merge_stores.proofs.RaggedRows.{ragged_begins, row_rises, row_room, row_enough, ragged_more}
-use Rattle.merge_stores.proofs.RowsStored.{store_ends}
+use Rattle.subset.proofs.Steps.{RowStep, row_step}
+use Rattle.merge_stores.proofs.RaggedRows.{row_rises, row_room, row_enough, ragged_more}
 use Rattle.merge_stores.proofs.ragged.store_ragged.Goals.{In-Some}
 use Rattle.merge_stores.proofs.ragged.store_ragged.Goals as goal
 
 turn : (c : In-Some) → RowStep c.args.subset c.loop-row.row-iterator c.in-Some.row c.next.new.self
 turn c = row_step c.args.subset c.loop-row.row-iterator c.loop-row.invariant.1 c.in-Some.row c.next.new.self c.in-Some.ensures.steps
-
-pub next-requires : goal.next-requires
-next-requires c = rows_left c.args.subset c.loop-row.row-iterator c.loop-row.invariant.1 c.loop-row.invariant.0.geo
-
-pub loop-row-init : goal.loop-row-init
-loop-row-init c =
-    let r = c.rows-row-items.ensures in
-    rw (c.into_iter-row-iterator.ensures.into_iter_gives, r.begin) (ragged_begins c.requires (asked_left c.args.subset.asked), r.of)
 
 pub overflow_add-base : goal.overflow_add-base
 overflow_add-base c =
@@ -39,6 +29,3 @@ pub loop-row-preserved : goal.loop-row-preserved
 loop-row-preserved c =
     let t = turn (goal.at.loop-row-preserved c).In-Some in
     (rw t.on (ragged_more c.requires c.loop-row.invariant.0 t.row (rw t.here at c.copy_bytes.ensures)), t.same)
-
-pub returns : goal.returns
-returns c = store_ends c.loop-row.invariant.0 (rows_end c.args.subset c.loop-row.row-iterator c.loop-row.invariant.1 c.in-None.ensures.steps)

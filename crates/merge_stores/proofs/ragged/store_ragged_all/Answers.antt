@@ -1,19 +1,13 @@
 -- `store_ragged_all` meets its contract: the values of the chunks before those that are left are stored (proofs/RaggedStored).
 -- Assumes nothing.
 use native.Mathlib.Omega.{arith}
-use Rattle.subset.proofs.Steps.{PartStep, part_step, parts_end}
-use Rattle.merge_stores.proofs.ListStored.{list_ends}
-use Rattle.merge_stores.proofs.RaggedStored.{raggeds_begin, chunk_indexed, chunk_enough, ragged_asked, raggeds_more}
+use Rattle.subset.proofs.Steps.{PartStep, part_step}
+use Rattle.merge_stores.proofs.RaggedStored.{chunk_indexed, chunk_enough, ragged_asked, raggeds_more}
 use Rattle.merge_stores.proofs.ragged.store_ragged_all.Goals.{In-Some}
 use Rattle.merge_stores.proofs.ragged.store_ragged_all.Goals as goal
 
-turn : (c : In-Some) → PartStep c.args.shape.now c.loop-part.part-iterator c.in-Some.part c.next.new.self
-turn c = part_step c.args.shape.now c.loop-part.part-iterator c.loop-part.invariant.1 c.in-Some.part c.next.new.self c.in-Some.ensures.steps
-
-pub loop-part-init : goal.loop-part-init
-loop-part-init c =
-    let p = c.new-part-items.ensures in
-    rw (c.into_iter-part-iterator.ensures.into_iter_gives, p.all) (raggeds_begin c.requires, p.shape)
+turn : (c : In-Some) → PartStep c.args.subsets.shape.now c.loop-part.part-iterator c.in-Some.part c.next.new.self
+turn c = part_step c.args.subsets.shape.now c.loop-part.part-iterator c.loop-part.invariant.1 c.in-Some.part c.next.new.self c.in-Some.ensures.steps
 
 pub overflow_add-last : goal.overflow_add-last
 overflow_add-last c =
@@ -49,6 +43,3 @@ pub loop-part-preserved : goal.loop-part-preserved
 loop-part-preserved c =
     let t = turn (goal.at.loop-part-preserved c).In-Some in
     (raggeds_more c.requires c.loop-part.invariant.0 t.next t.asked (rw t.of at c.store_ragged.ensures), t.same)
-
-pub returns : goal.returns
-returns c = list_ends c.loop-part.invariant.0.list (parts_end c.args.shape.now c.loop-part.part-iterator c.loop-part.invariant.1 c.in-None.ensures.steps)

@@ -2,25 +2,12 @@
 -- Assumes nothing.
 use Prim.Native.Nat.{ℕ, ◌+◌}
 use native.Mathlib.Nat.{add_comm}
-use mathlib.Core.Path.{◌≡◌, ◌∙◌, subst}
+use mathlib.Core.Path.{subst}
 use native.Mathlib.Omega.{arith}
-use lib.ListN.{length, get_or, set, length-set}
+use lib.ListN.{get_or, set, length-set}
 use Rattle.array.specs.Limits.{most_bytes}
-use Rattle.merge_stores.proofs.Summing.{Summed, summed_start, same_sum, summed_over, sum_small, summed_more}
+use Rattle.merge_stores.proofs.Summing.{Summed, same_sum, summed_over, sum_small, summed_more}
 use Rattle.merge_stores.proofs.ragged.sum_up.Goals as goal
-
-pub loop-i-init : goal.loop-i-init
-loop-i-init c = summed_start c.args.out.now c.args.n c.requires.0
-
-pub bounds-out-i : goal.bounds-out-i
-bounds-out-i c =
-    let long : length c.loop-i.out ≡ length c.args.out.now = c.loop-i.invariant.long ∙ length-set c.args.out.now 0 0 in
-    omega (arith, long)
-
-pub bounds-out-i-in-loop-i : goal.bounds-out-i-in-loop-i
-bounds-out-i-in-loop-i c =
-    let long : length c.loop-i.out ≡ length c.args.out.now = c.loop-i.invariant.long ∙ length-set c.args.out.now 0 0 in
-    omega (arith, long)
 
 pub overflow_add-out-in-loop-i : goal.overflow_add-out-in-loop-i
 unfolding most_bytes
@@ -32,21 +19,11 @@ overflow_add-out-in-loop-i c =
       c.requires.1,
     )
 
-pub bounds-out-i-in-loop-i-2 : goal.bounds-out-i-in-loop-i-2
-bounds-out-i-in-loop-i-2 c =
-    let long : length c.loop-i.out ≡ length c.args.out.now = c.loop-i.invariant.long ∙ length-set c.args.out.now 0 0 in
-    omega (arith, long)
-
 pub loop-i-preserved : goal.loop-i-preserved
 loop-i-preserved c =
     let l = c.loop-i in
     subst (λ (x : ℕ). Summed (set c.args.out.now 0 0) (set l.out (l.i + 1) x) c.args.n (l.i + 1)) (add_comm (get_or l.out l.i 0) (get_or l.out (l.i + 1) 0))
     (summed_more (set c.args.out.now 0 0) c.args.n (omega (arith, length-set c.args.out.now 0 0)) l.invariant (omega arith))
-
-pub shape_of-out : goal.shape_of-out
-shape_of-out c =
-    let long : length c.loop-i.out ≡ length c.args.out.now = c.loop-i.invariant.long ∙ length-set c.args.out.now 0 0 in
-    long
 
 pub returns : goal.returns
 returns c = summed_over c.args.out.now c.requires.0 c.loop-i.invariant (omega arith)
