@@ -10,11 +10,11 @@ use lib.Dec.{leb, ltb}
 use Rattle.array.specs.Answer.{gives, refuses, unless}
 use Rattle.array.specs.Kind.{Kind}
 use Rattle.array.specs.Cells.{Value}
-use Rattle.array.proofs.Rules.{both}
+use Rattle.array.proofs.Rules.{both, strict_bytes_ok}
 use Rattle.table.specs.Table.{Table, TableKind, CountOk, TableOk, table_kind_test, count_test, table_test, store_test}
 use Rattle.table.specs.Setting.{SettingOk, setting_test, setting_of, settled, sum_after}
 use Rattle.table.specs.Calls.{set_answer}
-use Rattle.table.proofs.Rules.{table_kind_test_lem, count_test_lem, table_test_lem, setting_ok}
+use Rattle.table.proofs.Rules.{table_kind_test_lem, count_test_lem, table_test_lem}
 use Rattle.table_setting.specs.Settle.{Sound, setting_answer}
 
 pub no_kind : (k : Kind) (n : ℕ) (t : Table) (c : ℕ) (ms : List ℕ) (v : Value) → table_kind_test k ≡ false → refuses 1 ≡ set_answer k n t c ms v
@@ -36,7 +36,7 @@ module _ {k : Kind} {n : ℕ} (kind : TableKind k) (count : CountOk n) (t : Tabl
 
   module _ (ok : TableOk k.depth n t) (e : setting_test k.depth ms ≡ true) where
     setting : SettingOk k.depth ms
-    setting = setting_ok k.depth ms e
+    setting = strict_bytes_ok k.depth ms e
 
     -- table and setting keep their rules
     pub sound : {room : ℕ} → n ≤ room → Sound room t ms
