@@ -10,9 +10,8 @@ use lib.Dec.{leb, ltb}
 use Rattle.array.specs.Answer.{gives, refuses, unless}
 use Rattle.array.specs.Kind.{Kind}
 use Rattle.array.specs.Meaning.{kind_of}
-use Rattle.array.specs.Cells.{Value}
 use Rattle.array.proofs.Rules.{both, strict_bytes_ok}
-use Rattle.table.specs.Table.{Table, TableOk, table_kind_test, count_test, table_test, store_test}
+use Rattle.table.specs.Table.{Table, TableOk, table_test, store_test}
 use Rattle.table.specs.Setting.{SettingOk, setting_test, setting_of, settled, sum_after}
 use Rattle.table.specs.Calls.{set_answer}
 use Rattle.table.proofs.Rules.{table_kind_ok, count_ok, table_test_lem}

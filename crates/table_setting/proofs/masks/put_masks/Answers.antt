@@ -1,12 +1,9 @@
 -- `masks::put_masks` meets its contract, by the law of a column.
 -- Assumes nothing.
 use native.Mathlib.Omega.{arith}
-use mathlib.Core.Path.{◌≡◌, refl, ap}
-use lib.ListN.{length, set, get_or}
-use Rattle.array.specs.Lists.{pick}
-use Rattle.array.specs.Limits.{most_cells}
-use Rattle.table_setting.proofs.Columns.{storing_begins, storing_same, storing_room, storing_small, storing_more, storing_ends}
-use Rattle.table_setting.proofs.masks.put_masks.Goals.{then-shown, else-shown}
+use mathlib.Core.Path.{◌≡◌}
+use lib.ListN.{length}
+use Rattle.table_setting.proofs.Columns.{storing_ends}
 use Rattle.table_setting.proofs.masks.put_masks.Goals as goal
 
 pub returns : goal.returns
