@@ -12,14 +12,14 @@ use Rattle.array.specs.Answer.{Answer, gives, refuses, map_answer}
 use Rattle.array.specs.Kind.{Kind}
 use Rattle.array.specs.Cells.{Value}
 use Rattle.array.proofs.Answers.{passed, same_given}
-use Rattle.array.proofs.Rules.{left_of_lem, right_of}
+use Rattle.array.proofs.Rules.{left_of_lem, right_of, strict_bytes_ok}
 use Rattle.table.specs.Table.{Table, table_kind_test, count_test, table_test, store_test}
 use Rattle.table.specs.Lying.{displaced}
 use Rattle.table.specs.Setting.{SettingOk, setting_test, setting_of, sum_after}
 use Rattle.table.specs.declared.answer.Preview.{Preview}
 use Rattle.table.specs.Calls.{in_place, set_answer, cell_set, looked_at, previewed, cells_packed}
 use Rattle.table.specs.Laws.{Working, Previews}
-use Rattle.table.proofs.Rules.{table_kind_ok, count_ok, store_ok, table_ok, setting_ok}
+use Rattle.table.proofs.Rules.{table_kind_ok, count_ok, store_ok, table_ok}
 use Rattle.table.proofs.Setting.{sets}
 use Rattle.table.proofs.Packing.{packs}
 
@@ -47,7 +47,7 @@ accepted k n t c ms v e =
         sound = table_ok k.depth n t (left_of_lem (table_test k.depth n t) (setting_test k.depth ms) rules);
         small = store_ok t small;
       };
-      setting = setting_ok k.depth ms (right_of (table_test k.depth n t) (setting_test k.depth ms) rules);
+      setting = strict_bytes_ok k.depth ms (right_of (table_test k.depth n t) (setting_test k.depth ms) rules);
       low = ltb-true c n low;
       fits = leb-true (sum_after k.depth c (setting_of k.depth ms v) t) (length t.store) fits;
     }

@@ -13,13 +13,13 @@ use Rattle.array.specs.Content.{rest_form}
 use Rattle.array.specs.Buffers.{lengths_of}
 use Rattle.array.specs.Refusals.{Rule, InOrder, success}
 use Rattle.array.proofs.Refusals.{stage, stage_le, stage_array, named}
-use Rattle.array.proofs.Rules.{both, left_of_lem, right_of, enough_test_lem, enough_ok}
+use Rattle.array.proofs.Rules.{both, left_of_lem, right_of, enough_test_lem, enough_ok, strict_bytes_test_lem, strict_bytes_ok}
 use Rattle.table.specs.Table.{Table}
 use Rattle.table.specs.Lying.{moved_cells}
 use Rattle.table.specs.Calls.{table_of, table_lengths, content_of, make_answer, made, read_answer, read_out, set_answer, cell_set, looked_at, previewed, pack_answer, cells_packed}
 use Rattle.table.specs.Refusals.{set_rules, Refusals}
 use Rattle.table.proofs.Rules.{table_kind_test_lem, table_kind_ok, most_test_lem, most_ok, count_test_lem, count_ok, store_test_lem, store_ok}
-use Rattle.table.proofs.Rules.{table_test_lem, table_ok, setting_test_lem, setting_ok, table_enough_test_lem, table_enough_ok}
+use Rattle.table.proofs.Rules.{table_test_lem, table_ok, table_enough_test_lem, table_enough_ok}
 
 -- two tests with one number
 pub stage_two : {A : Type 0} {P Q : Type 0} {a b : Bool} {rs : List Rule} {r : Answer A} (k : ℕ) → (P → a ≡ true) → (a ≡ true → P) → (Q → b ≡ true) → (b ≡ true → Q)
@@ -32,7 +32,7 @@ unfolding set_answer
 of_setting k n t c ms v =
     stage 1 (table_kind_test_lem k) (table_kind_ok k)
     (stage 2 (count_test_lem n) (count_ok n)
-    (stage_two 4 (table_test_lem k.depth n t) (table_ok k.depth n t) (setting_test_lem k.depth ms) (setting_ok k.depth ms)
+    (stage_two 4 (table_test_lem k.depth n t) (table_ok k.depth n t) (strict_bytes_test_lem k.depth ms) (strict_bytes_ok k.depth ms)
     (stage 5 (store_test_lem t) (store_ok t)
     (stage 15 (lt-ltb c n) (ltb-true c n)
     (stage_le 16 _ _ success)))))

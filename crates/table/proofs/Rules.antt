@@ -2,7 +2,6 @@
 -- Assumes nothing.
 use mathlib.Core.Path.{◌≡◌, refl}
 use mathlib.Core.Bool.{Bool, true, false, ◌&&◌}
-use mathlib.Core.List.{List}
 use Prim.Native.Nat.{ℕ, zero, suc, ◌+◌, ◌*◌, ◌≤◌}
 use lib.ListN.{length}
 use lib.Dec.{leb, ltb, eqb}
@@ -17,7 +16,6 @@ use Rattle.codec.specs.Interleaved.{ragged_test}
 use Rattle.codec.proofs.Refusals.{is_ragged_test, is_ragged_ok}
 use Rattle.table.specs.Table.{Table, start_of, length_of, TableKind, table_kind_test, CountOk, count_test, OrZero, or_zero_test, RestMasks, rest_masks_test, RestBy, rest_by_test}
 use Rattle.table.specs.Table.{Placed, placed_test, apart_test, filled, TableOk, fit_test, rests_test, places_test, table_test, most_store, store_test}
-use Rattle.table.specs.Setting.{SettingOk, setting_test}
 use Rattle.table.specs.declared.answer.TableLengths.{TableLengths}
 use Rattle.table.specs.Calls.{TableEnough, table_enough_test, most_test}
 use Rattle.table.proofs.Order.{apart_test_lem, apart_ok}
@@ -144,17 +142,6 @@ module _ (d n : ℕ) (t : Table) where
             (λ j. placed_ok (length t.store) (start_of t j) (length_of t j)) (from 0 n) (right_of (f && s && r) q e4);
         apart = apart_ok (start_of t) (length_of t) (filled t n) (right_of (f && s && r && q) l e);
       }
-
--- ---- 4: the masks of a setting
-
-pub setting_test_lem : (d : ℕ) (ms : List ℕ) → SettingOk d ms → setting_test d ms ≡ true
-setting_test_lem d ms p = both (eq-eqb (length ms) d p.counted) (every_all Strict strict_test strict_test_lem ms p.strict)
-
-pub setting_ok : (d : ℕ) (ms : List ℕ) → setting_test d ms ≡ true → SettingOk d ms
-setting_ok d ms e =
-    let a : Bool = eqb (length ms) d in
-    let b : Bool = every strict_test ms in
-    record { counted = eqb-true (length ms) d (left_of_lem a b e); strict = all_every Strict strict_test strict_ok ms (right_of a b e) }
 
 -- ---- 5: the store's length
 

@@ -21,13 +21,13 @@ use Rattle.array.proofs.Lists.{length_from_lem, at_from, All-get_or, All-of, All
 use Rattle.array.proofs.LayoutLaws.{strict_masks}
 use Rattle.array.proofs.Over.{over_at_length}
 use Rattle.array.proofs.RestLaws.{masks_in, cell_by_lem, StrictCell, strict_rest, rest_again}
-use Rattle.array.proofs.Rules.{both}
+use Rattle.array.proofs.Rules.{both, strict_bytes_test_lem}
 use Rattle.table.specs.Table.{Table, start_of, length_of, bytes_of, cell_of, OrZero, RestBy, Placed, ending, filled, Clear, TableOk}
 use Rattle.table.specs.Lying.{top_of, packed_whole}
 use Rattle.table.specs.Setting.{SettingOk, setting_of, setting_masks, given_up, masked, placed_at, bytes_put, settled, sum_after}
 use Rattle.table.specs.Calls.{in_place, set_answer, cell_set}
 use Rattle.table.specs.Laws.{Working, SetLaw, Sets}
-use Rattle.table.proofs.Rules.{table_kind_test_lem, count_test_lem, table_test_lem, store_test_lem, setting_test_lem}
+use Rattle.table.proofs.Rules.{table_kind_test_lem, count_test_lem, table_test_lem, store_test_lem}
 use Rattle.table.proofs.Order.{same_or_not}
 use Rattle.table.proofs.Filled.{full_all}
 use Rattle.table.proofs.Moving.{over-before, over_there, Moved}
@@ -353,7 +353,7 @@ module _ (k : Kind) (n : ℕ) (t : Table) (c : ℕ) (ms : List ℕ) (v : Value) 
   unfolding set_answer
   answer =
       pass 1 (table_kind_test_lem k w.kind) (pass 2 (count_test_lem n w.count)
-      (pass 4 (both (table_test_lem k.depth n t w.sound) (setting_test_lem k.depth ms setting)) (pass 5 (store_test_lem t w.small)
+      (pass 4 (both (table_test_lem k.depth n t w.sound) (strict_bytes_test_lem k.depth ms setting)) (pass 5 (store_test_lem t w.small)
       (pass 15 (lt-ltb c n low) (pass 16 (le-leb (sum_after k.depth c x t) (length t.store) fits) refl)))))
 
   left : (cell_set k n t c ms v).buffers ≡ settled k.depth n c x t

@@ -1,21 +1,20 @@
 -- docs/SPEC.md, S13.8 to S13.10: a cell set to other masks and bytes.
 -- Assumes nothing.
-use Rattle.std.specs.Prelude.{ℕ, ◌+◌, ◌-◌, ◌≡◌, Bool, ◌&&◌, List, [], ◌∷◌, length, get_or, set, leb, eqb}
-use Rattle.array.specs.Lists.{from, pick, All, every}
-use Rattle.array.specs.Cells.{Value, Cell, Strict, strict_test, leaf, rest}
-use Rattle.array.specs.Content.{masks_of}
+use Rattle.std.specs.Prelude.{ℕ, ◌+◌, ◌-◌, Bool, List, [], ◌∷◌, length, get_or, set, leb, eqb}
+use Rattle.array.specs.Lists.{from, pick}
+use Rattle.array.specs.Cells.{Value, Cell, leaf, rest}
+use Rattle.array.specs.Content.{masks_of, StrictBytes, strict_bytes_test}
 use Rattle.array.specs.Buffers.{over_at}
 use Rattle.array.specs.Places.{sum, mask_at, planes_by, cell_by}
 use Rattle.table.specs.Table.{Table}
 use Rattle.table.specs.Lying.{top_of, packed_whole}
 
 -- the masks of a setting: one byte a level, each 00 or 01, also below a null (refusal 4)
-pub record SettingOk (d : ℕ) (ms : List ℕ) : Type 0 where
-  pub counted : length ms ≡ d
-  pub strict : All Strict ms
+abbrev pub SettingOk : ℕ → List ℕ → Type 0
+SettingOk d ms = StrictBytes d ms
 
 abbrev pub setting_test : ℕ → List ℕ → Bool
-setting_test d ms = eqb (length ms) d && every strict_test ms
+setting_test d ms = strict_bytes_test d ms
 
 -- the cell that is set, in rest form: what is below an unset level is hidden and dropped
 abbrev pub setting_of : (d : ℕ) → List ℕ → Value → Cell d

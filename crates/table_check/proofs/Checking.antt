@@ -1,11 +1,11 @@
 -- The check's last stage: cells that keep the other rules share no byte where those that have bytes follow one another as they lie.
 -- Assumes nothing.
 use mathlib.Core.Path.{◌≡◌, refl, sym, ap, ◌∙◌}
-use mathlib.Core.Bool.{Bool, true, false, not, ◌&&◌}
+use mathlib.Core.Bool.{Bool, true, false, ◌&&◌}
 use mathlib.Core.List.{List, [], ◌∷◌}
 use Prim.Native.Nat.{ℕ, ◌+◌, ◌≤◌, ◌<◌, ◌^◌}
 use native.Mathlib.Omega.{arith}
-use lib.ListN.{length, take}
+use lib.ListN.{length}
 use Rattle.array.specs.Lists.{from, All, every}
 use Rattle.array.specs.Cells.{strict_test}
 use Rattle.array.proofs.Lists.{All-map}
@@ -16,7 +16,6 @@ use Rattle.table.proofs.Order.{All-filled, lies_all, lies_below, lies_are, follo
 use Rattle.table.proofs.Rules.{Fits, fit_ok, placed_ok, table_ok}
 use Rattle.table_check.specs.Check.{cells_test, Reached}
 use Rattle.table_check.specs.Told.{Lain}
-use Rattle.table_check.proofs.Stages.{denied, granted}
 
 module _ (d n : ℕ) (t : Table) where
   abbrev apart : Bool
@@ -26,8 +25,8 @@ module _ (d n : ℕ) (t : Table) where
   unfolding table_test
   apart_left = refl
 
-  pub cells_broken : {r : Bool} → r ≡ cells_test d n t → not r ≡ true → table_test d n t ≡ false
-  cells_broken e h = apart_left ∙ ap (λ (b : Bool). b && apart) (denied e h)
+  pub cells_broken : cells_test d n t ≡ false → table_test d n t ≡ false
+  cells_broken e = apart_left ∙ ap (λ (b : Bool). b && apart) e
 
   module _ (cells : cells_test d n t ≡ true) where
     abbrev first : Bool
@@ -61,10 +60,8 @@ module _ (d n : ℕ) (t : Table) where
       follow-left : table_test d n t ≡ follow_test (start_of t) (length_of t) 0 js
       follow-left = apart_left ∙ ap (λ (b : Bool). b && apart) cells ∙ sym (follow_is l)
 
-      pub cells_overlap : {r : Bool} → r ≡ follow_test (start_of t) (length_of t) 0 js → not r ≡ true → table_test d n t ≡ false
-      cells_overlap e h = follow-left ∙ denied e h
+      pub cells_overlap : follow_test (start_of t) (length_of t) 0 js ≡ false → table_test d n t ≡ false
+      cells_overlap e = follow-left ∙ e
 
-      pub cells_apart : {r : Bool} → r ≡ follow_test (start_of t) (length_of t) 0 js → not r ≡ false → {m : ℕ} {order : List ℕ} → take m order ≡ js → m ≤ n → Lain d n t order m
-      cells_apart e h {m} {order} q few =
-          let follows : follow_test (start_of t) (length_of t) 0 js ≡ true = granted e h in
-          record { sound = table_ok d n t (follow-left ∙ follows); few = few; order = q ∙ lies_are l (follow_ok (start_of t) (length_of t) 0 js follows) }
+      pub cells_apart : follow_test (start_of t) (length_of t) 0 js ≡ true → length js ≤ n → Lain d n t js
+      cells_apart e few = record { sound = table_ok d n t (follow-left ∙ e); few = few; order = lies_are l (follow_ok (start_of t) (length_of t) 0 js e) }

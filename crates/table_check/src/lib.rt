@@ -6,10 +6,11 @@ ghost use Rattle.array.specs.Limits.{most_cells};
 ghost use Rattle.array.specs.Lists.{All};
 ghost use Rattle.array.specs.Places.{offset_at};
 ghost use Rattle.table.specs.Order.{follow_test};
-ghost use Rattle.table.specs.Meaning.{table_by};
+ghost use Rattle.table.specs.Meaning.{lent_table};
 ghost use Rattle.table_check.specs.Check.{Reached};
 ghost use Rattle.table_check.specs.Told.{ToldOrder};
 
+use table::lent::Table;
 use table_order::lie;
 
 pub mod rules;
@@ -31,26 +32,23 @@ fn follow(starts: &[u64], lengths: &[u64], order: &[u16]) -> bool
     true
 }
 
-// The rules for a table of n cells, and the order in which they lie: so many have bytes, and the order begins with their numbers, as they
-// lie; or a rule is broken.
-pub fn check_cells(
+// The rules for a table of n cells: the numbers of those that have bytes, as they lie, which the order then begins with; none where a rule
+// is broken.
+pub fn check_cells<'a>(
     depth: usize,
     n: usize,
-    masks: &[u8],
-    starts: &[u64],
-    lengths: &[u64],
-    store: &[u8],
-    order: &mut [u16],
-) -> Option<usize>
+    table: Table,
+    order: &'a mut [u16],
+) -> Option<&'a [u16]>
     requires { (n ≤ most_cells) × (1 ≤ n) × (depth ≤ 4) × (n ≤ length order.old) }
-    ensures { ToldOrder depth n (table_by masks.now starts.now lengths.now store.now) order.new result }
+    ensures { ToldOrder depth n (lent_table table.entry) result }
 {
-    if !rules::keep_rules(depth, n, masks, starts, lengths, store) {
+    if !rules::keep_rules(depth, n, table) {
         return None;
     }
-    let count = lie(starts, lengths, n, order);
-    if !follow(starts, lengths, &order[..count]) {
+    let cells = lie(table.starts, table.lengths, n, order);
+    if !follow(table.starts, table.lengths, cells) {
         return None;
     }
-    Some(count)
+    Some(cells)
 }

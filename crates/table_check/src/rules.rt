@@ -1,27 +1,28 @@
 // The rules for a table, but that its cells share no byte: lengths that agree with the count and the levels, mask bytes 00 and 01, rest form,
 // cells within the store.
-ghost use Rattle.std.specs.Prelude.{◌≡◌, true, ◌&&◌, [], ◌+◌, ◌*◌, ◌<◌, ◌≤◌, length, leb, ltb};
+ghost use Rattle.std.specs.Prelude.{◌≡◌, true, ◌&&◌, ◌+◌, ◌*◌, ◌<◌, ◌≤◌, length, leb, ltb};
 ghost use Rattle.array.specs.Limits.{most_cells};
 ghost use Rattle.array.specs.Lists.{every};
 ghost use Rattle.array.specs.Cells.{strict_test};
 ghost use Rattle.table.specs.Table.{or_zero_test, placed_test, fit_test, rests_test};
-ghost use Rattle.table.specs.Meaning.{table_by};
+ghost use Rattle.table.specs.Meaning.{lent_table};
 ghost use Rattle.table_check.specs.Check.{falls_test, nulls_test, placed_in, cells_test};
 
+use table::lent::Table;
 use valid::masks::masks_strict;
 
 // Whether the lists are as long as n cells of so many levels ask.
-fn lists_fit(depth: usize, n: usize, masks: &[u8], starts: &[u64], lengths: &[u64]) -> bool
+fn lists_fit(depth: usize, n: usize, table: Table) -> bool
     requires { (n ≤ most_cells) × (depth ≤ 4) }
-    ensures { result ≡ fit_test depth n (table_by masks.now starts.now lengths.now []) }
+    ensures { result ≡ fit_test depth n (lent_table table.entry) }
 {
-    if masks.len() != depth * n {
+    if table.masks.len() != depth * n {
         return false;
     }
-    if starts.len() != n {
+    if table.starts.len() != n {
         return false;
     }
-    lengths.len() == n
+    table.lengths.len() == n
 }
 
 // Whether no byte was over its other so far, nor is a over b.
@@ -89,37 +90,30 @@ fn cells_placed(size: u64, n: usize, starts: &[u64], lengths: &[u64]) -> bool
 }
 
 // Whether strict masks and lengths are in rest form: below a null no level is set, and there are no bytes.
-fn cells_rest(depth: usize, n: usize, masks: &[u8], lengths: &[u64]) -> bool
-    requires { (0 < n) × (length masks.now ≡ depth * n) × (n ≤ length lengths.now) × (every strict_test masks.now ≡ true) }
-    ensures { result ≡ rests_test depth n (table_by masks.now [] lengths.now []) }
+fn cells_rest(depth: usize, n: usize, table: Table) -> bool
+    requires { (0 < n) × (length table.masks.now ≡ depth * n) × (n ≤ length table.lengths.now) × (every strict_test table.masks.now ≡ true) }
+    ensures { result ≡ rests_test depth n (lent_table table.entry) }
 {
     if depth == 0 {
         return true;
     }
-    let innermost = masks.len() - n;
-    masks_fall(n, masks) && nulls_empty(n, innermost, masks, lengths)
+    let innermost = table.masks.len() - n;
+    masks_fall(n, table.masks) && nulls_empty(n, innermost, table.masks, table.lengths)
 }
 
 // Whether a table keeps all rules but that its cells share no byte.
-pub fn keep_rules(
-    depth: usize,
-    n: usize,
-    masks: &[u8],
-    starts: &[u64],
-    lengths: &[u64],
-    store: &[u8],
-) -> bool
+pub fn keep_rules(depth: usize, n: usize, table: Table) -> bool
     requires { (n ≤ most_cells) × (0 < n) × (depth ≤ 4) }
-    ensures { result ≡ cells_test depth n (table_by masks.now starts.now lengths.now store.now) }
+    ensures { result ≡ cells_test depth n (lent_table table.entry) }
 {
-    if !lists_fit(depth, n, masks, starts, lengths) {
+    if !lists_fit(depth, n, table) {
         return false;
     }
-    if !masks_strict(masks) {
+    if !masks_strict(table.masks) {
         return false;
     }
-    if !cells_rest(depth, n, masks, lengths) {
+    if !cells_rest(depth, n, table) {
         return false;
     }
-    cells_placed(store.len() as u64, n, starts, lengths)
+    cells_placed(table.store.len() as u64, n, table.starts, table.lengths)
 }

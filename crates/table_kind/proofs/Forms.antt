@@ -1,17 +1,21 @@
--- Kinds of which there are working tables: the rules of any kind, and ragged values.
+-- The kind and the count of a working table come before all else that a call asks.
 -- Assumes nothing.
-use mathlib.Core.Path.{◌≡◌}
-use mathlib.Core.Bool.{true, false}
-use Rattle.array.specs.Kind.{kind_test}
-use Rattle.array.specs.Meaning.{form_of, kind_of}
-use Rattle.array.specs.declared.kind.Kind as declared
-use Rattle.array.specs.declared.kind.Values.{Values}
-use Rattle.codec.specs.Interleaved.{ragged_test}
-use Rattle.table.specs.Table.{table_kind_test}
+use mathlib.Core.Path.{◌≡◌, refl, sym, ap, ◌∙◌}
+use mathlib.Core.Bool.{Bool, true, false}
+use Prim.Native.Nat.{ℕ}
+use Rattle.array.specs.Answer.{Answer, gives, refuses, and_then, unless}
+use Rattle.array.specs.Kind.{Kind}
+use Rattle.table.specs.Table.{table_kind_test, count_test}
+use Rattle.table_kind.specs.Shape.{shape_answer}
 
-module _ (k : declared.Kind) where
-  pub kind_wrong : kind_test (kind_of k) ≡ false → false ≡ table_kind_test (kind_of k)
-  kind_wrong e = rw e
+-- two tests, and what is behind them by what they answer
+abbrev two : Bool → Bool → Answer (Unit {0})
+two a b = unless a 1 (unless b 2 (gives tt))
 
-  pub kind_form : kind_test (kind_of k) ≡ true → {f : Values} → k.values ≡ f → ragged_test (form_of f) ≡ table_kind_test (kind_of k)
-  kind_form p e = rw (p, e)
+behind : {A : Type 0} (a b : Bool) (r : Answer A) → unless a 1 (unless b 2 r) ≡ and_then (two a b) (λ u. r)
+behind true true r = refl
+behind true false r = refl
+behind false b r = refl
+
+pub shape_refused : {A : Type 0} (k : Kind) (n : ℕ) {m : ℕ} → shape_answer k n ≡ refuses m → (r : Answer A) → refuses m ≡ unless (table_kind_test k) 1 (unless (count_test n) 2 r)
+shape_refused k n e r = sym (behind (table_kind_test k) (count_test n) r ∙ ap (λ (a : Answer (Unit {0})). and_then a (λ u. r)) e)

@@ -1,14 +1,17 @@
--- Parts of one list: what is still to be read of a copy towards its front is as it was, and what stands next among the first so many.
+-- Parts of one list: what is still to be read of a copy towards its front is as it was, and which cell is next.
 -- Assumes nothing.
 use mathlib.Core.Path.{◌≡◌, sym, ap, ◌∙◌}
 use mathlib.Core.List.{List, ◌∷◌, ◌++◌}
 use Prim.Native.Nat.{ℕ, suc, ◌+◌, ◌-◌, ◌≤◌, ◌<◌}
 use native.Mathlib.Omega.{arith}
 use lib.ListN.{length, take, drop, get_or, length-append, length-drop}
-use lib.Seq.{drop-cons, drop-drop, take-add, length-take-le, get_or-take, drop-append-add}
+use lib.Seq.{drop-cons, drop-drop, take-add, length-take-le, drop-append-add}
 use Rattle.array.specs.Buffers.{over_at}
 use Rattle.array.proofs.Laying.{laying_part, laying_is}
 use Rattle.buffer.proofs.Copying.{Copying}
+use Rattle.table.specs.Table.{Table, start_of, length_of}
+use Rattle.table.specs.Walk.{InOrder}
+use Rattle.table.proofs.Walk.{Moving, next_below, next_room, next_fits}
 
 module _ {d : List ℕ} {to from n : ℕ} {out : List ℕ} {i : ℕ} (c : Copying d to d from n out i) (down : to ≤ from) where
   still : drop (from + i) out ≡ drop (from + i) d
@@ -56,6 +59,14 @@ module _ {d : List ℕ} {to from n : ℕ} {out : List ℕ} {i : ℕ} (c : Copyin
       behind : from + i + k ≡ from + (i + k)
       behind = omega arith
 
-pub next_is : (xs : List ℕ) {count i : ℕ} → i < count → count ≤ length xs → drop i (take count xs) ≡ get_or xs i 0 ∷ drop (suc i) (take count xs)
-next_is xs {count} {i} h l =
-    drop-cons (take count xs) i 0 (omega (arith, length-take-le count xs l)) ∙ ap (λ (x : ℕ). x ∷ drop (suc i) (take count xs)) (get_or-take count xs i 0 h)
+-- ---- the next of the cells as they lie
+
+module _ {most n : ℕ} {t : Table} {js : List ℕ} {u : Table} {i to moved : ℕ} (o : InOrder n t js) (m : Moving most n t js u i to moved) (h : i < length js) where
+  pub next : drop i js ≡ get_or js i 0 ∷ drop (suc i) js
+  next = drop-cons js i 0 h
+
+  pub cell_below : get_or js i 0 < n
+  cell_below = next_below o m next
+
+  pub cell_room : (to ≤ start_of u (get_or js i 0)) × (start_of u (get_or js i 0) + length_of t (get_or js i 0) ≤ length u.store)
+  cell_room = (next_room o m next, next_fits o m next)

@@ -38,27 +38,26 @@ pub fn move_down(store: &mut [u8], to: usize, from: usize, n: usize)
     move_few(store, to + done, from + done, n - done);
 }
 
-// Moves the lowest-lying `most` of the cells that start elsewhere than where they are packed. The first `count` of `order` are the cells as
-// they lie. Answers how many were moved.
+// Moves the lowest-lying `most` of the cells that start elsewhere than where they are packed. The order is of the cells as they lie. Answers
+// how many were moved.
 pub fn move_cells(
     starts: &mut [u64],
     lengths: &[u64],
     store: &mut [u8],
     order: &[u16],
-    count: usize,
     most: usize,
 ) -> usize
-    requires { (length lengths.now ≡ length starts.old) × (count ≤ length order.now)
-        × InOrder (length starts.old) (table_by [] starts.old lengths.now store.old) (take count order.now) }
+    requires { (length lengths.now ≡ length starts.old)
+        × InOrder (length starts.old) (table_by [] starts.old lengths.now store.old) order.now }
     ensures { Moved most (length starts.old) starts.old lengths.now store.old result starts.new store.new }
 {
     let mut to: usize = 0;
     let mut moved: usize = 0;
-    for i in 0..count {
+    for number in order {
         if moved == most {
             return moved;
         }
-        let j = order[i] as usize;
+        let j = *number as usize;
         let start = starts[j] as usize;
         let n = lengths[j] as usize;
         if start != to {

@@ -4,12 +4,11 @@ ghost use Rattle.array.specs.Limits.{most_cells};
 ghost use Rattle.array.specs.Lists.{pick};
 ghost use Rattle.array.specs.Cells.{set_test};
 ghost use Rattle.array.specs.Places.{shown_by};
-ghost use Rattle.table.specs.Setting.{setting_test};
 ghost use Rattle.table_setting.specs.Masks.{masked_by};
 
 use array::mark;
 use array::mark::Mark;
-use valid::masks::masks_strict;
+use table::lent::Setting;
 
 // Whether what is below a level is shown: it is set, and so is all above it.
 fn still_shown(shown: bool, b: u8) -> bool
@@ -23,16 +22,6 @@ fn still_shown(shown: bool, b: u8) -> bool
     }
 }
 
-// Whether a setting has one mask byte a level, each 00 or 01: else it is 4.
-pub fn are_sound(cell_masks: &[u8], depth: usize) -> bool
-    ensures { result ≡ setting_test depth cell_masks.now }
-{
-    if cell_masks.len() != depth {
-        return false;
-    }
-    masks_strict(cell_masks)
-}
-
 // Whether a setting has all its levels set, so that its bytes are kept.
 pub fn all_set(cell_masks: &[u8]) -> bool
     ensures { result ≡ shown_by (λ l. get_or cell_masks.now l 0) (length cell_masks.now) }
@@ -44,14 +33,14 @@ pub fn all_set(cell_masks: &[u8]) -> bool
     shown
 }
 
-// Stores the mask bytes of a cell, one in each plane of n bytes: 00 where it is not shown.
-pub fn put_masks(masks: &mut [u8], n: usize, cell: usize, cell_masks: &[u8])
-    requires { (length masks.old ≡ length cell_masks.now * n) × (cell < n) × (n ≤ most_cells) × (length cell_masks.now ≤ 4) }
-    ensures { masks.new ≡ masked_by n cell (λ l. get_or cell_masks.now l 0) (length cell_masks.now) masks.old }
+// Stores the mask bytes of a setting, one in each plane of n bytes: 00 where it is not shown.
+pub fn put_masks(masks: &mut [u8], n: usize, setting: Setting)
+    requires { (length masks.old ≡ length setting.masks.now * n) × (setting.cell < n) × (n ≤ most_cells) × (length setting.masks.now ≤ 4) }
+    ensures { masks.new ≡ masked_by n setting.entry.cell (λ l. get_or setting.entry.masks.now l 0) (length setting.entry.masks.now) masks.old }
 {
     let mut shown = true;
-    let mut place = cell;
-    for b in cell_masks {
+    let mut place = setting.cell;
+    for b in setting.masks {
         masks[place] = if shown { *b } else { 0 };
         shown = still_shown(shown, *b);
         place += n;

@@ -2,31 +2,12 @@
 -- Assumes nothing.
 use Prim.Native.Nat.{◌+◌, ◌-◌}
 use native.Mathlib.Omega.{arith}
-use Rattle.buffer.proofs.Copying.{Copying, copy_begins, copy_same, copy_ends}
+use Rattle.buffer.proofs.Copying.{Copying, copy_ends}
 use Rattle.table_move.proofs.Within.{part_moved}
 use Rattle.table_move.proofs.move_down.Goals as goal
 
-pub loop-done-init : goal.loop-done-init
-loop-done-init c = copy_begins (omega arith) c.requires.1
-
-pub move_few-requires : goal.move_few-requires
-move_few-requires c =
-    let l = copy_same c.loop-done.invariant in
-    (omega arith, omega arith, omega arith)
-
 pub loop-done-preserved : goal.loop-done-preserved
 loop-done-preserved c = part_moved c.loop-done.invariant c.requires.0 256 (omega arith) c.move_few.ensures
-
-pub move_few-requires-2 : goal.move_few-requires-2
-move_few-requires-2 c =
-    let l = copy_same c.loop-done.invariant in
-    (omega (arith, c.loop-done.invariant.within), omega (arith, c.loop-done.invariant.within), omega arith)
-
-pub shape_of-store : goal.shape_of-store
-shape_of-store c =
-    let last : let a = c.args in Copying a.store.now a.to a.store.now a.from a.n c.move_few-2.new.store (c.loop-done.done + (a.n - c.loop-done.done)) =
-    part_moved c.loop-done.invariant c.requires.0 (c.args.n - c.loop-done.done) (omega (arith, c.loop-done.invariant.within)) c.move_few-2.ensures in
-    copy_same last
 
 pub returns : goal.returns
 returns c =

@@ -5,4 +5,4 @@ use Rattle.table_setting.proofs.Columns.{Storing}
 use Rattle.table_setting.proofs.masks.put_masks.Given as goal
 
 abbrev pub invariant-loop-b : goal.invariant-loop-b
-invariant-loop-b at = Storing at.initial.masks at.n at.cell (λ l. get_or at.cell_masks l 0) (length at.cell_masks) at.masks at.shown at.place at.b-index
+invariant-loop-b at = Storing at.initial.masks at.n at.setting.cell (λ l. get_or at.setting.masks.now l 0) (length at.setting.masks.now) at.masks at.shown at.place at.b-index
