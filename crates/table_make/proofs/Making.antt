@@ -20,15 +20,19 @@ use Rattle.array.proofs.Rules.{right_of}
 use Rattle.valid.specs.Check.{check_of}
 use Rattle.valid.proofs.CheckLaws.{KeepsRules, check_refused, check_passed, check_valid}
 use Rattle.codec.specs.Interleaved.{IsRagged}
-use Rattle.live_cells.specs.Live.{Planes}
+use Rattle.array.specs.Places.{shown_at}
 use Rattle.encode_data.specs.Offsets.{Offsets}
+use Rattle.encode_data.specs.Values.{live_bytes}
+use Rattle.encode_data.specs.declared.LiveValues.{LiveValues}
+use Rattle.encode_data.proofs.Spans.{values_long}
+use Rattle.encode_data.proofs.Summing.{bytes_le}
 use Rattle.table.specs.Table.{Table, TableKind, table_kind_test, count_test, store_test}
 use Rattle.table.specs.declared.answer.TableLengths.{TableLengths}
 use Rattle.table.specs.Calls.{table_lengths, TableEnough, table_enough_test, table_of, make_answer, made}
 use Rattle.table.specs.Meaning.{table_by}
 use Rattle.table.proofs.Rules.{table_kind_ok, table_enough_test_lem, table_enough_ok}
 use Rattle.rest_masks.specs.Rested.{rest_mask}
-use Rattle.table_make.specs.Rested.{size_at, start_at, rest_table, Held, table_outcome, put_table}
+use Rattle.table_make.specs.Rested.{size_at, start_at, rest_table, rest_of, Held, table_outcome, put_table}
 use Rattle.rest_masks.proofs.Numbering.{length_numbered}
 use Rattle.rest_masks.proofs.Descending.{length_planes}
 use Rattle.table_make.proofs.Rested.{table_path, rested_is}
@@ -53,12 +57,17 @@ module _ (t out : Table) where
 
 -- ---- an array that keeps its rules
 
-module _ {d n : ℕ} {c : Content} (h : Held d n c) where
-  pub held_planes : Planes n c.masks d
-  held_planes = record { shallow = h.shallow; few = h.few; planes = omega (arith, h.masks_fit) }
+pub held_offsets : {d n : ℕ} {c : Content} → Held d n c → Offsets n c.offsets
+held_offsets h = record { counted = h.counted; rising = h.rising }
 
-  pub held_offsets : Offsets n c.offsets
-  held_offsets = record { counted = h.counted; rising = h.rising }
+-- how many bytes its store has, and that it has no more than the values
+pub store_long : (v : LiveValues) {m : ℕ} → m ≡ live_bytes v.places → m ≡ length (rest_of v).store
+store_long v e = let l = v.places.live.level in e ∙ sym (values_long l.masks.now l.depth v.places.rising v.values.now v.whole)
+
+pub store_most : (v : LiveValues) → length (rest_of v).store ≤ length v.values.now
+store_most v =
+    let l = v.places.live.level in
+    omega (arith, v.whole, values_long l.masks.now l.depth v.places.rising v.values.now v.whole, bytes_le v.places.rising (shown_at l.cells l.masks.now l.depth))
 
 -- which output is too short for its table, or that all was stored
 module _ (d n : ℕ) (c : Content) (out : Table) where

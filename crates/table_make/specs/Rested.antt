@@ -1,15 +1,17 @@
 -- Redundant by the law rested_is in table_make/proofs/Rested.antt: the table of an array's rest form, packed in cell order (S6.18), by cell numbers.
 -- Assumes nothing.
-use Rattle.std.specs.Prelude.{ℕ, suc, ◌+◌, ◌*◌, ◌≤◌, ◌≡◌, List, map, length, get_or}
+use Rattle.std.specs.Prelude.{ℕ, suc, ◌*◌, ◌≤◌, ◌≡◌, List, map, length}
 use Rattle.array.specs.Answer.{Answer, map_answer, Outcome}
 use Rattle.array.specs.Limits.{most_depth, most_cells}
 use Rattle.array.specs.Lists.{pick, from, joined, passing}
 use Rattle.array.specs.Offsets.{last, Rising}
-use Rattle.array.specs.Cells.{set_test}
 use Rattle.array.specs.Content.{Content}
 use Rattle.array.specs.Buffers.{if_room}
-use Rattle.array.specs.Places.{offset_at, step_at, bytes_at, values_at, mask_at, planes_by, shown_at}
+use Rattle.array.specs.Places.{offset_at, step_at, bytes_at, values_at, shown_at}
+use Rattle.array.specs.Outcome.{content_array}
 use Rattle.live_cells.specs.Live.{live_at}
+use Rattle.encode_data.specs.declared.LiveOffsets.{LiveOffsets}
+use Rattle.encode_data.specs.declared.LiveValues.{LiveValues}
 use Rattle.rest_masks.specs.Rested.{rest_planes}
 use Rattle.table.specs.Table.{Table}
 use Rattle.table.specs.declared.answer.TableLengths.{TableLengths}
@@ -40,6 +42,20 @@ rest_table d n c = record {
   lengths = rest_lengths n c.masks d c.offsets;
   store = rest_store n c.masks d c.offsets c.values;
 }
+
+-- ---- the same of ragged values as the code holds them
+
+abbrev pub starts_of : LiveOffsets → List ℕ
+starts_of p = let l = p.live.level in rest_starts l.cells l.masks.now l.depth p.offsets.now
+
+abbrev pub lengths_of : LiveOffsets → List ℕ
+lengths_of p = let l = p.live.level in rest_lengths l.cells l.masks.now l.depth p.offsets.now
+
+abbrev pub content_of : LiveValues → Content
+content_of v = content_array v.places.live.level.masks.now v.values.now v.places.offsets.now
+
+abbrev pub rest_of : LiveValues → Table
+rest_of v = let l = v.places.live.level in rest_table l.depth l.cells (content_of v)
 
 -- ---- a ragged array of n cells that keeps its rules
 

@@ -1,27 +1,10 @@
-// What a table has of an array's rest form besides the store: masks, starts and lengths.
-ghost use Rattle.std.specs.Prelude.{◌≡◌, ◌*◌, ◌≤◌, length};
+// What a table has of an array's rest form besides masks and store: where each cell starts, and how long it is.
+ghost use Rattle.std.specs.Prelude.{◌≡◌, ◌≤◌, length};
 ghost use Rattle.array.specs.Buffers.{over};
-ghost use Rattle.live_cells.specs.Live.{Planes};
-ghost use Rattle.encode_data.specs.Offsets.{Offsets};
 ghost use Rattle.table.specs.Calls.{starts_at};
-ghost use Rattle.rest_masks.specs.Rested.{rest_planes};
-ghost use Rattle.table_make.specs.Rested.{rest_starts, rest_lengths};
+ghost use Rattle.table_make.specs.Rested.{starts_of, lengths_of};
 
-use buffer::copy;
-use live_cells::Level;
-use rest_masks::put_levels;
-
-// The mask planes of the rest form.
-pub fn put_masks(out: &mut [u8], masks: &[u8], cells: usize, depth: usize)
-    requires { Planes cells masks.now depth × (depth * cells ≤ length out.old) }
-    ensures { out.new ≡ over (rest_planes cells masks.now depth) out.old }
-{
-    if depth == 0 {
-        return;
-    }
-    copy::copy_many(out, 0, masks, 0, cells);
-    put_levels(out, masks, cells, depth - 1);
-}
+use encode_data::LiveOffsets;
 
 // Where a cell of so many bytes starts.
 fn start_at(to: u64, size: u64) -> u64
@@ -30,26 +13,17 @@ fn start_at(to: u64, size: u64) -> u64
     if 0 < size { to } else { 0 }
 }
 
-// Where each cell starts and how long it is. One that is not shown has no bytes: its length by its mark, so that nothing branches on a mask.
-pub fn put_places(
-    starts: &mut [u64],
-    lengths: &mut [u64],
-    offsets: &[u64],
-    masks: &[u8],
-    cells: usize,
-    depth: usize,
-)
-    requires { Planes cells masks.now depth × Offsets cells offsets.now × (cells ≤ length starts.old) × (cells ≤ length lengths.old) }
-    ensures starts { starts.new ≡ over (rest_starts cells masks.now depth offsets.now) starts.old }
-    ensures lengths { lengths.new ≡ over (rest_lengths cells masks.now depth offsets.now) lengths.old }
+// Cell by cell. One that is not shown has no bytes: its length by its mark, so that nothing branches on a mask.
+#[inline(always)]
+fn put_each(starts: &mut [u64], lengths: &mut [u64], places: LiveOffsets)
+    requires { (places.live.level.cells ≤ length starts.old) × (places.live.level.cells ≤ length lengths.old) }
+    ensures starts { starts.new ≡ over (starts_of places.entry) starts.old }
+    ensures lengths { lengths.new ≡ over (lengths_of places.entry) lengths.old }
 {
+    let LiveOffsets { offsets, live } = places;
+    let level = live.level;
     let mut to: u64 = 0;
-    let level = Level {
-        masks,
-        cells,
-        depth,
-    };
-    for j in 0..cells {
+    for j in 0..level.cells {
         let mark = level.mark(j) as u64;
         let begin = offsets[j];
         let end = offsets[j + 1];
@@ -57,5 +31,21 @@ pub fn put_places(
         starts[j] = start_at(to, size);
         lengths[j] = size;
         to += size;
+    }
+}
+
+// The same by level, each loop compiled for its own: in a function of their own, so that their pointers stay in registers.
+#[inline(never)]
+pub fn put_places(starts: &mut [u64], lengths: &mut [u64], places: LiveOffsets)
+    requires { (places.live.level.cells ≤ length starts.old) × (places.live.level.cells ≤ length lengths.old) }
+    ensures starts { starts.new ≡ over (starts_of places.entry) starts.old }
+    ensures lengths { lengths.new ≡ over (lengths_of places.entry) lengths.old }
+{
+    match places.live.level.depth {
+        1 => put_each(starts, lengths, places.at_depth(1)),
+        2 => put_each(starts, lengths, places.at_depth(2)),
+        3 => put_each(starts, lengths, places.at_depth(3)),
+        4 => put_each(starts, lengths, places.at_depth(4)),
+        _ => put_each(starts, lengths, places),
     }
 }
