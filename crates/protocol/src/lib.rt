@@ -60,7 +60,7 @@ fn number_space() -> [u64; 66560]
 
 // Lends the outputs, makes the call, and writes its answer.
 fn respond(out: &mut impl Write, call: Call, q: Request<'_>) -> io::Result<()> {
-    let bytes = q.values.len();
+    let bytes = q.array.values.len();
     let Some(rooms) = responses::rooms_of(call, q.rooms, bytes, 393216, 393216, 66560) else {
         return show::write_line(out, b"bad line");
     };
@@ -72,7 +72,7 @@ fn respond(out: &mut impl Write, call: Call, q: Request<'_>) -> io::Result<()> {
         values: &mut values[..rooms.values],
         offsets: &mut offsets[..rooms.offsets],
     };
-    let in_place = matches!(call, Call::ReverseEndianness).then_some(q.values);
+    let in_place = matches!(call, Call::ReverseEndianness).then_some(q.array.values);
     lent.lend(in_place);
     let answer = calls::run(call, q, &mut lent);
     responses::write_answer(out, responses::outputs_of(call), answer, in_place, &lent)

@@ -34,9 +34,7 @@ fn make(q: Request<'_>, table: &mut LentTable<'_>) -> Result<TableLengths, Refus
     table_make::make_table(
         kind,
         number_at(q.shape, 0) as usize,
-        q.masks,
-        q.values,
-        q.offsets,
+        q.array,
         table.masks,
         table.starts,
         table.lengths,
@@ -71,10 +69,7 @@ fn read(q: TableRequest<'_>, outputs: &mut LentArray<'_>) -> Result<Lengths, Ref
     table_read::read_table(
         kind,
         q.cells,
-        q.table.masks,
-        q.table.starts,
-        q.table.lengths,
-        q.table.store,
+        q.table,
         outputs.masks,
         outputs.values,
         outputs.offsets,
@@ -110,9 +105,7 @@ fn set(q: TableRequest<'_>, cell: u64, table: &mut LentTable<'_>) -> Result<(), 
         table.starts,
         table.lengths,
         table.store,
-        cell as usize,
-        q.cell_masks,
-        q.value,
+        q.setting(cell),
     )
 }
 
@@ -135,13 +128,8 @@ fn preview(q: TableRequest<'_>, cell: u64) -> Result<Preview, Refusal> {
     table_preview::preview_cell(
         kind,
         q.cells,
-        q.table.masks,
-        q.table.starts,
-        q.table.lengths,
-        q.table.store,
-        cell as usize,
-        q.cell_masks,
-        q.value,
+        q.table,
+        q.setting(cell),
     )
 }
 

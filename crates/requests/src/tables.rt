@@ -2,6 +2,7 @@
 // to preview, its masks and its value, or the most cells to move.
 use crate::call::Head;
 use crate::lists::Lists;
+use table::lent::{Setting, Table};
 
 #[derive(Clone, Copy)]
 pub enum TableCall {
@@ -28,15 +29,6 @@ impl TableCall {
     }
 }
 
-// The lists of a working table.
-#[derive(Clone, Copy)]
-pub struct Table<'a> {
-    pub masks: &'a [u8],
-    pub starts: &'a [u64],
-    pub lengths: &'a [u64],
-    pub store: &'a [u8],
-}
-
 // The kind's numbers, the count of cells, the table, the numbers behind it, and the masks and the value of a cell, where one is set.
 #[derive(Clone, Copy)]
 pub struct TableRequest<'a> {
@@ -46,6 +38,17 @@ pub struct TableRequest<'a> {
     pub more: &'a [u64],
     pub cell_masks: &'a [u8],
     pub value: &'a [u8],
+}
+
+impl<'a> TableRequest<'a> {
+    // The setting of a cell, which is one of the numbers behind the table.
+    pub fn setting(&self, cell: u64) -> Setting<'a> {
+        Setting {
+            cell: cell as usize,
+            masks: self.cell_masks,
+            value: self.value,
+        }
+    }
 }
 
 // The four lists of a table.

@@ -1,13 +1,12 @@
 // A table as a line of text, and what is run on it.
 use crate::way;
-use crate::way::Array;
+use array::content::ArrayBytes;
 use array::kind::Kind;
 use requests::Request;
 use requests::asked::head_kind;
 use responses::show;
 use std::io;
 use std::io::Write;
-use text::scan::part_of;
 
 // Cuts a subset from an outcome.
 fn cut(
@@ -15,7 +14,7 @@ fn cut(
     kind: Kind,
     shape: &[u64],
     subset: &[u64],
-    array: Array<'_>,
+    array: ArrayBytes<'_>,
 ) -> io::Result<()> {
     let mut masks = way::mask_space();
     let mut values = way::byte_space();
@@ -24,15 +23,18 @@ fn cut(
         kind,
         shape,
         subset,
-        array.masks,
-        array.values,
-        array.offsets,
+        array,
         &mut masks,
         &mut values,
         &mut offsets,
     );
     show::write_cut(out, subset)?;
-    show::write_answer(out, answer, &masks, &values, &offsets)
+    let array = ArrayBytes {
+        masks: &masks,
+        values: &values,
+        offsets: &offsets,
+    };
+    show::write_answer(out, answer, array)
 }
 
 // The outcome shown, and each subset of a list cut from it.
@@ -41,9 +43,9 @@ fn show_outcome(
     kind: Kind,
     shape: &[u64],
     cuts: &[u64],
-    array: Array<'_>,
+    array: ArrayBytes<'_>,
 ) -> io::Result<()> {
-    show::write_lists(out, array.masks, array.values, array.offsets)?;
+    show::write_lists(out, array)?;
     let numbers = way::numbers_of_subset(shape);
     for subset in cuts.chunks(numbers) {
         cut(out, kind, shape, way::whole(subset, numbers), array)?;
@@ -56,7 +58,7 @@ fn run_merge(
     out: &mut impl Write,
     kind: Kind,
     q: Request<'_>,
-    chunks: Array<'_>,
+    chunks: ArrayBytes<'_>,
     cuts: &[u64],
 ) -> io::Result<()> {
     let mut masks = way::mask_space();
@@ -66,9 +68,7 @@ fn run_merge(
         kind,
         q.shape,
         q.subset,
-        chunks.masks,
-        chunks.values,
-        chunks.offsets,
+        chunks,
         &mut masks,
         &mut values,
         &mut offsets,
@@ -76,12 +76,12 @@ fn run_merge(
     match answer {
         Err(e) => show::write_refusal(out, e),
         Ok(lengths) => {
-            let array = Array {
-                masks: part_of(&masks, 0, lengths.masks),
-                values: part_of(&values, 0, lengths.values),
-                offsets: part_of(&offsets, 0, lengths.offsets),
+            let array = ArrayBytes {
+                masks: &masks,
+                values: &values,
+                offsets: &offsets,
             };
-            show_outcome(out, kind, q.shape, cuts, array)
+            show_outcome(out, kind, q.shape, cuts, show::first_of(array, lengths))
         }
     }
 }
@@ -91,16 +91,11 @@ fn run_way(out: &mut impl Write, kind: Kind, q: Request<'_>, cuts: &[u64]) -> io
     let mut masks = way::mask_space();
     let mut values = way::byte_space();
     let mut offsets = way::number_space();
-    let table = Array {
-        masks: q.masks,
-        values: q.values,
-        offsets: q.offsets,
-    };
     let reach = way::read_chunks(
         kind,
         q.shape,
         q.subset,
-        table,
+        q.array,
         &mut masks,
         &mut values,
         &mut offsets,
@@ -109,12 +104,12 @@ fn run_way(out: &mut impl Write, kind: Kind, q: Request<'_>, cuts: &[u64]) -> io
     match reach {
         Err(e) => show::write_refusal(out, e),
         Ok(lengths) => {
-            let chunks = Array {
-                masks: part_of(&masks, 0, lengths.masks),
-                values: part_of(&values, 0, lengths.values),
-                offsets: part_of(&offsets, 0, lengths.offsets),
+            let chunks = ArrayBytes {
+                masks: &masks,
+                values: &values,
+                offsets: &offsets,
             };
-            run_merge(out, kind, q, chunks, cuts)
+            run_merge(out, kind, q, show::first_of(chunks, lengths), cuts)
         }
     }
 }

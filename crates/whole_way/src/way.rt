@@ -3,8 +3,10 @@
 ghost use Rattle.std.specs.Prelude.{◌≡◌, ◌≤◌, length};
 
 use array::answer::Lengths;
+use array::content::ArrayBytes;
 use array::kind::Kind;
 use array::refusal::Refusal;
+use responses::show;
 use std::num;
 use text::scan::part_of;
 
@@ -29,20 +31,12 @@ pub fn number_space() -> [u64; 1024]
     [17216961135462248174; 1024]
 }
 
-// The lists of an array.
-#[derive(Clone, Copy)]
-pub struct Array<'a> {
-    pub masks: &'a [u8],
-    pub values: &'a [u8],
-    pub offsets: &'a [u64],
-}
-
 // A subset cut, and written with its lengths as shape.
 fn store_subset(
     kind: Kind,
     shape: &[u64],
     subset: &[u64],
-    array: Array<'_>,
+    array: ArrayBytes<'_>,
     stored: &mut [u8],
 ) -> Result<usize, Refusal> {
     let mut masks = mask_space();
@@ -52,9 +46,7 @@ fn store_subset(
         kind,
         shape,
         subset,
-        array.masks,
-        array.values,
-        array.offsets,
+        array,
         &mut masks,
         &mut values,
         &mut offsets,
@@ -63,9 +55,14 @@ fn store_subset(
     encode::encode(
         kind,
         part_of(subset, shape.len(), subset.len()),
-        part_of(&masks, 0, cut.masks),
-        part_of(&values, 0, cut.values),
-        part_of(&offsets, 0, cut.offsets),
+        show::first_of(
+            ArrayBytes {
+                masks: &masks,
+                values: &values,
+                offsets: &offsets,
+            },
+            cut,
+        ),
         stored,
     )
 }
@@ -75,7 +72,7 @@ fn one_way(
     kind: Kind,
     shape: &[u64],
     subset: &[u64],
-    array: Array<'_>,
+    array: ArrayBytes<'_>,
     masks: &mut [u8],
     values: &mut [u8],
     offsets: &mut [u64],
@@ -112,7 +109,7 @@ pub fn read_chunks(
     kind: Kind,
     shape: &[u64],
     subsets: &[u64],
-    array: Array<'_>,
+    array: ArrayBytes<'_>,
     masks: &mut [u8],
     values: &mut [u8],
     offsets: &mut [u64],
