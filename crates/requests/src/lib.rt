@@ -70,7 +70,7 @@ pub fn read_line<'a>(
     bytes: &'a mut [u8],
 ) -> Option<(Call, Request<'a>)> {
     let (letter, line) = line.split_first()?;
-    let call = Call::of_letter(*letter)?;
+    let call = Call::try_from(*letter).ok()?;
     let mut lists = Lists {
         line,
         numbers,

@@ -12,17 +12,22 @@ pub enum TableCall {
     Pack,
 }
 
-impl TableCall {
-    fn of_letter(letter: u8) -> Option<TableCall> {
+// By the letter that a line begins with.
+impl TryFrom<u8> for TableCall {
+    type Error = ();
+
+    fn try_from(letter: u8) -> Result<TableCall, ()> {
         match letter {
-            b'R' => Some(TableCall::Read),
-            b'S' => Some(TableCall::Set),
-            b'V' => Some(TableCall::Preview),
-            b'P' => Some(TableCall::Pack),
-            _ => None,
+            b'R' => Ok(TableCall::Read),
+            b'S' => Ok(TableCall::Set),
+            b'V' => Ok(TableCall::Preview),
+            b'P' => Ok(TableCall::Pack),
+            _ => Err(()),
         }
     }
+}
 
+impl TableCall {
     // Whether a line has a setting, made or previewed.
     fn has_setting(self) -> bool {
         matches!(self, TableCall::Set | TableCall::Preview)
@@ -95,7 +100,7 @@ pub fn read_table_line<'a>(
     bytes: &'a mut [u8],
 ) -> Option<(TableCall, TableRequest<'a>)> {
     let (letter, line) = line.split_first()?;
-    let call = TableCall::of_letter(*letter)?;
+    let call = TableCall::try_from(*letter).ok()?;
     let mut lists = Lists {
         line,
         numbers,

@@ -59,18 +59,6 @@ pub fn write_refusal(out: &mut impl Write, e: Refusal) -> io::Result<()> {
     write_text(out, b"\n")
 }
 
-// The lists up to the lengths that success names, or the number of the refusal.
-pub fn write_answer(
-    out: &mut impl Write,
-    answer: Result<Lengths, Refusal>,
-    array: ArrayBytes<'_>,
-) -> io::Result<()> {
-    match answer {
-        Ok(lengths) => write_lists(out, first_of(array, lengths)),
-        Err(e) => write_refusal(out, e),
-    }
-}
-
 // The number of a table and the numbers of its kind.
 pub fn write_title(out: &mut impl Write, number: u64, kind: &[u64]) -> io::Result<()> {
     let kind = Listed(kind);

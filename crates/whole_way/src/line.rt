@@ -1,9 +1,11 @@
 // A table as a line of text, and what is run on it.
 use crate::way;
+use crate::way::Rooms;
 use array::content::ArrayBytes;
 use array::kind::Kind;
 use requests::Request;
 use requests::asked::head_kind;
+use requests::input::room;
 use responses::show;
 use std::io;
 use std::io::Write;
@@ -16,25 +18,21 @@ fn cut(
     subset: &[u64],
     array: ArrayBytes<'_>,
 ) -> io::Result<()> {
-    let mut masks = way::mask_space();
-    let mut values = way::byte_space();
-    let mut offsets = way::number_space();
+    let mut lent = Rooms::new();
     let answer = extract::extract(
         kind,
         shape,
         subset,
         array,
-        &mut masks,
-        &mut values,
-        &mut offsets,
+        &mut lent.masks,
+        &mut lent.values,
+        &mut lent.offsets,
     );
     show::write_cut(out, subset)?;
-    let array = ArrayBytes {
-        masks: &masks,
-        values: &values,
-        offsets: &offsets,
-    };
-    show::write_answer(out, answer, array)
+    match answer {
+        Ok(lengths) => show::write_lists(out, lent.first(lengths)),
+        Err(e) => show::write_refusal(out, e),
+    }
 }
 
 // The outcome shown, and each subset of a list cut from it.
@@ -61,63 +59,49 @@ fn run_merge(
     chunks: ArrayBytes<'_>,
     cuts: &[u64],
 ) -> io::Result<()> {
-    let mut masks = way::mask_space();
-    let mut values = way::byte_space();
-    let mut offsets = way::number_space();
+    let mut lent = Rooms::new();
     let answer = merge::merge(
         kind,
         q.shape,
         q.subset,
         chunks,
-        &mut masks,
-        &mut values,
-        &mut offsets,
+        &mut lent.masks,
+        &mut lent.values,
+        &mut lent.offsets,
     );
     match answer {
         Err(e) => show::write_refusal(out, e),
         Ok(lengths) => {
-            let array = ArrayBytes {
-                masks: &masks,
-                values: &values,
-                offsets: &offsets,
-            };
-            show_outcome(out, kind, q.shape, cuts, show::first_of(array, lengths))
+            show_outcome(out, kind, q.shape, cuts, lent.first(lengths))
         }
     }
 }
 
 // The whole way of a table, and the cuts from its outcome.
 fn run_way(out: &mut impl Write, kind: Kind, q: Request<'_>, cuts: &[u64]) -> io::Result<()> {
-    let mut masks = way::mask_space();
-    let mut values = way::byte_space();
-    let mut offsets = way::number_space();
+    let mut lent = Rooms::new();
     let reach = way::read_chunks(
         kind,
         q.shape,
         q.subset,
         q.array,
-        &mut masks,
-        &mut values,
-        &mut offsets,
+        &mut lent.masks,
+        &mut lent.values,
+        &mut lent.offsets,
     );
     show::write_text(out, b"outcome: ")?;
     match reach {
         Err(e) => show::write_refusal(out, e),
         Ok(lengths) => {
-            let chunks = ArrayBytes {
-                masks: &masks,
-                values: &values,
-                offsets: &offsets,
-            };
-            run_merge(out, kind, q, show::first_of(chunks, lengths), cuts)
+            run_merge(out, kind, q, lent.first(lengths), cuts)
         }
     }
 }
 
 // Reads the table of a line, and runs the whole way of it behind its title.
 pub fn run_table(out: &mut impl Write, number: u64, line: &[u8]) -> io::Result<()> {
-    let mut numbers = way::number_space();
-    let mut bytes = way::byte_space();
+    let mut numbers = room::<u64, 1024>(0);
+    let mut bytes = room::<u8, 8192>(0);
     let Some((q, cuts)) = requests::read_table(line, &mut numbers, &mut bytes) else {
         return show::write_text(out, b"bad line\n");
     };
