@@ -52,6 +52,7 @@ fn lend_in_place<T: Copy + Drop>(out: &mut [T], list: &[T], blank: T) {
         out.copy_from_slice(list);
         return;
     }
+    // not `fill`, as in `text::scan::read_run`
     for x in out {
         *x = blank;
     }
