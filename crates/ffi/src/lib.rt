@@ -17,9 +17,11 @@ ghost use Rattle.table.specs.Meaning.{table_by};
 ghost use Rattle.ffi.specs.Exported.{handed, with_given, by_index, status_of, one_length, two_lengths, three_lengths, four_lengths, preview_lengths, export_one, export_two, export_three, export_four, export_moved, export_preview, export_set};
 
 use array::answer::{Lengths, RaggedLengths};
+use array::content::ArrayBytes;
 use array::kind::Kind;
 use array::refusal::Refusal;
 use table::answer::{Preview, TableLengths};
+use table::lent::{Setting, Table};
 
 // A kind as numbers: form 0 fixed, 1 ragged; size is the cell size or the index width; order 0 little or start, 1 big or end; mask 0
 // bytes, 1 packed.
@@ -143,7 +145,12 @@ pub extern "C" fn dpx_encode(
     match kind_of(kind) {
         Err(e) => e.number() as u32,
         Ok(k) => {
-            let answer = encode::encode(k, shape, masks, values, offsets, out);
+            let array = ArrayBytes {
+                masks,
+                values,
+                offsets,
+            };
+            let answer = encode::encode(k, shape, array, out);
             put_length(answer, lengths)
         }
     }
@@ -205,9 +212,12 @@ pub extern "C" fn dpx_encode_interleaved(
     match kind_of(kind) {
         Err(e) => e.number() as u32,
         Ok(k) => {
-            let answer = encode_interleaved::write::encode_interleaved(
-                k, shape, masks, values, offsets, out,
-            );
+            let array = ArrayBytes {
+                masks,
+                values,
+                offsets,
+            };
+            let answer = encode_interleaved::write::encode_interleaved(k, shape, array, out);
             put_length(answer, lengths)
         }
     }
@@ -260,13 +270,16 @@ pub extern "C" fn dpx_extract(
     match kind_of(kind) {
         Err(e) => e.number() as u32,
         Ok(k) => {
+            let array = ArrayBytes {
+                masks,
+                values,
+                offsets,
+            };
             let answer = extract::extract(
                 k,
                 shape,
                 subset,
-                masks,
-                values,
-                offsets,
+                array,
                 out_masks,
                 out_values,
                 out_offsets,
@@ -299,13 +312,16 @@ pub extern "C" fn dpx_merge(
     match kind_of(kind) {
         Err(e) => e.number() as u32,
         Ok(k) => {
+            let array = ArrayBytes {
+                masks,
+                values,
+                offsets,
+            };
             let answer = merge::merge(
                 k,
                 shape,
                 subsets,
-                masks,
-                values,
-                offsets,
+                array,
                 out_masks,
                 out_values,
                 out_offsets,
@@ -387,12 +403,15 @@ pub extern "C" fn dpx_table_make(
     match kind_of(kind) {
         Err(e) => e.number() as u32,
         Ok(k) => {
-            let answer = table_make::make_table(
-                k,
-                cells as usize,
+            let array = ArrayBytes {
                 masks,
                 values,
                 offsets,
+            };
+            let answer = table_make::make_table(
+                k,
+                cells as usize,
+                array,
                 out_masks,
                 out_starts,
                 out_cell_lengths,
@@ -426,13 +445,16 @@ pub extern "C" fn dpx_table_read(
     match kind_of(kind) {
         Err(e) => e.number() as u32,
         Ok(k) => {
+            let table = Table {
+                masks,
+                starts,
+                lengths: cell_lengths,
+                store,
+            };
             let answer = table_read::read_table(
                 k,
                 cells as usize,
-                masks,
-                starts,
-                cell_lengths,
-                store,
+                table,
                 out_masks,
                 out_values,
                 out_offsets,
@@ -464,6 +486,11 @@ pub extern "C" fn dpx_table_set(
     match kind_of(kind) {
         Err(e) => e.number() as u32,
         Ok(k) => {
+            let setting = Setting {
+                cell: cell as usize,
+                masks: cell_masks,
+                value,
+            };
             let answer = table_set::set_cell(
                 k,
                 cells as usize,
@@ -471,9 +498,7 @@ pub extern "C" fn dpx_table_set(
                 starts,
                 cell_lengths,
                 store,
-                cell as usize,
-                cell_masks,
-                value,
+                setting,
             );
             status_of(answer)
         }
@@ -502,17 +527,18 @@ pub extern "C" fn dpx_table_preview(
     match kind_of(kind) {
         Err(e) => e.number() as u32,
         Ok(k) => {
-            let answer = table_preview::preview_cell(
-                k,
-                cells as usize,
+            let table = Table {
                 masks,
                 starts,
-                cell_lengths,
+                lengths: cell_lengths,
                 store,
-                cell as usize,
-                cell_masks,
+            };
+            let setting = Setting {
+                cell: cell as usize,
+                masks: cell_masks,
                 value,
-            );
+            };
+            let answer = table_preview::preview_cell(k, cells as usize, table, setting);
             put_preview(answer, lengths)
         }
     }

@@ -22,12 +22,12 @@ fn run_kind(
 ) -> Result<Lengths, Refusal> {
     match call {
         Call::Encode => values_told(encode::encode(
-            kind, q.shape, q.masks, q.values, q.offsets, out.values,
+            kind, q.shape, q.array, out.values,
         )),
         Call::EncodeInterleaved => values_told(write::encode_interleaved(
-            kind, q.shape, q.masks, q.values, q.offsets, out.values,
+            kind, q.shape, q.array, out.values,
         )),
-        Call::Decode => decode::decode(kind, q.shape, q.values, out.masks, out.values, out.offsets),
+        Call::Decode => decode::decode(kind, q.shape, q.array.values, out.masks, out.values, out.offsets),
         Call::Generate => generate::generate(
             kind,
             q.shape,
@@ -40,9 +40,7 @@ fn run_kind(
             kind,
             q.shape,
             q.subset,
-            q.masks,
-            q.values,
-            q.offsets,
+            q.array,
             out.masks,
             out.values,
             out.offsets,
@@ -51,9 +49,7 @@ fn run_kind(
             kind,
             q.shape,
             q.subset,
-            q.masks,
-            q.values,
-            q.offsets,
+            q.array,
             out.masks,
             out.values,
             out.offsets,
@@ -68,7 +64,7 @@ fn partial_decode(q: Request<'_>, out: &mut LentArray<'_>) -> Result<Lengths, Re
         place,
         q.shape,
         q.subset,
-        q.values,
+        q.array.values,
         out.values,
         out.offsets,
     ))
@@ -80,7 +76,7 @@ pub fn run(call: Call, q: Request<'_>, out: &mut LentArray<'_>) -> Result<Length
     match call {
         Call::DecodeInterleaved => ragged_told(vlen_v2::decode_interleaved(
             first,
-            q.values,
+            q.array.values,
             out.values,
             out.offsets,
         )),

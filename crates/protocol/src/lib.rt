@@ -28,9 +28,8 @@
 
 mod calls;
 
-ghost use Rattle.std.specs.Prelude.{◌≡◌, length};
-
 use requests::call::Call;
+use requests::input::room;
 use requests::{Request, input};
 use responses::lent::LentArray;
 use responses::show;
@@ -38,41 +37,29 @@ use std::io;
 use std::io::{Input, Print, Write};
 
 // Room for all requests.
-fn input_space() -> [u8; 524288]
-    ensures { 524288 ≡ length result }
-{
-    [0; 524288]
-}
+const INPUT: usize = 524288;
 
 // Room for 65,536 cells of one byte with four mask levels, stored.
-fn byte_space() -> [u8; 393216]
-    ensures { 393216 ≡ length result }
-{
-    [0; 393216]
-}
+const BYTES: usize = 393216;
 
 // Room for the offsets of 65,536 cells, and for what else a request has in numbers.
-fn number_space() -> [u64; 66560]
-    ensures { 66560 ≡ length result }
-{
-    [0; 66560]
-}
+const NUMBERS: usize = 66560;
 
 // Lends the outputs, makes the call, and writes its answer.
 fn respond(out: &mut impl Write, call: Call, q: Request<'_>) -> io::Result<()> {
-    let bytes = q.values.len();
-    let Some(rooms) = responses::rooms_of(call, q.rooms, bytes, 393216, 393216, 66560) else {
+    let bytes = q.array.values.len();
+    let Some(rooms) = responses::rooms_of(call, q.rooms, bytes, BYTES, BYTES, NUMBERS) else {
         return show::write_line(out, b"bad line");
     };
-    let mut masks = byte_space();
-    let mut values = byte_space();
-    let mut offsets = number_space();
+    let mut masks = room::<u8, BYTES>(0);
+    let mut values = room::<u8, BYTES>(0);
+    let mut offsets = room::<u64, NUMBERS>(0);
     let mut lent = LentArray {
         masks: &mut masks[..rooms.masks],
         values: &mut values[..rooms.values],
         offsets: &mut offsets[..rooms.offsets],
     };
-    let in_place = matches!(call, Call::ReverseEndianness).then_some(q.values);
+    let in_place = matches!(call, Call::ReverseEndianness).then_some(q.array.values);
     lent.lend(in_place);
     let answer = calls::run(call, q, &mut lent);
     responses::write_answer(out, responses::outputs_of(call), answer, in_place, &lent)
@@ -80,8 +67,8 @@ fn respond(out: &mut impl Write, call: Call, q: Request<'_>) -> io::Result<()> {
 
 // Answers a line that hands no table over.
 fn answer_request(out: &mut impl Write, line: &[u8]) -> io::Result<()> {
-    let mut numbers = number_space();
-    let mut bytes = byte_space();
+    let mut numbers = room::<u64, NUMBERS>(0);
+    let mut bytes = room::<u8, BYTES>(0);
     match requests::read_line(line, &mut numbers, &mut bytes) {
         Some((Call::MakeTable, q)) => protocol_tables::respond_make(out, q),
         Some((call, q)) => respond(out, call, q),
@@ -107,7 +94,7 @@ fn answer_all(out: &mut impl Write, input: &[u8]) -> io::Result<()> {
 
 // Answers all of standard input.
 pub fn answer_input(rt: &(impl Input + Print)) -> io::Result<()> {
-    let mut input = input_space();
+    let mut input = room::<u8, INPUT>(0);
     let n = input::read_full(&mut rt.reader(), &mut input)?;
     answer_all(&mut io::writer(rt), &input[..n])
 }

@@ -1,12 +1,11 @@
 // Requests of calls on working tables, answered.
 #![tactic(auto)]
 
-ghost use Rattle.std.specs.Prelude.{◌≡◌, length};
-
 use array::answer::Lengths;
 use array::refusal::Refusal;
 use requests::Request;
 use requests::asked::head_kind;
+use requests::input::room;
 use requests::tables::{TableCall, TableRequest, read_table_line};
 use responses::lent::{LentArray, LentTable};
 use responses::{Outputs, lent, show, tables};
@@ -16,27 +15,17 @@ use table::answer::{Preview, TableLengths};
 use text::scan::number_at;
 
 // Room for the masks or the store of a table. Tables are small, so that all of one takes little of the stack.
-fn table_bytes() -> [u8; 32768]
-    ensures { 32768 ≡ length result }
-{
-    [0; 32768]
-}
+const BYTES: usize = 32768;
 
 // Room for its starts and lengths, and for what else a request has in numbers.
-fn table_numbers() -> [u64; 8192]
-    ensures { 8192 ≡ length result }
-{
-    [0; 8192]
-}
+const NUMBERS: usize = 8192;
 
 fn make(q: Request<'_>, table: &mut LentTable<'_>) -> Result<TableLengths, Refusal> {
     let kind = head_kind(q.head)?;
     table_make::make_table(
         kind,
         number_at(q.shape, 0) as usize,
-        q.masks,
-        q.values,
-        q.offsets,
+        q.array,
         table.masks,
         table.starts,
         table.lengths,
@@ -48,13 +37,13 @@ pub fn respond_make(out: &mut impl Write, q: Request<'_>) -> io::Result<()> {
     let [m, s, l, b] = q.rooms else {
         return show::write_line(out, b"bad line");
     };
-    let Some(rooms) = lent::table_rooms(*m, *s, *l, *b, 32768, 8192) else {
+    let Some(rooms) = lent::table_rooms(*m, *s, *l, *b, BYTES, NUMBERS) else {
         return show::write_line(out, b"bad line");
     };
-    let mut masks = table_bytes();
-    let mut starts = table_numbers();
-    let mut lengths = table_numbers();
-    let mut store = table_bytes();
+    let mut masks = room::<u8, BYTES>(0);
+    let mut starts = room::<u64, NUMBERS>(0);
+    let mut lengths = room::<u64, NUMBERS>(0);
+    let mut store = room::<u8, BYTES>(0);
     let mut table = LentTable {
         masks: &mut masks[..rooms.masks],
         starts: &mut starts[..rooms.starts],
@@ -71,10 +60,7 @@ fn read(q: TableRequest<'_>, outputs: &mut LentArray<'_>) -> Result<Lengths, Ref
     table_read::read_table(
         kind,
         q.cells,
-        q.table.masks,
-        q.table.starts,
-        q.table.lengths,
-        q.table.store,
+        q.table,
         outputs.masks,
         outputs.values,
         outputs.offsets,
@@ -85,12 +71,12 @@ fn respond_read(out: &mut impl Write, q: TableRequest<'_>) -> io::Result<()> {
     let [m, v, o] = q.more else {
         return show::write_line(out, b"bad line");
     };
-    let Some(rooms) = lent::rooms_of(*m, *v, *o, 32768, 32768, 8192) else {
+    let Some(rooms) = lent::rooms_of(*m, *v, *o, BYTES, BYTES, NUMBERS) else {
         return show::write_line(out, b"bad line");
     };
-    let mut masks = table_bytes();
-    let mut values = table_bytes();
-    let mut offsets = table_numbers();
+    let mut masks = room::<u8, BYTES>(0);
+    let mut values = room::<u8, BYTES>(0);
+    let mut offsets = room::<u64, NUMBERS>(0);
     let mut outputs = LentArray {
         masks: &mut masks[..rooms.masks],
         values: &mut values[..rooms.values],
@@ -110,9 +96,7 @@ fn set(q: TableRequest<'_>, cell: u64, table: &mut LentTable<'_>) -> Result<(), 
         table.starts,
         table.lengths,
         table.store,
-        cell as usize,
-        q.cell_masks,
-        q.value,
+        q.setting(cell),
     )
 }
 
@@ -135,13 +119,8 @@ fn preview(q: TableRequest<'_>, cell: u64) -> Result<Preview, Refusal> {
     table_preview::preview_cell(
         kind,
         q.cells,
-        q.table.masks,
-        q.table.starts,
-        q.table.lengths,
-        q.table.store,
-        cell as usize,
-        q.cell_masks,
-        q.value,
+        q.table,
+        q.setting(cell),
     )
 }
 
@@ -172,13 +151,13 @@ fn respond_in_place(
     let s = q.table.starts.len() as u64;
     let l = q.table.lengths.len() as u64;
     let b = q.table.store.len() as u64;
-    let Some(rooms) = lent::table_rooms(m, s, l, b, 32768, 8192) else {
+    let Some(rooms) = lent::table_rooms(m, s, l, b, BYTES, NUMBERS) else {
         return show::write_line(out, b"bad line");
     };
-    let mut masks = table_bytes();
-    let mut starts = table_numbers();
-    let mut lengths = table_numbers();
-    let mut store = table_bytes();
+    let mut masks = room::<u8, BYTES>(0);
+    let mut starts = room::<u64, NUMBERS>(0);
+    let mut lengths = room::<u64, NUMBERS>(0);
+    let mut store = room::<u8, BYTES>(0);
     let mut table = LentTable {
         masks: &mut masks[..rooms.masks],
         starts: &mut starts[..rooms.starts],
@@ -190,8 +169,8 @@ fn respond_in_place(
 
 // Answers a line that hands a table over.
 pub fn answer_table(out: &mut impl Write, line: &[u8]) -> io::Result<()> {
-    let mut numbers = table_numbers();
-    let mut bytes = table_bytes();
+    let mut numbers = room::<u64, NUMBERS>(0);
+    let mut bytes = room::<u8, BYTES>(0);
     let Some((call, q)) = read_table_line(line, &mut numbers, &mut bytes) else {
         return show::write_line(out, b"bad line");
     };

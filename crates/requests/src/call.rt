@@ -102,24 +102,29 @@ pub(crate) fn of_table() -> Fields {
     }
 }
 
-impl Call {
-    pub(crate) fn of_letter(letter: u8) -> Option<Call> {
+// By the letter that a line begins with.
+impl TryFrom<u8> for Call {
+    type Error = ();
+
+    fn try_from(letter: u8) -> Result<Call, ()> {
         match letter {
-            b'e' => Some(Call::Encode),
-            b'o' => Some(Call::EncodeInterleaved),
-            b'd' => Some(Call::Decode),
-            b'i' => Some(Call::DecodeInterleaved),
-            b'g' => Some(Call::Generate),
-            b'x' => Some(Call::Extract),
-            b'm' => Some(Call::Merge),
-            b'p' => Some(Call::PartialDecode),
-            b'r' => Some(Call::ReverseEndianness),
-            b's' => Some(Call::SubsetCells),
-            b'M' => Some(Call::MakeTable),
-            _ => None,
+            b'e' => Ok(Call::Encode),
+            b'o' => Ok(Call::EncodeInterleaved),
+            b'd' => Ok(Call::Decode),
+            b'i' => Ok(Call::DecodeInterleaved),
+            b'g' => Ok(Call::Generate),
+            b'x' => Ok(Call::Extract),
+            b'm' => Ok(Call::Merge),
+            b'p' => Ok(Call::PartialDecode),
+            b'r' => Ok(Call::ReverseEndianness),
+            b's' => Ok(Call::SubsetCells),
+            b'M' => Ok(Call::MakeTable),
+            _ => Err(()),
         }
     }
+}
 
+impl Call {
     pub(crate) fn fields(self) -> Fields {
         match self {
             Call::Encode | Call::EncodeInterleaved | Call::MakeTable => of_kind(false, true),

@@ -1,9 +1,17 @@
-// Standard input, or what else is read, up to a fixed room.
-ghost use Rattle.std.specs.Prelude.{◌≤◌, ◌<◌, length, take, IfOk};
+// Standard input, or what else is read, and rooms of fixed sizes to read it into.
+ghost use Rattle.std.specs.Prelude.{◌≡◌, ◌≤◌, ◌<◌, length, take, replicate, IfOk};
 ghost use Rattle.std.specs.Io.KnownBytes.{Consumes, IsAtEnd};
 
 use std::io;
 use std::io::Read;
+
+// A room of so many elements, all of them `blank`.
+pub fn room<T: Copy, const N: usize>(blank: T) -> [T; N]
+    ensures length { N ≡ length result }
+    ensures blank { result ≡ replicate N blank }
+{
+    [blank; N]
+}
 
 // Reads until the room is full or the input ends; how many bytes were read.
 // A loop over `read`: std's `read_exact` does not say what a short input had, and its `read_to_end` takes a heap.

@@ -9,16 +9,15 @@ pub mod tables;
 
 use crate::call::{Call, Fields};
 use crate::lists::Lists;
+use array::content::ArrayBytes;
 
-// The lists of a line; one that the line has not is empty. `values` are stored bytes where the call takes these.
+// The lists of a line; one that the line has not is empty. The array's values are stored bytes where the call takes these.
 #[derive(Clone, Copy)]
 pub struct Request<'a> {
     pub head: &'a [u64],
     pub shape: &'a [u64],
     pub subset: &'a [u64],
-    pub masks: &'a [u8],
-    pub values: &'a [u8],
-    pub offsets: &'a [u64],
+    pub array: ArrayBytes<'a>,
     pub rooms: &'a [u64],
 }
 
@@ -38,9 +37,11 @@ fn read_request<'a>(f: Fields, lists: &mut Lists<'a, '_>) -> Option<Request<'a>>
         head,
         shape,
         subset,
-        masks,
-        values,
-        offsets,
+        array: ArrayBytes {
+            masks,
+            values,
+            offsets,
+        },
         rooms,
     })
 }
@@ -69,7 +70,7 @@ pub fn read_line<'a>(
     bytes: &'a mut [u8],
 ) -> Option<(Call, Request<'a>)> {
     let (letter, line) = line.split_first()?;
-    let call = Call::of_letter(*letter)?;
+    let call = Call::try_from(*letter).ok()?;
     let mut lists = Lists {
         line,
         numbers,

@@ -2,6 +2,7 @@
 // to preview, its masks and its value, or the most cells to move.
 use crate::call::Head;
 use crate::lists::Lists;
+use table::lent::{Setting, Table};
 
 #[derive(Clone, Copy)]
 pub enum TableCall {
@@ -11,30 +12,26 @@ pub enum TableCall {
     Pack,
 }
 
-impl TableCall {
-    fn of_letter(letter: u8) -> Option<TableCall> {
+// By the letter that a line begins with.
+impl TryFrom<u8> for TableCall {
+    type Error = ();
+
+    fn try_from(letter: u8) -> Result<TableCall, ()> {
         match letter {
-            b'R' => Some(TableCall::Read),
-            b'S' => Some(TableCall::Set),
-            b'V' => Some(TableCall::Preview),
-            b'P' => Some(TableCall::Pack),
-            _ => None,
+            b'R' => Ok(TableCall::Read),
+            b'S' => Ok(TableCall::Set),
+            b'V' => Ok(TableCall::Preview),
+            b'P' => Ok(TableCall::Pack),
+            _ => Err(()),
         }
     }
+}
 
+impl TableCall {
     // Whether a line has a setting, made or previewed.
     fn has_setting(self) -> bool {
         matches!(self, TableCall::Set | TableCall::Preview)
     }
-}
-
-// The lists of a working table.
-#[derive(Clone, Copy)]
-pub struct Table<'a> {
-    pub masks: &'a [u8],
-    pub starts: &'a [u64],
-    pub lengths: &'a [u64],
-    pub store: &'a [u8],
 }
 
 // The kind's numbers, the count of cells, the table, the numbers behind it, and the masks and the value of a cell, where one is set.
@@ -46,6 +43,17 @@ pub struct TableRequest<'a> {
     pub more: &'a [u64],
     pub cell_masks: &'a [u8],
     pub value: &'a [u8],
+}
+
+impl<'a> TableRequest<'a> {
+    // The setting of a cell, which is one of the numbers behind the table.
+    pub fn setting(&self, cell: u64) -> Setting<'a> {
+        Setting {
+            cell: cell as usize,
+            masks: self.cell_masks,
+            value: self.value,
+        }
+    }
 }
 
 // The four lists of a table.
@@ -92,7 +100,7 @@ pub fn read_table_line<'a>(
     bytes: &'a mut [u8],
 ) -> Option<(TableCall, TableRequest<'a>)> {
     let (letter, line) = line.split_first()?;
-    let call = TableCall::of_letter(*letter)?;
+    let call = TableCall::try_from(*letter).ok()?;
     let mut lists = Lists {
         line,
         numbers,

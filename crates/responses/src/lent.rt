@@ -1,11 +1,12 @@
-// LentArray as they are lent: filled beforehand, and looked through afterwards.
+// Outputs as they are lent: filled beforehand, and looked through afterwards.
 ghost use Rattle.std.specs.Prelude.{◌≡◌, ◌&&◌, ◌≤◌, length, drop, leb, IfSome};
 ghost use Rattle.std.specs.List.{list_all};
 
 use array::answer::Lengths;
+use array::content::ArrayBytes;
 use array::refusal::Refusal;
-use requests::tables::Table;
 use table::answer::TableLengths;
+use table::lent::Table;
 
 // What every byte and every number of a lent output is beforehand.
 const BLANK: u8 = 238;
@@ -51,12 +52,22 @@ fn lend_in_place<T: Copy + Drop>(out: &mut [T], list: &[T], blank: T) {
         out.copy_from_slice(list);
         return;
     }
+    // not `fill`, as in `text::scan::read_run`
     for x in out {
         *x = blank;
     }
 }
 
 impl LentArray<'_> {
+    // The outputs as they are.
+    pub(crate) fn now(&self) -> ArrayBytes<'_> {
+        ArrayBytes {
+            masks: self.masks,
+            values: self.values,
+            offsets: self.offsets,
+        }
+    }
+
     // The outputs before the call, with the bytes of the request in the values where the call works in place.
     pub fn lend(&mut self, in_place: Option<&[u8]>) {
         self.masks.fill(BLANK);

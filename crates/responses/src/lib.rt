@@ -16,7 +16,6 @@ use print::Listed;
 use requests::call::Call;
 use std::io;
 use std::io::Write;
-use text::scan::part_of;
 
 // The outputs that a call has.
 #[derive(Clone, Copy)]
@@ -70,9 +69,10 @@ fn write_ok(
     let m = lengths.masks;
     let v = lengths.values;
     let o = lengths.offsets;
-    let masks = Listed(part_of(outputs.masks, 0, m));
-    let values = Listed(part_of(outputs.values, 0, v));
-    let offsets = Listed(part_of(outputs.offsets, 0, o));
+    let array = show::first_of(outputs.now(), lengths);
+    let masks = Listed(array.masks);
+    let values = Listed(array.values);
+    let offsets = Listed(array.offsets);
     match shown {
         Outputs::Values => write!(out, "ok {v}: {values}"),
         Outputs::Offsets => write!(out, "ok {o}: {offsets}"),

@@ -1,8 +1,11 @@
 // Answers and lists written to a writer.
-ghost use Rattle.std.specs.Prelude.{[], ◌∷◌, ◌++◌, OnOk};
+ghost use Rattle.std.specs.Prelude.{[], ◌∷◌, ◌++◌, ◌≡◌, OnOk};
 ghost use Rattle.std.specs.Io.KnownBytes.{Appends};
+ghost use Rattle.array.specs.Meaning.{lent};
+ghost use Rattle.responses.specs.Told.{up_to};
 
 use array::answer::Lengths;
+use array::content::ArrayBytes;
 use array::refusal::Refusal;
 use print::Listed;
 use std::io;
@@ -28,16 +31,22 @@ pub(crate) fn write_end(out: &mut impl Write, kept: bool) -> io::Result<()> {
     writeln!(out, "{spoilt}")
 }
 
-pub fn write_lists(
-    out: &mut impl Write,
-    masks: &[u8],
-    values: &[u8],
-    offsets: &[u64],
-) -> io::Result<()> {
-    let masks = Listed(masks);
-    let values = Listed(values);
-    let offsets = Listed(offsets);
+pub fn write_lists(out: &mut impl Write, array: ArrayBytes<'_>) -> io::Result<()> {
+    let masks = Listed(array.masks);
+    let values = Listed(array.values);
+    let offsets = Listed(array.offsets);
     writeln!(out, "{masks} {values} {offsets}")
+}
+
+// The lists up to the lengths that an answer names.
+pub fn first_of<'a>(array: ArrayBytes<'a>, lengths: Lengths) -> ArrayBytes<'a>
+    ensures { lent result ≡ up_to lengths (lent array.entry) }
+{
+    ArrayBytes {
+        masks: part_of(array.masks, 0, lengths.masks),
+        values: part_of(array.values, 0, lengths.values),
+        offsets: part_of(array.offsets, 0, lengths.offsets),
+    }
 }
 
 pub(crate) fn write_refused(out: &mut impl Write, e: Refusal) -> io::Result<()> {
@@ -48,25 +57,6 @@ pub(crate) fn write_refused(out: &mut impl Write, e: Refusal) -> io::Result<()> 
 pub fn write_refusal(out: &mut impl Write, e: Refusal) -> io::Result<()> {
     write_refused(out, e)?;
     write_text(out, b"\n")
-}
-
-// The lists up to the lengths that success names, or the number of the refusal.
-pub fn write_answer(
-    out: &mut impl Write,
-    answer: Result<Lengths, Refusal>,
-    masks: &[u8],
-    values: &[u8],
-    offsets: &[u64],
-) -> io::Result<()> {
-    match answer {
-        Ok(lengths) => write_lists(
-            out,
-            part_of(masks, 0, lengths.masks),
-            part_of(values, 0, lengths.values),
-            part_of(offsets, 0, lengths.offsets),
-        ),
-        Err(e) => write_refusal(out, e),
-    }
 }
 
 // The number of a table and the numbers of its kind.

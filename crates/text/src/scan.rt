@@ -76,10 +76,10 @@ impl Element for u8 {
     }
 
     fn read_plain(part: &[u8], room: &mut [u8]) -> Option<usize> {
-        let mut n = 0;
-        for pair in part.chunks(2) {
-            *room.get_mut(n)? = read_octet(pair)?;
-            n += 1;
+        let pairs = part.chunks(2);
+        let n = pairs.len();
+        for (place, pair) in room.get_mut(..n)?.iter_mut().zip(pairs) {
+            *place = read_octet(pair)?;
         }
         Some(n)
     }
@@ -106,6 +106,7 @@ fn read_run<T: Element>(count: &[u8], element: &[u8], room: &mut [T]) -> Option<
 {
     let n = read_number(count)? as usize;
     let x = T::read(element)?;
+    // not `fill`: it asks for a clone that cannot fail, which a type parameter does not say
     for place in room.get_mut(..n)? {
         *place = x;
     }

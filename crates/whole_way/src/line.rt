@@ -1,13 +1,14 @@
 // A table as a line of text, and what is run on it.
 use crate::way;
-use crate::way::Array;
+use crate::way::Rooms;
+use array::content::ArrayBytes;
 use array::kind::Kind;
 use requests::Request;
 use requests::asked::head_kind;
+use requests::input::room;
 use responses::show;
 use std::io;
 use std::io::Write;
-use text::scan::part_of;
 
 // Cuts a subset from an outcome.
 fn cut(
@@ -15,24 +16,23 @@ fn cut(
     kind: Kind,
     shape: &[u64],
     subset: &[u64],
-    array: Array<'_>,
+    array: ArrayBytes<'_>,
 ) -> io::Result<()> {
-    let mut masks = way::mask_space();
-    let mut values = way::byte_space();
-    let mut offsets = way::number_space();
+    let mut lent = Rooms::new();
     let answer = extract::extract(
         kind,
         shape,
         subset,
-        array.masks,
-        array.values,
-        array.offsets,
-        &mut masks,
-        &mut values,
-        &mut offsets,
+        array,
+        &mut lent.masks,
+        &mut lent.values,
+        &mut lent.offsets,
     );
     show::write_cut(out, subset)?;
-    show::write_answer(out, answer, &masks, &values, &offsets)
+    match answer {
+        Ok(lengths) => show::write_lists(out, lent.first(lengths)),
+        Err(e) => show::write_refusal(out, e),
+    }
 }
 
 // The outcome shown, and each subset of a list cut from it.
@@ -41,9 +41,9 @@ fn show_outcome(
     kind: Kind,
     shape: &[u64],
     cuts: &[u64],
-    array: Array<'_>,
+    array: ArrayBytes<'_>,
 ) -> io::Result<()> {
-    show::write_lists(out, array.masks, array.values, array.offsets)?;
+    show::write_lists(out, array)?;
     let numbers = way::numbers_of_subset(shape);
     for subset in cuts.chunks(numbers) {
         cut(out, kind, shape, way::whole(subset, numbers), array)?;
@@ -56,73 +56,52 @@ fn run_merge(
     out: &mut impl Write,
     kind: Kind,
     q: Request<'_>,
-    chunks: Array<'_>,
+    chunks: ArrayBytes<'_>,
     cuts: &[u64],
 ) -> io::Result<()> {
-    let mut masks = way::mask_space();
-    let mut values = way::byte_space();
-    let mut offsets = way::number_space();
+    let mut lent = Rooms::new();
     let answer = merge::merge(
         kind,
         q.shape,
         q.subset,
-        chunks.masks,
-        chunks.values,
-        chunks.offsets,
-        &mut masks,
-        &mut values,
-        &mut offsets,
+        chunks,
+        &mut lent.masks,
+        &mut lent.values,
+        &mut lent.offsets,
     );
     match answer {
         Err(e) => show::write_refusal(out, e),
         Ok(lengths) => {
-            let array = Array {
-                masks: part_of(&masks, 0, lengths.masks),
-                values: part_of(&values, 0, lengths.values),
-                offsets: part_of(&offsets, 0, lengths.offsets),
-            };
-            show_outcome(out, kind, q.shape, cuts, array)
+            show_outcome(out, kind, q.shape, cuts, lent.first(lengths))
         }
     }
 }
 
 // The whole way of a table, and the cuts from its outcome.
 fn run_way(out: &mut impl Write, kind: Kind, q: Request<'_>, cuts: &[u64]) -> io::Result<()> {
-    let mut masks = way::mask_space();
-    let mut values = way::byte_space();
-    let mut offsets = way::number_space();
-    let table = Array {
-        masks: q.masks,
-        values: q.values,
-        offsets: q.offsets,
-    };
+    let mut lent = Rooms::new();
     let reach = way::read_chunks(
         kind,
         q.shape,
         q.subset,
-        table,
-        &mut masks,
-        &mut values,
-        &mut offsets,
+        q.array,
+        &mut lent.masks,
+        &mut lent.values,
+        &mut lent.offsets,
     );
     show::write_text(out, b"outcome: ")?;
     match reach {
         Err(e) => show::write_refusal(out, e),
         Ok(lengths) => {
-            let chunks = Array {
-                masks: part_of(&masks, 0, lengths.masks),
-                values: part_of(&values, 0, lengths.values),
-                offsets: part_of(&offsets, 0, lengths.offsets),
-            };
-            run_merge(out, kind, q, chunks, cuts)
+            run_merge(out, kind, q, lent.first(lengths), cuts)
         }
     }
 }
 
 // Reads the table of a line, and runs the whole way of it behind its title.
 pub fn run_table(out: &mut impl Write, number: u64, line: &[u8]) -> io::Result<()> {
-    let mut numbers = way::number_space();
-    let mut bytes = way::byte_space();
+    let mut numbers = room::<u64, 1024>(0);
+    let mut bytes = room::<u8, 8192>(0);
     let Some((q, cuts)) = requests::read_table(line, &mut numbers, &mut bytes) else {
         return show::write_text(out, b"bad line\n");
     };

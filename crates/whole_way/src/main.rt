@@ -11,19 +11,14 @@
 mod line;
 mod way;
 
-ghost use Rattle.std.specs.Prelude.{◌≡◌, length};
-
 use requests::input;
+use requests::input::room;
 use responses::show;
 use std::io;
 use std::io::Write;
 
 // Room for all tables.
-fn input_space() -> [u8; 524288]
-    ensures { 524288 ≡ length result }
-{
-    [0; 524288]
-}
+const INPUT: usize = 524288;
 
 // A comment, or the table behind `number` others; how many tables there are now.
 fn run_line(out: &mut impl Write, number: u64, line: &[u8]) -> io::Result<u64> {
@@ -50,7 +45,7 @@ fn run_all(out: &mut impl Write, input: &[u8]) -> io::Result<()> {
 }
 
 fn main(rt: HostRuntime) -> io::Result<()> {
-    let mut input = input_space();
+    let mut input = room::<u8, INPUT>(0);
     let n = input::read_full(&mut rt.reader(), &mut input)?;
     run_all(&mut io::writer(&rt), &input[..n])
 }

@@ -1,40 +1,41 @@
 // The whole way of an array: cut into subsets, each cut written and read back, all merged. The outputs lent on the way are filled with
 // EE beforehand, so that a byte which nobody wrote is seen.
-ghost use Rattle.std.specs.Prelude.{◌≡◌, ◌≤◌, length};
+ghost use Rattle.std.specs.Prelude.{◌≤◌};
 
 use array::answer::Lengths;
+use array::content::ArrayBytes;
 use array::kind::Kind;
 use array::refusal::Refusal;
+use requests::input::room;
+use responses::show;
 use std::num;
 use text::scan::part_of;
 
-// Room for the values of a table, or for a stored cut.
-pub fn byte_space() -> [u8; 8192]
-    ensures { 8192 ≡ length result }
-{
-    [238; 8192]
+// What a call is lent: masks, values and offsets of a table.
+pub struct Rooms {
+    pub masks: [u8; 512],
+    pub values: [u8; 8192],
+    pub offsets: [u64; 1024],
 }
 
-// Room for its masks.
-pub fn mask_space() -> [u8; 512]
-    ensures { 512 ≡ length result }
-{
-    [238; 512]
-}
+impl Rooms {
+    pub fn new() -> Rooms {
+        Rooms {
+            masks: room(238),
+            values: room(238),
+            offsets: room(17216961135462248174),
+        }
+    }
 
-// Room for its offsets, or for what else it has in numbers.
-pub fn number_space() -> [u64; 1024]
-    ensures { 1024 ≡ length result }
-{
-    [17216961135462248174; 1024]
-}
-
-// The lists of an array.
-#[derive(Clone, Copy)]
-pub struct Array<'a> {
-    pub masks: &'a [u8],
-    pub values: &'a [u8],
-    pub offsets: &'a [u64],
+    // What stands there, up to the lengths that an answer names.
+    pub fn first(&self, lengths: Lengths) -> ArrayBytes<'_> {
+        let all = ArrayBytes {
+            masks: &self.masks,
+            values: &self.values,
+            offsets: &self.offsets,
+        };
+        show::first_of(all, lengths)
+    }
 }
 
 // A subset cut, and written with its lengths as shape.
@@ -42,30 +43,23 @@ fn store_subset(
     kind: Kind,
     shape: &[u64],
     subset: &[u64],
-    array: Array<'_>,
+    array: ArrayBytes<'_>,
     stored: &mut [u8],
 ) -> Result<usize, Refusal> {
-    let mut masks = mask_space();
-    let mut values = byte_space();
-    let mut offsets = number_space();
-    let answer = extract::extract(
+    let mut lent = Rooms::new();
+    let cut = extract::extract(
         kind,
         shape,
         subset,
-        array.masks,
-        array.values,
-        array.offsets,
-        &mut masks,
-        &mut values,
-        &mut offsets,
-    );
-    let cut = answer?;
+        array,
+        &mut lent.masks,
+        &mut lent.values,
+        &mut lent.offsets,
+    )?;
     encode::encode(
         kind,
         part_of(subset, shape.len(), subset.len()),
-        part_of(&masks, 0, cut.masks),
-        part_of(&values, 0, cut.values),
-        part_of(&offsets, 0, cut.offsets),
+        lent.first(cut),
         stored,
     )
 }
@@ -75,12 +69,12 @@ fn one_way(
     kind: Kind,
     shape: &[u64],
     subset: &[u64],
-    array: Array<'_>,
+    array: ArrayBytes<'_>,
     masks: &mut [u8],
     values: &mut [u8],
     offsets: &mut [u64],
 ) -> Result<Lengths, Refusal> {
-    let mut stored = byte_space();
+    let mut stored = room::<u8, 8192>(238);
     let n = store_subset(kind, shape, subset, array, &mut stored)?;
     decode::decode(
         kind,
@@ -112,7 +106,7 @@ pub fn read_chunks(
     kind: Kind,
     shape: &[u64],
     subsets: &[u64],
-    array: Array<'_>,
+    array: ArrayBytes<'_>,
     masks: &mut [u8],
     values: &mut [u8],
     offsets: &mut [u64],
