@@ -58,7 +58,8 @@ fn spread_runs(
 {
     let mut i = 0;
     let mut k = 0;
-    // a turn takes as many cells as two runs have, so it has no step that a `for` could take
+    // a turn takes as many cells as two runs have, so it has no step that a `for` could take; `chunk_by` over the masks would give the runs,
+    // and where they begin would still be counted
     while k < cells {
         let nulls = run_length(masks, from, n, i, false);
         fill_bytes(values, i * size, nulls * size, 0);

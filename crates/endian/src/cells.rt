@@ -58,6 +58,7 @@ pub fn copy_cells_reversed(
     }
 }
 
+// Two matches, so that no table of jumps stands before the sizes that most types have; a constant size in each arm.
 fn copy_others(out: &mut [u8], to: usize, s: &[u8], at: usize, size: usize, cells: usize)
     requires { (to + cells * size ≤ length «out».old) × (at + cells * size ≤ length s.now) }
     ensures { «out».new ≡ over_at to (reversed_cells size cells (drop at s.now)) «out».old }

@@ -30,7 +30,7 @@ impl<'a> Level<'a> {
         mask_marks::one_if_set(self.masks[l * self.cells + i])
     }
 
-    // 1 where the level counts cell i, else 0: a product, so that what goes by it has no branch.
+    // 1 where the level counts cell i, else 0: a product, so that what goes by it has no branch. By depth, so that a constant one leaves one arm.
     #[inline(always)]
     pub fn mark(self, i: usize) -> u8
         requires { i < self.cells }
@@ -89,7 +89,7 @@ impl<'a> Level<'a> {
         n
     }
 
-    // How many cells the level counts. Level 1 counts the set bytes of the first mask.
+    // How many cells the level counts. Level 1 counts the set bytes of the first mask, with no product.
     #[inline(always)]
     pub fn count(self) -> usize
         ensures { result ≡ length (live_in self.entry) }

@@ -19,7 +19,7 @@ fn no_marks() -> [u64; 1024]
     [0u64; 1024]
 }
 
-// How many cells from i on, and before `end`, have their marks in one word.
+// How many cells from i on, and before `end`, have their marks in one word: a name for it, as laws are about it.
 fn in_word(i: usize, end: usize) -> usize
     requires { i < end }
     ensures { result ≡ min (64 - i % 64) (end - i) }

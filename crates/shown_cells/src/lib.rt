@@ -85,7 +85,8 @@ fn put_runs(out: &mut [u8], values: &[u8], size: usize, plane: &[u8])
     ensures { out.new ≡ over (shown_values size values.now plane.now) out.old }
 {
     let mut i: usize = 0;
-    // the next turn begins where this run ends, which no range counts
+    // the next turn begins where this run ends, which no range counts; `chunk_by` over the plane would give the runs, and where they begin would
+    // still be counted
     while i < plane.len() {
         let shown = is_set(plane, i);
         let end = run_end(plane, i, shown);
@@ -112,7 +113,8 @@ fn put_others(out: &mut [u8], values: &[u8], size: usize, plane: &[u8])
     }
 }
 
-// The values of the cells that the plane shows, each at its place, and zero bytes elsewhere. Each size of a word has a loop of its own.
+// The values of the cells that the plane shows, each at its place, and zero bytes elsewhere. Each size of a word has a loop of its own, in which
+// it is a constant.
 pub fn put_shown(out: &mut [u8], values: &[u8], size: usize, plane: &[u8])
     requires { ShownWithin out.old values.now size plane.now }
     ensures { out.new ≡ over (shown_values size values.now plane.now) out.old }

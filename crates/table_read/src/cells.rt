@@ -7,7 +7,7 @@ ghost use Rattle.table_read.specs.Read.{cells_by, values_of, CellsAsked};
 
 use buffer::copy;
 
-// Whether a cell goes on where the bytes before it end. One with none goes anywhere.
+// Whether a cell goes on where the bytes before it end. One with none goes anywhere. A rule, and no equality of two values.
 fn goes_on(start: usize, size: usize, end: usize) -> bool
     ensures { result ≡ eqb size 0 || eqb start end }
 {

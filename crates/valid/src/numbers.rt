@@ -24,7 +24,7 @@ pub fn kind_from_numbers(
     masked_from_number(kind, mask)
 }
 
-// The kind as it is, or packed.
+// The kind as it is, or packed. No `TryFrom`: a number alone says no kind.
 pub fn masked_from_number(kind: Kind, mask: u64) -> Result<Kind, Refusal>
     ensures { told_kind result ≡ masked_by mask (kind_of kind) }
 {
@@ -35,7 +35,7 @@ pub fn masked_from_number(kind: Kind, mask: u64) -> Result<Kind, Refusal>
     }
 }
 
-// Masks of one byte a cell.
+// Masks of one byte a cell. No `TryFrom` here and above: a kind's numbers come from C and from text, and stand together in no type of this crate.
 fn byte_kind_from_numbers(depth: u64, form: u64, size: u64, order: u64) -> Result<Kind, Refusal>
     ensures { told_kind result ≡ numbered_byte_kind depth form size order }
 {

@@ -29,6 +29,7 @@ pub fn be8_at(s: &[u8], at: usize) -> u64
     field::le8_at(s, at).swap_bytes()
 }
 
+// Here and below each size is a constant of its own, so that a cell is one load or one store.
 fn little_at(s: &[u8], at: usize, size: usize) -> u64
     requires { (word_test size ≡ true) × (at + size ≤ length s.now) }
     ensures { result ≡ unle (take size (drop at s.now)) }
