@@ -42,7 +42,8 @@ fn kind_of(kind: DpxKind) -> Result<Kind, Refusal>
     valid::numbers::kind_from_numbers(kind.depth, kind.form, kind.size, kind.order, kind.mask)
 }
 
-// ---- an answer, handed over
+// ---- an answer, handed over: C is told a number, and lengths that stay where that is a refusal. A function for each answer, as each writes other
+// fields; over a trait these bodies would be its impls.
 
 fn put_length(answer: Result<usize, Refusal>, lengths: &mut [u64; 1]) -> u32
     ensures status { result ≡ status_of (told answer) }
@@ -126,7 +127,7 @@ fn status_of(answer: Result<(), Refusal>) -> u32
     }
 }
 
-// ---- the calls
+// ---- the calls. Each matches on its kind: `?` returns a `Result`, and C is told a number.
 
 #[unsafe(no_mangle)]
 pub extern "C" fn dpx_encode(
