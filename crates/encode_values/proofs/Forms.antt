@@ -16,7 +16,9 @@ use Rattle.array.specs.declared.kind.Values.{Values}
 use Rattle.array.specs.declared.kind.Values.TheVariants.{Fixed, Ragged}
 use Rattle.array.specs.Limits.{most_bytes, most_cells}
 use Rattle.array.specs.Lists.{from, joined, pieces}
-use Rattle.array.specs.Kind.{Kind, Form, fixed, ragged, FormOk, ordered}
+use Rattle.codec.specs.Mask.{mask_form}
+use Rattle.codec.proofs.Masks.{mask_laws}
+use Rattle.array.specs.Kind.{Kind, Masks, Form, fixed, ragged, FormOk, ordered}
 use Rattle.array.specs.Meaning.{order_of, width_of, place_of, form_of, kind_of}
 use Rattle.array.specs.Offsets.{last, Rising}
 use Rattle.array.specs.Cells.{Value}
@@ -35,7 +37,7 @@ use Rattle.live_cells.proofs.Runs.{live-le, live_all}
 use Rattle.encode_cells.proofs.Packing.{fixed_long}
 use Rattle.live_cells.proofs.LiveMarks.{count_all}
 use Rattle.encode_data.proofs.Spans.{all_bytes}
-use Rattle.encode_values.proofs.Levels.{NarrowOk, values_small, flat-length}
+use Rattle.encode_values.proofs.Levels.{NarrowOk, values_small, length_small, flat-length}
 
 -- ---- the masks of all levels
 
@@ -63,6 +65,15 @@ pub narrow_of : (v : Values) → NarrowOk (form_of v)
 narrow_of (Fixed s o) = tt
 narrow_of (Ragged Four p) = omega arith
 narrow_of (Ragged Eight p) = omega arith
+
+-- ---- how long what is written is
+
+pub mask_small : (x : Masks) (c : Counted) → (mask_form x).size c.count ≤ c.level.cells
+mask_small x c = omega (arith, (mask_laws x).size_le c.count, c.counted, live-le c.level.cells c.level.masks.now c.level.depth)
+
+pub length_fits : (k : declared.Kind) {n : ℕ} {masks os : List ℕ} → Measured (kind_of k) n masks os → (left : ℕ)
+    → length_from (kind_of k) n masks os left ≤ left * 65552 + 17301520
+length_fits k m left = length_small (narrow_of k.values) m left
 
 -- ---- how long values are
 

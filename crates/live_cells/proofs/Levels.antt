@@ -1,6 +1,6 @@
 -- Levels with the same masks, cells and depth are the same, and so are those with their counts: their ghost fields have one proof each.
 -- Assumes nothing.
-use mathlib.Core.Path.{◌≡◌}
+use mathlib.Core.Path.{◌≡◌, ap, ◌∙◌}
 use mathlib.Core.HLevel.{is_prop→PathP}
 use Prim.Native.Nat.{ℕ, ◌*◌, ◌≤◌}
 use lib.ListN.{length}
@@ -29,3 +29,7 @@ counted_same c e p =
       count = c.count;
       counted = is_prop→PathP (λ j. c.count ≡ length (live_at (e j).cells (e j).masks.now (e j).depth)) (λ j. Coded-set coded_ℕ _ _) p c.counted i;
     }
+
+-- as many cells as a level counts that is known under another name
+pub level_count : (c : Counted) {l : Level} → c.level ≡ l → c.count ≡ length (live_at l.cells l.masks.now l.depth)
+level_count c e = c.counted ∙ ap (λ (l : Level). length (live_at l.cells l.masks.now l.depth)) e
