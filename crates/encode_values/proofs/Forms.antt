@@ -33,11 +33,12 @@ use Rattle.live_cells.specs.declared.Counted.{Counted}
 use Rattle.encode_data.specs.Offsets.{Offsets}
 use Rattle.encode_values.specs.Ready.{MeasuresOk, Measured, Encodable}
 use Rattle.encode_values.specs.Stored.{values_from, values_length_at, length_from}
+use Rattle.live_cells.proofs.Levels.{level_count}
 use Rattle.live_cells.proofs.Runs.{live-le, live_all}
 use Rattle.encode_cells.proofs.Packing.{fixed_long}
 use Rattle.live_cells.proofs.LiveMarks.{count_all}
 use Rattle.encode_data.proofs.Spans.{all_bytes}
-use Rattle.encode_values.proofs.Levels.{NarrowOk, values_small, length_small, flat-length}
+use Rattle.encode_values.proofs.Levels.{NarrowOk, values_small, length_none, length_values, length-frame, length_small, flat-length}
 
 -- ---- the masks of all levels
 
@@ -74,6 +75,9 @@ mask_small x c = omega (arith, (mask_laws x).size_le c.count, c.counted, live-le
 pub length_fits : (k : declared.Kind) {n : ℕ} {masks os : List ℕ} → Measured (kind_of k) n masks os → (left : ℕ)
     → length_from (kind_of k) n masks os left ≤ left * 65552 + 17301520
 length_fits k m left = length_small (narrow_of k.values) m left
+
+-- what is written of a level, case by case
+pub ruleset length_laws = (level_count, length_none, length_values, length-frame, mask_small, length_fits)
 
 -- ---- how long values are
 
@@ -145,6 +149,8 @@ module _ (k : declared.Kind) (z : k.depth ≡ 0) {n : ℕ} {masks os : List ℕ}
 
     pub flat_ragged_small : 8 + j * (n + 1) + get_or os n 0 ≤ 17301520
     flat_ragged_small = ragged_small k m all e ej bytes
+
+pub ruleset flat_laws = (flat_fixed, flat_fixed_small, flat_ragged, flat_ragged_small)
 
 -- ---- what is written of them
 

@@ -110,11 +110,11 @@ module _ (k : Kind) (n : ℕ) (masks os : List ℕ) where
       some_all (length (live_at n masks k.depth)) (values_length_at k.form os (live_at n masks k.depth)) (λ q. e (sym (innermost n masks k.depth) ∙ q))
   length_values (suc left) z e = absurd (omega arith)
 
-  pub length_frame : (left : ℕ) → left ≢ 0 → length (live_at n masks (level_of k left)) ≢ 0
+  pub length-frame : (left : ℕ) → left ≢ 0 → length (live_at n masks (level_of k left)) ≢ 0
       → 16 + (mask_form k.masks).size (length (live_at n masks (level_of k left))) + length_from k n masks os (left - 1) ≡ length_from k n masks os left
   unfolding length_from
-  length_frame zero z e = absurd (z refl)
-  length_frame (suc left) z e =
+  length-frame zero z e = absurd (z refl)
+  length-frame (suc left) z e =
       let count : ℕ = length (live_at n masks (level_of k (suc left))) in
       ap (λ (d : ℕ). 16 + (mask_form k.masks).size count + length_from k n masks os d) (sub-one (suc left))
       ∙ some_all count (16 + (mask_form k.masks).size count + length_from k n masks os left) e
