@@ -81,10 +81,6 @@ pub ruleset length_laws = (level_count, length_none, length_values, length-frame
 
 -- ---- how long values are
 
--- as many cells as the innermost level counts
-pub innermost_count : (live : Counted) {d : ℕ} → live.level.depth ≡ d → live.count ≡ length (live_at live.level.cells live.level.masks.now d)
-innermost_count live e = live.counted ∙ ap (λ (l : ℕ). length (live_at live.level.cells live.level.masks.now l)) e
-
 module _ (k : declared.Kind) {n : ℕ} {masks os : List ℕ} (m : Measured (kind_of k) n masks os) {count : ℕ} (ec : count ≡ length (live_at n masks k.depth)) where
   -- the cells that every level sets
   abbrev live : List ℕ
