@@ -63,6 +63,7 @@ fn write_cells(
 }
 
 // The same of one cell, which has all the values.
+#[tactic(auto, using(crate::proofs::Writes::one_laws))]
 fn write_one(values: &[u8], out: &mut [u8]) -> Result<usize, Refusal>
     requires { length values.now ≤ most_bytes }
     ensures { outcome result out.new ≡ put_list (put_interleaved (values.now ∷ [])) out.old }
