@@ -13,6 +13,7 @@ use live_cells::Level;
 use mask::form;
 
 // With so many levels left: 16 + the stored mask of the cells that the level counts + what is below, or nothing where no cell is left.
+#[tactic(auto, using(encode_values::proofs::Forms::length_laws), unfolding(array::specs::Limits::most_cells, array::specs::Limits::most_depth))]
 pub fn content_length(kind: Kind, cells: usize, array: ArrayBytes, left: usize) -> usize
     requires ready { Measured (kind_of kind) cells array.masks.now array.offsets.now }
     requires within { left ≤ (kind_of kind).depth }
@@ -36,6 +37,7 @@ pub fn content_length(kind: Kind, cells: usize, array: ArrayBytes, left: usize) 
 }
 
 // The written length of valid content of `cells` cells. At depth 0 there is no level to go through, and all cells count.
+#[tactic(auto, using(encode_values::proofs::Forms::flat_laws))]
 pub fn stored_length(kind: Kind, cells: usize, array: ArrayBytes) -> usize
     requires { Measured (kind_of kind) cells array.masks.now array.offsets.now }
     ensures { result ≡ length_from (kind_of kind) cells array.entry.masks.now array.entry.offsets.now (kind_of kind).depth }

@@ -42,7 +42,9 @@ module _ (w : ℕ) (p : Place) (masks : List ℕ) (l : ℕ) {n : ℕ} {os : List
   offsets_are = ap (λ (r : List ℕ). 0 ∷ r) (ends_are (rises o) s (ends-within o ended) 0 cells (live_below n masks l))
 
   index_count : length (index_of w (0 ∷ ends_at (offset_at os) 0 cells)) ≡ w * (length cells + 1)
-  index_count = length_index w (0 ∷ ends_at (offset_at os) 0 cells) ∙ ap (λ (m : ℕ). w * suc m) (length-ends_at (offset_at os) 0 cells) ∙ ap (λ (m : ℕ). w * m) (sym (add-one (length cells)))
+  index_count =
+      length_index w (0 ∷ ends_at (offset_at os) 0 cells)
+      ∙ ap (λ (m : ℕ). w * suc m) (length-ends_at (offset_at os) 0 cells) ∙ ap (λ (m : ℕ). w * m) (sym (add-one (length cells)))
 
   pub ragged_long : length (put_values (ragged w p) (values_at (offset_at os) s (live_at n masks l)))
       ≡ 8 + w * (length (live_at n masks l) + 1) + bytes_at (offset_at os) (live_at n masks l)

@@ -16,7 +16,9 @@ use Rattle.array.specs.declared.kind.Values.{Values}
 use Rattle.array.specs.declared.kind.Values.TheVariants.{Fixed, Ragged}
 use Rattle.array.specs.Limits.{most_bytes, most_cells}
 use Rattle.array.specs.Lists.{from, joined, pieces}
-use Rattle.array.specs.Kind.{Kind, Form, fixed, ragged, FormOk, ordered}
+use Rattle.codec.specs.Mask.{mask_form}
+use Rattle.codec.proofs.Masks.{mask_laws}
+use Rattle.array.specs.Kind.{Kind, Masks, Form, fixed, ragged, FormOk, ordered}
 use Rattle.array.specs.Meaning.{order_of, width_of, place_of, form_of, kind_of}
 use Rattle.array.specs.Offsets.{last, Rising}
 use Rattle.array.specs.Cells.{Value}
@@ -31,11 +33,12 @@ use Rattle.live_cells.specs.declared.Counted.{Counted}
 use Rattle.encode_data.specs.Offsets.{Offsets}
 use Rattle.encode_values.specs.Ready.{MeasuresOk, Measured, Encodable}
 use Rattle.encode_values.specs.Stored.{values_from, values_length_at, length_from}
+use Rattle.live_cells.proofs.Levels.{level_count}
 use Rattle.live_cells.proofs.Runs.{live-le, live_all}
 use Rattle.encode_cells.proofs.Packing.{fixed_long}
 use Rattle.live_cells.proofs.LiveMarks.{count_all}
 use Rattle.encode_data.proofs.Spans.{all_bytes}
-use Rattle.encode_values.proofs.Levels.{NarrowOk, values_small, flat-length}
+use Rattle.encode_values.proofs.Levels.{NarrowOk, values_small, length_none, length_values, length-frame, length_small, flat-length}
 
 -- ---- the masks of all levels
 
@@ -64,11 +67,19 @@ narrow_of (Fixed s o) = tt
 narrow_of (Ragged Four p) = omega arith
 narrow_of (Ragged Eight p) = omega arith
 
--- ---- how long values are
+-- ---- how long what is written is
 
--- as many cells as the innermost level counts
-pub innermost_count : (live : Counted) {d : ℕ} → live.level.depth ≡ d → live.count ≡ length (live_at live.level.cells live.level.masks.now d)
-innermost_count live e = live.counted ∙ ap (λ (l : ℕ). length (live_at live.level.cells live.level.masks.now l)) e
+pub mask_small : (x : Masks) (c : Counted) → (mask_form x).size c.count ≤ c.level.cells
+mask_small x c = omega (arith, (mask_laws x).size_le c.count, c.counted, live-le c.level.cells c.level.masks.now c.level.depth)
+
+pub length_fits : (k : declared.Kind) {n : ℕ} {masks os : List ℕ} → Measured (kind_of k) n masks os → (left : ℕ)
+    → length_from (kind_of k) n masks os left ≤ left * 65552 + 17301520
+length_fits k m left = length_small (narrow_of k.values) m left
+
+-- what is written of a level, case by case
+pub ruleset length_laws = (level_count, length_none, length_values, length-frame, mask_small, length_fits)
+
+-- ---- how long values are
 
 module _ (k : declared.Kind) {n : ℕ} {masks os : List ℕ} (m : Measured (kind_of k) n masks os) {count : ℕ} (ec : count ≡ length (live_at n masks k.depth)) where
   -- the cells that every level sets
@@ -134,6 +145,8 @@ module _ (k : declared.Kind) (z : k.depth ≡ 0) {n : ℕ} {masks os : List ℕ}
 
     pub flat_ragged_small : 8 + j * (n + 1) + get_or os n 0 ≤ 17301520
     flat_ragged_small = ragged_small k m all e ej bytes
+
+pub ruleset flat_laws = (flat_fixed, flat_fixed_small, flat_ragged, flat_ragged_small)
 
 -- ---- what is written of them
 

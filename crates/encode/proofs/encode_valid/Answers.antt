@@ -1,12 +1,8 @@
 -- `encode::encode_valid` meets its contract: the written length is known before the first store.
 -- Assumes nothing.
 use native.Mathlib.Omega.{arith}
-use Rattle.encode_values.proofs.Forms.{encodable_measured}
 use Rattle.encode.proofs.Encodes.{encode_room, encode_short, encode_written}
 use Rattle.encode.proofs.encode_valid.Goals as goal
-
-pub stored_length-need-requires : goal.stored_length-need-requires
-stored_length-need-requires c = encodable_measured c.requires
 
 pub returns-then-out-need : goal.returns-then-out-need
 returns-then-out-need c = encode_short c.requires c.args.out.now c.stored_length-need.ensures c.if-out-need.true
