@@ -147,6 +147,7 @@ fn store_rows(cells: &mut [u64], subset: Subset)
 }
 
 // The numbers of the cells of a subset, in row order.
+#[tactic(auto, using(crate::proofs::StoringCells::cells_laws))]
 pub fn subset_cells(shape: &[u64], numbers: &[u64], cells: &mut [u64]) -> Result<usize, Refusal>
     ensures { outcome result cells.new ≡ subset_cells shape.now numbers.now cells.old }
 {
