@@ -20,7 +20,7 @@ use Rattle.array.proofs.Places.{bytes_long}
 use Rattle.array.proofs.Rules.{ragged_enough_test_lem, ragged_enough_ok}
 use Rattle.subset.specs.Cells.{cells_of}
 use Rattle.subset.specs.declared.walk.Subset.{Subset}
-use Rattle.subset.proofs.Rows.{asked_below, asked_count}
+use Rattle.subset.proofs.Rows.{asked_below, asked_count, asked_few}
 use Rattle.cut_ragged.specs.declared.RaggedValues.{RaggedValues}
 use Rattle.cut_ragged.specs.Source.{begins_in, values_in, Holds, put_ragged}
 
@@ -64,3 +64,5 @@ module _ (c old : RaggedContent) where
   all_put ev eo hv ho rv ro =
       (λ i. record { answer = gives (record { values = sym ev i; offsets = sym eo i }); buffers = content_ragged (rv i) (ro i) })
       ∙ by_test (ragged_enough_test_lem c (ragged_lengths_of old) (record { for_values = omega arith; for_offsets = omega arith }))
+
+pub ruleset cut_laws = (asked_few, need_values, need_offsets, no_values, no_offsets)

@@ -78,6 +78,7 @@ fn count_bytes(src: RaggedValues, subset: Subset) -> usize
 }
 
 // Writes where the cells of a row end, the first of which begins at `begin`, where `total` bytes lie before them.
+#[tactic(auto, using(crate::proofs::Ragged::images_more), unfolding(array::specs::Limits::most_cells))]
 fn store_ends(out: &mut [u64], src: RaggedValues, row: Row, begin: u64, total: u64)
     requires { (row.at + 1 + row.cells ≤ length «out».old)
         × RowAsked src.source src.index src.numbers.now src.bytes.now row.first row.cells begin total }
@@ -111,6 +112,7 @@ fn copy_rows(values: &mut [u8], offsets: &mut [u64], src: RaggedValues, subset: 
 
 // The values of a subset's cells end to end, with their offsets, the first of which is 0; or 6. Nothing is stored before the last check.
 // An output as long as the source has room for any cut, so that the bytes need not be counted first.
+#[tactic(auto, using(crate::proofs::Outcomes::cut_laws))]
 pub fn cut(
     src: RaggedValues,
     subset: Subset,

@@ -8,7 +8,7 @@ use mathlib.Core.List.{List}
 use borrow.Author.Tests.{le-leb}
 use lib.ListN.{length}
 use lib.Dec.{leb}
-use Rattle.std.specs.Prelude.{Result, Ok, Err}
+use Rattle.std.specs.Prelude.{Ok, Err}
 use Rattle.array.specs.declared.refusal.Refusal.{Refusal}
 use Rattle.array.specs.Answer.{Answer, gives, refuses, unless, map_answer, Outcome}
 use Rattle.array.specs.Kind.{Kind, kind_test}
@@ -22,7 +22,7 @@ use Rattle.array.specs.Outcome.{content_array}
 use Rattle.array.specs.Meaning.{told, number_of}
 use Rattle.valid.specs.ShapeCells.{shape_answer}
 use Rattle.valid.specs.Check.{check_of}
-use Rattle.valid.proofs.ShapeLaws.{not_counted}
+use Rattle.valid.proofs.ShapeLaws.{counted, not_counted}
 use Rattle.array.proofs.Putting.{refused}
 use Rattle.valid.proofs.CheckLaws.{check_refused, check_passed}
 use Rattle.chunks.specs.Cut.{cut_of}
@@ -77,13 +77,19 @@ module _ (k : Kind) (shape ns : List ℕ) (c out : Content) where
       pub no_subset : numbers_test shape ns ≡ false → refused 3 out ≡ extracted k shape ns c out
       no_subset r = sym (answered p q r)
 
-      module _ (r : numbers_test shape ns ≡ true) (x : Result (Unit {0}) Refusal) (e : told x ≡ check_of k (volume shape) c) where
-        pub not_kept : (number : Refusal) → x ≡ Err number → refused (number_of number) out ≡ extracted k shape ns c out
-        not_kept number f =
-            sym (answered p q r
-            ∙ ap (λ (a : Answer Content). content_outcome a out) (check_refused k (volume shape) c x e (unless (enough_test cut (lengths_of out)) 6 (gives cut)) number f))
+      module _ (r : numbers_test shape ns ≡ true) where
+        abbrev after : Answer Content
+        after = unless (enough_test cut (lengths_of out)) 6 (gives cut)
 
-        pub kept : x ≡ Ok tt → put_into cut out ≡ extracted k shape ns c out
-        kept f =
+        pub not_kept : (number : Refusal) {n : ℕ} → n ≡ volume shape → refuses (number_of number) ≡ check_of k n c → refused (number_of number) out ≡ extracted k shape ns c out
+        not_kept number w e =
             sym (answered p q r
-            ∙ ap (λ (a : Answer Content). content_outcome a out) (check_passed k (volume shape) c x e f (unless (enough_test cut (lengths_of out)) 6 (gives cut))))
+            ∙ ap (λ (a : Answer Content). content_outcome a out) (check_refused k (volume shape) c (Err number) (e ∙ ap (λ (n : ℕ). check_of k n c) w) after number refl))
+
+        pub kept : {n : ℕ} → n ≡ volume shape → told (Ok tt) ≡ check_of k n c
+            → {o : Outcome Lengths Content} → o ≡ put_into cut out → o ≡ extracted k shape ns c out
+        kept w e d =
+            d ∙ sym (answered p q r
+            ∙ ap (λ (a : Answer Content). content_outcome a out) (check_passed k (volume shape) c (Ok tt) (e ∙ ap (λ (n : ℕ). check_of k n c) w) refl after))
+
+pub ruleset extract_laws = (counted, no_kind, no_shape, no_subset)

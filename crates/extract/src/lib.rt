@@ -98,6 +98,7 @@ fn cut_valid(
 }
 
 // The masks, values and offsets of the cells of a subset, cut from an array. Nothing is stored before the last check.
+#[tactic(auto, using(crate::proofs::Outcomes::extract_laws), unfolding(array::specs::Limits::most_cells))]
 pub fn extract(
     kind: Kind,
     shape: &[u64],

@@ -15,6 +15,7 @@ use Rattle.array.specs.Content.{Content, leaves, size_test}
 use Rattle.array.specs.declared.answer.Lengths.{Lengths}
 use Rattle.array.specs.Buffers.{lengths_of, enough_test, content_outcome}
 use Rattle.array.proofs.Answers.{then_unless}
+use Rattle.subset.specs.Subsets.{SubsetsOk}
 use Rattle.chunks.specs.Gather.{once_test}
 use Rattle.chunks.specs.Chunks.{chunk_cells, merge_of}
 use Rattle.chunks.specs.Calls.{merge_answer, merged}
@@ -84,7 +85,7 @@ module _ (k : Kind) (sh ns : List ℕ) (c : Content) where
     merge_refused e p = sym (by_steps p)
 
     module _ (n : ℕ) (p : gives n ≡ check_answer k sh ns c) where
-      pub merge_checked : MergeChecked k sh ns c n
+      pub merge_checked : SubsetsOk sh ns × MergeChecked k sh bs c n
       merge_checked = passed k sh ns c n p
 
       pub merge_stored : {o : Outcome Lengths Content} → o ≡ content_outcome (cover_answer k sh bs c (lengths_of old)) old → o ≡ merged k sh ns c old

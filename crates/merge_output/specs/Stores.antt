@@ -1,10 +1,10 @@
 -- Redundant by the law merge_steps in merge/proofs/Steps.antt: the last step of a merge (S6.6), 6 and the stores.
 -- Assumes nothing.
-use Rattle.std.specs.Prelude.{ℕ, List, length}
+use Rattle.std.specs.Prelude.{ℕ, List}
 use Rattle.array.specs.Answer.{Answer, and_then}
 use Rattle.array.specs.Kind.{Kind}
 use Rattle.array.specs.Shape.{volume}
-use Rattle.array.specs.Subset.{Subset, subsets_of, cells_of_all}
+use Rattle.array.specs.Subset.{Subset, cells_of_all}
 use Rattle.array.specs.Content.{Content}
 use Rattle.array.specs.declared.answer.Lengths.{Lengths}
 use Rattle.array.specs.Buffers.{enough_test, if_room}
@@ -18,6 +18,6 @@ unfolding chunk_cells
 store_answer k shape bs c room = and_then (chunk_cells k bs c) (λ cs. if_room (enough_test (merge_of k shape bs cs) room) (merge_of k shape bs cs))
 
 -- what the stores ask: that no chunk overlaps another or leaves a gap either
-pub record MergeAsked (k : Kind) (shape flat : List ℕ) (c : Content) (cells : ℕ) : Type 0 where
-  pub checked : MergeChecked k shape flat c cells
-  pub once : Once (volume shape) (cells_of_all shape (subsets_of (length shape) flat))
+pub record MergeAsked (k : Kind) (shape : List ℕ) (bs : List Subset) (c : Content) (cells : ℕ) : Type 0 where
+  pub checked : MergeChecked k shape bs c cells
+  pub once : Once (volume shape) (cells_of_all shape bs)

@@ -16,7 +16,7 @@ use Rattle.array.proofs.Answers.{same_given}
 use Rattle.array.proofs.Answers as answers
 use Rattle.array.proofs.Rules.{kind_ok, shape_ok, many_ok, size_ok}
 use Rattle.valid.specs.ShapeCells.{shape_answer}
-use Rattle.valid.proofs.ShapeLaws.{not_counted}
+use Rattle.valid.proofs.ShapeLaws.{counted, not_counted}
 use Rattle.subset.specs.Subsets.{SubsetsOk}
 use Rattle.merge_rules.specs.Chunks.{chunks_test}
 use Rattle.merge_rules.specs.Checks.{check_answer, MergeChecked}
@@ -75,3 +75,5 @@ module _ (k : Kind) (sh ns : List ℕ) (c : Content) where
       let t = answers.passed kept 4 sized m.1 in
       let s = answers.passed (size_test (length c.values)) 5 given t.1 in
       (tested_subsets sh ns b.0 m.0, record { kind = kind_ok k a.0; counted = sym (same_given s.1); kept = t.0; small = size_ok (length c.values) s.0 })
+
+pub ruleset check_laws = (counted, no_kind, no_shape, no_subsets, bad_chunks, too_many, passes)

@@ -101,6 +101,7 @@ pub fn check_chunks(kind: Kind, subsets: Subsets, array: ArrayBytes) -> bool
 
 // All checks of a merge but those of its cover and its outputs, and how many cells the shape has. 5 goes by the value bytes, which are all
 // in cells.
+#[tactic(auto, using(crate::proofs::Passing::check_laws), unfolding(array::specs::Limits::most_bytes))]
 pub fn check_merge(
     kind: Kind,
     shape: &[u64],

@@ -17,7 +17,7 @@ use Rattle.array.specs.declared.answer.RaggedLengths.{RaggedLengths}
 use Rattle.array.specs.Buffers.{ragged_lengths_of, ragged_enough_test, if_room, ragged_outcome}
 use Rattle.array.proofs.Rules.{numbers_ok}
 use Rattle.valid.specs.ShapeCells.{shape_answer}
-use Rattle.valid.proofs.ShapeLaws.{not_counted}
+use Rattle.valid.proofs.ShapeLaws.{counted, not_counted}
 use Rattle.codec.specs.Ragged.{get_ragged}
 use Rattle.stored_index.specs.declared.Index.{Index}
 use Rattle.stored_index.specs.Index.{found_in}
@@ -84,3 +84,5 @@ module _ (width : IndexWidth) (p : Place) (shape ns s : List ℕ) (old : RaggedC
           go : (b : Bool) (x : RaggedContent) → and_then (unless b 5 (gives x)) cut_or ≡ unless b 5 (cut_or x)
           go true x = refl
           go false x = refl
+
+pub ruleset partial_laws = (counted, no_shape, no_subset, not_read, cut_read)

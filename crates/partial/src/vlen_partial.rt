@@ -58,6 +58,7 @@ fn cut_stored(
 }
 
 // The values and offsets of the cells of a subset, from the stored ragged values of an array of this shape.
+#[tactic(auto, using(crate::proofs::Outcomes::partial_laws), unfolding(array::specs::Limits::most_cells))]
 pub fn partial_decode(
     width: IndexWidth,
     place: IndexPlace,

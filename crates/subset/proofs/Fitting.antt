@@ -124,3 +124,5 @@ module _ (sh ns : List ℕ) where
 
       pub fitting-over : full_test sh (pairs starts lens) ≡ false → many_test sh ns ≡ false
       fitting-over t = first t
+
+pub ruleset fitting_laws = (fitting_more, fitting-over, fitting-ends)

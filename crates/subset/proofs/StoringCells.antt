@@ -11,7 +11,9 @@ use Rattle.array.specs.Buffers.{over, over_at}
 use Rattle.array.proofs.Lists.{length_from_lem}
 use Rattle.array.proofs.Laying.{Laying, laying_begins, laying_same, laying_ends, laying_part, laying_store, laying_is, laying_room}
 use Rattle.subset.specs.Walk.{row_of, Left, RowAt}
-use Rattle.subset.proofs.Rows.{left-ends}
+use Rattle.array.proofs.CellAnswers.{cells_no_shape, cells_no_subset, cells_no_room, cells_stored}
+use Rattle.valid.proofs.ShapeLaws.{counted, not_counted}
+use Rattle.subset.proofs.Rows.{left-ends, asked_count}
 
 -- ---- one row: n neighbours from the cell a on, stored one by one
 
@@ -64,3 +66,5 @@ module _ {cs d out : List ℕ} {cells n at : ℕ} (s : Stored cs d out cells n a
         out' (e ∙ ap (λ (x : ℕ). over_at x (from a k) out) (sym (zero-add at)))
         (at + k) (ap (λ (x : ℕ). at + x) (sym (length_from_lem a k)));
   }
+
+pub ruleset cells_laws = (counted, not_counted, cells_no_shape, cells_no_subset, cells_no_room, cells_stored, asked_count)

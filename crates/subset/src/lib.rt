@@ -78,6 +78,7 @@ pub fn subset_fits(shape: &[u64], numbers: &[u64]) -> bool
 }
 
 // Whether the numbers are subsets laid end to end that each lie within the shape and hold a cell.
+#[tactic(auto, using(crate::proofs::Fitting::fitting_laws))]
 pub fn subsets_fit(shape: &[u64], numbers: &[u64]) -> bool
     requires { 1 ≤ length shape.now }
     ensures { result ≡ many_test shape.now numbers.now }
@@ -146,6 +147,7 @@ fn store_rows(cells: &mut [u64], subset: Subset)
 }
 
 // The numbers of the cells of a subset, in row order.
+#[tactic(auto, using(crate::proofs::StoringCells::cells_laws))]
 pub fn subset_cells(shape: &[u64], numbers: &[u64], cells: &mut [u64]) -> Result<usize, Refusal>
     ensures { outcome result cells.new ≡ subset_cells shape.now numbers.now cells.old }
 {

@@ -10,28 +10,13 @@ use Rattle.array.specs.Offsets.{ends}
 use Rattle.array.specs.Outcome.{content_ragged}
 use Rattle.array.specs.Places.{bytes_at}
 use Rattle.subset.specs.Cells.{cells_of}
-use Rattle.subset.proofs.Rows.{asked_few, asked_count}
+use Rattle.subset.proofs.Rows.{asked_count}
 use Rattle.cut_ragged.specs.Source.{begins_in, values_in}
 use Rattle.cut_ragged.proofs.Counting.{bytes_most}
 use Rattle.cut_ragged.proofs.Ragged.{first_then}
-use Rattle.cut_ragged.proofs.Outcomes.{need_values, need_offsets, no_values, no_offsets, all_put}
+use Rattle.cut_ragged.proofs.Outcomes.{need_values, need_offsets, all_put}
 use Rattle.cut_ragged.proofs.cut.Goals as goal
 use Rattle.cut_ragged.proofs.cut.Goals.{then-short+else-values-need, else-short, Else-offsets-many}
-
-pub returns-then-values-need : goal.returns-then-values-need
-returns-then-values-need c =
-    let a = c.args in
-    no_values (end_to_end (values_in a.src (cells_of a.subset))) (content_ragged a.values.now a.offsets.now)
-    (need_values a.src a.subset c.requires ∙ sym c.count_bytes-need.ensures) c.if-values-need.true
-
-pub overflow_add-many : goal.overflow_add-many
-overflow_add-many c = omega (arith, asked_few c.args.subset.asked)
-
-pub returns-then-offsets-many : goal.returns-then-offsets-many
-returns-then-offsets-many c =
-    let a = c.args in
-    no_offsets (end_to_end (values_in a.src (cells_of a.subset))) (content_ragged a.values.now a.offsets.now)
-    (need_offsets a.src a.subset c.requires) c.if-offsets-many.true
 
 -- the output has room: its bytes were counted, or it is as long as the source
 room : (c : Else-offsets-many) → bytes_at (begins_in c.args.src) (cells_of c.args.subset) ≤ length c.args.values.now

@@ -1,12 +1,10 @@
 -- `store_ends` meets its contract: the ends of the cells before `i` lie in place (proofs/Ragged).
 -- Assumes nothing.
-use Prim.Native.Nat.{ℕ, suc, ◌+◌, ◌-◌}
-use mathlib.Core.Path.{◌≡◌, ap, ◌∙◌}
+use Prim.Native.Nat.{suc, ◌+◌, ◌-◌}
+use mathlib.Core.Path.{◌≡◌, ap}
 use native.Mathlib.Omega.{arith}
-use native.Mathlib.Numerals.{add-one}
-use Rattle.array.specs.Limits.{most_cells}
 use Rattle.array.proofs.Places.{run_rises, run_below}
-use Rattle.cut_ragged.proofs.Ragged.{images_begin, images_end, images_more}
+use Rattle.cut_ragged.proofs.Ragged.{images_begin, images_end}
 use Rattle.cut_ragged.specs.Source.{begins_in}
 use Rattle.cut_ragged.proofs.store_ends.Goals as goal
 
@@ -14,14 +12,6 @@ pub loop-i-init : goal.loop-i-init
 loop-i-init c =
     let r = c.args.row in
     images_begin (λ j. c.args.total + (begins_in c.args.src (suc j) - c.args.begin)) c.args.out.now (r.at + 1) r.first r.cells c.requires.0
-
-pub overflow_add-row : goal.overflow_add-row
-unfolding most_cells
-overflow_add-row c = omega (arith, c.requires.1.few_cells)
-
-pub overflow_add-row-in-loop-i : goal.overflow_add-row-in-loop-i
-unfolding most_cells
-overflow_add-row-in-loop-i c = omega (arith, c.requires.1.few_cells)
 
 pub overflow_sub-out : goal.overflow_sub-out
 overflow_sub-out c =
@@ -34,11 +24,6 @@ pub overflow_add-out : goal.overflow_add-out
 overflow_add-out c =
     let r = c.args.row in
     omega (arith, run_below c.requires.1.rises (r.first + c.loop-i.i) 1 (omega arith), c.requires.1.few_bytes, c.offset_at-end.ensures)
-
-pub loop-i-preserved : goal.loop-i-preserved
-loop-i-preserved c =
-    images_more c.loop-i.invariant (omega arith)
-    (ap (λ (x : ℕ). c.args.total + (x - c.args.begin)) (c.offset_at-end.ensures ∙ ap (begins_in c.args.src) (add-one (c.args.row.first + c.loop-i.i))))
 
 pub returns : goal.returns
 returns c = images_end c.loop-i.invariant (omega arith)
