@@ -6,4 +6,4 @@ use lib.ListN.{length-replicate}
 use Rattle.table_read.proofs.read_in.Goals as goal
 
 pub read_with-requires : goal.read_with-requires
-read_with-requires g c = (c.requires.0, c.requires.1, omega (arith, length-replicate {A = ℕ} g.row.ROOM 0, c.requires.2))
+read_with-requires g c = omega (arith, length-replicate {A = ℕ} g.row.ROOM 0, c.requires.0)

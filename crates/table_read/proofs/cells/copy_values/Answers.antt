@@ -6,7 +6,7 @@ use native.Mathlib.Omega.{arith}
 use borrow.Author.Tests.{not-false}
 use lib.ListN.{length, set, length-set}
 use Rattle.table.specs.Table.{Table, length_of}
-use Rattle.table_read.specs.Read.{cells_by}
+use Rattle.table.specs.Meaning.{lent_table}
 use Rattle.table_read.proofs.Reading.{Reading, goes_on, read_begins, read_same, read_same_offsets, offset_room, value_room, read_values, read_offsets, reading_ended}
 use Rattle.table_read.proofs.Reading.{Ready, ready_is, ready_again, ready_more}
 use Rattle.table_read.proofs.cells.copy_values.Goals.{then-not-goes_on, else-not-goes_on}
@@ -41,7 +41,7 @@ overflow_add-to c =
 
 pub overflow_add-out_offsets : goal.overflow_add-out_offsets
 overflow_add-out_offsets c =
-    let table : Table = cells_by c.args.starts.now c.args.lengths.now c.args.store.now in
+    let table : Table = lent_table c.args.table in
     let ready :
     Ready c.args.cells table c.args.out_values.now c.args.out_offsets.now c.if-not-goes_on.out_values c.loop-at.out_offsets c.loop-at.at c.if-not-goes_on.to
     c.if-not-goes_on.first c.if-not-goes_on.waiting =
@@ -56,7 +56,7 @@ overflow_add-out_offsets c =
 
 pub offset_bounds-out_offsets-at : goal.offset_bounds-out_offsets-at
 offset_bounds-out_offsets-at c =
-    let table : Table = cells_by c.args.starts.now c.args.lengths.now c.args.store.now in
+    let table : Table = lent_table c.args.table in
     let ready :
     Ready c.args.cells table c.args.out_values.now c.args.out_offsets.now c.if-not-goes_on.out_values c.loop-at.out_offsets c.loop-at.at c.if-not-goes_on.to
     c.if-not-goes_on.first c.if-not-goes_on.waiting =
@@ -71,7 +71,7 @@ offset_bounds-out_offsets-at c =
 
 pub bounds-out_offsets-at : goal.bounds-out_offsets-at
 bounds-out_offsets-at c =
-    let table : Table = cells_by c.args.starts.now c.args.lengths.now c.args.store.now in
+    let table : Table = lent_table c.args.table in
     let ready :
     Ready c.args.cells table c.args.out_values.now c.args.out_offsets.now c.if-not-goes_on.out_values c.loop-at.out_offsets c.loop-at.at c.if-not-goes_on.to
     c.if-not-goes_on.first c.if-not-goes_on.waiting =
@@ -86,7 +86,7 @@ bounds-out_offsets-at c =
 
 pub overflow_add-waiting : goal.overflow_add-waiting
 overflow_add-waiting c =
-    let table : Table = cells_by c.args.starts.now c.args.lengths.now c.args.store.now in
+    let table : Table = lent_table c.args.table in
     let ready :
     Ready c.args.cells table c.args.out_values.now c.args.out_offsets.now c.if-not-goes_on.out_values c.loop-at.out_offsets c.loop-at.at c.if-not-goes_on.to
     c.if-not-goes_on.first c.if-not-goes_on.waiting =
@@ -106,7 +106,7 @@ overflow_add-waiting c =
 
 pub loop-at-preserved : goal.loop-at-preserved
 loop-at-preserved c =
-    let table : Table = cells_by c.args.starts.now c.args.lengths.now c.args.store.now in
+    let table : Table = lent_table c.args.table in
     let ready :
     Ready c.args.cells table c.args.out_values.now c.args.out_offsets.now c.if-not-goes_on.out_values c.loop-at.out_offsets c.loop-at.at c.if-not-goes_on.to
     c.if-not-goes_on.first c.if-not-goes_on.waiting =
