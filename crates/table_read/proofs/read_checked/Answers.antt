@@ -1,23 +1,13 @@
 -- `read_checked` meets its contract: which output is too short, or that all was stored.
 -- Assumes nothing.
 use mathlib.Core.Path.{refl, sym, ◌∙◌}
-use native.Mathlib.Omega.{arith}
 use Rattle.array.specs.Content.{Content}
 use Rattle.array.specs.Outcome.{content_array}
-use Rattle.array.proofs.Putting.{without_masks_lem, no_values, no_offsets, put}
+use Rattle.array.proofs.Putting.{no_values, no_offsets, put}
 use Rattle.table.specs.Meaning.{lent_table}
 use Rattle.table_read.specs.Read.{read_by}
 use Rattle.table_read.proofs.Reading.{values_long, offsets_long, whole_copied}
 use Rattle.table_read.proofs.read_checked.Goals as goal
-
-pub sum_of-bytes-requires : goal.sum_of-bytes-requires
-sum_of-bytes-requires c = omega (arith, c.requires.total, c.requires.small)
-
-pub returns-then-out_masks-planes : goal.returns-then-out_masks-planes
-returns-then-out_masks-planes c =
-    let content : Content = read_by c.args.cells (lent_table c.args.table) in
-    let outputs : Content = content_array c.args.out_masks.now c.args.out_values.now c.args.out_offsets.now in
-    without_masks_lem content outputs _ refl c.if-out_masks-planes.true
 
 pub returns-then-out_values-bytes : goal.returns-then-out_values-bytes
 returns-then-out_values-bytes c =
@@ -30,10 +20,6 @@ returns-then-out_offsets-count c =
     let content : Content = read_by c.args.cells (lent_table c.args.table) in
     let outputs : Content = content_array c.args.out_masks.now c.args.out_values.now c.args.out_offsets.now in
     no_offsets content outputs _ (offsets_long c.args.cells (lent_table c.args.table)) c.if-out_offsets-count.true
-
-pub copy_values-requires : goal.copy_values-requires
-copy_values-requires c =
-    record { cells = c.requires.cells; for_values = omega (arith, c.sum_of-bytes.ensures, c.if-out_values-bytes.false); for_offsets = omega arith }
 
 pub returns : goal.returns
 returns c =

@@ -5,12 +5,8 @@ use borrow.Author.Tests.{leb-true}
 use Rattle.array.specs.Content.{Content}
 use Rattle.array.specs.Outcome.{content_array}
 use Rattle.table.specs.Meaning.{lent_table}
-use Rattle.table_kind.proofs.Forms.{check_asked}
 use Rattle.table_read.proofs.Stages.{reads_well, by_table, by_store, by_cells}
 use Rattle.table_read.proofs.read_with.Goals as goal
-
-pub check_cells-lies-requires : goal.check_cells-lies-requires
-check_cells-lies-requires c = check_asked c.args.shape c.requires
 
 pub returns-then-not-store_ok : goal.returns-then-not-store_ok
 returns-then-not-store_ok c =
