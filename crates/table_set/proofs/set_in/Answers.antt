@@ -6,4 +6,4 @@ use lib.ListN.{length-replicate}
 use Rattle.table_set.proofs.set_in.Goals as goal
 
 pub set_with-requires : goal.set_with-requires
-set_with-requires g c = (c.requires.0, c.requires.1, omega (arith, length-replicate {A = ℕ} g.row.ROOM 0, c.requires.2))
+set_with-requires g c = omega (arith, length-replicate {A = ℕ} g.row.ROOM 0, c.requires.0)
