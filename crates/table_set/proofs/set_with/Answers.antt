@@ -5,13 +5,9 @@ use native.Mathlib.Omega.{arith}
 use Rattle.array.specs.Meaning.{kind_of}
 use Rattle.table.specs.Table.{Table}
 use Rattle.table.specs.Meaning.{table_by}
-use Rattle.table_kind.proofs.Forms.{check_asked}
 use Rattle.table_setting.proofs.Outcomes.{broken, bad_setting, sound, answer_is}
 use Rattle.table_set.proofs.Outcomes.{set_is}
 use Rattle.table_set.proofs.set_with.Goals as goal
-
-pub check_cells-lies-requires : goal.check_cells-lies-requires
-check_cells-lies-requires c = check_asked c.args.shape c.requires
 
 pub returns-then-not-are_strict : goal.returns-then-not-are_strict
 returns-then-not-are_strict c =
