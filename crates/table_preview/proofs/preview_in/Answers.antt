@@ -6,4 +6,4 @@ use lib.ListN.{length-replicate}
 use Rattle.table_preview.proofs.preview_in.Goals as goal
 
 pub preview_with-requires : goal.preview_with-requires
-preview_with-requires g c = (c.requires.0, c.requires.1, omega (arith, length-replicate {A = ℕ} g.row.ROOM 0, c.requires.2))
+preview_with-requires g c = omega (arith, length-replicate {A = ℕ} g.row.ROOM 0, c.requires.0)
