@@ -8,7 +8,7 @@ use Rattle.std.proofs.lemmas.Result.{err_from_is_err_and}
 use Rattle.table.specs.Table.{Table}
 use Rattle.table.specs.Meaning.{lent_table}
 use Rattle.table.proofs.Order.{sum_fits}
-use Rattle.table_preview.proofs.Outcomes.{fits_by, walkable, total_fits, top_low, looked}
+use Rattle.table_preview.proofs.Outcomes.{fits_by, walkable, top_low, looked}
 use Rattle.table_preview.proofs.preview_sound.Goals as goal
 
 pub fit-requires : goal.fit-requires
@@ -27,11 +27,6 @@ unpacked_after-unpacked-requires c =
     let fits = sym c.in_ok-fitting.ensures in
     let short : length c.args.order.now + 1 < 2 ^ 64 = omega arith in
     (omega (arith, c.look_at-found.ensures.few, short), top_low c.requires.0 c.args.setting.cell c.args.setting.value.now c.requires.1 fits c.look_at-found.ensures)
-
-pub overflow_add-result : goal.overflow_add-result
-overflow_add-result c =
-    let fits = sym c.in_ok-fitting.ensures in
-    omega (arith, total_fits c.requires.0 c.args.setting.cell c.args.setting.value.now c.requires.1 fits)
 
 pub returns-in_err-fitting : goal.returns-in_err-fitting
 returns-in_err-fitting c =

@@ -10,14 +10,10 @@ use Rattle.table.specs.Calls.{looked_at}
 use Rattle.table.specs.Meaning.{lent_table}
 use Rattle.table.specs.Walk.{InOrder}
 use Rattle.table.proofs.Walk.{in_order}
-use Rattle.table_kind.proofs.Forms.{check_asked}
 use Rattle.table_setting.specs.Settle.{setting_answer}
 use Rattle.table_setting.proofs.Outcomes.{broken, bad_setting, sound, answer_is}
 use Rattle.table_preview.proofs.Outcomes.{preview_is}
 use Rattle.table_preview.proofs.preview_with.Goals as goal
-
-pub check_cells-lies-requires : goal.check_cells-lies-requires
-check_cells-lies-requires c = check_asked c.args.shape c.requires
 
 pub returns-then-not-are_strict : goal.returns-then-not-are_strict
 returns-then-not-are_strict c =
