@@ -11,7 +11,8 @@ use array::kind::Kind;
 use array::refusal::Refusal;
 use rights::plane::hides;
 use table::answer::Preview;
-use table_kind::{count_ok, is_table_kind};
+use table::lent::{Setting, Table};
+use table_kind::TableShape;
 use table_preview::preview_cell;
 use table_set::set_cell;
 use valid::masks::are_strict;
@@ -28,7 +29,7 @@ fn hidden_refusal(preview: Result<Preview, Refusal>) -> Refusal
 }
 
 // Sets a cell of a working table for a guest with these rights. Refusals 1, 2, 17, 4, 5, 15, 18 and 16, in this order; nothing changes before
-// the last check. 10 parameters: a table is four slices, a setting three, and the plane.
+// the last check.
 pub fn guest_edit(
     kind: Kind,
     cells: usize,
@@ -37,33 +38,27 @@ pub fn guest_edit(
     starts: &mut [u64],
     lengths: &mut [u64],
     store: &mut [u8],
-    cell: usize,
-    cell_masks: &[u8],
-    value: &[u8],
+    setting: Setting,
 ) -> Result<(), Refusal>
     ensures { outcome_settled result masks.new starts.new lengths.new store.new
         ≡ guest_edit (kind_of kind) cells rights.now (table_by masks.old starts.old lengths.old store.old)
-        cell cell_masks.now value.now }
+        setting.entry.cell setting.entry.masks.now setting.entry.value.now }
 {
-    if !is_table_kind(kind) {
-        return Err(Refusal::Kind);
-    }
-    if !count_ok(cells) {
-        return Err(Refusal::Shape);
-    }
+    TableShape::new(kind, cells)?;
     if kind.depth == 0 {
         return Err(Refusal::NoMasks);
     }
     if !are_strict(rights, cells) {
         return Err(Refusal::Content);
     }
-    if hides(rights, cell) {
-        let preview = preview_cell(
-            kind, cells, masks, starts, lengths, store, cell, cell_masks, value,
-        );
-        return Err(hidden_refusal(preview));
+    if hides(rights, setting.cell) {
+        let table = Table {
+            masks,
+            starts,
+            lengths,
+            store,
+        };
+        return Err(hidden_refusal(preview_cell(kind, cells, table, setting)));
     }
-    set_cell(
-        kind, cells, masks, starts, lengths, store, cell, cell_masks, value,
-    )
+    set_cell(kind, cells, masks, starts, lengths, store, setting)
 }

@@ -1,16 +1,16 @@
 // A working table packed.
 #![tactic(auto)]
 
-ghost use Rattle.std.specs.Prelude.{◌≡◌, ◌≤◌, length};
+ghost use Rattle.std.specs.Prelude.{◌≡◌, true, ◌≤◌, length};
 ghost use Rattle.array.specs.Meaning.{kind_of};
 ghost use Rattle.table.specs.Calls.{most_test, cells_packed};
 ghost use Rattle.table.specs.Meaning.{table_by, outcome_packed};
-ghost use Rattle.table_pack.specs.Asked.{Asked};
 
 use array::kind::Kind;
 use array::refusal::Refusal;
+use table::lent::Table;
 use table_check::check_cells;
-use table_kind::{count_ok, is_table_kind, store_ok};
+use table_kind::{TableShape, store_ok};
 use table_move::move_cells;
 use table_order::{FEW, MANY};
 
@@ -24,10 +24,9 @@ fn most_ok(most: usize) -> bool
     1 <= most && most <= MOST_MOVED
 }
 
-// Packs a table of a sound kind and count: 4, and 5. `order` has room for the cells as they lie.
+// Packs a table of which nothing is known: 4, and 5. `order` has room for the cells as they lie.
 fn pack_with(
-    kind: Kind,
-    cells: usize,
+    shape: TableShape,
     masks: &[u8],
     starts: &mut [u64],
     lengths: &[u64],
@@ -35,41 +34,47 @@ fn pack_with(
     most: usize,
     order: &mut [u16],
 ) -> Result<usize, Refusal>
-    requires { Asked (kind_of kind) cells most × (cells ≤ length order.old) }
+    requires { (most_test most ≡ true) × (shape.cells ≤ length order.old) }
     ensures { outcome_packed result masks.now starts.new lengths.now store.new
-        ≡ cells_packed (kind_of kind) cells (table_by masks.now starts.old lengths.now store.old) most }
+        ≡ cells_packed (kind_of shape.kind) shape.cells (table_by masks.now starts.old lengths.now store.old) most }
 {
-    let depth = kind.depth as usize;
-    let lies = check_cells(depth, cells, masks, starts, lengths, store, order);
-    let Some(count) = lies else {
+    let depth = shape.kind.depth as usize;
+    let table = Table {
+        masks,
+        starts,
+        lengths,
+        store,
+    };
+    let lies = check_cells(depth, shape.cells, table, order);
+    let Some(numbers) = lies else {
         return Err(Refusal::Content);
     };
     if !store_ok(store.len()) {
         return Err(Refusal::Size);
     }
-    Ok(move_cells(starts, lengths, store, order, count, most))
+    Ok(move_cells(starts, lengths, store, numbers, most))
 }
 
 // The same with room for the order of so many cells: little is cleared for a small table.
 fn pack_in<const ROOM: usize>(
-    kind: Kind,
-    cells: usize,
+    shape: TableShape,
     masks: &[u8],
     starts: &mut [u64],
     lengths: &[u64],
     store: &mut [u8],
     most: usize,
 ) -> Result<usize, Refusal>
-    requires { Asked (kind_of kind) cells most × (cells ≤ ROOM) × (ROOM ≤ 65536) }
+    requires { (most_test most ≡ true) × (shape.cells ≤ ROOM) × (ROOM ≤ 65536) }
     ensures { outcome_packed result masks.now starts.new lengths.now store.new
-        ≡ cells_packed (kind_of kind) cells (table_by masks.now starts.old lengths.now store.old) most }
+        ≡ cells_packed (kind_of shape.kind) shape.cells (table_by masks.now starts.old lengths.now store.old) most }
 {
     let mut order = [0u16; ROOM];
-    pack_with(kind, cells, masks, starts, lengths, store, most, &mut order)
+    pack_with(shape, masks, starts, lengths, store, most, &mut order)
 }
 
 // Packs a working table: moves at most so many cells, the lowest-lying first, each to its packed start. Refusals 1, 2, 4 and 5, in this
 // order; nothing is moved before the last check. Answers how many were moved.
+#[tactic(auto, unfolding(array::specs::Limits::most_cells))]
 pub fn pack_table(
     kind: Kind,
     cells: usize,
@@ -82,17 +87,12 @@ pub fn pack_table(
     ensures { outcome_packed result masks.now starts.new lengths.now store.new
         ≡ cells_packed (kind_of kind) cells (table_by masks.now starts.old lengths.now store.old) most }
 {
-    if !is_table_kind(kind) {
-        return Err(Refusal::Kind);
-    }
     if !most_ok(most) {
         return Err(Refusal::Kind);
     }
-    if !count_ok(cells) {
-        return Err(Refusal::Shape);
-    }
+    let shape = TableShape::new(kind, cells)?;
     if cells <= FEW {
-        return pack_in::<FEW>(kind, cells, masks, starts, lengths, store, most);
+        return pack_in::<FEW>(shape, masks, starts, lengths, store, most);
     }
-    pack_in::<MANY>(kind, cells, masks, starts, lengths, store, most)
+    pack_in::<MANY>(shape, masks, starts, lengths, store, most)
 }

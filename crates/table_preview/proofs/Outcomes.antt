@@ -17,6 +17,7 @@ use Rattle.array.proofs.RestLaws.{StrictCell, strict_rest, rest_again}
 use Rattle.table.specs.Table.{Table, most_store, start_of, length_of, ending}
 use Rattle.table.specs.Lying.{displaced}
 use Rattle.table.specs.Setting.{setting_of, settled}
+use Rattle.table.specs.declared.lent.Setting.{Setting}
 use Rattle.table.specs.Calls.{set_answer, looked_at, previewed}
 use Rattle.table.specs.Walk.{InOrder, without, unpacked_by}
 use Rattle.table.proofs.Order.{All-passing, lies_below, sum_fits}
@@ -31,9 +32,10 @@ use Rattle.table_setting.specs.Settle.{Sound, Ready, settled_by, setting_answer}
 use Rattle.table_setting.proofs.Judging.{ready, others_known, fitted_is}
 use Rattle.table_preview.specs.Others.{Walkable, Found}
 
-pub preview_is : (k : Kind) (n : ℕ) (t : Table) (c : ℕ) (ms : List ℕ) (v : Value) {a : Answer Table} → a ≡ set_answer k n t c ms v → map_answer (looked_at n) a ≡ previewed k n t c ms v
+pub preview_is : (k : Kind) (n : ℕ) (t : Table) (u : Setting) {a : Answer Table} → a ≡ set_answer k n t u.cell u.masks.now u.value.now
+    → map_answer (looked_at n) a ≡ previewed k n t u.cell u.masks.now u.value.now
 unfolding previewed
-preview_is k n t c ms v e = ap (map_answer (looked_at n)) e
+preview_is k n t u e = ap (map_answer (looked_at n)) e
 
 -- ---- a table and a setting that keep their rules
 

@@ -4,20 +4,20 @@
 ghost use Rattle.std.specs.Prelude.{◌≡◌, ◌+◌, ◌≤◌, ◌<◌, ◌^◌, length};
 ghost use Rattle.array.specs.Answer.{map_answer};
 ghost use Rattle.array.specs.Meaning.{kind_of, told};
-ghost use Rattle.table.specs.Table.{TableKind, CountOk};
 ghost use Rattle.table.specs.Calls.{looked_at, previewed};
-ghost use Rattle.table.specs.Meaning.{table_by};
+ghost use Rattle.table.specs.Meaning.{lent_table};
 ghost use Rattle.table.specs.Walk.{InOrder, unpacked_by};
 ghost use Rattle.table_setting.specs.Settle.{Sound, setting_answer};
 
 use array::kind::Kind;
 use array::refusal::Refusal;
 use table::answer::Preview;
+use table::lent::{Setting, Table};
 use table_check::check_cells;
-use table_kind::{count_ok, is_table_kind};
+use table_kind::TableShape;
 use table_order::{FEW, MANY};
 use table_setting::fit::fit;
-use table_setting::masks;
+use valid::masks::are_strict;
 
 pub mod others;
 
@@ -38,26 +38,17 @@ fn unpacked_after(unpacked: usize, top: usize, total: usize, size: usize, room: 
 
 // A setting of a table that keeps its rules, with masks that keep theirs: 5, 15 and 16, or what is there after it. The order is of the
 // cells as they lie.
-fn preview_sound(
-    masks: &[u8],
-    starts: &[u64],
-    lengths: &[u64],
-    store: &[u8],
-    order: &[u16],
-    cell: usize,
-    cell_masks: &[u8],
-    value: &[u8],
-) -> Result<Preview, Refusal>
-    requires { Sound (length starts.now) (table_by masks.now starts.now lengths.now store.now) cell_masks.now
-        × InOrder (length starts.now) (table_by masks.now starts.now lengths.now store.now) order.now }
-    ensures { told result ≡ map_answer (looked_at (length starts.now))
-        (setting_answer cell cell_masks.now value.now (table_by masks.now starts.now lengths.now store.now)) }
+fn preview_sound(table: Table, order: &[u16], setting: Setting) -> Result<Preview, Refusal>
+    requires { Sound (length table.starts.now) (lent_table table) setting.masks.now
+        × InOrder (length table.starts.now) (lent_table table) order.now }
+    ensures { told result ≡ map_answer (looked_at (length table.entry.starts.now))
+        (setting_answer setting.entry.cell setting.entry.masks.now setting.entry.value.now (lent_table table.entry)) }
 {
-    let room = store.len();
-    let fitting = fit(lengths, room, cell, cell_masks, value.len())?;
+    let room = table.store.len();
+    let fitting = fit(table.lengths, room, setting)?;
     let size = fitting.size;
     let total = fitting.others;
-    let found = others::look_at(starts, lengths, order, cell);
+    let found = others::look_at(table.starts, table.lengths, order, setting.cell);
     let unpacked = unpacked_after(found.unpacked, found.top, total, size, room);
     Ok(Preview {
         total: total + size,
@@ -65,94 +56,57 @@ fn preview_sound(
     })
 }
 
-// The same of a sound kind and count: 4 before them. `order` has room for the cells as they lie.
-// 10 parameters: a table is four slices, and a setting three.
+// The same of a table and a setting of which nothing is known: 4 before them. `order` has room for the cells as they lie.
 fn preview_with(
-    kind: Kind,
-    cells: usize,
-    masks: &[u8],
-    starts: &[u64],
-    lengths: &[u64],
-    store: &[u8],
-    cell: usize,
-    cell_masks: &[u8],
-    value: &[u8],
+    shape: TableShape,
+    table: Table,
+    setting: Setting,
     order: &mut [u16],
 ) -> Result<Preview, Refusal>
-    requires { TableKind (kind_of kind) × CountOk cells × (cells ≤ length order.old) }
-    ensures { told result ≡ previewed (kind_of kind) cells (table_by masks.now starts.now lengths.now store.now)
-        cell cell_masks.now value.now }
+    requires { shape.cells ≤ length order.old }
+    ensures { told result ≡ previewed (kind_of shape.kind) shape.cells (lent_table table.entry)
+        setting.entry.cell setting.entry.masks.now setting.entry.value.now }
 {
-    let depth = kind.depth as usize;
-    let lies = check_cells(depth, cells, masks, starts, lengths, store, order);
-    let Some(count) = lies else {
+    let depth = shape.kind.depth as usize;
+    let lies = check_cells(depth, shape.cells, table, order);
+    let Some(numbers) = lies else {
         return Err(Refusal::Content);
     };
-    if !masks::are_sound(cell_masks, depth) {
+    if !are_strict(setting.masks, depth) {
         return Err(Refusal::Content);
     }
-    preview_sound(
-        masks,
-        starts,
-        lengths,
-        store,
-        &order[..count],
-        cell,
-        cell_masks,
-        value,
-    )
+    preview_sound(table, numbers, setting)
 }
 
 // The same with room for the order of so many cells: little is cleared for a small table.
 fn preview_in<const ROOM: usize>(
-    kind: Kind,
-    cells: usize,
-    masks: &[u8],
-    starts: &[u64],
-    lengths: &[u64],
-    store: &[u8],
-    cell: usize,
-    cell_masks: &[u8],
-    value: &[u8],
+    shape: TableShape,
+    table: Table,
+    setting: Setting,
 ) -> Result<Preview, Refusal>
-    requires { TableKind (kind_of kind) × CountOk cells × (cells ≤ ROOM) × (ROOM ≤ 65536) }
-    ensures { told result ≡ previewed (kind_of kind) cells (table_by masks.now starts.now lengths.now store.now)
-        cell cell_masks.now value.now }
+    requires { (shape.cells ≤ ROOM) × (ROOM ≤ 65536) }
+    ensures { told result ≡ previewed (kind_of shape.kind) shape.cells (lent_table table.entry)
+        setting.entry.cell setting.entry.masks.now setting.entry.value.now }
 {
     let mut order = [0u16; ROOM];
-    preview_with(
-        kind, cells, masks, starts, lengths, store, cell, cell_masks, value, &mut order,
-    )
+    preview_with(shape, table, setting, &mut order)
 }
 
 // Says what a setting of a cell would do: the sum of lengths after it, and how many cells then start elsewhere than where they are packed.
 // Refusals 1, 2, 4, 5, 15 and 16, in this order, as of the setting itself.
+#[tactic(auto, unfolding(array::specs::Limits::most_cells))]
 pub fn preview_cell(
     kind: Kind,
     cells: usize,
-    masks: &[u8],
-    starts: &[u64],
-    lengths: &[u64],
-    store: &[u8],
-    cell: usize,
-    cell_masks: &[u8],
-    value: &[u8],
+    table: Table,
+    setting: Setting,
 ) -> Result<Preview, Refusal>
-    ensures { told result ≡ previewed (kind_of kind) cells (table_by masks.now starts.now lengths.now store.now)
-        cell cell_masks.now value.now }
+    ensures { told result ≡ previewed (kind_of kind) cells (lent_table table.entry)
+        setting.entry.cell setting.entry.masks.now setting.entry.value.now }
 {
-    if !is_table_kind(kind) {
-        return Err(Refusal::Kind);
-    }
-    if !count_ok(cells) {
-        return Err(Refusal::Shape);
-    }
+    let shape = TableShape::new(kind, cells)?;
     if cells <= FEW {
-        return preview_in::<FEW>(
-            kind, cells, masks, starts, lengths, store, cell, cell_masks, value,
-        );
+        return preview_in::<FEW>(shape, table, setting);
     }
-    preview_in::<MANY>(
-        kind, cells, masks, starts, lengths, store, cell, cell_masks, value,
-    )
+    preview_in::<MANY>(shape, table, setting)
 }

@@ -8,8 +8,8 @@ use native.Mathlib.Omega.{arith}
 use mathlib.Core.Logic.{◌⊎◌, inl, inr}
 use mathlib.Core.Bool.{Bool, true, false, ◌||◌}
 use mathlib.Core.List.{List, [], ◌∷◌, ◌++◌, map, append_assoc, append-nil}
-use lib.ListN.{length, take, drop, get_or, set, length-append, length-drop, length-map, drop_of_length-le}
-use lib.Seq.{length-take-le, take_all, take-add, drop-cons, drop-drop}
+use lib.ListN.{length, take, drop, set, length-append, length-drop, length-map}
+use lib.Seq.{length-take-le, take_all, take-add, drop-drop}
 use lib.Dec.{eqb}
 use borrow.Author.Tests.{eqb-true}
 use Rattle.array.specs.Lists.{from, joined}
@@ -42,30 +42,6 @@ offsets_long n t = omega (arith, length-ends 0 (values_of n t), length-map (from
 -- all of a list copied
 pub whole_copied : (s d : List ℕ) {out : List ℕ} → out ≡ over_at 0 (take (length s) (drop 0 s)) d → out ≡ over s d
 whole_copied s d e = e ∙ ap (λ (l : List ℕ). over l d) (take_all (length s) s (omega arith))
-
--- ---- the lengths added up
-
-pub record Counting (ls : List ℕ) (total at : ℕ) : Type 0 where
-  pub within : at ≤ length ls
-  pub counted : total + sum (drop at ls) ≡ sum ls
-
-pub count_begins : (ls : List ℕ) → Counting ls 0 0
-count_begins ls = record { within = omega arith; counted = omega arith }
-
-module _ {ls : List ℕ} {total at : ℕ} (c : Counting ls total at) where
-  count_next : at < length ls → total + (get_or ls at 0 + sum (drop (at + 1) ls)) ≡ sum ls
-  count_next h =
-      let e : drop at ls ≡ get_or ls at 0 ∷ drop (at + 1) ls = drop-cons ls at 0 h ∙ ap (λ (k : ℕ). get_or ls at 0 ∷ drop k ls) (sym (add-one at)) in
-      ap (λ (xs : List ℕ). total + sum xs) (sym e) ∙ c.counted
-
-  pub count_fits : at < length ls → total + get_or ls at 0 ≤ sum ls
-  count_fits h = omega (arith, count_next h)
-
-  pub count_more : at < length ls → Counting ls (total + get_or ls at 0) (at + 1)
-  count_more h = record { within = omega arith; counted = omega (arith, count_next h) }
-
-  pub count-ends : length ls ≤ at → total ≡ sum ls
-  count-ends h = let e : drop at ls ≡ [] = drop_of_length-le ls {i = at} h in omega (arith, c.counted, ap sum e)
 
 -- ---- cells copied, those that lie one behind another at once
 

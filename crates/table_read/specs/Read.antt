@@ -1,18 +1,14 @@
 -- Redundant by the law read_is in table_read/proofs/Stages.antt: a table read out (S6.19) by its parts, and what copying its cells asks.
 -- Assumes nothing.
-use Rattle.std.specs.Prelude.{ℕ, ◌+◌, ◌≤◌, ◌<◌, ◌≡◌, List, [], map, length}
+use Rattle.std.specs.Prelude.{ℕ, ◌+◌, ◌≤◌, ◌<◌, ◌≡◌, List, map, length}
 use Rattle.array.specs.Lists.{from, joined}
 use Rattle.array.specs.Offsets.{offsets_of}
 use Rattle.array.specs.Cells.{Value}
 use Rattle.array.specs.Content.{Content}
 use Rattle.array.specs.Places.{sum}
-use Rattle.table.specs.Table.{Table, start_of, length_of, bytes_of}
-use Rattle.table.specs.Meaning.{table_by}
+use Rattle.table.specs.Table.{Table, most_store, start_of, length_of, bytes_of}
 
--- the bytes of n cells do not go by masks
-abbrev pub cells_by : List ℕ → List ℕ → List ℕ → Table
-cells_by s l b = table_by [] s l b
-
+-- the bytes of n cells
 abbrev pub values_of : ℕ → Table → List Value
 values_of n t = map (bytes_of t) (from 0 n)
 
@@ -36,3 +32,4 @@ pub record CellsAsked (n : ℕ) (t : Table) (values offsets : List ℕ) : Type 0
 pub record ReadAsked (n : ℕ) (t : Table) : Type 0 where
   pub cells : InStore n t
   pub total : sum t.lengths ≤ length t.store
+  pub small : length t.store ≤ most_store

@@ -3,9 +3,11 @@ ghost use Rattle.std.specs.Prelude.{◌≡◌, ◌||◌, eqb};
 ghost use Rattle.array.specs.Lists.{joined};
 ghost use Rattle.array.specs.Offsets.{offsets_of};
 ghost use Rattle.array.specs.Buffers.{over};
-ghost use Rattle.table_read.specs.Read.{cells_by, values_of, CellsAsked};
+ghost use Rattle.table.specs.Meaning.{lent_table};
+ghost use Rattle.table_read.specs.Read.{values_of, CellsAsked};
 
 use buffer::copy;
+use table::lent::Table;
 
 // Whether a cell goes on where the bytes before it end. One with none goes anywhere. A rule, and no equality of two values.
 fn goes_on(start: usize, size: usize, end: usize) -> bool
@@ -16,20 +18,17 @@ fn goes_on(start: usize, size: usize, end: usize) -> bool
 
 // Copies the bytes of each cell, end to end, and stores where each begins and the last one ends. Cells that also lie one behind another
 // in the store are copied at once: so many bytes of it from `first` on wait for the place `to`.
-pub fn copy_values(
-    cells: usize,
-    starts: &[u64],
-    lengths: &[u64],
-    store: &[u8],
-    out_values: &mut [u8],
-    out_offsets: &mut [u64],
-)
-    requires { CellsAsked cells (cells_by starts.now lengths.now store.now) out_values.old out_offsets.old }
-    ensures values { out_values.new
-        ≡ over (joined (values_of cells (cells_by starts.now lengths.now store.now))) out_values.old }
-    ensures offsets { out_offsets.new
-        ≡ over (offsets_of (values_of cells (cells_by starts.now lengths.now store.now))) out_offsets.old }
+pub fn copy_values(cells: usize, table: Table, out_values: &mut [u8], out_offsets: &mut [u64])
+    requires { CellsAsked cells (lent_table table) out_values.old out_offsets.old }
+    ensures values { out_values.new ≡ over (joined (values_of cells (lent_table table.entry))) out_values.old }
+    ensures offsets { out_offsets.new ≡ over (offsets_of (values_of cells (lent_table table.entry))) out_offsets.old }
 {
+    let Table {
+        starts,
+        lengths,
+        store,
+        ..
+    } = table;
     let mut to: usize = 0;
     let mut first: usize = 0;
     let mut waiting: usize = 0;

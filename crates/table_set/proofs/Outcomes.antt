@@ -8,6 +8,7 @@ use Rattle.array.specs.Answer.{Answer, map_answer}
 use Rattle.array.specs.Kind.{Kind}
 use Rattle.array.specs.Cells.{Value}
 use Rattle.table.specs.Table.{Table}
+use Rattle.table.specs.declared.lent.Setting.{Setting}
 use Rattle.table.specs.Calls.{set_answer, cell_set}
 use Rattle.table_setting.specs.declared.fit.Fitting.{Fitting}
 use Rattle.table_setting.specs.Fit.{fitted}
@@ -15,9 +16,10 @@ use Rattle.table_setting.specs.Settle.{Sound, settled_by}
 use Rattle.table_setting.proofs.Judging.{fitted_is}
 use Rattle.table_set.specs.Settle.{left, setting_by}
 
-pub set_is : (k : Kind) (n : ℕ) (t : Table) (c : ℕ) (ms : List ℕ) (v : Value) {a : Answer Table} → a ≡ set_answer k n t c ms v → left a t ≡ cell_set k n t c ms v
+pub set_is : (k : Kind) (n : ℕ) (t : Table) (u : Setting) {a : Answer Table} → a ≡ set_answer k n t u.cell u.masks.now u.value.now
+    → left a t ≡ cell_set k n t u.cell u.masks.now u.value.now
 unfolding cell_set
-set_is k n t c ms v e = ap (λ (a : Answer Table). left a t) e
+set_is k n t u e = ap (λ (a : Answer Table). left a t) e
 
 -- a table that keeps its rules: the setting does not fit, or is made
 module _ {room : ℕ} {t : Table} {ms : List ℕ} (s : Sound room t ms) (c : ℕ) (v : Value) {a : Answer Fitting}

@@ -1,92 +1,56 @@
 -- `guest_edit` meets its contract: refusals 1, 2, 17 and the plane's 4, each in its turn; then a hidden cell is refused, and any other is set.
 -- Assumes nothing.
-use mathlib.Core.Path.{◌≡◌, sym, ap, ◌∙◌}
-use mathlib.Core.Bool.{true, not, ◌&&◌}
-use Prim.Native.Nat.{ℕ}
-use borrow.Author.Tests.{lt-ltb, le-ltb, not-true, not-false}
+use mathlib.Core.Path.{sym, ap, ◌∙◌}
+use borrow.Author.Tests.{lt-ltb, le-ltb}
 use native.Mathlib.Omega.{arith}
-use lib.Dec.{ltb}
-use Rattle.array.specs.Answer.{refuses}
+use Rattle.std.proofs.lemmas.Result.{err_from_is_err_and}
 use Rattle.array.specs.Meaning.{kind_of}
-use Rattle.array.specs.Kind.{Kind}
-use Rattle.array.proofs.Rules.{strict_bytes_ok}
-use Rattle.table.specs.Table.{Table, table_kind_test, count_test}
+use Rattle.table.specs.Table.{Table}
 use Rattle.table.specs.Meaning.{table_by}
-use Rattle.rights.specs.Rights.{rights_test, permits, masked_test}
+use Rattle.table_kind.proofs.Forms.{shape_taken}
 use Rattle.guest_edit.specs.Hidden.{hidden_number}
-use Rattle.guest_edit.proofs.Hiding.{edit_refused, no_kind, no_count, without_masks_lem, no_plane, edit_hidden, edit_shown}
+use Rattle.guest_edit.proofs.Hiding.{unshaped, without_masks_lem, no_plane, of_count, edit_hidden, edit_shown}
 use Rattle.guest_edit.proofs.guest_edit.Goals as goal
 
-pub returns-then-not-is_table_kind : goal.returns-then-not-is_table_kind
-returns-then-not-is_table_kind c =
-    let kind : Kind = kind_of c.args.kind in
-    let table : Table = table_by c.args.masks.now c.args.starts.now c.args.lengths.now c.args.store.now in
-    edit_refused kind c.args.cells c.args.rights.now table c.args.cell c.args.cell_masks.now c.args.value.now
-    (no_kind kind c.args.cells c.args.rights.now table c.args.cell c.args.cell_masks.now c.args.value.now
-    (sym c.is_table_kind.ensures ∙ not-true c.is_table_kind.result c.if-not-is_table_kind.true-raw))
-
-pub returns-then-not-count_ok : goal.returns-then-not-count_ok
-returns-then-not-count_ok c =
-    let kind : Kind = kind_of c.args.kind in
-    let table : Table = table_by c.args.masks.now c.args.starts.now c.args.lengths.now c.args.store.now in
-    let sound : table_kind_test kind ≡ true = sym c.is_table_kind.ensures ∙ not-false c.is_table_kind.result c.if-not-is_table_kind.false-raw in
-    edit_refused kind c.args.cells c.args.rights.now table c.args.cell c.args.cell_masks.now c.args.value.now
-    (no_count kind c.args.cells c.args.rights.now table c.args.cell c.args.cell_masks.now c.args.value.now sound
-    (sym c.count_ok.ensures ∙ not-true c.count_ok.result c.if-not-count_ok.true-raw))
+pub returns-in_err-new : goal.returns-in_err-new
+returns-in_err-new c =
+    let p = err_from_is_err_and c.from_residual.result c.from_residual.ensures.1 in
+    let a = c.args in
+    let table : Table = table_by a.masks.now a.starts.now a.lengths.now a.store.now in
+    rw (p.1, p.2) (unshaped (kind_of a.kind) a.cells a.rights.now table a.setting c.in_err-new.ensures)
 
 pub returns-then-kind-eq0 : goal.returns-then-kind-eq0
 returns-then-kind-eq0 c =
-    let kind : Kind = kind_of c.args.kind in
-    let table : Table = table_by c.args.masks.now c.args.starts.now c.args.lengths.now c.args.store.now in
-    let sound : table_kind_test kind ≡ true = sym c.is_table_kind.ensures ∙ not-false c.is_table_kind.result c.if-not-is_table_kind.false-raw in
-    let some_cells : count_test c.args.cells ≡ true = sym c.count_ok.ensures ∙ not-false c.count_ok.result c.if-not-count_ok.false-raw in
-    edit_refused kind c.args.cells c.args.rights.now table c.args.cell c.args.cell_masks.now c.args.value.now
-    (without_masks_lem kind c.args.cells c.args.rights.now table c.args.cell c.args.cell_masks.now c.args.value.now
-    sound some_cells (le-ltb 0 c.args.kind.depth (omega (arith, c.if-kind-eq0.true))))
+    let a = c.args in
+    let table : Table = table_by a.masks.now a.starts.now a.lengths.now a.store.now in
+    without_masks_lem (kind_of a.kind) a.cells a.rights.now table a.setting (shape_taken c.in_ok-new.field-0 c.in_ok-new.ensures)
+    (le-ltb 0 a.kind.depth (omega (arith, c.if-kind-eq0.true)))
 
 pub returns-then-not-are_strict : goal.returns-then-not-are_strict
 returns-then-not-are_strict c =
-    let kind : Kind = kind_of c.args.kind in
-    let table : Table = table_by c.args.masks.now c.args.starts.now c.args.lengths.now c.args.store.now in
-    let sound : table_kind_test kind ≡ true = sym c.is_table_kind.ensures ∙ not-false c.is_table_kind.result c.if-not-is_table_kind.false-raw in
-    let some_cells : count_test c.args.cells ≡ true = sym c.count_ok.ensures ∙ not-false c.count_ok.result c.if-not-count_ok.false-raw in
-    let some_masks : masked_test kind ≡ true = lt-ltb 0 c.args.kind.depth (omega (arith, c.if-kind-eq0.false)) in
-    edit_refused kind c.args.cells c.args.rights.now table c.args.cell c.args.cell_masks.now c.args.value.now
-    (no_plane kind c.args.cells c.args.rights.now table c.args.cell c.args.cell_masks.now c.args.value.now
-    sound some_cells some_masks
-    (sym c.are_strict.ensures ∙ not-true c.are_strict.result c.if-not-are_strict.true-raw))
+    let a = c.args in
+    let table : Table = table_by a.masks.now a.starts.now a.lengths.now a.store.now in
+    no_plane (kind_of a.kind) a.cells a.rights.now table a.setting (shape_taken c.in_ok-new.field-0 c.in_ok-new.ensures)
+    (lt-ltb 0 a.kind.depth (omega (arith, c.if-kind-eq0.false))) (sym c.if-not-are_strict.ensures)
 
 pub returns-then-hides : goal.returns-then-hides
 returns-then-hides c =
-    let kind : Kind = kind_of c.args.kind in
-    let table : Table = table_by c.args.masks.now c.args.starts.now c.args.lengths.now c.args.store.now in
-    let sound : table_kind_test kind ≡ true = sym c.is_table_kind.ensures ∙ not-false c.is_table_kind.result c.if-not-is_table_kind.false-raw in
-    let some_cells : count_test c.args.cells ≡ true = sym c.count_ok.ensures ∙ not-false c.count_ok.result c.if-not-count_ok.false-raw in
-    let some_masks : masked_test kind ≡ true = lt-ltb 0 c.args.kind.depth (omega (arith, c.if-kind-eq0.false)) in
-    let plane : rights_test c.args.cells c.args.rights.now ≡ true =
-    sym c.are_strict.ensures ∙ not-false c.are_strict.result c.if-not-are_strict.false-raw in
-    let hides : c.hides.result ≡ ltb c.args.cell c.args.cells && not (permits c.args.rights.now c.args.cell) =
-    c.hides.ensures
-    ∙ ap (λ (n : ℕ). ltb c.args.cell n && not (permits c.args.rights.now c.args.cell))
-    (strict_bytes_ok c.args.cells c.args.rights.now plane).counted in
-    edit_refused kind c.args.cells c.args.rights.now table c.args.cell c.args.cell_masks.now c.args.value.now
-    (edit_hidden kind c.args.cells c.args.rights.now table c.args.cell c.args.cell_masks.now c.args.value.now
-    sound some_cells some_masks plane (sym hides ∙ c.if-hides.true)
-    ∙ ap (λ (m : ℕ). refuses m) (sym (c.hidden_refusal.ensures ∙ ap hidden_number c.preview_cell-preview.ensures)))
+    let a = c.args in
+    let table : Table = table_by a.masks.now a.starts.now a.lengths.now a.store.now in
+    let shaped = shape_taken c.in_ok-new.field-0 c.in_ok-new.ensures in
+    let some = lt-ltb 0 a.kind.depth (omega (arith, c.if-kind-eq0.false)) in
+    let plane = sym c.if-not-are_strict.ensures in
+    edit_hidden (kind_of a.kind) a.cells a.rights.now table a.setting shaped some plane
+    (of_count (kind_of a.kind) a.cells a.rights.now table a.setting shaped some plane c.if-hides.ensures)
+    (c.hidden_refusal.ensures ∙ ap hidden_number c.preview_cell.ensures)
 
 pub returns : goal.returns
 returns c =
-    let kind : Kind = kind_of c.args.kind in
-    let table : Table = table_by c.args.masks.now c.args.starts.now c.args.lengths.now c.args.store.now in
-    let sound : table_kind_test kind ≡ true = sym c.is_table_kind.ensures ∙ not-false c.is_table_kind.result c.if-not-is_table_kind.false-raw in
-    let some_cells : count_test c.args.cells ≡ true = sym c.count_ok.ensures ∙ not-false c.count_ok.result c.if-not-count_ok.false-raw in
-    let some_masks : masked_test kind ≡ true = lt-ltb 0 c.args.kind.depth (omega (arith, c.if-kind-eq0.false)) in
-    let plane : rights_test c.args.cells c.args.rights.now ≡ true =
-    sym c.are_strict.ensures ∙ not-false c.are_strict.result c.if-not-are_strict.false-raw in
-    let hides : c.hides.result ≡ ltb c.args.cell c.args.cells && not (permits c.args.rights.now c.args.cell) =
-    c.hides.ensures
-    ∙ ap (λ (n : ℕ). ltb c.args.cell n && not (permits c.args.rights.now c.args.cell))
-    (strict_bytes_ok c.args.cells c.args.rights.now plane).counted in
+    let a = c.args in
+    let table : Table = table_by a.masks.now a.starts.now a.lengths.now a.store.now in
+    let shaped = shape_taken c.in_ok-new.field-0 c.in_ok-new.ensures in
+    let some = lt-ltb 0 a.kind.depth (omega (arith, c.if-kind-eq0.false)) in
+    let plane = sym c.if-not-are_strict.ensures in
     c.set_cell.ensures
-    ∙ edit_shown kind c.args.cells c.args.rights.now table c.args.cell c.args.cell_masks.now c.args.value.now
-    sound some_cells some_masks plane (sym hides ∙ c.if-hides.false)
+    ∙ edit_shown (kind_of a.kind) a.cells a.rights.now table a.setting shaped some plane
+    (of_count (kind_of a.kind) a.cells a.rights.now table a.setting shaped some plane c.if-hides.ensures)

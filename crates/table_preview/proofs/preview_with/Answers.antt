@@ -1,90 +1,45 @@
 -- `preview_with` meets its contract: refusal 4, and then what a table and a setting that keep their rules give.
 -- Assumes nothing.
-use mathlib.Core.Path.{◌≡◌, sym, ap, ◌∙◌, subst}
-use mathlib.Core.Bool.{true}
-use mathlib.Core.List.{List}
-use Prim.Native.Nat.{ℕ, ◌≤◌}
+use mathlib.Core.Path.{sym, ap, ◌∙◌, subst}
+use Prim.Native.Nat.{ℕ}
 use native.Mathlib.Omega.{arith}
-use lib.ListN.{length, take}
-use borrow.Author.Tests.{not-true, not-false}
 use Rattle.array.specs.Answer.{map_answer}
-use Rattle.array.specs.Kind.{Kind}
 use Rattle.array.specs.Meaning.{kind_of}
 use Rattle.table.specs.Table.{Table}
-use Rattle.table.specs.Setting.{setting_test}
 use Rattle.table.specs.Calls.{looked_at}
-use Rattle.table.specs.Meaning.{table_by}
+use Rattle.table.specs.Meaning.{lent_table}
 use Rattle.table.specs.Walk.{InOrder}
 use Rattle.table.proofs.Walk.{in_order}
-use Rattle.table_check.specs.Told.{Lain}
 use Rattle.table_setting.specs.Settle.{setting_answer}
 use Rattle.table_setting.proofs.Outcomes.{broken, bad_setting, sound, answer_is}
 use Rattle.table_preview.proofs.Outcomes.{preview_is}
 use Rattle.table_preview.proofs.preview_with.Goals as goal
 
-pub check_cells-lies-requires : goal.check_cells-lies-requires
-check_cells-lies-requires c =
-    let p = c.requires in
-    (p.1.1, p.1.0, p.0.sound.shallow, p.2)
-
-pub returns-then-not-are_sound : goal.returns-then-not-are_sound
-returns-then-not-are_sound c =
-    let order : List ℕ = c.check_cells-lies.new.order in
-    let kind : Kind = kind_of c.args.kind in
-    let table : Table = table_by c.args.masks.now c.args.starts.now c.args.lengths.now c.args.store.now in
-    let count : ℕ = c.in-Some.count in
-    let lain : Lain kind.depth c.args.cells table order count =
-    c.in-Some.ensures in
-    preview_is kind c.args.cells table c.args.cell c.args.cell_masks.now c.args.value.now
-    (bad_setting c.requires.0 c.requires.1 table c.args.cell c.args.cell_masks.now c.args.value.now lain.sound
-    (sym c.are_sound.ensures ∙ not-true c.are_sound.result c.if-not-are_sound.true-raw))
-
-pub slice_bounds-preview_sound-end : goal.slice_bounds-preview_sound-end
-slice_bounds-preview_sound-end c =
-    let order : List ℕ = c.check_cells-lies.new.order in
-    let kind : Kind = kind_of c.args.kind in
-    let table : Table = table_by c.args.masks.now c.args.starts.now c.args.lengths.now c.args.store.now in
-    let count : ℕ = c.in-Some.count in
-    let lain : Lain kind.depth c.args.cells table order count =
-    c.in-Some.ensures in
-    let held : count ≤ length order = omega (arith, lain.few, c.requires.2, c.check_cells-lies.auto.order) in
-    held
+pub returns-then-not-are_strict : goal.returns-then-not-are_strict
+returns-then-not-are_strict c =
+    let a = c.args in
+    preview_is (kind_of a.shape.kind) a.shape.cells (lent_table a.table) a.setting
+    (bad_setting a.shape (lent_table a.table) a.setting c.in-Some.ensures.sound (sym c.if-not-are_strict.ensures))
 
 pub preview_sound-requires : goal.preview_sound-requires
 preview_sound-requires c =
-    let order : List ℕ = c.check_cells-lies.new.order in
-    let kind : Kind = kind_of c.args.kind in
-    let table : Table = table_by c.args.masks.now c.args.starts.now c.args.lengths.now c.args.store.now in
-    let count : ℕ = c.in-Some.count in
-    let lain : Lain kind.depth c.args.cells table order count =
-    c.in-Some.ensures in
-    let setting : setting_test kind.depth c.args.cell_masks.now ≡ true =
-    sym c.are_sound.ensures ∙ not-false c.are_sound.result c.if-not-are_sound.false-raw in
-    let ok = lain.sound in (
-      sound c.requires.0 c.requires.1 table c.args.cell c.args.cell_masks.now c.args.value.now ok setting (omega (arith, ok.starts_fit)),
-      subst (λ (n : ℕ). InOrder n table (take count order)) (sym ok.starts_fit) (in_order ok lain.order),
+    let a = c.args in
+    let table : Table = lent_table a.table in
+    let lain = c.in-Some.ensures in (
+      sound a.shape table a.setting lain.sound (sym c.if-not-are_strict.ensures) (omega (arith, lain.sound.starts_fit)),
+      subst (λ (n : ℕ). InOrder n table c.in-Some.numbers.now) (sym lain.sound.starts_fit) (in_order lain.sound lain.order),
     )
 
 pub returns-in_default : goal.returns-in_default
 returns-in_default c =
-    let kind : Kind = kind_of c.args.kind in
-    let table : Table = table_by c.args.masks.now c.args.starts.now c.args.lengths.now c.args.store.now in
-    preview_is kind c.args.cells table c.args.cell c.args.cell_masks.now c.args.value.now
-    (broken c.requires.0 c.requires.1 table c.args.cell c.args.cell_masks.now c.args.value.now
-    c.in_default.ensures)
+    let a = c.args in
+    preview_is (kind_of a.shape.kind) a.shape.cells (lent_table a.table) a.setting (broken a.shape (lent_table a.table) a.setting c.in_default.ensures)
 
 pub returns : goal.returns
 returns c =
-    let order : List ℕ = c.check_cells-lies.new.order in
-    let kind : Kind = kind_of c.args.kind in
-    let table : Table = table_by c.args.masks.now c.args.starts.now c.args.lengths.now c.args.store.now in
-    let count : ℕ = c.in-Some.count in
-    let lain : Lain kind.depth c.args.cells table order count =
-    c.in-Some.ensures in
-    let setting : setting_test kind.depth c.args.cell_masks.now ≡ true =
-    sym c.are_sound.ensures ∙ not-false c.are_sound.result c.if-not-are_sound.false-raw in
-    let ok = lain.sound in
+    let a = c.args in
+    let table : Table = lent_table a.table in
+    let ok = c.in-Some.ensures.sound in
     c.preview_sound.ensures
-    ∙ ap (λ (n : ℕ). map_answer (looked_at n) (setting_answer c.args.cell c.args.cell_masks.now c.args.value.now table)) ok.starts_fit
-    ∙ preview_is kind c.args.cells table c.args.cell c.args.cell_masks.now c.args.value.now
-    (answer_is c.requires.0 c.requires.1 table c.args.cell c.args.cell_masks.now c.args.value.now ok setting)
+    ∙ ap (λ (n : ℕ). map_answer (looked_at n) (setting_answer a.setting.cell a.setting.masks.now a.setting.value.now table)) ok.starts_fit
+    ∙ preview_is (kind_of a.shape.kind) a.shape.cells table a.setting (answer_is a.shape table a.setting ok (sym c.if-not-are_strict.ensures))

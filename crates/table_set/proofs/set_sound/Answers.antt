@@ -21,12 +21,12 @@ fit-requires c =
 pub returns-in_err-fitting : goal.returns-in_err-fitting
 returns-in_err-fitting c =
     let p = err_from_is_err_and c.from_residual.result c.from_residual.ensures.1 in
-    rw (p.1, p.2) (fits_by c.requires c.args.cell c.args.value.now c.in_err-fitting.ensures)
+    rw (p.1, p.2) (fits_by c.requires c.args.setting.cell c.args.setting.value.now c.in_err-fitting.ensures)
 
 pub settle-requires : goal.settle-requires
-settle-requires c = ready c.requires c.args.cell c.args.value.now (sym c.in_ok-fitting.ensures)
+settle-requires c = ready c.requires c.args.setting.cell c.args.setting.value.now (sym c.in_ok-fitting.ensures)
 
 pub returns : goal.returns
 returns c =
     let table : Table = table_by c.args.masks.now c.args.starts.now c.args.lengths.now c.args.store.now in
-    ap (λ (u : Table). left (gives u) table) c.settle.ensures ∙ fits_by c.requires c.args.cell c.args.value.now c.in_ok-fitting.ensures
+    ap (λ (u : Table). left (gives u) table) c.settle.ensures ∙ fits_by c.requires c.args.setting.cell c.args.setting.value.now c.in_ok-fitting.ensures
