@@ -2,4 +2,3 @@ pub mod Seen
 pub mod Outcomes
 pub mod Placed
 pub mod Values
-pub mod Forms

@@ -1,139 +1,126 @@
 // What a guest sees of ragged values: how many bytes, where each cell begins, and the bytes end to end.
-ghost use Rattle.std.specs.Prelude.{◌≡◌, ◌&&◌, ◌+◌, ◌*◌, ◌≤◌, ◌<◌, length, leb};
+ghost use Rattle.std.specs.Prelude.{◌≡◌, ◌+◌, ◌<◌, ◌≤◌, length};
 ghost use Rattle.array.specs.Buffers.{over, put_into};
+ghost use Rattle.array.specs.Content.{ValuesOk};
 ghost use Rattle.array.specs.Kind.{ragged, at_start};
-ghost use Rattle.array.specs.Limits.{most_depth};
-ghost use Rattle.array.specs.Lists.{from, pick, passing};
-ghost use Rattle.array.specs.Offsets.{last};
+ghost use Rattle.array.specs.Meaning.{lent};
 ghost use Rattle.array.specs.Outcome.{content_array, outcome_array};
-ghost use Rattle.array.specs.Places.{bytes_at, offset_at, shown_at};
-ghost use Rattle.live_cells.specs.Live.{Planes};
+ghost use Rattle.array.specs.Offsets.{last};
+ghost use Rattle.array.specs.Places.{shown_at};
+ghost use Rattle.live_cells.specs.Levels.{shown_in};
 ghost use Rattle.encode_data.specs.Offsets.{Offsets};
-ghost use Rattle.guest_read.specs.Seen.{seen_at, seen_content, places_by, Asked};
+ghost use Rattle.guest_read.specs.Seen.{bytes_seen, places_by, shown_by, seen_of};
 
-use crate::planes::put_masks;
+use crate::guest::Guest;
 use array::answer::Lengths;
+use array::content::ArrayBytes;
 use array::refusal::Refusal;
+use buffer::room::has_room;
+use encode_data::{LiveOffsets, LiveValues};
 use live_cells::Level;
-use mask_marks::one_if_set;
 
-// 1 where the plane and all masks show cell i, else 0: a product, so that what goes by it has no branch.
-fn seen_mark(rights: &[u8], masks: &[u8], cells: usize, depth: usize, i: usize) -> u8
-    requires { (i < length rights.now) × (i < cells) × (depth ≤ most_depth) × (depth * cells ≤ length masks.now) }
-    ensures { result ≡ pick (seen_at cells rights.now masks.now depth i) 1 0 }
+// Where each cell begins, and the last one ends, if those that the level counts lie end to end: a length by its mark, so that nothing
+// branches on a mask.
+#[inline(always)]
+fn put_each(out: &mut [u64], places: LiveOffsets)
+    requires { places.live.level.cells < length out.old }
+    ensures { out.new ≡ over (places_by (shown_in places.entry.live.level) places.entry.offsets.now (places.entry.live.level.cells + 1)) out.old }
 {
-    let level = Level {
-        masks,
-        cells,
-        depth,
-    };
-    one_if_set(rights[i]) * level.mark(i)
-}
-
-// Value bytes of the cells that are seen.
-fn seen_bytes(offsets: &[u64], rights: &[u8], masks: &[u8], cells: usize, depth: usize) -> usize
-    requires { Planes cells masks.now depth × (length rights.now ≡ cells) × Offsets cells offsets.now }
-    ensures { result ≡ bytes_at (offset_at offsets.now) (passing (seen_at cells rights.now masks.now depth) (from 0 cells)) }
-{
-    let mut total: usize = 0;
-    for i in 0..cells {
-        let mark = seen_mark(rights, masks, cells, depth, i) as u64;
-        let start = offsets[i];
-        let end = offsets[i + 1];
-        total += ((end - start) * mark) as usize;
-    }
-    total
-}
-
-// Whether they have room. Where all values have it, nothing need be summed up.
-fn has_room(
-    depth: usize,
-    cells: usize,
-    rights: &[u8],
-    masks: &[u8],
-    values: &[u8],
-    offsets: &[u64],
-    room: usize,
-) -> bool
-    requires { Planes cells masks.now depth × (length rights.now ≡ cells) × Offsets cells offsets.now × (last offsets.now ≡ length values.now) }
-    ensures { result ≡ leb (bytes_at (offset_at offsets.now) (passing (seen_at cells rights.now masks.now depth) (from 0 cells))) room }
-{
-    if values.len() <= room {
-        return true;
-    }
-    seen_bytes(offsets, rights, masks, cells, depth) <= room
-}
-
-// Where each cell begins, and the last one ends, if those that the plane shows lie end to end: a length by its mark, so that nothing branches on a mask.
-fn put_offsets(out: &mut [u64], offsets: &[u64], plane: &[u8], cells: usize)
-    requires { Planes cells plane.now 1 × Offsets cells offsets.now × (cells < length out.old) }
-    ensures { out.new ≡ over (places_by (shown_at cells plane.now 1) offsets.now (cells + 1)) out.old }
-{
+    let LiveOffsets { offsets, live } = places;
+    let level = live.level;
     let mut to: u64 = 0;
-    let level = Level {
-        masks: plane,
-        cells,
-        depth: 1,
-    };
-    for j in 0..cells {
+    for j in 0..level.cells {
         let mark = level.mark(j) as u64;
         let begin = offsets[j];
         let end = offsets[j + 1];
         out[j] = to;
         to += (end - begin) * mark;
     }
-    out[cells] = to;
+    out[level.cells] = to;
+}
+
+// The same of the cells that one plane shows.
+#[inline(never)]
+fn put_offsets(out: &mut [u64], places: LiveOffsets)
+    requires { (places.live.level.depth ≡ 1) × (places.live.level.cells < length out.old) }
+    ensures { out.new ≡ over (places_by (shown_in places.entry.live.level) places.entry.offsets.now (places.entry.live.level.cells + 1)) out.old }
+{
+    put_each(out, places.at_depth(1));
+}
+
+// The values that a plane shows, end to end, and where each begins and the last one ends. Says how many bytes they have.
+fn put_shown<'a>(
+    out_values: &mut [u8],
+    out_offsets: &mut [u64],
+    values: &'a [u8],
+    offsets: &'a [u64],
+    plane: &'a [u8],
+) -> usize
+    requires { Offsets (length plane.now) offsets.now × (last offsets.now ≡ length values.now) × (length plane.now < length out_offsets.old)
+        × (length (shown_by plane.now values.now offsets.now) ≤ length out_values.old) }
+    ensures wrote { result ≡ length (shown_by plane.now values.now offsets.now) }
+    ensures bytes { out_values.new ≡ over (shown_by plane.now values.now offsets.now) out_values.old }
+    ensures ends { out_offsets.new ≡ over (places_by (shown_at (length plane.now) plane.now 1) offsets.now (length plane.now + 1)) out_offsets.old }
+{
+    let level = Level {
+        masks: plane,
+        cells: plane.len(),
+        depth: 1,
+    };
+    let places = LiveOffsets {
+        offsets,
+        live: level.counted(),
+    };
+    put_offsets(out_offsets, places);
+    let shown = LiveValues { values, places };
+    shown.put(out_values, 0)
 }
 
 // What is shown of ragged values: 6, or all is stored. What the innermost plane shows, as it is written, is what is shown at all.
 pub fn read_ragged(
-    depth: usize,
-    cells: usize,
-    rights: &[u8],
-    masks: &[u8],
-    values: &[u8],
-    offsets: &[u64],
+    guest: Guest,
+    array: ArrayBytes,
     out_masks: &mut [u8],
     out_values: &mut [u8],
     out_offsets: &mut [u64],
 ) -> Result<Lengths, Refusal>
-    requires { Asked (ragged 8 at_start) depth cells rights.now (content_array masks.now values.now offsets.now) }
+    requires { ValuesOk (ragged 8 at_start) guest.level.cells (lent array) }
     ensures { outcome_array result out_masks.new out_values.new out_offsets.new
-        ≡ put_into (seen_content (ragged 8 at_start) depth cells rights.now (content_array masks.now values.now offsets.now))
+        ≡ put_into (seen_of (ragged 8 at_start) guest.entry array.entry.values.now array.entry.offsets.now)
         (content_array out_masks.old out_values.old out_offsets.old) }
 {
-    let planes = depth * cells;
-    let count = cells + 1;
+    let ArrayBytes {
+        values,
+        offsets,
+        ..
+    } = array;
+    let cells = guest.level.cells;
+    let planes = guest.level.depth * cells;
+    let ends = cells + 1;
     if out_masks.len() < planes {
         return Err(Refusal::Output);
     }
-    if out_offsets.len() < count {
+    if out_offsets.len() < ends {
         return Err(Refusal::Output);
     }
-    if !has_room(
-        depth,
-        cells,
-        rights,
-        masks,
+    let count = || -> usize
+        requires { Offsets guest.level.cells offsets.now }
+        ensures { result ≡ bytes_seen guest.entry offsets.entry.now }
+    { guest.bytes(offsets) };
+    if !has_room(values.len(), out_values.len(), count) {
+        return Err(Refusal::Output);
+    }
+    guest.put_masks(out_masks);
+    let bytes = put_shown(
+        out_values,
+        out_offsets,
         values,
         offsets,
-        out_values.len(),
-    ) {
-        return Err(Refusal::Output);
-    }
-    put_masks(out_masks, rights, masks, cells, depth);
-    let plane = &out_masks[planes - cells..planes];
-    let level = Level {
-        masks: plane,
-        cells,
-        depth: 1,
-    };
-    let shown = level.counted();
-    put_offsets(out_offsets, offsets, plane, cells);
-    let bytes = encode_data::put_live_data(out_values, 0, values, offsets, shown);
+        &out_masks[planes - cells..planes],
+    );
     Ok(Lengths {
         masks: planes,
         values: bytes,
-        offsets: count,
+        offsets: ends,
     })
 }

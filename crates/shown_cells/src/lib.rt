@@ -15,6 +15,9 @@ use decode_marks::if_set;
 use mask_marks::is_set;
 use word::{put_word, word_at};
 
+// Values, size and plane are no struct: each loop is compiled for the size that its call names, so that each call would make one anew with that
+// size and prove its field again, and what it asks of the output would stay.
+
 // Values of one byte: with no call and no branch in it, the loop becomes one over vectors.
 fn put_bytes(out: &mut [u8], values: &[u8], plane: &[u8])
     requires { ShownWithin out.old values.now 1 plane.now }
@@ -85,8 +88,7 @@ fn put_runs(out: &mut [u8], values: &[u8], size: usize, plane: &[u8])
     ensures { out.new ≡ over (shown_values size values.now plane.now) out.old }
 {
     let mut i: usize = 0;
-    // the next turn begins where this run ends, which no range counts; `chunk_by` over the plane would give the runs, and where they begin would
-    // still be counted
+    // the next turn begins where this run ends, which no range counts
     while i < plane.len() {
         let shown = is_set(plane, i);
         let end = run_end(plane, i, shown);
@@ -95,26 +97,8 @@ fn put_runs(out: &mut [u8], values: &[u8], size: usize, plane: &[u8])
     }
 }
 
-// Values of the sizes that no word has. Above two words a branch guessed wrong costs less than reading what is hidden: these go by runs.
-fn put_others(out: &mut [u8], values: &[u8], size: usize, plane: &[u8])
-    requires { ShownWithin out.old values.now size plane.now }
-    ensures { out.new ≡ over (shown_values size values.now plane.now) out.old }
-{
-    if size > 16 {
-        put_runs(out, values, size, plane);
-    } else if size > 8 {
-        put_ends(out, values, size, 8, plane);
-    } else if size > 4 {
-        put_ends(out, values, size, 4, plane);
-    } else if size > 2 {
-        put_ends(out, values, size, 2, plane);
-    } else {
-        put_runs(out, values, size, plane);
-    }
-}
-
-// The values of the cells that the plane shows, each at its place, and zero bytes elsewhere. Each size of a word has a loop of its own, in which
-// it is a constant.
+// The values of the cells that the plane shows, each at its place, and zero bytes elsewhere. Each size of a word has a loop of its own. Above
+// two words a branch guessed wrong costs less than reading what is hidden: these go by runs.
 pub fn put_shown(out: &mut [u8], values: &[u8], size: usize, plane: &[u8])
     requires { ShownWithin out.old values.now size plane.now }
     ensures { out.new ≡ over (shown_values size values.now plane.now) out.old }
@@ -122,8 +106,11 @@ pub fn put_shown(out: &mut [u8], values: &[u8], size: usize, plane: &[u8])
     match size {
         1 => put_bytes(out, values, plane),
         2 => put_words(out, values, 2, plane),
+        3 => put_ends(out, values, 3, 2, plane),
         4 => put_words(out, values, 4, plane),
+        5..=7 => put_ends(out, values, size, 4, plane),
         8 => put_words(out, values, 8, plane),
-        _ => put_others(out, values, size, plane),
+        9..=16 => put_ends(out, values, size, 8, plane),
+        _ => put_runs(out, values, size, plane),
     }
 }

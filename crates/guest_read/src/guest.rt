@@ -1,0 +1,54 @@
+// A guest before an array: what its rights plane shows of the cells.
+ghost use Rattle.std.specs.Prelude.{◌≡◌, ◌*◌, ◌≤◌, ◌<◌, length};
+ghost use Rattle.array.specs.Buffers.{over};
+ghost use Rattle.array.specs.Lists.{pick};
+ghost use Rattle.encode_data.specs.Offsets.{Offsets};
+ghost use Rattle.rest_masks.specs.Rested.{rest_planes};
+
+use live_cells::Level;
+use mask_marks::one_if_set;
+use rest_masks::put_planes;
+
+// A plane with a byte for each cell, and the cells' own masks, of one level at least.
+#[derive(Clone, Copy)]
+pub struct Guest<'r, 'a> {
+    pub rights: &'r [u8],
+    pub level: Level<'a>,
+    pub ghost masked: { 0 < level.depth },
+    pub ghost counted: { length rights.now ≡ level.cells },
+}
+
+impl<'r, 'a> Guest<'r, 'a> {
+    ghost use Rattle.guest_read.specs.Seen.{sees, masks_seen, bytes_seen};
+
+    // 1 where the plane and all masks show cell i, else 0: a product, so that what goes by it has no branch.
+    fn mark(self, i: usize) -> u8
+        requires { i < self.level.cells }
+        ensures { result ≡ pick (sees self.entry i) 1 0 }
+    {
+        one_if_set(self.rights[i]) * self.level.mark(i)
+    }
+
+    // Value bytes of the cells that are seen.
+    pub fn bytes(self, offsets: &[u64]) -> usize
+        requires { Offsets self.level.cells offsets.now }
+        ensures { result ≡ bytes_seen self.entry offsets.now }
+    {
+        let mut total: usize = 0;
+        for i in 0..self.level.cells {
+            let mark = self.mark(i) as u64;
+            let start = offsets[i];
+            let end = offsets[i + 1];
+            total += ((end - start) * mark) as usize;
+        }
+        total
+    }
+
+    // The masks of what is seen: the outermost one cleared where the plane hides a cell, and those below it in rest form.
+    pub fn put_masks(self, out: &mut [u8])
+        requires { self.level.depth * self.level.cells ≤ length out.old }
+        ensures { out.new ≡ over (rest_planes self.entry.level.cells (masks_seen self.entry) self.entry.level.depth) out.old }
+    {
+        put_planes(out, Some(self.rights), self.level);
+    }
+}
