@@ -9,13 +9,13 @@ ghost use Rattle.array.specs.Lists.{joined, pieces};
 ghost use Rattle.array.specs.Meaning.{order_of};
 ghost use Rattle.array.specs.Places.{fixed_at, values_at};
 ghost use Rattle.codec.specs.Values.{put_values};
-ghost use Rattle.word.specs.Word.{word_test};
 ghost use Rattle.live_cells.specs.Levels.{live_in};
 
 use array::kind::ByteOrder;
 use buffer::copy;
 use endian::cells;
 use live_cells::{Counted, Level};
+use word::WordSize;
 
 // All cells of values with no mask: as endian's copy_cells, which with one more caller would be a call of its own everywhere.
 pub fn put_all(out: &mut [u8], s: &[u8], size: usize, order: ByteOrder, cells: usize)
@@ -48,17 +48,25 @@ fn put_live_runs(out: &mut [u8], to: usize, s: &[u8], size: usize, order: ByteOr
 
 // The same of cells of a word's size, without a branch: a cell that the level does not count is written too, and the next is written over it.
 #[inline(always)]
-fn put_live_words(out: &mut [u8], to: usize, s: &[u8], size: usize, order: ByteOrder, live: Counted)
-    requires { (word_test size ≡ true) × (live.level.cells * size ≤ length s.now)
-        × (to + length (put_values (fixed size (order_of order)) (values_at (fixed_at 0 size) s.now (live_in live.level))) ≤ length out.old) }
-    ensures { out.new ≡ over_at to (put_values (fixed size (order_of order)) (values_at (fixed_at 0 size) s.now (live_in live.entry.level))) out.old }
+fn put_live_words(
+    out: &mut [u8],
+    to: usize,
+    s: &[u8],
+    size: WordSize,
+    order: ByteOrder,
+    live: Counted,
+)
+    requires { (live.level.cells * size.bytes ≤ length s.now)
+        × (to + length (put_values (fixed size.bytes (order_of order)) (values_at (fixed_at 0 size.bytes) s.now (live_in live.level))) ≤ length out.old) }
+    ensures { out.new
+        ≡ over_at to (put_values (fixed size.bytes (order_of order)) (values_at (fixed_at 0 size.bytes) s.now (live_in live.entry.level))) out.old }
 {
     let mut i = 0;
     let mut done = 0;
     // over a range of cells the last that counts would be a second test in each turn
     while done < live.count {
-        let v = word::word_at(s, i * size, size, order);
-        word::put_word(out, to + done * size, size, v);
+        let v = word::word_at(s, i * size.bytes, size, order);
+        word::put_word(out, to + done * size.bytes, size, v);
         done += live.level.mark(i) as usize;
         i += 1;
     }
@@ -70,13 +78,14 @@ fn put_level_words(
     out: &mut [u8],
     to: usize,
     s: &[u8],
-    size: usize,
+    size: WordSize,
     order: ByteOrder,
     live: Counted,
 )
-    requires { (word_test size ≡ true) × (live.level.cells * size ≤ length s.now)
-        × (to + length (put_values (fixed size (order_of order)) (values_at (fixed_at 0 size) s.now (live_in live.level))) ≤ length out.old) }
-    ensures { out.new ≡ over_at to (put_values (fixed size (order_of order)) (values_at (fixed_at 0 size) s.now (live_in live.entry.level))) out.old }
+    requires { (live.level.cells * size.bytes ≤ length s.now)
+        × (to + length (put_values (fixed size.bytes (order_of order)) (values_at (fixed_at 0 size.bytes) s.now (live_in live.level))) ≤ length out.old) }
+    ensures { out.new
+        ≡ over_at to (put_values (fixed size.bytes (order_of order)) (values_at (fixed_at 0 size.bytes) s.now (live_in live.entry.level))) out.old }
 {
     match live.level.depth {
         1 => put_live_words(out, to, s, size, order, live.at_depth(1)),
@@ -98,10 +107,10 @@ pub fn put_live(out: &mut [u8], to: usize, s: &[u8], size: usize, order: ByteOrd
         cells::copy_cells(out, to, s, 0, size, order, live.level.cells);
     } else {
         match size {
-            1 => put_level_words(out, to, s, 1, order, live),
-            2 => put_level_words(out, to, s, 2, order, live),
-            4 => put_level_words(out, to, s, 4, order, live),
-            8 => put_level_words(out, to, s, 8, order, live),
+            1 => put_level_words(out, to, s, WordSize { bytes: 1 }, order, live),
+            2 => put_level_words(out, to, s, WordSize { bytes: 2 }, order, live),
+            4 => put_level_words(out, to, s, WordSize { bytes: 4 }, order, live),
+            8 => put_level_words(out, to, s, WordSize { bytes: 8 }, order, live),
             _ => put_live_runs(out, to, s, size, order, live.level),
         }
     }

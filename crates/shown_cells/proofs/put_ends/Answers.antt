@@ -18,7 +18,7 @@ overflow_mul-j c =
 pub word_at-x-requires : goal.word_at-x-requires
 word_at-x-requires c =
     let source : let a = c.args in c.loop-j.j * a.size + a.size ≤ length a.values.now = cell_source c.loop-j.invariant c.loop-j-test.true in
-    let p = c.requires in (p.1, omega (arith, source, p.2))
+    omega (arith, source, c.requires.1)
 
 pub overflow_mul-j-in-loop-j : goal.overflow_mul-j-in-loop-j
 overflow_mul-j-in-loop-j c =
@@ -33,7 +33,7 @@ overflow_add-j c =
 pub word_at-y-requires : goal.word_at-y-requires
 word_at-y-requires c =
     let source : let a = c.args in c.loop-j.j * a.size + a.size ≤ length a.values.now = cell_source c.loop-j.invariant c.loop-j-test.true in
-    let p = c.requires in (p.1, omega (arith, source, p.2))
+    omega (arith, source, c.requires.1)
 
 pub overflow_mul-j-in-loop-j-2 : goal.overflow_mul-j-in-loop-j-2
 overflow_mul-j-in-loop-j-2 c =
@@ -43,7 +43,7 @@ overflow_mul-j-in-loop-j-2 c =
 pub put_word-requires : goal.put_word-requires
 put_word-requires c =
     let room : c.loop-j.j * c.args.size + c.args.size ≤ length c.loop-j.out = cell_room c.loop-j.invariant c.loop-j-test.true in
-    let p = c.requires in (p.1, omega (arith, room, p.2))
+    omega (arith, room, c.requires.1)
 
 pub overflow_mul-j-in-loop-j-3 : goal.overflow_mul-j-in-loop-j-3
 overflow_mul-j-in-loop-j-3 c =
@@ -58,12 +58,11 @@ overflow_add-j-in-loop-j c =
 pub put_word-requires-in-loop-j : goal.put_word-requires-in-loop-j
 put_word-requires-in-loop-j c =
     let room : c.loop-j.j * c.args.size + c.args.size ≤ length c.loop-j.out = cell_room c.loop-j.invariant c.loop-j-test.true in
-    let p = c.requires in
-    (p.1, omega (arith, room, p.2, c.put_word.auto.out))
+    omega (arith, room, c.requires.1, c.put_word.auto.out)
 
 pub loop-j-preserved : goal.loop-j-preserved
 loop-j-preserved c =
-    showing_words c.loop-j.invariant c.loop-j-test.true c.mark_of-mark.ensures c.args.word (omega (arith, c.requires.2)) (omega (arith, c.requires.3))
+    showing_words c.loop-j.invariant c.loop-j-test.true c.mark_of-mark.ensures c.args.word.bytes (omega (arith, c.requires.1)) (omega (arith, c.requires.2))
     c.word_at-x.result c.word_at-y.result c.word_at-x.ensures c.word_at-y.ensures c.if_set-first.ensures c.if_set-last.ensures
     c.put_word.ensures c.put_word-in-loop-j.ensures
 
