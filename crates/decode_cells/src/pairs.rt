@@ -28,14 +28,14 @@ fn pair_word(s: &[u8], at: usize, k: usize, word: usize, cells: usize, order: By
     requires { (k ≤ cells) × (word ≤ 1) × (at + cells * 16 ≤ length s.now) }
     ensures { le 8 result ≡ word_at 8 (order_of order) s.now at (2 * k + word) (2 * cells) }
 {
-    next_word(s, at, 2 * k + word, 2 * cells, WordSize { bytes: 8 }, order)
+    next_word(s, at, 2 * k + word, 2 * cells, WordSize::EIGHT, order)
 }
 
 fn put_pair(out: &mut [u8], at: usize, x: u64, y: u64)
     requires { at + 16 ≤ length «out».old }
     ensures { «out».new ≡ over_at at (le 8 x ++ le 8 y) «out».old }
 {
-    let size = WordSize { bytes: 8 };
+    let size = WordSize::EIGHT;
     put_word(out, at, size, x);
     put_word(out, at + 8, size, y);
 }

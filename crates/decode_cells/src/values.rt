@@ -33,10 +33,10 @@ pub fn spread_values(
     }
     // the size is a constant in each loop, so that it compiles to plain loads and stores
     match size {
-        1 => spread_words(values, masks, from, n, s, at, WordSize { bytes: 1 }, order, cells),
-        2 => spread_words(values, masks, from, n, s, at, WordSize { bytes: 2 }, order, cells),
-        4 => spread_words(values, masks, from, n, s, at, WordSize { bytes: 4 }, order, cells),
-        8 => spread_words(values, masks, from, n, s, at, WordSize { bytes: 8 }, order, cells),
+        1 => spread_words(values, masks, from, n, s, at, WordSize::ONE, order, cells),
+        2 => spread_words(values, masks, from, n, s, at, WordSize::TWO, order, cells),
+        4 => spread_words(values, masks, from, n, s, at, WordSize::FOUR, order, cells),
+        8 => spread_words(values, masks, from, n, s, at, WordSize::EIGHT, order, cells),
         16 => spread_pairs(values, masks, from, n, s, at, order, cells),
         _ => spread_runs(values, masks, from, n, s, at, size, order, cells),
     }

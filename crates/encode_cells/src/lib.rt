@@ -107,10 +107,10 @@ pub fn put_live(out: &mut [u8], to: usize, s: &[u8], size: usize, order: ByteOrd
         cells::copy_cells(out, to, s, 0, size, order, live.level.cells);
     } else {
         match size {
-            1 => put_level_words(out, to, s, WordSize { bytes: 1 }, order, live),
-            2 => put_level_words(out, to, s, WordSize { bytes: 2 }, order, live),
-            4 => put_level_words(out, to, s, WordSize { bytes: 4 }, order, live),
-            8 => put_level_words(out, to, s, WordSize { bytes: 8 }, order, live),
+            1 => put_level_words(out, to, s, WordSize::ONE, order, live),
+            2 => put_level_words(out, to, s, WordSize::TWO, order, live),
+            4 => put_level_words(out, to, s, WordSize::FOUR, order, live),
+            8 => put_level_words(out, to, s, WordSize::EIGHT, order, live),
             _ => put_live_runs(out, to, s, size, order, live.level),
         }
     }

@@ -45,13 +45,13 @@ pub fn copy_cells_reversed(
     if size < 4 {
         match size {
             1 => copy::copy_many(out, to, s, at, cells),
-            2 => copy_words(out, to, s, at, WordSize { bytes: 2 }, cells),
+            2 => copy_words(out, to, s, at, WordSize::TWO, cells),
             _ => copy_any(out, to, s, at, size, cells),
         }
     } else {
         match size {
-            4 => copy_words(out, to, s, at, WordSize { bytes: 4 }, cells),
-            8 => copy_words(out, to, s, at, WordSize { bytes: 8 }, cells),
+            4 => copy_words(out, to, s, at, WordSize::FOUR, cells),
+            8 => copy_words(out, to, s, at, WordSize::EIGHT, cells),
             _ => copy_others(out, to, s, at, size, cells),
         }
     }

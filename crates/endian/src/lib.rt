@@ -21,13 +21,13 @@ pub fn reverse_endianness(size: usize, bytes: &mut [u8]) -> Result<usize, Refusa
     if size < 4 {
         match size {
             1 => Ok(bytes.len()),
-            2 => Ok(in_place::reverse_words(bytes, WordSize { bytes: 2 })),
+            2 => Ok(in_place::reverse_words(bytes, WordSize::TWO)),
             _ => reverse_others(size, bytes),
         }
     } else {
         match size {
-            4 => Ok(in_place::reverse_words(bytes, WordSize { bytes: 4 })),
-            8 => Ok(in_place::reverse_words(bytes, WordSize { bytes: 8 })),
+            4 => Ok(in_place::reverse_words(bytes, WordSize::FOUR)),
+            8 => Ok(in_place::reverse_words(bytes, WordSize::EIGHT)),
             _ => reverse_others(size, bytes),
         }
     }

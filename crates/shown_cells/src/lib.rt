@@ -101,11 +101,11 @@ fn put_others(out: &mut [u8], values: &[u8], size: usize, plane: &[u8])
     if size > 16 {
         put_runs(out, values, size, plane);
     } else if size > 8 {
-        put_ends(out, values, size, WordSize { bytes: 8 }, plane);
+        put_ends(out, values, size, WordSize::EIGHT, plane);
     } else if size > 4 {
-        put_ends(out, values, size, WordSize { bytes: 4 }, plane);
+        put_ends(out, values, size, WordSize::FOUR, plane);
     } else if size > 2 {
-        put_ends(out, values, size, WordSize { bytes: 2 }, plane);
+        put_ends(out, values, size, WordSize::TWO, plane);
     } else {
         put_runs(out, values, size, plane);
     }
@@ -118,9 +118,9 @@ pub fn put_shown(out: &mut [u8], values: &[u8], size: usize, plane: &[u8])
 {
     match size {
         1 => put_bytes(out, values, plane),
-        2 => put_words(out, values, WordSize { bytes: 2 }, plane),
-        4 => put_words(out, values, WordSize { bytes: 4 }, plane),
-        8 => put_words(out, values, WordSize { bytes: 8 }, plane),
+        2 => put_words(out, values, WordSize::TWO, plane),
+        4 => put_words(out, values, WordSize::FOUR, plane),
+        8 => put_words(out, values, WordSize::EIGHT, plane),
         _ => put_others(out, values, size, plane),
     }
 }

@@ -18,6 +18,16 @@ pub struct WordSize {
     pub ghost word: { word_test bytes ≡ true },
 }
 
+impl WordSize {
+    pub const ONE: WordSize = WordSize { bytes: 1 };
+
+    pub const TWO: WordSize = WordSize { bytes: 2 };
+
+    pub const FOUR: WordSize = WordSize { bytes: 4 };
+
+    pub const EIGHT: WordSize = WordSize { bytes: 8 };
+}
+
 // The number of the N bytes at `at`, the highest first. N is a constant, so that it compiles to a load and a byte swap.
 fn big_number_at<const N: usize>(s: &[u8], at: usize) -> u64
     requires { (N ≤ 8) × (at + N ≤ length s.now) }
