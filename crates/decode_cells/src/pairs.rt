@@ -11,7 +11,7 @@ use array::mark::mark_of;
 use buffer::copy::fill_bytes;
 use decode_marks::{if_set, skip};
 use decode_words::next_word;
-use word::put_word;
+use word::{WordSize, put_word};
 
 // Which of a cell's two words is its first, in the array's byte order.
 fn first_word(order: ByteOrder) -> usize
@@ -28,15 +28,16 @@ fn pair_word(s: &[u8], at: usize, k: usize, word: usize, cells: usize, order: By
     requires { (k ≤ cells) × (word ≤ 1) × (at + cells * 16 ≤ length s.now) }
     ensures { le 8 result ≡ word_at 8 (order_of order) s.now at (2 * k + word) (2 * cells) }
 {
-    next_word(s, at, 2 * k + word, 2 * cells, 8, order)
+    next_word(s, at, 2 * k + word, 2 * cells, WordSize::EIGHT, order)
 }
 
 fn put_pair(out: &mut [u8], at: usize, x: u64, y: u64)
     requires { at + 16 ≤ length «out».old }
     ensures { «out».new ≡ over_at at (le 8 x ++ le 8 y) «out».old }
 {
-    put_word(out, at, 8, x);
-    put_word(out, at + 8, 8, y);
+    let size = WordSize::EIGHT;
+    put_word(out, at, size, x);
+    put_word(out, at + 8, size, y);
 }
 
 // As for one word: the next two are at hand for every cell until all are placed.

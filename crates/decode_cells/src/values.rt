@@ -10,6 +10,7 @@ use array::kind::ByteOrder;
 use buffer::copy::fill_bytes;
 use decode_words::spread_words;
 use endian::cells::copy_cells;
+use word::WordSize;
 
 // Writes the values of the n cells of the plane at `from`, of which `cells` are set: these from `at` on, the others as zero bytes.
 pub fn spread_values(
@@ -32,10 +33,10 @@ pub fn spread_values(
     }
     // the size is a constant in each loop, so that it compiles to plain loads and stores
     match size {
-        1 => spread_words(values, masks, from, n, s, at, 1, order, cells),
-        2 => spread_words(values, masks, from, n, s, at, 2, order, cells),
-        4 => spread_words(values, masks, from, n, s, at, 4, order, cells),
-        8 => spread_words(values, masks, from, n, s, at, 8, order, cells),
+        1 => spread_words(values, masks, from, n, s, at, WordSize::ONE, order, cells),
+        2 => spread_words(values, masks, from, n, s, at, WordSize::TWO, order, cells),
+        4 => spread_words(values, masks, from, n, s, at, WordSize::FOUR, order, cells),
+        8 => spread_words(values, masks, from, n, s, at, WordSize::EIGHT, order, cells),
         16 => spread_pairs(values, masks, from, n, s, at, order, cells),
         _ => spread_runs(values, masks, from, n, s, at, size, order, cells),
     }

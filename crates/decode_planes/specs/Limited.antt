@@ -3,7 +3,8 @@
 use Rattle.std.specs.Prelude.{ℕ, ◌≤◌}
 use Rattle.array.specs.Limits.{most_cells, most_depth}
 
--- the limits, checked before anything is read
+-- The limits, checked before anything is read. No struct carries them: `decode` calls two functions with them, once each, and a struct
+-- would be made there and taken apart at once, and of arrays with no mask there is no depth to keep in it.
 pub record Limited (d n : ℕ) : Type 0 where
   pub some : 1 ≤ n
   pub few : n ≤ most_cells

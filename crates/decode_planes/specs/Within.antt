@@ -33,7 +33,7 @@ pub record LevelsWithin (x : Masks) (masks : List ℕ) (n to left : ℕ) (s : Li
   pub count : cells ≡ count_set (take n (drop (to - n) masks))
   pub within : MasksWithin (mask_form x) left s at cells
 
--- all levels, the first frame at the front of s
+-- All levels, the first frame at the front of s. Like those above it is of masks that are written to, and each stands in one contract.
 pub record PlanesWithin (x : Masks) (masks : List ℕ) (n depth : ℕ) (s : List ℕ) : Type 0 where
   pub some : 1 ≤ n
   pub deep : 1 ≤ depth

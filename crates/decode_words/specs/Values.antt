@@ -10,7 +10,8 @@ use Rattle.codec.specs.Spread.{spread}
 abbrev pub values_over : ℕ → Order → List ℕ → List ℕ → List ℕ
 values_over size o p q = joined (spread (replicate size 0) p (map (ordered o) (pieces size (count_set p) q)))
 
--- for the plane of n cells at `from`, of which `cells` are set
+-- For the plane of n cells at `from`, of which `cells` are set. It stands in four contracts, since it speaks of the room in `values`,
+-- which is written to: clauses would see a struct that holds it as `out.exit.0.now`.
 pub record ValuesWithin (values masks : List ℕ) (from n : ℕ) (s : List ℕ) (at size cells : ℕ) : Type 0 where
   pub plane : from + n ≤ length masks
   pub count : cells ≡ count_set (take n (drop from masks))

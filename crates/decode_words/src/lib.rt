@@ -5,7 +5,6 @@ ghost use Rattle.std.specs.Prelude.{◌≡◌, true, ◌+◌, ◌*◌, ◌≤◌
 ghost use Rattle.array.specs.Bytes.{le};
 ghost use Rattle.array.specs.Buffers.{over};
 ghost use Rattle.array.specs.Meaning.{order_of};
-ghost use Rattle.word.specs.Word.{word_test};
 ghost use Rattle.decode_marks.specs.Next.{word_at};
 ghost use Rattle.decode_words.specs.Values.{values_over, ValuesWithin};
 
@@ -13,15 +12,22 @@ use array::kind::ByteOrder;
 use array::mark::mark_of;
 use buffer::copy::fill_bytes;
 use decode_marks::{if_set, skip};
-use word::{put_word, word_at};
+use word::{WordSize, put_word, word_at};
 
 // The stored word k, of `cells` words from `at` on, or 0 behind them.
-pub fn next_word(s: &[u8], at: usize, k: usize, cells: usize, size: usize, order: ByteOrder) -> u64
-    requires { (word_test size ≡ true) × (at + cells * size ≤ length s.now) }
-    ensures { le size result ≡ word_at size (order_of order) s.now at k cells }
+pub fn next_word(
+    s: &[u8],
+    at: usize,
+    k: usize,
+    cells: usize,
+    size: WordSize,
+    order: ByteOrder,
+) -> u64
+    requires { at + cells * size.bytes ≤ length s.now }
+    ensures { le size.bytes result ≡ word_at size.bytes (order_of order) s.now at k cells }
 {
     if k < cells {
-        word_at(s, at + k * size, size, order)
+        word_at(s, at + k * size.bytes, size, order)
     } else {
         0
     }
@@ -36,12 +42,12 @@ pub fn spread_words(
     n: usize,
     s: &[u8],
     at: usize,
-    size: usize,
+    size: WordSize,
     order: ByteOrder,
     cells: usize,
 )
-    requires { ValuesWithin values.old masks.now from n s.now at size cells × (word_test size ≡ true) }
-    ensures { values.new ≡ over (values_over size (order_of order) (take n (drop from masks.now)) (drop at s.now)) values.old }
+    requires { ValuesWithin values.old masks.now from n s.now at size.bytes cells }
+    ensures { values.new ≡ over (values_over size.bytes (order_of order) (take n (drop from masks.now)) (drop at s.now)) values.old }
 {
     let mut i = 0;
     let mut k = 0;
@@ -52,8 +58,8 @@ pub fn spread_words(
         let w = if_set(mark, v, 0);
         k = skip(mark, k, 1);
         v = next_word(s, at, k, cells, size, order);
-        put_word(values, i * size, size, w);
+        put_word(values, i * size.bytes, size, w);
         i += 1;
     }
-    fill_bytes(values, i * size, (n - i) * size, 0);
+    fill_bytes(values, i * size.bytes, (n - i) * size.bytes, 0);
 }

@@ -9,13 +9,13 @@ ghost use Rattle.array.specs.Lists.{joined, pieces};
 ghost use Rattle.array.specs.Meaning.{order_of};
 ghost use Rattle.array.specs.Places.{fixed_at, values_at};
 ghost use Rattle.codec.specs.Values.{put_values};
-ghost use Rattle.word.specs.Word.{word_test};
 ghost use Rattle.live_cells.specs.Levels.{live_in};
 
 use array::kind::ByteOrder;
 use buffer::copy;
 use endian::cells;
 use live_cells::{Counted, Level};
+use word::WordSize;
 
 // All cells of values with no mask: as endian's copy_cells, which with one more caller would be a call of its own everywhere.
 pub fn put_all(out: &mut [u8], s: &[u8], size: usize, order: ByteOrder, cells: usize)
@@ -65,17 +65,25 @@ fn put_level_runs(out: &mut [u8], to: usize, s: &[u8], size: usize, order: ByteO
 
 // The same of cells of a word's size, without a branch: a cell that the level does not count is written too, and the next is written over it.
 #[inline(always)]
-fn put_live_words(out: &mut [u8], to: usize, s: &[u8], size: usize, order: ByteOrder, live: Counted)
-    requires { (word_test size ≡ true) × (live.level.cells * size ≤ length s.now)
-        × (to + length (put_values (fixed size (order_of order)) (values_at (fixed_at 0 size) s.now (live_in live.level))) ≤ length out.old) }
-    ensures { out.new ≡ over_at to (put_values (fixed size (order_of order)) (values_at (fixed_at 0 size) s.now (live_in live.entry.level))) out.old }
+fn put_live_words(
+    out: &mut [u8],
+    to: usize,
+    s: &[u8],
+    size: WordSize,
+    order: ByteOrder,
+    live: Counted,
+)
+    requires { (live.level.cells * size.bytes ≤ length s.now)
+        × (to + length (put_values (fixed size.bytes (order_of order)) (values_at (fixed_at 0 size.bytes) s.now (live_in live.level))) ≤ length out.old) }
+    ensures { out.new
+        ≡ over_at to (put_values (fixed size.bytes (order_of order)) (values_at (fixed_at 0 size.bytes) s.now (live_in live.entry.level))) out.old }
 {
     let mut i = 0;
     let mut done = 0;
     // over a range of cells the last that counts would be a second test in each turn
     while done < live.count {
-        let v = word::word_at(s, i * size, size, order);
-        word::put_word(out, to + done * size, size, v);
+        let v = word::word_at(s, i * size.bytes, size, order);
+        word::put_word(out, to + done * size.bytes, size, v);
         done += live.level.mark(i) as usize;
         i += 1;
     }
@@ -94,12 +102,13 @@ fn put_level_words<const SIZE: usize>(
         × (to + length (put_values (fixed SIZE (order_of order)) (values_at (fixed_at 0 SIZE) s.now (live_in live.level))) ≤ length out.old) }
     ensures { out.new ≡ over_at to (put_values (fixed SIZE (order_of order)) (values_at (fixed_at 0 SIZE) s.now (live_in live.entry.level))) out.old }
 {
+    let size = WordSize { bytes: SIZE };
     match live.level.depth {
-        1 => put_live_words(out, to, s, SIZE, order, live.at_depth(1)),
-        2 => put_live_words(out, to, s, SIZE, order, live.at_depth(2)),
-        3 => put_live_words(out, to, s, SIZE, order, live.at_depth(3)),
-        4 => put_live_words(out, to, s, SIZE, order, live.at_depth(4)),
-        _ => put_live_words(out, to, s, SIZE, order, live),
+        1 => put_live_words(out, to, s, size, order, live.at_depth(1)),
+        2 => put_live_words(out, to, s, size, order, live.at_depth(2)),
+        3 => put_live_words(out, to, s, size, order, live.at_depth(3)),
+        4 => put_live_words(out, to, s, size, order, live.at_depth(4)),
+        _ => put_live_words(out, to, s, size, order, live),
     }
 }
 

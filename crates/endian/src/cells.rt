@@ -5,12 +5,11 @@ ghost use Rattle.array.specs.Kind.{ordered};
 ghost use Rattle.array.specs.Lists.{joined, pieces};
 ghost use Rattle.array.specs.Meaning.{order_of};
 ghost use Rattle.array.specs.Calls.{reversed_cells};
-ghost use Rattle.endian.specs.Sizes.{Narrow};
-ghost use Rattle.word.specs.Word.{word_test};
 
 use crate::{in_place, turned};
 use array::kind::ByteOrder;
 use buffer::{copy, field};
+use word::WordSize;
 
 pub fn copy_cells(
     out: &mut [u8],
@@ -46,13 +45,13 @@ pub fn copy_cells_reversed(
     if size < 4 {
         match size {
             1 => copy::copy_many(out, to, s, at, cells),
-            2 => copy_words(out, to, s, at, 2, cells),
+            2 => copy_words(out, to, s, at, WordSize::TWO, cells),
             _ => copy_any(out, to, s, at, size, cells),
         }
     } else {
         match size {
-            4 => copy_words(out, to, s, at, 4, cells),
-            8 => copy_words(out, to, s, at, 8, cells),
+            4 => copy_words(out, to, s, at, WordSize::FOUR, cells),
+            8 => copy_words(out, to, s, at, WordSize::EIGHT, cells),
             _ => copy_others(out, to, s, at, size, cells),
         }
     }
@@ -71,11 +70,11 @@ fn copy_others(out: &mut [u8], to: usize, s: &[u8], at: usize, size: usize, cell
 }
 
 // Cells of two, four or eight bytes: 64 bytes a turn, then cell by cell.
-fn copy_words(out: &mut [u8], to: usize, s: &[u8], at: usize, size: usize, cells: usize)
-    requires { Narrow size × (to + cells * size ≤ length «out».old) × (at + cells * size ≤ length s.now) }
-    ensures { «out».new ≡ over_at to (reversed_cells size cells (drop at s.now)) «out».old }
+fn copy_words(out: &mut [u8], to: usize, s: &[u8], at: usize, size: WordSize, cells: usize)
+    requires { (to + cells * size.bytes ≤ length «out».old) × (at + cells * size.bytes ≤ length s.now) }
+    ensures { «out».new ≡ over_at to (reversed_cells size.bytes cells (drop at s.now)) «out».old }
 {
-    let line = 64 / size;
+    let line = 64 / size.bytes;
     let lines = cells / line;
     for i in 0..lines {
         let k = i * 64;
@@ -83,7 +82,7 @@ fn copy_words(out: &mut [u8], to: usize, s: &[u8], at: usize, size: usize, cells
         copy_block(out, to + (k + 32), s, at + (k + 32), size);
     }
     for j in lines * line..cells {
-        let k = j * size;
+        let k = j * size.bytes;
         copy_word(out, to + k, s, at + k, size);
     }
 }
@@ -109,16 +108,16 @@ fn copy_any(out: &mut [u8], to: usize, s: &[u8], at: usize, size: usize, cells: 
 }
 
 // The cells of 32 bytes. All are read before the first is written.
-fn copy_block(out: &mut [u8], to: usize, s: &[u8], at: usize, size: usize)
-    requires { Narrow size × (to + 32 ≤ length «out».old) × (at + 32 ≤ length s.now) }
-    ensures { «out».new ≡ over_at to (reversed_cells size (32 / size) (drop at s.now)) «out».old }
+fn copy_block(out: &mut [u8], to: usize, s: &[u8], at: usize, size: WordSize)
+    requires { (to + 32 ≤ length «out».old) × (at + 32 ≤ length s.now) }
+    ensures { «out».new ≡ over_at to (reversed_cells size.bytes (32 / size.bytes) (drop at s.now)) «out».old }
 {
     out[to..to + 32].copy_from_slice(&turned::block_at(s, at, size));
 }
 
-fn copy_word(out: &mut [u8], to: usize, s: &[u8], at: usize, size: usize)
-    requires { (word_test size ≡ true) × (to + size ≤ length «out».old) × (at + size ≤ length s.now) }
-    ensures { «out».new ≡ over_at to (reverse (take size (drop at s.now))) «out».old }
+fn copy_word(out: &mut [u8], to: usize, s: &[u8], at: usize, size: WordSize)
+    requires { (to + size.bytes ≤ length «out».old) × (at + size.bytes ≤ length s.now) }
+    ensures { «out».new ≡ over_at to (reverse (take size.bytes (drop at s.now))) «out».old }
 {
     word::put_word(out, to, size, word::big_at(s, at, size));
 }

@@ -2,32 +2,30 @@
 ghost use Rattle.std.specs.Prelude.{◌≡◌, true, reverse, ◌+◌, ◌*◌, ◌/◌, ◌≤◌, length, take, drop};
 ghost use Rattle.array.specs.Buffers.{over_at};
 ghost use Rattle.array.specs.Calls.{reversed_cells, whole_cells};
-ghost use Rattle.endian.specs.Sizes.{Narrow};
-ghost use Rattle.word.specs.Word.{word_test};
 
 use crate::turned;
 use buffer::field;
+use word::WordSize;
 
 // Reverses each whole cell of two, four or eight bytes and says how many bytes these are: 64 bytes a turn, then cell by cell.
 // The size is a constant where it is called, so that each size has loops of its own.
-pub fn reverse_words(bytes: &mut [u8], size: usize) -> usize
-    requires { Narrow size }
-    ensures whole { result ≡ whole_cells size bytes.old }
-    ensures bytes { bytes.new ≡ over_at 0 (reversed_cells size (length bytes.old / size) bytes.old) bytes.old }
+pub fn reverse_words(bytes: &mut [u8], size: WordSize) -> usize
+    ensures whole { result ≡ whole_cells size.bytes bytes.old }
+    ensures bytes { bytes.new ≡ over_at 0 (reversed_cells size.bytes (length bytes.old / size.bytes) bytes.old) bytes.old }
 {
     let all = bytes.len();
-    let line = 64 / size;
+    let line = 64 / size.bytes;
     let lines = all / 64;
     for i in 0..lines {
         let k = i * 64;
         reverse_block(bytes, k, size);
         reverse_block(bytes, k + 32, size);
     }
-    let cells = all / size;
+    let cells = all / size.bytes;
     for j in lines * line..cells {
-        reverse_word(bytes, j * size, size);
+        reverse_word(bytes, j * size.bytes, size);
     }
-    cells * size
+    cells * size.bytes
 }
 
 // Cells of a size that no other function has. It is called from two places and is long, so that it stays a function of its own:
@@ -56,17 +54,17 @@ pub fn reverse_cells(bytes: &mut [u8], at: usize, size: usize, cells: usize) -> 
 }
 
 // The cells of 32 bytes. All are read before the first is written.
-fn reverse_block(bytes: &mut [u8], at: usize, size: usize)
-    requires { Narrow size × (at + 32 ≤ length bytes.old) }
-    ensures { bytes.new ≡ over_at at (reversed_cells size (32 / size) (drop at bytes.old)) bytes.old }
+fn reverse_block(bytes: &mut [u8], at: usize, size: WordSize)
+    requires { at + 32 ≤ length bytes.old }
+    ensures { bytes.new ≡ over_at at (reversed_cells size.bytes (32 / size.bytes) (drop at bytes.old)) bytes.old }
 {
     let block = turned::block_at(bytes, at, size);
     bytes[at..at + 32].copy_from_slice(&block);
 }
 
-fn reverse_word(bytes: &mut [u8], at: usize, size: usize)
-    requires { (word_test size ≡ true) × (at + size ≤ length bytes.old) }
-    ensures { bytes.new ≡ over_at at (reverse (take size (drop at bytes.old))) bytes.old }
+fn reverse_word(bytes: &mut [u8], at: usize, size: WordSize)
+    requires { at + size.bytes ≤ length bytes.old }
+    ensures { bytes.new ≡ over_at at (reverse (take size.bytes (drop at bytes.old))) bytes.old }
 {
     let v = word::big_at(bytes, at, size);
     word::put_word(bytes, at, size, v);

@@ -11,6 +11,7 @@ ghost use Rattle.array.specs.Meaning.{told};
 
 use array::refusal::Refusal;
 use valid::kind::MOST_SIZE;
+use word::WordSize;
 
 // Reverses each whole cell in place and says how many bytes these are; a shorter tail is left. A size that no fixed kind
 // has is refusal 1. Two tests and then few sizes each, so that no table of jumps stands before the sizes that most types have.
@@ -20,13 +21,13 @@ pub fn reverse_endianness(size: usize, bytes: &mut [u8]) -> Result<usize, Refusa
     if size < 4 {
         match size {
             1 => Ok(bytes.len()),
-            2 => Ok(in_place::reverse_words(bytes, 2)),
+            2 => Ok(in_place::reverse_words(bytes, WordSize::TWO)),
             _ => reverse_others(size, bytes),
         }
     } else {
         match size {
-            4 => Ok(in_place::reverse_words(bytes, 4)),
-            8 => Ok(in_place::reverse_words(bytes, 8)),
+            4 => Ok(in_place::reverse_words(bytes, WordSize::FOUR)),
+            8 => Ok(in_place::reverse_words(bytes, WordSize::EIGHT)),
             _ => reverse_others(size, bytes),
         }
     }

@@ -5,7 +5,6 @@ ghost use Rattle.std.specs.Prelude.{◌≡◌, true, ◌+◌, ◌≤◌, ◌<◌
 ghost use Rattle.array.specs.Buffers.{over, over_at};
 ghost use Rattle.array.specs.Cells.{set_test};
 ghost use Rattle.array.specs.Lists.{pick};
-ghost use Rattle.word.specs.Word.{word_test};
 ghost use Rattle.shown_cells.specs.Shown.{shown_values, ShownWithin, Alike};
 
 use array::kind::ByteOrder;
@@ -13,7 +12,7 @@ use array::mark::mark_of;
 use buffer::copy::{copy_many, fill_bytes};
 use decode_marks::if_set;
 use mask_marks::is_set;
-use word::{put_word, word_at};
+use word::{WordSize, put_word, word_at};
 
 // Values, size and plane are no struct: each loop is compiled for the size that its call names, so that each call would make one anew with that
 // size and prove its field again, and what it asks of the output would stay.
@@ -29,23 +28,23 @@ fn put_bytes(out: &mut [u8], values: &[u8], plane: &[u8])
 }
 
 // Values of a word's size: the word or 0, chosen without a branch.
-fn put_words(out: &mut [u8], values: &[u8], size: usize, plane: &[u8])
-    requires { ShownWithin out.old values.now size plane.now × (word_test size ≡ true) }
-    ensures { out.new ≡ over (shown_values size values.now plane.now) out.old }
+fn put_words(out: &mut [u8], values: &[u8], size: WordSize, plane: &[u8])
+    requires { ShownWithin out.old values.now size.bytes plane.now }
+    ensures { out.new ≡ over (shown_values size.bytes values.now plane.now) out.old }
 {
     for j in 0..plane.len() {
-        let v = word_at(values, j * size, size, ByteOrder::Little);
+        let v = word_at(values, j * size.bytes, size, ByteOrder::Little);
         let w = if_set(mark_of(plane[j]), v, 0);
-        put_word(out, j * size, size, w);
+        put_word(out, j * size.bytes, size, w);
     }
 }
 
 // Values of at least a word and at most two: the first word of each and the last, which share the bytes that both have.
-fn put_ends(out: &mut [u8], values: &[u8], size: usize, word: usize, plane: &[u8])
-    requires { ShownWithin out.old values.now size plane.now × (word_test word ≡ true) × (word ≤ size) × (size ≤ word + word) }
+fn put_ends(out: &mut [u8], values: &[u8], size: usize, word: WordSize, plane: &[u8])
+    requires { ShownWithin out.old values.now size plane.now × (word.bytes ≤ size) × (size ≤ word.bytes + word.bytes) }
     ensures { out.new ≡ over (shown_values size values.now plane.now) out.old }
 {
-    let behind = size - word;
+    let behind = size - word.bytes;
     for j in 0..plane.len() {
         let mark = mark_of(plane[j]);
         let x = word_at(values, j * size, word, ByteOrder::Little);
@@ -105,12 +104,12 @@ pub fn put_shown(out: &mut [u8], values: &[u8], size: usize, plane: &[u8])
 {
     match size {
         1 => put_bytes(out, values, plane),
-        2 => put_words(out, values, 2, plane),
-        3 => put_ends(out, values, 3, 2, plane),
-        4 => put_words(out, values, 4, plane),
-        5..=7 => put_ends(out, values, size, 4, plane),
-        8 => put_words(out, values, 8, plane),
-        9..=16 => put_ends(out, values, size, 8, plane),
+        2 => put_words(out, values, WordSize::TWO, plane),
+        3 => put_ends(out, values, 3, WordSize::TWO, plane),
+        4 => put_words(out, values, WordSize::FOUR, plane),
+        5..=7 => put_ends(out, values, size, WordSize::FOUR, plane),
+        8 => put_words(out, values, WordSize::EIGHT, plane),
+        9..=16 => put_ends(out, values, size, WordSize::EIGHT, plane),
         _ => put_runs(out, values, size, plane),
     }
 }

@@ -1,6 +1,7 @@
 -- Bytes and the numbers of them: any bytes are those of their number, in either order; and the sizes of a word.
 -- Assumes nothing.
-use mathlib.Core.Path.{◌≡◌, refl, ap, ◌∙◌}
+use mathlib.Core.Path.{◌≡◌, refl, sym, ap, subst, ◌∙◌}
+use mathlib.Core.Logic.{⊎_elim}
 use mathlib.Core.Bool.{true, false}
 use mathlib.Core.List.{List, [], ◌∷◌, reverse, reverse_aux}
 use Prim.Native.Nat.{ℕ, zero, suc, ◌+◌, ◌≤◌, ◌<◌}
@@ -8,6 +9,7 @@ use native.Mathlib.Omega.{arith}
 use lib.ListN.{length, take, drop, get_or, replicate, length-drop}
 use lib.Seq.{length-take-le}
 use borrow.Author.Tests.{ne_eqb, eqb-true}
+use Rattle.std.proofs.lemmas.Bool.Decides.{eqb_tells}
 use Rattle.array.specs.Bytes.{le, unle, AllBytes}
 use Rattle.array.specs.Kind.{Order, little, big, ordered}
 use Rattle.array.proofs.Bytes.{number_again, bytes_take, bytes_drop}
@@ -57,3 +59,11 @@ word_no k a b c d = rw (ne_eqb k 1 a, ne_eqb k 2 b, ne_eqb k 4 c, ne_eqb k 8 d)
 
 pub word_eight : (k : ℕ) → word_test k ≡ true → (k ≡ 1 → ⊥) → (k ≡ 2 → ⊥) → (k ≡ 4 → ⊥) → k ≡ 8
 word_eight k h a b c = eqb-true k 8 (rw (ne_eqb k 1 a, ne_eqb k 2 b, ne_eqb k 4 c) at h)
+
+-- what holds of 1, 2, 4 and 8 holds of each
+pub by_size : (P : ℕ → Type 0) → P 1 → P 2 → P 4 → P 8 → (k : ℕ) → word_test k ≡ true → P k
+by_size P one two four eight k h =
+    ⊎_elim (λ e. subst P (sym e.1) one) (λ a.
+    ⊎_elim (λ e. subst P (sym e.1) two) (λ b.
+    ⊎_elim (λ e. subst P (sym e.1) four) (λ c. subst P (sym (word_eight k h a.1 b.1 c.1)) eight)
+    (eqb_tells k 4)) (eqb_tells k 2)) (eqb_tells k 1)

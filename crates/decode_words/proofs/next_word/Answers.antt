@@ -6,5 +6,5 @@ use Rattle.decode_words.proofs.next_word.Goals as goal
 
 pub returns-else-k-cells : goal.returns-else-k-cells
 returns-else-k-cells c =
-    word_none c.args.size (order_of c.args.order) c.args.s.now c.args.at c.args.k
+    word_none c.args.size.bytes (order_of c.args.order) c.args.s.now c.args.at c.args.k
     c.args.cells c.if-k-cells.false

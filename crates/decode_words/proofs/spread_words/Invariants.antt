@@ -10,8 +10,8 @@ use Rattle.decode_words.proofs.SpreadingValues.{SpreadingValues}
 use Rattle.decode_words.proofs.spread_words.Given as goal
 
 abbrev pub invariant-loop-k : goal.invariant-loop-k
-invariant-loop-k l = SpreadingValues l.size (order_of l.order) (plane_at l.from l.n l.masks) l.s l.initial.values l.at l.cells l.values l.i l.k ×
-    (le l.size l.v ≡ word_at l.size (order_of l.order) l.s l.at l.k l.cells)
+invariant-loop-k l = SpreadingValues l.size.bytes (order_of l.order) (plane_at l.from l.n l.masks) l.s l.initial.values l.at l.cells l.values l.i l.k ×
+    (le l.size.bytes l.v ≡ word_at l.size.bytes (order_of l.order) l.s l.at l.k l.cells)
 
 abbrev pub decreases-loop-k : goal.decreases-loop-k
 decreases-loop-k l = l.n - l.i

@@ -8,7 +8,7 @@ use Rattle.encode_cells.proofs.Packing.{Packing}
 use Rattle.encode_cells.proofs.put_live_words.Given as goal
 
 abbrev pub invariant-loop-done : goal.invariant-loop-done
-invariant-loop-done l = Packing (shown_in l.live.level) l.live.level.cells (ordered_at (order_of l.order) l.size l.s) l.size l.initial.out l.to l.out l.i l.done
+invariant-loop-done l = Packing (shown_in l.live.level) l.live.level.cells (ordered_at (order_of l.order) l.size.bytes l.s) l.size.bytes l.initial.out l.to l.out l.i l.done
 
 abbrev pub decreases-loop-done : goal.decreases-loop-done
 decreases-loop-done l = l.live.level.cells - l.i

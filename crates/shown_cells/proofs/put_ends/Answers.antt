@@ -10,7 +10,7 @@ loop-j-init c = showing_begins c.requires.0
 
 pub loop-j-preserved : goal.loop-j-preserved
 loop-j-preserved c =
-    showing_words c.loop-j.invariant c.loop-j-test.true c.mark_of-mark.ensures c.args.word (omega (arith, c.requires.2)) (omega (arith, c.requires.3))
+    showing_words c.loop-j.invariant c.loop-j-test.true c.mark_of-mark.ensures c.args.word.bytes (omega (arith, c.requires.1)) (omega (arith, c.requires.2))
     c.word_at-x.result c.word_at-y.result c.word_at-x.ensures c.word_at-y.ensures c.if_set-first.ensures c.if_set-last.ensures
     c.put_word.ensures c.put_word-in-loop-j.ensures
 

@@ -12,11 +12,11 @@ use Rattle.word.proofs.word_at.Goals as goal
 pub returns-in-Little : goal.returns-in-Little
 returns-in-Little c =
     let a = c.args in
-    le_read little a.s.now (search rules) a.at a.size c.requires.1 c.little_at.ensures
-    ∙ ap (λ (o : ByteOrder). ordered (order_of o) (take a.size (drop a.at a.s.now))) (sym c.in-Little.is)
+    le_read little a.s.now (search rules) a.at a.size.bytes c.requires c.little_at.ensures
+    ∙ ap (λ (o : ByteOrder). ordered (order_of o) (take a.size.bytes (drop a.at a.s.now))) (sym c.in-Little.is)
 
 pub returns-in-Big : goal.returns-in-Big
 returns-in-Big c =
     let a = c.args in
-    le_read big a.s.now (search rules) a.at a.size c.requires.1 c.big_at.ensures ∙ ap
-    (λ (o : ByteOrder). ordered (order_of o) (take a.size (drop a.at a.s.now))) (sym c.in-Big.is)
+    le_read big a.s.now (search rules) a.at a.size.bytes c.requires c.big_at.ensures ∙ ap
+    (λ (o : ByteOrder). ordered (order_of o) (take a.size.bytes (drop a.at a.s.now))) (sym c.in-Big.is)

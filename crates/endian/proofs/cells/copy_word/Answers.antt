@@ -13,4 +13,4 @@ pub returns : goal.returns
 returns c =
     let a = c.args in
     c.put_word.ensures ∙ ap (λ (l : List ℕ). over_at a.to l a.out.now)
-    (le_read big a.s.now (search rules) a.at a.size c.requires.2 c.big_at.ensures)
+    (le_read big a.s.now (search rules) a.at a.size.bytes c.requires.1 c.big_at.ensures)

@@ -13,4 +13,4 @@ pub returns : goal.returns
 returns c =
     let a = c.args in
     c.put_word.ensures ∙ ap (λ (l : List ℕ). over_at a.at l a.bytes.now)
-    (le_read big a.bytes.now (search rules) a.at a.size c.requires.1 c.big_at-v.ensures)
+    (le_read big a.bytes.now (search rules) a.at a.size.bytes c.requires c.big_at-v.ensures)

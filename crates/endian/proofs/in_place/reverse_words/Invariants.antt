@@ -6,7 +6,7 @@ use Rattle.endian.proofs.Copying.{Copies}
 use Rattle.endian.proofs.in_place.reverse_words.Given as goal
 
 abbrev pub invariant-loop-i : goal.invariant-loop-i
-invariant-loop-i l = (l.i ≤ l.lines) × Copies l.initial.bytes 0 l.initial.bytes 0 l.size (l.all / l.size) l.bytes (l.i * l.line)
+invariant-loop-i l = (l.i ≤ l.lines) × Copies l.initial.bytes 0 l.initial.bytes 0 l.size.bytes (l.all / l.size.bytes) l.bytes (l.i * l.line)
 
 abbrev pub invariant-loop-j : goal.invariant-loop-j
-invariant-loop-j l = (d : List ℕ) → Copies d 0 d 0 l.size l.cells l.initial.bytes l.initial.j → Copies d 0 d 0 l.size l.cells l.bytes l.j
+invariant-loop-j l = (d : List ℕ) → Copies d 0 d 0 l.size.bytes l.cells l.initial.bytes l.initial.j → Copies d 0 d 0 l.size.bytes l.cells l.bytes l.j

@@ -6,18 +6,18 @@ use Rattle.std.proofs.Common.{rules, ◌≡◌, ◌+◌, ◌*◌, ℕ, List}
 use Rattle.array.specs.Buffers.{over_at}
 use Rattle.array.specs.Kind.{big}
 use Rattle.word.proofs.Words.{le_read}
-use Rattle.endian.proofs.Sizes.{narrow_block}
+use Rattle.endian.proofs.Sizes.{word_block}
 use Rattle.endian.proofs.Copying.{copies_next, copies_all}
 use Rattle.endian.proofs.turned.block_at.Goals as goal
 
 pub loop-i-preserved : goal.loop-i-preserved
 loop-i-preserved c =
     let a = c.args in
-    let place = c.loop-i.i * a.size in
+    let place = c.loop-i.i * a.size.bytes in
     let front : place ≡ 0 + place = omega arith in
     copies_next c.loop-i.invariant c.loop-i-test.true
     (c.put_word.ensures ∙ ap₂ (λ (j : ℕ) (l : List ℕ). over_at j l c.loop-i.block) front
-    (le_read big a.s.now (search rules) (a.at + place) a.size (search rules) c.big_at.ensures))
+    (le_read big a.s.now (search rules) (a.at + place) a.size.bytes (search rules) c.big_at.ensures))
 
 pub returns : goal.returns
-returns c = copies_all c.loop-i.invariant c.loop-i-test.false (narrow_block c.args.size c.requires.0) refl
+returns c = copies_all c.loop-i.invariant c.loop-i-test.false (word_block c.args.size.bytes c.args.size.word) refl

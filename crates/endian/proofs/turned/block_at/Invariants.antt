@@ -5,4 +5,4 @@ use Rattle.endian.proofs.Copying.{Copies}
 use Rattle.endian.proofs.turned.block_at.Given as goal
 
 abbrev pub invariant-loop-i : goal.invariant-loop-i
-invariant-loop-i l = Copies l.initial.block 0 l.s l.at l.size (32 / l.size) l.block l.i
+invariant-loop-i l = Copies l.initial.block 0 l.s l.at l.size.bytes (32 / l.size.bytes) l.block l.i
