@@ -2,14 +2,13 @@
 -- Assumes nothing.
 use mathlib.Core.Path.{◌≡◌, refl, sym, ap, ap₂, ◌∙◌, subst}
 use mathlib.Core.List.{List, [], ◌++◌, append_assoc}
-use Prim.Native.Nat.{ℕ, ◌+◌, ◌-◌, ◌<◌, ◌≤◌}
+use Prim.Native.Nat.{ℕ, ◌+◌, ◌-◌, ◌≤◌}
 use native.Mathlib.Omega.{arith}
 use native.Mathlib.Nat.{min-le_left, min-le_right}
 use lib.ListN.{length, take, drop, length-append, length-drop, length-take, take-append-drop}
 use lib.Seq.{drop-drop, take_all, take-add, take-take, take_at, drop_at, length-take-le, take-append-le, take-append-add, drop-append-add}
 use Rattle.array.specs.Buffers.{over, over_at}
 use Rattle.array.proofs.Over.{over_again, over_at_length}
-use Rattle.array.proofs.Laying.{laying_begins}
 use Rattle.interleaved_cells.specs.Cell.{Copied}
 
 -- the first `to` of `want` stand in what was d, what lies beyond `want` is as it was, and r is left
@@ -90,38 +89,19 @@ module _ {want d out : List ℕ} {to : ℕ} where
 
 -- ---- a cell in blocks
 
--- `done` bytes of s from `at` on were copied, k of them with some more
-pub record Blocks (k : ℕ) (s : List ℕ) (at to : ℕ) (out out' : List ℕ) (done : ℕ) : Type 0 where
-  pub most : done ≤ k + 31
-  pub are : out' ≡ over_at to (take done (drop at s)) out
+-- a block behind another: both are the front of s from `at` on
+pub two_blocks : (s : List ℕ) (at to : ℕ) (out : List ℕ) {out' out'' : List ℕ} → to ≤ length out → at + 32 ≤ length s → out' ≡ over_at to (take 32 (drop at s)) out
+    → out'' ≡ over_at (to + 32) (take 32 (drop (at + 32) s)) out' → out'' ≡ over_at to (take 64 (drop at s)) out
+two_blocks s at to out {out'} h l one e =
+    e ∙ ap₂ (λ (w v : List ℕ). over_at (to + 32) (take 32 w) v) (sym (drop-drop 32 at s)) one
+    ∙ over_again (take to out ++ part) more out (to + 32) (omega (arith, length-append (take to out) part, length-take-le to out h, long))
+    ∙ ap (λ (w : List ℕ). over w out) (append_assoc (take to out) part more ∙ ap (λ (w : List ℕ). take to out ++ w) (sym (take-add 32 32 (drop at s))))
+  where
+    part : List ℕ
+    part = take 32 (drop at s)
 
-pub blocks_begin : (k : ℕ) (s : List ℕ) (at to : ℕ) (out : List ℕ) → to ≤ length out → Blocks k s at to out out 0
-blocks_begin k s at to out h = record { most = omega arith; are = (laying_begins [] out to (omega arith)).here }
+    more : List ℕ
+    more = take 32 (drop 32 (drop at s))
 
-module _ {k : ℕ} {s : List ℕ} {at to : ℕ} {out out' : List ℕ} {done : ℕ} (b : Blocks k s at to out out' done) where
-  pub blocks_same : to + (k + 31) ≤ length out → length out' ≡ length out
-  blocks_same h =
-      let part = take done (drop at s) in
-      ap length b.are ∙ over_at_length to part out (omega (arith, b.most, length-take done (drop at s), min-le_left done (length (drop at s))))
-
-  pub blocks_next : done < k → to ≤ length out → at + done ≤ length s → {out'' : List ℕ} → out'' ≡ over_at (to + done) (take 32 (drop (at + done) s)) out'
-      → Blocks k s at to out out'' (done + 32)
-  blocks_next h g l e = record {
-    most = omega arith;
-    are =
-        e ∙ ap₂ (λ (w v : List ℕ). over_at (to + done) (take 32 w) v) (sym (drop-drop done at s)) b.are
-        ∙ over_again (take to out ++ part) more out (to + done) (omega (arith, length-append (take to out) part, length-take-le to out g, long))
-        ∙ ap (λ (w : List ℕ). over w out) (append_assoc (take to out) part more ∙ ap (λ (w : List ℕ). take to out ++ w) (sym (take-add done 32 (drop at s))));
-  }
-    where
-      part : List ℕ
-      part = take done (drop at s)
-
-      more : List ℕ
-      more = take 32 (drop done (drop at s))
-
-      long : length part ≡ done
-      long = length-take-le done (drop at s) (omega (arith, length-drop at s))
-
-  pub blocks_end : {room : ℕ} → k + 31 ≤ room → k ≤ done → Copied k room (drop at s) to out out'
-  blocks_end h g = record { count = done; enough = g; fits = omega (arith, b.most); done = b.are }
+    long : length part ≡ 32
+    long = length-take-le 32 (drop at s) (omega (arith, length-drop at s))

@@ -31,13 +31,14 @@ pub fn copy_exactly(values: &mut [u8], to: usize, bytes: &[u8], at: usize, size:
     }
 }
 
-// Copies a cell in blocks of 32 bytes, the last one with what lies behind the cell.
+// Copies a short cell as one block of 32 bytes or as two, the last one with what lies behind the cell.
 fn copy_blocks(values: &mut [u8], to: usize, bytes: &[u8], at: usize, size: usize, room: usize)
-    requires { (size + 31 ≤ room) × (to + room ≤ length values.old) × (at + room ≤ length bytes.now) }
+    requires { (size ≤ 64) × (size + 32 ≤ room) × (to + room ≤ length values.old) × (at + room ≤ length bytes.now) }
     ensures { Copied size room (drop at bytes.now) to values.old values.new }
 {
-    for done in (0..size).step_by(32) {
-        copy_few(values, to + done, bytes, at + done, 32);
+    copy_few(values, to, bytes, at, 32);
+    if 32 < size {
+        copy_few(values, to + 32, bytes, at + 32, 32);
     }
 }
 

@@ -76,7 +76,8 @@ fn cell_placed(size: u64, start: u64, len: u64) -> bool
     0 < len || start == 0
 }
 
-// Whether the n cells are placed so.
+// Whether the n cells are placed so. A function of its own: within what calls it the loop has a branch for each cell with no bytes.
+#[inline(never)]
 fn cells_placed(size: u64, n: usize, starts: &[u64], lengths: &[u64]) -> bool
     requires { (n ≤ length starts.now) × (n ≤ length lengths.now) }
     ensures { result ≡ placed_in size n starts.now lengths.now }

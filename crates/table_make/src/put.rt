@@ -42,6 +42,7 @@ pub fn put_places(starts: &mut [u64], lengths: &mut [u64], places: LiveOffsets)
     ensures lengths { lengths.new ≡ over (lengths_of places.entry) lengths.old }
 {
     match places.live.level.depth {
+        0 => put_each(starts, lengths, places.at_depth(0)),
         1 => put_each(starts, lengths, places.at_depth(1)),
         2 => put_each(starts, lengths, places.at_depth(2)),
         3 => put_each(starts, lengths, places.at_depth(3)),

@@ -23,6 +23,7 @@ pub fn counted(unpacked: usize, start: usize, packed: usize) -> usize
 }
 
 // Looks at the cells of the order, but for one.
+#[inline(never)]
 pub fn look_at(starts: &[u64], lengths: &[u64], order: &[u16], cell: usize) -> Others
     requires { Walkable starts.now lengths.now order.now }
     ensures { Found (offset_at starts.now) (offset_at lengths.now) cell order.now result.unpacked result.top }

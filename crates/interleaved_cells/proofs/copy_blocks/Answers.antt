@@ -1,19 +1,20 @@
--- `interleaved::cell::copy_blocks` meets its contract, by the laws of Placing.
+-- `interleaved_cells::copy_blocks` meets its contract: one block, or two by a law of Placing.
 -- Assumes nothing.
 use native.Mathlib.Omega.{arith}
-use Rattle.interleaved_cells.proofs.Placing.{blocks_next, blocks_end}
+use Rattle.interleaved_cells.proofs.Placing.{two_blocks}
 use Rattle.interleaved_cells.proofs.copy_blocks.Goals as goal
 
-pub loop-done-preserved : goal.loop-done-preserved
-loop-done-preserved c =
-    let pre = c.requires in
-    blocks_next c.loop-done.invariant c.loop-done-test.true (omega (arith, pre)) (omega (arith, pre, c.loop-done-test.true)) c.copy_few.ensures
+pub returns-then-size-gt32 : goal.returns-then-size-gt32
+returns-then-size-gt32 c =
+    let a = c.args in
+    record {
+      count = 64;
+      enough = omega (arith, c.requires);
+      fits = omega (arith, c.requires, c.if-size-gt32.true);
+      done = two_blocks a.bytes.now a.at a.to a.values.now (omega (arith, c.requires)) (omega (arith, c.requires, c.if-size-gt32.true))
+        c.copy_few.ensures c.copy_few-then-size-gt32.ensures
+    }
 
-pub returns : goal.returns
-returns c = blocks_end c.loop-done.invariant c.requires.0 c.loop-done-test.false
-
-pub returns-2 : goal.returns-2
-returns-2 c =
-    let pre = c.requires in
-    let last = blocks_next c.loop-done.invariant c.loop-done-test.true (omega (arith, pre)) (omega (arith, pre, c.loop-done-test.true)) c.copy_few.ensures in
-    blocks_end last pre.0 (omega arith)
+pub returns-else-size-gt32 : goal.returns-else-size-gt32
+returns-else-size-gt32 c =
+    record { count = 32; enough = omega (arith, c.if-size-gt32.false); fits = omega (arith, c.requires); done = c.copy_few.ensures }
