@@ -14,6 +14,7 @@ use array::refusal::Refusal;
 use valid::{array_bytes, shape};
 
 // Writes an array into its stored form. Refusals 1, 2, 4, 5 and 6, in this order; nothing is stored before the last check.
+#[tactic(auto, using(crate::proofs::Encodes::encode_laws), unfolding(array::specs::Limits::most_cells))]
 pub fn encode(
     kind: Kind,
     shape: &[u64],
@@ -31,6 +32,7 @@ pub fn encode(
 }
 
 // The same of valid content of `cells` cells: refusal 6, or its stored form.
+#[tactic(auto, using(crate::proofs::Encodes::written_laws))]
 fn encode_valid(
     kind: Kind,
     cells: usize,

@@ -31,8 +31,8 @@ fn put_cells(out: &mut [u8], values: &[u8], offsets: &[u64], cells: usize)
     field::put_u32(out, 0, cells as u64);
     let mut start: usize = 0;
     let mut at: usize = 4;
-    for i in 0..cells {
-        let end = offsets[i + 1] as usize;
+    for end in &offsets[1..] {
+        let end = *end as usize;
         let size = end - start;
         field::put_u32(out, at, size as u64);
         at += 4;
