@@ -17,6 +17,7 @@ use array::refusal::Refusal;
 use subset::walk::Subsets;
 
 // Stores chunks that passed the other checks, where their subsets cover the shape.
+#[tactic(auto, using(chunks::proofs::Gather::once_ok))]
 fn store_covering(
     kind: Kind,
     cells: usize,
@@ -48,6 +49,7 @@ fn store_covering(
 
 // Merges chunks, given by the numbers of their subsets and by their masks, values and offsets laid end to end in the list's order.
 // Ragged values come out end to end from offset 0; hidden values are kept.
+#[tactic(auto, using(crate::proofs::Steps::merge_refused))]
 pub fn merge(
     kind: Kind,
     shape: &[u64],

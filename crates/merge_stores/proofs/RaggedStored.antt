@@ -34,7 +34,13 @@ module _ {sh : List ℕ} {bs : List Subset} {d begins values src : List ℕ} (q 
         (asked_volume a) (subst (λ (bs : List Subset). RaggedChunks begins sh bs (drop first src)) t c.chunks)
 
     room : base + bytes_at (offset_at begins) (cells_in sh (pairs starts lens)) + bytes_at (offset_at begins) (cells_of_all sh later) ≤ length values
-    room = omega (arith, c.enough, ap (λ (bs : List Subset). bytes_at (offset_at begins) (cells_of_all sh bs)) t, bytes_append (offset_at begins) (cells_in sh (pairs starts lens)) (cells_of_all sh later))
+    room =
+        omega (
+          arith,
+          c.enough,
+          ap (λ (bs : List Subset). bytes_at (offset_at begins) (cells_of_all sh bs)) t,
+          bytes_append (offset_at begins) (cells_in sh (pairs starts lens)) (cells_of_all sh later),
+        )
 
     at_first : (k : ℕ) → offset_at (drop first src) (0 + k) ≡ offset_at src (first + k)
     at_first k = get_or-drop first src (0 + k) 0 ∙ ap (offset_at src) (omega arith)
@@ -45,7 +51,8 @@ module _ {sh : List ℕ} {bs : List Subset} {d begins values src : List ℕ} (q 
     -- the chunk's last offset says how many bytes it has
     bytes_now : bytes_at (offset_at begins) (cells_in sh (pairs starts lens)) ≡ offset_at src (first + m)
     bytes_now =
-        ap (bytes_at (offset_at begins)) (sym (take_all (length (cells_in sh (pairs starts lens))) (cells_in sh (pairs starts lens)) (omega arith))) ∙ now.1 (length (cells_in sh (pairs starts lens))) (omega arith) ∙ at_first (length (cells_in sh (pairs starts lens)))
+        let cs : List ℕ = cells_in sh (pairs starts lens) in
+        ap (bytes_at (offset_at begins)) (sym (take_all (length cs) cs (omega arith))) ∙ now.1 (length cs) (omega arith) ∙ at_first (length cs)
         ∙ ap (λ (k : ℕ). offset_at src (first + k)) (asked_count a)
 
     pub chunk_enough : base + offset_at src (first + m) ≤ length values

@@ -1,13 +1,12 @@
 -- `merge` meets its contract: it is its steps (proofs/Steps).
 -- Assumes nothing.
 use lib.ListN.{length}
-use Rattle.std.proofs.lemmas.Result.{err_from_is_err_and}
 use Rattle.array.specs.Meaning.{kind_of, lent}
 use Rattle.array.specs.Outcome.{content_array}
 use Rattle.subset.specs.Subsets.{SubsetsOk}
 use Rattle.array.specs.Subset.{subsets_of}
 use Rattle.merge_rules.specs.Checks.{MergeChecked}
-use Rattle.merge.proofs.Steps.{merge_refused, merge_checked, merge_stored}
+use Rattle.merge.proofs.Steps.{merge_checked, merge_stored}
 use Rattle.merge.proofs.merge.Goals.{In_ok-cells}
 use Rattle.merge.proofs.merge.Goals as goal
 
@@ -16,11 +15,6 @@ checked : (c : In_ok-cells) → let a = c.args in
 checked c =
     let a = c.args in
     merge_checked (kind_of a.kind) a.shape.now a.subsets.now (lent a.array) (content_array a.out_masks.now a.out_values.now a.out_offsets.now) c.in_ok-cells.cells c.in_ok-cells.ensures
-
-pub returns-in_err-cells : goal.returns-in_err-cells
-returns-in_err-cells c =
-    let p = err_from_is_err_and c.from_residual.result c.from_residual.ensures.1 in
-    rw (p.1, p.2) (merge_refused _ _ _ _ _ _ c.in_err-cells.ensures)
 
 pub new-requires : goal.new-requires
 new-requires c = (checked (goal.at.new-requires c).In_ok-cells).0
