@@ -2,7 +2,7 @@
 -- Assumes nothing.
 use mathlib.Core.Path.{◌≡◌, refl, sym, ap, ap₂, ◌∙◌}
 use Prim.Native.Nat.{ℕ, zero, suc, ◌+◌, ◌*◌, ◌≤◌, ◌<◌}
-use native.Mathlib.Nat.{zero-add, zero-mul, suc-add, suc-mul, mul-le-mul_right}
+use native.Mathlib.Nat.{zero-add, zero-mul, suc-add, suc-mul}
 use native.Mathlib.Numerals.{add-one}
 use native.Mathlib.Omega.{arith}
 use mathlib.Core.List.{List, [], ◌∷◌, ◌++◌, append_assoc, append-nil}
@@ -15,7 +15,6 @@ use Rattle.array.specs.Buffers.{over}
 use Rattle.array.proofs.Lists.{All-map, All-image}
 use Rattle.array.proofs.LayoutLaws.{length-mask_of}
 use Rattle.generate.specs.Cells.{set_masks, set_masks_by, column}
-use Rattle.generate.specs.Room.{Column}
 use Rattle.generate.proofs.Drawing.{FallsBy, Falls}
 
 pub column-length : (n at : ℕ) (ms out : List ℕ) → length (column n at ms out) ≡ length out
@@ -23,9 +22,6 @@ column-length n at [] out = refl
 column-length n at (m ∷ ms) out = column-length n (at + n) ms (set out at m) ∙ length-set out at m
 
 -- ---- the mask bytes of one cell: the loop over its levels
-
-suc-le : {k m : ℕ} → k < m → k + 1 ≤ m
-suc-le h = omega arith
 
 column_more : (n k at : ℕ) (out : List ℕ) → set (column n at (replicate k 1) out) (at + k * n) 1 ≡ column n at (replicate (k + 1) 1) out
 column_more n zero at out = ap (λ (j : ℕ). set out j 1) (let e : at + 0 * n ≡ at = omega (arith, zero-mul n) in e)
@@ -40,27 +36,12 @@ pub record Marking (d : List ℕ) (n at : ℕ) (out : List ℕ) (k place : ℕ) 
   pub here : place ≡ at + k * n
   pub stored : out ≡ column n at (replicate k 1) d
 
-pub mark_begins : (d : List ℕ) (n at : ℕ) → Marking d n at d 0 at
-mark_begins d n at = record { here = omega (arith, zero-mul n); stored = refl }
-
 module _ {d : List ℕ} {n at : ℕ} {out : List ℕ} {k place : ℕ} (c : Marking d n at out k place) where
-  pub mark_ends : {depth : ℕ} → k ≡ depth → out ≡ column n at (replicate depth 1) d
-  mark_ends e = c.stored ∙ ap (λ (j : ℕ). column n at (replicate j 1) d) e
-
-  pub mark_same : length out ≡ length d
-  mark_same = ap length c.stored ∙ column-length n at (replicate k 1) d
-
   next_place : place + n ≡ at + (k + 1) * n
   next_place = omega (arith, c.here, ap (λ (j : ℕ). j * n) (add-one k), suc-mul k n)
 
   pub mark_more : Marking d n at (set out place 1) (k + 1) (place + n)
   mark_more = record { here = next_place; stored = ap₂ (λ (x : List ℕ) (j : ℕ). set x j 1) c.stored c.here ∙ column_more n k at d }
-
-  pub mark_room : {depth : ℕ} → Column n at depth d → k < depth → place < length out
-  mark_room r h = omega (arith, next_place, mul-le-mul_right n (suc-le h), r.within, mark_same)
-
-  pub mark_small : {depth : ℕ} → Column n at depth d → k < depth → place + n ≤ 1048576
-  mark_small r h = omega (arith, next_place, mul-le-mul_right n (suc-le h), r.small)
 
 -- ---- the mask bytes of one cell after another
 

@@ -9,7 +9,7 @@ use mathlib.Core.List.{List, [], ◌∷◌, ◌++◌}
 use lib.ListN.{length, set, replicate}
 use Rattle.array.specs.Kind.{Form, null_of}
 use Rattle.array.specs.Cells.{Value, Cell, Mark, is_null, is_set, is_other, mark_of, blank, leaf}
-use Rattle.array.proofs.Laying.{Laying, laying_begins, laying_is, laying_same, laying_ends, laying_store, laying_part}
+use Rattle.array.proofs.Laying.{Laying, laying_begins, laying_is, laying_ends, laying_store, laying_part}
 use Rattle.array.specs.Buffers.{over_at}
 use Rattle.load.specs.Generator.{Drew, draw, draw_bytes}
 use Rattle.load.specs.Load.{length_by, level_by, draw_value, draw_cell}
@@ -30,9 +30,6 @@ above k r = record { made = k + r.made; state = r.state }
 pub record Climbing (depth s₀ s k : ℕ) : Type 0 where
   pub within : k ≤ depth
   pub is : set_levels depth s₀ ≡ above k (set_levels (depth - k) s)
-
-pub climb_begins : (depth s : ℕ) → Climbing depth s s 0
-climb_begins depth s = record { within = omega arith; is = simp (unary_clauses, zero-add) }
 
 module _ {depth s₀ s k : ℕ} (c : Climbing depth s₀ s k) where
   next_level : k < depth → {m : ℕ} → (draw s).made % 4 ≡ m → set_levels depth s₀ ≡ above k (levels_by m (draw s).state (set_levels (depth - (k + 1)) (draw s).state))
@@ -109,15 +106,6 @@ module _ {n s₀ : ℕ} {d : List ℕ} {to : ℕ} {out : List ℕ} {s i : ℕ} (
   store_ends h =
       let none : n - i ≡ 0 = omega arith in
       laying_ends (draw_bytes n s₀).made d to out i (laying_is k.laid (ap (λ (j : ℕ). (draw_bytes j s).made) none))
-
-  pub store_same : length out ≡ length d
-  store_same = laying_same (draw_bytes n s₀).made d to out i (draw_bytes (n - i) s).made k.laid
-
-  pub store_fits : to + n ≤ length out
-  store_fits = omega (arith, store_same, k.laid.room, drawn_length n s₀)
-
-  pub store_room : i < n → to + i < length out
-  store_room h = omega (arith, store_fits)
 
 -- a part of k bytes is drawn in one go
 more_bytes : (a b s : ℕ) → draw_bytes (a + b) s ≡ record { made = (draw_bytes a s).made ++ (draw_bytes b (draw_bytes a s).state).made; state = (draw_bytes b (draw_bytes a s).state).state }

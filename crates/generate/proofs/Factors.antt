@@ -3,8 +3,8 @@
 use mathlib.Core.Path.{◌≡◌, refl, sym, ap, ap₂, ◌∙◌}
 use mathlib.Core.Bool.{Bool, true, ◌&&◌}
 use mathlib.Core.List.{List, [], ◌∷◌}
-use Prim.Native.Nat.{ℕ, zero, suc, ◌+◌, ◌*◌, ◌/◌, ◌%◌, ◌<◌, ◌≤◌}
-use native.Mathlib.Nat.{zero-add, mul_comm, mul_assoc, add-mul, mod-add-div', add-mod-mod, mul-le-mul}
+use Prim.Native.Nat.{ℕ, zero, suc, ◌+◌, ◌*◌, ◌/◌, ◌%◌, ◌<◌}
+use native.Mathlib.Nat.{zero-add, mul_comm, mul_assoc, add-mul, mod-add-div', add-mod-mod}
 use native.Mathlib.Numerals.{add-one}
 use native.Mathlib.Omega.{arith}
 use lib.ListN.{get_or}
@@ -93,22 +93,3 @@ at j h = rw zero-add at (all_from Entry 0 16 (all_every Entry right entry (from 
 pub listed : (j s : ℕ) → j < 16 → ahead_by (get_or factors j 0) (get_or terms j 0) s ≡ (draw_bytes (j + 1) s).state
 listed j s h =
     ap₂ (λ (f t : ℕ). ahead_by f t s) (at j h).of_factor (at j h).of_term ∙ jump j s ∙ ap (λ (i : ℕ). (draw_bytes i s).state) (sym (add-one j))
-
--- ---- they have 32 bits
-
-factor_small : (j : ℕ) → factor j < 4294967296
-factor_small zero = omega arith
-factor_small (suc j) = omega arith
-
-term_small : (j : ℕ) → term j < 4294967296
-term_small zero = omega arith
-term_small (suc j) = omega arith
-
-pub listed_factor : (j : ℕ) → j < 16 → get_or factors j 0 < 4294967296
-listed_factor j h = rw (at j h).of_factor (factor_small j)
-
-pub listed_term : (j : ℕ) → j < 16 → get_or terms j 0 < 4294967296
-listed_term j h = rw (at j h).of_term (term_small j)
-
-pub product_small : (f s : ℕ) → f < 4294967296 → s < 4294967296 → f * s ≤ 18446744065119617025
-product_small f s h i = mul-le-mul {n₁ = f} {m₁ = s} {n₂ = 4294967295} {m₂ = 4294967295} (omega arith) (omega arith)

@@ -19,7 +19,7 @@ use Rattle.array.proofs.Offsets.{length-ends}
 use Rattle.array.proofs.Sizes.{OfSize}
 use Rattle.array.proofs.LayoutLaws.{length-masks_of, layout_values_ok}
 use Rattle.array.proofs.Over.{over-length}
-use Rattle.array.proofs.Laying.{Laying, laying_begins, laying_is, laying_same, laying_part, laying_store, laying_room, laying_ends}
+use Rattle.array.proofs.Laying.{Laying, laying_begins, laying_is, laying_same, laying_part, laying_store, laying_ends}
 use Rattle.load.specs.Generator.{Drew}
 use Rattle.load.specs.Load.{draw_cell, draw_cells}
 use Rattle.load.proofs.Drawn.{DrawnCell, drawn_cells, drawn_count, drawn_total}
@@ -166,12 +166,6 @@ place_begins f d n s o h = record {
 module _ {f : Form} {d n s₀ : ℕ} {o₀ o : List ℕ} {s at to : ℕ} (c : Placing f d n s₀ o₀ o s at to) where
   abbrev all_offsets : List ℕ
   all_offsets = offsets_of (leaves d (cells_from f d n s₀))
-
-  pub place_same : length o ≡ length o₀
-  place_same = laying_same all_offsets o₀ 0 o at (starts_from f d (n - at) s to) c.laid
-
-  pub place_room : at < length o
-  place_room = omega (arith, laying_room all_offsets o₀ 0 o at to (ends to (leaves d (cells_from f d (n - at) s))) c.laid)
 
   -- the next one is stored
   stored : Laying all_offsets o₀ 0 (set o at to) (at + 1) (ends to (leaves d (cells_from f d (n - at) s)))

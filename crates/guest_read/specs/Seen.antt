@@ -1,6 +1,6 @@
 -- Redundant by the law seen_is in guest_read/proofs/Seen.antt: what a guest sees of an array (S14.3), by cell numbers.
 -- Assumes nothing.
-use Rattle.std.specs.Prelude.{ℕ, Bool, ◌&&◌, List, map, length, get_or}
+use Rattle.std.specs.Prelude.{ℕ, Bool, ◌&&◌, List, map, length}
 use Rattle.array.specs.Lists.{from, pick, joined, passing}
 use Rattle.array.specs.Kind.{Form, null_of}
 use Rattle.array.specs.Content.{Content}
@@ -14,10 +14,6 @@ use Rattle.guest_read.specs.declared.guest.Guest.{Guest}
 -- cell j is shown by the plane and by all its masks
 abbrev pub seen_at : ℕ → List ℕ → List ℕ → ℕ → ℕ → Bool
 seen_at n rights ms d j = permits rights j && shown_at n ms d j
-
--- the outermost mask byte of cell j, where the plane shows it
-abbrev pub cleared_at : List ℕ → List ℕ → ℕ → ℕ
-cleared_at rights ms j = pick (permits rights j) (get_or ms j 0) 0
 
 -- n cells of d levels
 abbrev pub seen_content : Form → ℕ → ℕ → List ℕ → Content → Content

@@ -22,6 +22,7 @@ impl<'r, 'a> Guest<'r, 'a> {
     ghost use Rattle.guest_read.specs.Seen.{sees, masks_seen, bytes_seen};
 
     // 1 where the plane and all masks show cell i, else 0: a product, so that what goes by it has no branch.
+    #[inline(always)]
     fn mark(self, i: usize) -> u8
         requires { i < self.level.cells }
         ensures { result ≡ pick (sees self.entry i) 1 0 }
@@ -29,8 +30,21 @@ impl<'r, 'a> Guest<'r, 'a> {
         one_if_set(self.rights[i]) * self.level.mark(i)
     }
 
+    // The same, with the depth of the level as the caller writes it.
+    #[inline(always)]
+    fn at_depth(self, depth: usize) -> Guest<'r, 'a>
+        requires { depth ≡ self.level.depth }
+        ensures { result ≡ self.entry }
+    {
+        Guest {
+            rights: self.rights,
+            level: self.level.at_depth(depth),
+        }
+    }
+
     // Value bytes of the cells that are seen.
-    pub fn bytes(self, offsets: &[u64]) -> usize
+    #[inline(always)]
+    fn sum(self, offsets: &[u64]) -> usize
         requires { Offsets self.level.cells offsets.now }
         ensures { result ≡ bytes_seen self.entry offsets.now }
     {
@@ -42,6 +56,20 @@ impl<'r, 'a> Guest<'r, 'a> {
             total += ((end - start) * mark) as usize;
         }
         total
+    }
+
+    // The same by level, each loop compiled for its own: in a function of their own, so that their pointers stay in registers.
+    #[inline(never)]
+    pub fn bytes(self, offsets: &[u64]) -> usize
+        requires { Offsets self.level.cells offsets.now }
+        ensures { result ≡ bytes_seen self.entry offsets.now }
+    {
+        match self.level.depth {
+            1 => self.at_depth(1).sum(offsets),
+            2 => self.at_depth(2).sum(offsets),
+            3 => self.at_depth(3).sum(offsets),
+            _ => self.at_depth(4).sum(offsets),
+        }
     }
 
     // The masks of what is seen: the outermost one cleared where the plane hides a cell, and those below it in rest form.

@@ -11,7 +11,7 @@ use lib.Seq.{length-take-le, get_or-append-add}
 use Rattle.array.specs.Lists.{from}
 use Rattle.array.specs.Buffers.{over_at}
 use Rattle.array.proofs.Lists.{length_from_lem}
-use Rattle.array.proofs.Laying.{Laying, laying_begins, laying_same, laying_ends, laying_store, laying_is, laying_room, laying_before}
+use Rattle.array.proofs.Laying.{Laying, laying_begins, laying_same, laying_ends, laying_store, laying_is}
 
 -- f of the first j of n cells lies at `to` in what was d
 pub record Numbering (f : ℕ → ℕ) (n : ℕ) (d : List ℕ) (to : ℕ) (out : List ℕ) (j : ℕ) : Type 0 where
@@ -36,19 +36,12 @@ module _ {f : ℕ → ℕ} {n : ℕ} {d : List ℕ} {to : ℕ} {out : List ℕ} 
   pub number_same : length out ≡ length d
   number_same = laying_same (map f (from 0 n)) d to out j _ c.laid
 
-  -- what lies before is as it was
-  pub number-before : (k : ℕ) → k < to → get_or out k 0 ≡ get_or d k 0
-  number-before = laying_before (map f (from 0 n)) d to out j _ c.laid
-
   pub number-ends : n ≤ j → out ≡ over_at to (map f (from 0 n)) d
   number-ends h =
       let none : n - j ≡ 0 = omega arith in
       laying_ends (map f (from 0 n)) d to out j (laying_is c.laid (ap (λ (k : ℕ). map f (from j k)) none))
 
   module _ (h : j < n) where
-    pub number_room : to + j < length out
-    number_room = laying_room (map f (from 0 n)) d to out j (f j) _ (laying_is c.laid (next f h))
-
     pub number_more : {x k : ℕ} → x ≡ f j → k ≡ to + j → Numbering f n d to (set out k x) (j + 1)
     number_more {x} {k} ex ek = record {
       within = omega arith;

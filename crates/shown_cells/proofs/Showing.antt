@@ -1,15 +1,13 @@
 -- Writing the values of the cells that a plane shows: what is left to write, cell by cell or run by run.
 -- Assumes nothing.
 use mathlib.Core.Path.{◌≡◌, refl, sym, ap, ap₂, ◌∙◌, subst}
-use mathlib.Core.Bool.{Bool, true, false, not, beq}
+use mathlib.Core.Bool.{Bool, true, false}
 use mathlib.Core.List.{List, [], ◌∷◌, ◌++◌, map, append-nil}
 use Prim.Native.Nat.{ℕ, zero, suc, ◌+◌, ◌-◌, ◌*◌, ◌≤◌, ◌<◌}
 use native.Mathlib.Omega.{arith}
 use native.Mathlib.Nat.{zero-add, zero-mul, one-mul, mul-one, add-mul, sub-zero, le_refl, mul-le-mul_right}
 use lib.ListN.{length, take, drop, get_or, set, replicate, length-map, length-replicate}
-use lib.Dec.{ltb}
 use lib.Seq.{drop-cons}
-use borrow.Author.Tests.{ltb-true, ltb-false}
 use Rattle.array.specs.Lists.{pick, from, joined}
 use Rattle.array.specs.Bytes.{le}
 use Rattle.array.specs.Kind.{Kind, Form, Order, fixed, null_of}
@@ -179,30 +177,6 @@ module _ {vs plane d out : List ℕ} {j : ℕ} (s : Showing 1 vs plane d out j) 
       one is_other b = refl
 
 -- ---- cells that are all shown, or all not
-
-pub alike_begins : {plane : List ℕ} {shown : Bool} {i : ℕ} → i < length plane → set_test (get_or plane i 0) ≡ shown → Alike plane shown i (i + 1)
-alike_begins {plane} {shown} {i} h e = record {
-  some = omega arith;
-  within = omega arith;
-  alike = λ j a b. let q : j ≡ i = omega arith in ap (λ (k : ℕ). set_test (get_or plane k 0)) q ∙ e;
-}
-
--- the next cell is no other
-module _ {plane : List ℕ} {shown : Bool} {i e : ℕ} (a : Alike plane shown i e) where
-  pub alike_more : {t : Bool} → t ≡ set_test (get_or plane e 0) → not (beq t shown) ≡ false → e < length plane → Alike plane shown i (e + 1)
-  alike_more {t} et f h = record { some = omega (arith, a.some); within = omega arith; alike = λ j l u. go (ltb j e) refl l u }
-    where
-      same : (b c : Bool) → not (beq b c) ≡ false → b ≡ c
-      same true true e = refl
-      same true false e = cc
-      same false true e = cc
-      same false false e = refl
-
-      go : (b : Bool) {j : ℕ} → ltb j e ≡ b → i ≤ j → j < e + 1 → set_test (get_or plane j 0) ≡ shown
-      go true {j} q l u = a.alike j l (ltb-true j e q)
-      go false {j} q l u =
-          let last : j ≡ e = omega (arith, ltb-false j e q) in
-          ap (λ (k : ℕ). set_test (get_or plane k 0)) last ∙ sym et ∙ same t shown f
 
 -- they are written at once
 module _ {size : ℕ} {vs plane d out : List ℕ} {i : ℕ} (s : Showing size vs plane d out i) {shown : Bool} {e : ℕ} (a : Alike plane shown i e) where

@@ -1,9 +1,9 @@
--- `guest::Guest::bytes` meets its contract, by the laws of Summing.
+-- `guest::Guest::sum` meets its contract, by the laws of Summing.
 -- Assumes nothing.
 use Prim.Native.Nat.{◌+◌}
 use native.Mathlib.Omega.{arith}
 use Rattle.encode_data.proofs.Summing.{summing_ends, summing_rises, summing_fits}
-use Rattle.guest_read.proofs.guest.Guest.bytes.Goals as goal
+use Rattle.guest_read.proofs.guest.Guest.sum.Goals as goal
 
 pub overflow_sub-total : goal.overflow_sub-total
 overflow_sub-total c = summing_rises c.loop-i.invariant c.loop-i-test.true
