@@ -15,13 +15,3 @@ pub returns-then-size-lt8 : goal.returns-then-size-lt8
 returns-then-size-lt8 c =
     let args = c.args in
     field_short 8 7 args.s.now (args.at + length_at (place_of args.place) (length args.s.now - args.at)) (omega arith)
-
-pub overflow_add-at : goal.overflow_add-at
-overflow_add-at c =
-    let args = c.args in
-    omega (arith, c.length_at.ensures, length-within (place_of args.place) (length args.s.now - args.at) (omega arith))
-
-pub returns : goal.returns
-returns c =
-    let args = c.args in
-    c.read_u64.ensures ∙ ap (λ (k : ℕ). field_at 8 7 args.s.now (args.at + k)) c.length_at.ensures
