@@ -8,14 +8,13 @@ use lib.ListN.{length, take, drop, length-drop}
 use Rattle.array.specs.Answer.{Answer, map_answer}
 use Rattle.array.specs.Bytes.{unle}
 use Rattle.array.specs.Kind.{Place}
-use Rattle.array.specs.Meaning.{width_of, place_of, told}
+use Rattle.array.specs.Meaning.{width_of, place_of}
 use Rattle.buffer.proofs.Fields.{field_value, field_refused}
 use Rattle.codec.specs.Ragged.{length_at, index_at, data_at}
 use Rattle.array.proofs.Answers.{told_same}
 use Rattle.stored_index.specs.declared.Index.{Index}
 use Rattle.stored_index.specs.Index.{offsets_in, indexed_by, index_check, index_in, index_with, located, found_in}
 use Rattle.stored_index.proofs.IndexLaws.{length_short, read_none, read_short, found_other, found_index}
-use Rattle.stored_index.proofs.CheckedIndex.{index_within, data-within}
 use Rattle.stored_index.proofs.find_index.Goals as goal
 
 pub returns-in_default : goal.returns-in_default

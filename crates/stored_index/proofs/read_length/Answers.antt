@@ -1,14 +1,11 @@
 -- `read_length` meets its contract: too few bytes, or the field at its place.
 -- Assumes nothing.
-use mathlib.Core.Path.{ap, ◌∙◌}
-use Prim.Native.Nat.{ℕ, ◌+◌, ◌-◌}
+use Prim.Native.Nat.{◌+◌, ◌-◌}
 use native.Mathlib.Omega.{arith}
 use lib.ListN.{length}
 use Rattle.array.specs.Meaning.{place_of}
-use Rattle.buffer.specs.Field.{field_at}
 use Rattle.buffer.proofs.Fields.{field_short}
 use Rattle.codec.specs.Ragged.{length_at}
-use Rattle.stored_index.proofs.IndexLaws.{length-within}
 use Rattle.stored_index.proofs.read_length.Goals as goal
 
 pub returns-then-size-lt8 : goal.returns-then-size-lt8

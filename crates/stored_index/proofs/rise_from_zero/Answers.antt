@@ -9,7 +9,7 @@ use lib.ListN.{take, drop}
 use Rattle.array.specs.Bytes.{unle}
 use Rattle.array.specs.Offsets.{rising_test}
 use Rattle.stored_index.specs.Index.{offsets_in}
-use Rattle.stored_index.proofs.IndexLaws.{Rises, rises_falls, rises_more, rises_last}
+use Rattle.stored_index.proofs.IndexLaws.{Rises, rises_falls, rises_more}
 use Rattle.stored_index.proofs.rise_from_zero.Goals as goal
 
 pub returns-then-next-prev : goal.returns-then-next-prev

@@ -3,7 +3,7 @@
 use Rattle.array.specs.Limits.{most_bytes}
 use Rattle.array.specs.Content.{Content}
 use Rattle.array.specs.Meaning.{kind_of, lent}
-use Rattle.valid.proofs.CheckLaws.{check_four, check_five, check_gives}
+use Rattle.valid.proofs.CheckLaws.{check_five, check_gives}
 use Rattle.valid.proofs.array_bytes.check_array.Goals as goal
 
 pub returns-then-array-gt-MOST_BYTES : goal.returns-then-array-gt-MOST_BYTES

@@ -3,8 +3,8 @@
 use native.Mathlib.Omega.{arith}
 use Rattle.array.specs.Limits.{most_cells}
 use Rattle.array.specs.Content.{Content}
-use Rattle.array.specs.Meaning.{lent, order_of, width_of, place_of}
-use Rattle.valid.proofs.CheckLaws.{small_product, masks_differ, by_form, bytes_differ, bytes_agree, offsets_miscounted, offsets_fall, offsets_rise}
+use Rattle.array.specs.Meaning.{lent, width_of, place_of}
+use Rattle.valid.proofs.CheckLaws.{small_product, by_form, offsets_rise}
 use Rattle.valid.proofs.array_bytes.content_fits.Goals as goal
 
 pub overflow_mul-depth : goal.overflow_mul-depth

@@ -1,7 +1,7 @@
 -- `shape_cells` meets its contract: the sides from k on are counted, and each is limited before it is multiplied (proofs/ShapeLaws).
 -- Assumes nothing.
 use native.Mathlib.Omega.{arith}
-use Rattle.valid.proofs.ShapeLaws.{sides_begin, sides_more, sides_end, no_sides, many_sides, no_side, long_side, many_cells, side_fits}
+use Rattle.valid.proofs.ShapeLaws.{sides_end, no_sides, many_sides, no_side, long_side, many_cells}
 use Rattle.valid.proofs.shape.shape_cells.Goals as goal
 
 pub returns-then-shape-lt1 : goal.returns-then-shape-lt1
