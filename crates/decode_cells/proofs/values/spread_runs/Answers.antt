@@ -43,8 +43,11 @@ overflow_add-k c =
 pub loop-k-smaller : goal.loop-k-smaller
 loop-k-smaller c =
     let between = nulls_laid c.loop-k.invariant c.run_length-nulls.ensures c.fill_bytes.ensures in
-    omega (arith, sets_fit between c.run_length-sets.ensures,
-    sets_some c.loop-k.invariant c.run_length-nulls.ensures c.loop-k-test.true c.run_length-sets.ensures)
+    omega (
+      arith,
+      sets_fit between c.run_length-sets.ensures,
+      sets_some c.loop-k.invariant c.run_length-nulls.ensures c.loop-k-test.true c.run_length-sets.ensures,
+    )
 
 pub loop-k-preserved : goal.loop-k-preserved
 loop-k-preserved c =
