@@ -1,6 +1,5 @@
 -- `put_bytes` meets its contract, by the laws of Showing: a byte a turn.
 -- Assumes nothing.
-use lib.ListN.{length}
 use Rattle.shown_cells.proofs.Showing.{Showing}
 use Rattle.shown_cells.proofs.put_bytes.Given as goal
 

@@ -1,6 +1,5 @@
 -- `put_ends` meets its contract, by the laws of Showing and Ends: two words a turn.
 -- Assumes nothing.
-use lib.ListN.{length}
 use Rattle.shown_cells.proofs.Showing.{Showing}
 use Rattle.shown_cells.proofs.put_ends.Given as goal
 

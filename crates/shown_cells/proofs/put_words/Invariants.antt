@@ -1,6 +1,5 @@
 -- `put_words` meets its contract, by the laws of Showing: a word a turn.
 -- Assumes nothing.
-use lib.ListN.{length}
 use Rattle.shown_cells.proofs.Showing.{Showing}
 use Rattle.shown_cells.proofs.put_words.Given as goal
 

@@ -1,6 +1,5 @@
 -- `run_end` meets its contract, by the laws of Showing.
 -- Assumes nothing.
-use lib.ListN.{length}
 use Rattle.shown_cells.specs.Shown.{Alike}
 use Rattle.shown_cells.proofs.run_end.Given as goal
 
