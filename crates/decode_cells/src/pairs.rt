@@ -43,16 +43,14 @@ fn put_pair(out: &mut [u8], at: usize, x: u64, y: u64)
 // As for one word: the next two are at hand for every cell until all are placed.
 pub fn spread_pairs(
     values: &mut [u8],
-    masks: &[u8],
-    from: usize,
-    n: usize,
+    plane: &[u8],
     s: &[u8],
     at: usize,
     order: ByteOrder,
     cells: usize,
 )
-    requires { ValuesWithin values.old masks.now from n s.now at 16 cells }
-    ensures { values.new ≡ over (values_over 16 (order_of order) (take n (drop from masks.now)) (drop at s.now)) values.old }
+    requires { ValuesWithin values.old plane.now s.now at 16 cells }
+    ensures { values.new ≡ over (values_over 16 (order_of order) plane.now (drop at s.now)) values.old }
 {
     let a = first_word(order);
     let b = 1 - a;
@@ -62,7 +60,7 @@ pub fn spread_pairs(
     let mut u = pair_word(s, at, k, b, cells, order);
     // it ends with the last stored one and not with the last cell: a `for` over the cells would test for both
     while k < cells {
-        let mark = mark_of(masks[from + i]);
+        let mark = mark_of(plane[i]);
         let x = if_set(mark, v, 0);
         let y = if_set(mark, u, 0);
         k = skip(mark, k, 1);
@@ -71,5 +69,5 @@ pub fn spread_pairs(
         put_pair(values, i * 16, x, y);
         i += 1;
     }
-    fill_bytes(values, i * 16, (n - i) * 16, 0);
+    fill_bytes(values, i * 16, (plane.len() - i) * 16, 0);
 }

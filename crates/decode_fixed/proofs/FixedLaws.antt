@@ -9,6 +9,7 @@ use native.Mathlib.Omega.{arith}
 use native.Mathlib.Nat.{zero-mul, sub-zero, le_trans}
 use lib.Dec.{eqb}
 use lib.ListN.{length, take, drop, replicate, length-drop}
+use lib.Seq.{length-take-le}
 use borrow.Author.Tests.{eq-eqb, ne_eqb}
 use Rattle.array.proofs.Answers.{wrote}
 use Rattle.array.specs.Answer.{Answer, gives, refuses, and_then, unless}
@@ -131,19 +132,18 @@ module _ (o : Order) {x : Masks} {size d : ℕ} {s : List ℕ} {n : ℕ} {f : Fo
     flat_written e {v'} ev = written (ap (λ (p : List ℕ). over p m) (sym (flat_masks o r e))) (ev ∙ ap (λ (p : List ℕ). over p v) (sym (flat_values o r e)))
 
     -- m' has the planes, and from the innermost of them the values are spread
-    module _ (g : d ≢ 0) {m' : List ℕ} (em : m' ≡ over (planes_in (mask_form x) s n (d - 1)) m) where
-      innermost : take n (drop (d * n - n) m') ≡ plane o r
-      innermost = innermost_read x s n d r.limits.some r.masks g m em
+    module _ (g : d ≢ 0) {m' : List ℕ} (em : m' ≡ over (planes_in (mask_form x) s n (d - 1)) m) {k : ℕ} (ek : k ≡ n) where
+      innermost : take k (drop (d * n - n) m') ≡ plane o r
+      innermost = ap (λ (k : ℕ). take k (drop (d * n - n) m')) ek ∙ innermost_read x s n d r.limits.some r.masks g m em
 
-      pub values_within : length m' ≡ length m → ValuesWithin v m' (d * n - n) n s f.at size f.cells
+      pub values_within : length m' ≡ length m → ValuesWithin v (take k (drop (d * n - n) m')) s f.at size f.cells
       values_within e = record {
-        plane = omega (arith, times_first d n g);
         count = fixed_count o r g ∙ ap count_set (sym innermost);
-        room = i;
+        room = rw (length-take-le k (drop (d * n - n) m') (omega (arith, times_first d n g, length-drop (d * n - n) m')), ek) i;
         stored = r.room;
       }
 
-      pub deep_written : {v' : List ℕ} → v' ≡ over (values_over size o (take n (drop (d * n - n) m')) (drop f.at s)) v → (off : List ℕ)
+      pub deep_written : {v' : List ℕ} → v' ≡ over (values_over size o (take k (drop (d * n - n) m')) (drop f.at s)) v → (off : List ℕ)
           → outcome_array (wrote (d * n) (n * size) 0) m' v' off ≡ read_outcome (content_array m v off) (gives (content o r))
       deep_written {v'} ev =
           written (em ∙ ap (λ (p : List ℕ). over p m) (sym (fixed_masks o r g)))

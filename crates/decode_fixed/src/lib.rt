@@ -60,7 +60,15 @@ fn write_fixed(
         return Err(Refusal::Output);
     }
     place_planes(form, masks, n, depth, s);
-    spread_values(values, masks, planes - n, n, s, at, size, order, cells);
+    spread_values(
+        values,
+        &masks[planes - n..planes],
+        s,
+        at,
+        size,
+        order,
+        cells,
+    );
     Ok(Lengths {
         masks: planes,
         values: bytes,

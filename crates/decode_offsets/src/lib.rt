@@ -1,7 +1,7 @@
 // Offsets: of cells with no mask, as they are stored, or of the cells of a plane.
 #![tactic(auto)]
 
-ghost use Rattle.std.specs.Prelude.{◌≡◌, ◌∷◌, suc, ◌+◌, ◌*◌, ◌≤◌, length, take, drop, replicate};
+ghost use Rattle.std.specs.Prelude.{◌≡◌, ◌∷◌, suc, ◌+◌, ◌*◌, ◌≤◌, length, drop, replicate};
 ghost use Rattle.array.specs.Buffers.{over, over_at};
 ghost use Rattle.array.specs.Meaning.{width_of};
 ghost use Rattle.codec.specs.Frame.{count_set};
@@ -37,24 +37,22 @@ fn fill_ends(offsets: &mut [u64], to: usize, count: usize, end: u64)
     }
 }
 
-// Writes the offsets of the n cells of the plane at `from`, of which `cells` are set: theirs are stored from `at` on, and `last` is the
-// last of them. A cell begins where the next stored one does, so one is read for every cell until all are placed, and no branch goes by
+// Writes the offsets of the cells of the plane, of which `cells` are set: theirs are stored from `at` on, and `last` is the last of
+// them. A cell begins where the next stored one does, so one is read for every cell until all are placed, and no branch goes by
 // the plane.
 pub fn spread_offsets(
     offsets: &mut [u64],
-    masks: &[u8],
-    from: usize,
-    n: usize,
+    plane: &[u8],
     s: &[u8],
     at: usize,
     width: IndexWidth,
     cells: usize,
     last: u64,
 )
-    requires { (from + n ≤ length masks.now) × (n + 1 ≤ length offsets.old) × (cells ≡ count_set (take n (drop from masks.now)))
+    requires { (length plane.now + 1 ≤ length offsets.old) × (cells ≡ count_set plane.now)
         × EndsStored (width_of width) s.now at cells last }
-    ensures { offsets.new ≡ over (0 ∷ ends_by 0 (take n (drop from masks.now))
-        (offsets_in (width_of width) (count_set (take n (drop from masks.now))) (drop (at + width_of width) s.now))) offsets.old }
+    ensures { offsets.new ≡ over (0 ∷ ends_by 0 plane.now
+        (offsets_in (width_of width) (count_set plane.now) (drop (at + width_of width) s.now))) offsets.old }
 {
     let w = width_bytes(width);
     let mut i = 0;
@@ -62,9 +60,9 @@ pub fn spread_offsets(
     // it ends with the last stored one and not with the last cell: a `for` over the cells would test for both
     while k < cells {
         offsets[i] = le_at(s, at + k * w, width);
-        let mark = mark_of(masks[from + i]);
+        let mark = mark_of(plane[i]);
         k = skip(mark, k, 1);
         i += 1;
     }
-    fill_ends(offsets, i, n + 1 - i, last);
+    fill_ends(offsets, i, plane.len() + 1 - i, last);
 }

@@ -5,7 +5,7 @@ use mathlib.Core.Logic.{◌≢◌}
 use mathlib.Core.List.{List, ◌∷◌}
 use Prim.Native.Nat.{ℕ, suc, ◌+◌, ◌-◌, ◌*◌, ◌≤◌, ◌<◌}
 use native.Mathlib.Omega.{arith}
-use lib.ListN.{length, take, drop, length-drop}
+use lib.ListN.{length, take, drop, length-drop, length-take}
 use lib.Seq.{length-take-le}
 use Rattle.std.specs.Prelude.{Err}
 use Rattle.array.specs.declared.refusal.Refusal.{Refusal}
@@ -65,19 +65,22 @@ module _ {x : Masks} {w d : ℕ} {s : List ℕ} {n : ℕ} {i : Index} (r : Ragge
   pub nested_short_offsets : length off < n + 1 → outcome_array (Err Refusal.Output) m v off ≡ read_outcome (content_array m v off) (gives (content r g))
   nested_short_offsets h = short_offsets (content r g) m v off (omega (arith, nested_offsets_long r g))
 
-  -- m' has the planes
-  module _ {m' : List ℕ} (em : m' ≡ over (planes_in (mask_form x) s n (d - 1)) m) where
-    innermost : take n (drop (d * n - n) m') ≡ innermost_in (mask_form x) s n (d - 1)
-    innermost = innermost_read x s n d r.limits.some r.masks g m em
+  -- m' has the planes, of which the innermost is handed on
+  module _ {m' : List ℕ} (em : m' ≡ over (planes_in (mask_form x) s n (d - 1)) m) {k : ℕ} (ek : k ≡ n) where
+    innermost : take k (drop (d * n - n) m') ≡ innermost_in (mask_form x) s n (d - 1)
+    innermost = ap (λ (k : ℕ). take k (drop (d * n - n) m')) ek ∙ innermost_read x s n d r.limits.some r.masks g m em
 
-    pub nested_set : i.cells ≡ count_set (take n (drop (d * n - n) m'))
+    pub nested_room : n + 1 ≤ length off → length (take k (drop (d * n - n) m')) + 1 ≤ length off
+    nested_room h = omega (arith, length-take k (drop (d * n - n) m'))
+
+    pub nested_set : i.cells ≡ count_set (take k (drop (d * n - n) m'))
     nested_set = nested_count r g ∙ ap count_set (sym innermost)
 
     pub nested_written : d * n ≤ length m → i.last ≤ length v → n + 1 ≤ length off → {v' o' : List ℕ}
         → v' ≡ over (take i.last (drop i.from s)) v
-        → o' ≡ over (0 ∷ ends_by 0 (take n (drop (d * n - n) m')) (offsets_in w (count_set (take n (drop (d * n - n) m'))) (drop (i.index + w) s))) off
+        → o' ≡ over (0 ∷ ends_by 0 (take k (drop (d * n - n) m')) (offsets_in w (count_set (take k (drop (d * n - n) m'))) (drop (i.index + w) s))) off
         → outcome_array (wrote (d * n) i.last (n + 1)) m' v' o' ≡ read_outcome (content_array m v off) (gives (content r g))
-    nested_written h j k {v'} {o'} ev eo =
+    nested_written h j l {v'} {o'} ev eo =
         let lm : length (content r g).masks ≡ d * n = nested_masks_long r g in
         let lv : length (content r g).values ≡ i.last = nested_values_long r g in
         let lo : length (content r g).offsets ≡ n + 1 = nested_offsets_long r g in

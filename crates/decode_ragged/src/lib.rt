@@ -93,7 +93,15 @@ fn write_nested(
     }
     place_planes(form, masks, n, depth, s);
     copy_many(values, 0, s, from, bytes);
-    spread_offsets(offsets, masks, planes - n, n, s, index, width, cells, last);
+    spread_offsets(
+        offsets,
+        &masks[planes - n..planes],
+        s,
+        index,
+        width,
+        cells,
+        last,
+    );
     Ok(Lengths {
         masks: planes,
         values: bytes,

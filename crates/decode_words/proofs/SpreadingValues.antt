@@ -24,7 +24,6 @@ use Rattle.codec.proofs.SpreadLaws.{length-spread}
 use Rattle.word.proofs.Words.{le-zero}
 use Rattle.decode_marks.specs.Next.{if_set, next_at, word_at}
 use Rattle.decode_words.specs.Values.{ValuesWithin}
-use Rattle.decode_marks.proofs.PlaneLaws.{plane_at, plane_length}
 use Rattle.decode_words.proofs.ValueRuns.{cells_left, values_left, nulls_first, sets_first}
 
 -- ---- the sizes
@@ -80,12 +79,8 @@ values_begin size o p s d at r e h =
     }
 
 -- by what the copying rests on
-module _ {values masks : List ℕ} {from n : ℕ} {s : List ℕ} {at size cells : ℕ} (r : ValuesWithin values masks from n s at size cells) where
-  pub plane_long : length (plane_at from n masks) ≡ n
-  plane_long = plane_length from n masks r.plane
-
-  pub values_start : (o : Order) → SpreadingValues size o (plane_at from n masks) s values at cells values 0 0
-  values_start o = values_begin size o (plane_at from n masks) s values at (rw plane_long r.room) r.count r.stored
+pub values_start : {values plane s : List ℕ} {at size cells : ℕ} → ValuesWithin values plane s at size cells → (o : Order) → SpreadingValues size o plane s values at cells values 0 0
+values_start {values} {plane} {s} {at} {size} r o = values_begin size o plane s values at r.room r.count r.stored
 
 module _ {size : ℕ} {o : Order} {p s d : List ℕ} {at cells : ℕ} {out : List ℕ} {i k : ℕ} (v : SpreadingValues size o p s d at cells out i k) where
   pub values_same : length out ≡ length d

@@ -1,7 +1,7 @@
 // Values of a machine word's size.
 #![tactic(auto)]
 
-ghost use Rattle.std.specs.Prelude.{◌≡◌, true, ◌+◌, ◌*◌, ◌≤◌, length, take, drop};
+ghost use Rattle.std.specs.Prelude.{◌≡◌, true, ◌+◌, ◌*◌, ◌≤◌, length, drop};
 ghost use Rattle.array.specs.Bytes.{le};
 ghost use Rattle.array.specs.Buffers.{over};
 ghost use Rattle.array.specs.Meaning.{order_of};
@@ -37,29 +37,27 @@ pub fn next_word(
 // would be read behind a branch again.
 pub fn spread_words(
     values: &mut [u8],
-    masks: &[u8],
-    from: usize,
-    n: usize,
+    plane: &[u8],
     s: &[u8],
     at: usize,
     size: WordSize,
     order: ByteOrder,
     cells: usize,
 )
-    requires { ValuesWithin values.old masks.now from n s.now at size.bytes cells }
-    ensures { values.new ≡ over (values_over size.bytes (order_of order) (take n (drop from masks.now)) (drop at s.now)) values.old }
+    requires { ValuesWithin values.old plane.now s.now at size.bytes cells }
+    ensures { values.new ≡ over (values_over size.bytes (order_of order) plane.now (drop at s.now)) values.old }
 {
     let mut i = 0;
     let mut k = 0;
     let mut v = next_word(s, at, k, cells, size, order);
     // it ends with the last stored one and not with the last cell: a `for` over the cells would test for both
     while k < cells {
-        let mark = mark_of(masks[from + i]);
+        let mark = mark_of(plane[i]);
         let w = if_set(mark, v, 0);
         k = skip(mark, k, 1);
         v = next_word(s, at, k, cells, size, order);
         put_word(values, i * size.bytes, size, w);
         i += 1;
     }
-    fill_bytes(values, i * size.bytes, (n - i) * size.bytes, 0);
+    fill_bytes(values, i * size.bytes, (plane.len() - i) * size.bytes, 0);
 }

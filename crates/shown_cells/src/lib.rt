@@ -28,6 +28,7 @@ fn put_bytes(out: &mut [u8], values: &[u8], plane: &[u8])
 }
 
 // Values of a word's size: the word or 0, chosen without a branch.
+#[tactic(auto, using(crate::proofs::Showing::cell_source, crate::proofs::Showing::cell_room, crate::proofs::Showing::showing_same))]
 fn put_words(out: &mut [u8], values: &[u8], size: WordSize, plane: &[u8])
     requires { ShownWithin out.old values.now size.bytes plane.now }
     ensures { out.new ≡ over (shown_values size.bytes values.now plane.now) out.old }
@@ -40,6 +41,7 @@ fn put_words(out: &mut [u8], values: &[u8], size: WordSize, plane: &[u8])
 }
 
 // Values of at least a word and at most two: the first word of each and the last, which share the bytes that both have.
+#[tactic(auto, using(crate::proofs::Showing::cell_source, crate::proofs::Showing::cell_room, crate::proofs::Showing::showing_same))]
 fn put_ends(out: &mut [u8], values: &[u8], size: usize, word: WordSize, plane: &[u8])
     requires { ShownWithin out.old values.now size plane.now × (word.bytes ≤ size) × (size ≤ word.bytes + word.bytes) }
     ensures { out.new ≡ over (shown_values size values.now plane.now) out.old }

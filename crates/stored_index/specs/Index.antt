@@ -2,7 +2,7 @@
 -- Where their index and their data lie, and the last offset; or the refusal (found_refused there).
 -- Assumes nothing.
 use Rattle.std.specs.Prelude.{ℕ, suc, ◌+◌, ◌-◌, ◌*◌, ◌≤◌, ◌≡◌, List, map, length, take, drop, leb, eqb}
-use Rattle.array.specs.Answer.{Answer, gives, refuses, unless, and_then, map_answer}
+use Rattle.array.specs.Answer.{Answer, gives, unless, and_then, map_answer}
 use Rattle.array.specs.Lists.{pieces}
 use Rattle.array.specs.Bytes.{unle}
 use Rattle.array.specs.Kind.{Place}

@@ -31,10 +31,10 @@ pub spread_values-requires : goal.spread_values-requires
 spread_values-requires c =
     let deep : c.args.kind.depth ≢ 0 = λ e. absurd (omega (arith, c.requires.deep)) in
     values_within (order_of c.args.order) c.requires.within c.args.masks.now c.args.values.now c.if-masks-planes.false c.if-values-bytes.false deep
-    c.place_planes.ensures c.place_planes.auto.masks
+    c.place_planes.ensures (omega (arith, times_first c.args.kind.depth c.args.n deep)) c.place_planes.auto.masks
 
 pub returns : goal.returns
 returns c =
     let deep : c.args.kind.depth ≢ 0 = λ e. absurd (omega (arith, c.requires.deep)) in
     deep_written (order_of c.args.order) c.requires.within c.args.masks.now c.args.values.now c.if-masks-planes.false c.if-values-bytes.false deep c.place_planes.ensures
-    c.spread_values.ensures
+    (omega (arith, times_first c.args.kind.depth c.args.n deep)) c.spread_values.ensures

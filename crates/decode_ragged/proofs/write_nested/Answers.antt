@@ -6,7 +6,7 @@ use Prim.Native.Nat.{◌+◌, ◌-◌, ◌*◌}
 use native.Mathlib.Omega.{arith}
 use Rattle.decode_planes.proofs.Levels.{times_first}
 use Rattle.decode_planes.proofs.Small.{few_cells, planes_small}
-use Rattle.decode_ragged.proofs.RaggedWritten.{nested_short_masks, nested_short_values, nested_short_offsets, nested_set, nested_ends, nested_written}
+use Rattle.decode_ragged.proofs.RaggedWritten.{nested_short_masks, nested_short_values, nested_short_offsets, nested_room, nested_set, nested_ends, nested_written}
 use Rattle.decode_ragged.proofs.write_nested.Goals as goal
 
 pub overflow_mul-planes : goal.overflow_mul-planes
@@ -47,11 +47,10 @@ overflow_sub-planes c =
 pub spread_offsets-requires : goal.spread_offsets-requires
 spread_offsets-requires c =
     let deep : c.args.kind.depth ≢ 0 = λ e. absurd (omega (arith, c.requires.deep)) in
-    let first_is : c.args.kind.depth * c.args.n ≡ (c.args.kind.depth - 1) * c.args.n + c.args.n = times_first c.args.kind.depth c.args.n deep in
+    let first_is = times_first c.args.kind.depth c.args.n deep in
     let a = c.args in (
-      omega (arith, first_is, c.place_planes.auto.masks, c.if-masks-planes.false),
-      omega (arith, c.if-offsets-count.false),
-      nested_set c.requires.within deep a.masks.now a.values.now a.offsets.now c.place_planes.ensures,
+      nested_room c.requires.within deep a.masks.now a.values.now a.offsets.now c.place_planes.ensures (omega (arith, first_is)) c.if-offsets-count.false,
+      nested_set c.requires.within deep a.masks.now a.values.now a.offsets.now c.place_planes.ensures (omega (arith, first_is)),
       nested_ends c.requires.within,
     )
 
@@ -59,5 +58,6 @@ pub returns : goal.returns
 returns c =
     let deep : c.args.kind.depth ≢ 0 = λ e. absurd (omega (arith, c.requires.deep)) in
     let a = c.args in
-    nested_written c.requires.within deep a.masks.now a.values.now a.offsets.now c.place_planes.ensures c.if-masks-planes.false c.if-values-bytes.false
+    nested_written c.requires.within deep a.masks.now a.values.now a.offsets.now c.place_planes.ensures
+    (omega (arith, times_first a.kind.depth a.n deep)) c.if-masks-planes.false c.if-values-bytes.false
     c.if-offsets-count.false c.copy_many.ensures c.spread_offsets.ensures

@@ -15,24 +15,6 @@ use Rattle.stored_index.specs.Index.{offsets_in, index_with}
 use Rattle.stored_index.proofs.IndexLaws.{last_at, by_data, by_rising, by_last}
 use Rattle.stored_index.proofs.check_index.Goals as goal
 
-pub overflow_mul-n : goal.overflow_mul-n
-overflow_mul-n c =
-    let width : ℕ = width_of c.args.width in
-    let times_is : c.args.n * c.width_bytes-w.result ≡ c.args.n * width = ap (λ (x : ℕ). c.args.n * x) c.width_bytes-w.ensures in
-    omega (arith, times_is)
-
-pub overflow_add-index : goal.overflow_add-index
-overflow_add-index c =
-    let width : ℕ = width_of c.args.width in
-    let times_is : c.args.n * c.width_bytes-w.result ≡ c.args.n * width = ap (λ (x : ℕ). c.args.n * x) c.width_bytes-w.ensures in
-    omega (arith, times_is)
-
-pub le_at-last-requires : goal.le_at-last-requires
-le_at-last-requires c =
-    let width : ℕ = width_of c.args.width in
-    let times_is : c.args.n * c.width_bytes-w.result ≡ c.args.n * width = ap (λ (x : ℕ). c.args.n * x) c.width_bytes-w.ensures in
-    omega (arith, times_is)
-
 pub returns-then-last-count : goal.returns-then-last-count
 returns-then-last-count c =
     let width : ℕ = width_of c.args.width in

@@ -8,14 +8,13 @@ use lib.ListN.{length, take, drop, length-drop}
 use Rattle.array.specs.Answer.{Answer, map_answer}
 use Rattle.array.specs.Bytes.{unle}
 use Rattle.array.specs.Kind.{Place}
-use Rattle.array.specs.Meaning.{width_of, place_of, told}
+use Rattle.array.specs.Meaning.{width_of, place_of}
 use Rattle.buffer.proofs.Fields.{field_value, field_refused}
 use Rattle.codec.specs.Ragged.{length_at, index_at, data_at}
 use Rattle.array.proofs.Answers.{told_same}
 use Rattle.stored_index.specs.declared.Index.{Index}
 use Rattle.stored_index.specs.Index.{offsets_in, indexed_by, index_check, index_in, index_with, located, found_in}
 use Rattle.stored_index.proofs.IndexLaws.{length_short, read_none, read_short, found_other, found_index}
-use Rattle.stored_index.proofs.CheckedIndex.{index_within, data-within}
 use Rattle.stored_index.proofs.find_index.Goals as goal
 
 pub returns-in_default : goal.returns-in_default
@@ -75,73 +74,6 @@ returns-then-l-length c =
     let size_is : c.index_length-length.result ≡ width + c.args.n * width = c.index_length-length.ensures in
     ap told
     (found_other width c.args.n bytes c.args.at long (omega (arith, size_is)) place field_is.1 (λ e. c.if-l-length.true (e ∙ sym size_is)))
-
-pub index_at-requires : goal.index_at-requires
-index_at-requires c =
-    let place : Place = place_of c.args.place in
-    let bytes : List ℕ = c.args.s.now in
-    let left : ℕ = length bytes - c.args.at in
-    let lies : ℕ = c.args.at + length_at place left in
-    let says : ℕ = c.in-Ok.l in
-    let field_is : (8 ≤ length bytes - lies) × (says ≡ unle (take 8 (drop lies bytes))) = field_value 8 7 bytes lies says (sym c.read_length.ensures ∙ told_same c.in-Ok.is) in
-    let long : 8 ≤ left = omega (arith, field_is.0) in
-    omega (arith, long)
-
-pub overflow_add-index : goal.overflow_add-index
-overflow_add-index c =
-    let width : ℕ = width_of c.args.width in
-    let place : Place = place_of c.args.place in
-    let bytes : List ℕ = c.args.s.now in
-    let left : ℕ = length bytes - c.args.at in
-    let lies : ℕ = c.args.at + length_at place left in
-    let says : ℕ = c.in-Ok.l in
-    let field_is : (8 ≤ length bytes - lies) × (says ≡ unle (take 8 (drop lies bytes))) = field_value 8 7 bytes lies says (sym c.read_length.ensures ∙ told_same c.in-Ok.is) in
-    let long : 8 ≤ left = omega (arith, field_is.0) in
-    let size_is : c.index_length-length.result ≡ width + c.args.n * width = c.index_length-length.ensures in
-    let there : c.args.at + c.index_at.result + (width + c.args.n * width) ≤ length bytes =
-    omega (arith, size_is, c.index_at.ensures, index_within place left c.index_length-length.result long (omega arith)) in
-    omega (arith, there)
-
-pub data_at-requires : goal.data_at-requires
-data_at-requires c =
-    let width : ℕ = width_of c.args.width in
-    let place : Place = place_of c.args.place in
-    let bytes : List ℕ = c.args.s.now in
-    let left : ℕ = length bytes - c.args.at in
-    let lies : ℕ = c.args.at + length_at place left in
-    let says : ℕ = c.in-Ok.l in
-    let field_is : (8 ≤ length bytes - lies) × (says ≡ unle (take 8 (drop lies bytes))) = field_value 8 7 bytes lies says (sym c.read_length.ensures ∙ told_same c.in-Ok.is) in
-    let long : 8 ≤ left = omega (arith, field_is.0) in
-    let size_is : c.index_length-length.result ≡ width + c.args.n * width = c.index_length-length.ensures in
-    let there : c.args.at + c.index_at.result + (width + c.args.n * width) ≤ length bytes =
-    omega (arith, size_is, c.index_at.ensures, index_within place left c.index_length-length.result long (omega arith)) in
-    omega (arith, there, size_is)
-
-pub overflow_add-from : goal.overflow_add-from
-overflow_add-from c =
-    let place : Place = place_of c.args.place in
-    let bytes : List ℕ = c.args.s.now in
-    let left : ℕ = length bytes - c.args.at in
-    let lies : ℕ = c.args.at + length_at place left in
-    let says : ℕ = c.in-Ok.l in
-    let field_is : (8 ≤ length bytes - lies) × (says ≡ unle (take 8 (drop lies bytes))) = field_value 8 7 bytes lies says (sym c.read_length.ensures ∙ told_same c.in-Ok.is) in
-    let long : 8 ≤ left = omega (arith, field_is.0) in
-    omega (arith, c.data_at.ensures, data-within place left c.index_length-length.result long (omega arith))
-
-pub check_index-requires : goal.check_index-requires
-check_index-requires c =
-    let width : ℕ = width_of c.args.width in
-    let place : Place = place_of c.args.place in
-    let bytes : List ℕ = c.args.s.now in
-    let left : ℕ = length bytes - c.args.at in
-    let lies : ℕ = c.args.at + length_at place left in
-    let says : ℕ = c.in-Ok.l in
-    let field_is : (8 ≤ length bytes - lies) × (says ≡ unle (take 8 (drop lies bytes))) = field_value 8 7 bytes lies says (sym c.read_length.ensures ∙ told_same c.in-Ok.is) in
-    let long : 8 ≤ left = omega (arith, field_is.0) in
-    let size_is : c.index_length-length.result ≡ width + c.args.n * width = c.index_length-length.ensures in
-    let there : c.args.at + c.index_at.result + (width + c.args.n * width) ≤ length bytes =
-    omega (arith, size_is, c.index_at.ensures, index_within place left c.index_length-length.result long (omega arith)) in
-    there
 
 pub returns : goal.returns
 unfolding found_in

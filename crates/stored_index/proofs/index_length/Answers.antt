@@ -1,7 +1,7 @@
 -- `index_length` meets its contract: few cells, and a width of 8 at most.
 -- Assumes nothing.
 use mathlib.Core.Path.{ap}
-use Prim.Native.Nat.{ℕ, ◌+◌, ◌*◌}
+use Prim.Native.Nat.{ℕ, ◌*◌}
 use native.Mathlib.Nat.{mul-le-mul}
 use native.Mathlib.Omega.{arith}
 use Rattle.array.specs.Limits.{most_cells}
@@ -20,6 +20,3 @@ overflow_add-result c =
     let args = c.args in
     let width_bytes = c.width_bytes-w in
     omega (arith, mul-le-mul c.requires (width_most args.width), ap (λ (x : ℕ). args.n * x) width_bytes.ensures, width_most args.width, width_bytes.ensures)
-
-pub returns : goal.returns
-returns c = ap (λ (x : ℕ). x + c.args.n * x) c.width_bytes-w.ensures

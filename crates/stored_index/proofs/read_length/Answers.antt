@@ -1,27 +1,14 @@
 -- `read_length` meets its contract: too few bytes, or the field at its place.
 -- Assumes nothing.
-use mathlib.Core.Path.{ap, ◌∙◌}
-use Prim.Native.Nat.{ℕ, ◌+◌, ◌-◌}
+use Prim.Native.Nat.{◌+◌, ◌-◌}
 use native.Mathlib.Omega.{arith}
 use lib.ListN.{length}
 use Rattle.array.specs.Meaning.{place_of}
-use Rattle.buffer.specs.Field.{field_at}
 use Rattle.buffer.proofs.Fields.{field_short}
 use Rattle.codec.specs.Ragged.{length_at}
-use Rattle.stored_index.proofs.IndexLaws.{length-within}
 use Rattle.stored_index.proofs.read_length.Goals as goal
 
 pub returns-then-size-lt8 : goal.returns-then-size-lt8
 returns-then-size-lt8 c =
     let args = c.args in
     field_short 8 7 args.s.now (args.at + length_at (place_of args.place) (length args.s.now - args.at)) (omega arith)
-
-pub overflow_add-at : goal.overflow_add-at
-overflow_add-at c =
-    let args = c.args in
-    omega (arith, c.length_at.ensures, length-within (place_of args.place) (length args.s.now - args.at) (omega arith))
-
-pub returns : goal.returns
-returns c =
-    let args = c.args in
-    c.read_u64.ensures ∙ ap (λ (k : ℕ). field_at 8 7 args.s.now (args.at + k)) c.length_at.ensures

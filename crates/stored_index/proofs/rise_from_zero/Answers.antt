@@ -9,7 +9,7 @@ use lib.ListN.{take, drop}
 use Rattle.array.specs.Bytes.{unle}
 use Rattle.array.specs.Offsets.{rising_test}
 use Rattle.stored_index.specs.Index.{offsets_in}
-use Rattle.stored_index.proofs.IndexLaws.{Rises, rises_falls, rises_more, rises_last}
+use Rattle.stored_index.proofs.IndexLaws.{Rises, rises_falls, rises_more}
 use Rattle.stored_index.proofs.rise_from_zero.Goals as goal
 
 pub returns-then-next-prev : goal.returns-then-next-prev
@@ -56,14 +56,3 @@ loop-turn-preserved c =
     let two : left - 1 - 1 ≡ a.n - 2 * (c.loop-turn._turn + 1) = omega arith in
     subst (Rises width a.n bytes a.at c.le_at-first.result c.le_at-prev.result (c.loop-turn.p + width + width)) two
     (rises_more first more second_is c.if-prev-next.false)
-
-pub returns : goal.returns
-returns c =
-    let left : ℕ = c.args.n - 2 * c.loop-turn._turn in
-    let bytes : List ℕ = c.args.s.now in
-    let tested : ℕ → Bool = λ w. let a = c.args in rising_test (offsets_in w (suc a.n) (drop a.at bytes)) in
-    let width : ℕ = c.width_bytes-w.result in
-    let one : left ≡ 1 = omega (arith, c.if-n-eq0.false) in
-    let last_is : c.le_at.result ≡ unle (take width (drop (c.loop-turn.p + width) bytes)) =
-    c.le_at.ensures ∙ ap (λ (x : ℕ). unle (take x (drop (c.loop-turn.p + width) bytes))) (sym c.width_bytes-w.ensures) in
-    rises_last c.loop-turn.invariant (omega (arith, one)) last_is (omega arith) one ∙ ap tested c.width_bytes-w.ensures

@@ -5,14 +5,14 @@ use Prim.Native.Nat.{◌+◌, ◌-◌, ◌*◌}
 use Rattle.array.specs.Bytes.{le}
 use Rattle.array.specs.Meaning.{order_of}
 use Rattle.decode_marks.specs.Next.{word_at}
-use Rattle.decode_marks.proofs.PlaneLaws.{plane_at}
 use Rattle.decode_words.proofs.SpreadingValues.{SpreadingValues}
+use lib.ListN.{length}
 use Rattle.decode_cells.proofs.pairs.spread_pairs.Given as goal
 
 abbrev pub invariant-loop-k : goal.invariant-loop-k
-invariant-loop-k l = SpreadingValues 16 (order_of l.order) (plane_at l.from l.n l.masks) l.s l.initial.values l.at l.cells l.values l.i l.k ×
+invariant-loop-k l = SpreadingValues 16 (order_of l.order) l.plane l.s l.initial.values l.at l.cells l.values l.i l.k ×
     (le 8 l.v ≡ word_at 8 (order_of l.order) l.s l.at (2 * l.k + l.a) (2 * l.cells)) ×
     (le 8 l.u ≡ word_at 8 (order_of l.order) l.s l.at (2 * l.k + (1 - l.a)) (2 * l.cells))
 
 abbrev pub decreases-loop-k : goal.decreases-loop-k
-decreases-loop-k l = l.n - l.i
+decreases-loop-k l = length l.plane - l.i

@@ -27,9 +27,6 @@ returns-then-bytes-at c =
     let same : c.loop.last ≡ length_at c.args.bytes.now c.loop.at = sym c.if-length-last.true ∙ read.1 in
     walk_cell_past c.loop.invariant (omega (arith, c.loop-test.true)) read.0 same c.if-bytes-at.true
 
-pub overflow_add-at-then-length-last : goal.overflow_add-at-then-length-last
-overflow_add-at-then-length-last c = omega (arith, field_read _ _ c.read_u32.ensures c.in-Ok.is)
-
 pub overflow_sub-bytes-else-length-last : goal.overflow_sub-bytes-else-length-last
 overflow_sub-bytes-else-length-last c = omega (arith, field_read _ _ c.read_u32.ensures c.in-Ok.is)
 
@@ -37,9 +34,6 @@ pub returns-then-bytes-at-2 : goal.returns-then-bytes-at-2
 returns-then-bytes-at-2 c =
     let read = field_read _ _ c.read_u32.ensures c.in-Ok.is in
     walk_cell_past c.loop.invariant (omega (arith, c.loop-test.true)) read.0 read.1 c.if-bytes-at-2.true
-
-pub overflow_add-at-else-length-last : goal.overflow_add-at-else-length-last
-overflow_add-at-else-length-last c = omega (arith, field_read _ _ c.read_u32.ensures c.in-Ok.is)
 
 pub loop-preserved : goal.loop-preserved
 loop-preserved c =

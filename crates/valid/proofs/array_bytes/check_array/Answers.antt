@@ -3,14 +3,8 @@
 use Rattle.array.specs.Limits.{most_bytes}
 use Rattle.array.specs.Content.{Content}
 use Rattle.array.specs.Meaning.{kind_of, lent}
-use Rattle.valid.proofs.CheckLaws.{check_four, check_five, check_gives}
+use Rattle.valid.proofs.CheckLaws.{check_five, check_gives}
 use Rattle.valid.proofs.array_bytes.check_array.Goals as goal
-
-pub returns-then-not-keeps_rules : goal.returns-then-not-keeps_rules
-returns-then-not-keeps_rules c =
-    let content : Content = lent c.args.array in
-    let f = c.keeps_rules in
-    check_four (kind_of c.args.kind) c.args.cells content f.ensures c.if-not-keeps_rules.true-raw
 
 pub returns-then-array-gt-MOST_BYTES : goal.returns-then-array-gt-MOST_BYTES
 unfolding most_bytes

@@ -3,48 +3,19 @@
 use native.Mathlib.Omega.{arith}
 use Rattle.array.specs.Limits.{most_cells}
 use Rattle.array.specs.Content.{Content}
-use Rattle.array.specs.Meaning.{lent, order_of, width_of, place_of}
-use Rattle.valid.proofs.CheckLaws.{small_product, masks_differ, by_form, bytes_differ, bytes_agree, offsets_miscounted, offsets_fall, offsets_rise}
+use Rattle.array.specs.Meaning.{lent, width_of, place_of}
+use Rattle.valid.proofs.CheckLaws.{small_product, by_form, offsets_rise}
 use Rattle.valid.proofs.array_bytes.content_fits.Goals as goal
 
 pub overflow_mul-depth : goal.overflow_mul-depth
 overflow_mul-depth c = omega (arith, small_product c.args.kind.depth c.args.cells (omega arith) c.requires)
 
-pub returns-then-array-depth : goal.returns-then-array-depth
-returns-then-array-depth c =
-    let content : Content = lent c.args.array in
-    masks_differ c.args.kind c.args.cells content c.if-array-depth.true
-
 pub overflow_mul-cells : goal.overflow_mul-cells
 overflow_mul-cells c = omega (arith, small_product c.in-Fixed.size c.args.cells (omega arith) c.requires)
-
-pub returns-then-array-cells : goal.returns-then-array-cells
-returns-then-array-cells c =
-    let content : Content = lent c.args.array in
-    by_form c.args.kind c.args.cells content c.in-Fixed.is c.if-array-depth.false
-    (bytes_differ c.args.cells content c.in-Fixed.size (order_of c.in-Fixed.field-1) c.if-array-cells.true)
 
 pub overflow_add-cells : goal.overflow_add-cells
 unfolding most_cells
 overflow_add-cells c = omega arith
-
-pub returns-then-array-cells-2 : goal.returns-then-array-cells-2
-returns-then-array-cells-2 c =
-    let content : Content = lent c.args.array in
-    by_form c.args.kind c.args.cells content c.in-Ragged.is c.if-array-depth.false
-    (offsets_miscounted c.args.cells content (width_of c.in-Ragged.field-0) (place_of c.in-Ragged.field-1) c.if-array-cells-2.true)
-
-pub returns-then-not-rise_from_zero : goal.returns-then-not-rise_from_zero
-returns-then-not-rise_from_zero c =
-    let content : Content = lent c.args.array in
-    by_form c.args.kind c.args.cells content c.in-Ragged.is c.if-array-depth.false
-    (offsets_fall c.args.cells content (width_of c.in-Ragged.field-0) (place_of c.in-Ragged.field-1) c.if-array-cells-2.false c.rise_from_zero.ensures c.if-not-rise_from_zero.true-raw)
-
-pub returns-else-array-cells : goal.returns-else-array-cells
-returns-else-array-cells c =
-    let content : Content = lent c.args.array in
-    by_form c.args.kind c.args.cells content c.in-Fixed.is c.if-array-depth.false
-    (bytes_agree c.args.cells content c.in-Fixed.size (order_of c.in-Fixed.field-1) c.if-array-cells.false)
 
 pub returns-else-not-rise_from_zero : goal.returns-else-not-rise_from_zero
 returns-else-not-rise_from_zero c =
