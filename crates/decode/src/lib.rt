@@ -13,6 +13,7 @@ use valid::kind::check_kind;
 use valid::shape::shape_cells;
 
 // Reads the stored array of a kind and shape. Nothing is stored before the last check; success names the three lengths.
+// Here and in other calls outputs stand beside one another: of a struct of them a clause would say `out.exit.0.now`, by places and not by names.
 pub fn decode(
     kind: Kind,
     shape: &[u64],

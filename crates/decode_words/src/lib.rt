@@ -34,7 +34,8 @@ pub fn next_word(
 }
 
 // A word is at hand for every cell until all are placed, so that no branch goes by the plane. The next is read before the store, or it
-// would be read behind a branch again.
+// would be read behind a branch again. `spread_pairs`, `spread_laid` and `spread_offsets` have the like loop with what they read and put: one for all
+// would be a trait with an impl for each.
 pub fn spread_words(
     values: &mut [u8],
     plane: &[u8],

@@ -73,7 +73,7 @@ fn draw_parts(first: Generator, values: &mut [u8], to: usize, n: usize) -> Gener
 {
     let mut g = first;
     let mut i: usize = 0;
-    // No `for` over whole sixteens: the rest begins where the count stands.
+    // `chunks_mut(16)` would hand each part over as a slice of its own, and a law would put what they leave together again
     while 16 <= n - i {
         g = draw_part(g, values, to + i, 16);
         i += 16;

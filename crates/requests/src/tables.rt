@@ -93,7 +93,7 @@ fn read_request<'a>(call: TableCall, lists: &mut Lists<'a, '_>) -> Option<TableR
     })
 }
 
-// Reads a line that hands a table over, for what its letter says.
+// Reads a line that hands a table over, for what its letter says. As `read_line`, with the lists of a table.
 pub fn read_table_line<'a>(
     line: &[u8],
     numbers: &'a mut [u64],

@@ -85,7 +85,7 @@ pub fn write_settled(
     }
 }
 
-// The answer of pack_table, and the table, likewise.
+// The answer of pack_table, and the table, likewise: it names a number.
 pub fn write_packed(
     out: &mut impl Write,
     answer: Result<usize, Refusal>,

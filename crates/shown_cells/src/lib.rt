@@ -58,7 +58,8 @@ fn put_ends(out: &mut [u8], values: &[u8], size: usize, word: WordSize, plane: &
     }
 }
 
-// Where the neighbours of cell i end that are shown as it is, or not shown as it is not.
+// Where the neighbours of cell i end that are shown as it is, or not shown as it is not. `run_length` of `decode_cells`
+// counts the cells of one sort; here a run's sort is that of its first cell.
 fn run_end(plane: &[u8], i: usize, shown: bool) -> usize
     requires { (i < length plane.now) × (set_test (get_or plane.now i 0) ≡ shown) }
     ensures { Alike plane.now shown i result }

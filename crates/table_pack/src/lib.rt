@@ -55,7 +55,7 @@ fn pack_with(
     Ok(move_cells(starts, lengths, store, numbers, most))
 }
 
-// The same with room for the order of so many cells: little is cleared for a small table.
+// The same with room for the order of so many cells: little is cleared for a small table. As `read_in` of `table_read`.
 fn pack_in<const ROOM: usize>(
     shape: TableShape,
     masks: &[u8],

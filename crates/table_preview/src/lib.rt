@@ -78,7 +78,7 @@ fn preview_with(
     preview_sound(table, numbers, setting)
 }
 
-// The same with room for the order of so many cells: little is cleared for a small table.
+// The same with room for the order of so many cells: little is cleared for a small table. As `read_in` of `table_read`.
 fn preview_in<const ROOM: usize>(
     shape: TableShape,
     table: Table,

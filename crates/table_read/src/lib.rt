@@ -79,7 +79,8 @@ fn read_with(
     read_checked(shape.cells, table, out_masks, out_values, out_offsets)
 }
 
-// The same with room for the order of so many cells: little is cleared for a small table.
+// The same with room for the order of so many cells: little is cleared for a small table. Those of the other calls
+// on tables hand on other parameters; one function that takes the call as a closure would say its promise a second time.
 fn read_in<const ROOM: usize>(
     shape: TableShape,
     table: Table,

@@ -92,7 +92,7 @@ fn set_with(
     set_sound(masks, starts, lengths, store, order, setting)
 }
 
-// The same with room for the order of so many cells: little is cleared for a small table.
+// The same with room for the order of so many cells: little is cleared for a small table. As `read_in` of `table_read`.
 fn set_in<const ROOM: usize>(
     shape: TableShape,
     masks: &mut [u8],

@@ -7,7 +7,8 @@ ghost use Rattle.array.specs.Others.{others};
 
 use array::mark::{BLOCK, one_if_other};
 
-// The bytes over 01 of a block, few enough for a byte: a narrow counter is what makes counting fast.
+// The bytes over 01 of a block, few enough for a byte: a narrow counter is what makes counting fast. As `mask_marks` counts those that are set: one
+// function for both would take what it counts as a closure, and its promise from it.
 fn count_others(block: &[u8]) -> u8
     requires { length block.now ≤ 240 }
     ensures { result ≡ others block.now }
