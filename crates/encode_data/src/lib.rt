@@ -153,6 +153,7 @@ impl<'a> LiveValues<'a> {
     }
 
     // The same. Where all cells count, it is the values as they lie.
+    #[inline(always)]
     #[tactic(auto, using(crate::proofs::Summing::values_laws))]
     pub fn put(self, out: &mut [u8], to: usize) -> usize
         requires { to + length (joined (live_values self)) ≤ length out.old }
