@@ -27,6 +27,7 @@ fn put_offset(out: &mut [u8], at: usize, width: IndexWidth, v: u64)
 // is overwritten by the next that it counts, so that nothing branches on a mask. As put_live_words of `encode_cells`, with a total carried
 // along: their law (Packing) is one, and one loop for both would be a trait with two impls for eight lines.
 #[inline(always)]
+#[tactic(auto, using(crate::proofs::Indexing::index_laws))]
 fn put_marked_ends(out: &mut [u8], to: usize, width: IndexWidth, places: LiveOffsets)
     requires { to + length (index_of (width_of width) (live_ends places)) ≤ length out.old }
     ensures { out.new ≡ over_at to (index_of (width_of width) (live_ends places.entry)) out.old }
