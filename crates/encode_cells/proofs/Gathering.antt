@@ -137,3 +137,5 @@ module _ {o : Order} {k : ℕ} {s : List ℕ} {t : ℕ → Bool} {n : ℕ} {d : 
     pub storing_more : {out' : List ℕ} → out' ≡ over_at (to + done) (joined (map (ordered o) (pieces k r (drop (i * k) s)))) out
         → Storing o k s t n d to out' (i + (r + 1)) (done + r * k)
     storing_more eo = record { source = l.source; gathers = gathering_more l.gathers e (run_pieces o k s i r) eo long }
+
+pub ruleset storing_laws = (run_le, storing_same, storing_source, storing_room)

@@ -30,6 +30,7 @@ pub fn put_all(out: &mut [u8], s: &[u8], size: usize, order: ByteOrder, cells: u
 
 // Of cells of one size, those that the level counts. Neighbours go as one run.
 #[inline(always)]
+#[tactic(auto, using(crate::proofs::Gathering::storing_laws), unfolding(array::specs::Limits::most_cells))]
 fn put_live_runs(out: &mut [u8], to: usize, s: &[u8], size: usize, order: ByteOrder, level: Level)
     requires { (level.cells ≤ most_cells) × (level.cells * size ≤ length s.now)
         × (to + length (put_values (fixed size (order_of order)) (values_at (fixed_at 0 size) s.now (live_in level))) ≤ length out.old) }

@@ -17,7 +17,10 @@ use Rattle.array.proofs.Lists.{map-map}
 use Rattle.array.proofs.Laying.{Laying, laying_begins, laying_same, laying_left, laying_ends, laying_part, laying_is}
 use Rattle.codec.specs.Ragged.{index_of}
 use Rattle.encode_cells.proofs.Packing.{Packing, packing_begins, packing_same, packing_ends, packing_cell, packing_room, packing_more}
+use Rattle.array.proofs.Lists.{length_from_lem}
+use Rattle.live_cells.proofs.Runs.{passing-le}
 use Rattle.encode_data.specs.Offsets.{Offsets}
+use Rattle.encode_data.proofs.Spans.{places_long, places_rise}
 use Rattle.encode_data.proofs.Summing.{so_far_lem, Summing, summing_begins, summing_step, summing_more}
 
 -- ---- of the cells that a level counts
@@ -77,6 +80,8 @@ module _ {t : ℕ → Bool} {n w : ℕ} {os d : List ℕ} {to : ℕ} {out : List
         packs = packing_more l.packs h
             (eo ∙ ap₂ (λ (x y : ℕ). over_at (to + done * x) (le w y) out) ek (summing_step l.sums indexing_inside em)) (ap (λ (x : ℕ). done + x) em);
       }
+
+pub ruleset index_laws = (passing-le, length_from_lem, places_long, places_rise)
 
 -- ---- of all offsets
 

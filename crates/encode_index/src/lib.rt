@@ -27,6 +27,7 @@ fn put_offset(out: &mut [u8], at: usize, width: IndexWidth, v: u64)
 // is overwritten by the next that it counts, so that nothing branches on a mask. As put_live_words of `encode_cells`, with a total carried
 // along: their law (Packing) is one, and one loop for both would be a trait with two impls for eight lines.
 #[inline(always)]
+#[tactic(auto, using(crate::proofs::Indexing::index_laws))]
 fn put_marked_ends(out: &mut [u8], to: usize, width: IndexWidth, places: LiveOffsets)
     requires { to + length (index_of (width_of width) (live_ends places)) ≤ length out.old }
     ensures { out.new ≡ over_at to (index_of (width_of width) (live_ends places.entry)) out.old }
@@ -77,6 +78,7 @@ pub fn put_index(out: &mut [u8], to: usize, width: IndexWidth, offsets: &[u64])
 }
 
 // The index of the cells that the level counts, from offset 0. Where all count, it is the offsets as they lie.
+#[inline(always)]
 #[tactic(auto, using(crate::proofs::IndexLaid::index_head))]
 pub fn put_live_index(out: &mut [u8], to: usize, width: IndexWidth, places: LiveOffsets)
     requires { to + length (index_of (width_of width) (0 ∷ live_ends places)) ≤ length out.old }

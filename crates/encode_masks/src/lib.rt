@@ -61,6 +61,7 @@ fn put_level_mask(form: MaskForm, out: &mut [u8], to: usize, live: Counted)
 }
 
 // The stored mask of the cells that the level counts.
+#[inline(always)]
 pub fn put_mask(form: MaskForm, out: &mut [u8], to: usize, live: Counted)
     requires { ((live.level.depth + 1) * live.level.cells ≤ length live.level.masks.now) × (to + (mask_form (masks_of form)).size live.count ≤ length out.old) }
     ensures { out.new ≡ over_at to (live_mask (masks_of form) live.entry.level.cells live.entry.level.masks.now live.entry.level.depth) out.old }

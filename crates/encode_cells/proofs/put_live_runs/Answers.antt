@@ -1,8 +1,6 @@
 -- `encode_cells::put_live_runs` meets its contract: by the laws of Storing.
 -- Assumes nothing.
-use native.Mathlib.Omega.{arith}
-use Rattle.array.specs.Limits.{most_cells}
-use Rattle.encode_cells.proofs.Gathering.{storing_begins, storing_same, storing_ends, storing_within, storing_source, storing_room, storing_more}
+use Rattle.encode_cells.proofs.Gathering.{storing_begins, storing_ends, storing_source, storing_room, storing_more}
 use Rattle.encode_cells.proofs.put_live_runs.Goals as goal
 
 pub loop-i-init : goal.loop-i-init
@@ -12,22 +10,6 @@ pub copy_cells-requires : goal.copy_cells-requires
 copy_cells-requires c =
     let l = c.loop-i.invariant in
     (storing_room l c.run-run.ensures c.loop-i-test.true, storing_source l c.run-run.ensures c.loop-i-test.true)
-
-pub overflow_mul-done : goal.overflow_mul-done
-overflow_mul-done c = omega (arith, storing_source c.loop-i.invariant c.run-run.ensures c.loop-i-test.true)
-
-pub overflow_add-done : goal.overflow_add-done
-overflow_add-done c =
-    let l = c.loop-i.invariant in
-    omega (arith, storing_room l c.run-run.ensures c.loop-i-test.true, storing_same l)
-
-pub overflow_add-i : goal.overflow_add-i
-unfolding most_cells
-overflow_add-i c = omega (arith, c.requires.0, storing_within c.loop-i.invariant c.run-run.ensures c.loop-i-test.true)
-
-pub overflow_add-i-in-loop-i : goal.overflow_add-i-in-loop-i
-unfolding most_cells
-overflow_add-i-in-loop-i c = omega (arith, c.requires.0, storing_within c.loop-i.invariant c.run-run.ensures c.loop-i-test.true)
 
 pub loop-i-preserved : goal.loop-i-preserved
 loop-i-preserved c = storing_more c.loop-i.invariant c.run-run.ensures c.loop-i-test.true c.copy_cells.ensures
