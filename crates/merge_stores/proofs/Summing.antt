@@ -2,6 +2,7 @@
 -- Assumes nothing.
 use mathlib.Core.Path.{◌≡◌, sym, ap, ap₂, ◌∙◌, subst}
 use Prim.Native.Nat.{ℕ, suc, ◌+◌, ◌-◌, ◌<◌, ◌≤◌}
+use native.Mathlib.Nat.{add_comm}
 use native.Mathlib.Numerals.{add-one}
 use native.Mathlib.Omega.{arith}
 use mathlib.Core.List.{List, ◌∷◌, ◌++◌}
@@ -72,8 +73,10 @@ module _ (d : List ℕ) (n : ℕ) (h : n < length d) where
             small = omega (arith, g, c.small, ap sum next);
           }
 
-      pub summed_more : Summed d (set o (i + 1) (get_or o i 0 + get_or o (i + 1) 0)) n (i + 1)
-      summed_more = subst (λ (k : ℕ). Summed d (set o k (get_or o i 0 + get_or o k 0)) n k) (sym (add-one i)) more
+      pub summed_more : Summed d (set o (i + 1) (get_or o (i + 1) 0 + get_or o i 0)) n (i + 1)
+      summed_more =
+          subst (λ (x : ℕ). Summed d (set o (i + 1) x) n (i + 1)) (add_comm (get_or o i 0) (get_or o (i + 1) 0))
+          (subst (λ (k : ℕ). Summed d (set o k (get_or o i 0 + get_or o k 0)) n k) (sym (add-one i)) more)
 
 -- the loop begins after the first store
 pub summed_start : (d : List ℕ) (n : ℕ) → n < length d → Summed (set d 0 0) (set d 0 0) n 0
@@ -86,3 +89,5 @@ pub summed_over : (d : List ℕ) {n : ℕ} (h : n < length d) {o : List ℕ} {i 
 summed_over d {n} h {o} {i} c l =
     summed_ends (set d 0 0) n (omega (arith, length-set d 0 0)) c l
     ∙ ap₂ (λ (x y : List ℕ). (0 ∷ sums 0 (take n x)) ++ y) (drop-set-lt 1 d 0 0 (omega arith)) (drop-set-lt (n + 1) d 0 0 (omega arith))
+
+pub ruleset sum_laws = (same_sum, sum_small, summed_over)
