@@ -25,6 +25,7 @@ fn most_ok(most: usize) -> bool
 }
 
 // Packs a table of which nothing is known: 4, and 5. `order` has room for the cells as they lie.
+// The four slices stay beside each other: two are written to, and a contract would name those of a struct `table.exit.0.now` and so on.
 fn pack_with(
     shape: TableShape,
     masks: &[u8],
