@@ -46,8 +46,7 @@ fn pack_with(
         lengths,
         store,
     };
-    let lies = check_cells(depth, shape.cells, table, order);
-    let Some(numbers) = lies else {
+    let Some(numbers) = check_cells(depth, shape.cells, table, order) else {
         return Err(Refusal::Content);
     };
     if !store_ok(store.len()) {

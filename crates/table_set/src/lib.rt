@@ -83,8 +83,7 @@ fn set_with(
         lengths,
         store,
     };
-    let lies = check_cells(depth, shape.cells, table, order);
-    let Some(_) = lies else {
+    let Some(_) = check_cells(depth, shape.cells, table, order) else {
         return Err(Refusal::Content);
     };
     if !are_strict(setting.masks, depth) {
