@@ -29,7 +29,7 @@ fn hidden_refusal(preview: Result<Preview, Refusal>) -> Refusal
 }
 
 // Sets a cell of a working table for a guest with these rights. Refusals 1, 2, 17, 4, 5, 15, 18 and 16, in this order; nothing changes before
-// the last check.
+// the last check. The four slices stay beside each other, as those of `set_cell` do.
 pub fn guest_edit(
     kind: Kind,
     cells: usize,

@@ -1,14 +1,13 @@
 -- A walk over cells, each of which is to start no lower than the one before it ends: what is left, from there, says what the whole says.
 -- Assumes nothing.
-use mathlib.Core.Path.{◌≡◌, refl, sym, ap, ◌∙◌, subst}
-use mathlib.Core.Bool.{Bool, true, false, ◌&&◌}
+use mathlib.Core.Path.{◌≡◌, sym, ap, ◌∙◌, subst}
+use mathlib.Core.Bool.{Bool, ◌&&◌}
 use mathlib.Core.List.{List, ◌∷◌}
-use Prim.Native.Nat.{ℕ, ◌+◌, ◌≤◌, ◌<◌}
+use Prim.Native.Nat.{ℕ, ◌+◌, ◌<◌}
 use native.Mathlib.Numerals.{add-one}
-use lib.ListN.{length, get_or, drop, drop_of_length-le}
+use lib.ListN.{length, get_or, drop}
 use lib.Seq.{drop-cons}
 use lib.Dec.{leb}
-use borrow.Author.Tests.{le-leb, lt-leb}
 use Rattle.array.specs.Lists.{All}
 use Rattle.array.specs.Places.{offset_at}
 use Rattle.array.proofs.Lists.{All-drop}
@@ -19,9 +18,6 @@ use Rattle.table_check.specs.Check.{Reached}
 pub record Turn (starts lengths order : List ℕ) (end i : ℕ) : Type 0 where
   pub reached : All (Reached starts lengths) order
   pub whole : follow_test (offset_at starts) (offset_at lengths) end (drop i order) ≡ follow_test (offset_at starts) (offset_at lengths) 0 order
-
-pub turn_begins : {starts lengths order : List ℕ} → All (Reached starts lengths) order → Turn starts lengths order 0 0
-turn_begins r = record { reached = r; whole = refl }
 
 module _ {starts lengths order : List ℕ} {end i : ℕ} (w : Turn starts lengths order end i) where
   abbrev test : ℕ → List ℕ → Bool
@@ -39,12 +35,3 @@ module _ {starts lengths order : List ℕ} {end i : ℕ} (w : Turn starts length
     next e =
         ap (λ (c : Bool). c && test (offset_at starts (get_or order i 0) + offset_at lengths (get_or order i 0)) (drop (i + 1) order)) (sym e)
         ∙ ap (test end) (sym left) ∙ w.whole
-
-    pub turn_stops : offset_at starts (get_or order i 0) < end → false ≡ test 0 order
-    turn_stops l = next (lt-leb end (offset_at starts (get_or order i 0)) l)
-
-    pub turn_more : end ≤ offset_at starts (get_or order i 0) → Turn starts lengths order (offset_at starts (get_or order i 0) + offset_at lengths (get_or order i 0)) (i + 1)
-    turn_more l = record { reached = w.reached; whole = next (le-leb end (offset_at starts (get_or order i 0)) l) }
-
-  pub turn_ends : length order ≤ i → true ≡ test 0 order
-  turn_ends h = ap (test end) (sym (drop_of_length-le order h)) ∙ w.whole

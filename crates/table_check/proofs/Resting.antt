@@ -134,11 +134,6 @@ module _ (d n : ℕ) (masks lengths : List ℕ) where
   no_levels e =
       sym (every-from (λ j. true) 0 n (λ i a b. refl)) ∙ ap (λ (k : ℕ). every (λ j. rest_by_test (λ l. mask_at n masks l j) k (get_or lengths j 0)) (from 0 n)) (sym e)
 
--- a plane is there where there are levels
-pub plane_fits : (d n : ℕ) → (d ≡ 0 → ⊥) → n ≤ d * n
-plane_fits zero n h = absurd (h refl)
-plane_fits (suc d) n h = omega (arith, suc-mul d n)
-
 rests_are : (d n : ℕ) (masks lengths : List ℕ) → (d ≡ 0 → ⊥) → 0 < n → length masks ≡ d * n → every strict_test masks ≡ true
     → falls_test n masks && nulls_test n (length masks - n) masks lengths ≡ every (λ j. rest_by_test (λ l. mask_at n masks l j) d (get_or lengths j 0)) (from 0 n)
 rests_are zero n masks lengths deep some fit strict = absurd (deep refl)

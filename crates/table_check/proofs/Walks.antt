@@ -52,8 +52,3 @@ module _ {f : ℕ → Bool} {a k : ℕ} {ok : Bool} {i : ℕ} (w : Walk f a k ok
 
   pub walk_ends : a + k ≤ i → ok ≡ every f (from a k)
   walk_ends h = let n : a + k - i ≡ 0 = omega arith in sym (and_true ok) ∙ ap (λ (m : ℕ). ok && every f (from i m)) (sym n) ∙ w.whole
-
--- a walk that stops where the test fails
-pub walk_stops : {f : ℕ → Bool} {a k i : ℕ} → Walk f a k true i → i < a + k → f i ≡ false → false ≡ every f (from a k)
-walk_stops {f} {a} {k} {i} w h e =
-    ap (λ (b : Bool). b && every f (from (i + 1) (a + k - (i + 1)))) (sym e) ∙ sym (walk_next f (a + k) i h) ∙ w.whole

@@ -2,14 +2,12 @@
 -- Assumes nothing.
 use mathlib.Core.Path.{◌≡◌, refl, sym, ap, ◌∙◌}
 use mathlib.Core.Bool.{Bool, true, false}
-use Prim.Native.Nat.{ℕ, ◌≤◌}
-use Rattle.array.specs.Limits.{most_cells}
+use Prim.Native.Nat.{ℕ}
 use Rattle.array.specs.Answer.{Answer, gives, refuses, and_then, unless}
 use Rattle.array.specs.Kind.{Kind}
 use Rattle.array.specs.Meaning.{kind_of}
 use Rattle.array.specs.declared.kind.Kind as declared
 use Rattle.table.specs.Table.{table_kind_test, count_test}
-use Rattle.table.proofs.Rules.{table_kind_ok, count_ok}
 use Rattle.table_kind.specs.declared.TableShape.{TableShape}
 use Rattle.table_kind.specs.Shape.{shape_answer}
 
@@ -24,10 +22,6 @@ behind false b r = refl
 
 pub shape_refused : {A : Type 0} (k : Kind) (n : ℕ) {m : ℕ} → shape_answer k n ≡ refuses m → (r : Answer A) → refuses m ≡ unless (table_kind_test k) 1 (unless (count_test n) 2 r)
 shape_refused k n e r = sym (behind (table_kind_test k) (count_test n) r ∙ ap (λ (a : Answer (Unit {0})). and_then a (λ u. r)) e)
-
--- what the check of such a table asks
-pub check_asked : (s : TableShape) {room : ℕ} → s.cells ≤ room → (s.cells ≤ most_cells) × (1 ≤ s.cells) × (s.kind.depth ≤ 4) × (s.cells ≤ room)
-check_asked s h = let p = count_ok s.cells s.counted in (p.1, p.0, (table_kind_ok (kind_of s.kind) s.sound).sound.shallow, h)
 
 -- and what a call knows of those that were taken
 pub shape_taken : {k : declared.Kind} {n : ℕ} (s : TableShape) → (s.kind ≡ k) × (s.cells ≡ n) → (table_kind_test (kind_of k) ≡ true) × (count_test n ≡ true)

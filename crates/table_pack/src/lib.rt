@@ -25,6 +25,7 @@ fn most_ok(most: usize) -> bool
 }
 
 // Packs a table of which nothing is known: 4, and 5. `order` has room for the cells as they lie.
+// The four slices stay beside each other: two are written to, and a contract would name those of a struct `table.exit.0.now` and so on.
 fn pack_with(
     shape: TableShape,
     masks: &[u8],
@@ -45,8 +46,7 @@ fn pack_with(
         lengths,
         store,
     };
-    let lies = check_cells(depth, shape.cells, table, order);
-    let Some(numbers) = lies else {
+    let Some(numbers) = check_cells(depth, shape.cells, table, order) else {
         return Err(Refusal::Content);
     };
     if !store_ok(store.len()) {

@@ -1,6 +1,6 @@
 -- A walk over the cells of a table but one: what is found so far, cell by cell.
 -- Assumes nothing.
-use mathlib.Core.Path.{◌≡◌, refl, sym, ap, ap₂, ◌∙◌, subst}
+use mathlib.Core.Path.{◌≡◌, sym, ap, ap₂, ◌∙◌, subst}
 use mathlib.Core.Bool.{Bool, true, false, not}
 use mathlib.Core.List.{List, [], ◌∷◌, ◌++◌, map, append-nil}
 use Prim.Native.Nat.{ℕ, suc, ◌+◌, ◌≤◌, ◌<◌, max}
@@ -8,7 +8,7 @@ use native.Mathlib.Nat.{zero-add}
 use native.Mathlib.Numerals.{add-one}
 use native.Mathlib.Omega.{arith}
 use lib.ListN.{length, take, drop, get_or, take-append-drop}
-use lib.Seq.{take-suc, take_all, drop-cons}
+use lib.Seq.{take-suc, drop-cons}
 use lib.Dec.{eqb}
 use borrow.Author.Tests.{eq-eqb, ne_eqb}
 use Rattle.array.specs.Lists.{All, pick, passing}
@@ -22,7 +22,7 @@ use Rattle.table.specs.Walk.{elsewhere_by, without}
 use Rattle.table.proofs.Foreseeing.{walk_append}
 use Rattle.table_sums.proofs.Totals.{top_append}
 use Rattle.table_check.specs.Check.{Reached}
-use Rattle.table_preview.specs.Others.{Walkable, Found}
+use Rattle.table_preview.specs.Others.{Walkable}
 
 -- the bytes of some of the cells are no more than those of all
 passing-sum : (f : ℕ → ℕ) (p : ℕ → Bool) (xs : List ℕ) → sum (map f (passing p xs)) ≤ sum (map f xs)
@@ -42,20 +42,12 @@ pub record Looked (starts lengths : List ℕ) (c : ℕ) (js : List ℕ) (unpacke
   pub bytes : packed ≡ sum (map (offset_at lengths) (without c (take i js)))
   pub ends : top ≡ top_by (offset_at starts) (offset_at lengths) (without c (take i js))
 
-pub looked_begins : {starts lengths js : List ℕ} {c : ℕ} → Walkable starts lengths js → Looked starts lengths c js 0 0 0 0
-looked_begins w = record { walkable = w; within = omega arith; few = omega arith; elsewhere = refl; bytes = refl; ends = refl }
-
 module _ {starts lengths js : List ℕ} {c unpacked packed top i : ℕ} (l : Looked starts lengths c js unpacked packed top i) where
   abbrev start : ℕ → ℕ
   start = offset_at starts
 
   abbrev len : ℕ → ℕ
   len = offset_at lengths
-
-  pub looked_ends : length js ≤ i → Found start len c js unpacked top
-  looked_ends h =
-      let all : without c (take i js) ≡ without c js = ap (without c) (take_all i js h) in
-      record { elsewhere = l.elsewhere ∙ ap (elsewhere_by start len 0) all; few = omega (arith, l.few, l.within); ends = l.ends ∙ ap (top_by start len) all }
 
   module _ (h : i < length js) where
     abbrev j : ℕ

@@ -68,8 +68,7 @@ fn preview_with(
         setting.entry.cell setting.entry.masks.now setting.entry.value.now }
 {
     let depth = shape.kind.depth as usize;
-    let lies = check_cells(depth, shape.cells, table, order);
-    let Some(numbers) = lies else {
+    let Some(numbers) = check_cells(depth, shape.cells, table, order) else {
         return Err(Refusal::Content);
     };
     if !are_strict(setting.masks, depth) {

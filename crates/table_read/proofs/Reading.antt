@@ -20,7 +20,7 @@ use Rattle.array.specs.Places.{sum}
 use Rattle.array.proofs.Lists.{map-from, in_place_lem, length_from_lem}
 use Rattle.array.proofs.Sums.{length-joined-map}
 use Rattle.array.proofs.Offsets.{length-ends}
-use Rattle.array.proofs.Laying.{Laying, laying_begins, laying_same, laying_left, laying_ends, laying_part, laying_store, laying_is, laying_room}
+use Rattle.array.proofs.Laying.{Laying, laying_begins, laying_same, laying_left, laying_ends, laying_part, laying_store, laying_is}
 use Rattle.table.specs.Table.{Table, start_of, length_of, bytes_of}
 use Rattle.table_read.specs.Read.{values_of, InStore, CellsAsked}
 
@@ -110,12 +110,6 @@ read_begins {n} {t} {v} {o} a = record {
 module _ {n : ℕ} {t : Table} {v₀ o₀ v o : List ℕ} {at to first size : ℕ} (c : Reading n t v₀ o₀ v o at to first size) where
   pub read_same : length v ≡ length v₀
   read_same = laying_same (joined (values_of n t)) v₀ 0 v to (waiting t first size ++ joined (values_from n t at)) c.values
-
-  pub read_same_offsets : length o ≡ length o₀
-  read_same_offsets = laying_same (offsets_of (values_of n t)) o₀ 0 o at (offsets_from n t at (to + size)) c.offsets
-
-  pub offset_room : at < length o
-  offset_room = omega (arith, laying_room (offsets_of (values_of n t)) o₀ 0 o at (to + size) (ends (to + size) (values_from n t at)) c.offsets)
 
   waiting_long : length (waiting t first size) ≡ size
   waiting_long = length-take-le size (drop first t.store) (omega (arith, length-drop first t.store, c.stored))

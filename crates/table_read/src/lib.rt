@@ -69,8 +69,7 @@ fn read_with(
         ≡ read_out (kind_of shape.kind) shape.cells (lent_table table.entry) (content_array out_masks.old out_values.old out_offsets.old) }
 {
     let depth = shape.kind.depth as usize;
-    let lies = check_cells(depth, shape.cells, table, order);
-    let Some(_) = lies else {
+    let Some(_) = check_cells(depth, shape.cells, table, order) else {
         return Err(Refusal::Content);
     };
     if !store_ok(table.store.len()) {

@@ -19,6 +19,7 @@ use table_setting::masks::put_masks;
 use valid::masks::are_strict;
 
 // The setting made, in a table that has room for it: the old bytes are given up, and `size` new ones put in.
+// The four slices stay beside each other: they are written to, and a contract would name those of a struct `table.exit.0.now` and so on.
 fn settle(
     masks: &mut [u8],
     starts: &mut [u64],
@@ -82,8 +83,7 @@ fn set_with(
         lengths,
         store,
     };
-    let lies = check_cells(depth, shape.cells, table, order);
-    let Some(_) = lies else {
+    let Some(_) = check_cells(depth, shape.cells, table, order) else {
         return Err(Refusal::Content);
     };
     if !are_strict(setting.masks, depth) {

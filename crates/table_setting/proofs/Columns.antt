@@ -134,9 +134,6 @@ module _ {out : List ℕ} {n c : ℕ} {m : ℕ → ℕ} {d : ℕ} {now : List �
   pub storing_room : k < d → c < n → length out ≡ d * n → place < length now
   storing_room h g e = omega (arith, next_place, levels h, storing_same)
 
-  pub storing_small : k < d → c < n → n ≤ 65536 → d ≤ 4 → place + n ≤ 524288
-  storing_small h g few shallow = omega (arith, next_place, levels h, mul-le-mul_right n shallow)
-
   -- one level more: the byte b goes in as it is shown
   pub storing_more : k < d → (b : ℕ) → b ≡ m k → {r : Bool} → r ≡ shown && set_test b → (now' : List ℕ) → now' ≡ set now place (pick shown b 0)
       → Storing out n c m d now' r (place + n) (k + 1)

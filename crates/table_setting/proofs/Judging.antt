@@ -31,9 +31,6 @@ module _ (l : List ℕ) (room c : ℕ) (ms : List ℕ) (len : ℕ) where
   abbrev after : ℕ
   after = sum (set l c 0) + size_by ms len
 
-  pub long_store : leb room most_store ≡ false → refuses 5 ≡ fitted l room c ms len
-  long_store e = rw e
-
   module _ (e : leb room most_store ≡ true) where
     pub no_cell : length l ≤ c → refuses 15 ≡ fitted l room c ms len
     no_cell g = rw (e, le-ltb c (length l) g)

@@ -20,7 +20,7 @@ pub set_sound-requires : goal.set_sound-requires
 set_sound-requires c =
     let a = c.args in
     let table : Table = table_by a.masks.now a.starts.now a.lengths.now a.store.now in
-    sound a.shape table a.setting c.in-Some.ensures.sound (sym c.if-not-are_strict.ensures) (omega (arith, c.requires, c.check_cells-lies.auto.order))
+    sound a.shape table a.setting c.in-Some.ensures.sound (sym c.if-not-are_strict.ensures) (omega (arith, c.requires, c.check_cells.auto.order))
 
 pub returns-in_default : goal.returns-in_default
 returns-in_default c =
