@@ -1,11 +1,11 @@
--- `put::put_each` meets its contract, by the laws of Placing.
+-- `put::put_cell_places` meets its contract, by the laws of Placing.
 -- Assumes nothing.
 use Prim.Native.Nat.{◌+◌}
 use native.Mathlib.Omega.{arith}
 use Rattle.encode_data.proofs.Summing.{summing_rises, summing_fits}
 use Rattle.rest_masks.proofs.Numbering.{number-ends}
 use Rattle.table_make.proofs.Placing.{place_begins, place_more}
-use Rattle.table_make.proofs.put.put_each.Goals as goal
+use Rattle.table_make.proofs.put.put_cell_places.Goals as goal
 
 pub loop-j-init : goal.loop-j-init
 loop-j-init c =
