@@ -1,7 +1,8 @@
 -- What encode answers, one law for each way it ends.
 -- Assumes nothing.
-use mathlib.Core.Path.{◌≡◌, sym, ap, ap₂, ◌∙◌, subst}
+use mathlib.Core.Path.{◌≡◌, sym, ap, ap₂, ◌∙◌}
 use Prim.Native.Nat.{ℕ, ◌<◌, ◌≤◌}
+use native.Mathlib.Omega.{arith}
 use mathlib.Core.Bool.{Bool, true, false}
 use mathlib.Core.List.{List}
 use lib.ListN.{length}
@@ -9,7 +10,8 @@ use lib.Dec.{leb}
 use borrow.Author.Tests.{le-leb, lt-leb}
 use Rattle.std.specs.Prelude.{Result, Ok, Err}
 use Rattle.array.specs.declared.refusal.Refusal.{Refusal}
-use Rattle.array.specs.Meaning.{number_of, told}
+use Rattle.array.specs.Meaning.{number_of, kind_of, told}
+use Rattle.array.specs.declared.kind.Kind as declared
 use Rattle.array.specs.Answer.{Answer, gives, refuses, unless, Outcome}
 use Rattle.array.specs.Buffers.{over, list_outcome, put_list}
 use Rattle.valid.specs.Check.{check_of}
@@ -25,6 +27,7 @@ use Rattle.encode_values.specs.Ready.{Encodable}
 use Rattle.encode_values.specs.Stored.{stored_from, length_from}
 use Rattle.encode.proofs.Walk.{stored_by}
 use Rattle.encode_values.proofs.Levels.{stored_long}
+use Rattle.encode_values.proofs.Forms.{encodable_measured}
 
 -- a refusal leaves the output as it was
 abbrev pub refused : ℕ → List ℕ → Outcome ℕ (List ℕ)
@@ -72,27 +75,25 @@ module _ (k : Kind) (shape : List ℕ) (c : Content) (out : List ℕ) where
 
 -- ---- refusal 6, or the stored form
 
-module _ {k : Kind} {n : ℕ} {c : Content} (h : Encodable k n c) where
-  is_stored : stored_form k n c ≡ stored_from k n c k.depth
-  is_stored = stored_by h.content h.some
+module _ (k : declared.Kind) {n : ℕ} {c : Content} (h : Encodable (kind_of k) n c) where
+  pub stored_is : stored_form (kind_of k) n c ≡ stored_from (kind_of k) n c k.depth
+  stored_is = stored_by h.content h.some
 
-  module _ (out : List ℕ) {need : ℕ} (e : need ≡ length_from k n c.masks c.offsets k.depth) where
-    need_is : length (stored_from k n c k.depth) ≡ need
-    need_is = stored_long k n c h.content.values_fit k.depth ∙ sym e
+  pub stored_need : length (stored_from (kind_of k) n c k.depth) ≡ length_from (kind_of k) n c.masks c.offsets k.depth
+  stored_need = stored_long (kind_of k) n c h.content.values_fit k.depth
 
-    pub encode_room : need ≤ length out → length (stored_from k n c k.depth) ≤ length out
-    encode_room g = subst (λ (m : ℕ). m ≤ length out) (sym need_is) g
+  pub form_need : length (stored_form (kind_of k) n c) ≡ length_from (kind_of k) n c.masks c.offsets k.depth
+  form_need = ap length stored_is ∙ stored_need
 
-    pub encode_short : length out < need → refused 6 out ≡ put_list (stored_form k n c) out
-    encode_short g =
-        let s : List ℕ = stored_from k n c k.depth in
-        ap (λ (b : Bool). list_outcome (unless b 6 (gives s)) out) (sym (lt-leb (length s) (length out) (subst (λ (m : ℕ). length out < m) (sym need_is) g)))
-        ∙ ap (λ (x : List ℕ). put_list x out) (sym is_stored)
+pub list_short : (want out : List ℕ) → length out < length want → refused 6 out ≡ put_list want out
+list_short want out h = ap (λ (b : Bool). list_outcome (unless b 6 (gives want)) out) (sym (lt-leb (length want) (length out) h))
 
-    pub encode_written : need ≤ length out → {out' : List ℕ} → out' ≡ over (stored_from k n c k.depth) out
-        → ◌≡◌ {A = Outcome ℕ (List ℕ)} (record { answer = gives need; buffers = out' }) (put_list (stored_form k n c) out)
-    encode_written g {out'} eo =
-        let s : List ℕ = stored_from k n c k.depth in
-        ap₂ (λ (m : ℕ) (o : List ℕ). record { answer = gives m; buffers = o }) (sym need_is) eo
-        ∙ ap (λ (b : Bool). list_outcome (unless b 6 (gives s)) out) (sym (le-leb (length s) (length out) (encode_room g)))
-        ∙ ap (λ (x : List ℕ). put_list x out) (sym is_stored)
+pub list_written : (want out : List ℕ) {need : ℕ} → need ≤ length out → need ≡ length want → {out' : List ℕ} → out' ≡ over want out
+    → ◌≡◌ {A = Outcome ℕ (List ℕ)} (record { answer = gives need; buffers = out' }) (put_list want out)
+list_written want out g e eo =
+    ap₂ (λ (m : ℕ) (o : List ℕ). record { answer = gives m; buffers = o }) e eo
+    ∙ ap (λ (b : Bool). list_outcome (unless b 6 (gives want)) out) (sym (le-leb (length want) (length out) (omega arith)))
+
+pub ruleset written_laws = (encodable_measured, stored_need)
+
+pub ruleset encode_laws = (encode_kind, encode_shape, counted)

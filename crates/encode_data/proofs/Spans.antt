@@ -2,7 +2,7 @@
 -- Assumes nothing.
 use mathlib.Core.Path.{◌≡◌, refl, sym, ap, ap₂, ◌∙◌}
 use Prim.Native.Nat.{ℕ, zero, suc, ◌+◌, ◌-◌, ◌<◌, ◌≤◌}
-use native.Mathlib.Nat.{zero-add, le_of_eq}
+use native.Mathlib.Nat.{zero-add, le_of_eq, le_trans}
 use native.Mathlib.Omega.{arith}
 use mathlib.Core.List.{List, ◌∷◌, map}
 use lib.ListN.{length, take, drop, get_or}
@@ -13,10 +13,12 @@ use Rattle.array.specs.Places.{offset_at, Rises, step_at, values_at, bytes_at, e
 use Rattle.array.proofs.Geometry.{All-from}
 use Rattle.array.proofs.Lists.{from_suc, by_number}
 use Rattle.array.proofs.Offsets.{last_at}
-use Rattle.array.proofs.Places.{run_bytes, run_total, bytes_long, offsets_rise, first_zero}
+use Rattle.array.proofs.Places.{run_rises, below, run_bytes, run_total, bytes_long, offsets_rise, first_zero}
 use Rattle.live_cells.specs.Live.{live_at}
-use Rattle.live_cells.proofs.Runs.{All-passing, all_counted}
+use Rattle.live_cells.proofs.Runs.{run_le, All-passing, all_counted}
 use Rattle.encode_data.specs.Offsets.{Offsets}
+use Rattle.encode_data.specs.declared.LiveOffsets.{LiveOffsets}
+use Rattle.encode_data.specs.declared.LiveValues.{LiveValues}
 
 module _ {n : ℕ} {os : List ℕ} (o : Offsets n os) where
   pub rises : Rises (offset_at os) n
@@ -24,6 +26,21 @@ module _ {n : ℕ} {os : List ℕ} (o : Offsets n os) where
 
   pub ends-within : {m : ℕ} → last os ≡ m → offset_at os n ≤ m
   ends-within e = le_of_eq (sym (last_at os n o.counted) ∙ e)
+
+-- ---- the same of offsets and values with their level
+
+pub places_long : (p : LiveOffsets) → length p.offsets.now ≡ suc p.live.level.cells
+places_long p = p.rising.counted
+
+pub places_rise : (p : LiveOffsets) (i j : ℕ) → i ≤ j → j ≤ p.live.level.cells → get_or p.offsets.now i 0 ≤ get_or p.offsets.now j 0
+places_rise p i j h k =
+    let e : i + (j - i) ≡ j = omega arith in
+    omega (arith, run_rises (rises p.rising) i (j - i) (omega arith), ap (λ (m : ℕ). get_or p.offsets.now m 0) e)
+
+pub values_within : (v : LiveValues) (i : ℕ) → i ≤ v.places.live.level.cells → get_or v.places.offsets.now i 0 ≤ length v.values.now
+values_within v i h = le_trans (below (rises v.places.rising) i h) (ends-within v.places.rising v.whole)
+
+pub ruleset span_laws = (run_le, places_long, places_rise, values_within)
 
 -- ---- the cells that a level counts
 

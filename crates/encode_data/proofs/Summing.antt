@@ -6,19 +6,21 @@ use native.Mathlib.Nat.{add-zero, zero-add, mul-zero, mul-one}
 use native.Mathlib.Numerals.{add-one}
 use native.Mathlib.Omega.{arith}
 use mathlib.Core.Bool.{Bool, true, false}
-use mathlib.Core.List.{List, ◌∷◌}
+use mathlib.Core.List.{List, [], ◌∷◌}
+use lib.Seq.{take_all}
 use lib.ListN.{length, get_or}
 use Rattle.array.specs.Lists.{joined, pick, from, passing}
-use Rattle.array.specs.Buffers.{over_at}
 use Rattle.array.specs.Offsets.{last}
-use Rattle.array.specs.Places.{Rises, shown_at, bytes_at, offset_at, step_at, values_at}
-use Rattle.array.proofs.Laying.{laying_begins, laying_ends, laying_is}
+use Rattle.array.specs.Places.{Rises, shown_at, bytes_at, offset_at, step_at}
 use Rattle.array.proofs.Offsets.{last_at}
 use Rattle.array.proofs.Places.{run_rises}
-use Rattle.live_cells.specs.Live.{live_at}
 use Rattle.encode_data.specs.Offsets.{Offsets}
+use Rattle.encode_data.specs.Values.{live_bytes, live_values}
+use Rattle.encode_data.specs.declared.LiveOffsets.{LiveOffsets}
+use Rattle.encode_data.specs.declared.LiveValues.{LiveValues}
+use Rattle.encode_cells.proofs.Placing.{at_none}
 use Rattle.encode_cells.proofs.Packing.{none_left}
-use Rattle.encode_data.proofs.Spans.{rises, values_long}
+use Rattle.encode_data.proofs.Spans.{rises, values_long, all_values, all_bytes}
 
 -- the value bytes of those that pass, of the first i cells
 abbrev pub so_far_lem : (ℕ → ℕ) → (ℕ → Bool) → ℕ → ℕ
@@ -51,14 +53,32 @@ module _ (off : ℕ → ℕ) (t : ℕ → Bool) where
 pub bytes_le : {n : ℕ} {os : List ℕ} → Offsets n os → (t : ℕ → Bool) → bytes_at (offset_at os) (passing t (from 0 n)) ≤ last os
 bytes_le {n} {os} o t = omega (arith, so_far_all (offset_at os) t n, so_far_le (offset_at os) t (rises o) n (omega arith), last_at os n o.counted)
 
--- where there is no byte, there is nothing to write
-pub none_written : {n : ℕ} {os : List ℕ} (masks : List ℕ) (l : ℕ) → Offsets n os → (s : List ℕ) → last os ≡ length s → length s ≡ 0
-    → (to : ℕ) (out : List ℕ) → to + length (joined (values_at (offset_at os) s (live_at n masks l))) ≤ length out
-    → (0 ≡ length (joined (values_at (offset_at os) s (live_at n masks l)))) × (out ≡ over_at to (joined (values_at (offset_at os) s (live_at n masks l))) out)
-none_written {n} {os} masks l o s e z to out h =
-    let xs : List ℕ = joined (values_at (offset_at os) s (live_at n masks l)) in
-    let long : length xs ≡ 0 = omega (arith, values_long masks l o s e, bytes_le o (shown_at n masks l)) in
-    (sym long, laying_ends xs out to out 0 (laying_is (laying_begins xs out to h) (none_left xs long)))
+-- ---- where every cell counts, and where there is no byte
+
+module _ (p : LiveOffsets) where
+  pub bytes_all : p.live.count ≡ p.live.level.cells → get_or p.offsets.now p.live.level.cells 0 ≡ live_bytes p
+  bytes_all e = all_bytes p.rising p.live.level.masks.now p.live.level.depth p.live.counted e
+
+  pub bytes_most : live_bytes p ≤ get_or p.offsets.now p.live.level.cells 0
+  bytes_most =
+      let v = p.live.level in
+      omega (arith, bytes_le p.rising (shown_at v.cells v.masks.now v.depth), last_at p.offsets.now v.cells p.rising.counted)
+
+module _ (v : LiveValues) where
+  pub values_all : v.places.live.count ≡ v.places.live.level.cells → joined (live_values v) ≡ v.values.now
+  values_all e =
+      let l = v.places.live.level in
+      all_values v.places.rising l.masks.now l.depth v.places.live.counted e v.values.now v.whole
+
+  pub values_none : length v.values.now ≡ 0 → joined (live_values v) ≡ []
+  values_none z =
+      let l = v.places.live.level in
+      none_left (joined (live_values v))
+      (omega (arith, values_long l.masks.now l.depth v.places.rising v.values.now v.whole, bytes_le v.places.rising (shown_at l.cells l.masks.now l.depth), v.whole))
+
+pub ruleset bytes_laws = (bytes_all, bytes_most)
+
+pub ruleset values_laws = (values_all, values_none, at_none, take_all)
 
 -- ---- the sum so far
 

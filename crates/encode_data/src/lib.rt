@@ -35,6 +35,7 @@ impl<'a> LiveOffsets<'a> {
 
     // Value bytes of the cells that the level counts: each length by its mark, so that nothing branches on a mask.
     #[inline(always)]
+    #[tactic(auto, using(crate::proofs::Spans::span_laws))]
     fn sum(self) -> usize
         ensures { result ≡ live_bytes self.entry }
     {
@@ -66,6 +67,7 @@ impl<'a> LiveOffsets<'a> {
 
     // The same, without a walk where all cells count or there is nothing to sum up.
     #[inline(always)]
+    #[tactic(auto, using(crate::proofs::Summing::bytes_laws))]
     pub fn bytes(self) -> usize
         ensures { result ≡ live_bytes self.entry }
     {
@@ -107,6 +109,7 @@ impl<'a> LiveValues<'a> {
     // The values of the cells that the level counts, end to end; says how many bytes it wrote. Neighbours go as one run. As put_live_runs of
     // `encode_cells`, but a run lies between two offsets and has no size or order of cells: one function for both would have both sets of parameters.
     #[inline(always)]
+    #[tactic(auto, using(crate::proofs::Spans::span_laws))]
     fn put_runs(self, out: &mut [u8], to: usize) -> usize
         requires { to + length (joined (live_values self)) ≤ length out.old }
         ensures wrote { result ≡ length (joined (live_values self.entry)) }
@@ -150,6 +153,7 @@ impl<'a> LiveValues<'a> {
     }
 
     // The same. Where all cells count, it is the values as they lie.
+    #[tactic(auto, using(crate::proofs::Summing::values_laws))]
     pub fn put(self, out: &mut [u8], to: usize) -> usize
         requires { to + length (joined (live_values self)) ≤ length out.old }
         ensures wrote { result ≡ length (joined (live_values self.entry)) }

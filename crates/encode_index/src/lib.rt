@@ -77,6 +77,7 @@ pub fn put_index(out: &mut [u8], to: usize, width: IndexWidth, offsets: &[u64])
 }
 
 // The index of the cells that the level counts, from offset 0. Where all count, it is the offsets as they lie.
+#[tactic(auto, using(crate::proofs::IndexLaid::index_head))]
 pub fn put_live_index(out: &mut [u8], to: usize, width: IndexWidth, places: LiveOffsets)
     requires { to + length (index_of (width_of width) (0 ∷ live_ends places)) ≤ length out.old }
     ensures { out.new ≡ over_at to (index_of (width_of width) (0 ∷ live_ends places.entry)) out.old }

@@ -28,6 +28,7 @@ use Rattle.codec.specs.Interleaved.{put_interleaved, IsRagged, ragged_test, inte
 use Rattle.codec.specs.Calls.{interleaved_form, encode_interleaved_answer, interleaved_encoded}
 use Rattle.codec.proofs.Refusals.{interleaved_ok}
 use Rattle.encode_interleaved.specs.Held.{Held, interleaved_of, encoded_cells}
+use Rattle.encode_interleaved.proofs.Storing.{one_need, one_copied, one_empty}
 
 -- ---- is_interleaved
 
@@ -94,15 +95,13 @@ module _ (k : Kind) (n : ℕ) (c : Content) (out : List ℕ) {r : Result (Unit {
 
 -- ---- refusal 6, or the cells
 
-module _ (want out : List ℕ) {need : ℕ} where
-  pub cells_room : need ≤ length out → need ≡ length want → length want ≤ length out
-  cells_room g e = omega arith
+pub cells_short : (want out : List ℕ) → length out < length want → refused_list 6 out ≡ put_list want out
+cells_short want out h = rw (lt-leb (length want) (length out) h)
 
-  pub cells_short : length out < need → need ≡ length want → refused_list 6 out ≡ put_list want out
-  cells_short g e = rw (lt-leb (length want) (length out) (omega arith))
+pub cells_written : (want out : List ℕ) {need : ℕ} → need ≤ length out → need ≡ length want → {out' : List ℕ} → out' ≡ over want out
+    → ◌≡◌ {A = Outcome ℕ (List ℕ)} (record { answer = gives need; buffers = out' }) (put_list want out)
+cells_written want out g e eo =
+    ap₂ (λ (m : ℕ) (o : List ℕ). record { answer = gives m; buffers = o }) e eo
+    ∙ ap (λ (b : Bool). list_outcome (unless b 6 (gives want)) out) (sym (le-leb (length want) (length out) (omega arith)))
 
-  pub cells_written : need ≤ length out → need ≡ length want → {out' : List ℕ} → out' ≡ over want out
-      → ◌≡◌ {A = Outcome ℕ (List ℕ)} (record { answer = gives need; buffers = out' }) (put_list want out)
-  cells_written g e eo =
-      ap₂ (λ (m : ℕ) (o : List ℕ). record { answer = gives m; buffers = o }) e eo
-      ∙ ap (λ (b : Bool). list_outcome (unless b 6 (gives want)) out) (sym (le-leb (length want) (length out) (cells_room g e)))
+pub ruleset one_laws = (one_need, one_copied, one_empty, cells_short, cells_written)

@@ -2,13 +2,14 @@
 // Its length is known from the counts of cells and of value bytes, so the one walk is the one that stores.
 ghost use Rattle.std.specs.Prelude.{◌≡◌, ◌≤◌, length, true, [], ◌∷◌};
 ghost use Rattle.array.specs.Limits.{most_bytes, most_cells};
-ghost use Rattle.array.specs.Meaning.{kind_of};
-ghost use Rattle.array.specs.Outcome.{outcome, content_array};
+ghost use Rattle.array.specs.Meaning.{kind_of, lent};
+ghost use Rattle.array.specs.Outcome.{outcome};
 ghost use Rattle.array.specs.Buffers.{over, put_list};
 ghost use Rattle.codec.specs.Interleaved.{put_interleaved, interleaved_test};
 ghost use Rattle.codec.specs.Calls.{interleaved_encoded};
 ghost use Rattle.encode_interleaved.specs.Held.{Held, interleaved_of, encoded_cells};
 
+use array::content::ArrayBytes;
 use array::kind::{Kind, Values};
 use array::refusal::Refusal;
 use buffer::field;
@@ -30,8 +31,8 @@ fn put_cells(out: &mut [u8], values: &[u8], offsets: &[u64], cells: usize)
     field::put_u32(out, 0, cells as u64);
     let mut start: usize = 0;
     let mut at: usize = 4;
-    for i in 0..cells {
-        let end = offsets[i + 1] as usize;
+    for end in &offsets[1..] {
+        let end = *end as usize;
         let size = end - start;
         field::put_u32(out, at, size as u64);
         at += 4;
@@ -62,6 +63,7 @@ fn write_cells(
 }
 
 // The same of one cell, which has all the values.
+#[tactic(auto, using(crate::proofs::Writes::one_laws))]
 fn write_one(values: &[u8], out: &mut [u8]) -> Result<usize, Refusal>
     requires { length values.now ≤ most_bytes }
     ensures { outcome result out.new ≡ put_list (put_interleaved (values.now ∷ [])) out.old }
@@ -83,33 +85,23 @@ fn write_one(values: &[u8], out: &mut [u8]) -> Result<usize, Refusal>
 fn encode_cells(
     kind: Kind,
     cells: usize,
-    masks: &[u8],
-    values: &[u8],
-    offsets: &[u64],
+    array: ArrayBytes,
     out: &mut [u8],
 ) -> Result<usize, Refusal>
     requires { (interleaved_test (kind_of kind) ≡ true) × (cells ≤ most_cells) }
-    ensures { outcome result out.new
-        ≡ encoded_cells (kind_of kind) cells (content_array masks.now values.now offsets.now) out.old }
+    ensures { outcome result out.new ≡ encoded_cells (kind_of kind) cells (lent array.entry) out.old }
 {
-    array_bytes::check_array(kind, cells, masks, values, offsets)?;
-    write_cells(cells, values, offsets, out)
+    array_bytes::check_array(kind, cells, array)?;
+    write_cells(cells, array.values, array.offsets, out)
 }
 
 // The same of one cell. Here the compiler knows the count, and the walk over the offsets becomes one test.
-fn encode_one(
-    kind: Kind,
-    masks: &[u8],
-    values: &[u8],
-    offsets: &[u64],
-    out: &mut [u8],
-) -> Result<usize, Refusal>
+fn encode_one(kind: Kind, array: ArrayBytes, out: &mut [u8]) -> Result<usize, Refusal>
     requires { interleaved_test (kind_of kind) ≡ true }
-    ensures { outcome result out.new
-        ≡ encoded_cells (kind_of kind) 1 (content_array masks.now values.now offsets.now) out.old }
+    ensures { outcome result out.new ≡ encoded_cells (kind_of kind) 1 (lent array.entry) out.old }
 {
-    array_bytes::check_array(kind, 1, masks, values, offsets)?;
-    write_one(values, out)
+    array_bytes::check_array(kind, 1, array)?;
+    write_one(array.values, out)
 }
 
 // Writes a ragged array of depth 0 in the interleaved form. Refusals 1, 2, 4, 5 and 6, in this order; nothing is stored before the
@@ -117,20 +109,17 @@ fn encode_one(
 pub fn encode_interleaved(
     kind: Kind,
     shape: &[u64],
-    masks: &[u8],
-    values: &[u8],
-    offsets: &[u64],
+    array: ArrayBytes,
     out: &mut [u8],
 ) -> Result<usize, Refusal>
-    ensures { outcome result out.new ≡ interleaved_encoded (kind_of kind) shape.now
-        (record { masks = masks.entry.now; values = values.now; offsets = offsets.now }) out.old }
+    ensures { outcome result out.new ≡ interleaved_encoded (kind_of kind) shape.now (lent array.entry) out.old }
 {
     if !is_interleaved(kind) {
         return Err(Refusal::Kind);
     }
     let cells = shape::shape_cells(shape)?;
     if cells == 1 {
-        return encode_one(kind, masks, values, offsets, out);
+        return encode_one(kind, array, out);
     }
-    encode_cells(kind, cells, masks, values, offsets, out)
+    encode_cells(kind, cells, array, out)
 }

@@ -6,20 +6,22 @@ ghost use Rattle.array.specs.Meaning.{kind_of};
 ghost use Rattle.encode_values.specs.Ready.{Measured};
 ghost use Rattle.encode_values.specs.Stored.{length_from};
 
+use array::content::ArrayBytes;
 use array::kind;
 use array::kind::{Kind, Values};
 use live_cells::Level;
 use mask::form;
 
 // With so many levels left: 16 + the stored mask of the cells that the level counts + what is below, or nothing where no cell is left.
-pub fn content_length(kind: Kind, cells: usize, masks: &[u8], offsets: &[u64], left: usize) -> usize
-    requires ready { Measured (kind_of kind) cells masks.now offsets.now }
+#[tactic(auto, using(encode_values::proofs::Forms::length_laws), unfolding(array::specs::Limits::most_cells, array::specs::Limits::most_depth))]
+pub fn content_length(kind: Kind, cells: usize, array: ArrayBytes, left: usize) -> usize
+    requires ready { Measured (kind_of kind) cells array.masks.now array.offsets.now }
     requires within { left ≤ (kind_of kind).depth }
-    ensures { result ≡ length_from (kind_of kind) cells masks.now offsets.now left }
+    ensures { result ≡ length_from (kind_of kind) cells array.entry.masks.now array.entry.offsets.now left }
 {
     let depth = kind.depth as usize - left;
     let live = Level {
-        masks,
+        masks: array.masks,
         cells,
         depth,
     }
@@ -28,25 +30,26 @@ pub fn content_length(kind: Kind, cells: usize, masks: &[u8], offsets: &[u64], l
         return 0;
     }
     if left == 0 {
-        return encode_values::values_length(kind, offsets, live);
+        return encode_values::values_length(kind, array.offsets, live);
     }
     let mask = form::mask_length(kind.masks, live.count);
-    16 + mask + content_length(kind, cells, masks, offsets, left - 1)
+    16 + mask + content_length(kind, cells, array, left - 1)
 }
 
 // The written length of valid content of `cells` cells. At depth 0 there is no level to go through, and all cells count.
-pub fn stored_length(kind: Kind, cells: usize, masks: &[u8], offsets: &[u64]) -> usize
-    requires { Measured (kind_of kind) cells masks.now offsets.now }
-    ensures { result ≡ length_from (kind_of kind) cells masks.now offsets.now (kind_of kind).depth }
+#[tactic(auto, using(encode_values::proofs::Forms::flat_laws))]
+pub fn stored_length(kind: Kind, cells: usize, array: ArrayBytes) -> usize
+    requires { Measured (kind_of kind) cells array.masks.now array.offsets.now }
+    ensures { result ≡ length_from (kind_of kind) cells array.entry.masks.now array.entry.offsets.now (kind_of kind).depth }
 {
     let depth = kind.depth as usize;
     if 0 < depth {
-        return content_length(kind, cells, masks, offsets, depth);
+        return content_length(kind, cells, array, depth);
     }
     match kind.values {
         Values::Fixed(size, _) => cells * (size as usize),
         Values::Ragged(width, _) => {
-            8 + kind::width_bytes(width) * (cells + 1) + offsets[cells] as usize
+            8 + kind::width_bytes(width) * (cells + 1) + array.offsets[cells] as usize
         }
     }
 }

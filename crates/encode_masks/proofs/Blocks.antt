@@ -218,8 +218,8 @@ module _ {all count done m : ℕ} (ec : count ≡ all) (h : done < count) (e : m
 pub blocks_at : {x : Masks} {n : ℕ} {masks : List ℕ} {l : ℕ} {d : List ℕ} {to : ℕ} {out : List ℕ} {i j k : ℕ} → j ≡ k → Blocks x n masks l d to out i j → Blocks x n masks l d to out i k
 blocks_at {x} {n} {masks} {l} {d} {to} {out} {i} e p = subst (λ (j : ℕ). Blocks x n masks l d to out i j) e p
 
-module _ {x : Masks} {n : ℕ} {masks : List ℕ} {l : ℕ} {d : List ℕ} {to : ℕ} {out : List ℕ} {i done count m : ℕ} (p : Blocks x n masks l d to out i (min done count))
-    (ec : count ≡ length (live_at n masks l)) (h : done < count) (e : m ≡ min (count - done) 256) where
+module _ {x : Masks} {n : ℕ} {masks : List ℕ} {l : ℕ} {d : List ℕ} {to : ℕ} {out : List ℕ} {i done count m : ℕ}
+    (p : Blocks x n masks l d to out i (min done count)) (ec : count ≡ length (live_at n masks l)) (h : done < count) (e : m ≡ min (count - done) 256) where
   now : Blocks x n masks l d to out i done
   now = blocks_at (omega (arith, h)) p
 

@@ -1,4 +1,4 @@
--- Ragged values laid over an output, part by part, and the room that each part has.
+-- Ragged values laid over an output, part by part.
 -- Assumes nothing.
 use mathlib.Core.Path.{◌≡◌, sym, ap, ap₂, ◌∙◌}
 use Prim.Native.Nat.{ℕ, ◌+◌, ◌≤◌}
@@ -12,29 +12,6 @@ use Rattle.array.specs.Content.{RaggedContent}
 use Rattle.array.proofs.Bytes.{length-le}
 use Rattle.codec.specs.Ragged.{index_of, put_ragged, length_at, index_at, data_at}
 use Rattle.encode_cells.proofs.Placing.{at_front, at_behind}
-
--- values that begin at `at`, with so many bytes of index and of data
-module _ (p : Place) (at index bytes : ℕ) {m : ℕ} (h : at + (8 + index + bytes) ≤ m) where
-  pub data_room : {k : ℕ} → k ≡ data_at p index → at + k + bytes ≤ m
-  data_room {k} e = go p e
-    where
-      go : (p : Place) → k ≡ data_at p index → at + k + bytes ≤ m
-      go at_start e = omega arith
-      go at_end e = omega arith
-
-  pub index_room : {k : ℕ} → k ≡ index_at p (8 + index + bytes) index → at + k + index ≤ m
-  index_room {k} e = go p e
-    where
-      go : (p : Place) → k ≡ index_at p (8 + index + bytes) index → at + k + index ≤ m
-      go at_start e = omega arith
-      go at_end e = omega arith
-
-  pub length_room : {k : ℕ} → k ≡ length_at p (8 + index + bytes) → at + k + 8 ≤ m
-  length_room {k} e = go p e
-    where
-      go : (p : Place) → k ≡ length_at p (8 + index + bytes) → at + k + 8 ≤ m
-      go at_start e = omega arith
-      go at_end e = omega arith
 
 -- the data, then the index, then its length
 pub ragged_laid : (p : Place) (w at : ℕ) {index bytes : ℕ} (out : List ℕ) {o1 o2 o3 : List ℕ} (c : RaggedContent) {place start field : ℕ}

@@ -5,46 +5,43 @@ ghost use Rattle.std.specs.Prelude.{◌≡◌, map, ◌+◌, ◌≤◌, length};
 ghost use Rattle.array.specs.Buffers.{over, over_at};
 ghost use Rattle.array.specs.Kind.{ragged};
 ghost use Rattle.array.specs.Meaning.{width_of, place_of};
-ghost use Rattle.array.specs.Offsets.{last};
-ghost use Rattle.array.specs.Places.{offset_at, values_at};
 ghost use Rattle.codec.specs.Ragged.{put_ragged};
 ghost use Rattle.codec.specs.Values.{put_values};
-ghost use Rattle.live_cells.specs.Levels.{live_in};
-ghost use Rattle.encode_data.specs.Offsets.{Offsets};
+ghost use Rattle.encode_data.specs.Values.{live_values};
 
 use array::kind;
 use array::kind::{IndexPlace, IndexWidth};
 use buffer::{copy, field};
 use codec::place;
-use live_cells::Counted;
+use encode_data::LiveValues;
 
 // Ragged values of the cells that the level counts, end to end from offset 0; says how many bytes it wrote.
+#[tactic(auto, using(crate::proofs::Parts::count_below, crate::proofs::Parts::index_long, crate::proofs::Parts::stored_long))]
 pub fn put_ragged(
     out: &mut [u8],
     at: usize,
     width: IndexWidth,
     place: IndexPlace,
-    values: &[u8],
-    offsets: &[u64],
-    live: Counted,
+    values: LiveValues,
 ) -> usize
-    requires { Offsets live.level.cells offsets.now × (last offsets.now ≡ length values.now)
-        × (at + length (put_values (ragged (width_of width) (place_of place)) (values_at (offset_at offsets.now) values.now (live_in live.level))) ≤ length out.old) }
-    ensures wrote { result ≡ length (put_values (ragged (width_of width) (place_of place)) (values_at (offset_at offsets.now) values.now (live_in live.entry.level))) }
-    ensures bytes { out.new ≡ over_at at (put_values (ragged (width_of width) (place_of place)) (values_at (offset_at offsets.now) values.now (live_in live.entry.level))) out.old }
+    requires { at + length (put_values (ragged (width_of width) (place_of place)) (live_values values)) ≤ length out.old }
+    ensures wrote { result ≡ length (put_values (ragged (width_of width) (place_of place)) (live_values values.entry)) }
+    ensures bytes { out.new ≡ over_at at (put_values (ragged (width_of width) (place_of place)) (live_values values.entry)) out.old }
 {
-    let index = kind::width_bytes(width) * (live.count + 1);
+    let places = values.places;
+    let index = kind::width_bytes(width) * (places.live.count + 1);
     let data = at + place::data_at(place, index);
-    let bytes = encode_data::put_live_data(out, data, values, offsets, live);
+    let bytes = values.put(out, data);
     let stored = 8 + index + bytes;
     let start = at + place::index_at(place, stored, index);
-    encode_index::put_live_index(out, start, width, offsets, live);
+    encode_index::put_live_index(out, start, width, places);
     let field = at + place::length_at(place, stored);
     field::put_u64(out, field, index as u64);
     stored
 }
 
 // The same with no mask, in one go: all cells count, so values and offsets go as they lie.
+#[tactic(auto, using(crate::proofs::Parts::plain_long, codec::proofs::Ragged::length_index))]
 pub fn put_plain(
     out: &mut [u8],
     width: IndexWidth,

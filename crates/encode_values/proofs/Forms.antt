@@ -16,7 +16,9 @@ use Rattle.array.specs.declared.kind.Values.{Values}
 use Rattle.array.specs.declared.kind.Values.TheVariants.{Fixed, Ragged}
 use Rattle.array.specs.Limits.{most_bytes, most_cells}
 use Rattle.array.specs.Lists.{from, joined, pieces}
-use Rattle.array.specs.Kind.{Kind, Form, fixed, ragged, FormOk, ordered}
+use Rattle.codec.specs.Mask.{mask_form}
+use Rattle.codec.proofs.Masks.{mask_laws}
+use Rattle.array.specs.Kind.{Kind, Masks, Form, fixed, ragged, FormOk, ordered}
 use Rattle.array.specs.Meaning.{order_of, width_of, place_of, form_of, kind_of}
 use Rattle.array.specs.Offsets.{last, Rising}
 use Rattle.array.specs.Cells.{Value}
@@ -27,19 +29,18 @@ use Rattle.codec.specs.Ragged.{put_ragged}
 use Rattle.codec.specs.Values.{put_values}
 use Rattle.codec.proofs.Flat.{flat-put}
 use Rattle.live_cells.specs.Live.{live_at, Planes}
+use Rattle.live_cells.specs.declared.Counted.{Counted}
 use Rattle.encode_data.specs.Offsets.{Offsets}
 use Rattle.encode_values.specs.Ready.{MeasuresOk, Measured, Encodable}
 use Rattle.encode_values.specs.Stored.{values_from, values_length_at, length_from}
+use Rattle.live_cells.proofs.Levels.{level_count}
 use Rattle.live_cells.proofs.Runs.{live-le, live_all}
 use Rattle.encode_cells.proofs.Packing.{fixed_long}
 use Rattle.live_cells.proofs.LiveMarks.{count_all}
 use Rattle.encode_data.proofs.Spans.{all_bytes}
-use Rattle.encode_values.proofs.Levels.{NarrowOk, values_small, flat-length}
+use Rattle.encode_values.proofs.Levels.{NarrowOk, values_small, length_none, length_values, length-frame, length_small, flat-length}
 
 -- ---- the masks of all levels
-
-pub measured_planes : {k : Kind} {n : ℕ} {masks os : List ℕ} → Measured k n masks os → Planes n masks k.depth
-measured_planes m = record { shallow = m.shallow; few = m.few; planes = m.planes }
 
 module _ {k : Kind} {n : ℕ} {c : Content} (r : Encodable k n c) where
   pub encodable_planes : Planes n c.masks k.depth
@@ -65,6 +66,18 @@ pub narrow_of : (v : Values) → NarrowOk (form_of v)
 narrow_of (Fixed s o) = tt
 narrow_of (Ragged Four p) = omega arith
 narrow_of (Ragged Eight p) = omega arith
+
+-- ---- how long what is written is
+
+pub mask_small : (x : Masks) (c : Counted) → (mask_form x).size c.count ≤ c.level.cells
+mask_small x c = omega (arith, (mask_laws x).size_le c.count, c.counted, live-le c.level.cells c.level.masks.now c.level.depth)
+
+pub length_fits : (k : declared.Kind) {n : ℕ} {masks os : List ℕ} → Measured (kind_of k) n masks os → (left : ℕ)
+    → length_from (kind_of k) n masks os left ≤ left * 65552 + 17301520
+length_fits k m left = length_small (narrow_of k.values) m left
+
+-- what is written of a level, case by case
+pub ruleset length_laws = (level_count, length_none, length_values, length-frame, mask_small, length_fits)
 
 -- ---- how long values are
 
@@ -133,6 +146,8 @@ module _ (k : declared.Kind) (z : k.depth ≡ 0) {n : ℕ} {masks os : List ℕ}
     pub flat_ragged_small : 8 + j * (n + 1) + get_or os n 0 ≤ 17301520
     flat_ragged_small = ragged_small k m all e ej bytes
 
+pub ruleset flat_laws = (flat_fixed, flat_fixed_small, flat_ragged, flat_ragged_small)
+
 -- ---- what is written of them
 
 module _ (k : declared.Kind) {n : ℕ} {c : Content} (r : Encodable (kind_of k) n c) where
@@ -147,10 +162,11 @@ module _ (k : declared.Kind) {n : ℕ} {c : Content} (r : Encodable (kind_of k) 
     fixed_source = omega (arith, fixed_fits)
 
     -- as the kind says
-    pub fixed_writes : {l : ℕ} → l ≡ k.depth → put_values (fixed s (order_of o)) (values_at (fixed_at 0 s) c.values (live_at n c.masks l)) ≡ values_from (kind_of k) n c
-    fixed_writes {l} el =
-        ap (λ (v : Values). put_values (form_of v) (map (value_in (form_of v) c) (live_at n c.masks l))) (sym e)
-        ∙ ap (λ (d : ℕ). put_values (form_of k.values) (map (value_in (form_of k.values) c) (live_at n c.masks d))) el
+    pub fixed_writes : {ms : List ℕ} → ms ≡ c.masks → {l : ℕ} → l ≡ k.depth
+        → put_values (fixed s (order_of o)) (values_at (fixed_at 0 s) c.values (live_at n ms l)) ≡ values_from (kind_of k) n c
+    fixed_writes {ms} em {l} el =
+        ap (λ (v : Values). put_values (form_of v) (map (value_in (form_of v) c) (live_at n ms l))) (sym e)
+        ∙ ap₂ (λ (m : List ℕ) (d : ℕ). put_values (form_of k.values) (map (value_in (form_of k.values) c) (live_at n m d))) em el
 
     -- at depth 0 all cells
     pub fixed_all : k.depth ≡ 0 → joined (map (ordered (order_of o)) (pieces s n c.values)) ≡ values_from (kind_of k) n c
@@ -158,10 +174,10 @@ module _ (k : declared.Kind) {n : ℕ} {c : Content} (r : Encodable (kind_of k) 
     fixed_all z =
         ap (λ (vs : List Value). joined (map (ordered (order_of o)) vs))
         (pieces_are 0 s n 0 c.values {at = 0} (omega (arith, zero-mul s)) ∙ ap (values_at (fixed_at 0 s) c.values) (all_cells z))
-        ∙ fixed_writes refl
+        ∙ fixed_writes refl refl
 
-    pub fixed_wrote : {l : ℕ} → l ≡ k.depth → {count : ℕ} → count ≡ length (live_at n c.masks l) → count * s ≡ length (values_from (kind_of k) n c)
-    fixed_wrote {l} el ec = ap (λ (j : ℕ). j * s) ec ∙ sym (fixed_long (order_of o) s c.values (shown_at n c.masks l) n fixed_source) ∙ ap length (fixed_writes el)
+    pub fixed_wrote : {ms : List ℕ} → ms ≡ c.masks → {l : ℕ} → l ≡ k.depth → {count : ℕ} → count ≡ length (live_at n ms l) → count * s ≡ length (values_from (kind_of k) n c)
+    fixed_wrote {ms} em {l} el ec = ap (λ (j : ℕ). j * s) ec ∙ sym (fixed_long (order_of o) s c.values (shown_at n ms l) n fixed_source) ∙ ap length (fixed_writes em el)
 
   module _ {w : IndexWidth} {p : IndexPlace} (e : k.values ≡ Ragged w p) where
     fits : (length c.offsets ≡ suc n) × Rising c.offsets × (last c.offsets ≡ length c.values)
@@ -173,11 +189,11 @@ module _ (k : declared.Kind) {n : ℕ} {c : Content} (r : Encodable (kind_of k) 
     pub offsets_end : last c.offsets ≡ length c.values
     offsets_end = fits.2
 
-    pub ragged_writes : {l : ℕ} → l ≡ k.depth
-        → put_values (ragged (width_of w) (place_of p)) (values_at (offset_at c.offsets) c.values (live_at n c.masks l)) ≡ values_from (kind_of k) n c
-    ragged_writes {l} el =
-        ap (λ (v : Values). put_values (form_of v) (map (value_in (form_of v) c) (live_at n c.masks l))) (sym e)
-        ∙ ap (λ (d : ℕ). put_values (form_of k.values) (map (value_in (form_of k.values) c) (live_at n c.masks d))) el
+    pub ragged_writes : {ms : List ℕ} → ms ≡ c.masks → {l : ℕ} → l ≡ k.depth
+        → put_values (ragged (width_of w) (place_of p)) (values_at (offset_at c.offsets) c.values (live_at n ms l)) ≡ values_from (kind_of k) n c
+    ragged_writes {ms} em {l} el =
+        ap (λ (v : Values). put_values (form_of v) (map (value_in (form_of v) c) (live_at n ms l))) (sym e)
+        ∙ ap₂ (λ (m : List ℕ) (d : ℕ). put_values (form_of k.values) (map (value_in (form_of k.values) c) (live_at n m d))) em el
 
     -- at depth 0 with all cells, as they lie
     pub ragged_all : k.depth ≡ 0 → put_ragged (width_of w) (place_of p) (record { values = c.values; offsets = c.offsets }) ≡ values_from (kind_of k) n c
@@ -185,4 +201,4 @@ module _ (k : declared.Kind) {n : ℕ} {c : Content} (r : Encodable (kind_of k) 
         sym (flat-put (width_of w) (place_of p) (record { values = c.values; offsets = c.offsets }) fits.0 fits.1 fits.2)
         ∙ ap (put_values (ragged (width_of w) (place_of p))) (values_are (ragged (width_of w) (place_of p)) n c fits)
         ∙ ap (λ (is : List ℕ). put_values (ragged (width_of w) (place_of p)) (values_at (offset_at c.offsets) c.values is)) (all_cells z)
-        ∙ ragged_writes refl
+        ∙ ragged_writes refl refl

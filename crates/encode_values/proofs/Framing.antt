@@ -11,10 +11,6 @@ use Rattle.array.proofs.Bytes.{length-le}
 use Rattle.codec.specs.Frame.{wrap}
 use Rattle.encode_cells.proofs.Placing.{at_front}
 
--- what was written, under another name
-pub told_as : {x y : List ℕ} (at : ℕ) (out : List ℕ) {r : ℕ} {o : List ℕ} → (r ≡ length x) × (o ≡ over_at at x out) → x ≡ y → (r ≡ length y) × (o ≡ over_at at y out)
-told_as {x = x} {y = y} at out p e = (p.0 ∙ ap length e, p.1 ∙ ap (λ (s : List ℕ). over_at at s out) e)
-
 -- a frame: the content, then its mask, then the two lengths
 pub frame_laid : (at : ℕ) (mask content out : List ℕ) {n m : ℕ} {o1 o2 o3 o4 : List ℕ} → length mask ≡ n → length content ≡ m → at + (16 + n + m) ≤ length out
     → o1 ≡ over_at (at + 16 + n) content out → o2 ≡ over_at (at + 16) mask o1 → o3 ≡ over_at (at + 8) (le 8 m) o2 → o4 ≡ over_at at (le 8 n) o3

@@ -67,7 +67,7 @@ pub values_long : (f : Form) (n : ℕ) (c : Content) (l : ℕ) → ValuesOk f n 
     → length (put_values f (map (value_in f c) (live_at n c.masks l))) ≡ values_length_at f c.offsets (live_at n c.masks l)
 values_long (fixed k o) n c l p = fixed_long o k c.values (shown_at n c.masks l) n (omega (arith, p.0))
 values_long (ragged w q) n c l p =
-    ragged_long w q c.masks l {os = c.offsets} (record { counted = p.0; rising = p.1 }) c.values p.2 {count = length (live_at n c.masks l)} refl refl refl
+    ragged_long w q c.masks l {os = c.offsets} (record { counted = p.0; rising = p.1 }) c.values p.2
     ∙ ap (λ (m : ℕ). 8 + w * m + bytes_at (offset_at c.offsets) (live_at n c.masks l)) (add-one (length (live_at n c.masks l)))
 
 or_nothing_lem : {A : Type 0} (f : List A → List ℕ) (is : List A) {x : ℕ} → length (f is) ≡ x → length (unless_none f is) ≡ or_nothing (length is) x

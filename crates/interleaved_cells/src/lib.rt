@@ -36,8 +36,11 @@ fn copy_blocks(values: &mut [u8], to: usize, bytes: &[u8], at: usize, size: usiz
     requires { (size + 31 ≤ room) × (to + room ≤ length values.old) × (at + room ≤ length bytes.now) }
     ensures { Copied size room (drop at bytes.now) to values.old values.new }
 {
-    for done in (0..size).step_by(32) {
+    let mut done = 0;
+    // a range by steps counts its turns beside `done`: 4,096 cells and more took 1.06 to 1.16 times as long
+    while done < size {
         copy_few(values, to + done, bytes, at + done, 32);
+        done += 32;
     }
 }
 

@@ -3,22 +3,8 @@
 use mathlib.Core.Path.{refl, sym, ◌∙◌}
 use Rattle.std.specs.Prelude.{Ok, Err}
 use Rattle.std.proofs.lemmas.Result.{err_from_is_err_and}
-use Rattle.array.specs.Limits.{most_cells}
-use Rattle.valid.proofs.ShapeLaws.{counted}
-use Rattle.encode.proofs.Encodes.{encode_kind, encode_shape, encode_content, encode_encodable, encode_rest}
+use Rattle.encode.proofs.Encodes.{encode_content, encode_encodable, encode_rest}
 use Rattle.encode.proofs.encode.Goals as goal
-
-pub returns-then-not-check_kind : goal.returns-then-not-check_kind
-returns-then-not-check_kind c = encode_kind _ _ _ _ (sym c.if-not-check_kind.ensures)
-
-pub returns-in_err-cells : goal.returns-in_err-cells
-returns-in_err-cells c =
-    let p = err_from_is_err_and c.from_residual.result c.from_residual.ensures.1 in
-    rw (p.1, p.2) (encode_shape _ _ _ _ (sym c.if-not-check_kind.ensures) c.in_err-cells.ensures)
-
-pub check_array-requires : goal.check_array-requires
-unfolding most_cells
-check_array-requires c = (counted _ _ c.in_ok-cells.ensures).few
 
 pub returns-in_err-check_array : goal.returns-in_err-check_array
 returns-in_err-check_array c =

@@ -4,12 +4,11 @@ use mathlib.Core.Path.{ap}
 use native.Mathlib.Omega.{arith}
 use lib.ListN.{length}
 use Rattle.array.specs.Meaning.{width_of}
-use Rattle.array.specs.Places.{ends_at, offset_at}
 use Rattle.codec.specs.Ragged.{index_of}
-use Rattle.live_cells.specs.Levels.{live_in}
 use Rattle.encode_cells.proofs.Placing.{laid_as}
+use Rattle.encode_data.specs.Values.{live_ends}
 use Rattle.encode_data.proofs.Spans.{all_ends}
-use Rattle.encode_index.proofs.IndexLaid.{index_head, index_laid}
+use Rattle.encode_index.proofs.IndexLaid.{index_laid}
 use Rattle.encode_index.proofs.put_live_index.Goals as goal
 
 pub put_index-requires : goal.put_index-requires
@@ -17,21 +16,6 @@ put_index-requires c =
     let live = c.args.places.live in
     let full = all_ends c.args.places.rising live.level.masks.now live.level.depth live.counted c.if-live.true in
     omega (arith, c.requires, ap length (ap (index_of (width_of c.args.width)) full))
-
-pub put_offset-requires : goal.put_offset-requires
-put_offset-requires c =
-    let head = index_head (width_of c.args.width) (ends_at (offset_at c.args.places.offsets.now) 0 (live_in c.args.places.live.level)) in
-    omega (arith, c.requires, head)
-
-pub overflow_add-behind : goal.overflow_add-behind
-overflow_add-behind c =
-    let head = index_head (width_of c.args.width) (ends_at (offset_at c.args.places.offsets.now) 0 (live_in c.args.places.live.level)) in
-    omega (arith, c.requires, head, c.width_bytes.ensures)
-
-pub put_live_ends-requires : goal.put_live_ends-requires
-put_live_ends-requires c =
-    let head = index_head (width_of c.args.width) (ends_at (offset_at c.args.places.offsets.now) 0 (live_in c.args.places.live.level)) in
-    omega (arith, c.requires, head, c.width_bytes.ensures, c.put_offset.auto.out)
 
 pub returns-then-live : goal.returns-then-live
 returns-then-live c =
@@ -42,4 +26,4 @@ returns-then-live c =
 pub returns-else-live : goal.returns-else-live
 returns-else-live c =
     let a = c.args in
-    index_laid a.to (ends_at (offset_at a.places.offsets.now) 0 (live_in a.places.live.level)) a.out.now c.requires c.width_bytes.ensures c.put_offset.ensures c.put_live_ends.ensures
+    index_laid a.to (live_ends a.places) a.out.now c.requires c.width_bytes.ensures c.put_offset.ensures c.put_live_ends.ensures

@@ -4,20 +4,11 @@ use mathlib.Core.Path.{ap}
 use Prim.Native.Nat.{ℕ, ◌+◌, ◌*◌}
 use native.Mathlib.Omega.{arith}
 use Rattle.encode_data.proofs.Summing.{summing_inside, summing_rises, summing_fits}
-use Rattle.encode_index.proofs.Indexing.{indexing_begins, indexing_same, indexing_ends, indexing_inside, indexing_room, indexing_more}
+use Rattle.encode_index.proofs.Indexing.{indexing_begins, indexing_ends, indexing_inside, indexing_room, indexing_more}
 use Rattle.encode_index.proofs.put_marked_ends.Goals as goal
 
 pub loop-done-init : goal.loop-done-init
 loop-done-init c = indexing_begins c.args.places.rising c.requires
-
-pub mark-mark-requires : goal.mark-mark-requires
-mark-mark-requires c = indexing_inside c.loop-done.invariant c.args.places.live.counted c.loop-done-test.true
-
-pub bounds-offsets-i : goal.bounds-offsets-i
-bounds-offsets-i c = omega (arith, summing_inside c.loop-done.invariant.sums (indexing_inside c.loop-done.invariant c.args.places.live.counted c.loop-done-test.true))
-
-pub overflow_add-end : goal.overflow_add-end
-overflow_add-end c = omega (arith, summing_inside c.loop-done.invariant.sums (indexing_inside c.loop-done.invariant c.args.places.live.counted c.loop-done-test.true))
 
 pub bounds-offsets-i-in-loop-done : goal.bounds-offsets-i-in-loop-done
 bounds-offsets-i-in-loop-done c = summing_inside c.loop-done.invariant.sums (indexing_inside c.loop-done.invariant c.args.places.live.counted c.loop-done-test.true)
@@ -25,33 +16,15 @@ bounds-offsets-i-in-loop-done c = summing_inside c.loop-done.invariant.sums (ind
 pub overflow_sub-bytes : goal.overflow_sub-bytes
 overflow_sub-bytes c = summing_rises c.loop-done.invariant.sums (indexing_inside c.loop-done.invariant c.args.places.live.counted c.loop-done-test.true)
 
-pub overflow_mul-bytes : goal.overflow_mul-bytes
-overflow_mul-bytes c =
-    let fits = summing_fits c.loop-done.invariant.sums (indexing_inside c.loop-done.invariant c.args.places.live.counted c.loop-done-test.true) c.mark-mark.ensures in
-    omega (arith, fits, c.type_inv.offsets (c.loop-done.i + 1))
-
 pub overflow_add-total : goal.overflow_add-total
 overflow_add-total c =
     let fits = summing_fits c.loop-done.invariant.sums (indexing_inside c.loop-done.invariant c.args.places.live.counted c.loop-done-test.true) c.mark-mark.ensures in
     omega (arith, fits, c.type_inv.offsets (c.loop-done.i + 1))
 
-pub overflow_mul-done : goal.overflow_mul-done
-overflow_mul-done c =
-    let wide = ap (λ (w : ℕ). c.loop-done.done * w) c.width_bytes-k.ensures in
-    omega (arith, wide, indexing_room c.loop-done.invariant c.args.places.live.counted c.loop-done-test.true, indexing_same c.loop-done.invariant)
-
-pub overflow_add-to : goal.overflow_add-to
-overflow_add-to c =
-    let wide = ap (λ (w : ℕ). c.loop-done.done * w) c.width_bytes-k.ensures in
-    omega (arith, wide, indexing_room c.loop-done.invariant c.args.places.live.counted c.loop-done-test.true, indexing_same c.loop-done.invariant)
-
 pub put_offset-requires : goal.put_offset-requires
 put_offset-requires c =
     let wide = ap (λ (w : ℕ). c.loop-done.done * w) c.width_bytes-k.ensures in
     omega (arith, wide, indexing_room c.loop-done.invariant c.args.places.live.counted c.loop-done-test.true)
-
-pub overflow_add-i : goal.overflow_add-i
-overflow_add-i c = omega (arith, indexing_inside c.loop-done.invariant c.args.places.live.counted c.loop-done-test.true)
 
 pub loop-done-smaller : goal.loop-done-smaller
 loop-done-smaller c = omega (arith, indexing_inside c.loop-done.invariant c.args.places.live.counted c.loop-done-test.true)

@@ -11,9 +11,3 @@ loop-done-preserved c =
 
 pub returns : goal.returns
 returns c = blocks_end c.loop-done.invariant c.requires.0 c.loop-done-test.false
-
-pub returns-2 : goal.returns-2
-returns-2 c =
-    let pre = c.requires in
-    let last = blocks_next c.loop-done.invariant c.loop-done-test.true (omega (arith, pre)) (omega (arith, pre, c.loop-done-test.true)) c.copy_few.ensures in
-    blocks_end last pre.0 (omega arith)

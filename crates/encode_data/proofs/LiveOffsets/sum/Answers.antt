@@ -2,11 +2,8 @@
 -- Assumes nothing.
 use Prim.Native.Nat.{◌+◌}
 use native.Mathlib.Omega.{arith}
-use Rattle.encode_data.proofs.Summing.{summing_ends, summing_rises, summing_fits}
+use Rattle.encode_data.proofs.Summing.{summing_ends, summing_fits}
 use Rattle.encode_data.proofs.LiveOffsets.sum.Goals as goal
-
-pub overflow_sub-total : goal.overflow_sub-total
-overflow_sub-total c = summing_rises c.loop-i.invariant c.loop-i-test.true
 
 pub overflow_add-total : goal.overflow_add-total
 overflow_add-total c =

@@ -1,24 +1,12 @@
 -- `encode_data::LiveValues::put_runs` meets its contract: by the laws of Slicing.
 -- Assumes nothing.
 use native.Mathlib.Omega.{arith}
-use Rattle.encode_data.proofs.Slicing.{slicing_same, slicing_ends, slicing_wrote}
-use Rattle.encode_data.proofs.Slicing.{slicing_skip, slicing_inside, slicing_rises, slicing_source, slicing_room, slicing_more}
+use Rattle.encode_data.proofs.Slicing.{slicing_ends, slicing_wrote}
+use Rattle.encode_data.proofs.Slicing.{slicing_skip, slicing_rises, slicing_source, slicing_room, slicing_more}
 use Rattle.encode_data.proofs.LiveValues.put_runs.Goals as goal
 
 pub loop-i-preserved-then-mark-eq0 : goal.loop-i-preserved-then-mark-eq0
 loop-i-preserved-then-mark-eq0 c = slicing_skip c.loop-i.invariant c.loop-i-test.true c.mark.ensures c.if-mark-eq0.true
-
-pub overflow_add-end : goal.overflow_add-end
-overflow_add-end c = omega (arith, slicing_inside c.loop-i.invariant c.run-run.ensures c.loop-i-test.true)
-
-pub offset_bounds-offsets-i-else-mark-eq0 : goal.offset_bounds-offsets-i-else-mark-eq0
-offset_bounds-offsets-i-else-mark-eq0 c = omega (arith, slicing_inside c.loop-i.invariant c.run-run.ensures c.loop-i-test.true)
-
-pub bounds-offsets-i-else-mark-eq0 : goal.bounds-offsets-i-else-mark-eq0
-bounds-offsets-i-else-mark-eq0 c = slicing_inside c.loop-i.invariant c.run-run.ensures c.loop-i-test.true
-
-pub overflow_sub-end : goal.overflow_sub-end
-overflow_sub-end c = slicing_rises c.loop-i.invariant c.run-run.ensures c.loop-i-test.true
 
 pub copy_bytes-requires : goal.copy_bytes-requires
 copy_bytes-requires c =
@@ -26,20 +14,6 @@ copy_bytes-requires c =
     let rises = slicing_rises l c.run-run.ensures c.loop-i-test.true in
     let source = slicing_source l c.run-run.ensures c.loop-i-test.true in
     (slicing_room l c.run-run.ensures c.loop-i-test.true, omega (arith, rises, source))
-
-pub overflow_sub-done : goal.overflow_sub-done
-overflow_sub-done c = slicing_rises c.loop-i.invariant c.run-run.ensures c.loop-i-test.true
-
-pub overflow_add-done : goal.overflow_add-done
-overflow_add-done c =
-    let l = c.loop-i.invariant in
-    omega (arith, slicing_room l c.run-run.ensures c.loop-i-test.true, slicing_same l)
-
-pub overflow_add-i-else-mark-eq0 : goal.overflow_add-i-else-mark-eq0
-overflow_add-i-else-mark-eq0 c = omega (arith, slicing_inside c.loop-i.invariant c.run-run.ensures c.loop-i-test.true)
-
-pub overflow_add-i-else-mark-eq0-2 : goal.overflow_add-i-else-mark-eq0-2
-overflow_add-i-else-mark-eq0-2 c = omega (arith, slicing_inside c.loop-i.invariant c.run-run.ensures c.loop-i-test.true)
 
 pub loop-i-preserved : goal.loop-i-preserved
 loop-i-preserved c = slicing_more c.loop-i.invariant c.run-run.ensures c.loop-i-test.true c.copy_bytes.ensures

@@ -10,8 +10,7 @@ use Rattle.array.specs.Buffers.{put_list}
 use Rattle.array.specs.Cells.{Value}
 use Rattle.codec.specs.Interleaved.{put_interleaved}
 use Rattle.encode_interleaved.proofs.Storing.{one_cell}
-use Rattle.array.specs.Meaning.{kind_of}
-use Rattle.array.specs.Outcome.{content_array}
+use Rattle.array.specs.Meaning.{kind_of, lent}
 use Rattle.encode_interleaved.proofs.Writes.{write_content, write_held, write_rest}
 use Rattle.encode_interleaved.proofs.write.encode_one.Goals as goal
 
@@ -22,7 +21,7 @@ check_array-requires c = omega arith
 pub returns-in_err-check_array : goal.returns-in_err-check_array
 returns-in_err-check_array c =
     let a = c.args in
-    let content = content_array a.masks.now a.values.now a.offsets.now in
+    let content = lent a.array in
     let p = err_from_is_err_and c.from_residual.result c.from_residual.ensures.1 in
     rw (p.1, p.2) (write_content (kind_of a.kind) 1 content a.out.now {r = Err c.in_err-check_array.field-0.0} c.in_err-check_array.ensures refl)
 
@@ -30,7 +29,7 @@ pub returns : goal.returns
 unfolding most_cells
 returns c =
     let a = c.args in
-    let content = content_array a.masks.now a.values.now a.offsets.now in
+    let content = lent a.array in
     let held = write_held (kind_of a.kind) 1 content a.out.now {r = Ok tt} c.in_ok-check_array.ensures c.requires refl (omega arith) in
     c.write_one.ensures
     ∙ ap (λ (vs : List Value). put_list (put_interleaved vs) a.out.now) (one_cell held)
