@@ -22,6 +22,7 @@ use live_cells::Level;
 // Where each cell begins, and the last one ends, if those that the level counts lie end to end: a length by its mark, so that nothing
 // branches on a mask.
 #[inline(always)]
+#[tactic(auto, using(encode_data::proofs::Spans::places_rise))]
 fn put_cell_offsets(out: &mut [u64], places: LiveOffsets)
     requires { places.live.level.cells < length out.old }
     ensures { out.new ≡ over (places_by (shown_in places.entry.live.level) places.entry.offsets.now (places.entry.live.level.cells + 1)) out.old }

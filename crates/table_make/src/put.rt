@@ -15,6 +15,7 @@ fn start_at(to: u64, size: u64) -> u64
 
 // Cell by cell. One that is not shown has no bytes: its length by its mark, so that nothing branches on a mask.
 #[inline(always)]
+#[tactic(auto, using(encode_data::proofs::Spans::places_rise))]
 fn put_cell_places(starts: &mut [u64], lengths: &mut [u64], places: LiveOffsets)
     requires { (places.live.level.cells ≤ length starts.old) × (places.live.level.cells ≤ length lengths.old) }
     ensures starts { starts.new ≡ over (starts_of places.entry) starts.old }
