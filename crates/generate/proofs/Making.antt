@@ -181,7 +181,9 @@ module _ {f : Form} {d n s₀ : ℕ} {o₀ o : List ℕ} {s at to : ℕ} (c : Pl
   }
 
   pub place_ends : at ≡ n → set o n to ≡ over all_offsets o₀
-  place_ends h = ap (λ (j : ℕ). set o j to) (sym h) ∙ laying_ends all_offsets o₀ 0 (set o at to) (at + 1) (laying_is stored (ap (λ (cs : List (Cell d)). ends to (leaves d cs)) (no_cells f d s (omega arith))))
+  place_ends h =
+      ap (λ (j : ℕ). set o j to) (sym h)
+      ∙ laying_ends all_offsets o₀ 0 (set o at to) (at + 1) (laying_is stored (ap (λ (cs : List (Cell d)). ends to (leaves d cs)) (no_cells f d s (omega arith))))
 
 -- ---- how much is stored
 

@@ -42,7 +42,8 @@ impl<'r, 'a> Guest<'r, 'a> {
         }
     }
 
-    // Value bytes of the cells that are seen.
+    // Value bytes of the cells that are seen. As sum of `encode_data`, by another mark: one loop for both would take the mark as a closure, and
+    // its law in each contract, and save no line.
     #[inline(always)]
     fn sum(self, offsets: &[u64]) -> usize
         requires { Offsets self.level.cells offsets.now }

@@ -22,7 +22,8 @@ use live_cells::Level;
 // Where each cell begins, and the last one ends, if those that the level counts lie end to end: a length by its mark, so that nothing
 // branches on a mask.
 #[inline(always)]
-fn put_each(out: &mut [u64], places: LiveOffsets)
+#[tactic(auto, using(encode_data::proofs::Spans::places_rise))]
+fn put_cell_offsets(out: &mut [u64], places: LiveOffsets)
     requires { places.live.level.cells < length out.old }
     ensures { out.new ≡ over (places_by (shown_in places.entry.live.level) places.entry.offsets.now (places.entry.live.level.cells + 1)) out.old }
 {
@@ -45,11 +46,11 @@ fn put_offsets(out: &mut [u64], places: LiveOffsets)
     requires { (places.live.level.depth ≡ 1) × (places.live.level.cells < length out.old) }
     ensures { out.new ≡ over (places_by (shown_in places.entry.live.level) places.entry.offsets.now (places.entry.live.level.cells + 1)) out.old }
 {
-    put_each(out, places.at_depth(1));
+    put_cell_offsets(out, places.at_depth(1));
 }
 
 // The values that a plane shows, end to end, and where each begins and the last one ends. Says how many bytes they have.
-fn put_shown<'a>(
+fn put_seen<'a>(
     out_values: &mut [u8],
     out_offsets: &mut [u64],
     values: &'a [u8],
@@ -111,7 +112,7 @@ pub fn read_ragged(
         return Err(Refusal::Output);
     }
     guest.put_masks(out_masks);
-    let bytes = put_shown(
+    let bytes = put_seen(
         out_values,
         out_offsets,
         values,

@@ -25,7 +25,7 @@ pub fn kept(above: u8, mask: u8) -> u8
 }
 
 // The plane below another.
-fn put_plane(out: &mut [u8], above: &[u8], masks: &[u8])
+fn put_kept(out: &mut [u8], above: &[u8], masks: &[u8])
     requires { (length above.now ≤ length out.old) × (length above.now ≤ length masks.now) }
     ensures { out.new ≡ over (map (kept_by above.now masks.now) (from 0 (length above.now))) out.old }
 {
@@ -41,7 +41,7 @@ fn put_below(out: &mut [u8], masks: &[u8], cells: usize, at: usize)
 {
     let to = at + cells;
     let (before, behind) = out.split_at_mut(to);
-    put_plane(behind, &before[at..to], &masks[to..to + cells]);
+    put_kept(behind, &before[at..to], &masks[to..to + cells]);
 }
 
 // The planes below the outermost, which lies in the output already and is that of the masks or says less: `left` of them.
@@ -60,7 +60,7 @@ fn put_outermost(out: &mut [u8], above: Option<&[u8]>, masks: &[u8], cells: usiz
     ensures { out.new ≡ over (take cells (covered cells above.entry masks.now)) out.old }
 {
     match above {
-        Some(plane) => put_plane(out, plane, masks),
+        Some(plane) => put_kept(out, plane, masks),
         None => copy_many(out, 0, masks, 0, cells),
     }
 }

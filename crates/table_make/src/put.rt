@@ -15,7 +15,8 @@ fn start_at(to: u64, size: u64) -> u64
 
 // Cell by cell. One that is not shown has no bytes: its length by its mark, so that nothing branches on a mask.
 #[inline(always)]
-fn put_each(starts: &mut [u64], lengths: &mut [u64], places: LiveOffsets)
+#[tactic(auto, using(encode_data::proofs::Spans::places_rise))]
+fn put_cell_places(starts: &mut [u64], lengths: &mut [u64], places: LiveOffsets)
     requires { (places.live.level.cells ≤ length starts.old) × (places.live.level.cells ≤ length lengths.old) }
     ensures starts { starts.new ≡ over (starts_of places.entry) starts.old }
     ensures lengths { lengths.new ≡ over (lengths_of places.entry) lengths.old }
@@ -42,11 +43,11 @@ pub fn put_places(starts: &mut [u64], lengths: &mut [u64], places: LiveOffsets)
     ensures lengths { lengths.new ≡ over (lengths_of places.entry) lengths.old }
 {
     match places.live.level.depth {
-        0 => put_each(starts, lengths, places.at_depth(0)),
-        1 => put_each(starts, lengths, places.at_depth(1)),
-        2 => put_each(starts, lengths, places.at_depth(2)),
-        3 => put_each(starts, lengths, places.at_depth(3)),
-        4 => put_each(starts, lengths, places.at_depth(4)),
-        _ => put_each(starts, lengths, places),
+        0 => put_cell_places(starts, lengths, places.at_depth(0)),
+        1 => put_cell_places(starts, lengths, places.at_depth(1)),
+        2 => put_cell_places(starts, lengths, places.at_depth(2)),
+        3 => put_cell_places(starts, lengths, places.at_depth(3)),
+        4 => put_cell_places(starts, lengths, places.at_depth(4)),
+        _ => put_cell_places(starts, lengths, places),
     }
 }

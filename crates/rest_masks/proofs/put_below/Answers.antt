@@ -8,4 +8,4 @@ pub returns : goal.returns
 returns c =
     let a = c.args in
     let parts = c.split_at_mut-before.ensures in
-    plane_behind a.cells a.at a.masks.now a.out.now (omega (arith, c.requires.0)) parts.front parts.back c.put_plane.ensures
+    plane_behind a.cells a.at a.masks.now a.out.now (omega (arith, c.requires.0)) parts.front parts.back c.put_kept.ensures

@@ -11,5 +11,5 @@ use Rattle.rest_masks.proofs.put_outermost.Goals as goal
 pub returns-in-Some : goal.returns-in-Some
 returns-in-Some c =
     let a = c.args in
-    rw c.in-Some.is (c.put_plane.ensures
+    rw c.in-Some.is (c.put_kept.ensures
     ∙ ap (λ (g : List ℕ). over g a.out.now) (below_plane a.cells c.in-Some.plane a.masks.now (subst (Covers a.cells) c.in-Some.is c.requires.0)))

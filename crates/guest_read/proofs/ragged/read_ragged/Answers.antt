@@ -38,8 +38,8 @@ returns-then-not-has_room c =
     (ragged_long a.guest v.values.now v.offsets.now c.requires)
     (leb-false (bytes_seen a.guest v.offsets.now) _ (sym (c.if-not-has_room.ensures (bytes_seen a.guest v.offsets.now) (λ n h. h) (ragged_most a.guest v.values.now v.offsets.now c.requires))))
 
-pub put_shown-bytes-requires : goal.put_shown-bytes-requires
-put_shown-bytes-requires c =
+pub put_seen-bytes-requires : goal.put_seen-bytes-requires
+put_seen-bytes-requires c =
     let a = c.args in
     let g = a.guest in
     let vs = a.array.values.now in
@@ -64,7 +64,7 @@ returns c =
     let long = plane_long g.level.cells (masks_seen g) g.masked a.out_masks.now c.put_masks.ensures in
     let live = plane_live g.level.cells (masks_seen g) g.masked a.out_masks.now c.put_masks.ensures in
     let values = plane_values g vs os c.requires plane long live in
-    let shown = c.put_shown-bytes.ensures in
+    let shown = c.put_seen-bytes.ensures in
     let wrote = shown.wrote ∙ ap length values in
     let fits = leb-true (bytes_seen g os) _ (sym (c.if-not-has_room.ensures (bytes_seen g os) (λ n h. h) (ragged_most g vs os c.requires))) in
     put (seen_of (ragged 8 at_start) g vs os) (content_array a.out_masks.now a.out_values.now a.out_offsets.now) _ _ _

@@ -1,10 +1,10 @@
--- `put_plane` meets its contract, by the laws of Numbering.
+-- `put_kept` meets its contract, by the laws of Numbering.
 -- Assumes nothing.
 use mathlib.Core.Path.{sym}
 use native.Mathlib.Nat.{zero-add}
 use native.Mathlib.Omega.{arith}
 use Rattle.rest_masks.proofs.Numbering.{number_begins, number-ends, number_more}
-use Rattle.rest_masks.proofs.put_plane.Goals as goal
+use Rattle.rest_masks.proofs.put_kept.Goals as goal
 
 pub loop-j-init : goal.loop-j-init
 loop-j-init c = number_begins _ _ _ _ (omega (arith, c.requires.0))

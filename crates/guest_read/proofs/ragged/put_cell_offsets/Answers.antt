@@ -1,19 +1,16 @@
--- `ragged::put_each` meets its contract, by the laws of Placed.
+-- `ragged::put_cell_offsets` meets its contract, by the laws of Placed.
 -- Assumes nothing.
 use mathlib.Core.Path.{◌≡◌, ap, ◌∙◌}
 use Prim.Native.Nat.{ℕ, ◌+◌}
 use native.Mathlib.Omega.{arith}
 use lib.ListN.{set}
 use Rattle.live_cells.specs.Levels.{shown_in}
-use Rattle.encode_data.proofs.Summing.{summing_rises, summing_fits}
+use Rattle.encode_data.proofs.Summing.{summing_fits}
 use Rattle.guest_read.proofs.Placed.{placed_begins, placed_more, placed-ends}
-use Rattle.guest_read.proofs.ragged.put_each.Goals as goal
+use Rattle.guest_read.proofs.ragged.put_cell_offsets.Goals as goal
 
 pub loop-j-init : goal.loop-j-init
 loop-j-init c = placed_begins (shown_in c.args.places.live.level) c.args.places.rising c.requires
-
-pub overflow_sub-to : goal.overflow_sub-to
-overflow_sub-to c = summing_rises c.loop-j.invariant.sums c.loop-j-test.true
 
 pub overflow_add-to : goal.overflow_add-to
 overflow_add-to c = omega (arith, summing_fits c.loop-j.invariant.sums c.loop-j-test.true c.mark-mark.ensures, c.type_inv.offsets (c.loop-j.j + 1))
