@@ -13,7 +13,7 @@ use crate::loads::Load;
 // Draws how many levels of the cell `at` are set, and stores 01 in their planes. A null ends it: nothing is drawn for the levels below,
 // whose bytes are 00 already.
 #[inline(always)]
-pub fn draw_levels(load: Load, first: Generator, at: usize, masks: &mut [u8]) -> Drawn<usize>
+pub fn mark_levels(load: Load, first: Generator, at: usize, masks: &mut [u8]) -> Drawn<usize>
     requires { Column load.n at load.depth masks.old }
     ensures draws { drew result ≡ set_levels load.depth first.state }
     ensures marks { masks.new ≡ column load.n at (replicate result.made 1) masks.old }

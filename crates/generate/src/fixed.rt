@@ -11,7 +11,7 @@ ghost use Rattle.generate.specs.Cells.{sized, set_masks, column};
 ghost use Rattle.generate.specs.Loads.{cells_of};
 ghost use Rattle.generate.specs.Room.{Column, FixedRoom};
 
-use crate::cell::{draw_bytes, draw_levels};
+use crate::cell::{draw_bytes, mark_levels};
 use crate::generator::Generator;
 use crate::loads::Load;
 use array::answer::Lengths;
@@ -34,7 +34,7 @@ fn draw_cell(
     ensures marks { masks.new ≡ column load.n at (set_masks load.depth (draw_cell (sized size) load.depth first.state).made) masks.old }
     ensures stores { values.new ≡ over_at to (leaf load.depth (draw_cell (sized size) load.depth first.state).made) values.old }
 {
-    let levels = draw_levels(load, first, at, masks);
+    let levels = mark_levels(load, first, at, masks);
     if levels.made == load.depth {
         return draw_bytes(levels.next, values, to, size);
     }

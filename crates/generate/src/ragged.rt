@@ -12,7 +12,7 @@ ghost use Rattle.generate.specs.Cells.{lengthy, length_drawn, set_masks, column}
 ghost use Rattle.generate.specs.Loads.{cells_of, bytes_of};
 ghost use Rattle.generate.specs.Room.{Column, RaggedRoom};
 
-use crate::cell::{draw_few, draw_levels};
+use crate::cell::{draw_few, mark_levels};
 use crate::generator::{Drawn, Generator};
 use crate::loads::Load;
 use array::answer::Lengths;
@@ -48,7 +48,7 @@ fn draw_cell(
     ensures marks { masks.new ≡ column load.n at (set_masks load.depth (draw_cell lengthy load.depth first.state).made) masks.old }
     ensures stores { values.new ≡ over_at to (leaf load.depth (draw_cell lengthy load.depth first.state).made) values.old }
 {
-    let levels = draw_levels(load, first, at, masks);
+    let levels = mark_levels(load, first, at, masks);
     let next = levels.next;
     if levels.made == load.depth {
         let drawn = next.draw();

@@ -10,7 +10,7 @@ pub returns-then-levels-load : goal.returns-then-levels-load
 unfolding draw_value
 returns-then-levels-load c =
     let a = c.args in
-    let levels = c.draw_levels-levels.ensures in
+    let levels = c.mark_levels-levels.ensures in
     let value = (cell_of_lem (sized a.size) a.load.depth a.first.state levels.draws).if_set_lem c.if-levels-load.true in
     record {
       draws = c.draw_bytes.ensures.draws ∙ sym value.1;
@@ -21,7 +21,7 @@ returns-then-levels-load c =
 pub returns : goal.returns
 returns c =
     let a = c.args in
-    let levels = c.draw_levels-levels.ensures in
+    let levels = c.mark_levels-levels.ensures in
     let value = (cell_of_lem (sized a.size) a.load.depth a.first.state levels.draws).if_null c.if-levels-load.false in
     record {
       draws = sym value.1;

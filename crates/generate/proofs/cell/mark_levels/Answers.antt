@@ -1,9 +1,9 @@
--- `cell::draw_levels` meets its contract, by the laws of Drawing and Columns.
+-- `cell::mark_levels` meets its contract, by the laws of Drawing and Columns.
 -- Assumes nothing.
 use native.Mathlib.Omega.{arith}
 use Rattle.generate.proofs.Drawing.{climb_null, climb_more, climb_ends}
 use Rattle.generate.proofs.Columns.{mark_more}
-use Rattle.generate.proofs.cell.draw_levels.Goals as goal
+use Rattle.generate.proofs.cell.mark_levels.Goals as goal
 
 pub returns-then-drawn-eq0-clause-draws : goal.returns-then-drawn-eq0-clause-draws
 returns-then-drawn-eq0-clause-draws c = climb_null c.loop-set.invariant.0 c.draw-drawn.ensures (omega arith) c.if-drawn-eq0.true
