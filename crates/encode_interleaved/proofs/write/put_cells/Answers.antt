@@ -3,13 +3,10 @@
 use mathlib.Core.Path.{ap, ◌∙◌}
 use Prim.Native.Nat.{ℕ, ◌<◌, ◌-◌}
 use native.Mathlib.Omega.{arith}
-use Rattle.encode_interleaved.proofs.Storing.{need_is, storing_begins, storing_done, storing_same, storing_ends, storing_rises}
+use Rattle.encode_interleaved.proofs.Storing.{storing_begins, storing_done, storing_same, storing_ends, storing_rises}
 use Rattle.encode_interleaved.proofs.Storing.{turns_are, end_is, storing_output, stored_same, storing_none, storing_is, storing_more}
 use Rattle.encode_interleaved.proofs.write.put_cells.Goals.{then-size-gt0, else-size-gt0}
 use Rattle.encode_interleaved.proofs.write.put_cells.Goals as goal
-
-pub put_u32-requires : goal.put_u32-requires
-put_u32-requires c = omega (arith, need_is c.requires.held, c.requires.room)
 
 pub loop-end-init : goal.loop-end-init
 loop-end-init c = storing_begins c.requires.held c.args.out.now c.requires.room c.put_u32.ensures
