@@ -105,3 +105,5 @@ cells_written want out g e eo =
     ∙ ap (λ (b : Bool). list_outcome (unless b 6 (gives want)) out) (sym (le-leb (length want) (length out) (omega arith)))
 
 pub ruleset one_laws = (one_need, one_copied, one_empty, cells_short, cells_written)
+
+pub ruleset call_laws = (write_kind, write_shape, counted)

@@ -23,6 +23,7 @@ fn is_interleaved(kind: Kind) -> bool
 }
 
 // The count, then each cell: its length and its bytes. What is copied beyond a cell, the cells after it write over.
+#[tactic(auto, using(codec::proofs::Older::length_interleaved))]
 fn put_cells(out: &mut [u8], values: &[u8], offsets: &[u64], cells: usize)
     requires held { Held cells values.now offsets.now }
     requires room { length (interleaved_of values.now offsets.now) ≤ length out.old }
@@ -107,6 +108,7 @@ fn encode_one(kind: Kind, array: ArrayBytes, out: &mut [u8]) -> Result<usize, Re
 
 // Writes a ragged array of depth 0 in the interleaved form. Refusals 1, 2, 4, 5 and 6, in this order; nothing is stored before the
 // last check.
+#[tactic(auto, using(crate::proofs::Writes::call_laws), unfolding(array::specs::Limits::most_cells))]
 pub fn encode_interleaved(
     kind: Kind,
     shape: &[u64],

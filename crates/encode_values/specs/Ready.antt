@@ -7,6 +7,8 @@ use Rattle.array.specs.Kind.{Kind, KindOk, Form, fixed, ragged}
 use Rattle.array.specs.Offsets.{last, Rising}
 use Rattle.array.specs.Content.{Content, ContentOk}
 
+-- It stands in five contracts, and no struct carries it: lengths ask less (Measured), and a frame and its values have their cells by a level,
+-- so that each would take kind, cells and array out of the struct again.
 pub record Encodable (k : Kind) (n : ℕ) (c : Content) : Type 0 where
   pub kind : KindOk k
   pub some : 1 ≤ n
