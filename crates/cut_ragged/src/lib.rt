@@ -31,6 +31,7 @@ pub enum Source {
 }
 
 // Offset j of an index.
+#[tactic(auto, unfolding(crate::specs::Source::stored_at))]
 fn stored_at(bytes: &[u8], index: usize, width: IndexWidth, j: usize) -> u64
     requires { index + (width_of width + j * width_of width) ≤ length bytes.now }
     ensures { result ≡ stored_at (width_of width) bytes.now index j }
@@ -64,6 +65,7 @@ impl<'a> RaggedValues<'a> {
 }
 
 // How many bytes the cells of a subset have.
+#[tactic(auto, unfolding(array::specs::Limits::most_cells))]
 fn count_bytes(src: RaggedValues, subset: Subset) -> usize
     requires { Holds src (volume subset.shape.now) }
     ensures { result ≡ bytes_at (begins_in src.entry) (cells_of subset.entry) }
@@ -92,6 +94,7 @@ fn store_ends(out: &mut [u64], src: RaggedValues, row: Row, begin: u64, total: u
 }
 
 // Copies the values of a subset's cells, and writes where each ends from the place 1 on.
+#[tactic(auto, unfolding(array::specs::Limits::most_cells))]
 fn copy_rows(values: &mut [u8], offsets: &mut [u64], src: RaggedValues, subset: Subset) -> usize
     requires { CutAsked values.old offsets.old src subset.shape.now (cells_of subset) }
     ensures values { values.new ≡ over (joined (values_in src.entry (cells_of subset.entry))) values.old }

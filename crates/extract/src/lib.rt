@@ -22,6 +22,7 @@ use subset::walk::Subset;
 pub mod cells;
 
 // The values of a subset's cells, with the offsets of ragged ones; or 6. Nothing is stored before the last check.
+#[tactic(auto, using(valid::proofs::CheckLaws::small_product, subset::proofs::Rows::asked_few), unfolding(array::specs::Limits::most_cells))]
 fn cut_values(
     form: Values,
     out_values: &mut [u8],
@@ -62,6 +63,7 @@ fn cut_values(
 
 // The cut of an array that keeps the rules: 6, or the masks, values and offsets of the subset's cells. Masks come last, as the room for
 // them is known before that for values.
+#[tactic(auto, using(valid::proofs::CheckLaws::small_product, subset::proofs::Rows::asked_few), unfolding(array::specs::Limits::most_cells))]
 fn cut_valid(
     kind: Kind,
     cells: usize,

@@ -13,6 +13,7 @@ ghost use Rattle.merge_cover.specs.Bits.{marks_of, bits_at, no_words};
 use subset::walk::{Subset, Subsets};
 
 // No cell is marked.
+#[tactic(auto, unfolding(crate::specs::Bits::no_words))]
 fn no_marks() -> [u64; 1024]
     ensures { result ≡ no_words }
 {
@@ -28,6 +29,7 @@ fn in_word(i: usize, end: usize) -> usize
 }
 
 // n bits, all of them set.
+#[tactic(auto, using(crate::proofs::RunBits::ones_is))]
 fn ones(n: usize) -> u64
     requires { (1 ≤ n) × (n ≤ 64) }
     ensures { result ≡ 2 ^ n - 1 }
@@ -37,6 +39,7 @@ fn ones(n: usize) -> u64
 }
 
 // The marks of n cells from i on, which lie in one word, as a number.
+#[tactic(auto, using(crate::proofs::RunBits::low_bits), unfolding(crate::specs::Bits::bits_at))]
 fn marks_at(words: &[u64; 1024], i: usize, n: usize) -> u64
     requires { (i < 65536) × (1 ≤ n) × (i % 64 + n ≤ 64) }
     ensures { result ≡ bits_at words.now i n }
@@ -49,6 +52,7 @@ fn marks_at(words: &[u64; 1024], i: usize, n: usize) -> u64
 }
 
 // Marks n cells from i on, which lie in one word and are not marked: so their bits are added.
+#[tactic(auto, using(crate::proofs::RunBits::run_fits, crate::proofs::RunBits::run_marked))]
 fn set_marks(words: &mut [u64; 1024], i: usize, n: usize)
     requires { (i < 65536) × (1 ≤ n) × (i % 64 + n ≤ 64) × (bits_at words.old i n ≡ 0) }
     ensures { gives (marks_of words.new) ≡ marking (marks_of words.old) (from i n) }
@@ -61,6 +65,7 @@ fn set_marks(words: &mut [u64; 1024], i: usize, n: usize)
 }
 
 // Marks cells that are neighbours, a word at a time; whether none was marked already.
+#[tactic(auto, using(crate::proofs::MarkRuns::run_ends))]
 fn mark_run(words: &mut [u64; 1024], start: usize, len: usize) -> bool
     requires { start + len ≤ 65536 }
     ensures { told_marks result (marks_of words.new) ≡ marking (marks_of words.old) (from start len) }
@@ -80,6 +85,7 @@ fn mark_run(words: &mut [u64; 1024], start: usize, len: usize) -> bool
 }
 
 // Marks the cells of a subset, row by row; whether none was marked already.
+#[tactic(auto, using(crate::proofs::Marking::marked_ends), unfolding(array::specs::Limits::most_cells))]
 fn mark_subset(words: &mut [u64; 1024], subset: Subset) -> bool
     ensures { told_marks result (marks_of words.new) ≡ marking (marks_of words.old) (cells_of subset.entry) }
 {
@@ -93,6 +99,7 @@ fn mark_subset(words: &mut [u64; 1024], subset: Subset) -> bool
 
 // Whether each cell of the shape lies in exactly one of the subsets: the subsets have as many cells as the shape, and none is marked
 // twice. What is left is counted down, so that no sum wraps.
+#[tactic(auto, using(crate::proofs::Marking::cover_ends, subset::proofs::Index::few_shape))]
 pub fn covers(subsets: Subsets) -> bool
     ensures { result ≡ once_test (volume subsets.entry.shape.now) (cells_of_each subsets.entry) }
 {

@@ -15,6 +15,7 @@ use Rattle.array.specs.Kind.{Kind, Form, fixed, ragged, Order, Place}
 use Rattle.array.specs.Outcome.{content_array}
 use Rattle.array.proofs.Answers.{passed, same_given}
 use Rattle.array.proofs.Rules.{array_ok}
+use Rattle.valid.proofs.CheckLaws.{small_product}
 use Rattle.chunks.specs.Chunks.{offset_count, first_chunk}
 use Rattle.merge_stores.proofs.RaggedTies.{last-take, take_long}
 use Rattle.merge_rules.specs.Chunks.{chunk_taken, takes, chunk_takes, size_answer, chunk_answer}
@@ -121,3 +122,5 @@ module _ (k : Kind) (m : ℕ) (c : Content) where
 
     pub chunk_keeps : not keeps ≡ false → takes taken numbers ≡ chunk_answer k m c
     chunk_keeps h = (λ i. takes (s.is_taken i) (s.is_numbers i)) ∙ answered (sym (not-false keeps h) ∙ own)
+
+pub ruleset chunk_laws = (small_product, size_known, size_lacking, chunk_lacks)

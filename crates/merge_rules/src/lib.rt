@@ -22,6 +22,7 @@ pub struct Chunk {
 }
 
 // What a chunk takes by the offsets that are left: a ragged one has as many value bytes as its last offset says.
+#[tactic(auto, using(valid::proofs::CheckLaws::small_product))]
 fn chunk_size(form: Values, cells: usize, offsets: &[u64]) -> Option<Chunk>
     requires { cells ≤ most_cells }
     ensures { told_chunk result ≡ size_answer (form_of form) cells offsets.now }
@@ -44,6 +45,7 @@ fn chunk_size(form: Values, cells: usize, offsets: &[u64]) -> Option<Chunk>
 }
 
 // The first of the chunks that are left, of `cells` cells: what it takes, where it keeps the array's rules.
+#[tactic(auto, using(crate::proofs::OneChunk::chunk_laws))]
 fn check_chunk(kind: Kind, cells: usize, left: ArrayBytes) -> Option<Chunk>
     requires { cells ≤ most_cells }
     ensures { told_chunk result ≡ chunk_answer (kind_of kind) cells (lent left.entry) }

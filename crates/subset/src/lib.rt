@@ -26,6 +26,7 @@ fn leaves_room(side: u64, start: u64, len: u64) -> bool
 }
 
 // Whether each start and length lies within its side.
+#[tactic(auto, using(crate::proofs::Fitting::fits_over))]
 fn lies_within(shape: &[u64], starts: &[u64], lens: &[u64]) -> bool
     requires { (length starts.now ≡ length shape.now) × (length lens.now ≡ length shape.now) }
     ensures { result ≡ subset_test shape.now (pairs starts.now lens.now) }
@@ -56,6 +57,7 @@ fn has_cells(lens: &[u64]) -> bool
 }
 
 // Whether a subset lies within the shape and holds a cell.
+#[tactic(auto, using(crate::proofs::Fitting::full_by_lengths))]
 fn full_within(shape: &[u64], starts: &[u64], lens: &[u64]) -> bool
     requires { (length starts.now ≡ length shape.now) × (length lens.now ≡ length shape.now) }
     ensures { result ≡ full_test shape.now (pairs starts.now lens.now) }
@@ -97,6 +99,7 @@ pub fn subsets_fit(shape: &[u64], numbers: &[u64]) -> bool
 }
 
 // The product of sides or lengths, which the caller keeps small.
+#[tactic(auto, using(crate::proofs::Index::volume_fits))]
 pub fn volume_of(sides: &[u64]) -> u64
     requires { FewCells sides.now }
     ensures { result ≡ volume sides.now }
@@ -127,6 +130,7 @@ fn cell_at(shape: &[u64], starts: &[u64], lens: &[u64], i: u64) -> u64
 }
 
 // Stores n cells that are neighbours, from the cell `first` on.
+#[tactic(auto, unfolding(array::specs::Limits::most_cells))]
 fn store_run(cells: &mut [u64], at: usize, first: u64, n: usize)
     requires { (at + n ≤ length cells.old) × (first + n ≤ most_cells) }
     ensures { cells.new ≡ over_at at (from first n) cells.old }

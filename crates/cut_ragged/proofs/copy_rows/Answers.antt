@@ -28,12 +28,6 @@ loop-row-init c =
     rw (c.into_iter-row-iterator.ensures.into_iter_gives, r.begin)
     (ragged_begins (begins_in v) (drop v.base v.bytes.now) c.args.values.now c.args.offsets.now (asked_left c.args.subset.asked) c.requires.room c.requires.room_offsets, r.of)
 
-pub overflow_add-row : goal.overflow_add-row
-unfolding most_cells
-overflow_add-row c =
-    let t = turn (goal.at.overflow_add-row c).In-Some in
-    omega (arith, t.row.inside, c.args.subset.asked.shaped.few_cells)
-
 pub overflow_sub-size : goal.overflow_sub-size
 overflow_sub-size c =
     let x = next (goal.at.overflow_sub-size c).In-Some in

@@ -3,7 +3,6 @@
 use Prim.Native.Nat.{ℕ, ◌+◌, ◌-◌, ◌<◌}
 use mathlib.Core.Path.{sym, ap₂, subst}
 use native.Mathlib.Omega.{arith}
-use Rattle.array.specs.Limits.{most_cells}
 use Rattle.array.specs.Subset.{pairs}
 use Rattle.array.specs.Places.{bytes_at}
 use Rattle.array.proofs.Places.{run_rises}
@@ -17,12 +16,6 @@ use Rattle.cut_ragged.proofs.count_bytes.Goals as goal
 
 turn : (c : In-Some) → RowStep c.args.subset c.loop-row.row-iterator c.in-Some.row c.next.new.self
 turn c = row_step c.args.subset c.loop-row.row-iterator c.loop-row.invariant.1 c.in-Some.row c.next.new.self c.in-Some.ensures.steps
-
-pub overflow_add-row : goal.overflow_add-row
-unfolding most_cells
-overflow_add-row c =
-    let t = turn (goal.at.overflow_add-row c).In-Some in
-    omega (arith, t.row.inside, c.args.subset.asked.shaped.few_cells)
 
 pub overflow_sub-total : goal.overflow_sub-total
 overflow_sub-total c =

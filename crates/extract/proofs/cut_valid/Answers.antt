@@ -3,23 +3,13 @@
 use Prim.Native.Nat.{ℕ, ◌*◌}
 use mathlib.Core.Path.{sym, ap, ◌∙◌}
 use mathlib.Core.List.{List}
-use native.Mathlib.Omega.{arith}
 use Rattle.std.specs.Prelude.{Ok}
 use Rattle.std.proofs.lemmas.Result.{err_from_is_err_and}
-use Rattle.array.specs.Limits.{most_cells}
 use Rattle.array.specs.Buffers.{over}
 use Rattle.array.specs.Outcome.{content_array, outcome_array}
-use Rattle.valid.proofs.CheckLaws.{small_product}
-use Rattle.subset.proofs.Rows.{asked_few}
 use Rattle.extract.proofs.Cutting.{cut_masks, cut_masks_long, cut_values_asked, masks_before}
 use Rattle.array.proofs.Putting.{without_masks_lem}
 use Rattle.extract.proofs.cut_valid.Goals as goal
-
-pub overflow_mul-mask_bytes : goal.overflow_mul-mask_bytes
-unfolding most_cells
-overflow_mul-mask_bytes c =
-    let s = c.args.subset in
-    omega (arith, small_product c.args.kind.depth s.count (omega arith) (asked_few s.asked))
 
 pub returns-then-out_masks-mask_bytes : goal.returns-then-out_masks-mask_bytes
 returns-then-out_masks-mask_bytes c = without_masks_lem _ _ _ (cut_masks_long c.args.subset c.requires) c.if-out_masks-mask_bytes.true

@@ -4,16 +4,14 @@ use Prim.Native.Nat.{ℕ, ◌+◌, ◌*◌, ◌≤◌}
 use mathlib.Core.Path.{◌≡◌, refl, ap, ◌∙◌}
 use native.Mathlib.Omega.{arith}
 use lib.ListN.{length}
-use Rattle.array.specs.Limits.{most_cells}
 use Rattle.array.specs.declared.kind.Values.{Values}
 use Rattle.array.specs.Kind.{fixed}
 use Rattle.array.specs.Shape.{volume}
 use Rattle.array.specs.Content.{RaggedContent}
 use Rattle.array.specs.Outcome.{content_ragged}
 use Rattle.array.specs.Meaning.{order_of, form_of}
-use Rattle.valid.proofs.CheckLaws.{small_product}
 use Rattle.subset.specs.Cells.{cells_of}
-use Rattle.subset.proofs.Rows.{asked_below, asked_count, asked_few}
+use Rattle.subset.proofs.Rows.{asked_below, asked_count}
 use Rattle.cut_ragged.proofs.Outcomes.{no_values, all_put}
 use Rattle.extract.specs.Asked.{values_cut, ValuesAsked}
 use Rattle.extract.proofs.Walk.{fixed_long}
@@ -35,10 +33,6 @@ long c =
     let a = c.args in
     fixed_long 0 c.in-Fixed.size (volume a.subset.shape.now) a.values.now (cells_of a.subset) (source c) (asked_below a.subset.asked)
     ∙ ap (λ (n : ℕ). n * c.in-Fixed.size) (asked_count a.subset.asked)
-
-pub overflow_mul-bytes : goal.overflow_mul-bytes
-unfolding most_cells
-overflow_mul-bytes c = omega (arith, small_product c.in-Fixed.size c.args.subset.count (omega arith) (asked_few c.args.subset.asked))
 
 pub returns-then-out_values-bytes : goal.returns-then-out_values-bytes
 returns-then-out_values-bytes c =

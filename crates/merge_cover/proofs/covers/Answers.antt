@@ -2,19 +2,15 @@
 -- Assumes nothing.
 use mathlib.Core.Path.{refl, sym, ap, ◌∙◌}
 use native.Mathlib.Omega.{arith}
-use Rattle.subset.proofs.Index.{few_shape}
-use Rattle.subset.proofs.Steps.{PartStep, part_step, parts_end}
+use Rattle.subset.proofs.Steps.{PartStep, part_step}
 use Rattle.merge_cover.specs.Marks.{marking}
 use Rattle.merge_cover.proofs.BitLaws.{none_marked}
-use Rattle.merge_cover.proofs.Marking.{cover_begins, cover_ends, cover_more, cover_over, cover_beyond}
+use Rattle.merge_cover.proofs.Marking.{cover_begins, cover_more, cover_over, cover_beyond}
 use Rattle.merge_cover.proofs.covers.Goals.{In-Some}
 use Rattle.merge_cover.proofs.covers.Goals as goal
 
 turn : (c : In-Some) → PartStep c.args.subsets.shape.now c.loop-part.part-iterator c.in-Some.part c.next.new.self
 turn c = part_step c.args.subsets.shape.now c.loop-part.part-iterator c.loop-part.invariant.1 c.in-Some.part c.next.new.self c.in-Some.ensures.steps
-
-pub volume_of-left-requires : goal.volume_of-left-requires
-volume_of-left-requires c = let s = c.args.subsets in few_shape s.shape.now s.each.shaped.sides s.each.shaped.few_cells
 
 pub loop-part-init : goal.loop-part-init
 loop-part-init c =
@@ -35,6 +31,3 @@ pub loop-part-preserved : goal.loop-part-preserved
 loop-part-preserved c =
     let t = turn (goal.at.loop-part-preserved c).In-Some in
     (cover_more c.args.subsets.each c.loop-part.invariant.0 t.next t.asked (c.if-not-mark_subset.ensures ∙ ap (marking _) t.cells) (omega arith), t.same)
-
-pub returns : goal.returns
-returns c = sym (cover_ends c.args.subsets.each c.loop-part.invariant.0 (parts_end c.args.subsets.shape.now c.loop-part.part-iterator c.loop-part.invariant.1 c.in-None.ensures.steps))

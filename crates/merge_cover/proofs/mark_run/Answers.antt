@@ -4,7 +4,7 @@ use Prim.Native.Nat.{◌≤◌, ◌+◌, ◌%◌}
 use mathlib.Core.Path.{sym, ◌∙◌}
 use native.Mathlib.Omega.{arith}
 use Rattle.merge_cover.specs.Bits.{marks_of}
-use Rattle.merge_cover.proofs.MarkRuns.{run_ends, run_more}
+use Rattle.merge_cover.proofs.MarkRuns.{run_more}
 use Rattle.merge_cover.proofs.RunBits.{in_word, run_stops}
 use Rattle.merge_cover.proofs.mark_run.Goals.{After-in_word-n}
 use Rattle.merge_cover.proofs.mark_run.Goals as goal
@@ -28,6 +28,3 @@ loop-i-preserved c =
       c.set_marks.array_long,
       c.loop-i.invariant.3 ∙ run_more (marks_of c.loop-i.words) c.loop-i.i c.in_word-n.result (c.args.start + c.args.len) n.2 (sym c.set_marks.ensures),
     )
-
-pub returns : goal.returns
-returns c = sym (c.loop-i.invariant.3 ∙ run_ends (marks_of c.loop-i.words) c.loop-i.i (c.args.start + c.args.len) (omega arith))

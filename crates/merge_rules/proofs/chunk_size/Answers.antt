@@ -6,16 +6,12 @@ use mathlib.Core.List.{List}
 use native.Mathlib.Omega.{arith}
 use Rattle.array.specs.Meaning.{form_of, width_of, place_of}
 use Rattle.array.specs.declared.kind.Values.{Values}
-use Rattle.valid.proofs.CheckLaws.{small_product}
 use Rattle.merge_rules.specs.Chunks.{size_answer}
 use Rattle.merge_rules.proofs.OneChunk.{size_ragged}
 use Rattle.merge_rules.proofs.chunk_size.Goals as goal
 
 abbrev by : {x y : Values} (m : ℕ) (os : List ℕ) → x ≡ y → size_answer (form_of y) m os ≡ size_answer (form_of x) m os
 by m os e = ap (λ (z : Values). size_answer (form_of z) m os) (sym e)
-
-pub overflow_mul-result : goal.overflow_mul-result
-overflow_mul-result c = omega (arith, small_product c.in-Fixed.size c.args.cells (omega arith) c.requires)
 
 pub returns-else-offsets-cells : goal.returns-else-offsets-cells
 returns-else-offsets-cells c =

@@ -1,16 +1,11 @@
 -- `store_run` meets its contract: the first i of the run lie in place (proofs/StoringCells).
 -- Assumes nothing.
 use native.Mathlib.Omega.{arith}
-use Rattle.array.specs.Limits.{most_cells}
 use Rattle.subset.proofs.StoringCells.{run_begins, run_more, run_ends}
 use Rattle.subset.proofs.store_run.Goals as goal
 
 pub loop-i-init : goal.loop-i-init
 loop-i-init c = (omega arith, run_begins c.args.cells.now c.args.at c.args.first c.args.n c.requires.0)
-
-pub overflow_add-cells : goal.overflow_add-cells
-unfolding most_cells
-overflow_add-cells c = omega arith
 
 pub loop-i-preserved : goal.loop-i-preserved
 loop-i-preserved c =
