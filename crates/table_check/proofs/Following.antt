@@ -1,16 +1,14 @@
 -- A walk over cells, each of which is to start no lower than the one before it ends: what is left, from there, says what the whole says.
 -- Assumes nothing.
-use mathlib.Core.Path.{◌≡◌, sym, ap, ◌∙◌, subst}
-use mathlib.Core.Bool.{Bool, ◌&&◌}
+use mathlib.Core.Path.{◌≡◌}
+use mathlib.Core.Bool.{Bool}
 use mathlib.Core.List.{List, ◌∷◌}
 use Prim.Native.Nat.{ℕ, ◌+◌, ◌<◌}
 use native.Mathlib.Numerals.{add-one}
 use lib.ListN.{length, get_or, drop}
 use lib.Seq.{drop-cons}
-use lib.Dec.{leb}
 use Rattle.array.specs.Lists.{All}
 use Rattle.array.specs.Places.{offset_at}
-use Rattle.array.proofs.Lists.{All-drop}
 use Rattle.table.specs.Order.{follow_test}
 use Rattle.table_check.specs.Check.{Reached}
 
@@ -26,12 +24,3 @@ module _ {starts lengths order : List ℕ} {end i : ℕ} (w : Turn starts length
   module _ (h : i < length order) where
     left : drop i order ≡ get_or order i 0 ∷ drop (i + 1) order
     left = rw (add-one, drop-cons order i 0)
-
-    pub cell_reached : Reached starts lengths (get_or order i 0)
-    cell_reached = (subst (All (Reached starts lengths)) left (All-drop (Reached starts lengths) i order w.reached)).0
-
-    next : {b : Bool} → leb end (offset_at starts (get_or order i 0)) ≡ b
-        → b && test (offset_at starts (get_or order i 0) + offset_at lengths (get_or order i 0)) (drop (i + 1) order) ≡ test 0 order
-    next e =
-        ap (λ (c : Bool). c && test (offset_at starts (get_or order i 0) + offset_at lengths (get_or order i 0)) (drop (i + 1) order)) (sym e)
-        ∙ ap (test end) (sym left) ∙ w.whole

@@ -7,7 +7,7 @@ use native.Mathlib.Omega.{arith}
 use Rattle.array.specs.Lists.{from, every}
 use Rattle.array.proofs.Geometry.{All-from}
 use Rattle.array.proofs.Rules.{every_all, all_every}
-use Rattle.valid.proofs.CheckLaws.{and_true, and_assoc}
+use Rattle.valid.proofs.CheckLaws.{and_assoc}
 use Rattle.table.proofs.Each.{from_all}
 
 -- two tests that pass for each other's sake are the same
@@ -38,9 +38,6 @@ walk_next f e i h =
     let s : suc i ≡ i + 1 = omega arith in
     ap (λ (m : ℕ). every f (from i m)) n ∙ ap (λ (j : ℕ). f i && every f (from j (e - (i + 1)))) s
 
-pub walk_begins : (f : ℕ → Bool) (a k : ℕ) → Walk f a k true a
-walk_begins f a k = let n : a + k - a ≡ k = omega arith in record { from_on = omega arith; whole = ap (λ (m : ℕ). every f (from a m)) n }
-
 module _ {f : ℕ → Bool} {a k : ℕ} {ok : Bool} {i : ℕ} (w : Walk f a k ok i) where
   pub walk_more : i < a + k → {r : Bool} → r ≡ ok && f i → Walk f a k r (i + 1)
   walk_more h {r} e =
@@ -49,6 +46,3 @@ module _ {f : ℕ → Bool} {a k : ℕ} {ok : Bool} {i : ℕ} (w : Walk f a k ok
         from_on = omega (arith, w.from_on);
         whole = ap (λ (b : Bool). b && left) e ∙ sym (and_assoc ok (f i) left) ∙ ap (λ (b : Bool). ok && b) (sym (walk_next f (a + k) i h)) ∙ w.whole;
       }
-
-  pub walk_ends : a + k ≤ i → ok ≡ every f (from a k)
-  walk_ends h = let n : a + k - i ≡ 0 = omega arith in sym (and_true ok) ∙ ap (λ (m : ℕ). ok && every f (from i m)) (sym n) ∙ w.whole

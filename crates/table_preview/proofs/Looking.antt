@@ -1,6 +1,6 @@
 -- A walk over the cells of a table but one: what is found so far, cell by cell.
 -- Assumes nothing.
-use mathlib.Core.Path.{◌≡◌, sym, ap, ap₂, ◌∙◌, subst}
+use mathlib.Core.Path.{◌≡◌, sym, ap, ap₂, ◌∙◌}
 use mathlib.Core.Bool.{Bool, true, false, not}
 use mathlib.Core.List.{List, [], ◌∷◌, ◌++◌, map, append-nil}
 use Prim.Native.Nat.{ℕ, suc, ◌+◌, ◌≤◌, ◌<◌, max}
@@ -11,9 +11,9 @@ use lib.ListN.{length, take, drop, get_or, take-append-drop}
 use lib.Seq.{take-suc, drop-cons}
 use lib.Dec.{eqb}
 use borrow.Author.Tests.{eq-eqb, ne_eqb}
-use Rattle.array.specs.Lists.{All, pick, passing}
+use Rattle.array.specs.Lists.{pick, passing}
 use Rattle.array.specs.Places.{sum, offset_at}
-use Rattle.array.proofs.Lists.{All-drop, map-append}
+use Rattle.array.proofs.Lists.{map-append}
 use Rattle.array.proofs.Places.{sum-append}
 use Rattle.array.proofs.Geometry.{passing-append}
 use Rattle.table.specs.Table.{ending, most_store}
@@ -21,7 +21,6 @@ use Rattle.table.specs.Lying.{top_by}
 use Rattle.table.specs.Walk.{elsewhere_by, without}
 use Rattle.table.proofs.Foreseeing.{walk_append}
 use Rattle.table_sums.proofs.Totals.{top_append}
-use Rattle.table_check.specs.Check.{Reached}
 use Rattle.table_preview.specs.Others.{Walkable}
 
 -- the bytes of some of the cells are no more than those of all
@@ -55,9 +54,6 @@ module _ {starts lengths js : List ℕ} {c unpacked packed top i : ℕ} (l : Loo
 
     left : drop i js ≡ j ∷ drop (suc i) js
     left = drop-cons js i 0 h
-
-    pub cell_reached : Reached starts lengths j
-    cell_reached = (subst (All (Reached starts lengths)) left (All-drop (Reached starts lengths) i js l.walkable.reached)).0
 
     one_more : {b : Bool} → eqb j c ≡ b → without c (take (i + 1) js) ≡ without c (take i js) ++ pick (not b) (j ∷ []) []
     one_more e =

@@ -20,14 +20,6 @@ use Rattle.array.proofs.Lists.{map-from}
 use Rattle.array.proofs.Numbered.{plane_is}
 use Rattle.table_setting.specs.Masks.{shown_mask, masked_by}
 
-pub and_false : (b : Bool) → b && false ≡ false
-and_false true = refl
-and_false false = refl
-
-pub and_true : (b : Bool) → b && true ≡ b
-and_true true = refl
-and_true false = refl
-
 lt_or_ge : (a b : ℕ) → (a < b) ⊎ (b ≤ a)
 lt_or_ge a b = go (ltb a b) refl
   where
@@ -118,9 +110,6 @@ pub record Storing (out : List ℕ) (n c : ℕ) (m : ℕ → ℕ) (d : ℕ) (now
   pub here : place ≡ c + k * n
   pub stored : now ≡ column n c (shown_mask m) out k
 
-pub storing_begins : (out : List ℕ) (n c : ℕ) (m : ℕ → ℕ) (d : ℕ) → Storing out n c m d out true c 0
-storing_begins out n c m d = record { within = omega arith; showing = refl; here = omega (arith, zero-mul n); stored = refl }
-
 module _ {out : List ℕ} {n c : ℕ} {m : ℕ → ℕ} {d : ℕ} {now : List ℕ} {shown : Bool} {place k : ℕ} (s : Storing out n c m d now shown place k) where
   pub storing_same : length now ≡ length out
   storing_same = ap length s.stored ∙ column-length n c (shown_mask m) out k
@@ -130,21 +119,6 @@ module _ {out : List ℕ} {n c : ℕ} {m : ℕ → ℕ} {d : ℕ} {now : List �
 
   levels : k < d → (k + 1) * n ≤ d * n
   levels h = mul-le-mul_right n (let l : k + 1 ≤ d = omega arith in l)
-
-  pub storing_room : k < d → c < n → length out ≡ d * n → place < length now
-  storing_room h g e = omega (arith, next_place, levels h, storing_same)
-
-  -- one level more: the byte b goes in as it is shown
-  pub storing_more : k < d → (b : ℕ) → b ≡ m k → {r : Bool} → r ≡ shown && set_test b → (now' : List ℕ) → now' ≡ set now place (pick shown b 0)
-      → Storing out n c m d now' r (place + n) (k + 1)
-  storing_more h b eb er now' en = record {
-    within = omega arith;
-    showing = shown_more m k s.showing (er ∙ ap (λ (x : ℕ). shown && set_test x) eb);
-    here = next_place;
-    stored = en ∙ ap₂ (λ (x : List ℕ) (i : ℕ). set x i (pick shown b 0)) s.stored s.here
-        ∙ ap (λ (v : ℕ). set (column n c (shown_mask m) out k) (c + k * n) v) (ap₂ (λ (t : Bool) (v : ℕ). pick t v 0) s.showing eb)
-        ∙ sym (ap (column n c (shown_mask m) out) (add-one k));
-  }
 
   pub storing_ends : k ≡ d → c < n → length out ≡ d * n → now ≡ masked_by n c m d out
   storing_ends e h l = s.stored ∙ ap (column n c (shown_mask m) out) e ∙ column_planes n c (shown_mask m) out h d l

@@ -35,9 +35,6 @@ module _ (l : List ℕ) (room c : ℕ) (ms : List ℕ) (len : ℕ) where
     pub no_cell : length l ≤ c → refuses 15 ≡ fitted l room c ms len
     no_cell g = rw (e, le-ltb c (length l) g)
 
-    pub total_small : sum l ≤ room → sum l ≤ most_store
-    total_small h = omega (arith, leb-true room most_store e)
-
     module _ (g : c < length l) (h : sum l ≤ room) where
       gave_up : sum (set l c 0) + get_or l c 0 ≡ sum l + 0
       gave_up = sum-set l c 0 g
