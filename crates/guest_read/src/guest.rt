@@ -42,8 +42,9 @@ impl<'r, 'a> Guest<'r, 'a> {
         }
     }
 
-    // Value bytes of the cells that are seen. As sum of `encode_data`, by another mark: one loop for both would take the mark as a closure, and
-    // its law in each contract, and save no line.
+    // Value bytes of the cells that are seen. Their offsets are no field: plane, masks and offsets are borrowed for three lifetimes, and a struct
+    // of them would name all three for this one loop. As sum of `encode_data`, by another mark: one loop for both would take the mark as a
+    // closure, and its law in each contract, and save no line.
     #[inline(always)]
     fn sum(self, offsets: &[u64]) -> usize
         requires { Offsets self.level.cells offsets.now }

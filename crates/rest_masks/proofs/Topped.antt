@@ -5,7 +5,7 @@ use mathlib.Core.List.{List, ◌++◌, append_assoc, map}
 use Prim.Native.Nat.{ℕ, suc, ◌+◌, ◌-◌, ◌*◌, ◌≤◌, ◌<◌}
 use native.Mathlib.Nat.{one-mul, mul-le-mul_right}
 use native.Mathlib.Omega.{arith}
-use denote.Ref.{Bor}
+use Rattle.std.specs.Borrow.{Bor}
 use Rattle.std.specs.Prelude.{Option, None, Some}
 use lib.ListN.{length, take, drop, get_or, length-append, length-drop, take-append-drop}
 use lib.Seq.{take_at, length-take-le, get_or-take, get_or-drop, drop-drop}

@@ -1,7 +1,7 @@
 -- Redundant by the law rest_laid in array/proofs/Numbered.antt: the mask planes of the rest form (S2.1), by cell numbers.
 -- Assumes nothing.
 use Rattle.std.specs.Prelude.{ℕ, ◌+◌, ◌≡◌, List, ◌++◌, Option, None, Some, map, length, get_or, take, drop}
-use denote.Ref.{Bor}
+use Rattle.std.specs.Borrow.{Bor}
 use Rattle.array.specs.Lists.{pick, from}
 use Rattle.array.specs.Cells.{set_test}
 use Rattle.array.specs.Places.{mask_at, planes_by, shown_at}
