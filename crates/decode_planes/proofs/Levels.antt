@@ -22,6 +22,9 @@ use Rattle.stored_frames.proofs.Walks.{mask_long}
 use Rattle.decode_planes.specs.Within.{PlaneWithin, LevelsWithin}
 use Rattle.decode_planes.proofs.Placing.{plane_again}
 
+pub masked : {d : ℕ} → 1 ≤ d → d ≢ 0
+masked h = λ e. absurd (omega arith)
+
 -- k rows of n, all but the first
 pub times_first : (k n : ℕ) → k ≢ 0 → k * n ≡ (k - 1) * n + n
 times_first zero n h = absurd (h refl)

@@ -1,9 +1,8 @@
 -- `write_fixed` meets its contract, by the laws of FixedLaws.
 -- Assumes nothing.
-use mathlib.Core.Logic.{◌≢◌}
 use native.Mathlib.Omega.{arith}
 use Rattle.array.specs.Meaning.{order_of}
-use Rattle.decode_planes.proofs.Levels.{times_first}
+use Rattle.decode_planes.proofs.Levels.{masked, times_first}
 use Rattle.decode_planes.proofs.Small.{planes_small, bytes_small}
 use Rattle.decode_fixed.proofs.FixedLaws.{fixed_short_masks, fixed_short_values, values_within, deep_written}
 use Rattle.decode_fixed.proofs.write_fixed.Goals as goal
@@ -24,17 +23,14 @@ returns-then-values-bytes c = fixed_short_values (order_of c.args.order) c.requi
 
 pub overflow_sub-planes : goal.overflow_sub-planes
 overflow_sub-planes c =
-    let deep : c.args.kind.depth ≢ 0 = λ e. absurd (omega (arith, c.requires.deep)) in
-    omega (arith, times_first c.args.kind.depth c.args.n deep)
+    omega (arith, times_first c.args.kind.depth c.args.n (masked c.requires.deep))
 
 pub spread_values-requires : goal.spread_values-requires
 spread_values-requires c =
-    let deep : c.args.kind.depth ≢ 0 = λ e. absurd (omega (arith, c.requires.deep)) in
-    values_within (order_of c.args.order) c.requires.within c.args.masks.now c.args.values.now c.if-masks-planes.false c.if-values-bytes.false deep
-    c.place_planes.ensures (omega (arith, times_first c.args.kind.depth c.args.n deep)) c.place_planes.auto.masks
+    values_within (order_of c.args.order) c.requires.within c.args.masks.now c.args.values.now c.if-masks-planes.false c.if-values-bytes.false (masked c.requires.deep)
+    c.place_planes.ensures (omega (arith, times_first c.args.kind.depth c.args.n (masked c.requires.deep))) c.place_planes.auto.masks
 
 pub returns : goal.returns
 returns c =
-    let deep : c.args.kind.depth ≢ 0 = λ e. absurd (omega (arith, c.requires.deep)) in
-    deep_written (order_of c.args.order) c.requires.within c.args.masks.now c.args.values.now c.if-masks-planes.false c.if-values-bytes.false deep c.place_planes.ensures
-    (omega (arith, times_first c.args.kind.depth c.args.n deep)) c.spread_values.ensures
+    deep_written (order_of c.args.order) c.requires.within c.args.masks.now c.args.values.now c.if-masks-planes.false c.if-values-bytes.false (masked c.requires.deep) c.place_planes.ensures
+    (omega (arith, times_first c.args.kind.depth c.args.n (masked c.requires.deep))) c.spread_values.ensures

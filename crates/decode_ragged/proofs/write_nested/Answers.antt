@@ -1,10 +1,9 @@
 -- `write_nested` meets its contract, by the laws of RaggedWritten.
 -- Assumes nothing.
 use mathlib.Core.Path.{◌≡◌}
-use mathlib.Core.Logic.{◌≢◌}
 use Prim.Native.Nat.{◌+◌, ◌-◌, ◌*◌}
 use native.Mathlib.Omega.{arith}
-use Rattle.decode_planes.proofs.Levels.{times_first}
+use Rattle.decode_planes.proofs.Levels.{masked, times_first}
 use Rattle.decode_planes.proofs.Small.{few_cells, planes_small}
 use Rattle.decode_ragged.proofs.RaggedWritten.{nested_short_masks, nested_short_values, nested_short_offsets, nested_room, nested_set, nested_ends, nested_written}
 use Rattle.decode_ragged.proofs.write_nested.Goals as goal
@@ -19,45 +18,39 @@ overflow_add-count c = omega (arith, few_cells c.args.n c.requires.within.limits
 
 pub returns-then-masks-planes : goal.returns-then-masks-planes
 returns-then-masks-planes c =
-    let deep : c.args.kind.depth ≢ 0 = λ e. absurd (omega (arith, c.requires.deep)) in
     let a = c.args in
-    nested_short_masks c.requires.within deep a.masks.now a.values.now a.offsets.now c.if-masks-planes.true
+    nested_short_masks c.requires.within (masked c.requires.deep) a.masks.now a.values.now a.offsets.now c.if-masks-planes.true
 
 pub returns-then-values-bytes : goal.returns-then-values-bytes
 returns-then-values-bytes c =
-    let deep : c.args.kind.depth ≢ 0 = λ e. absurd (omega (arith, c.requires.deep)) in
     let a = c.args in
-    nested_short_values c.requires.within deep a.masks.now a.values.now a.offsets.now c.if-values-bytes.true
+    nested_short_values c.requires.within (masked c.requires.deep) a.masks.now a.values.now a.offsets.now c.if-values-bytes.true
 
 pub returns-then-offsets-count : goal.returns-then-offsets-count
 returns-then-offsets-count c =
-    let deep : c.args.kind.depth ≢ 0 = λ e. absurd (omega (arith, c.requires.deep)) in
     let a = c.args in
-    nested_short_offsets c.requires.within deep a.masks.now a.values.now a.offsets.now c.if-offsets-count.true
+    nested_short_offsets c.requires.within (masked c.requires.deep) a.masks.now a.values.now a.offsets.now c.if-offsets-count.true
 
 pub copy_many-requires : goal.copy_many-requires
 copy_many-requires c = omega (arith, c.requires.within.index.data_room, c.if-values-bytes.false)
 
 pub overflow_sub-planes : goal.overflow_sub-planes
 overflow_sub-planes c =
-    let deep : c.args.kind.depth ≢ 0 = λ e. absurd (omega (arith, c.requires.deep)) in
-    let first_is : c.args.kind.depth * c.args.n ≡ (c.args.kind.depth - 1) * c.args.n + c.args.n = times_first c.args.kind.depth c.args.n deep in
+    let first_is : c.args.kind.depth * c.args.n ≡ (c.args.kind.depth - 1) * c.args.n + c.args.n = times_first c.args.kind.depth c.args.n (masked c.requires.deep) in
     omega (arith, first_is)
 
 pub spread_offsets-requires : goal.spread_offsets-requires
 spread_offsets-requires c =
-    let deep : c.args.kind.depth ≢ 0 = λ e. absurd (omega (arith, c.requires.deep)) in
-    let first_is = times_first c.args.kind.depth c.args.n deep in
+    let first_is = times_first c.args.kind.depth c.args.n (masked c.requires.deep) in
     let a = c.args in (
-      nested_room c.requires.within deep a.masks.now a.values.now a.offsets.now c.place_planes.ensures (omega (arith, first_is)) c.if-offsets-count.false,
-      nested_set c.requires.within deep a.masks.now a.values.now a.offsets.now c.place_planes.ensures (omega (arith, first_is)),
+      nested_room c.requires.within (masked c.requires.deep) a.masks.now a.values.now a.offsets.now c.place_planes.ensures (omega (arith, first_is)) c.if-offsets-count.false,
+      nested_set c.requires.within (masked c.requires.deep) a.masks.now a.values.now a.offsets.now c.place_planes.ensures (omega (arith, first_is)),
       nested_ends c.requires.within,
     )
 
 pub returns : goal.returns
 returns c =
-    let deep : c.args.kind.depth ≢ 0 = λ e. absurd (omega (arith, c.requires.deep)) in
     let a = c.args in
-    nested_written c.requires.within deep a.masks.now a.values.now a.offsets.now c.place_planes.ensures
-    (omega (arith, times_first a.kind.depth a.n deep)) c.if-masks-planes.false c.if-values-bytes.false
+    nested_written c.requires.within (masked c.requires.deep) a.masks.now a.values.now a.offsets.now c.place_planes.ensures
+    (omega (arith, times_first a.kind.depth a.n (masked c.requires.deep))) c.if-masks-planes.false c.if-values-bytes.false
     c.if-offsets-count.false c.copy_many.ensures c.spread_offsets.ensures
