@@ -4,6 +4,7 @@
 ghost use Rattle.std.specs.Prelude.{◌≡◌, ◌+◌, ◌≤◌, length};
 ghost use Rattle.array.specs.Buffers.{over, over_at};
 ghost use Rattle.array.specs.Meaning.{kind_of, lent};
+ghost use Rattle.array.specs.Outcome.{content_array};
 ghost use Rattle.encode_values.specs.Ready.{Encodable};
 ghost use Rattle.encode_values.specs.Stored.{level_of, stored_from, frame_from};
 
@@ -41,31 +42,36 @@ pub fn write_content(
         return 0;
     }
     if left == 0 {
-        return encode_values::put_values(out, at, kind, array, live);
+        return encode_values::put_values(out, at, kind, array.values, array.offsets, live);
     }
-    write_frame(out, at, kind, array, left, live)
+    write_frame(out, at, kind, array.values, array.offsets, left, live)
 }
 
 // Writes the frame of these cells: the content, then the mask, then their lengths.
 #[cycle(write_content_write_frame)]
 #[tactic(auto, using(crate::proofs::Frames::frame_laws))]
-fn write_frame(
+fn write_frame<'a>(
     out: &mut [u8],
     at: usize,
     kind: Kind,
-    array: ArrayBytes,
+    values: &'a [u8],
+    offsets: &'a [u64],
     left: usize,
-    live: Counted,
+    live: Counted<'a>,
 ) -> usize
-    requires masks { live.level.masks.now ≡ array.masks.now }
     requires level { live.level.depth ≡ level_of (kind_of kind) left }
-    requires ready { Encodable (kind_of kind) live.level.cells (lent array) }
+    requires ready { Encodable (kind_of kind) live.level.cells (content_array live.level.masks.now values.now offsets.now) }
     requires within { (1 ≤ left) × (left ≤ (kind_of kind).depth) }
-    requires room { at + length (frame_from (kind_of kind) live.level.cells (lent array) left) ≤ length out.old }
-    ensures wrote { result ≡ length (frame_from (kind_of kind) live.entry.level.cells (lent array.entry) left) }
-    ensures bytes { out.new ≡ over_at at (frame_from (kind_of kind) live.entry.level.cells (lent array.entry) left) out.old }
+    requires room { at + length (frame_from (kind_of kind) live.level.cells (content_array live.level.masks.now values.now offsets.now) left) ≤ length out.old }
+    ensures wrote { result ≡ length (frame_from (kind_of kind) live.entry.level.cells (content_array live.entry.level.masks.now values.now offsets.now) left) }
+    ensures bytes { out.new ≡ over_at at (frame_from (kind_of kind) live.entry.level.cells (content_array live.entry.level.masks.now values.now offsets.now) left) out.old }
 {
-    let cells = live.level.cells;
+    let Level { masks, cells, .. } = live.level;
+    let array = ArrayBytes {
+        masks,
+        values,
+        offsets,
+    };
     let start = at + 16;
     let mask = form::mask_length(kind.masks, live.count);
     let length = write_content(out, start + mask, kind, cells, array, left - 1);

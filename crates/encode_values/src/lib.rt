@@ -3,12 +3,12 @@
 
 ghost use Rattle.std.specs.Prelude.{◌≡◌, ◌+◌, ◌≤◌, length};
 ghost use Rattle.array.specs.Buffers.{over_at};
-ghost use Rattle.array.specs.Meaning.{kind_of, lent};
+ghost use Rattle.array.specs.Meaning.{kind_of};
+ghost use Rattle.array.specs.Outcome.{content_array};
 ghost use Rattle.live_cells.specs.Live.{live_at};
 ghost use Rattle.encode_values.specs.Ready.{Measured, Encodable};
 ghost use Rattle.encode_values.specs.Stored.{values_from, values_length_at};
 
-use array::content::ArrayBytes;
 use array::kind;
 use array::kind::{Kind, Values};
 use encode_data::{LiveOffsets, LiveValues};
@@ -29,20 +29,21 @@ pub fn values_length(kind: Kind, offsets: &[u64], live: Counted) -> usize
     }
 }
 
-// Writes those of an array, whose masks the level has; says how many bytes it wrote.
-pub fn put_values(out: &mut [u8], at: usize, kind: Kind, array: ArrayBytes, live: Counted) -> usize
-    requires masks { live.level.masks.now ≡ array.masks.now }
+// Writes them; says how many bytes it wrote. With values and offsets alone, as the level has the masks.
+pub fn put_values<'a>(
+    out: &mut [u8],
+    at: usize,
+    kind: Kind,
+    values: &'a [u8],
+    offsets: &'a [u64],
+    live: Counted<'a>,
+) -> usize
     requires innermost { live.level.depth ≡ (kind_of kind).depth }
-    requires ready { Encodable (kind_of kind) live.level.cells (lent array) }
-    requires room { at + length (values_from (kind_of kind) live.level.cells (lent array)) ≤ length out.old }
-    ensures wrote { result ≡ length (values_from (kind_of kind) live.entry.level.cells (lent array.entry)) }
-    ensures bytes { out.new ≡ over_at at (values_from (kind_of kind) live.entry.level.cells (lent array.entry)) out.old }
+    requires ready { Encodable (kind_of kind) live.level.cells (content_array live.level.masks.now values.now offsets.now) }
+    requires room { at + length (values_from (kind_of kind) live.level.cells (content_array live.level.masks.now values.now offsets.now)) ≤ length out.old }
+    ensures wrote { result ≡ length (values_from (kind_of kind) live.entry.level.cells (content_array live.entry.level.masks.now values.now offsets.now)) }
+    ensures bytes { out.new ≡ over_at at (values_from (kind_of kind) live.entry.level.cells (content_array live.entry.level.masks.now values.now offsets.now)) out.old }
 {
-    let ArrayBytes {
-        values,
-        offsets,
-        ..
-    } = array;
     match kind.values {
         Values::Fixed(size, order) => {
             let k = size as usize;
