@@ -87,6 +87,10 @@ module _ {A B : Type 0} where
   map_cong f g e [] = refl
   map_cong f g e (x ∷ xs) = ap₂ (λ (y : B) (r : List B). y ∷ r) (e x) (map_cong f g e xs)
 
+  pub map-joined : (f : A → B) (xss : List (List A)) → map f (joined xss) ≡ joined (map (map f) xss)
+  map-joined f [] = refl
+  map-joined f (xs ∷ xss) = map-append f xs (joined xss) ∙ ap (λ (r : List B). map f xs ++ r) (map-joined f xss)
+
 pub map-map : {A B C : Type 0} (f : A → B) (g : B → C) (xs : List A) → map g (map f xs) ≡ map (λ x. g (f x)) xs
 map-map f g [] = refl
 map-map {C = C} f g (x ∷ xs) = ap (λ (r : List C). g (f x) ∷ r) (map-map f g xs)

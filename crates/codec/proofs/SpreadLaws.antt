@@ -5,7 +5,7 @@ use Prim.Native.Nat.{ℕ, zero, suc, ◌+◌, ◌<◌}
 use native.Mathlib.Omega.{arith}
 use native.Mathlib.Numerals.{add-one}
 use mathlib.Core.List.{List, [], ◌∷◌, ◌++◌, map}
-use lib.ListN.{length, drop, get_or, replicate}
+use lib.ListN.{length, take, drop, get_or, replicate}
 use lib.Seq.{drop-cons}
 use Rattle.array.specs.Lists.{joined}
 use Rattle.array.specs.Cells.{Value, Cell, Mark, mark_of, mask_of, inners, leaf, blank}
@@ -20,6 +20,14 @@ use Rattle.codec.proofs.Marks.{count-le}
 pub length-spread : {A : Type 0} (z : A) (p : List ℕ) (xs : List A) → length (spread z p xs) ≡ length p
 length-spread z [] xs = refl
 length-spread z (m ∷ p) xs = ap suc (length-spread z p (left_by (mark_of m) xs))
+
+-- only as many elements are taken as bytes are set
+pub spread-take : {A : Type 0} (z : A) (p : List ℕ) (xs : List A) → spread z p (take (count_set p) xs) ≡ spread z p xs
+spread-take z [] xs = refl
+spread-take {A} z (zero ∷ p) xs = ap (λ (r : List A). z ∷ r) (spread-take z p xs)
+spread-take {A} z (suc zero ∷ p) [] = refl
+spread-take {A} z (suc zero ∷ p) (x ∷ xs) = ap (λ (r : List A). x ∷ r) (spread-take z p xs)
+spread-take {A} z (suc (suc m) ∷ p) xs = ap (λ (r : List A). z ∷ r) (spread-take z p xs)
 
 pub spread_none : {A : Type 0} (z : A) (p : List ℕ) (xs : List A) → count_set p ≡ 0 → spread z p xs ≡ replicate (length p) z
 spread_none z [] xs e = refl
