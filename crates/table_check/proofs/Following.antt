@@ -1,12 +1,9 @@
 -- A walk over cells, each of which is to start no lower than the one before it ends: what is left, from there, says what the whole says.
 -- Assumes nothing.
 use mathlib.Core.Path.{◌≡◌}
-use mathlib.Core.Bool.{Bool}
-use mathlib.Core.List.{List, ◌∷◌}
-use Prim.Native.Nat.{ℕ, ◌+◌, ◌<◌}
-use native.Mathlib.Numerals.{add-one}
-use lib.ListN.{length, get_or, drop}
-use lib.Seq.{drop-cons}
+use mathlib.Core.List.{List}
+use Prim.Native.Nat.{ℕ}
+use lib.ListN.{drop}
 use Rattle.array.specs.Lists.{All}
 use Rattle.array.specs.Places.{offset_at}
 use Rattle.table.specs.Order.{follow_test}
@@ -16,11 +13,3 @@ use Rattle.table_check.specs.Check.{Reached}
 pub record Turn (starts lengths order : List ℕ) (end i : ℕ) : Type 0 where
   pub reached : All (Reached starts lengths) order
   pub whole : follow_test (offset_at starts) (offset_at lengths) end (drop i order) ≡ follow_test (offset_at starts) (offset_at lengths) 0 order
-
-module _ {starts lengths order : List ℕ} {end i : ℕ} (w : Turn starts lengths order end i) where
-  abbrev test : ℕ → List ℕ → Bool
-  test at js = follow_test (offset_at starts) (offset_at lengths) at js
-
-  module _ (h : i < length order) where
-    left : drop i order ≡ get_or order i 0 ∷ drop (i + 1) order
-    left = rw (add-one, drop-cons order i 0)

@@ -3,12 +3,12 @@
 use mathlib.Core.Path.{◌≡◌, sym, ap, ap₂, ◌∙◌}
 use mathlib.Core.Bool.{Bool, true, false, not}
 use mathlib.Core.List.{List, [], ◌∷◌, ◌++◌, map, append-nil}
-use Prim.Native.Nat.{ℕ, suc, ◌+◌, ◌≤◌, ◌<◌, max}
+use Prim.Native.Nat.{ℕ, ◌+◌, ◌≤◌, ◌<◌, max}
 use native.Mathlib.Nat.{zero-add}
 use native.Mathlib.Numerals.{add-one}
 use native.Mathlib.Omega.{arith}
 use lib.ListN.{length, take, drop, get_or, take-append-drop}
-use lib.Seq.{take-suc, drop-cons}
+use lib.Seq.{take-suc}
 use lib.Dec.{eqb}
 use borrow.Author.Tests.{eq-eqb, ne_eqb}
 use Rattle.array.specs.Lists.{pick, passing}
@@ -51,9 +51,6 @@ module _ {starts lengths js : List ℕ} {c unpacked packed top i : ℕ} (l : Loo
   module _ (h : i < length js) where
     abbrev j : ℕ
     j = get_or js i 0
-
-    left : drop i js ≡ j ∷ drop (suc i) js
-    left = drop-cons js i 0 h
 
     one_more : {b : Bool} → eqb j c ≡ b → without c (take (i + 1) js) ≡ without c (take i js) ++ pick (not b) (j ∷ []) []
     one_more e =

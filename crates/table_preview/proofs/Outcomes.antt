@@ -78,9 +78,6 @@ module _ {room : ℕ} {t : Table} {ms : List ℕ} (s : Sound room t ms) (c : ℕ
         All-both P Q R h [] p q = tt
         All-both P Q R h (y ∷ ys) p q = (h y p.0 q.0, All-both P Q R h ys p.1 q.1)
 
-    pub total_fits : f.others + f.size ≤ length t.store
-    total_fits = omega (arith, others_known s c v fits, is_ready.sized, is_ready.fits)
-
     module _ {unpacked top : ℕ} (g : Found (offset_at t.starts) (offset_at t.lengths) c js unpacked top) where
       pub top_low : top ≤ length t.store
       top_low =

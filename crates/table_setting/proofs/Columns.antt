@@ -3,10 +3,9 @@
 use mathlib.Core.Path.{◌≡◌, refl, sym, ap, ap₂, ◌∙◌}
 use Prim.Native.Nat.{ℕ, zero, suc, ◌+◌, ◌*◌, ◌≤◌, ◌<◌}
 use native.Mathlib.Nat.{zero-mul, suc-mul, add-mul, zero-add, mul-le-mul_right}
-use native.Mathlib.Numerals.{add-one}
 use native.Mathlib.Omega.{arith}
 use mathlib.Core.Logic.{◌⊎◌, inl, inr, ⊎_elim}
-use mathlib.Core.Bool.{Bool, true, false, ◌&&◌}
+use mathlib.Core.Bool.{Bool, true, false}
 use mathlib.Core.List.{List, ◌++◌}
 use lib.ListN.{length, drop, get_or, set, length-set, take-append-drop, drop_of_length-le}
 use lib.Seq.{drop-drop, get_or-set_same, get_or-set_other}
@@ -14,7 +13,6 @@ use lib.Dec.{eqb, ltb}
 use lib.Arith.{lt_of_le-ne}
 use borrow.Author.Tests.{eqb-true, eqb-false, ltb-true, ltb-false}
 use Rattle.array.specs.Lists.{from, pick}
-use Rattle.array.specs.Cells.{set_test}
 use Rattle.array.specs.Places.{mask_at, planes_by, shown_by}
 use Rattle.array.proofs.Lists.{map-from}
 use Rattle.array.proofs.Numbered.{plane_is}
@@ -26,10 +24,6 @@ lt_or_ge a b = go (ltb a b) refl
     go : (t : Bool) → ltb a b ≡ t → (a < b) ⊎ (b ≤ a)
     go true e = inl (ltb-true a b e)
     go false e = inr (ltb-false a b e)
-
--- one level more
-pub shown_more : (m : ℕ → ℕ) (l : ℕ) {b r : Bool} → b ≡ shown_by m l → r ≡ b && set_test (m l) → r ≡ shown_by m (l + 1)
-shown_more m l e q = q ∙ ap (λ (x : Bool). x && set_test (m l)) e ∙ sym (ap (shown_by m) (add-one l))
 
 -- ---- planes by their bytes
 
@@ -111,14 +105,5 @@ pub record Storing (out : List ℕ) (n c : ℕ) (m : ℕ → ℕ) (d : ℕ) (now
   pub stored : now ≡ column n c (shown_mask m) out k
 
 module _ {out : List ℕ} {n c : ℕ} {m : ℕ → ℕ} {d : ℕ} {now : List ℕ} {shown : Bool} {place k : ℕ} (s : Storing out n c m d now shown place k) where
-  pub storing_same : length now ≡ length out
-  storing_same = ap length s.stored ∙ column-length n c (shown_mask m) out k
-
-  next_place : place + n ≡ c + (k + 1) * n
-  next_place = omega (arith, s.here, ap (λ (j : ℕ). j * n) (add-one k), suc-mul k n)
-
-  levels : k < d → (k + 1) * n ≤ d * n
-  levels h = mul-le-mul_right n (let l : k + 1 ≤ d = omega arith in l)
-
   pub storing_ends : k ≡ d → c < n → length out ≡ d * n → now ≡ masked_by n c m d out
   storing_ends e h l = s.stored ∙ ap (column n c (shown_mask m) out) e ∙ column_planes n c (shown_mask m) out h d l

@@ -7,7 +7,7 @@ use mathlib.Core.Bool.{Bool, true, false}
 use mathlib.Core.List.{List}
 use lib.ListN.{length, get_or, set}
 use lib.Dec.{leb, ltb}
-use borrow.Author.Tests.{le-leb, lt-leb, lt-ltb, le-ltb, leb-true, ltb-true}
+use borrow.Author.Tests.{le-leb, lt-leb, lt-ltb, leb-true, ltb-true}
 use Rattle.array.specs.Answer.{Answer, gives, refuses, unless, map_answer}
 use Rattle.array.specs.Cells.{Value, leaf}
 use Rattle.array.specs.Places.{sum}
@@ -32,9 +32,6 @@ module _ (l : List ℕ) (room c : ℕ) (ms : List ℕ) (len : ℕ) where
   after = sum (set l c 0) + size_by ms len
 
   module _ (e : leb room most_store ≡ true) where
-    pub no_cell : length l ≤ c → refuses 15 ≡ fitted l room c ms len
-    no_cell g = rw (e, le-ltb c (length l) g)
-
     module _ (g : c < length l) (h : sum l ≤ room) where
       gave_up : sum (set l c 0) + get_or l c 0 ≡ sum l + 0
       gave_up = sum-set l c 0 g
