@@ -1,4 +1,4 @@
--- Redundant by the law ragged_writes in encode_values/proofs/Forms.antt: ragged values of the cells that a level counts (S4.9), by the values that hold them.
+-- Redundant by the law ragged_writes in encode_values/proofs/Forms.antt: ragged values of the cells that a level counts (S4.9).
 -- Assumes nothing.
 use Rattle.std.specs.Prelude.{ℕ, List}
 use Rattle.array.specs.Cells.{Value}

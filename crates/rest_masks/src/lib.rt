@@ -45,7 +45,7 @@ fn put_below(out: &mut [u8], masks: &[u8], cells: usize, at: usize)
 }
 
 // The planes below the outermost, which lies in the output already and is that of the masks or says less: `left` of them.
-fn put_levels(out: &mut [u8], masks: &[u8], cells: usize, left: usize)
+pub fn put_levels(out: &mut [u8], masks: &[u8], cells: usize, left: usize)
     requires { (suc left * cells ≤ length masks.now) × (suc left * cells ≤ length out.old) }
     ensures { out.new ≡ over_at cells (planes_by (rest_mask cells (under cells out.old masks.now)) left 1 (from 0 cells)) out.old }
 {

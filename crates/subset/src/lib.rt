@@ -112,7 +112,7 @@ pub fn volume_of(sides: &[u64]) -> u64
 }
 
 // Cell i of a subset.
-fn cell_at(shape: &[u64], starts: &[u64], lens: &[u64], i: u64) -> u64
+pub fn cell_at(shape: &[u64], starts: &[u64], lens: &[u64], i: u64) -> u64
     requires { ShapeOk shape.now × Within shape.now starts.now lens.now × (i < volume lens.now) }
     ensures { result ≡ get_or (cells_in shape.now (pairs starts.now lens.now)) i 0 }
 {
