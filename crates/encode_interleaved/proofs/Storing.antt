@@ -8,6 +8,7 @@ use native.Mathlib.Omega.{arith}
 use mathlib.Core.List.{List, [], ◌∷◌, ◌++◌, append_assoc, append-nil}
 use lib.ListN.{length, take, drop, get_or, length-append, length-drop, drop_of_length-le}
 use lib.Seq.{drop-cons, take_all, length-take-le}
+use Rattle.std.proofs.lemmas.Grind.{get_or_after_one}
 use Rattle.array.specs.Lists.{joined}
 use Rattle.array.specs.Bytes.{le}
 use Rattle.array.specs.Offsets.{last, last_from, Rising, RisingFrom, slices_from, slices}
@@ -42,7 +43,17 @@ module _ {n : ℕ} {s os : List ℕ} (h : Held n s os) where
   pub need_is : length (interleaved_of s os) ≡ 4 + 4 * n + length s
   need_is = omega (arith, length_interleaved (slices os s), cells_counted, ap length (joined-slices_all n os s h.counted h.rising h.ended))
 
--- ---- the loop
+-- ---- the loop, by the offsets behind the first
+
+module _ {n : ℕ} (os : List ℕ) (e : length os ≡ suc n) where
+  behind_are : take (length os - 1) (drop 1 os) ≡ drop 1 os
+  behind_are = take_all (length os - 1) (drop 1 os) (omega (arith, length-drop 1 os))
+
+  pub turns_are : length (take (length os - 1) (drop 1 os)) ≡ n
+  turns_are = omega (arith, ap length behind_are, length-drop 1 os, e)
+
+  pub end_is : (i : ℕ) → get_or (take (length os - 1) (drop 1 os)) i 0 ≡ get_or os (i + 1) 0
+  end_is i = ap (λ (l : List ℕ). get_or l i 0) behind_are ∙ get_or_after_one os i 0 ∙ ap (λ (k : ℕ). get_or os k 0) (omega arith)
 
 -- i cells stand in what was d, up to `at`; the next one begins at `start`
 pub record Storing (n : ℕ) (s os d out : List ℕ) (start i at : ℕ) : Type 0 where
@@ -174,9 +185,9 @@ module _ {n : ℕ} {s os d out : List ℕ} {start i at : ℕ} (c : Storing n s o
       stored : {out₂ : List ℕ} → Placing (interleaved_of s os) d out₂ (at + 4 + (end - start)) rest → Storing n s os d out₂ end (i + 1) (at + 4 + (end - start))
       stored p = record { within = omega arith; counted = c.counted; rising = rises.1; ended = closes; placed = p }
 
-      pub storing_none : end - start ≤ 0 → Storing n s os d out₁ start (i + 1) (at + 4)
+      pub storing_none : v ≤ 0 → Storing n s os d out₁ start (i + 1) (at + 4)
       storing_none z =
-          let nothing : end - start ≡ 0 = omega arith in
+          let nothing : end - start ≡ 0 = omega (arith, e₁) in
           let here : end ≡ start = omega (arith, storing_rises) in
           let p : Placing (interleaved_of s os) d out₁ (at + 4) rest = placing_is cell_left (ap (λ (k : ℕ). take k (drop start s) ++ rest) nothing) in
           subst (λ (k : ℕ). Storing n s os d out₁ k (i + 1) (at + 4)) here
@@ -184,9 +195,11 @@ module _ {n : ℕ} {s os d out : List ℕ} {start i at : ℕ} (c : Storing n s o
           (stored (subst (λ (k : ℕ). Placing (interleaved_of s os) d out₁ k rest) (omega arith) p)))
 
       -- the cell is copied, with what lies behind it
-      pub storing_more : {out₂ : List ℕ} → Copied (end - start) (length s - start) (drop start s) (at + 4) out₁ out₂
-          → Storing n s os d out₂ end (i + 1) (at + 4 + (end - start))
-      storing_more f = stored (placing_cell cell_left (omega (arith, length-drop start s, storing_rises)) storing_room f)
+      pub storing_more : {out₂ : List ℕ} → Copied v (length s - start) (drop start s) (at + 4) out₁ out₂ → Storing n s os d out₂ end (i + 1) (at + 4 + v)
+      storing_more {out₂} f =
+          subst (λ (k : ℕ). Storing n s os d out₂ end (i + 1) (at + 4 + k)) (sym e₁)
+          (stored (placing_cell cell_left (omega (arith, length-drop start s, storing_rises)) storing_room
+          (subst (λ (k : ℕ). Copied k (length s - start) (drop start s) (at + 4) out₁ out₂) e₁ f)))
 
 -- ---- one cell
 

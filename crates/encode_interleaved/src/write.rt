@@ -32,9 +32,8 @@ fn put_cells(out: &mut [u8], values: &[u8], offsets: &[u64], cells: usize)
     field::put_u32(out, 0, cells as u64);
     let mut start: usize = 0;
     let mut at: usize = 4;
-    // by a number and not over the offsets: such an iterator is kept in memory, and `encode_interleaved` took 1.2 times as long
-    for i in 0..cells {
-        let end = offsets[i + 1] as usize;
+    for end in &offsets[1..] {
+        let end = *end as usize;
         let size = end - start;
         field::put_u32(out, at, size as u64);
         at += 4;

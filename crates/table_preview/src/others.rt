@@ -22,7 +22,7 @@ pub fn counted(unpacked: usize, start: usize, packed: usize) -> usize
     }
 }
 
-// Looks at the cells of the order, but for one.
+// Looks at the cells of the order, but for one. A function of its own, as `cells_placed` of `table_check`.
 #[inline(never)]
 pub fn look_at(starts: &[u64], lengths: &[u64], order: &[u16], cell: usize) -> Others
     requires { Walkable starts.now lengths.now order.now }
