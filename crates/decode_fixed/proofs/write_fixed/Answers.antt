@@ -21,10 +21,6 @@ returns-then-masks-planes c =
 pub returns-then-values-bytes : goal.returns-then-values-bytes
 returns-then-values-bytes c = fixed_short_values (order_of c.args.order) c.requires.within c.args.masks.now c.args.values.now c.if-values-bytes.true
 
-pub overflow_sub-planes : goal.overflow_sub-planes
-overflow_sub-planes c =
-    omega (arith, times_first c.args.kind.depth c.args.n (masked c.requires.deep))
-
 pub spread_values-requires : goal.spread_values-requires
 spread_values-requires c =
     values_within (order_of c.args.order) c.requires.within c.args.masks.now c.args.values.now c.if-masks-planes.false c.if-values-bytes.false (masked c.requires.deep)

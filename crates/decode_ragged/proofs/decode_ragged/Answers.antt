@@ -12,11 +12,6 @@ use Rattle.stored_index.proofs.CheckedIndex.{index_checked, checked_refused}
 use Rattle.decode_ragged.proofs.RaggedLaws.{none_within, some_within, ragged_refused, ragged_none_set, ragged_wrong, ragged_given}
 use Rattle.decode_ragged.proofs.decode_ragged.Goals as goal
 
-pub returns-then-depth-eq0 : goal.returns-then-depth-eq0
-returns-then-depth-eq0 c =
-    let a = c.args in
-    rw c.if-depth-eq0.true (c.read_flat.ensures (masks_of a.kind.masks) a.masks.now)
-
 pub returns-in_err-at : goal.returns-in_err-at
 returns-in_err-at c =
     let a = c.args in

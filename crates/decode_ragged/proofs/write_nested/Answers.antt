@@ -31,14 +31,6 @@ returns-then-offsets-count c =
     let a = c.args in
     nested_short_offsets c.requires.within (masked c.requires.deep) a.masks.now a.values.now a.offsets.now c.if-offsets-count.true
 
-pub copy_many-requires : goal.copy_many-requires
-copy_many-requires c = omega (arith, c.requires.within.index.data_room, c.if-values-bytes.false)
-
-pub overflow_sub-planes : goal.overflow_sub-planes
-overflow_sub-planes c =
-    let first_is : c.args.kind.depth * c.args.n ≡ (c.args.kind.depth - 1) * c.args.n + c.args.n = times_first c.args.kind.depth c.args.n (masked c.requires.deep) in
-    omega (arith, first_is)
-
 pub spread_offsets-requires : goal.spread_offsets-requires
 spread_offsets-requires c =
     let first_is = times_first c.args.kind.depth c.args.n (masked c.requires.deep) in

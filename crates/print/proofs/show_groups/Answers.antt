@@ -32,5 +32,7 @@ loop-equal-preserved g c =
 pub returns : goal.returns
 returns g c = λ plain ok.
     let e = g.T.Element in
+    let after = text_after g.T.PartialEq.eq e.joint e.text Nothing 0 in
     let so_far = c.loop-equal.invariant.1 plain in
-    has_written_of_eq _ _ _ _ _ (no_more g.T.PartialEq.eq e.joint e.text _ _ _ _ c.in-None.ensures.steps.0 so_far.2 ∙ ap (λ s. text_after g.T.PartialEq.eq e.joint e.text Nothing 0 (chunk_by_rest s)) c.into_iter-equal-iterator.ensures.into_iter_gives) so_far.1
+    let is = ap (λ s. after (chunk_by_rest s)) c.into_iter-equal-iterator.ensures.into_iter_gives in
+    has_written_of_eq _ _ _ _ _ (no_more g.T.PartialEq.eq e.joint e.text _ _ _ _ c.in-None.ensures.steps.0 so_far.2 ∙ is) so_far.1

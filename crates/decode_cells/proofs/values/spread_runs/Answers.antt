@@ -53,11 +53,5 @@ pub loop-k-preserved : goal.loop-k-preserved
 loop-k-preserved c =
     sets_laid (nulls_laid c.loop-k.invariant c.run_length-nulls.ensures c.fill_bytes.ensures) c.run_length-sets.ensures c.copy_cells.ensures
 
-pub overflow_mul-plane : goal.overflow_mul-plane
-overflow_mul-plane c = omega (arith, values_rest c.loop-k.invariant refl, values_same c.loop-k.invariant)
-
-pub fill_bytes-requires-2 : goal.fill_bytes-requires-2
-fill_bytes-requires-2 c = values_rest c.loop-k.invariant refl
-
 pub returns : goal.returns
 returns c = values_end c.loop-k.invariant c.loop-k-test.false refl c.fill_bytes-2.ensures
