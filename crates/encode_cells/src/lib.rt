@@ -10,6 +10,7 @@ ghost use Rattle.array.specs.Meaning.{order_of};
 ghost use Rattle.array.specs.Places.{fixed_at, values_at};
 ghost use Rattle.codec.specs.Values.{put_values};
 ghost use Rattle.live_cells.specs.Levels.{live_in};
+ghost use Rattle.word.specs.Word.{word_test};
 
 use array::kind::ByteOrder;
 use buffer::copy;
