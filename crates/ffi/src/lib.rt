@@ -318,15 +318,7 @@ pub extern "C" fn dpx_merge(
                 values,
                 offsets,
             };
-            let answer = merge::merge(
-                k,
-                shape,
-                subsets,
-                array,
-                out_masks,
-                out_values,
-                out_offsets,
-            );
+            let answer = merge::merge(k, shape, subsets, array, out_masks, out_values, out_offsets);
             put_three_lengths(answer, lengths)
         }
     }

@@ -21,13 +21,18 @@ fn run_kind(
     out: &mut LentArray<'_>,
 ) -> Result<Lengths, Refusal> {
     match call {
-        Call::Encode => values_told(encode::encode(
-            kind, q.shape, q.array, out.values,
-        )),
+        Call::Encode => values_told(encode::encode(kind, q.shape, q.array, out.values)),
         Call::EncodeInterleaved => values_told(write::encode_interleaved(
             kind, q.shape, q.array, out.values,
         )),
-        Call::Decode => decode::decode(kind, q.shape, q.array.values, out.masks, out.values, out.offsets),
+        Call::Decode => decode::decode(
+            kind,
+            q.shape,
+            q.array.values,
+            out.masks,
+            out.values,
+            out.offsets,
+        ),
         Call::Generate => generate::generate(
             kind,
             q.shape,

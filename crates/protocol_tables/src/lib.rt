@@ -116,12 +116,7 @@ fn pack(q: TableRequest<'_>, most: u64, table: &mut LentTable<'_>) -> Result<usi
 
 fn preview(q: TableRequest<'_>, cell: u64) -> Result<Preview, Refusal> {
     let kind = head_kind(q.head)?;
-    table_preview::preview_cell(
-        kind,
-        q.cells,
-        q.table,
-        q.setting(cell),
-    )
+    table_preview::preview_cell(kind, q.cells, q.table, q.setting(cell))
 }
 
 // Sets a cell or packs, in a table that is lent, and writes the answer.

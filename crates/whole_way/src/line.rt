@@ -71,9 +71,7 @@ fn run_merge(
     );
     match answer {
         Err(e) => show::write_refusal(out, e),
-        Ok(lengths) => {
-            show_outcome(out, kind, q.shape, cuts, lent.first(lengths))
-        }
+        Ok(lengths) => { show_outcome(out, kind, q.shape, cuts, lent.first(lengths)) }
     }
 }
 
@@ -92,9 +90,7 @@ fn run_way(out: &mut impl Write, kind: Kind, q: Request<'_>, cuts: &[u64]) -> io
     show::write_text(out, b"outcome: ")?;
     match reach {
         Err(e) => show::write_refusal(out, e),
-        Ok(lengths) => {
-            run_merge(out, kind, q, lent.first(lengths), cuts)
-        }
+        Ok(lengths) => { run_merge(out, kind, q, lent.first(lengths), cuts) }
     }
 }
 

@@ -12,7 +12,7 @@ returns-then-size-gt32 c =
       enough = omega (arith, c.requires);
       fits = omega (arith, c.requires, c.if-size-gt32.true);
       done = two_blocks a.bytes.now a.at a.to a.values.now (omega (arith, c.requires)) (omega (arith, c.requires, c.if-size-gt32.true))
-        c.copy_few.ensures c.copy_few-then-size-gt32.ensures
+          c.copy_few.ensures c.copy_few-then-size-gt32.ensures;
     }
 
 pub returns-else-size-gt32 : goal.returns-else-size-gt32
