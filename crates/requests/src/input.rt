@@ -1,5 +1,5 @@
 // Standard input, or what else is read, and rooms of fixed sizes to read it into.
-ghost use Rattle.std.specs.Prelude.{◌≡◌, ◌≤◌, ◌<◌, length, take, replicate, IfOk};
+ghost use Rattle.std.specs.Prelude.{◌≡◌, ◌≤◌, ◌<◌, length, take, IfOk};
 ghost use Rattle.std.specs.Io.KnownBytes.{Consumes, IsAtEnd};
 
 use std::io;
@@ -7,8 +7,7 @@ use std::io::Read;
 
 // A room of so many elements, all of them `blank`.
 pub fn room<T: Copy, const N: usize>(blank: T) -> [T; N]
-    ensures length { N ≡ length result }
-    ensures blank { result ≡ replicate N blank }
+    ensures { N ≡ length result }
 {
     [blank; N]
 }

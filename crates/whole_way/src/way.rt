@@ -12,6 +12,7 @@ use std::num;
 use text::scan::part_of;
 
 // What a call is lent: masks, values and offsets of a table.
+#[derive(Drop)]
 pub struct Rooms {
     pub masks: [u8; 512],
     pub values: [u8; 8192],
