@@ -1,5 +1,7 @@
 // A request on a working table that is handed over. Behind the table are the lengths of the outputs to read it into, or the cell to set or
 // to preview, its masks and its value, or the most cells to move.
+ghost use Rattle.std.specs.Prelude.{◌≡◌};
+
 use crate::call::Head;
 use crate::lists::Lists;
 use table::lent::{Setting, Table};
@@ -47,7 +49,11 @@ pub struct TableRequest<'a> {
 
 impl<'a> TableRequest<'a> {
     // The setting of a cell, which is one of the numbers behind the table.
-    pub fn setting(&self, cell: u64) -> Setting<'a> {
+    pub fn setting(self, cell: u64) -> Setting<'a>
+        ensures cell { result.cell ≡ cell }
+        ensures masks { result.masks.now ≡ self.entry.cell_masks.now }
+        ensures value { result.value.now ≡ self.entry.value.now }
+    {
         Setting {
             cell: cell as usize,
             masks: self.cell_masks,
