@@ -68,7 +68,7 @@ pub fn le8_at(s: &[u8], at: usize) -> u64
     number_at::<8>(s, at)
 }
 
-// The offset of an index, by its width.
+// The offset of an index, by its width: a match, so that each width is one load.
 pub fn le_at(s: &[u8], at: usize, width: IndexWidth) -> u64
     requires { at + width_of width ≤ length s.now }
     ensures { result ≡ unle (take (width_of width) (drop at s.now)) }

@@ -91,7 +91,7 @@ fn put_live_words(
     }
 }
 
-// The same by level, and each size has a loop of its own.
+// The same by level, and each size has a loop of its own: it is a const parameter, so that the fact about it is asked and not carried.
 #[inline(never)]
 fn put_level_words<const SIZE: usize>(
     out: &mut [u8],

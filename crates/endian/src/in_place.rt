@@ -29,7 +29,7 @@ pub fn reverse_words(bytes: &mut [u8], size: WordSize) -> usize
 }
 
 // Cells of a size that no other function has. It is called from two places and is long, so that it stays a function of its own:
-// its registers are not saved where other sizes are reversed.
+// its registers are not saved where other sizes are reversed. The size of 32 is a constant, as some types have it.
 pub fn reverse_any(bytes: &mut [u8], at: usize, size: usize, cells: usize) -> usize
     requires { at + cells * size ≤ length bytes.old }
     ensures whole { result ≡ cells * size }

@@ -4,7 +4,8 @@ ghost use Rattle.load.specs.Generator.{draw_bytes};
 
 use crate::generator::Generator;
 
-// The state after j + 1 draws is FACTORS[j] times the state plus TERMS[j], modulo 2 to the 32.
+// The state after j + 1 draws is FACTORS[j] times the state plus TERMS[j], modulo 2 to the 32. Two lists and none of pairs: a step
+// reads sixteen of each, one behind another.
 const FACTORS: [u32; 16] = [
     1664525, 389569705, 2940799637, 158984081, 2862450781, 3211393721, 1851289957, 3934847009,
     2184914861, 246739401, 1948736821, 2941245873, 4195587069, 4088025561, 980655621, 2001863745,

@@ -20,7 +20,7 @@ use encode_data::{LiveOffsets, LiveValues};
 use live_cells::Level;
 
 // Where each cell begins, and the last one ends, if those that the level counts lie end to end: a length by its mark, so that nothing
-// branches on a mask.
+// branches on a mask. As `put_cell_places` of `table_make`, with all ends in one list.
 #[inline(always)]
 #[tactic(auto, using(encode_data::proofs::Spans::places_rise))]
 fn put_cell_offsets(out: &mut [u64], places: LiveOffsets)
@@ -49,7 +49,8 @@ fn put_offsets(out: &mut [u64], places: LiveOffsets)
     put_cell_offsets(out, places.at_depth(1));
 }
 
-// The values that a plane shows, end to end, and where each begins and the last one ends. Says how many bytes they have.
+// The values that a plane shows, end to end, and where each begins and the last one ends. Says how many bytes they have. The plane was made here,
+// so it is part of no `Guest`, and of no `LiveOffsets` until its level is.
 fn put_seen<'a>(
     out_values: &mut [u8],
     out_offsets: &mut [u64],

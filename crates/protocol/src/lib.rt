@@ -85,6 +85,7 @@ fn answer_line(out: &mut impl Write, line: &[u8]) -> io::Result<()> {
     }
 }
 
+// Each line, as `run_all` of `whole_way`, which counts the tables before it.
 fn answer_all(out: &mut impl Write, input: &[u8]) -> io::Result<()> {
     for line in input.split_inclusive(|b| *b == b'\n') {
         answer_line(out, line.strip_suffix(b"\n").unwrap_or(line))?;

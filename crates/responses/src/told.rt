@@ -18,6 +18,7 @@ pub fn values_told(answer: Result<usize, Refusal>) -> Result<Lengths, Refusal>
     })
 }
 
+// As `values_told`, of another field.
 pub fn offsets_told(answer: Result<usize, Refusal>) -> Result<Lengths, Refusal>
     ensures { told result ≡ map_answer only_offsets (told answer) }
 {

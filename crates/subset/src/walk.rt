@@ -111,6 +111,7 @@ pub struct Subsets<'a> {
 }
 
 impl<'a> Subsets<'a> {
+    // A list that was looked at: what is asked here, the struct carries on.
     pub fn new(shape: &'a [u64], numbers: &'a [u64]) -> Subsets<'a>
         requires { SubsetsOk shape.now numbers.now }
         ensures shape { result.shape.now ≡ shape.now }

@@ -13,7 +13,8 @@ fn start_at(to: u64, size: u64) -> u64
     if 0 < size { to } else { 0 }
 }
 
-// Cell by cell. One that is not shown has no bytes: its length by its mark, so that nothing branches on a mask.
+// Cell by cell. One that is not shown has no bytes: its length by its mark, so that nothing branches on a mask. As
+// `put_cell_offsets` of `guest_read`, with starts and lengths in two lists.
 #[inline(always)]
 #[tactic(auto, using(encode_data::proofs::Spans::places_rise))]
 fn put_cell_places(starts: &mut [u64], lengths: &mut [u64], places: LiveOffsets)

@@ -23,7 +23,7 @@ fn four_rise(a: u64, b: u64, c: u64, d: u64, e: u64) -> bool
 }
 
 // Whether the first n + 1 offsets begin at 0 and never fall. Four at a time, as a turn of the loop costs more than a test.
-// `stored_index` has the like for the fields of stored bytes; the shapes of both were measured apart (docs/DECISIONS.md, part (k)).
+// `stored_index` has the like for the fields of stored bytes, two a turn: it reads them by their width.
 fn rise_from_zero(offsets: &[u64], n: usize) -> bool
     requires { n < length offsets.now }
     ensures { result ≡ rising_test (take (suc n) offsets.now) }

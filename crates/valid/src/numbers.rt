@@ -50,6 +50,7 @@ fn byte_kind_from_numbers(depth: u64, form: u64, size: u64, order: u64) -> Resul
     })
 }
 
+// No `TryFrom` here and below: one number says no values, it takes three.
 fn values_from_numbers(form: u64, size: u64, order: u64) -> Result<Values, Refusal>
     ensures { map_answer form_of (told result) ≡ and_then (form_numbered form size order) within }
 {

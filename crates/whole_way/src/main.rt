@@ -36,6 +36,7 @@ fn run_line(out: &mut impl Write, number: u64, line: &[u8]) -> io::Result<u64> {
     }
 }
 
+// Each line, as `answer_all` of `protocol`, with the tables counted.
 fn run_all(out: &mut impl Write, input: &[u8]) -> io::Result<()> {
     let mut number: u64 = 0;
     for line in input.split_inclusive(|b| *b == b'\n') {

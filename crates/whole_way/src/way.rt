@@ -65,7 +65,7 @@ fn store_subset(
     )
 }
 
-// The way of one subset: cut and written, and exactly the bytes written read back.
+// The way of one subset: cut and written, and exactly the bytes written read back. Into three slices, as each chunk has what is left of the rooms.
 fn one_way(
     kind: Kind,
     shape: &[u64],
@@ -102,7 +102,7 @@ pub(crate) fn whole(subset: &[u64], numbers: usize) -> &[u64] {
     if subset.len() == numbers { subset } else { &[] }
 }
 
-// The way of each subset, in the list's order; the chunks end to end, and how far they reach, or the first refusal.
+// The way of each subset, in the list's order; the chunks end to end, and how far they reach, or the first refusal. Three slices, as above.
 pub fn read_chunks(
     kind: Kind,
     shape: &[u64],
