@@ -63,7 +63,8 @@ module _ (k : Kind) (n : ℕ) (rights : List ℕ) (t : Table) (u : Setting) wher
         unfolding edit_answer previewed set_answer
         edit_hidden h e =
             ap (λ (m : ℕ). left (refuses m)) e
-            ∙ left_is (refuses (hidden_number (previewed k n t c ms v))) (sym (rw (shaped.0, shaped.1, some, ok, left_of_lem (ltb c n) (not (permits rights c)) (sym h), flip (permits rights c) (right_of (ltb c n) (not (permits rights c)) (sym h)))
+            ∙ left_is (refuses (hidden_number (previewed k n t c ms v)))
+            (sym (rw (shaped.0, shaped.1, some, ok, left_of_lem (ltb c n) (not (permits rights c)) (sym h), flip (permits rights c) (right_of (ltb c n) (not (permits rights c)) (sym h)))
             (told (table_test k.depth n t && setting_test k.depth ms) (store_test t) (leb (sum_after k.depth c (setting_of k.depth ms v) t) (length t.store)))))
           where
             flip : (b : Bool) → not b ≡ true → b ≡ false
