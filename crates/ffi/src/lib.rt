@@ -14,6 +14,7 @@ ghost use Rattle.load.specs.Calls.{generated};
 ghost use Rattle.chunks.specs.Calls.{extracted, merged, partially_decoded};
 ghost use Rattle.table.specs.Calls.{made, read_out, cell_set, previewed, answered, cells_packed};
 ghost use Rattle.table.specs.Meaning.{table_by};
+ghost use Rattle.rights.specs.Calls.{guest_read, guest_edit};
 ghost use Rattle.ffi.specs.Exported.{handed, with_given, by_index, status_of, one_length, two_lengths, three_lengths, four_lengths, preview_lengths, export_one, export_two, export_three, export_four, export_moved, export_preview, export_set};
 
 use array::answer::{Lengths, RaggedLengths};
@@ -566,6 +567,89 @@ pub extern "C" fn dpx_table_pack(
                 most as usize,
             );
             put_length(answer, lengths)
+        }
+    }
+}
+
+#[unsafe(no_mangle)]
+pub extern "C" fn dpx_guest_read(
+    kind: DpxKind,
+    shape: &[u64],
+    rights: &[u8],
+    masks: &[u8],
+    values: &[u8],
+    offsets: &[u64],
+    out_masks: &mut [u8],
+    out_values: &mut [u8],
+    out_offsets: &mut [u64],
+    lengths: &mut [u64; 3],
+) -> u32
+    ensures { handed result lengths.new (content_array out_masks.new out_values.new out_offsets.new)
+        ≡ export_three (with_given (numbered_kind kind.depth kind.form kind.size kind.order kind.mask)
+        (content_array out_masks.old out_values.old out_offsets.old)
+        (λ k. guest_read k shape.now rights.now (content_array masks.now values.now offsets.now)
+        (content_array out_masks.old out_values.old out_offsets.old))) lengths.old }
+{
+    match kind_of(kind) {
+        Err(e) => e.number() as u32,
+        Ok(k) => {
+            let array = ArrayBytes {
+                masks,
+                values,
+                offsets,
+            };
+            let answer = guest_read::guest_read(
+                k,
+                shape,
+                rights,
+                array,
+                out_masks,
+                out_values,
+                out_offsets,
+            );
+            put_three_lengths(answer, lengths)
+        }
+    }
+}
+
+#[unsafe(no_mangle)]
+pub extern "C" fn dpx_guest_edit(
+    kind: DpxKind,
+    cells: u64,
+    rights: &[u8],
+    masks: &mut [u8],
+    starts: &mut [u64],
+    cell_lengths: &mut [u64],
+    store: &mut [u8],
+    cell: u64,
+    cell_masks: &[u8],
+    value: &[u8],
+) -> u32
+    ensures { handed result [] (table_by masks.new starts.new cell_lengths.new store.new)
+        ≡ export_set (with_given (numbered_kind kind.depth kind.form kind.size kind.order kind.mask)
+        (table_by masks.old starts.old cell_lengths.old store.old)
+        (λ k. guest_edit k cells rights.now (table_by masks.old starts.old cell_lengths.old store.old)
+        cell cell_masks.now value.now)) }
+{
+    match kind_of(kind) {
+        Err(e) => e.number() as u32,
+        Ok(k) => {
+            let setting = Setting {
+                cell: cell as usize,
+                masks: cell_masks,
+                value,
+            };
+            let answer = guest_edit::guest_edit(
+                k,
+                cells as usize,
+                rights,
+                masks,
+                starts,
+                cell_lengths,
+                store,
+                setting,
+            );
+            status_of(answer)
         }
     }
 }
