@@ -22,18 +22,18 @@ use Rattle.array.proofs.Rules.{kind_test_lem, shape_test_lem, many_test_lem, arr
 use Rattle.array.proofs.Sizes.{OfSize, SizedAs, null_sized}
 use Rattle.array.proofs.SubsetLaws.{length-cells_in, cells_in_below, all_below, subset_shape, lengths_subset, subsets_joined}
 use Rattle.array.proofs.Geometry.{count_all}
-use Rattle.array.proofs.LayoutLaws.{cells_layout, Good, good_cells, good_layout}
+use Rattle.array.proofs.LayoutLaws.{cells_layout, Good, All-leaves, good_cells, good_layout}
+use Rattle.array.proofs.Resting.{good_rest}
 use Rattle.array.proofs.RestLaws.{rest_blank, leaf_blank}
 use Rattle.array.proofs.Taken.{taken_content, taken_bytes_lem}
 use Rattle.codec.specs.Calls.{encoded, decoded, encode_answer, decode_answer}
-use Rattle.codec.proofs.Lengths.{All-leaves}
 use Rattle.chunks.specs.Gather.{gather, put_back, Once, once_test}
 use Rattle.chunks.specs.Cut.{cells_at, cut_of}
 use Rattle.chunks.specs.Chunks.{no_content, follow, chunk_cells, merge_of}
 use Rattle.chunks.specs.Calls.{extracted, extract_answer, merged, merge_answer}
 use Rattle.chunks.specs.Demand.{Entry, shape_of, rest_of_cut, one_way, each_way, whole_way, EntryOk, Covers, subsets_in, Demand3}
 use Rattle.chunks.proofs.Gather.{gather-map, put_back-gather, once_test_lem}
-use Rattle.chunks.proofs.GoodCells.{good_rest, good_gather}
+use Rattle.chunks.proofs.GoodCells.{good_gather}
 use Rattle.chunks.proofs.Chunks.{first_chunk_lem, later_chunks_lem}
 use Rattle.chunks.proofs.Calls.{extract_gives, encode_gives, decode_gives, valid_layout}
 

@@ -28,10 +28,12 @@ use Rattle.table.specs.Table.{Table}
 use Rattle.table.specs.Calls.{table_after, in_place, table_lengths, make_answer, made, read_answer, read_out, set_answer, cell_set, previewed, answered, pack_answer, cells_packed}
 use Rattle.table.specs.Lying.{moved_cells}
 use Rattle.table.proofs.Refusals as table
+use Rattle.rights.specs.Calls.{guest_answer, guest_read, edit_answer, guest_edit}
+use Rattle.rights.proofs.Refusals as rights
 use Rattle.chunks.specs.Chunks.{later_chunks}
 use Rattle.chunks.specs.Calls.{extract_answer, extracted, merge_answer, merged, partial_answer, partially_decoded}
 use Rattle.chunks.specs.Refusals.{chunk_rules}
-use Rattle.chunks.specs.Demand1.{encode_numbers, decode_numbers, interleaved_numbers, encode_interleaved_numbers, extract_numbers, merge_numbers, partial_numbers, reverse_numbers, subset_numbers, generate_numbers, make_table_numbers, read_table_numbers, set_cell_numbers, pack_cells_numbers, listed, Answered, Demand1}
+use Rattle.chunks.specs.Demand1.{encode_numbers, decode_numbers, interleaved_numbers, encode_interleaved_numbers, extract_numbers, merge_numbers, partial_numbers, reverse_numbers, subset_numbers, generate_numbers, make_table_numbers, read_table_numbers, set_cell_numbers, pack_cells_numbers, guest_read_numbers, guest_edit_numbers, listed, Answered, Demand1}
 use Rattle.chunks.proofs.Refusals as chunks
 
 -- ---- the numbers of rules stand in the list
@@ -116,7 +118,7 @@ module _ {rs : List Rule} (ns : List ℕ) where
 -- ---- the demand
 
 pub demand1 : Demand1
-unfolding encoded decoded interleaved_decoded interleaved_encoded extracted merged partially_decoded endianness_reversed subset_cells generated made read_out cell_set cells_packed
+unfolding encoded decoded interleaved_decoded interleaved_encoded extracted merged partially_decoded endianness_reversed subset_cells generated made read_out cell_set cells_packed guest_read guest_edit
 demand1 = record {
   encode = λ k shape c out. list_answered encode_numbers (encode_answer k shape c (length out)) out ((codec.refusals).encode k shape c out) refl;
   decode = λ k shape s out. content_answered decode_numbers (decode_answer k shape s (lengths_of out)) out ((codec.refusals).decode k shape s out)
@@ -136,4 +138,6 @@ demand1 = record {
   set_cell = λ k n t c ms v. place_answered set_cell_numbers (λ u. tt) (set_answer k n t c ms v) t ((table.refusals).set k n t c ms v) refl;
   preview_cell = λ k n t c ms v. answer_answered set_cell_numbers (previewed k n t c ms v) ((table.refusals).preview k n t c ms v) refl;
   pack_cells = λ k n t most. place_answered pack_cells_numbers (λ u. length (moved_cells most n t)) (pack_answer k n t most) t ((table.refusals).pack k n t most) refl;
+  guest_read_call = λ k shape seen c out. content_answered guest_read_numbers (guest_answer k shape seen c (lengths_of out)) out ((rights.refusals).guest_read_call k shape seen c out) refl;
+  guest_edit_call = λ k n seen t c ms v. place_answered guest_edit_numbers (λ u. tt) (edit_answer k n seen t c ms v) t ((rights.refusals).guest_edit_call k n seen t c ms v) refl;
 }

@@ -11,6 +11,7 @@ use Rattle.codec.specs.Calls.{encoded, decoded, interleaved_decoded, interleaved
 use Rattle.load.specs.Calls.{generated}
 use Rattle.table.specs.Table.{Table}
 use Rattle.table.specs.Calls.{made, read_out, cell_set, previewed, answered, cells_packed}
+use Rattle.rights.specs.Calls.{guest_read, guest_edit}
 use Rattle.chunks.specs.Calls.{extracted, merged, partially_decoded}
 
 -- ---- the numbers of each call, in the order of their tests
@@ -58,6 +59,12 @@ set_cell_numbers = 1 ∷ 2 ∷ 4 ∷ 5 ∷ 15 ∷ 16 ∷ []
 abbrev pub pack_cells_numbers : List ℕ
 pack_cells_numbers = 1 ∷ 2 ∷ 4 ∷ 5 ∷ []
 
+abbrev pub guest_read_numbers : List ℕ
+guest_read_numbers = 1 ∷ 2 ∷ 17 ∷ 4 ∷ 5 ∷ 6 ∷ []
+
+abbrev pub guest_edit_numbers : List ℕ
+guest_edit_numbers = 1 ∷ 2 ∷ 17 ∷ 4 ∷ 5 ∷ 15 ∷ 18 ∷ 16 ∷ []
+
 -- ---- the claim
 
 -- whether a number stands in the list
@@ -88,3 +95,6 @@ pub record Demand1 : Type 0 where
   pub set_cell : (k : Kind) (n : ℕ) (t : Table) (c : ℕ) (ms : List ℕ) (v : Value) → Answered set_cell_numbers t (cell_set k n t c ms v)
   pub preview_cell : (k : Kind) (n : ℕ) (t : Table) (c : ℕ) (ms : List ℕ) (v : Value) → Answered set_cell_numbers tt (answered (previewed k n t c ms v))
   pub pack_cells : (k : Kind) (n : ℕ) (t : Table) (most : ℕ) → Answered pack_cells_numbers t (cells_packed k n t most)
+  pub guest_read_call : (k : Kind) (shape rights : List ℕ) (c out : Content) → Answered guest_read_numbers out (guest_read k shape rights c out)
+  pub guest_edit_call : (k : Kind) (n : ℕ) (rights : List ℕ) (t : Table) (c : ℕ) (ms : List ℕ) (v : Value)
+      → Answered guest_edit_numbers t (guest_edit k n rights t c ms v)

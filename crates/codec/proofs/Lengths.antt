@@ -12,9 +12,9 @@ use Rattle.array.specs.Kind.{Kind, Masks, Form, FormOk}
 use Rattle.array.specs.Cells.{Value, Cell, mask_of, leaf}
 use Rattle.array.specs.Content.{Content, ContentOk, leaves, cells_of}
 use Rattle.array.proofs.Lists.{map_id}
-use Rattle.array.proofs.Sums.{sum_of, length-joined-map}
+use Rattle.array.proofs.Sums.{sum_of}
 use Rattle.array.proofs.Sizes.{OfSize, SizedAs}
-use Rattle.array.proofs.LayoutLaws.{length-mask_of, cells_sized}
+use Rattle.array.proofs.LayoutLaws.{length-mask_of, bytes_sum, All-leaves, cells_sized}
 use Rattle.codec.specs.Mask.{MaskForm, mask_form}
 use Rattle.codec.specs.Frame.{keep_one, keep, unless_none, frame, live}
 use Rattle.codec.specs.Values.{put_values}
@@ -50,10 +50,6 @@ sum-keep {A} f (c ∷ cs) = one c.0 (sum-keep f cs)
     one (suc zero) h = omega arith
     one (suc (suc m)) h = omega arith
 
--- the value bytes of cells, as a sum
-pub bytes_sum : (d : ℕ) (cs : List (Cell d)) → length (joined (leaves d cs)) ≡ sum_of (λ c. length (leaf d c)) cs
-bytes_sum d cs = length-joined-map (leaf d) cs
-
 pub bytes_keep : (d : ℕ) (cs : List (Cell (suc d))) → length (joined (leaves d (keep cs))) ≤ length (joined (leaves (suc d) cs))
 bytes_keep d cs = omega (arith, bytes_sum d (keep cs), bytes_sum (suc d) cs, sum-keep (λ c. length (leaf d c)) cs)
 
@@ -64,10 +60,6 @@ bytes_live (suc d) cs = le_trans (bytes_live d (keep cs)) (bytes_keep d cs)
 pub All-live : (P : Value → Type 0) (d : ℕ) (cs : List (Cell d)) → All (λ c. P (leaf d c)) cs → All P (live d cs)
 All-live P zero cs p = p
 All-live P (suc d) cs p = All-live P d (keep cs) (All-keep (λ c. P (leaf d c)) cs p)
-
-pub All-leaves : (P : Value → Type 0) (d : ℕ) (cs : List (Cell d)) → All P (leaves d cs) → All (λ c. P (leaf d c)) cs
-All-leaves P d [] p = tt
-All-leaves P d (c ∷ cs) p = (p.0, All-leaves P d cs p.1)
 
 pub sized-live : (f : Form) (d : ℕ) (cs : List (Cell d)) → SizedAs f (leaves d cs) → SizedAs f (live d cs)
 sized-live f d cs p = All-live (OfSize f) d cs (All-leaves (OfSize f) d cs p)
