@@ -17,9 +17,7 @@ use Rattle.array.specs.Subset.{Subset, lengths, subset_of, NumbersOk, cells_in, 
 use Rattle.array.specs.Content.{Content, Valid, leaves, layout, pair_up, cells_of, null_cell}
 use Rattle.array.specs.declared.answer.Lengths.{Lengths}
 use Rattle.array.specs.Buffers.{lengths_of, Enough, content_outcome, put_into, taken}
-use Rattle.array.proofs.Answers.{pass}
 use Rattle.array.proofs.Lists.{All-get_or, All-of, All-image}
-use Rattle.array.proofs.Rules.{kind_test_lem, shape_test_lem, numbers_test_lem, rest_passes}
 use Rattle.array.proofs.SubsetLaws.{length-cells_in, cells_in_below, subset_shape, lengths_subset}
 use Rattle.array.proofs.Geometry.{count_cells}
 use Rattle.array.proofs.LayoutLaws.{Good, good_cells, cells_layout}
@@ -29,10 +27,11 @@ use Rattle.rights.specs.Calls.{guest_read}
 use Rattle.rights.proofs.Seeing.{shows}
 use Rattle.chunks.specs.Gather.{gather}
 use Rattle.chunks.specs.Cut.{cells_at, cut_of}
-use Rattle.chunks.specs.Calls.{extract_answer, extracted}
+use Rattle.chunks.specs.Calls.{extracted}
 use Rattle.chunks.specs.Demand.{shape_of}
 use Rattle.chunks.specs.ReadThenCut.{next_call}
 use Rattle.chunks.proofs.Gather.{gather-map}
+use Rattle.chunks.proofs.Calls.{extract_any}
 use Rattle.chunks.proofs.GoodCells.{good_gather}
 use Rattle.rights_laws.specs.Planes.{plane_kind, plane_array}
 use Rattle.rights_laws.specs.Laws.{Seen, Cuttable, cut_then_read, Cuts}
@@ -43,10 +42,8 @@ use Rattle.rights_laws.proofs.PlaneArrays.{plane_kind_ok, plane_fits, plane_smal
 -- a cut of a valid array is refused by nothing but 6
 pub extract_puts : {k : Kind} {shape ns : List ℕ} {c : Content} → Valid k shape c → NumbersOk shape ns → (out : Content)
     → extracted k shape ns c out ≡ put_into (cut_of k shape c (subset_of (length shape) ns)) out
-unfolding extracted extract_answer
-extract_puts {k} {shape} {ns} {c} v p out =
-    ap (λ a. content_outcome a out)
-    (pass 1 (kind_test_lem k v.kind) (pass 2 (shape_test_lem shape v.shaped) (pass 3 (numbers_test_lem shape ns p) (rest_passes k (volume shape) c v.content v.small refl))))
+unfolding extracted
+extract_puts v p out = ap (λ a. content_outcome a out) (extract_any v p (lengths_of out))
 
 -- no cell stands twice in a subset
 pub once_in : {shape : List ℕ} {ns : List ℕ} → NumbersOk shape ns → (i : ℕ) → i < volume shape → count i (cells_in shape (subset_of (length shape) ns)) ≤ 1

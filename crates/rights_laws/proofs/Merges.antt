@@ -279,7 +279,8 @@ merges k shape kind sh some ps oks cover merge plane free h out =
     let w : Content = whole_array kind sh some ps oks cover in
     let r : Bool = enough_test w (lengths_of merge) in
     let answered : NotRefused kind sh some ps oks cover s r merge =
-    λ e q. free e (ap (λ (o : Outcome Lengths Content). o.answer) (parts.merge_puts kind sh array_in ps (array_fits kind sh some ps oks cover ps oks) (once kind sh some ps oks cover) merge) ∙ q) in
+    λ e q. free e
+    (ap (λ (o : Outcome Lengths Content). o.answer) (parts.merge_puts kind sh array_in ps (array_fits kind sh some ps oks cover ps oks) (once kind sh some ps oks cover) merge) ∙ q) in
     let small : s ≡ true = is_small kind sh some ps oks cover s r merge answered in
     let room : r ≡ true = has_room kind sh some ps oks cover s r merge answered in
     let few : length (joined (leaves k.depth (cells kind sh some ps oks cover ps))) ≤ most_bytes = size_ok (length (joined (leaves k.depth (cells kind sh some ps oks cover ps)))) small in

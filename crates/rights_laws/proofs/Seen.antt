@@ -21,13 +21,12 @@ use Rattle.array.proofs.Lists.{map-map, map-from, length_from_lem}
 use Rattle.array.proofs.Numbered.{cells_are}
 use Rattle.array.proofs.Resting.{rest_ok, rest_cell}
 use Rattle.array.proofs.RestLaws.{rest_blank, rest_again}
-use Rattle.array.proofs.Rules.{kind_test_lem, shape_test_lem, strict_bytes_test_lem, rest_passes, enough_test_lem}
+use Rattle.array.proofs.Rules.{enough_test_lem}
 use Rattle.array.proofs.Taken.{taken_content}
 use Rattle.rights.specs.Rights.{RightsOk, permits, hidden_by, guest_form}
-use Rattle.rights.specs.Calls.{guest_answer, guest_read}
-use Rattle.rights.proofs.Rules.{masked_test_lem}
+use Rattle.rights.specs.Calls.{guest_read}
 use Rattle.rights.proofs.Cleared.{hidden_ok}
-use Rattle.rights.proofs.Seeing.{seen, seen_cell, guest_laid}
+use Rattle.rights.proofs.Seeing.{seen, seen_cell, guest_laid, read_any}
 use Rattle.chunks.specs.ReadThenCut.{next_call}
 use Rattle.rights_laws.specs.Planes.{both}
 use Rattle.rights_laws.proofs.Pairs.{pairs_are}
@@ -89,11 +88,8 @@ module _ {k : Kind} {n : ℕ} {c : Content} (ok : ArrayOk k n c) (small : length
 
 pub read_puts : {k : Kind} {shape rights : List ℕ} {c : Content} → Valid k shape c → 0 < k.depth → RightsOk (volume shape) rights → (out : Content)
     → guest_read k shape rights c out ≡ put_into (guest_form k (volume shape) rights c) out
-unfolding guest_read guest_answer
-read_puts {k} {shape} {rights} {c} v some ok out =
-    ap (λ a. content_outcome a out)
-    (pass 1 (kind_test_lem k v.kind) (pass 2 (shape_test_lem shape v.shaped) (pass 17 (masked_test_lem k some) (pass 4 (strict_bytes_test_lem (volume shape) rights ok)
-    (rest_passes k (volume shape) c v.content v.small refl)))))
+unfolding guest_read
+read_puts v some ok out = ap (λ a. content_outcome a out) (read_any v some ok (lengths_of out))
 
 -- what is taken from outputs that are long enough, and goes on to the next call
 pub put_taken : {x : Content} (seen : Content) → Enough x (lengths_of seen) → taken (put_into x seen) ≡ gives (whole x)
