@@ -34,12 +34,12 @@
  * are put there. Who hands a store on hands them on, too; dpx_table_read gives the cells alone.
  *
  * GUESTS. A rights plane says which cells a guest may see: one byte a cell, 01 where it shows the cell, 00 where it hides it;
- * there is no other. It belongs to the guest, and is part of no array and no table. dpx_guest_read gives a guest what its plane
+ * there is no other. Each guest has its own; it is part of no array and no table. dpx_guest_read gives a guest what its plane
  * shows of an array; dpx_guest_edit sets a cell of a working table that it shows. Only a mask can hide a cell: both calls
  * refuse a kind of depth 0, with 17.
  *
- * The host keeps arrays, tables and planes, and makes the calls. A guest is given the answer, and of the outputs of
- * dpx_guest_read so many elements as `lengths` says; nothing else is meant for it:
+ * The host keeps arrays, tables and planes, and makes the calls. A guest is given the answer and `lengths`, and of the outputs
+ * of dpx_guest_read so many elements as these say. Nothing else is meant for it:
  *
  *   outputs       Elements beyond those lengths keep what they held. Where a guest has the whole memory, lend one that is
  *                 fresh, or cleared, and not one that another guest's cells were in.
@@ -53,8 +53,8 @@
  * whether array or table keep the rules, for 4 and 5 look at every cell; and by 16 of an edit how full the store is. Nothing
  * is promised of how long a call takes.
  *
- * SLICES. A slice is a pointer and a count, in this order. The count is in elements: bytes for masks, values, stores and
- * stored bytes, 64-bit numbers for shape, subset, offsets, cells, starts and cell_lengths. NULL with 0 is an empty slice.
+ * SLICES. A slice is a pointer and a count, in this order. The count is in elements: bytes for rights, masks, values, stores
+ * and stored bytes, 64-bit numbers for shape, subset, offsets, cells, starts and cell_lengths. NULL with 0 is an empty slice.
  * `lengths` is a pointer to as many numbers as its brackets say; it must not be NULL.
  *
  * SUBSETS. A subset (a box of cells) is one slice: all starts, then all lengths. With two sides: start 0, start 1,
