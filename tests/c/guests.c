@@ -8,7 +8,7 @@
 #include "held.h"
 #include "outputs.h"
 
-/* One byte more than an array may have, and than a store may have. */
+/* Values and a store of one byte more than there may be, which no call changes; drawn values are shorter than LONGEST. */
 enum { OVER = DPX_MAX_VALUE_BYTES + 1, LONGEST = 9 };
 static uint8_t over[OVER], over_store[OVER];
 
@@ -20,8 +20,8 @@ static uint32_t draw(void)
     return state >> 16;
 }
 
-/* Whether all bytes are as test_limits and the sets of faults find them. */
-static int is_plain(const uint8_t *bytes) { return bytes[0] == 7 && memcmp(bytes, bytes + 1, OVER - 1) == 0; }
+/* Whether every byte is 7, as all are at first. */
+static int all_are_7(const uint8_t *bytes) { return bytes[0] == 7 && memcmp(bytes, bytes + 1, OVER - 1) == 0; }
 
 /* Of faults whose bits stand in the order of the refusals, that of the first. */
 static uint32_t first_of(const uint32_t *order, size_t faults)
@@ -263,19 +263,19 @@ static void sees(const struct array *array, dpx_kind kind, size_t cells, const u
     const uint64_t shape[1] = {cells};
     const size_t planes = kind.depth * cells, count = kind.form == DPX_RAGGED ? cells + 1 : 0, left = block_count;
     const int enough = masks >= planes && values >= seen.values_len && offsets >= count;
-    const uint8_t *plane = in(rights, cells), *own = in(array->masks, planes), *bytes = in(array->values, array->values_len);
-    const uint64_t *ends = in(array->offsets, 8 * count);
+    const uint8_t *own = in(rights, cells), *own_masks = in(array->masks, planes), *own_values = in(array->values, array->values_len);
+    const uint64_t *own_offsets = in(array->offsets, 8 * count);
     lend(masks, values, offsets);
-    ANSWERS(dpx_guest_read(kind, shape, 1, plane, cells, own, planes, bytes, array->values_len, ends, count, OUT3),
+    ANSWERS(dpx_guest_read(kind, shape, 1, own, cells, own_masks, planes, own_values, array->values_len, own_offsets, count, OUT3),
             enough ? DPX_OK : DPX_OUTPUT);
     if (enough)
         check_gives(seen.masks, planes, seen.values, seen.values_len, seen.offsets, count, __LINE__);
     else
         check_untouched(__LINE__);
-    check_is(plane, rights, cells, "rights are kept", __LINE__);
-    check_is(own, array->masks, planes, "masks handed over are kept", __LINE__);
-    check_is(bytes, array->values, array->values_len, "values handed over are kept", __LINE__);
-    check_is(ends, array->offsets, 8 * count, "offsets handed over are kept", __LINE__);
+    check_is(own, rights, cells, "rights are kept", __LINE__);
+    check_is(own_masks, array->masks, planes, "masks handed over are kept", __LINE__);
+    check_is(own_values, array->values, array->values_len, "values handed over are kept", __LINE__);
+    check_is(own_offsets, array->offsets, 8 * count, "offsets handed over are kept", __LINE__);
     release_to(left);
 }
 
@@ -697,7 +697,7 @@ int main(void)
     edit_faults();
     test_edits();
     test_limits();
-    CHECK(is_plain(over) && is_plain(over_store));
+    CHECK(all_are_7(over) && all_are_7(over_store));
     printf("guests from C: %lu checks, %lu failed\n", checks, failures);
     return failures == 0 ? 0 : 1;
 }
