@@ -1,6 +1,6 @@
 #!/usr/bin/env bash
-# The CPU affinity table: written, shown, cut, merged and checked. Prints each command and its output. Needs the command
-# durpaxeta in build/ (make demo builds it). Ends with a status other than 0 if anything comes out differently.
+# The CPU affinity table: written, shown, cut, merged, read by a guest and checked. Prints each command and its output. Needs
+# the command durpaxeta in build/ (make demo builds it). Ends with a status other than 0 if anything comes out differently.
 set -euo pipefail
 root=$(cd "$(dirname "$0")/.." && pwd)
 export PATH="$root/build:$PATH"
@@ -36,6 +36,12 @@ run 'durpaxeta show --kind "depth 2, ragged, width 4, index at start" --shape 1x
 say 'Merge the two, in any order: the same bytes again.'
 run 'durpaxeta merge "${table[@]}" --part 1..2,0..2 host1.bin --part 0..1,0..2 host0.bin all.bin'
 run 'durpaxeta same "${table[@]}" guests.bin all.bin'
+
+say 'What guest 1 may see: its own column. The list of guest 0 is not in that file.'
+run 'durpaxeta guest read "${table[@]}" --rights 0,1,0,1 guests.bin guest1.bin'
+run 'durpaxeta show "${table[@]}" guest1.bin'
+run 'grep -c "0-3,8" guest1.bin || true'
+[ "$(grep -c '0-3,8' guest1.bin || true)" -eq 0 ]
 
 say 'A damaged file is refused: 63 of the 64 bytes.'
 run 'head -c 63 guests.bin > damaged.bin'

@@ -2,7 +2,7 @@
  * Durpaxeta: tables of optional and variable-length cells in one checked byte layout.
  *
  * Link with libdurpaxeta.a (x86-64). Nothing else is needed but memmove and memset, as of any C library.
- * The archive has the fifteen calls. All else is static inline here: kinds, answers in words, room for outputs, cells.
+ * The archive has the seventeen calls. All else is static inline here: kinds, answers in words, room for outputs, cells.
  *
  * A TABLE is a kind, a shape and its content.
  *
@@ -18,7 +18,7 @@
  *
  * Null and empty are two things. Null: a mask byte is 00. Empty: all mask bytes are 01, and the value has no bytes.
  *
- * Masks come before values, and values before offsets, in every call.
+ * Masks come before values, and values before offsets, in every call. A rights plane comes before all of them.
  *
  * A WORKING TABLE is a ragged table whose cells are edited in memory: dpx_table_make, dpx_table_set, dpx_table_preview,
  * dpx_table_pack, dpx_table_read. The caller holds its four lists, and hands all of them to each call.
@@ -33,8 +33,28 @@
  * they lie is that of their starts. Nothing is ever cleared: bytes that a cell had before stay in the store until others
  * are put there. Who hands a store on hands them on, too; dpx_table_read gives the cells alone.
  *
- * SLICES. A slice is a pointer and a count, in this order. The count is in elements: bytes for masks, values, stores and
- * stored bytes, 64-bit numbers for shape, subset, offsets, cells, starts and cell_lengths. NULL with 0 is an empty slice.
+ * GUESTS. A rights plane says which cells a guest may see: one byte a cell, 01 where it shows the cell, 00 where it hides it;
+ * there is no other. Each guest has its own; it is part of no array and no table. dpx_guest_read gives a guest what its plane
+ * shows of an array; dpx_guest_edit sets a cell of a working table that it shows. Only a mask can hide a cell: both calls
+ * refuse a kind of depth 0, with 17.
+ *
+ * The host keeps arrays, tables and planes, and makes the calls. A guest is given the answer and `lengths`, and of the outputs
+ * of dpx_guest_read so many elements as these say. Nothing else is meant for it:
+ *
+ *   outputs       Elements beyond those lengths keep what they held. Where a guest has the whole memory, lend one that is
+ *                 fresh, or cleared, and not one that another guest's cells were in.
+ *   cells         The mask says first whether there is a value. A cell that is hidden comes out as one that is null at level 1
+ *                 does, and dpx_get_cell answers both alike.
+ *   working table The four lists are the host's: starts, lengths and store tell of every cell. For a guest, dpx_table_read
+ *                 reads the table into memory of the host, and dpx_guest_read that array into the guest's.
+ *   previews      dpx_table_preview takes no plane, and its two numbers are of all cells.
+ *
+ * Of a hidden cell of an array that keeps the rules a read tells nothing, by 6 and `lengths` neither. Two things are told:
+ * whether array or table keep the rules, for 4 and 5 look at every cell; and by 16 of an edit how full the store is. Nothing
+ * is promised of how long a call takes.
+ *
+ * SLICES. A slice is a pointer and a count, in this order. The count is in elements: bytes for rights, masks, values, stores
+ * and stored bytes, 64-bit numbers for shape, subset, offsets, cells, starts and cell_lengths. NULL with 0 is an empty slice.
  * `lengths` is a pointer to as many numbers as its brackets say; it must not be NULL.
  *
  * SUBSETS. A subset (a box of cells) is one slice: all starts, then all lengths. With two sides: start 0, start 1,
@@ -56,9 +76,9 @@
  * overlap neither each other nor an input nor `lengths`. Inputs may overlap each other. Pointers to numbers must be
  * aligned for uint64_t.
  *
- * STACK. 16 KiB is enough for any call but dpx_table_read, dpx_table_set, dpx_table_preview and dpx_table_pack, which put the
- * cells in the order in which they lie, in 256 KiB: for these 272 KiB are enough, whatever the number of cells. dpx_merge
- * takes 8 KiB to mark the cells that its subsets hold.
+ * STACK. 16 KiB is enough for any call but dpx_table_read, dpx_table_set, dpx_table_preview, dpx_table_pack and dpx_guest_edit,
+ * which put the cells in the order in which they lie, in 256 KiB: for these 272 KiB are enough, whatever the number of cells.
+ * dpx_merge takes 8 KiB to mark the cells that its subsets hold.
  *
  * THREADS. There is no state: any number of calls may run at the same time, on outputs that do not overlap.
  */
@@ -74,9 +94,9 @@ extern "C" {
 
 /* The version, as three numbers, as text, and as one number that grows with it: #if DPX_VERSION_NUMBER >= 1002003 */
 #define DPX_VERSION_MAJOR 0
-#define DPX_VERSION_MINOR 8
+#define DPX_VERSION_MINOR 9
 #define DPX_VERSION_PATCH 0
-#define DPX_VERSION "0.8.0"
+#define DPX_VERSION "0.9.0"
 #define DPX_VERSION_NUMBER (DPX_VERSION_MAJOR * 1000000 + DPX_VERSION_MINOR * 1000 + DPX_VERSION_PATCH)
 
 /* Limits. One more of any of these is refused. */
@@ -99,17 +119,19 @@ enum dpx_refusal {
                        working table of no cells, or of over 65,536 */
     DPX_SUBSET = 3, /* a subset reaches past its shape, or has not one start and one length a side; in a merge also: it
                        holds no cell */
+    DPX_NO_MASKS = 17, /* a guest's call: the kind has depth 0, so there is no mask that could hide a cell */
 
-    /* Whoever hands over an array, a chunk list or a working table. */
+    /* Whoever hands over an array, a chunk list, a working table or a rights plane. */
     DPX_CONTENT = 4, /* lengths of masks, values, offsets or chunks disagree, a mask byte is over 01, the first offset is not
                         0, or offsets fall; a working table is not in rest form, or its cells overlap, leave the store, or
-                        start elsewhere than at 0 with no bytes */
+                        start elsewhere than at 0 with no bytes; a rights plane has not one byte a cell, or one over 01 */
     DPX_SIZE = 5,    /* over 16,777,216 value bytes, or bytes of a store */
     DPX_COVER = 12,  /* the subsets of a merge miss a cell or hold one twice */
 
     /* Whoever sets a cell of a working table, or asks what a setting would do. */
     DPX_CELL = 15, /* the number of the cell is the count of cells, or above it */
     DPX_FULL = 16, /* the lengths of the cells would sum to more bytes than the store has */
+    DPX_HIDDEN = 18, /* a guest's edit: the rights plane hides the cell */
 
     /* Whoever stored the bytes. */
     DPX_SHORT = 7,     /* under 16 bytes for a frame, 8 for ragged values, 4 * (1 + cells) for the older form */
@@ -127,7 +149,7 @@ enum dpx_refusal {
 
 /* An answer in words: what is wrong, and who causes it. */
 #define DPX_DESCRIBER " (caused by whoever describes the table)"
-#define DPX_SUPPLIER " (caused by whoever hands over the array, chunk list or working table)"
+#define DPX_SUPPLIER " (caused by whoever hands over the array, chunk list, working table or rights plane)"
 #define DPX_SETTER " (caused by whoever sets the cell)"
 #define DPX_STORER " (caused by whoever stored the bytes)"
 #define DPX_LENDER " (caused by whoever lends the output)"
@@ -143,7 +165,8 @@ static inline const char *dpx_refusal_text(uint32_t refusal)
                             " or, in a merge, holds no cell" DPX_DESCRIBER;
     case DPX_CONTENT: return "refusal 4: lengths of masks, values, offsets or chunks disagree, a mask byte is neither 00 nor"
                              " 01, the first offset is not 0, or offsets fall (of a working table: it is not in rest form, or"
-                             " cells overlap or lie where they must not)" DPX_SUPPLIER;
+                             " cells overlap or lie where they must not; of a rights plane: it has not one byte for each cell,"
+                             " or one is neither 00 nor 01)" DPX_SUPPLIER;
     case DPX_SIZE: return "refusal 5: more than 16,777,216 value bytes, or bytes of a store" DPX_SUPPLIER;
     case DPX_OUTPUT: return "refusal 6: an output is shorter than the result needs" DPX_LENDER;
     case DPX_SHORT: return "refusal 7: too few stored bytes: a frame takes at least 16, ragged values 8, the interleaved form"
@@ -158,6 +181,8 @@ static inline const char *dpx_refusal_text(uint32_t refusal)
     case DPX_NOT_BOOLEAN: return "refusal 14: a stored mask byte is neither 00 nor 01" DPX_STORER;
     case DPX_CELL: return "refusal 15: the working table has no cell of that number" DPX_SETTER;
     case DPX_FULL: return "refusal 16: the cells would have more bytes than the store" DPX_SETTER;
+    case DPX_NO_MASKS: return "refusal 17: the kind has no masks, and only a mask can hide a cell from a guest" DPX_DESCRIBER;
+    case DPX_HIDDEN: return "refusal 18: the rights plane hides that cell from the guest" DPX_SETTER;
     default: return "no answer of this version";
     }
 }
@@ -244,6 +269,7 @@ typedef struct dpx_room {
  *   dpx_decode              cells of the shape,  bytes: bytes_len
  *   dpx_extract             cells of the subset, bytes: values_len
  *   dpx_merge               cells of the shape,  bytes: values_len
+ *   dpx_guest_read          cells of the shape,  bytes: values_len
  *   dpx_generate            cells of the shape,  bytes: 8 * cells
  *   dpx_table_read          its cells,           bytes: store_len
  *   dpx_partial_decode      cells of the subset, bytes: bytes_len, kind: ragged, depth 0
@@ -354,7 +380,7 @@ static inline dpx_cell dpx_get_cell(dpx_kind kind, uint64_t cells,
 
 /*
  * Cell `number` of a working table of `cells` cells, one that a call made or accepted; `number` is below `cells`. `value`
- * points into the store, and holds until the table is set or packed: both may move cells.
+ * points into the store, and holds until a cell is set, by dpx_guest_edit too, or the table is packed: all may move cells.
  */
 static inline dpx_cell dpx_table_cell(dpx_kind kind, uint64_t cells,
                                       const uint8_t *masks, const uint64_t *starts, const uint64_t *cell_lengths,
@@ -787,6 +813,72 @@ uint32_t dpx_table_pack(dpx_kind kind, uint64_t cells,
                         uint8_t *store, size_t store_len,
                         uint64_t most,
                         uint64_t lengths[1]);
+
+/*
+ * What a guest sees of an array: the cells that its rights plane shows, and nulls in place of the others.
+ *
+ * Where the plane is 00 the outermost mask byte comes out as 00, whatever it was. The rest is as dpx_decode gives it: below a
+ * null every mask byte is 00, a fixed value zero bytes and a ragged one no bytes, and ragged values lie end to end from offset
+ * 0. The array is not changed.
+ * Two arrays that keep the rules, and that differ only in cells that the plane hides, or below a null, give the same answer,
+ * the same lengths and the same bytes, into outputs of any length: 6 goes by what is shown, and not by the array's lengths.
+ * A working table is read for a guest by dpx_table_read, and then by this call, its count of cells as the one side of a shape.
+ * Enough room: dpx_array_room. That is depth * cells masks; fixed: cells * size values; ragged: as many values as the lengths
+ * of the cells that are shown and not null sum to (values_len is enough), and cells + 1 offsets.
+ *
+ *   lengths[0]   mask bytes written: depth * cells
+ *   lengths[1]   value bytes written
+ *   lengths[2]   offsets written: cells + 1, or 0 for a fixed kind
+ *
+ * Refusals, in this order:
+ *   1 DPX_KIND     whoever describes the table
+ *   2 DPX_SHAPE    whoever describes the table
+ *  17 DPX_NO_MASKS whoever describes the table: depth 0, also of a fixed kind; the plane is not looked at
+ *   4 DPX_CONTENT  whoever hands over the plane: rights_len is not the count of cells, or one of these bytes is over 01; or
+ *                  whoever hands over the array: as for dpx_encode, hidden cells too
+ *   5 DPX_SIZE     whoever hands over the array: the last offset is over 16,777,216, whatever is shown
+ *   6 DPX_OUTPUT   whoever lends the outputs: one is shorter than what is shown
+ */
+uint32_t dpx_guest_read(dpx_kind kind,
+                        const uint64_t *shape, size_t shape_len,
+                        const uint8_t *rights, size_t rights_len,
+                        const uint8_t *masks, size_t masks_len,
+                        const uint8_t *values, size_t values_len,
+                        const uint64_t *offsets, size_t offsets_len,
+                        uint8_t *out_masks, size_t out_masks_len,
+                        uint8_t *out_values, size_t out_values_len,
+                        uint64_t *out_offsets, size_t out_offsets_len,
+                        uint64_t lengths[3]);
+
+/*
+ * A guest's edit of a working table, in place: dpx_table_set of a cell that the guest's rights plane shows.
+ *
+ * All is as dpx_table_set says; `value` must not lie in the store here either. No cell that the plane hides changes, in masks or
+ * value. But where all cells are packed before, hidden ones move as well: their starts change, and the store's bytes. Of two
+ * tables that keep the rules the same edit gets the same answer, or one of them is 16: what is in them is not told, only
+ * whether the store has room, and this for cells alone that the plane shows.
+ *
+ * Refusals, in this order:
+ *   1 DPX_KIND     whoever describes the table: also a fixed kind
+ *   2 DPX_SHAPE    whoever describes the table: no cells, or over 65,536
+ *  17 DPX_NO_MASKS whoever describes the table: depth 0; the plane is not looked at
+ *   4 DPX_CONTENT  whoever hands over the plane: rights_len is not `cells`, or one of these bytes is over 01, whatever `cell`
+ *                  is; or whoever hands over the table: as for dpx_table_read; or whoever sets the cell: cell_masks_len is not
+ *                  depth, or one of these bytes is over 01
+ *   5 DPX_SIZE     whoever hands over the table: store_len is over 16,777,216
+ *  15 DPX_CELL     whoever sets the cell: `cell` is `cells` or more
+ *  18 DPX_HIDDEN   whoever sets the cell: the plane is 00 there
+ *  16 DPX_FULL     whoever sets the cell: with the lengths of the other cells the value, if it is not dropped, is over store_len
+ */
+uint32_t dpx_guest_edit(dpx_kind kind, uint64_t cells,
+                        const uint8_t *rights, size_t rights_len,
+                        uint8_t *masks, size_t masks_len,
+                        uint64_t *starts, size_t starts_len,
+                        uint64_t *cell_lengths, size_t cell_lengths_len,
+                        uint8_t *store, size_t store_len,
+                        uint64_t cell,
+                        const uint8_t *cell_masks, size_t cell_masks_len,
+                        const uint8_t *value, size_t value_len);
 
 #ifdef __cplusplus
 }

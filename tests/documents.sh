@@ -1,9 +1,9 @@
 #!/usr/bin/env bash
 # The pages against the tree: files, functions and make targets that they name are there; each must-fail edit is named in
-# docs/PROMISES.md, and each edit that it names stands in the crate that it says; each rule that they and comments cite is in
-# docs/SPEC.md, which alone names where the rules come from; each file of specs/ says which rules it states or which law makes it redundant,
-# and docs/PROMISES.md lists the former; header, README and docs/FORMAT.md have the refusals of docs/SPEC.md, the header those of each call;
-# CHANGELOG.md begins with the version. Crates that crates.txt calls unfinished are in no page yet: their edits, rules and definitions.
+# docs/PROMISES.md, which says how many there are, and each edit that it names stands in the crate that it says; each rule that they and
+# comments cite is in docs/SPEC.md, which alone names where the rules come from; each file of specs/ says which rules it states or which law
+# makes it redundant, and docs/PROMISES.md lists the former and counts the latter; header, README and docs/FORMAT.md have the refusals of
+# docs/SPEC.md, the header those of each call; CHANGELOG.md begins with the version.
 set -euo pipefail
 cd "$(dirname "$0")/.."
 bad=0
@@ -11,8 +11,6 @@ wrong() {
     echo "documents: $*" >&2
     bad=1
 }
-unfinished=" $(awk '/^#/ {is = /unfinished/} is && /^[a-z]/ {sub(/[ :].*/, ""); printf "%s ", $0}' crates.txt)"
-is_unfinished() { case $unfinished in *" $1 "*) ;; *) return 1 ;; esac }
 # docs/PORT.md and docs/DESIGN-PASS.md say what things were called
 pages=(README.md CONTRIBUTING.md CHANGELOG.md BENCHMARKS.md $(ls docs/*.md | grep -vxE 'docs/(PORT|DESIGN-PASS)\.md') oracle/README.md oracle/data/README.md)
 
@@ -49,22 +47,18 @@ done <<< "$listed"
 edits=0
 for edit in crates/*/must-fail/*.edit; do
     name=$(basename "$edit" .edit)
-    if is_unfinished "$(cut -d/ -f2 <<< "$edit")"; then continue; fi
     grep -qw "$name" docs/PROMISES.md || wrong "$edit is not in docs/PROMISES.md"
     edits=$((edits + 1))
 done
+grep -qF "There are $edits edits." docs/PROMISES.md || wrong "docs/PROMISES.md should say: There are $edits edits."
 
 # A rule is **S1.2** at the begin of a line or of a table's row; any other S1.2 cites it.
 rules=$(grep -oE '^(\| )?\*\*S[0-9]+\.[0-9]+\*\*' docs/SPEC.md | grep -oE 'S[0-9.]+[0-9]' | sort)
 twice=$(uniq -d <<< "$rules")
 [ -z "$twice" ] || wrong "docs/SPEC.md gives a number to two rules:" $twice
 mapfile -t code < <(find crates -name out -prune -o \( -name '*.antt' -o -name '*.rt' \) -print)
-finished=()
-for file in "${code[@]}"; do
-    is_unfinished "$(cut -d/ -f2 <<< "$file")" || finished+=("$file")
-done
-for rule in $(grep -ohE '\bS[0-9]+\.[0-9]+\b' "${pages[@]}" "${finished[@]}" | sort -u); do
-    grep -qxF "$rule" <<< "$rules" || wrong "rule $rule is cited and not in docs/SPEC.md:" $(grep -lwF "$rule" "${pages[@]}" "${finished[@]}")
+for rule in $(grep -ohE '\bS[0-9]+\.[0-9]+\b' "${pages[@]}" "${code[@]}" | sort -u); do
+    grep -qxF "$rule" <<< "$rules" || wrong "rule $rule is cited and not in docs/SPEC.md:" $(grep -lwF "$rule" "${pages[@]}" "${code[@]}")
 done
 
 # Where the rules come from is named once.
@@ -83,16 +77,20 @@ by_contract='^-- Redundant by the contract of `([a-z_]+)::([a-z_0-9]+::)*([a-z_0
 unused="^-- Redundant: no promise of a call rests on it, only the gate's programs do\\. ."
 believed=''
 lines=0
+redundant=0
+redundant_lines=0
 for spec in $(find crates -name out -prune -o -path '*/specs/*.antt' ! -name Lib.antt -print | sort); do
     path=${spec#crates/}
     line=$(head -n 1 "$spec")
     [ "${#line}" -le 150 ] || wrong "the first line of $path has over 150 characters"
+    count=$(grep -cvE '^ *(--|use |$)' "$spec" || true)
+    if [[ $line == '-- Redundant by '* ]]; then
+        redundant=$((redundant + 1))
+        redundant_lines=$((redundant_lines + count))
+    fi
     if [[ $line =~ $states ]]; then
-        count=$(grep -cvE '^ *(--|use |$)' "$spec")
-        if ! is_unfinished "${path%%/*}"; then
-            lines=$((lines + count))
-            believed+="| \`$path\` | ${BASH_REMATCH[1]} | $count |"$'\n'
-        fi
+        lines=$((lines + count))
+        believed+="| \`$path\` | ${BASH_REMATCH[1]} | $count |"$'\n'
         for used in $(sed -nE '/^use Rattle\.std\./d; s|^use Rattle\.([a-z_]+)\.specs\.([A-Z][A-Za-z0-9]*).*|\1/specs/\2.antt|p' "$spec"); do
             [[ $(head -n 1 "crates/$used") =~ $states ]] || wrong "$path states rules and uses $used, which does not"
         done
@@ -112,7 +110,9 @@ listed=$(grep -E '^\| `[a-z_]+/specs/[A-Za-z0-9]+\.antt` \| S[^|]* \| [0-9]+ \|$
 differ=$(diff <(sort <<< "${believed%$'\n'}") <(echo "$listed") || true)
 [ -z "$differ" ] || wrong "docs/PROMISES.md, What must be believed, should have < and has >:"$'\n'"$differ"
 total="$(wc -l <<< "$listed") files, $((lines / 1000)),$(printf %03d $((lines % 1000))) lines"
-grep -qF "$total" docs/PROMISES.md || wrong "docs/PROMISES.md, What must be believed, should say: $total"
+for said in "$total" "$redundant files, $redundant_lines lines"; do
+    grep -qF "$said" docs/PROMISES.md || wrong "docs/PROMISES.md, What must be believed, should say: $said"
+done
 
 # The refusals: | 1 | cause | whoever .. | or, several in a row, | 1 kind, 2 shape | whoever .. |
 refusals() { grep -E '^\| [0-9].*\| whoever' "$1" | grep -oE '(^\| |, )[0-9]+ ' | grep -oE '[0-9]+' | sort -n | tr '\n' ' '; }

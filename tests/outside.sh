@@ -36,6 +36,8 @@ dpx_encode
 dpx_encode_interleaved
 dpx_extract
 dpx_generate
+dpx_guest_edit
+dpx_guest_read
 dpx_merge
 dpx_partial_decode
 dpx_reverse_endianness
@@ -46,7 +48,7 @@ dpx_table_preview
 dpx_table_read
 dpx_table_set
 END
-echo 'the fifteen calls, and nothing else'
+echo 'the seventeen calls, and nothing else'
 
 # The tests by cargo need nothing of those in C, and run beside them; what they say comes behind.
 cargo_tests() {

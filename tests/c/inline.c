@@ -34,7 +34,7 @@ static void texts(void)
         for (other = 1; other < number; other++)
             CHECK(strcmp(text, dpx_refusal_text(other)) != 0);
     }
-    CHECK(number > DPX_FULL);
+    CHECK(number > DPX_HIDDEN);
 }
 
 static void counts(void)
@@ -191,6 +191,52 @@ static void boxes(void)
     CHECK(cell.null_level == 0 && cell.length == 2 && memcmp(cell.value, "ab", 2) == 0);
 }
 
+/* What a guest sees: the room that is enough, cells that are hidden, and a cell of a working table that it sets. */
+static void guests(void)
+{
+    const dpx_kind ragged = dpx_ragged(2, 4, DPX_START), fixed = dpx_fixed(1, 2, DPX_BIG);
+    const uint64_t shape[] = {4}, offsets[] = {0, 1, 3, 6, 6}, levels[] = {0, 1, 2, 0};
+    const uint8_t rights[] = {1, 0, 1, 1}, all[] = {1, 1, 1, 1}, set[] = {1, 1};
+    const uint8_t masks[] = {1, 1, 1, 1, 1, 1, 0, 1}, values[] = {'a', 'b', 'c', 'd', 'e', 'f', 'g', 'h'};
+    uint8_t out_masks[8], out_values[8], table_masks[8], store[4];
+    uint64_t out_offsets[5], starts[4], cell_lengths[4], lengths[4], number;
+    dpx_room room = dpx_array_room(ragged, dpx_cell_count(shape, 1), 6);
+    dpx_cell cell;
+    CHECK(room.masks == 8 && room.values == 6 && room.offsets == 5);
+    CHECK(dpx_guest_read(ragged, shape, 1, rights, 4, masks, 8, values, 6, offsets, 5, out_masks, room.masks, out_values, room.values,
+                         out_offsets, room.offsets, lengths) == DPX_OK);
+    CHECK(lengths[0] == room.masks && lengths[1] == 1 && lengths[2] == room.offsets);
+    for (number = 0; number < 4; number++) {
+        cell = dpx_get_cell(ragged, 4, out_masks, out_values, out_offsets, number);
+        CHECK(cell.null_level == levels[number] && cell.length == (number == 0));
+    }
+    CHECK(out_values[0] == 'a');
+
+    /* Of a fixed kind, and where all is shown, all of the room is used. */
+    room = dpx_array_room(fixed, 4, 8);
+    CHECK(dpx_guest_read(fixed, shape, 1, rights, 4, all, 4, values, 8, NULL, 0, out_masks, room.masks, out_values, room.values - 1, NULL, 0,
+                         lengths) == DPX_OUTPUT);
+    CHECK(dpx_guest_read(fixed, shape, 1, rights, 4, all, 4, values, 8, NULL, 0, out_masks, room.masks, out_values, room.values, NULL, 0,
+                         lengths) == DPX_OK);
+    CHECK(lengths[0] == room.masks && lengths[1] == room.values && lengths[2] == 0);
+    CHECK(dpx_get_cell(fixed, 4, out_masks, out_values, NULL, 1).null_level == 1 && out_values[2] == 0);
+    cell = dpx_get_cell(fixed, 4, out_masks, out_values, NULL, 2);
+    CHECK(cell.null_level == 0 && cell.length == 2 && memcmp(cell.value, "ef", 2) == 0);
+
+    /* A store of one byte more than the cells have, for an edit that packs them. */
+    CHECK(dpx_table_make(ragged, 4, masks, 8, values, 6, offsets, 5, table_masks, 8, starts, 4, cell_lengths, 4, store, 4, lengths) == DPX_OK);
+    CHECK(dpx_guest_edit(ragged, 4, rights, 4, table_masks, 8, starts, 4, cell_lengths, 4, store, 4, 1, set, 2, values, 1) == DPX_HIDDEN);
+    CHECK(dpx_guest_edit(ragged, 4, rights, 4, table_masks, 8, starts, 4, cell_lengths, 4, store, 4, 0, set, 2, values + 6, 2) == DPX_OK);
+    cell = dpx_table_cell(ragged, 4, table_masks, starts, cell_lengths, store, 0);
+    CHECK(cell.null_level == 0 && cell.length == 2 && memcmp(cell.value, "gh", 2) == 0);
+    cell = dpx_table_cell(ragged, 4, table_masks, starts, cell_lengths, store, 1);
+    CHECK(cell.null_level == 0 && cell.length == 2 && memcmp(cell.value, "bc", 2) == 0);
+    CHECK(dpx_guest_edit(ragged, 4, rights, 4, table_masks, 8, starts, 4, cell_lengths, 4, store, 4, 0, set, 2, values, 3) == DPX_FULL);
+    CHECK(strstr(dpx_refusal_text(DPX_NO_MASKS), "refusal 17: ") != NULL && strstr(dpx_refusal_text(DPX_HIDDEN), "refusal 18: ") != NULL);
+    CHECK(dpx_guest_read(dpx_ragged(0, 4, DPX_START), shape, 1, rights, 4, NULL, 0, values, 6, offsets, 5, NULL, 0, out_values, 6, out_offsets,
+                         5, lengths) == DPX_NO_MASKS);
+}
+
 /* What is refused asks for no memory, and an empty value needs none. */
 static void edges(void)
 {
@@ -229,6 +275,7 @@ int main(void)
     }
     table_cells();
     boxes();
+    guests();
     edges();
     printf("header: %lu checks, %lu failed\n", checks, failures);
     return failures == 0 ? 0 : 1;

@@ -2,6 +2,9 @@
  * What the tests hand over and lend. Inputs are copied into blocks of exactly their size, so that valgrind sees a read past an
  * end; outputs lie between guard bytes and are filled first, so that a byte written where none may be is seen.
  */
+#ifndef LENT_H
+#define LENT_H
+
 #include "check.h"
 #include "durpaxeta.h"
 
@@ -36,11 +39,14 @@ static void *block(size_t size)
     return p;
 }
 
-static void release(void)
+/* Frees all but the first `left`. */
+static void release_to(size_t left)
 {
-    while (block_count > 0)
+    while (block_count > left)
         free(blocks[--block_count]);
 }
+
+static void release(void) { release_to(0); }
 
 /* A copy of exactly `size` bytes; NULL for none. */
 static void *in(const void *from, size_t size)
@@ -90,3 +96,5 @@ static void check_is(const void *got, const void *wanted, size_t size, const cha
 {
     check(size == 0 || memcmp(got, wanted, size) == 0, what, line);
 }
+
+#endif

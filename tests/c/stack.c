@@ -1,7 +1,7 @@
 /*
  * How much stack the calls take: each runs on a stack of its own, filled before, and no byte below the promised 16 KiB
  * may change. Every call runs on a table of depth 4 with many cells, merge with one subset for each cell. Reading, setting,
- * previewing and packing a working table are promised 272 KiB.
+ * previewing and packing a working table are promised 272 KiB, and so is a guest's edit of one.
  */
 #define _XOPEN_SOURCE 700
 #include "durpaxeta.h"
@@ -18,7 +18,9 @@ enum { SMALL_TABLE = 2048, STORE = 4 * DPX_MAX_CELLS };
 static uint64_t shape[1] = {CELLS}, whole[2] = {0, CELLS}, subsets[2 * CELLS], offsets[CELLS + 1], chunk_offsets[2 * CELLS];
 static uint64_t out_offsets[CELLS + 1], lengths[3];
 static uint8_t masks[4 * CELLS], values[CELLS], stored[16 * CELLS], plain[16 * CELLS], old[8 * CELLS], anew[8 * CELLS];
-static uint8_t out_masks[4 * CELLS], out_values[CELLS], turned[CELLS], load[64 * CELLS];
+static uint8_t out_masks[4 * CELLS], out_values[CELLS], turned[CELLS], load[64 * CELLS], wide[64 * CELLS];
+/* A guest's plane, which hides every fourth cell. */
+static uint8_t rights[DPX_MAX_CELLS];
 static uint64_t stored_len, plain_len, old_len;
 static uint32_t answer;
 
@@ -96,6 +98,23 @@ static void reverse_endianness(void) { answer = dpx_reverse_endianness(64, turne
 
 static void subset_cells(void) { answer = dpx_subset_cells(shape, 1, whole, 2, out_offsets, CELLS, lengths); }
 
+/* Room for all values, and for those alone that are shown, which then are counted. */
+static void read_for_guest(size_t room)
+{
+    answer = dpx_guest_read(nested, shape, 1, rights, CELLS, masks, 4 * CELLS, values, CELLS, offsets, CELLS + 1, out_masks, 4 * CELLS,
+                            out_values, room, out_offsets, CELLS + 1, lengths);
+}
+
+static void guest_read(void) { read_for_guest(CELLS); }
+
+static void guest_read_counted(void) { read_for_guest(CELLS - CELLS / 4); }
+
+static void guest_read_fixed(void)
+{
+    answer = dpx_guest_read(dpx_fixed(4, 64, DPX_BIG), shape, 1, rights, CELLS, masks, 4 * CELLS, load, sizeof load, NULL, 0, out_masks,
+                            4 * CELLS, wide, sizeof wide, NULL, 0, lengths);
+}
+
 /*
  * A working table whose cells lie the other way round, each two bytes behind the next: all are displaced. Cell 0 is null.
  */
@@ -145,6 +164,14 @@ static void table_preview(size_t cells, size_t length)
     answer = dpx_table_preview(nested, cells, TABLE(cells), 1, set, 4, t_values, length, t_named);
 }
 
+/* As table_set, by a guest; a cell that its plane hides is not set. */
+static void guest_edit(size_t cells, size_t cell)
+{
+    static const uint8_t set[4] = {1, 1, 1, 1};
+    scatter(cells);
+    answer = dpx_guest_edit(nested, cells, rights, cells, TABLE(cells), cell, set, 4, t_values, 3 * cells);
+}
+
 static void table_pack(size_t cells)
 {
     scatter(cells);
@@ -164,6 +191,17 @@ static void preview_small(void) { table_preview(SMALL_TABLE, 3 * SMALL_TABLE); }
 static void preview_large(void) { table_preview(DPX_MAX_CELLS, 3 * DPX_MAX_CELLS); }
 
 static void preview_behind(void) { table_preview(DPX_MAX_CELLS, 4); }
+
+static void edit_small(void) { guest_edit(SMALL_TABLE, 1); }
+
+static void edit_large(void) { guest_edit(DPX_MAX_CELLS, 1); }
+
+/* Refused with 18, as it should be, which counts as 0 here. */
+static void edit_hidden(void)
+{
+    guest_edit(DPX_MAX_CELLS, 3);
+    answer -= DPX_HIDDEN;
+}
 
 static void pack_small(void) { table_pack(SMALL_TABLE); }
 
@@ -222,7 +260,13 @@ int main(void)
                  {"table_set, large", set_large, LARGE},
                  {"table_preview, large", preview_large, LARGE},
                  {"table_preview, behind", preview_behind, LARGE},
-                 {"table_pack, large", pack_large, LARGE}};
+                 {"table_pack, large", pack_large, LARGE},
+                 {"guest_read", guest_read, 0},
+                 {"guest_read, counted", guest_read_counted, 0},
+                 {"guest_read, fixed", guest_read_fixed, 0},
+                 {"guest_edit", edit_small, LARGE},
+                 {"guest_edit, large", edit_large, LARGE},
+                 {"guest_edit, hidden", edit_hidden, LARGE}};
     size_t i, idle, failed = 0;
 
     for (i = 0; i < CELLS; i++) {
@@ -234,6 +278,8 @@ int main(void)
     }
     memset(masks, 1, sizeof masks);
     masks[0] = 0; /* so that inner levels have fewer cells */
+    for (i = 0; i < DPX_MAX_CELLS; i++)
+        rights[i] = i % 4 != 3;
     old[0] = CELLS & 255;
     old[1] = CELLS >> 8;
     old_len = 4;

@@ -5,67 +5,13 @@
  * The four lists of a table lie between guards; after each call every byte of them is held against what it should be. Before
  * each setting its preview is asked for, which must be refused alike, or say what is there afterwards, and change nothing.
  */
-#include "lent.h"
-
-/* A table that is edited, its lists between guards. */
-static struct {
-    uint8_t *masks, *starts_block, *lengths_block, *store;
-    uint64_t *starts, *lengths;
-    size_t masks_len, starts_len, lengths_len, store_len;
-    uint64_t named[4];
-} t;
-
-static void put(uint8_t *to, const void *from, size_t size)
-{
-    if (size != 0)
-        memcpy(to, from, size);
-}
-
-static void hold(const uint8_t *masks, size_t masks_len, const uint64_t *starts, size_t starts_len, const uint64_t *lengths,
-                 size_t lengths_len, const uint8_t *store, size_t store_len)
-{
-    t.masks = guarded(masks_len);
-    t.starts_block = guarded(starts_len * 8);
-    t.lengths_block = guarded(lengths_len * 8);
-    t.store = guarded(store_len);
-    t.starts = (uint64_t *)(void *)t.starts_block;
-    t.lengths = (uint64_t *)(void *)t.lengths_block;
-    put(t.masks, masks, masks_len);
-    put(t.starts_block, starts, starts_len * 8);
-    put(t.lengths_block, lengths, lengths_len * 8);
-    put(t.store, store, store_len);
-    t.masks_len = masks_len;
-    t.starts_len = starts_len;
-    t.lengths_len = lengths_len;
-    t.store_len = store_len;
-    memset(t.named, FILL, sizeof t.named);
-}
-
-/* So many elements of each list are these; what is beyond them, and the guards, are as they were. */
-static void check_table(const uint8_t *masks, size_t masks_len, const uint64_t *starts, size_t starts_len, const uint64_t *lengths,
-                        size_t lengths_len, const uint8_t *store, size_t store_len, int line)
-{
-    check_is(t.masks, masks, masks_len, "masks", line);
-    check_is(t.starts, starts, starts_len * 8, "starts", line);
-    check_is(t.lengths, lengths, lengths_len * 8, "lengths of cells", line);
-    check_is(t.store, store, store_len, "store", line);
-    check(kept(t.masks, masks_len, t.masks_len), "masks beyond their length are kept", line);
-    check(kept(t.starts_block, starts_len * 8, t.starts_len * 8), "starts beyond their length are kept", line);
-    check(kept(t.lengths_block, lengths_len * 8, t.lengths_len * 8), "lengths beyond their length are kept", line);
-    check(kept(t.store, store_len, t.store_len), "store beyond its length is kept", line);
-}
+#include "held.h"
 
 static void check_named(uint64_t a, uint64_t b, uint64_t c, uint64_t d, int line)
 {
     check(t.named[0] == a && t.named[1] == b && t.named[2] == c && t.named[3] == d, "lengths as named", line);
 }
 
-/* Lists in the source, as they come in each call: S(..) starts and lengths, NO for no masks. */
-#define S NUMBERS
-#define NO NONE
-#define HOLD(...) hold(__VA_ARGS__)
-#define TABLE t.masks, t.masks_len, t.starts, t.starts_len, t.lengths, t.lengths_len, t.store, t.store_len
-#define AFTER(...) check_table(__VA_ARGS__, __LINE__)
 #define SETS(kind, cells, cell, masks, value)                                        \
     do {                                                                             \
         foresee(kind, cells, cell, masks, value, DPX_OK, __LINE__);                  \
@@ -82,8 +28,6 @@ static void check_named(uint64_t a, uint64_t b, uint64_t c, uint64_t d, int line
     ANSWERS(dpx_table_pack(kind, cells, TABLE, most, t.named), DPX_OK), check_named(moved, FILL64, FILL64, FILL64, __LINE__)
 #define NOT_PACKED(kind, cells, most, wanted) \
     ANSWERS(dpx_table_pack(kind, cells, TABLE, most, t.named), wanted), check_named(FILL64, FILL64, FILL64, FILL64, __LINE__)
-
-static dpx_kind r(uint64_t depth) { return dpx_ragged(depth, 8, DPX_START); }
 
 /* ------------------------------------------------------------------------------------------------------- preview */
 
@@ -158,19 +102,10 @@ static void test_preview(void)
 
 /* ---------------------------------------------------------------------------------------------------------- make */
 
-/* Lends lists of these lengths, filled, and says what is named and written. */
+/* Lends lists of these lengths, filled. */
 static void lend(size_t masks, size_t cells, size_t store)
 {
-    hold(NONE, NONE, NONE, NONE);
-    t.masks = guarded(masks);
-    t.starts_block = guarded(cells * 8);
-    t.lengths_block = guarded(cells * 8);
-    t.store = guarded(store);
-    t.starts = (uint64_t *)(void *)t.starts_block;
-    t.lengths = (uint64_t *)(void *)t.lengths_block;
-    t.masks_len = masks;
-    t.starts_len = t.lengths_len = cells;
-    t.store_len = store;
+    hold(NULL, masks, NULL, cells, NULL, cells, NULL, store);
 }
 
 #define MAKES(kind, cells, array, a, b, c, d) \

@@ -16,6 +16,9 @@ pub struct Arguments {
     pub cell: Option<String>,
     pub to: Option<String>,
     pub most: Option<String>,
+    /// Of guests: the rights plane, or the file with it.
+    pub rights: Option<String>,
+    pub rights_file: Option<OsString>,
     /// Subset and file of each part of a merge.
     pub parts: Vec<(String, OsString)>,
     pub hex: bool,
@@ -79,9 +82,14 @@ pub fn parse(command: &str, options: &[&str], files: &[&str], words: Vec<OsStrin
             continue;
         }
         let value = match attached {
-            Some(value) => value,
-            None => readable(option, words.next())?,
+            Some(value) => OsString::from(value),
+            None => words.next().ok_or_else(|| Failure::usage(format!("{option} has no value behind it")))?,
         };
+        if option == "--rights-file" {
+            once(&mut arguments.rights_file, option, value)?;
+            continue;
+        }
+        let value = readable(option, value)?;
         match option {
             "--part" => {
                 let file = words.next().ok_or_else(|| Failure::usage("--part takes a subset and a file"))?;
@@ -94,6 +102,7 @@ pub fn parse(command: &str, options: &[&str], files: &[&str], words: Vec<OsStrin
             "--cell" => once(&mut arguments.cell, option, value)?,
             "--to" => once(&mut arguments.to, option, value)?,
             "--most" => once(&mut arguments.most, option, value)?,
+            "--rights" => once(&mut arguments.rights, option, value)?,
             _ => once(&mut arguments.subset, option, value)?,
         }
     }
@@ -108,12 +117,11 @@ pub fn parse(command: &str, options: &[&str], files: &[&str], words: Vec<OsStrin
     Ok(arguments)
 }
 
-fn readable(option: &str, value: Option<OsString>) -> Result<String, Failure> {
-    let value = value.ok_or_else(|| Failure::usage(format!("{option} has no value behind it")))?;
+fn readable(option: &str, value: OsString) -> Result<String, Failure> {
     value.into_string().map_err(|_| Failure::usage(format!("the value of {option} is no text")))
 }
 
-fn once(place: &mut Option<String>, option: &str, value: String) -> Result<(), Failure> {
+fn once<T>(place: &mut Option<T>, option: &str, value: T) -> Result<(), Failure> {
     if place.is_some() {
         return Err(Failure::usage(format!("{option} is given twice")));
     }
@@ -124,9 +132,10 @@ fn once(place: &mut Option<String>, option: &str, value: String) -> Result<(), F
 #[cfg(test)]
 mod tests {
     use super::*;
+    use std::os::unix::ffi::OsStringExt;
 
     fn parsed(words: &[&str]) -> Result<Arguments, Failure> {
-        let options = ["--kind", "--shape", "--part", "--hex"];
+        let options = ["--kind", "--shape", "--part", "--hex", "--rights", "--rights-file"];
         parse("merge", &options, &["OUT"], words.iter().map(OsString::from).collect())
     }
 
@@ -142,6 +151,12 @@ mod tests {
         assert_eq!(parsed(&["--", "--kind"]).unwrap().files, ["--kind"]);
         assert_eq!(parsed(&["-"]).unwrap().files, ["-"]);
         assert!(parsed(&["--help", "--nonsense"]).unwrap().help);
+        let arguments = parsed(&["--rights", "1,0", "out", "--rights-file=-"]).unwrap();
+        assert_eq!((arguments.rights.as_deref(), arguments.rights_file), (Some("1,0"), Some("-".into())));
+        // A name of a file need be no text.
+        let name = OsString::from_vec(b"rights\xFF".to_vec());
+        let words = vec!["--rights-file".into(), name.clone(), "out".into()];
+        assert_eq!(parse("guest show", &["--rights-file"], &["FILE"], words).unwrap().rights_file, Some(name));
     }
 
     #[test]
@@ -149,6 +164,8 @@ mod tests {
         for words in [
             &["--kind"][..],
             &["--kind", "a", "--kind", "b", "out"],
+            &["--rights-file"],
+            &["--rights-file", "a", "--rights-file", "b", "out"],
             &["--subset", "0..1", "out"],
             &["--part", "0..1"],
             &["--hex=1", "out"],

@@ -8,7 +8,7 @@ use crate::locate::Walk;
 use crate::output::{self, Output};
 use crate::stored::{cells, given_kind, given_shape, missing_kind, missing_shape, stopped, Given, Interleaved, Stored};
 use crate::watch::Watch;
-use crate::{explain, help, json, tables, words, worksheet};
+use crate::{explain, guests, help, json, tables, words, worksheet};
 use durpaxeta::{
     decode, encode, encode_interleaved, extract, generate, merge, partial_decode, subset_cells, Array, Cell, Chunk,
     Kind, Refusal, Subset, Values,
@@ -24,7 +24,7 @@ struct Command {
     run: fn(&Arguments, &Watch) -> Result<u8, Failure>,
 }
 
-const COMMANDS: [Command; 15] = [
+const COMMANDS: [Command; 18] = [
     Command {
         name: "show",
         help: help::SHOW,
@@ -111,6 +111,27 @@ const COMMANDS: [Command; 15] = [
         files: &["TABLE", "OUT"],
         run: tables::pack,
     },
+    Command {
+        name: "guest show",
+        help: help::GUEST,
+        options: &["--rights", "--rights-file", "--kind", "--shape", "--hex", "--json"],
+        files: &["FILE"],
+        run: guests::show,
+    },
+    Command {
+        name: "guest read",
+        help: help::GUEST,
+        options: &["--rights", "--rights-file", "--kind", "--shape", "--describe", "--no-clobber"],
+        files: &["IN", "OUT"],
+        run: guests::read,
+    },
+    Command {
+        name: "guest edit",
+        help: help::GUEST,
+        options: &["--rights", "--rights-file", "--cell", "--to", "--no-clobber"],
+        files: &["TABLE", "OUT"],
+        run: guests::edit,
+    },
     Command { name: "example", help: help::EXAMPLE_HELP, options: &[], files: &[], run: example },
 ];
 
@@ -141,14 +162,13 @@ pub fn run(words: Vec<OsString>) -> Result<u8, Failure> {
             None => print(page, &watch),
         };
     }
-    let command = match text.as_str() {
-        "table" => match words.next().map(|word| word.to_string_lossy().into_owned()).as_deref() {
-            Some("--help" | "-h") => return print(help::TABLE, &watch),
-            second => command(&format!("table {}", second.unwrap_or_default())).map_err(|_| {
-                Failure::usage("table is followed by make, show, set, preview or pack").of_command("table")
-            })?,
+    let command = match COMMANDS.iter().find(|command| command.page() == text && command.name != text) {
+        Some(one) => match words.next().map(|word| word.to_string_lossy().into_owned()).as_deref() {
+            Some("--help" | "-h") => return print(one.help, &watch),
+            second => command(&format!("{text} {}", second.unwrap_or_default()))
+                .map_err(|_| Failure::usage(followed(&text)).of_command(one.page()))?,
         },
-        _ => command(&text)?,
+        None => command(&text)?,
     };
     let run = || {
         let arguments = arguments::parse(command.name, command.options, command.files, words.collect())?;
@@ -162,6 +182,14 @@ pub fn run(words: Vec<OsString>) -> Result<u8, Failure> {
 
 fn command(name: &str) -> Result<&'static Command, Failure> {
     COMMANDS.iter().find(|command| command.name == name).ok_or_else(|| no_command(name))
+}
+
+/// The second words of the commands that begin with this one.
+fn followed(first: &str) -> String {
+    let seconds = COMMANDS.iter().filter_map(|command| command.name.strip_prefix(first)?.strip_prefix(' '));
+    let seconds: Vec<&str> = seconds.collect();
+    let (last, others) = seconds.split_last().unwrap_or((&"", &[]));
+    format!("{first} is followed by {} or {last}", others.join(", "))
 }
 
 /// The help of a command.
@@ -217,7 +245,7 @@ fn not_described(table: &Output, beside: &OsStr, advice: &str) -> Result<(), Fai
 }
 
 /// Stores an array in a file, and describes it where that is asked for.
-fn store(
+pub fn store(
     array: &Array,
     subject: &str,
     path: &OsStr,
@@ -254,11 +282,19 @@ fn store(
 // ---------------------------------------------------------------------------------------------------- the commands
 
 fn show(arguments: &Arguments, watch: &Watch) -> Result<u8, Failure> {
+    print_table(arguments, watch, || Stored::named(arguments, false, watch)?.decode())
+}
+
+/// Prints a table as a worksheet or as JSON.
+pub fn print_table(
+    arguments: &Arguments,
+    watch: &Watch,
+    array: impl FnOnce() -> Result<Array, Failure>,
+) -> Result<u8, Failure> {
     if arguments.json && arguments.hex {
         return Err(Failure::usage("--json shows each value as text and in hex: give --json or --hex, not both"));
     }
-    let stored = Stored::named(arguments, false, watch)?;
-    let array = stored.decode()?;
+    let array = array()?;
     match arguments.json {
         true => print(&json::write(&array), watch),
         false => print(&worksheet::write(&array, arguments.hex), watch),

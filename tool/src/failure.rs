@@ -6,7 +6,7 @@ use std::io;
 
 /// A wrong command line.
 pub const USAGE: u8 = 64;
-/// A worksheet that cannot be read.
+/// A worksheet, a listing of a working table or a rights plane that cannot be read.
 pub const WORKSHEET: u8 = 65;
 /// A description that cannot be read.
 pub const DESCRIPTION: u8 = 66;
@@ -27,7 +27,7 @@ pub const SYSTEM: u8 = 74;
 pub enum Failure {
     /// The command line is wrong; with the command, where it is known.
     Usage { what: String, command: Option<&'static str> },
-    /// A worksheet cannot be read; with the line, where there is one.
+    /// A worksheet, a listing or a rights plane cannot be read; with the line, where there is one.
     Worksheet { name: String, line: Option<usize>, what: String },
     /// The library refused. `subject` is the file or argument, `detail` what exactly is wrong.
     Refused { refusal: Refusal, subject: String, detail: Option<String> },
@@ -65,6 +65,14 @@ impl Failure {
                 Failure::Refused { refusal, subject: subject.to_string(), detail }
             }
             other => other,
+        }
+    }
+
+    /// What is wrong with words on a command line is wrong in a line of a text here.
+    pub fn in_line(self, name: &str, line: usize) -> Failure {
+        match self {
+            Failure::Usage { what, .. } => Failure::Worksheet { name: name.to_string(), line: Some(line), what },
+            refused => refused.about(&format!("{name}, line {line}")),
         }
     }
 

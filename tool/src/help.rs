@@ -14,6 +14,7 @@ pub const GENERAL: &str = r#"durpaxeta: stored tables of optional and variable-l
   durpaxeta same      says whether two files are the same table, and if not, where they differ
   durpaxeta explain   prints the stored bytes, field by field, with what they are
   durpaxeta table     edits the cells of a working table: make, show, set, preview, pack
+  durpaxeta guest     gives a guest the cells that it may see, and no others: show, read, edit
   durpaxeta example   prints a worksheet to begin with
 
 'durpaxeta help COMMAND' or 'durpaxeta COMMAND --help' tells more about each; 'durpaxeta help' prints this page.
@@ -29,7 +30,7 @@ A stored table does not say its kind or its shape. You do, or its description do
 Depth is the number of mask levels. Level 1 is the outermost. Bytes are counted from 0.
 A file name of - is standard input or standard output. Inputs of over 268,435,456 bytes are not read.
 
-Where write, cut, merge, convert, generate and table write to:
+Where write, cut, merge, convert, generate, table and guest write to:
   A file is replaced whole or stays as it was. What is written goes to a temporary file in the same folder, is synced, and
   then takes the place of the old file, with its mode. On an error, or on a signal that ends the command, nothing is left
   of it. (Power loss can leave a file named .durpaxeta-NUMBER-NUMBER, which may be removed.)
@@ -42,9 +43,9 @@ Where write, cut, merge, convert, generate and table write to:
 
 Exit status:
   0         all went well, and all of it was delivered
-  1 to 16   the number of the refusal, whether or not anyone read the words to it
+  1 to 18   the number of the refusal, whether or not anyone read the words to it
   64        a wrong command line, or an output that is also an input
-  65        a worksheet, or a listing of a working table, that cannot be read
+  65        a worksheet, a listing of a working table, or a file with a rights plane, that cannot be read
   66        a description that cannot be read
   67        --kind, --shape or --part that differ from the description; same: two that differ in kind or shape
   68, 69    a file of another length (68) or checksum (69) than its description says
@@ -268,6 +269,39 @@ Examples:
   durpaxeta table pack --most 256 work.txt next.txt
   cat next.txt
   durpaxeta table show next.txt | durpaxeta write - edited.bin
+"#;
+
+pub const GUEST: &str = r#"durpaxeta guest show --rights PLANE [--kind KIND --shape SHAPE] [--hex | --json] FILE
+durpaxeta guest read --rights PLANE [--kind KIND --shape SHAPE] [--describe] [--no-clobber] IN OUT
+durpaxeta guest edit --rights PLANE --cell CELL --to WHAT [--no-clobber] TABLE OUT
+
+A guest may see some cells of a table, and learns nothing of the others. A rights plane says which: a number for each cell, row by
+row, 1 where the guest may see it and 0 where not. Commas and blanks between the numbers are free: 1,0,1,0 and '10 10' are one
+plane. --rights-file FILE takes the plane from a file instead; there it may have lines, and # begins a comment. A plane with
+another number, or for another count of cells, is refused with 4. The kind must have a depth of at least 1, as only a mask can
+hide a cell: another one is 17.
+
+  show   prints what the guest sees of a stored table, as 'durpaxeta show' prints a table. A cell that the plane hides is null at
+         level 1, whatever it is.
+  read   stores what show prints, as a table of the same kind and shape. Tables that differ in hidden cells alone give the same file.
+  edit   sets a cell of a working table, a text as 'durpaxeta table' has it, if the plane shows that cell; 18 is a cell that it hides.
+         All else is as in 'durpaxeta table set'. No hidden cell gets other masks or another value; where it lies may change. 16 can
+         tell the guest how full the store is.
+
+Hand a guest what show prints or read stores, and nothing else. A working table, OUT of edit too, has every cell, and old bytes.
+What is wrong with the table itself is told to whoever runs the command, with the cell or the byte, be it hidden or not.
+
+Examples:
+  durpaxeta example | durpaxeta write --describe - guests.bin
+  durpaxeta guest show --rights 1,0,1,0 guests.bin
+  durpaxeta guest read --rights 1,0,1,0 --describe guests.bin own.bin
+  durpaxeta show --json own.bin
+  printf '1 0  # host 0\n1 0  # host 1\n' > rights.txt
+  durpaxeta table make --store 12 guests.bin work.txt
+  durpaxeta guest edit --rights-file rights.txt --cell 1,0 --to 'value "4-7"' work.txt next.txt
+  durpaxeta guest edit --rights-file rights.txt --cell 0,1 --to 'value "8"' work.txt no.txt 2>&1 || echo "refused with $?"
+  durpaxeta table show next.txt | durpaxeta write --describe - next.bin
+  durpaxeta guest show --rights-file rights.txt next.bin
 "#;
 
 pub const EXAMPLE_HELP: &str = r#"durpaxeta example

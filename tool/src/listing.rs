@@ -71,12 +71,7 @@ fn between(text: &mut String, store: &[u8], places: std::ops::Range<usize>) {
 
 /// Reads a listing.
 pub fn read(name: &str, bytes: &[u8]) -> Result<Listing, Failure> {
-    let text = std::str::from_utf8(bytes).map_err(|error| Failure::Worksheet {
-        name: name.to_string(),
-        line: Some(1 + bytes[..error.valid_up_to()].iter().filter(|&&byte| byte == b'\n').count()),
-        what: "this is no text (UTF-8), so it is no listing of a working table".into(),
-    })?;
-    let text = text.strip_prefix('\u{FEFF}').unwrap_or(text);
+    let text = words::text(name, bytes, "no listing of a working table")?;
     let mut reader = Reader { name, line: 0, kind: None, shape: None, size: None, cells: vec![], store: vec![], at: 0 };
     let mut titled = false;
     for (number, line) in text.lines().enumerate() {
@@ -122,26 +117,14 @@ impl Reader<'_> {
         Failure::Worksheet { name: self.name.to_string(), line: Some(self.line), what: what.into() }
     }
 
-    /// What is wrong with words on a command line is wrong in this line here.
-    fn here(&self, failure: Failure) -> Failure {
-        match failure {
-            Failure::Usage { what, .. } => self.wrong(what),
-            Failure::Refused { refusal, detail, .. } => {
-                let subject = format!("{}, line {}", self.name, self.line);
-                Failure::Refused { refusal, subject, detail }
-            }
-            other => other,
-        }
-    }
-
     fn line(&mut self, line: &str) -> Result<(), Failure> {
         let uncommented = line.split('#').next().unwrap_or("");
         if let Some(words) = uncommented.strip_prefix("kind:") {
-            let kind = words::kind(words.trim()).map_err(|failure| self.here(failure))?;
+            let kind = words::kind(words.trim()).map_err(|failure| failure.in_line(self.name, self.line))?;
             return self.once("kind", self.kind.is_some()).map(|()| self.kind = Some(kind));
         }
         if let Some(words) = uncommented.strip_prefix("shape:") {
-            let shape = words::shape(words.trim()).map_err(|failure| self.here(failure))?;
+            let shape = words::shape(words.trim()).map_err(|failure| failure.in_line(self.name, self.line))?;
             self.once("shape", self.shape.is_some())?;
             self.cells.resize_with(shape.iter().product::<u64>() as usize, || None);
             self.shape = Some(shape);

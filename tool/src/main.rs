@@ -1,5 +1,5 @@
 //! The command `durpaxeta`: shows, writes, cuts, merges, converts, generates, checks, compares and explains stored
-//! tables, and edits working ones.
+//! tables, edits working ones, and gives guests what they may see.
 
 #![deny(unsafe_code)]
 
@@ -10,6 +10,7 @@ mod describe;
 mod explain;
 mod failure;
 mod files;
+mod guests;
 mod help;
 mod json;
 mod listing;

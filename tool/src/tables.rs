@@ -12,7 +12,7 @@ use crate::{words, worksheet};
 use durpaxeta::{read_number, Cell, Mark, Preview, Refusal, Table};
 use std::ffi::OsStr;
 
-fn missing(option: &str, example: &str) -> Failure {
+pub fn missing(option: &str, example: &str) -> Failure {
     Failure::usage(format!("{option} is missing; for example {option} {example}"))
 }
 
@@ -25,6 +25,7 @@ fn number(option: &str, given: &Option<String>, example: &str) -> Result<u64, Fa
 fn refused(name: &str, listing: &Listing, refusal: Refusal) -> Failure {
     let detail = match refusal {
         Refusal::Content => broken(listing),
+        Refusal::NoMasks => Some(format!("The kind is {}", listing.table.kind)),
         _ => None,
     };
     Failure::Refused { refusal, subject: name.to_string(), detail }
@@ -143,16 +144,16 @@ fn cell_of(text: &str, shape: &[u64]) -> Result<u64, Failure> {
 }
 
 /// A setting that was asked for, and the table that it is of.
-struct Setting {
-    cell: String,
+pub struct Setting {
+    pub cell: String,
     number: u64,
     to: Result<Vec<u8>, usize>,
-    input: Input,
-    listing: Listing,
+    pub input: Input,
+    pub listing: Listing,
 }
 
 impl Setting {
-    fn read(arguments: &Arguments, watch: &Watch) -> Result<Setting, Failure> {
+    pub fn read(arguments: &Arguments, watch: &Watch) -> Result<Setting, Failure> {
         let cell = arguments.cell.clone().ok_or_else(|| missing("--cell", "0,1"))?;
         let to = arguments.to.as_ref().ok_or_else(|| missing("--to", "'value \"0-3\"'"))?;
         let to = wanted(to)?;
@@ -161,8 +162,20 @@ impl Setting {
         Ok(Setting { cell, number, to, input, listing })
     }
 
-    fn refused(&self, refusal: Refusal) -> Failure {
+    /// Makes it, by a call of the library.
+    pub fn make(&mut self, call: impl FnOnce(&mut Table, u64, Cell<'_>) -> Result<(), Refusal>) -> Result<(), Refusal> {
+        call(&mut self.listing.table, self.number, cell_to(&self.to))
+    }
+
+    pub fn refused(&self, refusal: Refusal) -> Failure {
         not_set(&self.input.name, &self.listing, &self.cell, &self.to, refusal)
+    }
+
+    /// Writes the table; `beside` was read too, and is not replaced either.
+    pub fn write(&self, beside: Option<&Input>, arguments: &Arguments, watch: &Watch) -> Result<u8, Failure> {
+        let inputs: Vec<&Input> = [&self.input].into_iter().chain(beside).collect();
+        write(&self.listing, &arguments.files[1], &inputs, arguments, watch)?;
+        Ok(0)
     }
 }
 
@@ -175,9 +188,8 @@ fn cell_to(to: &Result<Vec<u8>, usize>) -> Cell<'_> {
 
 pub fn set(arguments: &Arguments, watch: &Watch) -> Result<u8, Failure> {
     let mut setting = Setting::read(arguments, watch)?;
-    setting.listing.table.set(setting.number, cell_to(&setting.to)).map_err(|refusal| setting.refused(refusal))?;
-    write(&setting.listing, &arguments.files[1], &[&setting.input], arguments, watch)?;
-    Ok(0)
+    setting.make(Table::set).map_err(|refusal| setting.refused(refusal))?;
+    setting.write(None, arguments, watch)
 }
 
 pub fn preview(arguments: &Arguments, watch: &Watch) -> Result<u8, Failure> {

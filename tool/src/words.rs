@@ -1,7 +1,7 @@
-//! Kinds, shapes and subsets in readable words.
+//! Kinds, shapes, subsets and rights planes in readable words, and the lines that hold such words.
 
 use crate::failure::Failure;
-use durpaxeta::{decode, read_number as number, subset_cells, Kind, Refusal, Subset, TextError};
+use durpaxeta::{decode, read_number as number, subset_cells, Kind, Refusal, Rights, Subset, TextError};
 
 /// The library's complaint about a text.
 fn told(error: TextError, subject: impl Into<String>) -> Failure {
@@ -53,6 +53,21 @@ pub fn subset(text: &str) -> Result<Subset, Failure> {
 
 pub fn subset_text(subset: &Subset) -> String {
     subset.to_string()
+}
+
+/// Reads a rights plane: `1,0,1`, 1 for each cell that is shown and 0 for each other one.
+pub fn rights(text: &str, subject: &str) -> Result<Rights, Failure> {
+    text.parse().map_err(|error| told(error, subject))
+}
+
+/// What was read as a text, `what` it is not where it is none.
+pub fn text<'t>(name: &str, bytes: &'t [u8], what: &str) -> Result<&'t str, Failure> {
+    let text = std::str::from_utf8(bytes).map_err(|error| Failure::Worksheet {
+        name: name.to_string(),
+        line: Some(1 + bytes[..error.valid_up_to()].iter().filter(|&&byte| byte == b'\n').count()),
+        what: format!("this is no text (UTF-8), so it is {what}"),
+    })?;
+    Ok(text.strip_prefix('\u{FEFF}').unwrap_or(text))
 }
 
 /// Coordinates of a cell: `0,2`.

@@ -54,12 +54,7 @@ pub fn write(array: &Array, hex: bool) -> String {
 
 /// Reads a worksheet.
 pub fn read(name: &str, bytes: &[u8]) -> Result<Array, Failure> {
-    let text = std::str::from_utf8(bytes).map_err(|error| Failure::Worksheet {
-        name: name.to_string(),
-        line: Some(1 + bytes[..error.valid_up_to()].iter().filter(|&&byte| byte == b'\n').count()),
-        what: "this is no text (UTF-8), so it is no worksheet".into(),
-    })?;
-    let text = text.strip_prefix('\u{FEFF}').unwrap_or(text);
+    let text = words::text(name, bytes, "no worksheet")?;
     let mut reader = Reader { name, line: 0, kind: None, shape: None, cells: Vec::new(), data: Vec::new() };
     let mut titled = false;
     for (number, line) in text.lines().enumerate() {
@@ -113,22 +108,13 @@ impl Reader<'_> {
         Failure::refused(refusal, format!("{}, line {}", self.name, self.line), detail)
     }
 
-    /// What is wrong with words on a command line is wrong in this line here.
-    fn here(&self, failure: Failure) -> Failure {
-        match failure {
-            Failure::Usage { what, .. } => self.wrong(what),
-            Failure::Refused { refusal, detail, .. } => self.refused(refusal, detail.unwrap_or_default()),
-            other => other,
-        }
-    }
-
     fn line(&mut self, line: &str) -> Result<(), Failure> {
         let uncommented = line.split('#').next().unwrap_or("");
         if let Some(words) = uncommented.strip_prefix("kind:") {
             if self.kind.is_some() {
                 return Err(self.wrong("the kind was given before"));
             }
-            let kind = words::kind(words.trim()).map_err(|failure| self.here(failure))?;
+            let kind = words::kind(words.trim()).map_err(|failure| failure.in_line(self.name, self.line))?;
             self.kind = Some(kind);
             return Ok(());
         }
@@ -136,7 +122,7 @@ impl Reader<'_> {
             if self.shape.is_some() {
                 return Err(self.wrong("the shape was given before"));
             }
-            let shape = words::shape(words.trim()).map_err(|failure| self.here(failure))?;
+            let shape = words::shape(words.trim()).map_err(|failure| failure.in_line(self.name, self.line))?;
             self.cells.resize_with(shape.iter().product::<u64>() as usize, || None);
             self.shape = Some(shape);
             return Ok(());

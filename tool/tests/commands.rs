@@ -371,6 +371,10 @@ fn wrong_command_lines() {
         &["same", "--kind", KIND, "a", "b"],
         &["same", "--interleaved", "--shape", "2x2", "a", "b"],
         &["same", "--describe", "--kind", KIND, "--shape", "2x2", "a", "b"],
+        &["table"],
+        &["guest"],
+        &["guest", "set"],
+        &["guest", "show", "--rights", "1", "--kind", KIND, "--shape", "1", "--json", "--hex", "a"],
     ] {
         let said = run(&folder, line, b"");
         assert_eq!(said.status, 64, "{line:?}: {}", said.err);
@@ -488,7 +492,9 @@ fn help_examples_work_as_printed() {
         assert!(general.text().contains(&status.to_string()), "status {status} is not on the page");
     }
     let mut pages = vec![("durpaxeta".to_string(), general.text().to_string())];
-    for command in ["show", "write", "cut", "merge", "convert", "generate", "check", "same", "explain", "example"] {
+    for command in
+        ["show", "write", "cut", "merge", "convert", "generate", "check", "same", "explain", "guest", "example"]
+    {
         assert!(general.text().contains(&format!("  durpaxeta {command} ")), "{command} is not in the list");
         let page = run(Path::new("."), &[command, "--help"], b"");
         assert_eq!(page.status, 0);

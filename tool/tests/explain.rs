@@ -42,6 +42,8 @@ fn the_pictures_of_the_page() {
         ("depth 0, ragged, width 4, index at end", "1"),
         ("depth 0, ragged, width 4, index at end", "1"),
         ("", "2"),
+        (KIND, "2x2"),
+        (KIND, "2x2"),
     ];
     let pictures: Vec<&str> = page.split("```bytes\n").skip(1).map(|rest| rest.split("```").next().unwrap()).collect();
     assert_eq!(pictures.len(), tables.len());

@@ -97,7 +97,11 @@ fn a_typed_line() {
     assert_eq!((said.status, said.text()), (4, ""), "{}", said.err);
     assert!(said.err.starts_with("durpaxeta: standard input, line 4: refusal 4: "), "{}", said.err);
     assert!(said.err.contains("Bytes before the first cell are in no cell: remove the line.\n"), "{}", said.err);
-    assert!(said.err.contains("Caused by whoever hands over the array, chunk list or working table."), "{}", said.err);
+    assert!(
+        said.err.contains("Caused by whoever hands over the array, chunk list, working table or rights plane."),
+        "{}",
+        said.err
+    );
     assert!(!folder.join("no.bin").exists());
 }
 

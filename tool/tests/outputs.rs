@@ -318,6 +318,8 @@ fn no_input_of_any_command_is_replaced() {
     good(&folder, &[&["cut"][..], &row, &["0..1,0..2", "guests.bin", "row0.bin"]].concat());
     good(&folder, &[&["cut"][..], &row, &["1..2,0..2", "guests.bin", "row1.bin"]].concat());
     fs::write(folder.join("old.bin"), [1, 0, 0, 0, 1, 0, 0, 0, b'A']).unwrap();
+    fs::write(folder.join("plane.txt"), "11\n11\n").unwrap();
+    good(&folder, &["table", "make", "--kind", KIND, "--shape", "2x2", "--store", "9", "guests.bin", "work.txt"]);
     fs::hard_link(folder.join("row1.bin"), folder.join("linked.bin")).unwrap();
     // A worksheet that has the name of a description.
     fs::copy(folder.join("guests.txt"), folder.join("table.dpx")).unwrap();
@@ -341,6 +343,21 @@ fn no_input_of_any_command_is_replaced() {
         ],
         &["convert", "--kind", kind, "--shape", "1", "old.bin", "old.bin"],
         &["write", "--describe", "table.dpx", "table"],
+        &["guest", "read", "--kind", KIND, "--shape", "2x2", "--rights", "1111", "guests.bin", "guests.bin"],
+        &["guest", "read", "--kind", KIND, "--shape", "2x2", "--rights-file", "plane.txt", "guests.bin", "./plane.txt"],
+        &["guest", "edit", "--rights", "1111", "--cell", "0,0", "--to", "value \"\"", "work.txt", "work.txt"],
+        &[
+            "guest",
+            "edit",
+            "--rights-file",
+            "plane.txt",
+            "--cell",
+            "0,0",
+            "--to",
+            "value \"\"",
+            "work.txt",
+            "plane.txt",
+        ],
     ] {
         let said = run(&folder, line, b"");
         assert_eq!(said.status, 64, "{line:?}: {}", said.err);
@@ -365,6 +382,7 @@ fn no_clobber_replaces_nothing() {
             [&["cut"][..], &table, more, &["--subset", whole, "guests.bin", out]].concat(),
             [&["merge"][..], &table, more, &["--part", whole, "guests.bin", out]].concat(),
             [&["convert"][..], &old, more, &["-", out]].concat(),
+            [&["guest", "read"][..], &table, more, &["--rights", "1111", "guests.bin", out]].concat(),
         ] {
             let said = run(&folder, &line, &[1, 0, 0, 0, 1, 0, 0, 0, b'A']);
             assert_eq!(said.status, 73, "{line:?}: {}", said.err);

@@ -108,7 +108,11 @@ fn a_typed_byte() {
         assert_eq!((said.status, said.text()), (4, ""), "{}", said.err);
         assert!(said.err.starts_with("durpaxeta: standard input, line 4: refusal 4: "), "{}", said.err);
         assert!(said.err.contains(told), "{}", said.err);
-        assert!(said.err.contains("Caused by whoever hands over the array, chunk list or working table."), "{}", said.err);
+        assert!(
+            said.err.contains("Caused by whoever hands over the array, chunk list, working table or rights plane."),
+            "{}",
+            said.err
+        );
     }
     // Below a null too; no bytes in hex are another matter.
     let sheet = |cell: &str| format!("durpaxeta worksheet 1\nkind: {KIND}\nshape: 1\n0 | {cell}\n");

@@ -5,7 +5,6 @@ mod common;
 use common::*;
 use std::fs;
 use std::path::Path;
-use std::process::Command;
 
 /// The affinity table as a working table with a store of that many bytes.
 fn made(folder: &Path, store: &str) {
@@ -240,22 +239,7 @@ fn tables_that_are_none() {
     assert!(!folder.join("no").exists());
 }
 
-/// docs/FORMAT.md, part 15: its commands print what it prints.
 #[test]
 fn the_page() {
-    let folder = folder("working-page");
-    let page = include_str!("../../docs/FORMAT.md");
-    let part = page.split("\n## ").find(|part| part.starts_with("15. ")).expect("part 15");
-    let lines: Vec<&str> = part.lines().filter_map(|line| line.strip_prefix("    ")).collect();
-    let begins: Vec<usize> = (0..lines.len()).filter(|&at| lines[at].starts_with("$ ")).collect();
-    assert!(begins.len() > 7);
-    let tool = Path::new(TOOL).parent().unwrap();
-    let path = format!("{}:{}", tool.display(), std::env::var("PATH").unwrap());
-    for (at, &begin) in begins.iter().enumerate() {
-        let end = begins.get(at + 1).copied().unwrap_or(lines.len());
-        let command = format!("{{ {}; }} 2>&1", &lines[begin][2..]);
-        let said = Command::new("sh").args(["-c", &command]).env("PATH", &path).current_dir(&folder).output().unwrap();
-        let said = common::told(said.stdout);
-        assert_eq!(said.lines().collect::<Vec<_>>(), lines[begin + 1..end], "{command}");
-    }
+    prints_what_the_page_says("15", 8);
 }

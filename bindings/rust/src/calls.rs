@@ -1,4 +1,5 @@
-//! The calls on arrays and stored bytes, and those of them that write into lent slices. Working tables are in table.rs.
+//! The calls on arrays and stored bytes, and those of them that write into lent slices. Working tables are in table.rs, guests in
+//! rights.rs.
 
 use crate::ffi::{self, Answer, Content};
 use crate::{

@@ -284,6 +284,47 @@ extern "C" {
         value_len: usize,
         lengths: *mut u64,
     ) -> u32;
+
+    fn dpx_guest_read(
+        kind: RawKind,
+        shape: *const u64,
+        shape_len: usize,
+        rights: *const u8,
+        rights_len: usize,
+        masks: *const u8,
+        masks_len: usize,
+        values: *const u8,
+        values_len: usize,
+        offsets: *const u64,
+        offsets_len: usize,
+        out_masks: *mut u8,
+        out_masks_len: usize,
+        out_values: *mut u8,
+        out_values_len: usize,
+        out_offsets: *mut u64,
+        out_offsets_len: usize,
+        lengths: *mut u64,
+    ) -> u32;
+
+    fn dpx_guest_edit(
+        kind: RawKind,
+        cells: u64,
+        rights: *const u8,
+        rights_len: usize,
+        masks: *mut u8,
+        masks_len: usize,
+        starts: *mut u64,
+        starts_len: usize,
+        cell_lengths: *mut u64,
+        cell_lengths_len: usize,
+        store: *mut u8,
+        store_len: usize,
+        cell: u64,
+        cell_masks: *const u8,
+        cell_masks_len: usize,
+        value: *const u8,
+        value_len: usize,
+    ) -> u32;
 }
 
 /// Content handed over.
@@ -335,6 +376,65 @@ macro_rules! write_array {
         };
         answer(number)?;
         Ok(lengths[0] as usize)
+    }};
+}
+
+/// An array to an array, by a call that takes it as `dpx_extract` does: what else it takes is one slice, behind the shape.
+macro_rules! read_array {
+    ($call:ident, $kind:expr, $shape:expr, $by:expr, $content:expr, $out:expr) => {{
+        let (shape, by, content, out) = ($shape, $by, $content, $out);
+        let mut lengths = [0; 3];
+        let number = unsafe {
+            $call(
+                $kind.into(),
+                shape.as_ptr(),
+                shape.len(),
+                by.as_ptr(),
+                by.len(),
+                content.masks.as_ptr(),
+                content.masks.len(),
+                content.values.as_ptr(),
+                content.values.len(),
+                content.offsets.as_ptr(),
+                content.offsets.len(),
+                out.masks.as_mut_ptr(),
+                out.masks.len(),
+                out.values.as_mut_ptr(),
+                out.values.len(),
+                out.offsets.as_mut_ptr(),
+                out.offsets.len(),
+                lengths.as_mut_ptr(),
+            )
+        };
+        answer(number)?;
+        Ok(room(lengths[0], lengths[1], lengths[2]))
+    }};
+}
+
+/// Sets a cell in place, by a call that takes a table as `dpx_table_set` does; `rights` come behind the count of cells.
+macro_rules! set_cell {
+    ($call:ident, $table:expr, [$($rights:expr)?], $cell:expr, $masks:expr, $value:expr) => {{
+        let (table, cell, cell_masks, value) = ($table, $cell, $masks, $value);
+        answer(unsafe {
+            $call(
+                table.kind.into(),
+                table.starts.len() as u64,
+                $($rights.as_ptr(), $rights.len(),)?
+                table.masks.as_mut_ptr(),
+                table.masks.len(),
+                table.starts.as_mut_ptr(),
+                table.starts.len(),
+                table.lengths.as_mut_ptr(),
+                table.lengths.len(),
+                table.store.as_mut_ptr(),
+                table.store.len(),
+                cell,
+                cell_masks.as_ptr(),
+                cell_masks.len(),
+                value.as_ptr(),
+                value.len(),
+            )
+        })
     }};
 }
 
@@ -408,59 +508,11 @@ pub fn generate(kind: Kind, shape: &[u64], start: u32, out: &mut Lent<'_>) -> An
 }
 
 pub fn extract(kind: Kind, shape: &[u64], subset: &[u64], content: Content<'_>, out: &mut Lent<'_>) -> Answer<Room> {
-    let mut lengths = [0; 3];
-    let number = unsafe {
-        dpx_extract(
-            kind.into(),
-            shape.as_ptr(),
-            shape.len(),
-            subset.as_ptr(),
-            subset.len(),
-            content.masks.as_ptr(),
-            content.masks.len(),
-            content.values.as_ptr(),
-            content.values.len(),
-            content.offsets.as_ptr(),
-            content.offsets.len(),
-            out.masks.as_mut_ptr(),
-            out.masks.len(),
-            out.values.as_mut_ptr(),
-            out.values.len(),
-            out.offsets.as_mut_ptr(),
-            out.offsets.len(),
-            lengths.as_mut_ptr(),
-        )
-    };
-    answer(number)?;
-    Ok(room(lengths[0], lengths[1], lengths[2]))
+    read_array!(dpx_extract, kind, shape, subset, content, out)
 }
 
 pub fn merge(kind: Kind, shape: &[u64], subsets: &[u64], content: Content<'_>, out: &mut Lent<'_>) -> Answer<Room> {
-    let mut lengths = [0; 3];
-    let number = unsafe {
-        dpx_merge(
-            kind.into(),
-            shape.as_ptr(),
-            shape.len(),
-            subsets.as_ptr(),
-            subsets.len(),
-            content.masks.as_ptr(),
-            content.masks.len(),
-            content.values.as_ptr(),
-            content.values.len(),
-            content.offsets.as_ptr(),
-            content.offsets.len(),
-            out.masks.as_mut_ptr(),
-            out.masks.len(),
-            out.values.as_mut_ptr(),
-            out.values.len(),
-            out.offsets.as_mut_ptr(),
-            out.offsets.len(),
-            lengths.as_mut_ptr(),
-        )
-    };
-    answer(number)?;
-    Ok(room(lengths[0], lengths[1], lengths[2]))
+    read_array!(dpx_merge, kind, shape, subsets, content, out)
 }
 
 pub fn partial_decode(
@@ -571,25 +623,7 @@ pub fn table_read(cells: u64, table: TableRef<'_>, out: &mut Lent<'_>) -> Answer
 }
 
 pub fn table_set(table: &mut TableMut<'_>, cell: u64, cell_masks: &[u8], value: &[u8]) -> Answer<()> {
-    answer(unsafe {
-        dpx_table_set(
-            table.kind.into(),
-            table.starts.len() as u64,
-            table.masks.as_mut_ptr(),
-            table.masks.len(),
-            table.starts.as_mut_ptr(),
-            table.starts.len(),
-            table.lengths.as_mut_ptr(),
-            table.lengths.len(),
-            table.store.as_mut_ptr(),
-            table.store.len(),
-            cell,
-            cell_masks.as_ptr(),
-            cell_masks.len(),
-            value.as_ptr(),
-            value.len(),
-        )
-    })
+    set_cell!(dpx_table_set, table, [], cell, cell_masks, value)
 }
 
 pub fn table_pack(table: &mut TableMut<'_>, most: u64) -> Answer<usize> {
@@ -637,4 +671,12 @@ pub fn table_preview(table: TableRef<'_>, cell: u64, cell_masks: &[u8], value: &
         )
     })?;
     Ok(lengths)
+}
+
+pub fn guest_read(kind: Kind, shape: &[u64], rights: &[u8], content: Content<'_>, out: &mut Lent<'_>) -> Answer<Room> {
+    read_array!(dpx_guest_read, kind, shape, rights, content, out)
+}
+
+pub fn guest_edit(table: &mut TableMut<'_>, rights: &[u8], cell: u64, cell_masks: &[u8], value: &[u8]) -> Answer<()> {
+    set_cell!(dpx_guest_edit, table, [rights], cell, cell_masks, value)
 }

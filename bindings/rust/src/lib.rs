@@ -3,9 +3,10 @@
 //! A cell of a table is null at some level, or it has a value; the value may be empty. [`Cell`] tells the two apart.
 //! This crate wraps the archive `libdurpaxeta.a`: it lends the outputs, sized by itself, and hands back owned results.
 //! Every function answers a result or one [`Refusal`], which knows its number, its meaning and who causes it.
-//! [`encode_into`], [`encode_interleaved_into`], [`decode_into`], [`extract_into`], [`merge_into`] and [`generate_into`] write into
-//! slices that the caller lends instead.
+//! [`encode_into`], [`encode_interleaved_into`], [`decode_into`], [`extract_into`], [`merge_into`], [`generate_into`] and
+//! [`guest_read_into`] write into slices that the caller lends instead.
 //! A [`Table`] is one whose cells are edited in memory; [`table_make_into`], [`table_read_into`] and [`TableMut`] do that in lent slices.
+//! [`Rights`] are the cells that a guest may see; [`guest_read`] and [`Table::guest_edit`] show and set no other.
 //! The crate needs `core` and `alloc` only.
 //!
 //! Masks come before values, and values before offsets, everywhere.
@@ -35,6 +36,7 @@ mod ffi;
 mod kind;
 mod lent;
 mod refusal;
+mod rights;
 mod sizes;
 mod subset;
 mod table;
@@ -48,6 +50,7 @@ pub use calls::{
 pub use kind::{Kind, MaskForm, Order, Place, Values, Width};
 pub use lent::{cell_count, Lent, Room};
 pub use refusal::{Blame, Refusal, UnknownRefusal};
+pub use rights::{guest_read, guest_read_into, Rights};
 pub use subset::Subset;
 pub use table::{table_make_into, table_read_into, Preview, Table, TableMut, TableRef};
 pub use text::{read_number, TextError};

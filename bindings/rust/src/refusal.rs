@@ -57,7 +57,8 @@ refusals! {
         "a subset reaches past the shape, or has not one start and one length for each side, or, in a merge, holds no cell";
     Content = 4, Supplier,
         "lengths of masks, values, offsets or chunks disagree, a mask byte is neither 00 nor 01, the first offset is not 0, or \
-         offsets fall (of a working table: it is not in rest form, or cells overlap or lie where they must not)";
+         offsets fall (of a working table: it is not in rest form, or cells overlap or lie where they must not; of a rights \
+         plane: it has not one byte for each cell, or one is neither 00 nor 01)";
     Size = 5, Supplier, "more than 16,777,216 value bytes, or bytes of a store";
     Output = 6, Lender, "an output is shorter than the result needs";
     Short = 7, Storer,
@@ -73,6 +74,8 @@ refusals! {
     NotBoolean = 14, Storer, "a stored mask byte is neither 00 nor 01";
     Cell = 15, Setter, "the working table has no cell of that number";
     Full = 16, Setter, "the cells would have more bytes than the store";
+    NoMasks = 17, Describer, "the kind has no masks, and only a mask can hide a cell from a guest";
+    Hidden = 18, Setter, "the rights plane hides that cell from the guest";
 }
 
 /// Who causes a refusal.
@@ -80,7 +83,7 @@ refusals! {
 pub enum Blame {
     /// Whoever describes the table: its kind, its shape, a subset.
     Describer,
-    /// Whoever hands over the array, the chunk list or the working table.
+    /// Whoever hands over the array, the chunk list, the working table or the rights plane.
     Supplier,
     /// Whoever sets a cell of a working table.
     Setter,
@@ -136,7 +139,7 @@ impl fmt::Display for Blame {
     fn fmt(&self, f: &mut fmt::Formatter<'_>) -> fmt::Result {
         f.write_str(match self {
             Blame::Describer => "whoever describes the table",
-            Blame::Supplier => "whoever hands over the array, chunk list or working table",
+            Blame::Supplier => "whoever hands over the array, chunk list, working table or rights plane",
             Blame::Setter => "whoever sets the cell",
             Blame::Storer => "whoever stored the bytes",
             Blame::Lender => "whoever lends the output",

@@ -1,7 +1,7 @@
 //! Working tables: ragged tables whose cells are edited in memory.
 
 use crate::calls::{content, cut, given, lend};
-use crate::{cell_count, ffi, sizes, Array, ArrayRef, Cell, Kind, Lent, Mark, Refusal, MAX_DEPTH, MAX_STORE};
+use crate::{cell_count, ffi, sizes, Array, ArrayRef, Cell, Kind, Lent, Mark, Refusal, Rights, MAX_DEPTH, MAX_STORE};
 use alloc::vec;
 use alloc::vec::Vec;
 
@@ -301,6 +301,29 @@ impl Table {
         self.lent().set(cell, to)
     }
 
+    /// A guest's edit: [`Table::set`] of a cell that the plane shows. It may pack, and so move hidden cells, but it changes none of
+    /// them. The table stays with its host. Of a valid one `Full` tells the guest how full the store is, and nothing tells it more.
+    ///
+    /// # Errors
+    ///
+    /// In this order `Kind` (also a fixed kind), `Shape`, `NoMasks` where the kind has depth 0, `Content` (also where the plane
+    /// speaks of another count of cells), `Size`, `Cell`, `Hidden`, `Full`. A refusal changes nothing.
+    ///
+    /// ```
+    /// use durpaxeta::{Cell, Kind, Place, Refusal, Rights, Table, Width};
+    ///
+    /// let kind = Kind::ragged(1, Width::Four, Place::Start);
+    /// let mut table = Table { kind, masks: vec![1, 1], starts: vec![1, 0], lengths: vec![1, 1], store: b"yx.".to_vec() };
+    /// let rights = Rights::new(&[false, true]);
+    /// table.guest_edit(&rights, 1, Cell::Value(b"zz"))?;
+    /// assert_eq!((table.cell(0), &table.store[..]), (Some(Cell::Value(b"x")), &b"xzz"[..]));
+    /// assert_eq!(table.guest_edit(&rights, 0, Cell::Null { level: 1 }), Err(Refusal::Hidden));
+    /// # Ok::<(), Refusal>(())
+    /// ```
+    pub fn guest_edit(&mut self, rights: &Rights, cell: u64, to: Cell<'_>) -> Result<(), Refusal> {
+        self.lent().guest_edit(rights, cell, to)
+    }
+
     /// What [`Table::set`] would do, as if it were made on a copy and the copy looked at, the packing included that it may start.
     /// Nothing is changed.
     ///
@@ -396,6 +419,51 @@ impl TableMut<'_> {
     /// ```
     pub fn set_masks(&mut self, cell: u64, masks: &[u8], value: &[u8]) -> Result<(), Refusal> {
         given(ffi::table_set(self, cell, masks, value))
+    }
+
+    /// A guest's edit, as [`Table::guest_edit`] makes it.
+    ///
+    /// # Errors
+    ///
+    /// Those of [`Table::guest_edit`].
+    ///
+    /// ```
+    /// use durpaxeta::{Cell, Kind, Place, Refusal, Rights, TableMut, Width};
+    ///
+    /// let kind = Kind::ragged(1, Width::Four, Place::Start);
+    /// let (mut masks, mut starts, mut lengths, mut store) = ([1, 0], [0, 0], [1, 0], *b"a.");
+    /// let mut table =
+    ///     TableMut { kind, masks: &mut masks, starts: &mut starts, lengths: &mut lengths, store: &mut store };
+    /// let rights = Rights::new(&[false, true]);
+    /// assert_eq!(table.guest_edit(&rights, 0, Cell::Value(b"b")), Err(Refusal::Hidden));
+    /// assert_eq!(table.guest_edit(&rights, 1, Cell::Value(b"bc")), Err(Refusal::Full));
+    /// assert_eq!(table.guest_edit(&rights, 1, Cell::Value(b"b")), Ok(()));
+    /// assert_eq!((masks, starts, store), ([1, 1], [0, 1], *b"ab"));
+    /// ```
+    pub fn guest_edit(&mut self, rights: &Rights, cell: u64, to: Cell<'_>) -> Result<(), Refusal> {
+        let masks = masks_of(self.kind.depth, to);
+        self.guest_edit_masks(rights, cell, &masks, value_of(to))
+    }
+
+    /// A guest's edit by mask bytes, outermost first, and a value: [`TableMut::set_masks`] of a cell that the plane shows.
+    ///
+    /// # Errors
+    ///
+    /// Those of [`Table::guest_edit`]; `Content` where there are not as many mask bytes as levels, or one is over 01.
+    ///
+    /// ```
+    /// use durpaxeta::{Cell, Kind, Place, Refusal, Rights, Table, Width};
+    ///
+    /// let kind = Kind::ragged(2, Width::Four, Place::Start);
+    /// let mut table = Table { kind, masks: vec![1, 1], starts: vec![0], lengths: vec![1], store: b"x".to_vec() };
+    /// table.lent().guest_edit_masks(&Rights::new(&[true]), 0, &[1, 0], b"")?;
+    /// assert_eq!(table.cell(0), Some(Cell::Null { level: 2 }));
+    /// let hidden = table.lent().guest_edit_masks(&Rights::new(&[false]), 0, &[1, 1], b"y");
+    /// assert_eq!(hidden, Err(Refusal::Hidden));
+    /// # Ok::<(), Refusal>(())
+    /// ```
+    pub fn guest_edit_masks(&mut self, rights: &Rights, cell: u64, masks: &[u8], value: &[u8]) -> Result<(), Refusal> {
+        given(ffi::guest_edit(self, rights.bytes(), cell, masks, value))
     }
 
     /// What a setting would do, as [`Table::preview`] says it.

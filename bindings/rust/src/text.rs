@@ -1,6 +1,6 @@
-//! Kinds and subsets as text.
+//! Kinds, subsets and rights planes as text.
 
-use crate::{Kind, MaskForm, Order, Place, Refusal, Subset, Values, Width};
+use crate::{Kind, Mark, MaskForm, Order, Place, Refusal, Rights, Subset, Values, Width};
 use alloc::format;
 use alloc::string::String;
 use alloc::vec::Vec;
@@ -8,7 +8,7 @@ use core::error::Error;
 use core::fmt;
 use core::str::FromStr;
 
-/// Why a text is no kind or no subset.
+/// Why a text is no kind, no subset or no rights plane.
 #[derive(Clone, Debug, PartialEq, Eq)]
 #[non_exhaustive]
 pub enum TextError {
@@ -201,5 +201,44 @@ impl FromStr for Subset {
         })?;
         Subset::from_ranges(&ranges)
             .map_err(|refusal| TextError::Refused { refusal, detail: "A range ends before it starts".into() })
+    }
+}
+
+impl fmt::Display for Rights {
+    /// 1 for each cell that is shown, 0 for each other one: `1,0,1`.
+    fn fmt(&self, f: &mut fmt::Formatter<'_>) -> fmt::Result {
+        for (cell, byte) in self.bytes().iter().enumerate() {
+            let comma = if cell == 0 { "" } else { "," };
+            write!(f, "{comma}{byte}")?;
+        }
+        Ok(())
+    }
+}
+
+impl FromStr for Rights {
+    type Err = TextError;
+
+    /// Reads what [`Rights`] prints. Commas may be left out, and white space may stand between: `10 01` is `1,0,0,1`. How many
+    /// cells there must be is left to the calls; a digit over 1 is refused here.
+    fn from_str(text: &str) -> Result<Rights, TextError> {
+        let wrong = |what: &str| {
+            let write = "write 1 for each cell that is shown and 0 for each other one, for example 1,0,1";
+            TextError::Words(format!("the rights plane {what}; {write}"))
+        };
+        let mut bytes = Vec::new();
+        for part in text.split(',') {
+            if part.trim().is_empty() && !text.trim().is_empty() {
+                return Err(wrong("has nothing beside a comma"));
+            }
+            for said in part.chars().filter(|said| !said.is_whitespace()) {
+                let digit = said.to_digit(10);
+                bytes.push(digit.ok_or_else(|| wrong(&format!("has {said:?}, which says nothing here")))? as u8);
+            }
+        }
+        let other = bytes.iter().copied().find(|&byte| Mark::of(byte) == Mark::Other).unwrap_or_default();
+        Rights::from_bytes(bytes).map_err(|refusal| TextError::Refused {
+            refusal,
+            detail: format!("The rights plane has {other}, which is neither 0 nor 1"),
+        })
     }
 }

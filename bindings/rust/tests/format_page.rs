@@ -4,10 +4,21 @@ use durpaxeta::*;
 
 const PAGE: &str = include_str!("../../../docs/FORMAT.md");
 
+/// The affinity table of part 5, and of part 16 the planes of its two guests.
+const AFFINITY: [Cell<'_>; 4] =
+    [Cell::Value(b"0-3,8"), Cell::Value(b""), Cell::Null { level: 1 }, Cell::Null { level: 2 }];
+const GUESTS: [[bool; 4]; 2] = [[true, false, true, false], [false, true, false, true]];
+
+/// A part of the page.
+fn part(number: &str) -> &'static str {
+    let begin = format!("{number}. ");
+    PAGE.split("\n## ").find(|part| part.starts_with(&begin)).unwrap_or_else(|| panic!("no part {number}"))
+}
+
 /// The bytes of each picture behind such a fence; positions must run on.
-fn pictures(fence: &str) -> Vec<Vec<u8>> {
+fn pictures(text: &str, fence: &str) -> Vec<Vec<u8>> {
     let mut pictures = Vec::new();
-    for block in PAGE.split(&format!("```{fence}\n")).skip(1) {
+    for block in text.split(&format!("```{fence}\n")).skip(1) {
         let (block, _) = block.split_once("```").expect("a picture ends");
         let mut bytes = Vec::new();
         for line in block.lines() {
@@ -43,7 +54,7 @@ fn pictures_are_real() {
         stored(fixed(1, 2), &[3], &[Cell::Value(&[10, 11]), null1, Cell::Value(&[14, 15])]),
         stored(fixed(1, 2), &[3], &[null1; 3]),
         stored(fixed(2, 1), &[3], &[Cell::Value(&[7]), null2, null1]),
-        stored(start(2), &[2, 2], &[Cell::Value(b"0-3,8"), empty, null1, null2]),
+        stored(start(2), &[2, 2], &AFFINITY),
         stored(start(2), &[1], &[a]),
         stored(start(2), &[1], &[empty]),
         stored(start(2), &[1], &[null2]),
@@ -67,11 +78,13 @@ fn pictures_are_real() {
     let empty_at_end = stored(Kind::ragged(0, Width::Four, Place::End), &[1], &[empty]);
     let longer = stored(Kind::ragged(0, Width::Four, Place::End), &[1], &[Cell::Value(&empty_at_end)]);
     assert!(longer.starts_with(&empty_at_end));
+    let affinity = Array::from_cells(start(2), &[2, 2], &AFFINITY).unwrap();
+    let seen = GUESTS.map(|plane| encode(&guest_read(&affinity, &Rights::new(&plane)).unwrap()).unwrap());
     // The library writes no such byte.
     let tail = [&wanted[12][..], b"!"].concat();
     let ends = [empty_at_end, longer, tail];
-    let all: Vec<&Vec<u8>> = wanted.iter().chain(&packed).chain(&loads).chain(&ends).collect();
-    let pictures = pictures("bytes");
+    let all: Vec<&Vec<u8>> = wanted.iter().chain(&packed).chain(&loads).chain(&ends).chain(&seen).collect();
+    let pictures = pictures(PAGE, "bytes");
     assert_eq!(pictures.len(), all.len());
     for (number, (picture, wanted)) in pictures.iter().zip(all).enumerate() {
         assert_eq!(picture, wanted, "picture {number}");
@@ -80,7 +93,7 @@ fn pictures_are_real() {
     assert_eq!((interleaved.cell(0), interleaved.cell(1)), (Some(&b"A"[..]), Some(&b""[..])));
 
     let lengths: Vec<usize> = pictures.iter().map(Vec::len).collect();
-    assert_eq!(lengths, [4, 4, 22, 34, 23, 19, 38, 64, 51, 50, 34, 17, 13, 21, 37, 19, 27, 59, 16, 32, 14]);
+    assert_eq!(lengths, [4, 4, 22, 34, 23, 19, 38, 64, 51, 50, 34, 17, 13, 21, 37, 19, 27, 59, 16, 32, 14, 58, 54]);
 }
 
 /// Part 8.
@@ -92,7 +105,7 @@ fn refused_pictures_are_refused() {
     for (fence, refusal, tables) in
         [("refused 8", Refusal::Length, &long[..]), ("refused 10", Refusal::Falling, &late[..])]
     {
-        let pictures = pictures(fence);
+        let pictures = pictures(PAGE, fence);
         assert_eq!(pictures.len(), tables.len());
         for (bytes, &(kind, cells, length)) in pictures.iter().zip(tables) {
             assert_eq!((decode(kind, &[cells], bytes), bytes.len()), (Err(refusal), length), "{bytes:02X?}");
@@ -103,7 +116,7 @@ fn refused_pictures_are_refused() {
 /// Part 14: bytes after the last cell of the interleaved form change nothing; bytes of other kinds and shapes tell nothing.
 #[test]
 fn what_bytes_do_not_tell() {
-    let pictures = pictures("bytes");
+    let pictures = pictures(PAGE, "bytes");
     assert_eq!(decode_interleaved(2, &pictures[20]), decode_interleaved(2, &pictures[12]));
     let bytes = [10, 11, 12, 13];
     let [little, big] =
@@ -159,7 +172,7 @@ fn answers_of_the_questions() {
         assert_eq!(decode(one.packed(), &[1], &alike).unwrap().cell(0), Some(cell));
     }
     let kind = Kind::ragged(2, Width::Four, Place::Start);
-    let mut affinity = pictures("bytes")[7].clone();
+    let mut affinity = pictures(PAGE, "bytes")[7].clone();
     affinity[51] = 4;
     let table = decode(kind, &[2, 2], &affinity).unwrap();
     assert_eq!((table.cell(0), table.cell(1)), (Some(Cell::Value(b"0-3,")), Some(Cell::Value(b"8"))));
@@ -169,8 +182,7 @@ fn answers_of_the_questions() {
 #[test]
 fn stores_are_real() {
     let kind = Kind::ragged(2, Width::Four, Place::Start);
-    let cells = [Cell::Value(b"0-3,8"), Cell::Value(b""), Cell::Null { level: 1 }, Cell::Null { level: 2 }];
-    let mut table = Table::make(&Array::from_cells(kind, &[2, 2], &cells).unwrap(), 12).unwrap();
+    let mut table = Table::make(&Array::from_cells(kind, &[2, 2], &AFFINITY).unwrap(), 12).unwrap();
     assert_eq!((&table.starts[..], &table.lengths[..]), (&[0; 4][..], &[5, 0, 0, 0][..]));
     let mut stores = vec![table.store.clone()];
     table.set(2, Cell::Value(b"4-7")).unwrap();
@@ -203,9 +215,52 @@ fn stores_are_real() {
     table.set(0, Cell::Value(b"0-1,4-5")).unwrap();
     assert_eq!(table.starts, [5, 3, 0, 0]);
     stores.push(table.store.clone());
-    assert_eq!(pictures("store"), stores);
+    assert_eq!(pictures(part("15"), "store"), stores);
     assert_eq!(table.set(3, Cell::Value(b"8")), Err(Refusal::Full));
     let read = table.read(&[2, 2]).unwrap();
     assert_eq!((&read.values[..], &read.offsets[..]), (&b"0-1,4-5124-7"[..], &[0, 7, 9, 12, 12][..]));
     assert!(PAGE.contains("values `0-1,4-5124-7`, offsets 0, 7, 9, 12, 12"));
+}
+
+/// Part 16: what each guest reads, the store before and after an edit, and what else an edit is answered.
+#[test]
+fn guests_are_real() {
+    let page = part("16");
+    let kind = Kind::ragged(2, Width::Four, Place::Start);
+    let affinity = Array::from_cells(kind, &[2, 2], &AFFINITY).unwrap();
+    let planes = GUESTS.map(|plane| Rights::new(&plane));
+    let seen = [0, 1].map(|guest| guest_read(&affinity, &planes[guest]).unwrap());
+    let words = |array: &Array, cell: usize| match array.cell(cell) {
+        Some(Cell::Value(value)) => format!("value {:?}", std::str::from_utf8(value).unwrap()),
+        Some(Cell::Null { level }) => format!("null at level {level}"),
+        None => panic!("no cell {cell}"),
+    };
+    for (cell, name) in ["0,0", "0,1", "1,0", "1,1"].into_iter().enumerate() {
+        let [table, one, other] = [&affinity, &seen[0], &seen[1]].map(|array| words(array, cell));
+        let row = format!("\n| {name} | {table} | {one} | {other} |\n");
+        assert!(page.contains(&row), "{row}");
+    }
+    for array in &seen {
+        assert_eq!((array.masks.len(), array.offsets.len()), (8, 5));
+    }
+    assert_eq!((seen[0].values.len(), seen[1].values.len()), (5, 0));
+    assert!(page.contains("here 8 mask bytes and 5 offsets for both, and 5 value bytes for guest 0, none for guest 1"));
+
+    let mut table = Table::make(&affinity, 12).unwrap();
+    table.set(2, Cell::Value(b"4-7")).unwrap();
+    table.set(1, Cell::Value(b"12")).unwrap();
+    for (cell, to, row) in [
+        (0, &b"0-1,4-5,"[..], "| 0,0 to \"0-1,4-5,\" | 16 |"),
+        (1, b"8", "| 0,1 to \"8\", or to a value of 100 bytes | 18 |"),
+        (1, &[b'8'; 100], "| 0,1 to \"8\", or to a value of 100 bytes | 18 |"),
+        (4, b"", "| a cell of number 4 | 15 |"),
+    ] {
+        let refusal = table.clone().guest_edit(&planes[0], cell, Cell::Value(to)).unwrap_err();
+        assert!(page.contains(row) && row.ends_with(&format!("| {} |", refusal.number())), "{row}: {refusal}");
+    }
+    let mut stores = vec![table.store.clone()];
+    table.guest_edit(&planes[0], 0, Cell::Value(b"0-1,4-5")).unwrap();
+    assert_eq!((&table.starts[..], table.cell(1)), (&[5, 3, 0, 0][..], Some(Cell::Value(b"12"))));
+    stores.push(table.store);
+    assert_eq!(pictures(page, "store"), stores);
 }

@@ -67,7 +67,7 @@ fn refusals() {
     let cases: HashMap<&str, String> = between("switch (refusal) {", "default:")
         .split("case DPX_")
         .filter_map(|case| case.split_once(": return "))
-        .map(|(name, literals)| (name, text(literals.split(';').next().unwrap_or(literals))))
+        .map(|(name, literals)| (name, text(literals.split(";\n").next().unwrap_or(literals))))
         .collect();
     for &refusal in Refusal::ALL {
         let name = c_name(refusal);

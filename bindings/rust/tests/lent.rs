@@ -120,6 +120,22 @@ fn loads() {
     }
 }
 
+/// What a guest sees, in slices that hold just what is shown, for each plane.
+#[test]
+fn guests() {
+    for kind in kinds().into_iter().filter(|kind| kind.depth > 0) {
+        let table = table(kind);
+        for shown in 0..1 << 6 {
+            let rights: Rights = (0..6).map(|cell| shown >> cell & 1 == 1).collect();
+            let seen = guest_read(&table, &rights).unwrap();
+            exactly(&seen, |out| guest_read_into(&table, &rights, out).map(ArrayRef::to_array));
+        }
+        let mut slices = Slices::new(kind.array_room(6, table.values.len()));
+        let seen = guest_read_into(&table, &Rights::new(&[true; 6]), slices.lend());
+        assert_eq!(seen, Ok(table.view()));
+    }
+}
+
 /// Where no cell is null the room for the stored bytes is what they take.
 #[test]
 fn stored_room_is_exact() {

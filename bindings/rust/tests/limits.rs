@@ -108,6 +108,25 @@ fn byte_limit_of_extract() {
     assert_eq!(extract(&one(MOST + 1), &Subset::new(&[1], &[0]).unwrap()), Err(Refusal::Size));
 }
 
+/// 5 goes by the whole array, what is hidden included; 17 and 4 of the plane come before it.
+#[test]
+fn byte_limit_of_guest_read() {
+    let kind = Kind::ragged(1, Width::Eight, Place::Start);
+    let two = |length: usize| {
+        let offsets = vec![0, length as u64 - 1, length as u64];
+        array(kind, &[2], vec![1, 1], value(length), offsets)
+    };
+    let (all, last) = (Rights::new(&[true; 2]), Rights::new(&[false, true]));
+    assert_eq!(guest_read(&two(MOST), &all).as_ref(), Ok(&two(MOST)));
+    let byte = value(MOST)[MOST - 1];
+    assert_eq!(guest_read(&two(MOST), &last), Ok(array(kind, &[2], vec![0, 1], vec![byte], vec![0, 0, 1])));
+    for rights in [&all, &last] {
+        assert_eq!(guest_read(&two(MOST + 1), rights), Err(Refusal::Size));
+    }
+    assert_eq!(guest_read(&two(MOST + 1), &Rights::new(&[true])), Err(Refusal::Content));
+    assert_eq!(guest_read(&one(MOST + 1), &Rights::new(&[])), Err(Refusal::NoMasks));
+}
+
 #[test]
 fn byte_limit_of_merge() {
     let (first, second) = (Subset::new(&[0], &[1]).unwrap(), Subset::new(&[1], &[1]).unwrap());
@@ -162,6 +181,11 @@ fn depth_size_and_cells() {
     let whole = Subset::whole(&shape);
     assert_eq!(extract(&table, &whole).as_ref(), Ok(&table));
     assert_eq!(merge(largest, &shape, &[Chunk::new(&whole, &table)]).as_ref(), Ok(&table));
+    let rights: Rights = (0..65_536).map(|cell| cell % 3 > 0).collect();
+    let seen = guest_read(&table, &rights).unwrap();
+    for (cell, wanted) in table.cells().enumerate() {
+        assert_eq!(seen.cell(cell), Some(if cell % 3 > 0 { wanted } else { Cell::Null { level: 1 } }));
+    }
     assert_eq!(subset_cells(&shape, &whole).unwrap().len(), 65_536);
     assert_eq!(decode_interleaved(65_536, &interleaved(&[0; 65_536])).unwrap().cell_count(), 65_536);
     // The last mask byte of many, handed over and stored.
@@ -170,6 +194,7 @@ fn depth_size_and_cells() {
     assert_eq!(encode(&neither), Err(Refusal::Content));
     assert_eq!(extract(&neither, &Subset::new(&[0], &[1]).unwrap()), Err(Refusal::Content));
     assert_eq!(merge(largest, &shape, &[Chunk::new(&whole, &neither)]), Err(Refusal::Content));
+    assert_eq!(guest_read(&neither, &rights), Err(Refusal::Content));
     bytes[16 + 65_535] = 2;
     assert_eq!(decode(largest, &shape, &bytes), Err(Refusal::NotBoolean));
     let load = generate(largest, &shape, u32::MAX).unwrap();

@@ -42,9 +42,9 @@ fn numbers_messages_and_blame() {
     assert_eq!(UnknownRefusal(0).to_string(), "no refusal has the number 0");
     let all = Refusal::ALL.iter().copied();
     let of = |blame| all.clone().filter(|r| r.blame() == blame).map(Refusal::number).collect::<Vec<_>>();
-    assert_eq!(of(Blame::Describer), [1, 2, 3]);
+    assert_eq!(of(Blame::Describer), [1, 2, 3, 17]);
     assert_eq!(of(Blame::Supplier), [4, 5, 12]);
-    assert_eq!(of(Blame::Setter), [15, 16]);
+    assert_eq!(of(Blame::Setter), [15, 16, 18]);
     assert_eq!(of(Blame::Storer), [7, 8, 9, 10, 11, 13, 14]);
     assert_eq!(of(Blame::Lender), [6]);
 }
@@ -64,6 +64,7 @@ fn kind_comes_first() {
         assert_eq!(encode_interleaved(&array(kind, &[0], &[1], b"a", &[5])), Err(Refusal::Kind));
         assert_eq!(decode(kind, &[0], &[]), Err(Refusal::Kind));
         assert_eq!(generate(kind, &[0], 0), Err(Refusal::Kind));
+        assert_eq!(guest_read(&array(kind, &[0], &[1], b"a", &[5]), &Rights::new(&[])), Err(Refusal::Kind));
         assert_eq!(extract(&array(kind, &[0], &[], &[], &[]), &subset(&[])), Err(Refusal::Kind));
         assert_eq!(merge(kind, &[0], &[]), Err(Refusal::Kind));
         let chunk = array(kind, &[1], &[], b"a", &[]);
@@ -99,6 +100,7 @@ fn shape_comes_next() {
         assert_eq!(encode_interleaved(&array(r4(0), shape, &[1], &[], &[])), Err(Refusal::Shape));
         assert_eq!(decode(f1(0), shape, &[]), Err(Refusal::Shape));
         assert_eq!(generate(r4(1), shape, 0), Err(Refusal::Shape));
+        assert_eq!(guest_read(&array(f1(0), shape, &[1], &[], &[]), &Rights::new(&[true])), Err(Refusal::Shape));
         assert_eq!(extract(&array(r4(0), shape, &[], &[], &[]), &subset(&[9])), Err(Refusal::Shape));
         assert_eq!(merge(f1(0), shape, &[]), Err(Refusal::Shape));
         assert_eq!(
@@ -187,6 +189,9 @@ fn contents() {
         assert_eq!(extract(table, &Subset::whole(&table.shape)), Err(Refusal::Content), "{table:?}");
         let whole = Subset::whole(&table.shape);
         assert_eq!(merge(table.kind, &table.shape, &[Chunk::new(&whole, table)]), Err(Refusal::Content), "{table:?}");
+        let rights: Rights = (0..table.cell_count()).map(|_| true).collect();
+        let seen = if table.kind.depth == 0 { Refusal::NoMasks } else { Refusal::Content };
+        assert_eq!(guest_read(table, &rights), Err(seen), "{table:?}");
     }
     assert_eq!(Array::from_cells(f1(1), &[2], &[Cell::Value(b"a")]), Err(Refusal::Content));
     assert_eq!(Array::from_cells(f1(1), &[1], &[Cell::Value(b"ab")]), Err(Refusal::Content));

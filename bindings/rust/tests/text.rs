@@ -1,4 +1,4 @@
-//! Kinds and subsets as text.
+//! Kinds, subsets and rights planes as text.
 
 use durpaxeta::*;
 use std::collections::HashSet;
@@ -112,4 +112,35 @@ fn subsets() {
     let error = "0..1,2..1".parse::<Subset>().unwrap_err();
     assert!(matches!(error, TextError::Refused { refusal: Refusal::Subset, .. }));
     assert_eq!(HashSet::from([middle.clone(), middle]).len(), 1);
+}
+
+#[test]
+fn rights_planes() {
+    let plane = Rights::new(&[true, false, false, true]);
+    assert_eq!(plane.to_string(), "1,0,0,1");
+    for text in ["1,0,0,1", "1001", " 10 01 ", "1, 0, 01", "10\n01", "10,\t01"] {
+        assert_eq!(text.parse(), Ok(plane.clone()), "{text:?}");
+    }
+    let none = Rights::new(&[]);
+    assert_eq!((none.to_string().parse(), " ".parse()), (Ok(none.clone()), Ok(none)));
+    for (text, what) in [
+        ("1,x", "has 'x', which says nothing here"),
+        ("-1", "has '-', which says nothing here"),
+        ("1;0", "has ';', which says nothing here"),
+        ("1\u{202E}0", "has '\\u{202e}', which says nothing here"),
+        ("\u{661}", "has '\u{661}', which says nothing here"),
+        ("1,,0", "has nothing beside a comma"),
+        ("1,0,", "has nothing beside a comma"),
+        (" , ", "has nothing beside a comma"),
+        ("2,x", "has 'x', which says nothing here"),
+    ] {
+        let said = format!(
+            "the rights plane {what}; write 1 for each cell that is shown and 0 for each other one, for example 1,0,1"
+        );
+        assert_eq!(text.parse::<Rights>(), Err(TextError::Words(said)), "{text:?}");
+    }
+    for (text, digit) in [("2", 2), ("1,0,9", 9), ("0123", 2)] {
+        let detail = format!("The rights plane has {digit}, which is neither 0 nor 1");
+        assert_eq!(text.parse::<Rights>(), Err(TextError::Refused { refusal: Refusal::Content, detail }));
+    }
 }

@@ -141,3 +141,20 @@ pub const LONG: &str = "depth 0, ragged, width 8, index at start";
 pub fn long(length: usize) -> Vec<u8> {
     le(&[16, 0, length as u64], 8, &vec![b'a'; length])
 }
+
+/// A part of docs/FORMAT.md: its commands, at least so many, print what it prints.
+pub fn prints_what_the_page_says(number: &str, least: usize) {
+    let folder = folder(&format!("page-{number}"));
+    let page = include_str!("../../../docs/FORMAT.md");
+    let begin = format!("{number}. ");
+    let part = page.split("\n## ").find(|part| part.starts_with(&begin)).unwrap_or_else(|| panic!("no part {number}"));
+    let lines: Vec<&str> = part.lines().filter_map(|line| line.strip_prefix("    ")).collect();
+    let begins: Vec<usize> = (0..lines.len()).filter(|&at| lines[at].starts_with("$ ")).collect();
+    assert!(begins.len() >= least, "{} commands", begins.len());
+    for (at, &begin) in begins.iter().enumerate() {
+        let end = begins.get(at + 1).copied().unwrap_or(lines.len());
+        let command = format!("{{ {}; }} 2>&1", &lines[begin][2..]);
+        let said = told(sh(&folder, &command).out);
+        assert_eq!(said.lines().collect::<Vec<_>>(), lines[begin + 1..end], "{command}");
+    }
+}
