@@ -31,40 +31,41 @@ pub fn read(i: &Input, rights: &[u8], out: &mut Read) -> Result<[usize; 3], u32>
     let (depth, size) = (kind[0] as usize, kind[2] as usize);
     check_rights(depth, cells, rights)?;
     check_array(kind, cells, masks, values, offsets)?;
-    let shown = |cell: usize| rights[cell] == 1 && (0..depth).all(|level| masks[level * cells + cell] == 1);
+    let seen = |cell: &usize| rights[*cell] == 1 && (0..depth).all(|level| masks[level * cells + cell] == 1);
     let length = |cell: usize| (offsets[cell + 1] - offsets[cell]) as usize;
     // where all would fit, what is shown does, and is not counted
-    let fits = |room: usize| {
-        values.len() <= room || kind[1] == 1 && (0..cells).filter(|&cell| shown(cell)).map(length).sum::<usize>() <= room
-    };
+    let fits = |room: usize| values.len() <= room || kind[1] == 1 && (0..cells).filter(seen).map(length).sum::<usize>() <= room;
     if out.masks.len() < depth * cells || !fits(out.values.len()) || out.offsets.len() < offsets.len() {
         return Err(6);
     }
+    // the outermost mask by the plane, each other by the one above it
+    for (level, masks) in masks.chunks_exact(cells).enumerate() {
+        let (above, below) = out.masks.split_at_mut(level * cells);
+        let above = if level == 0 { rights } else { &above[(level - 1) * cells..] };
+        for ((to, above), mask) in below.iter_mut().zip(above).zip(masks) {
+            *to = above & mask;
+        }
+    }
+    let shown = &out.masks[(depth - 1) * cells..depth * cells];
+    if kind[1] == 0 {
+        let places = out.values.chunks_exact_mut(size).zip(values.chunks_exact(size));
+        for ((to, from), set) in places.zip(shown) {
+            if *set == 1 {
+                to.copy_from_slice(from);
+            } else {
+                to.fill(0);
+            }
+        }
+        return Ok([depth * cells, values.len(), 0]);
+    }
     let mut at = 0;
     for cell in 0..cells {
-        let mut set = rights[cell] == 1;
-        for level in 0..depth {
-            set &= masks[level * cells + cell] == 1;
-            out.masks[level * cells + cell] = u8::from(set);
-        }
-        if kind[1] == 0 {
-            let value = &mut out.values[at..at + size];
-            if set {
-                value.copy_from_slice(&values[at..at + size])
-            } else {
-                value.fill(0)
-            }
-            at += size;
-        } else {
-            out.offsets[cell] = at as u64;
-            if set {
-                out.values[at..at + length(cell)].copy_from_slice(&values[offsets[cell] as usize..][..length(cell)]);
-                at += length(cell);
-            }
+        out.offsets[cell] = at as u64;
+        if shown[cell] == 1 {
+            out.values[at..at + length(cell)].copy_from_slice(&values[offsets[cell] as usize..][..length(cell)]);
+            at += length(cell);
         }
     }
-    if kind[1] == 1 {
-        out.offsets[cells] = at as u64;
-    }
-    Ok([depth * cells, at, offsets.len()])
+    out.offsets[cells] = at as u64;
+    Ok([depth * cells, at, cells + 1])
 }

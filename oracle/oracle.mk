@@ -5,7 +5,7 @@
 LISTED ?= ../shared/docs/src
 ARCHIVE ?= build/libdurpaxeta.a
 SEED ?= 1
-REQUESTS ?= 2100000
+REQUESTS ?= 2250000
 
 O := build/oracle
 RUSTC := rustc --edition 2024
