@@ -3,7 +3,7 @@
 # docs/PROMISES.md, which says how many there are, and each edit that it names stands in the crate that it says; each rule that they and
 # comments cite is in docs/SPEC.md, which alone names where the rules come from; each file of specs/ says which rules it states or which law
 # makes it redundant, and docs/PROMISES.md lists the former and counts the latter; header, README and docs/FORMAT.md have the refusals of
-# docs/SPEC.md, the header those of each call; CHANGELOG.md begins with the version.
+# docs/SPEC.md, the header those of each call; CHANGELOG.md begins with the version; and crates.txt has direct dependencies only.
 set -euo pipefail
 cd "$(dirname "$0")/.."
 bad=0
@@ -36,6 +36,14 @@ done
 for target in $(grep -ohE '(`|^ {4})make [a-z]+' "${pages[@]}" | awk '{print $NF}' | sort -u); do
     grep -qE "^$target:" Makefile oracle/oracle.mk || wrong "make $target is named and is no target"
 done
+
+# crates.txt names what a crate's own files name, and nothing that it reaches through that
+while IFS=: read -r crate below; do
+    crate=${crate%% *}
+    for name in $below; do
+        grep -rqE "\buse $name\b|\b$name::|Rattle\.$name\." --include='*.rt' --include='*.antt' --exclude-dir=out "crates/$crate" || wrong "crates.txt: $crate does not use $name"
+    done
+done < <(grep -E '^[a-z]' crates.txt)
 
 # the edits of each call: `crate`: name, name; `crate`: name
 listed=$(grep '^|' docs/PROMISES.md | grep -oE '`[a-z_]+`: [a-z_0-9]+(, [a-z_0-9]+)*' | sed 's/`//g')

@@ -41,6 +41,15 @@ fn run_kind(
             out.values,
             out.offsets,
         ),
+        Call::GuestRead => guest_read::guest_read(
+            kind,
+            q.shape,
+            q.rights,
+            q.array,
+            out.masks,
+            out.values,
+            out.offsets,
+        ),
         Call::Extract => extract::extract(
             kind,
             q.shape,

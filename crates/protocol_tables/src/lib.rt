@@ -87,17 +87,35 @@ fn respond_read(out: &mut impl Write, q: TableRequest<'_>) -> io::Result<()> {
     responses::write_answer(out, Outputs::Array, answer, None, &outputs)
 }
 
-fn set(q: TableRequest<'_>, cell: u64, table: &mut LentTable<'_>) -> Result<(), Refusal> {
+// Sets a cell, or a guest does.
+fn set(
+    call: TableCall,
+    q: TableRequest<'_>,
+    cell: u64,
+    table: &mut LentTable<'_>,
+) -> Result<(), Refusal> {
     let kind = head_kind(q.head)?;
-    table_set::set_cell(
-        kind,
-        q.cells,
-        table.masks,
-        table.starts,
-        table.lengths,
-        table.store,
-        q.setting(cell),
-    )
+    match call {
+        TableCall::GuestEdit => guest_edit::guest_edit(
+            kind,
+            q.cells,
+            q.rights,
+            table.masks,
+            table.starts,
+            table.lengths,
+            table.store,
+            q.setting(cell),
+        ),
+        _ => table_set::set_cell(
+            kind,
+            q.cells,
+            table.masks,
+            table.starts,
+            table.lengths,
+            table.store,
+            q.setting(cell),
+        ),
+    }
 }
 
 // The masks and the lengths, which the call only reads, are the request's own.
@@ -132,7 +150,7 @@ fn run_in_place(
         let answer = pack(q, number, table);
         return tables::write_packed(out, answer, table.is(q.table), table);
     }
-    let answer = set(q, number, table);
+    let answer = set(call, q, number, table);
     tables::write_settled(out, answer, table.is(q.table), table)
 }
 
@@ -172,7 +190,9 @@ pub fn answer_table(out: &mut impl Write, line: &[u8]) -> io::Result<()> {
     match (call, q.more) {
         (TableCall::Read, _) => respond_read(out, q),
         (TableCall::Preview, [cell]) => tables::write_previewed(out, preview(q, *cell)),
-        (TableCall::Set | TableCall::Pack, [number]) => respond_in_place(out, call, q, *number),
+        (TableCall::Set | TableCall::GuestEdit | TableCall::Pack, [number]) => {
+            respond_in_place(out, call, q, *number)
+        }
         _ => show::write_line(out, b"bad line"),
     }
 }

@@ -13,6 +13,7 @@ pub enum Call {
     ReverseEndianness,
     SubsetCells,
     MakeTable,
+    GuestRead,
 }
 
 // The numbers at the head of a line: a kind, in four numbers, or five where its mask form is named; or so many others, or no list at all.
@@ -44,6 +45,7 @@ pub(crate) struct Fields {
     pub(crate) head: Head,
     pub(crate) shape: bool,
     pub(crate) subset: bool,
+    pub(crate) rights: bool,
     pub(crate) masks: bool,
     pub(crate) values: bool,
     pub(crate) offsets: bool,
@@ -56,10 +58,19 @@ fn of_kind(subset: bool, array: bool) -> Fields {
         head: Head::Kind,
         shape: true,
         subset,
+        rights: false,
         masks: array,
         values: true,
         offsets: array,
         rooms: true,
+    }
+}
+
+// Those of a guest's read: an array behind a rights plane.
+fn of_guest() -> Fields {
+    Fields {
+        rights: true,
+        ..of_kind(false, true)
     }
 }
 
@@ -69,6 +80,7 @@ fn of_load() -> Fields {
         head: Head::Kind,
         shape: true,
         subset: true,
+        rights: false,
         masks: false,
         values: false,
         offsets: false,
@@ -82,6 +94,7 @@ fn of_numbers(head: Head, shape: bool, values: bool, rooms: bool) -> Fields {
         head,
         shape,
         subset: shape,
+        rights: false,
         masks: false,
         values,
         offsets: false,
@@ -95,6 +108,7 @@ pub(crate) fn of_table() -> Fields {
         head: Head::Kind,
         shape: true,
         subset: true,
+        rights: false,
         masks: true,
         values: true,
         offsets: true,
@@ -119,6 +133,7 @@ impl TryFrom<u8> for Call {
             b'r' => Ok(Call::ReverseEndianness),
             b's' => Ok(Call::SubsetCells),
             b'M' => Ok(Call::MakeTable),
+            b'G' => Ok(Call::GuestRead),
             _ => Err(()),
         }
     }
@@ -130,6 +145,7 @@ impl Call {
             Call::Encode | Call::EncodeInterleaved | Call::MakeTable => of_kind(false, true),
             Call::Decode => of_kind(false, false),
             Call::Extract | Call::Merge => of_kind(true, true),
+            Call::GuestRead => of_guest(),
             Call::Generate => of_load(),
             Call::DecodeInterleaved => of_numbers(Head::Numbers(1), false, true, true),
             Call::PartialDecode => of_numbers(Head::Numbers(2), true, true, true),

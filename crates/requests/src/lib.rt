@@ -17,6 +17,7 @@ pub struct Request<'a> {
     pub head: &'a [u64],
     pub shape: &'a [u64],
     pub subset: &'a [u64],
+    pub rights: &'a [u8],
     pub array: ArrayBytes<'a>,
     pub rooms: &'a [u64],
 }
@@ -26,6 +27,7 @@ fn read_request<'a>(f: Fields, lists: &mut Lists<'a, '_>) -> Option<Request<'a>>
     let head = lists.numbers(f.head.is_list())?;
     let shape = lists.numbers(f.shape)?;
     let subset = lists.numbers(f.subset)?;
+    let rights = lists.bytes(f.rights)?;
     let masks = lists.bytes(f.masks)?;
     let values = lists.bytes(f.values)?;
     let offsets = lists.numbers(f.offsets)?;
@@ -37,6 +39,7 @@ fn read_request<'a>(f: Fields, lists: &mut Lists<'a, '_>) -> Option<Request<'a>>
         head,
         shape,
         subset,
+        rights,
         array: ArrayBytes {
             masks,
             values,

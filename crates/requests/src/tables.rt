@@ -1,5 +1,5 @@
-// A request on a working table that is handed over. Behind the table are the lengths of the outputs to read it into, or the cell to set or
-// to preview, its masks and its value, or the most cells to move.
+// A request on a working table that is handed over, behind the rights plane of a guest who edits it. Behind the table are the lengths of the
+// outputs to read it into, or the cell to set or to preview, its masks and its value, or the most cells to move.
 ghost use Rattle.std.specs.Prelude.{◌≡◌};
 
 use crate::call::Head;
@@ -12,6 +12,7 @@ pub enum TableCall {
     Set,
     Preview,
     Pack,
+    GuestEdit,
 }
 
 // By the letter that a line begins with.
@@ -24,6 +25,7 @@ impl TryFrom<u8> for TableCall {
             b'S' => Ok(TableCall::Set),
             b'V' => Ok(TableCall::Preview),
             b'P' => Ok(TableCall::Pack),
+            b'E' => Ok(TableCall::GuestEdit),
             _ => Err(()),
         }
     }
@@ -32,15 +34,20 @@ impl TryFrom<u8> for TableCall {
 impl TableCall {
     // Whether a line has a setting, made or previewed.
     fn has_setting(self) -> bool {
-        matches!(self, TableCall::Set | TableCall::Preview)
+        matches!(
+            self,
+            TableCall::Set | TableCall::Preview | TableCall::GuestEdit
+        )
     }
 }
 
-// The kind's numbers, the count of cells, the table, the numbers behind it, and the masks and the value of a cell, where one is set.
+// The kind's numbers, the count of cells, a guest's rights plane, the table, the numbers behind it, and the masks and the value of a cell, where
+// one is set.
 #[derive(Clone, Copy)]
 pub struct TableRequest<'a> {
     pub head: &'a [u64],
     pub cells: usize,
+    pub rights: &'a [u8],
     pub table: Table<'a>,
     pub more: &'a [u64],
     pub cell_masks: &'a [u8],
@@ -82,6 +89,7 @@ fn read_request<'a>(call: TableCall, lists: &mut Lists<'a, '_>) -> Option<TableR
     let [cells] = lists.numbers(true)? else {
         return None;
     };
+    let rights = lists.bytes(matches!(call, TableCall::GuestEdit))?;
     let table = read_table(lists)?;
     let more = lists.numbers(true)?;
     let cell_masks = lists.bytes(call.has_setting())?;
@@ -92,6 +100,7 @@ fn read_request<'a>(call: TableCall, lists: &mut Lists<'a, '_>) -> Option<TableR
     Some(TableRequest {
         head,
         cells: *cells as usize,
+        rights,
         table,
         more,
         cell_masks,

@@ -69,7 +69,7 @@ pub fn write_made(
     }
 }
 
-// The answer of set_cell, and the table; whether it is as it was handed over is asked where the call refuses.
+// The answer of set_cell and of guest_edit, and the table; whether it is as it was handed over is asked where the call refuses.
 pub fn write_settled(
     out: &mut impl Write,
     answer: Result<(), Refusal>,
