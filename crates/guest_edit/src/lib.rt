@@ -2,30 +2,52 @@
 #![tactic(auto)]
 
 ghost use Rattle.std.specs.Prelude.{◌≡◌};
-ghost use Rattle.array.specs.Meaning.{kind_of, number_of, told};
-ghost use Rattle.table.specs.Meaning.{table_by, outcome_settled};
+ghost use Rattle.array.specs.Meaning.{kind_of, number_of};
+ghost use Rattle.table.specs.Calls.{cell_set, previewed};
+ghost use Rattle.table.specs.Meaning.{table_by, lent_table, outcome_settled};
 ghost use Rattle.rights.specs.Calls.{guest_edit};
 ghost use Rattle.guest_edit.specs.Hidden.{hidden_number};
 
 use array::kind::Kind;
 use array::refusal::Refusal;
 use rights::plane::hides;
-use table::answer::Preview;
 use table::lent::{Setting, Table};
 use table_kind::TableShape;
 use table_preview::preview_cell;
 use table_set::set_cell;
 use valid::masks::are_strict;
 
-// What refuses the setting of a hidden cell: what comes before it, but not that the store is full, which comes behind it.
-fn hidden_refusal(preview: Result<Preview, Refusal>) -> Refusal
-    ensures { number_of result ≡ hidden_number (told preview) }
+// The two ways of an edit are functions of their own: in one frame the order of the cells would lie on the stack for both.
+
+// What refuses the setting of a hidden cell, by a preview of it: what comes before 18, but not that the store is full, which comes behind it.
+#[inline(never)]
+fn refuse_hidden(kind: Kind, cells: usize, table: Table, setting: Setting) -> Refusal
+    ensures { number_of result
+        ≡ hidden_number (previewed (kind_of kind) cells (lent_table table.entry) setting.entry.cell setting.entry.masks.now setting.entry.value.now) }
 {
-    match preview {
+    match preview_cell(kind, cells, table, setting) {
         Ok(_) => Refusal::Hidden,
         Err(Refusal::Full) => Refusal::Hidden,
         Err(e) => e,
     }
+}
+
+// The setting of a cell that is shown.
+#[inline(never)]
+fn set_shown(
+    kind: Kind,
+    cells: usize,
+    masks: &mut [u8],
+    starts: &mut [u64],
+    lengths: &mut [u64],
+    store: &mut [u8],
+    setting: Setting,
+) -> Result<(), Refusal>
+    ensures { outcome_settled result masks.new starts.new lengths.new store.new
+        ≡ cell_set (kind_of kind) cells (table_by masks.old starts.old lengths.old store.old)
+        setting.entry.cell setting.entry.masks.now setting.entry.value.now }
+{
+    set_cell(kind, cells, masks, starts, lengths, store, setting)
 }
 
 // Sets a cell of a working table for a guest with these rights. Refusals 1, 2, 17, 4, 5, 15, 18 and 16, in this order; nothing changes before
@@ -58,7 +80,7 @@ pub fn guest_edit(
             lengths,
             store,
         };
-        return Err(hidden_refusal(preview_cell(kind, cells, table, setting)));
+        return Err(refuse_hidden(kind, cells, table, setting));
     }
-    set_cell(kind, cells, masks, starts, lengths, store, setting)
+    set_shown(kind, cells, masks, starts, lengths, store, setting)
 }

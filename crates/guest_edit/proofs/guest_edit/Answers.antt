@@ -1,6 +1,6 @@
 -- `guest_edit` meets its contract: refusals 1, 2, 17 and the plane's 4, each in its turn; then a hidden cell is refused, and any other is set.
 -- Assumes nothing.
-use mathlib.Core.Path.{sym, ap, ◌∙◌}
+use mathlib.Core.Path.{sym, ◌∙◌}
 use borrow.Author.Tests.{lt-ltb, le-ltb}
 use native.Mathlib.Omega.{arith}
 use Rattle.std.proofs.lemmas.Result.{err_from_is_err_and}
@@ -8,7 +8,6 @@ use Rattle.array.specs.Meaning.{kind_of}
 use Rattle.table.specs.Table.{Table}
 use Rattle.table.specs.Meaning.{table_by}
 use Rattle.table_kind.proofs.Forms.{shape_taken}
-use Rattle.guest_edit.specs.Hidden.{hidden_number}
 use Rattle.guest_edit.proofs.Hiding.{unshaped, without_masks_lem, no_plane, of_count, edit_hidden, edit_shown}
 use Rattle.guest_edit.proofs.guest_edit.Goals as goal
 
@@ -42,7 +41,7 @@ returns-then-hides c =
     let plane = sym c.if-not-are_strict.ensures in
     edit_hidden (kind_of a.kind) a.cells a.rights.now table a.setting shaped some plane
     (of_count (kind_of a.kind) a.cells a.rights.now table a.setting shaped some plane c.if-hides.ensures)
-    (c.hidden_refusal.ensures ∙ ap hidden_number c.preview_cell.ensures)
+    c.refuse_hidden.ensures
 
 pub returns : goal.returns
 returns c =
@@ -51,6 +50,6 @@ returns c =
     let shaped = shape_taken c.in_ok-new.field-0 c.in_ok-new.ensures in
     let some = lt-ltb 0 a.kind.depth (omega (arith, c.if-kind-eq0.false)) in
     let plane = sym c.if-not-are_strict.ensures in
-    c.set_cell.ensures
+    c.set_shown.ensures
     ∙ edit_shown (kind_of a.kind) a.cells a.rights.now table a.setting shaped some plane
     (of_count (kind_of a.kind) a.cells a.rights.now table a.setting shaped some plane c.if-hides.ensures)
